@@ -1,0 +1,5 @@
+pub mod DayNumbers
+pub mod CivilDates
+pub mod Digits
+pub mod FirstLine
+pub mod FirstFault

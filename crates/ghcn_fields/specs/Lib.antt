@@ -1,0 +1,9 @@
+pub mod Bytes
+pub mod Lines
+pub mod Faults
+pub mod Numbers
+pub mod Fields
+pub mod NumberTexts
+pub mod Days
+pub mod Dates
+pub mod Sorting

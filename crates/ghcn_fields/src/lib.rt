@@ -3,6 +3,16 @@
 //! Every crate above stands on it. What it hands up is the line, the field and the day.
 #![tactic(auto)]
 
-mod memory;
 
+mod day;
+mod field;
+mod line;
+mod memory;
+mod text;
+
+
+pub use day::{Day, days_in_month};
+pub use field::{Field, int_field};
+pub use line::{Lines, is_blank};
 pub use memory::Memory;
+pub use text::lines;

@@ -1,0 +1,41 @@
+-- Dates: year, month and day of the month, and their text.
+use Rattle.std.specs.Prelude.{ℕ, zero, suc, ◌-◌, Bool, true, false, nat_lt, if◌then◌else◌, List, ◌∷◌, ◌++◌, Option, None, ℤ, pos, ◌-ℤ◌, unsigned_abs}
+use Rattle.std.specs.Str.Parse.{digits_value}
+use Rattle.std.specs.List.{slice_range}
+use Rattle.jiff_core.specs.Calendar.{days_in_month, days_in_year}
+use Rattle.ghcn_fields.specs.Bytes.{same_bytes}
+use Rattle.ghcn_fields.specs.NumberTexts.{last_digits}
+use Rattle.ghcn_fields.specs.Days.{day_number, first_day}
+
+-- the year and the day of the year, from 0, of the day that is n days after 1 January of a year, at most so many years later
+unfoldable pub year_and_rest : ℕ → ℕ → ℕ → ℕ × ℕ
+year_and_rest zero year n = (year, n)
+year_and_rest (suc more) year n = elim (nat_lt n (days_in_year (pos year))) [ true ↦ (year, n) | false ↦ year_and_rest more (suc year) (n - days_in_year (pos year)) ]
+
+-- the month and the day of the month, from 1, of the day that is n days after the first of a month, at most so many months later
+unfoldable pub month_and_day : ℕ → ℕ → ℕ → ℕ → ℕ × ℕ
+month_and_day zero year month n = (month, suc n)
+month_and_day (suc more) year month n = elim (nat_lt n (days_in_month (pos year) month)) [ true ↦ (month, suc n) | false ↦ month_and_day more year (suc month) (n - days_in_month (pos year) month) ]
+
+-- year, month and day of the month of a day: whole years are taken off, then whole months
+abbrev pub civil : ℤ → ℕ × ℕ × ℕ
+civil n =
+    let year = year_and_rest 9998 1 (unsigned_abs (n -ℤ first_day)) in
+    let month = month_and_day 11 year.0 1 year.1 in
+    (year.0, month.0, month.1)
+
+-- YYYY-MM-DD
+abbrev pub date_bytes : ℕ × ℕ × ℕ → List ℕ
+date_bytes date = last_digits 4 date.0 ++ 45 ∷ last_digits 2 date.1 ++ 45 ∷ last_digits 2 date.2
+
+-- the text of a day
+abbrev pub date_text : ℤ → List ℕ
+date_text n = date_bytes (civil n)
+
+-- the day whose text the bytes are
+abbrev pub read_date : List ℕ → Option ℤ
+read_date bytes =
+    let year = digits_value 10 (slice_range bytes 0 4) in
+    let month = digits_value 10 (slice_range bytes 5 7) in
+    let day = digits_value 10 (slice_range bytes 8 10) in
+    if same_bytes (date_bytes (year, month, day)) bytes then day_number year month day else None

@@ -1,0 +1,36 @@
+-- Days of the years 1 to 9999 by number: 1970-01-01 is day 0, and a day before it is negative.
+use Rattle.std.specs.Prelude.{ℕ, Bool, ◌&&◌, nat_le, if◌then◌else◌, Option, None, Some, ℤ, pos, neg_ℤ, int_le}
+use Rattle.std.specs.Int.{int_div_euclid}
+use Rattle.jiff_core.specs.Calendar.{days_from_civil, days_in_month}
+
+-- n lies from low to high
+abbrev pub is_within : ℕ → ℕ → ℕ → Bool
+is_within low high n = nat_le low n && nat_le n high
+
+-- the calendar has this day, in one of the years 1 to 9999
+abbrev pub is_date : ℕ → ℕ → ℕ → Bool
+is_date year month day = is_within 1 9999 year && is_within 1 12 month && is_within 1 (days_in_month (pos year) month) day
+
+-- the number of that day, if there is one
+abbrev pub day_number : ℕ → ℕ → ℕ → Option ℤ
+day_number year month day = if is_date year month day then Some (days_from_civil (pos year) month day) else None
+
+-- 0001-01-01
+abbrev pub first_day : ℤ
+first_day = neg_ℤ (pos 719_162)
+
+-- 9999-12-31
+abbrev pub last_day : ℤ
+last_day = pos 2_932_896
+
+-- n is the number of a day of the years 1 to 9999
+abbrev pub is_day : ℤ → Bool
+is_day n = int_le first_day n && int_le n last_day
+
+-- n, where it is the number of a day
+abbrev pub day_if : ℤ → Option ℤ
+day_if n = if is_day n then Some n else None
+
+-- the block of 32 days that holds a day: block 0 has the days 0 to 31
+abbrev pub block_of : ℤ → ℤ
+block_of n = int_div_euclid n (pos 32)

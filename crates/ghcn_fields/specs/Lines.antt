@@ -1,0 +1,23 @@
+-- The lines of a text and the columns of a line.
+use Rattle.std.specs.Prelude.{ℕ, suc, ◌-◌, ◌==◌, if◌then◌else◌, List, [], ◌∷◌, ◌++◌, length, take, drop, map, replicate}
+use Rattle.std.specs.List.{slice_split, enumerate_from}
+use Rattle.std.specs.Str.Lines.{strip_carriage_return}
+use Rattle.ghcn_fields.specs.Bytes.{blank_byte}
+
+-- the parts without the last one, where that is empty
+abbrev pub without_empty_last : List (List ℕ) → List (List ℕ)
+without_empty_last [] = []
+without_empty_last (x ∷ []) = if length x == 0 then [] else x ∷ []
+without_empty_last (x ∷ y ∷ more) = x ∷ without_empty_last (y ∷ more)
+
+-- the lines of a text: what its line feeds end, and what follows the last of them where it isn't empty, each without one carriage return at its end
+abbrev pub lines : List ℕ → List (List ℕ)
+lines text = map strip_carriage_return (without_empty_last (slice_split (λ b. b == 10) text))
+
+-- each line with its number, from 1
+abbrev pub numbered_lines : List ℕ → List (ℕ × List ℕ)
+numbered_lines text = enumerate_from 1 (lines text)
+
+-- the columns from one to another, counted from 1, with missing blanks supplied
+abbrev pub columns : ℕ → ℕ → List ℕ → List ℕ
+columns from to line = take (suc to - from) (drop (from - 1) (line ++ replicate to blank_byte))

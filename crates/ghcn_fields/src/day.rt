@@ -1,0 +1,118 @@
+//! Days of the years 1 to 9999, by their numbers.
+
+ghost use Rattle.std.specs.Prelude.{◌≡◌, ◌≤◌, ℤ, pos, ◌+ℤ◌, ◌-ℤ◌, IsTrue};
+ghost use Rattle.jiff_core.specs.Calendar as calendar;
+ghost use Rattle.ghcn_fields.specs.Days.{is_day, day_if, day_number, block_of};
+ghost use Rattle.ghcn_fields.specs.Dates as dates;
+
+use jiff_core::civil::Date;
+use std::marker::Model;
+
+/// The number of 0001-01-01.
+const FIRST: i32 = -719_162;
+
+/// The number of 9999-12-31.
+const LAST: i32 = 2_932_896;
+
+/// A day of the proleptic Gregorian calendar, from 0001-01-01 to 9999-12-31.
+///
+/// A contract sees its number: the days since 1970-01-01, negative before it.
+#[derive(Clone, Copy, Debug, PartialEq, Eq, PartialOrd, Ord, Hash)]
+pub struct Day {
+    number: i32,
+}
+
+impl Model for Day {
+    ghost Value = { ℤ };
+
+    ghost view = { λ day. day.number };
+
+    ghost invariant = { λ day. IsTrue (is_day day.number) };
+
+    ghost inverse = { λ n. record { number = n } };
+}
+
+impl Day {
+    /// The day of this year, month and day of the month, or `None` where the calendar has none.
+    pub fn of(year: u16, month: u8, day: u8) -> Option<Self>
+        ensures { result ≡ day_number year month day }
+    {
+        if year == 0 || year > 9999 || month > 12 || day > 31 {
+            return None;
+        }
+        match Date::new(year as i16, month as i8, day as i8) {
+            Ok(date) => Some(Day {
+                number: date.to_unix_epoch_day(),
+            }),
+            Err(_) => None,
+        }
+    }
+
+    /// The day with this number, or `None` outside the years 1 to 9999.
+    pub fn with_number(number: i32) -> Option<Self>
+        ensures { result ≡ day_if number }
+    {
+        if number < FIRST || number > LAST {
+            return None;
+        }
+        Some(Day { number })
+    }
+
+    /// Days since 1970-01-01.
+    pub fn number(self) -> i32
+        ensures value { result ≡ self }
+        ensures range { IsTrue (is_day self) }
+    {
+        self.number
+    }
+
+    /// Year, month and day of the month.
+    pub fn civil(self) -> (u16, u8, u8)
+        ensures { result ≡ dates.civil self }
+    {
+        match Date::from_unix_epoch_day(self.number as i64) {
+            Ok(date) => (date.year.unsigned_abs(), date.month, date.day),
+            Err(_) => (1, 1, 1),
+        }
+    }
+
+    /// The block of 32 days that holds the day: the number divided by 32, rounded down.
+    pub fn block(self) -> i32
+        ensures { result ≡ block_of self }
+    {
+        self.number.div_euclid(32)
+    }
+
+    /// The day that comes so many days later, or `None` after 9999-12-31.
+    pub fn after(self, days: u32) -> Option<Self>
+        ensures { result ≡ day_if (self +ℤ pos days) }
+    {
+        let number = self.number as i64 + days as i64;
+        if number > LAST as i64 {
+            return None;
+        }
+        Some(Day {
+            number: number as i32,
+        })
+    }
+
+    /// The day before, or `None` before 0001-01-01.
+    pub fn previous(self) -> Option<Self>
+        ensures { result ≡ day_if (self -ℤ pos 1) }
+    {
+        if self.number <= FIRST {
+            return None;
+        }
+        Some(Day {
+            number: self.number - 1,
+        })
+    }
+}
+
+/// How many days a month, from 1, of a year up to 9999 has.
+pub fn days_in_month(year: u16, month: u8) -> u8
+    requires { year ≤ 9999 }
+    ensures { result ≡ calendar.days_in_month (pos year) month }
+{
+    jiff_core::civil::days_in_month(year as i16, month)
+}

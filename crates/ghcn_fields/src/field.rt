@@ -1,0 +1,71 @@
+//! Number fields. In the readme's fixed-width records a number ends in its field's last column.
+
+ghost use Rattle.std.specs.Prelude.{◌≡◌, ◌≤◌, ◌^◌, IfSome};
+ghost use Rattle.std.specs.Option.{option_map};
+ghost use Rattle.ghcn_fields.specs.Numbers as numbers;
+
+/// What a number field holds.
+#[derive(Clone, Copy, Debug, PartialEq, Eq)]
+pub enum Field {
+    /// Blanks alone, or no column at all.
+    Blank,
+    Number(i32),
+    /// Anything else, and a number outside `i32`.
+    Bad,
+}
+
+/// The greatest magnitude of an `i32`.
+const GREATEST: u64 = 1 << 31;
+
+/// Reads a whole number: blanks, an optional `-`, then digits up to the last column.
+pub fn int_field(field: &[u8]) -> Field
+    ensures value { result ≡ numbers.int_field field.now }
+{
+    match after_blanks(field) {
+        [] => Field::Blank,
+        [b'-', digits @ ..] => signed_field(true, small_natural(digits)),
+        digits => signed_field(false, small_natural(digits)),
+    }
+}
+
+fn after_blanks(field: &[u8]) -> &[u8]
+    ensures { result.now ≡ numbers.after_blanks field.now }
+{
+    let mut rest = field;
+    while let [b' ', more @ ..] = rest {
+        rest = more;
+    }
+    rest
+}
+
+/// The number that digits write, where it is at most `GREATEST`.
+fn small_natural(digits: &[u8]) -> Option<u64>
+    ensures { result ≡ numbers.up_to (2 ^ 31) (numbers.natural digits.now) }
+{
+    if digits.is_empty() {
+        return None;
+    }
+    let mut value: u64 = 0;
+    for digit in digits {
+        if !digit.is_ascii_digit() {
+            return None;
+        }
+        value = value * 10 + (*digit - b'0') as u64;
+        if value > GREATEST {
+            return None;
+        }
+    }
+    Some(value)
+}
+
+fn signed_field(negative: bool, magnitude: Option<u64>) -> Field
+    requires { IfSome magnitude (λ n. n ≤ 2 ^ 31) }
+    ensures { result ≡ numbers.field_of (option_map (numbers.with_sign negative) magnitude) }
+{
+    match magnitude {
+        None => Field::Bad,
+        Some(n) if negative => Field::Number((-(n as i64)) as i32),
+        Some(n) if n < GREATEST => Field::Number(n as i32),
+        Some(_) => Field::Bad,
+    }
+}
