@@ -1,0 +1,42 @@
+-- The five elements and their codes.
+use Rattle.std.specs.Prelude.{ℕ, Bool, true, false, ◌==◌, List, [], ◌∷◌, codes, Option}
+use Rattle.std.specs.List.{find}
+use Rattle.ghcn_fields.specs.Bytes.{same_bytes}
+use Rattle.ghcn_files.specs.declared.element.Element.{Element}
+use Rattle.ghcn_files.specs.declared.element.Element.TheVariants.{Prcp, Snow, Snwd, Tmax, Tmin}
+
+-- the four bytes that name an element
+abbrev pub code_of : Element → List ℕ
+code_of Prcp = codes "PRCP"
+code_of Snow = codes "SNOW"
+code_of Snwd = codes "SNWD"
+code_of Tmax = codes "TMAX"
+code_of Tmin = codes "TMIN"
+
+-- all five
+abbrev pub elements : List Element
+elements = Prcp ∷ Snow ∷ Snwd ∷ Tmax ∷ Tmin ∷ []
+
+-- an element's place among the five, from 0
+abbrev pub element_index : Element → ℕ
+element_index Prcp = 0
+element_index Snow = 1
+element_index Snwd = 2
+element_index Tmax = 3
+element_index Tmin = 4
+
+-- two elements are the same
+abbrev pub same_element : Element → Element → Bool
+same_element a b = element_index a == element_index b
+
+-- the element that bytes name
+abbrev pub element_of : List ℕ → Option Element
+element_of bytes = find (λ e. same_bytes (code_of e) bytes) elements
+
+-- only temperatures have negative values
+abbrev pub may_be_negative : Element → Bool
+may_be_negative Prcp = false
+may_be_negative Snow = false
+may_be_negative Snwd = false
+may_be_negative Tmax = true
+may_be_negative Tmin = true

@@ -1,0 +1,5 @@
+pub mod Ids
+pub mod Elements
+pub mod StationLines
+pub mod Listed
+pub mod Months

@@ -1,0 +1,75 @@
+-- The listed stations of a text, or the first line with a fault.
+use Rattle.std.specs.Prelude.{◌≡◌, ℕ, ◌≤◌, ◌^◌, Bool, true, false, not, nat_lt, if◌then◌else◌, List, [], ◌∷◌, length, map, Option, None, Some, Result, Ok, Err, filter, ⊤, IsTrue}
+use Rattle.std.specs.List.{list_all, list_any, IsDistinct, AllByRecursion, position}
+use Rattle.std.specs.Option.{option_or, option_map}
+use Rattle.ghcn_fields.specs.Bytes.{is_blank}
+use Rattle.ghcn_fields.specs.Lines.{numbered_lines}
+use Rattle.ghcn_fields.specs.Faults.{first_fault}
+use Rattle.ghcn_files.specs.declared.station.StationId.{StationId}
+use Rattle.ghcn_files.specs.declared.station.Station.{Station}
+use Rattle.ghcn_files.specs.declared.fault.StationWhy.{StationWhy}
+use Rattle.ghcn_files.specs.declared.fault.StationWhy.TheVariants.{Duplicate}
+use Rattle.ghcn_files.specs.declared.fault.StationsFault.{StationsFault}
+use Rattle.ghcn_files.specs.declared.fault.StationsFault.TheVariants.{StationLine, TooManyStations, Memory}
+use Rattle.ghcn_files.specs.Ids.{same_id}
+use Rattle.ghcn_files.specs.StationLines.{id_of, station_of, line_why, is_station}
+
+-- a line that isn't blank, with its number
+abbrev pub Numbered : Type 0
+Numbered = ℕ × List ℕ
+
+-- an earlier line has this ID
+abbrev pub is_repeated : List Numbered → StationId → Bool
+is_repeated earlier id = list_any (λ l. same_id (id_of l.1) id) earlier
+
+-- the first test that a line fails after the lines before it
+abbrev pub station_why : List Numbered → List ℕ → Option StationWhy
+station_why earlier line = option_or (line_why line) (if is_repeated earlier (id_of line) then Some Duplicate else None)
+
+-- the fault of a line after those before it: of its text, or that it is one station too many
+abbrev pub station_fault : List Numbered → Numbered → Option StationsFault
+station_fault earlier l =
+    option_or (option_map (λ why. StationLine l.0 why) (station_why earlier l.1))
+    (if nat_lt (length earlier) (2 ^ 20) then None else Some TooManyStations)
+
+-- the lines of a text that aren't blank
+abbrev pub station_lines : List ℕ → List Numbered
+station_lines text = filter (λ l. not (is_blank l.1)) (numbered_lines text)
+
+-- the stations of some lines
+abbrev pub stations_of : List Numbered → List Station
+stations_of ls = map (λ l. station_of l.1) ls
+
+-- the stations of all lines, unless one has a fault: then the first fault
+abbrev pub listed_unless : Option (Numbered × StationsFault) → List Numbered → Result (List Station) StationsFault
+listed_unless None ls = Ok (stations_of ls)
+listed_unless (Some f) ls = Err f.1
+
+-- the listed stations of a text in file order, or the first fault
+abbrev pub listed : List ℕ → Result (List Station) StationsFault
+listed text = listed_unless (first_fault station_fault (station_lines text)) (station_lines text)
+
+-- the station has this ID
+abbrev pub is_station_of : StationId → Station → Bool
+is_station_of id s = same_id s.id id
+
+-- the place of the station with this ID, from 0
+abbrev pub place_of : List Station → StationId → Option ℕ
+place_of stations id = position (is_station_of id) stations
+
+-- what is true of every list of stations: no ID stands twice, there are at most 2^20, and each has fields in their ranges
+pub record AreListed (stations : List Station) : Type 0 where
+  pub distinct : IsDistinct same_id (map (λ s. s.id) stations)
+  pub few : length stations ≤ 2 ^ 20
+  pub right : IsTrue (list_all is_station stations)
+
+-- stations that are kept by ID are listed, each under its own
+pub record AreKept (entries : List (StationId × Station)) : Type 0 where
+  pub own : AllByRecursion (λ e. e.0 ≡ e.1.id) entries
+  pub listed : AreListed (map (λ e. e.1) entries)
+
+-- want of memory, or the very fault that the text has
+abbrev pub IsRefusal : StationsFault → Result (List Station) StationsFault → Type 0
+IsRefusal (Memory m) read = ⊤
+IsRefusal (StationLine line why) read = read ≡ Err (StationLine line why)
+IsRefusal TooManyStations read = read ≡ Err TooManyStations

@@ -1,0 +1,75 @@
+-- A line of a daily file: a month of one station and element.
+use Rattle.std.specs.Prelude.{ℕ, ◌+◌, ◌*◌, Bool, not, nat_lt, nat_le, if◌then◌else◌, List, [], ◌∷◌, ◌++◌, length, map, drop, Option, None, Some, Result, Ok, Err, pos, unsigned_abs}
+use Rattle.std.specs.List.{range_with_len}
+use Rattle.ghcn_fields.specs.declared.field.Field.{Field}
+use Rattle.ghcn_fields.specs.Bytes.{is_blank}
+use Rattle.ghcn_fields.specs.Lines.{columns}
+use Rattle.ghcn_fields.specs.Faults.{first_failing}
+use Rattle.ghcn_fields.specs.Numbers.{int_field}
+use Rattle.ghcn_files.specs.declared.element.Element.{Element}
+use Rattle.ghcn_files.specs.declared.month.Month.{Month}
+use Rattle.ghcn_files.specs.declared.month.Reading.{Reading}
+use Rattle.ghcn_files.specs.declared.fault.LineWhy.{LineWhy}
+use Rattle.ghcn_files.specs.declared.fault.LineWhy.TheVariants.{Short, TooLong, BadId, BadYear, BadMonth, BadValue}
+use Rattle.ghcn_files.specs.Ids.{is_id}
+use Rattle.ghcn_files.specs.Elements.{element_of}
+use Rattle.ghcn_files.specs.StationLines.{id_of, is_number_within, is_bad, number_of, unless_missing}
+
+-- the year of a line
+abbrev pub year_field : List ℕ → Field
+year_field line = int_field (columns 12 15 line)
+
+-- its month
+abbrev pub month_field : List ℕ → Field
+month_field line = int_field (columns 16 17 line)
+
+-- the value of the day j, from 1: the first five columns of its group of eight
+abbrev pub value_field : List ℕ → ℕ → Field
+value_field line j = int_field (columns (14 + 8 * j) (18 + 8 * j) line)
+
+-- the day's quality flag, the seventh column of its group, isn't blank
+abbrev pub is_flagged : List ℕ → ℕ → Bool
+is_flagged line j = not (is_blank (columns (20 + 8 * j) (20 + 8 * j) line))
+
+-- what a line says of the day j
+abbrev pub reading : List ℕ → ℕ → Reading
+reading line j = record { value = unless_missing (value_field line j); flagged = is_flagged line j }
+
+-- the days that a line has groups for
+abbrev pub days_of_group : List ℕ
+days_of_group = range_with_len 1 31
+
+-- the month of a line of this element
+abbrev pub month_of : Element → List ℕ → Month
+month_of element line = record {
+  id = id_of line;
+  element = element;
+  year = unsigned_abs (number_of (year_field line));
+  month = unsigned_abs (number_of (month_field line));
+  days = map (reading line) days_of_group;
+}
+
+-- the first test that a line of one of the five elements fails
+abbrev pub month_why : List ℕ → Option LineWhy
+month_why line = first_failing (
+    ((nat_le 266 (length line), Short)
+    ∷ (is_blank (drop 269 line), TooLong)
+    ∷ (is_id (columns 1 11 line), BadId)
+    ∷ (is_number_within (pos 1) (pos 9999) (year_field line), BadYear)
+    ∷ (is_number_within (pos 1) (pos 12) (month_field line), BadMonth)
+    ∷ [])
+    ++ map (λ j. (not (is_bad (value_field line j)), BadValue j)) days_of_group)
+
+-- the month, unless the line fails a test
+abbrev pub month_unless : Option LineWhy → Month → Result (Option Month) LineWhy
+month_unless None month = Ok (Some month)
+month_unless (Some why) month = Err why
+
+-- the month of a line of an element; a line of none of the five is passed over
+abbrev pub month_if : Option Element → List ℕ → Result (Option Month) LineWhy
+month_if None line = Ok None
+month_if (Some e) line = month_unless (month_why line) (month_of e line)
+
+-- the month of a line that isn't blank, nothing for another element, or the first test that it fails
+abbrev pub read_month : List ℕ → Result (Option Month) LineWhy
+read_month line = if nat_lt (length line) 21 then Err Short else month_if (element_of (columns 18 21 line)) line

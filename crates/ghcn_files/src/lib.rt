@@ -1,0 +1,17 @@
+//! The lines of GHCN-Daily's two files: listed stations, and months of daily values.
+//!
+//! The crate of series stands on it, and so does the query language. What it hands up is the
+//! station and the month.
+#![tactic(auto)]
+
+mod element;
+mod fault;
+mod month;
+mod station;
+mod stations;
+
+pub use element::Element;
+pub use fault::{LineWhy, StationWhy, StationsFault};
+pub use month::{Month, Reading};
+pub use station::{Station, StationId};
+pub use stations::Stations;

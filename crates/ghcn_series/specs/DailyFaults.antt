@@ -1,0 +1,70 @@
+-- The lines of the daily files in order, and the first of them with a fault.
+use Rattle.std.specs.Prelude.{◌≡◌, ℕ, Bool, ◌&&◌, not, ◌==◌, if◌then◌else◌, List, map, Option, None, Some, Result, Ok, Err, filter, ⊤}
+use Rattle.std.specs.List.{list_any, flat_map, filter_map, enumerate_from}
+use Rattle.std.specs.Option.{option_map}
+use Rattle.ghcn_fields.specs.Bytes.{is_blank}
+use Rattle.ghcn_fields.specs.Lines.{numbered_lines}
+use Rattle.ghcn_files.specs.declared.station.StationId.{StationId}
+use Rattle.ghcn_files.specs.declared.station.Station.{Station}
+use Rattle.ghcn_files.specs.declared.month.Month.{Month}
+use Rattle.ghcn_files.specs.declared.fault.LineWhy.{LineWhy}
+use Rattle.ghcn_files.specs.Ids.{same_id}
+use Rattle.ghcn_files.specs.Elements.{same_element}
+use Rattle.ghcn_files.specs.Listed.{is_station_of}
+use Rattle.ghcn_files.specs.Months.{read_month}
+use Rattle.ghcn_series.specs.declared.fault.DailyWhy.{DailyWhy}
+use Rattle.ghcn_series.specs.declared.fault.DailyWhy.TheVariants.{Line, DuplicateMonth}
+use Rattle.ghcn_series.specs.declared.fault.DataFault.{DataFault}
+use Rattle.ghcn_series.specs.declared.fault.DataFault.TheVariants.{DailyLine, TooManyFiles, Memory}
+use Rattle.ghcn_series.specs.Series.{Contents}
+
+-- a line of the daily files that isn't blank
+pub record FileLine : Type 0 where
+  pub file : ℕ
+  pub line : ℕ
+  pub bytes : List ℕ
+
+-- the lines of a file, of this number
+abbrev pub file_lines : ℕ × List ℕ → List FileLine
+file_lines f = map (λ l. record { file = f.0; line = l.0; bytes = l.1 }) (filter (λ l. not (is_blank l.1)) (numbered_lines f.1))
+
+-- the lines of all files, by file and line, both from 1
+abbrev pub daily_lines : List (List ℕ) → List FileLine
+daily_lines files = flat_map file_lines (enumerate_from 1 files)
+
+-- the month that was read, if one was
+abbrev pub month_if_ok : Result (Option Month) LineWhy → Option Month
+month_if_ok (Ok m) = m
+month_if_ok (Err why) = None
+
+-- the month that a line is, if it is a line of the five elements without a fault
+abbrev pub month_on : FileLine → Option Month
+month_on l = month_if_ok (read_month l.bytes)
+
+-- two months are of one station, element, year and month
+abbrev pub same_month : Month → Month → Bool
+same_month a b = same_id a.id b.id && same_element a.element b.element && (a.year == b.year) && (a.month == b.month)
+
+-- an earlier line is this very month
+abbrev pub repeats : List FileLine → Month → Bool
+repeats earlier m = list_any (same_month m) (filter_map month_on earlier)
+
+-- the station with this ID is listed
+abbrev pub is_listed : List Station → StationId → Bool
+is_listed stations id = list_any (is_station_of id) stations
+
+-- why a line is refused after the lines before it
+abbrev pub daily_why : List Station → List FileLine → Result (Option Month) LineWhy → Option DailyWhy
+daily_why stations earlier (Err why) = Some (Line why)
+daily_why stations earlier (Ok None) = None
+daily_why stations earlier (Ok (Some m)) = if is_listed stations m.id && repeats earlier m then Some DuplicateMonth else None
+
+-- the fault of a line after the lines before it
+abbrev pub daily_fault : List Station → List FileLine → FileLine → Option DataFault
+daily_fault stations earlier l = option_map (λ why. DailyLine l.file l.line why) (daily_why stations earlier (read_month l.bytes))
+
+-- want of memory, or the very fault that the files have
+abbrev pub IsRefusal : DataFault → Result Contents DataFault → Type 0
+IsRefusal (Memory m) read = ⊤
+IsRefusal (DailyLine file line why) read = read ≡ Err (DailyLine file line why)
+IsRefusal TooManyFiles read = read ≡ Err TooManyFiles

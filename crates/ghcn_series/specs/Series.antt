@@ -1,0 +1,55 @@
+-- What contracts see of a series and of all data.
+use Rattle.std.specs.Prelude.{◌≡◌, ℕ, Bool, true, ◌&&◌, ◌||◌, List, [], ◌∷◌, Option, ℤ, pos, neg_ℤ, int_le, int_lt, IsTrue}
+use Rattle.std.specs.List.{list_all, find}
+use Rattle.std.specs.Option.{is_some, option_map}
+use Rattle.std.specs.Ordering.{int_eq}
+use Rattle.ghcn_fields.specs.Days.{is_day}
+use Rattle.ghcn_files.specs.declared.station.StationId.{StationId}
+use Rattle.ghcn_files.specs.declared.element.Element.{Element}
+use Rattle.ghcn_files.specs.declared.station.Station.{Station}
+use Rattle.ghcn_files.specs.Ids.{same_id}
+use Rattle.ghcn_files.specs.Elements.{same_element, may_be_negative}
+
+-- a day and its value
+abbrev pub DayValue : Type 0
+DayValue = ℤ × ℤ
+
+-- the usable days of one station and element with their values, by increasing day
+pub record Usable : Type 0 where
+  pub id : StationId
+  pub element : Element
+  pub days : List DayValue
+
+-- the listed stations in file order; of each, in that order, its series, by element; and how many lines of unlisted stations were passed over
+pub record Contents : Type 0 where
+  pub stations : List Station
+  pub series : List Usable
+  pub unlisted : ℕ
+
+-- the value of a day, if it is usable
+abbrev pub value_on : List DayValue → ℤ → Option ℤ
+value_on days day = option_map (λ x. x.1) (find (λ x. int_eq x.0 day) days)
+
+-- each day is later than the one before it
+abbrev pub is_by_day : List DayValue → Bool
+is_by_day [] = true
+is_by_day (x ∷ []) = true
+is_by_day (x ∷ y ∷ ys) = int_lt x.0 y.0 && is_by_day (y ∷ ys)
+
+-- a value that an element can have
+abbrev pub is_value : Element → ℤ → Bool
+is_value e v = int_le (neg_ℤ (pos 9998)) v && int_le v (pos 99_999) && (may_be_negative e || int_le (pos 0) v)
+
+-- what is true of each series: it has a day, its days rise, and each is a day with a value that the element can have
+pub record IsSeries (s : Usable) : Type 0 where
+  pub nonempty : IsTrue (is_some (find (λ x. true) s.days))
+  pub by_day : IsTrue (is_by_day s.days)
+  pub values : IsTrue (list_all (λ x. is_day x.0 && is_value s.element x.1) s.days)
+
+-- the series is that of this station and element
+abbrev pub is_series_of : StationId → Element → Usable → Bool
+is_series_of id e s = same_id s.id id && same_element s.element e
+
+-- the series of a station and element, if it has a usable day
+abbrev pub series_of : Contents → StationId → Element → Option Usable
+series_of held id e = find (is_series_of id e) held.series

@@ -1,0 +1,11 @@
+//! Series of usable values, by station and element.
+//!
+//! The crate of scores stands on it. What it hands up is the series: the map from the usable days
+//! of one station and element to their values.
+#![tactic(auto)]
+
+mod fault;
+mod series;
+
+pub use fault::{DailyWhy, DataFault};
+pub use series::Series;
