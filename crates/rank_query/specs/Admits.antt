@@ -1,0 +1,34 @@
+-- The stations and days that a query admits.
+use Rattle.std.specs.Prelude.{Bool, true, ◌&&◌, ◌||◌, if◌then◌else◌, take, Option, None, Some, ℤ, int_le}
+use Rattle.ghcn_fields.specs.Bytes.{same_bytes}
+use Rattle.ghcn_fields.specs.Days.{is_day}
+use Rattle.ghcn_files.specs.declared.station.Station.{Station}
+use Rattle.ghcn_files.specs.Ids.{same_id}
+use Rattle.rank_query.specs.declared.region.Region.{Region}
+use Rattle.rank_query.specs.declared.region.Region.TheVariants.{Everywhere, Inside, Country, State, Only}
+use Rattle.rank_query.specs.Asked.{Asked}
+
+-- a longitude from the western to the eastern edge, over the date line where the western one is greater
+abbrev pub is_between_edges : ℤ → ℤ → ℤ → Bool
+is_between_edges west east z = if int_le west east then int_le west z && int_le z east else int_le west z || int_le z east
+
+-- the region holds the station
+abbrev pub region_holds : Region → Station → Bool
+region_holds Everywhere s = true
+region_holds (Inside south west north east) s = int_le south s.latitude && int_le s.latitude north && is_between_edges west east s.longitude
+region_holds (Country code) s = same_bytes (take 2 s.id.0) code
+region_holds (State code) s = same_bytes s.state code
+region_holds (Only id) s = same_id s.id id
+
+-- the query admits the station
+abbrev pub admits_station : Asked → Station → Bool
+admits_station q s = region_holds q.region s
+
+-- the period holds the day; without one every day does
+abbrev pub period_holds : Option (ℤ × ℤ) → ℤ → Bool
+period_holds None day = true
+period_holds (Some p) day = int_le p.0 day && int_le day p.1
+
+-- the query admits the day
+abbrev pub admits_day : Asked → ℤ → Bool
+admits_day q day = is_day day && period_holds q.period day

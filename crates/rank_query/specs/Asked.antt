@@ -1,0 +1,79 @@
+-- What a query asks.
+use Rattle.std.specs.Prelude.{ℕ, Bool, true, false, ◌&&◌, ◌==◌, List, length, Option, None, Some, ℤ, pos, neg_ℤ, int_le, IsTrue}
+use Rattle.std.specs.List.{list_all}
+use Rattle.ghcn_fields.specs.Days.{is_within, is_day}
+use Rattle.ghcn_files.specs.declared.element.Element.{Element}
+use Rattle.ghcn_files.specs.declared.element.Element.TheVariants.{Prcp, Snow, Snwd, Tmax, Tmin}
+use Rattle.ghcn_files.specs.Ids.{is_visible, is_id}
+use Rattle.rank_query.specs.declared.score.Score.{Score}
+use Rattle.rank_query.specs.declared.score.Score.TheVariants.{Highest, Lowest, Sum, Dry, Wet}
+use Rattle.rank_query.specs.declared.region.Region.{Region}
+use Rattle.rank_query.specs.declared.region.Region.TheVariants.{Everywhere, Inside, Country, State, Only}
+
+-- the k best of a score, of the stations of a region, within a period of a first and a last day
+pub record Asked : Type 0 where
+  pub k : ℕ
+  pub score : Score
+  pub region : Region
+  pub period : Option (ℤ × ℤ)
+
+-- the element that a score is about
+abbrev pub score_element : Score → Element
+score_element (Highest e) = e
+score_element (Lowest e) = e
+score_element (Sum n e) = e
+score_element Dry = Prcp
+score_element Wet = Prcp
+
+-- an element whose lowest values are ranked
+abbrev pub is_temperature : Element → Bool
+is_temperature Prcp = false
+is_temperature Snow = false
+is_temperature Snwd = false
+is_temperature Tmax = true
+is_temperature Tmin = true
+
+-- an element whose values are added up
+abbrev pub is_fall : Element → Bool
+is_fall Prcp = true
+is_fall Snow = true
+is_fall Snwd = false
+is_fall Tmax = false
+is_fall Tmin = false
+
+-- a score that can be asked for
+abbrev pub is_score : Score → Bool
+is_score (Highest e) = true
+is_score (Lowest e) = is_temperature e
+is_score (Sum n e) = is_within 1 366 n && is_fall e
+is_score Dry = true
+is_score Wet = true
+
+-- a longitude, in ten-thousandths of a degree
+abbrev pub is_longitude : ℤ → Bool
+is_longitude z = int_le (neg_ℤ (pos 1_800_000)) z && int_le z (pos 1_800_000)
+
+-- so many visible bytes
+abbrev pub is_code : ℕ → List ℕ → Bool
+is_code len bytes = (length bytes == len) && list_all is_visible bytes
+
+-- a region that can be asked for
+abbrev pub is_region : Region → Bool
+is_region Everywhere = true
+is_region (Inside south west north east) =
+    int_le (neg_ℤ (pos 900_000)) south && int_le south north && int_le north (pos 900_000) && is_longitude west && is_longitude east
+is_region (Country code) = is_code 2 code
+is_region (State code) = is_code 2 code
+is_region (Only id) = is_id id.0
+
+-- a period that can be asked for: none, or two days, the second not before the first
+abbrev pub is_period : Option (ℤ × ℤ) → Bool
+is_period None = true
+is_period (Some p) = is_day p.0 && is_day p.1 && int_le p.0 p.1
+
+-- what is true of every query
+pub record IsAsked (q : Asked) : Type 0 where
+  pub k : IsTrue (is_within 1 1000 q.k)
+  pub score : IsTrue (is_score q.score)
+  pub region : IsTrue (is_region q.region)
+  pub period : IsTrue (is_period q.period)

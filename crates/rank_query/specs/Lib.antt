@@ -1,0 +1,3 @@
+pub mod Asked
+pub mod Admits
+pub mod QueryTexts

@@ -1,0 +1,13 @@
+//! The query language: what is ranked, where and when.
+//!
+//! The crate of scores stands on it. What it hands up is the query, and the stations and days that
+//! it admits.
+#![tactic(auto)]
+
+mod query;
+mod region;
+mod score;
+
+pub use query::Query;
+pub use region::Region;
+pub use score::Score;

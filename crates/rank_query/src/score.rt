@@ -1,0 +1,18 @@
+//! What a query ranks.
+
+use ghcn_files::Element;
+
+/// What is ranked, and so what a candidate is.
+#[derive(Clone, Copy, Debug, PartialEq, Eq)]
+pub enum Score {
+    /// Single days, by their value.
+    Highest(Element),
+    /// Single days, by their value negated; of a temperature alone.
+    Lowest(Element),
+    /// So many consecutive days, 1 to 366, by the sum of their values; of rain or snow alone.
+    Sum(u16, Element),
+    /// Spells of days with less than 1 mm of precipitation, by their length (ETCCDI).
+    Dry,
+    /// Spells of days with at least 1 mm of precipitation, by their length (ETCCDI).
+    Wet,
+}
