@@ -1,0 +1,4 @@
+pub mod Runs
+pub mod Candidates
+pub mod Order
+pub mod Morsels

@@ -1,0 +1,41 @@
+-- The series that a query is about, and all its candidates.
+use Rattle.std.specs.Prelude.{ℤ, ◌≤ℤ◌, Option, Bool, not, ◌==◌, List, length, filter}
+use Rattle.std.specs.List.{flat_map, filter_map, AllByRecursion}
+use Rattle.std.specs.Ordering.{is_le, nat_cmp}
+use Rattle.std.specs.Cmp.Lexicographic.{slice_cmp}
+use Rattle.ghcn_fields.specs.Sorting.{sorted_by}
+use Rattle.ghcn_files.specs.declared.station.StationId.{StationId}
+use Rattle.ghcn_series.specs.Series.{Usable, Contents, series_of}
+use Rattle.rank_query.specs.Asked.{Asked, score_element}
+use Rattle.rank_query.specs.Admits.{admits_station}
+use Rattle.rank_scores.specs.declared.candidate.Candidate.{Candidate}
+use Rattle.rank_scores.specs.Candidates.{admitted, candidates}
+use Rattle.rank_scores.specs.Order.{best, kth_score}
+
+-- the series of the query's element of each admitted station that has one, in file order
+abbrev pub admitted_series : Asked → Contents → List Usable
+admitted_series q c = filter_map (λ st. series_of c st.id (score_element q.score)) (filter (admits_station q) c.stations)
+
+-- all candidates of a query
+abbrev pub all_candidates : Asked → Contents → List Candidate
+all_candidates q c = flat_map (candidates q) (admitted_series q c)
+
+-- an ID that stands before another, or is the same
+abbrev pub id_comes_first : StationId → StationId → Bool
+id_comes_first a b = is_le (slice_cmp nat_cmp a.0 b.0)
+
+-- those of these series that have an admitted day, by increasing ID
+abbrev pub morsels : Asked → Contents → List Usable
+morsels q c = sorted_by (λ a b. id_comes_first a.id b.id) (filter (λ s. not (length (admitted q s) == 0)) (admitted_series q c))
+
+-- the best candidates of a query
+abbrev pub best_of_query : Asked → Contents → List Candidate
+best_of_query q c = best q.k (all_candidates q c)
+
+-- the score of the k-th best candidate of a query
+abbrev pub kth_of_query : Asked → Contents → Option ℤ
+kth_of_query q c = kth_score q.k (all_candidates q c)
+
+-- no candidate of the series has a score above this number
+abbrev pub IsAbove : Asked → Usable → ℤ → Type 0
+IsAbove q s bound = AllByRecursion (λ c. c.score ≤ℤ bound) (candidates q s)

@@ -1,0 +1,37 @@
+-- The order of candidates, and the best of some.
+use Rattle.std.specs.Prelude.{ℕ, zero, suc, Bool, ◌==◌, List, Option, None, ℤ}
+use Rattle.std.specs.List.{count_by, find, filter_map, range_with_len}
+use Rattle.std.specs.Option.{option_map}
+use Rattle.std.specs.declared.cmp.Ordering.{Ordering}
+use Rattle.std.specs.Ordering.{is_lt, nat_cmp, int_cmp, on, flip_args, then_cmp}
+use Rattle.std.specs.Cmp.Lexicographic.{slice_cmp}
+use Rattle.rank_scores.specs.declared.candidate.Candidate.{Candidate}
+
+-- by greater score, then by smaller ID, then by earlier first day
+abbrev pub rank_cmp : Candidate → Candidate → Ordering
+rank_cmp = then_cmp (on (λ c. c.score) (flip_args int_cmp)) (then_cmp (on (λ c. c.id.0) (slice_cmp nat_cmp)) (on (λ c. c.first) int_cmp))
+
+-- a stands before b
+abbrev pub precedes : Candidate → Candidate → Bool
+precedes a b = is_lt (rank_cmp a b)
+
+-- the order of all candidates, whatever their query: ties by the last day
+abbrev pub full_cmp : Candidate → Candidate → Ordering
+full_cmp = then_cmp rank_cmp (on (λ c. c.last) int_cmp)
+
+-- how many of a set precede a candidate
+abbrev pub rank_in : List Candidate → Candidate → ℕ
+rank_in all c = count_by (λ d. precedes d c) all
+
+-- the candidate of a rank
+abbrev pub of_rank : List Candidate → ℕ → Option Candidate
+of_rank all r = find (λ c. rank_in all c == r) all
+
+-- those of rank below k, in order of rank
+abbrev pub best : ℕ → List Candidate → List Candidate
+best k all = filter_map (of_rank all) (range_with_len 0 k)
+
+-- the score of the k-th best, if the set has k candidates; there is no 0-th
+abbrev pub kth_score : ℕ → List Candidate → Option ℤ
+kth_score zero all = None
+kth_score (suc rank) all = option_map (λ c. c.score) (of_rank all rank)

@@ -1,0 +1,9 @@
+//! Candidates for a record, their order, and the scan of a series for them.
+//!
+//! Pools and bounds stand on it, and so does the checker. What it hands up is the candidate, and
+//! the best of some candidates.
+#![tactic(auto)]
+
+mod candidate;
+
+pub use candidate::{Candidate, precedes};
