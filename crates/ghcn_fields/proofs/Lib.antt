@@ -1,5 +1,7 @@
 pub mod DayNumbers
 pub mod CivilDates
+pub mod WholeDays
+pub mod DateTexts
 pub mod Digits
 pub mod Decimals
 pub mod FirstLine

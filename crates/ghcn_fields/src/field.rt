@@ -54,7 +54,7 @@ fn after_blanks(field: &[u8]) -> &[u8]
 }
 
 /// The number that digits write, where it is at most `GREATEST`.
-fn small_natural(digits: &[u8]) -> Option<u64>
+pub(crate) fn small_natural(digits: &[u8]) -> Option<u64>
     ensures { result ≡ numbers.up_to (2 ^ 31) (numbers.natural digits.now) }
 {
     if digits.is_empty() {
