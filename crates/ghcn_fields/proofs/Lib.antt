@@ -2,6 +2,8 @@ pub mod DayNumbers
 pub mod CivilDates
 pub mod WholeDays
 pub mod DateTexts
+pub mod DecimalTexts
+pub mod FieldNumbers
 pub mod Digits
 pub mod Decimals
 pub mod FirstLine
