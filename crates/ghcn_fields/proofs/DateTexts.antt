@@ -7,7 +7,7 @@ use Rattle.std.specs.Str.Parse.{digits_value, AllDigits}
 use Rattle.std.specs.Cmp.Lexicographic.{pointwise, same_text, other_text}
 use Rattle.std.proofs.Math.Nat.{pow-le-pow_right}
 use Rattle.std.proofs.lemmas.Int.Digits.{digits_value-lt}
-use Rattle.std.proofs.lemmas.Bool.{cases_Bool}
+use Rattle.std.proofs.lemmas.Bool.{cases_Bool, and_parts}
 use Rattle.std.proofs.lemmas.Cmp.{nat_list_eq_equiv}
 use Rattle.std.proofs.lemmas.Grind.{common_steps}
 use Rattle.std.proofs.lemmas.List.{length-take-le, length-drop}
@@ -21,7 +21,7 @@ use Rattle.ghcn_fields.specs.Numbers.{natural, up_to}
 use Rattle.ghcn_fields.specs.NumberTexts.{last_digits}
 use Rattle.ghcn_fields.specs.Days.{is_day, day_number, is_date}
 use Rattle.ghcn_fields.specs.Dates.{civil, date_bytes, date_text, read_date}
-use Rattle.ghcn_fields.proofs.Digits.{digit_is}
+use Rattle.ghcn_fields.proofs.Digits.{digit_is, natural-some, natural-from}
 use Rattle.ghcn_fields.proofs.Decimals.{up_to-fits}
 use Rattle.ghcn_fields.proofs.CivilDates.{civil-is}
 use Rattle.ghcn_fields.proofs.DayNumbers.{is_day-date}
@@ -52,24 +52,20 @@ before_last n c is = omega (arith, digit_is c is, digit-range c is)
 first_of_all : (c : ℕ) → is_ascii_digit c ≡ true → 48 + (0 + digit_value c) % 10 ≡ c
 first_of_all c is = omega (arith, digit_is c is, digit-range c is)
 
-both : (a b : Bool) → (a && b) ≡ true → (a ≡ true) × (b ≡ true)
-both true b e = (refl, e)
-both false b e = absurd cc
-
 -- two digits are those of the number that they write
 two_again : (a b : ℕ) → list_all is_ascii_digit (a ∷ b ∷ []) ≡ true → last_digits 2 (digits_value 10 (a ∷ b ∷ [])) ≡ a ∷ b ∷ []
 two_again a b digits =
-    let first = both (is_ascii_digit a) _ digits in
-    let second = both (is_ascii_digit b) _ first.1 in
+    let first = and_parts (is_ascii_digit a) _ digits in
+    let second = and_parts (is_ascii_digit b) _ first.1 in
     rw (before_last (0 + digit_value a) b second.0, last_of (0 + digit_value a) b second.0, first_of_all a first.0)
 
 -- and so are four
 four_again : (a b c d : ℕ) → list_all is_ascii_digit (a ∷ b ∷ c ∷ d ∷ []) ≡ true → last_digits 4 (digits_value 10 (a ∷ b ∷ c ∷ d ∷ [])) ≡ a ∷ b ∷ c ∷ d ∷ []
 four_again a b c d digits =
-    let first = both (is_ascii_digit a) _ digits in
-    let second = both (is_ascii_digit b) _ first.1 in
-    let third = both (is_ascii_digit c) _ second.1 in
-    let fourth = both (is_ascii_digit d) _ third.1 in
+    let first = and_parts (is_ascii_digit a) _ digits in
+    let second = and_parts (is_ascii_digit b) _ first.1 in
+    let third = and_parts (is_ascii_digit c) _ second.1 in
+    let fourth = and_parts (is_ascii_digit d) _ third.1 in
     let one : ℕ = 0 + digit_value a in
     let two : ℕ = one * 10 + digit_value b in
     let three : ℕ = two * 10 + digit_value c in
@@ -82,13 +78,7 @@ digits-last_digits (suc k) n = rw (list_all-append is_ascii_digit (last_digits k
   digit_byte : (n : ℕ) → (true && (is_ascii_digit (48 + n % 10) && true)) ≡ true
   digit_byte n = grind (arith, nat_tests)
 
-pub natural-some : (ds : List ℕ) (n : ℕ) → natural ds ≡ Some n → (list_all is_ascii_digit ds ≡ true) × (n ≡ digits_value 10 ds)
-natural-some [] n e = absurd cc
-natural-some (d ∷ ds) n e = elim (cases_Bool (list_all is_ascii_digit (d ∷ ds))) [
-  | inl digits ↦ let is = rw digits at e in (digits, cc)
-  | inr other ↦ let is = rw other at e in absurd cc
-]
-
+-- what is read where the bytes are the text of this year, month and day
 abbrev read_as : List ℕ → ℕ → ℕ → ℕ → Option ℤ
 read_as bytes y m d = if same_bytes (date_bytes (y, m, d)) bytes then day_number y m d else None
 
@@ -126,10 +116,10 @@ read_date-parts (a ∷ b ∷ c ∷ e ∷ s ∷ f ∷ g ∷ t ∷ h ∷ i ∷ [])
     let ds = natural-some (h ∷ i ∷ []) d day in
     let dashes : ◌≡◌ {A = List ℕ} (a ∷ b ∷ c ∷ e ∷ s ∷ f ∷ g ∷ t ∷ h ∷ i ∷ []) (a ∷ b ∷ c ∷ e ∷ 45 ∷ f ∷ g ∷ 45 ∷ h ∷ i ∷ []) =
     ap (λ (n : ℕ). a ∷ b ∷ c ∷ e ∷ n ∷ f ∷ g ∷ t ∷ h ∷ i ∷ []) first ∙ ap (λ (n : ℕ). a ∷ b ∷ c ∷ e ∷ 45 ∷ f ∷ g ∷ n ∷ h ∷ i ∷ []) second in
-    ap read_date dashes ∙ read_digits a b c e f g h i ys.0 ms.0 ds.0
-    ∙ ap (λ (n : ℕ). day_number n (digits_value 10 (f ∷ g ∷ [])) (digits_value 10 (h ∷ i ∷ []))) (sym ys.1)
-    ∙ ap (λ (n : ℕ). day_number y n (digits_value 10 (h ∷ i ∷ []))) (sym ms.1)
-    ∙ ap (λ (n : ℕ). day_number y m n) (sym ds.1)
+    ap read_date dashes ∙ read_digits a b c e f g h i ys.1 ms.1 ds.1
+    ∙ ap (λ (n : ℕ). day_number n (digits_value 10 (f ∷ g ∷ [])) (digits_value 10 (h ∷ i ∷ []))) (sym ys.2)
+    ∙ ap (λ (n : ℕ). day_number y n (digits_value 10 (h ∷ i ∷ []))) (sym ms.2)
+    ∙ ap (λ (n : ℕ). day_number y m n) (sym ds.2)
 read_date-parts bytes y m d len first second year month day = absurd (omega arith)
 
 -- a text that is the date of no year, month and day is not read
@@ -186,14 +176,14 @@ written_by bytes found is day = let law = read_date-law bytes day in (λ e. law.
 all_digits : (ds : List ℕ) → list_all is_ascii_digit ds ≡ true → AllDigits 10 ds
 all_digits [] e = tt
 all_digits (d ∷ ds) e =
-    let parts = both (is_ascii_digit d) (list_all is_ascii_digit ds) e in
+    let parts = and_parts (is_ascii_digit d) (list_all is_ascii_digit ds) e in
     (omega (arith, digit_is d parts.0, digit-range d parts.0), all_digits ds parts.1)
 
 -- two digits at most write less than a hundred
 pub natural-lt : (ds : List ℕ) (n k : ℕ) → natural ds ≡ Some n → length ds ≤ k → n < 10 ^ k
 natural-lt ds n k e short =
     let some = natural-some ds n e in
-    omega (arith, some.1, digits_value-lt 10 ds (all_digits ds some.0), pow-le-pow_right {n = 10} (lit< tt) short)
+    omega (arith, some.2, digits_value-lt 10 ds (all_digits ds some.1), pow-le-pow_right {n = 10} (lit< tt) short)
 
 -- four digits at most are never too great
 pub short_natural : (ds : List ℕ) → length ds ≤ 4 → up_to (2 ^ 31) (natural ds) ≡ natural ds
@@ -203,10 +193,9 @@ short_natural ds short = elim (natural ds) as (λ o. natural ds ≡ o → up_to 
 ] refl
 
 digits_are_some : (ds : List ℕ) → 0 < length ds → list_all is_ascii_digit ds ≡ true → natural ds ≡ None → ⊥
-digits_are_some [] some digits none = omega arith
-digits_are_some (d ∷ ds) some digits none =
-    let is : natural (d ∷ ds) ≡ Some (digits_value 10 (d ∷ ds)) = ap (λ (b : Bool). if b then Some (digits_value 10 (d ∷ ds)) else None) digits in
-    absurd cc
+digits_are_some ds some digits none = no_some _ (sym none ∙ natural-from ds some digits) where
+  no_some : (n : ℕ) → None ≡ Some n → ⊥
+  no_some n e = absurd cc
 
 four_are_some : (n : ℕ) → natural (last_digits 4 n) ≡ None → ⊥
 four_are_some n = digits_are_some (last_digits 4 n) (omega arith) (digits-last_digits 4 n)

@@ -6,32 +6,17 @@ use Rattle.std.specs.Option.{option_map}
 use Rattle.std.specs.Char.{is_ascii_digit}
 use Rattle.std.specs.Str.Parse.{digits_value}
 use Rattle.std.proofs.Math.Seq.{take-append_seam, drop-append-add}
-use Rattle.std.proofs.lemmas.Bool.{cases_Bool, cases_eq}
+use Rattle.std.proofs.lemmas.Bool.{cases_Bool, cases_eq, and_parts}
 use Rattle.std.proofs.lemmas.Bool.Decides.{nat_tests}
 use Rattle.std.proofs.lemmas.List.{append-nil}
 use Rattle.std.proofs.lemmas.List.Folds.{list_all-append, list_any-append}
 use Rattle.std.proofs.lemmas.List.Sums.{split_at_first, passes_at_first}
 use Rattle.ghcn_fields.specs.Numbers.{natural, joined, decimal_number, with_sign, signed_by}
 use Rattle.ghcn_fields.specs.Fields.{part_text, sign_text, Spells}
+use Rattle.ghcn_fields.proofs.Digits.{natural-some, natural-from}
 
 abbrev is_point : ℕ → Bool
 is_point b = b == 46
-
-both : (a b : Bool) → (a && b) ≡ true → (a ≡ true) × (b ≡ true)
-both true b e = (refl, e)
-both false b e = absurd cc
-
--- what such digits write, where there is at least one
-natural-some : (ds : List ℕ) (n : ℕ) → natural ds ≡ Some n → (1 ≤ length ds) × (list_all is_ascii_digit ds ≡ true) × (n ≡ digits_value 10 ds)
-natural-some [] n e = absurd cc
-natural-some (d ∷ ds) n e = elim (cases_Bool (list_all is_ascii_digit (d ∷ ds))) [
-  | inl digits ↦ let is = rw digits at e in (omega arith, digits, cc)
-  | inr other ↦ let is = rw other at e in absurd cc
-]
-
-natural-from : (ds : List ℕ) → 1 ≤ length ds → list_all is_ascii_digit ds ≡ true → natural ds ≡ Some (digits_value 10 ds)
-natural-from [] some digits = absurd (omega arith)
-natural-from (d ∷ ds) some digits = ap (λ (b : Bool). if b then Some (digits_value 10 (d ∷ ds)) else None) digits
 
 -- a digit is no point
 no_point_digit : (d : ℕ) → is_ascii_digit d ≡ true → is_point d ≡ false
@@ -40,13 +25,13 @@ no_point_digit d is = grind (arith, nat_tests)
 no_point : (ds : List ℕ) → list_all is_ascii_digit ds ≡ true → list_any is_point ds ≡ false
 no_point [] digits = refl
 no_point (d ∷ ds) digits =
-    let parts = both (is_ascii_digit d) (list_all is_ascii_digit ds) digits in
+    let parts = and_parts (is_ascii_digit d) (list_all is_ascii_digit ds) digits in
     rw (no_point_digit d parts.0) (no_point ds parts.1)
 
 point_at : (ds rest : List ℕ) → list_all is_ascii_digit ds ≡ true → position_or_len is_point (ds ++ 46 ∷ rest) ≡ length ds
 point_at [] rest digits = refl
 point_at (d ∷ ds) rest digits =
-    let parts = both (is_ascii_digit d) (list_all is_ascii_digit ds) digits in
+    let parts = and_parts (is_ascii_digit d) (list_all is_ascii_digit ds) digits in
     rw (no_point_digit d parts.0) (omega (arith, point_at ds rest parts.1))
 
 has_point : (ds rest : List ℕ) → list_any is_point (ds ++ 46 ∷ rest) ≡ true
@@ -106,36 +91,36 @@ is_46 b e = grind (arith, nat_tests)
 pub writes-from_decimal_number : (places : ℕ) (text : List ℕ) (n : ℕ) → decimal_number places text ≡ Some n → Writes places text n
 writes-from_decimal_number places text n e = elim (cases_Bool (list_any is_point text)) [
   | inl point ↦
-    let front : List ℕ = before_first is_point text in
-    let behind : List ℕ = after_first is_point text in
-    let whole_and_part = rw point at e in
-    let j = joined-some places (length behind) n (natural front) (natural behind) whole_and_part in
-    let w = natural-some front j.front j.whole_is in
-    let p = natural-some behind j.behind j.part_is in
-    let low : position_or_len is_point text < length text = point_before_end text point in
-    let at : get_or text (position_or_len is_point text) 0 ≡ 46 = is_46 _ (passes_at_first is_point text 0 low) in
-    record {
-      whole = front;
-      part = behind;
-      parts = split_at_first is_point text 0 low ∙ ap (λ (b : ℕ). front ++ b ∷ behind) at ∙ ap (λ (xs : List ℕ). front ++ xs) (sym (part_text-some behind p.0));
-      some_digit = w.0;
-      digits = list_all-append is_ascii_digit front behind ∙ rw (w.1, p.1);
-      few = j.few;
-      value = j.value ∙ rw (w.2, p.2);
-    }
+      let front : List ℕ = before_first is_point text in
+      let behind : List ℕ = after_first is_point text in
+      let whole_and_part = rw point at e in
+      let j = joined-some places (length behind) n (natural front) (natural behind) whole_and_part in
+      let w = natural-some front j.front j.whole_is in
+      let p = natural-some behind j.behind j.part_is in
+      let low : position_or_len is_point text < length text = point_before_end text point in
+      let at : get_or text (position_or_len is_point text) 0 ≡ 46 = is_46 _ (passes_at_first is_point text 0 low) in
+      record {
+        whole = front;
+        part = behind;
+        parts = split_at_first is_point text 0 low ∙ ap (λ (b : ℕ). front ++ b ∷ behind) at ∙ ap (λ (xs : List ℕ). front ++ xs) (sym (part_text-some behind p.0));
+        some_digit = w.0;
+        digits = list_all-append is_ascii_digit front behind ∙ rw (w.1, p.1);
+        few = j.few;
+        value = j.value ∙ rw (w.2, p.2);
+      }
   | inr plain ↦
-    let digits_alone = rw plain at e in
-    let m = map-some (λ n. n * 10 ^ places) (natural text) n digits_alone in
-    let w = natural-some text m.0 m.1 in
-    record {
-      whole = text;
-      part = [];
-      parts = sym (append-nil text);
-      some_digit = w.0;
-      digits = ap (list_all is_ascii_digit) (append-nil text) ∙ w.1;
-      few = omega arith;
-      value = m.2 ∙ ap (λ (k : ℕ). k * 10 ^ places) w.2 ∙ omega arith;
-    }
+      let digits_alone = rw plain at e in
+      let m = map-some (λ n. n * 10 ^ places) (natural text) n digits_alone in
+      let w = natural-some text m.0 m.1 in
+      record {
+        whole = text;
+        part = [];
+        parts = sym (append-nil text);
+        some_digit = w.0;
+        digits = ap (list_all is_ascii_digit) (append-nil text) ∙ w.1;
+        few = omega arith;
+        value = m.2 ∙ ap (λ (k : ℕ). k * 10 ^ places) w.2 ∙ omega arith;
+      }
 ]
 
 read_parts : (places : ℕ) (whole part : List ℕ) → 1 ≤ length whole → list_all is_ascii_digit whole ≡ true → list_all is_ascii_digit part ≡ true → length part ≤ places
@@ -154,14 +139,14 @@ read_parts places whole (d ∷ ds) some digits more few =
     ∙ ap (λ (o : Option ℕ). joined places o (natural (d ∷ ds)) (length (d ∷ ds))) (natural-from whole some digits)
     ∙ ap (λ (o : Option ℕ). joined places (Some (digits_value 10 whole)) o (length (d ∷ ds))) (natural-from (d ∷ ds) (omega arith) more)
     ∙ ap (λ (b : Bool). if b then Some (digits_value 10 whole * 10 ^ places + digits_value 10 (d ∷ ds) * 10 ^ (places - length (d ∷ ds))) else None) (few_enough few)
-    where
+  where
     few_enough : {m n : ℕ} → m ≤ n → nat_le m n ≡ true
     few_enough {m = m} {n = n} e = grind (arith, nat_tests)
 
 -- what is written is found as a decimal number
 pub decimal_number-from_writes : (places : ℕ) (text : List ℕ) (n : ℕ) → Writes places text n → decimal_number places text ≡ Some n
 decimal_number-from_writes places text n w =
-    let digits = both (list_all is_ascii_digit w.whole) (list_all is_ascii_digit w.part) (sym (list_all-append is_ascii_digit w.whole w.part) ∙ w.digits) in
+    let digits = and_parts (list_all is_ascii_digit w.whole) (list_all is_ascii_digit w.part) (sym (list_all-append is_ascii_digit w.whole w.part) ∙ w.digits) in
     ap (decimal_number places) w.parts ∙ read_parts places w.whole w.part w.some_digit digits.0 digits.1 w.few ∙ ap (λ (k : ℕ). Some k) (sym w.value)
 
 map_sign-some : (negative : Bool) (o : Option ℕ) (v : ℤ) → option_map (with_sign negative) o ≡ Some v → (n : ℕ) × (o ≡ Some n) × (v ≡ with_sign negative n)
@@ -191,14 +176,14 @@ pub spells-from_signed : (places : ℕ) (text : List ℕ) (v : ℤ) → signed_b
 spells-from_signed places [] v e = absurd cc
 spells-from_signed places (b ∷ bytes) v e = elim (cases_eq b 45) [
   | inl minus ↦
-    let behind = rw minus at e in
-    let m = map_sign-some true (decimal_number places bytes) v behind in
-    let spelled = spells_by places true bytes m.0 v (writes-from_decimal_number places bytes m.0 m.1) m.2 in
-    subst (λ (first : ℕ). Spells places (first ∷ bytes) v) (sym minus) spelled
+      let behind = rw minus at e in
+      let m = map_sign-some true (decimal_number places bytes) v behind in
+      let spelled = spells_by places true bytes m.0 v (writes-from_decimal_number places bytes m.0 m.1) m.2 in
+      subst (λ (first : ℕ). Spells places (first ∷ bytes) v) (sym minus) spelled
   | inr plain ↦
-    let all = rw (no_minus b plain) at e in
-    let m = map_sign-some false (decimal_number places (b ∷ bytes)) v all in
-    spells_by places false (b ∷ bytes) m.0 v (writes-from_decimal_number places (b ∷ bytes) m.0 m.1) m.2
+      let all = rw (no_minus b plain) at e in
+      let m = map_sign-some false (decimal_number places (b ∷ bytes)) v all in
+      spells_by places false (b ∷ bytes) m.0 v (writes-from_decimal_number places (b ∷ bytes) m.0 m.1) m.2
 ]
 
 signed_parts : (places : ℕ) (negative : Bool) (whole part : List ℕ) (n : ℕ) → Writes places (whole ++ part_text part) n → 1 ≤ length whole → list_all is_ascii_digit (whole ++ part) ≡ true
@@ -206,7 +191,7 @@ signed_parts : (places : ℕ) (negative : Bool) (whole part : List ℕ) (n : ℕ
 signed_parts places true whole part n w some digits = ap (option_map (with_sign true)) (decimal_number-from_writes places (whole ++ part_text part) n w)
 signed_parts places false [] part n w some digits = absurd (omega arith)
 signed_parts places false (b ∷ bytes) part n w some digits =
-    let first = both (is_ascii_digit b) (list_all is_ascii_digit (bytes ++ part)) digits in
+    let first = and_parts (is_ascii_digit b) (list_all is_ascii_digit (bytes ++ part)) digits in
     rw (no_minus_digit b first.0) (ap (option_map (with_sign false)) (decimal_number-from_writes places (b ∷ bytes ++ part_text part) n w))
 
 -- what is spelled is found
@@ -236,10 +221,16 @@ natural-from_writes text n whole (d ∷ ds) parts some digits few value = absurd
 -- so the number is that of the digits
 pub decimal_number-zero : (text : List ℕ) → decimal_number 0 text ≡ natural text
 decimal_number-zero text = same_number (decimal_number 0 text) (natural text)
-  (λ n e. let w = writes-from_decimal_number 0 text n e in natural-from_writes text n w.whole w.part w.parts w.some_digit w.digits w.few w.value)
-  (λ n e. let w = natural-some text n e in decimal_number-from_writes 0 text n (record {
-    whole = text; part = []; parts = sym (append-nil text); some_digit = w.0; digits = ap (list_all is_ascii_digit) (append-nil text) ∙ w.1; few = omega arith; value = omega (arith, w.2)
-  }))
+    (λ n e. let w = writes-from_decimal_number 0 text n e in natural-from_writes text n w.whole w.part w.parts w.some_digit w.digits w.few w.value)
+    (λ n e. let w = natural-some text n e in decimal_number-from_writes 0 text n (record {
+      whole = text;
+      part = [];
+      parts = sym (append-nil text);
+      some_digit = w.0;
+      digits = ap (list_all is_ascii_digit) (append-nil text) ∙ w.1;
+      few = omega arith;
+      value = omega (arith, w.2);
+    }))
 
 pub signed_by-zero : (text : List ℕ) → signed_by (decimal_number 0) text ≡ signed_by natural text
 signed_by-zero [] = refl

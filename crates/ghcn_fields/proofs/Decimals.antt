@@ -7,15 +7,12 @@ use Rattle.std.proofs.Math.Nat.{one-le-pow, pow-le-pow_right, le-mul_of_pos_righ
 use Rattle.std.proofs.lemmas.Bool.Decides.{nat_tests}
 use Rattle.std.proofs.lemmas.Nat.{mul-le}
 use Rattle.std.proofs.lemmas.List.{get_or_default}
+use Rattle.std.proofs.lemmas.Bool.{false_from_ne_true}
 use Rattle.std.proofs.lemmas.List.Sums.{position_or_len_is}
 use Rattle.std.proofs.lemmas.List.Folds.{list_any_none, list_any_at}
 use Rattle.memchr.specs.Find.{IsFirstByte, is_byte}
 use Rattle.ghcn_fields.specs.declared.field.Field.TheVariants.{Blank}
 use Rattle.ghcn_fields.specs.Numbers.{natural, joined, decimal_number, up_to, with_sign, field_of, field_by, signed_by, after_blanks}
-
-not_true : (b : Bool) → (b ≡ true → ⊥) → b ≡ false
-not_true true h = absurd (h refl)
-not_true false h = refl
 
 abbrev is_point : ℕ → Bool
 is_point b = b == 46
@@ -23,14 +20,14 @@ is_point b = b == 46
 -- without a point the digits are whole units
 pub decimal_number-whole : (places : ℕ) (text : List ℕ) → IsFirstByte (is_byte 46) text None → decimal_number places text ≡ option_map (λ n. n * 10 ^ places) (natural text)
 decimal_number-whole places text nowhere =
-    let none : All (λ b. is_point b ≡ false) text = λ k d lt. rw (get_or_default text k d 0 lt) (not_true _ (nowhere k (omega arith) lt)) in
+    let none : All (λ b. is_point b ≡ false) text = λ k d lt. rw (get_or_default text k d 0 lt) (false_from_ne_true _ (nowhere k (omega arith) lt)) in
     ap (λ (any : Bool). if any then joined places (natural (before_first is_point text)) (natural (after_first is_point text)) (length (after_first is_point text)) else option_map (λ n. n * 10 ^ places) (natural text)) (list_any_none is_point text none)
 
 -- the first point stands between the whole part and the part behind it
 pub decimal_number-point : (places : ℕ) (text : List ℕ) (point : ℕ) → IsFirstByte (is_byte 46) text (Some point) → decimal_number places text ≡ joined places (natural (take point text)) (natural (drop (point + 1) text)) (length (drop (point + 1) text))
 decimal_number-point places text point first =
     let high : point < length text = first.0.high in
-    let at : position_or_len is_point text ≡ point = position_or_len_is is_point text point 0 (omega arith) (λ k lt. not_true _ (first.0.before k (omega arith) lt)) (λ _. first.1) in
+    let at : position_or_len is_point text ≡ point = position_or_len_is is_point text point 0 (omega arith) (λ k lt. false_from_ne_true _ (first.0.before k (omega arith) lt)) (λ _. first.1) in
     ap (λ (any : Bool). if any then joined places (natural (before_first is_point text)) (natural (after_first is_point text)) (length (after_first is_point text)) else option_map (λ n. n * 10 ^ places) (natural text)) (list_any_at is_point text point 0 high first.1)
     ∙ ap (λ (n : ℕ). joined places (natural (take n text)) (natural (drop (n + 1) text)) (length (drop (n + 1) text))) at
 

@@ -64,15 +64,19 @@ of_number None v = (λ e. absurd cc, λ h. absurd (none_some v h.0)) where
 of_number (Some z) v = elim (cases_Bool (is_i32 z)) [
   | inl small ↦ (
     λ e. let is : z ≡ v = by_number (rw small at e) in (ap (λ (n : ℤ). Some n) is, subst (λ (n : ℤ). FitsSigned w32 n) is (is_i32-fits z small)),
-    λ h. rw small (ap (λ (n : ℤ). Number n) (by_some h.0)))
+    λ h. rw small (ap (λ (n : ℤ). Number n) (by_some h.0)),
+  )
   | inr great ↦ (
     λ e. let is = rw great at e in absurd cc,
-    λ h. absurd (other (sym great ∙ fits-is_i32 z (subst (λ (n : ℤ). FitsSigned w32 n) (sym (by_some h.0)) h.1))))
+    λ h. absurd (other (sym great ∙ fits-is_i32 z (subst (λ (n : ℤ). FitsSigned w32 n) (sym (by_some h.0)) h.1))),
+  )
 ] where
   by_number : {a b : ℤ} → Number a ≡ Number b → a ≡ b
   by_number e = cc
+
   by_some : {a b : ℤ} → Some a ≡ Some b → a ≡ b
   by_some e = cc
+
   other : false ≡ true → ⊥
   other e = absurd cc
 
@@ -91,6 +95,7 @@ number_text : (read : List ℕ → Option ℤ) (text : List ℕ) (v : ℤ) → r
 number_text read [] v none = (λ e. absurd (no_number v e), λ h. absurd (no_some v (sym none ∙ h.0))) where
   no_number : (v : ℤ) → Blank ≡ Number v → ⊥
   no_number v e = absurd cc
+
   no_some : (v : ℤ) → None ≡ Some v → ⊥
   no_some v e = absurd cc
 number_text read (b ∷ bytes) v none = rw (not_empty b bytes) (of_number (read (b ∷ bytes)) v)
@@ -122,18 +127,20 @@ has_number places field v = (
 pub scaled_field-number : (places : ℕ) (field : List ℕ) (v : ℤ) → (scaled_field places field ≡ Number v) ↔ (HasNumber places field v × FitsSigned w32 v)
 scaled_field-number places field v =
     let by_text = number_text (signed_by (decimal_number places)) (after_blanks field) v refl in
-    let has = has_number places field v in
-    ( λ e. let h = by_text.0 e in (has.1 (spells-from_signed places (after_blanks field) v h.0), h.1)
-    , λ h. by_text.1 (signed-from_spells places (after_blanks field) v (has.0 h.0), h.1))
+    let has = has_number places field v in (
+      λ e. let h = by_text.0 e in (has.1 (spells-from_signed places (after_blanks field) v h.0), h.1),
+      λ h. by_text.1 (signed-from_spells places (after_blanks field) v (has.0 h.0), h.1),
+    )
 
 -- and so is a whole field
 pub int_field-number : (field : List ℕ) (v : ℤ) → (int_field field ≡ Number v) ↔ (HasNumber 0 field v × FitsSigned w32 v)
 int_field-number field v =
     let by_text = number_text (signed_by natural) (after_blanks field) v refl in
     let same = signed_by-zero (after_blanks field) in
-    let has = has_number 0 field v in
-    ( λ e. let h = by_text.0 e in (has.1 (spells-from_signed 0 (after_blanks field) v (same ∙ h.0)), h.1)
-    , λ h. by_text.1 (sym same ∙ signed-from_spells 0 (after_blanks field) v (has.0 h.0), h.1))
+    let has = has_number 0 field v in (
+      λ e. let h = by_text.0 e in (has.1 (spells-from_signed 0 (after_blanks field) v (same ∙ h.0)), h.1),
+      λ h. by_text.1 (sym same ∙ signed-from_spells 0 (after_blanks field) v (has.0 h.0), h.1),
+    )
 
 -- a field is blank where it has blanks alone
 pub field_by-blank : (read : List ℕ → Option ℤ) (field : List ℕ) → (field_by read field ≡ Blank) ↔ All (λ b. b ≡ 32) field

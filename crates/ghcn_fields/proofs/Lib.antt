@@ -8,3 +8,4 @@ pub mod Digits
 pub mod Decimals
 pub mod FirstLine
 pub mod FirstFault
+pub mod Examples

@@ -1,7 +1,7 @@
 -- Each day number of the years 1 to 9999 is the number of the date that is found for it.
 use Rattle.std.proofs.Common.{◌≡◌, ℕ, zero, suc, ◌+◌, ◌-◌, ◌<◌, ◌≤◌, Bool, true, false, Option, Some, None, refl, sym, ap, ◌∙◌, subst, inl, inr, arith, ℤ, pos, negsuc, ◌-ℤ◌, ◌<ℤ◌, ◌≤ℤ◌}
 use Rattle.std.specs.Prelude.{int_le, nat_le, ◌&&◌, unsigned_abs, if◌then◌else◌}
-use Rattle.std.proofs.lemmas.Bool.{cases_lt}
+use Rattle.std.proofs.lemmas.Bool.{cases_lt, and_parts}
 use Rattle.std.proofs.lemmas.Bool.Decides.{nat_tests}
 use Rattle.std.proofs.lemmas.Int.{ints}
 use Rattle.jiff_core.specs.Calendar.{day_count, days_of_months, days_from_civil, days_in_month, days_in_year, day_of_year, IsCivilDate}
@@ -55,10 +55,6 @@ months_taken (suc more) year first n low lt = elim (cases_lt n (days_in_month (p
       rw (month-go more year first n later) (record { from = omega (arith, r.from); to = omega (arith, r.to); low = r.low; high = r.high; whole = omega (arith, r.whole, next, back, later) })
 ]
 
-both_true : (a b : Bool) → (a && b) ≡ true → (a ≡ true) × (b ≡ true)
-both_true true b e = (refl, e)
-both_true false b e = absurd cc
-
 int_le-true : (a b : ℤ) → int_le a b ≡ true → a ≤ℤ b
 int_le-true a b e = grind (arith, ints)
 
@@ -70,7 +66,7 @@ pub record IsDateOf (day : ℤ) (found : ℕ × ℕ × ℕ) : Type 0 where
 
 pub civil-date_of : (day : ℤ) → is_day day ≡ true → IsDateOf day (civil day)
 civil-date_of day is =
-    let ends = both_true (int_le first_day day) (int_le day last_day) is in
+    let ends = and_parts (int_le first_day day) (int_le day last_day) is in
     let low : first_day ≤ℤ day = int_le-true first_day day ends.0 in
     let high : day ≤ℤ last_day = int_le-true day last_day ends.1 in
     let n : ℕ = unsigned_abs (day -ℤ first_day) in
@@ -104,8 +100,8 @@ from_order low high n e = grind (arith, nat_tests)
 -- and a date is what the calendar has
 pub is_date-to_civil : (y m d : ℕ) → is_date y m d ≡ true → (1 ≤ y) × (y ≤ 9999) × IsCivilDate (pos y) m d
 is_date-to_civil y m d e =
-    let parts = both_true (is_within 1 9999 y && is_within 1 12 m) _ e in
-    let front = both_true (is_within 1 9999 y) _ parts.0 in
+    let parts = and_parts (is_within 1 9999 y && is_within 1 12 m) _ e in
+    let front = and_parts (is_within 1 9999 y) _ parts.0 in
     let year = from_order 1 9999 y front.0 in
     (year.0, year.1, ((omega (arith, signed_arith), omega (arith, signed_arith, year.1)), from_order 1 12 m front.1, from_order 1 (days_in_month (pos y) m) d parts.1))
 

@@ -8,6 +8,8 @@ mod day;
 mod field;
 mod line;
 mod memory;
+#[cfg(test)]
+mod tests;
 mod text;
 
 pub use date::{read_date, write_date};
