@@ -1,20 +1,17 @@
 -- The first line of a text, and the lines after it.
-use Rattle.std.proofs.Common.{◌≡◌, ℕ, ◌+◌, ◌<◌, ◌≤◌, Bool, true, false, List, [], ◌∷◌, length, take, drop, get_or, All, Some, None, refl, sym, ap, ◌∙◌, arith}
+use Rattle.std.proofs.Common.{◌≡◌, ℕ, ◌+◌, ◌<◌, Bool, true, false, List, [], ◌∷◌, length, take, drop, All, Some, None, refl, sym, ap, ◌∙◌, arith}
 use Rattle.std.specs.Prelude.{map, ◌==◌}
 use Rattle.std.specs.List.{slice_split, position_or_len, enumerate_from}
 use Rattle.std.specs.Str.Lines.{strip_carriage_return}
 use Rattle.std.proofs.lemmas.Bool.Decides.{nat_tests}
 use Rattle.std.proofs.lemmas.List.Splits.{slice_split_none, slice_split_first, length-slice_split}
+use Rattle.std.proofs.lemmas.Bool.{false_from_ne_true}
 use Rattle.std.proofs.lemmas.List.Sums.{position_or_len_is, fails_before_first}
 use Rattle.memchr.specs.Find.{IsFirstByte, is_byte}
 use Rattle.ghcn_fields.specs.Lines.{lines, without_empty_last}
 
 abbrev is_line_feed : ℕ → Bool
 is_line_feed b = b == 10
-
-is_false : (b : Bool) → (b ≡ true → ⊥) → b ≡ false
-is_false true h = absurd (h refl)
-is_false false h = refl
 
 keeps : (x : List ℕ) (ys : List (List ℕ)) → 0 < length ys → without_empty_last (x ∷ ys) ≡ x ∷ without_empty_last ys
 keeps x [] h = absurd (omega arith)
@@ -27,7 +24,7 @@ alone x h = grind (arith, nat_tests)
 pub lines-first : (bytes : List ℕ) (end : ℕ) → IsFirstByte (is_byte 10) bytes (Some end) → lines bytes ≡ strip_carriage_return (take end bytes) ∷ lines (drop (end + 1) bytes)
 lines-first bytes end first =
     let high : end < length bytes = first.0.high in
-    let at : position_or_len is_line_feed bytes ≡ end = position_or_len_is is_line_feed bytes end 0 (omega arith) (λ k lt. is_false _ (first.0.before k (omega arith) lt)) (λ _. first.1) in
+    let at : position_or_len is_line_feed bytes ≡ end = position_or_len_is is_line_feed bytes end 0 (omega arith) (λ k lt. false_from_ne_true _ (first.0.before k (omega arith) lt)) (λ _. first.1) in
     let parts : slice_split is_line_feed bytes ≡ take end bytes ∷ slice_split is_line_feed (drop (end + 1) bytes) =
     slice_split_first is_line_feed bytes 0 (omega (arith, at, high)) ∙ ap (λ (n : ℕ). take n bytes ∷ slice_split is_line_feed (drop (n + 1) bytes)) at in
     let more : 0 < length (slice_split is_line_feed (drop (end + 1) bytes)) = omega (arith, length-slice_split is_line_feed (drop (end + 1) bytes)) in
@@ -37,7 +34,7 @@ lines-first bytes end first =
 -- where there is none, the text is one line
 pub lines-last : (bytes : List ℕ) → 0 < length bytes → IsFirstByte (is_byte 10) bytes None → lines bytes ≡ strip_carriage_return bytes ∷ []
 lines-last bytes some nowhere =
-    let at : position_or_len is_line_feed bytes ≡ length bytes = position_or_len_is is_line_feed bytes (length bytes) 0 (omega arith) (λ k lt. is_false _ (nowhere k (omega arith) lt)) (λ lt. absurd (omega arith)) in
+    let at : position_or_len is_line_feed bytes ≡ length bytes = position_or_len_is is_line_feed bytes (length bytes) 0 (omega arith) (λ k lt. false_from_ne_true _ (nowhere k (omega arith) lt)) (λ lt. absurd (omega arith)) in
     let none : All (λ b. is_line_feed b ≡ false) bytes = λ k d lt. fails_before_first is_line_feed bytes k d (omega (arith, at)) in
     ap (λ (ps : List (List ℕ)). map strip_carriage_return (without_empty_last ps)) (slice_split_none is_line_feed bytes none)
     ∙ ap (map strip_carriage_return) (alone bytes some)

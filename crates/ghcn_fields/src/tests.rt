@@ -1,0 +1,139 @@
+//! Worked examples of days, dates, lines and number fields.
+
+use super::*;
+use std::test::Fail;
+
+#[test]
+fn days_and_dates(rt: HostRuntime) {
+    let cases: [(u16, u8, u8, i32, i32, &[u8; 10]); 5] = [
+        (1, 1, 1, -719_162, -22_474, b"0001-01-01"),
+        (1969, 12, 31, -1, -1, b"1969-12-31"),
+        (1970, 1, 1, 0, 0, b"1970-01-01"),
+        (2020, 7, 1, 18_444, 576, b"2020-07-01"),
+        (9999, 12, 31, 2_932_896, 91_653, b"9999-12-31"),
+    ];
+    for (year, month, day, number, block, text) in cases {
+        let found = Day::of(year, month, day);
+        assert_eq!(rt; found, Day::with_number(number), "of {year}-{month}-{day}");
+        assert_eq!(rt; found, read_date(text), "read {year}-{month}-{day}");
+        if let Some(it) = found {
+            assert_eq!(rt; it.number(), number, "number of {year}-{month}-{day}");
+            assert_eq!(rt; it.block(), block, "block of {year}-{month}-{day}");
+            assert_eq!(rt;
+                it.civil(),
+                (year, month, day),
+                "civil {year}-{month}-{day}"
+            );
+            assert_eq!(rt; &write_date(it), text, "written {year}-{month}-{day}");
+        }
+    }
+}
+
+#[test]
+fn no_days_and_no_dates(rt: HostRuntime) {
+    for (year, month, day) in [
+        (1900, 2, 29),
+        (0, 12, 31),
+        (10_000, 1, 1),
+        (2020, 13, 1),
+        (2020, 6, 31),
+    ] {
+        assert_eq!(rt; Day::of(year, month, day), None, "of {year}-{month}-{day}");
+    }
+    let texts: [&[u8]; 6] = [
+        b"",
+        b"2019-02-29",
+        b"2020-7-1",
+        b"2020-07-01 ",
+        b"2020/07/01",
+        b"+020-07-01",
+    ];
+    for text in texts {
+        assert_eq!(rt; read_date(text), None, "read {text:?}");
+    }
+}
+
+#[test]
+fn days_beside_days(rt: HostRuntime) {
+    let first = Day::of(1, 1, 1);
+    let last = Day::of(9999, 12, 31);
+    assert_eq!(rt; Day::with_number(-719_163), None);
+    assert_eq!(rt; first.and_then(Day::previous), None);
+    assert_eq!(rt; last.and_then(Day::previous), Day::of(9999, 12, 30));
+    assert_eq!(rt; first.and_then(|day| day.after(3_652_058)), last);
+    assert_eq!(rt; first.and_then(|day| day.after(3_652_059)), None);
+    for (year, month, days) in [
+        (1900, 2, 28),
+        (2000, 2, 29),
+        (2020, 2, 29),
+        (2020, 6, 30),
+        (2020, 7, 31),
+    ] {
+        assert_eq!(rt; days_in_month(year, month), days, "of {year}-{month}");
+    }
+}
+
+#[test]
+fn lines_of_a_text(rt: HostRuntime) {
+    let mut lines = lines(b"a\r\n\nb");
+    assert_eq!(rt; lines.next(), Some((1, &b"a"[..])));
+    assert_eq!(rt; lines.next(), Some((2, &b""[..])));
+    assert_eq!(rt; lines.next(), Some((3, &b"b"[..])));
+    assert_eq!(rt; lines.next(), None);
+    let cases: [(&[u8], bool); 4] = [(b"", true), (b"   ", true), (b"  x", false), (b"\t", false)];
+    for (line, blank) in cases {
+        assert_eq!(rt; is_blank(line), blank, "of {line:?}");
+    }
+}
+
+#[test]
+fn whole_number_fields(rt: HostRuntime) {
+    let cases: [(&[u8], Field); 14] = [
+        (b"", Field::Blank),
+        (b"     ", Field::Blank),
+        (b"  311", Field::Number(311)),
+        (b"-9999", Field::Number(-9999)),
+        (b"   -0", Field::Number(0)),
+        (b"  007", Field::Number(7)),
+        (b"-2147483648", Field::Number(-2_147_483_648)),
+        (b"2147483647", Field::Number(2_147_483_647)),
+        (b"2147483648", Field::Bad),
+        (b"-2147483649", Field::Bad),
+        (b"  +31", Field::Bad),
+        (b"12 34", Field::Bad),
+        (b"311  ", Field::Bad),
+        (b"    -", Field::Bad),
+    ];
+    for (field, found) in cases {
+        assert_eq!(rt; int_field(field), found, "at {field:?}");
+    }
+}
+
+#[test]
+fn decimal_number_fields(rt: HostRuntime) {
+    let cases: [(&[u8], u8, Field); 14] = [
+        (b"        ", 4, Field::Blank),
+        (b" 10.0000", 4, Field::Number(100_000)),
+        (b"     -91", 4, Field::Number(-910_000)),
+        (b"    -0.5", 4, Field::Number(-5_000)),
+        (b"-999.9", 1, Field::Number(-9_999)),
+        (b"   100", 0, Field::Number(100)),
+        (b"214748.3647", 4, Field::Number(2_147_483_647)),
+        (b"-214748.3648", 4, Field::Number(-2_147_483_648)),
+        (b"214748.3648", 4, Field::Bad),
+        (b" 100.0", 0, Field::Bad),
+        (b"  100.", 1, Field::Bad),
+        (b"  2.55", 1, Field::Bad),
+        (b"    .5", 1, Field::Bad),
+        (b" 1.2.3", 4, Field::Bad),
+    ];
+    for (field, places, found) in cases {
+        assert_eq!(rt; scaled_field(field, places), found, "at {field:?}");
+    }
+}
+
+#[test]
+fn want_of_memory_is_told(rt: HostRuntime) -> Result<(), Fail> {
+    assert_eq!(rt; Memory.to_string(rt.alloc())?.as_str(), "refused 3 Memory");
+    Ok(())
+}
