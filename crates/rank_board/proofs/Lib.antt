@@ -1,0 +1,5 @@
+pub mod Sums
+pub mod Words
+pub mod RuleKept
+pub mod StepsAllowed
+pub mod WholeSeat
