@@ -3,3 +3,4 @@ pub mod Words
 pub mod RuleKept
 pub mod StepsAllowed
 pub mod WholeSeat
+pub mod Drawn
