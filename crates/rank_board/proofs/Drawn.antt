@@ -1,9 +1,9 @@
 -- The floor that is left where every number drawn was raised as a score.
-use Rattle.std.proofs.Common.{◌≡◌, ℕ, ◌+◌, ◌-◌, ◌<◌, ◌≤◌, List, [], ◌∷◌, ◌++◌, length, map, ℤ, pos, negsuc, ◌≤ℤ◌, Option, Some, None, All, Contains, IsSomeAnd, refl, sym, ap, ap₂, subst, ⊎_elim, ◌∙◌, arith, length-append}
+use Rattle.std.proofs.Common.{◌≡◌, ℕ, ◌+◌, ◌-◌, ◌<◌, List, [], ◌∷◌, ◌++◌, length, map, ℤ, pos, negsuc, ◌≤ℤ◌, Option, Some, None, All, Contains, refl, sym, ap, ap₂, subst, ⊎_elim, ◌∙◌, arith, length-append}
 use Rattle.std.proofs.lemmas.Int.{ints}
 use Rattle.std.proofs.lemmas.List.Elements.{All-nil, All-cons, All-head, All-tail, All-weaker, All-contains}
 use Rattle.ghcn_fields.specs.Counting.{HasEachBelow}
-use Rattle.ghcn_fields.specs.Floor.{IsGuessOrRaised, IsFloorOf}
+use Rattle.ghcn_fields.specs.Floor.{IsFloorOf}
 use Rattle.ghcn_fields.proofs.CountingLemmas.{all_below, has_each}
 use Rattle.rank_board.specs.declared.board.Board.{Board}
 use Rattle.rank_board.specs.declared.board.Closed.{Closed}

@@ -11,8 +11,8 @@ use Rattle.ghcn_fields.specs.Counting.{one_if_equal, times}
 use Rattle.ghcn_fields.proofs.CountingLemmas.{one_if_equal-equal, one_if_equal-apart, times_below-suc, below_if_one, all_counted}
 use Rattle.rank_board.specs.declared.rule.View.{View}
 use Rattle.rank_board.specs.Word.{score_word, score_of, floor_of}
-use Rattle.rank_board.specs.Rule.{view, spent_view, standing, times_claimed, times_raised, times_seen, times_known, IsRuled}
-use Rattle.rank_board.specs.Steps.{kept_view, handed_view, joined_view}
+use Rattle.rank_board.specs.Rule.{view, spent_view, standing, times_raised, times_seen, times_known, IsRuled}
+use Rattle.rank_board.specs.Steps.{AreUnder, kept_view, handed_view, joined_view}
 use Rattle.rank_board.proofs.Sums.{sum_by-replaced, term_le, sum_by-cut, sum_by-joined}
 use Rattle.rank_board.proofs.Words.{score_word-score_of, floor_seen}
 
@@ -47,14 +47,14 @@ module _ (rights : ℕ) (guess : Option ℤ) (next floor : ℕ) (views : List Vi
   claims_below = all_counted (λ y. y) (λ x. x < next) v.claims (λ x claimed. below_if_one x next (omega (arith, mine (λ u. times x u.claims), k.once x)))
 
   -- each score that the seat saw is at most the floor
-  pub seen_below : All (λ s. (score_word s ≤ floor) × (0 < floor)) v.seen
+  pub seen_below : AreUnder floor v.seen
   seen_below = all_counted score_word (λ s. (score_word s ≤ floor) × (0 < floor)) v.seen (λ s seen.
       let here = mine (λ u. standing (score_word s) u.seen) in
       let under : score_word s ≤ floor = k.highest (score_word s) (k.sees (score_word s) (omega arith)) in
       let real = k.scores (score_word s) (omega arith) in (under, omega arith))
 
   -- each score that the seat raised is at most the floor
-  pub raised_below : All (λ s. (score_word s ≤ floor) × (0 < floor)) v.raised
+  pub raised_below : AreUnder floor v.raised
   raised_below = all_counted score_word (λ s. (score_word s ≤ floor) × (0 < floor)) v.raised (λ s raised.
       let here = mine (λ u. standing (score_word s) u.raised) in
       let under : score_word s ≤ floor = k.highest (score_word s) (omega arith) in

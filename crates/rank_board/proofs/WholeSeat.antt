@@ -13,6 +13,7 @@ use Rattle.rank_board.specs.declared.rule.View.{View}
 use Rattle.rank_board.specs.declared.rule.Opening.{Opening}
 use Rattle.rank_board.specs.Word.{score_word, floor_word, score_of, floor_of}
 use Rattle.rank_board.specs.Rule.{standing, times_raised, times_known, IsRuled, AreWordsOf, Keeps}
+use Rattle.rank_board.specs.Steps.{AreUnder}
 use Rattle.rank_board.proofs.Sums.{term_le, sum_by-plus, sum_by-alone}
 use Rattle.rank_board.proofs.Words.{score_word-limits, score_word-score_of, score_word-injective, floor_of-none, floor_of-some, floor_above}
 use Rattle.rank_board.proofs.RuleKept.{raised_below}
@@ -31,7 +32,7 @@ guess_or_raised guess raised s real known = elim (cases_eq (standing (score_word
 
 module _ (rights : ℕ) (guess : Option ℤ) (next floor : ℕ) (views : List View) (k : IsRuled rights guess next floor views) (id : ℕ) (v : View) (at : get_elem? views id ≡ some v) where
   -- the guess is at most the floor
-  guess_under : (g : Option ℤ) → g ≡ guess → All (λ s. (score_word s ≤ floor) × (0 < floor)) (option_to_list g)
+  guess_under : (g : Option ℤ) → g ≡ guess → AreUnder floor (option_to_list g)
   guess_under None e = All-nil (λ s. (score_word s ≤ floor) × (0 < floor))
   guess_under (Some g) e = let real = score_word-limits g (subst (λ (o : Option ℤ). IfSome o IsScore) (sym e) k.start) in
       let under : score_word g ≤ floor = k.highest (score_word g) (omega (arith, one_if_equal-equal (floor_word guess) (score_word g) (ap floor_word (sym e)))) in

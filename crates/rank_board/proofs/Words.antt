@@ -1,5 +1,5 @@
 -- Scores and floors, and the words that stand for them.
-use Rattle.std.proofs.Common.{◌≡◌, ℕ, ◌+◌, ◌<◌, ◌≤◌, ◌≢◌, ◌^◌, cond, List, ℤ, pos, negsuc, ◌+ℤ◌, ◌≤ℤ◌, All, Option, Some, None, IsSomeAnd, option_to_list, refl, sym, ap, subst, inl, inr, arith, eq-eqb, ne_eqb}
+use Rattle.std.proofs.Common.{◌≡◌, ℕ, ◌+◌, ◌<◌, ◌≤◌, ◌≢◌, ◌^◌, cond, List, ℤ, pos, negsuc, ◌+ℤ◌, ◌≤ℤ◌, All, Option, Some, None, IsSomeAnd, option_to_list, sym, ap, subst, inl, inr, arith, eq-eqb, ne_eqb}
 use Rattle.std.proofs.lemmas.List.Elements.{All-weaker}
 use Rattle.std.proofs.lemmas.Int.{ints}
 use Rattle.std.proofs.lemmas.Bool.{cases_eq}
@@ -7,6 +7,7 @@ use Rattle.ghcn_fields.specs.Floor.{IsScore, IsAtLeast}
 use Rattle.ghcn_fields.proofs.CountingLemmas.{equal_if_one}
 use Rattle.rank_board.specs.Word.{score_word, score_of, floor_of}
 use Rattle.rank_board.specs.Rule.{standing}
+use Rattle.rank_board.specs.Steps.{AreUnder}
 use Rattle.ghcn_fields.specs.Counting.{one_if_equal}
 
 -- where the word of a score lies
@@ -57,7 +58,7 @@ floor_seen f n some_seen = elim (cases_eq f 0) [
 ]
 
 -- where the words of scores are at most the floor's, the floor is at least these scores
-pub floor_above : (f : ℕ) (scores : List ℤ) → All (λ s. (score_word s ≤ f) × (0 < f)) scores → IsAtLeast (floor_of f) scores
+pub floor_above : (f : ℕ) (scores : List ℤ) → AreUnder f scores → IsAtLeast (floor_of f) scores
 floor_above f scores all = All-weaker (λ s. (score_word s ≤ f) × (0 < f)) (λ s. IsSomeAnd (floor_of f) (λ g. s ≤ℤ g)) at scores all
   where
     at : (s : ℤ) → (score_word s ≤ f) × (0 < f) → IsSomeAnd (floor_of f) (λ g. s ≤ℤ g)

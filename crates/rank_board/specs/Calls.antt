@@ -12,7 +12,7 @@ use Rattle.rank_board.specs.Word.{floor_word}
 use Rattle.rank_board.specs.Rule.{IsRuled}
 use Rattle.rank_board.specs.Seats.{opened, guess_of, claims_of, raised_of, seen_of, rights_of}
 
--- the board keeps its rights and its guess; its first seat has all rights, has claimed and raised nothing, and saw the guess
+-- the board keeps the number of rights and the guess, and its first seat has all rights and has seen the guess
 pub record Opens (rights : ℕ) (guess : Option ℤ) (b : Board) (s : Seat) : Type 0 where
   pub all_rights : opened b ≡ rights
   pub first_floor : guess_of b ≡ guess
@@ -21,16 +21,20 @@ pub record Opens (rights : ℕ) (guess : Option ℤ) (b : Board) (s : Seat) : Ty
   pub seen : seen_of s ≡ option_to_list guess
   pub rights_given : rights_of s ≡ rights
 
--- the number, greater than all that the seat claimed, is added to its claims, and one right is spent
-pub record Claims (before : Seat) (number : ℕ) (after : Seat) : Type 0 where
+-- the number, greater than all that the seat claimed, is added to its claims, and one right is spent;
+-- the number and the rights that the seat had are at most those opened, of which there are at most 2^40
+pub record Claims (b : Board) (before : Seat) (number : ℕ) (after : Seat) : Type 0 where
   pub rises : All (λ x. x < number) (claims_of before)
+  pub below : number + rights_of before ≤ opened b
+  pub limit : opened b ≤ 2 ^ 40
   pub claims : claims_of after ≡ claims_of before ++ number ∷ []
   pub raised : raised_of after ≡ raised_of before
   pub seen : seen_of after ≡ seen_of before
   pub spends : rights_of after + 1 ≡ rights_of before
 
--- the floor, at least every score that the seat saw or raised, joins the scores seen
-pub record Looks (before : Seat) (floor : Option ℤ) (after : Seat) : Type 0 where
+-- the floor, at least the guess and every score that the seat saw or raised, joins the scores seen
+pub record Looks (b : Board) (before : Seat) (floor : Option ℤ) (after : Seat) : Type 0 where
+  pub above_guess : IsAtLeast floor (option_to_list (guess_of b))
   pub above_seen : IsAtLeast floor (seen_of before)
   pub above_raised : IsAtLeast floor (raised_of before)
   pub claims : claims_of after ≡ claims_of before
@@ -68,7 +72,8 @@ abbrev pub ClosesUnderRule : Board → Seat → Closed → Type 0
 ClosesUnderRule b s c = (views : List View) × (place : ℕ) × (get_elem? views place ≡ some s.inner.me.0)
     × IsRuled (opened b) (guess_of b) c.next (floor_word c.floor) views
 
--- the seat claimed every number below next, each once; the floor is the greatest of the guess and what it raised; each score that it saw is one of these
+-- the seat claimed every number below next, each once; the floor is the greatest of the guess and what it raised;
+-- each score that it saw is one of these
 pub record AccountsForAll (b : Board) (s : Seat) (c : Closed) : Type 0 where
   pub once : HasEachBelow c.next (claims_of s)
   pub count : length (claims_of s) ≡ c.next

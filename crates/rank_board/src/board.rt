@@ -30,10 +30,11 @@ pub struct Closed {
 }
 
 impl Board {
-    ghost use Rattle.std.specs.Prelude.{◌≡◌, ◌+◌, ◌^◌, ◌<◌, ◌≤◌, [], IfOk, IfSome, option_to_list, length};
-    ghost use Rattle.ghcn_fields.specs.Floor.{IsScore, IsAtLeast};
-    ghost use Rattle.rank_board.specs.Seats.{opened, guess_of, claims_of, rights_of, IsSeatOf, IsWhole};
-    ghost use Rattle.rank_board.specs.Calls.{Opens, Claims, Looks, Raises, Splits, Joins, ClosesUnderRule, AccountsForAll};
+    ghost use Rattle.std.specs.Prelude.{◌≡◌, ◌^◌, ◌<◌, ◌≤◌, IfOk, IfSome, length};
+    ghost use Rattle.ghcn_fields.specs.Floor.{IsScore};
+    ghost use Rattle.rank_board.specs.Seats.{opened, claims_of, rights_of, IsSeatOf, IsWhole};
+    ghost use Rattle.rank_board.specs.Calls.{Opens, Claims, Looks, Raises, Splits, Joins};
+    ghost use Rattle.rank_board.specs.Calls.{ClosesUnderRule, AccountsForAll};
 
     /// A new board, and its first seat with all rights. The guess is a floor to begin with, from
     /// -2^31 to 2^31.
@@ -64,9 +65,7 @@ impl Board {
         requires seat { IsSeatOf self.now seat.old }
         requires right { 0 < rights_of seat.old }
         ensures seat { IsSeatOf self.now seat.new }
-        ensures claims { Claims seat.old result seat.new }
-        ensures below { result + rights_of seat.old ≤ opened self.now }
-        ensures limit { result < 2 ^ 40 }
+        ensures claims { Claims self.now seat.old result seat.new }
     {
         self.claim_one_of::<Brand>(seat)
     }
@@ -76,9 +75,7 @@ impl Board {
         requires seat { IsSeatOf self.now seat.old }
         requires right { 0 < rights_of seat.old }
         ensures seat { IsSeatOf self.now seat.new }
-        ensures claims { Claims seat.old result seat.new }
-        ensures below { result + rights_of seat.old ≤ opened self.now }
-        ensures limit { result < 2 ^ 40 }
+        ensures claims { Claims self.now seat.old result seat.new }
     {
         seat.left -= 1;
         self.table
@@ -90,8 +87,7 @@ impl Board {
     pub fn look(&self, seat: &mut Seat) -> Option<i64>
         requires seat { IsSeatOf self.now seat.old }
         ensures seat { IsSeatOf self.now seat.new }
-        ensures looks { Looks seat.old result seat.new }
-        ensures guess { IsAtLeast result (option_to_list (guess_of self.now)) }
+        ensures looks { Looks self.now seat.old result seat.new }
     {
         floor_of_word(self.table.shared.load::<Look>(&mut seat.inner, FLOOR))
     }
@@ -151,9 +147,7 @@ impl Board {
             .shared
             .join_seat::<TakeIn>(&mut seat.inner, inner);
         // The join itself tells nothing of the rights: this load shows that their sum fits.
-        self.table
-            .shared
-            .load::<CountRights>(&mut seat.inner, NEXT);
+        self.table.shared.load::<CountRights>(&mut seat.inner, NEXT);
         seat.left += left;
     }
 

@@ -22,7 +22,11 @@ fn two_seats_in_one_thread(rt: HostRuntime) -> Result<(), Fail> {
     assert_eq!(rt; board.look(&mut one), Some(45), "the seat that raised it");
     assert_eq!(rt; board.look(&mut two), Some(45), "the other seat");
     board.raise(&mut two, 40);
-    assert_eq!(rt; board.look(&mut two), Some(45), "a lower score changes nothing");
+    assert_eq!(rt;
+        board.look(&mut two),
+        Some(45),
+        "a lower score changes nothing"
+    );
     assert_eq!(rt; one.rights(), 2);
     assert_eq!(rt; two.rights(), 3);
     board.join(&mut one, two);

@@ -1,6 +1,5 @@
-use Rattle.std.proofs.Common.{◌≡◌, ◌+◌, ℕ, ℤ, Option, length, ap, subst, sym, ◌∙◌}
+use Rattle.std.proofs.Common.{◌≡◌, ◌+◌, ℕ, length, ap, subst, sym, ◌∙◌}
 use Rattle.ghcn_fields.specs.Floor.{IsFloorOf}
-use Rattle.rank_board.specs.Rule.{IsRuled}
 use Rattle.rank_board.proofs.WholeSeat.{ruled_at_close, claims_once, claims_count, floor_is, seen_here}
 use Rattle.rank_board.proofs.board.Board.close.Goals as goal
 
