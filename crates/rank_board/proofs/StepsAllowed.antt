@@ -1,16 +1,18 @@
 -- Each kind of step may be taken whatever the board holds, since it keeps the rule.
-use Rattle.std.proofs.Common.{◌≡◌, ℕ, ◌+◌, ◌-◌, ◌%◌, ◌^◌, ◌<◌, ◌≤◌, max, List, [], ◌∷◌, ◌++◌, length, set, get_or, option_to_list, sym, refl, subst, arith}
+use Rattle.std.proofs.Common.{◌≡◌, ℕ, ◌+◌, ◌-◌, ◌%◌, ◌^◌, ◌<◌, ◌≤◌, max, List, [], ◌∷◌, ◌++◌, length, set, get_or, ℤ, option_to_list, sym, refl, subst, arith}
 use mathlib.Core.Option.{some, none}
 use mathlib.Core.Option.{Option as Maybe}
 use lib.ListN.{get_elem?}
 use Rattle.atomic_table.specs.Table.{State, Me, Act, step, keeps, Valid, stepped, carried_after, Allows, Splits, Joins}
 use Rattle.atomic_table.proofs.Lists.{set_again}
+use Rattle.ghcn_fields.specs.Floor.{IsScore}
 use Rattle.rank_board.specs.declared.rule.View.{View}
 use Rattle.rank_board.specs.declared.rule.Opening.{Opening}
-use Rattle.rank_board.specs.Word.{score_of, floor_of}
+use Rattle.rank_board.specs.Word.{score_word, score_of, floor_of}
 use Rattle.rank_board.specs.Rule.{view, spent_view, IsRuled, AreWordsOf, Keeps}
 use Rattle.rank_board.specs.Steps.{claim_step, look_step, raise_step, rights_step, kept_view, handed_view, joined_view}
 use Rattle.rank_board.proofs.Sums.{term_le}
+use Rattle.rank_board.proofs.Words.{score_word-limits}
 use Rattle.rank_board.proofs.RuleKept.{claims_below, seen_below, raised_below, claim_kept, look_kept, raise_kept, split_kept, join_kept}
 
 module _ {S : Type 0} (o : Opening) (slots id : ℕ) (me : Me S View) where
@@ -65,9 +67,11 @@ module _ {S : Type 0} (o : Opening) (slots id : ℕ) (me : Me S View) where
   raises_at x low high drew homes views at (n ∷ f ∷ []) k =
       (view me.0.claims (me.0.raised ++ score_of x ∷ []) me.0.seen me.0.rights, keeps, tt, raise_kept o.rights o.guess n f views k id me.0 at x low high drew, refl)
 
-  -- a raise to the score with the word x, by a seat with a claim
-  pub raise_allowed : (x : ℕ) → 2 ^ 31 ≤ x → x ≤ 2 ^ 32 + 2 ^ 31 → 0 < length me.0.claims → Allows (Keeps o) slots id me 1 (λ n. max n x) (raise_step (step slots 1 x 0 none) me)
-  raise_allowed x low high drew s k _ at _ = raises_at x low high drew s.homes s.views at s.words k
+  -- a raise to a score, by a seat with a claim
+  pub raise_allowed : (x : ℕ) (score : ℤ) → x ≡ score_word score → IsScore score → 0 < length me.0.claims
+      → Allows (Keeps o) slots id me 1 (λ n. max n x) (raise_step (step slots 1 x 0 none) me)
+  raise_allowed x score e real drew s k _ at _ = let limits = score_word-limits score real in
+      raises_at x (omega (arith, limits.0)) (omega (arith, limits.1)) drew s.homes s.views at s.words k
 
   counts_at : (homes : List (Maybe S)) (views : List View) → get_elem? views id ≡ some me.0 → (words : List ℕ) → AreWordsOf o words views
       → MayStep record { words = words; homes = homes; views = views } 0 (λ n. n) (rights_step (step slots 0 0 0 none) me)
