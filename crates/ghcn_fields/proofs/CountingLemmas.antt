@@ -5,9 +5,11 @@ use Rattle.std.proofs.lemmas.List.Sums.{sum_by-cons}
 use Rattle.std.proofs.lemmas.Bool.{cases_eq}
 use Rattle.ghcn_fields.specs.Counting.{one_if_equal, times, times_below, HasEachBelow}
 
+-- equal numbers count as one
 pub one_if_equal-equal : (a b : ℕ) → a ≡ b → one_if_equal a b ≡ 1
 one_if_equal-equal a b e = ap (λ t. cond t 1 0) (eq-eqb a b e)
 
+-- numbers that differ count as none
 pub one_if_equal-apart : (a b : ℕ) → a ≢ b → one_if_equal a b ≡ 0
 one_if_equal-apart a b n = ap (λ t. cond t 1 0) (ne_eqb a b n)
 
@@ -18,6 +20,7 @@ equal_if_one a b one = elim (cases_eq a b) [
   | inr apart ↦ absurd (omega (arith, one_if_equal-apart a b apart))
 ]
 
+-- either may come first
 one_if_equal-sym : (a b : ℕ) → one_if_equal a b ≡ one_if_equal b a
 one_if_equal-sym a b = elim (cases_eq a b) [
   | inl e ↦ one_if_equal-equal a b e ∙ sym (one_if_equal-equal b a (sym e))
@@ -32,17 +35,21 @@ times_below-suc x n m e = grind arith
 pub below_if_one : (x n : ℕ) → 0 < times_below x n → x < n
 below_if_one x n one = grind arith
 
+-- a number below n stands there once
 pub times_below-yes : (x n : ℕ) → x < n → times_below x n ≡ 1
 times_below-yes x n below = grind arith
 
+-- no number is below 0
 times_below-zero : (x : ℕ) → times_below x 0 ≡ 0
 times_below-zero x = grind arith
 
 -- counts of what has a number
 module _ {A : Type 0} (number : A → ℕ) where
+  -- how many of the list have the number n
   abbrev count : ℕ → List A → ℕ
   count n xs = count_by (λ y. number y == n) xs
 
+  -- the count of a list by its first element and the rest
   pub count-cons : (n : ℕ) (x : A) (xs : List A) → count n (x ∷ xs) ≡ one_if_equal (number x) n + count n xs
   count-cons n x xs = sum_by-cons (λ y. one_if_equal (number y) n) x xs
 
@@ -67,26 +74,32 @@ abbrev upto : (ℕ → ℕ) → ℕ → ℕ
 upto f zero = 0
 upto f (suc n) = upto f n + f n
 
+-- a sum of sums
 upto-plus : (f g : ℕ → ℕ) (n : ℕ) → upto (λ x. f x + g x) n ≡ upto f n + upto g n
 upto-plus f g zero = refl
 upto-plus f g (suc n) = omega (arith, upto-plus f g n)
 
+-- a sum of nothing
 upto-zero : (n : ℕ) → upto (λ _. 0) n ≡ 0
 upto-zero zero = refl
 upto-zero (suc n) = omega (arith, upto-zero n)
 
+-- n ones added up
 upto-one : (f : ℕ → ℕ) (n : ℕ) → ((x : ℕ) → x < n → f x ≡ 1) → upto f n ≡ n
 upto-one f zero each = refl
 upto-one f (suc n) each = omega (arith, upto-one f n (λ x below. each x (omega arith)), each n (omega arith))
 
+-- y is one of the numbers below n, or none
 upto-equal : (y n : ℕ) → upto (λ x. one_if_equal y x) n ≡ times_below y n
 upto-equal y zero = sym (times_below-zero y)
 upto-equal y (suc n) = omega (arith, upto-equal y n, times_below-suc y n (suc n) (omega arith), one_if_equal-sym n y)
 
+-- equal terms have equal sums
 upto-same : (f g : ℕ → ℕ) (n : ℕ) → ((x : ℕ) → f x ≡ g x) → upto f n ≡ upto g n
 upto-same f g zero each = refl
 upto-same f g (suc n) each = omega (arith, upto-same f g n each, each n)
 
+-- each element of the list is one of the numbers below n
 upto-times : (n : ℕ) (xs : List ℕ) → All (λ x. x < n) xs → upto (λ x. times x xs) n ≡ length xs
 upto-times n [] all = upto-zero n
 upto-times n (y ∷ ys) all = omega (

@@ -27,9 +27,11 @@ idle_set views id w others mine j u at bare = ⊎_elim
     (λ (t : (j ≢ id) × (get_elem? views j ≡ some u)). others j u t.1 bare)
     (at_set views id j w u at)
 
+-- scores with the word n in two lists
 standing-append : (n : ℕ) (xs ys : List ℤ) → standing n (xs ++ ys) ≡ standing n xs + standing n ys
 standing-append n = sum_by-append (λ s. one_if_equal (score_word s) n)
 
+-- a number in two lists
 times-append : (x : ℕ) (xs ys : List ℕ) → times x (xs ++ ys) ≡ times x xs + times x ys
 times-append x = sum_by-append (λ y. one_if_equal y x)
 
@@ -107,7 +109,8 @@ module _ (rights : ℕ) (guess : Option ℤ) (next floor : ℕ) (views : List Vi
       }
 
   -- the seat raises the score with the word x
-  pub raise_kept : (x : ℕ) → 2 ^ 31 ≤ x → x ≤ 2 ^ 32 + 2 ^ 31 → 0 < length v.claims → IsRuled rights guess next (max floor x) (set views id (view v.claims (v.raised ++ score_of x ∷ []) v.seen v.rights))
+  pub raise_kept : (x : ℕ) → 2 ^ 31 ≤ x → x ≤ 2 ^ 32 + 2 ^ 31 → 0 < length v.claims
+      → IsRuled rights guess next (max floor x) (set views id (view v.claims (v.raised ++ score_of x ∷ []) v.seen v.rights))
   raise_kept x low high drew = let w : View = view v.claims (v.raised ++ score_of x ∷ []) v.seen v.rights in
       let more_raised : (n : ℕ) → times_raised n (set views id w) ≡ times_raised n views + one_if_equal x n =
       λ n. omega (arith, changed (λ u. standing n u.raised) w, standing-append n v.raised (score_of x ∷ []), ap (λ (m : ℕ). one_if_equal m n) (score_word-score_of x)) in
@@ -165,7 +168,8 @@ module _ (rights : ℕ) (guess : Option ℤ) (next floor : ℕ) (views : List Vi
       }
 
   -- the seat takes in another, which is spent
-  pub join_kept : (other : ℕ) (w : View) → ¬ (other ≡ id) → get_elem? (set views id (joined_view v w)) other ≡ some w → IsRuled rights guess next floor (set (set views id (joined_view v w)) other spent_view)
+  pub join_kept : (other : ℕ) (w : View) → ¬ (other ≡ id) → get_elem? (set views id (joined_view v w)) other ≡ some w
+      → IsRuled rights guess next floor (set (set views id (joined_view v w)) other spent_view)
   join_kept other w apart there = let b : View = joined_view v w in let now : List View = set (set views id b) other spent_view in
       let same_sum : (f : View → ℕ) → f b ≡ f v + f w → f spent_view ≡ 0 → sum_by f now ≡ sum_by f views = λ f. sum_by-joined f views id other v w b spent_view at there in
       let same_raised : (n : ℕ) → times_raised n now ≡ times_raised n views = λ n. same_sum (λ u. standing n u.raised) (standing-append n v.raised w.raised) refl in

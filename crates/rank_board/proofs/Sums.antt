@@ -44,6 +44,7 @@ module _ {A : Type 0} (g h : A → ℕ) where
   sum_by-alone (x ∷ xs) (suc i) v at all with_it = let part = term_le g xs i v at in let first = sum_by-cons g x xs in
       omega (arith, sum_by-cons h x xs, with_it 0 x refl (omega arith), sum_by-alone xs i v at (omega arith) (λ j. with_it (suc j)))
 
+  -- a sum of sums
   pub sum_by-plus : (l : List A) → sum_by (λ u. g u + h u) l ≡ sum_by g l + sum_by h l
   sum_by-plus [] = refl
   sum_by-plus (x ∷ xs) = omega (arith, sum_by-cons g x xs, sum_by-cons h x xs, sum_by-cons (λ u. g u + h u) x xs, sum_by-plus xs)

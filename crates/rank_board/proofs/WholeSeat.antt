@@ -62,12 +62,15 @@ module _ (rights : ℕ) (guess : Option ℤ) (next floor : ℕ) (views : List Vi
           (known_here (score_of floor) (omega arith) (subst (λ (n : ℕ). 0 < times_known guess n views) (sym e) k.reached))
     ]
 
+    -- the seat claimed every number below next, each once
     pub claims_once : HasEachBelow next v.claims
     claims_once x = sym (all_here (λ u. times x u.claims) (λ j u there none. omega (arith, count_by-le-length (λ y. y == x) u.claims))) ∙ k.once x
 
+    -- and as many as next
     pub claims_count : length v.claims ≡ next
     claims_count = sym (all_here (λ u. length u.claims) (λ j u there none. none)) ∙ k.drawn
 
+    -- the floor is the greatest of the guess and what the seat raised
     pub floor_is : IsFloorOf guess v.raised (floor_of floor)
     floor_is = record {
       one_of_them = floor_here;
@@ -75,6 +78,7 @@ module _ (rights : ℕ) (guess : Option ℤ) (next floor : ℕ) (views : List Vi
       raised_below = floor_above floor v.raised (raised_below rights guess next floor views k id v at);
     }
 
+    -- what the seat saw is the guess, or it raised it
     pub seen_here : All (IsGuessOrRaised guess v.raised) v.seen
     seen_here = all_counted score_word (IsGuessOrRaised guess v.raised) v.seen (λ s seen.
         let part = term_le (λ u. standing (score_word s) u.seen) views id v at in
@@ -82,14 +86,16 @@ module _ (rights : ℕ) (guess : Option ℤ) (next floor : ℕ) (views : List Vi
         known_here s (omega arith) (k.sees (score_word s) (omega arith)))
 
 -- the two words that were read are those of the rule
-ruled_words : (o : Opening) (views : List View) (n f : ℕ) (words : List ℕ) → AreWordsOf o words views → get_elem? words 0 ≡ some n → get_elem? words 1 ≡ some f → IsRuled o.rights o.guess n f views
+ruled_words : (o : Opening) (views : List View) (n f : ℕ) (words : List ℕ) → AreWordsOf o words views
+    → get_elem? words 0 ≡ some n → get_elem? words 1 ≡ some f → IsRuled o.rights o.guess n f views
 ruled_words o views n f [] k a b = absurd k
 ruled_words o views n f (x ∷ []) k a b = absurd k
 ruled_words o views n f (x ∷ y ∷ z ∷ zs) k a b = absurd k
 ruled_words o views n f (x ∷ y ∷ []) k a b = subst (λ (p : ℕ × ℕ). IsRuled o.rights o.guess p.0 p.1 views) (λ i. (some-injective x n a i, some-injective y f b i)) k
 
 -- the rule at the close, of the two words that were read
-pub ruled_at_close : {S : Type 0} (o : Opening) (id : ℕ) (v : View) (ws : List ℕ) (xs : List S) (n f : ℕ) → Final (Seen (Keeps {S = S} o) id v) ws xs → get_elem? ws 0 ≡ some n → get_elem? ws 1 ≡ some f
+pub ruled_at_close : {S : Type 0} (o : Opening) (id : ℕ) (v : View) (ws : List ℕ) (xs : List S) (n f : ℕ) → Final (Seen (Keeps {S = S} o) id v) ws xs
+    → get_elem? ws 0 ≡ some n → get_elem? ws 1 ≡ some f
     → (views : List View) × IsRuled o.rights o.guess n f views × (get_elem? views id ≡ some v)
 ruled_at_close o id v ws xs n f final a b = let s = final.0 in let same : s.words ≡ ws = final.2 in
     (s.views, ruled_words o s.views n f s.words final.1.0 (ap (λ (l : List ℕ). get_elem? l 0) same ∙ a) (ap (λ (l : List ℕ). get_elem? l 1) same ∙ b), final.1.1)

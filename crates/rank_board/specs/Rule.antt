@@ -51,7 +51,7 @@ times_known guess n views = one_if_equal (floor_word guess) n + times_raised n v
 
 -- a board of these rights and this guess may have these two words while its seats know this
 pub record IsRuled (rights : ℕ) (guess : Option ℤ) (next floor : ℕ) (views : List View) : Type 0 where
-  -- the claims of all seats are the numbers below next, each once
+  -- the claims of all seats are the numbers below next, each once, and so as many as next
   pub once : (x : ℕ) → times_claimed x views ≡ times_below x next
   pub drawn : claims_made views ≡ next
   -- each right was spent on a claim or is left, and there are at most 2^40
@@ -60,7 +60,7 @@ pub record IsRuled (rights : ℕ) (guess : Option ℤ) (next floor : ℕ) (views
   -- the floor is the greatest of the guess and all scores raised, 0 where there is neither
   pub highest : (n : ℕ) → 0 < times_known guess n views → n ≤ floor
   pub reached : 0 < times_known guess floor views
-  -- each score that a seat saw is the guess, or was raised
+  -- each score that a seat saw is the guess, or was raised, and so is at most the floor
   pub sees : (n : ℕ) → 0 < times_seen n views → 0 < times_known guess n views
   -- the guess, the scores and the floor are inside the limits of a score
   pub start : IfSome guess IsScore

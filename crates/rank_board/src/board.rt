@@ -13,7 +13,10 @@ use ghcn_fields::Memory;
 use std::alloc::Global;
 use std::marker::Brand;
 
-/// What threads share: the next number, and the floor. It also keeps its rights and its guess.
+/// What threads share: the number that the next claim draws, and the floor.
+///
+/// It keeps the number of rights and the guess that it was opened with. Each call takes a seat of
+/// this board.
 #[derive(Drop)]
 pub struct Board {
     table: Table<(), View, Opening, BoardRule, Global>,
@@ -36,8 +39,9 @@ impl Board {
     ghost use Rattle.rank_board.specs.Calls.{Opens, Claims, Looks, Raises, Splits, Joins};
     ghost use Rattle.rank_board.specs.Calls.{ClosesUnderRule, AccountsForAll};
 
-    /// A new board, and its first seat with all rights. The guess is a floor to begin with, from
-    /// -2^31 to 2^31.
+    /// A new board for at most 2^40 claims, and its first seat, which has the rights to all of them.
+    ///
+    /// The floor begins at the guess, a score from -2^31 to 2^31, or at none.
     pub fn open(alloc: Global, rights: u64, guess: Option<i64>) -> Result<(Board, Seat), Memory>
         requires rights { rights ≤ 2 ^ 40 }
         requires guess { IfSome guess IsScore }
@@ -92,7 +96,9 @@ impl Board {
         floor_of_word(self.table.shared.load::<Look>(&mut seat.inner, FLOOR))
     }
 
-    /// Raises the floor to this score where it is lower. The score lies from -2^31 to 2^31.
+    /// From here on the floor is at least this score, which lies from -2^31 to 2^31.
+    ///
+    /// The seat has claimed a number, itself or through a join.
     pub fn raise(&self, seat: &mut Seat, score: i64)
         requires seat { IsSeatOf self.now seat.old }
         requires claimed { 0 < length (claims_of seat.old) }
@@ -106,7 +112,7 @@ impl Board {
             .fetch_max::<Raise>(&mut seat.inner, FLOOR, word);
     }
 
-    /// A new seat, with this many of the seat's rights.
+    /// A new seat with this many of the seat's rights, which knows the scores that the seat knows.
     pub fn split(&self, seat: &mut Seat, rights: u64) -> Seat
         requires seat { IsSeatOf self.now seat.old }
         requires rights { rights ≤ rights_of seat.old }
