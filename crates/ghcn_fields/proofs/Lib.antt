@@ -9,3 +9,4 @@ pub mod Decimals
 pub mod FirstLine
 pub mod FirstFault
 pub mod Examples
+pub mod CountingLemmas

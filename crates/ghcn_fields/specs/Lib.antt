@@ -7,3 +7,5 @@ pub mod NumberTexts
 pub mod Days
 pub mod Dates
 pub mod Sorting
+pub mod Counting
+pub mod Floor

@@ -1,0 +1,6 @@
+pub mod Sums
+pub mod Words
+pub mod RuleKept
+pub mod StepsAllowed
+pub mod WholeSeat
+pub mod Drawn

@@ -1,0 +1,4 @@
+use Rattle.rank_board.proofs.board.Board.claim.Given as goal
+
+abbrev pub ghosts-claim_one_of : goal.ghosts-claim_one_of
+ghosts-claim_one_of a = record { number = a.self.now.table.shared.key.rights }

@@ -1,0 +1,13 @@
+use Rattle.std.proofs.Common.{◌≡◌, ◌+◌, length, map, pos}
+use Rattle.rank_board.specs.Seats.{claims_of, raised_of, rights_of, IsSeatOf}
+use Rattle.rank_board.proofs.tests.draw_all.Given as goal
+
+abbrev pub invariant-loop-seat : goal.invariant-loop-seat
+invariant-loop-seat l = record {
+  mine : IsSeatOf l.board l.seat;
+  count : length (claims_of l.seat) + rights_of l.seat ≡ length (claims_of l.fn.seat) + rights_of l.fn.seat;
+  raised : raised_of l.seat ≡ map pos (claims_of l.seat);
+}
+
+abbrev pub decreases-loop-seat : goal.decreases-loop-seat
+decreases-loop-seat l = rights_of l.seat
