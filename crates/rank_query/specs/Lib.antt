@@ -1,3 +1,6 @@
 pub mod Asked
 pub mod Admits
 pub mod QueryTexts
+pub mod Words
+pub mod Reading
+pub mod Spelling
