@@ -1,2 +1,5 @@
 pub mod FirstWord
 pub mod Numerals
+pub mod ReadingSteps
+pub mod Spellings
+pub mod CanonicalTexts

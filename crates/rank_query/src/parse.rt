@@ -1,10 +1,12 @@
 //! Reading a query text from left to right, up to the first fault.
 
-ghost use Rattle.std.specs.Prelude.{◌≡◌, ◌+◌, ◌<◌, ◌^◌, min, IfOk, IsTrue};
+ghost use Rattle.std.specs.Prelude.{◌≡◌, ◌+◌, ◌<◌, ◌≤◌, ◌^◌, length, min, IfOk, IsTrue};
 ghost use Rattle.std.specs.Option.{option_map};
 ghost use Rattle.ghcn_fields.specs.Numbers.{natural};
 ghost use Rattle.ghcn_fields.specs.Days.{is_within};
-ghost use Rattle.rank_query.specs.Asked.{is_score};
+ghost use Rattle.rank_query.specs.Asked.{Asked, IsAsked, is_score};
+ghost use Rattle.rank_query.specs.QueryTexts.{query_text};
+ghost use Rattle.rank_query.specs.Spelling.{IsSpelling, has_query};
 ghost use Rattle.rank_query.specs.Reading as reading;
 
 use crate::words::Words;
@@ -19,15 +21,28 @@ const MOST_ROWS: u64 = 1000;
 
 impl Query {
     /// The query that a text asks. Of several faults the first from the left is told.
-    #[tactic(auto, unfolding(crate::specs::Reading::read_query))]
     pub fn parse(text: &str) -> Result<Query, QueryFault>
+        // Which query it is, or which fault.
         ensures read { result ≡ reading.read_query text.now }
+        // What is read as a query spells it.
+        ensures spelt { IfOk result (λ q. IsSpelling text.now q) }
+        // What spells a query is read as it.
+        ensures only { (q : Asked) → IsAsked q → IsTrue (has_query q) → IsSpelling text.now q → length text.now ≤ 256 → result ≡ Ok q }
+        // So is its canonical text.
+        ensures canonical { (q : Asked) → IsAsked q → IsTrue (has_query q) → text.now ≡ query_text q → result ≡ Ok q }
     {
-        if text.len() > LONGEST {
-            return Err(QueryFault::QueryTooLong);
-        }
-        query_of(&mut Words::of(text))
+        query_of_text(text)
     }
+}
+
+#[tactic(auto, unfolding(crate::specs::Reading::read_query))]
+fn query_of_text(text: &str) -> Result<Query, QueryFault>
+    ensures { result ≡ reading.read_query text.now }
+{
+    if text.len() > LONGEST {
+        return Err(QueryFault::QueryTooLong);
+    }
+    query_of(&mut Words::of(text))
 }
 
 #[tactic(auto, unfolding(crate::specs::Reading::read_words))]

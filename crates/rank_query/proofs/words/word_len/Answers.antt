@@ -1,4 +1,4 @@
-use Rattle.std.proofs.Common.{◌≡◌, length, ap, ◌∙◌}
+use Rattle.std.proofs.Common.{length, ap, ◌∙◌}
 use Rattle.std.specs.Option.{unwrap_or}
 use Rattle.rank_query.proofs.FirstWord.{position-or}
 use Rattle.rank_query.proofs.words.word_len.Goals as goal
