@@ -10,15 +10,15 @@ use Rattle.ghcn_fields.specs.Days.{first_day, is_day}
 use Rattle.ghcn_fields.specs.Dates.{year_and_rest, month_and_day, civil}
 use Rattle.ghcn_fields.proofs.DayNumbers.{first_count, year_count}
 
-year-zero : (y n : ℕ) → year_and_rest 0 y n ≡ (y, n)
+pub year-zero : (y n : ℕ) → year_and_rest 0 y n ≡ (y, n)
 unfolding year_and_rest
 year-zero y n = refl
 
-year-stop : (more y n : ℕ) → n < days_in_year (pos y) → year_and_rest (suc more) y n ≡ (y, n)
+pub year-stop : (more y n : ℕ) → n < days_in_year (pos y) → year_and_rest (suc more) y n ≡ (y, n)
 unfolding year_and_rest
 year-stop more y n lt = ap (λ (b : Bool). elim b as (λ _. ℕ × ℕ) [ true ↦ (y, n) | false ↦ year_and_rest more (suc y) (n - days_in_year (pos y)) ]) (lt-ltb n (days_in_year (pos y)) lt)
 
-year-go : (more y n : ℕ) → days_in_year (pos y) ≤ n → year_and_rest (suc more) y n ≡ year_and_rest more (suc y) (n - days_in_year (pos y))
+pub year-go : (more y n : ℕ) → days_in_year (pos y) ≤ n → year_and_rest (suc more) y n ≡ year_and_rest more (suc y) (n - days_in_year (pos y))
 unfolding year_and_rest
 year-go more y n le = ap (λ (b : Bool). elim b as (λ _. ℕ × ℕ) [ true ↦ (y, n) | false ↦ year_and_rest more (suc y) (n - days_in_year (pos y)) ]) (le-ltb n (days_in_year (pos y)) le)
 
@@ -37,15 +37,15 @@ walk_years (suc k) (suc more) a y n r le at e lt =
     let next = day_count-next_year (pos a) (pos (suc a)) (omega (arith, signed_arith)) (omega (arith, signed_arith)) in
     year-go more a n (omega (arith, e, later)) ∙ walk_years k more (suc a) y (n - days_in_year (pos a)) r (omega arith) (omega arith) (omega (arith, e, later, next)) lt
 
-month-zero : (y m n : ℕ) → month_and_day 0 y m n ≡ (m, suc n)
+pub month-zero : (y m n : ℕ) → month_and_day 0 y m n ≡ (m, suc n)
 unfolding month_and_day
 month-zero y m n = refl
 
-month-stop : (more y m n : ℕ) → n < days_in_month (pos y) m → month_and_day (suc more) y m n ≡ (m, suc n)
+pub month-stop : (more y m n : ℕ) → n < days_in_month (pos y) m → month_and_day (suc more) y m n ≡ (m, suc n)
 unfolding month_and_day
 month-stop more y m n lt = ap (λ (b : Bool). elim b as (λ _. ℕ × ℕ) [ true ↦ (m, suc n) | false ↦ month_and_day more y (suc m) (n - days_in_month (pos y) m) ]) (lt-ltb n (days_in_month (pos y) m) lt)
 
-month-go : (more y m n : ℕ) → days_in_month (pos y) m ≤ n → month_and_day (suc more) y m n ≡ month_and_day more y (suc m) (n - days_in_month (pos y) m)
+pub month-go : (more y m n : ℕ) → days_in_month (pos y) m ≤ n → month_and_day (suc more) y m n ≡ month_and_day more y (suc m) (n - days_in_month (pos y) m)
 unfolding month_and_day
 month-go more y m n le = ap (λ (b : Bool). elim b as (λ _. ℕ × ℕ) [ true ↦ (m, suc n) | false ↦ month_and_day more y (suc m) (n - days_in_month (pos y) m) ]) (le-ltb n (days_in_month (pos y) m) le)
 
@@ -65,7 +65,7 @@ walk_months y (suc k) (suc more) a m n r le at low e lt =
     let next : days_of_months (pos y) (suc a - 1) ≡ days_of_months (pos y) a = ap (days_of_months (pos y)) (omega arith) in
     month-go more y a n (omega (arith, e, here, later)) ∙ walk_months y k more (suc a) m (n - days_in_month (pos y) a) r (omega arith) (omega arith) (omega arith) (omega (arith, e, here, later, next)) lt
 
-abs-of : (z : ℤ) → pos 0 ≤ℤ z → pos (unsigned_abs z) ≡ z
+pub abs-of : (z : ℤ) → pos 0 ≤ℤ z → pos (unsigned_abs z) ≡ z
 abs-of (pos n) h = refl
 abs-of (negsuc n) h = absurd (omega (arith, signed_arith))
 

@@ -39,6 +39,9 @@ pub up_to-some : (limit n : ℕ) (number : Option ℕ) → up_to limit number �
 up_to-some limit n None e = absurd cc
 up_to-some limit n (Some m) e = grind (arith, nat_tests)
 
+pub up_to-fits : (limit n : ℕ) → n ≤ limit → up_to limit (Some n) ≡ Some n
+up_to-fits limit n fits = grind (arith, nat_tests)
+
 grows : (n k : ℕ) → n ≤ n * 10 ^ k
 grows n k = le-mul_of_pos_right n (one-le-pow k 10 (omega arith))
 

@@ -1,5 +1,9 @@
 pub mod DayNumbers
 pub mod CivilDates
+pub mod WholeDays
+pub mod DateTexts
+pub mod DecimalTexts
+pub mod FieldNumbers
 pub mod Digits
 pub mod Decimals
 pub mod FirstLine

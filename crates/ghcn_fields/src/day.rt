@@ -1,6 +1,6 @@
 //! Days of the years 1 to 9999, by their numbers.
 
-ghost use Rattle.std.specs.Prelude.{◌≡◌, ◌≤◌, ℤ, pos, ◌+ℤ◌, ◌-ℤ◌, IsTrue};
+ghost use Rattle.std.specs.Prelude.{◌≡◌, ◌≤◌, ℤ, pos, ◌+ℤ◌, ◌-ℤ◌, Some, IsTrue};
 ghost use Rattle.jiff_core.specs.Calendar as calendar;
 ghost use Rattle.ghcn_fields.specs.Days.{is_day, day_if, day_number, block_of};
 ghost use Rattle.ghcn_fields.specs.Dates as dates;
@@ -68,7 +68,8 @@ impl Day {
 
     /// Year, month and day of the month.
     pub fn civil(self) -> (u16, u8, u8)
-        ensures { result ≡ dates.civil self }
+        ensures value { result ≡ dates.civil self }
+        ensures number { day_number result.0 result.1 result.2 ≡ Some self }
     {
         match Date::from_unix_epoch_day(self.number as i64) {
             Ok(date) => (date.year.unsigned_abs(), date.month, date.day),

@@ -1,7 +1,10 @@
 //! Number fields. In the readme's fixed-width records a number ends in its field's last column.
 
-ghost use Rattle.std.specs.Prelude.{◌≡◌, ◌≤◌, ◌^◌, length, Some, IfSome};
+ghost use Rattle.std.specs.Prelude.{◌≡◌, ◌↔◌, ◌≤◌, ◌^◌, ℤ, length, All, Some, IfSome, FitsSigned};
+ghost use Rattle.std.specs.Int.{w32};
 ghost use Rattle.std.specs.Option.{option_map};
+ghost use Rattle.ghcn_fields.specs.Bytes.{blank_byte};
+ghost use Rattle.ghcn_fields.specs.Fields.{HasNumber};
 ghost use Rattle.ghcn_fields.specs.Numbers as numbers;
 
 use memchr::memchr;
@@ -22,6 +25,9 @@ const GREATEST: u64 = 1 << 31;
 /// Reads a whole number: blanks, an optional `-`, then digits up to the last column.
 pub fn int_field(field: &[u8]) -> Field
     ensures value { result ≡ numbers.int_field field.now }
+    ensures number { (v : ℤ) →
+        (result ≡ Field.Number v) ↔ (HasNumber 0 field.now v × FitsSigned w32 v) }
+    ensures blank { (result ≡ Field.Blank) ↔ All (λ b. b ≡ blank_byte) field.now }
 {
     match after_blanks(field) {
         [] => Field::Blank,
@@ -35,6 +41,9 @@ pub fn int_field(field: &[u8]) -> Field
 pub fn scaled_field(field: &[u8], places: u8) -> Field
     requires { places ≤ 4 }
     ensures value { result ≡ numbers.scaled_field places field.now }
+    ensures number { (v : ℤ) →
+        (result ≡ Field.Number v) ↔ (HasNumber places field.now v × FitsSigned w32 v) }
+    ensures blank { (result ≡ Field.Blank) ↔ All (λ b. b ≡ blank_byte) field.now }
 {
     match after_blanks(field) {
         [] => Field::Blank,
@@ -54,7 +63,7 @@ fn after_blanks(field: &[u8]) -> &[u8]
 }
 
 /// The number that digits write, where it is at most `GREATEST`.
-fn small_natural(digits: &[u8]) -> Option<u64>
+pub(crate) fn small_natural(digits: &[u8]) -> Option<u64>
     ensures { result ≡ numbers.up_to (2 ^ 31) (numbers.natural digits.now) }
 {
     if digits.is_empty() {

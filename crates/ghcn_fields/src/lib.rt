@@ -10,7 +10,7 @@ mod line;
 mod memory;
 mod text;
 
-pub use date::write_date;
+pub use date::{read_date, write_date};
 pub use day::{Day, days_in_month};
 pub use field::{Field, int_field, scaled_field};
 pub use line::{Lines, is_blank};

@@ -2,13 +2,14 @@ use Rattle.std.proofs.Common.{◌≡◌, ℕ, ℤ, sym, ap, subst, ◌∙◌, �
 use Rattle.std.specs.Prelude.{unsigned_abs}
 use Rattle.std.proofs.lemmas.Int.{ints}
 use Rattle.jiff_core.specs.Calendar.{days_from_civil}
-use Rattle.ghcn_fields.specs.Days.{first_day}
+use Rattle.ghcn_fields.specs.Days.{first_day, is_day, day_number}
 use Rattle.ghcn_fields.specs.Dates.{civil}
 use Rattle.ghcn_fields.proofs.CivilDates.{civil-date, day-low}
+use Rattle.ghcn_fields.proofs.WholeDays.{day_number-civil}
 use Rattle.ghcn_fields.proofs.day.Day.civil.Goals as goal
 
-pub returns-in-Ok : goal.returns-in-Ok
-returns-in-Ok c =
+pub returns-in-Ok-clause-value : goal.returns-in-Ok-clause-value
+returns-in-Ok-clause-value c =
     let y : ℤ = c.in-Ok.date.year in
     let m : ℕ = c.in-Ok.date.month in
     let d : ℕ = c.in-Ok.date.day in
@@ -20,3 +21,9 @@ returns-in-Ok c =
     ap (λ (z : ℕ). (z, m, d)) year
     ∙ sym (civil-date y m d (c.in-Ok.date.year_in, c.in-Ok.date.month_in, c.in-Ok.date.day_in) low)
     ∙ ap civil (number ∙ c.self.view_is)
+
+-- the day has the number that it is found for
+pub returns-in-Ok-clause-number : goal.returns-in-Ok-clause-number
+returns-in-Ok-clause-number c =
+    ap (λ (found : ℕ × ℕ × ℕ). day_number found.0 found.1 found.2) (returns-in-Ok-clause-value c)
+    ∙ day_number-civil c.args.self (ap is_day (sym c.self.view_is) ∙ c.self.invariant)
