@@ -9,9 +9,13 @@ mod parse;
 mod query;
 mod region;
 mod score;
+mod text;
 mod words;
 
 pub use fault::QueryFault;
 pub use query::Query;
 pub use region::Region;
 pub use score::Score;
+
+#[cfg(test)]
+mod tests;
