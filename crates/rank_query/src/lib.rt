@@ -4,10 +4,18 @@
 //! it admits.
 #![tactic(auto)]
 
+mod fault;
+mod parse;
 mod query;
 mod region;
 mod score;
+mod text;
+mod words;
 
+pub use fault::QueryFault;
 pub use query::Query;
 pub use region::Region;
 pub use score::Score;
+
+#[cfg(test)]
+mod tests;

@@ -6,16 +6,16 @@ ghost use Rattle.rank_query.specs.Asked.{score_element, IsAsked};
 
 use crate::{Region, Score};
 use ghcn_fields::Day;
-use ghcn_files::Element;
+use ghcn_files::{Element, Station};
 use std::marker::Model;
 
 /// What is asked: the k best of a score, in a region and a period.
 #[derive(Clone, Copy, Debug)]
 pub struct Query {
-    k: u64,
-    score: Score,
-    region: Region,
-    period: Option<(Day, Day)>,
+    pub(crate) k: u64,
+    pub(crate) score: Score,
+    pub(crate) region: Region,
+    pub(crate) period: Option<(Day, Day)>,
 }
 
 impl Model for Query {
@@ -72,6 +72,13 @@ impl Query {
             Score::Dry => Element::Prcp,
             Score::Wet => Element::Prcp,
         }
+    }
+
+    /// Whether the region holds the station.
+    pub fn admits_station(&self, station: &Station) -> bool
+        ensures { result ≡ admits.admits_station self.now station.now }
+    {
+        self.region.holds(station)
     }
 
     /// Whether the period holds the day, as all days of the years 1 to 9999 do without one.

@@ -1,6 +1,9 @@
 //! Where a query looks.
 
-use ghcn_files::StationId;
+ghost use Rattle.std.specs.Prelude.{◌≡◌};
+ghost use Rattle.rank_query.specs.Admits.{region_holds};
+
+use ghcn_files::{Station, StationId};
 
 /// The stations that a query admits.
 #[derive(Clone, Copy, Debug, PartialEq, Eq)]
@@ -19,4 +22,38 @@ pub enum Region {
     /// The two bytes of the state.
     State([u8; 2]),
     Only(StationId),
+}
+
+impl Region {
+    /// Whether the region holds the station.
+    pub(crate) fn holds(&self, station: &Station) -> bool
+        ensures { result ≡ region_holds self.now station.now }
+    {
+        match self {
+            Region::Everywhere => true,
+            Region::Inside {
+                south,
+                west,
+                north,
+                east,
+            } => is_in_box(*south, *west, *north, *east, station),
+            Region::Country(code) => station.id.0[..2] == code[..],
+            Region::State(code) => station.state == *code,
+            Region::Only(id) => station.id == *id,
+        }
+    }
+}
+
+/// Whether a station lies in a box, edges included, over the date line where the west is greater.
+fn is_in_box(south: i32, west: i32, north: i32, east: i32, station: &Station) -> bool
+    ensures { result ≡ region_holds (Region.Inside south west north east) station.now }
+{
+    if station.latitude < south || north < station.latitude {
+        return false;
+    }
+    if west <= east {
+        west <= station.longitude && station.longitude <= east
+    } else {
+        west <= station.longitude || station.longitude <= east
+    }
 }

@@ -1,0 +1,118 @@
+-- Worked examples, by computation.
+use Rattle.std.proofs.Common.{◌≡◌, ℕ, true, false, [], ◌∷◌, refl, Some, None, Ok, Err, replicate, codes}
+use Rattle.std.specs.Prelude.{pos, neg_ℤ, ℤ, map}
+use Rattle.std.specs.Fmt.{digits}
+use Rattle.ghcn_fields.specs.Dates.{year_and_rest, month_and_day}
+use Rattle.ghcn_files.specs.declared.element.Element.TheVariants.{Tmax, Tmin, Prcp}
+use Rattle.ghcn_files.specs.declared.station.Station.{Station}
+use Rattle.rank_query.specs.declared.score.Score.{Score}
+use Rattle.rank_query.specs.declared.score.Score.TheVariants.{Highest, Lowest, Sum, Dry, Wet}
+use Rattle.rank_query.specs.declared.region.Region.{Region}
+use Rattle.rank_query.specs.declared.region.Region.TheVariants.{Everywhere, Inside, Country, State, Only}
+use Rattle.rank_query.specs.declared.fault.QueryFault.TheVariants.{QueryTooLong, UnexpectedWord, QueryEnds, OutOfLimits}
+use Rattle.rank_query.specs.Asked.{Asked}
+use Rattle.rank_query.specs.Admits.{region_holds, admits_day}
+use Rattle.rank_query.specs.QueryTexts.{query_text}
+use Rattle.rank_query.specs.Words.{words_of}
+use Rattle.rank_query.specs.Reading.{says, keyword, number_within, element_at, highest_at, score_at, read_words, read_query}
+
+-- a query of all stations and days
+abbrev asked : ℕ → Score → Asked
+asked k s = record { k = k; score = s; region = Everywhere; period = None }
+
+-- the words of a text, whatever the blanks
+words : words_of (codes "  top 007  highest TMAX ") ≡ codes "top" ∷ codes "007" ∷ codes "highest" ∷ codes "TMAX" ∷ []
+words = refl
+
+-- texts that are read
+read : (read_query (codes "top 1000 highest TMAX") ≡ Ok (asked 1000 (Highest Tmax))) × (read_query (codes " top  0001 highest   PRCP ") ≡ Ok (asked 1 (Highest Prcp)))
+unfolding read_query read_words keyword says number_within score_at highest_at element_at
+read = (refl, refl)
+
+-- k is from 1 to 1000, however many digits it has
+out_of_limits : (read_query (codes "top 1001 highest TMAX") ≡ Err (OutOfLimits 2)) × (read_query (codes "top 0 highest TMAX") ≡ Err (OutOfLimits 2)) × (read_query (codes "top 18446744073709551617 highest TMAX") ≡ Err (OutOfLimits 2))
+unfolding read_query read_words keyword says number_within score_at highest_at element_at
+out_of_limits = (refl, refl, refl)
+
+-- a word is needed and there is none
+ends : (read_query (codes "top 1") ≡ Err QueryEnds) × (read_query [] ≡ Err QueryEnds) × (read_query (codes "top 1 highest") ≡ Err QueryEnds)
+unfolding read_query read_words keyword says number_within score_at highest_at element_at
+ends = (refl, refl, refl)
+
+-- a word that doesn't stand there
+unexpected : (read_query (codes "Top 1 highest TMAX") ≡ Err (UnexpectedWord 1)) × (read_query (codes "top +1 highest TMAX") ≡ Err (UnexpectedWord 2)) × (read_query (codes "top 1 highest TAVG") ≡ Err (UnexpectedWord 4)) × (read_query (codes "top 1 highest TMAX TMAX") ≡ Err (UnexpectedWord 5))
+unfolding read_query read_words keyword says number_within score_at highest_at element_at
+unexpected = (refl, refl, refl, refl)
+
+-- words that the language doesn't have yet
+not_yet : (read_query (codes "top 1 lowest PRCP") ≡ Err (UnexpectedWord 3)) × (read_query (codes "top 1 sum 366 PRCP") ≡ Err (UnexpectedWord 3)) × (read_query (codes "top  007 wet") ≡ Err (UnexpectedWord 3))
+    × (read_query (codes "top 1 highest TMAX box -91 0 10 10") ≡ Err (UnexpectedWord 5)) × (read_query (codes "top 1 highest TMAX from 2020-07-01 to 2020-07-01") ≡ Err (UnexpectedWord 5))
+unfolding read_query read_words keyword says number_within score_at highest_at element_at
+not_yet = (refl, refl, refl, refl, refl)
+
+-- a text of 257 blanks is too long, one of 256 has no word
+too_long : (read_query (replicate 257 32) ≡ Err QueryTooLong) × (read_query (replicate 256 32) ≡ Err QueryEnds)
+unfolding read_query read_words keyword says number_within score_at highest_at element_at
+too_long = (refl, refl)
+
+-- canonical texts
+canonical_texts : (query_text (asked 1000 (Highest Tmax)) ≡ codes "top 1000 highest TMAX") × (query_text (asked 2 (Lowest Tmin)) ≡ codes "top 2 lowest TMIN") × (query_text (asked 5 (Sum 3 Prcp)) ≡ codes "top 5 sum 3 PRCP") × (query_text (asked 3 Dry) ≡ codes "top 3 dry") × (query_text (asked 7 Wet) ≡ codes "top 7 wet")
+unfolding digits
+canonical_texts = (refl, refl, refl, refl, refl)
+
+-- with a region
+box_text : query_text (record { k = 3; score = Highest Tmax; region = Inside (neg_ℤ (pos 100_000)) (pos 1_700_000) (pos 100_000) (neg_ℤ (pos 1_700_000)); period = None }) ≡ codes "top 3 highest TMAX box -10.0000 170.0000 10.0000 -170.0000"
+unfolding digits
+box_text = refl
+
+-- less than one degree, and no degree at all
+small_box_text : query_text (record { k = 1; score = Wet; region = Inside (neg_ℤ (pos 5)) (pos 0) (pos 12_345) (pos 1_800_000); period = None }) ≡ codes "top 1 wet box -0.0005 0.0000 1.2345 180.0000"
+unfolding digits
+small_box_text = refl
+
+region_texts : (query_text (record { k = 1; score = Dry; region = Country (codes "ZZ"); period = None }) ≡ codes "top 1 dry country ZZ") × (query_text (record { k = 1; score = Dry; region = State (codes "NY"); period = None }) ≡ codes "top 1 dry state NY")
+    × (query_text (record { k = 1; score = Dry; region = Only (record { 0 = codes "ZZA00000003" }); period = None }) ≡ codes "top 1 dry station ZZA00000003")
+unfolding digits
+region_texts = (refl, refl, refl)
+
+-- with a period
+period_text : query_text (record { k = 1; score = Dry; region = Everywhere; period = Some (pos 18444, pos 18444) }) ≡ codes "top 1 dry from 2020-07-01 to 2020-07-01"
+unfolding digits year_and_rest month_and_day
+period_text = refl
+
+-- a station at so many ten-thousandths of a degree
+abbrev at : ℤ → ℤ → Station
+at latitude longitude = record { id = record { 0 = codes "ZZA00000001" }; latitude = latitude; longitude = longitude; elevation = None; state = codes "NY"; name = codes "ZZ                            " }
+
+-- a box over the date line: 170 degrees east to 170 degrees west, and 10 degrees south to 10 degrees north
+abbrev over_the_date_line : Region
+over_the_date_line = Inside (neg_ℤ (pos 100_000)) (pos 1_700_000) (pos 100_000) (neg_ℤ (pos 1_700_000))
+
+-- both edges belong to it, and so do 180 degrees east and west
+in_box : map (λ z. region_holds over_the_date_line (at (pos 100_000) z)) (pos 1_700_000 ∷ pos 1_800_000 ∷ neg_ℤ (pos 1_800_000) ∷ neg_ℤ (pos 1_700_000) ∷ []) ≡ true ∷ true ∷ true ∷ true ∷ []
+in_box = refl
+
+-- what lies between its edges on the other side doesn't
+outside : map (λ z. region_holds over_the_date_line (at (pos 0) z)) (pos 1_699_999 ∷ pos 0 ∷ neg_ℤ (pos 1_699_999) ∷ []) ≡ false ∷ false ∷ false ∷ []
+outside = refl
+
+-- the southern and the northern edge belong to it, and nothing past them
+edges : map (λ z. region_holds over_the_date_line (at z (pos 1_750_000))) (neg_ℤ (pos 100_001) ∷ neg_ℤ (pos 100_000) ∷ pos 100_000 ∷ pos 100_001 ∷ []) ≡ false ∷ true ∷ true ∷ false ∷ []
+edges = refl
+
+-- a box of one point, and an ordinary one
+boxes : (region_holds (Inside (pos 120_000) (pos 220_000) (pos 120_000) (pos 220_000)) (at (pos 120_000) (pos 220_000)) ≡ true) × (region_holds (Inside (pos 0) (pos 0) (pos 100_000) (pos 100_000)) (at (pos 50_000) (pos 100_001)) ≡ false)
+boxes = (refl, refl)
+
+-- by the first two bytes of the ID, by the state and not the name, by the ID
+by_code : (map (λ r. region_holds r (at (pos 0) (pos 0))) (Country (codes "ZZ") ∷ State (codes "NY") ∷ State (codes "ZZ") ∷ Country (codes "NY") ∷ Only (record { 0 = codes "ZZA00000001" }) ∷ Only (record { 0 = codes "ZZA00000002" }) ∷ []))
+    ≡ true ∷ true ∷ false ∷ false ∷ true ∷ false ∷ []
+by_code = refl
+
+-- the first and the last day of a period belong to it
+days : map (λ day. admits_day (record { k = 1; score = Dry; region = Everywhere; period = Some (pos 18444, pos 18445) }) day) (pos 18443 ∷ pos 18444 ∷ pos 18445 ∷ pos 18446 ∷ []) ≡ false ∷ true ∷ true ∷ false ∷ []
+days = refl
+
+-- without a period each day of the years 1 to 9999 does
+all_days : map (λ day. admits_day (asked 1 Dry) day) (neg_ℤ (pos 719_163) ∷ neg_ℤ (pos 719_162) ∷ pos 2_932_896 ∷ pos 2_932_897 ∷ []) ≡ false ∷ true ∷ true ∷ false ∷ []
+all_days = refl

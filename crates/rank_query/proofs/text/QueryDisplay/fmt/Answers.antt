@@ -1,0 +1,9 @@
+use Rattle.std.proofs.Common.{arith}
+use Rattle.std.proofs.Output.{has_written_of_eq}
+use Rattle.std.proofs.lemmas.Grind.{common_steps}
+use Rattle.rank_query.proofs.Printing.{printed-is}
+use Rattle.rank_query.proofs.text.QueryDisplay.fmt.Goals as goal
+
+pub returns-clause-writes : goal.returns-clause-writes
+returns-clause-writes g c = λ plain ok.
+    has_written_of_eq _ _ _ _ _ (printed-is c.args.self.now.k c.args.self.now.score c.args.self.now.region c.args.self.now.period) (grind (arith, common_steps))

@@ -1,0 +1,90 @@
+-- Which query a text spells, whatever the blanks between its words, leading zeros and decimals.
+use Rattle.std.specs.Prelude.{◌≡◌, ℕ, ◌≤◌, Bool, true, false, ◌&&◌, List, [], ◌∷◌, ◌++◌, length, codes, Option, None, Some, ℤ}
+use Rattle.std.specs.List.{list_all}
+use Rattle.std.specs.Char.{is_ascii_digit}
+use Rattle.std.specs.Str.Parse.{digits_value}
+use Rattle.ghcn_fields.specs.Fields.{Spells}
+use Rattle.ghcn_fields.specs.Dates.{date_text}
+use Rattle.ghcn_files.specs.Elements.{code_of}
+use Rattle.rank_query.specs.declared.score.Score.{Score}
+use Rattle.rank_query.specs.declared.score.Score.TheVariants.{Highest, Lowest, Sum, Dry, Wet}
+use Rattle.rank_query.specs.declared.region.Region.{Region}
+use Rattle.rank_query.specs.declared.region.Region.TheVariants.{Everywhere, Inside, Country, State, Only}
+use Rattle.rank_query.specs.Asked.{Asked}
+use Rattle.rank_query.specs.Words.{words_of}
+
+-- digits write n, with leading zeros or without
+pub record IsNumeralOf (digits : List ℕ) (n : ℕ) : Type 0 where
+  pub some_digit : 1 ≤ length digits
+  pub digits_alone : list_all is_ascii_digit digits ≡ true
+  pub value : n ≡ digits_value 10 digits
+
+-- words spell a score
+abbrev pub SpellsScore : List (List ℕ) → Score → Type 0
+SpellsScore ws (Highest e) = ws ≡ codes "highest" ∷ code_of e ∷ []
+SpellsScore ws (Lowest e) = ws ≡ codes "lowest" ∷ code_of e ∷ []
+SpellsScore ws (Sum n e) = (digits : List ℕ) × IsNumeralOf digits n × (ws ≡ codes "sum" ∷ digits ∷ code_of e ∷ [])
+SpellsScore ws Dry = ws ≡ codes "dry" ∷ []
+SpellsScore ws Wet = ws ≡ codes "wet" ∷ []
+
+-- the words of a box: its edges in degrees, with up to four decimals
+pub record SpellsBox (ws : List (List ℕ)) (south west north east : ℤ) : Type 0 where
+  pub s : List ℕ
+  pub w : List ℕ
+  pub n : List ℕ
+  pub e : List ℕ
+  pub words : ws ≡ codes "box" ∷ s ∷ w ∷ n ∷ e ∷ []
+  pub spells_south : Spells 4 s south
+  pub spells_west : Spells 4 w west
+  pub spells_north : Spells 4 n north
+  pub spells_east : Spells 4 e east
+
+-- words spell a region; none are needed for all stations
+abbrev pub SpellsRegion : List (List ℕ) → Region → Type 0
+SpellsRegion ws Everywhere = ws ≡ []
+SpellsRegion ws (Inside south west north east) = SpellsBox ws south west north east
+SpellsRegion ws (Country code) = ws ≡ codes "country" ∷ code ∷ []
+SpellsRegion ws (State code) = ws ≡ codes "state" ∷ code ∷ []
+SpellsRegion ws (Only id) = ws ≡ codes "station" ∷ id.0 ∷ []
+
+-- words spell a period; none are needed for all days
+abbrev pub SpellsPeriod : List (List ℕ) → Option (ℤ × ℤ) → Type 0
+SpellsPeriod ws None = ws ≡ []
+SpellsPeriod ws (Some p) = ws ≡ codes "from" ∷ date_text p.0 ∷ codes "to" ∷ date_text p.1 ∷ []
+
+-- a text spells a query: its words are "top", a numeral of k, and words that spell the score, the region and the period
+pub record IsSpelling (text : List ℕ) (q : Asked) : Type 0 where
+  pub k : List ℕ
+  pub score : List (List ℕ)
+  pub region : List (List ℕ)
+  pub period : List (List ℕ)
+  pub words : words_of text ≡ codes "top" ∷ k ∷ score ++ region ++ period
+  pub spells_k : IsNumeralOf k q.k
+  pub spells_score : SpellsScore score q.score
+  pub spells_region : SpellsRegion region q.region
+  pub spells_period : SpellsPeriod period q.period
+
+-- a score that the language has so far
+abbrev pub has_score : Score → Bool
+has_score (Highest e) = true
+has_score (Lowest e) = false
+has_score (Sum n e) = false
+has_score Dry = false
+has_score Wet = false
+
+-- a region that the language has so far
+abbrev pub has_region : Region → Bool
+has_region Everywhere = true
+has_region (Inside south west north east) = false
+has_region (Country code) = false
+has_region (State code) = false
+has_region (Only id) = false
+
+-- a period that the language has so far
+abbrev pub has_period : Option (ℤ × ℤ) → Bool
+has_period None = true
+has_period (Some p) = false
+
+-- the language has this query so far: a highest value of all stations and days
+abbrev pub has_query : Asked → Bool
+has_query q = has_score q.score && has_region q.region && has_period q.period

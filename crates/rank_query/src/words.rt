@@ -1,0 +1,86 @@
+//! The words of a query text: its longest runs of bytes other than blanks.
+
+ghost use Rattle.std.specs.Prelude.{◌≡◌};
+ghost use Rattle.std.specs.List.{position, position_or_len};
+ghost use Rattle.ghcn_fields.specs.Numbers.{after_blanks};
+ghost use Rattle.rank_query.specs.Words.{is_separator, numbered_words};
+
+use std::marker::Model;
+
+/// The byte that separates words.
+const BLANK: u8 = b' ';
+
+/// The words of a text that are still to come, each with its number, from 1.
+#[derive(Drop)]
+pub(crate) struct Words<'a> {
+    given: u64,
+    text: &'a [u8],
+}
+
+impl<'a> Model for Words<'a> {
+    ghost use Rattle.std.specs.Prelude.{ℕ, List, ◌+◌, ◌<◌, ◌^◌, length};
+    ghost use Rattle.std.specs.List.{enumerate_from};
+    ghost use Rattle.rank_query.specs.Words.{words_of};
+
+    ghost Value = { List (ℕ × List ℕ) };
+
+    ghost view = { λ w. enumerate_from (w.given + 1) (words_of w.text.now) };
+
+    ghost invariant = { λ w. w.given + length w.text.now < 2 ^ 64 };
+}
+
+impl<'a> Words<'a> {
+    /// The words of a text with their numbers.
+    pub(crate) fn of(text: &'a str) -> Self
+        ensures { result ≡ numbered_words text.now }
+    {
+        Words {
+            given: 0,
+            text: text.as_bytes(),
+        }
+    }
+}
+
+impl<'a> Iterator for Words<'a> {
+    ghost use Rattle.std.specs.Iterator.{YieldsFirstBy, item_count};
+
+    type Item = (u64, &'a [u8]);
+
+    ghost next_gives = { YieldsFirstBy (λ item. (item.0, item.1.now)) (λ rest. rest) };
+
+    ghost remaining = { item_count (λ rest. rest) };
+
+    fn next(&mut self) -> Option<(u64, &'a [u8])> {
+        let text = without_blanks(self.text);
+        if text.is_empty() {
+            return None;
+        }
+        let (word, rest) = text.split_at(word_len(text));
+        self.given += 1;
+        self.text = rest;
+        Some((self.given, word))
+    }
+}
+
+fn without_blanks(text: &[u8]) -> &[u8]
+    ensures { result.now ≡ after_blanks text.now }
+{
+    let mut rest = text;
+    while let [BLANK, more @ ..] = rest {
+        rest = more;
+    }
+    rest
+}
+
+/// How many bytes stand before the first blank.
+fn word_len(text: &[u8]) -> usize
+    ensures { result ≡ position_or_len is_separator text.now }
+{
+    first_blank(text).unwrap_or(text.len())
+}
+
+fn first_blank(text: &[u8]) -> Option<usize>
+    ensures { result ≡ position is_separator text.now }
+{
+    text.iter().position(|byte| *byte == BLANK)
+}
