@@ -1,5 +1,5 @@
 -- Dates: year, month and day of the month, and their text.
-use Rattle.std.specs.Prelude.{ℕ, zero, suc, ◌-◌, Bool, true, false, nat_lt, if◌then◌else◌, List, ◌∷◌, ◌++◌, Option, None, ℤ, pos, ◌-ℤ◌, unsigned_abs}
+use Rattle.std.specs.Prelude.{ℕ, zero, suc, ◌-◌, true, false, nat_lt, if◌then◌else◌, List, ◌∷◌, ◌++◌, Option, None, ℤ, pos, ◌-ℤ◌, unsigned_abs}
 use Rattle.std.specs.Str.Parse.{digits_value}
 use Rattle.std.specs.List.{slice_range}
 use Rattle.jiff_core.specs.Calendar.{days_in_month, days_in_year}

@@ -1,8 +1,10 @@
 //! Number fields. In the readme's fixed-width records a number ends in its field's last column.
 
-ghost use Rattle.std.specs.Prelude.{◌≡◌, ◌≤◌, ◌^◌, IfSome};
+ghost use Rattle.std.specs.Prelude.{◌≡◌, ◌≤◌, ◌^◌, length, Some, IfSome};
 ghost use Rattle.std.specs.Option.{option_map};
 ghost use Rattle.ghcn_fields.specs.Numbers as numbers;
+
+use memchr::memchr;
 
 /// What a number field holds.
 #[derive(Clone, Copy, Debug, PartialEq, Eq)]
@@ -25,6 +27,19 @@ pub fn int_field(field: &[u8]) -> Field
         [] => Field::Blank,
         [b'-', digits @ ..] => signed_field(true, small_natural(digits)),
         digits => signed_field(false, small_natural(digits)),
+    }
+}
+
+/// Reads a decimal number as so many units of its last place, of `places` places: blanks, an
+/// optional `-`, digits, and then, up to the last column, optionally a point and 1 to `places` digits.
+pub fn scaled_field(field: &[u8], places: u8) -> Field
+    requires { places ≤ 4 }
+    ensures value { result ≡ numbers.scaled_field places field.now }
+{
+    match after_blanks(field) {
+        [] => Field::Blank,
+        [b'-', digits @ ..] => signed_field(true, small_decimal(digits, places)),
+        digits => signed_field(false, small_decimal(digits, places)),
     }
 }
 
@@ -56,6 +71,42 @@ fn small_natural(digits: &[u8]) -> Option<u64>
         }
     }
     Some(value)
+}
+
+/// The decimal number that a text writes, in units of its last place, where it is at most `GREATEST`.
+fn small_decimal(text: &[u8], places: u8) -> Option<u64>
+    requires { places ≤ 4 }
+    ensures { result ≡ numbers.up_to (2 ^ 31) (numbers.decimal_number places text.now) }
+{
+    match memchr(b'.', text) {
+        None => small(small_natural(text)? * 10_u64.pow(places as u32)),
+        Some(point) => small_joined(&text[..point], &text[point + 1..], places),
+    }
+}
+
+/// The number with these digits before its point and these behind it.
+fn small_joined(whole: &[u8], part: &[u8], places: u8) -> Option<u64>
+    requires { places ≤ 4 }
+    ensures { result ≡ numbers.up_to (2 ^ 31)
+        (numbers.joined places (numbers.natural whole.now) (numbers.natural part.now) (length part.now)) }
+{
+    if part.len() > places as usize {
+        return None;
+    }
+    let missing = places as u32 - part.len() as u32;
+    small(
+        small_natural(whole)? * 10_u64.pow(places as u32)
+            + small_natural(part)? * 10_u64.pow(missing),
+    )
+}
+
+fn small(number: u64) -> Option<u64>
+    ensures { result ≡ numbers.up_to (2 ^ 31) (Some number) }
+{
+    if number > GREATEST {
+        return None;
+    }
+    Some(number)
 }
 
 fn signed_field(negative: bool, magnitude: Option<u64>) -> Field

@@ -3,16 +3,16 @@
 //! Every crate above stands on it. What it hands up is the line, the field and the day.
 #![tactic(auto)]
 
-
+mod date;
 mod day;
 mod field;
 mod line;
 mod memory;
 mod text;
 
-
+pub use date::write_date;
 pub use day::{Day, days_in_month};
-pub use field::{Field, int_field};
+pub use field::{Field, int_field, scaled_field};
 pub use line::{Lines, is_blank};
 pub use memory::Memory;
 pub use text::lines;

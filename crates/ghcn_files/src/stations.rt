@@ -1,8 +1,9 @@
 //! The listed stations, in the order of the list.
 
 ghost use Rattle.std.specs.Prelude.{◌≡◌, length, slice_get};
+ghost use Rattle.std.specs.List.{find};
 ghost use Rattle.std.specs.Option.{option_copied};
-ghost use Rattle.ghcn_files.specs.Listed.{AreListed};
+ghost use Rattle.ghcn_files.specs.Listed.{AreListed, is_station_of, place_of};
 
 use crate::{Station, StationId};
 use indexmap::IndexMap;
@@ -41,5 +42,20 @@ impl Stations {
     {
         let (_, station) = self.by_id.get_index(place as usize)?;
         Some(station)
+    }
+
+    /// The station with this ID.
+    pub fn get(&self, id: &StationId) -> Option<&Station>
+        ensures { option_copied result ≡ find (is_station_of id.now) self.now }
+    {
+        self.by_id.get(id)
+    }
+
+    /// The place in the list, from 0, of the station with this ID.
+    pub fn place(&self, id: &StationId) -> Option<u64>
+        ensures { result ≡ place_of self.now id.now }
+    {
+        let place = self.by_id.get_index_of(id)?;
+        Some(place as u64)
     }
 }

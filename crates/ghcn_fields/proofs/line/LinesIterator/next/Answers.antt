@@ -1,9 +1,8 @@
-use Rattle.std.proofs.Common.{◌≡◌, ℕ, ◌+◌, ◌-◌, ◌<◌, List, [], ◌∷◌, length, take, drop, Option, sym, ap, ◌∙◌, subst, arith, Some, None}
+use Rattle.std.proofs.Common.{◌≡◌, ℕ, ◌+◌, ◌-◌, ◌<◌, List, [], length, take, drop, Option, sym, subst, arith, Some, None}
 use Rattle.std.specs.Str.Lines.{strip_carriage_return}
 use Rattle.std.proofs.lemmas.Bool.Decides.{nat_tests}
 use Rattle.std.proofs.lemmas.Grind.{common_steps}
 use Rattle.memchr.specs.Find.{IsFirstByte, is_byte}
-use Rattle.ghcn_fields.specs.Lines.{lines}
 use Rattle.ghcn_fields.proofs.FirstLine.{lines-first, lines-last, lines_left, longer}
 use Rattle.ghcn_fields.proofs.line.LinesIterator.next.Goals as goal
 
