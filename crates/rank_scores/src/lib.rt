@@ -4,6 +4,8 @@
 //! the best of some candidates.
 #![tactic(auto)]
 
+mod best;
 mod candidate;
 
+pub use best::best_first;
 pub use candidate::{Candidate, precedes};
