@@ -1,0 +1,29 @@
+//! The values of the days before and after one, where these days are admitted and usable.
+
+ghost use Rattle.std.specs.Prelude.{◌≡◌, pos, ◌+ℤ◌, ◌-ℤ◌};
+ghost use Rattle.ghcn_series.specs.Series.{value_on};
+ghost use Rattle.rank_scores.specs.Candidates.{admitted};
+
+use ghcn_fields::Day;
+use ghcn_series::Series;
+use rank_query::Query;
+
+/// The value of the day that comes so many days later, if it is usable and the query admits it.
+pub(crate) fn value_after(series: &Series, query: &Query, first: Day, later: u32) -> Option<i32>
+    ensures { result ≡ value_on (admitted query.now series.now) (first +ℤ pos later) }
+{
+    match first.after(later) {
+        Some(day) if query.admits_day(day) => series.value(day),
+        _ => None,
+    }
+}
+
+/// The value of the day before, if it is usable and the query admits it.
+pub(crate) fn value_before(series: &Series, query: &Query, first: Day) -> Option<i32>
+    ensures { result ≡ value_on (admitted query.now series.now) (first -ℤ pos 1) }
+{
+    match first.previous() {
+        Some(day) if query.admits_day(day) => series.value(day),
+        _ => None,
+    }
+}
