@@ -25,7 +25,7 @@ valued-is_day q days d v e =
       | false ↦ λ h. let none = unless_admitted q days d h in absurd cc
     ] refl
 
-such-has : (test : ℤ → Bool) (o : Option ℤ) → option_map_or test o false ≡ true → (v : ℤ) × (o ≡ Some v)
+pub such-has : (test : ℤ → Bool) (o : Option ℤ) → option_map_or test o false ≡ true → (v : ℤ) × (o ≡ Some v)
 such-has test None e = absurd cc
 such-has test (Some v) e = (v, refl)
 
@@ -37,7 +37,7 @@ such-is_day q days test d e =
 pub day_if-day : (d : ℤ) → is_day d ≡ true → day_if d ≡ Some d
 day_if-day d e = ap (λ (b : Bool). cond b (Some d) None) e
 
-plus-parts : (a b : Option ℤ) (t : ℤ) → plus a b ≡ Some t → (v : ℤ) × (w : ℤ) × (a ≡ Some v) × (b ≡ Some w)
+pub plus-parts : (a b : Option ℤ) (t : ℤ) → plus a b ≡ Some t → (v : ℤ) × (w : ℤ) × (a ≡ Some v) × (b ≡ Some w)
 plus-parts None b t e = absurd cc
 plus-parts (Some v) None t e = absurd cc
 plus-parts (Some v) (Some w) t e = (v, w, refl, refl)
@@ -89,12 +89,11 @@ run-ends-on q days test n a some =
     day_if-day (a +ℤ pos i) (such-is_day q days test (a +ℤ pos i) (run-inside (is_such test (admitted_among q days)) n i a (omega arith)))
 
 -- a candidate of a spell, by its parts
-pub spell-made : (made id : StationId) (day last score : ℤ) (run : ℕ) (b : Bool) → made ≡ id → b ≡ true → last ≡ day +ℤ pos run -ℤ pos 1 → score ≡ pos run
-    → Some (candidate made day (last, score)) ≡ option_map (candidate id day) (cond b (Some (day +ℤ pos run -ℤ pos 1, pos run)) None)
-spell-made made id day last score run b i e l s =
-    ap (λ (z : ℤ). Some (candidate made day (z, score))) l
-    ∙ ap (λ (z : ℤ). Some (candidate made day (day +ℤ pos run -ℤ pos 1, z))) s
-    ∙ ap (λ (x : StationId). Some (candidate x day (day +ℤ pos run -ℤ pos 1, pos run))) i
+pub spell-made : (id : StationId) (day last score : ℤ) (run : ℕ) (b : Bool) → b ≡ true → last ≡ day +ℤ pos run -ℤ pos 1 → score ≡ pos run
+    → Some (candidate id day (last, score)) ≡ option_map (candidate id day) (cond b (Some (day +ℤ pos run -ℤ pos 1, pos run)) None)
+spell-made id day last score run b e l s =
+    ap (λ (z : ℤ). Some (candidate id day (z, score))) l
+    ∙ ap (λ (z : ℤ). Some (candidate id day (day +ℤ pos run -ℤ pos 1, z))) s
     ∙ sym (ap (λ (t : Bool). option_map (candidate id day) (cond t (Some (day +ℤ pos run -ℤ pos 1, pos run)) None)) e)
 
 -- a number passes where a run begins, and the one before it doesn't

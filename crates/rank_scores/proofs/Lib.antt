@@ -5,3 +5,6 @@ pub mod Walks
 pub mod LastDays
 pub mod Sound
 pub mod Folds
+pub mod Rising
+pub mod Complete
+pub mod Exactly

@@ -35,7 +35,7 @@ module _ (such : ℤ → Bool) where
             ap such at ∙ e
       ] refl
 
-le_of : (a b : ℤ) → int_le a b ≡ true → a ≤ℤ b
+pub le_of : (a b : ℤ) → int_le a b ≡ true → a ≤ℤ b
 le_of a b e = grind (arith, ints)
 
 parts : (a b : Bool) → (a && b) ≡ true → (a ≡ true) × (b ≡ true)

@@ -3,11 +3,13 @@
 ghost use Rattle.std.specs.Prelude.{◌≡◌, ◌<◌, neg_ℤ};
 ghost use Rattle.std.specs.List.{fold};
 ghost use Rattle.rank_scores.specs.Candidates as found;
+ghost use Rattle.rank_scores.specs.Order.{AreApart};
 ghost use Rattle.rank_scores.specs.Spells.{test_of};
 
 use crate::spell::{Spell, spell_from};
 use crate::window::window_from;
 use crate::{Candidate, Sink};
+use ghcn_files::StationId;
 use ghcn_series::Series;
 use rank_query::{Query, Score};
 
@@ -15,23 +17,26 @@ use rank_query::{Query, Score};
 ///
 /// The station is taken as admitted, and the series as one of the query's element.
 pub fn scan<S: Sink>(series: &Series, query: &Query, sink: &mut S)
-    ensures { sink.new ≡ fold S.taken sink.old (found.candidates query.now series.now) }
+    ensures offered { sink.new ≡ fold S.taken sink.old (found.candidates query.now series.now) }
+    ensures exactly { found.AreTheCandidates query.now series.now (found.candidates query.now series.now) }
+    ensures rise { found.RiseByFirstDay (found.candidates query.now series.now) }
+    ensures apart { AreApart (found.candidates query.now series.now) }
 {
+    let id = series.id();
     match query.score() {
-        Score::Highest(_) => scan_highest(series, query, sink),
-        Score::Lowest(_) => scan_lowest(series, query, sink),
-        Score::Sum(n, _) => scan_windows(series, query, n, sink),
-        Score::Dry => scan_spells(series, query, Spell::Dry, sink),
-        Score::Wet => scan_spells(series, query, Spell::Wet, sink),
+        Score::Highest(_) => scan_highest(id, series, query, sink),
+        Score::Lowest(_) => scan_lowest(id, series, query, sink),
+        Score::Sum(n, _) => scan_windows(id, series, query, n, sink),
+        Score::Dry => scan_spells(id, series, query, Spell::Dry, sink),
+        Score::Wet => scan_spells(id, series, query, Spell::Wet, sink),
     }
 }
 
 /// Offers each admitted day, by its value.
-fn scan_highest<S: Sink>(series: &Series, query: &Query, sink: &mut S)
+fn scan_highest<S: Sink>(id: StationId, series: &Series, query: &Query, sink: &mut S)
     ensures { sink.new ≡ fold S.taken sink.old
-        (found.candidates_among series.now.id (found.Days (λ v. v)) (found.admitted query.now series.now)) }
+        (found.candidates_among id (found.Days (λ v. v)) (found.admitted query.now series.now)) }
 {
-    let id = series.id();
     for (day, value) in series.days() {
         if query.admits_day(day) {
             sink.offer(Candidate {
@@ -45,11 +50,10 @@ fn scan_highest<S: Sink>(series: &Series, query: &Query, sink: &mut S)
 }
 
 /// Offers each admitted day, by its value negated.
-fn scan_lowest<S: Sink>(series: &Series, query: &Query, sink: &mut S)
+fn scan_lowest<S: Sink>(id: StationId, series: &Series, query: &Query, sink: &mut S)
     ensures { sink.new ≡ fold S.taken sink.old
-        (found.candidates_among series.now.id (found.Days neg_ℤ) (found.admitted query.now series.now)) }
+        (found.candidates_among id (found.Days neg_ℤ) (found.admitted query.now series.now)) }
 {
-    let id = series.id();
     for (day, value) in series.days() {
         if query.admits_day(day) {
             sink.offer(Candidate {
@@ -63,14 +67,14 @@ fn scan_lowest<S: Sink>(series: &Series, query: &Query, sink: &mut S)
 }
 
 /// Offers each window of `n` days.
-fn scan_windows<S: Sink>(series: &Series, query: &Query, n: u16, sink: &mut S)
+fn scan_windows<S: Sink>(id: StationId, series: &Series, query: &Query, n: u16, sink: &mut S)
     requires { 0 < n }
     ensures { sink.new ≡ fold S.taken sink.old
-        (found.candidates_among series.now.id (found.Windows n) (found.admitted query.now series.now)) }
+        (found.candidates_among id (found.Windows n) (found.admitted query.now series.now)) }
 {
-    for (day, value) in series.days() {
+    for (day, _) in series.days() {
         if query.admits_day(day) {
-            if let Some(candidate) = window_from(series, query, n, day, value) {
+            if let Some(candidate) = window_from(id, series, query, n, day) {
                 sink.offer(candidate);
             }
         }
@@ -78,13 +82,13 @@ fn scan_windows<S: Sink>(series: &Series, query: &Query, n: u16, sink: &mut S)
 }
 
 /// Offers each spell.
-fn scan_spells<S: Sink>(series: &Series, query: &Query, spell: Spell, sink: &mut S)
+fn scan_spells<S: Sink>(id: StationId, series: &Series, query: &Query, spell: Spell, sink: &mut S)
     ensures { sink.new ≡ fold S.taken sink.old
-        (found.candidates_among series.now.id (found.Spells (test_of spell)) (found.admitted query.now series.now)) }
+        (found.candidates_among id (found.Spells (test_of spell)) (found.admitted query.now series.now)) }
 {
-    for (day, value) in series.days() {
+    for (day, _) in series.days() {
         if query.admits_day(day) {
-            if let Some(candidate) = spell_from(series, query, spell, day, value) {
+            if let Some(candidate) = spell_from(id, series, query, spell, day) {
                 sink.offer(candidate);
             }
         }

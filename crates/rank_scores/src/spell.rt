@@ -1,6 +1,6 @@
 //! Spells: longest runs of consecutive days, each admitted and usable, whose values pass a test.
 
-ghost use Rattle.std.specs.Prelude.{◌≡◌, pos, ◌+ℤ◌, ◌-ℤ◌, false};
+ghost use Rattle.std.specs.Prelude.{ℤ, ◌≡◌, pos, ◌+ℤ◌, ◌-ℤ◌, false};
 ghost use Rattle.std.specs.Option.{option_map, option_map_or};
 ghost use Rattle.rank_scores.specs.Runs.{run_len};
 ghost use Rattle.rank_scores.specs.Spells.{test_of};
@@ -9,6 +9,7 @@ ghost use Rattle.rank_scores.specs.Candidates as found;
 use crate::Candidate;
 use crate::admitted::{value_after, value_before};
 use ghcn_fields::Day;
+use ghcn_files::StationId;
 use ghcn_series::Series;
 use rank_query::Query;
 
@@ -29,13 +30,13 @@ const CALENDAR_LEN: u32 = 3_652_059;
 
 /// The spell that begins on this day, if one does.
 pub(crate) fn spell_from(
+    id: StationId,
     series: &Series,
     query: &Query,
     spell: Spell,
     first: Day,
-    value: i32,
 ) -> Option<Candidate>
-    ensures { result ≡ option_map (found.candidate series.now.id first)
+    ensures { (value : ℤ) → result ≡ option_map (found.candidate id first)
         (found.begun (found.Spells (test_of spell)) (found.admitted query.now series.now) (first, value)) }
 {
     if !passes_after(series, query, spell, first, 0) || passes_before(series, query, spell, first) {
@@ -44,7 +45,7 @@ pub(crate) fn spell_from(
     let len = run_len(series, query, spell, first);
     let last = first.after(len.saturating_sub(1))?;
     Some(Candidate {
-        id: series.id(),
+        id,
         first,
         last,
         score: len as i64,

@@ -1,6 +1,6 @@
 //! Windows: so many consecutive days, each admitted and usable.
 
-ghost use Rattle.std.specs.Prelude.{◌≡◌, ◌<◌, ◌+ℤ◌, FitsSigned};
+ghost use Rattle.std.specs.Prelude.{ℤ, ◌≡◌, ◌<◌, ◌+ℤ◌, FitsSigned};
 ghost use Rattle.std.specs.Int.{w64};
 ghost use Rattle.std.specs.Option.{option_map};
 ghost use Rattle.rank_scores.specs.Candidates as found;
@@ -8,25 +8,26 @@ ghost use Rattle.rank_scores.specs.Candidates as found;
 use crate::Candidate;
 use crate::admitted::value_after;
 use ghcn_fields::Day;
+use ghcn_files::StationId;
 use ghcn_series::Series;
 use rank_query::Query;
 
 /// The window of `n` days that begins on this day, if each of them is admitted and usable.
 pub(crate) fn window_from(
+    id: StationId,
     series: &Series,
     query: &Query,
     n: u16,
     first: Day,
-    value: i32,
 ) -> Option<Candidate>
     requires { 0 < n }
-    ensures { result ≡ option_map (found.candidate series.now.id first)
+    ensures { (value : ℤ) → result ≡ option_map (found.candidate id first)
         (found.begun (found.Windows n) (found.admitted query.now series.now) (first, value)) }
 {
     let score = window_total(series, query, n, first)?;
     let last = first.after(n as u32 - 1)?;
     Some(Candidate {
-        id: series.id(),
+        id,
         first,
         last,
         score,

@@ -6,5 +6,5 @@ use Rattle.rank_scores.proofs.scans.scan_spells.Given as goal
 
 abbrev pub invariant-loop-day : goal.invariant-loop-day
 invariant-loop-day g l =
-    at_end g.S.Sink.taken l.query l.series.id (Spells (test_of l.spell)) l.series.days l.sink l.day-iterator
-    ≡ at_end g.S.Sink.taken l.query l.series.id (Spells (test_of l.spell)) l.series.days l.fn.sink l.series.days
+    at_end g.S.Sink.taken l.query l.id (Spells (test_of l.spell)) l.series.days l.sink l.day-iterator
+    ≡ at_end g.S.Sink.taken l.query l.id (Spells (test_of l.spell)) l.series.days l.fn.sink l.series.days

@@ -10,7 +10,7 @@ use Rattle.rank_scores.proofs.spell.spell_from.Goals as goal
 
 -- the last day of the spell is a day
 pub returns-in_err-last : goal.returns-in_err-last
-returns-in_err-last c =
+returns-in_err-last c = λ value.
     let such : ℤ → Bool = is_such (test_of c.args.spell) (admitted c.args.query.now c.args.series.now) in
     let same : c.args.first +ℤ pos 0 ≡ c.args.first = omega (arith, ints) in
     let passes : such c.args.first ≡ true = ap such (sym same) ∙ sym c.passes_after.ensures ∙ c.if-not-passes_after.false in
@@ -22,7 +22,7 @@ returns-in_err-last c =
 
 -- the spell has the days that were walked
 pub returns : goal.returns
-returns c =
+returns c = λ value.
     let such : ℤ → Bool = is_such (test_of c.args.spell) (admitted c.args.query.now c.args.series.now) in
     let same : c.args.first +ℤ pos 0 ≡ c.args.first = omega (arith, ints) in
     let passes : such c.args.first ≡ true = ap such (sym same) ∙ sym c.passes_after.ensures ∙ c.if-not-passes_after.false in
@@ -33,4 +33,4 @@ returns c =
     let last : c.in_ok-last.last ≡ c.args.first +ℤ pos (run - 1) = day_is (c.args.first +ℤ pos (run - 1)) c.in_ok-last.last (sym (c.after.ensures ∙ ap (λ (k : ℕ). day_if (c.args.first +ℤ pos k)) one_less) ∙ c.in_ok-last.was) in
     let back : c.args.first +ℤ pos (run - 1) ≡ c.args.first +ℤ pos run -ℤ pos 1 = omega (arith, ints) in
     let score : to_z w64 c.run_len-len.result ≡ pos run = to_z_pos w64 c.run_len-len.result (omega arith) ∙ ap pos c.run_len-len.ensures in
-    spell-made c.id.result c.args.series.now.id c.args.first c.in_ok-last.last (to_z w64 c.run_len-len.result) run (begins_run such c.args.first) c.id.ensures.id begins (last ∙ back) score
+    spell-made c.args.id c.args.first c.in_ok-last.last (to_z w64 c.run_len-len.result) run (begins_run such c.args.first) begins (last ∙ back) score
