@@ -37,9 +37,13 @@ other_days : (a : Candidate) (cs : List Candidate) → AllByRecursion (λ z. int
 other_days a [] h = tt
 other_days a (b ∷ cs) h = (ap (λ (t : Bool). same_id a.id b.id && t) h.0 ∙ and_false (same_id a.id b.id), other_days a cs h.1)
 
+-- where there are no candidates, they are apart
+pub none_apart : AreApart []
+none_apart = IsDistinct-from_count alike-equivalence [] refl
+
 -- candidates that begin on days that differ are apart
 apart-from_days : (cs : List Candidate) → IsDistinct int_eq (map (λ c. c.first) cs) → AreApart cs
-apart-from_days [] h = IsDistinct-from_count alike-equivalence [] refl
+apart-from_days [] h = none_apart
 apart-from_days (c ∷ cs) h =
     IsDistinct-cons begin_alike c cs (other_days c cs (IsDistinct-head int_eq c.first (map (λ x. x.first) cs) h))
     (apart-from_days cs (IsDistinct-tail int_eq c.first (map (λ x. x.first) cs) h))

@@ -8,3 +8,4 @@ pub mod Folds
 pub mod Rising
 pub mod Complete
 pub mod Exactly
+pub mod Examples

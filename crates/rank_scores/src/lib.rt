@@ -10,6 +10,8 @@ mod candidate;
 mod scans;
 mod sink;
 mod spell;
+#[cfg(test)]
+mod tests;
 mod window;
 
 pub use best::best_first;
