@@ -1,7 +1,7 @@
 -- What contracts see of a series and of all data.
-use Rattle.std.specs.Prelude.{◌≡◌, ℕ, Bool, true, ◌&&◌, ◌||◌, List, [], ◌∷◌, Option, ℤ, pos, neg_ℤ, int_le, int_lt, IsTrue}
+use Rattle.std.specs.Prelude.{ℕ, ◌<◌, Bool, true, ◌&&◌, ◌||◌, List, [], ◌∷◌, length, Option, ℤ, pos, neg_ℤ, int_le, int_lt, IsTrue}
 use Rattle.std.specs.List.{list_all, find}
-use Rattle.std.specs.Option.{is_some, option_map}
+use Rattle.std.specs.Option.{option_map}
 use Rattle.std.specs.Ordering.{int_eq}
 use Rattle.ghcn_fields.specs.Days.{is_day}
 use Rattle.ghcn_files.specs.declared.station.StationId.{StationId}
@@ -42,7 +42,7 @@ is_value e v = int_le (neg_ℤ (pos 9998)) v && int_le v (pos 99_999) && (may_be
 
 -- what is true of each series: it has a day, its days rise, and each is a day with a value that the element can have
 pub record IsSeries (s : Usable) : Type 0 where
-  pub nonempty : IsTrue (is_some (find (λ x. true) s.days))
+  pub nonempty : 0 < length s.days
   pub by_day : IsTrue (is_by_day s.days)
   pub values : IsTrue (list_all (λ x. is_day x.0 && is_value s.element x.1) s.days)
 

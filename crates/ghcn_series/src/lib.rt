@@ -4,8 +4,10 @@
 //! of one station and element to their values.
 #![tactic(auto)]
 
+mod days;
 mod fault;
 mod series;
 
+pub use days::Days;
 pub use fault::{DailyWhy, DataFault};
 pub use series::Series;

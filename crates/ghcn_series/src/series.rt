@@ -1,8 +1,10 @@
 //! The usable values of one station and element.
 
-ghost use Rattle.std.specs.Prelude.{◌≡◌};
-ghost use Rattle.ghcn_series.specs.Series.{IsSeries};
+ghost use Rattle.std.specs.Prelude.{◌≡◌, ◌-◌, length, slice_get};
+ghost use Rattle.std.specs.Option.{option_map};
+ghost use Rattle.ghcn_series.specs.Series.{IsSeries, value_on};
 
+use crate::days::Days;
 use ghcn_fields::Day;
 use ghcn_files::{Element, StationId};
 use std::collections::BTreeMap;
@@ -43,5 +45,31 @@ impl Series {
         ensures { result ≡ self.now.element }
     {
         self.element
+    }
+
+    /// The value of a day, where it is usable, in the element's unit.
+    pub fn value(&self, day: Day) -> Option<i32>
+        ensures { result ≡ value_on self.now.days day }
+    {
+        self.days.get(&day).copied()
+    }
+
+    /// The first and the last usable day.
+    pub fn span(&self) -> (Day, Day)
+        ensures first { option_map (λ x. x.0) (slice_get self.now.days 0) ≡ Some result.0 }
+        ensures last { option_map (λ x. x.0) (slice_get self.now.days (length self.now.days - 1))
+            ≡ Some result.1 }
+    {
+        let (first, _) = self.days.first_key_value().unwrap();
+        let (last, _) = self.days.last_key_value().unwrap();
+        (*first, *last)
+    }
+
+    /// The usable days with their values, by increasing day.
+    pub fn days(&self) -> Days<'_>
+        ensures days { result ≡ self.now.days }
+        ensures series { IsSeries self.now }
+    {
+        Days::of(&self.days)
     }
 }

@@ -1,0 +1,11 @@
+pub mod Ranks
+pub mod Listing
+pub mod Windows
+pub mod Walks
+pub mod LastDays
+pub mod Sound
+pub mod Folds
+pub mod Rising
+pub mod Complete
+pub mod Exactly
+pub mod Examples

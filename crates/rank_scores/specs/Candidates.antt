@@ -1,7 +1,9 @@
 -- The candidates of a series under a query.
-use Rattle.std.specs.Prelude.{◌≡◌, ℕ, zero, suc, Bool, false, if◌then◌else◌, List, filter, Option, None, Some, ℤ, pos, neg_ℤ, ◌+ℤ◌, ◌-ℤ◌, int_le, int_lt}
-use Rattle.std.specs.List.{filter_map}
+use Rattle.std.specs.Prelude.{◌≡◌, ◌↔◌, ℕ, zero, suc, Bool, false, if◌then◌else◌, List, filter, map, Option, None, Some, ℤ, pos, neg_ℤ, ◌+ℤ◌, ◌-ℤ◌, int_le, int_lt}
+use Rattle.std.specs.List.{filter_map, Contains}
+use Rattle.std.specs.List.Sorted.{IsStrictlySortedBy}
 use Rattle.std.specs.Option.{option_map, option_map_or}
+use Rattle.std.specs.Ordering.{int_cmp}
 use Rattle.ghcn_files.specs.declared.station.StationId.{StationId}
 use Rattle.ghcn_series.specs.Series.{DayValue, Usable, value_on}
 use Rattle.rank_query.specs.declared.score.Score.{Score}
@@ -11,10 +13,11 @@ use Rattle.rank_query.specs.Admits.{admits_day}
 use Rattle.rank_scores.specs.declared.candidate.Candidate.{Candidate}
 use Rattle.rank_scores.specs.Runs.{run_len, begins_run, IsRun}
 
--- below one millimetre; at least one millimetre
+-- less than one millimetre
 abbrev pub is_dry : ℤ → Bool
 is_dry v = int_lt v (pos 10)
 
+-- at least one millimetre
 abbrev pub is_wet : ℤ → Bool
 is_wet v = int_le (pos 10) v
 
@@ -24,6 +27,7 @@ pub data Shape : Type 0 where
   Windows : ℕ → Shape
   Spells : (ℤ → Bool) → Shape
 
+-- what a score of the query language ranks
 abbrev pub shape : Score → Shape
 shape (Highest e) = Days (λ v. v)
 shape (Lowest e) = Days neg_ℤ
@@ -31,13 +35,15 @@ shape (Sum n e) = Windows n
 shape Dry = Spells is_dry
 shape Wet = Spells is_wet
 
--- the admitted usable days
+-- those of some days that a query admits
 abbrev pub admitted_among : Asked → List DayValue → List DayValue
 admitted_among q days = filter (λ x. admits_day q x.0) days
 
+-- the admitted usable days of a series, with their values
 abbrev pub admitted : Asked → Usable → List DayValue
 admitted q s = admitted_among q s.days
 
+-- the sum of two numbers, if there are both
 abbrev pub plus : Option ℤ → Option ℤ → Option ℤ
 plus None b = None
 plus (Some a) None = None
@@ -52,8 +58,7 @@ window_total days (suc n) a = plus (value_on days a) (window_total days n (a +�
 abbrev pub is_such : (ℤ → Bool) → List DayValue → ℤ → Bool
 is_such test days a = option_map_or test (value_on days a) false
 
--- Days is the list of the admitted usable days. From day to day the score and the last day are determined:
--- a candidate from first to last with this score
+-- where these are the admitted usable days: from this first to this last day there is a candidate with this score
 abbrev pub IsCandidate : Shape → List DayValue → ℤ → ℤ → ℤ → Type 0
 IsCandidate (Days f) days first last score = (last ≡ first) × (v : ℤ) × (value_on days first ≡ Some v) × (score ≡ f v)
 IsCandidate (Windows n) days first last score = (last +ℤ pos 1 ≡ first +ℤ pos n) × (window_total days n first ≡ Some score)
@@ -68,13 +73,26 @@ begun (Spells test) days x =
     then Some (x.0 +ℤ pos (run_len (is_such test days) x.0) -ℤ pos 1, pos (run_len (is_such test days) x.0))
     else None
 
+-- the candidate of a station that begins on a day, by its last day and its score
 abbrev pub candidate : StationId → ℤ → ℤ × ℤ → Candidate
 candidate id first e = record { id = id; first = first; last = e.0; score = e.1 }
 
--- by increasing first day
+-- the candidates that begin on some days, which are all the admitted usable ones, by increasing first day
 abbrev pub candidates_among : StationId → Shape → List DayValue → List Candidate
 candidates_among id sh days = filter_map (λ x. option_map (candidate id x.0) (begun sh days x)) days
 
 -- the candidates of a series, its station taken as admitted
 abbrev pub candidates : Asked → Usable → List Candidate
 candidates q s = candidates_among s.id (shape q.score) (admitted q s)
+
+-- c is of the station of the series, and a candidate from its first to its last day with its score
+abbrev pub IsCandidateOf : Asked → Usable → Candidate → Type 0
+IsCandidateOf q s c = (c.id ≡ s.id) × IsCandidate (shape q.score) (admitted q s) c.first c.last c.score
+
+-- the list has the candidates of the series, and nothing else
+abbrev pub AreTheCandidates : Asked → Usable → List Candidate → Type 0
+AreTheCandidates q s list = (c : Candidate) → Contains list c ↔ IsCandidateOf q s c
+
+-- each begins on a later day than those before it
+abbrev pub RiseByFirstDay : List Candidate → Type 0
+RiseByFirstDay list = IsStrictlySortedBy int_cmp (map (λ c. c.first) list)

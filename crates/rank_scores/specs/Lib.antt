@@ -1,4 +1,5 @@
 pub mod Runs
 pub mod Candidates
+pub mod Spells
 pub mod Order
 pub mod Morsels

@@ -1,10 +1,11 @@
 -- The order of candidates, and the best of some.
-use Rattle.std.specs.Prelude.{ℕ, zero, suc, Bool, ◌==◌, List, Option, None, ℤ}
-use Rattle.std.specs.List.{count_by, find, filter_map, range_with_len}
+use Rattle.std.specs.Prelude.{ℕ, zero, suc, Bool, ◌&&◌, ◌==◌, List, Option, None, ℤ}
+use Rattle.std.specs.List.{count_by, find, filter_map, range_with_len, IsDistinct}
 use Rattle.std.specs.Option.{option_map}
 use Rattle.std.specs.declared.cmp.Ordering.{Ordering}
-use Rattle.std.specs.Ordering.{is_lt, nat_cmp, int_cmp, on, flip_args, then_cmp}
+use Rattle.std.specs.Ordering.{is_lt, nat_cmp, int_cmp, int_eq, on, flip_args, then_cmp}
 use Rattle.std.specs.Cmp.Lexicographic.{slice_cmp}
+use Rattle.ghcn_files.specs.Ids.{same_id}
 use Rattle.rank_scores.specs.declared.candidate.Candidate.{Candidate}
 
 -- by greater score, then by smaller ID, then by earlier first day
@@ -35,3 +36,11 @@ best k all = filter_map (of_rank all) (range_with_len 0 k)
 abbrev pub kth_score : ℕ → List Candidate → Option ℤ
 kth_score zero all = None
 kth_score (suc rank) all = option_map (λ c. c.score) (of_rank all rank)
+
+-- two candidates are of one station and begin on one day
+abbrev pub begin_alike : Candidate → Candidate → Bool
+begin_alike a b = same_id a.id b.id && int_eq a.first b.first
+
+-- no two of these candidates are of one station and begin on one day
+abbrev pub AreApart : List Candidate → Type 0
+AreApart all = IsDistinct begin_alike all

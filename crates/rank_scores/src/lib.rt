@@ -4,6 +4,17 @@
 //! the best of some candidates.
 #![tactic(auto)]
 
+mod admitted;
+mod best;
 mod candidate;
+mod scans;
+mod sink;
+mod spell;
+#[cfg(test)]
+mod tests;
+mod window;
 
+pub use best::best_first;
 pub use candidate::{Candidate, precedes};
+pub use scans::scan;
+pub use sink::Sink;

@@ -1,0 +1,83 @@
+-- Worked examples, by computation.
+use Rattle.std.proofs.Common.{◌≡◌, ℕ, zero, suc, List, [], ◌∷◌, refl, Some, None, Option}
+use Rattle.std.specs.Prelude.{codes, ℤ, pos, neg_ℤ, ◌+ℤ◌}
+use Rattle.ghcn_files.specs.declared.station.StationId.{StationId}
+use Rattle.ghcn_files.specs.declared.element.Element.{Element}
+use Rattle.ghcn_files.specs.declared.element.Element.TheVariants.{Tmax, Tmin, Prcp, Snow}
+use Rattle.ghcn_series.specs.Series.{DayValue, Usable}
+use Rattle.rank_query.specs.declared.score.Score.{Score}
+use Rattle.rank_query.specs.declared.score.Score.TheVariants.{Highest, Lowest, Sum, Dry, Wet}
+use Rattle.rank_query.specs.declared.region.Region.TheVariants.{Everywhere}
+use Rattle.rank_query.specs.Asked.{Asked}
+use Rattle.rank_scores.specs.Runs.{run_from}
+use Rattle.rank_scores.specs.declared.candidate.Candidate.{Candidate}
+use Rattle.rank_scores.specs.Candidates.{candidates}
+use Rattle.rank_scores.specs.Order.{best, kth_score}
+
+abbrev pub id_a : StationId
+id_a = record { 0 = codes "ZZA00000001" }
+
+abbrev pub id_b : StationId
+id_b = record { 0 = codes "ZZA00000002" }
+
+abbrev pub id_c : StationId
+id_c = record { 0 = codes "ZZA00000003" }
+
+abbrev pub series : StationId → Element → List DayValue → Usable
+series id e days = record { id = id; element = e; days = days }
+
+abbrev pub ask : ℕ → Score → Option (ℤ × ℤ) → Asked
+ask k score period = record { k = k; score = score; region = Everywhere; period = period }
+
+abbrev pub found : StationId → ℤ → ℤ → ℤ → Candidate
+found id first last score = record { id = id; first = first; last = last; score = score }
+
+-- a value on each of n days from one on
+abbrev pub each_day : ℤ → ℕ → ℤ → List DayValue
+each_day day zero v = []
+each_day day (suc n) v = (day, v) ∷ each_day (day +ℤ pos 1) n v
+
+-- 2020-07-01 is day 18444
+highest_one : candidates (ask 1 (Highest Tmax) None) (series id_a Tmax ((pos 18444, pos 311) ∷ [])) ≡ found id_a (pos 18444) (pos 18444) (pos 311) ∷ []
+highest_one = refl
+
+-- three stations, the two best
+two_best : best 2 (found id_b (pos 18444) (pos 18444) (pos 311) ∷ found id_a (pos 18444) (pos 18444) (pos 311) ∷ found id_a (pos 18445) (pos 18445) (pos 305) ∷ []) ≡ found id_a (pos 18444) (pos 18444) (pos 311) ∷ found id_b (pos 18444) (pos 18444) (pos 311) ∷ []
+two_best = refl
+
+abbrev pub rain : List DayValue
+rain = (pos 18258, pos 10) ∷ (pos 18259, pos 20) ∷ (pos 18260, pos 30) ∷ (pos 18262, pos 5) ∷ (pos 18263, pos 6) ∷ (pos 18264, pos 7) ∷ []
+
+-- a gap ends a window: 2019-12-31 is missing
+sum_with_gap : best 5 (candidates (ask 5 (Sum 3 Prcp) (Some (pos 18258, pos 18264))) (series id_a Prcp rain)) ≡ found id_a (pos 18258) (pos 18260) (pos 60) ∷ found id_a (pos 18262) (pos 18264) (pos 18) ∷ []
+sum_with_gap = refl
+
+-- 34 days of rain over three blocks
+long_sums : (candidates (ask 1 (Sum 33 Prcp) None) (series id_a Prcp (each_day (pos 18463) 34 (pos 10))) ≡ found id_a (pos 18463) (pos 18495) (pos 330) ∷ found id_a (pos 18464) (pos 18496) (pos 330) ∷ [])
+    × (candidates (ask 1 (Sum 34 Prcp) None) (series id_a Prcp (each_day (pos 18463) 34 (pos 10))) ≡ found id_a (pos 18463) (pos 18496) (pos 340) ∷ [])
+long_sums = (refl, refl)
+
+abbrev pub mixed : List DayValue
+mixed = (pos 18444, pos 0) ∷ (pos 18445, pos 9) ∷ (pos 18446, pos 10) ∷ (pos 18447, pos 10) ∷ (pos 18448, pos 9) ∷ []
+
+dry_spells : best 3 (candidates (ask 3 Dry None) (series id_a Prcp mixed)) ≡ found id_a (pos 18444) (pos 18445) (pos 2) ∷ found id_a (pos 18448) (pos 18448) (pos 1) ∷ []
+unfolding run_from
+dry_spells = refl
+
+wet_spells : candidates (ask 3 Wet None) (series id_a Prcp mixed) ≡ found id_a (pos 18446) (pos 18447) (pos 2) ∷ []
+unfolding run_from
+wet_spells = refl
+
+-- a period cuts a spell
+cut_spell : candidates (ask 2 Dry (Some (pos 18448, pos 18453))) (series id_a Prcp (each_day (pos 18444) 31 (pos 0))) ≡ found id_a (pos 18448) (pos 18453) (pos 6) ∷ []
+unfolding run_from
+cut_spell = refl
+
+lowest : best 2 (candidates (ask 2 (Lowest Tmin) None) (series id_a Tmin ((pos 18444, neg_ℤ (pos 5)) ∷ (pos 18445, pos 3) ∷ []))) ≡ found id_a (pos 18444) (pos 18444) (pos 5) ∷ found id_a (pos 18445) (pos 18445) (neg_ℤ (pos 3)) ∷ []
+lowest = refl
+
+snow_sums : best 3 (candidates (ask 3 (Sum 1 Snow) None) (series id_a Snow ((pos 18262, pos 10) ∷ (pos 18263, pos 20) ∷ (pos 18265, pos 30) ∷ []))) ≡ found id_a (pos 18265) (pos 18265) (pos 30) ∷ found id_a (pos 18263) (pos 18263) (pos 20) ∷ found id_a (pos 18262) (pos 18262) (pos 10) ∷ []
+snow_sums = refl
+
+none_of_two : kth_score 2 (found id_a (pos 1) (pos 1) (pos 5) ∷ []) ≡ None
+none_of_two = refl

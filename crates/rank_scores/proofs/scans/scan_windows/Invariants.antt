@@ -1,0 +1,9 @@
+use Rattle.std.proofs.Common.{◌≡◌}
+use Rattle.rank_scores.specs.Candidates.{Windows}
+use Rattle.rank_scores.proofs.Folds.{at_end}
+use Rattle.rank_scores.proofs.scans.scan_windows.Given as goal
+
+abbrev pub invariant-loop-day : goal.invariant-loop-day
+invariant-loop-day g l =
+    at_end g.S.Sink.taken l.query l.id (Windows l.n) l.series.days l.sink l.day-iterator
+    ≡ at_end g.S.Sink.taken l.query l.id (Windows l.n) l.series.days l.fn.sink l.series.days

@@ -1,0 +1,14 @@
+//! What candidates are offered to.
+
+/// What takes candidates one by one, as a pool does that keeps the best of them.
+pub trait Sink {
+    ghost use Rattle.std.specs.Prelude.{◌≡◌};
+    ghost use Rattle.rank_scores.specs.declared.candidate.Candidate.{Candidate};
+
+    /// The value after one more candidate.
+    ghost taken: { Self → Candidate → Self };
+
+    /// Takes one more candidate.
+    fn offer(&mut self, candidate: crate::Candidate)
+        ensures { self.new ≡ taken self.old candidate };
+}
