@@ -6,6 +6,7 @@
 
 mod days;
 mod fault;
+mod gathering;
 mod series;
 
 pub use days::Days;
