@@ -1,3 +1,5 @@
 pub mod Lookups
 pub mod MonthDays
 pub mod SeenMonths
+pub mod DistinctDays
+pub mod SortedDays

@@ -1,10 +1,11 @@
 //! What the lines of one station and element say, gathered while the files are read.
 
-ghost use Rattle.std.specs.Prelude.{◌≡◌, ◌+◌, ◌<◌, ◌++◌, ◌∷◌, [], List, Some, not, ◌||◌, int_le, pos, IfOk, OnOk};
+ghost use Rattle.std.specs.Prelude.{◌≡◌, ◌+◌, ◌<◌, ◌==◌, ◌++◌, ◌∷◌, [], List, length, Some, not, ◌||◌, int_le, pos, IfOk, OnOk};
 ghost use Rattle.std.specs.Bool.{OnTrue};
-ghost use Rattle.std.specs.List.{list_any};
+ghost use Rattle.std.specs.List.{list_any, flat_map};
 ghost use Rattle.jiff_core.specs.Calendar as calendar;
 ghost use Rattle.ghcn_fields.specs.Days.{day_number};
+ghost use Rattle.ghcn_fields.specs.Sorting.{sorted_by};
 ghost use Rattle.ghcn_files.specs.Elements as elements;
 ghost use Rattle.ghcn_files.specs.declared.month.Month as months;
 ghost use Rattle.ghcn_series.specs.Gathered as gathered;
@@ -12,7 +13,7 @@ ghost use Rattle.ghcn_series.specs.Gathered as gathered;
 use ghcn_fields::{Day, Memory, days_in_month};
 use ghcn_files::{Element, Month, Reading};
 use std::alloc::Global;
-use std::collections::BTreeSet;
+use std::collections::{BTreeMap, BTreeSet};
 
 /// The months of one station and element that were read, and their usable days in that order.
 #[derive(Drop)]
@@ -43,6 +44,22 @@ impl Gathering {
         }
         add_days(&mut self.days, month)?;
         Ok(true)
+    }
+
+    /// Whether no usable day was added.
+    pub(crate) fn is_empty(&self) -> bool
+        ensures { (months : List months.Month) → gathered.IsGathering self.now months →
+            result ≡ (length (flat_map gathered.usable_days months) == 0) }
+    {
+        self.days.is_empty()
+    }
+
+    /// The usable days that were added, by increasing day.
+    pub(crate) fn into_days(self, alloc: Global) -> Result<BTreeMap<Day, i32>, Memory>
+        ensures { IfOk result (λ days. (months : List months.Month) → gathered.IsGathering self months →
+            days.entries ≡ sorted_by (λ a b. int_le a.0 b.0) (flat_map gathered.usable_days months)) }
+    {
+        Ok(self.days.into_iter().collect(alloc)?)
     }
 }
 
