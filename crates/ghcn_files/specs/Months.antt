@@ -1,6 +1,7 @@
 -- A line of a daily file: a month of one station and element.
-use Rattle.std.specs.Prelude.{ℕ, ◌+◌, ◌*◌, Bool, not, nat_lt, nat_le, if◌then◌else◌, List, [], ◌∷◌, ◌++◌, length, map, drop, Option, None, Some, Result, Ok, Err, pos, unsigned_abs}
-use Rattle.std.specs.List.{range_with_len}
+use Rattle.std.specs.Prelude.{ℕ, ◌+◌, ◌*◌, ◌≤◌, Bool, true, ◌&&◌, not, nat_lt, nat_le, if◌then◌else◌, List, [], ◌∷◌, ◌++◌, length, map, drop, Option, None, Some, Result, Ok, Err, ℤ, pos, neg_ℤ, int_le, unsigned_abs, IsTrue}
+use Rattle.std.specs.List.{range_with_len, list_all}
+use Rattle.std.specs.Option.{option_map_or}
 use Rattle.ghcn_fields.specs.declared.field.Field.{Field}
 use Rattle.ghcn_fields.specs.Bytes.{is_blank}
 use Rattle.ghcn_fields.specs.Lines.{columns}
@@ -36,7 +37,7 @@ abbrev pub reading : List ℕ → ℕ → Reading
 reading line j = record { value = unless_missing (value_field line j); flagged = is_flagged line j }
 
 -- the days that a line has groups for
-abbrev pub days_of_group : List ℕ
+unfoldable pub days_of_group : List ℕ
 days_of_group = range_with_len 1 31
 
 -- the month of a line of this element
@@ -49,6 +50,10 @@ month_of element line = record {
   days = map (reading line) days_of_group;
 }
 
+-- the test of a day's value, which may be missing but not malformed
+abbrev pub value_test : List ℕ → ℕ → Bool × LineWhy
+value_test line j = (not (is_bad (value_field line j)), BadValue j)
+
 -- the first test that a line of one of the five elements fails
 abbrev pub month_why : List ℕ → Option LineWhy
 month_why line = first_failing (
@@ -58,18 +63,33 @@ month_why line = first_failing (
     ∷ (is_number_within (pos 1) (pos 9999) (year_field line), BadYear)
     ∷ (is_number_within (pos 1) (pos 12) (month_field line), BadMonth)
     ∷ [])
-    ++ map (λ j. (not (is_bad (value_field line j)), BadValue j)) days_of_group)
+    ++ map (value_test line) days_of_group)
 
--- the month, unless the line fails a test
-abbrev pub month_unless : Option LineWhy → Month → Result (Option Month) LineWhy
-month_unless None month = Ok (Some month)
-month_unless (Some why) month = Err why
+-- a value, unless a line fails a test
+abbrev pub unless : {T : Type 0} → Option LineWhy → T → Result T LineWhy
+unless None value = Ok value
+unless (Some why) value = Err why
 
 -- the month of a line of an element; a line of none of the five is passed over
 abbrev pub month_if : Option Element → List ℕ → Result (Option Month) LineWhy
 month_if None line = Ok None
-month_if (Some e) line = month_unless (month_why line) (month_of e line)
+month_if (Some e) line = unless (month_why line) (Some (month_of e line))
 
 -- the month of a line that isn't blank, nothing for another element, or the first test that it fails
 abbrev pub read_month : List ℕ → Result (Option Month) LineWhy
 read_month line = if nat_lt (length line) 21 then Err Short else month_if (element_of (columns 18 21 line)) line
+
+-- a number of at most five columns that doesn't stand for a missing value
+abbrev pub is_readable : ℤ → Bool
+is_readable v = int_le (neg_ℤ (pos 9998)) v && int_le v (pos 99_999)
+
+-- a missing value, or such a number
+abbrev pub is_reading : Reading → Bool
+is_reading r = option_map_or is_readable r.value true
+
+-- what is true of every month that is read: a visible ID, a year and a month of the calendar, and values in their range
+pub record IsMonth (m : Month) : Type 0 where
+  pub id : IsTrue (is_id m.id.0)
+  pub year : (1 ≤ m.year) × (m.year ≤ 9999)
+  pub month : (1 ≤ m.month) × (m.month ≤ 12)
+  pub values : IsTrue (list_all is_reading m.days)

@@ -6,6 +6,7 @@
 
 mod element;
 mod fault;
+mod missing;
 mod month;
 mod station;
 mod stations;

@@ -1,6 +1,24 @@
 //! Months of daily values: what one line of a daily file says.
 
-use crate::{Element, StationId};
+ghost use Rattle.std.specs.Prelude.{◌≡◌, ◌≤◌, ◌<◌, ◌+◌, length, drop, map, pos, Some, None, IfOk, IfSome, if◌then◌else◌, unsigned_abs};
+ghost use Rattle.ghcn_fields.specs.Numbers as numbers;
+ghost use Rattle.ghcn_fields.specs.Bytes as bytes;
+ghost use Rattle.ghcn_fields.specs.Faults.{first_failing};
+ghost use Rattle.ghcn_files.specs.StationLines as stations;
+ghost use Rattle.ghcn_files.specs.Months as months;
+
+use crate::missing::unless_missing;
+use crate::{Element, LineWhy, StationId};
+use ghcn_fields::{Field, int_field, is_blank};
+
+/// How many days a line has groups for.
+const DAYS: usize = 31;
+
+/// The columns of a group: five of the value, and three of one flag each.
+const GROUP: usize = 8;
+
+/// The place, from 0, where the groups begin.
+const FIRST_GROUP: usize = 21;
 
 /// One day's value and whether a quality check failed.
 #[derive(Clone, Copy, Debug, PartialEq, Eq)]
@@ -22,4 +40,118 @@ pub struct Month {
     pub month: u8,
     /// The group of each day of the month from 1, also of days that the month lacks.
     pub days: [Reading; 31],
+}
+
+/// Reads a line of a daily file that isn't blank: nothing where it is of none of the five elements.
+///
+/// The readme's line has 269 columns; that the last three, blanks of a day's flags, may be left out
+/// and that a value may be blank is this project's own leniency.
+pub fn read_month(line: &[u8]) -> Result<Option<Month>, LineWhy>
+    ensures value { result ≡ months.read_month line.now }
+    ensures ranges { IfOk result (λ found. IfSome found months.IsMonth) }
+{
+    if line.len() < 21 {
+        return Err(LineWhy::Short);
+    }
+    match Element::of_code(&line[17..21]) {
+        None => Ok(None),
+        Some(element) => Ok(Some(month_of(element, line)?)),
+    }
+}
+
+/// The month of a line of this element.
+fn month_of(element: Element, line: &[u8]) -> Result<Month, LineWhy>
+    ensures { result ≡ months.unless (months.month_why line.now) (months.month_of element line.now) }
+{
+    if line.len() < 266 {
+        return Err(LineWhy::Short);
+    }
+    if !ends_in_time(line) {
+        return Err(LineWhy::TooLong);
+    }
+    let Some(id) = StationId::of_line(line) else {
+        return Err(LineWhy::BadId);
+    };
+    let Some(year) = number_up_to(9999, &line[11..15]) else {
+        return Err(LineWhy::BadYear);
+    };
+    let Some(month) = number_up_to(12, &line[15..17]) else {
+        return Err(LineWhy::BadMonth);
+    };
+    let days = readings(line)?;
+    Ok(Month {
+        id,
+        element,
+        year,
+        month: month as u8,
+        days,
+    })
+}
+
+/// Whether only blanks follow the last column.
+fn ends_in_time(line: &[u8]) -> bool
+    ensures { result ≡ bytes.is_blank (drop 269 line.now) }
+{
+    line.len() <= 269 || is_blank(&line[269..])
+}
+
+/// The whole number of a field, where it has one from 1 to a limit.
+fn number_up_to(limit: u16, field: &[u8]) -> Option<u16>
+    ensures value { let found = numbers.int_field field.now in
+        result ≡ (if stations.is_number_within (pos 1) (pos limit) found
+        then Some (unsigned_abs (stations.number_of found)) else None) }
+    ensures range { IfSome result (λ number. (1 ≤ number) × (number ≤ limit)) }
+{
+    match int_field(field) {
+        Field::Number(number) if 1 <= number && number <= limit as i32 => Some(number as u16),
+        _ => None,
+    }
+}
+
+/// What a line says of each day, or which day's value, the first such one, is no number.
+fn readings(line: &[u8]) -> Result<[Reading; 31], LineWhy>
+    requires { 266 ≤ length line.now }
+    ensures { result ≡ months.unless
+        (first_failing (map (months.value_test line.now) months.days_of_group))
+        (map (months.reading line.now) months.days_of_group) }
+{
+    let mut days = [Reading {
+        value: None,
+        flagged: false,
+    }; DAYS];
+    for day in 0..DAYS {
+        match reading_of(line, day) {
+            Some(reading) => days[day] = reading,
+            None => return Err(LineWhy::BadValue(day as u8 + 1)),
+        }
+    }
+    Ok(days)
+}
+
+/// What a line says of a day, from 0, unless its value is no number.
+fn reading_of(line: &[u8], day: usize) -> Option<Reading>
+    requires long { 266 ≤ length line.now }
+    requires day { day < 31 }
+    ensures { result ≡ (if stations.is_bad (months.value_field line.now (day + 1)) then None
+        else Some (months.reading line.now (day + 1))) }
+{
+    let start = FIRST_GROUP + GROUP * day;
+    match int_field(&line[start..start + 5]) {
+        Field::Bad => None,
+        field => Some(Reading {
+            value: unless_missing(field),
+            flagged: is_flagged(line, day),
+        }),
+    }
+}
+
+/// Whether the quality flag of a day, from 0, isn't a blank.
+fn is_flagged(line: &[u8], day: usize) -> bool
+    requires { day < 31 }
+    ensures { result ≡ months.is_flagged line.now (day + 1) }
+{
+    match line.get(FIRST_GROUP + GROUP * day + 6) {
+        Some(flag) => *flag != b' ',
+        None => false,
+    }
 }

@@ -1,0 +1,19 @@
+//! Missing numbers: the readme writes -9999 for one, and its fields may be blank.
+
+ghost use Rattle.std.specs.Prelude.{◌≡◌};
+ghost use Rattle.ghcn_files.specs.StationLines as stations;
+
+use ghcn_fields::Field;
+
+/// The number that stands for a missing one.
+const MISSING: i32 = -9999;
+
+/// The number of a field, where it has one and that isn't missing.
+pub(crate) fn unless_missing(field: Field) -> Option<i32>
+    ensures { result ≡ stations.unless_missing field }
+{
+    match field {
+        Field::Number(number) if number != MISSING => Some(number),
+        _ => None,
+    }
+}
