@@ -3,3 +3,4 @@ pub mod MonthDays
 pub mod SeenMonths
 pub mod DistinctDays
 pub mod SortedDays
+pub mod StationMonths

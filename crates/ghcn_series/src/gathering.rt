@@ -18,16 +18,19 @@ use std::collections::{BTreeMap, BTreeSet};
 /// The months of one station and element that were read, and their usable days in that order.
 #[derive(Drop)]
 pub(crate) struct Gathering {
+    element: Element,
     seen: BTreeSet<(u16, u8)>,
     days: Vec<(Day, i32)>,
 }
 
 impl Gathering {
-    /// Nothing yet.
-    pub(crate) fn new(alloc: Global) -> Self
-        ensures { gathered.IsGathering result [] }
+    /// Nothing of an element yet.
+    pub(crate) fn new(alloc: Global, element: Element) -> Self
+        ensures element { result.element ≡ element }
+        ensures empty { gathered.IsGathering result [] }
     {
         Gathering {
+            element,
             seen: BTreeSet::new(alloc),
             days: Vec::new(alloc),
         }
@@ -35,7 +38,8 @@ impl Gathering {
 
     /// Adds a month, or answers false where one of its time was added before.
     pub(crate) fn add(&mut self, month: &Month) -> Result<bool, Memory>
-        ensures { IfOk result (λ added. (before : List months.Month) → gathered.IsGathering self.old before →
+        ensures element { self.new.element ≡ self.old.element }
+        ensures added { IfOk result (λ added. (before : List months.Month) → gathered.IsGathering self.old before →
             (added ≡ not (list_any (gathered.same_time month.now) before))
             × OnTrue added (gathered.IsGathering self.new (before ++ month.now ∷ []))) }
     {
@@ -44,6 +48,13 @@ impl Gathering {
         }
         add_days(&mut self.days, month)?;
         Ok(true)
+    }
+
+    /// What is gathered.
+    pub(crate) fn element(&self) -> Element
+        ensures { result ≡ self.now.element }
+    {
+        self.element
     }
 
     /// Whether no usable day was added.

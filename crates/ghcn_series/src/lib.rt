@@ -7,7 +7,9 @@
 mod days;
 mod fault;
 mod gathering;
+mod reader;
 mod series;
+mod station;
 
 pub use days::Days;
 pub use fault::{DailyWhy, DataFault};

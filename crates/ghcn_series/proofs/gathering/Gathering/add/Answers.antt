@@ -8,12 +8,12 @@ not_false : (b : Bool) → true ≡ not b → b ≡ false
 not_false true e = absurd cc
 not_false false e = refl
 
-pub returns-then-not-branch : goal.returns-then-not-branch
-returns-then-not-branch c = λ before is.
+pub returns-then-not-branch-clause-added : goal.returns-then-not-branch-clause-added
+returns-then-not-branch-clause-added c = λ before is.
     (sym c.if-not-branch.true ∙ c.in_ok-insert.ensures.added ∙ ap not (is.seen (c.args.month.now.year, c.args.month.now.month)), tt)
 
-pub returns : goal.returns
-returns c = λ before is.
+pub returns-clause-added : goal.returns-clause-added
+returns-clause-added c = λ before is.
     let new : true ≡ not (contains time_cmp c.args.self.now.seen (c.args.month.now.year, c.args.month.now.month)) = sym c.if-not-branch.false ∙ c.in_ok-insert.ensures.added in (
       new ∙ ap not (is.seen (c.args.month.now.year, c.args.month.now.month)),
       gathering-more c.args.self.now _ c.args.month.now before is (not_false _ new) c.in_ok-insert.ensures.updates.0 c.in_ok-add_days.ensures,
