@@ -4,3 +4,5 @@ pub mod SeenMonths
 pub mod DistinctDays
 pub mod SortedDays
 pub mod StationMonths
+pub mod Places
+pub mod ReadMonths
