@@ -1,3 +1,4 @@
 pub mod Series
 pub mod DailyFaults
 pub mod Says
+pub mod Gathered

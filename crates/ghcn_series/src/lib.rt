@@ -6,7 +6,10 @@
 
 mod days;
 mod fault;
+mod gathering;
+mod reader;
 mod series;
+mod station;
 
 pub use days::Days;
 pub use fault::{DailyWhy, DataFault};

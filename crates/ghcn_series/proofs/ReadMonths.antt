@@ -1,0 +1,186 @@
+-- A reader that has read one month more.
+use Rattle.std.proofs.Common.{◌≡◌, ℕ, zero, suc, ◌+◌, ◌<◌, ◌≤◌, Bool, true, false, cond, not, List, [], ◌∷◌, ◌++◌, length, take, get_or, Option, None, Some, refl, sym, ap, ◌∙◌, arith, subst, add-one, add-zero, zero-add}
+use Rattle.std.specs.Prelude.{◌&&◌, ◌||◌}
+use Rattle.std.specs.Bool.{OnTrue}
+use Rattle.std.specs.Option.{SomeIff}
+use Rattle.std.specs.List.{list_any, slice_get, count_by, sum_by, AllZip, AllByRecursion, IsDistinct}
+use Rattle.std.proofs.Math.ListN.{set}
+use Rattle.std.proofs.lemmas.List.Folds.{list_any-append}
+use Rattle.std.proofs.lemmas.List.Sums.{sum_by-append}
+use Rattle.ghcn_files.specs.declared.station.StationId.{StationId}
+use Rattle.ghcn_files.specs.declared.station.Station.{Station}
+use Rattle.ghcn_files.specs.declared.element.Element.{Element}
+use Rattle.ghcn_files.specs.declared.month.Month.{Month}
+use Rattle.ghcn_files.specs.Ids.{same_id}
+use Rattle.ghcn_files.specs.Elements.{elements, same_element}
+use Rattle.ghcn_files.specs.Listed.{is_station_of, place_of, AreListed}
+use Rattle.ghcn_files.specs.Months.{IsMonth}
+use Rattle.ghcn_series.specs.declared.gathering.Gathering.{Gathering}
+use Rattle.ghcn_series.specs.declared.station.StationGathering.{StationGathering}
+use Rattle.ghcn_series.specs.declared.reader.Reader.{Reader}
+use Rattle.ghcn_series.specs.DailyFaults.{same_month, is_listed}
+use Rattle.ghcn_series.specs.Gathered.{IsGatheringOf, AreByElement, IsStationOf, HasRead}
+use Rattle.ghcn_series.proofs.StationMonths.{gathering-other}
+use Rattle.ghcn_series.proofs.Places.{ids, from_ids, IsAt, listed-is, same_id-is, same_id-refl, same_id-turned}
+
+other_zip : (before : List Month) (m : Month) (id : StationId) (gs : List Gathering) (es : List Element) → same_id m.id id ≡ false → AllZip (IsGatheringOf before id) gs es → AllZip (IsGatheringOf (before ++ m ∷ []) id) gs es
+other_zip before m id [] [] other is = tt
+other_zip before m id [] (e ∷ es) other is = absurd is
+other_zip before m id (g ∷ gs) [] other is = absurd is
+other_zip before m id (g ∷ gs) (e ∷ es) other is =
+    (gathering-other before m id g e (ap (λ (b : Bool). b && same_element m.element e) other) is.0, other_zip before m id gs es other is.1)
+
+none_more : (before : List Month) (m : Month) (id : StationId) → same_id m.id id ≡ false → list_any (λ x. same_id x.id id) before ≡ false → list_any (λ x. same_id x.id id) (before ++ m ∷ []) ≡ false
+none_more before m id other none =
+    list_any-append (λ x. same_id x.id id) before (m ∷ [])
+    ∙ ap (λ (b : Bool). b || (same_id m.id id || false)) none
+    ∙ ap (λ (b : Bool). b || false) other
+
+-- a month of another station changes no gathering of a station
+station-other : (before : List Month) (m : Month) (s : Station) (g : StationGathering) → same_id m.id s.id ≡ false → IsStationOf before s g → IsStationOf (before ++ m ∷ []) s g
+station-other before m s g other is =
+    let apart : same_id m.id g.id ≡ false = ap (same_id m.id) is.id ∙ other in
+    record { id = is.id; holds = kept g.by_element.items apart is.holds }
+  where
+  kept : (gs : List Gathering) → same_id m.id g.id ≡ false → AreByElement before g.id gs → AreByElement (before ++ m ∷ []) g.id gs
+  kept [] apart holds = none_more before m g.id apart holds
+  kept (x ∷ xs) apart holds = other_zip before m g.id (x ∷ xs) elements apart holds
+
+stations-other : (before : List Month) (m : Month) (ss : List Station) (gs : List StationGathering) → AllByRecursion (λ i. same_id m.id i ≡ false) (ids ss) → AllZip (IsStationOf before) ss gs → AllZip (IsStationOf (before ++ m ∷ [])) ss gs
+stations-other before m [] [] other is = tt
+stations-other before m [] (g ∷ gs) other is = absurd is
+stations-other before m (s ∷ ss) [] other is = absurd is
+stations-other before m (s ∷ ss) (g ∷ gs) other is = (station-other before m s g other.0 is.0, stations-other before m ss gs other.1 is.1)
+
+-- a month more of the station at a place
+pub put_station : (before : List Month) (m : Month) (ss : List Station) (gs : List StationGathering) (k : ℕ) (s : Station) (g new : StationGathering) → IsDistinct same_id (ids ss) → slice_get ss k ≡ Some s → s.id ≡ m.id
+    → AllZip (IsStationOf before) ss gs → g ≡ get_or gs k g → new.id ≡ g.id → (IsStationOf before s g → AreByElement (before ++ m ∷ []) g.id new.by_element.items)
+    → AllZip (IsStationOf (before ++ m ∷ [])) ss (set gs k new)
+unfolding IsDistinct
+put_station before m [] gs k s g new apart at of is here same more = absurd cc
+put_station before m (x ∷ xs) [] k s g new apart at of is here same more = absurd is
+put_station before m (x ∷ xs) (y ∷ ys) zero s g new apart at of is here same more =
+    let this : x ≡ s = cc in
+    let P : StationGathering → Type 0 = λ h. IsStationOf before x h in
+    let Q : Station → Type 0 = λ z. IsStationOf before z g in
+    let was : IsStationOf before s g = subst Q this (subst P (sym here) is.0) in
+    let R : StationId → Type 0 = λ i. AreByElement (before ++ m ∷ []) i new.by_element.items in
+    let S : StationId → Type 0 = λ i. AllByRecursion (λ j. same_id i j ≡ false) (ids xs) in
+    (record { id = same ∙ was.id ∙ ap (λ (z : Station). z.id) (sym this); holds = subst R (sym same) (more was) },
+      stations-other before m xs ys (subst S (ap (λ (z : Station). z.id) this ∙ of) apart.0) is.1)
+put_station before m (x ∷ xs) (y ∷ ys) (suc k) s g new apart at of is here same more =
+    let other : same_id m.id x.id ≡ false = same_id-turned m.id x.id ∙ ap (same_id x.id) (sym of) ∙ from_ids (λ i. same_id x.id i ≡ false) xs k s apart.0 at in
+    (station-other before m x y other is.0, put_station before m xs ys k s g new apart.1 at of is.1 here same more)
+
+-- how many months of stations that aren't listed there are
+abbrev pub unlisted_months : List Station → List Month → ℕ
+unlisted_months stations months = count_by (λ m. not (is_listed stations m.id)) months
+
+count_more : (stations : List Station) (before : List Month) (m : Month) (b : Bool) → is_listed stations m.id ≡ b → unlisted_months stations (before ++ m ∷ []) ≡ unlisted_months stations before + cond (not b) 1 0
+count_more stations before m b is =
+    sum_by-append (λ x. cond (not (is_listed stations x.id)) 1 0) before (m ∷ [])
+    ∙ ap (λ (c : Bool). unlisted_months stations before + (0 + cond (not c) 1 0)) is
+    ∙ ap (λ (n : ℕ). unlisted_months stations before + n) (zero-add (cond (not b) 1 0))
+
+both_right : (before : List Month) (m : Month) → AllByRecursion IsMonth before → IsMonth m → AllByRecursion IsMonth (before ++ m ∷ [])
+both_right [] m all right = (right, tt)
+both_right (x ∷ xs) m all right = (all.0, both_right xs m all.1 right)
+
+-- a month of a listed station is read
+pub read-listed : (old new : Reader) (m : Month) (k : ℕ) (g now : StationGathering) (added : Bool) → place_of old.stations m.id ≡ Some k → g ≡ get_or old.gathered.items k g → now.id ≡ g.id
+    → ((before : List Month) → m.id ≡ g.id → AreByElement before g.id g.by_element.items → (added ≡ not (list_any (same_month m) before)) × OnTrue added (AreByElement (before ++ m ∷ []) g.id now.by_element.items))
+    → new.stations ≡ old.stations → new.unlisted ≡ old.unlisted → new.gathered.items ≡ set old.gathered.items k now
+    → (before : List Month) → IsMonth m → HasRead old before
+    → (added ≡ not (is_listed old.stations m.id && list_any (same_month m) before)) × OnTrue added (HasRead new (before ++ m ∷ []))
+read-listed old new m k g now added place here same adds stations unlisted gathered before right is =
+    let at = listed-is old.stations m.id k place in
+    let station = station_of old.stations old.gathered.items k at.0.0 is.gathered at.0.1 here in
+    let of : m.id ≡ g.id = sym (station.id ∙ at.0.2) in
+    let told = adds before of station.holds in
+    (told.0 ∙ ap (λ (b : Bool). not (b && list_any (same_month m) before)) (sym at.1), on_true added told.1)
+  where
+  station_of : (ss : List Station) (gs : List StationGathering) (k : ℕ) (s : Station) → AllZip (IsStationOf before) ss gs → slice_get ss k ≡ Some s → g ≡ get_or gs k g → IsStationOf before s g
+  station_of [] gs k s all at here = absurd cc
+  station_of (x ∷ xs) [] k s all at here = absurd all
+  station_of (x ∷ xs) (y ∷ ys) zero s all at here =
+      let this : x ≡ s = cc in
+      let P : StationGathering → Type 0 = λ h. IsStationOf before x h in
+      let Q : Station → Type 0 = λ z. IsStationOf before z g in
+      subst Q this (subst P (sym here) all.0)
+  station_of (x ∷ xs) (y ∷ ys) (suc k) s all at here = station_of xs ys k s all.1 at here
+
+  on_true : (b : Bool) → OnTrue b (AreByElement (before ++ m ∷ []) g.id now.by_element.items) → OnTrue b (HasRead new (before ++ m ∷ []))
+  on_true true holds =
+      let at = listed-is old.stations m.id k place in
+      let P : List Station → Type 0 = AreListed in
+      let Q : List Station → List StationGathering → Type 0 = λ ss gs. AllZip (IsStationOf (before ++ m ∷ [])) ss gs in
+      let put = put_station before m old.stations old.gathered.items k at.0.0 g now is.listed.distinct at.0.1 at.0.2 is.gathered here same (λ _. holds) in
+      record {
+        listed = subst P (sym stations) is.listed;
+        right = both_right before m is.right right;
+        unlisted =
+            unlisted ∙ is.unlisted ∙ sym (add-zero (unlisted_months old.stations before)) ∙ sym (count_more old.stations before m true at.1)
+            ∙ ap (λ (ss : List Station). unlisted_months ss (before ++ m ∷ [])) (sym stations);
+        gathered = subst (λ ss. Q ss new.gathered.items) (sym stations) (subst (Q old.stations) (sym gathered) put);
+      }
+  on_true false holds = tt
+
+-- a month of a station that isn't listed is passed over and counted
+pub read-unlisted : (old new : Reader) (m : Month) → is_listed old.stations m.id ≡ false → new.stations ≡ old.stations → new.gathered.items ≡ old.gathered.items → new.unlisted ≡ old.unlisted + 1
+    → (before : List Month) → IsMonth m → HasRead old before
+    → (true ≡ not (is_listed old.stations m.id && list_any (same_month m) before)) × HasRead new (before ++ m ∷ [])
+read-unlisted old new m none stations gathered unlisted before right is =
+    let P : List Station → Type 0 = AreListed in
+    let Q : List Station → List StationGathering → Type 0 = λ ss gs. AllZip (IsStationOf (before ++ m ∷ [])) ss gs in
+    let kept = stations-other before m old.stations old.gathered.items (apart old.stations none) is.gathered in
+    (ap (λ (b : Bool). not (b && list_any (same_month m) before)) (sym none), record {
+      listed = subst P (sym stations) is.listed;
+      right = both_right before m is.right right;
+      unlisted =
+          unlisted ∙ ap (λ (n : ℕ). n + 1) is.unlisted ∙ sym (count_more old.stations before m false none)
+          ∙ ap (λ (ss : List Station). unlisted_months ss (before ++ m ∷ [])) (sym stations);
+      gathered = subst (λ ss. Q ss new.gathered.items) (sym stations) (subst (Q old.stations) (sym gathered) kept);
+    })
+  where
+  neither : (a b : Bool) → (a || b) ≡ false → (a ≡ false) × (b ≡ false)
+  neither true b e = absurd cc
+  neither false b e = (refl, e)
+
+  apart : (ss : List Station) → is_listed ss m.id ≡ false → AllByRecursion (λ i. same_id m.id i ≡ false) (ids ss)
+  apart [] none = tt
+  apart (x ∷ xs) none =
+      let both = neither (same_id x.id m.id) (is_listed xs m.id) none in
+      (same_id-turned m.id x.id ∙ both.0, apart xs both.1)
+
+-- one station more, of which nothing was read
+pub station-new : (ss : List Station) (gs : List StationGathering) (k : ℕ) (s : Station) (g : StationGathering) → slice_get ss k ≡ Some s → g.id ≡ s.id → g.by_element.items ≡ [] → AllZip (IsStationOf []) (take k ss) gs → AllZip (IsStationOf []) (take (suc k) ss) (gs ++ g ∷ [])
+station-new [] gs k s g at id empty all = absurd cc
+station-new (x ∷ xs) [] zero s g at id empty all =
+    let this : x ≡ s = cc in
+    let P : List Gathering → Type 0 = AreByElement [] g.id in
+    (record { id = id ∙ ap (λ (z : Station). z.id) (sym this); holds = subst P (sym empty) refl }, tt)
+station-new (x ∷ xs) (y ∷ ys) zero s g at id empty all = absurd all
+station-new (x ∷ xs) [] (suc k) s g at id empty all = absurd all
+station-new (x ∷ xs) (y ∷ ys) (suc k) s g at id empty all = (all.0, station-new xs ys k s g at id empty all.1)
+
+-- past the last station all are taken
+pub all_taken : (ss : List Station) (k : ℕ) → slice_get ss k ≡ None → take k ss ≡ ss
+all_taken [] zero none = refl
+all_taken [] (suc k) none = refl
+all_taken (x ∷ xs) zero none = absurd cc
+all_taken (x ∷ xs) (suc k) none = ap (λ (ss : List Station). x ∷ ss) (all_taken xs k none)
+
+length-gathered : (months : List Month) (ss : List Station) (gs : List StationGathering) → AllZip (IsStationOf months) ss gs → length ss ≡ length gs
+length-gathered months [] [] all = refl
+length-gathered months [] (g ∷ gs) all = absurd all
+length-gathered months (s ∷ ss) [] all = absurd all
+length-gathered months (s ∷ ss) (g ∷ gs) all = ap suc (length-gathered months ss gs all.1)
+
+-- a listed station has its gathering
+pub within_gathered : (months : List Month) (r : Reader) (id : StationId) (k : ℕ) → HasRead r months → place_of r.stations id ≡ Some k → k < length r.gathered.items
+within_gathered months r id k is place = omega (arith, (listed-is r.stations id k place).2, length-gathered months r.stations r.gathered.items is.gathered)
+
+-- the number where there is one
+pub some_number : (o : Option ℕ) (P : Type 0) (n k : ℕ) → SomeIff o P n → o ≡ Some k → k ≡ n
+some_number None P n k is e = absurd cc
+some_number (Some x) P n k is e = let same : x ≡ k = cc in sym same ∙ is.1

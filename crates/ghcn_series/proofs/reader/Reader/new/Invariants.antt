@@ -1,0 +1,14 @@
+use Rattle.std.proofs.Common.{◌≡◌, ◌-◌, ◌≤◌, [], List, length, take}
+use Rattle.std.specs.List.{AllZip}
+use Rattle.ghcn_files.specs.declared.station.Station.{Station}
+use Rattle.ghcn_series.specs.Gathered.{IsStationOf}
+use Rattle.ghcn_series.proofs.reader.Reader.new.Given as goal
+
+abbrev pub invariant-loop-station : goal.invariant-loop-station
+invariant-loop-station l = record {
+  within : l.place ≤ length l.fn.stations;
+  gathered : AllZip (IsStationOf []) (take l.place l.fn.stations) l.gathered.items;
+}
+
+abbrev pub decreases-loop-station : goal.decreases-loop-station
+decreases-loop-station l = length l.fn.stations - l.place

@@ -1,0 +1,78 @@
+-- What has been gathered after some lines, of one station and element and of all of them.
+use Rattle.std.specs.Prelude.{◌≡◌, ℕ, ◌==◌, Bool, false, not, ◌&&◌, ◌||◌, if◌then◌else◌, List, [], ◌∷◌, Option, None, Some, filter, pos, int_le}
+use Rattle.std.specs.List.{list_any, filter_map, flat_map, enumerate_from, count_by, IsDistinct, AllZip, AllByRecursion}
+use Rattle.std.specs.Option.{option_and_then}
+use Rattle.std.specs.declared.cmp.Ordering.{Ordering}
+use Rattle.std.specs.Ordering.{nat_cmp, ordering_then}
+use Rattle.std.specs.BTreeSet.{contains}
+use Rattle.ghcn_files.specs.declared.station.StationId.{StationId}
+use Rattle.ghcn_files.specs.declared.element.Element.{Element}
+use Rattle.ghcn_files.specs.declared.month.Month.{Month}
+use Rattle.ghcn_files.specs.declared.month.Reading.{Reading}
+use Rattle.ghcn_files.specs.Ids.{same_id}
+use Rattle.ghcn_files.specs.Elements.{elements, same_element, may_be_negative}
+use Rattle.ghcn_files.specs.declared.station.Station.{Station}
+use Rattle.ghcn_files.specs.Listed.{AreListed}
+use Rattle.ghcn_files.specs.Months.{IsMonth}
+use Rattle.ghcn_series.specs.declared.gathering.Gathering.{Gathering}
+use Rattle.ghcn_series.specs.declared.station.StationGathering.{StationGathering}
+use Rattle.ghcn_series.specs.declared.reader.Reader.{Reader}
+use Rattle.ghcn_series.specs.Series.{DayValue}
+use Rattle.ghcn_series.specs.DailyFaults.{is_listed}
+use Rattle.ghcn_series.specs.Says.{Fact, fact_of}
+
+-- the day and the value of a fact, where its element can have the value
+abbrev pub counted : Fact → Option DayValue
+counted f = if may_be_negative f.element || int_le (pos 0) f.value then Some (f.day, f.value) else None
+
+-- a day of a month, by its place in the month and its reading, with its value, where that counts
+abbrev pub usable_day : Month → ℕ × Reading → Option DayValue
+usable_day m x = option_and_then counted (fact_of m x)
+
+-- the days of a month whose values count
+abbrev pub usable_days : Month → List DayValue
+usable_days m = filter_map (usable_day m) (enumerate_from 1 m.days)
+
+-- two months have the same year and month of the year
+abbrev pub same_time : Month → Month → Bool
+same_time a b = (a.year == b.year) && (a.month == b.month)
+
+-- years and months of the year in their order
+abbrev pub time_cmp : ℕ × ℕ → ℕ × ℕ → Ordering
+time_cmp a b = ordering_then (nat_cmp a.0 b.0) (nat_cmp a.1 b.1)
+
+-- the month has this year and month of the year
+abbrev pub is_at_time : ℕ × ℕ → Month → Bool
+is_at_time t m = (t.0 == m.year) && (t.1 == m.month)
+
+-- the gathering has these months: no two of one time, and the days of all of them
+pub record IsGathering (g : Gathering) (months : List Month) : Type 0 where
+  pub seen : (t : ℕ × ℕ) → contains time_cmp g.seen t ≡ list_any (is_at_time t) months
+  pub days : g.days.items ≡ flat_map usable_days months
+  pub distinct : IsDistinct same_time months
+
+-- the months of a station and element
+abbrev pub months_of : List Month → StationId → Element → List Month
+months_of months id e = filter (λ m. same_id m.id id && same_element m.element e) months
+
+-- the gathering has what these months say of a station and element
+pub record IsGatheringOf (months : List Month) (id : StationId) (g : Gathering) (e : Element) : Type 0 where
+  pub element : g.element ≡ e
+  pub holds : IsGathering g (months_of months id e)
+
+-- gatherings by element have what these months say of a station; where there are none, the station has no month
+abbrev pub AreByElement : List Month → StationId → List Gathering → Type 0
+AreByElement months id [] = list_any (λ m. same_id m.id id) months ≡ false
+AreByElement months id (g ∷ gs) = AllZip (IsGatheringOf months id) (g ∷ gs) elements
+
+-- a station's gathering has what these months say of it
+pub record IsStationOf (months : List Month) (s : Station) (g : StationGathering) : Type 0 where
+  pub id : g.id ≡ s.id
+  pub holds : AreByElement months g.id g.by_element.items
+
+-- a reader has read these months, none of them before
+pub record HasRead (r : Reader) (months : List Month) : Type 0 where
+  pub listed : AreListed r.stations
+  pub right : AllByRecursion IsMonth months
+  pub unlisted : r.unlisted ≡ count_by (λ m. not (is_listed r.stations m.id)) months
+  pub gathered : AllZip (IsStationOf months) r.stations r.gathered.items

@@ -1,0 +1,122 @@
+//! What the lines of one station and element say, gathered while the files are read.
+
+ghost use Rattle.std.specs.Prelude.{◌≡◌, ◌+◌, ◌<◌, ◌==◌, ◌++◌, ◌∷◌, [], List, length, Some, not, ◌||◌, int_le, pos, IfOk, OnOk};
+ghost use Rattle.std.specs.Bool.{OnTrue};
+ghost use Rattle.std.specs.List.{list_any, flat_map};
+ghost use Rattle.jiff_core.specs.Calendar as calendar;
+ghost use Rattle.ghcn_fields.specs.Days.{day_number};
+ghost use Rattle.ghcn_fields.specs.Sorting.{sorted_by};
+ghost use Rattle.ghcn_files.specs.Elements as elements;
+ghost use Rattle.ghcn_files.specs.declared.month.Month as months;
+ghost use Rattle.ghcn_series.specs.Gathered as gathered;
+
+use ghcn_fields::{Day, Memory, days_in_month};
+use ghcn_files::{Element, Month, Reading};
+use std::alloc::Global;
+use std::collections::{BTreeMap, BTreeSet};
+
+/// The months of one station and element that were read, and their usable days in that order.
+#[derive(Drop)]
+pub(crate) struct Gathering {
+    element: Element,
+    seen: BTreeSet<(u16, u8)>,
+    days: Vec<(Day, i32)>,
+}
+
+impl Gathering {
+    /// Nothing of an element yet.
+    pub(crate) fn new(alloc: Global, element: Element) -> Self
+        ensures element { result.element ≡ element }
+        ensures empty { gathered.IsGathering result [] }
+    {
+        Gathering {
+            element,
+            seen: BTreeSet::new(alloc),
+            days: Vec::new(alloc),
+        }
+    }
+
+    /// Adds a month, or answers false where one of its time was added before.
+    pub(crate) fn add(&mut self, month: &Month) -> Result<bool, Memory>
+        ensures element { self.new.element ≡ self.old.element }
+        ensures added { IfOk result (λ added. (before : List months.Month) → gathered.IsGathering self.old before →
+            (added ≡ not (list_any (gathered.same_time month.now) before))
+            × OnTrue added (gathered.IsGathering self.new (before ++ month.now ∷ []))) }
+    {
+        if !self.seen.insert((month.year, month.month))? {
+            return Ok(false);
+        }
+        add_days(&mut self.days, month)?;
+        Ok(true)
+    }
+
+    /// What is gathered.
+    pub(crate) fn element(&self) -> Element
+        ensures { result ≡ self.now.element }
+    {
+        self.element
+    }
+
+    /// Whether no usable day was added.
+    pub(crate) fn is_empty(&self) -> bool
+        ensures { (months : List months.Month) → gathered.IsGathering self.now months →
+            result ≡ (length (flat_map gathered.usable_days months) == 0) }
+    {
+        self.days.is_empty()
+    }
+
+    /// The usable days that were added, by increasing day.
+    pub(crate) fn into_days(self, alloc: Global) -> Result<BTreeMap<Day, i32>, Memory>
+        ensures { IfOk result (λ days. (months : List months.Month) → gathered.IsGathering self months →
+            days.entries ≡ sorted_by (λ a b. int_le a.0 b.0) (flat_map gathered.usable_days months)) }
+    {
+        Ok(self.days.into_iter().collect(alloc)?)
+    }
+}
+
+/// Adds the usable days of a month.
+fn add_days(days: &mut Vec<(Day, i32)>, month: &Month) -> Result<(), Memory>
+    ensures { OnOk result (days.new.items ≡ days.old.items ++ gathered.usable_days month.now) }
+{
+    let Some(first) = Day::of(month.year, month.month, 1) else {
+        return Ok(());
+    };
+    let length = days_in_month(month.year, month.month) as usize;
+    for (index, reading) in month.days.iter().enumerate() {
+        if let Some(day) = usable_day(month, first, length, index, *reading) {
+            days.push(day)?;
+        }
+    }
+    Ok(())
+}
+
+/// The day of a month at a place, from 0, with what was read there, if that is usable.
+fn usable_day(
+    month: &Month,
+    first: Day,
+    length: usize,
+    index: usize,
+    reading: Reading,
+) -> Option<(Day, i32)>
+    requires first { day_number month.now.year month.now.month 1 ≡ Some first }
+    requires length { length ≡ calendar.days_in_month (pos month.now.year) month.now.month }
+    requires index { index < 31 }
+    ensures { result ≡ gathered.usable_day month.now (index + 1, reading) }
+{
+    if index >= length || reading.flagged {
+        return None;
+    }
+    let value = reading.value?;
+    if !is_possible(month.element, value) {
+        return None;
+    }
+    let day = first.after(index as u32)?;
+    Some((day, value))
+}
+
+/// Whether an element can have a value: only temperatures are negative.
+fn is_possible(element: Element, value: i32) -> bool
+    ensures { result ≡ (elements.may_be_negative element || int_le (pos 0) value) }
+{
+    value >= 0 || matches!(element, Element::Tmax | Element::Tmin)
+}

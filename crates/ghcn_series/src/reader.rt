@@ -1,0 +1,80 @@
+//! Reads the lines of daily files one after another.
+
+ghost use Rattle.std.specs.Prelude.{◌≡◌, ◌++◌, ◌∷◌, [], ◌&&◌, List, not, Some, IfOk};
+ghost use Rattle.std.specs.Bool.{OnTrue};
+ghost use Rattle.std.specs.List.{list_any};
+ghost use Rattle.ghcn_files.specs.Listed.{AreListed, place_of};
+ghost use Rattle.ghcn_files.specs.Months.{IsMonth};
+ghost use Rattle.ghcn_files.specs.declared.month.Month as months;
+ghost use Rattle.ghcn_series.specs.DailyFaults.{same_month, is_listed};
+ghost use Rattle.ghcn_series.specs.Gathered.{HasRead};
+
+use crate::station::StationGathering;
+use ghcn_fields::Memory;
+use ghcn_files::{Month, StationId, Stations};
+use std::alloc::Global;
+
+/// What was read so far.
+#[derive(Drop)]
+pub(crate) struct Reader {
+    stations: Stations,
+    /// Of each listed station, in their order.
+    gathered: Vec<StationGathering>,
+    /// The place of the station of the line before, where lines of a station mostly come together.
+    last: usize,
+    /// How many months of stations that aren't listed were passed over.
+    unlisted: u64,
+}
+
+impl Reader {
+    /// Nothing read yet.
+    pub(crate) fn new(alloc: Global, stations: Stations) -> Result<Self, Memory>
+        ensures { IfOk result (λ reader. (reader.stations ≡ stations) × HasRead reader []) }
+    {
+        let mut gathered = Vec::with_capacity(alloc, stations.len() as usize)?;
+        let mut place = 0;
+        while let Some(station) = stations.at(place) {
+            gathered.push(StationGathering::new(alloc, station.id))?;
+            place += 1;
+        }
+        Ok(Reader {
+            stations,
+            gathered,
+            last: 0,
+            unlisted: 0,
+        })
+    }
+
+    /// Adds a month, or answers false where its station is listed and has that month already.
+    pub(crate) fn add_month(&mut self, alloc: Global, month: &Month) -> Result<bool, Memory>
+        ensures stations { self.new.stations ≡ self.old.stations }
+        ensures added { IfOk result (λ added. (before : List months.Month) → IsMonth month.now → HasRead self.old before →
+            (added ≡ not (is_listed self.old.stations month.now.id && list_any (same_month month.now) before))
+            × OnTrue added (HasRead self.new (before ++ month.now ∷ []))) }
+    {
+        match self.place(&month.id) {
+            Some(place) if place < self.gathered.len() => {
+                self.last = place;
+                self.gathered[place].add(alloc, month)
+            }
+            _ => {
+                // More months than 64 bits count are no more than memory can't hold.
+                self.unlisted = self.unlisted.checked_add(1).ok_or(Memory)?;
+                Ok(true)
+            }
+        }
+    }
+
+    /// The place of a station in the list.
+    fn place(&self, id: &StationId) -> Option<usize>
+        ensures { AreListed self.now.stations → result ≡ place_of self.now.stations id.now }
+    {
+        match self.stations.at(self.last as u64) {
+            Some(station) if station.id == *id => Some(self.last),
+            _ => {
+                let place = self.stations.place(id)?;
+                Some(place as usize)
+            }
+        }
+    }
+}

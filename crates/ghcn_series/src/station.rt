@@ -1,0 +1,96 @@
+//! What the lines of one station say, by element.
+
+ghost use Rattle.std.specs.Prelude.{◌≡◌, ◌++◌, ◌∷◌, [], List, length, map, not, IfOk, OnOk};
+ghost use Rattle.std.specs.Bool.{OnTrue};
+ghost use Rattle.std.specs.List.{list_any, AllByRecursion, AllZip};
+ghost use Rattle.ghcn_files.specs.Elements.{elements, element_index};
+ghost use Rattle.ghcn_files.specs.declared.month.Month as months;
+ghost use Rattle.ghcn_series.specs.DailyFaults.{same_month};
+ghost use Rattle.ghcn_series.specs.Gathered as gathered;
+
+use crate::gathering::Gathering;
+use ghcn_fields::Memory;
+use ghcn_files::{Element, Month, StationId};
+use std::alloc::Global;
+
+/// The elements in the order in which a station's series are kept.
+const ELEMENTS: [Element; 5] = [
+    Element::Prcp,
+    Element::Snow,
+    Element::Snwd,
+    Element::Tmax,
+    Element::Tmin,
+];
+
+/// The months of one station that were read: five gatherings in the order of the elements once it
+/// has a month, and none before.
+#[derive(Drop)]
+pub(crate) struct StationGathering {
+    id: StationId,
+    by_element: Vec<Gathering>,
+}
+
+impl StationGathering {
+    /// Nothing of a station yet.
+    pub(crate) fn new(alloc: Global, id: StationId) -> Self
+        ensures id { result.id ≡ id }
+        ensures empty { result.by_element.items ≡ [] }
+    {
+        StationGathering {
+            id,
+            by_element: Vec::new(alloc),
+        }
+    }
+
+    /// Adds a month of the station, or answers false where that month was added before.
+    pub(crate) fn add(&mut self, alloc: Global, month: &Month) -> Result<bool, Memory>
+        ensures id { self.new.id ≡ self.old.id }
+        ensures added { IfOk result (λ added. (before : List months.Month) → month.now.id ≡ self.old.id →
+            gathered.AreByElement before self.old.id self.old.by_element.items →
+            (added ≡ not (list_any (same_month month.now) before))
+            × OnTrue added (gathered.AreByElement (before ++ month.now ∷ []) self.old.id self.new.by_element.items)) }
+    {
+        self.open(alloc)?;
+        self.by_element[place_of(month.element)].add(month)
+    }
+
+    /// Makes the five gatherings where there are none yet.
+    fn open(&mut self, alloc: Global) -> Result<(), Memory>
+        ensures id { self.new.id ≡ self.old.id }
+        ensures number { OnOk result (length self.new.by_element.items ≡ 5) }
+        ensures same { OnOk result ((before : List months.Month) →
+            gathered.AreByElement before self.old.id self.old.by_element.items →
+            AllZip (gathered.IsGatheringOf before self.old.id) self.new.by_element.items elements) }
+    {
+        if self.by_element.len() != ELEMENTS.len() {
+            self.by_element = nothing_by_element(alloc)?;
+        }
+        Ok(())
+    }
+}
+
+/// Five gatherings of nothing, in the order of the elements.
+fn nothing_by_element(alloc: Global) -> Result<Vec<Gathering>, Memory>
+    ensures number { IfOk result (λ five. length five.items ≡ 5) }
+    ensures elements { IfOk result (λ five. map (λ g. g.element) five.items ≡ elements) }
+    ensures empty { IfOk result (λ five. AllByRecursion (λ g. gathered.IsGathering g []) five.items) }
+{
+    let mut five = Vec::with_capacity(alloc, ELEMENTS.len())?;
+    for element in ELEMENTS {
+        five.push(Gathering::new(alloc, element))?;
+    }
+    Ok(five)
+}
+
+/// An element's place among the five.
+fn place_of(element: Element) -> usize
+    ensures { result ≡ element_index element }
+{
+    match element {
+        Element::Prcp => 0,
+        Element::Snow => 1,
+        Element::Snwd => 2,
+        Element::Tmax => 3,
+        Element::Tmin => 4,
+    }
+}
