@@ -4,6 +4,7 @@
 //! station and the month.
 #![tactic(auto)]
 
+mod columns;
 mod element;
 mod fault;
 mod missing;

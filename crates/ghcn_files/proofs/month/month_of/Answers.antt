@@ -5,7 +5,8 @@ use Rattle.ghcn_files.specs.declared.month.Month.{Month}
 use Rattle.ghcn_files.specs.declared.fault.LineWhy.{LineWhy}
 use Rattle.ghcn_files.specs.StationLines.{number_of}
 use Rattle.ghcn_files.specs.Months.{unless, month_of}
-use Rattle.ghcn_files.proofs.Months.{Tested, month_why-tested, month_of-parts, year_slice, month_slice, test_held, test_failed, unless_ok, unless_err, err_given}
+use Rattle.ghcn_files.proofs.Errors.{err_given}
+use Rattle.ghcn_files.proofs.Months.{Tested, month_why-tested, month_of-parts, year_slice, month_slice, test_held, test_failed, unless_ok, unless_err}
 use Rattle.ghcn_files.proofs.month.month_of.Goals as goal
 
 pub returns-in_default-number_up_to : goal.returns-in_default-number_up_to
