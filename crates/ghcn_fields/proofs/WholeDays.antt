@@ -19,7 +19,8 @@ record IsYearAndRest (first last n : ℕ) (r : ℕ × ℕ) : Type 0 where
   rest : r.1 < days_in_year (pos r.0)
   whole : n + day_count (pos first) 1 1 ≡ day_count (pos r.0) 1 1 + r.1
 
-years_taken : (more first n : ℕ) → n + day_count (pos first) 1 1 < day_count (pos (first + more + 1)) 1 1 → IsYearAndRest first (first + more) n (year_and_rest more first n)
+years_taken : (more first n : ℕ) → n + day_count (pos first) 1 1 < day_count (pos (first + more + 1)) 1 1
+    → IsYearAndRest first (first + more) n (year_and_rest more first n)
 years_taken zero first n lt =
     let next = day_count-next_year (pos first) (pos (first + 0 + 1)) (omega (arith, signed_arith)) (omega (arith, signed_arith)) in
     rw (year-zero first n) (record { from = omega arith; to = omega arith; rest = omega (arith, next, lt); whole = omega arith })
@@ -40,7 +41,9 @@ record IsMonthAndDay (year first last n : ℕ) (r : ℕ × ℕ) : Type 0 where
   high : r.1 ≤ days_in_month (pos year) r.0
   whole : n + days_of_months (pos year) (first - 1) + 1 ≡ days_of_months (pos year) (r.0 - 1) + r.1
 
-months_taken : (more year first n : ℕ) → 1 ≤ first → n + days_of_months (pos year) (first - 1) < days_of_months (pos year) (first + more) → IsMonthAndDay year first (first + more) n (month_and_day more year first n)
+months_taken : (more year first n : ℕ) → 1 ≤ first
+    → n + days_of_months (pos year) (first - 1) < days_of_months (pos year) (first + more)
+    → IsMonthAndDay year first (first + more) n (month_and_day more year first n)
 months_taken zero year first n low lt =
     let more = days_of_months_more (pos year) first low in
     let same : days_of_months (pos year) (first + 0) ≡ days_of_months (pos year) first = ap (days_of_months (pos year)) (omega arith) in
