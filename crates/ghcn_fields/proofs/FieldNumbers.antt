@@ -1,5 +1,5 @@
 -- Which number a field has, and when it is blank.
-use Rattle.std.proofs.Common.{◌≡◌, ◌↔◌, ℕ, zero, suc, ◌+◌, ◌-◌, ◌*◌, ◌^◌, ◌<◌, ◌≤◌, Bool, true, false, List, [], ◌∷◌, ◌++◌, length, All, Option, Some, None, refl, sym, ap, ◌∙◌, subst, inl, inr, arith, ℤ, pos, negsuc, FitsSigned, w32}
+use Rattle.std.proofs.Common.{◌≡◌, ◌↔◌, ℕ, zero, suc, ◌^◌, ◌<◌, ◌≤◌, Bool, true, false, List, [], ◌∷◌, ◌++◌, length, All, Option, Some, None, refl, sym, ap, ◌∙◌, subst, inl, inr, arith, ℤ, pos, negsuc, FitsSigned, w32}
 use Rattle.std.specs.Prelude.{nat_lt, ◌==◌, ◌&&◌, if◌then◌else◌, replicate}
 use Rattle.std.specs.Char.{is_ascii_digit}
 use Rattle.std.specs.List.{AllByRecursion, list_all}
@@ -8,8 +8,8 @@ use Rattle.std.proofs.lemmas.Bool.Decides.{nat_tests}
 use Rattle.std.proofs.lemmas.Int.{ints}
 use Rattle.std.proofs.lemmas.List.Elements.{All-from_recursion, recursion_from_All}
 use Rattle.ghcn_fields.specs.declared.field.Field.{Field}
-use Rattle.ghcn_fields.specs.declared.field.Field.TheVariants.{Blank, Number, Bad}
-use Rattle.ghcn_fields.specs.Numbers.{natural, decimal_number, with_sign, signed_by, is_i32, field_of, field_by, after_blanks, int_field, scaled_field}
+use Rattle.ghcn_fields.specs.declared.field.Field.TheVariants.{Blank, Number}
+use Rattle.ghcn_fields.specs.Numbers.{natural, decimal_number, signed_by, is_i32, field_of, field_by, after_blanks, int_field, scaled_field}
 use Rattle.ghcn_fields.specs.Fields.{part_text, sign_text, Spells, HasNumber}
 use Rattle.ghcn_fields.proofs.DecimalTexts.{spells-from_signed, signed-from_spells, signed_by-zero}
 

@@ -1,10 +1,10 @@
 -- Each day number of the years 1 to 9999 is the number of the date that is found for it.
-use Rattle.std.proofs.Common.{◌≡◌, ℕ, zero, suc, ◌+◌, ◌-◌, ◌<◌, ◌≤◌, Bool, true, false, Option, Some, None, refl, sym, ap, ◌∙◌, subst, inl, inr, arith, ℤ, pos, negsuc, ◌-ℤ◌, ◌<ℤ◌, ◌≤ℤ◌}
-use Rattle.std.specs.Prelude.{int_le, nat_le, ◌&&◌, unsigned_abs, if◌then◌else◌}
+use Rattle.std.proofs.Common.{◌≡◌, ℕ, zero, suc, ◌+◌, ◌-◌, ◌<◌, ◌≤◌, true, Some, ap, inl, inr, arith, ℤ, pos, ◌-ℤ◌, ◌≤ℤ◌}
+use Rattle.std.specs.Prelude.{int_le, ◌&&◌, unsigned_abs}
 use Rattle.std.proofs.lemmas.Bool.{cases_lt, and_parts}
 use Rattle.std.proofs.lemmas.Bool.Decides.{nat_tests}
 use Rattle.std.proofs.lemmas.Int.{ints}
-use Rattle.jiff_core.specs.Calendar.{day_count, days_of_months, days_from_civil, days_in_month, days_in_year, day_of_year, IsCivilDate}
+use Rattle.jiff_core.specs.Calendar.{day_count, days_of_months, days_from_civil, days_in_month, days_in_year, IsCivilDate}
 use Rattle.jiff_core.proofs.SignedLemmas.{signed_arith}
 use Rattle.jiff_core.proofs.CalendarLemmas.{days_from_civil-day_count, day_count-day_of_year, day_count-next_year, day_count-end, days_of_months-zero, days_of_months_more, days_of_months_all}
 use Rattle.ghcn_fields.specs.Days.{first_day, last_day, is_day, is_date, day_number, is_within}
