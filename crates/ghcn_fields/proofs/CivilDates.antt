@@ -18,11 +18,13 @@ pub year-stop : (more y n : ℕ) → n < days_in_year (pos y) → year_and_rest 
 unfolding year_and_rest
 year-stop more y n lt = ap (λ (b : Bool). elim b as (λ _. ℕ × ℕ) [ true ↦ (y, n) | false ↦ year_and_rest more (suc y) (n - days_in_year (pos y)) ]) (lt-ltb n (days_in_year (pos y)) lt)
 
-pub year-go : (more y n : ℕ) → days_in_year (pos y) ≤ n → year_and_rest (suc more) y n ≡ year_and_rest more (suc y) (n - days_in_year (pos y))
+pub year-go : (more y n : ℕ) → days_in_year (pos y) ≤ n
+    → year_and_rest (suc more) y n ≡ year_and_rest more (suc y) (n - days_in_year (pos y))
 unfolding year_and_rest
 year-go more y n le = ap (λ (b : Bool). elim b as (λ _. ℕ × ℕ) [ true ↦ (y, n) | false ↦ year_and_rest more (suc y) (n - days_in_year (pos y)) ]) (le-ltb n (days_in_year (pos y)) le)
 
-walk_years : (k more a y n r : ℕ) → k ≤ more → y ≡ a + k → n + day_count (pos a) 1 1 ≡ day_count (pos y) 1 1 + r → r < days_in_year (pos y) → year_and_rest more a n ≡ (y, r)
+walk_years : (k more a y n r : ℕ) → k ≤ more → y ≡ a + k → n + day_count (pos a) 1 1 ≡ day_count (pos y) 1 1 + r
+    → r < days_in_year (pos y) → year_and_rest more a n ≡ (y, r)
 walk_years zero zero a y n r le at e lt =
     let same : a ≡ y = omega arith in
     let rest : n ≡ r = omega (arith, e, ap (λ (z : ℕ). day_count (pos z) 1 1) same) in
@@ -45,11 +47,14 @@ pub month-stop : (more y m n : ℕ) → n < days_in_month (pos y) m → month_an
 unfolding month_and_day
 month-stop more y m n lt = ap (λ (b : Bool). elim b as (λ _. ℕ × ℕ) [ true ↦ (m, suc n) | false ↦ month_and_day more y (suc m) (n - days_in_month (pos y) m) ]) (lt-ltb n (days_in_month (pos y) m) lt)
 
-pub month-go : (more y m n : ℕ) → days_in_month (pos y) m ≤ n → month_and_day (suc more) y m n ≡ month_and_day more y (suc m) (n - days_in_month (pos y) m)
+pub month-go : (more y m n : ℕ) → days_in_month (pos y) m ≤ n
+    → month_and_day (suc more) y m n ≡ month_and_day more y (suc m) (n - days_in_month (pos y) m)
 unfolding month_and_day
 month-go more y m n le = ap (λ (b : Bool). elim b as (λ _. ℕ × ℕ) [ true ↦ (m, suc n) | false ↦ month_and_day more y (suc m) (n - days_in_month (pos y) m) ]) (le-ltb n (days_in_month (pos y) m) le)
 
-walk_months : (y k more a m n r : ℕ) → k ≤ more → m ≡ a + k → 1 ≤ a → n + days_of_months (pos y) (a - 1) ≡ days_of_months (pos y) (m - 1) + r → r < days_in_month (pos y) m → month_and_day more y a n ≡ (m, suc r)
+walk_months : (y k more a m n r : ℕ) → k ≤ more → m ≡ a + k → 1 ≤ a
+    → n + days_of_months (pos y) (a - 1) ≡ days_of_months (pos y) (m - 1) + r → r < days_in_month (pos y) m
+    → month_and_day more y a n ≡ (m, suc r)
 walk_months y zero zero a m n r le at low e lt =
     let same : a ≡ m = omega arith in
     let rest : n ≡ r = omega (arith, e, ap (λ (z : ℕ). days_of_months (pos y) (z - 1)) same) in
@@ -70,7 +75,8 @@ abs-of (pos n) h = refl
 abs-of (negsuc n) h = absurd (omega (arith, signed_arith))
 
 -- the date of a day number is the one that has it
-pub civil-is : (y m d : ℕ) → IsCivilDate (pos y) m d → 1 ≤ y → y ≤ 9999 → civil (days_from_civil (pos y) m d) ≡ (y, m, d)
+pub civil-is : (y m d : ℕ) → IsCivilDate (pos y) m d → 1 ≤ y → y ≤ 9999
+    → civil (days_from_civil (pos y) m d) ≡ (y, m, d)
 civil-is y m d date low high =
     let whole : day_count (pos y) m d + 1 ≡ day_count (pos y) 1 1 + day_of_year (pos y) m d = day_count-day_of_year (pos y) m d date.2.0 in
     let not_before : pos 0 ≤ℤ (days_from_civil (pos y) m d -ℤ first_day) = omega (arith, signed_arith, days_from_civil-day_count, year_count y low, whole, date.2.0) in
@@ -89,7 +95,8 @@ before_one : (y : ℤ) (m d : ℕ) → IsCivilDate y m d → y <ℤ pos 1 → da
 before_one y m d date lt = omega (arith, signed_arith, days_from_civil-day_count, first_count, day_count-lt_year y m d (pos 1) 1 1 date (omega arith) lt)
 
 -- a date whose day number isn't before the first day
-pub civil-date : (y : ℤ) (m d : ℕ) → IsCivilDate y m d → first_day ≤ℤ days_from_civil y m d → civil (days_from_civil y m d) ≡ (unsigned_abs y, m, d)
+pub civil-date : (y : ℤ) (m d : ℕ) → IsCivilDate y m d → first_day ≤ℤ days_from_civil y m d
+    → civil (days_from_civil y m d) ≡ (unsigned_abs y, m, d)
 civil-date (pos zero) m d date low = absurd (omega (arith, signed_arith, low, before_one (pos 0) m d date (omega (arith, signed_arith))))
 civil-date (pos (suc y)) m d date low = civil-is (suc y) m d date (omega arith) (omega (arith, signed_arith, date.0.1))
 civil-date (negsuc y) m d date low = absurd (omega (arith, signed_arith, low, before_one (negsuc y) m d date (omega (arith, signed_arith))))

@@ -1,6 +1,6 @@
 -- Which number a text spells, and how it is found.
-use Rattle.std.proofs.Common.{◌≡◌, ◌↔◌, ℕ, zero, suc, ◌+◌, ◌-◌, ◌*◌, ◌^◌, ◌<◌, ◌≤◌, Bool, true, false, List, [], ◌∷◌, ◌++◌, length, take, drop, get_or, Option, Some, None, refl, sym, ap, ◌∙◌, subst, inl, inr, append_assoc, arith, ℤ}
-use Rattle.std.specs.Prelude.{nat_le, ◌==◌, ◌&&◌, ◌||◌, if◌then◌else◌}
+use Rattle.std.proofs.Common.{◌≡◌, ℕ, ◌+◌, ◌-◌, ◌*◌, ◌^◌, ◌<◌, ◌≤◌, Bool, true, false, List, [], ◌∷◌, ◌++◌, length, take, drop, get_or, Option, Some, None, refl, sym, ap, ◌∙◌, subst, inl, inr, append_assoc, arith, ℤ}
+use Rattle.std.specs.Prelude.{nat_le, ◌==◌, if◌then◌else◌}
 use Rattle.std.specs.List.{list_all, list_any, before_first, after_first, position_or_len}
 use Rattle.std.specs.Option.{option_map}
 use Rattle.std.specs.Char.{is_ascii_digit}
@@ -9,7 +9,7 @@ use Rattle.std.proofs.Math.Seq.{take-append_seam, drop-append-add}
 use Rattle.std.proofs.lemmas.Bool.{cases_Bool, cases_eq, and_parts}
 use Rattle.std.proofs.lemmas.Bool.Decides.{nat_tests}
 use Rattle.std.proofs.lemmas.List.{append-nil}
-use Rattle.std.proofs.lemmas.List.Folds.{list_all-append, list_any-append}
+use Rattle.std.proofs.lemmas.List.Folds.{list_all-append}
 use Rattle.std.proofs.lemmas.List.Sums.{split_at_first, passes_at_first}
 use Rattle.ghcn_fields.specs.Numbers.{natural, joined, decimal_number, with_sign, signed_by}
 use Rattle.ghcn_fields.specs.Fields.{part_text, sign_text, Spells}
@@ -28,7 +28,8 @@ no_point (d ∷ ds) digits =
     let parts = and_parts (is_ascii_digit d) (list_all is_ascii_digit ds) digits in
     rw (no_point_digit d parts.0) (no_point ds parts.1)
 
-point_at : (ds rest : List ℕ) → list_all is_ascii_digit ds ≡ true → position_or_len is_point (ds ++ 46 ∷ rest) ≡ length ds
+point_at : (ds rest : List ℕ) → list_all is_ascii_digit ds ≡ true
+    → position_or_len is_point (ds ++ 46 ∷ rest) ≡ length ds
 point_at [] rest digits = refl
 point_at (d ∷ ds) rest digits =
     let parts = and_parts (is_ascii_digit d) (list_all is_ascii_digit ds) digits in
@@ -59,7 +60,8 @@ record AreJoined (places : ℕ) (whole part : Option ℕ) (len n : ℕ) : Type 0
   few : len ≤ places
   value : n ≡ front * 10 ^ places + behind * 10 ^ (places - len)
 
-joined-some : (places len n : ℕ) (whole part : Option ℕ) → joined places whole part len ≡ Some n → AreJoined places whole part len n
+joined-some : (places len n : ℕ) (whole part : Option ℕ) → joined places whole part len ≡ Some n
+    → AreJoined places whole part len n
 joined-some places len n None part e = absurd cc
 joined-some places len n (Some w) None e = absurd cc
 joined-some places len n (Some w) (Some p) e = elim (cases_Bool (nat_le len places)) [
@@ -88,7 +90,8 @@ is_46 : (b : ℕ) → is_point b ≡ true → b ≡ 46
 is_46 b e = grind (arith, nat_tests)
 
 -- what is found as a decimal number is written
-pub writes-from_decimal_number : (places : ℕ) (text : List ℕ) (n : ℕ) → decimal_number places text ≡ Some n → Writes places text n
+pub writes-from_decimal_number : (places : ℕ) (text : List ℕ) (n : ℕ) → decimal_number places text ≡ Some n
+    → Writes places text n
 writes-from_decimal_number places text n e = elim (cases_Bool (list_any is_point text)) [
   | inl point ↦
       let front : List ℕ = before_first is_point text in
@@ -123,7 +126,8 @@ writes-from_decimal_number places text n e = elim (cases_Bool (list_any is_point
       }
 ]
 
-read_parts : (places : ℕ) (whole part : List ℕ) → 1 ≤ length whole → list_all is_ascii_digit whole ≡ true → list_all is_ascii_digit part ≡ true → length part ≤ places
+read_parts : (places : ℕ) (whole part : List ℕ) → 1 ≤ length whole → list_all is_ascii_digit whole ≡ true
+    → list_all is_ascii_digit part ≡ true → length part ≤ places
     → decimal_number places (whole ++ part_text part) ≡ Some (digits_value 10 whole * 10 ^ places + digits_value 10 part * 10 ^ (places - length part))
 read_parts places whole [] some digits more few =
     ap (decimal_number places) (append-nil whole)
@@ -144,16 +148,19 @@ read_parts places whole (d ∷ ds) some digits more few =
     few_enough {m = m} {n = n} e = grind (arith, nat_tests)
 
 -- what is written is found as a decimal number
-pub decimal_number-from_writes : (places : ℕ) (text : List ℕ) (n : ℕ) → Writes places text n → decimal_number places text ≡ Some n
+pub decimal_number-from_writes : (places : ℕ) (text : List ℕ) (n : ℕ) → Writes places text n
+    → decimal_number places text ≡ Some n
 decimal_number-from_writes places text n w =
     let digits = and_parts (list_all is_ascii_digit w.whole) (list_all is_ascii_digit w.part) (sym (list_all-append is_ascii_digit w.whole w.part) ∙ w.digits) in
     ap (decimal_number places) w.parts ∙ read_parts places w.whole w.part w.some_digit digits.0 digits.1 w.few ∙ ap (λ (k : ℕ). Some k) (sym w.value)
 
-map_sign-some : (negative : Bool) (o : Option ℕ) (v : ℤ) → option_map (with_sign negative) o ≡ Some v → (n : ℕ) × (o ≡ Some n) × (v ≡ with_sign negative n)
+map_sign-some : (negative : Bool) (o : Option ℕ) (v : ℤ) → option_map (with_sign negative) o ≡ Some v
+    → (n : ℕ) × (o ≡ Some n) × (v ≡ with_sign negative n)
 map_sign-some negative None v e = absurd cc
 map_sign-some negative (Some n) v e = (n, refl, cc)
 
-spells_by : (places : ℕ) (negative : Bool) (text : List ℕ) (n : ℕ) (v : ℤ) → Writes places text n → v ≡ with_sign negative n → Spells places (sign_text negative ++ text) v
+spells_by : (places : ℕ) (negative : Bool) (text : List ℕ) (n : ℕ) (v : ℤ) → Writes places text n
+    → v ≡ with_sign negative n → Spells places (sign_text negative ++ text) v
 spells_by places negative text n v w is = record {
   negative = negative;
   whole = w.whole;
@@ -172,7 +179,8 @@ no_minus_digit : (b : ℕ) → is_ascii_digit b ≡ true → (b == 45) ≡ false
 no_minus_digit b is = grind (arith, nat_tests)
 
 -- what is found behind an optional minus is spelled
-pub spells-from_signed : (places : ℕ) (text : List ℕ) (v : ℤ) → signed_by (decimal_number places) text ≡ Some v → Spells places text v
+pub spells-from_signed : (places : ℕ) (text : List ℕ) (v : ℤ) → signed_by (decimal_number places) text ≡ Some v
+    → Spells places text v
 spells-from_signed places [] v e = absurd cc
 spells-from_signed places (b ∷ bytes) v e = elim (cases_eq b 45) [
   | inl minus ↦
@@ -186,7 +194,8 @@ spells-from_signed places (b ∷ bytes) v e = elim (cases_eq b 45) [
       spells_by places false (b ∷ bytes) m.0 v (writes-from_decimal_number places (b ∷ bytes) m.0 m.1) m.2
 ]
 
-signed_parts : (places : ℕ) (negative : Bool) (whole part : List ℕ) (n : ℕ) → Writes places (whole ++ part_text part) n → 1 ≤ length whole → list_all is_ascii_digit (whole ++ part) ≡ true
+signed_parts : (places : ℕ) (negative : Bool) (whole part : List ℕ) (n : ℕ)
+    → Writes places (whole ++ part_text part) n → 1 ≤ length whole → list_all is_ascii_digit (whole ++ part) ≡ true
     → signed_by (decimal_number places) (sign_text negative ++ whole ++ part_text part) ≡ Some (with_sign negative n)
 signed_parts places true whole part n w some digits = ap (option_map (with_sign true)) (decimal_number-from_writes places (whole ++ part_text part) n w)
 signed_parts places false [] part n w some digits = absurd (omega arith)
@@ -195,7 +204,8 @@ signed_parts places false (b ∷ bytes) part n w some digits =
     rw (no_minus_digit b first.0) (ap (option_map (with_sign false)) (decimal_number-from_writes places (b ∷ bytes ++ part_text part) n w))
 
 -- what is spelled is found
-pub signed-from_spells : (places : ℕ) (text : List ℕ) (v : ℤ) → Spells places text v → signed_by (decimal_number places) text ≡ Some v
+pub signed-from_spells : (places : ℕ) (text : List ℕ) (v : ℤ) → Spells places text v
+    → signed_by (decimal_number places) text ≡ Some v
 signed-from_spells places text v s =
     let n : ℕ = digits_value 10 s.whole * 10 ^ places + digits_value 10 s.part * 10 ^ (places - length s.part) in
     let writes : Writes places (s.whole ++ part_text s.part) n = record { whole = s.whole; part = s.part; parts = refl; some_digit = s.some_digit; digits = s.digits; few = s.few; value = refl } in
@@ -210,7 +220,8 @@ same_number None (Some n) to from = from n refl
 same_number (Some n) p to from = sym (to n refl)
 
 -- without places no digits stand behind a point
-natural-from_writes : (text : List ℕ) (n : ℕ) (whole part : List ℕ) → text ≡ whole ++ part_text part → 1 ≤ length whole → list_all is_ascii_digit (whole ++ part) ≡ true → length part ≤ 0
+natural-from_writes : (text : List ℕ) (n : ℕ) (whole part : List ℕ) → text ≡ whole ++ part_text part
+    → 1 ≤ length whole → list_all is_ascii_digit (whole ++ part) ≡ true → length part ≤ 0
     → n ≡ digits_value 10 whole * 10 ^ 0 + digits_value 10 part * 10 ^ (0 - length part) → natural text ≡ Some n
 natural-from_writes text n whole [] parts some digits few value =
     ap natural (parts ∙ append-nil whole)

@@ -18,13 +18,15 @@ abbrev is_point : ℕ → Bool
 is_point b = b == 46
 
 -- without a point the digits are whole units
-pub decimal_number-whole : (places : ℕ) (text : List ℕ) → IsFirstByte (is_byte 46) text None → decimal_number places text ≡ option_map (λ n. n * 10 ^ places) (natural text)
+pub decimal_number-whole : (places : ℕ) (text : List ℕ) → IsFirstByte (is_byte 46) text None
+    → decimal_number places text ≡ option_map (λ n. n * 10 ^ places) (natural text)
 decimal_number-whole places text nowhere =
     let none : All (λ b. is_point b ≡ false) text = λ k d lt. rw (get_or_default text k d 0 lt) (false_from_ne_true _ (nowhere k (omega arith) lt)) in
     ap (λ (any : Bool). if any then joined places (natural (before_first is_point text)) (natural (after_first is_point text)) (length (after_first is_point text)) else option_map (λ n. n * 10 ^ places) (natural text)) (list_any_none is_point text none)
 
 -- the first point stands between the whole part and the part behind it
-pub decimal_number-point : (places : ℕ) (text : List ℕ) (point : ℕ) → IsFirstByte (is_byte 46) text (Some point) → decimal_number places text ≡ joined places (natural (take point text)) (natural (drop (point + 1) text)) (length (drop (point + 1) text))
+pub decimal_number-point : (places : ℕ) (text : List ℕ) (point : ℕ) → IsFirstByte (is_byte 46) text (Some point)
+    → decimal_number places text ≡ joined places (natural (take point text)) (natural (drop (point + 1) text)) (length (drop (point + 1) text))
 decimal_number-point places text point first =
     let high : point < length text = first.0.high in
     let at : position_or_len is_point text ≡ point = position_or_len_is is_point text point 0 (omega arith) (λ k lt. false_from_ne_true _ (first.0.before k (omega arith) lt)) (λ _. first.1) in
@@ -46,7 +48,8 @@ over : (limit m n : ℕ) → up_to limit (Some m) ≡ None → m ≤ n → up_to
 over limit m n e le = grind (arith, nat_tests)
 
 -- a whole part beyond the limit takes the number beyond it
-pub joined-whole_over : (limit places len : ℕ) (whole part : Option ℕ) → up_to limit whole ≡ None → up_to limit (joined places whole part len) ≡ None
+pub joined-whole_over : (limit places len : ℕ) (whole part : Option ℕ) → up_to limit whole ≡ None
+    → up_to limit (joined places whole part len) ≡ None
 joined-whole_over limit places len None part e = refl
 joined-whole_over limit places len (Some w) None e = refl
 joined-whole_over limit places len (Some w) (Some p) e =
@@ -54,7 +57,8 @@ joined-whole_over limit places len (Some w) (Some p) e =
     elim (nat_le len places) as (λ b. up_to limit (if b then Some (w * 10 ^ places + p * 10 ^ (places - len)) else None) ≡ None) [ true ↦ more | false ↦ refl ]
 
 -- and so does a part behind the point
-pub joined-part_over : (limit places len : ℕ) (whole part : Option ℕ) → up_to limit part ≡ None → up_to limit (joined places whole part len) ≡ None
+pub joined-part_over : (limit places len : ℕ) (whole part : Option ℕ) → up_to limit part ≡ None
+    → up_to limit (joined places whole part len) ≡ None
 joined-part_over limit places len None part e = refl
 joined-part_over limit places len (Some w) None e = refl
 joined-part_over limit places len (Some w) (Some p) e =
@@ -62,7 +66,8 @@ joined-part_over limit places len (Some w) (Some p) e =
     elim (nat_le len places) as (λ b. up_to limit (if b then Some (w * 10 ^ places + p * 10 ^ (places - len)) else None) ≡ None) [ true ↦ more | false ↦ refl ]
 
 -- whole units beyond the limit are beyond it in smaller units
-pub units_over : (limit places : ℕ) (number : Option ℕ) → up_to limit number ≡ None → up_to limit (option_map (λ n. n * 10 ^ places) number) ≡ None
+pub units_over : (limit places : ℕ) (number : Option ℕ) → up_to limit number ≡ None
+    → up_to limit (option_map (λ n. n * 10 ^ places) number) ≡ None
 units_over limit places None e = refl
 units_over limit places (Some n) e = over limit n (n * 10 ^ places) e (grows n places)
 
@@ -71,7 +76,8 @@ pub scaled-le : (n k limit : ℕ) → n ≤ limit → k ≤ 4 → n * 10 ^ k ≤
 scaled-le n k limit small few = mul-le n (10 ^ k) limit 10000 small (pow-le-pow_right (lit< tt) few)
 
 -- a field is bad where its number is beyond i32
-field_of-up_to : (negative : Bool) (number : Option ℕ) → field_of (option_map (with_sign negative) (up_to (2 ^ 31) number)) ≡ field_of (option_map (with_sign negative) number)
+field_of-up_to : (negative : Bool) (number : Option ℕ)
+    → field_of (option_map (with_sign negative) (up_to (2 ^ 31) number)) ≡ field_of (option_map (with_sign negative) number)
 field_of-up_to negative None = refl
 field_of-up_to true (Some zero) = refl
 field_of-up_to true (Some (suc n)) = grind (arith, nat_tests)
@@ -89,10 +95,12 @@ plain_text : (read : List ℕ → Option ℕ) (text : List ℕ) → 1 ≤ length
 plain_text read [] some plain = absurd (omega arith)
 plain_text read (b ∷ bytes) some plain = grind (arith, nat_tests, field_of-up_to false (read (b ∷ bytes)))
 
-pub field_by-minus : (read : List ℕ → Option ℕ) (field text : List ℕ) → text ≡ after_blanks field → 1 ≤ length text → get_or text 0 0 ≡ 45
+pub field_by-minus : (read : List ℕ → Option ℕ) (field text : List ℕ) → text ≡ after_blanks field → 1 ≤ length text
+    → get_or text 0 0 ≡ 45
     → field_by (signed_by read) field ≡ field_of (option_map (with_sign true) (up_to (2 ^ 31) (read (drop 1 text))))
 field_by-minus read field text same some minus = rw (← same) (minus_text read text some minus)
 
-pub field_by-plain : (read : List ℕ → Option ℕ) (field text : List ℕ) → text ≡ after_blanks field → 1 ≤ length text → get_or text 0 0 ≢ 45
+pub field_by-plain : (read : List ℕ → Option ℕ) (field text : List ℕ) → text ≡ after_blanks field → 1 ≤ length text
+    → get_or text 0 0 ≢ 45
     → field_by (signed_by read) field ≡ field_of (option_map (with_sign false) (up_to (2 ^ 31) (read text)))
 field_by-plain read field text same some plain = rw (← same) (plain_text read text some plain)

@@ -7,7 +7,7 @@ use Rattle.ghcn_fields.specs.declared.field.Field.TheVariants.{Blank, Number, Ba
 use Rattle.ghcn_fields.specs.Lines.{lines, numbered_lines, columns}
 use Rattle.ghcn_fields.specs.Numbers.{int_field, scaled_field}
 use Rattle.ghcn_fields.specs.NumberTexts.{whole, tenths, four_places}
-use Rattle.ghcn_fields.specs.Fields.{HasNumber, Spells}
+use Rattle.ghcn_fields.specs.Fields.{HasNumber}
 use Rattle.ghcn_fields.specs.Days.{day_number, block_of}
 use Rattle.ghcn_fields.specs.Dates.{civil, year_and_rest, month_and_day, date_text, read_date}
 

@@ -1,5 +1,5 @@
 -- Which number a field has, and when it is blank.
-use Rattle.std.proofs.Common.{◌≡◌, ◌↔◌, ℕ, zero, suc, ◌+◌, ◌-◌, ◌*◌, ◌^◌, ◌<◌, ◌≤◌, Bool, true, false, List, [], ◌∷◌, ◌++◌, length, All, Option, Some, None, refl, sym, ap, ◌∙◌, subst, inl, inr, arith, ℤ, pos, negsuc, FitsSigned, w32}
+use Rattle.std.proofs.Common.{◌≡◌, ◌↔◌, ℕ, zero, suc, ◌^◌, ◌<◌, ◌≤◌, Bool, true, false, List, [], ◌∷◌, ◌++◌, length, All, Option, Some, None, refl, sym, ap, ◌∙◌, subst, inl, inr, arith, ℤ, pos, negsuc, FitsSigned, w32}
 use Rattle.std.specs.Prelude.{nat_lt, ◌==◌, ◌&&◌, if◌then◌else◌, replicate}
 use Rattle.std.specs.Char.{is_ascii_digit}
 use Rattle.std.specs.List.{AllByRecursion, list_all}
@@ -8,8 +8,8 @@ use Rattle.std.proofs.lemmas.Bool.Decides.{nat_tests}
 use Rattle.std.proofs.lemmas.Int.{ints}
 use Rattle.std.proofs.lemmas.List.Elements.{All-from_recursion, recursion_from_All}
 use Rattle.ghcn_fields.specs.declared.field.Field.{Field}
-use Rattle.ghcn_fields.specs.declared.field.Field.TheVariants.{Blank, Number, Bad}
-use Rattle.ghcn_fields.specs.Numbers.{natural, decimal_number, with_sign, signed_by, is_i32, field_of, field_by, after_blanks, int_field, scaled_field}
+use Rattle.ghcn_fields.specs.declared.field.Field.TheVariants.{Blank, Number}
+use Rattle.ghcn_fields.specs.Numbers.{natural, decimal_number, signed_by, is_i32, field_of, field_by, after_blanks, int_field, scaled_field}
 use Rattle.ghcn_fields.specs.Fields.{part_text, sign_text, Spells, HasNumber}
 use Rattle.ghcn_fields.proofs.DecimalTexts.{spells-from_signed, signed-from_spells, signed_by-zero}
 
@@ -84,14 +84,16 @@ not_empty : (b : ℕ) (bytes : List ℕ) → (length (b ∷ bytes) == 0) ≡ fal
 not_empty b bytes = grind (arith, nat_tests)
 
 -- a field is blank where it has no text, whatever is read
-blank_text : (read : List ℕ → Option ℤ) (text : List ℕ) → ((if length text == 0 then Blank else field_of (read text)) ≡ Blank) ↔ (text ≡ [])
+blank_text : (read : List ℕ → Option ℤ) (text : List ℕ)
+    → ((if length text == 0 then Blank else field_of (read text)) ≡ Blank) ↔ (text ≡ [])
 blank_text read [] = (λ _. refl, λ _. refl)
 blank_text read (b ∷ bytes) = rw (not_empty b bytes) (λ e. absurd (no_blank (read (b ∷ bytes)) e), λ e. absurd (cons_nil b bytes e)) where
   cons_nil : (b : ℕ) (bytes : List ℕ) → b ∷ bytes ≡ [] → ⊥
   cons_nil b bytes e = absurd cc
 
 -- it has the number that its text is read as
-number_text : (read : List ℕ → Option ℤ) (text : List ℕ) (v : ℤ) → read [] ≡ None → ((if length text == 0 then Blank else field_of (read text)) ≡ Number v) ↔ ((read text ≡ Some v) × FitsSigned w32 v)
+number_text : (read : List ℕ → Option ℤ) (text : List ℕ) (v : ℤ) → read [] ≡ None
+    → ((if length text == 0 then Blank else field_of (read text)) ≡ Number v) ↔ ((read text ≡ Some v) × FitsSigned w32 v)
 number_text read [] v none = (λ e. absurd (no_number v e), λ h. absurd (no_some v (sym none ∙ h.0))) where
   no_number : (v : ℤ) → Blank ≡ Number v → ⊥
   no_number v e = absurd cc
@@ -101,7 +103,8 @@ number_text read [] v none = (λ e. absurd (no_number v e), λ h. absurd (no_som
 number_text read (b ∷ bytes) v none = rw (not_empty b bytes) (of_number (read (b ∷ bytes)) v)
 
 -- a text that spells a number begins with no blank
-no_blank_front : (negative : Bool) (whole part : List ℕ) → 1 ≤ length whole → list_all is_ascii_digit (whole ++ part) ≡ true
+no_blank_front : (negative : Bool) (whole part : List ℕ) → 1 ≤ length whole
+    → list_all is_ascii_digit (whole ++ part) ≡ true
     → after_blanks (sign_text negative ++ whole ++ part_text part) ≡ sign_text negative ++ whole ++ part_text part
 no_blank_front true whole part some digits = refl
 no_blank_front false [] part some digits = absurd (omega arith)
@@ -124,7 +127,8 @@ has_number places field v = (
 )
 
 -- a decimal field is a number where it has it, and that is in range
-pub scaled_field-number : (places : ℕ) (field : List ℕ) (v : ℤ) → (scaled_field places field ≡ Number v) ↔ (HasNumber places field v × FitsSigned w32 v)
+pub scaled_field-number : (places : ℕ) (field : List ℕ) (v : ℤ)
+    → (scaled_field places field ≡ Number v) ↔ (HasNumber places field v × FitsSigned w32 v)
 scaled_field-number places field v =
     let by_text = number_text (signed_by (decimal_number places)) (after_blanks field) v refl in
     let has = has_number places field v in (
@@ -133,7 +137,8 @@ scaled_field-number places field v =
     )
 
 -- and so is a whole field
-pub int_field-number : (field : List ℕ) (v : ℤ) → (int_field field ≡ Number v) ↔ (HasNumber 0 field v × FitsSigned w32 v)
+pub int_field-number : (field : List ℕ) (v : ℤ)
+    → (int_field field ≡ Number v) ↔ (HasNumber 0 field v × FitsSigned w32 v)
 int_field-number field v =
     let by_text = number_text (signed_by natural) (after_blanks field) v refl in
     let same = signed_by-zero (after_blanks field) in
@@ -143,18 +148,22 @@ int_field-number field v =
     )
 
 -- a field is blank where it has blanks alone
-pub field_by-blank : (read : List ℕ → Option ℤ) (field : List ℕ) → (field_by read field ≡ Blank) ↔ All (λ b. b ≡ 32) field
+pub field_by-blank : (read : List ℕ → Option ℤ) (field : List ℕ)
+    → (field_by read field ≡ Blank) ↔ All (λ b. b ≡ 32) field
 field_by-blank read field =
     let text = blank_text read (after_blanks field) in
     let alone = blanks_alone field in
     (λ e. alone.0 (text.0 e), λ all. text.1 (alone.1 all))
 
 -- the same, of what reads as the definitions do
-pub numbers_by : (places : ℕ) (field : List ℕ) (found : Field) → found ≡ scaled_field places field → (v : ℤ) → (found ≡ Number v) ↔ (HasNumber places field v × FitsSigned w32 v)
+pub numbers_by : (places : ℕ) (field : List ℕ) (found : Field) → found ≡ scaled_field places field → (v : ℤ)
+    → (found ≡ Number v) ↔ (HasNumber places field v × FitsSigned w32 v)
 numbers_by places field found is v = let law = scaled_field-number places field v in (λ e. law.0 (sym is ∙ e), λ h. is ∙ law.1 h)
 
-pub whole_numbers_by : (field : List ℕ) (found : Field) → found ≡ int_field field → (v : ℤ) → (found ≡ Number v) ↔ (HasNumber 0 field v × FitsSigned w32 v)
+pub whole_numbers_by : (field : List ℕ) (found : Field) → found ≡ int_field field → (v : ℤ)
+    → (found ≡ Number v) ↔ (HasNumber 0 field v × FitsSigned w32 v)
 whole_numbers_by field found is v = let law = int_field-number field v in (λ e. law.0 (sym is ∙ e), λ h. is ∙ law.1 h)
 
-pub blank_by : (read : List ℕ → Option ℤ) (field : List ℕ) (found : Field) → found ≡ field_by read field → (found ≡ Blank) ↔ All (λ b. b ≡ 32) field
+pub blank_by : (read : List ℕ → Option ℤ) (field : List ℕ) (found : Field) → found ≡ field_by read field
+    → (found ≡ Blank) ↔ All (λ b. b ≡ 32) field
 blank_by read field found is = let law = field_by-blank read field in (λ e. law.0 (sym is ∙ e), λ all. is ∙ law.1 all)

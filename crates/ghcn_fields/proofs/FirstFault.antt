@@ -9,7 +9,8 @@ module _ {L W : Type 0} (fault : List L → L → Option W) where
   Found earlier ls l w = (before : List L) × (behind : List L) × (ls ≡ before ++ l ∷ behind) × (fault (earlier ++ before) l ≡ Some w) × HaveNoFault fault earlier before
 
   -- a fault that is found is the first
-  found_is : (earlier ls : List L) (l : L) (w : W) → first_fault_after fault earlier ls ≡ Some (l, w) → Found earlier ls l w
+  found_is : (earlier ls : List L) (l : L) (w : W) → first_fault_after fault earlier ls ≡ Some (l, w)
+      → Found earlier ls l w
   found_is earlier [] l w e = absurd cc
   found_is earlier (x ∷ xs) l w e =
       elim (fault earlier x) as (λ o. fault earlier x ≡ o → option_or (option_map (λ w. (x, w)) o) (first_fault_after fault (earlier ++ x ∷ []) xs) ≡ Some (l, w) → Found earlier (x ∷ xs) l w) [
@@ -28,7 +29,8 @@ module _ {L W : Type 0} (fault : List L → L → Option W) where
       record { before = found.0; behind = found.1; place = found.2; here = found.3; none_before = found.4 }
 
   -- lines without a fault are passed over
-  passed : (earlier before ls : List L) → HaveNoFault fault earlier before → first_fault_after fault earlier (before ++ ls) ≡ first_fault_after fault (earlier ++ before) ls
+  passed : (earlier before ls : List L) → HaveNoFault fault earlier before
+      → first_fault_after fault earlier (before ++ ls) ≡ first_fault_after fault (earlier ++ before) ls
   passed earlier [] ls none = ap (λ (ys : List L). first_fault_after fault ys ls) (sym (append-nil earlier))
   passed earlier (x ∷ xs) ls none =
       ap (λ (o : Option W). option_or (option_map (λ w. (x, w)) o) (first_fault_after fault (earlier ++ x ∷ []) (xs ++ ls))) none.0
@@ -36,7 +38,8 @@ module _ {L W : Type 0} (fault : List L → L → Option W) where
       ∙ ap (λ (ys : List L). first_fault_after fault ys ls) (append_assoc earlier (x ∷ []) xs)
 
   -- and the first fault is found
-  pub first_fault-from : (ls : List L) (l : L) (w : W) → IsFirstFault fault ls l w → first_fault fault ls ≡ Some (l, w)
+  pub first_fault-from : (ls : List L) (l : L) (w : W) → IsFirstFault fault ls l w
+      → first_fault fault ls ≡ Some (l, w)
   first_fault-from ls l w is =
       ap (first_fault fault) is.place
       ∙ passed [] is.before (l ∷ is.behind) is.none_before

@@ -1,5 +1,5 @@
 -- The first line of a text, and the lines after it.
-use Rattle.std.proofs.Common.{◌≡◌, ℕ, ◌+◌, ◌<◌, Bool, true, false, List, [], ◌∷◌, length, take, drop, All, Some, None, refl, sym, ap, ◌∙◌, arith}
+use Rattle.std.proofs.Common.{◌≡◌, ℕ, ◌+◌, ◌<◌, Bool, false, List, [], ◌∷◌, length, take, drop, All, Some, None, refl, sym, ap, ◌∙◌, arith}
 use Rattle.std.specs.Prelude.{map, ◌==◌}
 use Rattle.std.specs.List.{slice_split, position_or_len, enumerate_from}
 use Rattle.std.specs.Str.Lines.{strip_carriage_return}
@@ -21,7 +21,8 @@ alone : (x : List ℕ) → 0 < length x → without_empty_last (x ∷ []) ≡ x 
 alone x h = grind (arith, nat_tests)
 
 -- where the first line feed is, the first line ends
-pub lines-first : (bytes : List ℕ) (end : ℕ) → IsFirstByte (is_byte 10) bytes (Some end) → lines bytes ≡ strip_carriage_return (take end bytes) ∷ lines (drop (end + 1) bytes)
+pub lines-first : (bytes : List ℕ) (end : ℕ) → IsFirstByte (is_byte 10) bytes (Some end)
+    → lines bytes ≡ strip_carriage_return (take end bytes) ∷ lines (drop (end + 1) bytes)
 lines-first bytes end first =
     let high : end < length bytes = first.0.high in
     let at : position_or_len is_line_feed bytes ≡ end = position_or_len_is is_line_feed bytes end 0 (omega arith) (λ k lt. false_from_ne_true _ (first.0.before k (omega arith) lt)) (λ _. first.1) in
@@ -32,7 +33,8 @@ lines-first bytes end first =
     ∙ ap (map strip_carriage_return) (keeps (take end bytes) (slice_split is_line_feed (drop (end + 1) bytes)) more)
 
 -- where there is none, the text is one line
-pub lines-last : (bytes : List ℕ) → 0 < length bytes → IsFirstByte (is_byte 10) bytes None → lines bytes ≡ strip_carriage_return bytes ∷ []
+pub lines-last : (bytes : List ℕ) → 0 < length bytes → IsFirstByte (is_byte 10) bytes None
+    → lines bytes ≡ strip_carriage_return bytes ∷ []
 lines-last bytes some nowhere =
     let at : position_or_len is_line_feed bytes ≡ length bytes = position_or_len_is is_line_feed bytes (length bytes) 0 (omega arith) (λ k lt. false_from_ne_true _ (nowhere k (omega arith) lt)) (λ lt. absurd (omega arith)) in
     let none : All (λ b. is_line_feed b ≡ false) bytes = λ k d lt. fails_before_first is_line_feed bytes k d (omega (arith, at)) in
@@ -40,7 +42,8 @@ lines-last bytes some nowhere =
     ∙ ap (map strip_carriage_return) (alone bytes some)
 
 -- the numbered lines of a text are its first line, and those of what is left
-pub lines_left : (given : ℕ) (all : List (ℕ × List ℕ)) (text line rest shown left : List ℕ) → enumerate_from (given + 1) (lines text) ≡ all → lines text ≡ line ∷ lines rest → line ≡ shown → rest ≡ left
+pub lines_left : (given : ℕ) (all : List (ℕ × List ℕ)) (text line rest shown left : List ℕ)
+    → enumerate_from (given + 1) (lines text) ≡ all → lines text ≡ line ∷ lines rest → line ≡ shown → rest ≡ left
     → all ≡ (given + 1, shown) ∷ enumerate_from (given + 1 + 1) (lines left)
 lines_left given all text line rest shown left view first same over =
     sym view

@@ -1,7 +1,9 @@
 pub mod DayNumbers
 pub mod CivilDates
 pub mod WholeDays
+pub mod DateDigits
 pub mod DateTexts
+pub mod DateForms
 pub mod DecimalTexts
 pub mod FieldNumbers
 pub mod Digits

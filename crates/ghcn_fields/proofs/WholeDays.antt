@@ -1,10 +1,10 @@
 -- Each day number of the years 1 to 9999 is the number of the date that is found for it.
-use Rattle.std.proofs.Common.{◌≡◌, ℕ, zero, suc, ◌+◌, ◌-◌, ◌<◌, ◌≤◌, Bool, true, false, Option, Some, None, refl, sym, ap, ◌∙◌, subst, inl, inr, arith, ℤ, pos, negsuc, ◌-ℤ◌, ◌<ℤ◌, ◌≤ℤ◌}
-use Rattle.std.specs.Prelude.{int_le, nat_le, ◌&&◌, unsigned_abs, if◌then◌else◌}
+use Rattle.std.proofs.Common.{◌≡◌, ℕ, zero, suc, ◌+◌, ◌-◌, ◌<◌, ◌≤◌, true, Some, ap, inl, inr, arith, ℤ, pos, ◌-ℤ◌, ◌≤ℤ◌}
+use Rattle.std.specs.Prelude.{int_le, ◌&&◌, unsigned_abs}
 use Rattle.std.proofs.lemmas.Bool.{cases_lt, and_parts}
 use Rattle.std.proofs.lemmas.Bool.Decides.{nat_tests}
 use Rattle.std.proofs.lemmas.Int.{ints}
-use Rattle.jiff_core.specs.Calendar.{day_count, days_of_months, days_from_civil, days_in_month, days_in_year, day_of_year, IsCivilDate}
+use Rattle.jiff_core.specs.Calendar.{day_count, days_of_months, days_from_civil, days_in_month, days_in_year, IsCivilDate}
 use Rattle.jiff_core.proofs.SignedLemmas.{signed_arith}
 use Rattle.jiff_core.proofs.CalendarLemmas.{days_from_civil-day_count, day_count-day_of_year, day_count-next_year, day_count-end, days_of_months-zero, days_of_months_more, days_of_months_all}
 use Rattle.ghcn_fields.specs.Days.{first_day, last_day, is_day, is_date, day_number, is_within}
@@ -19,7 +19,8 @@ record IsYearAndRest (first last n : ℕ) (r : ℕ × ℕ) : Type 0 where
   rest : r.1 < days_in_year (pos r.0)
   whole : n + day_count (pos first) 1 1 ≡ day_count (pos r.0) 1 1 + r.1
 
-years_taken : (more first n : ℕ) → n + day_count (pos first) 1 1 < day_count (pos (first + more + 1)) 1 1 → IsYearAndRest first (first + more) n (year_and_rest more first n)
+years_taken : (more first n : ℕ) → n + day_count (pos first) 1 1 < day_count (pos (first + more + 1)) 1 1
+    → IsYearAndRest first (first + more) n (year_and_rest more first n)
 years_taken zero first n lt =
     let next = day_count-next_year (pos first) (pos (first + 0 + 1)) (omega (arith, signed_arith)) (omega (arith, signed_arith)) in
     rw (year-zero first n) (record { from = omega arith; to = omega arith; rest = omega (arith, next, lt); whole = omega arith })
@@ -40,7 +41,9 @@ record IsMonthAndDay (year first last n : ℕ) (r : ℕ × ℕ) : Type 0 where
   high : r.1 ≤ days_in_month (pos year) r.0
   whole : n + days_of_months (pos year) (first - 1) + 1 ≡ days_of_months (pos year) (r.0 - 1) + r.1
 
-months_taken : (more year first n : ℕ) → 1 ≤ first → n + days_of_months (pos year) (first - 1) < days_of_months (pos year) (first + more) → IsMonthAndDay year first (first + more) n (month_and_day more year first n)
+months_taken : (more year first n : ℕ) → 1 ≤ first
+    → n + days_of_months (pos year) (first - 1) < days_of_months (pos year) (first + more)
+    → IsMonthAndDay year first (first + more) n (month_and_day more year first n)
 months_taken zero year first n low lt =
     let more = days_of_months_more (pos year) first low in
     let same : days_of_months (pos year) (first + 0) ≡ days_of_months (pos year) first = ap (days_of_months (pos year)) (omega arith) in

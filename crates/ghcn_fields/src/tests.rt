@@ -4,7 +4,7 @@ use super::*;
 use std::test::Fail;
 
 #[test]
-fn days_and_dates(rt: HostRuntime) {
+fn days_and_dates(rt: HostRuntime) -> Result<(), Fail> {
     let cases: [(u16, u8, u8, i32, i32, &[u8; 10]); 5] = [
         (1, 1, 1, -719_162, -22_474, b"0001-01-01"),
         (1969, 12, 31, -1, -1, b"1969-12-31"),
@@ -13,31 +13,34 @@ fn days_and_dates(rt: HostRuntime) {
         (9999, 12, 31, 2_932_896, 91_653, b"9999-12-31"),
     ];
     for (year, month, day, number, block, text) in cases {
-        let found = Day::of(year, month, day);
-        assert_eq!(rt; found, Day::with_number(number), "of {year}-{month}-{day}");
-        assert_eq!(rt; found, read_date(text), "read {year}-{month}-{day}");
-        if let Some(it) = found {
-            assert_eq!(rt; it.number(), number, "number of {year}-{month}-{day}");
-            assert_eq!(rt; it.block(), block, "block of {year}-{month}-{day}");
-            assert_eq!(rt;
-                it.civil(),
-                (year, month, day),
-                "civil {year}-{month}-{day}"
-            );
-            assert_eq!(rt; &write_date(it), text, "written {year}-{month}-{day}");
-        }
+        let found = Day::of(year, month, day).ok_or("no day")?;
+        assert_eq!(rt; found.number(), number, "number of {year}-{month}-{day}");
+        assert_eq!(rt; found.block(), block, "block of {year}-{month}-{day}");
+        assert_eq!(rt;
+            found.civil(),
+            (year, month, day),
+            "civil {year}-{month}-{day}"
+        );
+        assert_eq!(rt;
+            read_date(&write_date(found)),
+            Some(found),
+            "written {year}-{month}-{day}"
+        );
+        assert_eq!(rt; read_date(text), Some(found), "read {year}-{month}-{day}");
     }
+    Ok(())
 }
 
 #[test]
 fn no_days_and_no_dates(rt: HostRuntime) {
-    for (year, month, day) in [
+    let days = [
         (1900, 2, 29),
         (0, 12, 31),
         (10_000, 1, 1),
         (2020, 13, 1),
         (2020, 6, 31),
-    ] {
+    ];
+    for (year, month, day) in days {
         assert_eq!(rt; Day::of(year, month, day), None, "of {year}-{month}-{day}");
     }
     let texts: [&[u8]; 6] = [
@@ -54,23 +57,28 @@ fn no_days_and_no_dates(rt: HostRuntime) {
 }
 
 #[test]
-fn days_beside_days(rt: HostRuntime) {
-    let first = Day::of(1, 1, 1);
-    let last = Day::of(9999, 12, 31);
-    assert_eq!(rt; Day::with_number(-719_163), None);
-    assert_eq!(rt; first.and_then(Day::previous), None);
-    assert_eq!(rt; last.and_then(Day::previous), Day::of(9999, 12, 30));
-    assert_eq!(rt; first.and_then(|day| day.after(3_652_058)), last);
-    assert_eq!(rt; first.and_then(|day| day.after(3_652_059)), None);
-    for (year, month, days) in [
+fn days_beside_days(rt: HostRuntime) -> Result<(), Fail> {
+    let cases = [
+        (-719_162, None, Some(-719_161)),
+        (-1, Some(-2), Some(0)),
+        (2_932_896, Some(2_932_895), None),
+    ];
+    for (number, before, after) in cases {
+        let day = Day::with_number(number).ok_or("no day")?;
+        assert_eq!(rt; day.previous().map(Day::number), before, "before {number}");
+        assert_eq!(rt; day.after(1).map(Day::number), after, "after {number}");
+    }
+    let months = [
         (1900, 2, 28),
         (2000, 2, 29),
         (2020, 2, 29),
         (2020, 6, 30),
         (2020, 7, 31),
-    ] {
+    ];
+    for (year, month, days) in months {
         assert_eq!(rt; days_in_month(year, month), days, "of {year}-{month}");
     }
+    Ok(())
 }
 
 #[test]

@@ -1,6 +1,7 @@
-use Rattle.std.proofs.Common.{◌≡◌, ℕ, ◌<◌, List, length, take, drop, get_or, Option, Some, sym, ◌∙◌, arith, rules}
+use Rattle.std.proofs.Common.{◌≡◌, ℕ, List, length, take, drop, Some, sym, ◌∙◌, arith, rules}
 use Rattle.ghcn_fields.specs.Numbers.{natural}
-use Rattle.ghcn_fields.proofs.DateTexts.{other_length, no_first_dash, no_second_dash, no_year, no_month, no_day, year_digits, month_digits, day_digits, month-lt, day-lt, read_date-parts, written_by}
+use Rattle.ghcn_fields.proofs.DateTexts.{read_date-parts, written_by}
+use Rattle.ghcn_fields.proofs.DateForms.{other_length, no_first_dash, no_second_dash, no_year, no_month, no_day, year_digits, month_digits, day_digits, month-lt, day-lt}
 use Rattle.ghcn_fields.proofs.date.read_date.Goals.{in_default-via-then-text-lt10, in_default-via-else-text-lt10+then-text-lt11+in-45+in_default-1, in_default-via-else-text-lt10+then-text-lt11+in_default-1, in_default-via-else-text-lt10+else-text-lt11}
 use Rattle.ghcn_fields.proofs.date.read_date.Goals as goal
 
