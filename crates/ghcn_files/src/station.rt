@@ -94,7 +94,8 @@ impl Station {
 fn degrees(limit: i32, field: &[u8]) -> Option<i32>
     requires { pos 0 ≤ℤ limit }
     ensures { let found = numbers.scaled_field 4 field.now in
-        result ≡ (if stations.is_number_within (neg_ℤ limit) limit found then Some (stations.number_of found) else None) }
+        result ≡ (if stations.is_number_within (neg_ℤ limit) limit found
+        then Some (stations.number_of found) else None) }
 {
     match scaled_field(field, 4) {
         Field::Number(number) if -limit <= number && number <= limit => Some(number),
