@@ -2,7 +2,7 @@
 use Rattle.std.proofs.Common.{◌≡◌, ℕ, List, [], ◌∷◌, ◌++◌, refl, true, false, Some, None, Ok, Err, take, replicate}
 use Rattle.std.specs.Prelude.{codes, pos}
 use Rattle.std.specs.List.{repeat, find}
-use Rattle.ghcn_files.specs.declared.element.Element.TheVariants.{Prcp, Snow, Snwd, Tmax, Tmin}
+use Rattle.ghcn_files.specs.declared.element.Element.TheVariants.{Prcp, Tmax, Tmin}
 use Rattle.ghcn_files.specs.declared.fault.StationWhy.TheVariants as station
 use Rattle.ghcn_files.specs.declared.fault.StationsFault.TheVariants.{StationLine}
 use Rattle.ghcn_files.specs.declared.fault.LineWhy.TheVariants as why

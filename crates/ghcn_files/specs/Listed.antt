@@ -1,5 +1,5 @@
 -- The listed stations of a text, or the first line with a fault.
-use Rattle.std.specs.Prelude.{◌≡◌, ℕ, ◌≤◌, ◌^◌, Bool, true, false, not, nat_lt, if◌then◌else◌, List, [], ◌∷◌, ◌++◌, length, map, Option, None, Some, Result, Ok, Err, filter, ⊤, IsTrue}
+use Rattle.std.specs.Prelude.{◌≡◌, ℕ, ◌≤◌, ◌^◌, Bool, not, nat_lt, if◌then◌else◌, List, [], ◌∷◌, ◌++◌, length, map, Option, None, Some, Result, Ok, Err, filter, ⊤, IsTrue}
 use Rattle.std.specs.List.{list_all, list_any, IsDistinct, AllByRecursion, position}
 use Rattle.std.specs.Option.{option_or, option_map}
 use Rattle.ghcn_fields.specs.Bytes.{is_blank}

@@ -1,4 +1,4 @@
-use Rattle.std.proofs.Common.{◌≡◌, true, false, Option, Ok, refl, sym, ap, ◌∙◌}
+use Rattle.std.proofs.Common.{true, false, Option, Ok, refl, sym, ap, ◌∙◌}
 use Rattle.std.specs.Prelude.{unsigned_abs}
 use Rattle.ghcn_fields.specs.declared.field.Field.{Field}
 use Rattle.ghcn_files.specs.declared.month.Month.{Month}
