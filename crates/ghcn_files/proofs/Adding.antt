@@ -1,7 +1,7 @@
 -- Stations are added one after the other: what is known of a line after those before it.
-use Rattle.std.proofs.Common.{◌≡◌, ℕ, suc, ◌+◌, ◌<◌, ◌≤◌, ◌^◌, Bool, true, false, cond, List, [], ◌∷◌, ◌++◌, length, map, Option, Some, None, refl, sym, ap, subst, ◌∙◌, arith, true≢false, ◌||◌, ◌&&◌, is_some}
-use Rattle.std.specs.Prelude.{nat_lt, nat_le, not, ℤ, pos, neg_ℤ}
-use Rattle.std.specs.List.{list_any, list_all, IsDistinct, AllByRecursion}
+use Rattle.std.proofs.Common.{◌≡◌, ℕ, suc, ◌<◌, ◌^◌, Bool, true, false, cond, List, [], ◌∷◌, ◌++◌, length, map, Option, Some, None, refl, sym, ap, subst, ◌∙◌, arith, true≢false, ◌||◌, ◌&&◌, is_some}
+use Rattle.std.specs.Prelude.{nat_lt, nat_le, ℤ, pos, neg_ℤ}
+use Rattle.std.specs.List.{list_any, list_all, IsDistinct}
 use Rattle.std.specs.Option.{option_or, option_map}
 use Rattle.std.specs.Map.{lookup, keys_of}
 use Rattle.ghcn_fields.specs.declared.field.Field.{Field}
@@ -15,7 +15,7 @@ use Rattle.ghcn_files.specs.declared.fault.StationsFault.{StationsFault}
 use Rattle.ghcn_files.specs.declared.fault.StationsFault.TheVariants.{StationLine, TooManyStations}
 use Rattle.ghcn_files.specs.Ids.{same_id, is_id}
 use Rattle.ghcn_files.specs.StationLines.{id_of, latitude, longitude, elevation, is_number_within, is_latitude, is_longitude, is_bad, number_of, is_printable, printable, station_of, line_why, is_station}
-use Rattle.ghcn_files.specs.Listed.{Numbered, is_repeated, stations_of, station_fault, is_station_of, AreKept, AreListed}
+use Rattle.ghcn_files.specs.Listed.{Numbered, is_repeated, stations_of, station_fault, is_station_of, AreKept}
 use Rattle.ghcn_files.proofs.ById.{AreOwn, same_id-turned}
 use Rattle.ghcn_files.proofs.StationTests.{why_by}
 

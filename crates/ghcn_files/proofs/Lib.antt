@@ -1,3 +1,4 @@
+pub mod Examples
 pub mod ById
 pub mod ColumnSlices
 pub mod Errors

@@ -11,9 +11,11 @@ mod missing;
 mod month;
 mod station;
 mod stations;
+#[cfg(test)]
+mod tests;
 
 pub use element::Element;
 pub use fault::{LineWhy, StationWhy, StationsFault};
-pub use month::{Month, Reading};
+pub use month::{Month, Reading, read_month};
 pub use station::{Station, StationId};
 pub use stations::Stations;

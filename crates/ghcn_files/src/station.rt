@@ -37,6 +37,22 @@ impl StationId {
     }
 }
 
+/// A line of the station list.
+#[derive(Clone, Copy, Debug)]
+pub struct Station {
+    pub id: StationId,
+    /// In ten-thousandths of a degree, from -900000 to 900000.
+    pub latitude: i32,
+    /// In ten-thousandths of a degree, from -1800000 to 1800000.
+    pub longitude: i32,
+    /// In tenths of a metre, or nothing where it is missing.
+    pub elevation: Option<i32>,
+    /// Two bytes from 32 to 126.
+    pub state: [u8; 2],
+    /// Thirty bytes from 32 to 126.
+    pub name: [u8; 30],
+}
+
 impl Station {
     /// The station of a line, or the first test that the line fails by itself.
     ///
@@ -78,7 +94,8 @@ impl Station {
 fn degrees(limit: i32, field: &[u8]) -> Option<i32>
     requires { pos 0 ≤ℤ limit }
     ensures { let found = numbers.scaled_field 4 field.now in
-        result ≡ (if stations.is_number_within (neg_ℤ limit) limit found then Some (stations.number_of found) else None) }
+        result ≡ (if stations.is_number_within (neg_ℤ limit) limit found
+        then Some (stations.number_of found) else None) }
 {
     match scaled_field(field, 4) {
         Field::Number(number) if -limit <= number && number <= limit => Some(number),
@@ -127,20 +144,4 @@ fn are_visible(bytes: &[u8]) -> bool
     ensures { result ≡ list_all is_visible bytes.now }
 {
     bytes.iter().all(|byte| byte.is_ascii_graphic())
-}
-
-/// A line of the station list.
-#[derive(Clone, Copy, Debug)]
-pub struct Station {
-    pub id: StationId,
-    /// In ten-thousandths of a degree, from -900000 to 900000.
-    pub latitude: i32,
-    /// In ten-thousandths of a degree, from -1800000 to 1800000.
-    pub longitude: i32,
-    /// In tenths of a metre, or nothing where it is missing.
-    pub elevation: Option<i32>,
-    /// Two bytes from 32 to 126.
-    pub state: [u8; 2],
-    /// Thirty bytes from 32 to 126.
-    pub name: [u8; 30],
 }

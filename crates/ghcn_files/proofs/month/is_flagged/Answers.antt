@@ -1,4 +1,4 @@
-use Rattle.std.proofs.Common.{◌≡◌, ◌+◌, ◌*◌, ◌∷◌, [], sym, ap, ◌∙◌, arith, List, ℕ}
+use Rattle.std.proofs.Common.{◌+◌, ◌*◌, ◌∷◌, [], sym, ap, ◌∙◌, arith, List, ℕ}
 use Rattle.std.specs.Prelude.{not}
 use Rattle.std.proofs.lemmas.List.{get_or_past}
 use Rattle.ghcn_fields.specs.Bytes.{is_blank}

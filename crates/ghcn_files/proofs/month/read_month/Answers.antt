@@ -1,4 +1,4 @@
-use Rattle.std.proofs.Common.{◌≡◌, true, false, Option, Ok, Some, sym, subst, ap, ◌∙◌}
+use Rattle.std.proofs.Common.{Option, Ok, Some, sym, subst, ap, ◌∙◌}
 use Rattle.ghcn_files.specs.declared.month.Month.{Month}
 use Rattle.ghcn_files.specs.declared.fault.LineWhy.{LineWhy}
 use Rattle.ghcn_files.specs.Months.{unless, month_of, IsMonth}

@@ -1,4 +1,4 @@
-use Rattle.std.proofs.Common.{◌≡◌, length-set, ◌∙◌, arith}
+use Rattle.std.proofs.Common.{length-set, ◌∙◌, arith}
 use Rattle.ghcn_files.proofs.PrintedText.{printed_more}
 use Rattle.ghcn_files.proofs.station.make_printable.Goals as goal
 

@@ -1,8 +1,6 @@
-use Rattle.std.proofs.Common.{◌≡◌, List, ℕ, Option, true, false, refl, sym, ap, ◌∙◌, rules, FitsSigned, to_z-of_z, w32}
-use Rattle.std.specs.Prelude.{map}
-use Rattle.ghcn_fields.specs.declared.field.Field.{Field}
+use Rattle.std.proofs.Common.{true, false, refl, sym, ap, ◌∙◌, rules, FitsSigned, to_z-of_z, w32}
 use Rattle.ghcn_fields.specs.Numbers.{scaled_field}
-use Rattle.ghcn_files.specs.StationLines.{is_bad, number_of, unless_missing, printable}
+use Rattle.ghcn_files.specs.StationLines.{is_bad, number_of, unless_missing}
 use Rattle.ghcn_files.proofs.Months.{test_held, test_failed}
 use Rattle.ghcn_files.proofs.StationTests.{Tested, line_why-tested, station_of-parts, latitude_slice, longitude_slice}
 use Rattle.ghcn_files.proofs.station.Station.of_line.Goals as goal

@@ -1,4 +1,4 @@
-use Rattle.std.proofs.Common.{◌≡◌, ◌∷◌, ◌++◌, [], List, ℕ, ◌^◌, Bool, true, false, length, refl, sym, ap, subst, ◌∙◌, arith, ltb}
+use Rattle.std.proofs.Common.{◌≡◌, ◌∷◌, ◌++◌, [], List, ◌^◌, true, false, length, refl, sym, ap, subst, ◌∙◌, arith}
 use Rattle.std.specs.Prelude.{OnOk}
 use Rattle.std.specs.List.{list_any}
 use Rattle.std.proofs.lemmas.Bool.{lt-ltb, le-ltb}
@@ -47,9 +47,9 @@ returns-clause-ok c =
     let line = c.args.line.now in
     let station = c.in-Ok.station in
     let id = ap (λ (s : Station). s.id) c.in-Ok.ensures.right in
-    let none = not_found _ (sym c.contains_key.ensures ∙ c.if-contains_key.false) in
     let there = ap (list_any (is_station_of station.id)) (sym c.self.view_is) ∙ sym (found_is station.id entries c.self.invariant.own) ∙ sym c.contains_key.ensures ∙ c.if-contains_key.false in
     let room = lt-ltb (length held) (2 ^ 20) (omega (arith, c.len.ensures.len, as_many entries, ap length c.self.view_is, c.if-len-ge-MOST_STATIONS.false)) in
+    let none = not_found _ (sym c.contains_key.ensures ∙ c.if-contains_key.false) in
     let P : Type 0 = Adds held (c.args.number, line) (kept c.insert.new.self.entries) in
     elim c.match-insert.branch [
       | in-Ok-insert w ↦ subst (λ r. OnOk r P) (sym w.result-is) (record {
