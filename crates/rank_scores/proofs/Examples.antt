@@ -64,7 +64,7 @@ long_sums : (candidates (ask 1 (Sum 33 Prcp) None) (series id_a Prcp (each_day (
     × (candidates (ask 1 (Sum 34 Prcp) None) (series id_a Prcp (each_day (pos 18463) 34 (pos 10))) ≡ found id_a (pos 18463) (pos 18496) (pos 340) ∷ [])
 long_sums = (refl, refl)
 
--- a dry day, one of 0.9 mm, two wet ones, and one of 0.9 mm
+-- a day without rain, one of 0.9 mm, two of 1 mm and one of 0.9 mm
 abbrev pub mixed : List DayValue
 mixed = (pos 18444, pos 0) ∷ (pos 18445, pos 9) ∷ (pos 18446, pos 10) ∷ (pos 18447, pos 10) ∷ (pos 18448, pos 9) ∷ []
 
