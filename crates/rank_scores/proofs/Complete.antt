@@ -1,5 +1,5 @@
 -- What is a candidate begins on its first day, as it is computed.
-use Rattle.std.proofs.Common.{◌≡◌, ℕ, zero, suc, ◌-◌, ◌<◌, ◌≤◌, Bool, true, false, cond, List, Some, None, sym, ap, ◌∙◌, arith, ℤ, pos, ◌+ℤ◌, ◌-ℤ◌}
+use Rattle.std.proofs.Common.{◌≡◌, ℕ, zero, suc, ◌-◌, ◌<◌, ◌≤◌, Bool, true, false, cond, List, Option, Some, None, sym, ap, ◌∙◌, arith, ℤ, pos, ◌+ℤ◌, ◌-ℤ◌}
 use Rattle.std.specs.Prelude.{int_le, nat_le}
 use Rattle.std.specs.Option.{option_map}
 use Rattle.std.proofs.lemmas.Int.{ints}
@@ -50,12 +50,21 @@ run-found such (suc n) (suc len) a le inside ends =
     (ap such (later len) ∙ ends) in
     run-more such n a (ap such (sym same) ∙ inside 0 (omega arith)) ∙ ap suc rest
 
+-- the last day and the score of a spell, by its parts
+spell-begun : (b : Bool) (run len : ℕ) (first last score : ℤ) → b ≡ true → run ≡ len → first +ℤ pos len -ℤ pos 1 ≡ last → score ≡ pos len
+    → cond {A = Option (ℤ × ℤ)} b (Some (first +ℤ pos run -ℤ pos 1, pos run)) None ≡ Some (last, score)
+spell-begun b run len first last score begins found on is =
+    ap (λ (t : Bool). cond {A = Option (ℤ × ℤ)} t (Some (first +ℤ pos run -ℤ pos 1, pos run)) None) begins
+    ∙ ap (λ (r : ℕ). Some (first +ℤ pos r -ℤ pos 1, pos r)) found
+    ∙ ap (λ (z : ℤ). Some (z, pos len)) on
+    ∙ ap (λ (z : ℤ). Some (last, z)) (sym is)
+
 -- the candidate that begins on a day with its value is that with this last day and score
 abbrev pub Begins : Shape → List DayValue → ℤ → ℤ → ℤ → Type 0
 Begins sh days first last score = (v : ℤ) × (value_on days first ≡ Some v) × (begun sh days (first, v) ≡ Some (last, score))
 
 module _ (q : Asked) (days : List DayValue) (first last score : ℤ) where
-  -- of windows
+  -- a window begins on its first day
   window-begins : (n : ℕ) → 0 < n → last +ℤ pos 1 ≡ first +ℤ pos n → window_total (admitted_among q days) n first ≡ Some score → Begins (Windows n) (admitted_among q days) first last score
   window-begins zero some ends total = absurd (omega arith)
   window-begins (suc n) some ends total =
@@ -63,7 +72,7 @@ module _ (q : Asked) (days : List DayValue) (first last score : ℤ) where
       let on : first +ℤ pos (suc n) -ℤ pos 1 ≡ last = omega (arith, ints, ends) in
       (parts.0, parts.2, ap (option_map (λ (t : ℤ). (first +ℤ pos (suc n) -ℤ pos 1, t))) total ∙ ap (λ (z : ℤ). Some (z, score)) on)
 
-  -- of spells
+  -- a spell begins on its first day
   spell-begins : (test : ℤ → Bool) (len : ℕ) → score ≡ pos len → IsRun (is_such test (admitted_among q days)) first last len → Begins (Spells test) (admitted_among q days) first last score
   spell-begins test len is run =
       let such : ℤ → Bool = is_such test (admitted_among q days) in
@@ -78,14 +87,8 @@ module _ (q : Asked) (days : List DayValue) (first last score : ℤ) where
       let ends : such (first +ℤ pos len) ≡ false = ap such (sym run.ends) ∙ run.after in
       let found : run_len such first ≡ len = run-found such calendar_len len first short run.inside ends in
       let begins : begins_run such first ≡ true = both_parts (such first) (such (first -ℤ pos 1)) passes run.before in
-      let on : first +ℤ pos len -ℤ pos 1 ≡ last = omega (arith, ints, run.ends) in (
-        has.0,
-        has.1,
-        ap (λ (b : Bool). cond b (Some (first +ℤ pos (run_len such first) -ℤ pos 1, pos (run_len such first))) None) begins
-            ∙ ap (λ (r : ℕ). Some (first +ℤ pos r -ℤ pos 1, pos r)) found
-            ∙ ap (λ (z : ℤ). Some (z, pos len)) on
-            ∙ ap (λ (z : ℤ). Some (last, z)) (sym is),
-      )
+      let on : first +ℤ pos len -ℤ pos 1 ≡ last = omega (arith, ints, run.ends) in
+      (has.0, has.1, spell-begun (begins_run such first) (run_len such first) len first last score begins found on is)
 
 -- each candidate begins on its first day, which has a value
 pub begins-from_IsCandidate : (q : Asked) (days : List DayValue) (sh : Shape) (first last score : ℤ) → HasDay sh → IsCandidate sh (admitted_among q days) first last score → Begins sh (admitted_among q days) first last score

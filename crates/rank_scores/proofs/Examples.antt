@@ -1,5 +1,5 @@
 -- Worked examples, by computation.
-use Rattle.std.proofs.Common.{◌≡◌, ℕ, zero, suc, List, [], ◌∷◌, refl, Some, None, Option}
+use Rattle.std.proofs.Common.{true, ◌≡◌, ℕ, zero, suc, List, [], ◌∷◌, refl, Some, None, Option}
 use Rattle.std.specs.Prelude.{codes, ℤ, pos, neg_ℤ, ◌+ℤ◌}
 use Rattle.ghcn_files.specs.declared.station.StationId.{StationId}
 use Rattle.ghcn_files.specs.declared.element.Element.{Element}
@@ -12,23 +12,29 @@ use Rattle.rank_query.specs.Asked.{Asked}
 use Rattle.rank_scores.specs.Runs.{run_from}
 use Rattle.rank_scores.specs.declared.candidate.Candidate.{Candidate}
 use Rattle.rank_scores.specs.Candidates.{candidates}
-use Rattle.rank_scores.specs.Order.{best, kth_score}
+use Rattle.rank_scores.specs.Order.{best, kth_score, precedes}
 
+-- the first station
 abbrev pub id_a : StationId
 id_a = record { 0 = codes "ZZA00000001" }
 
+-- the second station
 abbrev pub id_b : StationId
 id_b = record { 0 = codes "ZZA00000002" }
 
+-- the third station
 abbrev pub id_c : StationId
 id_c = record { 0 = codes "ZZA00000003" }
 
+-- a series
 abbrev pub series : StationId → Element → List DayValue → Usable
 series id e days = record { id = id; element = e; days = days }
 
+-- a query without a region
 abbrev pub ask : ℕ → Score → Option (ℤ × ℤ) → Asked
 ask k score period = record { k = k; score = score; region = Everywhere; period = period }
 
+-- a candidate
 abbrev pub found : StationId → ℤ → ℤ → ℤ → Candidate
 found id first last score = record { id = id; first = first; last = last; score = score }
 
@@ -45,6 +51,7 @@ highest_one = refl
 two_best : best 2 (found id_b (pos 18444) (pos 18444) (pos 311) ∷ found id_a (pos 18444) (pos 18444) (pos 311) ∷ found id_a (pos 18445) (pos 18445) (pos 305) ∷ []) ≡ found id_a (pos 18444) (pos 18444) (pos 311) ∷ found id_b (pos 18444) (pos 18444) (pos 311) ∷ []
 two_best = refl
 
+-- rain on three days, and on three after a missing one
 abbrev pub rain : List DayValue
 rain = (pos 18258, pos 10) ∷ (pos 18259, pos 20) ∷ (pos 18260, pos 30) ∷ (pos 18262, pos 5) ∷ (pos 18263, pos 6) ∷ (pos 18264, pos 7) ∷ []
 
@@ -57,13 +64,16 @@ long_sums : (candidates (ask 1 (Sum 33 Prcp) None) (series id_a Prcp (each_day (
     × (candidates (ask 1 (Sum 34 Prcp) None) (series id_a Prcp (each_day (pos 18463) 34 (pos 10))) ≡ found id_a (pos 18463) (pos 18496) (pos 340) ∷ [])
 long_sums = (refl, refl)
 
+-- a day without rain, one of 0.9 mm, two of 1 mm and one of 0.9 mm
 abbrev pub mixed : List DayValue
 mixed = (pos 18444, pos 0) ∷ (pos 18445, pos 9) ∷ (pos 18446, pos 10) ∷ (pos 18447, pos 10) ∷ (pos 18448, pos 9) ∷ []
 
+-- spells around two wet days
 dry_spells : best 3 (candidates (ask 3 Dry None) (series id_a Prcp mixed)) ≡ found id_a (pos 18444) (pos 18445) (pos 2) ∷ found id_a (pos 18448) (pos 18448) (pos 1) ∷ []
 unfolding run_from
 dry_spells = refl
 
+-- the wet spell between them
 wet_spells : candidates (ask 3 Wet None) (series id_a Prcp mixed) ≡ found id_a (pos 18446) (pos 18447) (pos 2) ∷ []
 unfolding run_from
 wet_spells = refl
@@ -73,11 +83,26 @@ cut_spell : candidates (ask 2 Dry (Some (pos 18448, pos 18453))) (series id_a Pr
 unfolding run_from
 cut_spell = refl
 
+-- below and above zero, the lowest first
 lowest : best 2 (candidates (ask 2 (Lowest Tmin) None) (series id_a Tmin ((pos 18444, neg_ℤ (pos 5)) ∷ (pos 18445, pos 3) ∷ []))) ≡ found id_a (pos 18444) (pos 18444) (pos 5) ∷ found id_a (pos 18445) (pos 18445) (neg_ℤ (pos 3)) ∷ []
 lowest = refl
 
+-- windows of one day are single days
 snow_sums : best 3 (candidates (ask 3 (Sum 1 Snow) None) (series id_a Snow ((pos 18262, pos 10) ∷ (pos 18263, pos 20) ∷ (pos 18265, pos 30) ∷ []))) ≡ found id_a (pos 18265) (pos 18265) (pos 30) ∷ found id_a (pos 18263) (pos 18263) (pos 20) ∷ found id_a (pos 18262) (pos 18262) (pos 10) ∷ []
 snow_sums = refl
 
+-- one candidate has no second best
 none_of_two : kth_score 2 (found id_a (pos 1) (pos 1) (pos 5) ∷ []) ≡ None
 none_of_two = refl
+
+-- the second best score of three stations
+second_of_three : kth_score 2 (found id_b (pos 18444) (pos 18444) (pos 311) ∷ found id_c (pos 18444) (pos 18444) (pos 250) ∷ found id_a (pos 18445) (pos 18445) (pos 305) ∷ []) ≡ Some (pos 305)
+second_of_three = refl
+
+-- there is no candidate before the first
+no_zeroth : kth_score 0 (found id_a (pos 1) (pos 1) (pos 5) ∷ []) ≡ None
+no_zeroth = refl
+
+-- of equal scores the smaller ID precedes, though its day is later
+station_before_day : precedes (found id_a (pos 18445) (pos 18445) (pos 311)) (found id_b (pos 18444) (pos 18444) (pos 311)) ≡ true
+station_before_day = refl

@@ -13,6 +13,7 @@ use Rattle.rank_scores.specs.Candidates.{candidate, plus, window_total, admitted
 use Rattle.rank_scores.proofs.Windows.{unless_admitted}
 use Rattle.rank_scores.proofs.Walks.{run-more, run-ends, run-zero}
 
+-- of two tests that both pass, the first passes
 left : (a b : Bool) → (a && b) ≡ true → a ≡ true
 left true b e = refl
 left false b e = absurd cc
@@ -25,18 +26,22 @@ valued-is_day q days d v e =
       | false ↦ λ h. let none = unless_admitted q days d h in absurd cc
     ] refl
 
+-- a day that passes has a value
 pub such-has : (test : ℤ → Bool) (o : Option ℤ) → option_map_or test o false ≡ true → (v : ℤ) × (o ≡ Some v)
 such-has test None e = absurd cc
 such-has test (Some v) e = (v, refl)
 
+-- a day that passes is a day of the calendar
 pub such-is_day : (q : Asked) (days : List DayValue) (test : ℤ → Bool) (d : ℤ) → is_such test (admitted_among q days) d ≡ true → is_day d ≡ true
 such-is_day q days test d e =
     let v = such-has test (value_on (admitted_among q days) d) e in
     valued-is_day q days d v.0 v.1
 
+-- a day of the calendar is found by its number
 pub day_if-day : (d : ℤ) → is_day d ≡ true → day_if d ≡ Some d
 day_if-day d e = ap (λ (b : Bool). cond b (Some d) None) e
 
+-- a sum that there is has both its parts
 pub plus-parts : (a b : Option ℤ) (t : ℤ) → plus a b ≡ Some t → (v : ℤ) × (w : ℤ) × (a ≡ Some v) × (b ≡ Some w)
 plus-parts None b t e = absurd cc
 plus-parts (Some v) None t e = absurd cc
@@ -54,6 +59,7 @@ window-last days (suc n) a t e =
     let same : a +ℤ pos (suc n) ≡ (a +ℤ pos 1) +ℤ pos n = omega (arith, ints) in
     (last.0, ap (value_on days) same ∙ last.1)
 
+-- the numbers of a run that is one longer pass too
 inside : (such : ℤ → Bool) (n i : ℕ) (a : ℤ) → i < run_from such (suc n) a → such a ≡ true → ((i : ℕ) (b : ℤ) → i < run_from such n b → such (b +ℤ pos i) ≡ true) → such (a +ℤ pos i) ≡ true
 inside such n zero a lt e rest =
     let same : a +ℤ pos 0 ≡ a = omega (arith, ints) in
@@ -71,10 +77,11 @@ run-inside such (suc n) i a lt =
       | true ↦ λ e. inside such n i a lt e (run-inside such n)
     ] refl
 
+-- a run from a number that passes isn't empty
 pub run-some : (such : ℤ → Bool) (n : ℕ) (a : ℤ) → such a ≡ true → 0 < run_from such (suc n) a
 run-some such n a e = omega (arith, run-more such n a e)
 
--- the last day of a window, and of a run, is a day of the calendar
+-- the last day of a window is a day of the calendar
 pub window-ends : (q : Asked) (days : List DayValue) (n : ℕ) (a t : ℤ) → 0 < n → window_total (admitted_among q days) n a ≡ Some t → day_if (a +ℤ pos (n - 1)) ≡ Some (a +ℤ pos (n - 1))
 window-ends q days zero a t some e = absurd (omega arith)
 window-ends q days (suc n) a t some e =
@@ -82,6 +89,7 @@ window-ends q days (suc n) a t some e =
     let same : a +ℤ pos (suc n - 1) ≡ a +ℤ pos n = omega (arith, ints) in
     day_if-day (a +ℤ pos (suc n - 1)) (ap is_day same ∙ valued-is_day q days (a +ℤ pos n) last.0 last.1)
 
+-- the last day of a run is a day of the calendar
 pub run-ends-on : (q : Asked) (days : List DayValue) (test : ℤ → Bool) (n : ℕ) (a : ℤ) → 0 < run_from (is_such test (admitted_among q days)) n a
     → day_if (a +ℤ pos (run_from (is_such test (admitted_among q days)) n a - 1)) ≡ Some (a +ℤ pos (run_from (is_such test (admitted_among q days)) n a - 1))
 run-ends-on q days test n a some =

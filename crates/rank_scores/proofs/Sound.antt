@@ -1,6 +1,6 @@
 -- What is listed as a candidate is one.
 use Rattle.std.proofs.Common.{◌≡◌, ℕ, zero, suc, ◌<◌, ◌≤◌, Bool, true, false, cond, List, Option, Some, None, refl, sym, ap, subst, ◌∙◌, arith, inl, inr, ℤ, pos, ◌+ℤ◌, ◌-ℤ◌, ◌≤ℤ◌, ◌<ℤ◌}
-use Rattle.std.specs.Prelude.{◌&&◌, not, int_le}
+use Rattle.std.specs.Prelude.{not, int_le}
 use Rattle.std.specs.Option.{option_map}
 use Rattle.std.proofs.lemmas.Bool.{cases_lt}
 use Rattle.std.proofs.lemmas.Int.{ints}
@@ -9,10 +9,12 @@ use Rattle.ghcn_series.specs.Series.{DayValue, value_on}
 use Rattle.rank_query.specs.Asked.{Asked}
 use Rattle.rank_scores.specs.Runs.{run_from, run_len, begins_run, calendar_len, IsRun}
 use Rattle.rank_scores.specs.Candidates.{Shape, Days, Windows, Spells, IsCandidate, begun, window_total, admitted_among, is_such}
+use Rattle.rank_scores.proofs.Rising.{both_pass}
 use Rattle.rank_scores.proofs.Walks.{run-more, run-ends, run-zero}
 use Rattle.rank_scores.proofs.LastDays.{such-is_day, run-inside, run-some}
 
 module _ (such : ℤ → Bool) where
+  -- a run is no longer than it was counted
   run-le : (n : ℕ) (a : ℤ) → run_from such n a ≤ n
   run-le zero a = omega (arith, run-zero such a)
   run-le (suc n) a =
@@ -35,25 +37,25 @@ module _ (such : ℤ → Bool) where
             ap such at ∙ e
       ] refl
 
+-- what a test of two numbers says
 pub le_of : (a b : ℤ) → int_le a b ≡ true → a ≤ℤ b
 le_of a b e = grind (arith, ints)
 
-parts : (a b : Bool) → (a && b) ≡ true → (a ≡ true) × (b ≡ true)
-parts true b e = (refl, e)
-parts false b e = absurd cc
-
+-- a test whose opposite passes fails
 negated : (b : Bool) → not b ≡ true → b ≡ false
 negated true e = absurd cc
 negated false e = refl
 
 module _ (q : Asked) (days : List DayValue) (test : ℤ → Bool) where
+  -- an admitted usable day whose value passes
   abbrev such_day : ℤ → Bool
   such_day = is_such test (admitted_among q days)
 
+  -- behind the last day of the calendar no day passes
   past_last : (d : ℤ) → last_day <ℤ d → such_day d ≡ false
   past_last d lt =
       elim (such_day d) as (λ b. such_day d ≡ b → b ≡ false) [
-        | true ↦ λ e. let high = le_of d last_day (parts (int_le first_day d) (int_le d last_day) (such-is_day q days test d e)).1 in absurd (omega (arith, ints, lt, high))
+        | true ↦ λ e. let high = le_of d last_day (both_pass (int_le first_day d) (int_le d last_day) (such-is_day q days test d e)).1 in absurd (omega (arith, ints, lt, high))
         | false ↦ λ e. refl
       ] refl
 
@@ -63,13 +65,14 @@ module _ (q : Asked) (days : List DayValue) (test : ℤ → Bool) where
       elim (cases_lt (run_from such_day calendar_len a) calendar_len) [
         | inl lt ↦ run-stops such_day calendar_len a lt
         | inr le ↦
-            let low = le_of first_day a (parts (int_le first_day a) (int_le a last_day) (such-is_day q days test a first)).0 in
+            let low = le_of first_day a (both_pass (int_le first_day a) (int_le a last_day) (such-is_day q days test a first)).0 in
             past_last (a +ℤ pos (run_len such_day a)) (omega (arith, ints, le, low))
       ]
 
+  -- what begins a run is the first of one
   pub run-is : (a : ℤ) → begins_run such_day a ≡ true → IsRun such_day a (a +ℤ pos (run_len such_day a) -ℤ pos 1) (run_len such_day a)
   run-is a e =
-      let both = parts (such_day a) (not (such_day (a -ℤ pos 1))) e in
+      let both = both_pass (such_day a) (not (such_day (a -ℤ pos 1))) e in
       let next : (a +ℤ pos (run_len such_day a) -ℤ pos 1) +ℤ pos 1 ≡ a +ℤ pos (run_len such_day a) = omega (arith, ints) in
       record {
         nonempty = run-some such_day 3_652_058 a both.0;
@@ -79,20 +82,24 @@ module _ (q : Asked) (days : List DayValue) (test : ℤ → Bool) where
         after = ap such_day next ∙ after_run a both.0;
       }
 
+-- what begins on a day, by its last day and its score
 abbrev Listed : Asked → List DayValue → Shape → DayValue → ℤ → ℤ → Type 0
 Listed q days sh x last score = begun sh (admitted_among q days) x ≡ Some (last, score)
 
+-- two pairs that are the same have the same parts
 pair_is : (a b last score : ℤ) → ◌≡◌ {A = Option (ℤ × ℤ)} (Some (a, b)) (Some (last, score)) → (last ≡ a) × (score ≡ b)
 pair_is a b last score e =
     let pair : ◌≡◌ {A = ℤ × ℤ} (a, b) (last, score) = cc in
     (sym (ap (λ (p : ℤ × ℤ). p.0) pair), sym (ap (λ (p : ℤ × ℤ). p.1) pair))
 
+-- the parts of a window that begins on a day
 window_made : (a last score : ℤ) (n : ℕ) (o : Option ℤ) → option_map {U = ℤ × ℤ} (λ total. (a +ℤ pos n -ℤ pos 1, total)) o ≡ Some (last, score) → (last +ℤ pos 1 ≡ a +ℤ pos n) × (o ≡ Some score)
 window_made a last score n None e = absurd cc
 window_made a last score n (Some t) e =
     let is = pair_is (a +ℤ pos n -ℤ pos 1) t last score e in
     (omega (arith, ints, is.0), ap (λ (z : ℤ). Some z) (sym is.1))
 
+-- the parts of a spell that begins on a day
 spell_made : (b : Bool) (p r last score : ℤ) → cond {A = Option (ℤ × ℤ)} b (Some (p, r)) None ≡ Some (last, score) → (b ≡ true) × (last ≡ p) × (score ≡ r)
 spell_made true p r last score e = let is = pair_is p r last score e in (refl, is.0, is.1)
 spell_made false p r last score e = absurd cc

@@ -77,7 +77,7 @@ begun (Spells test) days x =
 abbrev pub candidate : StationId → ℤ → ℤ × ℤ → Candidate
 candidate id first e = record { id = id; first = first; last = e.0; score = e.1 }
 
--- the candidates that begin on some days, which are all the admitted usable ones, by increasing first day
+-- the candidates of a station, where these are its admitted usable days, by increasing first day
 abbrev pub candidates_among : StationId → Shape → List DayValue → List Candidate
 candidates_among id sh days = filter_map (λ x. option_map (candidate id x.0) (begun sh days x)) days
 
