@@ -13,6 +13,6 @@ mod stations;
 
 pub use element::Element;
 pub use fault::{LineWhy, StationWhy, StationsFault};
-pub use month::{Month, Reading};
+pub use month::{Month, Reading, read_month};
 pub use station::{Station, StationId};
 pub use stations::Stations;

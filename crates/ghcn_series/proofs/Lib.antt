@@ -6,3 +6,4 @@ pub mod SortedDays
 pub mod StationMonths
 pub mod Places
 pub mod ReadMonths
+pub mod ReadLines
