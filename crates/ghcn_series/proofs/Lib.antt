@@ -7,3 +7,4 @@ pub mod StationMonths
 pub mod Places
 pub mod ReadMonths
 pub mod ReadLines
+pub mod SeriesKeys
