@@ -6,3 +6,5 @@ pub mod SortedDays
 pub mod StationMonths
 pub mod Places
 pub mod ReadMonths
+pub mod ReadLines
+pub mod SeriesKeys

@@ -1,10 +1,11 @@
 -- What has been gathered after some lines, of one station and element and of all of them.
-use Rattle.std.specs.Prelude.{◌≡◌, ℕ, ◌==◌, Bool, false, not, ◌&&◌, ◌||◌, if◌then◌else◌, List, [], ◌∷◌, Option, None, Some, filter, pos, int_le}
+use Rattle.std.specs.Prelude.{◌≡◌, ℕ, ◌==◌, Bool, false, not, ◌&&◌, ◌||◌, if◌then◌else◌, List, [], ◌∷◌, Option, None, Some, filter, pos, int_le, ⊤}
 use Rattle.std.specs.List.{list_any, filter_map, flat_map, enumerate_from, count_by, IsDistinct, AllZip, AllByRecursion}
 use Rattle.std.specs.Option.{option_and_then}
 use Rattle.std.specs.declared.cmp.Ordering.{Ordering}
 use Rattle.std.specs.Ordering.{nat_cmp, ordering_then}
 use Rattle.std.specs.BTreeSet.{contains}
+use Rattle.ghcn_fields.specs.Faults.{HaveNoFault, IsFirstFault}
 use Rattle.ghcn_files.specs.declared.station.StationId.{StationId}
 use Rattle.ghcn_files.specs.declared.element.Element.{Element}
 use Rattle.ghcn_files.specs.declared.month.Month.{Month}
@@ -17,8 +18,10 @@ use Rattle.ghcn_files.specs.Months.{IsMonth}
 use Rattle.ghcn_series.specs.declared.gathering.Gathering.{Gathering}
 use Rattle.ghcn_series.specs.declared.station.StationGathering.{StationGathering}
 use Rattle.ghcn_series.specs.declared.reader.Reader.{Reader}
+use Rattle.ghcn_series.specs.declared.fault.DataFault.{DataFault}
+use Rattle.ghcn_series.specs.declared.fault.DataFault.TheVariants.{TooManyFiles, DailyLine, Memory}
 use Rattle.ghcn_series.specs.Series.{DayValue}
-use Rattle.ghcn_series.specs.DailyFaults.{is_listed}
+use Rattle.ghcn_series.specs.DailyFaults.{FileLine, month_on, is_listed, daily_fault}
 use Rattle.ghcn_series.specs.Says.{Fact, fact_of}
 
 -- the day and the value of a fact, where its element can have the value
@@ -76,3 +79,14 @@ pub record HasRead (r : Reader) (months : List Month) : Type 0 where
   pub right : AllByRecursion IsMonth months
   pub unlisted : r.unlisted ≡ count_by (λ m. not (is_listed r.stations m.id)) months
   pub gathered : AllZip (IsStationOf months) r.stations r.gathered.items
+
+-- a reader has read these lines, none of which has a fault
+pub record HasReadLines (r : Reader) (ls : List FileLine) : Type 0 where
+  pub months : HasRead r (filter_map month_on ls)
+  pub right : HaveNoFault (daily_fault r.stations) [] ls
+
+-- want of memory, or the fault of the first line that has one
+abbrev pub IsFirstRefusal : List Station → List FileLine → DataFault → Type 0
+IsFirstRefusal stations ls (Memory m) = ⊤
+IsFirstRefusal stations ls TooManyFiles = ⊥
+IsFirstRefusal stations ls (DailyLine file line why) = (l : FileLine) × IsFirstFault (daily_fault stations) ls l (DailyLine file line why)

@@ -1,4 +1,5 @@
 pub mod Series
 pub mod DailyFaults
 pub mod Says
+pub mod Held
 pub mod Gathered

@@ -4,6 +4,7 @@
 //! of one station and element to their values.
 #![tactic(auto)]
 
+mod data;
 mod days;
 mod fault;
 mod gathering;
@@ -11,6 +12,7 @@ mod reader;
 mod series;
 mod station;
 
+pub use data::Data;
 pub use days::Days;
 pub use fault::{DailyWhy, DataFault};
 pub use series::Series;

@@ -1,17 +1,18 @@
 //! Reads the lines of daily files one after another.
 
-ghost use Rattle.std.specs.Prelude.{◌≡◌, ◌++◌, ◌∷◌, [], ◌&&◌, List, not, Some, IfOk};
+ghost use Rattle.std.specs.Prelude.{◌≡◌, ◌++◌, ◌∷◌, [], ◌&&◌, List, not, Some, IfOk, IfErr, OnOk};
 ghost use Rattle.std.specs.Bool.{OnTrue};
 ghost use Rattle.std.specs.List.{list_any};
 ghost use Rattle.ghcn_files.specs.Listed.{AreListed, place_of};
 ghost use Rattle.ghcn_files.specs.Months.{IsMonth};
 ghost use Rattle.ghcn_files.specs.declared.month.Month as months;
-ghost use Rattle.ghcn_series.specs.DailyFaults.{same_month, is_listed};
-ghost use Rattle.ghcn_series.specs.Gathered.{HasRead};
+ghost use Rattle.ghcn_series.specs.DailyFaults.{FileLine, file_lines, same_month, is_listed};
+ghost use Rattle.ghcn_series.specs.Gathered.{HasRead, HasReadLines, IsFirstRefusal};
 
 use crate::station::StationGathering;
-use ghcn_fields::Memory;
-use ghcn_files::{Month, StationId, Stations};
+use crate::{DailyWhy, DataFault};
+use ghcn_fields::{Memory, is_blank, lines};
+use ghcn_files::{Month, StationId, Stations, read_month};
 use std::alloc::Global;
 
 /// What was read so far.
@@ -45,8 +46,53 @@ impl Reader {
         })
     }
 
+    /// Adds the lines of a file.
+    pub(crate) fn add_file(&mut self, alloc: Global, file: u64, text: &[u8]) -> Result<(), DataFault>
+        ensures stations { self.new.stations ≡ self.old.stations }
+        ensures read { OnOk result ((before : List FileLine) → HasReadLines self.old before →
+            HasReadLines self.new (before ++ file_lines (file, text.now))) }
+        ensures fault { IfErr result (λ fault. (before : List FileLine) → HasReadLines self.old before →
+            IsFirstRefusal self.old.stations (before ++ file_lines (file, text.now)) fault) }
+    {
+        for (line, bytes) in lines(text) {
+            if is_blank(bytes) {
+                continue;
+            }
+            self.add_line(alloc, file, line, bytes)?;
+        }
+        Ok(())
+    }
+
+    /// Adds a line that isn't blank.
+    fn add_line(
+        &mut self,
+        alloc: Global,
+        file: u64,
+        line: u64,
+        bytes: &[u8],
+    ) -> Result<(), DataFault>
+        ensures stations { self.new.stations ≡ self.old.stations }
+        ensures read { let this : FileLine = record { file = file; line = line; bytes = bytes.now } in
+            OnOk result ((before : List FileLine) → HasReadLines self.old before →
+            HasReadLines self.new (before ++ this ∷ [])) }
+        ensures fault { let this : FileLine = record { file = file; line = line; bytes = bytes.now } in
+            IfErr result (λ fault. (before : List FileLine) → HasReadLines self.old before →
+            IsFirstRefusal self.old.stations (before ++ this ∷ []) fault) }
+    {
+        let month = match read_month(bytes) {
+            Ok(Some(month)) => month,
+            Ok(None) => return Ok(()),
+            Err(why) => return Err(refused(file, line, DailyWhy::Line(why))),
+        };
+        match self.add_month(alloc, &month) {
+            Ok(true) => Ok(()),
+            Ok(false) => Err(refused(file, line, DailyWhy::DuplicateMonth)),
+            Err(memory) => Err(DataFault::Memory(memory)),
+        }
+    }
+
     /// Adds a month, or answers false where its station is listed and has that month already.
-    pub(crate) fn add_month(&mut self, alloc: Global, month: &Month) -> Result<bool, Memory>
+    fn add_month(&mut self, alloc: Global, month: &Month) -> Result<bool, Memory>
         ensures stations { self.new.stations ≡ self.old.stations }
         ensures added { IfOk result (λ added. (before : List months.Month) → IsMonth month.now → HasRead self.old before →
             (added ≡ not (is_listed self.old.stations month.now.id && list_any (same_month month.now) before))
@@ -77,4 +123,11 @@ impl Reader {
             }
         }
     }
+}
+
+/// The fault of a line.
+fn refused(file: u64, line: u64, why: DailyWhy) -> DataFault
+    ensures { result ≡ DataFault.DailyLine file line why }
+{
+    DataFault::DailyLine { file, line, why }
 }
