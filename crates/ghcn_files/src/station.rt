@@ -1,6 +1,6 @@
 //! A station and its ID.
 
-ghost use Rattle.std.specs.Prelude.{◌≡◌, ◌≤◌, ◌+◌, ◌-◌, ◌≤ℤ◌, pos, neg_ℤ, Some, None, length, map, if◌then◌else◌, IfOk, OnOk, IfErr};
+ghost use Rattle.std.specs.Prelude.{◌≡◌, ◌≤◌, ◌+◌, ◌-◌, ◌≤ℤ◌, pos, neg_ℤ, int_le, ◌&&◌, Some, None, length, map, if◌then◌else◌, IfOk, OnOk, IfErr};
 ghost use Rattle.std.specs.List.{list_all};
 ghost use Rattle.ghcn_fields.specs.Lines as lines;
 ghost use Rattle.ghcn_fields.specs.Numbers as numbers;
@@ -98,9 +98,17 @@ fn degrees(limit: i32, field: &[u8]) -> Option<i32>
         then Some (stations.number_of found) else None) }
 {
     match scaled_field(field, 4) {
-        Field::Number(number) if -limit <= number && number <= limit => Some(number),
+        Field::Number(number) if is_within(limit, number) => Some(number),
         _ => None,
     }
+}
+
+/// Whether a number is at most a limit away from 0.
+fn is_within(limit: i32, number: i32) -> bool
+    requires { pos 0 ≤ℤ limit }
+    ensures { result ≡ (int_le (neg_ℤ limit) number && int_le number limit) }
+{
+    -limit <= number && number <= limit
 }
 
 /// Whether a field is neither blank nor a number.
