@@ -8,3 +8,6 @@ pub mod Places
 pub mod ReadMonths
 pub mod ReadLines
 pub mod SeriesKeys
+pub mod ReadySeries
+pub mod UsableMonths
+pub mod AllSeries
