@@ -9,5 +9,6 @@ pub mod ReadMonths
 pub mod ReadLines
 pub mod SeriesKeys
 pub mod ReadySeries
-pub mod UsableMonths
+pub mod FactsOfMonths
 pub mod AllSeries
+pub mod ReadFiles

@@ -82,15 +82,14 @@ lookup-series id e (x ∷ xs) own =
 
 apart : (x : Entry) (xs : List Entry) → x.0.0 ≡ x.1.id → x.0.1 ≡ x.1.element → AreUnderOwn xs → AllByRecursion (λ k. same_key x.0 k ≡ false) (keys_of xs) → AllByRecursion (λ s. same_series x.1 s ≡ false) (map (λ y. y.1) xs)
 apart x [] p q own other = tt
-apart x (y ∷ ys) p q own other =
-    (
-      sym (ap (λ (i : StationId). same_id i y.1.id && same_element x.1.element y.1.element) p)
+apart x (y ∷ ys) p q own other = (
+  sym (ap (λ (i : StationId). same_id i y.1.id && same_element x.1.element y.1.element) p)
       ∙ sym (ap (λ (e : Element). same_id x.0.0 y.1.id && same_element e y.1.element) q)
       ∙ sym (ap (λ (i : StationId). same_id x.0.0 i && same_element x.0.1 y.1.element) own.0.0)
       ∙ sym (ap (λ (e : Element). same_id x.0.0 y.0.0 && same_element x.0.1 e) own.0.1)
       ∙ other.0,
-      apart x ys p q own.1 other.1,
-    )
+  apart x ys p q own.1 other.1,
+)
 
 -- no two series are of one station and element where no two keys are the same
 pub distinct_series : (xs : List Entry) → AreUnderOwn xs → AreApart xs → IsDistinct same_series (map (λ y. y.1) xs)
@@ -118,13 +117,13 @@ before_it (z ∷ zs) x ys distinct = (from_append (λ j. same_key z.0 j ≡ fals
 pub insert-last : (xs : List Entry) (x : Entry) (ys : List Entry) → AreApart (xs ++ x ∷ ys) → insert_entry key_eq xs x.0 x.1 ≡ xs ++ x ∷ []
 insert-last xs x ys distinct = insert_new xs (absent_among x.0 xs (before_it xs x ys distinct))
   where
-  first : (b : Bool) (z : Entry) (zs : List Entry) (o : Option Usable) → cond b (Some z.1) o ≡ None → b ≡ false
-  first true z zs o e = absurd cc
-  first false z zs o e = refl
+    first : (b : Bool) (z : Entry) (zs : List Entry) (o : Option Usable) → cond b (Some z.1) o ≡ None → b ≡ false
+    first true z zs o e = absurd cc
+    first false z zs o e = refl
 
-  insert_new : (zs : List Entry) → lookup (key_eq x.0) zs ≡ None → insert_entry key_eq zs x.0 x.1 ≡ zs ++ x ∷ []
-  insert_new [] none = refl
-  insert_new (z ∷ zs) none =
-      let other = first (key_eq x.0 z.0) z zs (lookup (key_eq x.0) zs) none in
-      let rest : lookup (key_eq x.0) zs ≡ None = sym (ap (λ (b : Bool). cond b (Some z.1) (lookup (key_eq x.0) zs)) other) ∙ none in
-      ap (λ (b : Bool). cond b ((z.0, x.1) ∷ zs) (z ∷ insert_entry key_eq zs x.0 x.1)) other ∙ ap (λ (es : List Entry). z ∷ es) (insert_new zs rest)
+    insert_new : (zs : List Entry) → lookup (key_eq x.0) zs ≡ None → insert_entry key_eq zs x.0 x.1 ≡ zs ++ x ∷ []
+    insert_new [] none = refl
+    insert_new (z ∷ zs) none =
+        let other = first (key_eq x.0 z.0) z zs (lookup (key_eq x.0) zs) none in
+        let rest : lookup (key_eq x.0) zs ≡ None = sym (ap (λ (b : Bool). cond b (Some z.1) (lookup (key_eq x.0) zs)) other) ∙ none in
+        ap (λ (b : Bool). cond b ((z.0, x.1) ∷ zs) (z ∷ insert_entry key_eq zs x.0 x.1)) other ∙ ap (λ (es : List Entry). z ∷ es) (insert_new zs rest)
