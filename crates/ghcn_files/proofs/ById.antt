@@ -3,7 +3,6 @@ use Rattle.std.proofs.Common.{◌≡◌, ℕ, suc, ◌+◌, Bool, cond, List, []
 use Rattle.std.specs.Prelude.{nat_lt, not}
 use Rattle.std.specs.List.{find, position, position_or_len, AllByRecursion}
 use Rattle.std.specs.Map.{lookup, keys_of}
-use Rattle.std.specs.Cmp.Lexicographic.{pointwise}
 use Rattle.std.proofs.lemmas.Cmp.{nat_list_eq_equiv}
 use Rattle.ghcn_files.specs.declared.station.StationId.{StationId}
 use Rattle.ghcn_files.specs.declared.station.Station.{Station}

@@ -1,5 +1,11 @@
+pub mod Examples
 pub mod ById
-pub mod Columns
+pub mod ColumnSlices
+pub mod Errors
 pub mod Readings
 pub mod Months
 pub mod Ranges
+pub mod StationTests
+pub mod PrintedText
+pub mod Adding
+pub mod ReadLines

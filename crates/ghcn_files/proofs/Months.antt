@@ -1,14 +1,12 @@
 -- The tests of a line of a daily file, one after the other.
-use Rattle.std.proofs.Common.{◌≡◌, ℕ, ◌≤◌, Bool, true, false, cond, List, length, take, drop, map, Option, Some, None, Result, Ok, Err, refl, sym, ap, ◌∙◌, arith}
+use Rattle.std.proofs.Common.{◌≡◌, ℕ, ◌≤◌, Bool, true, false, cond, List, length, take, drop, map, Option, Some, None, Ok, Err, refl, sym, ap, ◌∙◌, arith}
 use Rattle.std.specs.Prelude.{pos, unsigned_abs}
-use Rattle.std.specs.Result.{IsErrAnd}
 use Rattle.std.proofs.lemmas.Bool.{le-leb, le-ltb}
 use Rattle.ghcn_fields.specs.Bytes.{is_blank}
 use Rattle.ghcn_fields.specs.Lines.{columns}
 use Rattle.ghcn_fields.specs.Faults.{first_failing}
 use Rattle.ghcn_fields.specs.Numbers.{int_field}
 use Rattle.ghcn_files.specs.declared.element.Element.{Element}
-use Rattle.ghcn_files.specs.declared.month.Month.{Month}
 use Rattle.ghcn_files.specs.declared.month.Reading.{Reading}
 use Rattle.ghcn_files.specs.declared.station.StationId.{StationId}
 use Rattle.ghcn_files.specs.declared.fault.LineWhy.{LineWhy}
@@ -17,7 +15,7 @@ use Rattle.ghcn_files.specs.Ids.{is_id}
 use Rattle.ghcn_files.specs.Elements.{element_of}
 use Rattle.ghcn_files.specs.StationLines.{id_of, is_number_within, number_of}
 use Rattle.ghcn_files.specs.Months.{year_field, month_field, value_test, reading, days_of_group, month_why, month_of, month_if, unless, read_month}
-use Rattle.ghcn_files.proofs.Columns.{columns-slice}
+use Rattle.ghcn_files.proofs.ColumnSlices.{columns-slice}
 
 -- the first test that fails, by how each test came out
 abbrev pub why_by : Bool → Bool → Bool → Bool → Bool → Option LineWhy → Option LineWhy
@@ -52,11 +50,6 @@ month_why-tested {line} {ends} {id} {year} {month} {days} t =
     ∙ ap (λ (b : Bool). why_by true ends id b in_month tests) (ap (is_number_within (pos 1) (pos 9999)) (sym (year_slice line t.long)) ∙ t.year_is)
     ∙ ap (λ (b : Bool). why_by true ends id year b tests) (ap (is_number_within (pos 1) (pos 12)) (sym (month_slice line t.long)) ∙ t.month_is)
     ∙ ap (λ (o : Option LineWhy). why_by true ends id year month o) t.days_is
-
--- a value for which the conversion of an error to itself gave an error
-pub err_given : {T : Type 0} (r : Result T LineWhy) (why : LineWhy) → IsErrAnd r (λ v. v ≡ why) → r ≡ Err why
-err_given (Ok x) why h = absurd h
-err_given (Err v) why h = cc
 
 -- a value that a test let through
 pub test_held : {T : Type 0} (b : Bool) (x y : T) → cond b (Some x) None ≡ Some y → (b ≡ true) × (y ≡ x)

@@ -1,10 +1,10 @@
 -- The listed stations of a text, or the first line with a fault.
-use Rattle.std.specs.Prelude.{◌≡◌, ℕ, ◌≤◌, ◌^◌, Bool, true, false, not, nat_lt, if◌then◌else◌, List, [], ◌∷◌, length, map, Option, None, Some, Result, Ok, Err, filter, ⊤, IsTrue}
+use Rattle.std.specs.Prelude.{◌≡◌, ℕ, ◌≤◌, ◌^◌, Bool, not, nat_lt, if◌then◌else◌, List, [], ◌∷◌, ◌++◌, length, map, Option, None, Some, Result, Ok, Err, filter, ⊤, IsTrue}
 use Rattle.std.specs.List.{list_all, list_any, IsDistinct, AllByRecursion, position}
 use Rattle.std.specs.Option.{option_or, option_map}
 use Rattle.ghcn_fields.specs.Bytes.{is_blank}
 use Rattle.ghcn_fields.specs.Lines.{numbered_lines}
-use Rattle.ghcn_fields.specs.Faults.{first_fault}
+use Rattle.ghcn_fields.specs.Faults.{first_fault, IsFirstFault}
 use Rattle.ghcn_files.specs.declared.station.StationId.{StationId}
 use Rattle.ghcn_files.specs.declared.station.Station.{Station}
 use Rattle.ghcn_files.specs.declared.fault.StationWhy.{StationWhy}
@@ -57,7 +57,7 @@ is_station_of id s = same_id s.id id
 abbrev pub place_of : List Station → StationId → Option ℕ
 place_of stations id = position (is_station_of id) stations
 
--- what is true of every list of stations: no ID stands twice, there are at most 2^20, and each has fields in their ranges
+-- what is true of every list of stations: no ID twice, at most 2^20 stations, and each has its fields in range
 pub record AreListed (stations : List Station) : Type 0 where
   pub distinct : IsDistinct same_id (map (λ s. s.id) stations)
   pub few : length stations ≤ 2 ^ 20
@@ -73,3 +73,29 @@ abbrev pub IsRefusal : StationsFault → Result (List Station) StationsFault →
 IsRefusal (Memory m) read = ⊤
 IsRefusal (StationLine line why) read = read ≡ Err (StationLine line why)
 IsRefusal TooManyStations read = read ≡ Err TooManyStations
+
+-- some line of the text is the first with a fault, and has this one
+abbrev pub HasFirst : StationsFault → List ℕ → Type 0
+HasFirst fault text = (l : Numbered) × IsFirstFault station_fault (station_lines text) l fault
+
+-- want of memory, or the fault of the first line that has one
+abbrev pub IsFirstRefusal : StationsFault → List ℕ → Type 0
+IsFirstRefusal (Memory m) text = ⊤
+IsFirstRefusal (StationLine line why) text = HasFirst (StationLine line why) text
+IsFirstRefusal TooManyStations text = HasFirst TooManyStations text
+
+-- a line adds its station: it has no fault after any lines that list those held
+pub record Adds (held : List Station) (l : Numbered) (more : List Station) : Type 0 where
+  pub right : (earlier : List Numbered) → stations_of earlier ≡ held → station_fault earlier l ≡ None
+  pub added : more ≡ held ++ station_of l.1 ∷ []
+
+-- the line has this fault after any lines that list the stations held
+abbrev pub IsFaultAfter : StationsFault → List Station → Numbered → Type 0
+IsFaultAfter fault held l =
+    (earlier : List Numbered) → stations_of earlier ≡ held → station_fault earlier l ≡ Some fault
+
+-- want of memory, or the very fault of the line
+abbrev pub IsRefusedFor : StationsFault → List Station → Numbered → Type 0
+IsRefusedFor (Memory m) held l = ⊤
+IsRefusedFor (StationLine line why) held l = IsFaultAfter (StationLine line why) held l
+IsRefusedFor TooManyStations held l = IsFaultAfter TooManyStations held l

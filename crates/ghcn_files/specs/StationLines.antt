@@ -92,4 +92,6 @@ line_why line = first_failing (
 
 -- what is true of the station of a line without a fault
 abbrev pub is_station : Station → Bool
-is_station s = is_id s.id.0 && is_latitude (Number s.latitude) && is_longitude (Number s.longitude) && list_all is_printable s.state && list_all is_printable s.name
+is_station s =
+    is_id s.id.0 && is_latitude (Number s.latitude) && is_longitude (Number s.longitude)
+    && list_all is_printable s.state && list_all is_printable s.name

@@ -4,12 +4,15 @@
 //! station and the month.
 #![tactic(auto)]
 
+mod columns;
 mod element;
 mod fault;
 mod missing;
 mod month;
 mod station;
 mod stations;
+#[cfg(test)]
+mod tests;
 
 pub use element::Element;
 pub use fault::{LineWhy, StationWhy, StationsFault};

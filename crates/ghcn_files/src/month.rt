@@ -66,7 +66,7 @@ fn month_of(element: Element, line: &[u8]) -> Result<Month, LineWhy>
     if line.len() < 266 {
         return Err(LineWhy::Short);
     }
-    if !ends_in_time(line) {
+    if !only_blanks_follow(line) {
         return Err(LineWhy::TooLong);
     }
     let Some(id) = StationId::of_line(line) else {
@@ -89,7 +89,7 @@ fn month_of(element: Element, line: &[u8]) -> Result<Month, LineWhy>
 }
 
 /// Whether only blanks follow the last column.
-fn ends_in_time(line: &[u8]) -> bool
+fn only_blanks_follow(line: &[u8]) -> bool
     ensures { result ≡ bytes.is_blank (drop 269 line.now) }
 {
     line.len() <= 269 || is_blank(&line[269..])

@@ -1,10 +1,22 @@
 //! A station and its ID.
 
-ghost use Rattle.std.specs.Prelude.{◌≡◌, ◌≤◌, Some, None, length, if◌then◌else◌};
+ghost use Rattle.std.specs.Prelude.{◌≡◌, ◌≤◌, ◌+◌, ◌-◌, ◌≤ℤ◌, pos, neg_ℤ, Some, None, length, map, if◌then◌else◌, IfOk, OnOk, IfErr};
 ghost use Rattle.std.specs.List.{list_all};
-ghost use Rattle.ghcn_fields.specs.Lines.{columns};
+ghost use Rattle.ghcn_fields.specs.Lines as lines;
+ghost use Rattle.ghcn_fields.specs.Numbers as numbers;
 ghost use Rattle.ghcn_files.specs.Ids.{is_id, is_visible};
-ghost use Rattle.ghcn_files.specs.StationLines.{id_of};
+ghost use Rattle.ghcn_files.specs.StationLines as stations;
+
+use crate::StationWhy;
+use crate::columns::columns;
+use crate::missing::unless_missing;
+use ghcn_fields::{Field, scaled_field};
+
+/// 90 degrees, in ten-thousandths.
+const MOST_NORTH: i32 = 900_000;
+
+/// 180 degrees, in ten-thousandths.
+const MOST_EAST: i32 = 1_800_000;
 
 /// The eleven bytes that name a station, of which the first two are its country's code.
 #[derive(Clone, Copy, Debug, PartialEq, Eq, PartialOrd, Ord, Hash)]
@@ -14,7 +26,7 @@ impl StationId {
     /// The ID that a line begins with, unless one of its bytes doesn't show in print.
     pub(crate) fn of_line(line: &[u8]) -> Option<Self>
         requires { 11 ≤ length line.now }
-        ensures { result ≡ (if is_id (columns 1 11 line.now) then Some (id_of line.now) else None) }
+        ensures { result ≡ (if is_id (lines.columns 1 11 line.now) then Some (stations.id_of line.now) else None) }
     {
         let id = line.first_chunk::<11>()?;
         if are_visible(id) {
@@ -23,13 +35,6 @@ impl StationId {
             None
         }
     }
-}
-
-/// Whether each byte shows in print, from `!` to `~`.
-fn are_visible(bytes: &[u8]) -> bool
-    ensures { result ≡ list_all is_visible bytes.now }
-{
-    bytes.iter().all(|byte| byte.is_ascii_graphic())
 }
 
 /// A line of the station list.
@@ -46,4 +51,97 @@ pub struct Station {
     pub state: [u8; 2],
     /// Thirty bytes from 32 to 126.
     pub name: [u8; 30],
+}
+
+impl Station {
+    /// The station of a line, or the first test that the line fails by itself.
+    ///
+    /// The readme's line has 85 columns; that a line may end after column 30, and that an elevation
+    /// may be blank, is this project's own leniency.
+    pub(crate) fn of_line(line: &[u8]) -> Result<Self, StationWhy>
+        ensures right { IfOk result (λ station. station ≡ stations.station_of line.now) }
+        ensures ok { OnOk result (stations.line_why line.now ≡ None) }
+        ensures err { IfErr result (λ why. stations.line_why line.now ≡ Some why) }
+    {
+        if line.len() < 30 {
+            return Err(StationWhy::Short);
+        }
+        let Some(id) = StationId::of_line(line) else {
+            return Err(StationWhy::BadId);
+        };
+        let Some(latitude) = degrees(MOST_NORTH, &line[12..20]) else {
+            return Err(StationWhy::BadLatitude);
+        };
+        let Some(longitude) = degrees(MOST_EAST, &line[21..30]) else {
+            return Err(StationWhy::BadLongitude);
+        };
+        let elevation = scaled_field(&columns::<6>(line, 32), 1);
+        if is_bad(elevation) {
+            return Err(StationWhy::BadElevation);
+        }
+        Ok(Station {
+            id,
+            latitude,
+            longitude,
+            elevation: unless_missing(elevation),
+            state: printable_columns(line, 39),
+            name: printable_columns(line, 42),
+        })
+    }
+}
+
+/// The ten-thousandths of a degree of a field, where it has a number at most a limit away from 0.
+fn degrees(limit: i32, field: &[u8]) -> Option<i32>
+    requires { pos 0 ≤ℤ limit }
+    ensures { let found = numbers.scaled_field 4 field.now in
+        result ≡ (if stations.is_number_within (neg_ℤ limit) limit found
+        then Some (stations.number_of found) else None) }
+{
+    match scaled_field(field, 4) {
+        Field::Number(number) if -limit <= number && number <= limit => Some(number),
+        _ => None,
+    }
+}
+
+/// Whether a field is neither blank nor a number.
+fn is_bad(field: Field) -> bool
+    ensures { result ≡ stations.is_bad field }
+{
+    matches!(field, Field::Bad)
+}
+
+/// So many columns of a line from one on, with a question mark for each byte that can't be printed.
+fn printable_columns<const N: usize>(line: &[u8], from: usize) -> [u8; N]
+    requires { 1 ≤ from }
+    ensures { result ≡ map stations.printable (lines.columns from (from + N - 1) line.now) }
+{
+    let mut text = columns(line, from);
+    make_printable(&mut text);
+    text
+}
+
+/// Puts a question mark for each byte that can't be printed.
+fn make_printable(text: &mut [u8])
+    ensures { text.new ≡ map stations.printable text.old }
+{
+    for byte in text {
+        *byte = printable(*byte);
+    }
+}
+
+/// The byte, or a question mark where it can't be printed.
+fn printable(byte: u8) -> u8
+    ensures { result ≡ stations.printable byte }
+{
+    if byte < b' ' || byte > b'~' {
+        return b'?';
+    }
+    byte
+}
+
+/// Whether each byte shows in print, from `!` to `~`.
+fn are_visible(bytes: &[u8]) -> bool
+    ensures { result ≡ list_all is_visible bytes.now }
+{
+    bytes.iter().all(|byte| byte.is_ascii_graphic())
 }

@@ -1,12 +1,14 @@
 //! The listed stations, in the order of the list.
 
-ghost use Rattle.std.specs.Prelude.{◌≡◌, length, slice_get};
+ghost use Rattle.std.specs.Prelude.{◌≡◌, length, slice_get, Ok, IfOk, OnOk, IfErr};
 ghost use Rattle.std.specs.List.{find};
 ghost use Rattle.std.specs.Option.{option_copied};
-ghost use Rattle.ghcn_files.specs.Listed.{AreListed, is_station_of, place_of};
+ghost use Rattle.ghcn_files.specs.Listed.{AreListed, is_station_of, place_of, listed, Adds, IsRefusal, IsRefusedFor, IsFirstRefusal};
 
-use crate::{Station, StationId};
+use crate::{Station, StationId, StationWhy, StationsFault};
+use ghcn_fields::{Memory, is_blank, lines};
 use indexmap::IndexMap;
+use std::alloc::Global;
 use std::marker::Model;
 
 /// The stations of a list, in its order: at most 2^20, and no ID twice.
@@ -27,7 +29,28 @@ impl Model for Stations {
     ghost invariant = { λ s. AreKept s.by_id.entries };
 }
 
+/// The most stations that a list may have.
+const MOST_STATIONS: usize = 1 << 20;
+
 impl Stations {
+    /// Reads a station list, whose lines are those of the readme's `ghcnd-stations.txt`. Blank lines
+    /// are passed over; the first line with a fault decides.
+    pub fn read(alloc: Global, text: &[u8]) -> Result<Self, StationsFault>
+        ensures ok { IfOk result (λ stations. listed text.now ≡ Ok stations) }
+        ensures err { IfErr result (λ fault. IsRefusal fault (listed text.now)) }
+        ensures first { IfErr result (λ fault. IsFirstRefusal fault text.now) }
+    {
+        let mut stations = Stations {
+            by_id: IndexMap::new(alloc),
+        };
+        for (number, line) in lines(text) {
+            if !is_blank(line) {
+                stations.add(number, line)?;
+            }
+        }
+        Ok(stations)
+    }
+
     /// How many stations are listed.
     pub fn len(&self) -> u64
         ensures number { result ≡ length self.now }
@@ -57,5 +80,29 @@ impl Stations {
     {
         let place = self.by_id.get_index_of(id)?;
         Some(place as u64)
+    }
+
+    /// Adds the station of a line to those of the lines before it, unless it has a fault after them.
+    fn add(&mut self, number: u64, line: &[u8]) -> Result<(), StationsFault>
+        ensures ok { OnOk result (Adds self.old (number, line.now) self.new) }
+        ensures err { IfErr result (λ fault. IsRefusedFor fault self.old (number, line.now)) }
+    {
+        let station = match Station::of_line(line) {
+            Ok(station) => station,
+            Err(why) => return Err(StationsFault::StationLine { line: number, why }),
+        };
+        if self.by_id.contains_key(&station.id) {
+            return Err(StationsFault::StationLine {
+                line: number,
+                why: StationWhy::Duplicate,
+            });
+        }
+        if self.by_id.len() >= MOST_STATIONS {
+            return Err(StationsFault::TooManyStations);
+        }
+        match self.by_id.insert(station.id, station) {
+            Ok(_) => Ok(()),
+            Err(_) => Err(StationsFault::Memory(Memory)),
+        }
     }
 }

@@ -1,8 +1,9 @@
-use Rattle.std.proofs.Common.{◌≡◌, true, false, Option, Ok, Some, sym, subst, ap, ◌∙◌}
+use Rattle.std.proofs.Common.{Option, Ok, Some, sym, subst, ap, ◌∙◌}
 use Rattle.ghcn_files.specs.declared.month.Month.{Month}
 use Rattle.ghcn_files.specs.declared.fault.LineWhy.{LineWhy}
 use Rattle.ghcn_files.specs.Months.{unless, month_of, IsMonth}
-use Rattle.ghcn_files.proofs.Months.{unless_ok, unless_err, err_given, read_month-element}
+use Rattle.ghcn_files.proofs.Errors.{err_given}
+use Rattle.ghcn_files.proofs.Months.{unless_ok, unless_err, read_month-element}
 use Rattle.ghcn_files.proofs.Ranges.{month_of-right}
 use Rattle.ghcn_files.proofs.month.read_month.Goals as goal
 

@@ -1,6 +1,6 @@
-use Rattle.std.proofs.Common.{◌≡◌, ◌+◌, ◌-◌, ◌*◌, sym, ap, ◌∙◌, arith, take, drop}
+use Rattle.std.proofs.Common.{◌+◌, ◌*◌, sym, ap, ◌∙◌, arith}
 use Rattle.ghcn_fields.specs.Numbers.{int_field}
-use Rattle.ghcn_files.proofs.Columns.{columns-slice}
+use Rattle.ghcn_files.proofs.ColumnSlices.{columns-slice}
 use Rattle.ghcn_files.proofs.Readings.{malformed, well_formed}
 use Rattle.ghcn_files.proofs.month.reading_of.Goals as goal
 

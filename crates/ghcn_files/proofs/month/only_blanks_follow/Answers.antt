@@ -1,8 +1,8 @@
-use Rattle.std.proofs.Common.{◌≡◌, ◌-◌, List, ℕ, length, drop, true, refl, sym, ap, ◌∙◌, arith, length-drop}
+use Rattle.std.proofs.Common.{◌-◌, length, drop, sym, ap, ◌∙◌, arith, length-drop}
 use Rattle.std.proofs.lemmas.List.{take_all, drop_all}
 use Rattle.std.proofs.lemmas.Bool.{le-leb}
 use Rattle.ghcn_fields.specs.Bytes.{is_blank}
-use Rattle.ghcn_files.proofs.month.ends_in_time.Goals as goal
+use Rattle.ghcn_files.proofs.month.only_blanks_follow.Goals as goal
 
 pub returns-then-line-le269 : goal.returns-then-line-le269
 returns-then-line-le269 c =

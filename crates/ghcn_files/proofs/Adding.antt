@@ -1,0 +1,150 @@
+-- Stations are added one after the other: what is known of a line after those before it.
+use Rattle.std.proofs.Common.{◌≡◌, ℕ, suc, ◌<◌, ◌^◌, Bool, true, false, cond, List, [], ◌∷◌, ◌++◌, length, map, Option, Some, None, refl, sym, ap, subst, ◌∙◌, arith, true≢false, ◌||◌, ◌&&◌, is_some}
+use Rattle.std.specs.Prelude.{nat_lt, nat_le, ℤ, pos, neg_ℤ}
+use Rattle.std.specs.List.{list_any, list_all, IsDistinct}
+use Rattle.std.specs.Option.{option_or, option_map}
+use Rattle.std.specs.Map.{lookup, keys_of}
+use Rattle.ghcn_fields.specs.declared.field.Field.{Field}
+use Rattle.ghcn_fields.specs.declared.field.Field.TheVariants.{Blank, Number, Bad}
+use Rattle.ghcn_fields.specs.Lines.{columns}
+use Rattle.ghcn_files.specs.declared.station.StationId.{StationId}
+use Rattle.ghcn_files.specs.declared.station.Station.{Station}
+use Rattle.ghcn_files.specs.declared.fault.StationWhy.{StationWhy}
+use Rattle.ghcn_files.specs.declared.fault.StationWhy.TheVariants.{Duplicate}
+use Rattle.ghcn_files.specs.declared.fault.StationsFault.{StationsFault}
+use Rattle.ghcn_files.specs.declared.fault.StationsFault.TheVariants.{StationLine, TooManyStations}
+use Rattle.ghcn_files.specs.Ids.{same_id, is_id}
+use Rattle.ghcn_files.specs.StationLines.{id_of, latitude, longitude, elevation, is_number_within, is_latitude, is_longitude, is_bad, number_of, is_printable, printable, station_of, line_why, is_station}
+use Rattle.ghcn_files.specs.Listed.{Numbered, is_repeated, stations_of, station_fault, is_station_of, AreKept}
+use Rattle.ghcn_files.proofs.ById.{AreOwn, same_id-turned}
+use Rattle.ghcn_files.proofs.StationTests.{why_by}
+
+-- the stations that are kept
+abbrev pub kept : List (StationId × Station) → List Station
+kept entries = map (λ e. e.1) entries
+
+-- ---- an ID that an earlier line has
+
+-- the IDs of listed stations are those of their lines
+repeated_is : (earlier : List Numbered) (id : StationId) → list_any (is_station_of id) (stations_of earlier) ≡ is_repeated earlier id
+repeated_is [] id = refl
+repeated_is (l ∷ ls) id = ap (λ (b : Bool). same_id (id_of l.1) id || b) (repeated_is ls id)
+
+some_if : (b : Bool) (s : Station) (o : Option Station) → is_some (cond b (Some s) o) ≡ (b || is_some o)
+some_if true s o = refl
+some_if false s o = refl
+
+-- an ID is found among the kept stations where one of them has it
+pub found_is : (id : StationId) (entries : List (StationId × Station)) → AreOwn entries → is_some (lookup (same_id id) entries) ≡ list_any (is_station_of id) (kept entries)
+found_is id [] own = refl
+found_is id (e ∷ es) own =
+    some_if (same_id id e.0) e.1 (lookup (same_id id) es)
+    ∙ ap (λ (b : Bool). b || is_some (lookup (same_id id) es)) (ap (same_id id) own.0 ∙ same_id-turned id e.1.id)
+    ∙ ap (λ (b : Bool). is_station_of id e.1 || b) (found_is id es own.1)
+
+length-stations_of : (ls : List Numbered) → length (stations_of ls) ≡ length ls
+length-stations_of [] = refl
+length-stations_of (l ∷ ls) = ap suc (length-stations_of ls)
+
+-- ---- the fault of a line that is right by itself
+
+-- that its ID is repeated, or that there is no room
+abbrev pub fault_if : ℕ → Bool → Bool → Option StationsFault
+fault_if n repeated room = option_or (option_map (λ why. StationLine n why) (cond repeated (Some Duplicate) None)) (cond room None (Some TooManyStations))
+
+-- a fault by what was found out of the line
+abbrev fault_by : ℕ → Option StationWhy → Bool → Bool → Option StationsFault
+fault_by n o repeated room = option_or (option_map (λ why. StationLine n why) (option_or o (cond repeated (Some Duplicate) None))) (cond room None (Some TooManyStations))
+
+pub fault_of_right_line : (earlier : List Numbered) (n : ℕ) (line : List ℕ) (held : List Station) (id : StationId) (repeated room : Bool) → stations_of earlier ≡ held → line_why line ≡ None → id ≡ id_of line
+    → list_any (is_station_of id) held ≡ repeated → nat_lt (length held) (2 ^ 20) ≡ room → station_fault earlier (n, line) ≡ fault_if n repeated room
+fault_of_right_line earlier n line held id repeated room e right is rep ro =
+    let again : is_repeated earlier (id_of line) ≡ repeated =
+    sym (repeated_is earlier (id_of line)) ∙ ap (λ (ss : List Station). list_any (is_station_of (id_of line)) ss) e ∙ ap (λ (i : StationId). list_any (is_station_of i) held) (sym is) ∙ rep in
+    let fits : nat_lt (length earlier) (2 ^ 20) ≡ room = ap (λ (k : ℕ). nat_lt k (2 ^ 20)) (sym (length-stations_of earlier) ∙ ap length e) ∙ ro in
+    ap (λ (o : Option StationWhy). fault_by n o (is_repeated earlier (id_of line)) (nat_lt (length earlier) (2 ^ 20))) right
+    ∙ ap (λ (b : Bool). fault_by n None b (nat_lt (length earlier) (2 ^ 20))) again
+    ∙ ap (λ (b : Bool). fault_by n None repeated b) fits
+
+-- ---- the station of a line without a fault
+
+passed_all : (long id north east bad : Bool) → why_by long id north east bad ≡ None → (id ≡ true) × (north ≡ true) × (east ≡ true)
+passed_all true true true true bad e = (refl, refl, refl)
+passed_all true true true false bad e = absurd cc
+passed_all true true false east bad e = absurd cc
+passed_all true false north east bad e = absurd cc
+passed_all false id north east bad e = absurd cc
+
+-- a number within limits is the number of its field
+own_number : (low high : ℤ) (f : Field) → is_number_within low high f ≡ true → is_number_within low high (Number (number_of f)) ≡ true
+own_number low high Blank e = absurd (true≢false (sym e))
+own_number low high (Number z) e = e
+own_number low high Bad e = absurd (true≢false (sym e))
+
+printed_byte : (plain : Bool) (b : ℕ) → is_printable b ≡ plain → is_printable (cond plain b 63) ≡ true
+printed_byte true b e = e
+printed_byte false b e = refl
+
+printed : (bytes : List ℕ) → list_all is_printable (map printable bytes) ≡ true
+printed [] = refl
+printed (b ∷ bs) = ap (λ (t : Bool). t && list_all is_printable (map printable bs)) (printed_byte (is_printable b) b refl) ∙ printed bs
+
+all_five : (a b c d e : Bool) → a ≡ true → b ≡ true → c ≡ true → d ≡ true → e ≡ true → (a && b && c && d && e) ≡ true
+all_five a b c d e p q r s t = cc
+
+-- a line that fails no test has a station with its fields in their ranges
+pub station_of-right : (line : List ℕ) → line_why line ≡ None → is_station (station_of line) ≡ true
+station_of-right line none =
+    let tests = passed_all (nat_le 30 (length line)) (is_id (columns 1 11 line)) (is_latitude (latitude line)) (is_longitude (longitude line)) (is_bad (elevation line)) none in
+    all_five _ _ _ _ _ tests.0 (own_number (neg_ℤ (pos 900_000)) (pos 900_000) (latitude line) tests.1) (own_number (neg_ℤ (pos 1_800_000)) (pos 1_800_000) (longitude line) tests.2) (printed (columns 39 40 line)) (printed (columns 42 71 line))
+
+-- ---- one station more
+
+keys_are : (entries : List (StationId × Station)) → AreOwn entries → keys_of entries ≡ map (λ s. s.id) (kept entries)
+keys_are [] own = refl
+keys_are (e ∷ es) own =
+    ap (λ (id : StationId). id ∷ keys_of es) own.0
+    ∙ ap (λ (ids : List StationId). e.1.id ∷ ids) (keys_are es own.1)
+
+own-push : (entries : List (StationId × Station)) (s : Station) → AreOwn entries → AreOwn (entries ++ (s.id, s) ∷ [])
+own-push [] s own = (refl, tt)
+own-push (e ∷ es) s own = (own.0, own-push es s own.1)
+
+pub kept-push : (entries : List (StationId × Station)) (id : StationId) (s : Station) → kept (entries ++ (id, s) ∷ []) ≡ kept entries ++ s ∷ []
+kept-push [] id s = refl
+kept-push (e ∷ es) id s = ap (λ (ss : List Station). e.1 ∷ ss) (kept-push es id s)
+
+pub as_many : (entries : List (StationId × Station)) → length (kept entries) ≡ length entries
+as_many [] = refl
+as_many (e ∷ es) = ap suc (as_many es)
+
+length-push : (ss : List Station) (s : Station) → length (ss ++ s ∷ []) ≡ suc (length ss)
+length-push [] s = refl
+length-push (x ∷ xs) s = ap suc (length-push xs s)
+
+right-push : (ss : List Station) (s : Station) → list_all is_station ss ≡ true → is_station s ≡ true → list_all is_station (ss ++ s ∷ []) ≡ true
+right-push [] s all e = ap (λ (b : Bool). b && true) e
+right-push (x ∷ xs) s all e = both (is_station x) (list_all is_station xs) all (λ h. right-push xs s h e)
+  where
+    both : (b rest : Bool) → (b && rest) ≡ true → (rest ≡ true → list_all is_station (xs ++ s ∷ []) ≡ true) → (b && list_all is_station (xs ++ s ∷ [])) ≡ true
+    both true rest h more = more h
+    both false rest h more = absurd (true≢false (sym h))
+
+-- what is kept stays right with one station more, under an ID that was not there
+pub kept_more : (entries more : List (StationId × Station)) (s : Station) → AreKept entries → more ≡ entries ++ (s.id, s) ∷ [] → IsDistinct same_id (keys_of more) → length entries < 2 ^ 20 → is_station s ≡ true → AreKept more
+kept_more entries more s h e distinct room right =
+    let own : AreOwn more = subst AreOwn (sym e) (own-push entries s h.own) in
+    let stations : kept more ≡ kept entries ++ s ∷ [] = ap kept e ∙ kept-push entries s.id s in
+    record {
+      own = own;
+      listed = record {
+        distinct = subst (IsDistinct same_id) (keys_are more own) distinct;
+        few = omega (arith, ap length stations, length-push (kept entries) s, as_many entries);
+        right = subst (λ (ss : List Station). list_all is_station ss ≡ true) (sym stations) (right-push (kept entries) s h.listed.right right);
+      };
+    }
+
+-- what wasn't found isn't there
+pub not_found : (o : Option Station) → is_some o ≡ false → o ≡ None
+not_found None e = refl
+not_found (Some s) e = absurd (true≢false e)

@@ -1,0 +1,10 @@
+use Rattle.std.proofs.Common.{◌≡◌, length, take, drop, map}
+use Rattle.ghcn_files.specs.StationLines.{printable}
+use Rattle.ghcn_files.proofs.station.make_printable.Given as goal
+
+abbrev pub invariant-loop-byte : goal.invariant-loop-byte
+invariant-loop-byte l = record {
+  many : length l.byte-items ≡ length l.fn.text;
+  printed : take l.byte-index l.byte-items ≡ map printable (take l.byte-index l.fn.text);
+  left : drop l.byte-index l.byte-items ≡ drop l.byte-index l.fn.text;
+}

@@ -1,0 +1,16 @@
+//! Columns of a fixed-width line, counted from 1 as the readme counts them.
+
+ghost use Rattle.std.specs.Prelude.{◌≡◌, ◌≤◌, ◌+◌, ◌-◌};
+ghost use Rattle.ghcn_fields.specs.Lines as lines;
+
+/// So many columns of a line from one on; blanks stand for those that a short line lacks.
+pub(crate) fn columns<const N: usize>(line: &[u8], from: usize) -> [u8; N]
+    requires { 1 ≤ from }
+    ensures { result ≡ lines.columns from (from + N - 1) line.now }
+{
+    let mut found = [b' '; N];
+    let rest = &line[(from - 1).min(line.len())..];
+    let count = N.min(rest.len());
+    found[..count].copy_from_slice(&rest[..count]);
+    found
+}
