@@ -41,20 +41,20 @@ false_unless false h = refl
 apart_by_time : (a b : Month) (i j : ℕ) (m n : ℤ) → same_time a b ≡ false → IsDayOf a i m → IsDayOf b j n → int_eq m n ≡ false
 apart_by_time a b i j m n other p q =
     false_unless (int_eq m n) (λ eq.
-      let same : m ≡ n = (Decides-int_eq m n).0 eq in
-      let dates : ◌≡◌ {A = ℕ × ℕ × ℕ} (a.year, a.month, i) (b.year, b.month, j) = sym (date_is a.year a.month i m p) ∙ ap civil same ∙ date_is b.year b.month j n q in
-      let year : a.year ≡ b.year = ap (λ (t : ℕ × ℕ × ℕ). t.0) dates in
-      let month : a.month ≡ b.month = ap (λ (t : ℕ × ℕ × ℕ). t.1) dates in
-      absurd (cc (other, same_parts a.year b.year a.month b.month year month)))
+    let same : m ≡ n = (Decides-int_eq m n).0 eq in
+    let dates : ◌≡◌ {A = ℕ × ℕ × ℕ} (a.year, a.month, i) (b.year, b.month, j) = sym (date_is a.year a.month i m p) ∙ ap civil same ∙ date_is b.year b.month j n q in
+    let year : a.year ≡ b.year = ap (λ (t : ℕ × ℕ × ℕ). t.0) dates in
+    let month : a.month ≡ b.month = ap (λ (t : ℕ × ℕ × ℕ). t.1) dates in
+    absurd (cc (other, same_parts a.year b.year a.month b.month year month)))
 
 -- different days of one month differ
 apart_by_place : (a : Month) (i j : ℕ) (m n : ℤ) → i < j → IsDayOf a i m → IsDayOf a j n → int_eq m n ≡ false
 apart_by_place a i j m n lt p q =
     false_unless (int_eq m n) (λ eq.
-      let same : m ≡ n = (Decides-int_eq m n).0 eq in
-      let dates : ◌≡◌ {A = ℕ × ℕ × ℕ} (a.year, a.month, i) (a.year, a.month, j) = sym (date_is a.year a.month i m p) ∙ ap civil same ∙ date_is a.year a.month j n q in
-      let day : i ≡ j = ap (λ (t : ℕ × ℕ × ℕ). t.2) dates in
-      absurd (omega (arith, day, lt)))
+    let same : m ≡ n = (Decides-int_eq m n).0 eq in
+    let dates : ◌≡◌ {A = ℕ × ℕ × ℕ} (a.year, a.month, i) (a.year, a.month, j) = sym (date_is a.year a.month i m p) ∙ ap civil same ∙ date_is a.year a.month j n q in
+    let day : i ≡ j = ap (λ (t : ℕ × ℕ × ℕ). t.2) dates in
+    absurd (omega (arith, day, lt)))
 
 number_from_fact : (m : Month) (b : Bool) (o v : Option ℤ) (d : DayValue) → option_and_then counted (fact_if m b o v) ≡ Some d → o ≡ Some d.0
 number_from_fact m true o v d e = absurd cc

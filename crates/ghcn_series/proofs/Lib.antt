@@ -8,3 +8,7 @@ pub mod Places
 pub mod ReadMonths
 pub mod ReadLines
 pub mod SeriesKeys
+pub mod ReadySeries
+pub mod FactsOfMonths
+pub mod AllSeries
+pub mod ReadFiles

@@ -76,10 +76,10 @@ false_from false h = refl
 pub day_number-none : (y m d : ℕ) → day_number y m 1 ≡ None → day_number y m d ≡ None
 day_number-none y m d none =
     no_date y m d (false_from (is_date y m d) (λ is.
-      let of = from_date y m d is in
-      let first : IsOfCalendar y m 1 = record { year = of.year; month = of.month; day = (omega arith, omega (arith, days_in_month_bounds (pos y) m)) } in
-      let has = day_number-is y m 1 first in
-      absurd cc))
+    let of = from_date y m d is in
+    let first : IsOfCalendar y m 1 = record { year = of.year; month = of.month; day = (omega arith, omega (arith, days_in_month_bounds (pos y) m)) } in
+    let has = day_number-is y m 1 first in
+    absurd cc))
 
 -- the day so many places after a month's first
 pub day_number-after : (y m i : ℕ) (first : ℤ) → day_number y m 1 ≡ Some first → i < days_in_month (pos y) m → (day_number y m (i + 1) ≡ Some (first +ℤ pos i)) × (day_if (first +ℤ pos i) ≡ Some (first +ℤ pos i))

@@ -110,5 +110,5 @@ listed-is ss id k some =
     let lt : k < length ss = lt_from (position_or_len (is_station_of id) ss) (length ss) k at.0 at.1 in
     (station_at ss id k at.1 lt, sym (has_place ss id) ∙ at.0, lt)
   where
-  lt_from : (n m k : ℕ) → nat_lt n m ≡ true → n ≡ k → k < m
-  lt_from n m k t e = grind (arith, nat_tests)
+    lt_from : (n m k : ℕ) → nat_lt n m ≡ true → n ≡ k → k < m
+    lt_from n m k t e = grind (arith, nat_tests)

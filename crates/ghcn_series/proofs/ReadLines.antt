@@ -48,9 +48,9 @@ months-more before l o is =
     filter_map-append month_on before (l ∷ [])
     ∙ ap (λ ms. filter_map month_on before ++ ms) (last (month_on l) o is)
   where
-  last : (a b : Option Month) → a ≡ b → filter_map {X = Option Month} (λ x. x) (a ∷ []) ≡ option_to_list b
-  last None b e = ap option_to_list e
-  last (Some m) b e = ap option_to_list e
+    last : (a b : Option Month) → a ≡ b → filter_map {X = Option Month} (λ x. x) (a ∷ []) ≡ option_to_list b
+    last None b e = ap option_to_list e
+    last (Some m) b e = ap option_to_list e
 
 why_of : (stations : List Station) (before : List FileLine) (l : FileLine) (r : Result (Option Month) LineWhy) → read_month l.bytes ≡ r → daily_fault stations before l ≡ option_map (λ why. DailyLine l.file l.line why) (daily_why stations before r)
 why_of stations before l r is = ap (λ x. option_map (λ why. DailyLine l.file l.line why) (daily_why stations before x)) is
@@ -95,9 +95,11 @@ pub refused-month : (old : Reader) (l : FileLine) (m : Month) → read_month l.b
     → ((months : List Month) → IsMonth m → HasRead old months → false ≡ not (is_listed old.stations m.id && list_any (same_month m) months))
     → (before : List FileLine) → HasReadLines old before → IsFirstRefusal old.stations (before ++ l ∷ []) (DailyLine l.file l.line DuplicateMonth)
 refused-month old l m is right adds before read =
-    let told = adds (filter_map month_on before) right read.months in
-    (l, first_here (daily_fault old.stations) before l (DailyLine l.file l.line DuplicateMonth) read.right
-      (why_of old.stations before l (Ok (Some m)) is ∙ ap (option_map (λ why. DailyLine l.file l.line why)) (repeated (is_listed old.stations m.id && repeats before m) told)))
+    let told = adds (filter_map month_on before) right read.months in (
+      l,
+      first_here (daily_fault old.stations) before l (DailyLine l.file l.line DuplicateMonth) read.right
+          (why_of old.stations before l (Ok (Some m)) is ∙ ap (option_map (λ why. DailyLine l.file l.line why)) (repeated (is_listed old.stations m.id && repeats before m) told)),
+    )
 
 -- the lines of a file that aren't blank, of those that are still to come
 abbrev pub told : ℕ → List (ℕ × List ℕ) → List FileLine
@@ -147,7 +149,8 @@ within-line now new file line bytes rest left before all step full reads is =
       read = subst P (append_assoc before is.done (this ∷ [])) (reads (before ++ is.done) is.read);
     }
 
-refused_among : (stations : List Station) (ls more : List FileLine) (f : DataFault) → IsFirstRefusal stations ls f → IsFirstRefusal stations (ls ++ more) f
+-- more lines behind change no fault
+pub refused_among : (stations : List Station) (ls more : List FileLine) (f : DataFault) → IsFirstRefusal stations ls f → IsFirstRefusal stations (ls ++ more) f
 refused_among stations ls more (Memory m) is = tt
 refused_among stations ls more TooManyFiles is = absurd is
 refused_among stations ls more (DailyLine file line why) is = (is.0, first_among (daily_fault stations) ls more is.0 (DailyLine file line why) is.1)

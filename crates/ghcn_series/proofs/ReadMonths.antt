@@ -42,9 +42,9 @@ station-other before m s g other is =
     let apart : same_id m.id g.id ≡ false = ap (same_id m.id) is.id ∙ other in
     record { id = is.id; holds = kept g.by_element.items apart is.holds }
   where
-  kept : (gs : List Gathering) → same_id m.id g.id ≡ false → AreByElement before g.id gs → AreByElement (before ++ m ∷ []) g.id gs
-  kept [] apart holds = none_more before m g.id apart holds
-  kept (x ∷ xs) apart holds = other_zip before m g.id (x ∷ xs) elements apart holds
+    kept : (gs : List Gathering) → same_id m.id g.id ≡ false → AreByElement before g.id gs → AreByElement (before ++ m ∷ []) g.id gs
+    kept [] apart holds = none_more before m g.id apart holds
+    kept (x ∷ xs) apart holds = other_zip before m g.id (x ∷ xs) elements apart holds
 
 stations-other : (before : List Month) (m : Month) (ss : List Station) (gs : List StationGathering) → AllByRecursion (λ i. same_id m.id i ≡ false) (ids ss) → AllZip (IsStationOf before) ss gs → AllZip (IsStationOf (before ++ m ∷ [])) ss gs
 stations-other before m [] [] other is = tt
@@ -65,9 +65,10 @@ put_station before m (x ∷ xs) (y ∷ ys) zero s g new apart at of is here same
     let Q : Station → Type 0 = λ z. IsStationOf before z g in
     let was : IsStationOf before s g = subst Q this (subst P (sym here) is.0) in
     let R : StationId → Type 0 = λ i. AreByElement (before ++ m ∷ []) i new.by_element.items in
-    let S : StationId → Type 0 = λ i. AllByRecursion (λ j. same_id i j ≡ false) (ids xs) in
-    (record { id = same ∙ was.id ∙ ap (λ (z : Station). z.id) (sym this); holds = subst R (sym same) (more was) },
-      stations-other before m xs ys (subst S (ap (λ (z : Station). z.id) this ∙ of) apart.0) is.1)
+    let S : StationId → Type 0 = λ i. AllByRecursion (λ j. same_id i j ≡ false) (ids xs) in (
+      record { id = same ∙ was.id ∙ ap (λ (z : Station). z.id) (sym this); holds = subst R (sym same) (more was) },
+      stations-other before m xs ys (subst S (ap (λ (z : Station). z.id) this ∙ of) apart.0) is.1,
+    )
 put_station before m (x ∷ xs) (y ∷ ys) (suc k) s g new apart at of is here same more =
     let other : same_id m.id x.id ≡ false = same_id-turned m.id x.id ∙ ap (same_id x.id) (sym of) ∙ from_ids (λ i. same_id x.id i ≡ false) xs k s apart.0 at in
     (station-other before m x y other is.0, put_station before m xs ys k s g new apart.1 at of is.1 here same more)
@@ -99,31 +100,31 @@ read-listed old new m k g now added place here same adds stations unlisted gathe
     let told = adds before of station.holds in
     (told.0 ∙ ap (λ (b : Bool). not (b && list_any (same_month m) before)) (sym at.1), on_true added told.1)
   where
-  station_of : (ss : List Station) (gs : List StationGathering) (k : ℕ) (s : Station) → AllZip (IsStationOf before) ss gs → slice_get ss k ≡ Some s → g ≡ get_or gs k g → IsStationOf before s g
-  station_of [] gs k s all at here = absurd cc
-  station_of (x ∷ xs) [] k s all at here = absurd all
-  station_of (x ∷ xs) (y ∷ ys) zero s all at here =
-      let this : x ≡ s = cc in
-      let P : StationGathering → Type 0 = λ h. IsStationOf before x h in
-      let Q : Station → Type 0 = λ z. IsStationOf before z g in
-      subst Q this (subst P (sym here) all.0)
-  station_of (x ∷ xs) (y ∷ ys) (suc k) s all at here = station_of xs ys k s all.1 at here
+    station_of : (ss : List Station) (gs : List StationGathering) (k : ℕ) (s : Station) → AllZip (IsStationOf before) ss gs → slice_get ss k ≡ Some s → g ≡ get_or gs k g → IsStationOf before s g
+    station_of [] gs k s all at here = absurd cc
+    station_of (x ∷ xs) [] k s all at here = absurd all
+    station_of (x ∷ xs) (y ∷ ys) zero s all at here =
+        let this : x ≡ s = cc in
+        let P : StationGathering → Type 0 = λ h. IsStationOf before x h in
+        let Q : Station → Type 0 = λ z. IsStationOf before z g in
+        subst Q this (subst P (sym here) all.0)
+    station_of (x ∷ xs) (y ∷ ys) (suc k) s all at here = station_of xs ys k s all.1 at here
 
-  on_true : (b : Bool) → OnTrue b (AreByElement (before ++ m ∷ []) g.id now.by_element.items) → OnTrue b (HasRead new (before ++ m ∷ []))
-  on_true true holds =
-      let at = listed-is old.stations m.id k place in
-      let P : List Station → Type 0 = AreListed in
-      let Q : List Station → List StationGathering → Type 0 = λ ss gs. AllZip (IsStationOf (before ++ m ∷ [])) ss gs in
-      let put = put_station before m old.stations old.gathered.items k at.0.0 g now is.listed.distinct at.0.1 at.0.2 is.gathered here same (λ _. holds) in
-      record {
-        listed = subst P (sym stations) is.listed;
-        right = both_right before m is.right right;
-        unlisted =
-            unlisted ∙ is.unlisted ∙ sym (add-zero (unlisted_months old.stations before)) ∙ sym (count_more old.stations before m true at.1)
-            ∙ ap (λ (ss : List Station). unlisted_months ss (before ++ m ∷ [])) (sym stations);
-        gathered = subst (λ ss. Q ss new.gathered.items) (sym stations) (subst (Q old.stations) (sym gathered) put);
-      }
-  on_true false holds = tt
+    on_true : (b : Bool) → OnTrue b (AreByElement (before ++ m ∷ []) g.id now.by_element.items) → OnTrue b (HasRead new (before ++ m ∷ []))
+    on_true true holds =
+        let at = listed-is old.stations m.id k place in
+        let P : List Station → Type 0 = AreListed in
+        let Q : List Station → List StationGathering → Type 0 = λ ss gs. AllZip (IsStationOf (before ++ m ∷ [])) ss gs in
+        let put = put_station before m old.stations old.gathered.items k at.0.0 g now is.listed.distinct at.0.1 at.0.2 is.gathered here same (λ _. holds) in
+        record {
+          listed = subst P (sym stations) is.listed;
+          right = both_right before m is.right right;
+          unlisted =
+              unlisted ∙ is.unlisted ∙ sym (add-zero (unlisted_months old.stations before)) ∙ sym (count_more old.stations before m true at.1)
+              ∙ ap (λ (ss : List Station). unlisted_months ss (before ++ m ∷ [])) (sym stations);
+          gathered = subst (λ ss. Q ss new.gathered.items) (sym stations) (subst (Q old.stations) (sym gathered) put);
+        }
+    on_true false holds = tt
 
 -- a month of a station that isn't listed is passed over and counted
 pub read-unlisted : (old new : Reader) (m : Month) → is_listed old.stations m.id ≡ false → new.stations ≡ old.stations → new.gathered.items ≡ old.gathered.items → new.unlisted ≡ old.unlisted + 1
@@ -132,25 +133,27 @@ pub read-unlisted : (old new : Reader) (m : Month) → is_listed old.stations m.
 read-unlisted old new m none stations gathered unlisted before right is =
     let P : List Station → Type 0 = AreListed in
     let Q : List Station → List StationGathering → Type 0 = λ ss gs. AllZip (IsStationOf (before ++ m ∷ [])) ss gs in
-    let kept = stations-other before m old.stations old.gathered.items (apart old.stations none) is.gathered in
-    (ap (λ (b : Bool). not (b && list_any (same_month m) before)) (sym none), record {
-      listed = subst P (sym stations) is.listed;
-      right = both_right before m is.right right;
-      unlisted =
-          unlisted ∙ ap (λ (n : ℕ). n + 1) is.unlisted ∙ sym (count_more old.stations before m false none)
-          ∙ ap (λ (ss : List Station). unlisted_months ss (before ++ m ∷ [])) (sym stations);
-      gathered = subst (λ ss. Q ss new.gathered.items) (sym stations) (subst (Q old.stations) (sym gathered) kept);
-    })
+    let kept = stations-other before m old.stations old.gathered.items (apart old.stations none) is.gathered in (
+      ap (λ (b : Bool). not (b && list_any (same_month m) before)) (sym none),
+      record {
+        listed = subst P (sym stations) is.listed;
+        right = both_right before m is.right right;
+        unlisted =
+            unlisted ∙ ap (λ (n : ℕ). n + 1) is.unlisted ∙ sym (count_more old.stations before m false none)
+            ∙ ap (λ (ss : List Station). unlisted_months ss (before ++ m ∷ [])) (sym stations);
+        gathered = subst (λ ss. Q ss new.gathered.items) (sym stations) (subst (Q old.stations) (sym gathered) kept);
+      },
+    )
   where
-  neither : (a b : Bool) → (a || b) ≡ false → (a ≡ false) × (b ≡ false)
-  neither true b e = absurd cc
-  neither false b e = (refl, e)
+    neither : (a b : Bool) → (a || b) ≡ false → (a ≡ false) × (b ≡ false)
+    neither true b e = absurd cc
+    neither false b e = (refl, e)
 
-  apart : (ss : List Station) → is_listed ss m.id ≡ false → AllByRecursion (λ i. same_id m.id i ≡ false) (ids ss)
-  apart [] none = tt
-  apart (x ∷ xs) none =
-      let both = neither (same_id x.id m.id) (is_listed xs m.id) none in
-      (same_id-turned m.id x.id ∙ both.0, apart xs both.1)
+    apart : (ss : List Station) → is_listed ss m.id ≡ false → AllByRecursion (λ i. same_id m.id i ≡ false) (ids ss)
+    apart [] none = tt
+    apart (x ∷ xs) none =
+        let both = neither (same_id x.id m.id) (is_listed xs m.id) none in
+        (same_id-turned m.id x.id ∙ both.0, apart xs both.1)
 
 -- one station more, of which nothing was read
 pub station-new : (ss : List Station) (gs : List StationGathering) (k : ℕ) (s : Station) (g : StationGathering) → slice_get ss k ≡ Some s → g.id ≡ s.id → g.by_element.items ≡ [] → AllZip (IsStationOf []) (take k ss) gs → AllZip (IsStationOf []) (take (suc k) ss) (gs ++ g ∷ [])

@@ -159,4 +159,4 @@ pub entries-sorted : (xs : List DayValue) (n : BTreeMap ℤ ℤ) → IsFromIterR
 unfolding AreAlike
 entries-sorted xs n is distinct =
     same_days n.entries (sorted_by by_day xs) is.1 (sorted_by-rises xs distinct) (λ q.
-      is.0 q ∙ update_all_none int_eq_equiv int_eq (λ x y. refl) xs q distinct ∙ sym (lookup-sorted q xs distinct))
+    is.0 q ∙ update_all_none int_eq_equiv int_eq (λ x y. refl) xs q distinct ∙ sym (lookup-sorted q xs distinct))

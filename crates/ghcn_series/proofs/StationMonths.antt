@@ -119,7 +119,8 @@ put_gathering before m id (x ∷ xs) (e ∷ es) (suc k) g new of apart is at her
     let other : same_element m.element e ≡ false = same_element-turned m.element e ∙ from_all (λ d. same_element e d ≡ false) es k m.element apart.0 at in
     (gathering-other before m id x e (and_false (same_id m.id id) (same_element m.element e) other) is.0, put_gathering before m id xs es k g new of apart.1 is.1 at here same holds)
 
-elements_differ : IsDistinct same_element elements
+-- no two of the elements are the same
+pub elements_differ : IsDistinct same_element elements
 unfolding IsDistinct
 elements_differ = ((refl, (refl, (refl, (refl, tt)))), ((refl, (refl, (refl, tt))), ((refl, (refl, tt)), ((refl, tt), (tt, tt)))))
 
@@ -176,6 +177,6 @@ by_element-more m id five k g new added place here same adds before of is =
     let repeated = repeats-is before m ∙ ap (λ (i : StationId). list_any (same_time m) (months_of before i m.element)) of in
     (gathered.0 ∙ ap not (sym repeated), on_true added gathered.1)
   where
-  on_true : (b : Bool) → OnTrue b (IsGathering new (months_of before id m.element ++ m ∷ [])) → OnTrue b (AreByElement (before ++ m ∷ []) id (set five k new))
-  on_true true holds = kept_by_element (before ++ m ∷ []) id (set five k new) (put_gathering before m id five elements k g new of elements_differ is (ap (slice_get elements) place ∙ element_at m.element) here same holds)
-  on_true false holds = tt
+    on_true : (b : Bool) → OnTrue b (IsGathering new (months_of before id m.element ++ m ∷ [])) → OnTrue b (AreByElement (before ++ m ∷ []) id (set five k new))
+    on_true true holds = kept_by_element (before ++ m ∷ []) id (set five k new) (put_gathering before m id five elements k g new of elements_differ is (ap (slice_get elements) place ∙ element_at m.element) here same holds)
+    on_true false holds = tt

@@ -1,10 +1,11 @@
 -- What has been gathered after some lines, of one station and element and of all of them.
-use Rattle.std.specs.Prelude.{◌≡◌, ℕ, ◌==◌, Bool, false, not, ◌&&◌, ◌||◌, if◌then◌else◌, List, [], ◌∷◌, Option, None, Some, filter, pos, int_le, ⊤}
+use Rattle.std.specs.Prelude.{◌≡◌, ℕ, ◌==◌, Bool, false, not, ◌&&◌, ◌||◌, if◌then◌else◌, List, [], ◌∷◌, length, Option, None, Some, filter, pos, int_le, ⊤}
 use Rattle.std.specs.List.{list_any, filter_map, flat_map, enumerate_from, count_by, IsDistinct, AllZip, AllByRecursion}
 use Rattle.std.specs.Option.{option_and_then}
 use Rattle.std.specs.declared.cmp.Ordering.{Ordering}
 use Rattle.std.specs.Ordering.{nat_cmp, ordering_then}
 use Rattle.std.specs.BTreeSet.{contains}
+use Rattle.ghcn_fields.specs.Sorting.{sorted_by}
 use Rattle.ghcn_fields.specs.Faults.{HaveNoFault, IsFirstFault}
 use Rattle.ghcn_files.specs.declared.station.StationId.{StationId}
 use Rattle.ghcn_files.specs.declared.element.Element.{Element}
@@ -23,6 +24,7 @@ use Rattle.ghcn_series.specs.declared.fault.DataFault.TheVariants.{TooManyFiles,
 use Rattle.ghcn_series.specs.Series.{DayValue}
 use Rattle.ghcn_series.specs.DailyFaults.{FileLine, month_on, is_listed, daily_fault}
 use Rattle.ghcn_series.specs.Says.{Fact, fact_of}
+use Rattle.ghcn_series.specs.Held.{Entry}
 
 -- the day and the value of a fact, where its element can have the value
 abbrev pub counted : Fact → Option DayValue
@@ -72,6 +74,22 @@ AreByElement months id (g ∷ gs) = AllZip (IsGatheringOf months id) (g ∷ gs) 
 pub record IsStationOf (months : List Month) (s : Station) (g : StationGathering) : Type 0 where
   pub id : g.id ≡ s.id
   pub holds : AreByElement months g.id g.by_element.items
+
+-- a gathering can become a series: its months are of its element and right by themselves
+pub record IsReady (g : Gathering) : Type 0 where
+  pub months : List Month
+  pub holds : IsGathering g months
+  pub right : AllByRecursion (λ m. IsMonth m × (m.element ≡ g.element)) months
+
+-- the series of a station's gathering under its key, where it has a usable day
+abbrev pub entry_of : StationId → Gathering → Option Entry
+entry_of id g =
+    if length g.days.items == 0 then None
+    else Some ((id, g.element), record { id = id; element = g.element; days = sorted_by (λ a b. int_le a.0 b.0) g.days.items })
+
+-- the series of a station under their keys, by element
+abbrev pub entries_of : StationGathering → List Entry
+entries_of g = filter_map (entry_of g.id) g.by_element.items
 
 -- a reader has read these months, none of them before
 pub record HasRead (r : Reader) (months : List Month) : Type 0 where

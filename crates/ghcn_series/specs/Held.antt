@@ -29,6 +29,14 @@ pub record IsContents (held : Contents) : Type 0 where
 abbrev pub Entry : Type 0
 Entry = (StationId × Element) × Usable
 
+-- two stations and elements are the same
+abbrev pub same_key : StationId × Element → StationId × Element → Bool
+same_key a b = same_id a.0 b.0 && same_element a.1 b.1
+
+-- no two series stand under one station and element
+abbrev pub AreApart : List Entry → Type 0
+AreApart entries = IsDistinct same_key (map (λ e. e.0) entries)
+
 -- series that are kept by station and element are each under their own
 pub record AreOwn (stations : List Station) (entries : List Entry) : Type 0 where
   pub own : AllByRecursion (λ e. (e.0.0 ≡ e.1.id) × (e.0.1 ≡ e.1.element)) entries

@@ -2,7 +2,7 @@
 
 ghost use Rattle.std.specs.Prelude.{◌≡◌, ◌+◌, ◌<◌, ◌==◌, ◌++◌, ◌∷◌, [], List, length, Some, not, ◌||◌, int_le, pos, IfOk, OnOk};
 ghost use Rattle.std.specs.Bool.{OnTrue};
-ghost use Rattle.std.specs.List.{list_any, flat_map};
+ghost use Rattle.std.specs.List.{list_any};
 ghost use Rattle.jiff_core.specs.Calendar as calendar;
 ghost use Rattle.ghcn_fields.specs.Days.{day_number};
 ghost use Rattle.ghcn_fields.specs.Sorting.{sorted_by};
@@ -59,8 +59,7 @@ impl Gathering {
 
     /// Whether no usable day was added.
     pub(crate) fn is_empty(&self) -> bool
-        ensures { (months : List months.Month) → gathered.IsGathering self.now months →
-            result ≡ (length (flat_map gathered.usable_days months) == 0) }
+        ensures { result ≡ (length self.now.days.items == 0) }
     {
         self.days.is_empty()
     }
@@ -68,7 +67,7 @@ impl Gathering {
     /// The usable days that were added, by increasing day.
     pub(crate) fn into_days(self, alloc: Global) -> Result<BTreeMap<Day, i32>, Memory>
         ensures { IfOk result (λ days. (months : List months.Month) → gathered.IsGathering self months →
-            days.entries ≡ sorted_by (λ a b. int_le a.0 b.0) (flat_map gathered.usable_days months)) }
+            days.entries ≡ sorted_by (λ a b. int_le a.0 b.0) self.days.items) }
     {
         Ok(self.days.into_iter().collect(alloc)?)
     }

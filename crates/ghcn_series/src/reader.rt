@@ -1,18 +1,20 @@
 //! Reads the lines of daily files one after another.
 
-ghost use Rattle.std.specs.Prelude.{◌≡◌, ◌++◌, ◌∷◌, [], ◌&&◌, List, not, Some, IfOk, IfErr, OnOk};
+ghost use Rattle.std.specs.Prelude.{◌≡◌, ◌++◌, ◌∷◌, [], ◌&&◌, List, map, not, Some, IfOk, IfErr, OnOk};
 ghost use Rattle.std.specs.Bool.{OnTrue};
 ghost use Rattle.std.specs.List.{list_any};
 ghost use Rattle.ghcn_files.specs.Listed.{AreListed, place_of};
 ghost use Rattle.ghcn_files.specs.Months.{IsMonth};
 ghost use Rattle.ghcn_files.specs.declared.month.Month as months;
-ghost use Rattle.ghcn_series.specs.DailyFaults.{FileLine, file_lines, same_month, is_listed};
+ghost use Rattle.ghcn_series.specs.DailyFaults.{FileLine, file_lines, daily_lines, same_month, is_listed};
+ghost use Rattle.ghcn_series.specs.Says.{contents};
 ghost use Rattle.ghcn_series.specs.Gathered.{HasRead, HasReadLines, IsFirstRefusal};
 
 use crate::station::StationGathering;
-use crate::{DailyWhy, DataFault};
+use crate::{DailyWhy, Data, DataFault};
 use ghcn_fields::{Memory, is_blank, lines};
 use ghcn_files::{Month, StationId, Stations, read_month};
+use indexmap::IndexMap;
 use std::alloc::Global;
 
 /// What was read so far.
@@ -29,7 +31,7 @@ pub(crate) struct Reader {
 
 impl Reader {
     /// Nothing read yet.
-    pub(crate) fn new(alloc: Global, stations: Stations) -> Result<Self, Memory>
+    fn new(alloc: Global, stations: Stations) -> Result<Self, Memory>
         ensures { IfOk result (λ reader. (reader.stations ≡ stations) × HasRead reader []) }
     {
         let mut gathered = Vec::with_capacity(alloc, stations.len() as usize)?;
@@ -46,8 +48,28 @@ impl Reader {
         })
     }
 
+    /// Reads files in their order.
+    pub(crate) fn read(
+        alloc: Global,
+        stations: Stations,
+        files: &[&[u8]],
+    ) -> Result<Self, DataFault>
+        ensures stations { IfOk result (λ reader. reader.stations ≡ stations) }
+        ensures read { IfOk result (λ reader. HasReadLines reader (daily_lines (map (λ f. f.now) files.now))) }
+        ensures fault { IfErr result (λ fault. IsFirstRefusal stations (daily_lines (map (λ f. f.now) files.now)) fault) }
+    {
+        let mut reader = match Reader::new(alloc, stations) {
+            Ok(reader) => reader,
+            Err(memory) => return Err(DataFault::Memory(memory)),
+        };
+        for (index, file) in files.iter().enumerate() {
+            reader.add_file(alloc, index as u64 + 1, file)?;
+        }
+        Ok(reader)
+    }
+
     /// Adds the lines of a file.
-    pub(crate) fn add_file(&mut self, alloc: Global, file: u64, text: &[u8]) -> Result<(), DataFault>
+    fn add_file(&mut self, alloc: Global, file: u64, text: &[u8]) -> Result<(), DataFault>
         ensures stations { self.new.stations ≡ self.old.stations }
         ensures read { OnOk result ((before : List FileLine) → HasReadLines self.old before →
             HasReadLines self.new (before ++ file_lines (file, text.now))) }
@@ -61,6 +83,25 @@ impl Reader {
             self.add_line(alloc, file, line, bytes)?;
         }
         Ok(())
+    }
+
+    /// The data of all lines that were read.
+    pub(crate) fn finish(self, alloc: Global) -> Result<Data, Memory>
+        requires { (ls : List FileLine) × HasReadLines self ls }
+        ensures { IfOk result (λ held. (ls : List FileLine) → HasReadLines self ls →
+            held ≡ contents self.stations ls) }
+    {
+        let Reader {
+            stations,
+            gathered,
+            unlisted,
+            ..
+        } = self;
+        let mut series = IndexMap::new(alloc);
+        for station in gathered {
+            station.add_series(alloc, &mut series)?;
+        }
+        Ok(Data::of(stations, series, unlisted))
     }
 
     /// Adds a line that isn't blank.

@@ -32,6 +32,14 @@ impl Model for Series {
 }
 
 impl Series {
+    /// The series of a station and an element that has these usable days.
+    pub(crate) fn of(id: StationId, element: Element, days: BTreeMap<Day, i32>) -> Self
+        requires { IsSeries (record { id = id; element = element; days = days.entries }) }
+        ensures { result ≡ record { id = id; element = element; days = days.entries } }
+    {
+        Series { id, element, days }
+    }
+
     /// The station's ID.
     pub fn id(&self) -> StationId
         ensures id { result ≡ self.now.id }

@@ -1,13 +1,10 @@
-use Rattle.std.proofs.Common.{◌≡◌, ℤ, List, BTreeMap, Result, subst, sym, ap, ◌∙◌}
+use Rattle.std.proofs.Common.{◌≡◌, ◌∙◌}
 use Rattle.std.specs.Ordering.{int_cmp, int_eq}
 use Rattle.std.specs.List.{IsDistinct}
 use Rattle.std.specs.Map.{keys_of}
-use Rattle.std.specs.Result.{IfOk}
 use Rattle.std.specs.BTreeMap.{IsFromIterResult}
 use Rattle.std.proofs.lemmas.Iterator.Adapters.{fact_from_collect, YieldsList-from_vec}
-use Rattle.ghcn_fields.specs.Sorting.{sorted_by}
-use Rattle.ghcn_series.specs.Series.{DayValue}
-use Rattle.ghcn_series.proofs.SortedDays.{entries-sorted, by_day}
+use Rattle.ghcn_series.proofs.SortedDays.{entries-sorted}
 use Rattle.ghcn_series.proofs.DistinctDays.{distinct_days}
 use Rattle.ghcn_series.proofs.gathering.Gathering.into_days.Goals as goal
 
@@ -17,4 +14,4 @@ returns c = λ months is.
     let made = fact_from_collect (IsFromIterResult int_cmp) c.collect.result c.collect.ensures.ran all in
     let here : IsFromIterResult int_cmp c.args.self.days.items c.in_ok-collect.field-0 = rw c.in_ok-collect.was at made in
     let apart : IsDistinct int_eq (keys_of c.args.self.days.items) = rw is.days (distinct_days months is.distinct) in
-    entries-sorted c.args.self.days.items c.in_ok-collect.field-0 here apart ∙ ap (sorted_by by_day) is.days
+    entries-sorted c.args.self.days.items c.in_ok-collect.field-0 here apart

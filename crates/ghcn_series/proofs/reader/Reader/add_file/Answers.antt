@@ -36,8 +36,8 @@ pub returns-in_err-add_line-clause-fault : goal.returns-in_err-add_line-clause-f
 returns-in_err-add_line-clause-fault c =
     let p = err_from_is_err_and c.from_residual.result c.from_residual.ensures.1 in
     rw (p.1, p.2) (λ before start.
-      let all : List FileLine = file_lines (c.args.file, c.args.text.now) in
-      let P : List Station → Type 0 = λ stations. IsFirstRefusal stations (before ++ all) c.in_err-add_line.field-0.0 in
-      subst P c.loop-line.invariant.stations (
-        within-fault c.loop-line.self c.args.file c.in-Some.line c.in-Some.bytes.now c.loop-line.line-iterator c.next.new.self before all c.in_err-add_line.field-0.0 c.loop-line.self.stations
-        c.in-Some.ensures.steps (sym c.is_blank.ensures ∙ c.if-is_blank.false) c.in_err-add_line.ensures.fault (c.loop-line.invariant.read before start)))
+    let all : List FileLine = file_lines (c.args.file, c.args.text.now) in
+    let P : List Station → Type 0 = λ stations. IsFirstRefusal stations (before ++ all) c.in_err-add_line.field-0.0 in
+    subst P c.loop-line.invariant.stations (
+    within-fault c.loop-line.self c.args.file c.in-Some.line c.in-Some.bytes.now c.loop-line.line-iterator c.next.new.self before all c.in_err-add_line.field-0.0 c.loop-line.self.stations
+    c.in-Some.ensures.steps (sym c.is_blank.ensures ∙ c.if-is_blank.false) c.in_err-add_line.ensures.fault (c.loop-line.invariant.read before start)))

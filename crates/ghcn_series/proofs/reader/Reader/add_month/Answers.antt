@@ -10,8 +10,8 @@ use Rattle.ghcn_series.proofs.reader.Reader.add_month.Goals.{in_default-via-in-S
 pub returns-in-Some-clause-added : goal.returns-in-Some-clause-added
 returns-in-Some-clause-added c =
     IfOk-weaker c.add.result _ _ (λ added adds before right is.
-      read-listed c.args.self.now _ c.args.month.now c.in-Some.place c.index_mut.result.now c.add.new.self added
-      (sym (c.place.ensures is.listed) ∙ c.in-Some.is) c.index_mut.ensures.value c.add.ensures.id adds refl refl refl before right is) c.add.ensures.added
+    read-listed c.args.self.now _ c.args.month.now c.in-Some.place c.index_mut.result.now c.add.new.self added
+    (sym (c.place.ensures is.listed) ∙ c.in-Some.is) c.index_mut.ensures.value c.add.ensures.id adds refl refl refl before right is) c.add.ensures.added
 
 pub returns-in_ok-self-in_default-clause-added : goal.returns-in_ok-self-in_default-clause-added
 returns-in_ok-self-in_default-clause-added c = λ before right is.

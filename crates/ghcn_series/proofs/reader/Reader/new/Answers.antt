@@ -19,10 +19,12 @@ loop-station-preserved c =
 pub returns : goal.returns
 returns c =
     let past = sym c.at.ensures ∙ ap option_copied c.in_default.is in
-    let P : List Station → Type 0 = λ ss. AllZip (IsStationOf []) ss c.loop-station.gathered.items in
-    (refl, record {
-      listed = c.len.ensures.listed;
-      right = tt;
-      unlisted = refl;
-      gathered = subst P (all_taken c.args.stations c.loop-station.place past) c.loop-station.invariant.gathered;
-    })
+    let P : List Station → Type 0 = λ ss. AllZip (IsStationOf []) ss c.loop-station.gathered.items in (
+      refl,
+      record {
+        listed = c.len.ensures.listed;
+        right = tt;
+        unlisted = refl;
+        gathered = subst P (all_taken c.args.stations c.loop-station.place past) c.loop-station.invariant.gathered;
+      },
+    )

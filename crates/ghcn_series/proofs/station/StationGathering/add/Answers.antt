@@ -6,5 +6,5 @@ use Rattle.ghcn_series.proofs.station.StationGathering.add.Goals as goal
 pub returns-clause-added : goal.returns-clause-added
 returns-clause-added c =
     IfOk-weaker c.add.result _ _ (λ added adds before of is.
-      by_element-more c.args.month.now c.args.self.now.id c.open.new.self.by_element.items c.place_of.result c.index_mut.result.now c.add.new.self added
-      c.place_of.ensures c.index_mut.ensures.value c.add.ensures.element adds before of (c.in_ok-open.ensures.same before is)) c.add.ensures.added
+    by_element-more c.args.month.now c.args.self.now.id c.open.new.self.by_element.items c.place_of.result c.index_mut.result.now c.add.new.self added
+    c.place_of.ensures c.index_mut.ensures.value c.add.ensures.element adds before of (c.in_ok-open.ensures.same before is)) c.add.ensures.added

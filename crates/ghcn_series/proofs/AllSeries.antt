@@ -1,0 +1,333 @@
+-- The series of all stations, from what was gathered of each.
+use Rattle.std.proofs.Common.{◌≡◌, ℕ, zero, suc, ◌+◌, Bool, true, false, cond, not, List, [], ◌∷◌, ◌++◌, length, map, filter, Option, None, Some, refl, sym, ap, ◌∙◌, subst, append_assoc}
+use Rattle.std.specs.Prelude.{◌==◌, ◌&&◌, ◌||◌, int_le}
+use Rattle.std.specs.List.{filter_map, flat_map, cons_option, list_any, AllZip, AllByRecursion, IsDistinct}
+use Rattle.std.specs.Map.{keys_of}
+use Rattle.std.proofs.lemmas.List.{append-nil, map-append}
+use Rattle.std.proofs.lemmas.List.Elements.{filter-append}
+use Rattle.ghcn_fields.specs.Sorting.{sorted_by}
+use Rattle.ghcn_files.specs.declared.station.StationId.{StationId}
+use Rattle.ghcn_files.specs.declared.station.Station.{Station}
+use Rattle.ghcn_files.specs.declared.element.Element.{Element}
+use Rattle.ghcn_files.specs.declared.element.Element.TheVariants.{Prcp, Snow, Snwd, Tmax, Tmin}
+use Rattle.ghcn_files.specs.declared.month.Month.{Month}
+use Rattle.ghcn_files.specs.Ids.{same_id}
+use Rattle.ghcn_files.specs.Elements.{elements, same_element}
+use Rattle.ghcn_files.specs.Listed.{AreListed}
+use Rattle.ghcn_files.specs.Months.{IsMonth}
+use Rattle.ghcn_series.specs.declared.gathering.Gathering.{Gathering}
+use Rattle.ghcn_series.specs.declared.station.StationGathering.{StationGathering}
+use Rattle.ghcn_series.specs.Series.{DayValue, Usable, IsSeries}
+use Rattle.ghcn_series.specs.DailyFaults.{is_listed}
+use Rattle.ghcn_series.specs.Says.{Fact, facts_of, is_usable, days_of, usable_of, all_series}
+use Rattle.ghcn_series.specs.Held.{Entry, AreApart, AreOwn, same_key, same_series}
+use Rattle.ghcn_series.specs.Gathered.{usable_days, months_of, IsGathering, IsGatheringOf, AreByElement, IsStationOf, IsReady, entry_of, entries_of}
+use Rattle.ghcn_series.proofs.Places.{ids, same_id-turned, same_id-refl, same_id-is}
+use Rattle.ghcn_series.proofs.StationMonths.{months_of-none, elements_differ}
+use Rattle.ghcn_series.proofs.SortedDays.{by_day}
+use Rattle.ghcn_series.proofs.ReadySeries.{is_series, length-sorted}
+use Rattle.ghcn_series.proofs.SeriesKeys.{Key, AreUnderOwn, distinct_series}
+use Rattle.ghcn_series.proofs.FactsOfMonths.{selected-months}
+
+-- elements that are the same
+same_element-is : (a b : Element) → same_element a b ≡ true → a ≡ b
+same_element-is Prcp Prcp e = refl
+same_element-is Prcp Snow e = absurd cc
+same_element-is Prcp Snwd e = absurd cc
+same_element-is Prcp Tmax e = absurd cc
+same_element-is Prcp Tmin e = absurd cc
+same_element-is Snow Prcp e = absurd cc
+same_element-is Snow Snow e = refl
+same_element-is Snow Snwd e = absurd cc
+same_element-is Snow Tmax e = absurd cc
+same_element-is Snow Tmin e = absurd cc
+same_element-is Snwd Prcp e = absurd cc
+same_element-is Snwd Snow e = absurd cc
+same_element-is Snwd Snwd e = refl
+same_element-is Snwd Tmax e = absurd cc
+same_element-is Snwd Tmin e = absurd cc
+same_element-is Tmax Prcp e = absurd cc
+same_element-is Tmax Snow e = absurd cc
+same_element-is Tmax Snwd e = absurd cc
+same_element-is Tmax Tmax e = refl
+same_element-is Tmax Tmin e = absurd cc
+same_element-is Tmin Prcp e = absurd cc
+same_element-is Tmin Snow e = absurd cc
+same_element-is Tmin Snwd e = absurd cc
+same_element-is Tmin Tmax e = absurd cc
+same_element-is Tmin Tmin e = refl
+
+-- each gathering of a station can become a series
+right_of : (id : StationId) (e f : Element) (ms : List Month) → f ≡ e → AllByRecursion IsMonth ms → AllByRecursion (λ m. IsMonth m × (m.element ≡ f)) (months_of ms id e)
+right_of id e f [] same all = tt
+right_of id e f (m ∷ ms) same all =
+    elim (same_id m.id id && same_element m.element e) as (λ b. (same_id m.id id && same_element m.element e) ≡ b → AllByRecursion (λ m. IsMonth m × (m.element ≡ f)) (cond b (m ∷ months_of ms id e) (months_of ms id e))) [
+      | true ↦ λ is. ((all.0, same_element-is m.element e (second (same_id m.id id) (same_element m.element e) is) ∙ sym same), right_of id e f ms same all.1)
+      | false ↦ λ is. right_of id e f ms same all.1
+    ] refl
+  where
+    second : (a b : Bool) → (a && b) ≡ true → b ≡ true
+    second true b p = p
+    second false b p = absurd cc
+
+ready_zip : (ms : List Month) (id : StationId) (gs : List Gathering) (es : List Element) → AllByRecursion IsMonth ms → AllZip (IsGatheringOf ms id) gs es → AllByRecursion IsReady gs
+ready_zip ms id [] [] right all = tt
+ready_zip ms id [] (e ∷ es) right all = absurd all
+ready_zip ms id (g ∷ gs) [] right all = absurd all
+ready_zip ms id (g ∷ gs) (e ∷ es) right all =
+    (record { months = months_of ms id e; holds = all.0.holds; right = right_of id e g.element ms all.0.element right }, ready_zip ms id gs es right all.1)
+
+ready_station : (ms : List Month) (id : StationId) (gs : List Gathering) → AllByRecursion IsMonth ms → AreByElement ms id gs → AllByRecursion IsReady gs
+ready_station ms id [] right all = tt
+ready_station ms id (g ∷ gs) right all = ready_zip ms id (g ∷ gs) elements right all
+
+-- each gathering of all stations can become a series
+pub all_ready : (ms : List Month) (ss : List Station) (gs : List StationGathering) → AllByRecursion IsMonth ms → AllZip (IsStationOf ms) ss gs → AllByRecursion (λ s. AllByRecursion IsReady s.by_element.items) gs
+all_ready ms [] [] right all = tt
+all_ready ms [] (g ∷ gs) right all = absurd all
+all_ready ms (s ∷ ss) [] right all = absurd all
+all_ready ms (s ∷ ss) (g ∷ gs) right all = (ready_station ms g.id g.by_element.items right all.0.holds, all_ready ms ss gs right all.1)
+
+series_of_gathering : StationId → Gathering → Usable
+series_of_gathering id g = record { id = id; element = g.element; days = sorted_by by_day g.days.items }
+
+-- what is true of each series of a station
+from_gatherings : (P : Entry → Type 0) (id : StationId) (gs : List Gathering) → ((g : Gathering) (x : Entry) → IsReady g → (length g.days.items == 0) ≡ false → x ≡ ((id, g.element), series_of_gathering id g) → P x)
+    → AllByRecursion IsReady gs → AllByRecursion P (filter_map (entry_of id) gs)
+unfolding series_of_gathering
+from_gatherings P id [] each ready = tt
+from_gatherings P id (g ∷ gs) each ready =
+    elim (length g.days.items == 0) as (λ b. (length g.days.items == 0) ≡ b → AllByRecursion P (cons_option (cond b None (Some ((id, g.element), series_of_gathering id g))) (filter_map (entry_of id) gs))) [
+      | true ↦ λ is. from_gatherings P id gs each ready.1
+      | false ↦ λ is. (each g ((id, g.element), series_of_gathering id g) ready.0 is refl, from_gatherings P id gs each ready.1)
+    ] refl
+
+both_all : {X : Type 0} (P : X → Type 0) (xs ys : List X) → AllByRecursion P xs → AllByRecursion P ys → AllByRecursion P (xs ++ ys)
+both_all P [] ys p q = q
+both_all P (x ∷ xs) ys p q = (p.0, both_all P xs ys p.1 q)
+
+from_stations : (P : Entry → Type 0) (gs : List StationGathering) → AllByRecursion (λ g. AllByRecursion P (entries_of g)) gs → AllByRecursion P (flat_map entries_of gs)
+from_stations P [] all = tt
+from_stations P (g ∷ gs) all = both_all P (entries_of g) (flat_map entries_of gs) all.0 (from_stations P gs all.1)
+
+-- ---- no two series stand under one key
+
+keys_of-append : (xs ys : List Entry) → keys_of (xs ++ ys) ≡ keys_of xs ++ keys_of ys
+keys_of-append [] ys = refl
+keys_of-append (x ∷ xs) ys = ap (λ (ks : List Key). x.0 ∷ ks) (keys_of-append xs ys)
+
+keys_all : (P : Key → Type 0) (xs : List Entry) → AllByRecursion (λ x. P x.0) xs → AllByRecursion P (keys_of xs)
+keys_all P [] all = tt
+keys_all P (x ∷ xs) all = (all.0, keys_all P xs all.1)
+
+both_apart : (xs ys : List Entry) → AreApart xs → AreApart ys → AllByRecursion (λ x. AllByRecursion (λ k. same_key x.0 k ≡ false) (keys_of ys)) xs → AreApart (xs ++ ys)
+unfolding IsDistinct
+both_apart [] ys p q all = q
+both_apart (x ∷ xs) ys p q all =
+    let P : List Key → Type 0 = AllByRecursion (λ k. same_key x.0 k ≡ false) in
+    (subst P (sym (keys_of-append xs ys)) (both_all (λ k. same_key x.0 k ≡ false) (keys_of xs) (keys_of ys) p.0 all.0), both_apart xs ys p.1 q all.1)
+
+-- the first of some series are apart where all are
+pub apart_front : (xs ys : List Entry) → AreApart (xs ++ ys) → AreApart xs
+unfolding IsDistinct
+apart_front [] ys all = tt
+apart_front (x ∷ xs) ys all = (front xs (keys_of ys) (subst (AllByRecursion (λ k. same_key x.0 k ≡ false)) (keys_of-append xs ys) all.0), apart_front xs ys all.1)
+  where
+    front : (zs : List Entry) (ks : List Key) → AllByRecursion (λ k. same_key x.0 k ≡ false) (keys_of zs ++ ks) → AllByRecursion (λ k. same_key x.0 k ≡ false) (keys_of zs)
+    front [] ks all = tt
+    front (z ∷ zs) ks all = (all.0, front zs ks all.1)
+
+other_element : (id : StationId) (d e : Element) → same_element d e ≡ false → same_key (id, d) (id, e) ≡ false
+other_element id d e other = and_false (same_id id id) (same_element d e) other
+  where
+    and_false : (a b : Bool) → b ≡ false → (a && b) ≡ false
+    and_false true b e = e
+    and_false false b e = refl
+
+others_apart : (ms : List Month) (id : StationId) (d : Element) (gs : List Gathering) (es : List Element) → AllByRecursion (λ e. same_element d e ≡ false) es → AllZip (IsGatheringOf ms id) gs es
+    → AllByRecursion (λ k. same_key (id, d) k ≡ false) (keys_of (filter_map (entry_of id) gs))
+others_apart ms id d [] [] other all = tt
+others_apart ms id d [] (e ∷ es) other all = absurd all
+others_apart ms id d (g ∷ gs) [] other all = absurd all
+others_apart ms id d (g ∷ gs) (e ∷ es) other all =
+    elim (length g.days.items == 0) as (λ b. AllByRecursion (λ k. same_key (id, d) k ≡ false) (keys_of (cons_option (cond b None (Some ((id, g.element), record { id = id; element = g.element; days = sorted_by by_day g.days.items }))) (filter_map (entry_of id) gs)))) [
+      | true ↦ others_apart ms id d gs es other.1 all.1
+      | false ↦ (other_element id d g.element (ap (same_element d) all.0.element ∙ other.0), others_apart ms id d gs es other.1 all.1)
+    ]
+
+elements_apart : (ms : List Month) (id : StationId) (gs : List Gathering) (es : List Element) → IsDistinct same_element es → AllZip (IsGatheringOf ms id) gs es → AreApart (filter_map (entry_of id) gs)
+unfolding IsDistinct
+elements_apart ms id [] [] apart all = tt
+elements_apart ms id [] (e ∷ es) apart all = absurd all
+elements_apart ms id (g ∷ gs) [] apart all = absurd all
+elements_apart ms id (g ∷ gs) (e ∷ es) apart all =
+    elim (length g.days.items == 0) as (λ b. AreApart (cons_option (cond b None (Some ((id, g.element), record { id = id; element = g.element; days = sorted_by by_day g.days.items }))) (filter_map (entry_of id) gs))) [
+      | true ↦ elements_apart ms id gs es apart.1 all.1
+      | false ↦ (others_apart ms id g.element gs es (subst (λ d. AllByRecursion (λ x. same_element d x ≡ false) es) (sym all.0.element) apart.0) all.1, elements_apart ms id gs es apart.1 all.1)
+    ]
+
+station_apart : (ms : List Month) (id : StationId) (gs : List Gathering) → AreByElement ms id gs → AreApart (filter_map (entry_of id) gs)
+unfolding IsDistinct
+station_apart ms id [] all = tt
+station_apart ms id (g ∷ gs) all = elements_apart ms id (g ∷ gs) elements elements_differ all
+
+-- the keys of a station's series have its ID
+keys_of_station : (id : StationId) (gs : List Gathering) → AllByRecursion (λ x. x.0.0 ≡ id) (filter_map (entry_of id) gs)
+keys_of_station id [] = tt
+keys_of_station id (g ∷ gs) =
+    elim (length g.days.items == 0) as (λ b. AllByRecursion (λ x. x.0.0 ≡ id) (cons_option (cond b None (Some ((id, g.element), record { id = id; element = g.element; days = sorted_by by_day g.days.items }))) (filter_map (entry_of id) gs))) [
+      | true ↦ keys_of_station id gs
+      | false ↦ (refl, keys_of_station id gs)
+    ]
+
+weaken : {X : Type 0} (P Q : X → Type 0) (xs : List X) → ((x : X) → P x → Q x) → AllByRecursion P xs → AllByRecursion Q xs
+weaken P Q [] f all = tt
+weaken P Q (x ∷ xs) f all = (f x all.0, weaken P Q xs f all.1)
+
+other_keys : (id : StationId) (ms : List Month) (ss : List Station) (gs : List StationGathering) → AllByRecursion (λ i. same_id id i ≡ false) (ids ss) → AllZip (IsStationOf ms) ss gs → AllByRecursion (λ x. same_id id x.0.0 ≡ false) (flat_map entries_of gs)
+other_keys id ms [] [] other all = tt
+other_keys id ms [] (g ∷ gs) other all = absurd all
+other_keys id ms (s ∷ ss) [] other all = absurd all
+other_keys id ms (s ∷ ss) (g ∷ gs) other all =
+    both_all (λ x. same_id id x.0.0 ≡ false) (entries_of g) (flat_map entries_of gs)
+    (weaken (λ x. x.0.0 ≡ g.id) (λ x. same_id id x.0.0 ≡ false) (entries_of g) (λ x e. ap (same_id id) (e ∙ all.0.id) ∙ other.0) (keys_of_station g.id g.by_element.items))
+    (other_keys id ms ss gs other.1 all.1)
+
+-- where no ID stands twice, the series of all stations are apart
+pub stations_apart : (ms : List Month) (ss : List Station) (gs : List StationGathering) → IsDistinct same_id (ids ss) → AllZip (IsStationOf ms) ss gs → AreApart (flat_map entries_of gs)
+unfolding IsDistinct
+stations_apart ms [] [] apart all = tt
+stations_apart ms [] (g ∷ gs) apart all = absurd all
+stations_apart ms (s ∷ ss) [] apart all = absurd all
+stations_apart ms (s ∷ ss) (g ∷ gs) apart all =
+    let others : AllByRecursion (λ x. same_id s.id x.0.0 ≡ false) (flat_map entries_of gs) = other_keys s.id ms ss gs apart.0 all.1 in
+    both_apart (entries_of g) (flat_map entries_of gs) (station_apart ms g.id g.by_element.items all.0.holds) (stations_apart ms ss gs apart.1 all.1)
+    (weaken (λ x. x.0.0 ≡ g.id) (λ x. AllByRecursion (λ k. same_key x.0 k ≡ false) (keys_of (flat_map entries_of gs))) (entries_of g)
+    (λ x e. keys_all (λ k. same_key x.0 k ≡ false) (flat_map entries_of gs)
+    (weaken (λ y. same_id s.id y.0.0 ≡ false) (λ y. same_key x.0 y.0 ≡ false) (flat_map entries_of gs)
+    (λ y o. ap (λ (i : StationId). same_id i y.0.0 && same_element x.0.1 y.0.1) (e ∙ all.0.id) ∙ ap (λ (b : Bool). b && same_element x.0.1 y.0.1) o) others))
+    (keys_of_station g.id g.by_element.items))
+
+-- ---- they are the series of the facts
+
+no_days : (ms : List Month) (id : StationId) (e : Element) → list_any (λ m. same_id m.id id) ms ≡ false → flat_map usable_days (months_of ms id e) ≡ []
+no_days ms id e none = ap (flat_map usable_days) (months_of-none ms id e none)
+
+has_days : Usable → Bool
+has_days s = not (length s.days == 0)
+
+one_or_none : (b c : Bool) (x : Entry) (u : Usable) (xs : List Entry) (us : List Usable) → b ≡ c → x.1 ≡ u → map (λ y. y.1) xs ≡ us → map (λ y. y.1) (cons_option (cond b None (Some x)) xs) ≡ cond (not c) (u ∷ us) us
+one_or_none true true x u xs us same this rest = rest
+one_or_none true false x u xs us same this rest = absurd cc
+one_or_none false true x u xs us same this rest = absurd cc
+one_or_none false false x u xs us same this rest = ap (λ (y : Usable). y ∷ map (λ y. y.1) xs) this ∙ ap (λ (ys : List Usable). u ∷ ys) rest
+
+module _ (stations : List Station) (ms : List Month) where
+  abbrev facts : List Fact
+  facts = filter (is_usable stations) (flat_map facts_of ms)
+
+  -- the days of a listed station's series are the usable days of its months
+  days_of-is : (id : StationId) (e : Element) → is_listed stations id ≡ true → days_of facts id e ≡ sorted_by by_day (flat_map usable_days (months_of ms id e))
+  days_of-is id e listed = ap (sorted_by by_day) (selected-months stations id e ms listed)
+
+  made : StationId → Element → List DayValue → Usable
+  made id e days = record { id = id; element = e; days = days }
+
+  elements_series : (s : Station) (gs : List Gathering) (es : List Element) → is_listed stations s.id ≡ true → AllZip (IsGatheringOf ms s.id) gs es → map (λ y. y.1) (filter_map (entry_of s.id) gs) ≡ filter has_days (map (usable_of facts s) es)
+  unfolding has_days made
+  elements_series s [] [] listed all = refl
+  elements_series s [] (e ∷ es) listed all = absurd all
+  elements_series s (g ∷ gs) [] listed all = absurd all
+  elements_series s (g ∷ gs) (e ∷ es) listed all =
+      let days : sorted_by by_day g.days.items ≡ days_of facts s.id e = ap (sorted_by by_day) all.0.holds.days ∙ sym (days_of-is s.id e listed) in
+      let empty : (length g.days.items == 0) ≡ (length (days_of facts s.id e) == 0) = ap (λ (n : ℕ). n == 0) (sym (length-sorted g.days.items) ∙ ap length days) in
+      one_or_none (length g.days.items == 0) (length (days_of facts s.id e) == 0) ((s.id, g.element), made s.id g.element (sorted_by by_day g.days.items)) (usable_of facts s e)
+      (filter_map (entry_of s.id) gs) (filter has_days (map (usable_of facts s) es)) empty
+      (ap (λ (x : Element). made s.id x (sorted_by by_day g.days.items)) all.0.element ∙ ap (made s.id e) days)
+      (elements_series s gs es listed all.1)
+
+  no_series : (s : Station) (es : List Element) → is_listed stations s.id ≡ true → list_any (λ m. same_id m.id s.id) ms ≡ false → filter has_days (map (usable_of facts s) es) ≡ []
+  unfolding has_days
+  no_series s [] listed none = refl
+  no_series s (e ∷ es) listed none =
+      let empty : days_of facts s.id e ≡ [] = days_of-is s.id e listed ∙ ap (sorted_by by_day) (no_days ms s.id e none) in
+      ap (λ (ds : List DayValue). cond (not (length ds == 0)) (usable_of facts s e ∷ filter has_days (map (usable_of facts s) es)) (filter has_days (map (usable_of facts s) es))) empty
+      ∙ no_series s es listed none
+
+  station_series : (s : Station) (gs : List Gathering) → is_listed stations s.id ≡ true → AreByElement ms s.id gs → map (λ y. y.1) (filter_map (entry_of s.id) gs) ≡ filter has_days (map (usable_of facts s) elements)
+  station_series s [] listed all = sym (no_series s elements listed all)
+  station_series s (g ∷ gs) listed all = elements_series s (g ∷ gs) elements listed all
+
+  -- the series that are gathered are those of the facts
+  pub series_are : (ss : List Station) (gs : List StationGathering) → AllByRecursion (λ s. is_listed stations s.id ≡ true) ss → AllZip (IsStationOf ms) ss gs
+      → map (λ y. y.1) (flat_map entries_of gs) ≡ all_series ss facts
+  unfolding has_days
+  series_are [] [] listed all = refl
+  series_are [] (g ∷ gs) listed all = absurd all
+  series_are (s ∷ ss) [] listed all = absurd all
+  series_are (s ∷ ss) (g ∷ gs) listed all =
+      let here : map (λ y. y.1) (entries_of g) ≡ filter has_days (map (usable_of facts s) elements) =
+      ap (λ (i : StationId). map (λ (y : Entry). y.1) (filter_map (entry_of i) g.by_element.items)) all.0.id
+      ∙ station_series s g.by_element.items listed.0 (subst (λ i. AreByElement ms i g.by_element.items) all.0.id all.0.holds) in
+      map-append (λ (y : Entry). y.1) (entries_of g) (flat_map entries_of gs)
+      ∙ ap (λ (us : List Usable). us ++ map (λ (y : Entry). y.1) (flat_map entries_of gs)) here
+      ∙ ap (λ (us : List Usable). filter has_days (map (usable_of facts s) elements) ++ us) (series_are ss gs listed.1 all.1)
+      ∙ sym (filter-append has_days (map (usable_of facts s) elements) (flat_map (λ x. map (usable_of facts x) elements) ss))
+
+-- ---- what is true of them
+
+listed_among : (all : List Station) (s : Station) (more : List Station) → is_listed (s ∷ more) s.id ≡ true
+listed_among all s more = ap (λ (b : Bool). b || is_listed more s.id) (same_id-refl s.id)
+
+still_listed : (s : Station) (more : List Station) (i : StationId) → is_listed more i ≡ true → is_listed (s ∷ more) i ≡ true
+still_listed s more i e = either (same_id s.id i) (is_listed more i) e
+  where
+    either : (a b : Bool) → b ≡ true → (a || b) ≡ true
+    either true b e = refl
+    either false b e = e
+
+each_listed : (ss : List Station) → AllByRecursion (λ s. is_listed ss s.id ≡ true) ss
+each_listed [] = tt
+each_listed (s ∷ ss) = (listed_among ss s ss, weaken (λ x. is_listed ss x.id ≡ true) (λ x. is_listed (s ∷ ss) x.id ≡ true) ss (λ x. still_listed s ss x.id) (each_listed ss))
+
+-- each station of a list is listed
+pub all_listed : (ss : List Station) → AllByRecursion (λ s. is_listed ss s.id ≡ true) ss
+all_listed ss = each_listed ss
+
+map_all : (P : Usable → Type 0) (xs : List Entry) → AllByRecursion (λ x. P x.1) xs → AllByRecursion P (map (λ y. y.1) xs)
+map_all P [] all = tt
+map_all P (x ∷ xs) all = (all.0, map_all P xs all.1)
+
+of_stations : (P : Entry → Type 0) (stations : List Station) (ms : List Month) (ss : List Station) (gs : List StationGathering) → AllByRecursion (λ s. is_listed stations s.id ≡ true) ss
+    → ((id : StationId) (g : Gathering) (x : Entry) → is_listed stations id ≡ true → IsReady g → (length g.days.items == 0) ≡ false → x ≡ ((id, g.element), series_of_gathering id g) → P x)
+    → AllByRecursion (λ s. AllByRecursion IsReady s.by_element.items) gs → AllZip (IsStationOf ms) ss gs → AllByRecursion P (flat_map entries_of gs)
+of_stations P stations ms [] [] listed each ready all = tt
+of_stations P stations ms [] (g ∷ gs) listed each ready all = absurd all
+of_stations P stations ms (s ∷ ss) [] listed each ready all = absurd all
+of_stations P stations ms (s ∷ ss) (g ∷ gs) listed each ready all =
+    both_all P (entries_of g) (flat_map entries_of gs)
+    (from_gatherings P g.id g.by_element.items (λ h x r some is. each g.id h x (ap (is_listed stations) all.0.id ∙ listed.0) r some is) ready.0)
+    (of_stations P stations ms ss gs listed.1 each ready.1 all.1)
+
+-- the series of all stations are each under its own station and element, and right
+pub are_own : (ms : List Month) (ss : List Station) (gs : List StationGathering) → AreListed ss → AllByRecursion IsMonth ms → AllZip (IsStationOf ms) ss gs → AreOwn ss (flat_map entries_of gs)
+unfolding series_of_gathering
+are_own ms ss gs listed right all =
+    let ready = all_ready ms ss gs right all in
+    let own : AreUnderOwn (flat_map entries_of gs) =
+    of_stations (λ x. (x.0.0 ≡ x.1.id) × (x.0.1 ≡ x.1.element)) ss ms ss gs (all_listed ss)
+    (λ id g x l r some is. (ap (λ (y : Entry). y.0.0) is ∙ sym (ap (λ (y : Entry). y.1.id) is), ap (λ (y : Entry). y.0.1) is ∙ sym (ap (λ (y : Entry). y.1.element) is))) ready all in
+    record {
+      own = own;
+      listed = listed;
+      series = record {
+        distinct = distinct_series (flat_map entries_of gs) own (stations_apart ms ss gs listed.distinct all);
+        listed =
+            map_all (λ u. is_listed ss u.id ≡ true) (flat_map entries_of gs)
+            (of_stations (λ x. is_listed ss x.1.id ≡ true) ss ms ss gs (all_listed ss) (λ id g x l r some is. ap (λ (y : Entry). is_listed ss y.1.id) is ∙ l) ready all);
+        right =
+            map_all IsSeries (flat_map entries_of gs)
+            (of_stations (λ x. IsSeries x.1) ss ms ss gs (all_listed ss)
+            (λ id g x l r some is. let P : Entry → Type 0 = λ y. IsSeries y.1 in subst P (sym is) (is_series id g (sorted_by by_day g.days.items) r some refl)) ready all);
+      };
+    }

@@ -1,0 +1,178 @@
+-- A gathering becomes a series.
+use Rattle.std.proofs.Common.{◌≡◌, ℕ, suc, ◌+◌, ◌<◌, Bool, true, false, cond, List, [], ◌∷◌, ◌++◌, length, Option, None, Some, refl, sym, ap, ◌∙◌, subst, append_assoc, arith, ℤ, pos}
+use Rattle.std.specs.Prelude.{◌==◌, ◌&&◌, ◌||◌, int_le, int_lt, neg_ℤ, IsTrue}
+use Rattle.std.specs.declared.cmp.Ordering.{Ordering}
+use Rattle.std.specs.declared.cmp.Ordering.TheVariants.{Less}
+use Rattle.std.specs.Ordering.{int_cmp, int_eq}
+use Rattle.std.specs.List.{filter_map, flat_map, enumerate_from, cons_option, list_all, IsDistinct, AllByRecursion}
+use Rattle.std.specs.List.Sorted.{IsStrictlySortedBy}
+use Rattle.std.specs.Option.{option_and_then, option_map_or}
+use Rattle.std.specs.Map.{keys_of}
+use Rattle.std.proofs.lemmas.Bool.Decides.{nat_tests}
+use Rattle.std.proofs.lemmas.Int.{ints}
+use Rattle.std.proofs.lemmas.List.Folds.{list_all-append}
+use Rattle.indexmap.specs.IndexMap.{insert_entry}
+use Rattle.jiff_core.specs.Calendar.{IsCivilDate}
+use Rattle.ghcn_fields.specs.Days.{day_number, is_day}
+use Rattle.ghcn_fields.specs.Sorting.{placed, sorted_by}
+use Rattle.ghcn_fields.proofs.DayNumbers.{is_day-from_civil}
+use Rattle.ghcn_files.specs.declared.station.StationId.{StationId}
+use Rattle.ghcn_files.specs.declared.element.Element.{Element}
+use Rattle.ghcn_files.specs.declared.month.Month.{Month}
+use Rattle.ghcn_files.specs.declared.month.Reading.{Reading}
+use Rattle.ghcn_files.specs.Elements.{may_be_negative}
+use Rattle.ghcn_files.specs.Months.{is_reading, is_readable, IsMonth}
+use Rattle.ghcn_series.specs.declared.gathering.Gathering.{Gathering}
+use Rattle.ghcn_series.specs.Series.{DayValue, Usable, IsSeries, is_by_day, is_value}
+use Rattle.ghcn_series.specs.Says.{fact_of, fact_if}
+use Rattle.ghcn_series.specs.Gathered.{counted, usable_day, usable_days, IsReady, entry_of}
+use Rattle.ghcn_series.specs.Held.{Entry, AreApart}
+use Rattle.ghcn_series.proofs.MonthDays.{has_number}
+use Rattle.ghcn_series.proofs.SeriesKeys.{key_eq, insert-last}
+use Rattle.ghcn_series.proofs.DistinctDays.{distinct_days}
+use Rattle.ghcn_series.proofs.SortedDays.{by_day, sorted_by-rises}
+
+-- a day that a series can have
+abbrev IsDayOf : Element → DayValue → Bool
+IsDayOf e x = is_day x.0 && is_value e x.1
+
+is_day-numbered : (y m d : ℕ) (n : ℤ) → day_number y m d ≡ Some n → is_day n ≡ true
+is_day-numbered y m d n e =
+    let has = has_number y m d n e in
+    let civil : IsCivilDate (pos y) m d = ((omega (arith, ints, has.0.year), omega (arith, ints, has.0.year)), has.0.month, has.0.day) in
+    ap is_day has.1 ∙ is_day-from_civil y m d civil has.0.year.0
+
+-- what a usable day is made of
+Parts : Month → Option ℤ → Option ℤ → DayValue → Type 0
+Parts m day value d = (day ≡ Some d.0) × (value ≡ Some d.1) × ((may_be_negative m.element || int_le (pos 0) d.1) ≡ true)
+
+parts_of : (m : Month) (b : Bool) (o v : Option ℤ) (d : DayValue) → option_and_then counted (fact_if m b o v) ≡ Some d → Parts m o v d
+unfolding Parts
+parts_of m true o v d e = absurd cc
+parts_of m false None v d e = absurd cc
+parts_of m false (Some n) None d e = absurd cc
+parts_of m false (Some n) (Some v) d e =
+    elim (may_be_negative m.element || int_le (pos 0) v) as (λ b. (may_be_negative m.element || int_le (pos 0) v) ≡ b → cond b (Some (n, v)) None ≡ Some d → Parts m (Some n) (Some v) d) [
+      | true ↦ λ counts is.
+          let pair : ◌≡◌ {A = DayValue} (n, v) d = cc in
+          (ap (λ (x : DayValue). Some x.0) pair, ap (λ (x : DayValue). Some x.1) pair, ap (λ (x : DayValue). may_be_negative m.element || int_le (pos 0) x.1) (sym pair) ∙ counts)
+      | false ↦ λ counts is. absurd cc
+    ] refl e
+
+four : (a b c d : Bool) → a ≡ true → (b && c) ≡ true → d ≡ true → (a && (b && c && d)) ≡ true
+four true true true true p q r = refl
+four true true true false p q r = absurd cc
+four true true false d p q r = absurd cc
+four true false c d p q r = absurd cc
+four false b c d p q r = absurd cc
+
+readable_from : (o : Option ℤ) (v : ℤ) → option_map_or is_readable o true ≡ true → o ≡ Some v → is_readable v ≡ true
+readable_from None v r e = absurd cc
+readable_from (Some x) v r e = let same : x ≡ v = cc in ap is_readable (sym same) ∙ r
+
+right_day : (m : Month) (j : ℕ) (r : Reading) (d : DayValue) → is_reading r ≡ true → usable_day m (j, r) ≡ Some d → IsDayOf m.element d ≡ true
+unfolding Parts
+right_day m j r d reads is =
+    let parts = parts_of m r.flagged (day_number m.year m.month j) r.value d is in
+    four (is_day d.0) (int_le (neg_ℤ (pos 9998)) d.1) (int_le d.1 (pos 99_999)) (may_be_negative m.element || int_le (pos 0) d.1)
+    (is_day-numbered m.year m.month j d.0 parts.0) (readable_from r.value d.1 reads parts.1) parts.2
+
+both_true : (a b : Bool) → (a && b) ≡ true → (a ≡ true) × (b ≡ true)
+both_true true b e = (refl, e)
+both_true false b e = absurd cc
+
+and_true : (a b : Bool) → a ≡ true → b ≡ true → (a && b) ≡ true
+and_true true b p q = q
+and_true false b p q = absurd cc
+
+right_days : (m : Month) (j : ℕ) (rs : List Reading) → list_all is_reading rs ≡ true → list_all (IsDayOf m.element) (filter_map (usable_day m) (enumerate_from j rs)) ≡ true
+right_days m j [] all = refl
+right_days m j (r ∷ rs) all =
+    let both = both_true (is_reading r) (list_all is_reading rs) all in
+    elim (usable_day m (j, r)) as (λ o. usable_day m (j, r) ≡ o → list_all (IsDayOf m.element) (cons_option o (filter_map (usable_day m) (enumerate_from (j + 1) rs))) ≡ true) [
+      | None ↦ λ is. right_days m (j + 1) rs both.1
+      | Some d ↦ λ is. and_true (IsDayOf m.element d) (list_all (IsDayOf m.element) (filter_map (usable_day m) (enumerate_from (j + 1) rs))) (right_day m j r d both.0 is) (right_days m (j + 1) rs both.1)
+    ] refl
+
+all_right : (e : Element) (ms : List Month) → AllByRecursion (λ m. IsMonth m × (m.element ≡ e)) ms → list_all (IsDayOf e) (flat_map usable_days ms) ≡ true
+all_right e [] all = refl
+all_right e (m ∷ ms) all =
+    let here : list_all (IsDayOf e) (usable_days m) ≡ true = ap (λ (f : Element). list_all (IsDayOf f) (usable_days m)) (sym all.0.1) ∙ right_days m 1 m.days all.0.0.values in
+    list_all-append (IsDayOf e) (usable_days m) (flat_map usable_days ms)
+    ∙ and_true (list_all (IsDayOf e) (usable_days m)) (list_all (IsDayOf e) (flat_map usable_days ms)) here (all_right e ms all.1)
+
+placed_right : (P : DayValue → Bool) (x : DayValue) (ys : List DayValue) → P x ≡ true → list_all P ys ≡ true → list_all P (placed by_day x ys) ≡ true
+placed_right P x [] p all = and_true (P x) true p refl
+placed_right P x (y ∷ ys) p all =
+    let both = both_true (P y) (list_all P ys) all in
+    elim (by_day x y) as (λ b. list_all P (cond b (x ∷ y ∷ ys) (y ∷ placed by_day x ys)) ≡ true) [
+      | true ↦ and_true (P x) (P y && list_all P ys) p all
+      | false ↦ and_true (P y) (list_all P (placed by_day x ys)) both.0 (placed_right P x ys p both.1)
+    ]
+
+sorted_right : (P : DayValue → Bool) (xs : List DayValue) → list_all P xs ≡ true → list_all P (sorted_by by_day xs) ≡ true
+sorted_right P [] all = refl
+sorted_right P (x ∷ xs) all =
+    let both = both_true (P x) (list_all P xs) all in
+    placed_right P x (sorted_by by_day xs) both.0 (sorted_right P xs both.1)
+
+length-placed : (x : DayValue) (ys : List DayValue) → length (placed by_day x ys) ≡ suc (length ys)
+length-placed x [] = refl
+length-placed x (y ∷ ys) =
+    elim (by_day x y) as (λ b. length (cond b (x ∷ y ∷ ys) (y ∷ placed by_day x ys)) ≡ suc (suc (length ys))) [
+      | true ↦ refl
+      | false ↦ ap suc (length-placed x ys)
+    ]
+
+-- days in their order are as many
+pub length-sorted : (xs : List DayValue) → length (sorted_by by_day xs) ≡ length xs
+length-sorted [] = refl
+length-sorted (x ∷ xs) = length-placed x (sorted_by by_day xs) ∙ ap suc (length-sorted xs)
+
+lt_from_cmp : (a b : ℤ) → int_cmp a b ≡ Less → int_lt a b ≡ true
+lt_from_cmp a b e = grind (arith, ints)
+
+rises : (days : List DayValue) → IsStrictlySortedBy int_cmp (keys_of days) → is_by_day days ≡ true
+unfolding IsStrictlySortedBy
+rises [] sorted = refl
+rises (x ∷ []) sorted = refl
+rises (x ∷ y ∷ ys) sorted = and_true (int_lt x.0 y.0) (is_by_day (y ∷ ys)) (lt_from_cmp x.0 y.0 sorted.0.0) (rises (y ∷ ys) sorted.1)
+
+positive : (n : ℕ) → (n == 0) ≡ false → 0 < n
+positive n e = grind (arith, nat_tests)
+
+-- a gathering with a usable day becomes a series
+pub is_series : (id : StationId) (g : Gathering) (days : List DayValue) → IsReady g → (length g.days.items == 0) ≡ false → days ≡ sorted_by by_day g.days.items → IsSeries (record { id = id; element = g.element; days = days })
+is_series id g days ready some sorted =
+    let apart : IsDistinct int_eq (keys_of g.days.items) = rw ready.holds.days (distinct_days ready.months ready.holds.distinct) in
+    let all : list_all (IsDayOf g.element) g.days.items ≡ true = ap (list_all (IsDayOf g.element)) ready.holds.days ∙ all_right g.element ready.months ready.right in
+    let P : List DayValue → Type 0 = λ ds. IsSeries (record { id = id; element = g.element; days = ds }) in
+    subst P (sym sorted) (record {
+      nonempty = omega (arith, length-sorted g.days.items, positive (length g.days.items) some);
+      by_day = rises (sorted_by by_day g.days.items) (sorted_by-rises g.days.items apart);
+      values = sorted_right (IsDayOf g.element) g.days.items all;
+    })
+
+-- a gathering without a usable day adds no series
+pub no_entry : (id : StationId) (g : Gathering) (held all : List Entry) (rest left : List Gathering) → rest ≡ g ∷ left → (length g.days.items == 0) ≡ true → held ++ filter_map (entry_of id) rest ≡ all → held ++ filter_map (entry_of id) left ≡ all
+no_entry id g held all rest left step empty is =
+    let none : entry_of id g ≡ None = ap (λ (b : Bool). cond b None (Some ((id, g.element), record { id = id; element = g.element; days = sorted_by by_day g.days.items }))) empty in
+    ap (λ (o : Option Entry). held ++ cons_option o (filter_map (entry_of id) left)) (sym none)
+    ∙ ap (λ gs. held ++ filter_map (entry_of id) gs) (sym step)
+    ∙ is
+
+-- any other adds one
+pub one_entry : (id : StationId) (g : Gathering) (s : Usable) (held now all : List Entry) (rest left : List Gathering) → rest ≡ g ∷ left → (length g.days.items == 0) ≡ false
+    → s ≡ record { id = id; element = g.element; days = sorted_by by_day g.days.items } → now ≡ insert_entry key_eq held (id, g.element) s → AreApart all
+    → held ++ filter_map (entry_of id) rest ≡ all → now ++ filter_map (entry_of id) left ≡ all
+one_entry id g s held now all rest left step some made put apart is =
+    let this : Usable = record { id = id; element = g.element; days = sorted_by by_day g.days.items } in
+    let entry : Entry = ((id, g.element), this) in
+    let one : entry_of id g ≡ Some entry = ap (λ (b : Bool). cond b None (Some entry)) some in
+    let whole : held ++ entry ∷ filter_map (entry_of id) left ≡ all =
+    ap (λ (o : Option Entry). held ++ cons_option o (filter_map (entry_of id) left)) (sym one)
+    ∙ ap (λ gs. held ++ filter_map (entry_of id) gs) (sym step)
+    ∙ is in
+    let last : now ≡ held ++ entry ∷ [] =
+    put ∙ ap (insert_entry key_eq held (id, g.element)) made ∙ insert-last held entry (filter_map (entry_of id) left) (subst AreApart (sym whole) apart) in
+    ap (λ es. es ++ filter_map (entry_of id) left) last ∙ append_assoc held (entry ∷ []) (filter_map (entry_of id) left) ∙ whole
