@@ -1,0 +1,73 @@
+-- What the input says, and the first fault in it.
+use Rattle.std.specs.Prelude.{◌≡◌, ℕ, Bool, true, ◌&&◌, if◌then◌else◌, List, Option, None, Some, Result, Ok, Err, ⊤, ℤ, pos, neg_ℤ, int_le}
+use Rattle.ghcn_files.specs.declared.station.Station.{Station}
+use Rattle.ghcn_files.specs.declared.fault.StationsFault.{StationsFault}
+use Rattle.ghcn_files.specs.declared.fault.StationsFault.TheVariants as station
+use Rattle.ghcn_files.specs.Listed.{listed}
+use Rattle.ghcn_series.specs.declared.fault.DataFault.{DataFault}
+use Rattle.ghcn_series.specs.declared.fault.DataFault.TheVariants as daily
+use Rattle.ghcn_series.specs.Series.{Contents}
+use Rattle.ghcn_series.specs.Says.{data_of}
+use Rattle.rank_query.specs.declared.fault.QueryFault.{QueryFault}
+use Rattle.rank_query.specs.declared.fault.QueryFault.TheVariants as query
+use Rattle.rank_query.specs.Asked.{Asked}
+use Rattle.rank_query.specs.Reading.{read_query}
+use Rattle.extremes.specs.declared.fault.Fault.{Fault}
+use Rattle.extremes.specs.declared.fault.Fault.TheVariants.{StationLine, TooManyStations, Memory, DailyLine, TooManyFiles, QueryTooLong, UnexpectedWord, QueryEnds, OutOfLimits, BadDate, BadBox, EmptyPeriod, BadGuess}
+
+-- a guess that may be made: none, or a score from -2^31 to 2^31
+abbrev pub is_guess : Option ℤ → Bool
+is_guess None = true
+is_guess (Some s) = int_le (neg_ℤ (pos 2_147_483_648)) s && int_le s (pos 2_147_483_648)
+
+-- a fault of the query, as the whole input's fault
+abbrev pub of_query : QueryFault → Fault
+of_query query.QueryTooLong = QueryTooLong
+of_query (query.UnexpectedWord at) = UnexpectedWord at
+of_query query.QueryEnds = QueryEnds
+of_query (query.OutOfLimits at) = OutOfLimits at
+of_query (query.BadDate at) = BadDate at
+of_query (query.BadBox at) = BadBox at
+of_query query.EmptyPeriod = EmptyPeriod
+
+-- a fault of the stations
+abbrev pub of_stations : StationsFault → Fault
+of_stations (station.StationLine line why) = StationLine line why
+of_stations station.TooManyStations = TooManyStations
+of_stations (station.Memory m) = Memory m
+
+-- a fault of the daily files
+abbrev pub of_data : DataFault → Fault
+of_data daily.TooManyFiles = TooManyFiles
+of_data (daily.DailyLine file line why) = DailyLine file line why
+of_data (daily.Memory m) = Memory m
+
+-- what comes next is read only where this was read without a fault
+abbrev pub then_read : {A B E : Type 0} → (E → Fault) → Result A E → (A → Result B Fault) → Result B Fault
+then_read of (Ok a) next = next a
+then_read of (Err e) next = Err (of e)
+
+-- the query and the data that the input holds, or the first fault: of the guess, the query, the stations, the daily files
+abbrev pub read_input : Option ℤ → List ℕ → List ℕ → List (List ℕ) → Result (Asked × Contents) Fault
+read_input guess query stations files =
+    if is_guess guess
+    then then_read of_query (read_query query) (λ q.
+        then_read of_stations (listed stations) (λ ss.
+        then_read of_data (data_of ss files) (λ held. Ok (q, held))))
+    else Err BadGuess
+
+-- want of memory, or the very fault that the input has
+abbrev pub IsRefusal : Fault → Result (Asked × Contents) Fault → Type 0
+IsRefusal (Memory m) read = ⊤
+IsRefusal (StationLine line why) read = read ≡ Err (StationLine line why)
+IsRefusal TooManyStations read = read ≡ Err TooManyStations
+IsRefusal (DailyLine file line why) read = read ≡ Err (DailyLine file line why)
+IsRefusal TooManyFiles read = read ≡ Err TooManyFiles
+IsRefusal QueryTooLong read = read ≡ Err QueryTooLong
+IsRefusal (UnexpectedWord at) read = read ≡ Err (UnexpectedWord at)
+IsRefusal QueryEnds read = read ≡ Err QueryEnds
+IsRefusal (OutOfLimits at) read = read ≡ Err (OutOfLimits at)
+IsRefusal (BadDate at) read = read ≡ Err (BadDate at)
+IsRefusal (BadBox at) read = read ≡ Err (BadBox at)
+IsRefusal EmptyPeriod read = read ≡ Err EmptyPeriod
+IsRefusal BadGuess read = read ≡ Err BadGuess

@@ -1,0 +1,23 @@
+//! What a command line asks for.
+
+/// A command of the program.
+#[derive(Debug, Drop)]
+pub enum Command {
+    /// Without words: the ranking of the texts that are built in.
+    Sample,
+    /// Rank the candidates of a query over files, named by their paths.
+    Rank {
+        stations: String,
+        query: String,
+        files: Vec<String>,
+    },
+}
+
+/// Why a command line isn't a command.
+#[derive(Debug, Drop)]
+pub enum CommandFault {
+    /// The words are no command, or ask for help: the text to show.
+    Words(String),
+    /// Memory was refused.
+    Memory,
+}

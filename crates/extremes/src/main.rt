@@ -1,0 +1,25 @@
+//! The k best records of GHCN-Daily files: a program over a library of its own.
+#![tactic(auto)]
+
+mod command;
+mod ending;
+mod fault;
+mod listing;
+mod measure;
+mod number;
+mod offers;
+mod papers;
+mod rank;
+mod report;
+mod row;
+mod run;
+mod sample;
+#[cfg(test)]
+mod tests;
+mod words;
+
+use std::process::ExitCode;
+
+fn main(rt: HostRuntime) -> ExitCode {
+    ExitCode::from(run::run(&rt).status())
+}

@@ -1,0 +1,71 @@
+//! The ranking on one thread, from the bytes of the files to the bytes of the report.
+
+ghost use Rattle.std.specs.Prelude.{◌≡◌, ◌↔◌, IfOk, IfErr, OnOk, IsTrue, IsOk, map};
+ghost use Rattle.rank_scores.specs.Morsels.{best_of_query};
+ghost use Rattle.extremes.specs.Answer.{Answers};
+ghost use Rattle.extremes.specs.Input.{is_guess, read_input, IsRefusal};
+ghost use Rattle.extremes.specs.Report.{AreOfListed};
+
+use crate::fault::Fault;
+use crate::listing::list_candidates;
+use crate::papers::Papers;
+use crate::report::report;
+use ghcn_fields::Memory;
+use ghcn_files::Stations;
+use ghcn_series::Data;
+use rank_query::Query;
+use rank_scores::{Candidate, best_first};
+use std::alloc::Global;
+
+/// The greatest magnitude of a guess, in the raw unit of a score.
+const GREATEST_GUESS: i64 = 1 << 31;
+
+/// Ranks the candidates of a query over a station list and daily files, and reports the k best.
+///
+/// The files are the texts of `ghcnd-stations.txt` and of `.dly` files, uncompressed. The guess,
+/// a score that the k-th best is supposed to reach, has no effect beyond its limits. A fault is
+/// the first in the order: guess, query, stations, number of files, files and lines in order.
+pub fn rank_serial(
+    alloc: Global,
+    stations: &[u8],
+    files: &[&[u8]],
+    query: &str,
+    guess: Option<i64>,
+) -> Result<Papers, Fault>
+    ensures ok { IfOk result (Answers guess query.now stations.now (map (λ file. file.now) files.now)) }
+    ensures err { IfErr result (λ fault.
+        IsRefusal fault (read_input guess query.now stations.now (map (λ file. file.now) files.now))) }
+{
+    if !may_be_guessed(guess) {
+        return Err(Fault::BadGuess);
+    }
+    let query = Query::parse(query)?;
+    let stations = Stations::read(alloc, stations)?;
+    let held = Data::read(alloc, stations, files)?;
+    let best = best_candidates(alloc, &held, &query)?;
+    Ok(Papers {
+        report: report(alloc, &held, &query, &best)?,
+        certificate: Vec::new(alloc),
+        unlisted: held.unlisted(),
+    })
+}
+
+/// Whether there is no guess, or one from -2^31 to 2^31.
+fn may_be_guessed(guess: Option<i64>) -> bool
+    ensures { result ≡ is_guess guess }
+{
+    match guess {
+        None => true,
+        Some(score) => -GREATEST_GUESS <= score && score <= GREATEST_GUESS,
+    }
+}
+
+/// The k best candidates of a query, the best first.
+fn best_candidates(alloc: Global, held: &Data, query: &Query) -> Result<Vec<Candidate>, Memory>
+    ensures best { IfOk result (λ best. best.items ≡ best_of_query query.now held.now) }
+    ensures listed { OnOk result (AreOfListed held.now.stations (best_of_query query.now held.now)) }
+{
+    let mut best = best_first(list_candidates(alloc, held, query)?)?;
+    best.truncate(query.k() as usize);
+    Ok(best)
+}

@@ -1,0 +1,101 @@
+//! Worked runs of the ranking and of the command line.
+
+use crate::command::{Command, CommandFault};
+use crate::ending::Ending;
+use crate::fault::Fault;
+use crate::rank::rank_serial;
+use crate::words::command;
+use ghcn_fields::Memory;
+use std::alloc::{AllocError, Global};
+use std::test::Fail;
+
+const STATIONS: &[u8] = b"ZZA00000001  10.0000   20.0000  100.0    ALPHA
+ZZA00000002  11.0000   21.0000  100.0    BRAVO
+ZZA00000003  12.0000   22.0000  100.0    CHARLIE
+";
+
+const DAILY: &[u8] = b"ZZA00000001202007TMAX  311     305   -9999   -9999   -9999   -9999   -9999   -9999   -9999   -9999   -9999   -9999   -9999   -9999   -9999   -9999   -9999   -9999   -9999   -9999   -9999   -9999   -9999   -9999   -9999   -9999   -9999   -9999   -9999   -9999   -9999   
+ZZA00000002202007TMAX  311   -9999   -9999   -9999   -9999   -9999   -9999   -9999   -9999   -9999   -9999   -9999   -9999   -9999   -9999   -9999   -9999   -9999   -9999   -9999   -9999   -9999   -9999   -9999   -9999   -9999   -9999   -9999   -9999   -9999   -9999   
+ZZA00000003202007TMAX  250   -9999   -9999   -9999   -9999   -9999   -9999   -9999   -9999   -9999   -9999   -9999   -9999   -9999   -9999   -9999   -9999   -9999   -9999   -9999   -9999   -9999   -9999   -9999   -9999   -9999   -9999   -9999   -9999   -9999   -9999   
+";
+
+const REPORT: &[u8] = b"extremes report 1
+query top 3 highest TMAX
+1 ZZA00000001 2020-07-01 2020-07-01 31.1 C ALPHA
+2 ZZA00000002 2020-07-01 2020-07-01 31.1 C BRAVO
+3 ZZA00000001 2020-07-02 2020-07-02 30.5 C ALPHA
+end 3
+";
+
+// With each growth refused in turn this test shows that nothing else is answered.
+#[test]
+fn the_right_report_or_want_of_memory(rt: HostRuntime) {
+    match rank_serial(rt.alloc(), STATIONS, &[DAILY], "top 3 highest TMAX", None) {
+        Ok(papers) => assert_eq!(rt; papers.report.as_slice(), REPORT),
+        Err(fault) => assert_eq!(rt; fault, Fault::Memory(Memory)),
+    }
+}
+
+#[test]
+fn the_right_report(rt: HostRuntime) {
+    let ranked = rank_serial(rt.alloc(), STATIONS, &[DAILY], "top 3 highest TMAX", None);
+    let report = ranked.as_ref().map(|papers| papers.report.as_slice()).ok();
+    assert_eq!(rt; report, Some(REPORT));
+}
+
+#[test]
+fn guesses_and_the_first_fault(rt: HostRuntime) {
+    let cases: [(Option<i64>, &str, &[u8], Option<Fault>); 6] = [
+        (Some(-2_147_483_649), "top", b"x", Some(Fault::BadGuess)),
+        (Some(2_147_483_649), "top", b"x", Some(Fault::BadGuess)),
+        (Some(2_147_483_648), "top", b"x", Some(Fault::QueryEnds)),
+        (None, "top 1 highest TMAX", b"", None),
+        (Some(-2_147_483_648), "top 1 highest TMAX", b"", None),
+        (None, "top 1 lowest TMAX", b"", Some(Fault::UnexpectedWord(3))),
+    ];
+    for (guess, query, stations, fault) in cases {
+        let found = rank_serial(rt.alloc(), stations, &[], query, guess).err();
+        assert_eq!(rt; found, fault, "at {guess:?} {query}");
+    }
+}
+
+fn words_of(alloc: Global, words: &[&str]) -> Result<Vec<String>, AllocError> {
+    words
+        .iter()
+        .map(|word| String::from_str(alloc, word))
+        .try_collect(alloc)
+}
+
+#[test]
+fn commands_of_words(rt: HostRuntime) -> Result<(), Fail> {
+    let none = command(rt.alloc(), words_of(rt.alloc(), &[])?);
+    assert!(rt; matches!(none, Ok(Command::Sample)));
+    let rank = words_of(rt.alloc(), &["rank", "--stations", "s", "--query", "q", "a", "b"])?;
+    let Ok(Command::Rank {
+        stations,
+        query,
+        files,
+    }) = command(rt.alloc(), rank)
+    else {
+        return Err(Fail::from("no command to rank"));
+    };
+    assert_eq!(rt; stations.as_str(), "s");
+    assert_eq!(rt; query.as_str(), "q");
+    assert_eq!(rt; files.len(), 2);
+    let without = words_of(rt.alloc(), &["rank", "--query", "q"])?;
+    assert!(rt; matches!(command(rt.alloc(), without), Err(CommandFault::Words(_))));
+    Ok(())
+}
+
+#[test]
+fn statuses(rt: HostRuntime) {
+    let cases = [
+        (Ending::Done, 0),
+        (Ending::Refused, 1),
+        (Ending::Words, 2),
+        (Ending::File, 3),
+    ];
+    for (ending, status) in cases {
+        assert_eq!(rt; ending.status(), status, "at {ending:?}");
+    }
+}
