@@ -27,9 +27,11 @@ impl Query {
         // What is read as a query spells it.
         ensures spelt { IfOk result (λ q. IsSpelling text.now q) }
         // What spells a query is read as it.
-        ensures only { (q : Asked) → IsAsked q → IsTrue (has_query q) → IsSpelling text.now q → length text.now ≤ 256 → result ≡ Ok q }
+        ensures only { (q : Asked) → IsAsked q → IsTrue (has_query q) → IsSpelling text.now q
+            → length text.now ≤ 256 → result ≡ Ok q }
         // So is its canonical text.
-        ensures canonical { (q : Asked) → IsAsked q → IsTrue (has_query q) → text.now ≡ query_text q → result ≡ Ok q }
+        ensures canonical { (q : Asked) → IsAsked q → IsTrue (has_query q) → text.now ≡ query_text q
+            → result ≡ Ok q }
     {
         query_of_text(text)
     }

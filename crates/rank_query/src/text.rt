@@ -82,7 +82,8 @@ fn write_box<W: fmt::Write>(
     north: i32,
     east: i32,
 ) -> fmt::Result
-    ensures { WritesOnOk W.write_str_gives f.old result (spaced (region_words (Region.Inside south west north east))) f.new }
+    ensures { WritesOnOk W.write_str_gives f.old result
+        (spaced (region_words (Region.Inside south west north east))) f.new }
 {
     f.write_str(" box")?;
     write_degrees(f, south)?;
