@@ -177,8 +177,8 @@ HasOffered-more {S = S} taken q c i s before now after distinct lt at new own ap
           ∙ sym (fold-append taken before old (station_candidates q c s))
           ∙ ap (fold taken before) (sym all);
       owned = subst (λ (cs : List Candidate). AreOwned (take (i + 1) c.stations) cs) (sym all)
-      (subst (λ (sts : List Station). AreOwned sts (old ++ station_candidates q c s)) (sym grown)
-      (each-append _ old (station_candidates q c s) (owned-more front s old h.owned) (owned-new front s (station_candidates q c s) own)));
+          (subst (λ (sts : List Station). AreOwned sts (old ++ station_candidates q c s)) (sym grown)
+          (each-append _ old (station_candidates q c s) (owned-more front s old h.owned) (owned-new front s (station_candidates q c s) own)));
       apart = subst (λ (cs : List Candidate). AreApart cs) (sym all) (apart-append front s.id old (station_candidates q c s) none h.owned own h.apart apart);
     }
 

@@ -52,8 +52,8 @@ abbrev pub read_input : Option ℤ → List ℕ → List ℕ → List (List ℕ)
 read_input guess query stations files =
     if is_guess guess
     then then_read of_query (read_query query) (λ q.
-        then_read of_stations (listed stations) (λ ss.
-        then_read of_data (data_of ss files) (λ held. Ok (q, held))))
+    then_read of_stations (listed stations) (λ ss.
+    then_read of_data (data_of ss files) (λ held. Ok (q, held))))
     else Err BadGuess
 
 -- want of memory, or the very fault that the input has

@@ -21,11 +21,13 @@ pub fn run<R: Files + Env + Print + Eprint + AllocGlobal>(rt: &R) -> Ending {
     };
     match command(rt.alloc(), words) {
         Ok(Command::Sample) => rank_sample(rt),
-        Ok(Command::Rank {
-            stations,
-            query,
-            files,
-        }) => rank_files(rt, &stations, &query, &files),
+        Ok(
+            Command::Rank {
+                stations,
+                query,
+                files,
+            },
+        ) => rank_files(rt, &stations, &query, &files),
         Err(CommandFault::Words(text)) => {
             let _ = eprint!(rt; "{text}");
             Ending::Words

@@ -14,7 +14,8 @@ ZZA00000002  11.0000   21.0000  100.0    BRAVO
 ZZA00000003  12.0000   22.0000  100.0    CHARLIE
 ";
 
-const DAILY: &[u8] = b"ZZA00000001202007TMAX  311     305   -9999   -9999   -9999   -9999   -9999   -9999   -9999   -9999   -9999   -9999   -9999   -9999   -9999   -9999   -9999   -9999   -9999   -9999   -9999   -9999   -9999   -9999   -9999   -9999   -9999   -9999   -9999   -9999   -9999   
+const DAILY: &[u8] =
+    b"ZZA00000001202007TMAX  311     305   -9999   -9999   -9999   -9999   -9999   -9999   -9999   -9999   -9999   -9999   -9999   -9999   -9999   -9999   -9999   -9999   -9999   -9999   -9999   -9999   -9999   -9999   -9999   -9999   -9999   -9999   -9999   -9999   -9999   
 ZZA00000002202007TMAX  311   -9999   -9999   -9999   -9999   -9999   -9999   -9999   -9999   -9999   -9999   -9999   -9999   -9999   -9999   -9999   -9999   -9999   -9999   -9999   -9999   -9999   -9999   -9999   -9999   -9999   -9999   -9999   -9999   -9999   -9999   
 ZZA00000003202007TMAX  250   -9999   -9999   -9999   -9999   -9999   -9999   -9999   -9999   -9999   -9999   -9999   -9999   -9999   -9999   -9999   -9999   -9999   -9999   -9999   -9999   -9999   -9999   -9999   -9999   -9999   -9999   -9999   -9999   -9999   -9999   
 ";
@@ -51,7 +52,12 @@ fn guesses_and_the_first_fault(rt: HostRuntime) {
         (Some(2_147_483_648), "top", b"x", Some(Fault::QueryEnds)),
         (None, "top 1 highest TMAX", b"", None),
         (Some(-2_147_483_648), "top 1 highest TMAX", b"", None),
-        (None, "top 1 lowest TMAX", b"", Some(Fault::UnexpectedWord(3))),
+        (
+            None,
+            "top 1 lowest TMAX",
+            b"",
+            Some(Fault::UnexpectedWord(3)),
+        ),
     ];
     for (guess, query, stations, fault) in cases {
         let found = rank_serial(rt.alloc(), stations, &[], query, guess).err();
@@ -70,12 +76,17 @@ fn words_of(alloc: Global, words: &[&str]) -> Result<Vec<String>, AllocError> {
 fn commands_of_words(rt: HostRuntime) -> Result<(), Fail> {
     let none = command(rt.alloc(), words_of(rt.alloc(), &[])?);
     assert!(rt; matches!(none, Ok(Command::Sample)));
-    let rank = words_of(rt.alloc(), &["rank", "--stations", "s", "--query", "q", "a", "b"])?;
-    let Ok(Command::Rank {
-        stations,
-        query,
-        files,
-    }) = command(rt.alloc(), rank)
+    let rank = words_of(
+        rt.alloc(),
+        &["rank", "--stations", "s", "--query", "q", "a", "b"],
+    )?;
+    let Ok(
+        Command::Rank {
+            stations,
+            query,
+            files,
+        },
+    ) = command(rt.alloc(), rank)
     else {
         return Err(Fail::from("no command to rank"));
     };
