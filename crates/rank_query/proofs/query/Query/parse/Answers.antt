@@ -13,5 +13,5 @@ returns-clause-only c = λ q asked has spelling short. c.query_of_text.ensures �
 
 pub returns-clause-canonical : goal.returns-clause-canonical
 returns-clause-canonical c = λ q asked has e.
-    let it = canonical q asked has in
+    let it = canonical q asked in
     c.query_of_text.ensures ∙ ap read_query e ∙ spelling_read (query_text q) q asked has it.spells it.short

@@ -3,7 +3,7 @@ use Rattle.std.specs.Char.{is_ascii_digit}
 use Rattle.std.proofs.lemmas.Grind.{common_steps}
 use Rattle.std.proofs.Common.{arith}
 use Rattle.rank_query.proofs.Numerals.{one_more_up_to}
-use Rattle.rank_query.proofs.parse.number_up_to.Goals as goal
+use Rattle.rank_query.proofs.values.number_up_to.Goals as goal
 
 pub loop-digit-preserved : goal.loop-digit-preserved
 loop-digit-preserved c =
