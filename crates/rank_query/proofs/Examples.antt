@@ -16,7 +16,7 @@ use Rattle.rank_query.specs.QueryTexts.{query_text}
 use Rattle.rank_query.specs.Words.{words_of, says}
 use Rattle.rank_query.specs.Readers.{keyword}
 use Rattle.rank_query.specs.WordValues.{number, element, degrees, code, date}
-use Rattle.rank_query.specs.Reading.{no_score_at, score_at, box_at, region_at, days_at, period_at, read_words, read_query}
+use Rattle.rank_query.specs.Reading.{sum_at, no_score_at, score_at, box_at, region_at, days_at, period_at, read_words, read_query}
 
 -- a query of all stations and days
 abbrev asked : ℕ → Score → Asked
@@ -46,10 +46,16 @@ unexpected : (read_query (codes "Top 1 highest TMAX") ≡ Err (UnexpectedWord 1)
 unfolding read_query read_words keyword says number element score_at no_score_at region_at period_at
 unexpected = (refl, refl, refl, refl)
 
--- words that the language doesn't have yet
-not_yet : (read_query (codes "top 1 lowest PRCP") ≡ Err (UnexpectedWord 3)) × (read_query (codes "top 1 sum 366 PRCP") ≡ Err (UnexpectedWord 3)) × (read_query (codes "top  007 wet") ≡ Err (UnexpectedWord 3))
-unfolding read_query read_words keyword says number element score_at no_score_at region_at period_at
-not_yet = (refl, refl, refl)
+-- the other scores
+scores : (read_query (codes "top 2 lowest TMIN") ≡ Ok (asked 2 (Lowest Tmin))) × (read_query (codes "top 1 sum 366 PRCP") ≡ Ok (asked 1 (Sum 366 Prcp))) × (read_query (codes "top  007 wet") ≡ Ok (asked 7 Wet)) × (read_query (codes "top 3 dry ") ≡ Ok (asked 3 Dry))
+unfolding read_query read_words keyword says number element score_at sum_at no_score_at region_at period_at
+scores = (refl, refl, refl, refl)
+
+-- lowest values are of temperatures, and sums of rain or snow over 1 to 366 days
+scores_refused : (read_query (codes "top 1 lowest PRCP") ≡ Err (UnexpectedWord 4)) × (read_query (codes "top 1 sum 367 PRCP") ≡ Err (OutOfLimits 4)) × (read_query (codes "top 1 sum 0 PRCP") ≡ Err (OutOfLimits 4)) × (read_query (codes "top 1 sum 3 SNWD") ≡ Err (UnexpectedWord 5))
+    × (read_query (codes "top 1 sum PRCP") ≡ Err (UnexpectedWord 4)) × (read_query (codes "top 1 hot 30") ≡ Err (UnexpectedWord 3)) × (read_query (codes "top 1 dry PRCP") ≡ Err (UnexpectedWord 4))
+unfolding read_query read_words keyword says number element score_at sum_at no_score_at region_at period_at
+scores_refused = (refl, refl, refl, refl, refl, refl, refl)
 
 -- the first of several faults of a box is told at its word: no latitude and no longitude, the north south of the south, and then nothing more
 boxes_refused : (read_query (codes "top 1 highest TMAX box -91 0 10 10") ≡ Err (BadBox 6)) × (read_query (codes "top 1 highest TMAX box 10 0 -10") ≡ Err (BadBox 8)) × (read_query (codes "top 1 highest TMAX box 0 181 0 x") ≡ Err (BadBox 7))

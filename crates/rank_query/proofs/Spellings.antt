@@ -12,7 +12,7 @@ use Rattle.rank_query.specs.Words.{Word, words_of, numbered_words, says}
 use Rattle.rank_query.specs.Readers.{◌>>=◌, Read, keyword, one_word}
 use Rattle.rank_query.specs.WordValues.{number}
 use Rattle.rank_query.specs.Reading.{score_at, region_at, period_at, nothing_more, read_words, read_query}
-use Rattle.rank_query.specs.Spelling.{IsNumeralOf, SpellsScore, SpellsRegion, SpellsPeriod, IsSpelling, has_query}
+use Rattle.rank_query.specs.Spelling.{IsNumeralOf, SpellsScore, SpellsRegion, SpellsPeriod, IsSpelling}
 use Rattle.rank_query.proofs.OneWords.{HasNoBlank, words_no_blank, all_behind}
 use Rattle.rank_query.proofs.ReadingSteps.{bind_ok, unnumbered, unnumbered-enumerate_from, keyword_took, one_word_took, Took, one_word_again}
 use Rattle.rank_query.proofs.WordValues.{number_numeral, numeral_number}
@@ -74,13 +74,13 @@ pub read_spells : (text : List ℕ) (q : Asked) → read_query text ≡ Ok q →
 unfolding read_query
 read_spells text q e = within_spells (nat_lt 256 (length text)) text q e
 
--- the words of a query that the language has are read as it
-words_again : (q : Asked) (k : List ℕ) (score region period : List (List ℕ)) → IsAsked q → has_query q ≡ true
+-- the words of a query that can be asked are read as it
+words_again : (q : Asked) (k : List ℕ) (score region period : List (List ℕ)) → IsAsked q
     → IsNumeralOf k q.k → SpellsScore score q.score → SpellsRegion region q.region → SpellsPeriod period q.period
     → read_words (enumerate_from 1 (codes "top" ∷ k ∷ score ++ region ++ period)) ≡ Ok q
 unfolding read_words keyword says
-words_again q k score region period is has numeral spells_score spells_region spells_period =
-    let s = score_again q.score score (region ++ period) 3 has spells_score in
+words_again q k score region period is numeral spells_score spells_region spells_period =
+    let s = score_again q.score score (region ++ period) 3 is.score spells_score in
     let r = region_again q.region region period s.0 is.region spells_region (period_no_region q.period period spells_period) in
     let p = period_again q.period period r.0 is.period spells_period in
     ap (λ ws. read_words (enumerate_from 1 (codes "top" ∷ k ∷ ws))) (append_assoc score region period)
@@ -90,13 +90,13 @@ words_again q k score region period is has numeral spells_score spells_region sp
     ∙ ap (λ (x : Read (Option (ℤ × ℤ))). x >>= λ p. nothing_more p.1 (asked q.k q.score q.region p.0)) p
 
 -- what spells a query that may be asked, in at most 256 bytes, is read as it
-pub spelling_read : (text : List ℕ) (q : Asked) → IsAsked q → has_query q ≡ true → IsSpelling text q → length text ≤ 256 → read_query text ≡ Ok q
+pub spelling_read : (text : List ℕ) (q : Asked) → IsAsked q → IsSpelling text q → length text ≤ 256 → read_query text ≡ Ok q
 unfolding read_query
-spelling_read text q is has spelling short =
+spelling_read text q is spelling short =
     let test : nat_lt 256 (length text) ≡ false = grind (arith, nat_tests) in
     ap (λ b. cond b (Err QueryTooLong) (read_words (numbered_words text))) test
     ∙ ap (λ ws. read_words (enumerate_from 1 ws)) spelling.words
-    ∙ words_again q spelling.k spelling.score spelling.region spelling.period is has spelling.spells_k spelling.spells_score spelling.spells_region spelling.spells_period
+    ∙ words_again q spelling.k spelling.score spelling.region spelling.period is spelling.spells_k spelling.spells_score spelling.spells_region spelling.spells_period
 
 -- where the reading succeeds, the text spells what was read
 pub if_read_spells : (text : List ℕ) (r : Result Asked QueryFault) → r ≡ read_query text → IfOk r (λ q. IsSpelling text q)

@@ -67,20 +67,28 @@ found_passes p [] x e = cc
 found_passes p (y ∷ ys) x e = first_passes (p y) p ys x y refl e (λ more. found_passes p ys x more)
 
 -- a word that is read as an element is its code
-pub element_code : (w : Word) (e : Element) → element w ≡ Ok e → w.1 ≡ code_of e
+pub element_code : (allows : Element → Bool) (w : Word) (e : Element) → element allows w ≡ Ok e → w.1 ≡ code_of e
 unfolding element
-element_code w e read =
-    let found : element_of w.1 ≡ Some e = or_fault_ok (UnexpectedWord w.0) (element_of w.1) e read in
+element_code allows w e read =
+    let value = bind_ok (or_fault (UnexpectedWord w.0) (element_of w.1)) (λ x. cond (allows x) (Ok x) (Err (UnexpectedWord w.0))) e read in
+    let test = test_ok (allows value.0) value.0 e (UnexpectedWord w.0) value.2 in
+    let found : element_of w.1 ≡ Some e = or_fault_ok (UnexpectedWord w.0) (element_of w.1) value.0 value.1 ∙ ap Some test.1 in
     sym ((bytes_decides (code_of e) w.1).0 (found_passes (λ e. same_bytes (code_of e) w.1) elements e found))
 
--- the code of an element is read as it
-pub code_element : (e : Element) (at : ℕ) → element (at, code_of e) ≡ Ok e
+-- an element is found by its code
+code_found : (e : Element) → element_of (code_of e) ≡ Some e
+code_found Prcp = refl
+code_found Snow = refl
+code_found Snwd = refl
+code_found Tmax = refl
+code_found Tmin = refl
+
+-- the code of an element that is allowed is read as it
+pub code_element : (allows : Element → Bool) (e : Element) (at : ℕ) → allows e ≡ true → element allows (at, code_of e) ≡ Ok e
 unfolding element
-code_element Prcp at = refl
-code_element Snow at = refl
-code_element Snwd at = refl
-code_element Tmax at = refl
-code_element Tmin at = refl
+code_element allows e at allowed =
+    ap (λ o. or_fault (UnexpectedWord at) o >>= λ x. cond (allows x) (Ok x) (Err (UnexpectedWord at))) (code_found e)
+    ∙ ap (λ b. cond b (Ok e) (Err (UnexpectedWord at))) allowed
 
 -- a text that begins with no blank is no longer than what stands behind its blanks
 no_blanks : (n : ℕ) (word text : List ℕ) → word ≡ replicate n 32 ++ text → HasNoBlank word → text ≡ word

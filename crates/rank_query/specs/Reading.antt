@@ -1,12 +1,12 @@
 -- Reading a query text from left to right, with the first fault that is met.
-use Rattle.std.specs.Prelude.{ℕ, nat_lt, if◌then◌else◌, List, [], ◌∷◌, length, codes, Option, None, Some, Result, Ok, Err, ℤ, pos, neg_ℤ, int_le}
+use Rattle.std.specs.Prelude.{ℕ, true, nat_lt, if◌then◌else◌, List, [], ◌∷◌, length, codes, Option, None, Some, Result, Ok, Err, ℤ, pos, neg_ℤ, int_le}
 use Rattle.rank_query.specs.declared.score.Score.{Score}
-use Rattle.rank_query.specs.declared.score.Score.TheVariants.{Highest}
+use Rattle.rank_query.specs.declared.score.Score.TheVariants.{Highest, Lowest, Sum, Dry, Wet}
 use Rattle.rank_query.specs.declared.region.Region.{Region}
 use Rattle.rank_query.specs.declared.region.Region.TheVariants.{Everywhere, Inside, Country, State, Only}
 use Rattle.rank_query.specs.declared.fault.QueryFault.{QueryFault}
 use Rattle.rank_query.specs.declared.fault.QueryFault.TheVariants.{QueryTooLong, UnexpectedWord, EmptyPeriod}
-use Rattle.rank_query.specs.Asked.{Asked}
+use Rattle.rank_query.specs.Asked.{Asked, is_temperature, is_fall}
 use Rattle.rank_query.specs.Words.{Word, numbered_words}
 use Rattle.rank_query.specs.Readers.{◌>>=◌, Read, next_word, keyword, one_word, made_into, by_word}
 use Rattle.rank_query.specs.WordValues.{number, element, degrees, code, date}
@@ -19,11 +19,31 @@ no_score_at ws = do
 
 -- the highest values of an element
 abbrev pub highest_at : List Word → Read Score
-highest_at ws = made_into Highest (one_word element ws)
+highest_at ws = made_into Highest (one_word (element (λ e. true)) ws)
+
+-- the lowest values of a temperature
+abbrev pub lowest_at : List Word → Read Score
+lowest_at ws = made_into Lowest (one_word (element is_temperature) ws)
+
+-- the sums of some days of rain or snow
+unfoldable pub sum_at : List Word → Read Score
+sum_at ws = do
+  n ← one_word (number 1 366) ws
+  e ← one_word (element is_fall) n.1
+  Ok (Sum n.0 e.0, e.1)
+
+-- dry spells
+abbrev pub dry_at : List Word → Read Score
+dry_at ws = Ok (Dry, ws)
+
+-- wet spells
+abbrev pub wet_at : List Word → Read Score
+wet_at ws = Ok (Wet, ws)
 
 -- a score, by its first word
 unfoldable pub score_at : List Word → Read Score
-score_at ws = by_word ((codes "highest", highest_at) ∷ []) no_score_at ws
+score_at ws =
+    by_word ((codes "highest", highest_at) ∷ (codes "lowest", lowest_at) ∷ (codes "sum", sum_at) ∷ (codes "dry", dry_at) ∷ (codes "wet", wet_at) ∷ []) no_score_at ws
 
 -- degrees of latitude, from a southernmost one to the north pole
 abbrev pub latitude_from : ℤ → Word → Result ℤ QueryFault

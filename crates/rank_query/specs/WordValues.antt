@@ -1,5 +1,5 @@
 -- What single words of a query text are read as.
-use Rattle.std.specs.Prelude.{ℕ, if◌then◌else◌, List, Result, Ok, Err, ℤ}
+use Rattle.std.specs.Prelude.{ℕ, Bool, if◌then◌else◌, List, Result, Ok, Err, ℤ}
 use Rattle.ghcn_fields.specs.Numbers.{natural, scaled_field}
 use Rattle.ghcn_fields.specs.Days.{is_within}
 use Rattle.ghcn_fields.specs.Dates.{read_date}
@@ -18,9 +18,11 @@ number low high w = do
   n ← or_fault (UnexpectedWord w.0) (natural w.1)
   if is_within low high n then Ok n else Err (OutOfLimits w.0)
 
--- the element that a word names
-unfoldable pub element : Word → Result Element QueryFault
-element w = or_fault (UnexpectedWord w.0) (element_of w.1)
+-- the element that a word names, where it is one of those that a test allows
+unfoldable pub element : (Element → Bool) → Word → Result Element QueryFault
+element allows w = do
+  e ← or_fault (UnexpectedWord w.0) (element_of w.1)
+  if allows e then Ok e else Err (UnexpectedWord w.0)
 
 -- a number of degrees within its limits, in ten-thousandths, as a field of four decimals holds it
 unfoldable pub degrees : ℤ → ℤ → Word → Result ℤ QueryFault

@@ -3,11 +3,11 @@
 ghost use Rattle.std.specs.Prelude.{◌≡◌, ◌≤◌, length, Some, IfOk, IsTrue};
 ghost use Rattle.rank_query.specs.Asked.{Asked, IsAsked, is_score, is_region, is_period};
 ghost use Rattle.rank_query.specs.QueryTexts.{query_text};
-ghost use Rattle.rank_query.specs.Spelling.{IsSpelling, has_query};
+ghost use Rattle.rank_query.specs.Spelling.{IsSpelling};
 ghost use Rattle.rank_query.specs.Readers.{Gives};
 ghost use Rattle.rank_query.specs.Reading as reading;
 
-use crate::values::{code, date, degrees, element, keyword, needed, number};
+use crate::values::{code, date, degrees, element, fall, keyword, needed, number, temperature};
 use crate::words::Words;
 use crate::{Query, QueryFault, Region, Score};
 use ghcn_fields::Day;
@@ -18,6 +18,9 @@ const LONGEST: usize = 256;
 
 /// The greatest number of rows that can be asked for.
 const MOST_ROWS: u64 = 1000;
+
+/// The greatest number of days that are added up.
+const MOST_DAYS: u64 = 366;
 
 /// The latitude of the north pole, in ten-thousandths of a degree.
 const MOST_NORTH: i32 = 900_000;
@@ -33,11 +36,10 @@ impl Query {
         // What is read as a query spells it.
         ensures spelt { IfOk result (λ q. IsSpelling text.now q) }
         // What spells a query is read as it.
-        ensures only { (q : Asked) → IsAsked q → IsTrue (has_query q) → IsSpelling text.now q
-            → length text.now ≤ 256 → result ≡ Ok q }
-        // So is its canonical text.
-        ensures canonical { (q : Asked) → IsAsked q → IsTrue (has_query q) → text.now ≡ query_text q
+        ensures only { (q : Asked) → IsAsked q → IsSpelling text.now q → length text.now ≤ 256
             → result ≡ Ok q }
+        // So is its canonical text.
+        ensures canonical { (q : Asked) → IsAsked q → text.now ≡ query_text q → result ≡ Ok q }
     {
         query_of_text(text)
     }
@@ -81,8 +83,30 @@ fn score(words: &mut Words) -> Result<Score, QueryFault>
     if words.take_if(b"highest") {
         return Ok(Score::Highest(element(words)?));
     }
+    if words.take_if(b"lowest") {
+        return Ok(Score::Lowest(temperature(words)?));
+    }
+    if words.take_if(b"sum") {
+        return sum(words);
+    }
+    if words.take_if(b"dry") {
+        return Ok(Score::Dry);
+    }
+    if words.take_if(b"wet") {
+        return Ok(Score::Wet);
+    }
     let (at, _) = needed(words)?;
     Err(QueryFault::UnexpectedWord(at))
+}
+
+/// So many days, and what is added up over them.
+#[tactic(auto, unfolding(crate::specs::Reading::sum_at))]
+fn sum(words: &mut Words) -> Result<Score, QueryFault>
+    ensures read { Gives (λ s. (s, words.new)) result (reading.sum_at words.old) }
+    ensures asked { IfOk result (λ s. IsTrue (is_score s)) }
+{
+    let days = number(words, 1, MOST_DAYS)?;
+    Ok(Score::Sum(days as u16, fall(words)?))
 }
 
 #[tactic(auto, unfolding(crate::specs::Reading::region_at))]

@@ -19,11 +19,17 @@ fn first_fault_of_a_query(rt: HostRuntime) {
         ("top 0 highest TMAX", Some(QueryFault::OutOfLimits(2))),
         ("top 1", Some(QueryFault::QueryEnds)),
         ("top 1 hot 30", Some(QueryFault::UnexpectedWord(3))),
-        ("top 1 lowest PRCP", Some(QueryFault::UnexpectedWord(3))),
-        ("top 1 sum 367 PRCP", Some(QueryFault::UnexpectedWord(3))),
-        ("top 1 dry", Some(QueryFault::UnexpectedWord(3))),
         ("top 1 highest", Some(QueryFault::QueryEnds)),
         ("top 1 highest TAVG", Some(QueryFault::UnexpectedWord(4))),
+        ("top 1 lowest PRCP", Some(QueryFault::UnexpectedWord(4))),
+        ("top 1 lowest SNOW", Some(QueryFault::UnexpectedWord(4))),
+        ("top 1 sum 366 PRCP", None),
+        ("top 1 sum 367 PRCP", Some(QueryFault::OutOfLimits(4))),
+        ("top 1 sum 0 PRCP", Some(QueryFault::OutOfLimits(4))),
+        ("top 1 sum PRCP", Some(QueryFault::UnexpectedWord(4))),
+        ("top 1 sum 3 SNWD", Some(QueryFault::UnexpectedWord(5))),
+        ("top 1 sum 3", Some(QueryFault::QueryEnds)),
+        ("top 1 dry months 1..2", Some(QueryFault::UnexpectedWord(4))),
         (
             "top 1 highest TMAX TMAX",
             Some(QueryFault::UnexpectedWord(5)),
@@ -192,6 +198,13 @@ fn canonical_texts(rt: HostRuntime) -> Result<(), Fail> {
     let cases = [
         ("top 1000 highest TMAX", "top 1000 highest TMAX"),
         (" top  007  highest PRCP", "top 7 highest PRCP"),
+        ("top  007 wet", "top 7 wet"),
+        ("top 1 sum 0366 PRCP", "top 1 sum 366 PRCP"),
+        ("top 2 lowest TMIN", "top 2 lowest TMIN"),
+        (
+            "top 1 dry from 2020-07-01 to 2020-07-01",
+            "top 1 dry from 2020-07-01 to 2020-07-01",
+        ),
         (
             "top 3 highest TMAX box -10 170 10 -170",
             "top 3 highest TMAX box -10.0000 170.0000 10.0000 -170.0000",
@@ -248,11 +261,49 @@ fn parts_of_a_query(rt: HostRuntime) -> Result<(), Fail> {
     assert_eq!(rt; query.score(), Score::Highest(Element::Snow));
     assert_eq!(rt; query.region(), Region::Everywhere);
     assert_eq!(rt; query.period(), None);
-    assert_eq!(rt; query.element(), Element::Snow);
     assert!(rt; query.admits_station(&station(0, 0)));
     for number in [-719_162, 0, 2_932_896] {
         let day = Day::with_number(number).ok_or("it is a day")?;
         assert!(rt; query.admits_day(day), "at {number}");
+    }
+    Ok(())
+}
+
+#[test]
+fn scores_and_their_elements(rt: HostRuntime) -> Result<(), Fail> {
+    let cases = [
+        (
+            "top 1 highest SNWD",
+            Score::Highest(Element::Snwd),
+            Element::Snwd,
+        ),
+        (
+            "top 1 lowest TMAX",
+            Score::Lowest(Element::Tmax),
+            Element::Tmax,
+        ),
+        (
+            "top 1 lowest TMIN",
+            Score::Lowest(Element::Tmin),
+            Element::Tmin,
+        ),
+        (
+            "top 1 sum 1 SNOW",
+            Score::Sum(1, Element::Snow),
+            Element::Snow,
+        ),
+        (
+            "top 1 sum 366 PRCP",
+            Score::Sum(366, Element::Prcp),
+            Element::Prcp,
+        ),
+        ("top 1 dry", Score::Dry, Element::Prcp),
+        ("top 1 wet", Score::Wet, Element::Prcp),
+    ];
+    for (text, score, element) in cases {
+        let query = Query::parse(text).ok().ok_or("the text is a query")?;
+        assert_eq!(rt; query.score(), score, "of {text}");
+        assert_eq!(rt; query.element(), element, "of {text}");
     }
     Ok(())
 }

@@ -1,12 +1,12 @@
 //! What single words of a query text are read as.
 
-ghost use Rattle.std.specs.Prelude.{◌≡◌, ◌+◌, ◌<◌, ◌^◌, ◌&&◌, int_le, min, IfOk, IsTrue};
+ghost use Rattle.std.specs.Prelude.{◌≡◌, true, ◌+◌, ◌<◌, ◌^◌, ◌&&◌, int_le, min, IfOk, IsTrue};
 ghost use Rattle.std.specs.List.{list_all};
 ghost use Rattle.std.specs.Option.{option_map};
 ghost use Rattle.ghcn_fields.specs.Numbers.{natural};
 ghost use Rattle.ghcn_fields.specs.Days.{is_within};
 ghost use Rattle.ghcn_files.specs.Ids.{is_visible};
-ghost use Rattle.rank_query.specs.Asked.{is_code};
+ghost use Rattle.rank_query.specs.Asked.{is_code, is_temperature, is_fall};
 ghost use Rattle.rank_query.specs.Readers as readers;
 ghost use Rattle.rank_query.specs.Readers.{Gives, one_word};
 ghost use Rattle.rank_query.specs.WordValues as values;
@@ -71,10 +71,36 @@ fn number_up_to(digits: &[u8], most: u64) -> Option<u64>
 /// The element that the next word names.
 #[tactic(auto, unfolding(crate::specs::WordValues::element))]
 pub(crate) fn element(words: &mut Words) -> Result<Element, QueryFault>
-    ensures { Gives (λ e. (e, words.new)) result (one_word values.element words.old) }
+    ensures { Gives (λ e. (e, words.new)) result (one_word (values.element (λ e. true)) words.old) }
 {
     let (at, word) = needed(words)?;
     Element::of_code(word).ok_or(QueryFault::UnexpectedWord(at))
+}
+
+/// The temperature that the next word names.
+#[tactic(auto, unfolding(crate::specs::WordValues::element))]
+pub(crate) fn temperature(words: &mut Words) -> Result<Element, QueryFault>
+    ensures read { Gives (λ e. (e, words.new)) result (one_word (values.element is_temperature) words.old) }
+    ensures allowed { IfOk result (λ e. IsTrue (is_temperature e)) }
+{
+    let (at, word) = needed(words)?;
+    match Element::of_code(word) {
+        Some(element @ (Element::Tmax | Element::Tmin)) => Ok(element),
+        _ => Err(QueryFault::UnexpectedWord(at)),
+    }
+}
+
+/// Rain or snow, whichever the next word names.
+#[tactic(auto, unfolding(crate::specs::WordValues::element))]
+pub(crate) fn fall(words: &mut Words) -> Result<Element, QueryFault>
+    ensures read { Gives (λ e. (e, words.new)) result (one_word (values.element is_fall) words.old) }
+    ensures allowed { IfOk result (λ e. IsTrue (is_fall e)) }
+{
+    let (at, word) = needed(words)?;
+    match Element::of_code(word) {
+        Some(element @ (Element::Prcp | Element::Snow)) => Ok(element),
+        _ => Err(QueryFault::UnexpectedWord(at)),
+    }
 }
 
 /// A number of degrees from `low` to `high`, in ten-thousandths, with up to four decimals.

@@ -1,6 +1,6 @@
 //! The words of a query text: its longest runs of bytes other than blanks.
 
-ghost use Rattle.std.specs.Prelude.{◌≡◌, Some, None, if◌then◌else◌};
+ghost use Rattle.std.specs.Prelude.{◌≡◌, false, Some, None, if◌then◌else◌};
 ghost use Rattle.std.specs.List.{position, position_or_len};
 ghost use Rattle.ghcn_fields.specs.Numbers.{after_blanks};
 ghost use Rattle.rank_query.specs.Words as words;
@@ -44,7 +44,7 @@ impl<'a> Words<'a> {
     /// Takes the next word where it is this one.
     pub(crate) fn take_if(&mut self, expected: &[u8]) -> bool
         ensures taken { after expected.now self.old ≡ (if result then Some self.new else None) }
-        ensures left { self.new ≡ (if result then self.new else self.old) }
+        ensures left { result ≡ false → self.new ≡ self.old }
     {
         let mut rest = Words {
             given: self.given,
