@@ -3,6 +3,7 @@
 ghost use Rattle.std.specs.Prelude.{◌≡◌};
 
 use ghcn_fields::Day;
+use std::alloc::AllocError;
 use std::collections::BTreeMap;
 use std::collections::btree_map::Iter;
 use std::marker::Model;
@@ -27,6 +28,21 @@ impl<'a> Days<'a> {
         ensures { result ≡ days.now.entries }
     {
         Days { rest: days.iter() }
+    }
+}
+
+impl<'a> Clone for Days<'a> {
+    ghost use Rattle.std.specs.Prelude.{◌≡◌, ⊤};
+
+    ghost is_clone = { λ s r. r ≡ s };
+
+    ghost is_infallible = { λ _. ⊤ };
+
+    /// The same days once more, without taking memory.
+    fn clone(&self) -> Result<Days<'a>, AllocError> {
+        Ok(Days {
+            rest: self.rest.clone()?,
+        })
     }
 }
 

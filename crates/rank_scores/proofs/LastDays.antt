@@ -109,3 +109,16 @@ pub both_parts : (a b : Bool) → a ≡ true → b ≡ false → (a && not b) �
 both_parts true false p q = refl
 both_parts true true p q = absurd cc
 both_parts false b p q = absurd cc
+
+-- where no run begins, there is no spell
+pub spell-none : (id : StationId) (first : ℤ) (b : Bool) (e : Option (ℤ × ℤ)) → b ≡ false → None ≡ option_map (candidate id first) (cond b e None)
+spell-none id first b e is = ap (λ (t : Bool). option_map (candidate id first) (cond t e None)) (sym is)
+
+-- no run begins on a day that isn't such a day
+pub begins-not : (a b : Bool) → a ≡ false → (a && not b) ≡ false
+begins-not a b e = ap (λ (t : Bool). t && not b) e
+
+-- nor on one behind such a day
+pub begins-behind : (a b : Bool) → b ≡ true → (a && not b) ≡ false
+begins-behind true b e = ap (λ (t : Bool). not t) e
+begins-behind false b e = refl

@@ -1,6 +1,7 @@
 pub mod Ranks
 pub mod Listing
 pub mod Windows
+pub mod DaysToCome
 pub mod Walks
 pub mod LastDays
 pub mod Sound

@@ -1,4 +1,5 @@
 pub mod Runs
+pub mod Ahead
 pub mod Candidates
 pub mod Spells
 pub mod Order

@@ -1,6 +1,6 @@
-//! The values of the days before and after one, where these days are admitted and usable.
+//! The value of the day before one, where that day is admitted and usable.
 
-ghost use Rattle.std.specs.Prelude.{◌≡◌, ℤ, pos, ◌+ℤ◌, ◌-ℤ◌};
+ghost use Rattle.std.specs.Prelude.{◌≡◌, ℤ, pos, ◌-ℤ◌};
 ghost use Rattle.ghcn_fields.specs.Days.{day_if};
 ghost use Rattle.ghcn_series.specs.Series.{value_on};
 ghost use Rattle.rank_scores.specs.Candidates.{admitted};
@@ -8,13 +8,6 @@ ghost use Rattle.rank_scores.specs.Candidates.{admitted};
 use ghcn_fields::Day;
 use ghcn_series::Series;
 use rank_query::Query;
-
-/// The value of the day that comes so many days later, if it is usable and the query admits it.
-pub(crate) fn value_after(series: &Series, query: &Query, first: Day, later: u32) -> Option<i32>
-    ensures { result ≡ value_on (admitted query.now series.now) (first +ℤ pos later) }
-{
-    admitted_value(series, query, first.after(later))
-}
 
 /// The value of the day before, if it is usable and the query admits it.
 pub(crate) fn value_before(series: &Series, query: &Query, first: Day) -> Option<i32>

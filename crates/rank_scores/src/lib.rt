@@ -5,6 +5,7 @@
 #![tactic(auto)]
 
 mod admitted;
+mod ahead;
 mod best;
 mod candidate;
 mod scans;

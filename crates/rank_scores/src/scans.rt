@@ -6,6 +6,7 @@ ghost use Rattle.rank_scores.specs.Candidates as found;
 ghost use Rattle.rank_scores.specs.Order.{AreApart};
 ghost use Rattle.rank_scores.specs.Spells.{test_of};
 
+use crate::ahead::again;
 use crate::spell::{Spell, spell_from};
 use crate::window::window_from;
 use crate::{Candidate, Sink};
@@ -72,9 +73,10 @@ fn scan_windows<S: Sink>(id: StationId, series: &Series, query: &Query, n: u16, 
     ensures { sink.new ≡ fold S.taken sink.old
         (found.candidates_among id (found.Windows n) (found.admitted query.now series.now)) }
 {
-    for (day, _) in series.days() {
-        if query.admits_day(day) {
-            if let Some(candidate) = window_from(id, series, query, n, day) {
+    let mut days = series.days();
+    while let Some(first) = days.next() {
+        if query.admits_day(first.0) {
+            if let Some(candidate) = window_from(id, query, n, first, again(&days)) {
                 sink.offer(candidate);
             }
         }
@@ -86,9 +88,10 @@ fn scan_spells<S: Sink>(id: StationId, series: &Series, query: &Query, spell: Sp
     ensures { sink.new ≡ fold S.taken sink.old
         (found.candidates_among id (found.Spells (test_of spell)) (found.admitted query.now series.now)) }
 {
-    for (day, _) in series.days() {
-        if query.admits_day(day) {
-            if let Some(candidate) = spell_from(id, series, query, spell, day) {
+    let mut days = series.days();
+    while let Some(first) = days.next() {
+        if query.admits_day(first.0) {
+            if let Some(candidate) = spell_from(id, series, query, spell, first, again(&days)) {
                 sink.offer(candidate);
             }
         }

@@ -1,16 +1,20 @@
 //! Spells: longest runs of consecutive days, each admitted and usable, whose values pass a test.
 
-ghost use Rattle.std.specs.Prelude.{ℤ, ◌≡◌, pos, ◌+ℤ◌, ◌-ℤ◌, false};
+ghost use Rattle.std.specs.Prelude.{◌≡◌, pos, ◌-ℤ◌, false, List, IsTrue};
 ghost use Rattle.std.specs.Option.{option_map, option_map_or};
+ghost use Rattle.ghcn_series.specs.Series.{DayValue};
+ghost use Rattle.rank_query.specs.Admits.{admits_day};
+ghost use Rattle.rank_scores.specs.Ahead.{StandsBefore};
 ghost use Rattle.rank_scores.specs.Runs.{run_len};
 ghost use Rattle.rank_scores.specs.Spells.{test_of};
 ghost use Rattle.rank_scores.specs.Candidates as found;
 
 use crate::Candidate;
-use crate::admitted::{value_after, value_before};
+use crate::admitted::value_before;
+use crate::ahead::next_value;
 use ghcn_fields::Day;
 use ghcn_files::StationId;
-use ghcn_series::Series;
+use ghcn_series::{Days, Series};
 use rank_query::Query;
 
 /// Which days a spell has, by their precipitation (ETCCDI).
@@ -28,47 +32,50 @@ const ONE_MILLIMETRE: i32 = 10;
 /// How many days there are in the years 1 to 9999.
 const CALENDAR_LEN: u32 = 3_652_059;
 
-/// The spell that begins on this day, if one does.
+/// The spell that begins on an admitted day of a series, if one does.
+///
+/// `rest` has the usable days after the first one.
 pub(crate) fn spell_from(
     id: StationId,
     series: &Series,
     query: &Query,
     spell: Spell,
-    first: Day,
+    first: (Day, i32),
+    rest: Days<'_>,
 ) -> Option<Candidate>
-    ensures { (value : ℤ) → result ≡ option_map (found.candidate id first)
-        (found.begun (found.Spells (test_of spell)) (found.admitted query.now series.now) (first, value)) }
+    requires admitted { IsTrue (admits_day query.now first.0) }
+    requires stands { StandsBefore first rest series.now.days }
+    ensures { result ≡ option_map (found.candidate id first.0)
+        (found.begun (found.Spells (test_of spell)) (found.admitted query.now series.now) first) }
 {
-    if !passes_after(series, query, spell, first, 0) || passes_before(series, query, spell, first) {
+    let (day, value) = first;
+    if !passes(spell, Some(value)) || passes_before(series, query, spell, day) {
         return None;
     }
-    let len = run_len(series, query, spell, first);
-    let last = first.after(len.saturating_sub(1))?;
+    let len = run_len(query, spell, first, rest);
+    let last = day.after(len.saturating_sub(1))?;
     Some(Candidate {
         id,
-        first,
+        first: day,
         last,
         score: len as i64,
     })
 }
 
-/// How many days of the spell's kind follow one another from `first` on.
-fn run_len(series: &Series, query: &Query, spell: Spell, first: Day) -> u32
-    ensures { result ≡ run_len (found.is_such (test_of spell) (found.admitted query.now series.now)) first }
+/// How many days of the spell's kind follow one another from the first one on, which is one.
+fn run_len(query: &Query, spell: Spell, first: (Day, i32), rest: Days<'_>) -> u32
+    requires admitted { IsTrue (admits_day query.now first.0) }
+    requires passes { IsTrue (test_of spell first.1) }
+    ensures { (days : List DayValue) → StandsBefore first rest.entry days →
+        result ≡ run_len (found.is_such (test_of spell) (found.admitted_among query.now days)) first.0 }
 {
-    for later in 0..CALENDAR_LEN {
-        if !passes_after(series, query, spell, first, later) {
+    let mut rest = rest;
+    for later in 1..CALENDAR_LEN {
+        if !passes(spell, next_value(&mut rest, query, first.0.after(later))) {
             return later;
         }
     }
     CALENDAR_LEN
-}
-
-/// Whether the day that comes so many days later is of the spell's kind.
-fn passes_after(series: &Series, query: &Query, spell: Spell, first: Day, later: u32) -> bool
-    ensures { result ≡ found.is_such (test_of spell) (found.admitted query.now series.now) (first +ℤ pos later) }
-{
-    passes(spell, value_after(series, query, first, later))
 }
 
 /// Whether the day before is of the spell's kind.

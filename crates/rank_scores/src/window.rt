@@ -1,46 +1,58 @@
 //! Windows: so many consecutive days, each admitted and usable.
 
-ghost use Rattle.std.specs.Prelude.{ℤ, ◌≡◌, ◌<◌, ◌+ℤ◌, FitsSigned};
+ghost use Rattle.std.specs.Prelude.{ℤ, ◌≡◌, ◌<◌, ◌+ℤ◌, FitsSigned, List, IsTrue};
 ghost use Rattle.std.specs.Int.{w64};
 ghost use Rattle.std.specs.Option.{option_map};
+ghost use Rattle.ghcn_series.specs.Series.{DayValue};
+ghost use Rattle.rank_query.specs.Admits.{admits_day};
+ghost use Rattle.rank_scores.specs.Ahead.{StandsBefore};
 ghost use Rattle.rank_scores.specs.Candidates as found;
 
 use crate::Candidate;
-use crate::admitted::value_after;
+use crate::ahead::next_value;
 use ghcn_fields::Day;
 use ghcn_files::StationId;
-use ghcn_series::Series;
+use ghcn_series::Days;
 use rank_query::Query;
 
-/// The window of `n` days that begins on this day, if each of them is admitted and usable.
+/// The window of `n` days that begins on an admitted day, if each of them is admitted and usable.
+///
+/// `rest` has the usable days after the first one.
 pub(crate) fn window_from(
     id: StationId,
-    series: &Series,
     query: &Query,
     n: u16,
-    first: Day,
+    first: (Day, i32),
+    rest: Days<'_>,
 ) -> Option<Candidate>
-    requires { 0 < n }
-    ensures { (value : ℤ) → result ≡ option_map (found.candidate id first)
-        (found.begun (found.Windows n) (found.admitted query.now series.now) (first, value)) }
+    requires some_day { 0 < n }
+    requires admitted { IsTrue (admits_day query.now first.0) }
+    ensures { (days : List DayValue) → StandsBefore first rest.entry days → result ≡ option_map (found.candidate id first.0)
+        (found.begun (found.Windows n) (found.admitted_among query.now days) first) }
 {
-    let score = window_total(series, query, n, first)?;
-    let last = first.after(n as u32 - 1)?;
+    let (day, _) = first;
+    let score = window_total(query, n, first, rest)?;
+    let last = day.after(n as u32 - 1)?;
     Some(Candidate {
         id,
-        first,
+        first: day,
         last,
         score,
     })
 }
 
-/// The total of the `n` days from `first` on, where each is admitted and usable.
-fn window_total(series: &Series, query: &Query, n: u16, first: Day) -> Option<i64>
-    ensures { result ≡ found.window_total (found.admitted query.now series.now) n first }
+/// The total of the `n` days from the first one on, where each is admitted and usable.
+fn window_total(query: &Query, n: u16, first: (Day, i32), rest: Days<'_>) -> Option<i64>
+    requires some_day { 0 < n }
+    requires admitted { IsTrue (admits_day query.now first.0) }
+    ensures { (days : List DayValue) → StandsBefore first rest.entry days →
+        result ≡ found.window_total (found.admitted_among query.now days) n first.0 }
 {
-    let mut total: i64 = 0;
-    for i in 0..n {
-        total = sum_of(total, value_after(series, query, first, i as u32)?);
+    let (day, value) = first;
+    let mut rest = rest;
+    let mut total = value as i64;
+    for i in 1..n {
+        total = sum_of(total, next_value(&mut rest, query, day.after(i as u32))?);
     }
     Some(total)
 }
