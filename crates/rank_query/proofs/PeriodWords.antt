@@ -1,5 +1,5 @@
 -- The words of a period: those that are read as a period spell it, and those that spell it are read as it.
-use Rattle.std.proofs.Common.{◌≡◌, ℕ, ◌+◌, Bool, true, cond, ◌&&◌, List, [], ◌∷◌, ◌++◌, Option, Some, None, Ok, Err, inl, inr, codes, refl, sym, ap, ◌∙◌, subst}
+use Rattle.std.proofs.Common.{◌≡◌, ℕ, ◌+◌, true, cond, ◌&&◌, List, [], ◌∷◌, Option, Some, None, Ok, Err, inl, inr, codes, refl, sym, ap, ◌∙◌, subst}
 use Rattle.std.specs.Prelude.{ℤ, int_le}
 use Rattle.std.specs.List.{enumerate_from}
 use Rattle.std.proofs.lemmas.Bool.{and_parts}
@@ -9,11 +9,11 @@ use Rattle.rank_query.specs.declared.region.Region.TheVariants.{Everywhere}
 use Rattle.rank_query.specs.declared.fault.QueryFault.TheVariants.{EmptyPeriod}
 use Rattle.rank_query.specs.Asked.{is_period}
 use Rattle.rank_query.specs.Words.{Word, says}
-use Rattle.rank_query.specs.Readers.{◌>>=◌, keyword, one_word, made_into}
+use Rattle.rank_query.specs.Readers.{keyword, one_word, made_into}
 use Rattle.rank_query.specs.WordValues.{date}
 use Rattle.rank_query.specs.Reading.{region_at, days_at, between_at, always_at, period_at}
 use Rattle.rank_query.specs.Spelling.{SpellsPeriod}
-use Rattle.rank_query.proofs.ReadingSteps.{bind_ok, test_ok, unnumbered, keyword_took, one_word_took, made_into_took, by_word_took, Took, behind_took, words_took, one_word_again}
+use Rattle.rank_query.proofs.ReadingSteps.{bind_ok, test_ok, keyword_took, one_word_took, made_into_took, by_word_took, Took, behind_took, words_took, one_word_again}
 use Rattle.rank_query.proofs.RegionWords.{BeginsNoRegion}
 use Rattle.rank_query.proofs.WordValues.{date_written, written_date}
 

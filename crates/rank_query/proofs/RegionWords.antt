@@ -1,5 +1,5 @@
 -- The words of a region: those that are read as a region spell it, and those that spell it are read as it.
-use Rattle.std.proofs.Common.{◌≡◌, ℕ, ◌+◌, Bool, true, ◌&&◌, List, [], ◌∷◌, ◌++◌, Ok, inl, inr, codes, refl, sym, ap, ◌∙◌, subst, FitsSigned, w32, arith}
+use Rattle.std.proofs.Common.{◌≡◌, ℕ, ◌+◌, Bool, true, ◌&&◌, List, [], ◌∷◌, ◌++◌, Ok, inl, inr, codes, refl, sym, ap, ◌∙◌, subst, arith}
 use Rattle.std.specs.Prelude.{ℤ, pos, neg_ℤ, int_le, ◌≤ℤ◌}
 use Rattle.std.specs.List.{enumerate_from, AllByRecursion}
 use Rattle.std.proofs.lemmas.Bool.{and_parts}
@@ -7,10 +7,10 @@ use Rattle.std.proofs.lemmas.Int.{ints}
 use Rattle.ghcn_fields.specs.Fields.{Spells}
 use Rattle.rank_query.specs.declared.region.Region.{Region}
 use Rattle.rank_query.specs.declared.region.Region.TheVariants.{Everywhere, Inside, Country, State, Only}
-use Rattle.rank_query.specs.Asked.{is_code, is_longitude, is_region}
+use Rattle.rank_query.specs.Asked.{is_longitude, is_region}
 use Rattle.rank_query.specs.Words.{Word, says}
-use Rattle.rank_query.specs.Readers.{◌>>=◌, Read, one_word, made_into}
-use Rattle.rank_query.specs.WordValues.{degrees, code}
+use Rattle.rank_query.specs.Readers.{Read, one_word, made_into}
+use Rattle.rank_query.specs.WordValues.{code}
 use Rattle.rank_query.specs.Reading.{latitude_from, longitude, box_at, country_at, state_at, station_at, everywhere_at, region_at}
 use Rattle.rank_query.specs.Spelling.{SpellsBox, SpellsRegion}
 use Rattle.rank_query.proofs.OneWords.{HasNoBlank}

@@ -1,5 +1,5 @@
 -- The words of a score: those that are read as a score spell it, and those that spell it are read as it.
-use Rattle.std.proofs.Common.{◌≡◌, ℕ, ◌+◌, Bool, true, ◌&&◌, List, [], ◌∷◌, ◌++◌, Ok, inl, inr, codes, refl, sym, ap, ◌∙◌, subst}
+use Rattle.std.proofs.Common.{◌≡◌, ℕ, ◌+◌, Bool, true, List, [], ◌∷◌, ◌++◌, Ok, inl, inr, codes, refl, sym, ap, ◌∙◌, subst}
 use Rattle.std.specs.List.{enumerate_from}
 use Rattle.std.proofs.lemmas.Bool.{and_parts}
 use Rattle.ghcn_fields.specs.Days.{is_within}
@@ -9,11 +9,11 @@ use Rattle.rank_query.specs.declared.score.Score.{Score}
 use Rattle.rank_query.specs.declared.score.Score.TheVariants.{Highest, Lowest, Sum, Dry, Wet}
 use Rattle.rank_query.specs.Asked.{is_temperature, is_fall, is_score}
 use Rattle.rank_query.specs.Words.{Word, says}
-use Rattle.rank_query.specs.Readers.{◌>>=◌, Read, next_word, one_word, made_into}
+use Rattle.rank_query.specs.Readers.{Read, one_word, made_into}
 use Rattle.rank_query.specs.WordValues.{number, element}
 use Rattle.rank_query.specs.Reading.{highest_at, lowest_at, sum_at, dry_at, wet_at, no_score_at, score_at}
 use Rattle.rank_query.specs.Spelling.{IsNumeralOf, SpellsScore}
-use Rattle.rank_query.proofs.ReadingSteps.{bind_ok, unnumbered, one_word_took, by_word_took, Took, behind_took, made_took, words_took, one_word_again, made_again}
+use Rattle.rank_query.proofs.ReadingSteps.{bind_ok, one_word_took, by_word_took, Took, behind_took, made_took, words_took, one_word_again, made_again}
 use Rattle.rank_query.proofs.WordValues.{number_numeral, numeral_number, element_code, code_element}
 
 -- where no score stands none is read
