@@ -1,18 +1,17 @@
 -- The canonical text of a query spells it.
-use Rattle.std.proofs.Common.{◌≡◌, ℕ, ◌+◌, ◌*◌, ◌<◌, ◌≤◌, ◌^◌, Bool, true, ◌&&◌, List, [], ◌∷◌, ◌++◌, length, decimal, codes, IsTrue, refl, length-append, arith}
-use Rattle.std.specs.Prelude.{Some, None, ℤ, pos, neg_ℤ, int_le, ◌≤ℤ◌, Option}
-use Rattle.std.specs.List.{join_with_byte, AllByRecursion}
+use Rattle.std.proofs.Common.{◌≡◌, ℕ, ◌<◌, ◌≤◌, ◌^◌, true, ◌++◌, length, decimal, codes, IsTrue, refl, length-append, arith}
+use Rattle.std.specs.Prelude.{Some, None, ℤ, pos, neg_ℤ, ◌≤ℤ◌, Option}
+use Rattle.std.specs.List.{AllByRecursion}
 use Rattle.std.proofs.lemmas.Bool.{and_parts}
 use Rattle.std.proofs.lemmas.Bool.Decides.{nat_tests}
 use Rattle.std.proofs.lemmas.Int.{ints}
 use Rattle.ghcn_fields.specs.Days.{is_within}
 use Rattle.ghcn_fields.specs.NumberTexts.{four_places}
-use Rattle.ghcn_files.specs.Elements.{code_of}
 use Rattle.rank_query.specs.declared.score.Score.{Score}
 use Rattle.rank_query.specs.declared.score.Score.TheVariants.{Highest, Lowest, Sum, Dry, Wet}
 use Rattle.rank_query.specs.declared.region.Region.{Region}
 use Rattle.rank_query.specs.declared.region.Region.TheVariants.{Everywhere, Inside, Country, State, Only}
-use Rattle.rank_query.specs.Asked.{Asked, IsAsked, is_score, is_fall, is_region, is_longitude}
+use Rattle.rank_query.specs.Asked.{Asked, IsAsked, is_score, is_fall, is_region}
 use Rattle.rank_query.specs.QueryTexts.{score_words, region_words, period_words, query_words, query_text}
 use Rattle.rank_query.specs.Spelling.{SpellsScore, SpellsRegion, SpellsPeriod, IsSpelling}
 use Rattle.rank_query.proofs.OneWords.{words_of-join}

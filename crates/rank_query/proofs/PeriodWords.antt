@@ -1,5 +1,5 @@
 -- The words of a period: those that are read as a period spell it, and those that spell it are read as it.
-use Rattle.std.proofs.Common.{◌≡◌, ℕ, ◌+◌, Bool, true, cond, ◌&&◌, List, [], ◌∷◌, ◌++◌, Option, Some, None, Ok, Err, inl, inr, codes, refl, sym, ap, ◌∙◌, subst}
+use Rattle.std.proofs.Common.{◌≡◌, ℕ, ◌+◌, true, cond, ◌&&◌, List, [], ◌∷◌, Option, Some, None, Ok, Err, inl, inr, codes, refl, sym, ap, ◌∙◌, subst}
 use Rattle.std.specs.Prelude.{ℤ, int_le}
 use Rattle.std.specs.List.{enumerate_from}
 use Rattle.std.proofs.lemmas.Bool.{and_parts}
@@ -9,11 +9,11 @@ use Rattle.rank_query.specs.declared.region.Region.TheVariants.{Everywhere}
 use Rattle.rank_query.specs.declared.fault.QueryFault.TheVariants.{EmptyPeriod}
 use Rattle.rank_query.specs.Asked.{is_period}
 use Rattle.rank_query.specs.Words.{Word, says}
-use Rattle.rank_query.specs.Readers.{◌>>=◌, keyword, one_word, made_into}
+use Rattle.rank_query.specs.Readers.{keyword, one_word, made_into}
 use Rattle.rank_query.specs.WordValues.{date}
 use Rattle.rank_query.specs.Reading.{region_at, days_at, between_at, always_at, period_at}
 use Rattle.rank_query.specs.Spelling.{SpellsPeriod}
-use Rattle.rank_query.proofs.ReadingSteps.{bind_ok, test_ok, unnumbered, keyword_took, one_word_took, made_into_took, by_word_took, Took, behind_took, none_took, one_word_again}
+use Rattle.rank_query.proofs.ReadingSteps.{bind_ok, test_ok, keyword_took, one_word_took, made_into_took, by_word_took, Took, behind_took, words_took, one_word_again}
 use Rattle.rank_query.proofs.RegionWords.{BeginsNoRegion}
 use Rattle.rank_query.proofs.WordValues.{date_written, written_date}
 
@@ -32,12 +32,8 @@ days_took ws rest p e =
     let spelt : SpellsPeriod (codes "from" ∷ words) (Some (first.0.0, last.0.0)) =
     ap (λ b. codes "from" ∷ b ∷ codes "to" ∷ two.0.1 ∷ []) (date_written one.0 first.0.0 one.2)
     ∙ ap (λ b. codes "from" ∷ date_text first.0.0 ∷ codes "to" ∷ b ∷ []) (date_written two.0 last.0.0 two.2) in
-    record {
-      words = words;
-      spelt = subst (λ (q : (ℤ × ℤ) × List Word). SpellsPeriod (codes "from" ∷ words) (Some q.0)) test.1 spelt;
-      taken = one.1 ∙ ap (λ left. one.0.1 ∷ left) (between ∙ ap (λ left. codes "to" ∷ left) two.1)
-          ∙ ap (λ (q : (ℤ × ℤ) × List Word). words ++ unnumbered q.1) test.1;
-    }
+    words_took (λ words v. SpellsPeriod (codes "from" ∷ words) (Some v)) ws last.0.1 rest words (first.0.0, last.0.0) p spelt
+    (one.1 ∙ ap (λ left. one.0.1 ∷ left) (between ∙ ap (λ left. codes "to" ∷ left) two.1)) (ap Ok test.1)
 
 -- the period that was read is spelt there
 pub period_took : (ws rest : List Word) (p : Option (ℤ × ℤ)) → period_at ws ≡ Ok (p, rest) → Took (λ words. SpellsPeriod words p) ws rest
@@ -47,7 +43,7 @@ period_took ws rest p e = elim (by_word_took (codes "from") between_at [] always
       let made = made_into_took Some (days_at given.0) rest p given.2 in
       behind_took (λ words. SpellsPeriod words p) (codes "from") ws given.0 rest given.1 (
       subst (λ (q : Option (ℤ × ℤ)). Took (λ words. SpellsPeriod (codes "from" ∷ words) q) given.0 rest) made.2 (days_took given.0 rest made.0 made.1))
-  | inr none ↦ none_took (λ words v. SpellsPeriod words v) ws rest None p refl none
+  | inr none ↦ words_took (λ words v. SpellsPeriod words v) ws ws rest [] None p refl refl none
 ]
 
 -- the words of two days, the second not before the first, are read as these

@@ -5,7 +5,7 @@ use Rattle.std.specs.Cmp.Lexicographic.{bytes_decides}
 use Rattle.rank_query.specs.declared.fault.QueryFault.{QueryFault}
 use Rattle.rank_query.specs.declared.fault.QueryFault.TheVariants.{UnexpectedWord}
 use Rattle.rank_query.specs.Words.{Word, says}
-use Rattle.rank_query.specs.Readers.{◌>>=◌, Read, or_fault, next_word, keyword, one_word, made_into, by_word}
+use Rattle.rank_query.specs.Readers.{◌>>=◌, Read, or_fault, keyword, one_word, made_into, by_word}
 
 -- both steps of a reading that succeeds do
 pub bind_ok : {A B : Type 0} (r : Result A QueryFault) (f : A → Result B QueryFault) (y : B) → (r >>= f) ≡ Ok y → (x : A) × (r ≡ Ok x) × (f x ≡ Ok y)
@@ -85,6 +85,17 @@ behind_took Spelt text ws left rest e took = record {
   taken = e ∙ ap (λ words. text ∷ words) took.taken;
 }
 
+-- what words spell was taken with them, and what is left is left
+pub words_took : {B : Type 0} (Spelt : List (List ℕ) → B → Type 0) (ws left rest : List Word) (words : List (List ℕ)) (x y : B)
+    → Spelt words x → unnumbered ws ≡ words ++ unnumbered left → ◌≡◌ {A = Read B} (Ok (x, left)) (Ok (y, rest)) → Took (λ words. Spelt words y) ws rest
+words_took {B} Spelt ws left rest words x y spelt taken e =
+    let pair : (x, left) ≡ (y, rest) = cc in
+    record {
+      words = words;
+      spelt = subst (λ v. Spelt words v) (ap (λ (p : B × List Word). p.0) pair) spelt;
+      taken = taken ∙ ap (λ (p : B × List Word). words ++ unnumbered p.1) pair;
+    }
+
 -- a value made of one word was taken with that word
 pub made_took : {A B : Type 0} (Spelt : List (List ℕ) → B → Type 0) (value : Word → Result A QueryFault) (make : A → B) (ws rest : List Word) (y : B)
     → ((w : Word) (x : A) → value w ≡ Ok x → Spelt (w.1 ∷ []) (make x)) → made_into make (one_word value ws) ≡ Ok (y, rest) → Took (λ words. Spelt words y) ws rest
@@ -95,16 +106,6 @@ made_took Spelt value make ws rest y spells e =
       words = word.0.1 ∷ [];
       spelt = subst (λ v. Spelt (word.0.1 ∷ []) v) made.2 (spells word.0 made.0 word.2);
       taken = word.1;
-    }
-
--- where nothing was taken, no words are needed
-pub none_took : {B : Type 0} (Spelt : List (List ℕ) → B → Type 0) (ws rest : List Word) (none y : B) → Spelt [] none → ◌≡◌ {A = Read B} (Ok (none, ws)) (Ok (y, rest)) → Took (λ words. Spelt words y) ws rest
-none_took {B} Spelt ws rest none y spells e =
-    let pair : (none, ws) ≡ (y, rest) = cc in
-    record {
-      words = [];
-      spelt = subst (λ v. Spelt [] v) (ap (λ (p : B × List Word). p.0) pair) spells;
-      taken = ap (λ (p : B × List Word). unnumbered p.1) pair;
     }
 
 -- a word that has a value is read as it, and the reading goes on behind it

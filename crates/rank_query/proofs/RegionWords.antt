@@ -1,5 +1,5 @@
 -- The words of a region: those that are read as a region spell it, and those that spell it are read as it.
-use Rattle.std.proofs.Common.{◌≡◌, ℕ, ◌+◌, Bool, true, ◌&&◌, List, [], ◌∷◌, ◌++◌, Ok, inl, inr, codes, refl, sym, ap, ◌∙◌, subst, FitsSigned, w32, arith}
+use Rattle.std.proofs.Common.{◌≡◌, ℕ, ◌+◌, Bool, true, ◌&&◌, List, [], ◌∷◌, ◌++◌, Ok, inl, inr, codes, refl, sym, ap, ◌∙◌, subst, arith}
 use Rattle.std.specs.Prelude.{ℤ, pos, neg_ℤ, int_le, ◌≤ℤ◌}
 use Rattle.std.specs.List.{enumerate_from, AllByRecursion}
 use Rattle.std.proofs.lemmas.Bool.{and_parts}
@@ -7,14 +7,14 @@ use Rattle.std.proofs.lemmas.Int.{ints}
 use Rattle.ghcn_fields.specs.Fields.{Spells}
 use Rattle.rank_query.specs.declared.region.Region.{Region}
 use Rattle.rank_query.specs.declared.region.Region.TheVariants.{Everywhere, Inside, Country, State, Only}
-use Rattle.rank_query.specs.Asked.{is_code, is_longitude, is_region}
+use Rattle.rank_query.specs.Asked.{is_longitude, is_region}
 use Rattle.rank_query.specs.Words.{Word, says}
-use Rattle.rank_query.specs.Readers.{◌>>=◌, Read, one_word, made_into}
-use Rattle.rank_query.specs.WordValues.{degrees, code}
+use Rattle.rank_query.specs.Readers.{Read, one_word, made_into}
+use Rattle.rank_query.specs.WordValues.{code}
 use Rattle.rank_query.specs.Reading.{latitude_from, longitude, box_at, country_at, state_at, station_at, everywhere_at, region_at}
 use Rattle.rank_query.specs.Spelling.{SpellsBox, SpellsRegion}
 use Rattle.rank_query.proofs.OneWords.{HasNoBlank}
-use Rattle.rank_query.proofs.ReadingSteps.{bind_ok, unnumbered, one_word_took, by_word_took, Took, behind_took, made_took, none_took, one_word_again, made_again}
+use Rattle.rank_query.proofs.ReadingSteps.{bind_ok, unnumbered, one_word_took, by_word_took, Took, behind_took, made_took, words_took, one_word_again, made_again}
 use Rattle.rank_query.proofs.WordValues.{degrees_spelt, spelt_degrees, code_word, word_code}
 
 -- the box that was read is spelt there
@@ -33,7 +33,6 @@ box_took ws rest r clean e =
     let taken : unnumbered ws ≡ words ++ unnumbered east.0.1 =
     s.1 ∙ ap (λ left. s.0.1 ∷ left) (w.1 ∙ ap (λ left. w.0.1 ∷ left) (n.1 ∙ ap (λ left. n.0.1 ∷ left) o.1)) in
     let all = subst (AllByRecursion HasNoBlank) taken clean in
-    let pair : (Inside south.0.0 west.0.0 north.0.0 east.0.0, east.0.1) ≡ (r, rest) = cc in
     let spelt : SpellsBox (codes "box" ∷ words) south.0.0 west.0.0 north.0.0 east.0.0 = record {
       s = s.0.1;
       w = w.0.1;
@@ -45,11 +44,7 @@ box_took ws rest r clean e =
       spells_north = degrees_spelt _ _ n.0 north.0.0 all.1.1.0 n.2;
       spells_east = degrees_spelt _ _ o.0 east.0.0 all.1.1.1.0 o.2;
     } in
-    record {
-      words = words;
-      spelt = subst (λ (p : Region × List Word). SpellsRegion (codes "box" ∷ words) p.0) pair spelt;
-      taken = taken ∙ ap (λ (p : Region × List Word). words ++ unnumbered p.1) pair;
-    }
+    words_took (λ words v. SpellsRegion (codes "box" ∷ words) v) ws east.0.1 rest words (Inside south.0.0 west.0.0 north.0.0 east.0.0) r spelt taken east.2
 
 -- the code that was read is spelt there, behind its word
 code_took : (len : ℕ) (make : List ℕ → Region) (text : List ℕ) (ws rest : List Word) (r : Region)
@@ -74,7 +69,7 @@ region_took ws rest r clean e =
           | inr no_state ↦ elim (by_word_took (codes "station") station_at [] everywhere_at ws (r, rest) no_state) [
             | inl station ↦ behind_took Spelt (codes "station") ws station.0 rest station.1 (
                 code_took 11 (λ id. Only (record { 0 = id })) (codes "station") station.0 rest r (λ c. refl) station.2)
-            | inr none ↦ none_took (λ words v. SpellsRegion words v) ws rest Everywhere r refl none
+            | inr none ↦ words_took (λ words v. SpellsRegion words v) ws ws rest [] Everywhere r refl refl none
           ]
         ]
       ]

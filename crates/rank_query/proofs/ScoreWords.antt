@@ -1,5 +1,5 @@
 -- The words of a score: those that are read as a score spell it, and those that spell it are read as it.
-use Rattle.std.proofs.Common.{◌≡◌, ℕ, ◌+◌, Bool, true, ◌&&◌, List, [], ◌∷◌, ◌++◌, Ok, inl, inr, codes, refl, sym, ap, ◌∙◌, subst}
+use Rattle.std.proofs.Common.{◌≡◌, ℕ, ◌+◌, Bool, true, List, [], ◌∷◌, ◌++◌, Ok, inl, inr, codes, refl, sym, ap, ◌∙◌, subst}
 use Rattle.std.specs.List.{enumerate_from}
 use Rattle.std.proofs.lemmas.Bool.{and_parts}
 use Rattle.ghcn_fields.specs.Days.{is_within}
@@ -9,11 +9,11 @@ use Rattle.rank_query.specs.declared.score.Score.{Score}
 use Rattle.rank_query.specs.declared.score.Score.TheVariants.{Highest, Lowest, Sum, Dry, Wet}
 use Rattle.rank_query.specs.Asked.{is_temperature, is_fall, is_score}
 use Rattle.rank_query.specs.Words.{Word, says}
-use Rattle.rank_query.specs.Readers.{◌>>=◌, Read, next_word, one_word, made_into}
+use Rattle.rank_query.specs.Readers.{Read, one_word, made_into}
 use Rattle.rank_query.specs.WordValues.{number, element}
 use Rattle.rank_query.specs.Reading.{highest_at, lowest_at, sum_at, dry_at, wet_at, no_score_at, score_at}
 use Rattle.rank_query.specs.Spelling.{IsNumeralOf, SpellsScore}
-use Rattle.rank_query.proofs.ReadingSteps.{bind_ok, unnumbered, one_word_took, by_word_took, Took, behind_took, made_took, none_took, one_word_again, made_again}
+use Rattle.rank_query.proofs.ReadingSteps.{bind_ok, one_word_took, by_word_took, Took, behind_took, made_took, words_took, one_word_again, made_again}
 use Rattle.rank_query.proofs.WordValues.{number_numeral, numeral_number, element_code, code_element}
 
 -- where no score stands none is read
@@ -38,14 +38,9 @@ sum_took ws rest s e =
     let n = one_word_took (number 1 366) ws days.0.1 days.0.0 days.1 in
     let f = one_word_took (element is_fall) days.0.1 what.0.1 what.0.0 what.1 in
     let words : List (List ℕ) = n.0.1 ∷ f.0.1 ∷ [] in
-    let pair : (Sum days.0.0 what.0.0, what.0.1) ≡ (s, rest) = cc in
     let spelt : SpellsScore (codes "sum" ∷ words) (Sum days.0.0 what.0.0) =
     (n.0.1, number_numeral 1 366 n.0 days.0.0 n.2, ap (λ b. codes "sum" ∷ n.0.1 ∷ b ∷ []) (element_code is_fall f.0 what.0.0 f.2)) in
-    record {
-      words = words;
-      spelt = subst (λ (p : Score × List Word). SpellsScore (codes "sum" ∷ words) p.0) pair spelt;
-      taken = n.1 ∙ ap (λ left. n.0.1 ∷ left) f.1 ∙ ap (λ (p : Score × List Word). words ++ unnumbered p.1) pair;
-    }
+    words_took (λ words v. SpellsScore (codes "sum" ∷ words) v) ws what.0.1 rest words (Sum days.0.0 what.0.0) s spelt (n.1 ∙ ap (λ left. n.0.1 ∷ left) f.1) what.2
 
 -- the score that was read is spelt there
 pub score_took : (ws rest : List Word) (s : Score) → score_at ws ≡ Ok (s, rest) → Took (λ words. SpellsScore words s) ws rest
@@ -63,9 +58,9 @@ score_took ws rest s e =
         | inr no_lowest ↦ elim (by_word_took (codes "sum") sum_at spells no_score_at ws (s, rest) no_lowest) [
           | inl sum ↦ behind_took Spelt (codes "sum") ws sum.0 rest sum.1 (sum_took sum.0 rest s sum.2)
           | inr no_sum ↦ elim (by_word_took (codes "dry") dry_at last no_score_at ws (s, rest) no_sum) [
-            | inl dry ↦ behind_took Spelt (codes "dry") ws dry.0 rest dry.1 (none_took (λ words v. SpellsScore (codes "dry" ∷ words) v) dry.0 rest Dry s refl dry.2)
+            | inl dry ↦ behind_took Spelt (codes "dry") ws dry.0 rest dry.1 (words_took (λ words v. SpellsScore (codes "dry" ∷ words) v) dry.0 dry.0 rest [] Dry s refl refl dry.2)
             | inr no_dry ↦ elim (by_word_took (codes "wet") wet_at [] no_score_at ws (s, rest) no_dry) [
-              | inl wet ↦ behind_took Spelt (codes "wet") ws wet.0 rest wet.1 (none_took (λ words v. SpellsScore (codes "wet" ∷ words) v) wet.0 rest Wet s refl wet.2)
+              | inl wet ↦ behind_took Spelt (codes "wet") ws wet.0 rest wet.1 (words_took (λ words v. SpellsScore (codes "wet" ∷ words) v) wet.0 wet.0 rest [] Wet s refl refl wet.2)
               | inr none ↦ absurd (no_score ws (s, rest) none)
             ]
           ]

@@ -1,5 +1,5 @@
 -- What is read as a query spells it, and what spells a query is read as it.
-use Rattle.std.proofs.Common.{◌≡◌, ℕ, ◌≤◌, Bool, true, false, cond, List, [], ◌∷◌, ◌++◌, length, Option, None, Result, Ok, Err, codes, refl, sym, ap, ◌∙◌, subst, append_assoc, append-nil, IfOk, arith}
+use Rattle.std.proofs.Common.{◌≡◌, ℕ, ◌≤◌, Bool, true, false, cond, List, [], ◌∷◌, ◌++◌, length, Option, Result, Ok, Err, codes, refl, sym, ap, ◌∙◌, subst, append_assoc, append-nil, IfOk, arith}
 use Rattle.std.specs.Prelude.{nat_lt, ℤ}
 use Rattle.std.specs.List.{enumerate_from, AllByRecursion}
 use Rattle.std.proofs.lemmas.Bool.Decides.{nat_tests}
@@ -14,7 +14,7 @@ use Rattle.rank_query.specs.WordValues.{number}
 use Rattle.rank_query.specs.Reading.{score_at, region_at, period_at, nothing_more, read_words, read_query}
 use Rattle.rank_query.specs.Spelling.{IsNumeralOf, SpellsScore, SpellsRegion, SpellsPeriod, IsSpelling}
 use Rattle.rank_query.proofs.OneWords.{HasNoBlank, words_no_blank, all_behind}
-use Rattle.rank_query.proofs.ReadingSteps.{bind_ok, unnumbered, unnumbered-enumerate_from, keyword_took, one_word_took, Took, one_word_again}
+use Rattle.rank_query.proofs.ReadingSteps.{bind_ok, unnumbered, unnumbered-enumerate_from, keyword_took, one_word_took, one_word_again}
 use Rattle.rank_query.proofs.WordValues.{number_numeral, numeral_number}
 use Rattle.rank_query.proofs.ScoreWords.{score_took, score_again}
 use Rattle.rank_query.proofs.RegionWords.{region_took, region_again}

@@ -1,5 +1,5 @@
 -- What a single word is read as spells it, and what spells a value is read as it.
-use Rattle.std.proofs.Common.{◌≡◌, ℕ, zero, suc, ◌≤◌, Bool, true, false, cond, ◌&&◌, List, [], ◌∷◌, ◌++◌, length, replicate, Option, Some, None, Result, Ok, Err, refl, sym, ap, ◌∙◌, subst, FitsSigned, w32, arith}
+use Rattle.std.proofs.Common.{◌≡◌, ℕ, zero, suc, Bool, true, false, cond, ◌&&◌, List, [], ◌∷◌, ◌++◌, replicate, Some, None, Ok, Err, refl, sym, ap, ◌∙◌, subst, FitsSigned, w32, arith}
 use Rattle.std.specs.Prelude.{ℤ, int_le}
 use Rattle.std.specs.List.{find, list_all}
 use Rattle.std.specs.Char.{is_ascii_digit}
@@ -11,7 +11,7 @@ use Rattle.ghcn_fields.specs.declared.field.Field.TheVariants.{Blank, Number, Ba
 use Rattle.ghcn_fields.specs.Bytes.{same_bytes}
 use Rattle.ghcn_fields.specs.Days.{is_within, is_day}
 use Rattle.ghcn_fields.specs.Dates.{date_text, read_date}
-use Rattle.ghcn_fields.specs.Fields.{Spells, HasNumber}
+use Rattle.ghcn_fields.specs.Fields.{Spells}
 use Rattle.ghcn_fields.specs.Numbers.{natural, scaled_field}
 use Rattle.ghcn_fields.proofs.DateTexts.{read_date-law}
 use Rattle.ghcn_fields.proofs.FieldNumbers.{scaled_field-number}

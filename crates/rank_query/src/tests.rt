@@ -41,109 +41,70 @@ fn first_fault_of_a_query(rt: HostRuntime) {
 }
 
 #[test]
-fn first_fault_of_a_region(rt: HostRuntime) {
+fn first_fault_of_a_region(rt: HostRuntime) -> Result<(), Fail> {
     let cases = [
-        ("top 1 highest TMAX box -90 -180 90 180", None),
+        ("box -90 -180 90 180", None),
+        ("box -91 0 10 10", Some(QueryFault::BadBox(6))),
+        ("box +1 0 10 10", Some(QueryFault::BadBox(6))),
+        ("box 0 181 0 x", Some(QueryFault::BadBox(7))),
+        ("box 0 180.00000", Some(QueryFault::BadBox(7))),
+        ("box 10 0 -10 10", Some(QueryFault::BadBox(8))),
+        ("box 10 0 -10", Some(QueryFault::BadBox(8))),
+        ("box 10 0 90.0001", Some(QueryFault::BadBox(8))),
+        ("box 0 0 0 -180.0001", Some(QueryFault::BadBox(9))),
+        ("box 0 0 0 .5", Some(QueryFault::BadBox(9))),
+        ("box 0 0 0", Some(QueryFault::QueryEnds)),
         (
-            "top 1 highest TMAX box -0.0000 0180.0 0 -180.0000 country ZZ",
+            "box 0 0 0 0 country ZZ",
             Some(QueryFault::UnexpectedWord(10)),
         ),
-        (
-            "top 1 highest TMAX box -91 0 10 10",
-            Some(QueryFault::BadBox(6)),
-        ),
-        (
-            "top 1 highest TMAX box +1 0 10 10",
-            Some(QueryFault::BadBox(6)),
-        ),
-        (
-            "top 1 highest TMAX box 0 181 0 x",
-            Some(QueryFault::BadBox(7)),
-        ),
-        (
-            "top 1 highest TMAX box 0 180.00000",
-            Some(QueryFault::BadBox(7)),
-        ),
-        (
-            "top 1 highest TMAX box 10 0 -10 10",
-            Some(QueryFault::BadBox(8)),
-        ),
-        (
-            "top 1 highest TMAX box 10 0 -10",
-            Some(QueryFault::BadBox(8)),
-        ),
-        (
-            "top 1 highest TMAX box 10 0 90.0001",
-            Some(QueryFault::BadBox(8)),
-        ),
-        (
-            "top 1 highest TMAX box 0 0 0 -180.0001",
-            Some(QueryFault::BadBox(9)),
-        ),
-        ("top 1 highest TMAX box 0 0 0", Some(QueryFault::QueryEnds)),
-        (
-            "top 1 highest TMAX country Z",
-            Some(QueryFault::UnexpectedWord(6)),
-        ),
-        (
-            "top 1 highest TMAX state NYC",
-            Some(QueryFault::UnexpectedWord(6)),
-        ),
-        (
-            "top 1 highest TMAX state \u{7f}!",
-            Some(QueryFault::UnexpectedWord(6)),
-        ),
-        (
-            "top 1 highest TMAX station ZZA0000000",
-            Some(QueryFault::UnexpectedWord(6)),
-        ),
-        ("top 1 highest TMAX station", Some(QueryFault::QueryEnds)),
-        (
-            "top 1 highest TMAX Station ZZA00000003",
-            Some(QueryFault::UnexpectedWord(5)),
-        ),
+        ("country Z", Some(QueryFault::UnexpectedWord(6))),
+        ("state NYC", Some(QueryFault::UnexpectedWord(6))),
+        ("state \u{7f}!", Some(QueryFault::UnexpectedWord(6))),
+        ("station ZZA0000000", Some(QueryFault::UnexpectedWord(6))),
+        ("station", Some(QueryFault::QueryEnds)),
+        ("Station ZZA00000003", Some(QueryFault::UnexpectedWord(5))),
     ];
-    for (text, fault) in cases {
-        assert_eq!(rt; Query::parse(text).err(), fault, "at {text}");
+    for (words, fault) in cases {
+        let text = format!(in rt.alloc(); "top 1 highest TMAX {words}")?;
+        assert_eq!(rt; Query::parse(&text).err(), fault, "at {words}");
     }
+    Ok(())
 }
 
 #[test]
 fn first_fault_of_a_period(rt: HostRuntime) {
     let cases = [
-        ("top 1 highest TMAX from 0001-01-01 to 9999-12-31", None),
+        ("top 1 dry from 0001-01-01 to 9999-12-31", None),
         (
-            "top 1 highest TMAX from 2019-02-29 to 2019-03-01",
-            Some(QueryFault::BadDate(6)),
+            "top 1 dry from 2019-02-29 to 2019-03-01",
+            Some(QueryFault::BadDate(5)),
         ),
         (
-            "top 1 highest TMAX from 2019-03-01 2019-03-02",
-            Some(QueryFault::UnexpectedWord(7)),
+            "top 1 dry from 2019-03-01 2019-03-02",
+            Some(QueryFault::UnexpectedWord(6)),
         ),
         (
-            "top 1 highest TMAX from 2019-03-01 to 2019-3-2",
-            Some(QueryFault::BadDate(8)),
+            "top 1 dry from 2019-03-01 to 2019-3-2",
+            Some(QueryFault::BadDate(7)),
         ),
         (
-            "top 1 highest TMAX from 2020-07-02 to 2020-07-01 x",
+            "top 1 dry from 2020-07-02 to 2020-07-01",
             Some(QueryFault::EmptyPeriod),
         ),
         (
-            "top 1 highest TMAX from 2020-07-01 to 2020-07-01 x",
-            Some(QueryFault::UnexpectedWord(9)),
+            "top 1 dry from 2020-07-02 to 2020-07-01 x",
+            Some(QueryFault::EmptyPeriod),
         ),
         (
-            "top 1 highest TMAX from 2020-07-01 to",
-            Some(QueryFault::QueryEnds),
+            "top 1 dry from 2020-07-01 to 2020-07-01 country ZZ",
+            Some(QueryFault::UnexpectedWord(8)),
         ),
         (
-            "top 1 highest TMAX from 2020-07-01 to 2020-07-02 country ZZ",
-            Some(QueryFault::UnexpectedWord(9)),
+            "top 1 dry country ZZ from 2020-07-01 to 2020-07-0x",
+            Some(QueryFault::BadDate(9)),
         ),
-        (
-            "top 1 highest TMAX country ZZ from 2020-07-01 to 2020-07-0x",
-            Some(QueryFault::BadDate(10)),
-        ),
+        ("top 1 dry from 2020-07-01 to", Some(QueryFault::QueryEnds)),
     ];
     for (text, fault) in cases {
         assert_eq!(rt; Query::parse(text).err(), fault, "at {text}");

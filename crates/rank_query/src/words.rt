@@ -60,14 +60,6 @@ impl<'a> Words<'a> {
     }
 }
 
-/// Whether a word is this one, byte for byte.
-#[tactic(auto, unfolding(crate::specs::Words::says))]
-pub(crate) fn says(expected: &[u8], word: &[u8]) -> bool
-    ensures { result ≡ words.says expected.now word.now }
-{
-    word == expected
-}
-
 impl<'a> Iterator for Words<'a> {
     ghost use Rattle.std.specs.Iterator.{YieldsFirstBy, item_count};
 
@@ -87,6 +79,14 @@ impl<'a> Iterator for Words<'a> {
         self.text = rest;
         Some((self.given, word))
     }
+}
+
+/// Whether a word is this one, byte for byte.
+#[tactic(auto, unfolding(crate::specs::Words::says))]
+pub(crate) fn says(expected: &[u8], word: &[u8]) -> bool
+    ensures { result ≡ words.says expected.now word.now }
+{
+    word == expected
 }
 
 fn without_blanks(text: &[u8]) -> &[u8]
