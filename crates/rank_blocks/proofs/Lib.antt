@@ -1,0 +1,10 @@
+pub mod JoinedRuns
+pub mod Members
+pub mod DayValues
+pub mod OpenBlocks
+pub mod ReadBlocks
+pub mod Totals
+pub mod WindowTotals
+pub mod PossibleBlocks
+pub mod ReachedDays
+pub mod LongestRuns
