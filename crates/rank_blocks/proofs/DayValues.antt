@@ -30,6 +30,9 @@ int_lt-true a b e = grind (arith, ints)
 pub int_le-true : (a b : ℤ) → int_le a b ≡ true → a ≤ℤ b
 int_le-true a b e = grind (arith, ints)
 
+pub int_le-false : (a b : ℤ) → int_le a b ≡ false → b <ℤ a
+int_le-false a b e = grind (arith, ints)
+
 pub lt-int_lt : (a b : ℤ) → a <ℤ b → int_lt a b ≡ true
 lt-int_lt a b h = grind (arith, ints)
 

@@ -8,3 +8,6 @@ pub mod WindowTotals
 pub mod PossibleBlocks
 pub mod ReachedDays
 pub mod LongestRuns
+pub mod Above
+pub mod BlockSteps
+pub mod Computed

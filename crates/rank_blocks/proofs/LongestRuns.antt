@@ -34,11 +34,11 @@ pub spell-days : (k : Spell) (days : List DayValue) (m : Summary) → IsSummary 
 spell-days Dry days m is = is.dry_days
 spell-days Wet days m is = is.wet_days
 
--- numbers that are no option's are not
+-- a day that can't be such a day isn't
 none-of : (test : ℤ → Bool) (days : List DayValue) (d : ℤ) → (is_such test days d ≡ true → ⊥) → is_such test days d ≡ false
-none-of test days d no =
+none-of test days d never =
     elim (is_such test days d) as (λ t. is_such test days d ≡ t → t ≡ false) [
-      | true ↦ λ e. absurd (no e)
+      | true ↦ λ e. absurd (never e)
       | false ↦ λ e. refl
     ] refl
 

@@ -80,10 +80,10 @@ fn summaries_of(alloc: Global, series: &Series) -> Result<Vec<Summary>, Memory>
 {
     let mut summaries = Vec::new(alloc);
     let mut days = series.days();
-    let Some((day, value)) = days.next() else {
+    let Some(first) = days.next() else {
         return Ok(summaries);
     };
-    let mut current = Summary::of_day(day, value);
+    let mut current = Summary::of_day(first.0, first.1);
     for (day, value) in days {
         current = add_day(&mut summaries, current, day, value)?;
     }

@@ -1,6 +1,6 @@
 //! What the summaries of the blocks of a range tell.
 
-ghost use Rattle.std.specs.Prelude.{◌≡◌, ◌∷◌, [], ◌++◌, ◌+◌, ◌≤ℤ◌, ◌*ℤ◌, ◌+ℤ◌, List, map, unwrap_or, IfSome, Some, ℤ, pos, filter};
+ghost use Rattle.std.specs.Prelude.{◌≡◌, ◌∷◌, [], ◌++◌, ◌+◌, ◌≤ℤ◌, ◌*ℤ◌, ◌+ℤ◌, List, map, unwrap_or, IfSome, Some, ℤ, pos, int_le, filter};
 ghost use Rattle.std.specs.List.{AllByRecursion};
 ghost use Rattle.ghcn_fields.specs.Days.{block_of};
 ghost use Rattle.ghcn_fields.specs.Sorting.{greatest};
@@ -17,10 +17,11 @@ use crate::extreme::Extreme;
 use crate::range::BlockRange;
 use crate::runs::Runs;
 use crate::spell::Spell;
-use crate::summary::{BLOCK_DAYS, Summary};
+use crate::summary::{BLOCK_DAYS, Summary, sum_of};
 
 /// The greatest score of a usable day in the blocks of a range, or 0 where there is none.
 pub(crate) fn greatest_day(blocks: &[Summary], range: BlockRange, extreme: Extreme) -> i64
+    requires { ArePossible blocks.now }
     ensures value { result ≡ unwrap_or (greatest (map (told.extreme_of extreme) (told.summaries_in range blocks.now))) (pos 0) }
     ensures near { told.IsNear result }
 {
@@ -69,12 +70,10 @@ pub(crate) fn greatest_total(blocks: &[Summary], range: BlockRange, width: u32) 
 {
     // Other windows have no more: one that begins at no summary holds what a later one holds too.
     let mut greatest = window_total(blocks, range.last, width);
-    let mut rest = blocks;
-    while let [block, later @ ..] = rest {
+    for (index, block) in blocks.iter().enumerate() {
         if range.holds(block.number) {
-            greatest = greatest.max(window_total(rest, block.number, width));
+            greatest = greatest.max(window_total(&blocks[index..], block.number, width));
         }
-        rest = later;
     }
     greatest
 }
@@ -84,19 +83,23 @@ fn window_total(blocks: &[Summary], first: i32, width: u32) -> i64
     requires { ArePossible blocks.now }
     ensures { result ≡ told.summaries_total blocks.now width first }
 {
-    let before = first as i64 + width as i64;
     let mut total: i64 = 0;
-    let mut rest = blocks;
-    while let [block, later @ ..] = rest {
-        if block.number as i64 >= before {
+    for block in blocks {
+        if is_past(block.number, first, width) {
             return total;
         }
         if block.number >= first {
-            total += block.total;
+            total = sum_of(total, block.total);
         }
-        rest = later;
     }
     total
+}
+
+/// Whether a number stands behind so many numbers from one on.
+fn is_past(number: i32, first: i32, width: u32) -> bool
+    ensures { result ≡ int_le (first +ℤ pos width) number }
+{
+    number as i64 >= first as i64 + width as i64
 }
 
 /// How many days of a kind follow one another at most in the blocks of a range.
@@ -107,13 +110,11 @@ pub(crate) fn longest_run(blocks: &[Summary], range: BlockRange, spell: Spell) -
         (IsRunLength (is_such (test_of spell) (filter (λ x. told.in_range range (block_of x.0)) s.days))) result }
 {
     let mut runs = Runs::without(0);
-    let mut rest = blocks;
-    while let [block, later @ ..] = rest {
+    for block in blocks {
         if range.holds(block.number) {
             let before = days_between(range.first, block.number);
             runs = runs.up_to(before).join(spell.runs(block));
         }
-        rest = later;
     }
     runs.longest as i64
 }

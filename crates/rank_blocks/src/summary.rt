@@ -69,7 +69,7 @@ impl Summary {
             number: self.number,
             greatest: self.greatest.max(value),
             least: self.least.min(value),
-            total: sum_of(self.total, value),
+            total: sum_of(self.total, value as i64),
             dry: self.dry.with_day(place, value < ONE_MILLIMETRE),
             wet: self.wet.with_day(place, value >= ONE_MILLIMETRE),
         }
@@ -100,10 +100,10 @@ fn place_of(day: Day) -> u32
     day.number().rem_euclid(32) as u32
 }
 
-/// A total with one more value.
-fn sum_of(total: i64, value: i32) -> i64
-    requires { FitsSigned w64 (total +ℤ value) }
-    ensures { result ≡ total +ℤ value }
+/// The sum of two totals.
+pub(crate) fn sum_of(total: i64, more: i64) -> i64
+    requires { FitsSigned w64 (total +ℤ more) }
+    ensures { result ≡ total +ℤ more }
 {
-    total + value as i64
+    total + more
 }

@@ -20,20 +20,18 @@ LaterDay day v old m new n = (all read rest : List DayValue) → all ≡ read ++
 
 pub loop-day-init : goal.loop-day-init
 loop-day-init c =
-    let split : c.args.series.now.days ≡ (c.in-Some.day, c.in-Some.value) ∷ c.next.new.self = sym c.days-days.ensures.days ∙ c.in-Some.ensures'.steps in
+    let split : c.args.series.now.days ≡ c.in-Some.first ∷ c.next.new.self = sym c.days-days.ensures.days ∙ c.in-Some.ensures.steps in
     let series = c.days-days.ensures.series in
     let rise = rise-from_by_day c.args.series.now.days series.by_day in
-    let bounds = first-value-bounds c.args.series.now (c.in-Some.day, c.in-Some.value) c.next.new.self series split in
+    let bounds = first-value-bounds c.args.series.now c.in-Some.first c.next.new.self series split in
     let low = bounds.0 in
     let high = bounds.1 in
-    let value : to_z w32 (of_z w32 c.in-Some.value) ≡ c.in-Some.value = omega (arith, ints) in
-    let read = rw (c.in-Some.day-is, c.in-Some.value-is) at c.of_day-current.ensures.read in
-    let number = rw c.in-Some.day-is at c.of_day-current.ensures.number in
-    let of_day : FirstDay c.in-Some.day c.in-Some.value c.of_day-current.result = subst (λ (v : ℤ). FirstDay c.in-Some.day v c.of_day-current.result) value read in
+    let value : to_z w32 (of_z w32 c.in-Some.first.1) ≡ c.in-Some.first.1 = omega (arith, ints) in
+    let of_day : FirstDay c.in-Some.first.0 c.in-Some.first.1 c.of_day-current.result = subst (λ (v : ℤ). FirstDay c.in-Some.first.0 v c.of_day-current.result) value c.of_day-current.ensures.read in
     let open_block = of_day c.args.series.now.days [] c.next.new.self split rise tt in
-    let P : List Summary → Type 0 = λ ms. HasRead c.args.series.now.days ((c.in-Some.day, c.in-Some.value) ∷ []) ms c.of_day-current.result in
-    ((c.in-Some.day, c.in-Some.value) ∷ [], split ∙ ap (λ days. (c.in-Some.day, c.in-Some.value) ∷ days) (sym c.into_iter-day-iterator.ensures.into_iter_gives),
-    subst P (sym c.new-summaries.ensures.items) (read-first c.args.series.now.days (c.in-Some.day, c.in-Some.value) c.of_day-current.result open_block number))
+    let P : List Summary → Type 0 = λ ms. HasRead c.args.series.now.days (c.in-Some.first ∷ []) ms c.of_day-current.result in
+    (c.in-Some.first ∷ [], split ∙ ap (λ days. c.in-Some.first ∷ days) (sym c.into_iter-day-iterator.ensures.into_iter_gives),
+    subst P (sym c.new-summaries.ensures.items) (read-first c.args.series.now.days c.in-Some.first c.of_day-current.result open_block c.of_day-current.ensures.number))
 
 pub add_day-requires : goal.add_day-requires
 add_day-requires c =
