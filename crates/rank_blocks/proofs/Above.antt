@@ -127,8 +127,13 @@ spells-below test q s z of_z =
     (all-days (λ x. (e : ℤ × ℤ) → begun (Spells test) (admitted q s) x ≡ Some e → e.1 ≤ℤ z) (admitted q s)
     (λ x e is.
     let score = spell-score (begins_run such x.0) x.0 (run_len such x.0) e is in
-    let below = of_z.is_most (pos (run_len such x.0)) (run_len such x.0, x.0, refl, λ i lt.
-      such-wider test (admits_day q) (λ n. is_reached q.period (block_of n)) s.days (x.0 +ℤ pos i) (admitted-reached q) (run-inside such calendar_len i x.0 lt)) in
+    let below = of_z.is_most (pos (run_len such x.0)) (
+      run_len such x.0,
+      x.0,
+      refl,
+      λ i lt.
+          such-wider test (admits_day q) (λ n. is_reached q.period (block_of n)) s.days (x.0 +ℤ pos i) (admitted-reached q) (run-inside such calendar_len i x.0 lt),
+    ) in
     let P : ℤ → Type 0 = λ n. n ≤ℤ z in
     subst P score below))
 

@@ -1,5 +1,5 @@
 -- One more summary of a list, as a loop comes to it.
-use Rattle.std.proofs.Common.{◌≡◌, ℕ, ◌+◌, ◌-◌, ◌*◌, ◌<◌, ◌≤◌, Bool, true, false, cond, List, [], ◌∷◌, ◌++◌, map, filter, length, get_or, take, drop, Option, Some, None, refl, sym, ap, ◌∙◌, subst, arith, ℤ, pos, neg_ℤ, ◌≤ℤ◌, ◌<ℤ◌, ◌+ℤ◌, to_z, of_z, w32}
+use Rattle.std.proofs.Common.{◌≡◌, ℕ, ◌+◌, ◌-◌, ◌*◌, ◌<◌, ◌≤◌, Bool, true, false, cond, List, [], ◌∷◌, ◌++◌, map, filter, length, get_or, take, drop, Option, Some, None, refl, sym, ap, ◌∙◌, subst, arith, ℤ, pos, neg_ℤ, ◌≤ℤ◌, ◌<ℤ◌, ◌+ℤ◌, to_z, of_z, w32, w64}
 use Rattle.std.specs.List.{AllByRecursion}
 use Rattle.std.specs.Option.{IfSome, unwrap_or}
 use Rattle.std.proofs.lemmas.Int.{ints}
@@ -113,6 +113,14 @@ added-out ms i w first sum whole lt before so_far =
     let same = total-out (block_at ms i) (drop (i + 1) ms) w first (before-among first w (block_at ms i).number before) in
     omega (arith, ints)
 
+-- a sum of totals is read as it was written
+pub sum-read : (i : ℕ) (a b r : ℤ) → i < 114_128 → neg_ℤ (pos (68_719_476_736 * i)) ≤ℤ a → a ≤ℤ pos (68_719_476_736 * i) → neg_ℤ (pos 68_719_476_736) ≤ℤ b → b ≤ℤ pos 68_719_476_736
+    → r ≡ a +ℤ to_z w64 (of_z w64 b) → to_z w64 (of_z w64 r) ≡ a +ℤ b
+sum-read i a b r lt low high least most is =
+    let same : to_z w64 (of_z w64 b) ≡ b = omega (arith, ints) in
+    let sum : r ≡ a +ℤ b = is ∙ ap (λ (z : ℤ). a +ℤ z) same in
+    omega (arith, ints)
+
 -- ---- runs
 
 -- the runs of a kind in a possible summary are part of its block
@@ -134,3 +142,12 @@ ahead-in r n days before later behind starts is = from_each (λ m. n <ℤ m.numb
 pub ahead-start : (r : BlockRange) (ms : List Summary) → AllByRecursion (λ m. in_range r m.number ≡ true → (block_start r.first +ℤ pos 0) ≤ℤ block_start m.number) ms
 ahead-start r [] = tt
 ahead-start r (m ∷ ms) = (λ holds. let low = int_le-true r.first m.number (both_pass _ _ holds).0 in omega (arith, ints), ahead-start r ms)
+
+-- where a block of a range is at hand, the days told of end before it
+pub ahead-at : (r : BlockRange) (ms : List Summary) (i days before : ℕ) (from : ℤ) → i < length ms → AllByRecursion (λ m. in_range r m.number ≡ true → (block_start r.first +ℤ pos days) ≤ℤ block_start m.number) (drop i ms)
+    → in_range r (block_at ms i).number ≡ true → from ≡ r.first → (block_start from +ℤ pos before) ≡ block_start (block_at ms i).number → days ≤ before
+ahead-at r ms i days before from lt ahead holds same starts =
+    let Ahead : List Summary → Type 0 = AllByRecursion (λ m. in_range r m.number ≡ true → (block_start r.first +ℤ pos days) ≤ℤ block_start m.number) in
+    let all : Ahead (block_at ms i ∷ drop (i + 1) ms) = subst Ahead (left-at ms i lt) ahead in
+    let here = all.0 holds in
+    omega (arith, ints)

@@ -140,20 +140,26 @@ module _ (passes : ℕ → Bool) where
     over_border : Somewhere (a.days + b.days) (a.last + b.first)
     over_border =
         let last = of_a.last.within in
-        let first = of_b.first.within in
-        (a.days - a.last, omega arith, λ k low high.
-          elim (at_most_or_more a.days k) [
-            | inl le ↦ behind k true le (of_b.first.pass (k - a.days) (omega arith) (omega arith))
-            | inr lt ↦ of_a.last.pass (a.days - a.last) (omega arith) k low lt
-          ])
+        let first = of_b.first.within in (
+          a.days - a.last,
+          omega arith,
+          λ k low high.
+              elim (at_most_or_more a.days k) [
+                | inl le ↦ behind k true le (of_b.first.pass (k - a.days) (omega arith) (omega arith))
+                | inr lt ↦ of_a.last.pass (a.days - a.last) (omega arith) k low lt
+              ],
+        )
 
     -- a run among the days behind the first ones
     somewhere-behind : (n : ℕ) → (from : ℕ) × (from + n ≤ b.days) × AllPass (λ i. passes (a.days + i)) from (from + n) → Somewhere (a.days + b.days) n
     somewhere-behind n h =
-        let le = h.1 in
-        (a.days + h.0, omega arith, λ k low high.
-          let after : a.days ≤ k = omega arith in
-          behind k true after (h.2 (k - a.days) (omega arith) (omega arith)))
+        let le = h.1 in (
+          a.days + h.0,
+          omega arith,
+          λ k low high.
+              let after : a.days ≤ k = omega arith in
+              behind k true after (h.2 (k - a.days) (omega arith) (omega arith)),
+        )
 
     -- the part of a run before the border is no longer than what comes last there
     before_border : (from len : ℕ) → from < a.days → a.days ≤ from + len → AllPass passes from (from + len) → a.days - from ≤ a.last

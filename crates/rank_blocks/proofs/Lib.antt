@@ -11,3 +11,4 @@ pub mod LongestRuns
 pub mod Above
 pub mod BlockSteps
 pub mod Computed
+pub mod BoundsMet

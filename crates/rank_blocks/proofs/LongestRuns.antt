@@ -170,12 +170,13 @@ module _ (r : BlockRange) (k : Spell) (s : Usable) (ms : List Summary) (are : Ar
       let block = kind-block d e in
       let holds = block-holds d in
       let both = both_pass (int_le r.first (block_of d)) (int_le (block_of d) r.last) block.0 in
-      let low = int_le-true r.first (block_of d) both.0 in
-      (omega (arith, ints),
-      elim (int_le_or_lt (block_start r.first +ℤ pos runs.days) d) [
-        | inl past ↦ absurd (nothing-left (block_of d) (kind-to_come [] runs far d past e))
-        | inr lt ↦ lt
-      ])
+      let low = int_le-true r.first (block_of d) both.0 in (
+        omega (arith, ints),
+        elim (int_le_or_lt (block_start r.first +ℤ pos runs.days) d) [
+          | inl past ↦ absurd (nothing-left (block_of d) (kind-to_come [] runs far d past e))
+          | inr lt ↦ lt
+        ],
+      )
 
   -- a run of days of the kind is no longer than the longest that is told of
   no-longer : (runs : Runs) → AreRunsSoFar r k s ms [] runs → (len : ℕ) (a : ℤ) → ((i : ℕ) → i < len → is_such (test_of k) days_of_range (a +ℤ pos i) ≡ true) → len ≤ runs.longest
@@ -196,10 +197,14 @@ module _ (r : BlockRange) (k : Spell) (s : Usable) (ms : List Summary) (are : Ar
   pub runs_so_far-end : (runs : Runs) → AreRunsSoFar r k s ms [] runs → IsGreatest (IsRunLength (is_such (test_of k) days_of_range)) (pos runs.longest)
   runs_so_far-end runs far = record {
     is_one =
-        (let from = far.told.longest.somewhere in
-        (runs.longest, block_start r.first +ℤ pos from.0, refl, λ i lt.
-          let same : (block_start r.first +ℤ pos from.0) +ℤ pos i ≡ block_start r.first +ℤ pos (from.0 + i) = omega (arith, ints) in
-          ap (is_such (test_of k) days_of_range) same ∙ from.2 (from.0 + i) (omega arith) (omega arith)));
+        (let from = far.told.longest.somewhere in (
+          runs.longest,
+          block_start r.first +ℤ pos from.0,
+          refl,
+          λ i lt.
+              let same : (block_start r.first +ℤ pos from.0) +ℤ pos i ≡ block_start r.first +ℤ pos (from.0 + i) = omega (arith, ints) in
+              ap (is_such (test_of k) days_of_range) same ∙ from.2 (from.0 + i) (omega arith) (omega arith),
+        ));
     is_most = λ y run.
         let le = no-longer runs far run.0 run.1 run.3 in
         let is = run.2 in

@@ -2,6 +2,7 @@
 
 ghost use Rattle.std.specs.Prelude.{◌≡◌, List, [], ◌∷◌, ◌++◌, IfOk};
 ghost use Rattle.ghcn_series.specs.Series.{DayValue, Usable};
+ghost use Rattle.rank_query.specs.Asked.{IsAsked};
 ghost use Rattle.rank_scores.specs.Morsels.{IsAbove};
 ghost use Rattle.rank_blocks.specs.Bounds.{bound, IsAskedOf};
 ghost use Rattle.rank_blocks.specs.Greatest.{IsBound};
@@ -58,18 +59,27 @@ impl Blocks {
         ensures above { (s : Usable) → AreSummaries s self.now → IsAskedOf query.now s →
             IsAbove query.now s result }
     {
-        let blocks = self.summaries.as_slice();
-        let range = BlockRange::of(query);
-        match query.score() {
-            Score::Highest(_) => greatest_day(blocks, range, Extreme::Highest),
-            Score::Lowest(_) => greatest_day(blocks, range, Extreme::Lowest),
-            Score::Sum(n, _) => {
-                let by_days = times(n, greatest_day(blocks, range, Extreme::Highest));
-                by_days.min(greatest_total(blocks, range, window_blocks(n)))
-            }
-            Score::Dry => longest_run(blocks, range, Spell::Dry),
-            Score::Wet => longest_run(blocks, range, Spell::Wet),
+        bound_of(self.summaries.as_slice(), query)
+    }
+}
+
+/// The bound under the query's score, from the summaries.
+fn bound_of(blocks: &[Summary], query: &Query) -> i64
+    requires { ArePossible blocks.now }
+    ensures asked { IsAsked query.now }
+    ensures bound { (s : Usable) → AreSummaries s blocks.now → IsAskedOf query.now s →
+        IsBound query.now s result }
+{
+    let range = BlockRange::of(query);
+    match query.score() {
+        Score::Highest(_) => greatest_day(blocks, range, Extreme::Highest),
+        Score::Lowest(_) => greatest_day(blocks, range, Extreme::Lowest),
+        Score::Sum(n, _) => {
+            let by_days = times(n, greatest_day(blocks, range, Extreme::Highest));
+            by_days.min(greatest_total(blocks, range, window_blocks(n)))
         }
+        Score::Dry => longest_run(blocks, range, Spell::Dry),
+        Score::Wet => longest_run(blocks, range, Spell::Wet),
     }
 }
 

@@ -29,9 +29,11 @@ loop-day-init c =
     let value : to_z w32 (of_z w32 c.in-Some.first.1) ≡ c.in-Some.first.1 = omega (arith, ints) in
     let of_day : FirstDay c.in-Some.first.0 c.in-Some.first.1 c.of_day-current.result = subst (λ (v : ℤ). FirstDay c.in-Some.first.0 v c.of_day-current.result) value c.of_day-current.ensures.read in
     let open_block = of_day c.args.series.now.days [] c.next.new.self split rise tt in
-    let P : List Summary → Type 0 = λ ms. HasRead c.args.series.now.days (c.in-Some.first ∷ []) ms c.of_day-current.result in
-    (c.in-Some.first ∷ [], split ∙ ap (λ days. c.in-Some.first ∷ days) (sym c.into_iter-day-iterator.ensures.into_iter_gives),
-    subst P (sym c.new-summaries.ensures.items) (read-first c.args.series.now.days c.in-Some.first c.of_day-current.result open_block c.of_day-current.ensures.number))
+    let P : List Summary → Type 0 = λ ms. HasRead c.args.series.now.days (c.in-Some.first ∷ []) ms c.of_day-current.result in (
+      c.in-Some.first ∷ [],
+      split ∙ ap (λ days. c.in-Some.first ∷ days) (sym c.into_iter-day-iterator.ensures.into_iter_gives),
+      subst P (sym c.new-summaries.ensures.items) (read-first c.args.series.now.days c.in-Some.first c.of_day-current.result open_block c.of_day-current.ensures.number),
+    )
 
 pub add_day-requires : goal.add_day-requires
 add_day-requires c =

@@ -11,9 +11,34 @@ use Rattle.rank_blocks.specs.Reached.{in_range}
 use Rattle.rank_blocks.specs.Spells.{runs_of}
 use Rattle.rank_blocks.proofs.LongestRuns.{AreRunsSoFar, runs_so_far-start, runs_so_far-in, runs_so_far-out, runs_so_far-end}
 use Rattle.rank_blocks.proofs.OpenBlocks.{joined-ArePart, without-ArePart}
-use Rattle.rank_blocks.proofs.BlockSteps.{block_at, left-at, possible-at, number-at, possible-left, behind-left, spell-part, spell-whole, ahead-in, ahead-start}
+use Rattle.rank_blocks.proofs.BlockSteps.{block_at, left-at, possible-at, number-at, possible-left, behind-left, spell-part, spell-whole, ahead-in, ahead-at, ahead-start}
 use Rattle.rank_blocks.proofs.reached.longest_run.Goals as goal
 use Rattle.rank_blocks.proofs.reached.longest_run.Goals.{then-holds, else-holds}
+
+pub loop-block-init : goal.loop-block-init
+loop-block-init c =
+    let none : runs_without 0 ≡ c.without-runs.result = sym c.without-runs.ensures in
+    let Ahead : Runs → Type 0 = λ r. AllByRecursion (λ k. in_range c.args.range k.number ≡ true → (block_start c.args.range.first +ℤ pos r.days) ≤ℤ block_start k.number) c.args.blocks.now in
+    record {
+      possible = c.requires.possible;
+      part = subst ArePart none (without-ArePart 0);
+      room = (let P : Runs → Type 0 = λ r. r.days ≤ 3_652_096 in subst P none (omega arith));
+      ahead = subst Ahead none (ahead-start c.args.range c.args.blocks.now);
+      so_far = λ s are.
+          let Far : Runs → Type 0 = λ r. AreRunsSoFar c.args.range c.args.spell s c.args.blocks.now c.args.blocks.now r in
+          subst Far none (runs_so_far-start c.args.range c.args.spell s c.args.blocks.now are);
+    }
+
+pub up_to-requires-clause-later : goal.up_to-requires-clause-later
+up_to-requires-clause-later c =
+    let possible = possible-at c.args.blocks.now c.loop-block.block-index c.loop-block-test.true c.requires.possible in
+    let number = number-at (block_at c.args.blocks.now c.loop-block.block-index) possible in
+    let low = c.requires.low.low in
+    let high = c.requires.low.high in
+    let first : to_z w32 (of_z w32 c.args.range.first) ≡ c.args.range.first = omega (arith, ints) in
+    let range : c.holds.result ≡ in_range c.args.range (block_at c.args.blocks.now c.loop-block.block-index).number = c.holds.ensures ∙ ap (in_range c.args.range) number in
+    ahead-at c.args.range c.args.blocks.now c.loop-block.block-index c.loop-block.runs.days c.days_between-before.result (to_z w32 (of_z w32 c.args.range.first)) c.loop-block-test.true c.loop-block.invariant.ahead
+    (sym range ∙ c.if-holds.true) first (c.days_between-before.ensures.days ∙ ap block_start number)
 
 pub join-runs-requires-clause-next_part : goal.join-runs-requires-clause-next_part
 join-runs-requires-clause-next_part c =

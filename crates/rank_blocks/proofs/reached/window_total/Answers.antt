@@ -5,7 +5,7 @@ use Rattle.rank_blocks.specs.declared.summary.Summary.{Summary}
 use Rattle.rank_blocks.specs.Reached.{summaries_total}
 use Rattle.rank_blocks.proofs.DayValues.{int_le-true, int_le-false}
 use Rattle.rank_blocks.proofs.PossibleBlocks.{possible-few, possible-total}
-use Rattle.rank_blocks.proofs.BlockSteps.{block_at, possible-at, number-at, possible-left, nothing-past, added-in, added-out}
+use Rattle.rank_blocks.proofs.BlockSteps.{block_at, possible-at, number-at, possible-left, nothing-past, sum-read, added-in, added-out}
 use Rattle.rank_blocks.proofs.reached.window_total.Goals as goal
 use Rattle.rank_blocks.proofs.reached.window_total.Goals.{then-block-first, else-block-first}
 
@@ -27,8 +27,8 @@ returns-then-is_past c =
     let is = c.loop-block.total-is in
     omega (arith, ints)
 
-pub sum_of-requires : goal.sum_of-requires
-sum_of-requires c =
+pub sum_of-total-requires : goal.sum_of-total-requires
+sum_of-total-requires c =
     let ms = c.args.blocks.now in
     let i = c.loop-block.block-index in
     let lt = c.loop-block-test.true in
@@ -66,14 +66,24 @@ loop-block-preserved c =
       | then-block-first w ↦
           let here = int_le-true (to_z w32 (of_z w32 c.args.first)) (to_z w32 (of_z w32 (block_at c.args.blocks.now c.loop-block.block-index).number)) w.if-block-first.true in
           let from : c.args.first ≤ℤ (block_at ms i).number = omega (arith, ints) in
-          let sum = w.sum_of.ensures in
-          let is = w.total-is in
-          let bits = c.if-block-first.total-is in
-          ?
+          let next : to_z w64 c.if-block-first.total-bits ≡ to_z w64 c.loop-block.total-bits +ℤ (block_at ms i).total =
+          w.total-is ∙ sum-read i (to_z w64 c.loop-block.total-bits) (block_at ms i).total w.sum_of-total.result (omega arith) low high least most w.sum_of-total.ensures in
+          record {
+            possible = left;
+            low = omega (arith, ints, next);
+            high = omega (arith, ints, next);
+            whole = subst (λ (f : ℤ). Whole f (to_z w64 c.if-block-first.total-bits)) (sym first)
+                (added-in ms i c.args.width c.args.first (to_z w64 c.loop-block.total-bits) (to_z w64 c.if-block-first.total-bits) _ lt from before next so_far);
+          }
       | else-block-first w ↦
           let here = int_le-false (to_z w32 (of_z w32 c.args.first)) (to_z w32 (of_z w32 (block_at c.args.blocks.now c.loop-block.block-index).number)) w.if-block-first.false in
           let past : (block_at ms i).number <ℤ c.args.first = omega (arith, ints) in
-          let is = w.total-is in
-          let bits = c.if-block-first.total-is in
-          ?
+          let same = w.total-is in
+          record {
+            possible = left;
+            low = omega (arith, ints, same);
+            high = omega (arith, ints, same);
+            whole = subst (λ (f : ℤ). Whole f (to_z w64 c.if-block-first.total-bits)) (sym first)
+                (subst (λ (n : ℤ). Whole c.args.first n) (sym same) (added-out ms i c.args.width c.args.first (to_z w64 c.loop-block.total-bits) _ lt past so_far));
+          }
     ]
