@@ -54,7 +54,7 @@ fn guesses_and_the_first_fault(rt: HostRuntime) {
         (Some(-2_147_483_648), "top 1 highest TMAX", b"", None),
         (
             None,
-            "top 1 lowest TMAX",
+            "top 1 hot 30",
             b"",
             Some(Fault::UnexpectedWord(3)),
         ),

@@ -11,6 +11,8 @@ mod gathering;
 mod reader;
 mod series;
 mod station;
+#[cfg(test)]
+mod tests;
 
 pub use data::Data;
 pub use days::Days;

@@ -1,174 +1,147 @@
 -- The canonical text of a query spells it.
-use Rattle.std.proofs.Common.{◌≡◌, ℕ, ◌<◌, ◌≤◌, ◌^◌, Bool, true, false, not, cond, ◌&&◌, List, [], ◌∷◌, ◌++◌, length, All, filter, decimal, codes, IsTrue, refl, sym, ap, ◌∙◌, subst, length-append, arith}
-use Rattle.std.specs.Prelude.{Some, None, ℤ, Option}
-use Rattle.std.specs.List.{slice_split, join_with_byte, list_all, AllByRecursion}
-use Rattle.std.specs.Char.{is_ascii_digit}
-use Rattle.std.specs.Str.Parse.{AllDigits}
+use Rattle.std.proofs.Common.{◌≡◌, ℕ, ◌+◌, ◌*◌, ◌<◌, ◌≤◌, ◌^◌, Bool, true, ◌&&◌, List, [], ◌∷◌, ◌++◌, length, decimal, codes, IsTrue, refl, length-append, arith}
+use Rattle.std.specs.Prelude.{Some, None, ℤ, pos, neg_ℤ, int_le, ◌≤ℤ◌, Option}
+use Rattle.std.specs.List.{join_with_byte, AllByRecursion}
+use Rattle.std.proofs.lemmas.Bool.{and_parts}
 use Rattle.std.proofs.lemmas.Bool.Decides.{nat_tests}
-use Rattle.std.proofs.lemmas.Fmt.{decimal_is_IsNumeral, length-decimal-le}
-use Rattle.std.proofs.lemmas.List.Splits.{slice_split_none, slice_split_at}
-use Rattle.std.proofs.lemmas.List.Sums.{AllPass-from_list_all}
-use Rattle.std.proofs.lemmas.Str.Parse.{digit_from_value}
+use Rattle.std.proofs.lemmas.Int.{ints}
 use Rattle.ghcn_fields.specs.Days.{is_within}
-use Rattle.ghcn_files.specs.declared.element.Element.{Element}
-use Rattle.ghcn_files.specs.declared.element.Element.TheVariants.{Prcp, Snow, Snwd, Tmax, Tmin}
+use Rattle.ghcn_fields.specs.NumberTexts.{four_places}
 use Rattle.ghcn_files.specs.Elements.{code_of}
 use Rattle.rank_query.specs.declared.score.Score.{Score}
 use Rattle.rank_query.specs.declared.score.Score.TheVariants.{Highest, Lowest, Sum, Dry, Wet}
 use Rattle.rank_query.specs.declared.region.Region.{Region}
 use Rattle.rank_query.specs.declared.region.Region.TheVariants.{Everywhere, Inside, Country, State, Only}
-use Rattle.rank_query.specs.Asked.{Asked, IsAsked}
-use Rattle.rank_query.specs.QueryTexts.{query_words, query_text}
-use Rattle.rank_query.specs.Words.{is_separator, is_word, words_of}
-use Rattle.rank_query.specs.Spelling.{IsNumeralOf, IsSpelling, has_score, has_region, has_period, has_query}
+use Rattle.rank_query.specs.Asked.{Asked, IsAsked, is_score, is_fall, is_region, is_longitude}
+use Rattle.rank_query.specs.QueryTexts.{score_words, region_words, period_words, query_words, query_text}
+use Rattle.rank_query.specs.Spelling.{SpellsScore, SpellsRegion, SpellsPeriod, IsSpelling}
+use Rattle.rank_query.proofs.OneWords.{words_of-join}
+use Rattle.rank_query.proofs.PrintedWords.{IsShortWord, short_words, length-join, all_both, known_word, decimal_numeral, decimal_word, code_word, visible_word, date_word, four_places_spelt, four_places_word}
+use Rattle.rank_query.proofs.RegionWords.{edges_of, longitude-range}
 
--- a byte that stands in a word
-abbrev stands_in_word : ℕ → Bool
-stands_in_word b = not (is_separator b)
+-- a number within limits is small
+small : (low high n : ℕ) → high < 10 ^ 4 → IsTrue (is_within low high n) → (n < 10 ^ 4) × (n < 2 ^ 64)
+small low high n few h = let below : n ≤ high = grind (arith, nat_tests) in (omega arith, omega arith)
 
--- a word is something without a blank
-pub record IsOneWord (word : List ℕ) : Type 0 where
-  some : is_word word ≡ true
-  no_blank : list_all stands_in_word word ≡ true
+-- the words of a score are words, and few
+score_printed : (s : Score) → is_score s ≡ true → AllByRecursion IsShortWord (score_words s) × (length (score_words s) ≤ 3)
+score_printed (Highest e) is = ((known_word (codes "highest") refl, (code_word e, tt)), omega arith)
+score_printed (Lowest e) is = ((known_word (codes "lowest") refl, (code_word e, tt)), omega arith)
+score_printed (Sum n e) is =
+    let few = small 1 366 n (omega arith) (and_parts (is_within 1 366 n) (is_fall e) is).0 in
+    ((known_word (codes "sum") refl, (decimal_word n few.0 few.1, (code_word e, tt))), omega arith)
+score_printed Dry is = ((known_word (codes "dry") refl, tt), omega arith)
+score_printed Wet is = ((known_word (codes "wet") refl, tt), omega arith)
 
--- no byte of a word separates
-is_false : (b : Bool) → not b ≡ true → b ≡ false
-is_false true e = cc
-is_false false e = refl
+-- and spell it
+score_spelt : (s : Score) → is_score s ≡ true → SpellsScore (score_words s) s
+score_spelt (Highest e) is = refl
+score_spelt (Lowest e) is = refl
+score_spelt (Sum n e) is =
+    (decimal n, decimal_numeral n (small 1 366 n (omega arith) (and_parts (is_within 1 366 n) (is_fall e) is).0).1, refl)
+score_spelt Dry is = refl
+score_spelt Wet is = refl
 
-no_separator : (word : List ℕ) → IsOneWord word → All (λ b. is_separator b ≡ false) word
-no_separator word one = λ k d inside. is_false _ (AllPass-from_list_all stands_in_word word one.no_blank k d inside)
+-- the edges of a box that can be asked for, in ten-thousandths of a degree
+record AreDegrees (south west north east : ℤ) : Type 0 where
+  south_from : neg_ℤ (pos 1_800_000) ≤ℤ south
+  south_to : south ≤ℤ pos 1_800_000
+  west_within : (neg_ℤ (pos 1_800_000) ≤ℤ west) × (west ≤ℤ pos 1_800_000)
+  north_from : neg_ℤ (pos 1_800_000) ≤ℤ north
+  north_to : north ≤ℤ pos 1_800_000
+  east_within : (neg_ℤ (pos 1_800_000) ≤ℤ east) × (east ≤ℤ pos 1_800_000)
 
--- a word comes first among the words
-kept : (word : List ℕ) (parts : List (List ℕ)) → is_word word ≡ true → filter is_word (word ∷ parts) ≡ word ∷ filter is_word parts
-kept word parts some = ap (λ b. cond b (word ∷ filter is_word parts) (filter is_word parts)) some
+degrees_of : (south west north east : ℤ) → is_region (Inside south west north east) ≡ true → AreDegrees south west north east
+degrees_of south west north east is =
+    let edges = edges_of south west north east is in
+    record {
+      south_from = omega (arith, ints, edges.low);
+      south_to = omega (arith, ints, edges.order, edges.high);
+      west_within = longitude-range west edges.west_is;
+      north_from = omega (arith, ints, edges.low, edges.order);
+      north_to = omega (arith, ints, edges.high);
+      east_within = longitude-range east edges.east_is;
+    }
 
--- words that are joined by a blank are the words of the text
-pub words_of-join : (words : List (List ℕ)) → AllByRecursion IsOneWord words → words_of (join_with_byte 32 words) ≡ words
-words_of-join [] one = refl
-words_of-join (w ∷ []) one = ap (filter is_word) (slice_split_none is_separator w (no_separator w one.0)) ∙ kept w [] one.0.some
-words_of-join (w ∷ v ∷ words) one =
-    ap (filter is_word) (slice_split_at is_separator w 32 (join_with_byte 32 (v ∷ words)) (no_separator w one.0) refl)
-    ∙ kept w (slice_split is_separator (join_with_byte 32 (v ∷ words))) one.0.some
-    ∙ ap (λ ws. w ∷ ws) (words_of-join (v ∷ words) one.1)
+-- the words of a region are words, and few
+region_printed : (r : Region) → is_region r ≡ true → AllByRecursion IsShortWord (region_words r) × (length (region_words r) ≤ 5)
+region_printed Everywhere is = (tt, omega arith)
+region_printed (Inside south west north east) is =
+    let d = degrees_of south west north east is in (
+      (
+        known_word (codes "box") refl,
+        (four_places_word south d.south_from d.south_to, (four_places_word west d.west_within.0 d.west_within.1, (four_places_word north d.north_from d.north_to, (four_places_word east d.east_within.0 d.east_within.1, tt)))),
+      ),
+      omega arith,
+    )
+region_printed (Country code) is = ((known_word (codes "country") refl, (visible_word 2 code (omega arith) (omega arith) is, tt)), omega arith)
+region_printed (State code) is = ((known_word (codes "state") refl, (visible_word 2 code (omega arith) (omega arith) is, tt)), omega arith)
+region_printed (Only id) is = ((known_word (codes "station") refl, (visible_word 11 id.0 (omega arith) (omega arith) is, tt)), omega arith)
 
--- digits are digits
-all_digits : (digits : List ℕ) → AllDigits 10 digits → list_all is_ascii_digit digits ≡ true
-all_digits [] h = refl
-all_digits (d ∷ digits) h =
-    let range = digit_from_value d h.0 in
-    let digit : is_ascii_digit d ≡ true = grind (arith, nat_tests) in
-    ap (λ b. b && list_all is_ascii_digit digits) digit ∙ all_digits digits h.1
+-- and spell it
+region_spelt : (r : Region) → is_region r ≡ true → SpellsRegion (region_words r) r
+region_spelt Everywhere is = refl
+region_spelt (Inside south west north east) is =
+    let d = degrees_of south west north east is in
+    record {
+      s = four_places south;
+      w = four_places west;
+      n = four_places north;
+      e = four_places east;
+      words = refl;
+      spells_south = four_places_spelt south d.south_from d.south_to;
+      spells_west = four_places_spelt west d.west_within.0 d.west_within.1;
+      spells_north = four_places_spelt north d.north_from d.north_to;
+      spells_east = four_places_spelt east d.east_within.0 d.east_within.1;
+    }
+region_spelt (Country code) is = refl
+region_spelt (State code) is = refl
+region_spelt (Only id) is = refl
 
--- digits hold no blank
-digit_in_word : (d : ℕ) → is_ascii_digit d ≡ true → stands_in_word d ≡ true
-digit_in_word d h = grind (arith, nat_tests)
+-- the words of a period are words, and few
+period_printed : (p : Option (ℤ × ℤ)) → AllByRecursion IsShortWord (period_words p) × (length (period_words p) ≤ 4)
+period_printed None = (tt, omega arith)
+period_printed (Some p) = ((known_word (codes "from") refl, (date_word p.0, (known_word (codes "to") refl, (date_word p.1, tt)))), omega arith)
 
--- both of two tests hold
-both : (a b : Bool) → (a && b) ≡ true → (a ≡ true) × (b ≡ true)
-both true b e = (refl, e)
-both false b e = cc
+-- and spell it
+period_spelt : (p : Option (ℤ × ℤ)) → SpellsPeriod (period_words p) p
+period_spelt None = refl
+period_spelt (Some p) = refl
 
-digits_no_blank : (digits : List ℕ) → list_all is_ascii_digit digits ≡ true → list_all stands_in_word digits ≡ true
-digits_no_blank [] h = refl
-digits_no_blank (d ∷ digits) h =
-    let two = both (is_ascii_digit d) (list_all is_ascii_digit digits) h in
-    ap (λ b. b && list_all stands_in_word digits) (digit_in_word d two.0) ∙ digits_no_blank digits two.1
-
--- the decimal text of a number is a numeral of it
-pub decimal_numeral : (n : ℕ) → n < 2 ^ 64 → IsNumeralOf (decimal n) n
-decimal_numeral n fits =
-    let text = decimal_is_IsNumeral n fits in
-    record { some_digit = omega (arith, text.0.0); digits_alone = all_digits (decimal n) text.0.1; value = sym text.1 }
-
--- and one word
-decimal_word : (n : ℕ) → n < 2 ^ 64 → IsOneWord (decimal n)
-decimal_word n fits =
-    let numeral = decimal_numeral n fits in
-    let some : 1 ≤ length (decimal n) = numeral.some_digit in
-    record { some = grind (arith, nat_tests); no_blank = digits_no_blank (decimal n) numeral.digits_alone }
-
--- an element's code is one word
-code_word : (e : Element) → IsOneWord (code_of e)
-code_word Prcp = record { some = refl; no_blank = refl }
-code_word Snow = record { some = refl; no_blank = refl }
-code_word Snwd = record { some = refl; no_blank = refl }
-code_word Tmax = record { some = refl; no_blank = refl }
-code_word Tmin = record { some = refl; no_blank = refl }
-
--- k is small enough
-small : (k : ℕ) → IsTrue (is_within 1 1000 k) → k < 2 ^ 64
-small k h = grind (arith, nat_tests)
-
-few_rows : (k : ℕ) → IsTrue (is_within 1 1000 k) → k < 10 ^ 4
-few_rows k h = grind (arith, nat_tests)
-
--- the words of a query of the score, all stations and all days
-abbrev plain : ℕ → Score → Asked
-plain k s = record { k = k; score = s; region = Everywhere; period = None }
-
--- the canonical words of a highest value are words
-words_one : (k : ℕ) (e : Element) → k < 2 ^ 64 → AllByRecursion IsOneWord (query_words (plain k (Highest e)))
-words_one k e fits = (record { some = refl; no_blank = refl }, (decimal_word k fits, (record { some = refl; no_blank = refl }, (code_word e, tt))))
-
--- the canonical text of a highest value spells it, and is short
+-- a canonical text spells its query, and is short
 pub record IsCanonical (q : Asked) : Type 0 where
   pub spells : IsSpelling (query_text q) q
   pub short : length (query_text q) ≤ 256
 
--- an element's code has four bytes
-code_length : (e : Element) → length (code_of e) ≡ 4
-code_length Prcp = refl
-code_length Snow = refl
-code_length Snwd = refl
-code_length Tmax = refl
-code_length Tmin = refl
-
--- so it is for the highest values of an element
-canonical_highest : (k : ℕ) (e : Element) → k < 2 ^ 64 → k < 10 ^ 4 → IsCanonical (plain k (Highest e))
-canonical_highest k e fits few = record {
-  spells = record {
-    k = decimal k;
-    score = codes "highest" ∷ code_of e ∷ [];
-    region = [];
-    period = [];
-    words = words_of-join (query_words (plain k (Highest e))) (words_one k e fits);
-    spells_k = decimal_numeral k fits;
-    spells_score = refl;
-    spells_region = refl;
-    spells_period = refl;
-  };
-  short = omega (arith, length-append (decimal k) (32 ∷ codes "highest" ++ 32 ∷ code_of e), code_length e, length-decimal-le 4 k (omega arith) few fits);
-}
-
--- so it is for each score that the language has
-canonical_score : (k : ℕ) (s : Score) → k < 2 ^ 64 → k < 10 ^ 4 → has_score s ≡ true → IsCanonical (plain k s)
-canonical_score k (Highest e) fits few has = canonical_highest k e fits few
-canonical_score k (Lowest e) fits few has = cc
-canonical_score k (Sum n e) fits few has = cc
-canonical_score k Dry fits few has = cc
-canonical_score k Wet fits few has = cc
-
--- all stations are the only region
-everywhere : (r : Region) → has_region r ≡ true → Everywhere ≡ r
-everywhere Everywhere has = refl
-everywhere (Inside south west north east) has = cc
-everywhere (Country code) has = cc
-everywhere (State code) has = cc
-everywhere (Only id) has = cc
-
--- all days are the only period
-always : (p : Option (ℤ × ℤ)) → has_period p ≡ true → None ≡ p
-always None has = refl
-always (Some p) has = cc
-
--- the canonical text of each query that the language has spells it, and is short
-pub canonical : (q : Asked) → IsAsked q → has_query q ≡ true → IsCanonical q
-canonical q asked has =
-    let period = both (has_score q.score && has_region q.region) (has_period q.period) has in
-    let region = both (has_score q.score) (has_region q.region) period.0 in
-    let few : q.k < 10 ^ 4 = few_rows q.k asked.k in
-    let it : IsCanonical (plain q.k q.score) = canonical_score q.k q.score (small q.k asked.k) few region.0 in
-    let there : IsCanonical (record { k = q.k; score = q.score; region = q.region; period = None }) =
-    subst (λ r. IsCanonical (record { k = q.k; score = q.score; region = r; period = None })) (everywhere q.region region.1) it in
-    subst (λ p. IsCanonical (record { k = q.k; score = q.score; region = q.region; period = p })) (always q.period period.1) there
+-- so it is for each query that may be asked
+pub canonical : (q : Asked) → IsAsked q → IsCanonical q
+canonical q is =
+    let rows = small 1 1000 q.k (omega arith) is.k in
+    let score = score_printed q.score is.score in
+    let region = region_printed q.region is.region in
+    let period = period_printed q.period in
+    let front = all_both (score_words q.score) (region_words q.region) score.0 region.0 in
+    let all : AllByRecursion IsShortWord (query_words q) =
+    (known_word (codes "top") refl, (decimal_word q.k rows.0 rows.1, all_both (score_words q.score ++ region_words q.region) (period_words q.period) front period.0)) in
+    record {
+      spells = record {
+        k = decimal q.k;
+        score = score_words q.score;
+        region = region_words q.region;
+        period = period_words q.period;
+        words = words_of-join (query_words q) (short_words (query_words q) all);
+        spells_k = decimal_numeral q.k rows.1;
+        spells_score = score_spelt q.score is.score;
+        spells_region = region_spelt q.region is.region;
+        spells_period = period_spelt q.period;
+      };
+      short = omega (
+        arith,
+        length-join (query_words q) all,
+        score.1,
+        region.1,
+        period.1,
+        length-append (score_words q.score) (region_words q.region),
+        length-append (score_words q.score ++ region_words q.region) (period_words q.period),
+      );
+    }

@@ -1,5 +1,5 @@
 -- Worked examples, by computation.
-use Rattle.std.proofs.Common.{◌≡◌, ℕ, true, false, [], ◌∷◌, refl, Some, None, Ok, Err, replicate, codes}
+use Rattle.std.proofs.Common.{◌≡◌, ℕ, true, false, [], ◌∷◌, ◌++◌, refl, Some, None, Ok, Err, replicate, codes}
 use Rattle.std.specs.Prelude.{pos, neg_ℤ, ℤ, map}
 use Rattle.std.specs.Fmt.{digits}
 use Rattle.ghcn_fields.specs.Dates.{year_and_rest, month_and_day}
@@ -9,12 +9,14 @@ use Rattle.rank_query.specs.declared.score.Score.{Score}
 use Rattle.rank_query.specs.declared.score.Score.TheVariants.{Highest, Lowest, Sum, Dry, Wet}
 use Rattle.rank_query.specs.declared.region.Region.{Region}
 use Rattle.rank_query.specs.declared.region.Region.TheVariants.{Everywhere, Inside, Country, State, Only}
-use Rattle.rank_query.specs.declared.fault.QueryFault.TheVariants.{QueryTooLong, UnexpectedWord, QueryEnds, OutOfLimits}
+use Rattle.rank_query.specs.declared.fault.QueryFault.TheVariants.{QueryTooLong, UnexpectedWord, QueryEnds, OutOfLimits, BadDate, BadBox}
 use Rattle.rank_query.specs.Asked.{Asked}
 use Rattle.rank_query.specs.Admits.{region_holds, admits_day}
 use Rattle.rank_query.specs.QueryTexts.{query_text}
-use Rattle.rank_query.specs.Words.{words_of}
-use Rattle.rank_query.specs.Reading.{says, keyword, number_within, element_at, highest_at, score_at, read_words, read_query}
+use Rattle.rank_query.specs.Words.{words_of, says}
+use Rattle.rank_query.specs.Readers.{keyword}
+use Rattle.rank_query.specs.WordValues.{number, element, degrees, code, date}
+use Rattle.rank_query.specs.Reading.{sum_at, no_score_at, score_at, box_at, region_at, days_at, period_at, read_words, read_query}
 
 -- a query of all stations and days
 abbrev asked : ℕ → Score → Asked
@@ -26,33 +28,67 @@ words = refl
 
 -- texts that are read
 read : (read_query (codes "top 1000 highest TMAX") ≡ Ok (asked 1000 (Highest Tmax))) × (read_query (codes " top  0001 highest   PRCP ") ≡ Ok (asked 1 (Highest Prcp)))
-unfolding read_query read_words keyword says number_within score_at highest_at element_at
+unfolding read_query read_words keyword says number element score_at no_score_at region_at period_at
 read = (refl, refl)
 
 -- k is from 1 to 1000, however many digits it has
 out_of_limits : (read_query (codes "top 1001 highest TMAX") ≡ Err (OutOfLimits 2)) × (read_query (codes "top 0 highest TMAX") ≡ Err (OutOfLimits 2)) × (read_query (codes "top 18446744073709551617 highest TMAX") ≡ Err (OutOfLimits 2))
-unfolding read_query read_words keyword says number_within score_at highest_at element_at
+unfolding read_query read_words keyword says number element score_at no_score_at region_at period_at
 out_of_limits = (refl, refl, refl)
 
 -- a word is needed and there is none
 ends : (read_query (codes "top 1") ≡ Err QueryEnds) × (read_query [] ≡ Err QueryEnds) × (read_query (codes "top 1 highest") ≡ Err QueryEnds)
-unfolding read_query read_words keyword says number_within score_at highest_at element_at
+unfolding read_query read_words keyword says number element score_at no_score_at region_at period_at
 ends = (refl, refl, refl)
 
 -- a word that doesn't stand there
 unexpected : (read_query (codes "Top 1 highest TMAX") ≡ Err (UnexpectedWord 1)) × (read_query (codes "top +1 highest TMAX") ≡ Err (UnexpectedWord 2)) × (read_query (codes "top 1 highest TAVG") ≡ Err (UnexpectedWord 4)) × (read_query (codes "top 1 highest TMAX TMAX") ≡ Err (UnexpectedWord 5))
-unfolding read_query read_words keyword says number_within score_at highest_at element_at
+unfolding read_query read_words keyword says number element score_at no_score_at region_at period_at
 unexpected = (refl, refl, refl, refl)
 
--- words that the language doesn't have yet
-not_yet : (read_query (codes "top 1 lowest PRCP") ≡ Err (UnexpectedWord 3)) × (read_query (codes "top 1 sum 366 PRCP") ≡ Err (UnexpectedWord 3)) × (read_query (codes "top  007 wet") ≡ Err (UnexpectedWord 3))
-    × (read_query (codes "top 1 highest TMAX box -91 0 10 10") ≡ Err (UnexpectedWord 5)) × (read_query (codes "top 1 highest TMAX from 2020-07-01 to 2020-07-01") ≡ Err (UnexpectedWord 5))
-unfolding read_query read_words keyword says number_within score_at highest_at element_at
-not_yet = (refl, refl, refl, refl, refl)
+-- the other scores
+scores : (read_query (codes "top 2 lowest TMIN") ≡ Ok (asked 2 (Lowest Tmin))) × (read_query (codes "top 1 sum 366 PRCP") ≡ Ok (asked 1 (Sum 366 Prcp))) × (read_query (codes "top  007 wet") ≡ Ok (asked 7 Wet)) × (read_query (codes "top 3 dry ") ≡ Ok (asked 3 Dry))
+unfolding read_query read_words keyword says number element score_at sum_at no_score_at region_at period_at
+scores = (refl, refl, refl, refl)
+
+-- lowest values are of temperatures, and sums of rain or snow over 1 to 366 days
+scores_refused : (read_query (codes "top 1 lowest PRCP") ≡ Err (UnexpectedWord 4)) × (read_query (codes "top 1 sum 367 PRCP") ≡ Err (OutOfLimits 4)) × (read_query (codes "top 1 sum 0 PRCP") ≡ Err (OutOfLimits 4)) × (read_query (codes "top 1 sum 3 SNWD") ≡ Err (UnexpectedWord 5))
+    × (read_query (codes "top 1 sum PRCP") ≡ Err (UnexpectedWord 4)) × (read_query (codes "top 1 hot 30") ≡ Err (UnexpectedWord 3)) × (read_query (codes "top 1 dry PRCP") ≡ Err (UnexpectedWord 4))
+unfolding read_query read_words keyword says number element score_at sum_at no_score_at region_at period_at
+scores_refused = (refl, refl, refl, refl, refl, refl, refl)
+
+-- the first of several faults of a box is told at its word: no latitude and no longitude, the north south of the south, and then nothing more
+boxes_refused : (read_query (codes "top 1 highest TMAX box -91 0 10 10") ≡ Err (BadBox 6)) × (read_query (codes "top 1 highest TMAX box 10 0 -10") ≡ Err (BadBox 8)) × (read_query (codes "top 1 highest TMAX box 0 181 0 x") ≡ Err (BadBox 7))
+    × (read_query (codes "top 1 highest TMAX box 0 0 0 1.00000") ≡ Err (BadBox 9)) × (read_query (codes "top 1 highest TMAX box 0 0 0") ≡ Err QueryEnds)
+unfolding read_query read_words keyword says number element score_at no_score_at region_at period_at box_at degrees
+boxes_refused = (refl, refl, refl, refl, refl)
+
+-- a box over the date line, and one at the edges of the world
+boxes_read : (read_query (codes "top 3 highest TMAX box -10 170 10.0000 -170") ≡ Ok (record { k = 3; score = Highest Tmax; region = Inside (neg_ℤ (pos 100_000)) (pos 1_700_000) (pos 100_000) (neg_ℤ (pos 1_700_000)); period = None }))
+    × (read_query (codes "top 3 highest TMAX box -90 -180.0 0090 180.0000") ≡ Ok (record { k = 3; score = Highest Tmax; region = Inside (neg_ℤ (pos 900_000)) (neg_ℤ (pos 1_800_000)) (pos 900_000) (pos 1_800_000); period = None }))
+unfolding read_query read_words keyword says number element score_at no_score_at region_at period_at box_at degrees
+boxes_read = (refl, refl)
+
+-- codes of another length, and bytes that don't show in print
+codes_refused : (read_query (codes "top 1 highest TMAX country ZZZ") ≡ Err (UnexpectedWord 6)) × (read_query (codes "top 1 highest TMAX state N") ≡ Err (UnexpectedWord 6)) × (read_query (codes "top 1 highest TMAX station ZZA0000000") ≡ Err (UnexpectedWord 6))
+    × (read_query (codes "top 1 highest TMAX country" ++ 32 ∷ 127 ∷ 33 ∷ []) ≡ Err (UnexpectedWord 6)) × (read_query (codes "top 1 highest TMAX state NY country ZZ") ≡ Err (UnexpectedWord 7))
+unfolding read_query read_words keyword says number element score_at no_score_at region_at period_at code
+codes_refused = (refl, refl, refl, refl, refl)
+
+-- codes that are read
+codes_read : (read_query (codes "top 1 highest TMAX state NY") ≡ Ok (record { k = 1; score = Highest Tmax; region = State (codes "NY"); period = None })) × (read_query (codes "top 1 highest TMAX country from") ≡ Err (UnexpectedWord 6))
+    × (read_query (codes "top 1 highest TMAX country ZZ") ≡ Ok (record { k = 1; score = Highest Tmax; region = Country (codes "ZZ"); period = None })) × (read_query (codes "top 1 highest TMAX station ZZA00000003") ≡ Ok (record { k = 1; score = Highest Tmax; region = Only (record { 0 = codes "ZZA00000003" }); period = None }))
+unfolding read_query read_words keyword says number element score_at no_score_at region_at period_at code
+codes_read = (refl, refl, refl, refl)
+
+-- no dates
+dates_refused : (read_query (codes "top 1 highest TMAX from 2019-02-29 to 2019-03-01") ≡ Err (BadDate 6)) × (read_query (codes "top 1 highest TMAX from 2020-07-01 2020-07-02") ≡ Err (UnexpectedWord 7)) × (read_query (codes "top 1 highest TMAX from 2020-07-01 to") ≡ Err QueryEnds)
+unfolding read_query read_words keyword says number element score_at no_score_at region_at period_at days_at date
+dates_refused = (refl, refl, refl)
 
 -- a text of 257 blanks is too long, one of 256 has no word
 too_long : (read_query (replicate 257 32) ≡ Err QueryTooLong) × (read_query (replicate 256 32) ≡ Err QueryEnds)
-unfolding read_query read_words keyword says number_within score_at highest_at element_at
+unfolding read_query read_words keyword says number element score_at no_score_at region_at period_at
 too_long = (refl, refl)
 
 -- canonical texts

@@ -1,7 +1,13 @@
 pub mod FirstWord
 pub mod Numerals
+pub mod OneWords
 pub mod ReadingSteps
+pub mod WordValues
+pub mod ScoreWords
+pub mod RegionWords
+pub mod PeriodWords
 pub mod Spellings
+pub mod PrintedWords
 pub mod CanonicalTexts
 pub mod Printing
 pub mod Examples

@@ -1,9 +1,11 @@
 -- What follows when a step of the reading succeeds.
-use Rattle.std.proofs.Common.{◌≡◌, ℕ, ◌+◌, Bool, true, false, cond, List, [], ◌∷◌, map, Option, Some, None, Result, Ok, Err, refl, ap}
+use Rattle.std.proofs.Common.{◌≡◌, ℕ, ◌+◌, Bool, true, false, cond, ◌⊎◌, inl, inr, List, [], ◌∷◌, ◌++◌, map, Option, Some, None, Result, Ok, Err, refl, ap, subst, ◌∙◌}
 use Rattle.std.specs.List.{enumerate_from}
+use Rattle.std.specs.Cmp.Lexicographic.{bytes_decides}
 use Rattle.rank_query.specs.declared.fault.QueryFault.{QueryFault}
-use Rattle.rank_query.specs.Words.{Word}
-use Rattle.rank_query.specs.Reading.{◌>>=◌, next_word, or_fault}
+use Rattle.rank_query.specs.declared.fault.QueryFault.TheVariants.{UnexpectedWord}
+use Rattle.rank_query.specs.Words.{Word, says}
+use Rattle.rank_query.specs.Readers.{◌>>=◌, Read, or_fault, next_word, keyword, one_word, made_into, by_word}
 
 -- both steps of a reading that succeeds do
 pub bind_ok : {A B : Type 0} (r : Result A QueryFault) (f : A → Result B QueryFault) (y : B) → (r >>= f) ≡ Ok y → (x : A) × (r ≡ Ok x) × (f x ≡ Ok y)
@@ -15,20 +17,10 @@ pub test_ok : {A : Type 0} (b : Bool) (x y : A) (fault : QueryFault) → cond b 
 test_ok true x y fault e = (refl, cc)
 test_ok false x y fault e = cc
 
--- a branch that doesn't fail is taken
-pub branch_ok : {A : Type 0} (b : Bool) (r : Result A QueryFault) (y : A) (fault : QueryFault) → cond b r (Err fault) ≡ Ok y → (b ≡ true) × (r ≡ Ok y)
-branch_ok true r y fault e = (refl, e)
-branch_ok false r y fault e = cc
-
 -- a value that is needed is there
 pub or_fault_ok : {A : Type 0} (fault : QueryFault) (o : Option A) (x : A) → or_fault fault o ≡ Ok x → o ≡ Some x
 or_fault_ok fault None x e = cc
 or_fault_ok fault (Some v) x e = cc
-
--- a word that is needed is there
-pub next_word_ok : (ws : List Word) (x : Word × List Word) → next_word ws ≡ Ok x → ws ≡ x.0 ∷ x.1
-next_word_ok [] x e = cc
-next_word_ok (w ∷ ws) x e = let same : (w, ws) ≡ x = cc in ap (λ (p : Word × List Word). p.0 ∷ p.1) same
 
 -- the words without their numbers
 abbrev pub unnumbered : List Word → List (List ℕ)
@@ -38,3 +30,89 @@ unnumbered ws = map (λ w. w.1) ws
 pub unnumbered-enumerate_from : (n : ℕ) (words : List (List ℕ)) → unnumbered (enumerate_from n words) ≡ words
 unnumbered-enumerate_from n [] = refl
 unnumbered-enumerate_from n (w ∷ words) = ap (λ ws. w ∷ ws) (unnumbered-enumerate_from (n + 1) words)
+
+-- a word that is found to be this one is
+said : (text word : List ℕ) → says text word ≡ true → word ≡ text
+unfolding says
+said text word e = (bytes_decides word text).0 e
+
+-- the keyword that was read stands there
+pub keyword_took : (text : List ℕ) (ws rest : List Word) → keyword text ws ≡ Ok rest → unnumbered ws ≡ text ∷ unnumbered rest
+unfolding keyword
+keyword_took text [] rest e = cc
+keyword_took text (w ∷ ws) rest e =
+    let test = test_ok (says text w.1) ws rest (UnexpectedWord w.0) e in
+    ap (λ word. word ∷ unnumbered ws) (said text w.1 test.0) ∙ ap (λ left. text ∷ unnumbered left) test.1
+
+-- the word that was read stands there, and was read as its value
+pub one_word_took : {A : Type 0} (value : Word → Result A QueryFault) (ws rest : List Word) (x : A) → one_word value ws ≡ Ok (x, rest) → (w : Word) × (unnumbered ws ≡ w.1 ∷ unnumbered rest) × (value w ≡ Ok x)
+one_word_took value [] rest x e = cc
+one_word_took {A} value (w ∷ ws) rest x e =
+    let both = bind_ok (value w) (λ y. Ok (y, ws)) (x, rest) e in
+    let pair : (both.0, ws) ≡ (x, rest) = cc in
+    (w, ap (λ (p : A × List Word). w.1 ∷ unnumbered p.1) pair, both.1 ∙ ap (λ (p : A × List Word). Ok p.0) pair)
+
+-- what was made was read, with the same words after it
+pub made_into_took : {A B : Type 0} (make : A → B) (r : Read A) (rest : List Word) (y : B) → made_into make r ≡ Ok (y, rest) → (x : A) × (r ≡ Ok (x, rest)) × (make x ≡ y)
+made_into_took {A} {B} make (Ok p) rest y e =
+    let pair : (make p.0, p.1) ≡ (y, rest) = cc in
+    (p.0, ap (λ (q : B × List Word). Ok (p.0, q.1)) pair, ap (λ (q : B × List Word). q.0) pair)
+made_into_took make (Err fault) rest y e = cc
+
+-- what is read by the first of some words was read behind that word, or by a later one
+pub by_word_took : {A : Type 0} (text : List ℕ) (reader : List Word → Read A) (others : List (List ℕ × (List Word → Read A))) (otherwise : List Word → Read A) (ws : List Word) (y : A × List Word)
+    → by_word ((text, reader) ∷ others) otherwise ws ≡ Ok y
+    → ((rest : List Word) × (unnumbered ws ≡ text ∷ unnumbered rest) × (reader rest ≡ Ok y)) ⊎ (by_word others otherwise ws ≡ Ok y)
+by_word_took text reader others otherwise [] y e = inr e
+by_word_took {A} text reader others otherwise (w ∷ ws) y e = by_test (says text w.1) refl e where
+  by_test : (b : Bool) → says text w.1 ≡ b
+      → ◌≡◌ {A = Read A} (elim (cond b (Some ws) None) [ Some rest ↦ reader rest | None ↦ by_word others otherwise (w ∷ ws) ]) (Ok y)
+      → ((rest : List Word) × (w.1 ∷ unnumbered ws ≡ text ∷ unnumbered rest) × (reader rest ≡ Ok y)) ⊎ (by_word others otherwise (w ∷ ws) ≡ Ok y)
+  by_test true same read = inl (ws, ap (λ word. word ∷ unnumbered ws) (said text w.1 same), read)
+  by_test false other read = inr read
+
+-- what a reader took: words that spell the value, before those that are left
+pub record Took (Spelt : List (List ℕ) → Type 0) (ws rest : List Word) : Type 0 where
+  pub words : List (List ℕ)
+  pub spelt : Spelt words
+  pub taken : unnumbered ws ≡ words ++ unnumbered rest
+
+-- what was taken behind a word was taken with it
+pub behind_took : (Spelt : List (List ℕ) → Type 0) (text : List ℕ) (ws left rest : List Word) → unnumbered ws ≡ text ∷ unnumbered left → Took (λ words. Spelt (text ∷ words)) left rest → Took Spelt ws rest
+behind_took Spelt text ws left rest e took = record {
+  words = text ∷ took.words;
+  spelt = took.spelt;
+  taken = e ∙ ap (λ words. text ∷ words) took.taken;
+}
+
+-- a value made of one word was taken with that word
+pub made_took : {A B : Type 0} (Spelt : List (List ℕ) → B → Type 0) (value : Word → Result A QueryFault) (make : A → B) (ws rest : List Word) (y : B)
+    → ((w : Word) (x : A) → value w ≡ Ok x → Spelt (w.1 ∷ []) (make x)) → made_into make (one_word value ws) ≡ Ok (y, rest) → Took (λ words. Spelt words y) ws rest
+made_took Spelt value make ws rest y spells e =
+    let made = made_into_took make (one_word value ws) rest y e in
+    let word = one_word_took value ws rest made.0 made.1 in
+    record {
+      words = word.0.1 ∷ [];
+      spelt = subst (λ v. Spelt (word.0.1 ∷ []) v) made.2 (spells word.0 made.0 word.2);
+      taken = word.1;
+    }
+
+-- where nothing was taken, no words are needed
+pub none_took : {B : Type 0} (Spelt : List (List ℕ) → B → Type 0) (ws rest : List Word) (none y : B) → Spelt [] none → ◌≡◌ {A = Read B} (Ok (none, ws)) (Ok (y, rest)) → Took (λ words. Spelt words y) ws rest
+none_took {B} Spelt ws rest none y spells e =
+    let pair : (none, ws) ≡ (y, rest) = cc in
+    record {
+      words = [];
+      spelt = subst (λ v. Spelt [] v) (ap (λ (p : B × List Word). p.0) pair) spells;
+      taken = ap (λ (p : B × List Word). unnumbered p.1) pair;
+    }
+
+-- a word that has a value is read as it, and the reading goes on behind it
+pub one_word_again : {A B : Type 0} (value : Word → Result A QueryFault) (n : ℕ) (word : List ℕ) (more : List (List ℕ)) (x : A) (onward : A × List Word → Result B QueryFault)
+    → value (n, word) ≡ Ok x → (one_word value (enumerate_from n (word ∷ more)) >>= onward) ≡ onward (x, enumerate_from (n + 1) more)
+one_word_again {A} value n word more x onward e = ap (λ (r : Result A QueryFault). (r >>= λ y. Ok (y, enumerate_from (n + 1) more)) >>= onward) e
+
+-- and what is made of it is made
+pub made_again : {A B : Type 0} (value : Word → Result A QueryFault) (make : A → B) (n : ℕ) (word : List ℕ) (more : List (List ℕ)) (x : A)
+    → value (n, word) ≡ Ok x → made_into make (one_word value (enumerate_from n (word ∷ more))) ≡ Ok (make x, enumerate_from (n + 1) more)
+made_again {A} value make n word more x e = ap (λ (r : Result A QueryFault). made_into make (r >>= λ y. Ok (y, enumerate_from (n + 1) more))) e

@@ -3,5 +3,7 @@ pub mod Admits
 pub mod QueryTexts
 pub mod Printed
 pub mod Words
+pub mod Readers
+pub mod WordValues
 pub mod Reading
 pub mod Spelling

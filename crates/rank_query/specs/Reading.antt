@@ -1,78 +1,107 @@
 -- Reading a query text from left to right, with the first fault that is met.
-use Rattle.std.specs.Prelude.{◌≡◌, ℕ, Bool, nat_lt, if◌then◌else◌, List, [], ◌∷◌, length, codes, Option, None, Some, Result, Ok, Err}
-use Rattle.ghcn_fields.specs.Bytes.{same_bytes}
-use Rattle.ghcn_fields.specs.Numbers.{natural}
-use Rattle.ghcn_fields.specs.Days.{is_within}
-use Rattle.ghcn_files.specs.declared.element.Element.{Element}
-use Rattle.ghcn_files.specs.Elements.{element_of}
+use Rattle.std.specs.Prelude.{ℕ, true, nat_lt, if◌then◌else◌, List, [], ◌∷◌, length, codes, Option, None, Some, Result, Ok, Err, ℤ, pos, neg_ℤ, int_le}
 use Rattle.rank_query.specs.declared.score.Score.{Score}
-use Rattle.rank_query.specs.declared.score.Score.TheVariants.{Highest}
-use Rattle.rank_query.specs.declared.region.Region.TheVariants.{Everywhere}
+use Rattle.rank_query.specs.declared.score.Score.TheVariants.{Highest, Lowest, Sum, Dry, Wet}
+use Rattle.rank_query.specs.declared.region.Region.{Region}
+use Rattle.rank_query.specs.declared.region.Region.TheVariants.{Everywhere, Inside, Country, State, Only}
 use Rattle.rank_query.specs.declared.fault.QueryFault.{QueryFault}
-use Rattle.rank_query.specs.declared.fault.QueryFault.TheVariants.{QueryTooLong, UnexpectedWord, QueryEnds, OutOfLimits}
-use Rattle.rank_query.specs.Asked.{Asked}
+use Rattle.rank_query.specs.declared.fault.QueryFault.TheVariants.{QueryTooLong, UnexpectedWord, EmptyPeriod}
+use Rattle.rank_query.specs.Asked.{Asked, is_temperature, is_fall}
 use Rattle.rank_query.specs.Words.{Word, numbered_words}
+use Rattle.rank_query.specs.Readers.{◌>>=◌, Read, next_word, keyword, one_word, made_into, by_word}
+use Rattle.rank_query.specs.WordValues.{number, element, degrees, code, date}
 
--- what is read goes on to the next reader, and a fault ends the reading
-infixl 10 ◌>>=◌
-abbrev pub ◌>>=◌ : {A B : Type 0} → Result A QueryFault → (A → Result B QueryFault) → Result B QueryFault
-(Ok x) >>= f = f x
-(Err e) >>= f = Err e
-
--- what a reader answers: a value and the words after it, or the first fault
-abbrev pub Read : Type 0 → Type 0
-Read A = Result (A × List Word) QueryFault
-
--- what a call answered, seen by a view, is what reading gives
-abbrev pub Gives : {X Y : Type 0} → (X → Y) → Result X QueryFault → Result Y QueryFault → Type 0
-Gives view (Ok x) read = read ≡ Ok (view x)
-Gives view (Err e) read = read ≡ Err e
-
--- the value, or this fault where there is none
-abbrev pub or_fault : {A : Type 0} → QueryFault → Option A → Result A QueryFault
-or_fault fault None = Err fault
-or_fault fault (Some x) = Ok x
-
--- the next word, which is needed
-abbrev pub next_word : List Word → Read Word
-next_word [] = Err QueryEnds
-next_word (w ∷ ws) = Ok (w, ws)
-
--- the word is this one, byte for byte
-unfoldable pub says : List ℕ → List ℕ → Bool
-says text word = same_bytes word text
-
--- the words after this one given word
-unfoldable pub keyword : List ℕ → List Word → Result (List Word) QueryFault
-keyword text ws = do
+-- no score: another word stands there, or none
+unfoldable pub no_score_at : List Word → Read Score
+no_score_at ws = do
   w ← next_word ws
-  if says text w.0.1 then Ok w.1 else Err (UnexpectedWord w.0.0)
-
--- a number that digits write, within its limits
-unfoldable pub number_within : ℕ → ℕ → List Word → Read ℕ
-number_within low high ws = do
-  w ← next_word ws
-  n ← or_fault (UnexpectedWord w.0.0) (natural w.0.1)
-  if is_within low high n then Ok (n, w.1) else Err (OutOfLimits w.0.0)
-
--- the element that a word names
-unfoldable pub element_at : List Word → Read Element
-element_at ws = do
-  w ← next_word ws
-  e ← or_fault (UnexpectedWord w.0.0) (element_of w.0.1)
-  Ok (e, w.1)
+  Err (UnexpectedWord w.0.0)
 
 -- the highest values of an element
-unfoldable pub highest_at : List Word → Read Score
-highest_at ws = do
-  e ← element_at ws
-  Ok (Highest e.0, e.1)
+abbrev pub highest_at : List Word → Read Score
+highest_at ws = made_into Highest (one_word (element (λ e. true)) ws)
 
--- a score, which its first word tells
+-- the lowest values of a temperature
+abbrev pub lowest_at : List Word → Read Score
+lowest_at ws = made_into Lowest (one_word (element is_temperature) ws)
+
+-- the sums of some days of rain or snow
+unfoldable pub sum_at : List Word → Read Score
+sum_at ws = do
+  n ← one_word (number 1 366) ws
+  e ← one_word (element is_fall) n.1
+  Ok (Sum n.0 e.0, e.1)
+
+-- dry spells
+abbrev pub dry_at : List Word → Read Score
+dry_at ws = Ok (Dry, ws)
+
+-- wet spells
+abbrev pub wet_at : List Word → Read Score
+wet_at ws = Ok (Wet, ws)
+
+-- a score, by its first word
 unfoldable pub score_at : List Word → Read Score
-score_at ws = do
-  w ← next_word ws
-  if says (codes "highest") w.0.1 then highest_at w.1 else Err (UnexpectedWord w.0.0)
+score_at ws =
+    by_word ((codes "highest", highest_at) ∷ (codes "lowest", lowest_at) ∷ (codes "sum", sum_at) ∷ (codes "dry", dry_at) ∷ (codes "wet", wet_at) ∷ []) no_score_at ws
+
+-- degrees of latitude, from a southernmost one to the north pole
+abbrev pub latitude_from : ℤ → Word → Result ℤ QueryFault
+latitude_from south w = degrees south (pos 900_000) w
+
+-- degrees of longitude
+abbrev pub longitude : Word → Result ℤ QueryFault
+longitude w = degrees (neg_ℤ (pos 1_800_000)) (pos 1_800_000) w
+
+-- the edges of a box, of which the northern one isn't south of the southern one
+unfoldable pub box_at : List Word → Read Region
+box_at ws = do
+  south ← one_word (latitude_from (neg_ℤ (pos 900_000))) ws
+  west ← one_word longitude south.1
+  north ← one_word (latitude_from south.0) west.1
+  east ← one_word longitude north.1
+  Ok (Inside south.0 west.0 north.0 east.0, east.1)
+
+-- the country of a code
+abbrev pub country_at : List Word → Read Region
+country_at ws = made_into Country (one_word (code 2) ws)
+
+-- the state of a code
+abbrev pub state_at : List Word → Read Region
+state_at ws = made_into State (one_word (code 2) ws)
+
+-- the station of an ID
+abbrev pub station_at : List Word → Read Region
+station_at ws = made_into (λ id. Only (record { 0 = id })) (one_word (code 11) ws)
+
+-- all stations, without a word
+abbrev pub everywhere_at : List Word → Read Region
+everywhere_at ws = Ok (Everywhere, ws)
+
+-- a region, by its first word, and without one all stations
+unfoldable pub region_at : List Word → Read Region
+region_at ws =
+    by_word ((codes "box", box_at) ∷ (codes "country", country_at) ∷ (codes "state", state_at) ∷ (codes "station", station_at) ∷ []) everywhere_at ws
+
+-- the first and the last day of a period, which isn't before the first
+unfoldable pub days_at : List Word → Read (ℤ × ℤ)
+days_at ws = do
+  first ← one_word date ws
+  after_to ← keyword (codes "to") first.1
+  last ← one_word date after_to
+  if int_le first.0 last.0 then Ok ((first.0, last.0), last.1) else Err EmptyPeriod
+
+-- a period between two days
+abbrev pub between_at : List Word → Read (Option (ℤ × ℤ))
+between_at ws = made_into Some (days_at ws)
+
+-- all days, without a word
+abbrev pub always_at : List Word → Read (Option (ℤ × ℤ))
+always_at ws = Ok (None, ws)
+
+-- a period, by its first word, and without one all days
+unfoldable pub period_at : List Word → Read (Option (ℤ × ℤ))
+period_at ws = by_word ((codes "from", between_at) ∷ []) always_at ws
 
 -- the query, where no word is left
 abbrev pub nothing_more : List Word → Asked → Result Asked QueryFault
@@ -83,9 +112,11 @@ nothing_more (w ∷ ws) q = Err (UnexpectedWord w.0)
 unfoldable pub read_words : List Word → Result Asked QueryFault
 read_words ws = do
   after_top ← keyword (codes "top") ws
-  k ← number_within 1 1000 after_top
+  k ← one_word (number 1 1000) after_top
   score ← score_at k.1
-  nothing_more score.1 (record { k = k.0; score = score.0; region = Everywhere; period = None })
+  region ← region_at score.1
+  period ← period_at region.1
+  nothing_more period.1 (record { k = k.0; score = score.0; region = region.0; period = period.0 })
 
 -- the query of a text of at most 256 bytes
 unfoldable pub read_query : List ℕ → Result Asked QueryFault

@@ -1,5 +1,5 @@
 -- Which query a text spells, whatever the blanks between its words, leading zeros and decimals.
-use Rattle.std.specs.Prelude.{◌≡◌, ℕ, ◌≤◌, Bool, true, false, ◌&&◌, List, [], ◌∷◌, ◌++◌, length, codes, Option, None, Some, ℤ}
+use Rattle.std.specs.Prelude.{◌≡◌, ℕ, ◌≤◌, true, List, [], ◌∷◌, ◌++◌, length, codes, Option, None, Some, ℤ}
 use Rattle.std.specs.List.{list_all}
 use Rattle.std.specs.Char.{is_ascii_digit}
 use Rattle.std.specs.Str.Parse.{digits_value}
@@ -63,28 +63,3 @@ pub record IsSpelling (text : List ℕ) (q : Asked) : Type 0 where
   pub spells_score : SpellsScore score q.score
   pub spells_region : SpellsRegion region q.region
   pub spells_period : SpellsPeriod period q.period
-
--- a score that the language has so far
-abbrev pub has_score : Score → Bool
-has_score (Highest e) = true
-has_score (Lowest e) = false
-has_score (Sum n e) = false
-has_score Dry = false
-has_score Wet = false
-
--- a region that the language has so far
-abbrev pub has_region : Region → Bool
-has_region Everywhere = true
-has_region (Inside south west north east) = false
-has_region (Country code) = false
-has_region (State code) = false
-has_region (Only id) = false
-
--- a period that the language has so far
-abbrev pub has_period : Option (ℤ × ℤ) → Bool
-has_period None = true
-has_period (Some p) = false
-
--- the language has this query so far: a highest value of all stations and days
-abbrev pub has_query : Asked → Bool
-has_query q = has_score q.score && has_region q.region && has_period q.period

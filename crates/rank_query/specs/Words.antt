@@ -1,7 +1,7 @@
 -- The words of a query text.
-use Rattle.std.specs.Prelude.{ℕ, Bool, ◌==◌, not, List, length, filter}
+use Rattle.std.specs.Prelude.{ℕ, Bool, ◌==◌, not, if◌then◌else◌, List, [], ◌∷◌, length, filter, Option, None, Some}
 use Rattle.std.specs.List.{slice_split, enumerate_from}
-use Rattle.ghcn_fields.specs.Bytes.{blank_byte}
+use Rattle.ghcn_fields.specs.Bytes.{blank_byte, same_bytes}
 
 -- a byte that separates words
 abbrev pub is_separator : ℕ → Bool
@@ -22,3 +22,12 @@ Word = ℕ × List ℕ
 -- each word of a text with its number, from 1
 abbrev pub numbered_words : List ℕ → List Word
 numbered_words text = enumerate_from 1 (words_of text)
+
+-- the word is this one, byte for byte
+unfoldable pub says : List ℕ → List ℕ → Bool
+says text word = same_bytes word text
+
+-- the words after this one, where it comes next
+abbrev pub after : List ℕ → List Word → Option (List Word)
+after text [] = None
+after text (w ∷ ws) = if says text w.1 then Some ws else None

@@ -10,6 +10,7 @@ mod query;
 mod region;
 mod score;
 mod text;
+mod values;
 mod words;
 
 pub use fault::QueryFault;

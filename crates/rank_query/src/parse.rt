@@ -1,23 +1,32 @@
 //! Reading a query text from left to right, up to the first fault.
 
-ghost use Rattle.std.specs.Prelude.{◌≡◌, ◌+◌, ◌<◌, ◌≤◌, ◌^◌, length, min, IfOk, IsTrue};
-ghost use Rattle.std.specs.Option.{option_map};
-ghost use Rattle.ghcn_fields.specs.Numbers.{natural};
-ghost use Rattle.ghcn_fields.specs.Days.{is_within};
-ghost use Rattle.rank_query.specs.Asked.{Asked, IsAsked, is_score};
+ghost use Rattle.std.specs.Prelude.{◌≡◌, ◌≤◌, length, Some, IfOk, IsTrue};
+ghost use Rattle.rank_query.specs.Asked.{Asked, IsAsked, is_score, is_region, is_period};
 ghost use Rattle.rank_query.specs.QueryTexts.{query_text};
-ghost use Rattle.rank_query.specs.Spelling.{IsSpelling, has_query};
+ghost use Rattle.rank_query.specs.Spelling.{IsSpelling};
+ghost use Rattle.rank_query.specs.Readers.{Gives};
 ghost use Rattle.rank_query.specs.Reading as reading;
 
+use crate::values::{code, date, degrees, element, fall, keyword, needed, number, temperature};
 use crate::words::Words;
 use crate::{Query, QueryFault, Region, Score};
-use ghcn_files::Element;
+use ghcn_fields::Day;
+use ghcn_files::StationId;
 
 /// The longest query text, in bytes.
 const LONGEST: usize = 256;
 
 /// The greatest number of rows that can be asked for.
 const MOST_ROWS: u64 = 1000;
+
+/// The greatest number of days that are added up.
+const MOST_DAYS: u64 = 366;
+
+/// The latitude of the north pole, in ten-thousandths of a degree.
+const MOST_NORTH: i32 = 900_000;
+
+/// The greatest longitude, in ten-thousandths of a degree.
+const MOST_EAST: i32 = 1_800_000;
 
 impl Query {
     /// The query that a text asks. Of several faults the first from the left is told.
@@ -27,11 +36,10 @@ impl Query {
         // What is read as a query spells it.
         ensures spelt { IfOk result (λ q. IsSpelling text.now q) }
         // What spells a query is read as it.
-        ensures only { (q : Asked) → IsAsked q → IsTrue (has_query q) → IsSpelling text.now q
-            → length text.now ≤ 256 → result ≡ Ok q }
-        // So is its canonical text.
-        ensures canonical { (q : Asked) → IsAsked q → IsTrue (has_query q) → text.now ≡ query_text q
+        ensures only { (q : Asked) → IsAsked q → IsSpelling text.now q → length text.now ≤ 256
             → result ≡ Ok q }
+        // So is its canonical text.
+        ensures canonical { (q : Asked) → IsAsked q → text.now ≡ query_text q → result ≡ Ok q }
     {
         query_of_text(text)
     }
@@ -52,102 +60,115 @@ fn query_of(words: &mut Words) -> Result<Query, QueryFault>
     ensures { result ≡ reading.read_words words.old }
 {
     keyword(words, b"top")?;
-    let k = number_within(words, 1, MOST_ROWS)?;
+    let k = number(words, 1, MOST_ROWS)?;
     let score = score(words)?;
+    let region = region(words)?;
+    let period = period(words)?;
     match words.next() {
         Some((at, _)) => Err(QueryFault::UnexpectedWord(at)),
         None => Ok(Query {
             k,
             score,
-            region: Region::Everywhere,
-            period: None,
+            region,
+            period,
         }),
     }
 }
 
-#[tactic(auto, unfolding(crate::specs::Reading::score_at))]
+#[tactic(auto, unfolding(crate::specs::Reading::score_at, crate::specs::Reading::no_score_at))]
 fn score(words: &mut Words) -> Result<Score, QueryFault>
-    ensures read { reading.Gives (λ s. (s, words.new)) result (reading.score_at words.old) }
+    ensures read { Gives (λ s. (s, words.new)) result (reading.score_at words.old) }
     ensures asked { IfOk result (λ s. IsTrue (is_score s)) }
 {
-    let (at, word) = needed(words)?;
-    if says(b"highest", word) {
-        return highest(words);
+    if words.take_if(b"highest") {
+        return Ok(Score::Highest(element(words)?));
     }
+    if words.take_if(b"lowest") {
+        return Ok(Score::Lowest(temperature(words)?));
+    }
+    if words.take_if(b"sum") {
+        return sum(words);
+    }
+    if words.take_if(b"dry") {
+        return Ok(Score::Dry);
+    }
+    if words.take_if(b"wet") {
+        return Ok(Score::Wet);
+    }
+    let (at, _) = needed(words)?;
     Err(QueryFault::UnexpectedWord(at))
 }
 
-#[tactic(auto, unfolding(crate::specs::Reading::highest_at))]
-fn highest(words: &mut Words) -> Result<Score, QueryFault>
-    ensures read { reading.Gives (λ s. (s, words.new)) result (reading.highest_at words.old) }
+/// So many days, and what is added up over them.
+#[tactic(auto, unfolding(crate::specs::Reading::sum_at))]
+fn sum(words: &mut Words) -> Result<Score, QueryFault>
+    ensures read { Gives (λ s. (s, words.new)) result (reading.sum_at words.old) }
     ensures asked { IfOk result (λ s. IsTrue (is_score s)) }
 {
-    Ok(Score::Highest(element(words)?))
+    let days = number(words, 1, MOST_DAYS)?;
+    Ok(Score::Sum(days as u16, fall(words)?))
 }
 
-#[tactic(auto, unfolding(crate::specs::Reading::element_at))]
-fn element(words: &mut Words) -> Result<Element, QueryFault>
-    ensures { reading.Gives (λ e. (e, words.new)) result (reading.element_at words.old) }
+#[tactic(auto, unfolding(crate::specs::Reading::region_at))]
+fn region(words: &mut Words) -> Result<Region, QueryFault>
+    ensures read { Gives (λ r. (r, words.new)) result (reading.region_at words.old) }
+    ensures asked { IfOk result (λ r. IsTrue (is_region r)) }
 {
-    let (at, word) = needed(words)?;
-    Element::of_code(word).ok_or(QueryFault::UnexpectedWord(at))
-}
-
-/// A number from `low` to `high`, with leading zeros or without.
-#[tactic(auto, unfolding(crate::specs::Reading::number_within))]
-fn number_within(words: &mut Words, low: u64, high: u64) -> Result<u64, QueryFault>
-    requires { high < 2 ^ 32 }
-    ensures read { reading.Gives (λ n. (n, words.new)) result (reading.number_within low high words.old) }
-    ensures within { IfOk result (λ n. IsTrue (is_within low high n)) }
-{
-    let (at, word) = needed(words)?;
-    match number_up_to(word, high) {
-        None => Err(QueryFault::UnexpectedWord(at)),
-        Some(number) if low <= number && number <= high => Ok(number),
-        Some(_) => Err(QueryFault::OutOfLimits(at)),
+    if words.take_if(b"box") {
+        return edges(words);
     }
-}
-
-/// The number that digits write, or one past `most` in place of any greater number.
-fn number_up_to(digits: &[u8], most: u64) -> Option<u64>
-    requires { most < 2 ^ 32 }
-    ensures { result ≡ option_map (min (most + 1)) (natural digits.now) }
-{
-    if digits.is_empty() {
-        return None;
+    if words.take_if(b"country") {
+        return Ok(Region::Country(code(words)?));
     }
-    let mut value: u64 = 0;
-    for digit in digits {
-        if !digit.is_ascii_digit() {
-            return None;
-        }
-        value = (value * 10 + (*digit - b'0') as u64).min(most + 1);
+    if words.take_if(b"state") {
+        return Ok(Region::State(code(words)?));
     }
-    Some(value)
-}
-
-#[tactic(auto, unfolding(crate::specs::Reading::keyword))]
-fn keyword(words: &mut Words, expected: &[u8]) -> Result<(), QueryFault>
-    ensures { reading.Gives (λ _. words.new) result (reading.keyword expected.now words.old) }
-{
-    let (at, word) = needed(words)?;
-    if !says(expected, word) {
-        return Err(QueryFault::UnexpectedWord(at));
+    if words.take_if(b"station") {
+        return Ok(Region::Only(StationId(code(words)?)));
     }
-    Ok(())
+    Ok(Region::Everywhere)
 }
 
-/// Whether a word is this one, byte for byte.
-#[tactic(auto, unfolding(crate::specs::Reading::says))]
-fn says(expected: &[u8], word: &[u8]) -> bool
-    ensures { result ≡ reading.says expected.now word.now }
+/// The box of these edges: south, west, north and east.
+#[tactic(auto, unfolding(crate::specs::Reading::box_at))]
+fn edges(words: &mut Words) -> Result<Region, QueryFault>
+    ensures read { Gives (λ r. (r, words.new)) result (reading.box_at words.old) }
+    ensures asked { IfOk result (λ r. IsTrue (is_region r)) }
 {
-    word == expected
+    let south = degrees(words, -MOST_NORTH, MOST_NORTH)?;
+    let west = degrees(words, -MOST_EAST, MOST_EAST)?;
+    let north = degrees(words, south, MOST_NORTH)?;
+    let east = degrees(words, -MOST_EAST, MOST_EAST)?;
+    Ok(Region::Inside {
+        south,
+        west,
+        north,
+        east,
+    })
 }
 
-/// The next word, with its number.
-fn needed<'a>(words: &mut Words<'a>) -> Result<(u64, &'a [u8]), QueryFault>
-    ensures { reading.Gives (λ w. ((w.0, w.1.now), words.new)) result (reading.next_word words.old) }
+#[tactic(auto, unfolding(crate::specs::Reading::period_at))]
+fn period(words: &mut Words) -> Result<Option<(Day, Day)>, QueryFault>
+    ensures read { Gives (λ p. (p, words.new)) result (reading.period_at words.old) }
+    ensures asked { IfOk result (λ p. IsTrue (is_period p)) }
 {
-    words.next().ok_or(QueryFault::QueryEnds)
+    if words.take_if(b"from") {
+        return Ok(Some(days(words)?));
+    }
+    Ok(None)
+}
+
+/// The first and the last day of a period.
+#[tactic(auto, unfolding(crate::specs::Reading::days_at))]
+fn days(words: &mut Words) -> Result<(Day, Day), QueryFault>
+    ensures read { Gives (λ p. (p, words.new)) result (reading.days_at words.old) }
+    ensures asked { IfOk result (λ p. IsTrue (is_period (Some p))) }
+{
+    let first = date(words)?;
+    keyword(words, b"to")?;
+    let last = date(words)?;
+    if last.number() < first.number() {
+        return Err(QueryFault::EmptyPeriod);
+    }
+    Ok((first, last))
 }

@@ -1,9 +1,10 @@
 //! The words of a query text: its longest runs of bytes other than blanks.
 
-ghost use Rattle.std.specs.Prelude.{◌≡◌};
+ghost use Rattle.std.specs.Prelude.{◌≡◌, false, Some, None, if◌then◌else◌};
 ghost use Rattle.std.specs.List.{position, position_or_len};
 ghost use Rattle.ghcn_fields.specs.Numbers.{after_blanks};
-ghost use Rattle.rank_query.specs.Words.{is_separator, numbered_words};
+ghost use Rattle.rank_query.specs.Words as words;
+ghost use Rattle.rank_query.specs.Words.{is_separator, numbered_words, after};
 
 use std::marker::Model;
 
@@ -39,6 +40,32 @@ impl<'a> Words<'a> {
             text: text.as_bytes(),
         }
     }
+
+    /// Takes the next word where it is this one.
+    pub(crate) fn take_if(&mut self, expected: &[u8]) -> bool
+        ensures taken { after expected.now self.old ≡ (if result then Some self.new else None) }
+        ensures left { result ≡ false → self.new ≡ self.old }
+    {
+        let mut rest = Words {
+            given: self.given,
+            text: self.text,
+        };
+        match rest.next() {
+            Some((_, word)) if says(expected, word) => {
+                *self = rest;
+                true
+            }
+            _ => false,
+        }
+    }
+}
+
+/// Whether a word is this one, byte for byte.
+#[tactic(auto, unfolding(crate::specs::Words::says))]
+pub(crate) fn says(expected: &[u8], word: &[u8]) -> bool
+    ensures { result ≡ words.says expected.now word.now }
+{
+    word == expected
 }
 
 impl<'a> Iterator for Words<'a> {

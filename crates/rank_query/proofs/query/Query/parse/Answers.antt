@@ -9,9 +9,9 @@ pub returns-clause-spelt : goal.returns-clause-spelt
 returns-clause-spelt c = if_read_spells c.args.text.now _ c.query_of_text.ensures
 
 pub returns-clause-only : goal.returns-clause-only
-returns-clause-only c = λ q asked has spelling short. c.query_of_text.ensures ∙ spelling_read c.args.text.now q asked has spelling short
+returns-clause-only c = λ q asked spelling short. c.query_of_text.ensures ∙ spelling_read c.args.text.now q asked spelling short
 
 pub returns-clause-canonical : goal.returns-clause-canonical
-returns-clause-canonical c = λ q asked has e.
-    let it = canonical q asked has in
-    c.query_of_text.ensures ∙ ap read_query e ∙ spelling_read (query_text q) q asked has it.spells it.short
+returns-clause-canonical c = λ q asked e.
+    let it = canonical q asked in
+    c.query_of_text.ensures ∙ ap read_query e ∙ spelling_read (query_text q) q asked it.spells it.short

@@ -1,0 +1,267 @@
+//! Worked examples of daily files and the series that they hold.
+
+use super::*;
+use ghcn_fields::{Day, Memory};
+use ghcn_files::{Element, LineWhy, StationId, Stations};
+use std::alloc::Global;
+use std::test::Fail;
+
+const STATIONS: &[u8] = b"ZZA00000001  10.0000   20.0000  100.0    ALPHA
+ZZA00000002  11.0000   21.0000  100.0    BRAVO
+";
+
+const A: StationId = StationId(*b"ZZA00000001");
+
+const B: StationId = StationId(*b"ZZA00000002");
+
+/// 2020-07-01.
+const JULY: i32 = 18_444;
+
+/// A line of 269 columns whose days are missing, but for the groups that are given.
+fn line_of(head: &[u8; 21], groups: &[(usize, &[u8; 8])]) -> [u8; 269] {
+    let mut line = [b' '; 269];
+    line[..21].copy_from_slice(head);
+    for day in 0..31 {
+        line[21 + 8 * day..26 + 8 * day].copy_from_slice(b"-9999");
+    }
+    for (day, group) in groups {
+        if 1 <= *day && *day <= 31 {
+            line[13 + 8 * *day..21 + 8 * *day].copy_from_slice(*group);
+        }
+    }
+    line
+}
+
+/// The lines one below the other, each with this end.
+fn text_of(alloc: Global, lines: &[&[u8]], end: &[u8]) -> Result<Vec<u8>, Fail> {
+    let mut text = Vec::new(alloc);
+    for line in lines {
+        text.extend_from_slice(line)?;
+        text.extend_from_slice(end)?;
+    }
+    Ok(text)
+}
+
+/// What the files say of the two stations.
+fn read(alloc: Global, files: &[&[u8]]) -> Result<Data, DataFault> {
+    match Stations::read(alloc, STATIONS) {
+        Ok(stations) => Data::read(alloc, stations, files),
+        Err(_) => Err(DataFault::Memory(Memory)),
+    }
+}
+
+#[test]
+fn usable_values(rt: HostRuntime) -> Result<(), Fail> {
+    let cases: [(&[u8; 4], Element, &[u8; 8], Option<i32>); 12] = [
+        (b"TMAX", Element::Tmax, b"  311   ", Some(311)),
+        (b"TMAX", Element::Tmax, b"  311D W", Some(311)),
+        (b"TMAX", Element::Tmax, b"  311 X ", None),
+        (b"TMAX", Element::Tmax, b"-9999   ", None),
+        (b"TMAX", Element::Tmax, b"        ", None),
+        (b"TMAX", Element::Tmax, b"   -1   ", Some(-1)),
+        (b"TMIN", Element::Tmin, b"-9998   ", Some(-9998)),
+        (b"PRCP", Element::Prcp, b"   -1   ", None),
+        (b"PRCP", Element::Prcp, b"    0   ", Some(0)),
+        (b"SNOW", Element::Snow, b"   -1   ", None),
+        (b"SNWD", Element::Snwd, b"   -1   ", None),
+        (b"SNWD", Element::Snwd, b"  250   ", Some(250)),
+    ];
+    for (code, element, group, expected) in cases {
+        let mut head = *b"ZZA00000001202007....";
+        head[17..].copy_from_slice(code);
+        let data = read(rt.alloc(), &[&line_of(&head, &[(1, group)])])?;
+        let july = Day::with_number(JULY).ok_or("no day")?;
+        let found = data.series(&A, element).and_then(|it| it.value(july));
+        assert_eq!(rt; found, expected, "at {code:?} {group:?}");
+        assert_eq!(rt; data.series(&A, element).is_some(), expected.is_some());
+    }
+    Ok(())
+}
+
+#[test]
+fn series_of_months_in_any_order(rt: HostRuntime) -> Result<(), Fail> {
+    let july = line_of(
+        b"ZZA00000001202007TMAX",
+        &[(1, b"  311   "), (31, b"  305   ")],
+    );
+    let other = line_of(b"ZZA00000002202007TMAX", &[(1, b"  250   ")]);
+    let june = line_of(
+        b"ZZA00000001202006TMAX",
+        &[(30, b"  299   "), (31, b"  999   ")],
+    );
+    let data = read(rt.alloc(), &[&july, &other, &june])?;
+    let series = data.series(&A, Element::Tmax).ok_or("no series")?;
+    assert_eq!(rt; series.id(), A);
+    assert_eq!(rt; series.element(), Element::Tmax);
+    let (first, last) = series.span();
+    assert_eq!(rt; (first.number(), last.number()), (JULY - 1, JULY + 30));
+    let days: [(i32, i32); 3] = [(JULY - 1, 299), (JULY, 311), (JULY + 30, 305)];
+    let mut at = 0;
+    for (day, value) in series.days() {
+        assert_eq!(rt; Some(&(day.number(), value)), days.get(at), "at {at}");
+        at = at.saturating_add(1);
+    }
+    assert_eq!(rt; at, days.len());
+    assert_eq!(rt; data.series(&A, Element::Tmin).is_some(), false);
+    assert_eq!(rt; data.series(&B, Element::Tmax).is_some(), true);
+    assert_eq!(rt; data.stations().len(), 2);
+    assert_eq!(rt; data.unlisted(), 0);
+    Ok(())
+}
+
+#[test]
+fn days_that_the_month_lacks(rt: HostRuntime) -> Result<(), Fail> {
+    let cases: [(&[u8; 21], u8); 4] = [
+        (b"ZZA00000001190002TMAX", 28),
+        (b"ZZA00000001200002TMAX", 29),
+        (b"ZZA00000001202011TMAX", 30),
+        (b"ZZA00000001999912TMAX", 31),
+    ];
+    for (head, length) in cases {
+        let groups: [(usize, &[u8; 8]); 4] = [
+            (28, b"  100   "),
+            (29, b"  500   "),
+            (30, b"  500   "),
+            (31, b"  500   "),
+        ];
+        let data = read(rt.alloc(), &[&line_of(head, &groups)])?;
+        let series = data.series(&A, Element::Tmax).ok_or("no series")?;
+        let (_, _, last) = series.span().1.civil();
+        assert_eq!(rt; last, length, "at {head:?}");
+    }
+    Ok(())
+}
+
+/// How many lines of two files were passed over, or their fault.
+fn unlisted_of(alloc: Global, one: &[u8], two: &[u8]) -> Result<u64, DataFault> {
+    read(alloc, &[one, two]).map(|data| data.unlisted())
+}
+
+/// The fault of a line.
+fn refused(file: u64, line: u64, why: DailyWhy) -> Result<u64, DataFault> {
+    Err(DataFault::DailyLine { file, line, why })
+}
+
+#[test]
+fn first_fault_of_the_files(rt: HostRuntime) -> Result<(), Fail> {
+    let first = line_of(b"ZZA00000001202007TMAX", &[(1, b"  311   ")]);
+    let second = line_of(b"ZZA00000002202007TMAX", &[(1, b"  311   ")]);
+    let letters = line_of(b"ZZA00000002202007TMAX", &[(3, b"12 34   ")]);
+    let bad = text_of(rt.alloc(), &[&first, b"  ", &letters], b"\r\n")?;
+    let doubled = text_of(rt.alloc(), &[&second, &second], b"\n")?;
+    let two_faults = text_of(rt.alloc(), &[b"", &first, b"x"], b"\n")?;
+    let other = text_of(rt.alloc(), &[b"ZZA00000001202007WSFG", &first], b"\r\n")?;
+    let third = DailyWhy::Line(LineWhy::BadValue(3));
+    let again = DailyWhy::DuplicateMonth;
+    let cases: [(&str, &[u8], &[u8], Result<u64, DataFault>); 6] = [
+        ("no lines", b"", b"\n\r\n", Ok(0)),
+        ("a bad value", &bad, &first, refused(1, 3, third)),
+        ("a month in two files", &first, &first, refused(2, 1, again)),
+        (
+            "a month in one file",
+            &doubled,
+            &first,
+            refused(1, 2, again),
+        ),
+        (
+            "the first of two faults",
+            &first,
+            &two_faults,
+            refused(2, 2, again),
+        ),
+        ("another element", &other, &second, Ok(0)),
+    ];
+    for (name, one, two, expected) in cases {
+        assert_eq!(rt; unlisted_of(rt.alloc(), one, two), expected, "{name}");
+    }
+    Ok(())
+}
+
+#[test]
+fn lines_of_unlisted_stations(rt: HostRuntime) -> Result<(), Fail> {
+    let unlisted = line_of(b"ZZA00000009202007TMAX", &[(1, b"  400   ")]);
+    let twice = text_of(rt.alloc(), &[&unlisted, &unlisted], b"\n")?;
+    assert_eq!(rt;
+        unlisted_of(rt.alloc(), &twice, &unlisted),
+        Ok(3),
+        "one month"
+    );
+    let other: &[u8] = b"ZZA00000009202007WSFG";
+    assert_eq!(rt;
+        unlisted_of(rt.alloc(), other, b""),
+        Ok(0),
+        "another element"
+    );
+    let short = DailyWhy::Line(LineWhy::Short);
+    let cut: &[u8] = b"ZZA00000009202007TMAX";
+    let found = unlisted_of(rt.alloc(), b"", cut);
+    assert_eq!(rt; found, refused(2, 1, short), "tested as any line");
+    Ok(())
+}
+
+#[test]
+fn daily_lines_cut_to_each_length(rt: HostRuntime) -> Result<(), Fail> {
+    let july = line_of(b"ZZA00000001202007TMAX", &[(1, b"  311   ")]);
+    let june = line_of(b"ZZA00000001202006TMAX", &[(1, b"  299   ")]);
+    let other = line_of(b"ZZA00000002202007TMAX", &[(1, b"  250   ")]);
+    let lines: [&[u8]; 3] = [&july, &june, &other];
+    let text = text_of(rt.alloc(), &lines, b"\n")?;
+    assert_eq!(rt; text.len(), 810);
+    for length in 0..=810 {
+        let expected = match length % 270 {
+            0 | 266..=269 => Ok(0),
+            _ => Err(DataFault::DailyLine {
+                file: 1,
+                line: length as u64 / 270 + 1,
+                why: DailyWhy::Line(LineWhy::Short),
+            }),
+        };
+        let found = read(rt.alloc(), &[&text[..length.min(text.len())]]).map(
+            |data| data.unlisted(),
+        );
+        assert_eq!(rt; found, expected, "at {length} bytes");
+    }
+    Ok(())
+}
+
+#[test]
+fn at_most_a_million_files(rt: HostRuntime) -> Result<(), Fail> {
+    let none: &[u8] = b"";
+    let mut files = Vec::with_capacity(rt.alloc(), (1 << 20) + 1)?;
+    for _ in 0..1 << 20 {
+        files.push(none)?;
+    }
+    assert_eq!(rt; read(rt.alloc(), &files).map(|data| data.unlisted()), Ok(0));
+    files.push(none)?;
+    let found = read(rt.alloc(), &files).map(|data| data.unlisted());
+    assert_eq!(rt; found, Err(DataFault::TooManyFiles));
+    Ok(())
+}
+
+#[test]
+fn lines_of_faults(rt: HostRuntime) -> Result<(), Fail> {
+    let cases = [
+        (
+            DataFault::DailyLine {
+                file: 2,
+                line: 1,
+                why: DailyWhy::DuplicateMonth,
+            },
+            "refused 5 DailyLine file 2 line 1 DuplicateMonth",
+        ),
+        (
+            DataFault::DailyLine {
+                file: 1,
+                line: 12,
+                why: DailyWhy::Line(LineWhy::BadValue(3)),
+            },
+            "refused 5 DailyLine file 1 line 12 BadValue 3",
+        ),
+        (DataFault::TooManyFiles, "refused 6 TooManyFiles"),
+        (DataFault::Memory(Memory), "refused 3 Memory"),
+    ];
+    for (fault, line) in cases {
+        assert_eq!(rt; fault.to_string(rt.alloc())?.as_str(), line);
+    }
+    Ok(())
+}

@@ -1,0 +1,137 @@
+-- What a single word is read as spells it, and what spells a value is read as it.
+use Rattle.std.proofs.Common.{◌≡◌, ℕ, zero, suc, ◌≤◌, Bool, true, false, cond, ◌&&◌, List, [], ◌∷◌, ◌++◌, length, replicate, Option, Some, None, Result, Ok, Err, refl, sym, ap, ◌∙◌, subst, FitsSigned, w32, arith}
+use Rattle.std.specs.Prelude.{ℤ, int_le}
+use Rattle.std.specs.List.{find, list_all}
+use Rattle.std.specs.Char.{is_ascii_digit}
+use Rattle.std.specs.Str.Parse.{digits_value}
+use Rattle.std.specs.Cmp.Lexicographic.{bytes_decides}
+use Rattle.std.proofs.lemmas.Option.{cond_some}
+use Rattle.ghcn_fields.specs.declared.field.Field.{Field}
+use Rattle.ghcn_fields.specs.declared.field.Field.TheVariants.{Blank, Number, Bad}
+use Rattle.ghcn_fields.specs.Bytes.{same_bytes}
+use Rattle.ghcn_fields.specs.Days.{is_within, is_day}
+use Rattle.ghcn_fields.specs.Dates.{date_text, read_date}
+use Rattle.ghcn_fields.specs.Fields.{Spells, HasNumber}
+use Rattle.ghcn_fields.specs.Numbers.{natural, scaled_field}
+use Rattle.ghcn_fields.proofs.DateTexts.{read_date-law}
+use Rattle.ghcn_fields.proofs.FieldNumbers.{scaled_field-number}
+use Rattle.ghcn_files.specs.declared.element.Element.{Element}
+use Rattle.ghcn_files.specs.declared.element.Element.TheVariants.{Prcp, Snow, Snwd, Tmax, Tmin}
+use Rattle.ghcn_files.specs.Elements.{code_of, element_of, elements}
+use Rattle.ghcn_files.specs.StationLines.{is_number_within, number_of}
+use Rattle.rank_query.specs.declared.fault.QueryFault.TheVariants.{UnexpectedWord, OutOfLimits, BadDate, BadBox}
+use Rattle.rank_query.specs.Asked.{is_code}
+use Rattle.rank_query.specs.Words.{Word}
+use Rattle.rank_query.specs.Readers.{◌>>=◌, or_fault}
+use Rattle.rank_query.specs.WordValues.{number, element, degrees, code, date}
+use Rattle.rank_query.specs.Spelling.{IsNumeralOf}
+use Rattle.rank_query.proofs.OneWords.{stands_in_word, HasNoBlank}
+use Rattle.rank_query.proofs.ReadingSteps.{bind_ok, test_ok, or_fault_ok}
+
+-- digits alone write the number that is read of them
+natural_numeral : (digits : List ℕ) (n : ℕ) → natural digits ≡ Some n → IsNumeralOf digits n
+natural_numeral [] n e = cc
+natural_numeral (d ∷ ds) n e =
+    let both = cond_some (list_all is_ascii_digit (d ∷ ds)) (digits_value 10 (d ∷ ds)) n e in
+    record { some_digit = omega arith; digits_alone = both.0; value = sym both.1 }
+
+-- a numeral is read as its number
+numeral_natural : (digits : List ℕ) (n : ℕ) → IsNumeralOf digits n → natural digits ≡ Some n
+numeral_natural [] n numeral = absurd (omega (arith, numeral.some_digit))
+numeral_natural (d ∷ ds) n numeral =
+    ap (λ b. cond b (Some (digits_value 10 (d ∷ ds))) None) numeral.digits_alone ∙ ap Some (sym numeral.value)
+
+-- a word that is read as a number is a numeral of it
+pub number_numeral : (low high : ℕ) (w : Word) (n : ℕ) → number low high w ≡ Ok n → IsNumeralOf w.1 n
+unfolding number
+number_numeral low high w n e =
+    let value = bind_ok (or_fault (UnexpectedWord w.0) (natural w.1)) (λ m. cond (is_within low high m) (Ok m) (Err (OutOfLimits w.0))) n e in
+    let test = test_ok (is_within low high value.0) value.0 n (OutOfLimits w.0) value.2 in
+    natural_numeral w.1 n (or_fault_ok (UnexpectedWord w.0) (natural w.1) value.0 value.1 ∙ ap Some test.1)
+
+-- a numeral of a number within the limits is read as it
+pub numeral_number : (low high n at : ℕ) (digits : List ℕ) → is_within low high n ≡ true → IsNumeralOf digits n → number low high (at, digits) ≡ Ok n
+unfolding number
+numeral_number low high n at digits inside numeral =
+    ap (λ o. or_fault (UnexpectedWord at) o >>= λ m. cond (is_within low high m) (Ok m) (Err (OutOfLimits at))) (numeral_natural digits n numeral)
+    ∙ ap (λ b. cond b (Ok n) (Err (OutOfLimits at))) inside
+
+-- the first of two elements passes, or what is found among the others does
+first_passes : {A : Type 0} (b : Bool) (p : A → Bool) (ys : List A) (x y : A) → p y ≡ b → cond b (Some y) (find p ys) ≡ Some x → (find p ys ≡ Some x → p x ≡ true) → p x ≡ true
+first_passes true p ys x y e found more = let same : y ≡ x = cc in ap p (sym same) ∙ e
+first_passes false p ys x y e found more = more found
+
+-- what is found passes the test
+found_passes : {A : Type 0} (p : A → Bool) (xs : List A) (x : A) → find p xs ≡ Some x → p x ≡ true
+found_passes p [] x e = cc
+found_passes p (y ∷ ys) x e = first_passes (p y) p ys x y refl e (λ more. found_passes p ys x more)
+
+-- a word that is read as an element is its code
+pub element_code : (allows : Element → Bool) (w : Word) (e : Element) → element allows w ≡ Ok e → w.1 ≡ code_of e
+unfolding element
+element_code allows w e read =
+    let value = bind_ok (or_fault (UnexpectedWord w.0) (element_of w.1)) (λ x. cond (allows x) (Ok x) (Err (UnexpectedWord w.0))) e read in
+    let test = test_ok (allows value.0) value.0 e (UnexpectedWord w.0) value.2 in
+    let found : element_of w.1 ≡ Some e = or_fault_ok (UnexpectedWord w.0) (element_of w.1) value.0 value.1 ∙ ap Some test.1 in
+    sym ((bytes_decides (code_of e) w.1).0 (found_passes (λ e. same_bytes (code_of e) w.1) elements e found))
+
+-- an element is found by its code
+code_found : (e : Element) → element_of (code_of e) ≡ Some e
+code_found Prcp = refl
+code_found Snow = refl
+code_found Snwd = refl
+code_found Tmax = refl
+code_found Tmin = refl
+
+-- the code of an element that is allowed is read as it
+pub code_element : (allows : Element → Bool) (e : Element) (at : ℕ) → allows e ≡ true → element allows (at, code_of e) ≡ Ok e
+unfolding element
+code_element allows e at allowed =
+    ap (λ o. or_fault (UnexpectedWord at) o >>= λ x. cond (allows x) (Ok x) (Err (UnexpectedWord at))) (code_found e)
+    ∙ ap (λ b. cond b (Ok e) (Err (UnexpectedWord at))) allowed
+
+-- a text that begins with no blank is no longer than what stands behind its blanks
+no_blanks : (n : ℕ) (word text : List ℕ) → word ≡ replicate n 32 ++ text → HasNoBlank word → text ≡ word
+no_blanks zero word text parts clean = sym parts
+no_blanks (suc n) word text parts clean = let blank : false ≡ true = sym (ap (list_all stands_in_word) parts) ∙ clean in absurd cc
+
+-- a field that has a number within limits is that number
+field_number : (low high z : ℤ) (f : Field) (at : ℕ) → cond (is_number_within low high f) (Ok (number_of f)) (Err (BadBox at)) ≡ Ok z → f ≡ Number z
+field_number low high z Blank at e = cc
+field_number low high z (Number n) at e = ap Number (test_ok (int_le low n && int_le n high) n z (BadBox at) e).1
+field_number low high z Bad at e = cc
+
+-- a word that is read as degrees spells them
+pub degrees_spelt : (low high : ℤ) (w : Word) (z : ℤ) → HasNoBlank w.1 → degrees low high w ≡ Ok z → Spells 4 w.1 z
+unfolding degrees
+degrees_spelt low high w z clean e =
+    let has = ((scaled_field-number 4 w.1 z).0 (field_number low high z (scaled_field 4 w.1) w.0 e)).0 in
+    subst (λ (text : List ℕ). Spells 4 text z) (no_blanks has.blanks w.1 has.text has.parts clean) has.spells
+
+-- what spells degrees within the limits is read as them
+pub spelt_degrees : (low high z : ℤ) (at : ℕ) (text : List ℕ) → (int_le low z && int_le z high) ≡ true → FitsSigned w32 z → Spells 4 text z → degrees low high (at, text) ≡ Ok z
+unfolding degrees
+spelt_degrees low high z at text inside fits spells =
+    let field : scaled_field 4 text ≡ Number z = (scaled_field-number 4 text z).1 (record { blanks = 0; text = text; parts = refl; spells = spells }, fits) in
+    ap (λ (f : Field). cond (is_number_within low high f) (Ok (number_of f)) (Err (BadBox at))) field
+    ∙ ap (λ b. cond b (Ok z) (Err (BadBox at))) inside
+
+-- a word that is read as a code is that code
+pub code_word : (len : ℕ) (w : Word) (c : List ℕ) → code len w ≡ Ok c → w.1 ≡ c
+unfolding code
+code_word len w c e = (test_ok (is_code len w.1) w.1 c (UnexpectedWord w.0) e).1
+
+-- a code is read as itself
+pub word_code : (len at : ℕ) (c : List ℕ) → is_code len c ≡ true → code len (at, c) ≡ Ok c
+unfolding code
+word_code len at c is = ap (λ b. cond b (Ok c) (Err (UnexpectedWord at))) is
+
+-- a word that is read as a day is its date
+pub date_written : (w : Word) (day : ℤ) → date w ≡ Ok day → w.1 ≡ date_text day
+unfolding date
+date_written w day e = ((read_date-law w.1 day).0 (or_fault_ok (BadDate w.0) (read_date w.1) day e)).1
+
+-- the date of a day is read as it
+pub written_date : (at : ℕ) (day : ℤ) → is_day day ≡ true → date (at, date_text day) ≡ Ok day
+unfolding date
+written_date at day is = ap (or_fault (BadDate at)) ((read_date-law (date_text day) day).1 (is, refl))
