@@ -12,3 +12,4 @@ pub mod Above
 pub mod BlockSteps
 pub mod Computed
 pub mod BoundsMet
+pub mod Examples
