@@ -1,0 +1,134 @@
+-- The bound of a series is found from its summaries.
+use Rattle.std.proofs.Common.{◌≡◌, ℕ, ◌+◌, ◌/◌, ◌<◌, ◌≤◌, Bool, true, false, List, [], ◌∷◌, map, filter, length, Option, Some, None, refl, sym, ap, ◌∙◌, subst, arith, ℤ, pos, neg_ℤ, ◌≤ℤ◌, ◌<ℤ◌, ◌+ℤ◌, ◌*ℤ◌}
+use Rattle.std.specs.Prelude.{◌&&◌, int_le}
+use Rattle.std.specs.List.{AllByRecursion, Contains}
+use Rattle.std.specs.Option.{unwrap_or}
+use Rattle.std.specs.Ordering.{int_eq}
+use Rattle.std.specs.Int.{int_min}
+use Rattle.std.proofs.lemmas.Int.{ints}
+use Rattle.ghcn_fields.specs.Days.{block_of, first_day, last_day, is_day}
+use Rattle.ghcn_fields.specs.Sorting.{greatest}
+use Rattle.ghcn_files.specs.declared.element.Element.{Element}
+use Rattle.ghcn_series.specs.Series.{DayValue, Usable}
+use Rattle.rank_query.specs.declared.score.Score.{Score}
+use Rattle.rank_query.specs.declared.score.Score.TheVariants.{Highest, Lowest, Sum, Dry, Wet}
+use Rattle.rank_query.specs.Asked.{Asked, IsAsked, is_period}
+use Rattle.rank_query.specs.Admits.{admits_day}
+use Rattle.rank_scores.specs.Candidates.{is_such}
+use Rattle.rank_scores.specs.Morsels.{IsAbove}
+use Rattle.rank_blocks.specs.declared.range.BlockRange.{BlockRange}
+use Rattle.rank_blocks.specs.declared.extreme.Extreme.{Extreme}
+use Rattle.rank_blocks.specs.declared.extreme.Extreme.TheVariants as extremes
+use Rattle.rank_blocks.specs.declared.summary.Summary.{Summary}
+use Rattle.rank_blocks.specs.Blocks.{days_in, days_reached, is_reached, period_of, blocks_total, is_among}
+use Rattle.rank_blocks.specs.Bounds.{blocks_of_window, bound, IsAskedOf}
+use Rattle.rank_blocks.specs.Greatest.{IsGreatest, IsScore, IsBlocksTotal, IsRunLength, IsSumBound, IsBoundFor, IsBound}
+use Rattle.rank_blocks.specs.Reached.{in_range, summaries_in, score_of, extreme_of, summaries_total, IsTotalFrom}
+use Rattle.rank_blocks.specs.Summaries.{IsSummary, AreSummaries}
+use Rattle.rank_blocks.proofs.Members.{from_each, pick, stands, greatest-exists, from_both}
+use Rattle.rank_blocks.proofs.DayValues.{both_pass, int_le-true, block-rises}
+use Rattle.rank_blocks.proofs.WindowTotals.{AreFalls}
+use Rattle.rank_blocks.proofs.Totals.{summaries_total-is}
+use Rattle.rank_blocks.proofs.ReachedDays.{admitted-reached, greatest-of_blocks}
+use Rattle.rank_blocks.proofs.Above.{AreFallen, total-fallen, sums-fall, bound-IsAbove}
+use Rattle.rank_blocks.proofs.Computed.{some_admitted, bound-unique, computed-IsBound}
+
+-- the range of the blocks of the query's period
+pub record IsRangeOf (r : BlockRange) (q : Asked) : Type 0 where
+  pub first : r.first ≡ block_of (period_of q.period).0
+  pub last : r.last ≡ block_of (period_of q.period).1
+
+-- its blocks are those of the period
+range-is : (r : BlockRange) (q : Asked) → IsRangeOf r q → in_range r ≡ is_reached q.period
+range-is r q of =
+    let by_first : ℤ → ℤ → Bool = λ z b. int_le z b && int_le b r.last in
+    let by_last : ℤ → ℤ → Bool = λ z b. int_le (block_of (period_of q.period).0) b && int_le b z in
+    ap by_first of.first ∙ ap by_last of.last
+
+-- the first block of a period isn't behind its last
+period-rises : (p : Option (ℤ × ℤ)) → is_period p ≡ true → block_of (period_of p).0 ≤ℤ block_of (period_of p).1
+period-rises None h = block-rises first_day last_day (omega (arith, ints))
+period-rises (Some p) h =
+    let both = both_pass (is_day p.0 && is_day p.1) (int_le p.0 p.1) h in
+    block-rises p.0 p.1 (int_le-true p.0 p.1 both.1)
+
+-- nor that of its range
+pub range-rises : (r : BlockRange) (q : Asked) → IsRangeOf r q → IsAsked q → r.first ≤ℤ r.last
+range-rises r q of asked =
+    let first = of.first in
+    let last = of.last in
+    let le = period-rises q.period asked.period in
+    omega (arith, ints)
+
+-- what an extreme is of a summary is the greatest of what it makes of the block's values
+extreme-told : (k : Extreme) (days : List DayValue) (m : Summary) → IsSummary days m → greatest (map (λ x. score_of k x.1) (days_in days m.number)) ≡ Some (extreme_of k m)
+extreme-told extremes.Highest days m is = is.values.greatest_value
+extreme-told extremes.Lowest days m is = is.values.least_value
+
+module _ (r : BlockRange) (q : Asked) (s : Usable) (ms : List Summary) (of : IsRangeOf r q) (are : AreSummaries s ms) (asked_of : IsAskedOf q s) where
+  -- a summary of a block of the range
+  some_block : (g : Summary → ℤ) → (z : ℤ) × (greatest (map g (summaries_in r ms)) ≡ Some z)
+  some_block g =
+      let day = some_admitted q s (λ x. Contains (map (λ m. m.number) ms) (block_of x.0)) asked_of.admitted_day are.all in
+      let Stands : Summary → Type 0 = λ m. in_range r m.number ≡ true → Contains (map g (summaries_in r ms)) (g m) in
+      let block = pick (λ m. m.number) Stands ms (block_of day.0.0) (stands g (λ m. in_range r m.number) ms) day.1 in
+      let holds : in_range r (block_of day.0.0) ≡ true = ap (λ (P : ℤ → Bool). P (block_of day.0.0)) (range-is r q of) ∙ admitted-reached q day.0.0 day.2 in
+      greatest-exists (map g (summaries_in r ms)) (g block.0) (block.1 (ap (in_range r) block.2 ∙ holds))
+
+  -- the greatest score of a day, from the summaries
+  pub day-met : (k : Extreme) (z : ℤ) → z ≡ unwrap_or (greatest (map (extreme_of k) (summaries_in r ms))) (pos 0) → IsGreatest (IsScore (score_of k) (days_reached q s)) z
+  day-met k z is =
+      let some = some_block (extreme_of k) in
+      let same : some.0 ≡ z = sym (is ∙ ap (λ (o : Option ℤ). unwrap_or o (pos 0)) some.1) in
+      let in_blocks = greatest-of_blocks (score_of k) (extreme_of k) (in_range r) s ms are (extreme-told k s.days) some.0 some.1 in
+      let P : (ℤ → Bool) → Type 0 = λ p. IsGreatest (IsScore (score_of k) (filter (λ x. p (block_of x.0)) s.days)) some.0 in
+      let Q : ℤ → Type 0 = λ n. IsGreatest (IsScore (score_of k) (days_reached q s)) n in
+      subst Q same (subst P (range-is r q of) in_blocks)
+
+  -- the longest run, from the summaries
+  pub run-met : (test : ℤ → Bool) (z : ℤ) → IsGreatest (IsRunLength (is_such test (filter (λ x. in_range r (block_of x.0)) s.days))) z → IsGreatest (IsRunLength (is_such test (days_reached q s))) z
+  run-met test z longest =
+      let P : (ℤ → Bool) → Type 0 = λ p. IsGreatest (IsRunLength (is_such test (filter (λ x. p (block_of x.0)) s.days))) z in
+      subst P (range-is r q of) longest
+
+  -- no total of a block is below zero, where no value is
+  pub totals-fall : AreFallen s.days → AreFalls ms
+  totals-fall falls =
+      from_each (IsSummary s.days) (λ m. pos 0 ≤ℤ m.total) ms
+      (λ m is.
+      let fall = total-fallen (λ x. int_eq (block_of x.0) m.number) s.days falls in
+      let total_is = is.values.total_value in
+      omega (arith, ints)) are.each
+
+  -- the greatest total, from the summaries
+  total-met : (w : ℕ) (z : ℤ) → IsGreatest (IsTotalFrom r ms w) z → IsGreatest (IsBlocksTotal q.period s.days w) z
+  total-met w z of_z =
+      let same = range-is r q of in
+      let one = of_z.is_one in
+      record {
+        is_one = (one.0, sym (ap (λ (P : ℤ → Bool). P one.0) same) ∙ one.1, sym (summaries_total-is s ms are w one.0) ∙ one.2);
+        is_most = λ y h. of_z.is_most y (h.0, ap (λ (P : ℤ → Bool). P h.0) same ∙ h.1, summaries_total-is s ms are w h.0 ∙ h.2);
+      }
+
+  -- the bound of sums, from the summaries
+  pub sum-met : (n : ℕ) (value most z : ℤ) → value ≡ unwrap_or (greatest (map (extreme_of extremes.Highest) (summaries_in r ms))) (pos 0) → IsGreatest (IsTotalFrom r ms (blocks_of_window n)) most
+      → int_min (pos n *ℤ value) most ≡ z → IsSumBound q s n z
+  sum-met n value most z value_is of_most smaller = record {
+    value = value;
+    most = most;
+    greatest_value = day-met extremes.Highest value value_is;
+    greatest_total = total-met (blocks_of_window n) most of_most;
+    smaller = smaller;
+  }
+
+-- a bound for the query's score is the bound
+pub bound-for : (q : Asked) (s : Usable) (score : Score) (z : ℤ) → q.score ≡ score → IsBoundFor score q s z → IsBound q s z
+bound-for q s score z is of_z = subst (λ (k : Score). IsBoundFor k q s z) (sym is) of_z
+
+-- the bound by what it is greatest of is the one that is computed
+pub bound-computed : (q : Asked) (s : Usable) (z : ℤ) → IsAsked q → IsAskedOf q s → IsBound q s z → z ≡ bound q s
+bound-computed q s z asked of of_z = bound-unique q s z (bound q s) of_z (computed-IsBound q s asked of)
+
+-- and no candidate's score is above it
+pub bound-above : (q : Asked) (s : Usable) (z : ℤ) → IsAsked q → IsAskedOf q s → IsBound q s z → IsAbove q s z
+bound-above q s z asked of of_z = bound-IsAbove q s z asked of.series of.element of_z

@@ -1,0 +1,15 @@
+pub mod JoinedRuns
+pub mod Members
+pub mod DayValues
+pub mod OpenBlocks
+pub mod ReadBlocks
+pub mod Totals
+pub mod WindowTotals
+pub mod PossibleBlocks
+pub mod ReachedDays
+pub mod LongestRuns
+pub mod Above
+pub mod BlockSteps
+pub mod Computed
+pub mod BoundsMet
+pub mod Examples

@@ -1,0 +1,57 @@
+-- The bound of a series: a number that no candidate's score exceeds, found from whole blocks.
+use Rattle.std.specs.Prelude.{◌≡◌, ℕ, ◌+◌, ◌/◌, ◌<◌, Bool, List, length, map, filter, ℤ, pos, neg_ℤ, ◌-ℤ◌, ◌*ℤ◌}
+use Rattle.std.specs.List.{flat_map, range_with_len}
+use Rattle.std.specs.Option.{unwrap_or}
+use Rattle.std.specs.Int.{int_min}
+use Rattle.ghcn_fields.specs.Days.{block_of}
+use Rattle.ghcn_fields.specs.Sorting.{greatest}
+use Rattle.ghcn_series.specs.Series.{DayValue, Usable, IsSeries}
+use Rattle.rank_query.specs.declared.score.Score.{Score}
+use Rattle.rank_query.specs.declared.score.Score.TheVariants.{Highest, Lowest, Sum, Dry, Wet}
+use Rattle.rank_query.specs.Asked.{Asked, score_element}
+use Rattle.rank_scores.specs.Candidates.{is_dry, is_wet, is_such, admitted}
+use Rattle.rank_scores.specs.Runs.{longest_run}
+use Rattle.rank_blocks.specs.Blocks.{is_reached, days_reached, blocks_total}
+
+-- the greatest number that a measure makes of the values of some days, 0 where there are none
+abbrev pub greatest_by : (ℤ → ℤ) → List DayValue → ℤ
+greatest_by f days = unwrap_or (greatest (map (λ x. f x.1) days)) (pos 0)
+
+-- how many blocks in a row hold any n days in a row
+abbrev pub blocks_of_window : ℕ → ℕ
+blocks_of_window n = (n + 30) / 32 + 1
+
+-- the blocks of the period from which w blocks hold a usable day
+abbrev pub first_blocks : Asked → List DayValue → ℕ → List ℤ
+first_blocks q days w = filter (is_reached q.period) (flat_map (λ x. map (λ i. block_of x.0 -ℤ pos i) (range_with_len 0 w)) days)
+
+-- the greatest total of w blocks in a row that begin in the period, 0 where none of them holds a usable day
+abbrev pub greatest_total : Asked → List DayValue → ℕ → ℤ
+greatest_total q days w = unwrap_or (greatest (map (blocks_total days w) (first_blocks q days w))) (pos 0)
+
+-- the bound of sums: n times the greatest value, or the greatest total of so many blocks, whichever is smaller
+abbrev pub sum_bound : Asked → Usable → ℕ → ℤ
+sum_bound q s n =
+    int_min (pos n *ℤ greatest_by (λ v. v) (days_reached q s)) (greatest_total q s.days (blocks_of_window n))
+
+-- the bound of spells: the length of the longest run of days that pass, 0 where none does
+abbrev pub spell_bound : (ℤ → Bool) → List DayValue → ℤ
+spell_bound test days = pos (longest_run (is_such test days) (map (λ x. x.0) days))
+
+-- the bound of a score
+abbrev pub bound_for : Score → Asked → Usable → ℤ
+bound_for (Highest e) q s = greatest_by (λ v. v) (days_reached q s)
+bound_for (Lowest e) q s = greatest_by neg_ℤ (days_reached q s)
+bound_for (Sum n e) q s = sum_bound q s n
+bound_for Dry q s = spell_bound is_dry (days_reached q s)
+bound_for Wet q s = spell_bound is_wet (days_reached q s)
+
+-- the bound of a series under a query
+abbrev pub bound : Asked → Usable → ℤ
+bound q s = bound_for q.score q s
+
+-- a series that a query asks about: of the query's element, with an admitted usable day
+pub record IsAskedOf (q : Asked) (s : Usable) : Type 0 where
+  pub series : IsSeries s
+  pub element : s.element ≡ score_element q.score
+  pub admitted_day : 0 < length (admitted q s)

@@ -1,0 +1,48 @@
+-- The bound of a series by what it is greatest of, and not by how it is found.
+use Rattle.std.specs.Prelude.{◌≡◌, ℕ, ◌<◌, Bool, true, List, map, Option, ℤ, pos, neg_ℤ, ◌+ℤ◌, ◌*ℤ◌, ◌≤ℤ◌}
+use Rattle.std.specs.List.{Contains}
+use Rattle.std.specs.Int.{int_min}
+use Rattle.ghcn_series.specs.Series.{DayValue, Usable}
+use Rattle.rank_query.specs.declared.score.Score.{Score}
+use Rattle.rank_query.specs.declared.score.Score.TheVariants.{Highest, Lowest, Sum, Dry, Wet}
+use Rattle.rank_query.specs.Asked.{Asked}
+use Rattle.rank_scores.specs.Candidates.{is_dry, is_wet, is_such}
+use Rattle.rank_blocks.specs.Blocks.{is_reached, days_reached, blocks_total}
+use Rattle.rank_blocks.specs.Bounds.{blocks_of_window}
+
+-- z is the greatest of the numbers that have a property
+pub record IsGreatest (P : ℤ → Type 0) (z : ℤ) : Type 0 where
+  pub is_one : P z
+  pub is_most : (y : ℤ) → P y → y ≤ℤ z
+
+-- a measure makes this number of the value of one of these days
+abbrev pub IsScore : (ℤ → ℤ) → List DayValue → ℤ → Type 0
+IsScore f days y = Contains (map (λ x. f x.1) days) y
+
+-- this is the total of w blocks in a row of which the first is a block of the period
+abbrev pub IsBlocksTotal : Option (ℤ × ℤ) → List DayValue → ℕ → ℤ → Type 0
+IsBlocksTotal p days w y = (first : ℤ) × (is_reached p first ≡ true) × (blocks_total days w first ≡ y)
+
+-- so many numbers in a row pass
+abbrev pub IsRunLength : (ℤ → Bool) → ℤ → Type 0
+IsRunLength such y = (len : ℕ) × (first : ℤ) × (pos len ≡ y) × ((i : ℕ) → i < len → such (first +ℤ pos i) ≡ true)
+
+-- z is the smaller of n times the greatest value and the greatest total of the blocks that n days may lie in
+pub record IsSumBound (q : Asked) (s : Usable) (n : ℕ) (z : ℤ) : Type 0 where
+  pub value : ℤ
+  pub most : ℤ
+  pub greatest_value : IsGreatest (IsScore (λ v. v) (days_reached q s)) value
+  pub greatest_total : IsGreatest (IsBlocksTotal q.period s.days (blocks_of_window n)) most
+  pub smaller : int_min (pos n *ℤ value) most ≡ z
+
+-- z is the bound for a score
+abbrev pub IsBoundFor : Score → Asked → Usable → ℤ → Type 0
+IsBoundFor (Highest e) q s z = IsGreatest (IsScore (λ v. v) (days_reached q s)) z
+IsBoundFor (Lowest e) q s z = IsGreatest (IsScore neg_ℤ (days_reached q s)) z
+IsBoundFor (Sum n e) q s z = IsSumBound q s n z
+IsBoundFor Dry q s z = IsGreatest (IsRunLength (is_such is_dry (days_reached q s))) z
+IsBoundFor Wet q s z = IsGreatest (IsRunLength (is_such is_wet (days_reached q s))) z
+
+-- z is the bound of the series under the query
+abbrev pub IsBound : Asked → Usable → ℤ → Type 0
+IsBound q s z = IsBoundFor q.score q s z

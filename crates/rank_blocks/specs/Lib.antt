@@ -1,0 +1,7 @@
+pub mod Blocks
+pub mod Bounds
+pub mod Greatest
+pub mod DayRuns
+pub mod Summaries
+pub mod Spells
+pub mod Reached

@@ -1,0 +1,43 @@
+-- What the summaries of the blocks of a range tell.
+use Rattle.std.specs.Prelude.{◌≡◌, ℕ, Bool, true, ◌&&◌, List, map, filter, ℤ, pos, neg_ℤ, ◌≤ℤ◌, int_le}
+use Rattle.rank_blocks.specs.declared.range.BlockRange.{BlockRange}
+use Rattle.rank_blocks.specs.declared.extreme.Extreme.{Extreme}
+use Rattle.rank_blocks.specs.declared.extreme.Extreme.TheVariants.{Highest, Lowest}
+use Rattle.rank_blocks.specs.declared.summary.Summary.{Summary}
+use Rattle.rank_blocks.specs.Blocks.{total, is_among}
+
+-- a score that single days can have
+pub record IsNear (z : ℤ) : Type 0 where
+  pub low : neg_ℤ (pos 2_147_483_648) ≤ℤ z
+  pub high : z ≤ℤ pos 2_147_483_648
+
+-- the number of a block that holds a day of the years 1 to 9999
+pub record IsBlock (b : ℤ) : Type 0 where
+  pub low : neg_ℤ (pos 22_474) ≤ℤ b
+  pub high : b ≤ℤ pos 91_653
+
+-- the block lies in the range
+abbrev pub in_range : BlockRange → ℤ → Bool
+in_range r b = int_le r.first b && int_le b r.last
+
+-- those of some summaries whose blocks lie in the range
+abbrev pub summaries_in : BlockRange → List Summary → List Summary
+summaries_in r ms = filter (λ m. in_range r m.number) ms
+
+-- what an extreme makes of a value
+abbrev pub score_of : Extreme → ℤ → ℤ
+score_of Highest v = v
+score_of Lowest v = neg_ℤ v
+
+-- the greatest score of a usable day of a block
+abbrev pub extreme_of : Extreme → Summary → ℤ
+extreme_of Highest m = m.greatest
+extreme_of Lowest m = neg_ℤ m.least
+
+-- the total of w blocks from one on
+abbrev pub summaries_total : List Summary → ℕ → ℤ → ℤ
+summaries_total ms w first = total (map (λ m. m.total) (filter (λ m. is_among first w m.number) ms))
+
+-- this is the total of w blocks of which the first lies in the range
+abbrev pub IsTotalFrom : BlockRange → List Summary → ℕ → ℤ → Type 0
+IsTotalFrom r ms w y = (first : ℤ) × (in_range r first ≡ true) × (summaries_total ms w first ≡ y)

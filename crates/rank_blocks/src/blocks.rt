@@ -1,0 +1,121 @@
+//! The summaries of the blocks of a series, and the bounds that they give.
+
+ghost use Rattle.std.specs.Prelude.{◌≡◌, List, [], ◌∷◌, ◌++◌, IfOk};
+ghost use Rattle.ghcn_series.specs.Series.{DayValue, Usable};
+ghost use Rattle.rank_query.specs.Asked.{IsAsked};
+ghost use Rattle.rank_scores.specs.Morsels.{IsAbove};
+ghost use Rattle.rank_blocks.specs.Bounds.{bound, IsAskedOf};
+ghost use Rattle.rank_blocks.specs.Greatest.{IsBound};
+ghost use Rattle.rank_blocks.specs.Summaries.{AreSummaries, ArePossible, HasRead, IsBefore, Rise};
+
+use crate::extreme::Extreme;
+use crate::range::BlockRange;
+use crate::reached::{greatest_day, greatest_total, longest_run, times, window_blocks};
+use crate::spell::Spell;
+use crate::summary::Summary;
+use ghcn_fields::{Day, Memory};
+use ghcn_series::Series;
+use rank_query::{Query, Score};
+use std::alloc::Global;
+use std::marker::Model;
+
+/// What is known of each block of 32 days in which a series has a usable day.
+///
+/// Block b has the days 32 b to 32 b + 31, of which day 0 is 1970-01-01.
+#[derive(Drop)]
+pub struct Blocks {
+    /// By block number.
+    summaries: Vec<Summary>,
+}
+
+impl Model for Blocks {
+    ghost use Rattle.std.specs.Prelude.{List};
+    ghost use Rattle.rank_blocks.specs.declared.summary.Summary.{Summary};
+    ghost use Rattle.rank_blocks.specs.Summaries.{ArePossible};
+
+    ghost Value = { List Summary };
+
+    ghost view = { λ b. b.summaries.items };
+
+    ghost invariant = { λ b. ArePossible b.summaries.items };
+}
+
+impl Blocks {
+    /// The summaries of the blocks of a series.
+    pub fn build(alloc: Global, series: &Series) -> Result<Self, Memory>
+        ensures { IfOk result (λ blocks. AreSummaries series.now blocks) }
+    {
+        Ok(Blocks {
+            summaries: summaries_of(alloc, series)?,
+        })
+    }
+
+    /// The bound of the series under a query that asks about it, in the unit of the score.
+    pub fn bound(&self, query: &Query) -> i64
+        ensures equals { (s : Usable) → AreSummaries s self.now → IsAskedOf query.now s →
+            result ≡ bound query.now s }
+        ensures greatest { (s : Usable) → AreSummaries s self.now → IsAskedOf query.now s →
+            IsBound query.now s result }
+        ensures above { (s : Usable) → AreSummaries s self.now → IsAskedOf query.now s →
+            IsAbove query.now s result }
+    {
+        bound_of(self.summaries.as_slice(), query)
+    }
+}
+
+/// The bound under the query's score, from the summaries.
+fn bound_of(blocks: &[Summary], query: &Query) -> i64
+    requires { ArePossible blocks.now }
+    ensures asked { IsAsked query.now }
+    ensures bound { (s : Usable) → AreSummaries s blocks.now → IsAskedOf query.now s →
+        IsBound query.now s result }
+{
+    let range = BlockRange::of(query);
+    match query.score() {
+        Score::Highest(_) => greatest_day(blocks, range, Extreme::Highest),
+        Score::Lowest(_) => greatest_day(blocks, range, Extreme::Lowest),
+        Score::Sum(n, _) => {
+            let by_days = times(n, greatest_day(blocks, range, Extreme::Highest));
+            by_days.min(greatest_total(blocks, range, window_blocks(n)))
+        }
+        Score::Dry => longest_run(blocks, range, Spell::Dry),
+        Score::Wet => longest_run(blocks, range, Spell::Wet),
+    }
+}
+
+/// The summaries of the blocks of a series, by block number.
+fn summaries_of(alloc: Global, series: &Series) -> Result<Vec<Summary>, Memory>
+    ensures summaries { IfOk result (λ blocks. AreSummaries series.now blocks.items) }
+    ensures possible { IfOk result (λ blocks. ArePossible blocks.items) }
+{
+    let mut summaries = Vec::new(alloc);
+    let mut days = series.days();
+    let Some(first) = days.next() else {
+        return Ok(summaries);
+    };
+    let mut current = Summary::of_day(first.0, first.1);
+    for (day, value) in days {
+        current = add_day(&mut summaries, current, day, value)?;
+    }
+    summaries.push(current.whole())?;
+    Ok(summaries)
+}
+
+/// Adds a later day to the current block, or puts that block's summary into the list and begins
+/// the day's own.
+fn add_day(
+    summaries: &mut Vec<Summary>,
+    current: Summary,
+    day: Day,
+    value: i32,
+) -> Result<Summary, Memory>
+    requires { IsBefore current day }
+    ensures { IfOk result (λ next. (all read rest : List DayValue) → all ≡ read ++ (day, value) ∷ rest → Rise all →
+        HasRead all read summaries.old.items current → HasRead all (read ++ (day, value) ∷ []) summaries.new.items next) }
+{
+    if day.block() == current.number {
+        return Ok(current.with(day, value));
+    }
+    summaries.push(current.whole())?;
+    Ok(Summary::of_day(day, value))
+}

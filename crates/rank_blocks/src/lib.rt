@@ -1,0 +1,17 @@
+//! Bounds: for a series and a query a number that no candidate's score exceeds, found without
+//! looking at the series again.
+//!
+//! The crate of plans stands on it. What it hands up is the bound.
+#![tactic(auto)]
+
+mod blocks;
+mod extreme;
+mod range;
+mod reached;
+mod runs;
+mod spell;
+mod summary;
+#[cfg(test)]
+mod tests;
+
+pub use blocks::Blocks;

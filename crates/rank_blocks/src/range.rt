@@ -1,0 +1,58 @@
+//! The blocks of a period.
+
+ghost use Rattle.std.specs.Prelude.{◌≡◌};
+ghost use Rattle.ghcn_fields.specs.Days as days;
+ghost use Rattle.rank_blocks.specs.Blocks.{period_of};
+ghost use Rattle.rank_blocks.specs.Reached.{IsBlock, in_range};
+
+use ghcn_fields::Day;
+use rank_query::Query;
+
+/// The block of 0001-01-01.
+const FIRST_BLOCK: i32 = -22_474;
+
+/// The block of 9999-12-31.
+const LAST_BLOCK: i32 = 91_653;
+
+/// The blocks that hold a day of a period.
+#[derive(Clone, Copy, Debug)]
+pub(crate) struct BlockRange {
+    pub(crate) first: i32,
+    pub(crate) last: i32,
+}
+
+impl BlockRange {
+    /// The blocks of the query's period, or of the calendar where it has none.
+    pub(crate) fn of(query: &Query) -> Self
+        ensures first { result.first ≡ days.block_of (period_of query.now.period).0 }
+        ensures last { result.last ≡ days.block_of (period_of query.now.period).1 }
+        ensures block { IsBlock result.first }
+    {
+        match query.period() {
+            None => BlockRange {
+                first: FIRST_BLOCK,
+                last: LAST_BLOCK,
+            },
+            Some((first, last)) => BlockRange {
+                first: block_of(first),
+                last: block_of(last),
+            },
+        }
+    }
+
+    /// Whether it has the block of this number.
+    pub(crate) fn holds(self, number: i32) -> bool
+        ensures { result ≡ in_range self number }
+    {
+        self.first <= number && number <= self.last
+    }
+}
+
+/// The block of a day.
+pub(crate) fn block_of(day: Day) -> i32
+    ensures value { result ≡ days.block_of day }
+    ensures block { IsBlock result }
+{
+    let _number = day.number();
+    day.block()
+}
