@@ -1,7 +1,7 @@
 //! Bounds: for a series and a query a number that no candidate's score exceeds, found without
 //! looking at the series again.
 //!
-//! The crate of plans stands on it. What it hands up is the bound.
+//! A crate of plans is to stand on it. What it hands up is the bound.
 #![tactic(auto)]
 
 mod blocks;
