@@ -39,7 +39,7 @@ pub record IsRangeOf (r : BlockRange) (q : Asked) : Type 0 where
   pub last : r.last ≡ block_of (period_of q.period).1
 
 -- its blocks are those of the period
-range-is : (r : BlockRange) (q : Asked) → IsRangeOf r q → in_range r ≡ is_reached q.period
+pub range-is : (r : BlockRange) (q : Asked) → IsRangeOf r q → in_range r ≡ is_reached q.period
 range-is r q of =
     let by_first : ℤ → ℤ → Bool = λ z b. int_le z b && int_le b r.last in
     let by_last : ℤ → ℤ → Bool = λ z b. int_le (block_of (period_of q.period).0) b && int_le b z in

@@ -134,7 +134,7 @@ window-seen q w first all (x ∷ xs) h =
     ] refl
 
 -- the greatest total of windows that begin in the period
-total-greatest : (q : Asked) (s : Usable) (w : ℕ) → 0 < w → 0 < length (admitted q s) → AreFallen s.days → IsGreatest (IsBlocksTotal q.period s.days w) (greatest_total q s.days w)
+pub total-greatest : (q : Asked) (s : Usable) (w : ℕ) → 0 < w → 0 < length (admitted q s) → AreFallen s.days → IsGreatest (IsBlocksTotal q.period s.days w) (greatest_total q s.days w)
 total-greatest q s w some_blocks some falls =
     let all : List ℤ = flat_map (starts w) s.days in
     let T : ℤ → ℤ = blocks_total s.days w in
@@ -194,7 +194,7 @@ longest-most such (a ∷ ns) = (
 )
 
 -- each day of a series is one of the calendar
-days-valid : (s : Usable) (days : List DayValue) → list_all (λ x. is_day x.0 && is_value s.element x.1) days ≡ true → AllByRecursion (λ x. is_day x.0 ≡ true) days
+pub days-valid : (s : Usable) (days : List DayValue) → list_all (λ x. is_day x.0 && is_value s.element x.1) days ≡ true → AllByRecursion (λ x. is_day x.0 ≡ true) days
 days-valid s [] h = tt
 days-valid s (x ∷ xs) h =
     let parts = both_pass (is_day x.0 && is_value s.element x.1) (list_all (λ x. is_day x.0 && is_value s.element x.1) xs) h in

@@ -13,3 +13,4 @@ pub mod BlockSteps
 pub mod Computed
 pub mod BoundsMet
 pub mod Examples
+pub mod PlainBounds

@@ -1,10 +1,12 @@
 -- What the summaries of the blocks of a range tell.
 use Rattle.std.specs.Prelude.{◌≡◌, ℕ, Bool, true, ◌&&◌, List, map, filter, ℤ, pos, neg_ℤ, ◌≤ℤ◌, int_le}
+use Rattle.ghcn_fields.specs.Days.{block_of}
+use Rattle.ghcn_series.specs.Series.{DayValue}
 use Rattle.rank_blocks.specs.declared.range.BlockRange.{BlockRange}
 use Rattle.rank_blocks.specs.declared.extreme.Extreme.{Extreme}
 use Rattle.rank_blocks.specs.declared.extreme.Extreme.TheVariants.{Highest, Lowest}
 use Rattle.rank_blocks.specs.declared.summary.Summary.{Summary}
-use Rattle.rank_blocks.specs.Blocks.{total, is_among}
+use Rattle.rank_blocks.specs.Blocks.{total, is_among, blocks_total}
 
 -- a score that single days can have
 pub record IsNear (z : ℤ) : Type 0 where
@@ -19,6 +21,10 @@ pub record IsBlock (b : ℤ) : Type 0 where
 -- the block lies in the range
 abbrev pub in_range : BlockRange → ℤ → Bool
 in_range r b = int_le r.first b && int_le b r.last
+
+-- the days in the blocks of a range
+abbrev pub days_in_range : BlockRange → List DayValue → List DayValue
+days_in_range r days = filter (λ x. in_range r (block_of x.0)) days
 
 -- those of some summaries whose blocks lie in the range
 abbrev pub summaries_in : BlockRange → List Summary → List Summary
@@ -41,3 +47,7 @@ summaries_total ms w first = total (map (λ m. m.total) (filter (λ m. is_among 
 -- this is the total of w blocks of which the first lies in the range
 abbrev pub IsTotalFrom : BlockRange → List Summary → ℕ → ℤ → Type 0
 IsTotalFrom r ms w y = (first : ℤ) × (in_range r first ≡ true) × (summaries_total ms w first ≡ y)
+
+-- this is the total of the days of w blocks of which the first lies in the range
+abbrev pub IsDaysTotal : BlockRange → List DayValue → ℕ → ℤ → Type 0
+IsDaysTotal r days w y = (first : ℤ) × (in_range r first ≡ true) × (blocks_total days w first ≡ y)

@@ -6,6 +6,8 @@
 
 mod blocks;
 mod extreme;
+#[cfg(test)]
+mod plain;
 mod range;
 mod reached;
 mod runs;

@@ -26,7 +26,8 @@ impl BlockRange {
     pub(crate) fn of(query: &Query) -> Self
         ensures first { result.first ≡ days.block_of (period_of query.now.period).0 }
         ensures last { result.last ≡ days.block_of (period_of query.now.period).1 }
-        ensures block { IsBlock result.first }
+        ensures first_block { IsBlock result.first }
+        ensures last_block { IsBlock result.last }
     {
         match query.period() {
             None => BlockRange {

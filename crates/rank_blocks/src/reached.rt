@@ -1,8 +1,7 @@
 //! What the summaries of the blocks of a range tell.
 
-ghost use Rattle.std.specs.Prelude.{◌≡◌, ◌∷◌, [], ◌++◌, ◌+◌, ◌≤ℤ◌, ◌*ℤ◌, ◌+ℤ◌, List, map, unwrap_or, IfSome, Some, ℤ, pos, int_le, filter};
+ghost use Rattle.std.specs.Prelude.{◌≡◌, ◌∷◌, [], ◌++◌, ◌+◌, ◌≤ℤ◌, ◌*ℤ◌, ◌+ℤ◌, List, map, unwrap_or, IfSome, Some, ℤ, pos, int_le};
 ghost use Rattle.std.specs.List.{AllByRecursion};
-ghost use Rattle.ghcn_fields.specs.Days.{block_of};
 ghost use Rattle.ghcn_fields.specs.Sorting.{greatest};
 ghost use Rattle.ghcn_series.specs.Series.{Usable};
 ghost use Rattle.rank_scores.specs.Candidates.{is_such};
@@ -35,7 +34,7 @@ pub(crate) fn greatest_day(blocks: &[Summary], range: BlockRange, extreme: Extre
 }
 
 /// The greater of what was found and one more number.
-fn greater(found: Option<i64>, number: i64) -> i64
+pub(crate) fn greater(found: Option<i64>, number: i64) -> i64
     requires near { told.IsNear number }
     requires found_near { IfSome found told.IsNear }
     ensures greatest { (zs : List ℤ) → greatest zs ≡ found → greatest (zs ++ number ∷ []) ≡ Some result }
@@ -106,8 +105,8 @@ fn is_past(number: i32, first: i32, width: u32) -> bool
 pub(crate) fn longest_run(blocks: &[Summary], range: BlockRange, spell: Spell) -> i64
     requires possible { ArePossible blocks.now }
     requires low { told.IsBlock range.first }
-    ensures { (s : Usable) → AreSummaries s blocks.now → IsGreatest
-        (IsRunLength (is_such (test_of spell) (filter (λ x. told.in_range range (block_of x.0)) s.days))) result }
+    ensures { (s : Usable) → AreSummaries s blocks.now →
+        IsGreatest (IsRunLength (is_such (test_of spell) (told.days_in_range range s.days))) result }
 {
     let mut runs = Runs::without(0);
     for block in blocks {

@@ -1,6 +1,7 @@
 //! Worked bounds.
 
 use super::*;
+use crate::plain::plain_bound;
 use ghcn_fields::Day;
 use ghcn_files::{StationId, Stations};
 use ghcn_series::Data;
@@ -60,14 +61,20 @@ fn text_of(alloc: Global, code: &str, stretches: &[Stretch]) -> Result<String, F
     Ok(text)
 }
 
-/// The bound of the station's series under a query.
-fn bound_of(alloc: Global, code: &str, stretches: &[Stretch], query: &str) -> Result<i64, Fail> {
+/// The bound of the station's series under a query, and the same by the plain program.
+fn bounds_of(
+    alloc: Global,
+    code: &str,
+    stretches: &[Stretch],
+    query: &str,
+) -> Result<(i64, i64), Fail> {
     let query = Query::parse(query).ok().ok_or("no query")?;
     let stations = Stations::read(alloc, STATIONS)?;
     let text = text_of(alloc, code, stretches)?;
     let data = Data::read(alloc, stations, &[text.as_bytes()])?;
     let series = data.series(&A, query.element()).ok_or("no series")?;
-    Ok(Blocks::build(alloc, series)?.bound(&query))
+    let bound = Blocks::build(alloc, series)?.bound(&query);
+    Ok((bound, plain_bound(series, &query)))
 }
 
 // Day 18444 is 2020-07-01, and block 576 ends on day 18463, which is 2020-07-20.
@@ -162,8 +169,71 @@ fn worked_bounds(rt: HostRuntime) -> Result<(), Fail> {
         ("PRCP", &[(18_430, 80, 12)], "top 1 wet", 80),
     ];
     for (code, stretches, query, expected) in cases {
-        let bound = bound_of(rt.alloc(), code, stretches, query)?;
+        let (bound, plain) = bounds_of(rt.alloc(), code, stretches, query)?;
         assert_eq!(rt; bound, expected, "at {query} of {stretches:?}");
+        assert_eq!(rt; plain, expected, "plainly at {query} of {stretches:?}");
+    }
+    Ok(())
+}
+
+#[test]
+fn as_the_plain_program_has_it(rt: HostRuntime) -> Result<(), Fail> {
+    let falls: [&[Stretch]; 4] = [
+        &[(18_460, 3, 10), (18_464, 2, 0), (18_470, 30, 25)],
+        &[(-40, 3, 5), (-33, 4, 20), (-2, 5, 9), (40, 1, 900)],
+        &[
+            (18_300, 1, 7),
+            (18_333, 64, 0),
+            (18_400, 1, 100),
+            (18_463, 2, 50),
+        ],
+        &[
+            (-65, 1, 8),
+            (-32, 32, 3),
+            (0, 1, 9),
+            (1, 1, 12),
+            (31, 2, 0),
+            (96, 1, 1),
+        ],
+    ];
+    let temperatures: [&[Stretch]; 2] = [
+        &[(-33, 2, -120), (-1, 2, -30), (64, 1, -250)],
+        &[(18_431, 2, 311), (18_463, 2, -5), (18_500, 1, 400)],
+    ];
+    let sums = [
+        "highest PRCP",
+        "sum 1 PRCP",
+        "sum 2 PRCP",
+        "sum 33 PRCP",
+        "sum 34 PRCP",
+        "sum 66 PRCP",
+        "sum 366 PRCP",
+        "dry",
+        "wet",
+    ];
+    let periods = [
+        "",
+        " from 2020-07-01 to 2020-07-20",
+        " from 2020-07-21 to 2020-07-21",
+        " from 2020-04-01 to 2020-08-31",
+        " from 1969-12-31 to 1969-12-31",
+        " from 1969-12-01 to 1970-02-09",
+    ];
+    for period in periods {
+        for stretches in falls {
+            for score in sums {
+                let query = format!(in rt.alloc(); "top 1 {score}{period}")?;
+                let (bound, plain) = bounds_of(rt.alloc(), "PRCP", stretches, query.as_str())?;
+                assert_eq!(rt; bound, plain, "at {query} of {stretches:?}");
+            }
+        }
+        for stretches in temperatures {
+            for score in ["highest TMIN", "lowest TMIN"] {
+                let query = format!(in rt.alloc(); "top 1 {score}{period}")?;
+                let (bound, plain) = bounds_of(rt.alloc(), "TMIN", stretches, query.as_str())?;
+                assert_eq!(rt; bound, plain, "at {query} of {stretches:?}");
+            }
+        }
     }
     Ok(())
 }
