@@ -192,28 +192,26 @@ fn offer_all(series: &[(Id, usize, BTreeMap<i32, i32>)], query: &Query, offer: &
 }
 
 fn offer_series(id: Id, days: &BTreeMap<i32, i32>, query: &Query, offer: &mut impl FnMut(Candidate)) {
-    let of_kind = |day: i32| match (days.get(&day), query.score) {
-        (None, _) => false,
-        (Some(value), Score::Dry) => *value < 10,
-        (Some(value), _) => *value >= 10,
-    };
-    for (first, value) in days {
+    let of_kind = |value: i32| if query.score == Score::Dry { value < 10 } else { value >= 10 };
+    let mut rest = days.iter();
+    while let Some((&first, &value)) = rest.next() {
+        // The values of the days that follow, as long as none is missing.
+        let ahead = rest.clone().zip(first + 1..).map_while(|((&day, &value), next)| (day == next).then_some(value));
         let found = match query.score {
-            Score::Highest => Some((1, *value as i64)),
-            Score::Lowest => Some((1, -(*value as i64))),
+            Score::Highest => Some((1, value as i64)),
+            Score::Lowest => Some((1, -(value as i64))),
             Score::Sum(length) => {
-                let mut values = (0..length as i32).map(|later| days.get(&(first + later)));
-                let total = values.try_fold(0, |total, value| Some(total + *value? as i64));
-                total.map(|total| (length as i32, total))
+                let (count, total) = ahead.take(length - 1).fold((1, value as i64), |it, value| (it.0 + 1, it.1 + value as i64));
+                (count == length).then_some((length as i32, total))
             }
-            Score::Dry | Score::Wet if of_kind(*first) && !of_kind(first - 1) => {
-                let length = (1..).find(|later| !of_kind(first + later)).unwrap();
-                Some((length, length as i64))
+            Score::Dry | Score::Wet if of_kind(value) && !days.get(&(first - 1)).is_some_and(|it| of_kind(*it)) => {
+                let length = 1 + ahead.take_while(|value| of_kind(*value)).count();
+                Some((length as i32, length as i64))
             }
             Score::Dry | Score::Wet => None,
         };
         if let Some((length, score)) = found {
-            offer(Candidate { id, first: *first, last: first + length - 1, score });
+            offer(Candidate { id, first, last: first + length - 1, score });
         }
     }
 }

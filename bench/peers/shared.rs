@@ -62,7 +62,7 @@ pub fn days_in_month(year: i32, month: i32) -> usize {
 /// The places of the elements are those of these codes.
 pub const ELEMENTS: [&[u8; 4]; 5] = [b"PRCP", b"SNOW", b"SNWD", b"TMAX", b"TMIN"];
 
-#[derive(Clone, Copy)]
+#[derive(Clone, Copy, PartialEq)]
 pub enum Score {
     Highest,
     Lowest,
