@@ -212,7 +212,7 @@ fn as_the_plain_program_has_it(rt: HostRuntime) -> Result<(), Fail> {
         "wet",
     ];
     let periods = [
-        "",
+        " from 1960-01-01 to 2025-12-31",
         " from 2020-07-01 to 2020-07-20",
         " from 2020-07-21 to 2020-07-21",
         " from 2020-04-01 to 2020-08-31",
