@@ -3,7 +3,9 @@ use Rattle.std.proofs.Common.{◌≡◌, ℕ, suc, ◌<◌, ◌^◌, Bool, true,
 use Rattle.std.specs.Prelude.{nat_lt, nat_le, ℤ, pos, neg_ℤ}
 use Rattle.std.specs.List.{list_any, list_all, IsDistinct}
 use Rattle.std.specs.Option.{option_or, option_map}
-use Rattle.std.specs.Map.{lookup, keys_of}
+use Rattle.std.specs.Ordering.{is_eq}
+use Rattle.std.proofs.lemmas.List.{length_push, map-append}
+use Rattle.std.proofs.lemmas.Map.Keys.{IsDistinct-push}
 use Rattle.ghcn_fields.specs.declared.field.Field.{Field}
 use Rattle.ghcn_fields.specs.declared.field.Field.TheVariants.{Blank, Number, Bad}
 use Rattle.ghcn_fields.specs.Lines.{columns}
@@ -15,13 +17,9 @@ use Rattle.ghcn_files.specs.declared.fault.StationsFault.{StationsFault}
 use Rattle.ghcn_files.specs.declared.fault.StationsFault.TheVariants.{StationLine, TooManyStations}
 use Rattle.ghcn_files.specs.Ids.{same_id, is_id}
 use Rattle.ghcn_files.specs.StationLines.{id_of, latitude, longitude, elevation, is_number_within, is_latitude, is_longitude, is_bad, number_of, is_printable, printable, station_of, line_why, is_station}
-use Rattle.ghcn_files.specs.Listed.{Numbered, is_repeated, stations_of, station_fault, is_station_of, AreKept}
-use Rattle.ghcn_files.proofs.ById.{AreOwn, same_id-turned}
+use Rattle.ghcn_files.specs.Listed.{Numbered, is_repeated, stations_of, station_fault, is_station_of, place_of, id_cmp, kept_place, AreListed, AreKept}
+use Rattle.ghcn_files.proofs.ById.{same_id-turned, same_id-laws, has_place, put_place}
 use Rattle.ghcn_files.proofs.StationTests.{why_by}
-
--- the stations that are kept
-abbrev pub kept : List (StationId × Station) → List Station
-kept entries = map (λ e. e.1) entries
 
 -- ---- an ID that an earlier line has
 
@@ -29,18 +27,6 @@ kept entries = map (λ e. e.1) entries
 repeated_is : (earlier : List Numbered) (id : StationId) → list_any (is_station_of id) (stations_of earlier) ≡ is_repeated earlier id
 repeated_is [] id = refl
 repeated_is (l ∷ ls) id = ap (λ (b : Bool). same_id (id_of l.1) id || b) (repeated_is ls id)
-
-some_if : (b : Bool) (s : Station) (o : Option Station) → is_some (cond b (Some s) o) ≡ (b || is_some o)
-some_if true s o = refl
-some_if false s o = refl
-
--- an ID is found among the kept stations where one of them has it
-pub found_is : (id : StationId) (entries : List (StationId × Station)) → AreOwn entries → is_some (lookup (same_id id) entries) ≡ list_any (is_station_of id) (kept entries)
-found_is id [] own = refl
-found_is id (e ∷ es) own =
-    some_if (same_id id e.0) e.1 (lookup (same_id id) es)
-    ∙ ap (λ (b : Bool). b || is_some (lookup (same_id id) es)) (ap (same_id id) own.0 ∙ same_id-turned id e.1.id)
-    ∙ ap (λ (b : Bool). is_station_of id e.1 || b) (found_is id es own.1)
 
 length-stations_of : (ls : List Numbered) → length (stations_of ls) ≡ length ls
 length-stations_of [] = refl
@@ -100,28 +86,6 @@ station_of-right line none =
 
 -- ---- one station more
 
-keys_are : (entries : List (StationId × Station)) → AreOwn entries → keys_of entries ≡ map (λ s. s.id) (kept entries)
-keys_are [] own = refl
-keys_are (e ∷ es) own =
-    ap (λ (id : StationId). id ∷ keys_of es) own.0
-    ∙ ap (λ (ids : List StationId). e.1.id ∷ ids) (keys_are es own.1)
-
-own-push : (entries : List (StationId × Station)) (s : Station) → AreOwn entries → AreOwn (entries ++ (s.id, s) ∷ [])
-own-push [] s own = (refl, tt)
-own-push (e ∷ es) s own = (own.0, own-push es s own.1)
-
-pub kept-push : (entries : List (StationId × Station)) (id : StationId) (s : Station) → kept (entries ++ (id, s) ∷ []) ≡ kept entries ++ s ∷ []
-kept-push [] id s = refl
-kept-push (e ∷ es) id s = ap (λ (ss : List Station). e.1 ∷ ss) (kept-push es id s)
-
-pub as_many : (entries : List (StationId × Station)) → length (kept entries) ≡ length entries
-as_many [] = refl
-as_many (e ∷ es) = ap suc (as_many es)
-
-length-push : (ss : List Station) (s : Station) → length (ss ++ s ∷ []) ≡ suc (length ss)
-length-push [] s = refl
-length-push (x ∷ xs) s = ap suc (length-push xs s)
-
 right-push : (ss : List Station) (s : Station) → list_all is_station ss ≡ true → is_station s ≡ true → list_all is_station (ss ++ s ∷ []) ≡ true
 right-push [] s all e = ap (λ (b : Bool). b && true) e
 right-push (x ∷ xs) s all e = both (is_station x) (list_all is_station xs) all (λ h. right-push xs s h e)
@@ -130,21 +94,41 @@ right-push (x ∷ xs) s all e = both (is_station x) (list_all is_station xs) all
     both true rest h more = more h
     both false rest h more = absurd (true≢false (sym h))
 
--- what is kept stays right with one station more, under an ID that was not there
-pub kept_more : (entries more : List (StationId × Station)) (s : Station) → AreKept entries → more ≡ entries ++ (s.id, s) ∷ [] → IsDistinct same_id (keys_of more) → length entries < 2 ^ 20 → is_station s ≡ true → AreKept more
-kept_more entries more s h e distinct room right =
-    let own : AreOwn more = subst AreOwn (sym e) (own-push entries s h.own) in
-    let stations : kept more ≡ kept entries ++ s ∷ [] = ap kept e ∙ kept-push entries s.id s in
+ids-push : (ss : List Station) (s : Station) → map (λ t. t.id) (ss ++ s ∷ []) ≡ map (λ t. t.id) ss ++ s.id ∷ []
+ids-push ss s = map-append (λ t. t.id) ss (s ∷ [])
+
+no_id : (ss : List Station) (id : StationId) → list_any (is_station_of id) ss ≡ list_any (same_id id) (map (λ t. t.id) ss)
+no_id [] id = refl
+no_id (s ∷ ss) id =
+    ap (λ (b : Bool). b || list_any (is_station_of id) ss) (same_id-turned s.id id)
+    ∙ ap (λ (b : Bool). same_id id s.id || b) (no_id ss id)
+
+none_there : (o : Option ℕ) → o ≡ None → is_some o ≡ false
+none_there None e = refl
+none_there (Some n) e = absurd cc
+
+-- what is listed stays so with one station more, whose ID none has
+listed_more : (ss : List Station) (s : Station) → AreListed ss → place_of ss s.id ≡ None → length ss < 2 ^ 20 → is_station s ≡ true → AreListed (ss ++ s ∷ [])
+listed_more ss s h new room right =
+    let fresh = sym (no_id ss s.id) ∙ sym (has_place ss s.id) ∙ none_there (place_of ss s.id) new in
     record {
-      own = own;
-      listed = record {
-        distinct = subst (IsDistinct same_id) (keys_are more own) distinct;
-        few = omega (arith, ap length stations, length-push (kept entries) s, as_many entries);
-        right = subst (λ (ss : List Station). list_all is_station ss ≡ true) (sym stations) (right-push (kept entries) s h.listed.right right);
-      };
+      distinct = subst (IsDistinct same_id) (sym (ids-push ss s)) (IsDistinct-push same_id-laws (map (λ t. t.id) ss) s.id h.distinct fresh);
+      few = omega (arith, length_push ss s);
+      right = right-push ss s h.right right;
     }
 
--- what wasn't found isn't there
-pub not_found : (o : Option Station) → is_some o ≡ false → o ≡ None
-not_found None e = refl
-not_found (Some s) e = absurd (true≢false e)
+-- and so does what is kept, where its place is kept beside the others
+pub kept_more : (ss : List Station) (places more : List (StationId × ℕ)) (s : Station) → AreKept ss places → place_of ss s.id ≡ None → length ss < 2 ^ 20 → is_station s ≡ true
+    → ((id : StationId) → kept_place more id ≡ cond (is_eq (id_cmp s.id id)) (Some (length ss)) (kept_place places id)) → AreKept (ss ++ s ∷ []) more
+kept_more ss places more s h new room right put = record {
+  listed = listed_more ss s h.listed new room right;
+  own = λ id. put id ∙ ap (cond (is_eq (id_cmp s.id id)) (Some (length ss))) (h.own id) ∙ put_place ss s id new;
+}
+
+-- nothing is kept at first
+pub nothing_kept : (ss : List Station) (places : List (StationId × ℕ)) → ss ≡ [] → places ≡ [] → AreKept ss places
+unfolding IsDistinct
+nothing_kept ss places none empty =
+    let P : List Station → Type 0 = λ x. AreKept x places in
+    let Q : List (StationId × ℕ) → Type 0 = AreKept [] in
+    subst P (sym none) (subst Q (sym empty) (record { listed = record { distinct = tt; few = omega arith; right = refl }; own = λ id. refl }))

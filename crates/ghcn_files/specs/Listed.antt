@@ -1,7 +1,12 @@
 -- The listed stations of a text, or the first line with a fault.
 use Rattle.std.specs.Prelude.{◌≡◌, ℕ, ◌≤◌, ◌^◌, Bool, not, nat_lt, if◌then◌else◌, List, [], ◌∷◌, ◌++◌, length, map, Option, None, Some, Result, Ok, Err, filter, ⊤, IsTrue}
-use Rattle.std.specs.List.{list_all, list_any, IsDistinct, AllByRecursion, position}
+use Rattle.std.specs.List.{list_all, list_any, IsDistinct, position}
 use Rattle.std.specs.Option.{option_or, option_map}
+use Rattle.std.specs.declared.cmp.Ordering.{Ordering}
+use Rattle.std.specs.Ordering.{nat_cmp}
+use Rattle.std.specs.Cmp.Lexicographic.{slice_cmp}
+use Rattle.std.specs.BTreeMap.{is_at}
+use Rattle.std.specs.Map.{lookup}
 use Rattle.ghcn_fields.specs.Bytes.{is_blank}
 use Rattle.ghcn_fields.specs.Lines.{numbered_lines}
 use Rattle.ghcn_fields.specs.Faults.{first_fault, IsFirstFault}
@@ -63,10 +68,18 @@ pub record AreListed (stations : List Station) : Type 0 where
   pub few : length stations ≤ 2 ^ 20
   pub right : IsTrue (list_all is_station stations)
 
--- stations that are kept by ID are listed, each under its own
-pub record AreKept (entries : List (StationId × Station)) : Type 0 where
-  pub own : AllByRecursion (λ e. e.0 ≡ e.1.id) entries
-  pub listed : AreListed (map (λ e. e.1) entries)
+-- IDs in the order of their bytes
+abbrev pub id_cmp : StationId → StationId → Ordering
+id_cmp a b = slice_cmp nat_cmp a.0 b.0
+
+-- the place that is kept for an ID
+abbrev pub kept_place : List (StationId × ℕ) → StationId → Option ℕ
+kept_place places id = lookup (is_at (id_cmp id)) places
+
+-- stations that are kept with the places of their IDs are listed, and an ID has the place that it has in the list
+pub record AreKept (stations : List Station) (places : List (StationId × ℕ)) : Type 0 where
+  pub listed : AreListed stations
+  pub own : (id : StationId) → kept_place places id ≡ place_of stations id
 
 -- want of memory, or the very fault that the text has
 abbrev pub IsRefusal : StationsFault → Result (List Station) StationsFault → Type 0

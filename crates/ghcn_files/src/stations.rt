@@ -1,32 +1,35 @@
 //! The listed stations, in the order of the list.
 
-ghost use Rattle.std.specs.Prelude.{◌≡◌, length, slice_get, Ok, IfOk, OnOk, IfErr};
+ghost use Rattle.std.specs.Prelude.{◌≡◌, ◌<◌, ◌^◌, ◌++◌, ◌∷◌, [], None, IsTrue, length, slice_get, Ok, IfOk, OnOk, IfErr};
 ghost use Rattle.std.specs.List.{find};
 ghost use Rattle.std.specs.Option.{option_copied};
+ghost use Rattle.ghcn_files.specs.StationLines.{is_station};
 ghost use Rattle.ghcn_files.specs.Listed.{AreListed, is_station_of, place_of, listed, Adds, IsRefusal, IsRefusedFor, IsFirstRefusal};
 
 use crate::{Station, StationId, StationWhy, StationsFault};
 use ghcn_fields::{Memory, is_blank, lines};
-use indexmap::IndexMap;
 use std::alloc::Global;
+use std::collections::BTreeMap;
 use std::marker::Model;
 
 /// The stations of a list, in its order: at most 2^20, and no ID twice.
 #[derive(Drop)]
 pub struct Stations {
-    by_id: IndexMap<StationId, Station>,
+    list: Vec<Station>,
+    /// The place of each ID in the list. An ordered map has no IDs that make its look-ups slow.
+    places: BTreeMap<StationId, usize>,
 }
 
 impl Model for Stations {
-    ghost use Rattle.std.specs.Prelude.{List, map};
+    ghost use Rattle.std.specs.Prelude.{List};
     ghost use Rattle.ghcn_files.specs.declared.station.Station.{Station};
     ghost use Rattle.ghcn_files.specs.Listed.{AreKept};
 
     ghost Value = { List Station };
 
-    ghost view = { λ s. map (λ e. e.1) s.by_id.entries };
+    ghost view = { λ s. s.list.items };
 
-    ghost invariant = { λ s. AreKept s.by_id.entries };
+    ghost invariant = { λ s. AreKept s.list.items s.places.entries };
 }
 
 /// The most stations that a list may have.
@@ -41,7 +44,8 @@ impl Stations {
         ensures first { IfErr result (λ fault. IsFirstRefusal fault text.now) }
     {
         let mut stations = Stations {
-            by_id: IndexMap::new(alloc),
+            list: Vec::new(alloc),
+            places: BTreeMap::new(alloc),
         };
         for (number, line) in lines(text) {
             if !is_blank(line) {
@@ -56,30 +60,29 @@ impl Stations {
         ensures number { result ≡ length self.now }
         ensures listed { AreListed self.now }
     {
-        self.by_id.len() as u64
+        self.list.len() as u64
     }
 
     /// The station at a place in the list, from 0.
     pub fn at(&self, place: u64) -> Option<&Station>
         ensures { option_copied result ≡ slice_get self.now place }
     {
-        let (_, station) = self.by_id.get_index(place as usize)?;
-        Some(station)
+        self.list.get(place as usize)
     }
 
     /// The station with this ID.
     pub fn get(&self, id: &StationId) -> Option<&Station>
         ensures { option_copied result ≡ find (is_station_of id.now) self.now }
     {
-        self.by_id.get(id)
+        self.at(self.place(id)?)
     }
 
     /// The place in the list, from 0, of the station with this ID.
     pub fn place(&self, id: &StationId) -> Option<u64>
         ensures { result ≡ place_of self.now id.now }
     {
-        let place = self.by_id.get_index_of(id)?;
-        Some(place as u64)
+        let place = self.places.get(id)?;
+        Some(*place as u64)
     }
 
     /// Adds the station of a line to those of the lines before it, unless it has a fault after them.
@@ -91,18 +94,36 @@ impl Stations {
             Ok(station) => station,
             Err(why) => return Err(StationsFault::StationLine { line: number, why }),
         };
-        if self.by_id.contains_key(&station.id) {
+        if self.places.contains_key(&station.id) {
             return Err(StationsFault::StationLine {
                 line: number,
                 why: StationWhy::Duplicate,
             });
         }
-        if self.by_id.len() >= MOST_STATIONS {
+        if self.list.len() >= MOST_STATIONS {
             return Err(StationsFault::TooManyStations);
         }
-        match self.by_id.insert(station.id, station) {
+        match self.push(station) {
+            Ok(()) => Ok(()),
+            Err(memory) => Err(StationsFault::Memory(memory)),
+        }
+    }
+
+    /// Puts a station behind the others, whose ID none of them has.
+    fn push(&mut self, station: Station) -> Result<(), Memory>
+        requires new { place_of self.old station.id ≡ None }
+        requires room { length self.old < 2 ^ 20 }
+        requires right { IsTrue (is_station station) }
+        ensures { OnOk result (self.new ≡ self.old ++ station ∷ []) }
+    {
+        let place = self.list.len();
+        self.list.push(station)?;
+        match self.places.insert(station.id, place) {
             Ok(_) => Ok(()),
-            Err(_) => Err(StationsFault::Memory(Memory)),
+            Err(_) => {
+                self.list.pop();
+                Err(Memory)
+            }
         }
     }
 }

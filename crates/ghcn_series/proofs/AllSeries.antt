@@ -1,9 +1,7 @@
 -- The series of all stations, from what was gathered of each.
-use Rattle.std.proofs.Common.{◌≡◌, ℕ, zero, suc, ◌+◌, Bool, true, false, cond, not, List, [], ◌∷◌, ◌++◌, length, map, filter, Option, None, Some, refl, sym, ap, ◌∙◌, subst, append_assoc}
-use Rattle.std.specs.Prelude.{◌==◌, ◌&&◌, ◌||◌, int_le}
+use Rattle.std.proofs.Common.{◌≡◌, ℕ, Bool, true, false, cond, not, List, [], ◌∷◌, ◌++◌, length, map, filter, None, Some, refl, sym, ap, ◌∙◌, subst}
+use Rattle.std.specs.Prelude.{◌==◌, ◌&&◌, ◌||◌}
 use Rattle.std.specs.List.{filter_map, flat_map, cons_option, list_any, AllZip, AllByRecursion, IsDistinct}
-use Rattle.std.specs.Map.{keys_of}
-use Rattle.std.proofs.lemmas.List.{append-nil, map-append}
 use Rattle.std.proofs.lemmas.List.Elements.{filter-append}
 use Rattle.ghcn_fields.specs.Sorting.{sorted_by}
 use Rattle.ghcn_files.specs.declared.station.StationId.{StationId}
@@ -20,14 +18,14 @@ use Rattle.ghcn_series.specs.declared.station.StationGathering.{StationGathering
 use Rattle.ghcn_series.specs.Series.{DayValue, Usable, IsSeries}
 use Rattle.ghcn_series.specs.DailyFaults.{is_listed}
 use Rattle.ghcn_series.specs.Says.{Fact, facts_of, is_usable, days_of, usable_of, all_series}
-use Rattle.ghcn_series.specs.Held.{Entry, AreApart, AreOwn, same_key, same_series}
-use Rattle.ghcn_series.specs.Gathered.{usable_days, months_of, IsGathering, IsGatheringOf, AreByElement, IsStationOf, IsReady, entry_of, entries_of}
-use Rattle.ghcn_series.proofs.Places.{ids, same_id-turned, same_id-refl, same_id-is}
+use Rattle.ghcn_series.specs.Held.{AreByStation, AreSeries, all_of, same_series}
+use Rattle.ghcn_series.specs.Gathered.{usable_days, months_of, IsGatheringOf, AreByElement, IsStationOf, IsReady, gathered_series, station_series}
+use Rattle.ghcn_series.proofs.Places.{ids, same_id-refl}
 use Rattle.ghcn_series.proofs.StationMonths.{months_of-none, elements_differ}
 use Rattle.ghcn_series.proofs.SortedDays.{by_day}
 use Rattle.ghcn_series.proofs.ReadySeries.{is_series, length-sorted}
-use Rattle.ghcn_series.proofs.SeriesKeys.{Key, AreUnderOwn, distinct_series}
 use Rattle.ghcn_series.proofs.FactsOfMonths.{selected-months}
+use Rattle.ghcn_series.proofs.ListFacts.{and_false, both_all, weaken}
 
 -- elements that are the same
 same_element-is : (a b : Element) → same_element a b ≡ true → a ≡ b
@@ -92,121 +90,90 @@ series_of_gathering : StationId → Gathering → Usable
 series_of_gathering id g = record { id = id; element = g.element; days = sorted_by by_day g.days.items }
 
 -- what is true of each series of a station
-from_gatherings : (P : Entry → Type 0) (id : StationId) (gs : List Gathering) → ((g : Gathering) (x : Entry) → IsReady g → (length g.days.items == 0) ≡ false → x ≡ ((id, g.element), series_of_gathering id g) → P x)
-    → AllByRecursion IsReady gs → AllByRecursion P (filter_map (entry_of id) gs)
+from_gatherings : (P : Usable → Type 0) (id : StationId) (gs : List Gathering) → ((g : Gathering) (u : Usable) → IsReady g → (length g.days.items == 0) ≡ false → u ≡ series_of_gathering id g → P u)
+    → AllByRecursion IsReady gs → AllByRecursion P (filter_map (gathered_series id) gs)
 unfolding series_of_gathering
 from_gatherings P id [] each ready = tt
 from_gatherings P id (g ∷ gs) each ready =
-    elim (length g.days.items == 0) as (λ b. (length g.days.items == 0) ≡ b → AllByRecursion P (cons_option (cond b None (Some ((id, g.element), series_of_gathering id g))) (filter_map (entry_of id) gs))) [
+    elim (length g.days.items == 0) as (λ b. (length g.days.items == 0) ≡ b → AllByRecursion P (cons_option (cond b None (Some (series_of_gathering id g))) (filter_map (gathered_series id) gs))) [
       | true ↦ λ is. from_gatherings P id gs each ready.1
-      | false ↦ λ is. (each g ((id, g.element), series_of_gathering id g) ready.0 is refl, from_gatherings P id gs each ready.1)
+      | false ↦ λ is. (each g (series_of_gathering id g) ready.0 is refl, from_gatherings P id gs each ready.1)
     ] refl
 
-both_all : {X : Type 0} (P : X → Type 0) (xs ys : List X) → AllByRecursion P xs → AllByRecursion P ys → AllByRecursion P (xs ++ ys)
-both_all P [] ys p q = q
-both_all P (x ∷ xs) ys p q = (p.0, both_all P xs ys p.1 q)
+-- ---- no two series are of one station and element
 
-from_stations : (P : Entry → Type 0) (gs : List StationGathering) → AllByRecursion (λ g. AllByRecursion P (entries_of g)) gs → AllByRecursion P (flat_map entries_of gs)
-from_stations P [] all = tt
-from_stations P (g ∷ gs) all = both_all P (entries_of g) (flat_map entries_of gs) all.0 (from_stations P gs all.1)
+-- a series is none of those
+abbrev IsOther : Usable → List Usable → Type 0
+IsOther u us = AllByRecursion (λ v. same_series u v ≡ false) us
 
--- ---- no two series stand under one key
-
-keys_of-append : (xs ys : List Entry) → keys_of (xs ++ ys) ≡ keys_of xs ++ keys_of ys
-keys_of-append [] ys = refl
-keys_of-append (x ∷ xs) ys = ap (λ (ks : List Key). x.0 ∷ ks) (keys_of-append xs ys)
-
-keys_all : (P : Key → Type 0) (xs : List Entry) → AllByRecursion (λ x. P x.0) xs → AllByRecursion P (keys_of xs)
-keys_all P [] all = tt
-keys_all P (x ∷ xs) all = (all.0, keys_all P xs all.1)
-
-both_apart : (xs ys : List Entry) → AreApart xs → AreApart ys → AllByRecursion (λ x. AllByRecursion (λ k. same_key x.0 k ≡ false) (keys_of ys)) xs → AreApart (xs ++ ys)
+both_apart : (xs ys : List Usable) → IsDistinct same_series xs → IsDistinct same_series ys → AllByRecursion (λ x. IsOther x ys) xs → IsDistinct same_series (xs ++ ys)
 unfolding IsDistinct
 both_apart [] ys p q all = q
-both_apart (x ∷ xs) ys p q all =
-    let P : List Key → Type 0 = AllByRecursion (λ k. same_key x.0 k ≡ false) in
-    (subst P (sym (keys_of-append xs ys)) (both_all (λ k. same_key x.0 k ≡ false) (keys_of xs) (keys_of ys) p.0 all.0), both_apart xs ys p.1 q all.1)
+both_apart (x ∷ xs) ys p q all = (both_all (λ v. same_series x v ≡ false) xs ys p.0 all.0, both_apart xs ys p.1 q all.1)
 
--- the first of some series are apart where all are
-pub apart_front : (xs ys : List Entry) → AreApart (xs ++ ys) → AreApart xs
-unfolding IsDistinct
-apart_front [] ys all = tt
-apart_front (x ∷ xs) ys all = (front xs (keys_of ys) (subst (AllByRecursion (λ k. same_key x.0 k ≡ false)) (keys_of-append xs ys) all.0), apart_front xs ys all.1)
-  where
-    front : (zs : List Entry) (ks : List Key) → AllByRecursion (λ k. same_key x.0 k ≡ false) (keys_of zs ++ ks) → AllByRecursion (λ k. same_key x.0 k ≡ false) (keys_of zs)
-    front [] ks all = tt
-    front (z ∷ zs) ks all = (all.0, front zs ks all.1)
-
-other_element : (id : StationId) (d e : Element) → same_element d e ≡ false → same_key (id, d) (id, e) ≡ false
-other_element id d e other = and_false (same_id id id) (same_element d e) other
-  where
-    and_false : (a b : Bool) → b ≡ false → (a && b) ≡ false
-    and_false true b e = e
-    and_false false b e = refl
-
-others_apart : (ms : List Month) (id : StationId) (d : Element) (gs : List Gathering) (es : List Element) → AllByRecursion (λ e. same_element d e ≡ false) es → AllZip (IsGatheringOf ms id) gs es
-    → AllByRecursion (λ k. same_key (id, d) k ≡ false) (keys_of (filter_map (entry_of id) gs))
-others_apart ms id d [] [] other all = tt
-others_apart ms id d [] (e ∷ es) other all = absurd all
-others_apart ms id d (g ∷ gs) [] other all = absurd all
-others_apart ms id d (g ∷ gs) (e ∷ es) other all =
-    elim (length g.days.items == 0) as (λ b. AllByRecursion (λ k. same_key (id, d) k ≡ false) (keys_of (cons_option (cond b None (Some ((id, g.element), record { id = id; element = g.element; days = sorted_by by_day g.days.items }))) (filter_map (entry_of id) gs)))) [
-      | true ↦ others_apart ms id d gs es other.1 all.1
-      | false ↦ (other_element id d g.element (ap (same_element d) all.0.element ∙ other.0), others_apart ms id d gs es other.1 all.1)
+others_apart : (ms : List Month) (id : StationId) (u : Usable) (gs : List Gathering) (es : List Element) → AllByRecursion (λ e. same_element u.element e ≡ false) es → AllZip (IsGatheringOf ms id) gs es
+    → IsOther u (filter_map (gathered_series id) gs)
+others_apart ms id u [] [] other all = tt
+others_apart ms id u [] (e ∷ es) other all = absurd all
+others_apart ms id u (g ∷ gs) [] other all = absurd all
+others_apart ms id u (g ∷ gs) (e ∷ es) other all =
+    elim (length g.days.items == 0) as (λ b. IsOther u (cons_option (cond b None (Some (record { id = id; element = g.element; days = sorted_by by_day g.days.items }))) (filter_map (gathered_series id) gs))) [
+      | true ↦ others_apart ms id u gs es other.1 all.1
+      | false ↦ (and_false (same_id u.id id) (same_element u.element g.element) (ap (same_element u.element) all.0.element ∙ other.0), others_apart ms id u gs es other.1 all.1)
     ]
 
-elements_apart : (ms : List Month) (id : StationId) (gs : List Gathering) (es : List Element) → IsDistinct same_element es → AllZip (IsGatheringOf ms id) gs es → AreApart (filter_map (entry_of id) gs)
+elements_apart : (ms : List Month) (id : StationId) (gs : List Gathering) (es : List Element) → IsDistinct same_element es → AllZip (IsGatheringOf ms id) gs es → IsDistinct same_series (filter_map (gathered_series id) gs)
 unfolding IsDistinct
 elements_apart ms id [] [] apart all = tt
 elements_apart ms id [] (e ∷ es) apart all = absurd all
 elements_apart ms id (g ∷ gs) [] apart all = absurd all
 elements_apart ms id (g ∷ gs) (e ∷ es) apart all =
-    elim (length g.days.items == 0) as (λ b. AreApart (cons_option (cond b None (Some ((id, g.element), record { id = id; element = g.element; days = sorted_by by_day g.days.items }))) (filter_map (entry_of id) gs))) [
+    let this : Usable = record { id = id; element = g.element; days = sorted_by by_day g.days.items } in
+    elim (length g.days.items == 0) as (λ b. IsDistinct same_series (cons_option (cond b None (Some this)) (filter_map (gathered_series id) gs))) [
       | true ↦ elements_apart ms id gs es apart.1 all.1
-      | false ↦ (others_apart ms id g.element gs es (subst (λ d. AllByRecursion (λ x. same_element d x ≡ false) es) (sym all.0.element) apart.0) all.1, elements_apart ms id gs es apart.1 all.1)
+      | false ↦ (others_apart ms id this gs es (subst (λ d. AllByRecursion (λ x. same_element d x ≡ false) es) (sym all.0.element) apart.0) all.1, elements_apart ms id gs es apart.1 all.1)
     ]
 
-station_apart : (ms : List Month) (id : StationId) (gs : List Gathering) → AreByElement ms id gs → AreApart (filter_map (entry_of id) gs)
+station_apart : (ms : List Month) (id : StationId) (gs : List Gathering) → AreByElement ms id gs → IsDistinct same_series (filter_map (gathered_series id) gs)
 unfolding IsDistinct
 station_apart ms id [] all = tt
 station_apart ms id (g ∷ gs) all = elements_apart ms id (g ∷ gs) elements elements_differ all
 
--- the keys of a station's series have its ID
-keys_of_station : (id : StationId) (gs : List Gathering) → AllByRecursion (λ x. x.0.0 ≡ id) (filter_map (entry_of id) gs)
-keys_of_station id [] = tt
-keys_of_station id (g ∷ gs) =
-    elim (length g.days.items == 0) as (λ b. AllByRecursion (λ x. x.0.0 ≡ id) (cons_option (cond b None (Some ((id, g.element), record { id = id; element = g.element; days = sorted_by by_day g.days.items }))) (filter_map (entry_of id) gs))) [
-      | true ↦ keys_of_station id gs
-      | false ↦ (refl, keys_of_station id gs)
+-- a station's series have its ID
+ids_of_station : (id : StationId) (gs : List Gathering) → AllByRecursion (λ u. u.id ≡ id) (filter_map (gathered_series id) gs)
+ids_of_station id [] = tt
+ids_of_station id (g ∷ gs) =
+    elim (length g.days.items == 0) as (λ b. AllByRecursion (λ u. u.id ≡ id) (cons_option (cond b None (Some (record { id = id; element = g.element; days = sorted_by by_day g.days.items }))) (filter_map (gathered_series id) gs))) [
+      | true ↦ ids_of_station id gs
+      | false ↦ (refl, ids_of_station id gs)
     ]
 
-weaken : {X : Type 0} (P Q : X → Type 0) (xs : List X) → ((x : X) → P x → Q x) → AllByRecursion P xs → AllByRecursion Q xs
-weaken P Q [] f all = tt
-weaken P Q (x ∷ xs) f all = (f x all.0, weaken P Q xs f all.1)
+-- the series of all stations
+abbrev pub all_gathered : List StationGathering → List Usable
+all_gathered gs = flat_map station_series gs
 
-other_keys : (id : StationId) (ms : List Month) (ss : List Station) (gs : List StationGathering) → AllByRecursion (λ i. same_id id i ≡ false) (ids ss) → AllZip (IsStationOf ms) ss gs → AllByRecursion (λ x. same_id id x.0.0 ≡ false) (flat_map entries_of gs)
-other_keys id ms [] [] other all = tt
-other_keys id ms [] (g ∷ gs) other all = absurd all
-other_keys id ms (s ∷ ss) [] other all = absurd all
-other_keys id ms (s ∷ ss) (g ∷ gs) other all =
-    both_all (λ x. same_id id x.0.0 ≡ false) (entries_of g) (flat_map entries_of gs)
-    (weaken (λ x. x.0.0 ≡ g.id) (λ x. same_id id x.0.0 ≡ false) (entries_of g) (λ x e. ap (same_id id) (e ∙ all.0.id) ∙ other.0) (keys_of_station g.id g.by_element.items))
-    (other_keys id ms ss gs other.1 all.1)
+other_ids : (id : StationId) (ms : List Month) (ss : List Station) (gs : List StationGathering) → AllByRecursion (λ i. same_id id i ≡ false) (ids ss) → AllZip (IsStationOf ms) ss gs → AllByRecursion (λ u. same_id id u.id ≡ false) (all_gathered gs)
+other_ids id ms [] [] other all = tt
+other_ids id ms [] (g ∷ gs) other all = absurd all
+other_ids id ms (s ∷ ss) [] other all = absurd all
+other_ids id ms (s ∷ ss) (g ∷ gs) other all =
+    both_all (λ u. same_id id u.id ≡ false) (station_series g) (all_gathered gs)
+    (weaken (λ u. u.id ≡ g.id) (λ u. same_id id u.id ≡ false) (station_series g) (λ u e. ap (same_id id) (e ∙ all.0.id) ∙ other.0) (ids_of_station g.id g.by_element.items))
+    (other_ids id ms ss gs other.1 all.1)
 
 -- where no ID stands twice, the series of all stations are apart
-pub stations_apart : (ms : List Month) (ss : List Station) (gs : List StationGathering) → IsDistinct same_id (ids ss) → AllZip (IsStationOf ms) ss gs → AreApart (flat_map entries_of gs)
+pub stations_apart : (ms : List Month) (ss : List Station) (gs : List StationGathering) → IsDistinct same_id (ids ss) → AllZip (IsStationOf ms) ss gs → IsDistinct same_series (all_gathered gs)
 unfolding IsDistinct
 stations_apart ms [] [] apart all = tt
 stations_apart ms [] (g ∷ gs) apart all = absurd all
 stations_apart ms (s ∷ ss) [] apart all = absurd all
 stations_apart ms (s ∷ ss) (g ∷ gs) apart all =
-    let others : AllByRecursion (λ x. same_id s.id x.0.0 ≡ false) (flat_map entries_of gs) = other_keys s.id ms ss gs apart.0 all.1 in
-    both_apart (entries_of g) (flat_map entries_of gs) (station_apart ms g.id g.by_element.items all.0.holds) (stations_apart ms ss gs apart.1 all.1)
-    (weaken (λ x. x.0.0 ≡ g.id) (λ x. AllByRecursion (λ k. same_key x.0 k ≡ false) (keys_of (flat_map entries_of gs))) (entries_of g)
-    (λ x e. keys_all (λ k. same_key x.0 k ≡ false) (flat_map entries_of gs)
-    (weaken (λ y. same_id s.id y.0.0 ≡ false) (λ y. same_key x.0 y.0 ≡ false) (flat_map entries_of gs)
-    (λ y o. ap (λ (i : StationId). same_id i y.0.0 && same_element x.0.1 y.0.1) (e ∙ all.0.id) ∙ ap (λ (b : Bool). b && same_element x.0.1 y.0.1) o) others))
-    (keys_of_station g.id g.by_element.items))
+    let others : AllByRecursion (λ u. same_id s.id u.id ≡ false) (all_gathered gs) = other_ids s.id ms ss gs apart.0 all.1 in
+    both_apart (station_series g) (all_gathered gs) (station_apart ms g.id g.by_element.items all.0.holds) (stations_apart ms ss gs apart.1 all.1)
+    (weaken (λ u. u.id ≡ g.id) (λ u. IsOther u (all_gathered gs)) (station_series g)
+    (λ u e. weaken (λ v. same_id s.id v.id ≡ false) (λ v. same_series u v ≡ false) (all_gathered gs)
+    (λ v o. ap (λ (i : StationId). same_id i v.id && same_element u.element v.element) (e ∙ all.0.id) ∙ ap (λ (b : Bool). b && same_element u.element v.element) o) others)
+    (ids_of_station g.id g.by_element.items))
 
 -- ---- they are the series of the facts
 
@@ -216,11 +183,11 @@ no_days ms id e none = ap (flat_map usable_days) (months_of-none ms id e none)
 has_days : Usable → Bool
 has_days s = not (length s.days == 0)
 
-one_or_none : (b c : Bool) (x : Entry) (u : Usable) (xs : List Entry) (us : List Usable) → b ≡ c → x.1 ≡ u → map (λ y. y.1) xs ≡ us → map (λ y. y.1) (cons_option (cond b None (Some x)) xs) ≡ cond (not c) (u ∷ us) us
+one_or_none : (b c : Bool) (x u : Usable) (xs us : List Usable) → b ≡ c → x ≡ u → xs ≡ us → cons_option (cond b None (Some x)) xs ≡ cond (not c) (u ∷ us) us
 one_or_none true true x u xs us same this rest = rest
 one_or_none true false x u xs us same this rest = absurd cc
 one_or_none false true x u xs us same this rest = absurd cc
-one_or_none false false x u xs us same this rest = ap (λ (y : Usable). y ∷ map (λ y. y.1) xs) this ∙ ap (λ (ys : List Usable). u ∷ ys) rest
+one_or_none false false x u xs us same this rest = ap (λ (y : Usable). y ∷ xs) this ∙ ap (λ (ys : List Usable). u ∷ ys) rest
 
 module _ (stations : List Station) (ms : List Month) where
   abbrev facts : List Fact
@@ -233,7 +200,7 @@ module _ (stations : List Station) (ms : List Month) where
   made : StationId → Element → List DayValue → Usable
   made id e days = record { id = id; element = e; days = days }
 
-  elements_series : (s : Station) (gs : List Gathering) (es : List Element) → is_listed stations s.id ≡ true → AllZip (IsGatheringOf ms s.id) gs es → map (λ y. y.1) (filter_map (entry_of s.id) gs) ≡ filter has_days (map (usable_of facts s) es)
+  elements_series : (s : Station) (gs : List Gathering) (es : List Element) → is_listed stations s.id ≡ true → AllZip (IsGatheringOf ms s.id) gs es → filter_map (gathered_series s.id) gs ≡ filter has_days (map (usable_of facts s) es)
   unfolding has_days made
   elements_series s [] [] listed all = refl
   elements_series s [] (e ∷ es) listed all = absurd all
@@ -241,8 +208,8 @@ module _ (stations : List Station) (ms : List Month) where
   elements_series s (g ∷ gs) (e ∷ es) listed all =
       let days : sorted_by by_day g.days.items ≡ days_of facts s.id e = ap (sorted_by by_day) all.0.holds.days ∙ sym (days_of-is s.id e listed) in
       let empty : (length g.days.items == 0) ≡ (length (days_of facts s.id e) == 0) = ap (λ (n : ℕ). n == 0) (sym (length-sorted g.days.items) ∙ ap length days) in
-      one_or_none (length g.days.items == 0) (length (days_of facts s.id e) == 0) ((s.id, g.element), made s.id g.element (sorted_by by_day g.days.items)) (usable_of facts s e)
-      (filter_map (entry_of s.id) gs) (filter has_days (map (usable_of facts s) es)) empty
+      one_or_none (length g.days.items == 0) (length (days_of facts s.id e) == 0) (made s.id g.element (sorted_by by_day g.days.items)) (usable_of facts s e)
+      (filter_map (gathered_series s.id) gs) (filter has_days (map (usable_of facts s) es)) empty
       (ap (λ (x : Element). made s.id x (sorted_by by_day g.days.items)) all.0.element ∙ ap (made s.id e) days)
       (elements_series s gs es listed all.1)
 
@@ -254,23 +221,22 @@ module _ (stations : List Station) (ms : List Month) where
       ap (λ (ds : List DayValue). cond (not (length ds == 0)) (usable_of facts s e ∷ filter has_days (map (usable_of facts s) es)) (filter has_days (map (usable_of facts s) es))) empty
       ∙ no_series s es listed none
 
-  station_series : (s : Station) (gs : List Gathering) → is_listed stations s.id ≡ true → AreByElement ms s.id gs → map (λ y. y.1) (filter_map (entry_of s.id) gs) ≡ filter has_days (map (usable_of facts s) elements)
-  station_series s [] listed all = sym (no_series s elements listed all)
-  station_series s (g ∷ gs) listed all = elements_series s (g ∷ gs) elements listed all
+  station_series-are : (s : Station) (gs : List Gathering) → is_listed stations s.id ≡ true → AreByElement ms s.id gs → filter_map (gathered_series s.id) gs ≡ filter has_days (map (usable_of facts s) elements)
+  station_series-are s [] listed all = sym (no_series s elements listed all)
+  station_series-are s (g ∷ gs) listed all = elements_series s (g ∷ gs) elements listed all
 
   -- the series that are gathered are those of the facts
   pub series_are : (ss : List Station) (gs : List StationGathering) → AllByRecursion (λ s. is_listed stations s.id ≡ true) ss → AllZip (IsStationOf ms) ss gs
-      → map (λ y. y.1) (flat_map entries_of gs) ≡ all_series ss facts
+      → all_gathered gs ≡ all_series ss facts
   unfolding has_days
   series_are [] [] listed all = refl
   series_are [] (g ∷ gs) listed all = absurd all
   series_are (s ∷ ss) [] listed all = absurd all
   series_are (s ∷ ss) (g ∷ gs) listed all =
-      let here : map (λ y. y.1) (entries_of g) ≡ filter has_days (map (usable_of facts s) elements) =
-      ap (λ (i : StationId). map (λ (y : Entry). y.1) (filter_map (entry_of i) g.by_element.items)) all.0.id
-      ∙ station_series s g.by_element.items listed.0 (subst (λ i. AreByElement ms i g.by_element.items) all.0.id all.0.holds) in
-      map-append (λ (y : Entry). y.1) (entries_of g) (flat_map entries_of gs)
-      ∙ ap (λ (us : List Usable). us ++ map (λ (y : Entry). y.1) (flat_map entries_of gs)) here
+      let here : station_series g ≡ filter has_days (map (usable_of facts s) elements) =
+      ap (λ (i : StationId). filter_map (gathered_series i) g.by_element.items) all.0.id
+      ∙ station_series-are s g.by_element.items listed.0 (subst (λ i. AreByElement ms i g.by_element.items) all.0.id all.0.holds) in
+      ap (λ (us : List Usable). us ++ all_gathered gs) here
       ∙ ap (λ (us : List Usable). filter has_days (map (usable_of facts s) elements) ++ us) (series_are ss gs listed.1 all.1)
       ∙ sym (filter-append has_days (map (usable_of facts s) elements) (flat_map (λ x. map (usable_of facts x) elements) ss))
 
@@ -294,40 +260,42 @@ each_listed (s ∷ ss) = (listed_among ss s ss, weaken (λ x. is_listed ss x.id 
 pub all_listed : (ss : List Station) → AllByRecursion (λ s. is_listed ss s.id ≡ true) ss
 all_listed ss = each_listed ss
 
-map_all : (P : Usable → Type 0) (xs : List Entry) → AllByRecursion (λ x. P x.1) xs → AllByRecursion P (map (λ y. y.1) xs)
-map_all P [] all = tt
-map_all P (x ∷ xs) all = (all.0, map_all P xs all.1)
-
-of_stations : (P : Entry → Type 0) (stations : List Station) (ms : List Month) (ss : List Station) (gs : List StationGathering) → AllByRecursion (λ s. is_listed stations s.id ≡ true) ss
-    → ((id : StationId) (g : Gathering) (x : Entry) → is_listed stations id ≡ true → IsReady g → (length g.days.items == 0) ≡ false → x ≡ ((id, g.element), series_of_gathering id g) → P x)
-    → AllByRecursion (λ s. AllByRecursion IsReady s.by_element.items) gs → AllZip (IsStationOf ms) ss gs → AllByRecursion P (flat_map entries_of gs)
+of_stations : (P : Usable → Type 0) (stations : List Station) (ms : List Month) (ss : List Station) (gs : List StationGathering) → AllByRecursion (λ s. is_listed stations s.id ≡ true) ss
+    → ((id : StationId) (g : Gathering) (u : Usable) → is_listed stations id ≡ true → IsReady g → (length g.days.items == 0) ≡ false → u ≡ series_of_gathering id g → P u)
+    → AllByRecursion (λ s. AllByRecursion IsReady s.by_element.items) gs → AllZip (IsStationOf ms) ss gs → AllByRecursion P (all_gathered gs)
 of_stations P stations ms [] [] listed each ready all = tt
 of_stations P stations ms [] (g ∷ gs) listed each ready all = absurd all
 of_stations P stations ms (s ∷ ss) [] listed each ready all = absurd all
 of_stations P stations ms (s ∷ ss) (g ∷ gs) listed each ready all =
-    both_all P (entries_of g) (flat_map entries_of gs)
-    (from_gatherings P g.id g.by_element.items (λ h x r some is. each g.id h x (ap (is_listed stations) all.0.id ∙ listed.0) r some is) ready.0)
+    both_all P (station_series g) (all_gathered gs)
+    (from_gatherings P g.id g.by_element.items (λ h u r some is. each g.id h u (ap (is_listed stations) all.0.id ∙ listed.0) r some is) ready.0)
     (of_stations P stations ms ss gs listed.1 each ready.1 all.1)
 
--- the series of all stations are each under its own station and element, and right
-pub are_own : (ms : List Month) (ss : List Station) (gs : List StationGathering) → AreListed ss → AllByRecursion IsMonth ms → AllZip (IsStationOf ms) ss gs → AreOwn ss (flat_map entries_of gs)
+own_ids : (ms : List Month) (ss : List Station) (gs : List StationGathering) → AllZip (IsStationOf ms) ss gs → AllZip (λ s series. AllByRecursion (λ u. u.id ≡ s.id) series) ss (map station_series gs)
+own_ids ms [] [] all = tt
+own_ids ms [] (g ∷ gs) all = absurd all
+own_ids ms (s ∷ ss) [] all = absurd all
+own_ids ms (s ∷ ss) (g ∷ gs) all =
+    (weaken (λ u. u.id ≡ g.id) (λ u. u.id ≡ s.id) (station_series g) (λ u e. e ∙ all.0.id) (ids_of_station g.id g.by_element.items), own_ids ms ss gs all.1)
+
+-- all lists, one after the other, are the series of all stations
+pub all_of-are : (gs : List StationGathering) → all_of (map station_series gs) ≡ all_gathered gs
+all_of-are [] = refl
+all_of-are (g ∷ gs) = ap (λ (us : List Usable). station_series g ++ us) (all_of-are gs)
+
+-- the series of all stations, in one list for each, are its own and right
+pub are_by_station : (ms : List Month) (ss : List Station) (gs : List StationGathering) → AreListed ss → AllByRecursion IsMonth ms → AllZip (IsStationOf ms) ss gs → AreByStation ss (map station_series gs)
 unfolding series_of_gathering
-are_own ms ss gs listed right all =
+are_by_station ms ss gs listed right all =
     let ready = all_ready ms ss gs right all in
-    let own : AreUnderOwn (flat_map entries_of gs) =
-    of_stations (λ x. (x.0.0 ≡ x.1.id) × (x.0.1 ≡ x.1.element)) ss ms ss gs (all_listed ss)
-    (λ id g x l r some is. (ap (λ (y : Entry). y.0.0) is ∙ sym (ap (λ (y : Entry). y.1.id) is), ap (λ (y : Entry). y.0.1) is ∙ sym (ap (λ (y : Entry). y.1.element) is))) ready all in
     record {
-      own = own;
+      own = own_ids ms ss gs all;
       listed = listed;
-      series = record {
-        distinct = distinct_series (flat_map entries_of gs) own (stations_apart ms ss gs listed.distinct all);
-        listed =
-            map_all (λ u. is_listed ss u.id ≡ true) (flat_map entries_of gs)
-            (of_stations (λ x. is_listed ss x.1.id ≡ true) ss ms ss gs (all_listed ss) (λ id g x l r some is. ap (λ (y : Entry). is_listed ss y.1.id) is ∙ l) ready all);
+      series = subst (AreSeries ss) (sym (all_of-are gs)) (record {
+        distinct = stations_apart ms ss gs listed.distinct all;
+        listed = of_stations (λ u. is_listed ss u.id ≡ true) ss ms ss gs (all_listed ss) (λ id g u l r some is. ap (λ (v : Usable). is_listed ss v.id) is ∙ l) ready all;
         right =
-            map_all IsSeries (flat_map entries_of gs)
-            (of_stations (λ x. IsSeries x.1) ss ms ss gs (all_listed ss)
-            (λ id g x l r some is. let P : Entry → Type 0 = λ y. IsSeries y.1 in subst P (sym is) (is_series id g (sorted_by by_day g.days.items) r some refl)) ready all);
-      };
+            of_stations IsSeries ss ms ss gs (all_listed ss)
+            (λ id g u l r some is. subst IsSeries (sym is) (is_series id g (sorted_by by_day g.days.items) r some refl)) ready all;
+      });
     }

@@ -1,5 +1,5 @@
 -- The usable days of months of different times are different days.
-use Rattle.std.proofs.Common.{◌≡◌, ℕ, suc, ◌+◌, ◌<◌, ◌≤◌, Bool, true, false, cond, List, [], ◌∷◌, ◌++◌, map, Option, Some, None, refl, sym, ap, ◌∙◌, subst, arith, ℤ, pos}
+use Rattle.std.proofs.Common.{◌≡◌, ℕ, ◌+◌, ◌<◌, ◌≤◌, Bool, true, false, cond, List, [], ◌∷◌, ◌++◌, Option, Some, None, refl, sym, ap, ◌∙◌, subst, arith, ℤ, pos}
 use Rattle.std.specs.Prelude.{◌==◌, ◌&&◌, ◌||◌, int_le}
 use Rattle.std.specs.Ordering.{int_eq}
 use Rattle.std.specs.List.{filter_map, flat_map, enumerate_from, cons_option, IsDistinct, AllByRecursion}
@@ -7,7 +7,7 @@ use Rattle.std.specs.Option.{option_and_then}
 use Rattle.std.specs.Map.{keys_of}
 use Rattle.std.proofs.lemmas.Bool.Decides.{Decides-int_eq, nat_tests}
 use Rattle.std.proofs.lemmas.Int.{ints}
-use Rattle.jiff_core.specs.Calendar.{days_from_civil, IsCivilDate}
+use Rattle.jiff_core.specs.Calendar.{IsCivilDate}
 use Rattle.ghcn_fields.specs.Days.{day_number}
 use Rattle.ghcn_fields.specs.Dates.{civil}
 use Rattle.ghcn_fields.proofs.CivilDates.{civil-is}
@@ -15,9 +15,10 @@ use Rattle.ghcn_files.specs.declared.month.Month.{Month}
 use Rattle.ghcn_files.specs.declared.month.Reading.{Reading}
 use Rattle.ghcn_files.specs.Elements.{may_be_negative}
 use Rattle.ghcn_series.specs.Series.{DayValue}
-use Rattle.ghcn_series.specs.Says.{Fact, fact_of, fact_if}
+use Rattle.ghcn_series.specs.Says.{fact_if}
 use Rattle.ghcn_series.specs.Gathered.{counted, usable_day, usable_days, same_time}
-use Rattle.ghcn_series.proofs.MonthDays.{IsOfCalendar, has_number}
+use Rattle.ghcn_series.proofs.MonthDays.{has_number}
+use Rattle.ghcn_series.proofs.ListFacts.{both_all}
 
 -- a day's number gives its date back
 date_is : (y m d : ℕ) (n : ℤ) → day_number y m d ≡ Some n → civil n ≡ (y, m, d)
@@ -103,10 +104,6 @@ distinct_in_month m low (r ∷ rs) =
 apart_from_other : (a b : Month) (i low : ℕ) (n : ℤ) (days : List ℤ) → same_time a b ≡ false → IsDayOf a i n → AreFrom b low days → AllByRecursion (λ k. int_eq n k ≡ false) days
 apart_from_other a b i low n [] other is all = tt
 apart_from_other a b i low n (d ∷ ds) other is all = (apart_by_time a b i all.0.0 n d other is all.0.2, apart_from_other a b i low n ds other is all.1)
-
-both_all : {X : Type 0} (P : X → Type 0) (xs ys : List X) → AllByRecursion P xs → AllByRecursion P ys → AllByRecursion P (xs ++ ys)
-both_all P [] ys p q = q
-both_all P (x ∷ xs) ys p q = (p.0, both_all P xs ys p.1 q)
 
 keys_of-append : (xs ys : List DayValue) → keys_of (xs ++ ys) ≡ keys_of xs ++ keys_of ys
 keys_of-append [] ys = refl

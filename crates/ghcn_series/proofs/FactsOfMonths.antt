@@ -1,5 +1,5 @@
 -- The facts that count, of one station and element, are the usable days of its months.
-use Rattle.std.proofs.Common.{◌≡◌, ℕ, ◌+◌, Bool, true, false, cond, List, [], ◌∷◌, ◌++◌, map, filter, Option, None, Some, refl, sym, ap, ◌∙◌, ℤ, pos}
+use Rattle.std.proofs.Common.{◌≡◌, ℕ, Bool, true, false, cond, List, [], ◌∷◌, ◌++◌, map, filter, Option, None, Some, refl, sym, ap, ◌∙◌, ℤ, pos}
 use Rattle.std.specs.Prelude.{◌&&◌, ◌||◌, int_le}
 use Rattle.std.specs.List.{filter_map, flat_map, enumerate_from, cons_option}
 use Rattle.std.specs.Option.{option_and_then}
@@ -16,7 +16,7 @@ use Rattle.ghcn_series.specs.Series.{DayValue}
 use Rattle.ghcn_series.specs.DailyFaults.{is_listed}
 use Rattle.ghcn_series.specs.Says.{Fact, fact_of, fact_if, facts_of, is_usable}
 use Rattle.ghcn_series.specs.Gathered.{counted, usable_day, usable_days, months_of}
-use Rattle.ghcn_series.proofs.Places.{same_id-is}
+use Rattle.ghcn_files.proofs.ById.{same_id-is}
 
 -- a fact is of its month's station and element
 OfMonth : Month → Fact → Type 0

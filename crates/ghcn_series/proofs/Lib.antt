@@ -1,3 +1,4 @@
+pub mod ListFacts
 pub mod Lookups
 pub mod MonthDays
 pub mod SeenMonths
@@ -7,7 +8,7 @@ pub mod StationMonths
 pub mod Places
 pub mod ReadMonths
 pub mod ReadLines
-pub mod SeriesKeys
+pub mod SeriesPlaces
 pub mod ReadySeries
 pub mod FactsOfMonths
 pub mod AllSeries

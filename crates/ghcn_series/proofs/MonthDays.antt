@@ -1,6 +1,6 @@
 -- The days of a month by their places, and what of them counts.
-use Rattle.std.proofs.Common.{◌≡◌, ℕ, zero, suc, ◌+◌, ◌<◌, ◌≤◌, Bool, true, false, cond, List, [], ◌∷◌, ◌++◌, length, take, get_or, Option, Some, None, refl, sym, ap, ◌∙◌, arith, append_assoc, add-one, ℤ, pos, ◌≤ℤ◌}
-use Rattle.std.specs.Prelude.{◌&&◌, ◌||◌, ◌+ℤ◌, nat_le, int_le}
+use Rattle.std.proofs.Common.{◌≡◌, ℕ, zero, suc, ◌+◌, ◌<◌, ◌≤◌, Bool, true, false, cond, List, [], ◌∷◌, ◌++◌, length, take, get_or, Option, Some, None, refl, sym, ap, ◌∙◌, arith, append_assoc, add-one, ℤ, pos}
+use Rattle.std.specs.Prelude.{◌&&◌, ◌||◌, ◌+ℤ◌, int_le}
 use Rattle.std.specs.List.{filter_map, enumerate_from, cons_option}
 use Rattle.std.specs.Option.{option_and_then, option_to_list}
 use Rattle.std.proofs.lemmas.Bool.Decides.{nat_tests}
@@ -14,7 +14,7 @@ use Rattle.ghcn_files.specs.declared.month.Month.{Month}
 use Rattle.ghcn_files.specs.declared.month.Reading.{Reading}
 use Rattle.ghcn_files.specs.Elements.{may_be_negative}
 use Rattle.ghcn_series.specs.Series.{DayValue}
-use Rattle.ghcn_series.specs.Says.{Fact, fact_of, fact_if}
+use Rattle.ghcn_series.specs.Says.{fact_if}
 use Rattle.ghcn_series.specs.Gathered.{counted, usable_day, usable_days}
 
 -- a day of a month so many places after its first

@@ -1,27 +1,18 @@
 -- Stations by their places in the list.
-use Rattle.std.proofs.Common.{◌≡◌, ℕ, zero, suc, ◌+◌, ◌<◌, Bool, true, false, cond, not, List, [], ◌∷◌, length, map, Option, Some, None, refl, sym, ap, ◌∙◌, arith, subst}
+use Rattle.std.proofs.Common.{◌≡◌, ℕ, zero, suc, ◌+◌, ◌<◌, Bool, true, false, cond, not, List, [], ◌∷◌, length, map, Some, None, refl, sym, ap, ◌∙◌, arith, subst}
 use Rattle.std.specs.Prelude.{◌||◌, nat_lt}
-use Rattle.std.specs.List.{list_any, slice_get, position_or_len, AllByRecursion, IsDistinct}
-use Rattle.std.proofs.lemmas.Bool.Decides.{Decides-eqb, nat_tests}
+use Rattle.std.specs.List.{slice_get, position_or_len, AllByRecursion, IsDistinct}
+use Rattle.std.proofs.lemmas.Bool.Decides.{nat_tests}
 use Rattle.std.proofs.lemmas.Cmp.{nat_list_eq_equiv}
-use Rattle.std.proofs.lemmas.Slice.Eq.{slice_eq-Decides}
 use Rattle.ghcn_files.specs.declared.station.StationId.{StationId}
 use Rattle.ghcn_files.specs.declared.station.Station.{Station}
 use Rattle.ghcn_files.specs.Ids.{same_id}
 use Rattle.ghcn_files.specs.Listed.{is_station_of, place_of}
 use Rattle.ghcn_series.specs.DailyFaults.{is_listed}
-
--- IDs that are the same by their bytes are the same
-pub same_id-is : (a b : StationId) → same_id a b ≡ true → a ≡ b
-same_id-is a b e =
-    let make : List ℕ → StationId = λ bytes. record { 0 = bytes } in
-    ap make ((slice_eq-Decides Decides-eqb a.0 b.0 (same_id a b) refl).0 e)
+use Rattle.ghcn_files.proofs.ById.{same_id-is}
 
 pub same_id-refl : (a : StationId) → same_id a a ≡ true
 same_id-refl a = nat_list_eq_equiv.refl a.0
-
-pub same_id-turned : (a b : StationId) → same_id a b ≡ same_id b a
-same_id-turned a b = nat_list_eq_equiv.symm a.0 b.0
 
 -- the IDs of stations
 abbrev pub ids : List Station → List StationId

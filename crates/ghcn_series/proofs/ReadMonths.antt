@@ -1,9 +1,9 @@
 -- A reader that has read one month more.
-use Rattle.std.proofs.Common.{◌≡◌, ℕ, zero, suc, ◌+◌, ◌<◌, ◌≤◌, Bool, true, false, cond, not, List, [], ◌∷◌, ◌++◌, length, take, get_or, Option, None, Some, refl, sym, ap, ◌∙◌, arith, subst, add-one, add-zero, zero-add}
+use Rattle.std.proofs.Common.{◌≡◌, ℕ, zero, suc, ◌+◌, ◌<◌, Bool, true, false, cond, not, List, [], ◌∷◌, ◌++◌, length, take, get_or, Option, None, Some, refl, sym, ap, ◌∙◌, arith, subst, add-zero, zero-add}
 use Rattle.std.specs.Prelude.{◌&&◌, ◌||◌}
 use Rattle.std.specs.Bool.{OnTrue}
 use Rattle.std.specs.Option.{SomeIff}
-use Rattle.std.specs.List.{list_any, slice_get, count_by, sum_by, AllZip, AllByRecursion, IsDistinct}
+use Rattle.std.specs.List.{list_any, slice_get, count_by, AllZip, AllByRecursion, IsDistinct}
 use Rattle.std.proofs.Math.ListN.{set}
 use Rattle.std.proofs.lemmas.List.Folds.{list_any-append}
 use Rattle.std.proofs.lemmas.List.Sums.{sum_by-append}
@@ -13,7 +13,7 @@ use Rattle.ghcn_files.specs.declared.element.Element.{Element}
 use Rattle.ghcn_files.specs.declared.month.Month.{Month}
 use Rattle.ghcn_files.specs.Ids.{same_id}
 use Rattle.ghcn_files.specs.Elements.{elements, same_element}
-use Rattle.ghcn_files.specs.Listed.{is_station_of, place_of, AreListed}
+use Rattle.ghcn_files.specs.Listed.{place_of, AreListed}
 use Rattle.ghcn_files.specs.Months.{IsMonth}
 use Rattle.ghcn_series.specs.declared.gathering.Gathering.{Gathering}
 use Rattle.ghcn_series.specs.declared.station.StationGathering.{StationGathering}
@@ -21,7 +21,9 @@ use Rattle.ghcn_series.specs.declared.reader.Reader.{Reader}
 use Rattle.ghcn_series.specs.DailyFaults.{same_month, is_listed}
 use Rattle.ghcn_series.specs.Gathered.{IsGatheringOf, AreByElement, IsStationOf, HasRead}
 use Rattle.ghcn_series.proofs.StationMonths.{gathering-other}
-use Rattle.ghcn_series.proofs.Places.{ids, from_ids, IsAt, listed-is, same_id-is, same_id-refl, same_id-turned}
+use Rattle.ghcn_series.proofs.Places.{ids, from_ids, listed-is}
+use Rattle.ghcn_files.proofs.ById.{same_id-turned}
+use Rattle.ghcn_series.proofs.ListFacts.{neither}
 
 other_zip : (before : List Month) (m : Month) (id : StationId) (gs : List Gathering) (es : List Element) → same_id m.id id ≡ false → AllZip (IsGatheringOf before id) gs es → AllZip (IsGatheringOf (before ++ m ∷ []) id) gs es
 other_zip before m id [] [] other is = tt
@@ -145,10 +147,6 @@ read-unlisted old new m none stations gathered unlisted before right is =
       },
     )
   where
-    neither : (a b : Bool) → (a || b) ≡ false → (a ≡ false) × (b ≡ false)
-    neither true b e = absurd cc
-    neither false b e = (refl, e)
-
     apart : (ss : List Station) → is_listed ss m.id ≡ false → AllByRecursion (λ i. same_id m.id i ≡ false) (ids ss)
     apart [] none = tt
     apart (x ∷ xs) none =

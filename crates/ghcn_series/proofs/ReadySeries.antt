@@ -1,7 +1,6 @@
 -- A gathering becomes a series.
 use Rattle.std.proofs.Common.{◌≡◌, ℕ, suc, ◌+◌, ◌<◌, Bool, true, false, cond, List, [], ◌∷◌, ◌++◌, length, Option, None, Some, refl, sym, ap, ◌∙◌, subst, append_assoc, arith, ℤ, pos}
-use Rattle.std.specs.Prelude.{◌==◌, ◌&&◌, ◌||◌, int_le, int_lt, neg_ℤ, IsTrue}
-use Rattle.std.specs.declared.cmp.Ordering.{Ordering}
+use Rattle.std.specs.Prelude.{◌==◌, ◌&&◌, ◌||◌, int_le, int_lt, neg_ℤ}
 use Rattle.std.specs.declared.cmp.Ordering.TheVariants.{Less}
 use Rattle.std.specs.Ordering.{int_cmp, int_eq}
 use Rattle.std.specs.List.{filter_map, flat_map, enumerate_from, cons_option, list_all, IsDistinct, AllByRecursion}
@@ -11,7 +10,6 @@ use Rattle.std.specs.Map.{keys_of}
 use Rattle.std.proofs.lemmas.Bool.Decides.{nat_tests}
 use Rattle.std.proofs.lemmas.Int.{ints}
 use Rattle.std.proofs.lemmas.List.Folds.{list_all-append}
-use Rattle.indexmap.specs.IndexMap.{insert_entry}
 use Rattle.jiff_core.specs.Calendar.{IsCivilDate}
 use Rattle.ghcn_fields.specs.Days.{day_number, is_day}
 use Rattle.ghcn_fields.specs.Sorting.{placed, sorted_by}
@@ -24,13 +22,12 @@ use Rattle.ghcn_files.specs.Elements.{may_be_negative}
 use Rattle.ghcn_files.specs.Months.{is_reading, is_readable, IsMonth}
 use Rattle.ghcn_series.specs.declared.gathering.Gathering.{Gathering}
 use Rattle.ghcn_series.specs.Series.{DayValue, Usable, IsSeries, is_by_day, is_value}
-use Rattle.ghcn_series.specs.Says.{fact_of, fact_if}
-use Rattle.ghcn_series.specs.Gathered.{counted, usable_day, usable_days, IsReady, entry_of}
-use Rattle.ghcn_series.specs.Held.{Entry, AreApart}
+use Rattle.ghcn_series.specs.Says.{fact_if}
+use Rattle.ghcn_series.specs.Gathered.{counted, usable_day, usable_days, IsReady, gathered_series}
 use Rattle.ghcn_series.proofs.MonthDays.{has_number}
-use Rattle.ghcn_series.proofs.SeriesKeys.{key_eq, insert-last}
 use Rattle.ghcn_series.proofs.DistinctDays.{distinct_days}
 use Rattle.ghcn_series.proofs.SortedDays.{by_day, sorted_by-rises}
+use Rattle.ghcn_series.proofs.ListFacts.{both_true, and_true}
 
 -- a day that a series can have
 abbrev IsDayOf : Element → DayValue → Bool
@@ -76,14 +73,6 @@ right_day m j r d reads is =
     let parts = parts_of m r.flagged (day_number m.year m.month j) r.value d is in
     four (is_day d.0) (int_le (neg_ℤ (pos 9998)) d.1) (int_le d.1 (pos 99_999)) (may_be_negative m.element || int_le (pos 0) d.1)
     (is_day-numbered m.year m.month j d.0 parts.0) (readable_from r.value d.1 reads parts.1) parts.2
-
-both_true : (a b : Bool) → (a && b) ≡ true → (a ≡ true) × (b ≡ true)
-both_true true b e = (refl, e)
-both_true false b e = absurd cc
-
-and_true : (a b : Bool) → a ≡ true → b ≡ true → (a && b) ≡ true
-and_true true b p q = q
-and_true false b p q = absurd cc
 
 right_days : (m : Month) (j : ℕ) (rs : List Reading) → list_all is_reading rs ≡ true → list_all (IsDayOf m.element) (filter_map (usable_day m) (enumerate_from j rs)) ≡ true
 right_days m j [] all = refl
@@ -154,25 +143,22 @@ is_series id g days ready some sorted =
     })
 
 -- a gathering without a usable day adds no series
-pub no_entry : (id : StationId) (g : Gathering) (held all : List Entry) (rest left : List Gathering) → rest ≡ g ∷ left → (length g.days.items == 0) ≡ true → held ++ filter_map (entry_of id) rest ≡ all → held ++ filter_map (entry_of id) left ≡ all
-no_entry id g held all rest left step empty is =
-    let none : entry_of id g ≡ None = ap (λ (b : Bool). cond b None (Some ((id, g.element), record { id = id; element = g.element; days = sorted_by by_day g.days.items }))) empty in
-    ap (λ (o : Option Entry). held ++ cons_option o (filter_map (entry_of id) left)) (sym none)
-    ∙ ap (λ gs. held ++ filter_map (entry_of id) gs) (sym step)
+pub no_series : (id : StationId) (g : Gathering) (held all : List Usable) (rest left : List Gathering) → rest ≡ g ∷ left → (length g.days.items == 0) ≡ true
+    → held ++ filter_map (gathered_series id) rest ≡ all → held ++ filter_map (gathered_series id) left ≡ all
+no_series id g held all rest left step empty is =
+    let none : gathered_series id g ≡ None = ap (λ (b : Bool). cond b None (Some (record { id = id; element = g.element; days = sorted_by by_day g.days.items }))) empty in
+    ap (λ (o : Option Usable). held ++ cons_option o (filter_map (gathered_series id) left)) (sym none)
+    ∙ ap (λ gs. held ++ filter_map (gathered_series id) gs) (sym step)
     ∙ is
 
 -- any other adds one
-pub one_entry : (id : StationId) (g : Gathering) (s : Usable) (held now all : List Entry) (rest left : List Gathering) → rest ≡ g ∷ left → (length g.days.items == 0) ≡ false
-    → s ≡ record { id = id; element = g.element; days = sorted_by by_day g.days.items } → now ≡ insert_entry key_eq held (id, g.element) s → AreApart all
-    → held ++ filter_map (entry_of id) rest ≡ all → now ++ filter_map (entry_of id) left ≡ all
-one_entry id g s held now all rest left step some made put apart is =
-    let this : Usable = record { id = id; element = g.element; days = sorted_by by_day g.days.items } in
-    let entry : Entry = ((id, g.element), this) in
-    let one : entry_of id g ≡ Some entry = ap (λ (b : Bool). cond b None (Some entry)) some in
-    let whole : held ++ entry ∷ filter_map (entry_of id) left ≡ all =
-    ap (λ (o : Option Entry). held ++ cons_option o (filter_map (entry_of id) left)) (sym one)
-    ∙ ap (λ gs. held ++ filter_map (entry_of id) gs) (sym step)
-    ∙ is in
-    let last : now ≡ held ++ entry ∷ [] =
-    put ∙ ap (insert_entry key_eq held (id, g.element)) made ∙ insert-last held entry (filter_map (entry_of id) left) (subst AreApart (sym whole) apart) in
-    ap (λ es. es ++ filter_map (entry_of id) left) last ∙ append_assoc held (entry ∷ []) (filter_map (entry_of id) left) ∙ whole
+pub one_series : (id : StationId) (g : Gathering) (s : Usable) (held now all : List Usable) (rest left : List Gathering) → rest ≡ g ∷ left → (length g.days.items == 0) ≡ false
+    → s ≡ record { id = id; element = g.element; days = sorted_by by_day g.days.items } → now ≡ held ++ s ∷ []
+    → held ++ filter_map (gathered_series id) rest ≡ all → now ++ filter_map (gathered_series id) left ≡ all
+one_series id g s held now all rest left step some made put is =
+    let one : gathered_series id g ≡ Some s = ap (λ (b : Bool). cond b None (Some (record { id = id; element = g.element; days = sorted_by by_day g.days.items }))) some ∙ ap (λ (u : Usable). Some u) (sym made) in
+    ap (λ us. us ++ filter_map (gathered_series id) left) put
+    ∙ append_assoc held (s ∷ []) (filter_map (gathered_series id) left)
+    ∙ ap (λ (o : Option Usable). held ++ cons_option o (filter_map (gathered_series id) left)) (sym one)
+    ∙ ap (λ gs. held ++ filter_map (gathered_series id) gs) (sym step)
+    ∙ is

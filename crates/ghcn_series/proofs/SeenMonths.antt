@@ -1,6 +1,6 @@
 -- The months that were seen, and one more.
 use Rattle.std.proofs.Common.{◌≡◌, ℕ, Bool, true, false, cond, List, [], ◌∷◌, ◌++◌, refl, sym, ap, ◌∙◌, arith}
-use Rattle.std.specs.Prelude.{◌==◌, ◌&&◌, ◌||◌, not}
+use Rattle.std.specs.Prelude.{◌==◌, ◌&&◌, ◌||◌}
 use Rattle.std.specs.declared.cmp.Ordering.{Ordering}
 use Rattle.std.specs.declared.cmp.Ordering.TheVariants.{Less, Equal, Greater}
 use Rattle.std.specs.Ordering.{nat_cmp, ordering_then, is_eq}
@@ -15,6 +15,7 @@ use Rattle.ghcn_files.specs.declared.month.Month.{Month}
 use Rattle.ghcn_series.specs.declared.gathering.Gathering.{Gathering}
 use Rattle.ghcn_series.specs.Series.{DayValue}
 use Rattle.ghcn_series.specs.Gathered.{time_cmp, is_at_time, same_time, usable_days, IsGathering}
+use Rattle.ghcn_series.proofs.ListFacts.{neither}
 
 is_eq-then : (x y : Ordering) → is_eq (ordering_then x y) ≡ (is_eq x && is_eq y)
 is_eq-then Less y = refl
@@ -58,10 +59,6 @@ seen-more : (m : Month) (before : List Month) (t : ℕ × ℕ) → cond (is_eq (
 seen-more m before t =
     or_last (is_at_time t m) (is_eq (time_cmp (m.year, m.month) t)) (list_any (is_at_time t) before) (is_at_time-turned m t)
     ∙ sym (list_any-append (is_at_time t) before (m ∷ []))
-
-neither : (a b : Bool) → (a || b) ≡ false → (a ≡ false) × (b ≡ false)
-neither true b e = absurd cc
-neither false b e = (refl, e)
 
 apart_from_last : (m x : Month) (xs : List Month) → AllByRecursion (λ y. same_time x y ≡ false) xs → same_time m x ≡ false → AllByRecursion (λ y. same_time x y ≡ false) (xs ++ m ∷ [])
 apart_from_last m x [] all none = (same_time-turned x m ∙ none, tt)

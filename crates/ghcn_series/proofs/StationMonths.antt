@@ -1,6 +1,6 @@
 -- The months of one station, by element.
-use Rattle.std.proofs.Common.{◌≡◌, ℕ, zero, suc, ◌+◌, ◌<◌, Bool, true, false, cond, not, List, [], ◌∷◌, ◌++◌, length, map, get_or, Some, refl, sym, ap, ◌∙◌, arith, subst}
-use Rattle.std.specs.Prelude.{◌==◌, ◌&&◌, ◌||◌, filter}
+use Rattle.std.proofs.Common.{◌≡◌, ℕ, zero, suc, Bool, true, false, cond, not, List, [], ◌∷◌, ◌++◌, length, map, get_or, Some, refl, sym, ap, ◌∙◌, subst}
+use Rattle.std.specs.Prelude.{◌==◌, ◌&&◌, ◌||◌}
 use Rattle.std.specs.Bool.{OnTrue}
 use Rattle.std.specs.List.{list_any, slice_get, AllZip, AllByRecursion, IsDistinct}
 use Rattle.std.specs.Cmp.{nat_eq_equiv}
@@ -17,10 +17,8 @@ use Rattle.ghcn_files.specs.Elements.{elements, same_element, element_index}
 use Rattle.ghcn_series.specs.declared.gathering.Gathering.{Gathering}
 use Rattle.ghcn_series.specs.DailyFaults.{same_month}
 use Rattle.ghcn_series.specs.Gathered.{same_time, months_of, IsGathering, IsGatheringOf, AreByElement}
-
-neither : (a b : Bool) → (a || b) ≡ false → (a ≡ false) × (b ≡ false)
-neither true b e = absurd cc
-neither false b e = (refl, e)
+use Rattle.ghcn_files.proofs.ById.{same_id-turned}
+use Rattle.ghcn_series.proofs.ListFacts.{neither, and_false}
 
 -- a station without a month has none of any element
 pub months_of-none : (months : List Month) (id : StationId) (e : Element) → list_any (λ m. same_id m.id id) months ≡ false → months_of months id e ≡ []
@@ -52,9 +50,6 @@ pub by_element-new : (months : List Month) (id : StationId) (before after : List
 by_element-new months id [] after few is elements_are all = empty_zip months id after elements is elements_are all
 by_element-new months id (g ∷ gs) after few is elements_are all = absurd (few (length-zip (IsGatheringOf months id) (g ∷ gs) elements is))
 
-same_id-turned : (a b : StationId) → same_id a b ≡ same_id b a
-same_id-turned a b = nat_list_eq_equiv.symm a.0 b.0
-
 same_element-turned : (a b : Element) → same_element a b ≡ same_element b a
 same_element-turned a b = nat_eq_equiv.symm (element_index a) (element_index b)
 
@@ -70,10 +65,6 @@ months_of-this : (before : List Month) (m : Month) (id : StationId) (e : Element
 months_of-this before m id e this =
     filter-append (λ x. same_id x.id id && same_element x.element e) before (m ∷ [])
     ∙ ap (λ (b : Bool). months_of before id e ++ cond b (m ∷ []) []) this
-
-and_false : (a b : Bool) → b ≡ false → (a && b) ≡ false
-and_false true b e = e
-and_false false b e = refl
 
 -- a month of another station or element changes no gathering
 pub gathering-other : (before : List Month) (m : Month) (id : StationId) (g : Gathering) (e : Element) → (same_id m.id id && same_element m.element e) ≡ false → IsGatheringOf before id g e → IsGatheringOf (before ++ m ∷ []) id g e

@@ -21,10 +21,9 @@ use Rattle.ghcn_series.specs.declared.station.StationGathering.{StationGathering
 use Rattle.ghcn_series.specs.declared.reader.Reader.{Reader}
 use Rattle.ghcn_series.specs.declared.fault.DataFault.{DataFault}
 use Rattle.ghcn_series.specs.declared.fault.DataFault.TheVariants.{TooManyFiles, DailyLine, Memory}
-use Rattle.ghcn_series.specs.Series.{DayValue}
+use Rattle.ghcn_series.specs.Series.{DayValue, Usable}
 use Rattle.ghcn_series.specs.DailyFaults.{FileLine, month_on, is_listed, daily_fault}
 use Rattle.ghcn_series.specs.Says.{Fact, fact_of}
-use Rattle.ghcn_series.specs.Held.{Entry}
 
 -- the day and the value of a fact, where its element can have the value
 abbrev pub counted : Fact → Option DayValue
@@ -81,15 +80,15 @@ pub record IsReady (g : Gathering) : Type 0 where
   pub holds : IsGathering g months
   pub right : AllByRecursion (λ m. IsMonth m × (m.element ≡ g.element)) months
 
--- the series of a station's gathering under its key, where it has a usable day
-abbrev pub entry_of : StationId → Gathering → Option Entry
-entry_of id g =
+-- the series of a station's gathering, where it has a usable day
+abbrev pub gathered_series : StationId → Gathering → Option Usable
+gathered_series id g =
     if length g.days.items == 0 then None
-    else Some ((id, g.element), record { id = id; element = g.element; days = sorted_by (λ a b. int_le a.0 b.0) g.days.items })
+    else Some (record { id = id; element = g.element; days = sorted_by (λ a b. int_le a.0 b.0) g.days.items })
 
--- the series of a station under their keys, by element
-abbrev pub entries_of : StationGathering → List Entry
-entries_of g = filter_map (entry_of g.id) g.by_element.items
+-- the series of a station, by element
+abbrev pub station_series : StationGathering → List Usable
+station_series g = filter_map (gathered_series g.id) g.by_element.items
 
 -- a reader has read these months, none of them before
 pub record HasRead (r : Reader) (months : List Month) : Type 0 where

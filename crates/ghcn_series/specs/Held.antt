@@ -1,7 +1,6 @@
 -- What is true of all data that was read.
-use Rattle.std.specs.Prelude.{◌≡◌, Bool, true, ◌&&◌, List, map}
-use Rattle.std.specs.List.{IsDistinct, AllByRecursion}
-use Rattle.ghcn_files.specs.declared.station.StationId.{StationId}
+use Rattle.std.specs.Prelude.{◌≡◌, Bool, true, ◌&&◌, List}
+use Rattle.std.specs.List.{flat_map, IsDistinct, AllByRecursion, AllZip}
 use Rattle.ghcn_files.specs.declared.station.Station.{Station}
 use Rattle.ghcn_files.specs.declared.element.Element.{Element}
 use Rattle.ghcn_files.specs.Ids.{same_id}
@@ -25,20 +24,16 @@ pub record IsContents (held : Contents) : Type 0 where
   pub listed : AreListed held.stations
   pub series : AreSeries held.stations held.series
 
--- a series under a station and an element
-abbrev pub Entry : Type 0
-Entry = (StationId × Element) × Usable
+-- the series is of this element
+abbrev pub is_of_element : Element → Usable → Bool
+is_of_element e u = same_element u.element e
 
--- two stations and elements are the same
-abbrev pub same_key : StationId × Element → StationId × Element → Bool
-same_key a b = same_id a.0 b.0 && same_element a.1 b.1
+-- the series of all lists, one list after the other
+abbrev pub all_of : List (List Usable) → List Usable
+all_of lists = flat_map (λ series. series) lists
 
--- no two series stand under one station and element
-abbrev pub AreApart : List Entry → Type 0
-AreApart entries = IsDistinct same_key (map (λ e. e.0) entries)
-
--- series that are kept by station and element are each under their own
-pub record AreOwn (stations : List Station) (entries : List Entry) : Type 0 where
-  pub own : AllByRecursion (λ e. (e.0.0 ≡ e.1.id) × (e.0.1 ≡ e.1.element)) entries
+-- what is true of the series of listed stations that are kept in one list for each: those of a list are its station's, and all of them are right
+pub record AreByStation (stations : List Station) (lists : List (List Usable)) : Type 0 where
+  pub own : AllZip (λ s series. AllByRecursion (λ u. u.id ≡ s.id) series) stations lists
   pub listed : AreListed stations
-  pub series : AreSeries stations (map (λ e. e.1) entries)
+  pub series : AreSeries stations (all_of lists)

@@ -1,16 +1,16 @@
 //! The series of all listed stations, from the bytes of daily files.
 
 ghost use Rattle.std.specs.Prelude.{◌≡◌, List, map, Ok, IfOk, IfErr};
+ghost use Rattle.std.specs.List.{find};
 ghost use Rattle.std.specs.Option.{option_copied};
 ghost use Rattle.ghcn_series.specs.Series.{series_of};
 ghost use Rattle.ghcn_series.specs.DailyFaults.{FileLine, IsRefusal};
 ghost use Rattle.ghcn_series.specs.Says.{data_of, contents};
-ghost use Rattle.ghcn_series.specs.Held.{IsContents, AreOwn};
+ghost use Rattle.ghcn_series.specs.Held.{IsContents, AreByStation, all_of, is_of_element};
 
 use crate::reader::Reader;
 use crate::{DataFault, Series};
 use ghcn_files::{Element, StationId, Stations};
-use indexmap::IndexMap;
 use std::alloc::Global;
 use std::marker::Model;
 
@@ -21,20 +21,25 @@ const MOST_FILES: usize = 1 << 20;
 #[derive(Drop)]
 pub struct Data {
     stations: Stations,
-    series: IndexMap<(StationId, Element), Series>,
+    /// Of each listed station, in their order, its series by element.
+    series: Vec<Vec<Series>>,
     unlisted: u64,
 }
 
 impl Model for Data {
     ghost use Rattle.std.specs.Prelude.{map};
     ghost use Rattle.ghcn_series.specs.Series.{Contents};
-    ghost use Rattle.ghcn_series.specs.Held.{AreOwn};
+    ghost use Rattle.ghcn_series.specs.Held.{AreByStation, all_of};
 
     ghost Value = { Contents };
 
-    ghost view = { λ d. record { stations = d.stations; series = map (λ e. e.1) d.series.entries; unlisted = d.unlisted } };
+    ghost view = { λ d. record {
+      stations = d.stations;
+      series = all_of (map (λ s. s.items) d.series.items);
+      unlisted = d.unlisted;
+    } };
 
-    ghost invariant = { λ d. AreOwn d.stations d.series.entries };
+    ghost invariant = { λ d. AreByStation d.stations (map (λ s. s.items) d.series.items) };
 }
 
 impl Data {
@@ -52,14 +57,14 @@ impl Data {
         }
     }
 
-    /// These series, each under its own station and element.
-    pub(crate) fn of(
-        stations: Stations,
-        series: IndexMap<(StationId, Element), Series>,
-        unlisted: u64,
-    ) -> Self
-        requires { AreOwn stations series.entries }
-        ensures { result ≡ record { stations = stations; series = map (λ e. e.1) series.entries; unlisted = unlisted } }
+    /// These series of the stations, which have one list each.
+    pub(crate) fn of(stations: Stations, series: Vec<Vec<Series>>, unlisted: u64) -> Self
+        requires { AreByStation stations (map (λ s. s.items) series.items) }
+        ensures { result ≡ record {
+          stations = stations;
+          series = all_of (map (λ s. s.items) series.items);
+          unlisted = unlisted;
+        } }
     {
         Data {
             stations,
@@ -80,7 +85,9 @@ impl Data {
     pub fn series(&self, id: &StationId, element: Element) -> Option<&Series>
         ensures { option_copied result ≡ series_of self.now id.now element }
     {
-        self.series.get(&(*id, element))
+        let place = self.stations.place(id)?;
+        let series = self.series.get(place as usize)?;
+        of_element(series, element)
     }
 
     /// How many lines of the five elements were passed over, since their stations aren't listed.
@@ -89,4 +96,11 @@ impl Data {
     {
         self.unlisted
     }
+}
+
+/// The series of an element, among those of a station.
+fn of_element(series: &[Series], element: Element) -> Option<&Series>
+    ensures { option_copied result ≡ find (is_of_element element) series.now }
+{
+    series.iter().find(|series| series.element() == element)
 }

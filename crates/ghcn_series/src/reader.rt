@@ -14,7 +14,6 @@ use crate::station::StationGathering;
 use crate::{DailyWhy, Data, DataFault};
 use ghcn_fields::{Memory, is_blank, lines};
 use ghcn_files::{Month, StationId, Stations, read_month};
-use indexmap::IndexMap;
 use std::alloc::Global;
 
 /// What was read so far.
@@ -97,9 +96,9 @@ impl Reader {
             unlisted,
             ..
         } = self;
-        let mut series = IndexMap::new(alloc);
+        let mut series = Vec::with_capacity(alloc, gathered.len())?;
         for station in gathered {
-            station.add_series(alloc, &mut series)?;
+            series.push(station.into_series(alloc)?)?;
         }
         Ok(Data::of(stations, series, unlisted))
     }

@@ -6,14 +6,12 @@ ghost use Rattle.std.specs.List.{list_any, AllByRecursion, AllZip};
 ghost use Rattle.ghcn_files.specs.Elements.{elements, element_index};
 ghost use Rattle.ghcn_files.specs.declared.month.Month as months;
 ghost use Rattle.ghcn_series.specs.DailyFaults.{same_month};
-ghost use Rattle.ghcn_series.specs.Held.{AreApart};
 ghost use Rattle.ghcn_series.specs.Gathered as gathered;
 
 use crate::Series;
 use crate::gathering::Gathering;
 use ghcn_fields::Memory;
 use ghcn_files::{Element, Month, StationId};
-use indexmap::IndexMap;
 use std::alloc::Global;
 
 /// The elements in the order in which a station's series are kept.
@@ -57,26 +55,22 @@ impl StationGathering {
         self.by_element[place_of(month.element)].add(month)
     }
 
-    /// Adds the series of the station that have a usable day, by element.
-    pub(crate) fn add_series(
-        self,
-        alloc: Global,
-        series: &mut IndexMap<(StationId, Element), Series>,
-    ) -> Result<(), Memory>
+    /// The series of the station that have a usable day, by element.
+    pub(crate) fn into_series(self, alloc: Global) -> Result<Vec<Series>, Memory>
         requires { AllByRecursion gathered.IsReady self.by_element.items }
-        ensures { OnOk result (AreApart (series.old.entries ++ gathered.entries_of self) →
-            series.new.entries ≡ series.old.entries ++ gathered.entries_of self) }
+        ensures { IfOk result (λ series. series.items ≡ gathered.station_series self) }
     {
         let StationGathering { id, by_element } = self;
+        let mut series = Vec::new(alloc);
         for gathering in by_element {
             if gathering.is_empty() {
                 continue;
             }
             let element = gathering.element();
             let days = gathering.into_days(alloc)?;
-            series.insert((id, element), Series::of(id, element, days))?;
+            series.push(Series::of(id, element, days))?;
         }
-        Ok(())
+        Ok(series)
     }
 
     /// Makes the five gatherings where there are none yet.

@@ -1,7 +1,6 @@
-use Rattle.std.proofs.Common.{rules, ◌≡◌, ◌++◌, ◌<◌, List, length, Option, Vec, Global, None, false, ◌∙◌, ap, sym}
+use Rattle.std.proofs.Common.{rules, ◌≡◌, ◌++◌, ◌<◌, length, Option, Vec, Global, None, false, ◌∙◌, ap, sym}
 use Rattle.std.specs.Option.{option_to_list}
 use Rattle.std.proofs.lemmas.List.{append-nil}
-use Rattle.ghcn_fields.specs.declared.day.Day.{Day}
 use Rattle.ghcn_files.specs.declared.month.Reading.{Reading}
 use Rattle.ghcn_series.specs.Series.{DayValue}
 use Rattle.ghcn_series.proofs.MonthDays.{usable_days-none, first_days-more}

@@ -1,11 +1,14 @@
-use Rattle.std.proofs.Common.{ap, ◌∙◌}
-use Rattle.std.specs.List.{find}
-use Rattle.ghcn_files.specs.Listed.{is_station_of}
-use Rattle.ghcn_files.proofs.ById.{lookup-by_id}
+use Rattle.std.proofs.Common.{ap, sym, ◌∙◌}
+use Rattle.std.specs.Option.{option_copied}
+use Rattle.ghcn_files.proofs.ById.{found-at_place, none-without_place}
 use Rattle.ghcn_files.proofs.stations.Stations.get.Goals as goal
+
+pub returns-in_err-place : goal.returns-in_err-place
+returns-in_err-place c =
+    ap option_copied c.from_residual.ensures
+    ∙ none-without_place c.args.self.now c.args.id.now (sym c.place.ensures ∙ c.in_err-place.was)
 
 pub returns : goal.returns
 returns c =
-    c.get.ensures.value
-    ∙ lookup-by_id c.args.id.now c.self.inside.by_id.entries c.self.invariant.own
-    ∙ ap (find (is_station_of c.args.id.now)) c.self.view_is
+    c.at.ensures
+    ∙ found-at_place c.args.self.now c.args.id.now c.in_ok-place.field-0 (sym c.place.ensures ∙ c.in_ok-place.was)

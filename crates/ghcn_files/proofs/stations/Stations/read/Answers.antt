@@ -4,9 +4,13 @@ use Rattle.std.proofs.lemmas.Iterator.Consumers.{YieldsList-from_first, YieldsLi
 use Rattle.std.proofs.lemmas.List.{length_push}
 use Rattle.ghcn_fields.specs.Lines.{numbered_lines}
 use Rattle.ghcn_files.specs.Listed.{listed, IsRefusal, IsFirstRefusal}
+use Rattle.ghcn_files.proofs.Adding.{nothing_kept}
 use Rattle.ghcn_files.proofs.Errors.{err_given}
 use Rattle.ghcn_files.proofs.ReadLines.{HasRead, past_blank, past_line, at_end, ends_by}
 use Rattle.ghcn_files.proofs.stations.Stations.read.Goals as goal
+
+pub invariant_of-stations : goal.invariant_of-stations
+invariant_of-stations c = nothing_kept c.new.result.items c.new-2.result.entries c.new.ensures.items c.new-2.ensures.empty
 
 pub loop-number-preserved : goal.loop-number-preserved
 loop-number-preserved c =

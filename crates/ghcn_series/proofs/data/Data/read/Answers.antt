@@ -1,10 +1,9 @@
-use Rattle.std.proofs.Common.{◌≡◌, ◌≤◌, ◌<◌, ◌^◌, Ok, List, length, sym, ap, ◌∙◌, subst, arith}
+use Rattle.std.proofs.Common.{◌≡◌, ◌≤◌, ◌^◌, Ok, List, length, sym, ap, ◌∙◌, arith}
 use Rattle.std.proofs.lemmas.Result.{err_from_is_err_and}
 use Rattle.ghcn_files.specs.declared.station.Station.{Station}
 use Rattle.ghcn_series.specs.Series.{Contents}
-use Rattle.ghcn_series.specs.DailyFaults.{daily_lines, daily_fault, IsRefusal}
-use Rattle.ghcn_series.specs.Says.{contents, data_of}
-use Rattle.ghcn_series.specs.Gathered.{HasReadLines, IsFirstRefusal}
+use Rattle.ghcn_series.specs.DailyFaults.{daily_lines}
+use Rattle.ghcn_series.specs.Says.{contents}
 use Rattle.ghcn_series.proofs.ReadFiles.{texts, length-texts, data_of-right, data_of-refused}
 use Rattle.ghcn_series.proofs.data.Data.read.Goals as goal
 

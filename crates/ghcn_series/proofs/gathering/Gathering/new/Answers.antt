@@ -1,4 +1,4 @@
-use Rattle.std.proofs.Common.{◌≡◌, ap}
+use Rattle.std.proofs.Common.{ap}
 use Rattle.std.specs.List.{list_any, IsDistinct}
 use Rattle.std.specs.BTreeMap.{is_at}
 use Rattle.ghcn_series.specs.Gathered.{time_cmp}

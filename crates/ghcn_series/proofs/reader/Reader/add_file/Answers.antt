@@ -1,8 +1,8 @@
-use Rattle.std.proofs.Common.{◌≡◌, ◌++◌, ◌∷◌, [], List, ℕ, true, false, sym, ap, ◌∙◌, refl, subst}
+use Rattle.std.proofs.Common.{◌++◌, List, sym, ◌∙◌, refl, subst}
 use Rattle.std.proofs.lemmas.Result.{err_from_is_err_and}
 use Rattle.ghcn_files.specs.declared.station.Station.{Station}
 use Rattle.ghcn_series.specs.DailyFaults.{FileLine, file_lines}
-use Rattle.ghcn_series.specs.Gathered.{HasReadLines, IsFirstRefusal}
+use Rattle.ghcn_series.specs.Gathered.{IsFirstRefusal}
 use Rattle.ghcn_series.proofs.ReadLines.{at_first_line, at_last_line, within-blank, within-line, within-fault}
 use Rattle.ghcn_series.proofs.reader.Reader.add_file.Goals as goal
 

@@ -1,6 +1,5 @@
-use Rattle.std.proofs.Common.{◌≡◌, ◌-◌, ◌≤◌, [], List, length, take}
+use Rattle.std.proofs.Common.{◌-◌, ◌≤◌, [], length, take}
 use Rattle.std.specs.List.{AllZip}
-use Rattle.ghcn_files.specs.declared.station.Station.{Station}
 use Rattle.ghcn_series.specs.Gathered.{IsStationOf}
 use Rattle.ghcn_series.proofs.reader.Reader.new.Given as goal
 

@@ -1,6 +1,7 @@
-use Rattle.std.proofs.Common.{◌≡◌, Some, sym, ap, ◌∙◌}
+use Rattle.std.proofs.Common.{sym, ap, ◌∙◌}
 use Rattle.std.specs.Option.{option_copied}
-use Rattle.ghcn_series.proofs.Places.{place_of-at, same_id-is}
+use Rattle.ghcn_series.proofs.Places.{place_of-at}
+use Rattle.ghcn_files.proofs.ById.{same_id-is}
 use Rattle.ghcn_series.proofs.reader.Reader.place.Goals as goal
 
 pub returns-in-Some : goal.returns-in-Some

@@ -1,4 +1,3 @@
-use Rattle.std.proofs.Common.{◌≡◌, sym}
 use Rattle.std.proofs.lemmas.Result.{IfOk-weaker}
 use Rattle.ghcn_series.proofs.StationMonths.{by_element-more}
 use Rattle.ghcn_series.proofs.station.StationGathering.add.Goals as goal

@@ -1,23 +1,27 @@
 use Rattle.std.proofs.Common.{◌≡◌, [], ◌∷◌, ◌++◌, List, subst, sym, ap, ◌∙◌}
-use Rattle.std.specs.Prelude.{ℤ}
 use Rattle.std.specs.List.{AllByRecursion, filter_map}
 use Rattle.std.specs.Vec.Iter.{into_iter_items}
 use Rattle.std.proofs.lemmas.List.{append-nil, nil_from_length}
-use Rattle.ghcn_fields.specs.Sorting.{sorted_by}
-use Rattle.indexmap.specs.IndexMap.{insert_entry}
 use Rattle.ghcn_files.specs.declared.station.StationId.{StationId}
 use Rattle.ghcn_files.specs.declared.element.Element.{Element}
 use Rattle.ghcn_series.specs.declared.gathering.Gathering.{Gathering}
 use Rattle.ghcn_series.specs.Series.{DayValue, Usable, IsSeries}
-use Rattle.ghcn_series.specs.Held.{Entry}
-use Rattle.ghcn_series.specs.Gathered.{IsReady, entry_of, entries_of}
-use Rattle.ghcn_series.proofs.SortedDays.{by_day}
-use Rattle.ghcn_series.proofs.SeriesKeys.{key_eq}
-use Rattle.ghcn_series.proofs.ReadySeries.{is_series, no_entry, one_entry}
-use Rattle.ghcn_series.proofs.station.StationGathering.add_series.Goals as goal
+use Rattle.ghcn_series.specs.Gathered.{IsReady, gathered_series}
+use Rattle.ghcn_series.proofs.ReadySeries.{is_series, no_series, one_series}
+use Rattle.ghcn_series.proofs.station.StationGathering.into_series.Goals as goal
 
 ready_parts : (g : Gathering) (rest left : List Gathering) → rest ≡ g ∷ left → AllByRecursion IsReady rest → IsReady g × AllByRecursion IsReady left
 ready_parts g rest left step all = let P : List Gathering → Type 0 = AllByRecursion IsReady in let both : AllByRecursion IsReady (g ∷ left) = subst P step all in (both.0, both.1)
+
+pub loop-gathering-init : goal.loop-gathering-init
+loop-gathering-init c =
+    let all = c.into_iter-gathering-iterator.ensures.into_iter_gives.0 in
+    record {
+      ready = subst (AllByRecursion IsReady) (sym all) c.requires;
+      whole =
+          ap (λ us. us ++ filter_map (gathered_series c.args.self.id) (into_iter_items c.into_iter-gathering-iterator.result)) c.new-series.ensures.items
+          ∙ ap (filter_map (gathered_series c.args.self.id)) all;
+    }
 
 pub of-requires : goal.of-requires
 of-requires c =
@@ -29,8 +33,7 @@ of-requires c =
 pub loop-gathering-preserved-then-is_empty : goal.loop-gathering-preserved-then-is_empty
 loop-gathering-preserved-then-is_empty c = record {
   ready = (ready_parts c.in-Some.gathering _ _ c.in-Some.ensures.steps.0 c.loop-gathering.invariant.ready).1;
-  whole = λ apart.
-      no_entry c.args.self.id c.in-Some.gathering c.loop-gathering.series.entries _ _ _ c.in-Some.ensures.steps.0 (sym c.is_empty.ensures ∙ c.if-is_empty.true) (c.loop-gathering.invariant.whole apart);
+  whole = no_series c.args.self.id c.in-Some.gathering c.loop-gathering.series.items _ _ _ c.in-Some.ensures.steps.0 (sym c.is_empty.ensures ∙ c.if-is_empty.true) c.loop-gathering.invariant.whole;
 }
 
 made : (id : StationId) (e f : Element) (days sorted : List DayValue) (s : Usable) → s ≡ record { id = id; element = e; days = days } → e ≡ f → days ≡ sorted → s ≡ record { id = id; element = f; days = sorted }
@@ -42,31 +45,16 @@ pub loop-gathering-preserved : goal.loop-gathering-preserved
 loop-gathering-preserved c =
     let parts = ready_parts c.in-Some.gathering _ _ c.in-Some.ensures.steps.0 c.loop-gathering.invariant.ready in
     let series = made c.args.self.id c.element-element.result c.in-Some.gathering.element c.in_ok-days.days.entries _ c.of.result c.of.ensures c.element-element.ensures (c.in_ok-days.ensures parts.0.months parts.0.holds) in
-    let put : c.insert.new.self.entries ≡ insert_entry key_eq c.loop-gathering.series.entries (c.args.self.id, c.in-Some.gathering.element) c.of.result =
-    c.in_ok-insert.ensures.entries ∙ ap (λ (e : Element). insert_entry key_eq c.loop-gathering.series.entries (c.args.self.id, e) c.of.result) c.element-element.ensures in
     record {
       ready = parts.1;
-      whole = λ apart.
-          one_entry c.args.self.id c.in-Some.gathering c.of.result c.loop-gathering.series.entries _ _ _ _ c.in-Some.ensures.steps.0 (sym c.is_empty.ensures ∙ c.if-is_empty.false)
-          series put apart (c.loop-gathering.invariant.whole apart);
-    }
-
-pub loop-gathering-preserved-in_ok-insert : goal.loop-gathering-preserved-in_ok-insert
-loop-gathering-preserved-in_ok-insert c =
-    let parts = ready_parts c.in-Some.gathering _ _ c.in-Some.ensures.steps.0 c.loop-gathering.invariant.ready in
-    let series = made c.args.self.id c.element-element.result c.in-Some.gathering.element c.in_ok-days.days.entries _ c.of.result c.of.ensures c.element-element.ensures (c.in_ok-days.ensures parts.0.months parts.0.holds) in
-    let put : c.insert.new.self.entries ≡ insert_entry key_eq c.loop-gathering.series.entries (c.args.self.id, c.in-Some.gathering.element) c.of.result =
-    c.in_ok-insert.ensures.entries ∙ ap (λ (e : Element). insert_entry key_eq c.loop-gathering.series.entries (c.args.self.id, e) c.of.result) c.element-element.ensures in
-    record {
-      ready = parts.1;
-      whole = λ apart.
-          one_entry c.args.self.id c.in-Some.gathering c.of.result c.loop-gathering.series.entries _ _ _ _ c.in-Some.ensures.steps.0 (sym c.is_empty.ensures ∙ c.if-is_empty.false)
-          series put apart (c.loop-gathering.invariant.whole apart);
+      whole =
+          one_series c.args.self.id c.in-Some.gathering c.of.result c.loop-gathering.series.items c.push.new.self.items _ _ _ c.in-Some.ensures.steps.0 (sym c.is_empty.ensures ∙ c.if-is_empty.false)
+          series c.in_ok-push.ensures.items c.loop-gathering.invariant.whole;
     }
 
 pub returns : goal.returns
-returns c = λ apart.
+returns c =
     let none : into_iter_items c.loop-gathering.gathering-iterator ≡ [] = nil_from_length _ (sym c.loop-gathering.gathering-iterator.rest.ok.0 ∙ c.in-None.ensures.steps.0) in
-    sym (append-nil c.loop-gathering.series.entries)
-    ∙ ap (λ gs. c.loop-gathering.series.entries ++ filter_map (entry_of c.args.self.id) gs) (sym none)
-    ∙ c.loop-gathering.invariant.whole apart
+    sym (append-nil c.loop-gathering.series.items)
+    ∙ ap (λ gs. c.loop-gathering.series.items ++ filter_map (gathered_series c.args.self.id) gs) (sym none)
+    ∙ c.loop-gathering.invariant.whole
