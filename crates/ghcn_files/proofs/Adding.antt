@@ -17,8 +17,8 @@ use Rattle.ghcn_files.specs.declared.fault.StationsFault.{StationsFault}
 use Rattle.ghcn_files.specs.declared.fault.StationsFault.TheVariants.{StationLine, TooManyStations}
 use Rattle.ghcn_files.specs.Ids.{same_id, is_id}
 use Rattle.ghcn_files.specs.StationLines.{id_of, latitude, longitude, elevation, is_number_within, is_latitude, is_longitude, is_bad, number_of, is_printable, printable, station_of, line_why, is_station}
-use Rattle.ghcn_files.specs.Listed.{Numbered, is_repeated, stations_of, station_fault, is_station_of, place_of, id_cmp, kept_place, AreListed, AreKept}
-use Rattle.ghcn_files.proofs.ById.{same_id-turned, same_id-laws, has_place, put_place}
+use Rattle.ghcn_files.specs.Listed.{Numbered, is_repeated, stations_of, station_fault, is_station_of, place_of, key_of, key_cmp, AreEleven, kept_place, AreListed, AreKept}
+use Rattle.ghcn_files.proofs.ById.{same_id-turned, same_id-laws, has_place, put_place, id_bytes}
 use Rattle.ghcn_files.proofs.StationTests.{why_by}
 
 -- ---- an ID that an earlier line has
@@ -107,6 +107,13 @@ none_there : (o : Option ℕ) → o ≡ None → is_some o ≡ false
 none_there None e = refl
 none_there (Some n) e = absurd cc
 
+own_bytes : (s : Station) → is_station s ≡ true → AreEleven s.id.0
+own_bytes s right = id_bytes s.id (first (is_id s.id.0) _ _ _ _ right)
+  where
+    first : (a b c d e : Bool) → (a && b && c && d && e) ≡ true → a ≡ true
+    first true b c d e all = refl
+    first false b c d e all = absurd cc
+
 -- what is listed stays so with one station more, whose ID none has
 listed_more : (ss : List Station) (s : Station) → AreListed ss → place_of ss s.id ≡ None → length ss < 2 ^ 20 → is_station s ≡ true → AreListed (ss ++ s ∷ [])
 listed_more ss s h new room right =
@@ -118,17 +125,17 @@ listed_more ss s h new room right =
     }
 
 -- and so does what is kept, where its place is kept beside the others
-pub kept_more : (ss : List Station) (places more : List (StationId × ℕ)) (s : Station) → AreKept ss places → place_of ss s.id ≡ None → length ss < 2 ^ 20 → is_station s ≡ true
-    → ((id : StationId) → kept_place more id ≡ cond (is_eq (id_cmp s.id id)) (Some (length ss)) (kept_place places id)) → AreKept (ss ++ s ∷ []) more
+pub kept_more : (ss : List Station) (places more : List ((ℕ × ℕ) × ℕ)) (s : Station) → AreKept ss places → place_of ss s.id ≡ None → length ss < 2 ^ 20 → is_station s ≡ true
+    → ((id : StationId) → kept_place more id ≡ cond (is_eq (key_cmp (key_of s.id.0) (key_of id.0))) (Some (length ss)) (kept_place places id)) → AreKept (ss ++ s ∷ []) more
 kept_more ss places more s h new room right put = record {
   listed = listed_more ss s h.listed new room right;
-  own = λ id. put id ∙ ap (cond (is_eq (id_cmp s.id id)) (Some (length ss))) (h.own id) ∙ put_place ss s id new;
+  own = λ id bytes. put id ∙ ap (cond (is_eq (key_cmp (key_of s.id.0) (key_of id.0))) (Some (length ss))) (h.own id bytes) ∙ put_place ss s id (own_bytes s right) bytes new;
 }
 
 -- nothing is kept at first
-pub nothing_kept : (ss : List Station) (places : List (StationId × ℕ)) → ss ≡ [] → places ≡ [] → AreKept ss places
+pub nothing_kept : (ss : List Station) (places : List ((ℕ × ℕ) × ℕ)) → ss ≡ [] → places ≡ [] → AreKept ss places
 unfolding IsDistinct
 nothing_kept ss places none empty =
     let P : List Station → Type 0 = λ x. AreKept x places in
-    let Q : List (StationId × ℕ) → Type 0 = AreKept [] in
-    subst P (sym none) (subst Q (sym empty) (record { listed = record { distinct = tt; few = omega arith; right = refl }; own = λ id. refl }))
+    let Q : List ((ℕ × ℕ) × ℕ) → Type 0 = AreKept [] in
+    subst P (sym none) (subst Q (sym empty) (record { listed = record { distinct = tt; few = omega arith; right = refl }; own = λ id bytes. refl }))

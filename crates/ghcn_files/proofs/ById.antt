@@ -1,22 +1,27 @@
 -- Stations by the places of their IDs.
-use Rattle.std.proofs.Common.{◌≡◌, ℕ, suc, ◌+◌, ◌≤◌, Bool, true, false, cond, not, List, [], ◌∷◌, ◌++◌, length, Option, Some, None, refl, sym, ap, ◌∙◌, arith, true≢false, is_some}
-use Rattle.std.specs.Prelude.{nat_lt, ◌==◌, ◌||◌}
-use Rattle.std.specs.List.{find, slice_get, position_or_len, list_any}
+use Rattle.std.proofs.Common.{◌≡◌, ℕ, zero, suc, ◌<◌, ◌-◌, min, take, drop, get_or, ◌+◌, ◌≤◌, Bool, true, false, cond, not, List, [], ◌∷◌, ◌++◌, length, Option, Some, None, refl, sym, ap, ◌∙◌, arith, true≢false, is_some}
+use Rattle.std.specs.Prelude.{nat_lt, ◌==◌, ◌||◌, ◌&&◌}
+use Rattle.std.specs.List.{find, slice_get, position_or_len, list_any, list_all}
 use Rattle.std.specs.Option.{option_or}
 use Rattle.std.specs.Cmp.{IsEquivalence}
-use Rattle.std.specs.Ordering.{is_eq}
+use Rattle.std.specs.declared.cmp.Ordering.{Ordering}
+use Rattle.std.specs.declared.cmp.Ordering.TheVariants.{Less, Equal, Greater}
+use Rattle.std.specs.BTreeMap.{is_at}
+use Rattle.std.specs.Map.{lookup}
+use Rattle.std.specs.Int.{to_be_bytes, w32, w64}
+use Rattle.std.specs.Ordering.{is_eq, nat_cmp, ordering_then}
 use Rattle.std.proofs.lemmas.Bool.Decides.{Decides-eqb, nat_tests}
 use Rattle.std.proofs.lemmas.Cmp.{nat_list_eq_equiv}
-use Rattle.std.proofs.lemmas.List.{length_push}
+use Rattle.std.proofs.lemmas.List.{length_push, length-take, length-drop, take-append-drop}
 use Rattle.std.proofs.lemmas.List.Folds.{find_at, position_or_len_push}
 use Rattle.std.proofs.lemmas.List.Sums.{prefix_len-le-length}
-use Rattle.std.proofs.lemmas.Map.Text.{is_eq-slice_cmp}
+use Rattle.std.proofs.lemmas.Nat.{be_bytes_4, be_bytes_8}
 use Rattle.std.proofs.lemmas.Option.{slice_get_past}
 use Rattle.std.proofs.lemmas.Slice.Eq.{slice_eq-Decides}
 use Rattle.ghcn_files.specs.declared.station.StationId.{StationId}
 use Rattle.ghcn_files.specs.declared.station.Station.{Station}
-use Rattle.ghcn_files.specs.Ids.{same_id}
-use Rattle.ghcn_files.specs.Listed.{id_cmp, is_station_of, place_of}
+use Rattle.ghcn_files.specs.Ids.{same_id, is_id, is_visible}
+use Rattle.ghcn_files.specs.Listed.{key_of, key_cmp, kept_place, AreEleven, is_station_of, place_of}
 
 -- an ID tells that it is another's as the other tells it
 pub same_id-turned : (a b : StationId) → same_id a b ≡ same_id b a
@@ -111,15 +116,102 @@ place-push ss s id =
     let n = position_or_len test ss in
     at_end n (length ss) _ _ (nat_lt n (length ss)) (same_id s.id id) (prefix_len-le-length (λ x. not (test x)) ss) refl (position_or_len_push test ss s) (length_push ss s)
 
--- two IDs compare as equal where they are the same
-compares_equal : (a b : StationId) → is_eq (id_cmp a b) ≡ same_id a b
-compares_equal a b = is_eq-slice_cmp a.0 b.0
+-- ---- keys
+
+first_bytes : (n : ℕ) (bs : List ℕ) → ((i : ℕ) → get_or bs i 0 < 256) → (i : ℕ) → get_or (take n bs) i 0 < 256
+first_bytes zero bs fits i = omega arith
+first_bytes (suc n) [] fits i = omega arith
+first_bytes (suc n) (b ∷ bs) fits zero = fits 0
+first_bytes (suc n) (b ∷ bs) fits (suc i) = first_bytes n bs (λ j. fits (suc j)) i
+
+last_bytes : (n : ℕ) (bs : List ℕ) → ((i : ℕ) → get_or bs i 0 < 256) → (i : ℕ) → get_or (drop n bs) i 0 < 256
+last_bytes zero bs fits i = fits i
+last_bytes (suc n) [] fits i = omega arith
+last_bytes (suc n) (b ∷ bs) fits i = last_bytes n bs (λ j. fits (suc j)) i
+
+one_more : (n : ℕ) (bs : List ℕ) → drop (suc n) bs ≡ drop 1 (drop n bs)
+one_more zero bs = refl
+one_more (suc n) [] = refl
+one_more (suc n) (b ∷ bs) = one_more n bs
+
+front_length : (bs : List ℕ) → length bs ≡ 11 → length (take 8 bs) ≡ 8
+front_length bs e = length-take 8 bs ∙ ap (min 8) e
+
+back_length : (bs : List ℕ) → length bs ≡ 11 → length (drop 7 bs) ≡ 4
+back_length bs e = length-drop 7 bs ∙ ap (λ (n : ℕ). n - 7) e
+
+-- IDs with one key are the same
+same_key : (a b : StationId) → AreEleven a.0 → AreEleven b.0 → key_of a.0 ≡ key_of b.0 → a ≡ b
+same_key a b p q e =
+    let front : take 8 a.0 ≡ take 8 b.0 =
+    sym (be_bytes_8 (take 8 a.0) (key_of a.0).0 (front_length a.0 p.0) (first_bytes 8 a.0 p.1) refl)
+    ∙ ap (λ (k : ℕ × ℕ). to_be_bytes w64 k.0) e
+    ∙ be_bytes_8 (take 8 b.0) (key_of b.0).0 (front_length b.0 q.0) (first_bytes 8 b.0 q.1) refl in
+    let back : drop 7 a.0 ≡ drop 7 b.0 =
+    sym (be_bytes_4 (drop 7 a.0) (key_of a.0).1 (back_length a.0 p.0) (last_bytes 7 a.0 p.1) refl)
+    ∙ ap (λ (k : ℕ × ℕ). to_be_bytes w32 k.1) e
+    ∙ be_bytes_4 (drop 7 b.0) (key_of b.0).1 (back_length b.0 q.0) (last_bytes 7 b.0 q.1) refl in
+    let make : List ℕ → StationId = λ bytes. record { 0 = bytes } in
+    ap make (
+    sym (take-append-drop 8 a.0)
+    ∙ ap (λ (bs : List ℕ). bs ++ drop 8 a.0) front
+    ∙ ap (λ (bs : List ℕ). take 8 b.0 ++ bs) (one_more 7 a.0 ∙ ap (drop 1) back ∙ sym (one_more 7 b.0))
+    ∙ take-append-drop 8 b.0)
+
+is_eq-key_cmp : (a b : ℕ × ℕ) → is_eq (key_cmp a b) ≡ true → a ≡ b
+is_eq-key_cmp a b e = both (nat_cmp a.0 b.0) refl e
+  where
+    last : (o : Ordering) → nat_cmp a.1 b.1 ≡ o → is_eq o ≡ true → a.1 ≡ b.1
+    last Less is t = absurd cc
+    last Equal is t = grind (arith, nat_tests)
+    last Greater is t = absurd cc
+
+    both : (o : Ordering) → nat_cmp a.0 b.0 ≡ o → is_eq (ordering_then o (nat_cmp a.1 b.1)) ≡ true → a ≡ b
+    both Less is t = absurd cc
+    both Equal is t = let one : a.0 ≡ b.0 = grind (arith, nat_tests) in let two : a.1 ≡ b.1 = last (nat_cmp a.1 b.1) refl t in ap (λ (x : ℕ). (x, a.1)) one ∙ ap (λ (y : ℕ). (b.0, y)) two
+    both Greater is t = absurd cc
+
+cmp_itself : (n : ℕ) → nat_cmp n n ≡ Equal
+cmp_itself n = grind (arith, nat_tests)
+
+key_itself : (k : ℕ × ℕ) → is_eq (key_cmp k k) ≡ true
+key_itself k = ap (λ (o : Ordering). is_eq (ordering_then o (nat_cmp k.1 k.1))) (cmp_itself k.0) ∙ ap is_eq (cmp_itself k.1)
+
+-- the keys of two IDs compare as equal where the IDs are the same
+compares_equal : (a b : StationId) → AreEleven a.0 → AreEleven b.0 → is_eq (key_cmp (key_of a.0) (key_of b.0)) ≡ same_id a b
+compares_equal a b p q = by (same_id a b) refl (is_eq (key_cmp (key_of a.0) (key_of b.0))) refl
+  where
+    by : (s : Bool) → same_id a b ≡ s → (t : Bool) → is_eq (key_cmp (key_of a.0) (key_of b.0)) ≡ t → is_eq (key_cmp (key_of a.0) (key_of b.0)) ≡ s
+    by true is t et = ap (λ (x : StationId). is_eq (key_cmp (key_of a.0) (key_of x.0))) (sym (same_id-is a b is)) ∙ key_itself (key_of a.0)
+    by false is true et = absurd (true≢false (sym (same_id-laws.refl a) ∙ ap (same_id a) (same_key a b p q (is_eq-key_cmp (key_of a.0) (key_of b.0) et)) ∙ is))
+    by false is false et = et
+
+visible_bytes : (bs : List ℕ) → list_all is_visible bs ≡ true → (i : ℕ) → get_or bs i 0 < 256
+visible_bytes [] all i = omega arith
+visible_bytes (b ∷ bs) all zero = low (is_visible b) refl all
+  where
+    low : (v : Bool) → is_visible b ≡ v → (v && list_all is_visible bs) ≡ true → b < 256
+    low true is e = grind (arith, nat_tests)
+    low false is e = absurd cc
+visible_bytes (b ∷ bs) all (suc i) = visible_bytes bs (rest (is_visible b) all) i
+  where
+    rest : (v : Bool) → (v && list_all is_visible bs) ≡ true → list_all is_visible bs ≡ true
+    rest true e = e
+    rest false e = absurd cc
+
+-- an ID is made of bytes
+pub id_bytes : (id : StationId) → is_id id.0 ≡ true → AreEleven id.0
+id_bytes id e = both (length id.0 == 11) refl e
+  where
+    both : (l : Bool) → (length id.0 == 11) ≡ l → (l && list_all is_visible id.0) ≡ true → AreEleven id.0
+    both true is v = (grind (arith, nat_tests), visible_bytes id.0 v)
+    both false is v = absurd cc
 
 -- the place kept for one station more, whose ID had none
-pub put_place : (ss : List Station) (s : Station) (id : StationId) → place_of ss s.id ≡ None
-    → cond (is_eq (id_cmp s.id id)) (Some (length ss)) (place_of ss id) ≡ place_of (ss ++ s ∷ []) id
-put_place ss s id none =
-    ap (λ (b : Bool). cond b (Some (length ss)) (place_of ss id)) (compares_equal s.id id)
+pub put_place : (ss : List Station) (s : Station) (id : StationId) → AreEleven s.id.0 → AreEleven id.0 → place_of ss s.id ≡ None
+    → cond (is_eq (key_cmp (key_of s.id.0) (key_of id.0))) (Some (length ss)) (place_of ss id) ≡ place_of (ss ++ s ∷ []) id
+put_place ss s id p q none =
+    ap (λ (b : Bool). cond b (Some (length ss)) (place_of ss id)) (compares_equal s.id id p q)
     ∙ by (same_id s.id id) refl
     ∙ sym (place-push ss s id)
   where
@@ -132,3 +224,7 @@ put_place ss s id none =
         ap (λ (b : Bool). cond b (Some (length ss)) (place_of ss id)) e
         ∙ sym (or_none (place_of ss id))
         ∙ sym (ap (λ (b : Bool). option_or (place_of ss id) (cond b (Some (length ss)) None)) e)
+
+-- the place that is kept for an ID, by its key
+pub kept_by_key : (k : ℕ × ℕ) (places : List ((ℕ × ℕ) × ℕ)) (id : StationId) → k ≡ key_of id.0 → lookup (is_at (key_cmp k)) places ≡ kept_place places id
+kept_by_key k places id e = ap (λ (x : ℕ × ℕ). lookup (is_at (key_cmp x)) places) e

@@ -1,10 +1,10 @@
 -- The listed stations of a text, or the first line with a fault.
-use Rattle.std.specs.Prelude.{◌≡◌, ℕ, ◌≤◌, ◌^◌, Bool, not, nat_lt, if◌then◌else◌, List, [], ◌∷◌, ◌++◌, length, map, Option, None, Some, Result, Ok, Err, filter, ⊤, IsTrue}
+use Rattle.std.specs.Prelude.{◌≡◌, ℕ, ◌≤◌, ◌<◌, ◌^◌, take, drop, get_or, Bool, not, nat_lt, if◌then◌else◌, List, [], ◌∷◌, ◌++◌, length, map, Option, None, Some, Result, Ok, Err, filter, ⊤, IsTrue}
 use Rattle.std.specs.List.{list_all, list_any, IsDistinct, position}
 use Rattle.std.specs.Option.{option_or, option_map}
 use Rattle.std.specs.declared.cmp.Ordering.{Ordering}
-use Rattle.std.specs.Ordering.{nat_cmp}
-use Rattle.std.specs.Cmp.Lexicographic.{slice_cmp}
+use Rattle.std.specs.Ordering.{nat_cmp, ordering_then}
+use Rattle.std.specs.Int.{from_be_bytes, w32, w64}
 use Rattle.std.specs.BTreeMap.{is_at}
 use Rattle.std.specs.Map.{lookup}
 use Rattle.ghcn_fields.specs.Bytes.{is_blank}
@@ -68,18 +68,26 @@ pub record AreListed (stations : List Station) : Type 0 where
   pub few : length stations ≤ 2 ^ 20
   pub right : IsTrue (list_all is_station stations)
 
--- IDs in the order of their bytes
-abbrev pub id_cmp : StationId → StationId → Ordering
-id_cmp a b = slice_cmp nat_cmp a.0 b.0
+-- the bytes of an ID as two numbers: of the first eight and of the last four, the most significant byte first
+abbrev pub key_of : List ℕ → ℕ × ℕ
+key_of bytes = (from_be_bytes w64 (take 8 bytes), from_be_bytes w32 (drop 7 bytes))
+
+-- the order of such pairs
+abbrev pub key_cmp : ℕ × ℕ → ℕ × ℕ → Ordering
+key_cmp a b = ordering_then (nat_cmp a.0 b.0) (nat_cmp a.1 b.1)
 
 -- the place that is kept for an ID
-abbrev pub kept_place : List (StationId × ℕ) → StationId → Option ℕ
-kept_place places id = lookup (is_at (id_cmp id)) places
+abbrev pub kept_place : List ((ℕ × ℕ) × ℕ) → StationId → Option ℕ
+kept_place places id = lookup (is_at (key_cmp (key_of id.0))) places
 
--- stations that are kept with the places of their IDs are listed, and an ID has the place that it has in the list
-pub record AreKept (stations : List Station) (places : List (StationId × ℕ)) : Type 0 where
+-- eleven bytes
+abbrev pub AreEleven : List ℕ → Type 0
+AreEleven bytes = (length bytes ≡ 11) × ((i : ℕ) → get_or bytes i 0 < 256)
+
+-- stations that are kept with the places of their IDs are listed, and each ID of eleven bytes has the place that it has in the list
+pub record AreKept (stations : List Station) (places : List ((ℕ × ℕ) × ℕ)) : Type 0 where
   pub listed : AreListed stations
-  pub own : (id : StationId) → kept_place places id ≡ place_of stations id
+  pub own : (id : StationId) → AreEleven id.0 → kept_place places id ≡ place_of stations id
 
 -- want of memory, or the very fault that the text has
 abbrev pub IsRefusal : StationsFault → Result (List Station) StationsFault → Type 0

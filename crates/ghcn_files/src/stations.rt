@@ -4,7 +4,7 @@ ghost use Rattle.std.specs.Prelude.{◌≡◌, ◌<◌, ◌^◌, ◌++◌, ◌�
 ghost use Rattle.std.specs.List.{find};
 ghost use Rattle.std.specs.Option.{option_copied};
 ghost use Rattle.ghcn_files.specs.StationLines.{is_station};
-ghost use Rattle.ghcn_files.specs.Listed.{AreListed, is_station_of, place_of, listed, Adds, IsRefusal, IsRefusedFor, IsFirstRefusal};
+ghost use Rattle.ghcn_files.specs.Listed.{AreListed, AreEleven, key_of, is_station_of, place_of, listed, Adds, IsRefusal, IsRefusedFor, IsFirstRefusal};
 
 use crate::{Station, StationId, StationWhy, StationsFault};
 use ghcn_fields::{Memory, is_blank, lines};
@@ -16,8 +16,9 @@ use std::marker::Model;
 #[derive(Drop)]
 pub struct Stations {
     list: Vec<Station>,
-    /// The place of each ID in the list. An ordered map has no IDs that make its look-ups slow.
-    places: BTreeMap<StationId, usize>,
+    /// The place of each ID in the list, by the ID's key. An ordered map has no IDs that make its
+    /// look-ups slow.
+    places: BTreeMap<(u64, u32), usize>,
 }
 
 impl Model for Stations {
@@ -81,7 +82,7 @@ impl Stations {
     pub fn place(&self, id: &StationId) -> Option<u64>
         ensures { result ≡ place_of self.now id.now }
     {
-        let place = self.places.get(id)?;
+        let place = self.places.get(&key(&id.0))?;
         Some(*place as u64)
     }
 
@@ -94,7 +95,7 @@ impl Stations {
             Ok(station) => station,
             Err(why) => return Err(StationsFault::StationLine { line: number, why }),
         };
-        if self.places.contains_key(&station.id) {
+        if self.places.contains_key(&key(&station.id.0)) {
             return Err(StationsFault::StationLine {
                 line: number,
                 why: StationWhy::Duplicate,
@@ -118,7 +119,7 @@ impl Stations {
     {
         let place = self.list.len();
         self.list.push(station)?;
-        match self.places.insert(station.id, place) {
+        match self.places.insert(key(&station.id.0), place) {
             Ok(_) => Ok(()),
             Err(_) => {
                 self.list.pop();
@@ -126,4 +127,15 @@ impl Stations {
             }
         }
     }
+}
+
+/// The eleven bytes of an ID as the numbers of the first eight and of the last four, which are
+/// compared in two steps.
+fn key(id: &[u8; 11]) -> (u64, u32)
+    ensures key { result ≡ key_of id.now }
+    ensures bytes { AreEleven id.now }
+{
+    let front: [u8; 8] = *id.first_chunk().unwrap();
+    let back: [u8; 4] = *id.last_chunk().unwrap();
+    (u64::from_be_bytes(front), u32::from_be_bytes(back))
 }

@@ -1,7 +1,7 @@
 use Rattle.std.proofs.Common.{◌≡◌, ◌<◌, ◌^◌, ℕ, List, cond, Some, sym, ap, subst, ◌∙◌, length, arith}
 use Rattle.std.specs.Ordering.{is_eq}
 use Rattle.ghcn_files.specs.declared.station.Station.{Station}
-use Rattle.ghcn_files.specs.Listed.{AreKept, id_cmp, kept_place, place_of}
+use Rattle.ghcn_files.specs.Listed.{AreKept, key_cmp, key_of, kept_place, place_of}
 use Rattle.ghcn_files.proofs.Adding.{kept_more}
 use Rattle.ghcn_files.proofs.stations.Stations.push.Goals as goal
 
@@ -15,4 +15,6 @@ invariant_of-self-in-Ok c =
     subst P (sym c.in_ok-push.ensures.items) (
     kept_more c.self.inside.list.items c.self.inside.places.entries c.insert.new.self.entries station c.self.invariant new room c.requires.right
     (λ id.
-    c.in-Ok.ensures.updates.0 id ∙ ap (λ (n : ℕ). cond (is_eq (id_cmp station.id id)) (Some n) (kept_place c.self.inside.places.entries id)) place))
+    c.in-Ok.ensures.updates.0 (key_of id.0)
+    ∙ ap (λ (k : ℕ × ℕ). cond (is_eq (key_cmp k (key_of id.0))) (Some c.len-place.result) (kept_place c.self.inside.places.entries id)) c.key.ensures.key
+    ∙ ap (λ (n : ℕ). cond (is_eq (key_cmp (key_of station.id.0) (key_of id.0))) (Some n) (kept_place c.self.inside.places.entries id)) place))
