@@ -6,7 +6,15 @@ pub mod WordValues
 pub mod ScoreWords
 pub mod RegionWords
 pub mod PeriodWords
+pub mod Stops
+pub mod PartStops
+pub mod WordStops
+pub mod ScoreStops
+pub mod RegionStops
+pub mod PeriodStops
 pub mod Spellings
+pub mod QueryStops
+pub mod FaultPlaces
 pub mod PrintedWords
 pub mod CanonicalTexts
 pub mod Printing
