@@ -1,5 +1,5 @@
 -- Worked examples, by computation.
-use Rattle.std.proofs.Common.{◌≡◌, ℕ, true, false, [], ◌∷◌, ◌++◌, refl, Some, None, Ok, Err, replicate, codes, arith}
+use Rattle.std.proofs.Common.{◌≡◌, ℕ, true, false, [], ◌∷◌, ◌++◌, refl, inl, inr, Some, None, Ok, Err, replicate, codes, arith}
 use Rattle.std.specs.Prelude.{pos, neg_ℤ, ℤ, map}
 use Rattle.std.specs.Fmt.{digits}
 use Rattle.std.proofs.lemmas.Int.{ints}
@@ -127,12 +127,13 @@ begun = record {
 
 -- a fault stands at no word before or after its own
 other_places : (n : ℕ) → StandsIn (codes "top 1 lowest PRCP") (UnexpectedWord n) → n ≡ 4
-other_places n other = one_place (words_of (codes "top 1 lowest PRCP")) n 4 other places.0
+other_places n (inl long) = absurd (omega (arith, long.0))
+other_places n (inr other) = elim places.0 [ inl long ↦ absurd (omega (arith, long.0)) | inr here ↦ one_place (words_of (codes "top 1 lowest PRCP")) n 4 other.1 here.1 ]
 
 -- a second date before the first
 too_early : EndsTooEarly (codes "top" ∷ codes "1" ∷ codes "dry" ∷ codes "from" ∷ codes "2020-07-02" ∷ codes "to" ∷ []) (codes "2020-07-01")
 unfolding digits year_and_rest month_and_day
-too_early = record { earlier = codes "top" ∷ codes "1" ∷ codes "dry" ∷ codes "from" ∷ []; first = pos 18445; last = pos 18444; period = refl; date = refl; order = omega (arith, ints) }
+too_early = record { earlier = codes "top" ∷ codes "1" ∷ codes "dry" ∷ codes "from" ∷ []; first = pos 18445; last = pos 18444; are_days = refl; period = refl; date = refl; order = omega (arith, ints) }
 
 -- canonical texts
 canonical_texts : (query_text (asked 1000 (Highest Tmax)) ≡ codes "top 1000 highest TMAX") × (query_text (asked 2 (Lowest Tmin)) ≡ codes "top 2 lowest TMIN") × (query_text (asked 5 (Sum 3 Prcp)) ≡ codes "top 5 sum 3 PRCP") × (query_text (asked 3 Dry) ≡ codes "top 3 dry") × (query_text (asked 7 Wet) ≡ codes "top 7 wet")

@@ -1,5 +1,5 @@
 -- The fault that is told stands at the first word with which no query goes on.
-use Rattle.std.proofs.Common.{◌≡◌, ℕ, ◌+◌, ◌<◌, Bool, true, false, cond, ◌⊎◌, inl, inr, List, [], ◌∷◌, ◌++◌, length, Result, Ok, Err, refl, sym, ap, ◌∙◌, subst, append_assoc, append-nil, IfErr, arith}
+use Rattle.std.proofs.Common.{◌≡◌, ℕ, ◌+◌, ◌<◌, ◌≤◌, Bool, true, false, cond, ◌⊎◌, inl, inr, List, [], ◌∷◌, ◌++◌, length, Result, Ok, Err, refl, sym, ap, ◌∙◌, subst, append_assoc, append-nil, IfErr, arith}
 use Rattle.std.specs.Prelude.{nat_lt}
 use Rattle.std.specs.List.{enumerate_from, AllByRecursion}
 use Rattle.std.proofs.lemmas.List.{map-append, length-map}
@@ -10,7 +10,7 @@ use Rattle.rank_query.specs.Asked.{Asked, IsAsked}
 use Rattle.rank_query.specs.Words.{Word, words_of, numbered_words}
 use Rattle.rank_query.specs.Spelling.{SpellsQuery}
 use Rattle.rank_query.specs.Reading.{read_words, read_query}
-use Rattle.rank_query.specs.FaultPlaces.{BeginQuery, IsFirstWrong, IsFirstWrongAt, SpellNone, StandsIn}
+use Rattle.rank_query.specs.FaultPlaces.{BeginQuery, IsFirstWrong, IsFirstWrongAt, SpellNone, StandsAmong, StandsIn}
 use Rattle.rank_query.proofs.OneWords.{HasNoBlank, words_no_blank}
 use Rattle.rank_query.proofs.ReadingSteps.{unnumbered, unnumbered-enumerate_from}
 use Rattle.rank_query.proofs.Spellings.{words_spell, spelt_read}
@@ -73,24 +73,24 @@ ended before w fault place stops begin =
     absurd cc
 
 -- the fault of a word stands there
-stands_at : (text : List ℕ) (fault : QueryFault) (before : List Word) (w : Word) → IsFirstWrong (words_of text) (unnumbered before) w.1 → w.0 ≡ 1 + length before → IsWordOf fault before w → StandsIn text fault
-stands_at text QueryTooLong before w wrong at is = absurd is
-stands_at text (UnexpectedWord n) before w wrong at is = (unnumbered before, w.1, wrong, omega (arith, is, at, length-map before (λ (w : Word). w.1)))
-stands_at text QueryEnds before w wrong at is = absurd is
-stands_at text (OutOfLimits n) before w wrong at is = (unnumbered before, w.1, wrong, omega (arith, is, at, length-map before (λ (w : Word). w.1)))
-stands_at text (BadDate n) before w wrong at is = (unnumbered before, w.1, wrong, omega (arith, is, at, length-map before (λ (w : Word). w.1)))
-stands_at text (BadBox n) before w wrong at is = (unnumbered before, w.1, wrong, omega (arith, is, at, length-map before (λ (w : Word). w.1)))
-stands_at text EmptyPeriod before w wrong at is = (unnumbered before, w.1, wrong, is)
+stands_at : (ws : List (List ℕ)) (fault : QueryFault) (before : List Word) (w : Word) → IsFirstWrong ws (unnumbered before) w.1 → w.0 ≡ 1 + length before → IsWordOf fault before w → StandsAmong ws fault
+stands_at ws QueryTooLong before w wrong at is = absurd is
+stands_at ws (UnexpectedWord n) before w wrong at is = (unnumbered before, w.1, wrong, omega (arith, is, at, length-map before (λ (w : Word). w.1)))
+stands_at ws QueryEnds before w wrong at is = absurd is
+stands_at ws (OutOfLimits n) before w wrong at is = (unnumbered before, w.1, wrong, omega (arith, is, at, length-map before (λ (w : Word). w.1)))
+stands_at ws (BadDate n) before w wrong at is = (unnumbered before, w.1, wrong, omega (arith, is, at, length-map before (λ (w : Word). w.1)))
+stands_at ws (BadBox n) before w wrong at is = (unnumbered before, w.1, wrong, omega (arith, is, at, length-map before (λ (w : Word). w.1)))
+stands_at ws EmptyPeriod before w wrong at is = (unnumbered before, w.1, wrong, is)
 
 -- the fault of words stands where the reading stops
 by_left : (text : List ℕ) (fault : QueryFault) (before left : List Word) → read_words (numbered_words text) ≡ Err fault
-    → words_of text ≡ unnumbered (before ++ left) → numbered_words text ≡ before ++ left → BeginQuery (unnumbered before) → StopsAt read_words fault before left → StandsIn text fault
+    → words_of text ≡ unnumbered (before ++ left) → numbered_words text ≡ before ++ left → BeginQuery (unnumbered before) → StopsAt read_words fault before left → StandsAmong (words_of text) fault
 by_left text fault before [] e words numbered begins at =
     let same : words_of text ≡ unnumbered before = words ∙ ap unnumbered (append-nil before) in
     let none : SpellNone (words_of text) = λ q is spelt.
     let both : ◌≡◌ {A = Result Asked QueryFault} (Ok q) (Err fault) = sym (spelt_read (words_of text) q is spelt) ∙ e in
     absurd cc in
-    subst (StandsIn text) (sym at) (subst BeginQuery (sym same) begins, none)
+    subst (StandsAmong (words_of text)) (sym at) (subst BeginQuery (sym same) begins, none)
 by_left text fault before (w ∷ behind) e words numbered begins at =
     let place = place_of 1 (words_of text) before w behind numbered in
     let wrong : IsFirstWrong (words_of text) (unnumbered before) w.1 = record {
@@ -99,10 +99,10 @@ by_left text fault before (w ∷ behind) e words numbered begins at =
       begun = begins;
       ended = ended before w fault place at.1;
     } in
-    stands_at text fault before w wrong place.number at.0
+    stands_at (words_of text) fault before w wrong place.number at.0
 
--- a fault of the words of a text stands in it
-words_fault : (text : List ℕ) (fault : QueryFault) → read_words (numbered_words text) ≡ Err fault → StandsIn text fault
+-- a fault of the words of a text stands among them
+words_fault : (text : List ℕ) (fault : QueryFault) → read_words (numbered_words text) ≡ Err fault → StandsAmong (words_of text) fault
 words_fault text fault e =
     let stops = query_first.stops (numbered_words text) fault e in
     let words : words_of text ≡ unnumbered (stops.before ++ stops.left) = sym (unnumbered-enumerate_from 1 (words_of text)) ∙ ap unnumbered stops.parts in
@@ -114,8 +114,8 @@ by_length : (b : Bool) (text : List ℕ) (fault : QueryFault) → nat_lt 256 (le
 by_length true text fault long e =
     let same : QueryTooLong ≡ fault = cc in
     let more : 256 < length text = grind (arith, nat_tests) in
-    subst (StandsIn text) same more
-by_length false text fault short e = words_fault text fault e
+    inl (more, sym same)
+by_length false text fault short e = let few : length text ≤ 256 = grind (arith, nat_tests) in inr (few, words_fault text fault e)
 
 -- so does each fault of a text
 pub fault_stands : (text : List ℕ) (fault : QueryFault) → read_query text ≡ Err fault → StandsIn text fault

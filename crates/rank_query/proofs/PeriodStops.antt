@@ -14,7 +14,7 @@ use Rattle.rank_query.specs.WordValues.{date}
 use Rattle.rank_query.specs.Reading.{days_at, between_at}
 use Rattle.rank_query.specs.FaultPlaces.{EndsTooEarly}
 use Rattle.rank_query.proofs.ReadingSteps.{said, one_word_again}
-use Rattle.rank_query.proofs.WordValues.{date_written, written_date}
+use Rattle.rank_query.proofs.WordValues.{date_written, date_day, written_date}
 use Rattle.rank_query.proofs.RegionWords.{and_true}
 use Rattle.rank_query.proofs.PrintedWords.{date_word}
 use Rattle.rank_query.proofs.Stops.{Reading, then, GoesOn, IsWordOf, Stops, Takes, TakesAll, Ended, ReadsPart, word_behind, takes_then}
@@ -92,6 +92,7 @@ last_stops first w t (l ∷ ws) fault behind e = by_date (date l) refl e where
         earlier = [];
         first = first;
         last = last;
+        are_days = and_true (is_day first) (is_day last) behind.is (date_day l last is);
         period = ap (λ (word : List ℕ). word ∷ t.1 ∷ []) behind.date ∙ ap (λ (word : List ℕ). date_text first ∷ word ∷ []) behind.to;
         date = date_written l last is;
         order = before_from_test first last order;
@@ -181,7 +182,7 @@ days_stops (w ∷ ws) fault e = by_date (date w) refl e where
   first_of_two more r = beside more r >>= λ first. to_last first.0 first.1
 
   by_date : (r : Result ℤ QueryFault) → date w ≡ r → first_of_two ws r ≡ Err fault → Stops Days (Ended GoodDays) days_at fault (w ∷ ws)
-  by_date (Ok first) is e = to_stops first w ws fault ((reads_date some_day refl).good w first is) (date_written w first is) (λ more. ap (first_of_two more) is) e
+  by_date (Ok first) is e = to_stops first w ws fault (date_day w first is) (date_written w first is) (λ more. ap (first_of_two more) is) e
   by_date (Err named) is e =
       let same : named ≡ fault = cc in
       let here : date w ≡ Err fault = is ∙ ap Err same in

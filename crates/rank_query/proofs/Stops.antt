@@ -100,6 +100,7 @@ word_behind EmptyPeriod front before w is = record {
   earlier = unnumbered front ++ is.earlier;
   first = is.first;
   last = is.last;
+  are_days = is.are_days;
   period = map-append (λ (w : Word). w.1) front before ∙ ap (λ words. unnumbered front ++ words) is.period ∙ sym (append_assoc (unnumbered front) is.earlier _);
   date = is.date;
   order = is.order;

@@ -6,7 +6,6 @@ use Rattle.ghcn_fields.specs.declared.field.Field.TheVariants.{Blank, Number, Ba
 use Rattle.ghcn_fields.specs.Days.{is_within, is_day}
 use Rattle.ghcn_fields.specs.Dates.{date_text, read_date}
 use Rattle.ghcn_fields.specs.Numbers.{natural, scaled_field}
-use Rattle.ghcn_fields.proofs.DateTexts.{read_date-law}
 use Rattle.ghcn_files.specs.declared.element.Element.{Element}
 use Rattle.ghcn_files.specs.Elements.{code_of, element_of}
 use Rattle.ghcn_files.specs.StationLines.{is_number_within, number_of}
@@ -18,8 +17,8 @@ use Rattle.rank_query.specs.Readers.{◌>>=◌, or_fault}
 use Rattle.rank_query.specs.WordValues.{number, element, degrees, code, date}
 use Rattle.rank_query.specs.Reading.{latitude_from, longitude}
 use Rattle.rank_query.proofs.OneWords.{HasNoBlank}
-use Rattle.rank_query.proofs.ReadingSteps.{bind_ok, test_ok, or_fault_ok}
-use Rattle.rank_query.proofs.WordValues.{code_element, written_date}
+use Rattle.rank_query.proofs.ReadingSteps.{bind_ok, test_ok}
+use Rattle.rank_query.proofs.WordValues.{code_element, date_day, written_date}
 use Rattle.rank_query.proofs.PrintedWords.{date_word}
 use Rattle.rank_query.proofs.Stops.{IsWordOf}
 use Rattle.rank_query.proofs.PartStops.{ReadsWord}
@@ -128,7 +127,7 @@ date_told (Some day) w fault e = absurd cc
 pub reads_date : (one : ℤ) → is_day one ≡ true → ReadsWord ℤ (λ day. is_day day ≡ true) date
 unfolding date
 reads_date one is = record {
-  good = λ w day e. ((read_date-law w.1 day).0 (or_fault_ok (BadDate w.0) (read_date w.1) day e)).0;
+  good = date_day;
   told = λ w fault e. date_told (read_date w.1) w fault e;
   sample = date_text one;
   clean = (date_word one).one.no_blank;

@@ -1,5 +1,6 @@
 -- Where the fault of a text stands: at the first word with which no query goes on.
-use Rattle.std.specs.Prelude.{◌≡◌, ℕ, ◌+◌, ◌<◌, List, [], ◌∷◌, ◌++◌, length, codes, ℤ, ◌<ℤ◌}
+use Rattle.std.specs.Prelude.{◌≡◌, ℕ, ◌+◌, ◌<◌, ◌≤◌, ◌⊎◌, List, [], ◌∷◌, ◌++◌, length, codes, ◌&&◌, ℤ, ◌<ℤ◌, IsTrue}
+use Rattle.ghcn_fields.specs.Days.{is_day}
 use Rattle.ghcn_fields.specs.Dates.{date_text}
 use Rattle.rank_query.specs.declared.fault.QueryFault.{QueryFault}
 use Rattle.rank_query.specs.declared.fault.QueryFault.TheVariants.{QueryTooLong, UnexpectedWord, QueryEnds, OutOfLimits, BadDate, BadBox, EmptyPeriod}
@@ -30,6 +31,7 @@ pub record EndsTooEarly (before : List (List ℕ)) (word : List ℕ) : Type 0 wh
   pub earlier : List (List ℕ)
   pub first : ℤ
   pub last : ℤ
+  pub are_days : IsTrue (is_day first && is_day last)
   pub period : before ≡ earlier ++ date_text first ∷ codes "to" ∷ []
   pub date : word ≡ date_text last
   pub order : last <ℤ first
@@ -38,12 +40,16 @@ pub record EndsTooEarly (before : List (List ℕ)) (word : List ℕ) : Type 0 wh
 abbrev pub SpellNone : List (List ℕ) → Type 0
 SpellNone ws = (q : Asked) → IsAsked q → SpellsQuery ws q → ⊥
 
--- where a fault stands that a text has
+-- where a fault stands among the words of a text that isn't too long
+abbrev pub StandsAmong : List (List ℕ) → QueryFault → Type 0
+StandsAmong ws QueryTooLong = ⊥
+StandsAmong ws (UnexpectedWord n) = IsFirstWrongAt ws n
+StandsAmong ws QueryEnds = BeginQuery ws × SpellNone ws
+StandsAmong ws (OutOfLimits n) = IsFirstWrongAt ws n
+StandsAmong ws (BadDate n) = IsFirstWrongAt ws n
+StandsAmong ws (BadBox n) = IsFirstWrongAt ws n
+StandsAmong ws EmptyPeriod = (before : List (List ℕ)) × (word : List ℕ) × IsFirstWrong ws before word × EndsTooEarly before word
+
+-- a text of more than 256 bytes is too long, and the fault of any other stands among its words
 abbrev pub StandsIn : List ℕ → QueryFault → Type 0
-StandsIn text QueryTooLong = 256 < length text
-StandsIn text (UnexpectedWord n) = IsFirstWrongAt (words_of text) n
-StandsIn text QueryEnds = BeginQuery (words_of text) × SpellNone (words_of text)
-StandsIn text (OutOfLimits n) = IsFirstWrongAt (words_of text) n
-StandsIn text (BadDate n) = IsFirstWrongAt (words_of text) n
-StandsIn text (BadBox n) = IsFirstWrongAt (words_of text) n
-StandsIn text EmptyPeriod = (before : List (List ℕ)) × (word : List ℕ) × IsFirstWrong (words_of text) before word × EndsTooEarly before word
+StandsIn text fault = ((256 < length text) × (fault ≡ QueryTooLong)) ⊎ ((length text ≤ 256) × StandsAmong (words_of text) fault)
