@@ -1,7 +1,8 @@
 -- Worked examples, by computation.
-use Rattle.std.proofs.Common.{◌≡◌, ℕ, true, false, [], ◌∷◌, ◌++◌, refl, Some, None, Ok, Err, replicate, codes}
+use Rattle.std.proofs.Common.{◌≡◌, ℕ, true, false, [], ◌∷◌, ◌++◌, refl, inl, inr, Some, None, Ok, Err, replicate, codes, arith}
 use Rattle.std.specs.Prelude.{pos, neg_ℤ, ℤ, map}
 use Rattle.std.specs.Fmt.{digits}
+use Rattle.std.proofs.lemmas.Int.{ints}
 use Rattle.ghcn_fields.specs.Dates.{year_and_rest, month_and_day}
 use Rattle.ghcn_files.specs.declared.element.Element.TheVariants.{Tmax, Tmin, Prcp}
 use Rattle.ghcn_files.specs.declared.station.Station.{Station}
@@ -16,7 +17,9 @@ use Rattle.rank_query.specs.QueryTexts.{query_text}
 use Rattle.rank_query.specs.Words.{words_of, says}
 use Rattle.rank_query.specs.Readers.{keyword}
 use Rattle.rank_query.specs.WordValues.{number, element, degrees, code, date}
+use Rattle.rank_query.specs.FaultPlaces.{BeginQuery, EndsTooEarly, StandsIn}
 use Rattle.rank_query.specs.Reading.{sum_at, no_score_at, score_at, box_at, region_at, days_at, period_at, read_words, read_query}
+use Rattle.rank_query.proofs.FaultPlaces.{fault_stands, one_place}
 
 -- a query of all stations and days
 abbrev asked : ℕ → Score → Asked
@@ -90,6 +93,47 @@ dates_refused = (refl, refl, refl)
 too_long : (read_query (replicate 257 32) ≡ Err QueryTooLong) × (read_query (replicate 256 32) ≡ Err QueryEnds)
 unfolding read_query read_words keyword says number element score_at no_score_at region_at period_at
 too_long = (refl, refl)
+
+-- where faults stand: at an element that can't be ranked so, at a northern edge south of the southern one, at the end, past 256 bytes, at a number, at a date
+places : StandsIn (codes "top 1 lowest PRCP") (UnexpectedWord 4) × StandsIn (codes "top 1 highest TMAX box 10 0 -10") (BadBox 8) × StandsIn (codes "top 1 highest") QueryEnds × StandsIn (replicate 257 32) QueryTooLong
+    × StandsIn (codes "top 1001 highest TMAX") (OutOfLimits 2) × StandsIn (codes "top 1 highest TMAX from 2019-02-29 to 2019-03-01") (BadDate 6)
+places = (
+  fault_stands (codes "top 1 lowest PRCP") (UnexpectedWord 4) scores_refused.0,
+  fault_stands (codes "top 1 highest TMAX box 10 0 -10") (BadBox 8) boxes_refused.1,
+  fault_stands (codes "top 1 highest") QueryEnds ends.2,
+  fault_stands (replicate 257 32) QueryTooLong too_long.0,
+  fault_stands (codes "top 1001 highest TMAX") (OutOfLimits 2) out_of_limits.0,
+  fault_stands (codes "top 1 highest TMAX from 2019-02-29 to 2019-03-01") (BadDate 6) dates_refused.0,
+)
+
+-- words that begin a query, since TMAX can follow
+begun : BeginQuery (codes "top" ∷ codes "007" ∷ codes "lowest" ∷ [])
+begun = record {
+  query = asked 7 (Lowest Tmax);
+  can_be_asked = record { k = refl; score = refl; region = refl; period = refl };
+  more = codes "TMAX" ∷ [];
+  spelt = record {
+    k = codes "007";
+    score = codes "lowest" ∷ codes "TMAX" ∷ [];
+    region = [];
+    period = [];
+    words = refl;
+    spells_k = record { some_digit = omega arith; digits_alone = refl; value = refl };
+    spells_score = refl;
+    spells_region = refl;
+    spells_period = refl;
+  };
+}
+
+-- a fault stands at no word before or after its own
+other_places : (n : ℕ) → StandsIn (codes "top 1 lowest PRCP") (UnexpectedWord n) → n ≡ 4
+other_places n (inl long) = absurd (omega (arith, long.0))
+other_places n (inr other) = elim places.0 [ inl long ↦ absurd (omega (arith, long.0)) | inr here ↦ one_place (words_of (codes "top 1 lowest PRCP")) n 4 other.1 here.1 ]
+
+-- a second date before the first
+too_early : EndsTooEarly (codes "top" ∷ codes "1" ∷ codes "dry" ∷ codes "from" ∷ codes "2020-07-02" ∷ codes "to" ∷ []) (codes "2020-07-01")
+unfolding digits year_and_rest month_and_day
+too_early = record { earlier = codes "top" ∷ codes "1" ∷ codes "dry" ∷ codes "from" ∷ []; first = pos 18445; last = pos 18444; are_days = refl; period = refl; date = refl; order = omega (arith, ints) }
 
 -- canonical texts
 canonical_texts : (query_text (asked 1000 (Highest Tmax)) ≡ codes "top 1000 highest TMAX") × (query_text (asked 2 (Lowest Tmin)) ≡ codes "top 2 lowest TMIN") × (query_text (asked 5 (Sum 3 Prcp)) ≡ codes "top 5 sum 3 PRCP") × (query_text (asked 3 Dry) ≡ codes "top 3 dry") × (query_text (asked 7 Wet) ≡ codes "top 7 wet")

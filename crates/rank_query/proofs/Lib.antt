@@ -10,4 +10,12 @@ pub mod Spellings
 pub mod PrintedWords
 pub mod CanonicalTexts
 pub mod Printing
+pub mod Stops
+pub mod PartStops
+pub mod WordStops
+pub mod ScoreStops
+pub mod RegionStops
+pub mod PeriodStops
+pub mod QueryStops
+pub mod FaultPlaces
 pub mod Examples

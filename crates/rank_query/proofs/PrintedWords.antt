@@ -1,5 +1,5 @@
 -- The words of a canonical text: each is one word, and short.
-use Rattle.std.proofs.Common.{◌≡◌, ℕ, suc, ◌+◌, ◌*◌, ◌/◌, ◌%◌, ◌<◌, ◌≤◌, ◌^◌, Bool, true, ◌&&◌, List, [], ◌∷◌, ◌++◌, length, decimal, codes, refl, sym, ap, ◌∙◌, length-append, false, arith}
+use Rattle.std.proofs.Common.{◌≡◌, ℕ, zero, suc, ◌+◌, ◌*◌, ◌/◌, ◌%◌, ◌<◌, ◌≤◌, ◌^◌, Bool, true, ◌&&◌, List, [], ◌∷◌, ◌++◌, length, decimal, codes, refl, sym, ap, ◌∙◌, length-append, false, arith}
 use Rattle.std.specs.Prelude.{nat_le, ℤ, pos, negsuc, neg_ℤ, ◌≤ℤ◌}
 use Rattle.std.specs.List.{list_all, AllByRecursion, join_with_byte}
 use Rattle.std.specs.Char.{is_ascii_digit, digit_value}
@@ -13,7 +13,6 @@ use Rattle.std.proofs.lemmas.Str.Parse.{digit_from_value}
 use Rattle.ghcn_fields.specs.Dates.{civil, date_text}
 use Rattle.ghcn_fields.specs.Fields.{Spells}
 use Rattle.ghcn_fields.specs.NumberTexts.{last_digits, four_places, four_places_of}
-use Rattle.ghcn_fields.proofs.DateDigits.{digits-last_digits}
 use Rattle.ghcn_files.specs.declared.element.Element.{Element}
 use Rattle.ghcn_files.specs.declared.element.Element.TheVariants.{Prcp, Snow, Snwd, Tmax, Tmin}
 use Rattle.ghcn_files.specs.Elements.{code_of}
@@ -111,7 +110,16 @@ visible_word len code some short is =
 no_blank-append : (xs ys : List ℕ) → HasNoBlank xs → HasNoBlank ys → HasNoBlank (xs ++ ys)
 no_blank-append xs ys first second = list_all-append stands_in_word xs ys ∙ ap (λ t. t && list_all stands_in_word ys) first ∙ second
 
--- the last digits of a number hold no blank
+-- the last digits of a number are digits
+digits-last_digits : (k n : ℕ) → list_all is_ascii_digit (last_digits k n) ≡ true
+digits-last_digits zero n = refl
+digits-last_digits (suc k) n =
+    list_all-append is_ascii_digit (last_digits k (n / 10)) ((48 + n % 10) ∷ []) ∙ ap (λ t. t && list_all is_ascii_digit ((48 + n % 10) ∷ [])) (digits-last_digits k (n / 10)) ∙ digit_byte n
+  where
+    digit_byte : (n : ℕ) → (true && (is_ascii_digit (48 + n % 10) && true)) ≡ true
+    digit_byte n = grind (arith, nat_tests)
+
+-- and hold no blank
 last_no_blank : (k n : ℕ) → HasNoBlank (last_digits k n)
 last_no_blank k n = digits_no_blank (last_digits k n) (digits-last_digits k n)
 

@@ -32,7 +32,7 @@ unnumbered-enumerate_from n [] = refl
 unnumbered-enumerate_from n (w ∷ words) = ap (λ ws. w ∷ ws) (unnumbered-enumerate_from (n + 1) words)
 
 -- a word that is found to be this one is
-said : (text word : List ℕ) → says text word ≡ true → word ≡ text
+pub said : (text word : List ℕ) → says text word ≡ true → word ≡ text
 unfolding says
 said text word e = (bytes_decides word text).0 e
 

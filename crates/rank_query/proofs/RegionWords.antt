@@ -88,7 +88,7 @@ le_test : (a b : ℤ) → a ≤ℤ b → int_le a b ≡ true
 le_test a b le = grind (arith, ints)
 
 -- two tests that both hold
-and_true : (a b : Bool) → a ≡ true → b ≡ true → (a && b) ≡ true
+pub and_true : (a b : Bool) → a ≡ true → b ≡ true → (a && b) ≡ true
 and_true a b x y = ap (λ t. t && b) x ∙ y
 
 -- a latitude from a southernmost one is read again

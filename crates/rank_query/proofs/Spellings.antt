@@ -12,7 +12,7 @@ use Rattle.rank_query.specs.Words.{Word, words_of, numbered_words, says}
 use Rattle.rank_query.specs.Readers.{◌>>=◌, Read, keyword, one_word}
 use Rattle.rank_query.specs.WordValues.{number}
 use Rattle.rank_query.specs.Reading.{score_at, region_at, period_at, nothing_more, read_words, read_query}
-use Rattle.rank_query.specs.Spelling.{IsNumeralOf, SpellsScore, SpellsRegion, SpellsPeriod, IsSpelling}
+use Rattle.rank_query.specs.Spelling.{IsNumeralOf, SpellsScore, SpellsRegion, SpellsPeriod, SpellsQuery, IsSpelling}
 use Rattle.rank_query.proofs.OneWords.{HasNoBlank, words_no_blank, all_behind}
 use Rattle.rank_query.proofs.ReadingSteps.{bind_ok, unnumbered, unnumbered-enumerate_from, keyword_took, one_word_took, one_word_again}
 use Rattle.rank_query.proofs.WordValues.{number_numeral, numeral_number}
@@ -26,31 +26,29 @@ nothing_left [] q r e = (refl, cc)
 nothing_left (w ∷ ws) q r e = cc
 
 -- what is asked by its parts
-abbrev asked : ℕ → Score → Region → Option (ℤ × ℤ) → Asked
+abbrev pub asked : ℕ → Score → Region → Option (ℤ × ℤ) → Asked
 asked k s r p = record { k = k; score = s; region = r; period = p }
 
 -- the query that was read is spelt by the words
-words_spell : (text : List ℕ) (q : Asked) → read_words (numbered_words text) ≡ Ok q → IsSpelling text q
+pub words_spell : (ws : List Word) (q : Asked) → AllByRecursion HasNoBlank (unnumbered ws) → read_words ws ≡ Ok q → SpellsQuery (unnumbered ws) q
 unfolding read_words
-words_spell text q e =
-    let ws : List Word = numbered_words text in
+words_spell ws q no_blank e =
     let top = bind_ok (keyword (codes "top") ws) _ q e in
     let k = bind_ok (one_word (number 1 1000) top.0) _ q top.2 in
     let s = bind_ok (score_at k.0.1) _ q k.2 in
     let r = bind_ok (region_at s.0.1) _ q s.2 in
     let p = bind_ok (period_at r.0.1) _ q r.2 in
     let end = nothing_left p.0.1 (asked k.0.0 s.0.0 r.0.0 p.0.0) q p.2 in
-    let same : unnumbered ws ≡ words_of text = unnumbered-enumerate_from 1 (words_of text) in
     let first = keyword_took (codes "top") ws top.0 top.1 in
     let rows = one_word_took (number 1 1000) top.0 k.0.1 k.0.0 k.1 in
     let score = score_took k.0.1 s.0.1 s.0.0 s.1 in
-    let front : words_of text ≡ (codes "top" ∷ rows.0.1 ∷ score.words) ++ unnumbered s.0.1 =
-    sym same ∙ first ∙ ap (λ left. codes "top" ∷ left) (rows.1 ∙ ap (λ left. rows.0.1 ∷ left) score.taken) in
-    let clean = all_behind HasNoBlank (codes "top" ∷ rows.0.1 ∷ score.words) (unnumbered s.0.1) (subst (AllByRecursion HasNoBlank) front (words_no_blank text)) in
+    let front : unnumbered ws ≡ (codes "top" ∷ rows.0.1 ∷ score.words) ++ unnumbered s.0.1 =
+    first ∙ ap (λ left. codes "top" ∷ left) (rows.1 ∙ ap (λ left. rows.0.1 ∷ left) score.taken) in
+    let clean = all_behind HasNoBlank (codes "top" ∷ rows.0.1 ∷ score.words) (unnumbered s.0.1) (subst (AllByRecursion HasNoBlank) front no_blank) in
     let region = region_took s.0.1 r.0.1 r.0.0 clean r.1 in
     let period = period_took r.0.1 p.0.1 p.0.0 p.1 in
     let last : unnumbered r.0.1 ≡ period.words = period.taken ∙ ap (λ left. period.words ++ unnumbered left) end.0 ∙ append-nil period.words in
-    let spelling : IsSpelling text (asked k.0.0 s.0.0 r.0.0 p.0.0) = record {
+    let spelling : SpellsQuery (unnumbered ws) (asked k.0.0 s.0.0 r.0.0 p.0.0) = record {
       k = rows.0.1;
       score = score.words;
       region = region.words;
@@ -62,12 +60,18 @@ words_spell text q e =
       spells_region = region.spelt;
       spells_period = period.spelt;
     } in
-    subst (λ q. IsSpelling text q) end.1 spelling
+    subst (λ q. SpellsQuery (unnumbered ws) q) end.1 spelling
+
+-- and the words of a text are words
+text_spells : (text : List ℕ) (q : Asked) → read_words (numbered_words text) ≡ Ok q → IsSpelling text q
+text_spells text q e =
+    let same : unnumbered (numbered_words text) ≡ words_of text = unnumbered-enumerate_from 1 (words_of text) in
+    subst (λ ws. SpellsQuery ws q) same (words_spell (numbered_words text) q (subst (AllByRecursion HasNoBlank) (sym same) (words_no_blank text)) e)
 
 -- the same for a text of at most 256 bytes
 within_spells : (b : Bool) (text : List ℕ) (q : Asked) → cond b (Err QueryTooLong) (read_words (numbered_words text)) ≡ Ok q → IsSpelling text q
 within_spells true text q e = cc
-within_spells false text q e = words_spell text q e
+within_spells false text q e = text_spells text q e
 
 -- what is read as a query spells it
 pub read_spells : (text : List ℕ) (q : Asked) → read_query text ≡ Ok q → IsSpelling text q
@@ -89,14 +93,18 @@ words_again q k score region period is numeral spells_score spells_region spells
     ∙ ap (λ (x : Read Region). x >>= λ r. period_at r.1 >>= λ p. nothing_more p.1 (asked q.k q.score r.0 p.0)) r.1
     ∙ ap (λ (x : Read (Option (ℤ × ℤ))). x >>= λ p. nothing_more p.1 (asked q.k q.score q.region p.0)) p
 
--- what spells a query that may be asked, in at most 256 bytes, is read as it
+-- words that spell a query that may be asked are read as it
+pub spelt_read : (ws : List (List ℕ)) (q : Asked) → IsAsked q → SpellsQuery ws q → read_words (enumerate_from 1 ws) ≡ Ok q
+spelt_read ws q is spelling =
+    ap (λ ws. read_words (enumerate_from 1 ws)) spelling.words
+    ∙ words_again q spelling.k spelling.score spelling.region spelling.period is spelling.spells_k spelling.spells_score spelling.spells_region spelling.spells_period
+
+-- and so is a text of at most 256 bytes
 pub spelling_read : (text : List ℕ) (q : Asked) → IsAsked q → IsSpelling text q → length text ≤ 256 → read_query text ≡ Ok q
 unfolding read_query
 spelling_read text q is spelling short =
     let test : nat_lt 256 (length text) ≡ false = grind (arith, nat_tests) in
-    ap (λ b. cond b (Err QueryTooLong) (read_words (numbered_words text))) test
-    ∙ ap (λ ws. read_words (enumerate_from 1 ws)) spelling.words
-    ∙ words_again q spelling.k spelling.score spelling.region spelling.period is spelling.spells_k spelling.spells_score spelling.spells_region spelling.spells_period
+    ap (λ b. cond b (Err QueryTooLong) (read_words (numbered_words text))) test ∙ spelt_read (words_of text) q is spelling
 
 -- where the reading succeeds, the text spells what was read
 pub if_read_spells : (text : List ℕ) (r : Result Asked QueryFault) → r ≡ read_query text → IfOk r (λ q. IsSpelling text q)

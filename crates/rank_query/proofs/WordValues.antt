@@ -131,6 +131,11 @@ pub date_written : (w : Word) (day : ℤ) → date w ≡ Ok day → w.1 ≡ date
 unfolding date
 date_written w day e = ((read_date-law w.1 day).0 (or_fault_ok (BadDate w.0) (read_date w.1) day e)).1
 
+-- and that day is one
+pub date_day : (w : Word) (day : ℤ) → date w ≡ Ok day → is_day day ≡ true
+unfolding date
+date_day w day e = ((read_date-law w.1 day).0 (or_fault_ok (BadDate w.0) (read_date w.1) day e)).0
+
 -- the date of a day is read as it
 pub written_date : (at : ℕ) (day : ℤ) → is_day day ≡ true → date (at, date_text day) ≡ Ok day
 unfolding date

@@ -7,3 +7,4 @@ pub mod Readers
 pub mod WordValues
 pub mod Reading
 pub mod Spelling
+pub mod FaultPlaces

@@ -52,14 +52,18 @@ abbrev pub SpellsPeriod : List (List ℕ) → Option (ℤ × ℤ) → Type 0
 SpellsPeriod ws None = ws ≡ []
 SpellsPeriod ws (Some p) = ws ≡ codes "from" ∷ date_text p.0 ∷ codes "to" ∷ date_text p.1 ∷ []
 
--- a text spells a query: its words are "top", a numeral of k, and words that spell the score, the region and the period
-pub record IsSpelling (text : List ℕ) (q : Asked) : Type 0 where
+-- words spell a query: they are "top", a numeral of k, and words that spell the score, the region and the period
+pub record SpellsQuery (ws : List (List ℕ)) (q : Asked) : Type 0 where
   pub k : List ℕ
   pub score : List (List ℕ)
   pub region : List (List ℕ)
   pub period : List (List ℕ)
-  pub words : words_of text ≡ codes "top" ∷ k ∷ score ++ region ++ period
+  pub words : ws ≡ codes "top" ∷ k ∷ score ++ region ++ period
   pub spells_k : IsNumeralOf k q.k
   pub spells_score : SpellsScore score q.score
   pub spells_region : SpellsRegion region q.region
   pub spells_period : SpellsPeriod period q.period
+
+-- a text spells a query where its words do
+abbrev pub IsSpelling : List ℕ → Asked → Type 0
+IsSpelling text q = SpellsQuery (words_of text) q

@@ -1,9 +1,10 @@
 //! Reading a query text from left to right, up to the first fault.
 
-ghost use Rattle.std.specs.Prelude.{◌≡◌, ◌≤◌, length, Some, IfOk, IsTrue};
+ghost use Rattle.std.specs.Prelude.{◌≡◌, ◌≤◌, length, Some, IfOk, IfErr, IsTrue};
 ghost use Rattle.rank_query.specs.Asked.{Asked, IsAsked, is_score, is_region, is_period};
 ghost use Rattle.rank_query.specs.QueryTexts.{query_text};
 ghost use Rattle.rank_query.specs.Spelling.{IsSpelling};
+ghost use Rattle.rank_query.specs.FaultPlaces.{StandsIn};
 ghost use Rattle.rank_query.specs.Readers.{Gives};
 ghost use Rattle.rank_query.specs.Reading as reading;
 
@@ -40,6 +41,8 @@ impl Query {
             → result ≡ Ok q }
         // So is its canonical text.
         ensures canonical { (q : Asked) → IsAsked q → text.now ≡ query_text q → result ≡ Ok q }
+        // A fault stands at the first word with which no query goes on.
+        ensures fault { IfErr result (λ fault. StandsIn text.now fault) }
     {
         query_of_text(text)
     }

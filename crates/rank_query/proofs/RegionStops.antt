@@ -1,0 +1,71 @@
+-- Where the reading of a region stops.
+use Rattle.std.proofs.Common.{◌≡◌, ℕ, true, ◌&&◌, List, [], ◌∷◌, Ok, codes, refl}
+use Rattle.std.specs.Prelude.{ℤ, pos, neg_ℤ, int_le}
+use Rattle.std.specs.List.{AllByRecursion}
+use Rattle.std.proofs.lemmas.Bool.{and_parts}
+use Rattle.rank_query.specs.declared.region.Region.{Region}
+use Rattle.rank_query.specs.declared.region.Region.TheVariants.{Inside, Country, State, Only}
+use Rattle.rank_query.specs.Asked.{is_code, is_longitude, is_region}
+use Rattle.rank_query.specs.Words.{Word}
+use Rattle.rank_query.specs.Readers.{Read, one_word}
+use Rattle.rank_query.specs.WordValues.{code}
+use Rattle.rank_query.specs.Reading.{latitude_from, longitude, box_at, country_at, state_at, station_at}
+use Rattle.rank_query.proofs.RegionWords.{and_true}
+use Rattle.rank_query.proofs.Stops.{ReadsPart, part_then}
+use Rattle.rank_query.proofs.PartStops.{part_word, part_made, part_always}
+use Rattle.rank_query.proofs.WordStops.{reads_latitude, reads_longitude, reads_code}
+
+-- a region that can be asked for
+abbrev pub GoodRegion : Region → Type 0
+GoodRegion r = is_region r ≡ true
+
+-- a latitude from a southernmost one on
+abbrev IsLatitudeFrom : ℤ → ℤ → Type 0
+IsLatitudeFrom south z = (int_le south z && int_le z (pos 900_000)) ≡ true
+
+-- a longitude
+abbrev IsLongitude : ℤ → Type 0
+IsLongitude z = is_longitude z ≡ true
+
+-- the edges of a box make a region that can be asked for
+good_box : (south west north east : ℤ) → IsLatitudeFrom (neg_ℤ (pos 900_000)) south → IsLongitude west → IsLatitudeFrom south north → IsLongitude east → GoodRegion (Inside south west north east)
+good_box south west north east s w n e =
+    let low = (and_parts (int_le (neg_ℤ (pos 900_000)) south) (int_le south (pos 900_000)) s).0 in
+    let both = and_parts (int_le south north) (int_le north (pos 900_000)) n in
+    and_true _ _ (and_true _ _ (and_true _ _ (and_true _ _ low both.0) both.1) w) e
+
+-- both are parts
+latitude_part : (south : ℤ) → int_le south (pos 900_000) ≡ true → ReadsPart ℤ (IsLatitudeFrom south) (one_word (latitude_from south))
+latitude_part south below = part_word (IsLatitudeFrom south) (latitude_from south) (reads_latitude south below)
+
+longitude_part : ReadsPart ℤ IsLongitude (one_word longitude)
+longitude_part = part_word IsLongitude longitude reads_longitude
+
+-- a box
+box_part : ReadsPart Region GoodRegion box_at
+unfolding box_at
+box_part =
+    part_then (IsLatitudeFrom (neg_ℤ (pos 900_000))) GoodRegion (one_word (latitude_from (neg_ℤ (pos 900_000)))) _ (latitude_part (neg_ℤ (pos 900_000)) refl) (λ south s.
+    part_then IsLongitude GoodRegion (one_word longitude) _ longitude_part (λ west w.
+    part_then (IsLatitudeFrom south) GoodRegion (one_word (latitude_from south)) _ (latitude_part south (and_parts (int_le (neg_ℤ (pos 900_000)) south) (int_le south (pos 900_000)) s).1) (λ north n.
+    part_then IsLongitude GoodRegion (one_word longitude) (λ east ws. Ok (Inside south west north east, ws)) longitude_part (λ east e.
+    part_always GoodRegion (Inside south west north east) (good_box south west north east s w n e)))))
+
+-- each region behind its word
+abbrev pub region_rows : List (List ℕ × (List Word → Read Region))
+region_rows = (codes "box", box_at) ∷ (codes "country", country_at) ∷ (codes "state", state_at) ∷ (codes "station", station_at) ∷ []
+
+-- all of them are parts
+pub region_parts : AllByRecursion (λ row. ReadsPart Region GoodRegion row.1) region_rows
+region_parts = (
+  box_part,
+  (
+    part_made (λ c. is_code 2 c ≡ true) GoodRegion Country (one_word (code 2)) (λ c is. is) two,
+    (part_made (λ c. is_code 2 c ≡ true) GoodRegion State (one_word (code 2)) (λ c is. is) two, (part_made (λ c. is_code 11 c ≡ true) GoodRegion (λ id. Only (record { 0 = id })) (one_word (code 11)) (λ c is. is) eleven, tt)),
+  ),
+) where
+  two : ReadsPart (List ℕ) (λ c. is_code 2 c ≡ true) (one_word (code 2))
+  two = part_word (λ c. is_code 2 c ≡ true) (code 2) (reads_code 2 (codes "ZZ") refl refl)
+
+  eleven : ReadsPart (List ℕ) (λ c. is_code 11 c ≡ true) (one_word (code 11))
+  eleven = part_word (λ c. is_code 11 c ≡ true) (code 11) (reads_code 11 (codes "ZZA00000001") refl refl)

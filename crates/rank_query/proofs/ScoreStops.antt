@@ -1,0 +1,79 @@
+-- Where the reading of a score stops.
+use Rattle.std.proofs.Common.{◌≡◌, ℕ, true, inl, inr, List, [], ◌∷◌, Ok, Err, codes, refl, sym, ◌∙◌}
+use Rattle.std.specs.List.{AllByRecursion}
+use Rattle.ghcn_fields.specs.Days.{is_within}
+use Rattle.ghcn_files.specs.declared.element.Element.TheVariants.{Prcp, Tmax}
+use Rattle.rank_query.specs.declared.score.Score.{Score}
+use Rattle.rank_query.specs.declared.score.Score.TheVariants.{Highest, Lowest, Sum, Dry, Wet}
+use Rattle.rank_query.specs.declared.fault.QueryFault.{QueryFault}
+use Rattle.rank_query.specs.declared.fault.QueryFault.TheVariants.{UnexpectedWord, QueryEnds}
+use Rattle.rank_query.specs.Asked.{is_temperature, is_fall, is_score}
+use Rattle.rank_query.specs.Words.{Word, says}
+use Rattle.rank_query.specs.Readers.{Read, one_word}
+use Rattle.rank_query.specs.WordValues.{number, element}
+use Rattle.rank_query.specs.Reading.{highest_at, lowest_at, sum_at, dry_at, wet_at, no_score_at, score_at}
+use Rattle.rank_query.proofs.RegionWords.{and_true}
+use Rattle.rank_query.proofs.Stops.{GoesOn, Stops, TakesAll, Ended, ReadsPart, stops_behind, takes_behind, part_then}
+use Rattle.rank_query.proofs.PartStops.{part_word, part_made, part_always, by_first}
+use Rattle.rank_query.proofs.WordStops.{reads_number, reads_element, told}
+
+-- a score that can be asked for
+abbrev pub GoodScore : Score → Type 0
+GoodScore s = is_score s ≡ true
+
+-- a sum
+sum_part : ReadsPart Score GoodScore sum_at
+unfolding sum_at number
+sum_part =
+    part_then (λ n. is_within 1 366 n ≡ true) GoodScore (one_word (number 1 366)) _ (part_word (λ n. is_within 1 366 n ≡ true) (number 1 366) (reads_number 1 366 refl)) (λ n few.
+    part_then (λ e. is_fall e ≡ true) GoodScore (one_word (element is_fall)) (λ e ws. Ok (Sum n e, ws)) (part_word (λ e. is_fall e ≡ true) (element is_fall) (reads_element is_fall Prcp refl refl)) (λ e fall.
+    part_always GoodScore (Sum n e) (and_true (is_within 1 366 n) (is_fall e) few fall)))
+
+-- each score behind its word
+abbrev rows : List (List ℕ × (List Word → Read Score))
+rows = (codes "highest", highest_at) ∷ (codes "lowest", lowest_at) ∷ (codes "sum", sum_at) ∷ (codes "dry", dry_at) ∷ (codes "wet", wet_at) ∷ []
+
+-- all of them are parts
+parts : AllByRecursion (λ row. ReadsPart Score GoodScore row.1) rows
+parts = (
+  part_made (λ e. true ≡ true) GoodScore Highest (one_word (element (λ e. true))) (λ e is. refl) (part_word (λ e. true ≡ true) (element (λ e. true)) (reads_element (λ e. true) Prcp refl refl)),
+  (
+    part_made (λ e. is_temperature e ≡ true) GoodScore Lowest (one_word (element is_temperature)) (λ e is. is) (part_word (λ e. is_temperature e ≡ true) (element is_temperature) (reads_element is_temperature Tmax refl refl)),
+    (sum_part, (part_always GoodScore Dry refl, (part_always GoodScore Wet refl, tt))),
+  ),
+)
+
+-- dry spells need one word
+score_on : GoesOn (Score × List Word) (Ended GoodScore) score_at
+unfolding score_at says
+score_on = record { tail = (0, codes "dry") ∷ []; clean = (refl, tt); value = (Dry, []); good = (refl, refl); reads = refl }
+
+-- a first word that is none of a score is wrong, and what stands behind one is told by its row
+score_stops : (ws : List Word) (fault : QueryFault) → score_at ws ≡ Err fault → Stops (Score × List Word) (Ended GoodScore) score_at fault ws
+unfolding score_at no_score_at
+score_stops [] fault e = record { before = []; left = []; parts = refl; on = score_on; at = let same : fault ≡ QueryEnds = cc in same }
+score_stops (w ∷ ws) fault e = elim (by_first GoodScore rows no_score_at w parts) [
+  | inl found ↦ stops_behind (Ended GoodScore) score_at found.0 (w ∷ []) ws fault found.2 (found.1.first.stops ws fault (sym (found.2 ws) ∙ e))
+  | inr none ↦
+      let here : ◌≡◌ {A = Read Score} (Err (UnexpectedWord w.0)) (Err fault) = sym (none ws) ∙ e in
+      record {
+        before = [];
+        left = w ∷ ws;
+        parts = refl;
+        on = score_on;
+        at = (told (UnexpectedWord w.0) fault w refl here, λ more. none more ∙ here);
+      }
+]
+
+-- a score is taken with its first word
+score_takes : TakesAll Score GoodScore score_at
+unfolding score_at no_score_at
+score_takes [] r e = absurd cc
+score_takes (w ∷ ws) r e = elim (by_first GoodScore rows no_score_at w parts) [
+  | inl found ↦ takes_behind GoodScore score_at found.0 (w ∷ []) ws r found.2 (found.1.takes ws r (sym (found.2 ws) ∙ e))
+  | inr none ↦ let here : ◌≡◌ {A = Read Score} (Err (UnexpectedWord w.0)) (Ok r) = sym (none ws) ∙ e in absurd cc
+]
+
+-- a score is a part of a query
+pub score_part : ReadsPart Score GoodScore score_at
+score_part = record { first = record { on = score_on; stops = score_stops }; takes = score_takes }
