@@ -13,11 +13,6 @@ pub record IsNear (z : ℤ) : Type 0 where
   pub low : neg_ℤ (pos 2_147_483_648) ≤ℤ z
   pub high : z ≤ℤ pos 2_147_483_648
 
--- the number of a block that holds a day of the years 1 to 9999
-pub record IsBlock (b : ℤ) : Type 0 where
-  pub low : neg_ℤ (pos 22_474) ≤ℤ b
-  pub high : b ≤ℤ pos 91_653
-
 -- the block lies in the range
 abbrev pub in_range : BlockRange → ℤ → Bool
 in_range r b = int_le r.first b && int_le b r.last

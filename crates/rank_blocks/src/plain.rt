@@ -2,7 +2,7 @@
 
 ghost use Rattle.std.specs.Prelude.{◌≡◌, ℕ, ℤ, true, false, ◌<◌, ◌≤◌, ◌≤ℤ◌, ◌+ℤ◌, pos, map, unwrap_or};
 ghost use Rattle.std.specs.Option.{option_map_or};
-ghost use Rattle.ghcn_fields.specs.Days.{day_if};
+ghost use Rattle.ghcn_fields.specs.Days.{day_if, IsBlock};
 ghost use Rattle.ghcn_fields.specs.Sorting.{greatest};
 ghost use Rattle.ghcn_series.specs.Series.{IsSeries};
 ghost use Rattle.rank_scores.specs.Candidates.{is_such};
@@ -69,8 +69,8 @@ fn score(extreme: Extreme, value: i32) -> i64
 
 /// The greatest total of so many blocks in a row of which the first is one of the range.
 fn greatest_window(series: &Series, range: BlockRange, width: u32) -> i64
-    requires first { told.IsBlock range.first }
-    requires last { told.IsBlock range.last }
+    requires first { IsBlock range.first }
+    requires last { IsBlock range.last }
     ensures { range.first ≤ℤ range.last → IsGreatest (told.IsDaysTotal range series.now.days width) result }
 {
     let mut greatest = window(series, range.last as i64, width);

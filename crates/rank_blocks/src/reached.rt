@@ -2,6 +2,7 @@
 
 ghost use Rattle.std.specs.Prelude.{◌≡◌, ◌∷◌, [], ◌++◌, ◌+◌, ◌≤ℤ◌, ◌*ℤ◌, ◌+ℤ◌, List, map, unwrap_or, IfSome, Some, ℤ, pos, int_le};
 ghost use Rattle.std.specs.List.{AllByRecursion};
+ghost use Rattle.ghcn_fields.specs.Days.{IsBlock};
 ghost use Rattle.ghcn_fields.specs.Sorting.{greatest};
 ghost use Rattle.ghcn_series.specs.Series.{Usable};
 ghost use Rattle.rank_scores.specs.Candidates.{is_such};
@@ -104,7 +105,7 @@ fn is_past(number: i32, first: i32, width: u32) -> bool
 /// How many days of a kind follow one another at most in the blocks of a range.
 pub(crate) fn longest_run(blocks: &[Summary], range: BlockRange, spell: Spell) -> i64
     requires possible { ArePossible blocks.now }
-    requires low { told.IsBlock range.first }
+    requires low { IsBlock range.first }
     ensures { (s : Usable) → AreSummaries s blocks.now →
         IsGreatest (IsRunLength (is_such (test_of spell) (told.days_in_range range s.days))) result }
 {
@@ -120,8 +121,8 @@ pub(crate) fn longest_run(blocks: &[Summary], range: BlockRange, spell: Spell) -
 
 /// How many days the blocks from one number on and before another have.
 fn days_between(first: i32, before: i32) -> u32
-    requires first { told.IsBlock first }
-    requires before { told.IsBlock before }
+    requires first { IsBlock first }
+    requires before { IsBlock before }
     requires order { first ≤ℤ before }
     ensures days { (block_start first +ℤ pos result) ≡ block_start before }
 {

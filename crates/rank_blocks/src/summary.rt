@@ -8,7 +8,6 @@ ghost use Rattle.ghcn_series.specs.Series.{DayValue};
 ghost use Rattle.rank_blocks.specs.Blocks.{block_start};
 ghost use Rattle.rank_blocks.specs.Summaries.{IsPartial, IsPossible, IsOpen, IsSummary, Rise};
 
-use crate::range::block_of;
 use crate::runs::Runs;
 use ghcn_fields::Day;
 
@@ -46,7 +45,7 @@ impl Summary {
         let nothing = Runs::without(0);
         let place = place_of(day);
         Summary {
-            number: block_of(day),
+            number: day.block(),
             greatest: value,
             least: value,
             total: value as i64,
