@@ -37,8 +37,9 @@ up_to-requires-clause-later c =
     let high = c.requires.low.high in
     let first : to_z w32 (of_z w32 c.args.range.first) ≡ c.args.range.first = omega (arith, ints) in
     let range : c.holds.result ≡ in_range c.args.range (block_at c.args.blocks.now c.loop-block.block-index).number = c.holds.ensures ∙ ap (in_range c.args.range) number in
-    ahead-at c.args.range c.args.blocks.now c.loop-block.block-index c.loop-block.runs.days c.days_between-before.result (to_z w32 (of_z w32 c.args.range.first)) c.loop-block-test.true c.loop-block.invariant.ahead
-    (sym range ∙ c.if-holds.true) first (c.days_between-before.ensures.days ∙ ap block_start number)
+    let ahead = ahead-at c.args.range c.args.blocks.now c.loop-block.block-index c.loop-block.runs.days c.days_between-before.result (to_z w32 (of_z w32 c.args.range.first)) c.loop-block-test.true c.loop-block.invariant.ahead
+    (sym range ∙ c.if-holds.true) first (c.days_between-before.ensures.days ∙ ap block_start number) in
+    omega arith
 
 pub join-runs-requires-clause-next_part : goal.join-runs-requires-clause-next_part
 join-runs-requires-clause-next_part c =
@@ -48,7 +49,7 @@ pub join-runs-requires-clause-room : goal.join-runs-requires-clause-room
 join-runs-requires-clause-room c =
     let possible = possible-at c.args.blocks.now c.loop-block.block-index c.loop-block-test.true c.requires.possible in
     let whole : c.runs.result.days ≡ 32 = ap (λ (r : Runs). r.days) c.runs.ensures ∙ spell-whole c.args.spell (block_at c.args.blocks.now c.loop-block.block-index) possible in
-    let days : c.up_to.result.days ≡ c.loop-block.runs.days + (c.days_between-before.result - c.loop-block.runs.days) = ap (λ (r : Runs). r.days) c.up_to.ensures in
+    let days = ap (λ (r : Runs). r.days) c.up_to.ensures in
     let before = c.days_between-before.ensures in
     let range_low = c.requires.low.low in
     let range_high = c.requires.low.high in
