@@ -8,13 +8,12 @@ use Rattle.std.proofs.lemmas.List.Elements.{All-from_recursion, All-get_or, filt
 use Rattle.ghcn_fields.specs.Sorting.{greatest}
 use Rattle.rank_blocks.specs.declared.runs.Runs.{Runs}
 use Rattle.rank_blocks.specs.declared.range.BlockRange.{BlockRange}
-use Rattle.rank_blocks.specs.declared.spell.Spell.{Spell}
-use Rattle.rank_blocks.specs.declared.spell.Spell.TheVariants.{Dry, Wet}
+use Rattle.rank_scores.specs.declared.spell.Spell.{Spell}
+use Rattle.rank_scores.specs.declared.spell.Spell.TheVariants.{Dry, Wet}
 use Rattle.rank_blocks.specs.declared.summary.Summary.{Summary}
 use Rattle.rank_blocks.specs.Blocks.{block_start, is_among}
 use Rattle.rank_blocks.specs.DayRuns.{ArePart, runs_without, joined}
-use Rattle.rank_blocks.specs.Reached.{IsNear, in_range, summaries_in, summaries_total}
-use Rattle.rank_blocks.specs.Spells.{runs_of}
+use Rattle.rank_blocks.specs.Reached.{IsNear, in_range, summaries_in, summaries_total, runs_of}
 use Rattle.rank_blocks.specs.Summaries.{IsPossible, ArePossible}
 use Rattle.rank_blocks.proofs.Members.{from_each}
 use Rattle.rank_blocks.proofs.DayValues.{both_pass, int_le-true}

@@ -9,13 +9,13 @@ use Rattle.rank_scores.specs.Candidates.{is_such}
 use Rattle.rank_blocks.specs.declared.runs.Runs.{Runs}
 use Rattle.rank_blocks.specs.declared.summary.Summary.{Summary}
 use Rattle.rank_blocks.specs.declared.range.BlockRange.{BlockRange}
-use Rattle.rank_blocks.specs.declared.spell.Spell.{Spell}
-use Rattle.rank_blocks.specs.declared.spell.Spell.TheVariants.{Dry, Wet}
+use Rattle.rank_scores.specs.declared.spell.Spell.{Spell}
+use Rattle.rank_scores.specs.declared.spell.Spell.TheVariants.{Dry, Wet}
 use Rattle.rank_blocks.specs.Blocks.{block_start}
 use Rattle.rank_blocks.specs.DayRuns.{AreRuns, AllPass, runs_without, joined}
 use Rattle.rank_blocks.specs.Greatest.{IsGreatest, IsRunLength}
-use Rattle.rank_blocks.specs.Reached.{in_range}
-use Rattle.rank_blocks.specs.Spells.{test_of, runs_of}
+use Rattle.rank_blocks.specs.Reached.{in_range, runs_of}
+use Rattle.rank_scores.specs.Spells.{test_of}
 use Rattle.rank_blocks.specs.Summaries.{passes_at, IsSummary, AreSummaries}
 use Rattle.rank_blocks.proofs.JoinedRuns.{at_most_or_more, not_both, joined-AreRuns, alike-AreRuns}
 use Rattle.rank_blocks.proofs.Members.{from_each, contains-cases, pick}

@@ -10,11 +10,11 @@ ghost use Rattle.rank_blocks.specs.Summaries.{AreSummaries, ArePossible, HasRead
 use crate::extreme::Extreme;
 use crate::range::BlockRange;
 use crate::reached::{greatest_day, greatest_total, longest_run, times, window_blocks};
-use crate::spell::Spell;
 use crate::summary::Summary;
 use ghcn_fields::{Day, Memory};
 use ghcn_series::Series;
 use rank_query::{Query, Score};
+use rank_scores::Spell;
 use std::alloc::Global;
 use std::marker::Model;
 

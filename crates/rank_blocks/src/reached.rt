@@ -6,18 +6,18 @@ ghost use Rattle.ghcn_fields.specs.Days.{IsBlock};
 ghost use Rattle.ghcn_fields.specs.Sorting.{greatest};
 ghost use Rattle.ghcn_series.specs.Series.{Usable};
 ghost use Rattle.rank_scores.specs.Candidates.{is_such};
+ghost use Rattle.rank_scores.specs.Spells.{test_of};
 ghost use Rattle.rank_blocks.specs.Blocks.{block_start};
 ghost use Rattle.rank_blocks.specs.Bounds.{blocks_of_window};
 ghost use Rattle.rank_blocks.specs.Greatest.{IsGreatest, IsRunLength};
 ghost use Rattle.rank_blocks.specs.Reached as told;
-ghost use Rattle.rank_blocks.specs.Spells.{test_of};
 ghost use Rattle.rank_blocks.specs.Summaries.{ArePossible, AreSummaries};
 
 use crate::extreme::Extreme;
 use crate::range::BlockRange;
 use crate::runs::Runs;
-use crate::spell::Spell;
 use crate::summary::{BLOCK_DAYS, Summary, sum_of};
+use rank_scores::Spell;
 
 /// The greatest score of a usable day in the blocks of a range, or 0 where there is none.
 pub(crate) fn greatest_day(blocks: &[Summary], range: BlockRange, extreme: Extreme) -> i64
@@ -113,7 +113,7 @@ pub(crate) fn longest_run(blocks: &[Summary], range: BlockRange, spell: Spell) -
     for block in blocks {
         if range.holds(block.number) {
             let before = days_between(range.first, block.number);
-            runs = runs.up_to(before).join(spell.runs(block));
+            runs = runs.up_to(before).join(block.runs(spell));
         }
     }
     runs.longest as i64

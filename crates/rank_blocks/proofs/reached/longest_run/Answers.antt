@@ -7,8 +7,7 @@ use Rattle.rank_blocks.specs.declared.summary.Summary.{Summary}
 use Rattle.rank_blocks.specs.Blocks.{block_start}
 use Rattle.rank_blocks.specs.DayRuns.{ArePart, runs_without, joined}
 use Rattle.rank_blocks.specs.Greatest.{IsGreatest}
-use Rattle.rank_blocks.specs.Reached.{in_range}
-use Rattle.rank_blocks.specs.Spells.{runs_of}
+use Rattle.rank_blocks.specs.Reached.{in_range, runs_of}
 use Rattle.rank_blocks.proofs.LongestRuns.{AreRunsSoFar, runs_so_far-start, runs_so_far-in, runs_so_far-out, runs_so_far-end}
 use Rattle.rank_blocks.proofs.OpenBlocks.{joined-ArePart, without-ArePart}
 use Rattle.rank_blocks.proofs.BlockSteps.{block_at, left-at, possible-at, number-at, possible-left, behind-left, spell-part, spell-whole, ahead-in, ahead-at, ahead-start}
