@@ -106,7 +106,8 @@ fn add_day(
 ) -> Result<Summary, Memory>
     requires { IsBefore current day }
     ensures { IfOk result (λ next. (all read rest : List DayValue) → all ≡ read ++ (day, value) ∷ rest → Rise all →
-        HasRead all read summaries.old.items current → HasRead all (read ++ (day, value) ∷ []) summaries.new.items next) }
+        HasRead all read summaries.old.items current →
+        HasRead all (read ++ (day, value) ∷ []) summaries.new.items next) }
 {
     if day.block() == current.number {
         return Ok(current.with(day, value));

@@ -43,7 +43,8 @@ pub(crate) fn plain_bound(series: &Series, query: &Query) -> i64
 
 /// The greatest score of a day in the blocks of a range, or 0 where there is none.
 fn greatest_score(series: &Series, range: BlockRange, extreme: Extreme) -> i64
-    ensures value { result ≡ unwrap_or (greatest (map (λ x. told.score_of extreme x.1) (told.days_in_range range series.now.days))) (pos 0) }
+    ensures value { result ≡
+        unwrap_or (greatest (map (λ x. told.score_of extreme x.1) (told.days_in_range range series.now.days))) (pos 0) }
     ensures near { told.IsNear result }
 {
     let mut found = None;

@@ -1,6 +1,7 @@
 //! What the summaries of the blocks of a range tell.
 
-ghost use Rattle.std.specs.Prelude.{◌≡◌, ◌∷◌, [], ◌++◌, ◌+◌, ◌≤ℤ◌, ◌*ℤ◌, ◌+ℤ◌, List, map, unwrap_or, IfSome, Some, ℤ, pos, int_le};
+ghost use Rattle.std.specs.Prelude.{◌≡◌, List, ◌∷◌, [], ◌++◌, map, unwrap_or, IfSome, Some};
+ghost use Rattle.std.specs.Prelude.{ℤ, pos, ◌≤ℤ◌, ◌*ℤ◌, ◌+ℤ◌, int_le};
 ghost use Rattle.std.specs.List.{AllByRecursion};
 ghost use Rattle.ghcn_fields.specs.Days.{IsBlock};
 ghost use Rattle.ghcn_fields.specs.Sorting.{greatest};
@@ -22,7 +23,8 @@ use rank_scores::Spell;
 /// The greatest score of a usable day in the blocks of a range, or 0 where there is none.
 pub(crate) fn greatest_day(blocks: &[Summary], range: BlockRange, extreme: Extreme) -> i64
     requires { ArePossible blocks.now }
-    ensures value { result ≡ unwrap_or (greatest (map (told.extreme_of extreme) (told.summaries_in range blocks.now))) (pos 0) }
+    ensures value { result ≡
+        unwrap_or (greatest (map (told.extreme_of extreme) (told.summaries_in range blocks.now))) (pos 0) }
     ensures near { told.IsNear result }
 {
     let mut found = None;
