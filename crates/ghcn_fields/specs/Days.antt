@@ -1,5 +1,5 @@
 -- Days of the years 1 to 9999 by number: 1970-01-01 is day 0, and a day before it is negative.
-use Rattle.std.specs.Prelude.{ℕ, Bool, ◌&&◌, nat_le, if◌then◌else◌, Option, None, Some, ℤ, pos, neg_ℤ, int_le}
+use Rattle.std.specs.Prelude.{ℕ, Bool, ◌&&◌, nat_le, if◌then◌else◌, Option, None, Some, ℤ, pos, neg_ℤ, ◌≤ℤ◌, int_le}
 use Rattle.std.specs.Int.{int_div_euclid}
 use Rattle.jiff_core.specs.Calendar.{days_from_civil, days_in_month}
 
@@ -34,3 +34,8 @@ day_if n = if is_day n then Some n else None
 -- the block of 32 days that holds a day: block 0 has the days 0 to 31
 abbrev pub block_of : ℤ → ℤ
 block_of n = int_div_euclid n (pos 32)
+
+-- b is the number of a block that holds a day of the years 1 to 9999
+pub record IsBlock (b : ℤ) : Type 0 where
+  pub low : block_of first_day ≤ℤ b
+  pub high : b ≤ℤ block_of last_day

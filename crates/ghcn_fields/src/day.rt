@@ -2,7 +2,7 @@
 
 ghost use Rattle.std.specs.Prelude.{◌≡◌, ◌≤◌, ℤ, pos, ◌+ℤ◌, ◌-ℤ◌, Some, IsTrue};
 ghost use Rattle.jiff_core.specs.Calendar as calendar;
-ghost use Rattle.ghcn_fields.specs.Days.{is_day, day_if, day_number, block_of};
+ghost use Rattle.ghcn_fields.specs.Days.{is_day, day_if, day_number, block_of, IsBlock};
 ghost use Rattle.ghcn_fields.specs.Dates as dates;
 
 use jiff_core::civil::Date;
@@ -78,8 +78,11 @@ impl Day {
     }
 
     /// The block of 32 days that holds the day: the number divided by 32, rounded down.
+    ///
+    /// From -22474, the block of 0001-01-01, to 91653, the block of 9999-12-31.
     pub fn block(self) -> i32
-        ensures { result ≡ block_of self }
+        ensures value { result ≡ block_of self }
+        ensures range { IsBlock result }
     {
         self.number.div_euclid(32)
     }

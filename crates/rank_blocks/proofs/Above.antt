@@ -1,9 +1,8 @@
 -- No candidate has a score above the bound.
-use Rattle.std.proofs.Common.{◌≡◌, ℕ, zero, suc, ◌+◌, ◌*◌, ◌/◌, ◌<◌, ◌≤◌, Bool, true, false, cond, List, [], ◌∷◌, map, filter, ◌⊎◌, inl, inr, Option, Some, None, refl, sym, ap, ◌∙◌, subst, arith, ℤ, pos, negsuc, neg_ℤ, ◌≤ℤ◌, ◌<ℤ◌, ◌+ℤ◌, ◌*ℤ◌}
+use Rattle.std.proofs.Common.{◌≡◌, ℕ, zero, suc, ◌+◌, ◌*◌, ◌<◌, ◌≤◌, Bool, true, false, cond, List, [], ◌∷◌, map, filter, Option, Some, None, refl, sym, ap, ◌∙◌, subst, arith, ℤ, pos, negsuc, neg_ℤ, ◌≤ℤ◌, ◌<ℤ◌, ◌+ℤ◌, ◌*ℤ◌}
 use Rattle.std.specs.Prelude.{◌&&◌, ◌||◌, int_le, int_lt, ◌-ℤ◌}
 use Rattle.std.specs.List.{AllByRecursion, Contains, filter_map, cons_option, list_all, find}
-use Rattle.std.specs.Option.{option_map, option_map_or}
-use Rattle.std.specs.Int.{int_min}
+use Rattle.std.specs.Option.{option_map}
 use Rattle.std.specs.Ordering.{int_eq}
 use Rattle.std.proofs.lemmas.Bool.Decides.{Decides-int_eq}
 use Rattle.std.proofs.lemmas.Int.{ints, clamps}
@@ -17,17 +16,16 @@ use Rattle.rank_query.specs.declared.score.Score.{Score}
 use Rattle.rank_query.specs.declared.score.Score.TheVariants.{Highest, Lowest, Sum, Dry, Wet}
 use Rattle.rank_query.specs.Asked.{Asked, score_element, is_score, is_fall, IsAsked}
 use Rattle.rank_query.specs.Admits.{admits_day}
-use Rattle.rank_scores.specs.declared.candidate.Candidate.{Candidate}
-use Rattle.rank_scores.specs.Candidates.{Shape, Days, Windows, Spells, shape, is_dry, is_wet, is_such, plus, window_total, begun, candidate, candidates_among, admitted_among, admitted}
+use Rattle.rank_scores.specs.Candidates.{Days, Windows, Spells, shape, is_dry, is_wet, is_such, plus, window_total, begun, candidate, candidates_among, admitted}
 use Rattle.rank_scores.specs.Runs.{run_from, run_len, begins_run, calendar_len}
 use Rattle.rank_scores.specs.Morsels.{IsAbove}
-use Rattle.rank_blocks.specs.Blocks.{total, blocks_total, is_among, is_reached, days_reached, block_start}
+use Rattle.rank_blocks.specs.Blocks.{total, blocks_total, is_among, is_reached, days_reached}
 use Rattle.rank_blocks.specs.Bounds.{blocks_of_window}
-use Rattle.rank_blocks.specs.Greatest.{IsGreatest, IsScore, IsBlocksTotal, IsRunLength, IsSumBound, IsBoundFor, IsBound}
+use Rattle.rank_blocks.specs.Greatest.{IsGreatest, IsScore, IsRunLength, IsSumBound, IsBoundFor, IsBound}
 use Rattle.rank_blocks.proofs.Members.{from_each, all-passing, stands}
 use Rattle.rank_blocks.proofs.DayValues.{both_pass, pass_both, int_le-true, int_lt-true, le-int_le, lt-int_lt, block-holds, block-rises}
 use Rattle.rank_blocks.proofs.WindowTotals.{among-from}
-use Rattle.rank_blocks.proofs.ReachedDays.{admitted-reached, such-wider, kept-value, value_on-among}
+use Rattle.rank_blocks.proofs.ReachedDays.{admitted-reached, such-wider, value_on-among}
 
 -- ---- what begins on a day
 

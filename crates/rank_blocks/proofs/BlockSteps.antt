@@ -1,24 +1,22 @@
 -- One more summary of a list, as a loop comes to it.
-use Rattle.std.proofs.Common.{◌≡◌, ℕ, ◌+◌, ◌-◌, ◌*◌, ◌<◌, ◌≤◌, Bool, true, false, cond, List, [], ◌∷◌, ◌++◌, map, filter, length, get_or, take, drop, Option, Some, None, refl, sym, ap, ◌∙◌, subst, arith, ℤ, pos, neg_ℤ, ◌≤ℤ◌, ◌<ℤ◌, ◌+ℤ◌, to_z, of_z, w32, w64}
+use Rattle.std.proofs.Common.{◌≡◌, ℕ, ◌+◌, ◌-◌, ◌*◌, ◌<◌, ◌≤◌, Bool, true, false, cond, List, [], ◌∷◌, ◌++◌, map, length, get_or, take, drop, Option, Some, None, refl, ap, ◌∙◌, subst, arith, ℤ, pos, neg_ℤ, ◌≤ℤ◌, ◌<ℤ◌, ◌+ℤ◌, to_z, of_z, w32, w64}
 use Rattle.std.specs.List.{AllByRecursion}
 use Rattle.std.specs.Option.{IfSome, unwrap_or}
 use Rattle.std.proofs.lemmas.Int.{ints}
 use Rattle.std.proofs.lemmas.List.{append-nil, drop_more, take_all, length-drop}
 use Rattle.std.proofs.lemmas.List.Elements.{All-from_recursion, All-get_or, filter_more}
-use Rattle.ghcn_fields.specs.Sorting.{greatest}
 use Rattle.rank_blocks.specs.declared.runs.Runs.{Runs}
 use Rattle.rank_blocks.specs.declared.range.BlockRange.{BlockRange}
-use Rattle.rank_blocks.specs.declared.spell.Spell.{Spell}
-use Rattle.rank_blocks.specs.declared.spell.Spell.TheVariants.{Dry, Wet}
+use Rattle.rank_scores.specs.declared.spell.Spell.{Spell}
+use Rattle.rank_scores.specs.declared.spell.Spell.TheVariants.{Dry, Wet}
 use Rattle.rank_blocks.specs.declared.summary.Summary.{Summary}
-use Rattle.rank_blocks.specs.Blocks.{block_start, is_among}
-use Rattle.rank_blocks.specs.DayRuns.{ArePart, runs_without, joined}
-use Rattle.rank_blocks.specs.Reached.{IsNear, in_range, summaries_in, summaries_total}
-use Rattle.rank_blocks.specs.Spells.{runs_of}
+use Rattle.rank_blocks.specs.Blocks.{block_start}
+use Rattle.rank_blocks.specs.DayRuns.{ArePart}
+use Rattle.rank_blocks.specs.Reached.{IsNear, in_range, summaries_in, summaries_total, runs_of}
 use Rattle.rank_blocks.specs.Summaries.{IsPossible, ArePossible}
 use Rattle.rank_blocks.proofs.Members.{from_each}
 use Rattle.rank_blocks.proofs.DayValues.{both_pass, int_le-true}
-use Rattle.rank_blocks.proofs.PossibleBlocks.{sorted-behind, possible-tail, possible-few, possible-total}
+use Rattle.rank_blocks.proofs.PossibleBlocks.{sorted-behind, possible-tail}
 use Rattle.rank_blocks.proofs.WindowTotals.{AreBehind, total-in, total-out, total-behind, among-from, before-among}
 
 -- no runs

@@ -1,36 +1,33 @@
 -- The bound of a series is found from its summaries.
-use Rattle.std.proofs.Common.{◌≡◌, ℕ, ◌+◌, ◌/◌, ◌<◌, ◌≤◌, Bool, true, false, List, [], ◌∷◌, map, filter, length, Option, Some, None, refl, sym, ap, ◌∙◌, subst, arith, ℤ, pos, neg_ℤ, ◌≤ℤ◌, ◌<ℤ◌, ◌+ℤ◌, ◌*ℤ◌}
+use Rattle.std.proofs.Common.{◌≡◌, ℕ, Bool, true, List, map, filter, Option, Some, None, sym, ap, ◌∙◌, subst, arith, ℤ, pos, ◌≤ℤ◌, ◌*ℤ◌}
 use Rattle.std.specs.Prelude.{◌&&◌, int_le}
-use Rattle.std.specs.List.{AllByRecursion, Contains}
+use Rattle.std.specs.List.{Contains}
 use Rattle.std.specs.Option.{unwrap_or}
 use Rattle.std.specs.Ordering.{int_eq}
 use Rattle.std.specs.Int.{int_min}
 use Rattle.std.proofs.lemmas.Int.{ints}
 use Rattle.ghcn_fields.specs.Days.{block_of, first_day, last_day, is_day}
 use Rattle.ghcn_fields.specs.Sorting.{greatest}
-use Rattle.ghcn_files.specs.declared.element.Element.{Element}
 use Rattle.ghcn_series.specs.Series.{DayValue, Usable}
 use Rattle.rank_query.specs.declared.score.Score.{Score}
-use Rattle.rank_query.specs.declared.score.Score.TheVariants.{Highest, Lowest, Sum, Dry, Wet}
 use Rattle.rank_query.specs.Asked.{Asked, IsAsked, is_period}
-use Rattle.rank_query.specs.Admits.{admits_day}
 use Rattle.rank_scores.specs.Candidates.{is_such}
 use Rattle.rank_scores.specs.Morsels.{IsAbove}
 use Rattle.rank_blocks.specs.declared.range.BlockRange.{BlockRange}
 use Rattle.rank_blocks.specs.declared.extreme.Extreme.{Extreme}
 use Rattle.rank_blocks.specs.declared.extreme.Extreme.TheVariants as extremes
 use Rattle.rank_blocks.specs.declared.summary.Summary.{Summary}
-use Rattle.rank_blocks.specs.Blocks.{days_in, days_reached, is_reached, period_of, blocks_total, is_among}
+use Rattle.rank_blocks.specs.Blocks.{days_in, days_reached, is_reached, period_of}
 use Rattle.rank_blocks.specs.Bounds.{blocks_of_window, bound, IsAskedOf}
 use Rattle.rank_blocks.specs.Greatest.{IsGreatest, IsScore, IsBlocksTotal, IsRunLength, IsSumBound, IsBoundFor, IsBound}
-use Rattle.rank_blocks.specs.Reached.{in_range, summaries_in, score_of, extreme_of, summaries_total, IsTotalFrom}
+use Rattle.rank_blocks.specs.Reached.{in_range, summaries_in, score_of, extreme_of, IsTotalFrom}
 use Rattle.rank_blocks.specs.Summaries.{IsSummary, AreSummaries}
-use Rattle.rank_blocks.proofs.Members.{from_each, pick, stands, greatest-exists, from_both}
+use Rattle.rank_blocks.proofs.Members.{from_each, pick, stands, greatest-exists}
 use Rattle.rank_blocks.proofs.DayValues.{both_pass, int_le-true, block-rises}
 use Rattle.rank_blocks.proofs.WindowTotals.{AreFalls}
 use Rattle.rank_blocks.proofs.Totals.{summaries_total-is}
 use Rattle.rank_blocks.proofs.ReachedDays.{admitted-reached, greatest-of_blocks}
-use Rattle.rank_blocks.proofs.Above.{AreFallen, total-fallen, sums-fall, bound-IsAbove}
+use Rattle.rank_blocks.proofs.Above.{AreFallen, total-fallen, bound-IsAbove}
 use Rattle.rank_blocks.proofs.Computed.{some_admitted, bound-unique, computed-IsBound}
 
 -- the range of the blocks of the query's period

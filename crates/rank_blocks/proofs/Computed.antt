@@ -1,27 +1,26 @@
 -- The bound as it is computed is the bound by what it is greatest of, and there is but one.
-use Rattle.std.proofs.Common.{◌≡◌, ℕ, zero, suc, ◌+◌, ◌-◌, ◌/◌, ◌<◌, ◌≤◌, Bool, true, false, cond, max, List, [], ◌∷◌, ◌++◌, map, filter, length, ◌⊎◌, inl, inr, Option, Some, None, refl, sym, ap, ◌∙◌, subst, arith, ℤ, pos, negsuc, neg_ℤ, ◌≤ℤ◌, ◌<ℤ◌, ◌+ℤ◌, ◌-ℤ◌, ◌*ℤ◌}
-use Rattle.std.specs.Prelude.{◌&&◌, int_le, int_lt}
+use Rattle.std.proofs.Common.{◌≡◌, ℕ, zero, suc, ◌+◌, ◌<◌, ◌≤◌, Bool, true, false, cond, List, [], ◌∷◌, map, filter, length, ◌⊎◌, inl, inr, Option, refl, sym, ap, ◌∙◌, subst, arith, ℤ, pos, neg_ℤ, ◌≤ℤ◌, ◌+ℤ◌, ◌-ℤ◌, ◌*ℤ◌}
+use Rattle.std.specs.Prelude.{◌&&◌, int_le}
 use Rattle.std.specs.List.{AllByRecursion, Contains, flat_map, range_with_len, list_all}
 use Rattle.std.specs.Option.{unwrap_or}
 use Rattle.std.specs.Int.{int_min}
-use Rattle.std.proofs.lemmas.Int.{ints, clamps}
+use Rattle.std.proofs.lemmas.Int.{ints}
 use Rattle.std.proofs.lemmas.List.Elements.{Contains-append_left, Contains-append_right}
 use Rattle.std.proofs.Math.Nat.{le-max_left, le-max_right, max-eq_left, max-eq_right}
 use Rattle.ghcn_fields.specs.Days.{block_of, is_day, first_day, last_day}
-use Rattle.ghcn_fields.specs.Sorting.{greatest}
 use Rattle.ghcn_files.specs.declared.element.Element.{Element}
 use Rattle.ghcn_series.specs.Series.{DayValue, Usable, IsSeries, value_on, is_value}
 use Rattle.rank_query.specs.declared.score.Score.{Score}
 use Rattle.rank_query.specs.declared.score.Score.TheVariants.{Highest, Lowest, Sum, Dry, Wet}
-use Rattle.rank_query.specs.Asked.{Asked, IsAsked, score_element}
+use Rattle.rank_query.specs.Asked.{Asked, IsAsked}
 use Rattle.rank_query.specs.Admits.{admits_day}
 use Rattle.rank_scores.specs.Candidates.{is_dry, is_wet, is_such, admitted}
-use Rattle.rank_scores.specs.Runs.{run_len, run_from, longest_run, calendar_len}
+use Rattle.rank_scores.specs.Runs.{run_len, longest_run, calendar_len}
 use Rattle.rank_blocks.specs.Blocks.{days_reached, is_reached, total, blocks_total, is_among}
-use Rattle.rank_blocks.specs.Bounds.{greatest_by, blocks_of_window, first_blocks, greatest_total, sum_bound, spell_bound, bound_for, bound, IsAskedOf}
+use Rattle.rank_blocks.specs.Bounds.{greatest_by, blocks_of_window, first_blocks, greatest_total, spell_bound, bound_for, bound, IsAskedOf}
 use Rattle.rank_blocks.specs.Greatest.{IsGreatest, IsScore, IsBlocksTotal, IsRunLength, IsSumBound, IsBoundFor, IsBound}
 use Rattle.rank_blocks.proofs.JoinedRuns.{at_most_or_more}
-use Rattle.rank_blocks.proofs.Members.{from_each, all-passing, pick, stands, stands-wider, contains-first, contains-behind, contains-cases, greatest-IsGreatest, greatest-exists, greatest-unique, nothing_said}
+use Rattle.rank_blocks.proofs.Members.{from_each, all-passing, pick, stands, contains-first, contains-behind, contains-cases, greatest-IsGreatest, greatest-exists, greatest-unique, nothing_said}
 use Rattle.rank_blocks.proofs.DayValues.{both_pass, int_le-true}
 use Rattle.rank_blocks.proofs.WindowTotals.{among-parts}
 use Rattle.rank_blocks.proofs.LongestRuns.{distance}

@@ -1,10 +1,10 @@
 -- What is told of days in a row, where they are joined.
-use Rattle.std.proofs.Common.{◌≡◌, ℕ, zero, suc, ◌+◌, ◌-◌, ◌<◌, ◌≤◌, Bool, true, false, cond, max, ◌⊎◌, inl, inr, refl, sym, ap, ◌∙◌, subst, arith}
+use Rattle.std.proofs.Common.{◌≡◌, ℕ, ◌+◌, ◌-◌, ◌<◌, ◌≤◌, Bool, true, false, cond, max, ◌⊎◌, inl, inr, refl, sym, ap, ◌∙◌, subst, arith}
 use Rattle.std.specs.Prelude.{◌==◌}
 use Rattle.std.proofs.lemmas.Bool.Decides.{Decides-eqb, leb_tells}
-use Rattle.std.proofs.Math.Nat.{le-max_left, le-max_right, max-eq_left, max-eq_right, max-le}
+use Rattle.std.proofs.Math.Nat.{le-max_left, le-max_right, max-eq_left, max-eq_right}
 use Rattle.rank_blocks.specs.declared.runs.Runs.{Runs}
-use Rattle.rank_blocks.specs.DayRuns.{AllPass, ComeFirst, ComeLast, FollowAtMost, AreRuns, runs_without, runs_of_day, first_of_both, joined, ArePart}
+use Rattle.rank_blocks.specs.DayRuns.{AllPass, ComeFirst, ComeLast, AreRuns, runs_without, runs_of_day, first_of_both, joined, ArePart}
 
 -- one of two numbers is below the other, or not
 pub at_most_or_more : (a b : ℕ) → (a ≤ b) ⊎ (b < a)

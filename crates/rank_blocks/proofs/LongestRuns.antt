@@ -1,6 +1,6 @@
 -- The longest run of days in the blocks of a range, as a loop over the summaries finds it.
-use Rattle.std.proofs.Common.{◌≡◌, ℕ, zero, suc, ◌+◌, ◌-◌, ◌*◌, ◌/◌, ◌<◌, ◌≤◌, Bool, true, false, cond, List, [], ◌∷◌, ◌++◌, map, filter, ◌⊎◌, inl, inr, Option, Some, None, refl, sym, ap, ◌∙◌, subst, arith, ℤ, pos, negsuc, ◌≤ℤ◌, ◌<ℤ◌, ◌+ℤ◌, ◌-ℤ◌}
-use Rattle.std.specs.Prelude.{◌&&◌, int_le}
+use Rattle.std.proofs.Common.{◌≡◌, ℕ, zero, suc, ◌+◌, ◌-◌, ◌*◌, ◌/◌, ◌<◌, ◌≤◌, Bool, true, false, List, [], ◌∷◌, map, filter, inl, inr, refl, sym, ap, ◌∙◌, subst, arith, ℤ, pos, negsuc, ◌≤ℤ◌, ◌<ℤ◌, ◌+ℤ◌, ◌-ℤ◌}
+use Rattle.std.specs.Prelude.{int_le}
 use Rattle.std.specs.List.{AllByRecursion, Contains}
 use Rattle.std.proofs.lemmas.Int.{ints}
 use Rattle.ghcn_fields.specs.Days.{block_of}
@@ -9,17 +9,17 @@ use Rattle.rank_scores.specs.Candidates.{is_such}
 use Rattle.rank_blocks.specs.declared.runs.Runs.{Runs}
 use Rattle.rank_blocks.specs.declared.summary.Summary.{Summary}
 use Rattle.rank_blocks.specs.declared.range.BlockRange.{BlockRange}
-use Rattle.rank_blocks.specs.declared.spell.Spell.{Spell}
-use Rattle.rank_blocks.specs.declared.spell.Spell.TheVariants.{Dry, Wet}
+use Rattle.rank_scores.specs.declared.spell.Spell.{Spell}
+use Rattle.rank_scores.specs.declared.spell.Spell.TheVariants.{Dry, Wet}
 use Rattle.rank_blocks.specs.Blocks.{block_start}
-use Rattle.rank_blocks.specs.DayRuns.{AreRuns, AllPass, runs_without, joined}
+use Rattle.rank_blocks.specs.DayRuns.{AreRuns, runs_without, joined}
 use Rattle.rank_blocks.specs.Greatest.{IsGreatest, IsRunLength}
-use Rattle.rank_blocks.specs.Reached.{in_range}
-use Rattle.rank_blocks.specs.Spells.{test_of, runs_of}
+use Rattle.rank_blocks.specs.Reached.{in_range, runs_of}
+use Rattle.rank_scores.specs.Spells.{test_of}
 use Rattle.rank_blocks.specs.Summaries.{passes_at, IsSummary, AreSummaries}
-use Rattle.rank_blocks.proofs.JoinedRuns.{at_most_or_more, not_both, joined-AreRuns, alike-AreRuns}
-use Rattle.rank_blocks.proofs.Members.{from_each, contains-cases, pick}
-use Rattle.rank_blocks.proofs.DayValues.{both_pass, pass_both, int_le-true, le-int_le, block-holds, block-of_place, such-none}
+use Rattle.rank_blocks.proofs.JoinedRuns.{not_both, joined-AreRuns, alike-AreRuns}
+use Rattle.rank_blocks.proofs.Members.{contains-cases, pick}
+use Rattle.rank_blocks.proofs.DayValues.{both_pass, int_le-true, block-holds, block-of_place}
 use Rattle.rank_blocks.proofs.OpenBlocks.{without-AreRuns, nothing-AreRuns}
 use Rattle.rank_blocks.proofs.WindowTotals.{AreBehind, int_le_or_lt}
 use Rattle.rank_blocks.proofs.ReachedDays.{such-kept, such-filter, such-has, value_on-among}

@@ -1,5 +1,5 @@
 -- The summary of the first days of a block, and of the whole block.
-use Rattle.std.proofs.Common.{◌≡◌, ℕ, ◌+◌, ◌-◌, ◌*◌, ◌<◌, ◌≤◌, Bool, true, false, cond, max, List, [], ◌∷◌, ◌++◌, map, Option, Some, None, refl, sym, ap, ◌∙◌, subst, arith, ℤ, pos, neg_ℤ, ◌≤ℤ◌, ◌<ℤ◌, ◌+ℤ◌}
+use Rattle.std.proofs.Common.{◌≡◌, ℕ, ◌+◌, ◌-◌, ◌<◌, ◌≤◌, Bool, true, false, cond, List, [], ◌∷◌, ◌++◌, map, Some, refl, sym, ap, ◌∙◌, subst, arith, ℤ, pos, neg_ℤ, ◌≤ℤ◌, ◌<ℤ◌, ◌+ℤ◌}
 use Rattle.std.specs.Prelude.{◌==◌}
 use Rattle.std.specs.List.{AllByRecursion, fold}
 use Rattle.std.specs.Int.{int_max, int_min}
@@ -15,10 +15,10 @@ use Rattle.rank_blocks.specs.declared.runs.Runs.{Runs}
 use Rattle.rank_blocks.specs.declared.summary.Summary.{Summary}
 use Rattle.rank_blocks.specs.Blocks.{days_in, block_start, total}
 use Rattle.rank_blocks.specs.DayRuns.{AreRuns, ArePart, TakesDay, runs_without, runs_of_day, first_of_both, joined}
-use Rattle.rank_blocks.specs.Summaries.{passes_at, HasValues, HasRuns, IsSummary, IsPartial, IsPossible, IsOpen, Rise}
-use Rattle.rank_blocks.proofs.JoinedRuns.{at_most_or_more, none-AreRuns, day-AreRuns, joined-AreRuns}
+use Rattle.rank_blocks.specs.Summaries.{passes_at, HasValues, IsSummary, IsPartial, IsPossible, IsOpen, Rise}
+use Rattle.rank_blocks.proofs.JoinedRuns.{none-AreRuns, day-AreRuns, joined-AreRuns}
 use Rattle.rank_blocks.proofs.Members.{from_each, all-append, contains-pushed}
-use Rattle.rank_blocks.proofs.DayValues.{lt-int_eq, gt-int_eq, int_eq-same, rise-parts, value_on-between, value_on-at, such-none, such-some, block-holds}
+use Rattle.rank_blocks.proofs.DayValues.{lt-int_eq, gt-int_eq, rise-parts, value_on-between, value_on-at, such-none, such-some, block-holds}
 
 -- ---- parts
 

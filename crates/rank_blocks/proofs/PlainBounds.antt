@@ -1,6 +1,6 @@
 -- The bound as a plain program finds it, day by day.
-use Rattle.std.proofs.Common.{◌≡◌, ℕ, zero, suc, ◌+◌, ◌-◌, ◌*◌, ◌<◌, ◌≤◌, Bool, true, false, cond, max, List, [], ◌∷◌, ◌++◌, map, filter, length, ◌⊎◌, inl, inr, Option, Some, None, refl, sym, ap, ◌∙◌, subst, arith, ℤ, pos, neg_ℤ, ◌≤ℤ◌, ◌<ℤ◌, ◌+ℤ◌, ◌-ℤ◌}
-use Rattle.std.specs.Prelude.{◌&&◌, int_le, unsigned_abs}
+use Rattle.std.proofs.Common.{◌≡◌, ℕ, zero, suc, ◌+◌, ◌<◌, ◌≤◌, Bool, true, false, cond, max, List, [], ◌∷◌, ◌++◌, map, filter, length, inl, inr, Some, None, refl, sym, ap, ◌∙◌, subst, arith, ℤ, pos, neg_ℤ, ◌≤ℤ◌, ◌<ℤ◌, ◌+ℤ◌, ◌-ℤ◌}
+use Rattle.std.specs.Prelude.{int_le, unsigned_abs}
 use Rattle.std.specs.List.{AllByRecursion}
 use Rattle.std.specs.Option.{unwrap_or}
 use Rattle.std.specs.Int.{int_max}
@@ -12,13 +12,13 @@ use Rattle.ghcn_fields.specs.Sorting.{greatest}
 use Rattle.ghcn_files.specs.declared.element.Element.{Element}
 use Rattle.ghcn_series.specs.Series.{DayValue, Usable, IsSeries, value_on}
 use Rattle.rank_query.specs.declared.score.Score.{Score}
-use Rattle.rank_query.specs.declared.score.Score.TheVariants.{Highest, Lowest, Sum, Dry, Wet}
+use Rattle.rank_query.specs.declared.score.Score.TheVariants.{Sum}
 use Rattle.rank_query.specs.Asked.{Asked, IsAsked}
 use Rattle.rank_scores.specs.Candidates.{is_such}
 use Rattle.rank_scores.specs.Runs.{calendar_len}
 use Rattle.rank_blocks.specs.declared.range.BlockRange.{BlockRange}
 use Rattle.rank_blocks.specs.declared.extreme.Extreme.{Extreme}
-use Rattle.rank_blocks.specs.Blocks.{total, blocks_total, is_among, days_reached}
+use Rattle.rank_blocks.specs.Blocks.{total, blocks_total, days_reached}
 use Rattle.rank_blocks.specs.Bounds.{bound, bound_for, greatest_by, greatest_total, blocks_of_window, IsAskedOf}
 use Rattle.rank_blocks.specs.Greatest.{IsGreatest, IsRunLength, IsBlocksTotal}
 use Rattle.rank_blocks.specs.Reached.{in_range, days_in_range, score_of, IsDaysTotal}

@@ -1,6 +1,6 @@
 -- The days of the blocks of a range.
-use Rattle.std.proofs.Common.{◌≡◌, ℕ, ◌+◌, ◌<◌, ◌≤◌, Bool, true, false, cond, List, [], ◌∷◌, ◌++◌, map, filter, ◌⊎◌, inl, inr, Option, Some, None, refl, sym, ap, ◌∙◌, subst, arith, ℤ, pos, neg_ℤ, ◌≤ℤ◌, ◌<ℤ◌, ◌+ℤ◌}
-use Rattle.std.specs.Prelude.{◌&&◌, int_le, int_lt}
+use Rattle.std.proofs.Common.{◌≡◌, Bool, true, false, cond, List, [], ◌∷◌, map, filter, Option, Some, None, refl, sym, ap, ◌∙◌, subst, arith, ℤ, ◌≤ℤ◌}
+use Rattle.std.specs.Prelude.{◌&&◌, int_le}
 use Rattle.std.specs.List.{AllByRecursion, Contains, find}
 use Rattle.std.specs.Option.{option_map, option_map_or}
 use Rattle.std.specs.Ordering.{int_eq}
@@ -13,10 +13,10 @@ use Rattle.rank_query.specs.Asked.{Asked}
 use Rattle.rank_query.specs.Admits.{admits_day, period_holds}
 use Rattle.rank_scores.specs.Candidates.{is_such}
 use Rattle.rank_blocks.specs.declared.summary.Summary.{Summary}
-use Rattle.rank_blocks.specs.Blocks.{days_in, is_reached, period_of}
+use Rattle.rank_blocks.specs.Blocks.{days_in, is_reached}
 use Rattle.rank_blocks.specs.Greatest.{IsGreatest, IsScore}
 use Rattle.rank_blocks.specs.Summaries.{IsSummary, AreSummaries}
-use Rattle.rank_blocks.proofs.Members.{from_each, from_both, for_every, all-passing, pick, stands, stands-wider, greatest-IsGreatest}
+use Rattle.rank_blocks.proofs.Members.{from_both, for_every, all-passing, pick, stands, stands-wider, greatest-IsGreatest}
 use Rattle.rank_blocks.proofs.DayValues.{both_pass, pass_both, int_le-true, le-int_le, block-rises}
 
 -- a day that isn't kept has no value

@@ -1,20 +1,18 @@
 -- The summaries of a series, as its days are read one after another.
-use Rattle.std.proofs.Common.{◌≡◌, ℕ, ◌+◌, ◌<◌, ◌≤◌, Bool, true, false, cond, List, [], ◌∷◌, ◌++◌, map, refl, sym, ap, ◌∙◌, subst, arith, ℤ, pos, neg_ℤ, ◌≤ℤ◌, ◌<ℤ◌, ◌+ℤ◌}
+use Rattle.std.proofs.Common.{◌≡◌, Bool, true, false, cond, List, [], ◌∷◌, ◌++◌, map, refl, sym, ap, ◌∙◌, subst, arith, ℤ, pos, neg_ℤ, ◌≤ℤ◌, ◌<ℤ◌, ◌+ℤ◌}
 use Rattle.std.specs.Prelude.{◌&&◌, ◌||◌, int_lt, int_le}
 use Rattle.std.specs.List.{AllByRecursion, Contains, list_all}
 use Rattle.std.specs.List.Sorted.{IsStrictlySortedBy}
 use Rattle.std.specs.Ordering.{int_cmp}
-use Rattle.std.specs.declared.cmp.Ordering.{Ordering}
 use Rattle.std.specs.declared.cmp.Ordering.TheVariants.{Less, Equal, Greater}
 use Rattle.std.proofs.lemmas.Int.{ints}
-use Rattle.std.proofs.lemmas.List.{append-nil}
-use Rattle.std.proofs.lemmas.List.Elements.{Contains-append_left, Contains-append_right, Contains-push}
+use Rattle.std.proofs.lemmas.List.Elements.{Contains-append_left, Contains-push}
 use Rattle.ghcn_fields.specs.Days.{block_of, is_day}
 use Rattle.ghcn_files.specs.Elements.{may_be_negative}
 use Rattle.ghcn_series.specs.Series.{DayValue, Usable, IsSeries, is_value}
 use Rattle.rank_blocks.specs.declared.summary.Summary.{Summary}
 use Rattle.rank_blocks.specs.Blocks.{block_start}
-use Rattle.rank_blocks.specs.Summaries.{IsSummary, IsPartial, IsPossible, AreSummaries, ArePossible, IsOpen, IsBefore, HasRead, Rise}
+use Rattle.rank_blocks.specs.Summaries.{IsSummary, IsPossible, AreSummaries, ArePossible, IsOpen, HasRead, Rise}
 use Rattle.rank_blocks.proofs.Members.{from_each, all-append, pick, contains-first}
 use Rattle.rank_blocks.proofs.DayValues.{both_pass, lt-int_lt, int_lt-true, int_le-true, rise-parts, block-holds, block-rises}
 

@@ -1,4 +1,4 @@
--- The bound of a series by what it is greatest of, and not by how it is found.
+-- The bound of a series by what it is greatest of, and not by how it is found; and all that is true of the bound.
 use Rattle.std.specs.Prelude.{◌≡◌, ℕ, ◌<◌, Bool, true, List, map, Option, ℤ, pos, neg_ℤ, ◌+ℤ◌, ◌*ℤ◌, ◌≤ℤ◌}
 use Rattle.std.specs.List.{Contains}
 use Rattle.std.specs.Int.{int_min}
@@ -7,8 +7,9 @@ use Rattle.rank_query.specs.declared.score.Score.{Score}
 use Rattle.rank_query.specs.declared.score.Score.TheVariants.{Highest, Lowest, Sum, Dry, Wet}
 use Rattle.rank_query.specs.Asked.{Asked}
 use Rattle.rank_scores.specs.Candidates.{is_dry, is_wet, is_such}
+use Rattle.rank_scores.specs.Morsels.{IsAbove}
 use Rattle.rank_blocks.specs.Blocks.{is_reached, days_reached, blocks_total}
-use Rattle.rank_blocks.specs.Bounds.{blocks_of_window}
+use Rattle.rank_blocks.specs.Bounds.{blocks_of_window, bound}
 
 -- z is the greatest of the numbers that have a property
 pub record IsGreatest (P : ℤ → Type 0) (z : ℤ) : Type 0 where
@@ -46,3 +47,9 @@ IsBoundFor Wet q s z = IsGreatest (IsRunLength (is_such is_wet (days_reached q s
 -- z is the bound of the series under the query
 abbrev pub IsBound : Asked → Usable → ℤ → Type 0
 IsBound q s z = IsBoundFor q.score q s z
+
+-- z is the bound of the series under the query as it is computed, and by what it is the greatest of, and no candidate of the series is above it
+pub record IsSeriesBound (q : Asked) (s : Usable) (z : ℤ) : Type 0 where
+  pub equals : z ≡ bound q s
+  pub greatest : IsBound q s z
+  pub above : IsAbove q s z

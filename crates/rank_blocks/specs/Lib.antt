@@ -3,5 +3,4 @@ pub mod Bounds
 pub mod Greatest
 pub mod DayRuns
 pub mod Summaries
-pub mod Spells
 pub mod Reached

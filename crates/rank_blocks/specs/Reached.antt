@@ -2,9 +2,12 @@
 use Rattle.std.specs.Prelude.{◌≡◌, ℕ, Bool, true, ◌&&◌, List, map, filter, ℤ, pos, neg_ℤ, ◌≤ℤ◌, int_le}
 use Rattle.ghcn_fields.specs.Days.{block_of}
 use Rattle.ghcn_series.specs.Series.{DayValue}
+use Rattle.rank_scores.specs.declared.spell.Spell.{Spell}
+use Rattle.rank_scores.specs.declared.spell.Spell.TheVariants.{Dry, Wet}
 use Rattle.rank_blocks.specs.declared.range.BlockRange.{BlockRange}
 use Rattle.rank_blocks.specs.declared.extreme.Extreme.{Extreme}
 use Rattle.rank_blocks.specs.declared.extreme.Extreme.TheVariants.{Highest, Lowest}
+use Rattle.rank_blocks.specs.declared.runs.Runs.{Runs}
 use Rattle.rank_blocks.specs.declared.summary.Summary.{Summary}
 use Rattle.rank_blocks.specs.Blocks.{total, is_among, blocks_total}
 
@@ -12,11 +15,6 @@ use Rattle.rank_blocks.specs.Blocks.{total, is_among, blocks_total}
 pub record IsNear (z : ℤ) : Type 0 where
   pub low : neg_ℤ (pos 2_147_483_648) ≤ℤ z
   pub high : z ≤ℤ pos 2_147_483_648
-
--- the number of a block that holds a day of the years 1 to 9999
-pub record IsBlock (b : ℤ) : Type 0 where
-  pub low : neg_ℤ (pos 22_474) ≤ℤ b
-  pub high : b ≤ℤ pos 91_653
 
 -- the block lies in the range
 abbrev pub in_range : BlockRange → ℤ → Bool
@@ -39,6 +37,11 @@ score_of Lowest v = neg_ℤ v
 abbrev pub extreme_of : Extreme → Summary → ℤ
 extreme_of Highest m = m.greatest
 extreme_of Lowest m = neg_ℤ m.least
+
+-- the runs of a spell's days in a block
+abbrev pub runs_of : Spell → Summary → Runs
+runs_of Dry m = m.dry
+runs_of Wet m = m.wet
 
 -- the total of w blocks from one on
 abbrev pub summaries_total : List Summary → ℕ → ℤ → ℤ

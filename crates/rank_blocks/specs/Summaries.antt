@@ -1,5 +1,5 @@
 -- What is known of the blocks of a series once its days are forgotten.
-use Rattle.std.specs.Prelude.{◌≡◌, ℕ, ◌*◌, ◌≤◌, Bool, List, [], ◌∷◌, ◌++◌, map, Option, Some, ℤ, pos, neg_ℤ, ◌+ℤ◌, ◌≤ℤ◌, ◌<ℤ◌}
+use Rattle.std.specs.Prelude.{◌≡◌, ℕ, ◌*◌, ◌≤◌, Bool, List, [], ◌∷◌, ◌++◌, map, Some, ℤ, pos, neg_ℤ, ◌+ℤ◌, ◌≤ℤ◌, ◌<ℤ◌}
 use Rattle.std.specs.List.{AllByRecursion, Contains}
 use Rattle.std.specs.List.Sorted.{IsStrictlySortedBy}
 use Rattle.std.specs.Ordering.{int_cmp}
@@ -7,7 +7,6 @@ use Rattle.ghcn_fields.specs.Days.{block_of}
 use Rattle.ghcn_fields.specs.Sorting.{greatest}
 use Rattle.ghcn_series.specs.Series.{DayValue, Usable}
 use Rattle.rank_scores.specs.Candidates.{is_dry, is_wet, is_such}
-use Rattle.rank_blocks.specs.declared.runs.Runs.{Runs}
 use Rattle.rank_blocks.specs.declared.summary.Summary.{Summary}
 use Rattle.rank_blocks.specs.Blocks.{days_in, block_start, total}
 use Rattle.rank_blocks.specs.DayRuns.{AreRuns, ArePart}

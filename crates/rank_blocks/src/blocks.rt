@@ -3,19 +3,18 @@
 ghost use Rattle.std.specs.Prelude.{◌≡◌, List, [], ◌∷◌, ◌++◌, IfOk};
 ghost use Rattle.ghcn_series.specs.Series.{DayValue, Usable};
 ghost use Rattle.rank_query.specs.Asked.{IsAsked};
-ghost use Rattle.rank_scores.specs.Morsels.{IsAbove};
-ghost use Rattle.rank_blocks.specs.Bounds.{bound, IsAskedOf};
-ghost use Rattle.rank_blocks.specs.Greatest.{IsBound};
+ghost use Rattle.rank_blocks.specs.Bounds.{IsAskedOf};
+ghost use Rattle.rank_blocks.specs.Greatest.{IsBound, IsSeriesBound};
 ghost use Rattle.rank_blocks.specs.Summaries.{AreSummaries, ArePossible, HasRead, IsBefore, Rise};
 
 use crate::extreme::Extreme;
 use crate::range::BlockRange;
 use crate::reached::{greatest_day, greatest_total, longest_run, times, window_blocks};
-use crate::spell::Spell;
 use crate::summary::Summary;
 use ghcn_fields::{Day, Memory};
 use ghcn_series::Series;
 use rank_query::{Query, Score};
+use rank_scores::Spell;
 use std::alloc::Global;
 use std::marker::Model;
 
@@ -52,12 +51,8 @@ impl Blocks {
 
     /// The bound of the series under a query that asks about it, in the unit of the score.
     pub fn bound(&self, query: &Query) -> i64
-        ensures equals { (s : Usable) → AreSummaries s self.now → IsAskedOf query.now s →
-            result ≡ bound query.now s }
-        ensures greatest { (s : Usable) → AreSummaries s self.now → IsAskedOf query.now s →
-            IsBound query.now s result }
-        ensures above { (s : Usable) → AreSummaries s self.now → IsAskedOf query.now s →
-            IsAbove query.now s result }
+        ensures { (s : Usable) → AreSummaries s self.now → IsAskedOf query.now s →
+            IsSeriesBound query.now s result }
     {
         bound_of(self.summaries.as_slice(), query)
     }
@@ -111,7 +106,8 @@ fn add_day(
 ) -> Result<Summary, Memory>
     requires { IsBefore current day }
     ensures { IfOk result (λ next. (all read rest : List DayValue) → all ≡ read ++ (day, value) ∷ rest → Rise all →
-        HasRead all read summaries.old.items current → HasRead all (read ++ (day, value) ∷ []) summaries.new.items next) }
+        HasRead all read summaries.old.items current →
+        HasRead all (read ++ (day, value) ∷ []) summaries.new.items next) }
 {
     if day.block() == current.number {
         return Ok(current.with(day, value));

@@ -11,7 +11,6 @@ mod plain;
 mod range;
 mod reached;
 mod runs;
-mod spell;
 mod summary;
 #[cfg(test)]
 mod tests;

@@ -1,26 +1,25 @@
 //! The bound day by day, as its definition has it: a plain program to compare the quick one with.
 
 ghost use Rattle.std.specs.Prelude.{◌≡◌, ℕ, ℤ, true, false, ◌<◌, ◌≤◌, ◌≤ℤ◌, ◌+ℤ◌, pos, map, unwrap_or};
-ghost use Rattle.std.specs.Option.{option_map_or};
-ghost use Rattle.ghcn_fields.specs.Days.{day_if};
+ghost use Rattle.ghcn_fields.specs.Days.{day_if, IsBlock};
 ghost use Rattle.ghcn_fields.specs.Sorting.{greatest};
 ghost use Rattle.ghcn_series.specs.Series.{IsSeries};
 ghost use Rattle.rank_scores.specs.Candidates.{is_such};
 ghost use Rattle.rank_scores.specs.Runs.{calendar_len};
+ghost use Rattle.rank_scores.specs.Spells.{test_of};
 ghost use Rattle.rank_blocks.specs.Blocks as blocks;
 ghost use Rattle.rank_blocks.specs.Bounds.{bound, IsAskedOf};
 ghost use Rattle.rank_blocks.specs.Greatest.{IsGreatest, IsRunLength};
 ghost use Rattle.rank_blocks.specs.Reached as told;
-ghost use Rattle.rank_blocks.specs.Spells.{test_of};
 
 use crate::extreme::Extreme;
 use crate::range::BlockRange;
 use crate::reached::{greater, times, window_blocks};
-use crate::spell::Spell;
 use crate::summary::sum_of;
 use ghcn_fields::Day;
 use ghcn_series::Series;
 use rank_query::{Query, Score};
+use rank_scores::Spell;
 
 /// How many days there are in the years 1 to 9999.
 const CALENDAR_LEN: u32 = 3_652_059;
@@ -44,7 +43,8 @@ pub(crate) fn plain_bound(series: &Series, query: &Query) -> i64
 
 /// The greatest score of a day in the blocks of a range, or 0 where there is none.
 fn greatest_score(series: &Series, range: BlockRange, extreme: Extreme) -> i64
-    ensures value { result ≡ unwrap_or (greatest (map (λ x. told.score_of extreme x.1) (told.days_in_range range series.now.days))) (pos 0) }
+    ensures value { result ≡
+        unwrap_or (greatest (map (λ x. told.score_of extreme x.1) (told.days_in_range range series.now.days))) (pos 0) }
     ensures near { told.IsNear result }
 {
     let mut found = None;
@@ -69,8 +69,8 @@ fn score(extreme: Extreme, value: i32) -> i64
 
 /// The greatest total of so many blocks in a row of which the first is one of the range.
 fn greatest_window(series: &Series, range: BlockRange, width: u32) -> i64
-    requires first { told.IsBlock range.first }
-    requires last { told.IsBlock range.last }
+    requires first { IsBlock range.first }
+    requires last { IsBlock range.last }
     ensures { range.first ≤ℤ range.last → IsGreatest (told.IsDaysTotal range series.now.days width) result }
 {
     let mut greatest = window(series, range.last as i64, width);
@@ -138,18 +138,7 @@ fn passes(series: &Series, range: BlockRange, spell: Spell, day: Option<Day>) ->
         result ≡ is_such (test_of spell) (told.days_in_range range series.now.days) number }
 {
     match day {
-        Some(day) if range.holds(day.block()) => is_of(spell, series.value(day)),
+        Some(day) if range.holds(day.block()) => spell.passes(series.value(day)),
         _ => false,
-    }
-}
-
-/// Whether there is a value, and it is of the kind.
-fn is_of(spell: Spell, value: Option<i32>) -> bool
-    ensures { result ≡ option_map_or (test_of spell) value false }
-{
-    match (spell, value) {
-        (_, None) => false,
-        (Spell::Dry, Some(value)) => value < 10,
-        (Spell::Wet, Some(value)) => value >= 10,
     }
 }

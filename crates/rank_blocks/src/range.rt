@@ -1,11 +1,10 @@
 //! The blocks of a period.
 
 ghost use Rattle.std.specs.Prelude.{◌≡◌};
-ghost use Rattle.ghcn_fields.specs.Days as days;
+ghost use Rattle.ghcn_fields.specs.Days.{block_of, IsBlock};
 ghost use Rattle.rank_blocks.specs.Blocks.{period_of};
-ghost use Rattle.rank_blocks.specs.Reached.{IsBlock, in_range};
+ghost use Rattle.rank_blocks.specs.Reached.{in_range};
 
-use ghcn_fields::Day;
 use rank_query::Query;
 
 /// The block of 0001-01-01.
@@ -24,8 +23,8 @@ pub(crate) struct BlockRange {
 impl BlockRange {
     /// The blocks of the query's period, or of the calendar where it has none.
     pub(crate) fn of(query: &Query) -> Self
-        ensures first { result.first ≡ days.block_of (period_of query.now.period).0 }
-        ensures last { result.last ≡ days.block_of (period_of query.now.period).1 }
+        ensures first { result.first ≡ block_of (period_of query.now.period).0 }
+        ensures last { result.last ≡ block_of (period_of query.now.period).1 }
         ensures first_block { IsBlock result.first }
         ensures last_block { IsBlock result.last }
     {
@@ -35,8 +34,8 @@ impl BlockRange {
                 last: LAST_BLOCK,
             },
             Some((first, last)) => BlockRange {
-                first: block_of(first),
-                last: block_of(last),
+                first: first.block(),
+                last: last.block(),
             },
         }
     }
@@ -47,13 +46,4 @@ impl BlockRange {
     {
         self.first <= number && number <= self.last
     }
-}
-
-/// The block of a day.
-pub(crate) fn block_of(day: Day) -> i32
-    ensures value { result ≡ days.block_of day }
-    ensures block { IsBlock result }
-{
-    let _number = day.number();
-    day.block()
 }

@@ -1,27 +1,30 @@
 //! What the summaries of the blocks of a range tell.
 
-ghost use Rattle.std.specs.Prelude.{◌≡◌, ◌∷◌, [], ◌++◌, ◌+◌, ◌≤ℤ◌, ◌*ℤ◌, ◌+ℤ◌, List, map, unwrap_or, IfSome, Some, ℤ, pos, int_le};
+ghost use Rattle.std.specs.Prelude.{◌≡◌, List, ◌∷◌, [], ◌++◌, map, unwrap_or, IfSome, Some};
+ghost use Rattle.std.specs.Prelude.{ℤ, pos, ◌≤ℤ◌, ◌*ℤ◌, ◌+ℤ◌, int_le};
 ghost use Rattle.std.specs.List.{AllByRecursion};
+ghost use Rattle.ghcn_fields.specs.Days.{IsBlock};
 ghost use Rattle.ghcn_fields.specs.Sorting.{greatest};
 ghost use Rattle.ghcn_series.specs.Series.{Usable};
 ghost use Rattle.rank_scores.specs.Candidates.{is_such};
+ghost use Rattle.rank_scores.specs.Spells.{test_of};
 ghost use Rattle.rank_blocks.specs.Blocks.{block_start};
 ghost use Rattle.rank_blocks.specs.Bounds.{blocks_of_window};
 ghost use Rattle.rank_blocks.specs.Greatest.{IsGreatest, IsRunLength};
 ghost use Rattle.rank_blocks.specs.Reached as told;
-ghost use Rattle.rank_blocks.specs.Spells.{test_of};
 ghost use Rattle.rank_blocks.specs.Summaries.{ArePossible, AreSummaries};
 
 use crate::extreme::Extreme;
 use crate::range::BlockRange;
 use crate::runs::Runs;
-use crate::spell::Spell;
 use crate::summary::{BLOCK_DAYS, Summary, sum_of};
+use rank_scores::Spell;
 
 /// The greatest score of a usable day in the blocks of a range, or 0 where there is none.
 pub(crate) fn greatest_day(blocks: &[Summary], range: BlockRange, extreme: Extreme) -> i64
     requires { ArePossible blocks.now }
-    ensures value { result ≡ unwrap_or (greatest (map (told.extreme_of extreme) (told.summaries_in range blocks.now))) (pos 0) }
+    ensures value { result ≡
+        unwrap_or (greatest (map (told.extreme_of extreme) (told.summaries_in range blocks.now))) (pos 0) }
     ensures near { told.IsNear result }
 {
     let mut found = None;
@@ -104,7 +107,7 @@ fn is_past(number: i32, first: i32, width: u32) -> bool
 /// How many days of a kind follow one another at most in the blocks of a range.
 pub(crate) fn longest_run(blocks: &[Summary], range: BlockRange, spell: Spell) -> i64
     requires possible { ArePossible blocks.now }
-    requires low { told.IsBlock range.first }
+    requires low { IsBlock range.first }
     ensures { (s : Usable) → AreSummaries s blocks.now →
         IsGreatest (IsRunLength (is_such (test_of spell) (told.days_in_range range s.days))) result }
 {
@@ -112,7 +115,7 @@ pub(crate) fn longest_run(blocks: &[Summary], range: BlockRange, spell: Spell) -
     for block in blocks {
         if range.holds(block.number) {
             let before = days_between(range.first, block.number);
-            runs = runs.up_to(before).join(spell.runs(block));
+            runs = runs.up_to(before).join(block.runs(spell));
         }
     }
     runs.longest as i64
@@ -120,8 +123,8 @@ pub(crate) fn longest_run(blocks: &[Summary], range: BlockRange, spell: Spell) -
 
 /// How many days the blocks from one number on and before another have.
 fn days_between(first: i32, before: i32) -> u32
-    requires first { told.IsBlock first }
-    requires before { told.IsBlock before }
+    requires first { IsBlock first }
+    requires before { IsBlock before }
     requires order { first ≤ℤ before }
     ensures days { (block_start first +ℤ pos result) ≡ block_start before }
 {

@@ -6,14 +6,12 @@ ghost use Rattle.std.specs.List.{AllByRecursion};
 ghost use Rattle.ghcn_fields.specs.Days as days;
 ghost use Rattle.ghcn_series.specs.Series.{DayValue};
 ghost use Rattle.rank_blocks.specs.Blocks.{block_start};
+ghost use Rattle.rank_blocks.specs.Reached.{runs_of};
 ghost use Rattle.rank_blocks.specs.Summaries.{IsPartial, IsPossible, IsOpen, IsSummary, Rise};
 
-use crate::range::block_of;
 use crate::runs::Runs;
 use ghcn_fields::Day;
-
-/// 1 mm, in tenths of a millimetre.
-const ONE_MILLIMETRE: i32 = 10;
+use rank_scores::Spell;
 
 /// How many days a block has.
 pub(crate) const BLOCK_DAYS: u32 = 32;
@@ -46,12 +44,12 @@ impl Summary {
         let nothing = Runs::without(0);
         let place = place_of(day);
         Summary {
-            number: block_of(day),
+            number: day.block(),
             greatest: value,
             least: value,
             total: value as i64,
-            dry: nothing.with_day(place, value < ONE_MILLIMETRE),
-            wet: nothing.with_day(place, value >= ONE_MILLIMETRE),
+            dry: nothing.with_day(place, Spell::Dry.passes(Some(value))),
+            wet: nothing.with_day(place, Spell::Wet.passes(Some(value))),
         }
     }
 
@@ -70,8 +68,8 @@ impl Summary {
             greatest: self.greatest.max(value),
             least: self.least.min(value),
             total: sum_of(self.total, value as i64),
-            dry: self.dry.with_day(place, value < ONE_MILLIMETRE),
-            wet: self.wet.with_day(place, value >= ONE_MILLIMETRE),
+            dry: self.dry.with_day(place, Spell::Dry.passes(Some(value))),
+            wet: self.wet.with_day(place, Spell::Wet.passes(Some(value))),
         }
     }
 
@@ -88,6 +86,16 @@ impl Summary {
             dry: self.dry.up_to(BLOCK_DAYS),
             wet: self.wet.up_to(BLOCK_DAYS),
             ..self
+        }
+    }
+
+    /// The runs of a spell's days in the block.
+    pub(crate) fn runs(&self, spell: Spell) -> Runs
+        ensures { result ≡ runs_of spell self.now }
+    {
+        match spell {
+            Spell::Dry => self.dry,
+            Spell::Wet => self.wet,
         }
     }
 }

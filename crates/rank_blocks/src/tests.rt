@@ -3,11 +3,12 @@
 use super::*;
 use crate::plain::plain_bound;
 use ghcn_fields::Day;
-use ghcn_files::{StationId, Stations};
+use ghcn_files::{Element, StationId, Stations};
 use ghcn_series::Data;
 use rank_query::Query;
 use std::alloc::{AllocError, Global};
 use std::fmt::Write;
+use std::process::Abort;
 use std::test::Fail;
 
 const STATIONS: &[u8] = b"ZZA00000001  10.0000   20.0000  100.0    ALPHA\n";
@@ -20,17 +21,20 @@ type Stretch = (i32, i32, i32);
 /// The days of a month, of which each has a value or is missing.
 type Month = [Option<i32>; 31];
 
+/// Some days, a query, and the bound that is expected.
+type Row = (&'static [Stretch], &'static str, i64);
+
 /// Writes the line of a month, where it has a day.
 fn push_month(
     text: &mut String,
-    code: &str,
+    element: Element,
     (year, month): (u16, u8),
     days: &Month,
 ) -> Result<(), AllocError> {
     if days.iter().all(|it| it.is_none()) {
         return Ok(());
     }
-    write!(text, "ZZA00000001{year:04}{month:02}{code}")?;
+    write!(text, "ZZA00000001{year:04}{month:02}{element}")?;
     for value in days {
         let value = value.unwrap_or(-9999);
         write!(text, "{value:>5}   ")?;
@@ -39,7 +43,7 @@ fn push_month(
 }
 
 /// A daily file of the station and an element that has these days, from the first to the last.
-fn text_of(alloc: Global, code: &str, stretches: &[Stretch]) -> Result<String, Fail> {
+fn text_of(alloc: Global, element: Element, stretches: &[Stretch]) -> Result<String, Fail> {
     let mut text = String::new(alloc);
     let mut time = (0, 0);
     let mut days: Month = [None; 31];
@@ -48,7 +52,7 @@ fn text_of(alloc: Global, code: &str, stretches: &[Stretch]) -> Result<String, F
             let number = first.saturating_add(later);
             let (year, month, day) = Day::with_number(number).ok_or("no day")?.civil();
             if time != (year, month) {
-                push_month(&mut text, code, time, &days)?;
+                push_month(&mut text, element, time, &days)?;
                 time = (year, month);
                 days = [None; 31];
             }
@@ -57,150 +61,172 @@ fn text_of(alloc: Global, code: &str, stretches: &[Stretch]) -> Result<String, F
             }
         }
     }
-    push_month(&mut text, code, time, &days)?;
+    push_month(&mut text, element, time, &days)?;
     Ok(text)
 }
 
-/// The bound of the station's series under a query, and the same by the plain program.
-fn bounds_of(
-    alloc: Global,
-    code: &str,
-    stretches: &[Stretch],
-    query: &str,
-) -> Result<(i64, i64), Fail> {
-    let query = Query::parse(query).ok().ok_or("no query")?;
+/// The bound of the station's series in a daily file, and the same by the plain program.
+fn bounds_in(alloc: Global, text: &str, query: &Query) -> Result<(i64, i64), Fail> {
     let stations = Stations::read(alloc, STATIONS)?;
-    let text = text_of(alloc, code, stretches)?;
     let data = Data::read(alloc, stations, &[text.as_bytes()])?;
     let series = data.series(&A, query.element()).ok_or("no series")?;
-    let bound = Blocks::build(alloc, series)?.bound(&query);
-    Ok((bound, plain_bound(series, &query)))
+    let bound = Blocks::build(alloc, series)?.bound(query);
+    Ok((bound, plain_bound(series, query)))
 }
 
-// Day 18444 is 2020-07-01, and block 576 ends on day 18463, which is 2020-07-20.
-#[test]
-fn worked_bounds(rt: HostRuntime) -> Result<(), Fail> {
-    let cases: [(&str, &[Stretch], &str, i64); 20] = [
-        (
-            "PRCP",
-            &[
-                (18_258, 1, 10),
-                (18_259, 1, 20),
-                (18_260, 1, 30),
-                (18_262, 1, 5),
-                (18_263, 1, 6),
-                (18_264, 1, 7),
-            ],
-            "top 5 sum 3 PRCP from 2019-12-28 to 2020-01-03",
-            78,
-        ),
-        ("PRCP", &[(18_463, 34, 10)], "top 1 sum 33 PRCP", 330),
-        ("PRCP", &[(18_463, 34, 10)], "top 1 sum 34 PRCP", 340),
-        (
-            "PRCP",
-            &[(18_444, 31, 0)],
-            "top 2 dry from 2020-07-05 to 2020-07-10",
-            20,
-        ),
-        (
-            "TMAX",
-            &[(18_444, 1, 311), (18_445, 1, 305)],
-            "top 1 highest TMAX from 2020-07-02 to 2020-07-02",
-            311,
-        ),
-        (
-            "TMAX",
-            &[(18_444, 1, 311), (18_445, 1, 305)],
-            "top 1 highest TMAX",
-            311,
-        ),
-        ("TMAX", &[(18_444, 1, 311)], "top 1 highest TMAX", 311),
-        ("TMAX", &[(18_444, 1, 250)], "top 1 highest TMAX", 250),
-        (
-            "TMIN",
-            &[(18_444, 1, -5), (18_445, 1, 3)],
-            "top 2 lowest TMIN",
-            5,
-        ),
-        ("PRCP", &[(18_444, 31, 0)], "top 1 dry", 31),
-        ("PRCP", &[(18_463, 2, 100)], "top 1 sum 2 PRCP", 200),
-        ("PRCP", &[(18_444, 31, 0)], "top 1 wet", 0),
-        // The period's last block holds no day, and the first behind it 900.
-        (
-            "PRCP",
-            &[(18_453, 1, 5), (18_506, 1, 900)],
-            "top 1 sum 32 PRCP from 2020-07-01 to 2020-08-01",
-            160,
-        ),
-        // The second block lies behind the period.
-        (
-            "PRCP",
-            &[(18_463, 1, 5), (18_464, 1, 900)],
-            "top 1 sum 32 PRCP from 2020-07-01 to 2020-07-20",
-            160,
-        ),
-        (
-            "PRCP",
-            &[(18_463, 1, 50), (18_464, 1, 7)],
-            "top 1 sum 2 PRCP from 2020-07-01 to 2020-07-20",
-            57,
-        ),
-        // Days before 1970: day -1 is in block -1, with day -32, and day 0 in block 0.
-        (
-            "TMAX",
-            &[(-33, 1, 300), (-32, 1, 100), (0, 1, 200)],
-            "top 1 highest TMAX from 1969-12-31 to 1969-12-31",
-            100,
-        ),
-        (
-            "PRCP",
-            &[(-40, 50, 0)],
-            "top 1 dry from 1969-12-31 to 1969-12-31",
-            32,
-        ),
-        // A block without a day ends a run, and so does a wet day.
-        ("PRCP", &[(18_432, 32, 0), (18_496, 32, 0)], "top 1 dry", 32),
-        (
-            "PRCP",
-            &[(18_440, 20, 0), (18_460, 1, 10), (18_461, 43, 0)],
-            "top 1 dry",
-            43,
-        ),
-        ("PRCP", &[(18_430, 80, 12)], "top 1 wet", 80),
-    ];
-    for (code, stretches, query, expected) in cases {
-        let (bound, plain) = bounds_of(rt.alloc(), code, stretches, query)?;
-        assert_eq!(rt; bound, expected, "at {query} of {stretches:?}");
-        assert_eq!(rt; plain, expected, "plainly at {query} of {stretches:?}");
+/// The same of a series that has these days.
+fn bounds_of(alloc: Global, stretches: &[Stretch], query: &str) -> Result<(i64, i64), Fail> {
+    let query = Query::parse(query).ok().ok_or("no query")?;
+    let text = text_of(alloc, query.element(), stretches)?;
+    bounds_in(alloc, text.as_str(), &query)
+}
+
+/// Compares both bounds of each row with the expected one.
+fn compare(rt: &impl Abort, alloc: Global, rows: &[Row]) -> Result<(), Fail> {
+    for (stretches, query, expected) in rows {
+        let (bound, plain) = bounds_of(alloc, stretches, query)?;
+        assert_eq!(rt; bound, *expected, "at {query} of {stretches:?}");
+        assert_eq!(rt; plain, *expected, "plainly at {query} of {stretches:?}");
     }
     Ok(())
 }
 
+// Day 18444 is 2020-07-01, and block 576 has the days 18432 to 18463, from 2020-06-19 to 2020-07-20.
+// Day -1 is in block -1, with day -32, and day 0 in block 0.
+// Of block -22474 the calendar has the days -719162 to -719137, from 0001-01-01 to 0001-01-26,
+// and of block 91653 the day 2932896 alone, which is 9999-12-31.
+
+#[rattlefmt::skip]
+const DAYS: [Row; 14] = [
+    (&[(18_444, 1, 311), (18_445, 1, 305)], "top 1 highest TMAX from 2020-07-02 to 2020-07-02", 311),
+    (&[(18_444, 1, 311), (18_445, 1, 305)], "top 1 highest TMAX", 311),
+    (&[(18_444, 1, 311)], "top 1 highest TMAX", 311),
+    (&[(18_444, 1, 250)], "top 1 highest TMAX", 250),
+    (&[(18_444, 1, -50)], "top 1 highest TMIN", -50),
+    (&[(18_444, 1, -5), (18_445, 1, 3)], "top 2 lowest TMIN", 5),
+    (&[(18_444, 1, 311)], "top 1 lowest TMAX", -311),
+    (&[(-33, 1, 300), (-32, 1, 100), (0, 1, 200)], "top 1 highest TMAX from 1969-12-31 to 1969-12-31", 100),
+    (&[(-719_162, 1, 311), (2_932_896, 1, 250)], "top 1 highest TMAX", 311),
+    (&[(-719_162, 1, 250), (2_932_896, 1, 311)], "top 1 highest TMAX", 311),
+    (&[(-719_162, 1, -20), (2_932_896, 1, -30)], "top 1 lowest TMIN", 30),
+    (&[(-719_137, 1, 311), (-719_136, 1, 400)], "top 1 highest TMAX from 0001-01-01 to 0001-01-26", 311),
+    (&[(-719_137, 1, 400), (-719_136, 1, 311)], "top 1 highest TMAX from 0001-01-27 to 0001-01-27", 311),
+    (&[(2_932_895, 1, 311), (2_932_896, 1, 250)], "top 1 highest TMAX from 9999-12-31 to 9999-12-31", 250),
+];
+
 #[test]
-fn as_the_plain_program_has_it(rt: HostRuntime) -> Result<(), Fail> {
-    let falls: [&[Stretch]; 4] = [
-        &[(18_460, 3, 10), (18_464, 2, 0), (18_470, 30, 25)],
-        &[(-40, 3, 5), (-33, 4, 20), (-2, 5, 9), (40, 1, 900)],
-        &[
-            (18_300, 1, 7),
-            (18_333, 64, 0),
-            (18_400, 1, 100),
-            (18_463, 2, 50),
-        ],
-        &[
-            (-65, 1, 8),
-            (-32, 32, 3),
-            (0, 1, 9),
-            (1, 1, 12),
-            (31, 2, 0),
-            (96, 1, 1),
-        ],
+fn bounds_of_single_days(rt: HostRuntime) -> Result<(), Fail> {
+    compare(&rt, rt.alloc(), &DAYS)
+}
+
+#[rattlefmt::skip]
+const SUMS: [Row; 10] = [
+    (
+        &[(18_258, 1, 10), (18_259, 1, 20), (18_260, 1, 30), (18_262, 1, 5), (18_263, 1, 6), (18_264, 1, 7)],
+        "top 5 sum 3 PRCP from 2019-12-28 to 2020-01-03",
+        78,
+    ),
+    (&[(18_463, 34, 10)], "top 1 sum 33 PRCP", 330),
+    (&[(18_463, 34, 10)], "top 1 sum 34 PRCP", 340),
+    (&[(18_463, 2, 100)], "top 1 sum 2 PRCP", 200),
+    // The period's last block holds no day, and the first behind it 900.
+    (&[(18_453, 1, 5), (18_506, 1, 900)], "top 1 sum 32 PRCP from 2020-07-01 to 2020-08-01", 160),
+    // The second block lies behind the period.
+    (&[(18_463, 1, 5), (18_464, 1, 900)], "top 1 sum 32 PRCP from 2020-07-01 to 2020-07-20", 160),
+    (&[(18_463, 1, 50), (18_464, 1, 7)], "top 1 sum 2 PRCP from 2020-07-01 to 2020-07-20", 57),
+    // Four days have rain, and that is less than five times the greatest.
+    (&[(18_440, 2, 20), (18_443, 2, 20)], "top 1 sum 5 PRCP", 80),
+    (&[(-719_162, 1, 90), (2_932_896, 1, 70)], "top 1 sum 2 PRCP", 90),
+    (&[(-719_162, 1, 90), (2_932_896, 1, 70)], "top 1 sum 2 PRCP from 9999-12-31 to 9999-12-31", 70),
+];
+
+#[test]
+fn bounds_of_sums(rt: HostRuntime) -> Result<(), Fail> {
+    compare(&rt, rt.alloc(), &SUMS)
+}
+
+#[rattlefmt::skip]
+const SPELLS: [Row; 13] = [
+    (&[(18_444, 31, 0)], "top 1 dry", 31),
+    (&[(18_444, 31, 0)], "top 2 dry from 2020-07-05 to 2020-07-10", 20),
+    (&[(18_444, 31, 0)], "top 1 wet", 0),
+    (&[(18_430, 80, 12)], "top 1 wet", 80),
+    // A missing day ends a run, and so do a wet day and a block without a day.
+    (&[(18_440, 1, 0), (18_442, 3, 0)], "top 1 dry", 3),
+    (&[(18_440, 3, 12), (18_444, 1, 12)], "top 1 wet", 3),
+    (&[(18_440, 20, 0), (18_460, 1, 10), (18_461, 43, 0)], "top 1 dry", 43),
+    (&[(18_432, 32, 0), (18_496, 32, 0)], "top 1 dry", 32),
+    (&[(-40, 50, 0)], "top 1 dry from 1969-12-31 to 1969-12-31", 32),
+    (&[(-719_162, 30, 0)], "top 1 dry", 30),
+    (&[(-719_162, 30, 0)], "top 1 dry from 0001-01-01 to 0001-01-01", 26),
+    (&[(2_932_890, 7, 10)], "top 1 wet", 7),
+    (&[(2_932_890, 7, 10)], "top 1 wet from 9999-12-31 to 9999-12-31", 1),
+];
+
+#[test]
+fn bounds_of_spells(rt: HostRuntime) -> Result<(), Fail> {
+    compare(&rt, rt.alloc(), &SPELLS)
+}
+
+// The day with 900 has a quality flag.
+#[test]
+fn a_flagged_day_is_missing(rt: HostRuntime) -> Result<(), Fail> {
+    let stretches = [(18_440, 2, 20), (18_442, 1, 900), (18_443, 3, 20)];
+    let text = text_of(rt.alloc(), Element::Prcp, &stretches)?;
+    let text = text.replace(rt.alloc(), "  900   ", "  900 X ")?;
+    let cases = [
+        ("top 1 highest PRCP", 20),
+        ("top 1 sum 2 PRCP", 40),
+        ("top 1 sum 6 PRCP", 100),
+        ("top 1 dry", 0),
+        ("top 1 wet", 3),
     ];
-    let temperatures: [&[Stretch]; 2] = [
-        &[(-33, 2, -120), (-1, 2, -30), (64, 1, -250)],
-        &[(18_431, 2, 311), (18_463, 2, -5), (18_500, 1, 400)],
-    ];
-    let sums = [
+    for (query, expected) in cases {
+        let parsed = Query::parse(query).ok().ok_or("no query")?;
+        let bounds = bounds_in(rt.alloc(), text.as_str(), &parsed)?;
+        assert_eq!(rt; bounds, (expected, expected), "at {query}");
+    }
+    Ok(())
+}
+
+/// Periods that hold all of the days below, some of them, or none.
+const PERIODS: [&str; 6] = [
+    "from 1960-01-01 to 2025-12-31",
+    "from 2020-07-01 to 2020-07-20",
+    "from 2020-07-21 to 2020-07-21",
+    "from 2020-04-01 to 2020-08-31",
+    "from 1969-12-31 to 1969-12-31",
+    "from 1969-12-01 to 1970-02-09",
+];
+
+/// Compares each score's bound in each period with the plain program's.
+fn compare_plainly(
+    rt: &impl Abort,
+    alloc: Global,
+    stretches: &[Stretch],
+    scores: &[&str],
+) -> Result<(), Fail> {
+    for period in PERIODS {
+        for score in scores {
+            let query = format!(in alloc; "top 1 {score} {period}")?;
+            let (bound, plain) = bounds_of(alloc, stretches, query.as_str())?;
+            assert_eq!(rt; bound, plain, "at {query} of {stretches:?}");
+        }
+    }
+    Ok(())
+}
+
+#[rattlefmt::skip]
+const FALLS: [&[Stretch]; 4] = [
+    &[(18_460, 3, 10), (18_464, 2, 0), (18_470, 30, 25)],
+    &[(-40, 3, 5), (-33, 4, 20), (-2, 5, 9), (40, 1, 900)],
+    &[(18_300, 1, 7), (18_333, 64, 0), (18_400, 1, 100), (18_463, 2, 50)],
+    &[(-65, 1, 8), (-32, 32, 3), (0, 1, 9), (1, 1, 12), (31, 2, 0), (96, 1, 1)],
+];
+
+#[test]
+fn rain_as_the_plain_program_has_it(rt: HostRuntime) -> Result<(), Fail> {
+    let scores = [
         "highest PRCP",
         "sum 1 PRCP",
         "sum 2 PRCP",
@@ -211,29 +237,20 @@ fn as_the_plain_program_has_it(rt: HostRuntime) -> Result<(), Fail> {
         "dry",
         "wet",
     ];
-    let periods = [
-        " from 1960-01-01 to 2025-12-31",
-        " from 2020-07-01 to 2020-07-20",
-        " from 2020-07-21 to 2020-07-21",
-        " from 2020-04-01 to 2020-08-31",
-        " from 1969-12-31 to 1969-12-31",
-        " from 1969-12-01 to 1970-02-09",
+    for stretches in FALLS {
+        compare_plainly(&rt, rt.alloc(), stretches, &scores)?;
+    }
+    Ok(())
+}
+
+#[test]
+fn temperatures_as_the_plain_program_has_them(rt: HostRuntime) -> Result<(), Fail> {
+    let temperatures: [&[Stretch]; 2] = [
+        &[(-33, 2, -120), (-1, 2, -30), (64, 1, -250)],
+        &[(18_431, 2, 311), (18_463, 2, -5), (18_500, 1, 400)],
     ];
-    for period in periods {
-        for stretches in falls {
-            for score in sums {
-                let query = format!(in rt.alloc(); "top 1 {score}{period}")?;
-                let (bound, plain) = bounds_of(rt.alloc(), "PRCP", stretches, query.as_str())?;
-                assert_eq!(rt; bound, plain, "at {query} of {stretches:?}");
-            }
-        }
-        for stretches in temperatures {
-            for score in ["highest TMIN", "lowest TMIN"] {
-                let query = format!(in rt.alloc(); "top 1 {score}{period}")?;
-                let (bound, plain) = bounds_of(rt.alloc(), "TMIN", stretches, query.as_str())?;
-                assert_eq!(rt; bound, plain, "at {query} of {stretches:?}");
-            }
-        }
+    for stretches in temperatures {
+        compare_plainly(&rt, rt.alloc(), stretches, &["highest TMIN", "lowest TMIN"])?;
     }
     Ok(())
 }

@@ -19,3 +19,4 @@ pub use best::best_first;
 pub use candidate::{Candidate, precedes};
 pub use scans::scan;
 pub use sink::Sink;
+pub use spell::Spell;

@@ -17,20 +17,33 @@ use ghcn_files::StationId;
 use ghcn_series::{Days, Series};
 use rank_query::Query;
 
+/// 1 mm, in tenths of a millimetre.
+const ONE_MILLIMETRE: i32 = 10;
+
+/// How many days there are in the years 1 to 9999.
+const CALENDAR_LEN: u32 = 3_652_059;
+
 /// Which days a spell has, by their precipitation (ETCCDI).
 #[derive(Clone, Copy, Debug)]
-pub(crate) enum Spell {
+pub enum Spell {
     /// Less than 1 mm.
     Dry,
     /// At least 1 mm.
     Wet,
 }
 
-/// 1 mm, in tenths of a millimetre.
-const ONE_MILLIMETRE: i32 = 10;
-
-/// How many days there are in the years 1 to 9999.
-const CALENDAR_LEN: u32 = 3_652_059;
+impl Spell {
+    /// Whether there is a value, in tenths of a millimetre, and a day that has it is of the kind.
+    pub fn passes(self, value: Option<i32>) -> bool
+        ensures { result ≡ option_map_or (test_of self) value false }
+    {
+        match (self, value) {
+            (_, None) => false,
+            (Spell::Dry, Some(value)) => value < ONE_MILLIMETRE,
+            (Spell::Wet, Some(value)) => value >= ONE_MILLIMETRE,
+        }
+    }
+}
 
 /// The spell that begins on an admitted day of a series, if one does.
 ///
@@ -49,7 +62,7 @@ pub(crate) fn spell_from(
         (found.begun (found.Spells (test_of spell)) (found.admitted query.now series.now) first) }
 {
     let (day, value) = first;
-    if !passes(spell, Some(value)) || passes_before(series, query, spell, day) {
+    if !spell.passes(Some(value)) || passes_before(series, query, spell, day) {
         return None;
     }
     let len = run_len(query, spell, first, rest);
@@ -71,7 +84,7 @@ fn run_len(query: &Query, spell: Spell, first: (Day, i32), rest: Days<'_>) -> u3
 {
     let mut rest = rest;
     for later in 1..CALENDAR_LEN {
-        if !passes(spell, next_value(&mut rest, query, first.0.after(later))) {
+        if !spell.passes(next_value(&mut rest, query, first.0.after(later))) {
             return later;
         }
     }
@@ -82,16 +95,5 @@ fn run_len(query: &Query, spell: Spell, first: (Day, i32), rest: Days<'_>) -> u3
 fn passes_before(series: &Series, query: &Query, spell: Spell, first: Day) -> bool
     ensures { result ≡ found.is_such (test_of spell) (found.admitted query.now series.now) (first -ℤ pos 1) }
 {
-    passes(spell, value_before(series, query, first))
-}
-
-/// Whether there is a value, and it is of the spell's kind.
-fn passes(spell: Spell, value: Option<i32>) -> bool
-    ensures { result ≡ option_map_or (test_of spell) value false }
-{
-    match (spell, value) {
-        (_, None) => false,
-        (Spell::Dry, Some(value)) => value < ONE_MILLIMETRE,
-        (Spell::Wet, Some(value)) => value >= ONE_MILLIMETRE,
-    }
+    spell.passes(value_before(series, query, first))
 }

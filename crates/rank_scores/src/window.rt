@@ -27,7 +27,8 @@ pub(crate) fn window_from(
 ) -> Option<Candidate>
     requires some_day { 0 < n }
     requires admitted { IsTrue (admits_day query.now first.0) }
-    ensures { (days : List DayValue) → StandsBefore first rest.entry days → result ≡ option_map (found.candidate id first.0)
+    ensures { (days : List DayValue) → StandsBefore first rest.entry days →
+        result ≡ option_map (found.candidate id first.0)
         (found.begun (found.Windows n) (found.admitted_among query.now days) first) }
 {
     let (day, _) = first;

@@ -18,7 +18,7 @@ returns-then-block-current c = λ all read rest split rise has.
     let high = has.last_block.partial.high in
     let same : c.block.result ≡ c.args.current.number = omega (arith, ints, ap (to_z w32) c.if-block-current.true) in
     read-same all read (c.args.day, c.args.value) c.args.summaries.now.items c.args.current c.with.result has
-    (taken all read rest split rise has.last_block) c.with.ensures.number (sym c.block.ensures ∙ same)
+    (taken all read rest split rise has.last_block) c.with.ensures.number (sym c.block.ensures.value ∙ same)
 
 pub returns : goal.returns
 returns c = λ all read rest split rise has.
@@ -27,7 +27,7 @@ returns c = λ all read rest split rise has.
     let taken = subst Taken value c.of_day.ensures.read in
     let of_current = has.last_block in
     let later = later-block all read rest (c.args.day, c.args.value) c.args.current split rise of_current
-    (λ same. c.if-block-current.false (ap (of_z w32) (c.block.ensures ∙ same))) in
+    (λ same. c.if-block-current.false (ap (of_z w32) (c.block.ensures.value ∙ same))) in
     let behind = (rise-parts read ((c.args.day, c.args.value) ∷ rest) (subst Rise split rise)).1.0 in
     let of_whole = c.whole.ensures.summary all read ((c.args.day, c.args.value) ∷ rest) split (no-earlier-block (c.args.day, c.args.value) rest c.args.current.number later behind) of_current in
     let of_next = taken all read rest split rise (no-later-block all read c.args.current (block_of c.args.day) later of_current) in

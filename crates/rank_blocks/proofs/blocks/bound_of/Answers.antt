@@ -1,12 +1,10 @@
 use Rattle.std.proofs.Common.{◌≡◌, ℕ, ℤ, pos, ◌*ℤ◌, to_z, of_z, w64, sym, ap, ◌∙◌, subst, arith}
 use Rattle.std.specs.Int.{int_min}
 use Rattle.std.proofs.lemmas.Int.{ints}
-use Rattle.rank_query.specs.declared.score.Score.{Score}
 use Rattle.rank_query.specs.declared.score.Score.TheVariants.{Highest, Lowest, Sum, Dry, Wet}
 use Rattle.rank_blocks.specs.declared.extreme.Extreme.TheVariants as extremes
 use Rattle.rank_scores.specs.Candidates.{is_dry, is_wet}
-use Rattle.rank_blocks.specs.Bounds.{blocks_of_window}
-use Rattle.rank_blocks.specs.Greatest.{IsBound, IsBoundFor, IsGreatest}
+use Rattle.rank_blocks.specs.Greatest.{IsBound, IsGreatest}
 use Rattle.rank_blocks.specs.Reached.{IsTotalFrom}
 use Rattle.rank_blocks.proofs.Above.{sums-fall}
 use Rattle.rank_blocks.proofs.BoundsMet.{IsRangeOf, range-rises, totals-fall, day-met, run-met, sum-met, bound-for}

@@ -3,10 +3,10 @@ use Rattle.std.specs.List.{AllByRecursion}
 use Rattle.std.proofs.lemmas.Int.{ints}
 use Rattle.std.proofs.lemmas.List.{append-nil}
 use Rattle.ghcn_fields.specs.Days.{block_of}
-use Rattle.ghcn_series.specs.Series.{DayValue, Usable}
+use Rattle.ghcn_series.specs.Series.{DayValue}
 use Rattle.rank_blocks.specs.declared.summary.Summary.{Summary}
-use Rattle.rank_blocks.specs.Summaries.{HasRead, IsOpen, IsSummary, Rise, AreSummaries, ArePossible}
-use Rattle.rank_blocks.proofs.ReadBlocks.{read-first, read-all, read-possible, read-none, none-possible, is-later, first-value-bounds}
+use Rattle.rank_blocks.specs.Summaries.{HasRead, IsOpen, Rise, AreSummaries, ArePossible}
+use Rattle.rank_blocks.proofs.ReadBlocks.{read-first, read-all, read-possible, is-later, first-value-bounds}
 use Rattle.rank_blocks.proofs.DayValues.{rise-from_by_day}
 use Rattle.rank_blocks.proofs.blocks.summaries_of.Goals as goal
 

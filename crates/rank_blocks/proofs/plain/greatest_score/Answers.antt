@@ -13,7 +13,7 @@ loop-day-preserved-then-holds c =
     let x : DayValue = (c.in-Some.day, c.in-Some.value) in
     let split = c.loop-day.invariant.1 ∙ ap (λ days. read ++ days) c.in-Some.ensures.steps in
     let value : to_z w32 (of_z w32 c.in-Some.value) ≡ c.in-Some.value = omega (arith, ints) in
-    let number : to_z w32 (of_z w32 c.block.result) ≡ block_of c.in-Some.day = (let same : to_z w32 (of_z w32 c.block.result) ≡ c.block.result = omega (arith, ints) in same ∙ c.block.ensures) in
+    let number : to_z w32 (of_z w32 c.block.result) ≡ block_of c.in-Some.day = (let same : to_z w32 (of_z w32 c.block.result) ≡ c.block.result = omega (arith, ints) in same ∙ c.block.ensures.value) in
     let holds : in_range c.args.range (block_of c.in-Some.day) ≡ true = ap (in_range c.args.range) (sym number) ∙ sym c.holds.ensures ∙ c.if-holds.true in
     let score_low = c.score.ensures.near.low in
     let score_high = c.score.ensures.near.high in
@@ -36,7 +36,7 @@ pub loop-day-preserved : goal.loop-day-preserved
 loop-day-preserved c =
     let read = c.loop-day.invariant.0 in
     let split = c.loop-day.invariant.1 ∙ ap (λ days. read ++ days) c.in-Some.ensures.steps in
-    let number : to_z w32 (of_z w32 c.block.result) ≡ block_of c.in-Some.day = (let same : to_z w32 (of_z w32 c.block.result) ≡ c.block.result = omega (arith, ints) in same ∙ c.block.ensures) in
+    let number : to_z w32 (of_z w32 c.block.result) ≡ block_of c.in-Some.day = (let same : to_z w32 (of_z w32 c.block.result) ≡ c.block.result = omega (arith, ints) in same ∙ c.block.ensures.value) in
     let out : in_range c.args.range (block_of c.in-Some.day) ≡ false = ap (in_range c.args.range) (sym number) ∙ sym c.holds.ensures ∙ c.if-holds.false in (
       read ++ (c.in-Some.day, c.in-Some.value) ∷ [],
       split ∙ sym (append_assoc read ((c.in-Some.day, c.in-Some.value) ∷ []) c.next.new.self),

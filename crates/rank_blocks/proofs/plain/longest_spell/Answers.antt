@@ -8,7 +8,7 @@ use Rattle.rank_scores.specs.Candidates.{is_such}
 use Rattle.rank_scores.specs.Runs.{calendar_len}
 use Rattle.rank_blocks.specs.Greatest.{IsRunLength, IsGreatest}
 use Rattle.rank_blocks.specs.Reached.{days_in_range}
-use Rattle.rank_blocks.specs.Spells.{test_of}
+use Rattle.rank_scores.specs.Spells.{test_of}
 use Rattle.rank_blocks.proofs.Members.{from_each, all-append}
 use Rattle.rank_blocks.proofs.PlainBounds.{run-bounded, longer-run, longest-IsGreatest}
 use Rattle.rank_blocks.proofs.plain.longest_spell.Goals as goal

@@ -5,7 +5,7 @@ use Rattle.rank_scores.specs.Candidates.{is_such}
 use Rattle.rank_scores.specs.Runs.{calendar_len}
 use Rattle.rank_blocks.specs.Greatest.{IsRunLength}
 use Rattle.rank_blocks.specs.Reached.{days_in_range}
-use Rattle.rank_blocks.specs.Spells.{test_of}
+use Rattle.rank_scores.specs.Spells.{test_of}
 use Rattle.rank_blocks.proofs.plain.longest_spell.Given as goal
 
 abbrev pub invariant-loop-day : goal.invariant-loop-day

@@ -1,7 +1,7 @@
 use Rattle.std.proofs.Common.{◌≡◌, ℕ, ◌<◌, true, pos, ◌+ℤ◌}
 use Rattle.rank_scores.specs.Candidates.{is_such}
 use Rattle.rank_blocks.specs.Reached.{days_in_range}
-use Rattle.rank_blocks.specs.Spells.{test_of}
+use Rattle.rank_scores.specs.Spells.{test_of}
 use Rattle.rank_blocks.proofs.plain.spell_from.Given as goal
 
 abbrev pub invariant-loop-later : goal.invariant-loop-later

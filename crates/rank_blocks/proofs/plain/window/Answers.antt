@@ -26,7 +26,7 @@ loop-day-preserved-then-is_among c =
     let split = c.loop-day.invariant.1 ∙ ap (λ days. read ++ days) c.in-Some.ensures.steps in
     let series = c.days-day-items.ensures.series in
     let few = read-few read c.next.new.self (c.in-Some.day, c.in-Some.value) c.args.series.now.days split (series-few c.args.series.now series (rise-from_by_day c.args.series.now.days series.by_day)) in
-    let number : to_z w32 (of_z w32 c.block.result) ≡ block_of c.in-Some.day = (let same : to_z w32 (of_z w32 c.block.result) ≡ c.block.result = omega (arith, ints) in same ∙ c.block.ensures) in
+    let number : to_z w32 (of_z w32 c.block.result) ≡ block_of c.in-Some.day = (let same : to_z w32 (of_z w32 c.block.result) ≡ c.block.result = omega (arith, ints) in same ∙ c.block.ensures.value) in
     let first : ℤ = to_z w64 (of_z w64 c.args.first) in
     let among : is_among (to_z w64 (of_z w64 c.args.first)) c.args.width (block_of c.in-Some.day) ≡ true = ap (is_among (to_z w64 (of_z w64 c.args.first)) c.args.width) (sym number) ∙ sym c.is_among.ensures ∙ c.if-is_among.true in
     let low = c.loop-day.invariant.3 in
@@ -48,7 +48,7 @@ pub loop-day-preserved : goal.loop-day-preserved
 loop-day-preserved c =
     let read = c.loop-day.invariant.0 in
     let split = c.loop-day.invariant.1 ∙ ap (λ days. read ++ days) c.in-Some.ensures.steps in
-    let number : to_z w32 (of_z w32 c.block.result) ≡ block_of c.in-Some.day = (let same : to_z w32 (of_z w32 c.block.result) ≡ c.block.result = omega (arith, ints) in same ∙ c.block.ensures) in
+    let number : to_z w32 (of_z w32 c.block.result) ≡ block_of c.in-Some.day = (let same : to_z w32 (of_z w32 c.block.result) ≡ c.block.result = omega (arith, ints) in same ∙ c.block.ensures.value) in
     let out : is_among (to_z w64 (of_z w64 c.args.first)) c.args.width (block_of c.in-Some.day) ≡ false = ap (is_among (to_z w64 (of_z w64 c.args.first)) c.args.width) (sym number) ∙ sym c.is_among.ensures ∙ c.if-is_among.false in
     let low = c.loop-day.invariant.3 in
     let high = c.loop-day.invariant.4 in

@@ -1,11 +1,10 @@
-use Rattle.std.proofs.Common.{◌≡◌, ◌+◌, [], ◌∷◌, List, Bool, true, false, ℤ, pos, ◌≤ℤ◌, length, drop, get_or, to_z, of_z, w32, w64, sym, ap, ◌∙◌, subst, arith}
+use Rattle.std.proofs.Common.{◌≡◌, ◌+◌, [], ◌∷◌, List, ℤ, drop, to_z, of_z, w32, w64, sym, ap, ◌∙◌, subst, arith}
 use Rattle.std.specs.Int.{int_max}
 use Rattle.std.proofs.lemmas.Int.{ints, clamps}
 use Rattle.std.proofs.lemmas.List.{drop_all}
 use Rattle.rank_blocks.specs.declared.summary.Summary.{Summary}
-use Rattle.rank_blocks.specs.Greatest.{IsGreatest}
-use Rattle.rank_blocks.specs.Reached.{in_range, summaries_total, IsTotalFrom}
-use Rattle.rank_blocks.proofs.WindowTotals.{AreFalls, IsSoFar, so_far-start, so_far-in, so_far-out, so_far-end}
+use Rattle.rank_blocks.specs.Reached.{in_range, summaries_total}
+use Rattle.rank_blocks.proofs.WindowTotals.{AreFalls, IsSoFar, so_far-in, so_far-out, so_far-end}
 use Rattle.rank_blocks.proofs.BlockSteps.{block_at, left-at, left-whole, possible-at, number-at, possible-left, behind-left}
 use Rattle.rank_blocks.proofs.reached.greatest_total.Goals as goal
 use Rattle.rank_blocks.proofs.reached.greatest_total.Goals.{then-holds, else-holds}

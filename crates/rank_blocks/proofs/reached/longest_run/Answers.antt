@@ -1,4 +1,4 @@
-use Rattle.std.proofs.Common.{◌≡◌, ℕ, ◌+◌, ◌-◌, ◌≤◌, [], ◌∷◌, List, Bool, true, false, ℤ, pos, ◌≤ℤ◌, ◌+ℤ◌, length, drop, get_or, to_z, of_z, w32, w64, sym, ap, ◌∙◌, subst, arith}
+use Rattle.std.proofs.Common.{◌≡◌, ℕ, ◌+◌, ◌-◌, ◌≤◌, [], ◌∷◌, List, true, pos, ◌≤ℤ◌, ◌+ℤ◌, drop, to_z, of_z, w32, w64, sym, ap, ◌∙◌, subst, arith}
 use Rattle.std.specs.List.{AllByRecursion}
 use Rattle.std.proofs.lemmas.Int.{ints}
 use Rattle.std.proofs.lemmas.List.{drop_all}
@@ -7,8 +7,7 @@ use Rattle.rank_blocks.specs.declared.summary.Summary.{Summary}
 use Rattle.rank_blocks.specs.Blocks.{block_start}
 use Rattle.rank_blocks.specs.DayRuns.{ArePart, runs_without, joined}
 use Rattle.rank_blocks.specs.Greatest.{IsGreatest}
-use Rattle.rank_blocks.specs.Reached.{in_range}
-use Rattle.rank_blocks.specs.Spells.{runs_of}
+use Rattle.rank_blocks.specs.Reached.{in_range, runs_of}
 use Rattle.rank_blocks.proofs.LongestRuns.{AreRunsSoFar, runs_so_far-start, runs_so_far-in, runs_so_far-out, runs_so_far-end}
 use Rattle.rank_blocks.proofs.OpenBlocks.{joined-ArePart, without-ArePart}
 use Rattle.rank_blocks.proofs.BlockSteps.{block_at, left-at, possible-at, number-at, possible-left, behind-left, spell-part, spell-whole, ahead-in, ahead-at, ahead-start}
@@ -37,8 +36,9 @@ up_to-requires-clause-later c =
     let high = c.requires.low.high in
     let first : to_z w32 (of_z w32 c.args.range.first) ≡ c.args.range.first = omega (arith, ints) in
     let range : c.holds.result ≡ in_range c.args.range (block_at c.args.blocks.now c.loop-block.block-index).number = c.holds.ensures ∙ ap (in_range c.args.range) number in
-    ahead-at c.args.range c.args.blocks.now c.loop-block.block-index c.loop-block.runs.days c.days_between-before.result (to_z w32 (of_z w32 c.args.range.first)) c.loop-block-test.true c.loop-block.invariant.ahead
-    (sym range ∙ c.if-holds.true) first (c.days_between-before.ensures.days ∙ ap block_start number)
+    let ahead = ahead-at c.args.range c.args.blocks.now c.loop-block.block-index c.loop-block.runs.days c.days_between-before.result (to_z w32 (of_z w32 c.args.range.first)) c.loop-block-test.true c.loop-block.invariant.ahead
+    (sym range ∙ c.if-holds.true) first (c.days_between-before.ensures.days ∙ ap block_start number) in
+    omega arith
 
 pub join-runs-requires-clause-next_part : goal.join-runs-requires-clause-next_part
 join-runs-requires-clause-next_part c =
@@ -48,7 +48,7 @@ pub join-runs-requires-clause-room : goal.join-runs-requires-clause-room
 join-runs-requires-clause-room c =
     let possible = possible-at c.args.blocks.now c.loop-block.block-index c.loop-block-test.true c.requires.possible in
     let whole : c.runs.result.days ≡ 32 = ap (λ (r : Runs). r.days) c.runs.ensures ∙ spell-whole c.args.spell (block_at c.args.blocks.now c.loop-block.block-index) possible in
-    let days : c.up_to.result.days ≡ c.loop-block.runs.days + (c.days_between-before.result - c.loop-block.runs.days) = ap (λ (r : Runs). r.days) c.up_to.ensures in
+    let days = ap (λ (r : Runs). r.days) c.up_to.ensures in
     let before = c.days_between-before.ensures in
     let range_low = c.requires.low.low in
     let range_high = c.requires.low.high in

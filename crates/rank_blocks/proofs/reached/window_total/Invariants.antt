@@ -1,4 +1,4 @@
-use Rattle.std.proofs.Common.{◌≡◌, ◌-◌, ◌*◌, ◌≤◌, length, drop, pos, neg_ℤ, ◌≤ℤ◌, ◌+ℤ◌}
+use Rattle.std.proofs.Common.{◌≡◌, ◌*◌, drop, pos, neg_ℤ, ◌≤ℤ◌, ◌+ℤ◌}
 use Rattle.rank_blocks.specs.Reached.{summaries_total}
 use Rattle.rank_blocks.specs.Summaries.{ArePossible}
 use Rattle.rank_blocks.proofs.reached.window_total.Given as goal

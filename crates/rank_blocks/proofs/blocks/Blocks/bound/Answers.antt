@@ -1,23 +1,19 @@
-use Rattle.std.proofs.Common.{◌≡◌, List, ℤ, to_z, of_z, w64, sym, ap, ◌∙◌, subst, arith}
+use Rattle.std.proofs.Common.{◌≡◌, List, ℤ, to_z, of_z, w64, sym, ◌∙◌, subst, arith}
 use Rattle.std.proofs.lemmas.Int.{ints}
 use Rattle.rank_scores.specs.Morsels.{IsAbove}
 use Rattle.rank_blocks.specs.declared.summary.Summary.{Summary}
+use Rattle.rank_blocks.specs.Greatest.{IsBound}
 use Rattle.rank_blocks.specs.Summaries.{AreSummaries}
 use Rattle.rank_blocks.proofs.BoundsMet.{bound-computed, bound-above}
 use Rattle.rank_blocks.proofs.blocks.Blocks.bound.Goals as goal
 
-pub returns-clause-equals : goal.returns-clause-equals
-returns-clause-equals c = λ s are of.
+pub returns : goal.returns
+returns c = λ s are of.
     let same : c.as_slice.result.now ≡ c.args.self.now = c.as_slice.ensures.value ∙ c.self.view_is in
-    let P : List Summary → Type 0 = λ ms. AreSummaries s ms in
-    let of_result = c.bound_of.ensures.bound s (subst P (sym same) are) of in
+    let of_result = c.bound_of.ensures.bound s (subst (λ (ms : List Summary). AreSummaries s ms) (sym same) are) of in
     let fits : to_z w64 (of_z w64 c.bound_of.result) ≡ c.bound_of.result = omega (arith, ints) in
-    fits ∙ bound-computed c.args.query.now s c.bound_of.result c.bound_of.ensures.asked of of_result
-
-pub returns-clause-above : goal.returns-clause-above
-returns-clause-above c = λ s are of.
-    let same : c.as_slice.result.now ≡ c.args.self.now = c.as_slice.ensures.value ∙ c.self.view_is in
-    let P : List Summary → Type 0 = λ ms. AreSummaries s ms in
-    let of_result = c.bound_of.ensures.bound s (subst P (sym same) are) of in
-    let fits : to_z w64 (of_z w64 c.bound_of.result) ≡ c.bound_of.result = omega (arith, ints) in
-    subst (λ (z : ℤ). IsAbove c.args.query.now s z) (sym fits) (bound-above c.args.query.now s c.bound_of.result c.bound_of.ensures.asked of of_result)
+    record {
+      equals = fits ∙ bound-computed c.args.query.now s c.bound_of.result c.bound_of.ensures.asked of of_result;
+      greatest = subst (λ (z : ℤ). IsBound c.args.query.now s z) (sym fits) of_result;
+      above = subst (λ (z : ℤ). IsAbove c.args.query.now s z) (sym fits) (bound-above c.args.query.now s c.bound_of.result c.bound_of.ensures.asked of of_result);
+    }

@@ -1,5 +1,5 @@
-use Rattle.std.proofs.Common.{◌≡◌, ℤ, pos, neg_ℤ, ◌≤ℤ◌, ◌<ℤ◌, ◌+ℤ◌, to_z, of_z, w32, w64, sym, ap, ◌∙◌, subst, arith, refl}
-use Rattle.std.specs.Prelude.{int_lt, int_le}
+use Rattle.std.proofs.Common.{◌≡◌, ℤ, pos, ◌<ℤ◌, ◌+ℤ◌, to_z, of_z, w32, sym, ap, ◌∙◌, subst, arith, refl}
+use Rattle.std.specs.Prelude.{Bool}
 use Rattle.std.specs.List.{AllByRecursion}
 use Rattle.std.proofs.lemmas.Int.{ints}
 use Rattle.ghcn_fields.specs.Days.{block_of}
@@ -13,20 +13,20 @@ use Rattle.rank_blocks.proofs.summary.Summary.of_day.Goals as goal
 pub returns-clause-read : goal.returns-clause-read
 returns-clause-read c = λ all before rest split rise earlier.
     let value : to_z w32 (of_z w32 c.args.value) ≡ c.args.value = omega (arith, ints) in
-    let number : to_z w32 (of_z w32 c.block_of.result) ≡ block_of c.args.day = (let same : to_z w32 (of_z w32 c.block_of.result) ≡ c.block_of.result = omega (arith, ints) in same ∙ c.block_of.ensures.value) in
+    let number : to_z w32 (of_z w32 c.block.result) ≡ block_of c.args.day = (let same : to_z w32 (of_z w32 c.block.result) ≡ c.block.result = omega (arith, ints) in same ∙ c.block.ensures.value) in
     let place : (block_start (block_of c.args.day) +ℤ pos c.place_of-place.result) ≡ c.args.day = c.place_of-place.ensures.place in
-    let Dry : Runs → ℤ → Type 0 = λ old v. TakesDay old c.with_day.result c.place_of-place.result (int_lt v (pos 10)) in
-    let Wet : Runs → ℤ → Type 0 = λ old v. TakesDay old c.with_day-2.result c.place_of-place.result (int_le (pos 10) v) in
+    let Dry : Runs → Bool → Type 0 = λ old is. TakesDay old c.with_day.result c.place_of-place.result is in
+    let Wet : Runs → Bool → Type 0 = λ old is. TakesDay old c.with_day-2.result c.place_of-place.result is in
     let dry : TakesDay (runs_without 0) c.with_day.result c.place_of-place.result (is_dry c.args.value) =
-    subst (λ (old : Runs). Dry old c.args.value) c.without-nothing.ensures (subst (Dry c.without-nothing.result) value c.with_day.ensures) in
+    subst (λ (old : Runs). Dry old (is_dry c.args.value)) c.without-nothing.ensures (subst (Dry c.without-nothing.result) (c.passes.ensures ∙ ap is_dry value) c.with_day.ensures) in
     let wet : TakesDay (runs_without 0) c.with_day-2.result c.place_of-place.result (is_wet c.args.value) =
-    subst (λ (old : Runs). Wet old c.args.value) c.without-nothing.ensures (subst (Wet c.without-nothing.result) value c.with_day-2.ensures) in
+    subst (λ (old : Runs). Wet old (is_wet c.args.value)) c.without-nothing.ensures (subst (Wet c.without-nothing.result) (c.passes-2.ensures ∙ ap is_wet value) c.with_day-2.ensures) in
     let Earlier : ℤ → Type 0 = λ b. AllByRecursion (λ y. block_of y.0 <ℤ b) before in
     let Place : ℤ → Type 0 = λ b. (block_start b +ℤ pos c.place_of-place.result) ≡ c.args.day in
-    let earlier_number : AllByRecursion (λ y. block_of y.0 <ℤ to_z w32 (of_z w32 c.block_of.result)) before = subst Earlier (sym number) earlier in
+    let earlier_number : AllByRecursion (λ y. block_of y.0 <ℤ to_z w32 (of_z w32 c.block.result)) before = subst Earlier (sym number) earlier in
     open-taken all before rest (c.args.day, c.args.value) c.place_of-place.result (runs_without 0) (runs_without 0) _ split rise
-    (subst Place (sym number) place) (earlier-until (to_z w32 (of_z w32 c.block_of.result)) before earlier_number) refl (nothing-AreRuns _) (nothing-AreRuns _) dry wet
+    (subst Place (sym number) place) (earlier-until (to_z w32 (of_z w32 c.block.result)) before earlier_number) refl (nothing-AreRuns _) (nothing-AreRuns _) dry wet
     (values-of_day before (c.args.day, c.args.value) _ earlier_number (sym number) value value (omega (arith, ints)))
     (partial-of_day _ c.args.value c.place_of-place.result
-    (let low = c.block_of.ensures.block.low in omega (arith, ints)) (let high = c.block_of.ensures.block.high in omega (arith, ints))
+    (let low = c.block.ensures.range.low in omega (arith, ints)) (let high = c.block.ensures.range.high in omega (arith, ints))
     (omega (arith, ints)) (omega (arith, ints)) (omega (arith, ints)) dry.days wet.days c.place_of-place.ensures.within dry.part wet.part)

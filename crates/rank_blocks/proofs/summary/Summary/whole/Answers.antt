@@ -1,4 +1,4 @@
-use Rattle.std.proofs.Common.{◌≡◌, ℤ, pos, neg_ℤ, ◌≤ℤ◌, to_z, of_z, w32, w64, sym, ap, ◌∙◌, subst, arith, refl}
+use Rattle.std.proofs.Common.{arith}
 use Rattle.std.proofs.lemmas.Int.{ints}
 use Rattle.rank_blocks.proofs.OpenBlocks.{whole-IsSummary}
 use Rattle.rank_blocks.proofs.summary.Summary.whole.Goals as goal

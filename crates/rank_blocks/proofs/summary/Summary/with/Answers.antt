@@ -1,12 +1,8 @@
-use Rattle.std.proofs.Common.{◌≡◌, ℕ, ◌≤◌, ℤ, pos, neg_ℤ, ◌≤ℤ◌, ◌<ℤ◌, ◌+ℤ◌, Bool, to_z, of_z, w32, w64, sym, ap, ◌∙◌, subst, arith, refl}
-use Rattle.std.specs.Prelude.{int_lt, int_le}
-use Rattle.std.specs.Int.{int_max, int_min}
+use Rattle.std.proofs.Common.{◌≡◌, ◌≤◌, ℤ, pos, ◌<ℤ◌, ◌+ℤ◌, Bool, to_z, of_z, w32, w64, sym, ap, ◌∙◌, subst, arith}
 use Rattle.std.specs.List.{AllByRecursion}
 use Rattle.std.proofs.lemmas.Int.{ints, clamps}
 use Rattle.ghcn_fields.specs.Days.{block_of}
-use Rattle.ghcn_series.specs.Series.{DayValue}
 use Rattle.rank_scores.specs.Candidates.{is_dry, is_wet}
-use Rattle.rank_blocks.specs.declared.runs.Runs.{Runs}
 use Rattle.rank_blocks.specs.Blocks.{block_start}
 use Rattle.rank_blocks.specs.DayRuns.{TakesDay, AreRuns}
 use Rattle.rank_blocks.specs.Summaries.{passes_at}
@@ -21,10 +17,10 @@ returns-clause-read c = λ all read rest split rise of_m.
     let number : b ≡ c.args.self.number = (let low = c.requires.partial.low in let high = c.requires.partial.high in omega (arith, ints)) in
     let block : block_of c.args.day ≡ b = c.requires.block ∙ sym number in
     let place : (block_start (block_of c.args.day) +ℤ pos c.place_of-place.result) ≡ c.args.day = c.place_of-place.ensures.place in
-    let Dry : ℤ → Type 0 = λ n. TakesDay c.args.self.dry c.with_day.result c.place_of-place.result (int_lt n (pos 10)) in
-    let Wet : ℤ → Type 0 = λ n. TakesDay c.args.self.wet c.with_day-2.result c.place_of-place.result (int_le (pos 10) n) in
-    let dry : TakesDay c.args.self.dry c.with_day.result c.place_of-place.result (is_dry c.args.value) = subst Dry value c.with_day.ensures in
-    let wet : TakesDay c.args.self.wet c.with_day-2.result c.place_of-place.result (is_wet c.args.value) = subst Wet value c.with_day-2.ensures in
+    let Dry : Bool → Type 0 = λ is. TakesDay c.args.self.dry c.with_day.result c.place_of-place.result is in
+    let Wet : Bool → Type 0 = λ is. TakesDay c.args.self.wet c.with_day-2.result c.place_of-place.result is in
+    let dry : TakesDay c.args.self.dry c.with_day.result c.place_of-place.result (is_dry c.args.value) = subst Dry (c.passes.ensures ∙ ap is_dry value) c.with_day.ensures in
+    let wet : TakesDay c.args.self.wet c.with_day-2.result c.place_of-place.result (is_wet c.args.value) = subst Wet (c.passes-2.ensures ∙ ap is_wet value) c.with_day-2.ensures in
     let Place : ℤ → Type 0 = λ n. (block_start n +ℤ pos c.place_of-place.result) ≡ c.args.day in
     let Until : ℤ → Type 0 = λ n. AllByRecursion (λ y. y.0 <ℤ (block_start n +ℤ pos c.args.self.dry.days)) read in
     let DryRuns : ℤ → Type 0 = λ n. AreRuns (passes_at is_dry all n) c.args.self.dry in
