@@ -1,11 +1,12 @@
-/* hostile - writes two station lists of 2^20 lines, the most that a list may have.
+/* hostile - writes three station lists of 2^20 lines, the most that a list may have.
  *
  *   hostile FOLDER
  *
- * FOLDER/scattered.txt has IDs in no order. FOLDER/colliding.txt has the same, but in its last
- * 32nd part IDs that collide in a hash table of the toolchain's `indexmap` under its default
- * hasher, whose seed is fixed, so that whoever writes a list can look for them as this program does.
- * In such a table each of them begins its search at one place, and finds it taken by those before. */
+ * FOLDER/ordered.txt has IDs in their order, as NOAA's list has them. FOLDER/scattered.txt has IDs
+ * in no order. FOLDER/colliding.txt has the same, but in its last 32nd part IDs that collide in a
+ * hash table of the toolchain's `indexmap` under its default hasher, whose seed is fixed, so that
+ * whoever writes a list can look for them as this program does. In such a table each of them begins
+ * its search at one place, and finds it taken by those before. */
 #include <stdint.h>
 #include <stdio.h>
 #include <stdlib.h>
@@ -42,6 +43,14 @@ static uint32_t hash_of(uint64_t state) {
 
 static void write_line(FILE *list, const char *id) {
     fprintf(list, "%s  10.0000   20.0000  100.0    STATION %-36s\n", id, id);
+}
+
+static void write_ordered(FILE *list) {
+    for (int i = 0; i < LINES; i++) {
+        char id[12];
+        snprintf(id, sizeof id, "ZZ%09d", i);
+        write_line(list, id);
+    }
 }
 
 static void write_scattered(FILE *list, int first, int end) {
@@ -97,12 +106,14 @@ int main(int count, char **words) {
         fprintf(stderr, "usage: hostile FOLDER\n");
         return 2;
     }
+    FILE *ordered = create(words[1], "ordered.txt");
+    write_ordered(ordered);
     FILE *scattered = create(words[1], "scattered.txt");
     write_scattered(scattered, 0, LINES);
     FILE *colliding = create(words[1], "colliding.txt");
     write_scattered(colliding, 0, LINES - COLLIDING);
     write_colliding(colliding, COLLIDING);
-    if (fclose(scattered) != 0 || fclose(colliding) != 0) {
+    if (fclose(ordered) != 0 || fclose(scattered) != 0 || fclose(colliding) != 0) {
         perror("hostile");
         return 3;
     }
