@@ -1,5 +1,5 @@
 -- What holds of all candidates holds of the best.
-use Rattle.std.proofs.Common.{◌≡◌, ℕ, Bool, true, false, cond, List, [], ◌∷◌, Option, Some, None, refl, sym, ap, ◌∙◌, subst}
+use Rattle.std.proofs.Common.{◌≡◌, ℕ, Bool, true, false, cond, List, [], ◌∷◌, Some, None, refl, subst}
 use Rattle.std.specs.Prelude.{◌==◌}
 use Rattle.std.specs.List.{filter_map, find, cons_option, AllByRecursion, range_with_len}
 use Rattle.rank_scores.specs.declared.candidate.Candidate.{Candidate}

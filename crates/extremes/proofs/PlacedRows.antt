@@ -1,6 +1,6 @@
 -- Rows of candidates with their stations, one after the other.
 use Rattle.std.proofs.Common.{◌≡◌, ℕ, ◌+◌, ◌<◌, List, [], ◌∷◌, ◌++◌, length, take, get_or, Option, Some, None, refl, sym, ap, ◌∙◌, append_assoc, append-nil, length-append, arith, map, IsTrue}
-use Rattle.std.specs.List.{flat_map, filter_map, enumerate_from, find, cons_option, AllByRecursion}
+use Rattle.std.specs.List.{enumerate_from, find, cons_option, AllByRecursion}
 use Rattle.std.specs.Option.{option_map, is_some}
 use Rattle.std.proofs.lemmas.List.{take_more, length-map}
 use Rattle.std.proofs.lemmas.List.Elements.{filter_map-append}

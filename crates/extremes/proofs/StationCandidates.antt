@@ -20,7 +20,7 @@ use Rattle.ghcn_series.specs.Series.{Usable, Contents, series_of, is_series_of}
 use Rattle.rank_query.specs.Asked.{Asked, score_element}
 use Rattle.rank_query.specs.Admits.{admits_station}
 use Rattle.rank_scores.specs.declared.candidate.Candidate.{Candidate}
-use Rattle.rank_scores.specs.Candidates.{candidates, candidate, candidates_among, Shape, begun, shape, admitted}
+use Rattle.rank_scores.specs.Candidates.{candidates, candidate, Shape, begun, shape, admitted}
 use Rattle.ghcn_series.specs.Series.{DayValue}
 use Rattle.rank_scores.specs.Order.{begin_alike, AreApart}
 use Rattle.rank_scores.specs.Morsels.{all_candidates}

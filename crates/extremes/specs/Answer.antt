@@ -1,5 +1,5 @@
 -- What is answered to an input without a fault.
-use Rattle.std.specs.Prelude.{◌≡◌, ℕ, List, [], Option, ℤ, Result, Ok}
+use Rattle.std.specs.Prelude.{◌≡◌, ℕ, List, [], Option, ℤ, Ok}
 use Rattle.ghcn_series.specs.Series.{Contents}
 use Rattle.rank_query.specs.Asked.{Asked}
 use Rattle.extremes.specs.declared.papers.Papers.{Papers}

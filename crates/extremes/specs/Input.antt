@@ -1,6 +1,5 @@
 -- What the input says, and the first fault in it.
 use Rattle.std.specs.Prelude.{◌≡◌, ℕ, Bool, true, ◌&&◌, if◌then◌else◌, List, Option, None, Some, Result, Ok, Err, ⊤, ℤ, pos, neg_ℤ, int_le}
-use Rattle.ghcn_files.specs.declared.station.Station.{Station}
 use Rattle.ghcn_files.specs.declared.fault.StationsFault.{StationsFault}
 use Rattle.ghcn_files.specs.declared.fault.StationsFault.TheVariants as station
 use Rattle.ghcn_files.specs.Listed.{listed}

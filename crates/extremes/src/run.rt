@@ -16,8 +16,9 @@ use std::{env, io};
 
 /// Runs the command that the process's words ask for.
 pub fn run<R: Files + Env + Print + Eprint + AllocGlobal>(rt: &R) -> Ending {
-    let Ok(words) = words_after_name(rt) else {
-        return refused(rt, Fault::Memory(Memory));
+    let words = match words_after_name(rt) {
+        Ok(words) => words,
+        Err(error) => return no_words(rt, &error),
     };
     match command(rt.alloc(), words) {
         Ok(Command::Sample) => rank_sample(rt),
@@ -39,6 +40,15 @@ pub fn run<R: Files + Env + Print + Eprint + AllocGlobal>(rt: &R) -> Ending {
 fn words_after_name<R: Env + AllocGlobal>(rt: &R) -> io::Result<Vec<String>> {
     let words = env::args(rt)?.skip(1).collect(rt.alloc())?;
     Ok(words)
+}
+
+/// Tells why there are no words: memory was refused, or one of them isn't text.
+fn no_words<R: Eprint>(rt: &R, error: &io::Error) -> Ending {
+    if error.kind() == io::ErrorKind::OutOfMemory {
+        return refused(rt, Fault::Memory(Memory));
+    }
+    let _ = eprintln!(rt; "a word of the command line is no UTF-8 text");
+    Ending::Words
 }
 
 /// Ranks the texts that are built in.

@@ -6,6 +6,8 @@ use crate::fault::Fault;
 use crate::rank::rank_serial;
 use crate::words::command;
 use ghcn_fields::Memory;
+use ghcn_files::{LineWhy, StationWhy};
+use ghcn_series::DailyWhy;
 use std::alloc::{AllocError, Global};
 use std::test::Fail;
 
@@ -28,15 +30,6 @@ query top 3 highest TMAX
 end 3
 ";
 
-// With each growth refused in turn this test shows that nothing else is answered.
-#[test]
-fn the_right_report_or_want_of_memory(rt: HostRuntime) {
-    match rank_serial(rt.alloc(), STATIONS, &[DAILY], "top 3 highest TMAX", None) {
-        Ok(papers) => assert_eq!(rt; papers.report.as_slice(), REPORT),
-        Err(fault) => assert_eq!(rt; fault, Fault::Memory(Memory)),
-    }
-}
-
 #[test]
 fn the_right_report(rt: HostRuntime) {
     let ranked = rank_serial(rt.alloc(), STATIONS, &[DAILY], "top 3 highest TMAX", None);
@@ -58,6 +51,51 @@ fn guesses_and_the_first_fault(rt: HostRuntime) {
         let found = rank_serial(rt.alloc(), stations, &[], query, guess).err();
         assert_eq!(rt; found, fault, "at {guess:?} {query}");
     }
+}
+
+#[test]
+fn texts_of_faults(rt: HostRuntime) -> Result<(), Fail> {
+    let cases = [
+        (
+            Fault::StationLine {
+                line: 3,
+                why: StationWhy::Duplicate,
+            },
+            "refused 1 StationLine line 3 Duplicate",
+        ),
+        (Fault::TooManyStations, "refused 2 TooManyStations"),
+        (Fault::Memory(Memory), "refused 3 Memory"),
+        (
+            Fault::DailyLine {
+                file: 2,
+                line: 7,
+                why: DailyWhy::Line(LineWhy::BadValue(31)),
+            },
+            "refused 5 DailyLine file 2 line 7 BadValue 31",
+        ),
+        (
+            Fault::DailyLine {
+                file: 1,
+                line: 2,
+                why: DailyWhy::DuplicateMonth,
+            },
+            "refused 5 DailyLine file 1 line 2 DuplicateMonth",
+        ),
+        (Fault::TooManyFiles, "refused 6 TooManyFiles"),
+        (Fault::QueryTooLong, "refused 7 QueryTooLong"),
+        (Fault::UnexpectedWord(4), "refused 8 UnexpectedWord 4"),
+        (Fault::QueryEnds, "refused 9 QueryEnds"),
+        (Fault::OutOfLimits(2), "refused 10 OutOfLimits 2"),
+        (Fault::BadDate(6), "refused 11 BadDate 6"),
+        (Fault::BadBox(8), "refused 12 BadBox 8"),
+        (Fault::EmptyPeriod, "refused 13 EmptyPeriod"),
+        (Fault::BadGuess, "refused 19 BadGuess"),
+    ];
+    for (fault, text) in cases {
+        let told = fault.to_string(rt.alloc())?;
+        assert_eq!(rt; told.as_str(), text);
+    }
+    Ok(())
 }
 
 fn words_of(alloc: Global, words: &[&str]) -> Result<Vec<String>, AllocError> {
@@ -87,7 +125,11 @@ fn commands_of_words(rt: HostRuntime) -> Result<(), Fail> {
     };
     assert_eq!(rt; stations.as_str(), "s");
     assert_eq!(rt; query.as_str(), "q");
-    assert_eq!(rt; files.len(), 2);
+    let paths: [&str; 2] = ["a", "b"];
+    assert_eq!(rt; files.len(), paths.len());
+    for (file, path) in files.iter().zip(paths) {
+        assert_eq!(rt; file.as_str(), path);
+    }
     let without = words_of(rt.alloc(), &["rank", "--query", "q"])?;
     assert!(rt; matches!(command(rt.alloc(), without), Err(CommandFault::Words(_))));
     Ok(())

@@ -21,11 +21,7 @@ fn days_and_dates(rt: HostRuntime) -> Result<(), Fail> {
             (year, month, day),
             "civil {year}-{month}-{day}"
         );
-        assert_eq!(rt;
-            read_date(&write_date(found)),
-            Some(found),
-            "written {year}-{month}-{day}"
-        );
+        assert_eq!(rt; &write_date(found), text, "written {year}-{month}-{day}");
         assert_eq!(rt; read_date(text), Some(found), "read {year}-{month}-{day}");
     }
     Ok(())

@@ -1,6 +1,7 @@
 //! Months of daily values: what one line of a daily file says.
 
-ghost use Rattle.std.specs.Prelude.{◌≡◌, ◌≤◌, ◌<◌, ◌+◌, length, drop, map, pos, Some, None, IfOk, IfSome, if◌then◌else◌, unsigned_abs};
+ghost use Rattle.std.specs.Prelude.{◌≡◌, ◌≤◌, ◌<◌, ◌+◌, length, drop, map, pos, Some, None, IfOk, IfSome};
+ghost use Rattle.std.specs.Prelude.{if◌then◌else◌, unsigned_abs};
 ghost use Rattle.ghcn_fields.specs.Numbers as numbers;
 ghost use Rattle.ghcn_fields.specs.Bytes as bytes;
 ghost use Rattle.ghcn_fields.specs.Faults.{first_failing};

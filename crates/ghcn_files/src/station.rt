@@ -1,6 +1,7 @@
 //! A station and its ID.
 
-ghost use Rattle.std.specs.Prelude.{◌≡◌, ◌≤◌, ◌+◌, ◌-◌, ◌≤ℤ◌, pos, neg_ℤ, int_le, ◌&&◌, Some, None, length, map, if◌then◌else◌, IfOk, OnOk, IfErr};
+ghost use Rattle.std.specs.Prelude.{◌≡◌, ◌≤◌, ◌+◌, ◌-◌, ◌≤ℤ◌, pos, neg_ℤ, int_le, ◌&&◌, Some, None, length};
+ghost use Rattle.std.specs.Prelude.{map, if◌then◌else◌, IfOk, OnOk, IfErr};
 ghost use Rattle.std.specs.List.{list_all};
 ghost use Rattle.ghcn_fields.specs.Lines as lines;
 ghost use Rattle.ghcn_fields.specs.Numbers as numbers;

@@ -1,10 +1,12 @@
 //! The listed stations, in the order of the list.
 
-ghost use Rattle.std.specs.Prelude.{◌≡◌, ◌<◌, ◌^◌, ◌++◌, ◌∷◌, [], None, IsTrue, length, slice_get, Ok, IfOk, OnOk, IfErr};
+ghost use Rattle.std.specs.Prelude.{◌≡◌, ◌<◌, ◌^◌, ◌++◌, ◌∷◌, [], None, IsTrue, length, slice_get, Ok, IfOk};
+ghost use Rattle.std.specs.Prelude.{OnOk, IfErr};
 ghost use Rattle.std.specs.List.{find};
 ghost use Rattle.std.specs.Option.{option_copied};
 ghost use Rattle.ghcn_files.specs.StationLines.{is_station};
-ghost use Rattle.ghcn_files.specs.Listed.{AreListed, AreEleven, key_of, is_station_of, place_of, listed, Adds, IsRefusal, IsRefusedFor, IsFirstRefusal};
+ghost use Rattle.ghcn_files.specs.Listed.{AreListed, AreEleven, key_of, is_station_of, place_of, listed, Adds};
+ghost use Rattle.ghcn_files.specs.Listed.{IsRefusal, IsRefusedFor, IsFirstRefusal};
 
 use crate::{Station, StationId, StationWhy, StationsFault};
 use ghcn_fields::{Memory, is_blank, lines};

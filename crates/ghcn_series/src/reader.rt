@@ -55,7 +55,8 @@ impl Reader {
     ) -> Result<Self, DataFault>
         ensures stations { IfOk result (λ reader. reader.stations ≡ stations) }
         ensures read { IfOk result (λ reader. HasReadLines reader (daily_lines (map (λ f. f.now) files.now))) }
-        ensures fault { IfErr result (λ fault. IsFirstRefusal stations (daily_lines (map (λ f. f.now) files.now)) fault) }
+        ensures fault { IfErr result (λ fault.
+            IsFirstRefusal stations (daily_lines (map (λ f. f.now) files.now)) fault) }
     {
         let mut reader = match Reader::new(alloc, stations) {
             Ok(reader) => reader,
@@ -134,7 +135,8 @@ impl Reader {
     /// Adds a month, or answers false where its station is listed and has that month already.
     fn add_month(&mut self, alloc: Global, month: &Month) -> Result<bool, Memory>
         ensures stations { self.new.stations ≡ self.old.stations }
-        ensures added { IfOk result (λ added. (before : List months.Month) → IsMonth month.now → HasRead self.old before →
+        ensures added { IfOk result (λ added.
+            (before : List months.Month) → IsMonth month.now → HasRead self.old before →
             (added ≡ not (is_listed self.old.stations month.now.id && list_any (same_month month.now) before))
             × OnTrue added (HasRead self.new (before ++ month.now ∷ []))) }
     {

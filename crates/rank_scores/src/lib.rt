@@ -1,7 +1,7 @@
 //! Candidates for a record, their order, and the scan of a series for them.
 //!
-//! Pools and bounds stand on it, and so does the checker. What it hands up is the candidate, and
-//! the best of some candidates.
+//! Bounds and the ranking stand on it. What it hands up is the candidate, and the best of some
+//! candidates.
 #![tactic(auto)]
 
 mod admitted;

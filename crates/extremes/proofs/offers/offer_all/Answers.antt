@@ -1,4 +1,4 @@
-use Rattle.std.proofs.Common.{◌≡◌, ◌<◌, ℕ, List, length, take, get_or, map, Option, Some, None, sym, ap, ◌∙◌, subst, arith}
+use Rattle.std.proofs.Common.{◌≡◌, ◌<◌, List, length, take, map, Some, sym, ap, ◌∙◌, subst, arith}
 use Rattle.std.specs.Prelude.{slice_get}
 use Rattle.std.specs.List.{IsDistinct, flat_map, fold}
 use Rattle.std.specs.Option.{option_copied}
@@ -6,10 +6,8 @@ use Rattle.std.proofs.lemmas.Grind.{common_steps}
 use Rattle.std.proofs.lemmas.Option.{get_or_from_slice_get}
 use Rattle.ghcn_files.specs.declared.station.Station.{Station}
 use Rattle.ghcn_files.specs.Ids.{same_id}
-use Rattle.ghcn_files.specs.Listed.{AreListed}
 use Rattle.rank_scores.specs.Order.{AreApart}
 use Rattle.rank_scores.specs.declared.candidate.Candidate.{Candidate}
-use Rattle.rank_scores.specs.Morsels.{all_candidates}
 use Rattle.extremes.specs.Offers.{station_candidates}
 use Rattle.extremes.specs.Report.{AreOfListed}
 use Rattle.extremes.proofs.StationCandidates.{HasOffered-start, HasOffered-more, all_candidates-is, listed_from_owned, has_station, AreOwned}

@@ -1,7 +1,7 @@
-use Rattle.std.proofs.Common.{◌≡◌, Option, Some, None, true, sym, ap, ◌∙◌}
+use Rattle.std.proofs.Common.{◌≡◌, Some, None, true, sym, ap, ◌∙◌}
 use Rattle.std.specs.Option.{option_copied}
 use Rattle.ghcn_files.specs.declared.element.Element.{Element}
-use Rattle.ghcn_series.specs.Series.{Usable, series_of}
+use Rattle.ghcn_series.specs.Series.{series_of}
 use Rattle.rank_query.specs.Asked.{score_element}
 use Rattle.rank_query.specs.Admits.{admits_station}
 use Rattle.extremes.proofs.StationCandidates.{none-admitted, without_series, apart-none, own-series, apart-series}

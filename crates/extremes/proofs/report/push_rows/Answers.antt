@@ -1,4 +1,4 @@
-use Rattle.std.proofs.Common.{◌≡◌, Option, Some, sym, ◌∙◌, ap}
+use Rattle.std.proofs.Common.{◌≡◌, Some, sym, ◌∙◌, ap}
 use Rattle.std.specs.Option.{option_copied}
 use Rattle.std.specs.List.{find}
 use Rattle.ghcn_files.specs.Listed.{is_station_of}

@@ -1,4 +1,4 @@
-use Rattle.std.proofs.Common.{◌≡◌, ◌++◌, ◌∙◌, ap, List, ℕ, length}
+use Rattle.std.proofs.Common.{◌++◌, ◌∙◌, ap, List, ℕ, length}
 use Rattle.std.specs.List.{enumerate_from}
 use Rattle.ghcn_files.specs.declared.station.Station.{Station}
 use Rattle.extremes.specs.Report.{rows_text, placed, text_line, end_fields}

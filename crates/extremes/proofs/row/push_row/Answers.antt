@@ -1,4 +1,4 @@
-use Rattle.std.proofs.Common.{◌≡◌, List, ℕ, ◌++◌, ℤ, ap, ◌∙◌, decimal, FitsSigned, w64, to_z-of_z, rules}
+use Rattle.std.proofs.Common.{List, ℕ, ◌++◌, ℤ, ap, ◌∙◌, decimal, FitsSigned, w64, to_z-of_z, rules}
 use Rattle.std.specs.List.{flat_map}
 use Rattle.ghcn_fields.specs.Dates.{date_text}
 use Rattle.rank_query.specs.declared.score.Score.{Score}
