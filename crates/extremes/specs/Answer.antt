@@ -3,7 +3,7 @@ use Rattle.std.specs.Prelude.{◌≡◌, ℕ, List, [], Option, ℤ, Ok}
 use Rattle.ghcn_series.specs.Series.{Contents}
 use Rattle.rank_query.specs.Asked.{Asked}
 use Rattle.extremes.specs.declared.papers.Papers.{Papers}
-use Rattle.extremes.specs.Report.{IsReport}
+use Rattle.rank_papers.specs.Report.{IsReport}
 use Rattle.extremes.specs.Input.{read_input}
 
 -- the papers answer the input: it has no fault, the report is the right one for what it asks and holds, and the lines of unlisted stations are counted

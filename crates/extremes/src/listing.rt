@@ -4,7 +4,6 @@ ghost use Rattle.std.specs.Prelude.{◌≡◌, ◌<◌, ◌^◌, [], IfOk, OnOk}
 ghost use Rattle.rank_scores.specs.Order.{AreApart};
 ghost use Rattle.rank_scores.specs.Morsels.{all_candidates};
 ghost use Rattle.extremes.specs.Listing as spec;
-ghost use Rattle.extremes.specs.Report.{AreOfListed};
 
 use crate::offers::offer_all;
 use ghcn_fields::Memory;
@@ -41,9 +40,9 @@ pub struct Listing {
 
 impl Model for Listing {
     ghost use Rattle.std.specs.Prelude.{ℕ, ◌≤◌, vec_capacity};
-    ghost use Rattle.extremes.specs.Listing.{Listed};
+    ghost use Rattle.extremes.specs.Listing.{Shelf};
 
-    ghost Value = { Listed };
+    ghost Value = { Shelf };
 
     ghost view = { λ l. record { candidates = l.candidates.items; places = l.places } };
 
@@ -53,7 +52,7 @@ impl Model for Listing {
 impl Listing {
     /// An empty list with so many places.
     pub fn with_places(alloc: Global, places: u64) -> Result<Listing, Memory>
-        ensures empty { IfOk result (λ listing. listing ≡ spec.nothing_in places) }
+        ensures empty { IfOk result (λ listing. listing ≡ spec.empty_shelf places) }
         ensures room { OnOk result (places < 2 ^ 63) }
     {
         let places = places as usize;
@@ -70,9 +69,9 @@ impl Listing {
 }
 
 impl Sink for Listing {
-    ghost use Rattle.extremes.specs.Listing.{listed};
+    ghost use Rattle.extremes.specs.Listing.{one_more};
 
-    ghost taken = { listed };
+    ghost taken = { one_more };
 
     fn offer(&mut self, candidate: Candidate) {
         if self.candidates.len() < self.places {
@@ -84,8 +83,7 @@ impl Sink for Listing {
 
 /// All candidates of a query, listed in places that were reserved for their number.
 pub fn list_candidates(alloc: Global, held: &Data, query: &Query) -> Result<Vec<Candidate>, Memory>
-    ensures all { IfOk result (λ listed. listed.items ≡ all_candidates query.now held.now) }
-    ensures listed { OnOk result (AreOfListed held.now.stations (all_candidates query.now held.now)) }
+    ensures all { IfOk result (λ list. list.items ≡ all_candidates query.now held.now) }
     ensures apart { OnOk result (AreApart (all_candidates query.now held.now)) }
 {
     let mut count = Count { candidates: 0 };

@@ -5,13 +5,9 @@ mod command;
 mod ending;
 mod fault;
 mod listing;
-mod measure;
-mod number;
 mod offers;
 mod papers;
 mod rank;
-mod report;
-mod row;
 mod run;
 mod sample;
 #[cfg(test)]

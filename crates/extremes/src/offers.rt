@@ -1,11 +1,10 @@
 //! All candidates of a query, offered station by station.
 
 ghost use Rattle.std.specs.Prelude.{◌≡◌};
-ghost use Rattle.std.specs.List.{fold, AllByRecursion};
+ghost use Rattle.std.specs.List.{fold};
 ghost use Rattle.rank_scores.specs.Order.{AreApart};
 ghost use Rattle.rank_scores.specs.Morsels.{all_candidates};
 ghost use Rattle.extremes.specs.Offers.{station_candidates};
-ghost use Rattle.extremes.specs.Report.{AreOfListed};
 
 use ghcn_files::Station;
 use ghcn_series::Data;
@@ -14,10 +13,9 @@ use rank_scores::{Sink, scan};
 
 /// Offers every candidate of a query: by station in the order of the list, and by first day.
 ///
-/// Each is of a listed station, and no two are of one station and begin on one day.
+/// No two are of one station and begin on one day.
 pub fn offer_all<S: Sink>(held: &Data, query: &Query, sink: &mut S)
     ensures offered { sink.new ≡ fold S.taken sink.old (all_candidates query.now held.now) }
-    ensures listed { AreOfListed held.now.stations (all_candidates query.now held.now) }
     ensures apart { AreApart (all_candidates query.now held.now) }
 {
     let stations = held.stations();
@@ -30,9 +28,7 @@ pub fn offer_all<S: Sink>(held: &Data, query: &Query, sink: &mut S)
 
 /// Offers the candidates of a station, where the query admits it.
 fn offer_station<S: Sink>(held: &Data, query: &Query, station: &Station, sink: &mut S)
-    ensures offered { sink.new ≡ fold S.taken sink.old (station_candidates query.now held.now station.now) }
-    ensures own { AllByRecursion (λ c. c.id ≡ station.now.id) (station_candidates query.now held.now station.now) }
-    ensures apart { AreApart (station_candidates query.now held.now station.now) }
+    ensures { sink.new ≡ fold S.taken sink.old (station_candidates query.now held.now station.now) }
 {
     if !query.admits_station(station) {
         return;

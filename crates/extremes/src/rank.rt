@@ -4,15 +4,15 @@ ghost use Rattle.std.specs.Prelude.{◌≡◌, ◌↔◌, IfOk, IfErr, OnOk, IsT
 ghost use Rattle.rank_scores.specs.Morsels.{best_of_query};
 ghost use Rattle.extremes.specs.Answer.{Answers};
 ghost use Rattle.extremes.specs.Input.{is_guess, read_input, IsRefusal};
-ghost use Rattle.extremes.specs.Report.{AreOfListed};
+ghost use Rattle.rank_papers.specs.Report.{IsReport};
 
 use crate::fault::Fault;
 use crate::listing::list_candidates;
 use crate::papers::Papers;
-use crate::report::report;
 use ghcn_fields::Memory;
 use ghcn_files::Stations;
 use ghcn_series::Data;
+use rank_papers::report_of_best;
 use rank_query::Query;
 use rank_scores::{Candidate, best_first};
 use std::alloc::Global;
@@ -62,10 +62,17 @@ fn may_be_guessed(guess: Option<i64>) -> bool
 
 /// The k best candidates of a query, the best first.
 fn best_candidates(alloc: Global, held: &Data, query: &Query) -> Result<Vec<Candidate>, Memory>
-    ensures best { IfOk result (λ best. best.items ≡ best_of_query query.now held.now) }
-    ensures listed { OnOk result (AreOfListed held.now.stations (best_of_query query.now held.now)) }
+    ensures { IfOk result (λ best. best.items ≡ best_of_query query.now held.now) }
 {
     let mut best = best_first(list_candidates(alloc, held, query)?)?;
     best.truncate(query.k() as usize);
     Ok(best)
+}
+
+/// The report of a query with its best candidates.
+fn report(alloc: Global, held: &Data, query: &Query, best: &[Candidate]) -> Result<Vec<u8>, Memory>
+    requires { best.now ≡ best_of_query query.now held.now }
+    ensures { IfOk result (λ paper. IsReport query.now held.now paper.items) }
+{
+    report_of_best(alloc, query, held.stations(), best)
 }

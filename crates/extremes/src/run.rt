@@ -1,5 +1,11 @@
 //! A run of the program: reads what is named, ranks, and prints.
 
+ghost use Rattle.std.specs.Prelude.{◌≡◌, ◌<◌, IfOk, IfErr, None, length, map, vec_len};
+ghost use Rattle.extremes.specs.declared.ending.Ending.TheVariants as endings;
+ghost use Rattle.extremes.specs.Answer.{Answers};
+ghost use Rattle.extremes.specs.Input.{read_input, IsRefusal};
+ghost use Rattle.extremes.specs.Printed.{IsPrinted};
+
 use crate::command::{Command, CommandFault};
 use crate::ending::Ending;
 use crate::fault::Fault;
@@ -54,10 +60,8 @@ fn no_words<R: Eprint>(rt: &R, error: &io::Error) -> Ending {
 /// Ranks the texts that are built in.
 fn rank_sample<R: Print + Eprint + AllocGlobal>(rt: &R) -> Ending {
     let files = [sample::DAILY];
-    told(
-        rt,
-        rank_serial(rt.alloc(), sample::STATIONS, &files, sample::QUERY, None),
-    )
+    let answer = rank_serial(rt.alloc(), sample::STATIONS, &files, sample::QUERY, None);
+    print_answer(rt, answer, &mut io::writer(rt))
 }
 
 /// Reads the station list and then the daily files in order, and ranks them.
@@ -70,29 +74,47 @@ fn rank_files<R: Files + Print + Eprint + AllocGlobal>(
     let Ok(stations_text) = read_file(rt, stations) else {
         return not_read(rt, stations);
     };
-    let mut texts = Vec::new(rt.alloc());
-    for path in files {
-        let Ok(text) = read_file(rt, path.as_str()) else {
-            return not_read(rt, path.as_str());
-        };
-        if texts.push(text).is_err() {
-            return not_read(rt, path.as_str());
+    match read_files(rt, files) {
+        Ok(texts) => {
+            let answer = rank_texts(rt.alloc(), &stations_text, &texts, query);
+            print_answer(rt, answer, &mut io::writer(rt))
         }
+        Err(place) => not_read(rt, files[place].as_str()),
     }
-    told(rt, rank_texts(rt.alloc(), &stations_text, &texts, query))
 }
 
+/// The text of each file, in order, or the place of the first that can't be read.
+fn read_files<R: Files + AllocGlobal>(rt: &R, paths: &[String]) -> Result<Vec<Vec<u8>>, usize>
+    ensures all { IfOk result (λ texts. vec_len texts ≡ length paths.now) }
+    ensures place { IfErr result (λ place. place < length paths.now) }
+{
+    let mut texts = Vec::new(rt.alloc());
+    for (place, path) in paths.iter().enumerate() {
+        let text = read_file(rt, path.as_str()).map_err(|_| place)?;
+        texts.push(text).map_err(|_| place)?;
+    }
+    Ok(texts)
+}
+
+/// Ranks the candidates of a query over the texts of all files.
 fn rank_texts(
     alloc: Global,
     stations: &[u8],
     texts: &[Vec<u8>],
     query: &str,
-) -> Result<Papers, Fault> {
+) -> Result<Papers, Fault>
+    ensures ok { IfOk result (Answers None query.now stations.now (map (λ text. text.items) texts.now)) }
+    ensures err { IfErr result (λ fault.
+        IsRefusal fault (read_input None query.now stations.now (map (λ text. text.items) texts.now))) }
+{
     let files = slices_of(alloc, texts).map_err(|_| Fault::Memory(Memory))?;
     rank_serial(alloc, stations, &files, query, None)
 }
 
-fn slices_of(alloc: Global, texts: &[Vec<u8>]) -> Result<Vec<&[u8]>, AllocError> {
+/// All the texts, as they are read.
+fn slices_of(alloc: Global, texts: &[Vec<u8>]) -> Result<Vec<&[u8]>, AllocError>
+    ensures { IfOk result (λ slices. map (λ s. s.now) slices.items ≡ map (λ text. text.items) texts.now) }
+{
     texts.iter().map(|text| text.as_slice()).collect(alloc)
 }
 
@@ -106,18 +128,28 @@ fn read_file<R: Files + AllocGlobal>(rt: &R, path: &str) -> io::Result<Vec<u8>> 
     Ok(bytes)
 }
 
-fn not_read<R: Eprint>(rt: &R, path: &str) -> Ending {
+fn not_read<R: Eprint>(rt: &R, path: &str) -> Ending
+    ensures { result ≡ endings.File }
+{
     let _ = eprintln!(rt; "file not read {path}");
     Ending::File
 }
 
-fn refused<R: Eprint>(rt: &R, fault: Fault) -> Ending {
+fn refused<R: Eprint>(rt: &R, fault: Fault) -> Ending
+    ensures { result ≡ endings.Refused }
+{
     let _ = eprintln!(rt; "{fault}");
     Ending::Refused
 }
 
-/// Tells what was passed over and prints the report, or tells the fault.
-fn told<R: Print + Eprint>(rt: &R, answer: Result<Papers, Fault>) -> Ending {
+/// Prints the report behind a word on what was passed over, or tells the fault.
+pub fn print_answer<R: Eprint, W: Write>(
+    rt: &R,
+    answer: Result<Papers, Fault>,
+    out: &mut W,
+) -> Ending
+    ensures { IsPrinted answer (W.contents out.old) (W.contents out.new) result }
+{
     let papers = match answer {
         Ok(papers) => papers,
         Err(fault) => return refused(rt, fault),
@@ -126,7 +158,7 @@ fn told<R: Print + Eprint>(rt: &R, answer: Result<Papers, Fault>) -> Ending {
     if unlisted > 0 {
         let _ = eprintln!(rt; "unlisted {unlisted}");
     }
-    match io::writer(rt).write_all(&papers.report) {
+    match out.write_all(&papers.report) {
         Ok(()) => Ending::Done,
         Err(_) => {
             let _ = eprintln!(rt; "file not written -");

@@ -4,6 +4,7 @@ use crate::command::{Command, CommandFault};
 use crate::ending::Ending;
 use crate::fault::Fault;
 use crate::rank::rank_serial;
+use crate::run::print_answer;
 use crate::words::command;
 use ghcn_fields::Memory;
 use ghcn_files::{LineWhy, StationWhy};
@@ -35,6 +36,16 @@ fn the_right_report(rt: HostRuntime) {
     let ranked = rank_serial(rt.alloc(), STATIONS, &[DAILY], "top 3 highest TMAX", None);
     let report = ranked.as_ref().map(|papers| papers.report.as_slice()).ok();
     assert_eq!(rt; report, Some(REPORT));
+}
+
+#[test]
+fn reports_are_printed_whole(rt: HostRuntime) {
+    let mut out = Vec::new(rt.alloc());
+    let ranked = rank_serial(rt.alloc(), STATIONS, &[DAILY], "top 3 highest TMAX", None);
+    assert_eq!(rt; print_answer(&rt, ranked, &mut out), Ending::Done);
+    let faulty = rank_serial(rt.alloc(), STATIONS, &[DAILY], "top 3 highest", None);
+    assert_eq!(rt; print_answer(&rt, faulty, &mut out), Ending::Refused);
+    assert_eq!(rt; out.as_slice(), REPORT);
 }
 
 #[test]
@@ -132,6 +143,41 @@ fn commands_of_words(rt: HostRuntime) -> Result<(), Fail> {
     }
     let without = words_of(rt.alloc(), &["rank", "--query", "q"])?;
     assert!(rt; matches!(command(rt.alloc(), without), Err(CommandFault::Words(_))));
+    Ok(())
+}
+
+#[test]
+fn texts_of_words(rt: HostRuntime) -> Result<(), Fail> {
+    let cases: [(&[&str], &str); 9] = [
+        (
+            &["rank", "--help"],
+            "\n  top K SCORE [REGION] [PERIOD]    K is from 1 to 1000\n",
+        ),
+        (&["rank", "--help"], "\n           sum N FALL "),
+        (
+            &["rank", "--help"],
+            "--query 'top 5 sum 3 PRCP country GM' GM*.dly\n",
+        ),
+        (
+            &["rank", "--help"],
+            "ghcnd-stations.txt \\\n      --query 'top 3 dry box",
+        ),
+        (
+            &["rank", "--help"],
+            "\n  SNWD     snow depth, whole millimetres\n",
+        ),
+        (&["rank", "--help"], "\n  refused 13 EmptyPeriod  "),
+        (&["--help"], "'extremes rank --help' has the queries"),
+        (&["--query", "top 1 dry"], "\n       extremes rank --help\n"),
+        (&["top"], "\n       extremes rank --help\n"),
+    ];
+    for (words, part) in cases {
+        let Err(CommandFault::Words(text)) = command(rt.alloc(), words_of(rt.alloc(), words)?)
+        else {
+            return Err(Fail::from("no text to show"));
+        };
+        assert!(rt; text.as_str().contains(part), "at {part:?}: {text}");
+    }
     Ok(())
 }
 

@@ -8,6 +8,63 @@ use clap::error::ErrorKind;
 use clap::{Arg, ArgAction, ArgMatches, Error};
 use std::alloc::{AllocError, Global};
 
+const USAGE: &str = "extremes rank --stations <FILE> --query <QUERY> [FILE]...
+       extremes rank --help";
+
+const HELP: &str =
+    "'extremes rank --help' has the queries, their elements and units, the exit statuses
+and what each refusal means.";
+
+const RANK_HELP: &str = "Queries:
+  top K SCORE [REGION] [PERIOD]    K is from 1 to 1000
+
+  SCORE    highest ELEM            greatest values of PRCP, SNOW, SNWD, TMAX or TMIN
+           lowest TEMP             least values of TMAX or TMIN
+           sum N FALL              greatest sums of N days in a row, 1 to 366, of PRCP or SNOW
+           dry, wet                longest spells of days below 1 mm, or of at least 1 mm
+  REGION   box S W N E             degrees; over the date line where W is greater than E
+           country CC              NOAA's code, the first two letters of the ID: GM is Germany
+           state SS                the state's letters in the station list
+           station ID
+  PERIOD   from YYYY-MM-DD to YYYY-MM-DD, both days included
+
+Elements:
+  TMAX     highest temperature of a day, degrees Celsius with one decimal
+  TMIN     lowest temperature of a day, degrees Celsius with one decimal
+  PRCP     precipitation, millimetres with one decimal
+  SNOW     snowfall, whole millimetres
+  SNWD     snow depth, whole millimetres
+
+Examples:
+  extremes rank --stations ghcnd-stations.txt --query 'top 10 highest TMAX' *.dly
+  extremes rank --stations ghcnd-stations.txt --query 'top 5 sum 3 PRCP country GM' GM*.dly
+  extremes rank --stations ghcnd-stations.txt \\
+      --query 'top 3 dry box 36 -115 42 -109 from 1991-01-01 to 2020-12-31' US*.dly
+
+Exit statuses:
+  0        done: the report is on standard output
+  1        refused: one line on standard error says why
+  2        the words are no command, or ask for help
+  3        a file can't be read, or the report can't be written
+
+Refusals (A counts the query's words, F the daily files, L the lines of a file, all from 1):
+  refused 1 StationLine line L WHY        line L of the station list fails the test WHY
+  refused 2 TooManyStations               the station list has more than 1048576 stations
+  refused 3 Memory                        the system gave no more memory
+  refused 5 DailyLine file F line L WHY   line L of daily file F fails the test WHY
+  refused 6 TooManyFiles                  there are more than 1048576 daily files
+  refused 7 QueryTooLong                  the query has more than 256 bytes
+  refused 8 UnexpectedWord A              no query has this word there
+  refused 9 QueryEnds                     the query ends where a word is needed
+  refused 10 OutOfLimits A                K isn't from 1 to 1000, or N not from 1 to 366
+  refused 11 BadDate A                    the word is no date
+  refused 12 BadBox A                     an edge is no number of degrees, or N is less than S
+  refused 13 EmptyPeriod                  the second date is before the first
+  refused 19 BadGuess                     a guess out of its limits; no option makes one yet
+WHY is the first test that the line fails. In the station list: Short, BadId, BadLatitude,
+BadLongitude, BadElevation, Duplicate. In a daily file: Short, TooLong, BadId, BadYear, BadMonth,
+BadValue DAY, DuplicateMonth.";
+
 /// The command that the words after the program's name ask for: the sample where there is none.
 pub fn command(alloc: Global, words: Vec<String>) -> Result<Command, CommandFault>
     ensures none { words.items ≡ [] → result ≡ Ok commands.Sample }
@@ -18,12 +75,12 @@ pub fn command(alloc: Global, words: Vec<String>) -> Result<Command, CommandFaul
     }
     match rank_command(alloc, &words) {
         Ok(rank) => Ok(rank),
-        Err(error) => Err(told(alloc, &error)),
+        Err(error) => Err(fault_of(alloc, &error)),
     }
 }
 
-/// The text of a fault of the words.
-fn told(alloc: Global, error: &Error) -> CommandFault {
+/// What a refused command line leads to: the text to show, or want of memory.
+fn fault_of(alloc: Global, error: &Error) -> CommandFault {
     if error.kind() == ErrorKind::OutOfMemory {
         return CommandFault::Memory;
     }
@@ -60,7 +117,7 @@ fn program<'a>(alloc: Global) -> Result<clap::Command<'a>, AllocError> {
     let query = Arg::new(alloc, "query")
         .long("query")
         .value_name("QUERY")
-        .help("What to rank, as 'top 10 highest TMAX'")
+        .help("What to rank, in quotes: 'top 10 highest TMAX'")
         .required(true)
         .action(ArgAction::Set);
     let files = Arg::new(alloc, "files")
@@ -72,9 +129,12 @@ fn program<'a>(alloc: Global) -> Result<clap::Command<'a>, AllocError> {
         .about("Prints the k best records of a query")
         .arg(stations)?
         .arg(query)?
-        .arg(files)?;
+        .arg(files)?
+        .after_help(RANK_HELP);
     clap::Command::new(alloc, "extremes")
         .about("The k best records of GHCN-Daily files; without words, of a sample")
+        .override_usage(USAGE)
+        .after_help(HELP)
         .subcommand_required(true)
         .subcommand(rank)
 }

@@ -1,5 +1,6 @@
 -- Digits in the places of a date: as many as there are places, and what they write.
-use Rattle.std.proofs.Common.{◌≡◌, ℕ, zero, suc, ◌+◌, ◌*◌, ◌/◌, ◌%◌, ◌<◌, ◌≤◌, true, List, [], ◌∷◌, length, Some, None, refl, sym, ◌∙◌, lit<, arith}
+use Rattle.std.proofs.Common.{◌≡◌, ℕ, zero, suc, ◌+◌, ◌*◌, ◌/◌, ◌%◌, ◌<◌, ◌≤◌, true, List, [], ◌∷◌, length, Some, None}
+use Rattle.std.proofs.Common.{refl, sym, ◌∙◌, lit<, arith}
 use Rattle.std.specs.Prelude.{◌^◌, ◌&&◌}
 use Rattle.std.specs.Char.{is_ascii_digit, digit_value}
 use Rattle.std.specs.List.{list_all}
@@ -24,7 +25,12 @@ value_of_two n lt = rw (digit_value-byte (n / 10), digit_value-byte n) (omega ar
 
 -- four digits write each number below ten thousand
 pub value_of_four : (n : ℕ) → n < 10000 → digits_value 10 (last_digits 4 n) ≡ n
-value_of_four n lt = rw (digit_value-byte (n / 10 / 10 / 10), digit_value-byte (n / 10 / 10), digit_value-byte (n / 10), digit_value-byte n) (omega arith)
+value_of_four n lt = rw (
+  digit_value-byte (n / 10 / 10 / 10),
+  digit_value-byte (n / 10 / 10),
+  digit_value-byte (n / 10),
+  digit_value-byte n,
+) (omega arith)
 
 -- a digit is a byte from 48 to 57
 digit-range : (c : ℕ) → is_ascii_digit c ≡ true → (48 ≤ c) × (c ≤ 57)
@@ -61,12 +67,24 @@ four_again a b c d digits =
     let one : ℕ = 0 + digit_value a in
     let two : ℕ = one * 10 + digit_value b in
     let three : ℕ = two * 10 + digit_value c in
-    rw (before_last three d fourth.0, last_of three d fourth.0, before_last two c third.0, last_of two c third.0, before_last one b second.0, last_of one b second.0, first_of_all a first.0)
+    rw (
+      before_last three d fourth.0,
+      last_of three d fourth.0,
+      before_last two c third.0,
+      last_of two c third.0,
+      before_last one b second.0,
+      last_of one b second.0,
+      first_of_all a first.0,
+    )
 
 -- the last digits of a number are digits
 pub digits-last_digits : (k n : ℕ) → list_all is_ascii_digit (last_digits k n) ≡ true
 digits-last_digits zero n = refl
-digits-last_digits (suc k) n = rw (list_all-append is_ascii_digit (last_digits k (n / 10)) ((48 + n % 10) ∷ []), digits-last_digits k (n / 10)) (digit_byte n) where
+digits-last_digits (suc k) n = rw (
+  list_all-append is_ascii_digit (last_digits k (n / 10)) ((48 + n % 10) ∷ []),
+  digits-last_digits k (n / 10),
+) (digit_byte n) where
+  -- one digit's byte passes the test of digits
   digit_byte : (n : ℕ) → (true && (is_ascii_digit (48 + n % 10) && true)) ≡ true
   digit_byte n = grind (arith, nat_tests)
 
@@ -93,6 +111,7 @@ short_natural ds short = elim (natural ds) as (λ o. natural ds ≡ o → up_to 
 -- one digit or more write a number
 digits_are_some : (ds : List ℕ) → 0 < length ds → list_all is_ascii_digit ds ≡ true → natural ds ≡ None → ⊥
 digits_are_some ds some digits none = no_some _ (sym none ∙ natural-from ds some digits) where
+  -- what is none is not some
   no_some : (n : ℕ) → None ≡ Some n → ⊥
   no_some n e = absurd cc
 
@@ -100,5 +119,6 @@ digits_are_some ds some digits none = no_some _ (sym none ∙ natural-from ds so
 pub four_are_some : (n : ℕ) → natural (last_digits 4 n) ≡ None → ⊥
 four_are_some n = digits_are_some (last_digits 4 n) (omega arith) (digits-last_digits 4 n)
 
+-- the last two digits of a number write one
 pub two_are_some : (n : ℕ) → natural (last_digits 2 n) ≡ None → ⊥
 two_are_some n = digits_are_some (last_digits 2 n) (omega arith) (digits-last_digits 2 n)

@@ -12,20 +12,28 @@ use Rattle.ghcn_fields.proofs.DateTexts.{read_date-none}
 pub other_length : (bytes : List ℕ) → length bytes ≢ 10 → read_date bytes ≡ None
 other_length bytes other = read_date-none bytes (λ y m d e. absurd (other (ap length e)))
 
+-- nor is a text without its first dash
 pub no_first_dash : (bytes : List ℕ) → get_or bytes 4 0 ≢ 45 → read_date bytes ≡ None
 no_first_dash bytes other = read_date-none bytes (λ y m d e. absurd (other (ap (λ (xs : List ℕ). get_or xs 4 0) e)))
 
+-- nor one without its second
 pub no_second_dash : (bytes : List ℕ) → get_or bytes 7 0 ≢ 45 → read_date bytes ≡ None
 no_second_dash bytes other = read_date-none bytes (λ y m d e. absurd (other (ap (λ (xs : List ℕ). get_or xs 7 0) e)))
 
+-- nor one whose first four bytes write no number
 pub no_year : (bytes : List ℕ) → natural (take 4 bytes) ≡ None → read_date bytes ≡ None
-no_year bytes none = read_date-none bytes (λ y m d e. four_are_some y (ap (λ (xs : List ℕ). natural (take 4 xs)) (sym e) ∙ none))
+no_year bytes none = read_date-none bytes (λ y m d e.
+    four_are_some y (ap (λ (xs : List ℕ). natural (take 4 xs)) (sym e) ∙ none))
 
+-- nor one whose bytes of the month write none
 pub no_month : (bytes : List ℕ) → natural (take 2 (drop 5 bytes)) ≡ None → read_date bytes ≡ None
-no_month bytes none = read_date-none bytes (λ y m d e. two_are_some m (ap (λ (xs : List ℕ). natural (take 2 (drop 5 xs))) (sym e) ∙ none))
+no_month bytes none = read_date-none bytes (λ y m d e.
+    two_are_some m (ap (λ (xs : List ℕ). natural (take 2 (drop 5 xs))) (sym e) ∙ none))
 
+-- nor one whose bytes of the day write none
 pub no_day : (bytes : List ℕ) → natural (drop 8 bytes) ≡ None → read_date bytes ≡ None
-no_day bytes none = read_date-none bytes (λ y m d e. two_are_some d (ap (λ (xs : List ℕ). natural (drop 8 xs)) (sym e) ∙ none))
+no_day bytes none = read_date-none bytes (λ y m d e.
+    two_are_some d (ap (λ (xs : List ℕ). natural (drop 8 xs)) (sym e) ∙ none))
 
 -- the digits of year, month and day in a text of ten bytes
 pub year_digits : (text : List ℕ) → length text ≡ 10 → up_to (2 ^ 31) (natural (take 4 text)) ≡ natural (take 4 text)
@@ -35,19 +43,23 @@ year_digits text len = short_natural (take 4 text) (omega (arith, length-take-le
 month_length : (text : List ℕ) → length text ≡ 10 → length (take 2 (drop 5 text)) ≤ 2
 month_length text len = omega (arith, length-take-le 2 (drop 5 text) (omega (arith, length-drop 5 text)))
 
+-- the same of the month's two bytes
 pub month_digits : (text : List ℕ) → length text ≡ 10
     → up_to (2 ^ 31) (natural (take 2 (drop 5 text))) ≡ natural (take 2 (drop 5 text))
 month_digits text len = short_natural (take 2 (drop 5 text)) (omega (arith, month_length text len))
 
+-- and of the day's two
 pub day_digits : (text : List ℕ) → length text ≡ 10
     → up_to (2 ^ 31) (natural (take (length text - 8) (drop 8 text))) ≡ natural (drop 8 text)
 day_digits text len =
     let rest : take (length text - 8) (drop 8 text) ≡ drop 8 text = grind (arith, common_steps) in
-    ap (λ (ds : List ℕ). up_to (2 ^ 31) (natural ds)) rest ∙ short_natural (drop 8 text) (omega (arith, length-drop 8 text))
+    ap (λ (ds : List ℕ). up_to (2 ^ 31) (natural ds)) rest
+    ∙ short_natural (drop 8 text) (omega (arith, length-drop 8 text))
 
 -- a month and a day have two digits
 pub month-lt : (text : List ℕ) (n : ℕ) → length text ≡ 10 → natural (take 2 (drop 5 text)) ≡ Some n → n < 100
 month-lt text n len is = natural-lt (take 2 (drop 5 text)) n 2 is (month_length text len)
 
+-- the day too
 pub day-lt : (text : List ℕ) (n : ℕ) → length text ≡ 10 → natural (drop 8 text) ≡ Some n → n < 100
 day-lt text n len is = natural-lt (drop 8 text) n 2 is (omega (arith, length-drop 8 text))

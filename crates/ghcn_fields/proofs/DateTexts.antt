@@ -1,5 +1,6 @@
 -- Dates as texts: what is written is read, and what is read was written.
-use Rattle.std.proofs.Common.{◌≡◌, ◌↔◌, ℕ, ◌<◌, Bool, true, List, [], ◌∷◌, ◌++◌, length, take, drop, get_or, Option, Some, None, refl, sym, ap, ◌∙◌, inl, inr, arith, ℤ, pos}
+use Rattle.std.proofs.Common.{◌≡◌, ◌↔◌, ℕ, ◌<◌, Bool, true, List, [], ◌∷◌, ◌++◌, length, take, drop, get_or, Option}
+use Rattle.std.proofs.Common.{Some, None, refl, sym, ap, ◌∙◌, inl, inr, arith, ℤ, pos}
 use Rattle.std.specs.Prelude.{IsTrue, if◌then◌else◌}
 use Rattle.std.specs.Char.{is_ascii_digit}
 use Rattle.std.specs.List.{list_all, slice_range}
@@ -7,18 +8,17 @@ use Rattle.std.specs.Str.Parse.{digits_value}
 use Rattle.std.specs.Cmp.Lexicographic.{same_text}
 use Rattle.std.proofs.lemmas.Bool.{cases_Bool}
 use Rattle.std.proofs.lemmas.Cmp.{nat_list_eq_equiv}
-use Rattle.jiff_core.specs.Calendar.{days_from_civil}
 use Rattle.jiff_core.proofs.SignedLemmas.{signed_arith}
 use Rattle.jiff_core.proofs.CalendarLemmas.{days_in_month_bounds}
 use Rattle.ghcn_fields.specs.Bytes.{same_bytes}
 use Rattle.ghcn_fields.specs.Numbers.{natural}
 use Rattle.ghcn_fields.specs.NumberTexts.{last_digits}
-use Rattle.ghcn_fields.specs.Days.{is_day, day_number, is_date}
+use Rattle.ghcn_fields.specs.Days.{is_day, day_number}
 use Rattle.ghcn_fields.specs.Dates.{civil, date_bytes, date_text, read_date}
 use Rattle.ghcn_fields.proofs.Digits.{natural-some}
 use Rattle.ghcn_fields.proofs.CivilDates.{civil-is}
 use Rattle.ghcn_fields.proofs.DayNumbers.{is_day-date}
-use Rattle.ghcn_fields.proofs.WholeDays.{civil-date_of, day_number-civil, is_date-to_civil}
+use Rattle.ghcn_fields.proofs.WholeDays.{civil-date_of, day_number-civil, day_number-some, is_date-to_civil}
 use Rattle.ghcn_fields.proofs.DateDigits.{value_of_two, value_of_four, two_again, four_again}
 
 -- what is read where the bytes are the text of this year, month and day
@@ -31,13 +31,15 @@ same_bytes-refl bytes = nat_list_eq_equiv.refl bytes
 
 -- bytes that are the text of what they hold are read as that
 read_as-same : (bytes : List ℕ) (y m d : ℕ) → date_bytes (y, m, d) ≡ bytes → read_as bytes y m d ≡ day_number y m d
-read_as-same bytes y m d is = ap (λ (b : Bool). if b then day_number y m d else None) (ap (λ (xs : List ℕ). same_bytes xs bytes) is ∙ same_bytes-refl bytes)
+read_as-same bytes y m d is = ap (λ (b : Bool). if b then day_number y m d else None)
+    (ap (λ (xs : List ℕ). same_bytes xs bytes) is ∙ same_bytes-refl bytes)
 
 -- a text that is written as a date is read as one
 read_written : (y m d : ℕ) → y < 10000 → m < 100 → d < 100 → read_date (date_bytes (y, m, d)) ≡ day_number y m d
 read_written y m d year month day =
     let bytes : List ℕ = date_bytes (y, m, d) in
-    ap (λ (n : ℕ). read_as bytes n (digits_value 10 (last_digits 2 m)) (digits_value 10 (last_digits 2 d))) (value_of_four y year)
+    ap (λ (n : ℕ). read_as bytes n (digits_value 10 (last_digits 2 m)) (digits_value 10 (last_digits 2 d)))
+    (value_of_four y year)
     ∙ ap (λ (n : ℕ). read_as bytes y n (digits_value 10 (last_digits 2 d))) (value_of_two m month)
     ∙ ap (λ (n : ℕ). read_as bytes y m n) (value_of_two d day)
     ∙ read_as-same bytes y m d refl
@@ -45,11 +47,16 @@ read_written y m d year month day =
 -- digits in the places of a date are read as their numbers
 read_digits : (a b c e f g h i : ℕ) → list_all is_ascii_digit (a ∷ b ∷ c ∷ e ∷ []) ≡ true
     → list_all is_ascii_digit (f ∷ g ∷ []) ≡ true → list_all is_ascii_digit (h ∷ i ∷ []) ≡ true
-    → read_date (a ∷ b ∷ c ∷ e ∷ 45 ∷ f ∷ g ∷ 45 ∷ h ∷ i ∷ []) ≡ day_number (digits_value 10 (a ∷ b ∷ c ∷ e ∷ [])) (digits_value 10 (f ∷ g ∷ [])) (digits_value 10 (h ∷ i ∷ []))
+    → read_date (a ∷ b ∷ c ∷ e ∷ 45 ∷ f ∷ g ∷ 45 ∷ h ∷ i ∷ [])
+    ≡ day_number (digits_value 10 (a ∷ b ∷ c ∷ e ∷ [])) (digits_value 10 (f ∷ g ∷ []))
+    (digits_value 10 (h ∷ i ∷ []))
 read_digits a b c e f g h i year month day =
-    read_as-same (a ∷ b ∷ c ∷ e ∷ 45 ∷ f ∷ g ∷ 45 ∷ h ∷ i ∷ []) (digits_value 10 (a ∷ b ∷ c ∷ e ∷ [])) (digits_value 10 (f ∷ g ∷ [])) (digits_value 10 (h ∷ i ∷ []))
-    (ap (λ (xs : List ℕ). xs ++ 45 ∷ last_digits 2 (digits_value 10 (f ∷ g ∷ [])) ++ 45 ∷ last_digits 2 (digits_value 10 (h ∷ i ∷ []))) (four_again a b c e year)
-    ∙ ap (λ (xs : List ℕ). (a ∷ b ∷ c ∷ e ∷ []) ++ 45 ∷ xs ++ 45 ∷ last_digits 2 (digits_value 10 (h ∷ i ∷ []))) (two_again f g month)
+    read_as-same (a ∷ b ∷ c ∷ e ∷ 45 ∷ f ∷ g ∷ 45 ∷ h ∷ i ∷ []) (digits_value 10 (a ∷ b ∷ c ∷ e ∷ []))
+    (digits_value 10 (f ∷ g ∷ [])) (digits_value 10 (h ∷ i ∷ []))
+    (ap (λ (xs : List ℕ). xs ++ 45 ∷ last_digits 2 (digits_value 10 (f ∷ g ∷ []))
+    ++ 45 ∷ last_digits 2 (digits_value 10 (h ∷ i ∷ []))) (four_again a b c e year)
+    ∙ ap (λ (xs : List ℕ). (a ∷ b ∷ c ∷ e ∷ []) ++ 45 ∷ xs ++ 45 ∷ last_digits 2 (digits_value 10 (h ∷ i ∷ [])))
+    (two_again f g month)
     ∙ ap (λ (xs : List ℕ). (a ∷ b ∷ c ∷ e ∷ []) ++ 45 ∷ (f ∷ g ∷ []) ++ 45 ∷ xs) (two_again h i day))
 
 -- the same of a text by its parts
@@ -60,8 +67,10 @@ read_date-parts (a ∷ b ∷ c ∷ e ∷ s ∷ f ∷ g ∷ t ∷ h ∷ i ∷ [])
     let ys = natural-some (a ∷ b ∷ c ∷ e ∷ []) y year in
     let ms = natural-some (f ∷ g ∷ []) m month in
     let ds = natural-some (h ∷ i ∷ []) d day in
-    let dashes : ◌≡◌ {A = List ℕ} (a ∷ b ∷ c ∷ e ∷ s ∷ f ∷ g ∷ t ∷ h ∷ i ∷ []) (a ∷ b ∷ c ∷ e ∷ 45 ∷ f ∷ g ∷ 45 ∷ h ∷ i ∷ []) =
-    ap (λ (n : ℕ). a ∷ b ∷ c ∷ e ∷ n ∷ f ∷ g ∷ t ∷ h ∷ i ∷ []) first ∙ ap (λ (n : ℕ). a ∷ b ∷ c ∷ e ∷ 45 ∷ f ∷ g ∷ n ∷ h ∷ i ∷ []) second in
+    let dashes : ◌≡◌ {A = List ℕ} (a ∷ b ∷ c ∷ e ∷ s ∷ f ∷ g ∷ t ∷ h ∷ i ∷ [])
+    (a ∷ b ∷ c ∷ e ∷ 45 ∷ f ∷ g ∷ 45 ∷ h ∷ i ∷ []) =
+    ap (λ (n : ℕ). a ∷ b ∷ c ∷ e ∷ n ∷ f ∷ g ∷ t ∷ h ∷ i ∷ []) first
+    ∙ ap (λ (n : ℕ). a ∷ b ∷ c ∷ e ∷ 45 ∷ f ∷ g ∷ n ∷ h ∷ i ∷ []) second in
     ap read_date dashes ∙ read_digits a b c e f g h i ys.1 ms.1 ds.1
     ∙ ap (λ (n : ℕ). day_number n (digits_value 10 (f ∷ g ∷ [])) (digits_value 10 (h ∷ i ∷ []))) (sym ys.2)
     ∙ ap (λ (n : ℕ). day_number y n (digits_value 10 (h ∷ i ∷ []))) (sym ms.2)
@@ -79,14 +88,6 @@ read_date-none bytes no_date =
       | inr other ↦ ap (λ (b : Bool). if b then day_number y m d else None) other
     ]
 
--- a day that is found is a date, and has its number
-day_number-some : (y m d : ℕ) (day : ℤ) → day_number y m d ≡ Some day
-    → (is_date y m d ≡ true) × (days_from_civil (pos y) m d ≡ day)
-day_number-some y m d day e = elim (cases_Bool (is_date y m d)) [
-  | inl is ↦ let here = rw is at e in (is, cc)
-  | inr other ↦ let here = rw other at e in absurd cc
-]
-
 -- what is read as a date was written for its day
 read_back : (bytes : List ℕ) (y m d : ℕ) (day : ℤ) → read_as bytes y m d ≡ Some day
     → (is_day day ≡ true) × (bytes ≡ date_text day)
@@ -98,7 +99,8 @@ read_back bytes y m d day e = elim (cases_Bool (same_bytes (date_bytes (y, m, d)
         ap is_day (sym number.1) ∙ is_day-date (pos y) m d date.2 (omega (arith, signed_arith, date.0)),
         sym written ∙ ap date_bytes (sym (civil-is y m d date.2 date.0 date.1)) ∙ ap date_text number.1,
       )
-  | inr other ↦ let none : read_as bytes y m d ≡ None = ap (λ (b : Bool). if b then day_number y m d else None) other in absurd cc
+  | inr other ↦ let none : read_as bytes y m d ≡ None =
+      ap (λ (b : Bool). if b then day_number y m d else None) other in absurd cc
 ]
 
 -- what is written for a day is read as it
@@ -115,7 +117,8 @@ read_text day is =
 pub read_date-law : (bytes : List ℕ) (day : ℤ)
     → (read_date bytes ≡ Some day) ↔ ((is_day day ≡ true) × (bytes ≡ date_text day))
 read_date-law bytes day = (
-  read_back bytes (digits_value 10 (slice_range bytes 0 4)) (digits_value 10 (slice_range bytes 5 7)) (digits_value 10 (slice_range bytes 8 10)) day,
+  read_back bytes (digits_value 10 (slice_range bytes 0 4)) (digits_value 10 (slice_range bytes 5 7))
+      (digits_value 10 (slice_range bytes 8 10)) day,
   λ h. ap read_date h.1 ∙ read_text day h.0,
 )
 

@@ -1,5 +1,7 @@
 -- Which number a text spells, and how it is found.
-use Rattle.std.proofs.Common.{◌≡◌, ℕ, ◌+◌, ◌-◌, ◌*◌, ◌^◌, ◌<◌, ◌≤◌, Bool, true, false, List, [], ◌∷◌, ◌++◌, length, take, drop, get_or, Option, Some, None, refl, sym, ap, ◌∙◌, subst, inl, inr, append_assoc, arith, ℤ}
+use Rattle.std.proofs.Common.{◌≡◌, ℕ, ◌+◌, ◌-◌, ◌*◌, ◌^◌, ◌<◌, ◌≤◌, Bool, true, false, List, [], ◌∷◌, ◌++◌, length}
+use Rattle.std.proofs.Common.{take, drop, get_or, Option, Some, None, refl, sym, ap, ◌∙◌, subst, inl, inr, append_assoc}
+use Rattle.std.proofs.Common.{arith, ℤ}
 use Rattle.std.specs.Prelude.{nat_le, ◌==◌, if◌then◌else◌}
 use Rattle.std.specs.List.{list_all, list_any, before_first, after_first, position_or_len}
 use Rattle.std.specs.Option.{option_map}
@@ -15,6 +17,7 @@ use Rattle.ghcn_fields.specs.Numbers.{natural, joined, decimal_number, with_sign
 use Rattle.ghcn_fields.specs.Fields.{part_text, sign_text, Spells}
 use Rattle.ghcn_fields.proofs.Digits.{natural-some, natural-from}
 
+-- a point
 abbrev is_point : ℕ → Bool
 is_point b = b == 46
 
@@ -22,12 +25,14 @@ is_point b = b == 46
 no_point_digit : (d : ℕ) → is_ascii_digit d ≡ true → is_point d ≡ false
 no_point_digit d is = grind (arith, nat_tests)
 
+-- digits alone have no point
 no_point : (ds : List ℕ) → list_all is_ascii_digit ds ≡ true → list_any is_point ds ≡ false
 no_point [] digits = refl
 no_point (d ∷ ds) digits =
     let parts = and_parts (is_ascii_digit d) (list_all is_ascii_digit ds) digits in
     rw (no_point_digit d parts.0) (no_point ds parts.1)
 
+-- the first point stands behind the digits before it
 point_at : (ds rest : List ℕ) → list_all is_ascii_digit ds ≡ true
     → position_or_len is_point (ds ++ 46 ∷ rest) ≡ length ds
 point_at [] rest digits = refl
@@ -35,6 +40,7 @@ point_at (d ∷ ds) rest digits =
     let parts = and_parts (is_ascii_digit d) (list_all is_ascii_digit ds) digits in
     rw (no_point_digit d parts.0) (omega (arith, point_at ds rest parts.1))
 
+-- a text with a point has one
 has_point : (ds rest : List ℕ) → list_any is_point (ds ++ 46 ∷ rest) ≡ true
 has_point [] rest = refl
 has_point (d ∷ ds) rest = elim (cases_Bool (is_point d)) [
@@ -52,6 +58,7 @@ pub record Writes (places : ℕ) (text : List ℕ) (n : ℕ) : Type 0 where
   pub few : length part ≤ places
   pub value : n ≡ digits_value 10 whole * 10 ^ places + digits_value 10 part * 10 ^ (places - length part)
 
+-- a whole part and a part behind the point write n together
 record AreJoined (places : ℕ) (whole part : Option ℕ) (len n : ℕ) : Type 0 where
   front : ℕ
   behind : ℕ
@@ -60,25 +67,37 @@ record AreJoined (places : ℕ) (whole part : Option ℕ) (len n : ℕ) : Type 0
   few : len ≤ places
   value : n ≡ front * 10 ^ places + behind * 10 ^ (places - len)
 
+-- a number that is joined has both parts
 joined-some : (places len n : ℕ) (whole part : Option ℕ) → joined places whole part len ≡ Some n
     → AreJoined places whole part len n
 joined-some places len n None part e = absurd cc
 joined-some places len n (Some w) None e = absurd cc
 joined-some places len n (Some w) (Some p) e = elim (cases_Bool (nat_le len places)) [
-  | inl few ↦ let is = rw few at e in record { front = w; behind = p; whole_is = refl; part_is = refl; few = le_of few; value = cc }
+  | inl few ↦ let is = rw few at e in record {
+    front = w;
+    behind = p;
+    whole_is = refl;
+    part_is = refl;
+    few = le_of few;
+    value = cc;
+  }
   | inr many ↦ let is = rw many at e in absurd cc
 ] where
+  -- an order from its test
   le_of : {m n : ℕ} → nat_le m n ≡ true → m ≤ n
   le_of {m = m} {n = n} e = grind (arith, nat_tests)
 
+-- digits behind a point are written with it
 part_text-some : (part : List ℕ) → 1 ≤ length part → part_text part ≡ 46 ∷ part
 part_text-some [] some = absurd (omega arith)
 part_text-some (d ∷ ds) some = refl
 
+-- what is mapped was there
 map-some : (f : ℕ → ℕ) (o : Option ℕ) (n : ℕ) → option_map f o ≡ Some n → (m : ℕ) × (o ≡ Some m) × (n ≡ f m)
 map-some f None n e = absurd cc
 map-some f (Some m) n e = (m, refl, cc)
 
+-- a point that is there stands before the end
 point_before_end : (text : List ℕ) → list_any is_point text ≡ true → position_or_len is_point text < length text
 point_before_end [] e = absurd cc
 point_before_end (b ∷ bytes) e = elim (cases_Bool (is_point b)) [
@@ -86,6 +105,7 @@ point_before_end (b ∷ bytes) e = elim (cases_Bool (is_point b)) [
   | inr later ↦ let rest = rw later at e in rw later (omega (arith, point_before_end bytes rest))
 ]
 
+-- a point is the byte 46
 is_46 : (b : ℕ) → is_point b ≡ true → b ≡ 46
 is_46 b e = grind (arith, nat_tests)
 
@@ -105,7 +125,8 @@ writes-from_decimal_number places text n e = elim (cases_Bool (list_any is_point
       record {
         whole = front;
         part = behind;
-        parts = split_at_first is_point text 0 low ∙ ap (λ (b : ℕ). front ++ b ∷ behind) at ∙ ap (λ (xs : List ℕ). front ++ xs) (sym (part_text-some behind p.0));
+        parts = split_at_first is_point text 0 low ∙ ap (λ (b : ℕ). front ++ b ∷ behind) at
+            ∙ ap (λ (xs : List ℕ). front ++ xs) (sym (part_text-some behind p.0));
         some_digit = w.0;
         digits = list_all-append is_ascii_digit front behind ∙ rw (w.1, p.1);
         few = j.few;
@@ -126,9 +147,11 @@ writes-from_decimal_number places text n e = elim (cases_Bool (list_any is_point
       }
 ]
 
+-- a whole part and a part behind the point are read as their number
 read_parts : (places : ℕ) (whole part : List ℕ) → 1 ≤ length whole → list_all is_ascii_digit whole ≡ true
     → list_all is_ascii_digit part ≡ true → length part ≤ places
-    → decimal_number places (whole ++ part_text part) ≡ Some (digits_value 10 whole * 10 ^ places + digits_value 10 part * 10 ^ (places - length part))
+    → decimal_number places (whole ++ part_text part)
+    ≡ Some (digits_value 10 whole * 10 ^ places + digits_value 10 part * 10 ^ (places - length part))
 read_parts places whole [] some digits more few =
     ap (decimal_number places) (append-nil whole)
     ∙ rw (no_point whole digits, natural-from whole some digits) (ap (λ (k : ℕ). Some k) (omega arith))
@@ -136,13 +159,19 @@ read_parts places whole (d ∷ ds) some digits more few =
     let text : List ℕ = whole ++ 46 ∷ d ∷ ds in
     let front : take (length whole) text ≡ whole = take-append_seam whole (46 ∷ d ∷ ds) in
     let behind : drop (length whole + 1) text ≡ d ∷ ds = drop-append-add whole (46 ∷ d ∷ ds) 1 in
-    ap (λ (b : Bool). if b then joined places (natural (before_first is_point text)) (natural (after_first is_point text)) (length (after_first is_point text)) else option_map (λ n. n * 10 ^ places) (natural text)) (has_point whole (d ∷ ds))
-    ∙ ap (λ (k : ℕ). joined places (natural (take k text)) (natural (drop (k + 1) text)) (length (drop (k + 1) text))) (point_at whole (d ∷ ds) digits)
-    ∙ ap (λ (xs : List ℕ). joined places (natural xs) (natural (drop (length whole + 1) text)) (length (drop (length whole + 1) text))) front
+    ap (λ (b : Bool). if b then joined places (natural (before_first is_point text))
+    (natural (after_first is_point text)) (length (after_first is_point text)) else option_map
+    (λ n. n * 10 ^ places) (natural text)) (has_point whole (d ∷ ds))
+    ∙ ap (λ (k : ℕ). joined places (natural (take k text)) (natural (drop (k + 1) text))
+    (length (drop (k + 1) text))) (point_at whole (d ∷ ds) digits)
+    ∙ ap (λ (xs : List ℕ). joined places (natural xs) (natural (drop (length whole + 1) text))
+    (length (drop (length whole + 1) text))) front
     ∙ ap (λ (xs : List ℕ). joined places (natural whole) (natural xs) (length xs)) behind
     ∙ ap (λ (o : Option ℕ). joined places o (natural (d ∷ ds)) (length (d ∷ ds))) (natural-from whole some digits)
-    ∙ ap (λ (o : Option ℕ). joined places (Some (digits_value 10 whole)) o (length (d ∷ ds))) (natural-from (d ∷ ds) (omega arith) more)
-    ∙ ap (λ (b : Bool). if b then Some (digits_value 10 whole * 10 ^ places + digits_value 10 (d ∷ ds) * 10 ^ (places - length (d ∷ ds))) else None) (few_enough few)
+    ∙ ap (λ (o : Option ℕ). joined places (Some (digits_value 10 whole)) o (length (d ∷ ds)))
+    (natural-from (d ∷ ds) (omega arith) more)
+    ∙ ap (λ (b : Bool). if b then Some (digits_value 10 whole * 10 ^ places + digits_value 10 (d ∷ ds) * 10 ^
+    (places - length (d ∷ ds))) else None) (few_enough few)
   where
     few_enough : {m n : ℕ} → m ≤ n → nat_le m n ≡ true
     few_enough {m = m} {n = n} e = grind (arith, nat_tests)
@@ -151,30 +180,37 @@ read_parts places whole (d ∷ ds) some digits more few =
 pub decimal_number-from_writes : (places : ℕ) (text : List ℕ) (n : ℕ) → Writes places text n
     → decimal_number places text ≡ Some n
 decimal_number-from_writes places text n w =
-    let digits = and_parts (list_all is_ascii_digit w.whole) (list_all is_ascii_digit w.part) (sym (list_all-append is_ascii_digit w.whole w.part) ∙ w.digits) in
-    ap (decimal_number places) w.parts ∙ read_parts places w.whole w.part w.some_digit digits.0 digits.1 w.few ∙ ap (λ (k : ℕ). Some k) (sym w.value)
+    let digits = and_parts (list_all is_ascii_digit w.whole) (list_all is_ascii_digit w.part)
+    (sym (list_all-append is_ascii_digit w.whole w.part) ∙ w.digits) in
+    ap (decimal_number places) w.parts ∙ read_parts places w.whole w.part w.some_digit digits.0 digits.1 w.few
+    ∙ ap (λ (k : ℕ). Some k) (sym w.value)
 
+-- a number with a sign had a magnitude
 map_sign-some : (negative : Bool) (o : Option ℕ) (v : ℤ) → option_map (with_sign negative) o ≡ Some v
     → (n : ℕ) × (o ≡ Some n) × (v ≡ with_sign negative n)
 map_sign-some negative None v e = absurd cc
 map_sign-some negative (Some n) v e = (n, refl, cc)
 
+-- a text that writes n spells it with either sign
 spells_by : (places : ℕ) (negative : Bool) (text : List ℕ) (n : ℕ) (v : ℤ) → Writes places text n
     → v ≡ with_sign negative n → Spells places (sign_text negative ++ text) v
 spells_by places negative text n v w is = record {
   negative = negative;
   whole = w.whole;
   part = w.part;
-  parts = ap (λ (xs : List ℕ). sign_text negative ++ xs) w.parts ∙ sym (append_assoc (sign_text negative) w.whole (part_text w.part));
+  parts = ap (λ (xs : List ℕ). sign_text negative ++ xs) w.parts
+      ∙ sym (append_assoc (sign_text negative) w.whole (part_text w.part));
   some_digit = w.some_digit;
   digits = w.digits;
   few = w.few;
   value = is ∙ ap (with_sign negative) w.value;
 }
 
+-- any other byte is no minus
 no_minus : (b : ℕ) → (b ≡ 45 → ⊥) → (b == 45) ≡ false
 no_minus b other = grind (arith, nat_tests)
 
+-- a digit is no minus
 no_minus_digit : (b : ℕ) → is_ascii_digit b ≡ true → (b == 45) ≡ false
 no_minus_digit b is = grind (arith, nat_tests)
 
@@ -194,21 +230,33 @@ spells-from_signed places (b ∷ bytes) v e = elim (cases_eq b 45) [
       spells_by places false (b ∷ bytes) m.0 v (writes-from_decimal_number places (b ∷ bytes) m.0 m.1) m.2
 ]
 
+-- a sign and a text that writes n are read as n with that sign
 signed_parts : (places : ℕ) (negative : Bool) (whole part : List ℕ) (n : ℕ)
     → Writes places (whole ++ part_text part) n → 1 ≤ length whole → list_all is_ascii_digit (whole ++ part) ≡ true
     → signed_by (decimal_number places) (sign_text negative ++ whole ++ part_text part) ≡ Some (with_sign negative n)
-signed_parts places true whole part n w some digits = ap (option_map (with_sign true)) (decimal_number-from_writes places (whole ++ part_text part) n w)
+signed_parts places true whole part n w some digits =
+    ap (option_map (with_sign true)) (decimal_number-from_writes places (whole ++ part_text part) n w)
 signed_parts places false [] part n w some digits = absurd (omega arith)
 signed_parts places false (b ∷ bytes) part n w some digits =
     let first = and_parts (is_ascii_digit b) (list_all is_ascii_digit (bytes ++ part)) digits in
-    rw (no_minus_digit b first.0) (ap (option_map (with_sign false)) (decimal_number-from_writes places (b ∷ bytes ++ part_text part) n w))
+    rw (no_minus_digit b first.0) (ap (option_map (with_sign false))
+    (decimal_number-from_writes places (b ∷ bytes ++ part_text part) n w))
 
 -- what is spelled is found
 pub signed-from_spells : (places : ℕ) (text : List ℕ) (v : ℤ) → Spells places text v
     → signed_by (decimal_number places) text ≡ Some v
 signed-from_spells places text v s =
     let n : ℕ = digits_value 10 s.whole * 10 ^ places + digits_value 10 s.part * 10 ^ (places - length s.part) in
-    let writes : Writes places (s.whole ++ part_text s.part) n = record { whole = s.whole; part = s.part; parts = refl; some_digit = s.some_digit; digits = s.digits; few = s.few; value = refl } in
+    let writes : Writes places (s.whole ++ part_text s.part) n =
+    record {
+      whole = s.whole;
+      part = s.part;
+      parts = refl;
+      some_digit = s.some_digit;
+      digits = s.digits;
+      few = s.few;
+      value = refl;
+    } in
     ap (signed_by (decimal_number places)) s.parts
     ∙ signed_parts places s.negative s.whole s.part n writes s.some_digit s.digits
     ∙ ap (λ (z : ℤ). Some z) (sym s.value)
@@ -232,7 +280,8 @@ natural-from_writes text n whole (d ∷ ds) parts some digits few value = absurd
 -- so the number is that of the digits
 pub decimal_number-zero : (text : List ℕ) → decimal_number 0 text ≡ natural text
 decimal_number-zero text = same_number (decimal_number 0 text) (natural text)
-    (λ n e. let w = writes-from_decimal_number 0 text n e in natural-from_writes text n w.whole w.part w.parts w.some_digit w.digits w.few w.value)
+    (λ n e. let w = writes-from_decimal_number 0 text n e in
+    natural-from_writes text n w.whole w.part w.parts w.some_digit w.digits w.few w.value)
     (λ n e. let w = natural-some text n e in decimal_number-from_writes 0 text n (record {
       whole = text;
       part = [];
@@ -243,6 +292,7 @@ decimal_number-zero text = same_number (decimal_number 0 text) (natural text)
       value = omega (arith, w.2);
     }))
 
+-- the same behind an optional minus
 pub signed_by-zero : (text : List ℕ) → signed_by (decimal_number 0) text ≡ signed_by natural text
 signed_by-zero [] = refl
 signed_by-zero (b ∷ bytes) = rw (decimal_number-zero bytes, decimal_number-zero (b ∷ bytes))

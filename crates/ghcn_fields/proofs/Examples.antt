@@ -11,25 +11,34 @@ use Rattle.ghcn_fields.specs.Fields.{HasNumber}
 use Rattle.ghcn_fields.specs.Days.{day_number, block_of}
 use Rattle.ghcn_fields.specs.Dates.{civil, year_and_rest, month_and_day, date_text, read_date}
 
+-- a field with a blank between digits is bad
 blanks_inside : int_field (codes "12 34") ≡ Bad
 blanks_inside = refl
 
+-- a minus before a zero is read
 minus_zero : int_field (codes "   -0") ≡ Number (pos 0)
 minus_zero = refl
 
+-- the number of a missing value
 missing : int_field (codes "-9999") ≡ Number (negsuc 9998)
 missing = refl
 
+-- blanks alone, or nothing
 all_blank : (int_field (codes "     ") ≡ Blank) × (int_field [] ≡ Blank)
 all_blank = (refl, refl)
 
+-- the greatest number, and one past it
 too_large : (int_field (codes "2147483648") ≡ Bad) × (int_field (codes "2147483647") ≡ Number (pos 2147483647))
 too_large = (refl, refl)
 
+-- the least number, and one past it
 least : (int_field (codes "-2147483648") ≡ Number (negsuc 2147483647)) × (int_field (codes "-2147483649") ≡ Bad)
 least = (refl, refl)
 
-scaled : (scaled_field 4 (codes " 10.0000") ≡ Number (pos 100000)) × (scaled_field 4 (codes "-91") ≡ Number (neg_ℤ (pos 910000))) × (scaled_field 1 (codes "100.") ≡ Bad) × (scaled_field 1 (codes "  2.55") ≡ Bad)
+-- numbers with places
+scaled : (scaled_field 4 (codes " 10.0000") ≡ Number (pos 100000))
+    × (scaled_field 4 (codes "-91") ≡ Number (neg_ℤ (pos 910000))) × (scaled_field 1 (codes "100.") ≡ Bad)
+    × (scaled_field 1 (codes "  2.55") ≡ Bad)
 scaled = (refl, refl, refl, refl)
 
 -- the definition by a reader and the one by a relation at one field
@@ -38,58 +47,84 @@ has_tenths = record {
   blanks = 1;
   text = codes "-0.5";
   parts = refl;
-  spells = record { negative = true; whole = codes "0"; part = codes "5"; parts = refl; some_digit = lit≤ tt; digits = refl; few = lit≤ tt; value = refl };
+  spells = record {
+    negative = true;
+    whole = codes "0";
+    part = codes "5";
+    parts = refl;
+    some_digit = lit≤ tt;
+    digits = refl;
+    few = lit≤ tt;
+    value = refl;
+  };
 }
 
+-- a return before a line feed, an empty line, a last line without an end
 three_lines : lines (97 ∷ 13 ∷ 10 ∷ 10 ∷ 98 ∷ []) ≡ codes "a" ∷ [] ∷ codes "b" ∷ []
 three_lines = refl
 
+-- the same with their numbers
 three_numbers : numbered_lines (97 ∷ 13 ∷ 10 ∷ 10 ∷ 98 ∷ []) ≡ (1, codes "a") ∷ (2, []) ∷ (3, codes "b") ∷ []
 three_numbers = refl
 
+-- a return at the end of the last line is taken off
 last_return : lines (97 ∷ 10 ∷ 98 ∷ 13 ∷ []) ≡ codes "a" ∷ codes "b" ∷ []
 last_return = refl
 
+-- columns inside a line and past its end
 cut_columns : (columns 2 3 (codes "abc") ≡ codes "bc") × (columns 3 5 (codes "abc") ≡ codes "c  ")
 cut_columns = (refl, refl)
 
+-- half below zero
 tenths_text : tenths (negsuc 4) ≡ codes "-0.5"
 unfolding digits
 tenths_text = refl
 
+-- a whole number below zero
 whole_text : whole (negsuc 9998) ≡ codes "-9999"
 unfolding digits
 whole_text = refl
 
+-- degrees with four decimals
 four_places_text : four_places (neg_ℤ (pos 910000)) ≡ codes "-91.0000"
 unfolding digits
 four_places_text = refl
 
+-- 1900 was no leap year
 no_leap_day : day_number 1900 2 29 ≡ None
 no_leap_day = refl
 
-numbered : (day_number 1970 1 1 ≡ Some (pos 0)) × (day_number 2020 7 1 ≡ Some (pos 18444)) × (day_number 1 1 1 ≡ Some (neg_ℤ (pos 719162)))
+-- three days with their numbers
+numbered : (day_number 1970 1 1 ≡ Some (pos 0)) × (day_number 2020 7 1 ≡ Some (pos 18444))
+    × (day_number 1 1 1 ≡ Some (neg_ℤ (pos 719162)))
 unfolding days_from_civil day_count days_of_years days_of_months
 numbered = (refl, refl, refl)
 
+-- the last day
 last_numbered : day_number 9999 12 31 ≡ Some (pos 2932896)
 unfolding days_from_civil day_count days_of_years days_of_months
 last_numbered = refl
 
+-- two numbers with their dates
 dated : (civil (pos 18444) ≡ (2020, 7, 1)) × (civil (negsuc 0) ≡ (1969, 12, 31))
 unfolding year_and_rest month_and_day
 dated = (refl, refl)
 
+-- a date as a text
 written : date_text (pos 18444) ≡ codes "2020-07-01"
 unfolding year_and_rest month_and_day
 written = refl
 
+-- a text as a date
 read : read_date (codes "2020-07-01") ≡ Some (pos 18444)
 unfolding days_from_civil day_count days_of_years days_of_months
 read = refl
 
-not_read : (read_date (codes "2019-02-29") ≡ None) × (read_date (codes "2020-7-1") ≡ None) × (read_date (codes "2020-07-01 ") ≡ None)
+-- texts that are no dates
+not_read : (read_date (codes "2019-02-29") ≡ None) × (read_date (codes "2020-7-1") ≡ None)
+    × (read_date (codes "2020-07-01 ") ≡ None)
 not_read = (refl, refl, refl)
 
+-- blocks after and before 1970
 blocks : (block_of (pos 18444) ≡ pos 576) × (block_of (negsuc 0) ≡ negsuc 0)
 blocks = (refl, refl)

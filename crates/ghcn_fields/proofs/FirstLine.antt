@@ -1,5 +1,6 @@
 -- The first line of a text, and the lines after it.
-use Rattle.std.proofs.Common.{◌≡◌, ℕ, ◌+◌, ◌<◌, Bool, false, List, [], ◌∷◌, length, take, drop, All, Some, None, refl, sym, ap, ◌∙◌, arith}
+use Rattle.std.proofs.Common.{◌≡◌, ℕ, ◌+◌, ◌<◌, Bool, false, List, [], ◌∷◌, length, take, drop, All, Some, None, refl}
+use Rattle.std.proofs.Common.{sym, ap, ◌∙◌, arith}
 use Rattle.std.specs.Prelude.{map, ◌==◌}
 use Rattle.std.specs.List.{slice_split, position_or_len, enumerate_from}
 use Rattle.std.specs.Str.Lines.{strip_carriage_return}
@@ -10,13 +11,16 @@ use Rattle.std.proofs.lemmas.List.Sums.{position_or_len_is, fails_before_first}
 use Rattle.memchr.specs.Find.{IsFirstByte, is_byte}
 use Rattle.ghcn_fields.specs.Lines.{lines, without_empty_last}
 
+-- a line feed
 abbrev is_line_feed : ℕ → Bool
 is_line_feed b = b == 10
 
+-- a part that others follow stays
 keeps : (x : List ℕ) (ys : List (List ℕ)) → 0 < length ys → without_empty_last (x ∷ ys) ≡ x ∷ without_empty_last ys
 keeps x [] h = absurd (omega arith)
 keeps x (y ∷ ys) h = refl
 
+-- a last part that isn't empty stays
 alone : (x : List ℕ) → 0 < length x → without_empty_last (x ∷ []) ≡ x ∷ []
 alone x h = grind (arith, nat_tests)
 
@@ -25,10 +29,14 @@ pub lines-first : (bytes : List ℕ) (end : ℕ) → IsFirstByte (is_byte 10) by
     → lines bytes ≡ strip_carriage_return (take end bytes) ∷ lines (drop (end + 1) bytes)
 lines-first bytes end first =
     let high : end < length bytes = first.0.high in
-    let at : position_or_len is_line_feed bytes ≡ end = position_or_len_is is_line_feed bytes end 0 (omega arith) (λ k lt. false_from_ne_true _ (first.0.before k (omega arith) lt)) (λ _. first.1) in
+    let at : position_or_len is_line_feed bytes ≡ end =
+    position_or_len_is is_line_feed bytes end 0 (omega arith)
+    (λ k lt. false_from_ne_true _ (first.0.before k (omega arith) lt)) (λ _. first.1) in
     let parts : slice_split is_line_feed bytes ≡ take end bytes ∷ slice_split is_line_feed (drop (end + 1) bytes) =
-    slice_split_first is_line_feed bytes 0 (omega (arith, at, high)) ∙ ap (λ (n : ℕ). take n bytes ∷ slice_split is_line_feed (drop (n + 1) bytes)) at in
-    let more : 0 < length (slice_split is_line_feed (drop (end + 1) bytes)) = omega (arith, length-slice_split is_line_feed (drop (end + 1) bytes)) in
+    slice_split_first is_line_feed bytes 0 (omega (arith, at, high))
+    ∙ ap (λ (n : ℕ). take n bytes ∷ slice_split is_line_feed (drop (n + 1) bytes)) at in
+    let more : 0 < length (slice_split is_line_feed (drop (end + 1) bytes)) =
+    omega (arith, length-slice_split is_line_feed (drop (end + 1) bytes)) in
     ap (λ (ps : List (List ℕ)). map strip_carriage_return (without_empty_last ps)) parts
     ∙ ap (map strip_carriage_return) (keeps (take end bytes) (slice_split is_line_feed (drop (end + 1) bytes)) more)
 
@@ -36,9 +44,13 @@ lines-first bytes end first =
 pub lines-last : (bytes : List ℕ) → 0 < length bytes → IsFirstByte (is_byte 10) bytes None
     → lines bytes ≡ strip_carriage_return bytes ∷ []
 lines-last bytes some nowhere =
-    let at : position_or_len is_line_feed bytes ≡ length bytes = position_or_len_is is_line_feed bytes (length bytes) 0 (omega arith) (λ k lt. false_from_ne_true _ (nowhere k (omega arith) lt)) (λ lt. absurd (omega arith)) in
-    let none : All (λ b. is_line_feed b ≡ false) bytes = λ k d lt. fails_before_first is_line_feed bytes k d (omega (arith, at)) in
-    ap (λ (ps : List (List ℕ)). map strip_carriage_return (without_empty_last ps)) (slice_split_none is_line_feed bytes none)
+    let at : position_or_len is_line_feed bytes ≡ length bytes =
+    position_or_len_is is_line_feed bytes (length bytes) 0 (omega arith)
+    (λ k lt. false_from_ne_true _ (nowhere k (omega arith) lt)) (λ lt. absurd (omega arith)) in
+    let none : All (λ b. is_line_feed b ≡ false) bytes =
+    λ k d lt. fails_before_first is_line_feed bytes k d (omega (arith, at)) in
+    ap (λ (ps : List (List ℕ)). map strip_carriage_return (without_empty_last ps))
+    (slice_split_none is_line_feed bytes none)
     ∙ ap (map strip_carriage_return) (alone bytes some)
 
 -- the numbered lines of a text are its first line, and those of what is left

@@ -9,6 +9,4 @@ pub mod FieldNumbers
 pub mod Digits
 pub mod Decimals
 pub mod FirstLine
-pub mod FirstFault
 pub mod Examples
-pub mod CountingLemmas

@@ -1,5 +1,6 @@
 -- Dates: year, month and day of the month, and their text.
-use Rattle.std.specs.Prelude.{ℕ, zero, suc, ◌-◌, true, false, nat_lt, if◌then◌else◌, List, ◌∷◌, ◌++◌, Option, None, ℤ, pos, ◌-ℤ◌, unsigned_abs}
+use Rattle.std.specs.Prelude.{ℕ, zero, suc, ◌-◌, true, false, nat_lt, if◌then◌else◌, List, ◌∷◌, ◌++◌, Option, None, ℤ}
+use Rattle.std.specs.Prelude.{pos, ◌-ℤ◌, unsigned_abs}
 use Rattle.std.specs.Str.Parse.{digits_value}
 use Rattle.std.specs.List.{slice_range}
 use Rattle.jiff_core.specs.Calendar.{days_in_month, days_in_year}
@@ -7,15 +8,24 @@ use Rattle.ghcn_fields.specs.Bytes.{same_bytes}
 use Rattle.ghcn_fields.specs.NumberTexts.{last_digits}
 use Rattle.ghcn_fields.specs.Days.{day_number, first_day}
 
--- the year and the day of the year, from 0, of the day that is n days after 1 January of a year, at most so many years later
+-- the year and the day of the year, from 0, of the day n days after 1 January of a year, so many years on at most
 unfoldable pub year_and_rest : ℕ → ℕ → ℕ → ℕ × ℕ
 year_and_rest zero year n = (year, n)
-year_and_rest (suc more) year n = elim (nat_lt n (days_in_year (pos year))) [ true ↦ (year, n) | false ↦ year_and_rest more (suc year) (n - days_in_year (pos year)) ]
+year_and_rest (suc more) year n = elim (nat_lt n (days_in_year (pos year))) [
+  | true ↦ (year, n)
+  | false ↦
+      year_and_rest more (suc year) (n - days_in_year (pos year))
+]
 
--- the month and the day of the month, from 1, of the day that is n days after the first of a month, at most so many months later
+-- the month and the day of the month, from 1, of the day n days after the first of a month, so many months on at most
 unfoldable pub month_and_day : ℕ → ℕ → ℕ → ℕ → ℕ × ℕ
 month_and_day zero year month n = (month, suc n)
-month_and_day (suc more) year month n = elim (nat_lt n (days_in_month (pos year) month)) [ true ↦ (month, suc n) | false ↦ month_and_day more year (suc month) (n - days_in_month (pos year) month) ]
+month_and_day (suc more) year month n = elim
+    (nat_lt n (days_in_month (pos year) month)) [
+      | true ↦ (month, suc n)
+      | false ↦
+          month_and_day more year (suc month) (n - days_in_month (pos year) month)
+    ]
 
 -- year, month and day of the month of a day: whole years are taken off, then whole months
 abbrev pub civil : ℤ → ℕ × ℕ × ℕ

@@ -9,7 +9,8 @@ is_within low high n = nat_le low n && nat_le n high
 
 -- the calendar has this day, in one of the years 1 to 9999
 abbrev pub is_date : ℕ → ℕ → ℕ → Bool
-is_date year month day = is_within 1 9999 year && is_within 1 12 month && is_within 1 (days_in_month (pos year) month) day
+is_date year month day = is_within 1 9999 year && is_within 1 12 month && is_within 1
+    (days_in_month (pos year) month) day
 
 -- the number of that day, if there is one
 abbrev pub day_number : ℕ → ℕ → ℕ → Option ℤ

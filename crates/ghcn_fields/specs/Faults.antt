@@ -1,5 +1,5 @@
 -- The first fault: of a line that is put to tests in an order, and of lines that are read in order.
-use Rattle.std.specs.Prelude.{◌≡◌, Bool, if◌then◌else◌, List, [], ◌∷◌, ◌++◌, Option, None, Some, ⊤}
+use Rattle.std.specs.Prelude.{◌≡◌, Bool, if◌then◌else◌, List, [], ◌∷◌, ◌++◌, Option, None, Some}
 use Rattle.std.specs.Option.{option_or, option_map}
 
 -- the fault of the first test that fails, of tests in their order
@@ -17,10 +17,9 @@ first_fault_after fault earlier (l ∷ ls) =
 abbrev pub first_fault : {L W : Type 0} → (List L → L → Option W) → List L → Option (L × W)
 first_fault fault ls = first_fault_after fault [] ls
 
--- none of these lines has a fault, each after the lines before it
-abbrev pub HaveNoFault : {L W : Type 0} → (List L → L → Option W) → List L → List L → Type 0
-HaveNoFault fault earlier [] = ⊤
-HaveNoFault fault earlier (l ∷ ls) = (fault earlier l ≡ None) × HaveNoFault fault (earlier ++ l ∷ []) ls
+-- no line has a fault: however the lines are split, the line at the split has none after the lines before it
+pub record HaveNoFault {L W : Type 0} (fault : List L → L → Option W) (ls : List L) : Type 0 where
+  pub none : (before : List L) (l : L) (behind : List L) → ls ≡ before ++ l ∷ behind → fault before l ≡ None
 
 -- the line has this fault, and no line before it has one
 pub record IsFirstFault {L W : Type 0} (fault : List L → L → Option W) (ls : List L) (l : L) (w : W) : Type 0 where
@@ -28,4 +27,4 @@ pub record IsFirstFault {L W : Type 0} (fault : List L → L → Option W) (ls :
   pub behind : List L
   pub place : ls ≡ before ++ l ∷ behind
   pub here : fault before l ≡ Some w
-  pub none_before : HaveNoFault fault [] before
+  pub none_before : HaveNoFault fault before

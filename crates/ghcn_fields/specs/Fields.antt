@@ -1,5 +1,6 @@
 -- Which number a field has: blanks, and then a spelling of it.
-use Rattle.std.specs.Prelude.{◌≡◌, ℕ, ◌+◌, ◌*◌, ◌-◌, ◌^◌, ◌≤◌, Bool, true, false, List, [], ◌∷◌, ◌++◌, length, replicate, ℤ}
+use Rattle.std.specs.Prelude.{◌≡◌, ℕ, ◌+◌, ◌*◌, ◌-◌, ◌^◌, ◌≤◌, Bool, true, false, List, [], ◌∷◌, ◌++◌, length}
+use Rattle.std.specs.Prelude.{replicate, ℤ}
 use Rattle.std.specs.List.{list_all}
 use Rattle.std.specs.Char.{is_ascii_digit}
 use Rattle.std.specs.Str.Parse.{digits_value}
@@ -16,7 +17,8 @@ abbrev pub part_text : List ℕ → List ℕ
 part_text [] = []
 part_text (d ∷ ds) = 46 ∷ d ∷ ds
 
--- a text spells v: an optional minus, one digit or more, and then optionally a point and 1 to so many digits; v is in units of the last place
+-- a text spells v, in units of the last place: an optional minus, one digit or more, and then optionally a point
+-- and 1 to so many digits
 pub record Spells (places : ℕ) (text : List ℕ) (v : ℤ) : Type 0 where
   pub negative : Bool
   pub whole : List ℕ
@@ -25,7 +27,8 @@ pub record Spells (places : ℕ) (text : List ℕ) (v : ℤ) : Type 0 where
   pub some_digit : 1 ≤ length whole
   pub digits : list_all is_ascii_digit (whole ++ part) ≡ true
   pub few : length part ≤ places
-  pub value : v ≡ with_sign negative (digits_value 10 whole * 10 ^ places + digits_value 10 part * 10 ^ (places - length part))
+  pub value : v ≡ with_sign negative (digits_value 10 whole * 10 ^ places + digits_value 10 part * 10 ^
+      (places - length part))
 
 -- a field has the number v: it is blanks, and then a text that spells v
 pub record HasNumber (places : ℕ) (field : List ℕ) (v : ℤ) : Type 0 where

@@ -1,5 +1,6 @@
 -- Floors: the greatest of a guess and of the scores that were raised, or none.
-use Rattle.std.specs.Prelude.{◌≡◌, ◌⊎◌, List, ℤ, pos, neg_ℤ, ◌≤ℤ◌, ◌^◌, Option, Some, IfSome, IsSomeAnd, option_to_list, All, Contains}
+use Rattle.std.specs.Prelude.{◌≡◌, ◌⊎◌, List, ℤ, pos, neg_ℤ, ◌≤ℤ◌, ◌^◌, Option, Some, IfSome, IsSomeAnd, option_to_list}
+use Rattle.std.specs.Prelude.{All, Contains}
 
 -- a score, and a guess at one, lies from -2^31 to 2^31
 abbrev pub IsScore : ℤ → Type 0

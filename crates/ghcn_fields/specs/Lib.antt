@@ -1,11 +1,14 @@
 pub mod Bytes
 pub mod Lines
 pub mod Faults
+pub mod FaultLaws
 pub mod Numbers
 pub mod Fields
 pub mod NumberTexts
 pub mod Days
 pub mod Dates
+pub mod Laws
 pub mod Sorting
 pub mod Counting
+pub mod CountingLaws
 pub mod Floor

@@ -10,7 +10,8 @@ without_empty_last [] = []
 without_empty_last (x ∷ []) = if length x == 0 then [] else x ∷ []
 without_empty_last (x ∷ y ∷ more) = x ∷ without_empty_last (y ∷ more)
 
--- the lines of a text: what its line feeds end, and what follows the last of them where it isn't empty, each without one carriage return at its end
+-- the lines of a text: what its line feeds end, and what follows the last of them unless it is empty; one carriage
+-- return at the end of a line is taken off
 abbrev pub lines : List ℕ → List (List ℕ)
 lines text = map strip_carriage_return (without_empty_last (slice_split (λ b. b == 10) text))
 

@@ -1,5 +1,6 @@
 -- Numbers as fields spell them, read from the left.
-use Rattle.std.specs.Prelude.{ℕ, ◌+◌, ◌*◌, ◌-◌, ◌^◌, Bool, true, false, ◌==◌, nat_lt, nat_le, if◌then◌else◌, List, [], ◌∷◌, length, Option, None, Some, ℤ, pos, negsuc, neg_ℤ}
+use Rattle.std.specs.Prelude.{ℕ, ◌+◌, ◌*◌, ◌-◌, ◌^◌, Bool, true, false, ◌==◌, nat_lt, nat_le, if◌then◌else◌, List, []}
+use Rattle.std.specs.Prelude.{◌∷◌, length, Option, None, Some, ℤ, pos, negsuc, neg_ℤ}
 use Rattle.std.specs.List.{list_all, list_any, before_first, after_first}
 use Rattle.std.specs.Option.{option_map}
 use Rattle.std.specs.Char.{is_ascii_digit}
@@ -29,7 +30,8 @@ joined places (Some whole) (Some part) len =
 abbrev pub decimal_number : ℕ → List ℕ → Option ℕ
 decimal_number places bytes =
     if list_any (λ b. b == 46) bytes
-    then joined places (natural (before_first (λ b. b == 46) bytes)) (natural (after_first (λ b. b == 46) bytes)) (length (after_first (λ b. b == 46) bytes))
+    then joined places (natural (before_first (λ b. b == 46) bytes)) (natural (after_first (λ b. b == 46) bytes))
+    (length (after_first (λ b. b == 46) bytes))
     else option_map (λ n. n * 10 ^ places) (natural bytes)
 
 -- a number with or without a minus

@@ -1,6 +1,6 @@
 //! Days of the years 1 to 9999, by their numbers.
 
-ghost use Rattle.std.specs.Prelude.{◌≡◌, ◌≤◌, ℤ, pos, ◌+ℤ◌, ◌-ℤ◌, Some, IsTrue};
+ghost use Rattle.std.specs.Prelude.{◌≡◌, ◌≤◌, ℤ, pos, ◌+ℤ◌, ◌-ℤ◌, Some, IfSome, IsTrue};
 ghost use Rattle.jiff_core.specs.Calendar as calendar;
 ghost use Rattle.ghcn_fields.specs.Days.{is_day, day_if, day_number, block_of, IsBlock};
 ghost use Rattle.ghcn_fields.specs.Dates as dates;
@@ -35,7 +35,8 @@ impl Model for Day {
 impl Day {
     /// The day of this year, month and day of the month, or `None` where the calendar has none.
     pub fn of(year: u16, month: u8, day: u8) -> Option<Self>
-        ensures { result ≡ day_number year month day }
+        ensures value { result ≡ day_number year month day }
+        ensures date { IfSome result (λ found. dates.civil found ≡ (year, month, day)) }
     {
         if year == 0 || year > 9999 || month > 12 || day > 31 {
             return None;
@@ -73,7 +74,7 @@ impl Day {
     {
         match Date::from_unix_epoch_day(self.number as i64) {
             Ok(date) => (date.year.unsigned_abs(), date.month, date.day),
-            Err(_) => (1, 1, 1),
+            Err(_) => unreachable!(),
         }
     }
 

@@ -52,7 +52,8 @@ pub fn scaled_field(field: &[u8], places: u8) -> Field
     }
 }
 
-fn after_blanks(field: &[u8]) -> &[u8]
+/// What follows the blanks at the front of a text.
+pub fn after_blanks(field: &[u8]) -> &[u8]
     ensures { result.now ≡ numbers.after_blanks field.now }
 {
     let mut rest = field;

@@ -6,6 +6,7 @@
 mod date;
 mod day;
 mod field;
+mod laws;
 mod line;
 mod memory;
 #[cfg(test)]
@@ -14,7 +15,8 @@ mod text;
 
 pub use date::{read_date, write_date};
 pub use day::{Day, days_in_month};
-pub use field::{Field, int_field, scaled_field};
+pub use field::{Field, after_blanks, int_field, scaled_field};
+pub use laws::{days_have_dates, fields_have_numbers};
 pub use line::{Lines, is_blank};
 pub use memory::Memory;
 pub use text::lines;

@@ -1,5 +1,6 @@
 -- The tests of a line of a daily file, one after the other.
-use Rattle.std.proofs.Common.{◌≡◌, ℕ, ◌≤◌, Bool, true, false, cond, List, length, take, drop, map, Option, Some, None, Ok, Err, refl, sym, ap, ◌∙◌, arith}
+use Rattle.std.proofs.Common.{◌≡◌, ℕ, ◌≤◌, Bool, true, false, cond, List, length, take, drop, map, Option, Some, None}
+use Rattle.std.proofs.Common.{Ok, Err, refl, sym, ap, ◌∙◌, arith}
 use Rattle.std.specs.Prelude.{pos, unsigned_abs}
 use Rattle.std.proofs.lemmas.Bool.{le-leb, le-ltb}
 use Rattle.ghcn_fields.specs.Bytes.{is_blank}
@@ -14,21 +15,25 @@ use Rattle.ghcn_files.specs.declared.fault.LineWhy.TheVariants.{Short, TooLong, 
 use Rattle.ghcn_files.specs.Ids.{is_id}
 use Rattle.ghcn_files.specs.Elements.{element_of}
 use Rattle.ghcn_files.specs.StationLines.{id_of, is_number_within, number_of}
-use Rattle.ghcn_files.specs.Months.{year_field, month_field, value_test, reading, days_of_group, month_why, month_of, month_if, unless, read_month}
+use Rattle.ghcn_files.specs.Months.{year_field, month_field, value_test, reading, days_of_group, month_why, month_of}
+use Rattle.ghcn_files.specs.Months.{month_if, unless, read_month}
 use Rattle.ghcn_files.proofs.ColumnSlices.{columns-slice}
 
 -- the first test that fails, by how each test came out
 abbrev pub why_by : Bool → Bool → Bool → Bool → Bool → Option LineWhy → Option LineWhy
 why_by long ends id year month days =
-    cond long (cond ends (cond id (cond year (cond month days (Some BadMonth)) (Some BadYear)) (Some BadId)) (Some TooLong)) (Some Short)
+    cond long (cond ends (cond id (cond year (cond month days (Some BadMonth)) (Some BadYear)) (Some BadId))
+    (Some TooLong)) (Some Short)
 
 -- the year of a line that is long enough
 pub year_slice : (line : List ℕ) → 266 ≤ length line → int_field (take 4 (drop 11 line)) ≡ year_field line
-year_slice line long = ap int_field (sym (columns-slice 12 15 11 15 line (omega arith) (omega arith) (omega arith) (omega arith)))
+year_slice line long = ap int_field (sym (columns-slice 12 15 11 15 line (omega arith) (omega arith) (omega arith)
+    (omega arith)))
 
 -- its month
 pub month_slice : (line : List ℕ) → 266 ≤ length line → int_field (take 2 (drop 15 line)) ≡ month_field line
-month_slice line long = ap int_field (sym (columns-slice 16 17 15 17 line (omega arith) (omega arith) (omega arith) (omega arith)))
+month_slice line long = ap int_field (sym (columns-slice 16 17 15 17 line (omega arith) (omega arith) (omega arith)
+    (omega arith)))
 
 -- how the tests of a line that is long enough came out
 pub record Tested (line : List ℕ) (ends id year month : Bool) (days : Option LineWhy) : Type 0 where
@@ -39,16 +44,21 @@ pub record Tested (line : List ℕ) (ends id year month : Bool) (days : Option L
   pub month_is : is_number_within (pos 1) (pos 12) (int_field (take 2 (drop 15 line))) ≡ month
   pub days_is : first_failing (map (value_test line) days_of_group) ≡ days
 
-pub month_why-tested : {line : List ℕ} {ends id year month : Bool} {days : Option LineWhy} → Tested line ends id year month days → month_why line ≡ why_by true ends id year month days
+-- the first test that fails is that of how the tests came out
+pub month_why-tested : {line : List ℕ} {ends id year month : Bool} {days : Option LineWhy}
+    → Tested line ends id year month days → month_why line ≡ why_by true ends id year month days
 month_why-tested {line} {ends} {id} {year} {month} {days} t =
     let tests : Option LineWhy = first_failing (map (value_test line) days_of_group) in
     let in_month : Bool = is_number_within (pos 1) (pos 12) (month_field line) in
     let in_year : Bool = is_number_within (pos 1) (pos 9999) (year_field line) in
-    ap (λ (b : Bool). why_by b (is_blank (drop 269 line)) (is_id (columns 1 11 line)) in_year in_month tests) (le-leb 266 (length line) t.long)
+    ap (λ (b : Bool). why_by b (is_blank (drop 269 line)) (is_id (columns 1 11 line)) in_year in_month tests)
+    (le-leb 266 (length line) t.long)
     ∙ ap (λ (b : Bool). why_by true b (is_id (columns 1 11 line)) in_year in_month tests) t.ends_is
     ∙ ap (λ (b : Bool). why_by true ends b in_year in_month tests) t.id_is
-    ∙ ap (λ (b : Bool). why_by true ends id b in_month tests) (ap (is_number_within (pos 1) (pos 9999)) (sym (year_slice line t.long)) ∙ t.year_is)
-    ∙ ap (λ (b : Bool). why_by true ends id year b tests) (ap (is_number_within (pos 1) (pos 12)) (sym (month_slice line t.long)) ∙ t.month_is)
+    ∙ ap (λ (b : Bool). why_by true ends id b in_month tests)
+    (ap (is_number_within (pos 1) (pos 9999)) (sym (year_slice line t.long)) ∙ t.year_is)
+    ∙ ap (λ (b : Bool). why_by true ends id year b tests)
+    (ap (is_number_within (pos 1) (pos 12)) (sym (month_slice line t.long)) ∙ t.month_is)
     ∙ ap (λ (o : Option LineWhy). why_by true ends id year month o) t.days_is
 
 -- a value that a test let through
@@ -73,18 +83,26 @@ unless_err (Some v) x why e = cc
 
 -- the month of a line, by its parts
 pub month_of-parts : (element : Element) (line : List ℕ) (id : StationId) (year month : ℕ) (days : List Reading)
-    → id ≡ id_of line → year ≡ unsigned_abs (number_of (year_field line)) → month ≡ unsigned_abs (number_of (month_field line)) → days ≡ map (reading line) days_of_group
+    → id ≡ id_of line → year ≡ unsigned_abs (number_of (year_field line))
+    → month ≡ unsigned_abs (number_of (month_field line)) → days ≡ map (reading line) days_of_group
     → record { id = id; element = element; year = year; month = month; days = days } ≡ month_of element line
 month_of-parts element line id year month days i y m d = cc
 
 -- a line of one of the elements is read by its tests
-pub read_month-element : (line : List ℕ) (element : Element) → 21 ≤ length line → element_of (take 4 (drop 17 line)) ≡ Some element → read_month line ≡ unless (month_why line) (Some (month_of element line))
+pub read_month-element : (line : List ℕ) (element : Element) → 21 ≤ length line
+    → element_of (take 4 (drop 17 line)) ≡ Some element
+    → read_month line ≡ unless (month_why line) (Some (month_of element line))
 read_month-element line element long is =
-    ap (λ (b : Bool). cond b (Err Short) (month_if (element_of (columns 18 21 line)) line)) (le-ltb (length line) 21 long)
-    ∙ ap (λ (o : Option Element). month_if o line) (ap element_of (columns-slice 18 21 17 21 line (omega arith) (omega arith) (omega arith) (omega arith)) ∙ is)
+    ap (λ (b : Bool). cond b (Err Short) (month_if (element_of (columns 18 21 line)) line))
+    (le-ltb (length line) 21 long)
+    ∙ ap (λ (o : Option Element). month_if o line)
+    (ap element_of (columns-slice 18 21 17 21 line (omega arith) (omega arith) (omega arith) (omega arith)) ∙ is)
 
 -- a line of another element is passed over
-pub read_month-passed : (line : List ℕ) → 21 ≤ length line → element_of (take 4 (drop 17 line)) ≡ None → read_month line ≡ Ok None
+pub read_month-passed : (line : List ℕ) → 21 ≤ length line → element_of (take 4 (drop 17 line)) ≡ None
+    → read_month line ≡ Ok None
 read_month-passed line long is =
-    ap (λ (b : Bool). cond b (Err Short) (month_if (element_of (columns 18 21 line)) line)) (le-ltb (length line) 21 long)
-    ∙ ap (λ (o : Option Element). month_if o line) (ap element_of (columns-slice 18 21 17 21 line (omega arith) (omega arith) (omega arith) (omega arith)) ∙ is)
+    ap (λ (b : Bool). cond b (Err Short) (month_if (element_of (columns 18 21 line)) line))
+    (le-ltb (length line) 21 long)
+    ∙ ap (λ (o : Option Element). month_if o line)
+    (ap element_of (columns-slice 18 21 17 21 line (omega arith) (omega arith) (omega arith) (omega arith)) ∙ is)

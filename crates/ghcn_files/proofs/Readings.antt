@@ -1,5 +1,6 @@
 -- The days of a line, as they are read one after the other.
-use Rattle.std.proofs.Common.{◌≡◌, ℕ, suc, ◌+◌, Bool, true, false, cond, List, map, Option, Some, None, refl, sym, ap, ◌∙◌}
+use Rattle.std.proofs.Common.{◌≡◌, ℕ, suc, ◌+◌, Bool, true, false, cond, List, map, Option, Some, None, refl, sym, ap}
+use Rattle.std.proofs.Common.{◌∙◌}
 use Rattle.std.specs.Prelude.{not, ℤ, if◌then◌else◌}
 use Rattle.std.specs.List.{range_with_len}
 use Rattle.ghcn_fields.specs.declared.field.Field.{Field}
@@ -15,24 +16,29 @@ use Rattle.ghcn_files.specs.Months.{value_field, value_test, is_flagged, reading
 abbrev pub readable : List ℕ → ℕ → Option Reading
 readable line j = if is_bad (value_field line j) then None else Some (reading line j)
 
-not_bad : (found : Field) → (found ≡ Bad → ⊥) → is_bad found ≡ false
-not_bad Blank h = refl
-not_bad (Number z) h = refl
-not_bad Bad h = absurd (h refl)
-
 -- the field of a day's value, as it is found, decides
-by_field : (line : List ℕ) (j : ℕ) (found : Field) → found ≡ value_field line j → cond (is_bad found) None (Some (record { value = unless_missing found; flagged = is_flagged line j })) ≡ readable line j
-by_field line j found e = ap (λ (f : Field). cond (is_bad f) None (Some (record { value = unless_missing f; flagged = is_flagged line j }))) e
+by_field : (line : List ℕ) (j : ℕ) (found : Field) → found ≡ value_field line j
+    → cond (is_bad found) None (Some (record { value = unless_missing found; flagged = is_flagged line j }))
+    ≡ readable line j
+by_field line j found e = ap (λ (f : Field).
+    cond (is_bad f) None (Some (record { value = unless_missing f; flagged = is_flagged line j }))) e
 
-pub malformed : (line : List ℕ) (j : ℕ) (found : Field) → found ≡ value_field line j → found ≡ Bad → None ≡ readable line j
-malformed line j found e bad = ap (λ (f : Field). cond (is_bad f) None (Some (record { value = unless_missing f; flagged = is_flagged line j }))) (sym bad) ∙ by_field line j found e
+-- a day whose field is bad can't be read
+pub malformed : (line : List ℕ) (j : ℕ) (found : Field) → found ≡ value_field line j → is_bad found ≡ true
+    → None ≡ readable line j
+malformed line j found e bad =
+    let here : Reading = record { value = unless_missing found; flagged = is_flagged line j } in
+    sym (ap (λ (b : Bool). cond b None (Some here)) bad) ∙ by_field line j found e
 
-pub well_formed : (line : List ℕ) (j : ℕ) (found : Field) (value : Option ℤ) (flagged : Bool) → found ≡ value_field line j → (found ≡ Bad → ⊥) → value ≡ unless_missing found → flagged ≡ is_flagged line j
+-- any other day is read from its parts
+pub well_formed : (line : List ℕ) (j : ℕ) (found : Field) (value : Option ℤ) (flagged : Bool)
+    → found ≡ value_field line j → is_bad found ≡ false → value ≡ unless_missing found → flagged ≡ is_flagged line j
     → Some (record { value = value; flagged = flagged }) ≡ readable line j
 well_formed line j found value flagged e fine v f =
+    let here : Reading = record { value = unless_missing found; flagged = is_flagged line j } in
     ap (λ (o : Option ℤ). Some (record { value = o; flagged = flagged })) v
     ∙ ap (λ (b : Bool). Some (record { value = unless_missing found; flagged = b })) f
-    ∙ sym (ap (λ (b : Bool). cond b None (Some (record { value = unless_missing found; flagged = is_flagged line j }))) (not_bad found fine))
+    ∙ sym (ap (λ (b : Bool). cond b None (Some here)) fine)
     ∙ by_field line j found e
 
 -- the tests of the days from one on
@@ -50,20 +56,24 @@ unfolding tests_from
 no_test line a n e = ap (λ (k : ℕ). first_failing (map (value_test line) (range_with_len a k))) e
 
 -- the days of a line are all days from 1 to 31
-pub all_days : (line : List ℕ) (n : ℕ) → n ≡ 31 → map (reading line) (range_with_len 1 n) ≡ map (reading line) days_of_group
+pub all_days : (line : List ℕ) (n : ℕ) → n ≡ 31
+    → map (reading line) (range_with_len 1 n) ≡ map (reading line) days_of_group
 unfolding days_of_group
 all_days line n e = ap (λ (k : ℕ). map (reading line) (range_with_len 1 k)) e
 
+-- a value under a test that was there
 was_some : (b : Bool) (x r : Reading) → cond b None (Some x) ≡ Some r → (b ≡ false) × (r ≡ x)
 was_some true x r e = absurd cc
 was_some false x r e = (refl, cc)
 
+-- and one that was not
 was_none : (b : Bool) (x : Reading) → cond b None (Some x) ≡ None → b ≡ true
 was_none true x e = refl
 was_none false x e = absurd cc
 
 -- a day that can be read passes its test
-pub passes : (line : List ℕ) (a m n : ℕ) (r : Reading) → m ≡ suc n → readable line a ≡ Some r → (r ≡ reading line a) × (tests_from line a m ≡ tests_from line (a + 1) n)
+pub passes : (line : List ℕ) (a m n : ℕ) (r : Reading) → m ≡ suc n → readable line a ≡ Some r
+    → (r ≡ reading line a) × (tests_from line a m ≡ tests_from line (a + 1) n)
 unfolding tests_from
 passes line a m n r e is =
     let fine = was_some (is_bad (value_field line a)) (reading line a) r is in (
@@ -76,4 +86,5 @@ pub fails : (line : List ℕ) (a m n : ℕ) → m ≡ suc n → readable line a 
 unfolding tests_from
 fails line a m n e is =
     ap (tests_from line a) e
-    ∙ ap (λ (b : Bool). cond (not b) (tests_from line (a + 1) n) (Some (BadValue a))) (was_none (is_bad (value_field line a)) (reading line a) is)
+    ∙ ap (λ (b : Bool). cond (not b) (tests_from line (a + 1) n) (Some (BadValue a)))
+    (was_none (is_bad (value_field line a)) (reading line a) is)

@@ -2,4 +2,6 @@ pub mod Ids
 pub mod Elements
 pub mod StationLines
 pub mod Listed
+pub mod KeptStations
+pub mod IdLaws
 pub mod Months

@@ -1,12 +1,8 @@
 -- The listed stations of a text, or the first line with a fault.
-use Rattle.std.specs.Prelude.{◌≡◌, ℕ, ◌≤◌, ◌<◌, ◌^◌, take, drop, get_or, Bool, not, nat_lt, if◌then◌else◌, List, [], ◌∷◌, ◌++◌, length, map, Option, None, Some, Result, Ok, Err, filter, ⊤, IsTrue}
+use Rattle.std.specs.Prelude.{◌≡◌, ℕ, ◌≤◌, ◌^◌, Bool, not, nat_lt, if◌then◌else◌, List, [], ◌∷◌, length, map}
+use Rattle.std.specs.Prelude.{Option, None, Some, Result, Ok, Err, filter, ⊤, IsTrue}
 use Rattle.std.specs.List.{list_all, list_any, IsDistinct, position}
 use Rattle.std.specs.Option.{option_or, option_map}
-use Rattle.std.specs.declared.cmp.Ordering.{Ordering}
-use Rattle.std.specs.Ordering.{nat_cmp, ordering_then}
-use Rattle.std.specs.Int.{from_be_bytes, w32, w64}
-use Rattle.std.specs.BTreeMap.{is_at}
-use Rattle.std.specs.Map.{lookup}
 use Rattle.ghcn_fields.specs.Bytes.{is_blank}
 use Rattle.ghcn_fields.specs.Lines.{numbered_lines}
 use Rattle.ghcn_fields.specs.Faults.{first_fault, IsFirstFault}
@@ -68,32 +64,15 @@ pub record AreListed (stations : List Station) : Type 0 where
   pub few : length stations ≤ 2 ^ 20
   pub right : IsTrue (list_all is_station stations)
 
--- the bytes of an ID as two numbers: of the first eight and of the last four, the most significant byte first
-abbrev pub key_of : List ℕ → ℕ × ℕ
-key_of bytes = (from_be_bytes w64 (take 8 bytes), from_be_bytes w32 (drop 7 bytes))
-
--- the order of such pairs
-abbrev pub key_cmp : ℕ × ℕ → ℕ × ℕ → Ordering
-key_cmp a b = ordering_then (nat_cmp a.0 b.0) (nat_cmp a.1 b.1)
-
--- the place that is kept for an ID
-abbrev pub kept_place : List ((ℕ × ℕ) × ℕ) → StationId → Option ℕ
-kept_place places id = lookup (is_at (key_cmp (key_of id.0))) places
-
--- eleven bytes
-abbrev pub AreEleven : List ℕ → Type 0
-AreEleven bytes = (length bytes ≡ 11) × ((i : ℕ) → get_or bytes i 0 < 256)
-
--- stations that are kept with the places of their IDs are listed, and each ID of eleven bytes has the place that it has in the list
-pub record AreKept (stations : List Station) (places : List ((ℕ × ℕ) × ℕ)) : Type 0 where
-  pub listed : AreListed stations
-  pub own : (id : StationId) → AreEleven id.0 → kept_place places id ≡ place_of stations id
+-- want of memory, or a fault of which something is true
+abbrev pub OrMemory : (StationsFault → Type 0) → StationsFault → Type 0
+OrMemory P (Memory m) = ⊤
+OrMemory P (StationLine line why) = P (StationLine line why)
+OrMemory P TooManyStations = P TooManyStations
 
 -- want of memory, or the very fault that the text has
 abbrev pub IsRefusal : StationsFault → Result (List Station) StationsFault → Type 0
-IsRefusal (Memory m) read = ⊤
-IsRefusal (StationLine line why) read = read ≡ Err (StationLine line why)
-IsRefusal TooManyStations read = read ≡ Err TooManyStations
+IsRefusal fault read = OrMemory (λ f. read ≡ Err f) fault
 
 -- some line of the text is the first with a fault, and has this one
 abbrev pub HasFirst : StationsFault → List ℕ → Type 0
@@ -101,22 +80,4 @@ HasFirst fault text = (l : Numbered) × IsFirstFault station_fault (station_line
 
 -- want of memory, or the fault of the first line that has one
 abbrev pub IsFirstRefusal : StationsFault → List ℕ → Type 0
-IsFirstRefusal (Memory m) text = ⊤
-IsFirstRefusal (StationLine line why) text = HasFirst (StationLine line why) text
-IsFirstRefusal TooManyStations text = HasFirst TooManyStations text
-
--- a line adds its station: it has no fault after any lines that list those held
-pub record Adds (held : List Station) (l : Numbered) (more : List Station) : Type 0 where
-  pub right : (earlier : List Numbered) → stations_of earlier ≡ held → station_fault earlier l ≡ None
-  pub added : more ≡ held ++ station_of l.1 ∷ []
-
--- the line has this fault after any lines that list the stations held
-abbrev pub IsFaultAfter : StationsFault → List Station → Numbered → Type 0
-IsFaultAfter fault held l =
-    (earlier : List Numbered) → stations_of earlier ≡ held → station_fault earlier l ≡ Some fault
-
--- want of memory, or the very fault of the line
-abbrev pub IsRefusedFor : StationsFault → List Station → Numbered → Type 0
-IsRefusedFor (Memory m) held l = ⊤
-IsRefusedFor (StationLine line why) held l = IsFaultAfter (StationLine line why) held l
-IsRefusedFor TooManyStations held l = IsFaultAfter TooManyStations held l
+IsFirstRefusal fault text = OrMemory (λ f. HasFirst f text) fault

@@ -1,5 +1,7 @@
 -- A line of a daily file: a month of one station and element.
-use Rattle.std.specs.Prelude.{ℕ, ◌+◌, ◌*◌, ◌≤◌, Bool, true, ◌&&◌, not, nat_lt, nat_le, if◌then◌else◌, List, [], ◌∷◌, ◌++◌, length, map, drop, Option, None, Some, Result, Ok, Err, ℤ, pos, neg_ℤ, int_le, unsigned_abs, IsTrue}
+use Rattle.std.specs.Prelude.{ℕ, ◌+◌, ◌*◌, ◌≤◌, Bool, true, ◌&&◌, not, nat_lt, nat_le, if◌then◌else◌, List, [], ◌∷◌}
+use Rattle.std.specs.Prelude.{◌++◌, length, map, drop, Option, None, Some, Result, Ok, Err, ℤ, pos, neg_ℤ, int_le}
+use Rattle.std.specs.Prelude.{unsigned_abs, IsTrue}
 use Rattle.std.specs.List.{range_with_len, list_all}
 use Rattle.std.specs.Option.{option_map_or}
 use Rattle.ghcn_fields.specs.declared.field.Field.{Field}

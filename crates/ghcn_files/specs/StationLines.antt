@@ -1,5 +1,6 @@
 -- A line of the station list: its fields, and the first test that it fails by itself.
-use Rattle.std.specs.Prelude.{ℕ, Bool, true, false, ◌&&◌, not, nat_le, if◌then◌else◌, List, [], ◌∷◌, length, map, Option, None, Some, ℤ, pos, neg_ℤ, int_le}
+use Rattle.std.specs.Prelude.{ℕ, Bool, true, false, ◌&&◌, not, nat_le, if◌then◌else◌, List, [], ◌∷◌, length, map}
+use Rattle.std.specs.Prelude.{Option, None, Some, ℤ, pos, neg_ℤ, int_le}
 use Rattle.std.specs.List.{list_all}
 use Rattle.std.specs.Ordering.{int_eq}
 use Rattle.ghcn_fields.specs.declared.field.Field.{Field}
@@ -10,7 +11,8 @@ use Rattle.ghcn_fields.specs.Numbers.{scaled_field}
 use Rattle.ghcn_files.specs.declared.station.StationId.{StationId}
 use Rattle.ghcn_files.specs.declared.station.Station.{Station}
 use Rattle.ghcn_files.specs.declared.fault.StationWhy.{StationWhy}
-use Rattle.ghcn_files.specs.declared.fault.StationWhy.TheVariants.{Short, BadId, BadLatitude, BadLongitude, BadElevation}
+use Rattle.ghcn_files.specs.declared.fault.StationWhy.TheVariants.{Short, BadId, BadLatitude, BadLongitude}
+use Rattle.ghcn_files.specs.declared.fault.StationWhy.TheVariants.{BadElevation}
 use Rattle.ghcn_files.specs.Ids.{is_id}
 
 -- the ID that a line begins with

@@ -17,5 +17,5 @@ mod tests;
 pub use element::Element;
 pub use fault::{LineWhy, StationWhy, StationsFault};
 pub use month::{Month, Reading, read_month};
-pub use station::{Station, StationId};
+pub use station::{Station, StationId, are_visible};
 pub use stations::Stations;

@@ -1,4 +1,4 @@
-//! Missing numbers: the readme writes -9999 for one, and its fields may be blank.
+//! Fields that may lack a number: the readme writes -9999 for a missing one, and its fields may be blank.
 
 ghost use Rattle.std.specs.Prelude.{◌≡◌};
 ghost use Rattle.ghcn_files.specs.StationLines as stations;
@@ -16,4 +16,11 @@ pub(crate) fn unless_missing(field: Field) -> Option<i32>
         Field::Number(number) if number != MISSING => Some(number),
         _ => None,
     }
+}
+
+/// Whether a field is neither blank nor a number.
+pub(crate) fn is_bad(field: Field) -> bool
+    ensures { result ≡ stations.is_bad field }
+{
+    matches!(field, Field::Bad)
 }

@@ -1,4 +1,11 @@
-//! Months of daily values: what one line of a daily file says.
+//! Months of daily values: what one line of a daily file says, as the readme lays it out.
+//!
+//! ```text
+//!   1-11  ID               22-26  value of day 1          30-34  value of day 2, and so on to
+//!  12-15  year             27     its measurement flag    262-266  value of day 31
+//!  16-17  month            28     its quality flag        267-269  its three flags
+//!  18-21  element          29     its source flag
+//! ```
 
 ghost use Rattle.std.specs.Prelude.{◌≡◌, ◌≤◌, ◌<◌, ◌+◌, length, drop, map, pos, Some, None, IfOk, IfSome};
 ghost use Rattle.std.specs.Prelude.{if◌then◌else◌, unsigned_abs};
@@ -8,9 +15,18 @@ ghost use Rattle.ghcn_fields.specs.Faults.{first_failing};
 ghost use Rattle.ghcn_files.specs.StationLines as stations;
 ghost use Rattle.ghcn_files.specs.Months as months;
 
-use crate::missing::unless_missing;
+use crate::missing::{is_bad, unless_missing};
 use crate::{Element, LineWhy, StationId};
 use ghcn_fields::{Field, int_field, is_blank};
+
+/// The columns up to the element's last.
+const UP_TO_ELEMENT: usize = 21;
+
+/// The columns up to the last day's value, whose three flags may be left out.
+const LEAST_COLUMNS: usize = 266;
+
+/// The columns of a whole line.
+const COLUMNS: usize = 269;
 
 /// How many days a line has groups for.
 const DAYS: usize = 31;
@@ -51,7 +67,7 @@ pub fn read_month(line: &[u8]) -> Result<Option<Month>, LineWhy>
     ensures value { result ≡ months.read_month line.now }
     ensures ranges { IfOk result (λ found. IfSome found months.IsMonth) }
 {
-    if line.len() < 21 {
+    if line.len() < UP_TO_ELEMENT {
         return Err(LineWhy::Short);
     }
     match Element::of_code(&line[17..21]) {
@@ -64,7 +80,7 @@ pub fn read_month(line: &[u8]) -> Result<Option<Month>, LineWhy>
 fn month_of(element: Element, line: &[u8]) -> Result<Month, LineWhy>
     ensures { result ≡ months.unless (months.month_why line.now) (months.month_of element line.now) }
 {
-    if line.len() < 266 {
+    if line.len() < LEAST_COLUMNS {
         return Err(LineWhy::Short);
     }
     if !only_blanks_follow(line) {
@@ -93,7 +109,7 @@ fn month_of(element: Element, line: &[u8]) -> Result<Month, LineWhy>
 fn only_blanks_follow(line: &[u8]) -> bool
     ensures { result ≡ bytes.is_blank (drop 269 line.now) }
 {
-    line.len() <= 269 || is_blank(&line[269..])
+    line.len() <= COLUMNS || is_blank(&line[COLUMNS..])
 }
 
 /// The whole number of a field, where it has one from 1 to a limit.
@@ -137,13 +153,14 @@ fn reading_of(line: &[u8], day: usize) -> Option<Reading>
         else Some (months.reading line.now (day + 1))) }
 {
     let start = FIRST_GROUP + GROUP * day;
-    match int_field(&line[start..start + 5]) {
-        Field::Bad => None,
-        field => Some(Reading {
-            value: unless_missing(field),
-            flagged: is_flagged(line, day),
-        }),
+    let field = int_field(&line[start..start + 5]);
+    if is_bad(field) {
+        return None;
     }
+    Some(Reading {
+        value: unless_missing(field),
+        flagged: is_flagged(line, day),
+    })
 }
 
 /// Whether the quality flag of a day, from 0, isn't a blank.

@@ -1,4 +1,10 @@
-//! A station and its ID.
+//! Stations: what one line of the station list says, as the readme lays it out.
+//!
+//! ```text
+//!   1-11  ID               32-37  elevation, in metres
+//!  13-20  latitude         39-40  state
+//!  22-30  longitude        42-71  name
+//! ```
 
 ghost use Rattle.std.specs.Prelude.{◌≡◌, ◌≤◌, ◌+◌, ◌-◌, ◌≤ℤ◌, pos, neg_ℤ, int_le, ◌&&◌, Some, None, length};
 ghost use Rattle.std.specs.Prelude.{map, if◌then◌else◌, IfOk, OnOk, IfErr};
@@ -10,8 +16,11 @@ ghost use Rattle.ghcn_files.specs.StationLines as stations;
 
 use crate::StationWhy;
 use crate::columns::columns;
-use crate::missing::unless_missing;
+use crate::missing::{is_bad, unless_missing};
 use ghcn_fields::{Field, scaled_field};
+
+/// The columns up to the longitude's last: what follows may be left out.
+const LEAST_COLUMNS: usize = 30;
 
 /// 90 degrees, in ten-thousandths.
 const MOST_NORTH: i32 = 900_000;
@@ -64,7 +73,7 @@ impl Station {
         ensures ok { OnOk result (stations.line_why line.now ≡ None) }
         ensures err { IfErr result (λ why. stations.line_why line.now ≡ Some why) }
     {
-        if line.len() < 30 {
+        if line.len() < LEAST_COLUMNS {
             return Err(StationWhy::Short);
         }
         let Some(id) = StationId::of_line(line) else {
@@ -112,13 +121,6 @@ fn is_within(limit: i32, number: i32) -> bool
     -limit <= number && number <= limit
 }
 
-/// Whether a field is neither blank nor a number.
-fn is_bad(field: Field) -> bool
-    ensures { result ≡ stations.is_bad field }
-{
-    matches!(field, Field::Bad)
-}
-
 /// So many columns of a line from one on, with a question mark for each byte that can't be printed.
 fn printable_columns<const N: usize>(line: &[u8], from: usize) -> [u8; N]
     requires { 1 ≤ from }
@@ -149,7 +151,7 @@ fn printable(byte: u8) -> u8
 }
 
 /// Whether each byte shows in print, from `!` to `~`.
-fn are_visible(bytes: &[u8]) -> bool
+pub fn are_visible(bytes: &[u8]) -> bool
     ensures { result ≡ list_all is_visible bytes.now }
 {
     bytes.iter().all(|byte| byte.is_ascii_graphic())

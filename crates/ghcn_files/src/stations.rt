@@ -5,8 +5,10 @@ ghost use Rattle.std.specs.Prelude.{OnOk, IfErr};
 ghost use Rattle.std.specs.List.{find};
 ghost use Rattle.std.specs.Option.{option_copied};
 ghost use Rattle.ghcn_files.specs.StationLines.{is_station};
-ghost use Rattle.ghcn_files.specs.Listed.{AreListed, AreEleven, key_of, is_station_of, place_of, listed, Adds};
-ghost use Rattle.ghcn_files.specs.Listed.{IsRefusal, IsRefusedFor, IsFirstRefusal};
+ghost use Rattle.ghcn_files.specs.Listed.{AreListed, is_station_of, place_of, listed};
+ghost use Rattle.ghcn_files.specs.KeptStations.{AreEleven, key_of, Adds};
+ghost use Rattle.ghcn_files.specs.Listed.{IsRefusal, IsFirstRefusal};
+ghost use Rattle.ghcn_files.specs.KeptStations.{IsRefusedFor};
 
 use crate::{Station, StationId, StationWhy, StationsFault};
 use ghcn_fields::{Memory, is_blank, lines};
@@ -26,7 +28,7 @@ pub struct Stations {
 impl Model for Stations {
     ghost use Rattle.std.specs.Prelude.{List};
     ghost use Rattle.ghcn_files.specs.declared.station.Station.{Station};
-    ghost use Rattle.ghcn_files.specs.Listed.{AreKept};
+    ghost use Rattle.ghcn_files.specs.KeptStations.{AreKept};
 
     ghost Value = { List Station };
 

@@ -292,3 +292,33 @@ fn texts_of_refusals(rt: HostRuntime) -> Result<(), Fail> {
     }
     Ok(())
 }
+
+/// A station list of so many lines, whose IDs count up from 0.
+fn many_stations<R: AllocGlobal>(rt: &R, lines: u32) -> Result<Vec<u8>, Fail> {
+    let mut text = Vec::new(rt.alloc());
+    for number in 0..lines {
+        let mut line = *b"ZZ000000000  10.0000   20.0000\n";
+        let mut rest = number;
+        for column in (2..11).rev() {
+            line[column] = b'0' + (rest % 10) as u8;
+            rest /= 10;
+        }
+        text.extend_from_slice(&line)?;
+    }
+    Ok(text)
+}
+
+#[test]
+fn as_many_stations_as_a_list_may_have(rt: HostRuntime) -> Result<(), Fail> {
+    let text = many_stations(&rt, 1_048_577)?;
+    let full = text.get(..31 * 1_048_576).ok_or("too few lines")?;
+    let cases: [(&[u8], Result<u64, StationsFault>); 2] = [
+        (full, Ok(1_048_576)),
+        (&text, Err(StationsFault::TooManyStations)),
+    ];
+    for (text, expected) in cases {
+        let found = Stations::read(rt.alloc(), text).map(|stations| stations.len());
+        assert_eq!(rt; found, expected, "of {} bytes", text.len());
+    }
+    Ok(())
+}

@@ -16,7 +16,7 @@ use Rattle.ghcn_series.specs.Series.{DayValue}
 use Rattle.ghcn_series.specs.DailyFaults.{is_listed}
 use Rattle.ghcn_series.specs.Says.{Fact, fact_of, fact_if, facts_of, is_usable}
 use Rattle.ghcn_series.specs.Gathered.{counted, usable_day, usable_days, months_of}
-use Rattle.ghcn_files.proofs.ById.{same_id-is}
+use Rattle.ghcn_files.specs.IdLaws.{same_id-is}
 
 -- a fact is of its month's station and element
 OfMonth : Month → Fact → Type 0

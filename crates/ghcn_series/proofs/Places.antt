@@ -9,7 +9,7 @@ use Rattle.ghcn_files.specs.declared.station.Station.{Station}
 use Rattle.ghcn_files.specs.Ids.{same_id}
 use Rattle.ghcn_files.specs.Listed.{is_station_of, place_of}
 use Rattle.ghcn_series.specs.DailyFaults.{is_listed}
-use Rattle.ghcn_files.proofs.ById.{same_id-is}
+use Rattle.ghcn_files.specs.IdLaws.{same_id-is}
 
 pub same_id-refl : (a : StationId) → same_id a a ≡ true
 same_id-refl a = nat_list_eq_equiv.refl a.0

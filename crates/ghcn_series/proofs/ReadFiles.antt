@@ -1,18 +1,17 @@
 -- The data of files that were read.
-use Rattle.std.proofs.Common.{◌≡◌, ℕ, zero, suc, ◌+◌, ◌<◌, ◌≤◌, ◌^◌, Bool, true, false, cond, List, [], ◌∷◌, ◌++◌, length, map, take, get_or, Option, None, Ok, Err, Bor, refl, sym, ap, ◌∙◌, subst, append_assoc, add-one, arith}
+use Rattle.std.proofs.Common.{◌≡◌, ℕ, zero, suc, ◌+◌, ◌<◌, ◌≤◌, ◌^◌, Bool, true, false, cond, List, [], ◌∷◌, ◌++◌, length, map, take, get_or, Ok, Err, Bor, refl, sym, ap, ◌∙◌, subst, append_assoc, add-one, arith}
 use Rattle.std.specs.Prelude.{nat_le}
 use Rattle.std.specs.List.{flat_map, enumerate_from}
-use Rattle.std.specs.Option.{option_or, option_map}
 use Rattle.std.proofs.lemmas.Bool.Decides.{nat_tests}
 use Rattle.std.proofs.lemmas.List.{append-nil}
-use Rattle.ghcn_fields.specs.Faults.{first_fault, first_fault_after, HaveNoFault}
-use Rattle.ghcn_fields.proofs.FirstFault.{first_fault-from}
+use Rattle.ghcn_fields.specs.Faults.{first_fault, HaveNoFault}
+use Rattle.ghcn_fields.specs.FaultLaws.{first_fault-none, first_fault-from}
 use Rattle.ghcn_files.specs.declared.station.Station.{Station}
 use Rattle.ghcn_series.specs.declared.fault.DataFault.{DataFault}
 use Rattle.ghcn_series.specs.declared.fault.DataFault.TheVariants.{DailyLine, TooManyFiles, Memory}
-use Rattle.ghcn_series.specs.DailyFaults.{FileLine, file_lines, daily_lines, daily_fault, IsRefusal}
+use Rattle.ghcn_series.specs.DailyFaults.{FileLine, file_lines, daily_lines, daily_fault, IsRefusal, IsFirstRefusal}
 use Rattle.ghcn_series.specs.Says.{contents, contents_unless, data_of}
-use Rattle.ghcn_series.specs.Gathered.{IsFirstRefusal}
+use Rattle.ghcn_series.specs.Gathered.{IsLineRefusal}
 use Rattle.ghcn_series.proofs.ReadLines.{refused_among}
 
 -- the texts of files
@@ -47,18 +46,12 @@ split_at n (f ∷ fs) (suc k) =
     (rest.0, ap (λ ls. file_lines (n, f) ++ ls) rest.1 ∙ sym (append_assoc (file_lines (n, f)) (lines_from (n + 1) (take k fs)) rest.0))
 
 -- a fault among the lines of the first files is that of all
-pub refused_whole : (stations : List Station) (files : List (List ℕ)) (k : ℕ) (f : DataFault) → IsFirstRefusal stations (daily_lines (take k files)) f → IsFirstRefusal stations (daily_lines files) f
+pub refused_whole : (stations : List Station) (files : List (List ℕ)) (k : ℕ) (f : DataFault) → IsLineRefusal stations (daily_lines (take k files)) f → IsLineRefusal stations (daily_lines files) f
 unfolding lines_from
 refused_whole stations files k f is =
     let whole = split_at 1 files k in
-    let P : List FileLine → Type 0 = λ ls. IsFirstRefusal stations ls f in
+    let P : List FileLine → Type 0 = λ ls. IsLineRefusal stations ls f in
     subst P (sym whole.1) (refused_among stations (daily_lines (take k files)) whole.0 f is)
-
-none_after : {L W : Type 0} (fault : List L → L → Option W) (earlier ls : List L) → HaveNoFault fault earlier ls → first_fault_after fault earlier ls ≡ None
-none_after fault earlier [] none = refl
-none_after fault earlier (l ∷ ls) none =
-    ap (λ o. option_or (option_map (λ w. (l, w)) o) (first_fault_after fault (earlier ++ l ∷ []) ls)) none.0
-    ∙ none_after fault (earlier ++ l ∷ []) ls none.1
 
 few_true : (n : ℕ) → n ≤ 2 ^ 20 → nat_le n (2 ^ 20) ≡ true
 few_true n le = grind (arith, nat_tests)
@@ -71,18 +64,24 @@ few_files stations files few =
     ap (λ (b : Bool). cond b (contents_unless (first_fault (daily_fault stations) (daily_lines files)) (contents stations (daily_lines files))) (Err TooManyFiles)) (few_true (length files) few)
 
 -- files without a fault have their contents
-pub data_of-right : (stations : List Station) (files : List (List ℕ)) → length files ≤ 2 ^ 20 → HaveNoFault (daily_fault stations) [] (daily_lines files) → data_of stations files ≡ Ok (contents stations (daily_lines files))
+pub data_of-right : (stations : List Station) (files : List (List ℕ)) → length files ≤ 2 ^ 20 → HaveNoFault (daily_fault stations) (daily_lines files) → data_of stations files ≡ Ok (contents stations (daily_lines files))
 data_of-right stations files few right =
     few_files stations files few
-    ∙ ap (λ o. contents_unless o (contents stations (daily_lines files))) (none_after (daily_fault stations) [] (daily_lines files) right)
+    ∙ ap (λ o. contents_unless o (contents stations (daily_lines files))) (first_fault-none (daily_fault stations) (daily_lines files) right)
 
 -- files with a fault have their first
-pub data_of-refused : (stations : List Station) (files : List (List ℕ)) (f : DataFault) → length files ≤ 2 ^ 20 → IsFirstRefusal stations (daily_lines files) f → IsRefusal f (data_of stations files)
+pub data_of-refused : (stations : List Station) (files : List (List ℕ)) (f : DataFault) → length files ≤ 2 ^ 20 → IsLineRefusal stations (daily_lines files) f → IsRefusal f (data_of stations files)
 data_of-refused stations files (Memory m) few is = tt
 data_of-refused stations files TooManyFiles few is = absurd is
 data_of-refused stations files (DailyLine file line why) few is =
     few_files stations files few
     ∙ ap (λ o. contents_unless o (contents stations (daily_lines files))) (first_fault-from (daily_fault stations) (daily_lines files) is.0 (DailyLine file line why) is.1)
+
+-- a refusal for a line is one for the files
+pub first_of_files : (stations : List Station) (files : List (List ℕ)) (f : DataFault) → IsLineRefusal stations (daily_lines files) f → IsFirstRefusal f stations files
+first_of_files stations files (Memory m) is = tt
+first_of_files stations files TooManyFiles is = absurd is
+first_of_files stations files (DailyLine file line why) is = is
 
 -- too many files
 pub data_of-many : (stations : List Station) (files : List (List ℕ)) → 2 ^ 20 < length files → data_of stations files ≡ Err TooManyFiles

@@ -1,33 +1,29 @@
 -- A reader that has read one line more.
 use Rattle.std.proofs.Common.{◌≡◌, ℕ, Bool, true, false, cond, not, List, [], ◌∷◌, ◌++◌, map, filter, Option, None, Some, Result, Ok, Err, refl, sym, ap, ◌∙◌, subst, append_assoc}
 use Rattle.std.specs.Prelude.{◌&&◌}
-use Rattle.std.specs.List.{list_any, filter_map}
+use Rattle.std.specs.List.{filter_map}
 use Rattle.std.specs.Option.{option_map, option_to_list}
 use Rattle.std.proofs.lemmas.List.{append-nil}
 use Rattle.std.proofs.lemmas.List.Elements.{filter_map-append}
 use Rattle.ghcn_fields.specs.Bytes.{is_blank}
 use Rattle.ghcn_fields.specs.Lines.{numbered_lines}
 use Rattle.ghcn_fields.specs.Faults.{HaveNoFault, IsFirstFault}
+use Rattle.ghcn_fields.specs.FaultLaws.{no_fault-more}
 use Rattle.ghcn_files.specs.declared.station.Station.{Station}
 use Rattle.ghcn_files.specs.declared.month.Month.{Month}
 use Rattle.ghcn_files.specs.declared.fault.LineWhy.{LineWhy}
-use Rattle.ghcn_files.specs.Months.{read_month, IsMonth}
+use Rattle.ghcn_files.specs.Months.{read_month}
 use Rattle.ghcn_series.specs.declared.fault.DailyWhy.TheVariants.{Line, DuplicateMonth}
 use Rattle.ghcn_series.specs.declared.fault.DataFault.{DataFault}
 use Rattle.ghcn_series.specs.declared.fault.DataFault.TheVariants.{DailyLine, TooManyFiles, Memory}
 use Rattle.ghcn_series.specs.declared.reader.Reader.{Reader}
-use Rattle.ghcn_series.specs.DailyFaults.{FileLine, month_on, month_if_ok, same_month, repeats, is_listed, file_lines, daily_why, daily_fault}
-use Rattle.ghcn_series.specs.Gathered.{HasRead, HasReadLines, IsFirstRefusal}
+use Rattle.ghcn_series.specs.DailyFaults.{FileLine, month_on, month_if_ok, repeats, is_listed, line_of, file_lines, daily_why, daily_fault}
+use Rattle.ghcn_series.specs.Gathered.{HasRead, HasReadLines, IsLineRefusal}
+use Rattle.ghcn_series.specs.Steps.{Reads, Refuses, ReadsMonth}
 
 module _ {L W : Type 0} (fault : List L → L → Option W) where
-  -- lines without a fault, and one more
-  no_fault-more : (earlier before : List L) (l : L) → HaveNoFault fault earlier before → fault (earlier ++ before) l ≡ None → HaveNoFault fault earlier (before ++ l ∷ [])
-  no_fault-more earlier [] l all none = (ap (λ (ls : List L). fault ls l) (sym (append-nil earlier)) ∙ none, tt)
-  no_fault-more earlier (x ∷ xs) l all none =
-      (all.0, no_fault-more (earlier ++ x ∷ []) xs l all.1 (ap (λ (ls : List L). fault ls l) (append_assoc earlier (x ∷ []) xs) ∙ none))
-
   -- the line behind lines without a fault is the first with one
-  first_here : (before : List L) (l : L) (w : W) → HaveNoFault fault [] before → fault before l ≡ Some w → IsFirstFault fault (before ++ l ∷ []) l w
+  first_here : (before : List L) (l : L) (w : W) → HaveNoFault fault before → fault before l ≡ Some w → IsFirstFault fault (before ++ l ∷ []) l w
   first_here before l w none here = record { before = before; behind = []; place = refl; here = here; none_before = none }
 
   -- more lines behind change nothing
@@ -57,10 +53,10 @@ pub read-passed : (r : Reader) (l : FileLine) → read_month l.bytes ≡ Ok None
 read-passed r l is before read =
     let P : List Month → Type 0 = HasRead r in
     let same : filter_map month_on before ≡ filter_map month_on (before ++ l ∷ []) = sym (append-nil (filter_map month_on before)) ∙ sym (months-more before l None (ap month_if_ok is)) in
-    record { months = subst P same read.months; right = no_fault-more (daily_fault r.stations) [] before l read.right (why_of r.stations before l (Ok None) is) }
+    record { months = subst P same read.months; right = no_fault-more (daily_fault r.stations) before l read.right (why_of r.stations before l (Ok None) is) }
 
 -- a line that fails a test by itself is the first with a fault
-pub refused-line : (r : Reader) (l : FileLine) (why : LineWhy) → read_month l.bytes ≡ Err why → (before : List FileLine) → HasReadLines r before → IsFirstRefusal r.stations (before ++ l ∷ []) (DailyLine l.file l.line (Line why))
+pub refused-line : (r : Reader) (l : FileLine) (why : LineWhy) → read_month l.bytes ≡ Err why → (before : List FileLine) → HasReadLines r before → IsLineRefusal r.stations (before ++ l ∷ []) (DailyLine l.file l.line (Line why))
 refused-line r l why is before read = (l, first_here (daily_fault r.stations) before l (DailyLine l.file l.line (Line why)) read.right (why_of r.stations before l (Err why) is))
 
 not_repeated : (b : Bool) → true ≡ not b → cond b (Some DuplicateMonth) None ≡ None
@@ -72,35 +68,33 @@ repeated true e = refl
 repeated false e = absurd cc
 
 -- a line that is a new month is read
-pub read-month : (old new : Reader) (l : FileLine) (m : Month) → read_month l.bytes ≡ Ok (Some m) → IsMonth m → new.stations ≡ old.stations
-    → ((months : List Month) → IsMonth m → HasRead old months → (true ≡ not (is_listed old.stations m.id && list_any (same_month m) months)) × HasRead new (months ++ m ∷ []))
-    → (before : List FileLine) → HasReadLines old before → HasReadLines new (before ++ l ∷ [])
-read-month old new l m is right stations adds before read =
-    let told = adds (filter_map month_on before) right read.months in
+pub read-month : (old new : Reader) (l : FileLine) (m : Month) → read_month l.bytes ≡ Ok (Some m) → new.stations ≡ old.stations
+    → ReadsMonth old new m true → (before : List FileLine) → HasReadLines old before → HasReadLines new (before ++ l ∷ [])
+read-month old new l m is stations adds before read =
+    let months = filter_map month_on before in
     let P : List Month → Type 0 = HasRead new in
-    let Q : List Station → Type 0 = λ ss. HaveNoFault (daily_fault ss) [] (before ++ l ∷ []) in
+    let Q : List Station → Type 0 = λ ss. HaveNoFault (daily_fault ss) (before ++ l ∷ []) in
     let none : daily_fault old.stations before l ≡ None =
     why_of old.stations before l (Ok (Some m)) is
-    ∙ ap (option_map (λ why. DailyLine l.file l.line why)) (not_repeated (is_listed old.stations m.id && repeats before m) told.0) in
+    ∙ ap (option_map (λ why. DailyLine l.file l.line why)) (not_repeated (is_listed old.stations m.id && repeats before m) (adds.is_new months read.months)) in
     record {
-      months = subst P (sym (months-more before l (Some m) (ap month_if_ok is))) told.1;
-      right = subst Q (sym stations) (no_fault-more (daily_fault old.stations) [] before l read.right none);
+      months = subst P (sym (months-more before l (Some m) (ap month_if_ok is))) (adds.holds months read.months);
+      right = subst Q (sym stations) (no_fault-more (daily_fault old.stations) before l read.right none);
     }
 
 -- a line that is a month of an earlier line is the first with a fault
-pub refused-month : (old : Reader) (l : FileLine) (m : Month) → read_month l.bytes ≡ Ok (Some m) → IsMonth m
-    → ((months : List Month) → IsMonth m → HasRead old months → false ≡ not (is_listed old.stations m.id && list_any (same_month m) months))
-    → (before : List FileLine) → HasReadLines old before → IsFirstRefusal old.stations (before ++ l ∷ []) (DailyLine l.file l.line DuplicateMonth)
-refused-month old l m is right adds before read =
-    let told = adds (filter_map month_on before) right read.months in (
+pub refused-month : (old new : Reader) (l : FileLine) (m : Month) → read_month l.bytes ≡ Ok (Some m)
+    → ReadsMonth old new m false → (before : List FileLine) → HasReadLines old before → IsLineRefusal old.stations (before ++ l ∷ []) (DailyLine l.file l.line DuplicateMonth)
+refused-month old new l m is adds before read =
+    let months = filter_map month_on before in (
       l,
       first_here (daily_fault old.stations) before l (DailyLine l.file l.line DuplicateMonth) read.right
-          (why_of old.stations before l (Ok (Some m)) is ∙ ap (option_map (λ why. DailyLine l.file l.line why)) (repeated (is_listed old.stations m.id && repeats before m) told)),
+          (why_of old.stations before l (Ok (Some m)) is ∙ ap (option_map (λ why. DailyLine l.file l.line why)) (repeated (is_listed old.stations m.id && repeats before m) (adds.is_new months read.months))),
     )
 
 -- the lines of a file that aren't blank, of those that are still to come
 abbrev pub told : ℕ → List (ℕ × List ℕ) → List FileLine
-told file rest = map (λ l. record { file = file; line = l.0; bytes = l.1 }) (filter (λ l. not (is_blank l.1)) rest)
+told file rest = map (line_of file) (filter (λ l. not (is_blank l.1)) rest)
 
 -- how far a file is read: some of its lines are done, and the others are still to come
 pub record IsWithin (now : Reader) (file : ℕ) (rest : List (ℕ × List ℕ)) (before all : List FileLine) : Type 0 where
@@ -108,16 +102,11 @@ pub record IsWithin (now : Reader) (file : ℕ) (rest : List (ℕ × List ℕ)) 
   pub parts : done ++ told file rest ≡ all
   pub read : HasReadLines now (before ++ done)
 
-line_of : ℕ → ℕ × List ℕ → FileLine
-line_of file l = record { file = file; line = l.0; bytes = l.1 }
-
 told-blank : (file line : ℕ) (bytes : List ℕ) (rest : List (ℕ × List ℕ)) → is_blank bytes ≡ true → told file ((line, bytes) ∷ rest) ≡ told file rest
-unfolding line_of
 told-blank file line bytes rest blank =
     ap (λ (b : Bool). map (line_of file) (cond (not b) ((line, bytes) ∷ filter (λ l. not (is_blank l.1)) rest) (filter (λ l. not (is_blank l.1)) rest))) blank
 
 told-line : (file line : ℕ) (bytes : List ℕ) (rest : List (ℕ × List ℕ)) → is_blank bytes ≡ false → told file ((line, bytes) ∷ rest) ≡ line_of file (line, bytes) ∷ told file rest
-unfolding line_of
 told-line file line bytes rest full =
     ap (λ (b : Bool). map (line_of file) (cond (not b) ((line, bytes) ∷ filter (λ l. not (is_blank l.1)) rest) (filter (λ l. not (is_blank l.1)) rest))) full
 
@@ -131,11 +120,10 @@ within-blank now file line bytes rest left before all step blank is = record {
 
 -- one line more of a file is read
 pub within-line : (now new : Reader) (file line : ℕ) (bytes : List ℕ) (rest left : List (ℕ × List ℕ)) (before all : List FileLine) → rest ≡ (line, bytes) ∷ left → is_blank bytes ≡ false
-    → ((ls : List FileLine) → HasReadLines now ls → HasReadLines new (ls ++ record { file = file; line = line; bytes = bytes } ∷ []))
+    → Reads now new (line_of file (line, bytes) ∷ [])
     → IsWithin now file rest before all → IsWithin new file left before all
-unfolding line_of
 within-line now new file line bytes rest left before all step full reads is =
-    let this : FileLine = record { file = file; line = line; bytes = bytes } in
+    let this : FileLine = line_of file (line, bytes) in
     let P : List FileLine → Type 0 = HasReadLines new in
     record {
       done = is.done ++ this ∷ [];
@@ -143,29 +131,29 @@ within-line now new file line bytes rest left before all step full reads is =
           append_assoc is.done (this ∷ []) (told file left)
           ∙ ap (λ ls. is.done ++ ls) (sym (ap (told file) step ∙ told-line file line bytes left full))
           ∙ is.parts;
-      read = subst P (append_assoc before is.done (this ∷ [])) (reads (before ++ is.done) is.read);
+      read = subst P (append_assoc before is.done (this ∷ [])) (reads.holds (before ++ is.done) is.read);
     }
 
 -- more lines behind change no fault
-pub refused_among : (stations : List Station) (ls more : List FileLine) (f : DataFault) → IsFirstRefusal stations ls f → IsFirstRefusal stations (ls ++ more) f
+pub refused_among : (stations : List Station) (ls more : List FileLine) (f : DataFault) → IsLineRefusal stations ls f → IsLineRefusal stations (ls ++ more) f
 refused_among stations ls more (Memory m) is = tt
 refused_among stations ls more TooManyFiles is = absurd is
 refused_among stations ls more (DailyLine file line why) is = (is.0, first_among (daily_fault stations) ls more is.0 (DailyLine file line why) is.1)
 
 -- the first line with a fault is that of the file
 pub within-fault : (now : Reader) (file line : ℕ) (bytes : List ℕ) (rest left : List (ℕ × List ℕ)) (before all : List FileLine) (f : DataFault) (stations : List Station) → rest ≡ (line, bytes) ∷ left → is_blank bytes ≡ false
-    → ((ls : List FileLine) → HasReadLines now ls → IsFirstRefusal stations (ls ++ record { file = file; line = line; bytes = bytes } ∷ []) f)
-    → IsWithin now file rest before all → IsFirstRefusal stations (before ++ all) f
-unfolding line_of
-within-fault now file line bytes rest left before all f stations step full refuses is =
-    let this : FileLine = record { file = file; line = line; bytes = bytes } in
-    let P : List FileLine → Type 0 = λ ls. IsFirstRefusal stations ls f in
+    → now.stations ≡ stations → Refuses now (line_of file (line, bytes) ∷ []) f
+    → IsWithin now file rest before all → IsLineRefusal stations (before ++ all) f
+within-fault now file line bytes rest left before all f stations step full same refuses is =
+    let this : FileLine = line_of file (line, bytes) in
+    let P : List FileLine → Type 0 = λ ls. IsLineRefusal stations ls f in
     let whole : ((before ++ is.done) ++ this ∷ []) ++ told file left ≡ before ++ all =
     append_assoc (before ++ is.done) (this ∷ []) (told file left)
     ∙ append_assoc before is.done (this ∷ told file left)
     ∙ ap (λ ls. before ++ (is.done ++ ls)) (sym (ap (told file) step ∙ told-line file line bytes left full))
     ∙ ap (λ ls. before ++ ls) is.parts in
-    subst P whole (refused_among stations ((before ++ is.done) ++ this ∷ []) (told file left) f (refuses (before ++ is.done) is.read))
+    subst P whole (refused_among stations ((before ++ is.done) ++ this ∷ []) (told file left) f
+    (subst (λ ss. IsLineRefusal ss ((before ++ is.done) ++ this ∷ []) f) same (refuses.first (before ++ is.done) is.read)))
 
 -- nothing of a file is read
 pub at_first_line : (now : Reader) (file : ℕ) (text : List ℕ) (rest : List (ℕ × List ℕ)) (before : List FileLine) → rest ≡ numbered_lines text → HasReadLines now before → IsWithin now file rest before (file_lines (file, text))

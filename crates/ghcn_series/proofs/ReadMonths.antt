@@ -1,8 +1,7 @@
 -- A reader that has read one month more.
-use Rattle.std.proofs.Common.{◌≡◌, ℕ, zero, suc, ◌+◌, ◌<◌, Bool, true, false, cond, not, List, [], ◌∷◌, ◌++◌, length, take, get_or, Option, None, Some, refl, sym, ap, ◌∙◌, arith, subst, add-zero, zero-add}
+use Rattle.std.proofs.Common.{◌≡◌, ℕ, zero, suc, ◌+◌, ◌<◌, Bool, true, false, cond, not, List, [], ◌∷◌, ◌++◌, length, take, get_or, None, Some, refl, sym, ap, ◌∙◌, arith, subst, add-zero, zero-add}
 use Rattle.std.specs.Prelude.{◌&&◌, ◌||◌}
 use Rattle.std.specs.Bool.{OnTrue}
-use Rattle.std.specs.Option.{SomeIff}
 use Rattle.std.specs.List.{list_any, slice_get, count_by, AllZip, AllByRecursion, IsDistinct}
 use Rattle.std.proofs.Math.ListN.{set}
 use Rattle.std.proofs.lemmas.List.Folds.{list_any-append}
@@ -19,10 +18,12 @@ use Rattle.ghcn_series.specs.declared.gathering.Gathering.{Gathering}
 use Rattle.ghcn_series.specs.declared.station.StationGathering.{StationGathering}
 use Rattle.ghcn_series.specs.declared.reader.Reader.{Reader}
 use Rattle.ghcn_series.specs.DailyFaults.{same_month, is_listed}
+use Rattle.ghcn_series.specs.Says.{in_64_bits}
 use Rattle.ghcn_series.specs.Gathered.{IsGatheringOf, AreByElement, IsStationOf, HasRead}
+use Rattle.ghcn_series.specs.Steps.{GathersAt}
 use Rattle.ghcn_series.proofs.StationMonths.{gathering-other}
 use Rattle.ghcn_series.proofs.Places.{ids, from_ids, listed-is}
-use Rattle.ghcn_files.proofs.ById.{same_id-turned}
+use Rattle.ghcn_files.specs.IdLaws.{same_id-turned}
 use Rattle.ghcn_series.proofs.ListFacts.{neither}
 
 other_zip : (before : List Month) (m : Month) (id : StationId) (gs : List Gathering) (es : List Element) → same_id m.id id ≡ false → AllZip (IsGatheringOf before id) gs es → AllZip (IsGatheringOf (before ++ m ∷ []) id) gs es
@@ -85,33 +86,45 @@ count_more stations before m b is =
     ∙ ap (λ (c : Bool). unlisted_months stations before + (0 + cond (not c) 1 0)) is
     ∙ ap (λ (n : ℕ). unlisted_months stations before + n) (zero-add (cond (not b) 1 0))
 
+-- one more, where the number was capped before
+capped : (n : ℕ) → in_64_bits (in_64_bits n + 1) ≡ in_64_bits (n + 1)
+capped n = omega arith
+
 both_right : (before : List Month) (m : Month) → AllByRecursion IsMonth before → IsMonth m → AllByRecursion IsMonth (before ++ m ∷ [])
 both_right [] m all right = (right, tt)
 both_right (x ∷ xs) m all right = (all.0, both_right xs m all.1 right)
 
+-- the gathering at a place is of the station there
+station_at : (before : List Month) (ss : List Station) (gs : List StationGathering) (k : ℕ) (s : Station) (g : StationGathering) → AllZip (IsStationOf before) ss gs → slice_get ss k ≡ Some s → g ≡ get_or gs k g → IsStationOf before s g
+station_at before [] gs k s g all at here = absurd cc
+station_at before (x ∷ xs) [] k s g all at here = absurd all
+station_at before (x ∷ xs) (y ∷ ys) zero s g all at here =
+    let this : x ≡ s = cc in
+    let P : StationGathering → Type 0 = λ h. IsStationOf before x h in
+    let Q : Station → Type 0 = λ z. IsStationOf before z g in
+    subst Q this (subst P (sym here) all.0)
+station_at before (x ∷ xs) (y ∷ ys) (suc k) s g all at here = station_at before xs ys k s g all.1 at here
+
+-- the gathering at the place of an ID has that ID
+pub own_id : (before : List Month) (r : Reader) (id : StationId) (k : ℕ) (g : StationGathering) → HasRead r before → place_of r.stations id ≡ Some k → g ≡ get_or r.gathered.items k g → id ≡ g.id
+own_id before r id k g is place here =
+    let at = listed-is r.stations id k place in
+    let station = station_at before r.stations r.gathered.items k at.0.0 g is.gathered at.0.1 here in
+    sym (station.id ∙ at.0.2)
+
 -- a month of a listed station is read
 pub read-listed : (old new : Reader) (m : Month) (k : ℕ) (g now : StationGathering) (added : Bool) → place_of old.stations m.id ≡ Some k → g ≡ get_or old.gathered.items k g → now.id ≡ g.id
-    → ((before : List Month) → m.id ≡ g.id → AreByElement before g.id g.by_element.items → (added ≡ not (list_any (same_month m) before)) × OnTrue added (AreByElement (before ++ m ∷ []) g.id now.by_element.items))
+    → GathersAt g now m added
     → new.stations ≡ old.stations → new.unlisted ≡ old.unlisted → new.gathered.items ≡ set old.gathered.items k now
     → (before : List Month) → IsMonth m → HasRead old before
     → (added ≡ not (is_listed old.stations m.id && list_any (same_month m) before)) × OnTrue added (HasRead new (before ++ m ∷ []))
 read-listed old new m k g now added place here same adds stations unlisted gathered before right is =
     let at = listed-is old.stations m.id k place in
-    let station = station_of old.stations old.gathered.items k at.0.0 is.gathered at.0.1 here in
-    let of : m.id ≡ g.id = sym (station.id ∙ at.0.2) in
-    let told = adds before of station.holds in
-    (told.0 ∙ ap (λ (b : Bool). not (b && list_any (same_month m) before)) (sym at.1), on_true added told.1)
+    let station = station_at before old.stations old.gathered.items k at.0.0 g is.gathered at.0.1 here in (
+      adds.is_new before station.holds ∙ ap (λ (b : Bool). not (b && list_any (same_month m) before)) (sym at.1),
+      on_true added (adds.holds before station.holds),
+    )
   where
-    station_of : (ss : List Station) (gs : List StationGathering) (k : ℕ) (s : Station) → AllZip (IsStationOf before) ss gs → slice_get ss k ≡ Some s → g ≡ get_or gs k g → IsStationOf before s g
-    station_of [] gs k s all at here = absurd cc
-    station_of (x ∷ xs) [] k s all at here = absurd all
-    station_of (x ∷ xs) (y ∷ ys) zero s all at here =
-        let this : x ≡ s = cc in
-        let P : StationGathering → Type 0 = λ h. IsStationOf before x h in
-        let Q : Station → Type 0 = λ z. IsStationOf before z g in
-        subst Q this (subst P (sym here) all.0)
-    station_of (x ∷ xs) (y ∷ ys) (suc k) s all at here = station_of xs ys k s all.1 at here
-
     on_true : (b : Bool) → OnTrue b (AreByElement (before ++ m ∷ []) g.id now.by_element.items) → OnTrue b (HasRead new (before ++ m ∷ []))
     on_true true holds =
         let at = listed-is old.stations m.id k place in
@@ -122,14 +135,15 @@ read-listed old new m k g now added place here same adds stations unlisted gathe
           listed = subst P (sym stations) is.listed;
           right = both_right before m is.right right;
           unlisted =
-              unlisted ∙ is.unlisted ∙ sym (add-zero (unlisted_months old.stations before)) ∙ sym (count_more old.stations before m true at.1)
-              ∙ ap (λ (ss : List Station). unlisted_months ss (before ++ m ∷ [])) (sym stations);
+              unlisted ∙ is.unlisted
+              ∙ ap in_64_bits (sym (add-zero (unlisted_months old.stations before)) ∙ sym (count_more old.stations before m true at.1))
+              ∙ ap (λ (ss : List Station). in_64_bits (unlisted_months ss (before ++ m ∷ []))) (sym stations);
           gathered = subst (λ ss. Q ss new.gathered.items) (sym stations) (subst (Q old.stations) (sym gathered) put);
         }
     on_true false holds = tt
 
 -- a month of a station that isn't listed is passed over and counted
-pub read-unlisted : (old new : Reader) (m : Month) → is_listed old.stations m.id ≡ false → new.stations ≡ old.stations → new.gathered.items ≡ old.gathered.items → new.unlisted ≡ old.unlisted + 1
+pub read-unlisted : (old new : Reader) (m : Month) → is_listed old.stations m.id ≡ false → new.stations ≡ old.stations → new.gathered.items ≡ old.gathered.items → new.unlisted ≡ in_64_bits (old.unlisted + 1)
     → (before : List Month) → IsMonth m → HasRead old before
     → (true ≡ not (is_listed old.stations m.id && list_any (same_month m) before)) × HasRead new (before ++ m ∷ [])
 read-unlisted old new m none stations gathered unlisted before right is =
@@ -141,8 +155,10 @@ read-unlisted old new m none stations gathered unlisted before right is =
         listed = subst P (sym stations) is.listed;
         right = both_right before m is.right right;
         unlisted =
-            unlisted ∙ ap (λ (n : ℕ). n + 1) is.unlisted ∙ sym (count_more old.stations before m false none)
-            ∙ ap (λ (ss : List Station). unlisted_months ss (before ++ m ∷ [])) (sym stations);
+            unlisted ∙ ap (λ (n : ℕ). in_64_bits (n + 1)) is.unlisted
+            ∙ capped (unlisted_months old.stations before)
+            ∙ ap in_64_bits (sym (count_more old.stations before m false none))
+            ∙ ap (λ (ss : List Station). in_64_bits (unlisted_months ss (before ++ m ∷ []))) (sym stations);
         gathered = subst (λ ss. Q ss new.gathered.items) (sym stations) (subst (Q old.stations) (sym gathered) kept);
       },
     )
@@ -180,8 +196,3 @@ length-gathered months (s ∷ ss) (g ∷ gs) all = ap suc (length-gathered month
 -- a listed station has its gathering
 pub within_gathered : (months : List Month) (r : Reader) (id : StationId) (k : ℕ) → HasRead r months → place_of r.stations id ≡ Some k → k < length r.gathered.items
 within_gathered months r id k is place = omega (arith, (listed-is r.stations id k place).2, length-gathered months r.stations r.gathered.items is.gathered)
-
--- the number where there is one
-pub some_number : (o : Option ℕ) (P : Type 0) (n k : ℕ) → SomeIff o P n → o ≡ Some k → k ≡ n
-some_number None P n k is e = absurd cc
-some_number (Some x) P n k is e = let same : x ≡ k = cc in sym same ∙ is.1

@@ -18,7 +18,7 @@ use Rattle.ghcn_files.specs.Listed.{is_station_of, place_of}
 use Rattle.ghcn_series.specs.Series.{Usable, is_series_of}
 use Rattle.ghcn_series.specs.Held.{all_of, is_of_element}
 use Rattle.ghcn_series.proofs.Places.{ids}
-use Rattle.ghcn_files.proofs.ById.{same_id-is, same_id-turned, place_is, no_place}
+use Rattle.ghcn_files.specs.IdLaws.{same_id-is, same_id-turned, place_is, no_place}
 use Rattle.ghcn_series.proofs.ListFacts.{both_all}
 
 -- `==` of elements

@@ -17,7 +17,8 @@ use Rattle.ghcn_files.specs.Elements.{elements, same_element, element_index}
 use Rattle.ghcn_series.specs.declared.gathering.Gathering.{Gathering}
 use Rattle.ghcn_series.specs.DailyFaults.{same_month}
 use Rattle.ghcn_series.specs.Gathered.{same_time, months_of, IsGathering, IsGatheringOf, AreByElement}
-use Rattle.ghcn_files.proofs.ById.{same_id-turned}
+use Rattle.ghcn_files.specs.IdLaws.{same_id-turned}
+use Rattle.ghcn_series.specs.Steps.{Gathers}
 use Rattle.ghcn_series.proofs.ListFacts.{neither, and_false}
 
 -- a station without a month has none of any element
@@ -159,14 +160,15 @@ kept_by_element months id (g ∷ gs) is = is
 
 -- one month more of a station, unless it was read before
 pub by_element-more : (m : Month) (id : StationId) (five : List Gathering) (k : ℕ) (g new : Gathering) (added : Bool) → k ≡ element_index m.element → g ≡ get_or five k g → new.element ≡ g.element
-    → ((months : List Month) → IsGathering g months → (added ≡ not (list_any (same_time m) months)) × OnTrue added (IsGathering new (months ++ m ∷ [])))
+    → Gathers g new m added
     → (before : List Month) → m.id ≡ id → AllZip (IsGatheringOf before id) five elements
     → (added ≡ not (list_any (same_month m) before)) × OnTrue added (AreByElement (before ++ m ∷ []) id (set five k new))
 by_element-more m id five k g new added place here same adds before of is =
     let at : slice_get elements k ≡ Some m.element = ap (slice_get elements) place ∙ element_at m.element in
-    let gathered = adds (months_of before id m.element) (found_at five elements before id k m.element g is at here) in
+    let months = months_of before id m.element in
+    let own = found_at five elements before id k m.element g is at here in
     let repeated = repeats-is before m ∙ ap (λ (i : StationId). list_any (same_time m) (months_of before i m.element)) of in
-    (gathered.0 ∙ ap not (sym repeated), on_true added gathered.1)
+    (adds.is_new months own ∙ ap not (sym repeated), on_true added (adds.holds months own))
   where
     on_true : (b : Bool) → OnTrue b (IsGathering new (months_of before id m.element ++ m ∷ [])) → OnTrue b (AreByElement (before ++ m ∷ []) id (set five k new))
     on_true true holds = kept_by_element (before ++ m ∷ []) id (set five k new) (put_gathering before m id five elements k g new of elements_differ is (ap (slice_get elements) place ∙ element_at m.element) here same holds)

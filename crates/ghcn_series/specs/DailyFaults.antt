@@ -1,9 +1,10 @@
 -- The lines of the daily files in order, and the first of them with a fault.
-use Rattle.std.specs.Prelude.{◌≡◌, ℕ, Bool, ◌&&◌, not, ◌==◌, if◌then◌else◌, List, map, Option, None, Some, Result, Ok, Err, filter, ⊤}
+use Rattle.std.specs.Prelude.{◌≡◌, ℕ, ◌<◌, ◌^◌, Bool, ◌&&◌, not, ◌==◌, if◌then◌else◌, List, length, map, Option, None, Some, Result, Ok, Err, filter, ⊤}
 use Rattle.std.specs.List.{list_any, flat_map, filter_map, enumerate_from}
 use Rattle.std.specs.Option.{option_map}
 use Rattle.ghcn_fields.specs.Bytes.{is_blank}
 use Rattle.ghcn_fields.specs.Lines.{numbered_lines}
+use Rattle.ghcn_fields.specs.Faults.{IsFirstFault}
 use Rattle.ghcn_files.specs.declared.station.StationId.{StationId}
 use Rattle.ghcn_files.specs.declared.station.Station.{Station}
 use Rattle.ghcn_files.specs.declared.month.Month.{Month}
@@ -24,9 +25,13 @@ pub record FileLine : Type 0 where
   pub line : ℕ
   pub bytes : List ℕ
 
+-- the line of this number of a file
+abbrev pub line_of : ℕ → ℕ × List ℕ → FileLine
+line_of file l = record { file = file; line = l.0; bytes = l.1 }
+
 -- the lines of a file, of this number
 abbrev pub file_lines : ℕ × List ℕ → List FileLine
-file_lines f = map (λ l. record { file = f.0; line = l.0; bytes = l.1 }) (filter (λ l. not (is_blank l.1)) (numbered_lines f.1))
+file_lines f = map (line_of f.0) (filter (λ l. not (is_blank l.1)) (numbered_lines f.1))
 
 -- the lines of all files, by file and line, both from 1
 abbrev pub daily_lines : List (List ℕ) → List FileLine
@@ -68,3 +73,13 @@ abbrev pub IsRefusal : DataFault → Result Contents DataFault → Type 0
 IsRefusal (Memory m) read = ⊤
 IsRefusal (DailyLine file line why) read = read ≡ Err (DailyLine file line why)
 IsRefusal TooManyFiles read = read ≡ Err TooManyFiles
+
+-- some line is the first with a fault, and has this one
+abbrev pub HasFirst : DataFault → List Station → List FileLine → Type 0
+HasFirst fault stations ls = (l : FileLine) × IsFirstFault (daily_fault stations) ls l fault
+
+-- want of memory, too many files, or the fault of the first line, by file and line, that has one
+abbrev pub IsFirstRefusal : DataFault → List Station → List (List ℕ) → Type 0
+IsFirstRefusal (Memory m) stations files = ⊤
+IsFirstRefusal (DailyLine file line why) stations files = HasFirst (DailyLine file line why) stations (daily_lines files)
+IsFirstRefusal TooManyFiles stations files = 2 ^ 20 < length files

@@ -6,7 +6,7 @@ use Rattle.std.specs.declared.cmp.Ordering.{Ordering}
 use Rattle.std.specs.Ordering.{nat_cmp, ordering_then}
 use Rattle.std.specs.BTreeSet.{contains}
 use Rattle.ghcn_fields.specs.Sorting.{sorted_by}
-use Rattle.ghcn_fields.specs.Faults.{HaveNoFault, IsFirstFault}
+use Rattle.ghcn_fields.specs.Faults.{HaveNoFault}
 use Rattle.ghcn_files.specs.declared.station.StationId.{StationId}
 use Rattle.ghcn_files.specs.declared.element.Element.{Element}
 use Rattle.ghcn_files.specs.declared.month.Month.{Month}
@@ -22,8 +22,8 @@ use Rattle.ghcn_series.specs.declared.reader.Reader.{Reader}
 use Rattle.ghcn_series.specs.declared.fault.DataFault.{DataFault}
 use Rattle.ghcn_series.specs.declared.fault.DataFault.TheVariants.{TooManyFiles, DailyLine, Memory}
 use Rattle.ghcn_series.specs.Series.{DayValue, Usable}
-use Rattle.ghcn_series.specs.DailyFaults.{FileLine, month_on, is_listed, daily_fault}
-use Rattle.ghcn_series.specs.Says.{Fact, fact_of}
+use Rattle.ghcn_series.specs.DailyFaults.{FileLine, month_on, is_listed, daily_fault, HasFirst}
+use Rattle.ghcn_series.specs.Says.{Fact, fact_of, in_64_bits}
 
 -- the day and the value of a fact, where its element can have the value
 abbrev pub counted : Fact → Option DayValue
@@ -94,16 +94,16 @@ station_series g = filter_map (gathered_series g.id) g.by_element.items
 pub record HasRead (r : Reader) (months : List Month) : Type 0 where
   pub listed : AreListed r.stations
   pub right : AllByRecursion IsMonth months
-  pub unlisted : r.unlisted ≡ count_by (λ m. not (is_listed r.stations m.id)) months
+  pub unlisted : r.unlisted ≡ in_64_bits (count_by (λ m. not (is_listed r.stations m.id)) months)
   pub gathered : AllZip (IsStationOf months) r.stations r.gathered.items
 
 -- a reader has read these lines, none of which has a fault
 pub record HasReadLines (r : Reader) (ls : List FileLine) : Type 0 where
   pub months : HasRead r (filter_map month_on ls)
-  pub right : HaveNoFault (daily_fault r.stations) [] ls
+  pub right : HaveNoFault (daily_fault r.stations) ls
 
 -- want of memory, or the fault of the first line that has one
-abbrev pub IsFirstRefusal : List Station → List FileLine → DataFault → Type 0
-IsFirstRefusal stations ls (Memory m) = ⊤
-IsFirstRefusal stations ls TooManyFiles = ⊥
-IsFirstRefusal stations ls (DailyLine file line why) = (l : FileLine) × IsFirstFault (daily_fault stations) ls l (DailyLine file line why)
+abbrev pub IsLineRefusal : List Station → List FileLine → DataFault → Type 0
+IsLineRefusal stations ls (Memory m) = ⊤
+IsLineRefusal stations ls TooManyFiles = ⊥
+IsLineRefusal stations ls (DailyLine file line why) = HasFirst (DailyLine file line why) stations ls

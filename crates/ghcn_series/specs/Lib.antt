@@ -3,3 +3,4 @@ pub mod DailyFaults
 pub mod Says
 pub mod Held
 pub mod Gathered
+pub mod Steps

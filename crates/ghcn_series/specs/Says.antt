@@ -1,5 +1,5 @@
 -- What the daily files say, and what of it counts.
-use Rattle.std.specs.Prelude.{ℕ, ◌^◌, Bool, false, ◌&&◌, ◌||◌, not, ◌==◌, nat_le, if◌then◌else◌, List, length, map, Option, None, Some, Result, Ok, Err, filter, ℤ, pos, int_le}
+use Rattle.std.specs.Prelude.{ℕ, ◌^◌, ◌-◌, min, Bool, false, ◌&&◌, ◌||◌, not, ◌==◌, nat_le, if◌then◌else◌, List, length, map, Option, None, Some, Result, Ok, Err, filter, ℤ, pos, int_le}
 use Rattle.std.specs.List.{flat_map, filter_map, enumerate_from, count_by}
 use Rattle.ghcn_fields.specs.Days.{day_number}
 use Rattle.ghcn_fields.specs.Faults.{first_fault}
@@ -63,9 +63,13 @@ abbrev pub all_series : List Station → List Fact → List Usable
 all_series stations facts =
     filter (λ s. not (length s.days == 0)) (flat_map (λ s. map (usable_of facts s) elements) stations)
 
--- the lines of the five elements without a fault whose station isn't listed
+-- a number as 64 bits hold it: from 2^64 - 1 on all numbers are this one
+abbrev pub in_64_bits : ℕ → ℕ
+in_64_bits n = min n (2 ^ 64 - 1)
+
+-- how many lines of the five elements without a fault have a station that isn't listed, in 64 bits
 abbrev pub unlisted : List Station → List FileLine → ℕ
-unlisted stations ls = count_by (λ m. not (is_listed stations m.id)) (filter_map month_on ls)
+unlisted stations ls = in_64_bits (count_by (λ m. not (is_listed stations m.id)) (filter_map month_on ls))
 
 -- what lines without a fault hold
 abbrev pub contents : List Station → List FileLine → Contents

@@ -1,11 +1,11 @@
 //! The series of all listed stations, from the bytes of daily files.
 
-ghost use Rattle.std.specs.Prelude.{◌≡◌, List, map, Ok, IfOk, IfErr};
+ghost use Rattle.std.specs.Prelude.{◌≡◌, ◌<◌, ◌^◌, map, length, Ok, Err, IfOk, IfErr};
 ghost use Rattle.std.specs.List.{find};
 ghost use Rattle.std.specs.Option.{option_copied};
 ghost use Rattle.ghcn_series.specs.Series.{series_of};
-ghost use Rattle.ghcn_series.specs.DailyFaults.{FileLine, IsRefusal};
-ghost use Rattle.ghcn_series.specs.Says.{data_of, contents};
+ghost use Rattle.ghcn_series.specs.DailyFaults.{IsRefusal, IsFirstRefusal};
+ghost use Rattle.ghcn_series.specs.Says.{data_of};
 ghost use Rattle.ghcn_series.specs.Held.{IsContents, AreByStation, all_of, is_of_element};
 
 use crate::reader::Reader;
@@ -47,6 +47,8 @@ impl Data {
     pub fn read(alloc: Global, stations: Stations, files: &[&[u8]]) -> Result<Self, DataFault>
         ensures ok { IfOk result (λ held. data_of stations (map (λ f. f.now) files.now) ≡ Ok held) }
         ensures err { IfErr result (λ fault. IsRefusal fault (data_of stations (map (λ f. f.now) files.now))) }
+        ensures first { IfErr result (λ fault. IsFirstRefusal fault stations (map (λ f. f.now) files.now)) }
+        ensures many { 2 ^ 20 < length files.now → result ≡ Err DataFault.TooManyFiles }
     {
         if files.len() > MOST_FILES {
             return Err(DataFault::TooManyFiles);

@@ -9,7 +9,9 @@ ghost use Rattle.ghcn_fields.specs.Days.{day_number};
 ghost use Rattle.ghcn_fields.specs.Sorting.{sorted_by};
 ghost use Rattle.ghcn_files.specs.Elements as elements;
 ghost use Rattle.ghcn_files.specs.declared.month.Month as months;
+ghost use Rattle.ghcn_files.specs.Months.{IsMonth};
 ghost use Rattle.ghcn_series.specs.Gathered as gathered;
+ghost use Rattle.ghcn_series.specs.Steps.{Gathers};
 
 use ghcn_fields::{Day, Memory, days_in_month};
 use ghcn_files::{Element, Month, Reading};
@@ -39,10 +41,9 @@ impl Gathering {
 
     /// Adds a month, or answers false where one of its time was added before.
     pub(crate) fn add(&mut self, month: &Month) -> Result<bool, Memory>
+        requires { IsMonth month.now }
         ensures element { self.new.element ≡ self.old.element }
-        ensures added { IfOk result (λ added. (before : List months.Month) → gathered.IsGathering self.old before →
-            (added ≡ not (list_any (gathered.same_time month.now) before))
-            × OnTrue added (gathered.IsGathering self.new (before ++ month.now ∷ []))) }
+        ensures added { IfOk result (Gathers self.old self.new month.now) }
     {
         if !self.seen.insert((month.year, month.month))? {
             return Ok(false);
@@ -76,10 +77,11 @@ impl Gathering {
 
 /// Adds the usable days of a month.
 fn add_days(days: &mut Vec<(Day, i32)>, month: &Month) -> Result<(), Memory>
+    requires { IsMonth month.now }
     ensures { OnOk result (days.new.items ≡ days.old.items ++ gathered.usable_days month.now) }
 {
     let Some(first) = Day::of(month.year, month.month, 1) else {
-        return Ok(());
+        unreachable!()
     };
     let length = days_in_month(month.year, month.month) as usize;
     for (index, reading) in month.days.iter().enumerate() {

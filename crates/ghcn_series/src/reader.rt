@@ -1,14 +1,11 @@
 //! Reads the lines of daily files one after another.
 
-ghost use Rattle.std.specs.Prelude.{◌≡◌, ◌++◌, ◌∷◌, [], ◌&&◌, List, map, not, Some, IfOk, IfErr, OnOk};
-ghost use Rattle.std.specs.Bool.{OnTrue};
-ghost use Rattle.std.specs.List.{list_any};
+ghost use Rattle.std.specs.Prelude.{◌≡◌, ◌∷◌, [], map, IfOk, IfErr, OnOk};
 ghost use Rattle.ghcn_files.specs.Listed.{AreListed, place_of};
 ghost use Rattle.ghcn_files.specs.Months.{IsMonth};
-ghost use Rattle.ghcn_files.specs.declared.month.Month as months;
-ghost use Rattle.ghcn_series.specs.DailyFaults.{FileLine, file_lines, daily_lines, same_month, is_listed};
-ghost use Rattle.ghcn_series.specs.Says.{contents};
-ghost use Rattle.ghcn_series.specs.Gathered.{HasRead, HasReadLines, IsFirstRefusal};
+ghost use Rattle.ghcn_series.specs.DailyFaults.{line_of, file_lines, daily_lines};
+ghost use Rattle.ghcn_series.specs.Gathered.{HasRead, HasReadLines, IsLineRefusal};
+ghost use Rattle.ghcn_series.specs.Steps.{HasReadSome, Reads, Refuses, ReadsMonth, HoldsAll};
 
 use crate::station::StationGathering;
 use crate::{DailyWhy, Data, DataFault};
@@ -55,8 +52,7 @@ impl Reader {
     ) -> Result<Self, DataFault>
         ensures stations { IfOk result (λ reader. reader.stations ≡ stations) }
         ensures read { IfOk result (λ reader. HasReadLines reader (daily_lines (map (λ f. f.now) files.now))) }
-        ensures fault { IfErr result (λ fault.
-            IsFirstRefusal stations (daily_lines (map (λ f. f.now) files.now)) fault) }
+        ensures fault { IfErr result (IsLineRefusal stations (daily_lines (map (λ f. f.now) files.now))) }
     {
         let mut reader = match Reader::new(alloc, stations) {
             Ok(reader) => reader,
@@ -70,11 +66,10 @@ impl Reader {
 
     /// Adds the lines of a file.
     fn add_file(&mut self, alloc: Global, file: u64, text: &[u8]) -> Result<(), DataFault>
+        requires { HasReadSome self.old }
         ensures stations { self.new.stations ≡ self.old.stations }
-        ensures read { OnOk result ((before : List FileLine) → HasReadLines self.old before →
-            HasReadLines self.new (before ++ file_lines (file, text.now))) }
-        ensures fault { IfErr result (λ fault. (before : List FileLine) → HasReadLines self.old before →
-            IsFirstRefusal self.old.stations (before ++ file_lines (file, text.now)) fault) }
+        ensures read { OnOk result (Reads self.old self.new (file_lines (file, text.now))) }
+        ensures fault { IfErr result (Refuses self.old (file_lines (file, text.now))) }
     {
         for (line, bytes) in lines(text) {
             if is_blank(bytes) {
@@ -87,9 +82,8 @@ impl Reader {
 
     /// The data of all lines that were read.
     pub(crate) fn finish(self, alloc: Global) -> Result<Data, Memory>
-        requires { (ls : List FileLine) × HasReadLines self ls }
-        ensures { IfOk result (λ held. (ls : List FileLine) → HasReadLines self ls →
-            held ≡ contents self.stations ls) }
+        requires { HasReadSome self }
+        ensures { IfOk result (HoldsAll self) }
     {
         let Reader {
             stations,
@@ -112,13 +106,10 @@ impl Reader {
         line: u64,
         bytes: &[u8],
     ) -> Result<(), DataFault>
+        requires { HasReadSome self.old }
         ensures stations { self.new.stations ≡ self.old.stations }
-        ensures read { let this : FileLine = record { file = file; line = line; bytes = bytes.now } in
-            OnOk result ((before : List FileLine) → HasReadLines self.old before →
-            HasReadLines self.new (before ++ this ∷ [])) }
-        ensures fault { let this : FileLine = record { file = file; line = line; bytes = bytes.now } in
-            IfErr result (λ fault. (before : List FileLine) → HasReadLines self.old before →
-            IsFirstRefusal self.old.stations (before ++ this ∷ []) fault) }
+        ensures read { OnOk result (Reads self.old self.new (line_of file (line, bytes.now) ∷ [])) }
+        ensures fault { IfErr result (Refuses self.old (line_of file (line, bytes.now) ∷ [])) }
     {
         let month = match read_month(bytes) {
             Ok(Some(month)) => month,
@@ -134,20 +125,18 @@ impl Reader {
 
     /// Adds a month, or answers false where its station is listed and has that month already.
     fn add_month(&mut self, alloc: Global, month: &Month) -> Result<bool, Memory>
+        requires right { IsMonth month.now }
+        requires read { HasReadSome self.old }
         ensures stations { self.new.stations ≡ self.old.stations }
-        ensures added { IfOk result (λ added.
-            (before : List months.Month) → IsMonth month.now → HasRead self.old before →
-            (added ≡ not (is_listed self.old.stations month.now.id && list_any (same_month month.now) before))
-            × OnTrue added (HasRead self.new (before ++ month.now ∷ []))) }
+        ensures added { IfOk result (ReadsMonth self.old self.new month.now) }
     {
         match self.place(&month.id) {
-            Some(place) if place < self.gathered.len() => {
+            Some(place) => {
                 self.last = place;
                 self.gathered[place].add(alloc, month)
             }
-            _ => {
-                // More months than 64 bits count are no more than memory can't hold.
-                self.unlisted = self.unlisted.checked_add(1).ok_or(Memory)?;
+            None => {
+                self.unlisted = self.unlisted.saturating_add(1);
                 Ok(true)
             }
         }
@@ -155,7 +144,8 @@ impl Reader {
 
     /// The place of a station in the list.
     fn place(&self, id: &StationId) -> Option<usize>
-        ensures { AreListed self.now.stations → result ≡ place_of self.now.stations id.now }
+        requires { AreListed self.now.stations }
+        ensures { result ≡ place_of self.now.stations id.now }
     {
         match self.stations.at(self.last as u64) {
             Some(station) if station.id == *id => Some(self.last),

@@ -5,8 +5,9 @@ ghost use Rattle.std.specs.Bool.{OnTrue};
 ghost use Rattle.std.specs.List.{list_any, AllByRecursion, AllZip};
 ghost use Rattle.ghcn_files.specs.Elements.{elements, element_index};
 ghost use Rattle.ghcn_files.specs.declared.month.Month as months;
-ghost use Rattle.ghcn_series.specs.DailyFaults.{same_month};
+ghost use Rattle.ghcn_files.specs.Months.{IsMonth};
 ghost use Rattle.ghcn_series.specs.Gathered as gathered;
+ghost use Rattle.ghcn_series.specs.Steps.{Gathers, GathersAt, Opens};
 
 use crate::Series;
 use crate::gathering::Gathering;
@@ -45,11 +46,10 @@ impl StationGathering {
 
     /// Adds a month of the station, or answers false where that month was added before.
     pub(crate) fn add(&mut self, alloc: Global, month: &Month) -> Result<bool, Memory>
+        requires own { month.now.id ≡ self.old.id }
+        requires right { IsMonth month.now }
         ensures id { self.new.id ≡ self.old.id }
-        ensures added { IfOk result (λ added. (before : List months.Month) → month.now.id ≡ self.old.id →
-            gathered.AreByElement before self.old.id self.old.by_element.items →
-            (added ≡ not (list_any (same_month month.now) before))
-            × OnTrue added (gathered.AreByElement (before ++ month.now ∷ []) self.old.id self.new.by_element.items)) }
+        ensures added { IfOk result (GathersAt self.old self.new month.now) }
     {
         self.open(alloc)?;
         self.by_element[place_of(month.element)].add(month)
@@ -77,9 +77,7 @@ impl StationGathering {
     fn open(&mut self, alloc: Global) -> Result<(), Memory>
         ensures id { self.new.id ≡ self.old.id }
         ensures number { OnOk result (length self.new.by_element.items ≡ 5) }
-        ensures same { OnOk result ((before : List months.Month) →
-            gathered.AreByElement before self.old.id self.old.by_element.items →
-            AllZip (gathered.IsGatheringOf before self.old.id) self.new.by_element.items elements) }
+        ensures same { OnOk result (Opens self.old self.new) }
     {
         if self.by_element.len() != ELEMENTS.len() {
             self.by_element = nothing_by_element(alloc)?;

@@ -1,10 +1,11 @@
 -- The floor that is left where every number drawn was raised as a score.
-use Rattle.std.proofs.Common.{◌≡◌, ℕ, ◌+◌, ◌-◌, ◌<◌, List, [], ◌∷◌, ◌++◌, length, map, ℤ, pos, negsuc, ◌≤ℤ◌, Option, Some, None, All, Contains, refl, sym, ap, ap₂, subst, ⊎_elim, ◌∙◌, arith, length-append}
+use Rattle.std.proofs.Common.{◌≡◌, ℕ, ◌+◌, ◌-◌, ◌<◌, List, [], ◌∷◌, ◌++◌, length, map, ℤ, pos, negsuc, ◌≤ℤ◌, Option}
+use Rattle.std.proofs.Common.{Some, None, All, Contains, refl, sym, ap, ap₂, subst, ⊎_elim, ◌∙◌, arith, length-append}
 use Rattle.std.proofs.lemmas.Int.{ints}
 use Rattle.std.proofs.lemmas.List.Elements.{All-nil, All-cons, All-head, All-tail, All-weaker, All-contains}
 use Rattle.ghcn_fields.specs.Counting.{HasEachBelow}
 use Rattle.ghcn_fields.specs.Floor.{IsFloorOf}
-use Rattle.ghcn_fields.proofs.CountingLemmas.{all_below, has_each}
+use Rattle.ghcn_fields.specs.CountingLaws.{all_below, has_each}
 use Rattle.rank_board.specs.declared.board.Board.{Board}
 use Rattle.rank_board.specs.declared.board.Closed.{Closed}
 use Rattle.rank_board.specs.declared.seat.Seat.{Seat}
@@ -14,12 +15,16 @@ use Rattle.rank_board.specs.Calls.{Opens, Splits, Joins, AccountsForAll}
 -- what holds of all scores holds of each number whose score is among them
 All-map : (P : ℤ → Type 0) (xs : List ℕ) → All P (map pos xs) → All (λ x. P (pos x)) xs
 All-map P [] all = All-nil (λ x. P (pos x))
-All-map P (x ∷ xs) all = All-cons (λ y. P (pos y)) x xs (All-head P (pos x) (map pos xs) all) (All-map P xs (All-tail P (pos x) (map pos xs) all))
+All-map P (x ∷ xs) all =
+    All-cons (λ y. P (pos y)) x xs (All-head P (pos x) (map pos xs) all)
+    (All-map P xs (All-tail P (pos x) (map pos xs) all))
 
 -- and the other way round
 map-All : (P : ℤ → Type 0) (xs : List ℕ) → All (λ x. P (pos x)) xs → All P (map pos xs)
 map-All P [] all = All-nil P
-map-All P (x ∷ xs) all = All-cons P (pos x) (map pos xs) (All-head (λ y. P (pos y)) x xs all) (map-All P xs (All-tail (λ y. P (pos y)) x xs all))
+map-All P (x ∷ xs) all =
+    All-cons P (pos x) (map pos xs) (All-head (λ y. P (pos y)) x xs all)
+    (map-All P xs (All-tail (λ y. P (pos y)) x xs all))
 
 -- the scores of two lists of numbers, one behind the other
 map-append : (xs ys : List ℕ) → map pos xs ++ map pos ys ≡ map pos (xs ++ ys)
@@ -33,14 +38,19 @@ module _ (next last : ℕ) (claims : List ℕ) (some_claim : next ≡ last + 1) 
 
   -- no number past the last was drawn
   none_above : All (λ s. s ≤ℤ pos last) (map pos claims)
-  none_above = map-All (λ s. s ≤ℤ pos last) claims (All-weaker (λ x. x < next) (λ x. pos x ≤ℤ pos last) (λ x under. omega (arith, ints)) claims (all_below next claims each))
+  none_above =
+      map-All (λ s. s ≤ℤ pos last) claims
+      (All-weaker (λ x. x < next) (λ x. pos x ≤ℤ pos last) (λ x under. omega (arith, ints)) claims
+      (all_below next claims each))
 
   -- the floor is the last number drawn
   floor_at_last : (floor : Option ℤ) → IsFloorOf None (map pos claims) floor → floor ≡ Some (pos last)
   floor_at_last None k = absurd (All-contains (λ x. ⊥) claims last (All-map (λ s. ⊥) claims k.raised_below) last_drawn)
   floor_at_last (Some f) k =
-      let up : pos last ≤ℤ f = All-contains (λ x. pos x ≤ℤ f) claims last (All-map (λ s. s ≤ℤ f) claims k.raised_below) last_drawn in
-      let down : f ≤ℤ pos last = ⊎_elim (λ e. absurd (none_is_some f e)) (λ there. All-contains (λ s. s ≤ℤ pos last) (map pos claims) f none_above there) k.one_of_them in
+      let up : pos last ≤ℤ f = All-contains (λ x. pos x ≤ℤ f) claims last
+      (All-map (λ s. s ≤ℤ f) claims k.raised_below) last_drawn in
+      let down : f ≤ℤ pos last = ⊎_elim (λ e. absurd (none_is_some f e))
+      (λ there. All-contains (λ s. s ≤ℤ pos last) (map pos claims) f none_above there) k.one_of_them in
       ap Some (same_score f up down)
     where
       none_is_some : (s : ℤ) → None ≡ Some s → ⊥
@@ -52,9 +62,12 @@ module _ (next last : ℕ) (claims : List ℕ) (some_claim : next ≡ last + 1) 
 
 -- each right of the seat was spent on a number, and each number that it claimed it raised
 abbrev pub DrewAll : Seat → Seat → Type 0
-DrewAll before after = (rights_of after ≡ 0) × (length (claims_of after) ≡ length (claims_of before) + rights_of before) × (raised_of after ≡ map pos (claims_of after))
+DrewAll before after =
+    (rights_of after ≡ 0) × (length (claims_of after) ≡ length (claims_of before) + rights_of before)
+    × (raised_of after ≡ map pos (claims_of after))
 
-module _ (rights part : ℕ) (board : Board) (start left right one two seat : Seat) (o : Opens rights None board start) (s : Splits start part left right)
+module _ (rights part : ℕ) (board : Board) (start left right one two seat : Seat) (o : Opens rights None board start)
+    (s : Splits start part left right)
     (a : DrewAll left one) (b : DrewAll right two) (j : Joins one two seat) where
   -- all rights were spent
   all_claims : length (claims_of seat) ≡ rights
@@ -78,10 +91,15 @@ module _ (rights part : ℕ) (board : Board) (start left right one two seat : Se
 
   -- and each number that was claimed was raised
   all_raised : raised_of seat ≡ map pos (claims_of seat)
-  all_raised = j.raised ∙ ap₂ (λ xs ys. xs ++ ys) a.2 b.2 ∙ map-append (claims_of one) (claims_of two) ∙ ap (λ xs. map pos xs) (sym j.claims)
+  all_raised =
+      j.raised ∙ ap₂ (λ xs ys. xs ++ ys) a.2 b.2 ∙ map-append (claims_of one) (claims_of two)
+      ∙ ap (λ xs. map pos xs) (sym j.claims)
 
   -- two seats that drew all rights of a board without a guess leave the last number as its floor
-  pub floor_of_two : (closed : Closed) → 0 < rights → (IsWhole board seat → AccountsForAll board seat closed) → closed.floor ≡ Some (pos (rights - 1))
+  pub floor_of_two : (closed : Closed) → 0 < rights → (IsWhole board seat → AccountsForAll board seat closed)
+      → closed.floor ≡ Some (pos (rights - 1))
   floor_of_two closed some_rights close = let ends = close whole in
-      floor_at_last closed.next (rights - 1) (claims_of seat) (omega (arith, ends.count, all_claims)) ends.once closed.floor
-      (subst (λ (p : Option ℤ × List ℤ). IsFloorOf p.0 p.1 closed.floor) (λ i. (o.first_floor i, all_raised i)) ends.floor)
+      floor_at_last closed.next (rights - 1) (claims_of seat)
+      (omega (arith, ends.count, all_claims)) ends.once closed.floor
+      (subst (λ (p : Option ℤ × List ℤ). IsFloorOf p.0 p.1 closed.floor)
+      (λ i. (o.first_floor i, all_raised i)) ends.floor)

@@ -1,5 +1,7 @@
 -- Each change of a seat's view keeps the rule.
-use Rattle.std.proofs.Common.{◌≡◌, ℕ, ◌+◌, ◌-◌, ◌^◌, ◌<◌, ◌≤◌, ◌≢◌, max, List, [], ◌∷◌, ◌++◌, length, set, ℤ, Option, option_to_list, All, sum_by, refl, sym, ap, subst, ⊎_elim, inl, inr, ◌∙◌, arith, length-append}
+use Rattle.std.proofs.Common.{◌≡◌, ℕ, ◌+◌, ◌-◌, ◌^◌, ◌<◌, ◌≤◌, ◌≢◌, max, List, [], ◌∷◌, ◌++◌, length, set, ℤ, Option}
+use Rattle.std.proofs.Common.{option_to_list, All, sum_by, refl, sym, ap, subst, ⊎_elim, inl, inr, ◌∙◌, arith}
+use Rattle.std.proofs.Common.{length-append}
 use Rattle.std.proofs.lemmas.Bool.{cases_eq}
 use Rattle.std.proofs.lemmas.List.Sums.{sum_by-append}
 use mathlib.Core.Option.{some}
@@ -8,7 +10,8 @@ use native.Mathlib.Decide.{dec_le}
 use lib.ListN.{get_elem?}
 use Rattle.atomic_table.proofs.Lists.{at_set, at_snoc, set_else}
 use Rattle.ghcn_fields.specs.Counting.{one_if_equal, times}
-use Rattle.ghcn_fields.proofs.CountingLemmas.{one_if_equal-equal, one_if_equal-apart, times_below-suc, below_if_one, all_counted}
+use Rattle.ghcn_fields.specs.CountingLaws.{one_if_equal-equal, one_if_equal-apart, times_below-suc, below_if_one}
+use Rattle.ghcn_fields.specs.CountingLaws.{all_counted}
 use Rattle.rank_board.specs.declared.rule.View.{View}
 use Rattle.rank_board.specs.Word.{score_word, score_of, floor_of}
 use Rattle.rank_board.specs.Rule.{view, spent_view, standing, times_raised, times_seen, times_known, IsRuled}
@@ -21,9 +24,11 @@ abbrev AreIdle : List View → Type 0
 AreIdle views = (j : ℕ) (u : View) → get_elem? views j ≡ some u → length u.claims ≡ 0 → length u.raised ≡ 0
 
 -- so it stays where one view is replaced by such a view
-idle_set : (views : List View) (id : ℕ) (w : View) → AreIdle views → (length w.claims ≡ 0 → length w.raised ≡ 0) → AreIdle (set views id w)
+idle_set : (views : List View) (id : ℕ) (w : View) → AreIdle views → (length w.claims ≡ 0 → length w.raised ≡ 0)
+    → AreIdle (set views id w)
 idle_set views id w others mine j u at bare = ⊎_elim
-    (λ (t : (j ≡ id) × (w ≡ u)). let e = t.1 in omega (arith, mine (omega (arith, ap (λ (v : View). length v.claims) e)), ap (λ (v : View). length v.raised) e))
+    (λ (t : (j ≡ id) × (w ≡ u)). let e = t.1 in omega
+    (arith, mine (omega (arith, ap (λ (v : View). length v.claims) e)), ap (λ (v : View). length v.raised) e))
     (λ (t : (j ≢ id) × (get_elem? views j ≡ some u)). others j u t.1 bare)
     (at_set views id j w u at)
 
@@ -35,7 +40,8 @@ standing-append n = sum_by-append (λ s. one_if_equal (score_word s) n)
 times-append : (x : ℕ) (xs ys : List ℕ) → times x (xs ++ ys) ≡ times x xs + times x ys
 times-append x = sum_by-append (λ y. one_if_equal y x)
 
-module _ (rights : ℕ) (guess : Option ℤ) (next floor : ℕ) (views : List View) (k : IsRuled rights guess next floor views) (id : ℕ) (v : View) (at : get_elem? views id ≡ some v) where
+module _ (rights : ℕ) (guess : Option ℤ) (next floor : ℕ) (views : List View)
+    (k : IsRuled rights guess next floor views) (id : ℕ) (v : View) (at : get_elem? views id ≡ some v) where
   -- the seat's part is at most the sum over all seats
   mine : (f : View → ℕ) → f v ≤ sum_by f views
   mine f = term_le f views id v at
@@ -46,7 +52,9 @@ module _ (rights : ℕ) (guess : Option ℤ) (next floor : ℕ) (views : List Vi
 
   -- a seat's claims are below the next number
   pub claims_below : All (λ x. x < next) v.claims
-  claims_below = all_counted (λ y. y) (λ x. x < next) v.claims (λ x claimed. below_if_one x next (omega (arith, mine (λ u. times x u.claims), k.once x)))
+  claims_below =
+      all_counted (λ y. y) (λ x. x < next) v.claims
+      (λ x claimed. below_if_one x next (omega (arith, mine (λ u. times x u.claims), k.once x)))
 
   -- each score that the seat saw is at most the floor
   pub seen_below : AreUnder floor v.seen
@@ -63,12 +71,22 @@ module _ (rights : ℕ) (guess : Option ℤ) (next floor : ℕ) (views : List Vi
       let real = k.scores (score_word s) (omega arith) in (under, omega arith))
 
   -- the seat claims the next number for one right
-  pub claim_kept : (m : ℕ) → m ≡ next + 1 → 0 < v.rights → IsRuled rights guess m floor (set views id (view (v.claims ++ next ∷ []) v.raised v.seen (v.rights - 1)))
+  pub claim_kept : (m : ℕ) → m ≡ next + 1 → 0 < v.rights
+      → IsRuled rights guess m floor (set views id (view (v.claims ++ next ∷ []) v.raised v.seen (v.rights - 1)))
   claim_kept m e right = let w : View = view (v.claims ++ next ∷ []) v.raised v.seen (v.rights - 1) in
-      let same_raised : (n : ℕ) → times_raised n (set views id w) ≡ times_raised n views = λ n. omega (arith, changed (λ u. standing n u.raised) w) in
-      let same_seen : (n : ℕ) → times_seen n (set views id w) ≡ times_seen n views = λ n. omega (arith, changed (λ u. standing n u.seen) w) in
+      let same_raised : (n : ℕ) → times_raised n (set views id w) ≡ times_raised n views = λ n. omega
+      (arith, changed (λ u. standing n u.raised) w) in
+      let same_seen : (n : ℕ) → times_seen n (set views id w) ≡ times_seen n views = λ n. omega
+      (arith, changed (λ u. standing n u.seen) w) in
       record {
-        once = λ x. omega (arith, changed (λ u. times x u.claims) w, times-append x v.claims (next ∷ []), k.once x, times_below-suc x next m e);
+        once = λ x. omega (
+          arith,
+          changed (λ u. times x u.claims) w,
+          times-append x v.claims
+              (next ∷ []),
+          k.once x,
+          times_below-suc x next m e,
+        );
         drawn = omega (arith, changed (λ u. length u.claims) w, length-append v.claims (next ∷ []), k.drawn);
         left = omega (arith, changed (λ u. u.rights) w, k.left);
         limit = k.limit;
@@ -83,10 +101,15 @@ module _ (rights : ℕ) (guess : Option ℤ) (next floor : ℕ) (views : List Vi
       }
 
   -- the seat sees the floor
-  pub look_kept : IsRuled rights guess next floor (set views id (view v.claims v.raised (v.seen ++ option_to_list (floor_of floor)) v.rights))
-  look_kept = let new : List ℤ = option_to_list (floor_of floor) in let w : View = view v.claims v.raised (v.seen ++ new) v.rights in
-      let same_raised : (n : ℕ) → times_raised n (set views id w) ≡ times_raised n views = λ n. omega (arith, changed (λ u. standing n u.raised) w) in
-      let more_seen : (n : ℕ) → times_seen n (set views id w) ≡ times_seen n views + standing n new = λ n. omega (arith, changed (λ u. standing n u.seen) w, standing-append n v.seen new) in
+  pub look_kept : IsRuled rights guess next floor
+      (set views id (view v.claims v.raised (v.seen ++ option_to_list (floor_of floor)) v.rights))
+  look_kept =
+      let new : List ℤ = option_to_list (floor_of floor) in let w : View = view v.claims v.raised
+      (v.seen ++ new) v.rights in
+      let same_raised : (n : ℕ) → times_raised n (set views id w) ≡ times_raised n views = λ n. omega
+      (arith, changed (λ u. standing n u.raised) w) in
+      let more_seen : (n : ℕ) → times_seen n (set views id w) ≡ times_seen n views + standing n new = λ n. omega
+      (arith, changed (λ u. standing n u.seen) w, standing-append n v.seen new) in
       record {
         once = λ x. omega (arith, changed (λ u. times x u.claims) w, k.once x);
         drawn = omega (arith, changed (λ u. length u.claims) w, k.drawn);
@@ -97,7 +120,8 @@ module _ (rights : ℕ) (guess : Option ℤ) (next floor : ℕ) (views : List Vi
         reached = omega (arith, same_raised floor, k.reached);
         sees = λ n seen. elim (cases_eq (standing n new) 0) [
           | inl old ↦ omega (arith, same_raised n, k.sees n (omega (arith, more_seen n)))
-          | inr hit ↦ subst (λ (m : ℕ). 0 < times_known guess m (set views id w)) (floor_seen floor n (omega arith)).0 (omega (arith, same_raised floor, k.reached))
+          | inr hit ↦ subst (λ (m : ℕ). 0 < times_known guess m (set views id w)) (floor_seen floor n (omega arith)).0
+              (omega (arith, same_raised floor, k.reached))
         ];
         scores = λ n there. elim (cases_eq (standing n new) 0) [
           | inl old ↦ k.scores n (omega (arith, same_raised n, more_seen n))
@@ -110,11 +134,19 @@ module _ (rights : ℕ) (guess : Option ℤ) (next floor : ℕ) (views : List Vi
 
   -- the seat raises the score with the word x
   pub raise_kept : (x : ℕ) → 2 ^ 31 ≤ x → x ≤ 2 ^ 32 + 2 ^ 31 → 0 < length v.claims
-      → IsRuled rights guess next (max floor x) (set views id (view v.claims (v.raised ++ score_of x ∷ []) v.seen v.rights))
+      → IsRuled rights guess next (max floor x)
+      (set views id (view v.claims (v.raised ++ score_of x ∷ []) v.seen v.rights))
   raise_kept x low high drew = let w : View = view v.claims (v.raised ++ score_of x ∷ []) v.seen v.rights in
       let more_raised : (n : ℕ) → times_raised n (set views id w) ≡ times_raised n views + one_if_equal x n =
-      λ n. omega (arith, changed (λ u. standing n u.raised) w, standing-append n v.raised (score_of x ∷ []), ap (λ (m : ℕ). one_if_equal m n) (score_word-score_of x)) in
-      let same_seen : (n : ℕ) → times_seen n (set views id w) ≡ times_seen n views = λ n. omega (arith, changed (λ u. standing n u.seen) w) in
+      λ n. omega (
+        arith,
+        changed (λ u. standing n u.raised) w,
+        standing-append n v.raised (score_of x ∷ []),
+        ap
+            (λ (m : ℕ). one_if_equal m n) (score_word-score_of x),
+      ) in
+      let same_seen : (n : ℕ) → times_seen n (set views id w) ≡ times_seen n views = λ n. omega
+      (arith, changed (λ u. standing n u.seen) w) in
       let known_now : ℕ → Type 0 = λ m. 0 < times_known guess m (set views id w) in
       record {
         once = λ y. omega (arith, changed (λ u. times y u.claims) w, k.once y);
@@ -124,11 +156,14 @@ module _ (rights : ℕ) (guess : Option ℤ) (next floor : ℕ) (views : List Vi
         start = k.start;
         highest = λ n known. elim (cases_eq x n) [
           | inl e ↦ omega arith
-          | inr apart ↦ let old = k.highest n (omega (arith, more_raised n, one_if_equal-apart x n apart)) in omega arith
+          | inr apart ↦ let old = k.highest n (omega (arith, more_raised n, one_if_equal-apart x n apart)) in omega
+              arith
         ];
         reached = dite (dec_le floor x)
-            (λ up. let e : x ≡ max floor x = omega arith in subst known_now e (omega (arith, more_raised x, one_if_equal-equal x x refl)))
-            (λ down. let e : floor ≡ max floor x = omega arith in subst known_now e (omega (arith, more_raised floor, k.reached)));
+            (λ up. let e : x ≡ max floor x = omega arith in subst known_now e
+            (omega (arith, more_raised x, one_if_equal-equal x x refl)))
+            (λ down. let e : floor ≡ max floor x = omega arith in subst known_now e
+            (omega (arith, more_raised floor, k.reached)));
         sees = λ n seen. omega (arith, more_raised n, k.sees n (omega (arith, same_seen n)));
         scores = λ n there. elim (cases_eq x n) [
           | inl e ↦ omega arith
@@ -140,11 +175,15 @@ module _ (rights : ℕ) (guess : Option ℤ) (next floor : ℕ) (views : List Vi
       }
 
   -- the seat hands over a part of its rights to a new seat
-  pub split_kept : (part : ℕ) → part ≤ v.rights → IsRuled rights guess next floor (set views id (kept_view part v) ++ handed_view part v ∷ [])
+  pub split_kept : (part : ℕ) → part ≤ v.rights → IsRuled rights guess next floor
+      (set views id (kept_view part v) ++ handed_view part v ∷ [])
   split_kept part enough = let l : View = kept_view part v in let r : View = handed_view part v in
-      let cut : (f : View → ℕ) → sum_by f (set views id l ++ r ∷ []) + f v ≡ sum_by f views + (f l + f r) = λ f. sum_by-cut f views id v l r at in
-      let same_raised : (n : ℕ) → times_raised n (set views id l ++ r ∷ []) ≡ times_raised n views = λ n. omega (arith, cut (λ u. standing n u.raised)) in
-      let more_seen : (n : ℕ) → times_seen n (set views id l ++ r ∷ []) ≡ times_seen n views + (standing n v.seen + standing n v.raised) =
+      let cut : (f : View → ℕ) → sum_by f (set views id l ++ r ∷ []) + f v ≡ sum_by f views +
+      (f l + f r) = λ f. sum_by-cut f views id v l r at in
+      let same_raised : (n : ℕ) → times_raised n (set views id l ++ r ∷ []) ≡ times_raised n views = λ n. omega
+      (arith, cut (λ u. standing n u.raised)) in
+      let more_seen : (n : ℕ) → times_seen n (set views id l ++ r ∷ []) ≡ times_seen n views +
+      (standing n v.seen + standing n v.raised) =
       λ n. omega (arith, cut (λ u. standing n u.seen), standing-append n v.seen v.raised) in
       record {
         once = λ y. omega (arith, cut (λ u. times y u.claims), k.once y);
@@ -155,10 +194,18 @@ module _ (rights : ℕ) (guess : Option ℤ) (next floor : ℕ) (views : List Vi
         highest = λ n known. k.highest n (omega (arith, same_raised n));
         reached = omega (arith, same_raised floor, k.reached);
         sees = λ n seen. elim (cases_eq (times_seen n views) 0) [
-          | inl unseen ↦ omega (arith, same_raised n, more_seen n, mine (λ u. standing n u.seen), mine (λ u. standing n u.raised))
+          | inl unseen ↦ omega (
+            arith,
+            same_raised n,
+            more_seen n,
+            mine (λ u. standing n u.seen),
+            mine
+                (λ u. standing n u.raised),
+          )
           | inr old ↦ omega (arith, same_raised n, k.sees n (omega arith))
         ];
-        scores = λ n there. k.scores n (omega (arith, same_raised n, more_seen n, mine (λ u. standing n u.seen), mine (λ u. standing n u.raised)));
+        scores = λ n there. k.scores n
+            (omega (arith, same_raised n, more_seen n, mine (λ u. standing n u.seen), mine (λ u. standing n u.raised)));
         lowest = k.lowest;
         ceiling = k.ceiling;
         idle = λ j u there. ⊎_elim
@@ -170,10 +217,14 @@ module _ (rights : ℕ) (guess : Option ℤ) (next floor : ℕ) (views : List Vi
   -- the seat takes in another, which is spent
   pub join_kept : (other : ℕ) (w : View) → ¬ (other ≡ id) → get_elem? (set views id (joined_view v w)) other ≡ some w
       → IsRuled rights guess next floor (set (set views id (joined_view v w)) other spent_view)
-  join_kept other w apart there = let b : View = joined_view v w in let now : List View = set (set views id b) other spent_view in
-      let same_sum : (f : View → ℕ) → f b ≡ f v + f w → f spent_view ≡ 0 → sum_by f now ≡ sum_by f views = λ f. sum_by-joined f views id other v w b spent_view at there in
-      let same_raised : (n : ℕ) → times_raised n now ≡ times_raised n views = λ n. same_sum (λ u. standing n u.raised) (standing-append n v.raised w.raised) refl in
-      let same_seen : (n : ℕ) → times_seen n now ≡ times_seen n views = λ n. same_sum (λ u. standing n u.seen) (standing-append n v.seen w.seen) refl in
+  join_kept other w apart there =
+      let b : View = joined_view v w in let now : List View = set (set views id b) other spent_view in
+      let same_sum : (f : View → ℕ) → f b ≡ f v + f w → f spent_view ≡ 0
+      → sum_by f now ≡ sum_by f views = λ f. sum_by-joined f views id other v w b spent_view at there in
+      let same_raised : (n : ℕ) → times_raised n now ≡ times_raised n views = λ n. same_sum (λ u. standing n u.raised)
+      (standing-append n v.raised w.raised) refl in
+      let same_seen : (n : ℕ) → times_seen n now ≡ times_seen n views = λ n. same_sum (λ u. standing n u.seen)
+      (standing-append n v.seen w.seen) refl in
       let was : get_elem? views other ≡ some w = sym (set_else views id other b apart) ∙ there in
       let claims = length-append v.claims w.claims in
       record {
@@ -189,6 +240,13 @@ module _ (rights : ℕ) (guess : Option ℤ) (next floor : ℕ) (views : List Vi
         lowest = k.lowest;
         ceiling = k.ceiling;
         idle = idle_set (set views id b) other spent_view
-            (idle_set views id b k.idle (λ bare. omega (arith, claims, length-append v.raised w.raised, k.idle id v at (omega (arith, claims)), k.idle other w was (omega (arith, claims)))))
+            (idle_set views id b k.idle (λ bare. omega (
+              arith,
+              claims,
+              length-append v.raised w.raised,
+              k.idle id v at
+                  (omega (arith, claims)),
+              k.idle other w was (omega (arith, claims)),
+            )))
             (λ bare. refl);
       }

@@ -1,5 +1,6 @@
 -- Each kind of step may be taken whatever the board holds, since it keeps the rule.
-use Rattle.std.proofs.Common.{◌≡◌, ℕ, ◌+◌, ◌-◌, ◌%◌, ◌^◌, ◌<◌, ◌≤◌, max, List, [], ◌∷◌, ◌++◌, length, set, get_or, ℤ, option_to_list, sym, refl, subst, arith}
+use Rattle.std.proofs.Common.{◌≡◌, ℕ, ◌+◌, ◌-◌, ◌%◌, ◌^◌, ◌<◌, ◌≤◌, max, List, [], ◌∷◌, ◌++◌, length, set, get_or, ℤ}
+use Rattle.std.proofs.Common.{option_to_list, sym, refl, subst, arith}
 use mathlib.Core.Option.{some, none}
 use mathlib.Core.Option.{Option as Maybe}
 use lib.ListN.{get_elem?}
@@ -13,17 +14,22 @@ use Rattle.rank_board.specs.Rule.{view, spent_view, IsRuled, AreWordsOf, Keeps}
 use Rattle.rank_board.specs.Steps.{claim_step, look_step, raise_step, rights_step, kept_view, handed_view, joined_view}
 use Rattle.rank_board.proofs.Sums.{term_le}
 use Rattle.rank_board.proofs.Words.{score_word-limits}
-use Rattle.rank_board.proofs.RuleKept.{claims_below, seen_below, raised_below, claim_kept, look_kept, raise_kept, split_kept, join_kept}
+use Rattle.rank_board.proofs.RuleKept.{claims_below, seen_below, raised_below, claim_kept, look_kept, raise_kept}
+use Rattle.rank_board.proofs.RuleKept.{split_kept, join_kept}
 
 module _ {S : Type 0} (o : Opening) (slots id : ℕ) (me : Me S View) where
   -- the word becomes f of what it was; the seat has a new view that keeps the rule, of which `then` holds
   abbrev MayStep : State S View → ℕ → (ℕ → ℕ) → (ℕ → Me S View → Type 0) → Type 0
-  MayStep s word f then = (w : View) × (a : Act S) × (Valid s.homes me.1 a) × Keeps o (stepped s word (f (get_or s.words word 0)) id me.1 w a)
+  MayStep s word f then =
+      (w : View) × (a : Act S) × (Valid s.homes me.1 a)
+      × Keeps o (stepped s word (f (get_or s.words word 0)) id me.1 w a)
       × then (get_or s.words word 0) (w, carried_after me.1 a)
 
   -- a claim where the words and the views are these
-  claims_at : 0 < me.0.rights → (homes : List (Maybe S)) (views : List View) → get_elem? views id ≡ some me.0 → (words : List ℕ) → AreWordsOf o words views
-      → MayStep record { words = words; homes = homes; views = views } 0 (λ n. (n + 1) % 2 ^ 64) (claim_step o.rights (step slots 0 1 0 none) me)
+  claims_at : 0 < me.0.rights → (homes : List (Maybe S)) (views : List View) → get_elem? views id ≡ some me.0
+      → (words : List ℕ) → AreWordsOf o words views
+      → MayStep record { words = words; homes = homes; views = views } 0 (λ n. (n + 1) % 2 ^ 64)
+      (claim_step o.rights (step slots 0 1 0 none) me)
   claims_at right homes views at [] k = absurd k
   claims_at right homes views at (n ∷ []) k = absurd k
   claims_at right homes views at (n ∷ f ∷ m ∷ ms) k = absurd k
@@ -39,12 +45,16 @@ module _ {S : Type 0} (o : Opening) (slots id : ℕ) (me : Me S View) where
       )
 
   -- a claim, by a seat with a right left, on a board that was opened with so many rights
-  pub claim_allowed : (all : ℕ) → o.rights ≡ all → 0 < me.0.rights → Allows (Keeps o) slots id me 0 (λ n. (n + 1) % 2 ^ 64) (claim_step all (step slots 0 1 0 none) me)
-  claim_allowed all e right = subst (λ (r : ℕ). Allows (Keeps o) slots id me 0 (λ n. (n + 1) % 2 ^ 64) (claim_step r (step slots 0 1 0 none) me)) e
+  pub claim_allowed : (all : ℕ) → o.rights ≡ all → 0 < me.0.rights
+      → Allows (Keeps o) slots id me 0 (λ n. (n + 1) % 2 ^ 64) (claim_step all (step slots 0 1 0 none) me)
+  claim_allowed all e right =
+      subst (λ (r : ℕ). Allows (Keeps o) slots id me 0 (λ n. (n + 1) % 2 ^ 64)
+      (claim_step r (step slots 0 1 0 none) me)) e
       (λ s k _ at _. claims_at right s.homes s.views at s.words k)
 
   -- a look where the words and the views are these
-  looks_at : (homes : List (Maybe S)) (views : List View) → get_elem? views id ≡ some me.0 → (words : List ℕ) → AreWordsOf o words views
+  looks_at : (homes : List (Maybe S)) (views : List View) → get_elem? views id ≡ some me.0 → (words : List ℕ)
+      → AreWordsOf o words views
       → MayStep record { words = words; homes = homes; views = views } 1 (λ n. n) (look_step (step slots 1 0 0 none) me)
   looks_at homes views at [] k = absurd k
   looks_at homes views at (n ∷ []) k = absurd k
@@ -54,7 +64,13 @@ module _ {S : Type 0} (o : Opening) (slots id : ℕ) (me : Me S View) where
     keeps,
     tt,
     look_kept o.rights o.guess n f views k id me.0 at,
-    (refl, k.ceiling, seen_below o.rights o.guess n f views k id me.0 at, raised_below o.rights o.guess n f views k id me.0 at),
+    (
+      refl,
+      k.ceiling,
+      seen_below o.rights o.guess n f views k id me.0 at,
+      raised_below o.rights o.guess n f views k id
+          me.0 at,
+    ),
   )
 
   -- a look
@@ -63,13 +79,21 @@ module _ {S : Type 0} (o : Opening) (slots id : ℕ) (me : Me S View) where
 
   -- a raise where the words and the views are these
   raises_at : (x : ℕ) → 2 ^ 31 ≤ x → x ≤ 2 ^ 32 + 2 ^ 31 → 0 < length me.0.claims
-      → (homes : List (Maybe S)) (views : List View) → get_elem? views id ≡ some me.0 → (words : List ℕ) → AreWordsOf o words views
-      → MayStep record { words = words; homes = homes; views = views } 1 (λ n. max n x) (raise_step (step slots 1 x 0 none) me)
+      → (homes : List (Maybe S)) (views : List View) → get_elem? views id ≡ some me.0 → (words : List ℕ)
+      → AreWordsOf o words views
+      → MayStep record { words = words; homes = homes; views = views } 1 (λ n. max n x)
+      (raise_step (step slots 1 x 0 none) me)
   raises_at x low high drew homes views at [] k = absurd k
   raises_at x low high drew homes views at (n ∷ []) k = absurd k
   raises_at x low high drew homes views at (n ∷ f ∷ m ∷ ms) k = absurd k
-  raises_at x low high drew homes views at (n ∷ f ∷ []) k =
-      (view me.0.claims (me.0.raised ++ score_of x ∷ []) me.0.seen me.0.rights, keeps, tt, raise_kept o.rights o.guess n f views k id me.0 at x low high drew, refl)
+  raises_at x low high drew homes views at (n ∷ f ∷ []) k = (
+    view me.0.claims (me.0.raised ++ score_of x ∷ []) me.0.seen me.0.rights,
+    keeps,
+    tt,
+    raise_kept o.rights o.guess
+        n f views k id me.0 at x low high drew,
+    refl,
+  )
 
   -- a raise to a score, by a seat with a claim
   pub raise_allowed : (x : ℕ) (score : ℤ) → x ≡ score_word score → IsScore score → 0 < length me.0.claims
@@ -78,8 +102,10 @@ module _ {S : Type 0} (o : Opening) (slots id : ℕ) (me : Me S View) where
       raises_at x (omega (arith, limits.0)) (omega (arith, limits.1)) drew s.homes s.views at s.words k
 
   -- a load where the words and the views are these
-  counts_at : (homes : List (Maybe S)) (views : List View) → get_elem? views id ≡ some me.0 → (words : List ℕ) → AreWordsOf o words views
-      → MayStep record { words = words; homes = homes; views = views } 0 (λ n. n) (rights_step (step slots 0 0 0 none) me)
+  counts_at : (homes : List (Maybe S)) (views : List View) → get_elem? views id ≡ some me.0 → (words : List ℕ)
+      → AreWordsOf o words views
+      → MayStep record { words = words; homes = homes; views = views } 0 (λ n. n)
+      (rights_step (step slots 0 0 0 none) me)
   counts_at homes views at [] k = absurd k
   counts_at homes views at (n ∷ []) k = absurd k
   counts_at homes views at (n ∷ f ∷ m ∷ ms) k = absurd k
@@ -94,7 +120,8 @@ module _ {S : Type 0} (o : Opening) (slots id : ℕ) (me : Me S View) where
 
 module _ (o : Opening) (id : ℕ) (v : View) where
   -- a split where the words and the views are these
-  splits_at : (part : ℕ) → part ≤ v.rights → (views : List View) → get_elem? views id ≡ some v → (words : List ℕ) → AreWordsOf o words views
+  splits_at : (part : ℕ) → part ≤ v.rights → (views : List View) → get_elem? views id ≡ some v → (words : List ℕ)
+      → AreWordsOf o words views
       → AreWordsOf o words (set views id (kept_view part v) ++ handed_view part v ∷ [])
   splits_at part enough views at [] k = absurd k
   splits_at part enough views at (n ∷ []) k = absurd k
@@ -102,16 +129,20 @@ module _ (o : Opening) (id : ℕ) (v : View) where
   splits_at part enough views at (n ∷ f ∷ []) k = split_kept o.rights o.guess n f views k id v at part enough
 
   -- a join where the words and the views are these
-  joins_at : (other : ℕ) (w : View) (views : List View) → get_elem? views id ≡ some v → ¬ (other ≡ id) → get_elem? (set views id (joined_view v w)) other ≡ some w
-      → (words : List ℕ) → AreWordsOf o words views → AreWordsOf o words (set (set views id (joined_view v w)) other spent_view)
+  joins_at : (other : ℕ) (w : View) (views : List View) → get_elem? views id ≡ some v → ¬ (other ≡ id)
+      → get_elem? (set views id (joined_view v w)) other ≡ some w
+      → (words : List ℕ) → AreWordsOf o words views → AreWordsOf o words
+      (set (set views id (joined_view v w)) other spent_view)
   joins_at other w views at apart there [] k = absurd k
   joins_at other w views at apart there (n ∷ []) k = absurd k
   joins_at other w views at apart there (n ∷ f ∷ m ∷ ms) k = absurd k
-  joins_at other w views at apart there (n ∷ f ∷ []) k = join_kept o.rights o.guess n f views k id v at other w apart there
+  joins_at other w views at apart there (n ∷ f ∷ []) k =
+      join_kept o.rights o.guess n f views k id v at other w apart there
 
 module _ {S : Type 0} (o : Opening) (id : ℕ) (v : View) where
   -- a split, by a seat that has the rights
-  pub split_allowed : (part : ℕ) → part ≤ v.rights → Splits (Keeps {S = S} o) id v (kept_view part v) (handed_view part v)
+  pub split_allowed : (part : ℕ) → part ≤ v.rights → Splits (Keeps {S = S} o) id v (kept_view part v)
+      (handed_view part v)
   split_allowed part enough s k at = splits_at o id v part enough s.views at s.words k
 
   -- a join

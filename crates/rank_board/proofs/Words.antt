@@ -1,10 +1,11 @@
 -- Scores and floors, and the words that stand for them.
-use Rattle.std.proofs.Common.{◌≡◌, ℕ, ◌+◌, ◌<◌, ◌≤◌, ◌≢◌, ◌^◌, cond, List, ℤ, pos, negsuc, ◌+ℤ◌, ◌≤ℤ◌, Option, Some, None, IsSomeAnd, option_to_list, sym, ap, subst, inl, inr, arith, eq-eqb, ne_eqb}
+use Rattle.std.proofs.Common.{◌≡◌, ℕ, ◌+◌, ◌<◌, ◌≤◌, ◌≢◌, ◌^◌, cond, List, ℤ, pos, negsuc, ◌+ℤ◌, ◌≤ℤ◌, Option, Some}
+use Rattle.std.proofs.Common.{None, IsSomeAnd, option_to_list, sym, ap, subst, inl, inr, arith, eq-eqb, ne_eqb}
 use Rattle.std.proofs.lemmas.List.Elements.{All-weaker}
 use Rattle.std.proofs.lemmas.Int.{ints}
 use Rattle.std.proofs.lemmas.Bool.{cases_eq}
 use Rattle.ghcn_fields.specs.Floor.{IsScore, IsAtLeast}
-use Rattle.ghcn_fields.proofs.CountingLemmas.{equal_if_one}
+use Rattle.ghcn_fields.specs.CountingLaws.{equal_if_one}
 use Rattle.rank_board.specs.Word.{score_word, score_of, floor_of}
 use Rattle.rank_board.specs.Rule.{standing}
 use Rattle.rank_board.specs.Steps.{AreUnder}
@@ -51,15 +52,22 @@ pub floor_seen : (f n : ℕ) → 0 < standing n (option_to_list (floor_of f)) �
 floor_seen f n some_seen = elim (cases_eq f 0) [
   | inl z ↦ absurd (omega (arith, ap (λ t. standing n (option_to_list t)) (floor_of-none f z)))
   | inr ne ↦ (
-    equal_if_one f n (omega (arith, ap (λ t. standing n (option_to_list t)) (floor_of-some f ne), ap (λ m. one_if_equal m n) (score_word-score_of f))),
+    equal_if_one f n (omega (
+      arith,
+      ap (λ t. standing n (option_to_list t)) (floor_of-some f ne),
+      ap
+          (λ m. one_if_equal m n) (score_word-score_of f),
+    )),
     omega arith,
   )
 ]
 
 -- where the words of scores are at most the floor's, the floor is at least these scores
 pub floor_above : (f : ℕ) (scores : List ℤ) → AreUnder f scores → IsAtLeast (floor_of f) scores
-floor_above f scores all = All-weaker (λ s. (score_word s ≤ f) × (0 < f)) (λ s. IsSomeAnd (floor_of f) (λ g. s ≤ℤ g)) under scores all
+floor_above f scores all =
+    All-weaker (λ s. (score_word s ≤ f) × (0 < f)) (λ s. IsSomeAnd (floor_of f) (λ g. s ≤ℤ g)) under scores all
   where
     under : (s : ℤ) → (score_word s ≤ f) × (0 < f) → IsSomeAnd (floor_of f) (λ g. s ≤ℤ g)
     under s h = let e = score_word-score_of f in let le = h.0 in let real = h.1 in
-        subst (λ (o : Option ℤ). IsSomeAnd o (λ g. s ≤ℤ g)) (sym (floor_of-some f (λ z. absurd (omega arith)))) (score_word-le s (score_of f) (omega arith) (omega arith))
+        subst (λ (o : Option ℤ). IsSomeAnd o (λ g. s ≤ℤ g)) (sym (floor_of-some f (λ z. absurd (omega arith))))
+        (score_word-le s (score_of f) (omega arith) (omega arith))

@@ -40,6 +40,23 @@ fn two_seats_in_one_thread(rt: HostRuntime) -> Result<(), Fail> {
 }
 
 #[test]
+fn closed_while_another_seat_is_out(rt: HostRuntime) -> Result<(), Fail> {
+    let (board, mut one) = Board::open(rt.alloc(), 8, Some(7))?;
+    let mut two = board.split(&mut one, 4);
+    assert_eq!(rt; board.claim(&mut one), 0);
+    assert_eq!(rt; board.claim(&mut two), 1);
+    assert_eq!(rt; board.claim(&mut two), 2);
+    board.raise(&mut two, 45);
+    let held = Closed {
+        next: 3,
+        floor: Some(45),
+    };
+    assert_eq!(rt; board.close(one), held);
+    assert_eq!(rt; two.rights(), 2, "the other seat keeps its rights");
+    Ok(())
+}
+
+#[test]
 fn boards_closed_at_once(rt: HostRuntime) -> Result<(), Fail> {
     let cases = [
         (1, Some(7)),

@@ -1,5 +1,6 @@
 -- The canonical text of a query spells it.
-use Rattle.std.proofs.Common.{◌≡◌, ℕ, ◌<◌, ◌≤◌, ◌^◌, true, ◌++◌, length, decimal, codes, IsTrue, refl, length-append, arith}
+use Rattle.std.proofs.Common.{◌≡◌, ℕ, ◌<◌, ◌≤◌, ◌^◌, true, ◌++◌, length, decimal, codes, IsTrue, refl, length-append}
+use Rattle.std.proofs.Common.{arith}
 use Rattle.std.specs.Prelude.{Some, None, ℤ, pos, neg_ℤ, ◌≤ℤ◌, Option}
 use Rattle.std.specs.List.{AllByRecursion}
 use Rattle.std.proofs.lemmas.Bool.{and_parts}
@@ -12,10 +13,13 @@ use Rattle.rank_query.specs.declared.score.Score.TheVariants.{Highest, Lowest, S
 use Rattle.rank_query.specs.declared.region.Region.{Region}
 use Rattle.rank_query.specs.declared.region.Region.TheVariants.{Everywhere, Inside, Country, State, Only}
 use Rattle.rank_query.specs.Asked.{Asked, IsAsked, is_score, is_fall, is_region}
+use Rattle.rank_query.specs.Laws.{IsShortLine}
 use Rattle.rank_query.specs.QueryTexts.{score_words, region_words, period_words, query_words, query_text}
 use Rattle.rank_query.specs.Spelling.{SpellsScore, SpellsRegion, SpellsPeriod, IsSpelling}
 use Rattle.rank_query.proofs.OneWords.{words_of-join}
-use Rattle.rank_query.proofs.PrintedWords.{IsShortWord, short_words, length-join, all_both, known_word, decimal_numeral, decimal_word, code_word, visible_word, date_word, four_places_spelt, four_places_word}
+use Rattle.rank_query.proofs.PrintedWords.{IsShortWord, short_words, length-join, printable-join, all_both}
+use Rattle.rank_query.proofs.PrintedWords.{known_word, decimal_numeral, decimal_word, code_word, visible_word}
+use Rattle.rank_query.proofs.PrintedWords.{date_word, four_places_spelt, four_places_word}
 use Rattle.rank_query.proofs.RegionWords.{edges_of, longitude-range}
 
 -- a number within limits is small
@@ -23,7 +27,8 @@ small : (low high n : ℕ) → high < 10 ^ 4 → IsTrue (is_within low high n) �
 small low high n few h = let below : n ≤ high = grind (arith, nat_tests) in (omega arith, omega arith)
 
 -- the words of a score are words, and few
-score_printed : (s : Score) → is_score s ≡ true → AllByRecursion IsShortWord (score_words s) × (length (score_words s) ≤ 3)
+score_printed : (s : Score) → is_score s ≡ true → AllByRecursion IsShortWord (score_words s)
+    × (length (score_words s) ≤ 3)
 score_printed (Highest e) is = ((known_word (codes "highest") refl, (code_word e, tt)), omega arith)
 score_printed (Lowest e) is = ((known_word (codes "lowest") refl, (code_word e, tt)), omega arith)
 score_printed (Sum n e) is =
@@ -36,8 +41,11 @@ score_printed Wet is = ((known_word (codes "wet") refl, tt), omega arith)
 score_spelt : (s : Score) → is_score s ≡ true → SpellsScore (score_words s) s
 score_spelt (Highest e) is = refl
 score_spelt (Lowest e) is = refl
-score_spelt (Sum n e) is =
-    (decimal n, decimal_numeral n (small 1 366 n (omega arith) (and_parts (is_within 1 366 n) (is_fall e) is).0).1, refl)
+score_spelt (Sum n e) is = (
+  decimal n,
+  decimal_numeral n (small 1 366 n (omega arith) (and_parts (is_within 1 366 n) (is_fall e) is).0).1,
+  refl,
+)
 score_spelt Dry is = refl
 score_spelt Wet is = refl
 
@@ -50,7 +58,9 @@ record AreDegrees (south west north east : ℤ) : Type 0 where
   north_to : north ≤ℤ pos 1_800_000
   east_within : (neg_ℤ (pos 1_800_000) ≤ℤ east) × (east ≤ℤ pos 1_800_000)
 
-degrees_of : (south west north east : ℤ) → is_region (Inside south west north east) ≡ true → AreDegrees south west north east
+-- its edges are such
+degrees_of : (south west north east : ℤ) → is_region (Inside south west north east) ≡ true
+    → AreDegrees south west north east
 degrees_of south west north east is =
     let edges = edges_of south west north east is in
     record {
@@ -63,19 +73,32 @@ degrees_of south west north east is =
     }
 
 -- the words of a region are words, and few
-region_printed : (r : Region) → is_region r ≡ true → AllByRecursion IsShortWord (region_words r) × (length (region_words r) ≤ 5)
+region_printed : (r : Region) → is_region r ≡ true → AllByRecursion IsShortWord (region_words r)
+    × (length (region_words r) ≤ 5)
 region_printed Everywhere is = (tt, omega arith)
 region_printed (Inside south west north east) is =
     let d = degrees_of south west north east is in (
       (
         known_word (codes "box") refl,
-        (four_places_word south d.south_from d.south_to, (four_places_word west d.west_within.0 d.west_within.1, (four_places_word north d.north_from d.north_to, (four_places_word east d.east_within.0 d.east_within.1, tt)))),
+        (
+          four_places_word south d.south_from d.south_to,
+          (
+            four_places_word west d.west_within.0 d.west_within.1,
+            (
+              four_places_word north d.north_from d.north_to,
+              (four_places_word east d.east_within.0 d.east_within.1, tt),
+            ),
+          ),
+        ),
       ),
       omega arith,
     )
-region_printed (Country code) is = ((known_word (codes "country") refl, (visible_word 2 code (omega arith) (omega arith) is, tt)), omega arith)
-region_printed (State code) is = ((known_word (codes "state") refl, (visible_word 2 code (omega arith) (omega arith) is, tt)), omega arith)
-region_printed (Only id) is = ((known_word (codes "station") refl, (visible_word 11 id.0 (omega arith) (omega arith) is, tt)), omega arith)
+region_printed (Country code) is =
+    ((known_word (codes "country") refl, (visible_word 2 code (omega arith) (omega arith) is, tt)), omega arith)
+region_printed (State code) is =
+    ((known_word (codes "state") refl, (visible_word 2 code (omega arith) (omega arith) is, tt)), omega arith)
+region_printed (Only id) is =
+    ((known_word (codes "station") refl, (visible_word 11 id.0 (omega arith) (omega arith) is, tt)), omega arith)
 
 -- and spell it
 region_spelt : (r : Region) → is_region r ≡ true → SpellsRegion (region_words r) r
@@ -100,17 +123,21 @@ region_spelt (Only id) is = refl
 -- the words of a period are words, and few
 period_printed : (p : Option (ℤ × ℤ)) → AllByRecursion IsShortWord (period_words p) × (length (period_words p) ≤ 4)
 period_printed None = (tt, omega arith)
-period_printed (Some p) = ((known_word (codes "from") refl, (date_word p.0, (known_word (codes "to") refl, (date_word p.1, tt)))), omega arith)
+period_printed (Some p) = (
+  (known_word (codes "from") refl, (date_word p.0, (known_word (codes "to") refl, (date_word p.1, tt)))),
+  omega
+      arith,
+)
 
 -- and spell it
 period_spelt : (p : Option (ℤ × ℤ)) → SpellsPeriod (period_words p) p
 period_spelt None = refl
 period_spelt (Some p) = refl
 
--- a canonical text spells its query, and is short
+-- a canonical text spells its query, and is short and printable
 pub record IsCanonical (q : Asked) : Type 0 where
   pub spells : IsSpelling (query_text q) q
-  pub short : length (query_text q) ≤ 256
+  pub line : IsShortLine (query_text q)
 
 -- so it is for each query that may be asked
 pub canonical : (q : Asked) → IsAsked q → IsCanonical q
@@ -120,8 +147,14 @@ canonical q is =
     let region = region_printed q.region is.region in
     let period = period_printed q.period in
     let front = all_both (score_words q.score) (region_words q.region) score.0 region.0 in
-    let all : AllByRecursion IsShortWord (query_words q) =
-    (known_word (codes "top") refl, (decimal_word q.k rows.0 rows.1, all_both (score_words q.score ++ region_words q.region) (period_words q.period) front period.0)) in
+    let all : AllByRecursion IsShortWord (query_words q) = (
+      known_word (codes "top") refl,
+      (
+        decimal_word q.k rows.0 rows.1,
+        all_both (score_words q.score ++ region_words q.region)
+            (period_words q.period) front period.0,
+      ),
+    ) in
     record {
       spells = record {
         k = decimal q.k;
@@ -134,13 +167,17 @@ canonical q is =
         spells_region = region_spelt q.region is.region;
         spells_period = period_spelt q.period;
       };
-      short = omega (
-        arith,
-        length-join (query_words q) all,
-        score.1,
-        region.1,
-        period.1,
-        length-append (score_words q.score) (region_words q.region),
-        length-append (score_words q.score ++ region_words q.region) (period_words q.period),
-      );
+      line = record {
+        some = omega arith;
+        short = omega (
+          arith,
+          length-join (query_words q) all,
+          score.1,
+          region.1,
+          period.1,
+          length-append (score_words q.score) (region_words q.region),
+          length-append (score_words q.score ++ region_words q.region) (period_words q.period),
+        );
+        printable = printable-join (query_words q) all;
+      };
     }

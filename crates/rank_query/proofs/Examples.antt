@@ -1,5 +1,6 @@
 -- Worked examples, by computation.
-use Rattle.std.proofs.Common.{◌≡◌, ℕ, true, false, [], ◌∷◌, ◌++◌, refl, inl, inr, Some, None, Ok, Err, replicate, codes, arith}
+use Rattle.std.proofs.Common.{◌≡◌, ℕ, true, false, [], ◌∷◌, ◌++◌, refl, inl, inr, Some, None, Ok, Err, replicate}
+use Rattle.std.proofs.Common.{codes, arith}
 use Rattle.std.specs.Prelude.{pos, neg_ℤ, ℤ, map}
 use Rattle.std.specs.Fmt.{digits}
 use Rattle.std.proofs.lemmas.Int.{ints}
@@ -10,15 +11,18 @@ use Rattle.rank_query.specs.declared.score.Score.{Score}
 use Rattle.rank_query.specs.declared.score.Score.TheVariants.{Highest, Lowest, Sum, Dry, Wet}
 use Rattle.rank_query.specs.declared.region.Region.{Region}
 use Rattle.rank_query.specs.declared.region.Region.TheVariants.{Everywhere, Inside, Country, State, Only}
-use Rattle.rank_query.specs.declared.fault.QueryFault.TheVariants.{QueryTooLong, UnexpectedWord, QueryEnds, OutOfLimits, BadDate, BadBox}
+use Rattle.rank_query.specs.declared.fault.QueryFault.TheVariants.{QueryTooLong, UnexpectedWord, QueryEnds}
+use Rattle.rank_query.specs.declared.fault.QueryFault.TheVariants.{OutOfLimits, BadDate, BadBox}
 use Rattle.rank_query.specs.Asked.{Asked}
 use Rattle.rank_query.specs.Admits.{region_holds, admits_day}
 use Rattle.rank_query.specs.QueryTexts.{query_text}
 use Rattle.rank_query.specs.Words.{words_of, says}
 use Rattle.rank_query.specs.Readers.{keyword}
 use Rattle.rank_query.specs.WordValues.{number, element, degrees, code, date}
+use Rattle.rank_query.specs.FaultKinds.{Place, number as a_number, edge, date as a_date, other as another, place_behind}
 use Rattle.rank_query.specs.FaultPlaces.{BeginQuery, EndsTooEarly, StandsIn}
-use Rattle.rank_query.specs.Reading.{sum_at, no_score_at, score_at, box_at, region_at, days_at, period_at, read_words, read_query}
+use Rattle.rank_query.specs.Reading.{sum_at, no_score_at, score_at, box_at, region_at, days_at, period_at, read_words}
+use Rattle.rank_query.specs.Reading.{read_query}
 use Rattle.rank_query.proofs.FaultPlaces.{fault_stands, one_place}
 
 -- a query of all stations and days
@@ -30,62 +34,104 @@ words : words_of (codes "  top 007  highest TMAX ") ≡ codes "top" ∷ codes "0
 words = refl
 
 -- texts that are read
-read : (read_query (codes "top 1000 highest TMAX") ≡ Ok (asked 1000 (Highest Tmax))) × (read_query (codes " top  0001 highest   PRCP ") ≡ Ok (asked 1 (Highest Prcp)))
+read : (read_query (codes "top 1000 highest TMAX") ≡ Ok (asked 1000 (Highest Tmax)))
+    × (read_query (codes " top  0001 highest   PRCP ") ≡ Ok (asked 1 (Highest Prcp)))
 unfolding read_query read_words keyword says number element score_at no_score_at region_at period_at
 read = (refl, refl)
 
 -- k is from 1 to 1000, however many digits it has
-out_of_limits : (read_query (codes "top 1001 highest TMAX") ≡ Err (OutOfLimits 2)) × (read_query (codes "top 0 highest TMAX") ≡ Err (OutOfLimits 2)) × (read_query (codes "top 18446744073709551617 highest TMAX") ≡ Err (OutOfLimits 2))
+out_of_limits : (read_query (codes "top 1001 highest TMAX") ≡ Err (OutOfLimits 2))
+    × (read_query (codes "top 0 highest TMAX") ≡ Err (OutOfLimits 2))
+    × (read_query (codes "top 18446744073709551617 highest TMAX") ≡ Err (OutOfLimits 2))
 unfolding read_query read_words keyword says number element score_at no_score_at region_at period_at
 out_of_limits = (refl, refl, refl)
 
 -- a word is needed and there is none
-ends : (read_query (codes "top 1") ≡ Err QueryEnds) × (read_query [] ≡ Err QueryEnds) × (read_query (codes "top 1 highest") ≡ Err QueryEnds)
+ends : (read_query (codes "top 1") ≡ Err QueryEnds) × (read_query [] ≡ Err QueryEnds)
+    × (read_query (codes "top 1 highest") ≡ Err QueryEnds)
 unfolding read_query read_words keyword says number element score_at no_score_at region_at period_at
 ends = (refl, refl, refl)
 
 -- a word that doesn't stand there
-unexpected : (read_query (codes "Top 1 highest TMAX") ≡ Err (UnexpectedWord 1)) × (read_query (codes "top +1 highest TMAX") ≡ Err (UnexpectedWord 2)) × (read_query (codes "top 1 highest TAVG") ≡ Err (UnexpectedWord 4)) × (read_query (codes "top 1 highest TMAX TMAX") ≡ Err (UnexpectedWord 5))
+unexpected : (read_query (codes "Top 1 highest TMAX") ≡ Err (UnexpectedWord 1))
+    × (read_query (codes "top +1 highest TMAX") ≡ Err (UnexpectedWord 2))
+    × (read_query (codes "top 1 highest TAVG") ≡ Err (UnexpectedWord 4))
+    × (read_query (codes "top 1 highest TMAX TMAX") ≡ Err (UnexpectedWord 5))
 unfolding read_query read_words keyword says number element score_at no_score_at region_at period_at
 unexpected = (refl, refl, refl, refl)
 
 -- the other scores
-scores : (read_query (codes "top 2 lowest TMIN") ≡ Ok (asked 2 (Lowest Tmin))) × (read_query (codes "top 1 sum 366 PRCP") ≡ Ok (asked 1 (Sum 366 Prcp))) × (read_query (codes "top  007 wet") ≡ Ok (asked 7 Wet)) × (read_query (codes "top 3 dry ") ≡ Ok (asked 3 Dry))
+scores : (read_query (codes "top 2 lowest TMIN") ≡ Ok (asked 2 (Lowest Tmin)))
+    × (read_query (codes "top 1 sum 366 PRCP") ≡ Ok (asked 1 (Sum 366 Prcp)))
+    × (read_query (codes "top  007 wet") ≡ Ok (asked 7 Wet)) × (read_query (codes "top 3 dry ") ≡ Ok (asked 3 Dry))
 unfolding read_query read_words keyword says number element score_at sum_at no_score_at region_at period_at
 scores = (refl, refl, refl, refl)
 
 -- lowest values are of temperatures, and sums of rain or snow over 1 to 366 days
-scores_refused : (read_query (codes "top 1 lowest PRCP") ≡ Err (UnexpectedWord 4)) × (read_query (codes "top 1 sum 367 PRCP") ≡ Err (OutOfLimits 4)) × (read_query (codes "top 1 sum 0 PRCP") ≡ Err (OutOfLimits 4)) × (read_query (codes "top 1 sum 3 SNWD") ≡ Err (UnexpectedWord 5))
-    × (read_query (codes "top 1 sum PRCP") ≡ Err (UnexpectedWord 4)) × (read_query (codes "top 1 hot 30") ≡ Err (UnexpectedWord 3)) × (read_query (codes "top 1 dry PRCP") ≡ Err (UnexpectedWord 4))
+scores_refused : (read_query (codes "top 1 lowest PRCP") ≡ Err (UnexpectedWord 4))
+    × (read_query (codes "top 1 sum 367 PRCP") ≡ Err (OutOfLimits 4))
+    × (read_query (codes "top 1 sum 0 PRCP") ≡ Err (OutOfLimits 4))
+    × (read_query (codes "top 1 sum 3 SNWD") ≡ Err (UnexpectedWord 5))
+    × (read_query (codes "top 1 sum PRCP") ≡ Err (UnexpectedWord 4))
+    × (read_query (codes "top 1 hot 30") ≡ Err (UnexpectedWord 3))
+    × (read_query (codes "top 1 dry PRCP") ≡ Err (UnexpectedWord 4))
 unfolding read_query read_words keyword says number element score_at sum_at no_score_at region_at period_at
 scores_refused = (refl, refl, refl, refl, refl, refl, refl)
 
--- the first of several faults of a box is told at its word: no latitude and no longitude, the north south of the south, and then nothing more
-boxes_refused : (read_query (codes "top 1 highest TMAX box -91 0 10 10") ≡ Err (BadBox 6)) × (read_query (codes "top 1 highest TMAX box 10 0 -10") ≡ Err (BadBox 8)) × (read_query (codes "top 1 highest TMAX box 0 181 0 x") ≡ Err (BadBox 7))
-    × (read_query (codes "top 1 highest TMAX box 0 0 0 1.00000") ≡ Err (BadBox 9)) × (read_query (codes "top 1 highest TMAX box 0 0 0") ≡ Err QueryEnds)
+-- the first of several faults of a box is told at its word: no latitude and no longitude,
+-- the north south of the south, and then nothing more
+boxes_refused : (read_query (codes "top 1 highest TMAX box -91 0 10 10") ≡ Err (BadBox 6))
+    × (read_query (codes "top 1 highest TMAX box 10 0 -10") ≡ Err (BadBox 8))
+    × (read_query (codes "top 1 highest TMAX box 0 181 0 x") ≡ Err (BadBox 7))
+    × (read_query (codes "top 1 highest TMAX box 0 0 0 1.00000") ≡ Err (BadBox 9))
+    × (read_query (codes "top 1 highest TMAX box 0 0 0") ≡ Err QueryEnds)
 unfolding read_query read_words keyword says number element score_at no_score_at region_at period_at box_at degrees
 boxes_refused = (refl, refl, refl, refl, refl)
 
 -- a box over the date line, and one at the edges of the world
-boxes_read : (read_query (codes "top 3 highest TMAX box -10 170 10.0000 -170") ≡ Ok (record { k = 3; score = Highest Tmax; region = Inside (neg_ℤ (pos 100_000)) (pos 1_700_000) (pos 100_000) (neg_ℤ (pos 1_700_000)); period = None }))
-    × (read_query (codes "top 3 highest TMAX box -90 -180.0 0090 180.0000") ≡ Ok (record { k = 3; score = Highest Tmax; region = Inside (neg_ℤ (pos 900_000)) (neg_ℤ (pos 1_800_000)) (pos 900_000) (pos 1_800_000); period = None }))
+boxes_read : (read_query (codes "top 3 highest TMAX box -10 170 10.0000 -170") ≡ Ok
+    (record {
+      k = 3;
+      score = Highest Tmax;
+      region = Inside (neg_ℤ (pos 100_000)) (pos 1_700_000) (pos 100_000)
+          (neg_ℤ (pos 1_700_000));
+      period = None;
+    }))
+    × (read_query (codes "top 3 highest TMAX box -90 -180.0 0090 180.0000") ≡ Ok
+    (record {
+      k = 3;
+      score = Highest Tmax;
+      region = Inside (neg_ℤ (pos 900_000)) (neg_ℤ (pos 1_800_000)) (pos 900_000)
+          (pos 1_800_000);
+      period = None;
+    }))
 unfolding read_query read_words keyword says number element score_at no_score_at region_at period_at box_at degrees
 boxes_read = (refl, refl)
 
 -- codes of another length, and bytes that don't show in print
-codes_refused : (read_query (codes "top 1 highest TMAX country ZZZ") ≡ Err (UnexpectedWord 6)) × (read_query (codes "top 1 highest TMAX state N") ≡ Err (UnexpectedWord 6)) × (read_query (codes "top 1 highest TMAX station ZZA0000000") ≡ Err (UnexpectedWord 6))
-    × (read_query (codes "top 1 highest TMAX country" ++ 32 ∷ 127 ∷ 33 ∷ []) ≡ Err (UnexpectedWord 6)) × (read_query (codes "top 1 highest TMAX state NY country ZZ") ≡ Err (UnexpectedWord 7))
+codes_refused : (read_query (codes "top 1 highest TMAX country ZZZ") ≡ Err (UnexpectedWord 6))
+    × (read_query (codes "top 1 highest TMAX state N") ≡ Err (UnexpectedWord 6))
+    × (read_query (codes "top 1 highest TMAX station ZZA0000000") ≡ Err (UnexpectedWord 6))
+    × (read_query (codes "top 1 highest TMAX country" ++ 32 ∷ 127 ∷ 33 ∷ []) ≡ Err (UnexpectedWord 6))
+    × (read_query (codes "top 1 highest TMAX state NY country ZZ") ≡ Err (UnexpectedWord 7))
 unfolding read_query read_words keyword says number element score_at no_score_at region_at period_at code
 codes_refused = (refl, refl, refl, refl, refl)
 
 -- codes that are read
-codes_read : (read_query (codes "top 1 highest TMAX state NY") ≡ Ok (record { k = 1; score = Highest Tmax; region = State (codes "NY"); period = None })) × (read_query (codes "top 1 highest TMAX country from") ≡ Err (UnexpectedWord 6))
-    × (read_query (codes "top 1 highest TMAX country ZZ") ≡ Ok (record { k = 1; score = Highest Tmax; region = Country (codes "ZZ"); period = None })) × (read_query (codes "top 1 highest TMAX station ZZA00000003") ≡ Ok (record { k = 1; score = Highest Tmax; region = Only (record { 0 = codes "ZZA00000003" }); period = None }))
+codes_read : (read_query (codes "top 1 highest TMAX state NY") ≡ Ok
+    (record { k = 1; score = Highest Tmax; region = State (codes "NY"); period = None }))
+    × (read_query (codes "top 1 highest TMAX country from") ≡ Err (UnexpectedWord 6))
+    × (read_query (codes "top 1 highest TMAX country ZZ") ≡ Ok
+    (record { k = 1; score = Highest Tmax; region = Country (codes "ZZ"); period = None }))
+    × (read_query (codes "top 1 highest TMAX station ZZA00000003") ≡ Ok
+    (record { k = 1; score = Highest Tmax; region = Only (record { 0 = codes "ZZA00000003" }); period = None }))
 unfolding read_query read_words keyword says number element score_at no_score_at region_at period_at code
 codes_read = (refl, refl, refl, refl)
 
 -- no dates
-dates_refused : (read_query (codes "top 1 highest TMAX from 2019-02-29 to 2019-03-01") ≡ Err (BadDate 6)) × (read_query (codes "top 1 highest TMAX from 2020-07-01 2020-07-02") ≡ Err (UnexpectedWord 7)) × (read_query (codes "top 1 highest TMAX from 2020-07-01 to") ≡ Err QueryEnds)
+dates_refused : (read_query (codes "top 1 highest TMAX from 2019-02-29 to 2019-03-01") ≡ Err (BadDate 6))
+    × (read_query (codes "top 1 highest TMAX from 2020-07-01 2020-07-02") ≡ Err (UnexpectedWord 7))
+    × (read_query (codes "top 1 highest TMAX from 2020-07-01 to") ≡ Err QueryEnds)
 unfolding read_query read_words keyword says number element score_at no_score_at region_at period_at days_at date
 dates_refused = (refl, refl, refl)
 
@@ -94,9 +140,40 @@ too_long : (read_query (replicate 257 32) ≡ Err QueryTooLong) × (read_query (
 unfolding read_query read_words keyword says number element score_at no_score_at region_at period_at
 too_long = (refl, refl)
 
--- where faults stand: at an element that can't be ranked so, at a northern edge south of the southern one, at the end, past 256 bytes, at a number, at a date
-places : StandsIn (codes "top 1 lowest PRCP") (UnexpectedWord 4) × StandsIn (codes "top 1 highest TMAX box 10 0 -10") (BadBox 8) × StandsIn (codes "top 1 highest") QueryEnds × StandsIn (replicate 257 32) QueryTooLong
-    × StandsIn (codes "top 1001 highest TMAX") (OutOfLimits 2) × StandsIn (codes "top 1 highest TMAX from 2019-02-29 to 2019-03-01") (BadDate 6)
+-- what the grammar has behind words, of which the nearest comes first: K and the days of a sum, the four edges of a box,
+-- no fifth one, both dates, and behind codes whatever comes next
+places_behind : map place_behind ((codes "top" ∷ []) ∷ (codes "sum" ∷ codes "1" ∷ codes "top" ∷ []) ∷ [])
+    ≡ a_number ∷ a_number ∷ []
+places_behind = refl
+
+-- of a box: behind four numbers no edge stands
+edges_behind : map place_behind (
+    (codes "box" ∷ codes "dry" ∷ [])
+    ∷ (codes "-1.5" ∷ codes "box" ∷ [])
+    ∷ (codes "7" ∷ codes "0" ∷ codes "-1.5" ∷ codes "box" ∷ [])
+    ∷ (codes "8" ∷ codes "7" ∷ codes "0" ∷ codes "-1.5" ∷ codes "box" ∷ [])
+    ∷ [])
+    ≡ edge ∷ edge ∷ edge ∷ another ∷ []
+edges_behind = refl
+
+-- of a period: "to" may be a country too
+dates_behind : map place_behind (
+    (codes "from" ∷ codes "dry" ∷ [])
+    ∷ (codes "2020-07-01" ∷ codes "from" ∷ [])
+    ∷ (codes "to" ∷ codes "2020-07-01" ∷ codes "from" ∷ [])
+    ∷ (codes "to" ∷ codes "country" ∷ [])
+    ∷ (codes "country" ∷ codes "dry" ∷ [])
+    ∷ [])
+    ≡ a_date ∷ another ∷ a_date ∷ another ∷ another ∷ []
+dates_behind = refl
+
+-- where faults stand: at an element that can't be ranked so, at a northern edge south of the southern one,
+-- at the end, past 256 bytes, at a number, at a date
+places : StandsIn (codes "top 1 lowest PRCP") (UnexpectedWord 4)
+    × StandsIn (codes "top 1 highest TMAX box 10 0 -10") (BadBox 8) × StandsIn (codes "top 1 highest") QueryEnds
+    × StandsIn (replicate 257 32) QueryTooLong
+    × StandsIn (codes "top 1001 highest TMAX") (OutOfLimits 2)
+    × StandsIn (codes "top 1 highest TMAX from 2019-02-29 to 2019-03-01") (BadDate 6)
 places = (
   fault_stands (codes "top 1 lowest PRCP") (UnexpectedWord 4) scores_refused.0,
   fault_stands (codes "top 1 highest TMAX box 10 0 -10") (BadBox 8) boxes_refused.1,
@@ -128,71 +205,126 @@ begun = record {
 -- a fault stands at no word before or after its own
 other_places : (n : ℕ) → StandsIn (codes "top 1 lowest PRCP") (UnexpectedWord n) → n ≡ 4
 other_places n (inl long) = absurd (omega (arith, long.0))
-other_places n (inr other) = elim places.0 [ inl long ↦ absurd (omega (arith, long.0)) | inr here ↦ one_place (words_of (codes "top 1 lowest PRCP")) n 4 other.1 here.1 ]
+other_places n (inr other) =
+    elim places.0 [
+      | inl long ↦ absurd (omega (arith, long.0))
+      | inr here ↦ one_place
+          (words_of (codes "top 1 lowest PRCP")) n 4 other.1 here.1
+    ]
 
 -- a second date before the first
-too_early : EndsTooEarly (codes "top" ∷ codes "1" ∷ codes "dry" ∷ codes "from" ∷ codes "2020-07-02" ∷ codes "to" ∷ []) (codes "2020-07-01")
+too_early : EndsTooEarly (codes "top" ∷ codes "1" ∷ codes "dry" ∷ codes "from" ∷ codes "2020-07-02" ∷ codes "to" ∷ [])
+    (codes "2020-07-01")
 unfolding digits year_and_rest month_and_day
-too_early = record { earlier = codes "top" ∷ codes "1" ∷ codes "dry" ∷ codes "from" ∷ []; first = pos 18445; last = pos 18444; are_days = refl; period = refl; date = refl; order = omega (arith, ints) }
+too_early =
+    record {
+      earlier = codes "top" ∷ codes "1" ∷ codes "dry" ∷ codes "from" ∷ [];
+      first = pos 18445;
+      last = pos 18444;
+      are_days = refl;
+      period = refl;
+      date = refl;
+      order = omega (arith, ints);
+    }
 
 -- canonical texts
-canonical_texts : (query_text (asked 1000 (Highest Tmax)) ≡ codes "top 1000 highest TMAX") × (query_text (asked 2 (Lowest Tmin)) ≡ codes "top 2 lowest TMIN") × (query_text (asked 5 (Sum 3 Prcp)) ≡ codes "top 5 sum 3 PRCP") × (query_text (asked 3 Dry) ≡ codes "top 3 dry") × (query_text (asked 7 Wet) ≡ codes "top 7 wet")
+canonical_texts : (query_text (asked 1000 (Highest Tmax)) ≡ codes "top 1000 highest TMAX")
+    × (query_text (asked 2 (Lowest Tmin)) ≡ codes "top 2 lowest TMIN")
+    × (query_text (asked 5 (Sum 3 Prcp)) ≡ codes "top 5 sum 3 PRCP") × (query_text (asked 3 Dry) ≡ codes "top 3 dry")
+    × (query_text (asked 7 Wet) ≡ codes "top 7 wet")
 unfolding digits
 canonical_texts = (refl, refl, refl, refl, refl)
 
 -- with a region
-box_text : query_text (record { k = 3; score = Highest Tmax; region = Inside (neg_ℤ (pos 100_000)) (pos 1_700_000) (pos 100_000) (neg_ℤ (pos 1_700_000)); period = None }) ≡ codes "top 3 highest TMAX box -10.0000 170.0000 10.0000 -170.0000"
+box_text : query_text (record {
+  k = 3;
+  score = Highest Tmax;
+  region = Inside (neg_ℤ (pos 100_000)) (pos 1_700_000)
+      (pos 100_000) (neg_ℤ (pos 1_700_000));
+  period = None;
+}) ≡ codes
+    "top 3 highest TMAX box -10.0000 170.0000 10.0000 -170.0000"
 unfolding digits
 box_text = refl
 
 -- less than one degree, and no degree at all
-small_box_text : query_text (record { k = 1; score = Wet; region = Inside (neg_ℤ (pos 5)) (pos 0) (pos 12_345) (pos 1_800_000); period = None }) ≡ codes "top 1 wet box -0.0005 0.0000 1.2345 180.0000"
+small_box_text : query_text (record
+    { k = 1; score = Wet; region = Inside (neg_ℤ (pos 5)) (pos 0) (pos 12_345) (pos 1_800_000); period = None }) ≡
+    codes "top 1 wet box -0.0005 0.0000 1.2345 180.0000"
 unfolding digits
 small_box_text = refl
 
-region_texts : (query_text (record { k = 1; score = Dry; region = Country (codes "ZZ"); period = None }) ≡ codes "top 1 dry country ZZ") × (query_text (record { k = 1; score = Dry; region = State (codes "NY"); period = None }) ≡ codes "top 1 dry state NY")
-    × (query_text (record { k = 1; score = Dry; region = Only (record { 0 = codes "ZZA00000003" }); period = None }) ≡ codes "top 1 dry station ZZA00000003")
+-- with a code
+region_texts : (query_text (record { k = 1; score = Dry; region = Country (codes "ZZ"); period = None }) ≡ codes
+    "top 1 dry country ZZ") × (query_text (record {
+      k = 1;
+      score = Dry;
+      region = State (codes "NY");
+      period = None;
+    }) ≡ codes "top 1 dry state NY")
+    × (query_text (record { k = 1; score = Dry; region = Only (record { 0 = codes "ZZA00000003" }); period = None }) ≡
+    codes "top 1 dry station ZZA00000003")
 unfolding digits
 region_texts = (refl, refl, refl)
 
 -- with a period
-period_text : query_text (record { k = 1; score = Dry; region = Everywhere; period = Some (pos 18444, pos 18444) }) ≡ codes "top 1 dry from 2020-07-01 to 2020-07-01"
+period_text : query_text (record { k = 1; score = Dry; region = Everywhere; period = Some (pos 18444, pos 18444) }) ≡
+    codes "top 1 dry from 2020-07-01 to 2020-07-01"
 unfolding digits year_and_rest month_and_day
 period_text = refl
 
 -- a station at so many ten-thousandths of a degree
 abbrev at : ℤ → ℤ → Station
-at latitude longitude = record { id = record { 0 = codes "ZZA00000001" }; latitude = latitude; longitude = longitude; elevation = None; state = codes "NY"; name = codes "ZZ                            " }
+at latitude longitude =
+    record {
+      id = record { 0 = codes "ZZA00000001" };
+      latitude = latitude;
+      longitude = longitude;
+      elevation = None;
+      state = codes "NY";
+      name = codes "ZZ                            ";
+    }
 
 -- a box over the date line: 170 degrees east to 170 degrees west, and 10 degrees south to 10 degrees north
 abbrev over_the_date_line : Region
 over_the_date_line = Inside (neg_ℤ (pos 100_000)) (pos 1_700_000) (pos 100_000) (neg_ℤ (pos 1_700_000))
 
 -- both edges belong to it, and so do 180 degrees east and west
-in_box : map (λ z. region_holds over_the_date_line (at (pos 100_000) z)) (pos 1_700_000 ∷ pos 1_800_000 ∷ neg_ℤ (pos 1_800_000) ∷ neg_ℤ (pos 1_700_000) ∷ []) ≡ true ∷ true ∷ true ∷ true ∷ []
+in_box : map (λ z. region_holds over_the_date_line (at (pos 100_000) z))
+    (pos 1_700_000 ∷ pos 1_800_000 ∷ neg_ℤ (pos 1_800_000) ∷ neg_ℤ (pos 1_700_000) ∷ []) ≡ true ∷ true ∷ true ∷ true ∷
+    []
 in_box = refl
 
 -- what lies between its edges on the other side doesn't
-outside : map (λ z. region_holds over_the_date_line (at (pos 0) z)) (pos 1_699_999 ∷ pos 0 ∷ neg_ℤ (pos 1_699_999) ∷ []) ≡ false ∷ false ∷ false ∷ []
+outside : map (λ z. region_holds over_the_date_line (at (pos 0) z))
+    (pos 1_699_999 ∷ pos 0 ∷ neg_ℤ (pos 1_699_999) ∷ []) ≡ false ∷ false ∷ false ∷ []
 outside = refl
 
 -- the southern and the northern edge belong to it, and nothing past them
-edges : map (λ z. region_holds over_the_date_line (at z (pos 1_750_000))) (neg_ℤ (pos 100_001) ∷ neg_ℤ (pos 100_000) ∷ pos 100_000 ∷ pos 100_001 ∷ []) ≡ false ∷ true ∷ true ∷ false ∷ []
+edges : map (λ z. region_holds over_the_date_line (at z (pos 1_750_000)))
+    (neg_ℤ (pos 100_001) ∷ neg_ℤ (pos 100_000) ∷ pos 100_000 ∷ pos 100_001 ∷ []) ≡ false ∷ true ∷ true ∷ false ∷ []
 edges = refl
 
 -- a box of one point, and an ordinary one
-boxes : (region_holds (Inside (pos 120_000) (pos 220_000) (pos 120_000) (pos 220_000)) (at (pos 120_000) (pos 220_000)) ≡ true) × (region_holds (Inside (pos 0) (pos 0) (pos 100_000) (pos 100_000)) (at (pos 50_000) (pos 100_001)) ≡ false)
+boxes : (region_holds (Inside (pos 120_000) (pos 220_000) (pos 120_000) (pos 220_000))
+    (at (pos 120_000) (pos 220_000)) ≡ true)
+    × (region_holds (Inside (pos 0) (pos 0) (pos 100_000) (pos 100_000)) (at (pos 50_000) (pos 100_001)) ≡ false)
 boxes = (refl, refl)
 
 -- by the first two bytes of the ID, by the state and not the name, by the ID
-by_code : (map (λ r. region_holds r (at (pos 0) (pos 0))) (Country (codes "ZZ") ∷ State (codes "NY") ∷ State (codes "ZZ") ∷ Country (codes "NY") ∷ Only (record { 0 = codes "ZZA00000001" }) ∷ Only (record { 0 = codes "ZZA00000002" }) ∷ []))
+by_code : (map (λ r. region_holds r (at (pos 0) (pos 0)))
+    (Country (codes "ZZ") ∷ State (codes "NY") ∷ State (codes "ZZ") ∷ Country (codes "NY") ∷ Only
+    (record { 0 = codes "ZZA00000001" }) ∷ Only (record { 0 = codes "ZZA00000002" }) ∷ []))
     ≡ true ∷ true ∷ false ∷ false ∷ true ∷ false ∷ []
 by_code = refl
 
 -- the first and the last day of a period belong to it
-days : map (λ day. admits_day (record { k = 1; score = Dry; region = Everywhere; period = Some (pos 18444, pos 18445) }) day) (pos 18443 ∷ pos 18444 ∷ pos 18445 ∷ pos 18446 ∷ []) ≡ false ∷ true ∷ true ∷ false ∷ []
+days : map (λ day. admits_day (record
+    { k = 1; score = Dry; region = Everywhere; period = Some (pos 18444, pos 18445) }) day)
+    (pos 18443 ∷ pos 18444 ∷ pos 18445 ∷ pos 18446 ∷ []) ≡ false ∷ true ∷ true ∷ false ∷ []
 days = refl
 
 -- without a period each day of the years 1 to 9999 does
-all_days : map (λ day. admits_day (asked 1 Dry) day) (neg_ℤ (pos 719_163) ∷ neg_ℤ (pos 719_162) ∷ pos 2_932_896 ∷ pos 2_932_897 ∷ []) ≡ false ∷ true ∷ true ∷ false ∷ []
+all_days : map (λ day. admits_day (asked 1 Dry) day)
+    (neg_ℤ (pos 719_163) ∷ neg_ℤ (pos 719_162) ∷ pos 2_932_896 ∷ pos 2_932_897 ∷ []) ≡ false ∷ true ∷ true ∷ false ∷ []
 all_days = refl

@@ -1,11 +1,14 @@
 -- The fault that is told stands at the first word with which no query goes on.
-use Rattle.std.proofs.Common.{◌≡◌, ℕ, ◌+◌, ◌<◌, ◌≤◌, Bool, true, false, cond, ◌⊎◌, inl, inr, List, [], ◌∷◌, ◌++◌, length, Result, Ok, Err, refl, sym, ap, ◌∙◌, subst, append_assoc, append-nil, IfErr, arith}
+use Rattle.std.proofs.Common.{◌≡◌, ℕ, ◌+◌, ◌<◌, ◌≤◌, Bool, true, false, cond, ◌⊎◌, inl, inr, List, [], ◌∷◌, ◌++◌}
+use Rattle.std.proofs.Common.{length, Result, Ok, Err, refl, sym, ap, ◌∙◌, subst, append_assoc, append-nil, IfErr}
+use Rattle.std.proofs.Common.{arith}
 use Rattle.std.specs.Prelude.{nat_lt}
 use Rattle.std.specs.List.{enumerate_from, AllByRecursion}
 use Rattle.std.proofs.lemmas.List.{map-append, length-map}
 use Rattle.std.proofs.lemmas.Bool.Decides.{nat_tests}
 use Rattle.rank_query.specs.declared.fault.QueryFault.{QueryFault}
-use Rattle.rank_query.specs.declared.fault.QueryFault.TheVariants.{QueryTooLong, UnexpectedWord, QueryEnds, OutOfLimits, BadDate, BadBox, EmptyPeriod}
+use Rattle.rank_query.specs.declared.fault.QueryFault.TheVariants.{QueryTooLong, UnexpectedWord, QueryEnds}
+use Rattle.rank_query.specs.declared.fault.QueryFault.TheVariants.{OutOfLimits, BadDate, BadBox, EmptyPeriod}
 use Rattle.rank_query.specs.Asked.{Asked, IsAsked}
 use Rattle.rank_query.specs.Words.{Word, words_of, numbered_words}
 use Rattle.rank_query.specs.Spelling.{SpellsQuery}
@@ -28,17 +31,23 @@ blank_in_front [] back clean = tt
 blank_in_front (w ∷ front) back clean = (clean.0, blank_in_front front back clean.1)
 
 -- a word that stands behind others has the number that follows theirs, and so it is with other words behind it
-record IsPlace (n : ℕ) (before : List Word) (w : Word) : Type 0 where
-  number : w.0 ≡ n + length before
-  again : (more : List (List ℕ)) → (rest : List Word) × (enumerate_from n (unnumbered before ++ w.1 ∷ more) ≡ before ++ w ∷ rest)
+pub record IsPlace (n : ℕ) (before : List Word) (w : Word) : Type 0 where
+  pub number : w.0 ≡ n + length before
+  pub again : (more : List (List ℕ)) → (rest : List Word)
+      × (enumerate_from n (unnumbered before ++ w.1 ∷ more) ≡ before ++ w ∷ rest)
 
 -- the numbers of words tell their places
-place_of : (n : ℕ) (words : List (List ℕ)) (before : List Word) (w : Word) (behind : List Word) → enumerate_from n words ≡ before ++ w ∷ behind → IsPlace n before w
+pub place_of : (n : ℕ) (words : List (List ℕ)) (before : List Word) (w : Word) (behind : List Word)
+    → enumerate_from n words ≡ before ++ w ∷ behind → IsPlace n before w
 place_of n [] [] w behind e = absurd cc
 place_of n (v ∷ words) [] w behind e =
     let first : (n, v) ≡ w = cc in
     let at : n ≡ w.0 = ap (λ (w : Word). w.0) first in
-    record { number = omega (arith, at); again = λ more. (enumerate_from (n + 1) more, ap (λ (m : ℕ). (m, w.1) ∷ enumerate_from (n + 1) more) at) }
+    record {
+      number = omega (arith, at);
+      again = λ more.
+          (enumerate_from (n + 1) more, ap (λ (m : ℕ). (m, w.1) ∷ enumerate_from (n + 1) more) at);
+    }
 place_of n [] (b ∷ before) w behind e = absurd cc
 place_of n (v ∷ words) (b ∷ before) w behind e =
     let first : (n, v) ≡ b = cc in
@@ -48,43 +57,59 @@ place_of n (v ∷ words) (b ∷ before) w behind e =
     record {
       number = omega (arith, place.number);
       again = λ more.
-          let rest = place.again more in
-          (rest.0, ap (λ (m : ℕ). (m, b.1) ∷ enumerate_from (n + 1) (unnumbered before ++ w.1 ∷ more)) at ∙ ap (λ ws. b ∷ ws) rest.1);
+          let rest = place.again more in (
+            rest.0,
+            ap (λ (m : ℕ). (m, b.1) ∷ enumerate_from (n + 1) (unnumbered before ++ w.1 ∷ more)) at
+                ∙ ap (λ ws. b ∷ ws) rest.1,
+          );
     }
 
 -- words behind which a query is read begin one
-begun : (before left : List Word) → AllByRecursion HasNoBlank (unnumbered (before ++ left)) → GoesOn Asked IsAsked (λ tail. read_words (before ++ tail)) → BeginQuery (unnumbered before)
+begun : (before left : List Word) → AllByRecursion HasNoBlank (unnumbered (before ++ left))
+    → GoesOn Asked IsAsked (λ tail. read_words (before ++ tail)) → BeginQuery (unnumbered before)
 begun before left clean on =
-    let all = blank_in_none (before ++ on.tail) (blank_in_neither before on.tail (blank_in_front before left clean) on.clean) in
+    let all = blank_in_none (before ++ on.tail)
+    (blank_in_neither before on.tail (blank_in_front before left clean) on.clean) in
     record {
       query = on.value;
       can_be_asked = on.good;
       more = unnumbered on.tail;
-      spelt = subst (λ ws. SpellsQuery ws on.value) (map-append (λ (w : Word). w.1) before on.tail) (words_spell (before ++ on.tail) on.value all on.reads);
+      spelt = subst (λ ws. SpellsQuery ws on.value) (map-append (λ (w : Word). w.1) before on.tail)
+          (words_spell (before ++ on.tail) on.value all on.reads);
     }
 
 -- words with which no query is read begin none
-ended : (before : List Word) (w : Word) (fault : QueryFault) → IsPlace 1 before w → ((more : List Word) → read_words (before ++ w ∷ more) ≡ Err fault) → BeginQuery (unnumbered before ++ w.1 ∷ []) → ⊥
+ended : (before : List Word) (w : Word) (fault : QueryFault) → IsPlace 1 before w
+    → ((more : List Word) → read_words (before ++ w ∷ more) ≡ Err fault) → BeginQuery (unnumbered before ++ w.1 ∷ [])
+    → ⊥
 ended before w fault place stops begin =
     let rest = place.again begin.more in
-    let words : (unnumbered before ++ w.1 ∷ []) ++ begin.more ≡ unnumbered before ++ w.1 ∷ begin.more = append_assoc (unnumbered before) (w.1 ∷ []) begin.more in
+    let words : (unnumbered before ++ w.1 ∷ []) ++ begin.more ≡ unnumbered before ++ w.1 ∷ begin.more = append_assoc
+    (unnumbered before) (w.1 ∷ []) begin.more in
     let read = spelt_read ((unnumbered before ++ w.1 ∷ []) ++ begin.more) begin.query begin.can_be_asked begin.spelt in
-    let both : ◌≡◌ {A = Result Asked QueryFault} (Ok begin.query) (Err fault) = sym read ∙ ap (λ ws. read_words (enumerate_from 1 ws)) words ∙ ap read_words rest.1 ∙ stops rest.0 in
+    let both : ◌≡◌ {A = Result Asked QueryFault} (Ok begin.query) (Err fault) = sym read
+    ∙ ap (λ ws. read_words (enumerate_from 1 ws)) words ∙ ap read_words rest.1 ∙ stops rest.0 in
     absurd cc
 
 -- the fault of a word stands there
-stands_at : (ws : List (List ℕ)) (fault : QueryFault) (before : List Word) (w : Word) → IsFirstWrong ws (unnumbered before) w.1 → w.0 ≡ 1 + length before → IsWordOf fault before w → StandsAmong ws fault
+stands_at : (ws : List (List ℕ)) (fault : QueryFault) (before : List Word) (w : Word)
+    → IsFirstWrong ws (unnumbered before) w.1 → w.0 ≡ 1 + length before → IsWordOf fault before w → StandsAmong ws fault
 stands_at ws QueryTooLong before w wrong at is = absurd is
-stands_at ws (UnexpectedWord n) before w wrong at is = (unnumbered before, w.1, wrong, omega (arith, is, at, length-map before (λ (w : Word). w.1)))
+stands_at ws (UnexpectedWord n) before w wrong at is =
+    (unnumbered before, w.1, wrong, omega (arith, is, at, length-map before (λ (w : Word). w.1)))
 stands_at ws QueryEnds before w wrong at is = absurd is
-stands_at ws (OutOfLimits n) before w wrong at is = (unnumbered before, w.1, wrong, omega (arith, is, at, length-map before (λ (w : Word). w.1)))
-stands_at ws (BadDate n) before w wrong at is = (unnumbered before, w.1, wrong, omega (arith, is, at, length-map before (λ (w : Word). w.1)))
-stands_at ws (BadBox n) before w wrong at is = (unnumbered before, w.1, wrong, omega (arith, is, at, length-map before (λ (w : Word). w.1)))
+stands_at ws (OutOfLimits n) before w wrong at is =
+    (unnumbered before, w.1, wrong, omega (arith, is, at, length-map before (λ (w : Word). w.1)))
+stands_at ws (BadDate n) before w wrong at is =
+    (unnumbered before, w.1, wrong, omega (arith, is, at, length-map before (λ (w : Word). w.1)))
+stands_at ws (BadBox n) before w wrong at is =
+    (unnumbered before, w.1, wrong, omega (arith, is, at, length-map before (λ (w : Word). w.1)))
 stands_at ws EmptyPeriod before w wrong at is = (unnumbered before, w.1, wrong, is)
 
 -- the fault of words stands where the reading stops
 by_left : (text : List ℕ) (fault : QueryFault) (before left : List Word) → read_words (numbered_words text) ≡ Err fault
-    → words_of text ≡ unnumbered (before ++ left) → numbered_words text ≡ before ++ left → BeginQuery (unnumbered before) → StopsAt read_words fault before left → StandsAmong (words_of text) fault
+    → words_of text ≡ unnumbered (before ++ left) → numbered_words text ≡ before ++ left
+    → BeginQuery (unnumbered before) → StopsAt read_words fault before left → StandsAmong (words_of text) fault
 by_left text fault before [] e words numbered begins at =
     let same : words_of text ≡ unnumbered before = words ∙ ap unnumbered (append-nil before) in
     let none : SpellNone (words_of text) = λ q is spelt.
@@ -102,20 +127,25 @@ by_left text fault before (w ∷ behind) e words numbered begins at =
     stands_at (words_of text) fault before w wrong place.number at.0
 
 -- a fault of the words of a text stands among them
-words_fault : (text : List ℕ) (fault : QueryFault) → read_words (numbered_words text) ≡ Err fault → StandsAmong (words_of text) fault
+words_fault : (text : List ℕ) (fault : QueryFault) → read_words (numbered_words text) ≡ Err fault
+    → StandsAmong (words_of text) fault
 words_fault text fault e =
     let stops = query_first.stops (numbered_words text) fault e in
-    let words : words_of text ≡ unnumbered (stops.before ++ stops.left) = sym (unnumbered-enumerate_from 1 (words_of text)) ∙ ap unnumbered stops.parts in
+    let words : words_of text ≡ unnumbered (stops.before ++ stops.left) = sym
+    (unnumbered-enumerate_from 1 (words_of text)) ∙ ap unnumbered stops.parts in
     let clean = subst (AllByRecursion HasNoBlank) words (words_no_blank text) in
-    by_left text fault stops.before stops.left e words stops.parts (begun stops.before stops.left clean stops.on) stops.at
+    by_left text fault stops.before stops.left e words stops.parts
+    (begun stops.before stops.left clean stops.on) stops.at
 
 -- the same by the text's length
-by_length : (b : Bool) (text : List ℕ) (fault : QueryFault) → nat_lt 256 (length text) ≡ b → cond b (Err QueryTooLong) (read_words (numbered_words text)) ≡ Err fault → StandsIn text fault
+by_length : (b : Bool) (text : List ℕ) (fault : QueryFault) → nat_lt 256 (length text) ≡ b
+    → cond b (Err QueryTooLong) (read_words (numbered_words text)) ≡ Err fault → StandsIn text fault
 by_length true text fault long e =
     let same : QueryTooLong ≡ fault = cc in
     let more : 256 < length text = grind (arith, nat_tests) in
     inl (more, sym same)
-by_length false text fault short e = let few : length text ≤ 256 = grind (arith, nat_tests) in inr (few, words_fault text fault e)
+by_length false text fault short e =
+    let few : length text ≤ 256 = grind (arith, nat_tests) in inr (few, words_fault text fault e)
 
 -- so does each fault of a text
 pub fault_stands : (text : List ℕ) (fault : QueryFault) → read_query text ≡ Err fault → StandsIn text fault
@@ -123,7 +153,8 @@ unfolding read_query
 fault_stands text fault e = by_length (nat_lt 256 (length text)) text fault refl e
 
 -- where the reading fails, the fault stands where it is told
-pub if_fault_stands : (text : List ℕ) (r : Result Asked QueryFault) → r ≡ read_query text → IfErr r (λ fault. StandsIn text fault)
+pub if_fault_stands : (text : List ℕ) (r : Result Asked QueryFault) → r ≡ read_query text
+    → IfErr r (λ fault. StandsIn text fault)
 if_fault_stands text (Ok q) e = tt
 if_fault_stands text (Err fault) e = fault_stands text fault (sym e)
 
@@ -137,11 +168,15 @@ fewer_begin front back begin = record {
 }
 
 -- of two words of one list, one stands among those before the other, or both have the same number of words before them
-two_places : (xs ys : List (List ℕ)) (x y : List ℕ) (behind_x behind_y : List (List ℕ)) → xs ++ x ∷ behind_x ≡ ys ++ y ∷ behind_y
-    → (length xs ≡ length ys) ⊎ ((back : List (List ℕ)) × (ys ≡ (xs ++ x ∷ []) ++ back)) ⊎ ((back : List (List ℕ)) × (xs ≡ (ys ++ y ∷ []) ++ back))
+two_places : (xs ys : List (List ℕ)) (x y : List ℕ) (behind_x behind_y : List (List ℕ))
+    → xs ++ x ∷ behind_x ≡ ys ++ y ∷ behind_y
+    → (length xs ≡ length ys) ⊎ ((back : List (List ℕ)) × (ys ≡ (xs ++ x ∷ []) ++ back))
+    ⊎ ((back : List (List ℕ)) × (xs ≡ (ys ++ y ∷ []) ++ back))
 two_places [] [] x y behind_x behind_y e = inl refl
-two_places [] (v ∷ ys) x y behind_x behind_y e = let first : v ≡ x = cc in inr (inl (ys, ap (λ (w : List ℕ). w ∷ ys) first))
-two_places (v ∷ xs) [] x y behind_x behind_y e = let first : v ≡ y = cc in inr (inr (xs, ap (λ (w : List ℕ). w ∷ xs) first))
+two_places [] (v ∷ ys) x y behind_x behind_y e =
+    let first : v ≡ x = cc in inr (inl (ys, ap (λ (w : List ℕ). w ∷ ys) first))
+two_places (v ∷ xs) [] x y behind_x behind_y e =
+    let first : v ≡ y = cc in inr (inr (xs, ap (λ (w : List ℕ). w ∷ xs) first))
 two_places (v ∷ xs) (u ∷ ys) x y behind_x behind_y e =
     let first : v ≡ u = cc in
     let others : xs ++ x ∷ behind_x ≡ ys ++ y ∷ behind_y = cc in

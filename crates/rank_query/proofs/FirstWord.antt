@@ -1,5 +1,6 @@
 -- The first word of a text, and the words after it.
-use Rattle.std.proofs.Common.{◌≡◌, ℕ, ◌+◌, ◌<◌, ◌≤◌, Bool, true, false, not, cond, List, [], ◌∷◌, length, take, drop, get_or, All, filter, refl, sym, ap, ◌∙◌, inl, inr, Some, None, arith}
+use Rattle.std.proofs.Common.{◌≡◌, ℕ, ◌+◌, ◌<◌, ◌≤◌, Bool, true, false, not, cond, List, [], ◌∷◌, length, take, drop}
+use Rattle.std.proofs.Common.{get_or, All, filter, refl, sym, ap, ◌∙◌, inl, inr, Some, None, arith}
 use Rattle.std.specs.Prelude.{nat_lt}
 use Rattle.std.specs.Option.{unwrap_or}
 use Rattle.std.specs.List.{slice_split, position, position_or_len, enumerate_from}
@@ -17,7 +18,8 @@ pub words_of-blank : (b : ℕ) (bytes : List ℕ) → is_separator b ≡ true �
 words_of-blank b bytes e = ap (filter is_word) (slice_split-cons_yes is_separator b bytes e)
 
 -- the same, by what the first byte is
-by_first : (t : Bool) (b : ℕ) (bytes : List ℕ) → is_separator b ≡ t → words_of (after_blanks bytes) ≡ words_of bytes → words_of (cond t (after_blanks bytes) (b ∷ bytes)) ≡ words_of (b ∷ bytes)
+by_first : (t : Bool) (b : ℕ) (bytes : List ℕ) → is_separator b ≡ t → words_of (after_blanks bytes) ≡ words_of bytes
+    → words_of (cond t (after_blanks bytes) (b ∷ bytes)) ≡ words_of (b ∷ bytes)
 by_first true b bytes e rest = rest ∙ sym (words_of-blank b bytes e)
 by_first false b bytes e rest = refl
 
@@ -27,48 +29,73 @@ words_of-after_blanks [] = refl
 words_of-after_blanks (b ∷ bytes) = by_first (is_separator b) b bytes refl (words_of-after_blanks bytes)
 
 -- a part that isn't empty is a word
-first_kept : (part : List ℕ) (parts : List (List ℕ)) → 0 < length part → filter is_word (part ∷ parts) ≡ part ∷ filter is_word parts
-first_kept part parts some = let e : is_word part ≡ true = grind (arith, nat_tests) in ap (λ b. cond b (part ∷ filter is_word parts) (filter is_word parts)) e
+first_kept : (part : List ℕ) (parts : List (List ℕ)) → 0 < length part
+    → filter is_word (part ∷ parts) ≡ part ∷ filter is_word parts
+first_kept part parts some =
+    let e : is_word part ≡ true = grind (arith, nat_tests) in ap
+    (λ b. cond b (part ∷ filter is_word parts) (filter is_word parts)) e
 
 -- the first word ends where a blank stands
-ends_at_blank : (text : List ℕ) (n : ℕ) → n ≡ position_or_len is_separator text → 0 < n → n < length text → words_of text ≡ take n text ∷ words_of (drop n text)
+ends_at_blank : (text : List ℕ) (n : ℕ) → n ≡ position_or_len is_separator text → 0 < n → n < length text
+    → words_of text ≡ take n text ∷ words_of (drop n text)
 ends_at_blank text n e some inside =
     let at : position_or_len is_separator text < length text = omega arith in
     let parts : slice_split is_separator text ≡ take n text ∷ slice_split is_separator (drop (n + 1) text) =
-    slice_split_first is_separator text 0 at ∙ ap (λ (m : ℕ). take m text ∷ slice_split is_separator (drop (m + 1) text)) (sym e) in
-    let blank : is_separator (get_or text n 0) ≡ true = ap (λ (m : ℕ). is_separator (get_or text m 0)) e ∙ passes_at_first is_separator text 0 at in
-    let rest : words_of (drop n text) ≡ words_of (drop (n + 1) text) = ap words_of (drop_more text n 0 inside) ∙ words_of-blank (get_or text n 0) (drop (n + 1) text) blank in
+    slice_split_first is_separator text 0 at
+    ∙ ap (λ (m : ℕ). take m text ∷ slice_split is_separator (drop (m + 1) text)) (sym e) in
+    let blank : is_separator (get_or text n 0) ≡ true = ap (λ (m : ℕ). is_separator (get_or text m 0)) e
+    ∙ passes_at_first is_separator text 0 at in
+    let rest : words_of (drop n text) ≡ words_of (drop (n + 1) text) = ap words_of (drop_more text n 0 inside)
+    ∙ words_of-blank (get_or text n 0) (drop (n + 1) text) blank in
     let long : 0 < length (take n text) = grind (arith, common_steps) in
-    ap (filter is_word) parts ∙ first_kept (take n text) (slice_split is_separator (drop (n + 1) text)) long ∙ ap (λ ws. take n text ∷ ws) (sym rest)
+    ap (filter is_word) parts ∙ first_kept (take n text) (slice_split is_separator (drop (n + 1) text)) long
+    ∙ ap (λ ws. take n text ∷ ws) (sym rest)
 
 -- the only word ends with the text
-ends_with_text : (text : List ℕ) (n : ℕ) → n ≡ position_or_len is_separator text → 0 < n → length text ≤ n → words_of text ≡ take n text ∷ words_of (drop n text)
+ends_with_text : (text : List ℕ) (n : ℕ) → n ≡ position_or_len is_separator text → 0 < n → length text ≤ n
+    → words_of text ≡ take n text ∷ words_of (drop n text)
 ends_with_text text n e some outside =
-    let within : position_or_len is_separator text ≤ length text = prefix_len-le-length (λ b. not (is_separator b)) text in
-    let none : All (λ b. is_separator b ≡ false) text = λ k d lt. fails_before_first is_separator text k d (omega arith) in
+    let within : position_or_len is_separator text ≤ length text = prefix_len-le-length
+    (λ b. not (is_separator b)) text in
+    let none : All (λ b. is_separator b ≡ false) text = λ k d lt. fails_before_first is_separator text k d
+    (omega arith) in
     let long : 0 < length text = omega arith in
     ap (filter is_word) (slice_split_none is_separator text none) ∙ first_kept text [] long
     ∙ ap (λ w. w ∷ []) (sym (take_all n text outside))
     ∙ ap (λ rest. take n text ∷ words_of rest) (sym (drop_all n text outside))
 
 -- a text that begins with no blank is its first word, and the words after it
-pub words_of-first : (text : List ℕ) (n : ℕ) → n ≡ position_or_len is_separator text → 0 < n → words_of text ≡ take n text ∷ words_of (drop n text)
+pub words_of-first : (text : List ℕ) (n : ℕ) → n ≡ position_or_len is_separator text → 0 < n
+    → words_of text ≡ take n text ∷ words_of (drop n text)
 words_of-first text n e some =
-    elim (cases_lt n (length text)) [ inl inside ↦ ends_at_blank text n e some inside | inr outside ↦ ends_with_text text n e some outside ]
+    elim (cases_lt n (length text)) [
+      | inl inside ↦ ends_at_blank text n e some inside
+      | inr outside ↦ ends_with_text
+          text n e some outside
+    ]
 
-past_first : (t : Bool) (b : ℕ) (bytes : List ℕ) → is_separator b ≡ t → (0 < length (after_blanks bytes) → 0 < position_or_len is_separator (after_blanks bytes)) → 0 < length (cond t (after_blanks bytes) (b ∷ bytes)) → 0 < position_or_len is_separator (cond t (after_blanks bytes) (b ∷ bytes))
+-- by the first byte: the word goes on behind it, or it separates
+past_first : (t : Bool) (b : ℕ) (bytes : List ℕ) → is_separator b ≡ t
+    → (0 < length (after_blanks bytes) → 0 < position_or_len is_separator (after_blanks bytes))
+    → 0 < length (cond t (after_blanks bytes) (b ∷ bytes))
+    → 0 < position_or_len is_separator (cond t (after_blanks bytes) (b ∷ bytes))
 past_first true b bytes e rest some = rest some
-past_first false b bytes e rest some = let one : position_or_len is_separator (b ∷ bytes) ≡ 1 + position_or_len is_separator bytes = ap (λ v. cond (not v) (1 + position_or_len is_separator bytes) 0) e in omega (arith, one)
+past_first false b bytes e rest some =
+    let one : position_or_len is_separator (b ∷ bytes) ≡ 1 + position_or_len is_separator bytes = ap
+    (λ v. cond (not v) (1 + position_or_len is_separator bytes) 0) e in omega (arith, one)
 
 -- the first byte past the blanks is none
-after_blanks-first : (text : List ℕ) → 0 < length (after_blanks text) → 0 < position_or_len is_separator (after_blanks text)
+after_blanks-first : (text : List ℕ) → 0 < length (after_blanks text)
+    → 0 < position_or_len is_separator (after_blanks text)
 after_blanks-first [] some = absurd (omega arith)
 after_blanks-first (b ∷ bytes) some = past_first (is_separator b) b bytes refl (after_blanks-first bytes) some
 
 -- past the blanks stands the first word
-pub first_word : (text rest : List ℕ) (n : ℕ) → rest ≡ after_blanks text → 0 < length rest → n ≡ position_or_len is_separator rest → (words_of text ≡ take n rest ∷ words_of (drop n rest)) × (0 < n)
+pub first_word : (text rest : List ℕ) (n : ℕ) → rest ≡ after_blanks text → 0 < length rest
+    → n ≡ position_or_len is_separator rest → (words_of text ≡ take n rest ∷ words_of (drop n rest)) × (0 < n)
 first_word text rest n e some at =
-    let same : position_or_len is_separator rest ≡ position_or_len is_separator (after_blanks text) = ap (position_or_len is_separator) e in
+    let same : position_or_len is_separator rest ≡ position_or_len is_separator (after_blanks text) = ap
+    (position_or_len is_separator) e in
     let here : 0 < n = omega (arith, same, at, after_blanks-first text (omega (arith, ap length e, some))) in
     (sym (words_of-after_blanks text) ∙ ap words_of (sym e) ∙ words_of-first rest n at here, here)
 
@@ -86,11 +113,14 @@ place_or : (n len : ℕ) → n ≤ len → unwrap_or (cond (nat_lt n len) (Some 
 place_or n len within = grind (arith, nat_tests)
 
 -- the place of the first blank, or else the length
-pub position-or : (text : List ℕ) → unwrap_or (position is_separator text) (length text) ≡ position_or_len is_separator text
-position-or text = place_or (position_or_len is_separator text) (length text) (prefix_len-le-length (λ b. not (is_separator b)) text)
+pub position-or : (text : List ℕ) → unwrap_or (position is_separator text)
+    (length text) ≡ position_or_len is_separator text
+position-or text =
+    place_or (position_or_len is_separator text) (length text) (prefix_len-le-length (λ b. not (is_separator b)) text)
 
 -- the same, by what the first byte is
-past_le : (t : Bool) (b : ℕ) (bytes : List ℕ) → length (after_blanks bytes) ≤ length bytes → length (cond t (after_blanks bytes) (b ∷ bytes)) ≤ length (b ∷ bytes)
+past_le : (t : Bool) (b : ℕ) (bytes : List ℕ) → length (after_blanks bytes) ≤ length bytes
+    → length (cond t (after_blanks bytes) (b ∷ bytes)) ≤ length (b ∷ bytes)
 past_le true b bytes h = omega arith
 past_le false b bytes h = omega arith
 
@@ -100,7 +130,9 @@ after_blanks-le [] = omega arith
 after_blanks-le (b ∷ bytes) = past_le (is_separator b) b bytes (after_blanks-le bytes)
 
 -- the numbered words of a text are its first word, and those of what is left
-pub words_left : (given : ℕ) (all : List (ℕ × List ℕ)) (text word rest shown left : List ℕ) → enumerate_from (given + 1) (words_of text) ≡ all → words_of text ≡ word ∷ words_of rest → word ≡ shown → rest ≡ left
+pub words_left : (given : ℕ) (all : List (ℕ × List ℕ)) (text word rest shown left : List ℕ)
+    → enumerate_from (given + 1) (words_of text) ≡ all → words_of text ≡ word ∷ words_of rest → word ≡ shown
+    → rest ≡ left
     → all ≡ (given + 1, shown) ∷ enumerate_from (given + 1 + 1) (words_of left)
 words_left given all text word rest shown left view first same over =
     sym view

@@ -18,4 +18,7 @@ pub mod RegionStops
 pub mod PeriodStops
 pub mod QueryStops
 pub mod FaultPlaces
+pub mod Places
+pub mod FaultKinds
+pub mod ReadAsked
 pub mod Examples

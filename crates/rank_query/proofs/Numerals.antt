@@ -10,6 +10,8 @@ pub digit_is : (c : ℕ) → is_ascii_digit c ≡ true → digit_value c ≡ c -
 digit_is c h = grind (arith, nat_tests)
 
 -- one more digit, where the number is kept up to a limit
-pub one_more_up_to : (limit : ℕ) (digits : List ℕ) (i v : ℕ) → i < length digits → v ≡ min limit (digits_value 10 (take i digits)) → is_ascii_digit (get_or digits i 0) ≡ true
+pub one_more_up_to : (limit : ℕ) (digits : List ℕ) (i v : ℕ) → i < length digits
+    → v ≡ min limit (digits_value 10 (take i digits)) → is_ascii_digit (get_or digits i 0) ≡ true
     → min (v * 10 + (get_or digits i 0 - 48)) limit ≡ min limit (digits_value 10 (take (i + 1) digits))
-one_more_up_to limit digits i v inside e digit = omega (arith, digits_value_more 10 digits i inside, digit_is (get_or digits i 0) digit)
+one_more_up_to limit digits i v inside e digit =
+    omega (arith, digits_value_more 10 digits i inside, digit_is (get_or digits i 0) digit)

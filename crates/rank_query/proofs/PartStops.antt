@@ -1,5 +1,6 @@
 -- Where the reading of one word stops, and that of a part that its first word tells.
-use Rattle.std.proofs.Common.{◌≡◌, ℕ, zero, Bool, true, false, cond, ◌⊎◌, inl, inr, List, [], ◌∷◌, ◌++◌, Option, Some, None, Result, Ok, Err, refl, sym, ap, ◌∙◌, subst}
+use Rattle.std.proofs.Common.{◌≡◌, ℕ, zero, Bool, true, false, cond, ◌⊎◌, inl, inr, List, [], ◌∷◌, ◌++◌, Option, Some}
+use Rattle.std.proofs.Common.{None, Result, Ok, Err, refl, sym, ap, ◌∙◌, subst}
 use Rattle.std.specs.List.{AllByRecursion}
 use Rattle.rank_query.specs.declared.fault.QueryFault.{QueryFault}
 use Rattle.rank_query.specs.declared.fault.QueryFault.TheVariants.{UnexpectedWord, QueryEnds}
@@ -7,7 +8,8 @@ use Rattle.rank_query.specs.Words.{Word, says}
 use Rattle.rank_query.specs.Readers.{◌>>=◌, Read, keyword, one_word, made_into, by_word}
 use Rattle.rank_query.proofs.OneWords.{HasNoBlank}
 use Rattle.rank_query.proofs.ReadingSteps.{bind_ok}
-use Rattle.rank_query.proofs.Stops.{Reading, then, GoesOn, IsWordOf, StopsAt, Stops, StopsFirst, TakesAll, Ended, ReadsPart, bind_err}
+use Rattle.rank_query.proofs.Stops.{Reading, then, GoesOn, IsWordOf, StopsAt, Stops, StopsFirst, TakesAll, Ended}
+use Rattle.rank_query.proofs.Stops.{ReadsPart, bind_err}
 
 -- a word's value is good, a word without one is told by its number, and some word has a value
 pub record ReadsWord (A : Type 0) (Good : A → Type 0) (value : Word → Result A QueryFault) : Type 0 where
@@ -19,7 +21,8 @@ pub record ReadsWord (A : Type 0) (Good : A → Type 0) (value : Word → Result
   pub reads : value (0, sample) ≡ Ok it
 
 -- that word goes on alone
-word_on : {A : Type 0} (Good : A → Type 0) (value : Word → Result A QueryFault) → ReadsWord A Good value → GoesOn (A × List Word) (Ended Good) (one_word value)
+word_on : {A : Type 0} (Good : A → Type 0) (value : Word → Result A QueryFault) → ReadsWord A Good value
+    → GoesOn (A × List Word) (Ended Good) (one_word value)
 word_on {A} Good value word = record {
   tail = (0, word.sample) ∷ [];
   clean = (word.clean, tt);
@@ -30,8 +33,17 @@ word_on {A} Good value word = record {
 
 -- a missing word and one without a value are faults
 word_stops : {A : Type 0} (Good : A → Type 0) (value : Word → Result A QueryFault) → ReadsWord A Good value
-    → (ws : List Word) (fault : QueryFault) → one_word value ws ≡ Err fault → Stops (A × List Word) (Ended Good) (one_word value) fault ws
-word_stops Good value word [] fault e = record { before = []; left = []; parts = refl; on = word_on Good value word; at = let same : fault ≡ QueryEnds = cc in same }
+    → (ws : List Word) (fault : QueryFault) → one_word value ws ≡ Err fault
+    → Stops (A × List Word) (Ended Good) (one_word value) fault ws
+word_stops Good value word [] fault e =
+    record {
+      before = [];
+      left = [];
+      parts = refl;
+      on = word_on Good value word;
+      at = let same : fault ≡
+          QueryEnds = cc in same;
+    }
 word_stops {A} Good value word (w ∷ ws) fault e = elim (bind_err (value w) (λ x. Ok (x, ws)) fault e) [
   | inl here ↦ record {
     before = [];
@@ -46,7 +58,8 @@ word_stops {A} Good value word (w ∷ ws) fault e = elim (bind_err (value w) (λ
   ok_is_no_fault r fault e = absurd cc
 
 -- a word with a value is taken
-word_takes : {A : Type 0} (Good : A → Type 0) (value : Word → Result A QueryFault) → ReadsWord A Good value → TakesAll A Good (one_word value)
+word_takes : {A : Type 0} (Good : A → Type 0) (value : Word → Result A QueryFault) → ReadsWord A Good value
+    → TakesAll A Good (one_word value)
 word_takes Good value word [] r e = absurd cc
 word_takes {A} Good value word (w ∷ ws) r e =
     let both = bind_ok (value w) (λ x. Ok (x, ws)) r e in
@@ -55,35 +68,42 @@ word_takes {A} Good value word (w ∷ ws) r e =
       good = word.good w r.0 (both.1 ∙ ap (λ (p : A × List Word). Ok p.0) pair);
       taken = w ∷ [];
       parts = ap (λ (p : A × List Word). w ∷ p.1) pair;
-      again = λ more. ap (λ (r : Result A QueryFault). r >>= λ x. Ok (x, more)) both.1 ∙ ap (λ (p : A × List Word). Ok (p.0, more)) pair;
+      again = λ more. ap (λ (r : Result A QueryFault). r >>= λ x. Ok (x, more)) both.1
+          ∙ ap (λ (p : A × List Word). Ok (p.0, more)) pair;
     }
 
 -- one word is a part
-pub part_word : {A : Type 0} (Good : A → Type 0) (value : Word → Result A QueryFault) → ReadsWord A Good value → ReadsPart A Good (one_word value)
+pub part_word : {A : Type 0} (Good : A → Type 0) (value : Word → Result A QueryFault) → ReadsWord A Good value
+    → ReadsPart A Good (one_word value)
 part_word Good value word = record {
   first = record { on = word_on Good value word; stops = word_stops Good value word };
   takes = word_takes Good value word;
 }
 
 -- a fault of what was made is that of what it is made of
-made_err : {A B : Type 0} (make : A → B) (r : Read A) (fault : QueryFault) → made_into make r ≡ Err fault → r ≡ Err fault
+made_err : {A B : Type 0} (make : A → B) (r : Read A) (fault : QueryFault) → made_into make r ≡ Err fault
+    → r ≡ Err fault
 made_err make (Ok p) fault e = absurd cc
 made_err make (Err d) fault e = let same : d ≡ fault = cc in ap Err same
 
 -- and a value is made of a value
-made_ok : {A B : Type 0} (make : A → B) (r : Read A) (y : B × List Word) → made_into make r ≡ Ok y → (x : A) × (r ≡ Ok (x, y.1)) × (make x ≡ y.0)
+made_ok : {A B : Type 0} (make : A → B) (r : Read A) (y : B × List Word) → made_into make r ≡ Ok y → (x : A)
+    × (r ≡ Ok (x, y.1)) × (make x ≡ y.0)
 made_ok {A} {B} make (Ok p) y e =
     let pair : (make p.0, p.1) ≡ y = cc in
     (p.0, ap (λ (q : B × List Word). Ok (p.0, q.1)) pair, ap (λ (q : B × List Word). q.0) pair)
 made_ok make (Err fault) y e = absurd cc
 
 -- what is made stops where the part does
-made_at : {A B : Type 0} (make : A → B) (read : Reading (A × List Word)) (fault : QueryFault) (before left : List Word) → StopsAt read fault before left → StopsAt (λ ws. made_into make (read ws)) fault before left
+made_at : {A B : Type 0} (make : A → B) (read : Reading (A × List Word)) (fault : QueryFault)
+    (before left : List Word) → StopsAt read fault before left
+    → StopsAt (λ ws. made_into make (read ws)) fault before left
 made_at make read fault before [] at = at
 made_at make read fault before (w ∷ behind) at = (at.0, λ more. ap (made_into make) (at.1 more))
 
 -- and goes on where it does
-made_on : {A B : Type 0} (GoodA : A → Type 0) (Good : B → Type 0) (make : A → B) (read : Reading (A × List Word)) → ((x : A) → GoodA x → Good (make x))
+made_on : {A B : Type 0} (GoodA : A → Type 0) (Good : B → Type 0) (make : A → B) (read : Reading (A × List Word))
+    → ((x : A) → GoodA x → Good (make x))
     → GoesOn (A × List Word) (Ended GoodA) read → GoesOn (B × List Word) (Ended Good) (λ ws. made_into make (read ws))
 made_on GoodA Good make read good on = record {
   tail = on.tail;
@@ -94,7 +114,8 @@ made_on GoodA Good make read good on = record {
 }
 
 -- what is made of a part is one
-pub part_made : {A B : Type 0} (GoodA : A → Type 0) (Good : B → Type 0) (make : A → B) (read : Reading (A × List Word)) → ((x : A) → GoodA x → Good (make x))
+pub part_made : {A B : Type 0} (GoodA : A → Type 0) (Good : B → Type 0) (make : A → B)
+    (read : Reading (A × List Word)) → ((x : A) → GoodA x → Good (make x))
     → ReadsPart A GoodA read → ReadsPart B Good (λ ws. made_into make (read ws))
 part_made {A} {B} GoodA Good make read good part = record {
   first = record {
@@ -146,12 +167,14 @@ abbrev pub Any : {A : Type 0} → A → Type 0
 Any x = Unit {0}
 
 -- where it is another word, that word is wrong
-test_err : (b : Bool) (w : Word) (fault : QueryFault) → ◌≡◌ {A = Result ℕ QueryFault} (cond b (Ok zero) (Err (UnexpectedWord w.0))) (Err fault) → IsWordOf fault [] w
+test_err : (b : Bool) (w : Word) (fault : QueryFault) → ◌≡◌ {A = Result ℕ QueryFault}
+    (cond b (Ok zero) (Err (UnexpectedWord w.0))) (Err fault) → IsWordOf fault [] w
 test_err true w fault e = absurd cc
 test_err false w fault e = let same : UnexpectedWord w.0 ≡ fault = cc in subst (λ f. IsWordOf f [] w) same refl
 
 -- so is a keyword
-pub part_the_word : (text : List ℕ) → HasNoBlank text → says text text ≡ true → ReadsPart ℕ Any (one_word (the_word text))
+pub part_the_word : (text : List ℕ) → HasNoBlank text → says text text ≡ true
+    → ReadsPart ℕ Any (one_word (the_word text))
 part_the_word text clean same = part_word Any (the_word text) (record {
   good = λ w x e. tt;
   told = λ w fault e. test_err (says text w.1) w fault e;
@@ -167,60 +190,100 @@ beside ws value = value >>= λ x. Ok (x, ws)
 
 -- a keyword read as a word with a value
 by_test : {C : Type 0} (b : Bool) (w : Word) (ws : List Word) (onward : Reading C)
-    → (cond b (Ok ws) (Err (UnexpectedWord w.0)) >>= onward) ≡ (beside ws (cond b (Ok zero) (Err (UnexpectedWord w.0))) >>= λ r. onward r.1)
+    → (cond b (Ok ws) (Err (UnexpectedWord w.0)) >>= onward) ≡
+    (beside ws (cond b (Ok zero) (Err (UnexpectedWord w.0))) >>= λ r. onward r.1)
 by_test true w ws onward = refl
 by_test false w ws onward = refl
 
 -- and reading goes on behind it
-pub keyword-then : {C : Type 0} (text : List ℕ) (onward : Reading C) (ws : List Word) → (keyword text ws >>= onward) ≡ then (one_word (the_word text)) (λ x. onward) ws
+pub keyword-then : {C : Type 0} (text : List ℕ) (onward : Reading C) (ws : List Word)
+    → (keyword text ws >>= onward) ≡ then (one_word (the_word text)) (λ x. onward) ws
 unfolding keyword
 keyword-then text onward [] = refl
 keyword-then text onward (w ∷ ws) = by_test (says text w.1) w ws onward
 
 -- where one reading stops an equal one does
-same_at : {C : Type 0} (read other : Reading C) → ((ws : List Word) → other ws ≡ read ws) → (fault : QueryFault) (before left : List Word) → StopsAt read fault before left → StopsAt other fault before left
+same_at : {C : Type 0} (read other : Reading C) → ((ws : List Word) → other ws ≡ read ws)
+    → (fault : QueryFault) (before left : List Word) → StopsAt read fault before left → StopsAt other fault before left
 same_at read other same fault before [] at = at
 same_at read other same fault before (w ∷ behind) at = (at.0, λ more. same (before ++ w ∷ more) ∙ at.1 more)
 
 -- a reading that always answers as another one stops as it does
-pub first_same : {C : Type 0} (Good : C → Type 0) (read other : Reading C) → ((ws : List Word) → other ws ≡ read ws) → StopsFirst C Good read → StopsFirst C Good other
+pub first_same : {C : Type 0} (Good : C → Type 0) (read other : Reading C) → ((ws : List Word) → other ws ≡ read ws)
+    → StopsFirst C Good read → StopsFirst C Good other
 first_same Good read other same first = record {
-  on = record { tail = first.on.tail; clean = first.on.clean; value = first.on.value; good = first.on.good; reads = same first.on.tail ∙ first.on.reads };
+  on = record {
+    tail = first.on.tail;
+    clean = first.on.clean;
+    value = first.on.value;
+    good = first.on.good;
+    reads = same first.on.tail ∙ first.on.reads;
+  };
   stops = λ ws fault e.
       let stops = first.stops ws fault (sym (same ws) ∙ e) in
       record {
         before = stops.before;
         left = stops.left;
         parts = stops.parts;
-        on = record { tail = stops.on.tail; clean = stops.on.clean; value = stops.on.value; good = stops.on.good; reads = same (stops.before ++ stops.on.tail) ∙ stops.on.reads };
+        on = record {
+          tail = stops.on.tail;
+          clean = stops.on.clean;
+          value = stops.on.value;
+          good = stops.on.good;
+          reads = same (stops.before ++ stops.on.tail) ∙ stops.on.reads;
+        };
         at = same_at read other same fault stops.before stops.left stops.at;
       };
 }
 
 -- and takes what it takes
-pub takes_same : {A : Type 0} (Good : A → Type 0) (read other : Reading (A × List Word)) → ((ws : List Word) → other ws ≡ read ws) → TakesAll A Good read → TakesAll A Good other
+pub takes_same : {A : Type 0} (Good : A → Type 0) (read other : Reading (A × List Word))
+    → ((ws : List Word) → other ws ≡ read ws) → TakesAll A Good read → TakesAll A Good other
 takes_same Good read other same takes = λ ws r e.
     let took = takes ws r (sym (same ws) ∙ e) in
-    record { good = took.good; taken = took.taken; parts = took.parts; again = λ more. same (took.taken ++ more) ∙ took.again more }
+    record {
+      good = took.good;
+      taken = took.taken;
+      parts = took.parts;
+      again = λ more. same (took.taken ++ more)
+          ∙ took.again more;
+    }
 
 -- how the reading goes on where a word may come next
 abbrev reads_or : {A : Type 0} → Option (List Word) → (List Word → Read A) → Read A → Read A
 reads_or o read others = elim o [ Some rest ↦ read rest | None ↦ others ]
 
 -- the first word tells by which row all is read that begins with it, or that no row is
-pub by_first : {A : Type 0} (Good : A → Type 0) (table : List (List ℕ × (List Word → Read A))) (otherwise : List Word → Read A) (w : Word)
+pub by_first : {A : Type 0} (Good : A → Type 0) (table : List (List ℕ × (List Word → Read A)))
+    (otherwise : List Word → Read A) (w : Word)
     → AllByRecursion (λ row. ReadsPart A Good row.1) table
-    → ((read : List Word → Read A) × ReadsPart A Good read × ((rest : List Word) → by_word table otherwise (w ∷ rest) ≡ read rest))
+    → ((read : List Word → Read A) × ReadsPart A Good read
+    × ((rest : List Word) → by_word table otherwise (w ∷ rest) ≡ read rest))
     ⊎ ((rest : List Word) → by_word table otherwise (w ∷ rest) ≡ otherwise (w ∷ rest))
 by_first Good [] otherwise w all = inr (λ rest. refl)
-by_first {A} Good (row ∷ table) otherwise w all = by_says (says row.0 w.1) refl (by_first Good table otherwise w all.1) where
-  Found : List (List ℕ × (List Word → Read A)) → Type 0
-  Found rows = ((read : List Word → Read A) × ReadsPart A Good read × ((rest : List Word) → by_word rows otherwise (w ∷ rest) ≡ read rest))
-      ⊎ ((rest : List Word) → by_word rows otherwise (w ∷ rest) ≡ otherwise (w ∷ rest))
+by_first {A} Good (row ∷ table) otherwise w all =
+    by_says (says row.0 w.1) refl (by_first Good table otherwise w all.1) where
+      Found : List (List ℕ × (List Word → Read A)) → Type 0
+      Found rows =
+          ((read : List Word → Read A) × ReadsPart A Good read
+          × ((rest : List Word) → by_word rows otherwise (w ∷ rest) ≡ read rest))
+          ⊎ ((rest : List Word) → by_word rows otherwise (w ∷ rest) ≡ otherwise (w ∷ rest))
 
-  by_says : (b : Bool) → says row.0 w.1 ≡ b → Found table → Found (row ∷ table)
-  by_says true is later = inl (row.1, all.0, λ rest. ap (λ b. reads_or (cond b (Some rest) None) row.1 (by_word table otherwise (w ∷ rest))) is)
-  by_says false is later = elim later [
-    | inl found ↦ inl (found.0, found.1, λ rest. ap (λ b. reads_or (cond b (Some rest) None) row.1 (by_word table otherwise (w ∷ rest))) is ∙ found.2 rest)
-    | inr none ↦ inr (λ rest. ap (λ b. reads_or (cond b (Some rest) None) row.1 (by_word table otherwise (w ∷ rest))) is ∙ none rest)
-  ]
+      by_says : (b : Bool) → says row.0 w.1 ≡ b → Found table → Found (row ∷ table)
+      by_says true is later =
+          inl (
+            row.1,
+            all.0,
+            λ rest. ap (λ b. reads_or (cond b (Some rest) None) row.1
+                (by_word table otherwise (w ∷ rest))) is,
+          )
+      by_says false is later = elim later [
+        | inl found ↦ inl (
+          found.0,
+          found.1,
+          λ rest. ap
+              (λ b. reads_or (cond b (Some rest) None) row.1 (by_word table otherwise (w ∷ rest))) is ∙ found.2 rest,
+        )
+        | inr none ↦ inr (λ rest. ap (λ b. reads_or (cond b (Some rest) None) row.1 (by_word table otherwise (w ∷ rest)))
+            is ∙ none rest)
+      ]

@@ -1,5 +1,6 @@
 -- Where the reading of a period stops.
-use Rattle.std.proofs.Common.{◌≡◌, ℕ, Bool, true, false, cond, ◌&&◌, List, [], ◌∷◌, ◌++◌, Option, Some, Result, Ok, Err, codes, refl, ap, ◌∙◌, subst, arith}
+use Rattle.std.proofs.Common.{◌≡◌, ℕ, Bool, true, false, cond, ◌&&◌, List, [], ◌∷◌, ◌++◌, Option, Some, Result, Ok}
+use Rattle.std.proofs.Common.{Err, codes, refl, ap, ◌∙◌, subst, arith}
 use Rattle.std.specs.Prelude.{ℤ, pos, int_le, ◌<ℤ◌}
 use Rattle.std.specs.List.{AllByRecursion}
 use Rattle.std.proofs.lemmas.Int.{ints}
@@ -17,8 +18,10 @@ use Rattle.rank_query.proofs.ReadingSteps.{said, one_word_again}
 use Rattle.rank_query.proofs.WordValues.{date_written, date_day, written_date}
 use Rattle.rank_query.proofs.RegionWords.{and_true}
 use Rattle.rank_query.proofs.PrintedWords.{date_word}
-use Rattle.rank_query.proofs.Stops.{Reading, then, GoesOn, IsWordOf, Stops, Takes, TakesAll, Ended, ReadsPart, word_behind, takes_then}
-use Rattle.rank_query.proofs.PartStops.{beside, part_word, part_made, part_the_word, the_word, Any, keyword-then, takes_same}
+use Rattle.rank_query.proofs.Stops.{Reading, then, GoesOn, IsWordOf, Stops, Takes, TakesAll, Ended, ReadsPart}
+use Rattle.rank_query.proofs.Stops.{word_behind, takes_then}
+use Rattle.rank_query.proofs.PartStops.{beside, part_word, part_made, part_the_word, the_word, Any, keyword-then}
+use Rattle.rank_query.proofs.PartStops.{takes_same}
 use Rattle.rank_query.proofs.WordStops.{reads_date}
 
 -- two days that can be asked for
@@ -31,8 +34,10 @@ Days = (ℤ × ℤ) × List Word
 
 -- what follows the first day, and what follows "to"
 abbrev last_from : ℤ → Reading ((ℤ × ℤ) × List Word)
-last_from first ws = one_word date ws >>= λ last. cond (int_le first last.0) (Ok ((first, last.0), last.1)) (Err EmptyPeriod)
+last_from first ws =
+    one_word date ws >>= λ last. cond (int_le first last.0) (Ok ((first, last.0), last.1)) (Err EmptyPeriod)
 
+-- what follows "to", behind that word
 abbrev to_last : ℤ → Reading ((ℤ × ℤ) × List Word)
 to_last first ws = keyword (codes "to") ws >>= last_from first
 
@@ -47,11 +52,14 @@ one_day d is = and_true (is_day d && is_day d) (int_le d d) (and_true (is_day d)
 -- its date ends a period that it begins
 last_again : (first : ℤ) → is_day first ≡ true → last_from first ((0, date_text first) ∷ []) ≡ Ok ((first, first), [])
 last_again first is =
-    one_word_again date 0 (date_text first) [] first (λ (last : ℤ × List Word). cond (int_le first last.0) (Ok ((first, last.0), last.1)) (Err EmptyPeriod)) (written_date 0 first is)
+    one_word_again date 0 (date_text first) [] first
+    (λ (last : ℤ × List Word). cond (int_le first last.0) (Ok ((first, last.0), last.1)) (Err EmptyPeriod))
+    (written_date 0 first is)
     ∙ ap (λ b. cond b (Ok ((first, first), [])) (Err EmptyPeriod)) (same_day first)
 
 -- behind "to"
-to_again : (first : ℤ) → is_day first ≡ true → to_last first ((0, codes "to") ∷ (0, date_text first) ∷ []) ≡ Ok ((first, first), [])
+to_again : (first : ℤ) → is_day first ≡ true → to_last first ((0, codes "to") ∷ (0, date_text first) ∷ []) ≡ Ok
+    ((first, first), [])
 unfolding keyword says
 to_again first is = last_again first is
 
@@ -63,7 +71,8 @@ record Behind (first : ℤ) (w t : Word) : Type 0 where
   same : (more : List Word) → days_at (w ∷ t ∷ more) ≡ last_from first more
 
 -- the first day's own date
-last_on : (first : ℤ) (w t : Word) → Behind first w t → GoesOn Days (Ended GoodDays) (λ tail. days_at ((w ∷ t ∷ []) ++ tail))
+last_on : (first : ℤ) (w t : Word) → Behind first w t → GoesOn Days (Ended GoodDays)
+    (λ tail. days_at ((w ∷ t ∷ []) ++ tail))
 last_on first w t behind = record {
   tail = (0, date_text first) ∷ [];
   clean = ((date_word first).one.no_blank, tt);
@@ -77,14 +86,24 @@ before_from_test : (first last : ℤ) → int_le first last ≡ false → last <
 before_from_test first last e = grind (arith, ints)
 
 -- the second date is wrong where it is none, or that of an earlier day
-last_stops : (first : ℤ) (w t : Word) (ws : List Word) (fault : QueryFault) → Behind first w t → last_from first ws ≡ Err fault → Stops Days (Ended GoodDays) days_at fault (w ∷ t ∷ ws)
+last_stops : (first : ℤ) (w t : Word) (ws : List Word) (fault : QueryFault) → Behind first w t
+    → last_from first ws ≡ Err fault → Stops Days (Ended GoodDays) days_at fault (w ∷ t ∷ ws)
 last_stops first w t [] fault behind e =
-    record { before = w ∷ t ∷ []; left = []; parts = refl; on = last_on first w t behind; at = let same : fault ≡ QueryEnds = cc in same }
+    record {
+      before = w ∷ t ∷ [];
+      left = [];
+      parts = refl;
+      on = last_on first w t behind;
+      at = let same : fault ≡
+          QueryEnds = cc in same;
+    }
 last_stops first w t (l ∷ ws) fault behind e = by_date (date l) refl e where
   test : List Word → Result ℤ QueryFault → Read (ℤ × ℤ)
   test more r = beside more r >>= λ last. cond (int_le first last.0) (Ok ((first, last.0), last.1)) (Err EmptyPeriod)
 
-  by_order : (last : ℤ) (b : Bool) → date l ≡ Ok last → int_le first last ≡ b → ◌≡◌ {A = Read (ℤ × ℤ)} (cond b (Ok ((first, last), ws)) (Err EmptyPeriod)) (Err fault) → Stops Days (Ended GoodDays) days_at fault (w ∷ t ∷ l ∷ ws)
+  by_order : (last : ℤ) (b : Bool) → date l ≡ Ok last → int_le first last ≡ b
+      → ◌≡◌ {A = Read (ℤ × ℤ)} (cond b (Ok ((first, last), ws)) (Err EmptyPeriod)) (Err fault)
+      → Stops Days (Ended GoodDays) days_at fault (w ∷ t ∷ l ∷ ws)
   by_order last true is order e = absurd cc
   by_order last false is order e =
       let same : EmptyPeriod ≡ fault = cc in
@@ -93,7 +112,8 @@ last_stops first w t (l ∷ ws) fault behind e = by_date (date l) refl e where
         first = first;
         last = last;
         are_days = and_true (is_day first) (is_day last) behind.is (date_day l last is);
-        period = ap (λ (word : List ℕ). word ∷ t.1 ∷ []) behind.date ∙ ap (λ (word : List ℕ). date_text first ∷ word ∷ []) behind.to;
+        period = ap (λ (word : List ℕ). word ∷ t.1 ∷ []) behind.date
+            ∙ ap (λ (word : List ℕ). date_text first ∷ word ∷ []) behind.to;
         date = date_written l last is;
         order = before_from_test first last order;
       } in
@@ -104,11 +124,13 @@ last_stops first w t (l ∷ ws) fault behind e = by_date (date l) refl e where
         on = last_on first w t behind;
         at = (
           subst (λ f. IsWordOf f (w ∷ t ∷ []) l) same early,
-          λ more. behind.same (l ∷ more) ∙ ap (test more) is ∙ ap (λ b. cond b (Ok ((first, last), more)) (Err EmptyPeriod)) order ∙ ap Err same,
+          λ more. behind.same (l ∷ more) ∙ ap (test more) is
+              ∙ ap (λ b. cond b (Ok ((first, last), more)) (Err EmptyPeriod)) order ∙ ap Err same,
         );
       }
 
-  by_date : (r : Result ℤ QueryFault) → date l ≡ r → test ws r ≡ Err fault → Stops Days (Ended GoodDays) days_at fault (w ∷ t ∷ l ∷ ws)
+  by_date : (r : Result ℤ QueryFault) → date l ≡ r → test ws r ≡ Err fault
+      → Stops Days (Ended GoodDays) days_at fault (w ∷ t ∷ l ∷ ws)
   by_date (Ok last) is e = by_order last (int_le first last) is refl e
   by_date (Err named) is e =
       let same : named ≡ fault = cc in
@@ -118,11 +140,16 @@ last_stops first w t (l ∷ ws) fault behind e = by_date (date l) refl e where
         left = l ∷ ws;
         parts = refl;
         on = last_on first w t behind;
-        at = (word_behind fault (w ∷ t ∷ []) [] l ((reads_date first behind.is).told l fault here), λ more. behind.same (l ∷ more) ∙ ap (test more) here);
+        at = (
+          word_behind fault (w ∷ t ∷ []) [] l ((reads_date first behind.is).told l fault here),
+          λ more.
+              behind.same (l ∷ more) ∙ ap (test more) here,
+        );
       }
 
 -- behind the date of a first day
-to_on : (first : ℤ) (w : Word) → is_day first ≡ true → ((more : List Word) → days_at (w ∷ more) ≡ to_last first more) → GoesOn Days (Ended GoodDays) (λ tail. days_at ((w ∷ []) ++ tail))
+to_on : (first : ℤ) (w : Word) → is_day first ≡ true → ((more : List Word) → days_at (w ∷ more) ≡ to_last first more)
+    → GoesOn Days (Ended GoodDays) (λ tail. days_at ((w ∷ []) ++ tail))
 to_on first w is same = record {
   tail = (0, codes "to") ∷ (0, date_text first) ∷ [];
   clean = (refl, ((date_word first).one.no_blank, tt));
@@ -132,12 +159,22 @@ to_on first w is same = record {
 }
 
 -- another word than "to" is wrong
-to_stops : (first : ℤ) (w : Word) (ws : List Word) (fault : QueryFault) → is_day first ≡ true → w.1 ≡ date_text first → ((more : List Word) → days_at (w ∷ more) ≡ to_last first more)
+to_stops : (first : ℤ) (w : Word) (ws : List Word) (fault : QueryFault) → is_day first ≡ true → w.1 ≡ date_text first
+    → ((more : List Word) → days_at (w ∷ more) ≡ to_last first more)
     → to_last first ws ≡ Err fault → Stops Days (Ended GoodDays) days_at fault (w ∷ ws)
 unfolding keyword
-to_stops first w [] fault is date same e = record { before = w ∷ []; left = []; parts = refl; on = to_on first w is same; at = let ends : fault ≡ QueryEnds = cc in ends }
+to_stops first w [] fault is date same e =
+    record {
+      before = w ∷ [];
+      left = [];
+      parts = refl;
+      on = to_on first w is same;
+      at = let ends : fault ≡
+          QueryEnds = cc in ends;
+    }
 to_stops first w (t ∷ ws) fault is date same e = by_says (says (codes "to") t.1) refl e where
-  by_says : (b : Bool) → says (codes "to") t.1 ≡ b → (cond b (Ok ws) (Err (UnexpectedWord t.0)) >>= last_from first) ≡ Err fault → Stops Days (Ended GoodDays) days_at fault (w ∷ t ∷ ws)
+  by_says : (b : Bool) → says (codes "to") t.1 ≡ b → (cond b (Ok ws) (Err (UnexpectedWord t.0)) >>= last_from first) ≡
+      Err fault → Stops Days (Ended GoodDays) days_at fault (w ∷ t ∷ ws)
   by_says true to e =
       last_stops first w t ws fault (record {
         is = is;
@@ -154,7 +191,8 @@ to_stops first w (t ∷ ws) fault is date same e = by_says (says (codes "to") t.
         on = to_on first w is same;
         at = (
           word_behind fault (w ∷ []) [] t (subst (λ f. IsWordOf f [] t) here refl),
-          λ more. same (t ∷ more) ∙ ap (λ b. cond b (Ok more) (Err (UnexpectedWord t.0)) >>= last_from first) other ∙ ap Err here,
+          λ more. same (t ∷ more) ∙ ap (λ b. cond b (Ok more) (Err (UnexpectedWord t.0)) >>= last_from first) other
+              ∙ ap Err here,
         );
       }
 
@@ -170,19 +208,24 @@ days_on = record {
   clean = ((date_word some_day).one.no_blank, (refl, ((date_word some_day).one.no_blank, tt)));
   value = ((some_day, some_day), []);
   good = (one_day some_day refl, refl);
-  reads = ap (λ (r : Result ℤ QueryFault). beside ((0, codes "to") ∷ (0, date_text some_day) ∷ []) r >>= λ first. to_last first.0 first.1) (written_date 0 some_day refl) ∙ to_again some_day refl;
+  reads = ap (λ (r : Result ℤ QueryFault). beside ((0, codes "to") ∷ (0, date_text some_day) ∷ []) r >>= λ first.
+      to_last first.0 first.1) (written_date 0 some_day refl) ∙ to_again some_day refl;
 }
 
 -- a first word that is no date is wrong
-days_stops : (ws : List Word) (fault : QueryFault) → days_at ws ≡ Err fault → Stops Days (Ended GoodDays) days_at fault ws
+days_stops : (ws : List Word) (fault : QueryFault) → days_at ws ≡ Err fault
+    → Stops Days (Ended GoodDays) days_at fault ws
 unfolding days_at
-days_stops [] fault e = record { before = []; left = []; parts = refl; on = days_on; at = let ends : fault ≡ QueryEnds = cc in ends }
+days_stops [] fault e =
+    record { before = []; left = []; parts = refl; on = days_on; at = let ends : fault ≡ QueryEnds = cc in ends }
 days_stops (w ∷ ws) fault e = by_date (date w) refl e where
   first_of_two : List Word → Result ℤ QueryFault → Read (ℤ × ℤ)
   first_of_two more r = beside more r >>= λ first. to_last first.0 first.1
 
-  by_date : (r : Result ℤ QueryFault) → date w ≡ r → first_of_two ws r ≡ Err fault → Stops Days (Ended GoodDays) days_at fault (w ∷ ws)
-  by_date (Ok first) is e = to_stops first w ws fault (date_day w first is) (date_written w first is) (λ more. ap (first_of_two more) is) e
+  by_date : (r : Result ℤ QueryFault) → date w ≡ r → first_of_two ws r ≡ Err fault
+      → Stops Days (Ended GoodDays) days_at fault (w ∷ ws)
+  by_date (Ok first) is e =
+      to_stops first w ws fault (date_day w first is) (date_written w first is) (λ more. ap (first_of_two more) is) e
   by_date (Err named) is e =
       let same : named ≡ fault = cc in
       let here : date w ≡ Err fault = is ∙ ap Err same in
@@ -195,16 +238,21 @@ days_stops (w ∷ ws) fault e = by_date (date w) refl e where
       }
 
 -- the days in their order are taken
-order_takes : (first last : ℤ) → is_day first ≡ true → is_day last ≡ true → TakesAll (ℤ × ℤ) GoodDays (λ ws. cond (int_le first last) (Ok ((first, last), ws)) (Err EmptyPeriod))
+order_takes : (first last : ℤ) → is_day first ≡ true → is_day last ≡ true
+    → TakesAll (ℤ × ℤ) GoodDays (λ ws. cond (int_le first last) (Ok ((first, last), ws)) (Err EmptyPeriod))
 order_takes first last one two ws r e = by_order (int_le first last) refl e where
-  by_order : (b : Bool) → int_le first last ≡ b → cond b (Ok ((first, last), ws)) (Err EmptyPeriod) ≡ Ok r → Takes (ℤ × ℤ) GoodDays (λ ws. cond (int_le first last) (Ok ((first, last), ws)) (Err EmptyPeriod)) ws r
+  by_order : (b : Bool) → int_le first last ≡ b → cond b (Ok ((first, last), ws)) (Err EmptyPeriod) ≡ Ok r
+      → Takes (ℤ × ℤ) GoodDays (λ ws. cond (int_le first last) (Ok ((first, last), ws)) (Err EmptyPeriod)) ws r
   by_order true order e =
       let pair : ((first, last), ws) ≡ r = cc in
       record {
-        good = subst GoodDays (ap (λ (p : Days). p.0) pair) (and_true (is_day first && is_day last) (int_le first last) (and_true (is_day first) (is_day last) one two) order);
+        good = subst GoodDays (ap (λ (p : Days). p.0) pair)
+            (and_true (is_day first && is_day last) (int_le first last)
+            (and_true (is_day first) (is_day last) one two) order);
         taken = [];
         parts = ap (λ (p : Days). p.1) pair;
-        again = λ more. ap (λ b. cond b (Ok ((first, last), more)) (Err EmptyPeriod)) order ∙ ap (λ (p : Days). Ok (p.0, more)) pair;
+        again = λ more. ap (λ b. cond b (Ok ((first, last), more)) (Err EmptyPeriod)) order
+            ∙ ap (λ (p : Days). Ok (p.0, more)) pair;
       }
   by_order false order e = absurd cc
 
@@ -222,9 +270,13 @@ days_take : TakesAll (ℤ × ℤ) GoodDays days_at
 unfolding days_at
 days_take =
     takes_then (λ day. is_day day ≡ true) GoodDays (one_word date) to_last date_takes (λ first one.
-    takes_same GoodDays (then (one_word (the_word (codes "to"))) (λ x. last_from first)) (to_last first) (keyword-then (codes "to") (last_from first))
-    (takes_then Any GoodDays (one_word (the_word (codes "to"))) (λ x. last_from first) (part_the_word (codes "to") refl says_to).takes (λ x any.
-    takes_then (λ day. is_day day ≡ true) GoodDays (one_word date) (λ last ws. cond (int_le first last) (Ok ((first, last), ws)) (Err EmptyPeriod)) date_takes (λ last two. order_takes first last one two))))
+    takes_same GoodDays (then (one_word (the_word (codes "to"))) (λ x. last_from first)) (to_last first)
+    (keyword-then (codes "to") (last_from first))
+    (takes_then Any GoodDays (one_word (the_word (codes "to"))) (λ x. last_from first)
+    (part_the_word (codes "to") refl says_to).takes (λ x any.
+    takes_then (λ day. is_day day ≡ true) GoodDays (one_word date)
+    (λ last ws. cond (int_le first last) (Ok ((first, last), ws)) (Err EmptyPeriod)) date_takes
+    (λ last two. order_takes first last one two))))
 
 -- a period that can be asked for
 abbrev pub GoodPeriod : Option (ℤ × ℤ) → Type 0
@@ -236,4 +288,8 @@ period_rows = (codes "from", between_at) ∷ []
 
 -- it is a part
 pub period_parts : AllByRecursion (λ row. ReadsPart (Option (ℤ × ℤ)) GoodPeriod row.1) period_rows
-period_parts = (part_made GoodDays GoodPeriod Some days_at (λ p is. is) (record { first = record { on = days_on; stops = days_stops }; takes = days_take }), tt)
+period_parts = (
+  part_made GoodDays GoodPeriod Some days_at (λ p is. is)
+      (record { first = record { on = days_on; stops = days_stops }; takes = days_take }),
+  tt,
+)

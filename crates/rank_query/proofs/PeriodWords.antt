@@ -1,5 +1,6 @@
 -- The words of a period: those that are read as a period spell it, and those that spell it are read as it.
-use Rattle.std.proofs.Common.{◌≡◌, ℕ, ◌+◌, true, cond, ◌&&◌, List, [], ◌∷◌, Option, Some, None, Ok, Err, inl, inr, codes, refl, sym, ap, ◌∙◌, subst}
+use Rattle.std.proofs.Common.{◌≡◌, ℕ, ◌+◌, true, cond, ◌&&◌, List, [], ◌∷◌, Option, Some, None, Ok, Err, inl, inr}
+use Rattle.std.proofs.Common.{codes, refl, sym, ap, ◌∙◌, subst}
 use Rattle.std.specs.Prelude.{ℤ, int_le}
 use Rattle.std.specs.List.{enumerate_from}
 use Rattle.std.proofs.lemmas.Bool.{and_parts}
@@ -13,12 +14,14 @@ use Rattle.rank_query.specs.Readers.{keyword, one_word, made_into}
 use Rattle.rank_query.specs.WordValues.{date}
 use Rattle.rank_query.specs.Reading.{region_at, days_at, between_at, always_at, period_at}
 use Rattle.rank_query.specs.Spelling.{SpellsPeriod}
-use Rattle.rank_query.proofs.ReadingSteps.{bind_ok, test_ok, keyword_took, one_word_took, made_into_took, by_word_took, Took, behind_took, words_took, one_word_again}
+use Rattle.rank_query.proofs.ReadingSteps.{bind_ok, test_ok, keyword_took, one_word_took, made_into_took}
+use Rattle.rank_query.proofs.ReadingSteps.{by_word_took, Took, behind_took, words_took, one_word_again}
 use Rattle.rank_query.proofs.RegionWords.{BeginsNoRegion}
 use Rattle.rank_query.proofs.WordValues.{date_written, written_date}
 
 -- the days that were read are written there
-days_took : (ws rest : List Word) (p : ℤ × ℤ) → days_at ws ≡ Ok (p, rest) → Took (λ words. SpellsPeriod (codes "from" ∷ words) (Some p)) ws rest
+days_took : (ws rest : List Word) (p : ℤ × ℤ) → days_at ws ≡ Ok (p, rest)
+    → Took (λ words. SpellsPeriod (codes "from" ∷ words) (Some p)) ws rest
 unfolding days_at
 days_took ws rest p e =
     let first = bind_ok (one_word date ws) _ (p, rest) e in
@@ -32,22 +35,26 @@ days_took ws rest p e =
     let spelt : SpellsPeriod (codes "from" ∷ words) (Some (first.0.0, last.0.0)) =
     ap (λ b. codes "from" ∷ b ∷ codes "to" ∷ two.0.1 ∷ []) (date_written one.0 first.0.0 one.2)
     ∙ ap (λ b. codes "from" ∷ date_text first.0.0 ∷ codes "to" ∷ b ∷ []) (date_written two.0 last.0.0 two.2) in
-    words_took (λ words v. SpellsPeriod (codes "from" ∷ words) (Some v)) ws last.0.1 rest words (first.0.0, last.0.0) p spelt
+    words_took (λ words v. SpellsPeriod (codes "from" ∷ words) (Some v)) ws last.0.1 rest words
+    (first.0.0, last.0.0) p spelt
     (one.1 ∙ ap (λ left. one.0.1 ∷ left) (between ∙ ap (λ left. codes "to" ∷ left) two.1)) (ap Ok test.1)
 
 -- the period that was read is spelt there
-pub period_took : (ws rest : List Word) (p : Option (ℤ × ℤ)) → period_at ws ≡ Ok (p, rest) → Took (λ words. SpellsPeriod words p) ws rest
+pub period_took : (ws rest : List Word) (p : Option (ℤ × ℤ)) → period_at ws ≡ Ok (p, rest)
+    → Took (λ words. SpellsPeriod words p) ws rest
 unfolding period_at
 period_took ws rest p e = elim (by_word_took (codes "from") between_at [] always_at ws (p, rest) e) [
   | inl given ↦
       let made = made_into_took Some (days_at given.0) rest p given.2 in
       behind_took (λ words. SpellsPeriod words p) (codes "from") ws given.0 rest given.1 (
-      subst (λ (q : Option (ℤ × ℤ)). Took (λ words. SpellsPeriod (codes "from" ∷ words) q) given.0 rest) made.2 (days_took given.0 rest made.0 made.1))
+      subst (λ (q : Option (ℤ × ℤ)). Took (λ words. SpellsPeriod (codes "from" ∷ words) q) given.0 rest) made.2
+      (days_took given.0 rest made.0 made.1))
   | inr none ↦ words_took (λ words v. SpellsPeriod words v) ws ws rest [] None p refl refl none
 ]
 
 -- the words of two days, the second not before the first, are read as these
-days_again : (first last : ℤ) (n : ℕ) → is_period (Some (first, last)) ≡ true → days_at (enumerate_from n (date_text first ∷ codes "to" ∷ date_text last ∷ [])) ≡ Ok ((first, last), [])
+days_again : (first last : ℤ) (n : ℕ) → is_period (Some (first, last)) ≡ true
+    → days_at (enumerate_from n (date_text first ∷ codes "to" ∷ date_text last ∷ [])) ≡ Ok ((first, last), [])
 unfolding days_at keyword says
 days_again first last n is =
     let order = and_parts (is_day first && is_day last) (int_le first last) is in
@@ -57,7 +64,8 @@ days_again first last n is =
     ∙ ap (λ b. cond b (Ok ((first, last), [])) (Err EmptyPeriod)) order.1
 
 -- the words of a period that can be asked for are read as it, whatever their numbers
-pub period_again : (p : Option (ℤ × ℤ)) (words : List (List ℕ)) (n : ℕ) → is_period p ≡ true → SpellsPeriod words p → period_at (enumerate_from n words) ≡ Ok (p, [])
+pub period_again : (p : Option (ℤ × ℤ)) (words : List (List ℕ)) (n : ℕ) → is_period p ≡ true → SpellsPeriod words p
+    → period_at (enumerate_from n words) ≡ Ok (p, [])
 unfolding period_at says
 period_again None words n is spelt = ap (λ ws. period_at (enumerate_from n ws)) spelt
 period_again (Some p) words n is spelt =
@@ -66,5 +74,7 @@ period_again (Some p) words n is spelt =
 -- a period begins no region
 pub period_no_region : (p : Option (ℤ × ℤ)) (words : List (List ℕ)) → SpellsPeriod words p → BeginsNoRegion words
 unfolding region_at says
-period_no_region None words spelt = λ n. subst (λ ws. region_at (enumerate_from n ws) ≡ Ok (Everywhere, enumerate_from n ws)) (sym spelt) refl
-period_no_region (Some p) words spelt = λ n. subst (λ ws. region_at (enumerate_from n ws) ≡ Ok (Everywhere, enumerate_from n ws)) (sym spelt) refl
+period_no_region None words spelt =
+    λ n. subst (λ ws. region_at (enumerate_from n ws) ≡ Ok (Everywhere, enumerate_from n ws)) (sym spelt) refl
+period_no_region (Some p) words spelt =
+    λ n. subst (λ ws. region_at (enumerate_from n ws) ≡ Ok (Everywhere, enumerate_from n ws)) (sym spelt) refl

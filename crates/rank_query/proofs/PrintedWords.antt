@@ -1,5 +1,6 @@
 -- The words of a canonical text: each is one word, and short.
-use Rattle.std.proofs.Common.{◌≡◌, ℕ, zero, suc, ◌+◌, ◌*◌, ◌/◌, ◌%◌, ◌<◌, ◌≤◌, ◌^◌, Bool, true, ◌&&◌, List, [], ◌∷◌, ◌++◌, length, decimal, codes, refl, sym, ap, ◌∙◌, length-append, false, arith}
+use Rattle.std.proofs.Common.{◌≡◌, ℕ, zero, suc, ◌+◌, ◌*◌, ◌/◌, ◌%◌, ◌<◌, ◌≤◌, ◌^◌, Bool, true, ◌&&◌, List, [], ◌∷◌}
+use Rattle.std.proofs.Common.{◌++◌, length, decimal, codes, refl, sym, ap, ◌∙◌, length-append, false, arith}
 use Rattle.std.specs.Prelude.{nat_le, ℤ, pos, negsuc, neg_ℤ, ◌≤ℤ◌}
 use Rattle.std.specs.List.{list_all, AllByRecursion, join_with_byte}
 use Rattle.std.specs.Char.{is_ascii_digit, digit_value}
@@ -17,15 +18,16 @@ use Rattle.ghcn_files.specs.declared.element.Element.{Element}
 use Rattle.ghcn_files.specs.declared.element.Element.TheVariants.{Prcp, Snow, Snwd, Tmax, Tmin}
 use Rattle.ghcn_files.specs.Elements.{code_of}
 use Rattle.ghcn_files.specs.Ids.{is_visible}
+use Rattle.ghcn_files.specs.StationLines.{is_printable}
 use Rattle.rank_query.specs.Asked.{is_code}
-use Rattle.rank_query.specs.Words.{is_word}
 use Rattle.rank_query.specs.Spelling.{IsNumeralOf}
-use Rattle.rank_query.proofs.OneWords.{stands_in_word, HasNoBlank, IsOneWord}
+use Rattle.rank_query.proofs.OneWords.{stands_in_word, IsOneWord}
 
--- one word of at most eleven bytes
+-- one word of at most eleven visible bytes
 pub record IsShortWord (word : List ℕ) : Type 0 where
   pub one : IsOneWord word
   pub short : length word ≤ 11
+  pub visible : list_all is_visible word ≡ true
 
 -- short words are words
 pub short_words : (words : List (List ℕ)) → AllByRecursion IsShortWord words → AllByRecursion IsOneWord words
@@ -33,26 +35,18 @@ short_words [] all = tt
 short_words (w ∷ words) all = (all.0.one, short_words words all.1)
 
 -- some short words, joined by blanks, are a short text
-pub length-join : (words : List (List ℕ)) → AllByRecursion IsShortWord words → length (join_with_byte 32 words) ≤ 12 * length words
+pub length-join : (words : List (List ℕ)) → AllByRecursion IsShortWord words
+    → length (join_with_byte 32 words) ≤ 12 * length words
 length-join [] all = omega arith
 length-join (w ∷ []) all = omega (arith, all.0.short)
-length-join (w ∷ v ∷ words) all = omega (arith, length-append w (32 ∷ join_with_byte 32 (v ∷ words)), all.0.short, length-join (v ∷ words) all.1)
+length-join (w ∷ v ∷ words) all =
+    omega (arith, length-append w (32 ∷ join_with_byte 32 (v ∷ words)), all.0.short, length-join (v ∷ words) all.1)
 
 -- words before words are words
-pub all_both : (xs ys : List (List ℕ)) → AllByRecursion IsShortWord xs → AllByRecursion IsShortWord ys → AllByRecursion IsShortWord (xs ++ ys)
+pub all_both : (xs ys : List (List ℕ)) → AllByRecursion IsShortWord xs → AllByRecursion IsShortWord ys
+    → AllByRecursion IsShortWord (xs ++ ys)
 all_both [] ys first second = second
 all_both (x ∷ xs) ys first second = (first.0, all_both xs ys first.1 second)
-
--- what has a byte is a word, if no blank stands in it
-word_from : (word : List ℕ) → 1 ≤ length word → length word ≤ 11 → HasNoBlank word → IsShortWord word
-word_from word some short clean = record { one = record { some = grind (arith, nat_tests); no_blank = clean }; short = short }
-
--- a word of the language's own is one
-pub known_word : (word : List ℕ) → (is_word word && list_all stands_in_word word && nat_le (length word) 11) ≡ true → IsShortWord word
-known_word word e =
-    let short = and_parts (is_word word && list_all stands_in_word word) (nat_le (length word) 11) e in
-    let one = and_parts (is_word word) (list_all stands_in_word word) short.0 in
-    record { one = record { some = one.0; no_blank = one.1 }; short = grind (arith, nat_tests) }
 
 -- digits are digits
 all_digits : (digits : List ℕ) → AllDigits 10 digits → list_all is_ascii_digit digits ≡ true
@@ -63,21 +57,62 @@ all_digits (d ∷ digits) h =
     ap (λ b. b && list_all is_ascii_digit digits) digit ∙ all_digits digits h.1
 
 -- bytes that pass one test pass another, if each of them does
-all_pass : (p q : ℕ → Bool) → ((b : ℕ) → p b ≡ true → q b ≡ true) → (bytes : List ℕ) → list_all p bytes ≡ true → list_all q bytes ≡ true
+all_pass : (p q : ℕ → Bool) → ((b : ℕ) → p b ≡ true → q b ≡ true) → (bytes : List ℕ) → list_all p bytes ≡ true
+    → list_all q bytes ≡ true
 all_pass p q each [] h = refl
 all_pass p q each (b ∷ bytes) h =
     let two = and_parts (p b) (list_all p bytes) h in
     ap (λ t. t && list_all q bytes) (each b two.0) ∙ all_pass p q each bytes two.1
 
--- digits hold no blank, and no visible byte is one
-digit_in_word : (d : ℕ) → is_ascii_digit d ≡ true → stands_in_word d ≡ true
-digit_in_word d h = grind (arith, nat_tests)
-
+-- no visible byte is a blank, and each is printable
 visible_in_word : (b : ℕ) → is_visible b ≡ true → stands_in_word b ≡ true
 visible_in_word b h = grind (arith, nat_tests)
 
-digits_no_blank : (digits : List ℕ) → list_all is_ascii_digit digits ≡ true → HasNoBlank digits
-digits_no_blank digits h = all_pass is_ascii_digit stands_in_word digit_in_word digits h
+-- and each is printable
+visible_printable : (b : ℕ) → is_visible b ≡ true → is_printable b ≡ true
+visible_printable b h = grind (arith, nat_tests)
+
+-- what has a byte is a word, if each of them is visible
+word_from : (word : List ℕ) → 1 ≤ length word → length word ≤ 11 → list_all is_visible word ≡ true → IsShortWord word
+word_from word some short visible = record {
+  one = record {
+    some = grind (arith, nat_tests);
+    no_blank = all_pass is_visible stands_in_word visible_in_word word
+        visible;
+  };
+  short = short;
+  visible = visible;
+}
+
+-- a word of the language's own is one
+pub known_word : (word : List ℕ) → (nat_le 1 (length word) && list_all is_visible word && nat_le (length word) 11) ≡
+    true
+    → IsShortWord word
+known_word word e =
+    let short = and_parts (nat_le 1 (length word) && list_all is_visible word) (nat_le (length word) 11) e in
+    let one = and_parts (nat_le 1 (length word)) (list_all is_visible word) short.0 in
+    let some : 1 ≤ length word = grind (arith, nat_tests) in
+    let few : length word ≤ 11 = grind (arith, nat_tests) in
+    word_from word some few one.1
+
+-- words joined by blanks are printable
+pub printable-join : (words : List (List ℕ)) → AllByRecursion IsShortWord words
+    → list_all is_printable (join_with_byte 32 words) ≡ true
+printable-join [] all = refl
+printable-join (w ∷ []) all = all_pass is_visible is_printable visible_printable w all.0.visible
+printable-join (w ∷ v ∷ words) all =
+    list_all-append is_printable w (32 ∷ join_with_byte 32 (v ∷ words))
+    ∙ ap (λ t. t && list_all is_printable (join_with_byte 32 (v ∷ words)))
+    (all_pass is_visible is_printable visible_printable w all.0.visible)
+    ∙ printable-join (v ∷ words) all.1
+
+-- digits are visible
+digit_visible : (d : ℕ) → is_ascii_digit d ≡ true → is_visible d ≡ true
+digit_visible d h = grind (arith, nat_tests)
+
+-- so are the bytes of a numeral
+digits_visible : (digits : List ℕ) → list_all is_ascii_digit digits ≡ true → list_all is_visible digits ≡ true
+digits_visible digits h = all_pass is_ascii_digit is_visible digit_visible digits h
 
 -- the decimal text of a number is a numeral of it
 pub decimal_numeral : (n : ℕ) → n < 2 ^ 64 → IsNumeralOf (decimal n) n
@@ -89,7 +124,8 @@ decimal_numeral n fits =
 pub decimal_word : (n : ℕ) → n < 10 ^ 4 → n < 2 ^ 64 → IsShortWord (decimal n)
 decimal_word n few fits =
     let numeral = decimal_numeral n fits in
-    word_from (decimal n) numeral.some_digit (omega (arith, length-decimal-le 4 n (omega arith) few fits)) (digits_no_blank (decimal n) numeral.digits_alone)
+    word_from (decimal n) numeral.some_digit (omega (arith, length-decimal-le 4 n (omega arith) few fits))
+    (digits_visible (decimal n) numeral.digits_alone)
 
 -- an element's code is one word
 pub code_word : (e : Element) → IsShortWord (code_of e)
@@ -104,24 +140,27 @@ pub visible_word : (len : ℕ) (code : List ℕ) → 1 ≤ len → len ≤ 11 �
 visible_word len code some short is =
     let both = and_parts _ (list_all is_visible code) is in
     let long : length code ≡ len = grind (arith, nat_tests) in
-    word_from code (omega arith) (omega arith) (all_pass is_visible stands_in_word visible_in_word code both.1)
+    word_from code (omega arith) (omega arith) both.1
 
--- bytes without a blank before others without one
-no_blank-append : (xs ys : List ℕ) → HasNoBlank xs → HasNoBlank ys → HasNoBlank (xs ++ ys)
-no_blank-append xs ys first second = list_all-append stands_in_word xs ys ∙ ap (λ t. t && list_all stands_in_word ys) first ∙ second
+-- visible bytes before others
+visible-append : (xs ys : List ℕ) → list_all is_visible xs ≡ true → list_all is_visible ys ≡ true
+    → list_all is_visible (xs ++ ys) ≡ true
+visible-append xs ys first second =
+    list_all-append is_visible xs ys ∙ ap (λ t. t && list_all is_visible ys) first ∙ second
 
 -- the last digits of a number are digits
 digits-last_digits : (k n : ℕ) → list_all is_ascii_digit (last_digits k n) ≡ true
 digits-last_digits zero n = refl
 digits-last_digits (suc k) n =
-    list_all-append is_ascii_digit (last_digits k (n / 10)) ((48 + n % 10) ∷ []) ∙ ap (λ t. t && list_all is_ascii_digit ((48 + n % 10) ∷ [])) (digits-last_digits k (n / 10)) ∙ digit_byte n
+    list_all-append is_ascii_digit (last_digits k (n / 10)) ((48 + n % 10) ∷ [])
+    ∙ ap (λ t. t && list_all is_ascii_digit ((48 + n % 10) ∷ [])) (digits-last_digits k (n / 10)) ∙ digit_byte n
   where
     digit_byte : (n : ℕ) → (true && (is_ascii_digit (48 + n % 10) && true)) ≡ true
     digit_byte n = grind (arith, nat_tests)
 
--- and hold no blank
-last_no_blank : (k n : ℕ) → HasNoBlank (last_digits k n)
-last_no_blank k n = digits_no_blank (last_digits k n) (digits-last_digits k n)
+-- and visible
+last_visible : (k n : ℕ) → list_all is_visible (last_digits k n) ≡ true
+last_visible k n = digits_visible (last_digits k n) (digits-last_digits k n)
 
 -- the date of a day is one word
 pub date_word : (day : ℤ) → IsShortWord (date_text day)
@@ -129,22 +168,32 @@ date_word day =
     let year : ℕ = (civil day).0 in
     let month : ℕ = (civil day).1 in
     let dom : ℕ = (civil day).2 in
-    let clean : HasNoBlank (date_text day) =
-    no_blank-append (last_digits 4 year) (45 ∷ last_digits 2 month ++ 45 ∷ last_digits 2 dom) (last_no_blank 4 year)
-    (no_blank-append (last_digits 2 month) (45 ∷ last_digits 2 dom) (last_no_blank 2 month) (last_no_blank 2 dom)) in
-    word_from (date_text day) (omega arith) (omega arith) clean
+    let visible : list_all is_visible (date_text day) ≡ true =
+    visible-append (last_digits 4 year) (45 ∷ last_digits 2 month ++ 45 ∷ last_digits 2 dom) (last_visible 4 year)
+    (visible-append (last_digits 2 month) (45 ∷ last_digits 2 dom) (last_visible 2 month) (last_visible 2 dom)) in
+    word_from (date_text day) (omega arith) (omega arith) visible
 
 -- four decimals write what is left of the number by its whole part
 digit_value-byte : (n : ℕ) → digit_value (48 + n % 10) ≡ n % 10
 digit_value-byte n = grind (arith, nat_tests)
 
+-- the four of them together
 value_of_four : (n : ℕ) → digits_value 10 (last_digits 4 n) ≡ n % 10000
-value_of_four n = rw (digit_value-byte (n / 10 / 10 / 10), digit_value-byte (n / 10 / 10), digit_value-byte (n / 10), digit_value-byte n) (omega arith)
+value_of_four n =
+    rw (
+      digit_value-byte (n / 10 / 10 / 10),
+      digit_value-byte (n / 10 / 10),
+      digit_value-byte
+          (n / 10),
+      digit_value-byte n,
+    ) (omega arith)
 
 -- a whole part and four decimals
-joined_value : (n : ℕ) → n < 10 ^ 7 → n ≡ digits_value 10 (decimal (n / 10000)) * 10 ^ 4 + digits_value 10 (last_digits 4 n) * 10 ^ 0
+joined_value : (n : ℕ) → n < 10 ^ 7 → n ≡ digits_value 10 (decimal (n / 10000)) * 10 ^ 4 + digits_value 10
+    (last_digits 4 n) * 10 ^ 0
 joined_value n few =
-    let whole : digits_value 10 (decimal (n / 10000)) ≡ n / 10000 = (decimal_is_IsNumeral (n / 10000) (omega arith)).1 in
+    let whole : digits_value 10 (decimal (n / 10000)) ≡ n /
+    10000 = (decimal_is_IsNumeral (n / 10000) (omega arith)).1 in
     omega (arith, whole, value_of_four n)
 
 -- its digits
@@ -185,13 +234,19 @@ four_places_spelt (negsuc n) low high =
 four_places_of_word : (n : ℕ) → n < 10 ^ 7 → IsShortWord (four_places_of n) × (length (four_places_of n) ≤ 8)
 four_places_of_word n few =
     let numeral = decimal_numeral (n / 10000) (omega arith) in
-    let whole : length (decimal (n / 10000)) ≤ 3 = length-decimal-le 3 (n / 10000) (omega arith) (omega arith) (omega arith) in
-    let short : length (four_places_of n) ≤ 8 = omega (arith, whole, length-append (decimal (n / 10000)) (46 ∷ last_digits 4 n)) in
-    let clean = no_blank-append (decimal (n / 10000)) (46 ∷ last_digits 4 n) (digits_no_blank (decimal (n / 10000)) numeral.digits_alone) (last_no_blank 4 n) in
-    (word_from (four_places_of n) (omega (arith, length-append (decimal (n / 10000)) (46 ∷ last_digits 4 n))) (omega arith) clean, short)
+    let whole : length (decimal (n / 10000)) ≤ 3 = length-decimal-le 3 (n / 10000) (omega arith) (omega arith)
+    (omega arith) in
+    let short : length (four_places_of n) ≤ 8 = omega
+    (arith, whole, length-append (decimal (n / 10000)) (46 ∷ last_digits 4 n)) in
+    let visible = visible-append (decimal (n / 10000)) (46 ∷ last_digits 4 n)
+    (digits_visible (decimal (n / 10000)) numeral.digits_alone) (last_visible 4 n) in
+    let some : 1 ≤ length (four_places_of n) = omega
+    (arith, length-append (decimal (n / 10000)) (46 ∷ last_digits 4 n)) in
+    (word_from (four_places_of n) some (omega arith) visible, short)
 
+-- with a minus below zero, or without one
 pub four_places_word : (z : ℤ) → neg_ℤ (pos 1_800_000) ≤ℤ z → z ≤ℤ pos 1_800_000 → IsShortWord (four_places z)
 four_places_word (pos n) low high = (four_places_of_word n (omega (arith, ints))).0
 four_places_word (negsuc n) low high =
     let it = four_places_of_word (suc n) (omega (arith, ints)) in
-    word_from (45 ∷ four_places_of (suc n)) (omega arith) (omega (arith, it.1)) it.0.one.no_blank
+    word_from (45 ∷ four_places_of (suc n)) (omega arith) (omega (arith, it.1)) it.0.visible

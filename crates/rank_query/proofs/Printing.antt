@@ -1,5 +1,7 @@
 -- The pieces of a canonical text, as they are printed one after another.
-use Rattle.std.proofs.Common.{◌≡◌, ℕ, ◌+◌, ◌<◌, ◌/◌, ◌%◌, true, List, [], ◌∷◌, ◌++◌, Option, Result, Ok, Err, IsOk, MatchResult, IsUtf8, codes, decimal, refl, sym, ap, ◌∙◌, append_assoc, append-nil, arith}
+use Rattle.std.proofs.Common.{◌≡◌, ℕ, ◌+◌, ◌<◌, ◌/◌, ◌%◌, true, List, [], ◌∷◌, ◌++◌, Option, Result, Ok, Err, IsOk}
+use Rattle.std.proofs.Common.{MatchResult, IsUtf8, codes, decimal, refl, sym, ap, ◌∙◌, append_assoc, append-nil}
+use Rattle.std.proofs.Common.{arith}
 use Rattle.std.specs.Prelude.{ℤ}
 use Rattle.std.specs.List.{join_with_byte, list_all}
 use Rattle.std.proofs.lemmas.Bool.Decides.{nat_tests}
@@ -30,34 +32,50 @@ spaced-three xs ys zs =
 
 -- the pieces that are printed are the canonical text
 pub printed-is : (k : ℕ) (s : Score) (r : Region) (p : Option (ℤ × ℤ))
-    → (codes "top " ++ decimal k) ++ (spaced (score_words s) ++ (spaced (region_words r) ++ spaced (period_words p))) ≡ query_text (record { k = k; score = s; region = r; period = p })
+    → (codes "top " ++ decimal k) ++
+    (spaced (score_words s) ++ (spaced (region_words r) ++ spaced (period_words p))) ≡ query_text
+    (record { k = k; score = s; region = r; period = p })
 printed-is k s r p =
     sym (
     join-spaced (codes "top") (decimal k ∷ score_words s ++ region_words r ++ period_words p)
     ∙ ap (λ text. codes "top " ++ (decimal k ++ text)) (spaced-three (score_words s) (region_words r) (period_words p)))
 
 -- four digits, one after another
-four_digits : (a b c d : ℕ) → a < 10 → b < 10 → c < 10 → d < 10 → decimal a ++ (decimal b ++ (decimal c ++ decimal d)) ≡ (48 + a) ∷ (48 + b) ∷ (48 + c) ∷ (48 + d) ∷ []
-four_digits a b c d ha hb hc hd = rw (decimal_digit a ha, decimal_digit b hb, decimal_digit c hc, decimal_digit d hd) refl
+four_digits : (a b c d : ℕ) → a < 10 → b < 10 → c < 10 → d < 10
+    → decimal a ++ (decimal b ++ (decimal c ++ decimal d)) ≡ (48 + a) ∷ (48 + b) ∷ (48 + c) ∷ (48 + d) ∷ []
+four_digits a b c d ha hb hc hd =
+    rw (decimal_digit a ha, decimal_digit b hb, decimal_digit c hc, decimal_digit d hd) refl
 
 -- the pieces of a number with four decimals are its text
-pub four_places-is : (n : ℕ) → decimal (n / 10000) ++ (codes "." ++ (decimal (n / 1000 % 10) ++ (decimal (n / 100 % 10) ++ (decimal (n / 10 % 10) ++ decimal (n % 10))))) ≡ four_places_of n
+pub four_places-is : (n : ℕ) → decimal (n / 10000) ++
+    (codes "." ++ (decimal (n / 1000 % 10) ++
+    (decimal (n / 100 % 10) ++ (decimal (n / 10 % 10) ++ decimal (n % 10))))) ≡ four_places_of n
 four_places-is n =
     let first : n / 1000 % 10 ≡ n / 10 / 10 / 10 % 10 = omega arith in
     let second : n / 100 % 10 ≡ n / 10 / 10 % 10 = omega arith in
-    let digits = four_digits (n / 1000 % 10) (n / 100 % 10) (n / 10 % 10) (n % 10) (omega arith) (omega arith) (omega arith) (omega arith) in
-    ap (λ text. decimal (n / 10000) ++ 46 ∷ text) (digits ∙ ap (λ d. (48 + d) ∷ (48 + n / 100 % 10) ∷ (48 + n / 10 % 10) ∷ (48 + n % 10) ∷ []) first
+    let digits = four_digits (n / 1000 % 10) (n / 100 % 10) (n / 10 % 10) (n % 10) (omega arith) (omega arith)
+    (omega arith) (omega arith) in
+    ap (λ text. decimal (n / 10000) ++ 46 ∷ text)
+    (digits ∙ ap (λ d. (48 + d) ∷ (48 + n / 100 % 10) ∷ (48 + n / 10 % 10) ∷ (48 + n % 10) ∷ []) first
     ∙ ap (λ d. (48 + n / 10 / 10 / 10 % 10) ∷ (48 + d) ∷ (48 + n / 10 % 10) ∷ (48 + n % 10) ∷ []) second)
 
 -- the pieces of a box are printed one after another
 pub box-is : (s w n e south west north east : ℤ) → s ≡ south → w ≡ west → n ≡ north → e ≡ east
-    → codes " box" ++ ((32 ∷ four_places s) ++ ((32 ∷ four_places w) ++ ((32 ∷ four_places n) ++ (32 ∷ four_places e)))) ≡ spaced (region_words (Inside south west north east))
+    → codes " box" ++ ((32 ∷ four_places s) ++
+    ((32 ∷ four_places w) ++ ((32 ∷ four_places n) ++ (32 ∷ four_places e)))) ≡ spaced
+    (region_words (Inside south west north east))
 box-is s w n e south west north east es ew en ee =
-    ap (λ z. codes " box" ++ ((32 ∷ four_places z) ++ ((32 ∷ four_places w) ++ ((32 ∷ four_places n) ++ (32 ∷ four_places e))))) es
-    ∙ ap (λ z. codes " box" ++ ((32 ∷ four_places south) ++ ((32 ∷ four_places z) ++ ((32 ∷ four_places n) ++ (32 ∷ four_places e))))) ew
-    ∙ ap (λ z. codes " box" ++ ((32 ∷ four_places south) ++ ((32 ∷ four_places west) ++ ((32 ∷ four_places z) ++ (32 ∷ four_places e))))) en
-    ∙ ap (λ z. codes " box" ++ ((32 ∷ four_places south) ++ ((32 ∷ four_places west) ++ ((32 ∷ four_places north) ++ (32 ∷ four_places z))))) ee
-    ∙ ap (λ (text : List ℕ). codes " box" ++ ((32 ∷ four_places south) ++ ((32 ∷ four_places west) ++ ((32 ∷ four_places north) ++ (32 ∷ text))))) (sym (append-nil (four_places east)))
+    ap (λ z. codes " box" ++ ((32 ∷ four_places z) ++
+    ((32 ∷ four_places w) ++ ((32 ∷ four_places n) ++ (32 ∷ four_places e))))) es
+    ∙ ap (λ z. codes " box" ++ ((32 ∷ four_places south) ++
+    ((32 ∷ four_places z) ++ ((32 ∷ four_places n) ++ (32 ∷ four_places e))))) ew
+    ∙ ap (λ z. codes " box" ++ ((32 ∷ four_places south) ++
+    ((32 ∷ four_places west) ++ ((32 ∷ four_places z) ++ (32 ∷ four_places e))))) en
+    ∙ ap (λ z. codes " box" ++ ((32 ∷ four_places south) ++
+    ((32 ∷ four_places west) ++ ((32 ∷ four_places north) ++ (32 ∷ four_places z))))) ee
+    ∙ ap (λ (text : List ℕ). codes " box" ++
+    ((32 ∷ four_places south) ++ ((32 ∷ four_places west) ++ ((32 ∷ four_places north) ++ (32 ∷ text)))))
+    (sym (append-nil (four_places east)))
 
 -- a visible byte is ASCII
 visible_ascii : (b : ℕ) → is_visible b ≡ true → b < 128
@@ -65,9 +83,12 @@ visible_ascii b h = grind (arith, nat_tests)
 
 -- visible bytes are a text
 pub visible_text : (bytes : List ℕ) → list_all is_visible bytes ≡ true → IsUtf8 bytes
-visible_text bytes h = IsUtf8-from_ascii bytes (IsAscii-from_all bytes (λ k d inside. visible_ascii _ (AllPass-from_list_all is_visible bytes h k d inside)))
+visible_text bytes h =
+    IsUtf8-from_ascii bytes (IsAscii-from_all bytes
+    (λ k d inside. visible_ascii _ (AllPass-from_list_all is_visible bytes h k d inside)))
 
 -- what fails only where a fact doesn't hold succeeds where it does
-pub ok_from_fact : {T E A : Type 0} (P : T → Type 0) (Q : E → Type 0) (r : Result T E) → MatchResult r P (λ e. (A → ⊥) × Q e) → A → IsOk r
+pub ok_from_fact : {T E A : Type 0} (P : T → Type 0) (Q : E → Type 0) (r : Result T E)
+    → MatchResult r P (λ e. (A → ⊥) × Q e) → A → IsOk r
 ok_from_fact P Q (Ok x) cases fact = refl
 ok_from_fact P Q (Err e) cases fact = absurd (cases.0 fact)

@@ -1,5 +1,6 @@
 -- What follows when a step of the reading succeeds.
-use Rattle.std.proofs.Common.{◌≡◌, ℕ, ◌+◌, Bool, true, false, cond, ◌⊎◌, inl, inr, List, [], ◌∷◌, ◌++◌, map, Option, Some, None, Result, Ok, Err, refl, ap, subst, ◌∙◌}
+use Rattle.std.proofs.Common.{◌≡◌, ℕ, ◌+◌, Bool, true, false, cond, ◌⊎◌, inl, inr, List, [], ◌∷◌, ◌++◌, map, Option}
+use Rattle.std.proofs.Common.{Some, None, Result, Ok, Err, refl, ap, subst, ◌∙◌}
 use Rattle.std.specs.List.{enumerate_from}
 use Rattle.std.specs.Cmp.Lexicographic.{bytes_decides}
 use Rattle.rank_query.specs.declared.fault.QueryFault.{QueryFault}
@@ -8,12 +9,14 @@ use Rattle.rank_query.specs.Words.{Word, says}
 use Rattle.rank_query.specs.Readers.{◌>>=◌, Read, or_fault, keyword, one_word, made_into, by_word}
 
 -- both steps of a reading that succeeds do
-pub bind_ok : {A B : Type 0} (r : Result A QueryFault) (f : A → Result B QueryFault) (y : B) → (r >>= f) ≡ Ok y → (x : A) × (r ≡ Ok x) × (f x ≡ Ok y)
+pub bind_ok : {A B : Type 0} (r : Result A QueryFault) (f : A → Result B QueryFault) (y : B) → (r >>= f) ≡ Ok y
+    → (x : A) × (r ≡ Ok x) × (f x ≡ Ok y)
 bind_ok (Ok x) f y e = (x, refl, e)
 bind_ok (Err d) f y e = cc
 
 -- a test that doesn't fail holds
-pub test_ok : {A : Type 0} (b : Bool) (x y : A) (fault : QueryFault) → cond b (Ok x) (Err fault) ≡ Ok y → (b ≡ true) × (x ≡ y)
+pub test_ok : {A : Type 0} (b : Bool) (x y : A) (fault : QueryFault) → cond b (Ok x) (Err fault) ≡ Ok y → (b ≡ true)
+    × (x ≡ y)
 test_ok true x y fault e = (refl, cc)
 test_ok false x y fault e = cc
 
@@ -37,7 +40,8 @@ unfolding says
 said text word e = (bytes_decides word text).0 e
 
 -- the keyword that was read stands there
-pub keyword_took : (text : List ℕ) (ws rest : List Word) → keyword text ws ≡ Ok rest → unnumbered ws ≡ text ∷ unnumbered rest
+pub keyword_took : (text : List ℕ) (ws rest : List Word) → keyword text ws ≡ Ok rest
+    → unnumbered ws ≡ text ∷ unnumbered rest
 unfolding keyword
 keyword_took text [] rest e = cc
 keyword_took text (w ∷ ws) rest e =
@@ -45,7 +49,8 @@ keyword_took text (w ∷ ws) rest e =
     ap (λ word. word ∷ unnumbered ws) (said text w.1 test.0) ∙ ap (λ left. text ∷ unnumbered left) test.1
 
 -- the word that was read stands there, and was read as its value
-pub one_word_took : {A : Type 0} (value : Word → Result A QueryFault) (ws rest : List Word) (x : A) → one_word value ws ≡ Ok (x, rest) → (w : Word) × (unnumbered ws ≡ w.1 ∷ unnumbered rest) × (value w ≡ Ok x)
+pub one_word_took : {A : Type 0} (value : Word → Result A QueryFault) (ws rest : List Word) (x : A)
+    → one_word value ws ≡ Ok (x, rest) → (w : Word) × (unnumbered ws ≡ w.1 ∷ unnumbered rest) × (value w ≡ Ok x)
 one_word_took value [] rest x e = cc
 one_word_took {A} value (w ∷ ws) rest x e =
     let both = bind_ok (value w) (λ y. Ok (y, ws)) (x, rest) e in
@@ -53,21 +58,30 @@ one_word_took {A} value (w ∷ ws) rest x e =
     (w, ap (λ (p : A × List Word). w.1 ∷ unnumbered p.1) pair, both.1 ∙ ap (λ (p : A × List Word). Ok p.0) pair)
 
 -- what was made was read, with the same words after it
-pub made_into_took : {A B : Type 0} (make : A → B) (r : Read A) (rest : List Word) (y : B) → made_into make r ≡ Ok (y, rest) → (x : A) × (r ≡ Ok (x, rest)) × (make x ≡ y)
+pub made_into_took : {A B : Type 0} (make : A → B) (r : Read A) (rest : List Word) (y : B)
+    → made_into make r ≡ Ok (y, rest) → (x : A) × (r ≡ Ok (x, rest)) × (make x ≡ y)
 made_into_took {A} {B} make (Ok p) rest y e =
     let pair : (make p.0, p.1) ≡ (y, rest) = cc in
     (p.0, ap (λ (q : B × List Word). Ok (p.0, q.1)) pair, ap (λ (q : B × List Word). q.0) pair)
 made_into_took make (Err fault) rest y e = cc
 
 -- what is read by the first of some words was read behind that word, or by a later one
-pub by_word_took : {A : Type 0} (text : List ℕ) (reader : List Word → Read A) (others : List (List ℕ × (List Word → Read A))) (otherwise : List Word → Read A) (ws : List Word) (y : A × List Word)
+pub by_word_took : {A : Type 0} (text : List ℕ) (reader : List Word → Read A)
+    (others : List (List ℕ × (List Word → Read A))) (otherwise : List Word → Read A) (ws : List Word)
+    (y : A × List Word)
     → by_word ((text, reader) ∷ others) otherwise ws ≡ Ok y
-    → ((rest : List Word) × (unnumbered ws ≡ text ∷ unnumbered rest) × (reader rest ≡ Ok y)) ⊎ (by_word others otherwise ws ≡ Ok y)
+    → ((rest : List Word) × (unnumbered ws ≡ text ∷ unnumbered rest) × (reader rest ≡ Ok y))
+    ⊎ (by_word others otherwise ws ≡ Ok y)
 by_word_took text reader others otherwise [] y e = inr e
 by_word_took {A} text reader others otherwise (w ∷ ws) y e = by_test (says text w.1) refl e where
   by_test : (b : Bool) → says text w.1 ≡ b
-      → ◌≡◌ {A = Read A} (elim (cond b (Some ws) None) [ Some rest ↦ reader rest | None ↦ by_word others otherwise (w ∷ ws) ]) (Ok y)
-      → ((rest : List Word) × (w.1 ∷ unnumbered ws ≡ text ∷ unnumbered rest) × (reader rest ≡ Ok y)) ⊎ (by_word others otherwise (w ∷ ws) ≡ Ok y)
+      → ◌≡◌ {A = Read A} (elim (cond b (Some ws) None) [
+        | Some rest ↦ reader rest
+        | None ↦ by_word others otherwise
+            (w ∷ ws)
+      ]) (Ok y)
+      → ((rest : List Word) × (w.1 ∷ unnumbered ws ≡ text ∷ unnumbered rest) × (reader rest ≡ Ok y))
+      ⊎ (by_word others otherwise (w ∷ ws) ≡ Ok y)
   by_test true same read = inl (ws, ap (λ word. word ∷ unnumbered ws) (said text w.1 same), read)
   by_test false other read = inr read
 
@@ -78,7 +92,8 @@ pub record Took (Spelt : List (List ℕ) → Type 0) (ws rest : List Word) : Typ
   pub taken : unnumbered ws ≡ words ++ unnumbered rest
 
 -- what was taken behind a word was taken with it
-pub behind_took : (Spelt : List (List ℕ) → Type 0) (text : List ℕ) (ws left rest : List Word) → unnumbered ws ≡ text ∷ unnumbered left → Took (λ words. Spelt (text ∷ words)) left rest → Took Spelt ws rest
+pub behind_took : (Spelt : List (List ℕ) → Type 0) (text : List ℕ) (ws left rest : List Word)
+    → unnumbered ws ≡ text ∷ unnumbered left → Took (λ words. Spelt (text ∷ words)) left rest → Took Spelt ws rest
 behind_took Spelt text ws left rest e took = record {
   words = text ∷ took.words;
   spelt = took.spelt;
@@ -86,8 +101,10 @@ behind_took Spelt text ws left rest e took = record {
 }
 
 -- what words spell was taken with them, and what is left is left
-pub words_took : {B : Type 0} (Spelt : List (List ℕ) → B → Type 0) (ws left rest : List Word) (words : List (List ℕ)) (x y : B)
-    → Spelt words x → unnumbered ws ≡ words ++ unnumbered left → ◌≡◌ {A = Read B} (Ok (x, left)) (Ok (y, rest)) → Took (λ words. Spelt words y) ws rest
+pub words_took : {B : Type 0} (Spelt : List (List ℕ) → B → Type 0) (ws left rest : List Word) (words : List (List ℕ))
+    (x y : B)
+    → Spelt words x → unnumbered ws ≡ words ++ unnumbered left → ◌≡◌ {A = Read B} (Ok (x, left)) (Ok (y, rest))
+    → Took (λ words. Spelt words y) ws rest
 words_took {B} Spelt ws left rest words x y spelt taken e =
     let pair : (x, left) ≡ (y, rest) = cc in
     record {
@@ -97,8 +114,10 @@ words_took {B} Spelt ws left rest words x y spelt taken e =
     }
 
 -- a value made of one word was taken with that word
-pub made_took : {A B : Type 0} (Spelt : List (List ℕ) → B → Type 0) (value : Word → Result A QueryFault) (make : A → B) (ws rest : List Word) (y : B)
-    → ((w : Word) (x : A) → value w ≡ Ok x → Spelt (w.1 ∷ []) (make x)) → made_into make (one_word value ws) ≡ Ok (y, rest) → Took (λ words. Spelt words y) ws rest
+pub made_took : {A B : Type 0} (Spelt : List (List ℕ) → B → Type 0) (value : Word → Result A QueryFault)
+    (make : A → B) (ws rest : List Word) (y : B)
+    → ((w : Word) (x : A) → value w ≡ Ok x → Spelt (w.1 ∷ []) (make x))
+    → made_into make (one_word value ws) ≡ Ok (y, rest) → Took (λ words. Spelt words y) ws rest
 made_took Spelt value make ws rest y spells e =
     let made = made_into_took make (one_word value ws) rest y e in
     let word = one_word_took value ws rest made.0 made.1 in
@@ -109,11 +128,17 @@ made_took Spelt value make ws rest y spells e =
     }
 
 -- a word that has a value is read as it, and the reading goes on behind it
-pub one_word_again : {A B : Type 0} (value : Word → Result A QueryFault) (n : ℕ) (word : List ℕ) (more : List (List ℕ)) (x : A) (onward : A × List Word → Result B QueryFault)
-    → value (n, word) ≡ Ok x → (one_word value (enumerate_from n (word ∷ more)) >>= onward) ≡ onward (x, enumerate_from (n + 1) more)
-one_word_again {A} value n word more x onward e = ap (λ (r : Result A QueryFault). (r >>= λ y. Ok (y, enumerate_from (n + 1) more)) >>= onward) e
+pub one_word_again : {A B : Type 0} (value : Word → Result A QueryFault) (n : ℕ) (word : List ℕ)
+    (more : List (List ℕ)) (x : A) (onward : A × List Word → Result B QueryFault)
+    → value (n, word) ≡ Ok x → (one_word value (enumerate_from n (word ∷ more)) >>= onward) ≡ onward
+    (x, enumerate_from (n + 1) more)
+one_word_again {A} value n word more x onward e =
+    ap (λ (r : Result A QueryFault). (r >>= λ y. Ok (y, enumerate_from (n + 1) more)) >>= onward) e
 
 -- and what is made of it is made
-pub made_again : {A B : Type 0} (value : Word → Result A QueryFault) (make : A → B) (n : ℕ) (word : List ℕ) (more : List (List ℕ)) (x : A)
-    → value (n, word) ≡ Ok x → made_into make (one_word value (enumerate_from n (word ∷ more))) ≡ Ok (make x, enumerate_from (n + 1) more)
-made_again {A} value make n word more x e = ap (λ (r : Result A QueryFault). made_into make (r >>= λ y. Ok (y, enumerate_from (n + 1) more))) e
+pub made_again : {A B : Type 0} (value : Word → Result A QueryFault) (make : A → B) (n : ℕ) (word : List ℕ)
+    (more : List (List ℕ)) (x : A)
+    → value (n, word) ≡ Ok x → made_into make (one_word value (enumerate_from n (word ∷ more))) ≡ Ok
+    (make x, enumerate_from (n + 1) more)
+made_again {A} value make n word more x e =
+    ap (λ (r : Result A QueryFault). made_into make (r >>= λ y. Ok (y, enumerate_from (n + 1) more))) e

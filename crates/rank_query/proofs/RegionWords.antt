@@ -1,5 +1,6 @@
 -- The words of a region: those that are read as a region spell it, and those that spell it are read as it.
-use Rattle.std.proofs.Common.{◌≡◌, ℕ, ◌+◌, Bool, true, ◌&&◌, List, [], ◌∷◌, ◌++◌, Ok, inl, inr, codes, refl, sym, ap, ◌∙◌, subst, arith}
+use Rattle.std.proofs.Common.{◌≡◌, ℕ, ◌+◌, Bool, true, ◌&&◌, List, [], ◌∷◌, ◌++◌, Ok, inl, inr, codes, refl, sym, ap}
+use Rattle.std.proofs.Common.{◌∙◌, subst, arith}
 use Rattle.std.specs.Prelude.{ℤ, pos, neg_ℤ, int_le, ◌≤ℤ◌}
 use Rattle.std.specs.List.{enumerate_from, AllByRecursion}
 use Rattle.std.proofs.lemmas.Bool.{and_parts}
@@ -11,14 +12,17 @@ use Rattle.rank_query.specs.Asked.{is_longitude, is_region}
 use Rattle.rank_query.specs.Words.{Word, says}
 use Rattle.rank_query.specs.Readers.{Read, one_word, made_into}
 use Rattle.rank_query.specs.WordValues.{code}
-use Rattle.rank_query.specs.Reading.{latitude_from, longitude, box_at, country_at, state_at, station_at, everywhere_at, region_at}
+use Rattle.rank_query.specs.Reading.{latitude_from, longitude, box_at, country_at, state_at, station_at}
+use Rattle.rank_query.specs.Reading.{everywhere_at, region_at}
 use Rattle.rank_query.specs.Spelling.{SpellsBox, SpellsRegion}
 use Rattle.rank_query.proofs.OneWords.{HasNoBlank}
-use Rattle.rank_query.proofs.ReadingSteps.{bind_ok, unnumbered, one_word_took, by_word_took, Took, behind_took, made_took, words_took, one_word_again, made_again}
+use Rattle.rank_query.proofs.ReadingSteps.{bind_ok, unnumbered, one_word_took, by_word_took, Took, behind_took}
+use Rattle.rank_query.proofs.ReadingSteps.{made_took, words_took, one_word_again, made_again}
 use Rattle.rank_query.proofs.WordValues.{degrees_spelt, spelt_degrees, code_word, word_code}
 
 -- the box that was read is spelt there
-box_took : (ws rest : List Word) (r : Region) → AllByRecursion HasNoBlank (unnumbered ws) → box_at ws ≡ Ok (r, rest) → Took (λ words. SpellsRegion (codes "box" ∷ words) r) ws rest
+box_took : (ws rest : List Word) (r : Region) → AllByRecursion HasNoBlank (unnumbered ws) → box_at ws ≡ Ok (r, rest)
+    → Took (λ words. SpellsRegion (codes "box" ∷ words) r) ws rest
 unfolding box_at
 box_took ws rest r clean e =
     let south = bind_ok (one_word (latitude_from (neg_ℤ (pos 900_000))) ws) _ (r, rest) e in
@@ -44,28 +48,34 @@ box_took ws rest r clean e =
       spells_north = degrees_spelt _ _ n.0 north.0.0 all.1.1.0 n.2;
       spells_east = degrees_spelt _ _ o.0 east.0.0 all.1.1.1.0 o.2;
     } in
-    words_took (λ words v. SpellsRegion (codes "box" ∷ words) v) ws east.0.1 rest words (Inside south.0.0 west.0.0 north.0.0 east.0.0) r spelt taken east.2
+    words_took (λ words v. SpellsRegion (codes "box" ∷ words) v) ws east.0.1 rest words
+    (Inside south.0.0 west.0.0 north.0.0 east.0.0) r spelt taken east.2
 
 -- the code that was read is spelt there, behind its word
 code_took : (len : ℕ) (make : List ℕ → Region) (text : List ℕ) (ws rest : List Word) (r : Region)
-    → ((c : List ℕ) → SpellsRegion (text ∷ c ∷ []) (make c)) → made_into make (one_word (code len) ws) ≡ Ok (r, rest) → Took (λ words. SpellsRegion (text ∷ words) r) ws rest
+    → ((c : List ℕ) → SpellsRegion (text ∷ c ∷ []) (make c)) → made_into make (one_word (code len) ws) ≡ Ok (r, rest)
+    → Took (λ words. SpellsRegion (text ∷ words) r) ws rest
 code_took len make text ws rest r spells e =
     made_took (λ words v. SpellsRegion (text ∷ words) v) (code len) make ws rest r
     (λ w c read. subst (λ b. SpellsRegion (text ∷ b ∷ []) (make c)) (sym (code_word len w c read)) (spells c)) e
 
 -- the region that was read is spelt there
-pub region_took : (ws rest : List Word) (r : Region) → AllByRecursion HasNoBlank (unnumbered ws) → region_at ws ≡ Ok (r, rest) → Took (λ words. SpellsRegion words r) ws rest
+pub region_took : (ws rest : List Word) (r : Region) → AllByRecursion HasNoBlank (unnumbered ws)
+    → region_at ws ≡ Ok (r, rest) → Took (λ words. SpellsRegion words r) ws rest
 unfolding region_at
 region_took ws rest r clean e =
     let Spelt : List (List ℕ) → Type 0 = λ words. SpellsRegion words r in
     let last : List (List ℕ × (List Word → Read Region)) = (codes "station", station_at) ∷ [] in
     let later : List (List ℕ × (List Word → Read Region)) = (codes "state", state_at) ∷ last in
     elim (by_word_took (codes "box") box_at ((codes "country", country_at) ∷ later) everywhere_at ws (r, rest) e) [
-      | inl box ↦ behind_took Spelt (codes "box") ws box.0 rest box.1 (box_took box.0 rest r (subst (AllByRecursion HasNoBlank) box.1 clean).1 box.2)
+      | inl box ↦ behind_took Spelt (codes "box") ws box.0 rest box.1
+          (box_took box.0 rest r (subst (AllByRecursion HasNoBlank) box.1 clean).1 box.2)
       | inr no_box ↦ elim (by_word_took (codes "country") country_at later everywhere_at ws (r, rest) no_box) [
-        | inl country ↦ behind_took Spelt (codes "country") ws country.0 rest country.1 (code_took 2 Country (codes "country") country.0 rest r (λ c. refl) country.2)
+        | inl country ↦ behind_took Spelt (codes "country") ws country.0 rest country.1
+            (code_took 2 Country (codes "country") country.0 rest r (λ c. refl) country.2)
         | inr no_country ↦ elim (by_word_took (codes "state") state_at last everywhere_at ws (r, rest) no_country) [
-          | inl state ↦ behind_took Spelt (codes "state") ws state.0 rest state.1 (code_took 2 State (codes "state") state.0 rest r (λ c. refl) state.2)
+          | inl state ↦ behind_took Spelt (codes "state") ws state.0 rest state.1
+              (code_took 2 State (codes "state") state.0 rest r (λ c. refl) state.2)
           | inr no_state ↦ elim (by_word_took (codes "station") station_at [] everywhere_at ws (r, rest) no_state) [
             | inl station ↦ behind_took Spelt (codes "station") ws station.0 rest station.1 (
                 code_took 11 (λ id. Only (record { 0 = id })) (codes "station") station.0 rest r (λ c. refl) station.2)
@@ -92,9 +102,11 @@ pub and_true : (a b : Bool) → a ≡ true → b ≡ true → (a && b) ≡ true
 and_true a b x y = ap (λ t. t && b) x ∙ y
 
 -- a latitude from a southernmost one is read again
-latitude_again : (from z : ℤ) (at : ℕ) (text : List ℕ) → neg_ℤ (pos 900_000) ≤ℤ from → from ≤ℤ z → z ≤ℤ pos 900_000 → Spells 4 text z → latitude_from from (at, text) ≡ Ok z
+latitude_again : (from z : ℤ) (at : ℕ) (text : List ℕ) → neg_ℤ (pos 900_000) ≤ℤ from → from ≤ℤ z → z ≤ℤ pos 900_000
+    → Spells 4 text z → latitude_from from (at, text) ≡ Ok z
 latitude_again from z at text low above below spells =
-    let inside = and_true (int_le from z) (int_le z (pos 900_000)) (le_test from z above) (le_test z (pos 900_000) below) in
+    let inside = and_true (int_le from z) (int_le z (pos 900_000)) (le_test from z above)
+    (le_test z (pos 900_000) below) in
     spelt_degrees from (pos 900_000) z at text inside (omega (arith, ints)) spells
 
 -- a longitude lies from 180 degrees west to 180 degrees east
@@ -104,10 +116,12 @@ longitude-range z inside =
     (le_from_test (neg_ℤ (pos 1_800_000)) z both.0, le_from_test z (pos 1_800_000) both.1)
 
 -- and so is a longitude
-longitude_again : (z : ℤ) (at : ℕ) (text : List ℕ) → is_longitude z ≡ true → Spells 4 text z → longitude (at, text) ≡ Ok z
+longitude_again : (z : ℤ) (at : ℕ) (text : List ℕ) → is_longitude z ≡ true → Spells 4 text z
+    → longitude (at, text) ≡ Ok z
 longitude_again z at text inside spells =
     let range = longitude-range z inside in
-    spelt_degrees (neg_ℤ (pos 1_800_000)) (pos 1_800_000) z at text inside (omega (arith, ints, range.0, range.1)) spells
+    spelt_degrees (neg_ℤ (pos 1_800_000)) (pos 1_800_000) z at text inside
+    (omega (arith, ints, range.0, range.1)) spells
 
 -- the edges of a box that can be asked for
 pub record HasEdges (south west north east : ℤ) : Type 0 where
@@ -118,7 +132,8 @@ pub record HasEdges (south west north east : ℤ) : Type 0 where
   pub east_is : is_longitude east ≡ true
 
 -- they are those of its region
-pub edges_of : (south west north east : ℤ) → is_region (Inside south west north east) ≡ true → HasEdges south west north east
+pub edges_of : (south west north east : ℤ) → is_region (Inside south west north east) ≡ true
+    → HasEdges south west north east
 edges_of south west north east is =
     let low : Bool = int_le (neg_ℤ (pos 900_000)) south in
     let order : Bool = int_le south north in
@@ -138,29 +153,45 @@ edges_of south west north east is =
 -- the four numbers of a box that can be asked for are read as its edges
 box_again : (south west north east : ℤ) (words more : List (List ℕ)) (at : ℕ)
     → HasEdges south west north east → (spelt : SpellsBox words south west north east)
-    → box_at (enumerate_from at (spelt.s ∷ spelt.w ∷ spelt.n ∷ spelt.e ∷ more)) ≡ Ok (Inside south west north east, enumerate_from (at + 1 + 1 + 1 + 1) more)
+    → box_at (enumerate_from at (spelt.s ∷ spelt.w ∷ spelt.n ∷ spelt.e ∷ more)) ≡ Ok
+    (Inside south west north east, enumerate_from (at + 1 + 1 + 1 + 1) more)
 unfolding box_at
 box_again south west north east words more at edges spelt =
     let least : neg_ℤ (pos 900_000) ≤ℤ neg_ℤ (pos 900_000) = omega (arith, ints) in
     let south_below : south ≤ℤ pos 900_000 = omega (arith, ints, edges.order, edges.high) in
     one_word_again (latitude_from (neg_ℤ (pos 900_000))) at spelt.s (spelt.w ∷ spelt.n ∷ spelt.e ∷ more) south _
     (latitude_again (neg_ℤ (pos 900_000)) south at spelt.s least edges.low south_below spelt.spells_south)
-    ∙ one_word_again longitude (at + 1) spelt.w (spelt.n ∷ spelt.e ∷ more) west _ (longitude_again west (at + 1) spelt.w edges.west_is spelt.spells_west)
+    ∙ one_word_again longitude (at + 1) spelt.w (spelt.n ∷ spelt.e ∷ more) west _
+    (longitude_again west (at + 1) spelt.w edges.west_is spelt.spells_west)
     ∙ one_word_again (latitude_from south) (at + 1 + 1) spelt.n (spelt.e ∷ more) north _
     (latitude_again south north (at + 1 + 1) spelt.n edges.low edges.order edges.high spelt.spells_north)
-    ∙ one_word_again longitude (at + 1 + 1 + 1) spelt.e more east _ (longitude_again east (at + 1 + 1 + 1) spelt.e edges.east_is spelt.spells_east)
+    ∙ one_word_again longitude (at + 1 + 1 + 1) spelt.e more east _
+    (longitude_again east (at + 1 + 1 + 1) spelt.e edges.east_is spelt.spells_east)
 
 -- the words of a region that can be asked for are read as it, whatever their numbers and the words behind them
-pub region_again : (r : Region) (words more : List (List ℕ)) (n : ℕ) → is_region r ≡ true → SpellsRegion words r → BeginsNoRegion more → (m : ℕ) × (region_at (enumerate_from n (words ++ more)) ≡ Ok (r, enumerate_from m more))
+pub region_again : (r : Region) (words more : List (List ℕ)) (n : ℕ) → is_region r ≡ true → SpellsRegion words r
+    → BeginsNoRegion more → (m : ℕ) × (region_at (enumerate_from n (words ++ more)) ≡ Ok (r, enumerate_from m more))
 unfolding region_at says
-region_again Everywhere words more n is spelt none = (n, ap (λ ws. region_at (enumerate_from n (ws ++ more))) spelt ∙ none n)
+region_again Everywhere words more n is spelt none =
+    (n, ap (λ ws. region_at (enumerate_from n (ws ++ more))) spelt ∙ none n)
 region_again (Inside south west north east) words more n is spelt none = (
   n + 1 + 1 + 1 + 1 + 1,
-  ap (λ ws. region_at (enumerate_from n (ws ++ more))) spelt.words ∙ box_again south west north east words more (n + 1) (edges_of south west north east is) spelt,
+  ap (λ ws. region_at (enumerate_from n (ws ++ more))) spelt.words
+      ∙ box_again south west north east words more (n + 1) (edges_of south west north east is) spelt,
 )
-region_again (Country c) words more n is spelt none =
-    (n + 1 + 1, ap (λ ws. region_at (enumerate_from n (ws ++ more))) spelt ∙ made_again (code 2) Country (n + 1) c more c (word_code 2 (n + 1) c is))
-region_again (State c) words more n is spelt none =
-    (n + 1 + 1, ap (λ ws. region_at (enumerate_from n (ws ++ more))) spelt ∙ made_again (code 2) State (n + 1) c more c (word_code 2 (n + 1) c is))
-region_again (Only id) words more n is spelt none =
-    (n + 1 + 1, ap (λ ws. region_at (enumerate_from n (ws ++ more))) spelt ∙ made_again (code 11) (λ bytes. Only (record { 0 = bytes })) (n + 1) id.0 more id.0 (word_code 11 (n + 1) id.0 is))
+region_again (Country c) words more n is spelt none = (
+  n + 1 + 1,
+  ap (λ ws. region_at (enumerate_from n (ws ++ more))) spelt
+      ∙ made_again (code 2) Country (n + 1) c more c (word_code 2 (n + 1) c is),
+)
+region_again (State c) words more n is spelt none = (
+  n + 1 + 1,
+  ap (λ ws. region_at (enumerate_from n (ws ++ more))) spelt
+      ∙ made_again (code 2) State (n + 1) c more c (word_code 2 (n + 1) c is),
+)
+region_again (Only id) words more n is spelt none = (
+  n + 1 + 1,
+  ap (λ ws. region_at (enumerate_from n (ws ++ more))) spelt
+      ∙ made_again (code 11) (λ bytes. Only (record { 0 = bytes })) (n + 1) id.0 more id.0
+      (word_code 11 (n + 1) id.0 is),
+)

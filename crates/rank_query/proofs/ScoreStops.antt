@@ -25,20 +25,27 @@ GoodScore s = is_score s ≡ true
 sum_part : ReadsPart Score GoodScore sum_at
 unfolding sum_at number
 sum_part =
-    part_then (λ n. is_within 1 366 n ≡ true) GoodScore (one_word (number 1 366)) _ (part_word (λ n. is_within 1 366 n ≡ true) (number 1 366) (reads_number 1 366 refl)) (λ n few.
-    part_then (λ e. is_fall e ≡ true) GoodScore (one_word (element is_fall)) (λ e ws. Ok (Sum n e, ws)) (part_word (λ e. is_fall e ≡ true) (element is_fall) (reads_element is_fall Prcp refl refl)) (λ e fall.
+    part_then (λ n. is_within 1 366 n ≡ true) GoodScore (one_word (number 1 366)) _
+    (part_word (λ n. is_within 1 366 n ≡ true) (number 1 366) (reads_number 1 366 refl)) (λ n few.
+    part_then (λ e. is_fall e ≡ true) GoodScore (one_word (element is_fall)) (λ e ws. Ok (Sum n e, ws))
+    (part_word (λ e. is_fall e ≡ true) (element is_fall) (reads_element is_fall Prcp refl refl)) (λ e fall.
     part_always GoodScore (Sum n e) (and_true (is_within 1 366 n) (is_fall e) few fall)))
 
 -- each score behind its word
 abbrev rows : List (List ℕ × (List Word → Read Score))
-rows = (codes "highest", highest_at) ∷ (codes "lowest", lowest_at) ∷ (codes "sum", sum_at) ∷ (codes "dry", dry_at) ∷ (codes "wet", wet_at) ∷ []
+rows =
+    (codes "highest", highest_at) ∷ (codes "lowest", lowest_at) ∷ (codes "sum", sum_at) ∷ (codes "dry", dry_at) ∷
+    (codes "wet", wet_at) ∷ []
 
 -- all of them are parts
 parts : AllByRecursion (λ row. ReadsPart Score GoodScore row.1) rows
 parts = (
-  part_made (λ e. true ≡ true) GoodScore Highest (one_word (element (λ e. true))) (λ e is. refl) (part_word (λ e. true ≡ true) (element (λ e. true)) (reads_element (λ e. true) Prcp refl refl)),
+  part_made (λ e. true ≡ true) GoodScore Highest (one_word (element (λ e. true))) (λ e is. refl)
+      (part_word (λ e. true ≡ true) (element (λ e. true)) (reads_element (λ e. true) Prcp refl refl)),
   (
-    part_made (λ e. is_temperature e ≡ true) GoodScore Lowest (one_word (element is_temperature)) (λ e is. is) (part_word (λ e. is_temperature e ≡ true) (element is_temperature) (reads_element is_temperature Tmax refl refl)),
+    part_made (λ e. is_temperature e ≡ true) GoodScore Lowest (one_word (element is_temperature)) (λ e is. is)
+        (part_word (λ e. is_temperature e ≡ true) (element is_temperature)
+        (reads_element is_temperature Tmax refl refl)),
     (sum_part, (part_always GoodScore Dry refl, (part_always GoodScore Wet refl, tt))),
   ),
 )
@@ -46,14 +53,18 @@ parts = (
 -- dry spells need one word
 score_on : GoesOn (Score × List Word) (Ended GoodScore) score_at
 unfolding score_at says
-score_on = record { tail = (0, codes "dry") ∷ []; clean = (refl, tt); value = (Dry, []); good = (refl, refl); reads = refl }
+score_on =
+    record { tail = (0, codes "dry") ∷ []; clean = (refl, tt); value = (Dry, []); good = (refl, refl); reads = refl }
 
 -- a first word that is none of a score is wrong, and what stands behind one is told by its row
-score_stops : (ws : List Word) (fault : QueryFault) → score_at ws ≡ Err fault → Stops (Score × List Word) (Ended GoodScore) score_at fault ws
+score_stops : (ws : List Word) (fault : QueryFault) → score_at ws ≡ Err fault
+    → Stops (Score × List Word) (Ended GoodScore) score_at fault ws
 unfolding score_at no_score_at
-score_stops [] fault e = record { before = []; left = []; parts = refl; on = score_on; at = let same : fault ≡ QueryEnds = cc in same }
+score_stops [] fault e =
+    record { before = []; left = []; parts = refl; on = score_on; at = let same : fault ≡ QueryEnds = cc in same }
 score_stops (w ∷ ws) fault e = elim (by_first GoodScore rows no_score_at w parts) [
-  | inl found ↦ stops_behind (Ended GoodScore) score_at found.0 (w ∷ []) ws fault found.2 (found.1.first.stops ws fault (sym (found.2 ws) ∙ e))
+  | inl found ↦ stops_behind (Ended GoodScore) score_at found.0 (w ∷ []) ws fault found.2
+      (found.1.first.stops ws fault (sym (found.2 ws) ∙ e))
   | inr none ↦
       let here : ◌≡◌ {A = Read Score} (Err (UnexpectedWord w.0)) (Err fault) = sym (none ws) ∙ e in
       record {
@@ -70,7 +81,8 @@ score_takes : TakesAll Score GoodScore score_at
 unfolding score_at no_score_at
 score_takes [] r e = absurd cc
 score_takes (w ∷ ws) r e = elim (by_first GoodScore rows no_score_at w parts) [
-  | inl found ↦ takes_behind GoodScore score_at found.0 (w ∷ []) ws r found.2 (found.1.takes ws r (sym (found.2 ws) ∙ e))
+  | inl found ↦ takes_behind GoodScore score_at found.0 (w ∷ []) ws r found.2
+      (found.1.takes ws r (sym (found.2 ws) ∙ e))
   | inr none ↦ let here : ◌≡◌ {A = Read Score} (Err (UnexpectedWord w.0)) (Ok r) = sym (none ws) ∙ e in absurd cc
 ]
 

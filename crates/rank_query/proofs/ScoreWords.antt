@@ -1,5 +1,6 @@
 -- The words of a score: those that are read as a score spell it, and those that spell it are read as it.
-use Rattle.std.proofs.Common.{◌≡◌, ℕ, ◌+◌, Bool, true, List, [], ◌∷◌, ◌++◌, Ok, inl, inr, codes, refl, sym, ap, ◌∙◌, subst}
+use Rattle.std.proofs.Common.{◌≡◌, ℕ, ◌+◌, Bool, true, List, [], ◌∷◌, ◌++◌, Ok, inl, inr, codes, refl, sym, ap, ◌∙◌}
+use Rattle.std.proofs.Common.{subst}
 use Rattle.std.specs.List.{enumerate_from}
 use Rattle.std.proofs.lemmas.Bool.{and_parts}
 use Rattle.ghcn_fields.specs.Days.{is_within}
@@ -13,7 +14,8 @@ use Rattle.rank_query.specs.Readers.{Read, one_word, made_into}
 use Rattle.rank_query.specs.WordValues.{number, element}
 use Rattle.rank_query.specs.Reading.{highest_at, lowest_at, sum_at, dry_at, wet_at, no_score_at, score_at}
 use Rattle.rank_query.specs.Spelling.{IsNumeralOf, SpellsScore}
-use Rattle.rank_query.proofs.ReadingSteps.{bind_ok, one_word_took, by_word_took, Took, behind_took, made_took, words_took, one_word_again, made_again}
+use Rattle.rank_query.proofs.ReadingSteps.{bind_ok, one_word_took, by_word_took, Took, behind_took, made_took}
+use Rattle.rank_query.proofs.ReadingSteps.{words_took, one_word_again, made_again}
 use Rattle.rank_query.proofs.WordValues.{number_numeral, numeral_number, element_code, code_element}
 
 -- where no score stands none is read
@@ -24,13 +26,16 @@ no_score (w ∷ ws) y e = absurd cc
 
 -- the element that was read is spelt there, behind the word of its score
 element_took : (allows : Element → Bool) (make : Element → Score) (text : List ℕ) (ws rest : List Word) (s : Score)
-    → ((e : Element) → SpellsScore (text ∷ code_of e ∷ []) (make e)) → made_into make (one_word (element allows) ws) ≡ Ok (s, rest) → Took (λ words. SpellsScore (text ∷ words) s) ws rest
+    → ((e : Element) → SpellsScore (text ∷ code_of e ∷ []) (make e))
+    → made_into make (one_word (element allows) ws) ≡ Ok (s, rest)
+    → Took (λ words. SpellsScore (text ∷ words) s) ws rest
 element_took allows make text ws rest s spells e =
     made_took (λ words v. SpellsScore (text ∷ words) v) (element allows) make ws rest s
     (λ w x read. subst (λ b. SpellsScore (text ∷ b ∷ []) (make x)) (sym (element_code allows w x read)) (spells x)) e
 
 -- the sum that was read is spelt there, behind its word
-sum_took : (ws rest : List Word) (s : Score) → sum_at ws ≡ Ok (s, rest) → Took (λ words. SpellsScore (codes "sum" ∷ words) s) ws rest
+sum_took : (ws rest : List Word) (s : Score) → sum_at ws ≡ Ok (s, rest)
+    → Took (λ words. SpellsScore (codes "sum" ∷ words) s) ws rest
 unfolding sum_at
 sum_took ws rest s e =
     let days = bind_ok (one_word (number 1 366) ws) _ (s, rest) e in
@@ -38,12 +43,18 @@ sum_took ws rest s e =
     let n = one_word_took (number 1 366) ws days.0.1 days.0.0 days.1 in
     let f = one_word_took (element is_fall) days.0.1 what.0.1 what.0.0 what.1 in
     let words : List (List ℕ) = n.0.1 ∷ f.0.1 ∷ [] in
-    let spelt : SpellsScore (codes "sum" ∷ words) (Sum days.0.0 what.0.0) =
-    (n.0.1, number_numeral 1 366 n.0 days.0.0 n.2, ap (λ b. codes "sum" ∷ n.0.1 ∷ b ∷ []) (element_code is_fall f.0 what.0.0 f.2)) in
-    words_took (λ words v. SpellsScore (codes "sum" ∷ words) v) ws what.0.1 rest words (Sum days.0.0 what.0.0) s spelt (n.1 ∙ ap (λ left. n.0.1 ∷ left) f.1) what.2
+    let spelt : SpellsScore (codes "sum" ∷ words) (Sum days.0.0 what.0.0) = (
+      n.0.1,
+      number_numeral 1 366 n.0 days.0.0 n.2,
+      ap (λ b. codes "sum" ∷ n.0.1 ∷ b ∷ [])
+          (element_code is_fall f.0 what.0.0 f.2),
+    ) in
+    words_took (λ words v. SpellsScore (codes "sum" ∷ words) v) ws what.0.1 rest words (Sum days.0.0 what.0.0) s spelt
+    (n.1 ∙ ap (λ left. n.0.1 ∷ left) f.1) what.2
 
 -- the score that was read is spelt there
-pub score_took : (ws rest : List Word) (s : Score) → score_at ws ≡ Ok (s, rest) → Took (λ words. SpellsScore words s) ws rest
+pub score_took : (ws rest : List Word) (s : Score) → score_at ws ≡ Ok (s, rest)
+    → Took (λ words. SpellsScore words s) ws rest
 unfolding score_at
 score_took ws rest s e =
     let Spelt : List (List ℕ) → Type 0 = λ words. SpellsScore words s in
@@ -52,15 +63,20 @@ score_took ws rest s e =
     let spells : Table = (codes "dry", dry_at) ∷ last in
     let sums : Table = (codes "sum", sum_at) ∷ spells in
     elim (by_word_took (codes "highest") highest_at ((codes "lowest", lowest_at) ∷ sums) no_score_at ws (s, rest) e) [
-      | inl highest ↦ behind_took Spelt (codes "highest") ws highest.0 rest highest.1 (element_took (λ e. true) Highest (codes "highest") highest.0 rest s (λ e. refl) highest.2)
+      | inl highest ↦ behind_took Spelt (codes "highest") ws highest.0 rest highest.1
+          (element_took (λ e. true) Highest (codes "highest") highest.0 rest s (λ e. refl) highest.2)
       | inr no_highest ↦ elim (by_word_took (codes "lowest") lowest_at sums no_score_at ws (s, rest) no_highest) [
-        | inl lowest ↦ behind_took Spelt (codes "lowest") ws lowest.0 rest lowest.1 (element_took is_temperature Lowest (codes "lowest") lowest.0 rest s (λ e. refl) lowest.2)
+        | inl lowest ↦ behind_took Spelt (codes "lowest") ws lowest.0 rest lowest.1
+            (element_took is_temperature Lowest (codes "lowest") lowest.0 rest s (λ e. refl) lowest.2)
         | inr no_lowest ↦ elim (by_word_took (codes "sum") sum_at spells no_score_at ws (s, rest) no_lowest) [
           | inl sum ↦ behind_took Spelt (codes "sum") ws sum.0 rest sum.1 (sum_took sum.0 rest s sum.2)
           | inr no_sum ↦ elim (by_word_took (codes "dry") dry_at last no_score_at ws (s, rest) no_sum) [
-            | inl dry ↦ behind_took Spelt (codes "dry") ws dry.0 rest dry.1 (words_took (λ words v. SpellsScore (codes "dry" ∷ words) v) dry.0 dry.0 rest [] Dry s refl refl dry.2)
+            | inl dry ↦ behind_took Spelt (codes "dry") ws dry.0 rest dry.1
+                (words_took (λ words v. SpellsScore (codes "dry" ∷ words) v) dry.0 dry.0 rest [] Dry s refl refl dry.2)
             | inr no_dry ↦ elim (by_word_took (codes "wet") wet_at [] no_score_at ws (s, rest) no_dry) [
-              | inl wet ↦ behind_took Spelt (codes "wet") ws wet.0 rest wet.1 (words_took (λ words v. SpellsScore (codes "wet" ∷ words) v) wet.0 wet.0 rest [] Wet s refl refl wet.2)
+              | inl wet ↦ behind_took Spelt (codes "wet") ws wet.0 rest wet.1
+                  (words_took (λ words v. SpellsScore (codes "wet" ∷ words) v) wet.0 wet.0 rest [] Wet s refl refl
+                  wet.2)
               | inr none ↦ absurd (no_score ws (s, rest) none)
             ]
           ]
@@ -69,7 +85,8 @@ score_took ws rest s e =
     ]
 
 -- the two words of a sum that can be asked for are read as it
-sum_again : (k : ℕ) (e : Element) (digits : List ℕ) (more : List (List ℕ)) (n : ℕ) → is_score (Sum k e) ≡ true → IsNumeralOf digits k
+sum_again : (k : ℕ) (e : Element) (digits : List ℕ) (more : List (List ℕ)) (n : ℕ) → is_score (Sum k e) ≡ true
+    → IsNumeralOf digits k
     → sum_at (enumerate_from n (digits ∷ code_of e ∷ more)) ≡ Ok (Sum k e, enumerate_from (n + 1 + 1) more)
 unfolding sum_at
 sum_again k e digits more n is numeral =
@@ -78,13 +95,24 @@ sum_again k e digits more n is numeral =
     ∙ one_word_again (element is_fall) (n + 1) (code_of e) more e _ (code_element is_fall e (n + 1) both.1)
 
 -- the words of a score that can be asked for are read as it, whatever their numbers and the words behind them
-pub score_again : (s : Score) (words more : List (List ℕ)) (n : ℕ) → is_score s ≡ true → SpellsScore words s → (m : ℕ) × (score_at (enumerate_from n (words ++ more)) ≡ Ok (s, enumerate_from m more))
+pub score_again : (s : Score) (words more : List (List ℕ)) (n : ℕ) → is_score s ≡ true → SpellsScore words s → (m : ℕ)
+    × (score_at (enumerate_from n (words ++ more)) ≡ Ok (s, enumerate_from m more))
 unfolding score_at says
-score_again (Highest e) words more n is spelt =
-    (n + 1 + 1, ap (λ ws. score_at (enumerate_from n (ws ++ more))) spelt ∙ made_again (element (λ x. true)) Highest (n + 1) (code_of e) more e (code_element (λ x. true) e (n + 1) refl))
-score_again (Lowest e) words more n is spelt =
-    (n + 1 + 1, ap (λ ws. score_at (enumerate_from n (ws ++ more))) spelt ∙ made_again (element is_temperature) Lowest (n + 1) (code_of e) more e (code_element is_temperature e (n + 1) is))
-score_again (Sum k e) words more n is spelt =
-    (n + 1 + 1 + 1, ap (λ ws. score_at (enumerate_from n (ws ++ more))) spelt.2 ∙ sum_again k e spelt.0 more (n + 1) is spelt.1)
+score_again (Highest e) words more n is spelt = (
+  n + 1 + 1,
+  ap (λ ws. score_at (enumerate_from n (ws ++ more))) spelt
+      ∙ made_again (element (λ x. true)) Highest (n + 1) (code_of e) more e (code_element (λ x. true) e (n + 1) refl),
+)
+score_again (Lowest e) words more n is spelt = (
+  n + 1 + 1,
+  ap (λ ws. score_at (enumerate_from n (ws ++ more))) spelt
+      ∙ made_again (element is_temperature) Lowest (n + 1) (code_of e) more e
+      (code_element is_temperature e (n + 1) is),
+)
+score_again (Sum k e) words more n is spelt = (
+  n + 1 + 1 + 1,
+  ap (λ ws. score_at (enumerate_from n (ws ++ more))) spelt.2
+      ∙ sum_again k e spelt.0 more (n + 1) is spelt.1,
+)
 score_again Dry words more n is spelt = (n + 1, ap (λ ws. score_at (enumerate_from n (ws ++ more))) spelt)
 score_again Wet words more n is spelt = (n + 1, ap (λ ws. score_at (enumerate_from n (ws ++ more))) spelt)

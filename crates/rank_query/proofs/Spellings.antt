@@ -1,5 +1,6 @@
 -- What is read as a query spells it, and what spells a query is read as it.
-use Rattle.std.proofs.Common.{◌≡◌, ℕ, ◌≤◌, Bool, true, false, cond, List, [], ◌∷◌, ◌++◌, length, Option, Result, Ok, Err, codes, refl, sym, ap, ◌∙◌, subst, append_assoc, append-nil, IfOk, arith}
+use Rattle.std.proofs.Common.{◌≡◌, ℕ, ◌≤◌, Bool, true, false, cond, List, [], ◌∷◌, ◌++◌, length, Option, Result, Ok}
+use Rattle.std.proofs.Common.{Err, codes, refl, sym, ap, ◌∙◌, subst, append_assoc, append-nil, arith}
 use Rattle.std.specs.Prelude.{nat_lt, ℤ}
 use Rattle.std.specs.List.{enumerate_from, AllByRecursion}
 use Rattle.std.proofs.lemmas.Bool.Decides.{nat_tests}
@@ -14,7 +15,8 @@ use Rattle.rank_query.specs.WordValues.{number}
 use Rattle.rank_query.specs.Reading.{score_at, region_at, period_at, nothing_more, read_words, read_query}
 use Rattle.rank_query.specs.Spelling.{IsNumeralOf, SpellsScore, SpellsRegion, SpellsPeriod, SpellsQuery, IsSpelling}
 use Rattle.rank_query.proofs.OneWords.{HasNoBlank, words_no_blank, all_behind}
-use Rattle.rank_query.proofs.ReadingSteps.{bind_ok, unnumbered, unnumbered-enumerate_from, keyword_took, one_word_took, one_word_again}
+use Rattle.rank_query.proofs.ReadingSteps.{bind_ok, unnumbered, unnumbered-enumerate_from, keyword_took}
+use Rattle.rank_query.proofs.ReadingSteps.{one_word_took, one_word_again}
 use Rattle.rank_query.proofs.WordValues.{number_numeral, numeral_number}
 use Rattle.rank_query.proofs.ScoreWords.{score_took, score_again}
 use Rattle.rank_query.proofs.RegionWords.{region_took, region_again}
@@ -30,7 +32,8 @@ abbrev pub asked : ℕ → Score → Region → Option (ℤ × ℤ) → Asked
 asked k s r p = record { k = k; score = s; region = r; period = p }
 
 -- the query that was read is spelt by the words
-pub words_spell : (ws : List Word) (q : Asked) → AllByRecursion HasNoBlank (unnumbered ws) → read_words ws ≡ Ok q → SpellsQuery (unnumbered ws) q
+pub words_spell : (ws : List Word) (q : Asked) → AllByRecursion HasNoBlank (unnumbered ws) → read_words ws ≡ Ok q
+    → SpellsQuery (unnumbered ws) q
 unfolding read_words
 words_spell ws q no_blank e =
     let top = bind_ok (keyword (codes "top") ws) _ q e in
@@ -44,16 +47,20 @@ words_spell ws q no_blank e =
     let score = score_took k.0.1 s.0.1 s.0.0 s.1 in
     let front : unnumbered ws ≡ (codes "top" ∷ rows.0.1 ∷ score.words) ++ unnumbered s.0.1 =
     first ∙ ap (λ left. codes "top" ∷ left) (rows.1 ∙ ap (λ left. rows.0.1 ∷ left) score.taken) in
-    let clean = all_behind HasNoBlank (codes "top" ∷ rows.0.1 ∷ score.words) (unnumbered s.0.1) (subst (AllByRecursion HasNoBlank) front no_blank) in
+    let clean = all_behind HasNoBlank (codes "top" ∷ rows.0.1 ∷ score.words) (unnumbered s.0.1)
+    (subst (AllByRecursion HasNoBlank) front no_blank) in
     let region = region_took s.0.1 r.0.1 r.0.0 clean r.1 in
     let period = period_took r.0.1 p.0.1 p.0.0 p.1 in
-    let last : unnumbered r.0.1 ≡ period.words = period.taken ∙ ap (λ left. period.words ++ unnumbered left) end.0 ∙ append-nil period.words in
+    let last : unnumbered r.0.1 ≡ period.words = period.taken ∙ ap (λ left. period.words ++ unnumbered left) end.0
+    ∙ append-nil period.words in
     let spelling : SpellsQuery (unnumbered ws) (asked k.0.0 s.0.0 r.0.0 p.0.0) = record {
       k = rows.0.1;
       score = score.words;
       region = region.words;
       period = period.words;
-      words = front ∙ ap (λ left. codes "top" ∷ rows.0.1 ∷ score.words ++ left) (region.taken ∙ ap (λ left. region.words ++ left) last)
+      words =
+          front ∙ ap (λ left. codes "top" ∷ rows.0.1 ∷ score.words ++ left)
+          (region.taken ∙ ap (λ left. region.words ++ left) last)
           ∙ ap (λ more. codes "top" ∷ rows.0.1 ∷ more) (sym (append_assoc score.words region.words period.words));
       spells_k = number_numeral 1 1000 rows.0 k.0.0 rows.2;
       spells_score = score.spelt;
@@ -66,10 +73,12 @@ words_spell ws q no_blank e =
 text_spells : (text : List ℕ) (q : Asked) → read_words (numbered_words text) ≡ Ok q → IsSpelling text q
 text_spells text q e =
     let same : unnumbered (numbered_words text) ≡ words_of text = unnumbered-enumerate_from 1 (words_of text) in
-    subst (λ ws. SpellsQuery ws q) same (words_spell (numbered_words text) q (subst (AllByRecursion HasNoBlank) (sym same) (words_no_blank text)) e)
+    subst (λ ws. SpellsQuery ws q) same
+    (words_spell (numbered_words text) q (subst (AllByRecursion HasNoBlank) (sym same) (words_no_blank text)) e)
 
 -- the same for a text of at most 256 bytes
-within_spells : (b : Bool) (text : List ℕ) (q : Asked) → cond b (Err QueryTooLong) (read_words (numbered_words text)) ≡ Ok q → IsSpelling text q
+within_spells : (b : Bool) (text : List ℕ) (q : Asked)
+    → cond b (Err QueryTooLong) (read_words (numbered_words text)) ≡ Ok q → IsSpelling text q
 within_spells true text q e = cc
 within_spells false text q e = text_spells text q e
 
@@ -85,28 +94,30 @@ words_again : (q : Asked) (k : List ℕ) (score region period : List (List ℕ))
 unfolding read_words keyword says
 words_again q k score region period is numeral spells_score spells_region spells_period =
     let s = score_again q.score score (region ++ period) 3 is.score spells_score in
-    let r = region_again q.region region period s.0 is.region spells_region (period_no_region q.period period spells_period) in
+    let r = region_again q.region region period s.0 is.region spells_region
+    (period_no_region q.period period spells_period) in
     let p = period_again q.period period r.0 is.period spells_period in
     ap (λ ws. read_words (enumerate_from 1 (codes "top" ∷ k ∷ ws))) (append_assoc score region period)
-    ∙ one_word_again (number 1 1000) 2 k (score ++ (region ++ period)) q.k _ (numeral_number 1 1000 q.k 2 k is.k numeral)
-    ∙ ap (λ (x : Read Score). x >>= λ s. region_at s.1 >>= λ r. period_at r.1 >>= λ p. nothing_more p.1 (asked q.k s.0 r.0 p.0)) s.1
+    ∙ one_word_again (number 1 1000) 2 k (score ++ (region ++ period)) q.k _
+    (numeral_number 1 1000 q.k 2 k is.k numeral)
+    ∙ ap (λ (x : Read Score). x >>= λ s. region_at s.1 >>= λ r. period_at r.1 >>= λ p. nothing_more p.1
+    (asked q.k s.0 r.0 p.0)) s.1
     ∙ ap (λ (x : Read Region). x >>= λ r. period_at r.1 >>= λ p. nothing_more p.1 (asked q.k q.score r.0 p.0)) r.1
     ∙ ap (λ (x : Read (Option (ℤ × ℤ))). x >>= λ p. nothing_more p.1 (asked q.k q.score q.region p.0)) p
 
 -- words that spell a query that may be asked are read as it
-pub spelt_read : (ws : List (List ℕ)) (q : Asked) → IsAsked q → SpellsQuery ws q → read_words (enumerate_from 1 ws) ≡ Ok q
+pub spelt_read : (ws : List (List ℕ)) (q : Asked) → IsAsked q → SpellsQuery ws q
+    → read_words (enumerate_from 1 ws) ≡ Ok q
 spelt_read ws q is spelling =
     ap (λ ws. read_words (enumerate_from 1 ws)) spelling.words
-    ∙ words_again q spelling.k spelling.score spelling.region spelling.period is spelling.spells_k spelling.spells_score spelling.spells_region spelling.spells_period
+    ∙ words_again q spelling.k spelling.score spelling.region spelling.period is spelling.spells_k
+    spelling.spells_score spelling.spells_region spelling.spells_period
 
 -- and so is a text of at most 256 bytes
-pub spelling_read : (text : List ℕ) (q : Asked) → IsAsked q → IsSpelling text q → length text ≤ 256 → read_query text ≡ Ok q
+pub spelling_read : (text : List ℕ) (q : Asked) → IsAsked q → IsSpelling text q → length text ≤ 256
+    → read_query text ≡ Ok q
 unfolding read_query
 spelling_read text q is spelling short =
     let test : nat_lt 256 (length text) ≡ false = grind (arith, nat_tests) in
-    ap (λ b. cond b (Err QueryTooLong) (read_words (numbered_words text))) test ∙ spelt_read (words_of text) q is spelling
-
--- where the reading succeeds, the text spells what was read
-pub if_read_spells : (text : List ℕ) (r : Result Asked QueryFault) → r ≡ read_query text → IfOk r (λ q. IsSpelling text q)
-if_read_spells text (Ok q) e = read_spells text q (sym e)
-if_read_spells text (Err fault) e = tt
+    ap (λ b. cond b (Err QueryTooLong) (read_words (numbered_words text))) test
+    ∙ spelt_read (words_of text) q is spelling

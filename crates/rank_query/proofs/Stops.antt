@@ -1,9 +1,11 @@
 -- Where a reading stops at a fault, and what it could go on with there.
-use Rattle.std.proofs.Common.{◌≡◌, ◌⊎◌, inl, inr, List, [], ◌∷◌, ◌++◌, Result, Ok, Err, refl, sym, ap, ◌∙◌, subst, append_assoc, append-nil}
+use Rattle.std.proofs.Common.{◌≡◌, ◌⊎◌, inl, inr, List, [], ◌∷◌, ◌++◌, Result, Ok, Err, refl, sym, ap, ◌∙◌, subst}
+use Rattle.std.proofs.Common.{append_assoc, append-nil}
 use Rattle.std.specs.List.{AllByRecursion}
 use Rattle.std.proofs.lemmas.List.{map-append}
 use Rattle.rank_query.specs.declared.fault.QueryFault.{QueryFault}
-use Rattle.rank_query.specs.declared.fault.QueryFault.TheVariants.{QueryTooLong, UnexpectedWord, QueryEnds, OutOfLimits, BadDate, BadBox, EmptyPeriod}
+use Rattle.rank_query.specs.declared.fault.QueryFault.TheVariants.{QueryTooLong, UnexpectedWord, QueryEnds}
+use Rattle.rank_query.specs.declared.fault.QueryFault.TheVariants.{OutOfLimits, BadDate, BadBox, EmptyPeriod}
 use Rattle.rank_query.specs.Words.{Word}
 use Rattle.rank_query.specs.Readers.{◌>>=◌}
 use Rattle.rank_query.specs.FaultPlaces.{EndsTooEarly}
@@ -48,10 +50,12 @@ IsWordOf EmptyPeriod before w = EndsTooEarly (unnumbered before) w.1
 -- the fault is that of the first of the words that are left, whatever stands behind it; or none are left
 abbrev pub StopsAt : {C : Type 0} → Reading C → QueryFault → List Word → List Word → Type 0
 StopsAt read fault before [] = fault ≡ QueryEnds
-StopsAt read fault before (w ∷ behind) = IsWordOf fault before w × ((more : List Word) → read (before ++ w ∷ more) ≡ Err fault)
+StopsAt read fault before (w ∷ behind) =
+    IsWordOf fault before w × ((more : List Word) → read (before ++ w ∷ more) ≡ Err fault)
 
 -- before the fault the reading can go on
-pub record Stops (C : Type 0) (Good : C → Type 0) (read : Reading C) (fault : QueryFault) (ws : List Word) : Type 0 where
+pub record Stops (C : Type 0) (Good : C → Type 0) (read : Reading C) (fault : QueryFault)
+    (ws : List Word) : Type 0 where
   pub before : List Word
   pub left : List Word
   pub parts : ws ≡ before ++ left
@@ -64,7 +68,8 @@ pub record StopsFirst (C : Type 0) (Good : C → Type 0) (read : Reading C) : Ty
   pub stops : (ws : List Word) (fault : QueryFault) → read ws ≡ Err fault → Stops C Good read fault ws
 
 -- what was read is good, and the same whatever stands behind it
-pub record Takes (A : Type 0) (Good : A → Type 0) (read : Reading (A × List Word)) (ws : List Word) (r : A × List Word) : Type 0 where
+pub record Takes (A : Type 0) (Good : A → Type 0) (read : Reading (A × List Word)) (ws : List Word)
+    (r : A × List Word) : Type 0 where
   pub good : Good r.0
   pub taken : List Word
   pub parts : ws ≡ taken ++ r.1
@@ -84,12 +89,14 @@ pub record ReadsPart (A : Type 0) (Good : A → Type 0) (read : Reading (A × Li
   pub takes : TakesAll A Good read
 
 -- a fault of two steps is that of the first or of the second
-pub bind_err : {A B : Type 0} (r : Result A QueryFault) (f : A → Result B QueryFault) (fault : QueryFault) → (r >>= f) ≡ Err fault → (r ≡ Err fault) ⊎ ((x : A) × (r ≡ Ok x) × (f x ≡ Err fault))
+pub bind_err : {A B : Type 0} (r : Result A QueryFault) (f : A → Result B QueryFault) (fault : QueryFault)
+    → (r >>= f) ≡ Err fault → (r ≡ Err fault) ⊎ ((x : A) × (r ≡ Ok x) × (f x ≡ Err fault))
 bind_err (Ok x) f fault e = inr (x, refl, e)
 bind_err (Err d) f fault e = let same : d ≡ fault = cc in inl (ap Err same)
 
 -- the word of a fault is the same behind more words
-pub word_behind : (fault : QueryFault) (front before : List Word) (w : Word) → IsWordOf fault before w → IsWordOf fault (front ++ before) w
+pub word_behind : (fault : QueryFault) (front before : List Word) (w : Word) → IsWordOf fault before w
+    → IsWordOf fault (front ++ before) w
 word_behind QueryTooLong front before w is = is
 word_behind (UnexpectedWord n) front before w is = is
 word_behind QueryEnds front before w is = is
@@ -101,21 +108,28 @@ word_behind EmptyPeriod front before w is = record {
   first = is.first;
   last = is.last;
   are_days = is.are_days;
-  period = map-append (λ (w : Word). w.1) front before ∙ ap (λ words. unnumbered front ++ words) is.period ∙ sym (append_assoc (unnumbered front) is.earlier _);
+  period = map-append (λ (w : Word). w.1) front before ∙ ap (λ words. unnumbered front ++ words) is.period
+      ∙ sym (append_assoc (unnumbered front) is.earlier _);
   date = is.date;
   order = is.order;
 }
 
 -- where a reading behind some words is another one, it stops where that does
-stops_at_behind : {C : Type 0} (whole part : Reading C) (front : List Word) (fault : QueryFault) (before left : List Word)
-    → ((more : List Word) → whole (front ++ more) ≡ part more) → StopsAt part fault before left → StopsAt whole fault (front ++ before) left
+stops_at_behind : {C : Type 0} (whole part : Reading C) (front : List Word) (fault : QueryFault)
+    (before left : List Word)
+    → ((more : List Word) → whole (front ++ more) ≡ part more) → StopsAt part fault before left
+    → StopsAt whole fault (front ++ before) left
 stops_at_behind whole part front fault before [] same at = at
-stops_at_behind whole part front fault before (w ∷ behind) same at =
-    (word_behind fault front before w at.0, λ more. ap whole (append_assoc front before (w ∷ more)) ∙ same (before ++ w ∷ more) ∙ at.1 more)
+stops_at_behind whole part front fault before (w ∷ behind) same at = (
+  word_behind fault front before w at.0,
+  λ more. ap whole (append_assoc front before (w ∷ more))
+      ∙ same (before ++ w ∷ more) ∙ at.1 more,
+)
 
 -- and can go on behind them where it can
 pub stops_behind : {C : Type 0} (Good : C → Type 0) (whole part : Reading C) (front ws : List Word) (fault : QueryFault)
-    → ((more : List Word) → whole (front ++ more) ≡ part more) → Stops C Good part fault ws → Stops C Good whole fault (front ++ ws)
+    → ((more : List Word) → whole (front ++ more) ≡ part more) → Stops C Good part fault ws
+    → Stops C Good whole fault (front ++ ws)
 stops_behind Good whole part front ws fault same stops = record {
   before = front ++ stops.before;
   left = stops.left;
@@ -125,18 +139,22 @@ stops_behind Good whole part front ws fault same stops = record {
     clean = stops.on.clean;
     value = stops.on.value;
     good = stops.on.good;
-    reads = ap whole (append_assoc front stops.before stops.on.tail) ∙ same (stops.before ++ stops.on.tail) ∙ stops.on.reads;
+    reads = ap whole (append_assoc front stops.before stops.on.tail) ∙ same (stops.before ++ stops.on.tail)
+        ∙ stops.on.reads;
   };
   at = stops_at_behind whole part front fault stops.before stops.left same stops.at;
 }
 
 -- where a part can go on, and the next one as well, both can
-pub goes_on_then : {A C : Type 0} (GoodA : A → Type 0) (Good : C → Type 0) (read : Reading (A × List Word)) (onward : A → Reading C) (before : List Word)
-    → TakesAll A GoodA read → GoesOn (A × List Word) (Ended GoodA) (λ tail. read (before ++ tail)) → ((x : A) → GoodA x → GoesOn C Good (onward x)) → GoesOn C Good (λ tail. then read onward (before ++ tail))
+pub goes_on_then : {A C : Type 0} (GoodA : A → Type 0) (Good : C → Type 0) (read : Reading (A × List Word))
+    (onward : A → Reading C) (before : List Word)
+    → TakesAll A GoodA read → GoesOn (A × List Word) (Ended GoodA) (λ tail. read (before ++ tail))
+    → ((x : A) → GoodA x → GoesOn C Good (onward x)) → GoesOn C Good (λ tail. then read onward (before ++ tail))
 goes_on_then GoodA Good read onward before takes on next =
     let more = next on.value.0 on.good.0 in
     let took = takes (before ++ on.tail) on.value on.reads in
-    let same : before ++ on.tail ≡ took.taken = took.parts ∙ ap (λ left. took.taken ++ left) on.good.1 ∙ append-nil took.taken in
+    let same : before ++ on.tail ≡ took.taken = took.parts ∙ ap (λ left. took.taken ++ left) on.good.1
+    ∙ append-nil took.taken in
     record {
       tail = on.tail ++ more.tail;
       clean = blank_in_neither on.tail more.tail on.clean more.clean;
@@ -149,12 +167,14 @@ goes_on_then GoodA Good read onward before takes on next =
     }
 
 -- where a part stops, both stop
-stops_at_then : {A C : Type 0} (read : Reading (A × List Word)) (onward : A → Reading C) (fault : QueryFault) (before left : List Word) → StopsAt read fault before left → StopsAt (then read onward) fault before left
+stops_at_then : {A C : Type 0} (read : Reading (A × List Word)) (onward : A → Reading C) (fault : QueryFault)
+    (before left : List Word) → StopsAt read fault before left → StopsAt (then read onward) fault before left
 stops_at_then read onward fault before [] at = at
 stops_at_then read onward fault before (w ∷ behind) at = (at.0, λ more. ap (λ r. r >>= λ r. onward r.0 r.1) (at.1 more))
 
 -- the same of two parts
-pub first_then : {A C : Type 0} (GoodA : A → Type 0) (Good : C → Type 0) (read : Reading (A × List Word)) (onward : A → Reading C)
+pub first_then : {A C : Type 0} (GoodA : A → Type 0) (Good : C → Type 0) (read : Reading (A × List Word))
+    (onward : A → Reading C)
     → ReadsPart A GoodA read → ((x : A) → GoodA x → StopsFirst C Good (onward x)) → StopsFirst C Good (then read onward)
 first_then {A} {C} GoodA Good read onward part next = record {
   on = goes_on_then GoodA Good read onward [] part.takes part.first.on (λ x good. (next x good).on);
@@ -172,13 +192,16 @@ first_then {A} {C} GoodA Good read onward part next = record {
         let took = part.takes ws later.0 later.1 in
         let stops = (next later.0.0 took.good).stops later.0.1 fault later.2 in
         subst (Stops C Good (then read onward) fault) (sym took.parts)
-        (stops_behind Good (then read onward) (onward later.0.0) took.taken later.0.1 fault (λ more. ap (λ r. r >>= λ r. onward r.0 r.1) (took.again more)) stops)
+        (stops_behind Good (then read onward) (onward later.0.0) took.taken later.0.1 fault
+        (λ more. ap (λ r. r >>= λ r. onward r.0 r.1) (took.again more)) stops)
   ];
 }
 
 -- and takes what that takes, behind them
-pub takes_behind : {A : Type 0} (Good : A → Type 0) (whole part : Reading (A × List Word)) (front ws : List Word) (r : A × List Word)
-    → ((more : List Word) → whole (front ++ more) ≡ part more) → Takes A Good part ws r → Takes A Good whole (front ++ ws) r
+pub takes_behind : {A : Type 0} (Good : A → Type 0) (whole part : Reading (A × List Word)) (front ws : List Word)
+    (r : A × List Word)
+    → ((more : List Word) → whole (front ++ more) ≡ part more) → Takes A Good part ws r
+    → Takes A Good whole (front ++ ws) r
 takes_behind Good whole part front ws r same took = record {
   good = took.good;
   taken = front ++ took.taken;
@@ -187,7 +210,8 @@ takes_behind Good whole part front ws r same took = record {
 }
 
 -- two parts take the words of both
-pub takes_then : {A B : Type 0} (GoodA : A → Type 0) (GoodB : B → Type 0) (read : Reading (A × List Word)) (onward : A → Reading (B × List Word))
+pub takes_then : {A B : Type 0} (GoodA : A → Type 0) (GoodB : B → Type 0) (read : Reading (A × List Word))
+    (onward : A → Reading (B × List Word))
     → TakesAll A GoodA read → ((x : A) → GoodA x → TakesAll B GoodB (onward x)) → TakesAll B GoodB (then read onward)
 takes_then GoodA GoodB read onward takes next = λ ws r e.
     let both = bind_ok (read ws) (λ r. onward r.0 r.1) r e in
@@ -197,11 +221,13 @@ takes_then GoodA GoodB read onward takes next = λ ws r e.
       good = two.good;
       taken = one.taken ++ two.taken;
       parts = one.parts ∙ ap (λ left. one.taken ++ left) two.parts ∙ sym (append_assoc one.taken two.taken r.1);
-      again = λ more. ap (then read onward) (append_assoc one.taken two.taken more) ∙ ap (λ r. r >>= λ r. onward r.0 r.1) (one.again (two.taken ++ more)) ∙ two.again more;
+      again = λ more. ap (then read onward) (append_assoc one.taken two.taken more)
+          ∙ ap (λ r. r >>= λ r. onward r.0 r.1) (one.again (two.taken ++ more)) ∙ two.again more;
     }
 
 -- two parts are a part
-pub part_then : {A B : Type 0} (GoodA : A → Type 0) (GoodB : B → Type 0) (read : Reading (A × List Word)) (onward : A → Reading (B × List Word))
+pub part_then : {A B : Type 0} (GoodA : A → Type 0) (GoodB : B → Type 0) (read : Reading (A × List Word))
+    (onward : A → Reading (B × List Word))
     → ReadsPart A GoodA read → ((x : A) → GoodA x → ReadsPart B GoodB (onward x)) → ReadsPart B GoodB (then read onward)
 part_then GoodA GoodB read onward part next = record {
   first = first_then GoodA (Ended GoodB) read onward part (λ x good. (next x good).first);

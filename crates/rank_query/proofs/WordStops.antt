@@ -1,5 +1,6 @@
 -- Which words have no value, and some that have one.
-use Rattle.std.proofs.Common.{◌≡◌, ℕ, Bool, true, false, cond, ◌&&◌, List, [], Option, Some, None, Result, Ok, Err, codes, refl, ap, subst}
+use Rattle.std.proofs.Common.{◌≡◌, ℕ, Bool, true, false, cond, ◌&&◌, List, [], Option, Some, None, Result, Ok, Err}
+use Rattle.std.proofs.Common.{codes, refl, ap, subst}
 use Rattle.std.specs.Prelude.{ℤ, pos, neg_ℤ, int_le}
 use Rattle.ghcn_fields.specs.declared.field.Field.{Field}
 use Rattle.ghcn_fields.specs.declared.field.Field.TheVariants.{Blank, Number, Bad}
@@ -24,25 +25,31 @@ use Rattle.rank_query.proofs.Stops.{IsWordOf}
 use Rattle.rank_query.proofs.PartStops.{ReadsWord}
 
 -- a fault is told of the word that it is named by
-pub told : {A : Type 0} (named fault : QueryFault) (w : Word) → IsWordOf named [] w → ◌≡◌ {A = Result A QueryFault} (Err named) (Err fault) → IsWordOf fault [] w
+pub told : {A : Type 0} (named fault : QueryFault) (w : Word) → IsWordOf named [] w
+    → ◌≡◌ {A = Result A QueryFault} (Err named) (Err fault) → IsWordOf fault [] w
 told named fault w is e = let same : named ≡ fault = cc in subst (λ f. IsWordOf f [] w) same is
 
 -- also where a test fails
-test_told : {A : Type 0} (b : Bool) (x : A) (named fault : QueryFault) (w : Word) → IsWordOf named [] w → cond b (Ok x) (Err named) ≡ Err fault → IsWordOf fault [] w
+test_told : {A : Type 0} (b : Bool) (x : A) (named fault : QueryFault) (w : Word) → IsWordOf named [] w
+    → cond b (Ok x) (Err named) ≡ Err fault → IsWordOf fault [] w
 test_told true x named fault w is e = absurd cc
 test_told false x named fault w is e = told named fault w is e
 
 -- a word that is no number, or none within the limits
-number_told : (low high : ℕ) (o : Option ℕ) (w : Word) (fault : QueryFault) → (or_fault (UnexpectedWord w.0) o >>= λ m. cond (is_within low high m) (Ok m) (Err (OutOfLimits w.0))) ≡ Err fault → IsWordOf fault [] w
+number_told : (low high : ℕ) (o : Option ℕ) (w : Word) (fault : QueryFault)
+    → (or_fault (UnexpectedWord w.0) o >>= λ m. cond (is_within low high m) (Ok m) (Err (OutOfLimits w.0))) ≡ Err
+    fault → IsWordOf fault [] w
 number_told low high None w fault e = told (UnexpectedWord w.0) fault w refl e
 number_told low high (Some m) w fault e = test_told (is_within low high m) m (OutOfLimits w.0) fault w refl e
 
 -- numbers within limits, of which 1 is one
-pub reads_number : (low high : ℕ) → number low high (0, codes "1") ≡ Ok 1 → ReadsWord ℕ (λ n. is_within low high n ≡ true) (number low high)
+pub reads_number : (low high : ℕ) → number low high (0, codes "1") ≡ Ok 1
+    → ReadsWord ℕ (λ n. is_within low high n ≡ true) (number low high)
 unfolding number
 reads_number low high one = record {
   good = λ w n e.
-      let value = bind_ok (or_fault (UnexpectedWord w.0) (natural w.1)) (λ m. cond (is_within low high m) (Ok m) (Err (OutOfLimits w.0))) n e in
+      let value = bind_ok (or_fault (UnexpectedWord w.0) (natural w.1))
+      (λ m. cond (is_within low high m) (Ok m) (Err (OutOfLimits w.0))) n e in
       let test = test_ok (is_within low high value.0) value.0 n (OutOfLimits w.0) value.2 in
       subst (λ n. is_within low high n ≡ true) test.1 test.0;
   told = λ w fault e. number_told low high (natural w.1) w fault e;
@@ -53,16 +60,20 @@ reads_number low high one = record {
 }
 
 -- a word that is no element, or none that is allowed
-element_told : (allows : Element → Bool) (o : Option Element) (w : Word) (fault : QueryFault) → (or_fault (UnexpectedWord w.0) o >>= λ x. cond (allows x) (Ok x) (Err (UnexpectedWord w.0))) ≡ Err fault → IsWordOf fault [] w
+element_told : (allows : Element → Bool) (o : Option Element) (w : Word) (fault : QueryFault)
+    → (or_fault (UnexpectedWord w.0) o >>= λ x. cond (allows x) (Ok x) (Err (UnexpectedWord w.0))) ≡ Err fault
+    → IsWordOf fault [] w
 element_told allows None w fault e = told (UnexpectedWord w.0) fault w refl e
 element_told allows (Some x) w fault e = test_told (allows x) x (UnexpectedWord w.0) fault w refl e
 
 -- elements that a test allows, of which there is one
-pub reads_element : (allows : Element → Bool) (one : Element) → allows one ≡ true → HasNoBlank (code_of one) → ReadsWord Element (λ e. allows e ≡ true) (element allows)
+pub reads_element : (allows : Element → Bool) (one : Element) → allows one ≡ true → HasNoBlank (code_of one)
+    → ReadsWord Element (λ e. allows e ≡ true) (element allows)
 unfolding element
 reads_element allows one allowed clean = record {
   good = λ w x e.
-      let value = bind_ok (or_fault (UnexpectedWord w.0) (element_of w.1)) (λ x. cond (allows x) (Ok x) (Err (UnexpectedWord w.0))) x e in
+      let value = bind_ok (or_fault (UnexpectedWord w.0) (element_of w.1))
+      (λ x. cond (allows x) (Ok x) (Err (UnexpectedWord w.0))) x e in
       let test = test_ok (allows value.0) value.0 x (UnexpectedWord w.0) value.2 in
       subst (λ x. allows x ≡ true) test.1 test.0;
   told = λ w fault e. element_told allows (element_of w.1) w fault e;
@@ -73,7 +84,8 @@ reads_element allows one allowed clean = record {
 }
 
 -- a field that is a number within limits lies within them
-field_within : (low high z : ℤ) (f : Field) (at : ℕ) → cond (is_number_within low high f) (Ok (number_of f)) (Err (BadBox at)) ≡ Ok z → (int_le low z && int_le z high) ≡ true
+field_within : (low high z : ℤ) (f : Field) (at : ℕ) → cond (is_number_within low high f) (Ok (number_of f))
+    (Err (BadBox at)) ≡ Ok z → (int_le low z && int_le z high) ≡ true
 field_within low high z Blank at e = absurd cc
 field_within low high z (Number n) at e =
     let test = test_ok (int_le low n && int_le n high) n z (BadBox at) e in
@@ -81,11 +93,13 @@ field_within low high z (Number n) at e =
 field_within low high z Bad at e = absurd cc
 
 -- degrees within limits, of which some word writes one
-pub reads_degrees : (low high : ℤ) (sample : List ℕ) (z : ℤ) → HasNoBlank sample → degrees low high (0, sample) ≡ Ok z → ReadsWord ℤ (λ z. (int_le low z && int_le z high) ≡ true) (degrees low high)
+pub reads_degrees : (low high : ℤ) (sample : List ℕ) (z : ℤ) → HasNoBlank sample → degrees low high (0, sample) ≡ Ok z
+    → ReadsWord ℤ (λ z. (int_le low z && int_le z high) ≡ true) (degrees low high)
 unfolding degrees
 reads_degrees low high sample z clean e = record {
   good = λ w z e. field_within low high z (scaled_field 4 w.1) w.0 e;
-  told = λ w fault e. test_told (is_number_within low high (scaled_field 4 w.1)) (number_of (scaled_field 4 w.1)) (BadBox w.0) fault w refl e;
+  told = λ w fault e. test_told (is_number_within low high (scaled_field 4 w.1)) (number_of (scaled_field 4 w.1))
+      (BadBox w.0) fault w refl e;
   sample = sample;
   clean = clean;
   it = z;
@@ -98,7 +112,8 @@ unfolding degrees
 pole south below = ap (λ b. cond (b && true) (Ok (pos 900_000)) (Err (BadBox 0))) below
 
 -- latitudes from a southernmost one
-pub reads_latitude : (south : ℤ) → int_le south (pos 900_000) ≡ true → ReadsWord ℤ (λ z. (int_le south z && int_le z (pos 900_000)) ≡ true) (latitude_from south)
+pub reads_latitude : (south : ℤ) → int_le south (pos 900_000) ≡ true
+    → ReadsWord ℤ (λ z. (int_le south z && int_le z (pos 900_000)) ≡ true) (latitude_from south)
 reads_latitude south below = reads_degrees south (pos 900_000) (codes "90") (pos 900_000) refl (pole south below)
 
 -- longitudes
@@ -107,10 +122,12 @@ unfolding degrees
 reads_longitude = reads_degrees (neg_ℤ (pos 1_800_000)) (pos 1_800_000) (codes "0") (pos 0) refl refl
 
 -- codes of some length, of which there is one
-pub reads_code : (len : ℕ) (one : List ℕ) → is_code len one ≡ true → HasNoBlank one → ReadsWord (List ℕ) (λ c. is_code len c ≡ true) (code len)
+pub reads_code : (len : ℕ) (one : List ℕ) → is_code len one ≡ true → HasNoBlank one
+    → ReadsWord (List ℕ) (λ c. is_code len c ≡ true) (code len)
 unfolding code
 reads_code len one is clean = record {
-  good = λ w c e. let test = test_ok (is_code len w.1) w.1 c (UnexpectedWord w.0) e in subst (λ c. is_code len c ≡ true) test.1 test.0;
+  good = λ w c e. let test = test_ok (is_code len w.1) w.1 c (UnexpectedWord w.0) e in subst
+      (λ c. is_code len c ≡ true) test.1 test.0;
   told = λ w fault e. test_told (is_code len w.1) w.1 (UnexpectedWord w.0) fault w refl e;
   sample = one;
   clean = clean;

@@ -1,5 +1,6 @@
 -- What a single word is read as spells it, and what spells a value is read as it.
-use Rattle.std.proofs.Common.{◌≡◌, ℕ, zero, suc, Bool, true, false, cond, ◌&&◌, List, [], ◌∷◌, ◌++◌, replicate, Some, None, Ok, Err, refl, sym, ap, ◌∙◌, subst, FitsSigned, w32, arith}
+use Rattle.std.proofs.Common.{◌≡◌, ℕ, zero, suc, Bool, true, false, cond, ◌&&◌, List, [], ◌∷◌, ◌++◌, replicate, Some}
+use Rattle.std.proofs.Common.{None, Ok, Err, refl, sym, ap, ◌∙◌, subst, FitsSigned, w32, arith}
 use Rattle.std.specs.Prelude.{ℤ, int_le}
 use Rattle.std.specs.List.{find, list_all}
 use Rattle.std.specs.Char.{is_ascii_digit}
@@ -45,19 +46,23 @@ numeral_natural (d ∷ ds) n numeral =
 pub number_numeral : (low high : ℕ) (w : Word) (n : ℕ) → number low high w ≡ Ok n → IsNumeralOf w.1 n
 unfolding number
 number_numeral low high w n e =
-    let value = bind_ok (or_fault (UnexpectedWord w.0) (natural w.1)) (λ m. cond (is_within low high m) (Ok m) (Err (OutOfLimits w.0))) n e in
+    let value = bind_ok (or_fault (UnexpectedWord w.0) (natural w.1))
+    (λ m. cond (is_within low high m) (Ok m) (Err (OutOfLimits w.0))) n e in
     let test = test_ok (is_within low high value.0) value.0 n (OutOfLimits w.0) value.2 in
     natural_numeral w.1 n (or_fault_ok (UnexpectedWord w.0) (natural w.1) value.0 value.1 ∙ ap Some test.1)
 
 -- a numeral of a number within the limits is read as it
-pub numeral_number : (low high n at : ℕ) (digits : List ℕ) → is_within low high n ≡ true → IsNumeralOf digits n → number low high (at, digits) ≡ Ok n
+pub numeral_number : (low high n at : ℕ) (digits : List ℕ) → is_within low high n ≡ true → IsNumeralOf digits n
+    → number low high (at, digits) ≡ Ok n
 unfolding number
 numeral_number low high n at digits inside numeral =
-    ap (λ o. or_fault (UnexpectedWord at) o >>= λ m. cond (is_within low high m) (Ok m) (Err (OutOfLimits at))) (numeral_natural digits n numeral)
+    ap (λ o. or_fault (UnexpectedWord at) o >>= λ m. cond (is_within low high m) (Ok m) (Err (OutOfLimits at)))
+    (numeral_natural digits n numeral)
     ∙ ap (λ b. cond b (Ok n) (Err (OutOfLimits at))) inside
 
 -- the first of two elements passes, or what is found among the others does
-first_passes : {A : Type 0} (b : Bool) (p : A → Bool) (ys : List A) (x y : A) → p y ≡ b → cond b (Some y) (find p ys) ≡ Some x → (find p ys ≡ Some x → p x ≡ true) → p x ≡ true
+first_passes : {A : Type 0} (b : Bool) (p : A → Bool) (ys : List A) (x y : A) → p y ≡ b
+    → cond b (Some y) (find p ys) ≡ Some x → (find p ys ≡ Some x → p x ≡ true) → p x ≡ true
 first_passes true p ys x y e found more = let same : y ≡ x = cc in ap p (sym same) ∙ e
 first_passes false p ys x y e found more = more found
 
@@ -70,9 +75,11 @@ found_passes p (y ∷ ys) x e = first_passes (p y) p ys x y refl e (λ more. fou
 pub element_code : (allows : Element → Bool) (w : Word) (e : Element) → element allows w ≡ Ok e → w.1 ≡ code_of e
 unfolding element
 element_code allows w e read =
-    let value = bind_ok (or_fault (UnexpectedWord w.0) (element_of w.1)) (λ x. cond (allows x) (Ok x) (Err (UnexpectedWord w.0))) e read in
+    let value = bind_ok (or_fault (UnexpectedWord w.0) (element_of w.1))
+    (λ x. cond (allows x) (Ok x) (Err (UnexpectedWord w.0))) e read in
     let test = test_ok (allows value.0) value.0 e (UnexpectedWord w.0) value.2 in
-    let found : element_of w.1 ≡ Some e = or_fault_ok (UnexpectedWord w.0) (element_of w.1) value.0 value.1 ∙ ap Some test.1 in
+    let found : element_of w.1 ≡ Some e = or_fault_ok (UnexpectedWord w.0) (element_of w.1) value.0 value.1
+    ∙ ap Some test.1 in
     sym ((bytes_decides (code_of e) w.1).0 (found_passes (λ e. same_bytes (code_of e) w.1) elements e found))
 
 -- an element is found by its code
@@ -84,7 +91,8 @@ code_found Tmax = refl
 code_found Tmin = refl
 
 -- the code of an element that is allowed is read as it
-pub code_element : (allows : Element → Bool) (e : Element) (at : ℕ) → allows e ≡ true → element allows (at, code_of e) ≡ Ok e
+pub code_element : (allows : Element → Bool) (e : Element) (at : ℕ) → allows e ≡ true
+    → element allows (at, code_of e) ≡ Ok e
 unfolding element
 code_element allows e at allowed =
     ap (λ o. or_fault (UnexpectedWord at) o >>= λ x. cond (allows x) (Ok x) (Err (UnexpectedWord at))) (code_found e)
@@ -93,10 +101,12 @@ code_element allows e at allowed =
 -- a text that begins with no blank is no longer than what stands behind its blanks
 no_blanks : (n : ℕ) (word text : List ℕ) → word ≡ replicate n 32 ++ text → HasNoBlank word → text ≡ word
 no_blanks zero word text parts clean = sym parts
-no_blanks (suc n) word text parts clean = let blank : false ≡ true = sym (ap (list_all stands_in_word) parts) ∙ clean in absurd cc
+no_blanks (suc n) word text parts clean =
+    let blank : false ≡ true = sym (ap (list_all stands_in_word) parts) ∙ clean in absurd cc
 
 -- a field that has a number within limits is that number
-field_number : (low high z : ℤ) (f : Field) (at : ℕ) → cond (is_number_within low high f) (Ok (number_of f)) (Err (BadBox at)) ≡ Ok z → f ≡ Number z
+field_number : (low high z : ℤ) (f : Field) (at : ℕ) → cond (is_number_within low high f) (Ok (number_of f))
+    (Err (BadBox at)) ≡ Ok z → f ≡ Number z
 field_number low high z Blank at e = cc
 field_number low high z (Number n) at e = ap Number (test_ok (int_le low n && int_le n high) n z (BadBox at) e).1
 field_number low high z Bad at e = cc
@@ -109,10 +119,12 @@ degrees_spelt low high w z clean e =
     subst (λ (text : List ℕ). Spells 4 text z) (no_blanks has.blanks w.1 has.text has.parts clean) has.spells
 
 -- what spells degrees within the limits is read as them
-pub spelt_degrees : (low high z : ℤ) (at : ℕ) (text : List ℕ) → (int_le low z && int_le z high) ≡ true → FitsSigned w32 z → Spells 4 text z → degrees low high (at, text) ≡ Ok z
+pub spelt_degrees : (low high z : ℤ) (at : ℕ) (text : List ℕ) → (int_le low z && int_le z high) ≡ true
+    → FitsSigned w32 z → Spells 4 text z → degrees low high (at, text) ≡ Ok z
 unfolding degrees
 spelt_degrees low high z at text inside fits spells =
-    let field : scaled_field 4 text ≡ Number z = (scaled_field-number 4 text z).1 (record { blanks = 0; text = text; parts = refl; spells = spells }, fits) in
+    let field : scaled_field 4 text ≡ Number z = (scaled_field-number 4 text z).1
+    (record { blanks = 0; text = text; parts = refl; spells = spells }, fits) in
     ap (λ (f : Field). cond (is_number_within low high f) (Ok (number_of f)) (Err (BadBox at))) field
     ∙ ap (λ b. cond b (Ok z) (Err (BadBox at))) inside
 

@@ -10,12 +10,14 @@ use Rattle.rank_query.specs.Asked.{Asked}
 
 -- a longitude from the western to the eastern edge, over the date line where the western one is greater
 abbrev pub is_between_edges : ℤ → ℤ → ℤ → Bool
-is_between_edges west east z = if int_le west east then int_le west z && int_le z east else int_le west z || int_le z east
+is_between_edges west east z =
+    if int_le west east then int_le west z && int_le z east else int_le west z || int_le z east
 
 -- the region holds the station
 abbrev pub region_holds : Region → Station → Bool
 region_holds Everywhere s = true
-region_holds (Inside south west north east) s = int_le south s.latitude && int_le s.latitude north && is_between_edges west east s.longitude
+region_holds (Inside south west north east) s =
+    int_le south s.latitude && int_le s.latitude north && is_between_edges west east s.longitude
 region_holds (Country code) s = same_bytes (take 2 s.id.0) code
 region_holds (State code) s = same_bytes s.state code
 region_holds (Only id) s = same_id s.id id

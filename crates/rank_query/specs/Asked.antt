@@ -1,5 +1,6 @@
 -- What a query asks.
-use Rattle.std.specs.Prelude.{ℕ, Bool, true, false, ◌&&◌, ◌==◌, List, length, Option, None, Some, ℤ, pos, neg_ℤ, int_le, IsTrue}
+use Rattle.std.specs.Prelude.{ℕ, Bool, true, false, ◌&&◌, ◌==◌, List, length, Option, None, Some, ℤ, pos, neg_ℤ}
+use Rattle.std.specs.Prelude.{int_le, IsTrue}
 use Rattle.std.specs.List.{list_all}
 use Rattle.ghcn_fields.specs.Days.{is_within, is_day}
 use Rattle.ghcn_files.specs.declared.element.Element.{Element}
@@ -61,7 +62,8 @@ is_code len bytes = (length bytes == len) && list_all is_visible bytes
 abbrev pub is_region : Region → Bool
 is_region Everywhere = true
 is_region (Inside south west north east) =
-    int_le (neg_ℤ (pos 900_000)) south && int_le south north && int_le north (pos 900_000) && is_longitude west && is_longitude east
+    int_le (neg_ℤ (pos 900_000)) south && int_le south north && int_le north
+    (pos 900_000) && is_longitude west && is_longitude east
 is_region (Country code) = is_code 2 code
 is_region (State code) = is_code 2 code
 is_region (Only id) = is_id id.0

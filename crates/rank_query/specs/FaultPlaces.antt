@@ -3,7 +3,8 @@ use Rattle.std.specs.Prelude.{◌≡◌, ℕ, ◌+◌, ◌<◌, ◌≤◌, ◌�
 use Rattle.ghcn_fields.specs.Days.{is_day}
 use Rattle.ghcn_fields.specs.Dates.{date_text}
 use Rattle.rank_query.specs.declared.fault.QueryFault.{QueryFault}
-use Rattle.rank_query.specs.declared.fault.QueryFault.TheVariants.{QueryTooLong, UnexpectedWord, QueryEnds, OutOfLimits, BadDate, BadBox, EmptyPeriod}
+use Rattle.rank_query.specs.declared.fault.QueryFault.TheVariants.{QueryTooLong, UnexpectedWord, QueryEnds}
+use Rattle.rank_query.specs.declared.fault.QueryFault.TheVariants.{OutOfLimits, BadDate, BadBox, EmptyPeriod}
 use Rattle.rank_query.specs.Asked.{Asked, IsAsked}
 use Rattle.rank_query.specs.Words.{words_of}
 use Rattle.rank_query.specs.Spelling.{SpellsQuery}
@@ -48,8 +49,10 @@ StandsAmong ws QueryEnds = BeginQuery ws × SpellNone ws
 StandsAmong ws (OutOfLimits n) = IsFirstWrongAt ws n
 StandsAmong ws (BadDate n) = IsFirstWrongAt ws n
 StandsAmong ws (BadBox n) = IsFirstWrongAt ws n
-StandsAmong ws EmptyPeriod = (before : List (List ℕ)) × (word : List ℕ) × IsFirstWrong ws before word × EndsTooEarly before word
+StandsAmong ws EmptyPeriod =
+    (before : List (List ℕ)) × (word : List ℕ) × IsFirstWrong ws before word × EndsTooEarly before word
 
 -- a text of more than 256 bytes is too long, and the fault of any other stands among its words
 abbrev pub StandsIn : List ℕ → QueryFault → Type 0
-StandsIn text fault = ((256 < length text) × (fault ≡ QueryTooLong)) ⊎ ((length text ≤ 256) × StandsAmong (words_of text) fault)
+StandsIn text fault =
+    ((256 < length text) × (fault ≡ QueryTooLong)) ⊎ ((length text ≤ 256) × StandsAmong (words_of text) fault)

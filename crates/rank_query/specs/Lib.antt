@@ -8,3 +8,5 @@ pub mod WordValues
 pub mod Reading
 pub mod Spelling
 pub mod FaultPlaces
+pub mod FaultKinds
+pub mod Laws

@@ -22,7 +22,8 @@ score_words Wet = codes "wet" ∷ []
 -- the words of a region
 abbrev pub region_words : Region → List (List ℕ)
 region_words Everywhere = []
-region_words (Inside south west north east) = codes "box" ∷ four_places south ∷ four_places west ∷ four_places north ∷ four_places east ∷ []
+region_words (Inside south west north east) =
+    codes "box" ∷ four_places south ∷ four_places west ∷ four_places north ∷ four_places east ∷ []
 region_words (Country code) = codes "country" ∷ code ∷ []
 region_words (State code) = codes "state" ∷ code ∷ []
 region_words (Only id) = codes "station" ∷ id.0 ∷ []

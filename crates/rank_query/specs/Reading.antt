@@ -1,5 +1,6 @@
 -- Reading a query text from left to right, with the first fault that is met.
-use Rattle.std.specs.Prelude.{ℕ, true, nat_lt, if◌then◌else◌, List, [], ◌∷◌, length, codes, Option, None, Some, Result, Ok, Err, ℤ, pos, neg_ℤ, int_le}
+use Rattle.std.specs.Prelude.{ℕ, true, nat_lt, if◌then◌else◌, List, [], ◌∷◌, length, codes, Option, None, Some}
+use Rattle.std.specs.Prelude.{Result, Ok, Err, ℤ, pos, neg_ℤ, int_le}
 use Rattle.rank_query.specs.declared.score.Score.{Score}
 use Rattle.rank_query.specs.declared.score.Score.TheVariants.{Highest, Lowest, Sum, Dry, Wet}
 use Rattle.rank_query.specs.declared.region.Region.{Region}
@@ -43,7 +44,8 @@ wet_at ws = Ok (Wet, ws)
 -- a score, by its first word
 unfoldable pub score_at : List Word → Read Score
 score_at ws =
-    by_word ((codes "highest", highest_at) ∷ (codes "lowest", lowest_at) ∷ (codes "sum", sum_at) ∷ (codes "dry", dry_at) ∷ (codes "wet", wet_at) ∷ []) no_score_at ws
+    by_word ((codes "highest", highest_at) ∷ (codes "lowest", lowest_at) ∷ (codes "sum", sum_at) ∷
+    (codes "dry", dry_at) ∷ (codes "wet", wet_at) ∷ []) no_score_at ws
 
 -- degrees of latitude, from a southernmost one to the north pole
 abbrev pub latitude_from : ℤ → Word → Result ℤ QueryFault
@@ -81,7 +83,8 @@ everywhere_at ws = Ok (Everywhere, ws)
 -- a region, by its first word, and without one all stations
 unfoldable pub region_at : List Word → Read Region
 region_at ws =
-    by_word ((codes "box", box_at) ∷ (codes "country", country_at) ∷ (codes "state", state_at) ∷ (codes "station", station_at) ∷ []) everywhere_at ws
+    by_word ((codes "box", box_at) ∷ (codes "country", country_at) ∷ (codes "state", state_at) ∷
+    (codes "station", station_at) ∷ []) everywhere_at ws
 
 -- the first and the last day of a period, which isn't before the first
 unfoldable pub days_at : List Word → Read (ℤ × ℤ)

@@ -11,7 +11,8 @@ is_separator b = b == blank_byte
 abbrev pub is_word : List ℕ → Bool
 is_word part = not (length part == 0)
 
--- the words of a text: the longest runs of bytes other than blanks, which are the parts between blanks that aren't empty
+-- the words of a text: the longest runs of bytes other than blanks,
+-- which are the parts between blanks that aren't empty
 abbrev pub words_of : List ℕ → List (List ℕ)
 words_of text = filter is_word (slice_split is_separator text)
 

@@ -5,6 +5,7 @@
 #![tactic(auto)]
 
 mod fault;
+mod laws;
 mod parse;
 mod query;
 mod region;
@@ -14,6 +15,7 @@ mod values;
 mod words;
 
 pub use fault::QueryFault;
+pub use laws::queries_have_texts;
 pub use query::Query;
 pub use region::Region;
 pub use score::Score;

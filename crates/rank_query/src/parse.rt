@@ -4,9 +4,11 @@ ghost use Rattle.std.specs.Prelude.{◌≡◌, ◌≤◌, length, Some, IfOk, If
 ghost use Rattle.rank_query.specs.Asked.{Asked, IsAsked, is_score, is_region, is_period};
 ghost use Rattle.rank_query.specs.QueryTexts.{query_text};
 ghost use Rattle.rank_query.specs.Spelling.{IsSpelling};
+ghost use Rattle.rank_query.specs.FaultKinds.{IsFaultAmong};
 ghost use Rattle.rank_query.specs.FaultPlaces.{StandsIn};
 ghost use Rattle.rank_query.specs.Readers.{Gives};
 ghost use Rattle.rank_query.specs.Reading as reading;
+ghost use Rattle.rank_query.specs.Words.{words_of};
 
 use crate::values::{code, date, degrees, element, fall, keyword, needed, number, temperature};
 use crate::words::Words;
@@ -34,8 +36,8 @@ impl Query {
     pub fn parse(text: &str) -> Result<Query, QueryFault>
         // Which query it is, or which fault.
         ensures read { result ≡ reading.read_query text.now }
-        // What is read as a query spells it.
-        ensures spelt { IfOk result (λ q. IsSpelling text.now q) }
+        // What is read as a query can be asked, and the text spells it.
+        ensures spelt { IfOk result (λ q. IsAsked q × IsSpelling text.now q) }
         // What spells a query is read as it.
         ensures only { (q : Asked) → IsAsked q → IsSpelling text.now q → length text.now ≤ 256
             → result ≡ Ok q }
@@ -43,6 +45,8 @@ impl Query {
         ensures canonical { (q : Asked) → IsAsked q → text.now ≡ query_text q → result ≡ Ok q }
         // A fault stands at the first word with which no query goes on.
         ensures fault { IfErr result (λ fault. StandsIn text.now fault) }
+        // Which fault it is follows from what the grammar has at the word's place.
+        ensures kind { IfErr result (λ fault. IsFaultAmong fault (words_of text.now)) }
     {
         query_of_text(text)
     }

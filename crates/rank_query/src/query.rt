@@ -63,7 +63,8 @@ impl Query {
 
     /// The element that the score is about.
     pub fn element(&self) -> Element
-        ensures { result ≡ score_element self.now.score }
+        ensures element { result ≡ score_element self.now.score }
+        ensures asked { IsAsked self.now }
     {
         match self.score {
             Score::Highest(element) => element,

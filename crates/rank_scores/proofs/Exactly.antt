@@ -87,7 +87,7 @@ made_stands f day v c e (x ∷ xs) h =
       | false ↦ λ is found. contains-more (f x) (filter_map f xs) c (made_stands f day v c e xs found)
     ] refl h
 
-module _ (q : Asked) (s : Usable) (asked : IsAsked q) (series : IsSeries s) where
+module _ (q : Asked) (s : Usable) (series : IsSeries s) where
   -- the admitted days of a series rise
   admitted_rise : Rise (admitted q s)
   admitted_rise = rise-filter (λ x. admits_day q x.0) s.days (rise-from_by_day s.days series.by_day)
@@ -95,6 +95,16 @@ module _ (q : Asked) (s : Usable) (asked : IsAsked q) (series : IsSeries s) wher
   -- the candidate that begins on a day of the series, if one does
   abbrev from : DayValue → Option Candidate
   from x = from_day q s.id (shape q.score) s.days x
+
+  -- the candidates rise by first day
+  pub rise : RiseByFirstDay (candidates q s)
+  rise =
+      firsts_rise from (λ x c e. (made s.id x.0 (begun (shape q.score) (admitted q s) x) c e).1)
+      (admitted q s) admitted_rise
+
+  -- no two of them begin on one day
+  pub apart : AreApart (candidates q s)
+  apart = apart-from_rise (candidates q s) rise
 
   -- each that is listed is a candidate
   listed-is : (c : Candidate) → Contains (candidates q s) c → IsCandidateOf q s c
@@ -104,26 +114,21 @@ module _ (q : Asked) (s : Usable) (asked : IsAsked q) (series : IsSeries s) wher
       (all_made from (λ x. value_on (admitted q s) x.0 ≡ Some x.1) (IsCandidateOf q s)
       (λ x d stands e.
       let is = made s.id x.0 (begun (shape q.score) (admitted q s) x) d e in
-      (is.0, subst (λ (z : ℤ). IsCandidate (shape q.score) (admitted q s) z d.last d.score) (sym is.1) (begun-IsCandidate q s.days (shape q.score) x d.last d.score stands is.2)))
+      (is.0, subst (λ (z : ℤ). IsCandidate (shape q.score) (admitted q s) z d.last d.score) (sym is.1)
+      (begun-IsCandidate q s.days (shape q.score) x d.last d.score stands is.2)))
       (admitted q s) (values_stand (admitted q s) admitted_rise)))
       h
 
   -- each candidate is listed
-  is-listed : (c : Candidate) → IsCandidateOf q s c → Contains (candidates q s) c
-  is-listed c is =
-      let begins = begins-from_IsCandidate q s.days (shape q.score) c.first c.last c.score (asked-HasDay q.score asked.score) is.1 in
+  is-listed : IsAsked q → (c : Candidate) → IsCandidateOf q s c → Contains (candidates q s) c
+  is-listed asked c is =
+      let has_day = asked-HasDay q.score asked.score in
+      let begins = begins-from_IsCandidate q s.days (shape q.score) c.first c.last c.score has_day is.1 in
       let made_here : from (c.first, begins.0) ≡ Some c =
-      ap (option_map (candidate s.id c.first)) begins.2 ∙ ap (λ (i : StationId). Some (candidate i c.first (c.last, c.score))) (sym is.0) in
+      ap (option_map (candidate s.id c.first)) begins.2
+      ∙ ap (λ (i : StationId). Some (candidate i c.first (c.last, c.score))) (sym is.0) in
       made_stands from c.first begins.0 c made_here (admitted q s) begins.1
 
   -- the candidates are exactly those with the property
-  pub exactly : AreTheCandidates q s (candidates q s)
-  exactly = λ c. (listed-is c, is-listed c)
-
-  -- the candidates rise by first day
-  pub rise : RiseByFirstDay (candidates q s)
-  rise = firsts_rise from (λ x c e. (made s.id x.0 (begun (shape q.score) (admitted q s) x) c e).1) (admitted q s) admitted_rise
-
-  -- no two of them begin on one day
-  pub apart : AreApart (candidates q s)
-  apart = apart-from_rise (candidates q s) rise
+  pub exactly : IsAsked q → AreTheCandidates q s (candidates q s)
+  exactly asked = λ c. (listed-is c, is-listed asked c)

@@ -10,3 +10,4 @@ pub mod Rising
 pub mod Complete
 pub mod Exactly
 pub mod Examples
+pub mod QueryCandidates

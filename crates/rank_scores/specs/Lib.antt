@@ -4,3 +4,4 @@ pub mod Candidates
 pub mod Spells
 pub mod Order
 pub mod Morsels
+pub mod QueryCandidates

@@ -1,5 +1,5 @@
 -- The order of candidates, and the best of some.
-use Rattle.std.specs.Prelude.{ℕ, zero, suc, Bool, ◌&&◌, ◌==◌, List, Option, None, ℤ}
+use Rattle.std.specs.Prelude.{ℕ, zero, suc, Bool, false, ◌&&◌, ◌==◌, List, Option, None, Some, ℤ, int_lt}
 use Rattle.std.specs.List.{count_by, find, filter_map, range_with_len, IsDistinct}
 use Rattle.std.specs.Option.{option_map}
 use Rattle.std.specs.declared.cmp.Ordering.{Ordering}
@@ -36,6 +36,11 @@ best k all = filter_map (of_rank all) (range_with_len 0 k)
 abbrev pub kth_score : ℕ → List Candidate → Option ℤ
 kth_score zero all = None
 kth_score (suc rank) all = option_map (λ c. c.score) (of_rank all rank)
+
+-- there is a score, and the number is strictly below it
+abbrev pub is_below : Option ℤ → ℤ → Bool
+is_below None b = false
+is_below (Some score) b = int_lt b score
 
 -- two candidates are of one station and begin on one day
 abbrev pub begin_alike : Candidate → Candidate → Bool

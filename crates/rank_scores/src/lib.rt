@@ -8,6 +8,7 @@ mod admitted;
 mod ahead;
 mod best;
 mod candidate;
+mod laws;
 mod scans;
 mod sink;
 mod spell;
@@ -17,6 +18,7 @@ mod window;
 
 pub use best::best_first;
 pub use candidate::{Candidate, precedes};
+pub use laws::candidates_of_queries;
 pub use scans::scan;
 pub use sink::Sink;
 pub use spell::Spell;

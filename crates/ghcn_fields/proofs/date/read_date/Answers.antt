@@ -1,8 +1,12 @@
 use Rattle.std.proofs.Common.{◌≡◌, ℕ, List, length, take, drop, Some, sym, ◌∙◌, arith, rules}
 use Rattle.ghcn_fields.specs.Numbers.{natural}
 use Rattle.ghcn_fields.proofs.DateTexts.{read_date-parts, written_by}
-use Rattle.ghcn_fields.proofs.DateForms.{other_length, no_first_dash, no_second_dash, no_year, no_month, no_day, year_digits, month_digits, day_digits, month-lt, day-lt}
-use Rattle.ghcn_fields.proofs.date.read_date.Goals.{in_default-via-then-text-lt10, in_default-via-else-text-lt10+then-text-lt11+in-45+in_default-1, in_default-via-else-text-lt10+then-text-lt11+in_default-1, in_default-via-else-text-lt10+else-text-lt11}
+use Rattle.ghcn_fields.proofs.DateForms.{other_length, no_first_dash, no_second_dash, no_year, no_month, no_day}
+use Rattle.ghcn_fields.proofs.DateForms.{year_digits, month_digits, day_digits, month-lt, day-lt}
+use Rattle.ghcn_fields.proofs.date.read_date.Goals.{in_default-via-then-text-lt10}
+use Rattle.ghcn_fields.proofs.date.read_date.Goals.{in_default-via-else-text-lt10+then-text-lt11+in-45+in_default-1}
+use Rattle.ghcn_fields.proofs.date.read_date.Goals.{in_default-via-else-text-lt10+then-text-lt11+in_default-1}
+use Rattle.ghcn_fields.proofs.date.read_date.Goals.{in_default-via-else-text-lt10+else-text-lt11}
 use Rattle.ghcn_fields.proofs.date.read_date.Goals as goal
 
 -- a text of another form is no date
@@ -10,11 +14,13 @@ pub returns-in_default-clause-value : goal.returns-in_default-clause-value
 returns-in_default-clause-value c =
     elim c.in_default.branch [
       | in_default-via-then-text-lt10 w ↦ sym (other_length c.args.text.now (search rules))
-      | in_default-via-else-text-lt10+then-text-lt11+in-45+in_default-1 w ↦ sym (no_second_dash c.args.text.now (search rules))
+      | in_default-via-else-text-lt10+then-text-lt11+in-45+in_default-1 w ↦
+          sym (no_second_dash c.args.text.now (search rules))
       | in_default-via-else-text-lt10+then-text-lt11+in_default-1 w ↦ sym (no_first_dash c.args.text.now (search rules))
       | in_default-via-else-text-lt10+else-text-lt11 w ↦ sym (other_length c.args.text.now (search rules))
     ]
 
+-- nor what is written for a day
 pub returns-in_default-clause-written : goal.returns-in_default-clause-written
 returns-in_default-clause-written c = written_by c.args.text.now _ (returns-in_default-clause-value c)
 
@@ -24,43 +30,58 @@ returns-in_err-year-clause-value c =
     let none = sym (year_digits c.args.text.now (omega arith)) ∙ sym c.small_natural.ensures ∙ c.in_err-year.was in
     c.from_residual.ensures ∙ sym (no_year c.args.text.now none)
 
+-- nor what is written for a day
 pub returns-in_err-year-clause-written : goal.returns-in_err-year-clause-written
 returns-in_err-year-clause-written c = written_by c.args.text.now _ (returns-in_err-year-clause-value c)
 
+-- the month has to be digits too
 pub returns-in_err-month-clause-value : goal.returns-in_err-month-clause-value
 returns-in_err-month-clause-value c =
     let none = sym (month_digits c.args.text.now (omega arith)) ∙ sym c.small_natural-2.ensures ∙ c.in_err-month.was in
     c.from_residual-in_err-month.ensures ∙ sym (no_month c.args.text.now none)
 
+-- nor is it then what is written for a day
 pub returns-in_err-month-clause-written : goal.returns-in_err-month-clause-written
 returns-in_err-month-clause-written c = written_by c.args.text.now _ (returns-in_err-month-clause-value c)
 
+-- and the day
 pub returns-in_err-day-clause-value : goal.returns-in_err-day-clause-value
 returns-in_err-day-clause-value c =
     let none = sym (day_digits c.args.text.now (omega arith)) ∙ sym c.small_natural-3.ensures ∙ c.in_err-day.was in
     c.from_residual-in_err-day.ensures ∙ sym (no_day c.args.text.now none)
 
+-- nor is it then what is written for a day
 pub returns-in_err-day-clause-written : goal.returns-in_err-day-clause-written
 returns-in_err-day-clause-written c = written_by c.args.text.now _ (returns-in_err-day-clause-value c)
 
+-- two digits fit a byte
 pub overflow_cast-month : goal.overflow_cast-month
 overflow_cast-month c =
-    let month : natural (take 2 (drop 5 c.args.text.now)) ≡ Some c.in_ok-month.month = sym (month_digits c.args.text.now (omega arith)) ∙ sym c.small_natural-2.ensures ∙ c.in_ok-month.was in
+    let month : natural (take 2 (drop 5 c.args.text.now)) ≡ Some c.in_ok-month.month =
+    sym (month_digits c.args.text.now (omega arith)) ∙ sym c.small_natural-2.ensures ∙ c.in_ok-month.was in
     omega (arith, month-lt c.args.text.now c.in_ok-month.month (omega arith) month)
 
+-- two digits fit a byte
 pub overflow_cast-day : goal.overflow_cast-day
 overflow_cast-day c =
-    let day : natural (drop 8 c.args.text.now) ≡ Some c.in_ok-day.day = sym (day_digits c.args.text.now (omega arith)) ∙ sym c.small_natural-3.ensures ∙ c.in_ok-day.was in
+    let day : natural (drop 8 c.args.text.now) ≡ Some c.in_ok-day.day =
+    sym (day_digits c.args.text.now (omega arith)) ∙ sym c.small_natural-3.ensures ∙ c.in_ok-day.was in
     omega (arith, day-lt c.args.text.now c.in_ok-day.day (omega arith) day)
 
+-- a text of digits and dashes is read as its date
 pub returns-clause-value : goal.returns-clause-value
 returns-clause-value c =
     let text : List ℕ = c.args.text.now in
     let len : length text ≡ 10 = omega arith in
-    let year : natural (take 4 text) ≡ Some c.in_ok-year.year = sym (year_digits text len) ∙ sym c.small_natural.ensures ∙ c.in_ok-year.was in
-    let month : natural (take 2 (drop 5 text)) ≡ Some c.in_ok-month.month = sym (month_digits text len) ∙ sym c.small_natural-2.ensures ∙ c.in_ok-month.was in
-    let day : natural (drop 8 text) ≡ Some c.in_ok-day.day = sym (day_digits text len) ∙ sym c.small_natural-3.ensures ∙ c.in_ok-day.was in
-    c.of.ensures ∙ sym (read_date-parts text c.in_ok-year.year c.in_ok-month.month c.in_ok-day.day len (search rules) (search rules) year month day)
+    let year : natural (take 4 text) ≡ Some c.in_ok-year.year = sym (year_digits text len)
+    ∙ sym c.small_natural.ensures ∙ c.in_ok-year.was in
+    let month : natural (take 2 (drop 5 text)) ≡ Some c.in_ok-month.month = sym (month_digits text len)
+    ∙ sym c.small_natural-2.ensures ∙ c.in_ok-month.was in
+    let day : natural (drop 8 text) ≡ Some c.in_ok-day.day = sym (day_digits text len)
+    ∙ sym c.small_natural-3.ensures ∙ c.in_ok-day.was in
+    c.of.ensures.value ∙ sym (read_date-parts text c.in_ok-year.year c.in_ok-month.month c.in_ok-day.day len
+    (search rules) (search rules) year month day)
 
+-- so what is written for a day is read as it
 pub returns-clause-written : goal.returns-clause-written
 returns-clause-written c = written_by c.args.text.now _ (returns-clause-value c)

@@ -7,12 +7,15 @@ use Rattle.ghcn_fields.proofs.Decimals.{field_by-minus}
 use Rattle.ghcn_fields.proofs.FieldNumbers.{whole_numbers_by, blank_by}
 use Rattle.ghcn_fields.proofs.field.int_field.Goals as goal
 
+-- a field without a text is blank
 pub returns-in-empty-clause-value : goal.returns-in-empty-clause-value
 returns-in-empty-clause-value c = search rules
 
+-- and has no number
 pub returns-in-empty-clause-number : goal.returns-in-empty-clause-number
 returns-in-empty-clause-number c = whole_numbers_by c.args.field.now _ (returns-in-empty-clause-value c)
 
+-- since it is blanks alone
 pub returns-in-empty-clause-blank : goal.returns-in-empty-clause-blank
 returns-in-empty-clause-blank c = blank_by (signed_by natural) c.args.field.now _ (returns-in-empty-clause-value c)
 
@@ -22,20 +25,29 @@ returns-in-45-clause-value c =
     let text : List ℕ = c.after_blanks.result.now in
     let rest : take (length text - 1) (drop 1 text) ≡ drop 1 text = grind (arith, common_steps) in
     c.signed_field.ensures
-    ∙ ap (λ (o : Option ℕ). field_of (option_map (with_sign true) o)) (c.small_natural.ensures ∙ ap (λ (xs : List ℕ). up_to (2 ^ 31) (natural xs)) rest)
+    ∙ ap (λ (o : Option ℕ). field_of (option_map (with_sign true) o))
+    (c.small_natural.ensures ∙ ap (λ (xs : List ℕ). up_to (2 ^ 31) (natural xs)) rest)
     ∙ sym (field_by-minus natural c.args.field.now text c.after_blanks.ensures c.in-45.len_at_least (search rules))
 
+-- it has the number that its text spells
 pub returns-in-45-clause-number : goal.returns-in-45-clause-number
 returns-in-45-clause-number c = whole_numbers_by c.args.field.now c.signed_field.result (returns-in-45-clause-value c)
 
+-- and isn't blank
 pub returns-in-45-clause-blank : goal.returns-in-45-clause-blank
-returns-in-45-clause-blank c = blank_by (signed_by natural) c.args.field.now c.signed_field.result (returns-in-45-clause-value c)
+returns-in-45-clause-blank c = blank_by (signed_by natural) c.args.field.now c.signed_field.result
+    (returns-in-45-clause-value c)
 
+-- without a minus all of the text is read
 pub returns-in_default-clause-value : goal.returns-in_default-clause-value
 returns-in_default-clause-value c = search rules
 
+-- it has the number that its text spells
 pub returns-in_default-clause-number : goal.returns-in_default-clause-number
-returns-in_default-clause-number c = whole_numbers_by c.args.field.now c.signed_field-in_default.result (returns-in_default-clause-value c)
+returns-in_default-clause-number c = whole_numbers_by c.args.field.now c.signed_field-in_default.result
+    (returns-in_default-clause-value c)
 
+-- and isn't blank
 pub returns-in_default-clause-blank : goal.returns-in_default-clause-blank
-returns-in_default-clause-blank c = blank_by (signed_by natural) c.args.field.now c.signed_field-in_default.result (returns-in_default-clause-value c)
+returns-in_default-clause-blank c = blank_by (signed_by natural) c.args.field.now c.signed_field-in_default.result
+    (returns-in_default-clause-value c)

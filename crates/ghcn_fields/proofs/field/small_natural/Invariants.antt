@@ -4,6 +4,7 @@ use Rattle.std.specs.Char.{is_ascii_digit}
 use Rattle.std.specs.Str.Parse.{digits_value}
 use Rattle.ghcn_fields.proofs.field.small_natural.Given as goal
 
+-- digits so far, whose number is at most the limit
 abbrev pub invariant-loop-digit : goal.invariant-loop-digit
 invariant-loop-digit l = record {
   digits : list_all is_ascii_digit (take l.digit-index l.digits) ≡ true;

@@ -6,13 +6,15 @@ use Rattle.ghcn_files.specs.declared.fault.LineWhy.{LineWhy}
 use Rattle.ghcn_files.specs.StationLines.{number_of}
 use Rattle.ghcn_files.specs.Months.{unless, month_of}
 use Rattle.ghcn_files.proofs.Errors.{err_given}
-use Rattle.ghcn_files.proofs.Months.{Tested, month_why-tested, month_of-parts, year_slice, month_slice, test_held, test_failed, unless_ok, unless_err}
+use Rattle.ghcn_files.proofs.Months.{Tested, month_why-tested, month_of-parts, year_slice, month_slice, test_held}
+use Rattle.ghcn_files.proofs.Months.{test_failed, unless_ok, unless_err}
 use Rattle.ghcn_files.proofs.month.month_of.Goals as goal
 
+-- a year that isn't one
 pub returns-in_default-number_up_to : goal.returns-in_default-number_up_to
 returns-in_default-number_up_to c =
     let tested : Tested c.args.line.now true true false _ _ = record {
-      long = c.if-line-lt266.false;
+      long = c.if-line-lt-LEAST_COLUMNS.false;
       ends_is = sym c.only_blanks_follow.ensures ∙ c.if-not-only_blanks_follow.false;
       id_is = (test_held _ _ _ (sym c.of_line.ensures ∙ c.in-Some.is)).0;
       year_is = test_failed _ _ (sym c.number_up_to.ensures.value ∙ c.in_default-number_up_to.is);
@@ -21,10 +23,11 @@ returns-in_default-number_up_to c =
     } in
     sym (ap (λ (o : Option LineWhy). unless o (month_of c.args.element c.args.line.now)) (month_why-tested tested))
 
+-- a month that isn't one
 pub returns-in_default-number_up_to-2 : goal.returns-in_default-number_up_to-2
 returns-in_default-number_up_to-2 c =
     let tested : Tested c.args.line.now true true true false _ = record {
-      long = c.if-line-lt266.false;
+      long = c.if-line-lt-LEAST_COLUMNS.false;
       ends_is = sym c.only_blanks_follow.ensures ∙ c.if-not-only_blanks_follow.false;
       id_is = (test_held _ _ _ (sym c.of_line.ensures ∙ c.in-Some.is)).0;
       year_is = (test_held _ _ _ (sym c.number_up_to.ensures.value ∙ c.in-Some-number_up_to.is)).0;
@@ -33,10 +36,11 @@ returns-in_default-number_up_to-2 c =
     } in
     sym (ap (λ (o : Option LineWhy). unless o (month_of c.args.element c.args.line.now)) (month_why-tested tested))
 
+-- a value that is no number
 pub returns-in_err-days : goal.returns-in_err-days
 returns-in_err-days c =
     let tested : Tested c.args.line.now true true true true _ = record {
-      long = c.if-line-lt266.false;
+      long = c.if-line-lt-LEAST_COLUMNS.false;
       ends_is = sym c.only_blanks_follow.ensures ∙ c.if-not-only_blanks_follow.false;
       id_is = (test_held _ _ _ (sym c.of_line.ensures ∙ c.in-Some.is)).0;
       year_is = (test_held _ _ _ (sym c.number_up_to.ensures.value ∙ c.in-Some-number_up_to.is)).0;
@@ -46,10 +50,11 @@ returns-in_err-days c =
     err_given _ _ c.from_residual.ensures.1
     ∙ sym (ap (λ (o : Option LineWhy). unless o (month_of c.args.element c.args.line.now)) (month_why-tested tested))
 
+-- a line that passes every test is its month
 pub returns : goal.returns
 returns c =
     let line = c.args.line.now in
-    let long = c.if-line-lt266.false in
+    let long = c.if-line-lt-LEAST_COLUMNS.false in
     let id = test_held _ _ _ (sym c.of_line.ensures ∙ c.in-Some.is) in
     let year = test_held _ _ _ (sym c.number_up_to.ensures.value ∙ c.in-Some-number_up_to.is) in
     let month = test_held _ _ _ (sym c.number_up_to-2.ensures.value ∙ c.in-Some-number_up_to-2.is) in

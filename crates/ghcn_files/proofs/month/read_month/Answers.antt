@@ -7,6 +7,7 @@ use Rattle.ghcn_files.proofs.Months.{unless_ok, unless_err, read_month-element}
 use Rattle.ghcn_files.proofs.Ranges.{month_of-right}
 use Rattle.ghcn_files.proofs.month.read_month.Goals as goal
 
+-- a line of an element that fails a test
 pub returns-in_err-month_of-in-Some-clause-value :
     goal.returns-in_err-month_of-in-Some-clause-value
 returns-in_err-month_of-in-Some-clause-value c =
@@ -14,18 +15,20 @@ returns-in_err-month_of-in-Some-clause-value c =
     let element = c.in-Some.element in
     let why = unless_err _ _ _ (sym c.month_of.ensures ∙ c.in_err-month_of-in-Some.was) in
     err_given _ _ c.from_residual.ensures.1
-    ∙ sym (read_month-element line element c.if-line-lt21.false (sym c.of_code.ensures ∙ c.in-Some.is)
+    ∙ sym (read_month-element line element c.if-line-lt-UP_TO_ELEMENT.false (sym c.of_code.ensures ∙ c.in-Some.is)
     ∙ ap (λ (o : Option LineWhy). unless o (Some (month_of element line))) why)
 
+-- and one that fails none
 pub returns-in_ok-month_of-in-Some-clause-value : goal.returns-in_ok-month_of-in-Some-clause-value
 returns-in_ok-month_of-in-Some-clause-value c =
     let line = c.args.line.now in
     let element = c.in-Some.element in
     let read = unless_ok _ _ _ (sym c.month_of.ensures ∙ c.in_ok-month_of-in-Some.was) in
     ap (λ (m : Month). Ok (Some m)) read.1
-    ∙ sym (read_month-element line element c.if-line-lt21.false (sym c.of_code.ensures ∙ c.in-Some.is)
+    ∙ sym (read_month-element line element c.if-line-lt-UP_TO_ELEMENT.false (sym c.of_code.ensures ∙ c.in-Some.is)
     ∙ ap (λ (o : Option LineWhy). unless o (Some (month_of element line))) read.0)
 
+-- whose month has its fields in range
 pub returns-in_ok-month_of-in-Some-clause-ranges :
     goal.returns-in_ok-month_of-in-Some-clause-ranges
 returns-in_ok-month_of-in-Some-clause-ranges c =

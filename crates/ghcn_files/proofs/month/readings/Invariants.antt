@@ -4,6 +4,7 @@ use Rattle.ghcn_files.specs.Months.{reading}
 use Rattle.ghcn_files.proofs.Readings.{tests_from}
 use Rattle.ghcn_files.proofs.month.readings.Given as goal
 
+-- the days so far are read, and their tests are passed
 abbrev pub invariant-loop-day : goal.invariant-loop-day
 invariant-loop-day l = record {
   many : length l.days ≡ 31;

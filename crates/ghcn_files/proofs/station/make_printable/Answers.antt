@@ -2,10 +2,12 @@ use Rattle.std.proofs.Common.{length-set, ◌∙◌, arith}
 use Rattle.ghcn_files.proofs.PrintedText.{printed_more}
 use Rattle.ghcn_files.proofs.station.make_printable.Goals as goal
 
+-- one byte more is made printable
 pub loop-byte-preserved : goal.loop-byte-preserved
 loop-byte-preserved c =
     let so_far = c.loop-byte.invariant in
-    let more = printed_more c.loop-byte.byte-items c.args.text.now c.loop-byte.byte-index c.printable.result (omega (arith, so_far.many)) so_far.many so_far.printed so_far.left c.printable.ensures in
+    let more = printed_more c.loop-byte.byte-items c.args.text.now c.loop-byte.byte-index c.printable.result
+    (omega (arith, so_far.many)) so_far.many so_far.printed so_far.left c.printable.ensures in
     record {
       many = length-set c.loop-byte.byte-items c.loop-byte.byte-index _ ∙ so_far.many;
       printed = more.0;

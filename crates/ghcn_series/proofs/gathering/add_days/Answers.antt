@@ -3,14 +3,9 @@ use Rattle.std.specs.Option.{option_to_list}
 use Rattle.std.proofs.lemmas.List.{append-nil}
 use Rattle.ghcn_files.specs.declared.month.Reading.{Reading}
 use Rattle.ghcn_series.specs.Series.{DayValue}
-use Rattle.ghcn_series.proofs.MonthDays.{usable_days-none, first_days-more}
+use Rattle.ghcn_series.proofs.MonthDays.{first_days-more}
 use Rattle.ghcn_series.proofs.gathering.add_days.Goals as goal
 use Rattle.ghcn_series.proofs.gathering.add_days.Goals.{in-Some-usable_day+in_ok-push, in_default-usable_day}
-
-pub returns-in_default : goal.returns-in_default
-returns-in_default c =
-    let none = usable_days-none c.args.month.now (sym c.of.ensures ∙ c.in_default.is) in
-    sym (append-nil _) ∙ ap (λ days. c.args.days.now.items ++ days) (sym none)
 
 pub loop-index-preserved : goal.loop-index-preserved
 loop-index-preserved c =

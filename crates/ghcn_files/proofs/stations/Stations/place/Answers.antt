@@ -5,6 +5,7 @@ use Rattle.ghcn_files.specs.Listed.{place_of}
 use Rattle.ghcn_files.proofs.ById.{kept_by_key}
 use Rattle.ghcn_files.proofs.stations.Stations.place.Goals as goal
 
+-- an ID without a kept place has none
 pub returns-in_err-place : goal.returns-in_err-place
 returns-in_err-place c =
     let id = c.args.id.now in
@@ -15,6 +16,7 @@ returns-in_err-place c =
     ∙ c.self.invariant.own id c.key.ensures.bytes
     ∙ ap (λ (ss : List Station). place_of ss id) c.self.view_is
 
+-- the place that is kept is the ID's
 pub returns : goal.returns
 returns c =
     let id = c.args.id.now in

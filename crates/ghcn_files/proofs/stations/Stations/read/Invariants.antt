@@ -3,6 +3,7 @@ use Rattle.ghcn_fields.specs.Lines.{numbered_lines}
 use Rattle.ghcn_files.proofs.ReadLines.{HasRead}
 use Rattle.ghcn_files.proofs.stations.Stations.read.Given as goal
 
+-- the stations of the lines so far are held
 abbrev pub invariant-loop-number : goal.invariant-loop-number
 invariant-loop-number l = record {
   can : (goal.iterator-loop-number).can_next l.number-iterator;

@@ -1,8 +1,5 @@
-use Rattle.std.proofs.Common.{◌++◌, List, sym, ◌∙◌, refl, subst}
+use Rattle.std.proofs.Common.{◌++◌, sym, ◌∙◌, refl}
 use Rattle.std.proofs.lemmas.Result.{err_from_is_err_and}
-use Rattle.ghcn_files.specs.declared.station.Station.{Station}
-use Rattle.ghcn_series.specs.DailyFaults.{FileLine, file_lines}
-use Rattle.ghcn_series.specs.Gathered.{IsFirstRefusal}
 use Rattle.ghcn_series.proofs.ReadLines.{at_first_line, at_last_line, within-blank, within-line, within-fault}
 use Rattle.ghcn_series.proofs.reader.Reader.add_file.Goals as goal
 
@@ -11,6 +8,12 @@ loop-line-init c = record {
   stations = refl;
   read = λ before. at_first_line c.args.self.now c.args.file c.args.text.now c.into_iter-line-iterator.result before (c.into_iter-line-iterator.ensures.into_iter_gives ∙ c.lines-line-items.ensures);
 }
+
+-- some lines are read
+pub add_line-requires : goal.add_line-requires
+add_line-requires c =
+    let within = c.loop-line.invariant.read c.requires.0 c.requires.1 in
+    (c.requires.0 ++ within.done, within.read)
 
 pub loop-line-preserved-then-is_blank : goal.loop-line-preserved-then-is_blank
 loop-line-preserved-then-is_blank c = record {
@@ -29,15 +32,16 @@ loop-line-preserved c = record {
 }
 
 pub returns-clause-read : goal.returns-clause-read
-returns-clause-read c = λ before start.
-    at_last_line c.loop-line.self c.args.file c.loop-line.line-iterator before _ c.in-None.ensures.steps.0 (c.loop-line.invariant.read before start)
+returns-clause-read c = record {
+  holds = λ before start.
+      at_last_line c.loop-line.self c.args.file c.loop-line.line-iterator before _ c.in-None.ensures.steps.0 (c.loop-line.invariant.read before start);
+}
 
 pub returns-in_err-add_line-clause-fault : goal.returns-in_err-add_line-clause-fault
 returns-in_err-add_line-clause-fault c =
     let p = err_from_is_err_and c.from_residual.result c.from_residual.ensures.1 in
-    rw (p.1, p.2) (λ before start.
-    let all : List FileLine = file_lines (c.args.file, c.args.text.now) in
-    let P : List Station → Type 0 = λ stations. IsFirstRefusal stations (before ++ all) c.in_err-add_line.field-0.0 in
-    subst P c.loop-line.invariant.stations (
-    within-fault c.loop-line.self c.args.file c.in-Some.line c.in-Some.bytes.now c.loop-line.line-iterator c.next.new.self before all c.in_err-add_line.field-0.0 c.loop-line.self.stations
-    c.in-Some.ensures.steps (sym c.is_blank.ensures ∙ c.if-is_blank.false) c.in_err-add_line.ensures.fault (c.loop-line.invariant.read before start)))
+    rw (p.1, p.2) (record {
+      first = λ before start.
+          within-fault c.loop-line.self c.args.file c.in-Some.line c.in-Some.bytes.now c.loop-line.line-iterator c.next.new.self before _ c.in_err-add_line.field-0.0 c.args.self.now.stations
+          c.in-Some.ensures.steps (sym c.is_blank.ensures ∙ c.if-is_blank.false) c.loop-line.invariant.stations c.in_err-add_line.ensures.fault (c.loop-line.invariant.read before start);
+    })

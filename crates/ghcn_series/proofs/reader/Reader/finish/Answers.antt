@@ -63,11 +63,14 @@ of-requires c =
     (are_by_station (filter_map month_on c.requires.0) c.args.self.stations c.args.self.gathered.items read.listed read.right read.gathered)
 
 pub returns : goal.returns
-returns c = λ ls read.
-    let stations = c.args.self.stations in
-    let gathered = c.args.self.gathered.items in
-    let none = nil_from_length _ (sym c.loop-station.station-iterator.rest.ok.0 ∙ c.in-None.ensures.steps.0) in
-    let all = all_added _ _ _ none c.loop-station.invariant.whole in
-    let series = ap all_of all ∙ all_of-are gathered ∙ series_are stations (filter_map month_on ls) stations gathered (all_listed stations) read.months.gathered in
-    let of : List Usable → ℕ → Contents = λ us n. record { stations = stations; series = us; unlisted = n } in
-    c.of.ensures ∙ ap (λ us. of us c.args.self.unlisted) series ∙ ap (of _) read.months.unlisted
+returns c =
+    record {
+      is = λ ls read.
+          let stations = c.args.self.stations in
+          let gathered = c.args.self.gathered.items in
+          let none = nil_from_length _ (sym c.loop-station.station-iterator.rest.ok.0 ∙ c.in-None.ensures.steps.0) in
+          let all = all_added _ _ _ none c.loop-station.invariant.whole in
+          let series = ap all_of all ∙ all_of-are gathered ∙ series_are stations (filter_map month_on ls) stations gathered (all_listed stations) read.months.gathered in
+          let of : List Usable → ℕ → Contents = λ us n. record { stations = stations; series = us; unlisted = n } in
+          c.of.ensures ∙ ap (λ us. of us c.args.self.unlisted) series ∙ ap (of _) read.months.unlisted;
+    }

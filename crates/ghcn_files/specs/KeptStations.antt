@@ -1,0 +1,47 @@
+-- How stations are kept while a list is read: with the places of their IDs, one line after the other.
+use Rattle.std.specs.Prelude.{◌≡◌, ℕ, ◌<◌, take, drop, get_or, List, [], ◌∷◌, ◌++◌, length, Option, None, Some}
+use Rattle.std.specs.declared.cmp.Ordering.{Ordering}
+use Rattle.std.specs.Ordering.{nat_cmp, ordering_then}
+use Rattle.std.specs.Int.{from_be_bytes, w32, w64}
+use Rattle.std.specs.BTreeMap.{is_at}
+use Rattle.std.specs.Map.{lookup}
+use Rattle.ghcn_files.specs.declared.station.StationId.{StationId}
+use Rattle.ghcn_files.specs.declared.station.Station.{Station}
+use Rattle.ghcn_files.specs.declared.fault.StationsFault.{StationsFault}
+use Rattle.ghcn_files.specs.StationLines.{station_of}
+use Rattle.ghcn_files.specs.Listed.{Numbered, stations_of, station_fault, place_of, AreListed, OrMemory}
+
+-- the bytes of an ID as two numbers: of the first eight and of the last four, the most significant byte first
+abbrev pub key_of : List ℕ → ℕ × ℕ
+key_of bytes = (from_be_bytes w64 (take 8 bytes), from_be_bytes w32 (drop 7 bytes))
+
+-- the order of such pairs
+abbrev pub key_cmp : ℕ × ℕ → ℕ × ℕ → Ordering
+key_cmp a b = ordering_then (nat_cmp a.0 b.0) (nat_cmp a.1 b.1)
+
+-- the place that is kept for an ID
+abbrev pub kept_place : List ((ℕ × ℕ) × ℕ) → StationId → Option ℕ
+kept_place places id = lookup (is_at (key_cmp (key_of id.0))) places
+
+-- eleven bytes
+abbrev pub AreEleven : List ℕ → Type 0
+AreEleven bytes = (length bytes ≡ 11) × ((i : ℕ) → get_or bytes i 0 < 256)
+
+-- stations that are kept with the places of their IDs are listed, and each ID of eleven bytes has its place in the list
+pub record AreKept (stations : List Station) (places : List ((ℕ × ℕ) × ℕ)) : Type 0 where
+  pub list : AreListed stations
+  pub own : (id : StationId) → AreEleven id.0 → kept_place places id ≡ place_of stations id
+
+-- a line adds its station: it has no fault after any lines that list those held
+pub record Adds (held : List Station) (l : Numbered) (more : List Station) : Type 0 where
+  pub right : (earlier : List Numbered) → stations_of earlier ≡ held → station_fault earlier l ≡ None
+  pub added : more ≡ held ++ station_of l.1 ∷ []
+
+-- the line has this fault after any lines that list the stations held
+abbrev pub IsFaultAfter : StationsFault → List Station → Numbered → Type 0
+IsFaultAfter fault held l =
+    (earlier : List Numbered) → stations_of earlier ≡ held → station_fault earlier l ≡ Some fault
+
+-- want of memory, or the very fault of the line
+abbrev pub IsRefusedFor : StationsFault → List Station → Numbered → Type 0
+IsRefusedFor fault held l = OrMemory (λ f. IsFaultAfter f held l) fault

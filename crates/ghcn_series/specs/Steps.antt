@@ -1,0 +1,53 @@
+-- What each step of the reading adds to what was read before it.
+use Rattle.std.specs.Prelude.{◌≡◌, ◌++◌, ◌∷◌, [], ◌&&◌, not, Bool, List}
+use Rattle.std.specs.Bool.{OnTrue}
+use Rattle.std.specs.List.{list_any, AllZip}
+use Rattle.ghcn_files.specs.declared.month.Month.{Month}
+use Rattle.ghcn_files.specs.Elements.{elements}
+use Rattle.ghcn_series.specs.declared.gathering.Gathering.{Gathering}
+use Rattle.ghcn_series.specs.declared.station.StationGathering.{StationGathering}
+use Rattle.ghcn_series.specs.declared.reader.Reader.{Reader}
+use Rattle.ghcn_series.specs.declared.fault.DataFault.{DataFault}
+use Rattle.ghcn_series.specs.Series.{Contents}
+use Rattle.ghcn_series.specs.DailyFaults.{FileLine, same_month, is_listed}
+use Rattle.ghcn_series.specs.Says.{contents}
+use Rattle.ghcn_series.specs.Gathered.{same_time, IsGathering, IsGatheringOf, AreByElement, HasRead, HasReadLines, IsLineRefusal}
+
+-- a gathering adds a month, unless it has one of its time
+pub record Gathers (old new : Gathering) (m : Month) (added : Bool) : Type 0 where
+  pub is_new : (before : List Month) → IsGathering old before → added ≡ not (list_any (same_time m) before)
+  pub holds : (before : List Month) → IsGathering old before → OnTrue added (IsGathering new (before ++ m ∷ []))
+
+-- a station has its five gatherings, with what it had before
+pub record Opens (old new : StationGathering) : Type 0 where
+  pub holds : (before : List Month) → AreByElement before old.id old.by_element.items
+      → AllZip (IsGatheringOf before old.id) new.by_element.items elements
+
+-- a station adds a month, unless it has that month
+pub record GathersAt (old new : StationGathering) (m : Month) (added : Bool) : Type 0 where
+  pub is_new : (before : List Month) → AreByElement before old.id old.by_element.items
+      → added ≡ not (list_any (same_month m) before)
+  pub holds : (before : List Month) → AreByElement before old.id old.by_element.items
+      → OnTrue added (AreByElement (before ++ m ∷ []) old.id new.by_element.items)
+
+-- a reader reads a month, unless its station is listed and has that month
+pub record ReadsMonth (old new : Reader) (m : Month) (added : Bool) : Type 0 where
+  pub is_new : (before : List Month) → HasRead old before
+      → added ≡ not (is_listed old.stations m.id && list_any (same_month m) before)
+  pub holds : (before : List Month) → HasRead old before → OnTrue added (HasRead new (before ++ m ∷ []))
+
+-- what a reader has read: some lines
+abbrev pub HasReadSome : Reader → Type 0
+HasReadSome r = (ls : List FileLine) × HasReadLines r ls
+
+-- a reader reads more lines behind those that it read
+pub record Reads (old new : Reader) (more : List FileLine) : Type 0 where
+  pub holds : (before : List FileLine) → HasReadLines old before → HasReadLines new (before ++ more)
+
+-- a reader refuses more lines, for want of memory or for the first fault among all its lines
+pub record Refuses (old : Reader) (more : List FileLine) (fault : DataFault) : Type 0 where
+  pub first : (before : List FileLine) → HasReadLines old before → IsLineRefusal old.stations (before ++ more) fault
+
+-- all that a reader has read is held
+pub record HoldsAll (r : Reader) (held : Contents) : Type 0 where
+  pub is : (ls : List FileLine) → HasReadLines r ls → held ≡ contents r.stations ls

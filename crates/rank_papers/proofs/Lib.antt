@@ -1,0 +1,2 @@
+pub mod RowText
+pub mod ReportRows

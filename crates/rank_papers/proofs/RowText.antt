@@ -1,0 +1,35 @@
+-- The text of a row, piece by piece.
+use Rattle.std.proofs.Common.{◌≡◌, ℕ, List, [], ◌∷◌, ◌++◌, sym, ap, ◌∙◌, append_assoc, append-nil}
+use Rattle.std.specs.List.{join_with_byte, flat_map}
+use Rattle.std.proofs.lemmas.Grind.{flat_map-append}
+use Rattle.rank_papers.specs.Report.{text_line, after_blank}
+
+-- fields with one blank between them are the first, and then a blank and a field each
+join-fields : (field : List ℕ) (more : List (List ℕ)) →
+    join_with_byte 32 (field ∷ more) ≡ field ++ flat_map after_blank more
+join-fields field [] = sym (append-nil field)
+join-fields field (next ∷ more) = ap (λ (text : List ℕ). field ++ 32 ∷ text) (join-fields next more)
+
+-- what is added to a text to which something was added
+pub added : (before s t between after : List ℕ) →
+    between ≡ before ++ s → after ≡ between ++ t → after ≡ before ++ (s ++ t)
+added before s t between after one other = other ∙ ap (λ (x : List ℕ). x ++ t) one ∙ append_assoc before s t
+
+-- six texts may be joined from either end
+from_the_end : (a b c d e f : List ℕ) →
+    ((((a ++ b) ++ c) ++ d) ++ e) ++ f ≡ a ++ (b ++ (c ++ (d ++ (e ++ f))))
+from_the_end a b c d e f = simp append_assoc
+
+-- the pieces of a row, one after the other, are its line
+pub row-pieces : (rank id first last : List ℕ) (values name : List (List ℕ)) →
+    (((((rank ++ after_blank id) ++ after_blank first) ++ after_blank last) ++ flat_map after_blank values)
+    ++ flat_map after_blank name) ++ 10 ∷ []
+    ≡ text_line (rank ∷ id ∷ first ∷ last ∷ (values ++ name))
+row-pieces rank id first last values name =
+    let front : List ℕ → List ℕ = λ rest.
+    rank ++ (after_blank id ++ (after_blank first ++ (after_blank last ++ rest))) in
+    let joined = from_the_end rank (after_blank id) (after_blank first) (after_blank last)
+    (flat_map after_blank values) (flat_map after_blank name) in
+    ap (λ (text : List ℕ). text ++ 10 ∷ [])
+    (joined ∙ ap front (sym (flat_map-append after_blank values name))
+    ∙ sym (join-fields rank (id ∷ first ∷ last ∷ (values ++ name))))

@@ -1,0 +1,26 @@
+use Rattle.std.proofs.Common.{List, ℕ, ◌++◌, ℤ, ap, ◌∙◌, decimal, FitsSigned, w64, to_z-of_z, rules}
+use Rattle.std.specs.List.{flat_map}
+use Rattle.ghcn_fields.specs.Dates.{date_text}
+use Rattle.rank_query.specs.declared.score.Score.{Score}
+use Rattle.rank_papers.specs.Report.{after_blank, field_unless_empty, trimmed}
+use Rattle.rank_papers.specs.Values.{value_fields}
+use Rattle.rank_papers.proofs.RowText.{added, row-pieces}
+use Rattle.rank_papers.proofs.row.push_row.Goals as goal
+
+-- the pieces were added in the order of the fields
+pub returns : goal.returns
+returns c =
+    let paper : List ℕ = c.args.paper.now.items in
+    let number : ℤ = c.args.candidate.now.score in
+    let fits : FitsSigned w64 number = search rules in
+    let with_value : Score → ℤ → List ℕ = λ s z.
+    c.push_day-2.new.paper.items ++ flat_map after_blank (value_fields s z) in
+    let value = c.in_ok-push_value_and_unit.ensures
+    ∙ ap (with_value c.score.result) (to_z-of_z fits) ∙ ap (λ (s : Score). with_value s number) c.score.ensures.score in
+    let days = added paper _ _ _ _ (added paper _ _ _ _ (added paper _ _ _ _
+    c.in_ok-push_number.ensures c.in_ok-push_field.ensures) c.in_ok-push_day.ensures) c.in_ok-push_day-2.ensures in
+    let to_name = added paper _ _ _ _ (added paper _ _ _ _ days value) c.in_ok-push_name.ensures in
+    added paper _ _ _ _ to_name c.in_ok-push.ensures.items
+    ∙ ap (λ (line : List ℕ). paper ++ line) (row-pieces (decimal c.args.rank) c.args.candidate.now.id.0
+    (date_text c.args.candidate.now.first) (date_text c.args.candidate.now.last)
+    (value_fields c.args.query.now.score number) (field_unless_empty (trimmed c.args.station.now.name)))

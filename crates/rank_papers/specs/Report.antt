@@ -1,0 +1,104 @@
+-- The right report of a query.
+use Rattle.std.specs.Prelude.{◌≡◌, ℕ, ◌-◌, ◌==◌, nat_lt, if◌then◌else◌, List, [], ◌∷◌, ◌++◌, length, take, map, codes, Option, Some}
+use Rattle.std.specs.List.{join_with_byte, flat_map, enumerate_from, find, filter_map, suffix_len, AllByRecursion}
+use Rattle.std.specs.Option.{option_map}
+use Rattle.std.specs.Fmt.{decimal}
+use Rattle.ghcn_fields.specs.Dates.{date_text}
+use Rattle.ghcn_files.specs.declared.station.Station.{Station}
+use Rattle.ghcn_files.specs.Listed.{is_station_of}
+use Rattle.ghcn_series.specs.Series.{Contents}
+use Rattle.rank_query.specs.Asked.{Asked}
+use Rattle.rank_query.specs.QueryTexts.{query_text}
+use Rattle.rank_scores.specs.declared.candidate.Candidate.{Candidate}
+use Rattle.rank_scores.specs.Morsels.{best_of_query}
+use Rattle.rank_papers.specs.Values.{value_fields}
+
+-- ---- lines
+
+-- fields with one blank between them, and a line feed
+abbrev pub text_line : List (List ℕ) → List ℕ
+text_line fields = join_with_byte 32 fields ++ 10 ∷ []
+
+-- a blank and a field
+abbrev pub after_blank : List ℕ → List ℕ
+after_blank field = 32 ∷ field
+
+-- bytes without the blanks at their end
+abbrev pub trimmed : List ℕ → List ℕ
+trimmed bytes = take (length bytes - suffix_len (λ b. b == 32) bytes) bytes
+
+-- one field, or none where it is empty
+abbrev pub field_unless_empty : List ℕ → List (List ℕ)
+field_unless_empty [] = []
+field_unless_empty (b ∷ bytes) = (b ∷ bytes) ∷ []
+
+-- a row as it is printed: a candidate, and a name, which may be empty
+abbrev pub Named : Type 0
+Named = Candidate × List ℕ
+
+-- the fields of a row with its rank, from 1
+abbrev pub row_fields : Asked → ℕ × Named → List (List ℕ)
+row_fields q row =
+    let candidate = row.1.0 in
+    decimal row.0 ∷ candidate.id.0 ∷ date_text candidate.first ∷ date_text candidate.last
+    ∷ (value_fields q.score candidate.score ++ field_unless_empty row.1.1)
+
+-- the fields of the last line: how many rows there are, and whether these are all that there could be
+abbrev pub end_fields : ℕ → ℕ → List (List ℕ)
+end_fields k n = codes "end" ∷ decimal n ∷ (if nat_lt n k then codes "all" ∷ [] else [])
+
+-- ---- the text
+
+-- the line of a query
+abbrev pub query_line : Asked → List ℕ
+query_line q = text_line (codes "query" ∷ query_text q ∷ [])
+
+-- the lines of some rows with their ranks
+abbrev pub rows_text : Asked → List (ℕ × Named) → List ℕ
+rows_text q rows = flat_map (λ row. text_line (row_fields q row)) rows
+
+-- the text of a report with these rows
+abbrev pub report_text : Asked → List Named → List ℕ
+report_text q rows =
+    text_line (codes "extremes report 1" ∷ [])
+    ++ query_line q
+    ++ rows_text q (enumerate_from 1 rows)
+    ++ text_line (end_fields q.k (length rows))
+
+-- ---- whose rows are right
+
+-- a candidate with its station
+abbrev pub WithStation : Type 0
+WithStation = Candidate × Station
+
+-- the row of a candidate and its station: the name without the blanks at its end
+abbrev pub named : WithStation → Named
+named row = (row.0, trimmed row.1.name)
+
+-- a candidate with its listed station
+abbrev pub with_station : List Station → Candidate → Option WithStation
+with_station stations c = option_map (λ station. (c, station)) (find (is_station_of c.id) stations)
+
+-- candidates with their listed stations
+abbrev pub with_stations : List Station → List Candidate → List WithStation
+with_stations stations cs = filter_map (with_station stations) cs
+
+-- the right report: its rows are the best candidates of the query, each with its listed station
+pub record IsReport (q : Asked) (c : Contents) (bytes : List ℕ) : Type 0 where
+  pub rows : List WithStation
+  pub best : map (λ row. row.0) rows ≡ best_of_query q c
+  pub listed : AllByRecursion (λ row. find (is_station_of row.0.id) c.stations ≡ Some row.1) rows
+  pub text : bytes ≡ report_text q (map named rows)
+
+-- the rows of candidates of listed stations
+abbrev pub rows_of_best : List Station → List Candidate → List Named
+rows_of_best stations best = map named (with_stations stations best)
+
+-- the text of the report with these best candidates of listed stations
+abbrev pub text_of_best : Asked → List Station → List Candidate → List ℕ
+text_of_best q stations best = report_text q (rows_of_best stations best)
+
+-- the bytes are the right report of all data with these stations and these best candidates of the query
+abbrev pub IsReportOfBest : Asked → List Station → List Candidate → List ℕ → Type 0
+IsReportOfBest q stations best bytes =
+    (c : Contents) → c.stations ≡ stations → best ≡ best_of_query q c → IsReport q c bytes

@@ -1,0 +1,60 @@
+//! Numbers that are added to the end of a paper.
+
+ghost use Rattle.std.specs.Prelude.{◌≡◌, ◌++◌, ◌∷◌, [], OnOk, decimal, int_lt, pos};
+ghost use Rattle.ghcn_fields.specs.NumberTexts.{tenths_of};
+ghost use Rattle.rank_papers.specs.Values as values;
+
+use crate::measure::{Measure, measure_of};
+use ghcn_fields::Memory;
+use itoa::Buffer;
+use rank_query::Score;
+
+/// Adds the value behind a score as it is printed, without its unit.
+pub fn push_value(paper: &mut Vec<u8>, score: Score, number: i64) -> Result<(), Memory>
+    ensures { OnOk result (paper.new.items ≡ paper.old.items
+        ++ values.value_text (values.measure_of score) (values.value_of score number)) }
+{
+    if is_negative(score, number) {
+        paper.push(b'-')?;
+    }
+    push_magnitude(paper, measure_of(score), number.unsigned_abs())
+}
+
+/// Whether the value behind a score is below zero. A score of the lowest is the negated value.
+fn is_negative(score: Score, number: i64) -> bool
+    ensures { result ≡ int_lt (values.value_of score number) (pos 0) }
+{
+    match score {
+        Score::Lowest(_) => number > 0,
+        _ => number < 0,
+    }
+}
+
+fn push_magnitude(paper: &mut Vec<u8>, measure: Measure, magnitude: u64) -> Result<(), Memory>
+    ensures { OnOk result (paper.new.items ≡ paper.old.items ++ values.magnitude_text measure magnitude) }
+{
+    match measure {
+        Measure::Degrees => push_tenths(paper, magnitude),
+        Measure::Millimetres => push_tenths(paper, magnitude),
+        Measure::WholeMillimetres => push_number(paper, magnitude),
+        Measure::Days => push_number(paper, magnitude),
+    }
+}
+
+/// Adds so many tenths with one decimal.
+fn push_tenths(paper: &mut Vec<u8>, tenths: u64) -> Result<(), Memory>
+    ensures { OnOk result (paper.new.items ≡ paper.old.items ++ tenths_of tenths) }
+{
+    push_number(paper, tenths / 10)?;
+    paper.push(b'.')?;
+    push_number(paper, tenths % 10)
+}
+
+/// Adds a number in decimal digits.
+pub fn push_number(paper: &mut Vec<u8>, number: u64) -> Result<(), Memory>
+    ensures { OnOk result (paper.new.items ≡ paper.old.items ++ decimal number) }
+{
+    let mut buffer = Buffer::new();
+    paper.extend_from_slice(buffer.format(number).as_bytes())?;
+    Ok(())
+}

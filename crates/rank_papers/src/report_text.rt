@@ -1,0 +1,82 @@
+//! The report of a query. Each of its lines ends by a line feed:
+//!
+//! ```text
+//! extremes report 1
+//! query TEXT                            the query in its one spelling
+//! RANK ID FIRST LAST VALUE UNIT NAME    a row for each of the best, ranked from 1
+//! end N                                 N rows; where fewer than were asked for, `end N all`
+//! ```
+
+ghost use Rattle.std.specs.Prelude.{◌≡◌, ◌++◌, OnOk, IfOk, map};
+ghost use Rattle.std.specs.List.{enumerate_from};
+ghost use Rattle.rank_scores.specs.QueryCandidates.{AreOfListed};
+ghost use Rattle.rank_papers.specs.Report as report;
+
+use crate::number::push_number;
+use crate::row::push_row;
+use ghcn_fields::Memory;
+use ghcn_files::Stations;
+use rank_query::Query;
+use rank_scores::Candidate;
+use std::alloc::Global;
+
+/// The report of a query with these best candidates: a row for each, with its station's name.
+pub fn report_of_best(
+    alloc: Global,
+    query: &Query,
+    stations: &Stations,
+    best: &[Candidate],
+) -> Result<Vec<u8>, Memory>
+    requires { AreOfListed stations.now best.now }
+    ensures text { IfOk result (λ paper. paper.items ≡ report.text_of_best query.now stations.now best.now) }
+    ensures right { IfOk result (λ paper. report.IsReportOfBest query.now stations.now best.now paper.items) }
+{
+    let mut paper = Vec::from_slice(alloc, b"extremes report 1\n")?;
+    push_query(alloc, &mut paper, query)?;
+    push_rows(&mut paper, query, stations, best)?;
+    push_end(&mut paper, query.k(), best.len() as u64)?;
+    Ok(paper)
+}
+
+/// Adds the line of a query.
+fn push_query(alloc: Global, paper: &mut Vec<u8>, query: &Query) -> Result<(), Memory>
+    ensures { OnOk result (paper.new.items ≡ paper.old.items ++ report.query_line query.now) }
+{
+    paper.extend_from_slice(b"query ")?;
+    paper.extend_from_slice(query.text(alloc)?.as_bytes())?;
+    paper.push(b'\n')?;
+    Ok(())
+}
+
+/// Adds a row for each candidate, ranked from 1.
+fn push_rows(
+    paper: &mut Vec<u8>,
+    query: &Query,
+    stations: &Stations,
+    best: &[Candidate],
+) -> Result<(), Memory>
+    requires { AreOfListed stations.now best.now }
+    ensures { OnOk result (paper.new.items ≡ paper.old.items
+        ++ report.rows_text query.now (enumerate_from 1 (report.rows_of_best stations.now best.now))) }
+{
+    for (place, candidate) in best.iter().enumerate() {
+        let Some(station) = stations.get(&candidate.id) else {
+            unreachable!();
+        };
+        push_row(paper, query, place as u64 + 1, candidate, station)?;
+    }
+    Ok(())
+}
+
+/// Adds the last line: how many rows there are, and whether these are all that there could be.
+fn push_end(paper: &mut Vec<u8>, k: u64, rows: u64) -> Result<(), Memory>
+    ensures { OnOk result (paper.new.items ≡ paper.old.items ++ report.text_line (report.end_fields k rows)) }
+{
+    paper.extend_from_slice(b"end ")?;
+    push_number(paper, rows)?;
+    if rows < k {
+        paper.extend_from_slice(b" all")?;
+    }
+    paper.push(b'\n')?;
+    Ok(())
+}

@@ -1,0 +1,83 @@
+//! One row of a report: `RANK ID FIRST LAST VALUE UNIT NAME`. A row without a name ends after UNIT.
+
+ghost use Rattle.std.specs.Prelude.{◌≡◌, ◌++◌, OnOk};
+ghost use Rattle.std.specs.List.{flat_map};
+ghost use Rattle.ghcn_fields.specs.Dates.{date_text};
+ghost use Rattle.rank_papers.specs.Values.{value_fields};
+ghost use Rattle.rank_papers.specs.Report as report;
+
+use crate::measure::measure_of;
+use crate::number::{push_number, push_value};
+use ghcn_fields::{Day, Memory, write_date};
+use ghcn_files::Station;
+use rank_query::{Query, Score};
+use rank_scores::Candidate;
+
+/// Adds the line of a candidate with its rank, from 1, and its station's name.
+pub fn push_row(
+    paper: &mut Vec<u8>,
+    query: &Query,
+    rank: u64,
+    candidate: &Candidate,
+    station: &Station,
+) -> Result<(), Memory>
+    ensures { OnOk result (paper.new.items ≡ paper.old.items
+        ++ report.text_line (report.row_fields query.now (rank, (candidate.now, report.trimmed station.now.name)))) }
+{
+    push_number(paper, rank)?;
+    push_field(paper, &candidate.id.0)?;
+    push_day(paper, candidate.first)?;
+    push_day(paper, candidate.last)?;
+    push_value_and_unit(paper, query.score(), candidate.score)?;
+    push_name(paper, &station.name)?;
+    paper.push(b'\n')?;
+    Ok(())
+}
+
+/// Adds a blank and a field.
+fn push_field(paper: &mut Vec<u8>, field: &[u8]) -> Result<(), Memory>
+    ensures { OnOk result (paper.new.items ≡ paper.old.items ++ report.after_blank field.now) }
+{
+    paper.push(b' ')?;
+    paper.extend_from_slice(field)?;
+    Ok(())
+}
+
+/// Adds a blank and a day.
+fn push_day(paper: &mut Vec<u8>, day: Day) -> Result<(), Memory>
+    ensures { OnOk result (paper.new.items ≡ paper.old.items ++ report.after_blank (date_text day)) }
+{
+    push_field(paper, &write_date(day))
+}
+
+/// Adds a blank and the value behind a score, and a blank and its unit.
+fn push_value_and_unit(paper: &mut Vec<u8>, score: Score, number: i64) -> Result<(), Memory>
+    ensures { OnOk result (paper.new.items ≡ paper.old.items
+        ++ flat_map report.after_blank (value_fields score number)) }
+{
+    paper.push(b' ')?;
+    push_value(paper, score, number)?;
+    push_field(paper, measure_of(score).unit())
+}
+
+/// Adds a blank and a name without the blanks at its end, where that isn't empty.
+fn push_name(paper: &mut Vec<u8>, name: &[u8]) -> Result<(), Memory>
+    ensures { OnOk result (paper.new.items ≡ paper.old.items
+        ++ flat_map report.after_blank (report.field_unless_empty (report.trimmed name.now))) }
+{
+    match trimmed(name) {
+        [] => Ok(()),
+        text => push_field(paper, text),
+    }
+}
+
+/// A text without the blanks at its end.
+fn trimmed(text: &[u8]) -> &[u8]
+    ensures { result.now ≡ report.trimmed text.now }
+{
+    let mut rest = text;
+    while let [front @ .., b' '] = rest {
+        rest = front;
+    }
+    rest
+}

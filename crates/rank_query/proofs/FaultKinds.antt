@@ -1,0 +1,503 @@
+-- Each fault of a word is the one that the words before it call for.
+use Rattle.std.proofs.Common.{◌≡◌, ℕ, ◌+◌, Bool, true, false, cond, ◌&&◌, ◌⊎◌, inl, inr, List, [], ◌∷◌, ◌++◌, length}
+use Rattle.std.proofs.Common.{reverse, Option, Some, None, Result, Ok, Err, IfErr, codes, refl, sym, ap, ◌∙◌, subst}
+use Rattle.std.proofs.Common.{is_some, arith}
+use Rattle.std.specs.Prelude.{nat_lt, ℤ, pos, neg_ℤ, int_le}
+use Rattle.std.specs.List.{AllByRecursion}
+use Rattle.std.proofs.lemmas.List.{map-append, length-map, length-reverse, reverse-reverse}
+use mathlib.Core.List.{reverse_aux}
+use Rattle.ghcn_fields.specs.Bytes.{same_bytes}
+use Rattle.ghcn_fields.specs.Dates.{read_date}
+use Rattle.ghcn_fields.specs.Days.{is_within}
+use Rattle.ghcn_fields.specs.Numbers.{natural, scaled_field}
+use Rattle.ghcn_files.specs.declared.element.Element.{Element}
+use Rattle.ghcn_files.specs.Elements.{element_of}
+use Rattle.ghcn_files.specs.StationLines.{is_number_within, number_of}
+use Rattle.rank_query.specs.declared.score.Score.{Score}
+use Rattle.rank_query.specs.declared.score.Score.TheVariants.{Highest, Lowest, Sum, Dry, Wet}
+use Rattle.rank_query.specs.declared.region.Region.{Region}
+use Rattle.rank_query.specs.declared.region.Region.TheVariants.{Everywhere, Inside, Country, State, Only}
+use Rattle.rank_query.specs.declared.fault.QueryFault.{QueryFault}
+use Rattle.rank_query.specs.declared.fault.QueryFault.TheVariants.{QueryTooLong, UnexpectedWord, QueryEnds}
+use Rattle.rank_query.specs.declared.fault.QueryFault.TheVariants.{OutOfLimits, BadDate, BadBox, EmptyPeriod}
+use Rattle.rank_query.specs.Asked.{Asked, is_temperature, is_fall, is_code}
+use Rattle.rank_query.specs.Words.{Word, says, words_of, numbered_words}
+use Rattle.rank_query.specs.Readers.{◌>>=◌, Read, or_fault, keyword, one_word, made_into, by_word}
+use Rattle.rank_query.specs.WordValues.{number, element, degrees, code, date}
+use Rattle.rank_query.specs.Reading.{no_score_at, highest_at, lowest_at, sum_at, dry_at, wet_at, score_at}
+use Rattle.rank_query.specs.Reading.{latitude_from, longitude, box_at, country_at, state_at, station_at}
+use Rattle.rank_query.specs.Reading.{everywhere_at, region_at, days_at, between_at, always_at, period_at}
+use Rattle.rank_query.specs.Reading.{nothing_more, read_words, read_query}
+use Rattle.rank_query.specs.FaultKinds.{place_behind, number as a_number, edge, date as a_date, other, is_digits}
+use Rattle.rank_query.specs.FaultKinds.{is_date, is_behind_box, is_behind_first_day, IsFaultOf, IsFaultAmong}
+use Rattle.rank_query.proofs.ReadingSteps.{said, unnumbered, unnumbered-enumerate_from}
+use Rattle.rank_query.proofs.Spellings.{asked}
+use Rattle.rank_query.proofs.FaultPlaces.{place_of}
+use Rattle.rank_query.proofs.Places.{IsSettled, IsNoKeyword, HaveOtherLengths, not_both, settled_word, edge_more}
+use Rattle.rank_query.proofs.Places.{edge_less, edge_place, number_no_keyword, degrees_no_keyword, code_no_keyword}
+use Rattle.rank_query.proofs.Places.{date_no_keyword, element_settled, degrees_decimal, day_date}
+
+-- the fault of a word that is wrong behind these, told by the word's number
+abbrev IsKind : QueryFault → ℕ → List (List ℕ) → List ℕ → Type 0
+IsKind QueryTooLong n past word = ⊥
+IsKind (UnexpectedWord m) n past word =
+    (m ≡ n) × ((place_behind past ≡ other) ⊎ ((place_behind past ≡ a_number) × (is_digits word ≡ false)))
+IsKind QueryEnds n past word = ⊥
+IsKind (OutOfLimits m) n past word = (m ≡ n) × (place_behind past ≡ a_number) × (is_digits word ≡ true)
+IsKind (BadDate m) n past word = (m ≡ n) × (place_behind past ≡ a_date) × (is_date word ≡ false)
+IsKind (BadBox m) n past word = (m ≡ n) × (place_behind past ≡ edge)
+IsKind EmptyPeriod n past word = (place_behind past ≡ a_date) × (is_date word ≡ true)
+
+-- one of these words, which stand behind others, has the fault
+record IsWrong (past : List (List ℕ)) (ws : List Word) (fault : QueryFault) : Type 0 where
+  before : List Word
+  word : Word
+  behind : List Word
+  parts : ws ≡ before ++ word ∷ behind
+  kind : IsKind fault word.0 (reverse_aux (unnumbered before) past) word.1
+
+-- no word is left, or one has the fault
+abbrev IsFaultBehind : List (List ℕ) → List Word → QueryFault → Type 0
+IsFaultBehind past ws fault = (fault ≡ QueryEnds) ⊎ IsWrong past ws fault
+
+-- the first word has it
+here : (past : List (List ℕ)) (w : Word) (rest : List Word) (fault : QueryFault) → IsKind fault w.0 past w.1
+    → IsFaultBehind past (w ∷ rest) fault
+here past w rest fault is = inr (record { before = []; word = w; behind = rest; parts = refl; kind = is })
+
+-- or one behind it
+further : (past : List (List ℕ)) (w : Word) (rest : List Word) (fault : QueryFault)
+    → IsFaultBehind (w.1 ∷ past) rest fault → IsFaultBehind past (w ∷ rest) fault
+further past w rest fault (inl ends) = inl ends
+further past w rest fault (inr is) =
+    inr (record {
+      before = w ∷ is.before;
+      word = is.word;
+      behind = is.behind;
+      parts = ap
+          (λ ws. w ∷ ws) is.parts;
+      kind = is.kind;
+    })
+
+-- three steps one behind another
+assoc : {A B C : Type 0} (r : Result A QueryFault) (f : A → Result B QueryFault) (g : B → Result C QueryFault)
+    → ((r >>= f) >>= g) ≡ (r >>= λ x. f x >>= g)
+assoc (Ok x) f g = refl
+assoc (Err d) f g = refl
+
+-- what is made goes on
+made_then : {A B C : Type 0} (make : A → B) (r : Read A) (g : B × List Word → Result C QueryFault)
+    → (made_into make r >>= g) ≡ (r >>= λ p. g (make p.0, p.1))
+made_then make (Ok p) g = refl
+made_then make (Err d) g = refl
+
+-- a fault at one word, or behind it
+one_step : {A C : Type 0} (value : Word → Result A QueryFault) (g : A × List Word → Result C QueryFault)
+    (past : List (List ℕ)) (ws : List Word) (fault : QueryFault)
+    → (one_word value ws >>= g) ≡ Err fault
+    → ((w : Word) (f : QueryFault) → value w ≡ Err f → IsKind f w.0 past w.1)
+    → ((w : Word) (x : A) (rest : List Word) → value w ≡ Ok x → g (x, rest) ≡ Err fault
+    → IsFaultBehind past (w ∷ rest) fault)
+    → IsFaultBehind past ws fault
+one_step value g past [] fault e wrong next = let same : QueryEnds ≡ fault = cc in inl (sym same)
+one_step {A} {C} value g past (w ∷ rest) fault e wrong next = by_value (value w) refl e where
+  by_value : (r : Result A QueryFault) → value w ≡ r → ((r >>= λ x. Ok (x, rest)) >>= g) ≡ Err fault
+      → IsFaultBehind past (w ∷ rest) fault
+  by_value (Ok x) is e = next w x rest is e
+  by_value (Err d) is e = let same : d ≡ fault = cc in here past w rest fault (wrong w fault (is ∙ ap Err same))
+
+-- the same inside a part
+inner_step : {A B C : Type 0} (value : Word → Result A QueryFault) (f : A × List Word → Result B QueryFault)
+    (g : B → Result C QueryFault) (past : List (List ℕ)) (ws : List Word) (fault : QueryFault)
+    → ((one_word value ws >>= f) >>= g) ≡ Err fault
+    → ((w : Word) (d : QueryFault) → value w ≡ Err d → IsKind d w.0 past w.1)
+    → ((w : Word) (x : A) (rest : List Word) → value w ≡ Ok x → (f (x, rest) >>= g) ≡ Err fault
+    → IsFaultBehind past (w ∷ rest) fault)
+    → IsFaultBehind past ws fault
+inner_step value f g past ws fault e wrong next =
+    one_step value (λ x. f x >>= g) past ws fault (sym (assoc (one_word value ws) f g) ∙ e) wrong next
+
+-- a fault at a keyword, or behind it
+keyword_step : {C : Type 0} (text : List ℕ) (g : List Word → Result C QueryFault) (past : List (List ℕ))
+    (ws : List Word) (fault : QueryFault)
+    → (keyword text ws >>= g) ≡ Err fault → IsSettled past
+    → ((rest : List Word) → g rest ≡ Err fault → IsFaultBehind (text ∷ past) rest fault)
+    → IsFaultBehind past ws fault
+unfolding keyword
+keyword_step text g past [] fault e settled next = let same : QueryEnds ≡ fault = cc in inl (sym same)
+keyword_step text g past (w ∷ rest) fault e settled next = by_says (says text w.1) refl e where
+  by_says : (b : Bool) → says text w.1 ≡ b → (cond b (Ok rest) (Err (UnexpectedWord w.0)) >>= g) ≡ Err fault
+      → IsFaultBehind past (w ∷ rest) fault
+  by_says true is e =
+      further past w rest fault (subst (λ (t : List ℕ). IsFaultBehind (t ∷ past) rest fault) (sym (said text w.1 is))
+      (next rest e))
+  by_says false is e =
+      let same : UnexpectedWord w.0 ≡ fault = cc in here past w rest fault
+      (subst (λ f. IsKind f w.0 past w.1) same (refl, inl settled))
+
+-- how it goes on behind a part
+abbrev Next : (A : Type 0) → (A × List Word → Result Asked QueryFault) → QueryFault → Type 0
+Next A g fault =
+    (past : List (List ℕ)) (x : A) (rest : List Word) → IsSettled past → g (x, rest) ≡ Err fault
+    → IsFaultBehind past rest fault
+
+-- a part of a query, behind words that settle
+abbrev Part : (A : Type 0) → (List Word → Read A) → Type 0
+Part A read = (past : List (List ℕ)) (ws : List Word) (g : A × List Word → Result Asked QueryFault) (fault : QueryFault)
+    → IsSettled past → (read ws >>= g) ≡ Err fault → Next A g fault → IsFaultBehind past ws fault
+
+-- what is read behind a word of its own
+abbrev Row : (A : Type 0) → List ℕ → (List Word → Read A) → Type 0
+Row A text read =
+    (past : List (List ℕ)) (ws : List Word) (g : A × List Word → Result Asked QueryFault) (fault : QueryFault)
+    → (read ws >>= g) ≡ Err fault → Next A g fault → IsFaultBehind (text ∷ past) ws fault
+
+-- a row, or one of those below it
+row_step : {A : Type 0} (text : List ℕ) (read : List Word → Read A) (table : List (List ℕ × (List Word → Read A)))
+    (otherwise : List Word → Read A)
+    → Row A text read → Part A (by_word table otherwise) → Part A (by_word ((text, read) ∷ table) otherwise)
+row_step {A} text read table otherwise row others =
+    λ past ws g fault settled e next. by_words past ws g fault settled e next where
+      by_words : Part A (by_word ((text, read) ∷ table) otherwise)
+      by_words past [] g fault settled e next = others past [] g fault settled e next
+      by_words past (w ∷ rest) g fault settled e next = by_says (says text w.1) refl e where
+        by_says : (b : Bool) → says text w.1 ≡ b
+            → (elim (cond b (Some rest) None) [ Some left ↦ read left | None ↦ by_word table otherwise (w ∷ rest) ] >>=
+            g) ≡ Err fault → IsFaultBehind past (w ∷ rest) fault
+        by_says true is e =
+            further past w rest fault (subst (λ (t : List ℕ). IsFaultBehind (t ∷ past) rest fault)
+            (sym (said text w.1 is)) (row past rest g fault e next))
+        by_says false is e = others past (w ∷ rest) g fault settled e next
+
+-- so with all rows
+rows_part : {A : Type 0} (table : List (List ℕ × (List Word → Read A))) (otherwise : List Word → Read A)
+    → AllByRecursion (λ row. Row A row.0 row.1) table → Part A otherwise → Part A (by_word table otherwise)
+rows_part [] otherwise rows others = others
+rows_part (row ∷ table) otherwise rows others =
+    row_step row.0 row.1 table otherwise rows.0 (rows_part table otherwise rows.1 others)
+
+-- the kind of a fault of a number
+number_kind : (low high : ℕ) (past : List (List ℕ)) → place_behind past ≡ a_number → (w : Word) (f : QueryFault)
+    → number low high w ≡ Err f → IsKind f w.0 past w.1
+unfolding number
+number_kind low high past place w f e = by_number (natural w.1) refl e where
+  by_test : (b : Bool) (m : ℕ) → is_digits w.1 ≡ true → ◌≡◌ {A = Result ℕ QueryFault}
+      (cond b (Ok m) (Err (OutOfLimits w.0))) (Err f) → IsKind f w.0 past w.1
+  by_test true m is e = absurd cc
+  by_test false m is e =
+      let same : OutOfLimits w.0 ≡ f = cc in subst (λ f. IsKind f w.0 past w.1) same (refl, place, is)
+
+  by_number : (o : Option ℕ) → natural w.1 ≡ o
+      → (or_fault (UnexpectedWord w.0) o >>= λ m. cond (is_within low high m) (Ok m) (Err (OutOfLimits w.0))) ≡ Err f
+      → IsKind f w.0 past w.1
+  by_number None is e =
+      let same : UnexpectedWord w.0 ≡ f = cc in subst (λ f. IsKind f w.0 past w.1) same
+      (refl, inr (place, ap is_some is))
+  by_number (Some m) is e = by_test (is_within low high m) m (ap is_some is) e
+
+-- of an element
+element_kind : (allows : Element → Bool) (past : List (List ℕ)) → IsSettled past → (w : Word) (f : QueryFault)
+    → element allows w ≡ Err f → IsKind f w.0 past w.1
+unfolding element
+element_kind allows past settled w f e = by_element (element_of w.1) e where
+  wrong : UnexpectedWord w.0 ≡ f → IsKind f w.0 past w.1
+  wrong same = subst (λ f. IsKind f w.0 past w.1) same (refl, inl settled)
+
+  by_test : (b : Bool) (x : Element) → ◌≡◌ {A = Result Element QueryFault} (cond b (Ok x) (Err (UnexpectedWord w.0)))
+      (Err f) → IsKind f w.0 past w.1
+  by_test true x e = absurd cc
+  by_test false x e = wrong cc
+
+  by_element : (o : Option Element)
+      → (or_fault (UnexpectedWord w.0) o >>= λ x. cond (allows x) (Ok x) (Err (UnexpectedWord w.0))) ≡ Err f
+      → IsKind f w.0 past w.1
+  by_element None e = wrong cc
+  by_element (Some x) e = by_test (allows x) x e
+
+-- of degrees
+degrees_kind : (low high : ℤ) (past : List (List ℕ)) → place_behind past ≡ edge → (w : Word) (f : QueryFault)
+    → degrees low high w ≡ Err f → IsKind f w.0 past w.1
+unfolding degrees
+degrees_kind low high past place w f e = by_test (is_number_within low high (scaled_field 4 w.1)) e where
+  by_test : (b : Bool) → cond b (Ok (number_of (scaled_field 4 w.1))) (Err (BadBox w.0)) ≡ Err f → IsKind f w.0 past w.1
+  by_test true e = absurd cc
+  by_test false e = let same : BadBox w.0 ≡ f = cc in subst (λ f. IsKind f w.0 past w.1) same (refl, place)
+
+-- of a code
+code_kind : (len : ℕ) (past : List (List ℕ)) → IsSettled past → (w : Word) (f : QueryFault) → code len w ≡ Err f
+    → IsKind f w.0 past w.1
+unfolding code
+code_kind len past settled w f e = by_test (is_code len w.1) e where
+  by_test : (b : Bool) → cond b (Ok w.1) (Err (UnexpectedWord w.0)) ≡ Err f → IsKind f w.0 past w.1
+  by_test true e = absurd cc
+  by_test false e =
+      let same : UnexpectedWord w.0 ≡ f = cc in subst (λ f. IsKind f w.0 past w.1) same (refl, inl settled)
+
+-- and of a date
+date_kind : (past : List (List ℕ)) → place_behind past ≡ a_date → (w : Word) (f : QueryFault) → date w ≡ Err f
+    → IsKind f w.0 past w.1
+unfolding date
+date_kind past place w f e = by_date (read_date w.1) refl e where
+  by_date : (o : Option ℤ) → read_date w.1 ≡ o → or_fault (BadDate w.0) o ≡ Err f → IsKind f w.0 past w.1
+  by_date None is e =
+      let same : BadDate w.0 ≡ f = cc in subst (λ f. IsKind f w.0 past w.1) same (refl, place, ap is_some is)
+  by_date (Some day) is e = absurd cc
+
+-- behind a word, an element that a test allows
+element_row : (text : List ℕ) (allows : Element → Bool) (make : Element → Score)
+    → ((past : List (List ℕ)) → IsSettled (text ∷ past))
+    → Row Score text (λ ws. made_into make (one_word (element allows) ws))
+element_row text allows make settled = λ past ws g fault e next.
+    one_step (element allows) (λ p. g (make p.0, p.1)) (text ∷ past) ws fault
+    (sym (made_then make (one_word (element allows) ws) g) ∙ e)
+    (element_kind allows (text ∷ past) (settled past))
+    (λ w x rest is e. further (text ∷ past) w rest fault
+    (next (w.1 ∷ text ∷ past) (make x) rest (element_settled allows w x (text ∷ past) is) e))
+
+-- a number of days and what is added up
+sum_row : Row Score (codes "sum") sum_at
+unfolding sum_at
+sum_row = λ past ws g fault e next.
+    inner_step (number 1 366) _ g (codes "sum" ∷ past) ws fault e (number_kind 1 366 (codes "sum" ∷ past) refl)
+    (λ w n rest is e.
+    further (codes "sum" ∷ past) w rest fault (
+    let behind : List (List ℕ) = w.1 ∷ codes "sum" ∷ past in
+    inner_step (element is_fall) _ g behind rest fault e
+    (element_kind is_fall behind (settled_word w.1 (codes "sum" ∷ past) (number_no_keyword 1 366 w n is) refl refl))
+    (λ v x rest is e.
+    further behind v rest fault (next (v.1 ∷ behind) (Sum n x) rest (element_settled is_fall v x behind is) e))))
+
+-- a word alone
+word_row : {A : Type 0} (text : List ℕ) (y : A) → ((past : List (List ℕ)) → IsSettled (text ∷ past))
+    → Row A text (λ ws. Ok (y, ws))
+word_row text y settled = λ past ws g fault e next. next (text ∷ past) y ws (settled past) e
+
+-- no score
+no_score : Part Score no_score_at
+unfolding no_score_at
+no_score = λ past ws g fault settled e next. by_words past ws g fault settled e where
+  by_words : (past : List (List ℕ)) (ws : List Word) (g : Score × List Word → Result Asked QueryFault)
+      (fault : QueryFault) → IsSettled past → (no_score_at ws >>= g) ≡ Err fault → IsFaultBehind past ws fault
+  by_words past [] g fault settled e = let same : QueryEnds ≡ fault = cc in inl (sym same)
+  by_words past (w ∷ rest) g fault settled e =
+      let same : UnexpectedWord w.0 ≡ fault = cc in
+      here past w rest fault (subst (λ f. IsKind f w.0 past w.1) same (refl, inl settled))
+
+-- a score
+score_part : Part Score score_at
+unfolding score_at
+score_part =
+    rows_part ((codes "highest", highest_at) ∷ (codes "lowest", lowest_at) ∷ (codes "sum", sum_at) ∷
+    (codes "dry", dry_at) ∷ (codes "wet", wet_at) ∷ []) no_score_at (
+      element_row (codes "highest") (λ e. true) Highest (λ past. refl),
+      (
+        element_row (codes "lowest") is_temperature Lowest (λ past. refl),
+        (sum_row, (word_row (codes "dry") Dry (λ past. refl), (word_row (codes "wet") Wet (λ past. refl), tt))),
+      ),
+    ) no_score
+
+-- behind four edges another word stands
+edges_settled : (e n w s : List ℕ) (box : List (List ℕ)) → IsNoKeyword e → IsNoKeyword n → IsNoKeyword w
+    → IsNoKeyword s → IsSettled (e ∷ n ∷ w ∷ s ∷ box)
+edges_settled e n w s box no_e no_n no_w no_s =
+    settled_word e (n ∷ w ∷ s ∷ box) no_e
+    (edge_less 1 n (w ∷ s ∷ box) no_n.box (edge_less 0 w (s ∷ box) no_w.box no_s.box))
+    (not_both (is_date n) (same_bytes w (codes "from")) no_w.from)
+
+-- the four edges of a box
+box_row : Row Region (codes "box") box_at
+unfolding box_at
+box_row = λ past ws g fault e next.
+    let box : List (List ℕ) = codes "box" ∷ past in
+    inner_step (latitude_from (neg_ℤ (pos 900_000))) _ g box ws fault e
+    (degrees_kind (neg_ℤ (pos 900_000)) (pos 900_000) box refl) (λ s z rest is e.
+    let no_s = degrees_no_keyword (neg_ℤ (pos 900_000)) (pos 900_000) s z is in
+    let one : is_behind_box 1 (s.1 ∷ box) ≡ true = edge_more 0 s.1 box
+    (degrees_decimal (neg_ℤ (pos 900_000)) (pos 900_000) s z is) refl in
+    let first : is_behind_box 3 (s.1 ∷ box) ≡ true = edge_more 2 s.1 box
+    (degrees_decimal (neg_ℤ (pos 900_000)) (pos 900_000) s z is) refl in
+    let second : is_behind_box 2 (s.1 ∷ box) ≡ true = edge_more 1 s.1 box
+    (degrees_decimal (neg_ℤ (pos 900_000)) (pos 900_000) s z is) refl in
+    further box s rest fault (
+    inner_step longitude _ g (s.1 ∷ box) rest fault e
+    (degrees_kind (neg_ℤ (pos 1_800_000)) (pos 1_800_000) (s.1 ∷ box) (edge_place (s.1 ∷ box) first))
+    (λ w x rest is e.
+    let no_w = degrees_no_keyword (neg_ℤ (pos 1_800_000)) (pos 1_800_000) w x is in
+    let two : is_behind_box 2 (w.1 ∷ s.1 ∷ box) ≡ true = edge_more 1 w.1 (s.1 ∷ box)
+    (degrees_decimal (neg_ℤ (pos 1_800_000)) (pos 1_800_000) w x is) one in
+    let three : is_behind_box 3 (w.1 ∷ s.1 ∷ box) ≡ true = edge_more 2 w.1 (s.1 ∷ box)
+    (degrees_decimal (neg_ℤ (pos 1_800_000)) (pos 1_800_000) w x is) second in
+    further (s.1 ∷ box) w rest fault (
+    inner_step (latitude_from z) _ g (w.1 ∷ s.1 ∷ box) rest fault e
+    (degrees_kind z (pos 900_000) (w.1 ∷ s.1 ∷ box) (edge_place (w.1 ∷ s.1 ∷ box) three)) (λ n y rest is e.
+    let no_n = degrees_no_keyword z (pos 900_000) n y is in
+    let last : is_behind_box 3 (n.1 ∷ w.1 ∷ s.1 ∷ box) ≡ true = edge_more 2 n.1 (w.1 ∷ s.1 ∷ box)
+    (degrees_decimal z (pos 900_000) n y is) two in
+    further (w.1 ∷ s.1 ∷ box) n rest fault (
+    inner_step longitude (λ o. Ok (Inside z x y o.0, o.1)) g (n.1 ∷ w.1 ∷ s.1 ∷ box) rest fault e
+    (degrees_kind (neg_ℤ (pos 1_800_000)) (pos 1_800_000) (n.1 ∷ w.1 ∷ s.1 ∷ box)
+    (edge_place (n.1 ∷ w.1 ∷ s.1 ∷ box) last)) (λ o v rest is e.
+    further (n.1 ∷ w.1 ∷ s.1 ∷ box) o rest fault (next (o.1 ∷ n.1 ∷ w.1 ∷ s.1 ∷ box) (Inside z x y v) rest
+    (edges_settled o.1 n.1 w.1 s.1 box (degrees_no_keyword (neg_ℤ (pos 1_800_000)) (pos 1_800_000) o v is) no_n no_w
+    no_s) e))))))))
+
+-- behind a word, a code of so many bytes
+code_row : (text : List ℕ) (len : ℕ) (make : List ℕ → Region) → HaveOtherLengths len
+    → ((past : List (List ℕ)) → IsSettled (text ∷ past))
+    → ((past : List (List ℕ)) → is_behind_box 2 (text ∷ past) ≡ false)
+    → ((past : List (List ℕ)) → is_behind_first_day (text ∷ past) ≡ false)
+    → Row Region text (λ ws. made_into make (one_word (code len) ws))
+code_row text len make lengths settled box day = λ past ws g fault e next.
+    one_step (code len) (λ p. g (make p.0, p.1)) (text ∷ past) ws fault
+    (sym (made_then make (one_word (code len) ws) g) ∙ e)
+    (code_kind len (text ∷ past) (settled past))
+    (λ w c rest is e. further (text ∷ past) w rest fault
+    (next (w.1 ∷ text ∷ past) (make c) rest
+    (settled_word w.1 (text ∷ past) (code_no_keyword len w c lengths is) (box past) (day past)) e))
+
+-- a part that needs no word
+always_part : {A : Type 0} (y : A) → Part A (λ ws. Ok (y, ws))
+always_part y = λ past ws g fault settled e next. next past y ws settled e
+
+-- a region
+region_part : Part Region region_at
+unfolding region_at
+region_part =
+    rows_part ((codes "box", box_at) ∷ (codes "country", country_at) ∷ (codes "state", state_at) ∷
+    (codes "station", station_at) ∷ []) everywhere_at (
+      box_row,
+      (
+        code_row (codes "country") 2 Country two (λ past. refl) (λ past. refl) (λ past. refl),
+        (
+          code_row (codes "state") 2 State two (λ past. refl) (λ past. refl) (λ past. refl),
+          (
+            code_row (codes "station") 11 (λ id. Only (record { 0 = id })) eleven (λ past. refl) (λ past. refl)
+                (λ past. refl),
+            tt,
+          ),
+        ),
+      ),
+    ) (always_part Everywhere)
+  where
+    two : HaveOtherLengths 2
+    two = record { box = refl; top = refl; sum = refl; from = refl }
+
+    eleven : HaveOtherLengths 11
+    eleven = record { box = refl; top = refl; sum = refl; from = refl }
+
+-- two days behind "from"
+days_row : Row (Option (ℤ × ℤ)) (codes "from") between_at
+unfolding days_at
+days_row = λ past ws g fault e next.
+    let from : List (List ℕ) = codes "from" ∷ past in
+    inner_step date _ (λ p. g (Some p.0, p.1)) from ws fault (sym (made_then Some (days_at ws) g) ∙ e)
+    (date_kind from refl) (λ w first rest is e.
+    let day : List (List ℕ) = w.1 ∷ from in
+    let to : List (List ℕ) = codes "to" ∷ day in
+    let place : place_behind to ≡ a_date = ap (λ b. cond (b && true) a_date other) (day_date w first is) in
+    further from w rest fault (
+    keyword_step (codes "to") _ day rest fault
+    (sym (assoc (keyword (codes "to") rest) _ (λ p. g (Some p.0, p.1))) ∙ e)
+    (settled_word w.1 from (date_no_keyword w first is) refl refl) (λ rest e.
+    inner_step date (λ last. cond (int_le first last.0) (Ok ((first, last.0), last.1)) (Err EmptyPeriod))
+    (λ p. g (Some p.0, p.1)) to rest fault e (date_kind to place) (λ v last rest is e.
+    by_order past g fault next w.1 first v last rest place is (int_le first last) e))))
+  where
+    by_order : (past : List (List ℕ)) (g : Option (ℤ × ℤ) × List Word → Result Asked QueryFault) (fault : QueryFault)
+        → Next (Option (ℤ × ℤ)) g fault
+        → (d : List ℕ) (first : ℤ) (v : Word) (last : ℤ) (rest : List Word)
+        → place_behind (codes "to" ∷ d ∷ codes "from" ∷ past) ≡ a_date → date v ≡ Ok last
+        → (b : Bool) → ◌>>=◌ {A = (ℤ × ℤ) × List Word} (cond b (Ok ((first, last), rest)) (Err EmptyPeriod))
+        (λ p. g (Some p.0, p.1)) ≡ Err fault → IsFaultBehind (codes "to" ∷ d ∷ codes "from" ∷ past) (v ∷ rest) fault
+    by_order past g fault next d first v last rest place is true e =
+        let to : List (List ℕ) = codes "to" ∷ d ∷ codes "from" ∷ past in
+        further to v rest fault (next (v.1 ∷ to) (Some (first, last)) rest
+        (settled_word v.1 to (date_no_keyword v last is) refl refl) e)
+    by_order past g fault next d first v last rest place is false e =
+        let to : List (List ℕ) = codes "to" ∷ d ∷ codes "from" ∷ past in
+        let same : EmptyPeriod ≡ fault = cc in
+        here to v rest fault (subst (λ f. IsKind f v.0 to v.1) same (place, day_date v last is))
+
+-- a period
+period_part : Part (Option (ℤ × ℤ)) period_at
+unfolding period_at
+period_part = rows_part ((codes "from", between_at) ∷ []) always_at (days_row, tt) (always_part None)
+
+-- no word may follow
+nothing_kind : (past : List (List ℕ)) (ws : List Word) (q : Asked) (fault : QueryFault) → IsSettled past
+    → nothing_more ws q ≡ Err fault → IsFaultBehind past ws fault
+nothing_kind past [] q fault settled e = absurd cc
+nothing_kind past (w ∷ rest) q fault settled e =
+    let same : UnexpectedWord w.0 ≡ fault = cc in
+    here past w rest fault (subst (λ f. IsKind f w.0 past w.1) same (refl, inl settled))
+
+-- the fault of the words of a query
+words_kind : (ws : List Word) (fault : QueryFault) → read_words ws ≡ Err fault → IsFaultBehind [] ws fault
+unfolding read_words
+words_kind ws fault e =
+    let top : List (List ℕ) = codes "top" ∷ [] in
+    keyword_step (codes "top") _ [] ws fault e refl (λ rest e.
+    one_step (number 1 1000) _ top rest fault e (number_kind 1 1000 top refl) (λ v k rest is e.
+    further top v rest fault (
+    score_part (v.1 ∷ top) rest _ fault (settled_word v.1 top (number_no_keyword 1 1000 v k is) refl refl) e
+    (λ past s rest settled e.
+    region_part past rest _ fault settled e (λ past r rest settled e.
+    period_part past rest (λ p. nothing_more p.1 (asked k s r p.0)) fault settled e (λ past p rest settled e.
+    nothing_kind past rest (asked k s r p) fault settled e))))))
+
+-- the number of the fault's word is one more than there are words before it
+numbered : (fault : QueryFault) (n : ℕ) (past : List (List ℕ)) (word : List ℕ) → n ≡ length past + 1
+    → IsKind fault n past word → IsFaultOf fault past word
+numbered QueryTooLong n past word at is = absurd is
+numbered (UnexpectedWord m) n past word at is = (is.0 ∙ at, is.1)
+numbered QueryEnds n past word at is = absurd is
+numbered (OutOfLimits m) n past word at is = (is.0 ∙ at, is.1, is.2)
+numbered (BadDate m) n past word at is = (is.0 ∙ at, is.1, is.2)
+numbered (BadBox m) n past word at is = (is.0 ∙ at, is.1)
+numbered EmptyPeriod n past word at is = is
+
+-- a fault of a word is among those of the words
+is_among : (fault : QueryFault) (ws past : List (List ℕ)) (word : List ℕ) (behind : List (List ℕ))
+    → ws ≡ reverse past ++ word ∷ behind → IsFaultOf fault past word → IsFaultAmong fault ws
+is_among QueryTooLong ws past word behind parts is = tt
+is_among (UnexpectedWord m) ws past word behind parts is = (past, word, behind, parts, is)
+is_among QueryEnds ws past word behind parts is = tt
+is_among (OutOfLimits m) ws past word behind parts is = (past, word, behind, parts, is)
+is_among (BadDate m) ws past word behind parts is = (past, word, behind, parts, is)
+is_among (BadBox m) ws past word behind parts is = (past, word, behind, parts, is)
+is_among EmptyPeriod ws past word behind parts is = (past, word, behind, parts, is)
+
+-- the fault of the words of a text is that of one of them
+text_kind : (text : List ℕ) (fault : QueryFault) → IsFaultBehind [] (numbered_words text) fault
+    → IsFaultAmong fault (words_of text)
+text_kind text fault (inl ends) = subst (λ f. IsFaultAmong f (words_of text)) (sym ends) tt
+text_kind text fault (inr is) =
+    let past : List (List ℕ) = reverse (unnumbered is.before) in
+    let place = place_of 1 (words_of text) is.before is.word is.behind is.parts in
+    let long : length past ≡ length is.before = length-reverse (unnumbered is.before)
+    ∙ length-map is.before (λ (w : Word). w.1) in
+    let at : is.word.0 ≡ length past + 1 = omega (arith, place.number, long) in
+    let parts : words_of text ≡ reverse past ++ is.word.1 ∷ unnumbered is.behind =
+    sym (unnumbered-enumerate_from 1 (words_of text)) ∙ ap unnumbered is.parts
+    ∙ map-append (λ (w : Word). w.1) is.before (is.word ∷ is.behind)
+    ∙ ap (λ words. words ++ is.word.1 ∷ unnumbered is.behind) (sym (reverse-reverse (unnumbered is.before))) in
+    is_among fault (words_of text) past is.word.1 (unnumbered is.behind) parts
+    (numbered fault is.word.0 past is.word.1 at is.kind)
+
+-- so it is with a text of any length
+within_kind : (b : Bool) (text : List ℕ) (fault : QueryFault)
+    → cond b (Err QueryTooLong) (read_words (numbered_words text)) ≡ Err fault → IsFaultAmong fault (words_of text)
+within_kind true text fault e =
+    let same : QueryTooLong ≡ fault = cc in subst (λ f. IsFaultAmong f (words_of text)) same tt
+within_kind false text fault e = text_kind text fault (words_kind (numbered_words text) fault e)
+
+-- a text's fault is that of one of its words
+pub fault_kind : (text : List ℕ) (fault : QueryFault) → read_query text ≡ Err fault → IsFaultAmong fault (words_of text)
+unfolding read_query
+fault_kind text fault e = within_kind (nat_lt 256 (length text)) text fault e
+
+-- where the reading fails, the fault is that of one of the words
+pub if_fault_kind : (text : List ℕ) (r : Result Asked QueryFault) → r ≡ read_query text
+    → IfErr r (λ fault. IsFaultAmong fault (words_of text))
+if_fault_kind text (Ok q) e = tt
+if_fault_kind text (Err fault) e = fault_kind text fault (sym e)

@@ -1,0 +1,85 @@
+-- What is read as a query can be asked.
+use Rattle.std.proofs.Common.{◌≡◌, ℕ, Bool, true, false, cond, List, [], ◌∷◌, Option, Some, None, Result, Ok, Err}
+use Rattle.std.proofs.Common.{codes, inl, inr, refl, sym, ap, ◌∙◌, subst, length, IfOk}
+use Rattle.std.specs.Prelude.{nat_lt, ℤ}
+use Rattle.std.specs.List.{AllByRecursion}
+use Rattle.ghcn_fields.specs.Days.{is_within}
+use Rattle.rank_query.specs.declared.region.Region.{Region}
+use Rattle.rank_query.specs.declared.region.Region.TheVariants.{Everywhere}
+use Rattle.rank_query.specs.declared.fault.QueryFault.{QueryFault}
+use Rattle.rank_query.specs.declared.fault.QueryFault.TheVariants.{QueryTooLong}
+use Rattle.rank_query.specs.Asked.{Asked, IsAsked, is_region, is_period}
+use Rattle.rank_query.specs.Words.{Word, numbered_words}
+use Rattle.rank_query.specs.Readers.{Read, keyword, one_word, by_word}
+use Rattle.rank_query.specs.WordValues.{number}
+use Rattle.rank_query.specs.Reading.{score_at, everywhere_at, region_at, always_at, period_at, nothing_more}
+use Rattle.rank_query.specs.Reading.{read_words, read_query}
+use Rattle.rank_query.specs.Spelling.{IsSpelling}
+use Rattle.rank_query.proofs.Spellings.{asked, read_spells}
+use Rattle.rank_query.proofs.ReadingSteps.{bind_ok}
+use Rattle.rank_query.proofs.Stops.{ReadsPart}
+use Rattle.rank_query.proofs.PartStops.{by_first, part_word}
+use Rattle.rank_query.proofs.WordStops.{reads_number}
+use Rattle.rank_query.proofs.ScoreStops.{score_part}
+use Rattle.rank_query.proofs.RegionStops.{GoodRegion, region_rows, region_parts}
+use Rattle.rank_query.proofs.PeriodStops.{GoodPeriod, period_rows, period_parts}
+
+-- what is read by its first word, or without one, is good, if both are
+by_word_good : {A : Type 0} (Good : A → Type 0) (table : List (List ℕ × (List Word → Read A))) (other : A)
+    (ws rest : List Word) (x : A) → AllByRecursion (λ row. ReadsPart A Good row.1) table → Good other
+    → by_word table (λ w. Ok (other, w)) ws ≡ Ok (x, rest) → Good x
+by_word_good {A} Good table other [] rest x parts is e = without table e where
+  without : (t : List (List ℕ × (List Word → Read A))) → by_word t (λ w. Ok (other, w)) [] ≡ Ok (x, rest) → Good x
+  without [] f =
+      let pair : ◌≡◌ {A = A × List Word} (other, []) (x, rest) = cc in subst Good
+      (ap (λ (p : A × List Word). p.0) pair) is
+  without (row ∷ t) f = without t f
+by_word_good {A} Good table other (w ∷ ws) rest x parts is e = elim (by_first Good table (λ w. Ok (other, w)) w parts) [
+  | inl found ↦ (found.1.takes ws (x, rest) (sym (found.2 ws) ∙ e)).good
+  | inr none ↦ let both : ◌≡◌ {A = Read A} (Ok (other, w ∷ ws)) (Ok (x, rest)) = sym (none ws)
+      ∙ e in let pair : (other, w ∷ ws) ≡ (x, rest) = cc in subst Good (ap (λ (p : A × List Word). p.0) pair) is
+]
+
+-- where nothing more comes, the query is that of the parts
+left_is : (ws : List Word) (q r : Asked) → nothing_more ws q ≡ Ok r → q ≡ r
+left_is [] q r e = cc
+left_is (w ∷ ws) q r e = absurd cc
+
+-- 1 is a number of rows
+one_row : number 1 1000 (0, codes "1") ≡ Ok 1
+unfolding number
+one_row = refl
+
+-- the query of some words can be asked
+words_asked : (ws : List Word) (q : Asked) → read_words ws ≡ Ok q → IsAsked q
+unfolding read_words region_at period_at
+words_asked ws q e =
+    let top = bind_ok (keyword (codes "top") ws) _ q e in
+    let k = bind_ok (one_word (number 1 1000) top.0) _ q top.2 in
+    let s = bind_ok (score_at k.0.1) _ q k.2 in
+    let r = bind_ok (region_at s.0.1) _ q s.2 in
+    let p = bind_ok (period_at r.0.1) _ q r.2 in
+    let rows = ((part_word (λ k. is_within 1 1000 k ≡ true) (number 1 1000) (reads_number 1 1000 one_row)).takes top.0
+    k.0 k.1).good in
+    let score = (score_part.takes k.0.1 s.0 s.1).good in
+    let region = by_word_good GoodRegion region_rows Everywhere s.0.1 r.0.1 r.0.0 region_parts refl r.1 in
+    let period = by_word_good GoodPeriod period_rows None r.0.1 p.0.1 p.0.0 period_parts refl p.1 in
+    subst IsAsked (left_is p.0.1 (asked k.0.0 s.0.0 r.0.0 p.0.0) q p.2)
+    (record { k = rows; score = score; region = region; period = period })
+
+-- so can that of a text of any length
+within_asked : (b : Bool) (text : List ℕ) (q : Asked) → cond b (Err QueryTooLong)
+    (read_words (numbered_words text)) ≡ Ok q → IsAsked q
+within_asked true text q e = cc
+within_asked false text q e = words_asked (numbered_words text) q e
+
+-- what is read as a query can be asked
+pub read_asked : (text : List ℕ) (q : Asked) → read_query text ≡ Ok q → IsAsked q
+unfolding read_query
+read_asked text q e = within_asked (nat_lt 256 (length text)) text q e
+
+-- where the reading succeeds, the query can be asked and the text spells it
+pub if_read : (text : List ℕ) (r : Result Asked QueryFault) → r ≡ read_query text
+    → IfOk r (λ q. IsAsked q × IsSpelling text q)
+if_read text (Ok q) e = (read_asked text q (sym e), read_spells text q (sym e))
+if_read text (Err fault) e = tt

@@ -1,0 +1,85 @@
+-- Which fault a wrong word has: it depends on what the grammar has behind the words before it.
+use Rattle.std.specs.Prelude.{◌≡◌, ℕ, zero, suc, ◌+◌, Bool, true, false, ◌&&◌, ◌||◌, if◌then◌else◌, ◌⊎◌, List, []}
+use Rattle.std.specs.Prelude.{◌∷◌, ◌++◌, length, reverse, codes, is_some}
+use Rattle.ghcn_fields.specs.declared.field.Field.{Field}
+use Rattle.ghcn_fields.specs.declared.field.Field.TheVariants.{Blank, Number, Bad}
+use Rattle.ghcn_fields.specs.Bytes.{same_bytes}
+use Rattle.ghcn_fields.specs.Dates.{read_date}
+use Rattle.ghcn_fields.specs.Numbers.{natural, scaled_field}
+use Rattle.rank_query.specs.declared.fault.QueryFault.{QueryFault}
+use Rattle.rank_query.specs.declared.fault.QueryFault.TheVariants.{QueryTooLong, UnexpectedWord, QueryEnds}
+use Rattle.rank_query.specs.declared.fault.QueryFault.TheVariants.{OutOfLimits, BadDate, BadBox, EmptyPeriod}
+
+-- what the grammar has at a place: a number of rows or of days, an edge of a box, a date, or any other word
+pub data Place : Type 0 where
+  number : Place
+  edge : Place
+  date : Place
+  other : Place
+
+-- the word is one digit or more, and nothing else
+abbrev pub is_digits : List ℕ → Bool
+is_digits word = is_some (natural word)
+
+-- a field is a number
+abbrev pub is_number : Field → Bool
+is_number Blank = false
+is_number (Number z) = true
+is_number Bad = false
+
+-- the word is a number with up to four decimals
+abbrev pub is_decimal : List ℕ → Bool
+is_decimal word = is_number (scaled_field 4 word)
+
+-- the word is the date of a day
+abbrev pub is_date : List ℕ → Bool
+is_date word = is_some (read_date word)
+
+-- the nearest of some words is this one; of the words behind which a word stands the nearest always comes first
+abbrev pub is_behind : List ℕ → List (List ℕ) → Bool
+is_behind text [] = false
+is_behind text (w ∷ past) = same_bytes w text
+
+-- they are "box" and at most so many numbers behind it, and any words before
+abbrev pub is_behind_box : ℕ → List (List ℕ) → Bool
+is_behind_box n [] = false
+is_behind_box zero (w ∷ past) = same_bytes w (codes "box")
+is_behind_box (suc n) (w ∷ past) = same_bytes w (codes "box") || (is_decimal w && is_behind_box n past)
+
+-- they are "from" and a date, and any words before
+abbrev pub is_behind_first_day : List (List ℕ) → Bool
+is_behind_first_day [] = false
+is_behind_first_day (w ∷ past) = is_date w && is_behind (codes "from") past
+
+-- they are "from", or "from", a date and "to", and any words before
+abbrev pub is_behind_from : List (List ℕ) → Bool
+is_behind_from [] = false
+is_behind_from (w ∷ past) = same_bytes w (codes "from") || (same_bytes w (codes "to") && is_behind_first_day past)
+
+-- the place behind some words: a number stands behind "top" and "sum", the four edges behind "box",
+-- the dates behind "from" and "to"
+abbrev pub place_behind : List (List ℕ) → Place
+place_behind past =
+    if is_behind_box 3 past then edge
+    else if is_behind (codes "top") past || is_behind (codes "sum") past then number
+    else if is_behind_from past then date
+    else other
+
+-- the fault of a word that is wrong behind these words
+abbrev pub IsFaultOf : QueryFault → List (List ℕ) → List ℕ → Type 0
+IsFaultOf QueryTooLong past word = ⊥
+IsFaultOf (UnexpectedWord n) past word =
+    (n ≡ length past + 1) × ((place_behind past ≡ other) ⊎ ((place_behind past ≡ number) × (is_digits word ≡ false)))
+IsFaultOf QueryEnds past word = ⊥
+IsFaultOf (OutOfLimits n) past word = (n ≡ length past + 1) × (place_behind past ≡ number) × (is_digits word ≡ true)
+IsFaultOf (BadDate n) past word = (n ≡ length past + 1) × (place_behind past ≡ date) × (is_date word ≡ false)
+IsFaultOf (BadBox n) past word = (n ≡ length past + 1) × (place_behind past ≡ edge)
+IsFaultOf EmptyPeriod past word = (place_behind past ≡ date) × (is_date word ≡ true)
+
+-- a fault of words is that of one of them
+abbrev pub IsFaultAmong : QueryFault → List (List ℕ) → Type 0
+IsFaultAmong QueryTooLong ws = Unit {0}
+IsFaultAmong QueryEnds ws = Unit {0}
+IsFaultAmong fault ws =
+    (past : List (List ℕ)) × (word : List ℕ) × (behind : List (List ℕ)) × (ws ≡ reverse past ++ word ∷ behind)
+    × IsFaultOf fault past word
