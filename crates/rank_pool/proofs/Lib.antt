@@ -1,0 +1,10 @@
+pub mod Orders
+pub mod Places
+pub mod Counts
+pub mod Ranked
+pub mod Examples
+pub mod Kept
+pub mod Inserts
+pub mod Searches
+pub mod Offers
+pub mod Moves

@@ -1,0 +1,34 @@
+-- What a pool holds.
+use Rattle.std.specs.Prelude.{◌≡◌, ℕ, ◌<◌, ◌≤◌, ◌-◌, List, [], length, take, Option, ℤ, slice_get}
+use Rattle.std.specs.Option.{option_map}
+use Rattle.ghcn_fields.specs.Sorting.{placed}
+use Rattle.rank_scores.specs.declared.candidate.Candidate.{Candidate}
+use Rattle.rank_pool.specs.First.{comes_first, in_order, first}
+
+-- how many candidates a pool has places for, and those that it holds, the best first
+pub record Pooled : Type 0 where
+  pub size : ℕ
+  pub held : List Candidate
+
+-- a pool that was offered nothing
+abbrev pub empty_pool : ℕ → Pooled
+empty_pool k = record { size = k; held = [] }
+
+-- one candidate more: it takes its place in the order, and what stands behind the last place falls out
+abbrev pub taken : Pooled → Candidate → Pooled
+taken p c = record { size = p.size; held = take p.size (placed comes_first c p.held) }
+
+-- the pool holds the first of these candidates, as many as it has places for
+abbrev pub HoldsFirst : Pooled → List Candidate → Type 0
+HoldsFirst p xs = p.held ≡ first p.size xs
+
+-- the score of the last place, if each place is taken
+abbrev pub last_score : Pooled → Option ℤ
+last_score p = option_map (λ c. c.score) (slice_get p.held (p.size - 1))
+
+-- what is true of every pool: it has 1 to 1000 places, holds no more candidates than that, and these are in order
+pub record IsPool (p : Pooled) : Type 0 where
+  pub some : 0 < p.size
+  pub limit : p.size ≤ 1000
+  pub few : length p.held ≤ p.size
+  pub order : in_order p.held ≡ p.held

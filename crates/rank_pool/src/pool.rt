@@ -1,0 +1,149 @@
+//! A pool of the best candidates.
+
+ghost use Rattle.std.specs.Prelude.{◌≡◌, ◌↔◌, ◌<◌, ◌≤◌, ◌++◌, List, [], ◌∷◌, length, insert, fold, IfOk, IsSome};
+ghost use Rattle.std.specs.Prelude.{slice_get};
+ghost use Rattle.std.specs.Option.{option_map};
+ghost use Rattle.std.specs.VecDeque.{deque_len};
+ghost use Rattle.ghcn_fields.specs.Sorting as sorting;
+ghost use Rattle.rank_scores.specs.declared.candidate.Candidate as made;
+ghost use Rattle.rank_scores.specs.Order.{AreApart, kth_score};
+ghost use Rattle.rank_pool.specs.First.{comes_first, in_order, first, kth};
+ghost use Rattle.rank_pool.specs.Pools as pools;
+
+use ghcn_fields::Memory;
+use rank_scores::{Candidate, Sink};
+use std::alloc::Global;
+use std::collections::VecDeque;
+use std::marker::Model;
+
+/// The best candidates of all that were offered, up to a number of places.
+#[derive(Drop)]
+pub struct Pool {
+    /// The best first: where each is better than all before, both ends change and nothing moves.
+    held: VecDeque<Candidate>,
+    size: usize,
+    /// The score of the last place, once each place is taken.
+    last: Option<i64>,
+}
+
+impl Model for Pool {
+    ghost use Rattle.rank_pool.specs.Pools.{Pooled, IsPool, last_score};
+    ghost use Rattle.std.specs.Prelude.{◌≡◌, ◌<◌};
+    ghost use Rattle.std.specs.VecDeque.{deque_capacity};
+
+    ghost Value = { Pooled };
+
+    ghost view = { λ p. record { size = p.size; held = p.held.items } };
+
+    ghost invariant = { λ p. IsPool (record { size = p.size; held = p.held.items })
+        × (p.last ≡ last_score (record { size = p.size; held = p.held.items })) × (p.size < deque_capacity p.held) };
+}
+
+impl Pool {
+    /// An empty pool with so many places, 1 to 1000. No later call takes memory.
+    pub fn new(alloc: Global, k: u64) -> Result<Pool, Memory>
+        requires some { 0 < k }
+        requires few { k ≤ 1000 }
+        ensures { IfOk result (λ pool. pool ≡ pools.empty_pool k) }
+    {
+        let size = k as usize;
+        // One place more, for a candidate that pushes out the last.
+        let held = VecDeque::with_capacity(alloc, size + 1)?;
+        Ok(Pool {
+            held,
+            size,
+            last: None,
+        })
+    }
+
+    /// The score of the last place, where each place is taken: the k-th score of all offered.
+    #[inline]
+    pub fn kth(&self) -> Option<i64>
+        ensures last { result ≡ pools.last_score self.now }
+        ensures full { IsSome result ↔ (length self.now.held ≡ self.now.size) }
+        ensures all { (xs : List made.Candidate) → pools.HoldsFirst self.now xs → result ≡ kth self.now.size xs }
+        ensures ranked { (xs : List made.Candidate) → AreApart xs → pools.HoldsFirst self.now xs →
+            result ≡ kth_score self.now.size xs }
+    {
+        self.last
+    }
+
+    /// Takes all that another pool of as many places holds.
+    pub fn merge(&mut self, other: Pool)
+        requires { other.size ≡ self.old.size }
+        ensures taken { self.new ≡ fold pools.taken self.old other.held }
+        ensures all { (xs ys : List made.Candidate) → pools.HoldsFirst self.old xs → pools.HoldsFirst other ys →
+            pools.HoldsFirst self.new (xs ++ ys) }
+    {
+        let theirs = other.into_sorted();
+        for candidate in theirs.as_slice() {
+            self.offer(*candidate);
+        }
+    }
+
+    /// The candidates, the best first.
+    pub fn into_sorted(self) -> Vec<Candidate>
+        ensures held { result.items ≡ self.held }
+        ensures order { in_order result.items ≡ result.items }
+    {
+        self.held.into_vec()
+    }
+
+    /// Puts a candidate at its place, and lets go of what then stands behind the last one.
+    #[inline(never)]
+    fn place(&mut self, candidate: Candidate)
+        ensures { self.new ≡ pools.taken self.old candidate }
+    {
+        let place = place_of(&self.held, &candidate);
+        // A place was reserved, so this isn't refused.
+        let _ = self.held.insert(place, candidate);
+        self.held.truncate(self.size);
+        self.last = score_at(&self.held, self.size - 1);
+    }
+}
+
+impl Sink for Pool {
+    ghost use Rattle.rank_pool.specs.Pools as pools;
+
+    ghost taken = { pools.taken };
+
+    #[inline]
+    fn offer(&mut self, candidate: Candidate)
+        ensures taken { self.new ≡ pools.taken self.old candidate }
+        ensures all { (xs : List made.Candidate) → pools.HoldsFirst self.old xs →
+            pools.HoldsFirst self.new (xs ++ candidate ∷ []) }
+    {
+        match self.last {
+            // Of a long series most candidates end here.
+            Some(last) if candidate.score < last => {}
+            _ => self.place(candidate),
+        }
+    }
+}
+
+/// Where a candidate stands in its order: before the first that it isn't listed behind.
+fn place_of(held: &VecDeque<Candidate>, candidate: &Candidate) -> usize
+    ensures within { result ≤ deque_len held.now }
+    ensures placed { in_order held.now.items ≡ held.now.items →
+        insert held.now.items result candidate.now ≡ sorting.placed comes_first candidate.now held.now.items }
+{
+    let (Some(best), Some(last)) = (held.front(), held.back()) else {
+        return 0;
+    };
+    // Scores that rise, or stay as they are, need no search.
+    if candidate <= best {
+        0
+    } else if last < candidate {
+        held.len()
+    } else {
+        held.partition_point(|it| it < candidate)
+    }
+}
+
+/// The score at a place, if it is taken.
+fn score_at(held: &VecDeque<Candidate>, place: usize) -> Option<i64>
+    ensures { result ≡ option_map (λ c. c.score) (slice_get held.now.items place) }
+{
+    let candidate = held.get(place)?;
+    Some(candidate.score)
+}
