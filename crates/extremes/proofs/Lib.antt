@@ -1,2 +1,1 @@
-pub mod StationCandidates
-pub mod Listings
+pub mod Guesses

@@ -9,6 +9,8 @@ pub enum Command {
     Rank {
         stations: String,
         query: String,
+        /// A score, in the raw unit of the data, that the k-th best is supposed to reach.
+        guess: Option<i64>,
         files: Vec<String>,
     },
 }

@@ -4,8 +4,6 @@
 mod command;
 mod ending;
 mod fault;
-mod listing;
-mod offers;
 mod papers;
 mod rank;
 mod run;

@@ -1,20 +1,18 @@
 //! The ranking on one thread, from the bytes of the files to the bytes of the report.
 
-ghost use Rattle.std.specs.Prelude.{◌≡◌, ◌↔◌, IfOk, IfErr, OnOk, IsTrue, IsOk, map};
-ghost use Rattle.rank_scores.specs.Morsels.{best_of_query};
+ghost use Rattle.std.specs.Prelude.{◌≡◌, true, IfOk, IfErr, map};
 ghost use Rattle.extremes.specs.Answer.{Answers};
 ghost use Rattle.extremes.specs.Input.{is_guess, read_input, IsRefusal};
 ghost use Rattle.rank_papers.specs.Report.{IsReport};
 
 use crate::fault::Fault;
-use crate::listing::list_candidates;
 use crate::papers::Papers;
 use ghcn_fields::Memory;
 use ghcn_files::Stations;
 use ghcn_series::Data;
 use rank_papers::report_of_best;
 use rank_query::Query;
-use rank_scores::{Candidate, best_first};
+use rank_sched::{Plan, run_alone};
 use std::alloc::Global;
 
 /// The greatest magnitude of a guess, in the raw unit of a score.
@@ -22,9 +20,10 @@ const GREATEST_GUESS: i64 = 1 << 31;
 
 /// Ranks the candidates of a query over a station list and daily files, and reports the k best.
 ///
-/// The files are the texts of `ghcnd-stations.txt` and of `.dly` files, uncompressed. The guess,
-/// a score that the k-th best is supposed to reach, has no effect beyond its limits. A fault is
-/// the first in the order: guess, query, stations, number of files, files and lines in order.
+/// The files are the texts of `ghcnd-stations.txt` and of `.dly` files, uncompressed. The guess is
+/// a score, in the raw unit of the data, that the k-th best is supposed to reach: a good one saves
+/// work, and a wrong one changes nothing in the report. A fault is the first in the order: guess,
+/// query, stations, number of files, files and lines in order.
 pub fn rank_serial(
     alloc: Global,
     stations: &[u8],
@@ -42,9 +41,8 @@ pub fn rank_serial(
     let query = Query::parse(query)?;
     let stations = Stations::read(alloc, stations)?;
     let held = Data::read(alloc, stations, files)?;
-    let best = best_candidates(alloc, &held, &query)?;
     Ok(Papers {
-        report: report(alloc, &held, &query, &best)?,
+        report: report(alloc, &held, &query, guess)?,
         certificate: Vec::new(alloc),
         unlisted: held.unlisted(),
     })
@@ -60,19 +58,12 @@ fn may_be_guessed(guess: Option<i64>) -> bool
     }
 }
 
-/// The k best candidates of a query, the best first.
-fn best_candidates(alloc: Global, held: &Data, query: &Query) -> Result<Vec<Candidate>, Memory>
-    ensures { IfOk result (λ best. best.items ≡ best_of_query query.now held.now) }
-{
-    let mut best = best_first(list_candidates(alloc, held, query)?)?;
-    best.truncate(query.k() as usize);
-    Ok(best)
-}
-
-/// The report of a query with its best candidates.
-fn report(alloc: Global, held: &Data, query: &Query, best: &[Candidate]) -> Result<Vec<u8>, Memory>
-    requires { best.now ≡ best_of_query query.now held.now }
+/// The report of a query, from a run of one worker that begins with a guess or none.
+fn report(alloc: Global, held: &Data, query: &Query, guess: Option<i64>) -> Result<Vec<u8>, Memory>
+    requires { is_guess guess ≡ true }
     ensures { IfOk result (λ paper. IsReport query.now held.now paper.items) }
 {
-    report_of_best(alloc, query, held.stations(), best)
+    let plan = Plan::new(alloc, held, query)?;
+    let answer = run_alone(alloc, &plan, guess)?;
+    report_of_best(alloc, query, held.stations(), &answer.best)
 }

@@ -1,6 +1,6 @@
 //! A run of the program: reads what is named, ranks, and prints.
 
-ghost use Rattle.std.specs.Prelude.{◌≡◌, ◌<◌, IfOk, IfErr, None, length, map, vec_len};
+ghost use Rattle.std.specs.Prelude.{◌≡◌, ◌<◌, IfOk, IfErr, length, map, vec_len};
 ghost use Rattle.extremes.specs.declared.ending.Ending.TheVariants as endings;
 ghost use Rattle.extremes.specs.Answer.{Answers};
 ghost use Rattle.extremes.specs.Input.{read_input, IsRefusal};
@@ -32,9 +32,10 @@ pub fn run<R: Files + Env + Print + Eprint + AllocGlobal>(rt: &R) -> Ending {
             Command::Rank {
                 stations,
                 query,
+                guess,
                 files,
             },
-        ) => rank_files(rt, &stations, &query, &files),
+        ) => rank_files(rt, &stations, &query, guess, &files),
         Err(CommandFault::Words(text)) => {
             let _ = eprint!(rt; "{text}");
             Ending::Words
@@ -69,6 +70,7 @@ fn rank_files<R: Files + Print + Eprint + AllocGlobal>(
     rt: &R,
     stations: &str,
     query: &str,
+    guess: Option<i64>,
     files: &[String],
 ) -> Ending {
     let Ok(stations_text) = read_file(rt, stations) else {
@@ -76,7 +78,7 @@ fn rank_files<R: Files + Print + Eprint + AllocGlobal>(
     };
     match read_files(rt, files) {
         Ok(texts) => {
-            let answer = rank_texts(rt.alloc(), &stations_text, &texts, query);
+            let answer = rank_texts(rt.alloc(), &stations_text, &texts, query, guess);
             print_answer(rt, answer, &mut io::writer(rt))
         }
         Err(place) => not_read(rt, files[place].as_str()),
@@ -102,13 +104,14 @@ fn rank_texts(
     stations: &[u8],
     texts: &[Vec<u8>],
     query: &str,
+    guess: Option<i64>,
 ) -> Result<Papers, Fault>
-    ensures ok { IfOk result (Answers None query.now stations.now (map (λ text. text.items) texts.now)) }
+    ensures ok { IfOk result (Answers guess query.now stations.now (map (λ text. text.items) texts.now)) }
     ensures err { IfErr result (λ fault.
-        IsRefusal fault (read_input None query.now stations.now (map (λ text. text.items) texts.now))) }
+        IsRefusal fault (read_input guess query.now stations.now (map (λ text. text.items) texts.now))) }
 {
     let files = slices_of(alloc, texts).map_err(|_| Fault::Memory(Memory))?;
-    rank_serial(alloc, stations, &files, query, None)
+    rank_serial(alloc, stations, &files, query, guess)
 }
 
 /// All the texts, as they are read.

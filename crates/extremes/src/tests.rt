@@ -49,6 +49,24 @@ fn reports_are_printed_whole(rt: HostRuntime) {
 }
 
 #[test]
+fn a_guess_changes_nothing(rt: HostRuntime) {
+    let guesses = [
+        None,
+        Some(-2_147_483_648),
+        Some(305),
+        Some(306),
+        Some(311),
+        Some(1000),
+        Some(2_147_483_648),
+    ];
+    for guess in guesses {
+        let ranked = rank_serial(rt.alloc(), STATIONS, &[DAILY], "top 3 highest TMAX", guess);
+        let report = ranked.as_ref().map(|papers| papers.report.as_slice()).ok();
+        assert_eq!(rt; report, Some(REPORT), "at {guess:?}");
+    }
+}
+
+#[test]
 fn guesses_and_the_first_fault(rt: HostRuntime) {
     let cases: [(Option<i64>, &str, &[u8], Option<Fault>); 6] = [
         (Some(-2_147_483_649), "top", b"x", Some(Fault::BadGuess)),
@@ -122,12 +140,22 @@ fn commands_of_words(rt: HostRuntime) -> Result<(), Fail> {
     assert!(rt; matches!(none, Ok(Command::Sample)));
     let rank = words_of(
         rt.alloc(),
-        &["rank", "--stations", "s", "--query", "q", "a", "b"],
+        &[
+            "rank",
+            "--stations",
+            "s",
+            "--query",
+            "q",
+            "--guess=-3",
+            "a",
+            "b",
+        ],
     )?;
     let Ok(
         Command::Rank {
             stations,
             query,
+            guess,
             files,
         },
     ) = command(rt.alloc(), rank)
@@ -136,6 +164,7 @@ fn commands_of_words(rt: HostRuntime) -> Result<(), Fail> {
     };
     assert_eq!(rt; stations.as_str(), "s");
     assert_eq!(rt; query.as_str(), "q");
+    assert_eq!(rt; guess, Some(-3));
     let paths: [&str; 2] = ["a", "b"];
     assert_eq!(rt; files.len(), paths.len());
     for (file, path) in files.iter().zip(paths) {

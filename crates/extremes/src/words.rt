@@ -5,8 +5,12 @@ ghost use Rattle.extremes.specs.declared.command.Command.TheVariants as commands
 
 use crate::command::{Command, CommandFault};
 use clap::error::ErrorKind;
-use clap::{Arg, ArgAction, ArgMatches, Error};
+use clap::{Arg, ArgAction, ArgMatches, Error, value_parser};
 use std::alloc::{AllocError, Global};
+
+const GUESS_HELP: &str =
+    "A score that the k-th best is supposed to reach, in tenths of a degree or of a
+          millimetre, whole millimetres of snow, or days; negative as --guess=-3";
 
 const USAGE: &str = "extremes rank --stations <FILE> --query <QUERY> [FILE]...
        extremes rank --help";
@@ -60,7 +64,7 @@ Refusals (A counts the query's words, F the daily files, L the lines of a file, 
   refused 11 BadDate A                    the word is no date
   refused 12 BadBox A                     an edge is no number of degrees, or N is less than S
   refused 13 EmptyPeriod                  the second date is before the first
-  refused 19 BadGuess                     a guess out of its limits; no option makes one yet
+  refused 19 BadGuess                     the guess isn't from -2147483648 to 2147483648
 WHY is the first test that the line fails. In the station list: Short, BadId, BadLatitude,
 BadLongitude, BadElevation, Duplicate. In a daily file: Short, TooLong, BadId, BadYear, BadMonth,
 BadValue DAY, DuplicateMonth.";
@@ -120,6 +124,12 @@ fn program<'a>(alloc: Global) -> Result<clap::Command<'a>, AllocError> {
         .help("What to rank, in quotes: 'top 10 highest TMAX'")
         .required(true)
         .action(ArgAction::Set);
+    let guess = Arg::new(alloc, "guess")
+        .long("guess")
+        .value_name("SCORE")
+        .help(GUESS_HELP)
+        .value_parser(value_parser!(i64))
+        .action(ArgAction::Set);
     let files = Arg::new(alloc, "files")
         .value_name("FILE")
         .help("Daily files, .dly, uncompressed")
@@ -129,6 +139,7 @@ fn program<'a>(alloc: Global) -> Result<clap::Command<'a>, AllocError> {
         .about("Prints the k best records of a query")
         .arg(stations)?
         .arg(query)?
+        .arg(guess)?
         .arg(files)?
         .after_help(RANK_HELP);
     clap::Command::new(alloc, "extremes")
@@ -149,6 +160,7 @@ fn rank_of(alloc: Global, matches: &ArgMatches) -> Result<Command, AllocError>
     Ok(Command::Rank {
         stations: String::from_str(alloc, matches.get_str("stations").unwrap_or(""))?,
         query: String::from_str(alloc, matches.get_str("query").unwrap_or(""))?,
+        guess: matches.get_one("guess"),
         files,
     })
 }

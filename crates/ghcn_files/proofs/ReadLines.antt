@@ -93,7 +93,7 @@ at_end text k held e h =
     take_all k (numbered_lines text) (omega (arith, e)) in
     let none : first_fault station_fault (station_lines text) ≡ None =
     first_fault-none station_fault (station_lines text)
-        (subst (λ (ls : List Numbered). HaveNoFault station_fault (not_blank ls)) all h.right) in
+    (subst (λ (ls : List Numbered). HaveNoFault station_fault (not_blank ls)) all h.right) in
     ap (λ (o : Option (Numbered × StationsFault)). listed_unless o (station_lines text)) none
     ∙ ap (λ (ls : List Numbered). Ok (stations_of (not_blank ls))) (sym all)
     ∙ ap (λ (ss : List Station). Ok ss) (sym h.held_is)

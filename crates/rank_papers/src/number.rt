@@ -1,6 +1,6 @@
 //! Numbers that are added to the end of a paper.
 
-ghost use Rattle.std.specs.Prelude.{◌≡◌, ◌++◌, ◌∷◌, [], OnOk, decimal, int_lt, pos};
+ghost use Rattle.std.specs.Prelude.{◌≡◌, ◌++◌, OnOk, decimal, int_lt, pos};
 ghost use Rattle.ghcn_fields.specs.NumberTexts.{tenths_of};
 ghost use Rattle.rank_papers.specs.Values as values;
 

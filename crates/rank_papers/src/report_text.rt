@@ -7,7 +7,7 @@
 //! end N                                 N rows; where fewer than were asked for, `end N all`
 //! ```
 
-ghost use Rattle.std.specs.Prelude.{◌≡◌, ◌++◌, OnOk, IfOk, map};
+ghost use Rattle.std.specs.Prelude.{◌≡◌, ◌++◌, OnOk, IfOk};
 ghost use Rattle.std.specs.List.{enumerate_from};
 ghost use Rattle.rank_scores.specs.QueryCandidates.{AreOfListed};
 ghost use Rattle.rank_papers.specs.Report as report;

@@ -113,9 +113,11 @@ module _ (q : Asked) (s : Usable) (series : IsSeries s) where
       (All-from_recursion (IsCandidateOf q s) (candidates q s)
       (all_made from (λ x. value_on (admitted q s) x.0 ≡ Some x.1) (IsCandidateOf q s)
       (λ x d stands e.
-      let is = made s.id x.0 (begun (shape q.score) (admitted q s) x) d e in
-      (is.0, subst (λ (z : ℤ). IsCandidate (shape q.score) (admitted q s) z d.last d.score) (sym is.1)
-      (begun-IsCandidate q s.days (shape q.score) x d.last d.score stands is.2)))
+      let is = made s.id x.0 (begun (shape q.score) (admitted q s) x) d e in (
+        is.0,
+        subst (λ (z : ℤ). IsCandidate (shape q.score) (admitted q s) z d.last d.score) (sym is.1)
+            (begun-IsCandidate q s.days (shape q.score) x d.last d.score stands is.2),
+      ))
       (admitted q s) (values_stand (admitted q s) admitted_rise)))
       h
 

@@ -12,14 +12,13 @@ use Rattle.ghcn_files.specs.Ids.{same_id}
 use Rattle.ghcn_files.specs.Listed.{is_station_of}
 use Rattle.ghcn_series.specs.Series.{DayValue, Usable, Contents, IsSeries, series_of, is_series_of}
 use Rattle.ghcn_series.specs.DailyFaults.{is_listed}
-use Rattle.ghcn_series.specs.Held.{IsContents}
 use Rattle.rank_query.specs.Asked.{Asked, score_element}
 use Rattle.rank_query.specs.Admits.{admits_station}
 use Rattle.rank_scores.specs.declared.candidate.Candidate.{Candidate}
 use Rattle.rank_scores.specs.Candidates.{Shape, shape, begun, candidate, candidates, admitted}
 use Rattle.rank_scores.specs.Order.{of_rank, rank_in, best, begin_alike, AreApart}
 use Rattle.rank_scores.specs.Morsels.{all_candidates}
-use Rattle.rank_scores.specs.QueryCandidates.{AreOfListed, CandidatesAreApart, CandidatesAreOfListed, BestAreOfListed}
+use Rattle.rank_scores.specs.QueryCandidates.{CandidatesAreApart, CandidatesAreOfListed, BestAreOfListed}
 use Rattle.rank_scores.proofs.Exactly.{apart, none_apart}
 
 -- ---- what holds of each element of a list
@@ -157,10 +156,10 @@ module _ (q : Asked) (c : Contents) where
       elim (admits_station q st) as (λ b. AllByRecursion P
       (filter_map of_station (cond b (st ∷ filter (admits_station q) sts) (filter (admits_station q) sts)))) [
         | true ↦ elim (of_station st) as (λ o.
-        of_station st ≡ o → AllByRecursion P (cons_option o (series_among sts))) [
-          | None ↦ λ e. rest
-          | Some u ↦ λ e. (h.0 u e, rest)
-        ] refl
+            of_station st ≡ o → AllByRecursion P (cons_option o (series_among sts))) [
+              | None ↦ λ e. rest
+              | Some u ↦ λ e. (h.0 u e, rest)
+            ] refl
         | false ↦ rest
       ]
 
@@ -198,17 +197,17 @@ module _ (q : Asked) (c : Contents) where
       elim (admits_station q st) as (λ b. AreApart (flat_map (candidates q)
       (filter_map of_station (cond b (st ∷ filter (admits_station q) sts) (filter (admits_station q) sts))))) [
         | true ↦ elim (of_station st) as (λ o.
-        of_station st ≡ o → AreApart (flat_map (candidates q) (cons_option o all))) [
-          | None ↦ λ e. tail
-          | Some u ↦ λ e.
-              let own : AllByRecursion (λ d. d.id ≡ st.id) (candidates q u) =
-              subst (λ (i : StationId). AllByRecursion (λ d. d.id ≡ i) (candidates q u))
-              (of_station-own st u e) (candidates-own q u) in
-              let series : IsSeries u =
-              found-holds IsSeries (is_series_of st.id (score_element q.score)) c.series u right e in
-              apart-append st.id (candidates q u) (flat_map (candidates q) all) own
-              (each_candidate (λ i. same_id st.id i ≡ false) q all others) (apart q u series) tail
-        ] refl
+            of_station st ≡ o → AreApart (flat_map (candidates q) (cons_option o all))) [
+              | None ↦ λ e. tail
+              | Some u ↦ λ e.
+                  let own : AllByRecursion (λ d. d.id ≡ st.id) (candidates q u) =
+                  subst (λ (i : StationId). AllByRecursion (λ d. d.id ≡ i) (candidates q u))
+                  (of_station-own st u e) (candidates-own q u) in
+                  let series : IsSeries u =
+                  found-holds IsSeries (is_series_of st.id (score_element q.score)) c.series u right e in
+                  apart-append st.id (candidates q u) (flat_map (candidates q) all) own
+                  (each_candidate (λ i. same_id st.id i ≡ false) q all others) (apart q u series) tail
+            ] refl
         | false ↦ tail
       ]
 

@@ -8,4 +8,4 @@ pub returns : goal.returns
 returns c =
     map_from_collect _ c.collect.ensures.ran
     (YieldsList-from_map_by _ (λ (s : Bor (List ℕ)). s.now) (λ (text : Vec ℕ Global). text.items)
-      (YieldsList-from_slice c.args.texts.now cc) c.map.ensures.closure (λ x r q k. search (rules, tests)))
+    (YieldsList-from_slice c.args.texts.now cc) c.map.ensures.closure (λ x r q k. search (rules, tests)))

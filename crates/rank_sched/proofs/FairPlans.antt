@@ -1,0 +1,175 @@
+-- What is true of every plan's task.
+use Rattle.std.proofs.Common.{◌≡◌, ℕ, zero, suc, ◌<◌, ◌≤◌, Bool, true, false, cond, List, [], ◌∷◌, length, map, Option, Some, None, refl, sym, ap, ◌∙◌, subst, arith, ℤ, pos, ◌≤ℤ◌}
+use Rattle.std.specs.Prelude.{◌&&◌, ◌||◌, int_lt, slice_get}
+use Rattle.std.specs.List.{filter_map, cons_option, AllByRecursion}
+use Rattle.std.specs.List.Sorted.{IsPermutation}
+use Rattle.std.specs.Option.{option_map, option_map_or}
+use Rattle.std.specs.Ordering.{int_eq}
+use Rattle.std.proofs.lemmas.Int.{ints}
+use Rattle.std.proofs.lemmas.List.Elements.{recursion_from_All, All-from_recursion}
+use Rattle.std.proofs.lemmas.List.Sorted.{All-permutation, IsPermutation-trans}
+use Rattle.ghcn_fields.specs.Floor.{IsScore}
+use Rattle.ghcn_fields.specs.Sorting.{sorted_by}
+use Rattle.ghcn_files.specs.declared.station.Station.{Station}
+use Rattle.ghcn_series.specs.Series.{Usable, Contents, IsSeries, series_of, is_series_of}
+use Rattle.ghcn_series.specs.Held.{IsContents}
+use Rattle.rank_query.specs.Asked.{Asked, score_element}
+use Rattle.rank_query.specs.Admits.{admits_station}
+use Rattle.rank_scores.specs.Candidates.{candidates}
+use Rattle.rank_scores.specs.Morsels.{morsels, all_candidates}
+use Rattle.rank_scores.specs.Order.{AreApart}
+use Rattle.rank_blocks.specs.Bounds.{bound, IsAskedOf}
+use Rattle.rank_blocks.proofs.Computed.{computed-IsBound}
+use Rattle.rank_blocks.proofs.BoundsMet.{bound-above}
+use Rattle.rank_sched.specs.Plan.{Morsel, Planned, measured, is_drawn_first, planned, AreDrawnInTurn, IsPlan, is_asked_of, passing, morsel_at}
+use Rattle.rank_sched.specs.Task.{task_of, all_of_task}
+use Rattle.rank_sched.specs.Laws.{PlansAreFair}
+use Rattle.rank_scores.proofs.QueryCandidates.{all_apart}
+use Rattle.rank_sched.proofs.PlanBest.{found, plan_alike, apart_alike}
+use Rattle.rank_sched.proofs.Measures.{asked_of}
+use Rattle.rank_sched.proofs.Ordered.{sorted-permutation}
+use Rattle.rank_sched.proofs.PlanOrder.{sorted-in_turn}
+use Rattle.rank_sched.proofs.PlanMade.{by_id, few_morsels}
+use Rattle.rank_sched.proofs.MachineSteps.{some_wanted, few_wanted}
+use Rattle.rank_sched.proofs.ScoreRanges.{candidates_ranged}
+
+-- a series that the query asks about, with its bound
+pub record IsMeasured (q : Asked) (m : Morsel) : Type 0 where
+  pub bounded : m.bound ≡ bound q m.series
+  pub asked : IsAskedOf q m.series
+
+module _ (q : Asked) (c : Contents) (right : IsContents c) where
+  of_station : Station → Option Usable
+  of_station st = series_of c st.id (score_element q.score)
+
+  one_measured : (st : Station) (m : Morsel) → morsel_at q c st ≡ Some m → IsMeasured q m
+  unfolding of_station
+  one_measured st m e = cases (admits_station q st) (of_station st) refl e
+    where
+      cases : (b : Bool) (o : Option Usable) → of_station st ≡ o
+          → option_map (measured q) (cond b (passing (is_asked_of q) o) None) ≡ Some m → IsMeasured q m
+      cases false o f e = absurd cc
+      cases true None f e = absurd cc
+      cases true (Some u) f e = elim (is_asked_of q u)
+          as (λ b. is_asked_of q u ≡ b → option_map (measured q) (cond b (Some u) None) ≡ Some m → IsMeasured q m) [
+            | true ↦ λ k g.
+                let same : measured q u ≡ m = cc in
+                let is = found IsSeries (is_series_of st.id (score_element q.score)) c.series u right.series.right f in
+                subst (IsMeasured q) same (record { bounded = refl; asked = asked_of q c st.id u f is.0 k })
+            | false ↦ λ k g. absurd cc
+          ] refl e
+
+  all_measured : (sts : List Station) → AllByRecursion (IsMeasured q) (filter_map (morsel_at q c) sts)
+  all_measured [] = tt
+  all_measured (st ∷ sts) = elim (morsel_at q c st)
+      as (λ o. morsel_at q c st ≡ o → AllByRecursion (IsMeasured q) (cons_option o (filter_map (morsel_at q c) sts))) [
+        | None ↦ λ e. all_measured sts
+        | Some m ↦ λ e. (one_measured st m e, all_measured sts)
+      ] refl
+
+  -- the morsels of the plan are measured
+  pub plan_measured : AllByRecursion (IsMeasured q) (planned q c).morsels
+  plan_measured =
+      let ms : List Morsel = map (measured q) (morsels q c) in
+      let p : IsPermutation (filter_map (morsel_at q c) c.stations) (sorted_by is_drawn_first ms) =
+      IsPermutation-trans (filter_map (morsel_at q c) c.stations) ms (sorted_by is_drawn_first ms) (by_id q c)
+      (sorted-permutation is_drawn_first ms) in
+      recursion_from_All (IsMeasured q) (sorted_by is_drawn_first ms)
+      (All-permutation (IsMeasured q) (filter_map (morsel_at q c) c.stations) (sorted_by is_drawn_first ms) p
+      (All-from_recursion (IsMeasured q) (filter_map (morsel_at q c) c.stations) (all_measured c.stations)))
+
+-- what is true of each morsel is true of the one at a place
+at_place : (P : Morsel → Type 0) (ms : List Morsel) (i : ℕ) (m : Morsel) → AllByRecursion P ms
+    → slice_get ms i ≡ Some m → P m
+at_place P [] i m h e = absurd cc
+at_place P (x ∷ ms) zero m h e = let same : x ≡ m = cc in subst P same h.0
+at_place P (x ∷ ms) (suc i) m h e = at_place P ms i m h.1 e
+
+-- the morsels of a plan are measured
+measured_of : (p : Planned) → IsPlan p → AllByRecursion (IsMeasured p.query) p.morsels
+measured_of p is =
+    subst (λ (r : Planned). AllByRecursion (IsMeasured p.query) r.morsels) (sym is.plan)
+    (plan_measured p.query is.held is.right)
+
+-- no candidate's score is above the bound of its morsel
+pub plan_bounded : (p : Planned) → IsPlan p → (m : ℕ)
+    → AllByRecursion (λ c. c.score ≤ℤ (task_of p).bound m) ((task_of p).candidates m)
+plan_bounded p is m = by_morsel (slice_get p.morsels m) refl
+  where
+    by_morsel : (o : Option Morsel) → slice_get p.morsels m ≡ o
+        → AllByRecursion (λ c. c.score ≤ℤ option_map_or (λ x. x.bound) o (pos 0))
+        (option_map_or (λ x. candidates p.query x.series) o [])
+    by_morsel None e = tt
+    by_morsel (Some x) e =
+        let own : IsMeasured p.query x = at_place (IsMeasured p.query) p.morsels m x (measured_of p is) e in
+        subst (λ (z : ℤ). AllByRecursion (λ c. c.score ≤ℤ z) (candidates p.query x.series)) (sym own.bounded)
+        (bound-above p.query x.series (bound p.query x.series) is.asked own.asked
+        (computed-IsBound p.query x.series is.asked own.asked))
+
+-- all candidates of a plan are apart
+pub plan_apart : (p : Planned) → IsPlan p → AreApart (all_of_task (task_of p))
+plan_apart p is =
+    subst (λ (r : Planned). AreApart (all_of_task (task_of r))) (sym is.plan)
+    (apart_alike (all_of_task (task_of (planned p.query is.held))) (all_candidates p.query is.held)
+    (plan_alike p.query is.held) (all_apart p.query is.held is.right))
+
+lower : (a b : ℤ) (t : Bool) → (int_lt b a || (int_eq a b && t)) ≡ true → b ≤ℤ a
+lower a b t e = elim (int_lt b a) as (λ x. int_lt b a ≡ x → b ≤ℤ a) [
+  | true ↦ λ f. grind (arith, ints)
+  | false ↦ λ f. elim (int_eq a b) as (λ y. int_eq a b ≡ y → b ≤ℤ a) [
+    | true ↦ λ g. grind (arith, ints)
+    | false ↦ λ g. absurd (let no : (int_lt b a || (int_eq a b && t)) ≡ false =
+        ap (λ (x : Bool). x || (int_eq a b && t)) f ∙ ap (λ (x : Bool). x && t) g in cc)
+  ] refl
+] refl
+
+each_lower : (x : Morsel) (ms : List Morsel) → AllByRecursion (λ n. is_drawn_first x n ≡ true) ms
+    → AllByRecursion (λ n. n.bound ≤ℤ x.bound) ms
+each_lower x [] h = tt
+each_lower x (n ∷ ms) h = (lower x.bound n.bound _ h.0, each_lower x ms h.1)
+
+-- no bound of morsels in turn is above that of a smaller number
+falls : (ms : List Morsel) (m n : ℕ) → AreDrawnInTurn ms → m ≤ n → n < length ms
+    → option_map_or (λ x. x.bound) (slice_get ms n) (pos 0) ≤ℤ option_map_or (λ x. x.bound) (slice_get ms m) (pos 0)
+falls [] m n h le lt = absurd (omega arith)
+falls (x ∷ ms) zero zero h le lt = omega (arith, ints)
+falls (x ∷ ms) (suc m) zero h le lt = absurd (omega arith)
+falls (x ∷ ms) (suc m) (suc n) h le lt = falls ms m n h.1 (omega arith) (omega arith)
+falls (x ∷ ms) zero (suc n) h le lt = at_all ms n (each_lower x ms h.0) (omega arith)
+  where
+    at_all : (ns : List Morsel) (i : ℕ) → AllByRecursion (λ y. y.bound ≤ℤ x.bound) ns → i < length ns
+        → option_map_or (λ y. y.bound) (slice_get ns i) (pos 0) ≤ℤ x.bound
+    at_all [] i a l = absurd (omega arith)
+    at_all (y ∷ ns) zero a l = a.0
+    at_all (y ∷ ns) (suc i) a l = at_all ns i a.1 (omega arith)
+
+-- the bounds of a plan fall
+pub plan_falls : (p : Planned) → IsPlan p → (m n : ℕ) → m ≤ n → n < (task_of p).len
+    → (task_of p).bound n ≤ℤ (task_of p).bound m
+plan_falls p is m n le lt =
+    falls p.morsels m n (subst (λ (r : Planned). AreDrawnInTurn r.morsels) (sym is.plan)
+    (sorted-in_turn (map (measured p.query) (morsels p.query is.held)))) le lt
+
+-- each candidate's score can be a floor
+pub plan_scores : (p : Planned) → IsPlan p → (m : ℕ)
+    → AllByRecursion (λ c. IsScore c.score) ((task_of p).candidates m)
+plan_scores p is m = by_morsel (slice_get p.morsels m) refl
+  where
+    by_morsel : (o : Option Morsel) → slice_get p.morsels m ≡ o
+        → AllByRecursion (λ c. IsScore c.score) (option_map_or (λ x. candidates p.query x.series) o [])
+    by_morsel None e = tt
+    by_morsel (Some x) e =
+        let own : IsMeasured p.query x = at_place (IsMeasured p.query) p.morsels m x (measured_of p is) e in
+        candidates_ranged p.query x.series is.asked own.asked.series
+
+-- what a plan asks is fair
+pub plans_fair : PlansAreFair
+plans_fair p is = record {
+  some = some_wanted p is;
+  limit = few_wanted p is;
+  few = few_morsels p is;
+  scores = plan_scores p is;
+  bounded = plan_bounded p is;
+  falling = plan_falls p is;
+  apart = plan_apart p is;
+}

@@ -1,0 +1,169 @@
+-- What is true of lists and of their elements, and the lists that records give.
+use Rattle.std.proofs.Common.{◌≡◌, ℕ, zero, suc, ◌+◌, ◌-◌, ◌<◌, List, [], ◌∷◌, ◌++◌, length, take, Option, Some, None, refl, sym, ap, ◌∙◌, subst, append-nil, append_assoc, arith, ℤ, ◌≤ℤ◌, option_to_list, All, Contains}
+use Rattle.std.specs.Prelude.{slice_get, slice_set, IfSome, IsSomeAnd}
+use Rattle.std.specs.List.{AllByRecursion}
+use Rattle.std.specs.Option.{option_map}
+use Rattle.std.proofs.lemmas.Grind.{flat_map-append}
+use Rattle.std.proofs.lemmas.List.{map-append}
+use Rattle.std.proofs.lemmas.List.Sums.{sum_by-append}
+use Rattle.std.proofs.lemmas.List.Elements.{All-nil, All-cons, All-append, All-weaker, All-contains, All-contains_itself, Contains-append_left, Contains-append_right}
+use Rattle.ghcn_fields.specs.Counting.{times}
+use Rattle.ghcn_fields.specs.Floor.{IsAtLeast}
+use Rattle.rank_scores.specs.declared.candidate.Candidate.{Candidate}
+use Rattle.rank_pool.specs.First.{first, kth, in_order}
+use Rattle.rank_pool.specs.Pools.{last_score}
+use Rattle.rank_sched.specs.declared.record.Record.{Record}
+use Rattle.rank_sched.specs.Task.{Task}
+use Rattle.rank_sched.specs.Exchanges.{Exchange, morsels_of, scanned_for, scanned, exchange, exchanges, seen_in, raised_in, SeeUpward}
+use Rattle.rank_sched.specs.SoundRun.{Rise}
+
+-- ---- elements
+
+-- what is true of each element of a list is true of all
+pub all_from : {X : Type 0} (P : X → Type 0) (xs : List X) → ((x : X) → Contains xs x → P x) → All P xs
+all_from P xs f = All-weaker (Contains xs) P f xs (All-contains_itself xs)
+
+pub All-left : {X : Type 0} (P : X → Type 0) (xs ys : List X) → All P (xs ++ ys) → All P xs
+All-left P xs ys h = all_from P xs (λ x c. All-contains P (xs ++ ys) x h (Contains-append_left xs ys x c))
+
+pub All-right : {X : Type 0} (P : X → Type 0) (xs ys : List X) → All P (xs ++ ys) → All P ys
+All-right P xs ys h = all_from P ys (λ x c. All-contains P (xs ++ ys) x h (Contains-append_right xs ys x c))
+
+pub each-append : {X : Type 0} (P : X → Type 0) (xs ys : List X) → AllByRecursion P xs → AllByRecursion P ys
+    → AllByRecursion P (xs ++ ys)
+each-append P [] ys h k = k
+each-append P (x ∷ xs) ys h k = (h.0, each-append P xs ys h.1 k)
+
+pub each-weaker : {X : Type 0} (P Q : X → Type 0) (xs : List X) → ((x : X) → P x → Q x) → AllByRecursion P xs
+    → AllByRecursion Q xs
+each-weaker P Q [] f h = tt
+each-weaker P Q (x ∷ xs) f h = (f x h.0, each-weaker P Q xs f h.1)
+
+pub each_both : {X : Type 0} (P Q R : X → Type 0) (xs : List X) → ((x : X) → P x → Q x → R x) → AllByRecursion P xs
+    → AllByRecursion Q xs → AllByRecursion R xs
+each_both P Q R [] f h k = tt
+each_both P Q R (x ∷ xs) f h k = (f x h.0 k.0, each_both P Q R xs f h.1 k.1)
+
+nothing_in : {X : Type 0} (P : Type 0) (x : X) → Contains [] x → P
+nothing_in P x c = absurd (omega (arith, c.1))
+
+-- an element of one
+pub only_one : {X : Type 0} (o : Option X) (x : X) → Contains (option_to_list o) x → o ≡ Some x
+only_one None x c = nothing_in (None ≡ Some x) x c
+only_one (Some y) x c = ap (λ z. Some z) (All-contains (λ z. y ≡ z) (y ∷ []) x
+    (All-cons (λ z. y ≡ z) y [] refl (All-nil (λ z. y ≡ z))) c)
+
+pub one_there : {X : Type 0} (P : X → Type 0) (o : Option X) → IfSome o P → All P (option_to_list o)
+one_there P None h = All-nil P
+one_there P (Some x) h = All-cons P x [] h (All-nil P)
+
+-- ---- counts
+
+pub times-append : (x : ℕ) (xs ys : List ℕ) → times x (xs ++ ys) ≡ times x xs + times x ys
+times-append x xs ys = sum_by-append _ xs ys
+
+-- ---- lists that rise
+
+pub rise-push : (xs : List ℕ) (x : ℕ) → Rise xs → AllByRecursion (λ y. y < x) xs → Rise (xs ++ x ∷ [])
+rise-push [] x h a = (tt, tt)
+rise-push (y ∷ ys) x h a = (each-append (λ z. y < z) ys (x ∷ []) h.0 (a.0, tt), rise-push ys x h.1 a.1)
+
+-- ---- records
+
+pub morsels-push : (rs : List Record) (r : Record) → morsels_of (rs ++ r ∷ []) ≡ morsels_of rs ++ r.morsel ∷ []
+morsels-push rs r = map-append (λ (q : Record). q.morsel) rs (r ∷ [])
+
+pub scanned-append : (t : Task) (rs qs : List Record) → scanned t (rs ++ qs) ≡ scanned t rs ++ scanned t qs
+scanned-append t rs qs = flat_map-append (scanned_for t) rs qs
+
+pub scanned-push : (t : Task) (rs : List Record) (r : Record)
+    → scanned t (rs ++ r ∷ []) ≡ scanned t rs ++ scanned_for t r
+scanned-push t rs r = scanned-append t rs (r ∷ [])
+    ∙ ap (λ (l : List Candidate). scanned t rs ++ l) (append-nil (scanned_for t r))
+
+pub exchanges-push : (t : Task) (before : List Candidate) (rs : List Record) (r : Record)
+    → exchanges t before (rs ++ r ∷ []) ≡ exchanges t before rs ++ exchange t (before ++ scanned t rs) r ∷ []
+exchanges-push t before [] r = ap (λ (l : List Candidate). exchange t l r ∷ []) (sym (append-nil before))
+exchanges-push t before (q ∷ rs) r =
+    let one : List Candidate = scanned_for t q in
+    ap (λ (l : List Exchange). exchange t before q ∷ l)
+    (exchanges-push t (before ++ one) rs r ∙ ap (λ (l : List Candidate). exchanges t
+    (before ++ one) rs ++ exchange t l r ∷ []) (append_assoc before one (scanned t rs)))
+
+pub seen_in-append : (xs ys : List Exchange) → seen_in (xs ++ ys) ≡ seen_in xs ++ seen_in ys
+seen_in-append xs ys = flat_map-append (λ (x : Exchange). option_to_list x.seen) xs ys
+
+pub raised_in-append : (xs ys : List Exchange) → raised_in (xs ++ ys) ≡ raised_in xs ++ raised_in ys
+raised_in-append xs ys = flat_map-append (λ (x : Exchange). option_to_list x.raised) xs ys
+
+-- one turn more, whose floor is at least all that was known at first, seen and raised
+pub upward-push : (known : List ℤ) (xs : List Exchange) (x : Exchange) → SeeUpward known xs → IsAtLeast x.seen known
+    → IsAtLeast x.seen (seen_in xs) → IsAtLeast x.seen (raised_in xs) → SeeUpward known (xs ++ x ∷ [])
+upward-push known [] x h a b c = (a, tt)
+upward-push known (y ∷ ys) x h a b c =
+    let P : ℤ → Type 0 = λ s. IsSomeAnd x.seen (λ f. s ≤ℤ f) in
+    let saw : List ℤ = option_to_list y.seen in
+    let up : List ℤ = option_to_list y.raised in (
+      h.0,
+      upward-push (known ++ (saw ++ up)) ys x h.1 (All-append P known (saw ++ up) a
+          (All-append P saw up (All-left P saw (seen_in ys) b) (All-left P up (raised_in ys) c)))
+          (All-right P saw (seen_in ys) b) (All-right P up (raised_in ys) c),
+    )
+
+-- what is raised in the last turn doesn't matter for what was seen
+pub upward-last : (known : List ℤ) (xs : List Exchange) (x y : Exchange) → x.seen ≡ y.seen
+    → SeeUpward known (xs ++ x ∷ []) → SeeUpward known (xs ++ y ∷ [])
+upward-last known [] x y e h = (subst (λ (o : Option ℤ). IsAtLeast o known) e h.0, tt)
+upward-last known (z ∷ zs) x y e h = (
+  h.0,
+  upward-last
+      (known ++ (option_to_list z.seen ++ option_to_list z.raised)) zs x y e h.1,
+)
+
+-- ---- a place of a list
+
+-- a list with its element at a place, and with another one there
+pub record At {X : Type 0} (xs : List X) (i : ℕ) (x : X) : Type 0 where
+  pub front : List X
+  pub behind : List X
+  pub parts : xs ≡ front ++ x ∷ behind
+  pub place : length front ≡ i
+  pub put : (y : X) → slice_set xs i y ≡ front ++ y ∷ behind
+
+pub at : {X : Type 0} (xs : List X) (i : ℕ) (x : X) → slice_get xs i ≡ Some x → At xs i x
+at [] i x h = absurd cc
+at (y ∷ ys) zero x h =
+    let same : y ≡ x = cc in
+    record { front = []; behind = ys; parts = ap (λ z. z ∷ ys) same; place = refl; put = λ z. refl }
+at (y ∷ ys) (suc i) x h =
+    let a : At ys i x = at ys i x h in
+    record {
+      front = y ∷ a.front;
+      behind = a.behind;
+      parts = ap (λ l. y ∷ l) a.parts;
+      place =
+          omega (arith, a.place);
+      put = λ z. ap (λ l. y ∷ l) (a.put z);
+    }
+
+-- ---- the last place of a pool
+
+get_cut : (ys : List Candidate) (k j : ℕ) → j < k → slice_get (take k ys) j ≡ slice_get ys j
+get_cut ys zero j h = absurd (omega arith)
+get_cut [] (suc k) j h = refl
+get_cut (y ∷ ys) (suc k) zero h = refl
+get_cut (y ∷ ys) (suc k) (suc j) h = get_cut ys k j (omega arith)
+
+-- the score of the last place is the k-th score of all that was offered
+pub last_is_kth : (k : ℕ) (xs : List Candidate) → 0 < k
+    → last_score (record { size = k; held = first k xs }) ≡ kth k xs
+last_is_kth zero xs some = absurd (omega arith)
+last_is_kth (suc j) xs some =
+    let one : suc j - 1 ≡ j = omega arith in
+    ap (λ (n : ℕ). option_map (λ (c : Candidate). c.score) (slice_get (take (suc j) (in_order xs)) n)) one
+    ∙ ap (λ (o : Option Candidate). option_map (λ (c : Candidate). c.score) o)
+    (get_cut (in_order xs) (suc j) j (omega arith))
+
+-- an element of a list of its own
+pub one_in : {X : Type 0} (x : X) → Contains (x ∷ []) x
+one_in x = All-contains_itself (x ∷ []) 0 x (omega arith)

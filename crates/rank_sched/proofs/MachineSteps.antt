@@ -1,0 +1,463 @@
+-- Steps of a machine by its turns and hauls: which are refused, and what those that are made lead to.
+use Rattle.std.proofs.Common.{◌≡◌, ℕ, zero, suc, ◌+◌, ◌-◌, ◌*◌, ◌<◌, ◌≤◌, Bool, true, false, cond, List, [], ◌∷◌, ◌++◌, length, length-append, get_or, replicate, Option, Some, None, Result, Ok, Err, IsErr, IsErrAnd, ◌≢◌, refl, sym, ap, ◌∙◌, subst, arith, append-nil, ℤ, IfSome}
+use Rattle.std.specs.Prelude.{◌&&◌, not, nat_lt, map, zip, slice_get, slice_set}
+use Rattle.std.specs.List.{AllByRecursion, flat_map}
+use Rattle.std.specs.Option.{option_map_or}
+use Rattle.ghcn_fields.specs.Floor.{IsScore}
+use Rattle.ghcn_fields.specs.CountingLaws.{length-each_below}
+use Rattle.rank_pool.specs.Pools.{Pooled, last_score}
+use Rattle.rank_sched.specs.declared.record.Record.{Record}
+use Rattle.rank_sched.specs.declared.haul.Haul.{Haul}
+use Rattle.rank_sched.specs.declared.event.Event.{Event}
+use Rattle.rank_sched.specs.declared.event.Event.TheVariants.{Claim, Look, Settle}
+use Rattle.rank_sched.specs.declared.event.StepFault.TheVariants.{NoWorker, NotNow}
+use Rattle.rank_sched.specs.declared.turn.Turn.{Turn}
+use Rattle.rank_sched.specs.declared.turn.Turn.TheVariants.{Idle, Claimed, Looked, Stopped}
+use Rattle.rank_sched.specs.Plan.{Planned, IsPlan}
+use Rattle.rank_sched.specs.Task.{Task, task_of}
+use Rattle.rank_sched.specs.Exchanges.{morsels_of}
+use Rattle.rank_sched.specs.Machine.{Worker, State, new_worker, started, worker_of, is_awaited, is_now, refusal, drawn, record_of, greater_floor, floor_after, IsStep, all_stopped}
+use Rattle.rank_sched.specs.SoundRun.{unsettled, Rise, AreSoundFrom, IsSoundState, IsSoundEnd}
+use Rattle.rank_sched.specs.Hauls.{records_of, AreHaulsOf, AreSound, AreUnderFloor}
+use Rattle.rank_sched.specs.Run.{new_run, is_stopped, Running, worker_with, state_of, IsRunning, Refuses, HasSettled, IsEmptyHaul, IsSameHaul}
+use Rattle.rank_sched.proofs.Lists.{morsels-push}
+use Rattle.rank_sched.proofs.SoundSteps.{runs_sound}
+use Rattle.rank_sched.proofs.Ends.{rise_front, ends_sound}
+use Rattle.rank_sched.proofs.PlanMade.{few_morsels}
+
+-- ---- workers by their turns and hauls
+
+abbrev pub workers_with : List Turn → List Haul → List Worker
+workers_with turns hs = map worker_with (zip turns hs)
+
+pub workers-length : (turns : List Turn) (hs : List Haul) → length turns ≡ length hs
+    → length (workers_with turns hs) ≡ length turns
+workers-length [] hs e = refl
+workers-length (x ∷ xs) [] e = absurd (omega (arith, e))
+workers-length (x ∷ xs) (h ∷ hs) e = omega (arith, workers-length xs hs (omega (arith, e)))
+
+-- a worker that is there has a turn and a haul
+pub record IsThere (turns : List Turn) (hs : List Haul) (w : ℕ) (turn : Turn) : Type 0 where
+  pub haul : Haul
+  pub own : slice_get hs w ≡ Some haul
+  pub worker : slice_get (workers_with turns hs) w ≡ Some (worker_with (turn, haul))
+  pub within : w < length turns
+
+pub there : (turns : List Turn) (hs : List Haul) (w : ℕ) (turn : Turn) → length turns ≡ length hs
+    → slice_get turns w ≡ Some turn → IsThere turns hs w turn
+there [] hs w turn e h = absurd cc
+there (x ∷ xs) [] w turn e h = absurd (omega (arith, e))
+there (x ∷ xs) (y ∷ hs) zero turn e h = let same : x ≡ turn = cc in
+    record { haul = y; own = refl; worker = ap (λ (z : Turn). Some (worker_with (z, y))) same; within = omega arith }
+there (x ∷ xs) (y ∷ hs) (suc w) turn e h =
+    let rest : IsThere xs hs w turn = there xs hs w turn (omega (arith, e)) h in
+    record { haul = rest.haul; own = rest.own; worker = rest.worker; within = omega (arith, rest.within) }
+
+-- another turn of a worker, and another turn and haul
+pub other_turn : (turns : List Turn) (hs : List Haul) (w : ℕ) (turn : Turn) (h : Haul) → slice_get hs w ≡ Some h
+    → workers_with (slice_set turns w turn) hs ≡ slice_set (workers_with turns hs) w (worker_with (turn, h))
+other_turn [] hs w turn h e = refl
+other_turn (x ∷ xs) [] w turn h e = absurd cc
+other_turn (x ∷ xs) (y ∷ hs) zero turn h e = let same : y ≡ h = cc in
+    ap (λ (z : Haul). worker_with (turn, z) ∷ workers_with xs hs) same
+other_turn (x ∷ xs) (y ∷ hs) (suc w) turn h e =
+    ap (λ (l : List Worker). worker_with (x, y) ∷ l) (other_turn xs hs w turn h e)
+
+pub other_both : (turns : List Turn) (hs : List Haul) (w : ℕ) (turn : Turn) (h : Haul) → length turns ≡ length hs
+    → workers_with (slice_set turns w turn) (slice_set hs w h) ≡ slice_set (workers_with turns hs) w
+    (worker_with (turn, h))
+other_both [] hs w turn h e = refl
+other_both (x ∷ xs) [] w turn h e = absurd (omega (arith, e))
+other_both (x ∷ xs) (y ∷ hs) zero turn h e = refl
+other_both (x ∷ xs) (y ∷ hs) (suc w) turn h e =
+    ap (λ (l : List Worker). worker_with (x, y) ∷ l) (other_both xs hs w turn h (omega (arith, e)))
+
+pub set-length : {X : Type 0} (xs : List X) (i : ℕ) (x : X) → length (slice_set xs i x) ≡ length xs
+set-length [] i x = refl
+set-length (y ∷ ys) zero x = refl
+set-length (y ∷ ys) (suc i) x = ap suc (set-length ys i x)
+
+-- ---- which events are refused
+
+not_below : (i n : ℕ) → n ≤ i → nat_lt i n ≡ false
+not_below i n h = grind arith
+
+below : (i n : ℕ) → i < n → nat_lt i n ≡ true
+below i n h = grind arith
+
+pub no_worker : (next : ℕ) (floor : Option ℤ) (turns : List Turn) (hs : List Haul) (e : Event)
+    → length turns ≡ length hs → length turns ≤ worker_of e
+    → refusal (state_of next floor turns hs) e ≡ Some (NoWorker (worker_of e))
+no_worker next floor turns hs e same far =
+    ap (λ (b : Bool). cond b (cond (is_now (state_of next floor turns hs) e) None (Some (NotNow (worker_of e))))
+    (Some (NoWorker (worker_of e))))
+    (not_below (worker_of e) (length (workers_with turns hs)) (omega (arith, far, workers-length turns hs same)))
+
+pub not_now : (next : ℕ) (floor : Option ℤ) (turns : List Turn) (hs : List Haul) (e : Event) (turn : Turn)
+    → length turns ≡ length hs → slice_get turns (worker_of e) ≡ Some turn → is_awaited turn e ≡ false
+    → refusal (state_of next floor turns hs) e ≡ Some (NotNow (worker_of e))
+not_now next floor turns hs e turn same here other =
+    let at : IsThere turns hs (worker_of e) turn = there turns hs (worker_of e) turn same here in
+    let now : is_now (state_of next floor turns hs) e ≡ false =
+    ap (λ (o : Option Worker). option_map_or (λ v. is_awaited v.turn e) o false) at.worker ∙ other in
+    ap (λ (b : Bool). cond b (cond (is_now (state_of next floor turns hs) e) None (Some (NotNow (worker_of e))))
+    (Some (NoWorker (worker_of e))))
+    (below (worker_of e) (length (workers_with turns hs)) (omega (arith, at.within, workers-length turns hs same)))
+    ∙ ap (λ (b : Bool). cond b None (Some (NotNow (worker_of e)))) now
+
+pub is_now_by : (next : ℕ) (floor : Option ℤ) (turns : List Turn) (hs : List Haul) (e : Event) (turn : Turn)
+    → length turns ≡ length hs → slice_get turns (worker_of e) ≡ Some turn → is_awaited turn e ≡ true
+    → refusal (state_of next floor turns hs) e ≡ None
+is_now_by next floor turns hs e turn same here awaited =
+    let at : IsThere turns hs (worker_of e) turn = there turns hs (worker_of e) turn same here in
+    let now : is_now (state_of next floor turns hs) e ≡ true =
+    ap (λ (o : Option Worker). option_map_or (λ v. is_awaited v.turn e) o false) at.worker ∙ awaited in
+    ap (λ (b : Bool). cond b (cond (is_now (state_of next floor turns hs) e) None (Some (NotNow (worker_of e))))
+    (Some (NoWorker (worker_of e))))
+    (below (worker_of e) (length (workers_with turns hs)) (omega (arith, at.within, workers-length turns hs same)))
+    ∙ ap (λ (b : Bool). cond b None (Some (NotNow (worker_of e)))) now
+
+-- ---- what the steps that are made lead to
+
+drawn-number : (t : Task) (n : ℕ) → unsettled (drawn t n) ≡ n ∷ []
+drawn-number t n = elim (nat_lt n t.len) as (λ b. unsettled (cond b (Claimed n) (Stopped n)) ≡ n ∷ [])
+    [ true ↦ refl | false ↦ refl ]
+
+pub claim_step : (t : Task) (next : ℕ) (floor : Option ℤ) (turns : List Turn) (hs : List Haul) (w : ℕ)
+    → length turns ≡ length hs → slice_get turns w ≡ Some Idle
+    → IsStep t (state_of next floor turns hs) (Claim w)
+    (state_of (next + 1) floor (slice_set turns w (drawn t next)) hs)
+claim_step t next floor turns hs w same here =
+    let at : IsThere turns hs w Idle = there turns hs w Idle same here in
+    let ms : List ℕ = morsels_of (records_of at.haul) in
+    record {
+      before = worker_with (Idle, at.haul);
+      after = worker_with (drawn t next, at.haul);
+      here = at.worker;
+      does = record {
+        idle = refl;
+        turn = refl;
+        claims = ap (λ (l : List ℕ). ms ++ l) (drawn-number t next)
+            ∙ ap (λ (l : List ℕ). l ++ next ∷ []) (sym (append-nil ms));
+        records = refl;
+        pool = refl;
+        next = refl;
+        floor = refl;
+      };
+      others = other_turn turns hs w (drawn t next) at.haul at.own;
+    }
+
+pub look_step : (t : Task) (next : ℕ) (floor : Option ℤ) (turns : List Turn) (hs : List Haul) (w m : ℕ)
+    → length turns ≡ length hs → slice_get turns w ≡ Some (Claimed m)
+    → IsStep t (state_of next floor turns hs) (Look w)
+    (state_of next floor (slice_set turns w (Looked m floor)) hs)
+look_step t next floor turns hs w m same here =
+    let at : IsThere turns hs w (Claimed m) = there turns hs w (Claimed m) same here in
+    record {
+      before = worker_with (Claimed m, at.haul);
+      after = worker_with (Looked m floor, at.haul);
+      here = at.worker;
+      does = record {
+        morsel = m;
+        claimed = refl;
+        turn = refl;
+        claims = refl;
+        records = refl;
+        pool = refl;
+        next =
+            refl;
+        floor = refl;
+      };
+      others = other_turn turns hs w (Looked m floor) at.haul at.own;
+    }
+
+pub settle_step : (t : Task) (next : ℕ) (floor floor' : Option ℤ) (turns : List Turn) (hs : List Haul) (w m : ℕ)
+    (seen : Option ℤ) (h h' : Haul) → length turns ≡ length hs → slice_get turns w ≡ Some (Looked m seen)
+    → slice_get hs w ≡ Some h → HasSettled t h (record_of t w m seen) h'
+    → floor' ≡ floor_after floor (record_of t w m seen) h'.pool
+    → IsStep t (state_of next floor turns hs) (Settle w)
+    (state_of next floor' (slice_set turns w Idle) (slice_set hs w h'))
+settle_step t next floor floor' turns hs w m seen h h' same here own did raised =
+    let at : IsThere turns hs w (Looked m seen) = there turns hs w (Looked m seen) same here in
+    let there' : Some at.haul ≡ Some h = sym at.own ∙ own in
+    let haul : at.haul ≡ h = cc in
+    let rs : List Record = records_of h in
+    let r : Record = record_of t w m seen in
+    record {
+      before = worker_with (Looked m seen, h);
+      after = worker_with (Idle, h');
+      here = at.worker ∙ ap (λ (z : Haul). Some (worker_with (Looked m seen, z))) haul;
+      does = record {
+        morsel = m;
+        seen = seen;
+        looked = refl;
+        turn = refl;
+        claims = append-nil (morsels_of (records_of h')) ∙ ap morsels_of did.records ∙ morsels-push rs r;
+        records = did.records;
+        pool = did.pool;
+        next = refl;
+        floor = raised;
+      };
+      others = other_both turns hs w Idle h' same;
+    }
+
+-- ---- what is true of every machine stays so
+
+pub some_wanted : (p : Planned) → IsPlan p → 0 < p.query.k
+some_wanted p is = let k = is.asked.k in grind arith
+
+pub few_wanted : (p : Planned) → IsPlan p → p.query.k ≤ 1000
+few_wanted p is = let k = is.asked.k in grind arith
+
+pub still_running : (m : Running) (e : Event) (s' : State) (failed : Bool) → IsRunning m
+    → IsStep (task_of m.plan) m.state e s' → IsRunning
+    (record { plan = m.plan; guess = m.guess; state = s'; failed = failed })
+still_running m e s' failed r step =
+    let len : length s'.workers ≡ length m.state.workers = ap length step.others
+    ∙ set-length m.state.workers (worker_of e) step.after in
+    record {
+      plan = r.plan;
+      guess = r.guess;
+      some = omega (arith, len, r.some);
+      limit = omega (arith, len, r.limit);
+      sound = runs_sound.1 (task_of m.plan) m.guess m.state s' e (some_wanted m.plan r.plan) r.sound step;
+    }
+
+-- whether it has failed makes no difference
+pub running_failed : (m : Running) (failed : Bool) → IsRunning m
+    → IsRunning (record { plan = m.plan; guess = m.guess; state = m.state; failed = failed })
+running_failed m failed r = record { plan = r.plan; guess = r.guess; some = r.some; limit = r.limit; sound = r.sound }
+
+-- ---- the answers of a machine
+
+pub no_worker_refused : (m : Running) (next : ℕ) (floor : Option ℤ) (turns : List Turn) (hs : List Haul) (e : Event)
+    → m.state ≡ state_of next floor turns hs → m.failed ≡ false → length turns ≡ length hs
+    → length turns ≤ worker_of e → Refuses m e (NoWorker (worker_of e)) m
+no_worker_refused m next floor turns hs e is running same far =
+    record {
+      running = running;
+      refused = ap (λ (s : State). refusal s e) is
+          ∙ no_worker next floor turns hs e same far;
+      unchanged = refl;
+    }
+
+pub not_now_refused : (m : Running) (next : ℕ) (floor : Option ℤ) (turns : List Turn) (hs : List Haul) (e : Event)
+    (turn : Turn) → m.state ≡ state_of next floor turns hs → m.failed ≡ false → length turns ≡ length hs
+    → slice_get turns (worker_of e) ≡ Some turn → is_awaited turn e ≡ false → Refuses m e (NotNow (worker_of e)) m
+not_now_refused m next floor turns hs e turn is running same here other =
+    record {
+      running = running;
+      refused = ap (λ (s : State). refusal s e) is
+          ∙ not_now next floor turns hs e turn same here other;
+      unchanged = refl;
+    }
+
+-- an answer that is known to be an error
+pub err_is : {A E : Type 0} (r : Result A E) (e : E) → IsErr r × IsErrAnd r (λ x. x ≡ e) → r ≡ Err e
+err_is (Ok a) e h = let bad : false ≡ true = h.0 in absurd cc
+err_is (Err x) e h = ap (λ z. Err z) h.1
+
+-- ---- turns that wait for other events
+
+pub not_idle : (w : ℕ) (turn : Turn) → (turn ≢ Idle) → is_awaited turn (Claim w) ≡ false
+not_idle w Idle h = absurd (h refl)
+not_idle w (Claimed m) h = refl
+not_idle w (Looked m seen) h = refl
+not_idle w (Stopped n) h = refl
+
+pub not_claimed : (w : ℕ) (turn : Turn) → ((m : ℕ) → turn ≢ Claimed m) → is_awaited turn (Look w) ≡ false
+not_claimed w Idle h = refl
+not_claimed w (Claimed m) h = absurd (h m refl)
+not_claimed w (Looked m seen) h = refl
+not_claimed w (Stopped n) h = refl
+
+pub not_looked : (w : ℕ) (turn : Turn) → ((m : ℕ) (seen : Option ℤ) → turn ≢ Looked m seen)
+    → is_awaited turn (Settle w) ≡ false
+not_looked w Idle h = refl
+not_looked w (Claimed m) h = refl
+not_looked w (Looked m seen) h = absurd (h m seen refl)
+not_looked w (Stopped n) h = refl
+
+-- the greater floor, where a score is raised only by what isn't passed over
+pub raised_floor : (floor raised : Option ℤ) (r : Record) (p : Pooled) → raised ≡ cond r.skipped None (last_score p)
+    → greater_floor floor raised ≡ floor_after floor r p
+raised_floor floor raised r p e = ap (greater_floor floor) e ∙ by_skip r.skipped
+  where
+    none_raised : (f : Option ℤ) → greater_floor f None ≡ f
+    none_raised None = refl
+    none_raised (Some a) = refl
+
+    by_skip : (b : Bool) → greater_floor floor (cond b None (last_score p)) ≡ cond b floor
+        (greater_floor floor (last_score p))
+    by_skip true = none_raised floor
+    by_skip false = refl
+
+-- ---- a haul that settles, or finds no memory
+
+pub got : {X : Type 0} (xs : List X) (i : ℕ) (x : X) → i < length xs → x ≡ get_or xs i x → slice_get xs i ≡ Some x
+got [] i x lt e = absurd (omega arith)
+got (y ∷ ys) zero x lt e = ap (λ z. Some z) (sym e)
+got (y ∷ ys) (suc i) x lt e = got ys i x (omega arith) e
+
+-- the record that is written is the worker's
+pub settle_made : (t : Task) (next : ℕ) (floor floor' raised : Option ℤ) (turns : List Turn) (hs : List Haul)
+    (w m : ℕ) (seen : Option ℤ) (h h' : Haul) (r : Record) → length turns ≡ length hs
+    → slice_get turns w ≡ Some (Looked m seen) → h ≡ get_or hs w h → r ≡ record_of t w m seen
+    → HasSettled t h r h' → raised ≡ cond r.skipped None (last_score h'.pool) → floor' ≡ greater_floor floor raised
+    → IsStep t (state_of next floor turns hs) (Settle w)
+    (state_of next floor' (slice_set turns w Idle) (slice_set hs w h'))
+settle_made t next floor floor' raised turns hs w m seen h h' r same here own made did up new =
+    let at : IsThere turns hs w (Looked m seen) = there turns hs w (Looked m seen) same here in
+    settle_step t next floor floor' turns hs w m seen h h' same here (got hs w h (omega (arith, at.within, same)) own)
+    (subst (λ (q : Record). HasSettled t h q h') made did)
+    (new ∙ raised_floor floor raised r h'.pool up ∙ ap (λ (q : Record). floor_after floor q h'.pool) made)
+
+same_workers : (turns : List Turn) (hs : List Haul) (w : ℕ) (h h' : Haul) → slice_get hs w ≡ Some h → IsSameHaul h h'
+    → workers_with turns (slice_set hs w h') ≡ workers_with turns hs
+same_workers [] hs w h h' e s = refl
+same_workers (x ∷ xs) [] w h h' e s = refl
+same_workers (x ∷ xs) (y ∷ hs) zero h h' e s =
+    let same : h ≡ y = cc in
+    ap (λ (v : Worker). v ∷ workers_with xs hs)
+    (ap (λ (rs : List Record). record {
+      turn = x;
+      claims = morsels_of rs ++ unsettled x;
+      records = rs;
+      pool =
+          h'.pool;
+    }) s.records ∙ ap (λ (p : Pooled). record {
+      turn = x;
+      claims =
+          morsels_of (records_of h) ++ unsettled x;
+      records = records_of h;
+      pool = p;
+    }) s.pool
+    ∙ ap (λ (z : Haul). worker_with (x, z)) same)
+same_workers (x ∷ xs) (y ∷ hs) (suc w) h h' e s =
+    ap (λ (l : List Worker). worker_with (x, y) ∷ l) (same_workers xs hs w h h' e s)
+
+-- want of memory leaves the state as it was
+pub same_state_of : (next : ℕ) (floor : Option ℤ) (turns : List Turn) (hs : List Haul) (w : ℕ) (turn : Turn)
+    (h h' : Haul) → length turns ≡ length hs → slice_get turns w ≡ Some turn → h ≡ get_or hs w h → IsSameHaul h h'
+    → state_of next floor turns (slice_set hs w h') ≡ state_of next floor turns hs
+same_state_of next floor turns hs w turn h h' same here own s =
+    let at : IsThere turns hs w turn = there turns hs w turn same here in
+    ap (λ (l : List Worker). record { next = next; floor = floor; workers = l })
+    (same_workers turns hs w h h' (got hs w h (omega (arith, at.within, same)) own) s)
+
+-- ---- the next number is small
+
+rise_short : (n a : ℕ) (xs : List ℕ) → Rise xs → AllByRecursion (λ x. x < n) xs → AllByRecursion (λ x. a ≤ x) xs
+    → length xs ≤ n - a
+rise_short n a [] r h k = omega arith
+rise_short n a (x ∷ xs) r h k = let rest : length xs ≤ n - suc x = rise_short n (suc x) xs r.1 h.1 r.0 in
+    omega (arith, rest, h.0, k.0)
+
+from_zero : (xs : List ℕ) → AllByRecursion (λ x. 0 ≤ x) xs
+from_zero [] = tt
+from_zero (x ∷ xs) = (omega arith, from_zero xs)
+
+one_open : (turn : Turn) → length (unsettled turn) ≤ 1
+one_open Idle = omega arith
+one_open (Claimed m) = omega arith
+one_open (Looked m seen) = omega arith
+one_open (Stopped n) = omega arith
+
+module _ (t : Task) (guess : Option ℤ) where
+  morsels_below : (rs : List Record) → AllByRecursion (λ r. r.morsel < t.len) rs
+      → AllByRecursion (λ x. x < t.len) (morsels_of rs)
+  morsels_below [] h = tt
+  morsels_below (r ∷ rs) h = (h.0, morsels_below rs h.1)
+
+  claims_few : (w : ℕ) (vs : List Worker) → t.len ≤ 1_048_576 → AreSoundFrom t guess w vs
+      → length (flat_map (λ (v : Worker). v.claims) vs) ≤ 1_048_577 * length vs
+  claims_few w [] few h = omega arith
+  claims_few w (v ∷ vs) few h =
+      let ms : List ℕ = morsels_of v.records in
+      let short : length ms ≤ t.len - 0 = rise_short t.len 0 ms
+      (rise_front t guess ms (unsettled v.turn) (subst Rise h.0.settled h.0.rise))
+      (morsels_below v.records h.0.within) (from_zero ms) in
+      omega (
+        arith,
+        few,
+        short,
+        one_open v.turn,
+        ap length h.0.settled ∙ length-append ms (unsettled v.turn),
+        length-append v.claims (flat_map (λ (u : Worker). u.claims) vs),
+        claims_few (w + 1) vs few h.1,
+      )
+
+  next_few : (s : State) → t.len ≤ 1_048_576 → IsSoundState t guess s → s.next ≤ 1_048_577 * length s.workers
+  next_few s few h = omega (
+    arith,
+    length-each_below s.next
+        (flat_map (λ (v : Worker). v.claims) s.workers) h.claims,
+    claims_few 0 s.workers few h.each,
+  )
+
+-- so one can be added to it
+pub next_small : (m : Running) → IsRunning m → m.state.next ≤ 67_108_928
+next_small m r = omega (arith, next_few (task_of m.plan) m.guess m.state (few_morsels m.plan r.plan) r.sound, r.limit)
+
+-- ---- the start
+
+zipped : (k n : ℕ) (hs : List Haul) → length hs ≡ n → AllByRecursion (IsEmptyHaul k) hs
+    → workers_with (replicate n Idle) hs ≡ replicate n (new_worker k)
+zipped k zero [] e h = refl
+zipped k zero (x ∷ hs) e h = absurd (omega (arith, e))
+zipped k (suc n) [] e h = absurd (omega (arith, e))
+zipped k (suc n) (x ∷ hs) e h =
+    let own : worker_with (Idle, x) ≡ new_worker k =
+    ap (λ (rs : List Record). record { turn = Idle; claims = morsels_of rs ++ []; records = rs; pool = x.pool })
+    h.0.records ∙ ap (λ (p : Pooled). record { turn = Idle; claims = []; records = []; pool = p }) h.0.pool in
+    ap (λ (v : Worker). v ∷ workers_with (replicate n Idle) hs) own
+    ∙ ap (λ (l : List Worker). new_worker k ∷ l) (zipped k n hs (omega (arith, e)) h.1)
+
+pub start_state : (p : Planned) (guess : Option ℤ) (k workers : ℕ) (turns : List Turn) (hs : List Haul)
+    → k ≡ p.query.k → turns ≡ replicate workers Idle → length hs ≡ workers → AllByRecursion (IsEmptyHaul k) hs
+    → state_of 0 guess turns hs ≡ started (task_of p) workers guess
+start_state p guess k workers turns hs same idle len empty =
+    ap (λ (l : List Turn). state_of 0 guess l hs) idle
+    ∙ ap (λ (l : List Worker). record { next = 0; floor = guess; workers = l }) (zipped k workers hs len empty)
+    ∙ ap (λ (j : ℕ). record { next = 0; floor = guess; workers = replicate workers (new_worker j) }) same
+
+replicate-length : {X : Type 0} (n : ℕ) (x : X) → length (replicate n x) ≡ n
+replicate-length zero x = refl
+replicate-length (suc n) x = ap suc (replicate-length n x)
+
+pub start_turns : (n : ℕ) (turns : List Turn) → turns ≡ replicate n Idle → length turns ≡ n
+start_turns n turns e = ap length e ∙ replicate-length n Idle
+
+pub start_running : (p : Planned) (guess : Option ℤ) (workers : ℕ) → IsPlan p → IfSome guess IsScore → 0 < workers
+    → workers ≤ 64 → IsRunning (new_run p workers guess)
+start_running p guess workers is ok some few =
+    let len : length (replicate workers (new_worker p.query.k)) ≡ workers =
+    replicate-length workers (new_worker p.query.k) in
+    record {
+      plan = is;
+      guess = ok;
+      some = omega (arith, len, some);
+      limit = omega (arith, len, few);
+      sound =
+          runs_sound.0 (task_of p) workers guess;
+    }
+
+-- ---- the end
+
+pub hauls_of : (next : ℕ) (floor : Option ℤ) (turns : List Turn) (hs : List Haul) → length turns ≡ length hs
+    → AreHaulsOf (workers_with turns hs) hs
+hauls_of next floor [] [] e = tt
+hauls_of next floor [] (h ∷ hs) e = absurd (omega (arith, e))
+hauls_of next floor (x ∷ xs) [] e = absurd (omega (arith, e))
+hauls_of next floor (x ∷ xs) (h ∷ hs) e = ((refl, refl), hauls_of next floor xs hs (omega (arith, e)))
+
+both_left : (a b : Bool) → (not a && b) ≡ true → b ≡ true
+both_left true b e = absurd cc
+both_left false b e = e
+
+-- what the workers of a stopped machine bring home is sound
+pub stopped_sound : (m : Running) (hs : List Haul) → IsRunning m → is_stopped m ≡ true → AreHaulsOf m.state.workers hs
+    → IsSoundEnd (task_of m.plan) m.state × AreSound (task_of m.plan) hs × AreUnderFloor
+    (task_of m.plan) m.guess hs m.state.floor
+stopped_sound m hs r e a = ends_sound (task_of m.plan) m.guess m.state hs r.some r.sound
+    (both_left m.failed (all_stopped m.state.workers) e) a

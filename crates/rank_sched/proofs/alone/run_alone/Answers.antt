@@ -1,0 +1,59 @@
+use Rattle.std.proofs.Common.{◌<◌, ◌≤◌, length, sym, subst, arith}
+use Rattle.rank_sched.specs.declared.event.Event.TheVariants.{Claim}
+use Rattle.rank_sched.proofs.LoneWorker.{Awaits, awaits_first, awaits_look, awaits_settle, awaits_claim, last_claim, lone_sound, lone_result}
+use Rattle.rank_sched.proofs.PlanBest.{best_of_answer}
+use Rattle.rank_sched.proofs.alone.run_alone.Goals as goal
+
+-- at the start the worker claims
+pub loop-init : goal.loop-init
+loop-init c = subst (Awaits c.args.plan.now c.args.guess 0 (Claim 0)) (sym c.in_ok-machine.ensures)
+    (awaits_first c.args.plan.now c.args.guess)
+
+pub advance-requires : goal.advance-requires
+advance-requires c = c.loop.invariant.accepted
+
+-- then it looks
+pub advance-requires-in-loop : goal.advance-requires-in-loop
+advance-requires-in-loop c =
+    let few : c.loop.counter < length c.args.plan.now.morsels = omega arith in
+    (awaits_look c.args.plan.now c.args.guess c.loop.counter _ _ few c.loop.invariant
+    c.in_ok-advance.ensures).accepted
+
+-- then it settles
+pub advance-requires-in-loop-2 : goal.advance-requires-in-loop-2
+advance-requires-in-loop-2 c =
+    let few : c.loop.counter < length c.args.plan.now.morsels = omega arith in
+    let looked = awaits_look c.args.plan.now c.args.guess c.loop.counter _ _ few c.loop.invariant
+    c.in_ok-advance.ensures in
+    (awaits_settle c.args.plan.now c.args.guess _ _ _ looked c.in_ok-advance-2.ensures).accepted
+
+-- then it claims again
+pub loop-preserved : goal.loop-preserved
+loop-preserved c =
+    let few : c.loop.counter < length c.args.plan.now.morsels = omega arith in
+    let looked = awaits_look c.args.plan.now c.args.guess c.loop.counter _ _ few c.loop.invariant
+    c.in_ok-advance.ensures in
+    let settled = awaits_settle c.args.plan.now c.args.guess _ _ _ looked c.in_ok-advance-2.ensures in
+    awaits_claim c.args.plan.now c.args.guess _ _ _ settled c.in_ok-advance-3.ensures
+
+pub advance-requires-2 : goal.advance-requires-2
+advance-requires-2 c = c.loop.invariant.accepted
+
+-- the last claim stops it
+pub hauls-requires : goal.hauls-requires
+hauls-requires c =
+    let past : length c.args.plan.now.morsels ≤ c.loop.counter = omega arith in
+    last_claim c.args.plan.now c.args.guess c.loop.counter _ _ past c.loop.invariant c.in_ok-advance-4.ensures
+
+pub finish-requires : goal.finish-requires
+finish-requires c = lone_sound c.args.plan.now c.args.guess c.loop.counter _ _ c.hauls.result.items c.loop.invariant
+    c.in_ok-advance-4.ensures c.hauls.ensures.sound
+
+-- the answer is that of a crew of one, and its best are the query's
+pub returns : goal.returns
+returns c = record {
+  answer = lone_result c.args.plan.now c.args.guess c.loop.counter _ _ c.hauls.result.items _ c.loop.invariant
+      c.in_ok-advance-4.ensures c.hauls.ensures.hauls c.hauls.ensures.sound c.hauls.ensures.under_floor
+      c.finish.ensures;
+  best = best_of_answer c.args.plan.now _ c.finish.result c.finish.ensures;
+}

@@ -1,0 +1,8 @@
+use Rattle.std.proofs.Common.{◌≡◌, map, take}
+use Rattle.std.specs.List.{enumerate_from}
+use Rattle.rank_sched.specs.Finish.{marked_line}
+use Rattle.rank_sched.proofs.ended.lines_of.Given as goal
+
+-- the lines of the morsels so far
+abbrev pub invariant-loop-morsel : goal.invariant-loop-morsel
+invariant-loop-morsel l = l.lines.items ≡ map (marked_line l.skips) (enumerate_from 0 (take l.morsel l.plan.morsels))

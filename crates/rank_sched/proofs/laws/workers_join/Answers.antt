@@ -1,0 +1,14 @@
+use Rattle.rank_sched.proofs.Growing.{workers_join, hauls_join, stops_join, turns_join}
+use Rattle.rank_sched.proofs.laws.workers_join.Goals as goal
+
+pub returns-clause-sound : goal.returns-clause-sound
+returns-clause-sound c = workers_join
+
+pub returns-clause-hauls : goal.returns-clause-hauls
+returns-clause-hauls c = hauls_join
+
+pub returns-clause-stopped : goal.returns-clause-stopped
+returns-clause-stopped c = stops_join
+
+pub returns-clause-turns : goal.returns-clause-turns
+returns-clause-turns c = turns_join

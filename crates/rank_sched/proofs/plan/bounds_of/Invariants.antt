@@ -1,0 +1,7 @@
+use Rattle.std.proofs.Common.{◌≡◌, take, map}
+use Rattle.rank_sched.specs.Plan.{measure_of}
+use Rattle.rank_sched.proofs.plan.bounds_of.Given as goal
+
+-- the stations so far were measured
+abbrev pub invariant-loop-place : goal.invariant-loop-place
+invariant-loop-place l = l.bounds.items ≡ map (measure_of l.query l.held) (take l.place l.held.stations)

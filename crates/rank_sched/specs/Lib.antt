@@ -1,0 +1,11 @@
+pub mod Plan
+pub mod Task
+pub mod Exchanges
+pub mod Machine
+pub mod SoundRun
+pub mod Hauls
+pub mod Run
+pub mod TakingBack
+pub mod Finish
+pub mod Answers
+pub mod Laws

@@ -1,0 +1,94 @@
+-- The plan of a query: its morsels with their bounds, in the order in which they are drawn.
+use Rattle.std.specs.Prelude.{◌≡◌, Bool, true, ◌&&◌, ◌||◌, ◌==◌, not, if◌then◌else◌, List, [], ◌∷◌, length, map, Option, None, Some, ℤ, int_lt}
+use Rattle.std.specs.List.{AllByRecursion}
+use Rattle.std.specs.List.Sorted.{IsPermutation}
+use Rattle.std.specs.Option.{option_map}
+use Rattle.std.specs.declared.cmp.Ordering.{Ordering}
+use Rattle.std.specs.Ordering.{int_eq, int_cmp, nat_cmp, on, flip_args, then_cmp}
+use Rattle.std.specs.Cmp.Lexicographic.{slice_cmp}
+use Rattle.ghcn_fields.specs.Sorting.{sorted_by}
+use Rattle.ghcn_files.specs.declared.station.Station.{Station}
+use Rattle.ghcn_series.specs.Series.{Usable, Contents, series_of}
+use Rattle.ghcn_series.specs.Held.{IsContents}
+use Rattle.rank_query.specs.Asked.{Asked, IsAsked, score_element}
+use Rattle.rank_query.specs.Admits.{admits_station}
+use Rattle.rank_scores.specs.Candidates.{admitted}
+use Rattle.rank_scores.specs.Morsels.{morsels, id_comes_first}
+use Rattle.rank_blocks.specs.Bounds.{bound}
+
+-- a series of a query, and its bound
+pub record Morsel : Type 0 where
+  pub series : Usable
+  pub bound : ℤ
+
+-- what contracts see of a plan: the query, the listed stations, and the morsels by number
+pub record Planned : Type 0 where
+  pub query : Asked
+  pub stations : List Station
+  pub morsels : List Morsel
+
+-- a series with its bound under a query
+abbrev pub measured : Asked → Usable → Morsel
+measured q s = record { series = s; bound = bound q s }
+
+-- a is drawn before b: by greater bound, then by smaller ID
+abbrev pub is_drawn_first : Morsel → Morsel → Bool
+is_drawn_first a b = int_lt b.bound a.bound || (int_eq a.bound b.bound && id_comes_first a.series.id b.series.id)
+
+-- the same as a comparison
+abbrev pub drawn_cmp : Morsel → Morsel → Ordering
+drawn_cmp = then_cmp (on (λ m. m.bound) (flip_args int_cmp)) (on (λ m. m.series.id.0) (slice_cmp nat_cmp))
+
+-- the plan of a query over some data: all its morsels, each with its bound, in the order in which they are drawn
+abbrev pub planned : Asked → Contents → Planned
+planned q c = record {
+  query = q;
+  stations = c.stations;
+  morsels =
+      sorted_by is_drawn_first (map (measured q) (morsels q c));
+}
+
+-- each morsel is drawn before all behind it
+abbrev pub AreDrawnInTurn : List Morsel → Type 0
+AreDrawnInTurn [] = Unit {0}
+AreDrawnInTurn (m ∷ ms) = AllByRecursion (λ n. is_drawn_first m n ≡ true) ms × AreDrawnInTurn ms
+
+-- the same by properties: the query's morsels with their bounds, each once, and each is drawn before all behind it
+pub record IsPlanOf (q : Asked) (c : Contents) (p : Planned) : Type 0 where
+  pub asked : p.query ≡ q
+  pub listed : p.stations ≡ c.stations
+  pub morsels_are : IsPermutation (map (measured q) (morsels q c)) p.morsels
+  pub in_turn : AreDrawnInTurn p.morsels
+
+-- what is true of every plan: it is that of its query over some data
+pub record IsPlan (p : Planned) : Type 0 where
+  pub asked : IsAsked p.query
+  pub held : Contents
+  pub right : IsContents held
+  pub plan : p ≡ planned p.query held
+
+-- the series has an admitted usable day
+abbrev pub is_asked_of : Asked → Usable → Bool
+is_asked_of q s = not (length (admitted q s) == 0)
+
+-- a value, if it passes
+abbrev pub passing : {A : Type 0} → (A → Bool) → Option A → Option A
+passing test None = None
+passing test (Some x) = if test x then Some x else None
+
+-- the series of a station that is a morsel, if the station is one
+abbrev pub morsel_of : Asked → Contents → Station → Option Usable
+morsel_of q c st = if admits_station q st then passing (is_asked_of q)
+    (series_of c st.id (score_element q.score)) else None
+
+-- the morsel of a station, if it is one
+abbrev pub morsel_at : Asked → Contents → Station → Option Morsel
+morsel_at q c st = option_map (measured q) (morsel_of q c st)
+
+-- the bound of a station that is a morsel
+abbrev pub measure_of : Asked → Contents → Station → Option ℤ
+measure_of q c st = option_map (bound q) (morsel_of q c st)
+
+-- the bounds of all listed stations in file order, none where a station is no morsel
+abbrev pub measures : Asked → Contents → List (Option ℤ)
+measures q c = map (measure_of q c) c.stations

@@ -1,0 +1,54 @@
+//! What runs and their hauls are worth, as laws over the definitions.
+
+ghost use Rattle.rank_sched.specs.Laws as laws;
+
+/// Every event that isn't refused leads to one state, runs are sound from the start on, and a
+/// machine that failed stays so.
+pub fn runs_are_sound()
+    ensures steps { laws.StepsAreComputed }
+    ensures choice { laws.OneWorkerHasNoChoice }
+    ensures sound { laws.RunsAreSound }
+    ensures seen { laws.SeenIsAtMost }
+    ensures failed { laws.FailedStaysFailed }
+{}
+
+/// A run that has stopped has sound hauls, and as many events as it must have.
+pub fn ends_are_sound()
+    ensures ends { laws.EndsAreSound }
+    ensures events { laws.EventsAreCounted }
+    ensures records { laws.RecordsAreSound }
+    ensures none { laws.NoHauls }
+{}
+
+/// A haul goes on being sound as records are added, and so do its turns and the floors that it saw.
+pub fn hauls_grow()
+    ensures haul { laws.HaulsGrow }
+    ensures turns { laws.TurnsGrow }
+    ensures upward { laws.UpwardGrows }
+{}
+
+/// Workers, and those with the next numbers, are together what each group is.
+pub fn workers_join()
+    ensures sound { laws.WorkersJoin }
+    ensures hauls { laws.HaulsJoin }
+    ensures stopped { laws.StopsJoin }
+    ensures turns { laws.TurnsJoin }
+{}
+
+/// Sound hauls are right, whatever the guess, and nothing is taken back where the guess is low.
+pub fn hauls_are_right()
+    ensures raised { laws.RaisedIsReached }
+    ensures skips { laws.SkipsAreRight }
+    ensures back { laws.NoneIsTakenBack }
+    ensures onwards { laws.SkipsStayOnwards }
+    ensures best { laws.BestAreThere }
+    ensures pool { laws.PoolDecides }
+{}
+
+/// A plan is the one list of its query's morsels in which they are drawn, what it asks is fair, and
+/// its best candidates are the best of its query.
+pub fn plans_have_the_best()
+    ensures one { laws.PlanIsTheOne }
+    ensures fair { laws.PlansAreFair }
+    ensures best { laws.PlanHasTheBest }
+{}

@@ -1,0 +1,37 @@
+//! The plan of a query, the machine that runs it in any order of events, and the end of a run.
+//!
+//! The crew's threads and the papers stand on it. What it hands up is the plan, and that the answer
+//! made of sound hauls has the best candidates and right lines.
+#![tactic(auto)]
+
+mod alone;
+mod answer;
+mod ended;
+mod event;
+mod haul;
+mod laws;
+mod line;
+mod machine;
+mod measured;
+mod plan;
+mod record;
+mod replayed;
+#[cfg(test)]
+mod tests;
+mod turn;
+
+pub use alone::run_alone;
+pub use answer::Answer;
+pub use ended::finish;
+pub use event::{Event, ReplayFault, StepFault};
+pub use haul::Haul;
+pub use laws::{
+    ends_are_sound, hauls_are_right, hauls_grow, plans_have_the_best, runs_are_sound, workers_join,
+};
+pub use line::Line;
+pub use machine::Machine;
+pub use measured::measure;
+pub use plan::Plan;
+pub use record::Record;
+pub use replayed::replay;
+pub use turn::Turn;

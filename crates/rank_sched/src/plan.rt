@@ -1,0 +1,223 @@
+//! The plan of a query: its morsels with their bounds.
+
+ghost use Rattle.std.specs.Prelude.{◌≡◌, ◌<◌, Some, length, map, fold, slice_get, IfOk};
+ghost use Rattle.rank_pool.specs.Pools.{taken};
+ghost use Rattle.std.specs.List.{filter_map};
+ghost use Rattle.std.specs.Option.{option_map, option_copied};
+ghost use Rattle.ghcn_series.specs.Held.{IsContents};
+ghost use Rattle.rank_query.specs.Asked.{Asked, IsAsked, score_element};
+ghost use Rattle.rank_sched.specs.Plan as plan;
+ghost use Rattle.rank_sched.specs.Task.{task_of, IsFair};
+
+use crate::Line;
+use crate::measured::measure;
+use ghcn_fields::Memory;
+use ghcn_files::{Element, StationId, Stations};
+use ghcn_series::{Data, Series};
+use rank_pool::Pool;
+use rank_query::Query;
+use rank_scores::scan;
+use std::alloc::Global;
+use std::cmp::Ordering;
+use std::marker::Model;
+
+/// A series of the query, and a number that no candidate's score is above.
+#[derive(Clone, Copy)]
+pub(crate) struct Morsel<'a> {
+    pub(crate) series: &'a Series,
+    pub(crate) bound: i64,
+}
+
+/// The morsels of a query, the greatest bound first, and then by increasing ID.
+#[derive(Drop)]
+pub struct Plan<'a> {
+    data: &'a Data,
+    query: Query,
+    morsels: Vec<Morsel<'a>>,
+}
+
+impl<'a> Model for Plan<'a> {
+    ghost use Rattle.std.specs.Prelude.{map};
+    ghost use Rattle.rank_sched.specs.Plan.{Planned, IsPlan};
+
+    ghost Value = { Planned };
+
+    ghost view = { λ p. record {
+      query = p.query;
+      stations = p.data.now.stations;
+      morsels = map (λ m. record { series = m.series.now; bound = m.bound }) p.morsels.items;
+    } };
+
+    ghost invariant = { λ p. IsPlan (record {
+      query = p.query;
+      stations = p.data.now.stations;
+      morsels = map (λ m. record { series = m.series.now; bound = m.bound }) p.morsels.items;
+    }) };
+}
+
+impl<'a> Plan<'a> {
+    /// The plan of a query over some data.
+    pub fn new(alloc: Global, held: &'a Data, query: &Query) -> Result<Self, Memory>
+        ensures { IfOk result (λ made. made ≡ plan.planned query.now held.now) }
+    {
+        let bounds = bounds_of(alloc, held, query)?;
+        Plan::of_bounds(alloc, held, query, bounds.as_slice())
+    }
+
+    /// The same plan, from what `measure` answers for each place in turn.
+    pub fn of_bounds(
+        alloc: Global,
+        held: &'a Data,
+        query: &Query,
+        bounds: &[Option<i64>],
+    ) -> Result<Self, Memory>
+        requires { bounds.now ≡ plan.measures query.now held.now }
+        ensures { IfOk result (λ made. made ≡ plan.planned query.now held.now) }
+    {
+        let mut morsels = morsels_of(alloc, held, query, bounds)?;
+        morsels.sort_by(|a, b| drawn_cmp(a, b))?;
+        Ok(Plan {
+            data: held,
+            query: *query,
+            morsels,
+        })
+    }
+
+    /// How many morsels there are.
+    pub fn len(&self) -> u64
+        ensures morsels { result ≡ length self.now.morsels }
+        ensures planned { plan.IsPlan self.now }
+        ensures fair { IsFair (task_of self.now) }
+    {
+        self.morsels.len() as u64
+    }
+
+    /// The ID of a morsel's station, none past the last.
+    pub fn id(&self, morsel: u64) -> Option<StationId>
+        ensures { result ≡ option_map (λ m. m.series.id) (slice_get self.now.morsels morsel) }
+    {
+        let found = self.morsels.as_slice().get(morsel as usize)?;
+        Some(found.series.id())
+    }
+
+    /// The bound of a morsel, none past the last.
+    pub fn bound(&self, morsel: u64) -> Option<i64>
+        ensures { result ≡ option_map (λ m. m.bound) (slice_get self.now.morsels morsel) }
+    {
+        let found = self.morsels.as_slice().get(morsel as usize)?;
+        Some(found.bound)
+    }
+
+    /// The series of a morsel, none past the last.
+    pub fn series(&self, morsel: u64) -> Option<&Series>
+        ensures { option_copied result ≡ option_map (λ m. m.series) (slice_get self.now.morsels morsel) }
+    {
+        let found = self.morsels.as_slice().get(morsel as usize)?;
+        Some(found.series)
+    }
+
+    /// Offers the candidates of a morsel; past the last there are none.
+    pub(crate) fn scan_morsel(&self, morsel: u64, pool: &mut Pool)
+        ensures { pool.new ≡ fold taken pool.old ((task_of self.now).candidates morsel) }
+    {
+        if let Some(series) = self.series(morsel) {
+            scan(series, &self.query, pool);
+        }
+    }
+
+    /// The line of a morsel that was passed over or not.
+    pub(crate) fn line(&self, morsel: u64, skipped: bool) -> Line
+        requires { morsel < length self.now.morsels }
+        ensures { option_map (λ m. record { id = m.series.id; bound = m.bound; skipped = skipped })
+            (slice_get self.now.morsels morsel) ≡ Some result }
+    {
+        let found = self.morsels[morsel as usize];
+        Line {
+            id: found.series.id(),
+            bound: found.bound,
+            skipped,
+        }
+    }
+
+    /// What is asked.
+    pub fn query(&self) -> &Query
+        ensures query { result.now ≡ self.now.query }
+        ensures planned { plan.IsPlan self.now }
+    {
+        &self.query
+    }
+
+    /// The listed stations of the data.
+    pub fn stations(&self) -> &Stations
+        ensures { result.now ≡ self.now.stations }
+    {
+        self.data.stations()
+    }
+}
+
+/// The bounds of all listed stations, in their order.
+pub(crate) fn bounds_of(
+    alloc: Global,
+    held: &Data,
+    query: &Query,
+) -> Result<Vec<Option<i64>>, Memory>
+    ensures { IfOk result (λ bounds. bounds.items ≡ plan.measures query.now held.now) }
+{
+    let mut bounds = Vec::new(alloc);
+    for place in 0..held.stations().len() {
+        bounds.push(measure(alloc, held, query, place)?)?;
+    }
+    Ok(bounds)
+}
+
+/// The morsels in the order of their stations, by the bounds of these.
+fn morsels_of<'a>(
+    alloc: Global,
+    held: &'a Data,
+    query: &Query,
+    bounds: &[Option<i64>],
+) -> Result<Vec<Morsel<'a>>, Memory>
+    requires { bounds.now ≡ plan.measures query.now held.now }
+    ensures morsels { IfOk result (λ morsels. map (λ m. record { series = m.series.now; bound = m.bound }) morsels.items
+        ≡ filter_map (plan.morsel_at query.now held.now) held.now.stations) }
+    ensures asked { IsAsked query.now }
+    ensures contents { IsContents held.now }
+{
+    let element = query.element();
+    let mut morsels = Vec::new(alloc);
+    for place in 0..held.stations().len() {
+        if let Some(morsel) = morsel_at(held, element, place, bounds[place as usize]) {
+            morsels.push(morsel)?;
+        }
+    }
+    Ok(morsels)
+}
+
+/// The morsel of the station at a place, by its bound and the query's element.
+fn morsel_at<'a>(
+    held: &'a Data,
+    element: Element,
+    place: u64,
+    bound: Option<i64>,
+) -> Option<Morsel<'a>>
+    ensures { (q : Asked) → element ≡ score_element q.score →
+        option_map (plan.measure_of q held.now) (slice_get held.now.stations place) ≡ Some bound →
+        option_map (plan.morsel_at q held.now) (slice_get held.now.stations place)
+        ≡ Some (option_map (λ m. record { series = m.series.now; bound = m.bound }) result) }
+{
+    let bound = bound?;
+    let station = held.stations().at(place)?;
+    let series = held.series(&station.id, element)?;
+    Some(Morsel { series, bound })
+}
+
+/// Which of two morsels is drawn first.
+fn drawn_cmp(a: &Morsel<'_>, b: &Morsel<'_>) -> Ordering
+    ensures { result ≡ plan.drawn_cmp
+        (record { series = a.now.series.now; bound = a.now.bound })
+        (record { series = b.now.series.now; bound = b.now.bound }) }
+{
+    b.bound
+        .cmp(&a.bound)
+        .then(a.series.id().cmp(&b.series.id()))
+}
