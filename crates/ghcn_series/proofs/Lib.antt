@@ -1,6 +1,15 @@
 pub mod ListFacts
 pub mod Lookups
+pub mod FirstDays
+pub mod JoinedDays
+pub mod Nexts
+pub mod Searches
+pub mod RisingDays
+pub mod PartsAdded
+pub mod AddedDays
+pub mod LastDays
 pub mod MonthDays
+pub mod RisingMonths
 pub mod SeenMonths
 pub mod DistinctDays
 pub mod SortedDays

@@ -1,20 +1,156 @@
--- A look-up of a day among days and values.
-use Rattle.std.proofs.Common.{◌≡◌, Bool, true, false, cond, List, [], ◌∷◌, Some, Option, refl, ap, ◌∙◌, ℤ}
-use Rattle.std.specs.Ordering.{int_cmp, int_eq}
-use Rattle.std.specs.Option.{option_map}
-use Rattle.std.specs.Cmp.{int_eq_equiv}
-use Rattle.std.specs.Map.{lookup}
-use Rattle.std.specs.BTreeMap.{is_at}
+-- What is looked up among the days of blocks.
+use Rattle.std.proofs.Common.{◌≡◌, ℕ, zero, suc, ◌+◌, ◌<◌, ◌≤◌, Bool, true, false, cond, List, [], ◌∷◌, ◌++◌, length, get_or, Option, Some, None, inl, inr, refl, sym, ap, subst, ◌∙◌, arith, ℤ, pos, negsuc, ◌≤ℤ◌, ◌<ℤ◌, ◌+ℤ◌}
+use Rattle.std.specs.Prelude.{◌==◌, unsigned_abs}
+use Rattle.std.specs.Int.{bit_at}
+use Rattle.std.specs.List.{find, cons_option, filter_map, range_with_len, zip}
+use Rattle.std.specs.Option.{option_map, option_or}
+use Rattle.std.specs.Ordering.{int_eq}
+use Rattle.std.proofs.lemmas.Bool.{cases_lt}
+use Rattle.std.proofs.lemmas.Bool.Decides.{Decides-int_eq}
+use Rattle.std.proofs.lemmas.Int.{ints}
+use Rattle.std.proofs.lemmas.Slice.Zip.{length-zip, get_or-zip}
+use Rattle.ghcn_fields.specs.Days.{block_of}
 use Rattle.ghcn_series.specs.Series.{DayValue, value_on}
+use Rattle.ghcn_series.specs.Packed.{Block, block_start, place_of, if_so, value_at, day_at, block_days, days_of, blocks_of}
 
-value_if : (b : Bool) (x : DayValue) (o : Option DayValue) → cond b (Some x.1) (option_map (λ y. y.1) o) ≡ option_map (λ y. y.1) (cond b (Some x) o)
-value_if true x o = refl
-value_if false x o = refl
+pub int_eq-yes : (a b : ℤ) → a ≡ b → int_eq a b ≡ true
+int_eq-yes a b e = (Decides-int_eq a b).1 e
 
--- a map's look-up of a day finds its value
-pub value_on-is : (days : List DayValue) (day : ℤ) → lookup (is_at (int_cmp day)) days ≡ value_on days day
-value_on-is [] day = refl
-value_on-is (x ∷ xs) day =
-    ap (λ (b : Bool). cond b (Some x.1) (lookup (is_at (int_cmp day)) xs)) (int_eq_equiv.symm day x.0)
-    ∙ ap (λ (o : Option ℤ). cond (int_eq x.0 day) (Some x.1) o) (value_on-is xs day)
-    ∙ value_if (int_eq x.0 day) x _
+pub int_eq-no : (a b : ℤ) → (a ≡ b → ⊥) → int_eq a b ≡ false
+int_eq-no a b h =
+    elim (int_eq a b) as (λ t. int_eq a b ≡ t → t ≡ false) [
+      | true ↦ λ e. absurd (h ((Decides-int_eq a b).0 e))
+      | false ↦ λ e. refl
+    ] refl
+
+-- a day lies in its block
+pub block-holds : (day : ℤ) → (block_start (block_of day) ≤ℤ day) × (day <ℤ (block_start (block_of day) +ℤ pos 32))
+block-holds (pos a) = (omega (arith, ints), omega (arith, ints))
+block-holds (negsuc a) = (omega (arith, ints), omega (arith, ints))
+
+-- the day at a place of a block is in that block
+pub block-of_place : (b : ℤ) (k : ℕ) → k < 32 → block_of (block_start b +ℤ pos k) ≡ b
+block-of_place b k lt =
+    let day : ℤ = block_start b +ℤ pos k in
+    let holds = block-holds day in
+    omega (arith, ints)
+
+-- a day that isn't the first of some days is looked up behind it
+pub value_on-other : (t : Bool) (x : DayValue) (xs : List DayValue) (day : ℤ) → int_eq x.0 day ≡ false → value_on (cons_option (if_so t x) xs) day ≡ value_on xs day
+value_on-other true x xs day e = ap (λ (b : Bool). option_map (λ (y : DayValue). y.1) (cond b (Some x) (find (λ y. int_eq y.0 day) xs))) e
+value_on-other false x xs day e = refl
+
+-- a day that is at most the first of some days
+pub value_on-same : (t : Bool) (x : DayValue) (xs : List DayValue) (day : ℤ) → int_eq x.0 day ≡ true → value_on xs day ≡ None → value_on (cons_option (if_so t x) xs) day ≡ if_so t x.1
+value_on-same true x xs day e none = ap (λ (b : Bool). option_map (λ (y : DayValue). y.1) (cond b (Some x) (find (λ y. int_eq y.0 day) xs))) e
+value_on-same false x xs day e none = none
+
+-- a day at none of n places has no value there
+none_among : (b : Block) (day : ℤ) (s n : ℕ) → ((j : ℕ) → s ≤ j → j < s + n → block_start b.0 +ℤ pos j ≡ day → ⊥) → value_on (filter_map (day_at b) (range_with_len s n)) day ≡ None
+none_among b day s zero h = refl
+none_among b day s (suc n) h =
+    value_on-other (bit_at b.1.0 s == 1) (block_start b.0 +ℤ pos s, get_or b.1.1 s (pos 0)) (filter_map (day_at b) (range_with_len (s + 1) n)) day (int_eq-no (block_start b.0 +ℤ pos s) day (h s (omega arith) (omega arith)))
+    ∙ none_among b day (s + 1) n (λ j le lt. h j (omega arith) (omega arith))
+
+-- the day at one of n places has the value of that place
+found_at : (b : Block) (j s n : ℕ) → s ≤ j → j < s + n → value_on (filter_map (day_at b) (range_with_len s n)) (block_start b.0 +ℤ pos j) ≡ value_at b.1.0 b.1.1 j
+found_at b j s zero le lt = absurd (omega arith)
+found_at b j s (suc n) le lt =
+    let day : ℤ = block_start b.0 +ℤ pos j in
+    let x : DayValue = (block_start b.0 +ℤ pos s, get_or b.1.1 s (pos 0)) in
+    let xs : List DayValue = filter_map (day_at b) (range_with_len (s + 1) n) in
+    elim (cases_lt s j) [
+      | inl before ↦
+          let apart : x.0 ≡ day → ⊥ = λ e. omega (arith, ints) in
+          value_on-other (bit_at b.1.0 s == 1) x xs day (int_eq-no x.0 day apart) ∙ found_at b j (s + 1) n (omega arith) (omega arith)
+      | inr here ↦
+          let same : s ≡ j = omega arith in
+          value_on-same (bit_at b.1.0 s == 1) x xs day (int_eq-yes x.0 day (ap (λ (k : ℕ). block_start b.0 +ℤ pos k) same))
+          (none_among b day (s + 1) n (λ k more less e. omega (arith, ints)))
+          ∙ ap (value_at b.1.0 b.1.1) same
+    ]
+
+-- a day of a block has the value of its place
+pub block-value : (b : Block) (j : ℕ) → j < 32 → value_on (block_days b) (block_start b.0 +ℤ pos j) ≡ value_at b.1.0 b.1.1 j
+unfolding block_days
+block-value b j lt = found_at b j 0 32 (omega arith) (omega arith)
+
+-- a day of another block has no value there
+pub block-other : (b : Block) (day : ℤ) → (b.0 ≡ block_of day → ⊥) → value_on (block_days b) day ≡ None
+unfolding block_days
+block-other b day h = none_among b day 0 32 (λ j le lt e. h (sym (block-of_place b.0 j (omega arith)) ∙ ap block_of e))
+
+-- a day is looked up among some days, and else among those behind them
+pub value_on-append : (xs ys : List DayValue) (day : ℤ) → value_on (xs ++ ys) day ≡ option_or (value_on xs day) (value_on ys day)
+value_on-append [] ys day = refl
+value_on-append (x ∷ xs) ys day =
+    elim (int_eq x.0 day) as (λ b. option_map (λ (y : DayValue). y.1) (cond b (Some x) (find (λ y. int_eq y.0 day) (xs ++ ys))) ≡ option_or (option_map (λ (y : DayValue). y.1) (cond b (Some x) (find (λ y. int_eq y.0 day) xs))) (value_on ys day)) [
+      | true ↦ refl
+      | false ↦ value_on-append xs ys day
+    ]
+
+-- x, or nothing
+pub or_none : (x : Option ℤ) → option_or x None ≡ x
+or_none (Some v) = refl
+or_none None = refl
+
+-- the block at a place past the last
+abbrev pub no_block : Block
+no_block = (pos 0, (0, []))
+
+-- where no block has the day's number, the day has no value
+pub days-without : (bs : List Block) (day : ℤ) → ((k : ℕ) → k < length bs → (get_or bs k no_block).0 ≡ block_of day → ⊥) → value_on (days_of bs) day ≡ None
+days-without [] day h = refl
+days-without (b ∷ bs) day h =
+    value_on-append (block_days b) (days_of bs) day
+    ∙ ap (λ (o : Option ℤ). option_or o (value_on (days_of bs) day)) (block-other b day (h 0 (omega arith)))
+    ∙ days-without bs day (λ k lt. h (suc k) (omega arith))
+
+-- where one block alone has the day's number, the day has the value of its place there
+pub days-at : (bs : List Block) (i : ℕ) (number : ℤ) (j : ℕ) → j < 32 → i < length bs → (get_or bs i no_block).0 ≡ number
+    → ((k : ℕ) → k < length bs → (get_or bs k no_block).0 ≡ number → k ≡ i)
+    → value_on (days_of bs) (block_start number +ℤ pos j) ≡ value_at (get_or bs i no_block).1.0 (get_or bs i no_block).1.1 j
+days-at [] i number j below lt is alone = absurd (omega arith)
+days-at (b ∷ bs) zero number j below lt is alone =
+    let day : ℤ = block_start number +ℤ pos j in
+    let of : block_of day ≡ number = block-of_place number j below in
+    let here : value_on (block_days b) day ≡ value_at b.1.0 b.1.1 j = subst (λ (n : ℤ). value_on (block_days b) (block_start n +ℤ pos j) ≡ value_at b.1.0 b.1.1 j) is (block-value b j below) in
+    let behind : value_on (days_of bs) day ≡ None = days-without bs day (λ k less e. let same : suc k ≡ zero = alone (suc k) (omega arith) (e ∙ of) in absurd (omega arith)) in
+    value_on-append (block_days b) (days_of bs) day
+    ∙ ap (option_or (value_on (block_days b) day)) behind
+    ∙ or_none (value_on (block_days b) day)
+    ∙ here
+days-at (b ∷ bs) (suc i) number j below lt is alone =
+    let day : ℤ = block_start number +ℤ pos j in
+    let of : block_of day ≡ number = block-of_place number j below in
+    let other : b.0 ≡ block_of day → ⊥ = λ e. let same : zero ≡ suc i = alone zero (omega arith) (e ∙ of) in absurd (omega arith) in
+    value_on-append (block_days b) (days_of bs) day
+    ∙ ap (λ (o : Option ℤ). option_or o (value_on (days_of bs) day)) (block-other b day other)
+    ∙ days-at bs i number j below (omega arith) is (λ k less e. let same : suc k ≡ suc i = alone (suc k) (omega arith) e in omega arith)
+
+-- the block at a place of three columns of one length
+pub blocks-at : (numbers : List ℤ) (words : List ℕ) (values : List (List ℤ)) (i : ℕ) → length words ≡ length numbers → length values ≡ length numbers → i < length numbers
+    → get_or (blocks_of numbers words values) i no_block ≡ (get_or numbers i (pos 0), (get_or words i 0, get_or values i []))
+blocks-at numbers words values i w v lt =
+    get_or-zip numbers (zip words values) i no_block lt (rw (length-zip words values) (omega arith))
+    ∙ ap (λ (p : ℕ × List ℤ). (get_or numbers i (pos 0), p)) (get_or-zip words values i (0, []) (omega arith) (omega arith))
+
+pub blocks-length : (numbers : List ℤ) (words : List ℕ) (values : List (List ℤ)) → length words ≡ length numbers → length values ≡ length numbers
+    → length (blocks_of numbers words values) ≡ length numbers
+blocks-length numbers words values w v = omega (arith, length-zip numbers (zip words values), length-zip words values)
+
+-- the place of a day in its block
+pub place_is : (day : ℤ) → block_start (block_of day) +ℤ place_of day ≡ day
+place_is (pos a) = omega (arith, ints)
+place_is (negsuc a) = omega (arith, ints)
+
+pub place-below : (day : ℤ) → (pos 0 ≤ℤ place_of day) × (place_of day <ℤ pos 32)
+place-below (pos a) = (omega (arith, ints), omega (arith, ints))
+place-below (negsuc a) = (omega (arith, ints), omega (arith, ints))
+
+-- what is true at each place of a day's block is true of the day
+pub at_day : (P : ℤ → Type 0) (day : ℤ) → ((j : ℕ) → j < 32 → P (block_start (block_of day) +ℤ pos j)) → P day
+at_day P day h =
+    let range = place-below day in
+    let is = place_is day in
+    subst P {x = block_start (block_of day) +ℤ pos (unsigned_abs (place_of day))} (omega (arith, ints)) (h (unsigned_abs (place_of day)) (omega (arith, ints)))

@@ -1,36 +1,18 @@
 -- The months that were seen, and one more.
-use Rattle.std.proofs.Common.{◌≡◌, ℕ, Bool, true, false, cond, List, [], ◌∷◌, ◌++◌, refl, sym, ap, ◌∙◌, arith}
+use Rattle.std.proofs.Common.{◌≡◌, ℕ, ◌+◌, ◌*◌, ◌≤◌, Bool, true, false, List, [], ◌∷◌, ◌++◌, refl, sym, ap, ◌∙◌, arith}
 use Rattle.std.specs.Prelude.{◌==◌, ◌&&◌, ◌||◌}
-use Rattle.std.specs.declared.cmp.Ordering.{Ordering}
-use Rattle.std.specs.declared.cmp.Ordering.TheVariants.{Less, Equal, Greater}
-use Rattle.std.specs.Ordering.{nat_cmp, ordering_then, is_eq}
 use Rattle.std.specs.List.{list_any, flat_map, IsDistinct, AllByRecursion}
-use Rattle.std.specs.BTreeMap.{is_at}
-use Rattle.std.specs.BTreeSet.{contains}
 use Rattle.std.proofs.lemmas.List.{append-nil}
 use Rattle.std.proofs.lemmas.List.Concat.{flat_map-append}
 use Rattle.std.proofs.lemmas.Bool.Decides.{nat_tests}
 use Rattle.std.proofs.lemmas.List.Folds.{list_any-append}
 use Rattle.ghcn_files.specs.declared.month.Month.{Month}
+use Rattle.ghcn_files.specs.Months.{IsMonth}
 use Rattle.ghcn_series.specs.declared.gathering.Gathering.{Gathering}
 use Rattle.ghcn_series.specs.Series.{DayValue}
-use Rattle.ghcn_series.specs.Gathered.{time_cmp, is_at_time, same_time, usable_days, IsGathering}
+use Rattle.ghcn_series.specs.Gathered.{number_of, has_number, same_time, usable_days, IsGathering}
+use Rattle.ghcn_series.specs.SeenMonths.{has_month, Adds}
 use Rattle.ghcn_series.proofs.ListFacts.{neither}
-
-is_eq-then : (x y : Ordering) → is_eq (ordering_then x y) ≡ (is_eq x && is_eq y)
-is_eq-then Less y = refl
-is_eq-then Equal y = refl
-is_eq-then Greater y = refl
-
-is_eq-nat_cmp : (a b : ℕ) → is_eq (nat_cmp a b) ≡ (a == b)
-is_eq-nat_cmp a b = grind (arith, nat_tests)
-
--- two times compare as equal where they are the same
-pub is_eq-time_cmp : (a b : ℕ × ℕ) → is_eq (time_cmp a b) ≡ ((a.0 == b.0) && (a.1 == b.1))
-is_eq-time_cmp a b =
-    is_eq-then (nat_cmp a.0 b.0) (nat_cmp a.1 b.1)
-    ∙ ap (λ (t : Bool). t && is_eq (nat_cmp a.1 b.1)) (is_eq-nat_cmp a.0 b.0)
-    ∙ ap (λ (t : Bool). (a.0 == b.0) && t) (is_eq-nat_cmp a.1 b.1)
 
 eqb-turned : (a b : ℕ) → (a == b) ≡ (b == a)
 eqb-turned a b = grind (arith, nat_tests)
@@ -39,26 +21,6 @@ same_time-turned : (a b : Month) → same_time a b ≡ same_time b a
 same_time-turned a b =
     ap (λ (t : Bool). t && (a.month == b.month)) (eqb-turned a.year b.year)
     ∙ ap (λ (t : Bool). (b.year == a.year) && t) (eqb-turned a.month b.month)
-
-or_last : (s t b : Bool) → s ≡ t → cond t true b ≡ (b || (s || false))
-or_last true true true e = refl
-or_last true true false e = refl
-or_last true false b e = absurd cc
-or_last false true b e = absurd cc
-or_last false false true e = refl
-or_last false false false e = refl
-
-is_at_time-turned : (m : Month) (t : ℕ × ℕ) → is_at_time t m ≡ is_eq (time_cmp (m.year, m.month) t)
-is_at_time-turned m t =
-    ap (λ (s : Bool). s && (t.1 == m.month)) (eqb-turned t.0 m.year)
-    ∙ ap (λ (s : Bool). (m.year == t.0) && s) (eqb-turned t.1 m.month)
-    ∙ sym (is_eq-time_cmp (m.year, m.month) t)
-
--- a month more among those seen
-seen-more : (m : Month) (before : List Month) (t : ℕ × ℕ) → cond (is_eq (time_cmp (m.year, m.month) t)) true (list_any (is_at_time t) before) ≡ list_any (is_at_time t) (before ++ m ∷ [])
-seen-more m before t =
-    or_last (is_at_time t m) (is_eq (time_cmp (m.year, m.month) t)) (list_any (is_at_time t) before) (is_at_time-turned m t)
-    ∙ sym (list_any-append (is_at_time t) before (m ∷ []))
 
 apart_from_last : (m x : Month) (xs : List Month) → AllByRecursion (λ y. same_time x y ≡ false) xs → same_time m x ≡ false → AllByRecursion (λ y. same_time x y ≡ false) (xs ++ m ∷ [])
 apart_from_last m x [] all none = (same_time-turned x m ∙ none, tt)
@@ -72,18 +34,65 @@ distinct-more m (x ∷ xs) distinct none =
     let both = neither (same_time m x) (list_any (same_time m) xs) none in
     (apart_from_last m x xs distinct.0 both.0, distinct-more m xs distinct.1 both.1)
 
+same_number : (a b c d : ℕ) → 1 ≤ b → b ≤ 12 → 1 ≤ d → d ≤ 12 → (12 * a + b == 12 * c + d) ≡ ((a == c) && (b == d))
+same_number a b c d low high low_d high_d =
+    elim (a == c) as (λ x. (a == c) ≡ x → (12 * a + b == 12 * c + d) ≡ (x && (b == d))) [
+      | true ↦ λ e. let same : a ≡ c = grind (arith, nat_tests) in alike a c b d same
+      | false ↦ λ e. let other : a ≡ c → ⊥ = λ same. differ a c same e in apart a c b d other low high low_d high_d
+    ] refl
+  where
+    alike : (a c b d : ℕ) → a ≡ c → (12 * a + b == 12 * c + d) ≡ (b == d)
+    alike a c b d e = grind (arith, nat_tests)
+
+    differ : (a c : ℕ) → a ≡ c → (a == c) ≡ false → ⊥
+    differ a c same e = grind (arith, nat_tests)
+
+    apart : (a c b d : ℕ) → (a ≡ c → ⊥) → 1 ≤ b → b ≤ 12 → 1 ≤ d → d ≤ 12 → (12 * a + b == 12 * c + d) ≡ false
+    apart a c b d other low high low_d high_d =
+        elim (12 * a + b == 12 * c + d) as (λ x. (12 * a + b == 12 * c + d) ≡ x → x ≡ false) [
+          | true ↦ λ e. let same : 12 * a + b ≡ 12 * c + d = grind (arith, nat_tests) in absurd (other (omega arith))
+          | false ↦ λ e. refl
+        ] refl
+
+-- months have one number where they are of one time
+numbers-are : (m : Month) (ms : List Month) → IsMonth m → AllByRecursion IsMonth ms → list_any (has_number (number_of m)) ms ≡ list_any (same_time m) ms
+numbers-are m [] right all = refl
+numbers-are m (x ∷ xs) right all =
+    ap (λ (b : Bool). b || list_any (has_number (number_of m)) xs) (same_number m.year m.month x.year x.month right.month.0 right.month.1 all.0.month.0 all.0.month.1)
+    ∙ ap (λ (b : Bool). same_time m x || b) (numbers-are m xs right all.1)
+
+-- whether a month was seen is whether one of its time was
+pub seen-is : (g : Gathering) (m : Month) (before : List Month) → IsMonth m → IsGathering g before → has_month g.seen (number_of m) ≡ list_any (same_time m) before
+seen-is g m before right is = is.seen (number_of m) ∙ numbers-are m before right is.right
+
+or_last : (a c d : Bool) → c ≡ d → (a || c) ≡ (a || (d || false))
+or_last true c d e = refl
+or_last false true true e = refl
+or_last false true false e = absurd cc
+or_last false false true e = absurd cc
+or_last false false false e = refl
+
+all_more : (m : Month) (before : List Month) → AllByRecursion IsMonth before → IsMonth m → AllByRecursion IsMonth (before ++ m ∷ [])
+all_more m [] all right = (right, tt)
+all_more m (x ∷ xs) all right = (all.0, all_more m xs all.1 right)
+
 -- one month more is gathered
-pub gathering-more : (old new : Gathering) (m : Month) (before : List Month) → IsGathering old before
-    → contains time_cmp old.seen (m.year, m.month) ≡ false
-    → ((t : ℕ × ℕ) → contains time_cmp new.seen t ≡ cond (is_at (time_cmp (m.year, m.month)) t) true (contains time_cmp old.seen t))
+pub gathering-more : (old new : Gathering) (m : Month) (before : List Month) → IsMonth m → IsGathering old before
+    → has_month old.seen (number_of m) ≡ false
+    → Adds old.seen new.seen (number_of m)
     → new.days.items ≡ old.days.items ++ usable_days m
     → IsGathering new (before ++ m ∷ [])
-gathering-more old new m before is fresh seen days = record {
-  seen = λ t. seen t ∙ ap (cond (is_eq (time_cmp (m.year, m.month) t)) true) (is.seen t) ∙ seen-more m before t;
+gathering-more old new m before right is fresh adds days = record {
+  right = all_more m before is.right right;
+  seen = λ t.
+      adds t
+      ∙ ap (λ (b : Bool). b || (number_of m == t)) (is.seen t)
+      ∙ or_last (list_any (has_number t) before) (number_of m == t) (t == number_of m) (eqb-turned (number_of m) t)
+      ∙ sym (list_any-append (has_number t) before (m ∷ []));
   days =
       days
       ∙ ap (λ (xs : List DayValue). xs ++ usable_days m) is.days
       ∙ ap (λ (xs : List DayValue). flat_map usable_days before ++ xs) (sym (append-nil (usable_days m)))
       ∙ sym (flat_map-append usable_days before (m ∷ []));
-  distinct = distinct-more m before is.distinct (sym (is.seen (m.year, m.month)) ∙ fresh);
+  distinct = distinct-more m before is.distinct (sym (seen-is old m before right is) ∙ fresh);
 }

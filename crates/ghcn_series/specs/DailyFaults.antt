@@ -81,5 +81,6 @@ HasFirst fault stations ls = (l : FileLine) × IsFirstFault (daily_fault station
 -- want of memory, too many files, or the fault of the first line, by file and line, that has one
 abbrev pub IsFirstRefusal : DataFault → List Station → List (List ℕ) → Type 0
 IsFirstRefusal (Memory m) stations files = ⊤
-IsFirstRefusal (DailyLine file line why) stations files = HasFirst (DailyLine file line why) stations (daily_lines files)
+IsFirstRefusal (DailyLine file line why) stations files =
+    HasFirst (DailyLine file line why) stations (daily_lines files)
 IsFirstRefusal TooManyFiles stations files = 2 ^ 20 < length files

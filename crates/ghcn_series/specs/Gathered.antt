@@ -1,10 +1,7 @@
 -- What has been gathered after some lines, of one station and element and of all of them.
-use Rattle.std.specs.Prelude.{◌≡◌, ℕ, ◌==◌, Bool, false, not, ◌&&◌, ◌||◌, if◌then◌else◌, List, [], ◌∷◌, length, Option, None, Some, filter, pos, int_le, ⊤}
+use Rattle.std.specs.Prelude.{◌≡◌, ℕ, ◌+◌, ◌*◌, ◌==◌, Bool, false, not, ◌&&◌, ◌||◌, if◌then◌else◌, List, [], ◌∷◌, length, Option, None, Some, filter, pos, int_le, ⊤}
 use Rattle.std.specs.List.{list_any, filter_map, flat_map, enumerate_from, count_by, IsDistinct, AllZip, AllByRecursion}
 use Rattle.std.specs.Option.{option_and_then}
-use Rattle.std.specs.declared.cmp.Ordering.{Ordering}
-use Rattle.std.specs.Ordering.{nat_cmp, ordering_then}
-use Rattle.std.specs.BTreeSet.{contains}
 use Rattle.ghcn_fields.specs.Sorting.{sorted_by}
 use Rattle.ghcn_fields.specs.Faults.{HaveNoFault}
 use Rattle.ghcn_files.specs.declared.station.StationId.{StationId}
@@ -22,6 +19,7 @@ use Rattle.ghcn_series.specs.declared.reader.Reader.{Reader}
 use Rattle.ghcn_series.specs.declared.fault.DataFault.{DataFault}
 use Rattle.ghcn_series.specs.declared.fault.DataFault.TheVariants.{TooManyFiles, DailyLine, Memory}
 use Rattle.ghcn_series.specs.Series.{DayValue, Usable}
+use Rattle.ghcn_series.specs.SeenMonths.{has_month}
 use Rattle.ghcn_series.specs.DailyFaults.{FileLine, month_on, is_listed, daily_fault, HasFirst}
 use Rattle.ghcn_series.specs.Says.{Fact, fact_of, in_64_bits}
 
@@ -41,17 +39,18 @@ usable_days m = filter_map (usable_day m) (enumerate_from 1 m.days)
 abbrev pub same_time : Month → Month → Bool
 same_time a b = (a.year == b.year) && (a.month == b.month)
 
--- years and months of the year in their order
-abbrev pub time_cmp : ℕ × ℕ → ℕ × ℕ → Ordering
-time_cmp a b = ordering_then (nat_cmp a.0 b.0) (nat_cmp a.1 b.1)
+-- the months since the year 0, of a month
+abbrev pub number_of : Month → ℕ
+number_of m = 12 * m.year + m.month
 
--- the month has this year and month of the year
-abbrev pub is_at_time : ℕ × ℕ → Month → Bool
-is_at_time t m = (t.0 == m.year) && (t.1 == m.month)
+-- the month has this number
+abbrev pub has_number : ℕ → Month → Bool
+has_number t m = t == number_of m
 
--- the gathering has these months: no two of one time, and the days of all of them
+-- the gathering has these months, each right by itself: no two of one time, and the days of all of them
 pub record IsGathering (g : Gathering) (months : List Month) : Type 0 where
-  pub seen : (t : ℕ × ℕ) → contains time_cmp g.seen t ≡ list_any (is_at_time t) months
+  pub right : AllByRecursion IsMonth months
+  pub seen : (t : ℕ) → has_month g.seen t ≡ list_any (has_number t) months
   pub days : g.days.items ≡ flat_map usable_days months
   pub distinct : IsDistinct same_time months
 

@@ -2,5 +2,8 @@ pub mod Series
 pub mod DailyFaults
 pub mod Says
 pub mod Held
+pub mod SeenMonths
 pub mod Gathered
 pub mod Steps
+pub mod Packed
+pub mod Parts

@@ -11,18 +11,20 @@ ghost use Rattle.ghcn_files.specs.Elements as elements;
 ghost use Rattle.ghcn_files.specs.declared.month.Month as months;
 ghost use Rattle.ghcn_files.specs.Months.{IsMonth};
 ghost use Rattle.ghcn_series.specs.Gathered as gathered;
-ghost use Rattle.ghcn_series.specs.Steps.{Gathers};
+ghost use Rattle.ghcn_series.specs.Steps.{Gathers, PutsInOrder};
 
+use crate::columns::Columns;
+use crate::months::Months;
+use crate::parts::packed;
 use ghcn_fields::{Day, Memory, days_in_month};
 use ghcn_files::{Element, Month, Reading};
 use std::alloc::Global;
-use std::collections::{BTreeMap, BTreeSet};
 
 /// The months of one station and element that were read, and their usable days in that order.
 #[derive(Drop)]
 pub(crate) struct Gathering {
     element: Element,
-    seen: BTreeSet<(u16, u8)>,
+    seen: Months,
     days: Vec<(Day, i32)>,
 }
 
@@ -34,18 +36,18 @@ impl Gathering {
     {
         Gathering {
             element,
-            seen: BTreeSet::new(alloc),
+            seen: Months::new(alloc),
             days: Vec::new(alloc),
         }
     }
 
     /// Adds a month, or answers false where one of its time was added before.
-    pub(crate) fn add(&mut self, month: &Month) -> Result<bool, Memory>
+    pub(crate) fn add(&mut self, alloc: Global, month: &Month) -> Result<bool, Memory>
         requires { IsMonth month.now }
         ensures element { self.new.element ≡ self.old.element }
         ensures added { IfOk result (Gathers self.old self.new month.now) }
     {
-        if !self.seen.insert((month.year, month.month))? {
+        if !self.seen.add(alloc, number_of(month))? {
             return Ok(false);
         }
         add_days(&mut self.days, month)?;
@@ -67,12 +69,19 @@ impl Gathering {
     }
 
     /// The usable days that were added, by increasing day.
-    pub(crate) fn into_days(self, alloc: Global) -> Result<BTreeMap<Day, i32>, Memory>
-        ensures { IfOk result (λ days. (months : List months.Month) → gathered.IsGathering self months →
-            days.entries ≡ sorted_by (λ a b. int_le a.0 b.0) self.days.items) }
+    pub(crate) fn into_columns(self, alloc: Global) -> Result<Columns, Memory>
+        ensures { IfOk result (PutsInOrder self) }
     {
-        Ok(self.days.into_iter().collect(alloc)?)
+        packed(alloc, self.days.into_iter().collect(alloc)?)
     }
+}
+
+/// How many months come before a month, from the year 0 on.
+fn number_of(month: &Month) -> u32
+    requires { IsMonth month.now }
+    ensures { result ≡ gathered.number_of month.now }
+{
+    12 * month.year as u32 + month.month as u32
 }
 
 /// Adds the usable days of a month.

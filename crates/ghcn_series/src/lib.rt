@@ -4,10 +4,13 @@
 //! of one station and element to their values.
 #![tactic(auto)]
 
+mod columns;
 mod data;
 mod days;
 mod fault;
 mod gathering;
+mod months;
+mod parts;
 mod reader;
 mod series;
 mod station;

@@ -1,13 +1,14 @@
 //! The usable values of one station and element.
 
-ghost use Rattle.std.specs.Prelude.{◌≡◌, ◌-◌, length, slice_get};
+ghost use Rattle.std.specs.Prelude.{◌≡◌, ◌-◌, length, slice_get, IfSome, IfNone};
 ghost use Rattle.std.specs.Option.{option_map};
 ghost use Rattle.ghcn_series.specs.Series.{IsSeries, value_on};
+ghost use Rattle.ghcn_series.specs.Packed.{IsBlockOf, HasNone, next_block};
 
+use crate::columns::Columns;
 use crate::days::Days;
 use ghcn_fields::Day;
 use ghcn_files::{Element, StationId};
-use std::collections::BTreeMap;
 use std::marker::Model;
 
 /// The usable days of one station and element, each with its value.
@@ -18,7 +19,7 @@ use std::marker::Model;
 pub struct Series {
     id: StationId,
     element: Element,
-    days: BTreeMap<Day, i32>,
+    columns: Columns,
 }
 
 impl Model for Series {
@@ -26,18 +27,22 @@ impl Model for Series {
 
     ghost Value = { Usable };
 
-    ghost view = { λ s. record { id = s.id; element = s.element; days = s.days.entries } };
+    ghost view = { λ s. record { id = s.id; element = s.element; days = s.columns } };
 
-    ghost invariant = { λ s. IsSeries (record { id = s.id; element = s.element; days = s.days.entries }) };
+    ghost invariant = { λ s. IsSeries (record { id = s.id; element = s.element; days = s.columns }) };
 }
 
 impl Series {
     /// The series of a station and an element that has these usable days.
-    pub(crate) fn of(id: StationId, element: Element, days: BTreeMap<Day, i32>) -> Self
-        requires { IsSeries (record { id = id; element = element; days = days.entries }) }
-        ensures { result ≡ record { id = id; element = element; days = days.entries } }
+    pub(crate) fn of(id: StationId, element: Element, columns: Columns) -> Self
+        requires { IsSeries (record { id = id; element = element; days = columns }) }
+        ensures { result ≡ record { id = id; element = element; days = columns } }
     {
-        Series { id, element, days }
+        Series {
+            id,
+            element,
+            columns,
+        }
     }
 
     /// The station's ID.
@@ -59,7 +64,23 @@ impl Series {
     pub fn value(&self, day: Day) -> Option<i32>
         ensures { result ≡ value_on self.now.days day }
     {
-        self.days.get(&day).copied()
+        self.columns.value(day)
+    }
+
+    /// A block of 32 days, where it holds a usable one: a word whose bit j is set where the block's
+    /// day j is usable, and the days' values, 0 where a day isn't usable.
+    pub fn block(&self, number: i32) -> Option<(u32, &[i32; 32])>
+        ensures some { IfSome result (λ x. IsBlockOf self.now.days number x.0 x.1.now) }
+        ensures none { IfNone result (HasNone self.now.days number) }
+    {
+        self.columns.block(number)
+    }
+
+    /// The least block from a number on that holds a usable day.
+    pub fn next_block(&self, number: i32) -> Option<i32>
+        ensures { result ≡ next_block self.now.days number }
+    {
+        self.columns.next_block(number)
     }
 
     /// The first and the last usable day.
@@ -68,9 +89,10 @@ impl Series {
         ensures last { option_map (λ x. x.0) (slice_get self.now.days (length self.now.days - 1))
             ≡ Some result.1 }
     {
-        let (first, _) = self.days.first_key_value().unwrap();
-        let (last, _) = self.days.last_key_value().unwrap();
-        (*first, *last)
+        match (self.columns.first(), self.columns.last()) {
+            (Some(first), Some(last)) => (first, last),
+            _ => unreachable!(),
+        }
     }
 
     /// The usable days with their values, by increasing day.
@@ -78,6 +100,6 @@ impl Series {
         ensures days { result ≡ self.now.days }
         ensures series { IsSeries self.now }
     {
-        Days::of(&self.days)
+        self.columns.days()
     }
 }

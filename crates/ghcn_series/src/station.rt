@@ -52,7 +52,7 @@ impl StationGathering {
         ensures added { IfOk result (GathersAt self.old self.new month.now) }
     {
         self.open(alloc)?;
-        self.by_element[place_of(month.element)].add(month)
+        self.by_element[place_of(month.element)].add(alloc, month)
     }
 
     /// The series of the station that have a usable day, by element.
@@ -67,7 +67,7 @@ impl StationGathering {
                 continue;
             }
             let element = gathering.element();
-            let days = gathering.into_days(alloc)?;
+            let days = gathering.into_columns(alloc)?;
             series.push(Series::of(id, element, days))?;
         }
         Ok(series)

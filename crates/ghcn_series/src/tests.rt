@@ -109,6 +109,134 @@ fn series_of_months_in_any_order(rt: HostRuntime) -> Result<(), Fail> {
     Ok(())
 }
 
+/// A block: its number, its word, and its values by their places.
+type Block = (i32, u32, [(usize, i32); 3]);
+
+/// Whether the series has this block.
+fn has_block(series: &Series, block: &Block) -> bool {
+    let (number, word, values) = block;
+    let mut row = [0; 32];
+    for (place, value) in values {
+        if *place < 32 {
+            row[*place] = *value;
+        }
+    }
+    match series.block(*number) {
+        Some((found, days)) => found == *word && *days == row,
+        None => *word == 0,
+    }
+}
+
+#[test]
+fn blocks_of_a_series(rt: HostRuntime) -> Result<(), Fail> {
+    let lines: [&[u8]; 6] = [
+        &line_of(
+            b"ZZA00000001202007TMAX",
+            &[(1, b"  311   "), (31, b"  305   ")],
+        ),
+        &line_of(b"ZZA00000001202006TMAX", &[(30, b"  299   ")]),
+        &line_of(b"ZZA00000001197001TMAX", &[(1, b"    7   ")]),
+        &line_of(
+            b"ZZA00000001196912TMAX",
+            &[(30, b"   -2   "), (31, b"   -1   ")],
+        ),
+        &line_of(
+            b"ZZA00000001999912TMAX",
+            &[(30, b"  120   "), (31, b"  121   ")],
+        ),
+        &line_of(
+            b"ZZA00000001000101TMAX",
+            &[(1, b"  101   "), (27, b"  127   ")],
+        ),
+    ];
+    let data = read(rt.alloc(), &lines)?;
+    let series = data.series(&A, Element::Tmax).ok_or("no series")?;
+    let blocks: [Block; 12] = [
+        (-22_475, 0, [(0, 0); 3]),
+        (-22_474, 1 << 6, [(6, 101), (6, 101), (6, 101)]),
+        (-22_473, 1, [(0, 127), (0, 127), (0, 127)]),
+        (-2, 0, [(0, 0); 3]),
+        (-1, 3 << 30, [(30, -2), (31, -1), (31, -1)]),
+        (0, 1, [(0, 7), (0, 7), (0, 7)]),
+        (575, 0, [(0, 0); 3]),
+        (576, 3 << 11, [(11, 299), (12, 311), (12, 311)]),
+        (577, 1 << 10, [(10, 305), (10, 305), (10, 305)]),
+        (91_652, 1 << 31, [(31, 120), (31, 120), (31, 120)]),
+        (91_653, 1, [(0, 121), (0, 121), (0, 121)]),
+        (91_654, 0, [(0, 0); 3]),
+    ];
+    for block in &blocks {
+        assert_eq!(rt; has_block(series, block), true, "block {}", block.0);
+    }
+    let (first, last) = series.span();
+    assert_eq!(rt; (first.number(), last.number()), (-719_162, 2_932_896));
+    Ok(())
+}
+
+#[test]
+fn next_blocks_of_a_series(rt: HostRuntime) -> Result<(), Fail> {
+    let december = line_of(b"ZZA00000001196912TMAX", &[(31, b"   -1   ")]);
+    let july = line_of(
+        b"ZZA00000001202007TMAX",
+        &[(1, b"  311   "), (31, b"  305   ")],
+    );
+    let data = read(rt.alloc(), &[&july, &december])?;
+    let series = data.series(&A, Element::Tmax).ok_or("no series")?;
+    let cases: [(i32, Option<i32>); 8] = [
+        (i32::MIN, Some(-1)),
+        (-1, Some(-1)),
+        (0, Some(576)),
+        (575, Some(576)),
+        (576, Some(576)),
+        (577, Some(577)),
+        (578, None),
+        (i32::MAX, None),
+    ];
+    for (from, expected) in cases {
+        assert_eq!(rt; series.next_block(from), expected, "from {from}");
+    }
+    Ok(())
+}
+
+#[test]
+fn months_backwards_and_shuffled(rt: HostRuntime) -> Result<(), Fail> {
+    let january = line_of(b"ZZA00000001202001TMAX", &[(31, b"    1   ")]);
+    let february = line_of(b"ZZA00000001202002TMAX", &[(1, b"    2   ")]);
+    let december = line_of(b"ZZA00000001201912TMAX", &[(31, b"   12   ")]);
+    let other = line_of(b"ZZA00000002202001TMAX", &[(31, b"    9   ")]);
+    let orders: [[&[u8]; 4]; 5] = [
+        [&december, &january, &february, &other],
+        [&february, &january, &december, &other],
+        [&january, &other, &december, &february],
+        [&other, &february, &december, &january],
+        [&january, &february, &other, &december],
+    ];
+    // 2019-12-31 is day 18261, 2020-01-31 is day 18292.
+    let days: [(i32, i32); 3] = [(18_261, 12), (18_292, 1), (18_293, 2)];
+    for order in orders {
+        let data = read(rt.alloc(), &order)?;
+        let series = data.series(&A, Element::Tmax).ok_or("no series")?;
+        let mut at = 0;
+        for (day, value) in series.days() {
+            assert_eq!(rt; Some(&(day.number(), value)), days.get(at), "at {at}");
+            at = at.saturating_add(1);
+        }
+        assert_eq!(rt; at, days.len());
+        for (again, line) in order.iter().enumerate() {
+            let mut files: [&[u8]; 5] = [order[0], order[1], order[2], order[3], *line];
+            let found = read(rt.alloc(), &files).map(|data| data.unlisted());
+            assert_eq!(rt;
+                found,
+                refused(5, 1, DailyWhy::DuplicateMonth),
+                "line {again}"
+            );
+            files[4] = b"";
+            assert_eq!(rt; read(rt.alloc(), &files).map(|data| data.unlisted()), Ok(0));
+        }
+    }
+    Ok(())
+}
+
 #[test]
 fn days_that_the_month_lacks(rt: HostRuntime) -> Result<(), Fail> {
     let cases: [(&[u8; 21], u8); 4] = [

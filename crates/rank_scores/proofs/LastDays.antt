@@ -122,3 +122,12 @@ begins-not a b e = ap (λ (t : Bool). t && not b) e
 pub begins-behind : (a b : Bool) → b ≡ true → (a && not b) ≡ false
 begins-behind true b e = ap (λ (t : Bool). not t) e
 begins-behind false b e = refl
+
+-- a candidate of a window, by its parts
+pub window-made : (id : StationId) (day last score : ℤ) (n : ℕ) (o : Option ℤ) → o ≡ Some score → 0 < n → Some last ≡ Some (day +ℤ pos (n - 1))
+    → Some (candidate id day (last, score)) ≡ option_map (candidate id day) (option_map (λ total. (day +ℤ pos n -ℤ pos 1, total)) o)
+window-made id day last score n o total some is =
+    let same : last ≡ day +ℤ pos (n - 1) = cc in
+    let at : last ≡ day +ℤ pos n -ℤ pos 1 = omega (arith, ints, same, some) in
+    ap (λ (z : ℤ). Some (candidate id day (z, score))) at
+    ∙ sym (ap (λ (t : Option ℤ). option_map (candidate id day) (option_map (λ total. (day +ℤ pos n -ℤ pos 1, total)) t)) total)

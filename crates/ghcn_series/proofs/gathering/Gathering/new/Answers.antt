@@ -1,13 +1,14 @@
 use Rattle.std.proofs.Common.{ap}
-use Rattle.std.specs.List.{list_any, IsDistinct}
-use Rattle.std.specs.BTreeMap.{is_at}
-use Rattle.ghcn_series.specs.Gathered.{time_cmp}
+use Rattle.std.specs.List.{IsDistinct}
+use Rattle.ghcn_series.specs.SeenMonths.{has_month}
 use Rattle.ghcn_series.proofs.gathering.Gathering.new.Goals as goal
 
+-- nothing is gathered yet
 pub returns-clause-empty : goal.returns-clause-empty
 unfolding IsDistinct
 returns-clause-empty c = record {
-  seen = λ t. ap (list_any (is_at (time_cmp t))) c.new.ensures.empty;
+  right = tt;
+  seen = λ t. ap (λ months. has_month months t) c.new.ensures;
   days = c.new-2.ensures.items;
   distinct = tt;
 }

@@ -26,9 +26,9 @@ loop-gathering-init c =
 pub of-requires : goal.of-requires
 of-requires c =
     let ready = (ready_parts c.in-Some.gathering _ _ c.in-Some.ensures.steps.0 c.loop-gathering.invariant.ready).0 in
-    let sorted = c.in_ok-days.ensures ready.months ready.holds in
-    let P : Element → Type 0 = λ e. IsSeries (record { id = c.args.self.id; element = e; days = c.in_ok-days.days.entries }) in
-    subst P (sym c.element-element.ensures) (is_series c.args.self.id c.in-Some.gathering c.in_ok-days.days.entries ready (sym c.is_empty.ensures ∙ c.if-is_empty.false) sorted)
+    let sorted = c.in_ok-days.ensures.is ready.months ready.holds in
+    let P : Element → Type 0 = λ e. IsSeries (record { id = c.args.self.id; element = e; days = c.in_ok-days.days }) in
+    subst P (sym c.element-element.ensures) (is_series c.args.self.id c.in-Some.gathering c.in_ok-days.days ready (sym c.is_empty.ensures ∙ c.if-is_empty.false) sorted)
 
 pub loop-gathering-preserved-then-is_empty : goal.loop-gathering-preserved-then-is_empty
 loop-gathering-preserved-then-is_empty c = record {
@@ -44,7 +44,7 @@ made id e f days sorted s is p q =
 pub loop-gathering-preserved : goal.loop-gathering-preserved
 loop-gathering-preserved c =
     let parts = ready_parts c.in-Some.gathering _ _ c.in-Some.ensures.steps.0 c.loop-gathering.invariant.ready in
-    let series = made c.args.self.id c.element-element.result c.in-Some.gathering.element c.in_ok-days.days.entries _ c.of.result c.of.ensures c.element-element.ensures (c.in_ok-days.ensures parts.0.months parts.0.holds) in
+    let series = made c.args.self.id c.element-element.result c.in-Some.gathering.element c.in_ok-days.days _ c.of.result c.of.ensures c.element-element.ensures (c.in_ok-days.ensures.is parts.0.months parts.0.holds) in
     record {
       ready = parts.1;
       whole =

@@ -1,0 +1,136 @@
+-- The first day of a block, and the days behind it.
+use Rattle.std.proofs.Common.{◌≡◌, ◌≢◌, ℕ, zero, suc, ◌+◌, ◌*◌, ◌%◌, ◌<◌, ◌≤◌, ◌^◌, Bool, true, List, [], ◌∷◌, ◌++◌, length, get_or, Option, Some, None, inl, inr, refl, sym, ap, ◌∙◌, arith, ℤ, pos, ◌+ℤ◌, w32}
+use Rattle.std.specs.Prelude.{◌==◌, bit_and}
+use Rattle.std.specs.Int.{bit_at, bit_not, trailing_zeros}
+use Rattle.std.specs.List.{cons_option, filter_map, range_with_len}
+use Rattle.std.proofs.lemmas.Bool.{cases_lt}
+use Rattle.std.proofs.lemmas.Nat.Bits.{bit_at-zero, bit_at-trailing_zeros, bit_at_clear_same, bit_at_clear_other}
+use Rattle.std.proofs.Common.{subst, neg_ℤ, ◌≤ℤ◌}
+use Rattle.std.proofs.lemmas.Int.{ints}
+use Rattle.std.proofs.Common.{cond}
+use Rattle.std.specs.Iterator.{YieldsFirst}
+use Rattle.std.specs.List.{AllByRecursion}
+use Rattle.ghcn_fields.specs.Days.{is_day, day_if, IsBlock}
+use Rattle.ghcn_series.specs.Series.{DayValue}
+use Rattle.ghcn_series.specs.Packed.{block_start, if_so, day_at, block_days, days_of, blocks_of, AreDays, IsPacked}
+
+-- the day at a place, where a bit that is read tells whether it is present
+place : ℤ → List ℤ → ℕ → ℕ → List DayValue → List DayValue
+place n vs s bit rest = cons_option (if_so (bit == 1) (block_start n +ℤ pos s, get_or vs s (pos 0))) rest
+
+-- words with the same bits at some places have the same days there
+pub same-bits : (n : ℤ) (vs : List ℤ) (w v : ℕ) (s m : ℕ) → ((i : ℕ) → s ≤ i → i < s + m → bit_at w i ≡ bit_at v i)
+    → filter_map (day_at (n, (w, vs))) (range_with_len s m) ≡ filter_map (day_at (n, (v, vs))) (range_with_len s m)
+unfolding place
+same-bits n vs w v s zero same = refl
+same-bits n vs w v s (suc m) same =
+    ap (place n vs s (bit_at w s)) (same-bits n vs w v (s + 1) m (λ i le lt. same i (omega arith) (omega arith)))
+    ∙ ap (λ (bit : ℕ). place n vs s bit (filter_map (day_at (n, (v, vs))) (range_with_len (s + 1) m))) (same s (omega arith) (omega arith))
+
+-- a word without bits at some places has no days there
+pub none-set : (n : ℤ) (vs : List ℤ) (w : ℕ) (s m : ℕ) → ((i : ℕ) → s ≤ i → i < s + m → bit_at w i ≡ 0) → filter_map (day_at (n, (w, vs))) (range_with_len s m) ≡ []
+unfolding place
+none-set n vs w s zero none = refl
+none-set n vs w s (suc m) none =
+    ap (place n vs s (bit_at w s)) (none-set n vs w (s + 1) m (λ i le lt. none i (omega arith) (omega arith)))
+    ∙ ap (λ (bit : ℕ). place n vs s bit []) (none s (omega arith) (omega arith))
+
+-- the day of the lowest bit comes first, and those of the other bits come behind it
+pub lowest-first : (n : ℤ) (vs : List ℤ) (w v t : ℕ) (s m : ℕ) → s ≤ t → t < s + m
+    → bit_at w t ≡ 1 → bit_at v t ≡ 0
+    → ((i : ℕ) → i < t → bit_at w i ≡ 0)
+    → ((i : ℕ) → i < s + m → i ≢ t → bit_at v i ≡ bit_at w i)
+    → filter_map (day_at (n, (w, vs))) (range_with_len s m) ≡ (block_start n +ℤ pos t, get_or vs t (pos 0)) ∷ filter_map (day_at (n, (v, vs))) (range_with_len s m)
+unfolding place
+lowest-first n vs w v t s zero le lt set cleared below other = absurd (omega arith)
+lowest-first n vs w v t s (suc m) le lt set cleared below other =
+    let first : DayValue = (block_start n +ℤ pos t, get_or vs t (pos 0)) in
+    elim (cases_lt s t) [
+      | inl before ↦
+          let neither : bit_at w s ≡ 0 = below s before in
+          let nor : bit_at v s ≡ 0 = other s (omega arith) (omega arith) ∙ neither in
+          ap (λ (bit : ℕ). place n vs s bit (filter_map (day_at (n, (w, vs))) (range_with_len (s + 1) m))) neither
+          ∙ lowest-first n vs w v t (s + 1) m (omega arith) (omega arith) set cleared below (λ i less ne. other i (omega arith) ne)
+          ∙ ap (λ (bit : ℕ). first ∷ place n vs s bit (filter_map (day_at (n, (v, vs))) (range_with_len (s + 1) m))) (sym nor)
+      | inr here ↦
+          let is : s ≡ t = omega arith in
+          let same : filter_map (day_at (n, (w, vs))) (range_with_len (s + 1) m) ≡ filter_map (day_at (n, (v, vs))) (range_with_len (s + 1) m) =
+          same-bits n vs w v (s + 1) m (λ i more less. sym (other i (omega arith) (omega arith))) in
+          ap (place n vs s (bit_at w s)) same
+          ∙ ap (λ (bit : ℕ). place n vs s bit (filter_map (day_at (n, (v, vs))) (range_with_len (s + 1) m))) (ap (bit_at w) is ∙ set)
+          ∙ ap (λ (k : ℕ). (block_start n +ℤ pos k, get_or vs k (pos 0)) ∷ filter_map (day_at (n, (v, vs))) (range_with_len (s + 1) m)) is
+          ∙ ap (λ (bit : ℕ). first ∷ place n vs s bit (filter_map (day_at (n, (v, vs))) (range_with_len (s + 1) m))) (sym (ap (bit_at v) is ∙ cleared))
+    ]
+
+-- a block whose word is 0 has no days
+pub block-empty : (n : ℤ) (vs : List ℤ) (w : ℕ) → w ≡ 0 → block_days (n, (w, vs)) ≡ []
+unfolding block_days
+block-empty n vs w e = none-set n vs w 0 32 (λ i le lt. ap (λ (k : ℕ). bit_at k i) e ∙ bit_at-zero i)
+
+-- a word without its lowest bit
+abbrev pub without_lowest : ℕ → ℕ
+without_lowest w = bit_and w (bit_not w32 (1 * 2 ^ trailing_zeros w32 w % 2 ^ 32))
+
+-- the first day of a block is at the lowest bit of its word
+pub block-first : (n : ℤ) (vs : List ℤ) (w : ℕ) → 0 < w → w < 2 ^ 32
+    → block_days (n, (w, vs)) ≡ (block_start n +ℤ pos (trailing_zeros w32 w), get_or vs (trailing_zeros w32 w) (pos 0)) ∷ block_days (n, (without_lowest w, vs))
+unfolding block_days
+block-first n vs w some fits =
+    let lowest = bit_at-trailing_zeros w32 w some fits in
+    lowest-first n vs w (without_lowest w) (trailing_zeros w32 w) 0 32 (omega arith) lowest.0 lowest.1
+    (bit_at_clear_same w32 w (trailing_zeros w32 w) lowest.0) lowest.2
+    (λ i lt ne. bit_at_clear_other w32 w (trailing_zeros w32 w) lowest.0 i lt ne)
+
+-- the calendar's days fit
+pub day-range : (d : ℤ) → is_day d ≡ true → (neg_ℤ (pos 719_162) ≤ℤ d) × (d ≤ℤ pos 2_932_896)
+day-range d e = grind (arith, ints)
+
+-- the day of a word's lowest bit is a day of the calendar
+pub lowest-day : (n : ℤ) (w : ℕ) → AreDays n w → 0 < w → w < 2 ^ 32 → is_day (block_start n +ℤ pos (trailing_zeros w32 w)) ≡ true
+lowest-day n w are some fits =
+    let lowest = bit_at-trailing_zeros w32 w some fits in
+    are.days (trailing_zeros w32 w) lowest.0 lowest.1
+
+-- the bits that stay are of days too
+pub days-left : (n : ℤ) (w : ℕ) → AreDays n w → 0 < w → w < 2 ^ 32 → AreDays n (without_lowest w)
+days-left n w are some fits = record {
+  days = λ j lt set.
+      let t : ℕ = trailing_zeros w32 w in
+      let lowest = bit_at-trailing_zeros w32 w some fits in
+      let gone : bit_at (without_lowest w) t ≡ 0 = bit_at_clear_same w32 w t lowest.0 in
+      let other : j ≢ t = λ same. let both : bit_at (without_lowest w) t ≡ 1 = subst (λ (k : ℕ). bit_at (without_lowest w) k ≡ 1) same set in absurd (omega arith) in
+      are.days j lt (sym (bit_at_clear_other w32 w t lowest.0 j lt other) ∙ set);
+}
+
+-- the blocks of columns, the first apart
+pub blocks-first : (n : ℤ) (w : ℕ) (vs : List ℤ) (ns : List ℤ) (ws : List ℕ) (vss : List (List ℤ)) → days_of (blocks_of (n ∷ ns) (w ∷ ws) (vs ∷ vss)) ≡ block_days (n, (w, vs)) ++ days_of (blocks_of ns ws vss)
+blocks-first n w vs ns ws vss = refl
+
+-- the block of a day of the calendar
+pub block-of_day : (n : ℤ) (j : ℕ) → j < 32 → is_day (block_start n +ℤ pos j) ≡ true → IsBlock n
+block-of_day n j lt is =
+    let range = day-range (block_start n +ℤ pos j) is in
+    record { low = omega (arith, ints, range.0); high = omega (arith, ints, range.1) }
+
+-- the block of a word with a bit
+pub lowest-block : (n : ℤ) (w : ℕ) → AreDays n w → 0 < w → w < 2 ^ 32 → IsBlock n
+lowest-block n w are some fits = block-of_day n (trailing_zeros w32 w) (bit_at-trailing_zeros w32 w some fits).0 (lowest-day n w are some fits)
+
+-- the day of the lowest bit, as it is tested
+pub lowest-if : (n : ℤ) (w : ℕ) → AreDays n w → 0 < w → w < 2 ^ 32 → day_if (block_start n +ℤ pos (trailing_zeros w32 w)) ≡ Some (block_start n +ℤ pos (trailing_zeros w32 w))
+lowest-if n w are some fits =
+    let day : ℤ = block_start n +ℤ pos (trailing_zeros w32 w) in
+    ap (λ (t : Bool). cond t (Some day) None) (lowest-day n w are some fits)
+
+-- what comes of the first days of two parts, of which the first has one
+pub yields-before : (r : Option DayValue) (cur new rest : List DayValue) → 0 < length cur → YieldsFirst (λ (days : List DayValue). days) cur r new → YieldsFirst (λ (days : List DayValue). days) (cur ++ rest) r (new ++ rest)
+yields-before None cur new rest some y = let none : length cur ≡ 0 = ap (λ (l : List DayValue). length l) y.0 in absurd (omega arith)
+yields-before (Some x) cur new rest some y = ap (λ (l : List DayValue). l ++ rest) y
+
+-- the first of some blocks is as it may be
+pub first-packed : (n : ℤ) (w : ℕ) (vs : List ℤ) (ns : List ℤ) (ws : List ℕ) (vss : List (List ℤ)) → AllByRecursion IsPacked (blocks_of (n ∷ ns) (w ∷ ws) (vs ∷ vss)) → IsPacked (n, (w, vs))
+first-packed n w vs ns ws vss all = all.0
+
+-- days behind a first one are fewer
+pub fewer : (all rest : List DayValue) (x : DayValue) → all ≡ x ∷ rest → length rest < length all
+fewer all rest x e = let long : length all ≡ length (x ∷ rest) = ap (λ (l : List DayValue). length l) e in omega arith

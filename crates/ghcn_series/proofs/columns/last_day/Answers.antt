@@ -1,0 +1,30 @@
+use Rattle.std.proofs.Common.{◌≡◌, ◌∙◌, ◌<◌, Bool, true, cond, Some, None, ℤ, ℕ, pos, ◌+ℤ◌, ap, sym, subst, w32, to_z, of_z}
+use Rattle.std.proofs.lemmas.Int.{to_z-of_z}
+use Rattle.ghcn_fields.specs.Days.{day_if, IsBlock}
+use Rattle.ghcn_series.specs.Packed.{block_start}
+use Rattle.ghcn_series.proofs.FirstDays.{block-of_day}
+use Rattle.ghcn_series.proofs.LastDays.{highest-bit}
+use Rattle.ghcn_series.proofs.columns.last_day.Goals as goal
+
+-- the block is of the calendar
+pub day_at-requires-clause-number : goal.day_at-requires-clause-number
+day_at-requires-clause-number c =
+    let n : ℤ = c.args.number in
+    let t : ℕ = c.ilog2.result in
+    let top = highest-bit c.args.word t c.ilog2.ensures.power_le c.ilog2.ensures.next_power_gt in
+    let near : to_z w32 (of_z w32 n) ≡ n = to_z-of_z w32 n c.ranges.number in
+    subst IsBlock (sym near) (block-of_day n t c.ilog2.ensures.bound (c.requires.days.days t c.ilog2.ensures.bound top.0))
+
+-- the highest bit has the last day
+pub returns : goal.returns
+returns c =
+    let n : ℤ = c.args.number in
+    let t : ℕ = c.ilog2.result in
+    let top = highest-bit c.args.word t c.ilog2.ensures.power_le c.ilog2.ensures.next_power_gt in
+    let near : to_z w32 (of_z w32 n) ≡ n = to_z-of_z w32 n c.ranges.number in
+    let day : ℤ = block_start n +ℤ pos t in
+    let is =
+    c.day_at.ensures
+    ∙ ap (λ (z : ℤ). day_if (block_start z +ℤ pos t)) near
+    ∙ ap (λ (b : Bool). cond b (Some day) None) (c.requires.days.days t c.ilog2.ensures.bound top.0) in
+    record { place = t; below = c.ilog2.ensures.bound; set = top.0; highest = top.1; is = is }

@@ -1,0 +1,105 @@
+-- Packed columns: blocks of 32 days, each with a word, whose bit j says that day j is present, and the days' values.
+use Rattle.std.specs.Prelude.{◌≡◌, ℕ, ◌<◌, ◌^◌, ◌==◌, Bool, true, if◌then◌else◌, List, [], ◌∷◌, length, get_or, ⊤, Option, Some, None, ℤ, pos, ◌+ℤ◌, ◌*ℤ◌, ◌<ℤ◌, int_le}
+use Rattle.std.specs.Int.{bit_at, int_rem_euclid}
+use Rattle.std.specs.List.{find, filter_map, flat_map, range_with_len, zip, AllByRecursion}
+use Rattle.std.specs.Option.{option_map}
+use Rattle.ghcn_fields.specs.Days.{is_day, block_of}
+use Rattle.ghcn_series.specs.Series.{DayValue, value_on}
+
+-- a block: its number, its word and the values of its days
+abbrev pub Block : Type 0
+Block = ℤ × (ℕ × List ℤ)
+
+-- the first day of a block
+abbrev pub block_start : ℤ → ℤ
+block_start b = b *ℤ pos 32
+
+-- x, where the test passes
+abbrev pub if_so : {A : Type 0} → Bool → A → Option A
+if_so t x = if t then Some x else None
+
+-- the value at a place of a block, if its day is present
+abbrev pub value_at : ℕ → List ℤ → ℕ → Option ℤ
+value_at word values j = if_so (bit_at word j == 1) (get_or values j (pos 0))
+
+-- the day at a place of a block with its value, if it is present
+abbrev pub day_at : Block → ℕ → Option DayValue
+day_at b j = if_so (bit_at b.1.0 j == 1) (block_start b.0 +ℤ pos j, get_or b.1.1 j (pos 0))
+
+-- the days of a block that are present
+unfoldable pub block_days : Block → List DayValue
+block_days b = filter_map (day_at b) (range_with_len 0 32)
+
+-- the days of some blocks that are present
+abbrev pub days_of : List Block → List DayValue
+days_of bs = flat_map block_days bs
+
+-- the blocks of three columns
+abbrev pub blocks_of : List ℤ → List ℕ → List (List ℤ) → List Block
+blocks_of numbers words values = zip numbers (zip words values)
+
+-- a block that columns may hold: it has a day, days that are absent have the value 0, and those present are days
+pub record IsPacked (b : Block) : Type 0 where
+  pub present : 0 < b.1.0
+  pub fits : b.1.0 < 2 ^ 32
+  pub zeros : (j : ℕ) → j < 32 → bit_at b.1.0 j ≡ 0 → get_or b.1.1 j (pos 0) ≡ pos 0
+  pub days : (j : ℕ) → j < 32 → bit_at b.1.0 j ≡ 1 → is_day (block_start b.0 +ℤ pos j) ≡ true
+
+-- the days of a word's bits are days of the calendar
+pub record AreDays (number : ℤ) (word : ℕ) : Type 0 where
+  pub days : (j : ℕ) → j < 32 → bit_at word j ≡ 1 → is_day (block_start number +ℤ pos j) ≡ true
+
+-- three columns of one length whose blocks are as they may be
+pub record AreBlocks (numbers : List ℤ) (words : List ℕ) (values : List (List ℤ)) : Type 0 where
+  pub enough_words : length words ≡ length numbers
+  pub enough_values : length values ≡ length numbers
+  pub packed : AllByRecursion IsPacked (blocks_of numbers words values)
+
+-- each number is less than those behind it
+pub record Rise (numbers : List ℤ) : Type 0 where
+  pub less : (i j : ℕ) → i < j → j < length numbers → get_or numbers i (pos 0) <ℤ get_or numbers j (pos 0)
+
+-- such columns whose numbers rise
+pub record AreColumns (numbers : List ℤ) (words : List ℕ) (values : List (List ℤ)) : Type 0 where
+  pub blocks : AreBlocks numbers words values
+  pub rise : Rise numbers
+
+-- the place of a day in its block
+abbrev pub place_of : ℤ → ℤ
+place_of day = int_rem_euclid day (pos 32)
+
+-- this block of some days: its word isn't 0, and each place has its day's value, and 0 where that is absent
+pub record IsBlockOf (days : List DayValue) (number : ℤ) (word : ℕ) (values : List ℤ) : Type 0 where
+  pub present : 0 < word
+  pub holds : (j : ℕ) → j < 32 → value_at word values j ≡ value_on days (block_start number +ℤ pos j)
+  pub zeros : (j : ℕ) → j < 32 → bit_at word j ≡ 0 → get_or values j (pos 0) ≡ pos 0
+
+-- no day of this block is among some days
+abbrev pub HasNone : List DayValue → ℤ → Type 0
+HasNone days number = (j : ℕ) → j < 32 → value_on days (block_start number +ℤ pos j) ≡ None
+
+-- the least block from a number on that has one of some days, which rise
+abbrev pub next_block : List DayValue → ℤ → Option ℤ
+next_block days b = option_map (λ x. block_of x.0) (find (λ x. int_le b (block_of x.0)) days)
+
+-- number is at a place
+pub record IsAt (numbers : List ℤ) (number : ℤ) (i : ℕ) : Type 0 where
+  pub in_range : i < length numbers
+  pub is : get_or numbers i (pos 0) ≡ number
+
+-- number is at no place
+abbrev pub IsNowhere : List ℤ → ℤ → Type 0
+IsNowhere numbers number = (k : ℕ) → IsAt numbers number k → ⊥
+
+-- each day is earlier than those behind it
+abbrev pub AreRising : List DayValue → Type 0
+AreRising [] = ⊤
+AreRising (x ∷ xs) = AllByRecursion (λ y. x.0 <ℤ y.0) xs × AreRising xs
+
+-- the day of the highest bit of a word
+pub record IsLastOf (number : ℤ) (word : ℕ) (day : Option ℤ) : Type 0 where
+  pub place : ℕ
+  pub below : place < 32
+  pub set : bit_at word place ≡ 1
+  pub highest : (i : ℕ) → place < i → bit_at word i ≡ 0
+  pub is : day ≡ Some (block_start number +ℤ pos place)

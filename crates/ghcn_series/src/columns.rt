@@ -1,0 +1,134 @@
+//! Packed columns.
+
+ghost use Rattle.std.specs.Prelude.{◌≡◌, ◌-◌, ◌<◌, ◌≤◌, ◌*◌, ◌^◌, length, slice_get, IfSome, IfNone, pos, int_le, ◌+ℤ◌};
+ghost use Rattle.std.specs.List.{find};
+ghost use Rattle.std.specs.Option.{option_map};
+ghost use Rattle.ghcn_fields.specs.Days.{IsBlock, day_if};
+ghost use Rattle.ghcn_series.specs.Series.{value_on};
+ghost use Rattle.ghcn_series.specs.Packed as packed;
+
+use crate::days::{Days, day_at};
+use ghcn_fields::Day;
+use std::marker::Model;
+
+/// Days with their values, as blocks of 32 days that hold one.
+#[derive(Drop)]
+pub(crate) struct Columns {
+    numbers: Vec<i32>,
+    words: Vec<u32>,
+    values: Vec<[i32; 32]>,
+}
+
+impl Model for Columns {
+    ghost use Rattle.std.specs.Prelude.{List};
+    ghost use Rattle.ghcn_series.specs.Series.{DayValue};
+    ghost use Rattle.ghcn_series.specs.Packed.{days_of, blocks_of, AreColumns};
+
+    ghost Value = { List DayValue };
+
+    ghost view = { λ c. days_of (blocks_of c.numbers.items c.words.items c.values.items) };
+
+    ghost invariant = { λ c. AreColumns c.numbers.items c.words.items c.values.items };
+}
+
+impl Columns {
+    /// The days of three columns.
+    pub(crate) fn of(numbers: Vec<i32>, words: Vec<u32>, values: Vec<[i32; 32]>) -> Self
+        requires { packed.AreColumns numbers.items words.items values.items }
+        ensures { result ≡ packed.days_of (packed.blocks_of numbers.items words.items values.items) }
+    {
+        Columns {
+            numbers,
+            words,
+            values,
+        }
+    }
+
+    /// The block of this number, where a day of it is present.
+    pub(crate) fn block(&self, number: i32) -> Option<(u32, &[i32; 32])>
+        ensures some { IfSome result (λ x. packed.IsBlockOf self.now number x.0 x.1.now) }
+        ensures none { IfNone result (packed.HasNone self.now number) }
+    {
+        let at = place_of(&self.numbers, number)?;
+        Some((self.words[at], &self.values[at]))
+    }
+
+    /// The least block from a number on that has a day.
+    pub(crate) fn next_block(&self, number: i32) -> Option<i32>
+        ensures { result ≡ packed.next_block self.now number }
+    {
+        first_from(&self.numbers, number)
+    }
+
+    /// The days that are present, each with its value, by increasing day.
+    pub(crate) fn days(&self) -> Days<'_>
+        ensures days { result ≡ self.now }
+        ensures rising { packed.AreRising self.now }
+    {
+        Days::of(&self.numbers, &self.words, &self.values)
+    }
+
+    /// The first day that is present.
+    pub(crate) fn first(&self) -> Option<Day>
+        ensures { result ≡ option_map (λ x. x.0) (slice_get self.now 0) }
+    {
+        let (day, _) = self.days().next()?;
+        Some(day)
+    }
+
+    /// The last day that is present.
+    pub(crate) fn last(&self) -> Option<Day>
+        ensures { result ≡ option_map (λ x. x.0) (slice_get self.now (length self.now - 1)) }
+    {
+        let number = self.numbers.last()?;
+        let word = self.words.last()?;
+        last_day(*number, *word)
+    }
+
+    /// The value of a day, where it is present.
+    pub(crate) fn value(&self, day: Day) -> Option<i32>
+        ensures { result ≡ value_on self.now day }
+    {
+        let (word, values) = self.block(day.block())?;
+        value_at(word, values, day.number().rem_euclid(32) as u32)
+    }
+}
+
+/// The value at a place of a block, where its day is present.
+fn value_at(word: u32, values: &[i32; 32], place: u32) -> Option<i32>
+    requires { place < 32 }
+    ensures { result ≡ packed.value_at word values.now place }
+{
+    if word >> place & 1 == 1 {
+        Some(values[place as usize])
+    } else {
+        None
+    }
+}
+
+/// The last day of a word's bits.
+fn last_day(number: i32, word: u32) -> Option<Day>
+    requires days { packed.AreDays number word }
+    requires some { 0 < word }
+    ensures { packed.IsLastOf number word result }
+{
+    day_at(number, word.ilog2())
+}
+
+/// Where a number stands among numbers that rise.
+fn place_of(numbers: &[i32], number: i32) -> Option<usize>
+    requires { packed.Rise numbers.now }
+    ensures some { IfSome result (packed.IsAt numbers.now number) }
+    ensures none { IfNone result (packed.IsNowhere numbers.now number) }
+{
+    numbers.binary_search(&number).ok()
+}
+
+/// The first number from another one on, among numbers that rise.
+fn first_from(numbers: &[i32], number: i32) -> Option<i32>
+    requires { packed.Rise numbers.now }
+    ensures { result ≡ find (int_le number) numbers.now }
+{
+    let at = numbers.partition_point(|it| *it < number);
+    numbers.get(at).copied()
+}

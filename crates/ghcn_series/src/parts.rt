@@ -1,0 +1,183 @@
+//! Columns while days are added to them.
+
+ghost use Rattle.std.specs.Prelude.{◌≡◌, ◌<◌, ◌-◌, ◌^◌, ◌==◌, ◌&&◌, ◌||◌, ◌++◌, ◌∷◌, [], if◌then◌else◌, pos, ◌+ℤ◌, IfOk, OnOk, IsTrue};
+ghost use Rattle.std.specs.Prelude.{nat_lt, int_lt, length, slice_index_or};
+ghost use Rattle.std.specs.Ordering.{int_eq};
+ghost use Rattle.ghcn_fields.specs.Days.{IsBlock, is_day};
+ghost use Rattle.ghcn_series.specs.Packed as packed;
+ghost use Rattle.ghcn_series.specs.Parts as parts;
+
+use crate::columns::Columns;
+use ghcn_fields::{Day, Memory};
+use std::alloc::Global;
+use std::collections::BTreeMap;
+
+/// Parts of blocks in the order in which they were added.
+#[derive(Drop)]
+pub(crate) struct Parts {
+    numbers: Vec<i32>,
+    words: Vec<u32>,
+    values: Vec<[i32; 32]>,
+    /// Whether the numbers rise.
+    in_order: bool,
+}
+
+/// The days of a map as columns.
+pub(crate) fn packed(alloc: Global, days: BTreeMap<Day, i32>) -> Result<Columns, Memory>
+    requires { packed.AreRising days.entries }
+    ensures { IfOk result (λ columns. columns ≡ days.entries) }
+{
+    let mut parts = Parts::new(alloc);
+    for (day, value) in days {
+        parts.add_day(day, value)?;
+    }
+    Ok(parts.into_columns())
+}
+
+impl Parts {
+    /// No days.
+    pub(crate) fn new(alloc: Global) -> Self
+        ensures order { parts.AreOrdered result }
+        ensures empty { parts.days_held result ≡ [] }
+    {
+        Parts {
+            numbers: Vec::new(alloc),
+            words: Vec::new(alloc),
+            values: Vec::new(alloc),
+            in_order: true,
+        }
+    }
+
+    /// Adds days of a block, none of which was added before.
+    pub(crate) fn add_part(
+        &mut self,
+        number: i32,
+        word: u32,
+        values: &[i32; 32],
+    ) -> Result<(), Memory>
+        requires parts { parts.AreParts self.old }
+        requires packed { 0 < word → packed.IsPacked (number, (word, values.now)) }
+        requires fresh { parts.IsNewPart self.old (number, (word, values.now)) }
+        ensures parts { OnOk result (parts.AreParts self.new) }
+        ensures joined { OnOk result (parts.JoinsPart self.old (number, (word, values.now)) self.new) }
+        ensures order { OnOk result (parts.KeepsOrder self.old number self.new) }
+    {
+        if word == 0 {
+            return Ok(());
+        }
+        if ends_in(&self.numbers, number) {
+            self.join(word, values);
+            return Ok(());
+        }
+        let rises = is_after(&self.numbers, number);
+        self.numbers.push(number)?;
+        self.words.push(word)?;
+        self.values.push(*values)?;
+        self.in_order &= rises;
+        Ok(())
+    }
+
+    /// Adds a day that is later than all that were added.
+    pub(crate) fn add_day(&mut self, day: Day, value: i32) -> Result<(), Memory>
+        requires order { parts.AreOrdered self.old }
+        requires later { parts.AreBefore day (parts.days_held self.old) }
+        ensures order { OnOk result (parts.AreOrdered self.new) }
+        ensures days { OnOk result (parts.days_held self.new ≡ parts.days_held self.old ++ (day, value) ∷ []) }
+    {
+        let at = place_of(day);
+        let row = row_with(at.1, value);
+        self.add_part(at.0, bit_of(at.1), &row)
+    }
+
+    /// The same days as columns.
+    pub(crate) fn into_columns(self) -> Columns
+        requires { parts.AreOrdered self }
+        ensures { result ≡ parts.days_held self }
+    {
+        Columns::of(self.numbers, self.words, self.values)
+    }
+
+    /// Adds days to the last part.
+    fn join(&mut self, word: u32, values: &[i32; 32])
+        requires parts { parts.AreParts self.old }
+        requires some { 0 < length self.old.numbers.items }
+        requires packed { packed.IsPacked (parts.last_number self.old, (word, values.now)) }
+        requires fresh { parts.IsNewPart self.old (parts.last_number self.old, (word, values.now)) }
+        ensures parts { parts.AreParts self.new }
+        ensures joined { parts.JoinsPart self.old (parts.last_number self.old, (word, values.now)) self.new }
+        ensures order { self.new.in_order ≡ self.old.in_order }
+    {
+        let last = self.numbers.len() - 1;
+        self.words[last] |= word;
+        self.values[last] = joined(&self.values[last], values);
+    }
+}
+
+/// Whether a number is the last.
+fn ends_in(numbers: &[i32], number: i32) -> bool
+    ensures { result
+        ≡ (nat_lt 0 (length numbers.now) && int_eq (slice_index_or numbers.now (length numbers.now - 1) (pos 0)) number) }
+{
+    match numbers {
+        [.., last] => *last == number,
+        [] => false,
+    }
+}
+
+/// Whether a number is greater than the last.
+fn is_after(numbers: &[i32], number: i32) -> bool
+    ensures { result
+        ≡ (length numbers.now == 0 || int_lt (slice_index_or numbers.now (length numbers.now - 1) (pos 0)) number) }
+{
+    match numbers {
+        [.., last] => *last < number,
+        [] => true,
+    }
+}
+
+/// Two rows of values of which at each place one is 0.
+fn joined(values: &[i32; 32], more: &[i32; 32]) -> [i32; 32]
+    ensures { parts.JoinsValues values.now more.now result }
+{
+    let mut both = [0; 32];
+    for place in 0..32 {
+        both[place] = values[place] | more[place];
+    }
+    both
+}
+
+/// The block of a day, and the day's place there.
+fn place_of(day: Day) -> (i32, u32)
+    ensures block { IsBlock result.0 }
+    ensures place { result.1 < 32 }
+    ensures day { packed.block_start result.0 +ℤ pos result.1 ≡ day }
+    ensures calendar { IsTrue (is_day day) }
+{
+    (day.block(), day.number().rem_euclid(32) as u32)
+}
+
+/// The word whose one bit is at a place.
+fn bit_of(place: u32) -> u32
+    requires { place < 32 }
+    ensures { result ≡ 2 ^ place }
+{
+    1 << place
+}
+
+/// A row whose one value is at a place.
+fn row_with(place: u32, value: i32) -> [i32; 32]
+    ensures { parts.IsRowOf result place value }
+{
+    let mut row = [0; 32];
+    for at in 0..32 {
+        row[at] = value_if(at == place as usize, value);
+    }
+    row
+}
+
+/// A value, or 0.
+fn value_if(here: bool, value: i32) -> i32
+    ensures { result ≡ (if here then value else pos 0) }
+{
+    if here { value } else { 0 }
+}
