@@ -84,11 +84,18 @@ fn check_lines(rt: &impl Abort, answer: &Answer, lines: Lines) {
 }
 
 /// The answer of a run by these events.
-fn answer_of(alloc: Global, plan: &Plan<'_>, workers: u64, events: &[Event]) -> Result<Answer, Fail>
+fn answer_of(
+    alloc: Global,
+    plan: &Plan<'_>,
+    workers: u64,
+    guess: Option<i64>,
+    events: &[Event],
+) -> Result<Answer, Fail>
     requires some { 0 < workers }
     requires few { workers ≤ 64 }
+    requires guess { IfSome guess IsScore }
 {
-    let machine = match replay(alloc, plan, workers, None, events) {
+    let machine = match replay(alloc, plan, workers, guess, events) {
         Ok(machine) => machine,
         Err(_) => return Err("refused")?,
     };
@@ -113,7 +120,7 @@ fn check_replay(
     let query = Query::parse("top 1 highest TMAX").ok().ok_or("no query")?;
     let plan = Plan::new(alloc, &data, &query)?;
     let list = events_of(alloc, events)?;
-    let answer = answer_of(alloc, &plan, workers, list.as_slice())?;
+    let answer = answer_of(alloc, &plan, workers, None, list.as_slice())?;
     check_lines(rt, &answer, lines);
     assert_eq!(rt; answer.taken_back, 0, "{events}");
     assert_eq!(rt; answer.best.len(), 1, "{events}");
@@ -227,5 +234,120 @@ fn a_run_of_no_morsels(rt: HostRuntime) -> Result<(), Fail> {
     let plan = Plan::new(alloc, &data, &query)?;
     let answer = run_alone(alloc, &plan, None)?;
     assert_eq!(rt; (answer.best.len(), answer.lines.len()), (0, 0));
+    Ok(())
+}
+
+/// Numbers that look random: Knuth's linear congruence of 64 bits.
+#[derive(Drop)]
+struct Numbers(u64);
+
+impl Numbers {
+    fn below(&mut self, limit: u64) -> u64
+        requires { 0 < limit }
+        ensures { result < limit }
+    {
+        self.0 = self
+            .0
+            .wrapping_mul(6_364_136_223_846_793_005)
+            .wrapping_add(1_442_695_040_888_963_407);
+        (self.0 >> 33) % limit
+    }
+}
+
+const MANY: [&str; 6] = [
+    "ZZA00000001",
+    "ZZA00000002",
+    "ZZA00000003",
+    "ZZA00000004",
+    "ZZA00000005",
+    "ZZA00000006",
+];
+
+/// Some days of six stations, among which equal values are frequent.
+fn random_data(alloc: Global, numbers: &mut Numbers) -> Result<Data, Fail> {
+    let mut list = String::new(alloc);
+    let mut text = String::new(alloc);
+    for id in MANY {
+        writeln!(list, "{id}  10.0000   20.0000  100.0    NAME")?;
+        let mut values = [0; 5];
+        for day in 0..values.len() {
+            values[day] = numbers.below(30) as i32;
+        }
+        push_month(&mut text, id, &values)?;
+    }
+    let stations = Stations::read(alloc, list.as_bytes())?;
+    Ok(Data::read(alloc, stations, &[text.as_bytes()])?)
+}
+
+/// No guess, one that is too low, one that may be right, or one that is too high.
+fn guess_of(choice: u64) -> Option<i64>
+    ensures { IfSome result IsScore }
+{
+    match choice {
+        0 => None,
+        1 => Some(-5),
+        2 => Some(27),
+        _ => Some(1000),
+    }
+}
+
+/// The events of workers that step in no order, until all have stopped.
+fn random_events(
+    alloc: Global,
+    plan: &Plan<'_>,
+    workers: u64,
+    guess: Option<i64>,
+    numbers: &mut Numbers,
+) -> Result<Vec<Event>, Fail>
+    requires some { 0 < workers }
+    requires few { workers ≤ 64 }
+    requires guess { IfSome guess IsScore }
+{
+    let mut machine = Machine::new(alloc, plan, workers, guess)?;
+    let mut events = Vec::new(alloc);
+    for _ in 0..10_000 {
+        if machine.stopped() {
+            return Ok(events);
+        }
+        let worker = numbers.below(workers);
+        let event = match numbers.below(3) {
+            0 => Event::Claim(worker),
+            1 => Event::Look(worker),
+            _ => Event::Settle(worker),
+        };
+        if machine.step(event).is_ok() {
+            events.push(event)?;
+        }
+    }
+    Err("not stopped")?
+}
+
+#[test]
+fn random_schedules(rt: HostRuntime) -> Result<(), Fail> {
+    const QUERIES: [&str; 3] = [
+        "top 1 highest TMAX",
+        "top 4 highest TMAX",
+        "top 100 highest TMAX",
+    ];
+    let alloc = rt.alloc();
+    let mut numbers = Numbers(2026);
+    for round in 0..300 {
+        let data = random_data(alloc, &mut numbers)?;
+        for text in QUERIES {
+            let query = Query::parse(text).ok().ok_or("no query")?;
+            let plan = Plan::new(alloc, &data, &query)?;
+            let best = run_alone(alloc, &plan, None)?.best;
+            for workers in 1..5 {
+                let guess = guess_of(numbers.below(4));
+                let events = random_events(alloc, &plan, workers, guess, &mut numbers)?;
+                let answer = answer_of(alloc, &plan, workers, guess, events.as_slice())?;
+                assert_eq!(rt;
+                    answer.best.as_slice(),
+                    best.as_slice(),
+                    "round {round}, {text}, {workers}"
+                );
+            }
+        }
+    }
     Ok(())
 }
