@@ -8,7 +8,7 @@ use Rattle.rank_pool.specs.Pools.{Pooled, IsPool, HoldsFirst}
 use Rattle.rank_pool.proofs.Places.{first-in_order, holds-push}
 
 -- at most so many are taken
-length_take : (k : ℕ) (xs : List Candidate) → length (take k xs) ≤ k
+pub length_take : (k : ℕ) (xs : List Candidate) → length (take k xs) ≤ k
 length_take zero xs = omega arith
 length_take (suc k) [] = omega arith
 length_take (suc k) (x ∷ xs) = omega (arith, length_take k xs)
@@ -22,6 +22,13 @@ take_itself k [] h = take_nothing k
     take_nothing (suc n) = refl
 take_itself zero (x ∷ xs) h = absurd (omega arith)
 take_itself (suc k) (x ∷ xs) h = ap (λ (l : List Candidate). x ∷ l) (take_itself k xs (omega arith))
+
+-- the first of one more are that one and the first of the others, one fewer
+pub take_first : (k : ℕ) (x : Candidate) (xs : List Candidate) → 0 < k → x ∷ take (k - 1) xs ≡ take k (x ∷ xs)
+take_first zero x xs some = absurd (omega arith)
+take_first (suc k) x xs some =
+    let one : suc k - 1 ≡ k = omega arith in
+    ap (λ (n : ℕ). x ∷ take n xs) one
 
 -- a pool holds the first of what it holds
 pub holds_itself : (p : Pooled) → IsPool p → HoldsFirst p p.held

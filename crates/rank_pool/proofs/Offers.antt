@@ -2,6 +2,7 @@
 use Rattle.std.proofs.Common.{◌≡◌, ℕ, zero, suc, ◌-◌, ◌<◌, ◌≤◌, true, List, [], ◌∷◌, ◌++◌, take, length, refl, sym, ap, ◌∙◌, arith, Option, Some, ℤ, ◌≤ℤ◌, ◌↔◌}
 use Rattle.std.specs.Prelude.{int_lt, slice_get}
 use Rattle.std.specs.Option.{option_map}
+use Rattle.std.specs.Prelude.{if◌then◌else◌, is_ok, IsOk}
 use Rattle.std.specs.Result.{OnOk, OnErr}
 use Rattle.std.specs.declared.result.Result.{Result}
 use Rattle.std.specs.declared.result.Result.TheVariants.{Ok, Err}
@@ -41,6 +42,12 @@ falls_out p x s pool last low =
 pub was_ok : {T E : Type 0} (P Q : Type 0) (r : Result T E) → OnOk r P → OnErr r Q → (Q → ⊥) → P
 was_ok P Q (Ok x) done failed none = done
 was_ok P Q (Err e) done failed none = absurd (none failed)
+
+-- what is put where that doesn't fail is there
+pub is_put : {T E : Type 0} (new put old : List Candidate) (r : Result T E) → new ≡ (if is_ok r then put else old) → IsOk r
+    → new ≡ put
+is_put new put old (Ok x) e done = e
+is_put new put old (Err x) e done = absurd cc
 
 -- one of fewer is one of more
 slice_get-take : (ys : List Candidate) (k j : ℕ) → j < k → slice_get (take k ys) j ≡ slice_get ys j

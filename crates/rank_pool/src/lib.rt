@@ -1,7 +1,7 @@
 //! Pools: the best of all candidates that were offered.
 //!
-//! Workers keep one each, and a run's answer is made of all of them. What it hands up is that a
-//! pool holds the first k of all that was offered.
+//! Each worker of a run keeps one, and the run's answer merges them. A pool holds the first k of
+//! all that it was offered, in whatever order that was.
 #![tactic(auto)]
 
 mod laws;

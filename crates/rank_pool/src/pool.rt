@@ -1,10 +1,10 @@
 //! A pool of the best candidates.
 
-ghost use Rattle.std.specs.Prelude.{◌≡◌, ◌↔◌, ◌<◌, ◌≤◌, ◌++◌, List, [], ◌∷◌, length, insert, fold, IfOk, IsSome};
+ghost use Rattle.std.specs.Prelude.{◌≡◌, ◌↔◌, ◌<◌, ◌≤◌, ◌++◌, List, [], ◌∷◌, length, insert, fold, IfOk, IsSome, IsTrue};
 ghost use Rattle.std.specs.Prelude.{slice_get};
 ghost use Rattle.std.specs.Option.{option_map};
 ghost use Rattle.std.specs.VecDeque.{deque_len};
-ghost use Rattle.ghcn_fields.specs.Sorting as sorting;
+ghost use Rattle.ghcn_fields.specs.Sorting.{placed};
 ghost use Rattle.rank_scores.specs.declared.candidate.Candidate as made;
 ghost use Rattle.rank_scores.specs.Order.{AreApart, kth_score};
 ghost use Rattle.rank_pool.specs.First.{comes_first, in_order, first, kth};
@@ -89,6 +89,32 @@ impl Pool {
         self.held.into_vec()
     }
 
+    /// Whether a candidate scores more than the best one that is held.
+    #[inline]
+    fn is_outdone_by(&self, candidate: &Candidate) -> bool
+        ensures { IsTrue result →
+            (placed comes_first candidate.now self.now.held ≡ candidate.now ∷ self.now.held) }
+    {
+        match self.held.front() {
+            Some(best) => best.score < candidate.score,
+            None => false,
+        }
+    }
+
+    /// Puts a candidate before all others, where each place is taken, and lets go of the last one.
+    #[inline]
+    fn lead(&mut self, candidate: Candidate)
+        requires full { length self.old.held ≡ self.old.size }
+        requires first { placed comes_first candidate self.old.held ≡ candidate ∷ self.old.held }
+        ensures { self.new ≡ pools.taken self.old candidate }
+    {
+        let _ = self.held.pop_back();
+        // The last one left its place, so this isn't refused.
+        let _ = self.held.push_front(candidate);
+        let place = self.size - 1;
+        self.last = score_at(&self.held, place);
+    }
+
     /// Puts a candidate at its place, and lets go of what then stands behind the last one.
     #[inline(never)]
     fn place(&mut self, candidate: Candidate)
@@ -116,6 +142,7 @@ impl Sink for Pool {
         match self.last {
             // Of a long series most candidates end here.
             Some(last) if candidate.score < last => {}
+            Some(_) if self.is_outdone_by(&candidate) => self.lead(candidate),
             _ => self.place(candidate),
         }
     }
@@ -125,7 +152,7 @@ impl Sink for Pool {
 fn place_of(held: &VecDeque<Candidate>, candidate: &Candidate) -> usize
     ensures within { result ≤ deque_len held.now }
     ensures placed { in_order held.now.items ≡ held.now.items →
-        insert held.now.items result candidate.now ≡ sorting.placed comes_first candidate.now held.now.items }
+        insert held.now.items result candidate.now ≡ placed comes_first candidate.now held.now.items }
 {
     let (Some(best), Some(last)) = (held.front(), held.back()) else {
         return 0;

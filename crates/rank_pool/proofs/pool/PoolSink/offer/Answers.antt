@@ -24,6 +24,12 @@ returns-in-Some-clause-all c = λ xs h.
     subst (λ (p : Pooled). HoldsFirst p (xs ++ c.args.candidate ∷ [])) (sym (returns-in-Some-clause-taken c))
     (holds-push c.args.self.now xs c.args.candidate h)
 
+-- one that is better than all others stands before them
+pub returns-in-Some-2-clause-all : goal.returns-in-Some-2-clause-all
+returns-in-Some-2-clause-all c = λ xs h.
+    subst (λ (p : Pooled). HoldsFirst p (xs ++ c.args.candidate ∷ [])) (sym c.lead.ensures)
+    (holds-push c.args.self.now xs c.args.candidate h)
+
 -- one candidate more takes its place
 pub returns-in_default-clause-all : goal.returns-in_default-clause-all
 returns-in_default-clause-all c = λ xs h.
