@@ -10,3 +10,5 @@ pub mod Digits
 pub mod Decimals
 pub mod FirstLine
 pub mod Examples
+pub mod FieldsByForm
+pub mod FieldsByKind

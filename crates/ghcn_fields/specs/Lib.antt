@@ -5,6 +5,7 @@ pub mod FaultLaws
 pub mod Numbers
 pub mod Fields
 pub mod NumberTexts
+pub mod FieldForms
 pub mod Days
 pub mod Dates
 pub mod Laws

@@ -119,7 +119,7 @@ fn small(number: u64) -> Option<u64>
     Some(number)
 }
 
-fn signed_field(negative: bool, magnitude: Option<u64>) -> Field
+pub(crate) fn signed_field(negative: bool, magnitude: Option<u64>) -> Field
     requires { IfSome magnitude (λ n. n ≤ 2 ^ 31) }
     ensures { result ≡ numbers.field_of (option_map (numbers.with_sign negative) magnitude) }
 {

@@ -1,6 +1,6 @@
 //! What the fixed-width files of GHCN-Daily are made of: lines, number fields and days.
 //!
-//! Every crate above stands on it. What it hands up is the line, the field and the day.
+//! Every crate above stands on it. It gives them the line, the field and the day.
 #![tactic(auto)]
 
 mod date;
@@ -12,6 +12,7 @@ mod memory;
 #[cfg(test)]
 mod tests;
 mod text;
+mod value;
 
 pub use date::{read_date, write_date};
 pub use day::{Day, days_in_month};
@@ -20,3 +21,4 @@ pub use laws::{days_have_dates, fields_have_numbers};
 pub use line::{Lines, is_blank};
 pub use memory::Memory;
 pub use text::lines;
+pub use value::value_field;

@@ -114,6 +114,29 @@ fn whole_number_fields(rt: HostRuntime) {
 }
 
 #[test]
+fn value_columns(rt: HostRuntime) {
+    let cases: [(&[u8; 5], Field); 14] = [
+        (b"     ", Field::Blank),
+        (b"    0", Field::Number(0)),
+        (b"    7", Field::Number(7)),
+        (b"  311", Field::Number(311)),
+        (b"00311", Field::Number(311)),
+        (b"99999", Field::Number(99_999)),
+        (b"   -5", Field::Number(-5)),
+        (b"-9999", Field::Number(-9_999)),
+        (b" -083", Field::Number(-83)),
+        (b"    -", Field::Bad),
+        (b"  +31", Field::Bad),
+        (b"1 311", Field::Bad),
+        (b"311  ", Field::Bad),
+        (b"- 311", Field::Bad),
+    ];
+    for (column, found) in cases {
+        assert_eq!(rt; value_field(column), found, "at {column:?}");
+    }
+}
+
+#[test]
 fn decimal_number_fields(rt: HostRuntime) {
     let cases: [(&[u8], u8, Field); 14] = [
         (b"        ", 4, Field::Blank),

@@ -7,17 +7,18 @@
 //!  18-21  element          29     its source flag
 //! ```
 
-ghost use Rattle.std.specs.Prelude.{◌≡◌, ◌≤◌, ◌<◌, ◌+◌, length, drop, map, pos, Some, None, IfOk, IfSome};
+ghost use Rattle.std.specs.Prelude.{◌≡◌, ◌≤◌, ◌<◌, ◌+◌, ◌*◌, length, drop, map, pos, Some, None, IfOk, IfSome};
 ghost use Rattle.std.specs.Prelude.{if◌then◌else◌, unsigned_abs};
 ghost use Rattle.ghcn_fields.specs.Numbers as numbers;
 ghost use Rattle.ghcn_fields.specs.Bytes as bytes;
+ghost use Rattle.ghcn_fields.specs.Lines.{columns};
 ghost use Rattle.ghcn_fields.specs.Faults.{first_failing};
 ghost use Rattle.ghcn_files.specs.StationLines as stations;
 ghost use Rattle.ghcn_files.specs.Months as months;
 
 use crate::missing::{is_bad, unless_missing};
 use crate::{Element, LineWhy, StationId};
-use ghcn_fields::{Field, int_field, is_blank};
+use ghcn_fields::{Field, int_field, is_blank, value_field};
 
 /// The columns up to the element's last.
 const UP_TO_ELEMENT: usize = 21;
@@ -152,8 +153,7 @@ fn reading_of(line: &[u8], day: usize) -> Option<Reading>
     ensures { result ≡ (if stations.is_bad (months.value_field line.now (day + 1)) then None
         else Some (months.reading line.now (day + 1))) }
 {
-    let start = FIRST_GROUP + GROUP * day;
-    let field = int_field(&line[start..start + 5]);
+    let field = value_field(value_column(line, day));
     if is_bad(field) {
         return None;
     }
@@ -161,6 +161,18 @@ fn reading_of(line: &[u8], day: usize) -> Option<Reading>
         value: unless_missing(field),
         flagged: is_flagged(line, day),
     })
+}
+
+/// The five columns of a day's value, from 0.
+fn value_column(line: &[u8], day: usize) -> &[u8; 5]
+    requires long { 266 ≤ length line.now }
+    requires day { day < 31 }
+    ensures { result.now ≡ columns (14 + 8 * (day + 1)) (18 + 8 * (day + 1)) line.now }
+{
+    match line[FIRST_GROUP + GROUP * day..].first_chunk() {
+        Some(column) => column,
+        None => unreachable!(),
+    }
 }
 
 /// Whether the quality flag of a day, from 0, isn't a blank.
