@@ -1,5 +1,5 @@
 -- A day more, behind all that are held.
-use Rattle.std.proofs.Common.{◌≡◌, ℕ, zero, suc, ◌+◌, ◌-◌, ◌<◌, ◌≤◌, ◌^◌, Bool, true, false, List, [], ◌∷◌, ◌++◌, length, get_or, Option, Some, None, IsSome, Result, Ok, Err, OnOk, inl, inr, refl, sym, ap, subst, ◌∙◌, arith, ℤ, pos, ◌+ℤ◌, ◌<ℤ◌, ◌≤ℤ◌}
+use Rattle.std.proofs.Common.{◌≡◌, ℕ, zero, suc, ◌<◌, ◌^◌, true, false, List, [], ◌∷◌, ◌++◌, length, get_or, Option, Some, None, IsSome, Result, Ok, Err, OnOk, inl, inr, refl, sym, ap, subst, ◌∙◌, arith, ℤ, pos, ◌+ℤ◌, ◌<ℤ◌, ◌≤ℤ◌}
 use Rattle.std.specs.Prelude.{◌==◌, ◌||◌, ◌&&◌, nat_lt, int_lt, if◌then◌else◌}
 use Rattle.std.specs.Int.{bit_at}
 use Rattle.std.specs.List.{AllByRecursion}
@@ -15,17 +15,17 @@ use Rattle.std.proofs.lemmas.Nat.{pow_pos}
 use Rattle.std.proofs.lemmas.Nat.Bits.{bit_at-zero, bit_at-pow_same, bit_at-pow_other}
 use Rattle.ghcn_fields.specs.Days.{is_day, block_of}
 use Rattle.ghcn_series.specs.Series.{DayValue, value_on}
-use Rattle.ghcn_series.specs.Packed.{Block, block_start, block_days, days_of, blocks_of, IsPacked, AreRising, AreColumns, AreBlocks}
+use Rattle.ghcn_series.specs.Packed.{block_start, block_days, days_from, days_of, blocks_of, IsPacked, AreRising}
 use Rattle.ghcn_series.specs.Parts.{AreNew, AreJoined, AreBefore, AreOrdered, IsRowOf, days_held}
 use Rattle.ghcn_series.specs.declared.parts.Parts.{Parts}
-use Rattle.ghcn_series.proofs.Lookups.{int_eq-no, value_on-append, block-holds}
+use Rattle.ghcn_series.proofs.Lookups.{value_on-append, block-holds}
 use Rattle.ghcn_series.proofs.FirstDays.{lowest-first, none-set}
 use Rattle.ghcn_series.proofs.Nexts.{AreOf, block-own, block-nonempty}
 use Rattle.ghcn_series.proofs.RisingDays.{columns-rise, same-from_values, behind}
 
 -- the one day of a word with one bit
 pub single-day : (n : ℤ) (vs : List ℤ) (p : ℕ) → p < 32 → block_days (n, (2 ^ p, vs)) ≡ (block_start n +ℤ pos p, get_or vs p (pos 0)) ∷ []
-unfolding block_days
+unfolding days_from
 single-day n vs p lt =
     lowest-first n vs (2 ^ p) 0 p 0 32 (omega arith) lt (bit_at-pow_same p) (bit_at-zero p)
     (λ i less. bit_at-pow_other p i (λ e. omega (arith, e, less)))

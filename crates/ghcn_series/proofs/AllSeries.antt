@@ -15,15 +15,14 @@ use Rattle.ghcn_files.specs.Listed.{AreListed}
 use Rattle.ghcn_files.specs.Months.{IsMonth}
 use Rattle.ghcn_series.specs.declared.gathering.Gathering.{Gathering}
 use Rattle.ghcn_series.specs.declared.station.StationGathering.{StationGathering}
-use Rattle.ghcn_series.specs.Series.{DayValue, Usable, IsSeries}
+use Rattle.ghcn_series.specs.Series.{DayValue, Usable, IsSeries, by_day}
 use Rattle.ghcn_series.specs.DailyFaults.{is_listed}
 use Rattle.ghcn_series.specs.Says.{Fact, facts_of, is_usable, days_of, usable_of, all_series}
 use Rattle.ghcn_series.specs.Held.{AreByStation, AreSeries, all_of, same_series}
-use Rattle.ghcn_series.specs.Gathered.{usable_days, months_of, IsGatheringOf, AreByElement, IsStationOf, IsReady, gathered_series, station_series}
+use Rattle.ghcn_series.specs.Gathered.{usable_days, gathered_days, months_of, IsGatheringOf, AreByElement, IsStationOf, IsReady, gathered_series, station_series}
 use Rattle.ghcn_series.proofs.Places.{ids, same_id-refl}
 use Rattle.ghcn_series.proofs.StationMonths.{months_of-none, elements_differ}
-use Rattle.ghcn_series.proofs.SortedDays.{by_day}
-use Rattle.ghcn_series.proofs.ReadySeries.{is_series, length-sorted}
+use Rattle.ghcn_series.proofs.ReadySeries.{is_series, length-sorted, gathered-sorted}
 use Rattle.ghcn_series.proofs.FactsOfMonths.{selected-months}
 use Rattle.ghcn_series.proofs.ListFacts.{and_false, both_all, weaken}
 
@@ -87,15 +86,15 @@ all_ready ms (s ∷ ss) [] right all = absurd all
 all_ready ms (s ∷ ss) (g ∷ gs) right all = (ready_station ms g.id g.by_element.items right all.0.holds, all_ready ms ss gs right all.1)
 
 series_of_gathering : StationId → Gathering → Usable
-series_of_gathering id g = record { id = id; element = g.element; days = sorted_by by_day g.days.items }
+series_of_gathering id g = record { id = id; element = g.element; days = sorted_by by_day (gathered_days g) }
 
 -- what is true of each series of a station
-from_gatherings : (P : Usable → Type 0) (id : StationId) (gs : List Gathering) → ((g : Gathering) (u : Usable) → IsReady g → (length g.days.items == 0) ≡ false → u ≡ series_of_gathering id g → P u)
+from_gatherings : (P : Usable → Type 0) (id : StationId) (gs : List Gathering) → ((g : Gathering) (u : Usable) → IsReady g → (length (gathered_days g) == 0) ≡ false → u ≡ series_of_gathering id g → P u)
     → AllByRecursion IsReady gs → AllByRecursion P (filter_map (gathered_series id) gs)
 unfolding series_of_gathering
 from_gatherings P id [] each ready = tt
 from_gatherings P id (g ∷ gs) each ready =
-    elim (length g.days.items == 0) as (λ b. (length g.days.items == 0) ≡ b → AllByRecursion P (cons_option (cond b None (Some (series_of_gathering id g))) (filter_map (gathered_series id) gs))) [
+    elim (length (gathered_days g) == 0) as (λ b. (length (gathered_days g) == 0) ≡ b → AllByRecursion P (cons_option (cond b None (Some (series_of_gathering id g))) (filter_map (gathered_series id) gs))) [
       | true ↦ λ is. from_gatherings P id gs each ready.1
       | false ↦ λ is. (each g (series_of_gathering id g) ready.0 is refl, from_gatherings P id gs each ready.1)
     ] refl
@@ -117,7 +116,7 @@ others_apart ms id u [] [] other all = tt
 others_apart ms id u [] (e ∷ es) other all = absurd all
 others_apart ms id u (g ∷ gs) [] other all = absurd all
 others_apart ms id u (g ∷ gs) (e ∷ es) other all =
-    elim (length g.days.items == 0) as (λ b. IsOther u (cons_option (cond b None (Some (record { id = id; element = g.element; days = sorted_by by_day g.days.items }))) (filter_map (gathered_series id) gs))) [
+    elim (length (gathered_days g) == 0) as (λ b. IsOther u (cons_option (cond b None (Some (record { id = id; element = g.element; days = sorted_by by_day (gathered_days g) }))) (filter_map (gathered_series id) gs))) [
       | true ↦ others_apart ms id u gs es other.1 all.1
       | false ↦ (and_false (same_id u.id id) (same_element u.element g.element) (ap (same_element u.element) all.0.element ∙ other.0), others_apart ms id u gs es other.1 all.1)
     ]
@@ -128,8 +127,8 @@ elements_apart ms id [] [] apart all = tt
 elements_apart ms id [] (e ∷ es) apart all = absurd all
 elements_apart ms id (g ∷ gs) [] apart all = absurd all
 elements_apart ms id (g ∷ gs) (e ∷ es) apart all =
-    let this : Usable = record { id = id; element = g.element; days = sorted_by by_day g.days.items } in
-    elim (length g.days.items == 0) as (λ b. IsDistinct same_series (cons_option (cond b None (Some this)) (filter_map (gathered_series id) gs))) [
+    let this : Usable = record { id = id; element = g.element; days = sorted_by by_day (gathered_days g) } in
+    elim (length (gathered_days g) == 0) as (λ b. IsDistinct same_series (cons_option (cond b None (Some this)) (filter_map (gathered_series id) gs))) [
       | true ↦ elements_apart ms id gs es apart.1 all.1
       | false ↦ (others_apart ms id this gs es (subst (λ d. AllByRecursion (λ x. same_element d x ≡ false) es) (sym all.0.element) apart.0) all.1, elements_apart ms id gs es apart.1 all.1)
     ]
@@ -143,7 +142,7 @@ station_apart ms id (g ∷ gs) all = elements_apart ms id (g ∷ gs) elements el
 ids_of_station : (id : StationId) (gs : List Gathering) → AllByRecursion (λ u. u.id ≡ id) (filter_map (gathered_series id) gs)
 ids_of_station id [] = tt
 ids_of_station id (g ∷ gs) =
-    elim (length g.days.items == 0) as (λ b. AllByRecursion (λ u. u.id ≡ id) (cons_option (cond b None (Some (record { id = id; element = g.element; days = sorted_by by_day g.days.items }))) (filter_map (gathered_series id) gs))) [
+    elim (length (gathered_days g) == 0) as (λ b. AllByRecursion (λ u. u.id ≡ id) (cons_option (cond b None (Some (record { id = id; element = g.element; days = sorted_by by_day (gathered_days g) }))) (filter_map (gathered_series id) gs))) [
       | true ↦ ids_of_station id gs
       | false ↦ (refl, ids_of_station id gs)
     ]
@@ -206,11 +205,11 @@ module _ (stations : List Station) (ms : List Month) where
   elements_series s [] (e ∷ es) listed all = absurd all
   elements_series s (g ∷ gs) [] listed all = absurd all
   elements_series s (g ∷ gs) (e ∷ es) listed all =
-      let days : sorted_by by_day g.days.items ≡ days_of facts s.id e = ap (sorted_by by_day) all.0.holds.days ∙ sym (days_of-is s.id e listed) in
-      let empty : (length g.days.items == 0) ≡ (length (days_of facts s.id e) == 0) = ap (λ (n : ℕ). n == 0) (sym (length-sorted g.days.items) ∙ ap length days) in
-      one_or_none (length g.days.items == 0) (length (days_of facts s.id e) == 0) (made s.id g.element (sorted_by by_day g.days.items)) (usable_of facts s e)
+      let days : sorted_by by_day (gathered_days g) ≡ days_of facts s.id e = gathered-sorted g (months_of ms s.id e) all.0.holds ∙ sym (days_of-is s.id e listed) in
+      let empty : (length (gathered_days g) == 0) ≡ (length (days_of facts s.id e) == 0) = ap (λ (n : ℕ). n == 0) (sym (length-sorted (gathered_days g)) ∙ ap length days) in
+      one_or_none (length (gathered_days g) == 0) (length (days_of facts s.id e) == 0) (made s.id g.element (sorted_by by_day (gathered_days g))) (usable_of facts s e)
       (filter_map (gathered_series s.id) gs) (filter has_days (map (usable_of facts s) es)) empty
-      (ap (λ (x : Element). made s.id x (sorted_by by_day g.days.items)) all.0.element ∙ ap (made s.id e) days)
+      (ap (λ (x : Element). made s.id x (sorted_by by_day (gathered_days g))) all.0.element ∙ ap (made s.id e) days)
       (elements_series s gs es listed all.1)
 
   no_series : (s : Station) (es : List Element) → is_listed stations s.id ≡ true → list_any (λ m. same_id m.id s.id) ms ≡ false → filter has_days (map (usable_of facts s) es) ≡ []
@@ -261,7 +260,7 @@ pub all_listed : (ss : List Station) → AllByRecursion (λ s. is_listed ss s.id
 all_listed ss = each_listed ss
 
 of_stations : (P : Usable → Type 0) (stations : List Station) (ms : List Month) (ss : List Station) (gs : List StationGathering) → AllByRecursion (λ s. is_listed stations s.id ≡ true) ss
-    → ((id : StationId) (g : Gathering) (u : Usable) → is_listed stations id ≡ true → IsReady g → (length g.days.items == 0) ≡ false → u ≡ series_of_gathering id g → P u)
+    → ((id : StationId) (g : Gathering) (u : Usable) → is_listed stations id ≡ true → IsReady g → (length (gathered_days g) == 0) ≡ false → u ≡ series_of_gathering id g → P u)
     → AllByRecursion (λ s. AllByRecursion IsReady s.by_element.items) gs → AllZip (IsStationOf ms) ss gs → AllByRecursion P (all_gathered gs)
 of_stations P stations ms [] [] listed each ready all = tt
 of_stations P stations ms [] (g ∷ gs) listed each ready all = absurd all
@@ -296,6 +295,6 @@ are_by_station ms ss gs listed right all =
         listed = of_stations (λ u. is_listed ss u.id ≡ true) ss ms ss gs (all_listed ss) (λ id g u l r some is. ap (λ (v : Usable). is_listed ss v.id) is ∙ l) ready all;
         right =
             of_stations IsSeries ss ms ss gs (all_listed ss)
-            (λ id g u l r some is. subst IsSeries (sym is) (is_series id g (sorted_by by_day g.days.items) r some refl)) ready all;
+            (λ id g u l r some is. subst IsSeries (sym is) (is_series id g (sorted_by by_day (gathered_days g)) r some refl)) ready all;
       });
     }

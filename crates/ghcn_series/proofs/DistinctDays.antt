@@ -68,7 +68,7 @@ number_from_fact m false (Some n) (Some v) d e =
     ] e
 
 -- a usable day is the day of its place
-is_day_of : (m : Month) (j : ℕ) (r : Reading) (d : DayValue) → usable_day m (j, r) ≡ Some d → IsDayOf m j d.0
+pub is_day_of : (m : Month) (j : ℕ) (r : Reading) (d : DayValue) → usable_day m (j, r) ≡ Some d → IsDayOf m j d.0
 is_day_of m j r d e = number_from_fact m r.flagged (day_number m.year m.month j) r.value d e
 
 -- each of these days is of the month, from a place on

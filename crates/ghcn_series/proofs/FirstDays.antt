@@ -12,7 +12,7 @@ use Rattle.std.specs.Iterator.{YieldsFirst}
 use Rattle.std.specs.List.{AllByRecursion}
 use Rattle.ghcn_fields.specs.Days.{is_day, day_if, IsBlock}
 use Rattle.ghcn_series.specs.Series.{DayValue}
-use Rattle.ghcn_series.specs.Packed.{block_start, if_so, day_at, block_days, days_of, blocks_of, AreDays, IsPacked}
+use Rattle.ghcn_series.specs.Packed.{block_start, if_so, day_at, block_days, days_from, days_of, blocks_of, AreDays, IsPacked}
 
 -- the day at a place, where a bit that is read tells whether it is present
 place : ℤ → List ℤ → ℕ → ℕ → List DayValue → List DayValue
@@ -64,7 +64,7 @@ lowest-first n vs w v t s (suc m) le lt set cleared below other =
 
 -- a block whose word is 0 has no days
 pub block-empty : (n : ℤ) (vs : List ℤ) (w : ℕ) → w ≡ 0 → block_days (n, (w, vs)) ≡ []
-unfolding block_days
+unfolding days_from
 block-empty n vs w e = none-set n vs w 0 32 (λ i le lt. ap (λ (k : ℕ). bit_at k i) e ∙ bit_at-zero i)
 
 -- a word without its lowest bit
@@ -74,7 +74,7 @@ without_lowest w = bit_and w (bit_not w32 (1 * 2 ^ trailing_zeros w32 w % 2 ^ 32
 -- the first day of a block is at the lowest bit of its word
 pub block-first : (n : ℤ) (vs : List ℤ) (w : ℕ) → 0 < w → w < 2 ^ 32
     → block_days (n, (w, vs)) ≡ (block_start n +ℤ pos (trailing_zeros w32 w), get_or vs (trailing_zeros w32 w) (pos 0)) ∷ block_days (n, (without_lowest w, vs))
-unfolding block_days
+unfolding days_from
 block-first n vs w some fits =
     let lowest = bit_at-trailing_zeros w32 w some fits in
     lowest-first n vs w (without_lowest w) (trailing_zeros w32 w) 0 32 (omega arith) lowest.0 lowest.1

@@ -21,7 +21,7 @@ use Rattle.ghcn_series.specs.Parts.{AreJoined, JoinsAt, JoinsValues}
 use Rattle.ghcn_series.proofs.Lookups.{or_none, at_day, block-value, block-other, value_on-append}
 
 -- of two that may be nothing, joined to nothing, both are
-both-none : (a b : Option ℤ) → option_or a b ≡ None → (a ≡ None) × (b ≡ None)
+pub both-none : (a b : Option ℤ) → option_or a b ≡ None → (a ≡ None) × (b ≡ None)
 both-none None b e = (refl, e)
 both-none (Some x) b e = absurd cc
 

@@ -6,9 +6,12 @@ pub mod Nexts
 pub mod Searches
 pub mod RisingDays
 pub mod PartsAdded
+pub mod RowParts
+pub mod ApartParts
 pub mod AddedDays
 pub mod LastDays
 pub mod MonthDays
+pub mod MonthRows
 pub mod RisingMonths
 pub mod SeenMonths
 pub mod DistinctDays

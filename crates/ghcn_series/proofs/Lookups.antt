@@ -11,7 +11,7 @@ use Rattle.std.proofs.lemmas.Int.{ints}
 use Rattle.std.proofs.lemmas.Slice.Zip.{length-zip, get_or-zip}
 use Rattle.ghcn_fields.specs.Days.{block_of}
 use Rattle.ghcn_series.specs.Series.{DayValue, value_on}
-use Rattle.ghcn_series.specs.Packed.{Block, block_start, place_of, if_so, value_at, day_at, block_days, days_of, blocks_of}
+use Rattle.ghcn_series.specs.Packed.{Block, block_start, place_of, if_so, value_at, day_from, days_from, block_days, days_of, blocks_of}
 
 pub int_eq-yes : (a b : ℤ) → a ≡ b → int_eq a b ≡ true
 int_eq-yes a b e = (Decides-int_eq a b).1 e
@@ -45,40 +45,55 @@ pub value_on-same : (t : Bool) (x : DayValue) (xs : List DayValue) (day : ℤ) �
 value_on-same true x xs day e none = ap (λ (b : Bool). option_map (λ (y : DayValue). y.1) (cond b (Some x) (find (λ y. int_eq y.0 day) xs))) e
 value_on-same false x xs day e none = none
 
--- a day at none of n places has no value there
-none_among : (b : Block) (day : ℤ) (s n : ℕ) → ((j : ℕ) → s ≤ j → j < s + n → block_start b.0 +ℤ pos j ≡ day → ⊥) → value_on (filter_map (day_at b) (range_with_len s n)) day ≡ None
-none_among b day s zero h = refl
-none_among b day s (suc n) h =
-    value_on-other (bit_at b.1.0 s == 1) (block_start b.0 +ℤ pos s, get_or b.1.1 s (pos 0)) (filter_map (day_at b) (range_with_len (s + 1) n)) day (int_eq-no (block_start b.0 +ℤ pos s) day (h s (omega arith) (omega arith)))
-    ∙ none_among b day (s + 1) n (λ j le lt. h j (omega arith) (omega arith))
+module _ (first : ℤ) (w : ℕ) (vs : List ℤ) where
+  -- a day at none of n places has no value there
+  none_among : (day : ℤ) (s n : ℕ) → ((j : ℕ) → s ≤ j → j < s + n → first +ℤ pos j ≡ day → ⊥)
+      → value_on (filter_map (day_from first w vs) (range_with_len s n)) day ≡ None
+  none_among day s zero h = refl
+  none_among day s (suc n) h =
+      let behind : List DayValue = filter_map (day_from first w vs) (range_with_len (s + 1) n) in
+      value_on-other (bit_at w s == 1) (first +ℤ pos s, get_or vs s (pos 0)) behind day
+      (int_eq-no (first +ℤ pos s) day (h s (omega arith) (omega arith)))
+      ∙ none_among day (s + 1) n (λ j le lt. h j (omega arith) (omega arith))
 
--- the day at one of n places has the value of that place
-found_at : (b : Block) (j s n : ℕ) → s ≤ j → j < s + n → value_on (filter_map (day_at b) (range_with_len s n)) (block_start b.0 +ℤ pos j) ≡ value_at b.1.0 b.1.1 j
-found_at b j s zero le lt = absurd (omega arith)
-found_at b j s (suc n) le lt =
-    let day : ℤ = block_start b.0 +ℤ pos j in
-    let x : DayValue = (block_start b.0 +ℤ pos s, get_or b.1.1 s (pos 0)) in
-    let xs : List DayValue = filter_map (day_at b) (range_with_len (s + 1) n) in
-    elim (cases_lt s j) [
-      | inl before ↦
-          let apart : x.0 ≡ day → ⊥ = λ e. omega (arith, ints) in
-          value_on-other (bit_at b.1.0 s == 1) x xs day (int_eq-no x.0 day apart) ∙ found_at b j (s + 1) n (omega arith) (omega arith)
-      | inr here ↦
-          let same : s ≡ j = omega arith in
-          value_on-same (bit_at b.1.0 s == 1) x xs day (int_eq-yes x.0 day (ap (λ (k : ℕ). block_start b.0 +ℤ pos k) same))
-          (none_among b day (s + 1) n (λ k more less e. omega (arith, ints)))
-          ∙ ap (value_at b.1.0 b.1.1) same
-    ]
+  -- the day at one of n places has the value of that place
+  found_at : (j s n : ℕ) → s ≤ j → j < s + n
+      → value_on (filter_map (day_from first w vs) (range_with_len s n)) (first +ℤ pos j) ≡ value_at w vs j
+  found_at j s zero le lt = absurd (omega arith)
+  found_at j s (suc n) le lt =
+      let day : ℤ = first +ℤ pos j in
+      let x : DayValue = (first +ℤ pos s, get_or vs s (pos 0)) in
+      let xs : List DayValue = filter_map (day_from first w vs) (range_with_len (s + 1) n) in
+      elim (cases_lt s j) [
+        | inl before ↦
+            let apart : x.0 ≡ day → ⊥ = λ e. omega (arith, ints) in
+            value_on-other (bit_at w s == 1) x xs day (int_eq-no x.0 day apart)
+            ∙ found_at j (s + 1) n (omega arith) (omega arith)
+        | inr here ↦
+            let same : s ≡ j = omega arith in
+            value_on-same (bit_at w s == 1) x xs day (int_eq-yes x.0 day (ap (λ (k : ℕ). first +ℤ pos k) same))
+            (none_among day (s + 1) n (λ k more less e. omega (arith, ints)))
+            ∙ ap (value_at w vs) same
+      ]
+
+  -- each of 32 days has the value of its place
+  pub from-value : (j : ℕ) → j < 32 → value_on (days_from first w vs) (first +ℤ pos j) ≡ value_at w vs j
+  unfolding days_from
+  from-value j lt = found_at j 0 32 (omega arith) (omega arith)
+
+  -- any other day has none
+  pub from-other : (day : ℤ) → ((j : ℕ) → j < 32 → first +ℤ pos j ≡ day → ⊥) → value_on (days_from first w vs) day ≡ None
+  unfolding days_from
+  from-other day h = none_among day 0 32 (λ j le lt e. h j (omega arith) e)
 
 -- a day of a block has the value of its place
 pub block-value : (b : Block) (j : ℕ) → j < 32 → value_on (block_days b) (block_start b.0 +ℤ pos j) ≡ value_at b.1.0 b.1.1 j
-unfolding block_days
-block-value b j lt = found_at b j 0 32 (omega arith) (omega arith)
+block-value b j lt = from-value (block_start b.0) b.1.0 b.1.1 j lt
 
 -- a day of another block has no value there
 pub block-other : (b : Block) (day : ℤ) → (b.0 ≡ block_of day → ⊥) → value_on (block_days b) day ≡ None
-unfolding block_days
-block-other b day h = none_among b day 0 32 (λ j le lt e. h (sym (block-of_place b.0 j (omega arith)) ∙ ap block_of e))
+block-other b day h =
+    from-other (block_start b.0) b.1.0 b.1.1 day (λ j lt e. h (sym (block-of_place b.0 j lt) ∙ ap block_of e))
 
 -- a day is looked up among some days, and else among those behind them
 pub value_on-append : (xs ys : List DayValue) (day : ℤ) → value_on (xs ++ ys) day ≡ option_or (value_on xs day) (value_on ys day)

@@ -6,11 +6,13 @@ use Rattle.std.specs.List.{find, cons_option, filter_map, range_with_len, AllByR
 use Rattle.std.specs.List.Sorted.{IsPartitionPoint}
 use Rattle.std.specs.Option.{option_map}
 use Rattle.std.proofs.Common.{w32}
+use Rattle.std.proofs.Common.{length-append}
+use Rattle.std.proofs.lemmas.Bool.Decides.{nat_tests}
 use Rattle.std.proofs.lemmas.Int.{ints}
 use Rattle.std.proofs.lemmas.Nat.Bits.{bit_at-trailing_zeros}
 use Rattle.ghcn_fields.specs.Days.{block_of}
 use Rattle.ghcn_series.specs.Series.{DayValue, value_on}
-use Rattle.ghcn_series.specs.Packed.{Block, block_start, if_so, day_at, block_days, days_of, IsPacked, next_block}
+use Rattle.ghcn_series.specs.Packed.{Block, block_start, if_so, day_at, block_days, days_from, days_of, blocks_of, AreBlocks, IsPacked, next_block}
 use Rattle.ghcn_series.proofs.Lookups.{block-of_place, block-value}
 
 -- the days lie in this block
@@ -29,7 +31,7 @@ places-of b s (suc n) le =
 
 -- the days of a block lie in it
 pub block-own : (b : Block) → AreOf b.0 (block_days b)
-unfolding block_days
+unfolding days_from
 block-own b = places-of b 0 32 (omega arith)
 
 some-nonempty : (days : List DayValue) (day v : ℤ) → value_on days day ≡ Some v → 0 < length days
@@ -44,6 +46,20 @@ block-nonempty b some fits =
     let v : ℤ = get_or b.1.1 j (pos 0) in
     some-nonempty (block_days b) (block_start b.0 +ℤ pos j) v
     (block-value b j lowest.0 ∙ ap (λ (k : ℕ). if_so (k == 1) v) lowest.1)
+
+not_zero : (k : ℕ) → 0 < k → (k == 0) ≡ false
+not_zero k some = grind (arith, nat_tests)
+
+-- blocks have no day where there is no block
+pub no-days : (ns : List ℤ) (ws : List ℕ) (vs : List (List ℤ)) → AreBlocks ns ws vs → (length ns == 0) ≡ (length (days_of (blocks_of ns ws vs)) == 0)
+no-days [] ws vs bs = refl
+no-days (n ∷ ns) [] vs bs = absurd (omega (arith, bs.enough_words))
+no-days (n ∷ ns) (w ∷ ws) [] bs = absurd (omega (arith, bs.enough_values))
+no-days (n ∷ ns) (w ∷ ws) (v ∷ vs) bs =
+    let some = block-nonempty (n, (w, v)) bs.packed.0.present bs.packed.0.fits in
+    let all = days_of (blocks_of ns ws vs) in
+    not_zero (length (n ∷ ns)) (omega arith)
+    ∙ sym (not_zero (length (block_days (n, (w, v)) ++ all)) (omega (arith, length-append (block_days (n, (w, v))) all, some)))
 
 abbrev reached : ℤ → DayValue → Bool
 reached b x = int_le b (block_of x.0)

@@ -32,7 +32,7 @@ some_is : (o : Option ℤ) (v : ℤ) → o ≡ Some v → IsSome o
 some_is o v e = subst IsSome (sym e) refl
 
 -- the days of a block more
-days-pushed : (bs : List Block) (b : Block) (d : ℤ) → value_on (days_of (bs ++ b ∷ [])) d ≡ option_or (value_on (days_of bs) d) (value_on (block_days b) d)
+pub days-pushed : (bs : List Block) (b : Block) (d : ℤ) → value_on (days_of (bs ++ b ∷ [])) d ≡ option_or (value_on (days_of bs) d) (value_on (block_days b) d)
 days-pushed [] b d = value_on-append (block_days b) [] d ∙ or_none (value_on (block_days b) d)
 days-pushed (x ∷ xs) b d =
     value_on-append (block_days x) (days_of (xs ++ b ∷ [])) d
@@ -83,11 +83,16 @@ module _ (ns : List ℤ) (ws : List ℕ) (vs : List (List ℤ)) (bs : AreBlocks 
           not_both _ _ here none;
     }
 
-    -- the last part joined with more days of its block
+    -- the last part, joined with more days of its block
+    pub join-last : AreJoined (block_days (get_or ns i (pos 0), (get_or ws i 0, get_or vs i []))) (block_days (get_or ns i (pos 0), (p, u)))
+        (block_days (get_or ns i (pos 0), (bit_or (get_or ws i 0) p, r)))
+    join-last = block-joined (get_or ns i (pos 0)) (get_or ws i 0) p (get_or vs i []) u r (packed-at i (omega arith)) one apart row
+
+    -- all parts, where the last is joined with them
     pub join-days : AreJoined (days_of (blocks_of ns ws vs)) (block_days (get_or ns i (pos 0), (p, u))) (days_of (blocks_of ns (set ws i (bit_or (get_or ws i 0) p)) (set vs i r)))
     join-days =
         last-joined ns ws vs i (bit_or (get_or ws i 0) p) r (block_days (get_or ns i (pos 0), (p, u))) bs.enough_words bs.enough_values last
-        (block-joined (get_or ns i (pos 0)) (get_or ws i 0) p (get_or vs i []) u r (packed-at i (omega arith)) one apart row)
+        join-last
 
     pub join-blocks : AreBlocks ns (set ws i (bit_or (get_or ws i 0) p)) (set vs i r)
     join-blocks = record {

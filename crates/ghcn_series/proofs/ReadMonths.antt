@@ -112,6 +112,13 @@ own_id before r id k g is place here =
     let station = station_at before r.stations r.gathered.items k at.0.0 g is.gathered at.0.1 here in
     sym (station.id ∙ at.0.2)
 
+-- and what these months say of that station
+pub own_months : (before : List Month) (r : Reader) (id : StationId) (k : ℕ) (g : StationGathering) → HasRead r before → place_of r.stations id ≡ Some k → g ≡ get_or r.gathered.items k g
+    → AreByElement before g.id g.by_element.items
+own_months before r id k g is place here =
+    let at = listed-is r.stations id k place in
+    (station_at before r.stations r.gathered.items k at.0.0 g is.gathered at.0.1 here).holds
+
 -- a month of a listed station is read
 pub read-listed : (old new : Reader) (m : Month) (k : ℕ) (g now : StationGathering) (added : Bool) → place_of old.stations m.id ≡ Some k → g ≡ get_or old.gathered.items k g → now.id ≡ g.id
     → GathersAt g now m added

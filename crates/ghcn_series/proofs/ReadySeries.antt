@@ -21,19 +21,20 @@ use Rattle.ghcn_files.specs.declared.month.Reading.{Reading}
 use Rattle.ghcn_files.specs.Elements.{may_be_negative}
 use Rattle.ghcn_files.specs.Months.{is_reading, is_readable, IsMonth}
 use Rattle.ghcn_series.specs.declared.gathering.Gathering.{Gathering}
-use Rattle.ghcn_series.specs.Series.{DayValue, Usable, IsSeries, is_by_day, is_value}
+use Rattle.ghcn_series.specs.Series.{DayValue, Usable, IsSeries, by_day, is_by_day, is_value}
 use Rattle.ghcn_series.specs.Says.{fact_if}
-use Rattle.ghcn_series.specs.Gathered.{counted, usable_day, usable_days, IsReady, gathered_series}
+use Rattle.ghcn_series.specs.Gathered.{counted, usable_day, usable_days, gathered_days, IsGathering, IsReady, gathered_series}
 use Rattle.ghcn_series.proofs.MonthDays.{has_number}
+use Rattle.ghcn_series.proofs.ApartParts.{apart-distinct}
 use Rattle.ghcn_series.proofs.DistinctDays.{distinct_days}
-use Rattle.ghcn_series.proofs.SortedDays.{by_day, sorted_by-rises}
+use Rattle.ghcn_series.proofs.SortedDays.{sorted_by-rises, sorted-same}
 use Rattle.ghcn_series.proofs.ListFacts.{both_true, and_true}
 
 -- a day that a series can have
 abbrev IsDayOf : Element → DayValue → Bool
 IsDayOf e x = is_day x.0 && is_value e x.1
 
-is_day-numbered : (y m d : ℕ) (n : ℤ) → day_number y m d ≡ Some n → is_day n ≡ true
+pub is_day-numbered : (y m d : ℕ) (n : ℤ) → day_number y m d ≡ Some n → is_day n ≡ true
 is_day-numbered y m d n e =
     let has = has_number y m d n e in
     let civil : IsCivilDate (pos y) m d = ((omega (arith, ints, has.0.year), omega (arith, ints, has.0.year)), has.0.month, has.0.day) in
@@ -73,6 +74,11 @@ right_day m j r d reads is =
     let parts = parts_of m r.flagged (day_number m.year m.month j) r.value d is in
     four (is_day d.0) (int_le (neg_ℤ (pos 9998)) d.1) (int_le d.1 (pos 99_999)) (may_be_negative m.element || int_le (pos 0) d.1)
     (is_day-numbered m.year m.month j d.0 parts.0) (readable_from r.value d.1 reads parts.1) parts.2
+
+-- what is read of a usable day is in its range
+pub readable_day : (m : Month) (j : ℕ) (r : Reading) (d : DayValue) → is_reading r ≡ true → usable_day m (j, r) ≡ Some d → is_readable d.1 ≡ true
+unfolding Parts
+readable_day m j r d reads is = readable_from r.value d.1 reads (parts_of m r.flagged (day_number m.year m.month j) r.value d is).1
 
 right_days : (m : Month) (j : ℕ) (rs : List Reading) → list_all is_reading rs ≡ true → list_all (IsDayOf m.element) (filter_map (usable_day m) (enumerate_from j rs)) ≡ true
 right_days m j [] all = refl
@@ -130,33 +136,41 @@ rises (x ∷ y ∷ ys) sorted = and_true (int_lt x.0 y.0) (is_by_day (y ∷ ys))
 positive : (n : ℕ) → (n == 0) ≡ false → 0 < n
 positive n e = grind (arith, nat_tests)
 
+-- the days of a gathering, in their order, are the usable days of its months in theirs
+pub gathered-sorted : (g : Gathering) (months : List Month) → IsGathering g months
+    → sorted_by by_day (gathered_days g) ≡ sorted_by by_day (flat_map usable_days months)
+gathered-sorted g months is =
+    sorted-same (gathered_days g) (flat_map usable_days months) (apart-distinct _ is.parts.apart) (distinct_days months is.distinct) is.values
+
 -- a gathering with a usable day becomes a series
-pub is_series : (id : StationId) (g : Gathering) (days : List DayValue) → IsReady g → (length g.days.items == 0) ≡ false → days ≡ sorted_by by_day g.days.items → IsSeries (record { id = id; element = g.element; days = days })
+pub is_series : (id : StationId) (g : Gathering) (days : List DayValue) → IsReady g → (length (gathered_days g) == 0) ≡ false → days ≡ sorted_by by_day (gathered_days g) → IsSeries (record { id = id; element = g.element; days = days })
 is_series id g days ready some sorted =
-    let apart : IsDistinct int_eq (keys_of g.days.items) = rw ready.holds.days (distinct_days ready.months ready.holds.distinct) in
-    let all : list_all (IsDayOf g.element) g.days.items ≡ true = ap (list_all (IsDayOf g.element)) ready.holds.days ∙ all_right g.element ready.months ready.right in
+    let apart : IsDistinct int_eq (keys_of (gathered_days g)) = apart-distinct _ ready.holds.parts.apart in
+    let all : list_all (IsDayOf g.element) (flat_map usable_days ready.months) ≡ true = all_right g.element ready.months ready.right in
     let P : List DayValue → Type 0 = λ ds. IsSeries (record { id = id; element = g.element; days = ds }) in
     subst P (sym sorted) (record {
-      nonempty = omega (arith, length-sorted g.days.items, positive (length g.days.items) some);
-      by_day = rises (sorted_by by_day g.days.items) (sorted_by-rises g.days.items apart);
-      values = sorted_right (IsDayOf g.element) g.days.items all;
+      nonempty = omega (arith, length-sorted (gathered_days g), positive (length (gathered_days g)) some);
+      by_day = rises (sorted_by by_day (gathered_days g)) (sorted_by-rises (gathered_days g) apart);
+      values =
+          ap (list_all (IsDayOf g.element)) (gathered-sorted g ready.months ready.holds)
+          ∙ sorted_right (IsDayOf g.element) (flat_map usable_days ready.months) all;
     })
 
 -- a gathering without a usable day adds no series
-pub no_series : (id : StationId) (g : Gathering) (held all : List Usable) (rest left : List Gathering) → rest ≡ g ∷ left → (length g.days.items == 0) ≡ true
+pub no_series : (id : StationId) (g : Gathering) (held all : List Usable) (rest left : List Gathering) → rest ≡ g ∷ left → (length (gathered_days g) == 0) ≡ true
     → held ++ filter_map (gathered_series id) rest ≡ all → held ++ filter_map (gathered_series id) left ≡ all
 no_series id g held all rest left step empty is =
-    let none : gathered_series id g ≡ None = ap (λ (b : Bool). cond b None (Some (record { id = id; element = g.element; days = sorted_by by_day g.days.items }))) empty in
+    let none : gathered_series id g ≡ None = ap (λ (b : Bool). cond b None (Some (record { id = id; element = g.element; days = sorted_by by_day (gathered_days g) }))) empty in
     ap (λ (o : Option Usable). held ++ cons_option o (filter_map (gathered_series id) left)) (sym none)
     ∙ ap (λ gs. held ++ filter_map (gathered_series id) gs) (sym step)
     ∙ is
 
 -- any other adds one
-pub one_series : (id : StationId) (g : Gathering) (s : Usable) (held now all : List Usable) (rest left : List Gathering) → rest ≡ g ∷ left → (length g.days.items == 0) ≡ false
-    → s ≡ record { id = id; element = g.element; days = sorted_by by_day g.days.items } → now ≡ held ++ s ∷ []
+pub one_series : (id : StationId) (g : Gathering) (s : Usable) (held now all : List Usable) (rest left : List Gathering) → rest ≡ g ∷ left → (length (gathered_days g) == 0) ≡ false
+    → s ≡ record { id = id; element = g.element; days = sorted_by by_day (gathered_days g) } → now ≡ held ++ s ∷ []
     → held ++ filter_map (gathered_series id) rest ≡ all → now ++ filter_map (gathered_series id) left ≡ all
 one_series id g s held now all rest left step some made put is =
-    let one : gathered_series id g ≡ Some s = ap (λ (b : Bool). cond b None (Some (record { id = id; element = g.element; days = sorted_by by_day g.days.items }))) some ∙ ap (λ (u : Usable). Some u) (sym made) in
+    let one : gathered_series id g ≡ Some s = ap (λ (b : Bool). cond b None (Some (record { id = id; element = g.element; days = sorted_by by_day (gathered_days g) }))) some ∙ ap (λ (u : Usable). Some u) (sym made) in
     ap (λ us. us ++ filter_map (gathered_series id) left) put
     ∙ append_assoc held (s ∷ []) (filter_map (gathered_series id) left)
     ∙ ap (λ (o : Option Usable). held ++ cons_option o (filter_map (gathered_series id) left)) (sym one)

@@ -10,7 +10,7 @@ use Rattle.std.proofs.lemmas.Int.{ints, by_lt_z}
 use Rattle.ghcn_series.proofs.JoinedDays.{same_block}
 use Rattle.ghcn_fields.specs.Days.{block_of}
 use Rattle.ghcn_series.specs.Series.{DayValue, value_on}
-use Rattle.ghcn_series.specs.Packed.{Block, block_start, if_so, day_at, block_days, days_of, blocks_of, AreRising, AreColumns}
+use Rattle.ghcn_series.specs.Packed.{Block, block_start, if_so, day_at, block_days, days_from, days_of, blocks_of, AreRising, AreColumns}
 use Rattle.ghcn_series.proofs.Lookups.{no_block, int_eq-no, int_eq-yes, block-holds, blocks-at, blocks-length}
 use Rattle.ghcn_series.proofs.Nexts.{AreOf, block-own}
 
@@ -45,7 +45,7 @@ places-rise b s (suc n) =
 
 -- the days of a block rise
 pub block-rises : (b : Block) → AreRising (block_days b)
-unfolding block_days
+unfolding days_from
 block-rises b = places-rise b 0 32
 
 -- days of a later block are later
@@ -92,7 +92,7 @@ columns-rise ns ws vs cols = blocks-rise (blocks_of ns ws vs) (λ i j lt in_rang
 pub behind : (x : DayValue) (xs : List DayValue) (d : ℤ) → (x.0 ≡ d → ⊥) → value_on (x ∷ xs) d ≡ value_on xs d
 behind x xs d other = ap (λ (b : Bool). option_map (λ (y : DayValue). y.1) (cond b (Some x) (find (λ y. int_eq y.0 d) xs))) (int_eq-no x.0 d other)
 
-front : (x : DayValue) (xs : List DayValue) → value_on (x ∷ xs) x.0 ≡ Some x.1
+pub front : (x : DayValue) (xs : List DayValue) → value_on (x ∷ xs) x.0 ≡ Some x.1
 front x xs = ap (λ (b : Bool). option_map (λ (y : DayValue). y.1) (cond b (Some x) (find (λ y. int_eq y.0 x.0) xs))) (int_eq-yes x.0 x.0 refl)
 
 -- a day before all has no value

@@ -1,7 +1,10 @@
 -- The months that were seen, and one more.
-use Rattle.std.proofs.Common.{◌≡◌, ℕ, ◌+◌, ◌*◌, ◌≤◌, Bool, true, false, List, [], ◌∷◌, ◌++◌, refl, sym, ap, ◌∙◌, arith}
+use Rattle.std.proofs.Common.{◌≡◌, ℕ, ◌+◌, ◌*◌, ◌≤◌, Bool, true, false, List, [], ◌∷◌, ◌++◌, Option, refl, sym, ap, subst, ◌∙◌, arith, ℤ}
 use Rattle.std.specs.Prelude.{◌==◌, ◌&&◌, ◌||◌}
 use Rattle.std.specs.List.{list_any, flat_map, IsDistinct, AllByRecursion}
+use Rattle.std.specs.Map.{keys_of}
+use Rattle.std.specs.Option.{option_or}
+use Rattle.std.specs.Ordering.{int_eq}
 use Rattle.std.proofs.lemmas.List.{append-nil}
 use Rattle.std.proofs.lemmas.List.Concat.{flat_map-append}
 use Rattle.std.proofs.lemmas.Bool.Decides.{nat_tests}
@@ -9,9 +12,13 @@ use Rattle.std.proofs.lemmas.List.Folds.{list_any-append}
 use Rattle.ghcn_files.specs.declared.month.Month.{Month}
 use Rattle.ghcn_files.specs.Months.{IsMonth}
 use Rattle.ghcn_series.specs.declared.gathering.Gathering.{Gathering}
-use Rattle.ghcn_series.specs.Series.{DayValue}
-use Rattle.ghcn_series.specs.Gathered.{number_of, has_number, same_time, usable_days, IsGathering}
+use Rattle.ghcn_series.specs.Series.{DayValue, value_on}
+use Rattle.ghcn_series.specs.Parts.{AreParts, AreNew, AreJoined}
+use Rattle.ghcn_series.specs.Gathered.{number_of, has_number, same_time, usable_days, gathered_days, IsGathering}
 use Rattle.ghcn_series.specs.SeenMonths.{has_month, Adds}
+use Rattle.ghcn_series.proofs.Lookups.{value_on-append}
+use Rattle.ghcn_series.proofs.ApartParts.{new-behind}
+use Rattle.ghcn_series.proofs.DistinctDays.{distinct_days}
 use Rattle.ghcn_series.proofs.ListFacts.{neither}
 
 eqb-turned : (a b : ℕ) → (a == b) ≡ (b == a)
@@ -76,23 +83,38 @@ all_more : (m : Month) (before : List Month) → AllByRecursion IsMonth before �
 all_more m [] all right = (right, tt)
 all_more m (x ∷ xs) all right = (all.0, all_more m xs all.1 right)
 
+days-more : (before : List Month) (m : Month) → flat_map usable_days (before ++ m ∷ []) ≡ flat_map usable_days before ++ usable_days m
+days-more before m =
+    flat_map-append usable_days before (m ∷ [])
+    ∙ ap (λ (xs : List DayValue). flat_map usable_days before ++ xs) (append-nil (usable_days m))
+
+-- a month whose time wasn't seen has no day that was gathered
+pub month-new : (g : Gathering) (m : Month) (before : List Month) → IsMonth m → IsGathering g before → has_month g.seen (number_of m) ≡ false
+    → AreNew (gathered_days g) (usable_days m)
+month-new g m before right is fresh d some =
+    let apart : IsDistinct same_time (before ++ m ∷ []) = distinct-more m before is.distinct (sym (seen-is g m before right is) ∙ fresh) in
+    let distinct : IsDistinct int_eq (keys_of (flat_map usable_days before ++ usable_days m)) =
+    subst (λ (xs : List DayValue). IsDistinct int_eq (keys_of xs)) (days-more before m) (distinct_days (before ++ m ∷ []) apart) in
+    is.values d ∙ new-behind (flat_map usable_days before) (usable_days m) distinct d some
+
 -- one month more is gathered
 pub gathering-more : (old new : Gathering) (m : Month) (before : List Month) → IsMonth m → IsGathering old before
     → has_month old.seen (number_of m) ≡ false
     → Adds old.seen new.seen (number_of m)
-    → new.days.items ≡ old.days.items ++ usable_days m
+    → AreParts new.parts → AreJoined (gathered_days old) (usable_days m) (gathered_days new)
     → IsGathering new (before ++ m ∷ [])
-gathering-more old new m before right is fresh adds days = record {
+gathering-more old new m before right is fresh adds parts joined = record {
   right = all_more m before is.right right;
   seen = λ t.
       adds t
       ∙ ap (λ (b : Bool). b || (number_of m == t)) (is.seen t)
       ∙ or_last (list_any (has_number t) before) (number_of m == t) (t == number_of m) (eqb-turned (number_of m) t)
       ∙ sym (list_any-append (has_number t) before (m ∷ []));
-  days =
-      days
-      ∙ ap (λ (xs : List DayValue). xs ++ usable_days m) is.days
-      ∙ ap (λ (xs : List DayValue). flat_map usable_days before ++ xs) (sym (append-nil (usable_days m)))
-      ∙ sym (flat_map-append usable_days before (m ∷ []));
+  parts = parts;
+  values = λ d.
+      joined d
+      ∙ ap (λ (o : Option ℤ). option_or o (value_on (usable_days m) d)) (is.values d)
+      ∙ sym (value_on-append (flat_map usable_days before) (usable_days m) d)
+      ∙ ap (λ (xs : List DayValue). value_on xs d) (sym (days-more before m));
   distinct = distinct-more m before is.distinct (sym (seen-is old m before right is) ∙ fresh);
 }

@@ -116,14 +116,15 @@ pub elements_differ : IsDistinct same_element elements
 unfolding IsDistinct
 elements_differ = ((refl, (refl, (refl, (refl, tt)))), ((refl, (refl, (refl, tt))), ((refl, (refl, tt)), ((refl, tt), (tt, tt)))))
 
-element_at : (e : Element) → slice_get elements (element_index e) ≡ Some e
+pub element_at : (e : Element) → slice_get elements (element_index e) ≡ Some e
 element_at Prcp = refl
 element_at Snow = refl
 element_at Snwd = refl
 element_at Tmax = refl
 element_at Tmin = refl
 
-found_at : (gs : List Gathering) (es : List Element) (months : List Month) (id : StationId) (k : ℕ) (e : Element) (g : Gathering) → AllZip (IsGatheringOf months id) gs es → slice_get es k ≡ Some e → g ≡ get_or gs k g → IsGathering g (months_of months id e)
+-- the gathering of an element has its months
+pub found_at : (gs : List Gathering) (es : List Element) (months : List Month) (id : StationId) (k : ℕ) (e : Element) (g : Gathering) → AllZip (IsGatheringOf months id) gs es → slice_get es k ≡ Some e → g ≡ get_or gs k g → IsGathering g (months_of months id e)
 found_at [] [] months id k e g is at here = absurd cc
 found_at [] (d ∷ ds) months id k e g is at here = absurd is
 found_at (x ∷ xs) [] months id k e g is at here = absurd is

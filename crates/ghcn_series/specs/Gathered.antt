@@ -1,7 +1,8 @@
 -- What has been gathered after some lines, of one station and element and of all of them.
-use Rattle.std.specs.Prelude.{◌≡◌, ℕ, ◌+◌, ◌*◌, ◌==◌, Bool, false, not, ◌&&◌, ◌||◌, if◌then◌else◌, List, [], ◌∷◌, length, Option, None, Some, filter, pos, int_le, ⊤}
+use Rattle.std.specs.Prelude.{◌≡◌, ℕ, ◌<◌, ◌^◌, ◌+◌, ◌*◌, ◌==◌, Bool, false, not, ◌&&◌, ◌||◌, if◌then◌else◌, List, [], ◌∷◌, length, get_or, Option, None, Some, filter, ℤ, pos, int_le, ⊤}
+use Rattle.std.specs.Int.{bit_at}
 use Rattle.std.specs.List.{list_any, filter_map, flat_map, enumerate_from, count_by, IsDistinct, AllZip, AllByRecursion}
-use Rattle.std.specs.Option.{option_and_then}
+use Rattle.std.specs.Option.{option_and_then, option_map}
 use Rattle.ghcn_fields.specs.Sorting.{sorted_by}
 use Rattle.ghcn_fields.specs.Faults.{HaveNoFault}
 use Rattle.ghcn_files.specs.declared.station.StationId.{StationId}
@@ -18,7 +19,9 @@ use Rattle.ghcn_series.specs.declared.station.StationGathering.{StationGathering
 use Rattle.ghcn_series.specs.declared.reader.Reader.{Reader}
 use Rattle.ghcn_series.specs.declared.fault.DataFault.{DataFault}
 use Rattle.ghcn_series.specs.declared.fault.DataFault.TheVariants.{TooManyFiles, DailyLine, Memory}
-use Rattle.ghcn_series.specs.Series.{DayValue, Usable}
+use Rattle.ghcn_series.specs.Series.{DayValue, Usable, value_on, by_day}
+use Rattle.ghcn_series.specs.Packed.{value_at}
+use Rattle.ghcn_series.specs.Parts.{AreParts, days_held}
 use Rattle.ghcn_series.specs.SeenMonths.{has_month}
 use Rattle.ghcn_series.specs.DailyFaults.{FileLine, month_on, is_listed, daily_fault, HasFirst}
 use Rattle.ghcn_series.specs.Says.{Fact, fact_of, in_64_bits}
@@ -35,6 +38,20 @@ usable_day m x = option_and_then counted (fact_of m x)
 abbrev pub usable_days : Month → List DayValue
 usable_days m = filter_map (usable_day m) (enumerate_from 1 m.days)
 
+-- a reading of nothing
+abbrev pub no_reading : Reading
+no_reading = record { value = None; flagged = false }
+
+-- the value of a month's day at a place, if it is usable
+abbrev pub usable_value : Month → ℕ → Option ℤ
+usable_value m j = option_map (λ x. x.1) (usable_day m (j + 1, get_or m.days j no_reading))
+
+-- a month's usable days as a word and values: bit j and value j are of its day j + 1, and the value of any other day is 0
+pub record IsMonthRow (m : Month) (word : ℕ) (values : List ℤ) : Type 0 where
+  pub fits : word < 2 ^ 32
+  pub holds : (j : ℕ) → j < 32 → value_at word values j ≡ usable_value m j
+  pub zeros : (j : ℕ) → j < 32 → bit_at word j ≡ 0 → get_or values j (pos 0) ≡ pos 0
+
 -- two months have the same year and month of the year
 abbrev pub same_time : Month → Month → Bool
 same_time a b = (a.year == b.year) && (a.month == b.month)
@@ -47,11 +64,16 @@ number_of m = 12 * m.year + m.month
 abbrev pub has_number : ℕ → Month → Bool
 has_number t m = t == number_of m
 
--- the gathering has these months, each right by itself: no two of one time, and the days of all of them
+-- the days that a gathering has
+abbrev pub gathered_days : Gathering → List DayValue
+gathered_days g = days_held g.parts
+
+-- the gathering has these months, each right by itself: no two of one time, and the values of all their usable days
 pub record IsGathering (g : Gathering) (months : List Month) : Type 0 where
   pub right : AllByRecursion IsMonth months
   pub seen : (t : ℕ) → has_month g.seen t ≡ list_any (has_number t) months
-  pub days : g.days.items ≡ flat_map usable_days months
+  pub parts : AreParts g.parts
+  pub values : (d : ℤ) → value_on (gathered_days g) d ≡ value_on (flat_map usable_days months) d
   pub distinct : IsDistinct same_time months
 
 -- the months of a station and element
@@ -82,8 +104,8 @@ pub record IsReady (g : Gathering) : Type 0 where
 -- the series of a station's gathering, where it has a usable day
 abbrev pub gathered_series : StationId → Gathering → Option Usable
 gathered_series id g =
-    if length g.days.items == 0 then None
-    else Some (record { id = id; element = g.element; days = sorted_by (λ a b. int_le a.0 b.0) g.days.items })
+    if length (gathered_days g) == 0 then None
+    else Some (record { id = id; element = g.element; days = sorted_by by_day (gathered_days g) })
 
 -- the series of a station, by element
 abbrev pub station_series : StationGathering → List Usable

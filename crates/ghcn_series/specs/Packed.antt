@@ -22,13 +22,21 @@ if_so t x = if t then Some x else None
 abbrev pub value_at : ℕ → List ℤ → ℕ → Option ℤ
 value_at word values j = if_so (bit_at word j == 1) (get_or values j (pos 0))
 
+-- the day so many places behind a first one with its value, if it is present
+abbrev pub day_from : ℤ → ℕ → List ℤ → ℕ → Option DayValue
+day_from first word values j = if_so (bit_at word j == 1) (first +ℤ pos j, get_or values j (pos 0))
+
+-- of 32 days from a first one on, those that are present
+unfoldable pub days_from : ℤ → ℕ → List ℤ → List DayValue
+days_from first word values = filter_map (day_from first word values) (range_with_len 0 32)
+
 -- the day at a place of a block with its value, if it is present
 abbrev pub day_at : Block → ℕ → Option DayValue
-day_at b j = if_so (bit_at b.1.0 j == 1) (block_start b.0 +ℤ pos j, get_or b.1.1 j (pos 0))
+day_at b j = day_from (block_start b.0) b.1.0 b.1.1 j
 
 -- the days of a block that are present
-unfoldable pub block_days : Block → List DayValue
-block_days b = filter_map (day_at b) (range_with_len 0 32)
+abbrev pub block_days : Block → List DayValue
+block_days b = days_from (block_start b.0) b.1.0 b.1.1
 
 -- the days of some blocks that are present
 abbrev pub days_of : List Block → List DayValue

@@ -1,9 +1,11 @@
 -- Parts of blocks as they were added: a block may stand in several parts, and the numbers needn't rise.
-use Rattle.std.specs.Prelude.{◌≡◌, ℕ, ◌<◌, ◌-◌, ◌==◌, if◌then◌else◌, ◌<ℤ◌, ◌≤ℤ◌, length, true, List, get_or, IsSome, None, ℤ, pos}
+use Rattle.std.specs.Prelude.{◌≡◌, ℕ, ◌<◌, ◌≤◌, ◌+◌, ◌-◌, ◌^◌, ◌==◌, if◌then◌else◌, ◌+ℤ◌, ◌<ℤ◌, ◌≤ℤ◌, length, true, ⊤, List, [], ◌∷◌, get_or, IsSome, None, ℤ, pos}
+use Rattle.std.specs.Int.{bit_at}
 use Rattle.std.specs.List.{AllByRecursion}
 use Rattle.std.specs.Option.{option_or}
 use Rattle.ghcn_series.specs.Series.{DayValue, value_on}
-use Rattle.ghcn_series.specs.Packed.{Block, block_days, days_of, blocks_of, Rise, AreBlocks}
+use Rattle.ghcn_fields.specs.Days.{is_day}
+use Rattle.ghcn_series.specs.Packed.{Block, block_start, days_from, block_days, days_of, blocks_of, Rise, AreBlocks}
 use Rattle.ghcn_series.specs.declared.parts.Parts.{Parts}
 
 -- the days of some parts
@@ -14,14 +16,20 @@ days_held p = days_of (blocks_of p.numbers.items p.words.items p.values.items)
 abbrev pub last_number : Parts → ℤ
 last_number p = get_or p.numbers.items (length p.numbers.items - 1) (pos 0)
 
--- the parts are as they may be, and where they are told to be in order, their numbers rise
-pub record AreParts (p : Parts) : Type 0 where
-  pub blocks : AreBlocks p.numbers.items p.words.items p.values.items
-  pub rise : p.in_order ≡ true → Rise p.numbers.items
-
 -- no day of some is among others
 abbrev pub AreNew : List DayValue → List DayValue → Type 0
 AreNew old more = (d : ℤ) → IsSome (value_on more d) → value_on old d ≡ None
+
+-- no two of some parts have a day in common
+abbrev pub AreDisjoint : List Block → Type 0
+AreDisjoint [] = ⊤
+AreDisjoint (b ∷ bs) = AreNew (block_days b) (days_of bs) × AreDisjoint bs
+
+-- the parts are as they may be and have no day twice, and where they are told to be in order, their numbers rise
+pub record AreParts (p : Parts) : Type 0 where
+  pub blocks : AreBlocks p.numbers.items p.words.items p.values.items
+  pub apart : AreDisjoint (blocks_of p.numbers.items p.words.items p.values.items)
+  pub rise : p.in_order ≡ true → Rise p.numbers.items
 
 -- some days and others together: each has the value that it has there
 abbrev pub AreJoined : List DayValue → List DayValue → List DayValue → Type 0
@@ -35,6 +43,14 @@ pub record JoinsAt (a b new : List ℤ) (j : ℕ) : Type 0 where
 -- two rows of values of which at each place one is 0 are joined
 abbrev pub JoinsValues : List ℤ → List ℤ → List ℤ → Type 0
 JoinsValues a b new = (j : ℕ) → j < 32 → JoinsAt a b new j
+
+-- the parts have none of these days
+abbrev pub HaveNone : Parts → List DayValue → Type 0
+HaveNone p days = AreNew (days_held p) days
+
+-- days are joined to those of the parts
+abbrev pub JoinDays : Parts → List DayValue → Parts → Type 0
+JoinDays old days new = AreJoined (days_held old) days (days_held new)
 
 -- a part is of days that the parts don't have
 abbrev pub IsNewPart : Parts → Block → Type 0
@@ -60,3 +76,37 @@ AreBefore day days = AllByRecursion (λ x. x.0 <ℤ day) days
 -- a row that has a value at a place, and else 0
 abbrev pub IsRowOf : List ℤ → ℕ → ℤ → Type 0
 IsRowOf row place v = (j : ℕ) → j < 32 → get_or row j (pos 0) ≡ (if j == place then v else pos 0)
+
+-- the day at a place of a block
+abbrev pub day_of : ℤ → ℕ → ℤ
+day_of number place = block_start number +ℤ pos place
+
+-- the days of a row that begins at a place of a block
+abbrev pub row_days : ℤ → ℕ → ℕ → List ℤ → List DayValue
+row_days number place word values = days_from (day_of number place) word values
+
+-- a row of 32 days from a first one on: those that are present are of the calendar, and the values of all others are 0
+pub record IsRow (first : ℤ) (word : ℕ) (values : List ℤ) : Type 0 where
+  pub fits : word < 2 ^ 32
+  pub zeros : (j : ℕ) → j < 32 → bit_at word j ≡ 0 → get_or values j (pos 0) ≡ pos 0
+  pub days : (j : ℕ) → j < 32 → bit_at word j ≡ 1 → is_day (first +ℤ pos j) ≡ true
+
+-- the value so many places behind the begin of the block where a row begins: 0 before the row and behind it
+pub record IsValueFrom (values : List ℤ) (place at : ℕ) (v : ℤ) : Type 0 where
+  pub before : at < place → v ≡ pos 0
+  pub behind : place + 32 ≤ at → v ≡ pos 0
+  pub within : (k : ℕ) → k < 32 → k + place ≡ at → v ≡ get_or values k (pos 0)
+
+-- the values that a row has in the block so many places behind the one where it begins
+abbrev pub IsPartOf : List ℤ → ℕ → ℕ → List ℤ → Type 0
+IsPartOf values place offset part = (j : ℕ) → j < 32 → IsValueFrom values place (j + offset) (get_or part j (pos 0))
+
+-- the same of a bit of its word
+pub record HasBitFrom (word place at bit : ℕ) : Type 0 where
+  pub before : at < place → bit ≡ 0
+  pub behind : place + 32 ≤ at → bit ≡ 0
+  pub within : (k : ℕ) → k < 32 → k + place ≡ at → bit ≡ bit_at word k
+
+-- and of all bits of the block
+abbrev pub HasBitsOf : ℕ → ℕ → ℕ → ℕ → Type 0
+HasBitsOf word place offset part = (j : ℕ) → j < 32 → HasBitFrom word place (j + offset) (bit_at part j)

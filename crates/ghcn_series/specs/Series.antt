@@ -30,6 +30,10 @@ pub record Contents : Type 0 where
 abbrev pub value_on : List DayValue → ℤ → Option ℤ
 value_on days day = option_map (λ x. x.1) (find (λ x. int_eq x.0 day) days)
 
+-- the first comes no later than the second
+abbrev pub by_day : DayValue → DayValue → Bool
+by_day a b = int_le a.0 b.0
+
 -- each day is later than the one before it
 abbrev pub is_by_day : List DayValue → Bool
 is_by_day [] = true

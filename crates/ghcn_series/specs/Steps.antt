@@ -1,32 +1,35 @@
 -- What each step of the reading adds to what was read before it.
-use Rattle.std.specs.Prelude.{◌≡◌, ◌++◌, ◌∷◌, [], ◌&&◌, not, Bool, List, int_le}
+use Rattle.std.specs.Prelude.{◌≡◌, ◌++◌, ◌∷◌, [], ◌&&◌, not, Bool, List}
 use Rattle.std.specs.Bool.{OnTrue}
 use Rattle.std.specs.List.{list_any, AllZip}
-use Rattle.ghcn_fields.specs.Sorting.{sorted_by}
 use Rattle.ghcn_files.specs.declared.month.Month.{Month}
 use Rattle.ghcn_files.specs.Elements.{elements}
 use Rattle.ghcn_series.specs.declared.gathering.Gathering.{Gathering}
 use Rattle.ghcn_series.specs.declared.station.StationGathering.{StationGathering}
 use Rattle.ghcn_series.specs.declared.reader.Reader.{Reader}
 use Rattle.ghcn_series.specs.declared.fault.DataFault.{DataFault}
-use Rattle.ghcn_series.specs.Series.{DayValue, Contents}
+use Rattle.ghcn_series.specs.Series.{Contents}
 use Rattle.ghcn_series.specs.DailyFaults.{FileLine, same_month, is_listed}
 use Rattle.ghcn_series.specs.Says.{contents}
 use Rattle.ghcn_series.specs.Gathered.{same_time, IsGathering, IsGatheringOf, AreByElement, HasRead, HasReadLines, IsLineRefusal}
+
+-- what a gathering has: some months
+abbrev pub GathersSome : Gathering → Type 0
+GathersSome g = (months : List Month) × IsGathering g months
 
 -- a gathering adds a month, unless it has one of its time
 pub record Gathers (old new : Gathering) (m : Month) (added : Bool) : Type 0 where
   pub is_new : (before : List Month) → IsGathering old before → added ≡ not (list_any (same_time m) before)
   pub holds : (before : List Month) → IsGathering old before → OnTrue added (IsGathering new (before ++ m ∷ []))
 
--- days are those of a gathering in their order
-pub record PutsInOrder (g : Gathering) (days : List DayValue) : Type 0 where
-  pub is : (months : List Month) → IsGathering g months → days ≡ sorted_by (λ a b. int_le a.0 b.0) g.days.items
-
 -- a station has its five gatherings, with what it had before
 pub record Opens (old new : StationGathering) : Type 0 where
   pub holds : (before : List Month) → AreByElement before old.id old.by_element.items
       → AllZip (IsGatheringOf before old.id) new.by_element.items elements
+
+-- what a station has: some months
+abbrev pub StationGathersSome : StationGathering → Type 0
+StationGathersSome s = (months : List Month) × AreByElement months s.id s.by_element.items
 
 -- a station adds a month, unless it has that month
 pub record GathersAt (old new : StationGathering) (m : Month) (added : Bool) : Type 0 where

@@ -1,31 +1,30 @@
 //! What the lines of one station and element say, gathered while the files are read.
 
-ghost use Rattle.std.specs.Prelude.{◌≡◌, ◌+◌, ◌<◌, ◌==◌, ◌++◌, ◌∷◌, [], List, length, Some, not, ◌||◌, int_le};
-ghost use Rattle.std.specs.Prelude.{pos, IfOk, OnOk};
-ghost use Rattle.std.specs.Bool.{OnTrue};
-ghost use Rattle.std.specs.List.{list_any};
+ghost use Rattle.std.specs.Prelude.{◌≡◌, ◌+◌, ◌<◌, ◌==◌, ◌||◌, [], length, Some, int_le, pos, IfOk, OnOk};
+ghost use Rattle.std.specs.Option.{option_map};
 ghost use Rattle.jiff_core.specs.Calendar as calendar;
-ghost use Rattle.ghcn_fields.specs.Days.{day_number};
 ghost use Rattle.ghcn_fields.specs.Sorting.{sorted_by};
 ghost use Rattle.ghcn_files.specs.Elements as elements;
 ghost use Rattle.ghcn_files.specs.declared.month.Month as months;
 ghost use Rattle.ghcn_files.specs.Months.{IsMonth};
+ghost use Rattle.ghcn_series.specs.Series.{by_day};
 ghost use Rattle.ghcn_series.specs.Gathered as gathered;
-ghost use Rattle.ghcn_series.specs.Steps.{Gathers, PutsInOrder};
+ghost use Rattle.ghcn_series.specs.Parts as parts;
+ghost use Rattle.ghcn_series.specs.Steps.{Gathers, GathersSome};
 
 use crate::columns::Columns;
 use crate::months::Months;
-use crate::parts::packed;
+use crate::parts::{Parts, bit_of, place_of};
 use ghcn_fields::{Day, Memory, days_in_month};
 use ghcn_files::{Element, Month, Reading};
 use std::alloc::Global;
 
-/// The months of one station and element that were read, and their usable days in that order.
+/// The months of one station and element that were read, and their usable days.
 #[derive(Drop)]
 pub(crate) struct Gathering {
     element: Element,
     seen: Months,
-    days: Vec<(Day, i32)>,
+    parts: Parts,
 }
 
 impl Gathering {
@@ -37,20 +36,21 @@ impl Gathering {
         Gathering {
             element,
             seen: Months::new(alloc),
-            days: Vec::new(alloc),
+            parts: Parts::new(alloc),
         }
     }
 
     /// Adds a month, or answers false where one of its time was added before.
     pub(crate) fn add(&mut self, alloc: Global, month: &Month) -> Result<bool, Memory>
-        requires { IsMonth month.now }
+        requires right { IsMonth month.now }
+        requires gathered { GathersSome self.old }
         ensures element { self.new.element ≡ self.old.element }
         ensures added { IfOk result (Gathers self.old self.new month.now) }
     {
         if !self.seen.add(alloc, number_of(month))? {
             return Ok(false);
         }
-        add_days(&mut self.days, month)?;
+        add_days(&mut self.parts, month)?;
         Ok(true)
     }
 
@@ -63,16 +63,18 @@ impl Gathering {
 
     /// Whether no usable day was added.
     pub(crate) fn is_empty(&self) -> bool
-        ensures { result ≡ (length self.now.days.items == 0) }
+        requires { GathersSome self.now }
+        ensures { result ≡ (length (gathered.gathered_days self.now) == 0) }
     {
-        self.days.is_empty()
+        self.parts.is_empty()
     }
 
     /// The usable days that were added, by increasing day.
     pub(crate) fn into_columns(self, alloc: Global) -> Result<Columns, Memory>
-        ensures { IfOk result (PutsInOrder self) }
+        requires { GathersSome self }
+        ensures { IfOk result (λ columns. columns ≡ sorted_by by_day (gathered.gathered_days self)) }
     {
-        packed(alloc, self.days.into_iter().collect(alloc)?)
+        self.parts.put_in_order(alloc)
     }
 }
 
@@ -84,35 +86,46 @@ fn number_of(month: &Month) -> u32
     12 * month.year as u32 + month.month as u32
 }
 
-/// Adds the usable days of a month.
-fn add_days(days: &mut Vec<(Day, i32)>, month: &Month) -> Result<(), Memory>
-    requires { IsMonth month.now }
-    ensures { OnOk result (days.new.items ≡ days.old.items ++ gathered.usable_days month.now) }
+/// Adds the usable days of a month, none of which was added before.
+fn add_days(held: &mut Parts, month: &Month) -> Result<(), Memory>
+    requires right { IsMonth month.now }
+    requires parts { parts.AreParts held.old }
+    requires fresh { parts.HaveNone held.old (gathered.usable_days month.now) }
+    ensures parts { OnOk result (parts.AreParts held.new) }
+    ensures joined { OnOk result (parts.JoinDays held.old (gathered.usable_days month.now) held.new) }
 {
     let Some(first) = Day::of(month.year, month.month, 1) else {
         unreachable!()
     };
-    let length = days_in_month(month.year, month.month) as usize;
-    for (index, reading) in month.days.iter().enumerate() {
-        if let Some(day) = usable_day(month, first, length, index, *reading) {
-            days.push(day)?;
-        }
-    }
-    Ok(())
+    let (number, place) = place_of(first);
+    let (word, values) = row_of(month);
+    held.add_row(number, place, word, &values)
 }
 
-/// The day of a month at a place, from 0, with what was read there, if that is usable.
-fn usable_day(
-    month: &Month,
-    first: Day,
-    length: usize,
-    index: usize,
-    reading: Reading,
-) -> Option<(Day, i32)>
-    requires first { day_number month.now.year month.now.month 1 ≡ Some first }
+/// The usable days of a month: bit j of the word is set where day j + 1 is usable, and value j is
+/// then the day's value, and else 0.
+fn row_of(month: &Month) -> (u32, [i32; 32])
+    requires { IsMonth month.now }
+    ensures { gathered.IsMonthRow month.now result.0 result.1 }
+{
+    let length = days_in_month(month.year, month.month) as usize;
+    let mut word = 0;
+    let mut values = [0; 32];
+    for (index, reading) in month.days.iter().enumerate() {
+        if let Some(value) = usable_value(month, length, index, *reading) {
+            word |= bit_of(index as u32);
+            values[index] = value;
+        }
+    }
+    (word, values)
+}
+
+/// What was read of a month's day at a place, from 0, if that is usable.
+fn usable_value(month: &Month, length: usize, index: usize, reading: Reading) -> Option<i32>
+    requires right { IsMonth month.now }
     requires length { length ≡ calendar.days_in_month (pos month.now.year) month.now.month }
     requires index { index < 31 }
-    ensures { result ≡ gathered.usable_day month.now (index + 1, reading) }
+    ensures { result ≡ option_map (λ x. x.1) (gathered.usable_day month.now (index + 1, reading)) }
 {
     if index >= length || reading.flagged {
         return None;
@@ -121,8 +134,7 @@ fn usable_day(
     if !is_possible(month.element, value) {
         return None;
     }
-    let day = first.after(index as u32)?;
-    Some((day, value))
+    Some(value)
 }
 
 /// Whether an element can have a value: only temperatures are negative.

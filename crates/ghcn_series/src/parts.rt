@@ -4,10 +4,13 @@ ghost use Rattle.std.specs.Prelude.{◌≡◌, ◌<◌, ◌-◌, ◌^◌, ◌==�
 ghost use Rattle.std.specs.Prelude.{nat_lt, int_lt, length, slice_index_or};
 ghost use Rattle.std.specs.Ordering.{int_eq};
 ghost use Rattle.ghcn_fields.specs.Days.{IsBlock, is_day};
+ghost use Rattle.ghcn_fields.specs.Sorting.{sorted_by};
+ghost use Rattle.ghcn_series.specs.Series.{by_day};
 ghost use Rattle.ghcn_series.specs.Packed as packed;
 ghost use Rattle.ghcn_series.specs.Parts as parts;
 
 use crate::columns::Columns;
+use crate::days::Days;
 use ghcn_fields::{Day, Memory};
 use std::alloc::Global;
 use std::collections::BTreeMap;
@@ -23,7 +26,7 @@ pub(crate) struct Parts {
 }
 
 /// The days of a map as columns.
-pub(crate) fn packed(alloc: Global, days: BTreeMap<Day, i32>) -> Result<Columns, Memory>
+fn packed(alloc: Global, days: BTreeMap<Day, i32>) -> Result<Columns, Memory>
     requires { packed.AreRising days.entries }
     ensures { IfOk result (λ columns. columns ≡ days.entries) }
 {
@@ -49,12 +52,7 @@ impl Parts {
     }
 
     /// Adds days of a block, none of which was added before.
-    pub(crate) fn add_part(
-        &mut self,
-        number: i32,
-        word: u32,
-        values: &[i32; 32],
-    ) -> Result<(), Memory>
+    fn add_part(&mut self, number: i32, word: u32, values: &[i32; 32]) -> Result<(), Memory>
         requires parts { parts.AreParts self.old }
         requires packed { 0 < word → packed.IsPacked (number, (word, values.now)) }
         requires fresh { parts.IsNewPart self.old (number, (word, values.now)) }
@@ -77,8 +75,32 @@ impl Parts {
         Ok(())
     }
 
+    /// Adds the days of a row that begins at a place of a block, none of which was added before.
+    pub(crate) fn add_row(
+        &mut self,
+        number: i32,
+        place: u32,
+        word: u32,
+        values: &[i32; 32],
+    ) -> Result<(), Memory>
+        requires parts { parts.AreParts self.old }
+        requires number { IsBlock number }
+        requires place { place < 32 }
+        requires row { parts.IsRow (parts.day_of number place) word values.now }
+        requires fresh { parts.HaveNone self.old (parts.row_days number place word values.now) }
+        ensures parts { OnOk result (parts.AreParts self.new) }
+        ensures joined { OnOk result
+            (parts.JoinDays self.old (parts.row_days number place word values.now) self.new) }
+    {
+        let low = low_bits(word, place);
+        let high = high_bits(word, place);
+        let (first, second) = in_two_blocks(values, place);
+        self.add_part(number, low, &first)?;
+        self.add_part(number + 1, high, &second)
+    }
+
     /// Adds a day that is later than all that were added.
-    pub(crate) fn add_day(&mut self, day: Day, value: i32) -> Result<(), Memory>
+    fn add_day(&mut self, day: Day, value: i32) -> Result<(), Memory>
         requires order { parts.AreOrdered self.old }
         requires later { parts.AreBefore day (parts.days_held self.old) }
         ensures order { OnOk result (parts.AreOrdered self.new) }
@@ -89,8 +111,28 @@ impl Parts {
         self.add_part(at.0, bit_of(at.1), &row)
     }
 
+    /// Whether there are none.
+    pub(crate) fn is_empty(&self) -> bool
+        requires { parts.AreParts self.now }
+        ensures { result ≡ (length (parts.days_held self.now) == 0) }
+    {
+        self.numbers.is_empty()
+    }
+
+    /// The same days as columns, put in order where they aren't.
+    pub(crate) fn put_in_order(self, alloc: Global) -> Result<Columns, Memory>
+        requires { parts.AreParts self }
+        ensures { IfOk result (λ columns. columns ≡ sorted_by by_day (parts.days_held self)) }
+    {
+        if self.in_order {
+            return Ok(self.into_columns());
+        }
+        let days = Days::of(&self.numbers, &self.words, &self.values);
+        packed(alloc, days.collect(alloc)?)
+    }
+
     /// The same days as columns.
-    pub(crate) fn into_columns(self) -> Columns
+    fn into_columns(self) -> Columns
         requires { parts.AreOrdered self }
         ensures { result ≡ parts.days_held self }
     {
@@ -146,8 +188,39 @@ fn joined(values: &[i32; 32], more: &[i32; 32]) -> [i32; 32]
     both
 }
 
+/// The values of a row that begins at a place of a block, in that block and in the next one.
+fn in_two_blocks(values: &[i32; 32], place: u32) -> ([i32; 32], [i32; 32])
+    requires { place < 32 }
+    ensures first { parts.IsPartOf values.now place 0 result.0 }
+    ensures second { parts.IsPartOf values.now place 32 result.1 }
+{
+    let place = place as usize;
+    let (here, beyond) = values.split_at(32 - place);
+    let mut first = [0; 32];
+    let mut second = [0; 32];
+    first[place..].copy_from_slice(here);
+    second[..place].copy_from_slice(beyond);
+    (first, second)
+}
+
+/// The bits of a row in the block where it begins.
+fn low_bits(word: u32, place: u32) -> u32
+    requires { place < 32 }
+    ensures { parts.HasBitsOf word place 0 result }
+{
+    word << place
+}
+
+/// The bits of a row in the next block.
+fn high_bits(word: u32, place: u32) -> u32
+    requires { place < 32 }
+    ensures { parts.HasBitsOf word place 32 result }
+{
+    word >> 1 >> (31 - place)
+}
+
 /// The block of a day, and the day's place there.
-fn place_of(day: Day) -> (i32, u32)
+pub(crate) fn place_of(day: Day) -> (i32, u32)
     ensures block { IsBlock result.0 }
     ensures place { result.1 < 32 }
     ensures day { packed.block_start result.0 +ℤ pos result.1 ≡ day }
@@ -157,7 +230,7 @@ fn place_of(day: Day) -> (i32, u32)
 }
 
 /// The word whose one bit is at a place.
-fn bit_of(place: u32) -> u32
+pub(crate) fn bit_of(place: u32) -> u32
     requires { place < 32 }
     ensures { result ≡ 2 ^ place }
 {

@@ -7,7 +7,7 @@ ghost use Rattle.ghcn_files.specs.Elements.{elements, element_index};
 ghost use Rattle.ghcn_files.specs.declared.month.Month as months;
 ghost use Rattle.ghcn_files.specs.Months.{IsMonth};
 ghost use Rattle.ghcn_series.specs.Gathered as gathered;
-ghost use Rattle.ghcn_series.specs.Steps.{Gathers, GathersAt, Opens};
+ghost use Rattle.ghcn_series.specs.Steps.{Gathers, GathersAt, StationGathersSome, Opens};
 
 use crate::Series;
 use crate::gathering::Gathering;
@@ -48,6 +48,7 @@ impl StationGathering {
     pub(crate) fn add(&mut self, alloc: Global, month: &Month) -> Result<bool, Memory>
         requires own { month.now.id ≡ self.old.id }
         requires right { IsMonth month.now }
+        requires gathered { StationGathersSome self.old }
         ensures id { self.new.id ≡ self.old.id }
         ensures added { IfOk result (GathersAt self.old self.new month.now) }
     {

@@ -237,6 +237,83 @@ fn months_backwards_and_shuffled(rt: HostRuntime) -> Result<(), Fail> {
     Ok(())
 }
 
+/// The first days of the months of 2019, each with the month as its value.
+const FIRSTS: [(i32, i32); 12] = [
+    (17_897, 1),
+    (17_928, 2),
+    (17_956, 3),
+    (17_987, 4),
+    (18_017, 5),
+    (18_048, 6),
+    (18_078, 7),
+    (18_109, 8),
+    (18_140, 9),
+    (18_170, 10),
+    (18_201, 11),
+    (18_231, 12),
+];
+
+/// A line for each of these months.
+fn year_of(station: u8) -> [[u8; 269]; 12] {
+    let months: [(&[u8; 2], &[u8; 8]); 12] = [
+        (b"01", b"    1   "),
+        (b"02", b"    2   "),
+        (b"03", b"    3   "),
+        (b"04", b"    4   "),
+        (b"05", b"    5   "),
+        (b"06", b"    6   "),
+        (b"07", b"    7   "),
+        (b"08", b"    8   "),
+        (b"09", b"    9   "),
+        (b"10", b"   10   "),
+        (b"11", b"   11   "),
+        (b"12", b"   12   "),
+    ];
+    let mut head = *b"ZZA00000000201900TMAX";
+    head[10] = station;
+    let mut lines = [[b' '; 269]; 12];
+    for (line, (month, value)) in lines.iter_mut().zip(months) {
+        head[15..17].copy_from_slice(month);
+        *line = line_of(&head, &[(1, value)]);
+    }
+    lines
+}
+
+#[test]
+fn a_year_in_any_order(rt: HostRuntime) -> Result<(), Fail> {
+    let orders: [[usize; 12]; 3] = [
+        [0, 1, 2, 3, 4, 5, 6, 7, 8, 9, 10, 11],
+        [11, 10, 9, 8, 7, 6, 5, 4, 3, 2, 1, 0],
+        [5, 0, 10, 3, 8, 1, 6, 11, 4, 9, 2, 7],
+    ];
+    let one = year_of(b'1');
+    let two = year_of(b'2');
+    for order in orders {
+        let mut files: Vec<&[u8]> = Vec::new(rt.alloc());
+        for place in order {
+            files.push(one.get(place).ok_or("no line")?)?;
+            files.push(two.get(place).ok_or("no line")?)?;
+        }
+        let data = read(rt.alloc(), &files)?;
+        for id in [A, B] {
+            let series = data.series(&id, Element::Tmax).ok_or("no series")?;
+            let mut at = 0;
+            for (day, value) in series.days() {
+                assert_eq!(rt; Some(&(day.number(), value)), FIRSTS.get(at), "at {at}");
+                at = at.saturating_add(1);
+            }
+            assert_eq!(rt; at, FIRSTS.len());
+        }
+        for again in &one {
+            files.push(again)?;
+            let found = read(rt.alloc(), &files).map(|data| data.unlisted());
+            assert_eq!(rt; found, refused(25, 1, DailyWhy::DuplicateMonth));
+            files.pop();
+        }
+    }
+    Ok(())
+}
+
 #[test]
 fn days_that_the_month_lacks(rt: HostRuntime) -> Result<(), Fail> {
     let cases: [(&[u8; 21], u8); 4] = [

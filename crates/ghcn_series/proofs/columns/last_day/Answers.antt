@@ -1,4 +1,4 @@
-use Rattle.std.proofs.Common.{◌≡◌, ◌∙◌, ◌<◌, Bool, true, cond, Some, None, ℤ, ℕ, pos, ◌+ℤ◌, ap, sym, subst, w32, to_z, of_z}
+use Rattle.std.proofs.Common.{◌≡◌, ◌∙◌, Bool, cond, Some, None, ℤ, ℕ, pos, ◌+ℤ◌, ap, sym, subst, w32, to_z, of_z}
 use Rattle.std.proofs.lemmas.Int.{to_z-of_z}
 use Rattle.ghcn_fields.specs.Days.{day_if, IsBlock}
 use Rattle.ghcn_series.specs.Packed.{block_start}

@@ -1,4 +1,4 @@
-use Rattle.std.proofs.Common.{List, subst}
+use Rattle.std.proofs.Common.{subst}
 use Rattle.ghcn_series.specs.Packed.{AreRising}
 use Rattle.ghcn_series.proofs.RisingDays.{columns-rise}
 use Rattle.ghcn_series.proofs.columns.Columns.days.Goals as goal

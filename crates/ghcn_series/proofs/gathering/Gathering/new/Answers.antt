@@ -1,5 +1,6 @@
-use Rattle.std.proofs.Common.{ap}
+use Rattle.std.proofs.Common.{List, ap}
 use Rattle.std.specs.List.{IsDistinct}
+use Rattle.ghcn_series.specs.Series.{DayValue, value_on}
 use Rattle.ghcn_series.specs.SeenMonths.{has_month}
 use Rattle.ghcn_series.proofs.gathering.Gathering.new.Goals as goal
 
@@ -9,6 +10,7 @@ unfolding IsDistinct
 returns-clause-empty c = record {
   right = tt;
   seen = λ t. ap (λ months. has_month months t) c.new.ensures;
-  days = c.new-2.ensures.items;
+  parts = c.new-2.ensures.order.parts;
+  values = λ d. ap (λ (days : List DayValue). value_on days d) c.new-2.ensures.empty;
   distinct = tt;
 }

@@ -2,7 +2,7 @@ use Rattle.std.proofs.Common.{rules, arith, ◌≡◌, ◌∙◌, ◌-◌, ◌<�
 use Rattle.std.proofs.lemmas.Int.{to_z-of_z}
 use Rattle.ghcn_fields.specs.Days.{block_of}
 use Rattle.ghcn_series.specs.Series.{DayValue}
-use Rattle.ghcn_series.specs.Packed.{Block, block_start, block_days, IsPacked}
+use Rattle.ghcn_series.specs.Packed.{block_start, block_days, IsPacked}
 use Rattle.ghcn_series.specs.Parts.{AreParts, AreOrdered, AreJoined, KeepsOrder, IsRowOf, days_held}
 use Rattle.ghcn_series.proofs.Lookups.{block-of_place}
 use Rattle.ghcn_series.proofs.AddedDays.{single-is, single-packed, single-new, numbers-before, day-added, ordered-rise, on_ok_both}

@@ -4,8 +4,9 @@ use Rattle.std.specs.Ordering.{int_eq}
 use Rattle.std.proofs.lemmas.Int.{to_z-of_z}
 use Rattle.ghcn_series.specs.Series.{DayValue}
 use Rattle.ghcn_series.specs.Packed.{AreBlocks, Rise, block_days, days_of, blocks_of}
-use Rattle.ghcn_series.specs.Parts.{AreJoined, days_held}
+use Rattle.ghcn_series.specs.Parts.{AreDisjoint, AreJoined, days_held}
 use Rattle.ghcn_series.proofs.PartsAdded.{add-none, push-blocks, push-days, push-rise, both_true}
+use Rattle.ghcn_series.proofs.ApartParts.{pushed-apart}
 use Rattle.ghcn_series.proofs.AddedDays.{rises-from}
 use Rattle.ghcn_series.proofs.ListFacts.{and_true}
 use Rattle.ghcn_series.proofs.parts.Parts.add_part.Goals as goal
@@ -32,6 +33,11 @@ returns-clause-parts c =
           subst (λ (l : List ℤ). AreBlocks l c.push-2.new.self.items c.push-3.new.self.items) numbers
           (subst (λ (l : List ℕ). AreBlocks (ns ++ n ∷ []) l c.push-3.new.self.items) words
           (subst (λ (l : List (List ℤ)). AreBlocks (ns ++ n ∷ []) (ws ++ w ∷ []) l) values pushed));
+      apart =
+          subst (λ (l : List ℤ). AreDisjoint (blocks_of l c.push-2.new.self.items c.push-3.new.self.items)) numbers
+          (subst (λ (l : List ℕ). AreDisjoint (blocks_of (ns ++ n ∷ []) l c.push-3.new.self.items)) words
+          (subst (λ (l : List (List ℤ)). AreDisjoint (blocks_of (ns ++ n ∷ []) (ws ++ w ∷ []) l)) values
+          (pushed-apart ns ws vs bs n w v c.requires.parts.apart c.requires.fresh)));
       rise = λ ordered.
           let both = both_true c.args.self.now.in_order c.is_after-rises.result ordered in
           let told : (length c.deref-2.result.now == 0 || int_lt (get_or c.deref-2.result.now (length c.deref-2.result.now - 1) (pos 0)) (to_z w32 (of_z w32 n))) ≡ true = sym c.is_after-rises.ensures ∙ both.1 in

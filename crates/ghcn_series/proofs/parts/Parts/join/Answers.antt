@@ -2,8 +2,9 @@ use Rattle.std.proofs.Common.{arith, ◌≡◌, ◌∙◌, ◌+◌, ◌-◌, Lis
 use Rattle.std.specs.Prelude.{bit_or}
 use Rattle.std.proofs.lemmas.List.{get_or_default}
 use Rattle.ghcn_series.specs.Packed.{IsPacked, AreBlocks, block_days, days_of, blocks_of}
-use Rattle.ghcn_series.specs.Parts.{JoinsValues, AreNew, AreJoined, days_held}
+use Rattle.ghcn_series.specs.Parts.{JoinsValues, AreNew, AreDisjoint, AreJoined, days_held}
 use Rattle.ghcn_series.proofs.PartsAdded.{join-days, join-blocks}
+use Rattle.ghcn_series.proofs.ApartParts.{join-apart}
 use Rattle.ghcn_series.proofs.parts.Parts.join.Goals as goal
 
 pub returns-clause-parts : goal.returns-clause-parts
@@ -26,7 +27,13 @@ returns-clause-parts c =
     let joins : JoinsValues (get_or vs i []) u r = subst (λ (x : List ℤ). JoinsValues x u r) row c.joined.ensures in
     let joined : AreBlocks ns (set ws i (bit_or (get_or ws i 0) p)) (set vs i r) =
     join-blocks ns ws vs bs i p u r last one fresh joins in
-    record { blocks = subst (λ (w : ℕ). AreBlocks ns (set ws i (bit_or w p)) (set vs i r)) word joined; rise = c.requires.parts.rise }
+    let apart : AreDisjoint (blocks_of ns (set ws i (bit_or (get_or ws i 0) p)) (set vs i r)) =
+    join-apart ns ws vs bs i p u r last one fresh joins c.requires.parts.apart in
+    record {
+      blocks = subst (λ (w : ℕ). AreBlocks ns (set ws i (bit_or w p)) (set vs i r)) word joined;
+      apart = subst (λ (w : ℕ). AreDisjoint (blocks_of ns (set ws i (bit_or w p)) (set vs i r))) word apart;
+      rise = c.requires.parts.rise;
+    }
 
 pub returns-clause-joined : goal.returns-clause-joined
 returns-clause-joined c =

@@ -1,8 +1,9 @@
 use Rattle.std.proofs.Common.{◌≡◌, false, refl, sym, ◌∙◌, arith}
 use Rattle.std.proofs.lemmas.Result.{IfOk-weaker}
-use Rattle.ghcn_series.specs.DailyFaults.{is_listed}
+use Rattle.std.specs.List.{filter_map}
+use Rattle.ghcn_series.specs.DailyFaults.{is_listed, month_on}
 use Rattle.ghcn_series.proofs.Places.{unlisted-is}
-use Rattle.ghcn_series.proofs.ReadMonths.{read-listed, read-unlisted, within_gathered, own_id}
+use Rattle.ghcn_series.proofs.ReadMonths.{read-listed, read-unlisted, within_gathered, own_id, own_months}
 use Rattle.ghcn_series.proofs.reader.Reader.add_month.Goals as goal
 
 -- the stations are listed
@@ -20,6 +21,14 @@ pub add-requires-clause-own : goal.add-requires-clause-own
 add-requires-clause-own c =
     own_id _ c.args.self.now c.args.month.now.id c.in-Some.place c.index_mut.result.now c.requires.read.1.months
     (sym c.place.ensures ∙ c.in-Some.is) c.index_mut.ensures.value
+
+-- and what was read of its station
+pub add-requires-clause-gathered : goal.add-requires-clause-gathered
+add-requires-clause-gathered c = (
+  filter_map month_on c.requires.read.0,
+  own_months _ c.args.self.now c.args.month.now.id c.in-Some.place c.index_mut.result.now c.requires.read.1.months
+      (sym c.place.ensures ∙ c.in-Some.is) c.index_mut.ensures.value,
+)
 
 -- a month of a listed station is added to its own
 pub returns-in-Some-clause-added : goal.returns-in-Some-clause-added

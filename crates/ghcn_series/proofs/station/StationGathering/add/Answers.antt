@@ -1,6 +1,22 @@
+use Rattle.std.proofs.Common.{ap, ◌∙◌}
+use Rattle.std.specs.List.{slice_get}
 use Rattle.std.proofs.lemmas.Result.{IfOk-weaker}
-use Rattle.ghcn_series.proofs.StationMonths.{by_element-more}
+use Rattle.ghcn_files.specs.declared.month.Month.{Month}
+use Rattle.ghcn_files.specs.Elements.{elements}
+use Rattle.ghcn_series.specs.Gathered.{months_of}
+use Rattle.ghcn_series.proofs.StationMonths.{by_element-more, found_at, element_at}
 use Rattle.ghcn_series.proofs.station.StationGathering.add.Goals as goal
+
+-- the gathering of the month's element has the station's months of it
+pub add-requires-clause-gathered : goal.add-requires-clause-gathered
+add-requires-clause-gathered c =
+    let m : Month = c.args.month.now in
+    let before = c.requires.gathered.0 in
+    let five = c.in_ok-open.ensures.same.holds before c.requires.gathered.1 in (
+      months_of before c.args.self.now.id m.element,
+      found_at c.open.new.self.by_element.items elements before c.args.self.now.id c.place_of.result m.element c.index_mut.result.now five
+          (ap (slice_get elements) c.place_of.ensures ∙ element_at m.element) c.index_mut.ensures.value,
+    )
 
 -- the month is added to the gathering of its element
 pub returns-clause-added : goal.returns-clause-added

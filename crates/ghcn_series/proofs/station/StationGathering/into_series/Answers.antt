@@ -23,12 +23,22 @@ loop-gathering-init c =
           ∙ ap (filter_map (gathered_series c.args.self.id)) all;
     }
 
+-- a gathering of a station has some months
+pub is_empty-requires : goal.is_empty-requires
+is_empty-requires c =
+    let ready = (ready_parts c.in-Some.gathering _ _ c.in-Some.ensures.steps.0 c.loop-gathering.invariant.ready).0 in
+    (ready.months, ready.holds)
+
+pub into_columns-requires : goal.into_columns-requires
+into_columns-requires c =
+    let ready = (ready_parts c.in-Some.gathering _ _ c.in-Some.ensures.steps.0 c.loop-gathering.invariant.ready).0 in
+    (ready.months, ready.holds)
+
 pub of-requires : goal.of-requires
 of-requires c =
     let ready = (ready_parts c.in-Some.gathering _ _ c.in-Some.ensures.steps.0 c.loop-gathering.invariant.ready).0 in
-    let sorted = c.in_ok-days.ensures.is ready.months ready.holds in
     let P : Element → Type 0 = λ e. IsSeries (record { id = c.args.self.id; element = e; days = c.in_ok-days.days }) in
-    subst P (sym c.element-element.ensures) (is_series c.args.self.id c.in-Some.gathering c.in_ok-days.days ready (sym c.is_empty.ensures ∙ c.if-is_empty.false) sorted)
+    subst P (sym c.element-element.ensures) (is_series c.args.self.id c.in-Some.gathering c.in_ok-days.days ready (sym c.is_empty.ensures ∙ c.if-is_empty.false) c.in_ok-days.ensures)
 
 pub loop-gathering-preserved-then-is_empty : goal.loop-gathering-preserved-then-is_empty
 loop-gathering-preserved-then-is_empty c = record {
@@ -44,7 +54,7 @@ made id e f days sorted s is p q =
 pub loop-gathering-preserved : goal.loop-gathering-preserved
 loop-gathering-preserved c =
     let parts = ready_parts c.in-Some.gathering _ _ c.in-Some.ensures.steps.0 c.loop-gathering.invariant.ready in
-    let series = made c.args.self.id c.element-element.result c.in-Some.gathering.element c.in_ok-days.days _ c.of.result c.of.ensures c.element-element.ensures (c.in_ok-days.ensures.is parts.0.months parts.0.holds) in
+    let series = made c.args.self.id c.element-element.result c.in-Some.gathering.element c.in_ok-days.days _ c.of.result c.of.ensures c.element-element.ensures c.in_ok-days.ensures in
     record {
       ready = parts.1;
       whole =

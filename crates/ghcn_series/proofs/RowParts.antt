@@ -1,0 +1,284 @@
+-- A row in two parts of blocks.
+use Rattle.std.proofs.Common.{◌≡◌, ℕ, zero, suc, ◌+◌, ◌-◌, ◌*◌, ◌/◌, ◌%◌, ◌<◌, ◌≤◌, ◌^◌, List, [], ◌∷◌, ◌++◌, length, take, drop, get_or}
+use Rattle.std.proofs.Common.{Option, Some, None, IsSome, inl, inr}
+use Rattle.std.proofs.Common.{refl, sym, ap, subst, ◌∙◌, arith, true, ℤ, pos, ◌+ℤ◌}
+use Rattle.std.specs.Prelude.{◌==◌, Result, Ok, Err, OnOk}
+use Rattle.std.specs.Int.{bit_at}
+use Rattle.std.specs.List.{list_all}
+use Rattle.std.specs.Option.{option_or}
+use Rattle.std.specs.Ordering.{int_eq}
+use Rattle.std.proofs.Math.Nat.{div-add-mod, mul_comm}
+use Rattle.std.proofs.lemmas.Bool.{cases_lt}
+use Rattle.std.proofs.lemmas.Bool.Decides.{Decides-int_eq}
+use Rattle.std.proofs.lemmas.Grind.{common_steps}
+use Rattle.std.proofs.lemmas.Int.{ints}
+use Rattle.std.proofs.lemmas.List.{get_or-take, get_or-drop, get_or_append_left, get_or-append_right}
+use Rattle.std.proofs.lemmas.Nat.Bits.{bit_at_cat_low, bit_at_cat_high, bit_at-zero, bit_at_above}
+use Rattle.ghcn_fields.specs.Days.{is_day, block_of}
+use Rattle.ghcn_series.specs.Series.{DayValue, value_on}
+use Rattle.ghcn_series.specs.Packed.{Block, block_start, if_so, value_at, days_from, block_days, IsPacked}
+use Rattle.ghcn_series.specs.Parts.{AreNew, AreJoined, day_of, row_days, IsRow, IsPartOf, HasBitsOf}
+use Rattle.ghcn_series.proofs.Lookups.{from-value, from-other, block-value, block-other, block-holds, or_none, at_day}
+use Rattle.ghcn_series.proofs.JoinedDays.{same_block, or_assoc}
+use Rattle.ghcn_series.proofs.ListFacts.{both_true}
+
+some_either : (a b : Option ℤ) → IsSome a → IsSome (option_or a b)
+some_either None b some = absurd cc
+some_either (Some x) b some = some
+
+none_some : (a : Option ℤ) → a ≡ None → IsSome a → ⊥
+none_some None e some = cc
+none_some (Some x) e some = cc
+
+no_value : (w : ℕ) (vs : List ℤ) (j : ℕ) → bit_at w j ≡ 0 → value_at w vs j ≡ None
+no_value w vs j e = ap (λ (b : ℕ). if_so (b == 1) (get_or vs j (pos 0))) e
+
+same_value : (w v : ℕ) (a b : List ℤ) (j k : ℕ) → bit_at w j ≡ bit_at v k → get_or a j (pos 0) ≡ get_or b k (pos 0)
+    → value_at w a j ≡ value_at v b k
+same_value w v a b j k e f =
+    ap (λ (bit : ℕ). if_so (bit == 1) (get_or a j (pos 0))) e ∙ ap (if_so (bit_at v k == 1)) f
+
+-- a block has what a row has so many places behind the begin of the block where the row begins
+pub record IsPart (first : ℤ) (place w : ℕ) (vs : List ℤ) (offset : ℕ) (b : Block) : Type 0 where
+  pub row : IsRow first w vs
+  pub below : place < 32
+  pub starts : block_start b.0 +ℤ pos place ≡ first +ℤ pos offset
+  pub bits : HasBitsOf w place offset b.1.0
+  pub values : IsPartOf vs place offset b.1.1
+
+module _ (first : ℤ) (place w : ℕ) (vs : List ℤ) (offset : ℕ) (b : Block) (p : IsPart first place w vs offset b) where
+  -- what is true at a place of the block, where it is true before the row, in the row and behind it
+  at_part : (P : ℕ → Type 0) (j : ℕ) → (j + offset < place → P j) → (place + 32 ≤ j + offset → P j)
+      → ((k : ℕ) → k < 32 → k + place ≡ j + offset → P j) → P j
+  at_part P j before behind within = elim (cases_lt (j + offset) place) [
+    | inl less ↦ before less
+    | inr from ↦ elim (cases_lt (j + offset) (place + 32)) [
+      | inl inside ↦ within (j + offset - place) (omega arith) (omega arith)
+      | inr more ↦ behind more
+    ]
+  ]
+
+  -- the block has the values of the row's days
+  pub part-value : (j : ℕ) → j < 32 → value_on (days_from first w vs) (block_start b.0 +ℤ pos j) ≡ value_at b.1.0 b.1.1 j
+  part-value j lt =
+      at_part (λ j. value_on (days_from first w vs) (block_start b.0 +ℤ pos j) ≡ value_at b.1.0 b.1.1 j) j
+      (λ less.
+      from-other first w vs (block_start b.0 +ℤ pos j) (λ k _ e. omega (arith, ints, p.starts, e))
+      ∙ sym (no_value b.1.0 b.1.1 j ((p.bits j lt).before less)))
+      (λ more.
+      from-other first w vs (block_start b.0 +ℤ pos j) (λ k less e. omega (arith, ints, p.starts, e))
+      ∙ sym (no_value b.1.0 b.1.1 j ((p.bits j lt).behind more)))
+      (λ k less is.
+      let day : block_start b.0 +ℤ pos j ≡ first +ℤ pos k = omega (arith, ints, p.starts) in
+      ap (value_on (days_from first w vs)) day
+      ∙ from-value first w vs k less
+      ∙ sym (same_value b.1.0 w b.1.1 vs j k ((p.bits j lt).within k less is) ((p.values j lt).within k less is)))
+
+  -- and is as it may be
+  pub part-packed : b.1.0 < 2 ^ 32 → 0 < b.1.0 → IsPacked b
+  part-packed fits some = record {
+    present = some;
+    fits = fits;
+    zeros = λ j lt none.
+        at_part (λ j. get_or b.1.1 j (pos 0) ≡ pos 0) j (p.values j lt).before (p.values j lt).behind (λ k less is.
+        (p.values j lt).within k less is ∙ p.row.zeros k less (sym ((p.bits j lt).within k less is) ∙ none));
+    days = λ j lt set.
+        at_part (λ j. is_day (block_start b.0 +ℤ pos j) ≡ true) j
+        (λ less. let none = (p.bits j lt).before less in absurd (omega arith))
+        (λ more. let none = (p.bits j lt).behind more in absurd (omega arith))
+        (λ k less is.
+        let day : first +ℤ pos k ≡ block_start b.0 +ℤ pos j = omega (arith, ints, p.starts) in
+        subst (λ (d : ℤ). is_day d ≡ true) day (p.row.days k less (sym ((p.bits j lt).within k less is) ∙ set)));
+  }
+
+  -- in that block the row has nothing else
+  pub in_part : (d : ℤ) → b.0 ≡ block_of d → value_on (days_from first w vs) d ≡ value_on (block_days b) d
+  in_part d is =
+      let Same : ℤ → Type 0 = λ x. value_on (days_from first w vs) x ≡ value_on (block_days b) x in
+      at_day Same d (subst (λ (n : ℤ). (j : ℕ) → j < 32 → Same (block_start n +ℤ pos j)) is
+      (λ j lt. part-value j lt ∙ sym (block-value b j lt)))
+
+-- a row in the block where it begins, and in the next one
+pub record IsSplit (n : ℤ) (place w : ℕ) (vs : List ℤ) (one two : Block) : Type 0 where
+  pub row : IsRow (day_of n place) w vs
+  pub below : place < 32
+  pub here : one.0 ≡ n
+  pub next : two.0 ≡ n +ℤ pos 1
+  pub low : HasBitsOf w place 0 one.1.0
+  pub high : HasBitsOf w place 32 two.1.0
+  pub first : IsPartOf vs place 0 one.1.1
+  pub second : IsPartOf vs place 32 two.1.1
+
+module _ (n : ℤ) (place w : ℕ) (vs : List ℤ) (one two : Block) (s : IsSplit n place w vs one two) where
+  abbrev days : List DayValue
+  days = row_days n place w vs
+
+  is_one : IsPart (day_of n place) place w vs 0 one
+  is_one = record { row = s.row; below = s.below; starts = omega (arith, ints, s.here); bits = s.low; values = s.first }
+
+  is_two : IsPart (day_of n place) place w vs 32 two
+  is_two = record { row = s.row; below = s.below; starts = omega (arith, ints, s.next); bits = s.high; values = s.second }
+
+  differ : (d : ℤ) → one.0 ≡ block_of d → two.0 ≡ block_of d → ⊥
+  differ d a b = omega (arith, ints, s.here, s.next, a, b)
+
+  in_neither : (d : ℤ) → (one.0 ≡ block_of d → ⊥) → (two.0 ≡ block_of d → ⊥) → value_on days d ≡ None
+  in_neither d a b = from-other (day_of n place) w vs d (λ j lt e.
+      let holds = block-holds d in
+      let below = s.below in
+      elim (cases_lt (place + j) 32) [
+        | inl first ↦ a (s.here ∙ omega (arith, ints, holds.0, holds.1))
+        | inr second ↦ b (s.next ∙ omega (arith, ints, holds.0, holds.1))
+      ])
+
+  -- the two parts have the row's days
+  row-split : (d : ℤ) → value_on days d ≡ option_or (value_on (block_days one) d) (value_on (block_days two) d)
+  row-split d = elim (same_block one.0 (block_of d)) [
+    | inl here ↦
+        in_part (day_of n place) place w vs 0 one is_one d here
+        ∙ sym (ap (option_or (value_on (block_days one) d)) (block-other two d (differ d here)) ∙ or_none (value_on (block_days one) d))
+    | inr other ↦
+        let behind : option_or (value_on (block_days one) d) (value_on (block_days two) d) ≡ value_on (block_days two) d =
+        ap (λ (o : Option ℤ). option_or o (value_on (block_days two) d)) (block-other one d other) in
+        elim (same_block two.0 (block_of d)) [
+          | inl there ↦ in_part (day_of n place) place w vs 32 two is_two d there ∙ sym behind
+          | inr none ↦ in_neither d other none ∙ sym (behind ∙ block-other two d none)
+        ]
+  ]
+
+  -- both parts are as they may be
+  pub packed-one : one.1.0 < 2 ^ 32 → 0 < one.1.0 → IsPacked one
+  packed-one = part-packed (day_of n place) place w vs 0 one is_one
+
+  pub packed-two : two.1.0 < 2 ^ 32 → 0 < two.1.0 → IsPacked two
+  packed-two = part-packed (day_of n place) place w vs 32 two is_two
+
+  module _ (old : List DayValue) (fresh : AreNew old days) where
+    -- where the row is new, its first part is
+    pub new-one : AreNew old (block_days one)
+    new-one d some =
+        fresh d (subst IsSome (sym (row-split d)) (some_either (value_on (block_days one) d) (value_on (block_days two) d) some))
+
+    -- and its second part is, behind the first
+    pub new-two : (mid : List DayValue) → AreJoined old (block_days one) mid → AreNew mid (block_days two)
+    new-two mid joined d some = elim (same_block two.0 (block_of d)) [
+      | inl there ↦
+          let in_row : IsSome (value_on days d) =
+          subst IsSome (sym (in_part (day_of n place) place w vs 32 two is_two d there)) some in
+          joined d
+          ∙ ap (λ (o : Option ℤ). option_or o (value_on (block_days one) d)) (fresh d in_row)
+          ∙ block-other one d (λ here. differ d here there)
+      | inr other ↦ absurd (none_some (value_on (block_days two) d) (block-other two d other) some)
+    ]
+
+    -- both parts joined one after the other are the row joined
+    pub joined-both : (mid new : List DayValue) → AreJoined old (block_days one) mid → AreJoined mid (block_days two) new
+        → AreJoined old days new
+    joined-both mid new a b d =
+        b d
+        ∙ ap (λ (o : Option ℤ). option_or o (value_on (block_days two) d)) (a d)
+        ∙ sym (or_assoc (value_on old d) (value_on (block_days one) d) (value_on (block_days two) d))
+        ∙ ap (option_or (value_on old d)) (sym (row-split d))
+
+-- what follows of success from what holds of it
+pub on_ok-then : {A E P Q : Type 0} (r : Result A E) → (P → Q) → OnOk r P → OnOk r Q
+on_ok-then (Ok x) f p = f p
+on_ok-then (Err e) f p = tt
+
+-- ---- the bits of both parts
+
+-- bits below a place are those of the whole
+bit-low : (x j : ℕ) → j < 32 → bit_at (x % 2 ^ 32) j ≡ bit_at x j
+bit-low x j lt =
+    let whole : x / 2 ^ 32 * 2 ^ 32 + x % 2 ^ 32 ≡ x = omega arith in
+    sym (bit_at_cat_low (x / 2 ^ 32) 32 (x % 2 ^ 32) j lt) ∙ ap (λ (n : ℕ). bit_at n j) whole
+
+-- a word that is moved up has no bits below the place
+bit-below : (w k i : ℕ) → i < k → bit_at (w * 2 ^ k) i ≡ 0
+bit-below w k i lt =
+    let same : w * 2 ^ k + 0 ≡ w * 2 ^ k = omega arith in
+    ap (λ (n : ℕ). bit_at n i) (sym same) ∙ bit_at_cat_low w k 0 i lt ∙ bit_at-zero i
+
+-- and its own from there on
+bit-moved_up : (w k i : ℕ) → 0 < 2 ^ k → k ≤ i → bit_at (w * 2 ^ k) i ≡ bit_at w (i - k)
+bit-moved_up w k i some le =
+    let same : w * 2 ^ k + 0 ≡ w * 2 ^ k = omega arith in
+    ap (λ (n : ℕ). bit_at n i) (sym same) ∙ bit_at_cat_high w k 0 i some le
+
+pub low-bits : (w place : ℕ) → w < 2 ^ 32 → 0 < 2 ^ place → place < 32 → HasBitsOf w place 0 (w * 2 ^ place % 2 ^ 32)
+low-bits w place fits some below j lt = record {
+  before = λ h. bit-low (w * 2 ^ place) j lt ∙ bit-below w place j (omega arith);
+  behind = λ h. absurd (omega arith);
+  within = λ k less is. bit-low (w * 2 ^ place) j lt ∙ bit-moved_up w place j some (omega arith) ∙ ap (bit_at w) (omega arith);
+}
+
+-- a word that is moved down has its upper bits
+bit-moved_down : (w a j : ℕ) → 0 < 2 ^ a → bit_at (w / 2 ^ a) j ≡ bit_at w (j + a)
+bit-moved_down w a j some =
+    let whole : w / 2 ^ a * 2 ^ a + w % 2 ^ a ≡ w =
+    ap (λ (x : ℕ). x + w % 2 ^ a) (mul_comm (w / 2 ^ a) (2 ^ a)) ∙ div-add-mod w (2 ^ a) in
+    let rest : w % 2 ^ a < 2 ^ a = below w (2 ^ a) some in
+    sym (sym (ap (λ (n : ℕ). bit_at n (j + a)) whole)
+    ∙ bit_at_cat_high (w / 2 ^ a) a (w % 2 ^ a) (j + a) rest (omega arith)
+    ∙ ap (bit_at (w / 2 ^ a)) (omega arith))
+  where
+    below : (w d : ℕ) → 0 < d → w % d < d
+    below w d some = omega arith
+
+pub high-bits : (w place : ℕ) → w < 2 ^ 32 → 0 < 2 ^ (31 - place) → place < 32
+    → HasBitsOf w place 32 (w / 2 ^ 1 / 2 ^ (31 - place))
+high-bits w place fits some below j lt =
+    let at : bit_at (w / 2 ^ 1 / 2 ^ (31 - place)) j ≡ bit_at w (j + (31 - place) + 1) =
+    bit-moved_down (w / 2 ^ 1) (31 - place) j some ∙ bit-moved_down w 1 (j + (31 - place)) (omega arith) in
+    record {
+      before = λ h. absurd (omega arith);
+      behind = λ h. at ∙ bit_at_above w 32 (j + (31 - place) + 1) fits (omega arith);
+      within = λ k less is. at ∙ ap (bit_at w) (omega arith);
+    }
+
+-- ---- the values of both parts
+
+-- a row of zeros has 0 everywhere
+pub zero_at : (zs : List ℤ) → list_all (int_eq (pos 0)) zs ≡ true → (j : ℕ) → get_or zs j (pos 0) ≡ pos 0
+zero_at [] all j = refl
+zero_at (z ∷ zs) all zero = sym ((Decides-int_eq (pos 0) z).0 (both_true (int_eq (pos 0) z) (list_all (int_eq (pos 0)) zs) all).0)
+zero_at (z ∷ zs) all (suc j) = zero_at zs (both_true (int_eq (pos 0) z) (list_all (int_eq (pos 0)) zs) all).1 j
+
+module _ (vs zs : List ℤ) (place : ℕ) (below : place < 32) (whole : length vs ≡ 32) (long : length zs ≡ 32) (none : (j : ℕ) → get_or zs j (pos 0) ≡ pos 0) where
+  -- the first values of a row, at the end of a block
+  pub first-values : (ys rest : List ℤ) → ys ≡ take (32 - place) vs → IsPartOf vs place 0 (take place zs ++ (ys ++ rest))
+  first-values ys rest is j lt =
+      let before : length (take place zs) ≡ place = grind (arith, common_steps, long) in
+      let own : length ys ≡ 32 - place = ap (λ (l : List ℤ). length l) is ∙ grind (arith, common_steps, whole) in
+      record {
+        before = λ less.
+            get_or_append_left (take place zs) (ys ++ rest) (pos 0) j (omega (arith, before))
+            ∙ get_or-take place zs j (pos 0) (omega arith)
+            ∙ none j;
+        behind = λ more. absurd (omega arith);
+        within = λ k less at.
+            let here : j - place ≡ k = omega arith in
+            get_or-append_right (take place zs) (ys ++ rest) place j (pos 0) before (omega arith)
+            ∙ get_or_append_left ys rest (pos 0) (j - place) (omega (arith, own))
+            ∙ ap (λ (l : List ℤ). get_or l (j - place) (pos 0)) is
+            ∙ get_or-take (32 - place) vs (j - place) (pos 0) (omega arith)
+            ∙ ap (λ (i : ℕ). get_or vs i (pos 0)) here;
+      }
+
+  -- its last values, at the begin of the next one
+  pub second-values : (ys : List ℤ) → ys ≡ drop (32 - place) vs → IsPartOf vs place 32 (ys ++ drop place zs)
+  second-values ys is j lt =
+      let own : length ys ≡ place = ap (λ (l : List ℤ). length l) is ∙ grind (arith, common_steps, whole) in
+      record {
+        before = λ less. absurd (omega arith);
+        behind = λ more.
+            get_or-append_right ys (drop place zs) place j (pos 0) own (omega arith)
+            ∙ get_or-drop place zs (j - place) (pos 0)
+            ∙ none (place + (j - place));
+        within = λ k less at.
+            let here : 32 - place + j ≡ k = omega arith in
+            get_or_append_left ys (drop place zs) (pos 0) j (omega (arith, own))
+            ∙ ap (λ (l : List ℤ). get_or l j (pos 0)) is
+            ∙ get_or-drop (32 - place) vs j (pos 0)
+            ∙ ap (λ (i : ℕ). get_or vs i (pos 0)) here;
+      }

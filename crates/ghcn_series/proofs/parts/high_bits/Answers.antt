@@ -1,0 +1,7 @@
+use Rattle.std.proofs.Common.{◌-◌}
+use Rattle.std.proofs.lemmas.Nat.{pow_pos}
+use Rattle.ghcn_series.proofs.RowParts.{high-bits}
+use Rattle.ghcn_series.proofs.parts.high_bits.Goals as goal
+
+pub returns : goal.returns
+returns c = high-bits c.args.word c.args.place c.ranges.word.fits (pow_pos (31 - c.args.place)) c.requires
