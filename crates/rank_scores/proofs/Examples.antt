@@ -44,24 +44,31 @@ each_day day zero v = []
 each_day day (suc n) v = (day, v) ∷ each_day (day +ℤ pos 1) n v
 
 -- 2020-07-01 is day 18444
-highest_one : candidates (ask 1 (Highest Tmax) None) (series id_a Tmax ((pos 18444, pos 311) ∷ [])) ≡ found id_a (pos 18444) (pos 18444) (pos 311) ∷ []
+highest_one : candidates (ask 1 (Highest Tmax) None) (series id_a Tmax ((pos 18444, pos 311) ∷ []))
+    ≡ found id_a (pos 18444) (pos 18444) (pos 311) ∷ []
 highest_one = refl
 
 -- three stations, the two best
-two_best : best 2 (found id_b (pos 18444) (pos 18444) (pos 311) ∷ found id_a (pos 18444) (pos 18444) (pos 311) ∷ found id_a (pos 18445) (pos 18445) (pos 305) ∷ []) ≡ found id_a (pos 18444) (pos 18444) (pos 311) ∷ found id_b (pos 18444) (pos 18444) (pos 311) ∷ []
+two_best : best 2 (found id_b (pos 18444) (pos 18444) (pos 311) ∷ found id_a (pos 18444) (pos 18444) (pos 311) ∷
+    found id_a (pos 18445) (pos 18445) (pos 305) ∷ [])
+    ≡ found id_a (pos 18444) (pos 18444) (pos 311) ∷ found id_b (pos 18444) (pos 18444) (pos 311) ∷ []
 two_best = refl
 
 -- rain on three days, and on three after a missing one
 abbrev pub rain : List DayValue
-rain = (pos 18258, pos 10) ∷ (pos 18259, pos 20) ∷ (pos 18260, pos 30) ∷ (pos 18262, pos 5) ∷ (pos 18263, pos 6) ∷ (pos 18264, pos 7) ∷ []
+rain = (pos 18258, pos 10) ∷ (pos 18259, pos 20) ∷ (pos 18260, pos 30) ∷ (pos 18262, pos 5) ∷
+    (pos 18263, pos 6) ∷ (pos 18264, pos 7) ∷ []
 
 -- a gap ends a window: 2019-12-31 is missing
-sum_with_gap : best 5 (candidates (ask 5 (Sum 3 Prcp) (Some (pos 18258, pos 18264))) (series id_a Prcp rain)) ≡ found id_a (pos 18258) (pos 18260) (pos 60) ∷ found id_a (pos 18262) (pos 18264) (pos 18) ∷ []
+sum_with_gap : best 5 (candidates (ask 5 (Sum 3 Prcp) (Some (pos 18258, pos 18264))) (series id_a Prcp rain))
+    ≡ found id_a (pos 18258) (pos 18260) (pos 60) ∷ found id_a (pos 18262) (pos 18264) (pos 18) ∷ []
 sum_with_gap = refl
 
 -- 34 days of rain over three blocks
-long_sums : (candidates (ask 1 (Sum 33 Prcp) None) (series id_a Prcp (each_day (pos 18463) 34 (pos 10))) ≡ found id_a (pos 18463) (pos 18495) (pos 330) ∷ found id_a (pos 18464) (pos 18496) (pos 330) ∷ [])
-    × (candidates (ask 1 (Sum 34 Prcp) None) (series id_a Prcp (each_day (pos 18463) 34 (pos 10))) ≡ found id_a (pos 18463) (pos 18496) (pos 340) ∷ [])
+long_sums : (candidates (ask 1 (Sum 33 Prcp) None) (series id_a Prcp (each_day (pos 18463) 34 (pos 10)))
+    ≡ found id_a (pos 18463) (pos 18495) (pos 330) ∷ found id_a (pos 18464) (pos 18496) (pos 330) ∷ [])
+    × (candidates (ask 1 (Sum 34 Prcp) None) (series id_a Prcp (each_day (pos 18463) 34 (pos 10)))
+    ≡ found id_a (pos 18463) (pos 18496) (pos 340) ∷ [])
 long_sums = (refl, refl)
 
 -- a day without rain, one of 0.9 mm, two of 1 mm and one of 0.9 mm
@@ -69,7 +76,8 @@ abbrev pub mixed : List DayValue
 mixed = (pos 18444, pos 0) ∷ (pos 18445, pos 9) ∷ (pos 18446, pos 10) ∷ (pos 18447, pos 10) ∷ (pos 18448, pos 9) ∷ []
 
 -- spells around two wet days
-dry_spells : best 3 (candidates (ask 3 Dry None) (series id_a Prcp mixed)) ≡ found id_a (pos 18444) (pos 18445) (pos 2) ∷ found id_a (pos 18448) (pos 18448) (pos 1) ∷ []
+dry_spells : best 3 (candidates (ask 3 Dry None) (series id_a Prcp mixed))
+    ≡ found id_a (pos 18444) (pos 18445) (pos 2) ∷ found id_a (pos 18448) (pos 18448) (pos 1) ∷ []
 unfolding run_from
 dry_spells = refl
 
@@ -79,16 +87,22 @@ unfolding run_from
 wet_spells = refl
 
 -- a period cuts a spell
-cut_spell : candidates (ask 2 Dry (Some (pos 18448, pos 18453))) (series id_a Prcp (each_day (pos 18444) 31 (pos 0))) ≡ found id_a (pos 18448) (pos 18453) (pos 6) ∷ []
+cut_spell : candidates (ask 2 Dry (Some (pos 18448, pos 18453))) (series id_a Prcp (each_day (pos 18444) 31 (pos 0)))
+    ≡ found id_a (pos 18448) (pos 18453) (pos 6) ∷ []
 unfolding run_from
 cut_spell = refl
 
 -- below and above zero, the lowest first
-lowest : best 2 (candidates (ask 2 (Lowest Tmin) None) (series id_a Tmin ((pos 18444, neg_ℤ (pos 5)) ∷ (pos 18445, pos 3) ∷ []))) ≡ found id_a (pos 18444) (pos 18444) (pos 5) ∷ found id_a (pos 18445) (pos 18445) (neg_ℤ (pos 3)) ∷ []
+lowest : best 2 (candidates (ask 2 (Lowest Tmin) None)
+    (series id_a Tmin ((pos 18444, neg_ℤ (pos 5)) ∷ (pos 18445, pos 3) ∷ [])))
+    ≡ found id_a (pos 18444) (pos 18444) (pos 5) ∷ found id_a (pos 18445) (pos 18445) (neg_ℤ (pos 3)) ∷ []
 lowest = refl
 
 -- windows of one day are single days
-snow_sums : best 3 (candidates (ask 3 (Sum 1 Snow) None) (series id_a Snow ((pos 18262, pos 10) ∷ (pos 18263, pos 20) ∷ (pos 18265, pos 30) ∷ []))) ≡ found id_a (pos 18265) (pos 18265) (pos 30) ∷ found id_a (pos 18263) (pos 18263) (pos 20) ∷ found id_a (pos 18262) (pos 18262) (pos 10) ∷ []
+snow_sums : best 3 (candidates (ask 3 (Sum 1 Snow) None)
+    (series id_a Snow ((pos 18262, pos 10) ∷ (pos 18263, pos 20) ∷ (pos 18265, pos 30) ∷ [])))
+    ≡ found id_a (pos 18265) (pos 18265) (pos 30) ∷ found id_a (pos 18263) (pos 18263) (pos 20) ∷
+    found id_a (pos 18262) (pos 18262) (pos 10) ∷ []
 snow_sums = refl
 
 -- one candidate has no second best
@@ -96,7 +110,9 @@ none_of_two : kth_score 2 (found id_a (pos 1) (pos 1) (pos 5) ∷ []) ≡ None
 none_of_two = refl
 
 -- the second best score of three stations
-second_of_three : kth_score 2 (found id_b (pos 18444) (pos 18444) (pos 311) ∷ found id_c (pos 18444) (pos 18444) (pos 250) ∷ found id_a (pos 18445) (pos 18445) (pos 305) ∷ []) ≡ Some (pos 305)
+second_of_three : kth_score 2 (found id_b (pos 18444) (pos 18444) (pos 311) ∷
+    found id_c (pos 18444) (pos 18444) (pos 250) ∷ found id_a (pos 18445) (pos 18445) (pos 305) ∷ [])
+    ≡ Some (pos 305)
 second_of_three = refl
 
 -- there is no candidate before the first
@@ -104,5 +120,6 @@ no_zeroth : kth_score 0 (found id_a (pos 1) (pos 1) (pos 5) ∷ []) ≡ None
 no_zeroth = refl
 
 -- of equal scores the smaller ID precedes, though its day is later
-station_before_day : precedes (found id_a (pos 18445) (pos 18445) (pos 311)) (found id_b (pos 18444) (pos 18444) (pos 311)) ≡ true
+station_before_day :
+    precedes (found id_a (pos 18445) (pos 18445) (pos 311)) (found id_b (pos 18444) (pos 18444) (pos 311)) ≡ true
 station_before_day = refl

@@ -1,7 +1,11 @@
 pub mod Ranks
 pub mod Listing
 pub mod Windows
-pub mod DaysToCome
+pub mod ToCome
+pub mod Totals
+pub mod WindowDays
+pub mod Sums
+pub mod OpenSpells
 pub mod Walks
 pub mod LastDays
 pub mod Sound

@@ -46,7 +46,8 @@ listed_first a b listed apart =
       | Equal ↦ λ e. let alike = tied_alike a b e in absurd cc
       | Greater ↦ λ e.
           let back : rank_cmp b a ≡ Less = rank_cmp_total.antisymm b a ∙ ap ordering_reverse e in
-          let later : is_lt (full_cmp b a) ≡ true = ap (λ (o : Ordering). is_lt (ordering_then o (int_cmp b.last a.last))) back in
+          let later : is_lt (full_cmp b a) ≡ true =
+          ap (λ (o : Ordering). is_lt (ordering_then o (int_cmp b.last a.last))) back in
           absurd cc
     ] refl
 
@@ -54,24 +55,30 @@ listed_first a b listed apart =
 sorted-tail : (x : Candidate) (xs : List Candidate) → IsSorted full_cmp (x ∷ xs) → IsSorted full_cmp xs
 sorted-tail x xs up = λ k d low lt.
     let next : suc (k + 1) ≡ suc k + 1 = omega arith in
-    ap (λ (n : ℕ). is_lt (full_cmp (slice_index_or (x ∷ xs) n d) (slice_index_or xs k d))) next ∙ up (suc k) d (omega arith) (omega arith)
+    ap (λ (n : ℕ). is_lt (full_cmp (slice_index_or (x ∷ xs) n d) (slice_index_or xs k d))) next
+    ∙ up (suc k) d (omega arith) (omega arith)
 
 -- none behind the first of an order is listed before it
-none_before : (x : Candidate) (xs : List Candidate) → IsSorted full_cmp (x ∷ xs) → AllByRecursion (λ y. is_lt (full_cmp y x) ≡ false) xs
+none_before : (x : Candidate) (xs : List Candidate) → IsSorted full_cmp (x ∷ xs)
+    → AllByRecursion (λ y. is_lt (full_cmp y x) ≡ false) xs
 none_before x xs up =
     recursion_from_All (λ y. is_lt (full_cmp y x) ≡ false) xs
-    (λ k d lt. sorted_far (λ y z. is_lt (full_cmp y z)) (ranks_by full_cmp_total (λ c. c)) (x ∷ xs) up 0 (suc k) d (omega arith) (omega arith))
+    (λ k d lt. sorted_far (λ y z. is_lt (full_cmp y z)) (ranks_by full_cmp_total (λ c. c))
+    (x ∷ xs) up 0 (suc k) d (omega arith) (omega arith))
 
 -- the first precedes all of a list from which it is apart, where none is listed before it
-precedes_all : (x : Candidate) (ys : List Candidate) → AllByRecursion (λ y. is_lt (full_cmp y x) ≡ false) ys → AllByRecursion (λ y. begin_alike x y ≡ false) ys → AllByRecursion (λ y. precedes x y ≡ true) ys
+precedes_all : (x : Candidate) (ys : List Candidate) → AllByRecursion (λ y. is_lt (full_cmp y x) ≡ false) ys
+    → AllByRecursion (λ y. begin_alike x y ≡ false) ys → AllByRecursion (λ y. precedes x y ≡ true) ys
 precedes_all x [] listed apart = tt
 precedes_all x (y ∷ ys) listed apart = (listed_first x y listed.0 apart.0, precedes_all x ys listed.1 apart.1)
 
 -- in order and apart: each precedes all behind it
 pub descends : (xs : List Candidate) → IsSorted full_cmp xs → AreApart xs → Descends xs
 descends [] up apart = tt
-descends (x ∷ xs) up apart =
-    (precedes_all x xs (none_before x xs up) (IsDistinct-head begin_alike x xs apart), descends xs (sorted-tail x xs up) (IsDistinct-tail begin_alike x xs apart))
+descends (x ∷ xs) up apart = (
+  precedes_all x xs (none_before x xs up) (IsDistinct-head begin_alike x xs apart),
+  descends xs (sorted-tail x xs up) (IsDistinct-tail begin_alike x xs apart),
+)
 
 -- beginning alike is the same both ways
 alike-symm : (a b : Candidate) → begin_alike a b ≡ begin_alike b a

@@ -17,7 +17,8 @@ use Rattle.rank_scores.specs.Order.{precedes, rank_cmp, rank_in, of_rank, best}
 
 -- ranking is a total order
 pub rank_cmp_total : IsTotalOrder rank_cmp
-rank_cmp_total = then_total (on_total (λ c. c.score) (back_total int_cmp_total)) (then_total (on_total (λ c. c.id.0) nat_list_cmp_total) (on_total (λ c. c.first) int_cmp_total))
+rank_cmp_total = then_total (on_total (λ c. c.score) (back_total int_cmp_total))
+    (then_total (on_total (λ c. c.id.0) nat_list_cmp_total) (on_total (λ c. c.first) int_cmp_total))
 
 -- where one of two precedes, the other doesn't
 turned : (o p : Ordering) → o ≡ ordering_reverse p → is_lt p ≡ true → is_lt o ≡ false
@@ -60,7 +61,8 @@ first_rank x (y ∷ ys) h =
     omega (arith, rank-cons x y ys, here, first_rank x ys h.1)
 
 -- what is true of each is true of the one at a place
-member : (P : Candidate → Type 0) (xs : List Candidate) (r : ℕ) (c : Candidate) → AllByRecursion P xs → slice_get xs r ≡ Some c → P c
+member : (P : Candidate → Type 0) (xs : List Candidate) (r : ℕ) (c : Candidate)
+    → AllByRecursion P xs → slice_get xs r ≡ Some c → P c
 member P [] r c h e = absurd cc
 member P (x ∷ xs) zero c h e =
     let same : x ≡ c = cc in
@@ -72,7 +74,8 @@ rank_at : (xs : List Candidate) (r : ℕ) (c : Candidate) → Descends xs → sl
 rank_at [] r c h e = absurd cc
 rank_at (x ∷ xs) zero c h e =
     let same : x ≡ c = cc in
-    let here : one_if (precedes x c) ≡ 0 = ap (λ (d : Candidate). one_if (precedes x d)) (sym same) ∙ ap one_if (irrefl x) in
+    let here : one_if (precedes x c) ≡ 0 = ap (λ (d : Candidate). one_if (precedes x d)) (sym same)
+    ∙ ap one_if (irrefl x) in
     let behind : rank_in xs c ≡ 0 = ap (rank_in xs) (sym same) ∙ first_rank x xs h.0 in
     omega (arith, rank-cons c x xs, here, behind)
 rank_at (x ∷ xs) (suc r) c h e =
@@ -84,7 +87,8 @@ rank-permuted : (all xs : List Candidate) (c : Candidate) → IsPermutation all 
 rank-permuted all xs c p = sym (sum_by-IsPermutation (λ d. one_if (precedes d c)) all xs p)
 
 -- a test that only c passes finds c
-finds : (p : Candidate → Bool) (c : Candidate) (ys : List Candidate) → AllByRecursion (λ d. p d ≡ true → d ≡ c) ys → list_any p ys ≡ true → find p ys ≡ Some c
+finds : (p : Candidate → Bool) (c : Candidate) (ys : List Candidate)
+    → AllByRecursion (λ d. p d ≡ true → d ≡ c) ys → list_any p ys ≡ true → find p ys ≡ Some c
 finds p c [] h e = absurd cc
 finds p c (y ∷ ys) h e =
     elim (p y) as (λ b. p y ≡ b → (b || list_any p ys) ≡ true → cond b (Some y) (find p ys) ≡ Some c) [
@@ -98,7 +102,8 @@ finds_none p [] h = refl
 finds_none p (y ∷ ys) h = ap (λ (b : Bool). cond b (Some y) (find p ys)) h.0 ∙ finds_none p ys h.1
 
 -- what follows for each follows for all
-weaken : (P Q : Candidate → Type 0) (xs : List Candidate) → ((x : Candidate) → P x → Q x) → AllByRecursion P xs → AllByRecursion Q xs
+weaken : (P Q : Candidate → Type 0) (xs : List Candidate) → ((x : Candidate) → P x → Q x)
+    → AllByRecursion P xs → AllByRecursion Q xs
 weaken P Q [] f h = tt
 weaken P Q (x ∷ xs) f h = (f x h.0, weaken P Q xs f h.1)
 
@@ -112,7 +117,8 @@ all_placed [] = tt
 all_placed (x ∷ xs) = ((0, refl), weaken (Placed xs) (Placed (x ∷ xs)) xs (λ c h. (suc h.0, h.1)) (all_placed xs))
 
 -- a test that the element at a place passes is passed by some element
-any_at : (p : Candidate → Bool) (xs : List Candidate) (r : ℕ) (c : Candidate) → slice_get xs r ≡ Some c → p c ≡ true → list_any p xs ≡ true
+any_at : (p : Candidate → Bool) (xs : List Candidate) (r : ℕ) (c : Candidate)
+    → slice_get xs r ≡ Some c → p c ≡ true → list_any p xs ≡ true
 any_at p [] r c e h = absurd cc
 any_at p (x ∷ xs) zero c e h =
     let same : x ≡ c = cc in
@@ -126,7 +132,8 @@ take-nil zero = refl
 take-nil (suc k) = refl
 
 -- one more is taken
-take-more : (xs : List Candidate) (a k : ℕ) → cons_option (slice_get xs a) (take k (drop (suc a) xs)) ≡ take (suc k) (drop a xs)
+take-more : (xs : List Candidate) (a k : ℕ)
+    → cons_option (slice_get xs a) (take k (drop (suc a) xs)) ≡ take (suc k) (drop a xs)
 take-more [] zero k = take-nil k
 take-more [] (suc a) k = take-nil k
 take-more (x ∷ xs) zero k = refl
@@ -135,7 +142,8 @@ take-more (x ∷ xs) (suc a) k = take-more xs a k
 module _ (all xs : List Candidate) (perm : IsPermutation all xs) (down : Descends xs) where
   -- each of the set has a place in the list
   placed_in : AllByRecursion (Placed xs) all
-  placed_in = recursion_from_All (Placed xs) all (All-permutation (Placed xs) xs all (IsPermutation-sym all xs perm) (All-from_recursion (Placed xs) xs (all_placed xs)))
+  placed_in = recursion_from_All (Placed xs) all (All-permutation (Placed xs) xs all
+      (IsPermutation-sym all xs perm) (All-from_recursion (Placed xs) xs (all_placed xs)))
 
   -- the rank within the set is the place in the list
   rank_placed : (c : Candidate) (i : ℕ) → slice_get xs i ≡ Some c → rank_in all c ≡ i
@@ -149,14 +157,17 @@ module _ (all xs : List Candidate) (perm : IsPermutation all xs) (down : Descend
   pub of_rank-is : (r : ℕ) → of_rank all r ≡ slice_get xs r
   of_rank-is r =
       elim (slice_get xs r) as (λ o. slice_get xs r ≡ o → of_rank all r ≡ o) [
-        | None ↦ λ e. finds_none (λ c. rank_in all c == r) all (weaken (Placed xs) (λ c. (rank_in all c == r) ≡ false) all
+        | None ↦ λ e. finds_none (λ c. rank_in all c == r) all
+            (weaken (Placed xs) (λ c. (rank_in all c == r) ≡ false) all
             (λ c placed. elim (rank_in all c == r) as (λ b. (rank_in all c == r) ≡ b → b ≡ false) [
               | true ↦ λ h. let here = at_rank r c placed h in absurd cc
               | false ↦ λ h. refl
             ] refl) placed_in)
-        | Some c ↦ λ e. finds (λ d. rank_in all d == r) c all (weaken (Placed xs) (λ d. (rank_in all d == r) ≡ true → d ≡ c) all
+        | Some c ↦ λ e. finds (λ d. rank_in all d == r) c all
+            (weaken (Placed xs) (λ d. (rank_in all d == r) ≡ true → d ≡ c) all
             (λ d placed h. let here = at_rank r d placed h in cc) placed_in)
-            (list_any-IsPermutation (λ d. rank_in all d == r) all xs perm ∙ any_at (λ d. rank_in all d == r) xs r c e (eq-eqb _ _ (rank_placed c r e)))
+            (list_any-IsPermutation (λ d. rank_in all d == r) all xs perm
+            ∙ any_at (λ d. rank_in all d == r) xs r c e (eq-eqb _ _ (rank_placed c r e)))
       ] refl
 
   -- the candidates of some ranks are those at these places

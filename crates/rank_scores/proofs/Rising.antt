@@ -41,7 +41,7 @@ rise-from_by_day (x ∷ y ∷ ys) e =
     ((less, from_each (λ z. int_cmp y.0 z.0 ≡ Less) (λ z. int_cmp x.0 z.0 ≡ Less) ys (λ z later. int_cmp_total.trans x.0 y.0 z.0 less later) rest.0), rest)
 
 -- what is true of all is true of those that pass a test
-all-filter : {X : Type 0} (P : X → Type 0) (t : X → Bool) (xs : List X) → AllByRecursion P xs → AllByRecursion P (filter t xs)
+pub all-filter : {X : Type 0} (P : X → Type 0) (t : X → Bool) (xs : List X) → AllByRecursion P xs → AllByRecursion P (filter t xs)
 all-filter P t [] h = tt
 all-filter P t (x ∷ xs) h =
     elim (t x) as (λ b. AllByRecursion P (cond b (x ∷ filter t xs) (filter t xs))) [

@@ -9,9 +9,10 @@ use Rattle.ghcn_series.specs.Series.{DayValue, value_on}
 use Rattle.rank_query.specs.Asked.{Asked}
 use Rattle.rank_scores.specs.Runs.{run_from, run_len, begins_run, calendar_len, IsRun}
 use Rattle.rank_scores.specs.Candidates.{Shape, Days, Windows, Spells, IsCandidate, begun, window_total, admitted_among, is_such}
-use Rattle.rank_scores.proofs.Rising.{both_pass}
+use Rattle.rank_scores.proofs.Rising.{Rise, both_pass}
+use Rattle.rank_scores.proofs.WindowDays.{total-days}
 use Rattle.rank_scores.proofs.Walks.{run-more, run-ends, run-zero}
-use Rattle.rank_scores.proofs.LastDays.{such-is_day, run-inside, run-some}
+use Rattle.rank_scores.proofs.LastDays.{le_of, such-is_day, run-inside, run-some}
 
 module _ (such : ℤ → Bool) where
   -- a run is no longer than it was counted
@@ -36,10 +37,6 @@ module _ (such : ℤ → Bool) where
             let at : a +ℤ pos (run_from such (suc n) a) ≡ a = omega (arith, ints, run-ends such n a e) in
             ap such at ∙ e
       ] refl
-
--- what a test of two numbers says
-pub le_of : (a b : ℤ) → int_le a b ≡ true → a ≤ℤ b
-le_of a b e = grind (arith, ints)
 
 -- a test whose opposite passes fails
 negated : (b : Bool) → not b ≡ true → b ≡ false
@@ -105,12 +102,15 @@ spell_made true p r last score e = let is = pair_is p r last score e in (refl, i
 spell_made false p r last score e = absurd cc
 
 -- what begins on a day that has its value is a candidate
-pub begun-IsCandidate : (q : Asked) (days : List DayValue) (sh : Shape) (x : DayValue) (last score : ℤ) → value_on (admitted_among q days) x.0 ≡ Some x.1 → Listed q days sh x last score → IsCandidate sh (admitted_among q days) x.0 last score
-begun-IsCandidate q days (Days f) x last score has e =
+pub begun-IsCandidate : (q : Asked) (days : List DayValue) → Rise (admitted_among q days) → (sh : Shape) (x : DayValue) (last score : ℤ) → value_on (admitted_among q days) x.0 ≡ Some x.1 → Listed q days sh x last score → IsCandidate sh (admitted_among q days) x.0 last score
+begun-IsCandidate q days rise (Days f) x last score has e =
     let is = pair_is x.0 (f x.1) last score e in
     (is.0, x.1, has, is.1)
-begun-IsCandidate q days (Windows n) x last score has e = window_made x.0 last score n (window_total (admitted_among q days) n x.0) e
-begun-IsCandidate q days (Spells test) x last score has e =
+begun-IsCandidate q days rise (Windows n) x last score has e =
+    let is = window_made x.0 last score n (window_total (admitted_among q days) n x.0) e in
+    let days_of = total-days (admitted_among q days) rise n x.0 last score is.0 is.1 in
+    record { ends = is.0; whole = days_of.0; sum = days_of.1 }
+begun-IsCandidate q days rise (Spells test) x last score has e =
     let such : ℤ → Bool = is_such test (admitted_among q days) in
     let is = spell_made (begins_run such x.0) (x.0 +ℤ pos (run_len such x.0) -ℤ pos 1) (pos (run_len such x.0)) last score e in
     (run_len such x.0, is.2, subst (λ (z : ℤ). IsRun such x.0 z (run_len such x.0)) (sym is.1) (run-is q days test x.0 is.0))

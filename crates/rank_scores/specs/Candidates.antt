@@ -1,5 +1,5 @@
 -- The candidates of a series under a query.
-use Rattle.std.specs.Prelude.{◌≡◌, ◌↔◌, ℕ, zero, suc, Bool, false, if◌then◌else◌, List, filter, map, Option, None, Some, ℤ, pos, neg_ℤ, ◌+ℤ◌, ◌-ℤ◌, int_le, int_lt}
+use Rattle.std.specs.Prelude.{◌≡◌, ◌↔◌, ℕ, zero, suc, Bool, false, ◌&&◌, if◌then◌else◌, List, [], ◌∷◌, length, filter, map, Option, None, Some, ℤ, pos, neg_ℤ, ◌+ℤ◌, ◌-ℤ◌, int_le, int_lt}
 use Rattle.std.specs.List.{filter_map, Contains}
 use Rattle.std.specs.List.Sorted.{IsStrictlySortedBy}
 use Rattle.std.specs.Option.{option_map, option_map_or}
@@ -54,6 +54,21 @@ abbrev pub window_total : List DayValue → ℕ → ℤ → Option ℤ
 window_total days zero a = Some (pos 0)
 window_total days (suc n) a = plus (value_on days a) (window_total days n (a +ℤ pos 1))
 
+-- those of some days that lie from a first to a last one
+abbrev pub days_within : ℤ → ℤ → List DayValue → List DayValue
+days_within first last days = filter (λ x. int_le first x.0 && int_le x.0 last) days
+
+-- the sum of the values of some days
+abbrev pub sum_of_values : List DayValue → ℤ
+sum_of_values [] = pos 0
+sum_of_values (x ∷ xs) = x.1 +ℤ sum_of_values xs
+
+-- from this first to this last day there are n days, each has a value, and the score is the sum of their values
+pub record IsWindow (days : List DayValue) (n : ℕ) (first last score : ℤ) : Type 0 where
+  pub ends : last +ℤ pos 1 ≡ first +ℤ pos n
+  pub whole : length (days_within first last days) ≡ n
+  pub sum : score ≡ sum_of_values (days_within first last days)
+
 -- the day has a value, and it passes
 abbrev pub is_such : (ℤ → Bool) → List DayValue → ℤ → Bool
 is_such test days a = option_map_or test (value_on days a) false
@@ -61,7 +76,7 @@ is_such test days a = option_map_or test (value_on days a) false
 -- where these are the admitted usable days: from this first to this last day there is a candidate with this score
 abbrev pub IsCandidate : Shape → List DayValue → ℤ → ℤ → ℤ → Type 0
 IsCandidate (Days f) days first last score = (last ≡ first) × (v : ℤ) × (value_on days first ≡ Some v) × (score ≡ f v)
-IsCandidate (Windows n) days first last score = (last +ℤ pos 1 ≡ first +ℤ pos n) × (window_total days n first ≡ Some score)
+IsCandidate (Windows n) days first last score = IsWindow days n first last score
 IsCandidate (Spells test) days first last score = (len : ℕ) × (score ≡ pos len) × IsRun (is_such test days) first last len
 
 -- the last day and the score of the candidate that begins on one of the days, if one does

@@ -1,7 +1,8 @@
 pub mod Runs
-pub mod Ahead
 pub mod Candidates
 pub mod Spells
 pub mod Order
 pub mod Morsels
 pub mod QueryCandidates
+pub mod Extremes
+pub mod SeriesCandidates

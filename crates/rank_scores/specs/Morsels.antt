@@ -9,12 +9,13 @@ use Rattle.ghcn_series.specs.Series.{Usable, Contents, series_of}
 use Rattle.rank_query.specs.Asked.{Asked, score_element}
 use Rattle.rank_query.specs.Admits.{admits_station}
 use Rattle.rank_scores.specs.declared.candidate.Candidate.{Candidate}
-use Rattle.rank_scores.specs.Candidates.{admitted, candidates}
+use Rattle.rank_scores.specs.Candidates.{admitted, candidates, IsCandidateOf}
 use Rattle.rank_scores.specs.Order.{best, kth_score}
 
 -- the series of the query's element of each admitted station that has one, in file order
 abbrev pub admitted_series : Asked → Contents → List Usable
-admitted_series q c = filter_map (λ st. series_of c st.id (score_element q.score)) (filter (admits_station q) c.stations)
+admitted_series q c = filter_map (λ st. series_of c st.id (score_element q.score))
+    (filter (admits_station q) c.stations)
 
 -- all candidates of a query
 abbrev pub all_candidates : Asked → Contents → List Candidate
@@ -26,7 +27,8 @@ id_comes_first a b = is_le (slice_cmp nat_cmp a.0 b.0)
 
 -- those of these series that have an admitted day, by increasing ID
 abbrev pub morsels : Asked → Contents → List Usable
-morsels q c = sorted_by (λ a b. id_comes_first a.id b.id) (filter (λ s. not (length (admitted q s) == 0)) (admitted_series q c))
+morsels q c = sorted_by (λ a b. id_comes_first a.id b.id)
+    (filter (λ s. not (length (admitted q s) == 0)) (admitted_series q c))
 
 -- the best candidates of a query
 abbrev pub best_of_query : Asked → Contents → List Candidate
@@ -39,3 +41,7 @@ kth_of_query q c = kth_score q.k (all_candidates q c)
 -- no candidate of the series has a score above this number
 abbrev pub IsAbove : Asked → Usable → ℤ → Type 0
 IsAbove q s bound = AllByRecursion (λ c. c.score ≤ℤ bound) (candidates q s)
+
+-- the same said over the property: whatever is a candidate of the series has no score above this number
+abbrev pub NoneIsAbove : Asked → Usable → ℤ → Type 0
+NoneIsAbove q s bound = (c : Candidate) → IsCandidateOf q s c → c.score ≤ℤ bound

@@ -10,7 +10,8 @@ use Rattle.rank_scores.specs.declared.candidate.Candidate.{Candidate}
 
 -- by greater score, then by smaller ID, then by earlier first day
 abbrev pub rank_cmp : Candidate → Candidate → Ordering
-rank_cmp = then_cmp (on (λ c. c.score) (flip_args int_cmp)) (then_cmp (on (λ c. c.id.0) (slice_cmp nat_cmp)) (on (λ c. c.first) int_cmp))
+rank_cmp = then_cmp (on (λ c. c.score) (flip_args int_cmp))
+    (then_cmp (on (λ c. c.id.0) (slice_cmp nat_cmp)) (on (λ c. c.first) int_cmp))
 
 -- a stands before b
 abbrev pub precedes : Candidate → Candidate → Bool

@@ -10,13 +10,13 @@ use ghcn_fields::Memory;
 
 /// The candidates in order, so that the best k are the first k, for every k.
 ///
-/// No two of them may be of one station and begin on one day: a query's candidates never are.
+/// No two of them may begin on one day at one station. Candidates of a query never do.
 pub fn best_first(mut candidates: Vec<Candidate>) -> Result<Vec<Candidate>, Memory>
     requires { AreApart candidates.items }
     ensures all { IfOk result (λ listed. IsPermutation candidates.items listed.items) }
     ensures best { IfOk result (λ listed. (k : ℕ) → best k candidates.items ≡ take k listed.items) }
-    ensures kth { IfOk result (λ listed. (rank : ℕ) →
-        kth_score (suc rank) candidates.items ≡ option_map (λ c. c.score) (slice_get listed.items rank)) }
+    ensures kth { IfOk result (λ listed. (rank : ℕ) → kth_score (suc rank) candidates.items
+        ≡ option_map (λ c. c.score) (slice_get listed.items rank)) }
 {
     candidates.sort()?;
     Ok(candidates)

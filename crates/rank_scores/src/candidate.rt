@@ -13,8 +13,8 @@ use std::cmp::Ordering;
 
 /// A possible record: some days of a station, and their score.
 ///
-/// Candidates stand in the order of their listing: by greater score, then smaller ID, then earlier
-/// first day, ties broken by the last day.
+/// Candidates are ordered as they are listed: by greater score, then smaller ID, then earlier first
+/// day, and by the last day where these are equal.
 #[derive(Clone, Copy, Debug, PartialEq, Eq)]
 pub struct Candidate {
     pub id: StationId,

@@ -1,13 +1,13 @@
 //! Candidates for a record, their order, and the scan of a series for them.
 //!
-//! Bounds and the ranking stand on it. What it hands up is the candidate, and the best of some
-//! candidates.
+//! The crates that bound, keep, rank and print candidates use this one. It says what a candidate
+//! is, and which are the best of some candidates.
 #![tactic(auto)]
 
-mod admitted;
-mod ahead;
 mod best;
 mod candidate;
+mod days;
+mod extreme;
 mod laws;
 mod scans;
 mod sink;
@@ -18,7 +18,7 @@ mod window;
 
 pub use best::best_first;
 pub use candidate::{Candidate, precedes};
-pub use laws::candidates_of_queries;
+pub use laws::{candidates_of_queries, candidates_of_series};
 pub use scans::scan;
 pub use sink::Sink;
 pub use spell::Spell;

@@ -1,6 +1,6 @@
 //! What candidates are offered to.
 
-/// What takes candidates one by one, as a pool does that keeps the best of them.
+/// Something that takes candidates one by one, such as a pool that keeps the best of them.
 pub trait Sink {
     ghost use Rattle.std.specs.Prelude.{◌≡◌};
     ghost use Rattle.rank_scores.specs.declared.candidate.Candidate.{Candidate};

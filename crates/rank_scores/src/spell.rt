@@ -1,27 +1,22 @@
 //! Spells: longest runs of consecutive days, each admitted and usable, whose values pass a test.
 
-ghost use Rattle.std.specs.Prelude.{◌≡◌, pos, ◌-ℤ◌, false, List, IsTrue};
-ghost use Rattle.std.specs.Option.{option_map, option_map_or};
-ghost use Rattle.ghcn_series.specs.Series.{DayValue};
-ghost use Rattle.rank_query.specs.Admits.{admits_day};
-ghost use Rattle.rank_scores.specs.Ahead.{StandsBefore};
-ghost use Rattle.rank_scores.specs.Runs.{run_len};
+ghost use Rattle.std.specs.Prelude.{◌≡◌, ◌↔◌, false, FitsSigned, IsTrue, pos, ◌+ℤ◌, if◌then◌else◌};
+ghost use Rattle.std.specs.Int.{w64};
+ghost use Rattle.std.specs.List.{fold};
+ghost use Rattle.std.specs.Option.{option_map_or};
+ghost use Rattle.ghcn_fields.specs.Days.{day_if};
 ghost use Rattle.rank_scores.specs.Spells.{test_of};
 ghost use Rattle.rank_scores.specs.Candidates as found;
 
-use crate::Candidate;
-use crate::admitted::value_before;
-use crate::ahead::next_value;
+use crate::days::comes_next;
+use crate::{Candidate, Sink};
 use ghcn_fields::Day;
 use ghcn_files::StationId;
-use ghcn_series::{Days, Series};
+use ghcn_series::Series;
 use rank_query::Query;
 
 /// 1 mm, in tenths of a millimetre.
 const ONE_MILLIMETRE: i32 = 10;
-
-/// How many days there are in the years 1 to 9999.
-const CALENDAR_LEN: u32 = 3_652_059;
 
 /// Which days a spell has, by their precipitation (ETCCDI).
 #[derive(Clone, Copy, Debug)]
@@ -45,55 +40,70 @@ impl Spell {
     }
 }
 
-/// The spell that begins on an admitted day of a series, if one does.
-///
-/// `rest` has the usable days after the first one.
-pub(crate) fn spell_from(
+/// Offers each spell, once the day came that isn't in it any more.
+pub(crate) fn scan_spells<S: Sink>(
     id: StationId,
     series: &Series,
     query: &Query,
     spell: Spell,
-    first: (Day, i32),
-    rest: Days<'_>,
-) -> Option<Candidate>
-    requires admitted { IsTrue (admits_day query.now first.0) }
-    requires stands { StandsBefore first rest series.now.days }
-    ensures { result ≡ option_map (found.candidate id first.0)
-        (found.begun (found.Spells (test_of spell)) (found.admitted query.now series.now) first) }
+    sink: &mut S,
+)
+    ensures { sink.new ≡ fold S.taken sink.old
+        (found.candidates_among id (found.Spells (test_of spell)) (found.admitted query.now series.now)) }
 {
-    let (day, value) = first;
-    if !spell.passes(Some(value)) || passes_before(series, query, spell, day) {
-        return None;
-    }
-    let len = run_len(query, spell, first, rest);
-    let last = day.after(len.saturating_sub(1))?;
-    Some(Candidate {
-        id,
-        first: day,
-        last,
-        score: len as i64,
-    })
-}
-
-/// How many days of the spell's kind follow one another from the first one on, which is one.
-fn run_len(query: &Query, spell: Spell, first: (Day, i32), rest: Days<'_>) -> u32
-    requires admitted { IsTrue (admits_day query.now first.0) }
-    requires passes { IsTrue (test_of spell first.1) }
-    ensures { (days : List DayValue) → StandsBefore first rest.entry days →
-        result ≡ run_len (found.is_such (test_of spell) (found.admitted_among query.now days)) first.0 }
-{
-    let mut rest = rest;
-    for later in 1..CALENDAR_LEN {
-        if !spell.passes(next_value(&mut rest, query, first.0.after(later))) {
-            return later;
+    // The spell so far, as it is offered where no day more is in it.
+    let mut carried: Option<Candidate> = None;
+    for (day, value) in series.days() {
+        if query.admits_day(day) {
+            let passes = spell.passes(Some(value));
+            match carried {
+                Some(run) if goes_on(run.last, day, passes) => {
+                    carried = Some(with_day(run, day));
+                }
+                Some(run) => {
+                    sink.offer(run);
+                    carried = spell_of_day(id, day, passes);
+                }
+                None => carried = spell_of_day(id, day, passes),
+            }
         }
     }
-    CALENDAR_LEN
+    if let Some(run) = carried {
+        sink.offer(run);
+    }
 }
 
-/// Whether the day before is of the spell's kind.
-fn passes_before(series: &Series, query: &Query, spell: Spell, first: Day) -> bool
-    ensures { result ≡ found.is_such (test_of spell) (found.admitted query.now series.now) (first -ℤ pos 1) }
+/// Whether a day is in the spell that has all days up to the last one.
+fn goes_on(last: Day, day: Day, passes: bool) -> bool
+    ensures { IsTrue result ↔ (IsTrue passes × (day_if (last +ℤ pos 1) ≡ Some day)) }
 {
-    spell.passes(value_before(series, query, first))
+    passes && comes_next(last.after(1), day)
+}
+
+/// The spell of one day, if the day is of the kind.
+fn spell_of_day(id: StationId, day: Day, passes: bool) -> Option<Candidate>
+    ensures { result ≡ (if passes then Some (found.candidate id day (day, pos 1)) else None) }
+{
+    if passes {
+        Some(Candidate {
+            id,
+            first: day,
+            last: day,
+            score: 1,
+        })
+    } else {
+        None
+    }
+}
+
+/// The spell with one day more.
+fn with_day(run: Candidate, day: Day) -> Candidate
+    requires { FitsSigned w64 (run.score +ℤ pos 1) }
+    ensures { result ≡ found.candidate run.id run.first (day, run.score +ℤ pos 1) }
+{
+    Candidate {
+        last: day,
+        score: run.score + 1,
+        ..run
+    }
 }

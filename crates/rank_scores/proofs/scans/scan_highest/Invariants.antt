@@ -1,9 +1,0 @@
-use Rattle.std.proofs.Common.{◌≡◌}
-use Rattle.rank_scores.specs.Candidates.{Days}
-use Rattle.rank_scores.proofs.Folds.{at_end}
-use Rattle.rank_scores.proofs.scans.scan_highest.Given as goal
-
-abbrev pub invariant-loop-day : goal.invariant-loop-day
-invariant-loop-day g l =
-    at_end g.S.Sink.taken l.query l.id (Days (λ v. v)) l.series.days l.sink l.day-iterator
-    ≡ at_end g.S.Sink.taken l.query l.id (Days (λ v. v)) l.series.days l.fn.sink l.series.days
