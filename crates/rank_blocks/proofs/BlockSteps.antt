@@ -5,27 +5,19 @@ use Rattle.std.specs.Option.{IfSome, unwrap_or}
 use Rattle.std.proofs.lemmas.Int.{ints}
 use Rattle.std.proofs.lemmas.List.{append-nil, drop_more, take_all, length-drop}
 use Rattle.std.proofs.lemmas.List.Elements.{All-from_recursion, All-get_or, filter_more}
-use Rattle.rank_blocks.specs.declared.runs.Runs.{Runs}
 use Rattle.rank_blocks.specs.declared.range.BlockRange.{BlockRange}
-use Rattle.rank_scores.specs.declared.spell.Spell.{Spell}
-use Rattle.rank_scores.specs.declared.spell.Spell.TheVariants.{Dry, Wet}
 use Rattle.rank_blocks.specs.declared.summary.Summary.{Summary}
 use Rattle.rank_blocks.specs.Blocks.{block_start}
-use Rattle.rank_blocks.specs.DayRuns.{ArePart}
-use Rattle.rank_blocks.specs.Reached.{IsNear, in_range, summaries_in, summaries_total, runs_of}
+use Rattle.rank_blocks.specs.Reached.{IsNear, in_range, summaries_in, summaries_total}
 use Rattle.rank_blocks.specs.Summaries.{IsPossible, ArePossible}
 use Rattle.rank_blocks.proofs.Members.{from_each}
 use Rattle.rank_blocks.proofs.DayValues.{both_pass, int_le-true}
 use Rattle.rank_blocks.proofs.PossibleBlocks.{sorted-behind, possible-tail}
 use Rattle.rank_blocks.proofs.WindowTotals.{AreBehind, total-in, total-out, total-behind, among-from, before-among}
 
--- no runs
-abbrev pub no_runs : Runs
-no_runs = record { days = 0; first = 0; last = 0; longest = 0 }
-
 -- what stands behind the end of a list of summaries
 abbrev pub no_block : Summary
-no_block = record { number = pos 0; greatest = pos 0; least = pos 0; total = pos 0; dry = no_runs; wet = no_runs }
+no_block = record { number = pos 0; greatest = pos 0; least = pos 0; total = pos 0; dry = 0; wet = 0 }
 
 -- the summary at a place
 abbrev pub block_at : List Summary → ℕ → Summary
@@ -46,8 +38,8 @@ possible-at ms i lt h = All-get_or IsPossible ms i no_block lt (All-from_recursi
 -- its number is read as it was written
 pub number-at : (m : Summary) → IsPossible m → to_z w32 (of_z w32 m.number) ≡ m.number
 number-at m h =
-    let low = h.partial.low in
-    let high = h.partial.high in
+    let low = h.low in
+    let high = h.high in
     omega (arith, ints)
 
 -- what is left is possible
@@ -120,16 +112,6 @@ sum-read i a b r lt low high least most is =
     omega (arith, ints)
 
 -- ---- runs
-
--- the runs of a kind in a possible summary are part of its block
-pub spell-part : (k : Spell) (m : Summary) → IsPossible m → ArePart (runs_of k m)
-spell-part Dry m h = h.partial.dry
-spell-part Wet m h = h.partial.wet
-
--- and of all its days
-pub spell-whole : (k : Spell) (m : Summary) → IsPossible m → (runs_of k m).days ≡ 32
-spell-whole Dry m h = h.whole
-spell-whole Wet m h = h.partial.same_days ∙ h.whole
 
 -- the blocks of a range that are left begin behind a block
 pub ahead-in : (r : BlockRange) (n : ℤ) (days before : ℕ) (later : List Summary) → AreBehind n later → (block_start r.first +ℤ pos before) ≡ block_start n → days ≡ before + 32

@@ -58,7 +58,7 @@ range-rises r q of asked =
     omega (arith, ints)
 
 -- what an extreme is of a summary is the greatest of what it makes of the block's values
-extreme-told : (k : Extreme) (days : List DayValue) (m : Summary) → IsSummary days m → greatest (map (λ x. score_of k x.1) (days_in days m.number)) ≡ Some (extreme_of k m)
+extreme-told : (k : Extreme) (days : List DayValue) (m : Summary) → IsSummary days m → IsGreatest (IsScore (score_of k) (days_in days m.number)) (extreme_of k m)
 extreme-told extremes.Highest days m is = is.values.greatest_value
 extreme-told extremes.Lowest days m is = is.values.least_value
 

@@ -1,17 +1,16 @@
 -- Days in their order and the values that they have.
-use Rattle.std.proofs.Common.{◌≡◌, ℕ, ◌<◌, Bool, true, false, cond, List, [], ◌∷◌, ◌++◌, Option, Some, None, refl, ap, ◌∙◌, arith, ℤ, pos, negsuc, ◌≤ℤ◌, ◌<ℤ◌, ◌+ℤ◌}
+use Rattle.std.proofs.Common.{◌≡◌, ℕ, ◌<◌, Bool, true, false, cond, List, [], ◌∷◌, ◌++◌, Some, None, refl, ap, ◌∙◌, arith, ℤ, pos, negsuc, ◌≤ℤ◌, ◌<ℤ◌, ◌+ℤ◌}
 use Rattle.std.specs.Prelude.{◌&&◌, int_lt, int_le}
 use Rattle.std.specs.List.{AllByRecursion, find}
-use Rattle.std.specs.Option.{option_map, option_map_or}
+use Rattle.std.specs.Option.{option_map}
 use Rattle.std.specs.Ordering.{int_eq}
 use Rattle.std.proofs.lemmas.Bool.Decides.{Decides-int_eq}
 use Rattle.std.proofs.lemmas.Int.{ints}
 use Rattle.ghcn_fields.specs.Days.{block_of}
 use Rattle.ghcn_series.specs.Series.{DayValue, value_on, is_by_day}
-use Rattle.rank_scores.specs.Candidates.{is_such}
 use Rattle.rank_blocks.specs.Blocks.{block_start}
-use Rattle.rank_blocks.specs.Summaries.{Rise}
-use Rattle.rank_blocks.proofs.Members.{from_each, all-parts}
+use Rattle.ghcn_series.specs.Packed.{AreRising}
+use Rattle.rank_blocks.proofs.Members.{from_each}
 
 -- two tests that both pass
 pub both_pass : (a b : Bool) → (a && b) ≡ true → (a ≡ true) × (b ≡ true)
@@ -60,24 +59,17 @@ pub int_eq-same : (a : ℤ) → int_eq a a ≡ true
 int_eq-same a = (Decides-int_eq a a).1 refl
 
 -- days of which each is later than the one before rise
-pub rise-from_by_day : (days : List DayValue) → is_by_day days ≡ true → Rise days
+pub rise-from_by_day : (days : List DayValue) → is_by_day days ≡ true → AreRising days
 rise-from_by_day [] e = tt
 rise-from_by_day (x ∷ []) e = (tt, tt)
 rise-from_by_day (x ∷ y ∷ ys) e =
     let both = both_pass (int_lt x.0 y.0) (is_by_day (y ∷ ys)) e in
-    let rest : Rise (y ∷ ys) = rise-from_by_day (y ∷ ys) both.1 in
+    let rest : AreRising (y ∷ ys) = rise-from_by_day (y ∷ ys) both.1 in
     let less : x.0 <ℤ y.0 = int_lt-true x.0 y.0 both.0 in
     ((less, from_each (λ z. y.0 <ℤ z.0) (λ z. x.0 <ℤ z.0) ys (λ z later. omega (arith, ints)) rest.0), rest)
 
--- where days rise, those before some others are earlier, and the others rise
-pub rise-parts : (read rest : List DayValue) → Rise (read ++ rest) → AllByRecursion (λ y. AllByRecursion (λ z. y.0 <ℤ z.0) rest) read × Rise rest
-rise-parts [] rest h = (tt, h)
-rise-parts (x ∷ xs) rest h =
-    let parts = rise-parts xs rest h.1 in
-    (((all-parts (λ z. x.0 <ℤ z.0) xs rest h.0).1, parts.0), parts.1)
-
 -- a day with no pair of its own at the front is looked up behind it
-value_on-behind : (x : DayValue) (xs : List DayValue) (day : ℤ) → int_eq x.0 day ≡ false → value_on (x ∷ xs) day ≡ value_on xs day
+pub value_on-behind : (x : DayValue) (xs : List DayValue) (day : ℤ) → int_eq x.0 day ≡ false → value_on (x ∷ xs) day ≡ value_on xs day
 value_on-behind x xs day other = ap (λ (b : Bool). option_map (λ (y : DayValue). y.1) (cond b (Some x) (find (λ y. int_eq y.0 day) xs))) other
 
 -- a day that is later than some days and earlier than the others has no value
@@ -86,18 +78,17 @@ value_on-between [] [] day earlier later = refl
 value_on-between [] (z ∷ zs) day earlier later = value_on-behind z zs day (gt-int_eq z.0 day later.0) ∙ value_on-between [] zs day tt later.1
 value_on-between (y ∷ ys) rest day earlier later = value_on-behind y (ys ++ rest) day (lt-int_eq y.0 day earlier.0) ∙ value_on-between ys rest day earlier.1 later
 
--- a day behind earlier days has its value
-pub value_on-at : (read rest : List DayValue) (x : DayValue) → AllByRecursion (λ y. y.0 <ℤ x.0) read → value_on (read ++ x ∷ rest) x.0 ≡ Some x.1
-value_on-at [] rest x earlier = ap (λ (b : Bool). option_map (λ (y : DayValue). y.1) (cond b (Some x) (find (λ y. int_eq y.0 x.0) rest))) (int_eq-same x.0)
-value_on-at (y ∷ ys) rest x earlier = value_on-behind y (ys ++ x ∷ rest) x.0 (lt-int_eq y.0 x.0 earlier.0) ∙ value_on-at ys rest x earlier.1
-
--- a day without a value doesn't pass
-pub such-none : (test : ℤ → Bool) (days : List DayValue) (day : ℤ) → value_on days day ≡ None → is_such test days day ≡ false
-such-none test days day none = ap (λ (o : Option ℤ). option_map_or test o false) none
-
--- a day with a value passes as the value does
-pub such-some : (test : ℤ → Bool) (days : List DayValue) (day v : ℤ) → value_on days day ≡ Some v → is_such test days day ≡ test v
-such-some test days day v is = ap (λ (o : Option ℤ). option_map_or test o false) is
+-- each of some days that rise has its value
+pub own-values : (days : List DayValue) → AreRising days → AllByRecursion (λ x. value_on days x.0 ≡ Some x.1) days
+own-values [] rise = tt
+own-values (x ∷ xs) rise = (
+  ap (λ (b : Bool). option_map (λ (y : DayValue). y.1) (cond b (Some x) (find (λ y. int_eq y.0 x.0) xs))) (int_eq-same x.0),
+  own-behind x xs xs rise.0 (own-values xs rise.1),
+)
+  where
+    own-behind : (x : DayValue) (all xs : List DayValue) → AllByRecursion (λ y. x.0 <ℤ y.0) xs → AllByRecursion (λ y. value_on all y.0 ≡ Some y.1) xs → AllByRecursion (λ y. value_on (x ∷ all) y.0 ≡ Some y.1) xs
+    own-behind x all [] later own = tt
+    own-behind x all (y ∷ ys) later own = (value_on-behind x all y.0 (lt-int_eq x.0 y.0 later.0) ∙ own.0, own-behind x all ys later.1 own.1)
 
 -- a day lies in its block
 pub block-holds : (day : ℤ) → (block_start (block_of day) ≤ℤ day) × (day <ℤ (block_start (block_of day) +ℤ pos 32))

@@ -4,7 +4,7 @@ use Rattle.std.specs.Prelude.{◌==◌}
 use Rattle.std.proofs.lemmas.Bool.Decides.{Decides-eqb, leb_tells}
 use Rattle.std.proofs.Math.Nat.{le-max_left, le-max_right, max-eq_left, max-eq_right}
 use Rattle.rank_blocks.specs.declared.runs.Runs.{Runs}
-use Rattle.rank_blocks.specs.DayRuns.{AllPass, ComeFirst, ComeLast, AreRuns, runs_without, runs_of_day, first_of_both, joined, ArePart}
+use Rattle.rank_blocks.specs.DayRuns.{AllPass, ComeFirst, ComeLast, AreRuns, runs_without, first_of_both, joined, ArePart}
 
 -- one of two numbers is below the other, or not
 pub at_most_or_more : (a b : ℕ) → (a ≤ b) ⊎ (b < a)
@@ -37,23 +37,6 @@ module _ (passes : ℕ → Bool) where
           ];
     };
   }
-
-  -- one day of the kind
-  one-AreRuns : passes 0 ≡ true → AreRuns passes (record { days = 1; first = 1; last = 1; longest = 1 })
-  one-AreRuns is =
-      let P : ℕ → Type 0 = λ k. passes k ≡ true in
-      let only : (k : ℕ) → k < 1 → passes k ≡ true = λ (k : ℕ) (low : k < 1). let zero_is : 0 ≡ k = omega arith in subst P zero_is is in
-      record {
-        first = record { within = omega arith; pass = λ k low high. only k high; ends = λ more. absurd (omega arith) };
-        last = record { within = omega arith; pass = λ from at k low high. only k high; begins = λ k at. absurd (omega arith) };
-        longest = record { somewhere = (0, omega arith, λ k low high. only k (omega arith)); nowhere_more = λ from len within pass. omega arith };
-      }
-
-  -- what is told of one day is right
-  pub day-AreRuns : (b : Bool) → passes 0 ≡ b → AreRuns passes (runs_of_day b)
-  day-AreRuns true is = one-AreRuns is
-  day-AreRuns false is =
-      none-AreRuns 1 (λ k low. let P : ℕ → Type 0 = λ k. passes k ≡ false in let zero_is : 0 ≡ k = omega arith in subst P zero_is is)
 
   -- no part of what is told of is longer than the whole
   pub AreRuns-ArePart : (r : Runs) → AreRuns passes r → ArePart r
@@ -241,3 +224,29 @@ alike-AreRuns passes others r alike runs =
         nowhere_more = λ from len within pass. runs.longest.nowhere_more from len within (λ k low high. alike k (omega arith) ∙ pass k low high);
       };
     }
+
+-- what comes first of both is no longer than both
+first_of_both-within : (days first more next : ℕ) → first ≤ days → next ≤ more → first_of_both days first next ≤ days + more
+first_of_both-within days first more next le le_next =
+    elim (first == days) as (λ b. cond b (days + next) first ≤ days + more) [ true ↦ omega arith | false ↦ omega arith ]
+
+-- no part of what is told of both is longer than both
+pub joined-ArePart : (a b : Runs) → ArePart a → ArePart b → ArePart (joined a b)
+joined-ArePart a b of_a of_b = record {
+  first = first_of_both-within a.days a.first b.days b.first of_a.first of_b.first;
+  last = let last = first_of_both-within b.days b.last a.days a.last of_b.last of_a.last in omega arith;
+  longest = let la = of_a.longest in let lb = of_b.longest in let last = of_a.last in let first = of_b.first in omega arith;
+}
+
+-- nor of days of which none is of the kind
+pub without-ArePart : (days : ℕ) → ArePart (runs_without days)
+without-ArePart days = record { first = omega arith; last = omega arith; longest = omega arith }
+
+-- what is told of more days, of which none is of the kind
+pub without-AreRuns : (kind : ℕ → Bool) (old : Runs) (days : ℕ) → AreRuns kind old → ((k : ℕ) → old.days ≤ k → k < old.days + days → kind k ≡ false) → AreRuns kind (joined old (runs_without days))
+without-AreRuns kind old days runs none =
+    joined-AreRuns kind old (runs_without days) runs (none-AreRuns (λ i. kind (old.days + i)) days (λ k lt. none (old.days + k) (omega arith) (omega arith)))
+
+-- of no days
+pub nothing-AreRuns : (kind : ℕ → Bool) → AreRuns kind (runs_without 0)
+nothing-AreRuns kind = none-AreRuns kind 0 (λ k lt. absurd (omega arith))

@@ -12,27 +12,21 @@ use Rattle.rank_blocks.specs.declared.range.BlockRange.{BlockRange}
 use Rattle.rank_scores.specs.declared.spell.Spell.{Spell}
 use Rattle.rank_scores.specs.declared.spell.Spell.TheVariants.{Dry, Wet}
 use Rattle.rank_blocks.specs.Blocks.{block_start}
-use Rattle.rank_blocks.specs.DayRuns.{AreRuns, runs_without, joined}
+use Rattle.rank_blocks.specs.DayRuns.{has_bit, AreRuns, runs_without, joined}
 use Rattle.rank_blocks.specs.Greatest.{IsGreatest, IsRunLength}
-use Rattle.rank_blocks.specs.Reached.{in_range, runs_of}
+use Rattle.rank_blocks.specs.Reached.{in_range, word_of}
 use Rattle.rank_scores.specs.Spells.{test_of}
-use Rattle.rank_blocks.specs.Summaries.{passes_at, IsSummary, AreSummaries}
-use Rattle.rank_blocks.proofs.JoinedRuns.{not_both, joined-AreRuns, alike-AreRuns}
+use Rattle.rank_blocks.specs.Summaries.{HasBits, IsSummary, AreSummaries}
+use Rattle.rank_blocks.proofs.JoinedRuns.{not_both, joined-AreRuns, alike-AreRuns, without-AreRuns, nothing-AreRuns}
 use Rattle.rank_blocks.proofs.Members.{contains-cases, pick}
 use Rattle.rank_blocks.proofs.DayValues.{both_pass, int_le-true, block-holds, block-of_place}
-use Rattle.rank_blocks.proofs.OpenBlocks.{without-AreRuns, nothing-AreRuns}
 use Rattle.rank_blocks.proofs.WindowTotals.{AreBehind, int_le_or_lt}
 use Rattle.rank_blocks.proofs.ReachedDays.{such-kept, such-filter, such-has, value_on-among}
 
--- the runs of a kind in a summary are those of its block
-pub spell-runs : (k : Spell) (days : List DayValue) (m : Summary) → IsSummary days m → AreRuns (passes_at (test_of k) days m.number) (runs_of k m)
-spell-runs Dry days m is = is.runs.dry
-spell-runs Wet days m is = is.runs.wet
-
--- and they are of all its days
-pub spell-days : (k : Spell) (days : List DayValue) (m : Summary) → IsSummary days m → (runs_of k m).days ≡ 32
-spell-days Dry days m is = is.dry_days
-spell-days Wet days m is = is.wet_days
+-- the word of a kind in a summary has the bits of its block
+spell-bits : (k : Spell) (days : List DayValue) (m : Summary) → IsSummary days m → HasBits (test_of k) days m.number (word_of k m)
+spell-bits Dry days m is = is.dry
+spell-bits Wet days m is = is.wet
 
 -- a day that can't be such a day isn't
 none-of : (test : ℤ → Bool) (days : List DayValue) (d : ℤ) → (is_such test days d ≡ true → ⊥) → is_such test days d ≡ false
@@ -124,7 +118,7 @@ module _ (r : BlockRange) (k : Spell) (s : Usable) (ms : List Summary) (are : Ar
       summaries = far.summaries.1;
     }
 
-    module _ (before : ℕ) (starts : (block_start r.first +ℤ pos before) ≡ block_start m.number) (le : runs.days ≤ before) (holds : in_range r m.number ≡ true) where
+    module _ (before : ℕ) (b : Runs) (of_word : AreRuns (has_bit (word_of k m)) b) (whole : b.days ≡ 32) (starts : (block_start r.first +ℤ pos before) ≡ block_start m.number) (le : runs.days ≤ before) (holds : in_range r m.number ≡ true) where
       -- no day between is of the kind
       gap : (i : ℕ) → runs.days ≤ i → i < runs.days + (before - runs.days) → kind i ≡ false
       gap i low high =
@@ -136,24 +130,22 @@ module _ (r : BlockRange) (k : Spell) (s : Usable) (ms : List Summary) (are : Ar
           let in_block = block-holds d in
           omega (arith, ints))
 
-      -- the days of the block are of the kind as its summary tells
-      block-alike : (i : ℕ) → i < (runs_of k m).days → passes_at (test_of k) s.days m.number i ≡ kind (runs.days + (before - runs.days) + i)
+      -- the days of the block are of the kind as its word tells
+      block-alike : (i : ℕ) → i < b.days → has_bit (word_of k m) i ≡ kind (runs.days + (before - runs.days) + i)
       block-alike i lt =
-          let days = spell-days k s.days m far.summaries.0 in
           let d : ℤ = block_start m.number +ℤ pos i in
           let block : block_of d ≡ m.number = block-of_place m.number i (omega arith) in
           let same : d ≡ block_start r.first +ℤ pos (runs.days + (before - runs.days) + i) = omega (arith, ints) in
-          sym (such-filter (test_of k) (λ n. in_range r (block_of n)) s.days d (ap (in_range r) block ∙ holds)) ∙ ap (is_such (test_of k) days_of_range) same
+          spell-bits k s.days m far.summaries.0 i (omega arith) ∙ sym (such-filter (test_of k) (λ n. in_range r (block_of n)) s.days d (ap (in_range r) block ∙ holds)) ∙ ap (is_such (test_of k) days_of_range) same
 
       -- with a block of the range, and the days before it
-      pub runs_so_far-in : AreRunsSoFar r k s ms later (joined (joined runs (runs_without (before - runs.days))) (runs_of k m))
+      pub runs_so_far-in : AreRunsSoFar r k s ms later (joined (joined runs (runs_without (before - runs.days))) b)
       runs_so_far-in =
-          let days = spell-days k s.days m far.summaries.0 in
           let blocks_before = days-of_blocks r.first m.number before starts in
           record {
-            told = joined-AreRuns kind (joined runs (runs_without (before - runs.days))) (runs_of k m)
+            told = joined-AreRuns kind (joined runs (runs_without (before - runs.days))) b
                 (without-AreRuns kind runs (before - runs.days) far.told gap)
-                (alike-AreRuns (passes_at (test_of k) s.days m.number) (λ i. kind (runs.days + (before - runs.days) + i)) (runs_of k m) block-alike (spell-runs k s.days m far.summaries.0));
+                (alike-AreRuns (has_bit (word_of k m)) (λ i. kind (runs.days + (before - runs.days) + i)) b block-alike of_word);
             blocks = before / 32 + 1;
             whole = omega arith;
             to_come = λ b low holds has.

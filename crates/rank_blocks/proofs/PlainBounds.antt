@@ -22,7 +22,7 @@ use Rattle.rank_blocks.specs.Blocks.{total, blocks_total, days_reached}
 use Rattle.rank_blocks.specs.Bounds.{bound, bound_for, greatest_by, greatest_total, blocks_of_window, IsAskedOf}
 use Rattle.rank_blocks.specs.Greatest.{IsGreatest, IsRunLength, IsBlocksTotal}
 use Rattle.rank_blocks.specs.Reached.{in_range, days_in_range, score_of, IsDaysTotal}
-use Rattle.rank_blocks.specs.Summaries.{Rise}
+use Rattle.ghcn_series.specs.Packed.{AreRising}
 use Rattle.rank_blocks.proofs.JoinedRuns.{at_most_or_more}
 use Rattle.rank_blocks.proofs.Members.{from_each, greatest-unique}
 use Rattle.rank_blocks.proofs.DayValues.{both_pass, pass_both, int_le-true, le-int_le}
@@ -52,7 +52,7 @@ made-same f p (y ∷ ys) x fails =
     ]
 
 -- days that rise behind one are no more than the calendar has behind it
-few-days : (b : ℤ) (days : List DayValue) → b ≤ℤ last_day → Rise days → AllByRecursion (λ x. b <ℤ x.0) days → AllByRecursion (λ x. is_day x.0 ≡ true) days → (b +ℤ pos (length days)) ≤ℤ last_day
+few-days : (b : ℤ) (days : List DayValue) → b ≤ℤ last_day → AreRising days → AllByRecursion (λ x. b <ℤ x.0) days → AllByRecursion (λ x. is_day x.0 ≡ true) days → (b +ℤ pos (length days)) ≤ℤ last_day
 few-days b [] le rise behind valid = omega (arith, ints)
 few-days b (x ∷ xs) le rise behind valid =
     let first = behind.0 in
@@ -61,7 +61,7 @@ few-days b (x ∷ xs) le rise behind valid =
     omega (arith, ints)
 
 -- a series has no more days than the calendar
-pub series-few : (s : Usable) → IsSeries s → Rise s.days → length s.days ≤ 3_652_059
+pub series-few : (s : Usable) → IsSeries s → AreRising s.days → length s.days ≤ 3_652_059
 series-few s series rise =
     let valid = days-valid s s.days series.values in
     let behind = from_each (λ x. is_day x.0 ≡ true) (λ x. neg_ℤ (pos 719_163) <ℤ x.0) s.days

@@ -7,7 +7,7 @@ use Rattle.std.specs.declared.cmp.Ordering.TheVariants.{Less}
 use Rattle.std.proofs.lemmas.Int.{ints}
 use Rattle.rank_blocks.specs.declared.summary.Summary.{Summary}
 use Rattle.rank_blocks.specs.Summaries.{IsPossible, ArePossible}
-use Rattle.rank_blocks.proofs.ReadBlocks.{int_cmp-less}
+use Rattle.rank_blocks.proofs.Numbers.{int_cmp-less}
 use Rattle.rank_blocks.proofs.WindowTotals.{AreBehind}
 
 -- numbers that stand behind another in order are greater
@@ -33,7 +33,7 @@ possible-tail m ms h = record { each = h.each.1; by_number = sorted-tail m ms h.
 few-behind : (b : ℤ) (ms : List Summary) → b ≤ℤ pos 91_653 → AllByRecursion IsPossible ms → IsStrictlySortedBy int_cmp (map (λ m. m.number) ms) → AreBehind b ms → (b +ℤ pos (length ms)) ≤ℤ pos 91_653
 few-behind b [] low possible sorted behind = omega (arith, ints)
 few-behind b (m ∷ ms) low possible sorted behind =
-    let high = possible.0.partial.high in
+    let high = possible.0.high in
     let first = behind.0 in
     let rest = few-behind m.number ms high possible.1 (sorted-tail m ms sorted) (sorted-behind m ms sorted) in
     omega (arith, ints)
@@ -41,7 +41,7 @@ few-behind b (m ∷ ms) low possible sorted behind =
 -- each possible block stands behind the number before the first
 all-behind : (ms : List Summary) → AllByRecursion IsPossible ms → AreBehind (neg_ℤ (pos 22_475)) ms
 all-behind [] h = tt
-all-behind (m ∷ ms) h = (let low = h.0.partial.low in omega (arith, ints), all-behind ms h.1)
+all-behind (m ∷ ms) h = (let low = h.0.low in omega (arith, ints), all-behind ms h.1)
 
 -- there are no more summaries than blocks
 pub possible-few : (ms : List Summary) → ArePossible ms → length ms ≤ 114_128
@@ -51,8 +51,4 @@ possible-few ms h =
 
 -- a block's total is within limits
 pub possible-total : (m : Summary) → IsPossible m → (neg_ℤ (pos 68_719_476_736) ≤ℤ m.total) × (m.total ≤ℤ pos 68_719_476_736)
-possible-total m h =
-    let least = h.partial.least_total in
-    let most = h.partial.greatest_total in
-    let whole = h.whole in
-    (omega (arith, ints), omega (arith, ints))
+possible-total m h = (h.least_total, h.greatest_total)

@@ -112,7 +112,7 @@ admitted-reached q d e = reached_in q.period d e
 
 -- ---- the greatest score of a day, from the summaries
 
-module _ (f : ℤ → ℤ) (g : Summary → ℤ) (P : ℤ → Bool) (s : Usable) (ms : List Summary) (are : AreSummaries s ms) (told : (m : Summary) → IsSummary s.days m → greatest (map (λ x. f x.1) (days_in s.days m.number)) ≡ Some (g m)) where
+module _ (f : ℤ → ℤ) (g : Summary → ℤ) (P : ℤ → Bool) (s : Usable) (ms : List Summary) (are : AreSummaries s ms) (told : (m : Summary) → IsSummary s.days m → IsGreatest (IsScore f (days_in s.days m.number)) (g m)) where
   -- each day's score is among those of its own block
   own_block : AllByRecursion (λ x. (b : ℤ) → int_eq (block_of x.0) b ≡ true → Contains (map (λ y. f y.1) (days_in s.days b)) (f x.1)) s.days
   own_block = for_every (λ (b : ℤ) (x : DayValue). int_eq (block_of x.0) b ≡ true → Contains (map (λ y. f y.1) (days_in s.days b)) (f x.1)) s.days (λ b. stands (λ y. f y.1) (λ x. int_eq (block_of x.0) b) s.days)
@@ -122,7 +122,7 @@ module _ (f : ℤ → ℤ) (g : Summary → ℤ) (P : ℤ → Bool) (s : Usable)
   greatest-of_blocks z e =
       let of_z = greatest-IsGreatest (map g (filter (λ m. P m.number) ms)) z e in
       let found = pick g (λ m. IsSummary s.days m × (P m.number ≡ true)) (filter (λ m. P m.number) ms) z (all-passing (IsSummary s.days) (λ m. P m.number) ms are.each) of_z.is_one in
-      let here = greatest-IsGreatest (map (λ x. f x.1) (days_in s.days found.0.number)) (g found.0) (told found.0 found.1.0) in
+      let here = told found.0 found.1.0 in
       let Score : ℤ → Type 0 = λ n. Contains (map (λ x. f x.1) (days_in s.days found.0.number)) n in
       record {
         is_one = stands-wider (λ x. f x.1) (λ x. int_eq (block_of x.0) found.0.number) (λ x. P (block_of x.0)) s.days z
@@ -135,7 +135,7 @@ module _ (f : ℤ → ℤ) (g : Summary → ℤ) (P : ℤ → Bool) (s : Usable)
             let Block : Summary → Type 0 = λ m. IsSummary s.days m × (P m.number ≡ true → g m ≤ℤ z) in
             let blocks = from_both (IsSummary s.days) (λ m. P m.number ≡ true → Contains (map g (filter (λ m. P m.number) ms)) (g m)) Block ms (λ m is stand. (is, λ passes. of_z.is_most (g m) (stand passes))) are.each (stands g (λ m. P m.number) ms) in
             let block = pick (λ m. m.number) Block ms (block_of day.0.0) blocks day.1.0.1 in
-            let of_block = greatest-IsGreatest (map (λ x. f x.1) (days_in s.days block.0.number)) (g block.0) (told block.0 block.1.0) in
+            let of_block = told block.0 block.1.0 in
             let own = day.1.0.0 block.0.number ((Decides-int_eq (block_of day.0.0) block.0.number).1 (sym block.2)) in
             let below_block = of_block.is_most (f day.0.1) own in
             let below_z = block.1.1 (ap P block.2 ∙ day.1.1) in

@@ -1,193 +1,190 @@
--- The summaries of a series, as its days are read one after another.
-use Rattle.std.proofs.Common.{◌≡◌, Bool, true, false, cond, List, [], ◌∷◌, ◌++◌, map, refl, sym, ap, ◌∙◌, subst, arith, ℤ, pos, neg_ℤ, ◌≤ℤ◌, ◌<ℤ◌, ◌+ℤ◌}
-use Rattle.std.specs.Prelude.{◌&&◌, ◌||◌, int_lt, int_le}
-use Rattle.std.specs.List.{AllByRecursion, Contains, list_all}
+-- The summaries of a series, block by block.
+use Rattle.std.proofs.Common.{◌≡◌, ℕ, ◌<◌, ◌^◌, true, false, cond, List, [], ◌∷◌, ◌++◌, map, ◌⊎◌, inl, inr, Option, Some, None, refl, sym, ap, ◌∙◌, subst, arith, ℤ, pos, ◌≤ℤ◌, ◌<ℤ◌, ◌+ℤ◌, w32}
+use Rattle.std.specs.Prelude.{int_le}
+use Rattle.std.specs.Int.{trailing_zeros}
+use Rattle.std.specs.List.{AllByRecursion, Contains, find}
 use Rattle.std.specs.List.Sorted.{IsStrictlySortedBy}
+use Rattle.std.specs.Option.{option_map}
 use Rattle.std.specs.Ordering.{int_cmp}
-use Rattle.std.specs.declared.cmp.Ordering.TheVariants.{Less, Equal, Greater}
 use Rattle.std.proofs.lemmas.Int.{ints}
-use Rattle.std.proofs.lemmas.List.Elements.{Contains-append_left, Contains-push}
-use Rattle.ghcn_fields.specs.Days.{block_of, is_day}
-use Rattle.ghcn_files.specs.Elements.{may_be_negative}
-use Rattle.ghcn_series.specs.Series.{DayValue, Usable, IsSeries, is_value}
+use Rattle.std.proofs.lemmas.List.Elements.{Contains-append_left}
+use Rattle.std.proofs.lemmas.Nat.Bits.{bit_at-trailing_zeros}
+use Rattle.ghcn_fields.specs.Days.{block_of, is_day, first_day, last_day, IsBlock}
+use Rattle.ghcn_series.specs.Packed.{AreRising, IsBlockOf, HasNone, next_block}
+use Rattle.ghcn_series.specs.Series.{DayValue, Usable, IsSeries, value_on}
 use Rattle.rank_blocks.specs.declared.summary.Summary.{Summary}
 use Rattle.rank_blocks.specs.Blocks.{block_start}
-use Rattle.rank_blocks.specs.Summaries.{IsSummary, IsPossible, AreSummaries, ArePossible, IsOpen, HasRead, Rise}
-use Rattle.rank_blocks.proofs.Members.{from_each, all-append, pick, contains-first}
-use Rattle.rank_blocks.proofs.DayValues.{both_pass, lt-int_lt, int_lt-true, int_le-true, rise-parts, block-holds, block-rises}
-
--- the numbers of some blocks
-abbrev numbers : List Summary → List ℤ
-numbers ms = map (λ m. m.number) ms
+use Rattle.rank_blocks.specs.Summaries.{IsSummary, IsPossible, AreSummariesTo, AreSummariesUpTo, numbers_left}
+use Rattle.rank_blocks.proofs.Members.{from_each, from_both, all-append, contains-pushed}
+use Rattle.rank_blocks.proofs.DayValues.{both_pass, int_le-true, int_le-false, rise-from_by_day, own-values, block-of_place, block-rises}
+use Rattle.rank_blocks.proofs.Numbers.{sorted-none, sorted-push}
+use Rattle.rank_blocks.proofs.WindowTotals.{int_le_or_lt}
+use Rattle.rank_blocks.proofs.Computed.{days-valid}
+use Rattle.rank_blocks.proofs.BlockDays.{place-in, block-day}
 
 -- the numbers of some blocks and one more
-numbers-push : (ms : List Summary) (m : Summary) → numbers (ms ++ m ∷ []) ≡ numbers ms ++ m.number ∷ []
+numbers-push : (ms : List Summary) (m : Summary) → map (λ m. m.number) (ms ++ m ∷ []) ≡ map (λ m. m.number) ms ++ m.number ∷ []
 numbers-push [] m = refl
-numbers-push (x ∷ xs) m = ap (λ ns. x.number ∷ ns) (numbers-push xs m)
+numbers-push (x ∷ xs) m = ap (λ (ns : List ℤ). x.number ∷ ns) (numbers-push xs m)
 
--- the numbers of some blocks and one more, by its number
-numbers-last : (ms : List Summary) (m n : Summary) → n.number ≡ m.number → numbers (ms ++ n ∷ []) ≡ numbers (ms ++ m ∷ [])
-numbers-last ms m n same = numbers-push ms n ∙ ap (λ (b : ℤ). numbers ms ++ b ∷ []) same ∙ sym (numbers-push ms m)
+-- what is true of the blocks' numbers
+of_numbers : (P : ℤ → Type 0) (ms : List Summary) → AllByRecursion (λ m. P m.number) ms → AllByRecursion P (map (λ m. m.number) ms)
+of_numbers P [] h = tt
+of_numbers P (m ∷ ms) h = (h.0, of_numbers P ms h.1)
 
--- a number below another compares as less
-pub less-int_cmp : (a b : ℤ) → a <ℤ b → int_cmp a b ≡ Less
-less-int_cmp a b lt = ap (λ (t : Bool). cond t Less (cond (int_lt b a) Greater Equal)) (lt-int_lt a b lt)
+-- a day of the calendar is in one of its blocks
+in_calendar : (d : ℤ) → is_day d ≡ true → (block_of first_day ≤ℤ block_of d) × (block_of d ≤ℤ block_of last_day)
+in_calendar d e =
+    let both = both_pass (int_le first_day d) (int_le d last_day) e in
+    (block-rises first_day d (int_le-true first_day d both.0), block-rises d last_day (int_le-true d last_day both.1))
 
--- what compares as less is below
-pub int_cmp-less : (a b : ℤ) → int_cmp a b ≡ Less → a <ℤ b
-int_cmp-less a b e =
-    elim (int_lt a b) as (λ t. int_lt a b ≡ t → cond t Less (cond (int_lt b a) Greater Equal) ≡ Less → a <ℤ b) [
-      | true ↦ λ lt h. int_lt-true a b lt
-      | false ↦ λ lt h. elim (int_lt b a) as (λ u. cond u Greater Equal ≡ Less → a <ℤ b) [ true ↦ λ k. absurd cc | false ↦ λ k. absurd cc ] h
+-- at first no block before that of the first day
+pub read-first : (s : Usable) (x : DayValue) (rest : List DayValue) → IsSeries s → s.days ≡ x ∷ rest → AreSummariesTo s (block_of x.0) []
+read-first s x rest series split =
+    let rise : AreRising (x ∷ rest) = subst AreRising split (rise-from_by_day s.days series.by_day) in
+    let valid : AllByRecursion (λ y. is_day y.0 ≡ true) (x ∷ rest) = subst (AllByRecursion (λ y. is_day y.0 ≡ true)) split (days-valid s s.days series.values) in
+    let within = in_calendar x.0 valid.0 in
+    let low = within.0 in
+    let high = within.1 in
+    let All : List DayValue → Type 0 = AllByRecursion (λ y. block_of y.0 <ℤ block_of x.0 → Contains [] (block_of y.0)) in
+    record {
+      series = series;
+      low = low;
+      high = omega (arith, ints);
+      each = tt;
+      possible = tt;
+      before = tt;
+      all = subst All (sym split) (
+        λ lt. absurd (omega (arith, ints)),
+        from_each (λ y. x.0 <ℤ y.0) (λ y. block_of y.0 <ℤ block_of x.0 → Contains [] (block_of y.0)) rest
+            (λ y later lt. let le = block-rises x.0 y.0 (omega (arith, ints)) in absurd (omega (arith, ints))) rise.0,
+      );
+      by_number = sorted-none;
+    }
+
+-- the block of a word with a day in it is one of the calendar
+pub block-IsBlock : (s : Usable) (b : ℤ) (word : ℕ) (values : List ℤ) → IsSeries s → word < 2 ^ 32 → IsBlockOf s.days b word values → IsBlock b
+block-IsBlock s b word values series fits of_block =
+    let lowest = bit_at-trailing_zeros w32 word of_block.present fits in
+    let day = block-day s.days (rise-from_by_day s.days series.by_day) b word values of_block (λ n v. is_day n ≡ true) (days-valid s s.days series.values) (trailing_zeros w32 word) lowest.0 lowest.1 in
+    let within = in_calendar (block_start b +ℤ pos (trailing_zeros w32 word)) day in
+    let same = block-of_place b (trailing_zeros w32 word) lowest.0 in
+    let low = within.0 in
+    let high = within.1 in
+    record { low = omega (arith, ints); high = omega (arith, ints) }
+
+-- with the summary of the block that is looked at
+pub read-more : (s : Usable) (n : ℤ) (ms : List Summary) (m : Summary) → AreSummariesTo s n ms → m.number ≡ n → IsBlock n → IsSummary s.days m → IsPossible m → AreSummariesTo s (n +ℤ pos 1) (ms ++ m ∷ [])
+read-more s n ms m so_far number block is possible =
+    let block_low = block.low in
+    let block_high = block.high in
+    let push = numbers-push ms m in
+    record {
+      series = so_far.series;
+      low = omega (arith, ints);
+      high = omega (arith, ints);
+      each = all-append (IsSummary s.days) ms (m ∷ []) so_far.each (is, tt);
+      possible = all-append IsPossible ms (m ∷ []) so_far.possible (possible, tt);
+      before = all-append (λ k. k.number <ℤ (n +ℤ pos 1)) ms (m ∷ []) (from_each (λ k. k.number <ℤ n) (λ k. k.number <ℤ (n +ℤ pos 1)) ms (λ k lt. omega (arith, ints)) so_far.before) (omega (arith, ints), tt);
+      all = from_each (λ x. block_of x.0 <ℤ n → Contains (map (λ k. k.number) ms) (block_of x.0)) (λ x. block_of x.0 <ℤ (n +ℤ pos 1) → Contains (map (λ k. k.number) (ms ++ m ∷ [])) (block_of x.0)) s.days
+          (λ x has lt.
+          elim (int_le_or_lt n (block_of x.0)) [
+            | inl le ↦
+                let same : m.number ≡ block_of x.0 = omega (arith, ints) in
+                subst (Contains (map (λ k. k.number) (ms ++ m ∷ []))) same (contains-pushed (λ k. k.number) ms m)
+            | inr less ↦ subst (λ (ns : List ℤ). Contains ns (block_of x.0)) (sym push) (Contains-append_left (map (λ k. k.number) ms) (m.number ∷ []) (block_of x.0) (has less))
+          ])
+          so_far.all;
+      by_number = subst (IsStrictlySortedBy int_cmp) (sym push)
+          (sorted-push (map (λ k. k.number) ms) m.number so_far.by_number
+          (of_numbers (λ k. k <ℤ m.number) ms (from_each (λ k. k.number <ℤ n) (λ k. k.number <ℤ m.number) ms (λ k lt. omega (arith, ints)) so_far.before)));
+    }
+
+-- the next block is that of one of the days, and no day is in a block between
+next-some : (P : DayValue → Type 0) (days : List DayValue) (b k : ℤ) → AreRising days → AllByRecursion P days → next_block days b ≡ Some k
+    → ((x : DayValue) × P x × (block_of x.0 ≡ k) × (b ≤ℤ k)) × AllByRecursion (λ x. (block_of x.0 <ℤ b) ⊎ (k ≤ℤ block_of x.0)) days
+next-some P [] b k rise all e = absurd cc
+next-some P (x ∷ xs) b k rise all e =
+    elim (int_le b (block_of x.0)) as (λ t. int_le b (block_of x.0) ≡ t → option_map (λ (y : DayValue). block_of y.0) (cond t (Some x) (find (λ y. int_le b (block_of y.0)) xs)) ≡ Some k
+    → ((x : DayValue) × P x × (block_of x.0 ≡ k) × (b ≤ℤ k)) × (((block_of x.0 <ℤ b) ⊎ (k ≤ℤ block_of x.0)) × AllByRecursion (λ x. (block_of x.0 <ℤ b) ⊎ (k ≤ℤ block_of x.0)) xs)) [
+      | true ↦ λ h found.
+          let is : block_of x.0 ≡ k = cc in
+          let le = int_le-true b (block_of x.0) h in (
+            (x, all.0, is, omega (arith, ints)),
+            (
+              inr (omega (arith, ints)),
+              from_each (λ y. x.0 <ℤ y.0) (λ y. (block_of y.0 <ℤ b) ⊎ (k ≤ℤ block_of y.0)) xs (λ y later. let rises = block-rises x.0 y.0 (omega (arith, ints)) in inr (omega (arith, ints))) rise.0,
+            ),
+          )
+      | false ↦ λ h found. let rest = next-some P xs b k rise.1 all.1 found in (rest.0, (inl (int_le-false b (block_of x.0) h), rest.1))
     ] refl e
 
--- a number that is at most another, and not equal to it, is below it
-strict : (a b : ℤ) → a ≤ℤ b → (b ≡ a → ⊥) → a <ℤ b
-strict a b le other =
-    elim (int_lt a b) as (λ t. int_lt a b ≡ t → a <ℤ b) [
-      | true ↦ λ e. int_lt-true a b e
-      | false ↦ λ e. absurd (other (let not_less : b ≤ℤ a = grind (arith, ints) in omega (arith, ints)))
-    ] refl
+-- where there is no next block, all days are in blocks before
+next-none : (days : List DayValue) (b : ℤ) → next_block days b ≡ None → AllByRecursion (λ x. block_of x.0 <ℤ b) days
+next-none [] b e = tt
+next-none (x ∷ xs) b e =
+    elim (int_le b (block_of x.0)) as (λ t. int_le b (block_of x.0) ≡ t → option_map (λ (y : DayValue). block_of y.0) (cond t (Some x) (find (λ y. int_le b (block_of y.0)) xs)) ≡ None → (block_of x.0 <ℤ b) × AllByRecursion (λ x. block_of x.0 <ℤ b) xs) [
+      | true ↦ λ h found. absurd cc
+      | false ↦ λ h found. (int_le-false b (block_of x.0) h, next-none xs b found)
+    ] refl e
 
--- what is true of all is true of the last
-last-of : (P : ℤ → Type 0) (ys : List ℤ) (b : ℤ) → AllByRecursion P (ys ++ b ∷ []) → P b
-last-of P [] b h = h.0
-last-of P (y ∷ ys) b h = last-of P ys b h.1
+-- a day of a block that has none has no value
+none-of_block : (days : List DayValue) (b : ℤ) (x : DayValue) → HasNone days b → value_on days x.0 ≡ Some x.1 → block_of x.0 ≡ b → ⊥
+none-of_block days b x none own is =
+    let at = place-in b x.0 is in
+    let value : value_on days (block_start b +ℤ pos at.0) ≡ Some x.1 = subst (λ (d : ℤ). value_on days d ≡ Some x.1) at.2 own in
+    let missing = none at.0 at.1 in
+    (let same : None ≡ Some x.1 = sym missing ∙ value in cc)
 
--- numbers in order, and a greater one behind them
-sorted-push : (xs : List ℤ) (a v : ℤ) → IsStrictlySortedBy int_cmp (xs ++ a ∷ []) → a <ℤ v → IsStrictlySortedBy int_cmp ((xs ++ a ∷ []) ++ v ∷ [])
-unfolding IsStrictlySortedBy
-sorted-push [] a v h lt = ((less-int_cmp a v lt, tt), (tt, tt))
-sorted-push (x ∷ xs) a v h lt =
-    let last : x <ℤ a = int_cmp-less x a (last-of (λ y. int_cmp x y ≡ Less) xs a h.0) in
-    (all-append (λ y. int_cmp x y ≡ Less) (xs ++ a ∷ []) (v ∷ []) h.0 (less-int_cmp x v (omega (arith, ints)), tt), sorted-push xs a v h.1 lt)
+-- a number is another one or isn't
+equal_or_more : (a b : ℤ) → a ≤ℤ b → (a ≡ b) ⊎ (a <ℤ b)
+equal_or_more a b le = elim (int_le_or_lt b a) [ inl ge ↦ inl (omega (arith, ints)) | inr lt ↦ inr lt ]
 
--- one number is in order
-sorted-one : (a : ℤ) → IsStrictlySortedBy int_cmp (a ∷ [])
-unfolding IsStrictlySortedBy
-sorted-one a = (tt, tt)
-
--- no numbers are in order
-pub sorted-none : IsStrictlySortedBy int_cmp []
-unfolding IsStrictlySortedBy
-sorted-none = tt
-
--- a day that comes behind the days read is not among the first days of their last block
-pub is-later : (all read rest : List DayValue) (x : DayValue) (m : Summary) → all ≡ read ++ x ∷ rest → Rise all → IsOpen all read m → (block_start m.number +ℤ pos m.dry.days) ≤ℤ x.0
-is-later all read rest x m split rise of_m =
-    let parts = rise-parts read (x ∷ rest) (subst Rise split rise) in
-    let found = pick (λ y. y.0) (λ y. AllByRecursion (λ z. y.0 <ℤ z.0) (x ∷ rest)) read of_m.last_read.0 parts.0 of_m.last_read.1 in
-    let earlier : found.0.0 <ℤ x.0 = found.1.0 in
-    let is = found.2 in
-    let at = of_m.last_read.2 in
-    omega (arith, ints)
-
--- a day of another block behind the days read is of a later block
-pub later-block : (all read rest : List DayValue) (x : DayValue) (m : Summary) → all ≡ read ++ x ∷ rest → Rise all → IsOpen all read m → (block_of x.0 ≡ m.number → ⊥) → m.number <ℤ block_of x.0
-later-block all read rest x m split rise of_m other =
-    let later = is-later all read rest x m split rise of_m in
-    let holds = block-holds x.0 in
-    let le : m.number ≤ℤ block_of x.0 = omega (arith, ints) in
-    strict m.number (block_of x.0) le other
-
--- the days behind a day are of no earlier block
-pub no-earlier-block : (x : DayValue) (rest : List DayValue) (b : ℤ) → b <ℤ block_of x.0 → AllByRecursion (λ z. x.0 <ℤ z.0) rest → AllByRecursion (λ z. b <ℤ block_of z.0) (x ∷ rest)
-no-earlier-block x rest b lt later =
-    (lt, from_each (λ z. x.0 <ℤ z.0) (λ z. b <ℤ block_of z.0) rest (λ z h. let le = block-rises x.0 z.0 (omega (arith, ints)) in omega (arith, ints)) later)
-
--- the days read lie in no block behind their last one
-pub no-later-block : (all read : List DayValue) (m : Summary) (b : ℤ) → m.number <ℤ b → IsOpen all read m → AllByRecursion (λ y. block_of y.0 <ℤ b) read
-no-later-block all read m b lt of_m =
-    let within = of_m.partial.within in
-    from_each (λ y. y.0 <ℤ (block_start m.number +ℤ pos m.dry.days)) (λ y. block_of y.0 <ℤ b) read (λ y h. let holds = block-holds y.0 in omega (arith, ints)) of_m.until
-
--- once the first day was read
-pub read-first : (all : List DayValue) (x : DayValue) (m : Summary) → IsOpen all (x ∷ []) m → m.number ≡ block_of x.0 → HasRead all (x ∷ []) [] m
-read-first all x m of_m number = record {
-  closed_blocks = tt;
-  possible = tt;
-  last_block = of_m;
-  each_day = (contains-first m.number (block_of x.0) [] number, tt);
-  by_number = sorted-one m.number;
-}
-
--- once a day of the last block was read
-pub read-same : (all read : List DayValue) (x : DayValue) (closed : List Summary) (m n : Summary) → HasRead all read closed m → IsOpen all (read ++ x ∷ []) n → n.number ≡ m.number → block_of x.0 ≡ m.number
-    → HasRead all (read ++ x ∷ []) closed n
-read-same all read x closed m n has of_n number block =
-    let same : numbers (closed ++ m ∷ []) ≡ numbers (closed ++ n ∷ []) = sym (numbers-last closed m n number) in
-    let Each : List ℤ → Type 0 = λ ns. AllByRecursion (λ y. Contains ns (block_of y.0)) read in
-    let Here : List ℤ → Type 0 = λ ns. Contains ns (block_of x.0) in
-    let Last : ℤ → Type 0 = λ b. Contains (numbers closed ++ n.number ∷ []) b in
-    record {
-      closed_blocks = has.closed_blocks;
-      possible = has.possible;
-      last_block = of_n;
-      each_day = all-append (λ y. Contains (numbers (closed ++ n ∷ [])) (block_of y.0)) read (x ∷ []) (subst Each same has.each_day)
-          (subst Here (sym (numbers-push closed n)) (subst Last (number ∙ sym block) (Contains-push (numbers closed) n.number)), tt);
-      by_number = subst (IsStrictlySortedBy int_cmp) same has.by_number;
-    }
-
--- once a day of a later block was read
-pub read-next : (all read : List DayValue) (x : DayValue) (closed : List Summary) (m w n : Summary) → HasRead all read closed m → IsSummary all w → IsPossible w → w.number ≡ m.number
-    → IsOpen all (read ++ x ∷ []) n → n.number ≡ block_of x.0 → m.number <ℤ block_of x.0 → HasRead all (read ++ x ∷ []) (closed ++ w ∷ []) n
-read-next all read x closed m w n has of_w possible_w number of_n number_n later =
-    let front : numbers (closed ++ w ∷ []) ≡ numbers (closed ++ m ∷ []) = numbers-last closed m w number in
-    let whole : numbers ((closed ++ w ∷ []) ++ n ∷ []) ≡ numbers (closed ++ m ∷ []) ++ n.number ∷ [] = numbers-push (closed ++ w ∷ []) n ∙ ap (λ ns. ns ++ n.number ∷ []) front in
-    let Here : List ℤ → Type 0 = λ ns. Contains ns (block_of x.0) in
-    let Last : ℤ → Type 0 = λ b. Contains (numbers (closed ++ m ∷ []) ++ n.number ∷ []) b in
-    let Sorted : List ℤ → Type 0 = λ ns. IsStrictlySortedBy int_cmp (ns ++ n.number ∷ []) in
-    let before : IsStrictlySortedBy int_cmp (numbers closed ++ m.number ∷ []) = subst (IsStrictlySortedBy int_cmp) (numbers-push closed m) has.by_number in
-    record {
-      closed_blocks = all-append (IsSummary all) closed (w ∷ []) has.closed_blocks (of_w, tt);
-      possible = all-append IsPossible closed (w ∷ []) has.possible (possible_w, tt);
-      last_block = of_n;
-      each_day = all-append (λ y. Contains (numbers ((closed ++ w ∷ []) ++ n ∷ [])) (block_of y.0)) read (x ∷ [])
-          (from_each (λ y. Contains (numbers (closed ++ m ∷ [])) (block_of y.0)) (λ y. Contains (numbers ((closed ++ w ∷ []) ++ n ∷ [])) (block_of y.0)) read
-          (λ y h. let P : List ℤ → Type 0 = λ ns. Contains ns (block_of y.0) in subst P (sym whole) (Contains-append_left (numbers (closed ++ m ∷ [])) (n.number ∷ []) (block_of y.0) h)) has.each_day)
-          (subst Here (sym whole) (subst Last number_n (Contains-push (numbers (closed ++ m ∷ [])) n.number)), tt);
-      by_number = subst (IsStrictlySortedBy int_cmp) (sym whole)
-          (subst Sorted (sym (numbers-push closed m)) (sorted-push (numbers closed) m.number n.number before (omega (arith, ints))));
-    }
-
-module _ (s : Usable) (closed : List Summary) (m w : Summary) (has : HasRead s.days s.days closed m) (number : w.number ≡ m.number) where
-  -- once all days were read, these are the summaries
-  pub read-all : IsSummary s.days w → AreSummaries s (closed ++ w ∷ [])
-  read-all of_w =
-      let same : numbers (closed ++ m ∷ []) ≡ numbers (closed ++ w ∷ []) = sym (numbers-last closed m w number) in
-      let Each : List ℤ → Type 0 = λ ns. AllByRecursion (λ y. Contains ns (block_of y.0)) s.days in
-      record {
-        each = all-append (IsSummary s.days) closed (w ∷ []) has.closed_blocks (of_w, tt);
-        all = subst Each same has.each_day;
-        by_number = subst (IsStrictlySortedBy int_cmp) same has.by_number;
-      }
-
-  -- and what is true of all summaries is true of them
-  pub read-possible : IsPossible w → ArePossible (closed ++ w ∷ [])
-  read-possible possible_w =
-      let same : numbers (closed ++ m ∷ []) ≡ numbers (closed ++ w ∷ []) = sym (numbers-last closed m w number) in
-      record {
-        each = all-append IsPossible closed (w ∷ []) has.possible (possible_w, tt);
-        by_number = subst (IsStrictlySortedBy int_cmp) same has.by_number;
-      }
-
--- the first value of a series is one that an element can have
-pub first-value-bounds : (s : Usable) (x : DayValue) (rest : List DayValue) → IsSeries s → s.days ≡ x ∷ rest → (neg_ℤ (pos 9998) ≤ℤ x.1) × (x.1 ≤ℤ pos 99_999)
-first-value-bounds s x rest series split =
-    let P : List DayValue → Type 0 = λ days. list_all (λ y. is_day y.0 && is_value s.element y.1) days ≡ true in
-    let all : (is_day x.0 && is_value s.element x.1 && list_all (λ y. is_day y.0 && is_value s.element y.1) rest) ≡ true = subst P split series.values in
-    let first = both_pass (is_day x.0 && is_value s.element x.1) (list_all (λ y. is_day y.0 && is_value s.element y.1) rest) all in
-    let value = both_pass (is_day x.0) (is_value s.element x.1) first.0 in
-    let limits = both_pass (int_le (neg_ℤ (pos 9998)) x.1 && int_le x.1 (pos 99_999)) (may_be_negative s.element || int_le (pos 0) x.1) value.1 in
-    let ends = both_pass (int_le (neg_ℤ (pos 9998)) x.1) (int_le x.1 (pos 99_999)) limits.0 in
-    (int_le-true (neg_ℤ (pos 9998)) x.1 ends.0, int_le-true x.1 (pos 99_999) ends.1)
-
--- a series without days has no summaries
-pub read-none : (s : Usable) → s.days ≡ [] → AreSummaries s []
-read-none s none =
-    let Each : List DayValue → Type 0 = AllByRecursion (λ y. Contains [] (block_of y.0)) in
-    record { each = tt; all = subst Each (sym none) tt; by_number = sorted-none }
-
--- there is nothing that might not be possible
-pub none-possible : ArePossible []
-none-possible = record { each = tt; by_number = sorted-none }
+module _ (s : Usable) (n : ℤ) (ms : List Summary) (so_far : AreSummariesTo s n ms) (none : HasNone s.days n) where
+  -- a block without a day is passed over, and a later one is next
+  pub read-next : (next : Option ℤ) → next_block s.days n ≡ next → AreSummariesUpTo s ms next × (numbers_left next < numbers_left (Some n))
+  read-next (Some k) e =
+      let series = so_far.series in
+      let rise = rise-from_by_day s.days series.by_day in
+      let P : DayValue → Type 0 = λ x. (value_on s.days x.0 ≡ Some x.1) × (is_day x.0 ≡ true) in
+      let each = from_both (λ x. value_on s.days x.0 ≡ Some x.1) (λ x. is_day x.0 ≡ true) P s.days (λ x own valid. (own, valid)) (own-values s.days rise) (days-valid s s.days series.values) in
+      let found = next-some P s.days n k rise each e in
+      let x : DayValue = found.0.0 in
+      let is = found.0.2 in
+      let within = in_calendar x.0 found.0.1.1 in
+      let within_low = within.0 in
+      let within_high = within.1 in
+      let low = so_far.low in
+      let high = so_far.high in
+      let later : n <ℤ k =
+      elim (equal_or_more n k found.0.3) [
+        | inl same ↦ absurd (none-of_block s.days n x none found.0.1.0 (is ∙ sym same))
+        | inr lt ↦ lt
+      ] in (
+        record {
+          series = so_far.series;
+          low = omega (arith, ints);
+          high = omega (arith, ints);
+          each = so_far.each;
+          possible = so_far.possible;
+          before = from_each (λ m. m.number <ℤ n) (λ m. m.number <ℤ k) ms (λ m lt. omega (arith, ints)) so_far.before;
+          all = from_both (λ x. (block_of x.0 <ℤ n) ⊎ (k ≤ℤ block_of x.0)) (λ x. block_of x.0 <ℤ n → Contains (map (λ m. m.number) ms) (block_of x.0)) (λ x. block_of x.0 <ℤ k → Contains (map (λ m. m.number) ms) (block_of x.0)) s.days
+              (λ x side has lt. elim side [ inl before ↦ has before | inr ge ↦ absurd (omega (arith, ints)) ])
+              found.1 so_far.all;
+          by_number = so_far.by_number;
+        },
+        omega (arith, ints),
+      )
+  read-next None e =
+      let low = so_far.low in
+      let high = so_far.high in (
+        (
+          record {
+            each = so_far.each;
+            all = from_both (λ x. block_of x.0 <ℤ n) (λ x. block_of x.0 <ℤ n → Contains (map (λ m. m.number) ms) (block_of x.0)) (λ x. Contains (map (λ m. m.number) ms) (block_of x.0)) s.days (λ x before has. has before) (next-none s.days n e) so_far.all;
+            by_number = so_far.by_number;
+          },
+          record { each = so_far.possible; by_number = so_far.by_number },
+        ),
+        omega (arith, ints),
+      )

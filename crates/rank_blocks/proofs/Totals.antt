@@ -14,7 +14,7 @@ use Rattle.rank_blocks.specs.Reached.{summaries_total}
 use Rattle.rank_blocks.specs.Summaries.{IsSummary, AreSummaries}
 use Rattle.rank_blocks.proofs.Members.{from_each, contains-cases}
 use Rattle.rank_blocks.proofs.DayValues.{lt-int_eq}
-use Rattle.rank_blocks.proofs.ReadBlocks.{int_cmp-less}
+use Rattle.rank_blocks.proofs.Numbers.{int_cmp-less}
 
 -- measures that agree everywhere make the same of a list
 map-same : {X Y : Type 0} (f g : X → Y) (xs : List X) → ((x : X) → f x ≡ g x) → map f xs ≡ map g xs

@@ -1,6 +1,11 @@
 -- How days of one kind follow one another among some days in a row, which are counted from 0.
 use Rattle.std.specs.Prelude.{◌≡◌, ℕ, ◌+◌, ◌<◌, ◌≤◌, ◌==◌, Bool, true, false, if◌then◌else◌, max}
+use Rattle.std.specs.Int.{bit_at}
 use Rattle.rank_blocks.specs.declared.runs.Runs.{Runs}
+
+-- whether a word's bit at a place is set
+abbrev pub has_bit : ℕ → ℕ → Bool
+has_bit word j = bit_at word j == 1
 
 -- the days from one to before another are all of the kind
 abbrev pub AllPass : (ℕ → Bool) → ℕ → ℕ → Type 0
@@ -33,10 +38,6 @@ pub record AreRuns (passes : ℕ → Bool) (r : Runs) : Type 0 where
 abbrev pub runs_without : ℕ → Runs
 runs_without days = record { days = days; first = 0; last = 0; longest = 0 }
 
--- what is told of one day
-abbrev pub runs_of_day : Bool → Runs
-runs_of_day passes = if passes then record { days = 1; first = 1; last = 1; longest = 1 } else runs_without 1
-
 -- how many come first of some days and those behind them; counted from the end, how many come last
 abbrev pub first_of_both : ℕ → ℕ → ℕ → ℕ
 first_of_both days first next = if first == days then days + next else first
@@ -55,9 +56,3 @@ pub record ArePart (r : Runs) : Type 0 where
   pub first : r.first ≤ r.days
   pub last : r.last ≤ r.days
   pub longest : r.longest ≤ r.days
-
--- the new runs tell of more days, up to a place: the day there is of the kind or not, and those between are not
-pub record TakesDay (old new : Runs) (place : ℕ) (passes : Bool) : Type 0 where
-  pub days : new.days ≡ place + 1
-  pub part : ArePart new
-  pub runs : (kind : ℕ → Bool) → AreRuns kind old → ((k : ℕ) → old.days ≤ k → k < place → kind k ≡ false) → kind place ≡ passes → AreRuns kind new

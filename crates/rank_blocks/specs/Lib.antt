@@ -4,3 +4,4 @@ pub mod Greatest
 pub mod DayRuns
 pub mod Summaries
 pub mod Reached
+pub mod Values

@@ -7,7 +7,6 @@ use Rattle.rank_scores.specs.declared.spell.Spell.TheVariants.{Dry, Wet}
 use Rattle.rank_blocks.specs.declared.range.BlockRange.{BlockRange}
 use Rattle.rank_blocks.specs.declared.extreme.Extreme.{Extreme}
 use Rattle.rank_blocks.specs.declared.extreme.Extreme.TheVariants.{Highest, Lowest}
-use Rattle.rank_blocks.specs.declared.runs.Runs.{Runs}
 use Rattle.rank_blocks.specs.declared.summary.Summary.{Summary}
 use Rattle.rank_blocks.specs.Blocks.{total, is_among, blocks_total}
 
@@ -38,10 +37,10 @@ abbrev pub extreme_of : Extreme → Summary → ℤ
 extreme_of Highest m = m.greatest
 extreme_of Lowest m = neg_ℤ m.least
 
--- the runs of a spell's days in a block
-abbrev pub runs_of : Spell → Summary → Runs
-runs_of Dry m = m.dry
-runs_of Wet m = m.wet
+-- the word of a spell's days in a block
+abbrev pub word_of : Spell → Summary → ℕ
+word_of Dry m = m.dry
+word_of Wet m = m.wet
 
 -- the total of w blocks from one on
 abbrev pub summaries_total : List Summary → ℕ → ℤ → ℤ

@@ -1,17 +1,17 @@
 //! The summaries of the blocks of a series, and the bounds that they give.
 
-ghost use Rattle.std.specs.Prelude.{◌≡◌, List, [], ◌∷◌, ◌++◌, IfOk};
-ghost use Rattle.ghcn_series.specs.Series.{DayValue, Usable};
+ghost use Rattle.std.specs.Prelude.{◌<◌, Some, IfOk};
+ghost use Rattle.ghcn_series.specs.Series.{Usable};
 ghost use Rattle.rank_query.specs.Asked.{IsAsked};
 ghost use Rattle.rank_blocks.specs.Bounds.{IsAskedOf};
 ghost use Rattle.rank_blocks.specs.Greatest.{IsBound, IsSeriesBound};
-ghost use Rattle.rank_blocks.specs.Summaries.{AreSummaries, ArePossible, HasRead, IsBefore, Rise};
+ghost use Rattle.rank_blocks.specs.Summaries.{AreSummaries, AreSummariesTo, AreSummariesUpTo, ArePossible, numbers_left};
 
 use crate::extreme::Extreme;
 use crate::range::BlockRange;
 use crate::reached::{greatest_day, greatest_total, longest_run, times, window_blocks};
 use crate::summary::Summary;
-use ghcn_fields::{Day, Memory};
+use ghcn_fields::Memory;
 use ghcn_series::Series;
 use rank_query::{Query, Score};
 use rank_scores::Spell;
@@ -88,30 +88,28 @@ fn summaries_of(alloc: Global, series: &Series) -> Result<Vec<Summary>, Memory>
     let Some(first) = days.next() else {
         return Ok(summaries);
     };
-    let mut current = Summary::of_day(first.0, first.1);
-    for (day, value) in days {
-        current = add_day(&mut summaries, current, day, value)?;
+    let mut next = Some(first.0.block());
+    while let Some(number) = next {
+        next = add_block(&mut summaries, series, number)?;
     }
-    summaries.push(current.whole())?;
     Ok(summaries)
 }
 
-/// Adds a later day to the current block, or puts that block's summary into the list and begins
-/// the day's own.
-fn add_day(
+/// Adds the summary of a block, where it holds a usable day. Returns the number to look at next.
+fn add_block(
     summaries: &mut Vec<Summary>,
-    current: Summary,
-    day: Day,
-    value: i32,
-) -> Result<Summary, Memory>
-    requires { IsBefore current day }
-    ensures { IfOk result (λ next. (all read rest : List DayValue) → all ≡ read ++ (day, value) ∷ rest → Rise all →
-        HasRead all read summaries.old.items current →
-        HasRead all (read ++ (day, value) ∷ []) summaries.new.items next) }
+    series: &Series,
+    number: i32,
+) -> Result<Option<i32>, Memory>
+    requires { AreSummariesTo series.now number summaries.old.items }
+    ensures read { IfOk result (AreSummariesUpTo series.now summaries.new.items) }
+    ensures later { IfOk result (λ next. numbers_left next < numbers_left (Some number)) }
 {
-    if day.block() == current.number {
-        return Ok(current.with(day, value));
+    match series.block(number) {
+        Some((word, values)) => {
+            summaries.push(Summary::of_block(number, word, values))?;
+            Ok(Some(number + 1))
+        }
+        None => Ok(series.next_block(number)),
     }
-    summaries.push(current.whole())?;
-    Ok(Summary::of_day(day, value))
 }

@@ -1,7 +1,7 @@
 //! Bounds: for a series and a query a number that no candidate's score exceeds, found without
 //! looking at the series again.
 //!
-//! A crate of plans is to stand on it. What it hands up is the bound.
+//! `rank_sched` takes series by falling bound, and passes over those whose bound is too low.
 #![tactic(auto)]
 
 mod blocks;
@@ -14,5 +14,6 @@ mod runs;
 mod summary;
 #[cfg(test)]
 mod tests;
+mod values;
 
 pub use blocks::Blocks;

@@ -1,7 +1,9 @@
 //! How days of one kind follow one another among some days in a row.
 
 ghost use Rattle.std.specs.Prelude.{◌≡◌, ◌+◌, ◌-◌, ◌<◌, ◌≤◌, ◌^◌};
-ghost use Rattle.rank_blocks.specs.DayRuns.{runs_without, runs_of_day, joined, ArePart, TakesDay};
+ghost use Rattle.rank_blocks.specs.DayRuns.{has_bit, runs_without, joined, ArePart, AreRuns, FollowAtMost};
+
+use crate::summary::BLOCK_DAYS;
 
 /// How the days of one kind follow one another among some days in a row.
 #[derive(Clone, Copy, Debug)]
@@ -29,19 +31,16 @@ impl Runs {
         }
     }
 
-    /// Of one day.
-    pub(crate) fn of_day(passes: bool) -> Self
-        ensures { result ≡ runs_of_day passes }
+    /// Of the 32 days of a block, of which a word has the bits of those of the kind.
+    pub(crate) fn of_word(word: u32) -> Self
+        ensures runs { AreRuns (has_bit word) result }
+        ensures days { result.days ≡ 32 }
     {
-        if passes {
-            Runs {
-                days: 1,
-                first: 1,
-                last: 1,
-                longest: 1,
-            }
-        } else {
-            Runs::without(1)
+        Runs {
+            days: BLOCK_DAYS,
+            first: word.trailing_ones(),
+            last: word.leading_ones(),
+            longest: longest_ones(word),
         }
     }
 
@@ -76,14 +75,19 @@ impl Runs {
     {
         self.join(Runs::without(days - self.days))
     }
+}
 
-    /// Of these days, of a later day at its place, and of those between, of which none is of the kind.
-    pub(crate) fn with_day(self, place: u32, passes: bool) -> Self
-        requires part { ArePart self }
-        requires later { self.days ≤ place }
-        requires room { place < 32 }
-        ensures { TakesDay self result place passes }
-    {
-        self.up_to(place).join(Runs::of_day(passes))
+/// How many of a word's bits that are set follow one another at most.
+fn longest_ones(word: u32) -> u32
+    ensures { FollowAtMost (has_bit word) 32 result }
+{
+    // A bit stays as long as a run of this length ends there.
+    let mut ends = word;
+    for length in 0..32 {
+        if ends == 0 {
+            return length;
+        }
+        ends &= ends << 1;
     }
+    32
 }

@@ -97,13 +97,18 @@ fn compare(rt: &impl Abort, alloc: Global, rows: &[Row]) -> Result<(), Fail> {
 // and of block 91653 the day 2932896 alone, which is 9999-12-31.
 
 #[rattlefmt::skip]
-const DAYS: [Row; 14] = [
+const DAYS: [Row; 18] = [
     (&[(18_444, 1, 311), (18_445, 1, 305)], "top 1 highest TMAX from 2020-07-02 to 2020-07-02", 311),
     (&[(18_444, 1, 311), (18_445, 1, 305)], "top 1 highest TMAX", 311),
     (&[(18_444, 1, 311)], "top 1 highest TMAX", 311),
     (&[(18_444, 1, 250)], "top 1 highest TMAX", 250),
     (&[(18_444, 1, -50)], "top 1 highest TMIN", -50),
     (&[(18_444, 1, -5), (18_445, 1, 3)], "top 2 lowest TMIN", 5),
+    // A whole block, a block but for one day, and one day of a block.
+    (&[(18_432, 32, -50)], "top 1 highest TMIN", -50),
+    (&[(18_432, 31, -50)], "top 1 highest TMIN", -50),
+    (&[(18_432, 32, 70)], "top 1 lowest TMIN", -70),
+    (&[(18_463, 1, 70)], "top 1 lowest TMIN", -70),
     (&[(18_444, 1, 311)], "top 1 lowest TMAX", -311),
     (&[(-33, 1, 300), (-32, 1, 100), (0, 1, 200)], "top 1 highest TMAX from 1969-12-31 to 1969-12-31", 100),
     (&[(-719_162, 1, 311), (2_932_896, 1, 250)], "top 1 highest TMAX", 311),
@@ -120,7 +125,7 @@ fn bounds_of_single_days(rt: HostRuntime) -> Result<(), Fail> {
 }
 
 #[rattlefmt::skip]
-const SUMS: [Row; 10] = [
+const SUMS: [Row; 12] = [
     (
         &[(18_258, 1, 10), (18_259, 1, 20), (18_260, 1, 30), (18_262, 1, 5), (18_263, 1, 6), (18_264, 1, 7)],
         "top 5 sum 3 PRCP from 2019-12-28 to 2020-01-03",
@@ -129,6 +134,9 @@ const SUMS: [Row; 10] = [
     (&[(18_463, 34, 10)], "top 1 sum 33 PRCP", 330),
     (&[(18_463, 34, 10)], "top 1 sum 34 PRCP", 340),
     (&[(18_463, 2, 100)], "top 1 sum 2 PRCP", 200),
+    // A block lies between the two, so two blocks in a row hold one of them.
+    (&[(18_444, 1, 100), (18_496, 1, 60)], "top 1 sum 2 PRCP", 100),
+    (&[(18_444, 1, 100), (18_496, 1, 60)], "top 1 sum 33 PRCP", 100),
     // The period's last block holds no day, and the first behind it 900.
     (&[(18_453, 1, 5), (18_506, 1, 900)], "top 1 sum 32 PRCP from 2020-07-01 to 2020-08-01", 160),
     // The second block lies behind the period.
@@ -146,7 +154,7 @@ fn bounds_of_sums(rt: HostRuntime) -> Result<(), Fail> {
 }
 
 #[rattlefmt::skip]
-const SPELLS: [Row; 13] = [
+const SPELLS: [Row; 16] = [
     (&[(18_444, 31, 0)], "top 1 dry", 31),
     (&[(18_444, 31, 0)], "top 2 dry from 2020-07-05 to 2020-07-10", 20),
     (&[(18_444, 31, 0)], "top 1 wet", 0),
@@ -154,6 +162,9 @@ const SPELLS: [Row; 13] = [
     // A missing day ends a run, and so do a wet day and a block without a day.
     (&[(18_440, 1, 0), (18_442, 3, 0)], "top 1 dry", 3),
     (&[(18_440, 3, 12), (18_444, 1, 12)], "top 1 wet", 3),
+    (&[(18_432, 15, 0), (18_448, 16, 0)], "top 1 dry", 16),
+    (&[(18_432, 31, 0)], "top 1 dry", 31),
+    (&[(18_433, 31, 12)], "top 1 wet", 31),
     (&[(18_440, 20, 0), (18_460, 1, 10), (18_461, 43, 0)], "top 1 dry", 43),
     (&[(18_432, 32, 0), (18_496, 32, 0)], "top 1 dry", 32),
     (&[(-40, 50, 0)], "top 1 dry from 1969-12-31 to 1969-12-31", 32),

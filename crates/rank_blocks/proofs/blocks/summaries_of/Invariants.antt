@@ -1,7 +1,8 @@
-use Rattle.std.proofs.Common.{◌≡◌, List, ◌++◌}
-use Rattle.ghcn_series.specs.Series.{DayValue}
-use Rattle.rank_blocks.specs.Summaries.{HasRead}
+use Rattle.rank_blocks.specs.Summaries.{AreSummariesUpTo, numbers_left}
 use Rattle.rank_blocks.proofs.blocks.summaries_of.Given as goal
 
-abbrev pub invariant-loop-day : goal.invariant-loop-day
-invariant-loop-day l = (read : List DayValue) × (l.series.days ≡ read ++ l.day-iterator) × HasRead l.series.days read l.summaries.items l.current
+abbrev pub invariant-loop-next : goal.invariant-loop-next
+invariant-loop-next l = AreSummariesUpTo l.series l.summaries.items l.next
+
+abbrev pub decreases-loop-next : goal.decreases-loop-next
+decreases-loop-next l = numbers_left l.next

@@ -7,10 +7,10 @@ use Rattle.rank_blocks.specs.declared.summary.Summary.{Summary}
 use Rattle.rank_blocks.specs.Blocks.{block_start}
 use Rattle.rank_blocks.specs.DayRuns.{ArePart, runs_without, joined}
 use Rattle.rank_blocks.specs.Greatest.{IsGreatest}
-use Rattle.rank_blocks.specs.Reached.{in_range, runs_of}
+use Rattle.rank_blocks.specs.Reached.{in_range}
 use Rattle.rank_blocks.proofs.LongestRuns.{AreRunsSoFar, runs_so_far-start, runs_so_far-in, runs_so_far-out, runs_so_far-end}
-use Rattle.rank_blocks.proofs.OpenBlocks.{joined-ArePart, without-ArePart}
-use Rattle.rank_blocks.proofs.BlockSteps.{block_at, left-at, possible-at, number-at, possible-left, behind-left, spell-part, spell-whole, ahead-in, ahead-at, ahead-start}
+use Rattle.rank_blocks.proofs.JoinedRuns.{AreRuns-ArePart, joined-ArePart, without-ArePart}
+use Rattle.rank_blocks.proofs.BlockSteps.{block_at, left-at, possible-at, number-at, possible-left, behind-left, ahead-in, ahead-at, ahead-start}
 use Rattle.rank_blocks.proofs.reached.longest_run.Goals as goal
 use Rattle.rank_blocks.proofs.reached.longest_run.Goals.{then-holds, else-holds}
 
@@ -42,18 +42,18 @@ up_to-requires-clause-later c =
 
 pub join-runs-requires-clause-next_part : goal.join-runs-requires-clause-next_part
 join-runs-requires-clause-next_part c =
-    subst ArePart (sym c.runs.ensures) (spell-part c.args.spell (block_at c.args.blocks.now c.loop-block.block-index) (possible-at c.args.blocks.now c.loop-block.block-index c.loop-block-test.true c.requires.possible))
+    AreRuns-ArePart _ c.runs.result c.runs.ensures.runs
 
 pub join-runs-requires-clause-room : goal.join-runs-requires-clause-room
 join-runs-requires-clause-room c =
     let possible = possible-at c.args.blocks.now c.loop-block.block-index c.loop-block-test.true c.requires.possible in
-    let whole : c.runs.result.days ≡ 32 = ap (λ (r : Runs). r.days) c.runs.ensures ∙ spell-whole c.args.spell (block_at c.args.blocks.now c.loop-block.block-index) possible in
+    let whole = c.runs.ensures.days in
     let days = ap (λ (r : Runs). r.days) c.up_to.ensures in
     let before = c.days_between-before.ensures in
     let range_low = c.requires.low.low in
     let range_high = c.requires.low.high in
-    let low = possible.partial.low in
-    let high = possible.partial.high in
+    let low = possible.low in
+    let high = possible.high in
     let room = c.loop-block.invariant.room in
     omega (arith, ints)
 
@@ -68,8 +68,8 @@ loop-block-preserved c =
     let number = number-at (block_at ms i) possible in
     let range : c.holds.result ≡ in_range c.args.range m.number = c.holds.ensures ∙ ap (in_range c.args.range) number in
     let behind = behind-left ms i lt c.loop-block.invariant.possible in
-    let low = possible.partial.low in
-    let high = possible.partial.high in
+    let low = possible.low in
+    let high = possible.high in
     let range_low = c.requires.low.low in
     let range_high = c.requires.low.high in
     let Ahead : List Summary → Type 0 = AllByRecursion (λ k. in_range c.args.range k.number ≡ true → (block_start c.args.range.first +ℤ pos c.loop-block.runs.days) ≤ℤ block_start k.number) in
@@ -83,23 +83,23 @@ loop-block-preserved c =
           let holds = sym range ∙ w.if-holds.true in
           let here = ahead.0 holds in
           let le : c.loop-block.runs.days ≤ w.days_between-before.result = omega (arith, ints) in
-          let is : c.if-holds.runs ≡ joined (joined c.loop-block.runs (runs_without (w.days_between-before.result - c.loop-block.runs.days))) (runs_of c.args.spell m) =
-          w.runs-is ∙ w.join-runs.ensures ∙ ap (λ (r : Runs). joined r w.runs.result) w.up_to.ensures ∙ ap (λ (r : Runs). joined (joined c.loop-block.runs (runs_without (w.days_between-before.result - c.loop-block.runs.days))) r) w.runs.ensures in
-          let whole = spell-whole c.args.spell m possible in
-          let days : c.if-holds.runs.days ≡ c.loop-block.runs.days + (w.days_between-before.result - c.loop-block.runs.days) + (runs_of c.args.spell m).days = ap (λ (r : Runs). r.days) is in
+          let is : c.if-holds.runs ≡ joined (joined c.loop-block.runs (runs_without (w.days_between-before.result - c.loop-block.runs.days))) w.runs.result =
+          w.runs-is ∙ w.join-runs.ensures ∙ ap (λ (r : Runs). joined r w.runs.result) w.up_to.ensures in
+          let whole = w.runs.ensures.days in
+          let days : c.if-holds.runs.days ≡ c.loop-block.runs.days + (w.days_between-before.result - c.loop-block.runs.days) + w.runs.result.days = ap (λ (r : Runs). r.days) is in
           record {
             possible = possible-left ms i lt c.loop-block.invariant.possible;
             part = subst ArePart (sym is)
-                (joined-ArePart (joined c.loop-block.runs (runs_without (w.days_between-before.result - c.loop-block.runs.days))) (runs_of c.args.spell m)
+                (joined-ArePart (joined c.loop-block.runs (runs_without (w.days_between-before.result - c.loop-block.runs.days))) w.runs.result
                 (joined-ArePart c.loop-block.runs (runs_without (w.days_between-before.result - c.loop-block.runs.days)) c.loop-block.invariant.part (without-ArePart (w.days_between-before.result - c.loop-block.runs.days)))
-                (spell-part c.args.spell m possible));
+                (AreRuns-ArePart _ w.runs.result w.runs.ensures.runs));
             room = omega (arith, ints);
             ahead = ahead-in c.args.range m.number c.if-holds.runs.days w.days_between-before.result (drop (c.loop-block.block-index + 1) c.args.blocks.now) behind starts (omega arith);
             so_far = λ s are.
                 let Far : List Summary → Type 0 = λ ks. AreRunsSoFar c.args.range c.args.spell s c.args.blocks.now ks c.loop-block.runs in
                 let far = subst Far left (c.loop-block.invariant.so_far s are) in
                 let Next : Runs → Type 0 = λ r. AreRunsSoFar c.args.range c.args.spell s c.args.blocks.now (drop (c.loop-block.block-index + 1) c.args.blocks.now) r in
-                subst Next (sym is) (runs_so_far-in c.args.range c.args.spell s c.args.blocks.now are m (drop (c.loop-block.block-index + 1) c.args.blocks.now) c.loop-block.runs far behind w.days_between-before.result starts le holds);
+                subst Next (sym is) (runs_so_far-in c.args.range c.args.spell s c.args.blocks.now are m (drop (c.loop-block.block-index + 1) c.args.blocks.now) c.loop-block.runs far behind w.days_between-before.result w.runs.result w.runs.ensures.runs w.runs.ensures.days starts le holds);
           }
       | else-holds w ↦
           let Days : Runs → Type 0 = λ r. AllByRecursion (λ k. in_range c.args.range k.number ≡ true → (block_start c.args.range.first +ℤ pos r.days) ≤ℤ block_start k.number) (drop (c.loop-block.block-index + 1) c.args.blocks.now) in

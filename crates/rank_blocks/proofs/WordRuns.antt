@@ -1,0 +1,213 @@
+-- The runs of the bits of a word.
+use Rattle.std.proofs.Common.{◌≡◌, ℕ, zero, suc, ◌+◌, ◌-◌, ◌*◌, ◌/◌, ◌%◌, ◌<◌, ◌≤◌, ◌^◌, true, false, min, ◌⊎◌, inl, inr, refl, sym, ap, ◌∙◌, subst, arith, w32}
+use Rattle.std.specs.Prelude.{◌==◌, bit_and}
+use Rattle.std.specs.Int.{bit_at, bit_not, leading_ones, trailing_ones, trailing_zeros}
+use Rattle.std.proofs.lemmas.Bool.Decides.{Decides-eqb}
+use Rattle.std.proofs.lemmas.Nat.{leading_top}
+use Rattle.std.proofs.lemmas.Nat.Bits.{bit_at-lt, bit_at-zero, bit_at_and, bit_at_above, bit_at_cat_low, bit_at_cat_high, bit_at_not, bit_at_ones, bit_at-trailing_ones, bit_at-trailing_zeros}
+use Rattle.rank_blocks.specs.DayRuns.{has_bit, AllPass, ComeFirst, ComeLast, FollowAtMost}
+use Rattle.rank_blocks.proofs.JoinedRuns.{at_most_or_more}
+
+-- a bit that is set, and one that isn't
+set-true : (word j : ℕ) → bit_at word j ≡ 1 → has_bit word j ≡ true
+set-true word j e = ap (λ (k : ℕ). k == 1) e
+
+set-false : (word j : ℕ) → bit_at word j ≡ 0 → has_bit word j ≡ false
+set-false word j e = ap (λ (k : ℕ). k == 1) e
+
+true-set : (word j : ℕ) → has_bit word j ≡ true → bit_at word j ≡ 1
+true-set word j e = (Decides-eqb (bit_at word j) 1).0 e
+
+-- the bits of a word moved up by one place
+moved-up : (w k : ℕ) → k + 1 < 32 → bit_at (w * 2 ^ 1 % 2 ^ 32) (k + 1) ≡ bit_at w k
+moved-up w k lt =
+    let whole : (w * 2 ^ 1 / 2 ^ 32) * 2 ^ 32 + w * 2 ^ 1 % 2 ^ 32 ≡ w * 2 ^ 1 + 0 = omega arith in
+    sym (bit_at_cat_low (w * 2 ^ 1 / 2 ^ 32) 32 (w * 2 ^ 1 % 2 ^ 32) (k + 1) lt)
+    ∙ ap (λ (n : ℕ). bit_at n (k + 1)) whole
+    ∙ bit_at_cat_high w 1 0 (k + 1) (omega arith) (omega arith)
+    ∙ ap (bit_at w) {x = k + 1 - 1} {y = k} (omega arith)
+
+lowest-empty : (w : ℕ) → bit_at (w * 2 ^ 1 % 2 ^ 32) 0 ≡ 0
+lowest-empty w =
+    let whole : (w * 2 ^ 1 / 2 ^ 32) * 2 ^ 32 + w * 2 ^ 1 % 2 ^ 32 ≡ w * 2 ^ 1 + 0 = omega arith in
+    sym (bit_at_cat_low (w * 2 ^ 1 / 2 ^ 32) 32 (w * 2 ^ 1 % 2 ^ 32) 0 (omega arith))
+    ∙ ap (λ (n : ℕ). bit_at n 0) whole
+    ∙ bit_at_cat_low w 1 0 0 (omega arith)
+    ∙ bit_at-zero 0
+
+-- what remains of a word: a bit is set where more than n bits of the word that are set end; and n set bits follow one another somewhere
+pub record AreEnds (word n ends : ℕ) : Type 0 where
+  pub some : (from : ℕ) → from + n < 32 → bit_at ends (from + n) ≡ 1 → AllPass (has_bit word) from (from + n + 1)
+  pub every : (from : ℕ) → from + n < 32 → AllPass (has_bit word) from (from + n + 1) → bit_at ends (from + n) ≡ 1
+  pub none : (k : ℕ) → k < n → bit_at ends k ≡ 0
+  pub somewhere : (from : ℕ) × (from + n ≤ 32) × AllPass (has_bit word) from (from + n)
+
+-- at first all bits
+pub ends-start : (word : ℕ) → AreEnds word 0 word
+ends-start word = record {
+  some = λ from lt bit k low high.
+      let same : from + 0 ≡ k = omega arith in
+      subst (λ (i : ℕ). has_bit word i ≡ true) same (set-true word (from + 0) bit);
+  every = λ from lt pass.
+      let same : from ≡ from + 0 = omega arith in
+      subst (λ (i : ℕ). bit_at word i ≡ 1) same (true-set word from (pass from (omega arith) (omega arith)));
+  none = λ k lt. absurd (omega arith);
+  somewhere = (0, omega arith, λ k low high. absurd (omega arith));
+}
+
+module _ (word n ends : ℕ) (are : AreEnds word n ends) (fits : ends < 2 ^ 32) where
+  -- the bits that are set in a word and in the word moved up
+  abbrev next : ℕ
+  next = bit_and ends (ends * 2 ^ 1 % 2 ^ 32)
+
+  next-bit : (k : ℕ) → k + 1 < 32 → bit_at next (k + 1) ≡ min (bit_at ends (k + 1)) (bit_at ends k)
+  next-bit k lt = bit_at_and ends (ends * 2 ^ 1 % 2 ^ 32) (k + 1) ∙ ap (min (bit_at ends (k + 1))) (moved-up ends k lt)
+
+  next-lowest : bit_at next 0 ≡ 0
+  next-lowest = bit_at_and ends (ends * 2 ^ 1 % 2 ^ 32) 0 ∙ ap (min (bit_at ends 0)) (lowest-empty ends) ∙ least-of (bit_at ends 0)
+    where
+      least-of : (k : ℕ) → min k 0 ≡ 0
+      least-of k = omega arith
+
+  next-none : (k : ℕ) → k < n + 1 → k < 32 → bit_at next k ≡ 0
+  next-none zero lt within = next-lowest
+  next-none (suc k) lt within =
+      let bit = next-bit k (omega arith) in
+      let same : k + 1 ≡ suc k = omega arith in
+      let before = are.none k (omega arith) in
+      ap (bit_at next) (sym same) ∙ bit ∙ (omega arith)
+
+  -- n more than none end where a bit remains
+  module _ (some_end : ends ≡ 0 → ⊥) where
+    longer : (from : ℕ) × (from + (n + 1) ≤ 32) × AllPass (has_bit word) from (from + (n + 1))
+    longer =
+        let lowest = bit_at-trailing_zeros w32 ends (omega (arith, some_end)) fits in
+        let k : ℕ = trailing_zeros w32 ends in
+        elim (at_most_or_more n k) [
+          | inl le ↦
+              let at : (k - n) + n ≡ k = omega arith in (
+                k - n,
+                omega (arith, lowest.0),
+                λ i low high. are.some (k - n) (omega (arith, lowest.0)) (ap (bit_at ends) at ∙ lowest.1) i low (omega arith),
+              )
+          | inr less ↦ absurd (let none = are.none k less in let bit = lowest.1 in omega arith)
+        ]
+
+    -- one bit more
+    pub ends-next : n < 32 → AreEnds word (n + 1) (bit_and ends (ends * 2 ^ 1 % 2 ^ 32))
+    ends-next within = record {
+      some = λ from lt bit k low high.
+          let at : from + n + 1 ≡ from + (n + 1) = omega arith in
+          let one = next-bit (from + n) (omega arith) in
+          let is : bit_at next (from + n + 1) ≡ 1 = ap (bit_at next) at ∙ bit in
+          let here = bit_at-lt ends (from + n + 1) in
+          let before = bit_at-lt ends (from + n) in
+          let first = are.some from (omega arith) (omega arith) in
+          let behind : from + n + 1 ≡ (from + 1) + n = omega arith in
+          let second = are.some (from + 1) (omega arith) (ap (bit_at ends) (sym behind) ∙ omega arith) in
+          elim (at_most_or_more k (from + n)) [
+            | inl le ↦ first k low (omega arith)
+            | inr more ↦ second k (omega arith) (omega arith)
+          ];
+      every = λ from lt pass.
+          let at : from + n + 1 ≡ from + (n + 1) = omega arith in
+          let behind : (from + 1) + n ≡ from + n + 1 = omega arith in
+          let first = are.every from (omega arith) (λ k low high. pass k low (omega arith)) in
+          let second = are.every (from + 1) (omega arith) (λ k low high. pass k (omega arith) (omega arith)) in
+          let here : bit_at ends (from + n + 1) ≡ 1 = ap (bit_at ends) (sym behind) ∙ second in
+          ap (bit_at next) (sym at) ∙ next-bit (from + n) (omega arith) ∙ omega arith;
+      none = λ k lt. next-none k lt (omega arith);
+      somewhere = longer;
+    }
+
+  -- once no bit remains, n bits are the most
+  pub ends-none : ends ≡ 0 → FollowAtMost (has_bit word) 32 n
+  ends-none no_end = record {
+    somewhere = are.somewhere;
+    nowhere_more = λ from len within pass.
+        elim (at_most_or_more len n) [
+          | inl le ↦ le
+          | inr more ↦
+              let bit = are.every from (omega arith) (λ k low high. pass k low (omega arith)) in
+              let none = ap (λ (e : ℕ). bit_at e (from + n)) no_end ∙ bit_at-zero (from + n) in
+              absurd (omega arith)
+        ];
+  }
+
+-- more bits than a word has don't follow one another
+pub ends-all : (word ends : ℕ) → AreEnds word 32 ends → FollowAtMost (has_bit word) 32 32
+ends-all word ends are = record { somewhere = are.somewhere; nowhere_more = λ from len within pass. omega arith }
+
+-- a word is full, or it isn't
+full-or_not : (word : ℕ) → word < 2 ^ 32 → (word ≡ 2 ^ 32 - 1) ⊎ (word + 1 < 2 ^ 32)
+full-or_not word fits = elim (at_most_or_more (2 ^ 32) (word + 1)) [ inl le ↦ inl (omega arith) | inr lt ↦ inr lt ]
+
+-- all bits of a full word are set
+full-set : (word j : ℕ) → word ≡ 2 ^ 32 - 1 → j < 32 → has_bit word j ≡ true
+full-set word j full lt = set-true word j (ap (λ (w : ℕ). bit_at w j) full ∙ bit_at_ones 32 j lt)
+
+-- all bits of a full word come first
+full-first : trailing_ones w32 4_294_967_295 ≡ 32
+unfolding lib.Count.count_trailing_zeros
+full-first = refl
+
+-- and last
+full-last : leading_ones w32 4_294_967_295 ≡ 32
+unfolding lib.Count.count_leading_zeros
+full-last = refl
+
+-- the bits that come first
+pub first-ones : (word : ℕ) → word < 2 ^ 32 → ComeFirst (has_bit word) 32 (trailing_ones w32 word)
+first-ones word fits =
+    elim (full-or_not word fits) [
+      | inl full ↦
+          let is : trailing_ones w32 word ≡ 32 = ap (trailing_ones w32) full ∙ full-first in
+          record { within = omega arith; pass = λ k low high. full-set word k full (omega arith); ends = λ some. absurd (omega arith) }
+      | inr other ↦
+          let lowest = bit_at-trailing_ones w32 word other in
+          record {
+            within = (let lt = lowest.0 in omega arith);
+            pass = λ k low high. set-true word k (lowest.2 k high);
+            ends = λ some. set-false word (trailing_ones w32 word) lowest.1;
+          }
+    ]
+
+-- the highest bit of a number
+highest-bit : (m t : ℕ) → 2 ^ t ≤ m → m < 2 ^ suc t → bit_at m t ≡ 1
+highest-bit m t low high =
+    let rest : ℕ = m - 2 ^ t in
+    let twice : 2 ^ suc t ≡ 2 * 2 ^ t = double t in
+    let parts : 1 * 2 ^ t + rest ≡ m = omega arith in
+    ap (λ (k : ℕ). bit_at k t) (sym parts) ∙ bit_at_cat_high 1 t rest t (omega arith) (omega arith) ∙ ap (bit_at 1) {x = t - t} {y = 0} (omega arith)
+  where
+    double : (k : ℕ) → 2 ^ suc k ≡ 2 * 2 ^ k
+    double k = search arith
+
+-- the bits that come last
+pub last-ones : (word : ℕ) → word < 2 ^ 32 → ComeLast (has_bit word) 32 (leading_ones w32 word)
+last-ones word fits =
+    elim (full-or_not word fits) [
+      | inl full ↦
+          let is : leading_ones w32 word ≡ 32 = ap (leading_ones w32) full ∙ full-last in
+          record { within = omega arith; pass = λ from at k low high. full-set word k full high; begins = λ k at. absurd (omega arith) }
+      | inr other ↦
+          let unset : ℕ = bit_not w32 word in
+          let top = leading_top 32 unset (omega arith) (omega arith) in
+          let j : ℕ = top.0 in
+          let count = top.1 in
+          let highest = highest-bit unset j top.2 top.3 in
+          record {
+            within = omega arith;
+            pass = λ from at k low high.
+                let above = bit_at_above unset (suc j) k top.3 (omega arith) in
+                let of_not = bit_at_not w32 word k fits high in
+                let bit = bit_at-lt word k in
+                set-true word k (omega arith);
+            begins = λ k at.
+                let here : k ≡ j = omega arith in
+                let of_not = bit_at_not w32 word k fits (omega arith) in
+                let bit = bit_at-lt word k in
+                let set = ap (bit_at unset) here ∙ highest in
+                set-false word k (omega arith);
+          }
+    ]

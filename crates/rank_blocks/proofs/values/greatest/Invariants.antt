@@ -1,0 +1,9 @@
+use Rattle.std.proofs.Common.{ℕ, ◌<◌, get_or, pos, ◌≤ℤ◌}
+use Rattle.rank_blocks.specs.Values.{StandsAmong}
+use Rattle.rank_blocks.proofs.values.greatest.Given as goal
+
+abbrev pub invariant-loop-value : goal.invariant-loop-value
+invariant-loop-value l = record {
+  one : StandsAmong l.values l.greatest;
+  most : (j : ℕ) → j < l.value-index → get_or l.values j (pos 0) ≤ℤ l.greatest;
+}

@@ -1,0 +1,10 @@
+use Rattle.std.proofs.Common.{◌≡◌, ◌*◌, drop, pos, neg_ℤ, ◌≤ℤ◌, ◌+ℤ◌}
+use Rattle.rank_blocks.specs.Blocks.{total}
+use Rattle.rank_blocks.proofs.values.total.Given as goal
+
+abbrev pub invariant-loop-value : goal.invariant-loop-value
+invariant-loop-value l = record {
+  low : neg_ℤ (pos (2_147_483_648 * l.value-index)) ≤ℤ l.total;
+  high : l.total ≤ℤ pos (2_147_483_648 * l.value-index);
+  whole : (l.total +ℤ total (drop l.value-index l.values)) ≡ total l.values;
+}
