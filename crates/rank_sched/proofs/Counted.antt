@@ -19,20 +19,24 @@ use Rattle.rank_sched.proofs.Lists.{At, at}
 use Rattle.rank_sched.proofs.SoundSteps.{runs_sound}
 use Rattle.rank_sched.proofs.Ends.{end_sound}
 
--- how many records some workers have, and how many looks are open
+-- how many records some workers have
 abbrev made : List Worker → ℕ
 made vs = sum_by (λ v. length v.records) vs
 
+-- how many of them have looked and not settled yet
 abbrev opened : List Worker → ℕ
 opened vs = sum_by (λ v. length (open_exchange v.turn)) vs
 
+-- a total over workers is that of those in front, of the one between, and of those behind
 by_parts : (f : Worker → ℕ) (front : List Worker) (v : Worker) (behind : List Worker)
     → sum_by f (front ++ v ∷ behind) ≡ sum_by f front + (f v + sum_by f behind)
 by_parts f front v behind = omega (arith, sum_by-append f front (v ∷ behind), sum_by-cons f v behind)
 
+-- one for an event of the kind, none for any other
 one_if : Bool → ℕ
 one_if b = cond b 1 0
 
+-- a worker that has just drawn a number has no look open
 open_drawn : (t : Task) (n : ℕ) → length (open_exchange (drawn t n)) ≡ 0
 open_drawn t n = elim (nat_lt n t.len) as (λ b. length (open_exchange (cond b (Claimed n) (Stopped n))) ≡ 0)
     [ true ↦ refl | false ↦ refl ]
@@ -45,6 +49,7 @@ pub record Counts (s : State) (e : Event) (s' : State) : Type 0 where
   pub kinds : cond (is_claim e) 1 0 + (cond (is_look e) 1 0 + cond (is_settle e) 1 0) ≡ 1
   pub workers : length s'.workers ≡ length s.workers
 
+-- a claim draws one number, a look opens one turn, and a settle closes one with a record
 step_counts : (t : Task) (s s' : State) (e : Event) (v v' : Worker) (front behind : List Worker) → Does t e s s' v v'
     → s.workers ≡ front ++ v ∷ behind → s'.workers ≡ front ++ v' ∷ behind → Counts s e s'
 step_counts t s s' e v v' front behind d old new =
@@ -114,6 +119,7 @@ step_counts t s s' e v v' front behind d old new =
           workers = lens;
         }
 
+-- so each step counts as the kind of its event
 counts : (t : Task) (s s' : State) (e : Event) → IsStep t s e s' → Counts s e s'
 counts t s s' e h =
     let a : At s.workers (worker_of e) h.before = at s.workers (worker_of e) h.before h.here in
@@ -127,9 +133,11 @@ pub record Counted (s : State) (es : List Event) (s' : State) : Type 0 where
   pub all : length es ≡ count_by is_claim es + (count_by is_look es + count_by is_settle es)
   pub workers : length s'.workers ≡ length s.workers
 
+-- the first event counts apart from the rest
 count-cons : (p : Event → Bool) (e : Event) (es : List Event) → count_by p (e ∷ es) ≡ cond (p e) 1 0 + count_by p es
 count-cons p e es = sum_by-cons (λ (x : Event). cond (p x) 1 0) e es
 
+-- the numbers drawn, looks and records of a run are as many as its events of each kind
 run_counted : (t : Task) (s s' : State) (es : List Event) → Leads t s es s' → Counted s es s'
 run_counted t s s' [] h = subst (λ (x : State). Counted s [] x) (sym h)
     (record { claims = omega arith; looks = omega arith; settles = omega arith; all = refl; workers = refl })
@@ -159,6 +167,7 @@ run_sound t guess s s' [] some sound h = subst (λ (x : State). IsSoundState t g
 run_sound t guess s s' (e ∷ es) some sound h =
     run_sound t guess h.0 s' es some (runs_sound.1 t guess s h.0 e some sound h.1) h.2
 
+-- workers that have done nothing have no records and no open looks
 new_made : (k n : ℕ) → (made (replicate n (new_worker k)) ≡ 0) × (opened (replicate n (new_worker k)) ≡ 0) ×
     (length (replicate n (new_worker k)) ≡ n)
 new_made k zero = (refl, refl, refl)
@@ -171,16 +180,19 @@ new_made k (suc n) =
       ap (λ (m : ℕ). suc m) rest.2,
     )
 
+-- of two tests that pass together each passes
 both_true : (a b : Bool) → (a && b) ≡ true → (a ≡ true) × (b ≡ true)
 both_true true b h = (refl, h)
 both_true false b h = absurd cc
 
+-- a worker that has stopped has no look open
 closed : (turn : Turn) → has_stopped turn ≡ true → length (open_exchange turn) ≡ 0
 closed Idle e = absurd cc
 closed (Claimed m) e = absurd cc
 closed (Looked m seen) e = absurd cc
 closed (Stopped n) e = refl
 
+-- once all workers have stopped, no look is open
 none_open : (vs : List Worker) → list_all (λ v. has_stopped v.turn) vs ≡ true → opened vs ≡ 0
 none_open [] e = refl
 none_open (v ∷ vs) e =
@@ -193,6 +205,7 @@ none_open (v ∷ vs) e =
           b.1,
     )
 
+-- the records are as many as their morsels
 made_morsels : (vs : List Worker) → length (flat_map (λ (v : Worker). morsels_of v.records) vs) ≡ made vs
 made_morsels [] = refl
 made_morsels (v ∷ vs) =

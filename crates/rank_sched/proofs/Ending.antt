@@ -317,7 +317,7 @@ step_back t rs i n marks marks' pool pool' low skipped unjust e len took h =
           ∙ ap (λ (l : List Candidate). best_pool t.k (scanned t rs ++ l)) (sym (back_more t rs i back));
     }
 
--- the pool tells whether a skip stays
+-- the pool says whether a skip stays
 pub pool_tells : (t : Task) (rs : List Record) (i : ℕ) (pool : Pooled) → IsFair t → HasEachBelow t.len (morsels_of rs)
     → HasBackBelow t rs i pool → is_below (last_score pool) (t.bound i) ≡ is_justified t rs i
 pool_tells t rs i pool fair once h =

@@ -20,10 +20,11 @@ use Rattle.rank_sched.specs.Hauls.{records_of, all_records, exchanges_in, turns_
 use Rattle.rank_sched.specs.Laws.{EndsAreSound}
 use Rattle.rank_sched.proofs.Lists.{times-append, each-append, All-left, All-right}
 
--- the morsels of all records of some workers, and the numbers that they haven't settled
+-- the morsels of all records of some workers
 abbrev all_morsels : List Worker → List ℕ
 all_morsels vs = flat_map (λ v. morsels_of v.records) vs
 
+-- the numbers that these workers drew and haven't settled
 abbrev lasts : List Worker → List ℕ
 lasts vs = flat_map (λ v. unsettled v.turn) vs
 
@@ -42,6 +43,7 @@ module _ (t : Task) (guess : Option ℤ) where
         claims_split x (w + 1) vs h.1,
       )
 
+  -- so there are as many claims as settled and unsettled numbers together
   lengths_split : (w : ℕ) (vs : List Worker) → AreSoundFrom t guess w vs
       → length (flat_map (λ (v : Worker). v.claims) vs) ≡ length (all_morsels vs) + length (lasts vs)
   lengths_split w [] h = refl
@@ -55,17 +57,20 @@ module _ (t : Task) (guess : Option ℤ) where
         lengths_split (w + 1) vs h.1,
       )
 
+  -- what is recorded of a plan's morsels gives no number past the last of them
   morsels_within : (rs : List Record) → AllByRecursion (λ r. r.morsel < t.len) rs
       → AllByRecursion (λ x. x < t.len) (morsels_of rs)
   morsels_within [] h = tt
   morsels_within (r ∷ rs) h = (h.0, morsels_within rs h.1)
 
+  -- sound workers record nothing but morsels of the plan
   all_within : (w : ℕ) (vs : List Worker) → AreSoundFrom t guess w vs
       → AllByRecursion (λ x. x < t.len) (all_morsels vs)
   all_within w [] h = tt
   all_within w (v ∷ vs) h = each-append (λ x. x < t.len) (morsels_of v.records) (all_morsels vs)
       (morsels_within v.records h.0.within) (all_within (w + 1) vs h.1)
 
+  -- of two tests that pass together each passes
   both_true : (a b : Bool) → (a && b) ≡ true → (a ≡ true) × (b ≡ true)
   both_true true b h = (refl, h)
   both_true false b h = absurd cc
@@ -76,12 +81,14 @@ module _ (t : Task) (guess : Option ℤ) where
     pub one : length (unsettled turn) ≡ 1
     pub closed : open_exchange turn ≡ []
 
+  -- a sound worker that has stopped is left with one number past the last morsel, and with no open look
   ended : (turn : Turn) → has_stopped turn ≡ true → IsTurnOf t.len turn → HasEnded turn
   ended Idle e h = absurd cc
   ended (Claimed m) e h = absurd cc
   ended (Looked m seen) e h = absurd cc
   ended (Stopped n) e h = record { past = (h, tt); one = refl; closed = refl }
 
+  -- once all have stopped, the numbers left are one for each worker, all past the last morsel, and no look is open
   lasts_past : (w : ℕ) (vs : List Worker) → AreSoundFrom t guess w vs → list_all (λ v. has_stopped v.turn) vs ≡ true
       → AllByRecursion (λ x. t.len ≤ x) (lasts vs) × (length (lasts vs) ≡ length vs) ×
       (all_exchanges t vs ≡ flat_map (λ v. exchanges t [] v.records) vs)
@@ -111,6 +118,7 @@ module _ (t : Task) (guess : Option ℤ) where
       let one : Bool → ℕ = λ b. cond b 1 0 in
       omega (arith, sum_by-cons (λ (y : ℕ). one (y == x)) m ms, ap one no, not_there n x ms h.1 le)
 
+  -- a number that isn't below n isn't counted among those below n
   below_no : (x n : ℕ) → n ≤ x → times_below x n ≡ 0
   below_no x n h = grind arith
 
@@ -169,7 +177,7 @@ module _ (t : Task) (guess : Option ℤ) where
 
   -- ---- hauls
 
-  -- the morsels, and the turns, of hauls are those of the workers
+  -- the morsels of hauls are those of the workers' records
   haul_morsels : (hs : List Haul) (vs : List Worker)
       → AllZip (λ h v. (records_of h ≡ v.records) × (h.pool ≡ v.pool)) hs vs
       → morsels_of (all_records hs) ≡ all_morsels vs
@@ -181,6 +189,7 @@ module _ (t : Task) (guess : Option ℤ) where
       ∙ ap (λ (l : List ℕ). morsels_of (records_of h) ++ l) (haul_morsels hs vs a.1)
       ∙ ap (λ (l : List Record). morsels_of l ++ all_morsels vs) a.0.0
 
+  -- the turns of hauls are those of the workers' records
   haul_turns : (hs : List Haul) (vs : List Worker)
       → AllZip (λ h v. (records_of h ≡ v.records) × (h.pool ≡ v.pool)) hs vs
       → turns_of t hs ≡ flat_map (λ (v : Worker). exchanges t [] v.records) vs
@@ -199,6 +208,7 @@ module _ (t : Task) (guess : Option ℤ) where
       front [] us a = tt
       front (z ∷ zs) us a = (a.0, front zs us a.1)
 
+  -- what sound workers bring home are the hauls of workers with their numbers
   hauls_from : (w : ℕ) (hs : List Haul) (vs : List Worker)
       → AllZip (λ h v. (records_of h ≡ v.records) × (h.pool ≡ v.pool)) hs vs → AreSoundFrom t guess w vs
       → AreHaulsFrom t w hs
@@ -217,6 +227,7 @@ module _ (t : Task) (guess : Option ℤ) where
         hauls_from (w + 1) hs vs a.1 s.1,
       )
 
+  -- where all have stopped, each haul's floors were seen upward
   hauls_upward : (w : ℕ) (hs : List Haul) (vs : List Worker)
       → AllZip (λ h v. (records_of h ≡ v.records) × (h.pool ≡ v.pool)) hs vs → AreSoundFrom t guess w vs
       → list_all (λ v. has_stopped v.turn) vs ≡ true

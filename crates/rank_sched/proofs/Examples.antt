@@ -25,24 +25,31 @@ use Rattle.rank_sched.specs.Answers.{lines_of, best_of_plan}
 
 -- ---- the data of the worked runs
 
+-- the first of three stations
 abbrev pub alpha : Station
 alpha = station_of (codes "ZZA00000001  10.0000   20.0000  100.0    ALPHA")
 
+-- the second
 abbrev pub bravo : Station
 bravo = station_of (codes "ZZA00000002  11.0000   21.0000  100.0    BRAVO")
 
+-- the third
 abbrev pub charlie : Station
 charlie = station_of (codes "ZZA00000003  12.0000   22.0000  100.0    CHARLIE")
 
+-- the ID of the first
 abbrev pub a : StationId
 a = record { 0 = codes "ZZA00000001" }
 
+-- the ID of the second
 abbrev pub b : StationId
 b = record { 0 = codes "ZZA00000002" }
 
+-- the ID of the third
 abbrev pub c : StationId
 c = record { 0 = codes "ZZA00000003" }
 
+-- a series of highest temperatures
 abbrev pub warm : StationId → List DayValue → Usable
 warm id days = record { id = id; element = Tmax; days = days }
 
@@ -54,6 +61,7 @@ of_three x y z = record {
   unlisted = 0;
 }
 
+-- two stations that reached 31.1 degrees on one day, and one that reached 25.0
 abbrev pub held : Contents
 held = record {
   stations = alpha ∷ bravo ∷ charlie ∷ [];
@@ -62,9 +70,11 @@ held = record {
   unlisted = 0;
 }
 
+-- one station that has no series
 abbrev pub nothing : Contents
 nothing = record { stations = alpha ∷ []; series = []; unlisted = 0 }
 
+-- the k highest temperatures, anywhere and at any time
 abbrev pub ask : ℕ → Asked
 ask k = record { k = k; score = Highest Tmax; region = Everywhere; period = None }
 
@@ -74,9 +84,11 @@ plan k = planned (ask k) held
 
 -- ---- plans
 
+-- the stations of a plan, in the order in which their morsels are drawn
 ids : Planned → List StationId
 ids p = map (λ (m : Morsel). m.series.id) p.morsels
 
+-- the bounds of a plan's morsels, in that order
 bounds : Planned → List ℤ
 bounds p = map (λ (m : Morsel). m.bound) p.morsels
 
@@ -110,27 +122,35 @@ best_there = (refl, refl)
 abbrev pub Left : Type 0
 Left = State × ℕ × Option StepFault
 
+-- what is left of some workers' run over a plan by these events
 abbrev pub run : Planned → ℕ → Option ℤ → List Event → Left
 run p workers guess es = replayed (task_of p) 0 (started (task_of p) workers guess) es
 
+-- all that the workers have written down, worker after worker
 abbrev pub records_in : Left → List Record
 records_in r = flat_map (λ v. v.records) (r.0).workers
 
+-- a line of an answer
 abbrev pub line : StationId → ℤ → Bool → Line
 line id bound skipped = record { id = id; bound = bound; skipped = skipped }
 
+-- one turn of a worker: it claims, looks and settles
 abbrev pub turn : ℕ → List Event
 turn w = Claim w ∷ Look w ∷ Settle w ∷ []
 
+-- one worker's events over three morsels, with the claim that stops it
 abbrev pub three_turns : List Event
 three_turns = turn 0 ++ turn 0 ++ turn 0 ++ Claim 0 ∷ []
 
+-- the run of one worker that looks for the highest k of the three stations
 abbrev pub alone : ℕ → Option ℤ → Left
 alone k guess = run (plan k) 1 guess three_turns
 
+-- the lines of the answer that such a run gives
 abbrev pub lines_after : ℕ → Left → List Line
 lines_after k r = lines_of (plan k) (records_in r)
 
+-- how many of its skips are taken back
 abbrev pub back_after : ℕ → Left → ℕ
 back_after k r = taken_back (task_of (plan k)) (records_in r)
 
@@ -138,6 +158,7 @@ back_after k r = taken_back (task_of (plan k)) (records_in r)
 abbrev pub one_skipped : List Line
 one_skipped = line a (pos 311) false ∷ line b (pos 311) false ∷ line c (pos 250) true ∷ []
 
+-- the lines where no skip stays
 abbrev pub none_skipped : List Line
 none_skipped = line a (pos 311) false ∷ line b (pos 311) false ∷ line c (pos 250) false ∷ []
 
@@ -146,14 +167,16 @@ one_worker : (all_stopped ((alone 1 None).0).workers ≡ true) × ((alone 1 None
     (lines_after 1 (alone 1 None) ≡ one_skipped) × (back_after 1 (alone 1 None) ≡ 0)
 one_worker = (refl, refl, refl, refl, refl)
 
--- a guess that is the k-th score, one that is too high, and one where there are fewer than k candidates
+-- a guess that is the k-th score: one morsel is skipped, and none is taken back
 right_guess : (lines_after 1 (alone 1 (Some (pos 311))) ≡ one_skipped) × (back_after 1 (alone 1 (Some (pos 311))) ≡ 0)
 right_guess = (refl, refl)
 
+-- a guess above the k-th score: two of three skips are taken back
 high_guess : (lines_after 1 (alone 1 (Some (pos 1000))) ≡ one_skipped) ×
     (back_after 1 (alone 1 (Some (pos 1000))) ≡ 2)
 high_guess = (refl, refl)
 
+-- a guess where there are fewer than k candidates: the one skip is taken back
 guess_for_ten : (lines_after 10 (alone 10 (Some (pos 300))) ≡ none_skipped) ×
     (back_after 10 (alone 10 (Some (pos 300))) ≡ 1)
 guess_for_ten = (refl, refl)
@@ -164,25 +187,30 @@ equal_bounds : lines_of (planned (ask 2) (of_three (pos 311) (pos 311) (pos 311)
     ≡ line a (pos 311) false ∷ line b (pos 311) false ∷ line c (pos 311) false ∷ []
 equal_bounds = refl
 
--- two workers whose turns overlap, two that take turns, and three at once
+-- two workers whose turns overlap
 abbrev pub mixed : Left
 mixed = run (plan 1) 2 None (Claim 0 ∷ Look 0 ∷ Claim 1 ∷ Look 1 ∷ Settle 1 ∷ Settle 0 ∷ turn 0 ++ Claim 0 ∷ Claim 1 ∷
     [])
 
+-- they draw five numbers in eleven events, and leave the lowest station out
 two_workers : (all_stopped (mixed.0).workers ≡ true) × (mixed.1 ≡ 11) × (lines_after 1 mixed ≡ one_skipped) ×
     ((mixed.0).next ≡ 5) × ((mixed.0).floor ≡ Some (pos 311))
 two_workers = (refl, refl, refl, refl, refl)
 
+-- two workers that take turns
 abbrev pub by_turns : Left
 by_turns = run (plan 1) 2 None (turn 0 ++ turn 1 ++ turn 1 ++ Claim 0 ∷ Claim 1 ∷ [])
 
+-- they end after as many events with the same lines
 in_turn : (all_stopped (by_turns.0).workers ≡ true) × (by_turns.1 ≡ 11) × (lines_after 1 by_turns ≡ one_skipped)
 in_turn = (refl, refl, refl)
 
+-- three workers that all look before one settles
 abbrev pub at_once : Left
 at_once = run (plan 1) 3 None (Claim 0 ∷ Claim 1 ∷ Claim 2 ∷ Look 0 ∷ Look 1 ∷ Look 2 ∷ Settle 2 ∷ Settle 1 ∷ Settle 0
     ∷ Claim 0 ∷ Claim 1 ∷ Claim 2 ∷ [])
 
+-- none of them sees a floor, so nothing is skipped
 three_workers : (all_stopped (at_once.0).workers ≡ true) × (at_once.1 ≡ 12) × (lines_after 1 at_once ≡ none_skipped)
 three_workers = (refl, refl, refl)
 
@@ -203,18 +231,21 @@ falling_records = refl
 abbrev pub no_morsels : Left
 no_morsels = run (planned (ask 1) nothing) 2 None (Claim 0 ∷ Claim 1 ∷ [])
 
+-- each worker stops at its first claim, and the answer is empty
 ends_at_once : (all_stopped (no_morsels.0).workers ≡ true) × (no_morsels.1 ≡ 2) ×
     (best_of_plan (planned (ask 1) nothing) ≡ []) × (lines_of (planned (ask 1) nothing) (records_in no_morsels) ≡ [])
 ends_at_once = (refl, refl, refl, refl)
 
--- refusals, each at its place
+-- two workers that have done nothing
 abbrev pub at_start : State
 at_start = started (task_of (plan 1)) 2 None
 
+-- at the start a worker may claim and may not look, and there is no third one
 refused : (refusal at_start (Look 0) ≡ Some (NotNow 0)) × (refusal at_start (Claim 2) ≡ Some (NoWorker 2)) ×
     (refusal at_start (Look 2) ≡ Some (NoWorker 2)) × (refusal at_start (Claim 0) ≡ None)
 refused = (refl, refl, refl, refl)
 
+-- a worker that has claimed may neither claim again nor settle
 refused_later : ((run (plan 1) 2 None (Claim 0 ∷ Claim 0 ∷ [])).1 ≡ 1) ×
     ((run (plan 1) 2 None (Claim 0 ∷ Claim 0 ∷ [])).2 ≡ Some (NotNow 0))
     × ((run (plan 1) 2 None (Claim 0 ∷ Settle 0 ∷ [])).1 ≡ 1) ×

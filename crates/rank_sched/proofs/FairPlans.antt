@@ -39,9 +39,11 @@ pub record IsMeasured (q : Asked) (m : Morsel) : Type 0 where
   pub asked : IsAskedOf q m.series
 
 module _ (q : Asked) (c : Contents) (right : IsContents c) where
+  -- the series of the query's element that a station has, if it has one
   of_station : Station → Option Usable
   of_station st = series_of c st.id (score_element q.score)
 
+  -- a station's morsel has the bound of its series, and the query asks about that series
   one_measured : (st : Station) (m : Morsel) → morsel_at q c st ≡ Some m → IsMeasured q m
   unfolding of_station
   one_measured st m e = cases (admits_station q st) (of_station st) refl e
@@ -59,6 +61,7 @@ module _ (q : Asked) (c : Contents) (right : IsContents c) where
             | false ↦ λ k g. absurd cc
           ] refl e
 
+  -- so it is with the morsels of all stations
   all_measured : (sts : List Station) → AllByRecursion (IsMeasured q) (filter_map (morsel_at q c) sts)
   all_measured [] = tt
   all_measured (st ∷ sts) = elim (morsel_at q c st)
@@ -113,6 +116,7 @@ plan_apart p is =
     (apart_alike (all_of_task (task_of (planned p.query is.held))) (all_candidates p.query is.held)
     (plan_alike p.query is.held) (all_apart p.query is.held is.right))
 
+-- what is drawn first has no smaller bound
 lower : (a b : ℤ) (t : Bool) → (int_lt b a || (int_eq a b && t)) ≡ true → b ≤ℤ a
 lower a b t e = elim (int_lt b a) as (λ x. int_lt b a ≡ x → b ≤ℤ a) [
   | true ↦ λ f. grind (arith, ints)
@@ -123,6 +127,7 @@ lower a b t e = elim (int_lt b a) as (λ x. int_lt b a ≡ x → b ≤ℤ a) [
   ] refl
 ] refl
 
+-- no morsel that is drawn later has a greater bound
 each_lower : (x : Morsel) (ms : List Morsel) → AllByRecursion (λ n. is_drawn_first x n ≡ true) ms
     → AllByRecursion (λ n. n.bound ≤ℤ x.bound) ms
 each_lower x [] h = tt

@@ -26,6 +26,7 @@ use Rattle.rank_sched.proofs.Totals.{range-push}
 
 -- ---- morsels that have one record each
 
+-- how often a number stands in a list with one more in front
 times-cons : (x y : ℕ) (ys : List ℕ) → times x (y ∷ ys) ≡ one_if_equal y x + times x ys
 times-cons x y ys = sum_by-cons (λ z. one_if_equal z x) y ys
 
@@ -35,6 +36,7 @@ pub record Split (n : ℕ) (ms : List ℕ) : Type 0 where
   pub behind : List ℕ
   pub parts : ms ≡ front ++ n ∷ behind
 
+-- a list that has a number has it at some place
 split : (n : ℕ) (ms : List ℕ) → 0 < times n ms → Split n ms
 split n [] h = absurd (omega arith)
 split n (m ∷ ms) h = elim (cases_eq m n) [
@@ -44,6 +46,7 @@ split n (m ∷ ms) h = elim (cases_eq m n) [
       record { front = m ∷ rest.front; behind = rest.behind; parts = ap (λ (l : List ℕ). m ∷ l) rest.parts }
 ]
 
+-- a list without a place is empty
 none_left : (ms : List ℕ) → length ms ≡ 0 → ms ≡ []
 none_left [] e = refl
 none_left (m ∷ ms) e = absurd (omega (arith, e))
@@ -84,15 +87,19 @@ each_alike f (suc n) ms once =
 
 -- ---- what is known before one morsel more
 
+-- no morsel comes before the first
 lt_zero : (m : ℕ) → nat_lt m 0 ≡ false
 lt_zero m = grind arith
 
+-- a morsel of a smaller number comes before n
 lt_yes : (m n : ℕ) → m < n → nat_lt m n ≡ true
 lt_yes m n h = grind arith
 
+-- a morsel of the number n or a greater one doesn't come before n
 lt_no : (m n : ℕ) → n ≤ m → nat_lt m n ≡ false
 lt_no m n h = grind arith
 
+-- any morsel but n comes before the next one just where it comes before n
 lt_same : (m n : ℕ) → m ≢ n → nat_lt m (suc n) ≡ nat_lt m n
 lt_same m n ne = elim (nat_lt m n) as (λ b. nat_lt m n ≡ b → nat_lt m (suc n) ≡ b) [
   | true ↦ λ e. let lt : m < n = grind arith in lt_yes m (suc n) (omega (arith, lt))
@@ -125,6 +132,7 @@ not_skipped n (r ∷ rs) e = elim (cases_eq r.morsel n) [
       ∙ not_skipped n rs (omega (arith, e, times-cons n r.morsel (morsels_of rs)))
 ]
 
+-- what is known before the next morsel is what was known, and this one's candidates if it was passed over
 known_suc : (t : Task) (n : ℕ) (rs : List Record) → times n (morsels_of rs) ≤ 1
     → Alike (known_before t rs (suc n)) (known_before t rs n ++ skip_part t rs n)
 known_suc t n [] few = refl
@@ -181,10 +189,12 @@ known_suc t n (r ∷ rs) few = elim (cases_eq r.morsel n) [
 
 -- ---- what is taken back
 
+-- a number counts once or not at all among those below n
 below_few : (x n : ℕ) → times_below x n ≤ 1
 below_few x n = grind arith
 
 module _ (t : Task) (rs : List Record) (fair : IsFair t) (once : HasEachBelow t.len (morsels_of rs)) where
+  -- each morsel has at most one record
   few : (n : ℕ) → times n (morsels_of rs) ≤ 1
   few n = omega (arith, once n, below_few n t.len)
 
@@ -233,12 +243,14 @@ module _ (t : Task) (rs : List Record) (fair : IsFair t) (once : HasEachBelow t.
       ∙ ap (λ (l : List Candidate). t.candidates r.morsel ++ l)
       (known_all qs (All-tail (λ x. x < t.len) r.morsel (morsels_of qs) all))
 
+  -- once all skips were tried, the first k are those of all candidates
   pub best_there : first t.k (scanned t rs ++ back_below t rs t.len) ≡ first t.k (all_of_task t)
   best_there =
       back_agrees t.len ∙ ap (first t.k) (known_all rs (all_below t.len (morsels_of rs) once))
       ∙ alike-first t.k (flat_map t.candidates (morsels_of rs)) (all_of_task t)
       (each_alike t.candidates t.len (morsels_of rs) once)
 
+  -- the k-th score of what was scanned and taken back so far says whether the next skip stays
   pub decides : (n : ℕ) → is_below (kth t.k (scanned t rs ++ back_below t rs n)) (t.bound n) ≡ is_justified t rs n
   decides n =
       let same : kth t.k (scanned t rs ++ back_below t rs n) ≡ kth t.k (known_before t rs n) =
@@ -251,6 +263,6 @@ module _ (t : Task) (rs : List Record) (fair : IsFair t) (once : HasEachBelow t.
 pub best_are_there : BestAreThere
 best_are_there t hs fair sound = best_there t (all_records hs) fair sound.once
 
--- the pool so far tells whether a skip stays
+-- the pool so far says whether a skip stays
 pub pool_decides : PoolDecides
 pool_decides t hs n fair sound = decides t (all_records hs) fair sound.once n

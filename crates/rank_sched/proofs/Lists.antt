@@ -23,27 +23,33 @@ use Rattle.rank_sched.specs.SoundRun.{Rise}
 pub all_from : {X : Type 0} (P : X → Type 0) (xs : List X) → ((x : X) → Contains xs x → P x) → All P xs
 all_from P xs f = All-weaker (Contains xs) P f xs (All-contains_itself xs)
 
+-- what is true of all of two lists is true of all of the first
 pub All-left : {X : Type 0} (P : X → Type 0) (xs ys : List X) → All P (xs ++ ys) → All P xs
 All-left P xs ys h = all_from P xs (λ x c. All-contains P (xs ++ ys) x h (Contains-append_left xs ys x c))
 
+-- what is true of all of two lists is true of all of the second
 pub All-right : {X : Type 0} (P : X → Type 0) (xs ys : List X) → All P (xs ++ ys) → All P ys
 All-right P xs ys h = all_from P ys (λ x c. All-contains P (xs ++ ys) x h (Contains-append_right xs ys x c))
 
+-- what is true of each element of two lists is true of each of both together
 pub each-append : {X : Type 0} (P : X → Type 0) (xs ys : List X) → AllByRecursion P xs → AllByRecursion P ys
     → AllByRecursion P (xs ++ ys)
 each-append P [] ys h k = k
 each-append P (x ∷ xs) ys h k = (h.0, each-append P xs ys h.1 k)
 
+-- what follows for each element is true of each
 pub each-weaker : {X : Type 0} (P Q : X → Type 0) (xs : List X) → ((x : X) → P x → Q x) → AllByRecursion P xs
     → AllByRecursion Q xs
 each-weaker P Q [] f h = tt
 each-weaker P Q (x ∷ xs) f h = (f x h.0, each-weaker P Q xs f h.1)
 
+-- what follows from two facts for each element is true of each
 pub each_both : {X : Type 0} (P Q R : X → Type 0) (xs : List X) → ((x : X) → P x → Q x → R x) → AllByRecursion P xs
     → AllByRecursion Q xs → AllByRecursion R xs
 each_both P Q R [] f h k = tt
 each_both P Q R (x ∷ xs) f h k = (f x h.0 k.0, each_both P Q R xs f h.1 k.1)
 
+-- nothing is in an empty list
 nothing_in : {X : Type 0} (P : Type 0) (x : X) → Contains [] x → P
 nothing_in P x c = absurd (omega (arith, c.1))
 
@@ -53,34 +59,41 @@ only_one None x c = nothing_in (None ≡ Some x) x c
 only_one (Some y) x c = ap (λ z. Some z) (All-contains (λ z. y ≡ z) (y ∷ []) x
     (All-cons (λ z. y ≡ z) y [] refl (All-nil (λ z. y ≡ z))) c)
 
+-- what is true of a value, if there is one, is true of the list of it
 pub one_there : {X : Type 0} (P : X → Type 0) (o : Option X) → IfSome o P → All P (option_to_list o)
 one_there P None h = All-nil P
 one_there P (Some x) h = All-cons P x [] h (All-nil P)
 
 -- ---- counts
 
+-- a number stands in two lists together as often as in each
 pub times-append : (x : ℕ) (xs ys : List ℕ) → times x (xs ++ ys) ≡ times x xs + times x ys
 times-append x xs ys = sum_by-append _ xs ys
 
 -- ---- lists that rise
 
+-- a list that rises goes on to rise with a number above all of it
 pub rise-push : (xs : List ℕ) (x : ℕ) → Rise xs → AllByRecursion (λ y. y < x) xs → Rise (xs ++ x ∷ [])
 rise-push [] x h a = (tt, tt)
 rise-push (y ∷ ys) x h a = (each-append (λ z. y < z) ys (x ∷ []) h.0 (a.0, tt), rise-push ys x h.1 a.1)
 
 -- ---- records
 
+-- the morsel of one record more comes last
 pub morsels-push : (rs : List Record) (r : Record) → morsels_of (rs ++ r ∷ []) ≡ morsels_of rs ++ r.morsel ∷ []
 morsels-push rs r = map-append (λ (q : Record). q.morsel) rs (r ∷ [])
 
+-- the candidates of some records and then of others
 pub scanned-append : (t : Task) (rs qs : List Record) → scanned t (rs ++ qs) ≡ scanned t rs ++ scanned t qs
 scanned-append t rs qs = flat_map-append (scanned_for t) rs qs
 
+-- one record more adds the candidates that it stands for
 pub scanned-push : (t : Task) (rs : List Record) (r : Record)
     → scanned t (rs ++ r ∷ []) ≡ scanned t rs ++ scanned_for t r
 scanned-push t rs r = scanned-append t rs (r ∷ [])
     ∙ ap (λ (l : List Candidate). scanned t rs ++ l) (append-nil (scanned_for t r))
 
+-- one record more adds a turn, made after all that was scanned before
 pub exchanges-push : (t : Task) (before : List Candidate) (rs : List Record) (r : Record)
     → exchanges t before (rs ++ r ∷ []) ≡ exchanges t before rs ++ exchange t (before ++ scanned t rs) r ∷ []
 exchanges-push t before [] r = ap (λ (l : List Candidate). exchange t l r ∷ []) (sym (append-nil before))
@@ -90,9 +103,11 @@ exchanges-push t before (q ∷ rs) r =
     (exchanges-push t (before ++ one) rs r ∙ ap (λ (l : List Candidate). exchanges t
     (before ++ one) rs ++ exchange t l r ∷ []) (append_assoc before one (scanned t rs)))
 
+-- the floors seen in some turns and then in others
 pub seen_in-append : (xs ys : List Exchange) → seen_in (xs ++ ys) ≡ seen_in xs ++ seen_in ys
 seen_in-append xs ys = flat_map-append (λ (x : Exchange). option_to_list x.seen) xs ys
 
+-- the scores raised in some turns and then in others
 pub raised_in-append : (xs ys : List Exchange) → raised_in (xs ++ ys) ≡ raised_in xs ++ raised_in ys
 raised_in-append xs ys = flat_map-append (λ (x : Exchange). option_to_list x.raised) xs ys
 
@@ -130,6 +145,7 @@ pub record At {X : Type 0} (xs : List X) (i : ℕ) (x : X) : Type 0 where
   pub place : length front ≡ i
   pub put : (y : X) → slice_set xs i y ≡ front ++ y ∷ behind
 
+-- a list has each of its elements between those in front and those behind
 pub at : {X : Type 0} (xs : List X) (i : ℕ) (x : X) → slice_get xs i ≡ Some x → At xs i x
 at [] i x h = absurd cc
 at (y ∷ ys) zero x h =
@@ -148,6 +164,7 @@ at (y ∷ ys) (suc i) x h =
 
 -- ---- the last place of a pool
 
+-- what stands at one of the first k places stands there in the whole list
 get_cut : (ys : List Candidate) (k j : ℕ) → j < k → slice_get (take k ys) j ≡ slice_get ys j
 get_cut ys zero j h = absurd (omega arith)
 get_cut [] (suc k) j h = refl

@@ -27,9 +27,11 @@ use Rattle.rank_sched.proofs.PlanMade.{few_morsels}
 
 -- ---- workers by their turns and hauls
 
+-- the workers that are here in their turns and have these hauls
 abbrev pub workers_with : List Turn → List Haul → List Worker
 workers_with turns hs = map worker_with (zip turns hs)
 
+-- there are as many workers as turns
 pub workers-length : (turns : List Turn) (hs : List Haul) → length turns ≡ length hs
     → length (workers_with turns hs) ≡ length turns
 workers-length [] hs e = refl
@@ -43,6 +45,7 @@ pub record IsThere (turns : List Turn) (hs : List Haul) (w : ℕ) (turn : Turn) 
   pub worker : slice_get (workers_with turns hs) w ≡ Some (worker_with (turn, haul))
   pub within : w < length turns
 
+-- a worker whose turn is there is there, with its haul
 pub there : (turns : List Turn) (hs : List Haul) (w : ℕ) (turn : Turn) → length turns ≡ length hs
     → slice_get turns w ≡ Some turn → IsThere turns hs w turn
 there [] hs w turn e h = absurd cc
@@ -53,7 +56,7 @@ there (x ∷ xs) (y ∷ hs) (suc w) turn e h =
     let rest : IsThere xs hs w turn = there xs hs w turn (omega (arith, e)) h in
     record { haul = rest.haul; own = rest.own; worker = rest.worker; within = omega (arith, rest.within) }
 
--- another turn of a worker, and another turn and haul
+-- another turn changes that worker alone
 pub other_turn : (turns : List Turn) (hs : List Haul) (w : ℕ) (turn : Turn) (h : Haul) → slice_get hs w ≡ Some h
     → workers_with (slice_set turns w turn) hs ≡ slice_set (workers_with turns hs) w (worker_with (turn, h))
 other_turn [] hs w turn h e = refl
@@ -63,6 +66,7 @@ other_turn (x ∷ xs) (y ∷ hs) zero turn h e = let same : y ≡ h = cc in
 other_turn (x ∷ xs) (y ∷ hs) (suc w) turn h e =
     ap (λ (l : List Worker). worker_with (x, y) ∷ l) (other_turn xs hs w turn h e)
 
+-- another turn and another haul change that worker alone
 pub other_both : (turns : List Turn) (hs : List Haul) (w : ℕ) (turn : Turn) (h : Haul) → length turns ≡ length hs
     → workers_with (slice_set turns w turn) (slice_set hs w h) ≡ slice_set (workers_with turns hs) w
     (worker_with (turn, h))
@@ -72,6 +76,7 @@ other_both (x ∷ xs) (y ∷ hs) zero turn h e = refl
 other_both (x ∷ xs) (y ∷ hs) (suc w) turn h e =
     ap (λ (l : List Worker). worker_with (x, y) ∷ l) (other_both xs hs w turn h (omega (arith, e)))
 
+-- as many workers are there after one has changed
 pub set-length : {X : Type 0} (xs : List X) (i : ℕ) (x : X) → length (slice_set xs i x) ≡ length xs
 set-length [] i x = refl
 set-length (y ∷ ys) zero x = refl
@@ -79,12 +84,15 @@ set-length (y ∷ ys) (suc i) x = ap suc (set-length ys i x)
 
 -- ---- which events are refused
 
+-- a number that is n or more isn't below n
 not_below : (i n : ℕ) → n ≤ i → nat_lt i n ≡ false
 not_below i n h = grind arith
 
+-- a smaller number is below n
 below : (i n : ℕ) → i < n → nat_lt i n ≡ true
 below i n h = grind arith
 
+-- an event of a worker that isn't there is refused for that
 pub no_worker : (next : ℕ) (floor : Option ℤ) (turns : List Turn) (hs : List Haul) (e : Event)
     → length turns ≡ length hs → length turns ≤ worker_of e
     → refusal (state_of next floor turns hs) e ≡ Some (NoWorker (worker_of e))
@@ -93,6 +101,7 @@ no_worker next floor turns hs e same far =
     (Some (NoWorker (worker_of e))))
     (not_below (worker_of e) (length (workers_with turns hs)) (omega (arith, far, workers-length turns hs same)))
 
+-- an event that its worker doesn't wait for is refused for that
 pub not_now : (next : ℕ) (floor : Option ℤ) (turns : List Turn) (hs : List Haul) (e : Event) (turn : Turn)
     → length turns ≡ length hs → slice_get turns (worker_of e) ≡ Some turn → is_awaited turn e ≡ false
     → refusal (state_of next floor turns hs) e ≡ Some (NotNow (worker_of e))
@@ -105,6 +114,7 @@ not_now next floor turns hs e turn same here other =
     (below (worker_of e) (length (workers_with turns hs)) (omega (arith, at.within, workers-length turns hs same)))
     ∙ ap (λ (b : Bool). cond b None (Some (NotNow (worker_of e)))) now
 
+-- an event that its worker waits for isn't refused
 pub is_now_by : (next : ℕ) (floor : Option ℤ) (turns : List Turn) (hs : List Haul) (e : Event) (turn : Turn)
     → length turns ≡ length hs → slice_get turns (worker_of e) ≡ Some turn → is_awaited turn e ≡ true
     → refusal (state_of next floor turns hs) e ≡ None
@@ -119,10 +129,12 @@ is_now_by next floor turns hs e turn same here awaited =
 
 -- ---- what the steps that are made lead to
 
+-- the number that was drawn is what isn't settled
 drawn-number : (t : Task) (n : ℕ) → unsettled (drawn t n) ≡ n ∷ []
 drawn-number t n = elim (nat_lt n t.len) as (λ b. unsettled (cond b (Claimed n) (Stopped n)) ≡ n ∷ [])
     [ true ↦ refl | false ↦ refl ]
 
+-- an idle worker that takes the next number makes a claim's step
 pub claim_step : (t : Task) (next : ℕ) (floor : Option ℤ) (turns : List Turn) (hs : List Haul) (w : ℕ)
     → length turns ≡ length hs → slice_get turns w ≡ Some Idle
     → IsStep t (state_of next floor turns hs) (Claim w)
@@ -147,6 +159,7 @@ claim_step t next floor turns hs w same here =
       others = other_turn turns hs w (drawn t next) at.haul at.own;
     }
 
+-- a worker that claimed, and then has the floor beside its morsel, makes a look's step
 pub look_step : (t : Task) (next : ℕ) (floor : Option ℤ) (turns : List Turn) (hs : List Haul) (w m : ℕ)
     → length turns ≡ length hs → slice_get turns w ≡ Some (Claimed m)
     → IsStep t (state_of next floor turns hs) (Look w)
@@ -171,6 +184,7 @@ look_step t next floor turns hs w m same here =
       others = other_turn turns hs w (Looked m floor) at.haul at.own;
     }
 
+-- a worker that looked, and then is idle with one record more, makes a settle's step
 pub settle_step : (t : Task) (next : ℕ) (floor floor' : Option ℤ) (turns : List Turn) (hs : List Haul) (w m : ℕ)
     (seen : Option ℤ) (h h' : Haul) → length turns ≡ length hs → slice_get turns w ≡ Some (Looked m seen)
     → slice_get hs w ≡ Some h → HasSettled t h (record_of t w m seen) h'
@@ -203,12 +217,15 @@ settle_step t next floor floor' turns hs w m seen h h' same here own did raised 
 
 -- ---- what is true of every machine stays so
 
+-- a plan asks for one candidate or more
 pub some_wanted : (p : Planned) → IsPlan p → 0 < p.query.k
 some_wanted p is = let k = is.asked.k in grind arith
 
+-- a plan asks for at most 1000 candidates
 pub few_wanted : (p : Planned) → IsPlan p → p.query.k ≤ 1000
 few_wanted p is = let k = is.asked.k in grind arith
 
+-- what is true of every machine is true after a step, also of one that fails at it
 pub still_running : (m : Running) (e : Event) (s' : State) (failed : Bool) → IsRunning m
     → IsStep (task_of m.plan) m.state e s' → IsRunning
     (record { plan = m.plan; guess = m.guess; state = s'; failed = failed })
@@ -230,6 +247,7 @@ running_failed m failed r = record { plan = r.plan; guess = r.guess; some = r.so
 
 -- ---- the answers of a machine
 
+-- a machine refuses an event of a worker that isn't there, and stays as it is
 pub no_worker_refused : (m : Running) (next : ℕ) (floor : Option ℤ) (turns : List Turn) (hs : List Haul) (e : Event)
     → m.state ≡ state_of next floor turns hs → m.failed ≡ false → length turns ≡ length hs
     → length turns ≤ worker_of e → Refuses m e (NoWorker (worker_of e)) m
@@ -241,6 +259,7 @@ no_worker_refused m next floor turns hs e is running same far =
       unchanged = refl;
     }
 
+-- a machine refuses an event that the worker doesn't wait for, and stays as it is
 pub not_now_refused : (m : Running) (next : ℕ) (floor : Option ℤ) (turns : List Turn) (hs : List Haul) (e : Event)
     (turn : Turn) → m.state ≡ state_of next floor turns hs → m.failed ≡ false → length turns ≡ length hs
     → slice_get turns (worker_of e) ≡ Some turn → is_awaited turn e ≡ false → Refuses m e (NotNow (worker_of e)) m
@@ -259,18 +278,21 @@ err_is (Err x) e h = ap (λ z. Err z) h.1
 
 -- ---- turns that wait for other events
 
+-- a worker that isn't idle doesn't wait for a claim
 pub not_idle : (w : ℕ) (turn : Turn) → (turn ≢ Idle) → is_awaited turn (Claim w) ≡ false
 not_idle w Idle h = absurd (h refl)
 not_idle w (Claimed m) h = refl
 not_idle w (Looked m seen) h = refl
 not_idle w (Stopped n) h = refl
 
+-- a worker that hasn't claimed a morsel doesn't wait for a look
 pub not_claimed : (w : ℕ) (turn : Turn) → ((m : ℕ) → turn ≢ Claimed m) → is_awaited turn (Look w) ≡ false
 not_claimed w Idle h = refl
 not_claimed w (Claimed m) h = absurd (h m refl)
 not_claimed w (Looked m seen) h = refl
 not_claimed w (Stopped n) h = refl
 
+-- a worker that hasn't looked doesn't wait for a settle
 pub not_looked : (w : ℕ) (turn : Turn) → ((m : ℕ) (seen : Option ℤ) → turn ≢ Looked m seen)
     → is_awaited turn (Settle w) ≡ false
 not_looked w Idle h = refl
@@ -294,6 +316,7 @@ raised_floor floor raised r p e = ap (greater_floor floor) e ∙ by_skip r.skipp
 
 -- ---- a haul that settles, or finds no memory
 
+-- what was read at a place of a list stands there
 pub got : {X : Type 0} (xs : List X) (i : ℕ) (x : X) → i < length xs → x ≡ get_or xs i x → slice_get xs i ≡ Some x
 got [] i x lt e = absurd (omega arith)
 got (y ∷ ys) zero x lt e = ap (λ z. Some z) (sym e)
@@ -312,6 +335,7 @@ settle_made t next floor floor' raised turns hs w m seen h h' r same here own ma
     (subst (λ (q : Record). HasSettled t h q h') made did)
     (new ∙ raised_floor floor raised r h'.pool up ∙ ap (λ (q : Record). floor_after floor q h'.pool) made)
 
+-- a haul with the same records and pool leaves all workers as they are
 same_workers : (turns : List Turn) (hs : List Haul) (w : ℕ) (h h' : Haul) → slice_get hs w ≡ Some h → IsSameHaul h h'
     → workers_with turns (slice_set hs w h') ≡ workers_with turns hs
 same_workers [] hs w h h' e s = refl
@@ -347,16 +371,19 @@ same_state_of next floor turns hs w turn h h' same here own s =
 
 -- ---- the next number is small
 
+-- numbers that rise from a on and stay below n are at most n - a
 rise_short : (n a : ℕ) (xs : List ℕ) → Rise xs → AllByRecursion (λ x. x < n) xs → AllByRecursion (λ x. a ≤ x) xs
     → length xs ≤ n - a
 rise_short n a [] r h k = omega arith
 rise_short n a (x ∷ xs) r h k = let rest : length xs ≤ n - suc x = rise_short n (suc x) xs r.1 h.1 r.0 in
     omega (arith, rest, h.0, k.0)
 
+-- no number is below zero
 from_zero : (xs : List ℕ) → AllByRecursion (λ x. 0 ≤ x) xs
 from_zero [] = tt
 from_zero (x ∷ xs) = (omega arith, from_zero xs)
 
+-- a worker has at most one number that it hasn't settled
 one_open : (turn : Turn) → length (unsettled turn) ≤ 1
 one_open Idle = omega arith
 one_open (Claimed m) = omega arith
@@ -364,11 +391,13 @@ one_open (Looked m seen) = omega arith
 one_open (Stopped n) = omega arith
 
 module _ (t : Task) (guess : Option ℤ) where
+  -- what is recorded of a plan's morsels gives no number past the last of them
   morsels_below : (rs : List Record) → AllByRecursion (λ r. r.morsel < t.len) rs
       → AllByRecursion (λ x. x < t.len) (morsels_of rs)
   morsels_below [] h = tt
   morsels_below (r ∷ rs) h = (h.0, morsels_below rs h.1)
 
+  -- each worker has drawn at most one number more than there are morsels
   claims_few : (w : ℕ) (vs : List Worker) → t.len ≤ 1_048_576 → AreSoundFrom t guess w vs
       → length (flat_map (λ (v : Worker). v.claims) vs) ≤ 1_048_577 * length vs
   claims_few w [] few h = omega arith
@@ -387,6 +416,7 @@ module _ (t : Task) (guess : Option ℤ) where
         claims_few (w + 1) vs few h.1,
       )
 
+  -- so the next number is at most as many for each worker
   next_few : (s : State) → t.len ≤ 1_048_576 → IsSoundState t guess s → s.next ≤ 1_048_577 * length s.workers
   next_few s few h = omega (
     arith,
@@ -401,6 +431,7 @@ next_small m r = omega (arith, next_few (task_of m.plan) m.guess m.state (few_mo
 
 -- ---- the start
 
+-- idle workers with empty hauls are workers that have done nothing
 zipped : (k n : ℕ) (hs : List Haul) → length hs ≡ n → AllByRecursion (IsEmptyHaul k) hs
     → workers_with (replicate n Idle) hs ≡ replicate n (new_worker k)
 zipped k zero [] e h = refl
@@ -413,6 +444,7 @@ zipped k (suc n) (x ∷ hs) e h =
     ap (λ (v : Worker). v ∷ workers_with (replicate n Idle) hs) own
     ∙ ap (λ (l : List Worker). new_worker k ∷ l) (zipped k n hs (omega (arith, e)) h.1)
 
+-- idle turns and empty hauls under the guess are the state at the start
 pub start_state : (p : Planned) (guess : Option ℤ) (k workers : ℕ) (turns : List Turn) (hs : List Haul)
     → k ≡ p.query.k → turns ≡ replicate workers Idle → length hs ≡ workers → AllByRecursion (IsEmptyHaul k) hs
     → state_of 0 guess turns hs ≡ started (task_of p) workers guess
@@ -421,13 +453,16 @@ start_state p guess k workers turns hs same idle len empty =
     ∙ ap (λ (l : List Worker). record { next = 0; floor = guess; workers = l }) (zipped k workers hs len empty)
     ∙ ap (λ (j : ℕ). record { next = 0; floor = guess; workers = replicate workers (new_worker j) }) same
 
+-- so many workers that have done nothing are so many
 replicate-length : {X : Type 0} (n : ℕ) (x : X) → length (replicate n x) ≡ n
 replicate-length zero x = refl
 replicate-length (suc n) x = ap suc (replicate-length n x)
 
+-- at the start there is a turn for each worker
 pub start_turns : (n : ℕ) (turns : List Turn) → turns ≡ replicate n Idle → length turns ≡ n
 start_turns n turns e = ap length e ∙ replicate-length n Idle
 
+-- what is true of every machine is true of one at the start
 pub start_running : (p : Planned) (guess : Option ℤ) (workers : ℕ) → IsPlan p → IfSome guess IsScore → 0 < workers
     → workers ≤ 64 → IsRunning (new_run p workers guess)
 start_running p guess workers is ok some few =
@@ -444,6 +479,7 @@ start_running p guess workers is ok some few =
 
 -- ---- the end
 
+-- the hauls that a machine holds are its workers'
 pub hauls_of : (next : ℕ) (floor : Option ℤ) (turns : List Turn) (hs : List Haul) → length turns ≡ length hs
     → AreHaulsOf (workers_with turns hs) hs
 hauls_of next floor [] [] e = tt
@@ -451,6 +487,7 @@ hauls_of next floor [] (h ∷ hs) e = absurd (omega (arith, e))
 hauls_of next floor (x ∷ xs) [] e = absurd (omega (arith, e))
 hauls_of next floor (x ∷ xs) (h ∷ hs) e = ((refl, refl), hauls_of next floor xs hs (omega (arith, e)))
 
+-- a machine that counts as stopped has all its workers stopped
 both_left : (a b : Bool) → (not a && b) ≡ true → b ≡ true
 both_left true b e = absurd cc
 both_left false b e = e

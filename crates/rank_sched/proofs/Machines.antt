@@ -17,6 +17,7 @@ use Rattle.rank_sched.specs.Laws.{FailedStaysFailed, OneWorkerHasNoChoice, Steps
 
 -- ---- a machine that failed
 
+-- a machine that failed answers want of memory to each event, stays failed, and is never stopped
 pub failed_stays : FailedStaysFailed
 failed_stays m m' e (Ok x) f a = let no : m.failed ≡ false = a.running in absurd cc
 failed_stays m m' e (Err (NoWorker w)) f a = let no : m.failed ≡ false = a.running in absurd cc
@@ -35,6 +36,7 @@ pub record IsAccepted (s : State) (e : Event) : Type 0 where
   pub here : slice_get s.workers (worker_of e) ≡ Some worker
   pub awaited : is_awaited worker.turn e ≡ true
 
+-- a worker that is there and waits for an event makes it accepted
 accepted_of : (s : State) (e : Event) (o : Option Worker) → slice_get s.workers (worker_of e) ≡ o
     → option_map_or (λ (v : Worker). is_awaited v.turn e) o false ≡ true → IsAccepted s e
 accepted_of s e None h f = absurd cc
@@ -46,18 +48,22 @@ both_pass true true x y e = (refl, refl)
 both_pass true false x y e = absurd cc
 both_pass false b x y e = absurd cc
 
+-- an event that isn't refused is accepted
 pub accepted : (s : State) (e : Event) → refusal s e ≡ None → IsAccepted s e
 accepted s e h = accepted_of s e (slice_get s.workers (worker_of e)) refl
     (both_pass (nat_lt (worker_of e) (length s.workers)) (is_now s e) _ _ h).1
 
+-- a place where something stands is inside the list
 within : {X : Type 0} (xs : List X) (i : ℕ) (x : X) → slice_get xs i ≡ Some x → i < length xs
 within [] i x h = absurd cc
 within (y ∷ ys) zero x h = omega arith
 within (y ∷ ys) (suc i) x h = omega (arith, within ys i x h)
 
+-- a smaller number passes the test
 less : (i n : ℕ) → i < n → nat_lt i n ≡ true
 less i n h = grind arith
 
+-- an event that is accepted isn't refused
 pub not_refused : (s : State) (e : Event) → IsAccepted s e → refusal s e ≡ None
 not_refused s e a =
     let there : nat_lt (worker_of e) (length s.workers) ≡ true =
@@ -70,6 +76,7 @@ not_refused s e a =
 
 -- ---- with one worker
 
+-- a turn waits for no two different events of its worker
 one_event : (turn : Turn) (e e' : Event) → worker_of e ≡ worker_of e' → is_awaited turn e ≡ true
     → is_awaited turn e' ≡ true → e ≡ e'
 one_event Idle (Claim w) (Claim v) h a b = ap (λ (n : ℕ). Claim n) h
@@ -91,6 +98,7 @@ one_event (Stopped n) (Claim w) e' h a b = absurd cc
 one_event (Stopped n) (Look w) e' h a b = absurd cc
 one_event (Stopped n) (Settle w) e' h a b = absurd cc
 
+-- with one worker at most one event is accepted
 pub one_worker : OneWorkerHasNoChoice
 one_worker s e e' one h h' =
     let a : IsAccepted s e = accepted s e h in
@@ -118,6 +126,7 @@ does_awaited t (Claim w) s s' v v' d = ap (λ (x : Turn). is_awaited x (Claim w)
 does_awaited t (Look w) s s' v v' d = ap (λ (x : Turn). is_awaited x (Look w)) d.claimed
 does_awaited t (Settle w) s s' v v' d = ap (λ (x : Turn). is_awaited x (Settle w)) d.looked
 
+-- a step leads to the state that is computed from its worker's turn
 does_moved : (t : Task) (e : Event) (s s' : State) (v v' : Worker) → Does t e s s' v v'
     → s'.workers ≡ slice_set s.workers (worker_of e) v' → s' ≡ moved t s e v v.turn
 does_moved t (Claim w) s s' v v' d others =
@@ -156,10 +165,12 @@ does_moved t (Settle w) s s' v v' d others =
     (others ∙ ap (slice_set s.workers w) (same_worker v' made d.turn d.claims d.records d.pool))
     ∙ ap (moved t s (Settle w) v) (sym d.looked)
 
+-- the state after an event is computed from the turn of the event's worker
 pub after_here : (t : Task) (s : State) (e : Event) (v : Worker) → slice_get s.workers (worker_of e) ≡ Some v
     → after t s e ≡ moved t s e v v.turn
 after_here t s e v h = ap (λ (o : Option Worker). option_map_or (λ (x : Worker). moved t s e x x.turn) o s) h
 
+-- each step is of an event that isn't refused, and leads to the computed state
 step_computed : (t : Task) (s s' : State) (e : Event) → IsStep t s e s' → (refusal s e ≡ None) × (s' ≡ after t s e)
 step_computed t s s' e h = (
   not_refused s e (record {
@@ -232,6 +243,7 @@ step_made t s (Settle w) v Idle h is a = absurd cc
 step_made t s (Settle w) v (Claimed m) h is a = absurd cc
 step_made t s (Settle w) v (Stopped n) h is a = absurd cc
 
+-- an event that isn't refused leads to one state, which is computed; one that is refused leads to none
 pub steps_computed : StepsAreComputed
 steps_computed t s s' e = (
   step_computed t s s' e,

@@ -24,6 +24,7 @@ at_index Snwd = refl
 at_index Tmax = refl
 at_index Tmin = refl
 
+-- elements that the test takes for the same are the same
 same_element-is : (a b : Element) → same_element a b ≡ true → a ≡ b
 same_element-is a b e = sym (at_index a) ∙ ap (λ (i : ℕ). get_or elements i Prcp) (eqb-true _ _ e) ∙ at_index b
 
@@ -36,14 +37,17 @@ passes test (y ∷ ys) x e = elim (test y) as (λ b. test y ≡ b → cond b (So
       | false ↦ λ t f. passes test ys x f
     ] refl e
 
+-- of two tests that pass together the first passes
 pub left_part : (a b : Bool) → (a && b) ≡ true → a ≡ true
 left_part true b e = refl
 left_part false b e = absurd cc
 
+-- and so does the second
 right_part : (a b : Bool) → (a && b) ≡ true → b ≡ true
 right_part true b e = e
 right_part false b e = absurd cc
 
+-- where the admitted days aren't none, there is one at least
 some_days : (n : ℕ) → not (n == 0) ≡ true → 0 < n
 some_days zero e = absurd cc
 some_days (suc n) e = omega arith

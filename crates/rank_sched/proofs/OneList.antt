@@ -24,9 +24,11 @@ seen_at_most t guess s h =
     All-weaker (IsGuessOrRaised guess raised) (λ z. IsSomeAnd s.floor (λ f. z ≤ℤ f))
     (known_below t guess raised s.floor h.floor) (seen_in (all_exchanges t s.workers)) h.seen
 
+-- where there are no morsels, no number is a morsel's
 none_times : (x n : ℕ) → n ≡ 0 → 0 ≡ times_below x n
 none_times x n e = grind arith
 
+-- where not even zero is a morsel's number, there are no morsels
 some_times : (n : ℕ) → 0 ≡ times_below 0 n → n ≡ 0
 some_times n e = grind arith
 
@@ -36,6 +38,7 @@ no_hauls t = (λ s. some_times t.len (s.once 0), λ e. record { each = tt; once 
 
 -- ---- by worker
 
+-- a worker's records in two lists are those in the first, and then those in the second
 by-append : (w : ℕ) (xs ys : List Record) → records_by w (xs ++ ys) ≡ records_by w xs ++ records_by w ys
 by-append w [] ys = refl
 by-append w (x ∷ xs) ys = elim (x.worker == w)
@@ -129,6 +132,7 @@ turns_from t w front (h ∷ hs) low a =
     (range_with_len (w + 1) (length hs))) own
     ∙ ap (λ (l : List Exchange). exchanges_in t h ++ l) rest
 
+-- the records of each sound haul rise by morsel
 each_rises : (t : Task) (w : ℕ) (hs : List Haul) → AreHaulsFrom t w hs
     → AllByRecursion (λ h. Rise (morsels_of (records_of h))) hs
 each_rises t w [] a = tt

@@ -188,6 +188,7 @@ module _ {X : Type 0} (cmp : X → X → Ordering) (total : IsTotalOrder cmp) (f
     abbrev pub strictly : Y → Y → Bool
     strictly a b = is_lt (cmp (seen a) (seen b))
 
+    -- it is an order by which a list can be sorted
     pub strictly_ranks : IsStrictWeakOrder strictly
     strictly_ranks = ranks_by total seen
 

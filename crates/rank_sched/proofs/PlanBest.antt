@@ -42,6 +42,7 @@ alike_swap xs ys zs =
     ∙ ap in_order (append_assoc ys xs zs)
 
 module _ {A : Type 0} (before : A → A → Bool) (f : A → List Candidate) where
+  -- placing an element among others changes no more than the order
   alike_placed : (x : A) (ys : List A) → Alike (flat_map f (placed before x ys)) (f x ++ flat_map f ys)
   alike_placed x [] = refl
   alike_placed x (y ∷ ys) =
@@ -81,11 +82,13 @@ by_place {A} f front (x ∷ ms) =
     ap (λ (l : List Candidate). l ++ flat_map at (range_with_len (length front + 1) (length ms))) here
     ∙ ap (λ (l : List Candidate). f x ++ l) rest
 
+-- the candidates of elements that were changed first, taken in one pass
 flat-map-map : {A B : Type 0} (g : A → B) (f : B → List Candidate) (xs : List A)
     → flat_map f (map g xs) ≡ flat_map (λ x. f (g x)) xs
 flat-map-map g f [] = refl
 flat-map-map g f (x ∷ xs) = ap (λ (l : List Candidate). f (g x) ++ l) (flat-map-map g f xs)
 
+-- where there is no day, there is no candidate
 none_from : (f : DayValue → Option Candidate) (xs : List DayValue) → not (length xs == 0) ≡ false
     → filter_map f xs ≡ []
 none_from f [] e = refl
@@ -129,6 +132,7 @@ found P test (y ∷ ys) x h e = elim (test y) as (λ b. test y ≡ b → cond b 
 
 -- ---- being apart
 
+-- beginning alike is the same both ways
 alike-symm : (a b : Candidate) → begin_alike a b ≡ begin_alike b a
 alike-symm a b =
     ap (λ (t : Bool). t && int_eq a.first b.first) (nat_list_eq_equiv.symm (a.id.0) (b.id.0))

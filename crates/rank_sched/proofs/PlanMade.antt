@@ -24,6 +24,7 @@ use Rattle.rank_sched.proofs.PlanOrder.{sorted-in_turn, strictly, sort-in_turn, 
 
 -- ---- one place more
 
+-- one place more of a list adds what is made of the element there
 pub map-more : {A B : Type 0} (f : A → B) (xs : List A) (i : ℕ) (b : B) → option_map f (slice_get xs i) ≡ Some b
     → map f (take (suc i) xs) ≡ map f (take i xs) ++ b ∷ []
 map-more f [] i b e = absurd cc
@@ -37,17 +38,21 @@ made_at f [] i d lt = absurd (omega arith)
 made_at f (x ∷ xs) zero d lt = refl
 made_at f (x ∷ xs) (suc i) d lt = made_at f xs i d (omega arith)
 
+-- equal lists stay equal with an element in front, or with none
 one_more : {B : Type 0} (a : Option B) (xs ys : List B) → xs ≡ ys → cons_option a xs ≡ cons_option a ys
 one_more a xs ys e = ap (cons_option a) e
 
+-- an element in front of two lists is in front of the first
 cons-append : {B : Type 0} (a : Option B) (xs ys : List B) → cons_option a (xs ++ ys) ≡ cons_option a xs ++ ys
 cons-append None xs ys = refl
 cons-append (Some x) xs ys = refl
 
+-- an element in front of nothing is alone
 cons-alone : {B : Type 0} (a : Option B) → cons_option a [] ≡ option_to_list a
 cons-alone None = refl
 cons-alone (Some x) = refl
 
+-- one place more of a list adds what is made of the element there, if anything is
 pub kept-more : {A B : Type 0} (f : A → Option B) (xs : List A) (i : ℕ) (o : Option B)
     → option_map f (slice_get xs i) ≡ Some o → filter_map f (take (suc i) xs) ≡ filter_map f
     (take i xs) ++ option_to_list o
@@ -59,9 +64,11 @@ kept-more f (x ∷ xs) (suc i) o e = one_more (f x) _ _ (kept-more f xs i o e)
 -- ---- the morsels by station
 
 module _ (q : Asked) (c : Contents) where
+  -- the series of the query's element that a station has, if it has one
   of_station : Station → Option Usable
   of_station st = series_of c st.id (score_element q.score)
 
+  -- a series in front of others adds its morsel in front of theirs, if the query asks about it
   one_series : (o : Option Usable) (rest : List Usable)
       → cons_option (option_map (measured q) (passing (is_asked_of q) o))
       (map (measured q) (filter (is_asked_of q) rest)) ≡ map (measured q)
@@ -121,6 +128,7 @@ module _ (q : Asked) (c : Contents) where
         | Some m ↦ λ e. (ap (same_id id) (own_id st m e) ∙ h.0, other_ids id sts h.1)
       ] refl
 
+  -- of no morsels no two are of one station
   no_morsels : IsDistinct of_one_station []
   unfolding IsDistinct
   no_morsels = tt
@@ -148,6 +156,7 @@ module _ (q : Asked) (c : Contents) where
       (IsPermutation-map (measured q) (filter (is_asked_of q) (admitted_series q c)) (morsels q c)
       (sorted-permutation _ (filter (is_asked_of q) (admitted_series q c))))
 
+  -- no two morsels of a query are of one station
   distinct_morsels : IsContents c → IsDistinct of_one_station (map (measured q) (morsels q c))
   distinct_morsels right = IsDistinct-IsPermutation of_one_station of_one_station-symm
       (filter_map (morsel_at q c) c.stations) (map (measured q) (morsels q c)) by_id
@@ -189,6 +198,7 @@ plan_is_one q c p right = (
 
 -- ---- there are no more morsels than stations
 
+-- no more is kept than there was
 kept-length : {A B : Type 0} (f : A → Option B) (xs : List A) → length (filter_map f xs) ≤ length xs
 kept-length f [] = omega arith
 kept-length f (x ∷ xs) = elim (f x) as (λ o. length (cons_option o (filter_map f xs)) ≤ length (x ∷ xs)) [
@@ -196,6 +206,7 @@ kept-length f (x ∷ xs) = elim (f x) as (λ o. length (cons_option o (filter_ma
   | Some y ↦ omega (arith, kept-length f xs)
 ]
 
+-- a plan has no more morsels than there may be stations
 pub few_morsels : (p : Planned) → IsPlan p → length p.morsels ≤ 1_048_576
 few_morsels p is =
     let q : Asked = p.query in

@@ -28,11 +28,13 @@ more_reached : (t : Task) (xs ys : List Candidate) (z : ℤ) → ((b : ℤ) → 
     → IsReached t ys z
 more_reached t xs ys z le h b lt = omega (arith, le b, h b lt)
 
+-- a score, if there is one, is reached where k candidates score above each number below it
 one_reached : (t : Task) (xs : List Candidate) (o : Option ℤ) → ((b : ℤ) → is_below o b ≡ true → t.k ≤ above b xs)
     → All (IsReached t xs) (option_to_list o)
 one_reached t xs None h = All-nil (IsReached t xs)
 one_reached t xs (Some z) h = All-cons (IsReached t xs) z [] h (All-nil (IsReached t xs))
 
+-- what a turn raised is reached by all that was scanned up to then, and by more
 turn_reached : (t : Task) (before rest : List Candidate) (r : Record) → 0 < t.k
     → All (IsReached t (before ++ (scanned_for t r ++ rest))) (option_to_list (exchange t before r).raised)
 turn_reached t before rest r some =
@@ -91,10 +93,12 @@ raised_reached t (h ∷ hs) some =
 -- ---- each record's floor
 
 module _ (Q : ℤ → Type 0) where
+  -- what is true of all floors of a turn is true of its floor, if there is one
   if_some : (o : Option ℤ) → All Q (option_to_list o) → IfSome o Q
   if_some None a = tt
   if_some (Some x) a = All-head Q x [] a
 
+  -- what is true of all floors that a worker saw is true of each record's floor
   seen_each : (t : Task) (before : List Candidate) (rs : List Record) → All Q (seen_in (exchanges t before rs))
       → AllByRecursion (λ r. IfSome r.seen Q) rs
   seen_each t before [] a = tt
@@ -105,6 +109,7 @@ module _ (Q : ℤ → Type 0) where
             (All-right Q (option_to_list r.seen) more a),
       )
 
+  -- and so it is with the records of all hauls
   all_seen_each : (t : Task) (hs : List Haul) → All Q (seen_in (turns_of t hs))
       → AllByRecursion (λ r. IfSome r.seen Q) (all_records hs)
   all_seen_each t [] a = tt
@@ -124,6 +129,7 @@ all_skips t w (h ∷ hs) a = each-append (IsRightSkip t) (records_of h) (all_rec
 
 -- ---- a skip whose floor is reached by what was scanned stays
 
+-- of what is known before a morsel at least as many score above a number as of what was scanned
 scanned_over : (t : Task) (b : ℤ) (m : ℕ) (rs : List Record) → above b (scanned t rs) ≤ above b (known_before t rs m)
 scanned_over t b m [] = omega arith
 scanned_over t b m (r ∷ rs) =
@@ -142,6 +148,7 @@ scanned_over t b m (r ∷ rs) =
       scanned_over t b m rs,
     )
 
+-- k candidates score above a bound that is below a reached floor
 below_seen : (t : Task) (xs : List Candidate) (o : Option ℤ) (b : ℤ) → IfSome o (IsReached t xs) → is_below o b ≡ true
     → t.k ≤ above b xs
 below_seen t xs None b q h = absurd cc
@@ -157,12 +164,14 @@ justified_one t rs r some right q e =
 
 -- ---- the guess
 
+-- none of a morsel's candidates scores above its bound
 none_above_bound : (c d : ℤ) (xs : List Candidate) → AllByRecursion (λ x. x.score ≤ℤ d) xs → d ≤ℤ c → above c xs ≡ 0
 none_above_bound c d [] a le = refl
 none_above_bound c d (x ∷ xs) a le =
     let f : int_lt c x.score ≡ false = grind (arith, ints, a.0) in
     omega (arith, above-cons c x xs, ap one_if f, none_above_bound c d xs a.1 le)
 
+-- a record in front adds the candidates of its morsel
 over-cons : (t : Task) (b : ℤ) (r : Record) (rs : List Record)
     → over_records t b (r ∷ rs) ≡ over t b r.morsel + over_records t b rs
 over-cons t b r rs = sum_by-cons (over t b) r.morsel (morsels_of rs)
@@ -180,28 +189,35 @@ only_scanned t c (r ∷ rs) a =
     ] refl in
     omega (arith, over-cons t c r rs, rest, here, above-append c (scanned_for t r) (scanned t rs))
 
+-- a bound below a floor that is at most the guess is below the guess
 under_guess : (g b : ℤ) (o : Option ℤ) → IfSome o (λ s. s ≤ℤ g) → is_below o b ≡ true → b ≤ℤ (g -ℤ pos 1)
 under_guess g b None h e = absurd cc
 under_guess g b (Some s) h e = omega (arith, ints, h, e)
 
+-- what is below the guess is at most the guess less one
 lt_less : (b g : ℤ) → int_lt b g ≡ true → b ≤ℤ (g -ℤ pos 1)
 lt_less b g e = omega (arith, ints, e)
 
+-- a low guess less one is below the k-th score
 fits_below : (g : ℤ) (o : Option ℤ) → IsSomeAnd o (λ s. g ≤ℤ s) → is_below o (g -ℤ pos 1) ≡ true
 fits_below g None h = absurd h
 fits_below g (Some s) h = grind (arith, ints)
 
+-- what is below the guess is below a floor that is at least the guess
 lt_le_lt : (b g f : ℤ) → int_lt b g ≡ true → g ≤ℤ f → int_lt b f ≡ true
 lt_le_lt b g f e h = grind (arith, ints)
 
+-- two floors that are equal have one score
 same_some : (g s : ℤ) → Some g ≡ Some s → g ≡ s
 same_some g s e = cc
 
+-- of two equal scores each is at most the other
 same_le : (g s : ℤ) → g ≡ s → s ≤ℤ g
 same_le g s e = omega (arith, ints, e)
 
 module _ (t : Task) (g : ℤ) (hs : List Haul) (fair : IsFair t) (s : AreSound t hs)
     (low_guess : IsLowGuess t (Some g)) where
+  -- a morsel that was passed over by a floor of at most the guess has no candidate that scores the guess or more
   skipped_over : (r : Record) → IsRightSkip t r → IfSome r.seen (λ z. z ≤ℤ g) → r.skipped ≡ true
       → over t (g -ℤ pos 1) r.morsel ≡ 0
   skipped_over r right h e = none_above_bound (g -ℤ pos 1) (t.bound r.morsel) (t.candidates r.morsel)
@@ -227,6 +243,7 @@ module _ (t : Task) (g : ℤ) (hs : List Haul) (fair : IsFair t) (s : AreSound t
             (lt_less b g e),
       )
 
+  -- the guess is reached, whether it is the floor of the end or a score above it was raised
   guess_top : (floor : Option ℤ) → AreUnderFloor t (Some g) hs floor → IsReached t (scanned t (all_records hs)) g
   guess_top None f = absurd (All-head (λ z. IsSomeAnd None (λ y. z ≤ℤ y)) g [] f.floor_is.guess_below)
   guess_top (Some top) f =
@@ -244,6 +261,7 @@ module _ (t : Task) (g : ℤ) (hs : List Haul) (fair : IsFair t) (s : AreSound t
       (raised_reached t hs fair.some) there b (lt_le_lt b g top e under))
       f.floor_is.one_of_them
 
+-- a low guess is reached by what was scanned
 guess_reached : (t : Task) (guess : Option ℤ) (hs : List Haul) (floor : Option ℤ) → IsFair t → AreSound t hs
     → AreUnderFloor t guess hs floor → IsLowGuess t guess → IfSome guess (IsReached t (scanned t (all_records hs)))
 guess_reached t None hs floor fair s f low = tt
@@ -271,6 +289,7 @@ none_counted t all (r ∷ rs) a w =
       none_counted t all rs a.1 w.1,
     )
 
+-- of two tests it is enough that the second passes
 or_right : (a : Bool) → (a || true) ≡ true
 or_right true = refl
 or_right false = refl

@@ -7,6 +7,7 @@ use Rattle.rank_sched.specs.Task.{Task, task_of}
 use Rattle.rank_sched.specs.Machine.{State, started, IsStep, Leads}
 use Rattle.rank_sched.specs.Run.{Running, Steps, IsReplayed}
 
+-- a run goes on by one step at its end
 leads-push : (t : Task) (s mid s' : State) (es : List Event) (e : Event) → Leads t s es mid → IsStep t mid e s'
     → Leads t s (es ++ e ∷ []) s'
 leads-push t s mid s' [] e l step = (s', subst (λ (x : State). IsStep t x e s') l step, refl)

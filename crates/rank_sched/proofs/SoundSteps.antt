@@ -40,21 +40,24 @@ known_in : (guess : Option ℤ) (old new : List ℤ) → ((x : ℤ) → Contains
     → IsGuessOrRaised guess old x → IsGuessOrRaised guess new x
 known_in guess old new sub x = ⊎_elim (λ g. inl g) (λ c. inr (sub x c))
 
+-- what follows for each score is true of the one that is there, if one is
 if_some : (o : Option ℤ) (P Q : ℤ → Type 0) → ((x : ℤ) → P x → Q x) → IfSome o P → IfSome o Q
 if_some None P Q f h = tt
 if_some (Some x) P Q f h = f x h
 
--- a greater floor is at least what each of the two is at least
+-- the greater of two floors is at least what the first is at least
 greater_left : (a b : Option ℤ) (s : ℤ) → IsSomeAnd a (λ f. s ≤ℤ f) → IsSomeAnd (greater_floor a b) (λ f. s ≤ℤ f)
 greater_left None b s h = absurd h
 greater_left (Some x) None s h = h
 greater_left (Some x) (Some y) s h = let le : s ≤ℤ int_max x y = grind (arith, ints) in le
 
+-- and at least what the second is at least
 greater_right : (a b : Option ℤ) (s : ℤ) → IsSomeAnd b (λ f. s ≤ℤ f) → IsSomeAnd (greater_floor a b) (λ f. s ≤ℤ f)
 greater_right None b s h = h
 greater_right (Some x) None s h = absurd h
 greater_right (Some x) (Some y) s h = let le : s ≤ℤ int_max x y = grind (arith, ints) in le
 
+-- the greater of two scores is one of them
 one_of_two : (x y : ℤ) → (int_max x y ≡ x) ⊎ (int_max x y ≡ y)
 one_of_two x y = elim (int_le x y) as (λ b. int_le x y ≡ b → (int_max x y ≡ x) ⊎ (int_max x y ≡ y)) [
   | true ↦ λ e. inr (grind (arith, ints))
@@ -67,6 +70,7 @@ greater_is None b P h k = k
 greater_is (Some x) None P h k = h
 greater_is (Some x) (Some y) P h k = ⊎_elim (λ e. subst P (sym e) h) (λ e. subst P (sym e) k) (one_of_two x y)
 
+-- a floor is at least its own score
 own_at_least : (z : Option ℤ) (x : ℤ) → z ≡ Some x → IsSomeAnd z (λ f. x ≤ℤ f)
 own_at_least None x e = absurd cc
 own_at_least (Some y) x e = let same : y ≡ x = cc in let le : x ≤ℤ y = omega (arith, ints, same) in le
@@ -115,6 +119,7 @@ module _ (t : Task) (guess : Option ℤ) where
       → all_exchanges t (front ++ v ∷ behind) ≡ all_exchanges t front ++ (exchanges_of t v ++ all_exchanges t behind)
   turns_parts front v behind = flat_map-append (exchanges_of t) front (v ∷ behind)
 
+  -- the scores that a state's workers raised, by parts
   raised_parts : (front : List Worker) (v : Worker) (behind : List Worker)
       → raised_in (all_exchanges t (front ++ v ∷ behind)) ≡ raised_in (all_exchanges t front) ++
       (raised_in (exchanges_of t v) ++ raised_in (all_exchanges t behind))
@@ -124,6 +129,7 @@ module _ (t : Task) (guess : Option ℤ) where
       ∙ ap (λ (l : List ℤ). raised_in (all_exchanges t front) ++ l)
       (raised_in-append (exchanges_of t v) (all_exchanges t behind))
 
+  -- the floors that a state's workers saw, by parts
   seen_parts : (front : List Worker) (v : Worker) (behind : List Worker)
       → seen_in (all_exchanges t (front ++ v ∷ behind)) ≡ seen_in (all_exchanges t front) ++
       (seen_in (exchanges_of t v) ++ seen_in (all_exchanges t behind))
@@ -151,29 +157,34 @@ module _ (t : Task) (guess : Option ℤ) where
 
   -- ---- a claim
 
-  -- a number that was drawn isn't settled, and no floor was seen for it
+  -- a number that was drawn isn't settled
   unsettled_drawn : (n : ℕ) → unsettled (drawn t n) ≡ n ∷ []
   unsettled_drawn n = elim (nat_lt n t.len) as (λ b. unsettled (cond b (Claimed n) (Stopped n)) ≡ n ∷ [])
       [ true ↦ refl | false ↦ refl ]
 
+  -- no floor was seen yet for a number that was drawn
   open_drawn : (n : ℕ) → open_exchange (drawn t n) ≡ []
   open_drawn n = elim (nat_lt n t.len) as (λ b. open_exchange (cond b (Claimed n) (Stopped n)) ≡ [])
       [ true ↦ refl | false ↦ refl ]
 
+  -- a worker that drew a number has a morsel, or stops past the last one
   turn_drawn : (n : ℕ) → IsTurnOf t.len (drawn t n)
   turn_drawn n = elim (nat_lt n t.len) as (λ b. nat_lt n t.len ≡ b → IsTurnOf t.len (cond b (Claimed n) (Stopped n))) [
     | true ↦ λ e. let lt : n < t.len = grind arith in lt
     | false ↦ λ e. let le : t.len ≤ n = grind arith in le
   ] refl
 
+  -- a worker after it drew a number
   drew : Worker → ℕ → Worker
   drew v n = record { turn = drawn t n; claims = v.claims ++ n ∷ []; records = v.records; pool = v.pool }
 
+  -- drawing a number adds no turn
   turns_drew : (v : Worker) (n : ℕ) → v.turn ≡ Idle → exchanges_of t (drew v n) ≡ exchanges_of t v
   unfolding drew
   turns_drew v n e = ap (λ (l : List Exchange). exchanges t [] v.records ++ l) (open_drawn n)
       ∙ ap (λ (x : Turn). exchanges t [] v.records ++ open_exchange x) (sym e)
 
+  -- a sound worker that draws a number above all its others stays sound
   worker_drew : (w : ℕ) (v : Worker) (n : ℕ) → v.turn ≡ Idle → AllByRecursion (λ y. y < n) v.claims
       → IsSoundWorker t guess w v → IsSoundWorker t guess w (drew v n)
   unfolding drew
@@ -198,6 +209,7 @@ module _ (t : Task) (guess : Option ℤ) where
       ∙ ap (λ (l : List Exchange). all_exchanges t front ++ (l ++ all_exchanges t behind)) e
       ∙ sym (turns_parts front v behind)
 
+  -- a claim keeps the state sound
   claim_keeps : (n : ℕ) (floor : Option ℤ) (front : List Worker) (v : Worker) (behind : List Worker) → v.turn ≡ Idle
       → IsSoundState t guess (words n floor (front ++ v ∷ behind))
       → IsSoundState t guess (words (n + 1) floor (front ++ drew v n ∷ behind))
@@ -235,6 +247,7 @@ module _ (t : Task) (guess : Option ℤ) where
 
   -- ---- a look
 
+  -- a worker after it saw the floor
   saw : Worker → ℕ → Option ℤ → Worker
   saw v m floor = record { turn = Looked m floor; claims = v.claims; records = v.records; pool = v.pool }
 
@@ -242,15 +255,18 @@ module _ (t : Task) (guess : Option ℤ) where
   looking : Option ℤ → Exchange
   looking floor = record { seen = floor; raised = None }
 
+  -- a worker that only claimed has no open turn
   turns_claimed : (v : Worker) (m : ℕ) → v.turn ≡ Claimed m → exchanges_of t v ≡ exchanges t [] v.records
   turns_claimed v m e = ap (λ (x : Turn). exchanges t [] v.records ++ open_exchange x) e
       ∙ append-nil (exchanges t [] v.records)
 
+  -- seeing the floor opens a turn
   turns_saw : (v : Worker) (m : ℕ) (floor : Option ℤ) → v.turn ≡ Claimed m
       → exchanges_of t (saw v m floor) ≡ exchanges_of t v ++ looking floor ∷ []
   unfolding saw looking
   turns_saw v m floor e = ap (λ (l : List Exchange). l ++ looking floor ∷ []) (sym (turns_claimed v m e))
 
+  -- a sound worker that sees a floor of at least the guess, and of all that it saw and raised, stays sound
   worker_saw : (w : ℕ) (v : Worker) (m : ℕ) (floor : Option ℤ) → v.turn ≡ Claimed m
       → IsAtLeast floor (option_to_list guess) → IsAtLeast floor (seen_in (exchanges_of t v))
       → IsAtLeast floor (raised_in (exchanges_of t v)) → IsSoundWorker t guess w v
@@ -276,6 +292,7 @@ module _ (t : Task) (guess : Option ℤ) where
       (subst (λ (o : Option ℤ). Contains (option_to_list o) x) (sym g) (one_in x)))
       (λ c. All-contains (λ s. IsSomeAnd floor (λ y. s ≤ℤ y)) raised x f.raised_below c)
 
+  -- a look keeps the state sound
   look_keeps : (n : ℕ) (floor : Option ℤ) (front : List Worker) (v : Worker) (behind : List Worker) (m : ℕ)
       → v.turn ≡ Claimed m → IsSoundState t guess (words n floor (front ++ v ∷ behind))
       → IsSoundState t guess (words n floor (front ++ saw v m floor ∷ behind))
@@ -326,6 +343,7 @@ module _ (t : Task) (guess : Option ℤ) where
 
   -- ---- a settle
 
+  -- a worker after it settled with this record
   did : Worker → Record → Worker
   did v r = record {
     turn = Idle;
@@ -335,6 +353,7 @@ module _ (t : Task) (guess : Option ℤ) where
         fold taken v.pool (scanned_for t r);
   }
 
+  -- its pool has the best of all that it scanned, the record's candidates among them
   pool_did : (v : Worker) (r : Record) → v.pool ≡ pool_of t v.records
       → fold taken v.pool (scanned_for t r) ≡ pool_of t (v.records ++ r ∷ [])
   pool_did v r e =
@@ -351,11 +370,13 @@ module _ (t : Task) (guess : Option ℤ) where
   done : Worker → Record → Exchange
   done v r = exchange t (scanned t v.records) r
 
+  -- the last turn of a worker that looked is open
   turns_looked : (v : Worker) (m : ℕ) (seen : Option ℤ) → v.turn ≡ Looked m seen
       → exchanges_of t v ≡ exchanges t [] v.records ++ looking seen ∷ []
   unfolding looking
   turns_looked v m seen e = ap (λ (x : Turn). exchanges t [] v.records ++ open_exchange x) e
 
+  -- settling closes the open turn
   turns_did : (v : Worker) (r : Record) → exchanges_of t (did v r) ≡ exchanges t [] v.records ++ done v r ∷ []
   unfolding did done
   turns_did v r = append-nil (exchanges t [] (v.records ++ r ∷ [])) ∙ exchanges-push t [] v.records r
@@ -382,6 +403,7 @@ module _ (t : Task) (guess : Option ℤ) where
       no_more None = refl
       no_more (Some x) = refl
 
+  -- a sound worker that settles stays sound
   worker_did : (w : ℕ) (v : Worker) (m : ℕ) (seen : Option ℤ) → v.turn ≡ Looked m seen → IsSoundWorker t guess w v
       → IsSoundWorker t guess w (did v (record_of t w m seen))
   unfolding did done looking
@@ -403,6 +425,7 @@ module _ (t : Task) (guess : Option ℤ) where
             (turns_looked v m seen e) h.upward));
       }
 
+  -- a settle keeps the state sound
   settle_keeps : (n : ℕ) (floor : Option ℤ) (front : List Worker) (v : Worker) (behind : List Worker) (m : ℕ)
       (seen : Option ℤ) → 0 < t.k → v.turn ≡ Looked m seen → IsSoundWorker t guess (length front) v
       → IsSoundState t guess (words n floor (front ++ v ∷ behind))
@@ -537,6 +560,7 @@ module _ (t : Task) (guess : Option ℤ) where
   moved_keeps s (Settle w) v (Claimed m) some a is ok h = absurd cc
   moved_keeps s (Settle w) v (Stopped n) some a is ok h = absurd cc
 
+  -- each step keeps the state sound
   step_keeps : (s s' : State) (e : Event) → 0 < t.k → IsSoundState t guess s → IsStep t s e s'
       → IsSoundState t guess s'
   step_keeps s s' e some h step =
@@ -547,10 +571,12 @@ module _ (t : Task) (guess : Option ℤ) where
 
   -- ---- the start
 
+  -- the first k of no candidates are none
   take_none : (k : ℕ) → take {A = Candidate} k [] ≡ []
   take_none zero = refl
   take_none (suc k) = refl
 
+  -- workers that have done nothing are sound
   new_from : (w n : ℕ) → AreSoundFrom t guess w (replicate n (new_worker t.k))
   new_from w zero = tt
   new_from w (suc n) = (
@@ -568,25 +594,31 @@ module _ (t : Task) (guess : Option ℤ) where
     new_from (w + 1) n,
   )
 
+  -- they have drawn no numbers
   no_claims : (n : ℕ) → flat_map (λ (u : Worker). u.claims) (replicate n (new_worker t.k)) ≡ []
   no_claims zero = refl
   no_claims (suc n) = no_claims n
 
+  -- they have had no turns
   no_turns : (n : ℕ) → all_exchanges t (replicate n (new_worker t.k)) ≡ []
   no_turns zero = refl
   no_turns (suc n) = no_turns n
 
+  -- a floor that is the guess is a known score
   itself : (o : Option ℤ) → IfSome o (IsGuessOrRaised o [])
   itself None = tt
   itself (Some x) = inl refl
 
+  -- a floor that is the guess is at least the guess
   above_itself : (o : Option ℤ) → IsAtLeast o (option_to_list o)
   above_itself None = All-nil _
   above_itself (Some x) = let le : x ≤ℤ x = omega (arith, ints) in one_there (λ s. s ≤ℤ x) (Some x) le
 
+  -- where the next number is the first, none was drawn
   none_times : (x : ℕ) → times x [] ≡ times_below x 0
   none_times x = let no : nat_lt x 0 ≡ false = grind arith in sym (ap (λ (b : Bool). cond b 1 0) no)
 
+  -- the start is sound
   start_sound : (workers : ℕ) → IsSoundState t guess (started t workers guess)
   start_sound workers = record {
     claims = λ x. ap (times x) (no_claims workers) ∙ none_times x;

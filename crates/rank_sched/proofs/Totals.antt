@@ -25,24 +25,30 @@ abbrev pub upto : (ℕ → ℕ) → ℕ → ℕ
 upto f zero = 0
 upto f (suc n) = upto f n + f n
 
+-- two totals together are the total of both
 upto-plus : (f g : ℕ → ℕ) (n : ℕ) → upto (λ x. f x + g x) n ≡ upto f n + upto g n
 upto-plus f g zero = refl
 upto-plus f g (suc n) = omega (arith, upto-plus f g n)
 
+-- where each part is nothing, the total is nothing
 upto-none : (f : ℕ → ℕ) (n : ℕ) → ((x : ℕ) → x < n → f x ≡ 0) → upto f n ≡ 0
 upto-none f zero h = refl
 upto-none f (suc n) h = omega (arith, upto-none f n (λ x k. h x (omega arith)), h n (omega arith))
 
+-- where all parts are the same, so is the total
 upto-agree : (f g : ℕ → ℕ) (n : ℕ) → ((x : ℕ) → x < n → f x ≡ g x) → upto f n ≡ upto g n
 upto-agree f g zero h = refl
 upto-agree f g (suc n) h = omega (arith, upto-agree f g n (λ x k. h x (omega arith)), h n (omega arith))
 
+-- a part that counts once is itself
 one_times : (a m : ℕ) → a ≡ 1 → a * m ≡ m
 one_times a m e = ap (λ (x : ℕ). x * m) e ∙ omega arith
 
+-- a part that doesn't count is nothing
 no_times : (a m : ℕ) → a ≡ 0 → a * m ≡ 0
 no_times a m e = ap (λ (x : ℕ). x * m) e ∙ omega arith
 
+-- where one number alone counts, the total is its part
 upto-one : (f : ℕ → ℕ) (y n : ℕ) → y < n → upto (λ x. one_if_equal y x * f x) n ≡ f y
 upto-one f y zero h = absurd (omega arith)
 upto-one f y (suc n) h = elim (cases_eq y n) [
@@ -57,6 +63,7 @@ upto-one f y (suc n) h = elim (cases_eq y n) [
       omega (arith, upto-one f y n less, no_times (one_if_equal y n) (f n) (one_if_equal-apart y n ne))
 ]
 
+-- how often a number stands in a list with one more in front
 times-cons : (x y : ℕ) (ys : List ℕ) → times x (y ∷ ys) ≡ one_if_equal y x + times x ys
 times-cons x y ys = sum_by-cons (λ z. one_if_equal z x) y ys
 
@@ -83,11 +90,13 @@ pub sum-each : (f : ℕ → ℕ) (n : ℕ) (xs : List ℕ) → HasEachBelow n xs
 sum-each f n xs once = sym (sum-times f n xs (all_below n xs once))
     ∙ upto-agree (λ x. times x xs * f x) f n (λ x h. one_times (times x xs) (f x) (once x ∙ times_below-yes x n h))
 
+-- the numbers from a on, with one more at the end
 pub range-push : (a n : ℕ) → range_with_len a (suc n) ≡ range_with_len a n ++ (a + n) ∷ []
 range-push a zero = let same : a ≡ a + 0 = omega arith in ap (λ (m : ℕ). m ∷ []) same
 range-push a (suc n) = let same : (a + 1) + n ≡ a + suc n = omega arith in
     ap (λ (l : List ℕ). a ∷ l) (range-push (a + 1) n ∙ ap (λ (m : ℕ). range_with_len (a + 1) n ++ m ∷ []) same)
 
+-- a sum over the numbers below n is their total
 sum-range : (f : ℕ → ℕ) (n : ℕ) → sum_by f (range_with_len 0 n) ≡ upto f n
 sum-range f zero = refl
 sum-range f (suc n) =
@@ -102,6 +111,7 @@ sum-range f (suc n) =
 abbrev pub over : Task → ℤ → ℕ → ℕ
 over t b m = above b (t.candidates m)
 
+-- candidates that score above a number are counted morsel by morsel
 above-flat : (b : ℤ) (f : ℕ → List Candidate) (ms : List ℕ) → above b (flat_map f ms) ≡ sum_by (λ m. above b (f m)) ms
 above-flat b f [] = refl
 above-flat b f (m ∷ ms) = omega (
@@ -120,6 +130,7 @@ all_over t b = above-flat b t.candidates (range_with_len 0 t.len) ∙ sum-range 
 abbrev pub over_records : Task → ℤ → List Record → ℕ
 over_records t b rs = sum_by (over t b) (morsels_of rs)
 
+-- a record in front adds the candidates of its morsel
 over_records-cons : (t : Task) (b : ℤ) (r : Record) (rs : List Record)
     → over_records t b (r ∷ rs) ≡ over t b r.morsel + over_records t b rs
 over_records-cons t b r rs = sum_by-cons (over t b) r.morsel (morsels_of rs)
@@ -147,6 +158,7 @@ known_over t b m (r ∷ rs) =
       over_records-cons t b r rs,
     )
 
+-- of two tests that pass together each passes
 both_true : (a b : Bool) → (a && b) ≡ true → (a ≡ true) × (b ≡ true)
 both_true true b h = (refl, h)
 both_true false b h = absurd cc
@@ -164,9 +176,11 @@ skips_right t hs m fair sound h =
 
 -- ---- later skips
 
+-- what comes before a morsel comes before a later one
 lt_later : (r m n : ℕ) → m ≤ n → nat_lt r m ≡ true → nat_lt r n ≡ true
 lt_later r m n le h = grind arith
 
+-- what is known of a record before a morsel is known before a later one
 part_later : (b : ℤ) (xs : List Candidate) (s : Bool) (r m n : ℕ) → m ≤ n
     → above b (cond (not s || nat_lt r m) xs []) ≤ above b (cond (not s || nat_lt r n) xs [])
 part_later b xs false r m n le = omega arith

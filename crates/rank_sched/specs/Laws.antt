@@ -61,28 +61,32 @@ EndsAreSound = (t : Task) (guess : Option ℤ) (s : State) (hs : List Haul) → 
     → IsSoundState t guess s → all_stopped s.workers ≡ true → AreHaulsOf s.workers hs →
     IsSoundEnd t s × AreSound t hs × AreUnderFloor t guess hs s.floor
 
--- events that end stopped are a claim for each morsel and each worker, and a look and a settle for each morsel
+-- the event is a claim
 abbrev pub is_claim : Event → Bool
 is_claim (Claim w) = true
 is_claim (Look w) = false
 is_claim (Settle w) = false
 
+-- the event is a look
 abbrev pub is_look : Event → Bool
 is_look (Claim w) = false
 is_look (Look w) = true
 is_look (Settle w) = false
 
+-- the event is a settle
 abbrev pub is_settle : Event → Bool
 is_settle (Claim w) = false
 is_settle (Look w) = false
 is_settle (Settle w) = true
 
+-- a claim for each morsel and each worker, a look and a settle for each morsel, and no other event
 pub record HasAllEvents (len workers : ℕ) (es : List Event) : Type 0 where
   pub claims : count_by is_claim es ≡ len + workers
   pub looks : count_by is_look es ≡ len
   pub settles : count_by is_settle es ≡ len
   pub all : length es ≡ 3 * len + workers
 
+-- the events of a run that ends stopped are a claim for each morsel and each worker, and a look and a settle for each
 abbrev pub EventsAreCounted : Type 0
 EventsAreCounted = (t : Task) (workers : ℕ) (guess : Option ℤ) (es : List Event) (s : State) → 0 < t.k → 0 < workers
     → Reaches t workers guess es s → all_stopped s.workers ≡ true → HasAllEvents t.len workers es
@@ -179,7 +183,7 @@ abbrev pub BestAreThere : Type 0
 BestAreThere = (t : Task) (hs : List Haul) → IsFair t → AreSound t hs
     → first t.k (scanned t (all_records hs) ++ back_below t (all_records hs) t.len) ≡ first t.k (all_of_task t)
 
--- and the pool of what was scanned and taken back before a morsel tells whether its skip stays
+-- and the pool of what was scanned and taken back before a morsel says whether its skip stays
 abbrev pub PoolDecides : Type 0
 PoolDecides = (t : Task) (hs : List Haul) (n : ℕ) → IsFair t → AreSound t hs
     → is_below (kth t.k (scanned t (all_records hs) ++ back_below t (all_records hs) n)) (t.bound n) ≡ is_justified t

@@ -15,6 +15,7 @@ use Rattle.rank_query.specs.Admits.{admits_station}
 use Rattle.rank_scores.specs.Candidates.{admitted}
 use Rattle.rank_scores.specs.Morsels.{morsels, id_comes_first}
 use Rattle.rank_blocks.specs.Bounds.{bound}
+use Rattle.rank_sched.specs.declared.plan.Morsel as code
 
 -- a series of a query, and its bound
 pub record Morsel : Type 0 where
@@ -26,6 +27,10 @@ pub record Planned : Type 0 where
   pub query : Asked
   pub stations : List Station
   pub morsels : List Morsel
+
+-- what contracts see of a morsel
+abbrev pub planned_morsel : code.Morsel → Morsel
+planned_morsel m = record { series = m.series.now; bound = m.bound }
 
 -- a series with its bound under a query
 abbrev pub measured : Asked → Usable → Morsel

@@ -1,4 +1,4 @@
-//! The end of a run.
+//! The answer of a run.
 
 use crate::{Line, Record};
 use rank_scores::Candidate;

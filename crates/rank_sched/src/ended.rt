@@ -53,7 +53,7 @@ fn gather(alloc: Global, plan: &Plan<'_>, hauls: Vec<Haul>) -> Result<(Vec<Recor
     Ok((all, best))
 }
 
-/// Scans the skipped morsels that aren't justified, in the plan's order, and marks the others.
+/// Scans each morsel whose skip isn't justified, in the plan's order, and marks the other skips.
 fn take_back(
     alloc: Global,
     plan: &Plan<'_>,
@@ -62,8 +62,8 @@ fn take_back(
 ) -> Result<Vec<bool>, Memory>
     requires once { HasEachBelow (length plan.now.morsels) (morsels_of records.now) }
     requires pool { pool.old ≡ pool_of (task_of plan.now) records.now }
-    ensures skips { IfOk result (λ skips.
-        ending.AreMarks (stays (task_of plan.now) records.now) (length plan.now.morsels) skips.items) }
+    ensures skips { IfOk result (λ skips. ending.AreMarks
+        (stays (task_of plan.now) records.now) (length plan.now.morsels) skips.items) }
     ensures best { OnOk result (pool.new.held ≡ best_of_plan plan.now) }
 {
     let mut skips = skips_of(alloc, plan.len(), records)?;
@@ -83,7 +83,7 @@ fn is_justified(plan: &Plan<'_>, pool: &Pool, morsel: u64) -> bool
     is_below(pool.kth(), plan.bound(morsel).unwrap_or(0))
 }
 
-/// A mark for each of so many morsels, where a record passes it over.
+/// A mark for each of so many morsels: whether a record passes it over.
 fn skips_of(alloc: Global, len: u64, records: &[Record]) -> Result<Vec<bool>, Memory>
     requires { ending.AreWithin len records.now }
     ensures { IfOk result (λ skips. ending.AreMarks (was_skipped records.now) len skips.items) }

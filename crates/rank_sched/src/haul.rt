@@ -18,8 +18,8 @@ pub struct Haul {
 }
 
 impl Haul {
-    /// Nothing yet, with places for the k best.
-    pub(crate) fn new(alloc: Global, k: u64) -> Result<Self, Memory>
+    /// Nothing yet, with places for the k best, k from 1 to 1000.
+    pub fn new(alloc: Global, k: u64) -> Result<Self, Memory>
         requires some { 0 < k }
         requires few { k ≤ 1000 }
         ensures { IfOk result (run.IsEmptyHaul k) }
@@ -31,8 +31,8 @@ impl Haul {
         })
     }
 
-    /// Writes a record, scans its morsel unless it was passed over, and answers the score to raise.
-    pub(crate) fn settle(&mut self, plan: &Plan<'_>, written: Record) -> Result<Option<i64>, Memory>
+    /// Writes a record, scans its morsel unless it was passed over, and returns the score to raise.
+    pub fn settle(&mut self, plan: &Plan<'_>, written: Record) -> Result<Option<i64>, Memory>
         ensures settled { OnOk result (run.HasSettled (task_of plan.now) self.old written self.new) }
         ensures raised { IfOk result (λ raised.
             raised ≡ (if written.skipped then None else last_score self.new.pool)) }

@@ -1,9 +1,9 @@
-//! What runs and their hauls are worth, as laws over the definitions.
+//! Laws of plans, of runs, and of the hauls that runs bring home.
 
 ghost use Rattle.rank_sched.specs.Laws as laws;
 
 /// Every event that isn't refused leads to one state, runs are sound from the start on, and a
-/// machine that failed stays so.
+/// machine that failed stays failed.
 pub fn runs_are_sound()
     ensures steps { laws.StepsAreComputed }
     ensures choice { laws.OneWorkerHasNoChoice }
@@ -20,14 +20,14 @@ pub fn ends_are_sound()
     ensures none { laws.NoHauls }
 {}
 
-/// A haul goes on being sound as records are added, and so do its turns and the floors that it saw.
+/// A haul stays sound as records are added, and so do its turns and the floors that it saw.
 pub fn hauls_grow()
     ensures haul { laws.HaulsGrow }
     ensures turns { laws.TurnsGrow }
     ensures upward { laws.UpwardGrows }
 {}
 
-/// Workers, and those with the next numbers, are together what each group is.
+/// Two groups of workers, of which one has the next numbers, are sound together if each group is.
 pub fn workers_join()
     ensures sound { laws.WorkersJoin }
     ensures hauls { laws.HaulsJoin }
@@ -45,8 +45,8 @@ pub fn hauls_are_right()
     ensures pool { laws.PoolDecides }
 {}
 
-/// A plan is the one list of its query's morsels in which they are drawn, what it asks is fair, and
-/// its best candidates are the best of its query.
+/// A plan is the only list of its query's morsels in the order in which they are drawn. What it
+/// asks is fair, and its best candidates are the best of its query.
 pub fn plans_have_the_best()
     ensures one { laws.PlanIsTheOne }
     ensures fair { laws.PlansAreFair }

@@ -1,7 +1,7 @@
 //! The plan of a query, the machine that runs it in any order of events, and the end of a run.
 //!
-//! The crew's threads and the papers stand on it. What it hands up is the plan, and that the answer
-//! made of sound hauls has the best candidates and right lines.
+//! `extremes` ranks with this crate. It gives the plan, and an answer that has the best candidates
+//! and the right lines, in whatever order the workers took their steps.
 #![tactic(auto)]
 
 mod alone;
@@ -29,7 +29,7 @@ pub use laws::{
     ends_are_sound, hauls_are_right, hauls_grow, plans_have_the_best, runs_are_sound, workers_join,
 };
 pub use line::Line;
-pub use machine::Machine;
+pub use machine::{Machine, record_of};
 pub use measured::measure;
 pub use plan::Plan;
 pub use record::Record;

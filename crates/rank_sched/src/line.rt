@@ -1,9 +1,9 @@
-//! A line of a certificate.
+//! What an answer says of one morsel.
 
 use ghcn_files::StationId;
 
-/// A series of a query, a number that none of its candidates' scores is above, and whether it was
-/// passed over.
+/// A series of the query: its station, a number that no candidate's score exceeds, and whether it
+/// was passed over.
 #[derive(Clone, Copy, Debug, PartialEq, Eq)]
 pub struct Line {
     pub id: StationId,

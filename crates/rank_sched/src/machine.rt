@@ -25,7 +25,7 @@ pub struct Machine<'a> {
     /// The number that the next claim draws.
     next: u64,
     floor: Option<i64>,
-    /// Of each worker, where it is in its turn, and what it brings home.
+    /// Where each worker is in its turn, and what it brings home.
     turns: Vec<Turn>,
     hauls: Vec<Haul>,
     /// Memory was refused.
@@ -77,8 +77,8 @@ impl<'a> Machine<'a> {
         })
     }
 
-    /// Makes the worker's next step, if the event is that. After want of memory the machine has
-    /// failed, and makes none.
+    /// Makes the step of an event, if its worker waits for it. Once memory was refused the machine
+    /// has failed, and makes no more steps.
     pub fn step(&mut self, event: Event) -> Result<(), StepFault>
         ensures { IsAnswered self.old event result self.new }
     {
@@ -226,8 +226,8 @@ fn drawn(plan: &Plan<'_>, number: u64) -> Turn
     }
 }
 
-/// What a worker writes down that saw a floor before a morsel.
-fn record_of(plan: &Plan<'_>, worker: u64, morsel: u64, seen: Option<i64>) -> Record
+/// What a worker writes down about a morsel, after it saw this floor.
+pub fn record_of(plan: &Plan<'_>, worker: u64, morsel: u64, seen: Option<i64>) -> Record
     ensures { result ≡ machine.record_of (task_of plan.now) worker morsel seen }
 {
     Record {
@@ -248,7 +248,7 @@ pub(crate) fn is_below(score: Option<i64>, bound: i64) -> bool
     }
 }
 
-/// The greater of two floors, of which none is the least.
+/// The greater of two floors. `None` is below every score.
 fn greater_floor(a: Option<i64>, b: Option<i64>) -> Option<i64>
     ensures { result ≡ machine.greater_floor a b }
 {

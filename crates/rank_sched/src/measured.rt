@@ -13,7 +13,7 @@ use rank_blocks::Blocks;
 use rank_query::Query;
 use std::alloc::Global;
 
-/// The bound of the station at a place in the list, none where the query has no morsel of it.
+/// The bound of the station at a place in the list, or `None` where it has no morsel.
 pub fn measure(alloc: Global, held: &Data, query: &Query, place: u64) -> Result<Option<i64>, Memory>
     requires { place < length held.now.stations }
     ensures { IfOk result (λ measured.

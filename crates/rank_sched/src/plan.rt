@@ -21,7 +21,7 @@ use std::alloc::Global;
 use std::cmp::Ordering;
 use std::marker::Model;
 
-/// A series of the query, and a number that no candidate's score is above.
+/// A series of the query, and a number that no candidate's score exceeds.
 #[derive(Clone, Copy)]
 pub(crate) struct Morsel<'a> {
     pub(crate) series: &'a Series,
@@ -38,20 +38,20 @@ pub struct Plan<'a> {
 
 impl<'a> Model for Plan<'a> {
     ghost use Rattle.std.specs.Prelude.{map};
-    ghost use Rattle.rank_sched.specs.Plan.{Planned, IsPlan};
+    ghost use Rattle.rank_sched.specs.Plan.{Planned, IsPlan, planned_morsel};
 
     ghost Value = { Planned };
 
     ghost view = { λ p. record {
       query = p.query;
       stations = p.data.now.stations;
-      morsels = map (λ m. record { series = m.series.now; bound = m.bound }) p.morsels.items;
+      morsels = map planned_morsel p.morsels.items;
     } };
 
     ghost invariant = { λ p. IsPlan (record {
       query = p.query;
       stations = p.data.now.stations;
-      morsels = map (λ m. record { series = m.series.now; bound = m.bound }) p.morsels.items;
+      morsels = map planned_morsel p.morsels.items;
     }) };
 }
 
@@ -92,7 +92,7 @@ impl<'a> Plan<'a> {
         self.morsels.len() as u64
     }
 
-    /// The ID of a morsel's station, none past the last.
+    /// The ID of a morsel's station, or `None` past the last.
     pub fn id(&self, morsel: u64) -> Option<StationId>
         ensures { result ≡ option_map (λ m. m.series.id) (slice_get self.now.morsels morsel) }
     {
@@ -100,7 +100,7 @@ impl<'a> Plan<'a> {
         Some(found.series.id())
     }
 
-    /// The bound of a morsel, none past the last.
+    /// The bound of a morsel, or `None` past the last.
     pub fn bound(&self, morsel: u64) -> Option<i64>
         ensures { result ≡ option_map (λ m. m.bound) (slice_get self.now.morsels morsel) }
     {
@@ -108,9 +108,10 @@ impl<'a> Plan<'a> {
         Some(found.bound)
     }
 
-    /// The series of a morsel, none past the last.
+    /// The series of a morsel, or `None` past the last.
     pub fn series(&self, morsel: u64) -> Option<&Series>
-        ensures { option_copied result ≡ option_map (λ m. m.series) (slice_get self.now.morsels morsel) }
+        ensures { option_copied result
+            ≡ option_map (λ m. m.series) (slice_get self.now.morsels morsel) }
     {
         let found = self.morsels.as_slice().get(morsel as usize)?;
         Some(found.series)
@@ -125,7 +126,7 @@ impl<'a> Plan<'a> {
         }
     }
 
-    /// The line of a morsel that was passed over or not.
+    /// The line of a morsel, by whether it was passed over.
     pub(crate) fn line(&self, morsel: u64, skipped: bool) -> Line
         requires { morsel < length self.now.morsels }
         ensures { option_map (λ m. record { id = m.series.id; bound = m.bound; skipped = skipped })
@@ -170,7 +171,7 @@ pub(crate) fn bounds_of(
     Ok(bounds)
 }
 
-/// The morsels in the order of their stations, by the bounds of these.
+/// The morsels in the order of their stations, from the bounds of all stations.
 fn morsels_of<'a>(
     alloc: Global,
     held: &'a Data,
@@ -178,7 +179,7 @@ fn morsels_of<'a>(
     bounds: &[Option<i64>],
 ) -> Result<Vec<Morsel<'a>>, Memory>
     requires { bounds.now ≡ plan.measures query.now held.now }
-    ensures morsels { IfOk result (λ morsels. map (λ m. record { series = m.series.now; bound = m.bound }) morsels.items
+    ensures morsels { IfOk result (λ morsels. map plan.planned_morsel morsels.items
         ≡ filter_map (plan.morsel_at query.now held.now) held.now.stations) }
     ensures asked { IsAsked query.now }
     ensures contents { IsContents held.now }
@@ -193,7 +194,7 @@ fn morsels_of<'a>(
     Ok(morsels)
 }
 
-/// The morsel of the station at a place, by its bound and the query's element.
+/// The morsel of the station at a place, if the station has a bound.
 fn morsel_at<'a>(
     held: &'a Data,
     element: Element,
@@ -203,7 +204,7 @@ fn morsel_at<'a>(
     ensures { (q : Asked) → element ≡ score_element q.score →
         option_map (plan.measure_of q held.now) (slice_get held.now.stations place) ≡ Some bound →
         option_map (plan.morsel_at q held.now) (slice_get held.now.stations place)
-        ≡ Some (option_map (λ m. record { series = m.series.now; bound = m.bound }) result) }
+        ≡ Some (option_map plan.planned_morsel result) }
 {
     let bound = bound?;
     let station = held.stations().at(place)?;
@@ -213,9 +214,7 @@ fn morsel_at<'a>(
 
 /// Which of two morsels is drawn first.
 fn drawn_cmp(a: &Morsel<'_>, b: &Morsel<'_>) -> Ordering
-    ensures { result ≡ plan.drawn_cmp
-        (record { series = a.now.series.now; bound = a.now.bound })
-        (record { series = b.now.series.now; bound = b.now.bound }) }
+    ensures { result ≡ plan.drawn_cmp (plan.planned_morsel a.now) (plan.planned_morsel b.now) }
 {
     b.bound
         .cmp(&a.bound)

@@ -1,6 +1,7 @@
-//! What a worker writes down of a morsel.
+//! What a worker writes down about a morsel.
 
-/// What one worker did with one morsel: the floor that it saw, and whether it passed the morsel over.
+/// What one worker did with one morsel: the floor that it saw, and whether it passed the morsel
+/// over.
 #[derive(Clone, Copy, Debug, PartialEq, Eq)]
 pub struct Record {
     pub morsel: u64,

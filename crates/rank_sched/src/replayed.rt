@@ -8,7 +8,7 @@ ghost use Rattle.rank_sched.specs.Run.{IsReplayed, IsReplayFault};
 use crate::{Event, Machine, Plan, ReplayFault, StepFault};
 use std::alloc::Global;
 
-/// The machine after some events, or the first that is refused.
+/// The machine after all of these events, or the first refusal.
 pub fn replay<'a>(
     alloc: Global,
     plan: &'a Plan<'a>,
@@ -20,7 +20,8 @@ pub fn replay<'a>(
     requires few { workers ≤ 64 }
     requires guess { IfSome guess IsScore }
     ensures ok { IfOk result (IsReplayed plan.now workers guess events.now) }
-    ensures err { IfErr result (λ fault. IsReplayFault plan.now workers guess events.now fault.accepted fault.why) }
+    ensures err { IfErr result (λ fault.
+        IsReplayFault plan.now workers guess events.now fault.accepted fault.why) }
 {
     let mut machine = match Machine::new(alloc, plan, workers, guess) {
         Ok(machine) => machine,

@@ -25,7 +25,7 @@ const B: StationId = StationId(*b"ZZA00000002");
 
 const C: StationId = StationId(*b"ZZA00000003");
 
-/// The greatest temperatures of the first days of July 2020, in tenths of a degree, of each station.
+/// The greatest temperatures of each station on the first days of July 2020, in tenths of a degree.
 type Values = [&'static [i32]; 3];
 
 const USUAL: Values = [&[311, 305], &[311], &[250]];
@@ -144,7 +144,8 @@ fn interleaved_runs(rt: HostRuntime) -> Result<(), Fail> {
     )
 }
 
-/// One worker under a guess: the lines, how many skips are taken back, and how many records are skips.
+/// One worker under a guess: the lines, how many skips are taken back, and how many records are
+/// skips.
 fn check_guess(
     rt: &impl Abort,
     alloc: Global,

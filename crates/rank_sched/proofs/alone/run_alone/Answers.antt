@@ -9,6 +9,7 @@ pub loop-init : goal.loop-init
 loop-init c = subst (Awaits c.args.plan.now c.args.guess 0 (Claim 0)) (sym c.in_ok-machine.ensures)
     (awaits_first c.args.plan.now c.args.guess)
 
+-- each turn's claim is awaited
 pub advance-requires : goal.advance-requires
 advance-requires c = c.loop.invariant.accepted
 
@@ -36,6 +37,7 @@ loop-preserved c =
     let settled = awaits_settle c.args.plan.now c.args.guess _ _ _ looked c.in_ok-advance-2.ensures in
     awaits_claim c.args.plan.now c.args.guess _ _ _ settled c.in_ok-advance-3.ensures
 
+-- the last claim is awaited
 pub advance-requires-2 : goal.advance-requires-2
 advance-requires-2 c = c.loop.invariant.accepted
 
@@ -45,6 +47,7 @@ hauls-requires c =
     let past : length c.args.plan.now.morsels ≤ c.loop.counter = omega arith in
     last_claim c.args.plan.now c.args.guess c.loop.counter _ _ past c.loop.invariant c.in_ok-advance-4.ensures
 
+-- what the worker brings home is sound
 pub finish-requires : goal.finish-requires
 finish-requires c = lone_sound c.args.plan.now c.args.guess c.loop.counter _ _ c.hauls.result.items c.loop.invariant
     c.in_ok-advance-4.ensures c.hauls.ensures.sound

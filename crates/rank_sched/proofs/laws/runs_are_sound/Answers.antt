@@ -3,17 +3,22 @@ use Rattle.rank_sched.proofs.SoundSteps.{runs_sound}
 use Rattle.rank_sched.proofs.OneList.{seen_at_most}
 use Rattle.rank_sched.proofs.laws.runs_are_sound.Goals as goal
 
+-- an event that isn't refused leads to one state, and one that is refused to none
 pub returns-clause-steps : goal.returns-clause-steps
 returns-clause-steps c = steps_computed
 
+-- with one worker at most one event is accepted
 pub returns-clause-choice : goal.returns-clause-choice
 returns-clause-choice c = one_worker
 
+-- the start is sound, and a step keeps it so
 pub returns-clause-sound : goal.returns-clause-sound
 returns-clause-sound c = runs_sound
 
+-- no floor that was seen is above the floor
 pub returns-clause-seen : goal.returns-clause-seen
 returns-clause-seen c = seen_at_most
 
+-- a machine that failed stays failed, and is never stopped
 pub returns-clause-failed : goal.returns-clause-failed
 returns-clause-failed c = failed_stays

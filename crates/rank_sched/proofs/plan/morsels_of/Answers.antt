@@ -5,6 +5,7 @@ use Rattle.std.specs.Option.{option_map}
 use Rattle.std.proofs.lemmas.List.{map-append}
 use Rattle.rank_sched.specs.declared.plan.Morsel as code
 use Rattle.rank_sched.specs.Plan as plan
+use Rattle.rank_sched.specs.Plan.{planned_morsel}
 use Rattle.rank_sched.proofs.PlanMade.{kept-more, made_at}
 use Rattle.rank_sched.proofs.plan.morsels_of.Goals as goal
 use Rattle.rank_sched.proofs.plan.morsels_of.Goals.{in-Some+in_ok-push, in_default}
@@ -12,7 +13,6 @@ use Rattle.rank_sched.proofs.plan.morsels_of.Goals.{in-Some+in_ok-push, in_defau
 -- one station more may give a morsel
 pub loop-place-preserved : goal.loop-place-preserved
 loop-place-preserved c =
-    let seen : code.Morsel → plan.Morsel = λ m. record { series = m.series.now; bound = m.bound } in
     let next : suc c.loop-place.place ≡ c.loop-place.place + 1 = omega arith in
     let within : c.loop-place.place < length c.args.held.now.stations =
     omega (
@@ -28,26 +28,26 @@ loop-place-preserved c =
     ∙ ap (λ (l : List (Option ℤ)). Some (get_or l c.loop-place.place None)) (sym c.requires) in
     let there = c.morsel_at.ensures c.args.query.now c.element-element.ensures.element measured in
     let more = kept-more (plan.morsel_at c.args.query.now c.args.held.now) c.args.held.now.stations c.loop-place.place
-    (option_map seen c.morsel_at.result) there in
+    (option_map planned_morsel c.morsel_at.result) there in
     let at : filter_map (plan.morsel_at c.args.query.now c.args.held.now)
     (take c.loop-place.place c.args.held.now.stations) ++ option_to_list
-    (option_map seen c.morsel_at.result) ≡ filter_map (plan.morsel_at c.args.query.now c.args.held.now)
+    (option_map planned_morsel c.morsel_at.result) ≡ filter_map (plan.morsel_at c.args.query.now c.args.held.now)
     (take (c.loop-place.place + 1) c.args.held.now.stations) =
     sym more ∙ ap (λ (n : ℕ). filter_map (plan.morsel_at c.args.query.now c.args.held.now)
     (take n c.args.held.now.stations)) next in
     elim c.match-morsel_at.branch [
       | in-Some+in_ok-push w ↦
-          ap (λ v. map seen v.items) w.morsels-is ∙ ap (map seen) w.in_ok-push.ensures.items
-          ∙ map-append seen c.loop-place.morsels.items (w.in-Some.morsel ∷ [])
-          ∙ ap (λ (l : List plan.Morsel). l ++ seen w.in-Some.morsel ∷ []) c.loop-place.invariant
+          ap (λ v. map planned_morsel v.items) w.morsels-is ∙ ap (map planned_morsel) w.in_ok-push.ensures.items
+          ∙ map-append planned_morsel c.loop-place.morsels.items (w.in-Some.morsel ∷ [])
+          ∙ ap (λ (l : List plan.Morsel). l ++ planned_morsel w.in-Some.morsel ∷ []) c.loop-place.invariant
           ∙ ap (λ (o : Option code.Morsel). filter_map (plan.morsel_at c.args.query.now c.args.held.now)
-          (take c.loop-place.place c.args.held.now.stations) ++ option_to_list (option_map seen o))
+          (take c.loop-place.place c.args.held.now.stations) ++ option_to_list (option_map planned_morsel o))
           (sym w.in-Some.is)
           ∙ at
       | in_default w ↦
-          ap (λ v. map seen v.items) w.morsels-is ∙ c.loop-place.invariant ∙ sym (append-nil _)
+          ap (λ v. map planned_morsel v.items) w.morsels-is ∙ c.loop-place.invariant ∙ sym (append-nil _)
           ∙ ap (λ (o : Option code.Morsel). filter_map (plan.morsel_at c.args.query.now c.args.held.now)
-          (take c.loop-place.place c.args.held.now.stations) ++ option_to_list (option_map seen o))
+          (take c.loop-place.place c.args.held.now.stations) ++ option_to_list (option_map planned_morsel o))
           (sym w.in_default.is)
           ∙ at
     ]

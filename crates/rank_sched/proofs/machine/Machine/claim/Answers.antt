@@ -21,6 +21,7 @@ returns-in_err-turn_of c =
     c.self.inside.hauls.items (Claim c.args.worker)
     (sym (ap (λ (m : Running). m.state) c.self.view_is)) c.requires c.self.invariant.0 far)
 
+-- the worker has a turn to change
 pub index_mut-requires : goal.index_mut-requires
 index_mut-requires c =
     let here : slice_get c.self.inside.turns.items c.args.worker ≡ Some Idle =
@@ -30,9 +31,11 @@ index_mut-requires c =
     there c.self.inside.turns.items c.self.inside.hauls.items c.args.worker Idle c.self.invariant.0 here in
     omega (arith, at.within, c.as_slice.ensures.len, ap length c.as_slice.ensures.value)
 
+-- the next number is small
 pub overflow_add-self : goal.overflow_add-self
 overflow_add-self c = let small = next_small _ c.self.invariant.1 in omega (arith, small)
 
+-- what is true of every machine is true after the claim
 pub invariant_of-self : goal.invariant_of-self
 invariant_of-self c =
     let here : slice_get c.self.inside.turns.items c.args.worker ≡ Some Idle =

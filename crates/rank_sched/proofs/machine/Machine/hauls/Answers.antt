@@ -11,6 +11,7 @@ returns-clause-hauls c =
     (hauls_of c.self.inside.next c.self.inside.floor c.self.inside.turns.items c.self.inside.hauls.items
     c.self.invariant.0)
 
+-- the hauls are sound
 pub returns-clause-sound : goal.returns-clause-sound
 returns-clause-sound c =
     let mine = subst (λ (m : Running). AreHaulsOf m.state.workers c.self.inside.hauls.items) c.self.view_is
@@ -19,6 +20,7 @@ returns-clause-sound c =
     (stopped_sound c.args.self c.self.inside.hauls.items
     (subst IsRunning c.self.view_is c.self.invariant.1) c.requires mine).1
 
+-- the hauls are under the floor
 pub returns-clause-under_floor : goal.returns-clause-under_floor
 returns-clause-under_floor c =
     let mine = subst (λ (m : Running). AreHaulsOf m.state.workers c.self.inside.hauls.items) c.self.view_is

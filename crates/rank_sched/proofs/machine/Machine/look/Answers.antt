@@ -21,6 +21,7 @@ returns-in_err-morsel c =
     c.self.inside.hauls.items (Look c.args.worker)
     (sym (ap (λ (m : Running). m.state) c.self.view_is)) c.requires c.self.invariant.0 far)
 
+-- the worker has a turn to change
 pub index_mut-requires : goal.index_mut-requires
 index_mut-requires c =
     let here : slice_get c.self.inside.turns.items c.args.worker ≡ Some (Claimed c.in-Claimed.morsel) =
@@ -31,6 +32,7 @@ index_mut-requires c =
     (Claimed c.in-Claimed.morsel) c.self.invariant.0 here in
     omega (arith, at.within, c.as_slice.ensures.len, ap length c.as_slice.ensures.value)
 
+-- what is true of every machine is true after the look
 pub invariant_of-self : goal.invariant_of-self
 invariant_of-self c =
     let here : slice_get c.self.inside.turns.items c.args.worker ≡ Some (Claimed c.in-Claimed.morsel) =

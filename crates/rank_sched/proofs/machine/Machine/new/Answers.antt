@@ -4,6 +4,7 @@ use Rattle.rank_sched.specs.Run.{IsRunning}
 use Rattle.rank_sched.proofs.MachineSteps.{start_state, start_turns, start_running}
 use Rattle.rank_sched.proofs.machine.Machine.new.Goals as goal
 
+-- what is true of every machine is true at the start
 pub invariant_of-result : goal.invariant_of-result
 invariant_of-result c =
     let k = c.k.ensures.k ∙ ap (λ q. q.k) c.query.ensures.query in
@@ -23,6 +24,7 @@ invariant_of-result c =
           c.requires.some c.requires.few),
     )
 
+-- the workers have done nothing, and the floor is the guess
 pub returns : goal.returns
 returns c =
     let k = c.k.ensures.k ∙ ap (λ q. q.k) c.query.ensures.query in

@@ -22,6 +22,7 @@ returns-in_err-morsel c =
     c.self.inside.hauls.items (Settle c.args.worker)
     (sym (ap (λ (m : Running). m.state) c.self.view_is)) c.requires c.self.invariant.0 far)
 
+-- the worker has a haul to write to
 pub index_mut-requires : goal.index_mut-requires
 index_mut-requires c =
     let here : slice_get c.self.inside.turns.items c.args.worker ≡ Some (Looked c.in-Looked.morsel c.in-Looked.seen) =
@@ -33,6 +34,7 @@ index_mut-requires c =
     (Looked c.in-Looked.morsel c.in-Looked.seen) c.self.invariant.0 here in
     omega (arith, at.within, c.self.invariant.0, c.self.inside.hauls.ok)
 
+-- the worker has a turn to end
 pub index_mut-requires-in-Ok : goal.index_mut-requires-in-Ok
 index_mut-requires-in-Ok c =
     let here : slice_get c.self.inside.turns.items c.args.worker ≡ Some (Looked c.in-Looked.morsel c.in-Looked.seen) =
@@ -44,6 +46,7 @@ index_mut-requires-in-Ok c =
     (Looked c.in-Looked.morsel c.in-Looked.seen) c.self.invariant.0 here in
     omega (arith, at.within, c.as_slice.ensures.len, ap length c.as_slice.ensures.value)
 
+-- what is true of every machine is true after the settle
 pub invariant_of-self : goal.invariant_of-self
 invariant_of-self c =
     let here : slice_get c.self.inside.turns.items c.args.worker ≡ Some (Looked c.in-Looked.morsel c.in-Looked.seen) =
@@ -59,6 +62,7 @@ invariant_of-self c =
       still_running _ (Settle c.args.worker) _ c.self.inside.failed c.self.invariant.1 step,
     )
 
+-- what is true of every machine is true after want of memory
 pub invariant_of-self-in-Err : goal.invariant_of-self-in-Err
 invariant_of-self-in-Err c =
     let here : slice_get c.self.inside.turns.items c.args.worker ≡ Some (Looked c.in-Looked.morsel c.in-Looked.seen) =
