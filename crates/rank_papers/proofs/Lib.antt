@@ -1,2 +1,14 @@
+pub mod Examples
 pub mod RowText
 pub mod ReportRows
+pub mod PlanLines
+pub mod PlanPapers
+pub mod PaperLines
+pub mod CertificateReading
+pub mod CertificateValues
+pub mod NumberTexts
+pub mod WrittenLines
+pub mod CertificateTexts
+pub mod FirstBadLines
+pub mod CertificatePlaces
+pub mod RightCertificates

@@ -1,14 +1,28 @@
-//! The papers of a ranking, as texts: the report of a query's best candidates.
+//! The papers of a ranking, as texts: the report of a query's best candidates, and the certificate
+//! that accounts for each of its series.
 //!
-//! The program writes them. What it hands up is that the report of the best candidates of a query
-//! is the right one.
+//! The program writes them. It is proved that the report of the best candidates of a query
+//! is the right one, that the certificate of a plan's answer is a right one, and that a text is read
+//! as a certificate exactly where it is one.
 #![tactic(auto)]
 
+mod certificate_lines;
+mod certificate_text;
+mod fault;
+mod laws;
+mod lines;
 mod measure;
 mod number;
+mod paper;
 mod report_text;
 mod row;
 #[cfg(test)]
 mod tests;
 
-pub use report_text::report_of_best;
+pub use certificate_lines::read_certificate;
+pub use certificate_text::certificate;
+pub use fault::PaperFault;
+pub use laws::certificates_are_read;
+pub use paper::Certificate;
+pub use rank_sched::Line;
+pub use report_text::{report, report_of_best};

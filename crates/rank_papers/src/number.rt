@@ -1,7 +1,7 @@
 //! Numbers that are added to the end of a paper.
 
 ghost use Rattle.std.specs.Prelude.{◌≡◌, ◌++◌, OnOk, decimal, int_lt, pos};
-ghost use Rattle.ghcn_fields.specs.NumberTexts.{tenths_of};
+ghost use Rattle.ghcn_fields.specs.NumberTexts.{tenths_of, whole};
 ghost use Rattle.rank_papers.specs.Values as values;
 
 use crate::measure::{Measure, measure_of};
@@ -48,6 +48,16 @@ fn push_tenths(paper: &mut Vec<u8>, tenths: u64) -> Result<(), Memory>
     push_number(paper, tenths / 10)?;
     paper.push(b'.')?;
     push_number(paper, tenths % 10)
+}
+
+/// Adds a whole number, with a minus below zero.
+pub fn push_whole(paper: &mut Vec<u8>, number: i64) -> Result<(), Memory>
+    ensures { OnOk result (paper.new.items ≡ paper.old.items ++ whole number) }
+{
+    if number < 0 {
+        paper.push(b'-')?;
+    }
+    push_number(paper, number.unsigned_abs())
 }
 
 /// Adds a number in decimal digits.

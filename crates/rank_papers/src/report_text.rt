@@ -10,6 +10,8 @@
 ghost use Rattle.std.specs.Prelude.{◌≡◌, ◌++◌, OnOk, IfOk};
 ghost use Rattle.std.specs.List.{enumerate_from};
 ghost use Rattle.rank_scores.specs.QueryCandidates.{AreOfListed};
+ghost use Rattle.rank_sched.specs.Answers.{IsAnswerOfPlan};
+ghost use Rattle.rank_papers.specs.PlanPapers.{IsReportOfPlan};
 ghost use Rattle.rank_papers.specs.Report as report;
 
 use crate::number::push_number;
@@ -17,8 +19,17 @@ use crate::row::push_row;
 use ghcn_fields::Memory;
 use ghcn_files::Stations;
 use rank_query::Query;
+use rank_sched::{Answer, Plan};
 use rank_scores::Candidate;
 use std::alloc::Global;
+
+/// The report of a plan's query with the best candidates of an answer.
+pub fn report(alloc: Global, plan: &Plan<'_>, answer: &Answer) -> Result<Vec<u8>, Memory>
+    requires { IsAnswerOfPlan plan.now answer.now }
+    ensures { IfOk result (λ paper. IsReportOfPlan plan.now paper.items) }
+{
+    report_of_best(alloc, plan.query(), plan.stations(), &answer.best)
+}
 
 /// The report of a query with these best candidates: a row for each, with its station's name.
 pub fn report_of_best(
@@ -39,7 +50,7 @@ pub fn report_of_best(
 }
 
 /// Adds the line of a query.
-fn push_query(alloc: Global, paper: &mut Vec<u8>, query: &Query) -> Result<(), Memory>
+pub(crate) fn push_query(alloc: Global, paper: &mut Vec<u8>, query: &Query) -> Result<(), Memory>
     ensures { OnOk result (paper.new.items ≡ paper.old.items ++ report.query_line query.now) }
 {
     paper.extend_from_slice(b"query ")?;

@@ -35,7 +35,7 @@ pub fn push_row(
 }
 
 /// Adds a blank and a field.
-fn push_field(paper: &mut Vec<u8>, field: &[u8]) -> Result<(), Memory>
+pub(crate) fn push_field(paper: &mut Vec<u8>, field: &[u8]) -> Result<(), Memory>
     ensures { OnOk result (paper.new.items ≡ paper.old.items ++ report.after_blank field.now) }
 {
     paper.push(b' ')?;

@@ -1,11 +1,14 @@
-//! Reports of one candidate.
+//! Reports of one candidate, both papers of a run, and certificates that are read.
 
 use super::*;
 use ghcn_fields::Day;
 use ghcn_files::{StationId, Stations};
+use ghcn_series::Data;
 use rank_query::Query;
+use rank_sched::{Plan, run_alone};
 use rank_scores::Candidate;
-use std::alloc::Global;
+use std::alloc::{AllocError, Global};
+use std::fmt::Write;
 use std::test::Fail;
 
 const STATIONS: &[u8] =
@@ -59,5 +62,112 @@ query top 1 highest TMAX
 end 1
 ";
     assert_eq!(rt; report.as_slice(), lines);
+    Ok(())
+}
+
+const THREE_STATIONS: &[u8] = b"\
+ZZA00000001  10.0000   20.0000  100.0    ALPHA
+ZZA00000002  11.0000   21.0000  100.0    BRAVO
+ZZA00000003  12.0000   22.0000  100.0    CHARLIE
+";
+
+/// Writes the line of a station's greatest temperatures of the first days of July 2020.
+fn push_month(text: &mut String, id: &str, values: &[i32]) -> Result<(), AllocError> {
+    write!(text, "{id}202007TMAX")?;
+    for day in 0..31 {
+        let value = values.get(day).copied().unwrap_or(-9999);
+        write!(text, "{value:>5}   ")?;
+    }
+    text.push_str("\n")
+}
+
+/// The report and the certificate of a query over three stations, of a run of one worker.
+fn papers_of(alloc: Global, query: &str) -> Result<(Vec<u8>, Vec<u8>), Fail> {
+    let mut text = String::new(alloc);
+    push_month(&mut text, "ZZA00000001", &[311, 305])?;
+    push_month(&mut text, "ZZA00000002", &[311])?;
+    push_month(&mut text, "ZZA00000003", &[250])?;
+    let stations = Stations::read(alloc, THREE_STATIONS)?;
+    let held = Data::read(alloc, stations, &[text.as_bytes()])?;
+    let query = Query::parse(query)?;
+    let plan = Plan::new(alloc, &held, &query)?;
+    let answer = run_alone(alloc, &plan, None)?;
+    Ok((
+        report(alloc, &plan, &answer)?,
+        certificate(alloc, &plan, &answer)?,
+    ))
+}
+
+#[test]
+fn papers_of_a_run(rt: HostRuntime) -> Result<(), Fail> {
+    let (report, certificate) = papers_of(rt.alloc(), "top 1 highest TMAX")?;
+    let rows: &[u8] = b"extremes report 1
+query top 1 highest TMAX
+1 ZZA00000001 2020-07-01 2020-07-01 31.1 C ALPHA
+end 1
+";
+    let lines: &[u8] = b"extremes certificate 1
+query top 1 highest TMAX
+kth 311
+scan ZZA00000001 311
+scan ZZA00000002 311
+skip ZZA00000003 250
+end 3
+";
+    assert_eq!(rt; report.as_slice(), rows);
+    assert_eq!(rt; certificate.as_slice(), lines);
+    Ok(())
+}
+
+const CERTIFICATE: &str = "extremes certificate 1
+query top 1 highest TMAX
+kth 311
+scan ZZA00000001 311
+scan ZZA00000002 311
+skip ZZA00000003 250
+end 3
+";
+
+#[test]
+fn certificate_read_back(rt: HostRuntime) -> Result<(), Fail> {
+    let Ok(read) = read_certificate(rt.alloc(), CERTIFICATE.as_bytes()) else {
+        return Err(Fail::from("it isn't read"));
+    };
+    assert_eq!(rt; read.query.k(), 1);
+    assert_eq!(rt; read.kth, Some(311));
+    assert_eq!(rt; read.lines.len(), 3);
+    assert_eq!(rt; read.lines[2].bound, 250);
+    assert!(rt; read.lines[2].skipped);
+    Ok(())
+}
+
+#[test]
+fn first_bad_lines_of_certificates(rt: HostRuntime) -> Result<(), Fail> {
+    let cases: [(&str, u64); 8] = [
+        ("", 1),
+        ("extremes certificate 2\n", 1),
+        ("extremes certificate 1\nquery top 01 wet\n", 2),
+        ("extremes certificate 1\nquery top 1 wet\nkth -0\n", 3),
+        ("extremes certificate 1\nquery top 1 wet\nkth none\n", 4),
+        (
+            "extremes certificate 1\nquery top 1 wet\nkth none\nend 1\n",
+            4,
+        ),
+        (
+            "extremes certificate 1\nquery top 1 wet\nkth none\nend 0",
+            4,
+        ),
+        (
+            "extremes certificate 1\nquery top 1 wet\nkth none\nend 0\n\n",
+            5,
+        ),
+    ];
+    for (text, bad) in cases {
+        let found = match read_certificate(rt.alloc(), text.as_bytes()) {
+            Err(PaperFault::BadCertificate { line }) => line,
+            _ => 0,
+        };
+        assert_eq!(rt; found, bad, "at {text}");
+    }
     Ok(())
 }

@@ -1,0 +1,399 @@
+-- Where the reading of a certificate ends is its first bad line.
+use Rattle.std.proofs.Common.{◌≡◌, ◌⊎◌, inl, inr, ℕ, suc, ◌+◌, Bool, true, false, cond, List, [], ◌∷◌, ◌++◌, length, map, Option, Some, None, Result, Ok, Err, refl, sym, ap, ◌∙◌, subst, append_assoc, append-nil, length-append, arith}
+use Rattle.std.specs.Prelude.{ℤ, FitsSigned, IfSome}
+use Rattle.std.specs.List.{AllByRecursion}
+use Rattle.std.specs.Option.{option_map_or}
+use Rattle.std.specs.Int.{w64}
+use Rattle.std.specs.Cmp.Lexicographic.{bytes_decides}
+use Rattle.std.proofs.lemmas.List.{length-map, map-append}
+use Rattle.ghcn_fields.specs.Bytes.{same_bytes}
+use Rattle.rank_query.specs.declared.score.Score.TheVariants.{Dry}
+use Rattle.rank_query.specs.declared.region.Region.TheVariants.{Everywhere}
+use Rattle.rank_query.specs.Asked.{Asked, IsAsked}
+use Rattle.rank_sched.proofs.Lists.{each-append}
+use Rattle.rank_papers.specs.Report.{query_line}
+use Rattle.rank_papers.specs.Certificate.{Entry, Certified, kth_line, entry_line, end_line, certificate_text, IsEntry, IsCertified}
+use Rattle.rank_papers.specs.Lines.{paper_lines, query_in}
+use Rattle.rank_papers.specs.CertificateLines.{kth_in, entry_in, and_then_entries, nothing_behind, entry_or_end, entries_in, with_entries, behind_query, behind_title, certified_lines, read_certificate}
+use Rattle.rank_papers.specs.Places.{IsCertificateText, Begin, IsFirstBadLine}
+use Rattle.rank_papers.specs.Laws.{CertificatesGoWrong}
+use Rattle.rank_papers.proofs.FirstBadLines.{begin-whole, one_first}
+use Rattle.rank_papers.proofs.CertificateValues.{read-is, query_in-is, kth_in-is, entry_in-is}
+use Rattle.rank_papers.proofs.CertificateTexts.{title, written, lines-written, query_in-line, kth_in-line, entry_in-line, end_is_other, text_read}
+
+-- ---- beginnings
+
+-- lines of a text
+abbrev Lines : Type 0
+Lines = List (List ℕ)
+
+-- lines with which a certificate is written that can be
+record Starts (ls : Lines) : Type 0 where
+  value : Certified
+  can_be : IsCertified value
+  more : Lines
+  lines : written value ≡ ls ++ more
+
+-- they begin a certificate
+begun : (ls : Lines) → Starts ls → Begin IsCertificateText ls
+begun ls s = record {
+  text = certificate_text s.value;
+  has_form = (s.value, record { can_be = s.can_be; text = refl });
+  more = s.more;
+  lines = lines-written s.value s.can_be ∙ s.lines;
+}
+
+-- and what begins one is such lines
+started : (ls : Lines) → Begin IsCertificateText ls → Starts ls
+started ls b = record {
+  value = b.has_form.0;
+  can_be = b.has_form.1.can_be;
+  more = b.more;
+  lines = sym (ap paper_lines b.has_form.1.text ∙ lines-written b.has_form.0 b.has_form.1.can_be) ∙ b.lines;
+}
+
+-- what is alike in lists that are alike
+heads : {A : Type 0} (x y : A) (xs ys : List A) → ◌≡◌ {A = List A} (x ∷ xs) (y ∷ ys) → x ≡ y
+heads x y xs ys e = cc
+
+-- and what stands behind it
+tails : {A : Type 0} (x y : A) (xs ys : List A) → ◌≡◌ {A = List A} (x ∷ xs) (y ∷ ys) → xs ≡ ys
+tails x y xs ys e = cc
+
+-- a certificate of a query, without a k-th score and without series
+abbrev empty : Asked → Certified
+empty q = record { query = q; kth = None; entries = [] }
+
+-- it can be, where its query can be asked
+empty_can_be : (q : Asked) → IsAsked q → IsCertified (empty q)
+empty_can_be q asked = record { asked = asked; kth = tt; entries = tt }
+
+-- a query that can be asked
+abbrev some_query : Asked
+some_query = record { k = 1; score = Dry; region = Everywhere; period = None }
+
+-- it can be asked
+some_asked : IsAsked some_query
+some_asked = record { k = refl; score = refl; region = refl; period = refl }
+
+-- ---- a bad line among the lines of a text
+
+-- the line of this number is the first with which no certificate goes on, or no line has it and the lines stop
+record IsBadAt (ls : Lines) (n : ℕ) : Type 0 where
+  before : Lines
+  begins : Starts before
+  number : n ≡ length before + 1
+  wrong : ((line : List ℕ) × (behind : Lines) × (ls ≡ before ++ line ∷ behind) × (Starts (before ++ line ∷ []) → ⊥))
+      ⊎ (ls ≡ before)
+
+-- a text that stops behind lines that begin a certificate
+stops_at : (ls : Lines) (n : ℕ) → Starts ls → n ≡ length ls + 1 → IsBadAt ls n
+stops_at ls n s e = record { before = ls; begins = s; number = e; wrong = inr refl }
+
+-- a text that goes on by a line with which no certificate does
+goes_wrong_at : (before : Lines) (line : List ℕ) (behind : Lines) (n : ℕ) → Starts before → n ≡ length before + 1
+    → (Starts (before ++ line ∷ []) → ⊥) → IsBadAt (before ++ line ∷ behind) n
+goes_wrong_at before line behind n s e ended =
+    record { before = before; begins = s; number = e; wrong = inl (line, behind, refl, ended) }
+
+-- which number an answer names
+same_err : {A : Type 0} (n m : ℕ) → ◌≡◌ {A = Result A ℕ} (Err n) (Err m) → m ≡ n
+same_err n m e = cc
+
+-- ---- entries
+
+-- the line behind some entries is an entry's, or the end line with their number
+next_line : (j N : ℕ) (es vs : List Entry) (l : List ℕ) (more : Lines) → AllByRecursion IsEntry vs → N ≡ j + length vs
+    → map entry_line vs ++ end_line N ∷ [] ≡ map entry_line es ++ l ∷ more
+    → ((e : Entry) × IsEntry e × (l ≡ entry_line e)) ⊎ (l ≡ end_line (j + length es))
+next_line j N [] [] l more h count e =
+    inr (sym (heads (end_line N) l [] more e) ∙ ap end_line count)
+next_line j N [] (v ∷ vs) l more h count e =
+    inl (v, h.0, sym (heads (entry_line v) l (map entry_line vs ++ end_line N ∷ []) more e))
+next_line j N (x ∷ es) [] l more h count e =
+    absurd (end_is_other N x (heads (end_line N) (entry_line x) [] (map entry_line es ++ l ∷ more) e))
+next_line j N (x ∷ es) (v ∷ vs) l more h count e =
+    let rest = next_line (suc j) N es vs l more h.1 (omega (arith, count))
+    (tails (entry_line v) (entry_line x) (map entry_line vs ++ end_line N ∷ []) (map entry_line es ++ l ∷ more) e) in
+    let same : suc j + length es ≡ j + length (x ∷ es) = omega arith in
+    elim rest [
+      | inl found ↦ inl found
+      | inr is ↦ inr (is ∙ ap end_line same)
+    ]
+
+-- nothing stands behind an end line
+nothing_after : (N n : ℕ) (es vs : List Entry) (l : List ℕ) (more : Lines)
+    → map entry_line vs ++ end_line N ∷ [] ≡ map entry_line es ++ end_line n ∷ l ∷ more → ⊥
+nothing_after N n [] [] l more e = let none : [] ≡ l ∷ more = tails (end_line N) (end_line n) [] (l ∷ more) e in
+    absurd cc
+nothing_after N n [] (v ∷ vs) l more e =
+    end_is_other n v (sym (heads (entry_line v) (end_line n) (map entry_line vs ++ end_line N ∷ []) (l ∷ more) e))
+nothing_after N n (x ∷ es) [] l more e =
+    end_is_other N x (heads (end_line N) (entry_line x) [] (map entry_line es ++ end_line n ∷ l ∷ more) e)
+nothing_after N n (x ∷ es) (v ∷ vs) l more e =
+    nothing_after N n es vs l more (tails (entry_line v) (entry_line x) (map entry_line vs ++ end_line N ∷ [])
+    (map entry_line es ++ end_line n ∷ l ∷ more) e)
+
+module _ (q : Asked) (asked : IsAsked q) (k : Option ℤ) (fits : IfSome k (FitsSigned w64)) where
+  -- the lines before an end line
+  abbrev head : List Entry → Lines
+  head es = title ∷ query_line q ∷ kth_line k ∷ map entry_line es
+
+  -- a certificate of this query and k-th score, with these entries
+  abbrev value : List Entry → Certified
+  value es = record { query = q; kth = k; entries = es }
+
+  -- the lines before an end line begin a certificate
+  head_starts : (es : List Entry) → AllByRecursion IsEntry es → Starts (head es)
+  head_starts es h = record {
+    value = value es;
+    can_be = record { asked = asked; kth = fits; entries = h };
+    more = end_line (length es) ∷ [];
+    lines = refl;
+  }
+
+  -- so do those with the end line
+  whole_starts : (es : List Entry) → AllByRecursion IsEntry es → Starts (head es ++ end_line (length es) ∷ [])
+  whole_starts es h = record {
+    value = value es;
+    can_be = record { asked = asked; kth = fits; entries = h };
+    more = [];
+    lines = sym (append-nil (head es ++ end_line (length es) ∷ []));
+  }
+
+  -- behind the first three lines of a certificate
+  behind_head : (s : Certified) (rest more : Lines) → written s ≡ (title ∷ query_line q ∷ kth_line k ∷ rest) ++ more
+      → map entry_line s.entries ++ end_line (length s.entries) ∷ [] ≡ rest ++ more
+  behind_head s rest more e =
+      tails _ _ _ _ (tails _ _ _ _ (tails _ _ _ _ e))
+
+  -- a line that is no entry's and not the end line
+  no_line : (es : List Entry) (l : List ℕ) → entry_in l ≡ None → same_bytes l (end_line (length es)) ≡ false
+      → Starts (head es ++ l ∷ []) → ⊥
+  no_line es l none other s =
+      let e = behind_head s.value (map entry_line es ++ l ∷ []) s.more s.lines in
+      let there = next_line 0 (length s.value.entries) es s.value.entries l s.more s.can_be.entries (omega arith)
+      (e ∙ append_assoc (map entry_line es) (l ∷ []) s.more) in
+      let count : 0 + length es ≡ length es = omega arith in
+      elim there [
+        | inl found ↦ let some : entry_in l ≡ Some found.0 = ap entry_in found.2 ∙ entry_in-line found.0 found.1 in
+            let no : None ≡ Some found.0 = sym none ∙ some in absurd cc
+        | inr is ↦ let yes : same_bytes l (end_line (length es)) ≡ true =
+            (bytes_decides l (end_line (length es))).1 (is ∙ ap end_line count) in
+            let no : false ≡ true = sym other ∙ yes in absurd cc
+      ]
+
+  -- a line behind the end line
+  no_more : (es : List Entry) (l : List ℕ) → Starts ((head es ++ end_line (length es) ∷ []) ++ l ∷ []) → ⊥
+  no_more es l s =
+      let n : ℕ = length es in
+      let e = behind_head s.value ((map entry_line es ++ end_line (length es) ∷ []) ++ l ∷ []) s.more s.lines in
+      nothing_after (length s.value.entries) (length es) es s.value.entries l s.more
+      (e ∙ append_assoc (map entry_line es ++ end_line (length es) ∷ []) (l ∷ []) s.more
+      ∙ append_assoc (map entry_line es) (end_line (length es) ∷ []) (l ∷ s.more))
+
+  -- how many lines stand before an end line
+  length-head : (es : List Entry) → length es + 4 ≡ length (head es) + 1
+  length-head es = omega (arith, length-map es entry_line)
+
+  -- what stands behind the head, read from the entries so far on
+  entries_bad : (ls : Lines) (es : List Entry) (n m : ℕ) → n ≡ length es → AllByRecursion IsEntry es
+      → entries_in n ls ≡ Err m → IsBadAt (head es ++ ls) m
+  entries_bad [] es n m len h f =
+      let number : m ≡ n + 4 = same_err {A = List Entry} (n + 4) m f in
+      subst (λ (ls : Lines). IsBadAt ls m) (sym (append-nil (head es)))
+      (stops_at (head es) m (head_starts es h) (number ∙ omega (arith, len, length-head es)))
+  entries_bad (l ∷ ls) es n m len h f =
+      by_entry (λ e. entries_bad ls (es ++ e ∷ []) (suc n) m) (entry_in l) refl f
+    where
+      by_end : (b : Bool) → same_bytes l (end_line n) ≡ b → entry_in l ≡ None → (rest : Lines) → ls ≡ rest
+          → cond b (nothing_behind n rest) (Err (n + 4)) ≡ Err m → IsBadAt (head es ++ l ∷ ls) m
+      by_end false other none rest is g =
+          let number : m ≡ n + 4 = same_err {A = List Entry} (n + 4) m g in
+          goes_wrong_at (head es) l ls m (head_starts es h) (number ∙ omega (arith, len, length-head es))
+          (no_line es l none (ap (λ (i : ℕ). same_bytes l (end_line i)) (sym len) ∙ other))
+      by_end true end none [] is g = absurd cc
+      by_end true end none (r ∷ rest) is g =
+          let number : m ≡ n + 5 = same_err {A = List Entry} (n + 5) m g in
+          let last : l ≡ end_line (length es) = (bytes_decides l (end_line n)).0 end ∙ ap end_line len in
+          let before : Lines = head es ++ end_line (length es) ∷ [] in
+          let count : m ≡ length (head es ++ end_line (length es) ∷ []) + 1 =
+          number ∙ omega (arith, len, length-head es, length-append (head es) (end_line (length es) ∷ [])) in
+          let bad : IsBadAt ((head es ++ end_line (length es) ∷ []) ++ r ∷ rest) m =
+          goes_wrong_at (head es ++ end_line (length es) ∷ []) r rest m (whole_starts es h) count (no_more es r) in
+          let there : (head es ++ end_line (length es) ∷ []) ++ r ∷ rest ≡ head es ++ l ∷ ls =
+          append_assoc (head es) (end_line (length es) ∷ []) (r ∷ rest)
+          ∙ ap (λ (x : List ℕ). head es ++ x ∷ r ∷ rest) (sym last) ∙ ap (λ (x : Lines). head es ++ l ∷ x) (sym is) in
+          subst (λ (x : Lines). IsBadAt x m) there bad
+
+      rest_bad : (e : Entry) (r : Result (List Entry) ℕ) → and_then_entries e r ≡ Err m → r ≡ Err m
+      rest_bad e (Ok fs) g = absurd cc
+      rest_bad e (Err i) g = let same : m ≡ i = same_err {A = List Entry} i m g in ap (λ (x : ℕ). Err x) (sym same)
+
+      by_entry : ((e : Entry) → suc n ≡ length (es ++ e ∷ []) → AllByRecursion IsEntry (es ++ e ∷ [])
+          → entries_in (suc n) ls ≡ Err m → IsBadAt (head (es ++ e ∷ []) ++ ls) m)
+          → (o : Option Entry) → entry_in l ≡ o
+          → entry_or_end n o (same_bytes l (end_line n)) ls (entries_in (suc n) ls) ≡ Err m
+          → IsBadAt (head es ++ l ∷ ls) m
+      by_entry again None none g = by_end (same_bytes l (end_line n)) refl none ls refl g
+      by_entry again (Some e) is g =
+          let own = entry_in-is l e is in
+          let count : suc n ≡ length (es ++ e ∷ []) = omega (arith, len, length-append es (e ∷ [])) in
+          let bad : IsBadAt (head (es ++ e ∷ []) ++ ls) m =
+          again e count (each-append IsEntry es (e ∷ []) h (own.0, tt))
+          (rest_bad e (entries_in (suc n) ls) g) in
+          let there : head (es ++ e ∷ []) ++ ls ≡ head es ++ l ∷ ls =
+          ap (λ (x : Lines). (title ∷ query_line q ∷ kth_line k ∷ x) ++ ls) (map-append entry_line es (e ∷ []))
+          ∙ append_assoc (head es) (entry_line e ∷ []) ls
+          ∙ ap (λ (x : List ℕ). head es ++ x ∷ ls) (sym own.1) in
+          subst (λ (x : Lines). IsBadAt x m) there bad
+
+-- ---- the lines before them
+
+module _ (q : Asked) (asked : IsAsked q) where
+  -- what stands behind the query's line
+  behind_query_bad : (ls : Lines) (m : ℕ) → behind_query q ls ≡ Err m → IsBadAt (title ∷ query_line q ∷ ls) m
+  behind_query_bad [] m f =
+      let number : m ≡ 3 = same_err {A = Certified} 3 m f in
+      stops_at (title ∷ query_line q ∷ []) m begins number
+    where
+      begins : Starts (title ∷ query_line q ∷ [])
+      begins = record {
+        value = empty q;
+        can_be = empty_can_be q asked;
+        more = kth_line None ∷ end_line 0 ∷ [];
+        lines = refl;
+      }
+  behind_query_bad (l ∷ ls) m f = by (kth_in l) refl f
+    where
+      begins : Starts (title ∷ query_line q ∷ [])
+      begins = record {
+        value = empty q;
+        can_be = empty_can_be q asked;
+        more = kth_line None ∷ end_line 0 ∷ [];
+        lines = refl;
+      }
+
+      no_line_here : kth_in l ≡ None → Starts (title ∷ query_line q ∷ l ∷ []) → ⊥
+      no_line_here none s =
+          let at : kth_line s.value.kth ≡ l = heads _ _ _ _ (tails _ _ _ _ (tails _ _ _ _ s.lines)) in
+          let some : kth_in l ≡ Some s.value.kth = ap kth_in (sym at) ∙ kth_in-line s.value.kth s.can_be.kth in
+          let no : None ≡ Some s.value.kth = sym none ∙ some in absurd cc
+
+      entries_of : (k : Option ℤ) (r : Result (List Entry) ℕ) → with_entries q k r ≡ Err m → r ≡ Err m
+      entries_of k (Ok es) g = absurd cc
+      entries_of k (Err i) g = let same : m ≡ i = same_err {A = Certified} i m g in ap (λ (x : ℕ). Err x) (sym same)
+
+      by : (o : Option (Option ℤ)) → kth_in l ≡ o
+          → option_map_or (λ s. with_entries q s (entries_in 0 ls)) o (Err 3) ≡ Err m
+          → IsBadAt (title ∷ query_line q ∷ l ∷ ls) m
+      by None none g =
+          let number : m ≡ 3 = same_err {A = Certified} 3 m g in
+          goes_wrong_at (title ∷ query_line q ∷ []) l ls m begins number (no_line_here none)
+      by (Some k) is g =
+          let own = kth_in-is l k is in
+          subst (λ (x : List ℕ). IsBadAt (title ∷ query_line q ∷ x ∷ ls) m) (sym own.1)
+          (entries_bad q asked k own.0 ls [] 0 m refl tt (entries_of k (entries_in 0 ls) g))
+
+-- a title begins a certificate
+title_starts : Starts (title ∷ [])
+title_starts = record {
+  value = empty some_query;
+  can_be = empty_can_be some_query some_asked;
+  more = query_line some_query ∷ kth_line None ∷ end_line 0 ∷ [];
+  lines = refl;
+}
+
+-- what stands behind the title
+behind_title_bad : (ls : Lines) (m : ℕ) → behind_title ls ≡ Err m → IsBadAt (title ∷ ls) m
+behind_title_bad [] m f =
+    let number : m ≡ 2 = same_err {A = Certified} 2 m f in stops_at (title ∷ []) m title_starts number
+behind_title_bad (l ∷ ls) m f = by (query_in l) refl f
+  where
+    no_line_here : query_in l ≡ None → Starts (title ∷ l ∷ []) → ⊥
+    no_line_here none s =
+        let at : query_line s.value.query ≡ l = heads _ _ _ _ (tails _ _ _ _ s.lines) in
+        let some : query_in l ≡ Some s.value.query = ap query_in (sym at)
+        ∙ query_in-line s.value.query s.can_be.asked in
+        let no : None ≡ Some s.value.query = sym none ∙ some in absurd cc
+
+    by : (o : Option Asked) → query_in l ≡ o → option_map_or (λ q. behind_query q ls) o (Err 2) ≡ Err m
+        → IsBadAt (title ∷ l ∷ ls) m
+    by None none g =
+        let number : m ≡ 2 = same_err {A = Certified} 2 m g in
+        goes_wrong_at (title ∷ []) l ls m title_starts number (no_line_here none)
+    by (Some q) is g =
+        let own = query_in-is l q is in
+        subst (λ (x : List ℕ). IsBadAt (title ∷ x ∷ ls) m) (sym own.1) (behind_query_bad q own.0 ls m g)
+
+-- all lines
+lines_bad : (ls : Lines) (m : ℕ) → certified_lines ls ≡ Err m → IsBadAt ls m
+lines_bad [] m f =
+    let number : m ≡ 1 = same_err {A = Certified} 1 m f in
+    stops_at [] m (record {
+      value = empty some_query;
+      can_be = empty_can_be some_query some_asked;
+      more = written (empty some_query);
+      lines = refl;
+    }) number
+lines_bad (l ∷ ls) m f = by (same_bytes l title) refl f
+  where
+    no_line_here : same_bytes l title ≡ false → Starts (l ∷ []) → ⊥
+    no_line_here other s =
+        let at : title ≡ l = heads _ _ _ _ s.lines in
+        let yes : same_bytes l title ≡ true = (bytes_decides l title).1 (sym at) in
+        let no : false ≡ true = sym other ∙ yes in absurd cc
+
+    by : (b : Bool) → same_bytes l title ≡ b → cond b (behind_title ls) (Err 1) ≡ Err m → IsBadAt (l ∷ ls) m
+    by false other g =
+        let number : m ≡ 1 = same_err {A = Certified} 1 m g in
+        goes_wrong_at [] l ls m (record {
+          value = empty some_query;
+          can_be = empty_can_be some_query some_asked;
+          more = written (empty some_query);
+          lines = refl;
+        }) number (no_line_here other)
+    by true is g =
+        subst (λ (x : List ℕ). IsBadAt (x ∷ ls) m) (sym ((bytes_decides l title).0 is)) (behind_title_bad ls m g)
+
+-- where the reading of a text ends is its first bad line
+pub wrong_at : (bytes : List ℕ) (n : ℕ) → read_certificate bytes ≡ Err n → IsFirstBadLine IsCertificateText bytes n
+wrong_at bytes n f =
+    let bad = lines_bad (paper_lines bytes) n f in
+    record {
+      before = bad.before;
+      begun = begun bad.before bad.begins;
+      number = bad.number;
+      wrong = elim bad.wrong [
+        | inl w ↦ inl (record {
+          line = w.0;
+          behind = w.1;
+          lines = w.2;
+          ended = λ b. w.3 (started (bad.before ++ w.0 ∷ []) b);
+        })
+        | inr all ↦ inr (record { lines = all; no_paper = not_read })
+      ];
+    }
+  where
+    not_read : IsCertificateText bytes → ⊥
+    not_read paper = let no : Err n ≡ Ok paper.0 = sym f ∙ text_read bytes paper.0 paper.1 in absurd cc
+
+-- a text that has the form has no first bad line
+no_wrong : (bytes : List ℕ) (n : ℕ) → IsCertificateText bytes → IsFirstBadLine IsCertificateText bytes n → ⊥
+no_wrong bytes n is f = elim f.wrong [
+  | inl w ↦ w.ended (begin-whole IsCertificateText bytes (f.before ++ w.line ∷ []) w.behind is
+      (w.lines ∙ sym (append_assoc f.before (w.line ∷ []) w.behind)))
+  | inr w ↦ w.no_paper is
+]
+
+-- and where its first bad line is the reading ends
+ends_at : (bytes : List ℕ) (n : ℕ) → IsFirstBadLine IsCertificateText bytes n → read_certificate bytes ≡ Err n
+ends_at bytes n f = by (read_certificate bytes) refl
+  where
+    by : (r : Result Certified ℕ) → read_certificate bytes ≡ r → r ≡ Err n
+    by (Ok v) e = absurd (no_wrong bytes n (v, read-is bytes v e) f)
+    by (Err m) e = ap (λ (x : ℕ). Err x) (one_first IsCertificateText bytes m n (wrong_at bytes m e) f)
+
+-- both directions
+pub certificates_wrong : CertificatesGoWrong
+certificates_wrong bytes n = (wrong_at bytes n, ends_at bytes n)

@@ -1,0 +1,76 @@
+-- Worked certificates, by computation.
+use Rattle.std.proofs.Common.{◌≡◌, ℕ, List, [], ◌∷◌, ◌++◌, refl, Some, None, true, false, Bool}
+use Rattle.std.specs.Prelude.{codes, ℤ, pos, negsuc}
+use Rattle.std.specs.Fmt.{digits}
+use Rattle.ghcn_files.specs.declared.station.StationId.{StationId}
+use Rattle.ghcn_files.specs.declared.element.Element.TheVariants.{Tmax, Tmin}
+use Rattle.rank_query.specs.declared.score.Score.{Score}
+use Rattle.rank_query.specs.declared.score.Score.TheVariants.{Highest, Lowest}
+use Rattle.rank_query.specs.declared.region.Region.TheVariants.{Everywhere}
+use Rattle.rank_query.specs.Asked.{Asked}
+use Rattle.rank_papers.specs.Certificate.{Entry, certificate_text}
+
+-- the stations
+abbrev alpha : StationId
+alpha = record { 0 = codes "ZZA00000001" }
+
+abbrev bravo : StationId
+bravo = record { 0 = codes "ZZA00000002" }
+
+abbrev charlie : StationId
+charlie = record { 0 = codes "ZZA00000003" }
+
+-- the k best of a score, everywhere and at any time
+abbrev ask : ℕ → Score → Asked
+ask k s = record { k = k; score = s; region = Everywhere; period = None }
+
+-- lines, each with a line feed
+abbrev text : List (List ℕ) → List ℕ
+text [] = []
+text (l ∷ ls) = l ++ 10 ∷ text ls
+
+-- an entry
+abbrev entry : Bool → StationId → ℤ → Entry
+entry skipped id bound = record { id = id; bound = bound; skipped = skipped }
+
+-- two series were scanned, and one was passed over
+three : certificate_text (record {
+  query = ask 1 (Highest Tmax);
+  kth = Some (pos 311);
+  entries = entry false alpha (pos 311) ∷ entry false bravo (pos 311) ∷ entry true charlie (pos 250) ∷ [];
+}) ≡ text (
+    codes "extremes certificate 1"
+    ∷ codes "query top 1 highest TMAX"
+    ∷ codes "kth 311"
+    ∷ codes "scan ZZA00000001 311"
+    ∷ codes "scan ZZA00000002 311"
+    ∷ codes "skip ZZA00000003 250"
+    ∷ codes "end 3"
+    ∷ [])
+unfolding digits
+three = refl
+
+-- a k-th score below zero
+below_zero : certificate_text (record {
+  query = ask 2 (Lowest Tmin);
+  kth = Some (negsuc 2);
+  entries = entry false alpha (pos 5) ∷ [];
+}) ≡ text (
+    codes "extremes certificate 1"
+    ∷ codes "query top 2 lowest TMIN"
+    ∷ codes "kth -3"
+    ∷ codes "scan ZZA00000001 5"
+    ∷ codes "end 1"
+    ∷ [])
+unfolding digits
+below_zero = refl
+
+-- no series at all
+none : certificate_text (record { query = ask 1 (Highest Tmax); kth = None; entries = [] }) ≡ text (
+    codes "extremes certificate 1"
+    ∷ codes "query top 1 highest TMAX"
+    ∷ codes "kth none"
+    ∷ codes "end 0"
+    ∷ [])
+unfolding digits
+none = refl

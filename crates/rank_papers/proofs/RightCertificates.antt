@@ -1,0 +1,178 @@
+-- A right certificate is a text of the form that says what is right.
+use Rattle.std.proofs.Common.{◌≡◌, ℕ, zero, suc, Bool, true, false, cond, not, List, [], ◌∷◌, length, Option, Some, None, refl, sym, ap, ◌∙◌, arith, ℤ, FitsSigned, w64}
+use Rattle.std.specs.Prelude.{◌==◌, ◌&&◌, ◌||◌, IfSome, filter}
+use Rattle.std.specs.List.{flat_map, filter_map, cons_option, list_all, AllByRecursion, AllZip}
+use Rattle.std.specs.Option.{option_map}
+use Rattle.std.proofs.lemmas.Bool.{and_parts}
+use Rattle.std.proofs.lemmas.Int.{ints}
+use Rattle.ghcn_fields.specs.Floor.{IsScore}
+use Rattle.ghcn_fields.specs.Sorting.{placed, sorted_by}
+use Rattle.ghcn_files.specs.declared.station.Station.{Station}
+use Rattle.ghcn_files.specs.declared.station.StationId.{StationId}
+use Rattle.ghcn_fields.specs.declared.field.Field.TheVariants.{Number}
+use Rattle.ghcn_files.specs.Ids.{is_id}
+use Rattle.ghcn_files.specs.IdLaws.{same_id-is}
+use Rattle.ghcn_files.specs.Listed.{is_station_of}
+use Rattle.ghcn_files.specs.StationLines.{is_station, is_latitude, is_longitude, is_printable}
+use Rattle.ghcn_series.specs.Series.{Usable, Contents, IsSeries, series_of, is_series_of}
+use Rattle.ghcn_series.specs.Held.{IsContents}
+use Rattle.ghcn_series.specs.DailyFaults.{is_listed}
+use Rattle.rank_query.specs.Asked.{Asked, IsAsked, score_element}
+use Rattle.rank_query.specs.Admits.{admits_station}
+use Rattle.rank_scores.specs.declared.candidate.Candidate.{Candidate}
+use Rattle.rank_scores.specs.Candidates.{admitted, candidates}
+use Rattle.rank_scores.specs.Order.{of_rank, rank_in, kth_score}
+use Rattle.rank_scores.specs.Morsels.{admitted_series, morsels, id_comes_first, all_candidates, kth_of_query}
+use Rattle.rank_scores.proofs.QueryCandidates.{found-holds}
+use Rattle.rank_sched.proofs.Lists.{each-append, each-weaker}
+use Rattle.rank_sched.proofs.ScoreRanges.{candidates_ranged}
+use Rattle.rank_papers.specs.Certificate.{Entry, Certified, certificate_text, IsEntry, IsCertificateOf, IsRightEntry, IsCertificate, SaysRight}
+use Rattle.rank_papers.specs.Laws.{RightCertificatesSayRight}
+
+-- ---- what holds of each element
+
+-- of those that pass
+each-filter : {X : Type 0} (P : X → Type 0) (test : X → Bool) (xs : List X) → AllByRecursion P xs
+    → AllByRecursion P (filter test xs)
+each-filter P test [] h = tt
+each-filter P test (x ∷ xs) h =
+    elim (test x) as (λ b. AllByRecursion P (cond b (x ∷ filter test xs) (filter test xs))) [
+      | true ↦ (h.0, each-filter P test xs h.1)
+      | false ↦ each-filter P test xs h.1
+    ]
+
+module _ {X : Type 0} (P : X → Type 0) (first : X → X → Bool) where
+  -- of one more that is placed among others
+  each-placed : (x : X) (ys : List X) → P x → AllByRecursion P ys → AllByRecursion P (placed first x ys)
+  each-placed x [] p h = (p, tt)
+  each-placed x (y ∷ ys) p h =
+      elim (first x y) as (λ b. AllByRecursion P (cond b (x ∷ y ∷ ys) (y ∷ placed first x ys))) [
+        | true ↦ (p, h)
+        | false ↦ (h.0, each-placed x ys p h.1)
+      ]
+
+  -- of those in an order
+  each-sorted : (xs : List X) → AllByRecursion P xs → AllByRecursion P (sorted_by first xs)
+  each-sorted [] h = tt
+  each-sorted (x ∷ xs) h = each-placed x (sorted_by first xs) h.0 (each-sorted xs h.1)
+
+-- what holds of all series holds of those of a query
+series_hold : (P : Usable → Type 0) (q : Asked) (c : Contents) → AllByRecursion P c.series
+    → AllByRecursion P (admitted_series q c)
+series_hold P q c h = by (filter (admits_station q) c.stations)
+  where
+    by : (sts : List Station)
+        → AllByRecursion P (filter_map (λ st. series_of c st.id (score_element q.score)) sts)
+    by [] = tt
+    by (st ∷ sts) =
+        elim (series_of c st.id (score_element q.score)) as (λ o. series_of c st.id (score_element q.score) ≡ o
+        → AllByRecursion P (cons_option o (filter_map (λ s. series_of c s.id (score_element q.score)) sts))) [
+          | None ↦ λ e. by sts
+          | Some u ↦ λ e. (found-holds P (is_series_of st.id (score_element q.score)) c.series u h e, by sts)
+        ] refl
+
+-- ---- IDs are visible
+
+-- the ID of a station of the list is
+id_visible : (s : Station) → is_station s ≡ true → is_id s.id.0 ≡ true
+id_visible s h = by (is_id s.id.0) refl
+  where
+    by : (b : Bool) → is_id s.id.0 ≡ b → b ≡ true
+    by true e = refl
+    by false e = absurd (let none : is_station s ≡ false = ap (λ (t : Bool). t && is_latitude (Number s.latitude)
+        && is_longitude (Number s.longitude) && list_all is_printable s.state && list_all is_printable s.name) e in
+        let both : true ≡ false = sym h ∙ none in cc)
+
+-- so is one that a station of the list has
+listed_visible : (id : StationId) (sts : List Station) → list_all is_station sts ≡ true → is_listed sts id ≡ true
+    → is_id id.0 ≡ true
+listed_visible id [] h e = absurd cc
+listed_visible id (s ∷ sts) h e =
+    let both = and_parts (is_station s) (list_all is_station sts) h in
+    elim (is_station_of id s) as (λ b. is_station_of id s ≡ b → (b || is_listed sts id) ≡ true → is_id id.0 ≡ true) [
+      | true ↦ λ t f. let same : s.id ≡ id = same_id-is s.id id t in
+          let other : is_id id.0 ≡ is_id s.id.0 = ap (λ (i : StationId). is_id i.0) (sym same) in
+          other ∙ id_visible s both.0
+      | false ↦ λ t f. listed_visible id sts both.1 f
+    ] refl e
+
+-- the IDs of a query's series are
+morsels_visible : (q : Asked) (c : Contents) → IsContents c
+    → AllByRecursion (λ s. is_id s.id.0 ≡ true) (morsels q c)
+morsels_visible q c right =
+    let all : AllByRecursion (λ s. is_id s.id.0 ≡ true) c.series =
+    each-weaker (λ s. is_listed c.stations s.id ≡ true) (λ s. is_id s.id.0 ≡ true) c.series
+    (λ s e. listed_visible s.id c.stations right.listed.right e) right.series.listed in
+    each-sorted (λ s. is_id s.id.0 ≡ true) (λ a b. id_comes_first a.id b.id)
+    (filter (λ s. not (length (admitted q s) == 0)) (admitted_series q c))
+    (each-filter (λ s. is_id s.id.0 ≡ true) (λ s. not (length (admitted q s) == 0)) (admitted_series q c)
+    (series_hold (λ s. is_id s.id.0 ≡ true) q c all))
+
+-- ---- scores are inside 64 bits
+
+-- a score is inside 64 bits
+score_fits : (z : ℤ) → IsScore z → FitsSigned w64 z
+score_fits z h = let low = h.0 in let high = h.1 in grind (arith, ints)
+
+-- the candidates of series have scores
+candidates_fit : (q : Asked) (ss : List Usable) → IsAsked q → AllByRecursion IsSeries ss
+    → AllByRecursion (λ d. IsScore d.score) (flat_map (candidates q) ss)
+candidates_fit q [] asked h = tt
+candidates_fit q (s ∷ ss) asked h =
+    each-append (λ d. IsScore d.score) (candidates q s) (flat_map (candidates q) ss)
+    (candidates_ranged q s asked h.0) (candidates_fit q ss asked h.1)
+
+-- so a k-th score is inside 64 bits
+kth_fits : (k : ℕ) (all : List Candidate) → AllByRecursion (λ d. IsScore d.score) all
+    → IfSome (kth_score k all) (FitsSigned w64)
+kth_fits zero all h = tt
+kth_fits (suc r) all h = elim (of_rank all r)
+    as (λ o. of_rank all r ≡ o → IfSome (option_map (λ d. d.score) o) (FitsSigned w64)) [
+      | None ↦ λ e. tt
+      | Some d ↦ λ e. score_fits d.score (found-holds (λ x. IsScore x.score) (λ x. rank_in all x == r) all d h e)
+    ] refl
+
+-- ---- what a right certificate says
+
+-- right entries of visible series can be
+each_entry : (q : Asked) (k : Option ℤ) (es : List Entry) (ss : List Usable)
+    → AllByRecursion (λ s. is_id s.id.0 ≡ true) ss → AllZip (IsRightEntry q k) es ss → AllByRecursion IsEntry es
+each_entry q k [] [] v h = tt
+each_entry q k [] (s ∷ ss) v h = tt
+each_entry q k (e ∷ es) [] v h = absurd h
+each_entry q k (e ∷ es) (s ∷ ss) v h = (
+  record { id = ap (λ (i : StationId). is_id i.0) h.0.named ∙ v.0; bound = h.0.fits },
+  each_entry q k es ss v.1 h.1,
+)
+
+module _ (q : Asked) (c : Contents) (bytes : List ℕ) (asked : IsAsked q) (right : IsContents c) where
+  -- a right certificate is of the form, and says what is right
+  says_right : IsCertificate q c bytes → (v : Certified) × IsCertificateOf v bytes × SaysRight q c v
+  says_right h = (
+    record { query = q; kth = kth_of_query q c; entries = h.entries },
+    record {
+      can_be = record {
+        asked = asked;
+        kth = kth_fits q.k (all_candidates q c)
+            (candidates_fit q (admitted_series q c) asked (series_hold IsSeries q c right.series.right));
+        entries = each_entry q (kth_of_query q c) h.entries (morsels q c) (morsels_visible q c right) h.right;
+      };
+      text = h.text;
+    },
+    record { asked = refl; kth = refl; entries = h.right },
+  )
+
+  -- and what says so is a right certificate
+  right_where : (v : Certified) → IsCertificateOf v bytes → SaysRight q c v → IsCertificate q c bytes
+  right_where v is says = record {
+    entries = v.entries;
+    right = says.entries;
+    text = is.text
+        ∙ ap (λ (x : Asked). certificate_text (record { query = x; kth = v.kth; entries = v.entries })) says.asked
+        ∙ ap (λ (k : Option ℤ). certificate_text (record { query = q; kth = k; entries = v.entries })) says.kth;
+  }
+
+-- both directions
+pub right_say_right : RightCertificatesSayRight
+right_say_right q c bytes asked right =
+    (says_right q c bytes asked right, λ h. right_where q c bytes asked right h.0 h.1 h.2)

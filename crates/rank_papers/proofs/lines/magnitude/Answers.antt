@@ -1,0 +1,24 @@
+use Rattle.std.proofs.Common.{◌≡◌, ◌+◌, ◌^◌, get_or, true, sym, ◌∙◌, arith}
+use Rattle.std.specs.Char.{is_ascii_digit}
+use Rattle.std.proofs.lemmas.Grind.{common_steps}
+use Rattle.ghcn_fields.proofs.Digits.{too_great, one_more}
+use Rattle.rank_papers.proofs.lines.magnitude.Goals as goal
+
+-- a value beyond the limit stays beyond it, whatever follows
+pub returns-then-more : goal.returns-then-more
+returns-then-more c =
+    let more = one_more c.args.digits.now c.loop-digit.digit-index c.loop-digit.value c.loop-digit-test.true
+    c.loop-digit.invariant.value (sym c.is_ascii_digit.ensures.value ∙ c.if-not-is_ascii_digit.false) in
+    sym (too_great (c.loop-digit.digit-index + 1) _ (2 ^ 63) c.args.digits.now more c.if-more.true)
+
+-- one digit more
+pub loop-digit-preserved : goal.loop-digit-preserved
+loop-digit-preserved c =
+    let digit : is_ascii_digit (get_or c.args.digits.now c.loop-digit.digit-index 0) ≡ true = sym
+    c.is_ascii_digit.ensures.value ∙ c.if-not-is_ascii_digit.false in
+    record {
+      digits = grind (arith, common_steps);
+      value = one_more c.args.digits.now c.loop-digit.digit-index c.loop-digit.value c.loop-digit-test.true
+          c.loop-digit.invariant.value digit;
+      small = c.if-more.false;
+    }

@@ -1,0 +1,22 @@
+-- What the texts of papers are worth, as statements for the contract of a public function.
+use Rattle.std.specs.Prelude.{◌≡◌, ◌↔◌, ℕ, List, Ok, Err}
+use Rattle.ghcn_series.specs.Series.{Contents}
+use Rattle.ghcn_series.specs.Held.{IsContents}
+use Rattle.rank_query.specs.Asked.{Asked, IsAsked}
+use Rattle.rank_papers.specs.Certificate.{Certified, IsCertificateOf, IsCertificate, SaysRight}
+use Rattle.rank_papers.specs.CertificateLines.{read_certificate}
+use Rattle.rank_papers.specs.Places.{IsCertificateText, IsFirstBadLine}
+
+-- a text is read as a value exactly where it is the text of a certificate that says this
+abbrev pub CertificatesAreRead : Type 0
+CertificatesAreRead = (bytes : List ℕ) (v : Certified) → (read_certificate bytes ≡ Ok v) ↔ IsCertificateOf v bytes
+
+-- a text is refused at a line exactly where that is its first bad line
+abbrev pub CertificatesGoWrong : Type 0
+CertificatesGoWrong = (bytes : List ℕ) (n : ℕ) →
+    (read_certificate bytes ≡ Err n) ↔ IsFirstBadLine IsCertificateText bytes n
+
+-- a certificate is right for a query and data exactly where it is of the form and says what is right
+abbrev pub RightCertificatesSayRight : Type 0
+RightCertificatesSayRight = (q : Asked) (c : Contents) (bytes : List ℕ) → IsAsked q → IsContents c →
+    IsCertificate q c bytes ↔ ((v : Certified) × IsCertificateOf v bytes × SaysRight q c v)

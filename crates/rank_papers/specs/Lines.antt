@@ -1,0 +1,64 @@
+-- The lines of a paper with their line feeds, and the values that are read of a line.
+use Rattle.std.specs.Prelude.{◌≡◌, ◌<◌, ℕ, ◌-◌, ◌==◌, Bool, ◌&&◌, if◌then◌else◌, List, [], ◌∷◌, length, slice_range, Option, None, Some, Result, Ok, Err, ℤ, pos, neg_ℤ, int_le, ◌^◌}
+use Rattle.std.specs.List.{list_all}
+use Rattle.ghcn_fields.specs.Bytes.{same_bytes}
+use Rattle.ghcn_fields.specs.Numbers.{natural, signed_by}
+use Rattle.ghcn_fields.specs.NumberTexts.{whole}
+use Rattle.ghcn_files.specs.StationLines.{is_printable}
+use Rattle.rank_query.specs.Asked.{Asked}
+use Rattle.rank_query.specs.Reading.{read_query}
+use Rattle.rank_papers.specs.Report.{query_line}
+
+-- ---- lines
+
+-- a byte at the front of the first line
+abbrev pub onto_first : ℕ → List (List ℕ) → List (List ℕ)
+onto_first b [] = (b ∷ []) ∷ []
+onto_first b (l ∷ ls) = (b ∷ l) ∷ ls
+
+-- a byte before some lines: a line feed is a line of its own
+abbrev pub before_lines : ℕ → List (List ℕ) → List (List ℕ)
+before_lines b ls = if b == 10 then (b ∷ []) ∷ ls else onto_first b ls
+
+-- the lines of a paper, each with its line feed; what follows the last line feed is a line without one
+abbrev pub paper_lines : List ℕ → List (List ℕ)
+paper_lines [] = []
+paper_lines (b ∷ bytes) = before_lines b (paper_lines bytes)
+
+-- the first line of a text and what follows it, where there is a line
+abbrev pub IsCut : List ℕ → Option (List ℕ × List ℕ) → Type 0
+IsCut text None = text ≡ []
+IsCut text (Some cut) = (paper_lines text ≡ cut.0 ∷ paper_lines cut.1) × (length cut.1 < length text)
+
+-- ---- values that are read
+
+-- the value, if its text is this line
+abbrev pub exactly : {A : Type 0} → (A → List ℕ) → List ℕ → Option A → Option A
+exactly text line None = None
+exactly text line (Some x) = if same_bytes (text x) line then Some x else None
+
+-- a number inside 64 bits
+abbrev pub is_i64 : ℤ → Bool
+is_i64 z = int_le (neg_ℤ (pos (2 ^ 63))) z && int_le z (pos (2 ^ 63 - 1))
+
+-- the number, if it is inside 64 bits
+abbrev pub in_i64 : Option ℤ → Option ℤ
+in_i64 None = None
+in_i64 (Some z) = if is_i64 z then Some z else None
+
+-- the number inside 64 bits that a field writes
+abbrev pub number_in : List ℕ → Option ℤ
+number_in field = in_i64 (exactly whole field (signed_by natural field))
+
+-- a query that was read
+abbrev pub ok_query : {E : Type 0} → Result Asked E → Option Asked
+ok_query (Ok q) = Some q
+ok_query (Err e) = None
+
+-- the query that a text asks, where its bytes can be printed
+abbrev pub query_of_text : List ℕ → Option Asked
+query_of_text text = if list_all is_printable text then ok_query (read_query text) else None
+
+-- the query whose line this is
+abbrev pub query_in : List ℕ → Option Asked
+query_in line = exactly query_line line (query_of_text (slice_range line 6 (length line - 1)))

@@ -1,0 +1,25 @@
+-- The papers of a plan: right ones, whatever the data of which it is the plan.
+use Rattle.std.specs.Prelude.{◌≡◌, ℕ, List, map}
+use Rattle.ghcn_series.specs.Series.{Contents}
+use Rattle.ghcn_series.specs.Held.{IsContents}
+use Rattle.rank_query.specs.Asked.{Asked, IsAsked}
+use Rattle.rank_scores.specs.Morsels.{morsels}
+use Rattle.rank_blocks.specs.Bounds.{bound}
+use Rattle.rank_sched.specs.Plan.{Planned, planned}
+use Rattle.rank_papers.specs.Report.{IsReport}
+use Rattle.rank_papers.specs.Certificate.{IsCertificate}
+
+-- the bytes are the right report of all data of which this is the plan
+abbrev pub IsReportOfPlan : Planned → List ℕ → Type 0
+IsReportOfPlan p bytes =
+    (q : Asked) (c : Contents) → IsAsked q → IsContents c → p ≡ planned q c → IsReport q c bytes
+
+-- a right certificate of a query and data, in which each bound is the bound of its series
+pub record IsMeasuredCertificate (q : Asked) (c : Contents) (bytes : List ℕ) : Type 0 where
+  pub certificate : IsCertificate q c bytes
+  pub bounds : map (λ e. e.bound) certificate.entries ≡ map (bound q) (morsels q c)
+
+-- the bytes are such a certificate of all data of which this is the plan
+abbrev pub IsCertificateOfPlan : Planned → List ℕ → Type 0
+IsCertificateOfPlan p bytes =
+    (q : Asked) (c : Contents) → IsAsked q → IsContents c → p ≡ planned q c → IsMeasuredCertificate q c bytes

@@ -1,0 +1,96 @@
+//! The certificate of a query. Each of its lines ends by a line feed:
+//!
+//! ```text
+//! extremes certificate 1
+//! query TEXT                the query in its one spelling
+//! kth S                     the score of the last row where there are k; otherwise `kth none`
+//! scan ID B                 a line for each series of the query, by increasing ID, with a bound on
+//!                           its candidates' scores; `skip ID B` where it was passed over
+//! end M                     M lines of series
+//! ```
+
+ghost use Rattle.std.specs.Prelude.{◌≡◌, ◌<◌, ◌++◌, FitsSigned, OnOk, IfOk};
+ghost use Rattle.std.specs.Int.{w64};
+ghost use Rattle.std.specs.List.{flat_map};
+ghost use Rattle.rank_sched.specs.Answers.{IsAnswerOfPlan};
+ghost use Rattle.rank_papers.specs.Certificate as certificate;
+ghost use Rattle.rank_papers.specs.PlanPapers.{IsCertificateOfPlan};
+
+use crate::number::{push_number, push_whole};
+use crate::report_text::push_query;
+use crate::row::push_field;
+use ghcn_fields::Memory;
+use rank_sched::{Answer, Line, Plan};
+use rank_scores::Candidate;
+use std::alloc::Global;
+
+/// The certificate of a plan's query with the lines of an answer.
+pub fn certificate(alloc: Global, plan: &Plan<'_>, answer: &Answer) -> Result<Vec<u8>, Memory>
+    requires { IsAnswerOfPlan plan.now answer.now }
+    ensures text { IfOk result (λ paper. paper.items
+        ≡ certificate.certificate_of_best plan.now.query answer.now.best.items answer.now.lines.items) }
+    ensures right { IfOk result (λ paper. IsCertificateOfPlan plan.now paper.items) }
+{
+    let mut paper = Vec::from_slice(alloc, b"extremes certificate 1\n")?;
+    push_query(alloc, &mut paper, plan.query())?;
+    push_kth(&mut paper, kth_score(plan.query().k(), &answer.best))?;
+    push_lines(&mut paper, &answer.lines)?;
+    push_end(&mut paper, answer.lines.len() as u64)?;
+    Ok(paper)
+}
+
+/// The score of the k-th of some candidates, if there are k.
+fn kth_score(k: u64, best: &[Candidate]) -> Option<i64>
+    requires { 0 < k }
+    ensures { result ≡ certificate.kth_of_best k best.now }
+{
+    let last = best.get(k as usize - 1)?;
+    Some(last.score)
+}
+
+/// Adds the line of a k-th score, or of none.
+pub(crate) fn push_kth(paper: &mut Vec<u8>, kth: Option<i64>) -> Result<(), Memory>
+    ensures { OnOk result (paper.new.items ≡ paper.old.items ++ certificate.kth_line kth) }
+{
+    paper.extend_from_slice(b"kth ")?;
+    match kth {
+        None => paper.extend_from_slice(b"none")?,
+        Some(score) => push_whole(paper, score)?,
+    }
+    paper.push(b'\n')?;
+    Ok(())
+}
+
+/// Adds the line of each series.
+fn push_lines(paper: &mut Vec<u8>, lines: &[Line]) -> Result<(), Memory>
+    ensures text { OnOk result (paper.new.items ≡ paper.old.items ++ flat_map certificate.entry_line lines.now) }
+    ensures fits { OnOk result (certificate.AreInRange lines.now) }
+{
+    for line in lines {
+        push_line(paper, line)?;
+    }
+    Ok(())
+}
+
+/// Adds the line of a series.
+pub(crate) fn push_line(paper: &mut Vec<u8>, line: &Line) -> Result<(), Memory>
+    ensures text { OnOk result (paper.new.items ≡ paper.old.items ++ certificate.entry_line line.now) }
+    ensures fits { OnOk result (FitsSigned w64 line.now.bound) }
+{
+    paper.extend_from_slice(if line.skipped { b"skip" } else { b"scan" })?;
+    push_field(paper, &line.id.0)?;
+    paper.push(b' ')?;
+    push_whole(paper, line.bound)?;
+    paper.push(b'\n')?;
+    Ok(())
+}
+
+/// Adds the last line, of so many lines of series.
+pub(crate) fn push_end(paper: &mut Vec<u8>, lines: u64) -> Result<(), Memory>
+    ensures { OnOk result (paper.new.items ≡ paper.old.items ++ certificate.end_line lines) }
+{
+    paper.extend_from_slice(b"end ")?;
+    push_number(paper, lines)?;
+    paper.push(b'\n')?;
+    Ok(())
+}

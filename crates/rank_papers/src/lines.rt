@@ -1,0 +1,99 @@
+//! The lines of a paper, each with its line feed, and numbers in their fields.
+
+ghost use Rattle.std.specs.Prelude.{◌≡◌, ◌≤◌, ◌-◌, ◌^◌, length, slice_range, Some, pos, neg_ℤ};
+ghost use Rattle.std.specs.Option.{option_map};
+ghost use Rattle.ghcn_fields.specs.Numbers as numbers;
+ghost use Rattle.ghcn_fields.specs.NumberTexts.{whole};
+ghost use Rattle.ghcn_fields.specs.Bytes.{same_bytes};
+ghost use Rattle.rank_papers.specs.Lines as lines;
+
+use itoa::Buffer;
+use memchr::memchr;
+
+/// The greatest magnitude of a number.
+const GREATEST: u64 = 1 << 63;
+
+/// The first line of a text, with its line feed where it has one, and what follows it.
+pub fn first_line(text: &[u8]) -> Option<(&[u8], &[u8])>
+    ensures { lines.IsCut text.now (option_map (λ cut. (cut.0.now, cut.1.now)) result) }
+{
+    if text.is_empty() {
+        return None;
+    }
+    match memchr(b'\n', text) {
+        None => Some((text, &text[text.len()..])),
+        Some(end) => Some((&text[..end + 1], &text[end + 1..])),
+    }
+}
+
+/// What stands in a line from a byte on, before its last byte.
+pub fn field_from(line: &[u8], from: usize) -> &[u8]
+    ensures { result.now ≡ slice_range line.now from (length line.now - 1) }
+{
+    if from < line.len() {
+        &line[from..line.len() - 1]
+    } else {
+        &[]
+    }
+}
+
+/// The number of 64 bits that a field writes, in its one spelling.
+pub fn number(field: &[u8]) -> Option<i64>
+    ensures { result ≡ lines.number_in field.now }
+{
+    let found = match field {
+        [b'-', digits @ ..] => negative(magnitude(digits)?),
+        digits => positive(magnitude(digits)?)?,
+    };
+    if is_text_of(found, field) {
+        Some(found)
+    } else {
+        None
+    }
+}
+
+fn negative(magnitude: u64) -> i64
+    requires { magnitude ≤ 2 ^ 63 }
+    ensures { result ≡ neg_ℤ (pos magnitude) }
+{
+    (-(magnitude as i128)) as i64
+}
+
+fn positive(magnitude: u64) -> Option<i64>
+    ensures { result ≡ lines.in_i64 (Some (pos magnitude)) }
+{
+    if magnitude < GREATEST {
+        Some(magnitude as i64)
+    } else {
+        None
+    }
+}
+
+/// Whether a field is the text of a number.
+fn is_text_of(number: i64, field: &[u8]) -> bool
+    ensures { result ≡ same_bytes (whole number) field.now }
+{
+    let mut buffer = Buffer::new();
+    buffer.format(number).as_bytes() == field
+}
+
+/// The number that digits write, where it is at most `GREATEST`.
+fn magnitude(digits: &[u8]) -> Option<u64>
+    ensures { result ≡ numbers.up_to (2 ^ 63) (numbers.natural digits.now) }
+{
+    if digits.is_empty() {
+        return None;
+    }
+    let mut value: u64 = 0;
+    for digit in digits {
+        if !digit.is_ascii_digit() {
+            return None;
+        }
+        let more = value as u128 * 10 + (*digit - b'0') as u128;
+        if more > GREATEST as u128 {
+            return None;
+        }
+        value = more as u64;
+    }
+    Some(value)
+}
