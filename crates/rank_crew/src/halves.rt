@@ -1,0 +1,18 @@
+//! What two halves of some workers bring home, as one list.
+
+ghost use Rattle.std.specs.Prelude.{◌≡◌, ◌++◌, IfOk, IsOkAnd};
+
+use ghcn_fields::Memory;
+
+/// Both lists, one behind the other.
+pub(crate) fn both<T: Drop>(
+    first: Result<Vec<T>, Memory>,
+    second: Result<Vec<T>, Memory>,
+) -> Result<Vec<T>, Memory>
+    ensures { IfOk result (λ all. IsOkAnd first (λ a. IsOkAnd second (λ b. all.items ≡ a.items ++ b.items))) }
+{
+    let mut all = first?;
+    let mut more = second?;
+    all.append(&mut more)?;
+    Ok(all)
+}

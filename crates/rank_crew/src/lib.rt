@@ -1,0 +1,21 @@
+//! The workers of a query in threads: they measure its stations, and then each draws morsels from a
+//! board and brings home a haul.
+//!
+//! `extremes` runs them. The crate gives the plan of a query, and a crew's answer.
+#![tactic(auto)]
+
+mod crewed;
+mod gate;
+mod halves;
+mod job;
+mod part;
+mod places;
+mod surveyed;
+#[cfg(test)]
+mod tests;
+mod worker;
+
+pub use crewed::crew;
+pub use gate::{Gate, Open};
+pub use surveyed::survey;
+pub use worker::work;

@@ -1,0 +1,118 @@
+//! Places of listed stations, which some workers measure at once.
+
+ghost use Rattle.std.specs.Prelude.{◌≡◌, ◌+◌, ◌<◌, ◌≤◌, IfOk};
+ghost use denote.Param.Send.{IsSync};
+ghost use Rattle.rank_crew.specs.Places as crew;
+
+use crate::Gate;
+use crate::halves::both;
+use ghcn_fields::Memory;
+use ghcn_series::Data;
+use rank_query::Query;
+use rank_sched::measure;
+use std::alloc::Global;
+use std::sync::Wait;
+use std::thread::{Threads, join};
+
+/// Places with a bound or none each, which any number of workers may measure.
+pub(crate) trait Places {
+    ghost use Rattle.std.specs.Prelude.{◌≡◌, ◌<◌, List, Option, ℤ, Some, IfOk, length, slice_get};
+
+    /// The bounds of all places.
+    ghost bounds: { Self → List (Option ℤ) };
+
+    /// The bound of a place.
+    fn bound<R: Wait>(
+        &self,
+        rt: &R,
+        alloc: Global,
+        worker: u64,
+        place: u64,
+    ) -> Result<Option<i64>, Memory>
+        requires { place < length (bounds self.now) }
+        ensures { IfOk result (λ bound. slice_get (bounds self.now) place ≡ Some bound) };
+}
+
+/// The places of all listed stations.
+#[derive(Drop)]
+pub(crate) struct StationPlaces<'p, G> {
+    pub(crate) held: &'p Data,
+    pub(crate) query: &'p Query,
+    pub(crate) gate: &'p G,
+}
+
+impl<'p, G: Gate> Places for StationPlaces<'p, G> {
+    ghost use Rattle.rank_sched.specs.Plan.{measures};
+
+    ghost bounds = { λ places. measures places.query.now places.held.now };
+
+    fn bound<R: Wait>(
+        &self,
+        rt: &R,
+        alloc: Global,
+        worker: u64,
+        place: u64,
+    ) -> Result<Option<i64>, Memory> {
+        self.gate.measuring(rt, worker, place);
+        measure(alloc, self.held, self.query, place)
+    }
+}
+
+/// The bounds of the places from one up to another, by so many workers, started by halves in
+/// threads. Where a thread can't be started, the caller does that half too.
+pub(crate) fn measure_part<R: Threads + Wait + Sync, P: Places + Sync>(
+    rt: &R,
+    alloc: Global,
+    places: &P,
+    worker: u64,
+    workers: u64,
+    from: u64,
+    to: u64,
+) -> Result<Vec<Option<i64>>, Memory>
+    requires some { 0 < workers }
+    requires limit { worker + workers ≤ 64 }
+    requires within { crew.IsPart from to (P.bounds places.now) }
+    ensures { IfOk result (λ bounds. bounds.items ≡ crew.part_of from to (P.bounds places.now)) }
+{
+    if workers == 1 {
+        return measure_alone(rt, alloc, places, worker, from, to);
+    }
+    let fewer = workers / 2;
+    let more = workers - fewer;
+    let next = worker + more;
+    let middle = to - (to - from) / 2;
+    let (first, second) = join(
+        rt,
+        move ||
+            requires { IsSync R.row × IsSync P.row × (0 < more) × (worker + more ≤ 64)
+                × crew.IsPart from middle (P.bounds places.now) }
+            ensures { IfOk result (λ bounds. bounds.items ≡ crew.part_of from middle (P.bounds places.entry.now)) }
+        { measure_part(rt, alloc, places, worker, more, from, middle) },
+        move ||
+            requires { IsSync R.row × IsSync P.row × (0 < fewer) × (next + fewer ≤ 64)
+                × crew.IsPart middle to (P.bounds places.now) }
+            ensures { IfOk result (λ bounds. bounds.items ≡ crew.part_of middle to (P.bounds places.entry.now)) }
+        { measure_part(rt, alloc, places, next, fewer, middle, to) },
+    );
+    both(first, second)
+}
+
+/// The bounds of the places from one up to another, one after the other.
+fn measure_alone<R: Wait, P: Places>(
+    rt: &R,
+    alloc: Global,
+    places: &P,
+    worker: u64,
+    from: u64,
+    to: u64,
+) -> Result<Vec<Option<i64>>, Memory>
+    requires { crew.IsPart from to (P.bounds places.now) }
+    ensures { IfOk result (λ bounds. bounds.items ≡ crew.part_of from to (P.bounds places.now)) }
+{
+    let mut bounds = Vec::new(alloc);
+    for place in from..to {
+        let bound = places.bound(rt, alloc, worker, place)?;
+        bounds.push(bound)?;
+    }
+    Ok(bounds)
+}
