@@ -1,5 +1,5 @@
 -- What the input says, and the first fault in it.
-use Rattle.std.specs.Prelude.{◌≡◌, ℕ, Bool, true, ◌&&◌, if◌then◌else◌, List, Option, None, Some, Result, Ok, Err, ⊤, ℤ, pos, neg_ℤ, int_le}
+use Rattle.std.specs.Prelude.{◌≡◌, ℕ, Bool, true, ◌&&◌, if◌then◌else◌, List, Option, None, Some, Result, Ok, Err, ⊤, ℤ, pos, neg_ℤ, int_le, nat_lt, nat_le}
 use Rattle.ghcn_files.specs.declared.fault.StationsFault.{StationsFault}
 use Rattle.ghcn_files.specs.declared.fault.StationsFault.TheVariants as station
 use Rattle.ghcn_files.specs.Listed.{listed}
@@ -12,12 +12,16 @@ use Rattle.rank_query.specs.declared.fault.QueryFault.TheVariants as query
 use Rattle.rank_query.specs.Asked.{Asked}
 use Rattle.rank_query.specs.Reading.{read_query}
 use Rattle.extremes.specs.declared.fault.Fault.{Fault}
-use Rattle.extremes.specs.declared.fault.Fault.TheVariants.{StationLine, TooManyStations, Memory, DailyLine, TooManyFiles, QueryTooLong, UnexpectedWord, QueryEnds, OutOfLimits, BadDate, BadBox, EmptyPeriod, BadGuess}
+use Rattle.extremes.specs.declared.fault.Fault.TheVariants.{StationLine, TooManyStations, Memory, DailyLine, TooManyFiles, QueryTooLong, UnexpectedWord, QueryEnds, OutOfLimits, BadDate, BadBox, EmptyPeriod, BadWorkers, BadGuess}
 
 -- a guess that may be made: none, or a score from -2^31 to 2^31
 abbrev pub is_guess : Option ℤ → Bool
 is_guess None = true
 is_guess (Some s) = int_le (neg_ℤ (pos 2_147_483_648)) s && int_le s (pos 2_147_483_648)
+
+-- a number of workers that may run: 1 to 64
+abbrev pub is_crew : ℕ → Bool
+is_crew workers = nat_lt 0 workers && nat_le workers 64
 
 -- a fault of the query, as the whole input's fault
 abbrev pub of_query : QueryFault → Fault
@@ -55,18 +59,12 @@ read_input guess query stations files =
     then_read of_data (data_of ss files) (λ held. Ok (q, held))))
     else Err BadGuess
 
+-- the same for a run of so many workers, whose number is tested first
+abbrev pub read_run : ℕ → Option ℤ → List ℕ → List ℕ → List (List ℕ) → Result (Asked × Contents) Fault
+read_run workers guess query stations files =
+    if is_crew workers then read_input guess query stations files else Err BadWorkers
+
 -- want of memory, or the very fault that the input has
 abbrev pub IsRefusal : Fault → Result (Asked × Contents) Fault → Type 0
 IsRefusal (Memory m) read = ⊤
-IsRefusal (StationLine line why) read = read ≡ Err (StationLine line why)
-IsRefusal TooManyStations read = read ≡ Err TooManyStations
-IsRefusal (DailyLine file line why) read = read ≡ Err (DailyLine file line why)
-IsRefusal TooManyFiles read = read ≡ Err TooManyFiles
-IsRefusal QueryTooLong read = read ≡ Err QueryTooLong
-IsRefusal (UnexpectedWord at) read = read ≡ Err (UnexpectedWord at)
-IsRefusal QueryEnds read = read ≡ Err QueryEnds
-IsRefusal (OutOfLimits at) read = read ≡ Err (OutOfLimits at)
-IsRefusal (BadDate at) read = read ≡ Err (BadDate at)
-IsRefusal (BadBox at) read = read ≡ Err (BadBox at)
-IsRefusal EmptyPeriod read = read ≡ Err EmptyPeriod
-IsRefusal BadGuess read = read ≡ Err BadGuess
+IsRefusal fault read = read ≡ Err fault

@@ -2,3 +2,5 @@ pub mod Input
 pub mod Answer
 pub mod Ending
 pub mod Printed
+pub mod Delivered
+pub mod CommandLine

@@ -1,15 +1,24 @@
 -- How an answer is printed.
-use Rattle.std.specs.Prelude.{◌≡◌, ℕ, List, Option, Result, Ok, Err, ⊤}
+use Rattle.std.specs.Prelude.{◌≡◌, ℕ, List, Option, Result, Ok, Err}
 use Rattle.std.specs.Io.KnownBytes.{Appends}
 use Rattle.extremes.specs.declared.papers.Papers.{Papers}
 use Rattle.extremes.specs.declared.fault.Fault.{Fault}
 use Rattle.extremes.specs.declared.ending.Ending.{Ending}
 use Rattle.extremes.specs.declared.ending.Ending.TheVariants.{Done, Refused, Words, File}
+use Rattle.extremes.specs.declared.delivery.Delivery.{Delivery}
+use Rattle.extremes.specs.declared.delivery.Delivery.TheVariants as delivery
+use Rattle.extremes.specs.Delivered.{HasBeginning}
 
--- papers end done with the whole report written, or as a file that couldn't be written; a fault writes nothing
+-- what the report's writer was given: the whole report, nothing behind a certificate that couldn't be written, or a beginning
+abbrev pub IsReported : Papers → Option (List ℕ) → Option (List ℕ) → Delivery → Type 0
+IsReported papers before after delivery.Done = Appends before after papers.report.items
+IsReported papers before after delivery.CertificateFailed = after ≡ before
+IsReported papers before after delivery.ReportFailed = HasBeginning papers.report.items before after
+
+-- papers end done with the whole report written, or as a file that couldn't be written with a beginning of it; a fault writes nothing
 abbrev pub IsPrinted : Result Papers Fault → Option (List ℕ) → Option (List ℕ) → Ending → Type 0
 IsPrinted (Ok papers) before after Done = Appends before after papers.report.items
 IsPrinted (Ok papers) before after Refused = ⊥
 IsPrinted (Ok papers) before after Words = ⊥
-IsPrinted (Ok papers) before after File = ⊤
+IsPrinted (Ok papers) before after File = HasBeginning papers.report.items before after
 IsPrinted (Err fault) before after ending = (ending ≡ Refused) × (after ≡ before)

@@ -9,8 +9,12 @@ pub enum Command {
     Rank {
         stations: String,
         query: String,
+        /// How many workers look for records; 1 to 64 may run.
+        workers: u64,
         /// A score, in the raw unit of the data, that the k-th best is supposed to reach.
         guess: Option<i64>,
+        /// Where the certificate goes, if it is wanted.
+        certificate: Option<String>,
         files: Vec<String>,
     },
 }

@@ -6,7 +6,8 @@ use ghcn_series::{DailyWhy, DataFault};
 use rank_query::QueryFault;
 use thiserror::Error;
 
-/// The first fault of an input, in the order: the guess, the query, the stations, the daily files.
+/// The first fault of an input, in the order: the number of workers, the guess, the
+/// query, the stations, the daily files.
 ///
 /// Words, lines and files count from 1.
 #[derive(Clone, Copy, Debug, PartialEq, Eq, Error)]
@@ -36,6 +37,9 @@ pub enum Fault {
     BadBox(u64),
     #[error("refused 13 EmptyPeriod")]
     EmptyPeriod,
+    /// There aren't 1 to 64 workers.
+    #[error("refused 18 BadWorkers")]
+    BadWorkers,
     /// The guess isn't from -2^31 to 2^31.
     #[error("refused 19 BadGuess")]
     BadGuess,

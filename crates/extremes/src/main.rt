@@ -2,6 +2,7 @@
 #![tactic(auto)]
 
 mod command;
+mod delivery;
 mod ending;
 mod fault;
 mod papers;

@@ -1,11 +1,11 @@
 //! What a ranking answers.
 
-/// A report, and how much was passed over.
+/// A report, its certificate, and how much was passed over.
 #[derive(Debug, Drop)]
 pub struct Papers {
     /// The k best records as a text.
     pub report: Vec<u8>,
-    /// Empty until bounds of passed-over series are told.
+    /// A bound for each series of the query, and whether the series was passed over, as a text.
     pub certificate: Vec<u8>,
     /// How many lines of unlisted stations were passed over.
     pub unlisted: u64,

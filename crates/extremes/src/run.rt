@@ -3,25 +3,36 @@
 ghost use Rattle.std.specs.Prelude.{◌≡◌, ◌<◌, IfOk, IfErr, length, map, vec_len};
 ghost use Rattle.extremes.specs.declared.ending.Ending.TheVariants as endings;
 ghost use Rattle.extremes.specs.Answer.{Answers};
-ghost use Rattle.extremes.specs.Input.{read_input, IsRefusal};
-ghost use Rattle.extremes.specs.Printed.{IsPrinted};
+ghost use Rattle.extremes.specs.Input.{read_run, IsRefusal};
+ghost use Rattle.extremes.specs.Printed.{IsPrinted, IsReported};
 
 use crate::command::{Command, CommandFault};
+use crate::delivery::{Delivery, deliver};
 use crate::ending::Ending;
 use crate::fault::Fault;
 use crate::papers::Papers;
-use crate::rank::rank_serial;
+use crate::rank::{rank, rank_serial};
 use crate::sample;
 use crate::words::command;
 use ghcn_fields::Memory;
+use rank_crew::Open;
 use std::alloc::{AllocError, Global};
 use std::fs::{File, OpenFile};
 use std::io::{Read, Write};
 use std::rt::{Env, Files};
+use std::sync::Wait;
+use std::thread::Threads;
 use std::{env, io};
 
 /// Runs the command that the process's words ask for.
-pub fn run<R: Files + Env + Print + Eprint + AllocGlobal>(rt: &R) -> Ending {
+pub fn run<R: Files + Env + Print + Eprint + Threads + Wait + AllocGlobal + Sync>(
+    rt: &R,
+) -> Ending {
+    let (_input, _output, _errors) = (
+        hold_descriptor(rt),
+        hold_descriptor(rt),
+        hold_descriptor(rt),
+    );
     let words = match words_after_name(rt) {
         Ok(words) => words,
         Err(error) => return no_words(rt, &error),
@@ -32,16 +43,30 @@ pub fn run<R: Files + Env + Print + Eprint + AllocGlobal>(rt: &R) -> Ending {
             Command::Rank {
                 stations,
                 query,
+                workers,
                 guess,
+                certificate,
                 files,
             },
-        ) => rank_files(rt, &stations, &query, guess, &files),
+        ) => {
+            let out = certificate.as_ref().map(|path| path.as_str());
+            match rank_files(rt, &stations, &files, &query, workers, guess) {
+                Ok(answer) => print_answer(rt, answer, out, &mut io::writer(rt)),
+                Err(path) => not_read(rt, path),
+            }
+        }
         Err(CommandFault::Words(text)) => {
             let _ = eprint!(rt; "{text}");
             Ending::Words
         }
         Err(CommandFault::Memory) => refused(rt, Fault::Memory(Memory)),
     }
+}
+
+/// A file that can't be written, opened before any other. Three of them take the places of standard
+/// descriptors that were closed before the program began, so that the certificate takes none.
+fn hold_descriptor<R: Files>(rt: &R) -> io::Result<R::File> {
+    File::open(rt, "/dev/null")
 }
 
 fn words_after_name<R: Env + AllocGlobal>(rt: &R) -> io::Result<Vec<String>> {
@@ -59,30 +84,25 @@ fn no_words<R: Eprint>(rt: &R, error: &io::Error) -> Ending {
 }
 
 /// Ranks the texts that are built in.
-fn rank_sample<R: Print + Eprint + AllocGlobal>(rt: &R) -> Ending {
+fn rank_sample<R: Files + Print + Eprint + AllocGlobal>(rt: &R) -> Ending {
     let files = [sample::DAILY];
     let answer = rank_serial(rt.alloc(), sample::STATIONS, &files, sample::QUERY, None);
-    print_answer(rt, answer, &mut io::writer(rt))
+    print_answer(rt, answer, None, &mut io::writer(rt))
 }
 
-/// Reads the station list and then the daily files in order, and ranks them.
-fn rank_files<R: Files + Print + Eprint + AllocGlobal>(
+/// Reads the station list and then the daily files in order, and ranks them, or answers the path of
+/// the first file that can't be read.
+fn rank_files<'p, R: Files + Threads + Wait + AllocGlobal + Sync>(
     rt: &R,
-    stations: &str,
+    stations: &'p str,
+    files: &'p [String],
     query: &str,
+    workers: u64,
     guess: Option<i64>,
-    files: &[String],
-) -> Ending {
-    let Ok(stations_text) = read_file(rt, stations) else {
-        return not_read(rt, stations);
-    };
-    match read_files(rt, files) {
-        Ok(texts) => {
-            let answer = rank_texts(rt.alloc(), &stations_text, &texts, query, guess);
-            print_answer(rt, answer, &mut io::writer(rt))
-        }
-        Err(place) => not_read(rt, files[place].as_str()),
-    }
+) -> Result<Result<Papers, Fault>, &'p str> {
+    let stations_text = read_file(rt, stations).map_err(|_| stations)?;
+    let texts = read_files(rt, files).map_err(|place| files[place].as_str())?;
+    Ok(rank_texts(rt, &stations_text, &texts, query, workers, guess))
 }
 
 /// The text of each file, in order, or the place of the first that can't be read.
@@ -99,19 +119,20 @@ fn read_files<R: Files + AllocGlobal>(rt: &R, paths: &[String]) -> Result<Vec<Ve
 }
 
 /// Ranks the candidates of a query over the texts of all files.
-fn rank_texts(
-    alloc: Global,
+fn rank_texts<R: Threads + Wait + AllocGlobal + Sync>(
+    rt: &R,
     stations: &[u8],
     texts: &[Vec<u8>],
     query: &str,
+    workers: u64,
     guess: Option<i64>,
 ) -> Result<Papers, Fault>
     ensures ok { IfOk result (Answers guess query.now stations.now (map (λ text. text.items) texts.now)) }
     ensures err { IfErr result (λ fault.
-        IsRefusal fault (read_input guess query.now stations.now (map (λ text. text.items) texts.now))) }
+        IsRefusal fault (read_run workers guess query.now stations.now (map (λ text. text.items) texts.now))) }
 {
-    let files = slices_of(alloc, texts).map_err(|_| Fault::Memory(Memory))?;
-    rank_serial(alloc, stations, &files, query, guess)
+    let files = slices_of(rt.alloc(), texts).map_err(|_| Fault::Memory(Memory))?;
+    rank(rt, stations, &files, query, workers, guess, &Open)
 }
 
 /// All the texts, as they are read.
@@ -145,10 +166,19 @@ fn refused<R: Eprint>(rt: &R, fault: Fault) -> Ending
     Ending::Refused
 }
 
-/// Prints the report behind a word on what was passed over, or tells the fault.
-pub fn print_answer<R: Eprint, W: Write>(
+fn not_written<R: Eprint>(rt: &R, path: &str) -> Ending
+    ensures { result ≡ endings.File }
+{
+    let _ = eprintln!(rt; "file not written {path}");
+    Ending::File
+}
+
+/// Prints the papers behind a word on what was passed over, or tells the fault. The certificate
+/// goes to the file of a path, where one is named, and the report behind it.
+pub fn print_answer<R: Files + Eprint, W: Write>(
     rt: &R,
     answer: Result<Papers, Fault>,
+    certificate: Option<&str>,
     out: &mut W,
 ) -> Ending
     ensures { IsPrinted answer (W.contents out.old) (W.contents out.new) result }
@@ -161,11 +191,27 @@ pub fn print_answer<R: Eprint, W: Write>(
     if unlisted > 0 {
         let _ = eprintln!(rt; "unlisted {unlisted}");
     }
-    match out.write_all(&papers.report) {
-        Ok(()) => Ending::Done,
-        Err(_) => {
-            let _ = eprintln!(rt; "file not written -");
-            Ending::File
-        }
+    match write_papers(rt, &papers, certificate, out) {
+        Delivery::Done => Ending::Done,
+        Delivery::CertificateFailed => not_written(rt, certificate.unwrap_or("-")),
+        Delivery::ReportFailed => not_written(rt, "-"),
+    }
+}
+
+/// Writes the certificate into the file of a path, where one is named, and then the report.
+fn write_papers<R: Files, W: Write>(
+    rt: &R,
+    papers: &Papers,
+    certificate: Option<&str>,
+    out: &mut W,
+) -> Delivery
+    ensures { IsReported papers.now (W.contents out.old) (W.contents out.new) result }
+{
+    let Some(path) = certificate else {
+        return deliver(papers, false, &mut io::sink(), out);
+    };
+    match File::create(rt, path) {
+        Ok(mut file) => deliver(papers, true, &mut file, out),
+        Err(_) => Delivery::CertificateFailed,
     }
 }

@@ -3,13 +3,16 @@
 use crate::command::{Command, CommandFault};
 use crate::ending::Ending;
 use crate::fault::Fault;
-use crate::rank::rank_serial;
+use crate::rank::{rank, rank_serial};
 use crate::run::print_answer;
 use crate::words::command;
 use ghcn_fields::Memory;
 use ghcn_files::{LineWhy, StationWhy};
 use ghcn_series::DailyWhy;
+use rank_crew::{Gate, Open};
 use std::alloc::{AllocError, Global};
+use std::sync::Wait;
+use std::sync::atomic::{AtomicU64, Ordering};
 use std::test::Fail;
 
 const STATIONS: &[u8] = b"ZZA00000001  10.0000   20.0000  100.0    ALPHA
@@ -42,9 +45,9 @@ fn the_right_report(rt: HostRuntime) {
 fn reports_are_printed_whole(rt: HostRuntime) {
     let mut out = Vec::new(rt.alloc());
     let ranked = rank_serial(rt.alloc(), STATIONS, &[DAILY], "top 3 highest TMAX", None);
-    assert_eq!(rt; print_answer(&rt, ranked, &mut out), Ending::Done);
+    assert_eq!(rt; print_answer(&rt, ranked, None, &mut out), Ending::Done);
     let faulty = rank_serial(rt.alloc(), STATIONS, &[DAILY], "top 3 highest", None);
-    assert_eq!(rt; print_answer(&rt, faulty, &mut out), Ending::Refused);
+    assert_eq!(rt; print_answer(&rt, faulty, None, &mut out), Ending::Refused);
     assert_eq!(rt; out.as_slice(), REPORT);
 }
 
@@ -118,6 +121,7 @@ fn texts_of_faults(rt: HostRuntime) -> Result<(), Fail> {
         (Fault::BadDate(6), "refused 11 BadDate 6"),
         (Fault::BadBox(8), "refused 12 BadBox 8"),
         (Fault::EmptyPeriod, "refused 13 EmptyPeriod"),
+        (Fault::BadWorkers, "refused 18 BadWorkers"),
         (Fault::BadGuess, "refused 19 BadGuess"),
     ];
     for (fault, text) in cases {
@@ -125,6 +129,64 @@ fn texts_of_faults(rt: HostRuntime) -> Result<(), Fail> {
         assert_eq!(rt; told.as_str(), text);
     }
     Ok(())
+}
+
+/// How often a gate's calls came.
+#[derive(Drop)]
+struct Calls {
+    measuring: AtomicU64,
+    claimed: AtomicU64,
+}
+
+impl Gate for Calls {
+    fn measuring<R: Wait>(&self, _rt: &R, _worker: u64, _place: u64) {
+        self.measuring.fetch_add(1, Ordering::SeqCst);
+    }
+
+    fn claimed<R: Wait>(&self, _rt: &R, _worker: u64, _morsel: u64) {
+        self.claimed.fetch_add(1, Ordering::SeqCst);
+    }
+}
+
+#[test]
+fn workers_and_the_first_fault(rt: HostRuntime) {
+    let cases = [
+        (0, Some(-2_147_483_649), Some(Fault::BadWorkers)),
+        (65, None, Some(Fault::BadWorkers)),
+        (64, Some(2_147_483_649), Some(Fault::BadGuess)),
+        (64, Some(2_147_483_648), None),
+        (1, None, None),
+        (4, Some(305), None),
+    ];
+    for (workers, guess, fault) in cases {
+        let query = "top 3 highest TMAX";
+        let ranked = rank(&rt, STATIONS, &[DAILY], query, workers, guess, &Open);
+        let report = ranked.as_ref().map(|papers| papers.report.as_slice()).ok();
+        let expected = if fault.is_none() { Some(REPORT) } else { None };
+        assert_eq!(rt; report, expected, "{workers} workers, guess {guess:?}");
+        assert_eq!(rt; ranked.err(), fault, "{workers} workers, guess {guess:?}");
+    }
+}
+
+#[test]
+fn a_gate_is_called_by_the_workers(rt: HostRuntime) {
+    let calls = Calls {
+        measuring: AtomicU64::new(0),
+        claimed: AtomicU64::new(0),
+    };
+    let query = "top 3 highest TMAX";
+    let ranked = rank(&rt, STATIONS, &[DAILY], query, 2, None, &calls);
+    assert!(rt; ranked.is_ok());
+    assert_eq!(rt;
+        calls.measuring.load(Ordering::SeqCst),
+        3,
+        "once for each station"
+    );
+    assert_eq!(rt;
+        calls.claimed.load(Ordering::SeqCst),
+        3,
+        "once for each morsel"
+    );
 }
 
 fn words_of(alloc: Global, words: &[&str]) -> Result<Vec<String>, AllocError> {
@@ -147,6 +209,9 @@ fn commands_of_words(rt: HostRuntime) -> Result<(), Fail> {
             "--query",
             "q",
             "--guess=-3",
+            "--workers",
+            "64",
+            "--certificate=c",
             "a",
             "b",
         ],
@@ -155,7 +220,9 @@ fn commands_of_words(rt: HostRuntime) -> Result<(), Fail> {
         Command::Rank {
             stations,
             query,
+            workers,
             guess,
+            certificate,
             files,
         },
     ) = command(rt.alloc(), rank)
@@ -164,7 +231,9 @@ fn commands_of_words(rt: HostRuntime) -> Result<(), Fail> {
     };
     assert_eq!(rt; stations.as_str(), "s");
     assert_eq!(rt; query.as_str(), "q");
+    assert_eq!(rt; workers, 64);
     assert_eq!(rt; guess, Some(-3));
+    assert_eq!(rt; certificate.as_ref().map(|path| path.as_str()), Some("c"));
     let paths: [&str; 2] = ["a", "b"];
     assert_eq!(rt; files.len(), paths.len());
     for (file, path) in files.iter().zip(paths) {

@@ -1,0 +1,10 @@
+-- What is gone from the rest was taken by the writer.
+use Rattle.std.proofs.Common.{◌≡◌, ℕ, length}
+use Rattle.extremes.proofs.Delivering.{HasTaken}
+use Rattle.extremes.proofs.delivery.write_whole.Given as goal
+
+abbrev pub invariant-loop-rest : goal.invariant-loop-rest
+invariant-loop-rest g l = HasTaken l.paper l.rest (g.W.Write.contents l.initial.out) (g.W.Write.contents l.out)
+
+abbrev pub decreases-loop-rest : goal.decreases-loop-rest
+decreases-loop-rest g l = length l.rest

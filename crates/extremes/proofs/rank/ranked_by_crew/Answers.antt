@@ -1,0 +1,38 @@
+use Rattle.std.proofs.Common.{ap, ◌∙◌, subst}
+use Rattle.std.proofs.lemmas.Result.{IfOk-weaker}
+use Rattle.rank_query.specs.Asked.{IsAsked}
+use Rattle.rank_sched.specs.Plan.{Planned}
+use Rattle.extremes.proofs.Crews.{some_workers, few_workers}
+use Rattle.extremes.proofs.Guesses.{guess_is_score}
+use Rattle.extremes.proofs.PlanAnswers.{crew_is_plan, papers_are}
+use Rattle.extremes.proofs.rank.ranked_by_crew.Goals as goal
+
+-- there is a worker to measure
+pub survey-requires-clause-some : goal.survey-requires-clause-some
+survey-requires-clause-some g c κs within = some_workers c.args.workers c.requires.crew
+
+-- and there are at most 64
+pub survey-requires-clause-few : goal.survey-requires-clause-few
+survey-requires-clause-few g c κs within = few_workers c.args.workers c.requires.crew
+
+-- so it is with those who draw
+pub crew-requires-clause-some : goal.crew-requires-clause-some
+crew-requires-clause-some g c κs within = some_workers c.args.workers c.requires.crew
+
+-- and those are at most 64 too
+pub crew-requires-clause-few : goal.crew-requires-clause-few
+crew-requires-clause-few g c κs within = few_workers c.args.workers c.requires.crew
+
+-- a guess that may be made is a score
+pub crew-requires-clause-guess : goal.crew-requires-clause-guess
+crew-requires-clause-guess g c κs within = guess_is_score c.args.guess c.requires.guess
+
+-- the answer of a crew is one of the plan
+pub papers_of-requires : goal.papers_of-requires
+papers_of-requires g c = crew_is_plan _ _ _ _ c.in_ok-answer.ensures.answer
+
+-- the papers of the plan are those of the query and the data
+pub returns : goal.returns
+returns g c =
+    let asked = subst IsAsked (ap (λ (p : Planned). p.query) (c.plan.view_is ∙ c.in_ok-plan.ensures)) c.plan.invariant.asked in
+    IfOk-weaker c.papers_of.result _ _ (λ papers are. papers_are _ _ _ _ papers asked c.requires.contents c.in_ok-plan.ensures c.unlisted.ensures are) c.papers_of.ensures

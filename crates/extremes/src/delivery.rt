@@ -1,0 +1,55 @@
+//! Writing the papers of a ranking.
+
+ghost use Rattle.std.specs.Prelude.{◌≡◌};
+ghost use Rattle.extremes.specs.Delivered.{IsDelivered, IsWritten};
+
+use crate::papers::Papers;
+use std::io::Write;
+
+/// How the writing of the papers ended.
+#[derive(Clone, Copy, Debug, PartialEq, Eq)]
+pub enum Delivery {
+    /// Each paper that is wanted was written whole.
+    Done,
+    /// The certificate was written in part, and the report not at all.
+    CertificateFailed,
+    /// The report was written in part.
+    ReportFailed,
+}
+
+/// Writes the certificate, where it is wanted, and then the report.
+///
+/// A write that fails, or takes no byte, isn't tried again. It takes no memory.
+pub fn deliver<C: Write, R: Write>(
+    papers: &Papers,
+    wanted: bool,
+    certificate: &mut C,
+    report: &mut R,
+) -> Delivery
+    ensures { IsDelivered papers.now wanted
+        (C.contents certificate.old) (C.contents certificate.new)
+        (R.contents report.old) (R.contents report.new) result }
+{
+    if wanted && !write_whole(&papers.certificate, certificate) {
+        return Delivery::CertificateFailed;
+    }
+    if write_whole(&papers.report, report) {
+        Delivery::Done
+    } else {
+        Delivery::ReportFailed
+    }
+}
+
+/// Writes a paper to its end and flushes it. Whether that was done.
+fn write_whole<W: Write>(paper: &[u8], out: &mut W) -> bool
+    ensures { IsWritten paper.now (W.contents out.old) (W.contents out.new) result }
+{
+    let mut rest = paper;
+    while !rest.is_empty() {
+        match out.write(rest) {
+            Ok(taken) if taken > 0 => rest = &rest[taken..],
+            _ => return false,
+        }
+    }
+    out.flush().is_ok()
+}
