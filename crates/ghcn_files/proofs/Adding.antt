@@ -1,13 +1,14 @@
 -- Stations are added one after the other: what is known of a line after those before it.
-use Rattle.std.proofs.Common.{◌≡◌, ℕ, suc, ◌<◌, ◌^◌, Bool, true, false, cond, List, [], ◌∷◌, ◌++◌, length, map, Option}
+use Rattle.std.proofs.Common.{◌≡◌, ℕ, suc, ◌<◌, ◌^◌, Bool, true, false, cond, List, [], ◌∷◌, ◌++◌, length, map, drop, replicate, length-append, length-drop, Option}
 use Rattle.std.proofs.Common.{Some, None, refl, sym, ap, subst, ◌∙◌, arith, true≢false, ◌||◌, ◌&&◌, is_some}
-use Rattle.std.specs.Prelude.{nat_lt, nat_le, ℤ, pos, neg_ℤ}
+use Rattle.std.specs.Prelude.{◌==◌, nat_lt, nat_le, ℤ, pos, neg_ℤ}
 use Rattle.std.specs.List.{list_any, list_all, IsDistinct}
 use Rattle.std.specs.Option.{option_or, option_map}
 use Rattle.std.specs.Ordering.{is_eq}
 use Rattle.std.specs.BTreeMap.{is_at}
 use Rattle.std.specs.Map.{lookup}
-use Rattle.std.proofs.lemmas.List.{length_push, map-append}
+use Rattle.std.proofs.lemmas.List.{length_push, map-append, length-map, length-take-le, length-replicate}
+use Rattle.ghcn_fields.specs.Bytes.{blank_byte}
 use Rattle.std.proofs.lemmas.Map.Keys.{IsDistinct-push}
 use Rattle.ghcn_fields.specs.declared.field.Field.{Field}
 use Rattle.ghcn_fields.specs.declared.field.Field.TheVariants.{Blank, Number, Bad}
@@ -116,18 +117,33 @@ printed [] = refl
 printed (b ∷ bs) = ap (λ (t : Bool). t && list_all is_printable (map printable bs))
     (printed_byte (is_printable b) b refl) ∙ printed bs
 
--- five tests that hold, hold together
-all_five : (a b c d e : Bool) → a ≡ true → b ≡ true → c ≡ true → d ≡ true → e ≡ true → (a && b && c && d && e) ≡ true
-all_five a b c d e p q r s t = cc
+-- six tests that hold, hold together
+all_six : (a b c d e f : Bool) → a ≡ true → b ≡ true → c ≡ true → d ≡ true → e ≡ true → f ≡ true
+    → (a && b && c && d && e && f) ≡ true
+all_six a b c d e f p q r s t u = cc
+
+-- the columns of a name are thirty bytes
+name_long : (line : List ℕ) → (length (map printable (columns 42 71 line)) == 30) ≡ true
+name_long line =
+    let all : List ℕ = line ++ replicate 71 blank_byte in
+    let long : length (map printable (columns 42 71 line)) ≡ 30 =
+    length-map (columns 42 71 line) printable ∙ length-take-le 30 (drop 41 (line ++ replicate 71 blank_byte))
+    (omega (
+      arith,
+      length-drop 41 (line ++ replicate 71 blank_byte),
+      length-append line (replicate 71 blank_byte),
+      length-replicate 71 blank_byte,
+    )) in
+    ap (λ (n : ℕ). n == 30) long
 
 -- a line that fails no test has a station with its fields in their ranges
 pub station_of-right : (line : List ℕ) → line_why line ≡ None → is_station (station_of line) ≡ true
 station_of-right line none =
     let tests = passed_all (nat_le 30 (length line)) (is_id (columns 1 11 line)) (is_latitude (latitude line))
     (is_longitude (longitude line)) (is_bad (elevation line)) none in
-    all_five _ _ _ _ _ tests.0 (own_number (neg_ℤ (pos 900_000)) (pos 900_000) (latitude line) tests.1)
+    all_six _ _ _ _ _ _ tests.0 (own_number (neg_ℤ (pos 900_000)) (pos 900_000) (latitude line) tests.1)
     (own_number (neg_ℤ (pos 1_800_000)) (pos 1_800_000) (longitude line) tests.2) (printed (columns 39 40 line))
-    (printed (columns 42 71 line))
+    (printed (columns 42 71 line)) (name_long line)
 
 -- ---- one station more
 
@@ -161,11 +177,11 @@ none_there (Some n) e = absurd cc
 
 -- a right station's ID is made of bytes
 own_bytes : (s : Station) → is_station s ≡ true → AreEleven s.id.0
-own_bytes s right = id_bytes s.id (first (is_id s.id.0) _ _ _ _ right)
+own_bytes s right = id_bytes s.id (first (is_id s.id.0) _ _ _ _ _ right)
   where
-    first : (a b c d e : Bool) → (a && b && c && d && e) ≡ true → a ≡ true
-    first true b c d e all = refl
-    first false b c d e all = absurd cc
+    first : (a b c d e f : Bool) → (a && b && c && d && e && f) ≡ true → a ≡ true
+    first true b c d e f all = refl
+    first false b c d e f all = absurd cc
 
 -- what is listed stays so with one station more, whose ID none has
 listed_more : (ss : List Station) (s : Station) → AreListed ss → place_of ss s.id ≡ None → length ss < 2 ^ 20

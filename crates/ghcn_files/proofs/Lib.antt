@@ -9,3 +9,4 @@ pub mod StationTests
 pub mod PrintedText
 pub mod Adding
 pub mod ReadLines
+pub mod Rows

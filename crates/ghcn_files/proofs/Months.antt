@@ -1,11 +1,11 @@
 -- The tests of a line of a daily file, one after the other.
 use Rattle.std.proofs.Common.{◌≡◌, ℕ, ◌≤◌, Bool, true, false, cond, List, length, take, drop, map, Option, Some, None}
 use Rattle.std.proofs.Common.{Ok, Err, refl, sym, ap, ◌∙◌, arith}
-use Rattle.std.specs.Prelude.{pos, unsigned_abs}
+use Rattle.std.specs.Prelude.{pos, unsigned_abs, nat_le}
+use Rattle.std.specs.Option.{option_or}
 use Rattle.std.proofs.lemmas.Bool.{le-leb, le-ltb}
 use Rattle.ghcn_fields.specs.Bytes.{is_blank}
 use Rattle.ghcn_fields.specs.Lines.{columns}
-use Rattle.ghcn_fields.specs.Faults.{first_failing}
 use Rattle.ghcn_fields.specs.Numbers.{int_field}
 use Rattle.ghcn_files.specs.declared.element.Element.{Element}
 use Rattle.ghcn_files.specs.declared.month.Reading.{Reading}
@@ -15,8 +15,8 @@ use Rattle.ghcn_files.specs.declared.fault.LineWhy.TheVariants.{Short, TooLong, 
 use Rattle.ghcn_files.specs.Ids.{is_id}
 use Rattle.ghcn_files.specs.Elements.{element_of}
 use Rattle.ghcn_files.specs.StationLines.{id_of, is_number_within, number_of}
-use Rattle.ghcn_files.specs.Months.{year_field, month_field, value_test, reading, days_of_group, month_why, month_of}
-use Rattle.ghcn_files.specs.Months.{month_if, unless, read_month}
+use Rattle.ghcn_files.specs.Months.{year_field, month_field, reading, days_of_group, head_why, days_why, month_why}
+use Rattle.ghcn_files.specs.Months.{head_of, month_of, month_if, unless, read_month}
 use Rattle.ghcn_files.proofs.ColumnSlices.{columns-slice}
 
 -- the first test that fails, by how each test came out
@@ -36,19 +36,18 @@ month_slice line long = ap int_field (sym (columns-slice 16 17 15 17 line (omega
     (omega arith)))
 
 -- how the tests of a line that is long enough came out
-pub record Tested (line : List ℕ) (ends id year month : Bool) (days : Option LineWhy) : Type 0 where
+pub record Tested (line : List ℕ) (ends id year month : Bool) : Type 0 where
   pub long : 266 ≤ length line
   pub ends_is : is_blank (drop 269 line) ≡ ends
   pub id_is : is_id (columns 1 11 line) ≡ id
   pub year_is : is_number_within (pos 1) (pos 9999) (int_field (take 4 (drop 11 line))) ≡ year
   pub month_is : is_number_within (pos 1) (pos 12) (int_field (take 2 (drop 15 line))) ≡ month
-  pub days_is : first_failing (map (value_test line) days_of_group) ≡ days
 
 -- the first test that fails is that of how the tests came out
-pub month_why-tested : {line : List ℕ} {ends id year month : Bool} {days : Option LineWhy}
-    → Tested line ends id year month days → month_why line ≡ why_by true ends id year month days
-month_why-tested {line} {ends} {id} {year} {month} {days} t =
-    let tests : Option LineWhy = first_failing (map (value_test line) days_of_group) in
+pub head_why-tested : {line : List ℕ} {ends id year month : Bool}
+    → Tested line ends id year month → head_why line ≡ why_by true ends id year month None
+head_why-tested {line} {ends} {id} {year} {month} t =
+    let tests : Option LineWhy = None in
     let in_month : Bool = is_number_within (pos 1) (pos 12) (month_field line) in
     let in_year : Bool = is_number_within (pos 1) (pos 9999) (year_field line) in
     ap (λ (b : Bool). why_by b (is_blank (drop 269 line)) (is_id (columns 1 11 line)) in_year in_month tests)
@@ -59,7 +58,28 @@ month_why-tested {line} {ends} {id} {year} {month} {days} t =
     (ap (is_number_within (pos 1) (pos 9999)) (sym (year_slice line t.long)) ∙ t.year_is)
     ∙ ap (λ (b : Bool). why_by true ends id year b tests)
     (ap (is_number_within (pos 1) (pos 12)) (sym (month_slice line t.long)) ∙ t.month_is)
-    ∙ ap (λ (o : Option LineWhy). why_by true ends id year month o) t.days_is
+
+-- tests behind others count where none of those fails
+why_parts : (long ends id year month : Bool) (days : Option LineWhy)
+    → why_by long ends id year month days ≡ option_or (why_by long ends id year month None) days
+why_parts false ends id year month days = refl
+why_parts true false id year month days = refl
+why_parts true true false year month days = refl
+why_parts true true true false month days = refl
+why_parts true true true true false days = refl
+why_parts true true true true true days = refl
+
+-- the tests of a line's days count where none before them fails
+pub month_why-parts : (line : List ℕ) → month_why line ≡ option_or (head_why line) (days_why line)
+month_why-parts line = why_parts (nat_le 266 (length line)) (is_blank (drop 269 line)) (is_id (columns 1 11 line))
+    (is_number_within (pos 1) (pos 9999) (year_field line)) (is_number_within (pos 1) (pos 12) (month_field line))
+    (days_why line)
+
+-- the head of a line, by its parts
+pub head_of-parts : (line : List ℕ) (id : StationId) (year month : ℕ) → id ≡ id_of line
+    → year ≡ unsigned_abs (number_of (year_field line)) → month ≡ unsigned_abs (number_of (month_field line))
+    → record { id = id; year = year; month = month } ≡ head_of line
+head_of-parts line id year month i y m = cc
 
 -- a value that a test let through
 pub test_held : {T : Type 0} (b : Bool) (x y : T) → cond b (Some x) None ≡ Some y → (b ≡ true) × (y ≡ x)

@@ -82,7 +82,8 @@ past_line all k held more l lt is shown adds h =
       held_is = adds.added ∙ ap (λ (ss : List Station). ss ++ station_of l.1 ∷ []) h.held_is
           ∙ sym (stations-push (not_blank (take k all)) l) ∙ ap stations_of (sym next);
       right = subst (HaveNoFault station_fault) (sym next)
-          (no_fault-more station_fault (not_blank (take k all)) l h.right (adds.right (not_blank (take k all)) (sym h.held_is)));
+          (no_fault-more station_fault (not_blank (take k all)) l h.right
+          (adds.right (not_blank (take k all)) (sym h.held_is)));
     }
 
 -- no line is left

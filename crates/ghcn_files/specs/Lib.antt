@@ -5,3 +5,4 @@ pub mod Listed
 pub mod KeptStations
 pub mod IdLaws
 pub mod Months
+pub mod Rows

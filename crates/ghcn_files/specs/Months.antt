@@ -12,6 +12,7 @@ use Rattle.ghcn_fields.specs.Numbers.{int_field}
 use Rattle.ghcn_files.specs.declared.element.Element.{Element}
 use Rattle.ghcn_files.specs.declared.month.Month.{Month}
 use Rattle.ghcn_files.specs.declared.month.Reading.{Reading}
+use Rattle.ghcn_files.specs.declared.month.Head.{Head}
 use Rattle.ghcn_files.specs.declared.fault.LineWhy.{LineWhy}
 use Rattle.ghcn_files.specs.declared.fault.LineWhy.TheVariants.{Short, TooLong, BadId, BadYear, BadMonth, BadValue}
 use Rattle.ghcn_files.specs.Ids.{is_id}
@@ -52,20 +53,39 @@ month_of element line = record {
   days = map (reading line) days_of_group;
 }
 
+-- the ID, the year and the month of a line
+abbrev pub head_of : List ℕ → Head
+head_of line = record {
+  id = id_of line;
+  year = unsigned_abs (number_of (year_field line));
+  month = unsigned_abs (number_of (month_field line));
+}
+
 -- the test of a day's value, which may be missing but not malformed
 abbrev pub value_test : List ℕ → ℕ → Bool × LineWhy
 value_test line j = (not (is_bad (value_field line j)), BadValue j)
 
--- the first test that a line of one of the five elements fails
-abbrev pub month_why : List ℕ → Option LineWhy
-month_why line = first_failing (
-    ((nat_le 266 (length line), Short)
+-- the tests of a line's length, its ID, its year and its month
+abbrev pub head_tests : List ℕ → List (Bool × LineWhy)
+head_tests line =
+    (nat_le 266 (length line), Short)
     ∷ (is_blank (drop 269 line), TooLong)
     ∷ (is_id (columns 1 11 line), BadId)
     ∷ (is_number_within (pos 1) (pos 9999) (year_field line), BadYear)
     ∷ (is_number_within (pos 1) (pos 12) (month_field line), BadMonth)
-    ∷ [])
-    ++ map (value_test line) days_of_group)
+    ∷ []
+
+-- the first of these tests that a line fails
+abbrev pub head_why : List ℕ → Option LineWhy
+head_why line = first_failing (head_tests line)
+
+-- the first test that the days of a line fail
+abbrev pub days_why : List ℕ → Option LineWhy
+days_why line = first_failing (map (value_test line) days_of_group)
+
+-- the first test that a line of one of the five elements fails
+abbrev pub month_why : List ℕ → Option LineWhy
+month_why line = first_failing (head_tests line ++ map (value_test line) days_of_group)
 
 -- a value, unless a line fails a test
 abbrev pub unless : {T : Type 0} → Option LineWhy → T → Result T LineWhy

@@ -1,5 +1,5 @@
 -- A line of the station list: its fields, and the first test that it fails by itself.
-use Rattle.std.specs.Prelude.{ℕ, Bool, true, false, ◌&&◌, not, nat_le, if◌then◌else◌, List, [], ◌∷◌, length, map}
+use Rattle.std.specs.Prelude.{ℕ, Bool, true, false, ◌&&◌, ◌==◌, not, nat_le, if◌then◌else◌, List, [], ◌∷◌, length, map}
 use Rattle.std.specs.Prelude.{Option, None, Some, ℤ, pos, neg_ℤ, int_le}
 use Rattle.std.specs.List.{list_all}
 use Rattle.std.specs.Ordering.{int_eq}
@@ -96,4 +96,4 @@ line_why line = first_failing (
 abbrev pub is_station : Station → Bool
 is_station s =
     is_id s.id.0 && is_latitude (Number s.latitude) && is_longitude (Number s.longitude)
-    && list_all is_printable s.state && list_all is_printable s.name
+    && list_all is_printable s.state && list_all is_printable s.name && (length s.name == 30)

@@ -9,6 +9,7 @@ mod element;
 mod fault;
 mod missing;
 mod month;
+mod row;
 mod station;
 mod stations;
 #[cfg(test)]
@@ -17,5 +18,6 @@ mod tests;
 pub use element::Element;
 pub use fault::{LineWhy, StationWhy, StationsFault};
 pub use month::{Month, Reading, read_month};
+pub use row::{MonthRow, read_days};
 pub use station::{Station, StationId, are_visible};
 pub use stations::Stations;

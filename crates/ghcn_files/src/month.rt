@@ -12,7 +12,6 @@ ghost use Rattle.std.specs.Prelude.{if◌then◌else◌, unsigned_abs};
 ghost use Rattle.ghcn_fields.specs.Numbers as numbers;
 ghost use Rattle.ghcn_fields.specs.Bytes as bytes;
 ghost use Rattle.ghcn_fields.specs.Lines.{columns};
-ghost use Rattle.ghcn_fields.specs.Faults.{first_failing};
 ghost use Rattle.ghcn_files.specs.StationLines as stations;
 ghost use Rattle.ghcn_files.specs.Months as months;
 
@@ -21,7 +20,7 @@ use crate::{Element, LineWhy, StationId};
 use ghcn_fields::{Field, int_field, is_blank, value_field};
 
 /// The columns up to the element's last.
-const UP_TO_ELEMENT: usize = 21;
+pub(crate) const UP_TO_ELEMENT: usize = 21;
 
 /// The columns up to the last day's value, whose three flags may be left out.
 const LEAST_COLUMNS: usize = 266;
@@ -30,7 +29,7 @@ const LEAST_COLUMNS: usize = 266;
 const COLUMNS: usize = 269;
 
 /// How many days a line has groups for.
-const DAYS: usize = 31;
+pub(crate) const DAYS: usize = 31;
 
 /// The columns of a group: five of the value, and three of one flag each.
 const GROUP: usize = 8;
@@ -60,6 +59,16 @@ pub struct Month {
     pub days: [Reading; 31],
 }
 
+/// Whose month a line is.
+#[derive(Clone, Copy)]
+pub(crate) struct Head {
+    pub(crate) id: StationId,
+    /// From 1 to 9999.
+    pub(crate) year: u16,
+    /// From 1 to 12.
+    pub(crate) month: u8,
+}
+
 /// Reads a line of a daily file that isn't blank: nothing where it is of none of the five elements.
 ///
 /// The readme's line has 269 columns; that the last three, blanks of a day's flags, may be left out
@@ -81,6 +90,23 @@ pub fn read_month(line: &[u8]) -> Result<Option<Month>, LineWhy>
 fn month_of(element: Element, line: &[u8]) -> Result<Month, LineWhy>
     ensures { result ≡ months.unless (months.month_why line.now) (months.month_of element line.now) }
 {
+    let head = head_of(line)?;
+    let days = readings(line)?;
+    Ok(Month {
+        id: head.id,
+        element,
+        year: head.year,
+        month: head.month,
+        days,
+    })
+}
+
+/// What a line of one of the elements says before its first value.
+pub(crate) fn head_of(line: &[u8]) -> Result<Head, LineWhy>
+    ensures value { result ≡ months.unless (months.head_why line.now) (months.head_of line.now) }
+    ensures long { IfOk result (λ _. 266 ≤ length line.now) }
+    ensures year { IfOk result (λ head. head.year ≤ 9999) }
+{
     if line.len() < LEAST_COLUMNS {
         return Err(LineWhy::Short);
     }
@@ -96,13 +122,10 @@ fn month_of(element: Element, line: &[u8]) -> Result<Month, LineWhy>
     let Some(month) = number_up_to(12, &line[15..17]) else {
         return Err(LineWhy::BadMonth);
     };
-    let days = readings(line)?;
-    Ok(Month {
+    Ok(Head {
         id,
-        element,
         year,
         month: month as u8,
-        days,
     })
 }
 
@@ -129,8 +152,7 @@ fn number_up_to(limit: u16, field: &[u8]) -> Option<u16>
 /// What a line says of each day, or which day's value, the first such one, is no number.
 fn readings(line: &[u8]) -> Result<[Reading; 31], LineWhy>
     requires { 266 ≤ length line.now }
-    ensures { result ≡ months.unless
-        (first_failing (map (months.value_test line.now) months.days_of_group))
+    ensures { result ≡ months.unless (months.days_why line.now)
         (map (months.reading line.now) months.days_of_group) }
 {
     let mut days = [Reading {
@@ -147,7 +169,7 @@ fn readings(line: &[u8]) -> Result<[Reading; 31], LineWhy>
 }
 
 /// What a line says of a day, from 0, unless its value is no number.
-fn reading_of(line: &[u8], day: usize) -> Option<Reading>
+pub(crate) fn reading_of(line: &[u8], day: usize) -> Option<Reading>
     requires long { 266 ≤ length line.now }
     requires day { day < 31 }
     ensures { result ≡ (if stations.is_bad (months.value_field line.now (day + 1)) then None

@@ -215,6 +215,44 @@ fn first_fault_of_a_line(rt: HostRuntime) {
     for (line, why) in cases {
         let found = read_month(line).map(|month| month.is_some());
         assert_eq!(rt; found, Err(why), "at {line:?}");
+        let row = read_days(line).map(|row| row.is_some());
+        assert_eq!(rt; row, Err(why), "the row at {line:?}");
+    }
+}
+
+#[test]
+fn rows_of_months(rt: HostRuntime) {
+    let groups: [(usize, &[u8; 8]); 7] = [
+        (1, b"  311   "),
+        (2, b"  -15   "),
+        (3, b"   70 Q "),
+        (4, b"        "),
+        (28, b"    0M S"),
+        (29, b"   29   "),
+        (31, b"   31   "),
+    ];
+    let cases: [(&[u8; 21], u32, [i32; 5]); 6] = [
+        (b"ZZA00000001202007TMAX", 0x58000003, [311, -15, 0, 29, 31]),
+        (b"ZZA00000001202007PRCP", 0x58000001, [311, 0, 0, 29, 31]),
+        (b"ZZA00000001202006TMIN", 0x18000003, [311, -15, 0, 29, 0]),
+        (b"ZZA00000001202002TMIN", 0x18000003, [311, -15, 0, 29, 0]),
+        (b"ZZA00000001202102SNOW", 0x08000001, [311, 0, 0, 0, 0]),
+        (b"ZZA00000001190002SNWD", 0x08000001, [311, 0, 0, 0, 0]),
+    ];
+    for (head, word, values) in cases {
+        let found = read_days(&line_of(head, &groups)).map(|row| {
+            row.map(|it| (
+                it.word,
+                [
+                    it.values[0],
+                    it.values[1],
+                    it.values[2],
+                    it.values[28],
+                    it.values[30],
+                ],
+            ))
+        });
+        assert_eq!(rt; found, Ok(Some((word, values))), "at {head:?}");
     }
 }
 
@@ -228,6 +266,8 @@ fn lines_of_other_elements(rt: HostRuntime) {
     for line in lines {
         let found = read_month(line).map(|month| month.is_some());
         assert_eq!(rt; found, Ok(false), "at {line:?}");
+        let row = read_days(line).map(|row| row.is_some());
+        assert_eq!(rt; row, Ok(false), "the row at {line:?}");
     }
 }
 

@@ -15,7 +15,8 @@ invariant_of-self-in-Ok c =
     let room : length c.self.inside.list.items < 2 ^ 20 = omega (arith, c.requires.room, ap length c.self.view_is) in
     let P : List Station → Type 0 = λ ss. AreKept ss c.insert.new.self.entries in
     subst P (sym c.in_ok-push.ensures.items) (
-    kept_more c.self.inside.list.items c.self.inside.places.entries c.insert.new.self.entries station c.self.invariant new room c.requires.right
+    kept_more c.self.inside.list.items c.self.inside.places.entries c.insert.new.self.entries station c.self.invariant
+    new room c.requires.right
     (λ id.
     c.in-Ok.ensures.updates.0 (key_of id.0)
     ∙ ap (λ (k : ℕ × ℕ). cond (is_eq (key_cmp k (key_of id.0))) (Some c.len-place.result)

@@ -1,0 +1,33 @@
+use Rattle.std.proofs.Common.{◌≡◌, Option, Result, Ok, Err, Some, sym, ap, subst, ◌∙◌}
+use Rattle.ghcn_files.specs.declared.fault.LineWhy.{LineWhy}
+use Rattle.ghcn_files.specs.declared.row.MonthRow.{MonthRow}
+use Rattle.ghcn_files.specs.Months.{unless, month_of}
+use Rattle.ghcn_files.specs.Rows.{IsRead}
+use Rattle.ghcn_files.proofs.Errors.{err_given}
+use Rattle.ghcn_files.proofs.Months.{read_month-element}
+use Rattle.ghcn_files.proofs.Ranges.{month_of-right}
+use Rattle.ghcn_files.proofs.row.read_days.Goals as goal
+
+-- a line of an element that fails a test
+pub returns-in_err-row_of-in-Some : goal.returns-in_err-row_of-in-Some
+returns-in_err-row_of-in-Some c =
+    let line = c.args.line.now in
+    let element = c.in-Some.element in
+    subst (IsRead line) (sym (err_given _ _ c.from_residual.ensures.1))
+    (read_month-element line element c.if-line-lt-UP_TO_ELEMENT.false (sym c.of_code.ensures ∙ c.in-Some.is)
+    ∙ ap (λ (o : Option LineWhy). unless o (Some (month_of element line))) c.in_err-row_of-in-Some.ensures.err)
+
+-- and one that fails none
+pub returns-in_ok-row_of-in-Some : goal.returns-in_ok-row_of-in-Some
+returns-in_ok-row_of-in-Some c =
+    let line = c.args.line.now in
+    let element = c.in-Some.element in
+    let fine = c.in_ok-row_of-in-Some.ensures.fine in
+    record {
+      month = month_of element line;
+      read =
+          read_month-element line element c.if-line-lt-UP_TO_ELEMENT.false (sym c.of_code.ensures ∙ c.in-Some.is)
+          ∙ ap (λ (o : Option LineWhy). unless o (Some (month_of element line))) fine;
+      right = month_of-right element line fine;
+      row = c.in_ok-row_of-in-Some.ensures.row;
+    }
