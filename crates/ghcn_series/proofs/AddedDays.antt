@@ -1,5 +1,7 @@
 -- A day more, behind all that are held.
-use Rattle.std.proofs.Common.{◌≡◌, ℕ, zero, suc, ◌<◌, ◌^◌, true, false, List, [], ◌∷◌, ◌++◌, length, get_or, Option, Some, None, IsSome, Result, Ok, Err, OnOk, inl, inr, refl, sym, ap, subst, ◌∙◌, arith, ℤ, pos, ◌+ℤ◌, ◌<ℤ◌, ◌≤ℤ◌}
+use Rattle.std.proofs.Common.{◌≡◌, ℕ, zero, suc, ◌<◌, ◌^◌, true, false, List, [], ◌∷◌, ◌++◌, length, get_or, Option}
+use Rattle.std.proofs.Common.{Some, None, IsSome, Result, Ok, Err, OnOk, inl, inr, refl, sym, ap, subst, ◌∙◌, arith, ℤ}
+use Rattle.std.proofs.Common.{pos, ◌+ℤ◌, ◌<ℤ◌, ◌≤ℤ◌}
 use Rattle.std.specs.Prelude.{◌==◌, ◌||◌, ◌&&◌, nat_lt, int_lt, if◌then◌else◌}
 use Rattle.std.specs.Int.{bit_at}
 use Rattle.std.specs.List.{AllByRecursion}
@@ -24,27 +26,33 @@ use Rattle.ghcn_series.proofs.Nexts.{AreOf, block-own, block-nonempty}
 use Rattle.ghcn_series.proofs.RisingDays.{columns-rise, same-from_values, behind}
 
 -- the one day of a word with one bit
-pub single-day : (n : ℤ) (vs : List ℤ) (p : ℕ) → p < 32 → block_days (n, (2 ^ p, vs)) ≡ (block_start n +ℤ pos p, get_or vs p (pos 0)) ∷ []
+pub single-day : (n : ℤ) (vs : List ℤ) (p : ℕ) → p < 32 → block_days (n, (2 ^ p, vs))
+    ≡ (block_start n +ℤ pos p, get_or vs p (pos 0)) ∷ []
 unfolding days_from
 single-day n vs p lt =
     lowest-first n vs (2 ^ p) 0 p 0 32 (omega arith) lt (bit_at-pow_same p) (bit_at-zero p)
     (λ i less. bit_at-pow_other p i (λ e. omega (arith, e, less)))
     (λ i less ne. bit_at-zero i ∙ sym (bit_at-pow_other p i ne))
-    ∙ ap (λ (l : List DayValue). (block_start n +ℤ pos p, get_or vs p (pos 0)) ∷ l) (none-set n vs 0 0 32 (λ i le less. bit_at-zero i))
+    ∙ ap (λ (l : List DayValue). (block_start n +ℤ pos p, get_or vs p (pos 0)) ∷ l)
+    (none-set n vs 0 0 32 (λ i le less. bit_at-zero i))
 
+-- at its place a row of one value has it
 value_here : (j p : ℕ) (v : ℤ) → j ≡ p → (if j == p then v else pos 0) ≡ v
 value_here j p v e = grind (arith, nat_tests)
 
+-- at any other place it has 0
 value_elsewhere : (j p : ℕ) (v : ℤ) → (j ≡ p → ⊥) → (if j == p then v else pos 0) ≡ pos 0
 value_elsewhere j p v ne = grind (arith, nat_tests)
 
 -- the part of one day
-pub single-is : (n : ℤ) (vs : List ℤ) (p : ℕ) (day v : ℤ) → p < 32 → block_start n +ℤ pos p ≡ day → IsRowOf vs p v → block_days (n, (2 ^ p, vs)) ≡ (day, v) ∷ []
+pub single-is : (n : ℤ) (vs : List ℤ) (p : ℕ) (day v : ℤ) → p < 32 → block_start n +ℤ pos p ≡ day → IsRowOf vs p v
+    → block_days (n, (2 ^ p, vs)) ≡ (day, v) ∷ []
 single-is n vs p day v lt is row =
     single-day n vs p lt
     ∙ ap (λ (d : ℤ). (d, get_or vs p (pos 0)) ∷ []) is
     ∙ ap (λ (x : ℤ). (day, x) ∷ []) (row p lt ∙ value_here p p v refl)
 
+-- a word of one bit has no other
 one_place : (p j : ℕ) → bit_at (2 ^ p) j ≡ 1 → j ≡ p
 one_place p j set = elim (cases_lt j p) [
   | inl before ↦ absurd (omega (arith, set, bit_at-pow_other p j (λ e. omega (arith, e, before))))
@@ -55,22 +63,27 @@ one_place p j set = elim (cases_lt j p) [
 ]
 
 -- it is as it may be
-pub single-packed : (n : ℤ) (vs : List ℤ) (p : ℕ) (day v : ℤ) → p < 32 → 2 ^ p < 2 ^ 32 → is_day day ≡ true → block_start n +ℤ pos p ≡ day → IsRowOf vs p v → IsPacked (n, (2 ^ p, vs))
+pub single-packed : (n : ℤ) (vs : List ℤ) (p : ℕ) (day v : ℤ) → p < 32 → 2 ^ p < 2 ^ 32 → is_day day ≡ true
+    → block_start n +ℤ pos p ≡ day → IsRowOf vs p v → IsPacked (n, (2 ^ p, vs))
 single-packed n vs p day v lt fits of is row = record {
   present = pow_pos p;
   fits = fits;
-  zeros = λ j less none. row j less ∙ value_elsewhere j p v (λ e. omega (arith, none, bit_at-pow_same p, ap (bit_at (2 ^ p)) e));
+  zeros = λ j less none. row j less ∙ value_elsewhere j p v
+      (λ e. omega (arith, none, bit_at-pow_same p, ap (bit_at (2 ^ p)) e));
   days = λ j less set. ap (λ (k : ℕ). is_day (block_start n +ℤ pos k)) (one_place p j set) ∙ ap is_day is ∙ of;
 }
 
 -- a day behind all is none of them
 none-before : (days : List DayValue) (day : ℤ) → AreBefore day days → value_on days day ≡ None
 none-before [] day all = refl
-none-before (x ∷ xs) day all = behind x xs day (λ e. let lt = all.0 in omega (arith, ints, e)) ∙ none-before xs day all.1
+none-before (x ∷ xs) day all = behind x xs day (λ e. let lt = all.0 in omega (arith, ints, e))
+    ∙ none-before xs day all.1
 
+-- one day has no value on another
 other_none : (day d v : ℤ) → (day ≡ d → ⊥) → value_on ((day, v) ∷ []) d ≡ None
 other_none day d v ne = behind (day, v) [] d ne
 
+-- what is there isn't missing
 not_none : (o : Option ℤ) → IsSome o → o ≡ None → ⊥
 not_none None some e = let no : false ≡ true = some in absurd cc
 not_none (Some v) some e = absurd cc
@@ -80,7 +93,8 @@ pub single-new : (days more : List DayValue) (day v : ℤ) → more ≡ (day, v)
 single-new days more day v is all d some =
     let one : IsSome (value_on ((day, v) ∷ []) d) = subst (λ (l : List DayValue). IsSome (value_on l d)) is some in
     elim (int_eq day d) as (λ b. int_eq day d ≡ b → value_on days d ≡ None) [
-      | true ↦ λ e. let same : day ≡ d = grind (arith, ints) in subst (λ (z : ℤ). value_on days z ≡ None) same (none-before days day all)
+      | true ↦ λ e. let same : day ≡ d = grind (arith, ints) in subst (λ (z : ℤ). value_on days z ≡ None) same
+          (none-before days day all)
       | false ↦ λ e.
           let ne : day ≡ d → ⊥ = λ same. let hit : int_eq day d ≡ true = grind (arith, ints) in absurd cc in
           absurd (not_none _ one (other_none day d v ne))
@@ -91,19 +105,23 @@ rising-more : (days : List DayValue) (x : DayValue) → AreRising days → AreBe
 rising-more [] x rise all = (tt, tt)
 rising-more (y ∷ ys) x rise all = (last y.0 ys rise.0 all.0, rising-more ys x rise.1 all.1)
   where
-    last : (d : ℤ) (zs : List DayValue) → AllByRecursion (λ z. d <ℤ z.0) zs → d <ℤ x.0 → AllByRecursion (λ z. d <ℤ z.0) (zs ++ x ∷ [])
+    last : (d : ℤ) (zs : List DayValue) → AllByRecursion (λ z. d <ℤ z.0) zs → d <ℤ x.0
+        → AllByRecursion (λ z. d <ℤ z.0) (zs ++ x ∷ [])
     last d [] more lt = (lt, tt)
     last d (z ∷ zs) more lt = (more.0, last d zs more.1 lt)
 
 -- joined days are those held and the new one behind them
-pub day-added : (old new more : List DayValue) (day v : ℤ) → AreRising old → AreRising new → more ≡ (day, v) ∷ [] → AreBefore day old → AreJoined old more new → new ≡ old ++ (day, v) ∷ []
+pub day-added : (old new more : List DayValue) (day v : ℤ) → AreRising old → AreRising new → more ≡ (day, v) ∷ []
+    → AreBefore day old → AreJoined old more new → new ≡ old ++ (day, v) ∷ []
 day-added old new more day v rise_old rise_new is all joined =
     same-from_values new (old ++ (day, v) ∷ []) rise_new (rising-more old (day, v) rise_old all)
-    (λ d. joined d ∙ ap (λ (l : List DayValue). option_or (value_on old d) (value_on l d)) is ∙ sym (value_on-append old ((day, v) ∷ []) d))
+    (λ d. joined d ∙ ap (λ (l : List DayValue). option_or (value_on old d) (value_on l d)) is
+    ∙ sym (value_on-append old ((day, v) ∷ []) d))
 
 -- the days of parts in order rise
 pub ordered-rise : (p : Parts) → AreOrdered p → AreRising (days_held p)
-ordered-rise p is = columns-rise p.numbers.items p.words.items p.values.items (record { blocks = is.parts.blocks; rise = is.parts.rise is.in_order })
+ordered-rise p is = columns-rise p.numbers.items p.words.items p.values.items
+    (record { blocks = is.parts.blocks; rise = is.parts.rise is.in_order })
 
 -- where two facts hold of success, what follows from both does
 pub on_ok_both : {A E P Q R : Type 0} (r : Result A E) → (P → Q → R) → OnOk r P → OnOk r Q → OnOk r R
@@ -112,7 +130,9 @@ on_ok_both (Err e) f p q = tt
 
 -- ---- the last number is at most the day's
 
-first_before : (n : ℤ) (xs : List DayValue) (day : ℤ) → AreOf n xs → 0 < length xs → AreBefore day xs → n ≤ℤ block_of day
+-- a block whose first day is earlier has no later number
+first_before : (n : ℤ) (xs : List DayValue) (day : ℤ) → AreOf n xs → 0 < length xs → AreBefore day xs
+    → n ≤ℤ block_of day
 first_before n [] day own some all = absurd (omega arith)
 first_before n (x ∷ xs) day own some all =
     let of_x = block-holds x.0 in
@@ -121,38 +141,47 @@ first_before n (x ∷ xs) day own some all =
     let here : n ≡ block_of x.0 = sym own.0 in
     omega (arith, ints, of_x.0, of_x.1, of_d.0, of_d.1)
 
+-- where all days come before one, so do the first ones
 before-left : (day : ℤ) (xs ys : List DayValue) → AreBefore day (xs ++ ys) → AreBefore day xs
 before-left day [] ys all = tt
 before-left day (x ∷ xs) ys all = (all.0, before-left day xs ys all.1)
 
+-- and the last ones
 before-right : (day : ℤ) (xs ys : List DayValue) → AreBefore day (xs ++ ys) → AreBefore day ys
 before-right day [] ys all = all
 before-right day (x ∷ xs) ys all = before-right day xs ys all.1
 
 -- a block that holds a day before another comes no later than that day's
-pub numbers-before : (ns : List ℤ) (ws : List ℕ) (vs : List (List ℤ)) (i : ℕ) (day : ℤ) → length ws ≡ length ns → length vs ≡ length ns → i < length ns
-    → AllByRecursion IsPacked (blocks_of ns ws vs) → AreBefore day (days_of (blocks_of ns ws vs)) → get_or ns i (pos 0) ≤ℤ block_of day
+pub numbers-before : (ns : List ℤ) (ws : List ℕ) (vs : List (List ℤ)) (i : ℕ) (day : ℤ) → length ws ≡ length ns
+    → length vs ≡ length ns → i < length ns
+    → AllByRecursion IsPacked (blocks_of ns ws vs) → AreBefore day (days_of (blocks_of ns ws vs))
+    → get_or ns i (pos 0) ≤ℤ block_of day
 numbers-before [] ws vs i day lw lv lt packed all = absurd (omega arith)
 numbers-before (n ∷ ns) [] vs i day lw lv lt packed all = absurd (omega arith)
 numbers-before (n ∷ ns) (w ∷ ws) [] i day lw lv lt packed all = absurd (omega arith)
 numbers-before (n ∷ ns) (w ∷ ws) (v ∷ vs) zero day lw lv lt packed all =
-    first_before n (block_days (n, (w, v))) day (block-own (n, (w, v))) (block-nonempty (n, (w, v)) packed.0.present packed.0.fits)
+    first_before n (block_days (n, (w, v))) day (block-own (n, (w, v)))
+    (block-nonempty (n, (w, v)) packed.0.present packed.0.fits)
     (before-left day (block_days (n, (w, v))) (days_of (blocks_of ns ws vs)) all)
 numbers-before (n ∷ ns) (w ∷ ws) (v ∷ vs) (suc i) day lw lv lt packed all =
     numbers-before ns ws vs i day (omega arith) (omega arith) (omega arith) packed.1
     (before-right day (block_days (n, (w, v))) (days_of (blocks_of ns ws vs)) all)
 
 -- a number that isn't the last, and at least the last, is after it
-pub rises-from : (k : ℕ) (l n : ℤ) → (nat_lt 0 k && int_eq l n) ≡ false → (0 < k → l ≤ℤ n) → (k == 0 || int_lt l n) ≡ true
+pub rises-from : (k : ℕ) (l n : ℤ) → (nat_lt 0 k && int_eq l n) ≡ false → (0 < k → l ≤ℤ n)
+    → (k == 0 || int_lt l n) ≡ true
 rises-from zero l n ends le = refl
 rises-from (suc k) l n ends le = let lt = le (omega arith) in grind (arith, ints, nat_tests)
 
 -- ---- days of a map
 
+-- a number that compares as less is less
 cmp_less : (a b : ℤ) → int_cmp a b ≡ Less → a <ℤ b
 cmp_less a b e = grind (arith, ints)
 
-all_later : (d : ℤ) (xs : List DayValue) → AllByRecursion (λ k. int_cmp d k ≡ Less) (keys_of xs) → AllByRecursion (λ y. d <ℤ y.0) xs
+-- days whose keys are greater are later
+all_later : (d : ℤ) (xs : List DayValue) → AllByRecursion (λ k. int_cmp d k ≡ Less) (keys_of xs)
+    → AllByRecursion (λ y. d <ℤ y.0) xs
 all_later d [] all = tt
 all_later d (x ∷ xs) all = (cmp_less d x.0 all.0, all_later d xs all.1)
 
@@ -162,11 +191,14 @@ unfolding IsStrictlySortedBy
 keys-rise [] sorted = tt
 keys-rise (x ∷ xs) sorted = (all_later x.0 xs sorted.0, keys-rise xs sorted.1)
 
-pick : (d : ℤ) (xs : List DayValue) (x : DayValue) (left : List DayValue) → AllByRecursion (λ y. d <ℤ y.0) (xs ++ x ∷ left) → d <ℤ x.0
+-- a day behind others is among those that are later
+pick : (d : ℤ) (xs : List DayValue) (x : DayValue) (left : List DayValue)
+    → AllByRecursion (λ y. d <ℤ y.0) (xs ++ x ∷ left) → d <ℤ x.0
 pick d [] x left all = all.0
 pick d (y ∷ ys) x left all = pick d ys x left all.1
 
 -- of rising days, those before one come before it
-pub rising-before : (xs : List DayValue) (x : DayValue) (left : List DayValue) → AreRising (xs ++ x ∷ left) → AreBefore x.0 xs
+pub rising-before : (xs : List DayValue) (x : DayValue) (left : List DayValue) → AreRising (xs ++ x ∷ left)
+    → AreBefore x.0 xs
 rising-before [] x left rise = tt
 rising-before (y ∷ ys) x left rise = (pick y.0 ys x left rise.0, rising-before ys x left rise.1)

@@ -1,5 +1,6 @@
 -- Parts without a common day: a part more, and no day of theirs stands twice.
-use Rattle.std.proofs.Common.{◌≡◌, ℕ, zero, suc, ◌+◌, Bool, false, cond, List, [], ◌∷◌, ◌++◌, length, get_or, set, Option, Some, None, IsSome}
+use Rattle.std.proofs.Common.{◌≡◌, ℕ, zero, suc, ◌+◌, Bool, false, cond, List, [], ◌∷◌, ◌++◌, length, get_or, set}
+use Rattle.std.proofs.Common.{Option, Some, None, IsSome}
 use Rattle.std.proofs.Common.{inl, inr, refl, sym, ap, subst, ◌∙◌, arith, ℤ, pos, ◌<ℤ◌}
 use Rattle.std.specs.Prelude.{bit_or}
 use Rattle.std.specs.List.{find, IsDistinct, AllByRecursion}
@@ -16,7 +17,8 @@ use Rattle.ghcn_series.proofs.PartsAdded.{days-pushed, join-last}
 use Rattle.ghcn_series.proofs.RisingDays.{behind, front, block-rises}
 
 -- days that are new beside two lists are new beside both together
-new-both : (days one two both : List DayValue) → AreNew days one → AreNew days two → AreJoined one two both → AreNew days both
+new-both : (days one two both : List DayValue) → AreNew days one → AreNew days two → AreJoined one two both
+    → AreNew days both
 new-both days one two both new_one new_two is d some =
     elim (value_on one d) as (λ o. value_on one d ≡ o → value_on days d ≡ None) [
       | Some v ↦ λ e. new_one d (subst IsSome (sym e) refl)
@@ -30,30 +32,38 @@ new-each xs ys more new = (λ d some. (none d some).0, λ d some. (none d some).
     none : (d : ℤ) → IsSome (value_on more d) → (value_on xs d ≡ None) × (value_on ys d ≡ None)
     none d some = both-none (value_on xs d) (value_on ys d) (sym (value_on-append xs ys d) ∙ new d some)
 
+-- no day is new to any days
 nothing-new : (days : List DayValue) → AreNew days []
 nothing-new days d some = absurd cc
 
 -- a part that is new beside others is apart from them
-pub push-apart : (bs : List Block) (b : Block) → AreDisjoint bs → AreNew (days_of bs) (block_days b) → AreDisjoint (bs ++ b ∷ [])
+pub push-apart : (bs : List Block) (b : Block) → AreDisjoint bs → AreNew (days_of bs) (block_days b)
+    → AreDisjoint (bs ++ b ∷ [])
 push-apart [] b apart fresh = (nothing-new (block_days b), tt)
 push-apart (x ∷ xs) b apart fresh =
-    let each = new-each (block_days x) (days_of xs) (block_days b) fresh in
-    (new-both (block_days x) (days_of xs) (block_days b) (days_of (xs ++ b ∷ [])) apart.0 each.0 (days-pushed xs b), push-apart xs b apart.1 each.1)
+    let each = new-each (block_days x) (days_of xs) (block_days b) fresh in (
+      new-both (block_days x) (days_of xs) (block_days b) (days_of (xs ++ b ∷ [])) apart.0 each.0 (days-pushed xs b),
+      push-apart xs b apart.1 each.1,
+    )
 
 -- and so are the others where its days are joined to the last of them
 pub last-apart : (ns : List ℤ) (ws : List ℕ) (vs : List (List ℤ)) (i : ℕ) (p : ℕ) (r : List ℤ) (more : List DayValue)
     → length ws ≡ length ns → length vs ≡ length ns → i + 1 ≡ length ns
-    → AreJoined (block_days (get_or ns i (pos 0), (get_or ws i 0, get_or vs i []))) more (block_days (get_or ns i (pos 0), (p, r)))
-    → AreDisjoint (blocks_of ns ws vs) → AreNew (days_of (blocks_of ns ws vs)) more → AreDisjoint (blocks_of ns (set ws i p) (set vs i r))
+    → AreJoined (block_days (get_or ns i (pos 0), (get_or ws i 0, get_or vs i []))) more
+    (block_days (get_or ns i (pos 0), (p, r)))
+    → AreDisjoint (blocks_of ns ws vs) → AreNew (days_of (blocks_of ns ws vs)) more
+    → AreDisjoint (blocks_of ns (set ws i p) (set vs i r))
 last-apart [] ws vs i p r more lw lv last is apart fresh = absurd (omega arith)
 last-apart (n ∷ ns) [] vs i p r more lw lv last is apart fresh = absurd (omega arith)
 last-apart (n ∷ ns) (w ∷ ws) [] i p r more lw lv last is apart fresh = absurd (omega arith)
-last-apart (n ∷ []) (w ∷ ws) (v ∷ vs) zero p r more lw lv last is apart fresh = (nothing-new (block_days (n, (p, r))), tt)
+last-apart (n ∷ []) (w ∷ ws) (v ∷ vs) zero p r more lw lv last is apart
+    fresh = (nothing-new (block_days (n, (p, r))), tt)
 last-apart (n ∷ m ∷ ns) (w ∷ ws) (v ∷ vs) zero p r more lw lv last is apart fresh = absurd (omega arith)
 last-apart (n ∷ ns) (w ∷ ws) (v ∷ vs) (suc i) p r more lw lv last is apart fresh =
     let each = new-each (block_days (n, (w, v))) (days_of (blocks_of ns ws vs)) more fresh in
     let joined = last-joined ns ws vs i p r more (omega arith) (omega arith) (omega arith) is in (
-      new-both (block_days (n, (w, v))) (days_of (blocks_of ns ws vs)) more (days_of (blocks_of ns (set ws i p) (set vs i r))) apart.0 each.0 joined,
+      new-both (block_days (n, (w, v))) (days_of (blocks_of ns ws vs)) more
+          (days_of (blocks_of ns (set ws i p) (set vs i r))) apart.0 each.0 joined,
       last-apart ns ws vs i p r more (omega arith) (omega arith) (omega arith) is apart.1 each.1,
     )
 
@@ -68,14 +78,17 @@ module _ (ns : List ℤ) (ws : List ℕ) (vs : List (List ℤ)) (bs : AreBlocks 
 
   -- more days of the last part
   pub join-apart : (i p : ℕ) (u r : List ℤ) → i + 1 ≡ length ns → IsPacked (get_or ns i (pos 0), (p, u))
-      → AreNew (days_of (blocks_of ns ws vs)) (block_days (get_or ns i (pos 0), (p, u))) → JoinsValues (get_or vs i []) u r
+      → AreNew (days_of (blocks_of ns ws vs)) (block_days (get_or ns i (pos 0), (p, u)))
+      → JoinsValues (get_or vs i []) u r
       → AreDisjoint (blocks_of ns ws vs) → AreDisjoint (blocks_of ns (set ws i (bit_or (get_or ws i 0) p)) (set vs i r))
   join-apart i p u r last one fresh row apart =
-      last-apart ns ws vs i (bit_or (get_or ws i 0) p) r (block_days (get_or ns i (pos 0), (p, u))) bs.enough_words bs.enough_values last
+      last-apart ns ws vs i (bit_or (get_or ws i 0) p) r (block_days (get_or ns i (pos 0), (p, u))) bs.enough_words
+      bs.enough_values last
       (join-last ns ws vs bs i p u r last one fresh row) apart fresh
 
 -- ---- no day stands twice
 
+-- two numbers differ in both directions
 other-turned : (a b : ℤ) → int_eq a b ≡ false → int_eq b a ≡ false
 other-turned a b e = grind (arith, ints)
 
@@ -91,10 +104,12 @@ none-is (x ∷ xs) d none = elim (same_block x.0 d) [
     some_not_none v e = cc
 
 -- and a day that is none of them has no value
-pub none-from : (xs : List DayValue) (d : ℤ) → AllByRecursion (λ k. int_eq d k ≡ false) (keys_of xs) → value_on xs d ≡ None
+pub none-from : (xs : List DayValue) (d : ℤ) → AllByRecursion (λ k. int_eq d k ≡ false) (keys_of xs)
+    → value_on xs d ≡ None
 none-from [] d all = refl
 none-from (x ∷ xs) d all =
-    ap (λ (b : Bool). option_map (λ (y : DayValue). y.1) (cond b (Some x) (find (λ y. int_eq y.0 d) xs))) (other-turned d x.0 all.0)
+    ap (λ (b : Bool). option_map (λ (y : DayValue). y.1) (cond b (Some x) (find (λ y. int_eq y.0 d) xs)))
+    (other-turned d x.0 all.0)
     ∙ none-from xs d all.1
 
 -- of days in a row, of which no two are the same, the later are new
@@ -103,7 +118,8 @@ unfolding IsDistinct
 new-behind [] ys distinct d some = refl
 new-behind (x ∷ xs) ys distinct d some = elim (same_block x.0 d) [
   | inl here ↦
-      let none = both-none (value_on xs x.0) (value_on ys x.0) (sym (value_on-append xs ys x.0) ∙ none-from (xs ++ ys) x.0 distinct.0) in
+      let none = both-none (value_on xs x.0) (value_on ys x.0) (sym (value_on-append xs ys x.0)
+      ∙ none-from (xs ++ ys) x.0 distinct.0) in
       absurd (not_both (value_on ys d) some (ap (value_on ys) (sym here) ∙ none.1))
   | inr other ↦ behind x xs d other ∙ new-behind xs ys distinct.1 d some
 ]
@@ -123,7 +139,8 @@ new-distinct (x ∷ xs) ys fresh p q =
       | None ↦ λ e. refl
       | Some v ↦ λ e. absurd (some_not_none x.1 (sym (front x xs) ∙ fresh x.0 (subst IsSome (sym e) refl)))
     ] refl in (
-      none-is (xs ++ ys) x.0 (value_on-append xs ys x.0 ∙ ap (λ (o : Option ℤ). option_or o (value_on ys x.0)) (none-from xs x.0 p.0) ∙ later),
+      none-is (xs ++ ys) x.0 (value_on-append xs ys x.0 ∙ ap (λ (o : Option ℤ). option_or o (value_on ys x.0))
+          (none-from xs x.0 p.0) ∙ later),
       new-distinct xs ys (new-each (x ∷ []) xs ys fresh).1 p.1 q,
     )
   where
@@ -136,13 +153,19 @@ unfolding IsDistinct
 rising-distinct [] rise = tt
 rising-distinct (x ∷ xs) rise = (all_other x.0 xs rise.0, rising-distinct xs rise.1)
   where
-    all_other : (d : ℤ) (ys : List DayValue) → AllByRecursion (λ y. d <ℤ y.0) ys → AllByRecursion (λ k. int_eq d k ≡ false) (keys_of ys)
+    all_other : (d : ℤ) (ys : List DayValue) → AllByRecursion (λ y. d <ℤ y.0) ys
+        → AllByRecursion (λ k. int_eq d k ≡ false) (keys_of ys)
     all_other d [] all = tt
-    all_other d (y ∷ ys) all = let lt = all.0 in (int_eq-no d y.0 (λ e. omega (arith, ints, lt, e)), all_other d ys all.1)
+    all_other d (y ∷ ys) all = let lt = all.0 in (
+      int_eq-no d y.0 (λ e. omega (arith, ints, lt, e)),
+      all_other d ys
+          all.1,
+    )
 
 -- parts that are apart have no day twice
 pub apart-distinct : (bs : List Block) → AreDisjoint bs → IsDistinct int_eq (keys_of (days_of bs))
 unfolding IsDistinct
 apart-distinct [] apart = tt
 apart-distinct (b ∷ bs) apart =
-    new-distinct (block_days b) (days_of bs) apart.0 (rising-distinct (block_days b) (block-rises b)) (apart-distinct bs apart.1)
+    new-distinct (block_days b) (days_of bs) apart.0 (rising-distinct (block_days b) (block-rises b))
+    (apart-distinct bs apart.1)

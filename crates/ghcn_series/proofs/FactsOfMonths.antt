@@ -1,5 +1,6 @@
 -- The facts that count, of one station and element, are the usable days of its months.
-use Rattle.std.proofs.Common.{◌≡◌, ℕ, Bool, true, false, cond, List, [], ◌∷◌, ◌++◌, map, filter, Option, None, Some, refl, sym, ap, ◌∙◌, ℤ, pos}
+use Rattle.std.proofs.Common.{◌≡◌, ℕ, Bool, true, false, cond, List, [], ◌∷◌, ◌++◌, map, filter, Option, None, Some}
+use Rattle.std.proofs.Common.{refl, sym, ap, ◌∙◌, ℤ, pos}
 use Rattle.std.specs.Prelude.{◌&&◌, ◌||◌, int_le}
 use Rattle.std.specs.List.{filter_map, flat_map, enumerate_from, cons_option}
 use Rattle.std.specs.Option.{option_and_then}
@@ -22,6 +23,7 @@ use Rattle.ghcn_files.specs.IdLaws.{same_id-is}
 OfMonth : Month → Fact → Type 0
 OfMonth m f = (f.id ≡ m.id) × (f.element ≡ m.element)
 
+-- a fact of a month has its station, element, day and value
 of_month : (m : Month) (b : Bool) (o v : Option ℤ) (f : Fact) → fact_if m b o v ≡ Some f → OfMonth m f
 unfolding OfMonth
 of_month m true o v f e = absurd cc
@@ -33,9 +35,11 @@ of_month m false (Some n) (Some v) f e =
     (ap (λ (x : Fact). x.id) (sym same), ap (λ (x : Fact). x.element) (sym same))
 
 module _ (stations : List Station) (id : StationId) (e : Element) where
+  -- the fact is of this station and element
   abbrev is_of : Fact → Bool
   is_of f = same_id f.id id && same_element f.element e
 
+  -- a fact's day and value
   abbrev pair : Fact → DayValue
   pair f = (f.day, f.value)
 
@@ -43,52 +47,67 @@ module _ (stations : List Station) (id : StationId) (e : Element) where
   abbrev pub selected : List Fact → List DayValue
   selected facts = map pair (filter is_of (filter (is_usable stations) facts))
 
+  -- what is selected of two lists is that of both
   selected-append : (xs ys : List Fact) → selected (xs ++ ys) ≡ selected xs ++ selected ys
   selected-append xs ys =
       ap (λ fs. map pair (filter is_of fs)) (filter-append (is_usable stations) xs ys)
       ∙ ap (map pair) (filter-append is_of (filter (is_usable stations) xs) (filter (is_usable stations) ys))
       ∙ map-append pair (filter is_of (filter (is_usable stations) xs)) (filter is_of (filter (is_usable stations) ys))
 
-  one_selected : (u c : Bool) (f : Fact) (fs : List Fact) → u ≡ c → is_of f ≡ true → map pair (filter is_of (cond u (f ∷ fs) fs)) ≡ cons_option (cond c (Some (pair f)) None) (map pair (filter is_of fs))
+  -- a fact of the station and element is selected where it counts
+  one_selected : (u c : Bool) (f : Fact) (fs : List Fact) → u ≡ c → is_of f ≡ true
+      → map pair (filter is_of (cond u (f ∷ fs) fs)) ≡ cons_option (cond c (Some (pair f)) None)
+      (map pair (filter is_of fs))
   one_selected true true f fs same of = ap (λ b. map pair (cond b (f ∷ filter is_of fs) (filter is_of fs))) of
   one_selected true false f fs same of = absurd cc
   one_selected false true f fs same of = absurd cc
   one_selected false false f fs same of = refl
 
-  none_selected : (u : Bool) (f : Fact) (fs : List Fact) → is_of f ≡ false → map pair (filter is_of (cond u (f ∷ fs) fs)) ≡ map pair (filter is_of fs)
+  -- a fact of another isn't
+  none_selected : (u : Bool) (f : Fact) (fs : List Fact) → is_of f ≡ false
+      → map pair (filter is_of (cond u (f ∷ fs) fs)) ≡ map pair (filter is_of fs)
   none_selected true f fs of = ap (λ b. map pair (cond b (f ∷ filter is_of fs) (filter is_of fs))) of
   none_selected false f fs of = refl
 
+  -- a fact is of a station and element where its month is
   is_of-month : (m : Month) (f : Fact) → OfMonth m f → is_of f ≡ (same_id m.id id && same_element m.element e)
   unfolding OfMonth
-  is_of-month m f of = ap (λ (i : StationId). same_id i id && same_element f.element e) of.0 ∙ ap (λ (x : Element). same_id m.id id && same_element x e) of.1
+  is_of-month m f of = ap (λ (i : StationId). same_id i id && same_element f.element e) of.0
+      ∙ ap (λ (x : Element). same_id m.id id && same_element x e) of.1
 
+  -- a passed test changes nothing before another
   and_true : (a b : Bool) → a ≡ true → (a && b) ≡ b
   and_true true b p = refl
   and_true false b p = absurd cc
 
+  -- where both tests are passed, the first one is
   first_true : (a b : Bool) → (a && b) ≡ true → a ≡ true
   first_true true b p = refl
   first_true false b p = absurd cc
 
   -- of a month of the station and element
-  selected-this : (m : Month) (xs : List (ℕ × Reading)) → is_listed stations id ≡ true → (same_id m.id id && same_element m.element e) ≡ true → selected (filter_map (fact_of m) xs) ≡ filter_map (usable_day m) xs
+  selected-this : (m : Month) (xs : List (ℕ × Reading)) → is_listed stations id ≡ true
+      → (same_id m.id id && same_element m.element e) ≡ true → selected (filter_map (fact_of m) xs)
+      ≡ filter_map (usable_day m) xs
   unfolding OfMonth
   selected-this m [] listed this = refl
   selected-this m (x ∷ xs) listed this =
-      elim (fact_of m x) as (λ o. fact_of m x ≡ o → selected (cons_option o (filter_map (fact_of m) xs)) ≡ cons_option (option_and_then counted o) (filter_map (usable_day m) xs)) [
+      elim (fact_of m x) as (λ o. fact_of m x ≡ o → selected (cons_option o (filter_map (fact_of m) xs))
+      ≡ cons_option (option_and_then counted o) (filter_map (usable_day m) xs)) [
         | None ↦ λ is. selected-this m xs listed this
         | Some f ↦ λ is.
             let of = of_month m x.1.flagged _ x.1.value f is in
             let same : m.id ≡ id = same_id-is m.id id (first_true (same_id m.id id) (same_element m.element e) this) in
             let known : is_listed stations f.id ≡ true = ap (is_listed stations) (of.0 ∙ same) ∙ listed in
             let counts : Bool = may_be_negative f.element || int_le (pos 0) f.value in
-            one_selected (is_usable stations f) counts f (filter (is_usable stations) (filter_map (fact_of m) xs)) (and_true (is_listed stations f.id) counts known) (is_of-month m f of ∙ this)
+            one_selected (is_usable stations f) counts f (filter (is_usable stations) (filter_map (fact_of m) xs))
+            (and_true (is_listed stations f.id) counts known) (is_of-month m f of ∙ this)
             ∙ ap (λ ds. cons_option (cond counts (Some (pair f)) None) ds) (selected-this m xs listed this)
       ] refl
 
   -- of any other month
-  selected-other : (m : Month) (xs : List (ℕ × Reading)) → (same_id m.id id && same_element m.element e) ≡ false → selected (filter_map (fact_of m) xs) ≡ []
+  selected-other : (m : Month) (xs : List (ℕ × Reading)) → (same_id m.id id && same_element m.element e) ≡ false
+      → selected (filter_map (fact_of m) xs) ≡ []
   unfolding OfMonth
   selected-other m [] other = refl
   selected-other m (x ∷ xs) other =
@@ -96,16 +115,23 @@ module _ (stations : List Station) (id : StationId) (e : Element) where
         | None ↦ λ is. selected-other m xs other
         | Some f ↦ λ is.
             let of = of_month m x.1.flagged _ x.1.value f is in
-            none_selected (is_usable stations f) f (filter (is_usable stations) (filter_map (fact_of m) xs)) (is_of-month m f of ∙ other)
+            none_selected (is_usable stations f) f (filter (is_usable stations) (filter_map (fact_of m) xs))
+            (is_of-month m f of ∙ other)
             ∙ selected-other m xs other
       ] refl
 
   -- of all months
-  pub selected-months : (ms : List Month) → is_listed stations id ≡ true → selected (flat_map facts_of ms) ≡ flat_map usable_days (months_of ms id e)
+  pub selected-months : (ms : List Month) → is_listed stations id ≡ true → selected (flat_map facts_of ms)
+      ≡ flat_map usable_days (months_of ms id e)
   selected-months [] listed = refl
   selected-months (m ∷ ms) listed =
       selected-append (facts_of m) (flat_map facts_of ms)
-      ∙ elim (same_id m.id id && same_element m.element e) as (λ b. (same_id m.id id && same_element m.element e) ≡ b → selected (facts_of m) ++ selected (flat_map facts_of ms) ≡ flat_map usable_days (cond b (m ∷ months_of ms id e) (months_of ms id e))) [
-        | true ↦ λ this. ap (λ ds. ds ++ selected (flat_map facts_of ms)) (selected-this m (enumerate_from 1 m.days) listed this) ∙ ap (λ ds. usable_days m ++ ds) (selected-months ms listed)
-        | false ↦ λ other. ap (λ ds. ds ++ selected (flat_map facts_of ms)) (selected-other m (enumerate_from 1 m.days) other) ∙ selected-months ms listed
+      ∙ elim (same_id m.id id && same_element m.element e) as (λ b. (same_id m.id id && same_element m.element e) ≡ b
+      → selected (facts_of m) ++ selected (flat_map facts_of ms)
+      ≡ flat_map usable_days (cond b (m ∷ months_of ms id e) (months_of ms id e))) [
+        | true ↦ λ this. ap (λ ds. ds ++ selected (flat_map facts_of ms))
+            (selected-this m (enumerate_from 1 m.days) listed this)
+            ∙ ap (λ ds. usable_days m ++ ds) (selected-months ms listed)
+        | false ↦ λ other. ap (λ ds. ds ++ selected (flat_map facts_of ms))
+            (selected-other m (enumerate_from 1 m.days) other) ∙ selected-months ms listed
       ] refl

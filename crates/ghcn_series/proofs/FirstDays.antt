@@ -1,5 +1,7 @@
 -- The first day of a block, and the days behind it.
-use Rattle.std.proofs.Common.{◌≡◌, ◌≢◌, ℕ, zero, suc, ◌+◌, ◌*◌, ◌%◌, ◌<◌, ◌≤◌, ◌^◌, Bool, true, List, [], ◌∷◌, ◌++◌, length, get_or, Option, Some, None, inl, inr, refl, sym, ap, ◌∙◌, arith, ℤ, pos, ◌+ℤ◌, w32}
+use Rattle.std.proofs.Common.{◌≡◌, ◌≢◌, ℕ, zero, suc, ◌+◌, ◌*◌, ◌%◌, ◌<◌, ◌≤◌, ◌^◌, Bool, true, List, [], ◌∷◌, ◌++◌}
+use Rattle.std.proofs.Common.{length, get_or, Option, Some, None, inl, inr, refl, sym, ap, ◌∙◌, arith, ℤ, pos, ◌+ℤ◌}
+use Rattle.std.proofs.Common.{w32}
 use Rattle.std.specs.Prelude.{◌==◌, bit_and}
 use Rattle.std.specs.Int.{bit_at, bit_not, trailing_zeros}
 use Rattle.std.specs.List.{cons_option, filter_map, range_with_len}
@@ -12,7 +14,8 @@ use Rattle.std.specs.Iterator.{YieldsFirst}
 use Rattle.std.specs.List.{AllByRecursion}
 use Rattle.ghcn_fields.specs.Days.{is_day, day_if, IsBlock}
 use Rattle.ghcn_series.specs.Series.{DayValue}
-use Rattle.ghcn_series.specs.Packed.{block_start, if_so, day_at, block_days, days_from, days_of, blocks_of, AreDays, IsPacked}
+use Rattle.ghcn_series.specs.Packed.{block_start, if_so, day_at, block_days, days_from, days_of, blocks_of, AreDays}
+use Rattle.ghcn_series.specs.Packed.{IsPacked}
 
 -- the day at a place, where a bit that is read tells whether it is present
 place : ℤ → List ℤ → ℕ → ℕ → List DayValue → List DayValue
@@ -25,10 +28,12 @@ unfolding place
 same-bits n vs w v s zero same = refl
 same-bits n vs w v s (suc m) same =
     ap (place n vs s (bit_at w s)) (same-bits n vs w v (s + 1) m (λ i le lt. same i (omega arith) (omega arith)))
-    ∙ ap (λ (bit : ℕ). place n vs s bit (filter_map (day_at (n, (v, vs))) (range_with_len (s + 1) m))) (same s (omega arith) (omega arith))
+    ∙ ap (λ (bit : ℕ). place n vs s bit (filter_map (day_at (n, (v, vs))) (range_with_len (s + 1) m)))
+    (same s (omega arith) (omega arith))
 
 -- a word without bits at some places has no days there
-pub none-set : (n : ℤ) (vs : List ℤ) (w : ℕ) (s m : ℕ) → ((i : ℕ) → s ≤ i → i < s + m → bit_at w i ≡ 0) → filter_map (day_at (n, (w, vs))) (range_with_len s m) ≡ []
+pub none-set : (n : ℤ) (vs : List ℤ) (w : ℕ) (s m : ℕ) → ((i : ℕ) → s ≤ i → i < s + m → bit_at w i ≡ 0)
+    → filter_map (day_at (n, (w, vs))) (range_with_len s m) ≡ []
 unfolding place
 none-set n vs w s zero none = refl
 none-set n vs w s (suc m) none =
@@ -40,7 +45,8 @@ pub lowest-first : (n : ℤ) (vs : List ℤ) (w v t : ℕ) (s m : ℕ) → s ≤
     → bit_at w t ≡ 1 → bit_at v t ≡ 0
     → ((i : ℕ) → i < t → bit_at w i ≡ 0)
     → ((i : ℕ) → i < s + m → i ≢ t → bit_at v i ≡ bit_at w i)
-    → filter_map (day_at (n, (w, vs))) (range_with_len s m) ≡ (block_start n +ℤ pos t, get_or vs t (pos 0)) ∷ filter_map (day_at (n, (v, vs))) (range_with_len s m)
+    → filter_map (day_at (n, (w, vs))) (range_with_len s m) ≡ (block_start n +ℤ pos t, get_or vs t (pos 0))
+    ∷ filter_map (day_at (n, (v, vs))) (range_with_len s m)
 unfolding place
 lowest-first n vs w v t s zero le lt set cleared below other = absurd (omega arith)
 lowest-first n vs w v t s (suc m) le lt set cleared below other =
@@ -50,16 +56,22 @@ lowest-first n vs w v t s (suc m) le lt set cleared below other =
           let neither : bit_at w s ≡ 0 = below s before in
           let nor : bit_at v s ≡ 0 = other s (omega arith) (omega arith) ∙ neither in
           ap (λ (bit : ℕ). place n vs s bit (filter_map (day_at (n, (w, vs))) (range_with_len (s + 1) m))) neither
-          ∙ lowest-first n vs w v t (s + 1) m (omega arith) (omega arith) set cleared below (λ i less ne. other i (omega arith) ne)
-          ∙ ap (λ (bit : ℕ). first ∷ place n vs s bit (filter_map (day_at (n, (v, vs))) (range_with_len (s + 1) m))) (sym nor)
+          ∙ lowest-first n vs w v t (s + 1) m (omega arith) (omega arith) set cleared below
+          (λ i less ne. other i (omega arith) ne)
+          ∙ ap (λ (bit : ℕ). first ∷ place n vs s bit (filter_map (day_at (n, (v, vs))) (range_with_len (s + 1) m)))
+          (sym nor)
       | inr here ↦
           let is : s ≡ t = omega arith in
-          let same : filter_map (day_at (n, (w, vs))) (range_with_len (s + 1) m) ≡ filter_map (day_at (n, (v, vs))) (range_with_len (s + 1) m) =
+          let same : filter_map (day_at (n, (w, vs))) (range_with_len (s + 1) m) ≡ filter_map (day_at (n, (v, vs)))
+          (range_with_len (s + 1) m) =
           same-bits n vs w v (s + 1) m (λ i more less. sym (other i (omega arith) (omega arith))) in
           ap (place n vs s (bit_at w s)) same
-          ∙ ap (λ (bit : ℕ). place n vs s bit (filter_map (day_at (n, (v, vs))) (range_with_len (s + 1) m))) (ap (bit_at w) is ∙ set)
-          ∙ ap (λ (k : ℕ). (block_start n +ℤ pos k, get_or vs k (pos 0)) ∷ filter_map (day_at (n, (v, vs))) (range_with_len (s + 1) m)) is
-          ∙ ap (λ (bit : ℕ). first ∷ place n vs s bit (filter_map (day_at (n, (v, vs))) (range_with_len (s + 1) m))) (sym (ap (bit_at v) is ∙ cleared))
+          ∙ ap (λ (bit : ℕ). place n vs s bit (filter_map (day_at (n, (v, vs))) (range_with_len (s + 1) m)))
+          (ap (bit_at w) is ∙ set)
+          ∙ ap (λ (k : ℕ). (block_start n +ℤ pos k, get_or vs k (pos 0)) ∷ filter_map (day_at (n, (v, vs)))
+          (range_with_len (s + 1) m)) is
+          ∙ ap (λ (bit : ℕ). first ∷ place n vs s bit (filter_map (day_at (n, (v, vs))) (range_with_len (s + 1) m)))
+          (sym (ap (bit_at v) is ∙ cleared))
     ]
 
 -- a block whose word is 0 has no days
@@ -73,7 +85,8 @@ without_lowest w = bit_and w (bit_not w32 (1 * 2 ^ trailing_zeros w32 w % 2 ^ 32
 
 -- the first day of a block is at the lowest bit of its word
 pub block-first : (n : ℤ) (vs : List ℤ) (w : ℕ) → 0 < w → w < 2 ^ 32
-    → block_days (n, (w, vs)) ≡ (block_start n +ℤ pos (trailing_zeros w32 w), get_or vs (trailing_zeros w32 w) (pos 0)) ∷ block_days (n, (without_lowest w, vs))
+    → block_days (n, (w, vs)) ≡ (block_start n +ℤ pos (trailing_zeros w32 w), get_or vs (trailing_zeros w32 w) (pos 0))
+    ∷ block_days (n, (without_lowest w, vs))
 unfolding days_from
 block-first n vs w some fits =
     let lowest = bit_at-trailing_zeros w32 w some fits in
@@ -86,7 +99,8 @@ pub day-range : (d : ℤ) → is_day d ≡ true → (neg_ℤ (pos 719_162) ≤�
 day-range d e = grind (arith, ints)
 
 -- the day of a word's lowest bit is a day of the calendar
-pub lowest-day : (n : ℤ) (w : ℕ) → AreDays n w → 0 < w → w < 2 ^ 32 → is_day (block_start n +ℤ pos (trailing_zeros w32 w)) ≡ true
+pub lowest-day : (n : ℤ) (w : ℕ) → AreDays n w → 0 < w → w < 2 ^ 32
+    → is_day (block_start n +ℤ pos (trailing_zeros w32 w)) ≡ true
 lowest-day n w are some fits =
     let lowest = bit_at-trailing_zeros w32 w some fits in
     are.days (trailing_zeros w32 w) lowest.0 lowest.1
@@ -98,12 +112,14 @@ days-left n w are some fits = record {
       let t : ℕ = trailing_zeros w32 w in
       let lowest = bit_at-trailing_zeros w32 w some fits in
       let gone : bit_at (without_lowest w) t ≡ 0 = bit_at_clear_same w32 w t lowest.0 in
-      let other : j ≢ t = λ same. let both : bit_at (without_lowest w) t ≡ 1 = subst (λ (k : ℕ). bit_at (without_lowest w) k ≡ 1) same set in absurd (omega arith) in
+      let other : j ≢ t = λ same. let both : bit_at (without_lowest w) t
+      ≡ 1 = subst (λ (k : ℕ). bit_at (without_lowest w) k ≡ 1) same set in absurd (omega arith) in
       are.days j lt (sym (bit_at_clear_other w32 w t lowest.0 j lt other) ∙ set);
 }
 
 -- the blocks of columns, the first apart
-pub blocks-first : (n : ℤ) (w : ℕ) (vs : List ℤ) (ns : List ℤ) (ws : List ℕ) (vss : List (List ℤ)) → days_of (blocks_of (n ∷ ns) (w ∷ ws) (vs ∷ vss)) ≡ block_days (n, (w, vs)) ++ days_of (blocks_of ns ws vss)
+pub blocks-first : (n : ℤ) (w : ℕ) (vs : List ℤ) (ns : List ℤ) (ws : List ℕ) (vss : List (List ℤ))
+    → days_of (blocks_of (n ∷ ns) (w ∷ ws) (vs ∷ vss)) ≡ block_days (n, (w, vs)) ++ days_of (blocks_of ns ws vss)
 blocks-first n w vs ns ws vss = refl
 
 -- the block of a day of the calendar
@@ -114,21 +130,27 @@ block-of_day n j lt is =
 
 -- the block of a word with a bit
 pub lowest-block : (n : ℤ) (w : ℕ) → AreDays n w → 0 < w → w < 2 ^ 32 → IsBlock n
-lowest-block n w are some fits = block-of_day n (trailing_zeros w32 w) (bit_at-trailing_zeros w32 w some fits).0 (lowest-day n w are some fits)
+lowest-block n w are some fits = block-of_day n (trailing_zeros w32 w) (bit_at-trailing_zeros w32 w some fits).0
+    (lowest-day n w are some fits)
 
 -- the day of the lowest bit, as it is tested
-pub lowest-if : (n : ℤ) (w : ℕ) → AreDays n w → 0 < w → w < 2 ^ 32 → day_if (block_start n +ℤ pos (trailing_zeros w32 w)) ≡ Some (block_start n +ℤ pos (trailing_zeros w32 w))
+pub lowest-if : (n : ℤ) (w : ℕ) → AreDays n w → 0 < w → w < 2 ^ 32
+    → day_if (block_start n +ℤ pos (trailing_zeros w32 w)) ≡ Some (block_start n +ℤ pos (trailing_zeros w32 w))
 lowest-if n w are some fits =
     let day : ℤ = block_start n +ℤ pos (trailing_zeros w32 w) in
     ap (λ (t : Bool). cond t (Some day) None) (lowest-day n w are some fits)
 
 -- what comes of the first days of two parts, of which the first has one
-pub yields-before : (r : Option DayValue) (cur new rest : List DayValue) → 0 < length cur → YieldsFirst (λ (days : List DayValue). days) cur r new → YieldsFirst (λ (days : List DayValue). days) (cur ++ rest) r (new ++ rest)
-yields-before None cur new rest some y = let none : length cur ≡ 0 = ap (λ (l : List DayValue). length l) y.0 in absurd (omega arith)
+pub yields-before : (r : Option DayValue) (cur new rest : List DayValue) → 0 < length cur
+    → YieldsFirst (λ (days : List DayValue). days) cur r new
+    → YieldsFirst (λ (days : List DayValue). days) (cur ++ rest) r (new ++ rest)
+yields-before None cur new rest some y = let none : length cur ≡ 0 = ap (λ (l : List DayValue). length l) y.0 in absurd
+    (omega arith)
 yields-before (Some x) cur new rest some y = ap (λ (l : List DayValue). l ++ rest) y
 
 -- the first of some blocks is as it may be
-pub first-packed : (n : ℤ) (w : ℕ) (vs : List ℤ) (ns : List ℤ) (ws : List ℕ) (vss : List (List ℤ)) → AllByRecursion IsPacked (blocks_of (n ∷ ns) (w ∷ ws) (vs ∷ vss)) → IsPacked (n, (w, vs))
+pub first-packed : (n : ℤ) (w : ℕ) (vs : List ℤ) (ns : List ℤ) (ws : List ℕ) (vss : List (List ℤ))
+    → AllByRecursion IsPacked (blocks_of (n ∷ ns) (w ∷ ws) (vs ∷ vss)) → IsPacked (n, (w, vs))
 first-packed n w vs ns ws vss all = all.0
 
 -- days behind a first one are fewer

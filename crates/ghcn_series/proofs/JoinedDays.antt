@@ -1,5 +1,6 @@
 -- Days of a block that join those that are held.
-use Rattle.std.proofs.Common.{◌≡◌, ℕ, zero, suc, ◌+◌, ◌<◌, ◌^◌, true, false, List, [], ◌∷◌, ◌++◌, length, get_or, set, Option, Some, None, inl, inr, refl, sym, ap, subst, ◌∙◌, arith, ℤ, pos, ◌+ℤ◌, w32}
+use Rattle.std.proofs.Common.{◌≡◌, ℕ, zero, suc, ◌+◌, ◌<◌, ◌^◌, true, false, List, [], ◌∷◌, ◌++◌, length, get_or, set}
+use Rattle.std.proofs.Common.{Option, Some, None, inl, inr, refl, sym, ap, subst, ◌∙◌, arith, ℤ, pos, ◌+ℤ◌, w32}
 use Rattle.std.specs.Prelude.{◌==◌, bit_or}
 use Rattle.std.specs.Int.{bit_at}
 use Rattle.std.specs.List.{AllByRecursion}
@@ -25,6 +26,7 @@ pub both-none : (a b : Option ℤ) → option_or a b ≡ None → (a ≡ None) �
 both-none None b e = (refl, e)
 both-none (Some x) b e = absurd cc
 
+-- two numbers are equal or differ
 pub same_block : (a b : ℤ) → (a ≡ b) ⊎ (a ≡ b → ⊥)
 same_block a b =
     elim (int_eq a b) as (λ t. int_eq a b ≡ t → (a ≡ b) ⊎ (a ≡ b → ⊥)) [
@@ -53,9 +55,13 @@ module _ (w p : ℕ) (v u r : List ℤ) (j : ℕ)
         ∙ ap (if_so (bit_at p j == 1)) (row.second (zeros_w absent))
         ∙ sym (ap (λ (o : Option ℤ). option_or o (value_at p u j)) mine)
     | inr present ↦
-        let other : bit_at p j ≡ 0 = elim (bit_cases p j) [ inl none ↦ none | inr both ↦ absurd (apart present both) ] in
+        let other : bit_at p j ≡ 0 = elim (bit_cases p j) [
+          | inl none ↦ none
+          | inr both ↦ absurd (apart present both)
+        ] in
         let bit : bit_at (bit_or w p) j ≡ 1 = omega (arith, bit_at_or w p j) in
-        let mine : value_at w v j ≡ Some (get_or v j (pos 0)) = ap (λ (b : ℕ). if_so (b == 1) (get_or v j (pos 0))) present in
+        let mine : value_at w v j ≡ Some (get_or v j (pos 0)) = ap (λ (b : ℕ). if_so (b == 1) (get_or v j (pos 0)))
+        present in
         ap (λ (b : ℕ). if_so (b == 1) (get_or r j (pos 0))) bit
         ∙ ap Some (row.first (zeros_p other))
         ∙ sym (ap (λ (o : Option ℤ). option_or o (value_at p u j)) mine)
@@ -65,16 +71,21 @@ module _ (w p : ℕ) (v u r : List ℤ) (j : ℕ)
 pub record AreApart (w p : ℕ) : Type 0 where
   pub apart : (j : ℕ) → j < 32 → bit_at w j ≡ 1 → bit_at p j ≡ 1 → ⊥
 
-module _ (n : ℤ) (w p : ℕ) (v u r : List ℤ) (a : IsPacked (n, (w, v))) (b : IsPacked (n, (p, u))) (apart : AreApart w p) (row : JoinsValues v u r) where
+module _ (n : ℤ) (w p : ℕ) (v u r : List ℤ) (a : IsPacked (n, (w, v))) (b : IsPacked (n, (p, u))) (apart : AreApart w p)
+    (row : JoinsValues v u r) where
+  -- on a day the new part has the value of one of the two
   Joined : ℤ → Type 0
-  Joined d = value_on (block_days (n, (bit_or w p, r))) d ≡ option_or (value_on (block_days (n, (w, v))) d) (value_on (block_days (n, (p, u))) d)
+  Joined d = value_on (block_days (n, (bit_or w p, r))) d ≡ option_or (value_on (block_days (n, (w, v))) d)
+      (value_on (block_days (n, (p, u))) d)
 
+  -- so it is at each place of the block
   at_places : (j : ℕ) → j < 32 → Joined (block_start n +ℤ pos j)
   unfolding Joined
   at_places j lt =
       block-value (n, (bit_or w p, r)) j lt
       ∙ value-joined w p v u r j (a.zeros j lt) (b.zeros j lt) (apart.apart j lt) (row j lt)
-      ∙ sym (ap (λ (o : Option ℤ). option_or o (value_on (block_days (n, (p, u))) (block_start n +ℤ pos j))) (block-value (n, (w, v)) j lt)
+      ∙ sym (ap (λ (o : Option ℤ). option_or o (value_on (block_days (n, (p, u))) (block_start n +ℤ pos j)))
+      (block-value (n, (w, v)) j lt)
       ∙ ap (option_or (value_at w v j)) (block-value (n, (p, u)) j lt))
 
   -- the joined block has the days of both
@@ -85,7 +96,8 @@ module _ (n : ℤ) (w p : ℕ) (v u r : List ℤ) (a : IsPacked (n, (w, v))) (b 
         at_day Joined d (subst (λ (b : ℤ). (j : ℕ) → j < 32 → Joined (block_start b +ℤ pos j)) here at_places)
     | inr other ↦
         block-other (n, (bit_or w p, r)) d other
-        ∙ sym (ap (λ (o : Option ℤ). option_or o (value_on (block_days (n, (p, u))) d)) (block-other (n, (w, v)) d other) ∙ block-other (n, (p, u)) d other)
+        ∙ sym (ap (λ (o : Option ℤ). option_or o (value_on (block_days (n, (p, u))) d))
+        (block-other (n, (w, v)) d other) ∙ block-other (n, (p, u)) d other)
   ]
 
   -- and is as it may be
@@ -103,6 +115,7 @@ module _ (n : ℤ) (w p : ℕ) (v u r : List ℤ) (a : IsPacked (n, (w, v))) (b 
     ];
   }
 
+-- a first choice is the same in either grouping
 pub or_assoc : (a b c : Option ℤ) → option_or a (option_or b c) ≡ option_or (option_or a b) c
 or_assoc None b c = refl
 or_assoc (Some x) b c = refl
@@ -110,26 +123,30 @@ or_assoc (Some x) b c = refl
 -- the last block joined with more days: all days are joined with them
 pub last-joined : (ns : List ℤ) (ws : List ℕ) (vs : List (List ℤ)) (i : ℕ) (p : ℕ) (r : List ℤ) (more : List DayValue)
     → length ws ≡ length ns → length vs ≡ length ns → i + 1 ≡ length ns
-    → AreJoined (block_days (get_or ns i (pos 0), (get_or ws i 0, get_or vs i []))) more (block_days (get_or ns i (pos 0), (p, r)))
+    → AreJoined (block_days (get_or ns i (pos 0), (get_or ws i 0, get_or vs i []))) more
+    (block_days (get_or ns i (pos 0), (p, r)))
     → AreJoined (days_of (blocks_of ns ws vs)) more (days_of (blocks_of ns (set ws i p) (set vs i r)))
 last-joined [] ws vs i p r more lw lv last is d = absurd (omega arith)
 last-joined (n ∷ ns) [] vs i p r more lw lv last is d = absurd (omega arith)
 last-joined (n ∷ ns) (w ∷ ws) [] i p r more lw lv last is d = absurd (omega arith)
 last-joined (n ∷ []) (w ∷ ws) (v ∷ vs) zero p r more lw lv last is d =
     value_on-append (block_days (n, (p, r))) [] d ∙ or_none (value_on (block_days (n, (p, r))) d) ∙ is d
-    ∙ sym (ap (λ (o : Option ℤ). option_or o (value_on more d)) (value_on-append (block_days (n, (w, v))) [] d ∙ or_none (value_on (block_days (n, (w, v))) d)))
+    ∙ sym (ap (λ (o : Option ℤ). option_or o (value_on more d)) (value_on-append (block_days (n, (w, v))) [] d
+    ∙ or_none (value_on (block_days (n, (w, v))) d)))
 last-joined (n ∷ m ∷ ns) (w ∷ ws) (v ∷ vs) zero p r more lw lv last is d = absurd (omega arith)
 last-joined (n ∷ ns) (w ∷ ws) (v ∷ vs) (suc i) p r more lw lv last is d =
     let old : List DayValue = days_of (blocks_of ns ws vs) in
     let new : List DayValue = days_of (blocks_of ns (set ws i p) (set vs i r)) in
     value_on-append (block_days (n, (w, v))) new d
-    ∙ ap (option_or (value_on (block_days (n, (w, v))) d)) (last-joined ns ws vs i p r more (omega arith) (omega arith) (omega arith) is d)
+    ∙ ap (option_or (value_on (block_days (n, (w, v))) d))
+    (last-joined ns ws vs i p r more (omega arith) (omega arith) (omega arith) is d)
     ∙ or_assoc (value_on (block_days (n, (w, v))) d) (value_on old d) (value_on more d)
     ∙ sym (ap (λ (o : Option ℤ). option_or o (value_on more d)) (value_on-append (block_days (n, (w, v))) old d))
 
 -- and the blocks are as they may be
 pub last-packed : (ns : List ℤ) (ws : List ℕ) (vs : List (List ℤ)) (i : ℕ) (p : ℕ) (r : List ℤ)
-    → AllByRecursion IsPacked (blocks_of ns ws vs) → IsPacked (get_or ns i (pos 0), (p, r)) → AllByRecursion IsPacked (blocks_of ns (set ws i p) (set vs i r))
+    → AllByRecursion IsPacked (blocks_of ns ws vs) → IsPacked (get_or ns i (pos 0), (p, r))
+    → AllByRecursion IsPacked (blocks_of ns (set ws i p) (set vs i r))
 last-packed [] ws vs i p r all one = tt
 last-packed (n ∷ ns) [] vs i p r all one = tt
 last-packed (n ∷ ns) (w ∷ ws) [] zero p r all one = tt
@@ -138,45 +155,59 @@ last-packed (n ∷ ns) (w ∷ ws) (v ∷ vs) zero p r all one = (one, all.1)
 last-packed (n ∷ ns) (w ∷ ws) (v ∷ vs) (suc i) p r all one = (all.0, last-packed ns ws vs i p r all.1 one)
 
 -- one block more: all days are joined with its own
-pub pushed-blocks : (ns : List ℤ) (ws : List ℕ) (vs : List (List ℤ)) (n : ℤ) (w : ℕ) (v : List ℤ) → length ws ≡ length ns → length vs ≡ length ns
+pub pushed-blocks : (ns : List ℤ) (ws : List ℕ) (vs : List (List ℤ)) (n : ℤ) (w : ℕ) (v : List ℤ)
+    → length ws ≡ length ns → length vs ≡ length ns
     → blocks_of (ns ++ n ∷ []) (ws ++ w ∷ []) (vs ++ v ∷ []) ≡ blocks_of ns ws vs ++ (n, (w, v)) ∷ []
 pushed-blocks [] [] [] n w v lw lv = refl
 pushed-blocks [] [] (v' ∷ vs) n w v lw lv = absurd (omega arith)
 pushed-blocks [] (w' ∷ ws) vs n w v lw lv = absurd (omega arith)
 pushed-blocks (n' ∷ ns) [] vs n w v lw lv = absurd (omega arith)
 pushed-blocks (n' ∷ ns) (w' ∷ ws) [] n w v lw lv = absurd (omega arith)
-pushed-blocks (n' ∷ ns) (w' ∷ ws) (v' ∷ vs) n w v lw lv = ap (λ (l : List Block). (n', (w', v')) ∷ l) (pushed-blocks ns ws vs n w v (omega arith) (omega arith))
+pushed-blocks (n' ∷ ns) (w' ∷ ws) (v' ∷ vs) n w v lw lv = ap (λ (l : List Block). (n', (w', v')) ∷ l)
+    (pushed-blocks ns ws vs n w v (omega arith) (omega arith))
 
 -- a day that none of the blocks has isn't in the one at a place
-pub none-at : (ns : List ℤ) (ws : List ℕ) (vs : List (List ℤ)) (i : ℕ) (d : ℤ) → length ws ≡ length ns → length vs ≡ length ns → i < length ns
-    → value_on (days_of (blocks_of ns ws vs)) d ≡ None → value_on (block_days (get_or ns i (pos 0), (get_or ws i 0, get_or vs i []))) d ≡ None
+pub none-at : (ns : List ℤ) (ws : List ℕ) (vs : List (List ℤ)) (i : ℕ) (d : ℤ) → length ws ≡ length ns
+    → length vs ≡ length ns → i < length ns
+    → value_on (days_of (blocks_of ns ws vs)) d ≡ None
+    → value_on (block_days (get_or ns i (pos 0), (get_or ws i 0, get_or vs i []))) d ≡ None
 none-at [] ws vs i d lw lv lt none = absurd (omega arith)
 none-at (n ∷ ns) [] vs i d lw lv lt none = absurd (omega arith)
 none-at (n ∷ ns) (w ∷ ws) [] i d lw lv lt none = absurd (omega arith)
 none-at (n ∷ ns) (w ∷ ws) (v ∷ vs) zero d lw lv lt none =
-    (both-none (value_on (block_days (n, (w, v))) d) _ (sym (value_on-append (block_days (n, (w, v))) (days_of (blocks_of ns ws vs)) d) ∙ none)).0
+    (both-none (value_on (block_days (n, (w, v))) d) _
+    (sym (value_on-append (block_days (n, (w, v))) (days_of (blocks_of ns ws vs)) d) ∙ none)).0
 none-at (n ∷ ns) (w ∷ ws) (v ∷ vs) (suc i) d lw lv lt none =
     none-at ns ws vs i d (omega arith) (omega arith) (omega arith)
-    (both-none (value_on (block_days (n, (w, v))) d) _ (sym (value_on-append (block_days (n, (w, v))) (days_of (blocks_of ns ws vs)) d) ∙ none)).1
+    (both-none (value_on (block_days (n, (w, v))) d) _
+    (sym (value_on-append (block_days (n, (w, v))) (days_of (blocks_of ns ws vs)) d) ∙ none)).1
 
+-- joined to 0 a value stays
 or-first : (a b : ℤ) → FitsSigned w32 b → a ≡ pos 0 → to_z w32 (bit_or (of_z w32 a) (of_z w32 b)) ≡ b
-or-first a b fits e = ap (λ (z : ℤ). to_z w32 (bit_or (of_z w32 z) (of_z w32 b))) e ∙ ap (to_z w32) (or_zero_l (of_z w32 b)) ∙ to_z-of_z w32 b fits
+or-first a b fits e = ap (λ (z : ℤ). to_z w32 (bit_or (of_z w32 z) (of_z w32 b))) e
+    ∙ ap (to_z w32) (or_zero_l (of_z w32 b)) ∙ to_z-of_z w32 b fits
 
+-- and so with the 0 behind it
 or-second : (a b : ℤ) → FitsSigned w32 a → b ≡ pos 0 → to_z w32 (bit_or (of_z w32 a) (of_z w32 b)) ≡ a
-or-second a b fits e = ap (λ (z : ℤ). to_z w32 (bit_or (of_z w32 a) (of_z w32 z))) e ∙ ap (to_z w32) (or_zero_r (of_z w32 a)) ∙ to_z-of_z w32 a fits
+or-second a b fits e = ap (λ (z : ℤ). to_z w32 (bit_or (of_z w32 a) (of_z w32 z))) e
+    ∙ ap (to_z w32) (or_zero_r (of_z w32 a)) ∙ to_z-of_z w32 a fits
 
 -- one place more is joined
-pub joins-more : (a b both : List ℤ) (i : ℕ) → i < length both → FitsSigned w32 (get_or a i (pos 0)) → FitsSigned w32 (get_or b i (pos 0))
+pub joins-more : (a b both : List ℤ) (i : ℕ) → i < length both → FitsSigned w32 (get_or a i (pos 0))
+    → FitsSigned w32 (get_or b i (pos 0))
     → ((j : ℕ) → j < i → JoinsAt a b both j)
-    → (j : ℕ) → j < i + 1 → JoinsAt a b (set both i (to_z w32 (bit_or (of_z w32 (get_or a i (pos 0))) (of_z w32 (get_or b i (pos 0)))))) j
+    → (j : ℕ) → j < i + 1 → JoinsAt a b (set both i
+    (to_z w32 (bit_or (of_z w32 (get_or a i (pos 0))) (of_z w32 (get_or b i (pos 0)))))) j
 joins-more a b both i lt fits_a fits_b so_far j less =
     let v : ℤ = to_z w32 (bit_or (of_z w32 (get_or a i (pos 0))) (of_z w32 (get_or b i (pos 0)))) in
     elim (cases_lt j i) [
       | inl before ↦
-          let same : get_or (set both i v) j (pos 0) ≡ get_or both j (pos 0) = get_or-set_other both i j v (pos 0) (omega arith) in
+          let same : get_or (set both i v) j (pos 0) ≡ get_or both j (pos 0) = get_or-set_other both i j v (pos 0)
+          (omega arith) in
           record { second = λ e. same ∙ (so_far j before).second e; first = λ e. same ∙ (so_far j before).first e }
       | inr here ↦
           let is : i ≡ j = omega arith in
           let now : get_or (set both i v) i (pos 0) ≡ v = get_or-set_same both i v (pos 0) lt in
-          subst (JoinsAt a b (set both i v)) is (record { second = λ e. now ∙ or-first _ _ fits_b e; first = λ e. now ∙ or-second _ _ fits_a e })
+          subst (JoinsAt a b (set both i v)) is
+          (record { second = λ e. now ∙ or-first _ _ fits_b e; first = λ e. now ∙ or-second _ _ fits_a e })
     ]

@@ -1,5 +1,6 @@
 -- The last day of a word, of a block and of columns.
-use Rattle.std.proofs.Common.{◌≡◌, ℕ, zero, suc, ◌+◌, ◌-◌, ◌*◌, ◌<◌, ◌≤◌, ◌^◌, List, [], ◌∷◌, ◌++◌, length, get_or, Option, Some, None, inl, inr, refl, sym, ap, subst, ◌∙◌, arith, ℤ, pos, ◌+ℤ◌}
+use Rattle.std.proofs.Common.{◌≡◌, ℕ, zero, suc, ◌+◌, ◌-◌, ◌*◌, ◌<◌, ◌≤◌, ◌^◌, List, [], ◌∷◌, ◌++◌, length, get_or}
+use Rattle.std.proofs.Common.{Option, Some, None, inl, inr, refl, sym, ap, subst, ◌∙◌, arith, ℤ, pos, ◌+ℤ◌}
 use Rattle.std.specs.Prelude.{◌==◌, slice_get}
 use Rattle.std.specs.Int.{bit_at}
 use Rattle.std.specs.List.{cons_option, filter_map, range_with_len}
@@ -9,7 +10,8 @@ use Rattle.std.proofs.lemmas.List.{append-nil}
 use Rattle.std.proofs.lemmas.Option.{slice_get_within, slice_get-get_or}
 use Rattle.std.proofs.lemmas.Nat.Bits.{bit_at_cat_high, bit_at_above}
 use Rattle.ghcn_series.specs.Series.{DayValue}
-use Rattle.ghcn_series.specs.Packed.{Block, block_start, if_so, day_at, block_days, days_from, days_of, blocks_of, AreBlocks, AreDays, IsLastOf}
+use Rattle.ghcn_series.specs.Packed.{Block, block_start, if_so, day_at, block_days, days_from, days_of, blocks_of}
+use Rattle.ghcn_series.specs.Packed.{AreBlocks, AreDays, IsLastOf}
 use Rattle.ghcn_series.proofs.FirstDays.{none-set}
 use Rattle.ghcn_series.proofs.PartsAdded.{packed-at}
 
@@ -24,7 +26,8 @@ pub last_of-at : (days : List DayValue) → last_of days ≡ option_map (λ x. x
 last_of-at [] = refl
 last_of-at (x ∷ []) = refl
 last_of-at (x ∷ y ∷ ys) =
-    last_of-at (y ∷ ys) ∙ ap (λ (k : ℕ). option_map (λ (z : DayValue). z.0) (slice_get (x ∷ y ∷ ys) k)) (long (length ys))
+    last_of-at (y ∷ ys) ∙ ap (λ (k : ℕ). option_map (λ (z : DayValue). z.0) (slice_get (x ∷ y ∷ ys) k))
+    (long (length ys))
   where
     long : (n : ℕ) → suc (suc n - 1) ≡ suc (suc n) - 1
     long n = omega arith
@@ -36,7 +39,9 @@ last_of-append (x ∷ []) [] d e = absurd cc
 last_of-append (x ∷ []) (y ∷ ys) d e = e
 last_of-append (x ∷ z ∷ zs) ys d e = last_of-append (z ∷ zs) ys d e
 
-last-cons : (o : Option DayValue) (xs : List DayValue) (d : ℤ) → last_of xs ≡ Some d → last_of (cons_option o xs) ≡ Some d
+-- a value more in front changes no last one
+last-cons : (o : Option DayValue) (xs : List DayValue) (d : ℤ) → last_of xs ≡ Some d → last_of (cons_option o xs)
+    ≡ Some d
 last-cons None xs d e = e
 last-cons (Some x) xs d e = last_of-append (x ∷ []) xs d e
 
@@ -53,7 +58,8 @@ last-places b t s (suc m) le lt set above = elim (cases_lt s t) [
       let rest : filter_map (day_at b) (range_with_len (s + 1) m) ≡ [] =
       none-set b.0 b.1.1 b.1.0 (s + 1) m (λ i more less. above i (omega arith)) in
       ap (λ (l : List DayValue). last_of (cons_option (day_at b s) l)) rest
-      ∙ ap (λ (bit : ℕ). last_of (cons_option (if_so (bit == 1) (block_start b.0 +ℤ pos s, get_or b.1.1 s (pos 0))) [])) (ap (bit_at b.1.0) is ∙ set)
+      ∙ ap (λ (bit : ℕ). last_of (cons_option (if_so (bit == 1) (block_start b.0 +ℤ pos s, get_or b.1.1 s (pos 0))) []))
+      (ap (bit_at b.1.0) is ∙ set)
       ∙ ap (λ (k : ℕ). Some (block_start b.0 +ℤ pos k)) is
 ]
 
@@ -63,7 +69,8 @@ unfolding days_from
 last-of_block b day is = last-places b is.place 0 32 (omega arith) is.below is.set is.highest ∙ sym is.is
 
 -- the last day of columns is that of their last block
-pub last-of_columns : (ns : List ℤ) (ws : List ℕ) (vs : List (List ℤ)) (i : ℕ) (day : Option ℤ) → length ws ≡ length ns → length vs ≡ length ns → i + 1 ≡ length ns
+pub last-of_columns : (ns : List ℤ) (ws : List ℕ) (vs : List (List ℤ)) (i : ℕ) (day : Option ℤ) → length ws ≡ length ns
+    → length vs ≡ length ns → i + 1 ≡ length ns
     → IsLastOf (get_or ns i (pos 0)) (get_or ws i 0) day → last_of (days_of (blocks_of ns ws vs)) ≡ day
 last-of_columns [] ws vs i day lw lv at is = absurd (omega arith)
 last-of_columns (n ∷ ns) [] vs i day lw lv at is = absurd (omega arith)
@@ -74,7 +81,8 @@ last-of_columns (n ∷ []) (w ∷ []) (v ∷ vs) zero day lw lv at is =
     ap last_of (append-nil (block_days (n, (w, v)))) ∙ last-of_block (n, (w, v)) (Some (block_start n +ℤ pos is.place))
     (record { place = is.place; below = is.below; set = is.set; highest = is.highest; is = refl }) ∙ sym is.is
 last-of_columns (n ∷ ns) (w ∷ ws) (v ∷ vs) (suc i) day lw lv at is =
-    last_of-append (block_days (n, (w, v))) (days_of (blocks_of ns ws vs)) (block_start (get_or ns i (pos 0)) +ℤ pos is.place)
+    last_of-append (block_days (n, (w, v))) (days_of (blocks_of ns ws vs))
+    (block_start (get_or ns i (pos 0)) +ℤ pos is.place)
     (last-of_columns ns ws vs i day (omega arith) (omega arith) (omega arith) is ∙ is.is) ∙ sym is.is
 
 -- the highest bit of a number
@@ -82,17 +90,21 @@ pub highest-bit : (w t : ℕ) → 2 ^ t ≤ w → w < 2 * 2 ^ t → (bit_at w t 
 highest-bit w t low high =
     let rest : ℕ = w - 2 ^ t in
     let parts : 1 * 2 ^ t + rest ≡ w = omega arith in (
-      ap (λ (k : ℕ). bit_at k t) (sym parts) ∙ bit_at_cat_high 1 t rest t (omega arith) (omega arith) ∙ ap (bit_at 1) {x = t - t} {y = 0} (omega arith),
+      ap (λ (k : ℕ). bit_at k t) (sym parts) ∙ bit_at_cat_high 1 t rest t (omega arith) (omega arith)
+          ∙ ap (bit_at 1) {x = t - t} {y = 0} (omega arith),
       λ i lt. bit_at_above w (suc t) i (omega (arith, double t)) (omega arith),
     )
   where
     double : (k : ℕ) → 2 ^ suc k ≡ 2 * 2 ^ k
     double k = search arith
 
+-- the same values are there
 same_some : {X : Type 0} (u v : X) → Some u ≡ Some v → u ≡ v
 same_some u v e = cc
 
-got-last : {X : Type 0} (xs : List X) (i : ℕ) (v d : X) → Some v ≡ slice_get xs i → (i < length xs) × (get_or xs i d ≡ v)
+-- what is found at a place stands there
+got-last : {X : Type 0} (xs : List X) (i : ℕ) (v d : X) → Some v ≡ slice_get xs i
+    → (i < length xs) × (get_or xs i d ≡ v)
 got-last xs i v d e =
     let lt = slice_get_within xs i v (sym e) in
     (lt, same_some _ _ (sym (slice_get-get_or xs i d lt) ∙ sym e))
@@ -105,7 +117,9 @@ pub record IsLastBlock (ns : List ℤ) (ws : List ℕ) (n : ℤ) (w : ℕ) : Typ
   pub days : AreDays n w
   pub present : 0 < w
 
-pub last-block : (ns : List ℤ) (ws : List ℕ) (vs : List (List ℤ)) (n : ℤ) (w : ℕ) → AreBlocks ns ws vs → Some n ≡ slice_get ns (length ns - 1) → Some w ≡ slice_get ws (length ws - 1) → IsLastBlock ns ws n w
+-- the last number and the last word are those of one block
+pub last-block : (ns : List ℤ) (ws : List ℕ) (vs : List (List ℤ)) (n : ℤ) (w : ℕ) → AreBlocks ns ws vs
+    → Some n ≡ slice_get ns (length ns - 1) → Some w ≡ slice_get ws (length ws - 1) → IsLastBlock ns ws n w
 last-block ns ws vs n w bs here there =
     let i : ℕ = length ns - 1 in
     let number = got-last ns i n (pos 0) here in

@@ -1,5 +1,7 @@
 -- What is looked up among the days of blocks.
-use Rattle.std.proofs.Common.{◌≡◌, ℕ, zero, suc, ◌+◌, ◌<◌, ◌≤◌, Bool, true, false, cond, List, [], ◌∷◌, ◌++◌, length, get_or, Option, Some, None, inl, inr, refl, sym, ap, subst, ◌∙◌, arith, ℤ, pos, negsuc, ◌≤ℤ◌, ◌<ℤ◌, ◌+ℤ◌}
+use Rattle.std.proofs.Common.{◌≡◌, ℕ, zero, suc, ◌+◌, ◌<◌, ◌≤◌, Bool, true, false, cond, List, [], ◌∷◌, ◌++◌, length}
+use Rattle.std.proofs.Common.{get_or, Option, Some, None, inl, inr, refl, sym, ap, subst, ◌∙◌, arith, ℤ, pos, negsuc}
+use Rattle.std.proofs.Common.{◌≤ℤ◌, ◌<ℤ◌, ◌+ℤ◌}
 use Rattle.std.specs.Prelude.{◌==◌, unsigned_abs}
 use Rattle.std.specs.Int.{bit_at}
 use Rattle.std.specs.List.{find, cons_option, filter_map, range_with_len, zip}
@@ -11,11 +13,14 @@ use Rattle.std.proofs.lemmas.Int.{ints}
 use Rattle.std.proofs.lemmas.Slice.Zip.{length-zip, get_or-zip}
 use Rattle.ghcn_fields.specs.Days.{block_of}
 use Rattle.ghcn_series.specs.Series.{DayValue, value_on}
-use Rattle.ghcn_series.specs.Packed.{Block, block_start, place_of, if_so, value_at, day_from, days_from, block_days, days_of, blocks_of}
+use Rattle.ghcn_series.specs.Packed.{Block, block_start, place_of, if_so, value_at, day_from, days_from, block_days}
+use Rattle.ghcn_series.specs.Packed.{days_of, blocks_of}
 
+-- equal numbers pass the test
 pub int_eq-yes : (a b : ℤ) → a ≡ b → int_eq a b ≡ true
 int_eq-yes a b e = (Decides-int_eq a b).1 e
 
+-- others fail it
 pub int_eq-no : (a b : ℤ) → (a ≡ b → ⊥) → int_eq a b ≡ false
 int_eq-no a b h =
     elim (int_eq a b) as (λ t. int_eq a b ≡ t → t ≡ false) [
@@ -36,13 +41,17 @@ block-of_place b k lt =
     omega (arith, ints)
 
 -- a day that isn't the first of some days is looked up behind it
-pub value_on-other : (t : Bool) (x : DayValue) (xs : List DayValue) (day : ℤ) → int_eq x.0 day ≡ false → value_on (cons_option (if_so t x) xs) day ≡ value_on xs day
-value_on-other true x xs day e = ap (λ (b : Bool). option_map (λ (y : DayValue). y.1) (cond b (Some x) (find (λ y. int_eq y.0 day) xs))) e
+pub value_on-other : (t : Bool) (x : DayValue) (xs : List DayValue) (day : ℤ) → int_eq x.0 day ≡ false
+    → value_on (cons_option (if_so t x) xs) day ≡ value_on xs day
+value_on-other true x xs day e = ap (λ (b : Bool). option_map (λ (y : DayValue). y.1)
+    (cond b (Some x) (find (λ y. int_eq y.0 day) xs))) e
 value_on-other false x xs day e = refl
 
 -- a day that is at most the first of some days
-pub value_on-same : (t : Bool) (x : DayValue) (xs : List DayValue) (day : ℤ) → int_eq x.0 day ≡ true → value_on xs day ≡ None → value_on (cons_option (if_so t x) xs) day ≡ if_so t x.1
-value_on-same true x xs day e none = ap (λ (b : Bool). option_map (λ (y : DayValue). y.1) (cond b (Some x) (find (λ y. int_eq y.0 day) xs))) e
+pub value_on-same : (t : Bool) (x : DayValue) (xs : List DayValue) (day : ℤ) → int_eq x.0 day ≡ true
+    → value_on xs day ≡ None → value_on (cons_option (if_so t x) xs) day ≡ if_so t x.1
+value_on-same true x xs day e none = ap (λ (b : Bool). option_map (λ (y : DayValue). y.1)
+    (cond b (Some x) (find (λ y. int_eq y.0 day) xs))) e
 value_on-same false x xs day e none = none
 
 module _ (first : ℤ) (w : ℕ) (vs : List ℤ) where
@@ -82,12 +91,14 @@ module _ (first : ℤ) (w : ℕ) (vs : List ℤ) where
   from-value j lt = found_at j 0 32 (omega arith) (omega arith)
 
   -- any other day has none
-  pub from-other : (day : ℤ) → ((j : ℕ) → j < 32 → first +ℤ pos j ≡ day → ⊥) → value_on (days_from first w vs) day ≡ None
+  pub from-other : (day : ℤ) → ((j : ℕ) → j < 32 → first +ℤ pos j ≡ day → ⊥) → value_on (days_from first w vs) day
+      ≡ None
   unfolding days_from
   from-other day h = none_among day 0 32 (λ j le lt e. h j (omega arith) e)
 
 -- a day of a block has the value of its place
-pub block-value : (b : Block) (j : ℕ) → j < 32 → value_on (block_days b) (block_start b.0 +ℤ pos j) ≡ value_at b.1.0 b.1.1 j
+pub block-value : (b : Block) (j : ℕ) → j < 32 → value_on (block_days b) (block_start b.0 +ℤ pos j)
+    ≡ value_at b.1.0 b.1.1 j
 block-value b j lt = from-value (block_start b.0) b.1.0 b.1.1 j lt
 
 -- a day of another block has no value there
@@ -96,10 +107,14 @@ block-other b day h =
     from-other (block_start b.0) b.1.0 b.1.1 day (λ j lt e. h (sym (block-of_place b.0 j lt) ∙ ap block_of e))
 
 -- a day is looked up among some days, and else among those behind them
-pub value_on-append : (xs ys : List DayValue) (day : ℤ) → value_on (xs ++ ys) day ≡ option_or (value_on xs day) (value_on ys day)
+pub value_on-append : (xs ys : List DayValue) (day : ℤ) → value_on (xs ++ ys) day ≡ option_or (value_on xs day)
+    (value_on ys day)
 value_on-append [] ys day = refl
 value_on-append (x ∷ xs) ys day =
-    elim (int_eq x.0 day) as (λ b. option_map (λ (y : DayValue). y.1) (cond b (Some x) (find (λ y. int_eq y.0 day) (xs ++ ys))) ≡ option_or (option_map (λ (y : DayValue). y.1) (cond b (Some x) (find (λ y. int_eq y.0 day) xs))) (value_on ys day)) [
+    elim (int_eq x.0 day) as (λ b. option_map (λ (y : DayValue). y.1)
+    (cond b (Some x) (find (λ y. int_eq y.0 day) (xs ++ ys)))
+    ≡ option_or (option_map (λ (y : DayValue). y.1) (cond b (Some x) (find (λ y. int_eq y.0 day) xs)))
+    (value_on ys day)) [
       | true ↦ refl
       | false ↦ value_on-append xs ys day
     ]
@@ -114,7 +129,8 @@ abbrev pub no_block : Block
 no_block = (pos 0, (0, []))
 
 -- where no block has the day's number, the day has no value
-pub days-without : (bs : List Block) (day : ℤ) → ((k : ℕ) → k < length bs → (get_or bs k no_block).0 ≡ block_of day → ⊥) → value_on (days_of bs) day ≡ None
+pub days-without : (bs : List Block) (day : ℤ) → ((k : ℕ) → k < length bs → (get_or bs k no_block).0 ≡ block_of day → ⊥)
+    → value_on (days_of bs) day ≡ None
 days-without [] day h = refl
 days-without (b ∷ bs) day h =
     value_on-append (block_days b) (days_of bs) day
@@ -122,15 +138,20 @@ days-without (b ∷ bs) day h =
     ∙ days-without bs day (λ k lt. h (suc k) (omega arith))
 
 -- where one block alone has the day's number, the day has the value of its place there
-pub days-at : (bs : List Block) (i : ℕ) (number : ℤ) (j : ℕ) → j < 32 → i < length bs → (get_or bs i no_block).0 ≡ number
+pub days-at : (bs : List Block) (i : ℕ) (number : ℤ) (j : ℕ) → j < 32 → i < length bs
+    → (get_or bs i no_block).0 ≡ number
     → ((k : ℕ) → k < length bs → (get_or bs k no_block).0 ≡ number → k ≡ i)
-    → value_on (days_of bs) (block_start number +ℤ pos j) ≡ value_at (get_or bs i no_block).1.0 (get_or bs i no_block).1.1 j
+    → value_on (days_of bs) (block_start number +ℤ pos j) ≡ value_at (get_or bs i no_block).1.0
+    (get_or bs i no_block).1.1 j
 days-at [] i number j below lt is alone = absurd (omega arith)
 days-at (b ∷ bs) zero number j below lt is alone =
     let day : ℤ = block_start number +ℤ pos j in
     let of : block_of day ≡ number = block-of_place number j below in
-    let here : value_on (block_days b) day ≡ value_at b.1.0 b.1.1 j = subst (λ (n : ℤ). value_on (block_days b) (block_start n +ℤ pos j) ≡ value_at b.1.0 b.1.1 j) is (block-value b j below) in
-    let behind : value_on (days_of bs) day ≡ None = days-without bs day (λ k less e. let same : suc k ≡ zero = alone (suc k) (omega arith) (e ∙ of) in absurd (omega arith)) in
+    let here : value_on (block_days b) day ≡ value_at b.1.0 b.1.1 j = subst
+    (λ (n : ℤ). value_on (block_days b) (block_start n +ℤ pos j) ≡ value_at b.1.0 b.1.1 j) is
+    (block-value b j below) in
+    let behind : value_on (days_of bs) day ≡ None = days-without bs day
+    (λ k less e. let same : suc k ≡ zero = alone (suc k) (omega arith) (e ∙ of) in absurd (omega arith)) in
     value_on-append (block_days b) (days_of bs) day
     ∙ ap (option_or (value_on (block_days b) day)) behind
     ∙ or_none (value_on (block_days b) day)
@@ -138,19 +159,26 @@ days-at (b ∷ bs) zero number j below lt is alone =
 days-at (b ∷ bs) (suc i) number j below lt is alone =
     let day : ℤ = block_start number +ℤ pos j in
     let of : block_of day ≡ number = block-of_place number j below in
-    let other : b.0 ≡ block_of day → ⊥ = λ e. let same : zero ≡ suc i = alone zero (omega arith) (e ∙ of) in absurd (omega arith) in
+    let other : b.0 ≡ block_of day → ⊥ = λ e. let same : zero ≡ suc i = alone zero (omega arith) (e ∙ of) in absurd
+    (omega arith) in
     value_on-append (block_days b) (days_of bs) day
     ∙ ap (λ (o : Option ℤ). option_or o (value_on (days_of bs) day)) (block-other b day other)
-    ∙ days-at bs i number j below (omega arith) is (λ k less e. let same : suc k ≡ suc i = alone (suc k) (omega arith) e in omega arith)
+    ∙ days-at bs i number j below (omega arith) is (λ k less e. let same : suc k ≡ suc i = alone (suc k) (omega arith)
+    e in omega arith)
 
 -- the block at a place of three columns of one length
-pub blocks-at : (numbers : List ℤ) (words : List ℕ) (values : List (List ℤ)) (i : ℕ) → length words ≡ length numbers → length values ≡ length numbers → i < length numbers
-    → get_or (blocks_of numbers words values) i no_block ≡ (get_or numbers i (pos 0), (get_or words i 0, get_or values i []))
+pub blocks-at : (numbers : List ℤ) (words : List ℕ) (values : List (List ℤ)) (i : ℕ) → length words ≡ length numbers
+    → length values ≡ length numbers → i < length numbers
+    → get_or (blocks_of numbers words values) i no_block
+    ≡ (get_or numbers i (pos 0), (get_or words i 0, get_or values i []))
 blocks-at numbers words values i w v lt =
     get_or-zip numbers (zip words values) i no_block lt (rw (length-zip words values) (omega arith))
-    ∙ ap (λ (p : ℕ × List ℤ). (get_or numbers i (pos 0), p)) (get_or-zip words values i (0, []) (omega arith) (omega arith))
+    ∙ ap (λ (p : ℕ × List ℤ). (get_or numbers i (pos 0), p))
+    (get_or-zip words values i (0, []) (omega arith) (omega arith))
 
-pub blocks-length : (numbers : List ℤ) (words : List ℕ) (values : List (List ℤ)) → length words ≡ length numbers → length values ≡ length numbers
+-- there are as many blocks as numbers
+pub blocks-length : (numbers : List ℤ) (words : List ℕ) (values : List (List ℤ)) → length words ≡ length numbers
+    → length values ≡ length numbers
     → length (blocks_of numbers words values) ≡ length numbers
 blocks-length numbers words values w v = omega (arith, length-zip numbers (zip words values), length-zip words values)
 
@@ -159,6 +187,7 @@ pub place_is : (day : ℤ) → block_start (block_of day) +ℤ place_of day ≡ 
 place_is (pos a) = omega (arith, ints)
 place_is (negsuc a) = omega (arith, ints)
 
+-- a day's place in its block is below 32
 pub place-below : (day : ℤ) → (pos 0 ≤ℤ place_of day) × (place_of day <ℤ pos 32)
 place-below (pos a) = (omega (arith, ints), omega (arith, ints))
 place-below (negsuc a) = (omega (arith, ints), omega (arith, ints))
@@ -168,4 +197,5 @@ pub at_day : (P : ℤ → Type 0) (day : ℤ) → ((j : ℕ) → j < 32 → P (b
 at_day P day h =
     let range = place-below day in
     let is = place_is day in
-    subst P {x = block_start (block_of day) +ℤ pos (unsigned_abs (place_of day))} (omega (arith, ints)) (h (unsigned_abs (place_of day)) (omega (arith, ints)))
+    subst P {x = block_start (block_of day) +ℤ pos (unsigned_abs (place_of day))} (omega (arith, ints))
+    (h (unsigned_abs (place_of day)) (omega (arith, ints)))

@@ -1,5 +1,6 @@
 -- The days of a month by their places, and what of them counts.
-use Rattle.std.proofs.Common.{◌≡◌, ℕ, ◌+◌, ◌<◌, ◌≤◌, Bool, true, false, cond, Some, None, refl, sym, ap, ◌∙◌, arith, ℤ, pos}
+use Rattle.std.proofs.Common.{◌≡◌, ℕ, ◌+◌, ◌<◌, ◌≤◌, Bool, true, false, cond, Some, None, refl, sym, ap, ◌∙◌, arith, ℤ}
+use Rattle.std.proofs.Common.{pos}
 use Rattle.std.specs.Prelude.{◌&&◌, ◌+ℤ◌}
 use Rattle.std.proofs.lemmas.Bool.Decides.{nat_tests}
 use Rattle.std.proofs.lemmas.Int.{ints}
@@ -11,7 +12,13 @@ use Rattle.ghcn_fields.proofs.DayNumbers.{is_day-from_civil}
 
 -- a day of a month so many places after its first
 later_day : (y : ℤ) (m i : ℕ) → days_from_civil y m (i + 1) ≡ days_from_civil y m 1 +ℤ pos i
-later_day y m i = omega (arith, signed_arith, days_from_civil-day_count y m (i + 1), days_from_civil-day_count y m 1, day_count-day y m (i + 1) 1 (omega arith) (omega arith))
+later_day y m i = omega (
+  arith,
+  signed_arith,
+  days_from_civil-day_count y m (i + 1),
+  days_from_civil-day_count y m 1,
+  day_count-day y m (i + 1) 1 (omega arith) (omega arith),
+)
 
 -- what the parts of a date are
 pub record IsOfCalendar (y m d : ℕ) : Type 0 where
@@ -19,36 +26,49 @@ pub record IsOfCalendar (y m d : ℕ) : Type 0 where
   pub month : (1 ≤ m) × (m ≤ 12)
   pub day : (1 ≤ d) × (d ≤ days_in_month (pos y) m)
 
+-- where three tests are passed, each is
 parts : (a b c : Bool) → (a && b && c) ≡ true → (a ≡ true) × (b ≡ true) × (c ≡ true)
 parts true true true e = (refl, refl, refl)
 parts true true false e = absurd cc
 parts true false c e = absurd cc
 parts false b c e = absurd cc
 
+-- three passed tests pass all
 whole : (a b c : Bool) → a ≡ true → b ≡ true → c ≡ true → (a && b && c) ≡ true
 whole true b c p q r = cc
 whole false b c p q r = absurd cc
 
+-- a number that passes the test is in range
 within : (low high n : ℕ) → is_within low high n ≡ true → (low ≤ n) × (n ≤ high)
 within low high n e = (grind (arith, nat_tests), grind (arith, nat_tests))
 
+-- a number in range passes the test
 is_within-from : (low high n : ℕ) → low ≤ n → n ≤ high → is_within low high n ≡ true
 is_within-from low high n l h = grind (arith, nat_tests)
 
+-- the parts of a date are of the calendar
 pub from_date : (y m d : ℕ) → is_date y m d ≡ true → IsOfCalendar y m d
 from_date y m d e =
     let all = parts (is_within 1 9999 y) (is_within 1 12 m) (is_within 1 (days_in_month (pos y) m) d) e in
-    record { year = within 1 9999 y all.0; month = within 1 12 m all.1; day = within 1 (days_in_month (pos y) m) d all.2 }
+    record {
+      year = within 1 9999 y all.0;
+      month = within 1 12 m all.1;
+      day = within 1 (days_in_month (pos y) m) d all.2;
+    }
 
+-- parts of the calendar are a date
 pub to_date : (y m d : ℕ) → IsOfCalendar y m d → is_date y m d ≡ true
 to_date y m d is =
     whole (is_within 1 9999 y) (is_within 1 12 m) (is_within 1 (days_in_month (pos y) m) d)
-    (is_within-from 1 9999 y is.year.0 is.year.1) (is_within-from 1 12 m is.month.0 is.month.1) (is_within-from 1 (days_in_month (pos y) m) d is.day.0 is.day.1)
+    (is_within-from 1 9999 y is.year.0 is.year.1) (is_within-from 1 12 m is.month.0 is.month.1)
+    (is_within-from 1 (days_in_month (pos y) m) d is.day.0 is.day.1)
 
 -- a day that has a number is of the calendar, and its number is that of its date
-pub has_number : (y m d : ℕ) (n : ℤ) → day_number y m d ≡ Some n → IsOfCalendar y m d × (n ≡ days_from_civil (pos y) m d)
+pub has_number : (y m d : ℕ) (n : ℤ) → day_number y m d ≡ Some n
+    → IsOfCalendar y m d × (n ≡ days_from_civil (pos y) m d)
 has_number y m d n e =
-    elim (is_date y m d) as (λ b. is_date y m d ≡ b → cond b (Some (days_from_civil (pos y) m d)) None ≡ Some n → IsOfCalendar y m d × (n ≡ days_from_civil (pos y) m d)) [
+    elim (is_date y m d) as (λ b. is_date y m d ≡ b → cond b (Some (days_from_civil (pos y) m d)) None ≡ Some n
+    → IsOfCalendar y m d × (n ≡ days_from_civil (pos y) m d)) [
       | true ↦ λ is some. (from_date y m d is, cc)
       | false ↦ λ is none. absurd cc
     ] refl e
@@ -58,13 +78,20 @@ pub day_number-is : (y m d : ℕ) → IsOfCalendar y m d → day_number y m d �
 day_number-is y m d is = ap (λ (b : Bool). cond b (Some (days_from_civil (pos y) m d)) None) (to_date y m d is)
 
 -- the day so many places after a month's first
-pub day_number-after : (y m i : ℕ) (first : ℤ) → day_number y m 1 ≡ Some first → i < days_in_month (pos y) m → (day_number y m (i + 1) ≡ Some (first +ℤ pos i)) × (day_if (first +ℤ pos i) ≡ Some (first +ℤ pos i))
+pub day_number-after : (y m i : ℕ) (first : ℤ) → day_number y m 1 ≡ Some first → i < days_in_month (pos y) m
+    → (day_number y m (i + 1) ≡ Some (first +ℤ pos i)) × (day_if (first +ℤ pos i) ≡ Some (first +ℤ pos i))
 day_number-after y m i first is lt =
     let has = has_number y m 1 first is in
-    let of : IsOfCalendar y m (i + 1) = record { year = has.0.year; month = has.0.month; day = (omega arith, omega arith) } in
-    let civil : IsCivilDate (pos y) m (i + 1) = ((omega (arith, ints, of.year), omega (arith, ints, of.year)), of.month, of.day) in
+    let of : IsOfCalendar y m (i + 1) = record
+    { year = has.0.year; month = has.0.month; day = (omega arith, omega arith) } in
+    let civil : IsCivilDate (pos y) m (i + 1) = (
+      (omega (arith, ints, of.year), omega (arith, ints, of.year)),
+      of.month,
+      of.day,
+    ) in
     let day = is_day-from_civil y m (i + 1) civil of.year.0 in
-    let same : days_from_civil (pos y) m (i + 1) ≡ first +ℤ pos i = later_day (pos y) m i ∙ ap (λ (z : ℤ). z +ℤ pos i) (sym has.1) in (
+    let same : days_from_civil (pos y) m (i + 1) ≡ first +ℤ pos i = later_day (pos y) m i
+    ∙ ap (λ (z : ℤ). z +ℤ pos i) (sym has.1) in (
       day_number-is y m (i + 1) of ∙ ap (λ (z : ℤ). Some z) same,
       ap (λ (b : Bool). cond b (Some (first +ℤ pos i)) None) (ap is_day (sym same) ∙ day),
     )

@@ -1,32 +1,78 @@
 -- A month's usable days by their places.
-use Rattle.std.proofs.Common.{◌≡◌, ℕ, zero, suc, ◌+◌, ◌<◌, ◌≤◌, ◌^◌, true, false, List, [], ◌∷◌, length, get_or, set, Some, None}
-use Rattle.std.proofs.Common.{inl, inr, refl, sym, ap, subst, ◌∙◌, arith, ℤ, pos, neg_ℤ, ◌+ℤ◌, ◌-ℤ◌, ◌<ℤ◌, ◌≤ℤ◌, w32, to_z, of_z}
-use Rattle.std.specs.Prelude.{◌==◌, bit_or, unsigned_abs, int_le}
+use Rattle.std.proofs.Common.{◌≡◌, ℕ, zero, suc, ◌+◌, ◌<◌, ◌≤◌, Bool, true, false, cond, List, [], ◌∷◌, get_or}
+use Rattle.std.proofs.Common.{Option, Some, None, inl, inr, refl, sym, ap, subst, ◌∙◌, arith, ℤ, pos, ◌+ℤ◌, ◌-ℤ◌, ◌<ℤ◌}
+use Rattle.std.proofs.Common.{◌≤ℤ◌}
+use Rattle.std.specs.Prelude.{◌==◌, ◌||◌, unsigned_abs, int_le}
 use Rattle.std.specs.Int.{bit_at}
-use Rattle.std.specs.List.{cons_option, filter_map, enumerate_from, list_all}
-use Rattle.std.specs.Ordering.{int_eq}
+use Rattle.std.specs.List.{cons_option, filter_map, enumerate_from}
 use Rattle.std.specs.Option.{option_map, option_and_then}
-use Rattle.std.proofs.lemmas.Bool.{cases_lt}
+use Rattle.std.proofs.lemmas.Bool.{cases_lt, lt-ltb, le-ltb}
 use Rattle.std.proofs.lemmas.Int.{ints, by_lt_z}
-use Rattle.std.proofs.lemmas.List.{get_or-set_same, get_or-set_other}
-use Rattle.std.proofs.lemmas.Nat.Bits.{bit_at_or, bit_at-lt, bit_at-zero, bit_at-pow_same, bit_at-pow_other}
+use Rattle.jiff_core.specs.Calendar.{days_in_month, days_from_civil}
 use Rattle.jiff_core.proofs.CalendarLemmas.{days_in_month_bounds}
 use Rattle.ghcn_fields.specs.Days.{day_number, is_day}
 use Rattle.ghcn_files.specs.declared.month.Month.{Month}
 use Rattle.ghcn_files.specs.declared.month.Reading.{Reading}
-use Rattle.ghcn_files.specs.Months.{IsMonth, is_reading, is_readable}
+use Rattle.ghcn_files.specs.declared.row.MonthRow.{MonthRow}
+use Rattle.ghcn_files.specs.Elements.{may_be_negative}
+use Rattle.ghcn_files.specs.Months.{IsMonth}
+use Rattle.ghcn_files.specs.Rows.{if_so, value_at, if_possible, good_value, no_reading, day_value, AreDays, IsRowOf}
 use Rattle.ghcn_series.specs.Series.{DayValue, value_on}
 use Rattle.ghcn_series.specs.Says.{fact_if}
-use Rattle.ghcn_series.specs.Packed.{if_so, value_at, days_from}
+use Rattle.ghcn_series.specs.Packed.{days_from}
 use Rattle.ghcn_series.specs.Parts.{IsRow, day_of, row_days}
-use Rattle.ghcn_series.specs.Gathered.{counted, usable_day, usable_days, usable_value, no_reading, IsMonthRow}
+use Rattle.ghcn_series.specs.Gathered.{counted, usable_day, usable_days, usable_value}
 use Rattle.ghcn_series.proofs.Lookups.{from-value, from-other}
 use Rattle.ghcn_series.proofs.RisingDays.{behind, front}
-use Rattle.ghcn_series.proofs.RowParts.{zero_at}
-use Rattle.ghcn_series.proofs.MonthDays.{has_number, day_number-after}
+use Rattle.ghcn_series.proofs.MonthDays.{IsOfCalendar, has_number, day_number-is, day_number-after}
 use Rattle.ghcn_series.proofs.DistinctDays.{is_day_of}
-use Rattle.ghcn_series.proofs.ReadySeries.{is_day-numbered, readable_day}
-use Rattle.ghcn_series.proofs.ListFacts.{both_true}
+use Rattle.ghcn_series.proofs.ReadySeries.{is_day-numbered}
+
+-- a day of the calendar counts as its reading does
+counted_is : (m : Month) (flagged : Bool) (v : Option ℤ) (n : ℤ)
+    → option_map (λ (x : DayValue). x.1) (option_and_then counted (fact_if m flagged (Some n) v))
+    ≡ cond flagged None (option_and_then (if_possible m.element) v)
+counted_is m true v n = refl
+counted_is m false None n = refl
+counted_is m false (Some v) n = elim (may_be_negative m.element || int_le (pos 0) v)
+    as (λ b. option_map (λ (x : DayValue). x.1) (cond b (Some (n, v)) None) ≡ cond b (Some v) None) [
+      | true ↦ refl
+      | false ↦ refl
+    ]
+
+-- a day that the calendar lacks doesn't count
+missing_is : (m : Month) (flagged : Bool) (v : Option ℤ)
+    → option_map (λ (x : DayValue). x.1) (option_and_then counted (fact_if m flagged None v)) ≡ None
+missing_is m true v = refl
+missing_is m false v = refl
+
+-- a month has no number for a day behind its last
+no_number : (y m d : ℕ) → (d ≤ days_in_month (pos y) m → ⊥) → day_number y m d ≡ None
+no_number y m d past =
+    elim (day_number y m d) as (λ o. day_number y m d ≡ o → o ≡ None) [
+      | None ↦ λ is. refl
+      | Some n ↦ λ is. absurd (past (has_number y m d n is).0.day.1)
+    ] refl
+
+-- the usable value of a day is that of its month's row
+usable_is : (m : Month) (j : ℕ) → IsMonth m → usable_value m j ≡ day_value m j
+usable_is m j right =
+    let r : Reading = get_or m.days j no_reading in
+    let days : ℕ = days_in_month (pos m.year) m.month in
+    let usable : Option ℤ → Option ℤ =
+    λ o. option_map (λ (x : DayValue). x.1) (option_and_then counted (fact_if m r.flagged o r.value)) in
+    elim (cases_lt j days) [
+      | inl lt ↦
+          let is : IsOfCalendar m.year m.month (j + 1) =
+          record { year = right.year; month = right.month; day = (omega arith, omega (arith, lt)) } in
+          ap usable (day_number-is m.year m.month (j + 1) is)
+          ∙ counted_is m r.flagged r.value (days_from_civil (pos m.year) m.month (j + 1))
+          ∙ sym (ap (λ (b : Bool). cond b (good_value m.element r) None) (lt-ltb j days lt))
+      | inr past ↦
+          ap usable (no_number m.year m.month (j + 1) (λ le. omega (arith, past, le)))
+          ∙ missing_is m r.flagged r.value
+          ∙ sym (ap (λ (b : Bool). cond b (good_value m.element r) None) (le-ltb j days past))
+    ]
 
 -- a reading of nothing isn't usable
 unread : (m : Month) (j : ℕ) → usable_day m (j, no_reading) ≡ None
@@ -67,21 +113,26 @@ module _ (m : Month) (first : ℤ) (begins : day_number m.year m.month 1 ≡ Som
   found (r ∷ rs) s zero k at =
       let rest : List DayValue = filter_map (usable_day m) (enumerate_from (s + 1 + 1) rs) in
       let same : s ≡ k = omega (arith, at) in
-      subst (λ (i : ℕ). value_on (filter_map (usable_day m) (enumerate_from (s + 1) (r ∷ rs))) (first +ℤ pos i) ≡ option_map (λ (x : DayValue). x.1) (usable_day m (i + 1, r))) same
-      (elim (usable_day m (s + 1, r)) as (λ o. usable_day m (s + 1, r) ≡ o → value_on (cons_option o rest) (first +ℤ pos s) ≡ option_map (λ (x : DayValue). x.1) o) [
+      subst (λ (i : ℕ). value_on (filter_map (usable_day m) (enumerate_from (s + 1) (r ∷ rs))) (first +ℤ pos i)
+      ≡ option_map (λ (x : DayValue). x.1) (usable_day m (i + 1, r))) same
+      (elim (usable_day m (s + 1, r)) as (λ o. usable_day m (s + 1, r) ≡ o
+      → value_on (cons_option o rest) (first +ℤ pos s) ≡ option_map (λ (x : DayValue). x.1) o) [
         | None ↦ λ is. elsewhere rs (s + 1) (first +ℤ pos s) (λ i le e. omega (arith, ints, le, e))
         | Some x ↦ λ is. ap (value_on (x ∷ rest)) (sym (day-at s r x is)) ∙ front x rest
       ] refl)
   found (r ∷ rs) s (suc j) k at =
       let rest : List DayValue = filter_map (usable_day m) (enumerate_from (s + 1 + 1) rs) in
       let later = found rs (s + 1) j k (omega (arith, at)) in
-      elim (usable_day m (s + 1, r)) as (λ o. usable_day m (s + 1, r) ≡ o → value_on (cons_option o rest) (first +ℤ pos k) ≡ option_map (λ (x : DayValue). x.1) (usable_day m (k + 1, get_or rs j no_reading))) [
+      elim (usable_day m (s + 1, r)) as (λ o. usable_day m (s + 1, r) ≡ o
+      → value_on (cons_option o rest) (first +ℤ pos k) ≡ option_map (λ (x : DayValue). x.1)
+      (usable_day m (k + 1, get_or rs j no_reading))) [
         | None ↦ λ is. later
-        | Some x ↦ λ is. behind x rest (first +ℤ pos k) (λ e. omega (arith, ints, at, sym (day-at s r x is) ∙ e)) ∙ later
+        | Some x ↦ λ is. behind x rest (first +ℤ pos k) (λ e. omega (arith, ints, at, sym (day-at s r x is) ∙ e))
+            ∙ later
       ] refl
 
   -- no month has a day past its 31st
-  past-none : (k : ℕ) (r : Reading) → 32 ≤ k → usable_day m (k + 1, r) ≡ None
+  past-none : (k : ℕ) (r : Reading) → 31 ≤ k → usable_day m (k + 1, r) ≡ None
   past-none k r past =
       elim (usable_day m (k + 1, r)) as (λ o. usable_day m (k + 1, r) ≡ o → o ≡ None) [
         | None ↦ λ is. refl
@@ -90,15 +141,31 @@ module _ (m : Month) (first : ℤ) (begins : day_number m.year m.month 1 ≡ Som
             absurd (omega (arith, past, has.0.day, days_in_month_bounds (pos m.year) m.month))
       ] refl
 
-  module _ (w : ℕ) (vs : List ℤ) (row : IsMonthRow m w vs) where
+  module _ (w : ℕ) (vs : List ℤ) (right : IsMonth m) (row : AreDays (day_value m) w vs) where
+    -- a row's bit past the 31st day isn't set
+    past-bit : bit_at w 31 ≡ 0
+    past-bit = let small = row.fits in omega (arith, small)
+
+    -- the row has the usable value of each day
+    row-holds : (k : ℕ) → k < 32 → value_at w vs k ≡ usable_value m k
+    row-holds k lt = elim (cases_lt k 31) [
+      | inl less ↦ row.holds k less ∙ sym (usable_is m k right)
+      | inr last ↦
+          let same : 31 ≡ k = omega (arith, lt, last) in
+          ap (λ (b : ℕ). if_so (b == 1) (get_or vs k (pos 0))) (ap (bit_at w) (sym same) ∙ past-bit)
+          ∙ sym (ap (option_map (λ (x : DayValue). x.1)) (past-none k (get_or m.days k no_reading) last))
+    ]
+
+    -- on each day from the first one on, the row has the values of the month's usable days
     on_day : (k : ℕ) → value_on (days_from first w vs) (first +ℤ pos k) ≡ value_on (usable_days m) (first +ℤ pos k)
     on_day k =
         let usable = found m.days 0 k k (omega arith) in
         elim (cases_lt k 32) [
-          | inl lt ↦ from-value first w vs k lt ∙ row.holds k lt ∙ sym usable
+          | inl lt ↦ from-value first w vs k lt ∙ row-holds k lt ∙ sym usable
           | inr past ↦
               let none : usable_value m k ≡ None =
-              ap (option_map (λ (x : DayValue). x.1)) (past-none k (get_or m.days k no_reading) past) in
+              ap (option_map (λ (x : DayValue). x.1))
+              (past-none k (get_or m.days k no_reading) (omega (arith, past))) in
               from-other first w vs (first +ℤ pos k) (λ j lt e. omega (arith, ints, lt, past, e)) ∙ sym (usable ∙ none)
         ]
 
@@ -116,114 +183,38 @@ module _ (m : Month) (first : ℤ) (begins : day_number m.year m.month 1 ≡ Som
     -- and are as those of a row may be
     pub row-is : IsRow first w vs
     row-is = record {
-      fits = row.fits;
-      zeros = row.zeros;
+      fits = omega (arith, row.fits);
+      zeros = λ j lt. row.zeros j;
       days = λ j lt set.
           let some : usable_value m j ≡ Some (get_or vs j (pos 0)) =
-          sym (row.holds j lt) ∙ ap (λ (b : ℕ). if_so (b == 1) (get_or vs j (pos 0))) set in
+          sym (row-holds j lt) ∙ ap (λ (b : ℕ). if_so (b == 1) (get_or vs j (pos 0))) set in
           usable j (get_or vs j (pos 0)) some;
     }
       where
         usable : (j : ℕ) (v : ℤ) → usable_value m j ≡ Some v → is_day (first +ℤ pos j) ≡ true
         usable j v some =
-            elim (usable_day m (j + 1, get_or m.days j no_reading)) as (λ o. usable_day m (j + 1, get_or m.days j no_reading) ≡ o → option_map (λ (x : DayValue). x.1) o ≡ Some v → is_day (first +ℤ pos j) ≡ true) [
+            elim (usable_day m (j + 1, get_or m.days j no_reading)) as
+            (λ o. usable_day m (j + 1, get_or m.days j no_reading) ≡ o → option_map (λ (x : DayValue). x.1) o
+            ≡ Some v → is_day (first +ℤ pos j) ≡ true) [
               | None ↦ λ is e. absurd cc
               | Some x ↦ λ is e.
                   ap is_day (sym (day-at j (get_or m.days j no_reading) x is))
                   ∙ is_day-numbered m.year m.month (j + 1) x.0 (is_day_of m (j + 1) (get_or m.days j no_reading) x is)
             ] refl some
 
--- a month's row at the place of its first day
-pub row-at : (m : Month) (first : ℤ) (w : ℕ) (vs : List ℤ) (number block : ℤ) (place : ℕ) → number ≡ block → day_of block place ≡ first
-    → day_number m.year m.month 1 ≡ Some first → IsMonthRow m w vs
-    → IsRow (day_of number place) w vs × ((d : ℤ) → value_on (row_days number place w vs) d ≡ value_on (usable_days m) d)
-row-at m first w vs number block place near at begins row =
+-- a month's row at the place of its first day: as a row may be, with the values of the month's usable days
+pub row-at : (m : Month) (row : MonthRow) (first number block : ℤ) (place : ℕ) → IsMonth m → IsRowOf m row
+    → day_number row.year row.month 1 ≡ Some first → number ≡ block → day_of block place ≡ first
+    → IsRow (day_of number place) row.word row.values
+    × ((d : ℤ) → value_on (row_days number place row.word row.values) d ≡ value_on (usable_days m) d)
+row-at m row first number block place right of first_is near at =
+    let begins : day_number m.year m.month 1 ≡ Some first =
+    ap (λ (y : ℕ). day_number y m.month 1) (sym of.year)
+    ∙ ap (λ (t : ℕ). day_number row.year t 1) (sym of.month) ∙ first_is in
     let is : day_of number place ≡ first = ap (λ (n : ℤ). day_of n place) near ∙ at in
-    subst (λ (f : ℤ). IsRow f w vs × ((d : ℤ) → value_on (days_from f w vs) d ≡ value_on (usable_days m) d)) (sym is)
-    (row-is m first begins w vs row, row-values m first begins w vs row)
-
--- ---- values in their range
-
-reading-at : (rs : List Reading) (i : ℕ) → list_all is_reading rs ≡ true → is_reading (get_or rs i no_reading) ≡ true
-reading-at [] i all = refl
-reading-at (r ∷ rs) zero all = (both_true (is_reading r) (list_all is_reading rs) all).0
-reading-at (r ∷ rs) (suc i) all = reading-at rs i (both_true (is_reading r) (list_all is_reading rs) all).1
-
-le_from : (a b : ℤ) → int_le a b ≡ true → a ≤ℤ b
-le_from a b e = grind (arith, ints)
-
-fits_from : (v : ℤ) → is_readable v ≡ true → to_z w32 (of_z w32 v) ≡ v
-fits_from v e =
-    let both = both_true (int_le (neg_ℤ (pos 9998)) v) (int_le v (pos 99_999)) e in
-    let low : neg_ℤ (pos 9998) ≤ℤ v = le_from (neg_ℤ (pos 9998)) v both.0 in
-    let high : v ≤ℤ pos 99_999 = le_from v (pos 99_999) both.1 in
-    omega (arith, ints, low, high)
-
--- a usable value fits into 32 bits
-pub value-fits : (m : Month) (i : ℕ) (v : ℤ) → IsMonth m → usable_value m i ≡ Some v → to_z w32 (of_z w32 v) ≡ v
-value-fits m i v right some =
-    let r : Reading = get_or m.days i no_reading in
-    elim (usable_day m (i + 1, r)) as (λ o. usable_day m (i + 1, r) ≡ o → option_map (λ (x : DayValue). x.1) o ≡ Some v → to_z w32 (of_z w32 v) ≡ v) [
-      | None ↦ λ is e. absurd cc
-      | Some x ↦ λ is e.
-          let same : x.1 ≡ v = cc in
-          fits_from v (ap is_readable (sym same) ∙ readable_day m (i + 1) r x (reading-at m.days i right.values) is)
-    ] refl some
-
--- ---- a row, a day at a time
-
--- a word and values have the usable days among the first so many of a month
-pub record HasFirst (m : Month) (i w : ℕ) (vs : List ℤ) : Type 0 where
-  pub holds : (j : ℕ) → j < i → value_at w vs j ≡ usable_value m j
-  pub later : (j : ℕ) → i ≤ j → bit_at w j ≡ 0
-  pub zeros : (j : ℕ) → bit_at w j ≡ 0 → get_or vs j (pos 0) ≡ pos 0
-
-absent_value : (w : ℕ) (vs : List ℤ) (j : ℕ) → bit_at w j ≡ 0 → value_at w vs j ≡ None
-absent_value w vs j e = ap (λ (b : ℕ). if_so (b == 1) (get_or vs j (pos 0))) e
-
-module _ (m : Month) (i w : ℕ) (vs : List ℤ) (is : HasFirst m i w vs) where
-  -- a day that isn't usable is passed over
-  pub first-passed : usable_value m i ≡ None → HasFirst m (i + 1) w vs
-  first-passed none = record {
-    holds = λ j lt. elim (cases_lt j i) [
-      | inl before ↦ is.holds j before
-      | inr here ↦
-          let same : i ≡ j = omega arith in
-          absent_value w vs j (is.later j (omega arith)) ∙ sym none ∙ ap (usable_value m) same
-    ];
-    later = λ j le. is.later j (omega (arith, le));
-    zeros = is.zeros;
-  }
-
-  bit-other : (j : ℕ) → (j ≡ i → ⊥) → bit_at (bit_or w (2 ^ i)) j ≡ bit_at w j
-  bit-other j ne = omega (arith, bit_at_or w (2 ^ i) j, bit_at-pow_other i j ne, bit_at-lt w j)
-
-  bit-here : bit_at (bit_or w (2 ^ i)) i ≡ 1
-  bit-here = omega (arith, bit_at_or w (2 ^ i) i, bit_at-pow_same i, bit_at-lt w i)
-
-  -- a usable one is set
-  pub first-set : (v : ℤ) → usable_value m i ≡ Some v → i < length vs → HasFirst m (i + 1) (bit_or w (2 ^ i)) (set vs i v)
-  first-set v some in_range = record {
-    holds = λ j lt. elim (cases_lt j i) [
-      | inl before ↦
-          ap (λ (b : ℕ). if_so (b == 1) (get_or (set vs i v) j (pos 0))) (bit-other j (λ e. omega (arith, before, e)))
-          ∙ ap (if_so (bit_at w j == 1)) (get_or-set_other vs i j v (pos 0) (omega (arith, before)))
-          ∙ is.holds j before
-      | inr here ↦
-          let same : i ≡ j = omega arith in
-          subst (λ (k : ℕ). value_at (bit_or w (2 ^ i)) (set vs i v) k ≡ usable_value m k) same
-          (ap (λ (b : ℕ). if_so (b == 1) (get_or (set vs i v) i (pos 0))) bit-here ∙ ap Some (get_or-set_same vs i v (pos 0) in_range) ∙ sym some)
-    ];
-    later = λ j le. bit-other j (λ e. omega (arith, le, e)) ∙ is.later j (omega (arith, le));
-    zeros = λ j none.
-        let ne : j ≡ i → ⊥ = λ e. let here = bit-here in omega (arith, here, none, ap (bit_at (bit_or w (2 ^ i))) e) in
-        get_or-set_other vs i j v (pos 0) ne ∙ is.zeros j (sym (bit-other j ne) ∙ none);
-  }
-
--- of no day yet
-pub first-none : (m : Month) (zs : List ℤ) → list_all (int_eq (pos 0)) zs ≡ true → HasFirst m 0 0 zs
-first-none m zs all = record {
-  holds = λ j lt. absurd (omega arith);
-  later = λ j le. bit_at-zero j;
-  zeros = λ j none. zero_at zs all j;
-}
+    subst (λ (f : ℤ). IsRow f row.word row.values
+    × ((d : ℤ) → value_on (days_from f row.word row.values) d ≡ value_on (usable_days m) d)) (sym is) (
+      row-is m first begins row.word row.values right of.days,
+      row-values m first begins row.word row.values right
+          of.days,
+    )

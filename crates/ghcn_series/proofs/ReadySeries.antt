@@ -1,5 +1,6 @@
 -- A gathering becomes a series.
-use Rattle.std.proofs.Common.{◌≡◌, ℕ, suc, ◌+◌, ◌<◌, Bool, true, false, cond, List, [], ◌∷◌, ◌++◌, length, Option, None, Some, refl, sym, ap, ◌∙◌, subst, append_assoc, arith, ℤ, pos}
+use Rattle.std.proofs.Common.{◌≡◌, ℕ, suc, ◌+◌, ◌<◌, Bool, true, false, cond, List, [], ◌∷◌, ◌++◌, length, Option, None}
+use Rattle.std.proofs.Common.{Some, refl, sym, ap, ◌∙◌, subst, append_assoc, arith, ℤ, pos}
 use Rattle.std.specs.Prelude.{◌==◌, ◌&&◌, ◌||◌, int_le, int_lt, neg_ℤ}
 use Rattle.std.specs.declared.cmp.Ordering.TheVariants.{Less}
 use Rattle.std.specs.Ordering.{int_cmp, int_eq}
@@ -23,7 +24,8 @@ use Rattle.ghcn_files.specs.Months.{is_reading, is_readable, IsMonth}
 use Rattle.ghcn_series.specs.declared.gathering.Gathering.{Gathering}
 use Rattle.ghcn_series.specs.Series.{DayValue, Usable, IsSeries, by_day, is_by_day, is_value}
 use Rattle.ghcn_series.specs.Says.{fact_if}
-use Rattle.ghcn_series.specs.Gathered.{counted, usable_day, usable_days, gathered_days, IsGathering, IsReady, gathered_series}
+use Rattle.ghcn_series.specs.Gathered.{counted, usable_day, usable_days, gathered_days, IsGathering, IsReady}
+use Rattle.ghcn_series.specs.Gathered.{gathered_series}
 use Rattle.ghcn_series.proofs.MonthDays.{has_number}
 use Rattle.ghcn_series.proofs.ApartParts.{apart-distinct}
 use Rattle.ghcn_series.proofs.DistinctDays.{distinct_days}
@@ -34,29 +36,42 @@ use Rattle.ghcn_series.proofs.ListFacts.{both_true, and_true}
 abbrev IsDayOf : Element → DayValue → Bool
 IsDayOf e x = is_day x.0 && is_value e x.1
 
+-- a day that has a number is a day
 pub is_day-numbered : (y m d : ℕ) (n : ℤ) → day_number y m d ≡ Some n → is_day n ≡ true
 is_day-numbered y m d n e =
     let has = has_number y m d n e in
-    let civil : IsCivilDate (pos y) m d = ((omega (arith, ints, has.0.year), omega (arith, ints, has.0.year)), has.0.month, has.0.day) in
+    let civil : IsCivilDate (pos y) m d = (
+      (omega (arith, ints, has.0.year), omega (arith, ints, has.0.year)),
+      has.0.month,
+      has.0.day,
+    ) in
     ap is_day has.1 ∙ is_day-from_civil y m d civil has.0.year.0
 
 -- what a usable day is made of
 Parts : Month → Option ℤ → Option ℤ → DayValue → Type 0
 Parts m day value d = (day ≡ Some d.0) × (value ≡ Some d.1) × ((may_be_negative m.element || int_le (pos 0) d.1) ≡ true)
 
-parts_of : (m : Month) (b : Bool) (o v : Option ℤ) (d : DayValue) → option_and_then counted (fact_if m b o v) ≡ Some d → Parts m o v d
+-- a fact that counts has a day and a value that its element can have
+parts_of : (m : Month) (b : Bool) (o v : Option ℤ) (d : DayValue) → option_and_then counted (fact_if m b o v) ≡ Some d
+    → Parts m o v d
 unfolding Parts
 parts_of m true o v d e = absurd cc
 parts_of m false None v d e = absurd cc
 parts_of m false (Some n) None d e = absurd cc
 parts_of m false (Some n) (Some v) d e =
-    elim (may_be_negative m.element || int_le (pos 0) v) as (λ b. (may_be_negative m.element || int_le (pos 0) v) ≡ b → cond b (Some (n, v)) None ≡ Some d → Parts m (Some n) (Some v) d) [
+    elim (may_be_negative m.element || int_le (pos 0) v) as (λ b. (may_be_negative m.element || int_le (pos 0) v) ≡ b
+    → cond b (Some (n, v)) None ≡ Some d → Parts m (Some n) (Some v) d) [
       | true ↦ λ counts is.
-          let pair : ◌≡◌ {A = DayValue} (n, v) d = cc in
-          (ap (λ (x : DayValue). Some x.0) pair, ap (λ (x : DayValue). Some x.1) pair, ap (λ (x : DayValue). may_be_negative m.element || int_le (pos 0) x.1) (sym pair) ∙ counts)
+          let pair : ◌≡◌ {A = DayValue} (n, v) d = cc in (
+            ap (λ (x : DayValue). Some x.0) pair,
+            ap (λ (x : DayValue). Some x.1) pair,
+            ap
+                (λ (x : DayValue). may_be_negative m.element || int_le (pos 0) x.1) (sym pair) ∙ counts,
+          )
       | false ↦ λ counts is. absurd cc
     ] refl e
 
+-- four passed tests pass all
 four : (a b c d : Bool) → a ≡ true → (b && c) ≡ true → d ≡ true → (a && (b && c && d)) ≡ true
 four true true true true p q r = refl
 four true true true false p q r = absurd cc
@@ -64,39 +79,56 @@ four true true false d p q r = absurd cc
 four true false c d p q r = absurd cc
 four false b c d p q r = absurd cc
 
+-- a readable value is in its range
 readable_from : (o : Option ℤ) (v : ℤ) → option_map_or is_readable o true ≡ true → o ≡ Some v → is_readable v ≡ true
 readable_from None v r e = absurd cc
 readable_from (Some x) v r e = let same : x ≡ v = cc in ap is_readable (sym same) ∙ r
 
-right_day : (m : Month) (j : ℕ) (r : Reading) (d : DayValue) → is_reading r ≡ true → usable_day m (j, r) ≡ Some d → IsDayOf m.element d ≡ true
+-- a usable day is right
+right_day : (m : Month) (j : ℕ) (r : Reading) (d : DayValue) → is_reading r ≡ true → usable_day m (j, r) ≡ Some d
+    → IsDayOf m.element d ≡ true
 unfolding Parts
 right_day m j r d reads is =
     let parts = parts_of m r.flagged (day_number m.year m.month j) r.value d is in
-    four (is_day d.0) (int_le (neg_ℤ (pos 9998)) d.1) (int_le d.1 (pos 99_999)) (may_be_negative m.element || int_le (pos 0) d.1)
+    four (is_day d.0) (int_le (neg_ℤ (pos 9998)) d.1) (int_le d.1 (pos 99_999))
+    (may_be_negative m.element || int_le (pos 0) d.1)
     (is_day-numbered m.year m.month j d.0 parts.0) (readable_from r.value d.1 reads parts.1) parts.2
 
 -- what is read of a usable day is in its range
-pub readable_day : (m : Month) (j : ℕ) (r : Reading) (d : DayValue) → is_reading r ≡ true → usable_day m (j, r) ≡ Some d → is_readable d.1 ≡ true
+pub readable_day : (m : Month) (j : ℕ) (r : Reading) (d : DayValue) → is_reading r ≡ true → usable_day m (j, r) ≡ Some d
+    → is_readable d.1 ≡ true
 unfolding Parts
-readable_day m j r d reads is = readable_from r.value d.1 reads (parts_of m r.flagged (day_number m.year m.month j) r.value d is).1
+readable_day m j r d reads is = readable_from r.value d.1 reads
+    (parts_of m r.flagged (day_number m.year m.month j) r.value d is).1
 
-right_days : (m : Month) (j : ℕ) (rs : List Reading) → list_all is_reading rs ≡ true → list_all (IsDayOf m.element) (filter_map (usable_day m) (enumerate_from j rs)) ≡ true
+-- so are those of all readings
+right_days : (m : Month) (j : ℕ) (rs : List Reading) → list_all is_reading rs ≡ true
+    → list_all (IsDayOf m.element) (filter_map (usable_day m) (enumerate_from j rs)) ≡ true
 right_days m j [] all = refl
 right_days m j (r ∷ rs) all =
     let both = both_true (is_reading r) (list_all is_reading rs) all in
-    elim (usable_day m (j, r)) as (λ o. usable_day m (j, r) ≡ o → list_all (IsDayOf m.element) (cons_option o (filter_map (usable_day m) (enumerate_from (j + 1) rs))) ≡ true) [
+    elim (usable_day m (j, r)) as (λ o. usable_day m (j, r) ≡ o
+    → list_all (IsDayOf m.element) (cons_option o (filter_map (usable_day m) (enumerate_from (j + 1) rs))) ≡ true) [
       | None ↦ λ is. right_days m (j + 1) rs both.1
-      | Some d ↦ λ is. and_true (IsDayOf m.element d) (list_all (IsDayOf m.element) (filter_map (usable_day m) (enumerate_from (j + 1) rs))) (right_day m j r d both.0 is) (right_days m (j + 1) rs both.1)
+      | Some d ↦ λ is. and_true (IsDayOf m.element d)
+          (list_all (IsDayOf m.element) (filter_map (usable_day m) (enumerate_from (j + 1) rs)))
+          (right_day m j r d both.0 is) (right_days m (j + 1) rs both.1)
     ] refl
 
-all_right : (e : Element) (ms : List Month) → AllByRecursion (λ m. IsMonth m × (m.element ≡ e)) ms → list_all (IsDayOf e) (flat_map usable_days ms) ≡ true
+-- and those of all months
+all_right : (e : Element) (ms : List Month) → AllByRecursion (λ m. IsMonth m × (m.element ≡ e)) ms
+    → list_all (IsDayOf e) (flat_map usable_days ms) ≡ true
 all_right e [] all = refl
 all_right e (m ∷ ms) all =
-    let here : list_all (IsDayOf e) (usable_days m) ≡ true = ap (λ (f : Element). list_all (IsDayOf f) (usable_days m)) (sym all.0.1) ∙ right_days m 1 m.days all.0.0.values in
+    let here : list_all (IsDayOf e) (usable_days m) ≡ true = ap (λ (f : Element). list_all (IsDayOf f) (usable_days m))
+    (sym all.0.1) ∙ right_days m 1 m.days all.0.0.values in
     list_all-append (IsDayOf e) (usable_days m) (flat_map usable_days ms)
-    ∙ and_true (list_all (IsDayOf e) (usable_days m)) (list_all (IsDayOf e) (flat_map usable_days ms)) here (all_right e ms all.1)
+    ∙ and_true (list_all (IsDayOf e) (usable_days m)) (list_all (IsDayOf e) (flat_map usable_days ms)) here
+    (all_right e ms all.1)
 
-placed_right : (P : DayValue → Bool) (x : DayValue) (ys : List DayValue) → P x ≡ true → list_all P ys ≡ true → list_all P (placed by_day x ys) ≡ true
+-- a right day put in its place leaves all right
+placed_right : (P : DayValue → Bool) (x : DayValue) (ys : List DayValue) → P x ≡ true → list_all P ys ≡ true
+    → list_all P (placed by_day x ys) ≡ true
 placed_right P x [] p all = and_true (P x) true p refl
 placed_right P x (y ∷ ys) p all =
     let both = both_true (P y) (list_all P ys) all in
@@ -105,12 +137,15 @@ placed_right P x (y ∷ ys) p all =
       | false ↦ and_true (P y) (list_all P (placed by_day x ys)) both.0 (placed_right P x ys p both.1)
     ]
 
-sorted_right : (P : DayValue → Bool) (xs : List DayValue) → list_all P xs ≡ true → list_all P (sorted_by by_day xs) ≡ true
+-- right days in order are right
+sorted_right : (P : DayValue → Bool) (xs : List DayValue) → list_all P xs ≡ true → list_all P (sorted_by by_day xs)
+    ≡ true
 sorted_right P [] all = refl
 sorted_right P (x ∷ xs) all =
     let both = both_true (P x) (list_all P xs) all in
     placed_right P x (sorted_by by_day xs) both.0 (sorted_right P xs both.1)
 
+-- a day put in its place is one more
 length-placed : (x : DayValue) (ys : List DayValue) → length (placed by_day x ys) ≡ suc (length ys)
 length-placed x [] = refl
 length-placed x (y ∷ ys) =
@@ -124,15 +159,19 @@ pub length-sorted : (xs : List DayValue) → length (sorted_by by_day xs) ≡ le
 length-sorted [] = refl
 length-sorted (x ∷ xs) = length-placed x (sorted_by by_day xs) ∙ ap suc (length-sorted xs)
 
+-- a number that compares as less passes the test
 lt_from_cmp : (a b : ℤ) → int_cmp a b ≡ Less → int_lt a b ≡ true
 lt_from_cmp a b e = grind (arith, ints)
 
+-- days whose keys are in order pass the test of order
 rises : (days : List DayValue) → IsStrictlySortedBy int_cmp (keys_of days) → is_by_day days ≡ true
 unfolding IsStrictlySortedBy
 rises [] sorted = refl
 rises (x ∷ []) sorted = refl
-rises (x ∷ y ∷ ys) sorted = and_true (int_lt x.0 y.0) (is_by_day (y ∷ ys)) (lt_from_cmp x.0 y.0 sorted.0.0) (rises (y ∷ ys) sorted.1)
+rises (x ∷ y ∷ ys) sorted = and_true (int_lt x.0 y.0) (is_by_day (y ∷ ys)) (lt_from_cmp x.0 y.0 sorted.0.0)
+    (rises (y ∷ ys) sorted.1)
 
+-- a number that isn't 0 is above 0
 positive : (n : ℕ) → (n == 0) ≡ false → 0 < n
 positive n e = grind (arith, nat_tests)
 
@@ -140,13 +179,17 @@ positive n e = grind (arith, nat_tests)
 pub gathered-sorted : (g : Gathering) (months : List Month) → IsGathering g months
     → sorted_by by_day (gathered_days g) ≡ sorted_by by_day (flat_map usable_days months)
 gathered-sorted g months is =
-    sorted-same (gathered_days g) (flat_map usable_days months) (apart-distinct _ is.parts.apart) (distinct_days months is.distinct) is.values
+    sorted-same (gathered_days g) (flat_map usable_days months) (apart-distinct _ is.parts.apart)
+    (distinct_days months is.distinct) is.values
 
 -- a gathering with a usable day becomes a series
-pub is_series : (id : StationId) (g : Gathering) (days : List DayValue) → IsReady g → (length (gathered_days g) == 0) ≡ false → days ≡ sorted_by by_day (gathered_days g) → IsSeries (record { id = id; element = g.element; days = days })
+pub is_series : (id : StationId) (g : Gathering) (days : List DayValue) → IsReady g → (length (gathered_days g) == 0)
+    ≡ false → days ≡ sorted_by by_day (gathered_days g)
+    → IsSeries (record { id = id; element = g.element; days = days })
 is_series id g days ready some sorted =
     let apart : IsDistinct int_eq (keys_of (gathered_days g)) = apart-distinct _ ready.holds.parts.apart in
-    let all : list_all (IsDayOf g.element) (flat_map usable_days ready.months) ≡ true = all_right g.element ready.months ready.right in
+    let all : list_all (IsDayOf g.element) (flat_map usable_days ready.months) ≡ true = all_right g.element ready.months
+    ready.right in
     let P : List DayValue → Type 0 = λ ds. IsSeries (record { id = id; element = g.element; days = ds }) in
     subst P (sym sorted) (record {
       nonempty = omega (arith, length-sorted (gathered_days g), positive (length (gathered_days g)) some);
@@ -157,20 +200,27 @@ is_series id g days ready some sorted =
     })
 
 -- a gathering without a usable day adds no series
-pub no_series : (id : StationId) (g : Gathering) (held all : List Usable) (rest left : List Gathering) → rest ≡ g ∷ left → (length (gathered_days g) == 0) ≡ true
+pub no_series : (id : StationId) (g : Gathering) (held all : List Usable) (rest left : List Gathering) → rest ≡ g ∷ left
+    → (length (gathered_days g) == 0) ≡ true
     → held ++ filter_map (gathered_series id) rest ≡ all → held ++ filter_map (gathered_series id) left ≡ all
 no_series id g held all rest left step empty is =
-    let none : gathered_series id g ≡ None = ap (λ (b : Bool). cond b None (Some (record { id = id; element = g.element; days = sorted_by by_day (gathered_days g) }))) empty in
+    let none : gathered_series id g ≡ None = ap
+    (λ (b : Bool). cond b None (Some
+    (record { id = id; element = g.element; days = sorted_by by_day (gathered_days g) }))) empty in
     ap (λ (o : Option Usable). held ++ cons_option o (filter_map (gathered_series id) left)) (sym none)
     ∙ ap (λ gs. held ++ filter_map (gathered_series id) gs) (sym step)
     ∙ is
 
 -- any other adds one
-pub one_series : (id : StationId) (g : Gathering) (s : Usable) (held now all : List Usable) (rest left : List Gathering) → rest ≡ g ∷ left → (length (gathered_days g) == 0) ≡ false
+pub one_series : (id : StationId) (g : Gathering) (s : Usable) (held now all : List Usable) (rest left : List Gathering)
+    → rest ≡ g ∷ left → (length (gathered_days g) == 0) ≡ false
     → s ≡ record { id = id; element = g.element; days = sorted_by by_day (gathered_days g) } → now ≡ held ++ s ∷ []
     → held ++ filter_map (gathered_series id) rest ≡ all → now ++ filter_map (gathered_series id) left ≡ all
 one_series id g s held now all rest left step some made put is =
-    let one : gathered_series id g ≡ Some s = ap (λ (b : Bool). cond b None (Some (record { id = id; element = g.element; days = sorted_by by_day (gathered_days g) }))) some ∙ ap (λ (u : Usable). Some u) (sym made) in
+    let one : gathered_series id g ≡ Some s = ap
+    (λ (b : Bool). cond b None (Some
+    (record { id = id; element = g.element; days = sorted_by by_day (gathered_days g) }))) some
+    ∙ ap (λ (u : Usable). Some u) (sym made) in
     ap (λ us. us ++ filter_map (gathered_series id) left) put
     ∙ append_assoc held (s ∷ []) (filter_map (gathered_series id) left)
     ∙ ap (λ (o : Option Usable). held ++ cons_option o (filter_map (gathered_series id) left)) (sym one)

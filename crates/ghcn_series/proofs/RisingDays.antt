@@ -1,5 +1,6 @@
 -- Days of blocks in order rise, and rising days are told by their values alone.
-use Rattle.std.proofs.Common.{◌≡◌, ℕ, zero, suc, ◌+◌, ◌<◌, Bool, true, false, cond, List, [], ◌∷◌, ◌++◌, length, get_or, Some, None, refl, sym, ap, subst, ◌∙◌, arith, ℤ, pos, ◌+ℤ◌, ◌<ℤ◌, ◌≤ℤ◌}
+use Rattle.std.proofs.Common.{◌≡◌, ℕ, zero, suc, ◌+◌, ◌<◌, Bool, true, false, cond, List, [], ◌∷◌, ◌++◌, length, get_or}
+use Rattle.std.proofs.Common.{Some, None, refl, sym, ap, subst, ◌∙◌, arith, ℤ, pos, ◌+ℤ◌, ◌<ℤ◌, ◌≤ℤ◌}
 use Rattle.std.specs.Prelude.{◌==◌}
 use Rattle.std.specs.Int.{bit_at}
 use Rattle.std.specs.List.{cons_option, filter_map, find, range_with_len, AllByRecursion}
@@ -7,40 +8,42 @@ use Rattle.std.specs.Option.{option_map}
 use Rattle.std.specs.Ordering.{int_eq}
 use Rattle.std.proofs.Common.{inl, inr}
 use Rattle.std.proofs.lemmas.Int.{ints, by_lt_z}
+use Rattle.ghcn_series.proofs.ListFacts.{weaken, both_all}
 use Rattle.ghcn_series.proofs.JoinedDays.{same_block}
 use Rattle.ghcn_fields.specs.Days.{block_of}
 use Rattle.ghcn_series.specs.Series.{DayValue, value_on}
-use Rattle.ghcn_series.specs.Packed.{Block, block_start, if_so, day_at, block_days, days_from, days_of, blocks_of, AreRising, AreColumns}
+use Rattle.ghcn_series.specs.Packed.{Block, block_start, if_so, day_at, block_days, days_from, days_of, blocks_of}
+use Rattle.ghcn_series.specs.Packed.{AreRising, AreColumns}
 use Rattle.ghcn_series.proofs.Lookups.{no_block, int_eq-no, int_eq-yes, block-holds, blocks-at, blocks-length}
 use Rattle.ghcn_series.proofs.Nexts.{AreOf, block-own}
 
-pub from_all : {A : Type 0} (P Q : A → Type 0) (xs : List A) → ((x : A) → P x → Q x) → AllByRecursion P xs → AllByRecursion Q xs
-from_all P Q [] f all = tt
-from_all P Q (x ∷ xs) f all = (f x all.0, from_all P Q xs f all.1)
-
-all-append : {A : Type 0} (P : A → Type 0) (xs ys : List A) → AllByRecursion P xs → AllByRecursion P ys → AllByRecursion P (xs ++ ys)
-all-append P [] ys a b = b
-all-append P (x ∷ xs) ys a b = (a.0, all-append P xs ys a.1 b)
-
 -- days of places from s on are later than one before s
-cons-later : (d : ℤ) (t : Bool) (x : DayValue) (xs : List DayValue) → d <ℤ x.0 → AllByRecursion (λ y. d <ℤ y.0) xs → AllByRecursion (λ y. d <ℤ y.0) (cons_option (if_so t x) xs)
+cons-later : (d : ℤ) (t : Bool) (x : DayValue) (xs : List DayValue) → d <ℤ x.0 → AllByRecursion (λ y. d <ℤ y.0) xs
+    → AllByRecursion (λ y. d <ℤ y.0) (cons_option (if_so t x) xs)
 cons-later d true x xs lt all = (lt, all)
 cons-later d false x xs lt all = all
 
-places-later : (b : Block) (k s n : ℕ) → k < s → AllByRecursion (λ y. (block_start b.0 +ℤ pos k) <ℤ y.0) (filter_map (day_at b) (range_with_len s n))
+-- days at later places are later
+places-later : (b : Block) (k s n : ℕ) → k < s → AllByRecursion (λ y. (block_start b.0 +ℤ pos k) <ℤ y.0)
+    (filter_map (day_at b) (range_with_len s n))
 places-later b k s zero lt = tt
 places-later b k s (suc n) lt =
-    cons-later (block_start b.0 +ℤ pos k) (bit_at b.1.0 s == 1) (block_start b.0 +ℤ pos s, get_or b.1.1 s (pos 0)) (filter_map (day_at b) (range_with_len (s + 1) n))
+    cons-later (block_start b.0 +ℤ pos k) (bit_at b.1.0 s == 1) (block_start b.0 +ℤ pos s, get_or b.1.1 s (pos 0))
+    (filter_map (day_at b) (range_with_len (s + 1) n))
     (omega (arith, ints)) (places-later b k (s + 1) n (omega arith))
 
-cons-rising : (t : Bool) (x : DayValue) (xs : List DayValue) → AllByRecursion (λ y. x.0 <ℤ y.0) xs → AreRising xs → AreRising (cons_option (if_so t x) xs)
+-- a day before rising ones leaves them rising
+cons-rising : (t : Bool) (x : DayValue) (xs : List DayValue) → AllByRecursion (λ y. x.0 <ℤ y.0) xs → AreRising xs
+    → AreRising (cons_option (if_so t x) xs)
 cons-rising true x xs all rise = (all, rise)
 cons-rising false x xs all rise = rise
 
+-- the days at a block's places rise
 places-rise : (b : Block) (s n : ℕ) → AreRising (filter_map (day_at b) (range_with_len s n))
 places-rise b s zero = tt
 places-rise b s (suc n) =
-    cons-rising (bit_at b.1.0 s == 1) (block_start b.0 +ℤ pos s, get_or b.1.1 s (pos 0)) (filter_map (day_at b) (range_with_len (s + 1) n))
+    cons-rising (bit_at b.1.0 s == 1) (block_start b.0 +ℤ pos s, get_or b.1.1 s (pos 0))
+    (filter_map (day_at b) (range_with_len (s + 1) n))
     (places-later b s (s + 1) n (omega arith)) (places-rise b (s + 1) n)
 
 -- the days of a block rise
@@ -55,61 +58,85 @@ later_block a b lt =
     let of_b = block-holds b in
     omega (arith, ints, of_a.0, of_a.1, of_b.0, of_b.1)
 
-rising-append : (n : ℤ) (xs ys : List DayValue) → AreOf n xs → AllByRecursion (λ y. n <ℤ block_of y.0) ys → AreRising xs → AreRising ys → AreRising (xs ++ ys)
+-- days of a block and rising ones of later blocks rise
+rising-append : (n : ℤ) (xs ys : List DayValue) → AreOf n xs → AllByRecursion (λ y. n <ℤ block_of y.0) ys → AreRising xs
+    → AreRising ys → AreRising (xs ++ ys)
 rising-append n [] ys own later a b = b
 rising-append n (x ∷ xs) ys own later a b = (
-  all-append (λ (y : DayValue). x.0 <ℤ y.0) xs ys a.0
-      (from_all (λ (y : DayValue). n <ℤ block_of y.0) (λ (y : DayValue). x.0 <ℤ y.0) ys (λ y lt. later_block x.0 y.0 (subst (λ (z : ℤ). z <ℤ block_of y.0) (sym own.0) lt)) later),
+  both_all (λ (y : DayValue). x.0 <ℤ y.0) xs ys a.0
+      (weaken (λ (y : DayValue). n <ℤ block_of y.0) (λ (y : DayValue). x.0 <ℤ y.0) ys
+      (λ y lt. later_block x.0 y.0 (subst (λ (z : ℤ). z <ℤ block_of y.0) (sym own.0) lt)) later),
   rising-append n xs ys own.1 later a.1 b,
 )
 
 -- the blocks' numbers are greater than one
-all_later : (n : ℤ) (bs : List Block) → ((k : ℕ) → k < length bs → n <ℤ (get_or bs k no_block).0) → AllByRecursion (λ y. n <ℤ block_of y.0) (days_of bs)
+all_later : (n : ℤ) (bs : List Block) → ((k : ℕ) → k < length bs → n <ℤ (get_or bs k no_block).0)
+    → AllByRecursion (λ y. n <ℤ block_of y.0) (days_of bs)
 all_later n [] h = tt
 all_later n (b ∷ bs) h =
     let first : n <ℤ b.0 = h 0 (omega arith) in
-    all-append (λ (y : DayValue). n <ℤ block_of y.0) (block_days b) (days_of bs)
-    (from_all (λ (x : DayValue). block_of x.0 ≡ b.0) (λ (y : DayValue). n <ℤ block_of y.0) (block_days b) (λ x e. subst (λ (z : ℤ). n <ℤ z) (sym e) first) (block-own b))
+    both_all (λ (y : DayValue). n <ℤ block_of y.0) (block_days b) (days_of bs)
+    (weaken (λ (x : DayValue). block_of x.0 ≡ b.0) (λ (y : DayValue). n <ℤ block_of y.0) (block_days b)
+    (λ x e. subst (λ (z : ℤ). n <ℤ z) (sym e) first) (block-own b))
     (all_later n bs (λ k lt. h (suc k) (omega arith)))
 
-blocks-rise : (bs : List Block) → ((i j : ℕ) → i < j → j < length bs → (get_or bs i no_block).0 <ℤ (get_or bs j no_block).0) → AreRising (days_of bs)
+-- the days of rising blocks rise
+blocks-rise : (bs : List Block) → ((i j : ℕ) → i < j → j < length bs
+    → (get_or bs i no_block).0 <ℤ (get_or bs j no_block).0) → AreRising (days_of bs)
 blocks-rise [] h = tt
 blocks-rise (b ∷ bs) h =
-    rising-append b.0 (block_days b) (days_of bs) (block-own b) (all_later b.0 bs (λ k lt. h 0 (suc k) (omega arith) (omega arith)))
+    rising-append b.0 (block_days b) (days_of bs) (block-own b)
+    (all_later b.0 bs (λ k lt. h 0 (suc k) (omega arith) (omega arith)))
     (block-rises b) (blocks-rise bs (λ i j lt in_range. h (suc i) (suc j) (omega arith) (omega arith)))
 
 -- the days of columns rise
-pub columns-rise : (ns : List ℤ) (ws : List ℕ) (vs : List (List ℤ)) → AreColumns ns ws vs → AreRising (days_of (blocks_of ns ws vs))
+pub columns-rise : (ns : List ℤ) (ws : List ℕ) (vs : List (List ℤ)) → AreColumns ns ws vs
+    → AreRising (days_of (blocks_of ns ws vs))
 columns-rise ns ws vs cols = blocks-rise (blocks_of ns ws vs) (λ i j lt in_range.
     let long = blocks-length ns ws vs cols.blocks.enough_words cols.blocks.enough_values in
-    let at_i : get_or ns i (pos 0) ≡ (get_or (blocks_of ns ws vs) i no_block).0 = sym (ap (λ (b : Block). b.0) (blocks-at ns ws vs i cols.blocks.enough_words cols.blocks.enough_values (omega arith))) in
-    let at_j : get_or ns j (pos 0) ≡ (get_or (blocks_of ns ws vs) j no_block).0 = sym (ap (λ (b : Block). b.0) (blocks-at ns ws vs j cols.blocks.enough_words cols.blocks.enough_values (omega arith))) in
-    subst (λ (z : ℤ). z <ℤ (get_or (blocks_of ns ws vs) j no_block).0) at_i (subst (λ (z : ℤ). get_or ns i (pos 0) <ℤ z) at_j (cols.rise.less i j lt (omega arith))))
+    let at_i : get_or ns i (pos 0) ≡ (get_or (blocks_of ns ws vs) i no_block).0 = sym
+    (ap (λ (b : Block). b.0) (blocks-at ns ws vs i cols.blocks.enough_words cols.blocks.enough_values
+    (omega arith))) in
+    let at_j : get_or ns j (pos 0) ≡ (get_or (blocks_of ns ws vs) j no_block).0 = sym
+    (ap (λ (b : Block). b.0) (blocks-at ns ws vs j cols.blocks.enough_words cols.blocks.enough_values
+    (omega arith))) in
+    subst (λ (z : ℤ). z <ℤ (get_or (blocks_of ns ws vs) j no_block).0) at_i
+    (subst (λ (z : ℤ). get_or ns i (pos 0) <ℤ z) at_j (cols.rise.less i j lt (omega arith))))
 
 -- ---- rising days are told by their values
 
 -- the first of other days is passed over
 pub behind : (x : DayValue) (xs : List DayValue) (d : ℤ) → (x.0 ≡ d → ⊥) → value_on (x ∷ xs) d ≡ value_on xs d
-behind x xs d other = ap (λ (b : Bool). option_map (λ (y : DayValue). y.1) (cond b (Some x) (find (λ y. int_eq y.0 d) xs))) (int_eq-no x.0 d other)
+behind x xs d other = ap (λ (b : Bool). option_map (λ (y : DayValue). y.1)
+    (cond b (Some x) (find (λ y. int_eq y.0 d) xs))) (int_eq-no x.0 d other)
 
+-- the first day has its value
 pub front : (x : DayValue) (xs : List DayValue) → value_on (x ∷ xs) x.0 ≡ Some x.1
-front x xs = ap (λ (b : Bool). option_map (λ (y : DayValue). y.1) (cond b (Some x) (find (λ y. int_eq y.0 x.0) xs))) (int_eq-yes x.0 x.0 refl)
+front x xs = ap (λ (b : Bool). option_map (λ (y : DayValue). y.1) (cond b (Some x) (find (λ y. int_eq y.0 x.0) xs)))
+    (int_eq-yes x.0 x.0 refl)
 
 -- a day before all has no value
 before_all : (xs : List DayValue) (d : ℤ) → AllByRecursion (λ y. d <ℤ y.0) xs → value_on xs d ≡ None
 before_all [] d all = refl
 before_all (x ∷ xs) d all = behind x xs d (λ e. let lt = all.0 in omega (arith, ints, e)) ∙ before_all xs d all.1
 
-earlier_all : (a b : ℤ) (xs : List DayValue) → a <ℤ b → AllByRecursion (λ y. b <ℤ y.0) xs → AllByRecursion (λ y. a <ℤ y.0) xs
-earlier_all a b xs lt all = from_all (λ (y : DayValue). b <ℤ y.0) (λ (y : DayValue). a <ℤ y.0) xs (λ y more. omega (arith, ints)) all
+-- days behind a day are behind any earlier one
+earlier_all : (a b : ℤ) (xs : List DayValue) → a <ℤ b → AllByRecursion (λ y. b <ℤ y.0) xs
+    → AllByRecursion (λ y. a <ℤ y.0) xs
+earlier_all a b xs lt all = weaken (λ (y : DayValue). b <ℤ y.0) (λ (y : DayValue). a <ℤ y.0) xs
+    (λ y more. omega (arith, ints)) all
 
+-- the same values are there
 same_some : (u v : ℤ) → Some u ≡ Some v → u ≡ v
 same_some u v e = cc
 
+-- a missing value is none
 none_is_some : (v : ℤ) → None ≡ Some v → ⊥
 none_is_some v e = cc
 
-rest_same : (x y : DayValue) (xs ys : List DayValue) → x.0 ≡ y.0 → AllByRecursion (λ z. x.0 <ℤ z.0) xs → AllByRecursion (λ z. y.0 <ℤ z.0) ys
+-- days behind the same first day have the same values
+rest_same : (x y : DayValue) (xs ys : List DayValue) → x.0 ≡ y.0 → AllByRecursion (λ z. x.0 <ℤ z.0) xs
+    → AllByRecursion (λ z. y.0 <ℤ z.0) ys
     → ((d : ℤ) → value_on (x ∷ xs) d ≡ value_on (y ∷ ys) d) → (d : ℤ) → value_on xs d ≡ value_on ys d
 rest_same x y xs ys day a b same d = elim (same_block x.0 d) [
   | inl here ↦
@@ -120,14 +147,17 @@ rest_same x y xs ys day a b same d = elim (same_block x.0 d) [
 ]
 
 -- two lists of rising days with the same values are one
-pub same-from_values : (xs ys : List DayValue) → AreRising xs → AreRising ys → ((d : ℤ) → value_on xs d ≡ value_on ys d) → xs ≡ ys
+pub same-from_values : (xs ys : List DayValue) → AreRising xs → AreRising ys → ((d : ℤ) → value_on xs d ≡ value_on ys d)
+    → xs ≡ ys
 same-from_values [] [] a b same = refl
 same-from_values [] (y ∷ ys) a b same = absurd (none_is_some y.1 (same y.0 ∙ front y ys))
 same-from_values (x ∷ xs) [] a b same = absurd (none_is_some x.1 (sym (same x.0) ∙ front x xs))
 same-from_values (x ∷ xs) (y ∷ ys) a b same = by_lt_z x.0 y.0
-    (λ (lt : x.0 <ℤ y.0). absurd (none_is_some x.1 (sym (before_all (y ∷ ys) x.0 (lt, earlier_all x.0 y.0 ys lt b.0)) ∙ sym (same x.0) ∙ front x xs)))
+    (λ (lt : x.0 <ℤ y.0). absurd (none_is_some x.1 (sym (before_all (y ∷ ys) x.0 (lt, earlier_all x.0 y.0 ys lt b.0))
+    ∙ sym (same x.0) ∙ front x xs)))
     (λ (ge : y.0 ≤ℤ x.0). by_lt_z y.0 x.0
-    (λ (lt : y.0 <ℤ x.0). absurd (none_is_some y.1 (sym (before_all (x ∷ xs) y.0 (lt, earlier_all y.0 x.0 xs lt a.0)) ∙ same y.0 ∙ front y ys)))
+    (λ (lt : y.0 <ℤ x.0). absurd (none_is_some y.1 (sym (before_all (x ∷ xs) y.0 (lt, earlier_all y.0 x.0 xs lt a.0))
+    ∙ same y.0 ∙ front y ys)))
     (λ (le : x.0 ≤ℤ y.0).
     let day : x.0 ≡ y.0 = omega (arith, ints, ge, le) in
     let value : x.1 ≡ y.1 = same_some x.1 y.1 (sym (front x xs) ∙ same x.0 ∙ ap (value_on (y ∷ ys)) day ∙ front y ys) in

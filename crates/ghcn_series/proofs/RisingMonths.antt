@@ -1,5 +1,6 @@
 -- A month that comes after all that were seen is new.
-use Rattle.std.proofs.Common.{◌≡◌, ℕ, suc, ◌-◌, ◌<◌, Bool, true, false, List, [], ◌∷◌, length, get_or, inl, inr, refl, ap, ◌∙◌, arith}
+use Rattle.std.proofs.Common.{◌≡◌, ℕ, suc, ◌-◌, ◌<◌, Bool, true, false, List, [], ◌∷◌, length, get_or, inl, inr, refl}
+use Rattle.std.proofs.Common.{ap, ◌∙◌, arith}
 use Rattle.std.specs.Prelude.{◌==◌, ◌||◌, nat_lt, slice_index}
 use Rattle.std.specs.Ordering.{nat_cmp}
 use Rattle.std.specs.BTreeMap.{is_at}
@@ -7,19 +8,25 @@ use Rattle.std.proofs.lemmas.Bool.{cases_lt}
 use Rattle.std.proofs.lemmas.Bool.Decides.{nat_tests}
 use Rattle.ghcn_series.specs.SeenMonths.{has_month}
 
+-- a lesser month is another one
 other_month : (m x : ℕ) → x < m → is_at (nat_cmp m) x ≡ false
 other_month m x lt = grind (arith, nat_tests)
 
 -- months that are all less don't have it
-no_month : (months : List ℕ) (m : ℕ) → ((k : ℕ) → k < length months → get_or months k 0 < m) → has_month months m ≡ false
+no_month : (months : List ℕ) (m : ℕ) → ((k : ℕ) → k < length months → get_or months k 0 < m)
+    → has_month months m ≡ false
 no_month [] m less = refl
 no_month (x ∷ xs) m less =
-    ap (λ (b : Bool). b || has_month xs m) (other_month m x (less 0 (omega arith))) ∙ no_month xs m (λ k lt. less (suc k) (omega arith))
+    ap (λ (b : Bool). b || has_month xs m) (other_month m x (less 0 (omega arith)))
+    ∙ no_month xs m (λ k lt. less (suc k) (omega arith))
 
+-- a month after the last one is greater than it
 last_less : (n last m : ℕ) → (n == 0 || nat_lt last m) ≡ true → 0 < n → last < m
 last_less n last m e some = grind (arith, nat_tests)
 
-pub fresh-after : (months : List ℕ) → ((i j : ℕ) → i < j → j < length months → get_or months i 0 < get_or months j 0) → (m : ℕ)
+-- a month after rising ones is none of them
+pub fresh-after : (months : List ℕ) → ((i j : ℕ) → i < j → j < length months → get_or months i 0 < get_or months j 0)
+    → (m : ℕ)
     → (length months == 0 || nat_lt (slice_index months (length months - 1)) m) ≡ true → has_month months m ≡ false
 fresh-after months rise m after = no_month months m (λ k lt.
     let last : get_or months (length months - 1) 0 < m = last_less (length months) _ m after (omega arith) in

@@ -1,5 +1,6 @@
 -- A row in two parts of blocks.
-use Rattle.std.proofs.Common.{◌≡◌, ℕ, zero, suc, ◌+◌, ◌-◌, ◌*◌, ◌/◌, ◌%◌, ◌<◌, ◌≤◌, ◌^◌, List, [], ◌∷◌, ◌++◌, length, take, drop, get_or}
+use Rattle.std.proofs.Common.{◌≡◌, ℕ, zero, suc, ◌+◌, ◌-◌, ◌*◌, ◌/◌, ◌%◌, ◌<◌, ◌≤◌, ◌^◌, List, [], ◌∷◌, ◌++◌, length}
+use Rattle.std.proofs.Common.{take, drop, get_or}
 use Rattle.std.proofs.Common.{Option, Some, None, IsSome, inl, inr}
 use Rattle.std.proofs.Common.{refl, sym, ap, subst, ◌∙◌, arith, true, ℤ, pos, ◌+ℤ◌}
 use Rattle.std.specs.Prelude.{◌==◌, Result, Ok, Err, OnOk}
@@ -22,17 +23,21 @@ use Rattle.ghcn_series.proofs.Lookups.{from-value, from-other, block-value, bloc
 use Rattle.ghcn_series.proofs.JoinedDays.{same_block, or_assoc}
 use Rattle.ghcn_series.proofs.ListFacts.{both_true}
 
+-- a first choice that is there is chosen
 some_either : (a b : Option ℤ) → IsSome a → IsSome (option_or a b)
 some_either None b some = absurd cc
 some_either (Some x) b some = some
 
+-- a missing value isn't there
 none_some : (a : Option ℤ) → a ≡ None → IsSome a → ⊥
 none_some None e some = cc
 none_some (Some x) e some = cc
 
+-- a place whose bit isn't set has no value
 no_value : (w : ℕ) (vs : List ℤ) (j : ℕ) → bit_at w j ≡ 0 → value_at w vs j ≡ None
 no_value w vs j e = ap (λ (b : ℕ). if_so (b == 1) (get_or vs j (pos 0))) e
 
+-- places of the same bit and value have the same value
 same_value : (w v : ℕ) (a b : List ℤ) (j k : ℕ) → bit_at w j ≡ bit_at v k → get_or a j (pos 0) ≡ get_or b k (pos 0)
     → value_at w a j ≡ value_at v b k
 same_value w v a b j k e f =
@@ -59,7 +64,8 @@ module _ (first : ℤ) (place w : ℕ) (vs : List ℤ) (offset : ℕ) (b : Block
   ]
 
   -- the block has the values of the row's days
-  pub part-value : (j : ℕ) → j < 32 → value_on (days_from first w vs) (block_start b.0 +ℤ pos j) ≡ value_at b.1.0 b.1.1 j
+  pub part-value : (j : ℕ) → j < 32 → value_on (days_from first w vs) (block_start b.0 +ℤ pos j)
+      ≡ value_at b.1.0 b.1.1 j
   part-value j lt =
       at_part (λ j. value_on (days_from first w vs) (block_start b.0 +ℤ pos j) ≡ value_at b.1.0 b.1.1 j) j
       (λ less.
@@ -110,18 +116,29 @@ pub record IsSplit (n : ℤ) (place w : ℕ) (vs : List ℤ) (one two : Block) :
   pub second : IsPartOf vs place 32 two.1.1
 
 module _ (n : ℤ) (place w : ℕ) (vs : List ℤ) (one two : Block) (s : IsSplit n place w vs one two) where
+  -- the days of the row
   abbrev days : List DayValue
   days = row_days n place w vs
 
+  -- the first part is the row's part of its first block
   is_one : IsPart (day_of n place) place w vs 0 one
   is_one = record { row = s.row; below = s.below; starts = omega (arith, ints, s.here); bits = s.low; values = s.first }
 
+  -- the second part is that of the next one
   is_two : IsPart (day_of n place) place w vs 32 two
-  is_two = record { row = s.row; below = s.below; starts = omega (arith, ints, s.next); bits = s.high; values = s.second }
+  is_two = record {
+    row = s.row;
+    below = s.below;
+    starts = omega (arith, ints, s.next);
+    bits = s.high;
+    values = s.second;
+  }
 
+  -- no day is in both blocks
   differ : (d : ℤ) → one.0 ≡ block_of d → two.0 ≡ block_of d → ⊥
   differ d a b = omega (arith, ints, s.here, s.next, a, b)
 
+  -- a day of neither block isn't in the row
   in_neither : (d : ℤ) → (one.0 ≡ block_of d → ⊥) → (two.0 ≡ block_of d → ⊥) → value_on days d ≡ None
   in_neither d a b = from-other (day_of n place) w vs d (λ j lt e.
       let holds = block-holds d in
@@ -136,9 +153,11 @@ module _ (n : ℤ) (place w : ℕ) (vs : List ℤ) (one two : Block) (s : IsSpli
   row-split d = elim (same_block one.0 (block_of d)) [
     | inl here ↦
         in_part (day_of n place) place w vs 0 one is_one d here
-        ∙ sym (ap (option_or (value_on (block_days one) d)) (block-other two d (differ d here)) ∙ or_none (value_on (block_days one) d))
+        ∙ sym (ap (option_or (value_on (block_days one) d)) (block-other two d (differ d here))
+        ∙ or_none (value_on (block_days one) d))
     | inr other ↦
-        let behind : option_or (value_on (block_days one) d) (value_on (block_days two) d) ≡ value_on (block_days two) d =
+        let behind : option_or (value_on (block_days one) d) (value_on (block_days two) d) ≡ value_on (block_days two) d
+        =
         ap (λ (o : Option ℤ). option_or o (value_on (block_days two) d)) (block-other one d other) in
         elim (same_block two.0 (block_of d)) [
           | inl there ↦ in_part (day_of n place) place w vs 32 two is_two d there ∙ sym behind
@@ -150,6 +169,7 @@ module _ (n : ℤ) (place w : ℕ) (vs : List ℤ) (one two : Block) (s : IsSpli
   pub packed-one : one.1.0 < 2 ^ 32 → 0 < one.1.0 → IsPacked one
   packed-one = part-packed (day_of n place) place w vs 0 one is_one
 
+  -- the second part is as it may be
   pub packed-two : two.1.0 < 2 ^ 32 → 0 < two.1.0 → IsPacked two
   packed-two = part-packed (day_of n place) place w vs 32 two is_two
 
@@ -157,7 +177,8 @@ module _ (n : ℤ) (place w : ℕ) (vs : List ℤ) (one two : Block) (s : IsSpli
     -- where the row is new, its first part is
     pub new-one : AreNew old (block_days one)
     new-one d some =
-        fresh d (subst IsSome (sym (row-split d)) (some_either (value_on (block_days one) d) (value_on (block_days two) d) some))
+        fresh d (subst IsSome (sym (row-split d))
+        (some_either (value_on (block_days one) d) (value_on (block_days two) d) some))
 
     -- and its second part is, behind the first
     pub new-two : (mid : List DayValue) → AreJoined old (block_days one) mid → AreNew mid (block_days two)
@@ -172,7 +193,8 @@ module _ (n : ℤ) (place w : ℕ) (vs : List ℤ) (one two : Block) (s : IsSpli
     ]
 
     -- both parts joined one after the other are the row joined
-    pub joined-both : (mid new : List DayValue) → AreJoined old (block_days one) mid → AreJoined mid (block_days two) new
+    pub joined-both : (mid new : List DayValue) → AreJoined old (block_days one) mid
+        → AreJoined mid (block_days two) new
         → AreJoined old days new
     joined-both mid new a b d =
         b d
@@ -205,11 +227,13 @@ bit-moved_up w k i some le =
     let same : w * 2 ^ k + 0 ≡ w * 2 ^ k = omega arith in
     ap (λ (n : ℕ). bit_at n i) (sym same) ∙ bit_at_cat_high w k 0 i some le
 
+-- a word shifted up has the row's bits in its first block
 pub low-bits : (w place : ℕ) → w < 2 ^ 32 → 0 < 2 ^ place → place < 32 → HasBitsOf w place 0 (w * 2 ^ place % 2 ^ 32)
 low-bits w place fits some below j lt = record {
   before = λ h. bit-low (w * 2 ^ place) j lt ∙ bit-below w place j (omega arith);
   behind = λ h. absurd (omega arith);
-  within = λ k less is. bit-low (w * 2 ^ place) j lt ∙ bit-moved_up w place j some (omega arith) ∙ ap (bit_at w) (omega arith);
+  within = λ k less is. bit-low (w * 2 ^ place) j lt ∙ bit-moved_up w place j some (omega arith)
+      ∙ ap (bit_at w) (omega arith);
 }
 
 -- a word that is moved down has its upper bits
@@ -225,6 +249,7 @@ bit-moved_down w a j some =
     below : (w d : ℕ) → 0 < d → w % d < d
     below w d some = omega arith
 
+-- a word shifted down has those of the next one
 pub high-bits : (w place : ℕ) → w < 2 ^ 32 → 0 < 2 ^ (31 - place) → place < 32
     → HasBitsOf w place 32 (w / 2 ^ 1 / 2 ^ (31 - place))
 high-bits w place fits some below j lt =
@@ -241,12 +266,15 @@ high-bits w place fits some below j lt =
 -- a row of zeros has 0 everywhere
 pub zero_at : (zs : List ℤ) → list_all (int_eq (pos 0)) zs ≡ true → (j : ℕ) → get_or zs j (pos 0) ≡ pos 0
 zero_at [] all j = refl
-zero_at (z ∷ zs) all zero = sym ((Decides-int_eq (pos 0) z).0 (both_true (int_eq (pos 0) z) (list_all (int_eq (pos 0)) zs) all).0)
+zero_at (z ∷ zs) all zero = sym ((Decides-int_eq (pos 0) z).0
+    (both_true (int_eq (pos 0) z) (list_all (int_eq (pos 0)) zs) all).0)
 zero_at (z ∷ zs) all (suc j) = zero_at zs (both_true (int_eq (pos 0) z) (list_all (int_eq (pos 0)) zs) all).1 j
 
-module _ (vs zs : List ℤ) (place : ℕ) (below : place < 32) (whole : length vs ≡ 32) (long : length zs ≡ 32) (none : (j : ℕ) → get_or zs j (pos 0) ≡ pos 0) where
+module _ (vs zs : List ℤ) (place : ℕ) (below : place < 32) (whole : length vs ≡ 32) (long : length zs ≡ 32)
+    (none : (j : ℕ) → get_or zs j (pos 0) ≡ pos 0) where
   -- the first values of a row, at the end of a block
-  pub first-values : (ys rest : List ℤ) → ys ≡ take (32 - place) vs → IsPartOf vs place 0 (take place zs ++ (ys ++ rest))
+  pub first-values : (ys rest : List ℤ) → ys ≡ take (32 - place) vs
+      → IsPartOf vs place 0 (take place zs ++ (ys ++ rest))
   first-values ys rest is j lt =
       let before : length (take place zs) ≡ place = grind (arith, common_steps, long) in
       let own : length ys ≡ 32 - place = ap (λ (l : List ℤ). length l) is ∙ grind (arith, common_steps, whole) in

@@ -1,11 +1,11 @@
 -- What searches find in numbers that rise, and what it says of the blocks.
-use Rattle.std.proofs.Common.{◌≡◌, ℕ, zero, suc, ◌+◌, ◌<◌, ◌≤◌, true, false, List, [], ◌∷◌, length, get_or, Option, Some, None, Result, Ok, Err, IfNone, sym, ap, subst, ◌∙◌, arith, ℤ, pos, ◌<ℤ◌, ◌+ℤ◌}
+use Rattle.std.proofs.Common.{◌≡◌, ℕ, ◌+◌, ◌<◌, ◌≤◌, true, false, List, [], length, get_or, Option}
+use Rattle.std.proofs.Common.{Some, None, Result, Ok, Err, IfNone, sym, ap, subst, ◌∙◌, arith, ℤ, pos, ◌<ℤ◌, ◌+ℤ◌}
 use Rattle.std.proofs.Common.{Bor}
 use Rattle.std.specs.Prelude.{int_lt, int_le, slice_get, MatchOption}
 use Rattle.std.specs.Option.{option_copied}
 use Rattle.std.specs.List.{HoldsAt}
 use Rattle.std.proofs.lemmas.Option.{slice_get_past, slice_get-get_or}
-use Rattle.std.specs.List.{AllByRecursion}
 use Rattle.std.specs.List.Sorted.{IsBinarySearchResult, IsNonDecreasingBy, IsPartitionedBy}
 use Rattle.std.specs.Ordering.{int_cmp, ordering_index, is_lt}
 use Rattle.std.specs.Result.{result_ok}
@@ -15,36 +15,45 @@ use Rattle.std.proofs.lemmas.Cmp.{int_cmp_total, int_ranked}
 use Rattle.std.proofs.lemmas.List.{get_or_default}
 use Rattle.std.proofs.lemmas.List.Sorted.{searchable_from_sorted}
 use Rattle.std.proofs.lemmas.Int.{ints}
-use Rattle.ghcn_series.specs.Packed.{Block, value_at, block_start, days_of, blocks_of, IsPacked, Rise, AreColumns, next_block, IsAt, IsNowhere, IsBlockOf, HasNone}
+use Rattle.ghcn_series.specs.Packed.{Block, value_at, block_start, days_of, blocks_of, IsPacked, Rise, AreColumns}
+use Rattle.ghcn_series.specs.Packed.{next_block, IsAt, IsNowhere, IsBlockOf, HasNone}
 use Rattle.std.specs.List.{find, zip}
 use Rattle.std.proofs.lemmas.Slice.Zip.{firsts-zip, length-zip}
+use Rattle.ghcn_series.proofs.ListFacts.{all-at}
 use Rattle.ghcn_series.proofs.Nexts.{next-of_numbers}
 use Rattle.ghcn_series.proofs.Lookups.{no_block, block-of_place, days-without, days-at, blocks-at, blocks-length}
 
+-- a lesser number doesn't compare as greater
 not_after : (a b : ℤ) → a <ℤ b → is_lt (int_cmp b a) ≡ false
 not_after a b lt = grind (arith, ints)
 
 -- neighbours are in order, at any default
-neighbours : (ns : List ℤ) → Rise ns → (k : ℕ) (d : ℤ) → k + 1 < length ns → is_lt (int_cmp (get_or ns (k + 1) d) (get_or ns k d)) ≡ false
+neighbours : (ns : List ℤ) → Rise ns → (k : ℕ) (d : ℤ) → k + 1 < length ns
+    → is_lt (int_cmp (get_or ns (k + 1) d) (get_or ns k d)) ≡ false
 neighbours ns rise k d lt =
     let first : get_or ns k d ≡ get_or ns k (pos 0) = get_or_default ns k d (pos 0) (omega arith) in
     let second : get_or ns (k + 1) d ≡ get_or ns (k + 1) (pos 0) = get_or_default ns (k + 1) d (pos 0) lt in
     not_after (get_or ns k d) (get_or ns (k + 1) d) (rw (first, second) (rise.less k (k + 1) (omega arith) lt))
 
 -- a search of a number ends at its place, or the number is nowhere
-pub absent-from_search : (ns : List ℤ) → Rise ns → (b : ℤ) → (r : Result ℕ ℕ) → IsBinarySearchResult (λ y. int_cmp y b) ns r → IfNone (result_ok r) (IsNowhere ns b)
+pub absent-from_search : (ns : List ℤ) → Rise ns → (b : ℤ) → (r : Result ℕ ℕ)
+    → IsBinarySearchResult (λ y. int_cmp y b) ns r → IfNone (result_ok r) (IsNowhere ns b)
 absent-from_search ns rise b (Ok i) found = tt
 absent-from_search ns rise b (Err i) parted =
-    let sorted : IsNonDecreasingBy (λ y. ordering_index (int_cmp y b)) ns = searchable_from_sorted int_cmp_total (λ (n : ℤ). n) ns b (λ k d low high. neighbours ns rise k d high) in
+    let sorted : IsNonDecreasingBy (λ y. ordering_index (int_cmp y b)) ns = searchable_from_sorted int_cmp_total
+    (λ (n : ℤ). n) ns b (λ k d low high. neighbours ns rise k d high) in
     λ k at. elim (cases_lt k i) [
       | inl before ↦
-          let less : get_or ns k (pos 0) <ℤ b = int_ranked _ _ _ (sym ((parted sorted).0 k (pos 0) (omega arith) before)) in
+          let less : get_or ns k (pos 0) <ℤ b = int_ranked _ _ _
+          (sym ((parted sorted).0 k (pos 0) (omega arith) before)) in
           omega (arith, ints, at.is)
       | inr behind ↦
-          let more : b <ℤ get_or ns k (pos 0) = int_ranked _ _ _ (sym ((parted sorted).1 k (pos 0) behind at.in_range)) in
+          let more : b <ℤ get_or ns k (pos 0) = int_ranked _ _ _
+          (sym ((parted sorted).1 k (pos 0) behind at.in_range)) in
           omega (arith, ints, at.is)
     ]
 
+-- what is less than a number is less than greater ones
 below_too : (a c b : ℤ) → a <ℤ c → int_lt c b ≡ true → int_lt a b ≡ true
 below_too a c b lt e = grind (arith, ints)
 
@@ -60,11 +69,7 @@ parted-by_rise ns rise b i j d le lt below = elim (cases_lt i j) [
       subst (λ (k : ℕ). int_lt (get_or ns k d) b ≡ true) is below
 ]
 
-all-at : {X : Type 0} (P : X → Type 0) (xs : List X) (i : ℕ) (d : X) → AllByRecursion P xs → i < length xs → P (get_or xs i d)
-all-at P [] i d all lt = absurd (omega arith)
-all-at P (x ∷ xs) zero d all lt = all.0
-all-at P (x ∷ xs) (suc i) d all lt = all-at P xs i d all.1 (omega arith)
-
+-- a number stands at one place among rising ones
 same_place : (ns : List ℤ) → Rise ns → (i k : ℕ) (n : ℤ) → IsAt ns n i → IsAt ns n k → k ≡ i
 same_place ns rise i k n here there = elim (cases_lt i k) [
   | inl before ↦ let lt = rise.less i k before there.in_range in absurd (omega (arith, ints, here.is, there.is))
@@ -75,10 +80,15 @@ same_place ns rise i k n here there = elim (cases_lt i k) [
 ]
 
 module _ (ns : List ℤ) (ws : List ℕ) (vs : List (List ℤ)) (cols : AreColumns ns ws vs) where
-  here : (k : ℕ) → k < length (blocks_of ns ws vs) → get_or (blocks_of ns ws vs) k no_block ≡ (get_or ns k (pos 0), (get_or ws k 0, get_or vs k []))
-  here k lt = blocks-at ns ws vs k cols.blocks.enough_words cols.blocks.enough_values (omega (arith, blocks-length ns ws vs cols.blocks.enough_words cols.blocks.enough_values))
+  -- the block at a place has the three columns' parts there
+  here : (k : ℕ) → k < length (blocks_of ns ws vs) → get_or (blocks_of ns ws vs) k no_block
+      ≡ (get_or ns k (pos 0), (get_or ws k 0, get_or vs k []))
+  here k lt = blocks-at ns ws vs k cols.blocks.enough_words cols.blocks.enough_values
+      (omega (arith, blocks-length ns ws vs cols.blocks.enough_words cols.blocks.enough_values))
 
-  at-number : (k : ℕ) (n : ℤ) → k < length (blocks_of ns ws vs) → (get_or (blocks_of ns ws vs) k no_block).0 ≡ n → IsAt ns n k
+  -- a block's number stands at its place
+  at-number : (k : ℕ) (n : ℤ) → k < length (blocks_of ns ws vs) → (get_or (blocks_of ns ws vs) k no_block).0 ≡ n
+      → IsAt ns n k
   at-number k n lt e = record {
     in_range = omega (arith, blocks-length ns ws vs cols.blocks.enough_words cols.blocks.enough_values);
     is = sym (ap (λ (b : Block). b.0) (here k lt)) ∙ e;
@@ -87,30 +97,43 @@ module _ (ns : List ℤ) (ws : List ℕ) (vs : List (List ℤ)) (cols : AreColum
   -- a block whose number is nowhere has no day
   pub block-absent : (n : ℤ) → IsNowhere ns n → HasNone (days_of (blocks_of ns ws vs)) n
   block-absent n nowhere j lt =
-      days-without (blocks_of ns ws vs) (block_start n +ℤ pos j) (λ k less e. nowhere k (at-number k n less (e ∙ block-of_place n j lt)))
+      days-without (blocks_of ns ws vs) (block_start n +ℤ pos j)
+      (λ k less e. nowhere k (at-number k n less (e ∙ block-of_place n j lt)))
 
   -- the block at the place of a number
-  pub block-found : (n : ℤ) (i : ℕ) → IsAt ns n i → IsBlockOf (days_of (blocks_of ns ws vs)) n (get_or ws i 0) (get_or vs i [])
+  pub block-found : (n : ℤ) (i : ℕ) → IsAt ns n i → IsBlockOf (days_of (blocks_of ns ws vs)) n (get_or ws i 0)
+      (get_or vs i [])
   block-found n i at =
       let bs : List Block = blocks_of ns ws vs in
-      let less : i < length bs = omega (arith, blocks-length ns ws vs cols.blocks.enough_words cols.blocks.enough_values, at.in_range) in
+      let less : i < length bs = omega (
+        arith,
+        blocks-length ns ws vs cols.blocks.enough_words
+            cols.blocks.enough_values,
+        at.in_range,
+      ) in
       let is : get_or bs i no_block ≡ (get_or ns i (pos 0), (get_or ws i 0, get_or vs i [])) = here i less in
-      let packed : IsPacked (get_or ns i (pos 0), (get_or ws i 0, get_or vs i [])) = subst IsPacked is (all-at IsPacked bs i no_block cols.blocks.packed less) in
+      let packed : IsPacked (get_or ns i (pos 0), (get_or ws i 0, get_or vs i [])) = subst IsPacked is
+      (all-at IsPacked bs i no_block cols.blocks.packed less) in
       record {
         present = packed.present;
         holds = λ j lt.
-            sym (days-at bs i n j lt less (ap (λ (b : Block). b.0) is ∙ at.is) (λ k below e. same_place ns cols.rise i k n at (at-number k n below e))
+            sym (days-at bs i n j lt less (ap (λ (b : Block). b.0) is ∙ at.is)
+            (λ k below e. same_place ns cols.rise i k n at (at-number k n below e))
             ∙ ap (λ (b : Block). value_at b.1.0 b.1.1 j) is);
         zeros = packed.zeros;
       }
 
 -- the next block of the columns' days
-pub next-of_columns : (ns : List ℤ) (ws : List ℕ) (vs : List (List ℤ)) → AreColumns ns ws vs → (b : ℤ) → next_block (days_of (blocks_of ns ws vs)) b ≡ find (int_le b) ns
+pub next-of_columns : (ns : List ℤ) (ws : List ℕ) (vs : List (List ℤ)) → AreColumns ns ws vs → (b : ℤ)
+    → next_block (days_of (blocks_of ns ws vs)) b ≡ find (int_le b) ns
 next-of_columns ns ws vs cols b =
     next-of_numbers b (blocks_of ns ws vs) cols.blocks.packed
-    ∙ ap (find (int_le b)) (firsts-zip ns (zip ws vs) (omega (arith, length-zip ws vs, cols.blocks.enough_words, cols.blocks.enough_values)))
+    ∙ ap (find (int_le b)) (firsts-zip ns (zip ws vs)
+    (omega (arith, length-zip ws vs, cols.blocks.enough_words, cols.blocks.enough_values)))
 
 -- what `get` gives is the element at that place
-pub got-is : (xs : List ℤ) (i : ℕ) (o : Option (Bor ℤ)) → MatchOption o (length xs ≤ i) (λ x. (i < length xs) × HoldsAt (λ y. x.now ≡ y) xs i) → option_copied o ≡ slice_get xs i
+pub got-is : (xs : List ℤ) (i : ℕ) (o : Option (Bor ℤ))
+    → MatchOption o (length xs ≤ i) (λ x. (i < length xs) × HoldsAt (λ y. x.now ≡ y) xs i)
+    → option_copied o ≡ slice_get xs i
 got-is xs i None past = sym (slice_get_past xs i past)
 got-is xs i (Some x) within = ap Some (within.1 (pos 0)) ∙ sym (slice_get-get_or xs i (pos 0) within.0)

@@ -1,5 +1,6 @@
 -- The months that were seen, and one more.
-use Rattle.std.proofs.Common.{◌≡◌, ℕ, ◌+◌, ◌*◌, ◌≤◌, Bool, true, false, List, [], ◌∷◌, ◌++◌, Option, refl, sym, ap, subst, ◌∙◌, arith, ℤ}
+use Rattle.std.proofs.Common.{◌≡◌, ℕ, ◌+◌, ◌*◌, ◌≤◌, Bool, true, false, List, [], ◌∷◌, ◌++◌, Option, refl, sym, ap}
+use Rattle.std.proofs.Common.{subst, ◌∙◌, arith, ℤ}
 use Rattle.std.specs.Prelude.{◌==◌, ◌&&◌, ◌||◌}
 use Rattle.std.specs.List.{list_any, flat_map, IsDistinct, AllByRecursion}
 use Rattle.std.specs.Map.{keys_of}
@@ -21,26 +22,32 @@ use Rattle.ghcn_series.proofs.ApartParts.{new-behind}
 use Rattle.ghcn_series.proofs.DistinctDays.{distinct_days}
 use Rattle.ghcn_series.proofs.ListFacts.{neither}
 
+-- two numbers are the same in both directions
 eqb-turned : (a b : ℕ) → (a == b) ≡ (b == a)
 eqb-turned a b = grind (arith, nat_tests)
 
+-- so are the times of two months
 same_time-turned : (a b : Month) → same_time a b ≡ same_time b a
 same_time-turned a b =
     ap (λ (t : Bool). t && (a.month == b.month)) (eqb-turned a.year b.year)
     ∙ ap (λ (t : Bool). (b.year == a.year) && t) (eqb-turned a.month b.month)
 
-apart_from_last : (m x : Month) (xs : List Month) → AllByRecursion (λ y. same_time x y ≡ false) xs → same_time m x ≡ false → AllByRecursion (λ y. same_time x y ≡ false) (xs ++ m ∷ [])
+-- a month of another time than all is so with one more
+apart_from_last : (m x : Month) (xs : List Month) → AllByRecursion (λ y. same_time x y ≡ false) xs
+    → same_time m x ≡ false → AllByRecursion (λ y. same_time x y ≡ false) (xs ++ m ∷ [])
 apart_from_last m x [] all none = (same_time-turned x m ∙ none, tt)
 apart_from_last m x (y ∷ ys) all none = (all.0, apart_from_last m x ys all.1 none)
 
 -- a month whose time none has is apart from all
-pub distinct-more : (m : Month) (before : List Month) → IsDistinct same_time before → list_any (same_time m) before ≡ false → IsDistinct same_time (before ++ m ∷ [])
+pub distinct-more : (m : Month) (before : List Month) → IsDistinct same_time before → list_any (same_time m) before
+    ≡ false → IsDistinct same_time (before ++ m ∷ [])
 unfolding IsDistinct
 distinct-more m [] distinct none = (tt, tt)
 distinct-more m (x ∷ xs) distinct none =
     let both = neither (same_time m x) (list_any (same_time m) xs) none in
     (apart_from_last m x xs distinct.0 both.0, distinct-more m xs distinct.1 both.1)
 
+-- months have the same number where year and month are the same
 same_number : (a b c d : ℕ) → 1 ≤ b → b ≤ 12 → 1 ≤ d → d ≤ 12 → (12 * a + b == 12 * c + d) ≡ ((a == c) && (b == d))
 same_number a b c d low high low_d high_d =
     elim (a == c) as (λ x. (a == c) ≡ x → (12 * a + b == 12 * c + d) ≡ (x && (b == d))) [
@@ -62,16 +69,20 @@ same_number a b c d low high low_d high_d =
         ] refl
 
 -- months have one number where they are of one time
-numbers-are : (m : Month) (ms : List Month) → IsMonth m → AllByRecursion IsMonth ms → list_any (has_number (number_of m)) ms ≡ list_any (same_time m) ms
+numbers-are : (m : Month) (ms : List Month) → IsMonth m → AllByRecursion IsMonth ms
+    → list_any (has_number (number_of m)) ms ≡ list_any (same_time m) ms
 numbers-are m [] right all = refl
 numbers-are m (x ∷ xs) right all =
-    ap (λ (b : Bool). b || list_any (has_number (number_of m)) xs) (same_number m.year m.month x.year x.month right.month.0 right.month.1 all.0.month.0 all.0.month.1)
+    ap (λ (b : Bool). b || list_any (has_number (number_of m)) xs)
+    (same_number m.year m.month x.year x.month right.month.0 right.month.1 all.0.month.0 all.0.month.1)
     ∙ ap (λ (b : Bool). same_time m x || b) (numbers-are m xs right all.1)
 
 -- whether a month was seen is whether one of its time was
-pub seen-is : (g : Gathering) (m : Month) (before : List Month) → IsMonth m → IsGathering g before → has_month g.seen (number_of m) ≡ list_any (same_time m) before
+pub seen-is : (g : Gathering) (m : Month) (before : List Month) → IsMonth m → IsGathering g before
+    → has_month g.seen (number_of m) ≡ list_any (same_time m) before
 seen-is g m before right is = is.seen (number_of m) ∙ numbers-are m before right is.right
 
+-- one more to ask about comes last
 or_last : (a c d : Bool) → c ≡ d → (a || c) ≡ (a || (d || false))
 or_last true c d e = refl
 or_last false true true e = refl
@@ -79,22 +90,29 @@ or_last false true false e = absurd cc
 or_last false false true e = absurd cc
 or_last false false false e = refl
 
-all_more : (m : Month) (before : List Month) → AllByRecursion IsMonth before → IsMonth m → AllByRecursion IsMonth (before ++ m ∷ [])
+-- right months and one more are right
+all_more : (m : Month) (before : List Month) → AllByRecursion IsMonth before → IsMonth m
+    → AllByRecursion IsMonth (before ++ m ∷ [])
 all_more m [] all right = (right, tt)
 all_more m (x ∷ xs) all right = (all.0, all_more m xs all.1 right)
 
-days-more : (before : List Month) (m : Month) → flat_map usable_days (before ++ m ∷ []) ≡ flat_map usable_days before ++ usable_days m
+-- one month more adds its usable days
+days-more : (before : List Month) (m : Month) → flat_map usable_days (before ++ m ∷ []) ≡ flat_map usable_days before
+    ++ usable_days m
 days-more before m =
     flat_map-append usable_days before (m ∷ [])
     ∙ ap (λ (xs : List DayValue). flat_map usable_days before ++ xs) (append-nil (usable_days m))
 
 -- a month whose time wasn't seen has no day that was gathered
-pub month-new : (g : Gathering) (m : Month) (before : List Month) → IsMonth m → IsGathering g before → has_month g.seen (number_of m) ≡ false
+pub month-new : (g : Gathering) (m : Month) (before : List Month) → IsMonth m → IsGathering g before
+    → has_month g.seen (number_of m) ≡ false
     → AreNew (gathered_days g) (usable_days m)
 month-new g m before right is fresh d some =
-    let apart : IsDistinct same_time (before ++ m ∷ []) = distinct-more m before is.distinct (sym (seen-is g m before right is) ∙ fresh) in
+    let apart : IsDistinct same_time (before ++ m ∷ []) = distinct-more m before is.distinct
+    (sym (seen-is g m before right is) ∙ fresh) in
     let distinct : IsDistinct int_eq (keys_of (flat_map usable_days before ++ usable_days m)) =
-    subst (λ (xs : List DayValue). IsDistinct int_eq (keys_of xs)) (days-more before m) (distinct_days (before ++ m ∷ []) apart) in
+    subst (λ (xs : List DayValue). IsDistinct int_eq (keys_of xs)) (days-more before m)
+    (distinct_days (before ++ m ∷ []) apart) in
     is.values d ∙ new-behind (flat_map usable_days before) (usable_days m) distinct d some
 
 -- one month more is gathered

@@ -1,5 +1,6 @@
 -- The series of a station and an element, in the list at its place.
-use Rattle.std.proofs.Common.{◌≡◌, ℕ, suc, ◌+◌, ◌≤◌, get_or, Bool, true, false, cond, not, List, [], ◌∷◌, length, map, Option, None, Some, refl, sym, ap, ◌∙◌, subst, arith}
+use Rattle.std.proofs.Common.{◌≡◌, ℕ, suc, ◌+◌, ◌≤◌, get_or, Bool, true, false, cond, not, List, [], ◌∷◌, length, map}
+use Rattle.std.proofs.Common.{Option, None, Some, refl, sym, ap, ◌∙◌, subst, arith}
 use Rattle.std.specs.Prelude.{◌&&◌, nat_lt}
 use Rattle.std.specs.List.{find, slice_get, position_or_len, IsDistinct, AllByRecursion, AllZip}
 use Rattle.std.specs.Option.{option_or, option_and_then, option_map}
@@ -50,14 +51,16 @@ eq_is Tmin Tmax = refl
 eq_is Tmin Tmin = refl
 
 -- of the series of one station, an element's is the station's and the element's
-find_own : (id : StationId) (e : Element) (us : List Usable) → AllByRecursion (λ u. same_id u.id id ≡ true) us → find (is_series_of id e) us ≡ find (is_of_element e) us
+find_own : (id : StationId) (e : Element) (us : List Usable) → AllByRecursion (λ u. same_id u.id id ≡ true) us
+    → find (is_series_of id e) us ≡ find (is_of_element e) us
 find_own id e [] own = refl
 find_own id e (u ∷ us) own =
     ap (λ (b : Bool). cond (b && same_element u.element e) (Some u) (find (is_series_of id e) us)) own.0
     ∙ ap (λ (o : Option Usable). cond (same_element u.element e) (Some u) o) (find_own id e us own.1)
 
 -- among the series of other stations there is none
-find_none : (id : StationId) (e : Element) (us : List Usable) → AllByRecursion (λ u. same_id u.id id ≡ false) us → find (is_series_of id e) us ≡ None
+find_none : (id : StationId) (e : Element) (us : List Usable) → AllByRecursion (λ u. same_id u.id id ≡ false) us
+    → find (is_series_of id e) us ≡ None
 find_none id e [] other = refl
 find_none id e (u ∷ us) other =
     ap (λ (b : Bool). cond (b && same_element u.element e) (Some u) (find (is_series_of id e) us)) other.0
@@ -67,12 +70,16 @@ find_none id e (u ∷ us) other =
 abbrev pub AreOwn : List Station → List (List Usable) → Type 0
 AreOwn stations lists = AllZip (λ s series. AllByRecursion (λ u. u.id ≡ s.id) series) stations lists
 
-with_id : (id : StationId) (b : Bool) (s : Station) (us : List Usable) → same_id s.id id ≡ b → AllByRecursion (λ u. u.id ≡ s.id) us → AllByRecursion (λ u. same_id u.id id ≡ b) us
+-- the series of a station have an ID where it has it
+with_id : (id : StationId) (b : Bool) (s : Station) (us : List Usable) → same_id s.id id ≡ b
+    → AllByRecursion (λ u. u.id ≡ s.id) us → AllByRecursion (λ u. same_id u.id id ≡ b) us
 with_id id b s [] is own = tt
 with_id id b s (u ∷ us) is own = (ap (λ (i : StationId). same_id i id) own.0 ∙ is, with_id id b s us is own.1)
 
 -- the series of stations of other IDs
-all_other : (id : StationId) (ss : List Station) (lists : List (List Usable)) → AllByRecursion (λ i. same_id id i ≡ false) (ids ss) → AreOwn ss lists → AllByRecursion (λ u. same_id u.id id ≡ false) (all_of lists)
+all_other : (id : StationId) (ss : List Station) (lists : List (List Usable))
+    → AllByRecursion (λ i. same_id id i ≡ false) (ids ss) → AreOwn ss lists
+    → AllByRecursion (λ u. same_id u.id id ≡ false) (all_of lists)
 all_other id [] [] other own = tt
 all_other id [] (us ∷ lists) other own = absurd own
 all_other id (s ∷ ss) [] other own = absurd own
@@ -81,39 +88,52 @@ all_other id (s ∷ ss) (us ∷ lists) other own =
     (with_id id false s us (same_id-turned s.id id ∙ other.0) own.0)
     (all_other id ss lists other.1 own.1)
 
+-- without a second choice there is the first
 or_none : (o p : Option Usable) → p ≡ None → option_or o p ≡ o
 or_none None p e = e
 or_none (Some u) p e = refl
 
+-- behind the first list stand the others
 onward : (lists : List (List Usable)) (us : List Usable) (n : ℕ) → slice_get (us ∷ lists) (1 + n) ≡ slice_get lists n
 onward lists us n = let e : 1 + n ≡ suc n = omega arith in ap (slice_get (us ∷ lists)) e
 
 -- the series of a station and an element is found in the list at the station's place
-pub found_by_place : (id : StationId) (e : Element) (ss : List Station) (lists : List (List Usable)) → IsDistinct same_id (ids ss) → AreOwn ss lists
-    → option_and_then (find (is_of_element e)) (slice_get lists (position_or_len (is_station_of id) ss)) ≡ find (is_series_of id e) (all_of lists)
+pub found_by_place : (id : StationId) (e : Element) (ss : List Station) (lists : List (List Usable))
+    → IsDistinct same_id (ids ss) → AreOwn ss lists
+    → option_and_then (find (is_of_element e)) (slice_get lists (position_or_len (is_station_of id) ss))
+    ≡ find (is_series_of id e) (all_of lists)
 unfolding IsDistinct
 found_by_place id e [] [] apart own = refl
 found_by_place id e [] (us ∷ lists) apart own = absurd own
 found_by_place id e (s ∷ ss) [] apart own = absurd own
-found_by_place id e (s ∷ ss) (us ∷ lists) apart own = by (same_id s.id id) refl (found_by_place id e ss lists apart.1 own.1) ∙ sym (find-append (is_series_of id e) us (all_of lists))
+found_by_place id e (s ∷ ss) (us ∷ lists) apart own = by (same_id s.id id) refl
+    (found_by_place id e ss lists apart.1 own.1) ∙ sym (find-append (is_series_of id e) us (all_of lists))
   where
     by : (b : Bool) → same_id s.id id ≡ b
-        → option_and_then (find (is_of_element e)) (slice_get lists (position_or_len (is_station_of id) ss)) ≡ find (is_series_of id e) (all_of lists)
-        → option_and_then (find (is_of_element e)) (slice_get (us ∷ lists) (cond (not (same_id s.id id)) (1 + position_or_len (is_station_of id) ss) 0))
+        → option_and_then (find (is_of_element e)) (slice_get lists (position_or_len (is_station_of id) ss))
+        ≡ find (is_series_of id e) (all_of lists)
+        → option_and_then (find (is_of_element e))
+        (slice_get (us ∷ lists) (cond (not (same_id s.id id)) (1 + position_or_len (is_station_of id) ss) 0))
         ≡ option_or (find (is_series_of id e) us) (find (is_series_of id e) (all_of lists))
     by true is rest =
-        let others = all_other id ss lists (subst (λ i. AllByRecursion (λ j. same_id i j ≡ false) (ids ss)) (same_id-is s.id id is) apart.0) own.1 in
-        ap (λ (b : Bool). option_and_then (find (is_of_element e)) (slice_get (us ∷ lists) (cond (not b) (1 + position_or_len (is_station_of id) ss) 0))) is
+        let others = all_other id ss lists (subst (λ i. AllByRecursion (λ j. same_id i j ≡ false) (ids ss))
+        (same_id-is s.id id is) apart.0) own.1 in
+        ap (λ (b : Bool). option_and_then (find (is_of_element e))
+        (slice_get (us ∷ lists) (cond (not b) (1 + position_or_len (is_station_of id) ss) 0))) is
         ∙ sym (find_own id e us (with_id id true s us is own.0))
-        ∙ sym (or_none (find (is_series_of id e) us) (find (is_series_of id e) (all_of lists)) (find_none id e (all_of lists) others))
+        ∙ sym (or_none (find (is_series_of id e) us) (find (is_series_of id e) (all_of lists))
+        (find_none id e (all_of lists) others))
     by false is rest =
-        ap (λ (b : Bool). option_and_then (find (is_of_element e)) (slice_get (us ∷ lists) (cond (not b) (1 + position_or_len (is_station_of id) ss) 0))) is
+        ap (λ (b : Bool). option_and_then (find (is_of_element e))
+        (slice_get (us ∷ lists) (cond (not b) (1 + position_or_len (is_station_of id) ss) 0))) is
         ∙ ap (option_and_then (find (is_of_element e))) (onward lists us (position_or_len (is_station_of id) ss))
         ∙ rest
-        ∙ sym (ap (λ (o : Option Usable). option_or o (find (is_series_of id e) (all_of lists))) (find_none id e us (with_id id false s us is own.0)))
+        ∙ sym (ap (λ (o : Option Usable). option_or o (find (is_series_of id e) (all_of lists)))
+        (find_none id e us (with_id id false s us is own.0)))
 
 -- ---- as a list at a place is looked up
 
+-- there are as many lists as stations
 as_many : (ss : List Station) (lists : List (List Usable)) → AreOwn ss lists → length lists ≡ length ss
 as_many [] [] own = refl
 as_many [] (us ∷ lists) own = absurd own
@@ -121,25 +141,33 @@ as_many (s ∷ ss) [] own = absurd own
 as_many (s ∷ ss) (us ∷ lists) own = ap suc (as_many ss lists own.1)
 
 -- a station that isn't listed has no series
-pub none-unlisted : (id : StationId) (e : Element) (ss : List Station) (lists : List (List Usable)) → IsDistinct same_id (ids ss) → AreOwn ss lists → place_of ss id ≡ None → None ≡ find (is_series_of id e) (all_of lists)
+pub none-unlisted : (id : StationId) (e : Element) (ss : List Station) (lists : List (List Usable))
+    → IsDistinct same_id (ids ss) → AreOwn ss lists → place_of ss id ≡ None
+    → None ≡ find (is_series_of id e) (all_of lists)
 none-unlisted id e ss lists apart own none =
     let at : ℕ = position_or_len (is_station_of id) ss in
     let beyond : length lists ≤ at = omega (arith, as_many ss lists own, no_place ss id none) in
-    sym (ap (option_and_then (find (is_of_element e))) (slice_get_past lists at beyond)) ∙ found_by_place id e ss lists apart own
+    sym (ap (option_and_then (find (is_of_element e))) (slice_get_past lists at beyond))
+    ∙ found_by_place id e ss lists apart own
 
 -- the series of a listed station are in the list at its place
-pub found-listed : (id : StationId) (e : Element) (ss : List Station) (lists : List (List Usable)) (k : ℕ) (us : Option (List Usable)) → IsDistinct same_id (ids ss) → AreOwn ss lists → place_of ss id ≡ Some k → us ≡ slice_get lists k
+pub found-listed : (id : StationId) (e : Element) (ss : List Station) (lists : List (List Usable)) (k : ℕ)
+    (us : Option (List Usable)) → IsDistinct same_id (ids ss) → AreOwn ss lists → place_of ss id ≡ Some k
+    → us ≡ slice_get lists k
     → option_and_then (find (is_of_element e)) us ≡ find (is_series_of id e) (all_of lists)
 found-listed id e ss lists k us apart own at is =
     ap (option_and_then (find (is_of_element e))) (is ∙ ap (slice_get lists) (sym (place_is ss id k at)))
     ∙ found_by_place id e ss lists apart own
 
 -- what is found at a place of a list of lists
-pub list-there : {V : Type 0} (items : V → List Usable) (vs : List V) (k : ℕ) (v : V) → nat_lt k (length vs) ≡ true → v ≡ get_or vs k v → Some (items v) ≡ slice_get (map items vs) k
+pub list-there : {V : Type 0} (items : V → List Usable) (vs : List V) (k : ℕ) (v : V) → nat_lt k (length vs) ≡ true
+    → v ≡ get_or vs k v → Some (items v) ≡ slice_get (map items vs) k
 list-there items vs k v lt is =
     ap (λ (x : _). Some (items x)) is
     ∙ sym (ap (option_map items) (slice_get-get_or vs k v (grind (arith, nat_tests))))
     ∙ sym (slice_get-map items vs k)
 
-pub list-missing : {V : Type 0} (items : V → List Usable) (vs : List V) (k : ℕ) → nat_lt k (length vs) ≡ false → None ≡ slice_get (map items vs) k
+-- no list stands past the last
+pub list-missing : {V : Type 0} (items : V → List Usable) (vs : List V) (k : ℕ) → nat_lt k (length vs) ≡ false
+    → None ≡ slice_get (map items vs) k
 list-missing items vs k lt = sym (slice_get_past (map items vs) k (grind (arith, nat_tests, length-map vs items)))

@@ -1,5 +1,6 @@
 -- The months of one station, by element.
-use Rattle.std.proofs.Common.{◌≡◌, ℕ, zero, suc, Bool, true, false, cond, not, List, [], ◌∷◌, ◌++◌, length, map, get_or, Some, refl, sym, ap, ◌∙◌, subst}
+use Rattle.std.proofs.Common.{◌≡◌, ℕ, zero, suc, Bool, true, false, cond, not, List, [], ◌∷◌, ◌++◌, length, map, get_or}
+use Rattle.std.proofs.Common.{Some, refl, sym, ap, ◌∙◌, subst}
 use Rattle.std.specs.Prelude.{◌==◌, ◌&&◌, ◌||◌}
 use Rattle.std.specs.Bool.{OnTrue}
 use Rattle.std.specs.List.{list_any, slice_get, AllZip, AllByRecursion, IsDistinct}
@@ -22,70 +23,96 @@ use Rattle.ghcn_series.specs.Steps.{Gathers}
 use Rattle.ghcn_series.proofs.ListFacts.{neither, and_false}
 
 -- a station without a month has none of any element
-pub months_of-none : (months : List Month) (id : StationId) (e : Element) → list_any (λ m. same_id m.id id) months ≡ false → months_of months id e ≡ []
+pub months_of-none : (months : List Month) (id : StationId) (e : Element) → list_any (λ m. same_id m.id id) months
+    ≡ false → months_of months id e ≡ []
 months_of-none [] id e none = refl
 months_of-none (m ∷ ms) id e none =
     let both = neither (same_id m.id id) (list_any (λ m. same_id m.id id) ms) none in
     ap (λ (b : Bool). cond (b && same_element m.element e) (m ∷ months_of ms id e) (months_of ms id e)) both.0
     ∙ months_of-none ms id e both.1
 
+-- two lists that fit together have one length
 length-zip : {A B : Type 0} (R : A → B → Type 0) (xs : List A) (ys : List B) → AllZip R xs ys → length xs ≡ length ys
 length-zip R [] [] all = refl
 length-zip R [] (y ∷ ys) all = absurd all
 length-zip R (x ∷ xs) [] all = absurd all
 length-zip R (x ∷ xs) (y ∷ ys) all = ap suc (length-zip R xs ys all.1)
 
-empty_zip : (months : List Month) (id : StationId) (gs : List Gathering) (es : List Element) → list_any (λ m. same_id m.id id) months ≡ false → map (λ g. g.element) gs ≡ es → AllByRecursion (λ g. IsGathering g []) gs → AllZip (IsGatheringOf months id) gs es
+-- gatherings of nothing fit a station without a month
+empty_zip : (months : List Month) (id : StationId) (gs : List Gathering) (es : List Element)
+    → list_any (λ m. same_id m.id id) months ≡ false → map (λ g. g.element) gs ≡ es
+    → AllByRecursion (λ g. IsGathering g []) gs → AllZip (IsGatheringOf months id) gs es
 empty_zip months id [] [] none is all = tt
 empty_zip months id [] (e ∷ es) none is all = absurd cc
 empty_zip months id (g ∷ gs) [] none is all = absurd cc
 empty_zip months id (g ∷ gs) (e ∷ es) none is all =
     let head : g.element ≡ e = cc in
     let tail : map (λ h. h.element) gs ≡ es = cc in
-    let P : List Month → Type 0 = IsGathering g in
-    (record { element = head; holds = subst P (sym (months_of-none months id e none)) all.0 }, empty_zip months id gs es none tail all.1)
+    let P : List Month → Type 0 = IsGathering g in (
+      record { element = head; holds = subst P (sym (months_of-none months id e none)) all.0 },
+      empty_zip months id gs es
+          none tail all.1,
+    )
 
 -- gatherings of nothing, where there were none
-pub by_element-new : (months : List Month) (id : StationId) (before after : List Gathering) → (length before ≡ 5 → ⊥) → AreByElement months id before
-    → map (λ g. g.element) after ≡ elements → AllByRecursion (λ g. IsGathering g []) after → AllZip (IsGatheringOf months id) after elements
+pub by_element-new : (months : List Month) (id : StationId) (before after : List Gathering) → (length before ≡ 5 → ⊥)
+    → AreByElement months id before
+    → map (λ g. g.element) after ≡ elements → AllByRecursion (λ g. IsGathering g []) after
+    → AllZip (IsGatheringOf months id) after elements
 by_element-new months id [] after few is elements_are all = empty_zip months id after elements is elements_are all
-by_element-new months id (g ∷ gs) after few is elements_are all = absurd (few (length-zip (IsGatheringOf months id) (g ∷ gs) elements is))
+by_element-new months id (g ∷ gs) after few is elements_are all = absurd
+    (few (length-zip (IsGatheringOf months id) (g ∷ gs) elements is))
 
+-- two elements are the same in both directions
 same_element-turned : (a b : Element) → same_element a b ≡ same_element b a
 same_element-turned a b = nat_eq_equiv.symm (element_index a) (element_index b)
 
 -- the months of a station and element, one more month of another
-pub months_of-other : (before : List Month) (m : Month) (id : StationId) (e : Element) → (same_id m.id id && same_element m.element e) ≡ false → months_of (before ++ m ∷ []) id e ≡ months_of before id e
+pub months_of-other : (before : List Month) (m : Month) (id : StationId) (e : Element)
+    → (same_id m.id id && same_element m.element e) ≡ false → months_of (before ++ m ∷ []) id e ≡ months_of before id e
 months_of-other before m id e other =
     filter-append (λ x. same_id x.id id && same_element x.element e) before (m ∷ [])
     ∙ ap (λ (b : Bool). months_of before id e ++ cond b (m ∷ []) []) other
     ∙ append-nil (months_of before id e)
 
 -- and one more of its own
-months_of-this : (before : List Month) (m : Month) (id : StationId) (e : Element) → (same_id m.id id && same_element m.element e) ≡ true → months_of (before ++ m ∷ []) id e ≡ months_of before id e ++ m ∷ []
+months_of-this : (before : List Month) (m : Month) (id : StationId) (e : Element)
+    → (same_id m.id id && same_element m.element e) ≡ true → months_of (before ++ m ∷ []) id e ≡ months_of before id e
+    ++ m ∷ []
 months_of-this before m id e this =
     filter-append (λ x. same_id x.id id && same_element x.element e) before (m ∷ [])
     ∙ ap (λ (b : Bool). months_of before id e ++ cond b (m ∷ []) []) this
 
 -- a month of another station or element changes no gathering
-pub gathering-other : (before : List Month) (m : Month) (id : StationId) (g : Gathering) (e : Element) → (same_id m.id id && same_element m.element e) ≡ false → IsGatheringOf before id g e → IsGatheringOf (before ++ m ∷ []) id g e
+pub gathering-other : (before : List Month) (m : Month) (id : StationId) (g : Gathering) (e : Element)
+    → (same_id m.id id && same_element m.element e) ≡ false → IsGatheringOf before id g e
+    → IsGatheringOf (before ++ m ∷ []) id g e
 gathering-other before m id g e other is =
     let P : List Month → Type 0 = IsGathering g in
     record { element = is.element; holds = subst P (sym (months_of-other before m id e other)) is.holds }
 
-other_elements : (before : List Month) (m : Month) (id : StationId) (gs : List Gathering) (es : List Element) → AllByRecursion (λ e. same_element m.element e ≡ false) es → AllZip (IsGatheringOf before id) gs es → AllZip (IsGatheringOf (before ++ m ∷ []) id) gs es
+-- a month of another element changes none of these gatherings
+other_elements : (before : List Month) (m : Month) (id : StationId) (gs : List Gathering) (es : List Element)
+    → AllByRecursion (λ e. same_element m.element e ≡ false) es → AllZip (IsGatheringOf before id) gs es
+    → AllZip (IsGatheringOf (before ++ m ∷ []) id) gs es
 other_elements before m id [] [] other is = tt
 other_elements before m id [] (e ∷ es) other is = absurd is
 other_elements before m id (g ∷ gs) [] other is = absurd is
-other_elements before m id (g ∷ gs) (e ∷ es) other is =
-    (gathering-other before m id g e (and_false (same_id m.id id) (same_element m.element e) other.0) is.0, other_elements before m id gs es other.1 is.1)
+other_elements before m id (g ∷ gs) (e ∷ es) other is = (
+  gathering-other before m id g e (and_false (same_id m.id id) (same_element m.element e) other.0) is.0,
+  other_elements before m id gs es other.1 is.1,
+)
 
-from_all : {X : Type 0} (P : X → Type 0) (xs : List X) (k : ℕ) (x : X) → AllByRecursion P xs → slice_get xs k ≡ Some x → P x
+-- what is true of all is true at each place
+from_all : {X : Type 0} (P : X → Type 0) (xs : List X) (k : ℕ) (x : X) → AllByRecursion P xs → slice_get xs k ≡ Some x
+    → P x
 from_all P [] k x all at = absurd cc
 from_all P (y ∷ ys) zero x all at = let same : y ≡ x = cc in subst P same all.0
 from_all P (y ∷ ys) (suc k) x all at = from_all P ys k x all.1 at
 
-same_here : (m : Month) (id : StationId) (e : Element) → m.id ≡ id → e ≡ m.element → (same_id m.id id && same_element m.element e) ≡ true
+-- a month of this station and element passes the test
+same_here : (m : Month) (id : StationId) (e : Element) → m.id ≡ id → e ≡ m.element
+    → (same_id m.id id && same_element m.element e) ≡ true
 same_here m id e of at =
     ap (λ (i : StationId). same_id m.id i && same_element m.element e) (sym of)
     ∙ ap (λ (f : Element). same_id m.id m.id && same_element m.element f) at
@@ -93,8 +120,10 @@ same_here m id e of at =
     ∙ nat_eq_equiv.refl (element_index m.element)
 
 -- a gathering with one month more, among those of other elements
-put_gathering : (before : List Month) (m : Month) (id : StationId) (gs : List Gathering) (es : List Element) (k : ℕ) (g new : Gathering) → m.id ≡ id → IsDistinct same_element es
-    → AllZip (IsGatheringOf before id) gs es → slice_get es k ≡ Some m.element → g ≡ get_or gs k g → new.element ≡ g.element → IsGathering new (months_of before id m.element ++ m ∷ [])
+put_gathering : (before : List Month) (m : Month) (id : StationId) (gs : List Gathering) (es : List Element) (k : ℕ)
+    (g new : Gathering) → m.id ≡ id → IsDistinct same_element es
+    → AllZip (IsGatheringOf before id) gs es → slice_get es k ≡ Some m.element → g ≡ get_or gs k g
+    → new.element ≡ g.element → IsGathering new (months_of before id m.element ++ m ∷ [])
     → AllZip (IsGatheringOf (before ++ m ∷ []) id) (set gs k new) es
 unfolding IsDistinct
 put_gathering before m id [] [] k g new of apart is at here same holds = tt
@@ -104,18 +133,30 @@ put_gathering before m id (x ∷ xs) (e ∷ es) zero g new of apart is at here s
     let this : e ≡ m.element = cc in
     let P : List Month → Type 0 = IsGathering new in
     let all : IsGathering new (months_of (before ++ m ∷ []) id e) =
-    subst P (sym (months_of-this before m id e (same_here m id e of this) ∙ ap (λ (f : Element). months_of before id f ++ m ∷ []) this)) holds in
-    let Q : Element → Type 0 = λ f. AllByRecursion (λ d. same_element f d ≡ false) es in
-    (record { element = same ∙ ap (λ (h : Gathering). h.element) here ∙ is.0.element; holds = all }, other_elements before m id xs es (subst Q this apart.0) is.1)
+    subst P (sym (months_of-this before m id e (same_here m id e of this)
+    ∙ ap (λ (f : Element). months_of before id f ++ m ∷ []) this)) holds in
+    let Q : Element → Type 0 = λ f. AllByRecursion (λ d. same_element f d ≡ false) es in (
+      record { element = same ∙ ap (λ (h : Gathering). h.element) here ∙ is.0.element; holds = all },
+      other_elements
+          before m id xs es (subst Q this apart.0) is.1,
+    )
 put_gathering before m id (x ∷ xs) (e ∷ es) (suc k) g new of apart is at here same holds =
-    let other : same_element m.element e ≡ false = same_element-turned m.element e ∙ from_all (λ d. same_element e d ≡ false) es k m.element apart.0 at in
-    (gathering-other before m id x e (and_false (same_id m.id id) (same_element m.element e) other) is.0, put_gathering before m id xs es k g new of apart.1 is.1 at here same holds)
+    let other : same_element m.element e ≡ false = same_element-turned m.element e
+    ∙ from_all (λ d. same_element e d ≡ false) es k m.element apart.0 at in (
+      gathering-other before m id x e (and_false (same_id m.id id) (same_element m.element e) other) is.0,
+      put_gathering
+          before m id xs es k g new of apart.1 is.1 at here same holds,
+    )
 
 -- no two of the elements are the same
 pub elements_differ : IsDistinct same_element elements
 unfolding IsDistinct
-elements_differ = ((refl, (refl, (refl, (refl, tt)))), ((refl, (refl, (refl, tt))), ((refl, (refl, tt)), ((refl, tt), (tt, tt)))))
+elements_differ = (
+  (refl, (refl, (refl, (refl, tt)))),
+  ((refl, (refl, (refl, tt))), ((refl, (refl, tt)), ((refl, tt), (tt, tt)))),
+)
 
+-- each element stands at its place
 pub element_at : (e : Element) → slice_get elements (element_index e) ≡ Some e
 element_at Prcp = refl
 element_at Snow = refl
@@ -124,7 +165,9 @@ element_at Tmax = refl
 element_at Tmin = refl
 
 -- the gathering of an element has its months
-pub found_at : (gs : List Gathering) (es : List Element) (months : List Month) (id : StationId) (k : ℕ) (e : Element) (g : Gathering) → AllZip (IsGatheringOf months id) gs es → slice_get es k ≡ Some e → g ≡ get_or gs k g → IsGathering g (months_of months id e)
+pub found_at : (gs : List Gathering) (es : List Element) (months : List Month) (id : StationId) (k : ℕ) (e : Element)
+    (g : Gathering) → AllZip (IsGatheringOf months id) gs es → slice_get es k ≡ Some e → g ≡ get_or gs k g
+    → IsGathering g (months_of months id e)
 found_at [] [] months id k e g is at here = absurd cc
 found_at [] (d ∷ ds) months id k e g is at here = absurd is
 found_at (x ∷ xs) [] months id k e g is at here = absurd is
@@ -135,42 +178,57 @@ found_at (x ∷ xs) (d ∷ ds) months id zero e g is at here =
     subst P this (subst Q (sym here) is.0.holds)
 found_at (x ∷ xs) (d ∷ ds) months id (suc k) e g is at here = found_at xs ds months id k e g is.1 at here
 
-any_if : {X : Type 0} (p : X → Bool) (i e : Bool) (x : X) (xs : List X) → (i && e && p x || list_any p xs) ≡ list_any p (cond (i && e) (x ∷ xs) xs)
+-- a test of the kept ones is one of all
+any_if : {X : Type 0} (p : X → Bool) (i e : Bool) (x : X) (xs : List X) → (i && e && p x || list_any p xs)
+    ≡ list_any p (cond (i && e) (x ∷ xs) xs)
 any_if p true true x xs = refl
 any_if p true false x xs = refl
 any_if p false e x xs = refl
 
+-- four tests may be grouped by two
 assoc : (a b c d : Bool) → (a && b && c && d) ≡ (a && b && (c && d))
 assoc true true c d = refl
 assoc true false c d = refl
 assoc false b c d = refl
 
 -- a month was read before where one of its time, station and element was
-pub repeats-is : (before : List Month) (m : Month) → list_any (same_month m) before ≡ list_any (same_time m) (months_of before m.id m.element)
+pub repeats-is : (before : List Month) (m : Month) → list_any (same_month m) before
+    ≡ list_any (same_time m) (months_of before m.id m.element)
 repeats-is [] m = refl
 repeats-is (x ∷ xs) m =
-    ap (λ (b : Bool). b || list_any (same_month m) xs) (assoc (same_id m.id x.id) (same_element m.element x.element) (m.year == x.year) (m.month == x.month))
-    ∙ ap (λ (b : Bool). b && same_element m.element x.element && same_time m x || list_any (same_month m) xs) (same_id-turned m.id x.id)
-    ∙ ap (λ (b : Bool). same_id x.id m.id && b && same_time m x || list_any (same_month m) xs) (same_element-turned m.element x.element)
+    ap (λ (b : Bool). b || list_any (same_month m) xs)
+    (assoc (same_id m.id x.id) (same_element m.element x.element) (m.year == x.year) (m.month == x.month))
+    ∙ ap (λ (b : Bool). b && same_element m.element x.element && same_time m x || list_any (same_month m) xs)
+    (same_id-turned m.id x.id)
+    ∙ ap (λ (b : Bool). same_id x.id m.id && b && same_time m x || list_any (same_month m) xs)
+    (same_element-turned m.element x.element)
     ∙ ap (λ (b : Bool). same_id x.id m.id && same_element x.element m.element && same_time m x || b) (repeats-is xs m)
     ∙ any_if (same_time m) (same_id x.id m.id) (same_element x.element m.element) x (months_of xs m.id m.element)
 
-kept_by_element : (months : List Month) (id : StationId) (gs : List Gathering) → AllZip (IsGatheringOf months id) gs elements → AreByElement months id gs
+-- five gatherings are gatherings by element
+kept_by_element : (months : List Month) (id : StationId) (gs : List Gathering)
+    → AllZip (IsGatheringOf months id) gs elements → AreByElement months id gs
 kept_by_element months id [] is = absurd is
 kept_by_element months id (g ∷ gs) is = is
 
 -- one month more of a station, unless it was read before
-pub by_element-more : (m : Month) (id : StationId) (five : List Gathering) (k : ℕ) (g new : Gathering) (added : Bool) → k ≡ element_index m.element → g ≡ get_or five k g → new.element ≡ g.element
+pub by_element-more : (m : Month) (id : StationId) (five : List Gathering) (k : ℕ) (g new : Gathering) (added : Bool)
+    → k ≡ element_index m.element → g ≡ get_or five k g → new.element ≡ g.element
     → Gathers g new m added
     → (before : List Month) → m.id ≡ id → AllZip (IsGatheringOf before id) five elements
-    → (added ≡ not (list_any (same_month m) before)) × OnTrue added (AreByElement (before ++ m ∷ []) id (set five k new))
+    → (added ≡ not (list_any (same_month m) before))
+    × OnTrue added (AreByElement (before ++ m ∷ []) id (set five k new))
 by_element-more m id five k g new added place here same adds before of is =
     let at : slice_get elements k ≡ Some m.element = ap (slice_get elements) place ∙ element_at m.element in
     let months = months_of before id m.element in
     let own = found_at five elements before id k m.element g is at here in
-    let repeated = repeats-is before m ∙ ap (λ (i : StationId). list_any (same_time m) (months_of before i m.element)) of in
+    let repeated = repeats-is before m ∙ ap (λ (i : StationId). list_any (same_time m) (months_of before i m.element))
+    of in
     (adds.is_new months own ∙ ap not (sym repeated), on_true added (adds.holds months own))
   where
-    on_true : (b : Bool) → OnTrue b (IsGathering new (months_of before id m.element ++ m ∷ [])) → OnTrue b (AreByElement (before ++ m ∷ []) id (set five k new))
-    on_true true holds = kept_by_element (before ++ m ∷ []) id (set five k new) (put_gathering before m id five elements k g new of elements_differ is (ap (slice_get elements) place ∙ element_at m.element) here same holds)
+    on_true : (b : Bool) → OnTrue b (IsGathering new (months_of before id m.element ++ m ∷ []))
+        → OnTrue b (AreByElement (before ++ m ∷ []) id (set five k new))
+    on_true true holds = kept_by_element (before ++ m ∷ []) id (set five k new)
+        (put_gathering before m id five elements k g new of elements_differ is (ap (slice_get elements) place
+        ∙ element_at m.element) here same holds)
     on_true false holds = tt

@@ -1,5 +1,6 @@
 -- The lines of the daily files in order, and the first of them with a fault.
-use Rattle.std.specs.Prelude.{◌≡◌, ℕ, ◌<◌, ◌^◌, Bool, ◌&&◌, not, ◌==◌, if◌then◌else◌, List, length, map, Option, None, Some, Result, Ok, Err, filter, ⊤}
+use Rattle.std.specs.Prelude.{◌≡◌, ℕ, ◌<◌, ◌^◌, Bool, ◌&&◌, not, ◌==◌, if◌then◌else◌, List, length, map, Option, None}
+use Rattle.std.specs.Prelude.{Some, Result, Ok, Err, filter, ⊤}
 use Rattle.std.specs.List.{list_any, flat_map, filter_map, enumerate_from}
 use Rattle.std.specs.Option.{option_map}
 use Rattle.ghcn_fields.specs.Bytes.{is_blank}
@@ -62,11 +63,13 @@ is_listed stations id = list_any (is_station_of id) stations
 abbrev pub daily_why : List Station → List FileLine → Result (Option Month) LineWhy → Option DailyWhy
 daily_why stations earlier (Err why) = Some (Line why)
 daily_why stations earlier (Ok None) = None
-daily_why stations earlier (Ok (Some m)) = if is_listed stations m.id && repeats earlier m then Some DuplicateMonth else None
+daily_why stations earlier (Ok (Some m)) = if is_listed stations m.id && repeats earlier m then Some DuplicateMonth else
+    None
 
 -- the fault of a line after the lines before it
 abbrev pub daily_fault : List Station → List FileLine → FileLine → Option DataFault
-daily_fault stations earlier l = option_map (λ why. DailyLine l.file l.line why) (daily_why stations earlier (read_month l.bytes))
+daily_fault stations earlier l = option_map (λ why. DailyLine l.file l.line why)
+    (daily_why stations earlier (read_month l.bytes))
 
 -- want of memory, or the very fault that the files have
 abbrev pub IsRefusal : DataFault → Result Contents DataFault → Type 0

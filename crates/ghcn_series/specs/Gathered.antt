@@ -1,6 +1,6 @@
 -- What has been gathered after some lines, of one station and element and of all of them.
-use Rattle.std.specs.Prelude.{◌≡◌, ℕ, ◌<◌, ◌^◌, ◌+◌, ◌*◌, ◌==◌, Bool, false, not, ◌&&◌, ◌||◌, if◌then◌else◌, List, [], ◌∷◌, length, get_or, Option, None, Some, filter, ℤ, pos, int_le, ⊤}
-use Rattle.std.specs.Int.{bit_at}
+use Rattle.std.specs.Prelude.{◌≡◌, ℕ, ◌+◌, ◌*◌, ◌==◌, Bool, false, not, ◌&&◌, ◌||◌, if◌then◌else◌, List, []}
+use Rattle.std.specs.Prelude.{◌∷◌, length, get_or, Option, None, Some, filter, ℤ, pos, int_le, ⊤}
 use Rattle.std.specs.List.{list_any, filter_map, flat_map, enumerate_from, count_by, IsDistinct, AllZip, AllByRecursion}
 use Rattle.std.specs.Option.{option_and_then, option_map}
 use Rattle.ghcn_fields.specs.Sorting.{sorted_by}
@@ -14,13 +14,13 @@ use Rattle.ghcn_files.specs.Elements.{elements, same_element, may_be_negative}
 use Rattle.ghcn_files.specs.declared.station.Station.{Station}
 use Rattle.ghcn_files.specs.Listed.{AreListed}
 use Rattle.ghcn_files.specs.Months.{IsMonth}
+use Rattle.ghcn_files.specs.Rows.{no_reading}
 use Rattle.ghcn_series.specs.declared.gathering.Gathering.{Gathering}
 use Rattle.ghcn_series.specs.declared.station.StationGathering.{StationGathering}
 use Rattle.ghcn_series.specs.declared.reader.Reader.{Reader}
 use Rattle.ghcn_series.specs.declared.fault.DataFault.{DataFault}
 use Rattle.ghcn_series.specs.declared.fault.DataFault.TheVariants.{TooManyFiles, DailyLine, Memory}
 use Rattle.ghcn_series.specs.Series.{DayValue, Usable, value_on, by_day}
-use Rattle.ghcn_series.specs.Packed.{value_at}
 use Rattle.ghcn_series.specs.Parts.{AreParts, days_held}
 use Rattle.ghcn_series.specs.SeenMonths.{has_month}
 use Rattle.ghcn_series.specs.DailyFaults.{FileLine, month_on, is_listed, daily_fault, HasFirst}
@@ -38,19 +38,9 @@ usable_day m x = option_and_then counted (fact_of m x)
 abbrev pub usable_days : Month → List DayValue
 usable_days m = filter_map (usable_day m) (enumerate_from 1 m.days)
 
--- a reading of nothing
-abbrev pub no_reading : Reading
-no_reading = record { value = None; flagged = false }
-
 -- the value of a month's day at a place, if it is usable
 abbrev pub usable_value : Month → ℕ → Option ℤ
 usable_value m j = option_map (λ x. x.1) (usable_day m (j + 1, get_or m.days j no_reading))
-
--- a month's usable days as a word and values: bit j and value j are of its day j + 1, and the value of any other day is 0
-pub record IsMonthRow (m : Month) (word : ℕ) (values : List ℤ) : Type 0 where
-  pub fits : word < 2 ^ 32
-  pub holds : (j : ℕ) → j < 32 → value_at word values j ≡ usable_value m j
-  pub zeros : (j : ℕ) → j < 32 → bit_at word j ≡ 0 → get_or values j (pos 0) ≡ pos 0
 
 -- two months have the same year and month of the year
 abbrev pub same_time : Month → Month → Bool

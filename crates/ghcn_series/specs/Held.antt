@@ -13,7 +13,8 @@ use Rattle.ghcn_series.specs.DailyFaults.{is_listed}
 abbrev pub same_series : Usable → Usable → Bool
 same_series a b = same_id a.id b.id && same_element a.element b.element
 
--- what is true of the series of listed stations: no two are of one station and element, and each is of a listed station and right by itself
+-- what is true of the series of listed stations: no two are of one station and element, and each is of a listed station
+-- and right by itself
 pub record AreSeries (stations : List Station) (series : List Usable) : Type 0 where
   pub distinct : IsDistinct same_series series
   pub listed : AllByRecursion (λ s. is_listed stations s.id ≡ true) series
@@ -32,7 +33,8 @@ is_of_element e u = same_element u.element e
 abbrev pub all_of : List (List Usable) → List Usable
 all_of lists = flat_map (λ series. series) lists
 
--- what is true of the series of listed stations that are kept in one list for each: those of a list are its station's, and all of them are right
+-- what is true of the series of listed stations that are kept in one list for each: those of a list are its station's,
+-- and all of them are right
 pub record AreByStation (stations : List Station) (lists : List (List Usable)) : Type 0 where
   pub own : AllZip (λ s series. AllByRecursion (λ u. u.id ≡ s.id) series) stations lists
   pub listed : AreListed stations

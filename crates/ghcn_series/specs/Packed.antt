@@ -1,9 +1,11 @@
 -- Packed columns: blocks of 32 days, each with a word, whose bit j says that day j is present, and the days' values.
-use Rattle.std.specs.Prelude.{◌≡◌, ℕ, ◌<◌, ◌^◌, ◌==◌, Bool, true, if◌then◌else◌, List, [], ◌∷◌, length, get_or, ⊤, Option, Some, None, ℤ, pos, ◌+ℤ◌, ◌*ℤ◌, ◌<ℤ◌, int_le}
+use Rattle.std.specs.Prelude.{◌≡◌, ℕ, ◌<◌, ◌^◌, ◌==◌, true, List, [], ◌∷◌, length, get_or, ⊤}
+use Rattle.std.specs.Prelude.{Option, Some, None, ℤ, pos, ◌+ℤ◌, ◌*ℤ◌, ◌<ℤ◌, int_le}
 use Rattle.std.specs.Int.{bit_at, int_rem_euclid}
 use Rattle.std.specs.List.{find, filter_map, flat_map, range_with_len, zip, AllByRecursion}
 use Rattle.std.specs.Option.{option_map}
 use Rattle.ghcn_fields.specs.Days.{is_day, block_of}
+pub use Rattle.ghcn_files.specs.Rows.{if_so, value_at}
 use Rattle.ghcn_series.specs.Series.{DayValue, value_on}
 
 -- a block: its number, its word and the values of its days
@@ -13,14 +15,6 @@ Block = ℤ × (ℕ × List ℤ)
 -- the first day of a block
 abbrev pub block_start : ℤ → ℤ
 block_start b = b *ℤ pos 32
-
--- x, where the test passes
-abbrev pub if_so : {A : Type 0} → Bool → A → Option A
-if_so t x = if t then Some x else None
-
--- the value at a place of a block, if its day is present
-abbrev pub value_at : ℕ → List ℤ → ℕ → Option ℤ
-value_at word values j = if_so (bit_at word j == 1) (get_or values j (pos 0))
 
 -- the day so many places behind a first one with its value, if it is present
 abbrev pub day_from : ℤ → ℕ → List ℤ → ℕ → Option DayValue

@@ -1,5 +1,6 @@
 -- Parts of blocks as they were added: a block may stand in several parts, and the numbers needn't rise.
-use Rattle.std.specs.Prelude.{◌≡◌, ℕ, ◌<◌, ◌≤◌, ◌+◌, ◌-◌, ◌^◌, ◌==◌, if◌then◌else◌, ◌+ℤ◌, ◌<ℤ◌, ◌≤ℤ◌, length, true, ⊤, List, [], ◌∷◌, get_or, IsSome, None, ℤ, pos}
+use Rattle.std.specs.Prelude.{◌≡◌, ℕ, ◌<◌, ◌≤◌, ◌+◌, ◌-◌, ◌^◌, ◌==◌, if◌then◌else◌, ◌+ℤ◌, ◌<ℤ◌, ◌≤ℤ◌, length, true, ⊤}
+use Rattle.std.specs.Prelude.{List, [], ◌∷◌, get_or, IsSome, None, ℤ, pos}
 use Rattle.std.specs.Int.{bit_at}
 use Rattle.std.specs.List.{AllByRecursion}
 use Rattle.std.specs.Option.{option_or}

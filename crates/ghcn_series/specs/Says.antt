@@ -1,5 +1,6 @@
 -- What the daily files say, and what of it counts.
-use Rattle.std.specs.Prelude.{ℕ, ◌^◌, ◌-◌, min, Bool, false, ◌&&◌, ◌||◌, not, ◌==◌, nat_le, if◌then◌else◌, List, length, map, Option, None, Some, Result, Ok, Err, filter, ℤ, pos, int_le}
+use Rattle.std.specs.Prelude.{ℕ, ◌^◌, ◌-◌, min, Bool, false, ◌&&◌, ◌||◌, not, ◌==◌, nat_le, if◌then◌else◌, List, length}
+use Rattle.std.specs.Prelude.{map, Option, None, Some, Result, Ok, Err, filter, ℤ, pos, int_le}
 use Rattle.std.specs.List.{flat_map, filter_map, enumerate_from, count_by}
 use Rattle.ghcn_fields.specs.Days.{day_number}
 use Rattle.ghcn_fields.specs.Faults.{first_fault}
@@ -88,5 +89,6 @@ contents_unless (Some f) held = Err f.1
 abbrev pub data_of : List Station → List (List ℕ) → Result Contents DataFault
 data_of stations files =
     if nat_le (length files) (2 ^ 20)
-    then contents_unless (first_fault (daily_fault stations) (daily_lines files)) (contents stations (daily_lines files))
+    then contents_unless (first_fault (daily_fault stations) (daily_lines files))
+    (contents stations (daily_lines files))
     else Err TooManyFiles

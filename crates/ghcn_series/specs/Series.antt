@@ -1,5 +1,6 @@
 -- What contracts see of a series and of all data.
-use Rattle.std.specs.Prelude.{ℕ, ◌<◌, Bool, true, ◌&&◌, ◌||◌, List, [], ◌∷◌, length, Option, ℤ, pos, neg_ℤ, int_le, int_lt, IsTrue}
+use Rattle.std.specs.Prelude.{ℕ, ◌<◌, Bool, true, ◌&&◌, ◌||◌, List, [], ◌∷◌, length, Option, ℤ, pos, neg_ℤ, int_le}
+use Rattle.std.specs.Prelude.{int_lt, IsTrue}
 use Rattle.std.specs.List.{list_all, find}
 use Rattle.std.specs.Option.{option_map}
 use Rattle.std.specs.Ordering.{int_eq}
@@ -20,7 +21,8 @@ pub record Usable : Type 0 where
   pub element : Element
   pub days : List DayValue
 
--- the listed stations in file order; of each, in that order, its series, by element; and how many lines of unlisted stations were passed over
+-- the listed stations in file order; of each, in that order, its series, by element; and how many lines of unlisted
+-- stations were passed over
 pub record Contents : Type 0 where
   pub stations : List Station
   pub series : List Usable

@@ -3,7 +3,10 @@ use Rattle.std.specs.Prelude.{◌≡◌, ◌++◌, ◌∷◌, [], ◌&&◌, not,
 use Rattle.std.specs.Bool.{OnTrue}
 use Rattle.std.specs.List.{list_any, AllZip}
 use Rattle.ghcn_files.specs.declared.month.Month.{Month}
+use Rattle.ghcn_files.specs.declared.row.MonthRow.{MonthRow}
 use Rattle.ghcn_files.specs.Elements.{elements}
+use Rattle.ghcn_files.specs.Months.{IsMonth}
+use Rattle.ghcn_files.specs.Rows.{IsRowOf}
 use Rattle.ghcn_series.specs.declared.gathering.Gathering.{Gathering}
 use Rattle.ghcn_series.specs.declared.station.StationGathering.{StationGathering}
 use Rattle.ghcn_series.specs.declared.reader.Reader.{Reader}
@@ -11,7 +14,16 @@ use Rattle.ghcn_series.specs.declared.fault.DataFault.{DataFault}
 use Rattle.ghcn_series.specs.Series.{Contents}
 use Rattle.ghcn_series.specs.DailyFaults.{FileLine, same_month, is_listed}
 use Rattle.ghcn_series.specs.Says.{contents}
-use Rattle.ghcn_series.specs.Gathered.{same_time, IsGathering, IsGatheringOf, AreByElement, HasRead, HasReadLines, IsLineRefusal}
+use Rattle.ghcn_series.specs.Gathered.{same_time, IsGathering, IsGatheringOf, AreByElement, HasRead, HasReadLines}
+use Rattle.ghcn_series.specs.Gathered.{IsLineRefusal}
+
+-- the row is that of some month
+abbrev pub IsOfMonth : MonthRow → Type 0
+IsOfMonth row = (m : Month) × (IsMonth m × IsRowOf m row)
+
+-- a fact about each month whose row this is
+abbrev pub OfMonth : MonthRow → (Month → Type 0) → Type 0
+OfMonth row P = (m : Month) → IsMonth m → IsRowOf m row → P m
 
 -- what a gathering has: some months
 abbrev pub GathersSome : Gathering → Type 0

@@ -1,6 +1,7 @@
 //! Columns while days are added to them.
 
-ghost use Rattle.std.specs.Prelude.{◌≡◌, ◌<◌, ◌-◌, ◌^◌, ◌==◌, ◌&&◌, ◌||◌, ◌++◌, ◌∷◌, [], if◌then◌else◌, pos, ◌+ℤ◌, IfOk, OnOk, IsTrue};
+ghost use Rattle.std.specs.Prelude.{◌≡◌, ◌<◌, ◌-◌, ◌^◌, ◌==◌, ◌&&◌, ◌||◌, ◌++◌, ◌∷◌, [], if◌then◌else◌, pos, ◌+ℤ◌};
+ghost use Rattle.std.specs.Prelude.{IfOk, OnOk, IsTrue};
 ghost use Rattle.std.specs.Prelude.{nat_lt, int_lt, length, slice_index_or};
 ghost use Rattle.std.specs.Ordering.{int_eq};
 ghost use Rattle.ghcn_fields.specs.Days.{IsBlock, is_day};
@@ -157,8 +158,8 @@ impl Parts {
 
 /// Whether a number is the last.
 fn ends_in(numbers: &[i32], number: i32) -> bool
-    ensures { result
-        ≡ (nat_lt 0 (length numbers.now) && int_eq (slice_index_or numbers.now (length numbers.now - 1) (pos 0)) number) }
+    ensures { result ≡ (nat_lt 0 (length numbers.now)
+        && int_eq (slice_index_or numbers.now (length numbers.now - 1) (pos 0)) number) }
 {
     match numbers {
         [.., last] => *last == number,

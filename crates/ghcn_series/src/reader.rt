@@ -2,15 +2,14 @@
 
 ghost use Rattle.std.specs.Prelude.{◌≡◌, ◌∷◌, [], map, IfOk, IfErr, OnOk};
 ghost use Rattle.ghcn_files.specs.Listed.{AreListed, place_of};
-ghost use Rattle.ghcn_files.specs.Months.{IsMonth};
 ghost use Rattle.ghcn_series.specs.DailyFaults.{line_of, file_lines, daily_lines};
 ghost use Rattle.ghcn_series.specs.Gathered.{HasRead, HasReadLines, IsLineRefusal};
-ghost use Rattle.ghcn_series.specs.Steps.{HasReadSome, Reads, Refuses, ReadsMonth, HoldsAll};
+ghost use Rattle.ghcn_series.specs.Steps.{HasReadSome, Reads, Refuses, ReadsMonth, HoldsAll, IsOfMonth, OfMonth};
 
 use crate::station::StationGathering;
 use crate::{DailyWhy, Data, DataFault};
 use ghcn_fields::{Memory, is_blank, lines};
-use ghcn_files::{Month, StationId, Stations, read_month};
+use ghcn_files::{MonthRow, StationId, Stations, read_days};
 use std::alloc::Global;
 
 /// What was read so far.
@@ -111,12 +110,12 @@ impl Reader {
         ensures read { OnOk result (Reads self.old self.new (line_of file (line, bytes.now) ∷ [])) }
         ensures fault { IfErr result (Refuses self.old (line_of file (line, bytes.now) ∷ [])) }
     {
-        let month = match read_month(bytes) {
-            Ok(Some(month)) => month,
+        let row = match read_days(bytes) {
+            Ok(Some(row)) => row,
             Ok(None) => return Ok(()),
             Err(why) => return Err(refused(file, line, DailyWhy::Line(why))),
         };
-        match self.add_month(alloc, &month) {
+        match self.add_month(alloc, &row) {
             Ok(true) => Ok(()),
             Ok(false) => Err(refused(file, line, DailyWhy::DuplicateMonth)),
             Err(memory) => Err(DataFault::Memory(memory)),
@@ -124,16 +123,16 @@ impl Reader {
     }
 
     /// Adds a month, or answers false where its station is listed and has that month already.
-    fn add_month(&mut self, alloc: Global, month: &Month) -> Result<bool, Memory>
-        requires right { IsMonth month.now }
+    fn add_month(&mut self, alloc: Global, row: &MonthRow) -> Result<bool, Memory>
+        requires right { IsOfMonth row.now }
         requires read { HasReadSome self.old }
         ensures stations { self.new.stations ≡ self.old.stations }
-        ensures added { IfOk result (ReadsMonth self.old self.new month.now) }
+        ensures added { IfOk result (λ added. OfMonth row.now (λ m. ReadsMonth self.old self.new m added)) }
     {
-        match self.place(&month.id) {
+        match self.place(&row.id) {
             Some(place) => {
                 self.last = place;
-                self.gathered[place].add(alloc, month)
+                self.gathered[place].add(alloc, row)
             }
             None => {
                 self.unlisted = self.unlisted.saturating_add(1);

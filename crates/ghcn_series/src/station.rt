@@ -4,15 +4,13 @@ ghost use Rattle.std.specs.Prelude.{◌≡◌, ◌++◌, ◌∷◌, [], List, le
 ghost use Rattle.std.specs.Bool.{OnTrue};
 ghost use Rattle.std.specs.List.{list_any, AllByRecursion, AllZip};
 ghost use Rattle.ghcn_files.specs.Elements.{elements, element_index};
-ghost use Rattle.ghcn_files.specs.declared.month.Month as months;
-ghost use Rattle.ghcn_files.specs.Months.{IsMonth};
 ghost use Rattle.ghcn_series.specs.Gathered as gathered;
-ghost use Rattle.ghcn_series.specs.Steps.{Gathers, GathersAt, StationGathersSome, Opens};
+ghost use Rattle.ghcn_series.specs.Steps.{GathersAt, StationGathersSome, Opens, IsOfMonth, OfMonth};
 
 use crate::Series;
 use crate::gathering::Gathering;
 use ghcn_fields::Memory;
-use ghcn_files::{Element, Month, StationId};
+use ghcn_files::{Element, MonthRow, StationId};
 use std::alloc::Global;
 
 /// The elements in the order in which a station's series are kept.
@@ -45,15 +43,15 @@ impl StationGathering {
     }
 
     /// Adds a month of the station, or answers false where that month was added before.
-    pub(crate) fn add(&mut self, alloc: Global, month: &Month) -> Result<bool, Memory>
-        requires own { month.now.id ≡ self.old.id }
-        requires right { IsMonth month.now }
+    pub(crate) fn add(&mut self, alloc: Global, row: &MonthRow) -> Result<bool, Memory>
+        requires own { row.now.id ≡ self.old.id }
+        requires right { IsOfMonth row.now }
         requires gathered { StationGathersSome self.old }
         ensures id { self.new.id ≡ self.old.id }
-        ensures added { IfOk result (GathersAt self.old self.new month.now) }
+        ensures added { IfOk result (λ added. OfMonth row.now (λ m. GathersAt self.old self.new m added)) }
     {
         self.open(alloc)?;
-        self.by_element[place_of(month.element)].add(alloc, month)
+        self.by_element[place_of(row.element)].add(alloc, row)
     }
 
     /// The series of the station that have a usable day, by element.

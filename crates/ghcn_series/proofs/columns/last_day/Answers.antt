@@ -13,7 +13,8 @@ day_at-requires-clause-number c =
     let t : ℕ = c.ilog2.result in
     let top = highest-bit c.args.word t c.ilog2.ensures.power_le c.ilog2.ensures.next_power_gt in
     let near : to_z w32 (of_z w32 n) ≡ n = to_z-of_z w32 n c.ranges.number in
-    subst IsBlock (sym near) (block-of_day n t c.ilog2.ensures.bound (c.requires.days.days t c.ilog2.ensures.bound top.0))
+    subst IsBlock (sym near) (block-of_day n t c.ilog2.ensures.bound
+    (c.requires.days.days t c.ilog2.ensures.bound top.0))
 
 -- the highest bit has the last day
 pub returns : goal.returns

@@ -33,7 +33,8 @@ loop-day-preserved c =
     record {
       order = c.in_ok-add_day.ensures.order;
       whole =
-          ap (λ (l : List DayValue). l ++ left) (c.in_ok-add_day.ensures.days ∙ ap (λ (v : ℤ). held ++ (c.in-Some.day, v) ∷ []) near)
+          ap (λ (l : List DayValue). l ++ left) (c.in_ok-add_day.ensures.days
+          ∙ ap (λ (v : ℤ). held ++ (c.in-Some.day, v) ∷ []) near)
           ∙ append_assoc held ((c.in-Some.day, c.in-Some.value) ∷ []) left
           ∙ whole;
     }

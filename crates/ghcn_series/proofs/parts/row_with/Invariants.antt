@@ -2,6 +2,7 @@ use Rattle.std.proofs.Common.{◌<◌, ◌≡◌, ℕ, pos, length, get_or}
 use Rattle.std.specs.Prelude.{◌==◌, if◌then◌else◌}
 use Rattle.ghcn_series.proofs.parts.row_with.Given as goal
 
+-- the places so far have the value or 0
 abbrev pub invariant-loop-at : goal.invariant-loop-at
 invariant-loop-at l = record {
   long : length l.row ≡ 32;

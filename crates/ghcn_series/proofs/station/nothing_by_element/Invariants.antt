@@ -4,6 +4,7 @@ use Rattle.ghcn_files.specs.Elements.{elements}
 use Rattle.ghcn_series.specs.Gathered.{IsGathering}
 use Rattle.ghcn_series.proofs.station.nothing_by_element.Given as goal
 
+-- the elements so far have a gathering of nothing
 abbrev pub invariant-loop-element : goal.invariant-loop-element
 invariant-loop-element l = record {
   elements : map (λ g. g.element) l.five.items ≡ take l.element-index elements;

@@ -4,11 +4,14 @@ use Rattle.ghcn_series.specs.SeenMonths.{has_month, months_of, RiseUnless}
 use Rattle.ghcn_series.proofs.RisingMonths.{fresh-after}
 use Rattle.ghcn_series.proofs.months.Months.add.Goals as goal
 
+-- a month after rising ones is new
 pub returns-then-is_after-clause-is_new : goal.returns-then-is_after-clause-is_new
 returns-then-is_after-clause-is_new c =
     let months : List ℕ = c.self.inside.rising.items in
-    let rise : (i j : ℕ) → i < j → j < length months → get_or months i 0 < get_or months j 0 = subst (RiseUnless months) c.in_default.is c.self.invariant in
+    let rise : (i j : ℕ) → i < j → j < length months → get_or months i 0 < get_or months j 0 = subst (RiseUnless months)
+    c.in_default.is c.self.invariant in
     let now : months ≡ c.args.self.now = sym (ap (months_of months) c.in_default.is) ∙ c.self.view_is in
     let after : (length months == 0 || nat_lt (slice_index months (length months - 1)) c.args.month) ≡ true =
-    subst (λ (l : List ℕ). (length l == 0 || nat_lt (slice_index l (length l - 1)) c.args.month) ≡ true) c.deref.ensures.value (sym c.is_after.ensures ∙ c.if-is_after.true) in
+    subst (λ (l : List ℕ). (length l == 0 || nat_lt (slice_index l (length l - 1)) c.args.month) ≡ true)
+    c.deref.ensures.value (sym c.is_after.ensures ∙ c.if-is_after.true) in
     ap not (sym (fresh-after months rise c.args.month after) ∙ ap (λ (l : List ℕ). has_month l c.args.month) now)

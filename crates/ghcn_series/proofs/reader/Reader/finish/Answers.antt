@@ -10,27 +10,36 @@ use Rattle.ghcn_series.specs.Gathered.{IsReady, station_series}
 use Rattle.ghcn_series.proofs.AllSeries.{all_ready, series_are, all_listed, all_of-are, are_by_station}
 use Rattle.ghcn_series.proofs.reader.Reader.finish.Goals as goal
 
+-- no station is finished yet
 pub loop-station-init : goal.loop-station-init
 loop-station-init c =
     let read = c.requires.1.months in
     let all = c.into_iter-station-iterator.ensures.into_iter_gives.0 in
     let P : List StationGathering → Type 0 = AllByRecursion (λ s. AllByRecursion IsReady s.by_element.items) in
     record {
-      ready = subst P (sym all) (all_ready (filter_map month_on c.requires.0) c.args.self.stations c.args.self.gathered.items read.right read.gathered);
-      whole = ap (λ vs. map (λ s. s.items) vs ++ map station_series (into_iter_items c.into_iter-station-iterator.result)) c.in_ok-series.ensures.items ∙ ap (map station_series) all;
+      ready = subst P (sym all) (all_ready (filter_map month_on c.requires.0) c.args.self.stations
+          c.args.self.gathered.items read.right read.gathered);
+      whole = ap (λ vs. map (λ s. s.items) vs
+          ++ map station_series (into_iter_items c.into_iter-station-iterator.result)) c.in_ok-series.ensures.items
+          ∙ ap (map station_series) all;
     }
 
-ready_parts : (g : StationGathering) (rest left : List StationGathering) → rest ≡ g ∷ left → AllByRecursion (λ s. AllByRecursion IsReady s.by_element.items) rest → AllByRecursion IsReady g.by_element.items × AllByRecursion (λ s. AllByRecursion IsReady s.by_element.items) left
+-- the next station can become series, and so can those behind it
+ready_parts : (g : StationGathering) (rest left : List StationGathering) → rest ≡ g ∷ left
+    → AllByRecursion (λ s. AllByRecursion IsReady s.by_element.items) rest → AllByRecursion IsReady g.by_element.items
+    × AllByRecursion (λ s. AllByRecursion IsReady s.by_element.items) left
 ready_parts g rest left step all =
     let P : List StationGathering → Type 0 = AllByRecursion (λ s. AllByRecursion IsReady s.by_element.items) in
     let both : AllByRecursion (λ s. AllByRecursion IsReady s.by_element.items) (g ∷ left) = subst P step all in
     (both.0, both.1)
 
+-- the station can become series
 pub into_series-requires : goal.into_series-requires
 into_series-requires c = (ready_parts c.in-Some.station _ _ c.in-Some.ensures.steps.0 c.loop-station.invariant.ready).0
 
 -- one list more, behind those that are held
-one_more : {V : Type 0} (items : V → List Usable) (held : List V) (v : V) (g : StationGathering) (rest left : List StationGathering) (all : List (List Usable)) → items v ≡ station_series g → rest ≡ g ∷ left
+one_more : {V : Type 0} (items : V → List Usable) (held : List V) (v : V) (g : StationGathering)
+    (rest left : List StationGathering) (all : List (List Usable)) → items v ≡ station_series g → rest ≡ g ∷ left
     → map items held ++ map station_series rest ≡ all → map items (held ++ v ∷ []) ++ map station_series left ≡ all
 one_more items held v g rest left all is step whole =
     ap (λ us. us ++ map station_series left) (map-append items held (v ∷ []))
@@ -39,6 +48,7 @@ one_more items held v g rest left all is step whole =
     ∙ ap (λ gs. map items held ++ map station_series gs) (sym step)
     ∙ whole
 
+-- one station more is finished
 pub loop-station-preserved : goal.loop-station-preserved
 loop-station-preserved c =
     let held = c.loop-station.series.items in
@@ -46,22 +56,28 @@ loop-station-preserved c =
     record {
       ready = (ready_parts c.in-Some.station _ _ step c.loop-station.invariant.ready).1;
       whole =
-          ap (λ vs. map (λ s. s.items) vs ++ map station_series (into_iter_items c.next.new.self)) c.in_ok-push.ensures.items
-          ∙ one_more (λ s. s.items) held c.in_ok-into_series.field-0 c.in-Some.station _ _ _ c.in_ok-into_series.ensures step c.loop-station.invariant.whole;
+          ap (λ vs. map (λ s. s.items) vs ++ map station_series (into_iter_items c.next.new.self))
+          c.in_ok-push.ensures.items
+          ∙ one_more (λ s. s.items) held c.in_ok-into_series.field-0 c.in-Some.station _ _ _ c.in_ok-into_series.ensures
+          step c.loop-station.invariant.whole;
     }
 
 -- nothing is left
-all_added : (held all : List (List Usable)) (rest : List StationGathering) → rest ≡ [] → held ++ map station_series rest ≡ all → held ≡ all
+all_added : (held all : List (List Usable)) (rest : List StationGathering) → rest ≡ [] → held ++ map station_series rest
+    ≡ all → held ≡ all
 all_added held all rest none is = sym (append-nil held) ∙ ap (λ gs. held ++ map station_series gs) (sym none) ∙ is
 
+-- the series stand by station
 pub of-requires : goal.of-requires
 of-requires c =
     let read = c.requires.1.months in
     let none = nil_from_length _ (sym c.loop-station.station-iterator.rest.ok.0 ∙ c.in-None.ensures.steps.0) in
     let all = all_added _ _ _ none c.loop-station.invariant.whole in
     subst (AreByStation c.args.self.stations) (sym all)
-    (are_by_station (filter_map month_on c.requires.0) c.args.self.stations c.args.self.gathered.items read.listed read.right read.gathered)
+    (are_by_station (filter_map month_on c.requires.0) c.args.self.stations c.args.self.gathered.items read.listed
+    read.right read.gathered)
 
+-- all that was read is held
 pub returns : goal.returns
 returns c =
     record {
@@ -70,7 +86,8 @@ returns c =
           let gathered = c.args.self.gathered.items in
           let none = nil_from_length _ (sym c.loop-station.station-iterator.rest.ok.0 ∙ c.in-None.ensures.steps.0) in
           let all = all_added _ _ _ none c.loop-station.invariant.whole in
-          let series = ap all_of all ∙ all_of-are gathered ∙ series_are stations (filter_map month_on ls) stations gathered (all_listed stations) read.months.gathered in
+          let series = ap all_of all ∙ all_of-are gathered ∙ series_are stations (filter_map month_on ls) stations
+          gathered (all_listed stations) read.months.gathered in
           let of : List Usable → ℕ → Contents = λ us n. record { stations = stations; series = us; unlisted = n } in
           c.of.ensures ∙ ap (λ us. of us c.args.self.unlisted) series ∙ ap (of _) read.months.unlisted;
     }

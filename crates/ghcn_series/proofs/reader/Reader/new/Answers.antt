@@ -8,14 +8,18 @@ use Rattle.ghcn_series.specs.Gathered.{IsStationOf}
 use Rattle.ghcn_series.proofs.ReadMonths.{station-new, all_taken}
 use Rattle.ghcn_series.proofs.reader.Reader.new.Goals as goal
 
+-- one station more has one
 pub loop-station-preserved : goal.loop-station-preserved
 loop-station-preserved c =
     let here = sym c.at.ensures ∙ ap option_copied c.in-Some.is in
     let within = slice_get_within c.args.stations c.loop-station.place c.in-Some.station.now here in
-    let more = station-new c.args.stations c.loop-station.gathered.items c.loop-station.place c.in-Some.station.now c.new.result here c.new.ensures.id c.new.ensures.empty c.loop-station.invariant.gathered in
-    let P : List StationGathering → Type 0 = AllZip (IsStationOf []) (take (c.loop-station.place + 1) c.args.stations) in
+    let more = station-new c.args.stations c.loop-station.gathered.items c.loop-station.place c.in-Some.station.now
+    c.new.result here c.new.ensures.id c.new.ensures.empty c.loop-station.invariant.gathered in
+    let P : List StationGathering → Type 0 = AllZip (IsStationOf [])
+    (take (c.loop-station.place + 1) c.args.stations) in
     record { within = omega (arith, within); gathered = subst P (sym c.in_ok-push.ensures.items) (rw add-one more) }
 
+-- nothing is read yet
 pub returns : goal.returns
 returns c =
     let past = sym c.at.ensures ∙ ap option_copied c.in_default.is in

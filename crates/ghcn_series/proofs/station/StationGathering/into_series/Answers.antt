@@ -10,16 +10,21 @@ use Rattle.ghcn_series.specs.Gathered.{IsReady, gathered_series}
 use Rattle.ghcn_series.proofs.ReadySeries.{is_series, no_series, one_series}
 use Rattle.ghcn_series.proofs.station.StationGathering.into_series.Goals as goal
 
-ready_parts : (g : Gathering) (rest left : List Gathering) → rest ≡ g ∷ left → AllByRecursion IsReady rest → IsReady g × AllByRecursion IsReady left
-ready_parts g rest left step all = let P : List Gathering → Type 0 = AllByRecursion IsReady in let both : AllByRecursion IsReady (g ∷ left) = subst P step all in (both.0, both.1)
+-- the next gathering can become a series, and so can those behind it
+ready_parts : (g : Gathering) (rest left : List Gathering) → rest ≡ g ∷ left → AllByRecursion IsReady rest
+    → IsReady g × AllByRecursion IsReady left
+ready_parts g rest left step all = let P : List Gathering → Type 0 = AllByRecursion IsReady in let both : AllByRecursion
+    IsReady (g ∷ left) = subst P step all in (both.0, both.1)
 
+-- no gathering is a series yet
 pub loop-gathering-init : goal.loop-gathering-init
 loop-gathering-init c =
     let all = c.into_iter-gathering-iterator.ensures.into_iter_gives.0 in
     record {
       ready = subst (AllByRecursion IsReady) (sym all) c.requires;
       whole =
-          ap (λ us. us ++ filter_map (gathered_series c.args.self.id) (into_iter_items c.into_iter-gathering-iterator.result)) c.new-series.ensures.items
+          ap (λ us. us ++ filter_map (gathered_series c.args.self.id)
+          (into_iter_items c.into_iter-gathering-iterator.result)) c.new-series.ensures.items
           ∙ ap (filter_map (gathered_series c.args.self.id)) all;
     }
 
@@ -29,42 +34,55 @@ is_empty-requires c =
     let ready = (ready_parts c.in-Some.gathering _ _ c.in-Some.ensures.steps.0 c.loop-gathering.invariant.ready).0 in
     (ready.months, ready.holds)
 
+-- the gathering has some months
 pub into_columns-requires : goal.into_columns-requires
 into_columns-requires c =
     let ready = (ready_parts c.in-Some.gathering _ _ c.in-Some.ensures.steps.0 c.loop-gathering.invariant.ready).0 in
     (ready.months, ready.holds)
 
+-- its days are those of a series
 pub of-requires : goal.of-requires
 of-requires c =
     let ready = (ready_parts c.in-Some.gathering _ _ c.in-Some.ensures.steps.0 c.loop-gathering.invariant.ready).0 in
     let P : Element → Type 0 = λ e. IsSeries (record { id = c.args.self.id; element = e; days = c.in_ok-days.days }) in
-    subst P (sym c.element-element.ensures) (is_series c.args.self.id c.in-Some.gathering c.in_ok-days.days ready (sym c.is_empty.ensures ∙ c.if-is_empty.false) c.in_ok-days.ensures)
+    subst P (sym c.element-element.ensures) (is_series c.args.self.id c.in-Some.gathering c.in_ok-days.days ready
+    (sym c.is_empty.ensures ∙ c.if-is_empty.false) c.in_ok-days.ensures)
 
+-- a gathering without a day is left out
 pub loop-gathering-preserved-then-is_empty : goal.loop-gathering-preserved-then-is_empty
 loop-gathering-preserved-then-is_empty c = record {
   ready = (ready_parts c.in-Some.gathering _ _ c.in-Some.ensures.steps.0 c.loop-gathering.invariant.ready).1;
-  whole = no_series c.args.self.id c.in-Some.gathering c.loop-gathering.series.items _ _ _ c.in-Some.ensures.steps.0 (sym c.is_empty.ensures ∙ c.if-is_empty.true) c.loop-gathering.invariant.whole;
+  whole = no_series c.args.self.id c.in-Some.gathering c.loop-gathering.series.items _ _ _ c.in-Some.ensures.steps.0
+      (sym c.is_empty.ensures ∙ c.if-is_empty.true) c.loop-gathering.invariant.whole;
 }
 
-made : (id : StationId) (e f : Element) (days sorted : List DayValue) (s : Usable) → s ≡ record { id = id; element = e; days = days } → e ≡ f → days ≡ sorted → s ≡ record { id = id; element = f; days = sorted }
+-- a series of the same element and days is the same
+made : (id : StationId) (e f : Element) (days sorted : List DayValue) (s : Usable)
+    → s ≡ record { id = id; element = e; days = days } → e ≡ f → days ≡ sorted
+    → s ≡ record { id = id; element = f; days = sorted }
 made id e f days sorted s is p q =
     let of : Element → List DayValue → Usable = λ x ds. record { id = id; element = x; days = ds } in
     is ∙ ap (λ (x : Element). of x days) p ∙ ap (of f) q
 
+-- any other one is a series
 pub loop-gathering-preserved : goal.loop-gathering-preserved
 loop-gathering-preserved c =
     let parts = ready_parts c.in-Some.gathering _ _ c.in-Some.ensures.steps.0 c.loop-gathering.invariant.ready in
-    let series = made c.args.self.id c.element-element.result c.in-Some.gathering.element c.in_ok-days.days _ c.of.result c.of.ensures c.element-element.ensures c.in_ok-days.ensures in
+    let series = made c.args.self.id c.element-element.result c.in-Some.gathering.element c.in_ok-days.days _
+    c.of.result c.of.ensures c.element-element.ensures c.in_ok-days.ensures in
     record {
       ready = parts.1;
       whole =
-          one_series c.args.self.id c.in-Some.gathering c.of.result c.loop-gathering.series.items c.push.new.self.items _ _ _ c.in-Some.ensures.steps.0 (sym c.is_empty.ensures ∙ c.if-is_empty.false)
+          one_series c.args.self.id c.in-Some.gathering c.of.result c.loop-gathering.series.items c.push.new.self.items
+          _ _ _ c.in-Some.ensures.steps.0 (sym c.is_empty.ensures ∙ c.if-is_empty.false)
           series c.in_ok-push.ensures.items c.loop-gathering.invariant.whole;
     }
 
+-- all series of the station are there
 pub returns : goal.returns
 returns c =
-    let none : into_iter_items c.loop-gathering.gathering-iterator ≡ [] = nil_from_length _ (sym c.loop-gathering.gathering-iterator.rest.ok.0 ∙ c.in-None.ensures.steps.0) in
+    let none : into_iter_items c.loop-gathering.gathering-iterator
+    ≡ [] = nil_from_length _ (sym c.loop-gathering.gathering-iterator.rest.ok.0 ∙ c.in-None.ensures.steps.0) in
     sym (append-nil c.loop-gathering.series.items)
     ∙ ap (λ gs. c.loop-gathering.series.items ++ filter_map (gathered_series c.args.self.id) gs) (sym none)
     ∙ c.loop-gathering.invariant.whole
