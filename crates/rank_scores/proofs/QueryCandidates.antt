@@ -20,6 +20,7 @@ use Rattle.rank_scores.specs.Order.{of_rank, rank_in, best, begin_alike, AreApar
 use Rattle.rank_scores.specs.Morsels.{all_candidates}
 use Rattle.rank_scores.specs.QueryCandidates.{CandidatesAreApart, CandidatesAreOfListed, BestAreOfListed}
 use Rattle.rank_scores.proofs.Exactly.{apart, none_apart}
+use Rattle.rank_scores.proofs.Rising.{from_each, both_pass}
 
 -- ---- what holds of each element of a list
 
@@ -55,17 +56,6 @@ each-append : {X : Type 0} (P : X → Type 0) (xs ys : List X) →
     AllByRecursion P xs → AllByRecursion P ys → AllByRecursion P (xs ++ ys)
 each-append P [] ys h k = k
 each-append P (x ∷ xs) ys h k = (h.0, each-append P xs ys h.1 k)
-
--- what follows for each element
-each-weaker : {X : Type 0} (P Q : X → Type 0) (xs : List X) →
-    ((x : X) → P x → Q x) → AllByRecursion P xs → AllByRecursion Q xs
-each-weaker P Q [] f h = tt
-each-weaker P Q (x ∷ xs) f h = (f x h.0, each-weaker P Q xs f h.1)
-
--- both are true only where the first is
-first_of_both : (a b : Bool) → (a && b) ≡ true → a ≡ true
-first_of_both true b e = refl
-first_of_both false b e = absurd cc
 
 -- IDs that are the same are equal
 pub id_from_same : (a b : StationId) → same_id a b ≡ true → a ≡ b
@@ -113,7 +103,7 @@ each_candidate : (P : StationId → Type 0) (q : Asked) (ss : List Usable) →
 each_candidate P q [] h = tt
 each_candidate P q (s ∷ ss) h =
     each-append (λ d. P d.id) (candidates q s) (flat_map (candidates q) ss)
-    (each-weaker (λ d. d.id ≡ s.id) (λ d. P d.id) (candidates q s) (λ d e. subst P (sym e) h.0) (candidates-own q s))
+    (from_each (λ d. d.id ≡ s.id) (λ d. P d.id) (candidates q s) (λ d e. subst P (sym e) h.0) (candidates-own q s))
     (each_candidate P q ss h.1)
 
 -- candidates of one ID are apart from those of others
@@ -123,7 +113,7 @@ apart-append : (id : StationId) (xs ys : List Candidate) →
 apart-append id [] ys own other a b = b
 apart-append id (x ∷ xs) ys own other a b =
     let apart_here : AllByRecursion (λ y. begin_alike x y ≡ false) ys =
-    each-weaker (λ y. same_id id y.id ≡ false) (λ y. begin_alike x y ≡ false) ys (λ y e.
+    from_each (λ y. same_id id y.id ≡ false) (λ y. begin_alike x y ≡ false) ys (λ y e.
     ap (λ (i : StationId). same_id i y.id && int_eq x.first y.first) own.0
     ∙ ap (λ (t : Bool). t && int_eq x.first y.first) e) other in
     IsDistinct-cons begin_alike x (xs ++ ys)
@@ -145,7 +135,7 @@ module _ (q : Asked) (c : Contents) where
   of_station-own : (st : Station) (u : Usable) → of_station st ≡ Some u → u.id ≡ st.id
   of_station-own st u e =
       let passes = found_passes (is_series_of st.id (score_element q.score)) c.series u e in
-      id_from_same u.id st.id (first_of_both _ _ passes)
+      id_from_same u.id st.id ((both_pass _ _ passes).0)
 
   -- what holds of the series of each of some stations holds of all these
   each_among : (P : Usable → Type 0) (sts : List Station) →
@@ -224,7 +214,7 @@ all_listed q c right =
     let series : AllByRecursion (λ u. is_listed c.stations u.id ≡ true) (series_among q c c.stations) =
     each_held q c (λ u. is_listed c.stations u.id ≡ true) c.stations right.series.listed in
     each_candidate IsFound q (series_among q c c.stations)
-    (each-weaker (λ u. is_listed c.stations u.id ≡ true) (λ u. IsFound u.id) (series_among q c c.stations)
+    (from_each (λ u. is_listed c.stations u.id ≡ true) (λ u. IsFound u.id) (series_among q c c.stations)
     (λ u listed. any_found (is_station_of u.id) c.stations listed) series)
 
 -- and so are the best

@@ -14,6 +14,7 @@ use Rattle.std.proofs.lemmas.List.Sorted.{sum_by-IsPermutation, list_any-IsPermu
 use Rattle.std.proofs.lemmas.List.Sums.{sum_by-cons}
 use Rattle.rank_scores.specs.declared.candidate.Candidate.{Candidate}
 use Rattle.rank_scores.specs.Order.{precedes, rank_cmp, rank_in, of_rank, best}
+use Rattle.rank_scores.proofs.Rising.{from_each}
 
 -- ranking is a total order
 pub rank_cmp_total : IsTotalOrder rank_cmp
@@ -101,12 +102,6 @@ finds_none : (p : Candidate → Bool) (ys : List Candidate) → AllByRecursion (
 finds_none p [] h = refl
 finds_none p (y ∷ ys) h = ap (λ (b : Bool). cond b (Some y) (find p ys)) h.0 ∙ finds_none p ys h.1
 
--- what follows for each follows for all
-weaken : (P Q : Candidate → Type 0) (xs : List Candidate) → ((x : Candidate) → P x → Q x)
-    → AllByRecursion P xs → AllByRecursion Q xs
-weaken P Q [] f h = tt
-weaken P Q (x ∷ xs) f h = (f x h.0, weaken P Q xs f h.1)
-
 -- an element has a place
 abbrev Placed : List Candidate → Candidate → Type 0
 Placed xs c = (i : ℕ) × (slice_get xs i ≡ Some c)
@@ -114,7 +109,7 @@ Placed xs c = (i : ℕ) × (slice_get xs i ≡ Some c)
 -- each element has a place
 all_placed : (xs : List Candidate) → AllByRecursion (Placed xs) xs
 all_placed [] = tt
-all_placed (x ∷ xs) = ((0, refl), weaken (Placed xs) (Placed (x ∷ xs)) xs (λ c h. (suc h.0, h.1)) (all_placed xs))
+all_placed (x ∷ xs) = ((0, refl), from_each (Placed xs) (Placed (x ∷ xs)) xs (λ c h. (suc h.0, h.1)) (all_placed xs))
 
 -- a test that the element at a place passes is passed by some element
 any_at : (p : Candidate → Bool) (xs : List Candidate) (r : ℕ) (c : Candidate)
@@ -158,13 +153,13 @@ module _ (all xs : List Candidate) (perm : IsPermutation all xs) (down : Descend
   of_rank-is r =
       elim (slice_get xs r) as (λ o. slice_get xs r ≡ o → of_rank all r ≡ o) [
         | None ↦ λ e. finds_none (λ c. rank_in all c == r) all
-            (weaken (Placed xs) (λ c. (rank_in all c == r) ≡ false) all
+            (from_each (Placed xs) (λ c. (rank_in all c == r) ≡ false) all
             (λ c placed. elim (rank_in all c == r) as (λ b. (rank_in all c == r) ≡ b → b ≡ false) [
               | true ↦ λ h. let here = at_rank r c placed h in absurd cc
               | false ↦ λ h. refl
             ] refl) placed_in)
         | Some c ↦ λ e. finds (λ d. rank_in all d == r) c all
-            (weaken (Placed xs) (λ d. (rank_in all d == r) ≡ true → d ≡ c) all
+            (from_each (Placed xs) (λ d. (rank_in all d == r) ≡ true → d ≡ c) all
             (λ d placed h. let here = at_rank r d placed h in cc) placed_in)
             (list_any-IsPermutation (λ d. rank_in all d == r) all xs perm
             ∙ any_at (λ d. rank_in all d == r) xs r c e (eq-eqb _ _ (rank_placed c r e)))

@@ -1,16 +1,21 @@
--- Totals of windows, a day more and a day less.
-use Rattle.std.proofs.Common.{◌≡◌, ℕ, zero, suc, ◌*◌, ◌<◌, Bool, true, false, cond, List, [], ◌∷◌, Option, Some, None, refl, sym, ap, subst, ◌∙◌, arith, ℤ, pos, neg_ℤ, ◌+ℤ◌, ◌-ℤ◌, ◌≤ℤ◌}
+-- Totals of windows: as sums of the first of some days, and of the days from a first to a last one.
+use Rattle.std.proofs.Common.{◌≡◌, ℕ, zero, suc, ◌+◌, ◌*◌, Bool, true, false, cond, List, [], ◌∷◌, drop, Option, Some, None, refl, sym, ap, ◌∙◌, arith, ℤ, pos, neg_ℤ, ◌+ℤ◌, ◌-ℤ◌, ◌≤ℤ◌, ◌<ℤ◌, ◌⊎◌, inl, inr, ◌<◌, length, subst}
 use Rattle.std.specs.Prelude.{◌&&◌, ◌||◌, int_le}
-use Rattle.std.specs.List.{AllByRecursion, find, list_all}
+use Rattle.std.specs.List.{AllByRecursion, find, list_all, cons_option}
 use Rattle.std.specs.Option.{option_map}
 use Rattle.std.specs.Ordering.{int_eq}
+use Rattle.std.proofs.lemmas.Bool.Decides.{Decides-int_eq}
 use Rattle.std.proofs.lemmas.Int.{ints}
 use Rattle.ghcn_fields.specs.Days.{is_day}
 use Rattle.ghcn_files.specs.declared.element.Element.{Element}
 use Rattle.ghcn_files.specs.Elements.{may_be_negative}
-use Rattle.ghcn_series.specs.Series.{DayValue, value_on, is_value}
-use Rattle.rank_scores.specs.Candidates.{plus, window_total}
-use Rattle.rank_scores.proofs.Rising.{both_pass}
+use Rattle.ghcn_series.specs.Series.{DayValue, Usable, IsSeries, value_on, is_value}
+use Rattle.rank_query.specs.Asked.{Asked}
+use Rattle.rank_query.specs.Admits.{admits_day}
+use Rattle.rank_scores.specs.Candidates.{plus, window_total, admitted, days_within, sum_of_values}
+use Rattle.rank_scores.proofs.Rising.{Rise, all-filter, both_pass, le_of, from_each, value_on-other, value_on-here, value_on-later, not_true}
+
+-- ---- sums that there may be
 
 -- a sum that there is has both its parts
 pub plus-parts : (a b : Option ℤ) (t : ℤ) → plus a b ≡ Some t
@@ -19,96 +24,239 @@ plus-parts None b t e = absurd cc
 plus-parts (Some v) None t e = absurd cc
 plus-parts (Some v) (Some w) t e = (v, w, refl, refl, cc)
 
--- two sums of the same are the same
-pub plus-is : (a b : Option ℤ) (v w t : ℤ) → a ≡ Some v → b ≡ Some w → v +ℤ w ≡ t → plus a b ≡ Some t
-plus-is a b v w t p q e =
-    ap (λ (o : Option ℤ). plus o b) p ∙ ap (plus (Some v)) q ∙ ap (λ (z : ℤ). Some z) e
+-- nothing added to zero
+plus-zero : (o : Option ℤ) → plus (Some (pos 0)) o ≡ o
+plus-zero None = refl
+plus-zero (Some t) = let same : pos 0 +ℤ t ≡ t = omega (arith, ints) in ap (λ (z : ℤ). Some z) same
 
--- with none there is no sum
-plus-none : (a : Option ℤ) → plus a None ≡ None
-plus-none None = refl
-plus-none (Some v) = refl
+-- sums of three
+plus-assoc : (v : ℤ) (b c : Option ℤ) → plus (Some v) (plus b c) ≡ plus (plus (Some v) b) c
+plus-assoc v None c = refl
+plus-assoc v (Some t) None = refl
+plus-assoc v (Some t) (Some u) =
+    let same : v +ℤ (t +ℤ u) ≡ (v +ℤ t) +ℤ u = omega (arith, ints) in ap (λ (z : ℤ). Some z) same
 
-module _ (days : List DayValue) where
-  -- a total takes in the day behind its last one
-  pub total-more : (n : ℕ) (a t v : ℤ) → window_total days n a ≡ Some t → value_on days (a +ℤ pos n) ≡ Some v
-      → window_total days (suc n) a ≡ Some (t +ℤ v)
-  total-more zero a t v e here =
-      let none : pos 0 ≡ t = cc in
-      let same : a +ℤ pos 0 ≡ a = omega (arith, ints) in
-      plus-is (value_on days a) (Some (pos 0)) v (pos 0) (t +ℤ v) (ap (value_on days) (sym same) ∙ here) refl
-      (omega (arith, ints))
-  total-more (suc n) a t v e here =
-      let parts = plus-parts (value_on days a) (window_total days n (a +ℤ pos 1)) t e in
-      let same : (a +ℤ pos 1) +ℤ pos n ≡ a +ℤ pos (suc n) = omega (arith, ints) in
-      let rest = total-more n (a +ℤ pos 1) parts.1 v parts.3 (ap (value_on days) same ∙ here) in
-      let sum = parts.4 in
-      plus-is (value_on days a) (window_total days (suc n) (a +ℤ pos 1)) parts.0 (parts.1 +ℤ v)
-      (t +ℤ v) parts.2 rest (omega (arith, ints))
+-- ---- the first of some days
 
-  -- the first day of a total has a value
-  pub total-first : (n : ℕ) (a t : ℤ) → window_total days (suc n) a ≡ Some t → (v : ℤ) × (value_on days a ≡ Some v)
-  total-first n a t e =
-      let parts = plus-parts (value_on days a) (window_total days n (a +ℤ pos 1)) t e in
-      (parts.0, parts.2)
+-- the sum of the first n of some days, where these are the days from a on, one after another
+abbrev pub leading : ℕ → ℤ → List DayValue → Option ℤ
+leading zero a xs = Some (pos 0)
+leading (suc n) a [] = None
+leading (suc n) a (x ∷ xs) = cond (int_eq x.0 a) (plus (Some x.1) (leading n (a +ℤ pos 1) xs)) None
 
-  -- and can be taken off
-  pub total-less : (n : ℕ) (a t v : ℤ) → window_total days (suc n) a ≡ Some t → value_on days a ≡ Some v
-      → window_total days n (a +ℤ pos 1) ≡ Some (t -ℤ v)
-  total-less n a t v e here =
-      let parts = plus-parts (value_on days a) (window_total days n (a +ℤ pos 1)) t e in
-      let same : v ≡ parts.0 = cc in
-      let sum = parts.4 in
-      let left : parts.1 ≡ t -ℤ v = omega (arith, ints) in
-      parts.3 ∙ ap (λ (z : ℤ). Some z) left
+-- the sum of the first days is that of some of them, and of those behind these
+pub leading-split : (n len m : ℕ) (a : ℤ) (xs : List DayValue) → n ≡ len + m
+    → leading n a xs ≡ plus (leading len a xs) (leading m (a +ℤ pos len) (drop len xs))
+leading-split n zero m a xs e =
+    let same : a ≡ a +ℤ pos 0 = omega (arith, ints) in
+    let all : n ≡ m = omega arith in
+    ap (λ (k : ℕ). leading k a xs) all ∙ sym (plus-zero (leading m a xs))
+    ∙ ap (λ (d : ℤ). plus (Some (pos 0)) (leading m d xs)) same
+leading-split zero (suc len) m a xs e = absurd (omega arith)
+leading-split (suc n) (suc len) m a [] e = refl
+leading-split (suc n) (suc len) m a (x ∷ xs) e =
+    let same : (a +ℤ pos 1) +ℤ pos len ≡ a +ℤ pos (suc len) = omega (arith, ints) in
+    elim (int_eq x.0 a) as (λ t. cond t (plus (Some x.1) (leading n (a +ℤ pos 1) xs)) None
+    ≡ plus (cond t (plus (Some x.1) (leading len (a +ℤ pos 1) xs)) None)
+    (leading m (a +ℤ pos (suc len)) (drop len xs))) [
+      | true ↦ ap (plus (Some x.1)) (leading-split n len m (a +ℤ pos 1) xs (omega arith)
+          ∙ ap (λ (d : ℤ). plus (leading len (a +ℤ pos 1) xs) (leading m d (drop len xs))) same)
+          ∙ plus-assoc x.1 (leading len (a +ℤ pos 1) xs) (leading m (a +ℤ pos (suc len)) (drop len xs))
+      | false ↦ refl
+    ]
 
-  -- with a day without a value there is no total
-  pub total-gap : (n k : ℕ) (a : ℤ) → k < n → value_on days (a +ℤ pos k) ≡ None → window_total days n a ≡ None
-  total-gap zero k a lt e = absurd (omega arith)
-  total-gap (suc n) zero a lt e =
-      let same : a +ℤ pos 0 ≡ a = omega (arith, ints) in
-      ap (λ (o : Option ℤ). plus o (window_total days n (a +ℤ pos 1))) (ap (value_on days) (sym same) ∙ e)
-  total-gap (suc n) (suc k) a lt e =
-      let same : (a +ℤ pos 1) +ℤ pos k ≡ a +ℤ pos (suc k) = omega (arith, ints) in
-      ap (plus (value_on days a)) (total-gap n k (a +ℤ pos 1) (omega arith) (ap (value_on days) same ∙ e))
-      ∙ plus-none (value_on days a)
+-- where days are summed, the first of them is the day a, and those behind it have the rest of the sum
+pub leading-first : (n : ℕ) (a t : ℤ) (xs : List DayValue) → leading (suc n) a xs ≡ Some t
+    → (x : DayValue) × (ys : List DayValue) × (xs ≡ x ∷ ys) × (x.0 ≡ a) × (leading n (a +ℤ pos 1) ys ≡ Some (t -ℤ x.1))
+leading-first n a t [] e = absurd cc
+leading-first n a t (x ∷ xs) e =
+    elim (int_eq x.0 a) as (λ b. int_eq x.0 a ≡ b
+    → cond b (plus (Some x.1) (leading n (a +ℤ pos 1) xs)) None ≡ Some t
+    → (y : DayValue) × (ys : List DayValue) × (x ∷ xs ≡ y ∷ ys) × (y.0 ≡ a)
+    × (leading n (a +ℤ pos 1) ys ≡ Some (t -ℤ y.1))) [
+      | true ↦ λ is found.
+          let parts = plus-parts (Some x.1) (leading n (a +ℤ pos 1) xs) t found in
+          let own : x.1 ≡ parts.0 = cc in
+          let sum : t ≡ parts.0 +ℤ parts.1 = parts.4 in
+          let rest : parts.1 ≡ t -ℤ x.1 = omega (arith, ints) in
+          (x, xs, refl, (Decides-int_eq x.0 a).0 is, parts.3 ∙ ap (λ (z : ℤ). Some z) rest)
+      | false ↦ λ is found. absurd cc
+    ] refl e
+
+-- ---- windows
+
+-- a day has the total that it has among later days
+pub total-behind : (x : DayValue) (xs : List DayValue) (n : ℕ) (a : ℤ) → x.0 <ℤ a
+    → window_total (x ∷ xs) n a ≡ window_total xs n a
+total-behind x xs zero a lt = refl
+total-behind x xs (suc n) a lt =
+    ap (λ (o : Option ℤ). plus o (window_total (x ∷ xs) n (a +ℤ pos 1)))
+    (value_on-other x xs a (λ e. omega (arith, ints, e, lt)))
+    ∙ ap (plus (value_on xs a)) (total-behind x xs n (a +ℤ pos 1) (omega (arith, ints, lt)))
+
+-- among days that rise from a on, the total of a window is the sum of the first days
+pub total-leading : (n : ℕ) (a : ℤ) (xs : List DayValue) → Rise xs → AllByRecursion (λ y. a ≤ℤ y.0) xs
+    → window_total xs n a ≡ leading n a xs
+total-leading zero a xs rise from = refl
+total-leading (suc n) a [] rise from = refl
+total-leading (suc n) a (x ∷ xs) rise from =
+    elim (int_eq x.0 a) as (λ t. int_eq x.0 a ≡ t → window_total (x ∷ xs) (suc n) a
+    ≡ cond t (plus (Some x.1) (leading n (a +ℤ pos 1) xs)) None) [
+      | true ↦ λ is.
+          let on : x.0 ≡ a = (Decides-int_eq x.0 a).0 is in
+          let next = from_each (λ y. x.0 <ℤ y.0) (λ y. (a +ℤ pos 1) ≤ℤ y.0) xs
+          (λ y l. omega (arith, ints, on, l)) rise.0 in
+          ap (λ (o : Option ℤ). plus o (window_total (x ∷ xs) n (a +ℤ pos 1))) (value_on-here x xs a on)
+          ∙ ap (plus (Some x.1)) (total-behind x xs n (a +ℤ pos 1) (omega (arith, ints, on))
+          ∙ total-leading n (a +ℤ pos 1) xs rise.1 next)
+      | false ↦ λ is.
+          let unlike : x.0 ≡ a → ⊥ = λ on. let yes = (Decides-int_eq x.0 a).1 on in cc in
+          let low : a ≤ℤ x.0 = from.0 in
+          let before : a <ℤ x.0 = omega (arith, ints, unlike, low) in
+          let later = from_each (λ y. x.0 <ℤ y.0) (λ y. a <ℤ y.0) xs (λ y l. omega (arith, ints, before, l)) rise.0 in
+          ap (λ (o : Option ℤ). plus o (window_total (x ∷ xs) n (a +ℤ pos 1)))
+          (value_on-later (x ∷ xs) a (before, later))
+    ] refl
+
+-- ---- the days of a window
+
+-- what a test of two numbers answers
+le_test : (a b : ℤ) → a ≤ℤ b → int_le a b ≡ true
+le_test a b h = grind (arith, ints)
+
+-- tests of which each passes where the other does are one
+alike : (s t : Bool) → (s ≡ true → t ≡ true) → (t ≡ true → s ≡ true) → s ≡ t
+alike true t h k = sym (h refl)
+alike false true h k = k refl
+alike false false h k = refl
+
+-- the day lies from a to b
+abbrev inside : ℤ → ℤ → DayValue → Bool
+inside a b x = int_le a x.0 && int_le x.0 b
+
+-- where b comes before a there are none
+none-within : (a b : ℤ) (xs : List DayValue) → b <ℤ a → days_within a b xs ≡ []
+none-within a b [] lt = refl
+none-within a b (x ∷ xs) lt =
+    let out = not_true (inside a b x) (λ e. let both = both_pass (int_le a x.0) (int_le x.0 b) e in
+    omega (arith, ints, lt, le_of a x.0 both.0, le_of x.0 b both.1)) in
+    ap (λ (t : Bool). cond t (x ∷ days_within a b xs) (days_within a b xs)) out ∙ none-within a b xs lt
+
+-- the day a with its value, if it has one
+abbrev day_with : ℤ → Option ℤ → Option DayValue
+day_with a o = option_map (λ v. (a, v)) o
+
+-- the days from a to b are the day a, if it has a value, and those from the next day on
+split_first : (a b : ℤ) (xs : List DayValue) → Rise xs → a ≤ℤ b
+    → days_within a b xs ≡ cons_option (day_with a (value_on xs a)) (days_within (a +ℤ pos 1) b xs)
+split_first a b [] rise le = refl
+split_first a b (x ∷ xs) rise le =
+    let here : List DayValue = days_within a b xs in
+    let next : List DayValue = days_within (a +ℤ pos 1) b xs in
+    let rest : here ≡ cons_option (day_with a (value_on xs a)) next = split_first a b xs rise.1 le in
+    let later = λ (low : a ≤ℤ x.0). value_on-later xs a
+    (from_each (λ y. x.0 <ℤ y.0) (λ y. a <ℤ y.0) xs (λ y l. omega (arith, ints, low, l)) rise.0) in
+    let without = λ (none : value_on xs a ≡ None). ap (λ (l : List DayValue). x ∷ l)
+    (rest ∙ ap (λ (o : Option ℤ). cons_option (day_with a o) next) none) in
+    elim (int_eq x.0 a) as (λ t. int_eq x.0 a ≡ t → days_within a b (x ∷ xs)
+    ≡ cons_option (day_with a (option_map (λ (y : DayValue). y.1) (cond t (Some x) (find (λ y. int_eq y.0 a) xs))))
+    (days_within (a +ℤ pos 1) b (x ∷ xs))) [
+      | true ↦ λ is.
+          let on : x.0 ≡ a = (Decides-int_eq x.0 a).0 is in
+          let out = not_true (inside (a +ℤ pos 1) b x) (λ e.
+          omega (arith, ints, on, le_of (a +ℤ pos 1) x.0 (both_pass (int_le (a +ℤ pos 1) x.0) (int_le x.0 b) e).0)) in
+          ap (λ (t : Bool). cond (t && int_le x.0 b) (x ∷ here) here) (le_test a x.0 (omega (arith, ints, on)))
+          ∙ ap (λ (t : Bool). cond t (x ∷ here) here) (le_test x.0 b (omega (arith, ints, on, le)))
+          ∙ without (later (omega (arith, ints, on))) ∙ ap (λ (d : ℤ). (d, x.1) ∷ next) on
+          ∙ sym (ap (λ (t : Bool). (a, x.1) ∷ cond t (x ∷ next) next) out)
+      | false ↦ λ is.
+          let unlike : x.0 ≡ a → ⊥ = λ on. let yes = (Decides-int_eq x.0 a).1 on in cc in
+          let same = alike (int_le a x.0) (int_le (a +ℤ pos 1) x.0)
+          (λ e. le_test (a +ℤ pos 1) x.0 (omega (arith, ints, unlike, le_of a x.0 e)))
+          (λ e. le_test a x.0 (omega (arith, ints, le_of (a +ℤ pos 1) x.0 e))) in
+          ap (λ (t : Bool). cond (t && int_le x.0 b) (x ∷ here) here) same
+          ∙ elim (inside (a +ℤ pos 1) b x) as (λ t. inside (a +ℤ pos 1) b x ≡ t
+          → cond t (x ∷ here) here ≡ cons_option (day_with a (value_on xs a)) (cond t (x ∷ next) next)) [
+            | true ↦ λ e.
+                let none = later (omega (
+                  arith,
+                  ints,
+                  le_of (a +ℤ pos 1) x.0
+                      (both_pass (int_le (a +ℤ pos 1) x.0) (int_le x.0 b) e).0,
+                )) in
+                without none ∙ sym (ap (λ (o : Option ℤ). cons_option (day_with a o) (x ∷ next)) none)
+            | false ↦ λ e. rest
+          ] refl
+    ] refl
+
+-- there are n days with the total as the sum of their values, or there are fewer and there is no total
+abbrev Summed : ℕ → List DayValue → Option ℤ → Type 0
+Summed n days total = ((total ≡ Some (sum_of_values days)) × (length days ≡ n)) ⊎ ((total ≡ None) × (length days < n))
+
+-- with one day more, if it has a value
+one_more : (n : ℕ) (a : ℤ) (v : Option ℤ) (days : List DayValue) (total : Option ℤ) → Summed n days total
+    → Summed (suc n) (cons_option (day_with a v) days) (plus v total)
+one_more n a None days total (inl h) = inr (refl, omega (arith, h.1))
+one_more n a None days total (inr h) = inr (refl, omega (arith, h.1))
+one_more n a (Some v) days total (inl h) = inl (ap (plus (Some v)) h.0, ap suc h.1)
+one_more n a (Some v) days total (inr h) = inr (ap (plus (Some v)) h.0, omega (arith, h.1))
+
+-- so it is for each window
+summed : (days : List DayValue) → Rise days → (n : ℕ) (a b : ℤ) → b +ℤ pos 1 ≡ a +ℤ pos n
+    → Summed n (days_within a b days) (window_total days n a)
+summed days rise zero a b ends =
+    let none = none-within a b days (omega (arith, ints)) in
+    inl (ap (λ (l : List DayValue). Some (sum_of_values l)) (sym none), ap length none)
+summed days rise (suc n) a b ends =
+    subst (λ (l : List DayValue). Summed (suc n) l (window_total days (suc n) a))
+    (sym (split_first a b days rise (omega (arith, ints))))
+    (one_more n a (value_on days a) (days_within (a +ℤ pos 1) b days) (window_total days n (a +ℤ pos 1))
+    (summed days rise n (a +ℤ pos 1) b (omega (arith, ints))))
+
+-- a window with a total has its n days, and the total is the sum of their values
+pub total-days : (days : List DayValue) → Rise days → (n : ℕ) (a b t : ℤ) → b +ℤ pos 1 ≡ a +ℤ pos n
+    → window_total days n a ≡ Some t
+    → (length (days_within a b days) ≡ n) × (t ≡ sum_of_values (days_within a b days))
+total-days days rise n a b t ends e = elim (summed days rise n a b ends) [
+  | inl h ↦ let same = sym e ∙ h.0 in (h.1, cc)
+  | inr h ↦ let none = sym e ∙ h.0 in absurd cc
+]
+
+-- a window with n days has the sum of their values as its total
+pub days-total : (days : List DayValue) → Rise days → (n : ℕ) (a b : ℤ) → b +ℤ pos 1 ≡ a +ℤ pos n
+    → length (days_within a b days) ≡ n
+    → window_total days n a ≡ Some (sum_of_values (days_within a b days))
+days-total days rise n a b ends e = elim (summed days rise n a b ends) [
+  | inl h ↦ h.0
+  | inr h ↦ absurd (omega (arith, h.1, e))
+]
+
+-- ---- small values
 
 -- the value lies within the limits of all values
 pub record IsSmall (v : ℤ) : Type 0 where
   pub low : neg_ℤ (pos 99_999) ≤ℤ v
   pub high : v ≤ℤ pos 99_999
 
--- a value that is found among small ones is small
-value-small : (days : List DayValue) (a v : ℤ) → AllByRecursion (λ x. IsSmall x.1) days → value_on days a ≡ Some v
-    → IsSmall v
-value-small [] a v h e = absurd cc
-value-small (x ∷ xs) a v h e =
-    elim (int_eq x.0 a) as (λ t. option_map (λ (y : DayValue). y.1)
-    (cond t (Some x) (find (λ y. int_eq y.0 a) xs)) ≡ Some v → IsSmall v) [
-      | true ↦ λ here. let same : x.1 ≡ v = cc in subst IsSmall same h.0
-      | false ↦ λ there. value-small xs a v h.1 there
-    ] e
-
--- a total of n small values is within n times their limits
-pub total-small : (days : List DayValue) → AllByRecursion (λ x. IsSmall x.1) days → (n : ℕ) (a t : ℤ)
-    → window_total days n a ≡ Some t
-    → (neg_ℤ (pos (n * 99_999)) ≤ℤ t) × (t ≤ℤ pos (n * 99_999))
-total-small days h zero a t e = let none : pos 0 ≡ t = cc in (omega (arith, ints), omega (arith, ints))
-total-small days h (suc n) a t e =
-    let parts = plus-parts (value_on days a) (window_total days n (a +ℤ pos 1)) t e in
-    let first = value-small days a parts.0 h parts.2 in
-    let rest = total-small days h n (a +ℤ pos 1) parts.1 parts.3 in
+-- a sum of n small values is within n times their limits
+pub leading-small : (n : ℕ) (a t : ℤ) (xs : List DayValue) → AllByRecursion (λ x. IsSmall x.1) xs
+    → leading n a xs ≡ Some t → (neg_ℤ (pos (n * 99_999)) ≤ℤ t) × (t ≤ℤ pos (n * 99_999))
+leading-small zero a t xs h e = let none : pos 0 ≡ t = cc in (omega (arith, ints), omega (arith, ints))
+leading-small (suc n) a t [] h e = absurd cc
+leading-small (suc n) a t (x ∷ xs) h e =
+    let parts = leading-first n a t (x ∷ xs) e in
+    let same : parts.1 ≡ xs = let lists = parts.2 in cc in
+    let own : parts.0 ≡ x = let lists = parts.2 in cc in
+    let value : parts.0.1 ≡ x.1 = ap (λ (y : DayValue). y.1) own in
+    let left : leading n (a +ℤ pos 1) xs ≡ Some (t -ℤ x.1) =
+    ap (leading n (a +ℤ pos 1)) (sym same) ∙ parts.4 ∙ ap (λ (z : ℤ). Some (t -ℤ z)) value in
+    let rest = leading-small n (a +ℤ pos 1) (t -ℤ x.1) xs h.1 left in
     let low = rest.0 in
     let high = rest.1 in
-    let sum = parts.4 in
-    (omega (arith, ints, first.low), omega (arith, ints, first.high))
-
--- what a test of two numbers says
-le_of : (a b : ℤ) → int_le a b ≡ true → a ≤ℤ b
-le_of a b e = grind (arith, ints)
+    (omega (arith, ints, h.0.low), omega (arith, ints, h.0.high))
 
 -- the values of a series are small
-pub series-small : (e : Element) (days : List DayValue) → list_all (λ x. is_day x.0 && is_value e x.1) days ≡ true
+series-small : (e : Element) (days : List DayValue) → list_all (λ x. is_day x.0 && is_value e x.1) days ≡ true
     → AllByRecursion (λ x. IsSmall x.1) days
 series-small e [] h = tt
 series-small e (x ∷ xs) h =
@@ -119,3 +267,8 @@ series-small e (x ∷ xs) h =
     let both = both_pass (int_le (neg_ℤ (pos 9998)) x.1) (int_le x.1 (pos 99_999)) limits in
     let low = le_of (neg_ℤ (pos 9998)) x.1 both.0 in
     (record { low = omega (arith, ints); high = le_of x.1 (pos 99_999) both.1 }, series-small e xs all.1)
+
+-- and so are those of its admitted days
+pub admitted-small : (q : Asked) (s : Usable) → IsSeries s → AllByRecursion (λ x. IsSmall x.1) (admitted q s)
+admitted-small q s series = all-filter (λ x. IsSmall x.1) (λ x. admits_day q x.0) s.days
+    (series-small s.element s.days series.values)

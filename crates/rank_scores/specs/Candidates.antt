@@ -21,7 +21,7 @@ is_dry v = int_lt v (pos 10)
 abbrev pub is_wet : ℤ → Bool
 is_wet v = int_le (pos 10) v
 
--- what a score ranks: single days by a number made of their value, windows of so many days by their total, or spells of days whose values pass a test
+-- what a score ranks: days by a number made of their value, windows of n days by their total, or spells by a test
 pub data Shape : Type 0 where
   Days : (ℤ → ℤ) → Shape
   Windows : ℕ → Shape
@@ -77,7 +77,8 @@ is_such test days a = option_map_or test (value_on days a) false
 abbrev pub IsCandidate : Shape → List DayValue → ℤ → ℤ → ℤ → Type 0
 IsCandidate (Days f) days first last score = (last ≡ first) × (v : ℤ) × (value_on days first ≡ Some v) × (score ≡ f v)
 IsCandidate (Windows n) days first last score = IsWindow days n first last score
-IsCandidate (Spells test) days first last score = (len : ℕ) × (score ≡ pos len) × IsRun (is_such test days) first last len
+IsCandidate (Spells test) days first last score =
+    (len : ℕ) × (score ≡ pos len) × IsRun (is_such test days) first last len
 
 -- the last day and the score of the candidate that begins on one of the days, if one does
 abbrev pub begun : Shape → List DayValue → DayValue → Option (ℤ × ℤ)

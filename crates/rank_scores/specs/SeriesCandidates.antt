@@ -20,4 +20,5 @@ ListsNoneTwice = (q : Asked) (s : Usable) → IsSeries s → AreApart (candidate
 
 -- no listed candidate is above a number exactly where none is that has the property
 abbrev pub BoundsEachCandidate : Type 0
-BoundsEachCandidate = (q : Asked) (s : Usable) → IsAsked q → IsSeries s → (bound : ℤ) → IsAbove q s bound ↔ NoneIsAbove q s bound
+BoundsEachCandidate =
+    (q : Asked) (s : Usable) → IsAsked q → IsSeries s → (bound : ℤ) → IsAbove q s bound ↔ NoneIsAbove q s bound

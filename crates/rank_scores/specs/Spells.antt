@@ -1,10 +1,27 @@
--- The kinds of spell.
-use Rattle.std.specs.Prelude.{Bool, ℤ}
+-- The kinds of spell, and a spell that days may still be added to.
+use Rattle.std.specs.Prelude.{Bool, ◌&&◌, if◌then◌else◌, ℤ, pos, ◌+ℤ◌, ◌-ℤ◌, Option, None, Some, List, [], ◌∷◌}
+use Rattle.std.specs.Ordering.{int_eq}
+use Rattle.ghcn_files.specs.declared.station.StationId.{StationId}
+use Rattle.rank_scores.specs.declared.candidate.Candidate.{Candidate}
 use Rattle.rank_scores.specs.declared.spell.Spell.{Spell}
 use Rattle.rank_scores.specs.declared.spell.Spell.TheVariants.{Dry, Wet}
-use Rattle.rank_scores.specs.Candidates.{is_dry, is_wet}
+use Rattle.rank_scores.specs.Candidates.{is_dry, is_wet, candidate}
 
 -- the test that the values of a spell's days pass
 abbrev pub test_of : Spell → ℤ → Bool
 test_of Dry v = is_dry v
 test_of Wet v = is_wet v
+
+-- the first day of a spell, where a day passes and comes behind the spell's last one
+abbrev pub goes_on : Option (ℤ × ℤ) → ℤ → Bool → Option ℤ
+goes_on None day passes = None
+goes_on (Some spell) day passes = if passes && int_eq day (spell.1 +ℤ pos 1) then Some spell.0 else None
+
+-- the spell from a first to a last day
+abbrev pub spell_from : StationId → ℤ → ℤ → Candidate
+spell_from id first last = candidate id first (last, last +ℤ pos 1 -ℤ first)
+
+-- the spell, if there is one
+abbrev pub spell_list : StationId → Option (ℤ × ℤ) → List Candidate
+spell_list id None = []
+spell_list id (Some spell) = spell_from id spell.0 spell.1 ∷ []

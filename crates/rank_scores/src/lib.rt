@@ -4,9 +4,9 @@
 //! is, and which are the best of some candidates.
 #![tactic(auto)]
 
+mod admitted;
 mod best;
 mod candidate;
-mod days;
 mod extreme;
 mod laws;
 mod scans;

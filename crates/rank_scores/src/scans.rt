@@ -5,6 +5,7 @@ ghost use Rattle.std.specs.List.{fold};
 ghost use Rattle.rank_scores.specs.Candidates as found;
 ghost use Rattle.rank_scores.specs.Extremes.{score_by};
 
+use crate::admitted::Admitted;
 use crate::extreme::Extreme;
 use crate::spell::{Spell, scan_spells};
 use crate::window::scan_windows;
@@ -34,14 +35,12 @@ fn scan_days<S: Sink>(id: StationId, series: &Series, query: &Query, extreme: Ex
     ensures { sink.new ≡ fold S.taken sink.old
         (found.candidates_among id (found.Days (score_by extreme)) (found.admitted query.now series.now)) }
 {
-    for (day, value) in series.days() {
-        if query.admits_day(day) {
-            sink.offer(Candidate {
-                id,
-                first: day,
-                last: day,
-                score: extreme.score(value),
-            });
-        }
+    for (day, value) in Admitted::of(series, query) {
+        sink.offer(Candidate {
+            id,
+            first: day,
+            last: day,
+            score: extreme.score(value),
+        });
     }
 }

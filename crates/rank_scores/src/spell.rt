@@ -1,14 +1,12 @@
 //! Spells: longest runs of consecutive days, each admitted and usable, whose values pass a test.
 
-ghost use Rattle.std.specs.Prelude.{◌≡◌, ◌↔◌, false, FitsSigned, IsTrue, pos, ◌+ℤ◌, if◌then◌else◌};
-ghost use Rattle.std.specs.Int.{w64};
+ghost use Rattle.std.specs.Prelude.{◌≡◌, false, if◌then◌else◌};
 ghost use Rattle.std.specs.List.{fold};
 ghost use Rattle.std.specs.Option.{option_map_or};
-ghost use Rattle.ghcn_fields.specs.Days.{day_if};
-ghost use Rattle.rank_scores.specs.Spells.{test_of};
+ghost use Rattle.rank_scores.specs.Spells.{test_of, goes_on, spell_list};
 ghost use Rattle.rank_scores.specs.Candidates as found;
 
-use crate::days::comes_next;
+use crate::admitted::{Admitted, comes_next};
 use crate::{Candidate, Sink};
 use ghcn_fields::Day;
 use ghcn_files::StationId;
@@ -51,59 +49,49 @@ pub(crate) fn scan_spells<S: Sink>(
     ensures { sink.new ≡ fold S.taken sink.old
         (found.candidates_among id (found.Spells (test_of spell)) (found.admitted query.now series.now)) }
 {
-    // The spell so far, as it is offered where no day more is in it.
-    let mut carried: Option<Candidate> = None;
-    for (day, value) in series.days() {
-        if query.admits_day(day) {
-            let passes = spell.passes(Some(value));
-            match carried {
-                Some(run) if goes_on(run.last, day, passes) => {
-                    carried = Some(with_day(run, day));
-                }
-                Some(run) => {
-                    sink.offer(run);
-                    carried = spell_of_day(id, day, passes);
-                }
-                None => carried = spell_of_day(id, day, passes),
-            }
+    // The first and the last day of the spell that days may still be added to.
+    let mut run = None;
+    for (day, value) in Admitted::of(series, query) {
+        let passes = spell.passes(Some(value));
+        if let Some(first) = first_of(&run, day, passes) {
+            run = Some((first, day));
+        } else {
+            offer_spell(id, &run, sink);
+            run = spell_of_day(day, passes);
         }
     }
-    if let Some(run) = carried {
-        sink.offer(run);
-    }
+    offer_spell(id, &run, sink);
 }
 
-/// Whether a day is in the spell that has all days up to the last one.
-fn goes_on(last: Day, day: Day, passes: bool) -> bool
-    ensures { IsTrue result ↔ (IsTrue passes × (day_if (last +ℤ pos 1) ≡ Some day)) }
+/// The first day of a spell, where a day is of the kind and comes behind its last one.
+fn first_of(run: &Option<(Day, Day)>, day: Day, passes: bool) -> Option<Day>
+    ensures { result ≡ goes_on run.now day passes }
 {
-    passes && comes_next(last.after(1), day)
-}
-
-/// The spell of one day, if the day is of the kind.
-fn spell_of_day(id: StationId, day: Day, passes: bool) -> Option<Candidate>
-    ensures { result ≡ (if passes then Some (found.candidate id day (day, pos 1)) else None) }
-{
-    if passes {
-        Some(Candidate {
-            id,
-            first: day,
-            last: day,
-            score: 1,
-        })
+    let (first, last) = (*run)?;
+    if passes && comes_next(Some(last), day) {
+        Some(first)
     } else {
         None
     }
 }
 
-/// The spell with one day more.
-fn with_day(run: Candidate, day: Day) -> Candidate
-    requires { FitsSigned w64 (run.score +ℤ pos 1) }
-    ensures { result ≡ found.candidate run.id run.first (day, run.score +ℤ pos 1) }
+/// The spell of one day, if the day is of the kind.
+fn spell_of_day(day: Day, passes: bool) -> Option<(Day, Day)>
+    ensures { result ≡ (if passes then Some (day, day) else None) }
 {
-    Candidate {
-        last: day,
-        score: run.score + 1,
-        ..run
+    if passes { Some((day, day)) } else { None }
+}
+
+/// Offers a spell, if there is one, as so many days.
+fn offer_spell<S: Sink>(id: StationId, spell: &Option<(Day, Day)>, sink: &mut S)
+    ensures { sink.new ≡ fold S.taken sink.old (spell_list id spell.now) }
+{
+    if let Some((first, last)) = *spell {
+        sink.offer(Candidate {
+            id,
+            first,
+            last,
+            score: last.number() as i64 + 1 - first.number() as i64,
+        });
     }
 }

@@ -1,10 +1,14 @@
-//! Worked examples of the order of candidates, and a sink.
+//! Worked examples of the order of candidates, of sinks, and of what a scan offers.
 
-ghost use Rattle.std.specs.Prelude.{◌≡◌, ◌+◌, ◌%◌, ◌^◌, IfOk};
+ghost use Rattle.std.specs.Prelude.{◌≡◌, ◌+◌, ◌%◌, ◌^◌, ◌==◌, IfOk, if◌then◌else◌, Some};
 
 use super::*;
 use ghcn_fields::Day;
-use ghcn_files::StationId;
+use ghcn_files::{StationId, Stations};
+use ghcn_series::Data;
+use rank_query::Query;
+use std::alloc::{AllocError, Global};
+use std::fmt::Write;
 use std::test::Fail;
 
 const A: StationId = StationId(*b"ZZA00000001");
@@ -94,5 +98,141 @@ fn a_sink_that_counts(rt: HostRuntime) -> Result<(), Fail> {
         counted.offer(candidate(A, JULY, JULY, score)?);
     }
     assert_eq!(rt; counted.offered, 3);
+    Ok(())
+}
+
+/// A sink that keeps one of the candidates that it was offered, by its place, and counts them.
+#[derive(Clone, Copy)]
+struct At {
+    place: u64,
+    offered: u64,
+    found: Option<Candidate>,
+}
+
+impl Sink for At {
+    ghost taken = { λ at candidate. record {
+      place = at.place;
+      offered = (at.offered + 1) % (2 ^ 64);
+      found = if at.offered == at.place then Some candidate else at.found;
+    } };
+
+    fn offer(&mut self, candidate: Candidate) {
+        if self.offered == self.place {
+            self.found = Some(candidate);
+        }
+        self.offered = self.offered.wrapping_add(1);
+    }
+}
+
+/// So many days from this one on, each with this group of eight columns in its line.
+type Stretch = (i32, i32, &'static str);
+
+/// Some days, a query, and the first day, last day and score of each candidate.
+type Row = (&'static [Stretch], &'static str, &'static [(i32, i32, i64)]);
+
+/// Writes the line of a month, where it has a day.
+fn push_month(
+    text: &mut String,
+    (year, month): (u16, u8),
+    groups: &[&'static str; 31],
+) -> Result<(), AllocError> {
+    if groups.iter().all(|it| it.is_empty()) {
+        return Ok(());
+    }
+    write!(text, "ZZA00000001{year:04}{month:02}PRCP")?;
+    for group in groups {
+        text.push_str(if group.is_empty() { "-9999   " } else { group })?;
+    }
+    text.push_str("\n")
+}
+
+/// A daily file of station A with precipitation of these days, from the first to the last.
+fn text_of(alloc: Global, stretches: &[Stretch]) -> Result<String, Fail> {
+    let mut text = String::new(alloc);
+    let mut time = (0, 0);
+    let mut groups = [""; 31];
+    for (first, count, group) in stretches {
+        for later in 0..*count {
+            let number = first.saturating_add(later);
+            let (year, month, day) = Day::with_number(number).ok_or("no day")?.civil();
+            if time != (year, month) {
+                push_month(&mut text, time, &groups)?;
+                time = (year, month);
+                groups = [""; 31];
+            }
+            if let Some(place) = groups.get_mut((day as usize).saturating_sub(1)) {
+                *place = *group;
+            }
+        }
+    }
+    push_month(&mut text, time, &groups)?;
+    Ok(text)
+}
+
+// Day 0 is 1970-01-01, and block 0 has the days 0 to 31. Block -1 has the days -32 to -1.
+// Day 2932896 is the last of the calendar, and alone in its block.
+
+#[rattlefmt::skip]
+const SCANS: [Row; 16] = [
+    // Windows over a block's edge, and spells.
+    (&[(30, 1, "    1   "), (31, 1, "    2   "), (32, 1, "    3   "), (33, 1, "    4   ")], "top 9 sum 3 PRCP",
+        &[(30, 32, 6), (31, 33, 9)]),
+    (&[(30, 4, "   10   ")], "top 9 wet", &[(30, 33, 4)]),
+    (&[(20, 90, "    0   ")], "top 9 dry", &[(20, 109, 90)]),
+    // Days before 1970, and over block edges there.
+    (&[(-2, 1, "   10   "), (-1, 1, "   20   "), (0, 1, "   30   "), (1, 1, "   40   ")], "top 9 sum 2 PRCP",
+        &[(-2, -1, 30), (-1, 0, 50), (0, 1, 70)]),
+    (&[(-2, 4, "   10   ")], "top 9 wet", &[(-2, 1, 4)]),
+    (&[(-34, 4, "    9   ")], "top 9 dry", &[(-34, -31, 4)]),
+    (&[(-34, 4, "    9   ")], "top 9 sum 4 PRCP", &[(-34, -31, 36)]),
+    // The longest windows, and one day too few.
+    (&[(-100, 367, "   10   ")], "top 9 sum 366 PRCP", &[(-100, 265, 3660), (-99, 266, 3660)]),
+    (&[(-100, 365, "   10   ")], "top 9 sum 366 PRCP", &[]),
+    // A gap, a flagged day and a missing day inside a window and a spell.
+    (&[(0, 3, "   10   "), (4, 3, "   20   ")], "top 9 sum 3 PRCP", &[(0, 2, 30), (4, 6, 60)]),
+    (&[(0, 3, "   10   "), (3, 1, "   10 X "), (4, 2, "   20   ")], "top 9 sum 2 PRCP",
+        &[(0, 1, 20), (1, 2, 20), (4, 5, 40)]),
+    (&[(0, 3, "   10   "), (3, 1, "-9999   "), (4, 2, "   20   ")], "top 9 wet", &[(0, 2, 3), (4, 5, 2)]),
+    (&[(0, 2, "    0   "), (2, 1, "    0 X "), (3, 1, "    0   ")], "top 9 dry", &[(0, 1, 2), (3, 3, 1)]),
+    // A spell that ends with the last day, of the series, of the calendar, and of the period.
+    (&[(5, 1, "    9   "), (6, 2, "   10   ")], "top 9 wet", &[(6, 7, 2)]),
+    (&[(2_932_895, 2, "   10   ")], "top 9 wet", &[(2_932_895, 2_932_896, 2)]),
+    (&[(0, 9, "   10   ")], "top 9 wet from 1970-01-03 to 1970-01-05", &[(2, 4, 3)]),
+];
+
+#[test]
+fn candidates_by_first_day(rt: HostRuntime) -> Result<(), Fail> {
+    let stations = b"ZZA00000001  10.0000   20.0000  100.0    ALPHA\n";
+    for (stretches, query, expected) in SCANS {
+        let text = text_of(rt.alloc(), stretches)?;
+        let data = Data::read(
+            rt.alloc(),
+            Stations::read(rt.alloc(), stations)?,
+            &[text.as_str().as_bytes()],
+        )?;
+        let asked = Query::parse(query).ok().ok_or("no query")?;
+        let series = data.series(&A, asked.element()).ok_or("no series")?;
+        for place in 0..=expected.len() as u64 {
+            let mut at = At {
+                place,
+                offered: 0,
+                found: None,
+            };
+            scan(series, &asked, &mut at);
+            let found = at
+                .found
+                .map(|it| (it.first.number(), it.last.number(), it.score));
+            assert_eq!(rt;
+                found,
+                expected.get(place as usize).copied(),
+                "at {place} of {query} of {stretches:?}"
+            );
+            assert_eq!(rt;
+                at.offered,
+                expected.len() as u64,
+                "of {query} of {stretches:?}"
+            );
+        }
+    }
     Ok(())
 }

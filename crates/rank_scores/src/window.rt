@@ -1,14 +1,63 @@
 //! Windows: so many consecutive days, each admitted and usable.
 
-ghost use Rattle.std.specs.Prelude.{◌≡◌, ◌<◌};
+ghost use Rattle.std.specs.Prelude.{◌≡◌, ◌<◌, FitsSigned, ◌+ℤ◌, ◌-ℤ◌};
+ghost use Rattle.std.specs.Int.{w64};
 ghost use Rattle.std.specs.List.{fold};
 ghost use Rattle.rank_scores.specs.Candidates as found;
+ghost use Rattle.rank_scores.specs.Windows.{gone_on, with_day, without_first, first_day, first_value};
 
-use crate::days::{again, comes_next};
+use crate::admitted::{Admitted, comes_next, pass_over};
 use crate::{Candidate, Sink};
+use ghcn_fields::Day;
 use ghcn_files::StationId;
 use ghcn_series::Series;
 use rank_query::Query;
+
+/// Days one after another, with the sum of their values.
+#[derive(Drop)]
+struct Window<'s, 'q> {
+    /// The days from the window's first one on.
+    leaving: Admitted<'s, 'q>,
+    len: u16,
+    total: i64,
+}
+
+impl<'s, 'q> Window<'s, 'q> {
+    /// The same window where it goes on, else one without a day behind its days.
+    fn go_on(&mut self, on: bool)
+        ensures { self.new ≡ gone_on on self.old }
+    {
+        if on {
+            return;
+        }
+        pass_over(&mut self.leaving, self.len);
+        self.len = 0;
+        self.total = 0;
+    }
+
+    /// Takes in the day that comes next, by its value.
+    fn take_in(&mut self, value: i32)
+        requires len { self.now.len < 65_535 }
+        requires total { FitsSigned w64 (self.now.total +ℤ value) }
+        ensures { self.new ≡ with_day self.old value }
+    {
+        self.len += 1;
+        self.total += value as i64;
+    }
+
+    /// Takes the first day off.
+    fn leave(&mut self) -> Option<Day>
+        requires len { 0 < self.now.len }
+        requires total { FitsSigned w64 (self.now.total -ℤ first_value self.now.leaving) }
+        ensures first { result ≡ first_day self.old.leaving }
+        ensures left { self.new ≡ without_first self.old }
+    {
+        let (first, value) = self.leaving.next()?;
+        self.len -= 1;
+        self.total -= value as i64;
+        Some(first)
+    }
+}
 
 /// Offers each window of `n` days, with a sum that goes along.
 pub(crate) fn scan_windows<S: Sink>(
@@ -22,41 +71,26 @@ pub(crate) fn scan_windows<S: Sink>(
     ensures { sink.new ≡ fold S.taken sink.old
         (found.candidates_among id (found.Windows n) (found.admitted query.now series.now)) }
 {
-    let mut days = series.days();
-    // The days from the first one of the sum on.
-    let mut leaving = series.days();
-    let mut next = None;
-    let mut len: u16 = 0;
-    let mut total: i64 = 0;
-    loop {
-        let here = again(&days);
-        let Some(today) = days.next() else {
-            return;
-        };
-        let (day, value) = today;
-        if !query.admits_day(day) {
-            continue;
-        }
-        if !comes_next(next, day) {
-            leaving = here;
-            len = 0;
-            total = 0;
-        }
-        next = day.after(1);
-        len += 1;
-        total += value as i64;
-        if len == n {
-            let Some(oldest) = leaving.next() else {
-                return;
-            };
-            sink.offer(Candidate {
-                id,
-                first: oldest.0,
-                last: day,
-                score: total,
-            });
-            len -= 1;
-            total -= oldest.1 as i64;
+    let mut window = Window {
+        leaving: Admitted::of(series, query),
+        len: 0,
+        total: 0,
+    };
+    let mut before = None;
+    for (day, value) in Admitted::of(series, query) {
+        window.go_on(comes_next(before, day));
+        window.take_in(value);
+        before = Some(day);
+        if window.len == n {
+            let total = window.total;
+            if let Some(first) = window.leave() {
+                sink.offer(Candidate {
+                    id,
+                    first,
+                    last: day,
+                    score: total,
+                });
+            }
         }
     }
 }

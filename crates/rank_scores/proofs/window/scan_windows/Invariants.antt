@@ -1,15 +1,14 @@
-use Rattle.std.proofs.Common.{◌≡◌, length}
-use Rattle.rank_scores.specs.Candidates.{Windows}
-use Rattle.rank_scores.proofs.Folds.{at_end}
-use Rattle.rank_scores.proofs.Sums.{IsSum}
+use Rattle.std.proofs.Common.{◌≡◌, ◌<◌}
+use Rattle.std.specs.List.{fold}
+use Rattle.rank_scores.specs.Candidates.{admitted}
+use Rattle.rank_scores.proofs.WindowSums.{IsAt, windows}
 use Rattle.rank_scores.proofs.window.scan_windows.Given as goal
 
-abbrev pub invariant-loop-next : goal.invariant-loop-next
-invariant-loop-next g l = record {
-  sum : IsSum l.query l.series.days l.n l.len l.total l.leaving l.days l.next;
-  so_far : at_end g.S.Sink.taken l.query l.id (Windows l.n) l.series.days l.sink l.leaving
-      ≡ at_end g.S.Sink.taken l.query l.id (Windows l.n) l.series.days l.fn.sink l.series.days;
+-- once the windows from the first day of this one on are offered too, the sink is as it will be
+abbrev pub invariant-loop-day : goal.invariant-loop-day
+invariant-loop-day g l = record {
+  at : IsAt l.window l.before l.day-iterator;
+  few : l.window.len < l.n;
+  so_far : fold g.S.Sink.taken l.sink (windows l.id l.n l.window.leaving)
+      ≡ fold g.S.Sink.taken l.fn.sink (windows l.id l.n (admitted l.query l.series));
 }
-
-abbrev pub decreases-loop-next : goal.decreases-loop-next
-decreases-loop-next g l = length l.days

@@ -1,0 +1,7 @@
+use Rattle.std.proofs.Common.{◌≡◌}
+use Rattle.rank_scores.specs.Candidates.{admitted_among}
+use Rattle.rank_scores.proofs.admitted.next_admitted.Given as goal
+
+-- the admitted days to come are those that there were at first
+abbrev pub invariant-loop-day : goal.invariant-loop-day
+invariant-loop-day l = admitted_among l.query l.days ≡ admitted_among l.query l.initial.days
