@@ -1,5 +1,7 @@
 -- No candidate has a score above the bound.
-use Rattle.std.proofs.Common.{◌≡◌, ℕ, zero, suc, ◌+◌, ◌*◌, ◌<◌, ◌≤◌, Bool, true, false, cond, List, [], ◌∷◌, map, filter, Option, Some, None, refl, sym, ap, ◌∙◌, subst, arith, ℤ, pos, negsuc, neg_ℤ, ◌≤ℤ◌, ◌<ℤ◌, ◌+ℤ◌, ◌*ℤ◌}
+use Rattle.std.proofs.Common.{◌≡◌, ℕ, zero, suc, ◌+◌, ◌*◌, ◌<◌, ◌≤◌, Bool, true, false, cond, List, [], ◌∷◌, map}
+use Rattle.std.proofs.Common.{filter, Option, Some, None, refl, sym, ap, ◌∙◌, subst, arith, ℤ, pos, negsuc, neg_ℤ, ◌≤ℤ◌}
+use Rattle.std.proofs.Common.{◌<ℤ◌, ◌+ℤ◌, ◌*ℤ◌}
 use Rattle.std.specs.Prelude.{◌&&◌, ◌||◌, int_le, int_lt, ◌-ℤ◌}
 use Rattle.std.specs.List.{AllByRecursion, Contains, filter_map, cons_option, list_all, find}
 use Rattle.std.specs.Option.{option_map}
@@ -16,14 +18,16 @@ use Rattle.rank_query.specs.declared.score.Score.{Score}
 use Rattle.rank_query.specs.declared.score.Score.TheVariants.{Highest, Lowest, Sum, Dry, Wet}
 use Rattle.rank_query.specs.Asked.{Asked, score_element, is_score, is_fall, IsAsked}
 use Rattle.rank_query.specs.Admits.{admits_day}
-use Rattle.rank_scores.specs.Candidates.{Days, Windows, Spells, shape, is_dry, is_wet, is_such, plus, window_total, begun, candidate, candidates_among, admitted}
+use Rattle.rank_scores.specs.Candidates.{Days, Windows, Spells, shape, is_dry, is_wet, is_such, plus, window_total}
+use Rattle.rank_scores.specs.Candidates.{begun, candidate, candidates_among, admitted}
 use Rattle.rank_scores.specs.Runs.{run_from, run_len, begins_run, calendar_len}
 use Rattle.rank_scores.specs.Morsels.{IsAbove}
 use Rattle.rank_blocks.specs.Blocks.{total, blocks_total, is_among, is_reached, days_reached}
 use Rattle.rank_blocks.specs.Bounds.{blocks_of_window}
 use Rattle.rank_blocks.specs.Greatest.{IsGreatest, IsScore, IsRunLength, IsSumBound, IsBoundFor, IsBound}
-use Rattle.rank_blocks.proofs.Members.{from_each, all-passing, stands}
-use Rattle.rank_blocks.proofs.DayValues.{both_pass, pass_both, int_le-true, int_lt-true, le-int_le, lt-int_lt, block-holds, block-rises}
+use Rattle.rank_blocks.proofs.Members.{from_each, all-passing, stands, total-least, total-wider, filter-both}
+use Rattle.rank_blocks.proofs.DayTests.{both_pass, pass_both, int_le-true, int_lt-true, le-int_le, lt-int_lt}
+use Rattle.rank_blocks.proofs.DayValues.{block-holds, block-rises}
 use Rattle.rank_blocks.proofs.WindowTotals.{among-from}
 use Rattle.rank_blocks.proofs.ReachedDays.{admitted-reached, such-wider, value_on-among}
 
@@ -35,7 +39,9 @@ module _ (id : StationId) (f : DayValue → Option (ℤ × ℤ)) (bound : ℤ) w
       → AllByRecursion (λ c. c.score ≤ℤ bound) (filter_map (λ x. option_map (candidate id x.0) (f x)) days)
   candidates-below [] h = tt
   candidates-below (x ∷ xs) h =
-      elim (f x) as (λ o. f x ≡ o → AllByRecursion (λ c. c.score ≤ℤ bound) (cons_option (option_map (candidate id x.0) o) (filter_map (λ x. option_map (candidate id x.0) (f x)) xs))) [
+      elim (f x) as (λ o. f x ≡ o
+      → AllByRecursion (λ c. c.score ≤ℤ bound)
+      (cons_option (option_map (candidate id x.0) o) (filter_map (λ x. option_map (candidate id x.0) (f x)) xs))) [
         | None ↦ λ e. candidates-below xs h.1
         | Some b ↦ λ e. (h.0 b e, candidates-below xs h.1)
       ] refl
@@ -43,18 +49,22 @@ module _ (id : StationId) (f : DayValue → Option (ℤ × ℤ)) (bound : ℤ) w
 -- ---- single days
 
 -- a day's own score is at most the greatest
-pub days-below : (f : ℤ → ℤ) (q : Asked) (s : Usable) (z : ℤ) → IsGreatest (IsScore f (days_reached q s)) z → AllByRecursion (λ c. c.score ≤ℤ z) (candidates_among s.id (Days f) (admitted q s))
+pub days-below : (f : ℤ → ℤ) (q : Asked) (s : Usable) (z : ℤ) → IsGreatest (IsScore f (days_reached q s)) z
+    → AllByRecursion (λ c. c.score ≤ℤ z) (candidates_among s.id (Days f) (admitted q s))
 days-below f q s z of_z =
-    let Stands : DayValue → Type 0 = λ x. is_reached q.period (block_of x.0) ≡ true → Contains (map (λ y. f y.1) (days_reached q s)) (f x.1) in
+    let Stands : DayValue → Type 0 = λ x. is_reached q.period (block_of x.0) ≡ true
+    → Contains (map (λ y. f y.1) (days_reached q s)) (f x.1) in
     candidates-below s.id (λ x. Some (x.0, f x.1)) z (admitted q s)
-    (from_each (λ x. Stands x × (admits_day q x.0 ≡ true)) (λ x. (e : ℤ × ℤ) → Some (x.0, f x.1) ≡ Some e → e.1 ≤ℤ z) (admitted q s)
+    (from_each (λ x. Stands x × (admits_day q x.0 ≡ true)) (λ x. (e : ℤ × ℤ) → Some (x.0, f x.1) ≡ Some e → e.1 ≤ℤ z)
+    (admitted q s)
     (λ x h e is.
     let below = of_z.is_most (f x.1) (h.0 (admitted-reached q x.0 h.1)) in
     let pair : (x.0, f x.1) ≡ e = cc in
     let score : f x.1 ≡ e.1 = ap (λ (p : ℤ × ℤ). p.1) pair in
     let P : ℤ → Type 0 = λ n. n ≤ℤ z in
     subst P score below)
-    (all-passing Stands (λ x. admits_day q x.0) s.days (stands (λ y. f y.1) (λ x. is_reached q.period (block_of x.0)) s.days)))
+    (all-passing Stands (λ x. admits_day q x.0) s.days
+    (stands (λ y. f y.1) (λ x. is_reached q.period (block_of x.0)) s.days)))
 
 -- ---- spells
 
@@ -75,7 +85,8 @@ module _ (such : ℤ → Bool) where
   run-zero a = refl
 
   -- the numbers of a run that is one longer pass too
-  inside : (n i : ℕ) (a : ℤ) → i < run_from such (suc n) a → such a ≡ true → ((i : ℕ) (b : ℤ) → i < run_from such n b → such (b +ℤ pos i) ≡ true) → such (a +ℤ pos i) ≡ true
+  inside : (n i : ℕ) (a : ℤ) → i < run_from such (suc n) a → such a ≡ true
+      → ((i : ℕ) (b : ℤ) → i < run_from such n b → such (b +ℤ pos i) ≡ true) → such (a +ℤ pos i) ≡ true
   inside n zero a lt e rest =
       let same : a +ℤ pos 0 ≡ a = omega (arith, ints) in
       ap such same ∙ e
@@ -94,7 +105,8 @@ module _ (such : ℤ → Bool) where
       ] refl
 
   -- a run is at least as long as so many numbers that pass one after another
-  pub run-at_least : (len n : ℕ) (a : ℤ) → len ≤ n → ((i : ℕ) → i < len → such (a +ℤ pos i) ≡ true) → len ≤ run_from such n a
+  pub run-at_least : (len n : ℕ) (a : ℤ) → len ≤ n → ((i : ℕ) → i < len → such (a +ℤ pos i) ≡ true)
+      → len ≤ run_from such n a
   run-at_least zero n a le pass = omega arith
   run-at_least (suc len) zero a le pass = absurd (omega arith)
   run-at_least (suc len) (suc n) a le pass =
@@ -108,8 +120,10 @@ module _ (such : ℤ → Bool) where
       omega arith
 
 -- the score of a spell that begins is its length
-spell-score : (b : Bool) (first : ℤ) (len : ℕ) (e : ℤ × ℤ) → cond {A = Option (ℤ × ℤ)} b (Some (first +ℤ pos len -ℤ pos 1, pos len)) None ≡ Some e → pos len ≡ e.1
-spell-score true first len e is = let pair : (first +ℤ pos len -ℤ pos 1, pos len) ≡ e = cc in ap (λ (p : ℤ × ℤ). p.1) pair
+spell-score : (b : Bool) (first : ℤ) (len : ℕ) (e : ℤ × ℤ) → cond {A = Option (ℤ × ℤ)} b
+    (Some (first +ℤ pos len -ℤ pos 1, pos len)) None ≡ Some e → pos len ≡ e.1
+spell-score true first len e is = let pair : (first +ℤ pos len -ℤ pos 1, pos len) ≡ e = cc in
+    ap (λ (p : ℤ × ℤ). p.1) pair
 spell-score false first len e is = absurd cc
 
 -- nothing is said of a day by itself
@@ -118,7 +132,9 @@ all-days P [] h = tt
 all-days P (x ∷ xs) h = (h x, all-days P xs h)
 
 -- a spell is no longer than the longest run
-pub spells-below : (test : ℤ → Bool) (q : Asked) (s : Usable) (z : ℤ) → IsGreatest (IsRunLength (is_such test (days_reached q s))) z → AllByRecursion (λ c. c.score ≤ℤ z) (candidates_among s.id (Spells test) (admitted q s))
+pub spells-below : (test : ℤ → Bool) (q : Asked) (s : Usable) (z : ℤ) → IsGreatest
+    (IsRunLength (is_such test (days_reached q s))) z → AllByRecursion (λ c. c.score ≤ℤ z)
+    (candidates_among s.id (Spells test) (admitted q s))
 spells-below test q s z of_z =
     let such : ℤ → Bool = is_such test (admitted q s) in
     candidates-below s.id (begun (Spells test) (admitted q s)) z (admitted q s)
@@ -130,7 +146,8 @@ spells-below test q s z of_z =
       x.0,
       refl,
       λ i lt.
-          such-wider test (admits_day q) (λ n. is_reached q.period (block_of n)) s.days (x.0 +ℤ pos i) (admitted-reached q) (run-inside such calendar_len i x.0 lt),
+          such-wider test (admits_day q) (λ n. is_reached q.period (block_of n)) s.days (x.0 +ℤ pos i)
+          (admitted-reached q) (run-inside such calendar_len i x.0 lt),
     ) in
     let P : ℤ → Type 0 = λ n. n ≤ℤ z in
     subst P score below))
@@ -142,7 +159,8 @@ abbrev pub AreFallen : List DayValue → Type 0
 AreFallen days = AllByRecursion (λ x. pos 0 ≤ℤ x.1) days
 
 -- a sum that there is has both its parts
-plus-parts : (a b : Option ℤ) (t : ℤ) → plus a b ≡ Some t → (v : ℤ) × (w : ℤ) × (a ≡ Some v) × (b ≡ Some w) × (t ≡ v +ℤ w)
+plus-parts : (a b : Option ℤ) (t : ℤ) → plus a b ≡ Some t → (v : ℤ) × (w : ℤ) × (a ≡ Some v) × (b ≡ Some w)
+    × (t ≡ v +ℤ w)
 plus-parts None b t e = absurd cc
 plus-parts (Some v) None t e = absurd cc
 plus-parts (Some v) (Some w) t e = (v, w, refl, refl, cc)
@@ -158,7 +176,8 @@ no-times (pos a) = let none : 0 * a ≡ 0 = grind arith in omega (arith, ints)
 no-times (negsuc a) = let none : 0 * suc a ≡ 0 = grind arith in omega (arith, ints)
 
 -- a window of n days has at most n times the greatest value
-window-times : (days : List DayValue) (z : ℤ) → AllByRecursion (λ x. x.1 ≤ℤ z) days → (n : ℕ) (a t : ℤ) → window_total days n a ≡ Some t → t ≤ℤ (pos n *ℤ z)
+window-times : (days : List DayValue) (z : ℤ) → AllByRecursion (λ x. x.1 ≤ℤ z) days → (n : ℕ) (a t : ℤ)
+    → window_total days n a ≡ Some t → t ≤ℤ (pos n *ℤ z)
 window-times days z most zero a t e =
     let is : pos 0 ≡ t = cc in
     let none = no-times z in
@@ -172,78 +191,61 @@ window-times days z most (suc n) a t e =
     omega (arith, ints)
 
 -- those of some days that pass two tests have at most the total of those that pass a wider one
-total-of_both : (p u w : DayValue → Bool) (days : List DayValue) → AreFallen days → ((x : DayValue) → p x ≡ true → w x ≡ true)
+total-of_both : (p u w : DayValue → Bool) (days : List DayValue) → AreFallen days
+    → ((x : DayValue) → p x ≡ true → w x ≡ true)
     → total (map (λ x. x.1) (filter p (filter u days))) ≤ℤ total (map (λ x. x.1) (filter w days))
-total-of_both p u w [] falls wider = omega (arith, ints)
-total-of_both p u w (x ∷ xs) falls wider =
-    let rest = total-of_both p u w xs falls.1 wider in
-    let here = falls.0 in
-    let All : Bool → List DayValue = λ b. cond b (x ∷ filter w xs) (filter w xs) in
-    let more : total (map (λ x. x.1) (filter p (filter u xs))) ≤ℤ total (map (λ x. x.1) (filter w (x ∷ xs))) =
-    elim (w x) as (λ b. total (map (λ x. x.1) (filter p (filter u xs))) ≤ℤ total (map (λ x. x.1) (cond b (x ∷ filter w xs) (filter w xs)))) [
-      | true ↦ omega (arith, ints)
-      | false ↦ rest
-    ] in
-    elim (u x) as (λ b. total (map (λ x. x.1) (filter p (cond b (x ∷ filter u xs) (filter u xs)))) ≤ℤ total (map (λ x. x.1) (filter w (x ∷ xs)))) [
-      | false ↦ more
-      | true ↦ elim (p x) as (λ b. p x ≡ b → total (map (λ x. x.1) (cond b (x ∷ filter p (filter u xs)) (filter p (filter u xs)))) ≤ℤ total (map (λ x. x.1) (filter w (x ∷ xs)))) [
-        | false ↦ λ e. more
-        | true ↦ λ e.
-            let P : Bool → Type 0 = λ b. (x.1 +ℤ total (map (λ x. x.1) (filter p (filter u xs)))) ≤ℤ total (map (λ x. x.1) (cond b (x ∷ filter w xs) (filter w xs))) in
-            subst P (sym (wider x e)) (let le = rest in omega (arith, ints))
-      ] refl
-    ]
+total-of_both p u w days falls wider =
+    subst (λ (ys : List DayValue). total (map (λ x. x.1) ys) ≤ℤ total (map (λ x. x.1) (filter w days)))
+    (sym (filter-both p u days))
+    (total-wider (λ x. x.1) (λ x. u x && p x) w days falls
+    (all-days (λ x. (u x && p x) ≡ true → w x ≡ true) days (λ x e. wider x (both_pass (u x) (p x) e).1)))
 
 -- those of some days that pass a test have at most the total of those that pass a wider one
-total-wide : (p w : DayValue → Bool) (days : List DayValue) → AreFallen days → ((x : DayValue) → p x ≡ true → w x ≡ true) → total (map (λ x. x.1) (filter p days)) ≤ℤ total (map (λ x. x.1) (filter w days))
-total-wide p w [] falls wider = omega (arith, ints)
-total-wide p w (x ∷ xs) falls wider =
-    let rest = total-wide p w xs falls.1 wider in
-    let here = falls.0 in
-    elim (p x) as (λ b. p x ≡ b → total (map (λ x. x.1) (cond b (x ∷ filter p xs) (filter p xs))) ≤ℤ total (map (λ x. x.1) (filter w (x ∷ xs)))) [
-      | false ↦ λ e. elim (w x) as (λ b. total (map (λ x. x.1) (filter p xs)) ≤ℤ total (map (λ x. x.1) (cond b (x ∷ filter w xs) (filter w xs)))) [
-        | true ↦ omega (arith, ints)
-        | false ↦ rest
-      ]
-      | true ↦ λ e.
-          let P : Bool → Type 0 = λ b. (x.1 +ℤ total (map (λ x. x.1) (filter p xs))) ≤ℤ total (map (λ x. x.1) (cond b (x ∷ filter w xs) (filter w xs))) in
-          subst P (sym (wider x e)) (omega (arith, ints))
-    ] refl
+total-wide : (p w : DayValue → Bool) (days : List DayValue) → AreFallen days
+    → ((x : DayValue) → p x ≡ true → w x ≡ true)
+    → total (map (λ x. x.1) (filter p days)) ≤ℤ total (map (λ x. x.1) (filter w days))
+total-wide p w days falls wider =
+    total-wider (λ x. x.1) p w days falls (all-days (λ x. p x ≡ true → w x ≡ true) days wider)
 
 -- no total of such days is below zero
-pub total-fallen : (p : DayValue → Bool) (days : List DayValue) → AreFallen days → pos 0 ≤ℤ total (map (λ x. x.1) (filter p days))
-total-fallen p [] falls = omega (arith, ints)
-total-fallen p (x ∷ xs) falls =
-    let rest = total-fallen p xs falls.1 in
-    let here = falls.0 in
-    elim (p x) as (λ b. pos 0 ≤ℤ total (map (λ x. x.1) (cond b (x ∷ filter p xs) (filter p xs)))) [
-      | true ↦ omega (arith, ints)
-      | false ↦ rest
-    ]
+pub total-fallen : (p : DayValue → Bool) (days : List DayValue) → AreFallen days
+    → pos 0 ≤ℤ total (map (λ x. x.1) (filter p days))
+total-fallen p days falls = total-least (λ x. x.1) p days falls
 
-module _ (p w : DayValue → Bool) (a : ℤ) (wider : (x : DayValue) → p x ≡ true → w x ≡ true) (not_p : (x : DayValue) → x.0 ≡ a → p x ≡ false) (is_w : (x : DayValue) → x.0 ≡ a → w x ≡ true) where
+module _ (p w : DayValue → Bool) (a : ℤ) (wider : (x : DayValue) → p x ≡ true → w x ≡ true)
+    (not_p : (x : DayValue) → x.0 ≡ a → p x ≡ false) (is_w : (x : DayValue) → x.0 ≡ a → w x ≡ true) where
   -- a day's value and the total of days without it make at most the total of those with it
-  day-added : (days : List DayValue) (v : ℤ) → AreFallen days → value_on days a ≡ Some v → (v +ℤ total (map (λ x. x.1) (filter p days))) ≤ℤ total (map (λ x. x.1) (filter w days))
+  day-added : (days : List DayValue) (v : ℤ) → AreFallen days → value_on days a ≡ Some v
+      → (v +ℤ total (map (λ x. x.1) (filter p days))) ≤ℤ total (map (λ x. x.1) (filter w days))
   day-added [] v falls e = absurd cc
   day-added (x ∷ xs) v falls e =
       let here = falls.0 in
-      elim (int_eq x.0 a) as (λ t. int_eq x.0 a ≡ t → option_map (λ (y : DayValue). y.1) (cond t (Some x) (find (λ y. int_eq y.0 a) xs)) ≡ Some v → (v +ℤ total (map (λ x. x.1) (filter p (x ∷ xs)))) ≤ℤ total (map (λ x. x.1) (filter w (x ∷ xs)))) [
+      elim (int_eq x.0 a) as (λ t. int_eq x.0 a ≡ t → option_map (λ (y : DayValue). y.1)
+      (cond t (Some x) (find (λ y. int_eq y.0 a) xs)) ≡ Some v
+      → (v +ℤ total (map (λ x. x.1) (filter p (x ∷ xs)))) ≤ℤ total (map (λ x. x.1) (filter w (x ∷ xs)))) [
         | true ↦ λ is found.
             let day : x.0 ≡ a = (Decides-int_eq x.0 a).0 is in
             let value : x.1 ≡ v = cc in
             let rest = total-wide p w xs falls.1 wider in
-            let without : total (map (λ x. x.1) (filter p (x ∷ xs))) ≡ total (map (λ x. x.1) (filter p xs)) = ap (λ (b : Bool). total (map (λ x. x.1) (cond b (x ∷ filter p xs) (filter p xs)))) (not_p x day) in
-            let with_day : total (map (λ x. x.1) (filter w (x ∷ xs))) ≡ x.1 +ℤ total (map (λ x. x.1) (filter w xs)) = ap (λ (b : Bool). total (map (λ x. x.1) (cond b (x ∷ filter w xs) (filter w xs)))) (is_w x day) in
+            let without : total (map (λ x. x.1) (filter p (x ∷ xs))) ≡ total (map (λ x. x.1) (filter p xs)) =
+            ap (λ (b : Bool). total (map (λ x. x.1) (cond b (x ∷ filter p xs) (filter p xs)))) (not_p x day) in
+            let with_day : total (map (λ x. x.1) (filter w (x ∷ xs))) ≡ x.1 +ℤ total (map (λ x. x.1) (filter w xs)) =
+            ap (λ (b : Bool). total (map (λ x. x.1) (cond b (x ∷ filter w xs) (filter w xs)))) (is_w x day) in
             omega (arith, ints)
         | false ↦ λ is found.
             let rest = day-added xs v falls.1 found in
-            elim (p x) as (λ b. p x ≡ b → (v +ℤ total (map (λ x. x.1) (cond b (x ∷ filter p xs) (filter p xs)))) ≤ℤ total (map (λ x. x.1) (filter w (x ∷ xs)))) [
-              | false ↦ λ k. elim (w x) as (λ b. (v +ℤ total (map (λ x. x.1) (filter p xs))) ≤ℤ total (map (λ x. x.1) (cond b (x ∷ filter w xs) (filter w xs)))) [
-                | true ↦ omega (arith, ints)
-                | false ↦ rest
-              ]
+            elim (p x) as (λ b. p x ≡ b
+            → (v +ℤ total (map (λ x. x.1) (cond b (x ∷ filter p xs) (filter p xs)))) ≤ℤ total
+            (map (λ x. x.1) (filter w (x ∷ xs)))) [
+              | false ↦
+                  λ k. elim (w x) as (λ b. (v +ℤ total (map (λ x. x.1) (filter p xs))) ≤ℤ total
+                  (map (λ x. x.1) (cond b (x ∷ filter w xs) (filter w xs)))) [
+                    | true ↦ omega (arith, ints)
+                    | false ↦ rest
+                  ]
               | true ↦ λ k.
-                  let P : Bool → Type 0 = λ b. (v +ℤ (x.1 +ℤ total (map (λ x. x.1) (filter p xs)))) ≤ℤ total (map (λ x. x.1) (cond b (x ∷ filter w xs) (filter w xs))) in
+                  let P : Bool → Type 0 = λ b. (v +ℤ (x.1 +ℤ total (map (λ x. x.1) (filter p xs)))) ≤ℤ total
+                  (map (λ x. x.1) (cond b (x ∷ filter w xs) (filter w xs))) in
                   subst P (sym (wider x k)) (omega (arith, ints))
             ] refl
       ] refl e
@@ -260,7 +262,8 @@ window-parts a n x e =
 
 -- and what makes it so
 window-from : (a : ℤ) (n : ℕ) (x : DayValue) → a ≤ℤ x.0 → x.0 <ℤ (a +ℤ pos n) → in_window a n x ≡ true
-window-from a n x low high = pass_both (int_le a x.0) (int_lt x.0 (a +ℤ pos n)) (le-int_le a x.0 low) (lt-int_lt x.0 (a +ℤ pos n) high)
+window-from a n x low high = pass_both (int_le a x.0) (int_lt x.0 (a +ℤ pos n)) (le-int_le a x.0 low)
+    (lt-int_lt x.0 (a +ℤ pos n) high)
 
 -- a day before a window isn't in it
 window-before : (a : ℤ) (n : ℕ) (x : DayValue) → x.0 <ℤ a → in_window a n x ≡ false
@@ -271,7 +274,8 @@ window-before a n x lt =
     ] refl
 
 -- the sum of a window is at most the total of its days
-window-total : (days : List DayValue) → AreFallen days → (n : ℕ) (a t : ℤ) → window_total days n a ≡ Some t → t ≤ℤ total (map (λ x. x.1) (filter (in_window a n) days))
+window-total : (days : List DayValue) → AreFallen days → (n : ℕ) (a t : ℤ) → window_total days n a ≡ Some t
+    → t ≤ℤ total (map (λ x. x.1) (filter (in_window a n) days))
 window-total days falls zero a t e =
     let is : pos 0 ≡ t = cc in
     let none = total-fallen (in_window a 0) days falls in
@@ -281,14 +285,16 @@ window-total days falls (suc n) a t e =
     let rest = window-total days falls n (a +ℤ pos 1) parts.1 parts.3 in
     let sum = parts.4 in
     let added = day-added (in_window (a +ℤ pos 1) n) (in_window a (suc n)) a
-    (λ x inside. let both = window-parts (a +ℤ pos 1) n x inside in let low = both.0 in let high = both.1 in window-from a (suc n) x (omega (arith, ints)) (omega (arith, ints)))
+    (λ x inside. let both = window-parts (a +ℤ pos 1) n x inside in let low = both.0 in let high = both.1 in
+    window-from a (suc n) x (omega (arith, ints)) (omega (arith, ints)))
     (λ x on. window-before (a +ℤ pos 1) n x (omega (arith, ints)))
     (λ x on. window-from a (suc n) x (omega (arith, ints)) (omega (arith, ints)))
     days parts.0 falls parts.2 in
     omega (arith, ints)
 
 -- the days of a window lie in so many blocks from that of its first day on
-window-blocks : (a : ℤ) (n : ℕ) (x : DayValue) → in_window a n x ≡ true → is_among (block_of a) (blocks_of_window n) (block_of x.0) ≡ true
+window-blocks : (a : ℤ) (n : ℕ) (x : DayValue) → in_window a n x ≡ true → is_among (block_of a) (blocks_of_window n)
+    (block_of x.0) ≡ true
 window-blocks a n x e =
     let parts = window-parts a n x e in
     let low = parts.0 in
@@ -303,30 +309,39 @@ window-score None d e is = absurd cc
 window-score (Some t) d e is = let pair : (d, t) ≡ e = cc in ap (λ (p : ℤ × ℤ). Some p.1) pair
 
 -- those of some days that pass a test have no value above one that none of them has
-most-admitted : (q : Asked) (s : Usable) (z : ℤ) → IsGreatest (IsScore (λ v. v) (days_reached q s)) z → AllByRecursion (λ x. x.1 ≤ℤ z) (admitted q s)
+most-admitted : (q : Asked) (s : Usable) (z : ℤ) → IsGreatest (IsScore (λ v. v) (days_reached q s)) z
+    → AllByRecursion (λ x. x.1 ≤ℤ z) (admitted q s)
 most-admitted q s z of_z =
-    let Stands : DayValue → Type 0 = λ x. is_reached q.period (block_of x.0) ≡ true → Contains (map (λ y. y.1) (days_reached q s)) x.1 in
-    from_each (λ x. Stands x × (admits_day q x.0 ≡ true)) (λ x. x.1 ≤ℤ z) (admitted q s) (λ x h. of_z.is_most x.1 (h.0 (admitted-reached q x.0 h.1)))
-    (all-passing Stands (λ x. admits_day q x.0) s.days (stands (λ y. y.1) (λ x. is_reached q.period (block_of x.0)) s.days))
+    let Stands : DayValue → Type 0 = λ x. is_reached q.period (block_of x.0) ≡ true
+    → Contains (map (λ y. y.1) (days_reached q s)) x.1 in
+    from_each (λ x. Stands x × (admits_day q x.0 ≡ true)) (λ x. x.1 ≤ℤ z) (admitted q s)
+    (λ x h. of_z.is_most x.1 (h.0 (admitted-reached q x.0 h.1)))
+    (all-passing Stands (λ x. admits_day q x.0) s.days
+    (stands (λ y. y.1) (λ x. is_reached q.period (block_of x.0)) s.days))
 
 -- what is true of all is true of those that pass
-all-kept : (P : DayValue → Type 0) (t : DayValue → Bool) (xs : List DayValue) → AllByRecursion P xs → AllByRecursion P (filter t xs)
+all-kept : (P : DayValue → Type 0) (t : DayValue → Bool) (xs : List DayValue) → AllByRecursion P xs
+    → AllByRecursion P (filter t xs)
 all-kept P t xs h = from_each (λ x. P x × (t x ≡ true)) P (filter t xs) (λ x both. both.0) (all-passing P t xs h)
 
 -- the sum of a window is at most the bound of sums
-pub windows-below : (n : ℕ) (q : Asked) (s : Usable) (z : ℤ) → AreFallen s.days → IsSumBound q s n z → AllByRecursion (λ c. c.score ≤ℤ z) (candidates_among s.id (Windows n) (admitted q s))
+pub windows-below : (n : ℕ) (q : Asked) (s : Usable) (z : ℤ) → AreFallen s.days → IsSumBound q s n z
+    → AllByRecursion (λ c. c.score ≤ℤ z) (candidates_among s.id (Windows n) (admitted q s))
 windows-below n q s z falls of_z =
     let All : DayValue → Type 0 = λ x. pos 0 ≤ℤ x.1 in
     let days = all-kept All (λ x. admits_day q x.0) s.days falls in
     let most = most-admitted q s of_z.value of_z.greatest_value in
     candidates-below s.id (begun (Windows n) (admitted q s)) z (admitted q s)
-    (from_each (λ x. (pos 0 ≤ℤ x.1) × (admits_day q x.0 ≡ true)) (λ x. (e : ℤ × ℤ) → begun (Windows n) (admitted q s) x ≡ Some e → e.1 ≤ℤ z) (admitted q s)
+    (from_each (λ x. (pos 0 ≤ℤ x.1) × (admits_day q x.0 ≡ true))
+    (λ x. (e : ℤ × ℤ) → begun (Windows n) (admitted q s) x ≡ Some e → e.1 ≤ℤ z) (admitted q s)
     (λ x h e is.
     let sum = window-score (window_total (admitted q s) n x.0) (x.0 +ℤ pos n -ℤ pos 1) e is in
     let by_value = window-times (admitted q s) of_z.value most n x.0 e.1 sum in
     let by_days = window-total (admitted q s) days n x.0 e.1 sum in
-    let by_blocks = total-of_both (in_window x.0 n) (λ y. admits_day q y.0) (λ y. is_among (block_of x.0) (blocks_of_window n) (block_of y.0)) s.days falls (window-blocks x.0 n) in
-    let greatest = of_z.greatest_total.is_most (blocks_total s.days (blocks_of_window n) (block_of x.0)) (block_of x.0, admitted-reached q x.0 h.1, refl) in
+    let by_blocks = total-of_both (in_window x.0 n) (λ y. admits_day q y.0)
+    (λ y. is_among (block_of x.0) (blocks_of_window n) (block_of y.0)) s.days falls (window-blocks x.0 n) in
+    let greatest = of_z.greatest_total.is_most (blocks_total s.days (blocks_of_window n) (block_of x.0))
+    (block_of x.0, admitted-reached q x.0 h.1, refl) in
     let smaller = of_z.smaller in
     omega (arith, ints, clamps))
     (all-passing All (λ x. admits_day q x.0) s.days falls))
@@ -342,17 +357,20 @@ fall-is Tmax h = absurd cc
 fall-is Tmin h = absurd cc
 
 -- where an element isn't negative, its values are at least zero
-values-fall : (e : Element) (days : List DayValue) → may_be_negative e ≡ false → list_all (λ x. is_day x.0 && is_value e x.1) days ≡ true → AreFallen days
+values-fall : (e : Element) (days : List DayValue) → may_be_negative e ≡ false
+    → list_all (λ x. is_day x.0 && is_value e x.1) days ≡ true → AreFallen days
 values-fall e [] fall h = tt
 values-fall e (x ∷ xs) fall h =
     let parts = both_pass (is_day x.0 && is_value e x.1) (list_all (λ x. is_day x.0 && is_value e x.1) xs) h in
     let value = both_pass (is_day x.0) (is_value e x.1) parts.0 in
-    let sign = both_pass (int_le (neg_ℤ (pos 9998)) x.1 && int_le x.1 (pos 99_999)) (may_be_negative e || int_le (pos 0) x.1) value.1 in
+    let sign = both_pass (int_le (neg_ℤ (pos 9998)) x.1 && int_le x.1 (pos 99_999))
+    (may_be_negative e || int_le (pos 0) x.1) value.1 in
     let positive : int_le (pos 0) x.1 ≡ true = sym (ap (λ (b : Bool). b || int_le (pos 0) x.1) fall) ∙ sign.1 in
     (int_le-true (pos 0) x.1 positive, values-fall e xs fall parts.1)
 
 -- the values of a series that a query sums up are at least zero
-pub sums-fall : (q : Asked) (s : Usable) (n : ℕ) (e : Element) → IsAsked q → IsSeries s → s.element ≡ score_element q.score → q.score ≡ Sum n e → AreFallen s.days
+pub sums-fall : (q : Asked) (s : Usable) (n : ℕ) (e : Element) → IsAsked q → IsSeries s
+    → s.element ≡ score_element q.score → q.score ≡ Sum n e → AreFallen s.days
 sums-fall q s n e asked series element is =
     let score : is_score (Sum n e) ≡ true = ap is_score (sym is) ∙ asked.score in
     let fall = fall-is e (both_pass _ (is_fall e) score).1 in
@@ -360,7 +378,9 @@ sums-fall q s n e asked series element is =
     values-fall s.element s.days (ap may_be_negative same ∙ fall) series.values
 
 -- no candidate has a score above the bound for a score
-above-for : (score : Score) (q : Asked) (s : Usable) (z : ℤ) → ((n : ℕ) (e : Element) → score ≡ Sum n e → AreFallen s.days) → IsBoundFor score q s z → AllByRecursion (λ c. c.score ≤ℤ z) (candidates_among s.id (shape score) (admitted q s))
+above-for : (score : Score) (q : Asked) (s : Usable) (z : ℤ)
+    → ((n : ℕ) (e : Element) → score ≡ Sum n e → AreFallen s.days) → IsBoundFor score q s z
+    → AllByRecursion (λ c. c.score ≤ℤ z) (candidates_among s.id (shape score) (admitted q s))
 above-for (Highest e) q s z falls of_z = days-below (λ v. v) q s z of_z
 above-for (Lowest e) q s z falls of_z = days-below neg_ℤ q s z of_z
 above-for (Sum n e) q s z falls of_z = windows-below n q s z (falls n e refl) of_z
@@ -368,5 +388,7 @@ above-for Dry q s z falls of_z = spells-below is_dry q s z of_z
 above-for Wet q s z falls of_z = spells-below is_wet q s z of_z
 
 -- no candidate of the series has a score above the bound
-pub bound-IsAbove : (q : Asked) (s : Usable) (z : ℤ) → IsAsked q → IsSeries s → s.element ≡ score_element q.score → IsBound q s z → IsAbove q s z
-bound-IsAbove q s z asked series element of_z = above-for q.score q s z (λ n e is. sums-fall q s n e asked series element is) of_z
+pub bound-IsAbove : (q : Asked) (s : Usable) (z : ℤ) → IsAsked q → IsSeries s → s.element ≡ score_element q.score
+    → IsBound q s z → IsAbove q s z
+bound-IsAbove q s z asked series element of_z =
+    above-for q.score q s z (λ n e is. sums-fall q s n e asked series element is) of_z

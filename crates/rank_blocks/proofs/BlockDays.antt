@@ -1,5 +1,6 @@
 -- The summary that is made of a block's word and values is that of its days.
-use Rattle.std.proofs.Common.{◌≡◌, ◌≢◌, ℕ, zero, suc, ◌+◌, ◌<◌, Bool, true, false, cond, List, [], ◌∷◌, map, length, get_or, set, Option, Some, None, refl, sym, ap, ◌∙◌, subst, arith, ℤ, pos, neg_ℤ, ◌≤ℤ◌, ◌+ℤ◌}
+use Rattle.std.proofs.Common.{◌≡◌, ◌≢◌, ℕ, zero, suc, ◌<◌, Bool, true, false, cond, List, [], ◌∷◌, map, length, get_or}
+use Rattle.std.proofs.Common.{set, Option, Some, None, refl, sym, ap, ◌∙◌, subst, arith, ℤ, pos, neg_ℤ, ◌≤ℤ◌, ◌+ℤ◌}
 use Rattle.std.specs.Prelude.{◌==◌, ◌&&◌, not}
 use Rattle.std.specs.Int.{bit_at}
 use Rattle.std.specs.List.{AllByRecursion, Contains}
@@ -21,8 +22,8 @@ use Rattle.rank_blocks.specs.Greatest.{IsScore}
 use Rattle.rank_blocks.specs.Summaries.{HasBits, IsSummary, IsSummaryOf}
 use Rattle.rank_blocks.specs.Values.{IsValue, IsWordOf}
 use Rattle.rank_blocks.proofs.Members.{all-passing, pick, stands}
+use Rattle.rank_blocks.proofs.DayTests.{distance}
 use Rattle.rank_blocks.proofs.DayValues.{value_on-between, value_on-behind, own-values, block-holds, block-of_place}
-use Rattle.rank_blocks.proofs.LongestRuns.{distance}
 use Rattle.rank_blocks.proofs.ReachedDays.{value_on-among}
 
 -- ---- words
@@ -32,14 +33,17 @@ wet-not_dry : (v : ℤ) → not (is_dry v) ≡ is_wet v
 wet-not_dry v = grind (arith, ints)
 
 -- of a day with a value, not dry is wet; of one without, nothing is
-wet-bit : (t : Bool) (v : ℤ) → (t && not (option_map_or is_dry (if_so t v) false)) ≡ option_map_or is_wet (if_so t v) false
+wet-bit : (t : Bool) (v : ℤ) → (t && not (option_map_or is_dry (if_so t v) false)) ≡ option_map_or is_wet
+    (if_so t v) false
 wet-bit true v = wet-not_dry v
 wet-bit false v = refl
 
 -- the wet days are the usable days that aren't dry
-pub wet-word : (word dry wet : ℕ) (values : List ℤ) → IsWordOf is_dry word values dry → ((j : ℕ) → j < 32 → has_bit wet j ≡ (has_bit word j && not (has_bit dry j))) → IsWordOf is_wet word values wet
+pub wet-word : (word dry wet : ℕ) (values : List ℤ) → IsWordOf is_dry word values dry
+    → ((j : ℕ) → j < 32 → has_bit wet j ≡ (has_bit word j && not (has_bit dry j))) → IsWordOf is_wet word values wet
 wet-word word dry wet values of_dry is = λ j lt.
-    is j lt ∙ ap (λ (t : Bool). has_bit word j && not t) (of_dry j lt) ∙ wet-bit (has_bit word j) (get_or values j (pos 0))
+    is j lt ∙ ap (λ (t : Bool). has_bit word j && not t) (of_dry j lt) ∙ wet-bit (has_bit word j)
+    (get_or values j (pos 0))
 
 -- ---- totals
 
@@ -52,14 +56,16 @@ zeros-total (z ∷ zs) zeros =
     omega (arith, ints)
 
 -- the total with one number taken out
-total-set : (values : List ℤ) (j : ℕ) → j < length values → total values ≡ get_or values j (pos 0) +ℤ total (set values j (pos 0))
+total-set : (values : List ℤ) (j : ℕ) → j < length values → total values ≡ get_or values j (pos 0) +ℤ total
+    (set values j (pos 0))
 total-set [] j lt = absurd (omega arith)
 total-set (z ∷ zs) zero lt = omega (arith, ints)
 total-set (z ∷ zs) (suc j) lt = let rest = total-set zs j (omega arith) in omega (arith, ints)
 
 -- at each place the value of the block's day is, and 0 where it has none
 abbrev AreValues : List DayValue → ℤ → List ℤ → Type 0
-AreValues days b values = (j : ℕ) → j < 32 → get_or values j (pos 0) ≡ unwrap_or (value_on days (block_start b +ℤ pos j)) (pos 0)
+AreValues days b values = (j : ℕ) → j < 32 → get_or values j (pos 0) ≡ unwrap_or
+    (value_on days (block_start b +ℤ pos j)) (pos 0)
 
 -- a day of a block is at a place of it
 pub place-in : (b d : ℤ) → block_of d ≡ b → (j : ℕ) × (j < 32) × (d ≡ block_start b +ℤ pos j)
@@ -80,16 +86,20 @@ other-day a b other =
     ] refl
 
 -- the total of a block's days is that of its values
-pub block-total : (days : List DayValue) (b : ℤ) (values : List ℤ) → AreRising days → length values ≡ 32 → AreValues days b values → total (map (λ x. x.1) (days_in days b)) ≡ total values
+pub block-total : (days : List DayValue) (b : ℤ) (values : List ℤ) → AreRising days → length values ≡ 32
+    → AreValues days b values → total (map (λ x. x.1) (days_in days b)) ≡ total values
 block-total [] b values rise size are = sym (zeros-total values (λ j lt. are j (omega arith)))
 block-total (x ∷ xs) b values rise size are =
-    elim (int_eq (block_of x.0) b) as (λ t. int_eq (block_of x.0) b ≡ t → total (map (λ y. y.1) (cond t (x ∷ days_in xs b) (days_in xs b))) ≡ total values) [
+    elim (int_eq (block_of x.0) b) as (λ t. int_eq (block_of x.0) b ≡ t → total
+    (map (λ y. y.1) (cond t (x ∷ days_in xs b) (days_in xs b))) ≡ total values) [
       | true ↦ λ e.
           let at = place-in b x.0 ((Decides-int_eq (block_of x.0) b).0 e) in
           let j : ℕ = at.0 in
-          let own : value_on (x ∷ xs) (block_start b +ℤ pos j) ≡ Some x.1 = subst (λ (d : ℤ). value_on (x ∷ xs) d ≡ Some x.1) at.2 (own-values (x ∷ xs) rise).0 in
+          let own : value_on (x ∷ xs) (block_start b +ℤ pos j) ≡ Some x.1 =
+          subst (λ (d : ℤ). value_on (x ∷ xs) d ≡ Some x.1) at.2 (own-values (x ∷ xs) rise).0 in
           let here : get_or values j (pos 0) ≡ x.1 = are j at.1 ∙ ap (λ (o : Option ℤ). unwrap_or o (pos 0)) own in
-          let rest = block-total xs b (set values j (pos 0)) rise.1 (length-set values j (pos 0) ∙ size) (without x xs b values j rise size are at.2 at.1) in
+          let rest = block-total xs b (set values j (pos 0)) rise.1 (length-set values j (pos 0) ∙ size)
+          (without x xs b values j rise size are at.2 at.1) in
           let whole = total-set values j (let lt = at.1 in omega arith) in
           omega (arith, ints)
       | false ↦ λ e.
@@ -97,24 +107,35 @@ block-total (x ∷ xs) b values rise size are =
           (λ j lt.
           let other : int_eq x.0 (block_start b +ℤ pos j) ≡ false =
           other-day x.0 (block_start b +ℤ pos j)
-          (λ same. let in_block : int_eq (block_of x.0) b ≡ true = (Decides-int_eq (block_of x.0) b).1 (ap block_of same ∙ block-of_place b j lt) in both_ways (int_eq (block_of x.0) b) in_block e) in
+          (λ same. let in_block : int_eq (block_of x.0) b ≡ true = (Decides-int_eq (block_of x.0) b).1
+          (ap block_of same ∙ block-of_place b j lt) in both_ways (int_eq (block_of x.0) b) in_block e) in
           are j lt ∙ ap (λ (o : Option ℤ). unwrap_or o (pos 0)) (value_on-behind x xs (block_start b +ℤ pos j) other))
     ] refl
   where
+    -- a test doesn't pass and fail
     both_ways : (t : Bool) → t ≡ true → t ≡ false → ⊥
     both_ways t p q = cc
 
-    without : (x : DayValue) (xs : List DayValue) (b : ℤ) (values : List ℤ) (k : ℕ) → AreRising (x ∷ xs) → length values ≡ 32 → AreValues (x ∷ xs) b values → x.0 ≡ block_start b +ℤ pos k → k < 32 → AreValues xs b (set values k (pos 0))
+    -- once the first day is set to 0, the values are those of the others
+    without : (x : DayValue) (xs : List DayValue) (b : ℤ) (values : List ℤ) (k : ℕ) → AreRising (x ∷ xs)
+        → length values ≡ 32 → AreValues (x ∷ xs) b values → x.0 ≡ block_start b +ℤ pos k → k < 32
+        → AreValues xs b (set values k (pos 0))
     without x xs b values k rise size are at within j lt =
-        elim (int_eq x.0 (block_start b +ℤ pos j)) as (λ t. int_eq x.0 (block_start b +ℤ pos j) ≡ t → get_or (set values k (pos 0)) j (pos 0) ≡ unwrap_or (value_on xs (block_start b +ℤ pos j)) (pos 0)) [
+        elim (int_eq x.0 (block_start b +ℤ pos j)) as (λ t. int_eq x.0 (block_start b +ℤ pos j) ≡ t
+        → get_or (set values k (pos 0)) j (pos 0) ≡ unwrap_or (value_on xs (block_start b +ℤ pos j)) (pos 0)) [
           | true ↦ λ e.
               let is = (Decides-int_eq x.0 (block_start b +ℤ pos j)).0 e in
               let same : j ≡ k = omega (arith, ints) in
-              let none : value_on xs (block_start b +ℤ pos j) ≡ None = subst (λ (d : ℤ). value_on xs d ≡ None) is (value_on-between [] xs x.0 tt rise.0) in
-              get_or-set_at values k j (pos 0) (pos 0) same (omega arith) ∙ sym (ap (λ (o : Option ℤ). unwrap_or o (pos 0)) none)
+              let none : value_on xs (block_start b +ℤ pos j) ≡ None = subst (λ (d : ℤ). value_on xs d ≡ None) is
+              (value_on-between [] xs x.0 tt rise.0) in
+              get_or-set_at values k j (pos 0) (pos 0) same (omega arith) ∙ sym
+              (ap (λ (o : Option ℤ). unwrap_or o (pos 0)) none)
           | false ↦ λ e.
-              let other : j ≢ k = (λ same. both_ways (int_eq x.0 (block_start b +ℤ pos j)) ((Decides-int_eq x.0 (block_start b +ℤ pos j)).1 (omega (arith, ints))) e) in
-              get_or-set_other values k j (pos 0) (pos 0) other ∙ are j lt ∙ ap (λ (o : Option ℤ). unwrap_or o (pos 0)) (value_on-behind x xs (block_start b +ℤ pos j) e)
+              let other : j ≢ k =
+              (λ same. both_ways (int_eq x.0 (block_start b +ℤ pos j))
+              ((Decides-int_eq x.0 (block_start b +ℤ pos j)).1 (omega (arith, ints))) e) in
+              get_or-set_other values k j (pos 0) (pos 0) other ∙ are j lt ∙ ap (λ (o : Option ℤ). unwrap_or o (pos 0))
+              (value_on-behind x xs (block_start b +ℤ pos j) e)
         ] refl
 
 -- ---- a block of a series
@@ -136,26 +157,32 @@ value-or_zero zero v lt zeros = zeros refl
 value-or_zero (suc zero) v lt zeros = refl
 value-or_zero (suc (suc k)) v lt zeros = absurd (omega arith)
 
-module _ (days : List DayValue) (rise : AreRising days) (b : ℤ) (word : ℕ) (values : List ℤ) (of_block : IsBlockOf days b word values) where
+module _ (days : List DayValue) (rise : AreRising days) (b : ℤ) (word : ℕ) (values : List ℤ)
+    (of_block : IsBlockOf days b word values) where
   -- the value of a usable day is among those of the block's days
   value-stands : (f : ℤ → ℤ) (z : ℤ) → IsValue word values z → IsScore f (days_in days b) (f z)
   value-stands f z of_z =
       let j : ℕ = of_z.0 in
       let is : value_on days (block_start b +ℤ pos j) ≡ Some z =
-      sym (of_block.holds j of_z.1) ∙ ap (λ (k : ℕ). if_so (k == 1) (get_or values j (pos 0))) of_z.2 ∙ ap (λ (v : ℤ). Some v) of_z.3 in
-      value_on-among (λ n v. int_eq (block_of n) b ≡ true → Contains (map (λ y. f y.1) (days_in days b)) (f v)) days (block_start b +ℤ pos j) z
+      sym (of_block.holds j of_z.1) ∙ ap (λ (k : ℕ). if_so (k == 1) (get_or values j (pos 0))) of_z.2
+      ∙ ap (λ (v : ℤ). Some v) of_z.3 in
+      value_on-among (λ n v. int_eq (block_of n) b ≡ true → Contains (map (λ y. f y.1) (days_in days b)) (f v)) days
+      (block_start b +ℤ pos j) z
       (stands (λ y. f y.1) (λ x. int_eq (block_of x.0) b) days) is
       ((Decides-int_eq (block_of (block_start b +ℤ pos j)) b).1 (block-of_place b j of_z.1))
 
   -- a score of the block's days is made of the value of a usable day
-  value-of : (f : ℤ → ℤ) (y : ℤ) → IsScore f (days_in days b) y → (j : ℕ) × (j < 32) × (bit_at word j ≡ 1) × (f (get_or values j (pos 0)) ≡ y)
+  value-of : (f : ℤ → ℤ) (y : ℤ) → IsScore f (days_in days b) y → (j : ℕ) × (j < 32) × (bit_at word j ≡ 1)
+      × (f (get_or values j (pos 0)) ≡ y)
   value-of f y h =
-      let found = pick (λ x. f x.1) (λ x. (value_on days x.0 ≡ Some x.1) × (int_eq (block_of x.0) b ≡ true)) (days_in days b) y
+      let found = pick (λ x. f x.1) (λ x. (value_on days x.0 ≡ Some x.1) × (int_eq (block_of x.0) b ≡ true))
+      (days_in days b) y
       (all-passing (λ x. value_on days x.0 ≡ Some x.1) (λ x. int_eq (block_of x.0) b) days (own-values days rise)) h in
       let x : DayValue = found.0 in
       let at = place-in b x.0 ((Decides-int_eq (block_of x.0) b).0 found.1.1) in
       let j : ℕ = at.0 in
-      let is = made (bit_at word j == 1) (get_or values j (pos 0)) x.1 (of_block.holds j at.1 ∙ subst (λ (d : ℤ). value_on days d ≡ Some x.1) at.2 found.1.0) in
+      let is = made (bit_at word j == 1) (get_or values j (pos 0)) x.1
+      (of_block.holds j at.1 ∙ subst (λ (d : ℤ). value_on days d ≡ Some x.1) at.2 found.1.0) in
       (j, at.1, bit-one (bit_at word j) (bit_at-lt word j) is.0, ap f is.1 ∙ found.2)
 
   -- the word of the usable days whose values pass is that of the block's days
@@ -163,18 +190,24 @@ module _ (days : List DayValue) (rise : AreRising days) (b : ℤ) (word : ℕ) (
   block-bits test passing is = λ j lt. is j lt ∙ ap (λ (o : Option ℤ). option_map_or test o false) (of_block.holds j lt)
 
   -- the summary of the word and the values is that of the days
-  summary-of : (m : Summary) → IsSummaryOf b word values m → m.number ≡ b → (n : ℤ) → n ≡ b → IsSummary days (record { number = n; greatest = m.greatest; least = m.least; total = m.total; dry = m.dry; wet = m.wet })
+  summary-of : (m : Summary) → IsSummaryOf b word values m → m.number ≡ b → (n : ℤ) → n ≡ b
+      → IsSummary days
+      (record { number = n; greatest = m.greatest; least = m.least; total = m.total; dry = m.dry; wet = m.wet })
   summary-of m of_m number n is =
-      let Days : ℤ → Type 0 = λ k. IsSummary days (record { number = k; greatest = m.greatest; least = m.least; total = m.total; dry = m.dry; wet = m.wet }) in
+      let Days : ℤ → Type 0 =
+      λ k. IsSummary days
+      (record { number = k; greatest = m.greatest; least = m.least; total = m.total; dry = m.dry; wet = m.wet }) in
       let extremes = of_m.extremes in
       let are = block-total days b values rise of_m.size
-      (λ j lt. value-or_zero (bit_at word j) (get_or values j (pos 0)) (bit_at-lt word j) (of_block.zeros j lt) ∙ ap (λ (o : Option ℤ). unwrap_or o (pos 0)) (of_block.holds j lt)) in
+      (λ j lt. value-or_zero (bit_at word j) (get_or values j (pos 0)) (bit_at-lt word j) (of_block.zeros j lt)
+      ∙ ap (λ (o : Option ℤ). unwrap_or o (pos 0)) (of_block.holds j lt)) in
       subst Days (sym is)
       (record {
         values = record {
           greatest_value = record {
             is_one = value-stands (λ v. v) m.greatest extremes.one_most;
-            is_most = λ y h. let of_y = value-of (λ v. v) y h in subst (λ (z : ℤ). z ≤ℤ m.greatest) of_y.3 (extremes.is_most of_y.0 of_y.1 of_y.2);
+            is_most = λ y h. let of_y = value-of (λ v. v) y h in subst (λ (z : ℤ). z ≤ℤ m.greatest) of_y.3
+                (extremes.is_most of_y.0 of_y.1 of_y.2);
           };
           least_value = record {
             is_one = value-stands neg_ℤ m.least extremes.one_least;
@@ -190,11 +223,13 @@ module _ (days : List DayValue) (rise : AreRising days) (b : ℤ) (word : ℕ) (
         wet = block-bits is_wet m.wet of_m.wet;
       })
 
+  -- the summary of the word and the values is that of its days
   pub summary-IsSummary : (m : Summary) → IsSummaryOf b word values m → IsSummary days m
   summary-IsSummary m of_m = summary-of m of_m of_m.number m.number of_m.number
 
   -- a usable day's bit is of a day that has a value
-  pub block-day : (P : ℤ → ℤ → Type 0) → AllByRecursion (λ x. P x.0 x.1) days → (j : ℕ) → j < 32 → bit_at word j ≡ 1 → P (block_start b +ℤ pos j) (get_or values j (pos 0))
+  pub block-day : (P : ℤ → ℤ → Type 0) → AllByRecursion (λ x. P x.0 x.1) days → (j : ℕ) → j < 32 → bit_at word j ≡ 1
+      → P (block_start b +ℤ pos j) (get_or values j (pos 0))
   block-day P all j lt bit =
       value_on-among P days (block_start b +ℤ pos j) (get_or values j (pos 0)) all
       (sym (of_block.holds j lt) ∙ ap (λ (k : ℕ). if_so (k == 1) (get_or values j (pos 0))) bit)

@@ -1,19 +1,25 @@
 -- One more summary of a list, as a loop comes to it.
-use Rattle.std.proofs.Common.{◌≡◌, ℕ, ◌+◌, ◌-◌, ◌*◌, ◌<◌, ◌≤◌, Bool, true, false, cond, List, [], ◌∷◌, ◌++◌, map, length, get_or, take, drop, Option, Some, None, refl, ap, ◌∙◌, subst, arith, ℤ, pos, neg_ℤ, ◌≤ℤ◌, ◌<ℤ◌, ◌+ℤ◌, to_z, of_z, w32, w64}
-use Rattle.std.specs.List.{AllByRecursion}
+use Rattle.std.proofs.Common.{◌≡◌, ℕ, ◌+◌, ◌-◌, ◌*◌, ◌<◌, ◌≤◌, Bool, true, false, cond, List, [], ◌∷◌, ◌++◌, map}
+use Rattle.std.proofs.Common.{length, get_or, take, drop, Option, Some, None, refl, sym, ap, ◌∙◌, subst, arith, ℤ, pos}
+use Rattle.std.proofs.Common.{neg_ℤ, ◌≤ℤ◌, ◌<ℤ◌, ◌+ℤ◌, to_z, of_z, w64}
+use Rattle.std.specs.Int.{int_max}
+use Rattle.std.specs.Prelude.{int_le}
+use Rattle.rank_blocks.specs.Blocks.{is_among}
+use Rattle.rank_blocks.specs.Greatest.{IsGreatest}
 use Rattle.std.specs.Option.{IfSome, unwrap_or}
 use Rattle.std.proofs.lemmas.Int.{ints}
-use Rattle.std.proofs.lemmas.List.{append-nil, drop_more, take_all, length-drop}
+use Rattle.std.proofs.lemmas.List.{append-nil, drop_all, drop_more, take_all, length-drop}
 use Rattle.std.proofs.lemmas.List.Elements.{All-from_recursion, All-get_or, filter_more}
+use Rattle.ghcn_fields.specs.Sorting.{greatest}
 use Rattle.rank_blocks.specs.declared.range.BlockRange.{BlockRange}
 use Rattle.rank_blocks.specs.declared.summary.Summary.{Summary}
-use Rattle.rank_blocks.specs.Blocks.{block_start}
-use Rattle.rank_blocks.specs.Reached.{IsNear, in_range, summaries_in, summaries_total}
+use Rattle.rank_blocks.specs.Reached.{IsNear, IsTotalFrom, in_range, summaries_in, summaries_total}
 use Rattle.rank_blocks.specs.Summaries.{IsPossible, ArePossible}
-use Rattle.rank_blocks.proofs.Members.{from_each}
-use Rattle.rank_blocks.proofs.DayValues.{both_pass, int_le-true}
-use Rattle.rank_blocks.proofs.PossibleBlocks.{sorted-behind, possible-tail}
-use Rattle.rank_blocks.proofs.WindowTotals.{AreBehind, total-in, total-out, total-behind, among-from, before-among}
+use Rattle.rank_blocks.proofs.Members.{from_each, all-drop}
+use Rattle.rank_blocks.proofs.DayTests.{int_le-true}
+use Rattle.rank_blocks.proofs.PossibleBlocks.{sorted-behind, possible-drop}
+use Rattle.rank_blocks.proofs.WindowTotals.{AreBehind, AreFalls, IsSoFar, total-in, total-out, total-behind, so_far-in}
+use Rattle.rank_blocks.proofs.WindowTotals.{so_far-out, so_far-end}
 
 -- what stands behind the end of a list of summaries
 abbrev pub no_block : Summary
@@ -35,21 +41,12 @@ left-whole ms i = take_all (length ms - i) (drop i ms) (let len = length-drop i 
 pub possible-at : (ms : List Summary) (i : ℕ) → i < length ms → ArePossible ms → IsPossible (block_at ms i)
 possible-at ms i lt h = All-get_or IsPossible ms i no_block lt (All-from_recursion IsPossible ms h.each)
 
--- its number is read as it was written
-pub number-at : (m : Summary) → IsPossible m → to_z w32 (of_z w32 m.number) ≡ m.number
-number-at m h =
-    let low = h.low in
-    let high = h.high in
-    omega (arith, ints)
-
--- what is left is possible
-pub possible-left : (ms : List Summary) (i : ℕ) → i < length ms → ArePossible (drop i ms) → ArePossible (drop (i + 1) ms)
-possible-left ms i lt h = possible-tail (block_at ms i) (drop (i + 1) ms) (subst ArePossible (left-at ms i lt) h)
-
 -- what is left behind a summary has greater numbers
-pub behind-left : (ms : List Summary) (i : ℕ) → i < length ms → ArePossible (drop i ms) → AreBehind (block_at ms i).number (drop (i + 1) ms)
+pub behind-left : (ms : List Summary) (i : ℕ) → i < length ms → ArePossible ms
+    → AreBehind (block_at ms i).number (drop (i + 1) ms)
 behind-left ms i lt h =
-    let here : ArePossible (block_at ms i ∷ drop (i + 1) ms) = subst ArePossible (left-at ms i lt) h in
+    let here : ArePossible (block_at ms i ∷ drop (i + 1) ms) = subst ArePossible (left-at ms i lt)
+    (possible-drop ms i h) in
     sorted-behind (block_at ms i) (drop (i + 1) ms) here.by_number
 
 -- ---- the greatest day
@@ -59,18 +56,39 @@ map-push : (f : Summary → ℤ) (ms : List Summary) (m : Summary) → map f (ms
 map-push f [] m = refl
 map-push f (x ∷ xs) m = ap (λ zs. f x ∷ zs) (map-push f xs m)
 
--- with a summary whose block lies in the range
-pub made-in : (f : Summary → ℤ) (r : BlockRange) (ms : List Summary) (i : ℕ) → i < length ms → in_range r (block_at ms i).number ≡ true
-    → map f (summaries_in r (take (i + 1) ms)) ≡ map f (summaries_in r (take i ms)) ++ f (block_at ms i) ∷ []
-made-in f r ms i lt holds =
-    ap (map f) (filter_more (λ m. in_range r m.number) ms i no_block lt ∙ ap (λ (b : Bool). summaries_in r (take i ms) ++ cond b (block_at ms i ∷ []) []) holds)
-    ∙ map-push f (summaries_in r (take i ms)) (block_at ms i)
+-- what a measure makes of the summaries before a place whose blocks lie in the range
+abbrev pub made : (Summary → ℤ) → BlockRange → List Summary → ℕ → List ℤ
+made f r ms i = map f (summaries_in r (take i ms))
 
--- with one whose block doesn't
-pub made-out : (f : Summary → ℤ) (r : BlockRange) (ms : List Summary) (i : ℕ) → i < length ms → in_range r (block_at ms i).number ≡ false
-    → map f (summaries_in r (take (i + 1) ms)) ≡ map f (summaries_in r (take i ms))
-made-out f r ms i lt out =
-    ap (map f) (filter_more (λ m. in_range r m.number) ms i no_block lt ∙ ap (λ (b : Bool). summaries_in r (take i ms) ++ cond b (block_at ms i ∷ []) []) out ∙ append-nil (summaries_in r (take i ms)))
+module _ (f : Summary → ℤ) (r : BlockRange) (ms : List Summary) (i : ℕ) (lt : i < length ms) where
+  -- with the summary at the place, as its block lies in the range or doesn't
+  made-next : (b : Bool) → in_range r (block_at ms i).number ≡ b
+      → made f r ms (i + 1) ≡ map f (summaries_in r (take i ms) ++ cond b (block_at ms i ∷ []) [])
+  made-next b is =
+      ap (map f) (filter_more (λ m. in_range r m.number) ms i no_block lt
+      ∙ ap (λ (b : Bool). summaries_in r (take i ms) ++ cond b (block_at ms i ∷ []) []) is)
+
+  -- the greatest with a summary of the range
+  pub greatest-in : (found : Option ℤ) (z next : ℤ) → in_range r (block_at ms i).number ≡ true
+      → greatest (made f r ms i) ≡ found
+      → f (block_at ms i) ≡ z → ((zs : List ℤ) → greatest zs ≡ found → greatest (zs ++ z ∷ []) ≡ Some next)
+      → greatest (made f r ms (i + 1)) ≡ Some next
+  greatest-in found z next holds so_far is greater =
+      ap greatest (made-next true holds ∙ map-push f (summaries_in r (take i ms)) (block_at ms i)
+      ∙ ap (λ (y : ℤ). made f r ms i ++ y ∷ []) is)
+      ∙ greater (made f r ms i) so_far
+
+  -- with another one
+  pub greatest-out : in_range r (block_at ms i).number ≡ false → greatest (made f r ms (i + 1)) ≡ greatest
+      (made f r ms i)
+  greatest-out out = ap greatest (made-next false out ∙ ap (map f) (append-nil (summaries_in r (take i ms))))
+
+-- a score that days can have is read as it was written
+pub near-read : (z : ℤ) → IsNear z → to_z w64 (of_z w64 z) ≡ z
+near-read z near =
+    let low = near.low in
+    let high = near.high in
+    omega (arith, ints)
 
 -- a score that was found is one that days can have, and so is none
 pub near-or_none : (o : Option ℤ) → IfSome o IsNear → IsNear (unwrap_or o (pos 0))
@@ -79,55 +97,111 @@ near-or_none (Some z) h = h
 
 -- ---- totals
 
--- behind a window nothing is left to add up
-pub nothing-past : (ms : List Summary) (i : ℕ) (w : ℕ) (first : ℤ) → i < length ms → ArePossible (drop i ms) → (first +ℤ pos w) ≤ℤ (block_at ms i).number → summaries_total (drop i ms) w first ≡ pos 0
-nothing-past ms i w first lt h past =
-    let behind = behind-left ms i lt h in
-    ap (λ ks. summaries_total ks w first) (left-at ms i lt)
-    ∙ total-behind (block_at ms i ∷ drop (i + 1) ms) w first
-    (past, from_each (λ m. (block_at ms i).number <ℤ m.number) (λ m. (first +ℤ pos w) ≤ℤ m.number) (drop (i + 1) ms) (λ m lt. omega (arith, ints)) behind)
+-- a sum is that of the blocks of a window before a place of the summaries
+pub record IsSumTo (ms : List Summary) (w : ℕ) (first : ℤ) (i : ℕ) (sum : ℤ) : Type 0 where
+  pub low : neg_ℤ (pos (68_719_476_736 * i)) ≤ℤ sum
+  pub high : sum ≤ℤ pos (68_719_476_736 * i)
+  pub whole : (sum +ℤ summaries_total (drop i ms) w first) ≡ summaries_total ms w first
 
--- a block of the window is added
-pub added-in : (ms : List Summary) (i : ℕ) (w : ℕ) (first sum next whole : ℤ) → i < length ms → first ≤ℤ (block_at ms i).number → (block_at ms i).number <ℤ (first +ℤ pos w)
-    → next ≡ sum +ℤ (block_at ms i).total → (sum +ℤ summaries_total (drop i ms) w first) ≡ whole → (next +ℤ summaries_total (drop (i + 1) ms) w first) ≡ whole
-added-in ms i w first sum next whole lt low high is so_far =
-    let left = ap (λ ks. summaries_total ks w first) (left-at ms i lt) in
-    let added = total-in (block_at ms i) (drop (i + 1) ms) w first (among-from first w (block_at ms i).number low high) in
+module _ (ms : List Summary) (possible : ArePossible ms) (w : ℕ) (first : ℤ) (i : ℕ) (lt : i < length ms) (sum : ℤ)
+    (far : IsSumTo ms w first i sum) where
+  -- what is to come, from the summary at the place on
+  left-total : summaries_total (drop i ms) w first ≡ summaries_total (block_at ms i ∷ drop (i + 1) ms) w first
+  left-total = ap (λ ks. summaries_total ks w first) (left-at ms i lt)
+
+  -- with the summary at the place the sum stays in bounds
+  pub sum-bounds : (neg_ℤ (pos (68_719_476_736 * (i + 1))) ≤ℤ (sum +ℤ (block_at ms i).total))
+      × ((sum +ℤ (block_at ms i).total) ≤ℤ pos (68_719_476_736 * (i + 1)))
+  sum-bounds =
+      let is = possible-at ms i lt possible in
+      let least = is.least_total in
+      let most = is.greatest_total in
+      let low = far.low in
+      let high = far.high in
+      (omega (arith, ints), omega (arith, ints))
+
+  -- a block of the window is added
+  pub sum-in : (next : ℤ) → next ≡ sum +ℤ (block_at ms i).total → is_among first w (block_at ms i).number ≡ true
+      → IsSumTo ms w first (i + 1) next
+  sum-in next is among =
+      let bounds = sum-bounds in
+      let low = bounds.0 in
+      let high = bounds.1 in
+      let left = left-total in
+      let added = total-in (block_at ms i) (drop (i + 1) ms) w first among in
+      let whole = far.whole in
+      record { low = omega (arith, ints); high = omega (arith, ints); whole = omega (arith, ints) }
+
+  -- another block isn't
+  pub sum-out : (next : ℤ) → next ≡ sum → is_among first w (block_at ms i).number ≡ false
+      → IsSumTo ms w first (i + 1) next
+  sum-out next is out =
+      let low = far.low in
+      let high = far.high in
+      let left = left-total in
+      let same = total-out (block_at ms i) (drop (i + 1) ms) w first out in
+      let whole = far.whole in
+      record { low = omega (arith, ints); high = omega (arith, ints); whole = omega (arith, ints) }
+
+  -- behind the window nothing is left to add up
+  pub sum-past : int_le (first +ℤ pos w) (block_at ms i).number ≡ true → sum ≡ summaries_total ms w first
+  sum-past test =
+      let past = int_le-true (first +ℤ pos w) (block_at ms i).number test in
+      let behind = behind-left ms i lt possible in
+      let none =
+      total-behind (block_at ms i ∷ drop (i + 1) ms) w first (
+        past,
+        from_each (λ m. (block_at ms i).number <ℤ m.number) (λ m. (first +ℤ pos w) ≤ℤ m.number) (drop (i + 1) ms)
+            (λ m lt. omega (arith, ints)) behind,
+      ) in
+      let left = left-total in
+      let whole = far.whole in
+      omega (arith, ints)
+
+-- nor behind the last block
+pub sum-end : (ms : List Summary) (w : ℕ) (first : ℤ) (i : ℕ) (sum : ℤ) → length ms ≤ i → IsSumTo ms w first i sum
+    → sum ≡ summaries_total ms w first
+sum-end ms w first i sum end far =
+    let none = ap (λ ks. summaries_total ks w first) (drop_all i ms end) in
+    let whole = far.whole in
     omega (arith, ints)
 
--- a block before it isn't
-pub added-out : (ms : List Summary) (i : ℕ) (w : ℕ) (first sum whole : ℤ) → i < length ms → (block_at ms i).number <ℤ first
-    → (sum +ℤ summaries_total (drop i ms) w first) ≡ whole → (sum +ℤ summaries_total (drop (i + 1) ms) w first) ≡ whole
-added-out ms i w first sum whole lt before so_far =
-    let left = ap (λ ks. summaries_total ks w first) (left-at ms i lt) in
-    let same = total-out (block_at ms i) (drop (i + 1) ms) w first (before-among first w (block_at ms i).number before) in
-    omega (arith, ints)
+-- ---- the greatest total
 
--- a sum of totals is read as it was written
-pub sum-read : (i : ℕ) (a b r : ℤ) → i < 114_128 → neg_ℤ (pos (68_719_476_736 * i)) ≤ℤ a → a ≤ℤ pos (68_719_476_736 * i) → neg_ℤ (pos 68_719_476_736) ≤ℤ b → b ≤ℤ pos 68_719_476_736
-    → r ≡ a +ℤ to_z w64 (of_z w64 b) → to_z w64 (of_z w64 r) ≡ a +ℤ b
-sum-read i a b r lt low high least most is =
-    let same : to_z w64 (of_z w64 b) ≡ b = omega (arith, ints) in
-    let sum : r ≡ a +ℤ b = is ∙ ap (λ (z : ℤ). a +ℤ z) same in
-    omega (arith, ints)
+-- where no total is below zero and the range has a block, the greatest total is known up to a place
+abbrev pub IsMostTo : BlockRange → ℕ → List Summary → ℕ → ℤ → Type 0
+IsMostTo r w ms i found = AreFalls ms → r.first ≤ℤ r.last → IsSoFar r w ms (drop i ms) found
 
--- ---- runs
+module _ (r : BlockRange) (w : ℕ) (ms : List Summary) (possible : ArePossible ms) (i : ℕ) (lt : i < length ms)
+    (found : ℤ)
+    (far : IsMostTo r w ms i found) where
+  -- what is known at the summary at the place
+  most-here : AreFalls ms → r.first ≤ℤ r.last → IsSoFar r w ms (block_at ms i ∷ drop (i + 1) ms) found
+  most-here falls le = subst (λ ks. IsSoFar r w ms ks found) (left-at ms i lt) (far falls le)
 
--- the blocks of a range that are left begin behind a block
-pub ahead-in : (r : BlockRange) (n : ℤ) (days before : ℕ) (later : List Summary) → AreBehind n later → (block_start r.first +ℤ pos before) ≡ block_start n → days ≡ before + 32
-    → AllByRecursion (λ m. in_range r m.number ≡ true → (block_start r.first +ℤ pos days) ≤ℤ block_start m.number) later
-ahead-in r n days before later behind starts is = from_each (λ m. n <ℤ m.number) (λ m. in_range r m.number ≡ true → (block_start r.first +ℤ pos days) ≤ℤ block_start m.number) later (λ m lt holds. omega (arith, ints)) behind
+  -- no total from there on is below zero
+  falls-here : AreFalls ms → AreFalls (block_at ms i ∷ drop (i + 1) ms)
+  falls-here falls = subst AreFalls (left-at ms i lt) (all-drop (λ m. pos 0 ≤ℤ m.total) ms i falls)
 
--- at first they begin at the range's first block or behind it
-pub ahead-start : (r : BlockRange) (ms : List Summary) → AllByRecursion (λ m. in_range r m.number ≡ true → (block_start r.first +ℤ pos 0) ≤ℤ block_start m.number) ms
-ahead-start r [] = tt
-ahead-start r (m ∷ ms) = (λ holds. let low = int_le-true r.first m.number (both_pass _ _ holds).0 in omega (arith, ints), ahead-start r ms)
+  -- the window from a block of the range on is looked at
+  pub most-in : (next : ℤ) → next ≡ int_max found (summaries_total (drop i ms) w (block_at ms i).number)
+      → in_range r (block_at ms i).number ≡ true → IsMostTo r w ms (i + 1) next
+  most-in next is holds falls le =
+      let total = ap (λ ks. int_max found (summaries_total ks w (block_at ms i).number)) (left-at ms i lt) in
+      subst (IsSoFar r w ms (drop (i + 1) ms)) (sym (is ∙ total))
+      (so_far-in r w ms (block_at ms i) (drop (i + 1) ms) found (most-here falls le) (falls-here falls)
+      (behind-left ms i lt possible) holds)
 
--- where a block of a range is at hand, the days told of end before it
-pub ahead-at : (r : BlockRange) (ms : List Summary) (i days before : ℕ) (from : ℤ) → i < length ms → AllByRecursion (λ m. in_range r m.number ≡ true → (block_start r.first +ℤ pos days) ≤ℤ block_start m.number) (drop i ms)
-    → in_range r (block_at ms i).number ≡ true → from ≡ r.first → (block_start from +ℤ pos before) ≡ block_start (block_at ms i).number → days ≤ before
-ahead-at r ms i days before from lt ahead holds same starts =
-    let Ahead : List Summary → Type 0 = AllByRecursion (λ m. in_range r m.number ≡ true → (block_start r.first +ℤ pos days) ≤ℤ block_start m.number) in
-    let all : Ahead (block_at ms i ∷ drop (i + 1) ms) = subst Ahead (left-at ms i lt) ahead in
-    let here = all.0 holds in
-    omega (arith, ints)
+  -- another block changes nothing
+  pub most-out : (next : ℤ) → next ≡ found → in_range r (block_at ms i).number ≡ false → IsMostTo r w ms (i + 1) next
+  most-out next is out falls le =
+      subst (IsSoFar r w ms (drop (i + 1) ms)) (sym is)
+      (so_far-out r w ms (block_at ms i) (drop (i + 1) ms) found (most-here falls le) (falls-here falls)
+      (behind-left ms i lt possible) out)
+
+-- behind the last block
+pub most-end : (r : BlockRange) (w : ℕ) (ms : List Summary) (i : ℕ) (found : ℤ) → length ms ≤ i
+    → IsMostTo r w ms i found
+    → AreFalls ms → r.first ≤ℤ r.last → IsGreatest (IsTotalFrom r ms w) found
+most-end r w ms i found end far falls le =
+    so_far-end r w ms found falls (subst (λ ks. IsSoFar r w ms ks found) (drop_all i ms end) (far falls le))

@@ -1,5 +1,6 @@
 -- The bound of a series is found from its summaries.
-use Rattle.std.proofs.Common.{◌≡◌, ℕ, Bool, true, List, map, filter, Option, Some, None, sym, ap, ◌∙◌, subst, arith, ℤ, pos, ◌≤ℤ◌, ◌*ℤ◌}
+use Rattle.std.proofs.Common.{◌≡◌, ℕ, Bool, true, List, map, filter, Option, Some, None, sym, ap, ◌∙◌, subst, arith, ℤ}
+use Rattle.std.proofs.Common.{pos, ◌≤ℤ◌, ◌*ℤ◌}
 use Rattle.std.specs.Prelude.{◌&&◌, int_le}
 use Rattle.std.specs.List.{Contains}
 use Rattle.std.specs.Option.{unwrap_or}
@@ -9,7 +10,9 @@ use Rattle.std.proofs.lemmas.Int.{ints}
 use Rattle.ghcn_fields.specs.Days.{block_of, first_day, last_day, is_day}
 use Rattle.ghcn_fields.specs.Sorting.{greatest}
 use Rattle.ghcn_series.specs.Series.{DayValue, Usable}
+use Rattle.ghcn_files.specs.declared.element.Element.{Element}
 use Rattle.rank_query.specs.declared.score.Score.{Score}
+use Rattle.rank_query.specs.declared.score.Score.TheVariants.{Sum}
 use Rattle.rank_query.specs.Asked.{Asked, IsAsked, is_period}
 use Rattle.rank_scores.specs.Candidates.{is_such}
 use Rattle.rank_scores.specs.Morsels.{IsAbove}
@@ -19,21 +22,17 @@ use Rattle.rank_blocks.specs.declared.extreme.Extreme.TheVariants as extremes
 use Rattle.rank_blocks.specs.declared.summary.Summary.{Summary}
 use Rattle.rank_blocks.specs.Blocks.{days_in, days_reached, is_reached, period_of}
 use Rattle.rank_blocks.specs.Bounds.{blocks_of_window, bound, IsAskedOf}
-use Rattle.rank_blocks.specs.Greatest.{IsGreatest, IsScore, IsBlocksTotal, IsRunLength, IsSumBound, IsBoundFor, IsBound}
-use Rattle.rank_blocks.specs.Reached.{in_range, summaries_in, score_of, extreme_of, IsTotalFrom}
+use Rattle.rank_blocks.specs.Greatest.{IsGreatest, IsScore, IsBlocksTotal, IsRunLength, IsBoundFor, IsBound}
+use Rattle.rank_blocks.specs.Reached.{IsRangeOf, in_range, summaries_in, score_of, extreme_of, IsTotalFrom}
 use Rattle.rank_blocks.specs.Summaries.{IsSummary, AreSummaries}
 use Rattle.rank_blocks.proofs.Members.{from_each, pick, stands, greatest-exists}
-use Rattle.rank_blocks.proofs.DayValues.{both_pass, int_le-true, block-rises}
+use Rattle.rank_blocks.proofs.DayTests.{both_pass, int_le-true}
+use Rattle.rank_blocks.proofs.DayValues.{block-rises}
 use Rattle.rank_blocks.proofs.WindowTotals.{AreFalls}
 use Rattle.rank_blocks.proofs.Totals.{summaries_total-is}
 use Rattle.rank_blocks.proofs.ReachedDays.{admitted-reached, greatest-of_blocks}
-use Rattle.rank_blocks.proofs.Above.{AreFallen, total-fallen, bound-IsAbove}
+use Rattle.rank_blocks.proofs.Above.{AreFallen, total-fallen, sums-fall, bound-IsAbove}
 use Rattle.rank_blocks.proofs.Computed.{some_admitted, bound-unique, computed-IsBound}
-
--- the range of the blocks of the query's period
-pub record IsRangeOf (r : BlockRange) (q : Asked) : Type 0 where
-  pub first : r.first ≡ block_of (period_of q.period).0
-  pub last : r.last ≡ block_of (period_of q.period).1
 
 -- its blocks are those of the period
 pub range-is : (r : BlockRange) (q : Asked) → IsRangeOf r q → in_range r ≡ is_reached q.period
@@ -58,34 +57,49 @@ range-rises r q of asked =
     omega (arith, ints)
 
 -- what an extreme is of a summary is the greatest of what it makes of the block's values
-extreme-told : (k : Extreme) (days : List DayValue) (m : Summary) → IsSummary days m → IsGreatest (IsScore (score_of k) (days_in days m.number)) (extreme_of k m)
+extreme-told : (k : Extreme) (days : List DayValue) (m : Summary) → IsSummary days m
+    → IsGreatest (IsScore (score_of k) (days_in days m.number)) (extreme_of k m)
 extreme-told extremes.Highest days m is = is.values.greatest_value
 extreme-told extremes.Lowest days m is = is.values.least_value
 
-module _ (r : BlockRange) (q : Asked) (s : Usable) (ms : List Summary) (of : IsRangeOf r q) (are : AreSummaries s ms) (asked_of : IsAskedOf q s) where
+-- a bound for the query's score is the bound
+pub bound-for : (q : Asked) (s : Usable) (score : Score) (z : ℤ) → q.score ≡ score → IsBoundFor score q s z
+    → IsBound q s z
+bound-for q s score z is of_z = subst (λ (k : Score). IsBoundFor k q s z) (sym is) of_z
+
+module _ (r : BlockRange) (q : Asked) (s : Usable) (ms : List Summary) (of : IsRangeOf r q) (are : AreSummaries s ms)
+    (asked_of : IsAskedOf q s) where
   -- a summary of a block of the range
   some_block : (g : Summary → ℤ) → (z : ℤ) × (greatest (map g (summaries_in r ms)) ≡ Some z)
   some_block g =
-      let day = some_admitted q s (λ x. Contains (map (λ m. m.number) ms) (block_of x.0)) asked_of.admitted_day are.all in
+      let day = some_admitted q s (λ x. Contains (map (λ m. m.number) ms) (block_of x.0)) asked_of.admitted_day
+      are.all in
       let Stands : Summary → Type 0 = λ m. in_range r m.number ≡ true → Contains (map g (summaries_in r ms)) (g m) in
       let block = pick (λ m. m.number) Stands ms (block_of day.0.0) (stands g (λ m. in_range r m.number) ms) day.1 in
-      let holds : in_range r (block_of day.0.0) ≡ true = ap (λ (P : ℤ → Bool). P (block_of day.0.0)) (range-is r q of) ∙ admitted-reached q day.0.0 day.2 in
+      let holds : in_range r (block_of day.0.0) ≡ true = ap (λ (P : ℤ → Bool). P (block_of day.0.0)) (range-is r q of)
+      ∙ admitted-reached q day.0.0 day.2 in
       greatest-exists (map g (summaries_in r ms)) (g block.0) (block.1 (ap (in_range r) block.2 ∙ holds))
 
   -- the greatest score of a day, from the summaries
-  pub day-met : (k : Extreme) (z : ℤ) → z ≡ unwrap_or (greatest (map (extreme_of k) (summaries_in r ms))) (pos 0) → IsGreatest (IsScore (score_of k) (days_reached q s)) z
+  pub day-met : (k : Extreme) (z : ℤ) → z ≡ unwrap_or (greatest (map (extreme_of k) (summaries_in r ms))) (pos 0)
+      → IsGreatest (IsScore (score_of k) (days_reached q s)) z
   day-met k z is =
       let some = some_block (extreme_of k) in
       let same : some.0 ≡ z = sym (is ∙ ap (λ (o : Option ℤ). unwrap_or o (pos 0)) some.1) in
-      let in_blocks = greatest-of_blocks (score_of k) (extreme_of k) (in_range r) s ms are (extreme-told k s.days) some.0 some.1 in
-      let P : (ℤ → Bool) → Type 0 = λ p. IsGreatest (IsScore (score_of k) (filter (λ x. p (block_of x.0)) s.days)) some.0 in
+      let in_blocks = greatest-of_blocks (score_of k) (extreme_of k) (in_range r) s ms are
+      (extreme-told k s.days) some.0 some.1 in
+      let P : (ℤ → Bool) → Type 0 = λ p. IsGreatest (IsScore (score_of k) (filter (λ x. p (block_of x.0)) s.days))
+      some.0 in
       let Q : ℤ → Type 0 = λ n. IsGreatest (IsScore (score_of k) (days_reached q s)) n in
       subst Q same (subst P (range-is r q of) in_blocks)
 
   -- the longest run, from the summaries
-  pub run-met : (test : ℤ → Bool) (z : ℤ) → IsGreatest (IsRunLength (is_such test (filter (λ x. in_range r (block_of x.0)) s.days))) z → IsGreatest (IsRunLength (is_such test (days_reached q s))) z
+  pub run-met : (test : ℤ → Bool) (z : ℤ)
+      → IsGreatest (IsRunLength (is_such test (filter (λ x. in_range r (block_of x.0)) s.days))) z
+      → IsGreatest (IsRunLength (is_such test (days_reached q s))) z
   run-met test z longest =
-      let P : (ℤ → Bool) → Type 0 = λ p. IsGreatest (IsRunLength (is_such test (filter (λ x. p (block_of x.0)) s.days))) z in
+      let P : (ℤ → Bool) → Type 0 = λ p. IsGreatest (IsRunLength (is_such test (filter (λ x. p (block_of x.0)) s.days)))
+      z in
       subst P (range-is r q of) longest
 
   -- no total of a block is below zero, where no value is
@@ -103,24 +117,31 @@ module _ (r : BlockRange) (q : Asked) (s : Usable) (ms : List Summary) (of : IsR
       let same = range-is r q of in
       let one = of_z.is_one in
       record {
-        is_one = (one.0, sym (ap (λ (P : ℤ → Bool). P one.0) same) ∙ one.1, sym (summaries_total-is s ms are w one.0) ∙ one.2);
-        is_most = λ y h. of_z.is_most y (h.0, ap (λ (P : ℤ → Bool). P h.0) same ∙ h.1, summaries_total-is s ms are w h.0 ∙ h.2);
+        is_one = (
+          one.0,
+          sym (ap (λ (P : ℤ → Bool). P one.0) same) ∙ one.1,
+          sym (summaries_total-is s ms are w one.0)
+              ∙ one.2,
+        );
+        is_most =
+            λ y h. of_z.is_most y
+            (h.0, ap (λ (P : ℤ → Bool). P h.0) same ∙ h.1, summaries_total-is s ms are w h.0 ∙ h.2);
       }
 
   -- the bound of sums, from the summaries
-  pub sum-met : (n : ℕ) (value most z : ℤ) → value ≡ unwrap_or (greatest (map (extreme_of extremes.Highest) (summaries_in r ms))) (pos 0) → IsGreatest (IsTotalFrom r ms (blocks_of_window n)) most
-      → int_min (pos n *ℤ value) most ≡ z → IsSumBound q s n z
-  sum-met n value most z value_is of_most smaller = record {
-    value = value;
-    most = most;
-    greatest_value = day-met extremes.Highest value value_is;
-    greatest_total = total-met (blocks_of_window n) most of_most;
-    smaller = smaller;
-  }
-
--- a bound for the query's score is the bound
-pub bound-for : (q : Asked) (s : Usable) (score : Score) (z : ℤ) → q.score ≡ score → IsBoundFor score q s z → IsBound q s z
-bound-for q s score z is of_z = subst (λ (k : Score). IsBoundFor k q s z) (sym is) of_z
+  pub sum-met : (n : ℕ) (e : Element) (value most z : ℤ) → IsAsked q → q.score ≡ Sum n e
+      → value ≡ unwrap_or (greatest (map (extreme_of extremes.Highest) (summaries_in r ms))) (pos 0)
+      → (AreFalls ms → r.first ≤ℤ r.last → IsGreatest (IsTotalFrom r ms (blocks_of_window n)) most)
+      → z ≡ int_min (pos n *ℤ value) most → IsBound q s z
+  sum-met n e value most z asked score value_is of_most smaller =
+      let falls = totals-fall (sums-fall q s n e asked asked_of.series asked_of.element score) in
+      bound-for q s (Sum n e) z score (record {
+        value = value;
+        most = most;
+        greatest_value = day-met extremes.Highest value value_is;
+        greatest_total = total-met (blocks_of_window n) most (of_most falls (range-rises r q of asked));
+        smaller = sym smaller;
+      })
 
 -- the bound by what it is greatest of is the one that is computed
 pub bound-computed : (q : Asked) (s : Usable) (z : ℤ) → IsAsked q → IsAskedOf q s → IsBound q s z → z ≡ bound q s

@@ -1,5 +1,7 @@
 -- The bound as it is computed is the bound by what it is greatest of, and there is but one.
-use Rattle.std.proofs.Common.{◌≡◌, ℕ, zero, suc, ◌+◌, ◌<◌, ◌≤◌, Bool, true, false, cond, List, [], ◌∷◌, map, filter, length, ◌⊎◌, inl, inr, Option, refl, sym, ap, ◌∙◌, subst, arith, ℤ, pos, neg_ℤ, ◌≤ℤ◌, ◌+ℤ◌, ◌-ℤ◌, ◌*ℤ◌}
+use Rattle.std.proofs.Common.{◌≡◌, ℕ, zero, suc, ◌+◌, ◌<◌, ◌≤◌, Bool, true, false, cond, List, [], ◌∷◌, map, filter}
+use Rattle.std.proofs.Common.{length, ◌⊎◌, inl, inr, Option, refl, sym, ap, ◌∙◌, subst, arith, ℤ, pos, neg_ℤ, ◌≤ℤ◌}
+use Rattle.std.proofs.Common.{◌+ℤ◌, ◌-ℤ◌, ◌*ℤ◌}
 use Rattle.std.specs.Prelude.{◌&&◌, int_le}
 use Rattle.std.specs.List.{AllByRecursion, Contains, flat_map, range_with_len, list_all}
 use Rattle.std.specs.Option.{unwrap_or}
@@ -17,13 +19,14 @@ use Rattle.rank_query.specs.Admits.{admits_day}
 use Rattle.rank_scores.specs.Candidates.{is_dry, is_wet, is_such, admitted}
 use Rattle.rank_scores.specs.Runs.{run_len, longest_run, calendar_len}
 use Rattle.rank_blocks.specs.Blocks.{days_reached, is_reached, total, blocks_total, is_among}
-use Rattle.rank_blocks.specs.Bounds.{greatest_by, blocks_of_window, first_blocks, greatest_total, spell_bound, bound_for, bound, IsAskedOf}
+use Rattle.rank_blocks.specs.Bounds.{greatest_by, blocks_of_window, first_blocks, greatest_total, spell_bound}
+use Rattle.rank_blocks.specs.Bounds.{bound_for, bound, IsAskedOf}
 use Rattle.rank_blocks.specs.Greatest.{IsGreatest, IsScore, IsBlocksTotal, IsRunLength, IsSumBound, IsBoundFor, IsBound}
-use Rattle.rank_blocks.proofs.JoinedRuns.{at_most_or_more}
-use Rattle.rank_blocks.proofs.Members.{from_each, all-passing, pick, stands, contains-first, contains-behind, contains-cases, greatest-IsGreatest, greatest-exists, greatest-unique, nothing_said}
-use Rattle.rank_blocks.proofs.DayValues.{both_pass, int_le-true}
+use Rattle.rank_blocks.proofs.DayTests.{at_most_or_more, both_pass, int_le-true, distance}
+use Rattle.rank_blocks.proofs.Members.{from_each, all-passing, pick, stands, contains-first, contains-behind}
+use Rattle.rank_blocks.proofs.Members.{contains-cases, greatest-IsGreatest, greatest-exists, greatest-unique}
+use Rattle.rank_blocks.proofs.Members.{nothing_said}
 use Rattle.rank_blocks.proofs.WindowTotals.{among-parts}
-use Rattle.rank_blocks.proofs.LongestRuns.{distance}
 use Rattle.rank_blocks.proofs.ReachedDays.{admitted-reached, such-kept, such-has, value_on-among}
 use Rattle.rank_blocks.proofs.Above.{AreFallen, total-fallen, run-inside, run-at_least, sums-fall}
 
@@ -32,12 +35,16 @@ use Rattle.rank_blocks.proofs.Above.{AreFallen, total-fallen, run-inside, run-at
 -- the same value and the same total make the same bound of sums
 sum-unique : (q : Asked) (s : Usable) (n : ℕ) (y z : ℤ) → IsSumBound q s n y → IsSumBound q s n z → y ≡ z
 sum-unique q s n y z of_y of_z =
-    let value = greatest-unique (IsScore (λ v. v) (days_reached q s)) of_y.value of_z.value of_y.greatest_value of_z.greatest_value in
-    let most = greatest-unique (IsBlocksTotal q.period s.days (blocks_of_window n)) of_y.most of_z.most of_y.greatest_total of_z.greatest_total in
-    sym of_y.smaller ∙ ap (λ (v : ℤ). int_min (pos n *ℤ v) of_y.most) value ∙ ap (λ (t : ℤ). int_min (pos n *ℤ of_z.value) t) most ∙ of_z.smaller
+    let value = greatest-unique (IsScore (λ v. v) (days_reached q s)) of_y.value of_z.value of_y.greatest_value
+    of_z.greatest_value in
+    let most = greatest-unique (IsBlocksTotal q.period s.days (blocks_of_window n)) of_y.most of_z.most
+    of_y.greatest_total of_z.greatest_total in
+    sym of_y.smaller ∙ ap (λ (v : ℤ). int_min (pos n *ℤ v) of_y.most) value
+    ∙ ap (λ (t : ℤ). int_min (pos n *ℤ of_z.value) t) most ∙ of_z.smaller
 
 -- there is but one bound for a score
-unique-for : (score : Score) (q : Asked) (s : Usable) (y z : ℤ) → IsBoundFor score q s y → IsBoundFor score q s z → y ≡ z
+unique-for : (score : Score) (q : Asked) (s : Usable) (y z : ℤ) → IsBoundFor score q s y → IsBoundFor score q s z
+    → y ≡ z
 unique-for (Highest e) q s y z of_y of_z = greatest-unique (IsScore (λ v. v) (days_reached q s)) y z of_y of_z
 unique-for (Lowest e) q s y z of_y of_z = greatest-unique (IsScore neg_ℤ (days_reached q s)) y z of_y of_z
 unique-for (Sum n e) q s y z of_y of_z = sum-unique q s n y z of_y of_z
@@ -56,17 +63,22 @@ some_of R [] some h = absurd (omega arith)
 some_of R (x ∷ xs) some h = (x, h.0)
 
 -- an admitted day, of which all is true that is true of each day
-pub some_admitted : (q : Asked) (s : Usable) (Q : DayValue → Type 0) → 0 < length (admitted q s) → AllByRecursion Q s.days → (x : DayValue) × Q x × (admits_day q x.0 ≡ true)
+pub some_admitted : (q : Asked) (s : Usable) (Q : DayValue → Type 0) → 0 < length (admitted q s)
+    → AllByRecursion Q s.days → (x : DayValue) × Q x × (admits_day q x.0 ≡ true)
 some_admitted q s Q some all =
-    let found = some_of (λ x. Q x × (admits_day q x.0 ≡ true)) (admitted q s) some (all-passing Q (λ x. admits_day q x.0) s.days all) in
+    let found = some_of (λ x. Q x × (admits_day q x.0 ≡ true)) (admitted q s) some
+    (all-passing Q (λ x. admits_day q x.0) s.days all) in
     (found.0, found.1.0, found.1.1)
 
 -- the greatest score of the days reached, where there is one
-day-greatest : (f : ℤ → ℤ) (q : Asked) (s : Usable) → 0 < length (admitted q s) → IsGreatest (IsScore f (days_reached q s)) (greatest_by f (days_reached q s))
+day-greatest : (f : ℤ → ℤ) (q : Asked) (s : Usable) → 0 < length (admitted q s)
+    → IsGreatest (IsScore f (days_reached q s)) (greatest_by f (days_reached q s))
 day-greatest f q s some =
-    let Stands : DayValue → Type 0 = λ x. is_reached q.period (block_of x.0) ≡ true → Contains (map (λ y. f y.1) (days_reached q s)) (f x.1) in
+    let Stands : DayValue → Type 0 = λ x. is_reached q.period (block_of x.0) ≡ true
+    → Contains (map (λ y. f y.1) (days_reached q s)) (f x.1) in
     let day = some_admitted q s Stands some (stands (λ y. f y.1) (λ x. is_reached q.period (block_of x.0)) s.days) in
-    let exists = greatest-exists (map (λ y. f y.1) (days_reached q s)) (f day.0.1) (day.1 (admitted-reached q day.0.0 day.2)) in
+    let exists = greatest-exists (map (λ y. f y.1) (days_reached q s)) (f day.0.1)
+    (day.1 (admitted-reached q day.0.0 day.2)) in
     let P : Option ℤ → Type 0 = λ o. IsGreatest (IsScore f (days_reached q s)) (unwrap_or o (pos 0)) in
     subst P (sym exists.1) (greatest-IsGreatest (map (λ y. f y.1) (days_reached q s)) exists.0 exists.1)
 
@@ -87,20 +99,24 @@ contains-map : {X Y : Type 0} (f : X → Y) (xs : List X) → AllByRecursion (λ
 contains-map f [] = tt
 contains-map f (x ∷ xs) = (
   contains-first (f x) (f x) (map f xs) refl,
-  from_each (λ y. Contains (map f xs) (f y)) (λ y. Contains (map f (x ∷ xs)) (f y)) xs (λ y h. contains-behind (f x) (f y) (map f xs) h) (contains-map f xs),
+  from_each (λ y. Contains (map f xs) (f y)) (λ y. Contains (map f (x ∷ xs)) (f y)) xs
+      (λ y h. contains-behind (f x) (f y) (map f xs) h) (contains-map f xs),
 )
 
 -- what an element stands for, among what is made of a list
 contained : {X : Type 0} (P : X → Type 0) (xs : List X) (x : X) → AllByRecursion P xs → Contains xs x → P x
 contained P [] x h has = absurd (let lt = has.1 in omega arith)
-contained P (y ∷ ys) x h has = elim (contains-cases y x ys has) [ inl is ↦ subst P is h.0 | inr there ↦ contained P ys x h.1 there ]
+contained P (y ∷ ys) x h has =
+    elim (contains-cases y x ys has) [ inl is ↦ subst P is h.0 | inr there ↦ contained P ys x h.1 there ]
 
 -- what is in one of the lists that are made of elements is in all of them together
-contains-flat_map : (f : DayValue → List ℤ) (xs : List DayValue) → AllByRecursion (λ x. (y : ℤ) → Contains (f x) y → Contains (flat_map f xs) y) xs
+contains-flat_map : (f : DayValue → List ℤ) (xs : List DayValue) → AllByRecursion
+    (λ x. (y : ℤ) → Contains (f x) y → Contains (flat_map f xs) y) xs
 contains-flat_map f [] = tt
 contains-flat_map f (x ∷ xs) = (
   λ y h. Contains-append_left (f x) (flat_map f xs) y h,
-  from_each (λ z. (y : ℤ) → Contains (f z) y → Contains (flat_map f xs) y) (λ z. (y : ℤ) → Contains (f z) y → Contains (flat_map f (x ∷ xs)) y) xs
+  from_each (λ z. (y : ℤ) → Contains (f z) y → Contains (flat_map f xs) y)
+      (λ z. (y : ℤ) → Contains (f z) y → Contains (flat_map f (x ∷ xs)) y) xs
       (λ z h y has. Contains-append_right (f x) (flat_map f xs) y (h y has)) (contains-flat_map f xs),
 )
 
@@ -117,23 +133,30 @@ start-of w x first e =
     let far = distance first (block_of x.0) low in
     let is = far.1 in
     let lt : far.0 < w = omega (arith, ints) in
-    let there = contained (λ i. Contains (starts w x) (block_of x.0 -ℤ pos i)) (range_with_len 0 w) (0 + far.0) (contains-map (λ i. block_of x.0 -ℤ pos i) (range_with_len 0 w)) (contains-range 0 w far.0 lt) in
+    let there = contained (λ i. Contains (starts w x) (block_of x.0 -ℤ pos i)) (range_with_len 0 w) (0 + far.0)
+    (contains-map (λ i. block_of x.0 -ℤ pos i) (range_with_len 0 w)) (contains-range 0 w far.0 lt) in
     let same : block_of x.0 -ℤ pos (0 + far.0) ≡ first = omega (arith, ints) in
     let P : ℤ → Type 0 = Contains (starts w x) in
     subst P same there
 
 -- a window that holds a day has a total that is looked at, and one that holds none has nothing
-window-seen : (q : Asked) (w : ℕ) (first : ℤ) (all : List ℤ) (days : List DayValue) → AllByRecursion (λ x. (y : ℤ) → Contains (starts w x) y → Contains all y) days
+window-seen : (q : Asked) (w : ℕ) (first : ℤ) (all : List ℤ) (days : List DayValue)
+    → AllByRecursion (λ x. (y : ℤ) → Contains (starts w x) y → Contains all y) days
     → Contains all first ⊎ (blocks_total days w first ≡ pos 0)
 window-seen q w first all [] h = inr refl
 window-seen q w first all (x ∷ xs) h =
-    elim (is_among first w (block_of x.0)) as (λ b. is_among first w (block_of x.0) ≡ b → Contains all first ⊎ (total (map (λ y. y.1) (cond b (x ∷ filter (λ x. is_among first w (block_of x.0)) xs) (filter (λ x. is_among first w (block_of x.0)) xs))) ≡ pos 0)) [
+    elim (is_among first w (block_of x.0)) as (λ b. is_among first w (block_of x.0) ≡ b
+    → Contains all first ⊎
+    (total (map (λ y. y.1)
+    (cond b (x ∷ filter (λ x. is_among first w (block_of x.0)) xs)
+    (filter (λ x. is_among first w (block_of x.0)) xs))) ≡ pos 0)) [
       | true ↦ λ e. inl (h.0 first (start-of w x first e))
       | false ↦ λ e. window-seen q w first all xs h.1
     ] refl
 
 -- the greatest total of windows that begin in the period
-pub total-greatest : (q : Asked) (s : Usable) (w : ℕ) → 0 < w → 0 < length (admitted q s) → AreFallen s.days → IsGreatest (IsBlocksTotal q.period s.days w) (greatest_total q s.days w)
+pub total-greatest : (q : Asked) (s : Usable) (w : ℕ) → 0 < w → 0 < length (admitted q s) → AreFallen s.days
+    → IsGreatest (IsBlocksTotal q.period s.days w) (greatest_total q s.days w)
 total-greatest q s w some_blocks some falls =
     let all : List ℤ = flat_map (starts w) s.days in
     let T : ℤ → ℤ = blocks_total s.days w in
@@ -141,15 +164,23 @@ total-greatest q s w some_blocks some falls =
     let each = contains-flat_map (starts w) s.days in
     let day = some_admitted q s Starts some each in
     let reached = admitted-reached q day.0.0 day.2 in
-    let Stands : ℤ → Type 0 = λ b. is_reached q.period b ≡ true → Contains (map (blocks_total s.days w) (first_blocks q s.days w)) (blocks_total s.days w b) in
-    let stand : AllByRecursion Stands (flat_map (starts w) s.days) = stands (blocks_total s.days w) (is_reached q.period) (flat_map (starts w) s.days) in
-    let own = contained (λ i. Contains (starts w day.0) (block_of day.0.0 -ℤ pos i)) (range_with_len 0 w) (0 + 0) (contains-map (λ i. block_of day.0.0 -ℤ pos i) (range_with_len 0 w)) (contains-range 0 w 0 some_blocks) in
+    let Stands : ℤ → Type 0 = λ b. is_reached q.period b ≡ true
+    → Contains (map (blocks_total s.days w) (first_blocks q s.days w)) (blocks_total s.days w b) in
+    let stand : AllByRecursion Stands (flat_map (starts w) s.days) = stands (blocks_total s.days w)
+    (is_reached q.period) (flat_map (starts w) s.days) in
+    let own = contained (λ i. Contains (starts w day.0) (block_of day.0.0 -ℤ pos i)) (range_with_len 0 w) (0 + 0)
+    (contains-map (λ i. block_of day.0.0 -ℤ pos i) (range_with_len 0 w)) (contains-range 0 w 0 some_blocks) in
     let same : block_of day.0.0 -ℤ pos (0 + 0) ≡ block_of day.0.0 = omega (arith, ints) in
     let Among : ℤ → Type 0 = Contains (flat_map (starts w) s.days) in
-    let here = contained Stands (flat_map (starts w) s.days) (block_of day.0.0) stand (subst Among same (day.1 (block_of day.0.0 -ℤ pos (0 + 0)) own)) reached in
-    let exists = greatest-exists (map (blocks_total s.days w) (first_blocks q s.days w)) (blocks_total s.days w (block_of day.0.0)) here in
+    let here = contained Stands (flat_map (starts w) s.days) (block_of day.0.0) stand
+    (subst Among same (day.1 (block_of day.0.0 -ℤ pos (0 + 0)) own)) reached in
+    let exists = greatest-exists (map (blocks_total s.days w) (first_blocks q s.days w))
+    (blocks_total s.days w (block_of day.0.0)) here in
     let of_z = greatest-IsGreatest (map (blocks_total s.days w) (first_blocks q s.days w)) exists.0 exists.1 in
-    let found = pick (blocks_total s.days w) (λ b. Unit {0} × (is_reached q.period b ≡ true)) (first_blocks q s.days w) exists.0 (all-passing (λ b. Unit {0}) (is_reached q.period) (flat_map (starts w) s.days) (nothing_said (flat_map (starts w) s.days))) of_z.is_one in
+    let found = pick (blocks_total s.days w) (λ b. Unit {0} × (is_reached q.period b ≡ true))
+    (first_blocks q s.days w) exists.0
+    (all-passing (λ b. Unit {0}) (is_reached q.period) (flat_map (starts w) s.days)
+    (nothing_said (flat_map (starts w) s.days))) of_z.is_one in
     let P : Option ℤ → Type 0 = λ o. IsGreatest (IsBlocksTotal q.period s.days w) (unwrap_or o (pos 0)) in
     subst P (sym exists.1)
     (record {
@@ -158,7 +189,9 @@ total-greatest q s w some_blocks some falls =
           let is = h.2 in
           elim (window-seen q w h.0 (flat_map (starts w) s.days) s.days each) [
             | inl seen ↦
-                let below = of_z.is_most (blocks_total s.days w h.0) (contained Stands (flat_map (starts w) s.days) h.0 stand seen h.1) in
+                let below =
+                of_z.is_most (blocks_total s.days w h.0)
+                (contained Stands (flat_map (starts w) s.days) h.0 stand seen h.1) in
                 omega (arith, ints)
             | inr none ↦
                 let fall = total-fallen (λ x. is_among found.0 w (block_of x.0)) s.days falls in
@@ -189,18 +222,22 @@ longest-most : (such : ℤ → Bool) (ns : List ℤ) → AllByRecursion (λ a. r
 longest-most such [] = tt
 longest-most such (a ∷ ns) = (
   le-max_left (run_len such a) (longest_run such ns),
-  from_each (λ b. run_len such b ≤ longest_run such ns) (λ b. run_len such b ≤ longest_run such (a ∷ ns)) ns (λ b le. let more = le-max_right (run_len such a) (longest_run such ns) in omega arith) (longest-most such ns),
+  from_each (λ b. run_len such b ≤ longest_run such ns) (λ b. run_len such b ≤ longest_run such (a ∷ ns)) ns
+      (λ b le. let more = le-max_right (run_len such a) (longest_run such ns) in omega arith) (longest-most such ns),
 )
 
 -- each day of a series is one of the calendar
-pub days-valid : (s : Usable) (days : List DayValue) → list_all (λ x. is_day x.0 && is_value s.element x.1) days ≡ true → AllByRecursion (λ x. is_day x.0 ≡ true) days
+pub days-valid : (s : Usable) (days : List DayValue) → list_all (λ x. is_day x.0 && is_value s.element x.1) days ≡ true
+    → AllByRecursion (λ x. is_day x.0 ≡ true) days
 days-valid s [] h = tt
 days-valid s (x ∷ xs) h =
-    let parts = both_pass (is_day x.0 && is_value s.element x.1) (list_all (λ x. is_day x.0 && is_value s.element x.1) xs) h in
+    let parts =
+    both_pass (is_day x.0 && is_value s.element x.1) (list_all (λ x. is_day x.0 && is_value s.element x.1) xs) h in
     ((both_pass (is_day x.0) (is_value s.element x.1) parts.0).0, days-valid s xs parts.1)
 
 -- a day that passes, of those reached, is a day of the calendar
-such-is_day : (test : ℤ → Bool) (q : Asked) (s : Usable) → IsSeries s → (d : ℤ) → is_such test (days_reached q s) d ≡ true → (first_day ≤ℤ d) × (d ≤ℤ last_day)
+such-is_day : (test : ℤ → Bool) (q : Asked) (s : Usable) → IsSeries s → (d : ℤ)
+    → is_such test (days_reached q s) d ≡ true → (first_day ≤ℤ d) × (d ≤ℤ last_day)
 such-is_day test q s series d e =
     let kept = such-kept test (λ n. is_reached q.period (block_of n)) s.days d e in
     let has = such-has test (value_on s.days d) kept.1 in
@@ -214,42 +251,56 @@ of_days P [] h = tt
 of_days P (x ∷ xs) h = (h.0, of_days P xs h.1)
 
 -- a day that passes is one of those from which runs are counted
-such-listed : (test : ℤ → Bool) (days : List DayValue) (P : ℤ → Type 0) (d : ℤ) → AllByRecursion P (map (λ x. x.0) days) → is_such test days d ≡ true → P d
+such-listed : (test : ℤ → Bool) (days : List DayValue) (P : ℤ → Type 0) (d : ℤ) → AllByRecursion P (map (λ x. x.0) days)
+    → is_such test days d ≡ true → P d
 such-listed test days P d all e =
     let has = such-has test (value_on days d) e in
     value_on-among (λ (n v : ℤ). P n) days d has.0 (of_days P days all) has.1
 
 -- no run of days that pass is longer than the longest that is counted
-run-most : (test : ℤ → Bool) (q : Asked) (s : Usable) → IsSeries s → (len : ℕ) (a : ℤ) → ((i : ℕ) → i < len → is_such test (days_reached q s) (a +ℤ pos i) ≡ true) → len ≤ longest_run (is_such test (days_reached q s)) (map (λ x. x.0) (days_reached q s))
+run-most : (test : ℤ → Bool) (q : Asked) (s : Usable) → IsSeries s → (len : ℕ) (a : ℤ)
+    → ((i : ℕ) → i < len → is_such test (days_reached q s) (a +ℤ pos i) ≡ true)
+    → len ≤ longest_run (is_such test (days_reached q s)) (map (λ x. x.0) (days_reached q s))
 run-most test q s series zero a pass = omega arith
 run-most test q s series (suc n) a pass =
     let such : ℤ → Bool = is_such test (days_reached q s) in
     let same : a +ℤ pos 0 ≡ a = omega (arith, ints) in
-    let first : is_such test (days_reached q s) a ≡ true = ap (is_such test (days_reached q s)) (sym same) ∙ pass 0 (omega arith) in
+    let first : is_such test (days_reached q s) a ≡ true = ap (is_such test (days_reached q s)) (sym same)
+    ∙ pass 0 (omega arith) in
     let begins = such-is_day test q s series a first in
     let ends = such-is_day test q s series (a +ℤ pos n) (pass n (omega arith)) in
     let low = begins.0 in
     let high = ends.1 in
     let counted = run-at_least (is_such test (days_reached q s)) (suc n) calendar_len a (omega (arith, ints)) pass in
-    let most = such-listed test (days_reached q s) (λ b. run_len (is_such test (days_reached q s)) b ≤ longest_run (is_such test (days_reached q s)) (map (λ x. x.0) (days_reached q s))) a
+    let most =
+    such-listed test (days_reached q s)
+    (λ b. run_len (is_such test (days_reached q s)) b ≤ longest_run (is_such test (days_reached q s))
+    (map (λ x. x.0) (days_reached q s))) a
     (longest-most (is_such test (days_reached q s)) (map (λ x. x.0) (days_reached q s))) first in
     omega arith
 
 -- the longest run of days that pass, of those reached
-run-greatest : (test : ℤ → Bool) (q : Asked) (s : Usable) → IsSeries s → IsGreatest (IsRunLength (is_such test (days_reached q s))) (spell_bound test (days_reached q s))
+run-greatest : (test : ℤ → Bool) (q : Asked) (s : Usable) → IsSeries s → IsGreatest
+    (IsRunLength (is_such test (days_reached q s))) (spell_bound test (days_reached q s))
 run-greatest test q s series =
     let such : ℤ → Bool = is_such test (days_reached q s) in
     let firsts : List ℤ = map (λ x. x.0) (days_reached q s) in
     let somewhere = longest-somewhere (is_such test (days_reached q s)) (map (λ x. x.0) (days_reached q s)) in
     record {
-      is_one = (longest_run (is_such test (days_reached q s)) (map (λ x. x.0) (days_reached q s)), somewhere.0, refl, somewhere.1);
+      is_one = (
+        longest_run (is_such test (days_reached q s)) (map (λ x. x.0) (days_reached q s)),
+        somewhere.0,
+        refl,
+        somewhere.1,
+      );
       is_most = λ y run. let le = run-most test q s series run.0 run.1 run.3 in let is = run.2 in omega (arith, ints);
     }
 
 -- ---- the bound
 
 -- the bound for a score, as it is computed
-computed-for : (score : Score) (q : Asked) (s : Usable) → IsSeries s → 0 < length (admitted q s) → ((n : ℕ) (e : Element) → score ≡ Sum n e → AreFallen s.days) → IsBoundFor score q s (bound_for score q s)
+computed-for : (score : Score) (q : Asked) (s : Usable) → IsSeries s → 0 < length (admitted q s)
+    → ((n : ℕ) (e : Element) → score ≡ Sum n e → AreFallen s.days) → IsBoundFor score q s (bound_for score q s)
 computed-for (Highest e) q s series some falls = day-greatest (λ v. v) q s some
 computed-for (Lowest e) q s series some falls = day-greatest neg_ℤ q s some
 computed-for (Sum n e) q s series some falls = record {
@@ -264,4 +315,5 @@ computed-for Wet q s series some falls = run-greatest is_wet q s series
 
 -- the bound as it is computed is the bound by what it is greatest of
 pub computed-IsBound : (q : Asked) (s : Usable) → IsAsked q → IsAskedOf q s → IsBound q s (bound q s)
-computed-IsBound q s asked of = computed-for q.score q s of.series of.admitted_day (λ n e is. sums-fall q s n e asked of.series of.element is)
+computed-IsBound q s asked of = computed-for q.score q s of.series of.admitted_day
+    (λ n e is. sums-fall q s n e asked of.series of.element is)

@@ -1,6 +1,7 @@
 -- Days in their order and the values that they have.
-use Rattle.std.proofs.Common.{◌≡◌, ℕ, ◌<◌, Bool, true, false, cond, List, [], ◌∷◌, ◌++◌, Some, None, refl, ap, ◌∙◌, arith, ℤ, pos, negsuc, ◌≤ℤ◌, ◌<ℤ◌, ◌+ℤ◌}
-use Rattle.std.specs.Prelude.{◌&&◌, int_lt, int_le}
+use Rattle.std.proofs.Common.{◌≡◌, ℕ, ◌<◌, Bool, true, false, cond, List, [], ◌∷◌, ◌++◌, Some, None, refl, ap, ◌∙◌}
+use Rattle.std.proofs.Common.{arith, ℤ, pos, negsuc, ◌≤ℤ◌, ◌<ℤ◌, ◌+ℤ◌}
+use Rattle.std.specs.Prelude.{int_lt}
 use Rattle.std.specs.List.{AllByRecursion, find}
 use Rattle.std.specs.Option.{option_map}
 use Rattle.std.specs.Ordering.{int_eq}
@@ -10,33 +11,8 @@ use Rattle.ghcn_fields.specs.Days.{block_of}
 use Rattle.ghcn_series.specs.Series.{DayValue, value_on, is_by_day}
 use Rattle.rank_blocks.specs.Blocks.{block_start}
 use Rattle.ghcn_series.specs.Packed.{AreRising}
+use Rattle.rank_blocks.proofs.DayTests.{both_pass, int_lt-true}
 use Rattle.rank_blocks.proofs.Members.{from_each}
-
--- two tests that both pass
-pub both_pass : (a b : Bool) → (a && b) ≡ true → (a ≡ true) × (b ≡ true)
-both_pass true b e = (refl, e)
-both_pass false b e = absurd cc
-
--- of two tests that pass both pass
-pub pass_both : (a b : Bool) → a ≡ true → b ≡ true → (a && b) ≡ true
-pass_both true b p q = q
-pass_both false b p q = absurd cc
-
--- what the tests on whole numbers tell
-pub int_lt-true : (a b : ℤ) → int_lt a b ≡ true → a <ℤ b
-int_lt-true a b e = grind (arith, ints)
-
-pub int_le-true : (a b : ℤ) → int_le a b ≡ true → a ≤ℤ b
-int_le-true a b e = grind (arith, ints)
-
-pub int_le-false : (a b : ℤ) → int_le a b ≡ false → b <ℤ a
-int_le-false a b e = grind (arith, ints)
-
-pub lt-int_lt : (a b : ℤ) → a <ℤ b → int_lt a b ≡ true
-lt-int_lt a b h = grind (arith, ints)
-
-pub le-int_le : (a b : ℤ) → a ≤ℤ b → int_le a b ≡ true
-le-int_le a b h = grind (arith, ints)
 
 -- numbers of which one is less are not equal
 pub lt-int_eq : (a b : ℤ) → a <ℤ b → int_eq a b ≡ false
@@ -69,26 +45,36 @@ rise-from_by_day (x ∷ y ∷ ys) e =
     ((less, from_each (λ z. y.0 <ℤ z.0) (λ z. x.0 <ℤ z.0) ys (λ z later. omega (arith, ints)) rest.0), rest)
 
 -- a day with no pair of its own at the front is looked up behind it
-pub value_on-behind : (x : DayValue) (xs : List DayValue) (day : ℤ) → int_eq x.0 day ≡ false → value_on (x ∷ xs) day ≡ value_on xs day
-value_on-behind x xs day other = ap (λ (b : Bool). option_map (λ (y : DayValue). y.1) (cond b (Some x) (find (λ y. int_eq y.0 day) xs))) other
+pub value_on-behind : (x : DayValue) (xs : List DayValue) (day : ℤ) → int_eq x.0 day ≡ false
+    → value_on (x ∷ xs) day ≡ value_on xs day
+value_on-behind x xs day other =
+    ap (λ (b : Bool). option_map (λ (y : DayValue). y.1) (cond b (Some x) (find (λ y. int_eq y.0 day) xs))) other
 
 -- a day that is later than some days and earlier than the others has no value
-pub value_on-between : (read rest : List DayValue) (day : ℤ) → AllByRecursion (λ y. y.0 <ℤ day) read → AllByRecursion (λ z. day <ℤ z.0) rest → value_on (read ++ rest) day ≡ None
+pub value_on-between : (read rest : List DayValue) (day : ℤ) → AllByRecursion (λ y. y.0 <ℤ day) read
+    → AllByRecursion (λ z. day <ℤ z.0) rest → value_on (read ++ rest) day ≡ None
 value_on-between [] [] day earlier later = refl
-value_on-between [] (z ∷ zs) day earlier later = value_on-behind z zs day (gt-int_eq z.0 day later.0) ∙ value_on-between [] zs day tt later.1
-value_on-between (y ∷ ys) rest day earlier later = value_on-behind y (ys ++ rest) day (lt-int_eq y.0 day earlier.0) ∙ value_on-between ys rest day earlier.1 later
+value_on-between [] (z ∷ zs) day earlier later = value_on-behind z zs day (gt-int_eq z.0 day later.0)
+    ∙ value_on-between [] zs day tt later.1
+value_on-between (y ∷ ys) rest day earlier later = value_on-behind y (ys ++ rest) day (lt-int_eq y.0 day earlier.0)
+    ∙ value_on-between ys rest day earlier.1 later
 
 -- each of some days that rise has its value
 pub own-values : (days : List DayValue) → AreRising days → AllByRecursion (λ x. value_on days x.0 ≡ Some x.1) days
 own-values [] rise = tt
 own-values (x ∷ xs) rise = (
-  ap (λ (b : Bool). option_map (λ (y : DayValue). y.1) (cond b (Some x) (find (λ y. int_eq y.0 x.0) xs))) (int_eq-same x.0),
+  ap (λ (b : Bool). option_map (λ (y : DayValue). y.1) (cond b (Some x) (find (λ y. int_eq y.0 x.0) xs)))
+      (int_eq-same x.0),
   own-behind x xs xs rise.0 (own-values xs rise.1),
 )
   where
-    own-behind : (x : DayValue) (all xs : List DayValue) → AllByRecursion (λ y. x.0 <ℤ y.0) xs → AllByRecursion (λ y. value_on all y.0 ≡ Some y.1) xs → AllByRecursion (λ y. value_on (x ∷ all) y.0 ≡ Some y.1) xs
+    -- with an earlier day in front, each has its value still
+    own-behind : (x : DayValue) (all xs : List DayValue) → AllByRecursion (λ y. x.0 <ℤ y.0) xs
+        → AllByRecursion (λ y. value_on all y.0 ≡ Some y.1) xs → AllByRecursion
+        (λ y. value_on (x ∷ all) y.0 ≡ Some y.1) xs
     own-behind x all [] later own = tt
-    own-behind x all (y ∷ ys) later own = (value_on-behind x all y.0 (lt-int_eq x.0 y.0 later.0) ∙ own.0, own-behind x all ys later.1 own.1)
+    own-behind x all (y ∷ ys) later own =
+        (value_on-behind x all y.0 (lt-int_eq x.0 y.0 later.0) ∙ own.0, own-behind x all ys later.1 own.1)
 
 -- a day lies in its block
 pub block-holds : (day : ℤ) → (block_start (block_of day) ≤ℤ day) × (day <ℤ (block_start (block_of day) +ℤ pos 32))

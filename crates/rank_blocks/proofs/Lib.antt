@@ -1,4 +1,4 @@
-pub mod JoinedRuns
+pub mod DayTests
 pub mod WordRuns
 pub mod ValueSteps
 pub mod Members
@@ -9,6 +9,7 @@ pub mod WindowTotals
 pub mod PossibleBlocks
 pub mod ReachedDays
 pub mod LongestRuns
+pub mod RangeRuns
 pub mod BlockDays
 pub mod Above
 pub mod BlockSteps

@@ -1,204 +1,225 @@
--- The longest run of days in the blocks of a range, as a loop over the summaries finds it.
-use Rattle.std.proofs.Common.{◌≡◌, ℕ, zero, suc, ◌+◌, ◌-◌, ◌*◌, ◌/◌, ◌<◌, ◌≤◌, Bool, true, false, List, [], ◌∷◌, map, filter, inl, inr, refl, sym, ap, ◌∙◌, subst, arith, ℤ, pos, negsuc, ◌≤ℤ◌, ◌<ℤ◌, ◌+ℤ◌, ◌-ℤ◌}
-use Rattle.std.specs.Prelude.{int_le}
-use Rattle.std.specs.List.{AllByRecursion, Contains}
+-- The longest run of days, block by block.
+use Rattle.std.proofs.Common.{◌≡◌, ℕ, zero, suc, ◌+◌, ◌-◌, ◌<◌, ◌≤◌, Bool, true, false, max, inl, inr, sym}
+use Rattle.std.proofs.Common.{ap, ◌∙◌, subst, arith, ℤ, pos, ◌≤ℤ◌, ◌<ℤ◌, ◌+ℤ◌, ◌-ℤ◌}
 use Rattle.std.proofs.lemmas.Int.{ints}
-use Rattle.ghcn_fields.specs.Days.{block_of}
-use Rattle.ghcn_series.specs.Series.{DayValue, Usable, value_on}
-use Rattle.rank_scores.specs.Candidates.{is_such}
+use Rattle.std.proofs.Math.Nat.{max-eq_left, max-eq_right}
 use Rattle.rank_blocks.specs.declared.runs.Runs.{Runs}
-use Rattle.rank_blocks.specs.declared.summary.Summary.{Summary}
-use Rattle.rank_blocks.specs.declared.range.BlockRange.{BlockRange}
-use Rattle.rank_scores.specs.declared.spell.Spell.{Spell}
-use Rattle.rank_scores.specs.declared.spell.Spell.TheVariants.{Dry, Wet}
 use Rattle.rank_blocks.specs.Blocks.{block_start}
-use Rattle.rank_blocks.specs.DayRuns.{has_bit, AreRuns, runs_without, joined}
-use Rattle.rank_blocks.specs.Greatest.{IsGreatest, IsRunLength}
-use Rattle.rank_blocks.specs.Reached.{in_range, word_of}
-use Rattle.rank_scores.specs.Spells.{test_of}
-use Rattle.rank_blocks.specs.Summaries.{HasBits, IsSummary, AreSummaries}
-use Rattle.rank_blocks.proofs.JoinedRuns.{not_both, joined-AreRuns, alike-AreRuns, without-AreRuns, nothing-AreRuns}
-use Rattle.rank_blocks.proofs.Members.{contains-cases, pick}
-use Rattle.rank_blocks.proofs.DayValues.{both_pass, int_le-true, block-holds, block-of_place}
-use Rattle.rank_blocks.proofs.WindowTotals.{AreBehind, int_le_or_lt}
-use Rattle.rank_blocks.proofs.ReachedDays.{such-kept, such-filter, such-has, value_on-among}
+use Rattle.rank_blocks.specs.DayRuns.{has_bit, ComeFirst, ComeLast, FollowAtMost, AllFrom, AreRuns, runs_before}
+use Rattle.rank_blocks.specs.DayRuns.{NoneBetween, AreBitsOf}
+use Rattle.rank_blocks.proofs.DayTests.{not_both, at_most_or_more, int_le_or_lt, distance}
 
--- the word of a kind in a summary has the bits of its block
-spell-bits : (k : Spell) (days : List DayValue) (m : Summary) → IsSummary days m → HasBits (test_of k) days m.number (word_of k m)
-spell-bits Dry days m is = is.dry
-spell-bits Wet days m is = is.wet
-
--- a day that can't be such a day isn't
-none-of : (test : ℤ → Bool) (days : List DayValue) (d : ℤ) → (is_such test days d ≡ true → ⊥) → is_such test days d ≡ false
-none-of test days d never =
-    elim (is_such test days d) as (λ t. is_such test days d ≡ t → t ≡ false) [
-      | true ↦ λ e. absurd (never e)
-      | false ↦ λ e. refl
-    ] refl
-
--- nothing stands in an empty list
-nothing-left : (b : ℤ) → Contains {X = ℤ} [] b → ⊥
-nothing-left b h = let lt = h.1 in omega arith
-
--- a number of blocks that stand behind another is greater
-numbers-above : (n : ℤ) (ks : List Summary) (b : ℤ) → AreBehind n ks → Contains (map (λ m. m.number) ks) b → n <ℤ b
-numbers-above n ks b behind h =
-    let found = pick (λ m. m.number) (λ m. n <ℤ m.number) ks b behind h in
-    let P : ℤ → Type 0 = λ z. n <ℤ z in
-    subst P found.2 found.1
-
--- a number of some blocks is that of the first, or greater
-to_come-behind : (m : Summary) (later : List Summary) (b : ℤ) → AreBehind m.number later → Contains (map (λ m. m.number) (m ∷ later)) b → m.number ≤ℤ b
-to_come-behind m later b behind h =
-    elim (contains-cases m.number b (map (λ m. m.number) later) h) [
-      | inl is ↦ omega (arith, ints)
-      | inr there ↦ let lt = numbers-above m.number later b behind there in omega (arith, ints)
+-- of two numbers that something is true of, it is true of the greater
+pub max-one : (P : ℕ → Type 0) (m n : ℕ) → P m → P n → P (max m n)
+max-one P m n hm hn =
+    elim (at_most_or_more m n) [
+      | inl le ↦ subst P (sym (max-eq_right le)) hn
+      | inr lt ↦ subst P (sym (max-eq_left {n = m} {m = n} (omega arith))) hm
     ]
 
--- how far a number lies behind another
-pub distance : (x y : ℤ) → x ≤ℤ y → (n : ℕ) × (y ≡ x +ℤ pos n)
-distance x y le =
-    elim (y -ℤ x) as (λ z. y -ℤ x ≡ z → (n : ℕ) × (y ≡ x +ℤ pos n)) [
-      | pos n ↦ λ e. (n, omega (arith, ints))
-      | negsuc n ↦ λ e. absurd (omega (arith, ints))
-    ] refl
+module _ (such : ℤ → Bool) where
+  -- a run that ends before a block, behind days of which none is of the kind, ends before these days
+  ends-earlier : (b next : ℤ) → NoneBetween such b next → (first : ℤ) (n : ℕ)
+      → (first +ℤ pos (suc n)) ≤ℤ block_start next
+      → AllFrom such first (suc n) → (first +ℤ pos (suc n)) ≤ℤ block_start b
+  ends-earlier b next none first n within pass =
+      elim (int_le_or_lt (block_start b) (first +ℤ pos n)) [
+        | inl past ↦
+            absurd (not_both _ (pass n (omega arith)) (none (first +ℤ pos n) past (omega (arith, ints))))
+        | inr before ↦ omega (arith, ints)
+      ]
 
--- how many days lie between two blocks
-pub days-of_blocks : (first b : ℤ) (n : ℕ) → (block_start first +ℤ pos n) ≡ block_start b → n ≡ 32 * (n / 32)
-days-of_blocks first b n e = omega (arith, ints)
+  -- a run that ends before a block, behind days of which none is of the kind, is among those that are told of
+  earlier : (r : Runs) (next : ℤ) → AreRuns such r → NoneBetween such r.next next → (len : ℕ) (first : ℤ)
+      → (first +ℤ pos len) ≤ℤ block_start next → AllFrom such first len → len ≤ r.longest
+  earlier r next are none zero first within pass = omega arith
+  earlier r next are none (suc n) first within pass =
+      are.nowhere_more first (suc n) (ends-earlier r.next next none first n within pass) pass
 
--- what is known of the runs of the first days of a range's blocks, where some blocks are still to come: they are whole blocks, and a block of the range behind them that holds a usable day is still to come
-pub record AreRunsSoFar (r : BlockRange) (k : Spell) (s : Usable) (ms rest : List Summary) (runs : Runs) : Type 0 where
-  pub told : AreRuns (λ i. is_such (test_of k) (filter (λ x. in_range r (block_of x.0)) s.days) (block_start r.first +ℤ pos i)) runs
-  pub blocks : ℕ
-  pub whole : runs.days ≡ 32 * blocks
-  pub to_come : (b : ℤ) → (block_start r.first +ℤ pos runs.days) ≤ℤ block_start b → in_range r b ≡ true → Contains (map (λ m. m.number) ms) b → Contains (map (λ m. m.number) rest) b
-  pub summaries : AllByRecursion (IsSummary s.days) rest
-
-module _ (r : BlockRange) (k : Spell) (s : Usable) (ms : List Summary) (are : AreSummaries s ms) where
-  -- the usable days in the blocks of the range
-  abbrev days_of_range : List DayValue
-  days_of_range = filter (λ x. in_range r (block_of x.0)) s.days
-
-  -- whether the day at a place of the range is of the kind
-  abbrev kind : ℕ → Bool
-  kind i = is_such (test_of k) days_of_range (block_start r.first +ℤ pos i)
-
-  -- of no days
-  pub runs_so_far-start : AreRunsSoFar r k s ms ms (runs_without 0)
-  runs_so_far-start = record { told = nothing-AreRuns kind; blocks = 0; whole = omega arith; to_come = λ b low holds has. has; summaries = are.each }
-
-  -- the block of a day of the kind holds a usable day, and lies in the range
-  kind-block : (d : ℤ) → is_such (test_of k) days_of_range d ≡ true → (in_range r (block_of d) ≡ true) × Contains (map (λ m. m.number) ms) (block_of d)
-  kind-block d e =
-      let kept = such-kept (test_of k) (λ n. in_range r (block_of n)) s.days d e in
-      let has = such-has (test_of k) (value_on s.days d) kept.1 in
-      (kept.0, value_on-among (λ (n v : ℤ). Contains (map (λ m. m.number) ms) (block_of n)) s.days d has.0 are.all has.1)
-
-  -- the block of a day of the kind behind the first days is still to come
-  kind-to_come : (rest : List Summary) (runs : Runs) → AreRunsSoFar r k s ms rest runs → (d : ℤ) → (block_start r.first +ℤ pos runs.days) ≤ℤ d → is_such (test_of k) days_of_range d ≡ true → Contains (map (λ m. m.number) rest) (block_of d)
-  kind-to_come rest runs far d low e =
-      let block = kind-block d e in
-      let holds = block-holds d in
-      let whole = far.whole in
-      far.to_come (block_of d) (omega (arith, ints)) block.0 block.1
-
-  module _ (m : Summary) (later : List Summary) (runs : Runs) (far : AreRunsSoFar r k s ms (m ∷ later) runs) (behind : AreBehind m.number later) where
-    -- a block that isn't in the range changes nothing
-    pub runs_so_far-out : in_range r m.number ≡ false → AreRunsSoFar r k s ms later runs
-    runs_so_far-out out = record {
-      told = far.told;
-      blocks = far.blocks;
-      whole = far.whole;
-      to_come = λ b low holds has.
-          elim (contains-cases m.number b (map (λ m. m.number) later) (far.to_come b low holds has)) [
-            | inl is ↦ absurd (not_both (in_range r m.number) (ap (in_range r) is ∙ holds) out)
-            | inr there ↦ there
-          ];
-      summaries = far.summaries.1;
-    }
-
-    module _ (before : ℕ) (b : Runs) (of_word : AreRuns (has_bit (word_of k m)) b) (whole : b.days ≡ 32) (starts : (block_start r.first +ℤ pos before) ≡ block_start m.number) (le : runs.days ≤ before) (holds : in_range r m.number ≡ true) where
-      -- no day between is of the kind
-      gap : (i : ℕ) → runs.days ≤ i → i < runs.days + (before - runs.days) → kind i ≡ false
-      gap i low high =
-          none-of (test_of k) days_of_range (block_start r.first +ℤ pos i)
-          (λ e.
-          let d : ℤ = block_start r.first +ℤ pos i in
-          let there = kind-to_come (m ∷ later) runs far d (omega (arith, ints)) e in
-          let at_least = to_come-behind m later (block_of d) behind there in
-          let in_block = block-holds d in
-          omega (arith, ints))
-
-      -- the days of the block are of the kind as its word tells
-      block-alike : (i : ℕ) → i < b.days → has_bit (word_of k m) i ≡ kind (runs.days + (before - runs.days) + i)
-      block-alike i lt =
-          let d : ℤ = block_start m.number +ℤ pos i in
-          let block : block_of d ≡ m.number = block-of_place m.number i (omega arith) in
-          let same : d ≡ block_start r.first +ℤ pos (runs.days + (before - runs.days) + i) = omega (arith, ints) in
-          spell-bits k s.days m far.summaries.0 i (omega arith) ∙ sym (such-filter (test_of k) (λ n. in_range r (block_of n)) s.days d (ap (in_range r) block ∙ holds)) ∙ ap (is_such (test_of k) days_of_range) same
-
-      -- with a block of the range, and the days before it
-      pub runs_so_far-in : AreRunsSoFar r k s ms later (joined (joined runs (runs_without (before - runs.days))) b)
-      runs_so_far-in =
-          let blocks_before = days-of_blocks r.first m.number before starts in
-          record {
-            told = joined-AreRuns kind (joined runs (runs_without (before - runs.days))) b
-                (without-AreRuns kind runs (before - runs.days) far.told gap)
-                (alike-AreRuns (has_bit (word_of k m)) (λ i. kind (runs.days + (before - runs.days) + i)) b block-alike of_word);
-            blocks = before / 32 + 1;
-            whole = omega arith;
-            to_come = λ b low holds has.
-                elim (contains-cases m.number b (map (λ m. m.number) later) (far.to_come b (omega (arith, ints)) holds has)) [
-                  | inl is ↦ absurd (omega (arith, ints))
-                  | inr there ↦ there
-                ];
-            summaries = far.summaries.1;
-          }
-
-  -- once no block is to come, each day of the kind is among those told of
-  kind-inside : (runs : Runs) → AreRunsSoFar r k s ms [] runs → (d : ℤ) → is_such (test_of k) days_of_range d ≡ true → (block_start r.first ≤ℤ d) × (d <ℤ (block_start r.first +ℤ pos runs.days))
-  kind-inside runs far d e =
-      let block = kind-block d e in
-      let holds = block-holds d in
-      let both = both_pass (int_le r.first (block_of d)) (int_le (block_of d) r.last) block.0 in
-      let low = int_le-true r.first (block_of d) both.0 in (
-        omega (arith, ints),
-        elim (int_le_or_lt (block_start r.first +ℤ pos runs.days) d) [
-          | inl past ↦ absurd (nothing-left (block_of d) (kind-to_come [] runs far d past e))
-          | inr lt ↦ lt
-        ],
-      )
-
-  -- a run of days of the kind is no longer than the longest that is told of
-  no-longer : (runs : Runs) → AreRunsSoFar r k s ms [] runs → (len : ℕ) (a : ℤ) → ((i : ℕ) → i < len → is_such (test_of k) days_of_range (a +ℤ pos i) ≡ true) → len ≤ runs.longest
-  no-longer runs far zero a pass = omega arith
-  no-longer runs far (suc n) a pass =
-      let first = kind-inside runs far (a +ℤ pos 0) (pass 0 (omega arith)) in
-      let last = kind-inside runs far (a +ℤ pos n) (pass n (omega arith)) in
-      let low = first.0 in
-      let high = last.1 in
-      let from = distance (block_start r.first) a (omega (arith, ints)) in
-      let is = from.1 in
-      far.told.longest.nowhere_more from.0 (suc n) (omega (arith, ints))
-      (λ i low high.
-      let same : a +ℤ pos (i - from.0) ≡ block_start r.first +ℤ pos i = omega (arith, ints) in
-      ap (is_such (test_of k) days_of_range) (sym same) ∙ pass (i - from.0) (omega arith))
-
-  -- once no block is to come, the longest run is that of the range
-  pub runs_so_far-end : (runs : Runs) → AreRunsSoFar r k s ms [] runs → IsGreatest (IsRunLength (is_such (test_of k) days_of_range)) (pos runs.longest)
-  runs_so_far-end runs far = record {
-    is_one =
-        (let from = far.told.longest.somewhere in (
-          runs.longest,
-          block_start r.first +ℤ pos from.0,
-          refl,
-          λ i lt.
-              let same : (block_start r.first +ℤ pos from.0) +ℤ pos i ≡ block_start r.first +ℤ pos (from.0 + i) = omega (arith, ints) in
-              ap (is_such (test_of k) days_of_range) same ∙ from.2 (from.0 + i) (omega arith) (omega arith),
-        ));
-    is_most = λ y run.
-        let le = no-longer runs far run.0 run.1 run.3 in
-        let is = run.2 in
-        omega (arith, ints);
+  -- where no day before a block is of the kind
+  pub runs-none : (b : ℤ) → ((d : ℤ) → d <ℤ block_start b → such d ≡ false) → AreRuns such (runs_before b)
+  runs-none b none = record {
+    from = block_start b;
+    ends = omega (arith, ints);
+    last = λ i lt. absurd (omega arith);
+    begins = none (block_start b -ℤ pos 1) (omega (arith, ints));
+    somewhere = (pos 0, λ i lt. absurd (omega arith));
+    nowhere_more = most;
   }
+    where
+      -- no run ends before the block
+      most : (first : ℤ) (len : ℕ) → (first +ℤ pos len) ≤ℤ block_start b → AllFrom such first len → len ≤ 0
+      most first zero within pass = omega arith
+      most first (suc n) within pass =
+          absurd (not_both _ (pass n (omega arith)) (none (first +ℤ pos n) (omega (arith, ints))))
+
+  -- up to a later block, where no day between is of the kind: the open run goes on at the block behind it alone
+  pub runs-up_to : (r new : Runs) → AreRuns such r → r.next ≤ℤ new.next → NoneBetween such r.next new.next
+      → (new.next ≡ r.next → new.last ≡ r.last) → ((new.next ≡ r.next → ⊥) → new.last ≡ 0)
+      → new.longest ≡ r.longest → AreRuns such new
+  runs-up_to r new are order none same other longest =
+      elim (int_le_or_lt new.next r.next) [
+        | inl le ↦
+            let here : new.next ≡ r.next = omega (arith, ints) in
+            let last = same here in
+            let ends = are.ends in
+            record {
+              from = are.from;
+              ends = omega (arith, ints);
+              last = λ i lt. are.last i (omega arith);
+              begins = are.begins;
+              somewhere = (are.somewhere.0, λ i lt. are.somewhere.1 i (omega arith));
+              nowhere_more = λ first len within pass.
+                  let most = are.nowhere_more first len (omega (arith, ints)) pass in omega arith;
+            }
+        | inr later ↦
+            let last = other (λ here. omega (arith, ints)) in
+            record {
+              from = block_start new.next;
+              ends = omega (arith, ints);
+              last = λ i lt. absurd (omega arith);
+              begins = none (block_start new.next -ℤ pos 1) (omega (arith, ints)) (omega (arith, ints));
+              somewhere = (are.somewhere.0, λ i lt. are.somewhere.1 i (omega arith));
+              nowhere_more = λ first len within pass.
+                  let most = earlier r new.next are none len first within pass in omega arith;
+            }
+      ]
+
+  module _ (r : Runs) (are : AreRuns such r) (word f l m : ℕ) (bits : AreBitsOf such r.next word)
+      (firsts : ComeFirst (has_bit word) 32 f) (lasts : ComeLast (has_bit word) 32 l)
+      (most : FollowAtMost (has_bit word) 32 m) where
+    -- a day of the block is of the kind as its bit says
+    of_bit : (j : ℕ) (d : ℤ) (v : Bool) → j < 32 → d ≡ block_start r.next +ℤ pos j → has_bit word j ≡ v → such d ≡ v
+    of_bit j d v lt is bit = ap such is ∙ sym (bits j lt) ∙ bit
+
+    -- a bit is as its day
+    to_bit : (j : ℕ) (d : ℤ) → j < 32 → d ≡ block_start r.next +ℤ pos j → such d ≡ true → has_bit word j ≡ true
+    to_bit j d lt is e = bits j lt ∙ ap such (sym is) ∙ e
+
+    -- the open run goes on with the days that come first
+    over_border : AllFrom such are.from (r.last + f)
+    over_border i lt =
+        elim (at_most_or_more r.last i) [
+          | inl le ↦
+              let ends = are.ends in
+              let within = firsts.within in
+              of_bit (i - r.last) (are.from +ℤ pos i) true (omega arith) (omega (arith, ints))
+              (firsts.pass (i - r.last) (omega arith) (omega arith))
+          | inr before ↦ are.last i before
+        ]
+
+    -- a run over the border begins no earlier than the open run
+    before_border : (first : ℤ) (len : ℕ) → first <ℤ block_start r.next → block_start r.next <ℤ (first +ℤ pos len)
+        → AllFrom such first len → are.from ≤ℤ first
+    before_border first len low high pass =
+        elim (int_le_or_lt are.from first) [
+          | inl le ↦ le
+          | inr lt ↦
+              let far = distance first (are.from -ℤ pos 1) (omega (arith, ints)) in
+              let is = far.1 in
+              let ends = are.ends in
+              absurd (not_both _ (ap such is ∙ pass far.0 (omega (arith, ints))) are.begins)
+        ]
+
+    -- it ends no later than the days that come first in the block
+    after_border : (first : ℤ) (len : ℕ) → first <ℤ block_start r.next
+        → (first +ℤ pos len) ≤ℤ (block_start r.next +ℤ pos 32) → AllFrom such first len
+        → (first +ℤ pos len) ≤ℤ (block_start r.next +ℤ pos f)
+    after_border first len low within pass =
+        elim (int_le_or_lt (first +ℤ pos len) (block_start r.next +ℤ pos f)) [
+          | inl le ↦ le
+          | inr more ↦
+              let lt : f < 32 = omega (arith, ints) in
+              let far = distance first (block_start r.next +ℤ pos f) (omega (arith, ints)) in
+              let is = far.1 in
+              let passes = ap such is ∙ pass far.0 (omega (arith, ints)) in
+              absurd (not_both _ (bits f lt ∙ passes) (firsts.ends lt))
+        ]
+
+    -- no run that ends in the block or before it is longer than those that are told of
+    most-so_far : (first : ℤ) (len : ℕ) → (first +ℤ pos len) ≤ℤ (block_start r.next +ℤ pos 32)
+        → AllFrom such first len → len ≤ max (max r.longest m) (r.last + f)
+    most-so_far first len within pass =
+        elim (int_le_or_lt (first +ℤ pos len) (block_start r.next)) [
+          | inl before ↦ let old = are.nowhere_more first len before pass in omega arith
+          | inr over ↦
+              elim (int_le_or_lt (block_start r.next) first) [
+                | inl behind ↦
+                    let far = distance (block_start r.next) first behind in
+                    let is = far.1 in
+                    let here =
+                    most.nowhere_more far.0 len (omega (arith, ints))
+                    (λ k low high.
+                    to_bit k (first +ℤ pos (k - far.0)) (omega (arith, ints)) (omega (arith, ints))
+                    (pass (k - far.0) (omega arith))) in
+                    omega arith
+                | inr cross ↦
+                    let low = before_border first len cross over pass in
+                    let high = after_border first len cross within pass in
+                    let ends = are.ends in
+                    omega (arith, ints)
+              ]
+        ]
+
+    -- the longest run that is told of is somewhere
+    somewhere-so_far : (first : ℤ) × AllFrom such first (max (max r.longest m) (r.last + f))
+    somewhere-so_far =
+        let P : ℕ → Type 0 = λ n. (first : ℤ) × AllFrom such first n in
+        let place = most.somewhere in
+        let within = place.1 in
+        max-one P _ _
+        (max-one P _ _ are.somewhere (
+          block_start r.next +ℤ pos place.0,
+          λ i lt.
+              of_bit (place.0 + i) _ true (omega arith) (omega (arith, ints))
+              (place.2 (place.0 + i) (omega arith) (omega arith)),
+        ))
+        (are.from, over_border)
+
+    -- where not all days come first, not all come last
+    few-last : f < 32 → l < 32
+    few-last lt =
+        elim (at_most_or_more 32 l) [
+          | inl all ↦
+              let within = lasts.within in
+              absurd (not_both _ (lasts.pass 0 (omega arith) f (omega arith) lt) (firsts.ends lt))
+          | inr less ↦ less
+        ]
+
+    -- what was told goes on with the block
+    pub runs-more : (new : Runs) → new.next ≡ r.next +ℤ pos 1 → (f ≡ 32 → new.last ≡ r.last + f)
+        → (f < 32 → new.last ≡ l) → new.longest ≡ max (max r.longest m) (r.last + f) → AreRuns such new
+    runs-more new next full part longest =
+        let place = somewhere-so_far in
+        let somewhere : (first : ℤ) × AllFrom such first new.longest = (place.0, λ i lt. place.1 i (omega arith)) in
+        let most : (first : ℤ) (len : ℕ) → (first +ℤ pos len) ≤ℤ block_start new.next → AllFrom such first len
+        → len ≤ new.longest =
+        (λ first len within pass. let le = most-so_far first len (omega (arith, ints)) pass in omega arith) in
+        elim (at_most_or_more 32 f) [
+          | inl all ↦
+              let within = firsts.within in
+              let is = full (omega arith) in
+              let ends = are.ends in
+              record {
+                from = are.from;
+                ends = omega (arith, ints);
+                last = λ i lt. over_border i (omega arith);
+                begins = are.begins;
+                somewhere = somewhere;
+                nowhere_more = most;
+              }
+          | inr lt ↦
+              let is = part lt in
+              let few = few-last lt in
+              record {
+                from = block_start r.next +ℤ pos (32 - l);
+                ends = omega (arith, ints);
+                last = λ i below.
+                    of_bit (32 - l + i) _ true (omega arith) (omega (arith, ints))
+                    (lasts.pass (32 - l) (omega arith) (32 - l + i) (omega arith) (omega arith));
+                begins = of_bit (31 - l) _ false (omega arith) (omega (arith, ints))
+                    (lasts.begins (31 - l) (omega arith));
+                somewhere = somewhere;
+                nowhere_more = most;
+              }
+        ]

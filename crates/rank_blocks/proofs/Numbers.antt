@@ -6,7 +6,7 @@ use Rattle.std.specs.List.Sorted.{IsStrictlySortedBy}
 use Rattle.std.specs.Ordering.{int_cmp}
 use Rattle.std.specs.declared.cmp.Ordering.TheVariants.{Less, Equal, Greater}
 use Rattle.rank_blocks.proofs.Members.{all-append}
-use Rattle.rank_blocks.proofs.DayValues.{lt-int_lt, int_lt-true}
+use Rattle.rank_blocks.proofs.DayTests.{lt-int_lt, int_lt-true}
 
 -- a number below another compares as less
 pub less-int_cmp : (a b : ℤ) → a <ℤ b → int_cmp a b ≡ Less
@@ -17,7 +17,12 @@ pub int_cmp-less : (a b : ℤ) → int_cmp a b ≡ Less → a <ℤ b
 int_cmp-less a b e =
     elim (int_lt a b) as (λ t. int_lt a b ≡ t → cond t Less (cond (int_lt b a) Greater Equal) ≡ Less → a <ℤ b) [
       | true ↦ λ lt h. int_lt-true a b lt
-      | false ↦ λ lt h. elim (int_lt b a) as (λ u. cond u Greater Equal ≡ Less → a <ℤ b) [ true ↦ λ k. absurd cc | false ↦ λ k. absurd cc ] h
+      | false ↦
+          λ lt h. elim (int_lt b a) as (λ u. cond u Greater Equal ≡ Less → a <ℤ b) [
+            | true ↦ λ k. absurd cc
+            | false ↦
+                λ k. absurd cc
+          ] h
     ] refl e
 
 -- no numbers are in order
@@ -26,7 +31,9 @@ unfolding IsStrictlySortedBy
 sorted-none = tt
 
 -- numbers in order, and one behind them that is greater than each
-pub sorted-push : (xs : List ℤ) (v : ℤ) → IsStrictlySortedBy int_cmp xs → AllByRecursion (λ x. x <ℤ v) xs → IsStrictlySortedBy int_cmp (xs ++ v ∷ [])
+pub sorted-push : (xs : List ℤ) (v : ℤ) → IsStrictlySortedBy int_cmp xs → AllByRecursion (λ x. x <ℤ v) xs
+    → IsStrictlySortedBy int_cmp (xs ++ v ∷ [])
 unfolding IsStrictlySortedBy
 sorted-push [] v h less = (tt, tt)
-sorted-push (x ∷ xs) v h less = (all-append (λ y. int_cmp x y ≡ Less) xs (v ∷ []) h.0 (less-int_cmp x v less.0, tt), sorted-push xs v h.1 less.1)
+sorted-push (x ∷ xs) v h less =
+    (all-append (λ y. int_cmp x y ≡ Less) xs (v ∷ []) h.0 (less-int_cmp x v less.0, tt), sorted-push xs v h.1 less.1)

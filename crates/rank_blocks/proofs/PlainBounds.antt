@@ -1,11 +1,13 @@
 -- The bound as a plain program finds it, day by day.
-use Rattle.std.proofs.Common.{◌≡◌, ℕ, zero, suc, ◌+◌, ◌<◌, ◌≤◌, Bool, true, false, cond, max, List, [], ◌∷◌, ◌++◌, map, filter, length, inl, inr, Some, None, refl, sym, ap, ◌∙◌, subst, arith, ℤ, pos, neg_ℤ, ◌≤ℤ◌, ◌<ℤ◌, ◌+ℤ◌, ◌-ℤ◌}
-use Rattle.std.specs.Prelude.{int_le, unsigned_abs}
+use Rattle.std.proofs.Common.{append_assoc, Option, ◌*◌, ◌≡◌, ℕ, zero, suc, ◌<◌, ◌≤◌, Bool, true, false, cond, max}
+use Rattle.std.proofs.Common.{List, [], ◌∷◌, ◌++◌, map, filter, length, inl, inr, Some, None, refl, sym, ap, ◌∙◌, subst}
+use Rattle.std.proofs.Common.{arith, ℤ, pos, neg_ℤ, ◌≤ℤ◌, ◌<ℤ◌, ◌+ℤ◌}
+use Rattle.std.specs.Prelude.{int_le}
 use Rattle.std.specs.List.{AllByRecursion}
-use Rattle.std.specs.Option.{unwrap_or}
+use Rattle.std.specs.Option.{unwrap_or, IfSome}
 use Rattle.std.specs.Int.{int_max}
 use Rattle.std.proofs.lemmas.Int.{ints, clamps}
-use Rattle.std.proofs.lemmas.List.{length-append}
+use Rattle.std.proofs.lemmas.List.{length-append, append-nil}
 use Rattle.std.proofs.Math.Nat.{max-eq_left, max-eq_right}
 use Rattle.ghcn_fields.specs.Days.{block_of, is_day, day_if, first_day, last_day}
 use Rattle.ghcn_fields.specs.Sorting.{greatest}
@@ -20,39 +22,96 @@ use Rattle.rank_blocks.specs.declared.range.BlockRange.{BlockRange}
 use Rattle.rank_blocks.specs.declared.extreme.Extreme.{Extreme}
 use Rattle.rank_blocks.specs.Blocks.{total, blocks_total, days_reached}
 use Rattle.rank_blocks.specs.Bounds.{bound, bound_for, greatest_by, greatest_total, blocks_of_window, IsAskedOf}
-use Rattle.rank_blocks.specs.Greatest.{IsGreatest, IsRunLength, IsBlocksTotal}
-use Rattle.rank_blocks.specs.Reached.{in_range, days_in_range, score_of, IsDaysTotal}
+use Rattle.rank_blocks.specs.Greatest.{IsGreatest, IsRunLength, IsBlocksTotal, IsBoundFor}
+use Rattle.rank_blocks.specs.Reached.{IsNear, IsRangeOf, in_range, days_in_range, score_of, IsDaysTotal}
 use Rattle.ghcn_series.specs.Packed.{AreRising}
-use Rattle.rank_blocks.proofs.JoinedRuns.{at_most_or_more}
+use Rattle.rank_blocks.proofs.DayTests.{at_most_or_more, both_pass, int_le-true, int_le_or_lt, between, is-between}
 use Rattle.rank_blocks.proofs.Members.{from_each, greatest-unique}
-use Rattle.rank_blocks.proofs.DayValues.{both_pass, pass_both, int_le-true, le-int_le}
-use Rattle.rank_blocks.proofs.WindowTotals.{int_le_or_lt}
-use Rattle.rank_blocks.proofs.LongestRuns.{distance}
 use Rattle.rank_blocks.proofs.ReachedDays.{such-kept, such-has, value_on-among}
 use Rattle.rank_blocks.proofs.Computed.{days-valid, total-greatest}
 use Rattle.rank_blocks.proofs.Above.{sums-fall}
-use Rattle.rank_blocks.proofs.BoundsMet.{IsRangeOf, range-is}
+use Rattle.rank_blocks.proofs.BoundsMet.{range-is, bound-for, bound-computed}
 
--- what is made of days that pass, with one more that does
-pub made-more : (f : DayValue → ℤ) (p : DayValue → Bool) (read : List DayValue) (x : DayValue) → p x ≡ true → map f (filter p (read ++ x ∷ [])) ≡ map f (filter p read) ++ f x ∷ []
-made-more f p [] x passes = ap (λ (t : Bool). map f (cond t (x ∷ []) [])) passes
-made-more f p (y ∷ ys) x passes =
-    elim (p y) as (λ t. map f (cond t (y ∷ filter p (ys ++ x ∷ [])) (filter p (ys ++ x ∷ []))) ≡ map f (cond t (y ∷ filter p ys) (filter p ys)) ++ f x ∷ []) [
-      | true ↦ ap (λ zs. f y ∷ zs) (made-more f p ys x passes)
-      | false ↦ made-more f p ys x passes
+-- what is made of some days that pass and one more day
+made-push : (f : DayValue → ℤ) (p : DayValue → Bool) (read : List DayValue) (x : DayValue)
+    → map f (filter p (read ++ x ∷ [])) ≡ map f (filter p read) ++ cond (p x) (f x ∷ []) []
+made-push f p [] x =
+    elim (p x) as (λ t. map f (cond t (x ∷ []) []) ≡ cond t (f x ∷ []) []) [ true ↦ refl | false ↦ refl ]
+made-push f p (y ∷ ys) x =
+    elim (p y) as (λ t. map f (cond t (y ∷ filter p (ys ++ x ∷ [])) (filter p (ys ++ x ∷ [])))
+    ≡ map f (cond t (y ∷ filter p ys) (filter p ys)) ++ cond (p x) (f x ∷ []) []) [
+      | true ↦ ap (λ zs. f y ∷ zs) (made-push f p ys x)
+      | false ↦ made-push f p ys x
     ]
 
--- with one more that doesn't
-pub made-same : (f : DayValue → ℤ) (p : DayValue → Bool) (read : List DayValue) (x : DayValue) → p x ≡ false → map f (filter p (read ++ x ∷ [])) ≡ map f (filter p read)
-made-same f p [] x fails = ap (λ (t : Bool). map f (cond t (x ∷ []) [])) fails
-made-same f p (y ∷ ys) x fails =
-    elim (p y) as (λ t. map f (cond t (y ∷ filter p (ys ++ x ∷ [])) (filter p (ys ++ x ∷ []))) ≡ map f (cond t (y ∷ filter p ys) (filter p ys))) [
-      | true ↦ ap (λ zs. f y ∷ zs) (made-same f p ys x fails)
-      | false ↦ made-same f p ys x fails
-    ]
+-- with one that passes
+made-more : (f : DayValue → ℤ) (p : DayValue → Bool) (read : List DayValue) (x : DayValue) → p x ≡ true
+    → map f (filter p (read ++ x ∷ [])) ≡ map f (filter p read) ++ f x ∷ []
+made-more f p read x is = made-push f p read x ∙ ap (λ t. map f (filter p read) ++ cond t (f x ∷ []) []) is
+
+-- with a day that fails
+made-same : (f : DayValue → ℤ) (p : DayValue → Bool) (read : List DayValue) (x : DayValue) → p x ≡ false
+    → map f (filter p (read ++ x ∷ [])) ≡ map f (filter p read)
+made-same f p read x is =
+    made-push f p read x ∙ ap (λ t. map f (filter p read) ++ cond t (f x ∷ []) []) is
+    ∙ append-nil (map f (filter p read))
+
+-- some of these days were read, and the rest are to come
+pub record AreRead (days read rest : List DayValue) : Type 0 where
+  pub split : days ≡ read ++ rest
+
+-- one more day was read
+pub read-day : (days read rest : List DayValue) (it : List DayValue) (x : DayValue) → AreRead days read it
+    → it ≡ x ∷ rest
+    → AreRead days (read ++ x ∷ []) rest
+read-day days read rest it x h is =
+    record { split = h.split ∙ ap (λ ys. read ++ ys) is ∙ sym (append_assoc read (x ∷ []) rest) }
+
+-- where none is to come, all were read
+pub all-read : (days read it : List DayValue) → AreRead days read it → it ≡ [] → days ≡ read
+all-read days read it h none = h.split ∙ ap (λ ys. read ++ ys) none ∙ append-nil read
+
+-- the greatest score of the days read, as it was found
+pub record IsFound (f : DayValue → ℤ) (p : DayValue → Bool) (days rest : List DayValue)
+    (found : Option ℤ) : Type 0 where
+  pub read : List DayValue
+  pub are : AreRead days read rest
+  pub greatest_is : greatest (map f (filter p read)) ≡ found
+  pub near : IfSome found IsNear
+
+module _ (f : DayValue → ℤ) (p : DayValue → Bool) (days it rest : List DayValue) (x : DayValue) (found : Option ℤ)
+    (far : IsFound f p days it found) (steps : it ≡ x ∷ rest) where
+  -- with a day that passes
+  pub found-in : (z next : ℤ) → p x ≡ true → f x ≡ z
+      → ((zs : List ℤ) → greatest zs ≡ found → greatest (zs ++ z ∷ []) ≡ Some next) → IsNear next
+      → IsFound f p days rest (Some next)
+  found-in z next passes is greater near = record {
+    read = far.read ++ x ∷ [];
+    are = read-day days far.read rest it x far.are steps;
+    greatest_is =
+        ap greatest (made-more f p far.read x passes ∙ ap (λ (y : ℤ). map f (filter p far.read) ++ y ∷ []) is)
+        ∙ greater (map f (filter p far.read)) far.greatest_is;
+    near = near;
+  }
+
+  -- with one that doesn't
+  pub found-out : p x ≡ false → IsFound f p days rest found
+  found-out fails = record {
+    read = far.read ++ x ∷ [];
+    are = read-day days far.read rest it x far.are steps;
+    greatest_is = ap greatest (made-same f p far.read x fails) ∙ far.greatest_is;
+    near = far.near;
+  }
+
+-- once all days are read
+pub found-end : (f : DayValue → ℤ) (p : DayValue → Bool) (days it : List DayValue) (found : Option ℤ) → it ≡ []
+    → IsFound f p days it found → greatest (map f (filter p days)) ≡ found
+found-end f p days it found none far = ap (λ ys. greatest (map f (filter p ys)))
+    (all-read days far.read it far.are none) ∙ far.greatest_is
 
 -- days that rise behind one are no more than the calendar has behind it
-few-days : (b : ℤ) (days : List DayValue) → b ≤ℤ last_day → AreRising days → AllByRecursion (λ x. b <ℤ x.0) days → AllByRecursion (λ x. is_day x.0 ≡ true) days → (b +ℤ pos (length days)) ≤ℤ last_day
+few-days : (b : ℤ) (days : List DayValue) → b ≤ℤ last_day → AreRising days → AllByRecursion (λ x. b <ℤ x.0) days
+    → AllByRecursion (λ x. is_day x.0 ≡ true) days → (b +ℤ pos (length days)) ≤ℤ last_day
 few-days b [] le rise behind valid = omega (arith, ints)
 few-days b (x ∷ xs) le rise behind valid =
     let first = behind.0 in
@@ -65,20 +124,10 @@ pub series-few : (s : Usable) → IsSeries s → AreRising s.days → length s.d
 series-few s series rise =
     let valid = days-valid s s.days series.values in
     let behind = from_each (λ x. is_day x.0 ≡ true) (λ x. neg_ℤ (pos 719_163) <ℤ x.0) s.days
-    (λ x day. let low = int_le-true first_day x.0 (both_pass (int_le first_day x.0) (int_le x.0 last_day) day).0 in omega (arith, ints)) valid in
+    (λ x day. let low = int_le-true first_day x.0 (both_pass (int_le first_day x.0) (int_le x.0 last_day) day).0 in
+    omega (arith, ints)) valid in
     let few = few-days (neg_ℤ (pos 719_163)) s.days (omega (arith, ints)) rise behind valid in
     omega (arith, ints)
-
--- the days read are no more than all
-pub read-few : (read rest : List DayValue) (x : DayValue) (all : List DayValue) → all ≡ read ++ x ∷ rest → length all ≤ 3_652_059 → length read < 3_652_059
-read-few read rest x all split few =
-    let len = ap length split in
-    let parts = length-append read (x ∷ rest) in
-    omega arith
-
--- one more day was read
-pub read-more : (read : List DayValue) (x : DayValue) → length (read ++ x ∷ []) ≡ length read + 1
-read-more read x = length-append read (x ∷ [])
 
 -- a sum with one more number
 pub total-more : (zs : List ℤ) (v : ℤ) → total (zs ++ v ∷ []) ≡ total zs +ℤ v
@@ -87,34 +136,68 @@ total-more (z ∷ zs) v = let rest = total-more zs v in omega (arith, ints)
 
 -- ---- windows
 
--- a number negated is as large
-abs-of : (n : ℕ) → unsigned_abs (neg_ℤ (pos n)) ≡ n
-abs-of zero = refl
-abs-of (suc n) = refl
+-- the total of the days read that pass, as it was found
+pub record IsTotal (p : DayValue → Bool) (days rest : List DayValue) (sum : ℤ) : Type 0 where
+  pub read : List DayValue
+  pub are : AreRead days read rest
+  pub total_is : total (map (λ x. x.1) (filter p read)) ≡ sum
+  pub low : neg_ℤ (pos (2_147_483_648 * length read)) ≤ℤ sum
+  pub high : sum ≤ℤ pos (2_147_483_648 * length read)
 
--- so many blocks lie between two
-pub blocks-between : (first last : ℤ) (n : ℕ) → first ≤ℤ last → n ≡ unsigned_abs (first -ℤ last) → (first +ℤ pos n) ≡ last
-blocks-between first last n le is =
-    let far = distance first last le in
-    let at = far.1 in
-    let less : first -ℤ last ≡ neg_ℤ (pos far.0) = omega (arith, ints) in
-    let same : n ≡ unsigned_abs (neg_ℤ (pos far.0)) = is ∙ ap unsigned_abs less in
-    let abs : unsigned_abs (neg_ℤ (pos far.0)) ≡ far.0 = abs-of far.0 in
-    omega (arith, ints)
+module _ (p : DayValue → Bool) (days it rest : List DayValue) (x : DayValue) (sum : ℤ) (far : IsTotal p days it sum)
+    (steps : it ≡ x ∷ rest) where
+  -- the days read before one are fewer than all
+  pub total-few : length days ≤ 3_652_059 → length far.read < 3_652_059
+  total-few few =
+      let len = ap length (far.are.split ∙ ap (λ ys. far.read ++ ys) steps) in
+      let parts = length-append far.read (x ∷ rest) in
+      omega arith
 
--- the greatest total of the windows that begin at the range's last block, or at one of its first blocks
-pub record IsMostOf (r : BlockRange) (days : List DayValue) (w : ℕ) (seen : ℕ) (found : ℤ) : Type 0 where
+  -- a day of the window is added
+  pub total-in : (next : ℤ) → p x ≡ true → next ≡ sum +ℤ x.1 → neg_ℤ (pos 2_147_483_648) ≤ℤ x.1
+      → x.1 ≤ℤ pos 2_147_483_648
+      → IsTotal p days rest next
+  total-in next passes is least most =
+      let more = length-append far.read (x ∷ []) in
+      let low = far.low in
+      let high = far.high in
+      let before = far.total_is in
+      let added = ap total (made-more (λ y. y.1) p far.read x passes) ∙ total-more
+      (map (λ y. y.1) (filter p far.read)) x.1 in
+      record {
+        read = far.read ++ x ∷ [];
+        are = read-day days far.read rest it x far.are steps;
+        total_is = omega (arith, ints);
+        low = omega (arith, ints);
+        high = omega (arith, ints);
+      }
+
+  -- another one isn't
+  pub total-out : (next : ℤ) → p x ≡ false → next ≡ sum → IsTotal p days rest next
+  total-out next fails is =
+      let more = length-append far.read (x ∷ []) in
+      let low = far.low in
+      let high = far.high in
+      record {
+        read = far.read ++ x ∷ [];
+        are = read-day days far.read rest it x far.are steps;
+        total_is = ap total (made-same (λ y. y.1) p far.read x fails) ∙ far.total_is ∙ sym is;
+        low = omega (arith, ints);
+        high = omega (arith, ints);
+      }
+
+-- once all days are read
+pub total-end : (p : DayValue → Bool) (days it : List DayValue) (sum : ℤ) → it ≡ [] → IsTotal p days it sum
+    → total (map (λ x. x.1) (filter p days)) ≡ sum
+total-end p days it sum none far =
+    ap (λ ys. total (map (λ x. x.1) (filter p ys))) (all-read days far.read it far.are none) ∙ far.total_is
+
+-- the greatest total of the windows from the range's last block and from its blocks before one
+pub record IsMostOf (r : BlockRange) (days : List DayValue) (w : ℕ) (next found : ℤ) : Type 0 where
   pub one : IsDaysTotal r days w found
+  pub from : r.first ≤ℤ next
   pub last : blocks_total days w r.last ≤ℤ found
-  pub each : (i : ℕ) → i < seen → blocks_total days w (r.first +ℤ pos i) ≤ℤ found
-
--- a block from the first to the last is in the range
-in_range-from : (r : BlockRange) (b : ℤ) → r.first ≤ℤ b → b ≤ℤ r.last → in_range r b ≡ true
-in_range-from r b low high = pass_both (int_le r.first b) (int_le b r.last) (le-int_le r.first b low) (le-int_le b r.last high)
-
--- at first
-pub most-start : (r : BlockRange) (days : List DayValue) (w : ℕ) → r.first ≤ℤ r.last → IsMostOf r days w 0 (blocks_total days w r.last)
-most-start r days w le = record { one = (r.last, in_range-from r r.last le (omega (arith, ints)), refl); last = omega (arith, ints); each = λ i lt. absurd (omega arith) }
+  pub each : (b : ℤ) → r.first ≤ℤ b → b <ℤ next → blocks_total days w b ≤ℤ found
 
 -- the greater of two is one of them
 greater-one : (P : ℤ → Type 0) (a b : ℤ) → P a → P b → P (int_max a b)
@@ -124,59 +207,60 @@ greater-one P a b of_a of_b =
       | inr lt ↦ let is : int_max a b ≡ a = omega (arith, ints, clamps) in subst P (sym is) of_a
     ]
 
--- with one more block
-pub most-more : (r : BlockRange) (days : List DayValue) (w seen : ℕ) (found : ℤ) → (r.first +ℤ pos seen) ≤ℤ r.last → IsMostOf r days w seen found
-    → IsMostOf r days w (seen + 1) (int_max found (blocks_total days w (r.first +ℤ pos seen)))
-most-more r days w seen found le most =
-    let b : ℤ = r.first +ℤ pos seen in
-    let T : ℤ → ℤ = blocks_total days w in
-    let last = most.last in
-    record {
-      one = greater-one (IsDaysTotal r days w) found (blocks_total days w (r.first +ℤ pos seen)) most.one (r.first +ℤ pos seen, in_range-from r (r.first +ℤ pos seen) (omega (arith, ints)) le, refl);
-      last = omega (arith, ints, clamps);
-      each = λ i lt.
-          elim (at_most_or_more seen i) [
-            | inr before ↦ let old = most.each i before in omega (arith, ints, clamps)
-            | inl here ↦
-                let same : r.first +ℤ pos i ≡ r.first +ℤ pos seen = omega (arith, ints) in
-                let total = ap (blocks_total days w) same in
-                omega (arith, ints, clamps)
-          ];
-    }
+module _ (r : BlockRange) (days : List DayValue) (w : ℕ) where
+  -- with one more block
+  pub most-more : (b after found next : ℤ) → after ≡ b +ℤ pos 1 → next ≡ int_max found (blocks_total days w b)
+      → b <ℤ r.last → IsMostOf r days w b found → IsMostOf r days w after next
+  most-more b after found next after_is is high most =
+      let low = most.from in
+      let last = most.last in
+      record {
+        one = subst (IsDaysTotal r days w) (sym is)
+            (greater-one (IsDaysTotal r days w) found (blocks_total days w b) most.one
+            (b, is-between r.first b r.last low (omega (arith, ints)), refl));
+        from = omega (arith, ints);
+        last = omega (arith, ints, clamps);
+        each = λ a from before.
+            elim (int_le_or_lt b a) [
+              | inr earlier ↦ let old = most.each a from earlier in omega (arith, ints, clamps)
+              | inl here ↦
+                  let same : a ≡ b = omega (arith, ints) in
+                  let total = ap (blocks_total days w) same in
+                  omega (arith, ints, clamps)
+            ];
+      }
 
--- at last
-pub most-end : (r : BlockRange) (days : List DayValue) (w seen : ℕ) (found : ℤ) → (r.first +ℤ pos seen) ≡ r.last → IsMostOf r days w seen found → IsGreatest (IsDaysTotal r days w) found
-most-end r days w seen found all most = record {
-  is_one = most.one;
-  is_most = λ y h.
-      let both = both_pass (int_le r.first h.0) (int_le h.0 r.last) h.1 in
-      let low = int_le-true r.first h.0 both.0 in
-      let high = int_le-true h.0 r.last both.1 in
-      let is = h.2 in
-      let place = distance r.first h.0 low in
-      let at = place.1 in
-      let total = ap (blocks_total days w) at in
-      elim (at_most_or_more seen place.0) [
-        | inr before ↦ let below = most.each place.0 before in omega (arith, ints)
-        | inl past ↦
-            let same : h.0 ≡ r.last = omega (arith, ints) in
-            let last_total = ap (blocks_total days w) same in
-            let below = most.last in
-            omega (arith, ints)
-      ];
-}
+  -- once the last block is reached
+  pub most-end : (next found : ℤ) → r.last ≤ℤ next → IsMostOf r days w next found
+      → IsGreatest (IsDaysTotal r days w) found
+  most-end next found all most = record {
+    is_one = most.one;
+    is_most = λ y h.
+        let both = between r.first h.0 r.last h.1 in
+        let is = h.2 in
+        let last = most.last in
+        elim (int_le_or_lt r.last h.0) [
+          | inr before ↦ let below = most.each h.0 both.0 (omega (arith, ints)) in omega (arith, ints)
+          | inl past ↦
+              let same : h.0 ≡ r.last = (let high = both.1 in omega (arith, ints)) in
+              let total = ap (blocks_total days w) same in
+              omega (arith, ints)
+        ];
+  }
 
 -- ---- spells
 
 -- a day without a number in the calendar isn't of the kind
-pub no_day-such : (test : ℤ → Bool) (r : BlockRange) (s : Usable) → IsSeries s → (d : ℤ) → day_if d ≡ None → is_such test (days_in_range r s.days) d ≡ false
+pub no_day-such : (test : ℤ → Bool) (r : BlockRange) (s : Usable) → IsSeries s → (d : ℤ) → day_if d ≡ None
+    → is_such test (days_in_range r s.days) d ≡ false
 no_day-such test r s series d none =
     elim (is_such test (days_in_range r s.days) d) as (λ t. is_such test (days_in_range r s.days) d ≡ t → t ≡ false) [
       | false ↦ λ e. refl
       | true ↦ λ e.
           let kept = such-kept test (λ n. in_range r (block_of n)) s.days d e in
           let has = such-has test (value_on s.days d) kept.1 in
-          let day = value_on-among (λ (n v : ℤ). is_day n ≡ true) s.days d has.0 (days-valid s s.days series.values) has.1 in
+          let day = value_on-among (λ (n v : ℤ). is_day n ≡ true) s.days d has.0
+          (days-valid s s.days series.values) has.1 in
           let found : day_if d ≡ Some d = ap (λ (b : Bool). cond b (Some d) None) day in
           absurd cc
     ] refl
@@ -191,7 +275,8 @@ pub day_is : (d e : ℤ) → day_if d ≡ Some e → e ≡ d
 day_is d e h = is_Some (is_day d) d e h
 
 -- a day that isn't in the range isn't of the kind among its days
-pub out-such : (test : ℤ → Bool) (r : BlockRange) (days : List DayValue) (d : ℤ) → in_range r (block_of d) ≡ false → is_such test (days_in_range r days) d ≡ false
+pub out-such : (test : ℤ → Bool) (r : BlockRange) (days : List DayValue) (d : ℤ) → in_range r (block_of d) ≡ false
+    → is_such test (days_in_range r days) d ≡ false
 out-such test r days d out =
     elim (is_such test (days_in_range r days) d) as (λ t. is_such test (days_in_range r days) d ≡ t → t ≡ false) [
       | false ↦ λ e. refl
@@ -199,7 +284,8 @@ out-such test r days d out =
     ] refl
 
 -- a run from a day that ends after so many days is the longest from it on
-pub run-bounded : (such : ℤ → Bool) (a : ℤ) (found len : ℕ) → (found < calendar_len → such (a +ℤ pos found) ≡ false) → len ≤ calendar_len → ((i : ℕ) → i < len → such (a +ℤ pos i) ≡ true) → len ≤ found
+pub run-bounded : (such : ℤ → Bool) (a : ℤ) (found len : ℕ) → (found < calendar_len → such (a +ℤ pos found) ≡ false)
+    → len ≤ calendar_len → ((i : ℕ) → i < len → such (a +ℤ pos i) ≡ true) → len ≤ found
 run-bounded such a found len ends short pass =
     elim (at_most_or_more len found) [
       | inl le ↦ le
@@ -207,7 +293,8 @@ run-bounded such a found len ends short pass =
     ]
 
 -- the longer of a run that was found and one from a day on is a run
-pub longer-run : (such : ℤ → Bool) (found here longer : ℕ) (a : ℤ) → longer ≡ max found here → IsRunLength such (pos found) → ((i : ℕ) → i < here → such (a +ℤ pos i) ≡ true) → IsRunLength such (pos longer)
+pub longer-run : (such : ℤ → Bool) (found here longer : ℕ) (a : ℤ) → longer ≡ max found here
+    → IsRunLength such (pos found) → ((i : ℕ) → i < here → such (a +ℤ pos i) ≡ true) → IsRunLength such (pos longer)
 longer-run such found here longer a is run pass =
     let P : ℕ → Type 0 = λ n. IsRunLength such (pos n) in
     elim (at_most_or_more found here) [
@@ -216,7 +303,8 @@ longer-run such found here longer a is run pass =
     ]
 
 -- a day of the kind is a day of the calendar, and all that is true of each day is true of it
-kind-day : (test : ℤ → Bool) (r : BlockRange) (s : Usable) (Q : ℤ → Type 0) → AllByRecursion (λ x. Q x.0) s.days → (d : ℤ) → is_such test (days_in_range r s.days) d ≡ true → Q d
+kind-day : (test : ℤ → Bool) (r : BlockRange) (s : Usable) (Q : ℤ → Type 0) → AllByRecursion (λ x. Q x.0) s.days
+    → (d : ℤ) → is_such test (days_in_range r s.days) d ≡ true → Q d
 kind-day test r s Q all d e =
     let kept = such-kept test (λ n. in_range r (block_of n)) s.days d e in
     let has = such-has test (value_on s.days d) kept.1 in
@@ -224,23 +312,32 @@ kind-day test r s Q all d e =
 
 -- no run is longer than those from the days of the series
 no-longer : (test : ℤ → Bool) (r : BlockRange) (s : Usable) (found : ℕ) → IsSeries s
-    → AllByRecursion (λ x. (len : ℕ) → len ≤ calendar_len → ((i : ℕ) → i < len → is_such test (days_in_range r s.days) (x.0 +ℤ pos i) ≡ true) → len ≤ found) s.days
+    → AllByRecursion
+    (λ x. (len : ℕ) → len ≤ calendar_len
+    → ((i : ℕ) → i < len → is_such test (days_in_range r s.days) (x.0 +ℤ pos i) ≡ true) → len ≤ found) s.days
     → (len : ℕ) (a : ℤ) → ((i : ℕ) → i < len → is_such test (days_in_range r s.days) (a +ℤ pos i) ≡ true) → len ≤ found
 no-longer test r s found series each zero a pass = omega arith
 no-longer test r s found series each (suc n) a pass =
-    let Most : ℤ → Type 0 = λ d. (len : ℕ) → len ≤ calendar_len → ((i : ℕ) → i < len → is_such test (days_in_range r s.days) (d +ℤ pos i) ≡ true) → len ≤ found in
+    let Most : ℤ → Type 0 = λ d. (len : ℕ) → len ≤ calendar_len
+    → ((i : ℕ) → i < len → is_such test (days_in_range r s.days) (d +ℤ pos i) ≡ true) → len ≤ found in
     let same : a +ℤ pos 0 ≡ a = omega (arith, ints) in
-    let first : is_such test (days_in_range r s.days) a ≡ true = ap (is_such test (days_in_range r s.days)) (sym same) ∙ pass 0 (omega arith) in
+    let first : is_such test (days_in_range r s.days) a ≡ true = ap (is_such test (days_in_range r s.days)) (sym same)
+    ∙ pass 0 (omega arith) in
     let valid = days-valid s s.days series.values in
     let begins = kind-day test r s (λ d. is_day d ≡ true) valid a first in
     let ends = kind-day test r s (λ d. is_day d ≡ true) valid (a +ℤ pos n) (pass n (omega arith)) in
     let low = int_le-true first_day a (both_pass (int_le first_day a) (int_le a last_day) begins).0 in
-    let high = int_le-true (a +ℤ pos n) last_day (both_pass (int_le first_day (a +ℤ pos n)) (int_le (a +ℤ pos n) last_day) ends).1 in
+    let high =
+    int_le-true (a +ℤ pos n) last_day
+    (both_pass (int_le first_day (a +ℤ pos n)) (int_le (a +ℤ pos n) last_day) ends).1 in
     kind-day test r s Most each a first (suc n) (omega (arith, ints)) pass
 
 -- where no run from a day of the series is longer, it is the longest
-pub longest-IsGreatest : (test : ℤ → Bool) (r : BlockRange) (s : Usable) (found : ℕ) → IsSeries s → IsRunLength (is_such test (days_in_range r s.days)) (pos found)
-    → AllByRecursion (λ x. (len : ℕ) → len ≤ calendar_len → ((i : ℕ) → i < len → is_such test (days_in_range r s.days) (x.0 +ℤ pos i) ≡ true) → len ≤ found) s.days
+pub longest-IsGreatest : (test : ℤ → Bool) (r : BlockRange) (s : Usable) (found : ℕ) → IsSeries s
+    → IsRunLength (is_such test (days_in_range r s.days)) (pos found)
+    → AllByRecursion
+    (λ x. (len : ℕ) → len ≤ calendar_len
+    → ((i : ℕ) → i < len → is_such test (days_in_range r s.days) (x.0 +ℤ pos i) ≡ true) → len ≤ found) s.days
     → IsGreatest (IsRunLength (is_such test (days_in_range r s.days))) (pos found)
 longest-IsGreatest test r s found series run each = record {
   is_one = run;
@@ -255,13 +352,16 @@ bound-score q s score is = ap (λ (k : Score). bound_for k q s) (sym is)
 
 module _ (r : BlockRange) (q : Asked) (s : Usable) (of : IsRangeOf r q) where
   -- the greatest score of the days in the range's blocks is that of the days reached
-  pub score-plain : (k : Extreme) → unwrap_or (greatest (map (λ x. score_of k x.1) (days_in_range r s.days))) (pos 0) ≡ greatest_by (score_of k) (days_reached q s)
+  pub score-plain : (k : Extreme) → unwrap_or (greatest (map (λ x. score_of k x.1) (days_in_range r s.days)))
+      (pos 0) ≡ greatest_by (score_of k) (days_reached q s)
   score-plain k =
-      let made : (ℤ → Bool) → ℤ = λ p. unwrap_or (greatest (map (λ x. score_of k x.1) (filter (λ x. p (block_of x.0)) s.days))) (pos 0) in
+      let made : (ℤ → Bool) → ℤ =
+      λ p. unwrap_or (greatest (map (λ x. score_of k x.1) (filter (λ x. p (block_of x.0)) s.days))) (pos 0) in
       ap made (range-is r q of)
 
   -- the greatest total of windows from the range's blocks is that of windows from the period's
-  pub window-plain : (n : ℕ) (e : Element) (z : ℤ) → IsAsked q → IsAskedOf q s → q.score ≡ Sum n e → IsGreatest (IsDaysTotal r s.days (blocks_of_window n)) z → z ≡ greatest_total q s.days (blocks_of_window n)
+  pub window-plain : (n : ℕ) (e : Element) (z : ℤ) → IsAsked q → IsAskedOf q s → q.score ≡ Sum n e
+      → IsGreatest (IsDaysTotal r s.days (blocks_of_window n)) z → z ≡ greatest_total q s.days (blocks_of_window n)
   window-plain n e z asked asked_of is of_z =
       let w : ℕ = blocks_of_window n in
       let same = range-is r q of in
@@ -271,11 +371,15 @@ module _ (r : BlockRange) (q : Asked) (s : Usable) (of : IsRangeOf r q) where
         is_one = (one.0, sym (ap (λ (P : ℤ → Bool). P one.0) same) ∙ one.1, one.2);
         is_most = λ y h. of_z.is_most y (h.0, ap (λ (P : ℤ → Bool). P h.0) same ∙ h.1, h.2);
       } in
-      greatest-unique (IsBlocksTotal q.period s.days (blocks_of_window n)) z (greatest_total q s.days (blocks_of_window n)) here
+      greatest-unique (IsBlocksTotal q.period s.days (blocks_of_window n)) z
+      (greatest_total q s.days (blocks_of_window n)) here
       (total-greatest q s (blocks_of_window n) (omega arith) asked_of.admitted_day falls)
 
-  -- the longest run in the range's blocks is that of the days reached
-  pub run-plain : (test : ℤ → Bool) (z : ℤ) → IsGreatest (IsRunLength (is_such test (days_in_range r s.days))) z → IsGreatest (IsRunLength (is_such test (days_reached q s))) z
-  run-plain test z longest =
-      let P : (ℤ → Bool) → Type 0 = λ p. IsGreatest (IsRunLength (is_such test (filter (λ x. p (block_of x.0)) s.days))) z in
-      subst P (range-is r q of) longest
+  -- the longest run in the range's blocks is the bound for its kind
+  pub run-plain : IsAsked q → IsAskedOf q s → (score : Score) (test : ℤ → Bool) (z : ℤ) → q.score ≡ score
+      → ((z : ℤ) → IsGreatest (IsRunLength (is_such test (days_reached q s))) z → IsBoundFor score q s z)
+      → IsGreatest (IsRunLength (is_such test (days_in_range r s.days))) z → z ≡ bound q s
+  run-plain asked asked_of score test z is bound_of longest =
+      let P : (ℤ → Bool) → Type 0 = λ p. IsGreatest (IsRunLength (is_such test (filter (λ x. p (block_of x.0)) s.days)))
+      z in
+      bound-computed q s z asked asked_of (bound-for q s score z is (bound_of z (subst P (range-is r q of) longest)))

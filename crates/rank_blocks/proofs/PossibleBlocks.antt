@@ -1,5 +1,6 @@
 -- What is true of the summaries of every series.
-use Rattle.std.proofs.Common.{◌≡◌, ◌≤◌, List, [], ◌∷◌, map, length, arith, ℤ, pos, neg_ℤ, ◌≤ℤ◌, ◌+ℤ◌}
+use Rattle.std.proofs.Common.{◌≡◌, ℕ, zero, suc, drop, ◌≤◌, List, [], ◌∷◌, map, length, arith, ℤ, pos, neg_ℤ, ◌≤ℤ◌}
+use Rattle.std.proofs.Common.{◌+ℤ◌}
 use Rattle.std.specs.List.{AllByRecursion}
 use Rattle.std.specs.List.Sorted.{IsStrictlySortedBy}
 use Rattle.std.specs.Ordering.{int_cmp}
@@ -11,17 +12,20 @@ use Rattle.rank_blocks.proofs.Numbers.{int_cmp-less}
 use Rattle.rank_blocks.proofs.WindowTotals.{AreBehind}
 
 -- numbers that stand behind another in order are greater
-numbers-behind : (b : ℤ) (ms : List Summary) → AllByRecursion (λ n. int_cmp b n ≡ Less) (map (λ m. m.number) ms) → AreBehind b ms
+numbers-behind : (b : ℤ) (ms : List Summary) → AllByRecursion (λ n. int_cmp b n ≡ Less) (map (λ m. m.number) ms)
+    → AreBehind b ms
 numbers-behind b [] h = tt
 numbers-behind b (m ∷ ms) h = (int_cmp-less b m.number h.0, numbers-behind b ms h.1)
 
 -- blocks by number: those behind the first have greater numbers
-pub sorted-behind : (m : Summary) (ms : List Summary) → IsStrictlySortedBy int_cmp (map (λ k. k.number) (m ∷ ms)) → AreBehind m.number ms
+pub sorted-behind : (m : Summary) (ms : List Summary) → IsStrictlySortedBy int_cmp (map (λ k. k.number) (m ∷ ms))
+    → AreBehind m.number ms
 unfolding IsStrictlySortedBy
 sorted-behind m ms h = numbers-behind m.number ms h.0
 
 -- and are by number themselves
-pub sorted-tail : (m : Summary) (ms : List Summary) → IsStrictlySortedBy int_cmp (map (λ k. k.number) (m ∷ ms)) → IsStrictlySortedBy int_cmp (map (λ k. k.number) ms)
+pub sorted-tail : (m : Summary) (ms : List Summary) → IsStrictlySortedBy int_cmp (map (λ k. k.number) (m ∷ ms))
+    → IsStrictlySortedBy int_cmp (map (λ k. k.number) ms)
 unfolding IsStrictlySortedBy
 sorted-tail m ms h = h.1
 
@@ -29,8 +33,15 @@ sorted-tail m ms h = h.1
 pub possible-tail : (m : Summary) (ms : List Summary) → ArePossible (m ∷ ms) → ArePossible ms
 possible-tail m ms h = record { each = h.each.1; by_number = sorted-tail m ms h.by_number }
 
+-- and of those from a place on
+pub possible-drop : (ms : List Summary) (i : ℕ) → ArePossible ms → ArePossible (drop i ms)
+possible-drop ms zero h = h
+possible-drop [] (suc i) h = h
+possible-drop (m ∷ ms) (suc i) h = possible-drop ms i (possible-tail m ms h)
+
 -- blocks behind a number are no more than there are numbers
-few-behind : (b : ℤ) (ms : List Summary) → b ≤ℤ pos 91_653 → AllByRecursion IsPossible ms → IsStrictlySortedBy int_cmp (map (λ m. m.number) ms) → AreBehind b ms → (b +ℤ pos (length ms)) ≤ℤ pos 91_653
+few-behind : (b : ℤ) (ms : List Summary) → b ≤ℤ pos 91_653 → AllByRecursion IsPossible ms
+    → IsStrictlySortedBy int_cmp (map (λ m. m.number) ms) → AreBehind b ms → (b +ℤ pos (length ms)) ≤ℤ pos 91_653
 few-behind b [] low possible sorted behind = omega (arith, ints)
 few-behind b (m ∷ ms) low possible sorted behind =
     let high = possible.0.high in
@@ -48,7 +59,3 @@ pub possible-few : (ms : List Summary) → ArePossible ms → length ms ≤ 114_
 possible-few ms h =
     let few = few-behind (neg_ℤ (pos 22_475)) ms (omega (arith, ints)) h.each h.by_number (all-behind ms h.each) in
     omega (arith, ints)
-
--- a block's total is within limits
-pub possible-total : (m : Summary) → IsPossible m → (neg_ℤ (pos 68_719_476_736) ≤ℤ m.total) × (m.total ≤ℤ pos 68_719_476_736)
-possible-total m h = (h.least_total, h.greatest_total)

@@ -1,5 +1,6 @@
 -- The days of the blocks of a range.
-use Rattle.std.proofs.Common.{◌≡◌, Bool, true, false, cond, List, [], ◌∷◌, map, filter, Option, Some, None, refl, sym, ap, ◌∙◌, subst, arith, ℤ, ◌≤ℤ◌}
+use Rattle.std.proofs.Common.{◌≡◌, Bool, true, false, cond, List, [], ◌∷◌, map, filter, Option, Some, None, refl, sym}
+use Rattle.std.proofs.Common.{ap, ◌∙◌, subst, arith, ℤ, ◌≤ℤ◌}
 use Rattle.std.specs.Prelude.{◌&&◌, int_le}
 use Rattle.std.specs.List.{AllByRecursion, Contains, find}
 use Rattle.std.specs.Option.{option_map, option_map_or}
@@ -16,8 +17,10 @@ use Rattle.rank_blocks.specs.declared.summary.Summary.{Summary}
 use Rattle.rank_blocks.specs.Blocks.{days_in, is_reached}
 use Rattle.rank_blocks.specs.Greatest.{IsGreatest, IsScore}
 use Rattle.rank_blocks.specs.Summaries.{IsSummary, AreSummaries}
-use Rattle.rank_blocks.proofs.Members.{from_both, for_every, all-passing, pick, stands, stands-wider, greatest-IsGreatest}
-use Rattle.rank_blocks.proofs.DayValues.{both_pass, pass_both, int_le-true, le-int_le, block-rises}
+use Rattle.rank_blocks.proofs.Members.{from_both, for_every, all-passing, pick, stands, stands-wider}
+use Rattle.rank_blocks.proofs.Members.{greatest-IsGreatest}
+use Rattle.rank_blocks.proofs.DayTests.{both_pass, pass_both, int_le-true, le-int_le}
+use Rattle.rank_blocks.proofs.DayValues.{block-rises}
 
 -- a day that isn't kept has no value
 nowhere : (b : Bool) → cond b (option_map {T = DayValue} (λ x. x.1) None) None ≡ None
@@ -30,12 +33,16 @@ module _ (p : ℤ → Bool) (d : ℤ) where
   kept xs = filter (λ x. p x.0) xs
 
   -- a day has its value after one more pair, kept or not
-  at : (x : DayValue) (xs : List DayValue) (b e : Bool) → p x.0 ≡ b → int_eq x.0 d ≡ e → value_on (kept xs) d ≡ cond (p d) (value_on xs d) None
-      → value_on (cond b (x ∷ kept xs) (kept xs)) d ≡ cond (p d) (option_map (λ y. y.1) (cond e (Some x) (find (λ y. int_eq y.0 d) xs))) None
+  at : (x : DayValue) (xs : List DayValue) (b e : Bool) → p x.0 ≡ b → int_eq x.0 d ≡ e
+      → value_on (kept xs) d ≡ cond (p d) (value_on xs d) None
+      → value_on (cond b (x ∷ kept xs) (kept xs)) d ≡ cond (p d)
+      (option_map (λ y. y.1) (cond e (Some x) (find (λ y. int_eq y.0 d) xs))) None
   at x xs true true hb he ih =
       let same : p d ≡ true = ap p (sym ((Decides-int_eq x.0 d).0 he)) ∙ hb in
-      ap (λ (t : Bool). option_map (λ y. y.1) (cond t (Some x) (find (λ y. int_eq y.0 d) (kept xs)))) he ∙ sym (ap (λ (t : Bool). cond t (Some x.1) None) same)
-  at x xs true false hb he ih = ap (λ (t : Bool). option_map (λ y. y.1) (cond t (Some x) (find (λ y. int_eq y.0 d) (kept xs)))) he ∙ ih
+      ap (λ (t : Bool). option_map (λ y. y.1) (cond t (Some x) (find (λ y. int_eq y.0 d) (kept xs)))) he
+      ∙ sym (ap (λ (t : Bool). cond t (Some x.1) None) same)
+  at x xs true false hb he ih =
+      ap (λ (t : Bool). option_map (λ y. y.1) (cond t (Some x) (find (λ y. int_eq y.0 d) (kept xs)))) he ∙ ih
   at x xs false true hb he ih =
       let same : p d ≡ false = ap p (sym ((Decides-int_eq x.0 d).0 he)) ∙ hb in
       ih ∙ ap (λ (t : Bool). cond t (value_on xs d) None) same ∙ sym (ap (λ (t : Bool). cond t (Some x.1) None) same)
@@ -47,10 +54,12 @@ module _ (p : ℤ → Bool) (d : ℤ) where
   value_on-filter (x ∷ xs) = at x xs (p x.0) (int_eq x.0 d) refl refl (value_on-filter xs)
 
 -- a day that has a value is one of the days, and all that is true of each of them is true of it
-pub value_on-among : (Q : ℤ → ℤ → Type 0) (days : List DayValue) (d v : ℤ) → AllByRecursion (λ x. Q x.0 x.1) days → value_on days d ≡ Some v → Q d v
+pub value_on-among : (Q : ℤ → ℤ → Type 0) (days : List DayValue) (d v : ℤ) → AllByRecursion (λ x. Q x.0 x.1) days
+    → value_on days d ≡ Some v → Q d v
 value_on-among Q [] d v all e = absurd cc
 value_on-among Q (x ∷ xs) d v all e =
-    elim (int_eq x.0 d) as (λ t. int_eq x.0 d ≡ t → option_map (λ (y : DayValue). y.1) (cond t (Some x) (find (λ y. int_eq y.0 d) xs)) ≡ Some v → Q d v) [
+    elim (int_eq x.0 d) as (λ t. int_eq x.0 d ≡ t → option_map (λ (y : DayValue). y.1)
+    (cond t (Some x) (find (λ y. int_eq y.0 d) xs)) ≡ Some v → Q d v) [
       | true ↦ λ is h.
           let day : x.0 ≡ d = (Decides-int_eq x.0 d).0 is in
           let value : x.1 ≡ v = cc in
@@ -69,37 +78,40 @@ chosen true o v e = (refl, e)
 chosen false o v e = absurd cc
 
 -- a value among the days that pass a test is the day's own, and the day passes
-pub kept-value : (p : ℤ → Bool) (days : List DayValue) (d v : ℤ) → value_on (filter (λ x. p x.0) days) d ≡ Some v → (p d ≡ true) × (value_on days d ≡ Some v)
+pub kept-value : (p : ℤ → Bool) (days : List DayValue) (d v : ℤ) → value_on (filter (λ x. p x.0) days) d ≡ Some v
+    → (p d ≡ true) × (value_on days d ≡ Some v)
 kept-value p days d v e = chosen (p d) (value_on days d) v (sym (value_on-filter p d days) ∙ e)
 
--- where the day passes, its value is among them
-pub value-kept : (p : ℤ → Bool) (days : List DayValue) (d v : ℤ) → p d ≡ true → value_on days d ≡ Some v → value_on (filter (λ x. p x.0) days) d ≡ Some v
-value-kept p days d v passes e = value_on-filter p d days ∙ ap (λ (t : Bool). cond t (value_on days d) None) passes ∙ e
-
 -- of days that pass a test that d passes too, d is such a day or isn't, as before
-pub such-filter : (test : ℤ → Bool) (p : ℤ → Bool) (days : List DayValue) (d : ℤ) → p d ≡ true → is_such test (filter (λ x. p x.0) days) d ≡ is_such test days d
-such-filter test p days d passes = ap (λ (o : Option ℤ). option_map_or test o false) (value_on-filter p d days ∙ ap (λ (t : Bool). cond t (value_on days d) None) passes)
+pub such-filter : (test : ℤ → Bool) (p : ℤ → Bool) (days : List DayValue) (d : ℤ) → p d ≡ true
+    → is_such test (filter (λ x. p x.0) days) d ≡ is_such test days d
+such-filter test p days d passes = ap (λ (o : Option ℤ). option_map_or test o false)
+    (value_on-filter p d days ∙ ap (λ (t : Bool). cond t (value_on days d) None) passes)
 
 -- such a day among those that pass a test passes it, and is such a day among all
-pub such-kept : (test : ℤ → Bool) (p : ℤ → Bool) (days : List DayValue) (d : ℤ) → is_such test (filter (λ x. p x.0) days) d ≡ true → (p d ≡ true) × (is_such test days d ≡ true)
+pub such-kept : (test : ℤ → Bool) (p : ℤ → Bool) (days : List DayValue) (d : ℤ)
+    → is_such test (filter (λ x. p x.0) days) d ≡ true → (p d ≡ true) × (is_such test days d ≡ true)
 such-kept test p days d e =
     let has = such-has test (value_on (filter (λ x. p x.0) days) d) e in
     let kept = kept-value p days d has.0 has.1 in
     (kept.0, sym (such-filter test p days d kept.0) ∙ e)
 
 -- such a day among those that pass one test is such a day among those that pass a wider one
-pub such-wider : (test : ℤ → Bool) (p q : ℤ → Bool) (days : List DayValue) (d : ℤ) → ((n : ℤ) → p n ≡ true → q n ≡ true) → is_such test (filter (λ x. p x.0) days) d ≡ true → is_such test (filter (λ x. q x.0) days) d ≡ true
+pub such-wider : (test : ℤ → Bool) (p q : ℤ → Bool) (days : List DayValue) (d : ℤ) → ((n : ℤ) → p n ≡ true → q n ≡ true)
+    → is_such test (filter (λ x. p x.0) days) d ≡ true → is_such test (filter (λ x. q x.0) days) d ≡ true
 such-wider test p q days d wider e =
     let kept = such-kept test p days d e in
     such-filter test q days d (wider d kept.0) ∙ kept.1
 
 -- of two tests that a number passes both pass
-within_blocks : (low high d : ℤ) → (int_le low d && int_le d high) ≡ true → (int_le (block_of low) (block_of d) && int_le (block_of d) (block_of high)) ≡ true
+within_blocks : (low high d : ℤ) → (int_le low d && int_le d high) ≡ true
+    → (int_le (block_of low) (block_of d) && int_le (block_of d) (block_of high)) ≡ true
 within_blocks low high d e =
     let both = both_pass (int_le low d) (int_le d high) e in
     let first = block-rises low d (int_le-true low d both.0) in
     let last = block-rises d high (int_le-true d high both.1) in
-    pass_both (int_le (block_of low) (block_of d)) (int_le (block_of d) (block_of high)) (le-int_le (block_of low) (block_of d) first) (le-int_le (block_of d) (block_of high) last)
+    pass_both (int_le (block_of low) (block_of d)) (int_le (block_of d) (block_of high))
+    (le-int_le (block_of low) (block_of d) first) (le-int_le (block_of d) (block_of high) last)
 
 -- a day of the calendar and of a period lies in a block of the period
 reached_in : (p : Option (ℤ × ℤ)) (d : ℤ) → (is_day d && period_holds p d) ≡ true → is_reached p (block_of d) ≡ true
@@ -112,16 +124,23 @@ admitted-reached q d e = reached_in q.period d e
 
 -- ---- the greatest score of a day, from the summaries
 
-module _ (f : ℤ → ℤ) (g : Summary → ℤ) (P : ℤ → Bool) (s : Usable) (ms : List Summary) (are : AreSummaries s ms) (told : (m : Summary) → IsSummary s.days m → IsGreatest (IsScore f (days_in s.days m.number)) (g m)) where
+module _ (f : ℤ → ℤ) (g : Summary → ℤ) (P : ℤ → Bool) (s : Usable) (ms : List Summary) (are : AreSummaries s ms)
+    (told : (m : Summary) → IsSummary s.days m → IsGreatest (IsScore f (days_in s.days m.number)) (g m)) where
   -- each day's score is among those of its own block
-  own_block : AllByRecursion (λ x. (b : ℤ) → int_eq (block_of x.0) b ≡ true → Contains (map (λ y. f y.1) (days_in s.days b)) (f x.1)) s.days
-  own_block = for_every (λ (b : ℤ) (x : DayValue). int_eq (block_of x.0) b ≡ true → Contains (map (λ y. f y.1) (days_in s.days b)) (f x.1)) s.days (λ b. stands (λ y. f y.1) (λ x. int_eq (block_of x.0) b) s.days)
+  own_block : AllByRecursion
+      (λ x. (b : ℤ) → int_eq (block_of x.0) b ≡ true → Contains (map (λ y. f y.1) (days_in s.days b)) (f x.1)) s.days
+  own_block =
+      for_every
+      (λ (b : ℤ) (x : DayValue). int_eq (block_of x.0) b ≡ true → Contains (map (λ y. f y.1) (days_in s.days b))
+      (f x.1)) s.days (λ b. stands (λ y. f y.1) (λ x. int_eq (block_of x.0) b) s.days)
 
   -- the greatest score of the summaries of the blocks that pass is the greatest of their days
-  pub greatest-of_blocks : (z : ℤ) → greatest (map g (filter (λ m. P m.number) ms)) ≡ Some z → IsGreatest (IsScore f (filter (λ x. P (block_of x.0)) s.days)) z
+  pub greatest-of_blocks : (z : ℤ) → greatest (map g (filter (λ m. P m.number) ms)) ≡ Some z
+      → IsGreatest (IsScore f (filter (λ x. P (block_of x.0)) s.days)) z
   greatest-of_blocks z e =
       let of_z = greatest-IsGreatest (map g (filter (λ m. P m.number) ms)) z e in
-      let found = pick g (λ m. IsSummary s.days m × (P m.number ≡ true)) (filter (λ m. P m.number) ms) z (all-passing (IsSummary s.days) (λ m. P m.number) ms are.each) of_z.is_one in
+      let found = pick g (λ m. IsSummary s.days m × (P m.number ≡ true)) (filter (λ m. P m.number) ms) z
+      (all-passing (IsSummary s.days) (λ m. P m.number) ms are.each) of_z.is_one in
       let here = told found.0 found.1.0 in
       let Score : ℤ → Type 0 = λ n. Contains (map (λ x. f x.1) (days_in s.days found.0.number)) n in
       record {
@@ -129,11 +148,22 @@ module _ (f : ℤ → ℤ) (g : Summary → ℤ) (P : ℤ → Bool) (s : Usable)
             (λ x in_block. ap P ((Decides-int_eq (block_of x.0) found.0.number).0 in_block) ∙ found.1.1)
             (subst Score found.2 here.is_one);
         is_most = λ y h.
-            let Day : DayValue → Type 0 = λ x. ((b : ℤ) → int_eq (block_of x.0) b ≡ true → Contains (map (λ y. f y.1) (days_in s.days b)) (f x.1)) × Contains (map (λ m. m.number) ms) (block_of x.0) in
-            let days = from_both (λ x. (b : ℤ) → int_eq (block_of x.0) b ≡ true → Contains (map (λ y. f y.1) (days_in s.days b)) (f x.1)) (λ x. Contains (map (λ m. m.number) ms) (block_of x.0)) Day s.days (λ x own has. (own, has)) own_block are.all in
-            let day = pick (λ x. f x.1) (λ x. Day x × (P (block_of x.0) ≡ true)) (filter (λ x. P (block_of x.0)) s.days) y (all-passing Day (λ x. P (block_of x.0)) s.days days) h in
+            let Day : DayValue → Type 0 =
+            λ x. ((b : ℤ) → int_eq (block_of x.0) b ≡ true → Contains (map (λ y. f y.1) (days_in s.days b)) (f x.1))
+            × Contains (map (λ m. m.number) ms) (block_of x.0) in
+            let days =
+            from_both
+            (λ x. (b : ℤ) → int_eq (block_of x.0) b ≡ true → Contains (map (λ y. f y.1) (days_in s.days b)) (f x.1))
+            (λ x. Contains (map (λ m. m.number) ms) (block_of x.0)) Day s.days
+            (λ x own has. (own, has)) own_block are.all in
+            let day = pick (λ x. f x.1) (λ x. Day x × (P (block_of x.0) ≡ true))
+            (filter (λ x. P (block_of x.0)) s.days) y (all-passing Day (λ x. P (block_of x.0)) s.days days) h in
             let Block : Summary → Type 0 = λ m. IsSummary s.days m × (P m.number ≡ true → g m ≤ℤ z) in
-            let blocks = from_both (IsSummary s.days) (λ m. P m.number ≡ true → Contains (map g (filter (λ m. P m.number) ms)) (g m)) Block ms (λ m is stand. (is, λ passes. of_z.is_most (g m) (stand passes))) are.each (stands g (λ m. P m.number) ms) in
+            let blocks =
+            from_both (IsSummary s.days)
+            (λ m. P m.number ≡ true → Contains (map g (filter (λ m. P m.number) ms)) (g m)) Block ms
+            (λ m is stand. (is, λ passes. of_z.is_most (g m) (stand passes))) are.each
+            (stands g (λ m. P m.number) ms) in
             let block = pick (λ m. m.number) Block ms (block_of day.0.0) blocks day.1.0.1 in
             let of_block = told block.0 block.1.0 in
             let own = day.1.0.0 block.0.number ((Decides-int_eq (block_of day.0.0) block.0.number).1 (sym block.2)) in

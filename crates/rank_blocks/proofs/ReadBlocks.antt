@@ -1,5 +1,6 @@
 -- The summaries of a series, block by block.
-use Rattle.std.proofs.Common.{◌≡◌, ℕ, ◌<◌, ◌^◌, true, false, cond, List, [], ◌∷◌, ◌++◌, map, ◌⊎◌, inl, inr, Option, Some, None, refl, sym, ap, ◌∙◌, subst, arith, ℤ, pos, ◌≤ℤ◌, ◌<ℤ◌, ◌+ℤ◌, w32}
+use Rattle.std.proofs.Common.{◌≡◌, ℕ, ◌<◌, ◌^◌, true, false, cond, List, [], ◌∷◌, ◌++◌, map, ◌⊎◌, inl, inr, Option}
+use Rattle.std.proofs.Common.{Some, None, refl, sym, ap, ◌∙◌, subst, arith, ℤ, pos, ◌≤ℤ◌, ◌<ℤ◌, ◌+ℤ◌, w32}
 use Rattle.std.specs.Prelude.{int_le}
 use Rattle.std.specs.Int.{trailing_zeros}
 use Rattle.std.specs.List.{AllByRecursion, Contains, find}
@@ -16,19 +17,21 @@ use Rattle.rank_blocks.specs.declared.summary.Summary.{Summary}
 use Rattle.rank_blocks.specs.Blocks.{block_start}
 use Rattle.rank_blocks.specs.Summaries.{IsSummary, IsPossible, AreSummariesTo, AreSummariesUpTo, numbers_left}
 use Rattle.rank_blocks.proofs.Members.{from_each, from_both, all-append, contains-pushed}
-use Rattle.rank_blocks.proofs.DayValues.{both_pass, int_le-true, int_le-false, rise-from_by_day, own-values, block-of_place, block-rises}
+use Rattle.rank_blocks.proofs.DayTests.{both_pass, int_le-true, int_le-false, int_le_or_lt}
+use Rattle.rank_blocks.proofs.DayValues.{rise-from_by_day, own-values, block-of_place, block-rises}
 use Rattle.rank_blocks.proofs.Numbers.{sorted-none, sorted-push}
-use Rattle.rank_blocks.proofs.WindowTotals.{int_le_or_lt}
 use Rattle.rank_blocks.proofs.Computed.{days-valid}
 use Rattle.rank_blocks.proofs.BlockDays.{place-in, block-day}
 
 -- the numbers of some blocks and one more
-numbers-push : (ms : List Summary) (m : Summary) → map (λ m. m.number) (ms ++ m ∷ []) ≡ map (λ m. m.number) ms ++ m.number ∷ []
+numbers-push : (ms : List Summary) (m : Summary) → map (λ m. m.number) (ms ++ m ∷ []) ≡ map
+    (λ m. m.number) ms ++ m.number ∷ []
 numbers-push [] m = refl
 numbers-push (x ∷ xs) m = ap (λ (ns : List ℤ). x.number ∷ ns) (numbers-push xs m)
 
 -- what is true of the blocks' numbers
-of_numbers : (P : ℤ → Type 0) (ms : List Summary) → AllByRecursion (λ m. P m.number) ms → AllByRecursion P (map (λ m. m.number) ms)
+of_numbers : (P : ℤ → Type 0) (ms : List Summary) → AllByRecursion (λ m. P m.number) ms
+    → AllByRecursion P (map (λ m. m.number) ms)
 of_numbers P [] h = tt
 of_numbers P (m ∷ ms) h = (h.0, of_numbers P ms h.1)
 
@@ -39,14 +42,17 @@ in_calendar d e =
     (block-rises first_day d (int_le-true first_day d both.0), block-rises d last_day (int_le-true d last_day both.1))
 
 -- at first no block before that of the first day
-pub read-first : (s : Usable) (x : DayValue) (rest : List DayValue) → IsSeries s → s.days ≡ x ∷ rest → AreSummariesTo s (block_of x.0) []
+pub read-first : (s : Usable) (x : DayValue) (rest : List DayValue) → IsSeries s → s.days ≡ x ∷ rest
+    → AreSummariesTo s (block_of x.0) []
 read-first s x rest series split =
     let rise : AreRising (x ∷ rest) = subst AreRising split (rise-from_by_day s.days series.by_day) in
-    let valid : AllByRecursion (λ y. is_day y.0 ≡ true) (x ∷ rest) = subst (AllByRecursion (λ y. is_day y.0 ≡ true)) split (days-valid s s.days series.values) in
+    let valid : AllByRecursion (λ y. is_day y.0 ≡ true) (x ∷ rest) = subst (AllByRecursion (λ y. is_day y.0 ≡ true))
+    split (days-valid s s.days series.values) in
     let within = in_calendar x.0 valid.0 in
     let low = within.0 in
     let high = within.1 in
-    let All : List DayValue → Type 0 = AllByRecursion (λ y. block_of y.0 <ℤ block_of x.0 → Contains [] (block_of y.0)) in
+    let All : List DayValue → Type 0 =
+    AllByRecursion (λ y. block_of y.0 <ℤ block_of x.0 → Contains [] (block_of y.0)) in
     record {
       series = series;
       low = low;
@@ -63,10 +69,12 @@ read-first s x rest series split =
     }
 
 -- the block of a word with a day in it is one of the calendar
-pub block-IsBlock : (s : Usable) (b : ℤ) (word : ℕ) (values : List ℤ) → IsSeries s → word < 2 ^ 32 → IsBlockOf s.days b word values → IsBlock b
+pub block-IsBlock : (s : Usable) (b : ℤ) (word : ℕ) (values : List ℤ) → IsSeries s → word < 2 ^ 32
+    → IsBlockOf s.days b word values → IsBlock b
 block-IsBlock s b word values series fits of_block =
     let lowest = bit_at-trailing_zeros w32 word of_block.present fits in
-    let day = block-day s.days (rise-from_by_day s.days series.by_day) b word values of_block (λ n v. is_day n ≡ true) (days-valid s s.days series.values) (trailing_zeros w32 word) lowest.0 lowest.1 in
+    let day = block-day s.days (rise-from_by_day s.days series.by_day) b word values of_block (λ n v. is_day n ≡ true)
+    (days-valid s s.days series.values) (trailing_zeros w32 word) lowest.0 lowest.1 in
     let within = in_calendar (block_start b +ℤ pos (trailing_zeros w32 word)) day in
     let same = block-of_place b (trailing_zeros w32 word) lowest.0 in
     let low = within.0 in
@@ -74,7 +82,8 @@ block-IsBlock s b word values series fits of_block =
     record { low = omega (arith, ints); high = omega (arith, ints) }
 
 -- with the summary of the block that is looked at
-pub read-more : (s : Usable) (n : ℤ) (ms : List Summary) (m : Summary) → AreSummariesTo s n ms → m.number ≡ n → IsBlock n → IsSummary s.days m → IsPossible m → AreSummariesTo s (n +ℤ pos 1) (ms ++ m ∷ [])
+pub read-more : (s : Usable) (n : ℤ) (ms : List Summary) (m : Summary) → AreSummariesTo s n ms → m.number ≡ n
+    → IsBlock n → IsSummary s.days m → IsPossible m → AreSummariesTo s (n +ℤ pos 1) (ms ++ m ∷ [])
 read-more s n ms m so_far number block is possible =
     let block_low = block.low in
     let block_high = block.high in
@@ -85,54 +94,72 @@ read-more s n ms m so_far number block is possible =
       high = omega (arith, ints);
       each = all-append (IsSummary s.days) ms (m ∷ []) so_far.each (is, tt);
       possible = all-append IsPossible ms (m ∷ []) so_far.possible (possible, tt);
-      before = all-append (λ k. k.number <ℤ (n +ℤ pos 1)) ms (m ∷ []) (from_each (λ k. k.number <ℤ n) (λ k. k.number <ℤ (n +ℤ pos 1)) ms (λ k lt. omega (arith, ints)) so_far.before) (omega (arith, ints), tt);
-      all = from_each (λ x. block_of x.0 <ℤ n → Contains (map (λ k. k.number) ms) (block_of x.0)) (λ x. block_of x.0 <ℤ (n +ℤ pos 1) → Contains (map (λ k. k.number) (ms ++ m ∷ [])) (block_of x.0)) s.days
+      before = all-append (λ k. k.number <ℤ (n +ℤ pos 1)) ms (m ∷ [])
+          (from_each (λ k. k.number <ℤ n) (λ k. k.number <ℤ (n +ℤ pos 1)) ms
+          (λ k lt. omega (arith, ints)) so_far.before) (omega (arith, ints), tt);
+      all = from_each (λ x. block_of x.0 <ℤ n → Contains (map (λ k. k.number) ms) (block_of x.0))
+          (λ x. block_of x.0 <ℤ (n +ℤ pos 1) → Contains (map (λ k. k.number) (ms ++ m ∷ [])) (block_of x.0)) s.days
           (λ x has lt.
           elim (int_le_or_lt n (block_of x.0)) [
             | inl le ↦
                 let same : m.number ≡ block_of x.0 = omega (arith, ints) in
                 subst (Contains (map (λ k. k.number) (ms ++ m ∷ []))) same (contains-pushed (λ k. k.number) ms m)
-            | inr less ↦ subst (λ (ns : List ℤ). Contains ns (block_of x.0)) (sym push) (Contains-append_left (map (λ k. k.number) ms) (m.number ∷ []) (block_of x.0) (has less))
+            | inr less ↦ subst (λ (ns : List ℤ). Contains ns (block_of x.0)) (sym push)
+                (Contains-append_left (map (λ k. k.number) ms) (m.number ∷ []) (block_of x.0) (has less))
           ])
           so_far.all;
       by_number = subst (IsStrictlySortedBy int_cmp) (sym push)
           (sorted-push (map (λ k. k.number) ms) m.number so_far.by_number
-          (of_numbers (λ k. k <ℤ m.number) ms (from_each (λ k. k.number <ℤ n) (λ k. k.number <ℤ m.number) ms (λ k lt. omega (arith, ints)) so_far.before)));
+          (of_numbers (λ k. k <ℤ m.number) ms
+          (from_each (λ k. k.number <ℤ n) (λ k. k.number <ℤ m.number) ms
+          (λ k lt. omega (arith, ints)) so_far.before)));
     }
 
 -- the next block is that of one of the days, and no day is in a block between
-next-some : (P : DayValue → Type 0) (days : List DayValue) (b k : ℤ) → AreRising days → AllByRecursion P days → next_block days b ≡ Some k
-    → ((x : DayValue) × P x × (block_of x.0 ≡ k) × (b ≤ℤ k)) × AllByRecursion (λ x. (block_of x.0 <ℤ b) ⊎ (k ≤ℤ block_of x.0)) days
+next-some : (P : DayValue → Type 0) (days : List DayValue) (b k : ℤ) → AreRising days → AllByRecursion P days
+    → next_block days b ≡ Some k
+    → ((x : DayValue) × P x × (block_of x.0 ≡ k) × (b ≤ℤ k)) × AllByRecursion
+    (λ x. (block_of x.0 <ℤ b) ⊎ (k ≤ℤ block_of x.0)) days
 next-some P [] b k rise all e = absurd cc
 next-some P (x ∷ xs) b k rise all e =
-    elim (int_le b (block_of x.0)) as (λ t. int_le b (block_of x.0) ≡ t → option_map (λ (y : DayValue). block_of y.0) (cond t (Some x) (find (λ y. int_le b (block_of y.0)) xs)) ≡ Some k
-    → ((x : DayValue) × P x × (block_of x.0 ≡ k) × (b ≤ℤ k)) × (((block_of x.0 <ℤ b) ⊎ (k ≤ℤ block_of x.0)) × AllByRecursion (λ x. (block_of x.0 <ℤ b) ⊎ (k ≤ℤ block_of x.0)) xs)) [
+    elim (int_le b (block_of x.0)) as (λ t. int_le b (block_of x.0) ≡ t → option_map (λ (y : DayValue). block_of y.0)
+    (cond t (Some x) (find (λ y. int_le b (block_of y.0)) xs)) ≡ Some k
+    → ((x : DayValue) × P x × (block_of x.0 ≡ k) × (b ≤ℤ k))
+    × (((block_of x.0 <ℤ b) ⊎ (k ≤ℤ block_of x.0)) × AllByRecursion (λ x. (block_of x.0 <ℤ b) ⊎ (k ≤ℤ block_of x.0))
+    xs)) [
       | true ↦ λ h found.
           let is : block_of x.0 ≡ k = cc in
           let le = int_le-true b (block_of x.0) h in (
             (x, all.0, is, omega (arith, ints)),
             (
               inr (omega (arith, ints)),
-              from_each (λ y. x.0 <ℤ y.0) (λ y. (block_of y.0 <ℤ b) ⊎ (k ≤ℤ block_of y.0)) xs (λ y later. let rises = block-rises x.0 y.0 (omega (arith, ints)) in inr (omega (arith, ints))) rise.0,
+              from_each (λ y. x.0 <ℤ y.0) (λ y. (block_of y.0 <ℤ b) ⊎ (k ≤ℤ block_of y.0)) xs
+                  (λ y later. let rises = block-rises x.0 y.0 (omega (arith, ints)) in inr (omega (arith, ints)))
+                  rise.0,
             ),
           )
-      | false ↦ λ h found. let rest = next-some P xs b k rise.1 all.1 found in (rest.0, (inl (int_le-false b (block_of x.0) h), rest.1))
+      | false ↦ λ h found. let rest = next-some P xs b k rise.1 all.1 found in
+          (rest.0, (inl (int_le-false b (block_of x.0) h), rest.1))
     ] refl e
 
 -- where there is no next block, all days are in blocks before
 next-none : (days : List DayValue) (b : ℤ) → next_block days b ≡ None → AllByRecursion (λ x. block_of x.0 <ℤ b) days
 next-none [] b e = tt
 next-none (x ∷ xs) b e =
-    elim (int_le b (block_of x.0)) as (λ t. int_le b (block_of x.0) ≡ t → option_map (λ (y : DayValue). block_of y.0) (cond t (Some x) (find (λ y. int_le b (block_of y.0)) xs)) ≡ None → (block_of x.0 <ℤ b) × AllByRecursion (λ x. block_of x.0 <ℤ b) xs) [
+    elim (int_le b (block_of x.0)) as (λ t. int_le b (block_of x.0) ≡ t → option_map (λ (y : DayValue). block_of y.0)
+    (cond t (Some x) (find (λ y. int_le b (block_of y.0)) xs)) ≡ None → (block_of x.0 <ℤ b) × AllByRecursion
+    (λ x. block_of x.0 <ℤ b) xs) [
       | true ↦ λ h found. absurd cc
       | false ↦ λ h found. (int_le-false b (block_of x.0) h, next-none xs b found)
     ] refl e
 
 -- a day of a block that has none has no value
-none-of_block : (days : List DayValue) (b : ℤ) (x : DayValue) → HasNone days b → value_on days x.0 ≡ Some x.1 → block_of x.0 ≡ b → ⊥
+none-of_block : (days : List DayValue) (b : ℤ) (x : DayValue) → HasNone days b → value_on days x.0 ≡ Some x.1
+    → block_of x.0 ≡ b → ⊥
 none-of_block days b x none own is =
     let at = place-in b x.0 is in
-    let value : value_on days (block_start b +ℤ pos at.0) ≡ Some x.1 = subst (λ (d : ℤ). value_on days d ≡ Some x.1) at.2 own in
+    let value : value_on days (block_start b +ℤ pos at.0) ≡ Some x.1 = subst
+    (λ (d : ℤ). value_on days d ≡ Some x.1) at.2 own in
     let missing = none at.0 at.1 in
     (let same : None ≡ Some x.1 = sym missing ∙ value in cc)
 
@@ -142,12 +169,14 @@ equal_or_more a b le = elim (int_le_or_lt b a) [ inl ge ↦ inl (omega (arith, i
 
 module _ (s : Usable) (n : ℤ) (ms : List Summary) (so_far : AreSummariesTo s n ms) (none : HasNone s.days n) where
   -- a block without a day is passed over, and a later one is next
-  pub read-next : (next : Option ℤ) → next_block s.days n ≡ next → AreSummariesUpTo s ms next × (numbers_left next < numbers_left (Some n))
+  pub read-next : (next : Option ℤ) → next_block s.days n ≡ next → AreSummariesUpTo s ms next
+      × (numbers_left next < numbers_left (Some n))
   read-next (Some k) e =
       let series = so_far.series in
       let rise = rise-from_by_day s.days series.by_day in
       let P : DayValue → Type 0 = λ x. (value_on s.days x.0 ≡ Some x.1) × (is_day x.0 ≡ true) in
-      let each = from_both (λ x. value_on s.days x.0 ≡ Some x.1) (λ x. is_day x.0 ≡ true) P s.days (λ x own valid. (own, valid)) (own-values s.days rise) (days-valid s s.days series.values) in
+      let each = from_both (λ x. value_on s.days x.0 ≡ Some x.1) (λ x. is_day x.0 ≡ true) P s.days
+      (λ x own valid. (own, valid)) (own-values s.days rise) (days-valid s s.days series.values) in
       let found = next-some P s.days n k rise each e in
       let x : DayValue = found.0.0 in
       let is = found.0.2 in
@@ -168,7 +197,9 @@ module _ (s : Usable) (n : ℤ) (ms : List Summary) (so_far : AreSummariesTo s n
           each = so_far.each;
           possible = so_far.possible;
           before = from_each (λ m. m.number <ℤ n) (λ m. m.number <ℤ k) ms (λ m lt. omega (arith, ints)) so_far.before;
-          all = from_both (λ x. (block_of x.0 <ℤ n) ⊎ (k ≤ℤ block_of x.0)) (λ x. block_of x.0 <ℤ n → Contains (map (λ m. m.number) ms) (block_of x.0)) (λ x. block_of x.0 <ℤ k → Contains (map (λ m. m.number) ms) (block_of x.0)) s.days
+          all = from_both (λ x. (block_of x.0 <ℤ n) ⊎ (k ≤ℤ block_of x.0))
+              (λ x. block_of x.0 <ℤ n → Contains (map (λ m. m.number) ms) (block_of x.0))
+              (λ x. block_of x.0 <ℤ k → Contains (map (λ m. m.number) ms) (block_of x.0)) s.days
               (λ x side has lt. elim side [ inl before ↦ has before | inr ge ↦ absurd (omega (arith, ints)) ])
               found.1 so_far.all;
           by_number = so_far.by_number;
@@ -181,7 +212,10 @@ module _ (s : Usable) (n : ℤ) (ms : List Summary) (so_far : AreSummariesTo s n
         (
           record {
             each = so_far.each;
-            all = from_both (λ x. block_of x.0 <ℤ n) (λ x. block_of x.0 <ℤ n → Contains (map (λ m. m.number) ms) (block_of x.0)) (λ x. Contains (map (λ m. m.number) ms) (block_of x.0)) s.days (λ x before has. has before) (next-none s.days n e) so_far.all;
+            all = from_both (λ x. block_of x.0 <ℤ n)
+                (λ x. block_of x.0 <ℤ n → Contains (map (λ m. m.number) ms) (block_of x.0))
+                (λ x. Contains (map (λ m. m.number) ms) (block_of x.0)) s.days (λ x before has. has before)
+                (next-none s.days n e) so_far.all;
             by_number = so_far.by_number;
           },
           record { each = so_far.possible; by_number = so_far.by_number },

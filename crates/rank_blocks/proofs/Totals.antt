@@ -1,5 +1,6 @@
 -- Totals of days, block by block.
-use Rattle.std.proofs.Common.{◌≡◌, ℕ, Bool, true, false, cond, List, [], ◌∷◌, map, filter, inl, inr, refl, sym, ap, ◌∙◌, subst, arith, ℤ, pos, ◌+ℤ◌}
+use Rattle.std.proofs.Common.{◌≡◌, ℕ, Bool, true, false, cond, List, [], ◌∷◌, map, filter, inl, inr, refl, sym, ap, ◌∙◌}
+use Rattle.std.proofs.Common.{subst, arith, ℤ, pos, ◌+ℤ◌}
 use Rattle.std.specs.List.{AllByRecursion, Contains}
 use Rattle.std.specs.List.Sorted.{IsStrictlySortedBy}
 use Rattle.std.specs.Ordering.{int_cmp, int_eq}
@@ -41,59 +42,79 @@ module _ (P : ℤ → Bool) (b v : ℤ) (g : ℤ → ℤ) where
   over-absent (n ∷ ns) h =
       let rest = over-absent ns h.1 in
       let here : more n ≡ g n = ap (λ (t : Bool). cond t (v +ℤ g n) (g n)) h.0 in
-      elim (P n) as (λ t. total (map more (cond t (n ∷ filter P ns) (filter P ns))) ≡ total (map g (cond t (n ∷ filter P ns) (filter P ns)))) [
+      elim (P n) as (λ t. total (map more (cond t (n ∷ filter P ns) (filter P ns))) ≡ total
+      (map g (cond t (n ∷ filter P ns) (filter P ns)))) [
         | true ↦ ap (λ (z : ℤ). z +ℤ over more ns) here ∙ ap (λ (z : ℤ). g n +ℤ z) rest
         | false ↦ rest
       ]
 
   -- where it is among them, v was added if it passes
-  over-added : (ns : List ℤ) → IsStrictlySortedBy int_cmp ns → Contains ns b → over more ns ≡ cond (P b) v (pos 0) +ℤ over g ns
+  over-added : (ns : List ℤ) → IsStrictlySortedBy int_cmp ns → Contains ns b
+      → over more ns ≡ cond (P b) v (pos 0) +ℤ over g ns
   unfolding IsStrictlySortedBy
   over-added [] sorted h = absurd (let lt = h.1 in omega arith)
   over-added (n ∷ ns) sorted h =
       elim (int_eq b n) as (λ t. int_eq b n ≡ t → over more (n ∷ ns) ≡ cond (P b) v (pos 0) +ℤ over g (n ∷ ns)) [
         | true ↦ λ e.
             let same : b ≡ n = (Decides-int_eq b n).0 e in
-            let absent = over-absent ns (from_each (λ y. int_cmp n y ≡ Less) (λ y. int_eq b y ≡ false) ns (λ y less. lt-int_eq b y (let lt = int_cmp-less n y less in omega (arith, ints))) sorted.0) in
+            let absent =
+            over-absent ns
+            (from_each (λ y. int_cmp n y ≡ Less) (λ y. int_eq b y ≡ false) ns
+            (λ y less. lt-int_eq b y (let lt = int_cmp-less n y less in omega (arith, ints))) sorted.0) in
             let here : more n ≡ v +ℤ g n = ap (λ (t : Bool). cond t (v +ℤ g n) (g n)) e in
             let Goal : ℤ → Type 0 = λ k. over more (n ∷ ns) ≡ cond (P k) v (pos 0) +ℤ over g (n ∷ ns) in
-            subst Goal (sym same) (elim (P n) as (λ t. total (map more (cond t (n ∷ filter P ns) (filter P ns))) ≡ cond t v (pos 0) +ℤ total (map g (cond t (n ∷ filter P ns) (filter P ns)))) [
+            subst Goal (sym same)
+            (elim (P n) as (λ t. total (map more (cond t (n ∷ filter P ns) (filter P ns))) ≡ cond t v
+            (pos 0) +ℤ total (map g (cond t (n ∷ filter P ns) (filter P ns)))) [
               | true ↦ omega (arith, ints)
               | false ↦ omega (arith, ints)
             ])
         | false ↦ λ e.
             let there : Contains ns b =
             elim (contains-cases n b ns h) [
-              | inl is ↦ absurd (let yes : int_eq b n ≡ true = (Decides-int_eq b n).1 (sym is) in let P : Bool → Type 0 = λ t. int_eq b n ≡ t in cc)
+              | inl is ↦
+                  absurd (let yes : int_eq b n ≡ true = (Decides-int_eq b n).1 (sym is) in let P : Bool → Type 0 =
+                  λ t. int_eq b n ≡ t in cc)
               | inr there ↦ there
             ] in
             let rest = over-added ns sorted.1 there in
             let here : more n ≡ g n = ap (λ (t : Bool). cond t (v +ℤ g n) (g n)) e in
-            elim (P n) as (λ t. total (map more (cond t (n ∷ filter P ns) (filter P ns))) ≡ cond (P b) v (pos 0) +ℤ total (map g (cond t (n ∷ filter P ns) (filter P ns)))) [
+            elim (P n) as (λ t. total (map more (cond t (n ∷ filter P ns) (filter P ns))) ≡ cond (P b) v
+            (pos 0) +ℤ total (map g (cond t (n ∷ filter P ns) (filter P ns)))) [
               | true ↦ omega (arith, ints)
               | false ↦ rest
             ]
       ] refl
 
 -- the total of a block's days, with one more day in front
-total-front : (x : DayValue) (xs : List DayValue) (n : ℤ) → total (map (λ y. y.1) (days_in (x ∷ xs) n)) ≡ cond (int_eq (block_of x.0) n) (x.1 +ℤ total (map (λ y. y.1) (days_in xs n))) (total (map (λ y. y.1) (days_in xs n)))
+total-front : (x : DayValue) (xs : List DayValue) (n : ℤ) → total (map (λ y. y.1) (days_in (x ∷ xs) n)) ≡ cond
+    (int_eq (block_of x.0) n) (x.1 +ℤ total (map (λ y. y.1) (days_in xs n))) (total (map (λ y. y.1) (days_in xs n)))
 total-front x xs n =
-    elim (int_eq (block_of x.0) n) as (λ t. total (map (λ y. y.1) (cond t (x ∷ days_in xs n) (days_in xs n))) ≡ cond t (x.1 +ℤ total (map (λ y. y.1) (days_in xs n))) (total (map (λ y. y.1) (days_in xs n)))) [
+    elim (int_eq (block_of x.0) n) as (λ t. total (map (λ y. y.1) (cond t (x ∷ days_in xs n) (days_in xs n))) ≡ cond t
+    (x.1 +ℤ total (map (λ y. y.1) (days_in xs n))) (total (map (λ y. y.1) (days_in xs n)))) [
       | true ↦ refl
       | false ↦ refl
     ]
 
 -- the total of the days in blocks that pass is found block by block
-total-by_blocks : (P : ℤ → Bool) (ns : List ℤ) (days : List DayValue) → IsStrictlySortedBy int_cmp ns → AllByRecursion (λ x. Contains ns (block_of x.0)) days
-    → total (map (λ y. y.1) (filter (λ x. P (block_of x.0)) days)) ≡ total (map (λ n. total (map (λ y. y.1) (days_in days n))) (filter P ns))
+total-by_blocks : (P : ℤ → Bool) (ns : List ℤ) (days : List DayValue) → IsStrictlySortedBy int_cmp ns
+    → AllByRecursion (λ x. Contains ns (block_of x.0)) days
+    → total (map (λ y. y.1) (filter (λ x. P (block_of x.0)) days)) ≡ total
+    (map (λ n. total (map (λ y. y.1) (days_in days n))) (filter P ns))
 total-by_blocks P ns [] sorted h = sym (total-zeros (filter P ns))
 total-by_blocks P ns (x ∷ xs) sorted h =
     let g : ℤ → ℤ = λ n. total (map (λ y. y.1) (days_in xs n)) in
-    let rest : total (map (λ y. y.1) (filter (λ x. P (block_of x.0)) xs)) ≡ total (map g (filter P ns)) = total-by_blocks P ns xs sorted h.1 in
+    let rest : total (map (λ y. y.1) (filter (λ x. P (block_of x.0)) xs)) ≡ total (map g (filter P ns)) =
+    total-by_blocks P ns xs sorted h.1 in
     let added = over-added P (block_of x.0) x.1 g ns sorted h.0 in
-    let fronts = ap total (map-same (λ n. total (map (λ y. y.1) (days_in (x ∷ xs) n))) (more P (block_of x.0) x.1 g) (filter P ns) (total-front x xs)) in
-    let here : total (map (λ y. y.1) (filter (λ x. P (block_of x.0)) (x ∷ xs))) ≡ cond (P (block_of x.0)) x.1 (pos 0) +ℤ total (map (λ y. y.1) (filter (λ x. P (block_of x.0)) xs)) =
-    elim (P (block_of x.0)) as (λ t. total (map (λ y. y.1) (cond t (x ∷ filter (λ x. P (block_of x.0)) xs) (filter (λ x. P (block_of x.0)) xs))) ≡ cond t x.1 (pos 0) +ℤ total (map (λ y. y.1) (filter (λ x. P (block_of x.0)) xs))) [
+    let fronts =
+    ap total (map-same (λ n. total (map (λ y. y.1) (days_in (x ∷ xs) n))) (more P (block_of x.0) x.1 g)
+    (filter P ns) (total-front x xs)) in
+    let here : total (map (λ y. y.1) (filter (λ x. P (block_of x.0)) (x ∷ xs))) ≡ cond (P (block_of x.0)) x.1
+    (pos 0) +ℤ total (map (λ y. y.1) (filter (λ x. P (block_of x.0)) xs)) =
+    elim (P (block_of x.0)) as (λ t. total
+    (map (λ y. y.1) (cond t (x ∷ filter (λ x. P (block_of x.0)) xs) (filter (λ x. P (block_of x.0)) xs)))
+    ≡ cond t x.1 (pos 0) +ℤ total (map (λ y. y.1) (filter (λ x. P (block_of x.0)) xs))) [
       | true ↦ refl
       | false ↦ omega (arith, ints)
     ] in
@@ -101,18 +122,24 @@ total-by_blocks P ns (x ∷ xs) sorted h =
 
 -- the totals of summaries are those of their blocks
 totals-summaries : (P : ℤ → Bool) (days : List DayValue) (ms : List Summary) → AllByRecursion (IsSummary days) ms
-    → total (map (λ m. m.total) (filter (λ m. P m.number) ms)) ≡ total (map (λ n. total (map (λ y. y.1) (days_in days n))) (filter P (map (λ m. m.number) ms)))
+    → total (map (λ m. m.total) (filter (λ m. P m.number) ms)) ≡ total
+    (map (λ n. total (map (λ y. y.1) (days_in days n))) (filter P (map (λ m. m.number) ms)))
 totals-summaries P days [] h = refl
 totals-summaries P days (m ∷ ms) h =
     let rest = totals-summaries P days ms h.1 in
     let g : ℤ → ℤ = λ n. total (map (λ y. y.1) (days_in days n)) in
     let here : g m.number ≡ m.total = h.0.values.total_value in
-    elim (P m.number) as (λ t. total (map (λ m. m.total) (cond t (m ∷ filter (λ m. P m.number) ms) (filter (λ m. P m.number) ms))) ≡ total (map g (cond t (m.number ∷ filter P (map (λ m. m.number) ms)) (filter P (map (λ m. m.number) ms))))) [
-      | true ↦ ap (λ (z : ℤ). z +ℤ total (map (λ m. m.total) (filter (λ m. P m.number) ms))) (sym here) ∙ ap (λ (z : ℤ). g m.number +ℤ z) rest
+    elim (P m.number) as (λ t. total
+    (map (λ m. m.total) (cond t (m ∷ filter (λ m. P m.number) ms) (filter (λ m. P m.number) ms))) ≡ total
+    (map g (cond t (m.number ∷ filter P (map (λ m. m.number) ms)) (filter P (map (λ m. m.number) ms))))) [
+      | true ↦ ap (λ (z : ℤ). z +ℤ total (map (λ m. m.total) (filter (λ m. P m.number) ms))) (sym here)
+          ∙ ap (λ (z : ℤ). g m.number +ℤ z) rest
       | false ↦ rest
     ]
 
 -- the total of some blocks is that of their days
-pub summaries_total-is : (s : Usable) (ms : List Summary) → AreSummaries s ms → (w : ℕ) (first : ℤ) → summaries_total ms w first ≡ blocks_total s.days w first
+pub summaries_total-is : (s : Usable) (ms : List Summary) → AreSummaries s ms → (w : ℕ) (first : ℤ)
+    → summaries_total ms w first ≡ blocks_total s.days w first
 summaries_total-is s ms are w first =
-    totals-summaries (is_among first w) s.days ms are.each ∙ sym (total-by_blocks (is_among first w) (map (λ m. m.number) ms) s.days are.by_number are.all)
+    totals-summaries (is_among first w) s.days ms are.each
+    ∙ sym (total-by_blocks (is_among first w) (map (λ m. m.number) ms) s.days are.by_number are.all)

@@ -1,5 +1,6 @@
 -- The greatest total of so many blocks in a row, as a loop over the summaries finds it.
-use Rattle.std.proofs.Common.{◌≡◌, ℕ, Bool, true, false, cond, List, [], ◌∷◌, map, filter, ◌⊎◌, inl, inr, refl, ap, ◌∙◌, subst, arith, ℤ, pos, ◌≤ℤ◌, ◌<ℤ◌, ◌+ℤ◌}
+use Rattle.std.proofs.Common.{◌≡◌, ℕ, Bool, true, false, cond, List, [], ◌∷◌, map, filter, ◌⊎◌, inl, inr, refl, ap, ◌∙◌}
+use Rattle.std.proofs.Common.{subst, arith, ℤ, pos, ◌≤ℤ◌, ◌<ℤ◌, ◌+ℤ◌}
 use Rattle.std.specs.Prelude.{int_le, int_lt}
 use Rattle.std.specs.List.{AllByRecursion}
 use Rattle.std.specs.Int.{int_max}
@@ -9,9 +10,9 @@ use Rattle.rank_blocks.specs.declared.range.BlockRange.{BlockRange}
 use Rattle.rank_blocks.specs.Blocks.{total, is_among}
 use Rattle.rank_blocks.specs.Greatest.{IsGreatest}
 use Rattle.rank_blocks.specs.Reached.{in_range, summaries_total, IsTotalFrom}
-use Rattle.rank_blocks.proofs.JoinedRuns.{not_both}
-use Rattle.rank_blocks.proofs.Members.{from_each}
-use Rattle.rank_blocks.proofs.DayValues.{both_pass, pass_both, int_le-true, int_lt-true, le-int_le, lt-int_lt}
+use Rattle.rank_blocks.proofs.DayTests.{not_both, both_pass, pass_both, int_le-true, int_lt-true, le-int_le, lt-int_lt}
+use Rattle.rank_blocks.proofs.DayTests.{int_le_or_lt}
+use Rattle.rank_blocks.proofs.Members.{from_each, total-least, total-wider}
 
 -- no total of a block is below zero
 abbrev pub AreFalls : List Summary → Type 0
@@ -21,14 +22,6 @@ AreFalls ms = AllByRecursion (λ m. pos 0 ≤ℤ m.total) ms
 abbrev pub AreBehind : ℤ → List Summary → Type 0
 AreBehind b ms = AllByRecursion (λ m. b <ℤ m.number) ms
 
--- a number is at most another, or above it
-pub int_le_or_lt : (a b : ℤ) → (a ≤ℤ b) ⊎ (b <ℤ a)
-int_le_or_lt a b =
-    elim (int_le a b) as (λ t. int_le a b ≡ t → (a ≤ℤ b) ⊎ (b <ℤ a)) [
-      | true ↦ λ e. inl (int_le-true a b e)
-      | false ↦ λ e. inr (grind (arith, ints))
-    ] refl
-
 -- what the test on a window tells
 pub among-parts : (first : ℤ) (w : ℕ) (b : ℤ) → is_among first w b ≡ true → (first ≤ℤ b) × (b <ℤ (first +ℤ pos w))
 among-parts first w b e =
@@ -37,7 +30,8 @@ among-parts first w b e =
 
 -- and what makes it pass
 pub among-from : (first : ℤ) (w : ℕ) (b : ℤ) → first ≤ℤ b → b <ℤ (first +ℤ pos w) → is_among first w b ≡ true
-among-from first w b low high = pass_both (int_le first b) (int_lt b (first +ℤ pos w)) (le-int_le first b low) (lt-int_lt b (first +ℤ pos w) high)
+among-from first w b low high = pass_both (int_le first b) (int_lt b (first +ℤ pos w)) (le-int_le first b low)
+    (lt-int_lt b (first +ℤ pos w) high)
 
 -- a number before a window isn't among it
 pub before-among : (first : ℤ) (w : ℕ) (b : ℤ) → b <ℤ first → is_among first w b ≡ false
@@ -56,67 +50,61 @@ behind-among first w b le =
     ] refl
 
 -- the total with a block in front that is among the window
-pub total-in : (m : Summary) (ms : List Summary) (w : ℕ) (first : ℤ) → is_among first w m.number ≡ true → summaries_total (m ∷ ms) w first ≡ m.total +ℤ summaries_total ms w first
-total-in m ms w first e = ap (λ (t : Bool). total (map (λ m. m.total) (cond t (m ∷ filter (λ m. is_among first w m.number) ms) (filter (λ m. is_among first w m.number) ms)))) e
+pub total-in : (m : Summary) (ms : List Summary) (w : ℕ) (first : ℤ) → is_among first w m.number ≡ true
+    → summaries_total (m ∷ ms) w first ≡ m.total +ℤ summaries_total ms w first
+total-in m ms w first e =
+    ap (λ (t : Bool). total
+    (map (λ m. m.total)
+    (cond t (m ∷ filter (λ m. is_among first w m.number) ms) (filter (λ m. is_among first w m.number) ms)))) e
 
 -- the total with a block in front that isn't
-pub total-out : (m : Summary) (ms : List Summary) (w : ℕ) (first : ℤ) → is_among first w m.number ≡ false → summaries_total (m ∷ ms) w first ≡ summaries_total ms w first
-total-out m ms w first e = ap (λ (t : Bool). total (map (λ m. m.total) (cond t (m ∷ filter (λ m. is_among first w m.number) ms) (filter (λ m. is_among first w m.number) ms)))) e
+pub total-out : (m : Summary) (ms : List Summary) (w : ℕ) (first : ℤ) → is_among first w m.number ≡ false
+    → summaries_total (m ∷ ms) w first ≡ summaries_total ms w first
+total-out m ms w first e =
+    ap (λ (t : Bool). total
+    (map (λ m. m.total)
+    (cond t (m ∷ filter (λ m. is_among first w m.number) ms) (filter (λ m. is_among first w m.number) ms)))) e
 
 -- where all blocks stand behind a window, its total is zero
-pub total-behind : (ms : List Summary) (w : ℕ) (first : ℤ) → AllByRecursion (λ m. (first +ℤ pos w) ≤ℤ m.number) ms → summaries_total ms w first ≡ pos 0
+pub total-behind : (ms : List Summary) (w : ℕ) (first : ℤ) → AllByRecursion (λ m. (first +ℤ pos w) ≤ℤ m.number) ms
+    → summaries_total ms w first ≡ pos 0
 total-behind [] w first h = refl
-total-behind (m ∷ ms) w first h = total-out m ms w first (behind-among first w m.number h.0) ∙ total-behind ms w first h.1
+total-behind (m ∷ ms) w first h = total-out m ms w first (behind-among first w m.number h.0)
+    ∙ total-behind ms w first h.1
 
 -- no total is below zero
 total-fall : (ms : List Summary) (w : ℕ) (first : ℤ) → AreFalls ms → pos 0 ≤ℤ summaries_total ms w first
-total-fall [] w first h = omega (arith, ints)
-total-fall (m ∷ ms) w first h =
-    let rest = total-fall ms w first h.1 in
-    let here = h.0 in
-    elim (is_among first w m.number) as (λ t. is_among first w m.number ≡ t → pos 0 ≤ℤ summaries_total (m ∷ ms) w first) [
-      | true ↦ λ e. let is = total-in m ms w first e in omega (arith, ints)
-      | false ↦ λ e. let is = total-out m ms w first e in omega (arith, ints)
-    ] refl
-
--- a window that has the blocks of another has at least its total
-total-wider : (ms : List Summary) (w : ℕ) (first other : ℤ) → AreFalls ms → AllByRecursion (λ m. is_among first w m.number ≡ true → is_among other w m.number ≡ true) ms → summaries_total ms w first ≤ℤ summaries_total ms w other
-total-wider [] w first other falls h = omega (arith, ints)
-total-wider (m ∷ ms) w first other falls h =
-    let rest = total-wider ms w first other falls.1 h.1 in
-    let here = falls.0 in
-    elim (is_among first w m.number) as (λ t. is_among first w m.number ≡ t → summaries_total (m ∷ ms) w first ≤ℤ summaries_total (m ∷ ms) w other) [
-      | true ↦ λ e. let is = total-in m ms w first e in let other_is = total-in m ms w other (h.0 e) in omega (arith, ints)
-      | false ↦ λ e.
-          let is = total-out m ms w first e in
-          elim (is_among other w m.number) as (λ u. is_among other w m.number ≡ u → summaries_total (m ∷ ms) w first ≤ℤ summaries_total (m ∷ ms) w other) [
-            | true ↦ λ k. let other_is = total-in m ms w other k in omega (arith, ints)
-            | false ↦ λ k. let other_is = total-out m ms w other k in omega (arith, ints)
-          ] refl
-    ] refl
+total-fall ms w first falls = total-least (λ m. m.total) (λ m. is_among first w m.number) ms falls
 
 -- with a block in front, a window has at least the total that it had
-total-more : (m : Summary) (ms : List Summary) (w : ℕ) (first : ℤ) → AreFalls (m ∷ ms) → summaries_total ms w first ≤ℤ summaries_total (m ∷ ms) w first
+total-more : (m : Summary) (ms : List Summary) (w : ℕ) (first : ℤ) → AreFalls (m ∷ ms)
+    → summaries_total ms w first ≤ℤ summaries_total (m ∷ ms) w first
 total-more m ms w first falls =
     let here = falls.0 in
-    elim (is_among first w m.number) as (λ t. is_among first w m.number ≡ t → summaries_total ms w first ≤ℤ summaries_total (m ∷ ms) w first) [
+    elim (is_among first w m.number) as (λ t. is_among first w m.number ≡ t
+    → summaries_total ms w first ≤ℤ summaries_total (m ∷ ms) w first) [
       | true ↦ λ e. let is = total-in m ms w first e in omega (arith, ints)
       | false ↦ λ e. let is = total-out m ms w first e in omega (arith, ints)
     ] refl
 
 -- where no block stands before the later of two windows, that one has at least the total of the other
-total-later : (ms : List Summary) (w : ℕ) (first other : ℤ) → AreFalls ms → first ≤ℤ other → AllByRecursion (λ m. other ≤ℤ m.number) ms → summaries_total ms w first ≤ℤ summaries_total ms w other
+total-later : (ms : List Summary) (w : ℕ) (first other : ℤ) → AreFalls ms → first ≤ℤ other
+    → AllByRecursion (λ m. other ≤ℤ m.number) ms → summaries_total ms w first ≤ℤ summaries_total ms w other
 total-later ms w first other falls le h =
-    total-wider ms w first other falls
+    total-wider (λ m. m.total) (λ m. is_among first w m.number) (λ m. is_among other w m.number) ms falls
     (from_each (λ m. other ≤ℤ m.number) (λ m. is_among first w m.number ≡ true → is_among other w m.number ≡ true) ms
-    (λ m low e. let parts = among-parts first w m.number e in among-from other w m.number low (let high = parts.1 in omega (arith, ints))) h)
+    (λ m low e. let parts = among-parts first w m.number e in among-from other w m.number low
+    (let high = parts.1 in omega (arith, ints))) h)
 
--- what is known of the greatest total so far, where some blocks are still to come: it is a total of a window of the range; the window from the range's last block has no more; of any window of the range it has the total, or all of the window's blocks are still to come
+-- what is known of the greatest total so far, where some blocks are still to come: it is a total of a window of the
+-- range; the window from the range's last block has no more; of any window of the range it has the total, or all of the
+-- window's blocks are still to come
 pub record IsSoFar (r : BlockRange) (w : ℕ) (ms rest : List Summary) (found : ℤ) : Type 0 where
   pub one : IsTotalFrom r ms w found
   pub last : summaries_total ms w r.last ≤ℤ found
   pub part : (b : ℤ) → summaries_total rest w b ≤ℤ summaries_total ms w b
-  pub each : (b : ℤ) → in_range r b ≡ true → (summaries_total ms w b ≤ℤ found) ⊎ (summaries_total ms w b ≡ summaries_total rest w b)
+  pub each : (b : ℤ) → in_range r b ≡ true → (summaries_total ms w b ≤ℤ found) ⊎
+      (summaries_total ms w b ≡ summaries_total rest w b)
 
 -- a number is at most itself
 le-same : (a : ℤ) → a ≤ℤ a
@@ -126,7 +114,12 @@ module _ (r : BlockRange) (w : ℕ) (ms : List Summary) where
   -- the total of the window from the last block of the range
   pub so_far-start : r.first ≤ℤ r.last → IsSoFar r w ms ms (summaries_total ms w r.last)
   so_far-start le = record {
-    one = (r.last, pass_both (int_le r.first r.last) (int_le r.last r.last) (le-int_le r.first r.last le) (le-int_le r.last r.last (le-same r.last)), refl);
+    one = (
+      r.last,
+      pass_both (int_le r.first r.last) (int_le r.last r.last) (le-int_le r.first r.last le)
+          (le-int_le r.last r.last (le-same r.last)),
+      refl,
+    );
     last = le-same (summaries_total ms w r.last);
     part = λ b. le-same (summaries_total ms w b);
     each = λ b e. inr refl;
@@ -146,7 +139,8 @@ module _ (r : BlockRange) (w : ℕ) (ms : List Summary) where
         ];
   }
 
-  module _ (m : Summary) (later : List Summary) (found : ℤ) (far : IsSoFar r w ms (m ∷ later) found) (falls : AreFalls (m ∷ later)) (behind : AreBehind m.number later) where
+  module _ (m : Summary) (later : List Summary) (found : ℤ) (far : IsSoFar r w ms (m ∷ later) found)
+      (falls : AreFalls (m ∷ later)) (behind : AreBehind m.number later) where
     -- what is still to come is part of what was
     part-later : (b : ℤ) → summaries_total later w b ≤ℤ summaries_total ms w b
     part-later b =
@@ -156,7 +150,8 @@ module _ (r : BlockRange) (w : ℕ) (ms : List Summary) where
 
     -- the blocks to come stand at or behind the first of them
     at_or_behind : (b : ℤ) → b ≤ℤ m.number → AllByRecursion (λ k. b ≤ℤ k.number) (m ∷ later)
-    at_or_behind b le = (le, from_each (λ k. m.number <ℤ k.number) (λ k. b ≤ℤ k.number) later (λ k lt. omega (arith, ints)) behind)
+    at_or_behind b le =
+        (le, from_each (λ k. m.number <ℤ k.number) (λ k. b ≤ℤ k.number) later (λ k lt. omega (arith, ints)) behind)
 
     -- a block that isn't in the range changes nothing
     pub so_far-out : in_range r m.number ≡ false → IsSoFar r w ms later found
@@ -176,7 +171,10 @@ module _ (r : BlockRange) (w : ℕ) (ms : List Summary) where
                       let high = int_le-true b r.last both.1 in
                       let past : r.last ≤ℤ m.number =
                       elim (int_le_or_lt m.number r.last) [
-                        | inl within ↦ absurd (not_both (in_range r m.number) (pass_both (int_le r.first m.number) (int_le m.number r.last) (le-int_le r.first m.number (omega (arith, ints))) (le-int_le m.number r.last within)) out)
+                        | inl within ↦
+                            absurd (not_both (in_range r m.number)
+                            (pass_both (int_le r.first m.number) (int_le m.number r.last)
+                            (le-int_le r.first m.number (omega (arith, ints))) (le-int_le m.number r.last within)) out)
                         | inr past ↦ (omega (arith, ints))
                       ] in
                       let most = total-later (m ∷ later) w b r.last falls high (at_or_behind r.last past) in
@@ -204,7 +202,8 @@ module _ (r : BlockRange) (w : ℕ) (ms : List Summary) where
         ] refl
 
     -- a block of the range is looked at by the window from it on
-    pub so_far-in : in_range r m.number ≡ true → IsSoFar r w ms later (int_max found (summaries_total (m ∷ later) w m.number))
+    pub so_far-in : in_range r m.number ≡ true
+        → IsSoFar r w ms later (int_max found (summaries_total (m ∷ later) w m.number))
     so_far-in holds =
         let here : ℤ = summaries_total (m ∷ later) w m.number in
         let least : found ≤ℤ int_max found here = omega (arith, ints, clamps) in
@@ -224,7 +223,8 @@ module _ (r : BlockRange) (w : ℕ) (ms : List Summary) where
                     elim (int_le_or_lt b m.number) [
                       | inr before ↦ inr (same ∙ total-out m later w b (before-among b w m.number before))
                       | inl le ↦
-                          let wider = total-later (m ∷ later) w b m.number falls le (at_or_behind m.number (le-same m.number)) in
+                          let wider = total-later (m ∷ later) w b m.number falls le
+                          (at_or_behind m.number (le-same m.number)) in
                           inl (omega (arith, ints))
                     ]
               ];

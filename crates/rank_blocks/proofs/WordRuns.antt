@@ -1,20 +1,25 @@
 -- The runs of the bits of a word.
-use Rattle.std.proofs.Common.{◌≡◌, ℕ, zero, suc, ◌+◌, ◌-◌, ◌*◌, ◌/◌, ◌%◌, ◌<◌, ◌≤◌, ◌^◌, true, false, min, ◌⊎◌, inl, inr, refl, sym, ap, ◌∙◌, subst, arith, w32}
+use Rattle.std.proofs.Common.{◌≡◌, ℕ, zero, suc, ◌+◌, ◌-◌, ◌*◌, ◌/◌, ◌%◌, ◌<◌, ◌≤◌, ◌^◌, true, false, min, ◌⊎◌, inl}
+use Rattle.std.proofs.Common.{inr, refl, sym, ap, ◌∙◌, subst, arith, w32}
 use Rattle.std.specs.Prelude.{◌==◌, bit_and}
 use Rattle.std.specs.Int.{bit_at, bit_not, leading_ones, trailing_ones, trailing_zeros}
 use Rattle.std.proofs.lemmas.Bool.Decides.{Decides-eqb}
 use Rattle.std.proofs.lemmas.Nat.{leading_top}
-use Rattle.std.proofs.lemmas.Nat.Bits.{bit_at-lt, bit_at-zero, bit_at_and, bit_at_above, bit_at_cat_low, bit_at_cat_high, bit_at_not, bit_at_ones, bit_at-trailing_ones, bit_at-trailing_zeros}
+use Rattle.std.proofs.lemmas.Nat.Bits.{bit_at-lt, bit_at-zero, bit_at_and, bit_at_above, bit_at_cat_low}
+use Rattle.std.proofs.lemmas.Nat.Bits.{bit_at_cat_high, bit_at_not, bit_at_ones, bit_at-trailing_ones}
+use Rattle.std.proofs.lemmas.Nat.Bits.{bit_at-trailing_zeros}
 use Rattle.rank_blocks.specs.DayRuns.{has_bit, AllPass, ComeFirst, ComeLast, FollowAtMost}
-use Rattle.rank_blocks.proofs.JoinedRuns.{at_most_or_more}
+use Rattle.rank_blocks.proofs.DayTests.{at_most_or_more}
 
 -- a bit that is set, and one that isn't
 set-true : (word j : ℕ) → bit_at word j ≡ 1 → has_bit word j ≡ true
 set-true word j e = ap (λ (k : ℕ). k == 1) e
 
+-- a bit that isn't set fails
 set-false : (word j : ℕ) → bit_at word j ≡ 0 → has_bit word j ≡ false
 set-false word j e = ap (λ (k : ℕ). k == 1) e
 
+-- a bit that passes is set
 true-set : (word j : ℕ) → has_bit word j ≡ true → bit_at word j ≡ 1
 true-set word j e = (Decides-eqb (bit_at word j) 1).0 e
 
@@ -27,6 +32,7 @@ moved-up w k lt =
     ∙ bit_at_cat_high w 1 0 (k + 1) (omega arith) (omega arith)
     ∙ ap (bit_at w) {x = k + 1 - 1} {y = k} (omega arith)
 
+-- a word that is moved up has no lowest bit
 lowest-empty : (w : ℕ) → bit_at (w * 2 ^ 1 % 2 ^ 32) 0 ≡ 0
 lowest-empty w =
     let whole : (w * 2 ^ 1 / 2 ^ 32) * 2 ^ 32 + w * 2 ^ 1 % 2 ^ 32 ≡ w * 2 ^ 1 + 0 = omega arith in
@@ -35,7 +41,8 @@ lowest-empty w =
     ∙ bit_at_cat_low w 1 0 0 (omega arith)
     ∙ bit_at-zero 0
 
--- what remains of a word: a bit is set where more than n bits of the word that are set end; and n set bits follow one another somewhere
+-- what remains of a word: a bit is set where more than n bits of the word that are set end; and n set bits follow one
+-- another somewhere
 pub record AreEnds (word n ends : ℕ) : Type 0 where
   pub some : (from : ℕ) → from + n < 32 → bit_at ends (from + n) ≡ 1 → AllPass (has_bit word) from (from + n + 1)
   pub every : (from : ℕ) → from + n < 32 → AllPass (has_bit word) from (from + n + 1) → bit_at ends (from + n) ≡ 1
@@ -60,15 +67,20 @@ module _ (word n ends : ℕ) (are : AreEnds word n ends) (fits : ends < 2 ^ 32) 
   abbrev next : ℕ
   next = bit_and ends (ends * 2 ^ 1 % 2 ^ 32)
 
+  -- a bit is set where it was and where the one before it was
   next-bit : (k : ℕ) → k + 1 < 32 → bit_at next (k + 1) ≡ min (bit_at ends (k + 1)) (bit_at ends k)
   next-bit k lt = bit_at_and ends (ends * 2 ^ 1 % 2 ^ 32) (k + 1) ∙ ap (min (bit_at ends (k + 1))) (moved-up ends k lt)
 
+  -- the lowest bit is not
   next-lowest : bit_at next 0 ≡ 0
-  next-lowest = bit_at_and ends (ends * 2 ^ 1 % 2 ^ 32) 0 ∙ ap (min (bit_at ends 0)) (lowest-empty ends) ∙ least-of (bit_at ends 0)
+  next-lowest = bit_at_and ends (ends * 2 ^ 1 % 2 ^ 32) 0 ∙ ap (min (bit_at ends 0)) (lowest-empty ends)
+      ∙ least-of (bit_at ends 0)
     where
+      -- no number is below 0
       least-of : (k : ℕ) → min k 0 ≡ 0
       least-of k = omega arith
 
+  -- nor is one of the first n + 1
   next-none : (k : ℕ) → k < n + 1 → k < 32 → bit_at next k ≡ 0
   next-none zero lt within = next-lowest
   next-none (suc k) lt within =
@@ -79,6 +91,7 @@ module _ (word n ends : ℕ) (are : AreEnds word n ends) (fits : ends < 2 ^ 32) 
 
   -- n more than none end where a bit remains
   module _ (some_end : ends ≡ 0 → ⊥) where
+    -- more than n follow one another where a bit remains
     longer : (from : ℕ) × (from + (n + 1) ≤ 32) × AllPass (has_bit word) from (from + (n + 1))
     longer =
         let lowest = bit_at-trailing_zeros w32 ends (omega (arith, some_end)) fits in
@@ -88,7 +101,8 @@ module _ (word n ends : ℕ) (are : AreEnds word n ends) (fits : ends < 2 ^ 32) 
               let at : (k - n) + n ≡ k = omega arith in (
                 k - n,
                 omega (arith, lowest.0),
-                λ i low high. are.some (k - n) (omega (arith, lowest.0)) (ap (bit_at ends) at ∙ lowest.1) i low (omega arith),
+                λ i low high. are.some (k - n) (omega (arith, lowest.0)) (ap (bit_at ends) at ∙ lowest.1) i low
+                    (omega arith),
               )
           | inr less ↦ absurd (let none = are.none k less in let bit = lowest.1 in omega arith)
         ]
@@ -162,7 +176,12 @@ first-ones word fits =
     elim (full-or_not word fits) [
       | inl full ↦
           let is : trailing_ones w32 word ≡ 32 = ap (trailing_ones w32) full ∙ full-first in
-          record { within = omega arith; pass = λ k low high. full-set word k full (omega arith); ends = λ some. absurd (omega arith) }
+          record {
+            within = omega arith;
+            pass = λ k low high. full-set word k full (omega arith);
+            ends =
+                λ some. absurd (omega arith);
+          }
       | inr other ↦
           let lowest = bit_at-trailing_ones w32 word other in
           record {
@@ -178,8 +197,10 @@ highest-bit m t low high =
     let rest : ℕ = m - 2 ^ t in
     let twice : 2 ^ suc t ≡ 2 * 2 ^ t = double t in
     let parts : 1 * 2 ^ t + rest ≡ m = omega arith in
-    ap (λ (k : ℕ). bit_at k t) (sym parts) ∙ bit_at_cat_high 1 t rest t (omega arith) (omega arith) ∙ ap (bit_at 1) {x = t - t} {y = 0} (omega arith)
+    ap (λ (k : ℕ). bit_at k t) (sym parts) ∙ bit_at_cat_high 1 t rest t (omega arith) (omega arith)
+    ∙ ap (bit_at 1) {x = t - t} {y = 0} (omega arith)
   where
+    -- a power of 2 and the next
     double : (k : ℕ) → 2 ^ suc k ≡ 2 * 2 ^ k
     double k = search arith
 
@@ -189,7 +210,12 @@ last-ones word fits =
     elim (full-or_not word fits) [
       | inl full ↦
           let is : leading_ones w32 word ≡ 32 = ap (leading_ones w32) full ∙ full-last in
-          record { within = omega arith; pass = λ from at k low high. full-set word k full high; begins = λ k at. absurd (omega arith) }
+          record {
+            within = omega arith;
+            pass = λ from at k low high. full-set word k full high;
+            begins =
+                λ k at. absurd (omega arith);
+          }
       | inr other ↦
           let unset : ℕ = bit_not w32 word in
           let top = leading_top 32 unset (omega arith) (omega arith) in

@@ -23,7 +23,8 @@ blocks_of_window n = (n + 30) / 32 + 1
 
 -- the blocks of the period from which w blocks hold a usable day
 abbrev pub first_blocks : Asked → List DayValue → ℕ → List ℤ
-first_blocks q days w = filter (is_reached q.period) (flat_map (λ x. map (λ i. block_of x.0 -ℤ pos i) (range_with_len 0 w)) days)
+first_blocks q days w =
+    filter (is_reached q.period) (flat_map (λ x. map (λ i. block_of x.0 -ℤ pos i) (range_with_len 0 w)) days)
 
 -- the greatest total of w blocks in a row that begin in the period, 0 where none of them holds a usable day
 abbrev pub greatest_total : Asked → List DayValue → ℕ → ℤ

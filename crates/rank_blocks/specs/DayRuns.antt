@@ -1,58 +1,61 @@
--- How days of one kind follow one another among some days in a row, which are counted from 0.
-use Rattle.std.specs.Prelude.{◌≡◌, ℕ, ◌+◌, ◌<◌, ◌≤◌, ◌==◌, Bool, true, false, if◌then◌else◌, max}
+-- How days of one kind follow one another: in one block, by the bits of a word, and in all blocks before one.
+use Rattle.std.specs.Prelude.{◌≡◌, ℕ, ◌+◌, ◌<◌, ◌≤◌, ◌==◌, Bool, true, false, ℤ, pos, ◌+ℤ◌, ◌-ℤ◌, ◌≤ℤ◌, ◌<ℤ◌}
 use Rattle.std.specs.Int.{bit_at}
 use Rattle.rank_blocks.specs.declared.runs.Runs.{Runs}
+use Rattle.rank_blocks.specs.Blocks.{block_start}
 
 -- whether a word's bit at a place is set
 abbrev pub has_bit : ℕ → ℕ → Bool
 has_bit word j = bit_at word j == 1
 
--- the days from one to before another are all of the kind
+-- the places from one to before another all pass
 abbrev pub AllPass : (ℕ → Bool) → ℕ → ℕ → Type 0
 AllPass passes from before = (k : ℕ) → from ≤ k → k < before → passes k ≡ true
 
--- of so many days n of the kind come first, and no more
-pub record ComeFirst (passes : ℕ → Bool) (days n : ℕ) : Type 0 where
-  pub within : n ≤ days
+-- of so many places the first n pass, and no more
+pub record ComeFirst (passes : ℕ → Bool) (places n : ℕ) : Type 0 where
+  pub within : n ≤ places
   pub pass : AllPass passes 0 n
-  pub ends : n < days → passes n ≡ false
+  pub ends : n < places → passes n ≡ false
 
--- of so many days n of the kind come last, and no more
-pub record ComeLast (passes : ℕ → Bool) (days n : ℕ) : Type 0 where
-  pub within : n ≤ days
-  pub pass : (from : ℕ) → from + n ≡ days → AllPass passes from days
-  pub begins : (k : ℕ) → k + 1 + n ≡ days → passes k ≡ false
+-- of so many places the last n pass, and no more
+pub record ComeLast (passes : ℕ → Bool) (places n : ℕ) : Type 0 where
+  pub within : n ≤ places
+  pub pass : (from : ℕ) → from + n ≡ places → AllPass passes from places
+  pub begins : (k : ℕ) → k + 1 + n ≡ places → passes k ≡ false
 
--- among so many days n of the kind follow one another somewhere, and nowhere more
-pub record FollowAtMost (passes : ℕ → Bool) (days n : ℕ) : Type 0 where
-  pub somewhere : (from : ℕ) × (from + n ≤ days) × AllPass passes from (from + n)
-  pub nowhere_more : (from len : ℕ) → from + len ≤ days → AllPass passes from (from + len) → len ≤ n
+-- among so many places n that pass follow one another somewhere, and nowhere more
+pub record FollowAtMost (passes : ℕ → Bool) (places n : ℕ) : Type 0 where
+  pub somewhere : (from : ℕ) × (from + n ≤ places) × AllPass passes from (from + n)
+  pub nowhere_more : (from len : ℕ) → from + len ≤ places → AllPass passes from (from + len) → len ≤ n
 
--- r tells how the days of the kind follow one another
-pub record AreRuns (passes : ℕ → Bool) (r : Runs) : Type 0 where
-  pub first : ComeFirst passes r.days r.first
-  pub last : ComeLast passes r.days r.last
-  pub longest : FollowAtMost passes r.days r.longest
+-- so many days from one on are all of the kind
+abbrev pub AllFrom : (ℤ → Bool) → ℤ → ℕ → Type 0
+AllFrom such first len = (i : ℕ) → i < len → such (first +ℤ pos i) ≡ true
 
--- what is told of days of which none is of the kind
-abbrev pub runs_without : ℕ → Runs
-runs_without days = record { days = days; first = 0; last = 0; longest = 0 }
+-- of the days before r's next block so many of the kind come last, and so many follow one another, and nowhere more
+pub record AreRuns (such : ℤ → Bool) (r : Runs) : Type 0 where
+  pub from : ℤ
+  pub ends : from +ℤ pos r.last ≡ block_start r.next
+  pub last : AllFrom such from r.last
+  pub begins : such (from -ℤ pos 1) ≡ false
+  pub somewhere : (first : ℤ) × AllFrom such first r.longest
+  pub nowhere_more : (first : ℤ) (len : ℕ) → (first +ℤ pos len) ≤ℤ block_start r.next → AllFrom such first len
+      → len ≤ r.longest
 
--- how many come first of some days and those behind them; counted from the end, how many come last
-abbrev pub first_of_both : ℕ → ℕ → ℕ → ℕ
-first_of_both days first next = if first == days then days + next else first
+-- what is told where no day before a block is of the kind
+abbrev pub runs_before : ℤ → Runs
+runs_before b = record { next = b; last = 0; longest = 0 }
 
--- what is told of some days and those behind them, from what is told of both
-abbrev pub joined : Runs → Runs → Runs
-joined a b = record {
-  days = a.days + b.days;
-  first = first_of_both a.days a.first b.first;
-  last = first_of_both b.days b.last a.last;
-  longest = max (max a.longest b.longest) (a.last + b.first);
-}
+-- no day from one block on and before another is of the kind
+abbrev pub NoneBetween : (ℤ → Bool) → ℤ → ℤ → Type 0
+NoneBetween such b next = (d : ℤ) → block_start b ≤ℤ d → d <ℤ block_start next → such d ≡ false
 
--- no part is longer than the whole
-pub record ArePart (r : Runs) : Type 0 where
-  pub first : r.first ≤ r.days
-  pub last : r.last ≤ r.days
-  pub longest : r.longest ≤ r.days
+-- a word has the bits of a block's days of the kind
+abbrev pub AreBitsOf : (ℤ → Bool) → ℤ → ℕ → Type 0
+AreBitsOf such b word = (i : ℕ) → i < 32 → has_bit word i ≡ such (block_start b +ℤ pos i)
+
+-- whatever the kind, what was told goes on with a later block's days, of which a word has the bits
+abbrev pub Continues : Runs → ℤ → ℕ → Runs → Type 0
+Continues old b word new = (such : ℤ → Bool) →
+    AreRuns such old → NoneBetween such old.next b → AreBitsOf such b word → AreRuns such new

@@ -48,7 +48,7 @@ IsBoundFor Wet q s z = IsGreatest (IsRunLength (is_such is_wet (days_reached q s
 abbrev pub IsBound : Asked → Usable → ℤ → Type 0
 IsBound q s z = IsBoundFor q.score q s z
 
--- z is the bound of the series under the query as it is computed, and by what it is the greatest of, and no candidate of the series is above it
+-- z is the series' bound as it is computed, and by what it is greatest of, and no candidate of the series is above it
 pub record IsSeriesBound (q : Asked) (s : Usable) (z : ℤ) : Type 0 where
   pub equals : z ≡ bound q s
   pub greatest : IsBound q s z

@@ -2,18 +2,24 @@
 use Rattle.std.specs.Prelude.{◌≡◌, ℕ, Bool, true, ◌&&◌, List, map, filter, ℤ, pos, neg_ℤ, ◌≤ℤ◌, int_le}
 use Rattle.ghcn_fields.specs.Days.{block_of}
 use Rattle.ghcn_series.specs.Series.{DayValue}
+use Rattle.rank_query.specs.Asked.{Asked}
 use Rattle.rank_scores.specs.declared.spell.Spell.{Spell}
 use Rattle.rank_scores.specs.declared.spell.Spell.TheVariants.{Dry, Wet}
 use Rattle.rank_blocks.specs.declared.range.BlockRange.{BlockRange}
 use Rattle.rank_blocks.specs.declared.extreme.Extreme.{Extreme}
 use Rattle.rank_blocks.specs.declared.extreme.Extreme.TheVariants.{Highest, Lowest}
 use Rattle.rank_blocks.specs.declared.summary.Summary.{Summary}
-use Rattle.rank_blocks.specs.Blocks.{total, is_among, blocks_total}
+use Rattle.rank_blocks.specs.Blocks.{period_of, total, is_among, blocks_total}
 
 -- a score that single days can have
 pub record IsNear (z : ℤ) : Type 0 where
   pub low : neg_ℤ (pos 2_147_483_648) ≤ℤ z
   pub high : z ≤ℤ pos 2_147_483_648
+
+-- the range of the blocks of the query's period, or of the calendar where it has none
+pub record IsRangeOf (r : BlockRange) (q : Asked) : Type 0 where
+  pub first : r.first ≡ block_of (period_of q.period).0
+  pub last : r.last ≡ block_of (period_of q.period).1
 
 -- the block lies in the range
 abbrev pub in_range : BlockRange → ℤ → Bool

@@ -1,4 +1,4 @@
--- What is made of the values of one block: a word has a bit for each of its days, set where the day is usable, and a day that isn't has the value 0.
+-- What is made of the values of one block. A word has a bit for each usable day; another day has the value 0.
 use Rattle.std.specs.Prelude.{◌≡◌, ℕ, ◌<◌, Bool, false, List, get_or, ℤ, pos, ◌≤ℤ◌}
 use Rattle.std.specs.Int.{bit_at}
 use Rattle.std.specs.Option.{option_map_or}
@@ -23,10 +23,14 @@ pub record IsLeast (values : List ℤ) (z : ℤ) : Type 0 where
 abbrev pub IsValue : ℕ → List ℤ → ℤ → Type 0
 IsValue word values z = (j : ℕ) × (j < 32) × (bit_at word j ≡ 1) × (get_or values j (pos 0) ≡ z)
 
+-- z stands for the value at a place: it is the value of a usable day, and of the day at the place where that is usable
+pub record StandsFor (word : ℕ) (values : List ℤ) (j : ℕ) (z : ℤ) : Type 0 where
+  pub usable : IsValue word values z
+  pub kept : bit_at word j ≡ 1 → z ≡ get_or values j (pos 0)
+
 -- a row has the values of the usable days, and at each other place one of these values
-pub record HasUsableAlone (word : ℕ) (values row : List ℤ) : Type 0 where
-  pub kept : (j : ℕ) → j < 32 → bit_at word j ≡ 1 → get_or row j (pos 0) ≡ get_or values j (pos 0)
-  pub filled : (j : ℕ) → j < 32 → IsValue word values (get_or row j (pos 0))
+abbrev pub HasUsableAlone : ℕ → List ℤ → List ℤ → Type 0
+HasUsableAlone word values row = (j : ℕ) → j < 32 → StandsFor word values j (get_or row j (pos 0))
 
 -- the greatest and the least value of the usable days
 pub record AreExtremes (word : ℕ) (values : List ℤ) (most least : ℤ) : Type 0 where
@@ -37,4 +41,5 @@ pub record AreExtremes (word : ℕ) (values : List ℤ) (most least : ℤ) : Typ
 
 -- a word has a bit for each place, set where the day is usable and its value passes a test
 abbrev pub IsWordOf : (ℤ → Bool) → ℕ → List ℤ → ℕ → Type 0
-IsWordOf test word values passing = (j : ℕ) → j < 32 → has_bit passing j ≡ option_map_or test (value_at word values j) false
+IsWordOf test word values passing = (j : ℕ) → j < 32
+    → has_bit passing j ≡ option_map_or test (value_at word values j) false

@@ -5,11 +5,12 @@ ghost use Rattle.ghcn_series.specs.Series.{Usable};
 ghost use Rattle.rank_query.specs.Asked.{IsAsked};
 ghost use Rattle.rank_blocks.specs.Bounds.{IsAskedOf};
 ghost use Rattle.rank_blocks.specs.Greatest.{IsBound, IsSeriesBound};
-ghost use Rattle.rank_blocks.specs.Summaries.{AreSummaries, AreSummariesTo, AreSummariesUpTo, ArePossible, numbers_left};
+ghost use Rattle.rank_blocks.specs.Summaries.{AreSummaries, AreSummariesTo, AreSummariesUpTo, ArePossible};
+ghost use Rattle.rank_blocks.specs.Summaries.{numbers_left};
 
 use crate::extreme::Extreme;
 use crate::range::BlockRange;
-use crate::reached::{greatest_day, greatest_total, longest_run, times, window_blocks};
+use crate::reached::{greatest_day, greatest_total, longest_run, smaller, window_blocks};
 use crate::summary::Summary;
 use ghcn_fields::Memory;
 use ghcn_series::Series;
@@ -69,10 +70,11 @@ fn bound_of(blocks: &[Summary], query: &Query) -> i64
     match query.score() {
         Score::Highest(_) => greatest_day(blocks, range, Extreme::Highest),
         Score::Lowest(_) => greatest_day(blocks, range, Extreme::Lowest),
-        Score::Sum(n, _) => {
-            let by_days = times(n, greatest_day(blocks, range, Extreme::Highest));
-            by_days.min(greatest_total(blocks, range, window_blocks(n)))
-        }
+        Score::Sum(n, _) => smaller(
+            n,
+            greatest_day(blocks, range, Extreme::Highest),
+            greatest_total(blocks, range, window_blocks(n)),
+        ),
         Score::Dry => longest_run(blocks, range, Spell::Dry),
         Score::Wet => longest_run(blocks, range, Spell::Wet),
     }

@@ -15,5 +15,6 @@ mod summary;
 #[cfg(test)]
 mod tests;
 mod values;
+mod window;
 
 pub use blocks::Blocks;

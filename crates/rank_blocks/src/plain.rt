@@ -1,21 +1,22 @@
 //! The bound day by day, as its definition has it: a plain program to compare the quick one with.
 
 ghost use Rattle.std.specs.Prelude.{◌≡◌, ℕ, ℤ, true, false, ◌<◌, ◌≤◌, ◌≤ℤ◌, ◌+ℤ◌, pos, map, unwrap_or};
-ghost use Rattle.ghcn_fields.specs.Days.{day_if, IsBlock};
+ghost use Rattle.ghcn_fields.specs.Days.{block_of, day_if};
 ghost use Rattle.ghcn_fields.specs.Sorting.{greatest};
 ghost use Rattle.ghcn_series.specs.Series.{IsSeries};
 ghost use Rattle.rank_scores.specs.Candidates.{is_such};
 ghost use Rattle.rank_scores.specs.Runs.{calendar_len};
 ghost use Rattle.rank_scores.specs.Spells.{test_of};
 ghost use Rattle.rank_blocks.specs.Blocks as blocks;
-ghost use Rattle.rank_blocks.specs.Bounds.{bound, IsAskedOf};
+ghost use Rattle.rank_blocks.specs.Bounds.{blocks_of_window, bound, IsAskedOf};
 ghost use Rattle.rank_blocks.specs.Greatest.{IsGreatest, IsRunLength};
 ghost use Rattle.rank_blocks.specs.Reached as told;
 
 use crate::extreme::Extreme;
 use crate::range::BlockRange;
-use crate::reached::{greater, times, window_blocks};
-use crate::summary::sum_of;
+use crate::reached::{greater, smaller};
+use crate::summary::{BLOCK_DAYS, sum_of};
+use crate::window::Window;
 use ghcn_fields::Day;
 use ghcn_series::Series;
 use rank_query::{Query, Score};
@@ -32,13 +33,22 @@ pub(crate) fn plain_bound(series: &Series, query: &Query) -> i64
     match query.score() {
         Score::Highest(_) => greatest_score(series, range, Extreme::Highest),
         Score::Lowest(_) => greatest_score(series, range, Extreme::Lowest),
-        Score::Sum(n, _) => {
-            let by_days = times(n, greatest_score(series, range, Extreme::Highest));
-            by_days.min(greatest_window(series, range, window_blocks(n)))
-        }
+        Score::Sum(n, _) => smaller(
+            n,
+            greatest_score(series, range, Extreme::Highest),
+            greatest_window(series, range, blocks_touched(n)),
+        ),
         Score::Dry => longest_spell(series, range, Spell::Dry),
         Score::Wet => longest_spell(series, range, Spell::Wet),
     }
+}
+
+/// How many blocks `n` days in a row lie in at most. They begin with a block's last day, and end
+/// so many days behind that block's first.
+fn blocks_touched(n: u16) -> u32
+    ensures { result ≡ blocks_of_window n }
+{
+    (BLOCK_DAYS - 1 + n as u32).div_ceil(BLOCK_DAYS)
 }
 
 /// The greatest score of a day in the blocks of a range, or 0 where there is none.
@@ -49,11 +59,18 @@ fn greatest_score(series: &Series, range: BlockRange, extreme: Extreme) -> i64
 {
     let mut found = None;
     for (day, value) in series.days() {
-        if range.holds(day.block()) {
+        if is_reached(range, day) {
             found = Some(greater(found, score(extreme, value)));
         }
     }
     found.unwrap_or(0)
+}
+
+/// Whether a day lies in a block of a range.
+fn is_reached(range: BlockRange, day: Day) -> bool
+    ensures { result ≡ told.in_range range (block_of day) }
+{
+    range.holds(day.block())
 }
 
 /// The score of a day by its value.
@@ -69,38 +86,34 @@ fn score(extreme: Extreme, value: i32) -> i64
 
 /// The greatest total of so many blocks in a row of which the first is one of the range.
 fn greatest_window(series: &Series, range: BlockRange, width: u32) -> i64
-    requires first { IsBlock range.first }
-    requires last { IsBlock range.last }
     ensures { range.first ≤ℤ range.last → IsGreatest (told.IsDaysTotal range series.now.days width) result }
 {
-    let mut greatest = window(series, range.last as i64, width);
-    for later in 0..range.first.abs_diff(range.last) {
-        let first = range.first as i64 + later as i64;
-        greatest = greatest.max(window(series, first, width));
+    let mut greatest = total_of(series, range.last_window(width));
+    for first in range.first..range.last {
+        greatest = greatest.max(total_of(series, Window { first, width }));
     }
     greatest
 }
 
-/// The total of so many blocks from one on.
-fn window(series: &Series, first: i64, width: u32) -> i64
-    requires { told.IsNear first }
-    ensures { result ≡ blocks.blocks_total series.now.days width first }
+/// The total of the days of a window.
+fn total_of(series: &Series, window: Window) -> i64
+    ensures { result ≡ blocks.blocks_total series.now.days window.width window.first }
 {
     let mut total = 0;
     for (day, value) in series.days() {
-        if is_among(day.block(), first, width) {
+        if is_among(window, day) {
             total = sum_of(total, value as i64);
         }
     }
     total
 }
 
-/// Whether a number is one of so many numbers from one on.
-fn is_among(number: i32, first: i64, width: u32) -> bool
-    requires { told.IsNear first }
-    ensures { result ≡ blocks.is_among first width number }
+/// Whether a day lies in a block of a window.
+fn is_among(window: Window, day: Day) -> bool
+    ensures { result ≡ blocks.is_among window.first window.width (block_of day) }
 {
-    first <= number as i64 && (number as i64) < first + width as i64
+    let number = day.block();
+    window.first <= number && (number as i64) < window.first as i64 + window.width as i64
 }
 
 /// How many days of a kind follow one another at most in the blocks of a range.
@@ -138,7 +151,7 @@ fn passes(series: &Series, range: BlockRange, spell: Spell, day: Option<Day>) ->
         result ≡ is_such (test_of spell) (told.days_in_range range series.now.days) number }
 {
     match day {
-        Some(day) if range.holds(day.block()) => spell.passes(series.value(day)),
+        Some(day) if is_reached(range, day) => spell.passes(series.value(day)),
         _ => false,
     }
 }

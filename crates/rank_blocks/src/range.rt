@@ -1,10 +1,10 @@
 //! The blocks of a period.
 
 ghost use Rattle.std.specs.Prelude.{◌≡◌};
-ghost use Rattle.ghcn_fields.specs.Days.{block_of, IsBlock};
-ghost use Rattle.rank_blocks.specs.Blocks.{period_of};
-ghost use Rattle.rank_blocks.specs.Reached.{in_range};
+ghost use Rattle.ghcn_fields.specs.Days.{IsBlock};
+ghost use Rattle.rank_blocks.specs.Reached.{in_range, IsRangeOf};
 
+use crate::window::Window;
 use rank_query::Query;
 
 /// The block of 0001-01-01.
@@ -23,8 +23,7 @@ pub(crate) struct BlockRange {
 impl BlockRange {
     /// The blocks of the query's period, or of the calendar where it has none.
     pub(crate) fn of(query: &Query) -> Self
-        ensures first { result.first ≡ block_of (period_of query.now.period).0 }
-        ensures last { result.last ≡ block_of (period_of query.now.period).1 }
+        ensures range { IsRangeOf result query.now }
         ensures first_block { IsBlock result.first }
         ensures last_block { IsBlock result.last }
     {
@@ -45,5 +44,16 @@ impl BlockRange {
         ensures { result ≡ in_range self number }
     {
         self.first <= number && number <= self.last
+    }
+
+    /// So many blocks from its last one on.
+    pub(crate) fn last_window(self, width: u32) -> Window
+        ensures first { result.first ≡ self.last }
+        ensures width { result.width ≡ width }
+    {
+        Window {
+            first: self.last,
+            width,
+        }
     }
 }

@@ -1,14 +1,13 @@
 //! What the summaries of the blocks of a range tell.
 
 ghost use Rattle.std.specs.Prelude.{◌≡◌, List, ◌∷◌, [], ◌++◌, map, unwrap_or, IfSome, Some};
-ghost use Rattle.std.specs.Prelude.{ℤ, pos, ◌≤ℤ◌, ◌*ℤ◌, ◌+ℤ◌, int_le};
+ghost use Rattle.std.specs.Prelude.{ℤ, pos, ◌≤ℤ◌, ◌*ℤ◌};
+ghost use Rattle.std.specs.Int.{int_min};
 ghost use Rattle.std.specs.List.{AllByRecursion};
-ghost use Rattle.ghcn_fields.specs.Days.{IsBlock};
 ghost use Rattle.ghcn_fields.specs.Sorting.{greatest};
 ghost use Rattle.ghcn_series.specs.Series.{Usable};
 ghost use Rattle.rank_scores.specs.Candidates.{is_such};
 ghost use Rattle.rank_scores.specs.Spells.{test_of};
-ghost use Rattle.rank_blocks.specs.Blocks.{block_start};
 ghost use Rattle.rank_blocks.specs.Bounds.{blocks_of_window};
 ghost use Rattle.rank_blocks.specs.Greatest.{IsGreatest, IsRunLength};
 ghost use Rattle.rank_blocks.specs.Reached as told;
@@ -17,7 +16,8 @@ ghost use Rattle.rank_blocks.specs.Summaries.{ArePossible, AreSummaries};
 use crate::extreme::Extreme;
 use crate::range::BlockRange;
 use crate::runs::Runs;
-use crate::summary::{BLOCK_DAYS, Summary, sum_of};
+use crate::summary::{Summary, sum_of};
+use crate::window::Window;
 use rank_scores::Spell;
 
 /// The greatest score of a usable day in the blocks of a range, or 0 where there is none.
@@ -29,7 +29,7 @@ pub(crate) fn greatest_day(blocks: &[Summary], range: BlockRange, extreme: Extre
 {
     let mut found = None;
     for block in blocks {
-        if range.holds(block.number) {
+        if block.is_in(range) {
             found = Some(greater(found, extreme.of(block)));
         }
     }
@@ -49,12 +49,12 @@ pub(crate) fn greater(found: Option<i64>, number: i64) -> i64
     }
 }
 
-/// So many times a score.
-pub(crate) fn times(n: u16, score: i64) -> i64
-    requires { told.IsNear score }
-    ensures { result ≡ pos n *ℤ score }
+/// The smaller of `n` times the greatest score of a day and the greatest total.
+pub(crate) fn smaller(n: u16, day: i64, total: i64) -> i64
+    requires { told.IsNear day }
+    ensures { result ≡ int_min (pos n *ℤ day) total }
 {
-    n as i64 * score
+    total.min(n as i64 * day)
 }
 
 /// How many blocks in a row hold any `n` days in a row.
@@ -71,62 +71,43 @@ pub(crate) fn greatest_total(blocks: &[Summary], range: BlockRange, width: u32) 
         IsGreatest (told.IsTotalFrom range blocks.now width) result }
 {
     // Other windows have no more: one that begins at no summary holds what a later one holds too.
-    let mut greatest = window_total(blocks, range.last, width);
+    let mut greatest = window_total(blocks, range.last_window(width));
     for (index, block) in blocks.iter().enumerate() {
-        if range.holds(block.number) {
-            greatest = greatest.max(window_total(&blocks[index..], block.number, width));
+        if block.is_in(range) {
+            greatest = greatest.max(window_total(&blocks[index..], block.window(width)));
         }
     }
     greatest
 }
 
-/// The total of so many blocks from one number on.
-fn window_total(blocks: &[Summary], first: i32, width: u32) -> i64
+/// The total of the blocks of a window.
+fn window_total(blocks: &[Summary], window: Window) -> i64
     requires { ArePossible blocks.now }
-    ensures { result ≡ told.summaries_total blocks.now width first }
+    ensures { result ≡ told.summaries_total blocks.now window.width window.first }
 {
     let mut total: i64 = 0;
     for block in blocks {
-        if is_past(block.number, first, width) {
+        if window.is_before(block) {
             return total;
         }
-        if block.number >= first {
+        if window.holds(block) {
             total = sum_of(total, block.total);
         }
     }
     total
 }
 
-/// Whether a number stands behind so many numbers from one on.
-fn is_past(number: i32, first: i32, width: u32) -> bool
-    ensures { result ≡ int_le (first +ℤ pos width) number }
-{
-    number as i64 >= first as i64 + width as i64
-}
-
 /// How many days of a kind follow one another at most in the blocks of a range.
 pub(crate) fn longest_run(blocks: &[Summary], range: BlockRange, spell: Spell) -> i64
-    requires possible { ArePossible blocks.now }
-    requires low { IsBlock range.first }
+    requires { ArePossible blocks.now }
     ensures { (s : Usable) → AreSummaries s blocks.now →
         IsGreatest (IsRunLength (is_such (test_of spell) (told.days_in_range range s.days))) result }
 {
-    let mut runs = Runs::without(0);
+    let mut runs = Runs::before(range);
     for block in blocks {
-        if range.holds(block.number) {
-            let before = days_between(range.first, block.number);
-            runs = runs.up_to(before).join(block.runs(spell));
+        if block.is_in(range) {
+            runs = runs.add(block, spell);
         }
     }
     runs.longest as i64
-}
-
-/// How many days the blocks from one number on and before another have.
-fn days_between(first: i32, before: i32) -> u32
-    requires first { IsBlock first }
-    requires before { IsBlock before }
-    requires order { first ≤ℤ before }
-    ensures days { (block_start first +ℤ pos result) ≡ block_start before }
-{
-    (before - first) as u32 * BLOCK_DAYS
 }

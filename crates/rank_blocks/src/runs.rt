@@ -1,17 +1,19 @@
-//! How days of one kind follow one another among some days in a row.
+//! How days of one kind follow one another, block by block.
 
-ghost use Rattle.std.specs.Prelude.{◌≡◌, ◌+◌, ◌-◌, ◌<◌, ◌≤◌, ◌^◌};
-ghost use Rattle.rank_blocks.specs.DayRuns.{has_bit, runs_without, joined, ArePart, AreRuns, FollowAtMost};
+ghost use Rattle.std.specs.Prelude.{◌≡◌, ◌+◌, ◌<◌, ◌≤◌, ◌^◌, pos, ◌+ℤ◌, ◌≤ℤ◌};
+ghost use Rattle.ghcn_fields.specs.Days.{IsBlock};
+ghost use Rattle.rank_blocks.specs.DayRuns.{has_bit, runs_before, Continues, FollowAtMost};
+ghost use Rattle.rank_blocks.specs.Reached.{word_of};
 
-use crate::summary::BLOCK_DAYS;
+use crate::range::BlockRange;
+use crate::summary::{BLOCK_DAYS, Summary};
+use rank_scores::Spell;
 
-/// How the days of one kind follow one another among some days in a row.
+/// How the days of one kind before a block follow one another.
 #[derive(Clone, Copy, Debug)]
 pub(crate) struct Runs {
-    /// How many days it tells of.
-    pub(crate) days: u32,
-    /// How many of the kind come first, one after another.
-    pub(crate) first: u32,
+    /// The block behind these days.
+    pub(crate) next: i32,
     /// How many of the kind come last, one after another.
     pub(crate) last: u32,
     /// How many of the kind follow one another at most.
@@ -19,61 +21,42 @@ pub(crate) struct Runs {
 }
 
 impl Runs {
-    /// Of days of which none is of the kind.
-    pub(crate) fn without(days: u32) -> Self
-        ensures { result ≡ runs_without days }
+    /// Before the blocks of a range.
+    pub(crate) fn before(range: BlockRange) -> Self
+        ensures { result ≡ runs_before range.first }
     {
         Runs {
-            days,
-            first: 0,
+            next: range.first,
             last: 0,
             longest: 0,
         }
     }
 
-    /// Of the 32 days of a block, of which a word has the bits of those of the kind.
-    pub(crate) fn of_word(word: u32) -> Self
-        ensures runs { AreRuns (has_bit word) result }
-        ensures days { result.days ≡ 32 }
+    /// With the days of a later block. No day between is of the kind.
+    pub(crate) fn add(self, block: &Summary, spell: Spell) -> Self
+        requires block { IsBlock block.now.number }
+        requires order { self.next ≤ℤ block.now.number }
+        requires room { self.last + 32 < 2 ^ 32 }
+        ensures runs { Continues self block.now.number (word_of spell block.now) result }
+        ensures next { result.next ≡ block.now.number +ℤ pos 1 }
+        ensures room { result.last ≤ self.last + 32 }
     {
+        let before = if block.number == self.next {
+            self.last
+        } else {
+            0
+        };
+        let word = block.days(spell);
+        let first = word.trailing_ones();
         Runs {
-            days: BLOCK_DAYS,
-            first: word.trailing_ones(),
-            last: word.leading_ones(),
-            longest: longest_ones(word),
-        }
-    }
-
-    /// Of these days and those behind them.
-    pub(crate) fn join(self, next: Runs) -> Self
-        requires part { ArePart self }
-        requires next_part { ArePart next }
-        requires room { self.days + next.days < 2 ^ 32 }
-        ensures { result ≡ joined self next }
-    {
-        Runs {
-            days: self.days + next.days,
-            first: if self.first == self.days {
-                self.days + next.first
+            next: block.number + 1,
+            last: if first == BLOCK_DAYS {
+                first + before
             } else {
-                self.first
+                word.leading_ones()
             },
-            last: if next.last == next.days {
-                next.days + self.last
-            } else {
-                next.last
-            },
-            longest: self.longest.max(next.longest).max(self.last + next.first),
+            longest: self.longest.max(longest_ones(word)).max(before + first),
         }
-    }
-
-    /// Of these days, and of more of which none is of the kind, up to so many days.
-    pub(crate) fn up_to(self, days: u32) -> Self
-        requires part { ArePart self }
-        requires later { self.days ≤ days }
-        ensures { result ≡ joined self (runs_without (days - self.days)) }
-    {
-        self.join(Runs::without(days - self.days))
     }
 }
 

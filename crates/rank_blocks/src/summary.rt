@@ -3,12 +3,12 @@
 ghost use Rattle.std.specs.Prelude.{◌≡◌, ◌<◌, ◌+ℤ◌, FitsSigned};
 ghost use Rattle.std.specs.Int.{w64};
 ghost use Rattle.ghcn_fields.specs.Days.{IsBlock};
-ghost use Rattle.rank_blocks.specs.DayRuns.{has_bit, AreRuns};
-ghost use Rattle.rank_blocks.specs.Reached.{word_of};
+ghost use Rattle.rank_blocks.specs.Reached.{in_range, word_of};
 ghost use Rattle.rank_blocks.specs.Summaries.{IsPossible, IsSummaryOf};
 
-use crate::runs::Runs;
+use crate::range::BlockRange;
 use crate::values::{dry_days, extremes, total, wet_days};
+use crate::window::Window;
 use rank_scores::Spell;
 
 /// How many days a block has.
@@ -51,14 +51,31 @@ impl Summary {
         }
     }
 
-    /// The runs of a spell's days in the block.
-    pub(crate) fn runs(&self, spell: Spell) -> Runs
-        ensures runs { AreRuns (has_bit (word_of spell self.now)) result }
-        ensures days { result.days ≡ 32 }
+    /// Whether its block lies in the range.
+    pub(crate) fn is_in(&self, range: BlockRange) -> bool
+        ensures { result ≡ in_range range self.now.number }
+    {
+        range.holds(self.number)
+    }
+
+    /// So many blocks from its own on.
+    pub(crate) fn window(&self, width: u32) -> Window
+        ensures first { result.first ≡ self.now.number }
+        ensures width { result.width ≡ width }
+    {
+        Window {
+            first: self.number,
+            width,
+        }
+    }
+
+    /// The word of a spell's days in the block.
+    pub(crate) fn days(&self, spell: Spell) -> u32
+        ensures { result ≡ word_of spell self.now }
     {
         match spell {
-            Spell::Dry => Runs::of_word(self.dry),
-            Spell::Wet => Runs::of_word(self.wet),
+            Spell::Dry => self.dry,
+            Spell::Wet => self.wet,
         }
     }
 }

@@ -29,9 +29,8 @@ fn usable_alone(word: u32, values: &[i32; 32]) -> [i32; 32]
     let first = values[word.trailing_zeros() as usize];
     let mut row = *values;
     for place in 0..32 {
-        if word >> place & 1 == 0 {
-            row[place] = first;
-        }
+        let value = values[place];
+        row[place] = if word >> place & 1 == 1 { value } else { first };
     }
     row
 }

@@ -6,6 +6,7 @@ use Rattle.rank_blocks.specs.Summaries.{AreSummariesTo, AreSummariesUpTo, number
 use Rattle.rank_blocks.proofs.ReadBlocks.{read-first}
 use Rattle.rank_blocks.proofs.blocks.summaries_of.Goals as goal
 
+-- no block is read
 pub loop-next-init : goal.loop-next-init
 loop-next-init c =
     let s = c.args.series.now in
@@ -15,22 +16,29 @@ loop-next-init c =
     let same : c.block.result ≡ to_z w32 (of_z w32 c.block.result) = omega (arith, ints) in
     let first = read-first s c.in-Some.first c.next.new.self c.days-days.ensures.series split in
     let To : ℤ → List Summary → Type 0 = λ n ms. AreSummariesTo s n ms in
-    subst (To (to_z w32 (of_z w32 c.block.result))) (sym c.new-summaries.ensures.items) (subst (λ (n : ℤ). To n []) (sym c.block.ensures.value ∙ same) first)
+    subst (To (to_z w32 (of_z w32 c.block.result))) (sym c.new-summaries.ensures.items)
+    (subst (λ (n : ℤ). To n []) (sym c.block.ensures.value ∙ same) first)
 
 -- the number that is looked at next is read as it was written
-number-read : (s : Usable) (ms : List Summary) (next : Option ℤ) (n : ℤ) → next ≡ Some n → AreSummariesUpTo s ms next → (AreSummariesTo s n ms) × (n ≡ to_z w32 (of_z w32 n))
+number-read : (s : Usable) (ms : List Summary) (next : Option ℤ) (n : ℤ) → next ≡ Some n → AreSummariesUpTo s ms next
+    → (AreSummariesTo s n ms) × (n ≡ to_z w32 (of_z w32 n))
 number-read s ms next n is so_far =
     let to : AreSummariesTo s n ms = subst (AreSummariesUpTo s ms) is so_far in
     let low = to.low in
     let high = to.high in
     (to, omega (arith, ints))
 
+-- the blocks before the next are read
 pub add_block-requires : goal.add_block-requires
 add_block-requires c =
-    let read = number-read c.args.series.now c.loop-next.summaries.items c.loop-next.next c.in-Some-next.number c.in-Some-next.is c.loop-next.invariant in
+    let read = number-read c.args.series.now c.loop-next.summaries.items c.loop-next.next c.in-Some-next.number
+    c.in-Some-next.is c.loop-next.invariant in
     subst (λ (n : ℤ). AreSummariesTo c.args.series.now n c.loop-next.summaries.items) read.1 read.0
 
+-- fewer numbers are left
 pub loop-next-smaller : goal.loop-next-smaller
 loop-next-smaller c =
-    let read = number-read c.args.series.now c.loop-next.summaries.items c.loop-next.next c.in-Some-next.number c.in-Some-next.is c.loop-next.invariant in
-    subst (λ (o : Option ℤ). numbers_left c.in_ok-next.next < numbers_left o) (ap (λ (n : ℤ). Some n) (sym read.1) ∙ sym c.in-Some-next.is) c.in_ok-next.ensures.later
+    let read = number-read c.args.series.now c.loop-next.summaries.items c.loop-next.next c.in-Some-next.number
+    c.in-Some-next.is c.loop-next.invariant in
+    subst (λ (o : Option ℤ). numbers_left c.in_ok-next.next < numbers_left o)
+    (ap (λ (n : ℤ). Some n) (sym read.1) ∙ sym c.in-Some-next.is) c.in_ok-next.ensures.later

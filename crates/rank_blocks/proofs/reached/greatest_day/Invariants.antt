@@ -1,11 +1,13 @@
-use Rattle.std.proofs.Common.{◌≡◌, map, take}
+use Rattle.std.proofs.Common.{◌≡◌}
 use Rattle.std.specs.Option.{IfSome}
 use Rattle.ghcn_fields.specs.Sorting.{greatest}
-use Rattle.rank_blocks.specs.Reached.{IsNear, extreme_of, summaries_in}
+use Rattle.rank_blocks.specs.Reached.{IsNear, extreme_of}
+use Rattle.rank_blocks.proofs.BlockSteps.{made}
 use Rattle.rank_blocks.proofs.reached.greatest_day.Given as goal
 
+-- the greatest score of the blocks so far
 abbrev pub invariant-loop-block : goal.invariant-loop-block
 invariant-loop-block l = record {
-  found : greatest (map (extreme_of l.extreme) (summaries_in l.range (take l.block-index l.blocks))) ≡ l.found;
+  found : greatest (made (extreme_of l.extreme) l.range l.blocks l.block-index) ≡ l.found;
   near : IfSome l.found IsNear;
 }

@@ -6,6 +6,7 @@ use Rattle.rank_scores.specs.Candidates.{is_dry}
 use Rattle.rank_blocks.proofs.ValueSteps.{word-more, word-unread, usable-word}
 use Rattle.rank_blocks.proofs.values.dry_days.Goals as goal
 
+-- with one more place
 pub loop-place-preserved : goal.loop-place-preserved
 loop-place-preserved c =
     let values = c.args.values.now in
@@ -18,12 +19,14 @@ loop-place-preserved c =
     record {
       read = λ j below.
           ap (λ (k : ℕ). bit_at (bit_or dry k) j == 1) word
-          ∙ word-more is_dry values dry p c.passes.result lt is c.loop-place.invariant.unread c.loop-place.invariant.read j below;
+          ∙ word-more is_dry values dry p c.passes.result lt is c.loop-place.invariant.unread
+          c.loop-place.invariant.read j below;
       unread = λ j le.
           ap (λ (k : ℕ). bit_at (bit_or dry k) j) word
           ∙ word-unread is_dry values dry p c.passes.result lt is c.loop-place.invariant.unread j le;
     }
 
+-- of all places those of the usable days
 pub returns : goal.returns
 returns c =
     usable-word is_dry c.args.word c.loop-place.dry c.args.values.now

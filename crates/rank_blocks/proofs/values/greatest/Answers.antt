@@ -4,6 +4,7 @@ use Rattle.rank_blocks.specs.Values.{StandsAmong}
 use Rattle.rank_blocks.proofs.ValueSteps.{max-one}
 use Rattle.rank_blocks.proofs.values.greatest.Goals as goal
 
+-- with one more value
 pub loop-value-preserved : goal.loop-value-preserved
 loop-value-preserved c =
     let values = c.args.values.now in
@@ -15,6 +16,9 @@ loop-value-preserved c =
     let self_bound = c.max-greatest.ensures.self_bound in
     let other_bound = c.max-greatest.ensures.other_bound in
     record {
-      one = subst (StandsAmong values) result (max-one (StandsAmong values) _ _ _ c.max-greatest.ensures.value c.loop-value.invariant.one (i, lt, sym value));
-      most = below_more _ _ (λ j before. let most = c.loop-value.invariant.most j before in omega (arith, ints)) (omega (arith, ints));
+      one = subst (StandsAmong values) result
+          (max-one (StandsAmong values) _ _ _ c.max-greatest.ensures.value c.loop-value.invariant.one
+          (i, lt, sym value));
+      most = below_more _ _ (λ j before. let most = c.loop-value.invariant.most j before in omega (arith, ints))
+          (omega (arith, ints));
     }

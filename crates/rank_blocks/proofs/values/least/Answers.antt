@@ -4,6 +4,7 @@ use Rattle.rank_blocks.specs.Values.{StandsAmong}
 use Rattle.rank_blocks.proofs.ValueSteps.{min-one}
 use Rattle.rank_blocks.proofs.values.least.Goals as goal
 
+-- with one more value
 pub loop-value-preserved : goal.loop-value-preserved
 loop-value-preserved c =
     let values = c.args.values.now in
@@ -15,6 +16,8 @@ loop-value-preserved c =
     let self_bound = c.min-least.ensures.self_bound in
     let other_bound = c.min-least.ensures.other_bound in
     record {
-      one = subst (StandsAmong values) result (min-one (StandsAmong values) _ _ _ c.min-least.ensures.value c.loop-value.invariant.one (i, lt, sym value));
-      least = below_more _ _ (λ j before. let least_of = c.loop-value.invariant.least j before in omega (arith, ints)) (omega (arith, ints));
+      one = subst (StandsAmong values) result
+          (min-one (StandsAmong values) _ _ _ c.min-least.ensures.value c.loop-value.invariant.one (i, lt, sym value));
+      least = below_more _ _ (λ j before. let least_of = c.loop-value.invariant.least j before in omega (arith, ints))
+          (omega (arith, ints));
     }

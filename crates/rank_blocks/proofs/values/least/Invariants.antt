@@ -2,6 +2,7 @@ use Rattle.std.proofs.Common.{ℕ, ◌<◌, get_or, pos, ◌≤ℤ◌}
 use Rattle.rank_blocks.specs.Values.{StandsAmong}
 use Rattle.rank_blocks.proofs.values.least.Given as goal
 
+-- the least so far
 abbrev pub invariant-loop-value : goal.invariant-loop-value
 invariant-loop-value l = record {
   one : StandsAmong l.values l.least;

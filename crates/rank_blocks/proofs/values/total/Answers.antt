@@ -4,6 +4,7 @@ use Rattle.std.proofs.lemmas.List.{drop_more}
 use Rattle.rank_blocks.specs.Blocks.{total}
 use Rattle.rank_blocks.proofs.values.total.Goals as goal
 
+-- with one more value
 pub loop-value-preserved : goal.loop-value-preserved
 loop-value-preserved c =
     let values = c.args.values.now in

@@ -13,8 +13,10 @@ without (suc zero) (suc zero) la lb = refl
 without (suc zero) (suc (suc b)) la lb = absurd (omega arith)
 without (suc (suc a)) b la lb = absurd (omega arith)
 
+-- a bit of the one and not of the other
 pub returns : goal.returns
 returns c = λ j lt.
     let other = bit_at_not w32 c.args.dry j c.ranges.dry.fits lt in
-    ap (λ (k : ℕ). k == 1) (bit_at_and c.args.word (bit_not w32 c.args.dry) j ∙ ap (λ (k : ℕ). min (bit_at c.args.word j) k) other)
+    ap (λ (k : ℕ). k == 1)
+    (bit_at_and c.args.word (bit_not w32 c.args.dry) j ∙ ap (λ (k : ℕ). min (bit_at c.args.word j) k) other)
     ∙ without (bit_at c.args.word j) (bit_at c.args.dry j) (bit_at-lt c.args.word j) (bit_at-lt c.args.dry j)

@@ -7,6 +7,7 @@ use Rattle.rank_blocks.specs.Summaries.{AreSummaries}
 use Rattle.rank_blocks.proofs.BoundsMet.{bound-computed, bound-above}
 use Rattle.rank_blocks.proofs.blocks.Blocks.bound.Goals as goal
 
+-- the bound by what it is greatest of is the one that is computed, and no candidate is above it
 pub returns : goal.returns
 returns c = λ s are of.
     let same : c.as_slice.result.now ≡ c.args.self.now = c.as_slice.ensures.value ∙ c.self.view_is in
@@ -15,5 +16,6 @@ returns c = λ s are of.
     record {
       equals = fits ∙ bound-computed c.args.query.now s c.bound_of.result c.bound_of.ensures.asked of of_result;
       greatest = subst (λ (z : ℤ). IsBound c.args.query.now s z) (sym fits) of_result;
-      above = subst (λ (z : ℤ). IsAbove c.args.query.now s z) (sym fits) (bound-above c.args.query.now s c.bound_of.result c.bound_of.ensures.asked of of_result);
+      above = subst (λ (z : ℤ). IsAbove c.args.query.now s z) (sym fits)
+          (bound-above c.args.query.now s c.bound_of.result c.bound_of.ensures.asked of of_result);
     }

@@ -1,0 +1,75 @@
+-- Tests on numbers, and what they tell.
+use Rattle.std.proofs.Common.{◌≡◌, ℕ, ◌<◌, ◌≤◌, Bool, true, false, ◌⊎◌, inl, inr, refl, arith, ℤ, pos, negsuc, ◌≤ℤ◌}
+use Rattle.std.proofs.Common.{◌<ℤ◌, ◌+ℤ◌, ◌-ℤ◌}
+use Rattle.std.specs.Prelude.{◌&&◌, int_lt, int_le}
+use Rattle.std.proofs.lemmas.Bool.Decides.{leb_tells}
+use Rattle.std.proofs.lemmas.Int.{ints}
+
+-- two tests that both pass
+pub both_pass : (a b : Bool) → (a && b) ≡ true → (a ≡ true) × (b ≡ true)
+both_pass true b e = (refl, e)
+both_pass false b e = absurd cc
+
+-- of two tests that pass both pass
+pub pass_both : (a b : Bool) → a ≡ true → b ≡ true → (a && b) ≡ true
+pass_both true b p q = q
+pass_both false b p q = absurd cc
+
+-- a test that passes doesn't fail
+pub not_both : (b : Bool) → b ≡ true → b ≡ false → ⊥
+not_both b p q = cc
+
+-- a test that can't pass fails
+pub fails : (b : Bool) → (b ≡ true → ⊥) → b ≡ false
+fails true never = absurd (never refl)
+fails false never = refl
+
+-- a number that is tested to be less is less
+pub int_lt-true : (a b : ℤ) → int_lt a b ≡ true → a <ℤ b
+int_lt-true a b e = grind (arith, ints)
+
+-- a number that is tested to be at most another is at most that
+pub int_le-true : (a b : ℤ) → int_le a b ≡ true → a ≤ℤ b
+int_le-true a b e = grind (arith, ints)
+
+-- a number that isn't at most another is above it
+pub int_le-false : (a b : ℤ) → int_le a b ≡ false → b <ℤ a
+int_le-false a b e = grind (arith, ints)
+
+-- the test passes at a number that is less
+pub lt-int_lt : (a b : ℤ) → a <ℤ b → int_lt a b ≡ true
+lt-int_lt a b h = grind (arith, ints)
+
+-- the test passes at a number that is at most the other
+pub le-int_le : (a b : ℤ) → a ≤ℤ b → int_le a b ≡ true
+le-int_le a b h = grind (arith, ints)
+
+-- a whole number between two others, by its tests
+pub between : (a b c : ℤ) → (int_le a b && int_le b c) ≡ true → (a ≤ℤ b) × (b ≤ℤ c)
+between a b c e =
+    let both = both_pass (int_le a b) (int_le b c) e in
+    (int_le-true a b both.0, int_le-true b c both.1)
+
+-- the tests pass at a whole number between two others
+pub is-between : (a b c : ℤ) → a ≤ℤ b → b ≤ℤ c → (int_le a b && int_le b c) ≡ true
+is-between a b c low high = pass_both (int_le a b) (int_le b c) (le-int_le a b low) (le-int_le b c high)
+
+-- one of two numbers is at most the other, or above it
+pub at_most_or_more : (a b : ℕ) → (a ≤ b) ⊎ (b < a)
+at_most_or_more a b = elim (leb_tells a b) [ inl h ↦ inl h.1 | inr h ↦ inr h.1 ]
+
+-- the same of whole numbers
+pub int_le_or_lt : (a b : ℤ) → (a ≤ℤ b) ⊎ (b <ℤ a)
+int_le_or_lt a b =
+    elim (int_le a b) as (λ t. int_le a b ≡ t → (a ≤ℤ b) ⊎ (b <ℤ a)) [
+      | true ↦ λ e. inl (int_le-true a b e)
+      | false ↦ λ e. inr (int_le-false a b e)
+    ] refl
+
+-- how far a number lies behind another
+pub distance : (x y : ℤ) → x ≤ℤ y → (n : ℕ) × (y ≡ x +ℤ pos n)
+distance x y le =
+    elim (y -ℤ x) as (λ z. y -ℤ x ≡ z → (n : ℕ) × (y ≡ x +ℤ pos n)) [
+      | pos n ↦ λ e. (n, omega (arith, ints))
+      | negsuc n ↦ λ e. absurd (omega (arith, ints))
+    ] refl
