@@ -7,58 +7,29 @@ use Rattle.std.specs.Int.{w64}
 use Rattle.std.specs.Cmp.Lexicographic.{bytes_decides}
 use Rattle.std.proofs.lemmas.List.{length-map, map-append}
 use Rattle.ghcn_fields.specs.Bytes.{same_bytes}
-use Rattle.rank_query.specs.declared.score.Score.TheVariants.{Dry}
-use Rattle.rank_query.specs.declared.region.Region.TheVariants.{Everywhere}
 use Rattle.rank_query.specs.Asked.{Asked, IsAsked}
 use Rattle.rank_sched.proofs.Lists.{each-append}
 use Rattle.rank_papers.specs.Report.{query_line}
 use Rattle.rank_papers.specs.Certificate.{Entry, Certified, kth_line, entry_line, end_line, certificate_text, IsEntry, IsCertified}
 use Rattle.rank_papers.specs.Lines.{paper_lines, query_in}
 use Rattle.rank_papers.specs.CertificateLines.{kth_in, entry_in, and_then_entries, nothing_behind, entry_or_end, entries_in, with_entries, behind_query, behind_title, certified_lines, read_certificate}
-use Rattle.rank_papers.specs.Places.{IsCertificateText, Begin, IsFirstBadLine}
+use Rattle.rank_papers.specs.Places.{IsCertificateText}
 use Rattle.rank_papers.specs.Laws.{CertificatesGoWrong}
-use Rattle.rank_papers.proofs.FirstBadLines.{begin-whole, one_first}
-use Rattle.rank_papers.proofs.CertificateValues.{read-is, query_in-is, kth_in-is, entry_in-is}
-use Rattle.rank_papers.proofs.CertificateTexts.{title, written, lines-written, query_in-line, kth_in-line, entry_in-line, end_is_other, text_read}
+use Rattle.rank_papers.proofs.BadLines.{Lines, StartOf, BadAt, IsForm, heads, tails, same_err, some_query, some_asked, stops_at, goes_wrong_at, first_bad}
+use Rattle.rank_papers.proofs.LineValues.{query_in-is}
+use Rattle.rank_papers.proofs.CertificateValues.{read-is, kth_in-is, entry_in-is}
+use Rattle.rank_papers.proofs.CertificateTexts.{title, written, lines-written, kth_in-line, entry_in-line, end_is_other, text_read}
+use Rattle.rank_papers.proofs.ReadLines.{query_in-line}
 
 -- ---- beginnings
 
--- lines of a text
-abbrev Lines : Type 0
-Lines = List (List ℕ)
-
 -- lines with which a certificate is written that can be
-record Starts (ls : Lines) : Type 0 where
-  value : Certified
-  can_be : IsCertified value
-  more : Lines
-  lines : written value ≡ ls ++ more
+abbrev Starts : Lines → Type 0
+Starts = StartOf IsCertified written
 
--- they begin a certificate
-begun : (ls : Lines) → Starts ls → Begin IsCertificateText ls
-begun ls s = record {
-  text = certificate_text s.value;
-  has_form = (s.value, record { can_be = s.can_be; text = refl });
-  more = s.more;
-  lines = lines-written s.value s.can_be ∙ s.lines;
-}
-
--- and what begins one is such lines
-started : (ls : Lines) → Begin IsCertificateText ls → Starts ls
-started ls b = record {
-  value = b.has_form.0;
-  can_be = b.has_form.1.can_be;
-  more = b.more;
-  lines = sym (ap paper_lines b.has_form.1.text ∙ lines-written b.has_form.0 b.has_form.1.can_be) ∙ b.lines;
-}
-
--- what is alike in lists that are alike
-heads : {A : Type 0} (x y : A) (xs ys : List A) → ◌≡◌ {A = List A} (x ∷ xs) (y ∷ ys) → x ≡ y
-heads x y xs ys e = cc
-
--- and what stands behind it
-tails : {A : Type 0} (x y : A) (xs ys : List A) → ◌≡◌ {A = List A} (x ∷ xs) (y ∷ ys) → xs ≡ ys
-tails x y xs ys e = cc
+-- the line of this number is bad among these
+abbrev IsBadAt : Lines → ℕ → Type 0
+IsBadAt = BadAt IsCertified written
 
 -- a certificate of a query, without a k-th score and without series
 abbrev empty : Asked → Certified
@@ -67,38 +38,6 @@ empty q = record { query = q; kth = None; entries = [] }
 -- it can be, where its query can be asked
 empty_can_be : (q : Asked) → IsAsked q → IsCertified (empty q)
 empty_can_be q asked = record { asked = asked; kth = tt; entries = tt }
-
--- a query that can be asked
-abbrev some_query : Asked
-some_query = record { k = 1; score = Dry; region = Everywhere; period = None }
-
--- it can be asked
-some_asked : IsAsked some_query
-some_asked = record { k = refl; score = refl; region = refl; period = refl }
-
--- ---- a bad line among the lines of a text
-
--- the line of this number is the first with which no certificate goes on, or no line has it and the lines stop
-record IsBadAt (ls : Lines) (n : ℕ) : Type 0 where
-  before : Lines
-  begins : Starts before
-  number : n ≡ length before + 1
-  wrong : ((line : List ℕ) × (behind : Lines) × (ls ≡ before ++ line ∷ behind) × (Starts (before ++ line ∷ []) → ⊥))
-      ⊎ (ls ≡ before)
-
--- a text that stops behind lines that begin a certificate
-stops_at : (ls : Lines) (n : ℕ) → Starts ls → n ≡ length ls + 1 → IsBadAt ls n
-stops_at ls n s e = record { before = ls; begins = s; number = e; wrong = inr refl }
-
--- a text that goes on by a line with which no certificate does
-goes_wrong_at : (before : Lines) (line : List ℕ) (behind : Lines) (n : ℕ) → Starts before → n ≡ length before + 1
-    → (Starts (before ++ line ∷ []) → ⊥) → IsBadAt (before ++ line ∷ behind) n
-goes_wrong_at before line behind n s e ended =
-    record { before = before; begins = s; number = e; wrong = inl (line, behind, refl, ended) }
-
--- which number an answer names
-same_err : {A : Type 0} (n m : ℕ) → ◌≡◌ {A = Result A ℕ} (Err n) (Err m) → m ≡ n
-same_err n m e = cc
 
 -- ---- entries
 
@@ -202,7 +141,7 @@ module _ (q : Asked) (asked : IsAsked q) (k : Option ℤ) (fits : IfSome k (Fits
   entries_bad [] es n m len h f =
       let number : m ≡ n + 4 = same_err {A = List Entry} (n + 4) m f in
       subst (λ (ls : Lines). IsBadAt ls m) (sym (append-nil (head es)))
-      (stops_at (head es) m (head_starts es h) (number ∙ omega (arith, len, length-head es)))
+      (stops_at IsCertified written (head es) m (head_starts es h) (number ∙ omega (arith, len, length-head es)))
   entries_bad (l ∷ ls) es n m len h f =
       by_entry (λ e. entries_bad ls (es ++ e ∷ []) (suc n) m) (entry_in l) refl f
     where
@@ -210,7 +149,8 @@ module _ (q : Asked) (asked : IsAsked q) (k : Option ℤ) (fits : IfSome k (Fits
           → cond b (nothing_behind n rest) (Err (n + 4)) ≡ Err m → IsBadAt (head es ++ l ∷ ls) m
       by_end false other none rest is g =
           let number : m ≡ n + 4 = same_err {A = List Entry} (n + 4) m g in
-          goes_wrong_at (head es) l ls m (head_starts es h) (number ∙ omega (arith, len, length-head es))
+          goes_wrong_at IsCertified written (head es) l ls m (head_starts es h)
+          (number ∙ omega (arith, len, length-head es))
           (no_line es l none (ap (λ (i : ℕ). same_bytes l (end_line i)) (sym len) ∙ other))
       by_end true end none [] is g = absurd cc
       by_end true end none (r ∷ rest) is g =
@@ -220,7 +160,8 @@ module _ (q : Asked) (asked : IsAsked q) (k : Option ℤ) (fits : IfSome k (Fits
           let count : m ≡ length (head es ++ end_line (length es) ∷ []) + 1 =
           number ∙ omega (arith, len, length-head es, length-append (head es) (end_line (length es) ∷ [])) in
           let bad : IsBadAt ((head es ++ end_line (length es) ∷ []) ++ r ∷ rest) m =
-          goes_wrong_at (head es ++ end_line (length es) ∷ []) r rest m (whole_starts es h) count (no_more es r) in
+          goes_wrong_at IsCertified written (head es ++ end_line (length es) ∷ []) r rest m
+          (whole_starts es h) count (no_more es r) in
           let there : (head es ++ end_line (length es) ∷ []) ++ r ∷ rest ≡ head es ++ l ∷ ls =
           append_assoc (head es) (end_line (length es) ∷ []) (r ∷ rest)
           ∙ ap (λ (x : List ℕ). head es ++ x ∷ r ∷ rest) (sym last) ∙ ap (λ (x : Lines). head es ++ l ∷ x) (sym is) in
@@ -255,7 +196,7 @@ module _ (q : Asked) (asked : IsAsked q) where
   behind_query_bad : (ls : Lines) (m : ℕ) → behind_query q ls ≡ Err m → IsBadAt (title ∷ query_line q ∷ ls) m
   behind_query_bad [] m f =
       let number : m ≡ 3 = same_err {A = Certified} 3 m f in
-      stops_at (title ∷ query_line q ∷ []) m begins number
+      stops_at IsCertified written (title ∷ query_line q ∷ []) m begins number
     where
       begins : Starts (title ∷ query_line q ∷ [])
       begins = record {
@@ -289,7 +230,7 @@ module _ (q : Asked) (asked : IsAsked q) where
           → IsBadAt (title ∷ query_line q ∷ l ∷ ls) m
       by None none g =
           let number : m ≡ 3 = same_err {A = Certified} 3 m g in
-          goes_wrong_at (title ∷ query_line q ∷ []) l ls m begins number (no_line_here none)
+          goes_wrong_at IsCertified written (title ∷ query_line q ∷ []) l ls m begins number (no_line_here none)
       by (Some k) is g =
           let own = kth_in-is l k is in
           subst (λ (x : List ℕ). IsBadAt (title ∷ query_line q ∷ x ∷ ls) m) (sym own.1)
@@ -307,7 +248,8 @@ title_starts = record {
 -- what stands behind the title
 behind_title_bad : (ls : Lines) (m : ℕ) → behind_title ls ≡ Err m → IsBadAt (title ∷ ls) m
 behind_title_bad [] m f =
-    let number : m ≡ 2 = same_err {A = Certified} 2 m f in stops_at (title ∷ []) m title_starts number
+    let number : m ≡ 2 = same_err {A = Certified} 2 m f in
+    stops_at IsCertified written (title ∷ []) m title_starts number
 behind_title_bad (l ∷ ls) m f = by (query_in l) refl f
   where
     no_line_here : query_in l ≡ None → Starts (title ∷ l ∷ []) → ⊥
@@ -321,7 +263,7 @@ behind_title_bad (l ∷ ls) m f = by (query_in l) refl f
         → IsBadAt (title ∷ l ∷ ls) m
     by None none g =
         let number : m ≡ 2 = same_err {A = Certified} 2 m g in
-        goes_wrong_at (title ∷ []) l ls m title_starts number (no_line_here none)
+        goes_wrong_at IsCertified written (title ∷ []) l ls m title_starts number (no_line_here none)
     by (Some q) is g =
         let own = query_in-is l q is in
         subst (λ (x : List ℕ). IsBadAt (title ∷ x ∷ ls) m) (sym own.1) (behind_query_bad q own.0 ls m g)
@@ -330,7 +272,7 @@ behind_title_bad (l ∷ ls) m f = by (query_in l) refl f
 lines_bad : (ls : Lines) (m : ℕ) → certified_lines ls ≡ Err m → IsBadAt ls m
 lines_bad [] m f =
     let number : m ≡ 1 = same_err {A = Certified} 1 m f in
-    stops_at [] m (record {
+    stops_at IsCertified written [] m (record {
       value = empty some_query;
       can_be = empty_can_be some_query some_asked;
       more = written (empty some_query);
@@ -347,7 +289,7 @@ lines_bad (l ∷ ls) m f = by (same_bytes l title) refl f
     by : (b : Bool) → same_bytes l title ≡ b → cond b (behind_title ls) (Err 1) ≡ Err m → IsBadAt (l ∷ ls) m
     by false other g =
         let number : m ≡ 1 = same_err {A = Certified} 1 m g in
-        goes_wrong_at [] l ls m (record {
+        goes_wrong_at IsCertified written [] l ls m (record {
           value = empty some_query;
           can_be = empty_can_be some_query some_asked;
           more = written (empty some_query);
@@ -356,44 +298,17 @@ lines_bad (l ∷ ls) m f = by (same_bytes l title) refl f
     by true is g =
         subst (λ (x : List ℕ). IsBadAt (x ∷ ls) m) (sym ((bytes_decides l title).0 is)) (behind_title_bad ls m g)
 
+-- the form of a certificate
+form : IsForm IsCertified written IsCertificateText certificate_text read_certificate
+form = record {
+  has_text = λ v is. (v, record { can_be = is; text = refl });
+  has_value = λ bytes is. (is.0, is.1.can_be, is.1.text);
+  lines = lines-written;
+  back = λ v is. text_read (certificate_text v) v (record { can_be = is; text = refl });
+  read_is = λ bytes v e. (v, read-is bytes v e);
+}
+
 -- where the reading of a text ends is its first bad line
-pub wrong_at : (bytes : List ℕ) (n : ℕ) → read_certificate bytes ≡ Err n → IsFirstBadLine IsCertificateText bytes n
-wrong_at bytes n f =
-    let bad = lines_bad (paper_lines bytes) n f in
-    record {
-      before = bad.before;
-      begun = begun bad.before bad.begins;
-      number = bad.number;
-      wrong = elim bad.wrong [
-        | inl w ↦ inl (record {
-          line = w.0;
-          behind = w.1;
-          lines = w.2;
-          ended = λ b. w.3 (started (bad.before ++ w.0 ∷ []) b);
-        })
-        | inr all ↦ inr (record { lines = all; no_paper = not_read })
-      ];
-    }
-  where
-    not_read : IsCertificateText bytes → ⊥
-    not_read paper = let no : Err n ≡ Ok paper.0 = sym f ∙ text_read bytes paper.0 paper.1 in absurd cc
-
--- a text that has the form has no first bad line
-no_wrong : (bytes : List ℕ) (n : ℕ) → IsCertificateText bytes → IsFirstBadLine IsCertificateText bytes n → ⊥
-no_wrong bytes n is f = elim f.wrong [
-  | inl w ↦ w.ended (begin-whole IsCertificateText bytes (f.before ++ w.line ∷ []) w.behind is
-      (w.lines ∙ sym (append_assoc f.before (w.line ∷ []) w.behind)))
-  | inr w ↦ w.no_paper is
-]
-
--- and where its first bad line is the reading ends
-ends_at : (bytes : List ℕ) (n : ℕ) → IsFirstBadLine IsCertificateText bytes n → read_certificate bytes ≡ Err n
-ends_at bytes n f = by (read_certificate bytes) refl
-  where
-    by : (r : Result Certified ℕ) → read_certificate bytes ≡ r → r ≡ Err n
-    by (Ok v) e = absurd (no_wrong bytes n (v, read-is bytes v e) f)
-    by (Err m) e = ap (λ (x : ℕ). Err x) (one_first IsCertificateText bytes m n (wrong_at bytes m e) f)
-
--- both directions
 pub certificates_wrong : CertificatesGoWrong
-certificates_wrong bytes n = (wrong_at bytes n, ends_at bytes n)
+certificates_wrong = first_bad IsCertified written IsCertificateText certificate_text read_certificate form
+    (λ bytes n f. lines_bad (paper_lines bytes) n f)

@@ -5,23 +5,21 @@ use Rattle.std.specs.List.{flat_map, list_all, join_with_byte, AllByRecursion}
 use Rattle.std.specs.Option.{option_map, option_map_or}
 use Rattle.std.specs.Cmp.Lexicographic.{bytes_decides}
 use Rattle.std.proofs.lemmas.Bool.{and_parts}
-use Rattle.std.proofs.lemmas.Bool.Decides.{nat_tests}
-use Rattle.std.proofs.lemmas.Int.{ints}
 use Rattle.ghcn_fields.specs.Bytes.{same_bytes}
 use Rattle.ghcn_fields.specs.NumberTexts.{whole}
-use Rattle.ghcn_files.specs.Ids.{is_id, is_visible}
+use Rattle.ghcn_files.specs.Ids.{is_visible}
 use Rattle.ghcn_files.specs.StationLines.{is_printable}
-use Rattle.rank_query.specs.Asked.{Asked, IsAsked}
+use Rattle.rank_query.specs.Asked.{Asked}
 use Rattle.rank_query.specs.QueryTexts.{query_text}
-use Rattle.rank_query.specs.Reading.{read_query}
 use Rattle.rank_query.proofs.CanonicalTexts.{canonical}
-use Rattle.rank_query.proofs.Spellings.{spelling_read}
 use Rattle.rank_papers.specs.Report.{text_line, query_line}
 use Rattle.rank_papers.specs.Certificate.{Entry, Certified, kth_text, kth_line, entry_line, end_line, certificate_text, IsEntry, IsCertified, IsCertificateOf}
-use Rattle.rank_papers.specs.Lines.{paper_lines, is_i64, number_in, ok_query, query_in, query_of_text}
+use Rattle.rank_papers.specs.Lines.{paper_lines, number_in}
 use Rattle.rank_papers.specs.CertificateLines.{kth_in, kth_word, entry_in, entry_in_columns, entry_with, and_then_entries, nothing_behind, entry_or_end, entries_in, with_entries, behind_query, certified_lines, read_certificate}
 use Rattle.rank_papers.specs.Laws.{CertificatesAreRead}
-use Rattle.rank_papers.proofs.CertificateValues.{exactly-some, exactly-from, read-is}
+use Rattle.rank_papers.proofs.LineValues.{exactly-some, exactly-from}
+use Rattle.rank_papers.proofs.CertificateValues.{read-is}
+use Rattle.rank_papers.proofs.ReadLines.{query_in-line, is_i64-fits, id_long}
 use Rattle.rank_papers.proofs.NumberTexts.{number_in-whole}
 use Rattle.rank_papers.proofs.WrittenLines.{lines-of_fields, printable-append, visible_text, decimal_printable, whole_printable, take-past, between, last_field}
 
@@ -91,21 +89,6 @@ lines-written v is =
 
 -- ---- each line is read
 
--- the line of a query is read as it
-pub query_in-line : (q : Asked) → IsAsked q → query_in (query_line q) ≡ Some q
-query_in-line q asked =
-    let text : List ℕ = query_text q in
-    let own = canonical q asked in
-    let read : query_of_text text ≡ Some q =
-    ap (λ (b : Bool). cond b (ok_query (read_query text)) None) own.line.printable
-    ∙ ap ok_query (spelling_read text q asked own.spells own.line.short) in
-    exactly-from query_line (query_of_text (slice_range (query_line q) 6 (length (query_line q) - 1))) q
-    (ap query_of_text (last_field 6 (codes "query ") text refl) ∙ read)
-
--- a number inside 64 bits passes the test
-is_i64-fits : (z : ℤ) → FitsSigned w64 z → is_i64 z ≡ true
-is_i64-fits z h = grind (arith, ints)
-
 -- the word of a k-th score is read as it
 kth_word-text : (k : Option ℤ) → IfSome k (FitsSigned w64) → kth_word (kth_text k) ≡ Some k
 kth_word-text None h = refl
@@ -164,12 +147,6 @@ word_long false = refl
 word_says : (skipped : Bool) → same_bytes (word_of skipped) (codes "skip") ≡ skipped
 word_says true = refl
 word_says false = refl
-
--- an ID has eleven bytes
-id_long : (bytes : List ℕ) → is_id bytes ≡ true → length bytes ≡ 11
-id_long bytes h =
-    let both = and_parts _ (list_all is_visible bytes) h in
-    let test = both.0 in grind (arith, nat_tests)
 
 -- the line of an entry is read as it
 pub entry_in-line : (e : Entry) → IsEntry e → entry_in (entry_line e) ≡ Some e

@@ -42,10 +42,13 @@ module _ (IsText : List ℕ → Type 0) where
     | inl w ↦ elim g.wrong [
       | inl v ↦
           let found = longer f.before w.line w.behind g.before (v.line ∷ v.behind) (sym w.lines ∙ v.lines) lt in
-          w.ended (begin-first (f.before ++ w.line ∷ []) found.0 (subst (λ (l : Lines). Begin IsText l) found.1 g.begun))
+          w.ended (begin-first (f.before ++ w.line ∷ []) found.0
+          (subst (λ (l : Lines). Begin IsText l) found.1 g.begun))
       | inr v ↦
-          let found = longer f.before w.line w.behind g.before [] (sym w.lines ∙ v.lines ∙ sym (append-nil g.before)) lt in
-          w.ended (begin-first (f.before ++ w.line ∷ []) found.0 (subst (λ (l : Lines). Begin IsText l) found.1 g.begun))
+          let found = longer f.before w.line w.behind g.before []
+          (sym w.lines ∙ v.lines ∙ sym (append-nil g.before)) lt in
+          w.ended (begin-first (f.before ++ w.line ∷ []) found.0
+          (subst (λ (l : Lines). Begin IsText l) found.1 g.begun))
     ]
     | inr w ↦ elim g.wrong [
       | inl v ↦

@@ -12,10 +12,10 @@ use Rattle.ghcn_fields.specs.NumberTexts.{whole}
 use Rattle.ghcn_fields.proofs.Digits.{natural-from}
 use Rattle.rank_query.proofs.PrintedWords.{decimal_numeral}
 use Rattle.rank_papers.specs.Lines.{is_i64, in_i64, number_in}
-use Rattle.rank_papers.proofs.CertificateValues.{exactly-from}
+use Rattle.rank_papers.proofs.LineValues.{exactly-from}
 
 -- digits have no sign
-unsigned : (ds : List ℕ) → 1 ≤ length ds → list_all is_ascii_digit ds ≡ true
+pub unsigned : (ds : List ℕ) → 1 ≤ length ds → list_all is_ascii_digit ds ≡ true
     → signed_by natural ds ≡ option_map (with_sign false) (natural ds)
 unsigned [] some digits = absurd (omega arith)
 unsigned (d ∷ ds) some digits =

@@ -120,8 +120,8 @@ series-measured q (s ∷ ss) = ap (λ (l : List Usable). s ∷ l) (series-measur
 
 -- ---- lines and series
 
--- what the line of a series says: its ID and its bound, which is above its candidates, and a skip only where the bound is
--- strictly below the k-th score
+-- what the line of a series says: its ID and its bound, which is above its candidates, and a skip only where the bound
+-- is strictly below the k-th score
 pub record IsLineOf (q : Asked) (kth : Option ℤ) (l : Entry) (s : Usable) : Type 0 where
   pub named : l.id ≡ s.id
   pub bounded : l.bound ≡ bound q s

@@ -1,6 +1,6 @@
 -- A right certificate is a text of the form that says what is right.
 use Rattle.std.proofs.Common.{◌≡◌, ℕ, zero, suc, Bool, true, false, cond, not, List, [], ◌∷◌, length, Option, Some, None, refl, sym, ap, ◌∙◌, arith, ℤ, FitsSigned, w64}
-use Rattle.std.specs.Prelude.{◌==◌, ◌&&◌, ◌||◌, IfSome, filter}
+use Rattle.std.specs.Prelude.{◌==◌, ◌||◌, IfSome, filter}
 use Rattle.std.specs.List.{flat_map, filter_map, cons_option, list_all, AllByRecursion, AllZip}
 use Rattle.std.specs.Option.{option_map}
 use Rattle.std.proofs.lemmas.Bool.{and_parts}
@@ -9,11 +9,10 @@ use Rattle.ghcn_fields.specs.Floor.{IsScore}
 use Rattle.ghcn_fields.specs.Sorting.{placed, sorted_by}
 use Rattle.ghcn_files.specs.declared.station.Station.{Station}
 use Rattle.ghcn_files.specs.declared.station.StationId.{StationId}
-use Rattle.ghcn_fields.specs.declared.field.Field.TheVariants.{Number}
 use Rattle.ghcn_files.specs.Ids.{is_id}
 use Rattle.ghcn_files.specs.IdLaws.{same_id-is}
 use Rattle.ghcn_files.specs.Listed.{is_station_of}
-use Rattle.ghcn_files.specs.StationLines.{is_station, is_latitude, is_longitude, is_printable}
+use Rattle.ghcn_files.specs.StationLines.{is_station}
 use Rattle.ghcn_series.specs.Series.{Usable, Contents, IsSeries, series_of, is_series_of}
 use Rattle.ghcn_series.specs.Held.{IsContents}
 use Rattle.ghcn_series.specs.DailyFaults.{is_listed}
@@ -28,6 +27,7 @@ use Rattle.rank_sched.proofs.Lists.{each-append, each-weaker}
 use Rattle.rank_sched.proofs.ScoreRanges.{candidates_ranged}
 use Rattle.rank_papers.specs.Certificate.{Entry, Certified, certificate_text, IsEntry, IsCertificateOf, IsRightEntry, IsCertificate, SaysRight}
 use Rattle.rank_papers.specs.Laws.{RightCertificatesSayRight}
+use Rattle.rank_papers.proofs.ListedStations.{station_fields}
 
 -- ---- what holds of each element
 
@@ -57,7 +57,7 @@ module _ {X : Type 0} (P : X → Type 0) (first : X → X → Bool) where
   each-sorted (x ∷ xs) h = each-placed x (sorted_by first xs) h.0 (each-sorted xs h.1)
 
 -- what holds of all series holds of those of a query
-series_hold : (P : Usable → Type 0) (q : Asked) (c : Contents) → AllByRecursion P c.series
+pub series_hold : (P : Usable → Type 0) (q : Asked) (c : Contents) → AllByRecursion P c.series
     → AllByRecursion P (admitted_series q c)
 series_hold P q c h = by (filter (admits_station q) c.stations)
   where
@@ -73,17 +73,7 @@ series_hold P q c h = by (filter (admits_station q) c.stations)
 
 -- ---- IDs are visible
 
--- the ID of a station of the list is
-id_visible : (s : Station) → is_station s ≡ true → is_id s.id.0 ≡ true
-id_visible s h = by (is_id s.id.0) refl
-  where
-    by : (b : Bool) → is_id s.id.0 ≡ b → b ≡ true
-    by true e = refl
-    by false e = absurd (let none : is_station s ≡ false = ap (λ (t : Bool). t && is_latitude (Number s.latitude)
-        && is_longitude (Number s.longitude) && list_all is_printable s.state && list_all is_printable s.name) e in
-        let both : true ≡ false = sym h ∙ none in cc)
-
--- so is one that a station of the list has
+-- the ID of a station of the list is visible
 listed_visible : (id : StationId) (sts : List Station) → list_all is_station sts ≡ true → is_listed sts id ≡ true
     → is_id id.0 ≡ true
 listed_visible id [] h e = absurd cc
@@ -92,7 +82,7 @@ listed_visible id (s ∷ sts) h e =
     elim (is_station_of id s) as (λ b. is_station_of id s ≡ b → (b || is_listed sts id) ≡ true → is_id id.0 ≡ true) [
       | true ↦ λ t f. let same : s.id ≡ id = same_id-is s.id id t in
           let other : is_id id.0 ≡ is_id s.id.0 = ap (λ (i : StationId). is_id i.0) (sym same) in
-          other ∙ id_visible s both.0
+          other ∙ (station_fields s both.0).id
       | false ↦ λ t f. listed_visible id sts both.1 f
     ] refl e
 
@@ -111,11 +101,11 @@ morsels_visible q c right =
 -- ---- scores are inside 64 bits
 
 -- a score is inside 64 bits
-score_fits : (z : ℤ) → IsScore z → FitsSigned w64 z
+pub score_fits : (z : ℤ) → IsScore z → FitsSigned w64 z
 score_fits z h = let low = h.0 in let high = h.1 in grind (arith, ints)
 
 -- the candidates of series have scores
-candidates_fit : (q : Asked) (ss : List Usable) → IsAsked q → AllByRecursion IsSeries ss
+pub candidates_fit : (q : Asked) (ss : List Usable) → IsAsked q → AllByRecursion IsSeries ss
     → AllByRecursion (λ d. IsScore d.score) (flat_map (candidates q) ss)
 candidates_fit q [] asked h = tt
 candidates_fit q (s ∷ ss) asked h =

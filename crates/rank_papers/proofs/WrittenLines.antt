@@ -37,6 +37,14 @@ lines-of_fields fields rest h =
 
 -- ---- what can be printed
 
+-- bytes that pass a test pass a weaker one
+pub pass-weaker : (p q : ℕ → Bool) → ((b : ℕ) → p b ≡ true → q b ≡ true) → (xs : List ℕ) → list_all p xs ≡ true
+    → list_all q xs ≡ true
+pass-weaker p q weaker [] h = refl
+pass-weaker p q weaker (x ∷ xs) h =
+    let both = and_parts (p x) (list_all p xs) h in
+    ap (λ (t : Bool). t && list_all q xs) (weaker x both.0) ∙ pass-weaker p q weaker xs both.1
+
 -- two texts that can be printed
 pub printable-append : (xs ys : List ℕ) → list_all is_printable xs ≡ true → list_all is_printable ys ≡ true
     → list_all is_printable (xs ++ ys) ≡ true
@@ -51,10 +59,7 @@ visible_printable b h = grind (arith, nat_tests)
 
 -- so can a text of such bytes
 pub visible_text : (xs : List ℕ) → list_all is_visible xs ≡ true → list_all is_printable xs ≡ true
-visible_text [] h = refl
-visible_text (x ∷ xs) h =
-    let both = and_parts (is_visible x) (list_all is_visible xs) h in
-    ap (λ (t : Bool). t && list_all is_printable xs) (visible_printable x both.0) ∙ visible_text xs both.1
+visible_text xs h = pass-weaker is_visible is_printable visible_printable xs h
 
 -- a digit can be printed
 digit_printable : (d : ℕ) → d < 10 → is_printable (digit_glyph false d) ≡ true

@@ -76,8 +76,8 @@ pub record IsCertificateOf (v : Certified) (bytes : List ℕ) : Type 0 where
 
 -- ---- what is right
 
--- an entry is right for a series: it names the series, no candidate of the series has a score above the bound, and it is
--- passed over only where there is a k-th score and the bound is strictly below it
+-- an entry is right for a series: it names the series, no candidate of the series has a score above the bound, and it
+-- is passed over only where there is a k-th score and the bound is strictly below it
 pub record IsRightEntry (q : Asked) (kth : Option ℤ) (e : Entry) (s : Usable) : Type 0 where
   pub named : e.id ≡ s.id
   pub above : IsAbove q s e.bound

@@ -2,6 +2,7 @@ pub mod Values
 pub mod Report
 pub mod Certificate
 pub mod Lines
+pub mod ReportLines
 pub mod CertificateLines
 pub mod Places
 pub mod PlanPapers

@@ -1,11 +1,16 @@
 -- Where a text that is no paper goes wrong, whatever reads it.
 use Rattle.std.specs.Prelude.{◌≡◌, ◌⊎◌, ℕ, ◌+◌, List, [], ◌∷◌, ◌++◌, length}
+use Rattle.rank_papers.specs.ReportLines.{Reported, IsReportOf}
 use Rattle.rank_papers.specs.Certificate.{Certified, IsCertificateOf}
 use Rattle.rank_papers.specs.Lines.{paper_lines}
 
 -- a text of the form of a certificate: it is the text of one that says something
 abbrev pub IsCertificateText : List ℕ → Type 0
 IsCertificateText bytes = (v : Certified) × IsCertificateOf v bytes
+
+-- a text of the form of a report: it is the text of one that says something
+abbrev pub IsReportText : List ℕ → Type 0
+IsReportText bytes = (v : Reported) × IsReportOf v bytes
 
 -- lines begin a paper: with some lines behind them they are the lines of a text of the form
 pub record Begin (IsText : List ℕ → Type 0) (ls : List (List ℕ)) : Type 0 where

@@ -1,22 +1,18 @@
 //! Reading a certificate line by line. What is read of a line is printed and compared with it.
 
 ghost use Rattle.std.specs.Prelude.{◌≡◌, ◌+◌, ◌++◌, ◌∷◌, ◌<◌, ◌^◌, [], Ok, IfOk, IfErr, OnOk};
-ghost use Rattle.std.specs.List.{list_all};
-ghost use Rattle.ghcn_files.specs.Ids.{is_visible};
-ghost use Rattle.ghcn_files.specs.StationLines.{is_printable};
 ghost use Rattle.rank_papers.specs.Certificate.{IsCertificateOf};
 ghost use Rattle.rank_papers.specs.Lines as lines;
 ghost use Rattle.rank_papers.specs.CertificateLines as certificate;
 
 use crate::certificate_text::{push_end, push_kth, push_line};
-use crate::lines::{field_from, first_line, number};
-use crate::report_text::push_query;
+use crate::lines::{are_visible, field_from, first_line, number};
+use crate::query_line::query_of;
 use crate::{Certificate, Line, PaperFault};
 use ghcn_fields::Memory;
 use ghcn_files::StationId;
 use rank_query::Query;
 use std::alloc::Global;
-use std::str;
 
 /// What a certificate says, or its first line that isn't of the form of its place.
 pub fn read_certificate(alloc: Global, bytes: &[u8]) -> Result<Certificate, PaperFault>
@@ -125,48 +121,6 @@ fn read_end(paper: &mut Vec<u8>, count: u64, line: &[u8], behind: &[u8]) -> Resu
     Ok(())
 }
 
-/// The query whose line this is.
-pub(crate) fn query_of(
-    alloc: Global,
-    paper: &mut Vec<u8>,
-    line: &[u8],
-) -> Result<Option<Query>, Memory>
-    ensures { IfOk result (λ query. query ≡ lines.query_in line.now) }
-{
-    let Some(query) = query_of_text(field_from(line, 6)) else {
-        return Ok(None);
-    };
-    paper.clear();
-    push_query(alloc, paper, &query)?;
-    Ok(if paper.as_slice() == line {
-        Some(query)
-    } else {
-        None
-    })
-}
-
-/// The query that a text asks, where its bytes can be printed.
-fn query_of_text(text: &[u8]) -> Option<Query>
-    ensures { result ≡ lines.query_of_text text.now }
-{
-    if !are_printable(text) {
-        return None;
-    }
-    let Ok(text) = str::from_utf8(text) else {
-        unreachable!();
-    };
-    match Query::parse(text) {
-        Ok(query) => Some(query),
-        Err(_) => None,
-    }
-}
-
-fn are_printable(bytes: &[u8]) -> bool
-    ensures { result ≡ list_all is_printable bytes.now }
-{
-    bytes.iter().all(|byte| b' ' <= *byte && *byte <= b'~')
-}
-
 /// The k-th score, or none, whose line this is.
 fn kth_of(paper: &mut Vec<u8>, line: &[u8]) -> Result<Option<Option<i64>>, Memory>
     ensures { IfOk result (λ kth. kth ≡ certificate.kth_in line.now) }
@@ -223,11 +177,4 @@ fn line_in_columns(line: &[u8]) -> Option<Line>
         bound,
         skipped: *word == *b"skip",
     })
-}
-
-/// Whether each byte shows in print.
-fn are_visible(bytes: &[u8]) -> bool
-    ensures { result ≡ list_all is_visible bytes.now }
-{
-    bytes.iter().all(|byte| byte.is_ascii_graphic())
 }

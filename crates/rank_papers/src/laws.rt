@@ -9,3 +9,11 @@ pub fn certificates_are_read()
     ensures wrong { laws.CertificatesGoWrong }
     ensures right { laws.RightCertificatesSayRight }
 {}
+
+/// A text is read as a report exactly where it is the text of what is read, and every other text
+/// is refused at its first bad line. A report is right exactly where what is read is.
+pub fn reports_are_read()
+    ensures read { laws.ReportsAreRead }
+    ensures wrong { laws.ReportsGoWrong }
+    ensures right { laws.RightReportsSayRight }
+{}

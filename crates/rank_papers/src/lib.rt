@@ -3,7 +3,7 @@
 //!
 //! The program writes them. It is proved that the report of the best candidates of a query
 //! is the right one, that the certificate of a plan's answer is a right one, and that a text is read
-//! as a certificate exactly where it is one.
+//! as a report or a certificate exactly where it is one.
 #![tactic(auto)]
 
 mod certificate_lines;
@@ -14,6 +14,8 @@ mod lines;
 mod measure;
 mod number;
 mod paper;
+mod query_line;
+mod report_lines;
 mod report_text;
 mod row;
 #[cfg(test)]
@@ -22,7 +24,9 @@ mod tests;
 pub use certificate_lines::read_certificate;
 pub use certificate_text::certificate;
 pub use fault::PaperFault;
-pub use laws::certificates_are_read;
-pub use paper::Certificate;
+pub use laws::{certificates_are_read, reports_are_read};
+pub use paper::{Certificate, Report, Row};
 pub use rank_sched::Line;
+pub use report_lines::read_report;
 pub use report_text::{report, report_of_best};
+pub use row::trimmed;

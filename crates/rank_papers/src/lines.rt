@@ -1,10 +1,13 @@
 //! The lines of a paper, each with its line feed, and numbers in their fields.
 
 ghost use Rattle.std.specs.Prelude.{◌≡◌, ◌≤◌, ◌-◌, ◌^◌, length, slice_range, Some, pos, neg_ℤ};
+ghost use Rattle.std.specs.List.{list_all};
 ghost use Rattle.std.specs.Option.{option_map};
 ghost use Rattle.ghcn_fields.specs.Numbers as numbers;
 ghost use Rattle.ghcn_fields.specs.NumberTexts.{whole};
 ghost use Rattle.ghcn_fields.specs.Bytes.{same_bytes};
+ghost use Rattle.ghcn_files.specs.Ids.{is_visible};
+ghost use Rattle.ghcn_files.specs.StationLines.{is_printable};
 ghost use Rattle.rank_papers.specs.Lines as lines;
 
 use itoa::Buffer;
@@ -37,6 +40,28 @@ pub fn field_from(line: &[u8], from: usize) -> &[u8]
     }
 }
 
+/// What stands in a line from a byte on, up to another.
+pub fn columns(line: &[u8], from: usize, to: usize) -> &[u8]
+    ensures { result.now ≡ slice_range line.now from to }
+{
+    let end = to.min(line.len());
+    if from < end { &line[from..end] } else { &[] }
+}
+
+/// Whether each byte can be printed.
+pub fn are_printable(bytes: &[u8]) -> bool
+    ensures { result ≡ list_all is_printable bytes.now }
+{
+    bytes.iter().all(|byte| b' ' <= *byte && *byte <= b'~')
+}
+
+/// Whether each byte shows in print.
+pub fn are_visible(bytes: &[u8]) -> bool
+    ensures { result ≡ list_all is_visible bytes.now }
+{
+    bytes.iter().all(|byte| byte.is_ascii_graphic())
+}
+
 /// The number of 64 bits that a field writes, in its one spelling.
 pub fn number(field: &[u8]) -> Option<i64>
     ensures { result ≡ lines.number_in field.now }
@@ -49,6 +74,18 @@ pub fn number(field: &[u8]) -> Option<i64>
         Some(found)
     } else {
         None
+    }
+}
+
+/// The number of a sign and a magnitude, where it is inside 64 bits.
+pub fn signed(is_negative: bool, magnitude: u64) -> Option<i64>
+    requires { magnitude ≤ 2 ^ 63 }
+    ensures { result ≡ lines.in_i64 (Some (numbers.with_sign is_negative magnitude)) }
+{
+    if is_negative {
+        Some(negative(magnitude))
+    } else {
+        positive(magnitude)
     }
 }
 
@@ -78,7 +115,7 @@ fn is_text_of(number: i64, field: &[u8]) -> bool
 }
 
 /// The number that digits write, where it is at most `GREATEST`.
-fn magnitude(digits: &[u8]) -> Option<u64>
+pub fn magnitude(digits: &[u8]) -> Option<u64>
     ensures { result ≡ numbers.up_to (2 ^ 63) (numbers.natural digits.now) }
 {
     if digits.is_empty() {

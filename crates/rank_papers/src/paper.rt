@@ -2,6 +2,23 @@
 
 use rank_query::Query;
 use rank_sched::Line;
+use rank_scores::Candidate;
+
+/// What a report says: a query, and a row for each of the best candidates.
+#[derive(Debug, Drop)]
+pub struct Report {
+    pub query: Query,
+    pub rows: Vec<Row>,
+    /// Whether these are all candidates, since there are fewer than were asked for.
+    pub all: bool,
+}
+
+/// A row of a report: a candidate, and its station's name without the blanks at its end.
+#[derive(Debug, Drop)]
+pub struct Row {
+    pub candidate: Candidate,
+    pub name: Vec<u8>,
+}
 
 /// What a certificate says: a query, the k-th score where there is one, and a line for each series.
 #[derive(Debug, Drop)]

@@ -80,7 +80,7 @@ fn push_rows(
 }
 
 /// Adds the last line: how many rows there are, and whether these are all that there could be.
-fn push_end(paper: &mut Vec<u8>, k: u64, rows: u64) -> Result<(), Memory>
+pub(crate) fn push_end(paper: &mut Vec<u8>, k: u64, rows: u64) -> Result<(), Memory>
     ensures { OnOk result (paper.new.items ≡ paper.old.items ++ report.text_line (report.end_fields k rows)) }
 {
     paper.extend_from_slice(b"end ")?;

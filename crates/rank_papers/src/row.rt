@@ -24,12 +24,26 @@ pub fn push_row(
     ensures { OnOk result (paper.new.items ≡ paper.old.items
         ++ report.text_line (report.row_fields query.now (rank, (candidate.now, report.trimmed station.now.name)))) }
 {
+    push_named(paper, query, rank, candidate, trimmed(&station.name))
+}
+
+/// Adds the line of a candidate with its rank and a name, which may be empty.
+pub(crate) fn push_named(
+    paper: &mut Vec<u8>,
+    query: &Query,
+    rank: u64,
+    candidate: &Candidate,
+    name: &[u8],
+) -> Result<(), Memory>
+    ensures { OnOk result (paper.new.items ≡ paper.old.items
+        ++ report.text_line (report.row_fields query.now (rank, (candidate.now, name.now)))) }
+{
     push_number(paper, rank)?;
     push_field(paper, &candidate.id.0)?;
     push_day(paper, candidate.first)?;
     push_day(paper, candidate.last)?;
     push_value_and_unit(paper, query.score(), candidate.score)?;
-    push_name(paper, &station.name)?;
+    push_name(paper, name)?;
     paper.push(b'\n')?;
     Ok(())
 }
@@ -60,19 +74,19 @@ fn push_value_and_unit(paper: &mut Vec<u8>, score: Score, number: i64) -> Result
     push_field(paper, measure_of(score).unit())
 }
 
-/// Adds a blank and a name without the blanks at its end, where that isn't empty.
+/// Adds a blank and a name, where that isn't empty.
 fn push_name(paper: &mut Vec<u8>, name: &[u8]) -> Result<(), Memory>
     ensures { OnOk result (paper.new.items ≡ paper.old.items
-        ++ flat_map report.after_blank (report.field_unless_empty (report.trimmed name.now))) }
+        ++ flat_map report.after_blank (report.field_unless_empty name.now)) }
 {
-    match trimmed(name) {
+    match name {
         [] => Ok(()),
         text => push_field(paper, text),
     }
 }
 
 /// A text without the blanks at its end.
-fn trimmed(text: &[u8]) -> &[u8]
+pub fn trimmed(text: &[u8]) -> &[u8]
     ensures { result.now ≡ report.trimmed text.now }
 {
     let mut rest = text;

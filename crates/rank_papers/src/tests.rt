@@ -1,4 +1,4 @@
-//! Reports of one candidate, both papers of a run, and certificates that are read.
+//! Reports of one candidate, both papers of a run, and papers that are read.
 
 use super::*;
 use ghcn_fields::Day;
@@ -168,6 +168,155 @@ fn first_bad_lines_of_certificates(rt: HostRuntime) -> Result<(), Fail> {
             _ => 0,
         };
         assert_eq!(rt; found, bad, "at {text}");
+    }
+    Ok(())
+}
+
+const REPORT: &str = "extremes report 1
+query top 10 highest TMAX
+1 ZZA00000001 2020-07-01 2020-07-01 31.1 C ALPHA
+2 ZZA00000002 2020-07-01 2020-07-01 31.1 C BRAVO
+3 ZZA00000003 2020-07-01 2020-07-02 -25.0 C  THE  THIRD
+4 ZZA00000001 2020-07-02 2020-07-02 -0.3 C
+end 4 all
+";
+
+#[test]
+fn report_read_back(rt: HostRuntime) -> Result<(), Fail> {
+    let Ok(read) = read_report(rt.alloc(), REPORT.as_bytes()) else {
+        return Err(Fail::from("it isn't read"));
+    };
+    assert_eq!(rt; read.query.k(), 10);
+    assert_eq!(rt; read.rows.len(), 4);
+    assert!(rt; read.all);
+    assert_eq!(rt; read.rows[0].candidate.id, ALPHA);
+    assert_eq!(rt; Some(read.rows[0].candidate.last), Day::of(2020, 7, 1));
+    assert_eq!(rt; read.rows[0].candidate.score, 311);
+    assert_eq!(rt; read.rows[2].candidate.score, -250);
+    assert_eq!(rt; read.rows[2].name.as_slice(), b" THE  THIRD".as_slice());
+    assert_eq!(rt; read.rows[3].candidate.score, -3);
+    assert_eq!(rt; read.rows[3].name.len(), 0);
+    Ok(())
+}
+
+/// The number of the first bad line of a report, or 0 where it is read.
+fn bad_line_of_report(alloc: Global, text: &str) -> u64 {
+    match read_report(alloc, text.as_bytes()) {
+        Err(PaperFault::BadReport { line }) => line,
+        _ => 0,
+    }
+}
+
+#[test]
+fn first_bad_lines_of_reports(rt: HostRuntime) -> Result<(), Fail> {
+    let cases: [(&str, u64); 7] = [
+        ("", 1),
+        ("extremes report 2\n", 1),
+        ("extremes report 1", 1),
+        ("extremes report 1\n", 2),
+        ("extremes report 1\nquery top 01 wet\n", 2),
+        ("extremes report 1\nquery top 1 wet", 2),
+        ("extremes report 1\nquery top 1 wet\n", 3),
+    ];
+    for (text, bad) in cases {
+        assert_eq!(rt; bad_line_of_report(rt.alloc(), text), bad, "at {text}");
+    }
+    Ok(())
+}
+
+/// What follows the query's line in a report of the two lowest temperatures, and its first bad line.
+const ROWS: [(&str, u64); 24] = [
+    (
+        "1 ZZA00000001 2020-07-01 2020-07-01 0.3 C ALPHA\nend 1 all\n",
+        0,
+    ),
+    (
+        "1 ZZA00000001 2020-07-01 2020-07-01 0.3 C  A  B\nend 1 all\n",
+        0,
+    ),
+    ("1 ZZA00000001 2020-07-01 2020-07-01 0.3 C\nend 1 all\n", 0),
+    ("end 0 all\n", 0),
+    (
+        "1 ZZA00000001 2020-07-01 2020-07-01 -0.5 C ALPHA\nend 1 all\n",
+        0,
+    ),
+    (
+        "1 ZZA00000001 2020-07-01 2020-07-01 -0.50 C ALPHA\nend 1 all\n",
+        3,
+    ),
+    (
+        "1 ZZA00000001 2020-07-01 2020-07-01 -0.0 C ALPHA\nend 1 all\n",
+        3,
+    ),
+    (
+        "1 ZZA00000001 2020-07-01 2020-07-01 -5 C ALPHA\nend 1 all\n",
+        3,
+    ),
+    (
+        "1 ZZA00000001 2020-07-01 2020-07-01 00.5 C ALPHA\nend 1 all\n",
+        3,
+    ),
+    (
+        "1 ZZA00000001 2020-07-01 2020-07-01 0.3 mm ALPHA\nend 1 all\n",
+        3,
+    ),
+    (
+        "2 ZZA00000001 2020-07-01 2020-07-01 0.3 C ALPHA\nend 1 all\n",
+        3,
+    ),
+    (
+        "1 ZZA0000000  2020-07-01 2020-07-01 0.3 C ALPHA\nend 1 all\n",
+        3,
+    ),
+    (
+        "1 ZZA00000001 2020-02-30 2020-07-01 0.3 C ALPHA\nend 1 all\n",
+        3,
+    ),
+    ("1 ZZA00000001 2020-07-01 0.3 C ALPHA\nend 1 all\n", 3),
+    (
+        "1 ZZA00000001 2020-07-01 2020-07-01 0.3 C ALPHA \nend 1 all\n",
+        3,
+    ),
+    ("1 ZZA00000001 2020-07-01 2020-07-01 0.3 C \nend 1 all\n", 3),
+    ("1 ZZA00000001 2020-07-01 2020-07-01 0.3 C ALPHA", 3),
+    ("1 ZZA00000001 2020-07-01 2020-07-01 0.3 C ALPHA\n", 4),
+    (
+        "1 ZZA00000001 2020-07-01 2020-07-01 0.3 C ALPHA\nend 1\n",
+        4,
+    ),
+    (
+        "1 ZZA00000001 2020-07-01 2020-07-01 0.3 C ALPHA\nend 2\n",
+        4,
+    ),
+    (
+        "1 ZZA00000001 2020-07-01 2020-07-01 0.3 C ALPHA\nend 1 all",
+        4,
+    ),
+    (
+        "1 ZZA00000001 2020-07-01 2020-07-01 0.3 C ALPHA\nend 1 all\n\n",
+        5,
+    ),
+    (
+        "1 ZZA00000001 2020-07-01 2020-07-01 0.3 C\n2 ZZA00000001 2020-07-02 2020-07-02 0.3 C\nend 2 all\n",
+        5,
+    ),
+    (
+        "1 ZZA00000001 2020-07-01 2020-07-01 0.3 C
+2 ZZA00000001 2020-07-02 2020-07-02 0.3 C
+3 ZZA00000001 2020-07-03 2020-07-03 0.3 C
+end 3
+",
+        5,
+    ),
+];
+
+#[test]
+fn first_bad_rows_of_reports(rt: HostRuntime) -> Result<(), Fail> {
+    for (rows, bad) in ROWS {
+        let mut text = String::new(rt.alloc());
+        text.push_str("extremes report 1\nquery top 2 lowest TMIN\n")?;
+        text.push_str(rows)?;
+        assert_eq!(rt; bad_line_of_report(rt.alloc(), &text), bad, "at {rows}");
     }
     Ok(())
 }

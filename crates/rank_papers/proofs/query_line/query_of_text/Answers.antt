@@ -1,6 +1,6 @@
 use Rattle.std.proofs.Common.{sym}
 use Rattle.rank_papers.proofs.CertificateReading.{printable_text}
-use Rattle.rank_papers.proofs.certificate_lines.query_of_text.Goals as goal
+use Rattle.rank_papers.proofs.query_line.query_of_text.Goals as goal
 
 -- bytes that can be printed are a text
 pub unreachable-requires : goal.unreachable-requires

@@ -2,10 +2,10 @@ use Rattle.std.proofs.Common.{List, ℕ, ◌++◌, ℤ, ap, ◌∙◌, decimal, 
 use Rattle.std.specs.List.{flat_map}
 use Rattle.ghcn_fields.specs.Dates.{date_text}
 use Rattle.rank_query.specs.declared.score.Score.{Score}
-use Rattle.rank_papers.specs.Report.{after_blank, field_unless_empty, trimmed}
+use Rattle.rank_papers.specs.Report.{after_blank, field_unless_empty}
 use Rattle.rank_papers.specs.Values.{value_fields}
 use Rattle.rank_papers.proofs.RowText.{added, row-pieces}
-use Rattle.rank_papers.proofs.row.push_row.Goals as goal
+use Rattle.rank_papers.proofs.row.push_named.Goals as goal
 
 -- the pieces were added in the order of the fields
 pub returns : goal.returns
@@ -23,4 +23,4 @@ returns c =
     added paper _ _ _ _ to_name c.in_ok-push.ensures.items
     ∙ ap (λ (line : List ℕ). paper ++ line) (row-pieces (decimal c.args.rank) c.args.candidate.now.id.0
     (date_text c.args.candidate.now.first) (date_text c.args.candidate.now.last)
-    (value_fields c.args.query.now.score number) (field_unless_empty (trimmed c.args.station.now.name)))
+    (value_fields c.args.query.now.score number) (field_unless_empty c.args.name.now))

@@ -1,0 +1,31 @@
+use Rattle.std.proofs.Common.{◌≡◌, ◌∙◌, sym, ap}
+use Rattle.std.specs.Option.{option_map}
+use Rattle.rank_papers.specs.ReportLines.{named_in, row_line}
+use Rattle.rank_papers.proofs.ReportFields.{row_line-printed, row_in-none, row_in-own, row_in-other}
+use Rattle.rank_papers.proofs.report_lines.row_of.Goals as goal
+
+-- the columns hold no row
+pub returns-in_default : goal.returns-in_default
+returns-in_default c =
+    row_in-none c.args.query.now c.args.rank c.args.line.now c.digits_of.result c.digits_of.ensures.count
+    (ap (option_map named_in) (sym c.in_default.is) ∙ c.in_ok-row.ensures)
+
+-- the row in the columns has another line
+pub returns-then-ne : goal.returns-then-ne
+returns-then-ne c =
+    let printed : c.as_slice.result.now ≡ row_line c.args.query.now c.args.rank (named_in c.in-Some.row) =
+    c.as_slice.ensures.value ∙ row_line-printed c.args.query.now c.args.rank (named_in c.in-Some.row) _ _ _
+    c.clear.ensures.items c.deref.ensures.value c.in_ok-push_named.ensures in
+    row_in-other c.args.query.now c.args.rank c.args.line.now c.digits_of.result (named_in c.in-Some.row)
+    c.as_slice.result.now c.digits_of.ensures.count
+    (ap (option_map named_in) (sym c.in-Some.is) ∙ c.in_ok-row.ensures) printed c.if-ne.ensures
+
+-- it has this line
+pub returns : goal.returns
+returns c =
+    let printed : c.as_slice.result.now ≡ row_line c.args.query.now c.args.rank (named_in c.in-Some.row) =
+    c.as_slice.ensures.value ∙ row_line-printed c.args.query.now c.args.rank (named_in c.in-Some.row) _ _ _
+    c.clear.ensures.items c.deref.ensures.value c.in_ok-push_named.ensures in
+    row_in-own c.args.query.now c.args.rank c.args.line.now c.digits_of.result (named_in c.in-Some.row)
+    c.as_slice.result.now c.digits_of.ensures.count
+    (ap (option_map named_in) (sym c.in-Some.is) ∙ c.in_ok-row.ensures) printed c.if-ne.ensures
