@@ -1,0 +1,74 @@
+-- What holds of each element of a list.
+use Rattle.std.proofs.Common.{◌≡◌, ℕ, zero, suc, ◌+◌, ◌<◌, ◌≤◌, length, take, drop, map, set, get_or, sym, ◌∙◌, arith, List, [], ◌∷◌, ◌++◌, Some, refl, ap, subst}
+use Rattle.std.specs.Prelude.{slice_get}
+use Rattle.std.proofs.lemmas.List.{take_more, take_more_set, drop_more, drop-set-lt, map-append}
+use Rattle.std.specs.List.{AllByRecursion}
+
+-- what follows for each element
+pub each-weaker : {X : Type 0} (P Q : X → Type 0) (xs : List X) → ((x : X) → P x → Q x) → AllByRecursion P xs
+    → AllByRecursion Q xs
+each-weaker P Q [] f h = tt
+each-weaker P Q (x ∷ xs) f h = (f x h.0, each-weaker P Q xs f h.1)
+
+-- of two lists, one behind the other
+pub each-append : {X : Type 0} (P : X → Type 0) (xs ys : List X) → AllByRecursion P xs → AllByRecursion P ys
+    → AllByRecursion P (xs ++ ys)
+each-append P [] ys h k = k
+each-append P (x ∷ xs) ys h k = (h.0, each-append P xs ys h.1 k)
+
+-- and of both, what holds of all
+pub each-parts : {X : Type 0} (P : X → Type 0) (xs ys : List X) → AllByRecursion P (xs ++ ys)
+    → AllByRecursion P xs × AllByRecursion P ys
+each-parts P [] ys h = (tt, h)
+each-parts P (x ∷ xs) ys h = let rest = each-parts P xs ys h.1 in ((h.0, rest.0), rest.1)
+
+-- of the one at a place
+pub each-at : {X : Type 0} (P : X → Type 0) (xs : List X) (i : ℕ) (x : X) → AllByRecursion P xs
+    → slice_get xs i ≡ Some x → P x
+each-at P [] i x h e = absurd cc
+each-at P (y ∷ ys) zero x h e = let same : y ≡ x = cc in subst P same h.0
+each-at P (y ∷ ys) (suc i) x h e = each-at P ys i x h.1 e
+
+-- nothing can be taken of nothing
+pub take-nil : {X : Type 0} (n : ℕ) → take {A = X} n [] ≡ []
+take-nil zero = refl
+take-nil (suc n) = refl
+
+-- of a list that isn't longer all is taken
+pub all_taken : {X : Type 0} (n : ℕ) (xs : List X) → length xs ≤ n → take n xs ≡ xs
+all_taken n [] low = take-nil n
+all_taken zero (x ∷ xs) low = absurd (omega arith)
+all_taken (suc n) (x ∷ xs) low = ap (λ l. x ∷ l) (all_taken n xs (omega arith))
+
+-- what holds of each of the first, and of the next, holds of all these
+pub each-more : {X : Type 0} (P : X → Type 0) (xs : List X) (i : ℕ) (x : X) → i < length xs → x ≡ get_or xs i x
+    → AllByRecursion P (take i xs) → P x → AllByRecursion P (take (i + 1) xs)
+each-more P xs i x lt is h p =
+    subst (AllByRecursion P) (sym (take_more xs i x lt))
+    (each-append P (take i xs) (get_or xs i x ∷ []) h (subst P is p, tt))
+
+-- one more element of a list is changed, and those behind it are as they were
+pub mapped-more : {X : Type 0} (f : X → X) (items before : List X) (i : ℕ) (x y : X) → i < length items
+    → length items ≡ length before → take i items ≡ map f (take i before) → drop i items ≡ drop i before
+    → y ≡ f (get_or items i x)
+    → (take (i + 1) (set items i y) ≡ map f (take (i + 1) before))
+    × (drop (i + 1) (set items i y) ≡ drop (i + 1) before)
+mapped-more f items before i x y lt same mapped left e =
+    let both : get_or items i x ∷ drop (i + 1) items ≡ get_or before i x ∷ drop (i + 1) before =
+    sym (drop_more items i x lt) ∙ left ∙ drop_more before i x (omega arith) in
+    let own : get_or items i x ≡ get_or before i x = cc in
+    let rest : drop (i + 1) items ≡ drop (i + 1) before = cc in (
+      take_more_set items i y lt
+          ∙ ap (λ zs. zs ++ y ∷ []) mapped
+          ∙ ap (λ z. map f (take i before) ++ z ∷ []) (e ∙ ap f own)
+          ∙ sym (ap (map f) (take_more before i x (omega arith))
+          ∙ map-append f (take i before) (get_or before i x ∷ [])),
+      drop-set-lt (i + 1) items i y (omega arith) ∙ rest,
+    )
+
+-- what is made of one element more
+pub made-more : {X Y : Type 0} (f : X → Y) (xs : List X) (i : ℕ) (x : X) → i < length xs → x ≡ get_or xs i x
+    → map f (take (i + 1) xs) ≡ map f (take i xs) ++ f x ∷ []
+made-more f xs i x lt is =
+    ap (map f) (take_more xs i x lt) ∙ map-append f (take i xs) (get_or xs i x ∷ [])
+    ∙ ap (λ y. map f (take i xs) ++ f y ∷ []) (sym is)

@@ -1,0 +1,118 @@
+-- Worked verdicts, by computation.
+use Rattle.std.proofs.Common.{◌≡◌, ℕ, List, [], ◌∷◌, ◌++◌, refl, None}
+use Rattle.std.specs.Prelude.{codes, pos}
+use Rattle.std.specs.Fmt.{digits}
+use Rattle.jiff_core.specs.Calendar.{days_from_civil, day_count, days_of_years, days_of_months}
+use Rattle.ghcn_fields.specs.Dates.{year_and_rest, month_and_day}
+use Rattle.ghcn_files.specs.declared.element.Element.TheVariants.{Tmax}
+use Rattle.ghcn_files.specs.StationLines.{station_of}
+use Rattle.ghcn_series.specs.Series.{DayValue, Usable, Contents}
+use Rattle.rank_query.specs.declared.score.Score.TheVariants.{Highest}
+use Rattle.rank_query.specs.declared.region.Region.TheVariants.{Everywhere}
+use Rattle.rank_query.specs.Asked.{Asked}
+use Rattle.rank_query.specs.Words.{says}
+use Rattle.rank_query.specs.Readers.{keyword}
+use Rattle.rank_query.specs.WordValues.{number, element}
+use Rattle.rank_query.specs.Reading.{no_score_at, score_at, region_at, period_at, read_words, read_query}
+use Rattle.rank_check.specs.declared.verdict.Paper.TheVariants.{Report, Certificate}
+use Rattle.rank_check.specs.declared.verdict.Why.{Why}
+use Rattle.rank_check.specs.declared.verdict.Why.TheVariants.{Form, OtherQuery, NotACandidate, OutOfOrder, NotBest, TooFew, OtherSeries, NoBound, NotBelow, OtherFloor}
+use Rattle.rank_check.specs.declared.verdict.Verdict.{Verdict}
+use Rattle.rank_check.specs.declared.verdict.Verdict.TheVariants.{Accepted, Refused}
+use Rattle.rank_check.specs.Tests.{verdict}
+
+abbrev warm : List ℕ → List DayValue → Usable
+warm id days = record { id = record { 0 = id }; element = Tmax; days = days }
+
+-- three stations: two with the same greatest value, of which the first has one more day, and one below them
+abbrev held : Contents
+held = record {
+  stations = station_of (codes "ZZA00000001  10.0000   20.0000  100.0    ALPHA") ∷ station_of (codes "ZZA00000002  11.0000   21.0000  100.0    BRAVO") ∷ station_of (codes "ZZA00000003  12.0000   22.0000  100.0    CHARLIE") ∷ [];
+  series = warm (codes "ZZA00000001") ((pos 18444, pos 311) ∷ (pos 18445, pos 305) ∷ []) ∷ warm (codes "ZZA00000002") ((pos 18444, pos 311) ∷ []) ∷ warm (codes "ZZA00000003") ((pos 18444, pos 250) ∷ []) ∷ [];
+  unlisted = 0;
+}
+
+abbrev ask : ℕ → Asked
+ask k = record { k = k; score = Highest Tmax; region = Everywhere; period = None }
+
+-- lines, each with a line feed
+abbrev text : List (List ℕ) → List ℕ
+text [] = []
+text (l ∷ ls) = l ++ 10 ∷ text ls
+
+-- ---- the right papers of the highest one, and what stands between their heads and ends
+
+abbrev row : List ℕ
+row = codes "1 ZZA00000001 2020-07-01 2020-07-01 31.1 C ALPHA"
+
+abbrev report : List (List ℕ) → List ℕ
+report ls = text (codes "extremes report 1" ∷ codes "query top 1 highest TMAX" ∷ ls)
+
+abbrev right_report : List ℕ
+right_report = report (row ∷ codes "end 1" ∷ [])
+
+abbrev certificate : List (List ℕ) → List ℕ
+certificate ls = text (codes "extremes certificate 1" ∷ codes "query top 1 highest TMAX" ∷ ls)
+
+-- two scanned, and then
+abbrev scanned : List (List ℕ) → List ℕ
+scanned ls = certificate (codes "kth 311" ∷ codes "scan ZZA00000001 311" ∷ codes "scan ZZA00000002 311" ∷ ls)
+
+abbrev right_certificate : List ℕ
+right_certificate = scanned (codes "skip ZZA00000003 250" ∷ codes "end 3" ∷ [])
+
+-- the verdict on a report beside the right certificate, and on a certificate beside the right report
+abbrev of_report : List ℕ → Verdict
+of_report r = verdict (ask 1) held r right_certificate
+
+abbrev of_certificate : List ℕ → Verdict
+of_certificate z = verdict (ask 1) held right_report z
+
+abbrev bad_row : ℕ → Why → Verdict
+bad_row line why = Refused Report line why
+
+abbrev bad_entry : ℕ → Why → Verdict
+bad_entry line why = Refused Certificate line why
+
+accepted : verdict (ask 1) held right_report right_certificate ≡ Accepted
+unfolding digits year_and_rest month_and_day read_query read_words keyword says number element score_at no_score_at region_at period_at days_from_civil day_count days_of_years days_of_months
+accepted = refl
+
+-- another bound that is above all candidates and below the k-th score, and no skip at all
+also_accepted : (of_certificate (scanned (codes "skip ZZA00000003 310" ∷ codes "end 3" ∷ [])) ≡ Accepted) × (of_certificate (scanned (codes "scan ZZA00000003 9999" ∷ codes "end 3" ∷ [])) ≡ Accepted)
+unfolding digits year_and_rest month_and_day read_query read_words keyword says number element score_at no_score_at region_at period_at days_from_civil day_count days_of_years days_of_months
+also_accepted = (refl, refl)
+
+certificates : (of_certificate (scanned (codes "skip ZZA00000003 311" ∷ codes "end 3" ∷ [])) ≡ bad_entry 6 NotBelow)
+    × (of_certificate (scanned (codes "skip ZZA00000003 249" ∷ codes "end 3" ∷ [])) ≡ bad_entry 6 NoBound)
+    × (of_certificate (scanned (codes "end 2" ∷ [])) ≡ bad_entry 6 OtherSeries)
+    × (of_certificate (scanned (codes "end 3" ∷ [])) ≡ bad_entry 6 Form)
+    × (of_certificate (certificate (codes "kth 310" ∷ codes "scan ZZA00000001 311" ∷ codes "scan ZZA00000002 311" ∷ codes "skip ZZA00000003 250" ∷ codes "end 3" ∷ [])) ≡ bad_entry 3 OtherFloor)
+unfolding digits year_and_rest month_and_day read_query read_words keyword says number element score_at no_score_at region_at period_at days_from_civil day_count days_of_years days_of_months
+certificates = (refl, refl, refl, refl, refl)
+
+-- a line doubled, alone and with its number in the end line, and two ends
+doubled : (of_certificate (certificate (codes "kth 311" ∷ codes "scan ZZA00000001 311" ∷ codes "scan ZZA00000001 311" ∷ codes "scan ZZA00000002 311" ∷ codes "skip ZZA00000003 250" ∷ codes "end 3" ∷ [])) ≡ bad_entry 8 Form)
+    × (of_certificate (certificate (codes "kth 311" ∷ codes "scan ZZA00000001 311" ∷ codes "scan ZZA00000001 311" ∷ codes "scan ZZA00000002 311" ∷ codes "skip ZZA00000003 250" ∷ codes "end 4" ∷ [])) ≡ bad_entry 5 OtherSeries)
+    × (of_certificate (scanned (codes "skip ZZA00000003 250" ∷ codes "end 3" ∷ codes "end 3" ∷ [])) ≡ bad_entry 8 Form)
+    × (of_report (report (row ∷ row ∷ codes "end 2" ∷ [])) ≡ bad_row 4 Form)
+unfolding digits year_and_rest month_and_day read_query read_words keyword says number element score_at no_score_at region_at period_at days_from_civil day_count days_of_years days_of_months
+doubled = (refl, refl, refl, refl)
+
+reports : (of_report (report (codes "1 ZZA00000001 2020-07-01 2020-07-01 31.0 C ALPHA" ∷ codes "end 1" ∷ [])) ≡ bad_row 3 NotACandidate)
+    × (of_report (report (codes "1 ZZA00000001 2020-07-01 2020-07-01 31.1 C BRAVO" ∷ codes "end 1" ∷ [])) ≡ bad_row 3 NotACandidate)
+    × (of_report (report (codes "1 ZZA00000002 2020-07-01 2020-07-01 31.1 C BRAVO" ∷ codes "end 1" ∷ [])) ≡ bad_row 3 NotBest)
+    × (of_report (report (codes "end 0 all" ∷ [])) ≡ bad_row 3 TooFew)
+    × (verdict (ask 2) held right_report right_certificate ≡ bad_row 2 OtherQuery)
+unfolding digits year_and_rest month_and_day read_query read_words keyword says number element score_at no_score_at region_at period_at days_from_civil day_count days_of_years days_of_months
+reports = (refl, refl, refl, refl, refl)
+
+-- two rows: the first one twice, and two in the wrong order
+abbrev two_rows : List (List ℕ) → Verdict
+two_rows rows = verdict (ask 2) held (text (codes "extremes report 1" ∷ codes "query top 2 highest TMAX" ∷ rows ++ codes "end 2" ∷ [])) right_certificate
+
+of_two : (two_rows (row ∷ codes "2 ZZA00000001 2020-07-01 2020-07-01 31.1 C ALPHA" ∷ []) ≡ bad_row 4 OutOfOrder)
+    × (two_rows (codes "1 ZZA00000001 2020-07-02 2020-07-02 30.5 C ALPHA" ∷ codes "2 ZZA00000002 2020-07-01 2020-07-01 31.1 C BRAVO" ∷ []) ≡ bad_row 3 NotBest)
+    × (two_rows (row ∷ codes "2 ZZA00000002 2020-07-01 2020-07-01 31.1 C BRAVO" ∷ []) ≡ bad_entry 2 OtherQuery)
+unfolding digits year_and_rest month_and_day read_query read_words keyword says number element score_at no_score_at region_at period_at days_from_civil day_count days_of_years days_of_months
+of_two = (refl, refl, refl)

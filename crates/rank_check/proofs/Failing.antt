@@ -1,0 +1,294 @@
+-- The first test that fails, of tests of elements one after the other.
+use Rattle.std.proofs.Common.{◌≡◌, ℕ, zero, suc, ◌+◌, ◌-◌, ◌<◌, Bool, true, false, cond, List, [], ◌∷◌, ◌++◌, length, take, map, Option, Some, None, refl, sym, ap, ◌∙◌, arith, append-nil, get_or}
+use Rattle.std.specs.Prelude.{slice_get, nat_le, int_le, ◌&&◌, ◌||◌, not, ℤ}
+use Rattle.std.specs.List.{flat_map, enumerate_from, fold, list_all}
+use Rattle.std.specs.Option.{option_map, option_map_or, is_some}
+use Rattle.std.proofs.lemmas.Bool.{lt-leb}
+use Rattle.ghcn_fields.specs.Faults.{first_failing}
+use Rattle.rank_scores.specs.declared.candidate.Candidate.{Candidate}
+use Rattle.rank_scores.specs.Order.{precedes}
+use Rattle.rank_papers.specs.declared.paper.Row.{Row}
+use Rattle.rank_papers.specs.Report.{Named}
+use Rattle.rank_papers.specs.ReportLines.{named_in}
+use Rattle.rank_check.specs.declared.tally.Met.{Met}
+use Rattle.rank_check.specs.declared.verdict.Verdict.{Verdict}
+use Rattle.rank_check.specs.Survey.{met, candidates_of, top, top_score}
+use Rattle.rank_check.specs.declared.survey.Top.{Top}
+use Rattle.rank_check.specs.declared.verdict.Paper.TheVariants.{Certificate}
+use Rattle.rank_check.specs.declared.verdict.Why.TheVariants.{OtherSeries, NoBound, NotBelow}
+use Rattle.rank_check.specs.declared.verdict.Verdict.TheVariants.{Refused}
+use Rattle.ghcn_files.specs.Ids.{same_id}
+use Rattle.ghcn_files.specs.IdLaws.{same_id-turned}
+use Rattle.rank_scores.specs.Morsels.{morsels}
+use Rattle.ghcn_series.specs.Series.{Usable, Contents}
+use Rattle.rank_query.specs.Asked.{Asked}
+use Rattle.rank_scores.specs.Candidates.{candidates}
+use Rattle.rank_scores.specs.Order.{is_below}
+use Rattle.rank_papers.specs.Certificate.{Entry}
+use Rattle.std.specs.Int.{int_max}
+use Rattle.std.proofs.lemmas.Int.{ints}
+use Rattle.std.proofs.Math.Bool.{and-true}
+use Rattle.rank_check.specs.Tests.{Test, follows, line_tests, entry_tests}
+
+-- where none of some tests fails, the first that fails is among those behind
+pub behind_none : (ts us : List Test) → first_failing ts ≡ None → first_failing (ts ++ us) ≡ first_failing us
+behind_none [] us e = refl
+behind_none (t ∷ ts) us e =
+    elim (t.0) as (λ b. cond b (first_failing ts) (Some t.1) ≡ None
+    → cond b (first_failing (ts ++ us)) (Some t.1) ≡ first_failing us) [
+      | true ↦ λ f. behind_none ts us f
+      | false ↦ λ f. absurd cc
+    ] e
+
+-- where one of some tests fails, those behind make no difference
+pub before_some : (ts us : List Test) (v : Verdict) → first_failing ts ≡ Some v → first_failing (ts ++ us) ≡ Some v
+before_some [] us v e = absurd cc
+before_some (t ∷ ts) us v e =
+    elim (t.0) as (λ b. cond b (first_failing ts) (Some t.1) ≡ Some v
+    → cond b (first_failing (ts ++ us)) (Some t.1) ≡ Some v) [
+      | true ↦ λ f. before_some ts us v f
+      | false ↦ λ f. f
+    ] e
+
+-- none of two lists fails where none of either does
+none_of_first : (ts us : List Test) → first_failing (ts ++ us) ≡ None → first_failing ts ≡ None
+none_of_first [] us e = refl
+none_of_first (t ∷ ts) us e =
+    elim (t.0) as (λ b. cond b (first_failing (ts ++ us)) (Some t.1) ≡ None
+    → cond b (first_failing ts) (Some t.1) ≡ None) [
+      | true ↦ λ f. none_of_first ts us f
+      | false ↦ λ f. f
+    ] e
+
+module _ {X : Type 0} (tests : ℕ × X → List Test) where
+  -- the first of the tests of elements with their numbers that fails
+  abbrev pub first_of : ℕ → List X → Option Verdict
+  first_of n xs = first_failing (flat_map tests (enumerate_from n xs))
+
+  -- one element more, whose tests pass
+  pub none-more : (n : ℕ) (xs : List X) (i : ℕ) (x : X) → slice_get xs i ≡ Some x → first_of n (take i xs) ≡ None
+      → first_failing (tests (n + i, x)) ≡ None → first_of n (take (suc i) xs) ≡ None
+  none-more n [] i x at none here = absurd cc
+  none-more n (y ∷ ys) zero x at none here =
+      let same : y ≡ x = cc in
+      let number : n ≡ n + 0 = omega arith in
+      ap first_failing (append-nil (tests (n, y))) ∙ ap (λ (z : X). first_failing (tests (n, z))) same
+      ∙ ap (λ (m : ℕ). first_failing (tests (m, x))) number ∙ here
+  none-more n (y ∷ ys) (suc i) x at none here =
+      let first : first_failing (tests (n, y)) ≡ None = none_of_first (tests (n, y)) _ none in
+      let number : n + 1 + i ≡ n + suc i = omega arith in
+      behind_none (tests (n, y)) _ first
+      ∙ none-more (n + 1) ys i x at (sym (behind_none (tests (n, y)) _ first) ∙ none)
+      (ap (λ (m : ℕ). first_failing (tests (m, x))) number ∙ here)
+
+  -- the first element of which a test fails
+  pub some_at : (n : ℕ) (xs : List X) (i : ℕ) (x : X) (v : Verdict) → slice_get xs i ≡ Some x
+      → first_of n (take i xs) ≡ None → first_failing (tests (n + i, x)) ≡ Some v → first_of n xs ≡ Some v
+  some_at n [] i x v at none here = absurd cc
+  some_at n (y ∷ ys) zero x v at none here =
+      let same : y ≡ x = cc in
+      let number : n ≡ n + 0 = omega arith in
+      before_some (tests (n, y)) _ v (ap (λ (z : X). first_failing (tests (n, z))) same
+      ∙ ap (λ (m : ℕ). first_failing (tests (m, x))) number ∙ here)
+  some_at n (y ∷ ys) (suc i) x v at none here =
+      let first : first_failing (tests (n, y)) ≡ None = none_of_first (tests (n, y)) _ none in
+      let number : n + 1 + i ≡ n + suc i = omega arith in
+      behind_none (tests (n, y)) _ first
+      ∙ some_at (n + 1) ys i x v at (sym (behind_none (tests (n, y)) _ first) ∙ none)
+      (ap (λ (m : ℕ). first_failing (tests (m, x))) number ∙ here)
+
+  -- what an element's tests say is what all say, where it is the first with one that fails
+  pub fault_here : (n : ℕ) (xs : List X) (i m : ℕ) (x : X) (o : Option Verdict) → m ≡ n + i → is_some o ≡ true
+      → slice_get xs i ≡ Some x → first_of n (take i xs) ≡ None → o ≡ first_failing (tests (m, x)) → o ≡ first_of n xs
+  fault_here n xs i m x None number some at none here = absurd cc
+  fault_here n xs i m x (Some v) number some at none here =
+      sym (some_at n xs i x v at none (ap (λ (k : ℕ). first_failing (tests (k, x))) (sym number) ∙ sym here))
+
+  -- and none fails so far, where none of its tests does
+  pub none_here : (n : ℕ) (xs : List X) (i m : ℕ) (x : X) (o : Option Verdict) → m ≡ n + i → is_some o ≡ false
+      → slice_get xs i ≡ Some x → first_of n (take i xs) ≡ None → o ≡ first_failing (tests (m, x))
+      → first_of n (take (i + 1) xs) ≡ None
+  none_here n xs i m x None number some at none here =
+      let next : i + 1 ≡ suc i = omega arith in
+      ap (λ (k : ℕ). first_of n (take k xs)) next
+      ∙ none-more n xs i x at none (ap (λ (k : ℕ). first_failing (tests (k, x))) (sym number) ∙ sym here)
+  none_here n xs i m x (Some v) number some at none here = absurd cc
+
+-- ---- places
+
+-- what is said of what stands at a place is said of what is made of it
+pub said_there : {X Y R : Type 0} (g : X → Y) (F : Y → R) (xs : List X) (i : ℕ) (r : R)
+    → option_map (λ x. F (g x)) (slice_get xs i) ≡ Some r → (y : Y) × (slice_get (map g xs) i ≡ Some y) × (r ≡ F y)
+said_there g F [] i r e = absurd cc
+said_there g F (x ∷ xs) zero r e = let same : F (g x) ≡ r = cc in (g x, refl, sym same)
+said_there g F (x ∷ xs) (suc i) r e = said_there g F xs i r e
+
+-- an element stands at its place
+pub stands_at : {X : Type 0} (xs : List X) (i : ℕ) (x : X) → i < length xs → x ≡ get_or xs i x → slice_get xs i ≡ Some x
+stands_at [] i x lt e = absurd (omega arith)
+stands_at (y ∷ ys) zero x lt e = ap (λ z. Some z) (sym e)
+stands_at (y ∷ ys) (suc i) x lt e = stands_at ys i x (omega arith) e
+
+-- what is made of what stands at a place
+pub slice_get-map : {X Y : Type 0} (f : X → Y) (xs : List X) (i : ℕ)
+    → slice_get (map f xs) i ≡ option_map f (slice_get xs i)
+slice_get-map f [] i = refl
+slice_get-map f (x ∷ xs) zero = refl
+slice_get-map f (x ∷ xs) (suc i) = slice_get-map f xs i
+
+-- the row before one, by place
+pub follows-behind : (rows : List Row) (i : ℕ) (before row : Row) (b : Bool) → (i ≡ 0 → ⊥) → i < length rows
+    → before ≡ get_or rows (i - 1) before → row ≡ get_or rows i row
+    → b ≡ precedes (get_or rows (i - 1) before).candidate (get_or rows i row).candidate
+    → option_map (λ r. follows (map named_in rows) (i + 1) (named_in r)) (slice_get rows i) ≡ Some b
+follows-behind rows i before row b some lt e f h =
+    let g : b ≡ precedes before.candidate row.candidate = h
+    ∙ ap (λ (r : Row). precedes r.candidate (get_or rows i row).candidate) (sym e)
+    ∙ ap (λ (r : Row). precedes before.candidate r.candidate) (sym f) in
+    let later : nat_le (i + 1) 1 ≡ false = lt-leb (i + 1) 1 (omega arith) in
+    let place : i + 1 - 2 ≡ i - 1 = omega arith in
+    let there : slice_get (map named_in rows) (i - 1) ≡ Some (named_in before) =
+    slice_get-map named_in rows (i - 1) ∙ ap (option_map named_in) (stands_at rows (i - 1) before (omega arith) e) in
+    ap (option_map (λ r. follows (map named_in rows) (i + 1) (named_in r))) (stands_at rows i row lt f)
+    ∙ ap (λ (t : Bool). Some (option_map_or (λ (r : Named). precedes r.0 row.candidate)
+    (cond t None (slice_get (map named_in rows) (i + 1 - 2))) true)) later
+    ∙ ap (λ (n : ℕ). Some (option_map_or (λ (r : Named). precedes r.0 row.candidate)
+    (slice_get (map named_in rows) n) true)) place
+    ∙ ap (λ (o : Option Named). Some (option_map_or (λ (r : Named). precedes r.0 row.candidate) o true)) there
+    ∙ ap (λ (t : Bool). Some t) (sym g)
+
+-- what is known of the row at a place
+pub watched_at : (cs : List Candidate) (rows : List Row) (found : List Met) (i : ℕ) (m : Met)
+    → found ≡ map (met cs) (candidates_of rows) → i < length found → m ≡ get_or found i m
+    → option_map (λ row. met cs row.candidate) (slice_get rows i) ≡ Some m
+watched_at cs rows found i m e lt is =
+    let there : slice_get (map (met cs) (candidates_of rows)) i ≡ Some m =
+    ap (λ (l : List Met). slice_get l i) (sym e) ∙ stands_at found i m lt is in
+    sym (slice_get-map (λ (row : Row). met cs row.candidate) rows i)
+    ∙ ap (λ (l : List Met). slice_get l i) (twice rows) ∙ there
+  where
+    twice : (rs : List Row) → map (λ row. met cs row.candidate) rs ≡ map (met cs) (candidates_of rs)
+    twice [] = refl
+    twice (r ∷ rs) = ap (λ (l : List Met). met cs r.candidate ∷ l) (twice rs)
+
+-- ---- the tests of a line
+
+-- the greater of two numbers is at most a bound where both are
+both_low : (x y b : ℤ) → int_le x b ≡ true → int_le y b ≡ true → int_le (int_max x y) b ≡ true
+both_low x y b e f = grind (arith, ints)
+
+-- and isn't where the first isn't
+left_high : (x y b : ℤ) → int_le x b ≡ false → int_le (int_max x y) b ≡ false
+left_high x y b e = grind (arith, ints)
+
+-- or the second
+right_high : (x y b : ℤ) → int_le y b ≡ false → int_le (int_max x y) b ≡ false
+right_high x y b e = grind (arith, ints)
+
+-- so the test of the greater is that of both
+max-bounded : (x y b : ℤ) → int_le (int_max x y) b ≡ (int_le x b && int_le y b)
+max-bounded x y b =
+    elim (int_le x b) as (λ t. int_le x b ≡ t → int_le (int_max x y) b ≡ (t && int_le y b)) [
+      | true ↦ λ e. elim (int_le y b) as (λ u. int_le y b ≡ u → int_le (int_max x y) b ≡ u) [
+        | true ↦ λ f. both_low x y b e f
+        | false ↦ λ f. right_high x y b f
+      ] refl
+      | false ↦ λ e. left_high x y b e
+    ] refl
+
+-- the greatest of some numbers is at most a bound where each is
+fold-bounded : (a bound : ℤ) (cs : List Candidate) → int_le (fold int_max a (map (λ c. c.score) cs)) bound
+    ≡ (int_le a bound && list_all (λ c. int_le c.score bound) cs)
+fold-bounded a bound [] = sym (and-true (int_le a bound))
+fold-bounded a bound (c ∷ cs) =
+    fold-bounded (int_max a c.score) bound cs
+    ∙ ap (λ (b : Bool). b && list_all (λ d. int_le d.score bound) cs) (max-bounded a c.score bound)
+    ∙ apart (int_le a bound) (int_le c.score bound) (list_all (λ d. int_le d.score bound) cs)
+  where
+    apart : (x y z : Bool) → ((x && y) && z) ≡ (x && (y && z))
+    apart true y z = refl
+    apart false y z = refl
+
+-- so it is with the greatest score
+pub top-bounded : (bound : ℤ) (cs : List Candidate) → list_all (λ c. int_le c.score bound) cs
+    ≡ option_map_or (λ score. int_le score bound) (top_score cs) true
+top-bounded bound [] = refl
+top-bounded bound (c ∷ cs) = sym (fold-bounded c.score bound cs)
+
+-- the tests of a line by what was found of its morsel
+pub line_tests-top : (q : Asked) (kth : Option ℤ) (number : ℕ) (e : Entry) (t : Top) (s : Option Usable)
+    → Some t ≡ option_map (top q) s → first_failing (line_tests q kth number e s)
+    ≡ cond (same_id e.id t.id) (cond (option_map_or (λ score. int_le score e.bound) t.highest true)
+    (cond (not e.skipped || is_below kth e.bound) None (Some (Refused Certificate number NotBelow)))
+    (Some (Refused Certificate number NoBound))) (Some (Refused Certificate number OtherSeries))
+line_tests-top q kth number e t None f = absurd cc
+line_tests-top q kth number e t (Some u) f =
+    let same : top q u ≡ t = cc in
+    ap (λ (b : Bool). cond (same_id e.id u.id) (cond b
+    (cond (not e.skipped || is_below kth e.bound) None (Some (Refused Certificate number NotBelow)))
+    (Some (Refused Certificate number NoBound))) (Some (Refused Certificate number OtherSeries)))
+    (top-bounded e.bound (candidates q u))
+    ∙ ap (λ (x : Top). cond (same_id e.id x.id) (cond (option_map_or (λ score. int_le score e.bound) x.highest true)
+    (cond (not e.skipped || is_below kth e.bound) None (Some (Refused Certificate number NotBelow)))
+    (Some (Refused Certificate number NoBound))) (Some (Refused Certificate number OtherSeries))) same
+
+module _ (q : Asked) (kth : Option ℤ) (number : ℕ) (e : Entry) (t : Top) (s : Option Usable)
+    (made : Some t ≡ option_map (top q) s) (named : same_id t.id e.id ≡ true) where
+  -- what is left of the tests once the ID is right
+  own_line : first_failing (line_tests q kth number e s)
+      ≡ cond (option_map_or (λ score. int_le score e.bound) t.highest true)
+      (cond (not e.skipped || is_below kth e.bound) None (Some (Refused Certificate number NotBelow)))
+      (Some (Refused Certificate number NoBound))
+  own_line = line_tests-top q kth number e t s made
+      ∙ ap (λ (b : Bool). cond b (cond (option_map_or (λ score. int_le score e.bound) t.highest true)
+      (cond (not e.skipped || is_below kth e.bound) None (Some (Refused Certificate number NotBelow)))
+      (Some (Refused Certificate number NoBound))) (Some (Refused Certificate number OtherSeries)))
+      (same_id-turned e.id t.id ∙ named)
+
+  -- a candidate is above the bound
+  pub no_bound : option_map_or (λ score. int_le score e.bound) t.highest true ≡ false
+      → Some (Refused Certificate number NoBound) ≡ first_failing (line_tests q kth number e s)
+  no_bound f = sym (own_line ∙ ap (λ (b : Bool). cond b
+      (cond (not e.skipped || is_below kth e.bound) None (Some (Refused Certificate number NotBelow)))
+      (Some (Refused Certificate number NoBound))) f)
+
+  -- what is left once the bound is right
+  low_line : option_map_or (λ score. int_le score e.bound) t.highest true ≡ true
+      → first_failing (line_tests q kth number e s)
+      ≡ cond (not e.skipped || is_below kth e.bound) None (Some (Refused Certificate number NotBelow))
+  low_line f = own_line ∙ ap (λ (b : Bool). cond b
+      (cond (not e.skipped || is_below kth e.bound) None (Some (Refused Certificate number NotBelow)))
+      (Some (Refused Certificate number NoBound))) f
+
+  -- a skip isn't below
+  pub not_below : option_map_or (λ score. int_le score e.bound) t.highest true ≡ true
+      → (not e.skipped || is_below kth e.bound) ≡ false
+      → Some (Refused Certificate number NotBelow) ≡ first_failing (line_tests q kth number e s)
+  not_below f g = sym (low_line f ∙ ap (λ (b : Bool). cond b None (Some (Refused Certificate number NotBelow))) g)
+
+  -- no test fails
+  pub none_fails_there : option_map_or (λ score. int_le score e.bound) t.highest true ≡ true
+      → (not e.skipped || is_below kth e.bound) ≡ true → None ≡ first_failing (line_tests q kth number e s)
+  none_fails_there f g =
+      sym (low_line f ∙ ap (λ (b : Bool). cond b None (Some (Refused Certificate number NotBelow))) g)
+
+-- what is said of the line at a place
+pub line_there : (q : Asked) (c : Contents) (kth : Option ℤ) (es : List Entry) (i : ℕ) (o : Option Verdict)
+    → option_map (λ e. first_failing (line_tests q kth (i + 4) e (slice_get (morsels q c) i))) (slice_get es i) ≡ Some o
+    → (e : Entry) × (slice_get es i ≡ Some e) × (o ≡ first_failing (entry_tests q c kth (i + 1, e)))
+line_there q c kth es i o h = by (slice_get es i) refl h
+  where
+    by : (found : Option Entry) → slice_get es i ≡ found
+        → option_map (λ e. first_failing (line_tests q kth (i + 4) e (slice_get (morsels q c) i))) found ≡ Some o
+        → (e : Entry) × (slice_get es i ≡ Some e) × (o ≡ first_failing (entry_tests q c kth (i + 1, e)))
+    by None f g = absurd cc
+    by (Some e) f g =
+        let same : first_failing (line_tests q kth (i + 4) e (slice_get (morsels q c) i)) ≡ o = cc in
+        let number : i + 4 ≡ i + 1 + 3 = omega arith in
+        let place : i ≡ i + 1 - 1 = omega arith in (
+          e,
+          f,
+          sym same
+              ∙ ap (λ (n : ℕ). first_failing (line_tests q kth n e (slice_get (morsels q c) i))) number
+              ∙ ap (λ (n : ℕ). first_failing (line_tests q kth (i + 1 + 3) e (slice_get (morsels q c) n))) place,
+        )

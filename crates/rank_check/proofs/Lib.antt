@@ -1,0 +1,13 @@
+pub mod Each
+pub mod Ordered
+pub mod SortedCandidates
+pub mod Examples
+pub mod Accepted
+pub mod RightRows
+pub mod RightLines
+pub mod AcceptedWhereRight
+pub mod Surveying
+pub mod SortedTops
+pub mod Failing
+pub mod Judging
+pub mod KthScores

@@ -1,0 +1,186 @@
+-- The candidates of a query in order, and the rank of each.
+use Rattle.std.proofs.Common.{◌≡◌, ℕ, zero, suc, Bool, true, false, cond, List, [], ◌∷◌, length, take, Some, refl, sym, ap, ◌∙◌, subst, ◌||◌}
+use Rattle.std.specs.Prelude.{slice_get, ◌==◌, ◌&&◌}
+use Rattle.std.specs.List.{find, IsDistinct}
+use Rattle.std.specs.List.Sorted.{IsPermutation}
+use Rattle.std.specs.Ordering.{is_lt, is_le, is_eq, int_cmp, nat_cmp, int_eq, ordering_then, ordering_reverse}
+use Rattle.std.specs.declared.cmp.Ordering.{Ordering}
+use Rattle.std.specs.declared.cmp.Ordering.TheVariants.{Less, Equal, Greater}
+use Rattle.std.specs.Cmp.{IsTotalOrder, tied_then}
+use Rattle.std.specs.Cmp.Lexicographic.{slice_cmp}
+use Rattle.std.proofs.lemmas.Bool.{eqb-true, and_parts}
+use Rattle.std.proofs.lemmas.Bool.Decides.{Decides-int_eq}
+use Rattle.std.proofs.lemmas.Cmp.{nat_list_cmp_total, int_cmp_total, on_total, then_total, back_total, int_eq_equiv, nat_list_eq_equiv}
+use Rattle.std.proofs.lemmas.Map.Text.{is_eq-slice_cmp}
+use Rattle.std.proofs.lemmas.List.Sorted.{list_any-IsPermutation, length_permutation}
+use Rattle.std.proofs.lemmas.Map.Keys.{IsDistinct-IsPermutation}
+use Rattle.ghcn_fields.specs.Sorting.{sorted_by}
+use Rattle.ghcn_files.specs.Ids.{same_id}
+use Rattle.ghcn_files.specs.IdLaws.{same_id-is}
+use Rattle.rank_scores.specs.declared.candidate.Candidate.{Candidate}
+use Rattle.rank_scores.specs.Order.{precedes, rank_cmp, full_cmp, rank_in, best, begin_alike, AreApart}
+use Rattle.rank_scores.proofs.Ranks.{Descends, of_rank-is, best-is}
+use Rattle.rank_check.specs.Tests.{is_among}
+use Rattle.rank_check.proofs.Each.{each-weaker, each-at}
+use Rattle.rank_check.proofs.Ordered.{sorted-permutation, sorted-in_turn, descends, IsBefore, Descend}
+
+-- ranking is a total order
+ranked_total : IsTotalOrder rank_cmp
+ranked_total = then_total (on_total (λ c. c.score) (back_total int_cmp_total))
+    (then_total (on_total (λ c. c.id.0) nat_list_cmp_total) (on_total (λ c. c.first) int_cmp_total))
+
+-- the first of two in order, or they tie
+abbrev stands_first : Candidate → Candidate → Bool
+stands_first a b = is_le (rank_cmp a b)
+
+-- which of two candidates is named first makes no difference
+alike-turned : (a b : Candidate) → begin_alike a b ≡ begin_alike b a
+alike-turned a b = ap (λ (t : Bool). t && int_eq a.first b.first) (nat_list_eq_equiv.symm (a.id.0) (b.id.0))
+    ∙ ap (λ (t : Bool). same_id b.id a.id && t) (int_eq_equiv.symm a.first b.first)
+
+-- comparisons one after the other that tie
+both_tie : (o p : Ordering) → is_eq (ordering_then o p) ≡ true → (is_eq o ≡ true) × (is_eq p ≡ true)
+both_tie o p e = and_parts (is_eq o) (is_eq p) (tied_then o p ∙ e)
+
+-- candidates that tie begin alike
+tied_alike : (a b : Candidate) → rank_cmp a b ≡ Equal → begin_alike a b ≡ true
+tied_alike a b e =
+    let ids = slice_cmp nat_cmp a.id.0 b.id.0 in
+    let behind = both_tie (int_cmp b.score a.score) (ordering_then ids (int_cmp a.first b.first)) (ap is_eq e) in
+    let last = both_tie ids (int_cmp a.first b.first) behind.1 in
+    let one : same_id a.id b.id ≡ true = sym (is_eq-slice_cmp (a.id.0) (b.id.0)) ∙ last.0 in
+    ap (λ (t : Bool). t && int_eq a.first b.first) one ∙ last.1
+
+-- one that isn't behind another and doesn't tie with it precedes it
+strictly_first : (o : Ordering) → is_le o ≡ true → (o ≡ Equal → ⊥) → is_lt o ≡ true
+strictly_first Less h n = refl
+strictly_first Equal h n = absurd (n refl)
+strictly_first Greater h n = absurd cc
+
+-- of two that begin apart
+apart_precedes : (a b : Candidate) → stands_first a b ≡ true → begin_alike a b ≡ false → precedes a b ≡ true
+apart_precedes a b h n = strictly_first (rank_cmp a b) h (λ e. let yes = tied_alike a b e in absurd cc)
+
+-- each precedes all that stand behind it
+all_precede : (xs : List Candidate)
+    → Descend (IsBefore rank_cmp ranked_total stands_first (λ a b. refl) begin_alike alike-turned tied_alike) xs
+    → Descends xs
+all_precede [] h = tt
+all_precede (x ∷ xs) h = (
+  each-weaker _ (λ y. precedes x y ≡ true) xs (λ y k. apart_precedes x y k.0 k.1) h.0,
+  all_precede xs h.1,
+)
+
+-- candidates in order
+abbrev pub in_order : List Candidate → List Candidate
+in_order all = sorted_by stands_first all
+
+-- they are those that were put in order
+pub ordered-permutation : (all : List Candidate) → IsPermutation all (in_order all)
+ordered-permutation all = sorted-permutation stands_first all
+
+-- where no two begin alike, each precedes all behind it
+pub ordered-descends : (all : List Candidate) → AreApart all → Descends (in_order all)
+ordered-descends all apart =
+    let sorted : List Candidate = in_order all in
+    let still : IsDistinct begin_alike sorted =
+    IsDistinct-IsPermutation begin_alike alike-turned all sorted (ordered-permutation all) apart in
+    all_precede sorted (descends rank_cmp ranked_total stands_first (λ a b. refl) begin_alike alike-turned tied_alike
+    sorted (sorted-in_turn rank_cmp ranked_total stands_first (λ a b. refl) all) still)
+
+-- ---- the one at a place
+
+-- what is found passes
+found_passes : (test : Candidate → Bool) (xs : List Candidate) (x : Candidate) → find test xs ≡ Some x → test x ≡ true
+found_passes test [] x e = absurd cc
+found_passes test (y ∷ ys) x e =
+    elim (test y) as (λ b. test y ≡ b → cond b (Some y) (find test ys) ≡ Some x → test x ≡ true) [
+      | true ↦ λ t f. let same : y ≡ x = cc in ap test (sym same) ∙ t
+      | false ↦ λ t f. found_passes test ys x f
+    ] refl e
+
+-- candidates that tie in all four parts are the same
+same_from_tie : (a b : Candidate) → is_eq (full_cmp a b) ≡ true → a ≡ b
+same_from_tie a b e =
+    let ids = slice_cmp nat_cmp a.id.0 b.id.0 in
+    let whole = both_tie (rank_cmp a b) (int_cmp a.last b.last) e in
+    let ranks = both_tie (int_cmp b.score a.score) (ordering_then ids (int_cmp a.first b.first)) whole.0 in
+    let rest = both_tie ids (int_cmp a.first b.first) ranks.1 in
+    let id : a.id ≡ b.id = same_id-is a.id b.id (sym (is_eq-slice_cmp (a.id.0) (b.id.0)) ∙ rest.0) in
+    let first : a.first ≡ b.first = (Decides-int_eq a.first b.first).0 rest.1 in
+    let last : a.last ≡ b.last = (Decides-int_eq a.last b.last).0 whole.1 in
+    let score : a.score ≡ b.score = sym ((Decides-int_eq b.score a.score).0 ranks.0) in
+    λ i. record { id = id i; first = first i; last = last i; score = score i }
+
+-- a comparison that is its own reverse ties
+reversed_ties : (o : Ordering) → o ≡ ordering_reverse o → is_eq o ≡ true
+reversed_ties Less e = absurd cc
+reversed_ties Equal e = refl
+reversed_ties Greater e = absurd cc
+
+-- the order of all candidates is total
+full_total : IsTotalOrder full_cmp
+full_total = then_total ranked_total (on_total (λ c. c.last) int_cmp_total)
+
+-- each ties with itself
+own_tie : (c : Candidate) → is_eq (full_cmp c c) ≡ true
+own_tie c = reversed_ties (full_cmp c c) (full_total.antisymm c c)
+
+-- what is among some has a place there
+place_among : (xs : List Candidate) (c : Candidate) → is_among xs c ≡ true → (i : ℕ) × (slice_get xs i ≡ Some c)
+place_among [] c e = absurd cc
+place_among (x ∷ xs) c e =
+    elim (is_eq (full_cmp x c)) as (λ b. is_eq (full_cmp x c) ≡ b → (b || is_among xs c) ≡ true
+    → (i : ℕ) × (slice_get (x ∷ xs) i ≡ Some c)) [
+      | true ↦ λ t f. (0, ap (λ (d : Candidate). Some d) (same_from_tie x c t))
+      | false ↦ λ t f. let rest = place_among xs c f in (suc rest.0, rest.1)
+    ] refl e
+
+-- what has a place is among them
+among_at : (xs : List Candidate) (i : ℕ) (c : Candidate) → slice_get xs i ≡ Some c → is_among xs c ≡ true
+among_at [] i c e = absurd cc
+among_at (x ∷ xs) zero c e =
+    let same : x ≡ c = cc in
+    ap (λ (b : Bool). b || is_among xs c) (ap (λ (d : Candidate). is_eq (full_cmp d c)) same ∙ own_tie c)
+among_at (x ∷ xs) (suc i) c e =
+    elim (is_eq (full_cmp x c)) as (λ b. (b || is_among xs c) ≡ true) [ true ↦ refl | false ↦ among_at xs i c e ]
+
+module _ (all : List Candidate) (apart : AreApart all) where
+  -- the rank is the place in order
+  pub rank_at : (i : ℕ) (c : Candidate) → slice_get (in_order all) i ≡ Some c → (rank_in all c == i) ≡ true
+  rank_at i c e = found_passes (λ d. rank_in all d == i) all c
+      (of_rank-is all (in_order all) (ordered-permutation all) (ordered-descends all apart) i ∙ e)
+
+  -- a candidate of a rank stands at that place in order
+  pub at_rank : (i : ℕ) (c : Candidate) → is_among all c ≡ true → (rank_in all c == i) ≡ true
+      → slice_get (in_order all) i ≡ Some c
+  at_rank i c among rank =
+      let sorted : List Candidate = in_order all in
+      let there = place_among sorted c
+      (sym (list_any-IsPermutation (λ d. is_eq (full_cmp d c)) all sorted (ordered-permutation all)) ∙ among) in
+      let own : rank_in all c ≡ there.0 = eqb-true _ _ (rank_at there.0 c there.1) in
+      let asked : rank_in all c ≡ i = eqb-true _ _ rank in
+      ap (slice_get sorted) (sym asked ∙ own) ∙ there.1
+
+  -- what stands at a place in order is a candidate
+  pub among : (i : ℕ) (c : Candidate) → slice_get (in_order all) i ≡ Some c → is_among all c ≡ true
+  among i c e =
+      list_any-IsPermutation (λ d. is_eq (full_cmp d c)) all (in_order all) (ordered-permutation all)
+      ∙ among_at (in_order all) i c e
+
+  -- the best are the first in order
+  pub best_first : (k : ℕ) → best k all ≡ take k (in_order all)
+  best_first k = best-is all (in_order all) (ordered-permutation all) (ordered-descends all apart) k
+
+  -- there are as many
+  pub ordered-length : length (in_order all) ≡ length all
+  ordered-length = length_permutation all (in_order all) (ordered-permutation all)
+
+-- each but the first is preceded by the one before it
+pub one_precedes : (xs : List Candidate) (i : ℕ) (a b : Candidate) → Descends xs → slice_get xs i ≡ Some a
+    → slice_get xs (suc i) ≡ Some b → precedes a b ≡ true
+one_precedes [] i a b d e f = absurd cc
+one_precedes (x ∷ xs) zero a b d e f =
+    let same : x ≡ a = cc in
+    subst (λ (y : Candidate). precedes y b ≡ true) same (each-at (λ y. precedes x y ≡ true) xs 0 b d.0 f)
+one_precedes (x ∷ xs) (suc i) a b d e f = one_precedes xs i a b d.1 e f

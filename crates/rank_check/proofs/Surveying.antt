@@ -1,0 +1,248 @@
+-- What a pass over all data finds, candidate by candidate and station by station.
+use Rattle.std.proofs.Common.{◌≡◌, ℕ, zero, suc, ◌+◌, ◌<◌, Bool, true, false, cond, List, [], ◌∷◌, ◌++◌, length, take, map, filter, Option, Some, None, refl, sym, ap, ◌∙◌, arith, append-nil, append_assoc, ◌||◌, ℤ, ◌≤ℤ◌, ◌<ℤ◌, option_to_list, get_or}
+use Rattle.std.specs.Prelude.{slice_get}
+use Rattle.std.specs.List.{fold, filter_map, flat_map, cons_option}
+use Rattle.std.specs.Int.{int_max}
+use Rattle.std.specs.Ordering.{is_eq, is_lt, int_cmp, nat_cmp, ordering_then}
+use Rattle.std.specs.declared.cmp.Ordering.{Ordering}
+use Rattle.std.specs.declared.cmp.Ordering.TheVariants.{Greater}
+use Rattle.std.specs.Cmp.Lexicographic.{slice_cmp}
+use Rattle.std.proofs.lemmas.Int.{ints}
+use Rattle.std.proofs.lemmas.List.{length-append, map-append}
+use Rattle.std.proofs.lemmas.List.Folds.{list_any-append}
+use Rattle.std.proofs.lemmas.List.Sums.{sum_by-append, sum_by-cons}
+use Rattle.std.proofs.lemmas.Grind.{flat_map-append}
+use Rattle.ghcn_files.specs.declared.station.Station.{Station}
+use Rattle.ghcn_series.specs.Series.{Usable, Contents, series_of}
+use Rattle.ghcn_series.specs.Says.{in_64_bits}
+use Rattle.rank_query.specs.Asked.{Asked, score_element}
+use Rattle.rank_query.specs.Admits.{admits_station}
+use Rattle.rank_scores.specs.declared.candidate.Candidate.{Candidate}
+use Rattle.rank_scores.specs.Candidates.{candidates}
+use Rattle.rank_scores.specs.Order.{full_cmp, rank_cmp, precedes, rank_in}
+use Rattle.rank_check.specs.declared.tally.Met.{Met}
+use Rattle.rank_check.specs.Tests.{is_among}
+use Rattle.rank_check.proofs.Each.{take-nil, each-more, each-weaker}
+use Rattle.rank_check.specs.Survey.{IsLowest, has_admitted, top, met, met_by, raised, top_score, Tallied, taken, reset, series_at, series_there}
+
+-- ---- one candidate more
+
+-- or nothing
+or_false : (b : Bool) → (b || false) ≡ b
+or_false true = refl
+or_false false = refl
+
+-- it may be the row's
+among-more : (cs : List Candidate) (d c : Candidate)
+    → (is_among cs c || is_eq (full_cmp d c)) ≡ is_among (cs ++ d ∷ []) c
+among-more cs d c = ap (λ (b : Bool). is_among cs c || b) (sym (or_false (is_eq (full_cmp d c))))
+    ∙ sym (list_any-append (λ x. is_eq (full_cmp x c)) cs (d ∷ []))
+
+-- a test, as a number that counts
+abbrev one_if : Bool → ℕ
+one_if b = cond b 1 0
+
+-- it may precede the row
+rank-more : (cs : List Candidate) (d c : Candidate)
+    → rank_in (cs ++ d ∷ []) c ≡ rank_in cs c + one_if (precedes d c)
+rank-more cs d c =
+    let test : Candidate → ℕ = λ x. one_if (precedes x c) in
+    omega (arith, sum_by-append test cs (d ∷ []), sum_by-cons test d [])
+
+-- a number that is counted up stays within 64 bits
+counted-up : (n : ℕ) → in_64_bits (in_64_bits n + 1) ≡ in_64_bits (n + 1)
+counted-up n = omega arith
+
+-- so it is with those ahead of a row
+ahead-more : (cs : List Candidate) (d c : Candidate)
+    → cond (precedes d c) (in_64_bits (in_64_bits (rank_in cs c) + 1)) (in_64_bits (rank_in cs c))
+    ≡ in_64_bits (rank_in (cs ++ d ∷ []) c)
+ahead-more cs d c = by (precedes d c) (rank-more cs d c)
+  where
+    by : (b : Bool) → rank_in (cs ++ d ∷ []) c ≡ rank_in cs c + one_if b
+        → cond b (in_64_bits (in_64_bits (rank_in cs c) + 1)) (in_64_bits (rank_in cs c))
+        ≡ in_64_bits (rank_in (cs ++ d ∷ []) c)
+    by true e = counted-up (rank_in cs c) ∙ ap in_64_bits (sym e)
+    by false e = let same : rank_in cs c ≡ rank_in (cs ++ d ∷ []) c = omega (arith, e) in ap in_64_bits same
+
+-- a row once one more candidate was offered
+met-more : (cs : List Candidate) (d c : Candidate) → met_by d (met cs c) ≡ met (cs ++ d ∷ []) c
+met-more cs d c =
+    λ i. record { candidate = c; present = among-more cs d c i; ahead = ahead-more cs d c i }
+
+-- all rows
+rows-more : (rows : List Candidate) (cs : List Candidate) (d : Candidate)
+    → map (met_by d) (map (met cs) rows) ≡ map (met (cs ++ d ∷ [])) rows
+rows-more [] cs d = refl
+rows-more (c ∷ rows) cs d = ap (λ (m : Met). m ∷ map (met_by d) (map (met cs) rows)) (met-more cs d c)
+    ∙ ap (λ (l : List Met). met (cs ++ d ∷ []) c ∷ l) (rows-more rows cs d)
+
+-- the greatest of one number more
+fold-more : (a : ℤ) (cs : List Candidate) (d : Candidate) → fold int_max a (map (λ c. c.score) (cs ++ d ∷ []))
+    ≡ int_max (fold int_max a (map (λ c. c.score) cs)) d.score
+fold-more a [] d = refl
+fold-more a (c ∷ cs) d = fold-more (int_max a c.score) cs d
+
+-- the greatest score with one candidate more
+top-more : (cs : List Candidate) (d : Candidate) → Some (raised (top_score cs) d.score) ≡ top_score (cs ++ d ∷ [])
+top-more [] d = refl
+top-more (c ∷ cs) d = ap (λ (z : ℤ). Some z) (sym (fold-more c.score cs d))
+
+-- ---- a tally of rows and candidates
+
+-- a tally that was offered some candidates, the last of them since it was reset
+abbrev pub tallied : List Candidate → List Candidate → List Candidate → Tallied
+tallied rows cs since = record {
+  rows = map (met cs) rows;
+  count = in_64_bits (length cs);
+  highest = top_score since;
+}
+
+-- one more
+tallied-more : (rows cs since : List Candidate) (d : Candidate)
+    → taken (tallied rows cs since) d ≡ tallied rows (cs ++ d ∷ []) (since ++ d ∷ [])
+tallied-more rows cs since d =
+    let long : length (cs ++ d ∷ []) ≡ length cs + 1 = length-append cs (d ∷ []) in
+    let many : in_64_bits (in_64_bits (length cs) + 1) ≡ in_64_bits (length (cs ++ d ∷ [])) =
+    counted-up (length cs) ∙ ap in_64_bits (sym long) in
+    λ i. record { rows = rows-more rows cs d i; count = many i; highest = top-more since d i }
+
+-- and some more
+pub tallied-all : (rows cs since ds : List Candidate)
+    → fold taken (tallied rows cs since) ds ≡ tallied rows (cs ++ ds) (since ++ ds)
+tallied-all rows cs since [] =
+    ap (λ (l : List Candidate). tallied rows l since) (sym (append-nil cs))
+    ∙ ap (λ (l : List Candidate). tallied rows (cs ++ []) l) (sym (append-nil since))
+tallied-all rows cs since (d ∷ ds) =
+    ap (λ (t : Tallied). fold taken t ds) (tallied-more rows cs since d)
+    ∙ tallied-all rows (cs ++ d ∷ []) (since ++ d ∷ []) ds
+    ∙ ap (λ (l : List Candidate). tallied rows l ((since ++ d ∷ []) ++ ds)) (append_assoc cs (d ∷ []) ds)
+    ∙ ap (λ (l : List Candidate). tallied rows (cs ++ d ∷ ds) l) (append_assoc since (d ∷ []) ds)
+
+-- one more series was scanned
+pub scanned-more : (q : Asked) (rows : List Candidate) (ss : List Usable) (s : Usable) (t new : Tallied)
+    → t.rows ≡ map (met (flat_map (candidates q) ss)) rows
+    → t.count ≡ in_64_bits (length (flat_map (candidates q) ss))
+    → new ≡ fold taken (reset t) (candidates q s)
+    → new ≡ tallied rows (flat_map (candidates q) (ss ++ s ∷ [])) (candidates q s)
+scanned-more q rows ss s t new e f scan =
+    let cs : List Candidate = flat_map (candidates q) ss in
+    let begin : reset t ≡ tallied rows cs [] = λ i. record { rows = e i; count = f i; highest = None } in
+    let alone : flat_map (candidates q) (s ∷ []) ≡ candidates q s = append-nil (candidates q s) in
+    let all : cs ++ candidates q s ≡ flat_map (candidates q) (ss ++ s ∷ []) =
+    sym (flat_map-append (candidates q) ss (s ∷ []) ∙ ap (λ (l : List Candidate). cs ++ l) alone) in
+    scan ∙ ap (λ (x : Tallied). fold taken x (candidates q s)) begin
+    ∙ tallied-all rows cs [] (candidates q s)
+    ∙ ap (λ (l : List Candidate). tallied rows l (candidates q s)) all
+
+-- those that pass, of one more
+filter-more : {X : Type 0} (p : X → Bool) (xs : List X) (x : X)
+    → filter p (xs ++ x ∷ []) ≡ filter p xs ++ cond (p x) (x ∷ []) []
+filter-more p [] x = refl
+filter-more p (y ∷ ys) x =
+    elim (p y) as (λ b. cond b (y ∷ filter p (ys ++ x ∷ [])) (filter p (ys ++ x ∷ []))
+    ≡ cond b (y ∷ filter p ys) (filter p ys) ++ cond (p x) (x ∷ []) []) [
+      | true ↦ ap (λ l. y ∷ l) (filter-more p ys x)
+      | false ↦ filter-more p ys x
+    ]
+
+-- a series with an admitted day has its greatest score put behind those before it
+pub top-kept : (q : Asked) (ss : List Usable) (s : Usable) (highest : Option ℤ) → has_admitted q s ≡ true
+    → highest ≡ top_score (candidates q s)
+    → map (top q) (filter (has_admitted q) ss) ++ record { id = s.id; highest = highest } ∷ []
+    ≡ map (top q) (filter (has_admitted q) (ss ++ s ∷ []))
+top-kept q ss s highest has e =
+    let kept : filter (has_admitted q) (ss ++ s ∷ []) ≡ filter (has_admitted q) ss ++ s ∷ [] =
+    filter-more (has_admitted q) ss s
+    ∙ ap (λ (b : Bool). filter (has_admitted q) ss ++ cond b (s ∷ []) []) has in
+    ap (λ (h : Option ℤ). map (top q) (filter (has_admitted q) ss) ++ record { id = s.id; highest = h } ∷ []) e
+    ∙ sym (ap (map (top q)) kept ∙ map-append (top q) (filter (has_admitted q) ss) (s ∷ []))
+
+-- and one without is passed over
+pub top-left : (q : Asked) (ss : List Usable) (s : Usable) → has_admitted q s ≡ false
+    → map (top q) (filter (has_admitted q) ss) ≡ map (top q) (filter (has_admitted q) (ss ++ s ∷ []))
+top-left q ss s none =
+    sym (ap (map (top q)) (filter-more (has_admitted q) ss s
+    ∙ ap (λ (b : Bool). filter (has_admitted q) ss ++ cond b (s ∷ []) []) none
+    ∙ append-nil (filter (has_admitted q) ss)))
+
+-- ---- rows that a candidate can't be, nor stand before
+
+-- a number is at most what a greater one is at most
+at_most : (a b z : ℤ) → a ≤ℤ b → b ≤ℤ z → a ≤ℤ z
+at_most a b z h k = grind (arith, ints)
+
+-- one row more
+pub lowest-more : (low less : ℤ) (rows : List Met) (i : ℕ) (m : Met) → IsLowest low (take i rows) → less ≤ℤ low
+    → less ≤ℤ m.candidate.score → i < length rows → m ≡ get_or rows i m → IsLowest less (take (i + 1) rows)
+lowest-more low less rows i m h le own lt is =
+    each-more (λ (r : Met). less ≤ℤ r.candidate.score) rows i m lt is
+    (each-weaker (λ (r : Met). low ≤ℤ r.candidate.score) (λ (r : Met). less ≤ℤ r.candidate.score) (take i rows)
+    (λ r k. at_most less low r.candidate.score le k) h) own
+
+-- rows keep their candidates
+pub lowest-met : (low : ℤ) (c : Candidate) (rows : List Met) → IsLowest low rows → IsLowest low (map (met_by c) rows)
+lowest-met low c [] h = tt
+lowest-met low c (m ∷ rows) h = (h.0, lowest-met low c rows h.1)
+
+-- a lower score comes behind
+behind : (d c : Candidate) (low : ℤ) → low ≤ℤ c.score → d.score <ℤ low → rank_cmp d c ≡ Greater
+behind d c low h lt =
+    let less : int_cmp c.score d.score ≡ Greater = grind (arith, ints) in
+    ap (λ (o : Ordering). ordering_then o (ordering_then (slice_cmp nat_cmp d.id.0 c.id.0) (int_cmp d.first c.first)))
+    less
+
+-- a candidate with a lower score changes nothing about a row
+row-below : (d : Candidate) (m : Met) (low : ℤ) → low ≤ℤ m.candidate.score → d.score <ℤ low → met_by d m ≡ m
+row-below d m low h lt =
+    let order : rank_cmp d m.candidate ≡ Greater = behind d m.candidate low h lt in
+    let apart : is_eq (full_cmp d m.candidate) ≡ false =
+    ap (λ (o : Ordering). is_eq (ordering_then o (int_cmp d.last m.candidate.last))) order in
+    let later : precedes d m.candidate ≡ false = ap is_lt order in
+    let present : (m.present || is_eq (full_cmp d m.candidate)) ≡ m.present =
+    ap (λ (b : Bool). m.present || b) apart ∙ or_false m.present in
+    let ahead : cond (precedes d m.candidate) (in_64_bits (m.ahead + 1)) m.ahead ≡ m.ahead =
+    ap (λ (b : Bool). cond b (in_64_bits (m.ahead + 1)) m.ahead) later in
+    λ i. record { candidate = m.candidate; present = present i; ahead = ahead i }
+
+-- nor about any of them
+pub rows-below : (d : Candidate) (rows : List Met) (low : ℤ) → IsLowest low rows → d.score <ℤ low
+    → map (met_by d) rows ≡ rows
+rows-below d [] low h lt = refl
+rows-below d (m ∷ rows) low h lt =
+    ap (λ (x : Met). x ∷ map (met_by d) rows) (row-below d m low h.0 lt)
+    ∙ ap (λ (l : List Met). m ∷ l) (rows-below d rows low h.1 lt)
+
+-- ---- station by station
+
+-- an element in front of two lists is in front of the first
+cons-append : {B : Type 0} (a : Option B) (xs ys : List B) → cons_option a (xs ++ ys) ≡ cons_option a xs ++ ys
+cons-append None xs ys = refl
+cons-append (Some x) xs ys = refl
+
+-- an element in front of nothing is alone
+cons-alone : {B : Type 0} (a : Option B) → cons_option a [] ≡ option_to_list a
+cons-alone None = refl
+cons-alone (Some x) = refl
+
+module _ (q : Asked) (c : Contents) where
+  -- one station more may have a series
+  pub series-more : (sts : List Station) (i : ℕ) → filter_map (series_at q c) (take (suc i) sts)
+      ≡ filter_map (series_at q c) (take i sts) ++ option_to_list (series_there q c (slice_get sts i))
+  series-more [] i = ap (λ (l : List Station). filter_map (series_at q c) l ++ []) (sym (take-nil i))
+  series-more (st ∷ sts) zero = cons-alone (series_at q c st)
+  series-more (st ∷ sts) (suc i) = ap (cons_option (series_at q c st)) (series-more sts i)
+      ∙ cons-append (series_at q c st) (filter_map (series_at q c) (take i sts)) _
+
+  -- the series station by station are those of the admitted stations
+  pub by_station : (sts : List Station) → filter_map (series_at q c) sts
+      ≡ filter_map (λ st. series_of c st.id (score_element q.score)) (filter (admits_station q) sts)
+  by_station [] = refl
+  by_station (st ∷ sts) =
+      elim (admits_station q st) as (λ b. cons_option (cond b (series_of c st.id (score_element q.score)) None)
+      (filter_map (series_at q c) sts)
+      ≡ filter_map (λ s. series_of c s.id (score_element q.score))
+      (cond b (st ∷ filter (admits_station q) sts) (filter (admits_station q) sts))) [
+        | true ↦ ap (cons_option (series_of c st.id (score_element q.score))) (by_station sts)
+        | false ↦ by_station sts
+      ]

@@ -1,0 +1,39 @@
+use Rattle.std.proofs.Common.{◌≡◌, List, None, sym, ap, ◌∙◌}
+use Rattle.ghcn_fields.specs.Faults.{first_failing}
+use Rattle.rank_scores.specs.declared.candidate.Candidate.{Candidate}
+use Rattle.rank_scores.specs.Morsels.{kth_of_query}
+use Rattle.rank_papers.specs.Certificate.{kth_of_best}
+use Rattle.rank_papers.specs.ReportLines.{reported_in}
+use Rattle.rank_papers.specs.CertificateLines.{certified_in}
+use Rattle.rank_check.specs.Tests.{or_accepted, report_tests, certificate_tests}
+use Rattle.rank_check.proofs.Failing.{behind_none, before_some}
+use Rattle.rank_check.proofs.KthScores.{candidates_named, kth_known}
+use Rattle.rank_check.proofs.judge.judge.Goals as goal
+use Rattle.rank_check.proofs.judge.judge.Goals.{in-Some-2, in-None}
+
+-- a test of the report fails
+pub returns-in-Some : goal.returns-in-Some
+returns-in-Some c =
+    let r = report_tests c.args.query.now c.args.held.now (reported_in c.args.report.now) in
+    let z = certificate_tests c.args.query.now c.args.held.now (certified_in c.args.certificate.now) in
+    sym (ap or_accepted (before_some r z c.in-Some.fault (sym c.in_ok-fault.ensures ∙ c.in-Some.is)))
+
+-- the report passes, and the certificate decides
+pub returns : goal.returns
+returns c =
+    let q = c.args.query.now in
+    let held = c.args.held.now in
+    let r = report_tests q held (reported_in c.args.report.now) in
+    let z = certificate_tests q held (certified_in c.args.certificate.now) in
+    let none : first_failing r ≡ None = sym c.in_ok-fault.ensures ∙ c.in_default.is in
+    let apart = c.candidates_of_queries.ensures.apart q held c.stations-stations.ensures.contents in
+    let kth : c.kth_score-kth.result ≡ kth_of_query q held =
+    c.kth_score-kth.ensures.kth
+    ∙ ap (λ (l : List Candidate). kth_of_best q.k l) (candidates_named c.args.report.now.rows.items)
+    ∙ kth_known c.certificates_are_read.ensures.read q held c.kth_score-kth.ensures.asked apart
+    (reported_in c.args.report.now) c.requires none in
+    let rest = c.in_ok-fault-2.ensures held kth c.in_ok-found.ensures.tops in
+    elim c.match-branch-5.branch [
+      | in-Some-2 w ↦ w.result-is ∙ sym (ap or_accepted (behind_none r z none ∙ sym rest ∙ w.in-Some-2.is))
+      | in-None w ↦ w.result-is ∙ sym (ap or_accepted (behind_none r z none ∙ sym rest ∙ w.in-None.is))
+    ]

@@ -1,0 +1,14 @@
+use Rattle.std.proofs.Common.{◌≡◌, take, map, None}
+use Rattle.ghcn_series.specs.Series.{Contents}
+use Rattle.rank_query.specs.Asked.{Asked}
+use Rattle.rank_scores.specs.Morsels.{morsels}
+use Rattle.rank_check.specs.Survey.{top}
+use Rattle.rank_check.specs.Tests.{entry_tests}
+use Rattle.rank_check.proofs.Failing.{first_of}
+use Rattle.rank_check.proofs.lines.lines_fault.Given as goal
+
+-- no line so far fails a test
+abbrev pub invariant-loop-place : goal.invariant-loop-place
+invariant-loop-place l =
+    (q : Asked) → (c : Contents) → l.tops ≡ map (top q) (morsels q c)
+    → first_of (entry_tests q c l.kth) 1 (take l.place l.lines) ≡ None

@@ -1,0 +1,14 @@
+-- What a verdict is worth.
+use Rattle.std.specs.Prelude.{◌≡◌, ◌↔◌, ℕ, List}
+use Rattle.ghcn_series.specs.Series.{Contents}
+use Rattle.ghcn_series.specs.Held.{IsContents}
+use Rattle.rank_query.specs.Asked.{Asked, IsAsked}
+use Rattle.rank_papers.specs.Report.{IsReport}
+use Rattle.rank_papers.specs.Certificate.{IsCertificate}
+use Rattle.rank_check.specs.declared.verdict.Verdict.TheVariants.{Accepted}
+use Rattle.rank_check.specs.Tests.{verdict}
+
+-- papers are accepted exactly where the report is the right one, and the certificate is a right one
+abbrev pub AcceptedWhereRight : Type 0
+AcceptedWhereRight = (q : Asked) (c : Contents) (report certificate : List ℕ) → IsAsked q → IsContents c →
+    (verdict q c report certificate ≡ Accepted) ↔ (IsReport q c report × IsCertificate q c certificate)

@@ -1,0 +1,4 @@
+pub mod Tests
+pub mod Survey
+pub mod Texts
+pub mod Laws

@@ -1,0 +1,97 @@
+-- What one pass over all data finds for the rows of a report, and for each series.
+use Rattle.std.specs.Prelude.{◌≡◌, ℕ, ◌+◌, Bool, ◌||◌, ◌==◌, not, if◌then◌else◌, List, length, map, Option, None, Some, ℤ, ◌≤ℤ◌}
+use Rattle.std.specs.List.{AllByRecursion}
+use Rattle.std.specs.Int.{int_max}
+use Rattle.std.specs.Ordering.{is_eq}
+use Rattle.ghcn_fields.specs.Sorting.{greatest}
+use Rattle.ghcn_files.specs.declared.station.Station.{Station}
+use Rattle.ghcn_series.specs.Series.{Usable, Contents, series_of}
+use Rattle.ghcn_series.specs.Says.{in_64_bits}
+use Rattle.rank_query.specs.Asked.{Asked, score_element}
+use Rattle.rank_query.specs.Admits.{admits_station}
+use Rattle.rank_scores.specs.declared.candidate.Candidate.{Candidate}
+use Rattle.rank_scores.specs.Candidates.{admitted, candidates}
+use Rattle.rank_scores.specs.Order.{full_cmp, precedes, rank_in}
+use Rattle.rank_scores.specs.Morsels.{all_candidates, morsels}
+use Rattle.rank_papers.specs.declared.paper.Row.{Row}
+use Rattle.rank_check.specs.declared.tally.Met.{Met}
+use Rattle.rank_check.specs.declared.survey.Top.{Top}
+use Rattle.rank_check.specs.declared.survey.Findings.{Findings}
+use Rattle.rank_check.specs.Tests.{is_among}
+
+-- ---- candidates against rows
+
+-- a row's candidate, whether it is among some candidates, and how many of these precede it
+abbrev pub met : List Candidate → Candidate → Met
+met cs c = record { candidate = c; present = is_among cs c; ahead = in_64_bits (rank_in cs c) }
+
+-- the same once one more candidate is among them
+abbrev pub met_by : Candidate → Met → Met
+met_by c m = record {
+  candidate = m.candidate;
+  present = m.present || is_eq (full_cmp c m.candidate);
+  ahead = if precedes c m.candidate then in_64_bits (m.ahead + 1) else m.ahead;
+}
+
+-- the greater of a score and those before it
+abbrev pub raised : Option ℤ → ℤ → ℤ
+raised None score = score
+raised (Some highest) score = int_max highest score
+
+-- the greatest score of some candidates, if there are any
+abbrev pub top_score : List Candidate → Option ℤ
+top_score cs = greatest (map (λ c. c.score) cs)
+
+-- what contracts see of a tally: the rows, the number of all candidates, and the greatest score since it was reset
+pub record Tallied : Type 0 where
+  pub rows : List Met
+  pub count : ℕ
+  pub highest : Option ℤ
+
+-- a tally once one more candidate was offered
+abbrev pub taken : Tallied → Candidate → Tallied
+taken t c = record {
+  rows = map (met_by c) t.rows;
+  count = in_64_bits (t.count + 1);
+  highest = Some (raised t.highest c.score);
+}
+
+-- a tally that no series was scanned for yet
+abbrev pub reset : Tallied → Tallied
+reset t = record { rows = t.rows; count = t.count; highest = None }
+
+-- no row scores less than this
+abbrev pub IsLowest : ℤ → List Met → Type 0
+IsLowest lowest rows = AllByRecursion (λ m. lowest ≤ℤ m.candidate.score) rows
+
+-- the candidates of rows
+abbrev pub candidates_of : List Row → List Candidate
+candidates_of rows = map (λ row. row.candidate) rows
+
+-- ---- series
+
+-- the query admits a day of the series
+abbrev pub has_admitted : Asked → Usable → Bool
+has_admitted q s = not (length (admitted q s) == 0)
+
+-- the series that the query asks about at a station
+abbrev pub series_at : Asked → Contents → Station → Option Usable
+series_at q c st = if admits_station q st then series_of c st.id (score_element q.score) else None
+
+-- the same at a station, where there is one
+abbrev pub series_there : Asked → Contents → Option Station → Option Usable
+series_there q c None = None
+series_there q c (Some st) = series_at q c st
+
+-- the ID of a series, and its greatest score
+abbrev pub top : Asked → Usable → Top
+top q s = record { id = s.id; highest = top_score (candidates q s) }
+
+-- ---- all
+
+-- what a pass over all data finds: of each row what all candidates say of it, how many they are, and each morsel's
+-- greatest score by increasing ID
+pub record AreFindings (q : Asked) (c : Contents) (rows : List Candidate) (s : Findings) : Type 0 where
+  pub watched : s.rows.items ≡ map (met (all_candidates q c)) rows
+  pub count : s.count ≡ in_64_bits (length (all_candidates q c))
+  pub tops : s.tops.items ≡ map (top q) (morsels q c)

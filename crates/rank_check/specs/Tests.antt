@@ -1,0 +1,132 @@
+-- The tests of a report and a certificate, in their order, and the verdict: the first that fails.
+use Rattle.std.specs.Prelude.{ℕ, ◌+◌, ◌-◌, ◌==◌, Bool, true, false, ◌&&◌, ◌||◌, not, nat_le, if◌then◌else◌, List, [], ◌∷◌, ◌++◌, length, Option, None, Some, Result, Ok, Err, ℤ, int_le, slice_get}
+use Rattle.std.specs.List.{flat_map, list_all, list_any, find, enumerate_from}
+use Rattle.std.specs.Option.{option_map_or}
+use Rattle.std.specs.Ordering.{is_eq, int_eq}
+use Rattle.ghcn_fields.specs.Bytes.{same_bytes}
+use Rattle.ghcn_fields.specs.Faults.{first_failing}
+use Rattle.ghcn_files.specs.declared.station.Station.{Station}
+use Rattle.ghcn_files.specs.Ids.{same_id}
+use Rattle.ghcn_files.specs.Listed.{is_station_of}
+use Rattle.ghcn_series.specs.Series.{Usable, Contents}
+use Rattle.rank_query.specs.Asked.{Asked}
+use Rattle.rank_query.specs.QueryTexts.{query_text}
+use Rattle.rank_scores.specs.declared.candidate.Candidate.{Candidate}
+use Rattle.rank_scores.specs.Candidates.{candidates}
+use Rattle.rank_scores.specs.Order.{full_cmp, precedes, rank_in, is_below}
+use Rattle.rank_scores.specs.Morsels.{all_candidates, morsels, kth_of_query}
+use Rattle.rank_papers.specs.Report.{Named, trimmed}
+use Rattle.rank_papers.specs.ReportLines.{Reported, read_report}
+use Rattle.rank_papers.specs.Certificate.{Entry, Certified}
+use Rattle.rank_papers.specs.CertificateLines.{read_certificate}
+use Rattle.rank_check.specs.declared.verdict.Paper.TheVariants.{Report, Certificate}
+use Rattle.rank_check.specs.declared.verdict.Why.TheVariants.{Form, OtherQuery, NotACandidate, OutOfOrder, NotBest, TooFew, OtherSeries, NoBound, NotBelow, OtherFloor}
+use Rattle.rank_check.specs.declared.verdict.Verdict.{Verdict}
+use Rattle.rank_check.specs.declared.verdict.Verdict.TheVariants.{Accepted, Refused}
+
+-- a test that may fail, and the verdict where it does
+abbrev pub Test : Type 0
+Test = Bool × Verdict
+
+-- two queries are the same: their canonical texts are equal
+abbrev pub same_query : Asked → Asked → Bool
+same_query a b = same_bytes (query_text a) (query_text b)
+
+-- two scores are the same, or there are none
+abbrev pub same_score : Option ℤ → Option ℤ → Bool
+same_score None None = true
+same_score (Some a) (Some b) = int_eq a b
+same_score a b = false
+
+-- ---- rows
+
+-- a candidate is one of these
+abbrev pub is_among : List Candidate → Candidate → Bool
+is_among all c = list_any (λ d. is_eq (full_cmp d c)) all
+
+-- the name is that of the listed station with this ID
+abbrev pub is_named : List Station → Named → Bool
+is_named stations row = option_map_or (λ s. same_bytes (trimmed s.name) row.1) (find (is_station_of row.0.id)
+    stations) false
+
+-- the row before the i-th, if there is one
+abbrev pub row_before : List Named → ℕ → Option Named
+row_before rows i = if nat_le i 1 then None else slice_get rows (i - 2)
+
+-- the row before the i-th precedes it, if there is one
+abbrev pub follows : List Named → ℕ → Named → Bool
+follows rows i row = option_map_or (λ r. precedes r.0 row.0) (row_before rows i) true
+
+-- the tests of the i-th row, from 1
+abbrev pub row_tests : Asked → Contents → List Named → ℕ × Named → List Test
+row_tests q c rows row =
+    let candidate = row.1.0 in
+    (is_among (all_candidates q c) candidate && is_named c.stations row.1, Refused Report (row.0 + 2) NotACandidate)
+    ∷ (follows rows row.0 row.1, Refused Report (row.0 + 2) OutOfOrder)
+    ∷ (rank_in (all_candidates q c) candidate == row.0 - 1, Refused Report (row.0 + 2) NotBest)
+    ∷ []
+
+-- the tests of all rows
+abbrev pub tests_of_rows : Asked → Contents → List Named → List Test
+tests_of_rows q c rows = flat_map (row_tests q c rows) (enumerate_from 1 rows)
+
+-- there are as many rows as were asked for, or as there are candidates
+abbrev pub are_enough : Asked → Contents → ℕ → Bool
+are_enough q c rows = nat_le q.k rows || nat_le (length (all_candidates q c)) rows
+
+-- the tests of a report that was read
+abbrev pub report_tests : Asked → Contents → Reported → List Test
+report_tests q c r =
+    (same_query r.query q, Refused Report 2 OtherQuery)
+    ∷ tests_of_rows q c r.rows
+    ++ (are_enough q c (length r.rows), Refused Report (length r.rows + 3) TooFew)
+    ∷ []
+
+-- ---- lines of morsels
+
+-- no candidate of the series scores above the bound
+abbrev pub is_above : Asked → ℤ → Usable → Bool
+is_above q bound s = list_all (λ c. int_le c.score bound) (candidates q s)
+
+-- the tests of the line of this number about a morsel, if there is one for it, where the certificate has this k-th
+-- score
+abbrev pub line_tests : Asked → Option ℤ → ℕ → Entry → Option Usable → List Test
+line_tests q kth number e morsel =
+    (option_map_or (λ s. same_id e.id s.id) morsel false, Refused Certificate number OtherSeries)
+    ∷ (option_map_or (is_above q e.bound) morsel true, Refused Certificate number NoBound)
+    ∷ (not e.skipped || is_below kth e.bound, Refused Certificate number NotBelow)
+    ∷ []
+
+-- the tests of the j-th line, from 1
+abbrev pub entry_tests : Asked → Contents → Option ℤ → ℕ × Entry → List Test
+entry_tests q c kth l = line_tests q kth (l.0 + 3) l.1 (slice_get (morsels q c) (l.0 - 1))
+
+-- the tests of all lines of morsels
+abbrev pub tests_of_lines : Asked → Contents → Option ℤ → List Entry → List Test
+tests_of_lines q c kth es = flat_map (entry_tests q c kth) (enumerate_from 1 es)
+
+-- the tests of a certificate that was read
+abbrev pub certificate_tests : Asked → Contents → Certified → List Test
+certificate_tests q c z =
+    (same_query z.query q, Refused Certificate 2 OtherQuery)
+    ∷ (same_score z.kth (kth_of_query q c), Refused Certificate 3 OtherFloor)
+    ∷ tests_of_lines q c z.kth z.entries
+    ++ (nat_le (length (morsels q c)) (length z.entries), Refused Certificate (length z.entries + 4) OtherSeries)
+    ∷ []
+
+-- ---- the verdict
+
+-- the verdict of the first test that fails, and acceptance where none does
+abbrev pub or_accepted : Option Verdict → Verdict
+or_accepted None = Accepted
+or_accepted (Some v) = v
+
+-- the verdict on what both papers say, once both have been read
+abbrev pub judged : Asked → Contents → Result Reported ℕ → Result Certified ℕ → Verdict
+judged q c (Err line) z = Refused Report line Form
+judged q c (Ok r) (Err line) = Refused Certificate line Form
+judged q c (Ok r) (Ok z) = or_accepted (first_failing (report_tests q c r ++ certificate_tests q c z))
+
+-- the verdict on the texts of a report and a certificate
+abbrev pub verdict : Asked → Contents → List ℕ → List ℕ → Verdict
+verdict q c report certificate = judged q c (read_report report) (read_certificate certificate)

@@ -1,0 +1,33 @@
+-- The line that a verdict prints.
+use Rattle.std.specs.Prelude.{ℕ, List, ◌++◌, codes}
+use Rattle.std.specs.Fmt.{decimal}
+use Rattle.rank_check.specs.declared.verdict.Paper.{Paper}
+use Rattle.rank_check.specs.declared.verdict.Paper.TheVariants.{Report, Certificate}
+use Rattle.rank_check.specs.declared.verdict.Why.{Why}
+use Rattle.rank_check.specs.declared.verdict.Why.TheVariants.{Form, OtherQuery, NotACandidate, OutOfOrder, NotBest, TooFew, OtherSeries, NoBound, NotBelow, OtherFloor}
+use Rattle.rank_check.specs.declared.verdict.Verdict.{Verdict}
+use Rattle.rank_check.specs.declared.verdict.Verdict.TheVariants.{Accepted, Refused}
+
+-- the word for a paper
+abbrev pub paper_text : Paper → List ℕ
+paper_text Report = codes "report"
+paper_text Certificate = codes "certificate"
+
+-- the word for a reason
+abbrev pub why_text : Why → List ℕ
+why_text Form = codes "Form"
+why_text OtherQuery = codes "OtherQuery"
+why_text NotACandidate = codes "NotACandidate"
+why_text OutOfOrder = codes "OutOfOrder"
+why_text NotBest = codes "NotBest"
+why_text TooFew = codes "TooFew"
+why_text OtherSeries = codes "OtherSeries"
+why_text NoBound = codes "NoBound"
+why_text NotBelow = codes "NotBelow"
+why_text OtherFloor = codes "OtherFloor"
+
+-- the line of a verdict, without its line feed
+abbrev pub verdict_text : Verdict → List ℕ
+verdict_text Accepted = codes "accepted"
+verdict_text (Refused paper line why) =
+    codes "refused " ++ paper_text paper ++ codes " line " ++ decimal line ++ codes " " ++ why_text why

@@ -1,0 +1,157 @@
+//! The verdict on two papers that were read.
+
+ghost use Rattle.std.specs.Prelude.{◌≡◌, Ok, Some, IfOk, map, nat_le, length, ◌||◌};
+ghost use Rattle.ghcn_fields.specs.Faults.{first_failing};
+ghost use Rattle.ghcn_series.specs.Series.{Contents};
+ghost use Rattle.rank_query.specs.Asked.{IsAsked};
+ghost use Rattle.rank_scores.specs.Morsels.{kth_of_query, morsels};
+ghost use Rattle.rank_papers.specs.ReportLines.{reported_in, IsReported};
+ghost use Rattle.rank_papers.specs.Certificate.{kth_of_best};
+ghost use Rattle.rank_papers.specs.CertificateLines.{certified_in};
+ghost use Rattle.rank_check.specs.Survey.{AreFindings, candidates_of, top};
+ghost use Rattle.rank_check.specs.Tests as tests;
+
+use crate::lines::lines_fault;
+use crate::rows::rows_fault;
+use crate::survey::{Findings, Top, survey};
+use crate::verdict::{Paper, Verdict, Why};
+use ghcn_fields::Memory;
+use ghcn_series::Data;
+use rank_papers::{Certificate, Line, Report, certificates_are_read};
+use rank_query::Query;
+use rank_scores::candidates_of_queries;
+use std::alloc::Global;
+
+/// The verdict of the first test that fails, after one pass over the data.
+pub(crate) fn judge(
+    alloc: Global,
+    held: &Data,
+    query: &Query,
+    report: &Report,
+    certificate: &Certificate,
+) -> Result<Verdict, Memory>
+    requires { IsReported (reported_in report.now) }
+    ensures { IfOk result (λ verdict. verdict ≡ tests.judged query.now held.now
+        (Ok (reported_in report.now)) (Ok (certified_in certificate.now))) }
+{
+    candidates_of_queries();
+    certificates_are_read();
+    let _stations = held.stations();
+    let found = survey(alloc, held, query, report.rows.as_slice())?;
+    if let Some(fault) = report_fault(alloc, held, query, report, &found)? {
+        return Ok(fault);
+    }
+    let kth = kth_score(query, report);
+    Ok(
+        match certificate_fault(alloc, query, certificate, kth, &found)? {
+            Some(fault) => fault,
+            None => Verdict::Accepted,
+        },
+    )
+}
+
+/// The first test that a report fails.
+fn report_fault(
+    alloc: Global,
+    held: &Data,
+    query: &Query,
+    report: &Report,
+    found: &Findings,
+) -> Result<Option<Verdict>, Memory>
+    requires can_be { IsReported (reported_in report.now) }
+    requires found { AreFindings query.now held.now (candidates_of report.now.rows.items) found.now }
+    ensures { IfOk result (λ fault.
+        fault ≡ first_failing (tests.report_tests query.now held.now (reported_in report.now))) }
+{
+    if !is_same_query(alloc, &report.query, query)? {
+        return Ok(refused(Paper::Report, 2, Why::OtherQuery));
+    }
+    let rows = report.rows.as_slice();
+    let fault = rows_fault(held.stations(), rows, found);
+    if fault.is_some() {
+        return Ok(fault);
+    }
+    if are_enough(query, rows.len() as u64, found.count) {
+        return Ok(None);
+    }
+    Ok(refused(Paper::Report, rows.len() as u64 + 3, Why::TooFew))
+}
+
+/// Whether there are as many rows as were asked for, or as there are candidates.
+fn are_enough(query: &Query, rows: u64, candidates: u64) -> bool
+    ensures { result ≡ (nat_le query.now.k rows || nat_le candidates rows) }
+{
+    query.k() <= rows || candidates <= rows
+}
+
+/// The score of the last row, where there are as many as were asked for.
+fn kth_score(query: &Query, report: &Report) -> Option<i64>
+    ensures asked { IsAsked query.now }
+    ensures kth { result ≡ kth_of_best query.now.k (candidates_of report.now.rows.items) }
+{
+    let row = report.rows.as_slice().get(query.k() as usize - 1)?;
+    Some(row.candidate.score)
+}
+
+/// The first test that a certificate fails, where this is the k-th score.
+fn certificate_fault(
+    alloc: Global,
+    query: &Query,
+    certificate: &Certificate,
+    kth: Option<i64>,
+    found: &Findings,
+) -> Result<Option<Verdict>, Memory>
+    ensures { IfOk result (λ fault. (c : Contents) → kth ≡ kth_of_query query.now c
+        → found.now.tops.items ≡ map (top query.now) (morsels query.now c)
+        → fault ≡ first_failing (tests.certificate_tests query.now c (certified_in certificate.now))) }
+{
+    if !is_same_query(alloc, &certificate.query, query)? {
+        return Ok(refused(Paper::Certificate, 2, Why::OtherQuery));
+    }
+    if !is_same_score(certificate.kth, kth) {
+        return Ok(refused(Paper::Certificate, 3, Why::OtherFloor));
+    }
+    let lines = certificate.lines.as_slice();
+    let tops = found.tops.as_slice();
+    let fault = lines_fault(certificate.kth, lines, tops);
+    if fault.is_some() {
+        return Ok(fault);
+    }
+    if are_all(tops, lines) {
+        return Ok(None);
+    }
+    Ok(refused(Paper::Certificate, lines.len() as u64 + 4, Why::OtherSeries))
+}
+
+/// Whether two scores are the same, or there are none.
+fn is_same_score(a: Option<i64>, b: Option<i64>) -> bool
+    ensures { result ≡ tests.same_score a b }
+{
+    match (a, b) {
+        (None, None) => true,
+        (Some(a), Some(b)) => a == b,
+        _ => false,
+    }
+}
+
+/// Whether there are at least as many lines as morsels.
+fn are_all(tops: &[Top], lines: &[Line]) -> bool
+    ensures { result ≡ nat_le (length tops.now) (length lines.now) }
+{
+    tops.len() <= lines.len()
+}
+
+/// A refusal.
+fn refused(paper: Paper, line: u64, why: Why) -> Option<Verdict>
+    ensures { result ≡ Some (Verdict.Refused paper line why) }
+{
+    Some(Verdict::Refused { paper, line, why })
+}
+
+/// Whether two queries have one canonical text.
+fn is_same_query(alloc: Global, a: &Query, b: &Query) -> Result<bool, Memory>
+    ensures { IfOk result (λ same. same ≡ tests.same_query a.now b.now) }
+{
+    let (one, other) = (a.text(alloc)?, b.text(alloc)?);
+    Ok(one.as_bytes() == other.as_bytes())
+}

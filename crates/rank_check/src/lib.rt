@@ -1,0 +1,19 @@
+//! The checker of papers, which looks at the data again and stands on no block, pool, plan or crew.
+//!
+//! Users judge papers of any maker by it. It promises that a report and a certificate are accepted
+//! exactly where both are right.
+#![tactic(auto)]
+
+mod judge;
+mod laws;
+mod lines;
+mod papers;
+mod rows;
+mod survey;
+mod tally;
+mod text;
+mod verdict;
+
+pub use laws::accepted_where_right;
+pub use papers::check;
+pub use verdict::{Paper, Verdict, Why};

@@ -1,0 +1,104 @@
+//! The tests of the lines of a certificate, one line after the other.
+
+ghost use Rattle.std.specs.Prelude.{◌≡◌, Some, true, ◌+◌, ◌<◌, length, slice_get, Option, map, int_le, not, ◌||◌};
+ghost use Rattle.std.specs.Option.{option_copied, option_map, option_map_or};
+ghost use Rattle.ghcn_fields.specs.Faults.{first_failing};
+ghost use Rattle.rank_scores.specs.Order as order;
+ghost use Rattle.rank_scores.specs.Morsels.{morsels};
+ghost use Rattle.ghcn_series.specs.Series.{Usable, Contents};
+ghost use Rattle.rank_query.specs.Asked.{Asked};
+ghost use Rattle.rank_check.specs.Survey as facts;
+ghost use Rattle.rank_check.specs.Survey.{top};
+ghost use Rattle.rank_check.specs.Tests as tests;
+
+use crate::survey::Top;
+use crate::verdict::{Paper, Verdict, Why};
+use rank_papers::Line;
+
+/// The first test that a line fails, after the lines before it, where the certificate has this k-th
+/// score.
+pub(crate) fn lines_fault(kth: Option<i64>, lines: &[Line], tops: &[Top]) -> Option<Verdict>
+    ensures { (q : Asked) → (c : Contents) → tops.now ≡ map (top q) (morsels q c)
+        → result ≡ first_failing (tests.tests_of_lines q c kth lines.now) }
+{
+    for place in 0..lines.len() {
+        let fault = fault_at(kth, lines, place, top_at(tops, place));
+        if fault.is_some() {
+            return fault;
+        }
+    }
+    None
+}
+
+/// What was found of the morsel of a place, if there is one.
+fn top_at(tops: &[Top], place: usize) -> Option<&Top>
+    ensures { option_copied result ≡ slice_get tops.now place }
+{
+    tops.get(place)
+}
+
+/// The first test that the line at a place fails.
+fn fault_at(kth: Option<i64>, lines: &[Line], place: usize, top: Option<&Top>) -> Option<Verdict>
+    requires { place < length lines.now }
+    ensures { (q : Asked) → (s : Option Usable) → option_copied top.entry ≡ option_map (facts.top q) s
+        → option_map (λ line. first_failing (tests.line_tests q kth (place + 4) line s)) (slice_get lines.now place)
+        ≡ Some result }
+{
+    line_fault(kth, &lines[place], place as u64 + 4, top)
+}
+
+/// The first test that a line fails, by its number and what was found of the morsel of its place.
+fn line_fault(kth: Option<i64>, line: &Line, number: u64, top: Option<&Top>) -> Option<Verdict>
+    ensures { (q : Asked) → (s : Option Usable) → option_copied top.entry ≡ option_map (facts.top q) s
+        → result ≡ first_failing (tests.line_tests q kth number line.now s) }
+{
+    let top = match top {
+        Some(top) if top.id == line.id => top,
+        _ => return refused(number, Why::OtherSeries),
+    };
+    if !is_at_most(top, line) {
+        return refused(number, Why::NoBound);
+    }
+    if !may_stand(kth, line) {
+        return refused(number, Why::NotBelow);
+    }
+    None
+}
+
+/// A refusal of a line of the certificate.
+fn refused(line: u64, why: Why) -> Option<Verdict>
+    ensures { result ≡ Some (Verdict.Refused Paper.Certificate line why) }
+{
+    Some(Verdict::Refused {
+        paper: Paper::Certificate,
+        line,
+        why,
+    })
+}
+
+/// Whether no candidate of a morsel is above a line's bound.
+fn is_at_most(top: &Top, line: &Line) -> bool
+    ensures { result ≡ option_map_or (λ score. int_le score line.now.bound) top.now.highest true }
+{
+    match top.highest {
+        Some(highest) => highest <= line.bound,
+        None => true,
+    }
+}
+
+/// Whether a line is no skip, or a skip below the k-th score.
+fn may_stand(kth: Option<i64>, line: &Line) -> bool
+    ensures { result ≡ (not line.now.skipped || order.is_below kth line.now.bound) }
+{
+    !line.skipped || is_below(kth, line.bound)
+}
+
+/// Whether there is a k-th score and the bound is strictly below it.
+fn is_below(kth: Option<i64>, bound: i64) -> bool
+    ensures { result ≡ order.is_below kth bound }
+{
+    match kth {
+        Some(score) => bound < score,
+        None => false,
+    }
+}

@@ -1,0 +1,89 @@
+//! The tests of the rows of a report, one row after the other.
+
+ghost use Rattle.std.specs.Prelude.{◌≡◌, ◌+◌, ◌<◌, ◌≤◌, Some, length, map, slice_get};
+ghost use Rattle.std.specs.Option.{option_map};
+ghost use Rattle.ghcn_fields.specs.Faults.{first_failing};
+ghost use Rattle.rank_papers.specs.ReportLines.{named_in};
+ghost use Rattle.ghcn_series.specs.Series.{Contents};
+ghost use Rattle.rank_query.specs.Asked.{Asked};
+ghost use Rattle.rank_scores.specs.Morsels.{all_candidates};
+ghost use Rattle.rank_check.specs.Survey as facts;
+ghost use Rattle.rank_check.specs.Survey.{AreFindings, candidates_of};
+ghost use Rattle.rank_check.specs.Tests as tests;
+
+use crate::survey::Findings;
+use crate::tally::Met;
+use crate::verdict::{Paper, Verdict, Why};
+use ghcn_files::Stations;
+use rank_papers::{Row, trimmed};
+use rank_scores::precedes;
+
+/// The first test that a row fails, after the rows before it.
+pub(crate) fn rows_fault(stations: &Stations, rows: &[Row], found: &Findings) -> Option<Verdict>
+    requires few { length rows.now ≤ 1000 }
+    requires many { length found.now.rows.items ≡ length rows.now }
+    ensures { (q : Asked) → (c : Contents) → stations.now ≡ c.stations
+        → AreFindings q c (candidates_of rows.now) found.now
+        → result ≡ first_failing (tests.tests_of_rows q c (map named_in rows.now)) }
+{
+    for place in 0..rows.len() {
+        let fault = row_fault(stations, rows, place, &found.rows[place]);
+        if fault.is_some() {
+            return fault;
+        }
+    }
+    None
+}
+
+/// The first test that the row at a place fails.
+fn row_fault(stations: &Stations, rows: &[Row], place: usize, met: &Met) -> Option<Verdict>
+    requires few { length rows.now ≤ 1000 }
+    requires within { place < length rows.now }
+    ensures { (q : Asked) → (c : Contents) → stations.now ≡ c.stations
+        → option_map (λ row. facts.met (all_candidates q c) row.candidate) (slice_get rows.now place) ≡ Some met.now
+        → option_map (λ row. first_failing (tests.row_tests q c (map named_in rows.now) (place + 1, named_in row)))
+        (slice_get rows.now place) ≡ Some result }
+{
+    let row = &rows[place];
+    let line = place as u64 + 3;
+    if !(met.present && is_named(stations, row)) {
+        return refused(line, Why::NotACandidate);
+    }
+    if !follows(rows, place) {
+        return refused(line, Why::OutOfOrder);
+    }
+    if met.ahead != place as u64 {
+        return refused(line, Why::NotBest);
+    }
+    None
+}
+
+/// A refusal of a line of the report.
+fn refused(line: u64, why: Why) -> Option<Verdict>
+    ensures { result ≡ Some (Verdict.Refused Paper.Report line why) }
+{
+    Some(Verdict::Refused {
+        paper: Paper::Report,
+        line,
+        why,
+    })
+}
+
+/// Whether the row before the one at a place precedes it, if there is one.
+fn follows(rows: &[Row], place: usize) -> bool
+    requires { place < length rows.now }
+    ensures { option_map (λ row. tests.follows (map named_in rows.now) (place + 1) (named_in row))
+        (slice_get rows.now place) ≡ Some result }
+{
+    place == 0 || precedes(&rows[place - 1].candidate, &rows[place].candidate)
+}
+
+/// Whether a row has the name of the listed station with its ID.
+fn is_named(stations: &Stations, row: &Row) -> bool
+    ensures { result ≡ tests.is_named stations.now (named_in row.now) }
+{
+    match stations.get(&row.candidate.id) {
+        Some(station) => trimmed(&station.name) == row.name.as_slice(),
+        None => false,
+    }
+}

@@ -1,0 +1,54 @@
+//! The line that a verdict prints: `accepted`, or `refused PAPER line L WHY`.
+
+use crate::{Paper, Verdict, Why};
+use std::fmt;
+
+impl fmt::Display for Paper {
+    ghost use Rattle.std.specs.Prelude.{Some};
+    ghost use Rattle.rank_check.specs.Texts.{paper_text};
+
+    ghost output = { λ paper. Some (paper_text paper) };
+
+    fn fmt<W: fmt::Write>(&self, f: &mut fmt::Formatter<W>) -> fmt::Result {
+        f.write_str(match self {
+            Paper::Report => "report",
+            Paper::Certificate => "certificate",
+        })
+    }
+}
+
+impl fmt::Display for Why {
+    ghost use Rattle.std.specs.Prelude.{Some};
+    ghost use Rattle.rank_check.specs.Texts.{why_text};
+
+    ghost output = { λ why. Some (why_text why) };
+
+    fn fmt<W: fmt::Write>(&self, f: &mut fmt::Formatter<W>) -> fmt::Result {
+        f.write_str(match self {
+            Why::Form => "Form",
+            Why::OtherQuery => "OtherQuery",
+            Why::NotACandidate => "NotACandidate",
+            Why::OutOfOrder => "OutOfOrder",
+            Why::NotBest => "NotBest",
+            Why::TooFew => "TooFew",
+            Why::OtherSeries => "OtherSeries",
+            Why::NoBound => "NoBound",
+            Why::NotBelow => "NotBelow",
+            Why::OtherFloor => "OtherFloor",
+        })
+    }
+}
+
+impl fmt::Display for Verdict {
+    ghost use Rattle.std.specs.Prelude.{Some};
+    ghost use Rattle.rank_check.specs.Texts.{verdict_text};
+
+    ghost output = { λ verdict. Some (verdict_text verdict) };
+
+    fn fmt<W: fmt::Write>(&self, f: &mut fmt::Formatter<W>) -> fmt::Result {
+        match self {
+            Verdict::Accepted => f.write_str("accepted"),
+            Verdict::Refused { paper, line, why } => write!(f, "refused {paper} line {line} {why}"),
+        }
+    }
+}
