@@ -44,3 +44,25 @@ no_number : fault_of extremes_app (codes "extremes" ∷ codes "rank" ∷ codes "
     ∷ codes "--stations=s" ∷ codes "--guess=x" ∷ []) ≡ ValueValidation ∷ []
 unfolding clap_on_literals
 no_number = refl
+
+-- a command line to check papers
+abbrev to_check : List Text
+to_check = codes "extremes" ∷ codes "check" ∷ codes "--query=q" ∷ codes "--stations=s" ∷ codes "--certificate=c"
+    ∷ codes "--report" ∷ codes "r" ∷ codes "a" ∷ []
+
+-- it is right
+check_right : AreRight to_check
+unfolding clap_on_literals
+check_right = refl
+
+-- its report is r
+check_report : option_map (λ p. first_of (codes "report") p.1) (subcommand_of extremes_app to_check)
+    ≡ Some (Some (codes "r"))
+unfolding clap_on_literals
+check_report = refl
+
+-- papers can't be checked without a certificate
+check_without : fault_of extremes_app (codes "extremes" ∷ codes "check" ∷ codes "--query=q" ∷ codes "--stations=s"
+    ∷ codes "--report=r" ∷ []) ≡ MissingRequiredArgument ∷ []
+unfolding clap_on_literals
+check_without = refl

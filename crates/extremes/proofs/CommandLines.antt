@@ -1,11 +1,12 @@
 -- What is read of a parse, by the words of its meaning.
 use Rattle.std.proofs.Common.{◌≡◌, Bool, true, false, List, ◌∷◌, Option, Some, None, IsSomeAnd, unwrap_or, option_map}
-use Rattle.std.proofs.Common.{is_some, codes, refl, sym, ap, ap₂, ◌∙◌, ◌⊎◌, inl, inr}
+use Rattle.std.proofs.Common.{is_some, codes, refl, sym, ap, ap₂, ◌∙◌, ◌⊎◌, inl, inr, ◌||◌}
 use Rattle.std.specs.Prelude.{Box, if◌then◌else◌, ℤ, ℕ, [], Result, Ok, Err}
 use Rattle.std.specs.Box.{box_value}
 use Rattle.std.specs.Int.{w64}
 use Rattle.std.specs.Str.Parse.{ParsesSigned, ParsesUnsigned}
-use Rattle.clap.specs.Words.{Row, Text, Shape, Kinds, IsAmong, ReadsOne, subcommand_of, subcommand_rows}
+use Rattle.clap.specs.declared.builder.ValueParser.{ValueParser}
+use Rattle.clap.specs.Words.{Row, Rule, Text, Shape, Kinds, IsAmong, ReadsOne, subcommand_of, subcommand_rows}
 use Rattle.clap.specs.declared.error.ErrorKind.{ErrorKind}
 use Rattle.clap.specs.declared.error.ErrorKind.TheVariants.{OutOfMemory}
 use Rattle.clap.specs.Walk.{answers_to, stop_after}
@@ -30,44 +31,62 @@ module _ {X Y : Type 0} (f : X → Y) where
       → option_map f o ≡ v → f d ≡ e → f given ≡ unwrap_or v e
   read_or o given d v e g h k = ap f g ∙ mapped_or o d ∙ ap (λ q. unwrap_or q (f d)) h ∙ ap (λ y. unwrap_or v y) k
 
+-- a rule whose value is read so
+abbrev pub parsed_by : Option ValueParser → Rule → Rule
+parsed_by p r = record r { parser = p }
+
+-- one or the other
+abbrev pub either : Bool → Bool → Bool
+either a b = a || b
+
 -- where no kind of fault may come, an error is want of memory
 pub only_memory : (k : ErrorKind) (kinds : Kinds) → kinds ≡ [] → (k ≡ OutOfMemory) ⊎ IsAmong k kinds → k ≡ OutOfMemory
 only_memory k [] none (inl memory) = memory
 only_memory k [] none (inr among) = absurd among
 only_memory k (x ∷ xs) none has = absurd cc
 
--- of one subcommand only its name can be met
-one_name : (s : Shape) (p : Text × List Text) (r : Text × List Row) (met : Bool)
-    → option_map (λ (t : Shape). rows_at t p.1) (if met then Some s else None) ≡ Some r → r.0 ≡ s.name
-one_name s p r true e = ap (λ (q : Option (Text × List Row)). (unwrap_or q r).0) (sym e)
-one_name s p r false e = absurd cc
+-- of two subcommands only their names can be met
+one_of_two : (s t : Shape) (p : Text × List Text) (r : Text × List Row) (first second : Bool)
+    → option_map (λ (u : Shape). rows_at u p.1) (if first then Some s else (if second then Some t else None)) ≡ Some r
+    → (r.0 ≡ s.name) ⊎ (r.0 ≡ t.name)
+one_of_two s t p r true second e = inl (ap (λ (q : Option (Text × List Row)). (unwrap_or q r).0) (sym e))
+one_of_two s t p r false true e = inr (ap (λ (q : Option (Text × List Row)). (unwrap_or q r).0) (sym e))
+one_of_two s t p r false false e = absurd cc
 
--- a subcommand that the program's words meet is `rank`
-met_name : (stop : Option (Text × List Text)) (r : Text × List Row)
-    → entered (built extremes_app) stop ≡ Some r → r.0 ≡ codes "rank"
+-- a subcommand that the program's words meet is `rank` or `check`
+met_name : (stop : Option (Text × List Text)) (r : Text × List Row) → entered (built extremes_app) stop ≡ Some r
+    → (r.0 ≡ codes "rank") ⊎ (r.0 ≡ codes "check")
 met_name None r e = absurd cc
-met_name (Some p) r e = one_name _ p r (answers_to p.0 (codes "rank", [])) e
+met_name (Some p) r e = one_of_two _ _ p r (answers_to p.0 (codes "rank", [])) (answers_to p.0 (codes "check", [])) e
 
 -- so is one that is met anywhere in them
-pub only_rank : (words : List Text) (r : Text × List Row) → subcommand_of extremes_app words ≡ Some r
-    → r.0 ≡ codes "rank"
-only_rank words r e =
+pub only_two : (words : List Text) (r : Text × List Row) → subcommand_of extremes_app words ≡ Some r
+    → (r.0 ≡ codes "rank") ⊎ (r.0 ≡ codes "check")
+only_two words r e =
     met_name (stop_after (built extremes_app).top.rules (names_of (built extremes_app))
     (argument_words extremes_app words)) r e
 
--- a subcommand that was met has that name
-pub met_rank : {Z : Type 0} (o : Option (Box SubCommand Z)) (t : Option (Text × List Row)) → is_some o ≡ true
-    → subcommand_rows o ≡ t → ((r : Text × List Row) → t ≡ Some r → r.0 ≡ codes "rank")
-    → option_map (λ b. (out-SubCommand (box_value b)).name.now) o ≡ Some (codes "rank")
-met_rank None t some e only = absurd cc
-met_rank (Some b) t some e only = ap (λ (n : Text). Some n) (only _ (sym e))
+-- the name of a subcommand
+abbrev pub name_met : {Z : Type 0} → Option (Box SubCommand Z) → Option Text
+name_met o = option_map (λ b. (out-SubCommand (box_value b)).name.now) o
 
--- a pair is its name and its rows
-pub pair_of : (t : Option (Text × List Row)) (name : Text) (rows : List Row)
-    → ((r : Text × List Row) → t ≡ Some r → r.0 ≡ name) → option_map (λ p. p.1) t ≡ Some rows → t ≡ Some (name, rows)
-pair_of None name rows only e = absurd cc
-pair_of (Some r) name rows only e =
-    ap₂ (λ (a : Text) (b : List Row). Some (a, b)) (only r refl) (ap (λ (q : Option (List Row)). unwrap_or q rows) e)
+-- where one was met that can only be of two names, it has one of them
+pub met_one : {Z : Type 0} (o : Option (Box SubCommand Z)) (t : Option (Text × List Row)) (a b : Text)
+    → is_some o ≡ true → subcommand_rows o ≡ t → ((r : Text × List Row) → t ≡ Some r → (r.0 ≡ a) ⊎ (r.0 ≡ b))
+    → (name_met o ≡ Some a) ⊎ (name_met o ≡ Some b)
+met_one None t a b some e only = absurd cc
+met_one (Some s) t a b some e only = elim (only _ (sym e)) [
+  | inl is ↦ inl (ap (λ (n : Text). Some n) is)
+  | inr is ↦ inr (ap (λ (n : Text). Some n) is)
+]
+
+-- one that was met by a name, and the rows behind it
+pub met_rows : {Z : Type 0} (o : Option (Box SubCommand Z)) (name : Text) (rows : List Row) → name_met o ≡ Some name
+    → option_map (λ p. p.1) (subcommand_rows o) ≡ Some rows → subcommand_rows o ≡ Some (name, rows)
+met_rows None name rows is behind = absurd cc
+met_rows (Some s) name rows is behind =
+    ap₂ (λ (a : Text) (b : List Row). Some (a, b)) (ap (λ (q : Option Text). unwrap_or q name) is)
+    (ap (λ (q : Option (List Row)). unwrap_or q rows) behind)
 
 -- what is read of the text of a guess is the number that it writes
 pub guess_read : {E : Type 0} (gives : List ℕ → Result ℤ E → Type 0)

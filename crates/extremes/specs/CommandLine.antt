@@ -1,5 +1,5 @@
 -- What the words of a command line ask for, in `clap`'s words.
-use Rattle.std.specs.Prelude.{◌≡◌, List, [], ◌∷◌, map, codes, Option, Some, None, unwrap_or, Bool, true, String, string_bytes}
+use Rattle.std.specs.Prelude.{◌≡◌, ◌⊎◌, List, [], ◌∷◌, map, codes, Option, Some, None, unwrap_or, Bool, true, String, string_bytes}
 use Rattle.std.specs.Prelude.{ℕ, ◌<◌, ◌^◌, ℤ, pos, negsuc, FitsSigned}
 use Rattle.std.specs.Option.{option_map}
 use Rattle.clap.specs.declared.builder.Arg.{Arg}
@@ -12,7 +12,7 @@ use Rattle.clap.specs.declared.builder.ArgAction.TheVariants.{Set, Append}
 use Rattle.clap.specs.declared.builder.ValueParser.{ValueParser}
 use Rattle.clap.specs.declared.builder.ValueParser.TheVariants.{Signed, Unsigned}
 use Rattle.extremes.specs.declared.command.Command.{Command}
-use Rattle.extremes.specs.declared.command.Command.TheVariants.{Sample, Rank}
+use Rattle.extremes.specs.declared.command.Command.TheVariants.{Sample, Rank, Check}
 
 -- `--NAME VALUE`: an option with one value, which may be given once
 abbrev pub option_of : Text → Rule
@@ -55,11 +55,19 @@ rank_app = with_rule (with_rule (with_rule (with_rule (with_rule (with_rule (new
     (parsed whole_number (option_of (codes "guess"))))
     (option_of (codes "certificate"))) files_rule
 
--- the program's command line: it has the subcommand `rank`, and needs one
+-- `check` with its options, all of which must be given, and files
+abbrev pub check_app : App
+check_app = with_rule (with_rule (with_rule (with_rule (with_rule (new_app (codes "check"))
+    (required (option_of (codes "stations"))))
+    (required (option_of (codes "query"))))
+    (required (option_of (codes "report"))))
+    (required (option_of (codes "certificate")))) files_rule
+
+-- the program's command line: it has the subcommands `rank` and `check`, and needs one
 abbrev pub extremes_app : App
-extremes_app = with_subcommand (record (new_app (codes "extremes")) {
+extremes_app = with_subcommand (with_subcommand (record (new_app (codes "extremes")) {
   top = record (new_app (codes "extremes")).top { subcommand_required = true; disable_help_subcommand = true };
-}) rank_app.top
+}) rank_app.top) check_app.top
 
 -- all words, the program's name first
 abbrev pub words_of : {A : Type 0} → List (String A) → List Text
@@ -90,6 +98,7 @@ AreWorkers text workers = (given : Option ℕ) × IsCount text given × (workers
 -- the command has the options and files of a subcommand's matches
 abbrev pub IsRank : List Row → Command → Type 0
 IsRank rows Sample = ⊥
+IsRank rows (Check stations query report certificate files) = ⊥
 IsRank rows (Rank stations query workers guess certificate files) =
     (string_bytes stations ≡ unwrap_or (first_of (codes "stations") rows) [])
     × (string_bytes query ≡ unwrap_or (first_of (codes "query") rows) [])
@@ -98,9 +107,25 @@ IsRank rows (Rank stations query workers guess certificate files) =
     × (option_map (λ s. string_bytes s) certificate ≡ first_of (codes "certificate") rows)
     × (map (λ s. string_bytes s) files.items ≡ unwrap_or (all_of (codes "files") rows) [])
 
--- the words are right and name the subcommand `rank`, and the command has what `clap` reads behind it
-pub record IsRankOf (words : List Text) (c : Command) : Type 0 where
+-- the same for a subcommand that judges papers
+abbrev pub IsCheck : List Row → Command → Type 0
+IsCheck rows Sample = ⊥
+IsCheck rows (Rank stations query workers guess certificate files) = ⊥
+IsCheck rows (Check stations query report certificate files) =
+    (string_bytes stations ≡ unwrap_or (first_of (codes "stations") rows) [])
+    × (string_bytes query ≡ unwrap_or (first_of (codes "query") rows) [])
+    × (string_bytes report ≡ unwrap_or (first_of (codes "report") rows) [])
+    × (string_bytes certificate ≡ unwrap_or (first_of (codes "certificate") rows) [])
+    × (map (λ s. string_bytes s) files.items ≡ unwrap_or (all_of (codes "files") rows) [])
+
+-- the command is that of the subcommand of this name, `rank` or `check`
+abbrev pub IsCommand : Text → List Row → Command → Type 0
+IsCommand name rows c = ((name ≡ codes "rank") × IsRank rows c) ⊎ ((name ≡ codes "check") × IsCheck rows c)
+
+-- the words are right and name a subcommand, and the command has what `clap` reads behind it
+pub record IsCommandOf (words : List Text) (c : Command) : Type 0 where
+  pub name : Text
   pub rows : List Row
   pub right : AreRight words
-  pub entered : subcommand_of extremes_app words ≡ Some (codes "rank", rows)
-  pub rank : IsRank rows c
+  pub entered : subcommand_of extremes_app words ≡ Some (name, rows)
+  pub named : IsCommand name rows c

@@ -1,5 +1,7 @@
--- The exit status of a run.
+-- How a run ends, and its exit status.
 use Rattle.std.specs.Prelude.{ℕ}
+use Rattle.rank_check.specs.declared.verdict.Verdict.{Verdict}
+use Rattle.rank_check.specs.declared.verdict.Verdict.TheVariants as verdicts
 use Rattle.extremes.specs.declared.ending.Ending.{Ending}
 use Rattle.extremes.specs.declared.ending.Ending.TheVariants.{Done, Refused, Words, File}
 
@@ -9,3 +11,8 @@ status_of Done = 0
 status_of Refused = 1
 status_of Words = 2
 status_of File = 3
+
+-- papers that are accepted are done, and others are refused
+abbrev pub ending_of : Verdict → Ending
+ending_of verdicts.Accepted = Done
+ending_of (verdicts.Refused paper line why) = Refused

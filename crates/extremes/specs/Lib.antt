@@ -4,3 +4,4 @@ pub mod Ending
 pub mod Printed
 pub mod Delivered
 pub mod CommandLine
+pub mod Judged

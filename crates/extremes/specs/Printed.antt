@@ -1,5 +1,5 @@
 -- How an answer is printed.
-use Rattle.std.specs.Prelude.{◌≡◌, ℕ, List, Option, Result, Ok, Err}
+use Rattle.std.specs.Prelude.{◌≡◌, ◌⊎◌, ℕ, List, Option, Result, Ok, Err}
 use Rattle.std.specs.Io.KnownBytes.{Appends}
 use Rattle.extremes.specs.declared.papers.Papers.{Papers}
 use Rattle.extremes.specs.declared.fault.Fault.{Fault}
@@ -7,7 +7,9 @@ use Rattle.extremes.specs.declared.ending.Ending.{Ending}
 use Rattle.extremes.specs.declared.ending.Ending.TheVariants.{Done, Refused, Words, File}
 use Rattle.extremes.specs.declared.delivery.Delivery.{Delivery}
 use Rattle.extremes.specs.declared.delivery.Delivery.TheVariants as delivery
+use Rattle.rank_check.specs.declared.verdict.Verdict.{Verdict}
 use Rattle.extremes.specs.Delivered.{HasBeginning}
+use Rattle.extremes.specs.Ending.{ending_of}
 
 -- what the report's writer was given: the whole report, nothing behind a certificate that couldn't be written, or a beginning
 abbrev pub IsReported : Papers → Option (List ℕ) → Option (List ℕ) → Delivery → Type 0
@@ -22,3 +24,8 @@ IsPrinted (Ok papers) before after Refused = ⊥
 IsPrinted (Ok papers) before after Words = ⊥
 IsPrinted (Ok papers) before after File = HasBeginning papers.report.items before after
 IsPrinted (Err fault) before after ending = (ending ≡ Refused) × (after ≡ before)
+
+-- a verdict that was printed ends the run as it says, and one that couldn't be printed as a file that couldn't be written; a fault is refused
+abbrev pub IsToldVerdict : Result Verdict Fault → Ending → Type 0
+IsToldVerdict (Ok v) ending = (ending ≡ ending_of v) ⊎ (ending ≡ File)
+IsToldVerdict (Err fault) ending = ending ≡ Refused

@@ -17,6 +17,14 @@ pub enum Command {
         certificate: Option<String>,
         files: Vec<String>,
     },
+    /// Judge a report and a certificate over files, named by their paths.
+    Check {
+        stations: String,
+        query: String,
+        report: String,
+        certificate: String,
+        files: Vec<String>,
+    },
 }
 
 /// Why a command line isn't a command.

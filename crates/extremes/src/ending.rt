@@ -6,13 +6,13 @@ ghost use Rattle.extremes.specs.Ending.{status_of};
 /// The end of a run.
 #[derive(Clone, Copy, Debug, PartialEq, Eq)]
 pub enum Ending {
-    /// The report was written.
+    /// The report was written, or the papers were accepted.
     Done,
-    /// The input was refused.
+    /// The input was refused, or the papers were.
     Refused,
     /// The words were no command, or asked for help.
     Words,
-    /// A file couldn't be read, or the report couldn't be written.
+    /// A file couldn't be read or written.
     File,
 }
 

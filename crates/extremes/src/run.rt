@@ -1,20 +1,23 @@
 //! A run of the program: reads what is named, ranks, and prints.
 
-ghost use Rattle.std.specs.Prelude.{◌≡◌, ◌<◌, IfOk, IfErr, length, map, vec_len};
+ghost use Rattle.std.specs.Prelude.{◌≡◌, ◌<◌, None, IfOk, IfErr, length, map, vec_len};
 ghost use Rattle.extremes.specs.declared.ending.Ending.TheVariants as endings;
 ghost use Rattle.extremes.specs.Answer.{Answers};
-ghost use Rattle.extremes.specs.Input.{read_run, IsRefusal};
-ghost use Rattle.extremes.specs.Printed.{IsPrinted, IsReported};
+ghost use Rattle.extremes.specs.Input.{read_input, read_run, IsRefusal};
+ghost use Rattle.extremes.specs.Judged.{IsJudged};
+ghost use Rattle.extremes.specs.Printed.{IsPrinted, IsReported, IsToldVerdict};
 
 use crate::command::{Command, CommandFault};
 use crate::delivery::{Delivery, deliver};
 use crate::ending::Ending;
 use crate::fault::Fault;
+use crate::judge::{ending, judge};
 use crate::papers::Papers;
 use crate::rank::{rank, rank_serial};
 use crate::sample;
 use crate::words::command;
 use ghcn_fields::Memory;
+use rank_check::Verdict;
 use rank_crew::Open;
 use std::alloc::{AllocError, Global};
 use std::fs::{File, OpenFile};
@@ -38,28 +41,46 @@ pub fn run<R: Files + Env + Print + Eprint + Threads + Wait + AllocGlobal + Sync
         Err(error) => return no_words(rt, &error),
     };
     match command(rt.alloc(), words) {
-        Ok(Command::Sample) => rank_sample(rt),
-        Ok(
-            Command::Rank {
-                stations,
-                query,
-                workers,
-                guess,
-                certificate,
-                files,
-            },
-        ) => {
+        Ok(asked) => run_command(rt, asked),
+        Err(CommandFault::Words(text)) => {
+            let _ = eprint!(rt; "{text}");
+            Ending::Words
+        }
+        Err(CommandFault::Memory) => refused(rt, Fault::Memory(Memory)),
+    }
+}
+
+/// Runs a command.
+fn run_command<R: Files + Print + Eprint + Threads + Wait + AllocGlobal + Sync>(
+    rt: &R,
+    asked: Command,
+) -> Ending {
+    match asked {
+        Command::Sample => rank_sample(rt),
+        Command::Rank {
+            stations,
+            query,
+            workers,
+            guess,
+            certificate,
+            files,
+        } => {
             let out = certificate.as_ref().map(|path| path.as_str());
             match rank_files(rt, &stations, &files, &query, workers, guess) {
                 Ok(answer) => print_answer(rt, answer, out, &mut io::writer(rt)),
                 Err(path) => not_read(rt, path),
             }
         }
-        Err(CommandFault::Words(text)) => {
-            let _ = eprint!(rt; "{text}");
-            Ending::Words
-        }
-        Err(CommandFault::Memory) => refused(rt, Fault::Memory(Memory)),
+        Command::Check {
+            stations,
+            query,
+            report,
+            certificate,
+            files,
+        } => match judge_files(rt, &stations, &query, &report, &certificate, &files) {
+            Ok(judged) => print_verdict(rt, judged),
+            Err(path) => not_read(rt, path),
+        },
     }
 }
 
@@ -105,6 +126,30 @@ fn rank_files<'p, R: Files + Threads + Wait + AllocGlobal + Sync>(
     Ok(rank_texts(rt, &stations_text, &texts, query, workers, guess))
 }
 
+/// Reads the station list, the report, the certificate and then the daily files in order, and judges
+/// the papers, or answers the path of the first file that can't be read.
+fn judge_files<'p, R: Files + AllocGlobal>(
+    rt: &R,
+    stations: &'p str,
+    query: &str,
+    report: &'p str,
+    certificate: &'p str,
+    files: &'p [String],
+) -> Result<Result<Verdict, Fault>, &'p str> {
+    let stations_text = read_file(rt, stations).map_err(|_| stations)?;
+    let report_text = read_file(rt, report).map_err(|_| report)?;
+    let certificate_text = read_file(rt, certificate).map_err(|_| certificate)?;
+    let texts = read_files(rt, files).map_err(|place| files[place].as_str())?;
+    Ok(judge_texts(
+        rt.alloc(),
+        &stations_text,
+        &texts,
+        query,
+        &report_text,
+        &certificate_text,
+    ))
+}
+
 /// The text of each file, in order, or the place of the first that can't be read.
 fn read_files<R: Files + AllocGlobal>(rt: &R, paths: &[String]) -> Result<Vec<Vec<u8>>, usize>
     ensures all { IfOk result (λ texts. vec_len texts ≡ length paths.now) }
@@ -133,6 +178,24 @@ fn rank_texts<R: Threads + Wait + AllocGlobal + Sync>(
 {
     let files = slices_of(rt.alloc(), texts).map_err(|_| Fault::Memory(Memory))?;
     rank(rt, stations, &files, query, workers, guess, &Open)
+}
+
+/// Judges papers of a query over the texts of all files.
+fn judge_texts(
+    alloc: Global,
+    stations: &[u8],
+    texts: &[Vec<u8>],
+    query: &str,
+    report: &[u8],
+    certificate: &[u8],
+) -> Result<Verdict, Fault>
+    ensures ok { IfOk result (IsJudged
+        query.now stations.now (map (λ text. text.items) texts.now) report.now certificate.now) }
+    ensures err { IfErr result (λ fault.
+        IsRefusal fault (read_input None query.now stations.now (map (λ text. text.items) texts.now))) }
+{
+    let files = slices_of(alloc, texts).map_err(|_| Fault::Memory(Memory))?;
+    judge(alloc, stations, &files, query, report, certificate)
 }
 
 /// All the texts, as they are read.
@@ -213,5 +276,19 @@ fn write_papers<R: Files, W: Write>(
     match File::create(rt, path) {
         Ok(mut file) => deliver(papers, true, &mut file, out),
         Err(_) => Delivery::CertificateFailed,
+    }
+}
+
+/// Prints a verdict, or tells the fault.
+fn print_verdict<R: Print + Eprint>(rt: &R, judged: Result<Verdict, Fault>) -> Ending
+    ensures { IsToldVerdict judged result }
+{
+    let verdict = match judged {
+        Ok(verdict) => verdict,
+        Err(fault) => return refused(rt, fault),
+    };
+    match println!(rt; "{verdict}") {
+        Ok(()) => ending(&verdict),
+        Err(_) => not_written(rt, "-"),
     }
 }

@@ -3,12 +3,14 @@
 use crate::command::{Command, CommandFault};
 use crate::ending::Ending;
 use crate::fault::Fault;
+use crate::judge::{ending, judge};
 use crate::rank::{rank, rank_serial};
 use crate::run::print_answer;
 use crate::words::command;
 use ghcn_fields::Memory;
 use ghcn_files::{LineWhy, StationWhy};
 use ghcn_series::DailyWhy;
+use rank_check::{Paper, Verdict, Why};
 use rank_crew::{Gate, Open};
 use std::alloc::{AllocError, Global};
 use std::sync::Wait;
@@ -189,6 +191,45 @@ fn a_gate_is_called_by_the_workers(rt: HostRuntime) {
     );
 }
 
+#[test]
+fn papers_are_judged(rt: HostRuntime) -> Result<(), Fail> {
+    let query = "top 3 highest TMAX";
+    let Ok(papers) = rank(&rt, STATIONS, &[DAILY], query, 4, None, &Open) else {
+        return Err(Fail::from("no papers"));
+    };
+    let (report, certificate) = (papers.report.as_slice(), papers.certificate.as_slice());
+    let other = Verdict::Refused {
+        paper: Paper::Report,
+        line: 2,
+        why: Why::OtherQuery,
+    };
+    let cases: [(&str, Result<Verdict, Fault>, &str); 3] = [
+        ("top 03 highest TMAX", Ok(Verdict::Accepted), "accepted"),
+        (
+            "top 2 highest TMAX",
+            Ok(other),
+            "refused report line 2 OtherQuery",
+        ),
+        (
+            "top 3 highest",
+            Err(Fault::QueryEnds),
+            "refused 9 QueryEnds",
+        ),
+    ];
+    for (asked, expected, text) in cases {
+        let judged = judge(rt.alloc(), STATIONS, &[DAILY], asked, report, certificate);
+        let told = match judged {
+            Ok(verdict) => verdict.to_string(rt.alloc())?,
+            Err(fault) => fault.to_string(rt.alloc())?,
+        };
+        assert_eq!(rt; told.as_str(), text);
+        assert_eq!(rt; judged, expected, "at {asked}");
+    }
+    assert_eq!(rt; ending(&Verdict::Accepted), Ending::Done);
+    assert_eq!(rt; ending(&other), Ending::Refused);
+    Ok(())
+}
+
 fn words_of(alloc: Global, words: &[&str]) -> Result<Vec<String>, AllocError> {
     words
         .iter()
@@ -245,8 +286,55 @@ fn commands_of_words(rt: HostRuntime) -> Result<(), Fail> {
 }
 
 #[test]
+fn commands_to_check(rt: HostRuntime) -> Result<(), Fail> {
+    let check = [
+        "check",
+        "--stations=s",
+        "--query=q",
+        "--report=r",
+        "--certificate=c",
+        "a",
+        "b",
+    ];
+    let Ok(
+        Command::Check {
+            stations,
+            query,
+            report,
+            certificate,
+            files,
+        },
+    ) = command(rt.alloc(), words_of(rt.alloc(), &check)?)
+    else {
+        return Err(Fail::from("no command to check"));
+    };
+    let texts = [&stations, &query, &report, &certificate];
+    for (text, expected) in texts.iter().zip(["s", "q", "r", "c"]) {
+        assert_eq!(rt; text.as_str(), expected);
+    }
+    assert_eq!(rt; files.len(), 2);
+    for (file, expected) in files.iter().zip(["a", "b"]) {
+        assert_eq!(rt; file.as_str(), expected);
+    }
+    let without = words_of(
+        rt.alloc(),
+        &["check", "--stations=s", "--query=q", "--report=r"],
+    )?;
+    assert!(rt; matches!(command(rt.alloc(), without), Err(CommandFault::Words(_))));
+    Ok(())
+}
+
+#[test]
 fn texts_of_words(rt: HostRuntime) -> Result<(), Fail> {
-    let cases: [(&[&str], &str); 9] = [
+    let cases: [(&[&str], &str); 11] = [
+        (
+            &["check", "--help"],
+            "\n  NotBest          fewer or more candidates precede it",
+        ),
+        (
+            &["check"],
+            "check --stations <FILE> --query <QUERY> --report <FILE>",
+        ),
         (
             &["rank", "--help"],
             "\n  top K SCORE [REGION] [PERIOD]    K is from 1 to 1000\n",

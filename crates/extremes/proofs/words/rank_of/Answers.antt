@@ -10,23 +10,21 @@ use Rattle.extremes.proofs.words.rank_of.Goals as goal
 -- each field is what the matches have under its name
 pub returns : goal.returns
 returns c = let f = found_of c.args.matches.now in (
-  c.in_ok-from_str.ensures.ok ∙ read_or (λ s. s.now) _ _ _ _ [] c.unwrap_or.ensures
-      (c.get_str.ensures ∙ first_value-rows f (codes "stations")) refl,
-  c.in_ok-from_str-2.ensures.ok ∙ read_or (λ s. s.now) _ _ _ _ [] c.unwrap_or-2.ensures
-      (c.get_str-2.ensures ∙ first_value-rows f (codes "query")) refl,
+  c.in_ok-text.ensures,
+  c.in_ok-text-2.ensures,
   (
     c.get_one.result,
     count_read (λ bs r. ParsesUnsigned 64 10 bs r × ExplainsUnsignedError 10 bs r × HasUnsignedDigitsIfOk bs r)
         (λ bs r given. given.0) _ _
         (λ e. c.get_one.ensures.none (one_text-rows f (codes "workers") ∙ e))
         (λ t e. c.get_one.ensures.value t (one_text-rows f (codes "workers") ∙ e)),
-    c.unwrap_or-3.ensures,
+    c.unwrap_or.ensures,
   ),
   guess_read (λ bs r. ParsesSigned w64 10 bs r × ExplainsSignedError 10 bs r × HasSignedDigitsIfOk bs r)
       (λ bs r given. given.0) _ _
       (λ e. c.get_one-2.ensures.none (one_text-rows f (codes "guess") ∙ e))
       (λ t e. c.get_one-2.ensures.value t (one_text-rows f (codes "guess") ∙ e)),
-  c.in_ok-copy.ensures ∙ c.get_str-3.ensures ∙ first_value-rows f (codes "certificate"),
-  c.in_ok-copies.ensures ∙ read_or (λ s. map (λ v. v.now) s.now) _ _ _ _ [] c.unwrap_or-4.ensures
+  c.in_ok-copy.ensures ∙ c.get_str.ensures ∙ first_value-rows f (codes "certificate"),
+  c.in_ok-copies.ensures ∙ read_or (λ s. map (λ v. v.now) s.now) _ _ _ _ [] c.unwrap_or-2.ensures
       (c.get_strs.ensures ∙ raw_values-rows f (codes "files")) refl,
 )

@@ -1,0 +1,28 @@
+-- What is answered to papers on an input without a fault.
+use Rattle.std.specs.Prelude.{◌≡◌, ◌↔◌, ℕ, List, Option, None, Ok, ℤ}
+use Rattle.ghcn_series.specs.Series.{Contents}
+use Rattle.rank_query.specs.Asked.{Asked}
+use Rattle.rank_papers.specs.Report.{IsReport}
+use Rattle.rank_papers.specs.Certificate.{IsCertificate}
+use Rattle.rank_check.specs.declared.verdict.Verdict.{Verdict}
+use Rattle.rank_check.specs.declared.verdict.Verdict.TheVariants.{Accepted}
+use Rattle.rank_check.specs.Tests.{verdict}
+use Rattle.extremes.specs.declared.papers.Papers.{Papers}
+use Rattle.extremes.specs.Input.{read_input}
+use Rattle.extremes.specs.Answer.{Answers}
+
+-- the verdict is that on the papers for what the input asks and holds: accepted exactly where the report is the right
+-- one and the certificate a right one
+pub record IsJudged (query stations : List ℕ) (files : List (List ℕ)) (report certificate : List ℕ)
+    (v : Verdict) : Type 0 where
+  pub asked : Asked
+  pub held : Contents
+  pub read : read_input None query stations files ≡ Ok (asked, held)
+  pub verdict : v ≡ verdict asked held report certificate
+  pub accepted : (v ≡ Accepted) ↔ (IsReport asked held report × IsCertificate asked held certificate)
+
+-- papers that answer an input are accepted on that input, whatever the guess was
+abbrev pub AnswersAreAccepted : Type 0
+AnswersAreAccepted = (guess : Option ℤ) (query stations : List ℕ) (files : List (List ℕ)) (papers : Papers) (v : Verdict)
+    → Answers guess query stations files papers
+    → IsJudged query stations files papers.report.items papers.certificate.items v → v ≡ Accepted

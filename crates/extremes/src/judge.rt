@@ -1,0 +1,48 @@
+//! The judgement of papers, from the bytes of the files to a verdict.
+
+ghost use Rattle.std.specs.Prelude.{◌≡◌, None, IfOk, IfErr, map};
+ghost use Rattle.extremes.specs.Ending.{ending_of};
+ghost use Rattle.extremes.specs.Input.{read_input, IsRefusal};
+ghost use Rattle.extremes.specs.Judged.{IsJudged};
+
+use crate::ending::Ending;
+use crate::fault::Fault;
+use ghcn_files::Stations;
+use ghcn_series::Data;
+use rank_check::{Verdict, check};
+use rank_query::Query;
+use std::alloc::Global;
+
+/// Judges a report and a certificate of a query over a station list and daily files, whoever made
+/// them: accepted exactly where the report is the right one and the certificate a right one.
+///
+/// The files are the texts of `ghcnd-stations.txt` and of `.dly` files, uncompressed. A fault is the
+/// first in the order: query, stations, number of files, files and lines in order.
+pub fn judge(
+    alloc: Global,
+    stations: &[u8],
+    files: &[&[u8]],
+    query: &str,
+    report: &[u8],
+    certificate: &[u8],
+) -> Result<Verdict, Fault>
+    ensures ok { IfOk result (IsJudged
+        query.now stations.now (map (λ file. file.now) files.now) report.now certificate.now) }
+    ensures err { IfErr result (λ fault.
+        IsRefusal fault (read_input None query.now stations.now (map (λ file. file.now) files.now))) }
+{
+    let query = Query::parse(query)?;
+    let stations = Stations::read(alloc, stations)?;
+    let held = Data::read(alloc, stations, files)?;
+    Ok(check(alloc, &held, &query, report, certificate)?)
+}
+
+/// How a run ends that answers this verdict.
+pub fn ending(verdict: &Verdict) -> Ending
+    ensures { result ≡ ending_of verdict.now }
+{
+    match verdict {
+        Verdict::Accepted => Ending::Done,
+        Verdict::Refused { .. } => Ending::Refused,
+    }
+}
