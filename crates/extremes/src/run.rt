@@ -84,10 +84,11 @@ fn run_command<R: Files + Print + Eprint + Threads + Wait + AllocGlobal + Sync>(
     }
 }
 
-/// A file that can't be written, opened before any other. Three of them take the places of standard
-/// descriptors that were closed before the program began, so that the certificate takes none.
+/// A file that can't be written, opened before any other: the root folder, which is always there.
+/// Three of them take the places of standard descriptors that were closed before the program began,
+/// so that the certificate takes none.
 fn hold_descriptor<R: Files>(rt: &R) -> io::Result<R::File> {
-    File::open(rt, "/dev/null")
+    File::open(rt, "/")
 }
 
 fn words_after_name<R: Env + AllocGlobal>(rt: &R) -> io::Result<Vec<String>> {
