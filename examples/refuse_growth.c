@@ -1,17 +1,18 @@
 /* Preloaded before a program, refuses its Nth growth of memory, N being the environment's REFUSE,
-   and leaves the file that REFUSED names where it did. */
+   and leaves the file that REFUSED names where it did. The growths of all threads are counted. */
 #define _GNU_SOURCE
 #include <dlfcn.h>
 #include <errno.h>
 #include <fcntl.h>
+#include <stdatomic.h>
 #include <stdlib.h>
 #include <unistd.h>
 
-static long growths;
+static atomic_long growths;
 
 static int is_refused(void) {
     const char *number = getenv("REFUSE"), *mark = getenv("REFUSED");
-    if (!number || !mark || ++growths != atol(number))
+    if (!number || !mark || atomic_fetch_add(&growths, 1) + 1 != atol(number))
         return 0;
     int file = open(mark, O_CREAT | O_WRONLY, 0600);
     if (file >= 0)

@@ -1,0 +1,111 @@
+/* Preloaded before a program, lets one of its calls of the system end otherwise. The environment says which:
+   FAIL_CALL   open, read or write; calls that write to standard error aren't meant
+   FAIL_AT     the number of that call, from 1; 0 for each of them
+   FAIL_HOW    fail: it ends with an error; one: it takes or gives one byte; signal: it is interrupted;
+               full: writes take this many bytes in all, and then there is no space; FAIL_AT is that number
+   FAIL_FILE   a file's name without its folder. FAIL_HOW cut: its reads end after FAIL_AT bytes;
+               missing: it can't be opened
+   FAIL_MARK   a file that is left where a call met this */
+#define _GNU_SOURCE
+#include <dlfcn.h>
+#include <errno.h>
+#include <fcntl.h>
+#include <stdarg.h>
+#include <stdatomic.h>
+#include <stdlib.h>
+#include <string.h>
+#include <sys/syscall.h>
+#include <unistd.h>
+
+static atomic_long calls, bytes;
+static int cut_file = -1;
+
+static const char *said(const char *name) {
+    const char *value = getenv(name);
+    return value ? value : "";
+}
+
+static void leave_mark(void) {
+    long file = syscall(SYS_openat, AT_FDCWD, said("FAIL_MARK"), O_CREAT | O_WRONLY, 0600);
+    if (file >= 0)
+        syscall(SYS_close, file);
+}
+
+static int is_how(const char *how) {
+    return !strcmp(said("FAIL_HOW"), how);
+}
+
+/* Counts a call of this name, and tells whether it is the one that is meant. */
+static int is_met(const char *call) {
+    long at = atol(said("FAIL_AT"));
+    if (strcmp(said("FAIL_CALL"), call) || is_how("full") || is_how("cut"))
+        return 0;
+    if (atomic_fetch_add(&calls, 1) + 1 != at && at != 0)
+        return 0;
+    leave_mark();
+    errno = is_how("signal") ? EINTR : EIO;
+    return 1;
+}
+
+int open(const char *path, int flags, ...) {
+    va_list rest;
+    va_start(rest, flags);
+    int mode = flags & O_CREAT ? va_arg(rest, int) : 0;
+    va_end(rest);
+    if (is_met("open"))
+        return -1;
+    const char *name = strrchr(path, '/');
+    int is_named = !strcmp(name ? name + 1 : path, said("FAIL_FILE"));
+    if (is_named && is_how("missing")) {
+        errno = ENOENT;
+        return -1;
+    }
+    int file = (int)syscall(SYS_openat, AT_FDCWD, path, flags, mode);
+    if (is_named) {
+        cut_file = file;
+        atomic_store(&bytes, 0);
+    } else if (file == cut_file) {
+        cut_file = -1;
+    }
+    return file;
+}
+
+ssize_t read(int file, void *into, size_t size) {
+    if (is_how("cut") && file == cut_file) {
+        long left = atol(said("FAIL_AT")) - atomic_load(&bytes);
+        ssize_t taken = syscall(SYS_read, file, into, (long)size < left ? (long)size : left);
+        atomic_fetch_add(&bytes, taken > 0 ? taken : 0);
+        return taken;
+    }
+    if (size > 0 && is_met("read")) {
+        if (!is_how("one"))
+            return -1;
+        size = 1;
+    }
+    return syscall(SYS_read, file, into, size);
+}
+
+ssize_t write(int file, const void *from, size_t size) {
+    if (file != 2 && is_how("full")) {
+        long left = atol(said("FAIL_AT")) - atomic_load(&bytes);
+        if (left < (long)size)
+            leave_mark();
+        if (size > 0 && left <= 0) {
+            errno = ENOSPC;
+            return -1;
+        }
+        ssize_t taken = syscall(SYS_write, file, from, (long)size < left ? (long)size : left);
+        atomic_fetch_add(&bytes, taken > 0 ? taken : 0);
+        return taken;
+    }
+    if (file != 2 && size > 0 && is_met("write")) {
+        if (!is_how("one"))
+            return -1;
+        size = 1;
+    }
+    return syscall(SYS_write, file, from, size);
+}
+
+ssize_t __write(int file, const void *from, size_t size) {
+    return write(file, from, size);
+}

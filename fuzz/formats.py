@@ -1,0 +1,343 @@
+"""What `extremes rank` and `extremes check` answer to some texts, by docs/FORMATS.md and
+docs/DEFINITIONS.md alone. Plain and slow: all candidates are listed and put in order.
+
+An answer is what the program leaves: (status, standard output, standard error), for the command
+line words, the station list, the papers and the daily files as bytes.
+"""
+import re
+from collections import namedtuple
+from datetime import date
+
+ELEMENTS = (b"PRCP", b"SNOW", b"SNWD", b"TMAX", b"TMIN")
+TEMPERATURES = (b"TMAX", b"TMIN")
+FALLS = (b"PRCP", b"SNOW")
+MOST = 2**20
+BLANK, BAD = "blank", "bad"
+
+Station = namedtuple("Station", "id latitude longitude state name")
+Query = namedtuple("Query", "k kind element window region first last text")
+Candidate = namedtuple("Candidate", "score id first last name")
+
+
+class Refused(Exception):
+    """A refusal, as its line on standard error."""
+
+
+# ---- lines, numbers and dates ----
+
+def lines(text):
+    """The lines that aren't blank, with their numbers."""
+    pieces = text.split(b"\n")
+    for number, line in enumerate(pieces if pieces[-1] else pieces[:-1], 1):
+        line = line[:-1] if line.endswith(b"\r") else line
+        if line.strip(b" "):
+            yield number, line
+
+
+def field(line, first, last):
+    """The bytes of columns first to last, with blanks for those that are missing."""
+    return line[first - 1:last].ljust(last - first + 1, b" ")
+
+
+def number_of(text, places):
+    """What a number field is read as."""
+    if not text.strip(b" "):
+        return BLANK
+    point = b"" if places == 0 else rb"(?:\.([0-9]{1,%d}))?" % places
+    found = re.fullmatch(rb" *(-?)([0-9]+)" + point, text)
+    if not found:
+        return BAD
+    decimals = (found[3] if places else None) or b""
+    value = int(found[2] + decimals.ljust(places, b"0")) * (-1 if found[1] else 1)
+    return value if -2**31 <= value < 2**31 else BAD
+
+
+def is_within(value, least, greatest):
+    return value not in (BLANK, BAD) and least <= value <= greatest
+
+
+def visible(text):
+    return all(33 <= it <= 126 for it in text)
+
+
+def day_of(text):
+    """The day of a date, None where it is no date."""
+    if not re.fullmatch(rb"[0-9]{4}-[0-9]{2}-[0-9]{2}", text):
+        return None
+    try:
+        return date(int(text[:4]), int(text[5:7]), int(text[8:])).toordinal()
+    except ValueError:
+        return None
+
+
+def date_text(day):
+    it = date.fromordinal(day)
+    return b"%04d-%02d-%02d" % (it.year, it.month, it.day)
+
+
+# ---- the station list and the daily files ----
+
+def station_fault(line, listed):
+    if len(line) < 30:
+        return "Short"
+    if not visible(line[:11]):
+        return "BadId"
+    if not is_within(number_of(field(line, 13, 20), 4), -900000, 900000):
+        return "BadLatitude"
+    if not is_within(number_of(field(line, 22, 30), 4), -1800000, 1800000):
+        return "BadLongitude"
+    if number_of(field(line, 32, 37), 1) == BAD:
+        return "BadElevation"
+    return "Duplicate" if line[:11] in listed else None
+
+
+def read_stations(text):
+    def printable(text):
+        return bytes(it if 32 <= it <= 126 else ord("?") for it in text)
+
+    listed = {}
+    for number, line in lines(text):
+        fault = station_fault(line, listed)
+        if fault:
+            raise Refused(f"refused 1 StationLine line {number} {fault}")
+        if len(listed) == MOST:
+            raise Refused("refused 2 TooManyStations")
+        listed[line[:11]] = Station(line[:11], number_of(field(line, 13, 20), 4), number_of(field(line, 22, 30), 4),
+                                    printable(field(line, 39, 40)), printable(field(line, 42, 71)).rstrip(b" "))
+    return listed
+
+
+def value_field(line, day):
+    return field(line, 14 + 8 * day, 18 + 8 * day)
+
+
+def daily_fault(line):
+    """The first test that a line of an element fails by itself."""
+    if len(line) < 266:
+        return "Short"
+    if line[269:].strip(b" "):
+        return "TooLong"
+    if not visible(line[:11]):
+        return "BadId"
+    if not is_within(number_of(field(line, 12, 15), 0), 1, 9999):
+        return "BadYear"
+    if not is_within(number_of(field(line, 16, 17), 0), 1, 12):
+        return "BadMonth"
+    return next((f"BadValue {day}" for day in range(1, 32) if number_of(value_field(line, day), 0) == BAD), None)
+
+
+def read_daily(texts, listed):
+    """The usable days of each station and element with their values, and the number of unlisted lines."""
+    if len(texts) > MOST:
+        raise Refused("refused 6 TooManyFiles")
+    series, months, unlisted = {}, set(), 0
+    for file, text in enumerate(texts, 1):
+        for number, line in lines(text):
+            station, element = line[:11], line[17:21]
+            if len(line) >= 21 and element not in ELEMENTS:
+                continue
+            fault = daily_fault(line)
+            if not fault and station not in listed:
+                unlisted += 1
+                continue
+            month = (station, element, number_of(field(line, 12, 15), 0), number_of(field(line, 16, 17), 0))
+            if fault or month in months:
+                raise Refused(f"refused 5 DailyLine file {file} line {number} {fault or 'DuplicateMonth'}")
+            months.add(month)
+            for j in range(1, 32):
+                value, flag = number_of(value_field(line, j), 0), field(line, 20 + 8 * j, 20 + 8 * j)
+                day = day_of(b"%04d-%02d-%02d" % (month[2], month[3], j))
+                missing = value in (BLANK, -9999) or (value < 0 and element not in TEMPERATURES)
+                if day and not missing and flag == b" ":
+                    series.setdefault((station, element), {})[day] = value
+    return series, unlisted
+
+
+# ---- queries ----
+
+class Words:
+    """The words of a query text, read from left to right."""
+
+    def __init__(self, text):
+        self.words = [it for it in text.split(b" ") if it]
+        self.at = 0
+
+    def next(self):
+        if self.at == len(self.words):
+            raise Refused("refused 9 QueryEnds")
+        self.at += 1
+        return self.words[self.at - 1]
+
+    def is_next(self, *words):
+        return self.at < len(self.words) and self.words[self.at] in words
+
+    def wrong(self, name="8 UnexpectedWord"):
+        raise Refused(f"refused {name} {self.at}")
+
+    def one_of(self, *words):
+        word = self.next()
+        return word if word in words else self.wrong()
+
+    def limited(self, greatest):
+        word = self.next()
+        if not re.fullmatch(rb"[0-9]+", word):
+            self.wrong()
+        return int(word) if 1 <= int(word) <= greatest else self.wrong("10 OutOfLimits")
+
+    def edge(self, least, greatest):
+        found = re.fullmatch(rb"(-?)([0-9]+)(?:\.([0-9]{1,4}))?", self.next())
+        if not found:
+            self.wrong("12 BadBox")
+        value = int(found[2] + (found[3] or b"").ljust(4, b"0")) * (-1 if found[1] else 1)
+        return value if least <= value <= greatest else self.wrong("12 BadBox")
+
+    def code(self, size):
+        word = self.next()
+        return word if len(word) == size and visible(word) else self.wrong()
+
+    def date(self):
+        return day_of(self.next()) or self.wrong("11 BadDate")
+
+
+def read_score(words):
+    """The kind, the element and the number of days of a window, and the words of the canonical text."""
+    kind = words.one_of(b"highest", b"lowest", b"sum", b"dry", b"wet")
+    if kind in (b"dry", b"wet"):
+        return kind, b"PRCP", 0, [kind]
+    window = words.limited(366) if kind == b"sum" else 0
+    element = words.one_of(*{b"highest": ELEMENTS, b"lowest": TEMPERATURES, b"sum": FALLS}[kind])
+    return kind, element, window, [kind, b"%d" % window, element] if window else [kind, element]
+
+
+def read_region(words):
+    """The region as its first word and what follows, and the words of the canonical text."""
+    if not words.is_next(b"box", b"country", b"state", b"station"):
+        return None, []
+    kind = words.next()
+    if kind != b"box":
+        code = words.code(11 if kind == b"station" else 2)
+        return (kind, code), [kind, code]
+    south = words.edge(-900000, 900000)
+    west = words.edge(-1800000, 1800000)
+    north = words.edge(south, 900000)
+    edges = (south, west, north, words.edge(-1800000, 1800000))
+    spelled = [b"%s%d.%04d" % (b"-" if it < 0 else b"", abs(it) // 10000, abs(it) % 10000) for it in edges]
+    return (kind, *edges), [kind, *spelled]
+
+
+def read_query(text):
+    if len(text) > 256:
+        raise Refused("refused 7 QueryTooLong")
+    words = Words(text)
+    words.one_of(b"top")
+    k = words.limited(1000)
+    kind, element, window, score = read_score(words)
+    region, spelled = read_region(words)
+    first, last, period = 1, date.max.toordinal(), []
+    if words.is_next(b"from"):
+        words.next()
+        first = words.date()
+        words.one_of(b"to")
+        last = words.date()
+        if last < first:
+            raise Refused("refused 13 EmptyPeriod")
+        period = [b"from", date_text(first), b"to", date_text(last)]
+    if words.at < len(words.words):
+        words.next()
+        words.wrong()
+    text = b" ".join([b"top", b"%d" % k, *score, *spelled, *period])
+    return Query(k, kind, element, window, region, first, last, text)
+
+
+def is_admitted(station, region):
+    if region is None:
+        return True
+    if region[0] != b"box":
+        return region[1] == {b"country": station.id[:2], b"state": station.state, b"station": station.id}[region[0]]
+    _, south, west, north, east = region
+    after, before = station.longitude >= west, station.longitude <= east
+    return south <= station.latitude <= north and (after and before if west <= east else after or before)
+
+
+# ---- candidates and the papers ----
+
+def runs(days):
+    """The longest runs of consecutive days, each as its first and last."""
+    found = []
+    for day in sorted(days):
+        if found and found[-1][1] == day - 1:
+            found[-1][1] = day
+        else:
+            found.append([day, day])
+    return found
+
+
+def candidates(query, station, days):
+    """All candidates of a series, whose admitted usable days these are."""
+    if query.kind in (b"highest", b"lowest"):
+        sign = -1 if query.kind == b"lowest" else 1
+        found = [(sign * value, day, day) for day, value in days.items()]
+    elif query.kind == b"sum":
+        found = [(sum(days[it] for it in range(start, start + query.window)), start, start + query.window - 1)
+                 for first, last in runs(days) for start in range(first, last - query.window + 2)]
+    else:
+        spell = [day for day, value in days.items() if (value < 10) == (query.kind == b"dry")]
+        found = [(last - first + 1, first, last) for first, last in runs(spell)]
+    return [Candidate(score, station.id, first, last, station.name) for score, first, last in found]
+
+
+def in_order(candidate):
+    return -candidate.score, candidate.id, candidate.first
+
+
+def has_decimal(query):
+    return query.kind in (b"highest", b"lowest", b"sum") and query.element in (b"TMAX", b"TMIN", b"PRCP")
+
+
+def unit(query):
+    if query.kind in (b"dry", b"wet"):
+        return b"days"
+    return b"C" if query.element in TEMPERATURES else b"mm"
+
+
+def row(query, rank, it):
+    value = -it.score if query.kind == b"lowest" else it.score
+    sign = b"-" if value < 0 else b""
+    shown = b"%s%d.%d" % (sign, abs(value) // 10, abs(value) % 10) if has_decimal(query) else b"%d" % value
+    fields = [b"%d" % rank, it.id, date_text(it.first), date_text(it.last), shown, unit(query)]
+    return b" ".join(fields + ([it.name] if it.name else [])) + b"\n"
+
+
+def report(query, found):
+    best = found[:query.k]
+    rows = [row(query, rank, it) for rank, it in enumerate(best, 1)]
+    end = b"end %d%s\n" % (len(best), b" all" if len(best) < query.k else b"")
+    return b"extremes report 1\nquery %s\n%s%s" % (query.text, b"".join(rows), end)
+
+
+def read_all(query_text, stations, daily):
+    """The query, all candidates of each of its series by increasing ID, and the number of unlisted lines."""
+    query = read_query(query_text)
+    listed = read_stations(stations)
+    series, unlisted = read_daily(daily, listed)
+    found = {}
+    for name in sorted(listed):
+        days = {day: value for day, value in series.get((name, query.element), {}).items()
+                if query.first <= day <= query.last}
+        if days and is_admitted(listed[name], query.region):
+            found[name] = candidates(query, listed[name], days)
+    return query, found, unlisted
+
+
+def rank(query_text, stations, daily, workers=4, guess=None):
+    """The answer of `extremes rank`."""
+    try:
+        if not 1 <= workers <= 64:
+            raise Refused("refused 18 BadWorkers")
+        if guess is not None and not -2**31 <= guess <= 2**31:
+            raise Refused("refused 19 BadGuess")
+        query, found, unlisted = read_all(query_text, stations, daily)
+    except Refused as refusal:
+        return 1, b"", f"{refusal}\n".encode()
+    everyone = sorted((it for its in found.values() for it in its), key=in_order)
+    return 0, report(query, everyone), b"unlisted %d\n" % unlisted if unlisted else b""

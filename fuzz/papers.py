@@ -1,0 +1,232 @@
+"""The two papers of a run, papers changed at random, and the verdict of `extremes check` on them, by
+docs/FORMATS.md and docs/CERTIFICATE.md alone."""
+import random
+import re
+
+import formats
+from formats import Candidate, Refused
+
+ROW = re.compile(rb"([0-9]+) ([!-~]{11}) ([0-9-]{10}) ([0-9-]{10}) (-?)(0|[1-9][0-9]*)(?:\.([0-9]))?"
+                 rb" (C|mm|days)(?: ([ -~]{1,30}))?\n")
+LINE = re.compile(rb"(scan|skip) ([!-~]{11}) (-?(?:0|[1-9][0-9]*))\n")
+KTH = re.compile(rb"kth (none|-?(?:0|[1-9][0-9]*))\n")
+
+
+class Unlike(Exception):
+    """A line of a paper that isn't of the form of its place."""
+
+
+def is_number(text):
+    """Whether such digits are the one spelling of a number of 64 bits."""
+    return text != b"-0" and -2**63 <= int(text) < 2**63
+
+
+def head(pieces, title):
+    """The query of a paper, whose first lines are its title and its query."""
+    if pieces[:1] != [title]:
+        raise Unlike(1)
+    line = pieces[1] if len(pieces) > 1 else b""
+    try:
+        query = formats.read_query(line[6:-1])
+    except Refused:
+        raise Unlike(2) from None
+    if line != b"query " + query.text + b"\n":
+        raise Unlike(2)
+    return query
+
+
+def whole(pieces, at, end):
+    """Holds where the paper ends by the line `end` at index `at`."""
+    if pieces[at:at + 1] != [end]:
+        raise Unlike(at + 1)
+    if len(pieces) > at + 1:
+        raise Unlike(at + 2)
+
+
+def read_row(query, rank, line):
+    """The candidate of a row, None where the line isn't of that form."""
+    found = ROW.fullmatch(line)
+    if not found or found[1] != b"%d" % rank or found[8] != formats.unit(query) or (found[9] or b"x").endswith(b" "):
+        return None
+    first, last = formats.day_of(found[3]), formats.day_of(found[4])
+    number = found[5] + found[6] + (found[7] or b"")
+    score = int(number) * (-1 if query.kind == b"lowest" else 1)
+    if formats.has_decimal(query) != (found[7] is not None) or not first or not last or not -2**63 <= score < 2**63:
+        return None
+    return None if found[5] and int(number) == 0 else Candidate(score, found[2], first, last, found[9] or b"")
+
+
+def read_report(text):
+    pieces = re.findall(rb"[^\n]*\n|[^\n]+", text)
+    query, rows = head(pieces, b"extremes report 1\n"), []
+    for line in pieces[2:]:
+        found = read_row(query, len(rows) + 1, line) if len(rows) < query.k else None
+        if not found:
+            break
+        rows.append(found)
+    whole(pieces, 2 + len(rows), b"end %d%s\n" % (len(rows), b" all" if len(rows) < query.k else b""))
+    return query, rows
+
+
+def read_certificate(text):
+    pieces = re.findall(rb"[^\n]*\n|[^\n]+", text)
+    query, series = head(pieces, b"extremes certificate 1\n"), []
+    kth = KTH.fullmatch(pieces[2]) if len(pieces) > 2 else None
+    if not kth or (kth[1] != b"none" and not is_number(kth[1])):
+        raise Unlike(3)
+    for line in pieces[3:]:
+        found = LINE.fullmatch(line)
+        if not found or not is_number(found[3]):
+            break
+        series.append((found[1], found[2], int(found[3])))
+    whole(pieces, 3 + len(series), b"end %d\n" % len(series))
+    return query, None if kth[1] == b"none" else int(kth[1]), series
+
+
+def bound(its):
+    """The greatest score of a series, 0 where it has no candidate."""
+    return max((it.score for it in its), default=0)
+
+
+def judge_report(query, everyone, paper, rows):
+    """The first line of the report that fails a test, and why."""
+    if paper.text != query.text:
+        return 2, "OtherQuery"
+    for i, it in enumerate(rows):
+        if it not in everyone:
+            return 3 + i, "NotACandidate"
+        if i and formats.in_order(rows[i - 1]) >= formats.in_order(it):
+            return 3 + i, "OutOfOrder"
+        if everyone.index(it) != i:
+            return 3 + i, "NotBest"
+    return (3 + len(rows), "TooFew") if len(rows) < min(query.k, len(everyone)) else None
+
+
+def judge_certificate(query, found, everyone, paper, kth, series):
+    """The first line of the certificate that fails a test, and why."""
+    floor = everyone[query.k - 1].score if len(everyone) >= query.k else None
+    if paper.text != query.text:
+        return 2, "OtherQuery"
+    if kth != floor:
+        return 3, "OtherFloor"
+    names = list(found)
+    for i, (kind, name, limit) in enumerate(series):
+        if names[i:i + 1] != [name]:
+            return 4 + i, "OtherSeries"
+        if any(it.score > limit for it in found[name]):
+            return 4 + i, "NoBound"
+        if kind == b"skip" and (floor is None or limit >= floor):
+            return 4 + i, "NotBelow"
+    return (4 + len(series), "OtherSeries") if len(series) < len(names) else None
+
+
+def verdict(query, found, everyone, report, certificate):
+    forms = []
+    for name, read, text in (("report", read_report, report), ("certificate", read_certificate, certificate)):
+        try:
+            forms.append(read(text))
+        except Unlike as line:
+            return name, (line, "Form")
+    wrong = judge_report(query, everyone, *forms[0])
+    if wrong:
+        return "report", wrong
+    return "certificate", judge_certificate(query, found, everyone, *forms[1])
+
+
+def check(query_text, stations, daily, report, certificate):
+    """The answer of `extremes check`."""
+    try:
+        query, found, _ = formats.read_all(query_text, stations, daily)
+    except Refused as refusal:
+        return 1, b"", f"{refusal}\n".encode()
+    everyone = sorted((it for its in found.values() for it in its), key=formats.in_order)
+    paper, wrong = verdict(query, found, everyone, report, certificate)
+    if not wrong:
+        return 0, b"accepted\n", b""
+    return 1, f"refused {paper} line {wrong[0]} {wrong[1]}\n".encode(), b""
+
+
+def papers(query_text, stations, daily):
+    """A right report, and a certificate with the least bounds."""
+    query, found, _ = formats.read_all(query_text, stations, daily)
+    everyone = sorted((it for its in found.values() for it in its), key=formats.in_order)
+    kth = everyone[query.k - 1].score if len(everyone) >= query.k else None
+    series = []
+    for name, its in found.items():
+        kind = b"skip" if kth is not None and bound(its) < kth else b"scan"
+        series.append(b"%s %s %d\n" % (kind, name, bound(its)))
+    shown = b"none" if kth is None else b"%d" % kth
+    head = b"extremes certificate 1\nquery %s\nkth %s\n" % (query.text, shown)
+    certificate = head + b"".join(series) + b"end %d\n" % len(series)
+    return formats.report(query, everyone), certificate
+
+
+def changed_number(rng, line):
+    """A line with one number changed, or spelled another way."""
+    numbers = list(re.finditer(rb"[0-9]+", line))
+    if not numbers:
+        return line
+    it = rng.choice(numbers[-2:] if rng.random() < 0.7 else numbers)
+    value = int(it[0])
+    other = b"%0*d" % (len(it[0]), rng.choice((value + 1, value + 1, max(0, value - 1), 0, 2**63, 2**63 - 1)))
+    return line[:it.start()] + (rng.choice((b"0", b"-")) if rng.random() < 0.1 else b"") + other + line[it.end():]
+
+
+def changed_byte(rng, line):
+    column = rng.randrange(len(line) + 1)
+    byte = rng.choice((b"", b" ", b"0", b"-", b"\n", b"\r", b"x", b"\xff", b" all"))
+    return line[:column] + byte + line[column + rng.randrange(2):]
+
+
+def changed(rng, paper):
+    """A paper with one change: of a line, a number, a word or a byte."""
+    lines = paper.splitlines(keepends=True) or [b"\n"]
+    at = rng.randrange(len(lines)) if rng.random() < 0.3 else rng.randrange(2, max(3, len(lines) - 1)) % len(lines)
+    kind = rng.randrange(9)
+    if kind == 0:
+        lines[at:at + 1] = [lines[at]] * 2
+    elif kind < 3:
+        del lines[at]
+    elif kind == 3:
+        lines[at], lines[at - 1] = lines[at - 1], lines[at]
+    elif kind == 4:
+        lines[at] = exchanged(lines[at])
+    elif kind < 8:
+        lines[at] = changed_number(rng, lines[at])
+    else:
+        lines[at] = changed_byte(rng, lines[at])
+    text = b"".join(lines)
+    return text if rng.random() < 0.95 else text[:rng.randrange(len(text) + 1)]
+
+
+def exchanged(line):
+    """A line of a series with its first word exchanged for the other, or of `kth` without its score."""
+    if line.startswith(b"kth "):
+        return b"kth none\n"
+    words = {b"scan": b"skip", b"skip": b"scan"}
+    return words.get(line[:4], line[:4]) + line[4:]
+
+
+def recounted(paper):
+    """A paper whose ranks and whose end line are those of its rows, or of its lines of series."""
+    head, lines = paper.splitlines(keepends=True)[:2], paper.splitlines(keepends=True)[2:]
+    if not lines or not lines[-1].startswith(b"end "):
+        return paper
+    if lines[0].startswith(b"kth "):
+        return b"".join(head + lines[:-1]) + b"end %d\n" % (len(lines) - 2)
+    rows = [b"%d %s" % (rank, it.partition(b" ")[2]) for rank, it in enumerate(lines[:-1], 1)]
+    asked = re.match(rb"query top ([0-9]{1,4}) ", head[1])
+    short = asked and len(rows) < int(asked[1])
+    return b"".join(head + rows) + b"end %d%s\n" % (len(rows), b" all" if short else b"")
+
+
+def change(number, report, certificate):
+    """The papers, most of them with some changes. The number alone decides them."""
+    rng = random.Random(f"papers {number}")
+    made = [report, certificate]
+    for _ in range(rng.choice((0, 1, 1, 1, 2))):
+        at = rng.randrange(2)
+        made[at] = changed(rng, made[at])
+        if rng.random() < 0.7:
+            made[at] = recounted(made[at])
+    return made

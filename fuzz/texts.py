@@ -1,0 +1,178 @@
+"""Made-up texts near valid ones. The number of a case decides all of it."""
+import random
+from collections import namedtuple
+
+Case = namedtuple("Case", "query stations daily options")
+
+ELEMENTS = (b"PRCP", b"SNOW", b"SNWD", b"TMAX", b"TMIN")
+NAMES = (b"ALPHA", b"BRAVO AIRPORT", b"", b"  CHARLIE", b"DELTA \xc3\xa9", b"A NAME OF THIRTY COLUMNS AND MO")
+STATES = (b"  ", b"NY", b"CA", b"\xff ", b"A?")
+IDS = (b"ZZA00000001", b"ZZA00000002", b"ZZB00000001", b"GMA!~000001", b"USW00094728")
+PLACES = ((b" 10.0000", b"  20.0000"), (b" 90.0000", b" 180.0000"), (b"-90.0000", b"-180.0000"),
+          (b"    -0.5", b"  -0.0001"), (b"    12.3", b"      179"))
+FIELDS = (b"", b" ", b"-", b"-0", b"0", b"+1", b"1 ", b"1.5", b".5", b"5.", b"1-", b"--1", b"99999", b"-9999", b"-9998",
+          b"00001", b"a", b"\xb2", b"\t1", b"1e3", b"91", b"-91", b"181", b"90.0001", b"180.0001", b"-999.9", b"0x1")
+BYTES = b" \n\r\t-+.0139aZ?~!\x00\x7f\x80\xff"
+BAD_WORDS = (b"top", b"0", b"1001", b"1000", b"00001", b"366", b"367", b"-1", b"+1", b"1.0", b"99999999999999999999",
+             b"highest", b"lowest", b"sum", b"dry", b"wet", b"box", b"country", b"state", b"station", b"from", b"to",
+             b"TMAX", b"tmax", b"PRCP", b"SNOW", b"SNWD", b"TAVG", b"-0", b"90", b"90.0001", b"-180", b"180.00000",
+             b".5", b"5.", b"2020-02-30", b"2019-02-29", b"0000-01-01", b"0001-01-01", b"9999-12-31", b"2020-7-1",
+             b"2020-07-01x", b"ZZ", b"Z", b"ZZZ", b"\xc3\xa9", b"x\ty")
+GUESSES = (0, 1, 55, -100, 300, 2**31, -2**31)
+
+# The least and greatest value of a month, and whether days are missing or flagged.
+SHAPES = ((-300, 400, True), (0, 30, True), (0, 30, False), (0, 12, False), (-5, 5, True), (0, 0, False),
+          (9, 10, False), (-9999, 99999, True))
+
+
+def station_line(rng, name):
+    latitude, longitude = rng.choice(PLACES)
+    height = rng.choice((b" 100.0", b"-999.9", b"      ", b"   -50"))
+    line = b"%s %s %s %s %s %-30s" % (name, latitude, longitude, height, rng.choice(STATES), rng.choice(NAMES)[:30])
+    end = rng.choice((b"", b"", b" GSN     72201", b" \xff"))
+    return (line + end) if rng.random() < 0.8 else line[:rng.choice((30, 31, 37, 40, 44, 71))]
+
+
+def month_line(rng, name, element, year, month, shape):
+    low, high, gaps = shape
+    groups = []
+    for _ in range(31):
+        kind = rng.random() if gaps else 1
+        value = rng.choice((b"-9999", b"     ")) if kind < 0.05 else b"%5d" % rng.randint(low, high)
+        flags = b" X " if 0.05 < kind < 0.08 else rng.choice((b"   ", b"B S", b"  7"))
+        groups.append(value + flags)
+    line = b"%s%04d%02d%s%s" % (name, year, month, element, b"".join(groups))
+    return line if rng.random() < 0.9 else line[:rng.randint(266, 269)] + b" " * rng.choice((0, 0, 3, 9))
+
+
+def daily_lines(rng, names, element):
+    """Months of some series, most of one element, one after the other, so that windows and spells join."""
+    found = []
+    for _ in range(rng.choice((0, 2, 3, 4, 5, 6, 8))):
+        name = rng.choice(names) if names and rng.random() < 0.93 else rng.choice(IDS)
+        element = element if rng.random() < 0.7 else rng.choice(ELEMENTS + (b"TAVG", b"WT01", b"    "))
+        any_month = rng.randint(12, 12 * 9998)
+        month = rng.choice((12 * 2020 + 1, 12 * 2019 + 10, 12, 12 * 10000 - 3, 12 * 1969 + 10, any_month))
+        shape = rng.choice(SHAPES)
+        for step in range(rng.choice((1, 1, 2, 3, 6))):
+            year, rest = divmod(month - 12 + step, 12)
+            if year + 1 <= 9999:
+                found.append(month_line(rng, name, element, year + 1, rest + 1, shape))
+    if rng.random() < 0.3:
+        rng.shuffle(found)
+    return found if rng.random() < 0.02 else list({it[:21]: it for it in found}.values())
+
+
+def changed_line(rng, line):
+    """A line with a field, a byte or its end changed."""
+    kind = rng.choice((0, 0, 0, 0, 1, 2, 3, 4, 5, 5))
+    if kind == 0 and len(line) >= 266:
+        at, size = rng.choice([(21 + 8 * j, 5) for j in range(31)] + [(11, 4), (15, 2), (0, 11), (17, 4)])
+        return line[:at] + rng.choice(FIELDS).rjust(size)[:size] + line[at + size:]
+    if kind == 0:
+        at, size = rng.choice(((12, 8), (21, 9), (31, 6), (0, 11), (38, 2), (41, 30)))
+        return line[:at] + rng.choice(FIELDS).rjust(size)[:size] + line[at + size:]
+    if kind == 1:
+        return line[:rng.randrange(len(line) + 1)]
+    if kind == 2:
+        return line + rng.choice((b" ", b"x", b"   ", b"\r", b"\r\r", b" \r"))
+    at = rng.randrange(len(line) + 1)
+    middle = bytes([rng.choice(BYTES)]) if kind != 3 else b""
+    return line[:at] + middle + line[at + (kind != 4):]
+
+
+def changed(rng, lines):
+    """A list of lines with one change."""
+    lines = list(lines)
+    at = rng.randrange(len(lines) + 1)
+    kind = rng.randrange(8)
+    if kind == 0 or not lines:
+        lines.insert(at, rng.choice((b"", b"   ", b"\r", b"  \r", b"x", b" \t", b"\r\r")))
+    elif at == len(lines) or kind == 1:
+        lines.append(rng.choice(lines))
+    elif kind == 2:
+        lines[at], lines[0] = lines[0], lines[at]
+    elif kind == 3:
+        del lines[at]
+    else:
+        lines[at] = changed_line(rng, lines[at])
+    return lines
+
+
+def text(rng, lines):
+    """The lines as a text, with one line end or the other, now and then cut."""
+    end = b"\r\n" if rng.random() < 0.15 else b"\n"
+    whole = end.join(lines) + (end if lines and rng.random() < 0.8 else b"")
+    return whole if rng.random() < 0.98 else whole[:rng.randrange(len(whole) + 1)]
+
+
+def date(rng):
+    year = rng.choice((1, 1969, 1970, 2019, 2020, 2020, 2021, 9999))
+    return b"%04d-%02d-%02d" % (year, rng.randint(1, 12), rng.randint(1, 28))
+
+
+def score(rng):
+    """A score, whose element is its last word, but for spells, whose element is PRCP."""
+    kind = rng.choice((b"highest", b"highest", b"lowest", b"sum", b"dry", b"wet"))
+    window = [rng.choice((b"1", b"2", b"3", b"5", b"30", b"031", b"366"))] if kind == b"sum" else []
+    elements = {b"highest": ELEMENTS, b"lowest": ELEMENTS[3:], b"sum": ELEMENTS[:2]}.get(kind)
+    return [kind, *window, *([rng.choice(elements)] if elements else [])]
+
+
+def query_words(rng, names, asked):
+    words = [b"top", rng.choice((b"1", b"2", b"3", b"10", b"100", b"1000", b"007")), *asked]
+    region = rng.randrange(15)
+    if region == 0:
+        edges = [(b"-90", b"-180", b"90", b"180"), (b"-0.5", b"179", b"90.0000", b"-0.0001"),
+                 (b"10", b"20", b"10.0", b"020"), (b"90", b"180", b"90", b"-180"), (b"-1", b"-0.00010", b"13", b"21")]
+        words += [b"box", *rng.choice(edges)]
+    elif region == 1:
+        words += [b"country", rng.choice((b"ZZ", b"GM", b"US", b"DE"))]
+    elif region == 2:
+        words += [b"state", rng.choice((b"NY", b"CA", b"A?", b"??", b"TX"))]
+    elif region == 3:
+        words += [b"station", rng.choice(names or IDS)]
+    if rng.random() < 0.25:
+        first, last = date(rng), date(rng)
+        if rng.random() < 0.9:
+            first, last = sorted((first, last))
+        words += [b"from", first, b"to", last]
+    return words
+
+
+def query(rng, names, asked):
+    words = query_words(rng, names, asked)
+    if rng.random() < 0.2:
+        for _ in range(rng.randint(1, 2)):
+            at = rng.randrange(len(words) + 1)
+            other = [rng.choice(BAD_WORDS)]
+            words[at:at + rng.randrange(2)] = rng.choice(([], other, other, words[at:at + 1] * 2))
+        if rng.random() < 0.2:
+            words = words[:rng.randrange(len(words) + 1)]
+    blank = b" " * (1 if rng.random() < 0.9 else rng.choice((2, 10, 40)))
+    return rng.choice((b"", b"", b" ")) + blank.join(words) + rng.choice((b"", b"", b"  "))
+
+
+def options(rng):
+    found = {}
+    if rng.random() < 0.3:
+        found["workers"] = rng.choice((1, 2, 3, 7, 64) if rng.random() < 0.9 else (0, 65, 2**64 - 1))
+    if rng.random() < 0.3:
+        found["guess"] = rng.choice(GUESSES if rng.random() < 0.9 else (2**31 + 1, -2**31 - 1))
+    return found
+
+
+def case(number):
+    rng = random.Random(number)
+    names = rng.sample(IDS, rng.choice((0, 2, 3, 4, 5, 5, 5)))
+    stations = [station_line(rng, it) for it in names]
+    asked = score(rng)
+    daily = daily_lines(rng, names, asked[-1] if asked[-1] in ELEMENTS else b"PRCP")
+    for _ in range(rng.choice((0, 0, 1, 1, 2))):
+        if rng.random() < 0.3:
+            stations = changed(rng, stations)
+        else:
+            daily = changed(rng, daily)
+    cuts = sorted(rng.randrange(len(daily) + 1) for _ in range(rng.randint(0, 2)))
+    files = [daily[a:b] for a, b in zip([0] + cuts, cuts + [len(daily)])] if daily or rng.random() < 0.5 else []
+    return Case(query(rng, names, asked), text(rng, stations), [text(rng, it) for it in files], options(rng))
