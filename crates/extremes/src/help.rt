@@ -1,28 +1,36 @@
 //! What the program says of itself where it is asked for help.
 
+/// Behind `--stations`.
 pub const STATIONS_HELP: &str = "The station list, ghcnd-stations.txt";
 
+/// Behind `--query`.
 pub const QUERY_HELP: &str = "What to rank, in quotes: 'top 10 highest TMAX'";
 
+/// Behind `--guess`.
 pub const GUESS_HELP: &str =
     "A score that the k-th best is supposed to reach, in tenths of a degree or of a
           millimetre, whole millimetres of snow, or days; negative as --guess=-3";
 
+/// Behind `--workers`.
 pub const WORKERS_HELP: &str = "How many threads look for records, 1 to 64; 4 where it isn't given";
 
+/// Behind `--certificate` of `rank`.
 pub const CERTIFICATE_HELP: &str =
     "A file to write the certificate to: a line for each station series that the query asks
           about, with a bound on its records";
 
+/// The forms of a command line.
 pub const USAGE: &str = "extremes rank --stations <FILE> --query <QUERY> [FILE]...
        extremes check --stations <FILE> --query <QUERY> --report <FILE> --certificate <FILE> [FILE]...
        extremes rank --help
        extremes check --help";
 
+/// Below the subcommands.
 pub const HELP: &str =
     "'extremes rank --help' has the queries, their elements and units, the exit statuses
 and what each refusal means; 'extremes check --help' has the verdicts on papers.";
 
+/// Below the options of `rank`: queries, units, statuses and refusals.
 pub const RANK_HELP: &str = "Queries:
   top K SCORE [REGION] [PERIOD]    K is from 1 to 1000
 
@@ -74,6 +82,7 @@ WHY is the first test that the line fails. In the station list: Short, BadId, Ba
 BadLongitude, BadElevation, Duplicate. In a daily file: Short, TooLong, BadId, BadYear, BadMonth,
 BadValue DAY, DuplicateMonth.";
 
+/// Below the options of `check`: verdicts and statuses.
 pub const CHECK_HELP: &str =
     "Judges the papers of a ranking, whoever made them, from the files alone. The verdict is one line on
 standard output:
