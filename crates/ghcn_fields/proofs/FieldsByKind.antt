@@ -1,19 +1,21 @@
 -- A field of five columns, by the kinds of its bytes.
-use Rattle.std.proofs.Common.{◌≡◌, ℕ, ◌+◌, ◌*◌, ◌/◌, ◌%◌, ◌<◌, ◌≤◌, Bool, true, false, List, [], ◌∷◌, Some, length}
-use Rattle.std.proofs.Common.{get_or, refl, sym, ap, ◌∙◌, arith}
-use Rattle.std.specs.Prelude.{◌&&◌, ◌||◌, ◌==◌, if◌then◌else◌}
+use Rattle.std.proofs.Common.{◌≡◌, ℕ, zero, suc, ◌+◌, ◌*◌, ◌/◌, ◌%◌, ◌^◌, ◌<◌, ◌≤◌, Bool, true, false, List, [], ◌∷◌}
+use Rattle.std.proofs.Common.{Some, length, get_or, refl, sym, ap, ◌∙◌, arith, ℤ, pos}
+use Rattle.std.specs.Prelude.{◌&&◌, ◌||◌, ◌==◌, if◌then◌else◌, nat_lt, neg_ℤ}
 use Rattle.std.specs.Char.{is_ascii_digit}
 use Rattle.std.specs.List.{list_any}
 use Rattle.std.proofs.lemmas.List.{drop_more, drop_all}
+use Rattle.std.proofs.lemmas.Bool.{lt-ltb}
 use Rattle.std.proofs.lemmas.Bool.Decides.{nat_tests}
 use Rattle.ghcn_fields.specs.declared.field.Field.{Field}
 use Rattle.ghcn_fields.specs.declared.field.Field.TheVariants.{Blank, Bad}
 use Rattle.ghcn_fields.specs.declared.value.Form.{Form}
 use Rattle.ghcn_fields.specs.declared.value.Form.TheVariants.{Blanks, Plain, Negative, Malformed}
 use Rattle.ghcn_fields.specs.Bytes.{is_blank}
-use Rattle.ghcn_fields.specs.Numbers.{field_of, with_sign, int_field}
+use Rattle.ghcn_fields.specs.Numbers.{field_of, with_sign, int_field, is_i32, is_bad, number_or}
 use Rattle.ghcn_fields.specs.FieldForms.{digit_of, may_precede, is_minus, is_number_form}
 use Rattle.ghcn_fields.specs.FieldForms.{kind_of, kind_may_precede, form_of_five, form_of_kinds, IsSum}
+use Rattle.ghcn_fields.specs.FieldForms.{is_malformed, number_by}
 use Rattle.ghcn_fields.proofs.FieldsByForm.{field_by_form, int_field-form}
 
 -- a digit is at most 9
@@ -162,3 +164,20 @@ form_field s f bytes said is =
     ∙ form-field (is_number_form bytes) (list_any is_minus bytes) (is_blank bytes) (s % 131072)
     ∙ ap (λ (n : ℕ). field_by_form (is_number_form bytes) (list_any is_minus bytes) n (is_blank bytes)) said.magnitude
     ∙ sym (int_field-form bytes)
+
+-- five digits and more fit
+fits : (n : ℕ) → n < 131072 → nat_lt n (2 ^ 31) ≡ true
+fits n small = lt-ltb n (2 ^ 31) (omega (arith, small))
+
+-- so does their number below zero
+fits-negative : (n : ℕ) → n < 131072 → is_i32 (neg_ℤ (pos n)) ≡ true
+fits-negative zero small = refl
+fits-negative (suc n) small = fits n (omega (arith, small))
+
+-- what a form and a magnitude below that are as a field
+pub form-cases : (f : Form) (n : ℕ) (other : ℤ) → n < 131072
+    → (is_malformed f ≡ is_bad (field_of_form f n)) × (number_by f n other ≡ number_or other (field_of_form f n))
+form-cases Blanks n other small = (refl, refl)
+form-cases Plain n other small = rw (fits n small) (refl, refl)
+form-cases Negative n other small = rw (fits-negative n small) (refl, refl)
+form-cases Malformed n other small = (refl, refl)

@@ -4,12 +4,12 @@ use Rattle.std.proofs.Common.{sym, ap, ◌∙◌, arith}
 use Rattle.std.specs.Prelude.{map, ◌==◌}
 use Rattle.std.specs.List.{slice_split, position_or_len, enumerate_from}
 use Rattle.std.specs.Str.Lines.{strip_carriage_return}
-use Rattle.std.proofs.lemmas.Bool.Decides.{nat_tests}
 use Rattle.std.proofs.lemmas.List.Splits.{slice_split_none, slice_split_first, length-slice_split}
 use Rattle.std.proofs.lemmas.Bool.{false_from_ne_true}
 use Rattle.std.proofs.lemmas.List.Sums.{position_or_len_is, fails_before_first}
 use Rattle.memchr.specs.Find.{IsFirstByte, is_byte}
 use Rattle.ghcn_fields.specs.Lines.{lines, without_empty_last}
+use Rattle.ghcn_fields.specs.LineLaws.{last_stays}
 
 -- a line feed
 abbrev is_line_feed : ℕ → Bool
@@ -19,10 +19,6 @@ is_line_feed b = b == 10
 keeps : (x : List ℕ) (ys : List (List ℕ)) → 0 < length ys → without_empty_last (x ∷ ys) ≡ x ∷ without_empty_last ys
 keeps x [] h = absurd (omega arith)
 keeps x (y ∷ ys) h = refl
-
--- a last part that isn't empty stays
-alone : (x : List ℕ) → 0 < length x → without_empty_last (x ∷ []) ≡ x ∷ []
-alone x h = grind (arith, nat_tests)
 
 -- where the first line feed is, the first line ends
 pub lines-first : (bytes : List ℕ) (end : ℕ) → IsFirstByte (is_byte 10) bytes (Some end)
@@ -51,7 +47,7 @@ lines-last bytes some nowhere =
     λ k d lt. fails_before_first is_line_feed bytes k d (omega (arith, at)) in
     ap (λ (ps : List (List ℕ)). map strip_carriage_return (without_empty_last ps))
     (slice_split_none is_line_feed bytes none)
-    ∙ ap (map strip_carriage_return) (alone bytes some)
+    ∙ ap (map strip_carriage_return) (last_stays bytes some)
 
 -- the numbered lines of a text are its first line, and those of what is left
 pub lines_left : (given : ℕ) (all : List (ℕ × List ℕ)) (text line rest shown left : List ℕ)

@@ -12,3 +12,4 @@ pub mod FirstLine
 pub mod Examples
 pub mod FieldsByForm
 pub mod FieldsByKind
+pub mod Ordered

@@ -1,6 +1,6 @@
 -- A number field by its columns: which bytes may stand side by side, and what each adds to the number.
-use Rattle.std.specs.Prelude.{◌≡◌, ℕ, ◌+◌, ◌*◌, ◌-◌, ◌/◌, ◌%◌, ◌<◌, Bool, false, ◌&&◌, ◌||◌, ◌==◌, if◌then◌else◌}
-use Rattle.std.specs.Prelude.{List, [], ◌∷◌}
+use Rattle.std.specs.Prelude.{◌≡◌, ℕ, ◌+◌, ◌*◌, ◌-◌, ◌/◌, ◌%◌, ◌<◌, Bool, true, false, ◌&&◌, ◌||◌, ◌==◌}
+use Rattle.std.specs.Prelude.{if◌then◌else◌, List, [], ◌∷◌, ℤ, pos, neg_ℤ}
 use Rattle.std.specs.Char.{is_ascii_digit}
 use Rattle.std.specs.List.{list_any}
 use Rattle.ghcn_fields.specs.declared.value.Form.{Form}
@@ -61,3 +61,17 @@ pub record IsSum (s : ℕ) (bytes : List ℕ) : Type 0 where
   pub magnitude : s % 131072 ≡ digits_behind 0 bytes
   pub kinds : s / 131072 < 1024
   pub form : form_of_kinds (s / 131072) ≡ form_of_field bytes
+
+-- a form of bad fields
+abbrev pub is_malformed : Form → Bool
+is_malformed Blanks = false
+is_malformed Plain = false
+is_malformed Negative = false
+is_malformed Malformed = true
+
+-- the number of a magnitude in a field of this form, or another one where it has none
+abbrev pub number_by : Form → ℕ → ℤ → ℤ
+number_by Blanks n other = other
+number_by Plain n other = pos n
+number_by Negative n other = neg_ℤ (pos n)
+number_by Malformed n other = other

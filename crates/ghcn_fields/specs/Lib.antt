@@ -1,5 +1,6 @@
 pub mod Bytes
 pub mod Lines
+pub mod LineLaws
 pub mod Faults
 pub mod FaultLaws
 pub mod Numbers

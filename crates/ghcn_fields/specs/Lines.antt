@@ -1,6 +1,7 @@
 -- The lines of a text and the columns of a line.
-use Rattle.std.specs.Prelude.{ℕ, suc, ◌-◌, ◌==◌, if◌then◌else◌, List, [], ◌∷◌, ◌++◌, length, take, drop, map, replicate}
-use Rattle.std.specs.List.{slice_split, enumerate_from}
+use Rattle.std.specs.Prelude.{◌≡◌, ℕ, suc, ◌-◌, ◌==◌, false, ◌⊎◌, if◌then◌else◌, List, [], ◌∷◌, ◌++◌, length, take}
+use Rattle.std.specs.Prelude.{drop, map, replicate}
+use Rattle.std.specs.List.{slice_split, enumerate_from, AllByRecursion}
 use Rattle.std.specs.Str.Lines.{strip_carriage_return}
 use Rattle.ghcn_fields.specs.Bytes.{blank_byte}
 
@@ -14,6 +15,14 @@ without_empty_last (x ∷ y ∷ more) = x ∷ without_empty_last (y ∷ more)
 -- return at the end of a line is taken off
 abbrev pub lines : List ℕ → List (List ℕ)
 lines text = map strip_carriage_return (without_empty_last (slice_split (λ b. b == 10) text))
+
+-- no byte of a text is a line feed
+abbrev pub HasNoLineFeed : List ℕ → Type 0
+HasNoLineFeed text = AllByRecursion (λ b. (b == 10) ≡ false) text
+
+-- the last byte of a text, if it has one, is a line feed
+abbrev pub EndsLine : List ℕ → Type 0
+EndsLine text = (text ≡ []) ⊎ ((front : List ℕ) × (text ≡ front ++ 10 ∷ []))
 
 -- each line with its number, from 1
 abbrev pub numbered_lines : List ℕ → List (ℕ × List ℕ)

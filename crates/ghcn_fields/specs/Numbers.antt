@@ -71,3 +71,15 @@ scaled_field places bytes = field_by (signed_by (decimal_number places)) bytes
 abbrev pub up_to : ℕ → Option ℕ → Option ℕ
 up_to limit None = None
 up_to limit (Some n) = if nat_le n limit then Some n else None
+
+-- a field is neither blank nor a number
+abbrev pub is_bad : Field → Bool
+is_bad Blank = false
+is_bad (Number z) = false
+is_bad Bad = true
+
+-- the number of a field, or another one where it has none
+abbrev pub number_or : ℤ → Field → ℤ
+number_or other Blank = other
+number_or other (Number z) = z
+number_or other Bad = other

@@ -1,9 +1,9 @@
 //! The lines of a text. A line feed ends a line, and a carriage return before it belongs to the end.
 
-ghost use Rattle.std.specs.Prelude.{◌≡◌};
+ghost use Rattle.std.specs.Prelude.{◌≡◌, ◌++◌, ◌∷◌, IfSome, IsNone};
 ghost use Rattle.std.specs.Str.Lines.{strip_carriage_return};
 ghost use Rattle.ghcn_fields.specs.Bytes as bytes;
-ghost use Rattle.ghcn_fields.specs.Lines.{numbered_lines};
+ghost use Rattle.ghcn_fields.specs.Lines.{numbered_lines, HasNoLineFeed};
 
 use memchr::memchr;
 use std::marker::Model;
@@ -71,11 +71,22 @@ pub fn is_blank(line: &[u8]) -> bool
     line.iter().all(|byte| *byte == b' ')
 }
 
-fn without_return(line: &[u8]) -> &[u8]
+/// A line without one carriage return at its end.
+pub fn without_return(line: &[u8]) -> &[u8]
     ensures { result.now ≡ strip_carriage_return line.now }
 {
     match line {
         [front @ .., b'\r'] => front,
         _ => line,
     }
+}
+
+/// What stands before the first line feed of a text, and what follows it.
+pub fn split_line(text: &[u8]) -> Option<(&[u8], &[u8])>
+    ensures parts { IfSome result (λ parts. text.now ≡ parts.0.now ++ 10 ∷ parts.1.now) }
+    ensures first { IfSome result (λ parts. HasNoLineFeed parts.0.now) }
+    ensures none { IsNone result → HasNoLineFeed text.now }
+{
+    let end = memchr(b'\n', text)?;
+    Some((&text[..end], &text[end + 1..]))
 }

@@ -133,6 +133,12 @@ fn value_columns(rt: HostRuntime) {
     ];
     for (column, found) in cases {
         assert_eq!(rt; value_field(column), found, "at {column:?}");
+        let parts = match found {
+            Field::Number(number) => (false, number),
+            Field::Blank => (false, 7),
+            Field::Bad => (true, 7),
+        };
+        assert_eq!(rt; value_or(column, 7), parts, "or 7 at {column:?}");
     }
 }
 

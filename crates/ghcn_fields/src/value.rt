@@ -7,6 +7,7 @@
 ghost use Rattle.std.specs.Prelude.{◌≡◌, ◌+◌, ◌*◌, ◌<◌};
 ghost use Rattle.ghcn_fields.specs.Numbers as numbers;
 ghost use Rattle.ghcn_fields.specs.FieldForms.{digit_of, kind_of, form_of_kinds, IsSum};
+ghost use Rattle.ghcn_fields.specs.FieldForms.{is_malformed, number_by};
 
 use crate::field::{Field, signed_field};
 
@@ -37,6 +38,43 @@ pub fn value_field(column: &[u8; 5]) -> Field
         Form::Plain => signed_field(false, magnitude),
         Form::Negative => signed_field(true, magnitude),
         Form::Malformed => Field::Bad,
+    }
+}
+
+/// Reads such a number as `value_field` does, with no branch at all: whether the field is bad, and its
+/// number, or another one where it has none.
+pub fn value_or(column: &[u8; 5], other: i32) -> (bool, i32)
+    ensures bad { result.0 ≡ numbers.is_bad (numbers.int_field column.now) }
+    ensures number { result.1 ≡ numbers.number_or other (numbers.int_field column.now) }
+{
+    let sum = sum_of(column);
+    let form = form_of(sum / KINDS);
+    (is_malformed(form), number_by(form, sum % KINDS, other))
+}
+
+/// Whether a field of this form is bad.
+fn is_malformed(form: Form) -> bool
+    ensures { result ≡ is_malformed form }
+{
+    matches!(form, Form::Malformed)
+}
+
+/// The number of this magnitude in a field of this form, or another one where it has none. A `match`
+/// would be a jump to one of four places.
+fn number_by(form: Form, magnitude: u32, other: i32) -> i32
+    requires { magnitude < 131072 }
+    ensures { result ≡ number_by form magnitude other }
+{
+    let positive = magnitude as i32;
+    let number = if matches!(form, Form::Negative) {
+        -positive
+    } else {
+        positive
+    };
+    if matches!(form, Form::Plain | Form::Negative) {
+        number
+    } else {
+        other
     }
 }
 
