@@ -113,7 +113,7 @@ at_most (suc k) [] = omega arith
 at_most (suc k) (x ∷ xs) = omega (arith, at_most k xs)
 
 -- what a line says of a day is readable
-reading-right : (line : List ℕ) (j : ℕ) → is_reading (reading line j) ≡ true
+pub reading-right : (line : List ℕ) (j : ℕ) → is_reading (reading line j) ≡ true
 reading-right line j =
     field_small (columns (14 + 8 * j) (18 + 8 * j) line)
     (omega (

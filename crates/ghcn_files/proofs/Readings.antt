@@ -1,10 +1,9 @@
 -- The days of a line, as they are read one after the other.
 use Rattle.std.proofs.Common.{◌≡◌, ℕ, suc, ◌+◌, Bool, true, false, cond, List, map, Option, Some, None, refl, sym, ap}
 use Rattle.std.proofs.Common.{◌∙◌}
-use Rattle.std.specs.Prelude.{not, ℤ, if◌then◌else◌}
+use Rattle.std.specs.Prelude.{not, ◌||◌, ℤ, if◌then◌else◌}
 use Rattle.std.specs.List.{range_with_len}
 use Rattle.ghcn_fields.specs.declared.field.Field.{Field}
-use Rattle.ghcn_fields.specs.declared.field.Field.TheVariants.{Blank, Number, Bad}
 use Rattle.ghcn_fields.specs.Faults.{first_failing}
 use Rattle.ghcn_files.specs.declared.month.Reading.{Reading}
 use Rattle.ghcn_files.specs.declared.fault.LineWhy.{LineWhy}
@@ -88,3 +87,15 @@ fails line a m n e is =
     ap (tests_from line a) e
     ∙ ap (λ (b : Bool). cond (not b) (tests_from line (a + 1) n) (Some (BadValue a)))
     (was_none (is_bad (value_field line a)) (reading line a) is)
+
+-- a day whose value isn't bad passes its test
+pub passes-fine : (line : List ℕ) (a m n : ℕ) → m ≡ suc n → is_bad (value_field line a) ≡ false
+    → tests_from line a m ≡ tests_from line (a + 1) n
+unfolding tests_from
+passes-fine line a m n e fine =
+    ap (tests_from line a) e ∙ ap (λ (b : Bool). cond (not b) (tests_from line (a + 1) n) (Some (BadValue a))) fine
+
+-- where neither is true, both are false
+pub neither : (x y : Bool) → (x || y) ≡ false → (x ≡ false) × (y ≡ false)
+neither false y e = (refl, e)
+neither true y e = absurd cc

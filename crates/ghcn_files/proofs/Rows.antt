@@ -1,19 +1,31 @@
 -- A row, a day at a time.
-use Rattle.std.proofs.Common.{◌≡◌, ℕ, zero, suc, ◌+◌, ◌<◌, ◌≤◌, ◌^◌, true, List, [], ◌∷◌, length, get_or, set, Option}
-use Rattle.std.proofs.Common.{Some, None, inl, inr, refl, sym, ap, subst, ◌∙◌, arith, ℤ, pos, replicate}
-use Rattle.std.specs.Prelude.{◌==◌, bit_or}
+use Rattle.std.proofs.Common.{◌≡◌, ℕ, zero, suc, ◌+◌, ◌<◌, ◌≤◌, ◌^◌, Bool, true, false, cond, List, length}
+use Rattle.std.proofs.Common.{get_or, set, Option, Some, None, inl, inr, refl, sym, ap, subst, ◌∙◌, arith, ℤ, pos}
+use Rattle.std.proofs.Common.{replicate}
+use Rattle.std.specs.Prelude.{◌==◌, ◌&&◌, ◌||◌, not, bit_or, neg_ℤ, int_le, nat_lt, if◌then◌else◌}
+use Rattle.std.specs.Option.{option_and_then, option_map_or}
+use Rattle.std.specs.Ordering.{int_eq}
+use Rattle.std.specs.Int.Bits.{or_zero_r}
 use Rattle.std.specs.Int.{bit_at}
 use Rattle.std.proofs.Math.Pow.{pow-lt}
-use Rattle.std.proofs.lemmas.Bool.{cases_lt}
-use Rattle.std.proofs.lemmas.List.{get_or-set_same, get_or-set_other, length-set}
+use Rattle.std.proofs.lemmas.Bool.{cases_lt, cases_eq, and_parts}
+use Rattle.std.proofs.lemmas.Bool.Decides.{Decides-int_eq}
+use Rattle.std.proofs.lemmas.List.{get_or-set_same, get_or-set_other, get_or_past, length-set}
 use Rattle.std.proofs.lemmas.List.FromFn.{get_or-map-range_with_len}
 use Rattle.std.proofs.lemmas.Nat.{or_lt}
 use Rattle.std.proofs.lemmas.Nat.Bits.{bit_at_or, bit_at-lt, bit_at-zero, bit_at-pow_same, bit_at-pow_other}
 use Rattle.jiff_core.specs.Calendar.{days_in_month}
 use Rattle.ghcn_files.specs.declared.element.Element.{Element}
 use Rattle.ghcn_files.specs.declared.month.Head.{Head}
-use Rattle.ghcn_files.specs.Months.{reading, days_of_group, head_of, month_of}
-use Rattle.ghcn_files.specs.Rows.{if_so, value_at, no_reading, value_within, line_value, AreDays, IsRowOf}
+use Rattle.ghcn_fields.specs.declared.field.Field.{Field}
+use Rattle.ghcn_fields.specs.declared.field.Field.TheVariants.{Blank, Number, Bad}
+use Rattle.ghcn_fields.specs.Numbers.{number_or}
+use Rattle.ghcn_files.specs.Elements.{may_be_negative, least_of}
+use Rattle.ghcn_files.specs.StationLines.{unless_missing}
+use Rattle.ghcn_files.specs.Months.{reading, value_field, is_flagged, is_readable, days_of_group, head_of, month_of}
+use Rattle.ghcn_files.specs.Rows.{if_so, if_possible, value_at, no_reading, value_within, line_value, AreDays, IsRowOf}
+use Rattle.ghcn_files.specs.Rows.{AreValues, value_from}
+use Rattle.ghcn_files.proofs.Ranges.{reading-right}
 
 -- a word and values have what the first so many of some days have
 pub record HasFirst (day : ℕ → Option ℤ) (i w : ℕ) (vs : List ℤ) : Type 0 where
@@ -76,6 +88,34 @@ module _ (day : ℕ → Option ℤ) (i w : ℕ) (vs : List ℤ) (is : HasFirst d
         get_or-set_other vs i j v (pos 0) ne ∙ is.zeros j (sym (bit-other j ne) ∙ none);
   }
 
+  -- a 0 changes nothing
+  cleared : HasFirst day i w (set vs i (pos 0))
+  cleared = record {
+    fits = is.fits;
+    long = length-set vs i (pos 0) ∙ is.long;
+    holds = λ j lt.
+        ap (if_so (bit_at w j == 1)) (get_or-set_other vs i j (pos 0) (pos 0) (omega (arith, lt))) ∙ is.holds j lt;
+    later = is.later;
+    zeros = λ j none. elim (cases_eq j i) [
+      | inl here ↦ elim (cases_lt i 32) [
+        | inl inside ↦ ap (λ (k : ℕ). get_or (set vs i (pos 0)) k (pos 0)) here
+            ∙ get_or-set_same vs i (pos 0) (pos 0) (omega (arith, inside, is.long))
+        | inr past ↦ get_or_past (set vs i (pos 0)) j (pos 0)
+            (omega (arith, past, here, is.long, length-set vs i (pos 0)))
+      ]
+      | inr other ↦ get_or-set_other vs i j (pos 0) (pos 0) other ∙ is.zeros j none
+    ];
+  }
+
+-- a day is set where it counts, and else cleared
+pub first-step : (day : ℕ → Option ℤ) (i w : ℕ) (vs : List ℤ) (t : Bool) (v : ℤ) → HasFirst day i w vs
+    → day i ≡ if_so t v → i < 31
+    → HasFirst day (i + 1) (bit_or w (if t then 2 ^ i else 0)) (set vs i (if t then v else pos 0))
+first-step day i w vs true v is some lt = first-set day i w vs is v some lt
+first-step day i w vs false v is none lt =
+    subst (λ (u : ℕ). HasFirst day (i + 1) u (set vs i (pos 0))) (sym (or_zero_r w))
+    (first-passed day i w (set vs i (pos 0)) (cleared day i w vs is) none)
+
 -- at a place of zeros stands 0
 zero_at : (n j : ℕ) → get_or (replicate n (pos 0)) j (pos 0) ≡ pos 0
 zero_at zero j = refl
@@ -126,4 +166,52 @@ line-row element line head count w vs is many days = record {
         ∙ ap (λ (n : ℕ). value_within n element j (get_or (month_of element line).days j no_reading)) same;
     zeros = days.zeros;
   };
+}
+
+-- what stands for a missing value is below the least of each element
+below_least : (e : Element) → if_so (int_le (least_of e) (neg_ℤ (pos 9999))) (neg_ℤ (pos 9999)) ≡ None
+below_least e = by_sign (may_be_negative e)
+  where
+    by_sign : (negative : Bool)
+        → if_so (int_le (cond negative (neg_ℤ (pos 9998)) (pos 0)) (neg_ℤ (pos 9999))) (neg_ℤ (pos 9999)) ≡ None
+    by_sign true = refl
+    by_sign false = refl
+
+-- a value of a line that isn't below the least of its element is one that counts
+from_least : (e : Element) (z : ℤ) (missing : Bool) → int_eq z (neg_ℤ (pos 9999)) ≡ missing
+    → option_map_or is_readable (cond missing None (Some z)) true ≡ true
+    → if_so (int_le (least_of e) z) z ≡ option_and_then (if_possible e) (cond missing None (Some z))
+from_least e z true same fine =
+    let is : z ≡ neg_ℤ (pos 9999) = (Decides-int_eq z (neg_ℤ (pos 9999))).0 same in
+    ap (λ (x : ℤ). if_so (int_le (least_of e) x) x) is ∙ below_least e
+from_least e z false same fine = by_sign (may_be_negative e)
+  where
+    by_sign : (negative : Bool) → if_so (int_le (cond negative (neg_ℤ (pos 9998)) (pos 0)) z) z
+        ≡ if_so (negative || int_le (pos 0) z) z
+    by_sign true = ap (λ (t : Bool). if_so t z) (and_parts _ _ fine).0
+    by_sign false = refl
+
+-- so is the field of a day that counts, and no other
+by_parts : (e : Element) (within flagged : Bool) (f : Field) (value : ℤ)
+    → option_map_or is_readable (unless_missing f) true ≡ true
+    → value ≡ cond (within && not flagged) (number_or (neg_ℤ (pos 9999)) f) (neg_ℤ (pos 9999))
+    → if_so (int_le (least_of e) value) value
+    ≡ cond within (cond flagged None (option_and_then (if_possible e) (unless_missing f))) None
+by_parts e false flagged f value fine is = ap (λ (x : ℤ). if_so (int_le (least_of e) x) x) is ∙ below_least e
+by_parts e true true f value fine is = ap (λ (x : ℤ). if_so (int_le (least_of e) x) x) is ∙ below_least e
+by_parts e true false Blank value fine is = ap (λ (x : ℤ). if_so (int_le (least_of e) x) x) is ∙ below_least e
+by_parts e true false Bad value fine is = ap (λ (x : ℤ). if_so (int_le (least_of e) x) x) is ∙ below_least e
+by_parts e true false (Number z) value fine is =
+    ap (λ (x : ℤ). if_so (int_le (least_of e) x) x) is
+    ∙ from_least e z (int_eq z (neg_ℤ (pos 9999))) refl fine
+
+-- the values of a line from the least on are those that count
+pub line-days : (e : Element) (count : ℕ) (line : List ℕ) (raw : List ℤ) (w : ℕ) (vs : List ℤ)
+    → AreValues count line raw → AreDays (value_from (least_of e) raw) w vs → AreDays (line_value e count line) w vs
+line-days e count line raw w vs are days = record {
+  fits = days.fits;
+  holds = λ j lt. days.holds j lt
+      ∙ by_parts e (nat_lt j count) (is_flagged line (j + 1)) (value_field line (j + 1)) (get_or raw j (pos 0))
+      (reading-right line (j + 1)) (are j lt);
+  zeros = days.zeros;
 }

@@ -1,5 +1,5 @@
 -- The five elements and their codes.
-use Rattle.std.specs.Prelude.{ℕ, Bool, true, false, ◌==◌, List, [], ◌∷◌, codes, Option}
+use Rattle.std.specs.Prelude.{ℕ, Bool, true, false, ◌==◌, List, [], ◌∷◌, codes, Option, ℤ, pos, neg_ℤ, if◌then◌else◌}
 use Rattle.std.specs.List.{find}
 use Rattle.ghcn_fields.specs.Bytes.{same_bytes}
 use Rattle.ghcn_files.specs.declared.element.Element.{Element}
@@ -40,3 +40,7 @@ may_be_negative Snow = false
 may_be_negative Snwd = false
 may_be_negative Tmax = true
 may_be_negative Tmin = true
+
+-- the least value that an element can have: five columns hold no number below -9999, which stands for a missing one
+abbrev pub least_of : Element → ℤ
+least_of e = if may_be_negative e then neg_ℤ (pos 9998) else pos 0

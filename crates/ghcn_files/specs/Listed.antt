@@ -1,5 +1,5 @@
 -- The listed stations of a text, or the first line with a fault.
-use Rattle.std.specs.Prelude.{◌≡◌, ℕ, ◌≤◌, ◌^◌, Bool, not, nat_lt, if◌then◌else◌, List, [], ◌∷◌, length, map}
+use Rattle.std.specs.Prelude.{◌≡◌, ℕ, ◌≤◌, ◌^◌, Bool, not, nat_lt, if◌then◌else◌, List, length, map}
 use Rattle.std.specs.Prelude.{Option, None, Some, Result, Ok, Err, filter, ⊤, IsTrue}
 use Rattle.std.specs.List.{list_all, list_any, IsDistinct, position}
 use Rattle.std.specs.Option.{option_or, option_map}

@@ -1,16 +1,17 @@
 -- A month's values as a row: a word of the days whose values count, and the values of those days.
 use Rattle.std.specs.Prelude.{◌≡◌, ℕ, ◌+◌, ◌<◌, ◌^◌, ◌==◌, ◌||◌, Bool, false, if◌then◌else◌, List, get_or, Option}
-use Rattle.std.specs.Prelude.{None, Some, Result, Ok, Err, ℤ, pos, int_le, nat_lt}
+use Rattle.std.specs.Prelude.{None, Some, Result, Ok, Err, ℤ, pos, neg_ℤ, int_le, nat_lt, ◌&&◌, not}
 use Rattle.std.specs.Int.{bit_at}
 use Rattle.std.specs.Option.{option_and_then}
 use Rattle.jiff_core.specs.Calendar.{days_in_month}
+use Rattle.ghcn_fields.specs.Numbers.{number_or}
 use Rattle.ghcn_files.specs.declared.element.Element.{Element}
 use Rattle.ghcn_files.specs.declared.month.Month.{Month}
 use Rattle.ghcn_files.specs.declared.month.Reading.{Reading}
 use Rattle.ghcn_files.specs.declared.row.MonthRow.{MonthRow}
 use Rattle.ghcn_files.specs.declared.fault.LineWhy.{LineWhy}
 use Rattle.ghcn_files.specs.Elements.{may_be_negative}
-use Rattle.ghcn_files.specs.Months.{reading, read_month, IsMonth}
+use Rattle.ghcn_files.specs.Months.{reading, value_field, is_flagged, read_month, IsMonth}
 
 -- x, where the test passes
 abbrev pub if_so : {A : Type 0} → Bool → A → Option A
@@ -70,3 +71,19 @@ IsRead line (Err why) = read_month line ≡ Err why
 -- the value of a day at a place, from 0, of a line, in a month with so many days
 abbrev pub line_value : Element → ℕ → List ℕ → ℕ → Option ℤ
 line_value e days line j = value_within days e j (reading line (j + 1))
+
+-- the value of a day at a place, from 0, of a line in a month with so many days; -9999 stands for a missing one, a
+-- flagged one, and a day that the month lacks
+abbrev pub value_or_missing : ℕ → List ℕ → ℕ → ℤ
+value_or_missing days line j =
+    if nat_lt j days && not (is_flagged line (j + 1))
+    then number_or (neg_ℤ (pos 9999)) (value_field line (j + 1))
+    else neg_ℤ (pos 9999)
+
+-- these values of the 31 days of a line
+abbrev pub AreValues : ℕ → List ℕ → List ℤ → Type 0
+AreValues days line values = (j : ℕ) → j < 31 → get_or values j (pos 0) ≡ value_or_missing days line j
+
+-- the value at a place, if it isn't below a least one
+abbrev pub value_from : ℤ → List ℤ → ℕ → Option ℤ
+value_from least values j = if_so (int_le least (get_or values j (pos 0))) (get_or values j (pos 0))

@@ -1,5 +1,5 @@
 -- A line of the station list: its fields, and the first test that it fails by itself.
-use Rattle.std.specs.Prelude.{ℕ, Bool, true, false, ◌&&◌, ◌==◌, not, nat_le, if◌then◌else◌, List, [], ◌∷◌, length, map}
+use Rattle.std.specs.Prelude.{ℕ, Bool, false, ◌&&◌, ◌==◌, not, nat_le, if◌then◌else◌, List, [], ◌∷◌, length, map}
 use Rattle.std.specs.Prelude.{Option, None, Some, ℤ, pos, neg_ℤ, int_le}
 use Rattle.std.specs.List.{list_all}
 use Rattle.std.specs.Ordering.{int_eq}
@@ -8,6 +8,7 @@ use Rattle.ghcn_fields.specs.declared.field.Field.TheVariants.{Blank, Number, Ba
 use Rattle.ghcn_fields.specs.Lines.{columns}
 use Rattle.ghcn_fields.specs.Faults.{first_failing}
 use Rattle.ghcn_fields.specs.Numbers.{scaled_field}
+pub use Rattle.ghcn_fields.specs.Numbers.{is_bad}
 use Rattle.ghcn_files.specs.declared.station.StationId.{StationId}
 use Rattle.ghcn_files.specs.declared.station.Station.{Station}
 use Rattle.ghcn_files.specs.declared.fault.StationWhy.{StationWhy}
@@ -24,12 +25,6 @@ abbrev pub is_number_within : ℤ → ℤ → Field → Bool
 is_number_within low high Blank = false
 is_number_within low high (Number z) = int_le low z && int_le z high
 is_number_within low high Bad = false
-
--- a field is neither blank nor a number
-abbrev pub is_bad : Field → Bool
-is_bad Blank = false
-is_bad (Number z) = false
-is_bad Bad = true
 
 -- the number of a field that has one (a field that was tested has one; any other reads as 0)
 abbrev pub number_of : Field → ℤ

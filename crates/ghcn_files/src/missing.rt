@@ -6,7 +6,7 @@ ghost use Rattle.ghcn_files.specs.StationLines as stations;
 use ghcn_fields::Field;
 
 /// The number that stands for a missing one.
-const MISSING: i32 = -9999;
+pub(crate) const MISSING: i32 = -9999;
 
 /// The number of a field, where it has one and that isn't missing.
 pub(crate) fn unless_missing(field: Field) -> Option<i32>

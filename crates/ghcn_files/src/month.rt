@@ -150,7 +150,7 @@ fn number_up_to(limit: u16, field: &[u8]) -> Option<u16>
 }
 
 /// What a line says of each day, or which day's value, the first such one, is no number.
-fn readings(line: &[u8]) -> Result<[Reading; 31], LineWhy>
+pub(crate) fn readings(line: &[u8]) -> Result<[Reading; 31], LineWhy>
     requires { 266 ≤ length line.now }
     ensures { result ≡ months.unless (months.days_why line.now)
         (map (months.reading line.now) months.days_of_group) }
@@ -169,7 +169,7 @@ fn readings(line: &[u8]) -> Result<[Reading; 31], LineWhy>
 }
 
 /// What a line says of a day, from 0, unless its value is no number.
-pub(crate) fn reading_of(line: &[u8], day: usize) -> Option<Reading>
+fn reading_of(line: &[u8], day: usize) -> Option<Reading>
     requires long { 266 ≤ length line.now }
     requires day { day < 31 }
     ensures { result ≡ (if stations.is_bad (months.value_field line.now (day + 1)) then None
@@ -186,7 +186,7 @@ pub(crate) fn reading_of(line: &[u8], day: usize) -> Option<Reading>
 }
 
 /// The five columns of a day's value, from 0.
-fn value_column(line: &[u8], day: usize) -> &[u8; 5]
+pub(crate) fn value_column(line: &[u8], day: usize) -> &[u8; 5]
     requires long { 266 ≤ length line.now }
     requires day { day < 31 }
     ensures { result.now ≡ columns (14 + 8 * (day + 1)) (18 + 8 * (day + 1)) line.now }
@@ -198,7 +198,7 @@ fn value_column(line: &[u8], day: usize) -> &[u8; 5]
 }
 
 /// Whether the quality flag of a day, from 0, isn't a blank.
-fn is_flagged(line: &[u8], day: usize) -> bool
+pub(crate) fn is_flagged(line: &[u8], day: usize) -> bool
     requires { day < 31 }
     ensures { result ≡ months.is_flagged line.now (day + 1) }
 {

@@ -1,13 +1,15 @@
 //! Months of daily values as rows: what one line of a daily file says, without what doesn't count.
 
-ghost use Rattle.std.specs.Prelude.{◌≡◌, ◌≤◌, ◌<◌, ◌^◌, length, Some, None, IfOk, IfErr, pos, int_le, ◌||◌};
-ghost use Rattle.ghcn_files.specs.Elements.{may_be_negative};
+ghost use Rattle.std.specs.Prelude.{◌≡◌, ◌≤◌, ◌<◌, ◌+◌, ◌^◌, length, Some, None, IfOk, IfErr, false, ◌&&◌, not, nat_lt};
+ghost use Rattle.std.specs.Prelude.{if◌then◌else◌};
+ghost use Rattle.ghcn_files.specs.Elements.{least_of};
 ghost use Rattle.ghcn_files.specs.Months as months;
 ghost use Rattle.ghcn_files.specs.Rows as rows;
 
-use crate::month::{DAYS, UP_TO_ELEMENT, head_of, reading_of};
-use crate::{Element, LineWhy, Reading, StationId};
-use ghcn_fields::days_in_month;
+use crate::missing::MISSING;
+use crate::month::{DAYS, UP_TO_ELEMENT, head_of, is_flagged, readings, value_column};
+use crate::{Element, LineWhy, StationId};
+use ghcn_fields::{days_in_month, value_or};
 
 /// The days of a month whose values count: those that the month has, whose value isn't missing,
 /// whose quality flag is a blank, and whose value the element can have. Only temperatures are negative.
@@ -65,45 +67,74 @@ fn days_of(element: Element, count: u8, line: &[u8]) -> Result<(u32, [i32; 32]),
     ensures fine { IfOk result (λ _. months.days_why line.now ≡ None) }
     ensures days { IfOk result (λ row. rows.AreDays (rows.line_value element count line.now) row.0 row.1) }
 {
-    let mut word = 0;
-    let mut values = [0; 32];
+    let (any_is_bad, values) = values_of(count, line);
+    if any_is_bad {
+        // It says which one.
+        readings(line)?;
+    }
+    Ok(values_from(least_of(element), &values))
+}
+
+/// Whether a value of a line is bad, and the values in a month with so many days: no branch depends
+/// on one of them. `MISSING` stands for those that are missing, flagged, or of a day that the month lacks.
+fn values_of(count: u8, line: &[u8]) -> (bool, [i32; 32])
+    requires { 266 ≤ length line.now }
+    ensures fine { result.0 ≡ false → months.days_why line.now ≡ None }
+    ensures values { rows.AreValues count line.now result.1 }
+{
+    let mut any_is_bad = false;
+    let mut values = [MISSING; 32];
     for day in 0..DAYS {
-        let Some(reading) = reading_of(line, day) else {
-            return Err(LineWhy::BadValue(day as u8 + 1));
-        };
-        if let Some(value) = value_of(element, count, day, reading) {
-            word |= bit_of(day as u32);
-            values[day] = value;
-        }
+        let (is_bad, value) = value_or(value_column(line, day), MISSING);
+        any_is_bad |= is_bad;
+        values[day] = value_if(may_count(count, line, day), value, MISSING);
     }
-    Ok((word, values))
+    (any_is_bad, values)
 }
 
-/// The value of a day, from 0, where its month has so many days and the value counts.
-fn value_of(element: Element, count: u8, day: usize, reading: Reading) -> Option<i32>
-    ensures { result ≡ rows.value_within count element day reading }
+/// Whether a month of so many days has a day, from 0, whose quality flag is a blank.
+fn may_count(count: u8, line: &[u8], day: usize) -> bool
+    requires { day < 31 }
+    ensures { result ≡ (nat_lt day count && not (months.is_flagged line.now (day + 1))) }
 {
-    if day >= count as usize || reading.flagged {
-        return None;
-    }
-    let value = reading.value?;
-    if !is_possible(element, value) {
-        return None;
-    }
-    Some(value)
+    day < count as usize && !is_flagged(line, day)
 }
 
-/// The word whose one bit is at a place.
-fn bit_of(place: u32) -> u32
+/// The word of the days whose value isn't below a least one, and these values, with 0 for the others.
+fn values_from(least: i32, values: &[i32; 32]) -> (u32, [i32; 32])
+    ensures { rows.AreDays (rows.value_from least values.now) result.0 result.1 }
+{
+    let mut word = 0;
+    let mut kept = [0; 32];
+    for day in 0..DAYS {
+        let counts = values[day] >= least;
+        word |= bit_if(counts, day as u32);
+        kept[day] = value_if(counts, values[day], 0);
+    }
+    (word, kept)
+}
+
+/// A value, or another one.
+fn value_if(counts: bool, value: i32, other: i32) -> i32
+    ensures { result ≡ (if counts then value else other) }
+{
+    if counts { value } else { other }
+}
+
+/// The word whose one bit is at a place, or that of no bit.
+fn bit_if(counts: bool, place: u32) -> u32
     requires { place < 32 }
-    ensures { result ≡ 2 ^ place }
+    ensures { result ≡ (if counts then 2 ^ place else 0) }
 {
-    1 << place
+    if counts { 1 << place } else { 0 }
 }
 
-/// Whether an element can have a value.
-fn is_possible(element: Element, value: i32) -> bool
-    ensures { result ≡ (may_be_negative element || int_le (pos 0) value) }
+/// The least value that an element can have.
+fn least_of(element: Element) -> i32
+    ensures { result ≡ least_of element }
 {
-    value >= 0 || matches!(element, Element::Tmax | Element::Tmin)
+    match element {
+        Element::Tmax | Element::Tmin => MISSING + 1,
+        Element::Prcp | Element::Snow | Element::Snwd => 0,
+    }
 }

@@ -1,6 +1,5 @@
-use Rattle.std.proofs.Common.{◌≡◌, Option, Result, Ok, Err, Some, sym, ap, subst, ◌∙◌}
+use Rattle.std.proofs.Common.{Option, Some, sym, ap, subst, ◌∙◌}
 use Rattle.ghcn_files.specs.declared.fault.LineWhy.{LineWhy}
-use Rattle.ghcn_files.specs.declared.row.MonthRow.{MonthRow}
 use Rattle.ghcn_files.specs.Months.{unless, month_of}
 use Rattle.ghcn_files.specs.Rows.{IsRead}
 use Rattle.ghcn_files.proofs.Errors.{err_given}

@@ -1,0 +1,23 @@
+use Rattle.std.proofs.Common.{rules, ◌≡◌, ℕ, ◌^◌, Bool, get_or, refl, ℤ, pos, w32, to_z, of_z}
+use Rattle.std.specs.Prelude.{if◌then◌else◌, int_le}
+use Rattle.ghcn_files.specs.Rows.{value_from}
+use Rattle.ghcn_files.proofs.Rows.{first-none, first-step}
+use Rattle.ghcn_files.proofs.row.values_from.Goals as goal
+
+-- no day is in the row yet
+pub loop-day-init : goal.loop-day-init
+loop-day-init c = record { row = first-none (value_from (to_z w32 (of_z w32 c.args.least)) c.args.values.now) }
+
+-- one day more is
+pub loop-day-preserved : goal.loop-day-preserved
+loop-day-preserved c =
+    let day : ℕ = c.loop-day.day in
+    let value : ℤ = get_or c.args.values.now day (pos 0) in
+    let least : ℤ = to_z w32 (of_z w32 c.args.least) in
+    let counts : Bool = int_le least value in
+    let bit : c.bit_if-word.result ≡ (if counts then 2 ^ day else 0) = search rules in
+    let kept : to_z w32 (of_z w32 c.value_if.result) ≡ (if counts then value else pos 0) = search rules in
+    record {
+      row = rw (bit, kept) (first-step (value_from least c.args.values.now) day c.loop-day.word c.loop-day.kept counts
+          value c.loop-day.invariant.row refl c.loop-day-test.true);
+    }
