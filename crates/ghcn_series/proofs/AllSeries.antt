@@ -1,6 +1,6 @@
 -- The series of all stations, from what was gathered of each.
-use Rattle.std.proofs.Common.{◌≡◌, ℕ, Bool, true, false, cond, not, List, [], ◌∷◌, ◌++◌, length, map, filter, None}
-use Rattle.std.proofs.Common.{Some, refl, sym, ap, ◌∙◌, subst}
+use Rattle.std.proofs.Common.{◌≡◌, ℕ, Bool, true, false, cond, not, List, [], ◌∷◌, ◌++◌, length, map, filter}
+use Rattle.std.proofs.Common.{Option, None, Some, refl, sym, ap, ◌∙◌, subst}
 use Rattle.std.specs.Prelude.{◌==◌, ◌&&◌, ◌||◌}
 use Rattle.std.specs.List.{filter_map, flat_map, cons_option, list_any, AllZip, AllByRecursion, IsDistinct}
 use Rattle.std.proofs.lemmas.List.Elements.{filter-append}
@@ -16,12 +16,13 @@ use Rattle.ghcn_files.specs.Listed.{AreListed}
 use Rattle.ghcn_files.specs.Months.{IsMonth}
 use Rattle.ghcn_series.specs.declared.gathering.Gathering.{Gathering}
 use Rattle.ghcn_series.specs.declared.station.StationGathering.{StationGathering}
-use Rattle.ghcn_series.specs.Series.{DayValue, Usable, IsSeries, by_day}
+use Rattle.ghcn_series.specs.Series.{DayValue, Usable, Contents, IsSeries, by_day}
 use Rattle.ghcn_series.specs.DailyFaults.{is_listed}
 use Rattle.ghcn_series.specs.Says.{Fact, facts_of, is_usable, days_of, usable_of, all_series}
 use Rattle.ghcn_series.specs.Held.{AreByStation, AreSeries, all_of, same_series}
-use Rattle.ghcn_series.specs.Gathered.{usable_days, gathered_days, months_of, IsGatheringOf, AreByElement, IsStationOf}
-use Rattle.ghcn_series.specs.Gathered.{IsReady, gathered_series, station_series}
+use Rattle.ghcn_series.specs.Kept.{is_kept, kept}
+use Rattle.ghcn_series.specs.Gathered.{usable_days, kept_days, gathered_days, months_of, IsGatheringOf}
+use Rattle.ghcn_series.specs.Gathered.{AreByElement, IsStationOf, IsReady, gathered_series, station_series}
 use Rattle.ghcn_series.proofs.Places.{ids, same_id-refl}
 use Rattle.ghcn_series.proofs.StationMonths.{months_of-none, elements_differ}
 use Rattle.ghcn_series.proofs.ReadySeries.{is_series, length-sorted, gathered-sorted}
@@ -79,32 +80,37 @@ right_of id e f (m ∷ ms) same all =
     second false b p = absurd cc
 
 -- gatherings by element can become series
-ready_zip : (ms : List Month) (id : StationId) (gs : List Gathering) (es : List Element) → AllByRecursion IsMonth ms
-    → AllZip (IsGatheringOf ms id) gs es → AllByRecursion IsReady gs
-ready_zip ms id [] [] right all = tt
-ready_zip ms id [] (e ∷ es) right all = absurd all
-ready_zip ms id (g ∷ gs) [] right all = absurd all
-ready_zip ms id (g ∷ gs) (e ∷ es) right all = (
-  record { months = months_of ms id e; holds = all.0.holds; right = right_of id e g.element ms all.0.element right },
-  ready_zip ms id gs es right all.1,
+ready_zip : (asked : Option Element) (ms : List Month) (id : StationId) (gs : List Gathering) (es : List Element)
+    → AllByRecursion IsMonth ms → AllZip (IsGatheringOf asked ms id) gs es → AllByRecursion IsReady gs
+ready_zip asked ms id [] [] right all = tt
+ready_zip asked ms id [] (e ∷ es) right all = absurd all
+ready_zip asked ms id (g ∷ gs) [] right all = absurd all
+ready_zip asked ms id (g ∷ gs) (e ∷ es) right all = (
+  record {
+    kept = is_kept asked e;
+    months = months_of ms id e;
+    holds = all.0.holds;
+    right = right_of id e g.element ms all.0.element right;
+  },
+  ready_zip asked ms id gs es right all.1,
 )
 
 -- so can those of a station, if it has any
-ready_station : (ms : List Month) (id : StationId) (gs : List Gathering) → AllByRecursion IsMonth ms
-    → AreByElement ms id gs → AllByRecursion IsReady gs
-ready_station ms id [] right all = tt
-ready_station ms id (g ∷ gs) right all = ready_zip ms id (g ∷ gs) elements right all
+ready_station : (asked : Option Element) (ms : List Month) (id : StationId) (gs : List Gathering)
+    → AllByRecursion IsMonth ms → AreByElement asked ms id gs → AllByRecursion IsReady gs
+ready_station asked ms id [] right all = tt
+ready_station asked ms id (g ∷ gs) right all = ready_zip asked ms id (g ∷ gs) elements right all
 
 -- each gathering of all stations can become a series
-pub all_ready : (ms : List Month) (ss : List Station) (gs : List StationGathering) → AllByRecursion IsMonth ms
-    → AllZip (IsStationOf ms) ss gs → AllByRecursion (λ s. AllByRecursion IsReady s.by_element.items) gs
-all_ready ms [] [] right all = tt
-all_ready ms [] (g ∷ gs) right all = absurd all
-all_ready ms (s ∷ ss) [] right all = absurd all
-all_ready ms (s ∷ ss) (g ∷ gs) right all = (
-  ready_station ms g.id g.by_element.items right all.0.holds,
-  all_ready ms ss
-      gs right all.1,
+pub all_ready : (asked : Option Element) (ms : List Month) (ss : List Station) (gs : List StationGathering)
+    → AllByRecursion IsMonth ms → AllZip (IsStationOf asked ms) ss gs
+    → AllByRecursion (λ s. AllByRecursion IsReady s.by_element.items) gs
+all_ready asked ms [] [] right all = tt
+all_ready asked ms [] (g ∷ gs) right all = absurd all
+all_ready asked ms (s ∷ ss) [] right all = absurd all
+all_ready asked ms (s ∷ ss) (g ∷ gs) right all = (
+  ready_station asked ms g.id g.by_element.items right all.0.holds,
+  all_ready asked ms ss gs right all.1,
 )
 
 -- the series of a gathering, in its order
@@ -140,51 +146,51 @@ both_apart [] ys p q all = q
 both_apart (x ∷ xs) ys p q all = (both_all (λ v. same_series x v ≡ false) xs ys p.0 all.0, both_apart xs ys p.1 q all.1)
 
 -- a series of one element is none of those of the others
-others_apart : (ms : List Month) (id : StationId) (u : Usable) (gs : List Gathering) (es : List Element)
-    → AllByRecursion (λ e. same_element u.element e ≡ false) es → AllZip (IsGatheringOf ms id) gs es
-    → IsOther u (filter_map (gathered_series id) gs)
-others_apart ms id u [] [] other all = tt
-others_apart ms id u [] (e ∷ es) other all = absurd all
-others_apart ms id u (g ∷ gs) [] other all = absurd all
-others_apart ms id u (g ∷ gs) (e ∷ es) other all =
+others_apart : (asked : Option Element) (ms : List Month) (id : StationId) (u : Usable) (gs : List Gathering)
+    (es : List Element) → AllByRecursion (λ e. same_element u.element e ≡ false) es
+    → AllZip (IsGatheringOf asked ms id) gs es → IsOther u (filter_map (gathered_series id) gs)
+others_apart asked ms id u [] [] other all = tt
+others_apart asked ms id u [] (e ∷ es) other all = absurd all
+others_apart asked ms id u (g ∷ gs) [] other all = absurd all
+others_apart asked ms id u (g ∷ gs) (e ∷ es) other all =
     elim (length (gathered_days g) == 0) as
     (λ b. IsOther u (cons_option (cond b None
     (Some (record { id = id; element = g.element; days = sorted_by by_day (gathered_days g) })))
     (filter_map (gathered_series id) gs))) [
-      | true ↦ others_apart ms id u gs es other.1 all.1
+      | true ↦ others_apart asked ms id u gs es other.1 all.1
       | false ↦ (
         and_false (same_id u.id id) (same_element u.element g.element)
             (ap (same_element u.element) all.0.element ∙ other.0),
-        others_apart ms id u gs es other.1 all.1,
+        others_apart asked ms id u gs es other.1 all.1,
       )
     ]
 
 -- the series of distinct elements are distinct
-elements_apart : (ms : List Month) (id : StationId) (gs : List Gathering) (es : List Element)
-    → IsDistinct same_element es → AllZip (IsGatheringOf ms id) gs es
+elements_apart : (asked : Option Element) (ms : List Month) (id : StationId) (gs : List Gathering) (es : List Element)
+    → IsDistinct same_element es → AllZip (IsGatheringOf asked ms id) gs es
     → IsDistinct same_series (filter_map (gathered_series id) gs)
 unfolding IsDistinct
-elements_apart ms id [] [] apart all = tt
-elements_apart ms id [] (e ∷ es) apart all = absurd all
-elements_apart ms id (g ∷ gs) [] apart all = absurd all
-elements_apart ms id (g ∷ gs) (e ∷ es) apart all =
+elements_apart asked ms id [] [] apart all = tt
+elements_apart asked ms id [] (e ∷ es) apart all = absurd all
+elements_apart asked ms id (g ∷ gs) [] apart all = absurd all
+elements_apart asked ms id (g ∷ gs) (e ∷ es) apart all =
     let this : Usable = record { id = id; element = g.element; days = sorted_by by_day (gathered_days g) } in
     elim (length (gathered_days g) == 0) as
     (λ b. IsDistinct same_series (cons_option (cond b None (Some this)) (filter_map (gathered_series id) gs))) [
-      | true ↦ elements_apart ms id gs es apart.1 all.1
+      | true ↦ elements_apart asked ms id gs es apart.1 all.1
       | false ↦ (
-        others_apart ms id this gs es (subst (λ d. AllByRecursion (λ x. same_element d x ≡ false) es)
+        others_apart asked ms id this gs es (subst (λ d. AllByRecursion (λ x. same_element d x ≡ false) es)
             (sym all.0.element) apart.0) all.1,
-        elements_apart ms id gs es apart.1 all.1,
+        elements_apart asked ms id gs es apart.1 all.1,
       )
     ]
 
 -- those of a station are
-station_apart : (ms : List Month) (id : StationId) (gs : List Gathering) → AreByElement ms id gs
-    → IsDistinct same_series (filter_map (gathered_series id) gs)
+station_apart : (asked : Option Element) (ms : List Month) (id : StationId) (gs : List Gathering)
+    → AreByElement asked ms id gs → IsDistinct same_series (filter_map (gathered_series id) gs)
 unfolding IsDistinct
-station_apart ms id [] all = tt
-station_apart ms id (g ∷ gs) all = elements_apart ms id (g ∷ gs) elements elements_differ all
+station_apart asked ms id [] all = tt
+station_apart asked ms id (g ∷ gs) all = elements_apart asked ms id (g ∷ gs) elements elements_differ all
 
 -- a station's series have its ID
 ids_of_station : (id : StationId) (gs : List Gathering)
@@ -205,30 +211,31 @@ abbrev pub all_gathered : List StationGathering → List Usable
 all_gathered gs = flat_map station_series gs
 
 -- the series of other stations have other IDs
-other_ids : (id : StationId) (ms : List Month) (ss : List Station) (gs : List StationGathering)
-    → AllByRecursion (λ i. same_id id i ≡ false) (ids ss) → AllZip (IsStationOf ms) ss gs
+other_ids : (asked : Option Element) (id : StationId) (ms : List Month) (ss : List Station)
+    (gs : List StationGathering)
+    → AllByRecursion (λ i. same_id id i ≡ false) (ids ss) → AllZip (IsStationOf asked ms) ss gs
     → AllByRecursion (λ u. same_id id u.id ≡ false) (all_gathered gs)
-other_ids id ms [] [] other all = tt
-other_ids id ms [] (g ∷ gs) other all = absurd all
-other_ids id ms (s ∷ ss) [] other all = absurd all
-other_ids id ms (s ∷ ss) (g ∷ gs) other all =
+other_ids asked id ms [] [] other all = tt
+other_ids asked id ms [] (g ∷ gs) other all = absurd all
+other_ids asked id ms (s ∷ ss) [] other all = absurd all
+other_ids asked id ms (s ∷ ss) (g ∷ gs) other all =
     both_all (λ u. same_id id u.id ≡ false) (station_series g) (all_gathered gs)
     (weaken (λ u. u.id ≡ g.id) (λ u. same_id id u.id ≡ false) (station_series g) (λ u e. ap (same_id id) (e ∙ all.0.id)
     ∙ other.0) (ids_of_station g.id g.by_element.items))
-    (other_ids id ms ss gs other.1 all.1)
+    (other_ids asked id ms ss gs other.1 all.1)
 
 -- where no ID stands twice, the series of all stations are apart
-pub stations_apart : (ms : List Month) (ss : List Station) (gs : List StationGathering) → IsDistinct same_id (ids ss)
-    → AllZip (IsStationOf ms) ss gs → IsDistinct same_series (all_gathered gs)
+pub stations_apart : (asked : Option Element) (ms : List Month) (ss : List Station) (gs : List StationGathering)
+    → IsDistinct same_id (ids ss) → AllZip (IsStationOf asked ms) ss gs → IsDistinct same_series (all_gathered gs)
 unfolding IsDistinct
-stations_apart ms [] [] apart all = tt
-stations_apart ms [] (g ∷ gs) apart all = absurd all
-stations_apart ms (s ∷ ss) [] apart all = absurd all
-stations_apart ms (s ∷ ss) (g ∷ gs) apart all =
-    let others : AllByRecursion (λ u. same_id s.id u.id ≡ false) (all_gathered gs) = other_ids s.id ms ss gs apart.0
-    all.1 in
-    both_apart (station_series g) (all_gathered gs) (station_apart ms g.id g.by_element.items all.0.holds)
-    (stations_apart ms ss gs apart.1 all.1)
+stations_apart asked ms [] [] apart all = tt
+stations_apart asked ms [] (g ∷ gs) apart all = absurd all
+stations_apart asked ms (s ∷ ss) [] apart all = absurd all
+stations_apart asked ms (s ∷ ss) (g ∷ gs) apart all =
+    let others : AllByRecursion (λ u. same_id s.id u.id ≡ false) (all_gathered gs) =
+    other_ids asked s.id ms ss gs apart.0 all.1 in
+    both_apart (station_series g) (all_gathered gs) (station_apart asked ms g.id g.by_element.items all.0.holds)
+    (stations_apart asked ms ss gs apart.1 all.1)
     (weaken (λ u. u.id ≡ g.id) (λ u. IsOther u (all_gathered gs)) (station_series g)
     (λ u e. weaken (λ v. same_id s.id v.id ≡ false) (λ v. same_series u v ≡ false) (all_gathered gs)
     (λ v o. ap (λ (i : StationId). same_id i v.id && same_element u.element v.element) (e ∙ all.0.id)
@@ -246,16 +253,34 @@ no_days ms id e none = ap (flat_map usable_days) (months_of-none ms id e none)
 has_days : Usable → Bool
 has_days s = not (length s.days == 0)
 
--- a series is kept where it has a day
-one_or_none : (b c : Bool) (x u : Usable) (xs us : List Usable) → b ≡ c → x ≡ u → xs ≡ us
-    → cons_option (cond b None (Some x)) xs ≡ cond (not c) (u ∷ us) us
-one_or_none true true x u xs us same this rest = rest
-one_or_none true false x u xs us same this rest = absurd cc
-one_or_none false true x u xs us same this rest = absurd cc
-one_or_none false false x u xs us same this rest = ap (λ (y : Usable). y ∷ xs) this
-    ∙ ap (λ (ys : List Usable). u ∷ ys) rest
+-- the series of an element that is kept
+pub is_kept_series : Option Element → Usable → Bool
+is_kept_series asked u = is_kept asked u.element
 
-module _ (stations : List Station) (ms : List Month) where
+-- of an element that is kept a series stands where it has a day
+one_kept : (asked : Option Element) (b c : Bool) (x u : Usable) (xs us : List Usable) → b ≡ c → x ≡ u
+    → is_kept_series asked u ≡ true → xs ≡ filter (is_kept_series asked) us
+    → cons_option (cond b None (Some x)) xs ≡ filter (is_kept_series asked) (cond (not c) (u ∷ us) us)
+one_kept asked true true x u xs us same this kept rest = rest
+one_kept asked true false x u xs us same this kept rest = absurd cc
+one_kept asked false true x u xs us same this kept rest = absurd cc
+one_kept asked false false x u xs us same this kept rest =
+    let others = filter (is_kept_series asked) us in
+    ap (λ (y : Usable). y ∷ xs) this
+    ∙ ap (λ (ys : List Usable). u ∷ ys) rest
+    ∙ sym (ap (λ (k : Bool). cond k (u ∷ others) others) kept)
+
+-- of any other none stands
+none_kept : (asked : Option Element) (b c : Bool) (x u : Usable) (xs us : List Usable) → b ≡ true
+    → is_kept_series asked u ≡ false → xs ≡ filter (is_kept_series asked) us
+    → cons_option (cond b None (Some x)) xs ≡ filter (is_kept_series asked) (cond (not c) (u ∷ us) us)
+none_kept asked false c x u xs us none kept rest = absurd cc
+none_kept asked true true x u xs us none kept rest = rest
+none_kept asked true false x u xs us none kept rest =
+    let others = filter (is_kept_series asked) us in
+    rest ∙ sym (ap (λ (k : Bool). cond k (u ∷ others) others) kept)
+
+module _ (asked : Option Element) (stations : List Station) (ms : List Month) where
   -- what all months say
   abbrev facts : List Fact
   facts = filter (is_usable stations) (flat_map facts_of ms)
@@ -269,24 +294,41 @@ module _ (stations : List Station) (ms : List Month) where
   made : StationId → Element → List DayValue → Usable
   made id e days = record { id = id; element = e; days = days }
 
-  -- the series of gatherings by element are those of the facts
+  -- the series of gatherings by element are those of the facts that are kept
   elements_series : (s : Station) (gs : List Gathering) (es : List Element) → is_listed stations s.id ≡ true
-      → AllZip (IsGatheringOf ms s.id) gs es → filter_map (gathered_series s.id) gs
-      ≡ filter has_days (map (usable_of facts s) es)
-  unfolding has_days made
+      → AllZip (IsGatheringOf asked ms s.id) gs es → filter_map (gathered_series s.id) gs
+      ≡ filter (is_kept_series asked) (filter has_days (map (usable_of facts s) es))
+  unfolding has_days made is_kept_series
   elements_series s [] [] listed all = refl
   elements_series s [] (e ∷ es) listed all = absurd all
   elements_series s (g ∷ gs) [] listed all = absurd all
   elements_series s (g ∷ gs) (e ∷ es) listed all =
-      let days : sorted_by by_day (gathered_days g) ≡ days_of facts s.id e = gathered-sorted g (months_of ms s.id e)
-      all.0.holds ∙ sym (days_of-is s.id e listed) in
-      let empty : (length (gathered_days g) == 0) ≡ (length (days_of facts s.id e) == 0) = ap (λ (n : ℕ). n == 0)
-      (sym (length-sorted (gathered_days g)) ∙ ap length days) in
-      one_or_none (length (gathered_days g) == 0) (length (days_of facts s.id e) == 0)
-      (made s.id g.element (sorted_by by_day (gathered_days g))) (usable_of facts s e)
-      (filter_map (gathered_series s.id) gs) (filter has_days (map (usable_of facts s) es)) empty
-      (ap (λ (x : Element). made s.id x (sorted_by by_day (gathered_days g))) all.0.element ∙ ap (made s.id e) days)
-      (elements_series s gs es listed all.1)
+      let months = months_of ms s.id e in
+      let sorted : sorted_by by_day (gathered_days g) ≡ sorted_by by_day (kept_days (is_kept asked e) months) =
+      gathered-sorted (is_kept asked e) g months all.0.holds in
+      let x = made s.id g.element (sorted_by by_day (gathered_days g)) in
+      let xs = filter_map (gathered_series s.id) gs in
+      let us = filter has_days (map (usable_of facts s) es) in
+      let rest : xs ≡ filter (is_kept_series asked) us = elements_series s gs es listed all.1 in
+      elim (is_kept asked e) as (λ k. is_kept asked e ≡ k
+      → cons_option (cond (length (gathered_days g) == 0) None (Some x)) xs
+      ≡ filter (is_kept_series asked) (filter has_days (usable_of facts s e ∷ map (usable_of facts s) es))) [
+        | true ↦ λ kept.
+            let days : sorted_by by_day (gathered_days g) ≡ days_of facts s.id e =
+            sorted ∙ ap (λ (k : Bool). sorted_by by_day (kept_days k months)) kept
+            ∙ sym (days_of-is s.id e listed) in
+            let empty : (length (gathered_days g) == 0) ≡ (length (days_of facts s.id e) == 0) =
+            ap (λ (n : ℕ). n == 0) (sym (length-sorted (gathered_days g)) ∙ ap length days) in
+            one_kept asked (length (gathered_days g) == 0) (length (days_of facts s.id e) == 0) x (usable_of facts s e)
+            xs us empty
+            (ap (λ (f : Element). made s.id f (sorted_by by_day (gathered_days g))) all.0.element
+            ∙ ap (made s.id e) days) kept rest
+        | false ↦ λ kept.
+            let none : sorted_by by_day (gathered_days g) ≡ [] =
+            sorted ∙ ap (λ (k : Bool). sorted_by by_day (kept_days k months)) kept in
+            none_kept asked (length (gathered_days g) == 0) (length (days_of facts s.id e) == 0) x (usable_of facts s e)
+            xs us (ap (λ (n : ℕ). n == 0) (sym (length-sorted (gathered_days g)) ∙ ap length none)) kept rest
+      ] refl
 
   -- a station without a month has no series
   no_series : (s : Station) (es : List Element) → is_listed stations s.id ≡ true → list_any (λ m. same_id m.id s.id) ms
@@ -301,30 +343,32 @@ module _ (stations : List Station) (ms : List Month) where
       (filter has_days (map (usable_of facts s) es))) empty
       ∙ no_series s es listed none
 
-  -- the series of a station are those of the facts
-  station_series-are : (s : Station) (gs : List Gathering) → is_listed stations s.id ≡ true → AreByElement ms s.id gs
-      → filter_map (gathered_series s.id) gs ≡ filter has_days (map (usable_of facts s) elements)
-  station_series-are s [] listed all = sym (no_series s elements listed all)
+  -- the series of a station are those of the facts that are kept
+  station_series-are : (s : Station) (gs : List Gathering) → is_listed stations s.id ≡ true
+      → AreByElement asked ms s.id gs → filter_map (gathered_series s.id) gs
+      ≡ filter (is_kept_series asked) (filter has_days (map (usable_of facts s) elements))
+  station_series-are s [] listed all = sym (ap (filter (is_kept_series asked)) (no_series s elements listed all))
   station_series-are s (g ∷ gs) listed all = elements_series s (g ∷ gs) elements listed all
 
-  -- the series that are gathered are those of the facts
+  -- the series that are gathered are those of the facts that are kept
   pub series_are : (ss : List Station) (gs : List StationGathering)
-      → AllByRecursion (λ s. is_listed stations s.id ≡ true) ss → AllZip (IsStationOf ms) ss gs
-      → all_gathered gs ≡ all_series ss facts
+      → AllByRecursion (λ s. is_listed stations s.id ≡ true) ss → AllZip (IsStationOf asked ms) ss gs
+      → all_gathered gs ≡ filter (is_kept_series asked) (all_series ss facts)
   unfolding has_days
   series_are [] [] listed all = refl
   series_are [] (g ∷ gs) listed all = absurd all
   series_are (s ∷ ss) [] listed all = absurd all
   series_are (s ∷ ss) (g ∷ gs) listed all =
-      let here : station_series g ≡ filter has_days (map (usable_of facts s) elements) =
+      let own = filter has_days (map (usable_of facts s) elements) in
+      let here : station_series g ≡ filter (is_kept_series asked) own =
       ap (λ (i : StationId). filter_map (gathered_series i) g.by_element.items) all.0.id
       ∙ station_series-are s g.by_element.items listed.0
-      (subst (λ i. AreByElement ms i g.by_element.items) all.0.id all.0.holds) in
+      (subst (λ i. AreByElement asked ms i g.by_element.items) all.0.id all.0.holds) in
       ap (λ (us : List Usable). us ++ all_gathered gs) here
-      ∙ ap (λ (us : List Usable). filter has_days (map (usable_of facts s) elements) ++ us)
-      (series_are ss gs listed.1 all.1)
-      ∙ sym (filter-append has_days (map (usable_of facts s) elements)
-      (flat_map (λ x. map (usable_of facts x) elements) ss))
+      ∙ ap (λ (us : List Usable). filter (is_kept_series asked) own ++ us) (series_are ss gs listed.1 all.1)
+      ∙ sym (filter-append (is_kept_series asked) own (all_series ss facts))
+      ∙ ap (filter (is_kept_series asked)) (sym (filter-append has_days (map (usable_of facts s) elements)
+      (flat_map (λ x. map (usable_of facts x) elements) ss)))
 
 -- ---- what is true of them
 
@@ -355,31 +399,32 @@ pub all_listed : (ss : List Station) → AllByRecursion (λ s. is_listed ss s.id
 all_listed ss = each_listed ss
 
 -- what is true of each gathering's series is true of all series
-of_stations : (P : Usable → Type 0) (stations : List Station) (ms : List Month) (ss : List Station)
-    (gs : List StationGathering) → AllByRecursion (λ s. is_listed stations s.id ≡ true) ss
+of_stations : (asked : Option Element) (P : Usable → Type 0) (stations : List Station) (ms : List Month)
+    (ss : List Station) (gs : List StationGathering) → AllByRecursion (λ s. is_listed stations s.id ≡ true) ss
     → ((id : StationId) (g : Gathering) (u : Usable) → is_listed stations id ≡ true → IsReady g
     → (length (gathered_days g) == 0) ≡ false → u ≡ series_of_gathering id g → P u)
-    → AllByRecursion (λ s. AllByRecursion IsReady s.by_element.items) gs → AllZip (IsStationOf ms) ss gs
+    → AllByRecursion (λ s. AllByRecursion IsReady s.by_element.items) gs → AllZip (IsStationOf asked ms) ss gs
     → AllByRecursion P (all_gathered gs)
-of_stations P stations ms [] [] listed each ready all = tt
-of_stations P stations ms [] (g ∷ gs) listed each ready all = absurd all
-of_stations P stations ms (s ∷ ss) [] listed each ready all = absurd all
-of_stations P stations ms (s ∷ ss) (g ∷ gs) listed each ready all =
+of_stations asked P stations ms [] [] listed each ready all = tt
+of_stations asked P stations ms [] (g ∷ gs) listed each ready all = absurd all
+of_stations asked P stations ms (s ∷ ss) [] listed each ready all = absurd all
+of_stations asked P stations ms (s ∷ ss) (g ∷ gs) listed each ready all =
     both_all P (station_series g) (all_gathered gs)
     (from_gatherings P g.id g.by_element.items
     (λ h u r some is. each g.id h u (ap (is_listed stations) all.0.id ∙ listed.0) r some is) ready.0)
-    (of_stations P stations ms ss gs listed.1 each ready.1 all.1)
+    (of_stations asked P stations ms ss gs listed.1 each ready.1 all.1)
 
 -- the series of a station have its ID
-own_ids : (ms : List Month) (ss : List Station) (gs : List StationGathering) → AllZip (IsStationOf ms) ss gs
+own_ids : (asked : Option Element) (ms : List Month) (ss : List Station) (gs : List StationGathering)
+    → AllZip (IsStationOf asked ms) ss gs
     → AllZip (λ s series. AllByRecursion (λ u. u.id ≡ s.id) series) ss (map station_series gs)
-own_ids ms [] [] all = tt
-own_ids ms [] (g ∷ gs) all = absurd all
-own_ids ms (s ∷ ss) [] all = absurd all
-own_ids ms (s ∷ ss) (g ∷ gs) all = (
+own_ids asked ms [] [] all = tt
+own_ids asked ms [] (g ∷ gs) all = absurd all
+own_ids asked ms (s ∷ ss) [] all = absurd all
+own_ids asked ms (s ∷ ss) (g ∷ gs) all = (
   weaken (λ u. u.id ≡ g.id) (λ u. u.id ≡ s.id) (station_series g) (λ u e. e ∙ all.0.id)
       (ids_of_station g.id g.by_element.items),
-  own_ids ms ss gs all.1,
+  own_ids asked ms ss gs all.1,
 )
 
 -- all lists, one after the other, are the series of all stations
@@ -388,21 +433,42 @@ all_of-are [] = refl
 all_of-are (g ∷ gs) = ap (λ (us : List Usable). station_series g ++ us) (all_of-are gs)
 
 -- the series of all stations, in one list for each, are its own and right
-pub are_by_station : (ms : List Month) (ss : List Station) (gs : List StationGathering) → AreListed ss
-    → AllByRecursion IsMonth ms → AllZip (IsStationOf ms) ss gs → AreByStation ss (map station_series gs)
+pub are_by_station : (asked : Option Element) (ms : List Month) (ss : List Station) (gs : List StationGathering)
+    → AreListed ss → AllByRecursion IsMonth ms → AllZip (IsStationOf asked ms) ss gs
+    → AreByStation ss (map station_series gs)
 unfolding series_of_gathering
-are_by_station ms ss gs listed right all =
-    let ready = all_ready ms ss gs right all in
+are_by_station asked ms ss gs listed right all =
+    let ready = all_ready asked ms ss gs right all in
     record {
-      own = own_ids ms ss gs all;
+      own = own_ids asked ms ss gs all;
       listed = listed;
       series = subst (AreSeries ss) (sym (all_of-are gs)) (record {
-        distinct = stations_apart ms ss gs listed.distinct all;
-        listed = of_stations (λ u. is_listed ss u.id ≡ true) ss ms ss gs (all_listed ss)
+        distinct = stations_apart asked ms ss gs listed.distinct all;
+        listed = of_stations asked (λ u. is_listed ss u.id ≡ true) ss ms ss gs (all_listed ss)
             (λ id g u l r some is. ap (λ (v : Usable). is_listed ss v.id) is ∙ l) ready all;
         right =
-            of_stations IsSeries ss ms ss gs (all_listed ss)
+            of_stations asked IsSeries ss ms ss gs (all_listed ss)
             (λ id g u l r some is. subst IsSeries (sym is)
             (is_series id g (sorted_by by_day (gathered_days g)) r some refl)) ready all;
       });
     }
+
+-- ---- what is kept of them
+
+-- a test that each passes leaves all
+all_passed : (us : List Usable) → filter (λ u. true) us ≡ us
+all_passed [] = refl
+all_passed (u ∷ us) = ap (λ (vs : List Usable). u ∷ vs) (all_passed us)
+
+-- what is kept of data are the series of the elements that are
+pub kept-is : (asked : Option Element) (held : Contents) → kept asked held ≡ record {
+  stations = held.stations;
+  series = filter (is_kept_series asked) held.series;
+  unlisted = held.unlisted;
+}
+unfolding is_kept_series
+kept-is None held =
+    let of : List Usable → Contents = λ us.
+    record { stations = held.stations; series = us; unlisted = held.unlisted } in
+    ap of (sym (all_passed held.series))
+kept-is (Some e) held = refl

@@ -25,3 +25,7 @@ pub mod ReadySeries
 pub mod FactsOfMonths
 pub mod AllSeries
 pub mod ReadFiles
+pub mod FedLines
+pub mod ToldFaults
+pub mod FedPieces
+pub mod FedFiles

@@ -1,73 +1,25 @@
 -- The data of files that were read.
-use Rattle.std.proofs.Common.{◌≡◌, ℕ, zero, suc, ◌+◌, ◌<◌, ◌≤◌, ◌^◌, Bool, true, false, cond, List, [], ◌∷◌, ◌++◌}
-use Rattle.std.proofs.Common.{length, map, take, get_or, Ok, Err, Bor, refl, sym, ap, ◌∙◌, subst, append_assoc, add-one}
-use Rattle.std.proofs.Common.{arith}
+use Rattle.std.proofs.Common.{◌≡◌, ℕ, zero, suc, ◌<◌, ◌≤◌, ◌^◌, Bool, true, false, cond, List, [], ◌∷◌, length, map}
+use Rattle.std.proofs.Common.{take, Option, None, Some, Ok, Err, Bor, refl, sym, ap, ◌∙◌, arith}
 use Rattle.std.specs.Prelude.{nat_le}
-use Rattle.std.specs.List.{flat_map, enumerate_from}
+use Rattle.std.specs.Option.{option_map}
 use Rattle.std.proofs.lemmas.Bool.Decides.{nat_tests}
-use Rattle.std.proofs.lemmas.List.{append-nil}
 use Rattle.ghcn_fields.specs.Faults.{first_fault, HaveNoFault}
-use Rattle.ghcn_fields.specs.FaultLaws.{first_fault-none, first_fault-from}
+use Rattle.ghcn_fields.specs.FaultLaws.{first_fault-none, first_fault-from, first_fault-is}
 use Rattle.ghcn_files.specs.declared.station.Station.{Station}
+use Rattle.ghcn_files.specs.Months.{read_month}
+use Rattle.ghcn_series.specs.declared.fault.DailyWhy.{DailyWhy}
 use Rattle.ghcn_series.specs.declared.fault.DataFault.{DataFault}
 use Rattle.ghcn_series.specs.declared.fault.DataFault.TheVariants.{DailyLine, TooManyFiles, Memory}
-use Rattle.ghcn_series.specs.DailyFaults.{FileLine, file_lines, daily_lines, daily_fault, IsRefusal, IsFirstRefusal}
+use Rattle.ghcn_series.specs.DailyFaults.{FileLine, daily_lines, daily_why, daily_fault, IsRefusal, IsFirstRefusal}
+use Rattle.ghcn_series.specs.DailyFaults.{HasFirst}
+use Rattle.ghcn_series.specs.Series.{Contents}
 use Rattle.ghcn_series.specs.Says.{contents, contents_unless, data_of}
 use Rattle.ghcn_series.specs.Gathered.{IsLineRefusal}
-use Rattle.ghcn_series.proofs.ReadLines.{refused_among}
 
 -- the texts of files
 abbrev pub texts : List (Bor (List ℕ)) → List (List ℕ)
 texts files = map (λ f. f.now) files
-
--- the lines of files from a number on
-lines_from : ℕ → List (List ℕ) → List FileLine
-lines_from n files = flat_map file_lines (enumerate_from n files)
-
--- one file more adds its lines
-one_more : (n : ℕ) (files : List (Bor (List ℕ))) (i j : ℕ) (d : Bor (List ℕ)) → i < length files → n + i ≡ j
-    → lines_from n (take (suc i) (texts files)) ≡ lines_from n (take i (texts files))
-    ++ file_lines (j, (get_or files i d).now)
-unfolding lines_from
-one_more n [] i j d lt at = absurd (omega arith)
-one_more n (f ∷ fs) zero j d lt at =
-    let same : n ≡ j = omega arith in
-    append-nil (file_lines (n, f.now)) ∙ ap (λ k. file_lines (k, f.now)) same
-one_more n (f ∷ fs) (suc i) j d lt at =
-    ap (λ ls. file_lines (n, f.now) ++ ls) (one_more (n + 1) fs i j d (omega arith) (omega arith))
-    ∙ sym (append_assoc (file_lines (n, f.now)) (lines_from (n + 1) (take i (texts fs)))
-    (file_lines (j, (get_or fs i d).now)))
-
--- the lines of one file more
-pub daily_lines-more : (files : List (Bor (List ℕ))) (i : ℕ) (d : Bor (List ℕ)) → i < length files
-    → daily_lines (take (i + 1) (texts files)) ≡ daily_lines (take i (texts files))
-    ++ file_lines (i + 1, (get_or files i d).now)
-unfolding lines_from
-daily_lines-more files i d lt = ap (λ k. daily_lines (take k (texts files))) (add-one i)
-    ∙ one_more 1 files i (i + 1) d lt (omega arith)
-
--- the lines of all files begin with those of the first ones
-split_at : (n : ℕ) (files : List (List ℕ)) (k : ℕ)
-    → (more : List FileLine) × (lines_from n files ≡ lines_from n (take k files) ++ more)
-unfolding lines_from
-split_at n [] zero = ([], refl)
-split_at n [] (suc k) = ([], refl)
-split_at n (f ∷ fs) zero = (lines_from n (f ∷ fs), refl)
-split_at n (f ∷ fs) (suc k) =
-    let rest = split_at (n + 1) fs k in (
-      rest.0,
-      ap (λ ls. file_lines (n, f) ++ ls) rest.1
-          ∙ sym (append_assoc (file_lines (n, f)) (lines_from (n + 1) (take k fs)) rest.0),
-    )
-
--- a fault among the lines of the first files is that of all
-pub refused_whole : (stations : List Station) (files : List (List ℕ)) (k : ℕ) (f : DataFault)
-    → IsLineRefusal stations (daily_lines (take k files)) f → IsLineRefusal stations (daily_lines files) f
-unfolding lines_from
-refused_whole stations files k f is =
-    let whole = split_at 1 files k in
-    let P : List FileLine → Type 0 = λ ls. IsLineRefusal stations ls f in
-    subst P (sym whole.1) (refused_among stations (daily_lines (take k files)) whole.0 f is)
 
 -- at most 2^20 files pass the test
 few_true : (n : ℕ) → n ≤ 2 ^ 20 → nat_le n (2 ^ 20) ≡ true
@@ -104,12 +56,36 @@ data_of-refused stations files (DailyLine file line why) few is =
     ∙ ap (λ o. contents_unless o (contents stations (daily_lines files)))
     (first_fault-from (daily_fault stations) (daily_lines files) is.0 (DailyLine file line why) is.1)
 
--- a refusal for a line is one for the files
-pub first_of_files : (stations : List Station) (files : List (List ℕ)) (f : DataFault)
-    → IsLineRefusal stations (daily_lines files) f → IsFirstRefusal f stations files
-first_of_files stations files (Memory m) is = tt
-first_of_files stations files TooManyFiles is = absurd is
-first_of_files stations files (DailyLine file line why) is = is
+-- the fault that is found among the lines of files is the first
+first_found : (stations : List Station) (ls : List FileLine) (found : Option (FileLine × DataFault)) (held : Contents)
+    (f : DataFault) → first_fault (daily_fault stations) ls ≡ found → contents_unless found held ≡ Err f
+    → HasFirst f stations ls
+first_found stations ls None held f is e = absurd cc
+first_found stations ls (Some p) held f is e =
+    let same : p.1 ≡ f = cc in
+    (p.0, first_fault-is (daily_fault stations) ls p.0 f (is ∙ ap (λ (w : DataFault). Some (p.0, w)) same))
+
+-- no line has the fault that there are too many files
+not_of_a_line : (file line n : ℕ) (why : Option DailyWhy)
+    → option_map (λ w. DailyLine file line w) why ≡ Some TooManyFiles → 2 ^ 20 < n
+not_of_a_line file line n None e = absurd cc
+not_of_a_line file line n (Some why) e = absurd cc
+
+-- a refusal of so few files is that of their first line with a fault
+pub first_refusal : (stations : List Station) (files : List (List ℕ)) (f : DataFault) → length files ≤ 2 ^ 20
+    → IsRefusal f (data_of stations files) → IsFirstRefusal f stations files
+first_refusal stations files (Memory m) few is = tt
+first_refusal stations files TooManyFiles few is =
+    let ls = daily_lines files in
+    let first = first_found stations ls (first_fault (daily_fault stations) ls) (contents stations ls) TooManyFiles refl
+    (sym (few_files stations files few) ∙ is) in
+    not_of_a_line first.0.file first.0.line (length files)
+    (daily_why stations first.1.before (read_month first.0.bytes)) first.1.here
+first_refusal stations files (DailyLine file line why) few is =
+    let ls = daily_lines files in
+    first_found stations ls (first_fault (daily_fault stations) ls) (contents stations ls) (DailyLine file line why)
+    refl
+    (sym (few_files stations files few) ∙ is)
 
 -- too many files
 pub data_of-many : (stations : List Station) (files : List (List ℕ)) → 2 ^ 20 < length files

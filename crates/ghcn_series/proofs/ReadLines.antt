@@ -1,13 +1,11 @@
 -- A reader that has read one line more.
-use Rattle.std.proofs.Common.{◌≡◌, ℕ, Bool, true, false, cond, not, List, [], ◌∷◌, ◌++◌, map, filter, Option, None}
+use Rattle.std.proofs.Common.{◌≡◌, Bool, true, false, cond, not, List, [], ◌∷◌, ◌++◌, Option, None}
 use Rattle.std.proofs.Common.{Some, Result, Ok, Err, refl, sym, ap, ◌∙◌, subst, append_assoc}
 use Rattle.std.specs.Prelude.{◌&&◌}
 use Rattle.std.specs.List.{filter_map}
 use Rattle.std.specs.Option.{option_map, option_to_list}
 use Rattle.std.proofs.lemmas.List.{append-nil}
 use Rattle.std.proofs.lemmas.List.Elements.{filter_map-append}
-use Rattle.ghcn_fields.specs.Bytes.{is_blank}
-use Rattle.ghcn_fields.specs.Lines.{numbered_lines}
 use Rattle.ghcn_fields.specs.Faults.{HaveNoFault, IsFirstFault}
 use Rattle.ghcn_fields.specs.FaultLaws.{no_fault-more}
 use Rattle.ghcn_files.specs.declared.station.Station.{Station}
@@ -18,10 +16,10 @@ use Rattle.ghcn_series.specs.declared.fault.DailyWhy.TheVariants.{Line, Duplicat
 use Rattle.ghcn_series.specs.declared.fault.DataFault.{DataFault}
 use Rattle.ghcn_series.specs.declared.fault.DataFault.TheVariants.{DailyLine, TooManyFiles, Memory}
 use Rattle.ghcn_series.specs.declared.reader.Reader.{Reader}
-use Rattle.ghcn_series.specs.DailyFaults.{FileLine, month_on, month_if_ok, repeats, is_listed, line_of, file_lines}
+use Rattle.ghcn_series.specs.DailyFaults.{FileLine, month_on, month_if_ok, repeats, is_listed}
 use Rattle.ghcn_series.specs.DailyFaults.{daily_why, daily_fault}
 use Rattle.ghcn_series.specs.Gathered.{HasRead, HasReadLines, IsLineRefusal}
-use Rattle.ghcn_series.specs.Steps.{Reads, Refuses, ReadsMonth}
+use Rattle.ghcn_series.specs.Steps.{ReadsMonth}
 
 module _ {L W : Type 0} (fault : List L → L → Option W) where
   -- the line behind lines without a fault is the first with one
@@ -125,57 +123,6 @@ refused-month old new l m is adds before read =
           (repeated (is_listed old.stations m.id && repeats before m) (adds.is_new months read.months))),
     )
 
--- the lines of a file that aren't blank, of those that are still to come
-abbrev pub told : ℕ → List (ℕ × List ℕ) → List FileLine
-told file rest = map (line_of file) (filter (λ l. not (is_blank l.1)) rest)
-
--- how far a file is read: some of its lines are done, and the others are still to come
-pub record IsWithin (now : Reader) (file : ℕ) (rest : List (ℕ × List ℕ)) (before all : List FileLine) : Type 0 where
-  pub done : List FileLine
-  pub parts : done ++ told file rest ≡ all
-  pub read : HasReadLines now (before ++ done)
-
--- a blank line isn't told
-told-blank : (file line : ℕ) (bytes : List ℕ) (rest : List (ℕ × List ℕ)) → is_blank bytes ≡ true
-    → told file ((line, bytes) ∷ rest) ≡ told file rest
-told-blank file line bytes rest blank =
-    ap (λ (b : Bool). map (line_of file) (cond (not b) ((line, bytes) ∷ filter (λ l. not (is_blank l.1)) rest)
-    (filter (λ l. not (is_blank l.1)) rest))) blank
-
--- any other line is
-told-line : (file line : ℕ) (bytes : List ℕ) (rest : List (ℕ × List ℕ)) → is_blank bytes ≡ false
-    → told file ((line, bytes) ∷ rest) ≡ line_of file (line, bytes) ∷ told file rest
-told-line file line bytes rest full =
-    ap (λ (b : Bool). map (line_of file) (cond (not b) ((line, bytes) ∷ filter (λ l. not (is_blank l.1)) rest)
-    (filter (λ l. not (is_blank l.1)) rest))) full
-
--- a blank line is passed over
-pub within-blank : (now : Reader) (file line : ℕ) (bytes : List ℕ) (rest left : List (ℕ × List ℕ))
-    (before all : List FileLine) → rest ≡ (line, bytes) ∷ left → is_blank bytes ≡ true
-    → IsWithin now file rest before all → IsWithin now file left before all
-within-blank now file line bytes rest left before all step blank is = record {
-  done = is.done;
-  parts = ap (λ ls. is.done ++ ls) (sym (ap (told file) step ∙ told-blank file line bytes left blank)) ∙ is.parts;
-  read = is.read;
-}
-
--- one line more of a file is read
-pub within-line : (now new : Reader) (file line : ℕ) (bytes : List ℕ) (rest left : List (ℕ × List ℕ))
-    (before all : List FileLine) → rest ≡ (line, bytes) ∷ left → is_blank bytes ≡ false
-    → Reads now new (line_of file (line, bytes) ∷ [])
-    → IsWithin now file rest before all → IsWithin new file left before all
-within-line now new file line bytes rest left before all step full reads is =
-    let this : FileLine = line_of file (line, bytes) in
-    let P : List FileLine → Type 0 = HasReadLines new in
-    record {
-      done = is.done ++ this ∷ [];
-      parts =
-          append_assoc is.done (this ∷ []) (told file left)
-          ∙ ap (λ ls. is.done ++ ls) (sym (ap (told file) step ∙ told-line file line bytes left full))
-          ∙ is.parts;
-      read = subst P (append_assoc before is.done (this ∷ [])) (reads.holds (before ++ is.done) is.read);
-    }
-
 -- more lines behind change no fault
 pub refused_among : (stations : List Station) (ls more : List FileLine) (f : DataFault) → IsLineRefusal stations ls f
     → IsLineRefusal stations (ls ++ more) f
@@ -183,35 +130,3 @@ refused_among stations ls more (Memory m) is = tt
 refused_among stations ls more TooManyFiles is = absurd is
 refused_among stations ls more (DailyLine file line why)
     is = (is.0, first_among (daily_fault stations) ls more is.0 (DailyLine file line why) is.1)
-
--- the first line with a fault is that of the file
-pub within-fault : (now : Reader) (file line : ℕ) (bytes : List ℕ) (rest left : List (ℕ × List ℕ))
-    (before all : List FileLine) (f : DataFault) (stations : List Station) → rest ≡ (line, bytes) ∷ left
-    → is_blank bytes ≡ false
-    → now.stations ≡ stations → Refuses now (line_of file (line, bytes) ∷ []) f
-    → IsWithin now file rest before all → IsLineRefusal stations (before ++ all) f
-within-fault now file line bytes rest left before all f stations step full same refuses is =
-    let this : FileLine = line_of file (line, bytes) in
-    let P : List FileLine → Type 0 = λ ls. IsLineRefusal stations ls f in
-    let whole : ((before ++ is.done) ++ this ∷ []) ++ told file left ≡ before ++ all =
-    append_assoc (before ++ is.done) (this ∷ []) (told file left)
-    ∙ append_assoc before is.done (this ∷ told file left)
-    ∙ ap (λ ls. before ++ (is.done ++ ls)) (sym (ap (told file) step ∙ told-line file line bytes left full))
-    ∙ ap (λ ls. before ++ ls) is.parts in
-    subst P whole (refused_among stations ((before ++ is.done) ++ this ∷ []) (told file left) f
-    (subst (λ ss. IsLineRefusal ss ((before ++ is.done) ++ this ∷ []) f) same
-    (refuses.first (before ++ is.done) is.read)))
-
--- nothing of a file is read
-pub at_first_line : (now : Reader) (file : ℕ) (text : List ℕ) (rest : List (ℕ × List ℕ)) (before : List FileLine)
-    → rest ≡ numbered_lines text → HasReadLines now before → IsWithin now file rest before (file_lines (file, text))
-at_first_line now file text rest before all read =
-    let P : List FileLine → Type 0 = HasReadLines now in
-    record { done = []; parts = ap (told file) all; read = subst P (sym (append-nil before)) read }
-
--- all of a file is read
-pub at_last_line : (now : Reader) (file : ℕ) (rest : List (ℕ × List ℕ)) (before all : List FileLine) → rest ≡ []
-    → IsWithin now file rest before all → HasReadLines now (before ++ all)
-at_last_line now file rest before all none is =
-    let P : List FileLine → Type 0 = λ ls. HasReadLines now (before ++ ls) in
-    subst P (sym (append-nil is.done) ∙ ap (λ ls. is.done ++ ls) (sym (ap (told file) none)) ∙ is.parts) is.read

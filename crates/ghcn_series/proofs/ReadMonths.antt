@@ -1,6 +1,6 @@
 -- A reader that has read one month more.
 use Rattle.std.proofs.Common.{◌≡◌, ℕ, zero, suc, ◌+◌, ◌<◌, Bool, true, false, cond, not, List, [], ◌∷◌, ◌++◌, length}
-use Rattle.std.proofs.Common.{take, get_or, None, Some, refl, sym, ap, ◌∙◌, arith, subst, add-zero, zero-add}
+use Rattle.std.proofs.Common.{take, get_or, Option, None, Some, refl, sym, ap, ◌∙◌, arith, subst, add-zero, zero-add}
 use Rattle.std.specs.Prelude.{◌&&◌, ◌||◌}
 use Rattle.std.specs.Bool.{OnTrue}
 use Rattle.std.specs.List.{list_any, slice_get, count_by, AllZip, AllByRecursion, IsDistinct}
@@ -28,16 +28,15 @@ use Rattle.ghcn_files.specs.IdLaws.{same_id-turned}
 use Rattle.ghcn_series.proofs.ListFacts.{neither}
 
 -- a month of another station changes none of these gatherings
-other_zip : (before : List Month) (m : Month) (id : StationId) (gs : List Gathering) (es : List Element)
-    → same_id m.id id ≡ false → AllZip (IsGatheringOf before id) gs es
-    → AllZip (IsGatheringOf (before ++ m ∷ []) id) gs es
-other_zip before m id [] [] other is = tt
-other_zip before m id [] (e ∷ es) other is = absurd is
-other_zip before m id (g ∷ gs) [] other is = absurd is
-other_zip before m id (g ∷ gs) (e ∷ es) other is = (
-  gathering-other before m id g e (ap (λ (b : Bool). b && same_element m.element e) other) is.0,
-  other_zip before m
-      id gs es other is.1,
+other_zip : (asked : Option Element) (before : List Month) (m : Month) (id : StationId) (gs : List Gathering)
+    (es : List Element) → same_id m.id id ≡ false → AllZip (IsGatheringOf asked before id) gs es
+    → AllZip (IsGatheringOf asked (before ++ m ∷ []) id) gs es
+other_zip asked before m id [] [] other is = tt
+other_zip asked before m id [] (e ∷ es) other is = absurd is
+other_zip asked before m id (g ∷ gs) [] other is = absurd is
+other_zip asked before m id (g ∷ gs) (e ∷ es) other is = (
+  gathering-other asked before m id g e (ap (λ (b : Bool). b && same_element m.element e) other) is.0,
+  other_zip asked before m id gs es other is.1,
 )
 
 -- a station without a month has none after another's
@@ -49,53 +48,56 @@ none_more before m id other none =
     ∙ ap (λ (b : Bool). b || false) other
 
 -- a month of another station changes no gathering of a station
-station-other : (before : List Month) (m : Month) (s : Station) (g : StationGathering) → same_id m.id s.id ≡ false
-    → IsStationOf before s g → IsStationOf (before ++ m ∷ []) s g
-station-other before m s g other is =
+station-other : (asked : Option Element) (before : List Month) (m : Month) (s : Station) (g : StationGathering)
+    → same_id m.id s.id ≡ false → IsStationOf asked before s g → IsStationOf asked (before ++ m ∷ []) s g
+station-other asked before m s g other is =
     let apart : same_id m.id g.id ≡ false = ap (same_id m.id) is.id ∙ other in
     record { id = is.id; holds = kept g.by_element.items apart is.holds }
   where
-    kept : (gs : List Gathering) → same_id m.id g.id ≡ false → AreByElement before g.id gs
-        → AreByElement (before ++ m ∷ []) g.id gs
+    kept : (gs : List Gathering) → same_id m.id g.id ≡ false → AreByElement asked before g.id gs
+        → AreByElement asked (before ++ m ∷ []) g.id gs
     kept [] apart holds = none_more before m g.id apart holds
-    kept (x ∷ xs) apart holds = other_zip before m g.id (x ∷ xs) elements apart holds
+    kept (x ∷ xs) apart holds = other_zip asked before m g.id (x ∷ xs) elements apart holds
 
 -- a month of none of these stations changes none of them
-stations-other : (before : List Month) (m : Month) (ss : List Station) (gs : List StationGathering)
-    → AllByRecursion (λ i. same_id m.id i ≡ false) (ids ss) → AllZip (IsStationOf before) ss gs
-    → AllZip (IsStationOf (before ++ m ∷ [])) ss gs
-stations-other before m [] [] other is = tt
-stations-other before m [] (g ∷ gs) other is = absurd is
-stations-other before m (s ∷ ss) [] other is = absurd is
-stations-other before m (s ∷ ss) (g ∷ gs) other is = (
-  station-other before m s g other.0 is.0,
-  stations-other before m
-      ss gs other.1 is.1,
+stations-other : (asked : Option Element) (before : List Month) (m : Month) (ss : List Station)
+    (gs : List StationGathering) → AllByRecursion (λ i. same_id m.id i ≡ false) (ids ss)
+    → AllZip (IsStationOf asked before) ss gs
+    → AllZip (IsStationOf asked (before ++ m ∷ [])) ss gs
+stations-other asked before m [] [] other is = tt
+stations-other asked before m [] (g ∷ gs) other is = absurd is
+stations-other asked before m (s ∷ ss) [] other is = absurd is
+stations-other asked before m (s ∷ ss) (g ∷ gs) other is = (
+  station-other asked before m s g other.0 is.0,
+  stations-other asked before m ss gs other.1 is.1,
 )
 
 -- a month more of the station at a place
-pub put_station : (before : List Month) (m : Month) (ss : List Station) (gs : List StationGathering) (k : ℕ)
-    (s : Station) (g new : StationGathering) → IsDistinct same_id (ids ss) → slice_get ss k ≡ Some s → s.id ≡ m.id
-    → AllZip (IsStationOf before) ss gs → g ≡ get_or gs k g → new.id ≡ g.id
-    → (IsStationOf before s g → AreByElement (before ++ m ∷ []) g.id new.by_element.items)
-    → AllZip (IsStationOf (before ++ m ∷ [])) ss (set gs k new)
+pub put_station : (asked : Option Element) (before : List Month) (m : Month) (ss : List Station)
+    (gs : List StationGathering) (k : ℕ) (s : Station) (g new : StationGathering) → IsDistinct same_id (ids ss)
+    → slice_get ss k ≡ Some s → s.id ≡ m.id
+    → AllZip (IsStationOf asked before) ss gs → g ≡ get_or gs k g → new.id ≡ g.id
+    → (IsStationOf asked before s g → AreByElement asked (before ++ m ∷ []) g.id new.by_element.items)
+    → AllZip (IsStationOf asked (before ++ m ∷ [])) ss (set gs k new)
 unfolding IsDistinct
-put_station before m [] gs k s g new apart at of is here same more = absurd cc
-put_station before m (x ∷ xs) [] k s g new apart at of is here same more = absurd is
-put_station before m (x ∷ xs) (y ∷ ys) zero s g new apart at of is here same more =
+put_station asked before m [] gs k s g new apart at of is here same more = absurd cc
+put_station asked before m (x ∷ xs) [] k s g new apart at of is here same more = absurd is
+put_station asked before m (x ∷ xs) (y ∷ ys) zero s g new apart at of is here same more =
     let this : x ≡ s = cc in
-    let P : StationGathering → Type 0 = λ h. IsStationOf before x h in
-    let Q : Station → Type 0 = λ z. IsStationOf before z g in
-    let was : IsStationOf before s g = subst Q this (subst P (sym here) is.0) in
-    let R : StationId → Type 0 = λ i. AreByElement (before ++ m ∷ []) i new.by_element.items in
+    let P : StationGathering → Type 0 = λ h. IsStationOf asked before x h in
+    let Q : Station → Type 0 = λ z. IsStationOf asked before z g in
+    let was : IsStationOf asked before s g = subst Q this (subst P (sym here) is.0) in
+    let R : StationId → Type 0 = λ i. AreByElement asked (before ++ m ∷ []) i new.by_element.items in
     let S : StationId → Type 0 = λ i. AllByRecursion (λ j. same_id i j ≡ false) (ids xs) in (
       record { id = same ∙ was.id ∙ ap (λ (z : Station). z.id) (sym this); holds = subst R (sym same) (more was) },
-      stations-other before m xs ys (subst S (ap (λ (z : Station). z.id) this ∙ of) apart.0) is.1,
+      stations-other asked before m xs ys (subst S (ap (λ (z : Station). z.id) this ∙ of) apart.0) is.1,
     )
-put_station before m (x ∷ xs) (y ∷ ys) (suc k) s g new apart at of is here same more =
+put_station asked before m (x ∷ xs) (y ∷ ys) (suc k) s g new apart at of is here same more =
     let other : same_id m.id x.id ≡ false = same_id-turned m.id x.id ∙ ap (same_id x.id) (sym of)
-    ∙ from_ids (λ i. same_id x.id i ≡ false) xs k s apart.0 at in
-    (station-other before m x y other is.0, put_station before m xs ys k s g new apart.1 at of is.1 here same more)
+    ∙ from_ids (λ i. same_id x.id i ≡ false) xs k s apart.0 at in (
+      station-other asked before m x y other is.0,
+      put_station asked before m xs ys k s g new apart.1 at of is.1 here same more,
+    )
 
 -- how many months of stations that aren't listed there are
 abbrev pub unlisted_months : List Station → List Month → ℕ
@@ -120,58 +122,62 @@ both_right [] m all right = (right, tt)
 both_right (x ∷ xs) m all right = (all.0, both_right xs m all.1 right)
 
 -- the gathering at a place is of the station there
-station_at : (before : List Month) (ss : List Station) (gs : List StationGathering) (k : ℕ) (s : Station)
-    (g : StationGathering) → AllZip (IsStationOf before) ss gs → slice_get ss k ≡ Some s → g ≡ get_or gs k g
-    → IsStationOf before s g
-station_at before [] gs k s g all at here = absurd cc
-station_at before (x ∷ xs) [] k s g all at here = absurd all
-station_at before (x ∷ xs) (y ∷ ys) zero s g all at here =
+station_at : (asked : Option Element) (before : List Month) (ss : List Station) (gs : List StationGathering) (k : ℕ)
+    (s : Station) (g : StationGathering) → AllZip (IsStationOf asked before) ss gs → slice_get ss k ≡ Some s
+    → g ≡ get_or gs k g
+    → IsStationOf asked before s g
+station_at asked before [] gs k s g all at here = absurd cc
+station_at asked before (x ∷ xs) [] k s g all at here = absurd all
+station_at asked before (x ∷ xs) (y ∷ ys) zero s g all at here =
     let this : x ≡ s = cc in
-    let P : StationGathering → Type 0 = λ h. IsStationOf before x h in
-    let Q : Station → Type 0 = λ z. IsStationOf before z g in
+    let P : StationGathering → Type 0 = λ h. IsStationOf asked before x h in
+    let Q : Station → Type 0 = λ z. IsStationOf asked before z g in
     subst Q this (subst P (sym here) all.0)
-station_at before (x ∷ xs) (y ∷ ys) (suc k) s g all at here = station_at before xs ys k s g all.1 at here
+station_at asked before (x ∷ xs) (y ∷ ys) (suc k) s g all at here = station_at asked before xs ys k s g all.1 at here
 
 -- the gathering at the place of an ID has that ID
 pub own_id : (before : List Month) (r : Reader) (id : StationId) (k : ℕ) (g : StationGathering) → HasRead r before
     → place_of r.stations id ≡ Some k → g ≡ get_or r.gathered.items k g → id ≡ g.id
 own_id before r id k g is place here =
     let at = listed-is r.stations id k place in
-    let station = station_at before r.stations r.gathered.items k at.0.0 g is.gathered at.0.1 here in
+    let station = station_at r.element before r.stations r.gathered.items k at.0.0 g is.gathered at.0.1 here in
     sym (station.id ∙ at.0.2)
 
 -- and what these months say of that station
 pub own_months : (before : List Month) (r : Reader) (id : StationId) (k : ℕ) (g : StationGathering) → HasRead r before
     → place_of r.stations id ≡ Some k → g ≡ get_or r.gathered.items k g
-    → AreByElement before g.id g.by_element.items
+    → AreByElement r.element before g.id g.by_element.items
 own_months before r id k g is place here =
     let at = listed-is r.stations id k place in
-    (station_at before r.stations r.gathered.items k at.0.0 g is.gathered at.0.1 here).holds
+    (station_at r.element before r.stations r.gathered.items k at.0.0 g is.gathered at.0.1 here).holds
 
 -- a month of a listed station is read
 pub read-listed : (old new : Reader) (m : Month) (k : ℕ) (g now : StationGathering) (added : Bool)
     → place_of old.stations m.id ≡ Some k → g ≡ get_or old.gathered.items k g → now.id ≡ g.id
-    → GathersAt g now m added
-    → new.stations ≡ old.stations → new.unlisted ≡ old.unlisted → new.gathered.items ≡ set old.gathered.items k now
+    → GathersAt old.element g now m added
+    → new.element ≡ old.element → new.stations ≡ old.stations → new.unlisted ≡ old.unlisted
+    → new.gathered.items ≡ set old.gathered.items k now
     → (before : List Month) → IsMonth m → HasRead old before
     → (added ≡ not (is_listed old.stations m.id && list_any (same_month m) before))
     × OnTrue added (HasRead new (before ++ m ∷ []))
-read-listed old new m k g now added place here same adds stations unlisted gathered before right is =
+read-listed old new m k g now added place here same adds element stations unlisted gathered before right is =
     let at = listed-is old.stations m.id k place in
-    let station = station_at before old.stations old.gathered.items k at.0.0 g is.gathered at.0.1 here in (
+    let station = station_at old.element before old.stations old.gathered.items k at.0.0 g is.gathered at.0.1 here in (
       adds.is_new before station.holds ∙ ap (λ (b : Bool). not (b && list_any (same_month m) before)) (sym at.1),
       on_true added (adds.holds before station.holds),
     )
   where
-    on_true : (b : Bool) → OnTrue b (AreByElement (before ++ m ∷ []) g.id now.by_element.items)
+    on_true : (b : Bool) → OnTrue b (AreByElement old.element (before ++ m ∷ []) g.id now.by_element.items)
         → OnTrue b (HasRead new (before ++ m ∷ []))
     on_true true holds =
         let at = listed-is old.stations m.id k place in
         let P : List Station → Type 0 = AreListed in
-        let Q : List Station → List StationGathering → Type 0 = λ ss gs. AllZip (IsStationOf (before ++ m ∷ [])) ss
-        gs in
-        let put = put_station before m old.stations old.gathered.items k at.0.0 g now is.listed.distinct at.0.1 at.0.2
-        is.gathered here same (λ _. holds) in
+        let Q : List Station → List StationGathering → Type 0 = λ ss gs.
+        AllZip (IsStationOf old.element (before ++ m ∷ [])) ss gs in
+        let R : Option Element → Type 0 = λ e.
+        AllZip (IsStationOf e (before ++ m ∷ [])) new.stations new.gathered.items in
+        let put = put_station old.element before m old.stations old.gathered.items k at.0.0 g now is.listed.distinct
+        at.0.1 at.0.2 is.gathered here same (λ _. holds) in
         record {
           listed = subst P (sym stations) is.listed;
           right = both_right before m is.right right;
@@ -180,19 +186,24 @@ read-listed old new m k g now added place here same adds stations unlisted gathe
               ∙ ap in_64_bits (sym (add-zero (unlisted_months old.stations before))
               ∙ sym (count_more old.stations before m true at.1))
               ∙ ap (λ (ss : List Station). in_64_bits (unlisted_months ss (before ++ m ∷ []))) (sym stations);
-          gathered = subst (λ ss. Q ss new.gathered.items) (sym stations) (subst (Q old.stations) (sym gathered) put);
+          gathered = subst R (sym element)
+              (subst (λ ss. Q ss new.gathered.items) (sym stations) (subst (Q old.stations) (sym gathered) put));
         }
     on_true false holds = tt
 
 -- a month of a station that isn't listed is passed over and counted
-pub read-unlisted : (old new : Reader) (m : Month) → is_listed old.stations m.id ≡ false → new.stations ≡ old.stations
-    → new.gathered.items ≡ old.gathered.items → new.unlisted ≡ in_64_bits (old.unlisted + 1)
+pub read-unlisted : (old new : Reader) (m : Month) → is_listed old.stations m.id ≡ false
+    → new.element ≡ old.element → new.stations ≡ old.stations → new.gathered.items ≡ old.gathered.items
+    → new.unlisted ≡ in_64_bits (old.unlisted + 1)
     → (before : List Month) → IsMonth m → HasRead old before
     → (true ≡ not (is_listed old.stations m.id && list_any (same_month m) before)) × HasRead new (before ++ m ∷ [])
-read-unlisted old new m none stations gathered unlisted before right is =
+read-unlisted old new m none element stations gathered unlisted before right is =
     let P : List Station → Type 0 = AreListed in
-    let Q : List Station → List StationGathering → Type 0 = λ ss gs. AllZip (IsStationOf (before ++ m ∷ [])) ss gs in
-    let kept = stations-other before m old.stations old.gathered.items (apart old.stations none) is.gathered in (
+    let Q : List Station → List StationGathering → Type 0 = λ ss gs.
+    AllZip (IsStationOf old.element (before ++ m ∷ [])) ss gs in
+    let R : Option Element → Type 0 = λ e. AllZip (IsStationOf e (before ++ m ∷ [])) new.stations new.gathered.items in
+    let others = apart old.stations none in
+    let kept = stations-other old.element before m old.stations old.gathered.items others is.gathered in (
       ap (λ (b : Bool). not (b && list_any (same_month m) before)) (sym none),
       record {
         listed = subst P (sym stations) is.listed;
@@ -202,7 +213,8 @@ read-unlisted old new m none stations gathered unlisted before right is =
             ∙ capped (unlisted_months old.stations before)
             ∙ ap in_64_bits (sym (count_more old.stations before m false none))
             ∙ ap (λ (ss : List Station). in_64_bits (unlisted_months ss (before ++ m ∷ []))) (sym stations);
-        gathered = subst (λ ss. Q ss new.gathered.items) (sym stations) (subst (Q old.stations) (sym gathered) kept);
+        gathered = subst R (sym element)
+            (subst (λ ss. Q ss new.gathered.items) (sym stations) (subst (Q old.stations) (sym gathered) kept));
       },
     )
   where
@@ -213,17 +225,19 @@ read-unlisted old new m none stations gathered unlisted before right is =
         (same_id-turned m.id x.id ∙ both.0, apart xs both.1)
 
 -- one station more, of which nothing was read
-pub station-new : (ss : List Station) (gs : List StationGathering) (k : ℕ) (s : Station) (g : StationGathering)
-    → slice_get ss k ≡ Some s → g.id ≡ s.id → g.by_element.items ≡ [] → AllZip (IsStationOf []) (take k ss) gs
-    → AllZip (IsStationOf []) (take (suc k) ss) (gs ++ g ∷ [])
-station-new [] gs k s g at id empty all = absurd cc
-station-new (x ∷ xs) [] zero s g at id empty all =
+pub station-new : (asked : Option Element) (ss : List Station) (gs : List StationGathering) (k : ℕ) (s : Station)
+    (g : StationGathering)
+    → slice_get ss k ≡ Some s → g.id ≡ s.id → g.by_element.items ≡ [] → AllZip (IsStationOf asked []) (take k ss) gs
+    → AllZip (IsStationOf asked []) (take (suc k) ss) (gs ++ g ∷ [])
+station-new asked [] gs k s g at id empty all = absurd cc
+station-new asked (x ∷ xs) [] zero s g at id empty all =
     let this : x ≡ s = cc in
-    let P : List Gathering → Type 0 = AreByElement [] g.id in
+    let P : List Gathering → Type 0 = AreByElement asked [] g.id in
     (record { id = id ∙ ap (λ (z : Station). z.id) (sym this); holds = subst P (sym empty) refl }, tt)
-station-new (x ∷ xs) (y ∷ ys) zero s g at id empty all = absurd all
-station-new (x ∷ xs) [] (suc k) s g at id empty all = absurd all
-station-new (x ∷ xs) (y ∷ ys) (suc k) s g at id empty all = (all.0, station-new xs ys k s g at id empty all.1)
+station-new asked (x ∷ xs) (y ∷ ys) zero s g at id empty all = absurd all
+station-new asked (x ∷ xs) [] (suc k) s g at id empty all = absurd all
+station-new asked (x ∷ xs) (y ∷ ys) (suc k) s g at id empty all =
+    (all.0, station-new asked xs ys k s g at id empty all.1)
 
 -- past the last station all are taken
 pub all_taken : (ss : List Station) (k : ℕ) → slice_get ss k ≡ None → take k ss ≡ ss
@@ -233,12 +247,12 @@ all_taken (x ∷ xs) zero none = absurd cc
 all_taken (x ∷ xs) (suc k) none = ap (λ (ss : List Station). x ∷ ss) (all_taken xs k none)
 
 -- there are as many gatherings as stations
-length-gathered : (months : List Month) (ss : List Station) (gs : List StationGathering)
-    → AllZip (IsStationOf months) ss gs → length ss ≡ length gs
-length-gathered months [] [] all = refl
-length-gathered months [] (g ∷ gs) all = absurd all
-length-gathered months (s ∷ ss) [] all = absurd all
-length-gathered months (s ∷ ss) (g ∷ gs) all = ap suc (length-gathered months ss gs all.1)
+length-gathered : (asked : Option Element) (months : List Month) (ss : List Station) (gs : List StationGathering)
+    → AllZip (IsStationOf asked months) ss gs → length ss ≡ length gs
+length-gathered asked months [] [] all = refl
+length-gathered asked months [] (g ∷ gs) all = absurd all
+length-gathered asked months (s ∷ ss) [] all = absurd all
+length-gathered asked months (s ∷ ss) (g ∷ gs) all = ap suc (length-gathered asked months ss gs all.1)
 
 -- a listed station has its gathering
 pub within_gathered : (months : List Month) (r : Reader) (id : StationId) (k : ℕ) → HasRead r months
@@ -246,6 +260,5 @@ pub within_gathered : (months : List Month) (r : Reader) (id : StationId) (k : �
 within_gathered months r id k is place = omega (
   arith,
   (listed-is r.stations id k place).2,
-  length-gathered months
-      r.stations r.gathered.items is.gathered,
+  length-gathered r.element months r.stations r.gathered.items is.gathered,
 )

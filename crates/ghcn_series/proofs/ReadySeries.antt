@@ -24,7 +24,8 @@ use Rattle.ghcn_files.specs.Months.{is_reading, is_readable, IsMonth}
 use Rattle.ghcn_series.specs.declared.gathering.Gathering.{Gathering}
 use Rattle.ghcn_series.specs.Series.{DayValue, Usable, IsSeries, by_day, is_by_day, is_value}
 use Rattle.ghcn_series.specs.Says.{fact_if}
-use Rattle.ghcn_series.specs.Gathered.{counted, usable_day, usable_days, gathered_days, IsGathering, IsReady}
+use Rattle.ghcn_series.specs.Gathered.{counted, usable_day, usable_days, kept_days, same_time, gathered_days}
+use Rattle.ghcn_series.specs.Gathered.{IsGathering, IsReady}
 use Rattle.ghcn_series.specs.Gathered.{gathered_series}
 use Rattle.ghcn_series.proofs.MonthDays.{has_number}
 use Rattle.ghcn_series.proofs.ApartParts.{apart-distinct}
@@ -175,12 +176,25 @@ rises (x ∷ y ∷ ys) sorted = and_true (int_lt x.0 y.0) (is_by_day (y ∷ ys))
 positive : (n : ℕ) → (n == 0) ≡ false → 0 < n
 positive n e = grind (arith, nat_tests)
 
--- the days of a gathering, in their order, are the usable days of its months in theirs
-pub gathered-sorted : (g : Gathering) (months : List Month) → IsGathering g months
-    → sorted_by by_day (gathered_days g) ≡ sorted_by by_day (flat_map usable_days months)
-gathered-sorted g months is =
-    sorted-same (gathered_days g) (flat_map usable_days months) (apart-distinct _ is.parts.apart)
-    (distinct_days months is.distinct) is.values
+-- no day that is kept stands twice
+distinct_kept : (kept : Bool) (months : List Month) → IsDistinct same_time months
+    → IsDistinct int_eq (keys_of (kept_days kept months))
+unfolding IsDistinct
+distinct_kept true months apart = distinct_days months apart
+distinct_kept false months apart = tt
+
+-- all days that are kept are right
+kept_right : (kept : Bool) (e : Element) (months : List Month)
+    → AllByRecursion (λ m. IsMonth m × (m.element ≡ e)) months → list_all (IsDayOf e) (kept_days kept months) ≡ true
+kept_right true e months right = all_right e months right
+kept_right false e months right = refl
+
+-- the days of a gathering, in their order, are those of its months' usable days that are kept, in theirs
+pub gathered-sorted : (kept : Bool) (g : Gathering) (months : List Month) → IsGathering kept g months
+    → sorted_by by_day (gathered_days g) ≡ sorted_by by_day (kept_days kept months)
+gathered-sorted kept g months is =
+    sorted-same (gathered_days g) (kept_days kept months) (apart-distinct _ is.parts.apart)
+    (distinct_kept kept months is.distinct) is.values
 
 -- a gathering with a usable day becomes a series
 pub is_series : (id : StationId) (g : Gathering) (days : List DayValue) → IsReady g → (length (gathered_days g) == 0)
@@ -188,15 +202,15 @@ pub is_series : (id : StationId) (g : Gathering) (days : List DayValue) → IsRe
     → IsSeries (record { id = id; element = g.element; days = days })
 is_series id g days ready some sorted =
     let apart : IsDistinct int_eq (keys_of (gathered_days g)) = apart-distinct _ ready.holds.parts.apart in
-    let all : list_all (IsDayOf g.element) (flat_map usable_days ready.months) ≡ true = all_right g.element ready.months
-    ready.right in
+    let held = kept_days ready.kept ready.months in
+    let all : list_all (IsDayOf g.element) held ≡ true = kept_right ready.kept g.element ready.months ready.right in
     let P : List DayValue → Type 0 = λ ds. IsSeries (record { id = id; element = g.element; days = ds }) in
     subst P (sym sorted) (record {
       nonempty = omega (arith, length-sorted (gathered_days g), positive (length (gathered_days g)) some);
       by_day = rises (sorted_by by_day (gathered_days g)) (sorted_by-rises (gathered_days g) apart);
       values =
-          ap (list_all (IsDayOf g.element)) (gathered-sorted g ready.months ready.holds)
-          ∙ sorted_right (IsDayOf g.element) (flat_map usable_days ready.months) all;
+          ap (list_all (IsDayOf g.element)) (gathered-sorted ready.kept g ready.months ready.holds)
+          ∙ sorted_right (IsDayOf g.element) held all;
     })
 
 -- a gathering without a usable day adds no series

@@ -1,7 +1,8 @@
 -- The months that were seen, and one more.
-use Rattle.std.proofs.Common.{◌≡◌, ℕ, ◌+◌, ◌*◌, ◌≤◌, Bool, true, false, List, [], ◌∷◌, ◌++◌, Option, refl, sym, ap}
-use Rattle.std.proofs.Common.{subst, ◌∙◌, arith, ℤ}
-use Rattle.std.specs.Prelude.{◌==◌, ◌&&◌, ◌||◌}
+use Rattle.std.proofs.Common.{◌≡◌, ℕ, ◌+◌, ◌*◌, ◌≤◌, Bool, true, false, not, List, [], ◌∷◌, ◌++◌, Option, refl, sym, ap}
+use Rattle.std.proofs.Common.{subst, ◌∙◌, arith, ℤ, Result, Ok, Err}
+use Rattle.std.specs.Prelude.{◌==◌, ◌&&◌, ◌||◌, IfOk, OnOk}
+use Rattle.std.specs.Bool.{OnTrue}
 use Rattle.std.specs.List.{list_any, flat_map, IsDistinct, AllByRecursion}
 use Rattle.std.specs.Map.{keys_of}
 use Rattle.std.specs.Option.{option_or}
@@ -10,11 +11,15 @@ use Rattle.std.proofs.lemmas.List.{append-nil}
 use Rattle.std.proofs.lemmas.List.Concat.{flat_map-append}
 use Rattle.std.proofs.lemmas.Bool.Decides.{nat_tests}
 use Rattle.std.proofs.lemmas.List.Folds.{list_any-append}
+use Rattle.ghcn_fields.specs.declared.memory.Memory.{Memory}
 use Rattle.ghcn_files.specs.declared.month.Month.{Month}
+use Rattle.ghcn_files.specs.declared.row.MonthRow.{MonthRow}
 use Rattle.ghcn_files.specs.Months.{IsMonth}
+use Rattle.ghcn_files.specs.Rows.{IsRowOf}
 use Rattle.ghcn_series.specs.declared.gathering.Gathering.{Gathering}
 use Rattle.ghcn_series.specs.Series.{DayValue, value_on}
-use Rattle.ghcn_series.specs.Parts.{AreParts, AreNew, AreJoined}
+use Rattle.ghcn_series.specs.Steps.{OfMonth, Gathers}
+use Rattle.ghcn_series.specs.Parts.{AreParts, AreNew, AreJoined, days_held}
 use Rattle.ghcn_series.specs.Gathered.{number_of, has_number, same_time, usable_days, gathered_days, IsGathering}
 use Rattle.ghcn_series.specs.SeenMonths.{has_month, Adds}
 use Rattle.ghcn_series.proofs.Lookups.{value_on-append}
@@ -78,9 +83,9 @@ numbers-are m (x ∷ xs) right all =
     ∙ ap (λ (b : Bool). same_time m x || b) (numbers-are m xs right all.1)
 
 -- whether a month was seen is whether one of its time was
-pub seen-is : (g : Gathering) (m : Month) (before : List Month) → IsMonth m → IsGathering g before
+pub seen-is : (kept : Bool) (g : Gathering) (m : Month) (before : List Month) → IsMonth m → IsGathering kept g before
     → has_month g.seen (number_of m) ≡ list_any (same_time m) before
-seen-is g m before right is = is.seen (number_of m) ∙ numbers-are m before right is.right
+seen-is kept g m before right is = is.seen (number_of m) ∙ numbers-are m before right is.right
 
 -- one more to ask about comes last
 or_last : (a c d : Bool) → c ≡ d → (a || c) ≡ (a || (d || false))
@@ -104,35 +109,84 @@ days-more before m =
     ∙ ap (λ (xs : List DayValue). flat_map usable_days before ++ xs) (append-nil (usable_days m))
 
 -- a month whose time wasn't seen has no day that was gathered
-pub month-new : (g : Gathering) (m : Month) (before : List Month) → IsMonth m → IsGathering g before
+pub month-new : (g : Gathering) (m : Month) (before : List Month) → IsMonth m → IsGathering true g before
     → has_month g.seen (number_of m) ≡ false
     → AreNew (gathered_days g) (usable_days m)
 month-new g m before right is fresh d some =
     let apart : IsDistinct same_time (before ++ m ∷ []) = distinct-more m before is.distinct
-    (sym (seen-is g m before right is) ∙ fresh) in
+    (sym (seen-is true g m before right is) ∙ fresh) in
     let distinct : IsDistinct int_eq (keys_of (flat_map usable_days before ++ usable_days m)) =
     subst (λ (xs : List DayValue). IsDistinct int_eq (keys_of xs)) (days-more before m)
     (distinct_days (before ++ m ∷ []) apart) in
     is.values d ∙ new-behind (flat_map usable_days before) (usable_days m) distinct d some
 
--- one month more is gathered
-pub gathering-more : (old new : Gathering) (m : Month) (before : List Month) → IsMonth m → IsGathering old before
+-- the months that were seen, with one more
+seen-more : (kept : Bool) (old new : Gathering) (m : Month) (before : List Month) → IsGathering kept old before
+    → Adds old.seen new.seen (number_of m)
+    → (t : ℕ) → has_month new.seen t ≡ list_any (has_number t) (before ++ m ∷ [])
+seen-more kept old new m before is adds t =
+    adds t
+    ∙ ap (λ (b : Bool). b || (number_of m == t)) (is.seen t)
+    ∙ or_last (list_any (has_number t) before) (number_of m == t) (t == number_of m) (eqb-turned (number_of m) t)
+    ∙ sym (list_any-append (has_number t) before (m ∷ []))
+
+-- one month more is gathered with its days
+pub gathering-more : (old new : Gathering) (m : Month) (before : List Month) → IsMonth m → IsGathering true old before
     → has_month old.seen (number_of m) ≡ false
     → Adds old.seen new.seen (number_of m)
     → AreParts new.parts → AreJoined (gathered_days old) (usable_days m) (gathered_days new)
-    → IsGathering new (before ++ m ∷ [])
+    → IsGathering true new (before ++ m ∷ [])
 gathering-more old new m before right is fresh adds parts joined = record {
   right = all_more m before is.right right;
-  seen = λ t.
-      adds t
-      ∙ ap (λ (b : Bool). b || (number_of m == t)) (is.seen t)
-      ∙ or_last (list_any (has_number t) before) (number_of m == t) (t == number_of m) (eqb-turned (number_of m) t)
-      ∙ sym (list_any-append (has_number t) before (m ∷ []));
+  seen = seen-more true old new m before is adds;
   parts = parts;
   values = λ d.
       joined d
       ∙ ap (λ (o : Option ℤ). option_or o (value_on (usable_days m) d)) (is.values d)
       ∙ sym (value_on-append (flat_map usable_days before) (usable_days m) d)
       ∙ ap (λ (xs : List DayValue). value_on xs d) (sym (days-more before m));
-  distinct = distinct-more m before is.distinct (sym (seen-is old m before right is) ∙ fresh);
+  distinct = distinct-more m before is.distinct (sym (seen-is true old m before right is) ∙ fresh);
 }
+
+-- one month more is gathered whose days aren't kept
+pub gathering-noted : (old new : Gathering) (m : Month) (before : List Month) → IsMonth m → IsGathering false old before
+    → has_month old.seen (number_of m) ≡ false
+    → Adds old.seen new.seen (number_of m) → new.parts ≡ old.parts
+    → IsGathering false new (before ++ m ∷ [])
+gathering-noted old new m before right is fresh adds same = record {
+  right = all_more m before is.right right;
+  seen = seen-more false old new m before is adds;
+  parts = subst AreParts (sym same) is.parts;
+  values = λ d. ap (λ p. value_on (days_held p) d) same ∙ is.values d;
+  distinct = distinct-more m before is.distinct (sym (seen-is false old m before right is) ∙ fresh);
+}
+
+-- what isn't new was seen, and the other way round
+pub turned : (b c : Bool) → b ≡ not c → c ≡ not b
+turned true true e = absurd cc
+turned true false e = refl
+turned false true e = refl
+turned false false e = absurd cc
+
+-- a month's number is that of its row
+pub number_is : (m : Month) (row : MonthRow) (n : ℕ) → IsRowOf m row → n ≡ 12 * row.year + row.month → n ≡ number_of m
+number_is m row n of e =
+    e ∙ ap (λ (y : ℕ). 12 * y + row.month) of.year ∙ ap (λ (t : ℕ). 12 * m.year + t) of.month
+
+-- a month is noted, unless one of its time was
+pub noted : (row : MonthRow) (old new : Gathering) (result : Result Bool Memory)
+    → IfOk result (λ is_new. is_new ≡ not (has_month old.seen (12 * row.year + row.month)))
+    → OnOk result (Adds old.seen new.seen (12 * row.year + row.month)) → new.parts ≡ old.parts
+    → IfOk result (λ added. OfMonth row (λ m. Gathers false old new m added))
+noted row old new (Err memory) told adds same = tt
+noted row old new (Ok added) told adds same = λ m right of.
+    let number : 12 * row.year + row.month ≡ number_of m = number_is m row (12 * row.year + row.month) of refl in
+    let is_new : added ≡ not (has_month old.seen (number_of m)) = told ∙ ap (λ n. not (has_month old.seen n)) number in
+    let more : Adds old.seen new.seen (number_of m) = subst (Adds old.seen new.seen) number adds in
+    record {
+      is_new = λ before is. is_new ∙ ap not (seen-is false old m before right is);
+      holds = λ before is. elim added as (λ b. added ≡ b → OnTrue b (IsGathering false new (before ++ m ∷ []))) [
+        | true ↦ λ yes. gathering-noted old new m before right is (turned true _ (sym yes ∙ is_new)) more same
+        | false ↦ λ no. tt
+      ] refl;
+    }

@@ -1,6 +1,6 @@
 -- The months of one station, by element.
 use Rattle.std.proofs.Common.{◌≡◌, ℕ, zero, suc, Bool, true, false, cond, not, List, [], ◌∷◌, ◌++◌, length, map, get_or}
-use Rattle.std.proofs.Common.{Some, refl, sym, ap, ◌∙◌, subst}
+use Rattle.std.proofs.Common.{Option, Some, refl, sym, ap, ◌∙◌, subst}
 use Rattle.std.specs.Prelude.{◌==◌, ◌&&◌, ◌||◌}
 use Rattle.std.specs.Bool.{OnTrue}
 use Rattle.std.specs.List.{list_any, slice_get, AllZip, AllByRecursion, IsDistinct}
@@ -19,7 +19,8 @@ use Rattle.ghcn_series.specs.declared.gathering.Gathering.{Gathering}
 use Rattle.ghcn_series.specs.DailyFaults.{same_month}
 use Rattle.ghcn_series.specs.Gathered.{same_time, months_of, IsGathering, IsGatheringOf, AreByElement}
 use Rattle.ghcn_files.specs.IdLaws.{same_id-turned}
-use Rattle.ghcn_series.specs.Steps.{Gathers}
+use Rattle.ghcn_series.specs.Kept.{is_kept}
+use Rattle.ghcn_series.specs.Steps.{Gathers, GathersSome, GathersNothing}
 use Rattle.ghcn_series.proofs.ListFacts.{neither, and_false}
 
 -- a station without a month has none of any element
@@ -39,29 +40,29 @@ length-zip R (x ∷ xs) [] all = absurd all
 length-zip R (x ∷ xs) (y ∷ ys) all = ap suc (length-zip R xs ys all.1)
 
 -- gatherings of nothing fit a station without a month
-empty_zip : (months : List Month) (id : StationId) (gs : List Gathering) (es : List Element)
+empty_zip : (asked : Option Element) (months : List Month) (id : StationId) (gs : List Gathering) (es : List Element)
     → list_any (λ m. same_id m.id id) months ≡ false → map (λ g. g.element) gs ≡ es
-    → AllByRecursion (λ g. IsGathering g []) gs → AllZip (IsGatheringOf months id) gs es
-empty_zip months id [] [] none is all = tt
-empty_zip months id [] (e ∷ es) none is all = absurd cc
-empty_zip months id (g ∷ gs) [] none is all = absurd cc
-empty_zip months id (g ∷ gs) (e ∷ es) none is all =
+    → AllByRecursion GathersNothing gs → AllZip (IsGatheringOf asked months id) gs es
+empty_zip asked months id [] [] none is all = tt
+empty_zip asked months id [] (e ∷ es) none is all = absurd cc
+empty_zip asked months id (g ∷ gs) [] none is all = absurd cc
+empty_zip asked months id (g ∷ gs) (e ∷ es) none is all =
     let head : g.element ≡ e = cc in
     let tail : map (λ h. h.element) gs ≡ es = cc in
-    let P : List Month → Type 0 = IsGathering g in (
-      record { element = head; holds = subst P (sym (months_of-none months id e none)) all.0 },
-      empty_zip months id gs es
-          none tail all.1,
+    let P : List Month → Type 0 = IsGathering (is_kept asked e) g in (
+      record { element = head; holds = subst P (sym (months_of-none months id e none)) (all.0 (is_kept asked e)) },
+      empty_zip asked months id gs es none tail all.1,
     )
 
 -- gatherings of nothing, where there were none
-pub by_element-new : (months : List Month) (id : StationId) (before after : List Gathering) → (length before ≡ 5 → ⊥)
-    → AreByElement months id before
-    → map (λ g. g.element) after ≡ elements → AllByRecursion (λ g. IsGathering g []) after
-    → AllZip (IsGatheringOf months id) after elements
-by_element-new months id [] after few is elements_are all = empty_zip months id after elements is elements_are all
-by_element-new months id (g ∷ gs) after few is elements_are all = absurd
-    (few (length-zip (IsGatheringOf months id) (g ∷ gs) elements is))
+pub by_element-new : (asked : Option Element) (months : List Month) (id : StationId) (before after : List Gathering)
+    → (length before ≡ 5 → ⊥) → AreByElement asked months id before
+    → map (λ g. g.element) after ≡ elements → AllByRecursion GathersNothing after
+    → AllZip (IsGatheringOf asked months id) after elements
+by_element-new asked months id [] after few is elements_are all =
+    empty_zip asked months id after elements is elements_are all
+by_element-new asked months id (g ∷ gs) after few is elements_are all = absurd
+    (few (length-zip (IsGatheringOf asked months id) (g ∷ gs) elements is))
 
 -- two elements are the same in both directions
 same_element-turned : (a b : Element) → same_element a b ≡ same_element b a
@@ -84,23 +85,23 @@ months_of-this before m id e this =
     ∙ ap (λ (b : Bool). months_of before id e ++ cond b (m ∷ []) []) this
 
 -- a month of another station or element changes no gathering
-pub gathering-other : (before : List Month) (m : Month) (id : StationId) (g : Gathering) (e : Element)
-    → (same_id m.id id && same_element m.element e) ≡ false → IsGatheringOf before id g e
-    → IsGatheringOf (before ++ m ∷ []) id g e
-gathering-other before m id g e other is =
-    let P : List Month → Type 0 = IsGathering g in
+pub gathering-other : (asked : Option Element) (before : List Month) (m : Month) (id : StationId) (g : Gathering)
+    (e : Element) → (same_id m.id id && same_element m.element e) ≡ false → IsGatheringOf asked before id g e
+    → IsGatheringOf asked (before ++ m ∷ []) id g e
+gathering-other asked before m id g e other is =
+    let P : List Month → Type 0 = IsGathering (is_kept asked e) g in
     record { element = is.element; holds = subst P (sym (months_of-other before m id e other)) is.holds }
 
 -- a month of another element changes none of these gatherings
-other_elements : (before : List Month) (m : Month) (id : StationId) (gs : List Gathering) (es : List Element)
-    → AllByRecursion (λ e. same_element m.element e ≡ false) es → AllZip (IsGatheringOf before id) gs es
-    → AllZip (IsGatheringOf (before ++ m ∷ []) id) gs es
-other_elements before m id [] [] other is = tt
-other_elements before m id [] (e ∷ es) other is = absurd is
-other_elements before m id (g ∷ gs) [] other is = absurd is
-other_elements before m id (g ∷ gs) (e ∷ es) other is = (
-  gathering-other before m id g e (and_false (same_id m.id id) (same_element m.element e) other.0) is.0,
-  other_elements before m id gs es other.1 is.1,
+other_elements : (asked : Option Element) (before : List Month) (m : Month) (id : StationId) (gs : List Gathering)
+    (es : List Element) → AllByRecursion (λ e. same_element m.element e ≡ false) es
+    → AllZip (IsGatheringOf asked before id) gs es → AllZip (IsGatheringOf asked (before ++ m ∷ []) id) gs es
+other_elements asked before m id [] [] other is = tt
+other_elements asked before m id [] (e ∷ es) other is = absurd is
+other_elements asked before m id (g ∷ gs) [] other is = absurd is
+other_elements asked before m id (g ∷ gs) (e ∷ es) other is = (
+  gathering-other asked before m id g e (and_false (same_id m.id id) (same_element m.element e) other.0) is.0,
+  other_elements asked before m id gs es other.1 is.1,
 )
 
 -- what is true of all is true at each place
@@ -120,32 +121,31 @@ same_here m id e of at =
     ∙ nat_eq_equiv.refl (element_index m.element)
 
 -- a gathering with one month more, among those of other elements
-put_gathering : (before : List Month) (m : Month) (id : StationId) (gs : List Gathering) (es : List Element) (k : ℕ)
-    (g new : Gathering) → m.id ≡ id → IsDistinct same_element es
-    → AllZip (IsGatheringOf before id) gs es → slice_get es k ≡ Some m.element → g ≡ get_or gs k g
-    → new.element ≡ g.element → IsGathering new (months_of before id m.element ++ m ∷ [])
-    → AllZip (IsGatheringOf (before ++ m ∷ []) id) (set gs k new) es
+put_gathering : (asked : Option Element) (before : List Month) (m : Month) (id : StationId) (gs : List Gathering)
+    (es : List Element) (k : ℕ) (g new : Gathering) → m.id ≡ id → IsDistinct same_element es
+    → AllZip (IsGatheringOf asked before id) gs es → slice_get es k ≡ Some m.element → g ≡ get_or gs k g
+    → new.element ≡ g.element
+    → IsGathering (is_kept asked m.element) new (months_of before id m.element ++ m ∷ [])
+    → AllZip (IsGatheringOf asked (before ++ m ∷ []) id) (set gs k new) es
 unfolding IsDistinct
-put_gathering before m id [] [] k g new of apart is at here same holds = tt
-put_gathering before m id [] (e ∷ es) k g new of apart is at here same holds = absurd is
-put_gathering before m id (x ∷ xs) [] k g new of apart is at here same holds = absurd is
-put_gathering before m id (x ∷ xs) (e ∷ es) zero g new of apart is at here same holds =
+put_gathering asked before m id [] [] k g new of apart is at here same holds = tt
+put_gathering asked before m id [] (e ∷ es) k g new of apart is at here same holds = absurd is
+put_gathering asked before m id (x ∷ xs) [] k g new of apart is at here same holds = absurd is
+put_gathering asked before m id (x ∷ xs) (e ∷ es) zero g new of apart is at here same holds =
     let this : e ≡ m.element = cc in
-    let P : List Month → Type 0 = IsGathering new in
-    let all : IsGathering new (months_of (before ++ m ∷ []) id e) =
-    subst P (sym (months_of-this before m id e (same_here m id e of this)
-    ∙ ap (λ (f : Element). months_of before id f ++ m ∷ []) this)) holds in
+    let P : List Month → Type 0 = IsGathering (is_kept asked e) new in
+    let R : Element → Type 0 = λ f. IsGathering (is_kept asked f) new (months_of before id f ++ m ∷ []) in
+    let all : IsGathering (is_kept asked e) new (months_of (before ++ m ∷ []) id e) =
+    subst P (sym (months_of-this before m id e (same_here m id e of this))) (subst R (sym this) holds) in
     let Q : Element → Type 0 = λ f. AllByRecursion (λ d. same_element f d ≡ false) es in (
       record { element = same ∙ ap (λ (h : Gathering). h.element) here ∙ is.0.element; holds = all },
-      other_elements
-          before m id xs es (subst Q this apart.0) is.1,
+      other_elements asked before m id xs es (subst Q this apart.0) is.1,
     )
-put_gathering before m id (x ∷ xs) (e ∷ es) (suc k) g new of apart is at here same holds =
+put_gathering asked before m id (x ∷ xs) (e ∷ es) (suc k) g new of apart is at here same holds =
     let other : same_element m.element e ≡ false = same_element-turned m.element e
     ∙ from_all (λ d. same_element e d ≡ false) es k m.element apart.0 at in (
-      gathering-other before m id x e (and_false (same_id m.id id) (same_element m.element e) other) is.0,
-      put_gathering
-          before m id xs es k g new of apart.1 is.1 at here same holds,
+      gathering-other asked before m id x e (and_false (same_id m.id id) (same_element m.element e) other) is.0,
+      put_gathering asked before m id xs es k g new of apart.1 is.1 at here same holds,
     )
 
 -- no two of the elements are the same
@@ -165,18 +165,27 @@ element_at Tmax = refl
 element_at Tmin = refl
 
 -- the gathering of an element has its months
-pub found_at : (gs : List Gathering) (es : List Element) (months : List Month) (id : StationId) (k : ℕ) (e : Element)
-    (g : Gathering) → AllZip (IsGatheringOf months id) gs es → slice_get es k ≡ Some e → g ≡ get_or gs k g
-    → IsGathering g (months_of months id e)
-found_at [] [] months id k e g is at here = absurd cc
-found_at [] (d ∷ ds) months id k e g is at here = absurd is
-found_at (x ∷ xs) [] months id k e g is at here = absurd is
-found_at (x ∷ xs) (d ∷ ds) months id zero e g is at here =
+pub found_at : (asked : Option Element) (gs : List Gathering) (es : List Element) (months : List Month)
+    (id : StationId) (k : ℕ) (e : Element) (g : Gathering) → AllZip (IsGatheringOf asked months id) gs es
+    → slice_get es k ≡ Some e → g ≡ get_or gs k g → IsGathering (is_kept asked e) g (months_of months id e)
+found_at asked [] [] months id k e g is at here = absurd cc
+found_at asked [] (d ∷ ds) months id k e g is at here = absurd is
+found_at asked (x ∷ xs) [] months id k e g is at here = absurd is
+found_at asked (x ∷ xs) (d ∷ ds) months id zero e g is at here =
     let this : d ≡ e = cc in
-    let P : Element → Type 0 = λ f. IsGathering g (months_of months id f) in
-    let Q : Gathering → Type 0 = λ h. IsGathering h (months_of months id d) in
+    let P : Element → Type 0 = λ f. IsGathering (is_kept asked f) g (months_of months id f) in
+    let Q : Gathering → Type 0 = λ h. IsGathering (is_kept asked d) h (months_of months id d) in
     subst P this (subst Q (sym here) is.0.holds)
-found_at (x ∷ xs) (d ∷ ds) months id (suc k) e g is at here = found_at xs ds months id k e g is.1 at here
+found_at asked (x ∷ xs) (d ∷ ds) months id (suc k) e g is at here = found_at asked xs ds months id k e g is.1 at here
+
+-- the gathering of an element has some months, with their days or without
+pub some_at : (asked : Option Element) (kept : Bool) (five : List Gathering) (before : List Month) (id : StationId)
+    (e : Element) (g : Gathering) → is_kept asked e ≡ kept → AllZip (IsGatheringOf asked before id) five elements
+    → g ≡ get_or five (element_index e) g → GathersSome kept g
+some_at asked kept five before id e g is all here =
+    let months = months_of before id e in
+    let P : Bool → Type 0 = λ b. IsGathering b g months in
+    (months, subst P is (found_at asked five elements before id (element_index e) e g all (element_at e) here))
 
 -- a test of the kept ones is one of all
 any_if : {X : Type 0} (p : X → Bool) (i e : Bool) (x : X) (xs : List X) → (i && e && p x || list_any p xs)
@@ -206,29 +215,31 @@ repeats-is (x ∷ xs) m =
     ∙ any_if (same_time m) (same_id x.id m.id) (same_element x.element m.element) x (months_of xs m.id m.element)
 
 -- five gatherings are gatherings by element
-kept_by_element : (months : List Month) (id : StationId) (gs : List Gathering)
-    → AllZip (IsGatheringOf months id) gs elements → AreByElement months id gs
-kept_by_element months id [] is = absurd is
-kept_by_element months id (g ∷ gs) is = is
+kept_by_element : (asked : Option Element) (months : List Month) (id : StationId) (gs : List Gathering)
+    → AllZip (IsGatheringOf asked months id) gs elements → AreByElement asked months id gs
+kept_by_element asked months id [] is = absurd is
+kept_by_element asked months id (g ∷ gs) is = is
 
 -- one month more of a station, unless it was read before
-pub by_element-more : (m : Month) (id : StationId) (five : List Gathering) (k : ℕ) (g new : Gathering) (added : Bool)
+pub by_element-more : (asked : Option Element) (m : Month) (id : StationId) (five : List Gathering) (k : ℕ)
+    (g new : Gathering) (added : Bool)
     → k ≡ element_index m.element → g ≡ get_or five k g → new.element ≡ g.element
-    → Gathers g new m added
-    → (before : List Month) → m.id ≡ id → AllZip (IsGatheringOf before id) five elements
+    → Gathers (is_kept asked m.element) g new m added
+    → (before : List Month) → m.id ≡ id → AllZip (IsGatheringOf asked before id) five elements
     → (added ≡ not (list_any (same_month m) before))
-    × OnTrue added (AreByElement (before ++ m ∷ []) id (set five k new))
-by_element-more m id five k g new added place here same adds before of is =
+    × OnTrue added (AreByElement asked (before ++ m ∷ []) id (set five k new))
+by_element-more asked m id five k g new added place here same adds before of is =
     let at : slice_get elements k ≡ Some m.element = ap (slice_get elements) place ∙ element_at m.element in
     let months = months_of before id m.element in
-    let own = found_at five elements before id k m.element g is at here in
+    let own = found_at asked five elements before id k m.element g is at here in
     let repeated = repeats-is before m ∙ ap (λ (i : StationId). list_any (same_time m) (months_of before i m.element))
     of in
     (adds.is_new months own ∙ ap not (sym repeated), on_true added (adds.holds months own))
   where
-    on_true : (b : Bool) → OnTrue b (IsGathering new (months_of before id m.element ++ m ∷ []))
-        → OnTrue b (AreByElement (before ++ m ∷ []) id (set five k new))
-    on_true true holds = kept_by_element (before ++ m ∷ []) id (set five k new)
-        (put_gathering before m id five elements k g new of elements_differ is (ap (slice_get elements) place
+    on_true : (b : Bool)
+        → OnTrue b (IsGathering (is_kept asked m.element) new (months_of before id m.element ++ m ∷ []))
+        → OnTrue b (AreByElement asked (before ++ m ∷ []) id (set five k new))
+    on_true true holds = kept_by_element asked (before ++ m ∷ []) id (set five k new)
+        (put_gathering asked before m id five elements k g new of elements_differ is (ap (slice_get elements) place
         ∙ element_at m.element) here same holds)
     on_true false holds = tt

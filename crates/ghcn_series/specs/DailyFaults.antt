@@ -1,8 +1,9 @@
 -- The lines of the daily files in order, and the first of them with a fault.
 use Rattle.std.specs.Prelude.{◌≡◌, ℕ, ◌<◌, ◌^◌, Bool, ◌&&◌, not, ◌==◌, if◌then◌else◌, List, length, map, Option, None}
-use Rattle.std.specs.Prelude.{Some, Result, Ok, Err, filter, ⊤}
+use Rattle.std.specs.Prelude.{Some, Result, Ok, Err, filter, ⊤, [], ◌∷◌}
 use Rattle.std.specs.List.{list_any, flat_map, filter_map, enumerate_from}
 use Rattle.std.specs.Option.{option_map}
+use Rattle.std.specs.Str.Lines.{strip_carriage_return}
 use Rattle.ghcn_fields.specs.Bytes.{is_blank}
 use Rattle.ghcn_fields.specs.Lines.{numbered_lines}
 use Rattle.ghcn_fields.specs.Faults.{IsFirstFault}
@@ -30,9 +31,17 @@ pub record FileLine : Type 0 where
 abbrev pub line_of : ℕ → ℕ × List ℕ → FileLine
 line_of file l = record { file = file; line = l.0; bytes = l.1 }
 
+-- of these lines of a file, each with its number, those that aren't blank
+abbrev pub not_blank : ℕ → List (ℕ × List ℕ) → List FileLine
+not_blank file ls = map (line_of file) (filter (λ l. not (is_blank l.1)) ls)
+
+-- a line of a file, given as it stands before its line feed, unless it is blank
+abbrev pub one_line : ℕ → ℕ → List ℕ → List FileLine
+one_line file line bytes = not_blank file ((line, strip_carriage_return bytes) ∷ [])
+
 -- the lines of a file, of this number
 abbrev pub file_lines : ℕ × List ℕ → List FileLine
-file_lines f = map (line_of f.0) (filter (λ l. not (is_blank l.1)) (numbered_lines f.1))
+file_lines f = not_blank f.0 (numbered_lines f.1)
 
 -- the lines of all files, by file and line, both from 1
 abbrev pub daily_lines : List (List ℕ) → List FileLine

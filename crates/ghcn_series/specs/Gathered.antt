@@ -1,5 +1,5 @@
 -- What has been gathered after some lines, of one station and element and of all of them.
-use Rattle.std.specs.Prelude.{◌≡◌, ℕ, ◌+◌, ◌*◌, ◌==◌, Bool, false, not, ◌&&◌, ◌||◌, if◌then◌else◌, List, []}
+use Rattle.std.specs.Prelude.{◌≡◌, ℕ, ◌+◌, ◌*◌, ◌==◌, Bool, true, false, not, ◌&&◌, ◌||◌, if◌then◌else◌, List, []}
 use Rattle.std.specs.Prelude.{◌∷◌, length, get_or, Option, None, Some, filter, ℤ, pos, int_le, ⊤}
 use Rattle.std.specs.List.{list_any, filter_map, flat_map, enumerate_from, count_by, IsDistinct, AllZip, AllByRecursion}
 use Rattle.std.specs.Option.{option_and_then, option_map}
@@ -22,6 +22,7 @@ use Rattle.ghcn_series.specs.declared.fault.DataFault.{DataFault}
 use Rattle.ghcn_series.specs.declared.fault.DataFault.TheVariants.{TooManyFiles, DailyLine, Memory}
 use Rattle.ghcn_series.specs.Series.{DayValue, Usable, value_on, by_day}
 use Rattle.ghcn_series.specs.Parts.{AreParts, days_held}
+use Rattle.ghcn_series.specs.Kept.{is_kept}
 use Rattle.ghcn_series.specs.SeenMonths.{has_month}
 use Rattle.ghcn_series.specs.DailyFaults.{FileLine, month_on, is_listed, daily_fault, HasFirst}
 use Rattle.ghcn_series.specs.Says.{Fact, fact_of, in_64_bits}
@@ -58,37 +59,46 @@ has_number t m = t == number_of m
 abbrev pub gathered_days : Gathering → List DayValue
 gathered_days g = days_held g.parts
 
--- the gathering has these months, each right by itself: no two of one time, and the values of all their usable days
-pub record IsGathering (g : Gathering) (months : List Month) : Type 0 where
+-- the usable days of these months, where the days of their element are kept, and else none
+abbrev pub kept_days : Bool → List Month → List DayValue
+kept_days true months = flat_map usable_days months
+kept_days false months = []
+
+-- the gathering has these months, each right by itself and no two of one time, and the values of those of their days
+-- that are kept
+pub record IsGathering (kept : Bool) (g : Gathering) (months : List Month) : Type 0 where
   pub right : AllByRecursion IsMonth months
   pub seen : (t : ℕ) → has_month g.seen t ≡ list_any (has_number t) months
   pub parts : AreParts g.parts
-  pub values : (d : ℤ) → value_on (gathered_days g) d ≡ value_on (flat_map usable_days months) d
+  pub values : (d : ℤ) → value_on (gathered_days g) d ≡ value_on (kept_days kept months) d
   pub distinct : IsDistinct same_time months
 
 -- the months of a station and element
 abbrev pub months_of : List Month → StationId → Element → List Month
 months_of months id e = filter (λ m. same_id m.id id && same_element m.element e) months
 
--- the gathering has what these months say of a station and element
-pub record IsGatheringOf (months : List Month) (id : StationId) (g : Gathering) (e : Element) : Type 0 where
+-- the gathering has what these months say of a station and element, where the days of one element are kept, or of all
+pub record IsGatheringOf (asked : Option Element) (months : List Month) (id : StationId) (g : Gathering) (e : Element)
+    : Type 0 where
   pub element : g.element ≡ e
-  pub holds : IsGathering g (months_of months id e)
+  pub holds : IsGathering (is_kept asked e) g (months_of months id e)
 
 -- gatherings by element have what these months say of a station; where there are none, the station has no month
-abbrev pub AreByElement : List Month → StationId → List Gathering → Type 0
-AreByElement months id [] = list_any (λ m. same_id m.id id) months ≡ false
-AreByElement months id (g ∷ gs) = AllZip (IsGatheringOf months id) (g ∷ gs) elements
+abbrev pub AreByElement : Option Element → List Month → StationId → List Gathering → Type 0
+AreByElement asked months id [] = list_any (λ m. same_id m.id id) months ≡ false
+AreByElement asked months id (g ∷ gs) = AllZip (IsGatheringOf asked months id) (g ∷ gs) elements
 
 -- a station's gathering has what these months say of it
-pub record IsStationOf (months : List Month) (s : Station) (g : StationGathering) : Type 0 where
-  pub id : g.id ≡ s.id
-  pub holds : AreByElement months g.id g.by_element.items
+pub record IsStationOf (asked : Option Element) (months : List Month) (s : Station) (g : StationGathering) : Type 0
+  where
+    pub id : g.id ≡ s.id
+    pub holds : AreByElement asked months g.id g.by_element.items
 
 -- a gathering can become a series: its months are of its element and right by themselves
 pub record IsReady (g : Gathering) : Type 0 where
+  pub kept : Bool
   pub months : List Month
-  pub holds : IsGathering g months
+  pub holds : IsGathering kept g months
   pub right : AllByRecursion (λ m. IsMonth m × (m.element ≡ g.element)) months
 
 -- the series of a station's gathering, where it has a usable day
@@ -106,7 +116,7 @@ pub record HasRead (r : Reader) (months : List Month) : Type 0 where
   pub listed : AreListed r.stations
   pub right : AllByRecursion IsMonth months
   pub unlisted : r.unlisted ≡ in_64_bits (count_by (λ m. not (is_listed r.stations m.id)) months)
-  pub gathered : AllZip (IsStationOf months) r.stations r.gathered.items
+  pub gathered : AllZip (IsStationOf r.element months) r.stations r.gathered.items
 
 -- a reader has read these lines, none of which has a fault
 pub record HasReadLines (r : Reader) (ls : List FileLine) : Type 0 where

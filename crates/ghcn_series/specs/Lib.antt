@@ -2,8 +2,11 @@ pub mod Series
 pub mod DailyFaults
 pub mod Says
 pub mod Held
+pub mod Kept
 pub mod SeenMonths
 pub mod Gathered
 pub mod Steps
+pub mod Fed
+pub mod Pieces
 pub mod Packed
 pub mod Parts

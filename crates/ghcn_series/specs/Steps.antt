@@ -1,9 +1,10 @@
 -- What each step of the reading adds to what was read before it.
-use Rattle.std.specs.Prelude.{◌≡◌, ◌++◌, ◌∷◌, [], ◌&&◌, not, Bool, List}
+use Rattle.std.specs.Prelude.{◌≡◌, ◌++◌, ◌∷◌, [], ◌&&◌, not, Bool, List, Option}
 use Rattle.std.specs.Bool.{OnTrue}
 use Rattle.std.specs.List.{list_any, AllZip}
 use Rattle.ghcn_files.specs.declared.month.Month.{Month}
 use Rattle.ghcn_files.specs.declared.row.MonthRow.{MonthRow}
+use Rattle.ghcn_files.specs.declared.element.Element.{Element}
 use Rattle.ghcn_files.specs.Elements.{elements}
 use Rattle.ghcn_files.specs.Months.{IsMonth}
 use Rattle.ghcn_files.specs.Rows.{IsRowOf}
@@ -14,6 +15,7 @@ use Rattle.ghcn_series.specs.declared.fault.DataFault.{DataFault}
 use Rattle.ghcn_series.specs.Series.{Contents}
 use Rattle.ghcn_series.specs.DailyFaults.{FileLine, same_month, is_listed}
 use Rattle.ghcn_series.specs.Says.{contents}
+use Rattle.ghcn_series.specs.Kept.{kept}
 use Rattle.ghcn_series.specs.Gathered.{same_time, IsGathering, IsGatheringOf, AreByElement, HasRead, HasReadLines}
 use Rattle.ghcn_series.specs.Gathered.{IsLineRefusal}
 
@@ -25,30 +27,35 @@ IsOfMonth row = (m : Month) × (IsMonth m × IsRowOf m row)
 abbrev pub OfMonth : MonthRow → (Month → Type 0) → Type 0
 OfMonth row P = (m : Month) → IsMonth m → IsRowOf m row → P m
 
--- what a gathering has: some months
-abbrev pub GathersSome : Gathering → Type 0
-GathersSome g = (months : List Month) × IsGathering g months
+-- what a gathering has whose days are kept or aren't: some months
+abbrev pub GathersSome : Bool → Gathering → Type 0
+GathersSome kept g = (months : List Month) × IsGathering kept g months
+
+-- a gathering has no month, whether its days are to be kept or not
+abbrev pub GathersNothing : Gathering → Type 0
+GathersNothing g = (kept : Bool) → IsGathering kept g []
 
 -- a gathering adds a month, unless it has one of its time
-pub record Gathers (old new : Gathering) (m : Month) (added : Bool) : Type 0 where
-  pub is_new : (before : List Month) → IsGathering old before → added ≡ not (list_any (same_time m) before)
-  pub holds : (before : List Month) → IsGathering old before → OnTrue added (IsGathering new (before ++ m ∷ []))
+pub record Gathers (kept : Bool) (old new : Gathering) (m : Month) (added : Bool) : Type 0 where
+  pub is_new : (before : List Month) → IsGathering kept old before → added ≡ not (list_any (same_time m) before)
+  pub holds : (before : List Month) → IsGathering kept old before
+      → OnTrue added (IsGathering kept new (before ++ m ∷ []))
 
 -- a station has its five gatherings, with what it had before
 pub record Opens (old new : StationGathering) : Type 0 where
-  pub holds : (before : List Month) → AreByElement before old.id old.by_element.items
-      → AllZip (IsGatheringOf before old.id) new.by_element.items elements
+  pub holds : (asked : Option Element) (before : List Month) → AreByElement asked before old.id old.by_element.items
+      → AllZip (IsGatheringOf asked before old.id) new.by_element.items elements
 
 -- what a station has: some months
-abbrev pub StationGathersSome : StationGathering → Type 0
-StationGathersSome s = (months : List Month) × AreByElement months s.id s.by_element.items
+abbrev pub StationGathersSome : Option Element → StationGathering → Type 0
+StationGathersSome asked s = (months : List Month) × AreByElement asked months s.id s.by_element.items
 
 -- a station adds a month, unless it has that month
-pub record GathersAt (old new : StationGathering) (m : Month) (added : Bool) : Type 0 where
-  pub is_new : (before : List Month) → AreByElement before old.id old.by_element.items
+pub record GathersAt (asked : Option Element) (old new : StationGathering) (m : Month) (added : Bool) : Type 0 where
+  pub is_new : (before : List Month) → AreByElement asked before old.id old.by_element.items
       → added ≡ not (list_any (same_month m) before)
-  pub holds : (before : List Month) → AreByElement before old.id old.by_element.items
-      → OnTrue added (AreByElement (before ++ m ∷ []) old.id new.by_element.items)
+  pub holds : (before : List Month) → AreByElement asked before old.id old.by_element.items
+      → OnTrue added (AreByElement asked (before ++ m ∷ []) old.id new.by_element.items)
 
 -- a reader reads a month, unless its station is listed and has that month
 pub record ReadsMonth (old new : Reader) (m : Month) (added : Bool) : Type 0 where
@@ -68,6 +75,6 @@ pub record Reads (old new : Reader) (more : List FileLine) : Type 0 where
 pub record Refuses (old : Reader) (more : List FileLine) (fault : DataFault) : Type 0 where
   pub first : (before : List FileLine) → HasReadLines old before → IsLineRefusal old.stations (before ++ more) fault
 
--- all that a reader has read is held
+-- what is kept of all that a reader has read is held
 pub record HoldsAll (r : Reader) (held : Contents) : Type 0 where
-  pub is : (ls : List FileLine) → HasReadLines r ls → held ≡ contents r.stations ls
+  pub is : (ls : List FileLine) → HasReadLines r ls → held ≡ kept r.element (contents r.stations ls)

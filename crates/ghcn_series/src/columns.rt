@@ -49,7 +49,15 @@ impl Columns {
         ensures some { IfSome result (λ x. packed.IsBlockOf self.now number x.0 x.1.now) }
         ensures none { IfNone result (packed.HasNone self.now number) }
     {
-        let at = place_of(&self.numbers, number)?;
+        self.block_near(0, number)
+    }
+
+    /// The same, looked for first behind so many blocks.
+    pub(crate) fn block_near(&self, before: usize, number: i32) -> Option<(u32, &[i32; 32])>
+        ensures some { IfSome result (λ x. packed.IsBlockOf self.now number x.0 x.1.now) }
+        ensures none { IfNone result (packed.HasNone self.now number) }
+    {
+        let at = place_near(&self.numbers, before, number)?;
         Some((self.words[at], &self.values[at]))
     }
 
@@ -113,6 +121,18 @@ fn last_day(number: i32, word: u32) -> Option<Day>
     ensures { packed.IsLastOf number word result }
 {
     day_at(number, word.ilog2())
+}
+
+/// Where a number stands among numbers that rise, looked for at one place first.
+fn place_near(numbers: &[i32], place: usize, number: i32) -> Option<usize>
+    requires { packed.Rise numbers.now }
+    ensures some { IfSome result (packed.IsAt numbers.now number) }
+    ensures none { IfNone result (packed.IsNowhere numbers.now number) }
+{
+    match numbers.get(place) {
+        Some(there) if *there == number => Some(place),
+        _ => place_of(numbers, number),
+    }
 }
 
 /// Where a number stands among numbers that rise.

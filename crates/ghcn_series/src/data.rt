@@ -1,21 +1,21 @@
 //! The series of all listed stations, from the bytes of daily files.
 
-ghost use Rattle.std.specs.Prelude.{◌≡◌, ◌<◌, ◌^◌, map, length, Ok, Err, IfOk, IfErr};
+ghost use Rattle.std.specs.Prelude.{◌≡◌, ◌<◌, ◌^◌, map, length, Some, Ok, Err, IfOk, IfErr};
 ghost use Rattle.std.specs.List.{find};
 ghost use Rattle.std.specs.Option.{option_copied};
 ghost use Rattle.ghcn_series.specs.Series.{series_of};
 ghost use Rattle.ghcn_series.specs.DailyFaults.{IsRefusal, IsFirstRefusal};
 ghost use Rattle.ghcn_series.specs.Says.{data_of};
 ghost use Rattle.ghcn_series.specs.Held.{IsContents, AreByStation, all_of, is_of_element};
+ghost use Rattle.ghcn_series.specs.Kept.{AreKept};
 
-use crate::reader::Reader;
-use crate::{DataFault, Series};
+use crate::{DataFault, DataReader, Series};
 use ghcn_files::{Element, StationId, Stations};
 use std::alloc::Global;
 use std::marker::Model;
 
-/// How many files one call reads at most.
-const MOST_FILES: usize = 1 << 20;
+/// How many files are read at most.
+pub(crate) const MOST_FILES: u64 = 1 << 20;
 
 /// The series of all listed stations, and how many lines of other stations were passed over.
 #[derive(Drop)]
@@ -50,13 +50,45 @@ impl Data {
         ensures first { IfErr result (λ fault. IsFirstRefusal fault stations (map (λ f. f.now) files.now)) }
         ensures many { 2 ^ 20 < length files.now → result ≡ Err DataFault.TooManyFiles }
     {
-        if files.len() > MOST_FILES {
+        Data::read_kept(alloc, stations, files, None)
+    }
+
+    /// Reads daily files as `read` does, with the same faults, and keeps the series of one element.
+    pub fn read_element(
+        alloc: Global,
+        stations: Stations,
+        files: &[&[u8]],
+        element: Element,
+    ) -> Result<Self, DataFault>
+        ensures ok { IfOk result (AreKept (Some element) stations (map (λ f. f.now) files.now)) }
+        ensures err { IfErr result (λ fault. IsRefusal fault (data_of stations (map (λ f. f.now) files.now))) }
+        ensures first { IfErr result (λ fault. IsFirstRefusal fault stations (map (λ f. f.now) files.now)) }
+        ensures many { 2 ^ 20 < length files.now → result ≡ Err DataFault.TooManyFiles }
+    {
+        Data::read_kept(alloc, stations, files, Some(element))
+    }
+
+    /// Reads daily files, and keeps the series of one element, or of all where none is named.
+    fn read_kept(
+        alloc: Global,
+        stations: Stations,
+        files: &[&[u8]],
+        element: Option<Element>,
+    ) -> Result<Self, DataFault>
+        ensures ok { IfOk result (AreKept element stations (map (λ f. f.now) files.now)) }
+        ensures err { IfErr result (λ fault. IsRefusal fault (data_of stations (map (λ f. f.now) files.now))) }
+        ensures first { IfErr result (λ fault. IsFirstRefusal fault stations (map (λ f. f.now) files.now)) }
+        ensures many { 2 ^ 20 < length files.now → result ≡ Err DataFault.TooManyFiles }
+    {
+        if files.len() as u64 > MOST_FILES {
             return Err(DataFault::TooManyFiles);
         }
-        match Reader::read(alloc, stations, files)?.finish(alloc) {
-            Ok(held) => Ok(held),
-            Err(memory) => Err(DataFault::Memory(memory)),
+        let mut reader = DataReader::of(alloc, stations, element)?;
+        for file in files {
+            reader.piece(file)?;
+            reader.end_of_file()?;
         }
+        reader.finish()
     }
 
     /// These series of the stations, which have one list each.

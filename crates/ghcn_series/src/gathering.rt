@@ -1,11 +1,11 @@
 //! What the lines of one station and element say, gathered while the files are read.
 
-ghost use Rattle.std.specs.Prelude.{◌≡◌, ◌+◌, ◌*◌, ◌==◌, [], length, IfOk, OnOk};
+ghost use Rattle.std.specs.Prelude.{◌≡◌, ◌+◌, ◌*◌, ◌==◌, true, false, length, IfOk, OnOk};
 ghost use Rattle.ghcn_fields.specs.Sorting.{sorted_by};
 ghost use Rattle.ghcn_series.specs.Series.{by_day};
 ghost use Rattle.ghcn_series.specs.Gathered as gathered;
 ghost use Rattle.ghcn_series.specs.Parts as parts;
-ghost use Rattle.ghcn_series.specs.Steps.{Gathers, GathersSome, IsOfMonth, OfMonth};
+ghost use Rattle.ghcn_series.specs.Steps.{Gathers, GathersSome, GathersNothing, IsOfMonth, OfMonth};
 
 use crate::columns::Columns;
 use crate::months::Months;
@@ -14,7 +14,8 @@ use ghcn_fields::{Day, Memory};
 use ghcn_files::{Element, MonthRow};
 use std::alloc::Global;
 
-/// The months of one station and element that were read, and their usable days.
+/// The months of one station and element that were read, and those of their usable days that are
+/// kept.
 #[derive(Drop)]
 pub(crate) struct Gathering {
     element: Element,
@@ -26,7 +27,7 @@ impl Gathering {
     /// Nothing of an element yet.
     pub(crate) fn new(alloc: Global, element: Element) -> Self
         ensures element { result.element ≡ element }
-        ensures empty { gathered.IsGathering result [] }
+        ensures empty { GathersNothing result }
     {
         Gathering {
             element,
@@ -35,18 +36,27 @@ impl Gathering {
         }
     }
 
-    /// Adds a month, or answers false where one of its time was added before.
+    /// Adds a month with its days, or answers false where one of its time was added before.
     pub(crate) fn add(&mut self, alloc: Global, row: &MonthRow) -> Result<bool, Memory>
         requires right { IsOfMonth row.now }
-        requires gathered { GathersSome self.old }
+        requires gathered { GathersSome true self.old }
         ensures element { self.new.element ≡ self.old.element }
-        ensures added { IfOk result (λ added. OfMonth row.now (λ m. Gathers self.old self.new m added)) }
+        ensures added { IfOk result (λ added. OfMonth row.now (λ m. Gathers true self.old self.new m added)) }
     {
         if !self.seen.add(alloc, number_of(row))? {
             return Ok(false);
         }
         add_days(&mut self.parts, row)?;
         Ok(true)
+    }
+
+    /// Adds a month whose days aren't kept, or answers false where one of its time was added before.
+    pub(crate) fn note(&mut self, alloc: Global, row: &MonthRow) -> Result<bool, Memory>
+        requires { GathersSome false self.old }
+        ensures element { self.new.element ≡ self.old.element }
+        ensures added { IfOk result (λ added. OfMonth row.now (λ m. Gathers false self.old self.new m added)) }
+    {
+        self.seen.add(alloc, number_of(row))
     }
 
     /// What is gathered.
@@ -58,7 +68,7 @@ impl Gathering {
 
     /// Whether no usable day was added.
     pub(crate) fn is_empty(&self) -> bool
-        requires { GathersSome self.now }
+        requires { gathered.IsReady self.now }
         ensures { result ≡ (length (gathered.gathered_days self.now) == 0) }
     {
         self.parts.is_empty()
@@ -66,7 +76,7 @@ impl Gathering {
 
     /// The usable days that were added, by increasing day.
     pub(crate) fn into_columns(self, alloc: Global) -> Result<Columns, Memory>
-        requires { GathersSome self }
+        requires { gathered.IsReady self }
         ensures { IfOk result (λ columns. columns ≡ sorted_by by_day (gathered.gathered_days self)) }
     {
         self.parts.put_in_order(alloc)

@@ -9,8 +9,11 @@ mod data;
 mod days;
 mod fault;
 mod gathering;
+#[cfg(test)]
+mod growth_tests;
 mod months;
 mod parts;
+mod pieces;
 mod reader;
 mod series;
 mod station;
@@ -20,4 +23,5 @@ mod tests;
 pub use data::Data;
 pub use days::Days;
 pub use fault::{DailyWhy, DataFault};
+pub use pieces::DataReader;
 pub use series::Series;

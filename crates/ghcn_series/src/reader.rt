@@ -1,20 +1,22 @@
 //! Reads the lines of daily files one after another.
 
-ghost use Rattle.std.specs.Prelude.{◌≡◌, ◌∷◌, [], map, IfOk, IfErr, OnOk};
+ghost use Rattle.std.specs.Prelude.{◌≡◌, ◌∷◌, [], IfOk, IfErr, OnOk};
 ghost use Rattle.ghcn_files.specs.Listed.{AreListed, place_of};
-ghost use Rattle.ghcn_series.specs.DailyFaults.{line_of, file_lines, daily_lines};
-ghost use Rattle.ghcn_series.specs.Gathered.{HasRead, HasReadLines, IsLineRefusal};
+ghost use Rattle.ghcn_series.specs.DailyFaults.{line_of, one_line};
+ghost use Rattle.ghcn_series.specs.Gathered.{HasRead};
 ghost use Rattle.ghcn_series.specs.Steps.{HasReadSome, Reads, Refuses, ReadsMonth, HoldsAll, IsOfMonth, OfMonth};
 
 use crate::station::StationGathering;
 use crate::{DailyWhy, Data, DataFault};
-use ghcn_fields::{Memory, is_blank, lines};
-use ghcn_files::{MonthRow, StationId, Stations, read_days};
+use ghcn_fields::{Memory, is_blank, without_return};
+use ghcn_files::{Element, MonthRow, StationId, Stations, read_days};
 use std::alloc::Global;
 
 /// What was read so far.
 #[derive(Drop)]
 pub(crate) struct Reader {
+    /// The element whose series are kept; where there is none, those of all are.
+    element: Option<Element>,
     stations: Stations,
     /// Of each listed station, in their order.
     gathered: Vec<StationGathering>,
@@ -26,8 +28,14 @@ pub(crate) struct Reader {
 
 impl Reader {
     /// Nothing read yet.
-    fn new(alloc: Global, stations: Stations) -> Result<Self, Memory>
-        ensures { IfOk result (λ reader. (reader.stations ≡ stations) × HasRead reader []) }
+    pub(crate) fn new(
+        alloc: Global,
+        stations: Stations,
+        element: Option<Element>,
+    ) -> Result<Self, Memory>
+        ensures element { IfOk result (λ reader. reader.element ≡ element) }
+        ensures stations { IfOk result (λ reader. reader.stations ≡ stations) }
+        ensures read { IfOk result (λ reader. HasRead reader []) }
     {
         let mut gathered = Vec::with_capacity(alloc, stations.len() as usize)?;
         let mut place = 0;
@@ -36,6 +44,7 @@ impl Reader {
             place += 1;
         }
         Ok(Reader {
+            element,
             stations,
             gathered,
             last: 0,
@@ -43,40 +52,25 @@ impl Reader {
         })
     }
 
-    /// Reads files in their order.
-    pub(crate) fn read(
+    /// Adds a line as it stands before its line feed, unless it is blank.
+    pub(crate) fn add(
+        &mut self,
         alloc: Global,
-        stations: Stations,
-        files: &[&[u8]],
-    ) -> Result<Self, DataFault>
-        ensures stations { IfOk result (λ reader. reader.stations ≡ stations) }
-        ensures read { IfOk result (λ reader. HasReadLines reader (daily_lines (map (λ f. f.now) files.now))) }
-        ensures fault { IfErr result (IsLineRefusal stations (daily_lines (map (λ f. f.now) files.now))) }
-    {
-        let mut reader = match Reader::new(alloc, stations) {
-            Ok(reader) => reader,
-            Err(memory) => return Err(DataFault::Memory(memory)),
-        };
-        for (index, file) in files.iter().enumerate() {
-            reader.add_file(alloc, index as u64 + 1, file)?;
-        }
-        Ok(reader)
-    }
-
-    /// Adds the lines of a file.
-    fn add_file(&mut self, alloc: Global, file: u64, text: &[u8]) -> Result<(), DataFault>
+        file: u64,
+        line: u64,
+        bytes: &[u8],
+    ) -> Result<(), DataFault>
         requires { HasReadSome self.old }
+        ensures element { self.new.element ≡ self.old.element }
         ensures stations { self.new.stations ≡ self.old.stations }
-        ensures read { OnOk result (Reads self.old self.new (file_lines (file, text.now))) }
-        ensures fault { IfErr result (Refuses self.old (file_lines (file, text.now))) }
+        ensures read { OnOk result (Reads self.old self.new (one_line file line bytes.now)) }
+        ensures fault { IfErr result (Refuses self.old (one_line file line bytes.now)) }
     {
-        for (line, bytes) in lines(text) {
-            if is_blank(bytes) {
-                continue;
-            }
-            self.add_line(alloc, file, line, bytes)?;
+        let bytes = without_return(bytes);
+        if is_blank(bytes) {
+            return Ok(());
         }
-        Ok(())
+        self.add_line(alloc, file, line, bytes)
     }
 
     /// The data of all lines that were read.
@@ -106,6 +100,7 @@ impl Reader {
         bytes: &[u8],
     ) -> Result<(), DataFault>
         requires { HasReadSome self.old }
+        ensures element { self.new.element ≡ self.old.element }
         ensures stations { self.new.stations ≡ self.old.stations }
         ensures read { OnOk result (Reads self.old self.new (line_of file (line, bytes.now) ∷ [])) }
         ensures fault { IfErr result (Refuses self.old (line_of file (line, bytes.now) ∷ [])) }
@@ -126,13 +121,14 @@ impl Reader {
     fn add_month(&mut self, alloc: Global, row: &MonthRow) -> Result<bool, Memory>
         requires right { IsOfMonth row.now }
         requires read { HasReadSome self.old }
+        ensures element { self.new.element ≡ self.old.element }
         ensures stations { self.new.stations ≡ self.old.stations }
         ensures added { IfOk result (λ added. OfMonth row.now (λ m. ReadsMonth self.old self.new m added)) }
     {
         match self.place(&row.id) {
             Some(place) => {
                 self.last = place;
-                self.gathered[place].add(alloc, row)
+                self.gathered[place].add(alloc, row, self.element)
             }
             None => {
                 self.unlisted = self.unlisted.saturating_add(1);

@@ -76,6 +76,15 @@ impl Series {
         self.columns.block(number)
     }
 
+    /// The same. The block is looked for first behind so many others, where it is found at once if
+    /// these are the blocks before it.
+    pub fn block_near(&self, before: usize, number: i32) -> Option<(u32, &[i32; 32])>
+        ensures some { IfSome result (λ x. IsBlockOf self.now.days number x.0 x.1.now) }
+        ensures none { IfNone result (HasNone self.now.days number) }
+    {
+        self.columns.block_near(before, number)
+    }
+
     /// The least block from a number on that holds a usable day.
     pub fn next_block(&self, number: i32) -> Option<i32>
         ensures { result ≡ next_block self.now.days number }

@@ -4,8 +4,9 @@ ghost use Rattle.std.specs.Prelude.{◌≡◌, ◌++◌, ◌∷◌, [], List, le
 ghost use Rattle.std.specs.Bool.{OnTrue};
 ghost use Rattle.std.specs.List.{list_any, AllByRecursion, AllZip};
 ghost use Rattle.ghcn_files.specs.Elements.{elements, element_index};
+ghost use Rattle.ghcn_series.specs.Kept.{is_kept};
 ghost use Rattle.ghcn_series.specs.Gathered as gathered;
-ghost use Rattle.ghcn_series.specs.Steps.{GathersAt, StationGathersSome, Opens, IsOfMonth, OfMonth};
+ghost use Rattle.ghcn_series.specs.Steps.{GathersAt, GathersNothing, StationGathersSome, Opens, IsOfMonth, OfMonth};
 
 use crate::Series;
 use crate::gathering::Gathering;
@@ -42,16 +43,27 @@ impl StationGathering {
         }
     }
 
-    /// Adds a month of the station, or answers false where that month was added before.
-    pub(crate) fn add(&mut self, alloc: Global, row: &MonthRow) -> Result<bool, Memory>
+    /// Adds a month of the station, or answers false where that month was added before. The days of
+    /// one element are kept, or of all where none is asked for.
+    pub(crate) fn add(
+        &mut self,
+        alloc: Global,
+        row: &MonthRow,
+        asked: Option<Element>,
+    ) -> Result<bool, Memory>
         requires own { row.now.id ≡ self.old.id }
         requires right { IsOfMonth row.now }
-        requires gathered { StationGathersSome self.old }
+        requires gathered { StationGathersSome asked self.old }
         ensures id { self.new.id ≡ self.old.id }
-        ensures added { IfOk result (λ added. OfMonth row.now (λ m. GathersAt self.old self.new m added)) }
+        ensures added { IfOk result (λ added. OfMonth row.now (λ m. GathersAt asked self.old self.new m added)) }
     {
         self.open(alloc)?;
-        self.by_element[place_of(row.element)].add(alloc, row)
+        let gathering = &mut self.by_element[place_of(row.element)];
+        if is_kept(asked, row.element) {
+            gathering.add(alloc, row)
+        } else {
+            gathering.note(alloc, row)
+        }
     }
 
     /// The series of the station that have a usable day, by element.
@@ -89,13 +101,23 @@ impl StationGathering {
 fn nothing_by_element(alloc: Global) -> Result<Vec<Gathering>, Memory>
     ensures number { IfOk result (λ five. length five.items ≡ 5) }
     ensures elements { IfOk result (λ five. map (λ g. g.element) five.items ≡ elements) }
-    ensures empty { IfOk result (λ five. AllByRecursion (λ g. gathered.IsGathering g []) five.items) }
+    ensures empty { IfOk result (λ five. AllByRecursion GathersNothing five.items) }
 {
     let mut five = Vec::with_capacity(alloc, ELEMENTS.len())?;
     for element in ELEMENTS {
         five.push(Gathering::new(alloc, element))?;
     }
     Ok(five)
+}
+
+/// Whether the days of an element are kept: it is the one that is asked for, or none is.
+fn is_kept(asked: Option<Element>, element: Element) -> bool
+    ensures { result ≡ is_kept asked element }
+{
+    match asked {
+        Some(only) => element == only,
+        None => true,
+    }
 }
 
 /// An element's place among the five.

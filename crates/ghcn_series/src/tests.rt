@@ -1,5 +1,8 @@
 //! Worked examples of daily files and the series that they hold.
 
+ghost use Rattle.std.specs.Prelude.{IfOk};
+ghost use Rattle.ghcn_series.specs.Pieces.{HasFedSome};
+
 use super::*;
 use ghcn_fields::{Day, Memory};
 use ghcn_files::{Element, LineWhy, StationId, Stations};
@@ -467,6 +470,211 @@ fn lines_of_faults(rt: HostRuntime) -> Result<(), Fail> {
     ];
     for (fault, line) in cases {
         assert_eq!(rt; fault.to_string(rt.alloc())?.as_str(), line);
+    }
+    Ok(())
+}
+
+/// A reader of the two stations' files.
+fn reader(alloc: Global) -> Result<DataReader, DataFault>
+    ensures { IfOk result HasFedSome }
+{
+    match Stations::read(alloc, STATIONS) {
+        Ok(stations) => DataReader::new(alloc, stations),
+        Err(_) => Err(DataFault::Memory(Memory)),
+    }
+}
+
+/// What a file says whose bytes come in two pieces.
+fn read_cut(alloc: Global, front: &[u8], behind: &[u8]) -> Result<Data, DataFault> {
+    let mut reader = reader(alloc)?;
+    reader.piece(front)?;
+    reader.piece(behind)?;
+    reader.finish()
+}
+
+/// A reader of the two stations' files that keeps one element.
+fn reader_of(alloc: Global, element: Element) -> Result<DataReader, DataFault>
+    ensures { IfOk result HasFedSome }
+{
+    match Stations::read(alloc, STATIONS) {
+        Ok(stations) => DataReader::of_element(alloc, stations, element),
+        Err(_) => Err(DataFault::Memory(Memory)),
+    }
+}
+
+/// What a file says whose bytes come one by one.
+fn read_by_bytes(mut reader: DataReader, text: &[u8]) -> Result<Data, DataFault>
+    requires { HasFedSome reader }
+{
+    for byte in text {
+        reader.piece(&[*byte])?;
+    }
+    reader.finish()
+}
+
+/// Three lines with carriage returns: July, an empty line, and another one.
+fn three_lines(alloc: Global, last: &[u8; 21]) -> Result<Vec<u8>, Fail> {
+    let july = line_of(b"ZZA00000001202007TMAX", &[(1, b"  311   ")]);
+    let other = line_of(last, &[(1, b"  322   ")]);
+    text_of(alloc, &[&july, b"", &other], b"\r\n")
+}
+
+/// A month that the third line repeats.
+fn repeated() -> DataFault {
+    DataFault::DailyLine {
+        file: 1,
+        line: 3,
+        why: DailyWhy::DuplicateMonth,
+    }
+}
+
+#[test]
+fn cut_anywhere(rt: HostRuntime) -> Result<(), Fail> {
+    let text = three_lines(rt.alloc(), b"ZZA00000001202008TMAX")?;
+    let first = Day::with_number(JULY).ok_or("no day")?;
+    let second = Day::with_number(JULY + 31).ok_or("no day")?;
+    for end in 0..=text.len() {
+        let data = read_cut(rt.alloc(), &text[..end], &text[end..])?;
+        let series = data.series(&A, Element::Tmax).ok_or("no series")?;
+        assert_eq!(rt; series.value(first), Some(311), "cut at {end}");
+        assert_eq!(rt; series.value(second), Some(322), "cut at {end}");
+    }
+    let again = three_lines(rt.alloc(), b"ZZA00000001202007TMAX")?;
+    for end in 0..=again.len() {
+        let fault = read_cut(rt.alloc(), &again[..end], &again[end..]).err();
+        assert_eq!(rt; fault, Some(repeated()), "cut at {end}");
+    }
+    Ok(())
+}
+
+#[test]
+fn one_byte_at_a_time(rt: HostRuntime) -> Result<(), Fail> {
+    let text = three_lines(rt.alloc(), b"ZZA00000001202008TMAX")?;
+    let data = read_by_bytes(reader(rt.alloc())?, &text)?;
+    let series = data.series(&A, Element::Tmax).ok_or("no series")?;
+    let second = Day::with_number(JULY + 31).ok_or("no day")?;
+    assert_eq!(rt; series.value(second), Some(322));
+    let again = three_lines(rt.alloc(), b"ZZA00000001202007TMAX")?;
+    let fault = read_by_bytes(reader(rt.alloc())?, &again).err();
+    assert_eq!(rt; fault, Some(repeated()));
+    Ok(())
+}
+
+#[test]
+fn fault_is_told_at_its_line(rt: HostRuntime) -> Result<(), Fail> {
+    let text = three_lines(rt.alloc(), b"ZZA00000001202007TMAX")?;
+    let [front @ .., last] = text.as_slice() else {
+        return Err(Fail::from("no text"));
+    };
+    let mut with_feed = reader(rt.alloc())?;
+    with_feed.piece(front)?;
+    assert_eq!(rt; with_feed.piece(&[*last]).err(), Some(repeated()));
+    let mut with_end = reader(rt.alloc())?;
+    with_end.piece(front)?;
+    assert_eq!(rt; with_end.end_of_file().err(), Some(repeated()));
+    let mut at_last = reader(rt.alloc())?;
+    at_last.piece(front)?;
+    assert_eq!(rt; at_last.finish().err(), Some(repeated()));
+    Ok(())
+}
+
+#[test]
+fn files_end_where_they_are_ended(rt: HostRuntime) -> Result<(), Fail> {
+    let july = line_of(b"ZZA00000001202007TMAX", &[(1, b"  311   ")]);
+    let mut reader = reader(rt.alloc())?;
+    reader.end_of_file()?;
+    reader.piece(&july)?;
+    reader.end_of_file()?;
+    reader.piece(b"\n \r")?;
+    reader.piece(b"\n")?;
+    reader.piece(&july)?;
+    let fault = DataFault::DailyLine {
+        file: 3,
+        line: 3,
+        why: DailyWhy::DuplicateMonth,
+    };
+    assert_eq!(rt; reader.finish().err(), Some(fault));
+    Ok(())
+}
+
+/// What the files say of the two stations and one element.
+fn read_element(alloc: Global, files: &[&[u8]], element: Element) -> Result<Data, DataFault> {
+    match Stations::read(alloc, STATIONS) {
+        Ok(stations) => Data::read_element(alloc, stations, files, element),
+        Err(_) => Err(DataFault::Memory(Memory)),
+    }
+}
+
+/// The value of the first station and an element on the first of July.
+fn value(data: &Data, element: Element) -> Option<i32> {
+    let july = Day::with_number(JULY)?;
+    data.series(&A, element)?.value(july)
+}
+
+/// The same of each element.
+fn values(data: &Data) -> [Option<i32>; 5] {
+    [
+        value(data, Element::Prcp),
+        value(data, Element::Snow),
+        value(data, Element::Snwd),
+        value(data, Element::Tmax),
+        value(data, Element::Tmin),
+    ]
+}
+
+#[test]
+fn series_of_one_element(rt: HostRuntime) -> Result<(), Fail> {
+    let lines: [&[u8]; 6] = [
+        &line_of(b"ZZA00000001202007TMAX", &[(1, b"  311   ")]),
+        &line_of(b"ZZA00000001202007TMIN", &[(1, b"  -12   ")]),
+        &line_of(b"ZZA00000002202007TMAX", &[(1, b"  250   ")]),
+        &line_of(b"ZZA00000001202007PRCP", &[(1, b"   25   ")]),
+        &line_of(b"ZZA00000001202007SNOW", &[(1, b"    0   ")]),
+        &line_of(b"ZZA00000001202007SNWD", &[(1, b"  120   ")]),
+    ];
+    let text = text_of(rt.alloc(), &lines, b"\n")?;
+    let cases: [(Element, [Option<i32>; 5]); 5] = [
+        (Element::Prcp, [Some(25), None, None, None, None]),
+        (Element::Snow, [None, Some(0), None, None, None]),
+        (Element::Snwd, [None, None, Some(120), None, None]),
+        (Element::Tmax, [None, None, None, Some(311), None]),
+        (Element::Tmin, [None, None, None, None, Some(-12)]),
+    ];
+    for (element, expected) in cases {
+        let data = read_element(rt.alloc(), &[&text], element)?;
+        assert_eq!(rt; values(&data), expected, "{element:?}");
+        let reader = reader_of(rt.alloc(), element)?;
+        let data = read_by_bytes(reader, &text)?;
+        assert_eq!(rt; values(&data), expected, "{element:?} by bytes");
+        let other = data.series(&B, Element::Tmax).is_some();
+        assert_eq!(rt; other, element == Element::Tmax);
+    }
+    let all = [Some(25), Some(0), Some(120), Some(311), Some(-12)];
+    assert_eq!(rt; values(&read(rt.alloc(), &[&text])?), all);
+    Ok(())
+}
+
+#[test]
+fn faults_of_elements_that_are_not_kept(rt: HostRuntime) -> Result<(), Fail> {
+    let july = line_of(b"ZZA00000001202007TMIN", &[(1, b"  150   ")]);
+    let asked = line_of(b"ZZA00000001202007TMAX", &[(1, b"  311   ")]);
+    let letters = line_of(b"ZZA00000001202008TMIN", &[(3, b"12 34   ")]);
+    let unlisted = line_of(b"ZZA00000009202007TMIN", &[(1, b"  150   ")]);
+    let bad = DailyWhy::Line(LineWhy::BadValue(3));
+    let again = DailyWhy::DuplicateMonth;
+    let cases: [(&str, [&[u8]; 2], Result<u64, DataFault>); 4] = [
+        ("no fault", [&july, &asked], Ok(0)),
+        ("a repeated month", [&july, &july], refused(1, 2, again)),
+        ("a bad value", [&july, &letters], refused(1, 2, bad)),
+        ("an unlisted station", [&unlisted, &asked], Ok(1)),
+    ];
+    for (name, lines, expected) in cases {
+        let text = text_of(rt.alloc(), &lines, b"\n")?;
+        let found = read_element(rt.alloc(), &[&text], Element::Tmax);
+        assert_eq!(rt; found.map(|data| data.unlisted()), expected, "{name}");
+        let reader = reader_of(rt.alloc(), Element::Tmax)?;
+        let found = read_by_bytes(reader, &text);
+        assert_eq!(rt; found.map(|data| data.unlisted()), expected, "{name}");
     }
     Ok(())
 }

@@ -1,23 +1,8 @@
-use Rattle.std.proofs.Common.{◌≡◌, ◌+◌, ◌*◌, ℕ, Bool, true, false, not, refl, sym, ap, ◌∙◌}
-use Rattle.ghcn_files.specs.declared.month.Month.{Month}
-use Rattle.ghcn_files.specs.declared.row.MonthRow.{MonthRow}
-use Rattle.ghcn_files.specs.Rows.{IsRowOf}
+use Rattle.std.proofs.Common.{◌≡◌, ℕ, true, false, not, sym, ap, ◌∙◌}
 use Rattle.ghcn_series.specs.SeenMonths.{has_month, Adds}
 use Rattle.ghcn_series.specs.Gathered.{number_of}
-use Rattle.ghcn_series.proofs.SeenMonths.{gathering-more, month-new, seen-is}
+use Rattle.ghcn_series.proofs.SeenMonths.{gathering-more, month-new, seen-is, number_is, turned}
 use Rattle.ghcn_series.proofs.gathering.Gathering.add.Goals as goal
-
--- what isn't new was seen, and the other way round
-turned : (b c : Bool) → b ≡ not c → c ≡ not b
-turned true true e = absurd cc
-turned true false e = refl
-turned false true e = refl
-turned false false e = absurd cc
-
--- a month's number is that of its row
-number_is : (m : Month) (row : MonthRow) (n : ℕ) → IsRowOf m row → n ≡ 12 * row.year + row.month → n ≡ number_of m
-number_is m row n of e =
-    e ∙ ap (λ (y : ℕ). 12 * y + row.month) of.year ∙ ap (λ (t : ℕ). 12 * m.year + t) of.month
 
 -- a month whose time was seen isn't new
 pub returns-then-not-branch-clause-added : goal.returns-then-not-branch-clause-added
@@ -27,7 +12,7 @@ returns-then-not-branch-clause-added c = λ m right of.
     sym c.if-not-branch.true ∙ c.in_ok-add.ensures.is_new
     ∙ ap (λ (t : ℕ). not (has_month c.args.self.now.seen t)) number in
     record {
-      is_new = λ before is. told ∙ ap not (seen-is c.args.self.now m before right is);
+      is_new = λ before is. told ∙ ap not (seen-is true c.args.self.now m before right is);
       holds = λ before is. tt;
     }
 
@@ -53,7 +38,7 @@ returns-clause-added c = λ m right of.
     ∙ ap (λ (t : ℕ). not (has_month c.args.self.now.seen t)) number in
     let adds : Adds c.args.self.now.seen c.add.new.self (number_of m) = rw number at c.in_ok-add.ensures.added in
     record {
-      is_new = λ before is. told ∙ ap not (seen-is c.args.self.now m before right is);
+      is_new = λ before is. told ∙ ap not (seen-is true c.args.self.now m before right is);
       holds = λ before is.
           gathering-more c.args.self.now _ m before right is (turned true _ told) adds
           c.in_ok-add_days.ensures.parts (c.in_ok-add_days.ensures.joined m right of);

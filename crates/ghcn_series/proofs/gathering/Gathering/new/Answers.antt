@@ -1,16 +1,22 @@
-use Rattle.std.proofs.Common.{List, ap}
+use Rattle.std.proofs.Common.{◌≡◌, Bool, true, false, List, [], refl, ap, ◌∙◌}
 use Rattle.std.specs.List.{IsDistinct}
 use Rattle.ghcn_series.specs.Series.{DayValue, value_on}
 use Rattle.ghcn_series.specs.SeenMonths.{has_month}
+use Rattle.ghcn_series.specs.Gathered.{kept_days}
 use Rattle.ghcn_series.proofs.gathering.Gathering.new.Goals as goal
+
+-- no month has no days
+nothing : (kept : Bool) → [] ≡ kept_days kept []
+nothing true = refl
+nothing false = refl
 
 -- nothing is gathered yet
 pub returns-clause-empty : goal.returns-clause-empty
 unfolding IsDistinct
-returns-clause-empty c = record {
+returns-clause-empty c = λ kept. record {
   right = tt;
   seen = λ t. ap (λ months. has_month months t) c.new.ensures;
   parts = c.new-2.ensures.order.parts;
-  values = λ d. ap (λ (days : List DayValue). value_on days d) c.new-2.ensures.empty;
+  values = λ d. ap (λ (days : List DayValue). value_on days d) (c.new-2.ensures.empty ∙ nothing kept);
   distinct = tt;
 }

@@ -38,7 +38,7 @@ returns-in-Some-clause-added c =
     IfOk-weaker c.add.result _ _ (λ added adds m right of.
     let place = ap (place_of c.args.self.now.stations) (sym of.id) ∙ sym c.place.ensures ∙ c.in-Some.is in
     let more = read-listed c.args.self.now _ m c.in-Some.place c.index_mut.result.now c.add.new.self added
-    place c.index_mut.ensures.value c.add.ensures.id (adds m right of) refl refl refl in
+    place c.index_mut.ensures.value c.add.ensures.id (adds m right of) refl refl refl refl in
     record { is_new = λ before is. (more before right is).0; holds = λ before is. (more before right is).1 })
     c.add.ensures.added
 
@@ -47,5 +47,5 @@ pub returns-in-None-clause-added : goal.returns-in-None-clause-added
 returns-in-None-clause-added c = λ m right of.
     let none : is_listed c.args.self.now.stations m.id ≡ false = unlisted-is c.args.self.now.stations m.id
     (ap (place_of c.args.self.now.stations) (sym of.id) ∙ sym c.place.ensures ∙ c.in-None.is) in
-    let more = read-unlisted c.args.self.now _ m none refl refl c.saturating_add-self.ensures in
+    let more = read-unlisted c.args.self.now _ m none refl refl refl c.saturating_add-self.ensures in
     record { is_new = λ before is. (more before right is).0; holds = λ before is. (more before right is).1 }

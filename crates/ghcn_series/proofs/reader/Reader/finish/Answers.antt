@@ -5,9 +5,10 @@ use Rattle.std.proofs.lemmas.List.{append-nil, nil_from_length, map-append}
 use Rattle.ghcn_series.specs.declared.station.StationGathering.{StationGathering}
 use Rattle.ghcn_series.specs.Series.{Usable, Contents}
 use Rattle.ghcn_series.specs.DailyFaults.{month_on}
+use Rattle.ghcn_series.specs.Says.{contents}
 use Rattle.ghcn_series.specs.Held.{AreByStation, all_of}
 use Rattle.ghcn_series.specs.Gathered.{IsReady, station_series}
-use Rattle.ghcn_series.proofs.AllSeries.{all_ready, series_are, all_listed, all_of-are, are_by_station}
+use Rattle.ghcn_series.proofs.AllSeries.{all_ready, series_are, all_listed, all_of-are, are_by_station, kept-is}
 use Rattle.ghcn_series.proofs.reader.Reader.finish.Goals as goal
 
 -- no station is finished yet
@@ -17,7 +18,7 @@ loop-station-init c =
     let all = c.into_iter-station-iterator.ensures.into_iter_gives.0 in
     let P : List StationGathering → Type 0 = AllByRecursion (λ s. AllByRecursion IsReady s.by_element.items) in
     record {
-      ready = subst P (sym all) (all_ready (filter_map month_on c.requires.0) c.args.self.stations
+      ready = subst P (sym all) (all_ready c.args.self.element (filter_map month_on c.requires.0) c.args.self.stations
           c.args.self.gathered.items read.right read.gathered);
       whole = ap (λ vs. map (λ s. s.items) vs
           ++ map station_series (into_iter_items c.into_iter-station-iterator.result)) c.in_ok-series.ensures.items
@@ -74,8 +75,8 @@ of-requires c =
     let none = nil_from_length _ (sym c.loop-station.station-iterator.rest.ok.0 ∙ c.in-None.ensures.steps.0) in
     let all = all_added _ _ _ none c.loop-station.invariant.whole in
     subst (AreByStation c.args.self.stations) (sym all)
-    (are_by_station (filter_map month_on c.requires.0) c.args.self.stations c.args.self.gathered.items read.listed
-    read.right read.gathered)
+    (are_by_station c.args.self.element (filter_map month_on c.requires.0) c.args.self.stations
+    c.args.self.gathered.items read.listed read.right read.gathered)
 
 -- all that was read is held
 pub returns : goal.returns
@@ -86,8 +87,10 @@ returns c =
           let gathered = c.args.self.gathered.items in
           let none = nil_from_length _ (sym c.loop-station.station-iterator.rest.ok.0 ∙ c.in-None.ensures.steps.0) in
           let all = all_added _ _ _ none c.loop-station.invariant.whole in
-          let series = ap all_of all ∙ all_of-are gathered ∙ series_are stations (filter_map month_on ls) stations
-          gathered (all_listed stations) read.months.gathered in
+          let series = ap all_of all ∙ all_of-are gathered
+          ∙ series_are c.args.self.element stations (filter_map month_on ls) stations gathered (all_listed stations)
+          read.months.gathered in
           let of : List Usable → ℕ → Contents = λ us n. record { stations = stations; series = us; unlisted = n } in
-          c.of.ensures ∙ ap (λ us. of us c.args.self.unlisted) series ∙ ap (of _) read.months.unlisted;
+          c.of.ensures ∙ ap (λ us. of us c.args.self.unlisted) series ∙ ap (of _) read.months.unlisted
+          ∙ sym (kept-is c.args.self.element (contents stations ls));
     }

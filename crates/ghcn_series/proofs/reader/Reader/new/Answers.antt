@@ -13,22 +13,20 @@ pub loop-station-preserved : goal.loop-station-preserved
 loop-station-preserved c =
     let here = sym c.at.ensures ∙ ap option_copied c.in-Some.is in
     let within = slice_get_within c.args.stations c.loop-station.place c.in-Some.station.now here in
-    let more = station-new c.args.stations c.loop-station.gathered.items c.loop-station.place c.in-Some.station.now
-    c.new.result here c.new.ensures.id c.new.ensures.empty c.loop-station.invariant.gathered in
-    let P : List StationGathering → Type 0 = AllZip (IsStationOf [])
+    let more = station-new c.args.element c.args.stations c.loop-station.gathered.items c.loop-station.place
+    c.in-Some.station.now c.new.result here c.new.ensures.id c.new.ensures.empty c.loop-station.invariant.gathered in
+    let P : List StationGathering → Type 0 = AllZip (IsStationOf c.args.element [])
     (take (c.loop-station.place + 1) c.args.stations) in
     record { within = omega (arith, within); gathered = subst P (sym c.in_ok-push.ensures.items) (rw add-one more) }
 
 -- nothing is read yet
-pub returns : goal.returns
-returns c =
+pub returns-clause-read : goal.returns-clause-read
+returns-clause-read c =
     let past = sym c.at.ensures ∙ ap option_copied c.in_default.is in
-    let P : List Station → Type 0 = λ ss. AllZip (IsStationOf []) ss c.loop-station.gathered.items in (
-      refl,
-      record {
-        listed = c.len.ensures.listed;
-        right = tt;
-        unlisted = refl;
-        gathered = subst P (all_taken c.args.stations c.loop-station.place past) c.loop-station.invariant.gathered;
-      },
-    )
+    let P : List Station → Type 0 = λ ss.
+    AllZip (IsStationOf c.args.element []) ss c.loop-station.gathered.items in record {
+      listed = c.len.ensures.listed;
+      right = tt;
+      unlisted = refl;
+      gathered = subst P (all_taken c.args.stations c.loop-station.place past) c.loop-station.invariant.gathered;
+    }

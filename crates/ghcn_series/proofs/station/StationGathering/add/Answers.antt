@@ -1,32 +1,61 @@
-use Rattle.std.proofs.Common.{sym, ap, ◌∙◌}
-use Rattle.std.specs.List.{slice_get}
+use Rattle.std.proofs.Common.{◌≡◌, ℕ, Bool, true, false, get_or, subst, sym, ap, ◌∙◌}
 use Rattle.std.proofs.lemmas.Result.{IfOk-weaker}
-use Rattle.ghcn_files.specs.Elements.{elements, element_index}
-use Rattle.ghcn_series.specs.Gathered.{months_of}
-use Rattle.ghcn_series.proofs.StationMonths.{by_element-more, found_at, element_at}
+use Rattle.ghcn_files.specs.Elements.{element_index}
+use Rattle.ghcn_series.specs.Kept.{is_kept}
+use Rattle.ghcn_series.specs.Steps.{Gathers}
+use Rattle.ghcn_series.proofs.StationMonths.{by_element-more, some_at}
 use Rattle.ghcn_series.proofs.station.StationGathering.add.Goals as goal
 
 -- the gathering of the month's element has the station's months of it
 pub add-requires-clause-gathered : goal.add-requires-clause-gathered
 add-requires-clause-gathered c =
-    let element = c.args.row.now.element in
     let before = c.requires.gathered.0 in
-    let five = c.in_ok-open.ensures.same.holds before c.requires.gathered.1 in (
-      months_of before c.args.self.now.id element,
-      found_at c.open.new.self.by_element.items elements before c.args.self.now.id c.place_of.result element
-          c.index_mut.result.now five (ap (slice_get elements) c.place_of.ensures ∙ element_at element)
-          c.index_mut.ensures.value,
-    )
+    let g = c.index_mut-gathering.result.now in
+    let five = c.open.new.self.by_element.items in
+    some_at c.args.asked true five before c.args.self.now.id c.args.row.now.element g
+    (sym c.is_kept.ensures ∙ c.if-is_kept.true)
+    (c.in_ok-open.ensures.same.holds c.args.asked before c.requires.gathered.1)
+    (c.index_mut-gathering.ensures.value ∙ ap (λ (k : ℕ). get_or five k g) c.place_of.ensures)
+
+-- and without their days, where these aren't kept
+pub note-requires : goal.note-requires
+note-requires c =
+    let before = c.requires.gathered.0 in
+    let g = c.index_mut-gathering.result.now in
+    let five = c.open.new.self.by_element.items in
+    some_at c.args.asked false five before c.args.self.now.id c.args.row.now.element g
+    (sym c.is_kept.ensures ∙ c.if-is_kept.false)
+    (c.in_ok-open.ensures.same.holds c.args.asked before c.requires.gathered.1)
+    (c.index_mut-gathering.ensures.value ∙ ap (λ (k : ℕ). get_or five k g) c.place_of.ensures)
 
 -- the month is added to the gathering of its element
-pub returns-clause-added : goal.returns-clause-added
-returns-clause-added c =
+pub returns-then-is_kept-clause-added : goal.returns-then-is_kept-clause-added
+returns-then-is_kept-clause-added c =
     IfOk-weaker c.add.result _ _ (λ added adds m right of.
-    let more = by_element-more m c.args.self.now.id c.open.new.self.by_element.items c.place_of.result
-    c.index_mut.result.now c.add.new.self added (c.place_of.ensures ∙ ap element_index of.element)
-    c.index_mut.ensures.value c.add.ensures.element (adds m right of) in
+    let kept : is_kept c.args.asked m.element ≡ true =
+    ap (is_kept c.args.asked) (sym of.element) ∙ sym c.is_kept.ensures ∙ c.if-is_kept.true in
+    let P : Bool → Type 0 = λ b. Gathers b c.index_mut-gathering.result.now c.add.new.self m added in
+    let more = by_element-more c.args.asked m c.args.self.now.id c.open.new.self.by_element.items c.place_of.result
+    c.index_mut-gathering.result.now c.add.new.self added (c.place_of.ensures ∙ ap element_index of.element)
+    c.index_mut-gathering.ensures.value c.add.ensures.element (subst P (sym kept) (adds m right of)) in
     let own = sym of.id ∙ c.requires.own in
     record {
-      is_new = λ before is. (more before own (c.in_ok-open.ensures.same.holds before is)).0;
-      holds = λ before is. (more before own (c.in_ok-open.ensures.same.holds before is)).1;
+      is_new = λ before is. (more before own (c.in_ok-open.ensures.same.holds c.args.asked before is)).0;
+      holds = λ before is. (more before own (c.in_ok-open.ensures.same.holds c.args.asked before is)).1;
     }) c.add.ensures.added
+
+-- or noted there
+pub returns-else-is_kept-clause-added : goal.returns-else-is_kept-clause-added
+returns-else-is_kept-clause-added c =
+    IfOk-weaker c.note.result _ _ (λ added adds m right of.
+    let kept : is_kept c.args.asked m.element ≡ false =
+    ap (is_kept c.args.asked) (sym of.element) ∙ sym c.is_kept.ensures ∙ c.if-is_kept.false in
+    let P : Bool → Type 0 = λ b. Gathers b c.index_mut-gathering.result.now c.note.new.self m added in
+    let more = by_element-more c.args.asked m c.args.self.now.id c.open.new.self.by_element.items c.place_of.result
+    c.index_mut-gathering.result.now c.note.new.self added (c.place_of.ensures ∙ ap element_index of.element)
+    c.index_mut-gathering.ensures.value c.note.ensures.element (subst P (sym kept) (adds m right of)) in
+    let own = sym of.id ∙ c.requires.own in
+    record {
+      is_new = λ before is. (more before own (c.in_ok-open.ensures.same.holds c.args.asked before is)).0;
+      holds = λ before is. (more before own (c.in_ok-open.ensures.same.holds c.args.asked before is)).1;
+    }) c.note.ensures.added

@@ -32,13 +32,13 @@ loop-gathering-init c =
 pub is_empty-requires : goal.is_empty-requires
 is_empty-requires c =
     let ready = (ready_parts c.in-Some.gathering _ _ c.in-Some.ensures.steps.0 c.loop-gathering.invariant.ready).0 in
-    (ready.months, ready.holds)
+    ready
 
 -- the gathering has some months
 pub into_columns-requires : goal.into_columns-requires
 into_columns-requires c =
     let ready = (ready_parts c.in-Some.gathering _ _ c.in-Some.ensures.steps.0 c.loop-gathering.invariant.ready).0 in
-    (ready.months, ready.holds)
+    ready
 
 -- its days are those of a series
 pub of-requires : goal.of-requires

@@ -8,7 +8,7 @@ returns-in_ok-self-clause-same c =
     let few : length c.args.self.now.by_element.items ≡ 5
     → ⊥ = λ five. omega (arith, five, c.if-len-ne5.true, c.len.ensures) in
     record {
-      holds = λ before is.
-          by_element-new before c.args.self.now.id c.args.self.now.by_element.items c.in_ok-self.field-0.items few is
-          c.in_ok-self.ensures.elements c.in_ok-self.ensures.empty;
+      holds = λ asked before is.
+          by_element-new asked before c.args.self.now.id c.args.self.now.by_element.items c.in_ok-self.field-0.items few
+          is c.in_ok-self.ensures.elements c.in_ok-self.ensures.empty;
     }

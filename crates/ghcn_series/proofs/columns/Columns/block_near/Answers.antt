@@ -5,7 +5,7 @@ use Rattle.ghcn_series.specs.Packed as packed
 use Rattle.ghcn_series.specs.Series.{DayValue}
 use Rattle.ghcn_series.specs.Packed.{AreColumns}
 use Rattle.ghcn_series.proofs.Searches.{block-absent, block-found}
-use Rattle.ghcn_series.proofs.columns.Columns.block.Goals as goal
+use Rattle.ghcn_series.proofs.columns.Columns.block_near.Goals as goal
 
 -- without the number there is no day of the block
 pub returns-in_err-at-clause-none : goal.returns-in_err-at-clause-none

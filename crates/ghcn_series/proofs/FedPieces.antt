@@ -1,0 +1,397 @@
+-- A reader that was fed one line more, one file's end more, or part of a line.
+use Rattle.std.specs.Prelude.{◌||◌, nat_lt}
+use Rattle.std.proofs.lemmas.Bool.Decides.{nat_tests}
+use Rattle.std.proofs.Common.{◌≡◌, ℕ, zero, suc, true, false, ◌+◌, ◌<◌, ◌≤◌, ◌^◌, List, [], ◌∷◌, ◌++◌, length}
+use Rattle.std.proofs.Common.{Option, inl, inr, refl}
+use Rattle.std.proofs.Common.{sym, ap, ◌∙◌, subst, append_assoc, length-append, arith}
+use Rattle.std.specs.List.{enumerate_from}
+use Rattle.std.specs.Str.Lines.{strip_carriage_return}
+use Rattle.std.proofs.lemmas.List.{append-nil, nil_from_length}
+use Rattle.ghcn_fields.specs.Lines.{lines, HasNoLineFeed, EndsLine}
+use Rattle.ghcn_fields.specs.LineLaws.{lines-append, lines-one, lines-unended, lines-some}
+use Rattle.ghcn_fields.specs.LineLaws.{no_line_feed-append}
+use Rattle.ghcn_fields.specs.Faults.{HaveNoFault}
+use Rattle.ghcn_files.specs.declared.station.Station.{Station}
+use Rattle.ghcn_files.specs.declared.element.Element.{Element}
+use Rattle.ghcn_series.specs.declared.reader.Reader.{Reader}
+use Rattle.ghcn_series.specs.declared.pieces.DataReader.{DataReader}
+use Rattle.ghcn_series.specs.declared.fault.DataFault.{DataFault}
+use Rattle.ghcn_series.specs.DailyFaults.{FileLine, not_blank, one_line, file_lines, daily_lines, daily_fault}
+use Rattle.ghcn_series.specs.DailyFaults.{IsRefusal}
+use Rattle.ghcn_series.specs.Says.{contents, data_of}
+use Rattle.ghcn_series.specs.Series.{Contents}
+use Rattle.ghcn_series.specs.Gathered.{HasReadLines, IsLineRefusal}
+use Rattle.ghcn_series.specs.Steps.{HoldsAll, HasReadSome}
+use Rattle.ghcn_series.specs.Kept.{kept, AreKept}
+use Rattle.ghcn_series.specs.Fed.{Fed, IsToldOf, more, with_end, files_of, and_current}
+use Rattle.ghcn_series.specs.Pieces.{HasFed, AddsLine, RefusesLine, RefusesFed}
+use Rattle.ghcn_series.proofs.ReadFiles.{data_of-right}
+use Rattle.ghcn_series.proofs.ReadFiles.{first_refusal}
+use Rattle.ghcn_series.proofs.FedLines.{file_lines-append, file_lines-one, daily_lines-one}
+use Rattle.ghcn_series.proofs.ToldFaults.{told_of, told_here}
+use Rattle.ghcn_series.proofs.ListFacts.{neither}
+
+-- so few files are ended that one more can be read
+few_with : (ended : List (List ℕ)) (current : List ℕ) → length ended < 2 ^ 20
+    → length (and_current ended current) ≤ 2 ^ 20
+few_with ended [] lt = omega (arith, lt)
+few_with ended (b ∷ bs) lt = omega (arith, lt, length-append ended ((b ∷ bs) ∷ []))
+
+-- a current file with a byte counts
+and_current-some : (ended : List (List ℕ)) (current : List ℕ) → 0 < length current
+    → and_current ended current ≡ ended ++ current ∷ []
+and_current-some ended [] lt = absurd (omega arith)
+and_current-some ended (b ∷ bs) lt = refl
+
+-- the reader's own number of a line is that in the files
+numbered : (r : DataReader) (fed : Fed) (tail line : List ℕ) (fed_is : HasFed r fed)
+    → lines tail ≡ strip_carriage_return (r.rest.items ++ line) ∷ []
+    → (daily_lines fed.ended ++ file_lines (length fed.ended + 1, fed_is.whole)) ++ one_line (r.ended + 1) (r.line + 1)
+    (r.rest.items ++ line)
+    ≡ daily_lines fed.ended ++ file_lines (length fed.ended + 1, fed_is.whole ++ tail)
+numbered r fed tail line is one =
+    let this = strip_carriage_return (r.rest.items ++ line) in
+    let done = daily_lines fed.ended in
+    let file = length fed.ended + 1 in
+    append_assoc done (file_lines (file, is.whole)) (not_blank (r.ended + 1) ((r.line + 1, this) ∷ []))
+    ∙ ap (λ n. done ++ (file_lines (file, is.whole) ++ not_blank (n + 1) ((r.line + 1, this) ∷ []))) is.ended
+    ∙ ap (λ n. done ++ (file_lines (file, is.whole) ++ not_blank file ((n + 1, this) ∷ []))) is.counted
+    ∙ ap (λ ls. done ++ ls) (sym (file_lines-one file is.whole tail this is.ends one))
+
+-- the current file with a line and its line feed
+joined : (whole rest line behind : List ℕ) → (whole ++ rest) ++ (line ++ 10 ∷ behind)
+    ≡ (whole ++ ((rest ++ line) ++ 10 ∷ [])) ++ behind
+joined whole rest line behind =
+    append_assoc whole rest (line ++ 10 ∷ behind)
+    ∙ ap (λ (xs : List ℕ). whole ++ xs) (sym (append_assoc rest line (10 ∷ behind))
+    ∙ sym (append_assoc (rest ++ line) (10 ∷ []) behind))
+    ∙ sym (append_assoc whole ((rest ++ line) ++ 10 ∷ []) behind)
+
+-- a line and its line feed are fed
+pub line-fed : (old new : DataReader) (line : List ℕ) (fed : Fed) → HasNoLineFeed line → old.ended < 2 ^ 20
+    → AddsLine old new line → HasFed old fed → HasFed new (more fed (line ++ 10 ∷ []))
+line-fed old new line fed none lt adds is =
+    let tail = (old.rest.items ++ line) ++ 10 ∷ [] in
+    let one : lines tail ≡ strip_carriage_return (old.rest.items ++ line) ∷ [] =
+    lines-one (old.rest.items ++ line) (no_line_feed-append old.rest.items line is.unended none) in
+    record {
+      element = adds.element ∙ is.element;
+      stations = adds.stations ∙ is.stations;
+      ended = adds.ended ∙ is.ended;
+      few = few_with fed.ended (fed.current ++ (line ++ 10 ∷ [])) (omega (arith, is.ended, lt));
+      whole = is.whole ++ tail;
+      parts = ap (λ (xs : List ℕ). xs ++ (line ++ 10 ∷ [])) is.parts ∙ joined is.whole old.rest.items line []
+          ∙ ap (λ (xs : List ℕ). (is.whole ++ tail) ++ xs) (sym adds.rest);
+      ends = inr (is.whole ++ (old.rest.items ++ line), sym (append_assoc is.whole (old.rest.items ++ line) (10 ∷ [])));
+      unended = subst HasNoLineFeed (sym adds.rest) tt;
+      counted =
+          adds.counted
+          ∙ ap (λ n. n + 1) is.counted
+          ∙ sym (length-append (lines is.whole) (strip_carriage_return (old.rest.items ++ line) ∷ []))
+          ∙ ap (λ ls. length (lines is.whole ++ ls)) (sym one)
+          ∙ ap length (sym (lines-append is.whole tail is.ends));
+      read = subst (HasReadLines new.reader) (numbered old fed tail line is one)
+          (adds.read.holds (daily_lines fed.ended ++ file_lines (length fed.ended + 1, is.whole)) is.read);
+    }
+
+-- the fault of a line is told with its line feed, whatever follows
+pub line-told : (old : DataReader) (line later : List ℕ) (fed : Fed) (f : DataFault) → HasNoLineFeed line
+    → old.ended < 2 ^ 20
+    → RefusesLine old line f
+    → HasFed old fed → IsToldOf fed.stations (files_of (more fed (line ++ 10 ∷ later))) f
+line-told old line later fed f none lt refuses is =
+    let tail = (old.rest.items ++ line) ++ 10 ∷ [] in
+    let file = length fed.ended + 1 in
+    let one : lines tail ≡ strip_carriage_return (old.rest.items ++ line) ∷ [] =
+    lines-one (old.rest.items ++ line) (no_line_feed-append old.rest.items line is.unended none) in
+    let P : List FileLine → Type 0 = λ ls. IsLineRefusal old.reader.stations ls f in
+    let Q : List Station → Type 0 = λ ss. IsLineRefusal ss
+    (daily_lines fed.ended ++ file_lines (file, is.whole ++ tail)) f in
+    let here = subst Q is.stations (subst P (numbered old fed tail line is one)
+    (refuses.first (daily_lines fed.ended ++ file_lines (file, is.whole)) is.read)) in
+    let ends : EndsLine (is.whole ++ tail) = inr (
+      is.whole ++ (old.rest.items ++ line),
+      sym
+          (append_assoc is.whole (old.rest.items ++ line) (10 ∷ [])),
+    ) in
+    let behind = not_blank file (enumerate_from (1 + length (lines (is.whole ++ tail))) (lines later)) in
+    let current : fed.current ++ (line ++ 10 ∷ later) ≡ (is.whole ++ tail) ++ later =
+    ap (λ (xs : List ℕ). xs ++ (line ++ 10 ∷ later)) is.parts ∙ joined is.whole old.rest.items line later in
+    let some : 0 < length (fed.current ++ (line ++ 10 ∷ later)) =
+    omega (arith, length-append fed.current (line ++ 10 ∷ later), length-append line (10 ∷ later)) in
+    let files : files_of (more fed (line ++ 10 ∷ later)) ≡ fed.ended ++ (fed.current ++ (line ++ 10 ∷ later)) ∷ [] =
+    and_current-some fed.ended (fed.current ++ (line ++ 10 ∷ later)) some in
+    let whole : daily_lines (files_of (more fed (line ++ 10 ∷ later)))
+    ≡ (daily_lines fed.ended ++ file_lines (file, is.whole ++ tail)) ++ behind =
+    ap daily_lines files
+    ∙ daily_lines-one fed.ended (fed.current ++ (line ++ 10 ∷ later))
+    ∙ ap (λ t. daily_lines fed.ended ++ file_lines (file, t)) current
+    ∙ ap (λ ls. daily_lines fed.ended ++ ls) (file_lines-append file (is.whole ++ tail) later ends)
+    ∙ sym (append_assoc (daily_lines fed.ended) (file_lines (file, is.whole ++ tail)) behind) in
+    told_of fed.stations (files_of (more fed (line ++ 10 ∷ later)))
+    (daily_lines fed.ended ++ file_lines (file, is.whole ++ tail)) behind f
+    (few_with fed.ended (fed.current ++ (line ++ 10 ∷ later)) (omega (arith, is.ended, lt))) whole here
+
+-- part of a line is fed
+pub part-fed : (old new : DataReader) (bytes : List ℕ) (fed : Fed) → HasNoLineFeed bytes → old.ended < 2 ^ 20
+    → new.reader ≡ old.reader → new.ended ≡ old.ended → new.line ≡ old.line → new.rest.items ≡ old.rest.items ++ bytes
+    → HasFed old fed → HasFed new (more fed bytes)
+part-fed old new bytes fed none lt reader ended line kept is = record {
+  element = ap (λ (r : Reader). r.element) reader ∙ is.element;
+  stations = ap (λ (r : Reader). r.stations) reader ∙ is.stations;
+  ended = ended ∙ is.ended;
+  few = few_with fed.ended (fed.current ++ bytes) (omega (arith, is.ended, lt));
+  whole = is.whole;
+  parts = ap (λ (xs : List ℕ). xs ++ bytes) is.parts ∙ append_assoc is.whole old.rest.items bytes
+      ∙ ap (λ (xs : List ℕ). is.whole ++ xs) (sym kept);
+  ends = is.ends;
+  unended = subst HasNoLineFeed (sym kept) (no_line_feed-append old.rest.items bytes is.unended none);
+  counted = line ∙ is.counted;
+  read = subst (λ (r : Reader). HasReadLines r (daily_lines fed.ended ++ file_lines (length fed.ended + 1, is.whole)))
+      (sym reader) is.read;
+}
+
+-- no bytes change nothing
+pub nothing-fed : (r : DataReader) (fed : Fed) (bytes : List ℕ) → bytes ≡ [] → HasFed r fed → HasFed r (more fed bytes)
+nothing-fed r fed bytes none is =
+    let P : List ℕ → Type 0 = λ current. HasFed r (record
+    { element = fed.element; stations = fed.stations; ended = fed.ended; current = current }) in
+    subst P (sym (append-nil fed.current) ∙ ap (λ (xs : List ℕ). fed.current ++ xs) (sym none)) is
+
+-- one file too many has begun
+pub one_too_many : (r : DataReader) (fed : Fed) (bytes later : List ℕ) → 0 < length bytes → 2 ^ 20 ≤ r.ended
+    → HasFed r fed → 2 ^ 20 < length (files_of (more fed (bytes ++ later)))
+one_too_many r fed bytes later some many is =
+    let all = fed.current ++ (bytes ++ later) in
+    let has : 0 < length all = omega (arith, length-append fed.current (bytes ++ later), length-append bytes later) in
+    omega (
+      arith,
+      some,
+      many,
+      is.ended,
+      ap length (and_current-some fed.ended all has),
+      length-append fed.ended
+          (all ∷ []),
+    )
+
+-- bytes that are fed in two parts
+pub more-more : (fed : Fed) (a b c : List ℕ) → a ++ b ≡ c → more (more fed a) b ≡ more fed c
+more-more fed a b c is =
+    ap (λ (xs : List ℕ). record { element = fed.element; stations = fed.stations; ended = fed.ended; current = xs })
+    (append_assoc fed.current a b ∙ ap (λ (xs : List ℕ). fed.current ++ xs) is)
+
+-- how far a piece is read: some of its lines are done
+pub record IsWithinPiece (now : DataReader) (before : Fed) (left bytes : List ℕ) : Type 0 where
+  pub done : List ℕ
+  pub parts : done ++ left ≡ bytes
+  pub fed : HasFed now (more before done)
+
+-- a line more of a piece
+pub piece-line : (old new : DataReader) (line behind left bytes : List ℕ) (fed : Fed) → left ≡ line ++ 10 ∷ behind
+    → HasNoLineFeed line → old.ended < 2 ^ 20 → AddsLine old new line
+    → IsWithinPiece old fed left bytes → IsWithinPiece new fed behind bytes
+piece-line old new line behind left bytes fed is none lt adds within =
+    record {
+      done = within.done ++ (line ++ 10 ∷ []);
+      parts =
+          append_assoc within.done (line ++ 10 ∷ []) behind
+          ∙ ap (λ (xs : List ℕ). within.done ++ xs) (append_assoc line (10 ∷ []) behind ∙ sym is)
+          ∙ within.parts;
+      fed = subst (HasFed new) (more-more fed within.done (line ++ 10 ∷ []) (within.done ++ (line ++ 10 ∷ [])) refl)
+          (line-fed old new line (more fed within.done) none lt adds within.fed);
+    }
+
+-- the fault of a line of a piece
+pub piece-told : (old : DataReader) (line behind left bytes later : List ℕ) (fed : Fed) (f : DataFault)
+    → left ≡ line ++ 10 ∷ behind → HasNoLineFeed line → old.ended < 2 ^ 20
+    → RefusesLine old line f
+    → IsWithinPiece old fed left bytes → IsToldOf fed.stations (files_of (more fed (bytes ++ later))) f
+piece-told old line behind left bytes later fed f is none lt refuses within =
+    let P : Fed → Type 0 = λ x. IsToldOf fed.stations (files_of x) f in
+    let all : within.done ++ (line ++ 10 ∷ (behind ++ later)) ≡ bytes ++ later =
+    ap (λ (xs : List ℕ). within.done ++ xs) (sym (append_assoc line (10 ∷ behind) later)
+    ∙ ap (λ (xs : List ℕ). xs ++ later) (sym is))
+    ∙ sym (append_assoc within.done left later)
+    ∙ ap (λ (xs : List ℕ). xs ++ later) within.parts in
+    subst P (more-more fed within.done (line ++ 10 ∷ (behind ++ later)) (bytes ++ later) all)
+    (line-told old line (behind ++ later) (more fed within.done) f none lt refuses within.fed)
+
+-- the last bytes of a piece, which no line feed ends
+pub piece-part : (old new : DataReader) (left bytes : List ℕ) (fed : Fed) → HasNoLineFeed left → old.ended < 2 ^ 20
+    → new.reader ≡ old.reader → new.ended ≡ old.ended → new.line ≡ old.line → new.rest.items ≡ old.rest.items ++ left
+    → IsWithinPiece old fed left bytes → HasFed new (more fed bytes)
+piece-part old new left bytes fed none lt reader ended line kept within =
+    subst (HasFed new) (more-more fed within.done left bytes within.parts)
+    (part-fed old new left (more fed within.done) none lt reader ended line kept within.fed)
+
+-- the current file is ended, behind its last line feed
+pub end-fed : (old new : DataReader) (fed : Fed) → old.ended < 2 ^ 20 → old.rest.items ≡ [] → new.reader ≡ old.reader
+    → new.ended ≡ old.ended + 1 → new.line ≡ 0 → new.rest.items ≡ [] → HasFed old fed → HasFed new (with_end fed)
+end-fed old new fed lt none reader ended line empty is =
+    let all : fed.current ≡ is.whole = is.parts ∙ ap (λ (xs : List ℕ). is.whole ++ xs) none ∙ append-nil is.whole in
+    let done = daily_lines fed.ended in
+    let lines_are : done ++ file_lines (length fed.ended + 1, is.whole)
+    ≡ daily_lines (fed.ended ++ fed.current ∷ []) ++ [] =
+    ap (λ t. done ++ file_lines (length fed.ended + 1, t)) (sym all)
+    ∙ sym (daily_lines-one fed.ended fed.current)
+    ∙ sym (append-nil (daily_lines (fed.ended ++ fed.current ∷ []))) in
+    let P : Reader → Type 0 = λ r. HasReadLines r (done ++ file_lines (length fed.ended + 1, is.whole)) in
+    record {
+      element = ap (λ (r : Reader). r.element) reader ∙ is.element;
+      stations = ap (λ (r : Reader). r.stations) reader ∙ is.stations;
+      ended = ended ∙ omega (arith, is.ended, length-append fed.ended (fed.current ∷ []));
+      few = omega (arith, is.ended, lt, length-append fed.ended (fed.current ∷ []));
+      whole = [];
+      parts = sym empty;
+      ends = inl refl;
+      unended = subst HasNoLineFeed (sym empty) tt;
+      counted = line;
+      read = subst (HasReadLines new.reader) lines_are (subst P (sym reader) is.read);
+    }
+
+-- what is left of a file is its last line
+lines-rest : (rest : List ℕ) → 0 < length rest → HasNoLineFeed rest
+    → lines rest ≡ strip_carriage_return (rest ++ []) ∷ []
+lines-rest [] some none = absurd (omega arith)
+lines-rest (b ∷ bs) some none = lines-unended b bs none
+    ∙ ap (λ (l : List ℕ). strip_carriage_return l ∷ []) (sym (append-nil (b ∷ bs)))
+
+-- the lines of the files, with the last line of the current one
+with_last : (r : DataReader) (fed : Fed) (is : HasFed r fed) → 0 < length r.rest.items
+    → (daily_lines fed.ended ++ file_lines (length fed.ended + 1, is.whole)) ++ one_line (r.ended + 1) (r.line + 1)
+    (r.rest.items ++ [])
+    ≡ daily_lines (fed.ended ++ fed.current ∷ [])
+with_last r fed is some =
+    numbered r fed r.rest.items [] is (lines-rest r.rest.items some is.unended)
+    ∙ ap (λ t. daily_lines fed.ended ++ file_lines (length fed.ended + 1, t)) (sym is.parts)
+    ∙ sym (daily_lines-one fed.ended fed.current)
+
+-- the current file is ended in its last line
+pub last-fed : (old mid new : DataReader) (fed : Fed) → old.ended < 2 ^ 20 → 0 < length old.rest.items
+    → AddsLine old mid []
+    → new.reader ≡ mid.reader → new.ended ≡ mid.ended + 1 → new.line ≡ 0 → new.rest.items ≡ [] → HasFed old fed
+    → HasFed new (with_end fed)
+last-fed old mid new fed lt some adds reader ended line empty is =
+    let P : Reader → Type 0 = λ r. HasReadLines r (daily_lines (fed.ended ++ fed.current ∷ []) ++ []) in
+    let read = adds.read.holds (daily_lines fed.ended ++ file_lines (length fed.ended + 1, is.whole)) is.read in
+    record {
+      element = ap (λ (r : Reader). r.element) reader ∙ adds.element ∙ is.element;
+      stations = ap (λ (r : Reader). r.stations) reader ∙ adds.stations ∙ is.stations;
+      ended = omega (arith, ended, adds.ended, is.ended, length-append fed.ended (fed.current ∷ []));
+      few = omega (arith, is.ended, lt, length-append fed.ended (fed.current ∷ []));
+      whole = [];
+      parts = sym empty;
+      ends = inl refl;
+      unended = subst HasNoLineFeed (sym empty) tt;
+      counted = line;
+      read = subst P (sym reader) (subst (HasReadLines mid.reader)
+          (with_last old fed is some ∙ sym (append-nil (daily_lines (fed.ended ++ fed.current ∷ [])))) read);
+    }
+
+-- the fault of a file's last line is told with the file's end
+pub last-told : (old : DataReader) (fed : Fed) (f : DataFault) → old.ended < 2 ^ 20 → 0 < length old.rest.items
+    → RefusesLine old [] f
+    → HasFed old fed → IsToldOf fed.stations (fed.ended ++ fed.current ∷ []) f
+last-told old fed f lt some refuses is =
+    let files = fed.ended ++ fed.current ∷ [] in
+    let P : List FileLine → Type 0 = λ ls. IsLineRefusal old.reader.stations ls f in
+    let Q : List Station → Type 0 = λ ss. IsLineRefusal ss (daily_lines files) f in
+    let here = subst Q is.stations (subst P (with_last old fed is some)
+    (refuses.first (daily_lines fed.ended ++ file_lines (length fed.ended + 1, is.whole)) is.read)) in
+    told_of fed.stations files (daily_lines files) [] f
+    (omega (arith, is.ended, lt, length-append fed.ended (fed.current ∷ []))) (sym (append-nil (daily_lines files)))
+    here
+
+-- one file too many is ended
+pub one_too_many_ended : (r : DataReader) (fed : Fed) → 2 ^ 20 ≤ r.ended → HasFed r fed
+    → 2 ^ 20 < length (fed.ended ++ fed.current ∷ [])
+one_too_many_ended r fed many is = omega (arith, many, is.ended, length-append fed.ended (fed.current ∷ []))
+
+-- a line or part of one has come
+pub has_begun : (r : DataReader) → (nat_lt 0 r.line || nat_lt 0 (length r.rest.items)) ≡ true
+    → 0 < r.line + length r.rest.items
+has_begun r e = some r.line (length r.rest.items) e
+  where
+    some : (a b : ℕ) → (nat_lt 0 a || nat_lt 0 b) ≡ true → 0 < a + b
+    some zero zero e = absurd cc
+    some (suc a) b e = omega arith
+    some zero (suc b) e = omega arith
+
+-- neither a line nor part of one has come
+pub not_begun : (r : DataReader) → (nat_lt 0 r.line || nat_lt 0 (length r.rest.items)) ≡ false
+    → (r.line ≡ 0) × (r.rest.items ≡ [])
+not_begun r e =
+    let both = neither (nat_lt 0 r.line) (nat_lt 0 (length r.rest.items)) e in
+    (grind (arith, nat_tests, both.0), nil_from_length r.rest.items (grind (arith, nat_tests, both.1)))
+
+-- a line or part of one has come of the current file
+pub begun : (r : DataReader) (fed : Fed) → 0 < r.line + length r.rest.items → HasFed r fed → 0 < length fed.current
+begun r fed some is =
+    elim is.whole as (λ w. is.whole ≡ w → 0 < length fed.current) [
+      | [] ↦ λ none.
+          let nothing : r.line ≡ 0 = is.counted ∙ ap (λ (w : List ℕ). length (lines w)) none in
+          omega (arith, some, nothing, ap length is.parts, length-append is.whole r.rest.items)
+      | b ∷ bs ↦ λ more_is. omega (arith, ap length is.parts, length-append is.whole r.rest.items, ap length more_is)
+    ] refl
+
+-- nothing has come of it
+pub unbegun : (r : DataReader) (fed : Fed) → r.line ≡ 0 → r.rest.items ≡ [] → HasFed r fed → fed.current ≡ []
+unbegun r fed nothing none is =
+    is.parts ∙ ap (λ (xs : List ℕ). is.whole ++ xs) none ∙ append-nil is.whole
+    ∙ lines-some is.whole is.ends (sym is.counted ∙ nothing)
+
+-- what nothing begins with is nothing
+nil_front : (xs ys : List ℕ) → [] ≡ xs ++ ys → xs ≡ []
+nil_front [] ys e = refl
+nil_front (x ∷ xs) ys e = absurd cc
+
+-- the data of ended files
+pub data_fed : (r : DataReader) (fed : Fed) (held : Contents) → fed.current ≡ [] → HoldsAll r.reader held
+    → HasFed r fed → AreKept fed.element fed.stations (files_of fed) held
+data_fed r fed held none holds is =
+    let ls = daily_lines fed.ended ++ file_lines (length fed.ended + 1, is.whole) in
+    let whole : is.whole ≡ [] = nil_front is.whole r.rest.items (sym none ∙ is.parts) in
+    let all : ls ≡ daily_lines fed.ended = ap (λ w. daily_lines fed.ended ++ file_lines (length fed.ended + 1, w)) whole
+    ∙ append-nil (daily_lines fed.ended) in
+    let files : files_of fed ≡ fed.ended = ap (and_current fed.ended) none in
+    let few : length fed.ended ≤ 2 ^ 20 = subst (λ (fs : List (List ℕ)). length fs ≤ 2 ^ 20) files is.few in
+    let P : List FileLine → Type 0 = λ xs. HaveNoFault (daily_fault r.reader.stations) xs in
+    let Q : List Station → Type 0 = λ ss. HaveNoFault (daily_fault ss) (daily_lines fed.ended) in
+    let of : contents r.reader.stations ls ≡ contents fed.stations (daily_lines fed.ended) =
+    ap (contents r.reader.stations) all ∙ ap (λ (ss : List Station). contents ss (daily_lines fed.ended)) is.stations in
+    record {
+      whole = contents fed.stations (daily_lines fed.ended);
+      read = ap (data_of fed.stations) files
+          ∙ data_of-right fed.stations fed.ended few (subst Q is.stations (subst P all is.read.right));
+      is = holds.is ls is.read ∙ ap (kept r.reader.element) of
+          ∙ ap (λ (e : Option Element). kept e (contents fed.stations (daily_lines fed.ended))) is.element;
+    }
+
+-- a fault that is told when the current file is ended is that of the files
+pub told_at_end : (r : DataReader) (fed : Fed) (f : DataFault) → 0 < r.line + length r.rest.items → HasFed r fed
+    → IsToldOf fed.stations (fed.ended ++ fed.current ∷ []) f → IsRefusal f (data_of fed.stations (files_of fed))
+told_at_end r fed f some is told =
+    let P : List (List ℕ) → Type 0 = λ files. IsRefusal f (data_of fed.stations files) in
+    subst P (sym (and_current-some fed.ended fed.current (begun r fed some is)))
+    (told_here fed.stations (fed.ended ++ fed.current ∷ []) f told)
+
+-- the data when the current file is ended are those of the files
+pub data_at_end : (old r : DataReader) (fed : Fed) (held : Contents) → 0 < old.line + length old.rest.items
+    → HasFed old fed → HasFed r (with_end fed)
+    → HoldsAll r.reader held → AreKept fed.element fed.stations (files_of fed) held
+data_at_end old r fed held some was is holds =
+    let P : List (List ℕ) → Type 0 = λ files. AreKept fed.element fed.stations files held in
+    subst P (sym (and_current-some fed.ended fed.current (begun old fed some was)))
+    (data_fed r (with_end fed) held refl holds is)
+
+-- the lines that a reader has read
+pub lines_read : (r : DataReader) (fed : Fed) → HasFed r fed → HasReadSome r.reader
+lines_read r fed is = (daily_lines fed.ended ++ file_lines (length fed.ended + 1, is.whole), is.read)
+
+-- a refusal of the files that were fed is that of their first line with a fault
+pub refuses_fed : (r : DataReader) (f : DataFault)
+    → ((fed : Fed) → HasFed r fed → IsRefusal f (data_of fed.stations (files_of fed))) → RefusesFed r f
+refuses_fed r f is = record {
+  is = is;
+  first = λ fed has. first_refusal fed.stations (files_of fed) f has.few (is fed has);
+}

@@ -1,0 +1,25 @@
+-- What is kept of data where the series of one element are asked for.
+use Rattle.std.specs.Prelude.{◌≡◌, ℕ, Bool, true, List, Option, None, Some, filter, Ok}
+use Rattle.ghcn_files.specs.declared.station.Station.{Station}
+use Rattle.ghcn_files.specs.declared.element.Element.{Element}
+use Rattle.ghcn_files.specs.Elements.{same_element}
+use Rattle.ghcn_series.specs.Series.{Contents}
+use Rattle.ghcn_series.specs.Says.{data_of}
+use Rattle.ghcn_series.specs.Held.{is_of_element}
+
+-- the series of an element are kept: it is the one that is named, or none is
+abbrev pub is_kept : Option Element → Element → Bool
+is_kept None e = true
+is_kept (Some only) e = same_element e only
+
+-- of these data, the series of one element, or of all where none is named
+abbrev pub kept : Option Element → Contents → Contents
+kept None c = c
+kept (Some e) c = record { stations = c.stations; series = filter (is_of_element e) c.series; unlisted = c.unlisted }
+
+-- these data are what is kept of the data that the files hold
+pub record AreKept (element : Option Element) (stations : List Station) (files : List (List ℕ)) (held : Contents)
+    : Type 0 where
+  pub whole : Contents
+  pub read : data_of stations files ≡ Ok whole
+  pub is : held ≡ kept element whole
