@@ -107,7 +107,7 @@ fn add_block(
     ensures read { IfOk result (AreSummariesUpTo series.now summaries.new.items) }
     ensures later { IfOk result (λ next. numbers_left next < numbers_left (Some number)) }
 {
-    match series.block(number) {
+    match series.block_near(summaries.len(), number) {
         Some((word, values)) => {
             summaries.push(Summary::of_block(number, word, values))?;
             Ok(Some(number + 1))

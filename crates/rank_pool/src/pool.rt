@@ -133,7 +133,7 @@ impl Sink for Pool {
 
     ghost taken = { pools.taken };
 
-    #[inline]
+    #[inline(always)]
     fn offer(&mut self, candidate: Candidate)
         ensures taken { self.new ≡ pools.taken self.old candidate }
         ensures all { (xs : List made.Candidate) → pools.HoldsFirst self.old xs →

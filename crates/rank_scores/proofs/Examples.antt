@@ -4,7 +4,7 @@ use Rattle.std.specs.Prelude.{codes, ℤ, pos, neg_ℤ, ◌+ℤ◌}
 use Rattle.ghcn_files.specs.declared.station.StationId.{StationId}
 use Rattle.ghcn_files.specs.declared.element.Element.{Element}
 use Rattle.ghcn_files.specs.declared.element.Element.TheVariants.{Tmax, Tmin, Prcp, Snow}
-use Rattle.ghcn_series.specs.Series.{DayValue, Usable}
+use Rattle.ghcn_series.specs.Series.{DayValue, Usable, Contents}
 use Rattle.rank_query.specs.declared.score.Score.{Score}
 use Rattle.rank_query.specs.declared.score.Score.TheVariants.{Highest, Lowest, Sum, Dry, Wet}
 use Rattle.rank_query.specs.declared.region.Region.TheVariants.{Everywhere}
@@ -13,6 +13,7 @@ use Rattle.rank_scores.specs.Runs.{run_from}
 use Rattle.rank_scores.specs.declared.candidate.Candidate.{Candidate}
 use Rattle.rank_scores.specs.Candidates.{candidates}
 use Rattle.rank_scores.specs.Order.{best, kth_score, precedes}
+use Rattle.rank_scores.specs.OneElement.{data_for}
 
 -- the first station
 abbrev pub id_a : StationId
@@ -123,3 +124,17 @@ no_zeroth = refl
 station_before_day :
     precedes (found id_a (pos 18445) (pos 18445) (pos 311)) (found id_b (pos 18444) (pos 18444) (pos 311)) ≡ true
 station_before_day = refl
+
+-- rain and heat of one station
+abbrev pub rain_and_heat : Contents
+rain_and_heat = record {
+  stations = [];
+  series = series id_a Prcp rain ∷ series id_a Tmax ((pos 18444, pos 311) ∷ []) ∷ [];
+  unlisted = 0;
+}
+
+-- a query of heat needs the heat, and one of dry days the rain
+needed_series : ((data_for (ask 1 (Highest Tmax) None) rain_and_heat).series
+    ≡ series id_a Tmax ((pos 18444, pos 311) ∷ []) ∷ [])
+    × ((data_for (ask 1 Dry None) rain_and_heat).series ≡ series id_a Prcp rain ∷ [])
+needed_series = (refl, refl)

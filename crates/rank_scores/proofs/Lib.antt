@@ -8,3 +8,4 @@ pub mod Rising
 pub mod Exactly
 pub mod Examples
 pub mod QueryCandidates
+pub mod OneElement

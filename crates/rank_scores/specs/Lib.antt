@@ -7,3 +7,4 @@ pub mod Morsels
 pub mod QueryCandidates
 pub mod Extremes
 pub mod SeriesCandidates
+pub mod OneElement

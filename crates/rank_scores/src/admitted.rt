@@ -56,6 +56,7 @@ impl<'s, 'q> Iterator for Admitted<'s, 'q> {
 }
 
 /// The first of some days that is admitted.
+#[inline(always)]
 fn next_admitted(days: &mut Days, query: &Query) -> Option<(Day, i32)>
     ensures { YieldsFirst (found.admitted_among query.now) days.old result days.new }
 {
@@ -68,6 +69,7 @@ fn next_admitted(days: &mut Days, query: &Query) -> Option<(Day, i32)>
 }
 
 /// Passes over so many days, or over all that are left.
+#[inline(always)]
 pub(crate) fn pass_over(days: &mut Admitted, count: u16)
     ensures { days.new ≡ drop count days.old }
 {

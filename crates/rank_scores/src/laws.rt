@@ -1,5 +1,6 @@
 //! What is true of the candidates of every series and query, as laws over the definitions.
 
+ghost use Rattle.rank_scores.specs.OneElement as one_element;
 ghost use Rattle.rank_scores.specs.QueryCandidates as query;
 ghost use Rattle.rank_scores.specs.SeriesCandidates as series;
 
@@ -18,4 +19,14 @@ pub fn candidates_of_queries()
     ensures apart { query.CandidatesAreApart }
     ensures listed { query.CandidatesAreOfListed }
     ensures best { query.BestAreOfListed }
+{}
+
+/// A query needs the series of its element alone. Without the others it is about the same series,
+/// and has the same candidates, morsels, best candidates and k-th score.
+pub fn one_element_is_enough()
+    ensures series { one_element.SeriesStay }
+    ensures candidates { one_element.CandidatesStay }
+    ensures morsels { one_element.MorselsStay }
+    ensures best { one_element.BestStay }
+    ensures kth { one_element.KthStays }
 {}

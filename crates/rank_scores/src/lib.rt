@@ -18,7 +18,7 @@ mod window;
 
 pub use best::best_first;
 pub use candidate::{Candidate, precedes};
-pub use laws::{candidates_of_queries, candidates_of_series};
+pub use laws::{candidates_of_queries, candidates_of_series, one_element_is_enough};
 pub use scans::scan;
 pub use sink::Sink;
 pub use spell::Spell;

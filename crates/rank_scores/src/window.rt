@@ -24,6 +24,7 @@ struct Window<'s, 'q> {
 
 impl<'s, 'q> Window<'s, 'q> {
     /// The same window where it goes on, else one without a day behind its days.
+    #[inline(always)]
     fn go_on(&mut self, on: bool)
         ensures { self.new ≡ gone_on on self.old }
     {
@@ -36,6 +37,7 @@ impl<'s, 'q> Window<'s, 'q> {
     }
 
     /// Takes in the day that comes next, by its value.
+    #[inline(always)]
     fn take_in(&mut self, value: i32)
         requires len { self.now.len < 65_535 }
         requires total { FitsSigned w64 (self.now.total +ℤ value) }
@@ -46,6 +48,7 @@ impl<'s, 'q> Window<'s, 'q> {
     }
 
     /// Takes the first day off.
+    #[inline(always)]
     fn leave(&mut self) -> Option<Day>
         requires len { 0 < self.now.len }
         requires total { FitsSigned w64 (self.now.total -ℤ first_value self.now.leaving) }

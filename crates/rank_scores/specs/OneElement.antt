@@ -1,0 +1,30 @@
+-- What a query needs of all data, the series of its element, as statements for the contract of a public function.
+use Rattle.std.specs.Prelude.{◌≡◌, Some}
+use Rattle.ghcn_series.specs.Series.{Contents}
+use Rattle.ghcn_series.specs.Kept.{kept}
+use Rattle.rank_query.specs.Asked.{Asked, score_element}
+use Rattle.rank_scores.specs.Morsels.{admitted_series, all_candidates, morsels, best_of_query, kth_of_query}
+
+-- what a query needs of these data: of all series, those of its element
+abbrev pub data_for : Asked → Contents → Contents
+data_for q c = kept (Some (score_element q.score)) c
+
+-- in what a query needs of any data, it is about the same series as in all of them
+abbrev pub SeriesStay : Type 0
+SeriesStay = (q : Asked) (c : Contents) → admitted_series q (data_for q c) ≡ admitted_series q c
+
+-- it has the same candidates
+abbrev pub CandidatesStay : Type 0
+CandidatesStay = (q : Asked) (c : Contents) → all_candidates q (data_for q c) ≡ all_candidates q c
+
+-- the same morsels
+abbrev pub MorselsStay : Type 0
+MorselsStay = (q : Asked) (c : Contents) → morsels q (data_for q c) ≡ morsels q c
+
+-- the same best candidates
+abbrev pub BestStay : Type 0
+BestStay = (q : Asked) (c : Contents) → best_of_query q (data_for q c) ≡ best_of_query q c
+
+-- and the same k-th score
+abbrev pub KthStays : Type 0
+KthStays = (q : Asked) (c : Contents) → kth_of_query q (data_for q c) ≡ kth_of_query q c
