@@ -3,6 +3,8 @@
 ghost use Rattle.std.specs.Prelude.{◌≡◌, ◌+◌, ◌-◌, ◌^◌, ◌<◌, ◌≤◌, length, map, pos, Some, None, IfOk};
 ghost use Rattle.rank_board.specs.Seats.{opened, claims_of, raised_of, rights_of, IsSeatOf};
 
+mod growths;
+
 use super::*;
 use ghcn_fields::Memory;
 use std::alloc::Global;

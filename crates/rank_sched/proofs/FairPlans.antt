@@ -27,7 +27,7 @@ use Rattle.rank_sched.specs.Laws.{PlansAreFair}
 use Rattle.rank_scores.proofs.QueryCandidates.{all_apart}
 use Rattle.rank_sched.proofs.PlanBest.{found, plan_alike, apart_alike}
 use Rattle.rank_sched.proofs.Measures.{asked_of}
-use Rattle.rank_sched.proofs.Ordered.{sorted-permutation}
+use Rattle.ghcn_fields.proofs.Ordered.{sorted-permutation}
 use Rattle.rank_sched.proofs.PlanOrder.{sorted-in_turn}
 use Rattle.rank_sched.proofs.PlanMade.{by_id, few_morsels}
 use Rattle.rank_sched.proofs.MachineSteps.{some_wanted, few_wanted}

@@ -11,7 +11,6 @@ pub mod Finished
 pub mod OneList
 pub mod PlanBest
 pub mod Measures
-pub mod Ordered
 pub mod PlanOrder
 pub mod PlanMade
 pub mod MachineSteps

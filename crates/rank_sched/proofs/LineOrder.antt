@@ -23,7 +23,7 @@ use Rattle.rank_sched.specs.Task.{task_of}
 use Rattle.rank_sched.specs.TakingBack.{stays}
 use Rattle.rank_sched.specs.Answers.{line_of, lines_of}
 use Rattle.rank_sched.specs.Finish.{mark, AreMarks, marked_line, marked_lines}
-use Rattle.rank_sched.proofs.Ordered as ordered
+use Rattle.ghcn_fields.proofs.Ordered as ordered
 use Rattle.rank_sched.proofs.PlanOrder.{of_one_station}
 use Rattle.rank_sched.proofs.PlanMade.{plan_distinct}
 

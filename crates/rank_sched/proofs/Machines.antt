@@ -17,12 +17,13 @@ use Rattle.rank_sched.specs.Laws.{FailedStaysFailed, OneWorkerHasNoChoice, Steps
 
 -- ---- a machine that failed
 
--- a machine that failed answers want of memory to each event, stays failed, and is never stopped
+-- a machine that failed answers want of memory to each event, stays as it is, and isn't stopped
 pub failed_stays : FailedStaysFailed
 failed_stays m m' e (Ok x) f a = let no : m.failed ≡ false = a.running in absurd cc
 failed_stays m m' e (Err (NoWorker w)) f a = let no : m.failed ≡ false = a.running in absurd cc
 failed_stays m m' e (Err (NotNow w)) f a = let no : m.failed ≡ false = a.running in absurd cc
 failed_stays m m' e (Err (Memory x)) f a = (
+  tt,
   a.failed
       ∙ ap (λ (t : Bool). record m { failed = t }) (sym f),
   ap (λ (t : Bool). not t && all_stopped m.state.workers) f,

@@ -19,7 +19,7 @@ use Rattle.rank_sched.specs.Plan.{Morsel, Planned, measured, is_drawn_first, pla
 use Rattle.rank_sched.specs.Laws.{PlanIsTheOne}
 use Rattle.rank_scores.proofs.QueryCandidates.{id_from_same}
 use Rattle.rank_sched.proofs.Measures.{passes, left_part}
-use Rattle.rank_sched.proofs.Ordered.{sorted-permutation}
+use Rattle.ghcn_fields.proofs.Ordered.{sorted-permutation}
 use Rattle.rank_sched.proofs.PlanOrder.{sorted-in_turn, strictly, sort-in_turn, of_one_station, of_one_station-symm, one_order}
 
 -- ---- one place more

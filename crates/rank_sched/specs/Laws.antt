@@ -19,7 +19,7 @@ use Rattle.rank_sched.specs.Plan.{Planned, planned, IsPlanOf, IsPlan}
 use Rattle.rank_sched.specs.Task.{Task, task_of, all_of_task, IsFair}
 use Rattle.rank_sched.specs.Exchanges.{Exchange, morsels_of, scanned, IsRightSkip, exchange, raised_in, seen_in, SeeUpward}
 use Rattle.rank_sched.specs.Machine.{Worker, State, started, refusal, IsStep, Reaches, all_stopped, after}
-use Rattle.rank_sched.specs.Run.{Running, IsAnswered, is_stopped, HasSettled}
+use Rattle.rank_sched.specs.Run.{Running, IsAnswered, IsOfMemory, is_stopped, HasSettled}
 use Rattle.rank_sched.specs.SoundRun.{AreSoundFrom, IsSoundState, IsSoundEnd, all_exchanges, claims_in}
 use Rattle.rank_sched.specs.Hauls.{records_of, all_records, exchanges_in, turns_of, IsHaulOf, AreSound, AreUnderFloor, AreHaulsOf, AreSoundRecords}
 use Rattle.rank_sched.specs.TakingBack.{was_skipped, is_justified, stays, taken_back, back_below}
@@ -96,11 +96,10 @@ abbrev pub OneWorkerHasNoChoice : Type 0
 OneWorkerHasNoChoice = (s : State) (e e' : Event) → length s.workers ≡ 1 → refusal s e ≡ None → refusal s e' ≡ None
     → e ≡ e'
 
--- a machine that failed answers want of memory to each event, stays failed, and is never stopped
+-- a machine that failed answers want of memory to each event, stays as it is, and isn't stopped
 abbrev pub FailedStaysFailed : Type 0
 FailedStaysFailed = (m m' : Running) (e : Event) (r : Result (Unit {0}) StepFault) → m.failed ≡ true
-    → IsAnswered m e r m' →
-    (m' ≡ m) × (is_stopped m ≡ false)
+    → IsAnswered m e r m' → IsOfMemory r × (m' ≡ m) × (is_stopped m ≡ false)
 
 -- ---- hauls and workers that grow
 

@@ -1,5 +1,5 @@
 -- What contracts see of a machine, and what its calls answer.
-use Rattle.std.specs.Prelude.{◌≡◌, ◌⊎◌, ℕ, ◌<◌, ◌≤◌, ◌++◌, Bool, true, false, ◌&&◌, not, List, [], ◌∷◌, fold, length, take, map, zip, IfSome, Option, None, Some, Result, Ok, Err, ℤ, slice_get}
+use Rattle.std.specs.Prelude.{◌≡◌, ◌⊎◌, ℕ, ◌<◌, ◌≤◌, ◌++◌, Bool, true, false, ◌&&◌, not, List, [], ◌∷◌, fold, length, take, map, zip, IfSome, Option, None, Some, Result, Ok, Err, ℤ, slice_get, ⊤}
 use Rattle.ghcn_fields.specs.Floor.{IsScore}
 use Rattle.rank_pool.specs.Pools.{empty_pool, taken}
 use Rattle.rank_sched.specs.declared.record.Record.{Record}
@@ -96,6 +96,13 @@ IsAnswered m e (Ok done) m' = Steps m e m'
 IsAnswered m e (Err (NoWorker w)) m' = Refuses m e (NoWorker w) m'
 IsAnswered m e (Err (NotNow w)) m' = Refuses m e (NotNow w) m'
 IsAnswered m e (Err (Memory x)) m' = Fails m e m'
+
+-- the answer is want of memory
+abbrev pub IsOfMemory : {A : Type 0} → Result A StepFault → Type 0
+IsOfMemory (Ok done) = ⊥
+IsOfMemory (Err (NoWorker w)) = ⊥
+IsOfMemory (Err (NotNow w)) = ⊥
+IsOfMemory (Err (Memory x)) = ⊤
 
 -- a machine that was led here by these events, and by no others
 pub record IsReplayed (p : Planned) (workers : ℕ) (guess : Option ℤ) (es : List Event) (m : Running) : Type 0 where

@@ -3,6 +3,8 @@
 ghost use Rattle.std.specs.Prelude.{◌<◌, ◌≤◌, IfSome};
 ghost use Rattle.ghcn_fields.specs.Floor.{IsScore};
 
+mod growths;
+
 use super::*;
 use crate::plan::bounds_of;
 use ghcn_files::{StationId, Stations};
@@ -46,14 +48,14 @@ fn push_month(text: &mut String, id: &str, values: &[i32]) -> Result<(), AllocEr
     text.push_str("\n")
 }
 
-/// The data of these values.
-fn data_of(alloc: Global, values: &Values) -> Result<Data, Fail> {
+/// The data of these values, where memory is there.
+fn data_of(alloc: Global, values: &Values) -> Option<Data> {
     let mut text = String::new(alloc);
-    push_month(&mut text, "ZZA00000001", values[0])?;
-    push_month(&mut text, "ZZA00000002", values[1])?;
-    push_month(&mut text, "ZZA00000003", values[2])?;
-    let stations = Stations::read(alloc, STATIONS)?;
-    Ok(Data::read(alloc, stations, &[text.as_bytes()])?)
+    push_month(&mut text, "ZZA00000001", values[0]).ok()?;
+    push_month(&mut text, "ZZA00000002", values[1]).ok()?;
+    push_month(&mut text, "ZZA00000003", values[2]).ok()?;
+    let stations = Stations::read(alloc, STATIONS).ok()?;
+    Data::read(alloc, stations, &[text.as_bytes()]).ok()
 }
 
 /// The events of a text as `c0 l0 s0`.
@@ -116,7 +118,7 @@ fn check_replay(
     requires some { 0 < workers }
     requires few { workers ≤ 64 }
 {
-    let data = data_of(alloc, &USUAL)?;
+    let data = data_of(alloc, &USUAL).ok_or("no data")?;
     let query = Query::parse("top 1 highest TMAX").ok().ok_or("no query")?;
     let plan = Plan::new(alloc, &data, &query)?;
     let list = events_of(alloc, events)?;
@@ -156,7 +158,7 @@ fn check_guess(
 ) -> Result<(), Fail>
     requires { IsScore guess }
 {
-    let data = data_of(alloc, &USUAL)?;
+    let data = data_of(alloc, &USUAL).ok_or("no data")?;
     let query = Query::parse(query).ok().ok_or("no query")?;
     let plan = Plan::new(alloc, &data, &query)?;
     let answer = run_alone(alloc, &plan, Some(guess))?;
@@ -193,7 +195,7 @@ fn refused_events(rt: HostRuntime) -> Result<(), Fail> {
         ("c0 s0", 1, StepFault::NotNow(0)),
     ];
     let alloc = rt.alloc();
-    let data = data_of(alloc, &USUAL)?;
+    let data = data_of(alloc, &USUAL).ok_or("no data")?;
     let query = Query::parse("top 1 highest TMAX").ok().ok_or("no query")?;
     let plan = Plan::new(alloc, &data, &query)?;
     for (text, accepted, why) in ROWS {
@@ -214,7 +216,7 @@ fn plans(rt: HostRuntime) -> Result<(), Fail> {
     let alloc = rt.alloc();
     let query = Query::parse("top 1 highest TMAX").ok().ok_or("no query")?;
     for (values, morsels) in ROWS {
-        let data = data_of(alloc, &values)?;
+        let data = data_of(alloc, &values).ok_or("no data")?;
         let bounds = bounds_of(alloc, &data, &query)?;
         let plan = Plan::of_bounds(alloc, &data, &query, bounds.as_slice())?;
         assert_eq!(rt; plan.len(), morsels.len() as u64);
@@ -230,7 +232,7 @@ fn plans(rt: HostRuntime) -> Result<(), Fail> {
 #[test]
 fn a_run_of_no_morsels(rt: HostRuntime) -> Result<(), Fail> {
     let alloc = rt.alloc();
-    let data = data_of(alloc, &[&[], &[], &[]])?;
+    let data = data_of(alloc, &[&[], &[], &[]]).ok_or("no data")?;
     let query = Query::parse("top 1 highest TMAX").ok().ok_or("no query")?;
     let plan = Plan::new(alloc, &data, &query)?;
     let answer = run_alone(alloc, &plan, None)?;
