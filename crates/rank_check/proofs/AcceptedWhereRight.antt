@@ -1,5 +1,6 @@
 -- Papers are accepted exactly where both are right.
-use Rattle.std.proofs.Common.{◌≡◌, ℕ, ◌≤◌, subst, Option, true, List, [], ◌∷◌, ◌++◌, length, Ok, None, refl, sym, ap, ◌∙◌, ℤ}
+use Rattle.std.proofs.Common.{◌≡◌, ℕ, ◌≤◌, subst, Option, true, List, [], ◌∷◌, ◌++◌, length, Ok, None, refl, sym, ap}
+use Rattle.std.proofs.Common.{◌∙◌, ℤ}
 use Rattle.std.specs.Prelude.{codes}
 use Rattle.std.specs.List.{flat_map, enumerate_from, AllByRecursion, AllZip}
 use Rattle.std.specs.Cmp.Lexicographic.{bytes_decides}
@@ -12,11 +13,13 @@ use Rattle.rank_scores.specs.QueryCandidates.{CandidatesAreApart}
 use Rattle.rank_scores.specs.Morsels.{morsels, kth_of_query}
 use Rattle.rank_papers.specs.Report.{text_line, IsReport}
 use Rattle.rank_papers.specs.ReportLines.{Reported, IsReportOf, read_report, SaysRightReport}
-use Rattle.rank_papers.specs.Certificate.{Certified, Entry, certificate_text, kth_line, entry_line, end_line, IsCertificate, IsCertificateOf, IsRightEntry, SaysRight}
+use Rattle.rank_papers.specs.Certificate.{Certified, Entry, certificate_text, kth_line, entry_line, end_line}
+use Rattle.rank_papers.specs.Certificate.{IsCertificate, IsCertificateOf, IsRightEntry, SaysRight}
 use Rattle.rank_papers.specs.CertificateLines.{read_certificate}
 use Rattle.rank_papers.specs.Laws.{CertificatesAreRead, RightCertificatesSayRight, ReportsAreRead, RightReportsSayRight}
 use Rattle.rank_check.specs.declared.verdict.Verdict.TheVariants.{Accepted}
-use Rattle.rank_check.specs.Tests.{Test, same_query, same_score, row_tests, report_tests, entry_tests, certificate_tests, verdict}
+use Rattle.rank_check.specs.Tests.{Test, same_query, same_score, row_tests, report_tests, entry_tests}
+use Rattle.rank_check.specs.Tests.{certificate_tests, verdict}
 use Rattle.rank_check.specs.Laws.{AcceptedWhereRight}
 use Rattle.rank_check.proofs.Each.{each-append, each-parts}
 use Rattle.rank_check.proofs.Accepted.{Passes, accepted-pass, pass-accepted}

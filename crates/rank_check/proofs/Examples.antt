@@ -16,22 +16,31 @@ use Rattle.rank_query.specs.WordValues.{number, element}
 use Rattle.rank_query.specs.Reading.{no_score_at, score_at, region_at, period_at, read_words, read_query}
 use Rattle.rank_check.specs.declared.verdict.Paper.TheVariants.{Report, Certificate}
 use Rattle.rank_check.specs.declared.verdict.Why.{Why}
-use Rattle.rank_check.specs.declared.verdict.Why.TheVariants.{Form, OtherQuery, NotACandidate, OutOfOrder, NotBest, TooFew, OtherSeries, NoBound, NotBelow, OtherFloor}
+use Rattle.rank_check.specs.declared.verdict.Why.TheVariants.{Form, OtherQuery, NotACandidate, OutOfOrder, NotBest}
+use Rattle.rank_check.specs.declared.verdict.Why.TheVariants.{TooFew, OtherSeries, NoBound, NotBelow, OtherFloor}
 use Rattle.rank_check.specs.declared.verdict.Verdict.{Verdict}
 use Rattle.rank_check.specs.declared.verdict.Verdict.TheVariants.{Accepted, Refused}
 use Rattle.rank_check.specs.Tests.{verdict}
 
+-- a series of daily maxima
 abbrev warm : List ℕ → List DayValue → Usable
 warm id days = record { id = record { 0 = id }; element = Tmax; days = days }
 
 -- three stations: two with the same greatest value, of which the first has one more day, and one below them
 abbrev held : Contents
 held = record {
-  stations = station_of (codes "ZZA00000001  10.0000   20.0000  100.0    ALPHA") ∷ station_of (codes "ZZA00000002  11.0000   21.0000  100.0    BRAVO") ∷ station_of (codes "ZZA00000003  12.0000   22.0000  100.0    CHARLIE") ∷ [];
-  series = warm (codes "ZZA00000001") ((pos 18444, pos 311) ∷ (pos 18445, pos 305) ∷ []) ∷ warm (codes "ZZA00000002") ((pos 18444, pos 311) ∷ []) ∷ warm (codes "ZZA00000003") ((pos 18444, pos 250) ∷ []) ∷ [];
+  stations = station_of (codes "ZZA00000001  10.0000   20.0000  100.0    ALPHA")
+      ∷ station_of (codes "ZZA00000002  11.0000   21.0000  100.0    BRAVO")
+      ∷ station_of (codes "ZZA00000003  12.0000   22.0000  100.0    CHARLIE")
+      ∷ [];
+  series = warm (codes "ZZA00000001") ((pos 18444, pos 311) ∷ (pos 18445, pos 305) ∷ [])
+      ∷ warm (codes "ZZA00000002") ((pos 18444, pos 311) ∷ [])
+      ∷ warm (codes "ZZA00000003") ((pos 18444, pos 250) ∷ [])
+      ∷ [];
   unlisted = 0;
 }
 
+-- the k highest of all
 abbrev ask : ℕ → Asked
 ask k = record { k = k; score = Highest Tmax; region = Everywhere; period = None }
 
@@ -42,15 +51,19 @@ text (l ∷ ls) = l ++ 10 ∷ text ls
 
 -- ---- the right papers of the highest one, and what stands between their heads and ends
 
+-- the row of the highest
 abbrev row : List ℕ
 row = codes "1 ZZA00000001 2020-07-01 2020-07-01 31.1 C ALPHA"
 
+-- a report of one row, by what stands behind its head
 abbrev report : List (List ℕ) → List ℕ
 report ls = text (codes "extremes report 1" ∷ codes "query top 1 highest TMAX" ∷ ls)
 
+-- the right one
 abbrev right_report : List ℕ
 right_report = report (row ∷ codes "end 1" ∷ [])
 
+-- a certificate, by what stands behind its head
 abbrev certificate : List (List ℕ) → List ℕ
 certificate ls = text (codes "extremes certificate 1" ∷ codes "query top 1 highest TMAX" ∷ ls)
 
@@ -58,61 +71,90 @@ certificate ls = text (codes "extremes certificate 1" ∷ codes "query top 1 hig
 abbrev scanned : List (List ℕ) → List ℕ
 scanned ls = certificate (codes "kth 311" ∷ codes "scan ZZA00000001 311" ∷ codes "scan ZZA00000002 311" ∷ ls)
 
+-- a right one
 abbrev right_certificate : List ℕ
 right_certificate = scanned (codes "skip ZZA00000003 250" ∷ codes "end 3" ∷ [])
 
--- the verdict on a report beside the right certificate, and on a certificate beside the right report
+-- the verdict on a report beside the right certificate
 abbrev of_report : List ℕ → Verdict
 of_report r = verdict (ask 1) held r right_certificate
 
+-- and on a certificate beside the right report
 abbrev of_certificate : List ℕ → Verdict
 of_certificate z = verdict (ask 1) held right_report z
 
+-- the line of a report is refused
 abbrev bad_row : ℕ → Why → Verdict
 bad_row line why = Refused Report line why
 
+-- the line of a certificate is refused
 abbrev bad_entry : ℕ → Why → Verdict
 bad_entry line why = Refused Certificate line why
 
+-- the right papers are accepted
 accepted : verdict (ask 1) held right_report right_certificate ≡ Accepted
-unfolding digits year_and_rest month_and_day read_query read_words keyword says number element score_at no_score_at region_at period_at days_from_civil day_count days_of_years days_of_months
+unfolding digits year_and_rest month_and_day read_query read_words keyword says number element score_at no_score_at
+    region_at period_at days_from_civil day_count days_of_years days_of_months
 accepted = refl
 
 -- another bound that is above all candidates and below the k-th score, and no skip at all
-also_accepted : (of_certificate (scanned (codes "skip ZZA00000003 310" ∷ codes "end 3" ∷ [])) ≡ Accepted) × (of_certificate (scanned (codes "scan ZZA00000003 9999" ∷ codes "end 3" ∷ [])) ≡ Accepted)
-unfolding digits year_and_rest month_and_day read_query read_words keyword says number element score_at no_score_at region_at period_at days_from_civil day_count days_of_years days_of_months
+also_accepted : (of_certificate (scanned (codes "skip ZZA00000003 310" ∷ codes "end 3" ∷ [])) ≡ Accepted)
+    × (of_certificate (scanned (codes "scan ZZA00000003 9999" ∷ codes "end 3" ∷ [])) ≡ Accepted)
+unfolding digits year_and_rest month_and_day read_query read_words keyword says number element score_at no_score_at
+    region_at period_at days_from_civil day_count days_of_years days_of_months
 also_accepted = (refl, refl)
 
+-- a skip at the k-th score, a bound below a candidate, a series left out, a wrong number of lines, another k-th score
 certificates : (of_certificate (scanned (codes "skip ZZA00000003 311" ∷ codes "end 3" ∷ [])) ≡ bad_entry 6 NotBelow)
     × (of_certificate (scanned (codes "skip ZZA00000003 249" ∷ codes "end 3" ∷ [])) ≡ bad_entry 6 NoBound)
     × (of_certificate (scanned (codes "end 2" ∷ [])) ≡ bad_entry 6 OtherSeries)
     × (of_certificate (scanned (codes "end 3" ∷ [])) ≡ bad_entry 6 Form)
-    × (of_certificate (certificate (codes "kth 310" ∷ codes "scan ZZA00000001 311" ∷ codes "scan ZZA00000002 311" ∷ codes "skip ZZA00000003 250" ∷ codes "end 3" ∷ [])) ≡ bad_entry 3 OtherFloor)
-unfolding digits year_and_rest month_and_day read_query read_words keyword says number element score_at no_score_at region_at period_at days_from_civil day_count days_of_years days_of_months
+    × (of_certificate (certificate (codes "kth 310" ∷ codes "scan ZZA00000001 311" ∷ codes "scan ZZA00000002 311"
+    ∷ codes "skip ZZA00000003 250" ∷ codes "end 3" ∷ [])) ≡ bad_entry 3 OtherFloor)
+unfolding digits year_and_rest month_and_day read_query read_words keyword says number element score_at no_score_at
+    region_at period_at days_from_civil day_count days_of_years days_of_months
 certificates = (refl, refl, refl, refl, refl)
 
+-- a certificate with the first series twice, and this end
+abbrev with_one_twice : List ℕ → List ℕ
+with_one_twice end =
+    certificate (codes "kth 311" ∷ codes "scan ZZA00000001 311" ∷ codes "scan ZZA00000001 311"
+    ∷ codes "scan ZZA00000002 311" ∷ codes "skip ZZA00000003 250" ∷ end ∷ [])
+
 -- a line doubled, alone and with its number in the end line, and two ends
-doubled : (of_certificate (certificate (codes "kth 311" ∷ codes "scan ZZA00000001 311" ∷ codes "scan ZZA00000001 311" ∷ codes "scan ZZA00000002 311" ∷ codes "skip ZZA00000003 250" ∷ codes "end 3" ∷ [])) ≡ bad_entry 8 Form)
-    × (of_certificate (certificate (codes "kth 311" ∷ codes "scan ZZA00000001 311" ∷ codes "scan ZZA00000001 311" ∷ codes "scan ZZA00000002 311" ∷ codes "skip ZZA00000003 250" ∷ codes "end 4" ∷ [])) ≡ bad_entry 5 OtherSeries)
+doubled : (of_certificate (with_one_twice (codes "end 3")) ≡ bad_entry 8 Form)
+    × (of_certificate (with_one_twice (codes "end 4")) ≡ bad_entry 5 OtherSeries)
     × (of_certificate (scanned (codes "skip ZZA00000003 250" ∷ codes "end 3" ∷ codes "end 3" ∷ [])) ≡ bad_entry 8 Form)
     × (of_report (report (row ∷ row ∷ codes "end 2" ∷ [])) ≡ bad_row 4 Form)
-unfolding digits year_and_rest month_and_day read_query read_words keyword says number element score_at no_score_at region_at period_at days_from_civil day_count days_of_years days_of_months
+unfolding digits year_and_rest month_and_day read_query read_words keyword says number element score_at no_score_at
+    region_at period_at days_from_civil day_count days_of_years days_of_months
 doubled = (refl, refl, refl, refl)
 
-reports : (of_report (report (codes "1 ZZA00000001 2020-07-01 2020-07-01 31.0 C ALPHA" ∷ codes "end 1" ∷ [])) ≡ bad_row 3 NotACandidate)
-    × (of_report (report (codes "1 ZZA00000001 2020-07-01 2020-07-01 31.1 C BRAVO" ∷ codes "end 1" ∷ [])) ≡ bad_row 3 NotACandidate)
-    × (of_report (report (codes "1 ZZA00000002 2020-07-01 2020-07-01 31.1 C BRAVO" ∷ codes "end 1" ∷ [])) ≡ bad_row 3 NotBest)
+-- the verdict on a report with this row
+abbrev of_one : List ℕ → Verdict
+of_one line = of_report (report (line ∷ codes "end 1" ∷ []))
+
+-- another value, another name, another candidate, no row, another query
+reports : (of_one (codes "1 ZZA00000001 2020-07-01 2020-07-01 31.0 C ALPHA") ≡ bad_row 3 NotACandidate)
+    × (of_one (codes "1 ZZA00000001 2020-07-01 2020-07-01 31.1 C BRAVO") ≡ bad_row 3 NotACandidate)
+    × (of_one (codes "1 ZZA00000002 2020-07-01 2020-07-01 31.1 C BRAVO") ≡ bad_row 3 NotBest)
     × (of_report (report (codes "end 0 all" ∷ [])) ≡ bad_row 3 TooFew)
     × (verdict (ask 2) held right_report right_certificate ≡ bad_row 2 OtherQuery)
-unfolding digits year_and_rest month_and_day read_query read_words keyword says number element score_at no_score_at region_at period_at days_from_civil day_count days_of_years days_of_months
+unfolding digits year_and_rest month_and_day read_query read_words keyword says number element score_at no_score_at
+    region_at period_at days_from_civil day_count days_of_years days_of_months
 reports = (refl, refl, refl, refl, refl)
 
--- two rows: the first one twice, and two in the wrong order
+-- the verdict on a report with these two rows
 abbrev two_rows : List (List ℕ) → Verdict
-two_rows rows = verdict (ask 2) held (text (codes "extremes report 1" ∷ codes "query top 2 highest TMAX" ∷ rows ++ codes "end 2" ∷ [])) right_certificate
+two_rows rows =
+    let head : List (List ℕ) = codes "extremes report 1" ∷ codes "query top 2 highest TMAX" ∷ [] in
+    verdict (ask 2) held (text (head ++ rows ++ codes "end 2" ∷ [])) right_certificate
 
+-- the first one twice, and two in the wrong order; the right two, beside the certificate of another query
 of_two : (two_rows (row ∷ codes "2 ZZA00000001 2020-07-01 2020-07-01 31.1 C ALPHA" ∷ []) ≡ bad_row 4 OutOfOrder)
-    × (two_rows (codes "1 ZZA00000001 2020-07-02 2020-07-02 30.5 C ALPHA" ∷ codes "2 ZZA00000002 2020-07-01 2020-07-01 31.1 C BRAVO" ∷ []) ≡ bad_row 3 NotBest)
+    × (two_rows (codes "1 ZZA00000001 2020-07-02 2020-07-02 30.5 C ALPHA"
+    ∷ codes "2 ZZA00000002 2020-07-01 2020-07-01 31.1 C BRAVO" ∷ []) ≡ bad_row 3 NotBest)
     × (two_rows (row ∷ codes "2 ZZA00000002 2020-07-01 2020-07-01 31.1 C BRAVO" ∷ []) ≡ bad_entry 2 OtherQuery)
-unfolding digits year_and_rest month_and_day read_query read_words keyword says number element score_at no_score_at region_at period_at days_from_civil day_count days_of_years days_of_months
+unfolding digits year_and_rest month_and_day read_query read_words keyword says number element score_at no_score_at
+    region_at period_at days_from_civil day_count days_of_years days_of_months
 of_two = (refl, refl, refl)

@@ -1,8 +1,9 @@
 -- The first test that fails, of tests of elements one after the other.
-use Rattle.std.proofs.Common.{◌≡◌, ℕ, zero, suc, ◌+◌, ◌-◌, ◌<◌, Bool, true, false, cond, List, [], ◌∷◌, ◌++◌, length, take, map, Option, Some, None, refl, sym, ap, ◌∙◌, arith, append-nil, get_or}
+use Rattle.std.proofs.Common.{◌≡◌, ℕ, zero, suc, ◌+◌, ◌-◌, ◌<◌, Bool, true, false, cond, List, [], ◌∷◌, ◌++◌, length}
+use Rattle.std.proofs.Common.{take, map, Option, Some, None, refl, sym, ap, ◌∙◌, arith, append-nil, get_or}
 use Rattle.std.specs.Prelude.{slice_get, nat_le, int_le, ◌&&◌, ◌||◌, not, ℤ}
 use Rattle.std.specs.List.{flat_map, enumerate_from, fold, list_all}
-use Rattle.std.specs.Option.{option_map, option_map_or, is_some}
+use Rattle.std.specs.Option.{option_map, option_map_or, option_or, is_some}
 use Rattle.std.proofs.lemmas.Bool.{lt-leb}
 use Rattle.ghcn_fields.specs.Faults.{first_failing}
 use Rattle.rank_scores.specs.declared.candidate.Candidate.{Candidate}
@@ -49,6 +50,17 @@ before_some (t ∷ ts) us v e =
       | true ↦ λ f. before_some ts us v f
       | false ↦ λ f. f
     ] e
+
+-- the first of two lists that fails is the first of the one, or else of the other
+pub first_failing-append : (ts us : List Test)
+    → option_or (first_failing ts) (first_failing us) ≡ first_failing (ts ++ us)
+first_failing-append [] us = refl
+first_failing-append (t ∷ ts) us =
+    elim (t.0) as (λ b. option_or (cond b (first_failing ts) (Some t.1)) (first_failing us)
+    ≡ cond b (first_failing (ts ++ us)) (Some t.1)) [
+      | true ↦ first_failing-append ts us
+      | false ↦ refl
+    ]
 
 -- none of two lists fails where none of either does
 none_of_first : (ts us : List Test) → first_failing (ts ++ us) ≡ None → first_failing ts ≡ None

@@ -1,33 +1,33 @@
 -- The first test that fails of a report, and of a certificate.
-use Rattle.std.proofs.Common.{◌≡◌, ℕ, ◌+◌, ◌<◌, ◌≤◌, Bool, true, false, cond, List, [], ◌∷◌, ◌++◌, length, Option, Some, None, refl, sym, ap, ◌∙◌, arith, ◌||◌}
+use Rattle.std.proofs.Common.{◌≡◌, ℕ, ◌+◌, ◌<◌, ◌≤◌, Bool, true, false, cond, List, [], ◌∷◌, ◌++◌, length, map, Option}
+use Rattle.std.proofs.Common.{Some}
+use Rattle.std.proofs.Common.{refl, sym, ap, ◌∙◌, subst, arith, ◌||◌}
 use Rattle.std.specs.Prelude.{nat_le}
-use Rattle.std.specs.Option.{is_some}
-use Rattle.std.proofs.lemmas.Bool.{leb-true, leb-false, le-leb, lt-leb}
+use Rattle.std.specs.Option.{option_or}
+use Rattle.std.proofs.lemmas.Bool.{leb-true, leb-false, le-leb, lt-leb, and_parts}
+use Rattle.std.proofs.lemmas.List.{length-map}
 use Rattle.ghcn_fields.specs.Faults.{first_failing}
+use Rattle.ghcn_files.specs.declared.station.Station.{Station}
 use Rattle.ghcn_series.specs.Series.{Contents}
 use Rattle.ghcn_series.specs.Says.{in_64_bits}
 use Rattle.rank_query.specs.Asked.{Asked}
 use Rattle.rank_scores.specs.Morsels.{all_candidates, morsels, kth_of_query}
-use Rattle.rank_papers.specs.ReportLines.{Reported}
+use Rattle.rank_papers.specs.declared.paper.Report.{Report as ReadReport}
+use Rattle.rank_papers.specs.declared.paper.Row.{Row}
+use Rattle.rank_papers.specs.ReportLines.{Reported, IsReported, reported_in, named_in}
 use Rattle.rank_papers.specs.Certificate.{Certified}
+use Rattle.rank_check.specs.declared.survey.Findings.{Findings}
 use Rattle.rank_check.specs.declared.verdict.Paper.TheVariants.{Report, Certificate}
-use Rattle.rank_check.specs.declared.verdict.Why.TheVariants.{TooFew, OtherSeries, OtherQuery, OtherFloor}
+use Rattle.rank_check.specs.declared.verdict.Why.TheVariants.{TooFew, OtherQuery, OtherFloor}
 use Rattle.rank_check.specs.declared.verdict.Verdict.{Verdict}
 use Rattle.rank_check.specs.declared.verdict.Verdict.TheVariants.{Refused}
-use Rattle.rank_check.specs.Tests.{Test, same_query, same_score, are_enough, tests_of_rows, report_tests, tests_of_lines, certificate_tests}
-use Rattle.rank_check.proofs.Failing.{behind_none, before_some}
+use Rattle.rank_check.specs.FoundFaults.{IsFaultOfRows}
+use Rattle.rank_check.specs.Survey.{AreFindings, candidates_of}
+use Rattle.rank_check.specs.Tests.{Test, same_query, same_score, number_test, length_test, tests_of_rows, report_tests}
+use Rattle.rank_check.specs.Tests.{tests_of_lines, certificate_tests}
+use Rattle.rank_check.proofs.Failing.{first_failing-append}
 
--- the first of some tests that fails, where one does
-some_of : (ts : List Test) (last : Test) (o : Option Verdict) → is_some o ≡ true → o ≡ first_failing ts
-    → o ≡ first_failing (ts ++ last ∷ [])
-some_of ts last None some e = absurd cc
-some_of ts last (Some v) some e = sym (before_some ts (last ∷ []) v (sym e))
-
--- the last test, where none before it fails
-last_of : (ts : List Test) (last : Test) (o : Option Verdict) → is_some o ≡ false → o ≡ first_failing ts
-    → first_failing (ts ++ last ∷ []) ≡ cond last.0 None (Some last.1)
-last_of ts last None none e = behind_none ts (last ∷ []) (sym e)
-last_of ts last (Some v) none e = absurd cc
+-- ---- the number of rows
 
 -- a count that stops at 64 bits tells of few rows what the number itself does
 counted : (n rows : ℕ) → rows ≤ 1000 → nat_le (in_64_bits n) rows ≡ nat_le n rows
@@ -37,85 +37,68 @@ counted n rows few = by (nat_le n rows) refl
     by true e = let low : n ≤ rows = leb-true n rows e in le-leb (in_64_bits n) rows (omega arith)
     by false e = let high : rows < n = leb-false n rows e in lt-leb (in_64_bits n) rows (omega arith)
 
--- whether there are enough rows, by what was counted
-pub enough : (q : Asked) (c : Contents) (n count : ℕ) → n ≤ 1000 → count ≡ in_64_bits (length (all_candidates q c))
-    → (nat_le q.k n || nat_le count n) ≡ are_enough q c n
-enough q c n count few e =
-    ap (λ (b : Bool). nat_le q.k n || b) (ap (λ (m : ℕ). nat_le m n) e ∙ counted (length (all_candidates q c)) n few)
+-- so the test of the number is that of the count
+numbered : (k n count all : ℕ) → n ≤ 1000 → count ≡ in_64_bits all → number_test k count n ≡ number_test k all n
+numbered k n count all few e =
+    ap (λ (b : Bool). (nat_le k n || b, Refused Report (n + 3) TooFew))
+    (ap (λ (m : ℕ). nat_le m n) e ∙ counted all n few)
 
-module _ (q : Asked) (c : Contents) (r : Reported) (o : Option Verdict) (same : same_query r.query q ≡ true)
-    (rows : o ≡ first_failing (tests_of_rows q c r.rows)) where
-  -- the last test
-  abbrev of_number : Test
-  of_number = (are_enough q c (length r.rows), Refused Report (length r.rows + 3) TooFew)
+-- a report that was read has few rows
+pub few_rows : (r : ReadReport) → IsReported (reported_in r) → length r.rows.items ≤ 1000
+few_rows r can =
+    let k = r.query.k in
+    let low : length (map named_in r.rows.items) ≤ k = leb-true (length (map named_in r.rows.items)) k can.few in
+    let high : k ≤ 1000 = leb-true k 1000 (and_parts (nat_le 1 k) (nat_le k 1000) can.asked.k).1 in
+    omega (arith, low, high, length-map r.rows.items named_in)
 
-  -- the tests behind that of the query
-  abbrev behind_query : List Test
-  behind_query = tests_of_rows q c r.rows ++ of_number ∷ []
+-- ---- a report, whose rows are lent
 
-  -- they decide
-  queried : first_failing (report_tests q c r) ≡ first_failing behind_query
-  queried = ap (λ (b : Bool). cond b (first_failing behind_query) (Some (Refused Report 2 OtherQuery))) same
+module _ (q : Asked) (c : Contents) (own rows : List Row) (lent : rows ≡ own) (found : Findings)
+    (are : AreFindings q c (candidates_of own) found) where
+  -- what the number of rows comes to
+  pub number_decided : (few : Option Verdict) → length own ≤ 1000
+      → few ≡ first_failing (number_test q.k found.count (length rows) ∷ [])
+      → few ≡ first_failing (number_test q.k (length (all_candidates q c)) (length (map named_in own)) ∷ [])
+  number_decided few low e =
+      e ∙ ap (λ (rs : List Row). first_failing (number_test q.k found.count (length rs) ∷ [])) lent
+      ∙ ap (λ (t : Test). first_failing (t ∷ []))
+      (numbered q.k (length own) found.count (length (all_candidates q c)) low are.count)
+      ∙ ap (λ (n : ℕ). first_failing (number_test q.k (length (all_candidates q c)) n ∷ []))
+      (sym (length-map own named_in))
 
-  -- a row with a test that fails
-  pub row_fails : is_some o ≡ true → o ≡ first_failing (report_tests q c r)
-  row_fails some = some_of (tests_of_rows q c r.rows) of_number o some rows ∙ sym queried
+  -- what the rows come to
+  pub rows_decided : (stations : List Station) (fault : Option Verdict) → stations ≡ c.stations
+      → IsFaultOfRows stations rows found fault → fault ≡ first_failing (tests_of_rows q c (map named_in own))
+  rows_decided stations fault listed is =
+      subst (λ (rs : List Row). IsFaultOfRows stations rs found fault) lent is q c listed are
 
-  -- or whether there are enough rows
-  number_decides : is_some o ≡ false → first_failing (report_tests q c r)
-      ≡ cond (are_enough q c (length r.rows)) None (Some (Refused Report (length r.rows + 3) TooFew))
-  number_decides none = queried ∙ last_of (tests_of_rows q c r.rows) of_number o none rows
+-- the fault of the rows, or else of their number, is that of the report
+pub report_decided : (q : Asked) (c : Contents) (r : Reported) (fault few : Option Verdict)
+    → same_query r.query q ≡ true → fault ≡ first_failing (tests_of_rows q c r.rows)
+    → few ≡ first_failing (number_test q.k (length (all_candidates q c)) (length r.rows) ∷ [])
+    → option_or fault few ≡ first_failing (report_tests q c r)
+report_decided q c r fault few same rows number =
+    let last : List Test = number_test q.k (length (all_candidates q c)) (length r.rows) ∷ [] in
+    let behind : List Test = tests_of_rows q c r.rows ++ last in
+    ap (λ (o : Option Verdict). option_or o few) rows
+    ∙ ap (option_or (first_failing (tests_of_rows q c r.rows))) number
+    ∙ first_failing-append (tests_of_rows q c r.rows) last
+    ∙ ap (λ (b : Bool). cond b (first_failing behind) (Some (Refused Report 2 OtherQuery))) (sym same)
 
-  -- there are
-  pub report_passes : is_some o ≡ false → (n : ℕ) → n ≡ length r.rows → are_enough q c n ≡ true
-      → None ≡ first_failing (report_tests q c r)
-  report_passes none n long e =
-      sym (number_decides none ∙ ap (λ (m : ℕ). cond (are_enough q c m) None (Some (Refused Report (m + 3) TooFew)))
-      (sym long) ∙ ap (λ (b : Bool). cond b None (Some (Refused Report (n + 3) TooFew))) e)
+-- ---- a certificate
 
-  -- there aren't
-  pub too_few : is_some o ≡ false → (n : ℕ) → n ≡ length r.rows → are_enough q c n ≡ false
-      → Some (Refused Report (n + 3) TooFew) ≡ first_failing (report_tests q c r)
-  too_few none n long e =
-      sym (number_decides none ∙ ap (λ (m : ℕ). cond (are_enough q c m) None (Some (Refused Report (m + 3) TooFew)))
-      (sym long) ∙ ap (λ (b : Bool). cond b None (Some (Refused Report (n + 3) TooFew))) e)
-
-module _ (q : Asked) (c : Contents) (z : Certified) (o : Option Verdict) (same : same_query z.query q ≡ true)
-    (score : same_score z.kth (kth_of_query q c) ≡ true)
-    (lines : o ≡ first_failing (tests_of_lines q c z.kth z.entries)) where
-  -- the last test
-  abbrev of_lines : Test
-  of_lines = (nat_le (length (morsels q c)) (length z.entries), Refused Certificate (length z.entries + 4) OtherSeries)
-
-  -- the tests behind that of the k-th score
-  abbrev behind_score : List Test
-  behind_score = tests_of_lines q c z.kth z.entries ++ of_lines ∷ []
-
-  -- they decide
-  scored : first_failing (certificate_tests q c z) ≡ first_failing behind_score
-  scored = ap (λ (b : Bool). cond b (cond (same_score z.kth (kth_of_query q c)) (first_failing behind_score)
-      (Some (Refused Certificate 3 OtherFloor))) (Some (Refused Certificate 2 OtherQuery))) same
-      ∙ ap (λ (b : Bool). cond b (first_failing behind_score) (Some (Refused Certificate 3 OtherFloor))) score
-
-  -- a line with a test that fails
-  pub line_fails : is_some o ≡ true → o ≡ first_failing (certificate_tests q c z)
-  line_fails some =
-      some_of (tests_of_lines q c z.kth z.entries) of_lines o some lines ∙ sym scored
-
-  -- or whether there are enough lines
-  number_of_lines : is_some o ≡ false → first_failing (certificate_tests q c z)
-      ≡ cond (nat_le (length (morsels q c)) (length z.entries)) None
-      (Some (Refused Certificate (length z.entries + 4) OtherSeries))
-  number_of_lines none = scored ∙ last_of (tests_of_lines q c z.kth z.entries) of_lines o none lines
-
-  -- there are
-  pub certificate_passes : is_some o ≡ false → nat_le (length (morsels q c)) (length z.entries) ≡ true
-      → None ≡ first_failing (certificate_tests q c z)
-  certificate_passes none e = sym (number_of_lines none
-      ∙ ap (λ (b : Bool). cond b None (Some (Refused Certificate (length z.entries + 4) OtherSeries))) e)
-
-  -- there aren't
-  pub morsels_left : is_some o ≡ false → nat_le (length (morsels q c)) (length z.entries) ≡ false
-      → Some (Refused Certificate (length z.entries + 4) OtherSeries) ≡ first_failing (certificate_tests q c z)
-  morsels_left none e = sym (number_of_lines none
-      ∙ ap (λ (b : Bool). cond b None (Some (Refused Certificate (length z.entries + 4) OtherSeries))) e)
+-- the fault of the lines, or else of their number, is that of the certificate
+pub certificate_decided : (q : Asked) (c : Contents) (z : Certified) (fault few : Option Verdict)
+    → same_query z.query q ≡ true → same_score z.kth (kth_of_query q c) ≡ true
+    → fault ≡ first_failing (tests_of_lines q c z.kth z.entries)
+    → few ≡ first_failing (length_test (length (morsels q c)) (length z.entries) ∷ [])
+    → option_or fault few ≡ first_failing (certificate_tests q c z)
+certificate_decided q c z fault few same score lines number =
+    let last : List Test = length_test (length (morsels q c)) (length z.entries) ∷ [] in
+    let behind : List Test = tests_of_lines q c z.kth z.entries ++ last in
+    ap (λ (o : Option Verdict). option_or o few) lines
+    ∙ ap (option_or (first_failing (tests_of_lines q c z.kth z.entries))) number
+    ∙ first_failing-append (tests_of_lines q c z.kth z.entries) last
+    ∙ ap (λ (b : Bool). cond b (first_failing behind) (Some (Refused Certificate 3 OtherFloor))) (sym score)
+    ∙ ap (λ (b : Bool). cond b (cond (same_score z.kth (kth_of_query q c)) (first_failing behind)
+    (Some (Refused Certificate 3 OtherFloor))) (Some (Refused Certificate 2 OtherQuery))) (sym same)

@@ -1,5 +1,4 @@
 pub mod Each
-pub mod Ordered
 pub mod SortedCandidates
 pub mod Examples
 pub mod Accepted
@@ -11,3 +10,4 @@ pub mod SortedTops
 pub mod Failing
 pub mod Judging
 pub mod KthScores
+pub mod OneElement

@@ -1,5 +1,6 @@
 -- The tests of a report pass exactly where it says what is right.
-use Rattle.std.proofs.Common.{◌≡◌, ℕ, zero, suc, ◌+◌, ◌-◌, ◌<◌, ◌≤◌, min, Bool, true, false, cond, List, [], ◌∷◌, length, take, drop, map, Option, Some, None, refl, sym, ap, ◌∙◌, arith, ◌||◌}
+use Rattle.std.proofs.Common.{◌≡◌, ℕ, zero, suc, ◌+◌, ◌-◌, ◌<◌, ◌≤◌, min, Bool, true, false, cond, List, [], ◌∷◌}
+use Rattle.std.proofs.Common.{length, take, drop, map, Option, Some, None, refl, sym, ap, ◌∙◌, arith, ◌||◌}
 use Rattle.std.specs.Prelude.{slice_get, ◌==◌, ◌&&◌, nat_le}
 use Rattle.std.specs.List.{find, flat_map, enumerate_from, AllByRecursion}
 use Rattle.std.specs.Option.{option_map, option_map_or}
@@ -19,7 +20,8 @@ use Rattle.rank_papers.specs.ReportLines.{name_of}
 use Rattle.rank_check.specs.Tests.{is_among, is_named, row_before, row_tests, are_enough}
 use Rattle.rank_check.proofs.Each.{all_taken}
 use Rattle.rank_check.proofs.Accepted.{Passes}
-use Rattle.rank_check.proofs.SortedCandidates.{in_order, ordered-descends, ordered-length, at_rank, rank_at, among, best_first, one_precedes}
+use Rattle.rank_check.proofs.SortedCandidates.{in_order, ordered-descends, ordered-length, at_rank, rank_at, among}
+use Rattle.rank_check.proofs.SortedCandidates.{best_first, one_precedes}
 
 -- ---- names
 
@@ -133,7 +135,7 @@ module _ (q : Asked) (c : Contents) (apart : AreApart (all_candidates q c)) (row
 
   -- rows whose tests pass are the best, where there are enough
   pub rows_best : length rows ≤ q.k → AllByRecursion Passes (flat_map (row_tests q c rows) (enumerate_from 1 rows))
-      → are_enough q c (length rows) ≡ true → candidates_of rows ≡ best_of_query q c
+      → are_enough q.k (length all) (length rows) ≡ true → candidates_of rows ≡ best_of_query q c
   rows_best few h enough =
       let stand : candidates_of rows ≡ take (length rows) (in_order all) = rows_stand 0 rows h in
       let long : (nat_le q.k (length rows) || nat_le (length (in_order all)) (length rows)) ≡ true =
@@ -195,7 +197,7 @@ module _ (q : Asked) (c : Contents) (apart : AreApart (all_candidates q c)) (row
         )
 
     -- there are enough rows
-    enough : are_enough q c (length rows) ≡ true
+    enough : are_enough q.k (length all) (length rows) ≡ true
     enough =
         let firsts : candidates_of rows ≡ take q.k (in_order all) = best_are ∙ best_first all apart q.k in
         let many : length rows ≡ length (take q.k (in_order all)) =
@@ -206,6 +208,6 @@ module _ (q : Asked) (c : Contents) (apart : AreApart (all_candidates q c)) (row
     -- where the rows are the best with their stations' names, their tests pass
     pub best_pass : AllByRecursion (λ row. name_of c.stations row.0.id ≡ Some row.1) rows
         → AllByRecursion Passes (flat_map (row_tests q c rows) (enumerate_from 1 rows))
-        × (are_enough q c (length rows) ≡ true)
+        × (are_enough q.k (length all) (length rows) ≡ true)
     best_pass names =
         (rows_pass 0 rows (λ j. let same : j ≡ 0 + j = omega arith in ap (slice_get rows) same) names, enough)

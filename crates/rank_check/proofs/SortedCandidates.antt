@@ -1,16 +1,17 @@
 -- The candidates of a query in order, and the rank of each.
-use Rattle.std.proofs.Common.{◌≡◌, ℕ, zero, suc, Bool, true, false, cond, List, [], ◌∷◌, length, take, Some, refl, sym, ap, ◌∙◌, subst, ◌||◌}
+use Rattle.std.proofs.Common.{◌≡◌, ℕ, zero, suc, Bool, true, false, cond, List, [], ◌∷◌, length, take, Some, refl, sym}
+use Rattle.std.proofs.Common.{ap, ◌∙◌, subst, ◌||◌}
 use Rattle.std.specs.Prelude.{slice_get, ◌==◌, ◌&&◌}
 use Rattle.std.specs.List.{find, IsDistinct}
 use Rattle.std.specs.List.Sorted.{IsPermutation}
-use Rattle.std.specs.Ordering.{is_lt, is_le, is_eq, int_cmp, nat_cmp, int_eq, ordering_then, ordering_reverse}
+use Rattle.std.specs.Ordering.{is_lt, is_le, is_eq, int_cmp, nat_cmp, int_eq, ordering_then}
 use Rattle.std.specs.declared.cmp.Ordering.{Ordering}
 use Rattle.std.specs.declared.cmp.Ordering.TheVariants.{Less, Equal, Greater}
-use Rattle.std.specs.Cmp.{IsTotalOrder, tied_then}
+use Rattle.std.specs.Cmp.{tied_then}
 use Rattle.std.specs.Cmp.Lexicographic.{slice_cmp}
 use Rattle.std.proofs.lemmas.Bool.{eqb-true, and_parts}
 use Rattle.std.proofs.lemmas.Bool.Decides.{Decides-int_eq}
-use Rattle.std.proofs.lemmas.Cmp.{nat_list_cmp_total, int_cmp_total, on_total, then_total, back_total, int_eq_equiv, nat_list_eq_equiv}
+use Rattle.std.proofs.lemmas.Cmp.{tied_itself, int_eq_equiv, nat_list_eq_equiv}
 use Rattle.std.proofs.lemmas.Map.Text.{is_eq-slice_cmp}
 use Rattle.std.proofs.lemmas.List.Sorted.{list_any-IsPermutation, length_permutation}
 use Rattle.std.proofs.lemmas.Map.Keys.{IsDistinct-IsPermutation}
@@ -19,15 +20,11 @@ use Rattle.ghcn_files.specs.Ids.{same_id}
 use Rattle.ghcn_files.specs.IdLaws.{same_id-is}
 use Rattle.rank_scores.specs.declared.candidate.Candidate.{Candidate}
 use Rattle.rank_scores.specs.Order.{precedes, rank_cmp, full_cmp, rank_in, best, begin_alike, AreApart}
-use Rattle.rank_scores.proofs.Ranks.{Descends, of_rank-is, best-is}
+use Rattle.rank_scores.proofs.Listing.{full_cmp_total}
+use Rattle.rank_scores.proofs.Ranks.{rank_cmp_total, Descends, of_rank-is, best-is}
 use Rattle.rank_check.specs.Tests.{is_among}
-use Rattle.rank_check.proofs.Each.{each-weaker, each-at}
-use Rattle.rank_check.proofs.Ordered.{sorted-permutation, sorted-in_turn, descends, IsBefore, Descend}
-
--- ranking is a total order
-ranked_total : IsTotalOrder rank_cmp
-ranked_total = then_total (on_total (λ c. c.score) (back_total int_cmp_total))
-    (then_total (on_total (λ c. c.id.0) nat_list_cmp_total) (on_total (λ c. c.first) int_cmp_total))
+use Rattle.ghcn_fields.proofs.Ordered.{each-weaker, sorted-permutation, sorted-in_turn, descends, IsBefore, Descend}
+use Rattle.rank_check.proofs.Each.{each-at}
 
 -- the first of two in order, or they tie
 abbrev stands_first : Candidate → Candidate → Bool
@@ -63,7 +60,7 @@ apart_precedes a b h n = strictly_first (rank_cmp a b) h (λ e. let yes = tied_a
 
 -- each precedes all that stand behind it
 all_precede : (xs : List Candidate)
-    → Descend (IsBefore rank_cmp ranked_total stands_first (λ a b. refl) begin_alike alike-turned tied_alike) xs
+    → Descend (IsBefore rank_cmp rank_cmp_total stands_first (λ a b. refl) begin_alike alike-turned tied_alike) xs
     → Descends xs
 all_precede [] h = tt
 all_precede (x ∷ xs) h = (
@@ -85,8 +82,8 @@ ordered-descends all apart =
     let sorted : List Candidate = in_order all in
     let still : IsDistinct begin_alike sorted =
     IsDistinct-IsPermutation begin_alike alike-turned all sorted (ordered-permutation all) apart in
-    all_precede sorted (descends rank_cmp ranked_total stands_first (λ a b. refl) begin_alike alike-turned tied_alike
-    sorted (sorted-in_turn rank_cmp ranked_total stands_first (λ a b. refl) all) still)
+    all_precede sorted (descends rank_cmp rank_cmp_total stands_first (λ a b. refl) begin_alike alike-turned tied_alike
+    sorted (sorted-in_turn rank_cmp rank_cmp_total stands_first (λ a b. refl) all) still)
 
 -- ---- the one at a place
 
@@ -112,19 +109,9 @@ same_from_tie a b e =
     let score : a.score ≡ b.score = sym ((Decides-int_eq b.score a.score).0 ranks.0) in
     λ i. record { id = id i; first = first i; last = last i; score = score i }
 
--- a comparison that is its own reverse ties
-reversed_ties : (o : Ordering) → o ≡ ordering_reverse o → is_eq o ≡ true
-reversed_ties Less e = absurd cc
-reversed_ties Equal e = refl
-reversed_ties Greater e = absurd cc
-
--- the order of all candidates is total
-full_total : IsTotalOrder full_cmp
-full_total = then_total ranked_total (on_total (λ c. c.last) int_cmp_total)
-
 -- each ties with itself
 own_tie : (c : Candidate) → is_eq (full_cmp c c) ≡ true
-own_tie c = reversed_ties (full_cmp c c) (full_total.antisymm c c)
+own_tie c = ap is_eq (tied_itself full_cmp_total c)
 
 -- what is among some has a place there
 place_among : (xs : List Candidate) (c : Candidate) → is_among xs c ≡ true → (i : ℕ) × (slice_get xs i ≡ Some c)

@@ -1,5 +1,6 @@
 -- The greatest scores of series, put in order by ID, are those of the morsels.
-use Rattle.std.proofs.Common.{◌≡◌, Bool, true, false, cond, List, [], ◌∷◌, map, filter, Some, None, refl, sym, ap, ◌∙◌, subst}
+use Rattle.std.proofs.Common.{◌≡◌, Bool, true, false, cond, List, [], ◌∷◌, map, filter, Some, None, refl, sym, ap, ◌∙◌}
+use Rattle.std.proofs.Common.{subst}
 use Rattle.std.specs.Prelude.{◌&&◌}
 use Rattle.std.specs.List.{find, filter_map, cons_option, AllByRecursion, IsDistinct}
 use Rattle.std.specs.List.Sorted.{IsPermutation, IsSortedBy}
@@ -24,7 +25,7 @@ use Rattle.rank_query.specs.Admits.{admits_station}
 use Rattle.rank_scores.specs.Morsels.{admitted_series, morsels, id_comes_first}
 use Rattle.rank_check.specs.declared.survey.Top.{Top}
 use Rattle.rank_check.specs.Survey.{top, has_admitted, series_at}
-use Rattle.rank_check.proofs.Ordered as ordered
+use Rattle.ghcn_fields.proofs.Ordered as ordered
 use Rattle.rank_check.proofs.Surveying.{by_station}
 
 -- ---- by ID

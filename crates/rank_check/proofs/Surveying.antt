@@ -1,13 +1,15 @@
 -- What a pass over all data finds, candidate by candidate and station by station.
-use Rattle.std.proofs.Common.{◌≡◌, ℕ, zero, suc, ◌+◌, ◌<◌, Bool, true, false, cond, List, [], ◌∷◌, ◌++◌, length, take, map, filter, Option, Some, None, refl, sym, ap, ◌∙◌, arith, append-nil, append_assoc, ◌||◌, ℤ, ◌≤ℤ◌, ◌<ℤ◌, option_to_list, get_or}
+use Rattle.std.proofs.Common.{◌≡◌, ℕ, zero, suc, ◌+◌, ◌<◌, Bool, true, false, cond, List, [], ◌∷◌, ◌++◌, length, take}
+use Rattle.std.proofs.Common.{map, filter, Option, Some, None, refl, sym, ap, ◌∙◌, subst, arith, append-nil}
+use Rattle.std.proofs.Common.{append_assoc}
+use Rattle.std.proofs.Common.{◌||◌, ℤ, option_to_list, get_or}
 use Rattle.std.specs.Prelude.{slice_get}
 use Rattle.std.specs.List.{fold, filter_map, flat_map, cons_option}
 use Rattle.std.specs.Int.{int_max}
-use Rattle.std.specs.Ordering.{is_eq, is_lt, int_cmp, nat_cmp, ordering_then}
+use Rattle.std.specs.Ordering.{is_eq, is_lt, is_le, int_cmp, ordering_then}
 use Rattle.std.specs.declared.cmp.Ordering.{Ordering}
-use Rattle.std.specs.declared.cmp.Ordering.TheVariants.{Greater}
-use Rattle.std.specs.Cmp.Lexicographic.{slice_cmp}
-use Rattle.std.proofs.lemmas.Int.{ints}
+use Rattle.std.specs.declared.cmp.Ordering.TheVariants.{Less, Equal, Greater}
+use Rattle.std.proofs.lemmas.Cmp.{tied_itself}
 use Rattle.std.proofs.lemmas.List.{length-append, map-append}
 use Rattle.std.proofs.lemmas.List.Folds.{list_any-append}
 use Rattle.std.proofs.lemmas.List.Sums.{sum_by-append, sum_by-cons}
@@ -20,10 +22,14 @@ use Rattle.rank_query.specs.Admits.{admits_station}
 use Rattle.rank_scores.specs.declared.candidate.Candidate.{Candidate}
 use Rattle.rank_scores.specs.Candidates.{candidates}
 use Rattle.rank_scores.specs.Order.{full_cmp, rank_cmp, precedes, rank_in}
+use Rattle.rank_scores.proofs.Listing.{full_cmp_total}
 use Rattle.rank_check.specs.declared.tally.Met.{Met}
 use Rattle.rank_check.specs.Tests.{is_among}
-use Rattle.rank_check.proofs.Each.{take-nil, each-more, each-weaker}
-use Rattle.rank_check.specs.Survey.{IsLowest, has_admitted, top, met, met_by, raised, top_score, Tallied, taken, reset, series_at, series_there}
+use Rattle.ghcn_fields.proofs.Ordered.{each-weaker, first_trans, first_either}
+use Rattle.rank_check.proofs.Each.{take-nil, each-more}
+use Rattle.rank_check.specs.Survey.{IsLast, reaches, later, has_admitted, top, met, met_by, raised, top_score, Tallied}
+use Rattle.rank_check.specs.Survey.{taken}
+use Rattle.rank_check.specs.Survey.{reset, series_at, series_there}
 
 -- ---- one candidate more
 
@@ -168,37 +174,74 @@ top-left q ss s none =
 
 -- ---- rows that a candidate can't be, nor stand before
 
--- a number is at most what a greater one is at most
-at_most : (a b z : ℤ) → a ≤ℤ b → b ≤ℤ z → a ≤ℤ z
-at_most a b z h k = grind (arith, ints)
+-- what doesn't stand behind another doesn't stand behind what that one doesn't stand behind
+reach_on : (a b c : Candidate) → is_le (full_cmp a b) ≡ true → is_le (full_cmp b c) ≡ true → is_le (full_cmp a c) ≡ true
+reach_on a b c = first_trans full_cmp full_cmp_total (λ x y. is_le (full_cmp x y)) (λ x y. refl) a b c
 
--- one row more
-pub lowest-more : (low less : ℤ) (rows : List Met) (i : ℕ) (m : Met) → IsLowest low (take i rows) → less ≤ℤ low
-    → less ≤ℤ m.candidate.score → i < length rows → m ≡ get_or rows i m → IsLowest less (take (i + 1) rows)
-lowest-more low less rows i m h le own lt is =
-    each-more (λ (r : Met). less ≤ℤ r.candidate.score) rows i m lt is
-    (each-weaker (λ (r : Met). low ≤ℤ r.candidate.score) (λ (r : Met). less ≤ℤ r.candidate.score) (take i rows)
-    (λ r k. at_most less low r.candidate.score le k) h) own
+-- what doesn't stand behind the last one doesn't stand behind the later one
+later-holds : (last : Option Candidate) (c m : Candidate) → reaches last m ≡ true
+    → reaches (Some (later last c)) m ≡ true
+later-holds None c m h = absurd cc
+later-holds (Some l) c m h =
+    elim (is_le (full_cmp c l)) as (λ b. is_le (full_cmp c l) ≡ b → is_le (full_cmp m (cond b l c)) ≡ true) [
+      | true ↦ λ _. h
+      | false ↦ λ e.
+          reach_on m l c h (first_either full_cmp full_cmp_total (λ x y. is_le (full_cmp x y)) (λ x y. refl) c l e)
+    ] refl
+
+-- nor does the candidate itself
+later-own : (last : Option Candidate) (c : Candidate) → reaches (Some (later last c)) c ≡ true
+later-own None c = ap is_le (tied_itself full_cmp_total c)
+later-own (Some l) c =
+    elim (is_le (full_cmp c l)) as (λ b. is_le (full_cmp c l) ≡ b → is_le (full_cmp c (cond b l c)) ≡ true) [
+      | true ↦ λ e. e
+      | false ↦ λ _. ap is_le (tied_itself full_cmp_total c)
+    ] refl
+
+-- so it is the last with one row more
+pub last-more : (last : Option Candidate) (rows : List Met) (i : ℕ) (m : Met) (z : Candidate)
+    → IsLast last (take i rows) → z ≡ later last m.candidate → i < length rows → m ≡ get_or rows i m
+    → IsLast (Some z) (take (i + 1) rows)
+last-more last rows i m z h e lt is =
+    let next : Option Candidate = Some (later last m.candidate) in
+    subst (λ (y : Candidate). IsLast (Some y) (take (i + 1) rows)) (sym e)
+    (each-more (λ (r : Met). reaches next r.candidate ≡ true) rows i m lt is
+    (each-weaker (λ (r : Met). reaches last r.candidate ≡ true) (λ (r : Met). reaches next r.candidate ≡ true)
+    (take i rows) (λ r k. later-holds last m.candidate r.candidate k) h) (later-own last m.candidate))
 
 -- rows keep their candidates
-pub lowest-met : (low : ℤ) (c : Candidate) (rows : List Met) → IsLowest low rows → IsLowest low (map (met_by c) rows)
-lowest-met low c [] h = tt
-lowest-met low c (m ∷ rows) h = (h.0, lowest-met low c rows h.1)
+pub last-met : (last : Option Candidate) (c : Candidate) (rows : List Met) → IsLast last rows
+    → IsLast last (map (met_by c) rows)
+last-met last c [] h = tt
+last-met last c (m ∷ rows) h = (h.0, last-met last c rows h.1)
 
--- a lower score comes behind
-behind : (d c : Candidate) (low : ℤ) → low ≤ℤ c.score → d.score <ℤ low → rank_cmp d c ≡ Greater
-behind d c low h lt =
-    let less : int_cmp c.score d.score ≡ Greater = grind (arith, ints) in
-    ap (λ (o : Ordering). ordering_then o (ordering_then (slice_cmp nat_cmp d.id.0 c.id.0) (int_cmp d.first c.first)))
-    less
+-- a candidate that stands behind the last row stands behind each
+behind : (last : Option Candidate) (d c : Candidate) → reaches last c ≡ true → reaches last d ≡ false
+    → is_le (full_cmp d c) ≡ false
+behind None d c h e = absurd cc
+behind (Some l) d c h e = elim (is_le (full_cmp d c)) as (λ b. is_le (full_cmp d c) ≡ b → b ≡ false) [
+  | true ↦ λ f. absurd (let on : is_le (full_cmp d l) ≡ true = reach_on d c l f h in cc)
+  | false ↦ λ f. refl
+] refl
 
--- a candidate with a lower score changes nothing about a row
-row-below : (d : Candidate) (m : Met) (low : ℤ) → low ≤ℤ m.candidate.score → d.score <ℤ low → met_by d m ≡ m
-row-below d m low h lt =
-    let order : rank_cmp d m.candidate ≡ Greater = behind d m.candidate low h lt in
-    let apart : is_eq (full_cmp d m.candidate) ≡ false =
-    ap (λ (o : Ordering). is_eq (ordering_then o (int_cmp d.last m.candidate.last))) order in
-    let later : precedes d m.candidate ≡ false = ap is_lt order in
+-- what stands behind is no tie
+not_tied : (o : Ordering) → is_le o ≡ false → is_eq o ≡ false
+not_tied Less e = refl
+not_tied Equal e = absurd cc
+not_tied Greater e = refl
+
+-- nor in front by the first of two comparisons
+not_in_front : (o p : Ordering) → is_le (ordering_then o p) ≡ false → is_lt o ≡ false
+not_in_front Less p e = absurd cc
+not_in_front Equal p e = refl
+not_in_front Greater p e = refl
+
+-- a candidate that stands behind a row changes nothing about it
+row-behind : (d : Candidate) (m : Met) → is_le (full_cmp d m.candidate) ≡ false → met_by d m ≡ m
+row-behind d m e =
+    let apart : is_eq (full_cmp d m.candidate) ≡ false = not_tied (full_cmp d m.candidate) e in
+    let later : precedes d m.candidate ≡ false =
+    not_in_front (rank_cmp d m.candidate) (int_cmp d.last m.candidate.last) e in
     let present : (m.present || is_eq (full_cmp d m.candidate)) ≡ m.present =
     ap (λ (b : Bool). m.present || b) apart ∙ or_false m.present in
     let ahead : cond (precedes d m.candidate) (in_64_bits (m.ahead + 1)) m.ahead ≡ m.ahead =
@@ -206,12 +249,12 @@ row-below d m low h lt =
     λ i. record { candidate = m.candidate; present = present i; ahead = ahead i }
 
 -- nor about any of them
-pub rows-below : (d : Candidate) (rows : List Met) (low : ℤ) → IsLowest low rows → d.score <ℤ low
-    → map (met_by d) rows ≡ rows
-rows-below d [] low h lt = refl
-rows-below d (m ∷ rows) low h lt =
-    ap (λ (x : Met). x ∷ map (met_by d) rows) (row-below d m low h.0 lt)
-    ∙ ap (λ (l : List Met). m ∷ l) (rows-below d rows low h.1 lt)
+pub rows-behind : (last : Option Candidate) (d : Candidate) (rows : List Met) → IsLast last rows
+    → reaches last d ≡ false → map (met_by d) rows ≡ rows
+rows-behind last d [] h e = refl
+rows-behind last d (m ∷ rows) h e =
+    ap (λ (x : Met). x ∷ map (met_by d) rows) (row-behind d m (behind last d m.candidate h.0 e))
+    ∙ ap (λ (l : List Met). m ∷ l) (rows-behind last d rows h.1 e)
 
 -- ---- station by station
 

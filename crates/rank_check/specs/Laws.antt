@@ -3,6 +3,7 @@ use Rattle.std.specs.Prelude.{◌≡◌, ◌↔◌, ℕ, List}
 use Rattle.ghcn_series.specs.Series.{Contents}
 use Rattle.ghcn_series.specs.Held.{IsContents}
 use Rattle.rank_query.specs.Asked.{Asked, IsAsked}
+use Rattle.rank_scores.specs.OneElement.{data_for}
 use Rattle.rank_papers.specs.Report.{IsReport}
 use Rattle.rank_papers.specs.Certificate.{IsCertificate}
 use Rattle.rank_check.specs.declared.verdict.Verdict.TheVariants.{Accepted}
@@ -12,3 +13,8 @@ use Rattle.rank_check.specs.Tests.{verdict}
 abbrev pub AcceptedWhereRight : Type 0
 AcceptedWhereRight = (q : Asked) (c : Contents) (report certificate : List ℕ) → IsAsked q → IsContents c →
     (verdict q c report certificate ≡ Accepted) ↔ (IsReport q c report × IsCertificate q c certificate)
+
+-- the verdict on papers is the same from what a query needs of the data as from all of them
+abbrev pub VerdictStays : Type 0
+VerdictStays = (q : Asked) (c : Contents) (report certificate : List ℕ) →
+    verdict q (data_for q c) report certificate ≡ verdict q c report certificate

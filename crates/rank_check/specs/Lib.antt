@@ -1,4 +1,5 @@
 pub mod Tests
 pub mod Survey
+pub mod FoundFaults
 pub mod Texts
 pub mod Laws

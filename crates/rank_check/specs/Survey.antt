@@ -1,8 +1,9 @@
 -- What one pass over all data finds for the rows of a report, and for each series.
-use Rattle.std.specs.Prelude.{◌≡◌, ℕ, ◌+◌, Bool, ◌||◌, ◌==◌, not, if◌then◌else◌, List, length, map, Option, None, Some, ℤ, ◌≤ℤ◌}
-use Rattle.std.specs.List.{AllByRecursion}
+use Rattle.std.specs.Prelude.{◌≡◌, ℕ, ◌+◌, Bool, true, false, ◌||◌, ◌==◌, not, if◌then◌else◌, List, [], length, map}
+use Rattle.std.specs.Prelude.{Option, None, Some, ℤ}
+use Rattle.std.specs.List.{AllByRecursion, flat_map}
 use Rattle.std.specs.Int.{int_max}
-use Rattle.std.specs.Ordering.{is_eq}
+use Rattle.std.specs.Ordering.{is_eq, is_le}
 use Rattle.ghcn_fields.specs.Sorting.{greatest}
 use Rattle.ghcn_files.specs.declared.station.Station.{Station}
 use Rattle.ghcn_series.specs.Series.{Usable, Contents, series_of}
@@ -48,6 +49,10 @@ pub record Tallied : Type 0 where
   pub count : ℕ
   pub highest : Option ℤ
 
+-- a tally of rows with these candidates that was offered nothing
+abbrev pub nothing_offered : List Candidate → Tallied
+nothing_offered rows = record { rows = map (met []) rows; count = 0; highest = None }
+
 -- a tally once one more candidate was offered
 abbrev pub taken : Tallied → Candidate → Tallied
 taken t c = record {
@@ -60,9 +65,19 @@ taken t c = record {
 abbrev pub reset : Tallied → Tallied
 reset t = record { rows = t.rows; count = t.count; highest = None }
 
--- no row scores less than this
-abbrev pub IsLowest : ℤ → List Met → Type 0
-IsLowest lowest rows = AllByRecursion (λ m. lowest ≤ℤ m.candidate.score) rows
+-- there is a last row, and the candidate doesn't stand behind it
+abbrev pub reaches : Option Candidate → Candidate → Bool
+reaches None c = false
+reaches (Some last) c = is_le (full_cmp c last)
+
+-- the candidate, or the last one where the candidate doesn't stand behind it
+abbrev pub later : Option Candidate → Candidate → Candidate
+later None c = c
+later (Some last) c = if is_le (full_cmp c last) then last else c
+
+-- no row stands behind the last one
+abbrev pub IsLast : Option Candidate → List Met → Type 0
+IsLast last rows = AllByRecursion (λ m. reaches last m.candidate ≡ true) rows
 
 -- the candidates of rows
 abbrev pub candidates_of : List Row → List Candidate
@@ -82,6 +97,10 @@ series_at q c st = if admits_station q st then series_of c st.id (score_element 
 abbrev pub series_there : Asked → Contents → Option Station → Option Usable
 series_there q c None = None
 series_there q c (Some st) = series_at q c st
+
+-- all candidates of some series
+abbrev pub candidates_in : Asked → List Usable → List Candidate
+candidates_in q ss = flat_map (candidates q) ss
 
 -- the ID of a series, and its greatest score
 abbrev pub top : Asked → Usable → Top

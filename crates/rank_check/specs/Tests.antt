@@ -1,5 +1,6 @@
 -- The tests of a report and a certificate, in their order, and the verdict: the first that fails.
-use Rattle.std.specs.Prelude.{ℕ, ◌+◌, ◌-◌, ◌==◌, Bool, true, false, ◌&&◌, ◌||◌, not, nat_le, if◌then◌else◌, List, [], ◌∷◌, ◌++◌, length, Option, None, Some, Result, Ok, Err, ℤ, int_le, slice_get}
+use Rattle.std.specs.Prelude.{ℕ, ◌+◌, ◌-◌, ◌==◌, Bool, true, false, ◌&&◌, ◌||◌, not, nat_le, if◌then◌else◌, List, []}
+use Rattle.std.specs.Prelude.{◌∷◌, ◌++◌, length, Option, None, Some, Result, Ok, Err, ℤ, int_le, slice_get}
 use Rattle.std.specs.List.{flat_map, list_all, list_any, find, enumerate_from}
 use Rattle.std.specs.Option.{option_map_or}
 use Rattle.std.specs.Ordering.{is_eq, int_eq}
@@ -20,7 +21,8 @@ use Rattle.rank_papers.specs.ReportLines.{Reported, read_report}
 use Rattle.rank_papers.specs.Certificate.{Entry, Certified}
 use Rattle.rank_papers.specs.CertificateLines.{read_certificate}
 use Rattle.rank_check.specs.declared.verdict.Paper.TheVariants.{Report, Certificate}
-use Rattle.rank_check.specs.declared.verdict.Why.TheVariants.{Form, OtherQuery, NotACandidate, OutOfOrder, NotBest, TooFew, OtherSeries, NoBound, NotBelow, OtherFloor}
+use Rattle.rank_check.specs.declared.verdict.Why.TheVariants.{Form, OtherQuery, NotACandidate, OutOfOrder, NotBest}
+use Rattle.rank_check.specs.declared.verdict.Why.TheVariants.{TooFew, OtherSeries, NoBound, NotBelow, OtherFloor}
 use Rattle.rank_check.specs.declared.verdict.Verdict.{Verdict}
 use Rattle.rank_check.specs.declared.verdict.Verdict.TheVariants.{Accepted, Refused}
 
@@ -70,16 +72,20 @@ row_tests q c rows row =
 abbrev pub tests_of_rows : Asked → Contents → List Named → List Test
 tests_of_rows q c rows = flat_map (row_tests q c rows) (enumerate_from 1 rows)
 
--- there are as many rows as were asked for, or as there are candidates
-abbrev pub are_enough : Asked → Contents → ℕ → Bool
-are_enough q c rows = nat_le q.k rows || nat_le (length (all_candidates q c)) rows
+-- so many rows are as many as were asked for, or as there are candidates
+abbrev pub are_enough : ℕ → ℕ → ℕ → Bool
+are_enough k candidates rows = nat_le k rows || nat_le candidates rows
+
+-- the test of the number of rows
+abbrev pub number_test : ℕ → ℕ → ℕ → Test
+number_test k candidates rows = (are_enough k candidates rows, Refused Report (rows + 3) TooFew)
 
 -- the tests of a report that was read
 abbrev pub report_tests : Asked → Contents → Reported → List Test
 report_tests q c r =
     (same_query r.query q, Refused Report 2 OtherQuery)
     ∷ tests_of_rows q c r.rows
-    ++ (are_enough q c (length r.rows), Refused Report (length r.rows + 3) TooFew)
+    ++ number_test q.k (length (all_candidates q c)) (length r.rows)
     ∷ []
 
 -- ---- lines of morsels
@@ -105,13 +111,17 @@ entry_tests q c kth l = line_tests q kth (l.0 + 3) l.1 (slice_get (morsels q c) 
 abbrev pub tests_of_lines : Asked → Contents → Option ℤ → List Entry → List Test
 tests_of_lines q c kth es = flat_map (entry_tests q c kth) (enumerate_from 1 es)
 
+-- the test of the number of lines: there are as many as morsels
+abbrev pub length_test : ℕ → ℕ → Test
+length_test morsels lines = (nat_le morsels lines, Refused Certificate (lines + 4) OtherSeries)
+
 -- the tests of a certificate that was read
 abbrev pub certificate_tests : Asked → Contents → Certified → List Test
 certificate_tests q c z =
     (same_query z.query q, Refused Certificate 2 OtherQuery)
     ∷ (same_score z.kth (kth_of_query q c), Refused Certificate 3 OtherFloor)
     ∷ tests_of_lines q c z.kth z.entries
-    ++ (nat_le (length (morsels q c)) (length z.entries), Refused Certificate (length z.entries + 4) OtherSeries)
+    ++ length_test (length (morsels q c)) (length z.entries)
     ∷ []
 
 -- ---- the verdict

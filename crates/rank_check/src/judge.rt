@@ -1,14 +1,13 @@
 //! The verdict on two papers that were read.
 
-ghost use Rattle.std.specs.Prelude.{◌≡◌, Ok, Some, IfOk, map, nat_le, length, ◌||◌};
+ghost use Rattle.std.specs.Prelude.{◌≡◌, [], ◌∷◌, Ok, Some, IfOk, nat_le, length};
 ghost use Rattle.ghcn_fields.specs.Faults.{first_failing};
-ghost use Rattle.ghcn_series.specs.Series.{Contents};
 ghost use Rattle.rank_query.specs.Asked.{IsAsked};
-ghost use Rattle.rank_scores.specs.Morsels.{kth_of_query, morsels};
 ghost use Rattle.rank_papers.specs.ReportLines.{reported_in, IsReported};
 ghost use Rattle.rank_papers.specs.Certificate.{kth_of_best};
 ghost use Rattle.rank_papers.specs.CertificateLines.{certified_in};
-ghost use Rattle.rank_check.specs.Survey.{AreFindings, candidates_of, top};
+ghost use Rattle.rank_check.specs.FoundFaults.{IsFaultOfCertificate};
+ghost use Rattle.rank_check.specs.Survey.{AreFindings, candidates_of};
 ghost use Rattle.rank_check.specs.Tests as tests;
 
 use crate::lines::lines_fault;
@@ -17,7 +16,7 @@ use crate::survey::{Findings, Top, survey};
 use crate::verdict::{Paper, Verdict, Why};
 use ghcn_fields::Memory;
 use ghcn_series::Data;
-use rank_papers::{Certificate, Line, Report, certificates_are_read};
+use rank_papers::{Certificate, Line, Report, Row, certificates_are_read};
 use rank_query::Query;
 use rank_scores::candidates_of_queries;
 use std::alloc::Global;
@@ -67,19 +66,24 @@ fn report_fault(
         return Ok(refused(Paper::Report, 2, Why::OtherQuery));
     }
     let rows = report.rows.as_slice();
-    let fault = rows_fault(held.stations(), rows, found);
-    if fault.is_some() {
-        return Ok(fault);
-    }
+    let few = number_fault(query, rows, found);
+    Ok(rows_fault(held.stations(), rows, found).or(few))
+}
+
+/// The refusal of a report with too few rows.
+fn number_fault(query: &Query, rows: &[Row], found: &Findings) -> Option<Verdict>
+    ensures { result
+        ≡ first_failing (tests.number_test query.now.k found.now.count (length rows.now) ∷ []) }
+{
     if are_enough(query, rows.len() as u64, found.count) {
-        return Ok(None);
+        return None;
     }
-    Ok(refused(Paper::Report, rows.len() as u64 + 3, Why::TooFew))
+    refused(Paper::Report, rows.len() as u64 + 3, Why::TooFew)
 }
 
 /// Whether there are as many rows as were asked for, or as there are candidates.
 fn are_enough(query: &Query, rows: u64, candidates: u64) -> bool
-    ensures { result ≡ (nat_le query.now.k rows || nat_le candidates rows) }
+    ensures { result ≡ tests.are_enough query.now.k candidates rows }
 {
     query.k() <= rows || candidates <= rows
 }
@@ -101,9 +105,8 @@ fn certificate_fault(
     kth: Option<i64>,
     found: &Findings,
 ) -> Result<Option<Verdict>, Memory>
-    ensures { IfOk result (λ fault. (c : Contents) → kth ≡ kth_of_query query.now c
-        → found.now.tops.items ≡ map (top query.now) (morsels query.now c)
-        → fault ≡ first_failing (tests.certificate_tests query.now c (certified_in certificate.now))) }
+    ensures { IfOk result
+        (IsFaultOfCertificate query.now kth (certified_in certificate.now) found.now.tops.items) }
 {
     if !is_same_query(alloc, &certificate.query, query)? {
         return Ok(refused(Paper::Certificate, 2, Why::OtherQuery));
@@ -113,14 +116,18 @@ fn certificate_fault(
     }
     let lines = certificate.lines.as_slice();
     let tops = found.tops.as_slice();
-    let fault = lines_fault(certificate.kth, lines, tops);
-    if fault.is_some() {
-        return Ok(fault);
-    }
+    let few = length_fault(tops, lines);
+    Ok(lines_fault(certificate.kth, lines, tops).or(few))
+}
+
+/// The refusal of a certificate with fewer lines than morsels.
+fn length_fault(tops: &[Top], lines: &[Line]) -> Option<Verdict>
+    ensures { result ≡ first_failing (tests.length_test (length tops.now) (length lines.now) ∷ []) }
+{
     if are_all(tops, lines) {
-        return Ok(None);
+        return None;
     }
-    Ok(refused(Paper::Certificate, lines.len() as u64 + 4, Why::OtherSeries))
+    refused(Paper::Certificate, lines.len() as u64 + 4, Why::OtherSeries)
 }
 
 /// Whether two scores are the same, or there are none.

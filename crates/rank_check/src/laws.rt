@@ -3,7 +3,7 @@
 ghost use Rattle.rank_check.specs.Laws as laws;
 
 use rank_papers::{certificates_are_read, reports_are_read};
-use rank_scores::candidates_of_queries;
+use rank_scores::{candidates_of_queries, one_element_is_enough};
 
 /// Papers are accepted exactly where the report is the right one, and the certificate a right one.
 pub fn accepted_where_right()
@@ -12,4 +12,12 @@ pub fn accepted_where_right()
     candidates_of_queries();
     certificates_are_read();
     reports_are_read();
+}
+
+/// A verdict says nothing of the series of other elements than the query's: it is the same where
+/// these are left out of the data.
+pub fn verdict_of_one_element()
+    ensures { laws.VerdictStays }
+{
+    one_element_is_enough();
 }

@@ -14,6 +14,6 @@ mod tally;
 mod text;
 mod verdict;
 
-pub use laws::accepted_where_right;
+pub use laws::{accepted_where_right, verdict_of_one_element};
 pub use papers::check;
 pub use verdict::{Paper, Verdict, Why};

@@ -1,15 +1,9 @@
 //! The tests of the lines of a certificate, one line after the other.
 
-ghost use Rattle.std.specs.Prelude.{◌≡◌, Some, true, ◌+◌, ◌<◌, length, slice_get, Option, map, int_le, not, ◌||◌};
-ghost use Rattle.std.specs.Option.{option_copied, option_map, option_map_or};
-ghost use Rattle.ghcn_fields.specs.Faults.{first_failing};
+ghost use Rattle.std.specs.Prelude.{◌≡◌, Some, true, ◌<◌, length, slice_get, int_le, not, ◌||◌};
+ghost use Rattle.std.specs.Option.{option_copied, option_map_or};
 ghost use Rattle.rank_scores.specs.Order as order;
-ghost use Rattle.rank_scores.specs.Morsels.{morsels};
-ghost use Rattle.ghcn_series.specs.Series.{Usable, Contents};
-ghost use Rattle.rank_query.specs.Asked.{Asked};
-ghost use Rattle.rank_check.specs.Survey as facts;
-ghost use Rattle.rank_check.specs.Survey.{top};
-ghost use Rattle.rank_check.specs.Tests as tests;
+ghost use Rattle.rank_check.specs.FoundFaults.{IsFaultOfLine, IsFaultOfLineAt, IsFaultOfLines};
 
 use crate::survey::Top;
 use crate::verdict::{Paper, Verdict, Why};
@@ -18,8 +12,7 @@ use rank_papers::Line;
 /// The first test that a line fails, after the lines before it, where the certificate has this k-th
 /// score.
 pub(crate) fn lines_fault(kth: Option<i64>, lines: &[Line], tops: &[Top]) -> Option<Verdict>
-    ensures { (q : Asked) → (c : Contents) → tops.now ≡ map (top q) (morsels q c)
-        → result ≡ first_failing (tests.tests_of_lines q c kth lines.now) }
+    ensures { IsFaultOfLines kth lines.now tops.now result }
 {
     for place in 0..lines.len() {
         let fault = fault_at(kth, lines, place, top_at(tops, place));
@@ -40,17 +33,14 @@ fn top_at(tops: &[Top], place: usize) -> Option<&Top>
 /// The first test that the line at a place fails.
 fn fault_at(kth: Option<i64>, lines: &[Line], place: usize, top: Option<&Top>) -> Option<Verdict>
     requires { place < length lines.now }
-    ensures { (q : Asked) → (s : Option Usable) → option_copied top.entry ≡ option_map (facts.top q) s
-        → option_map (λ line. first_failing (tests.line_tests q kth (place + 4) line s)) (slice_get lines.now place)
-        ≡ Some result }
+    ensures { IsFaultOfLineAt kth lines.now place (option_copied top.entry) result }
 {
     line_fault(kth, &lines[place], place as u64 + 4, top)
 }
 
 /// The first test that a line fails, by its number and what was found of the morsel of its place.
 fn line_fault(kth: Option<i64>, line: &Line, number: u64, top: Option<&Top>) -> Option<Verdict>
-    ensures { (q : Asked) → (s : Option Usable) → option_copied top.entry ≡ option_map (facts.top q) s
-        → result ≡ first_failing (tests.line_tests q kth number line.now s) }
+    ensures { IsFaultOfLine kth number line.now (option_copied top.entry) result }
 {
     let top = match top {
         Some(top) if top.id == line.id => top,

@@ -2,13 +2,8 @@
 
 ghost use Rattle.std.specs.Prelude.{◌≡◌, ◌+◌, ◌<◌, ◌≤◌, Some, length, map, slice_get};
 ghost use Rattle.std.specs.Option.{option_map};
-ghost use Rattle.ghcn_fields.specs.Faults.{first_failing};
 ghost use Rattle.rank_papers.specs.ReportLines.{named_in};
-ghost use Rattle.ghcn_series.specs.Series.{Contents};
-ghost use Rattle.rank_query.specs.Asked.{Asked};
-ghost use Rattle.rank_scores.specs.Morsels.{all_candidates};
-ghost use Rattle.rank_check.specs.Survey as facts;
-ghost use Rattle.rank_check.specs.Survey.{AreFindings, candidates_of};
+ghost use Rattle.rank_check.specs.FoundFaults.{IsFaultOfRow, IsFaultOfRows};
 ghost use Rattle.rank_check.specs.Tests as tests;
 
 use crate::survey::Findings;
@@ -22,9 +17,7 @@ use rank_scores::precedes;
 pub(crate) fn rows_fault(stations: &Stations, rows: &[Row], found: &Findings) -> Option<Verdict>
     requires few { length rows.now ≤ 1000 }
     requires many { length found.now.rows.items ≡ length rows.now }
-    ensures { (q : Asked) → (c : Contents) → stations.now ≡ c.stations
-        → AreFindings q c (candidates_of rows.now) found.now
-        → result ≡ first_failing (tests.tests_of_rows q c (map named_in rows.now)) }
+    ensures { IsFaultOfRows stations.now rows.now found.now result }
 {
     for place in 0..rows.len() {
         let fault = row_fault(stations, rows, place, &found.rows[place]);
@@ -39,10 +32,7 @@ pub(crate) fn rows_fault(stations: &Stations, rows: &[Row], found: &Findings) ->
 fn row_fault(stations: &Stations, rows: &[Row], place: usize, met: &Met) -> Option<Verdict>
     requires few { length rows.now ≤ 1000 }
     requires within { place < length rows.now }
-    ensures { (q : Asked) → (c : Contents) → stations.now ≡ c.stations
-        → option_map (λ row. facts.met (all_candidates q c) row.candidate) (slice_get rows.now place) ≡ Some met.now
-        → option_map (λ row. first_failing (tests.row_tests q c (map named_in rows.now) (place + 1, named_in row)))
-        (slice_get rows.now place) ≡ Some result }
+    ensures { IsFaultOfRow stations.now rows.now place met.now result }
 {
     let row = &rows[place];
     let line = place as u64 + 3;

@@ -1,14 +1,13 @@
 //! One pass over all data: what it says of the rows of a report, and the greatest score of each series.
 
 ghost use Rattle.std.specs.Prelude.{◌≡◌, map, filter, length, IfOk};
-ghost use Rattle.std.specs.List.{flat_map};
 ghost use Rattle.std.specs.Option.{option_copied, option_map};
 ghost use Rattle.std.specs.Prelude.{slice_get, Some};
 ghost use Rattle.ghcn_series.specs.Held.{IsContents};
 ghost use Rattle.ghcn_series.specs.Says.{in_64_bits};
-ghost use Rattle.rank_scores.specs.Candidates.{candidates};
 ghost use Rattle.rank_scores.specs.Morsels as morsels;
 ghost use Rattle.rank_check.specs.Survey as survey;
+ghost use Rattle.rank_check.specs.Survey.{candidates_in, candidates_of, met};
 
 use crate::tally::{Met, Tally};
 use ghcn_fields::Memory;
@@ -43,7 +42,7 @@ pub(crate) fn survey(
     query: &Query,
     rows: &[Row],
 ) -> Result<Findings, Memory>
-    ensures { IfOk result (survey.AreFindings query.now held.now (survey.candidates_of rows.now)) }
+    ensures { IfOk result (survey.AreFindings query.now held.now (candidates_of rows.now)) }
 {
     let series = admitted_series(alloc, held, query)?;
     let mut found = scan_all(alloc, series.as_slice(), query, rows)?;
@@ -54,9 +53,9 @@ pub(crate) fn survey(
 /// Scans each of some series once.
 fn scan_all(alloc: Global, all: &[&Series], query: &Query, rows: &[Row]) -> Result<Findings, Memory>
     ensures rows { IfOk result (λ found. found.rows.items
-        ≡ map (survey.met (flat_map (candidates query.now) (map (λ s. s.now) all.now))) (survey.candidates_of rows.now)) }
+        ≡ map (met (candidates_in query.now (map (λ s. s.now) all.now))) (candidates_of rows.now)) }
     ensures count { IfOk result (λ found. found.count
-        ≡ in_64_bits (length (flat_map (candidates query.now) (map (λ s. s.now) all.now)))) }
+        ≡ in_64_bits (length (candidates_in query.now (map (λ s. s.now) all.now)))) }
     ensures tops { IfOk result (λ found. found.tops.items
         ≡ map (survey.top query.now) (filter (survey.has_admitted query.now) (map (λ s. s.now) all.now))) }
 {

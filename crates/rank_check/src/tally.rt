@@ -38,34 +38,30 @@ impl Met {
 #[derive(Drop)]
 pub(crate) struct Tally {
     rows: Vec<Met>,
-    /// No row scores less, so that most candidates end at one comparison.
-    lowest: i64,
+    /// No row stands behind this one, so that most candidates end at one comparison.
+    last: Option<Candidate>,
     count: u64,
     highest: Option<i64>,
 }
 
 impl Model for Tally {
-    ghost use Rattle.rank_check.specs.Survey.{Tallied, IsLowest};
+    ghost use Rattle.rank_check.specs.Survey.{Tallied, IsLast};
 
     ghost Value = { Tallied };
 
     ghost view = { λ t. record { rows = t.rows.items; count = t.count; highest = t.highest } };
 
-    ghost invariant = { λ t. IsLowest t.lowest t.rows.items };
+    ghost invariant = { λ t. IsLast t.last t.rows.items };
 }
 
 impl Tally {
     /// The rows before any candidate.
     pub(crate) fn of(alloc: Global, rows: &[Row]) -> Result<Tally, Memory>
-        ensures { IfOk result (λ made. made ≡ record {
-          rows = map (survey.met []) (survey.candidates_of rows.now);
-          count = 0;
-          highest = None;
-        }) }
+        ensures { IfOk result (λ made. made ≡ survey.nothing_offered (survey.candidates_of rows.now)) }
     {
         let rows = unmet(alloc, rows)?;
         Ok(Tally {
-            lowest: lowest_of(rows.as_slice()),
+            last: last_of(rows.as_slice()),
             rows,
             count: 0,
             highest: None,
@@ -105,7 +101,7 @@ impl Sink for Tally {
     fn offer(&mut self, candidate: Candidate) {
         self.count = self.count.saturating_add(1);
         self.highest = Some(raised(self.highest, candidate.score));
-        if self.lowest <= candidate.score {
+        if reaches(self.last, &candidate) {
             meet_all(&mut self.rows, &candidate);
         }
     }
@@ -152,15 +148,37 @@ fn unmet(alloc: Global, rows: &[Row]) -> Result<Vec<Met>, Memory>
     Ok(found)
 }
 
-/// A score that no row is below.
-fn lowest_of(rows: &[Met]) -> i64
-    ensures { survey.IsLowest result rows.now }
+/// A row that no other stands behind, if there are rows.
+fn last_of(rows: &[Met]) -> Option<Candidate>
+    ensures { survey.IsLast result rows.now }
 {
-    let mut lowest = i64::MAX;
+    let mut last = None;
     for row in rows {
-        if row.candidate.score < lowest {
-            lowest = row.candidate.score;
-        }
+        last = Some(later(last, &row.candidate));
     }
-    lowest
+    last
+}
+
+/// The candidate, or the last one where the candidate doesn't stand behind it.
+fn later(last: Option<Candidate>, candidate: &Candidate) -> Candidate
+    ensures { result ≡ survey.later last candidate.now }
+{
+    match last {
+        Some(last) => if candidate.cmp(&last).is_le() {
+            last
+        } else {
+            *candidate
+        },
+        None => *candidate,
+    }
+}
+
+/// Whether there is a last row, and the candidate doesn't stand behind it.
+fn reaches(last: Option<Candidate>, candidate: &Candidate) -> bool
+    ensures { result ≡ survey.reaches last candidate.now }
+{
+    match last {
+        Some(last) => candidate.cmp(&last).is_le(),
+        None => false,
+    }
 }

@@ -26,3 +26,4 @@ pub mod RightCertificates
 pub mod RightReports
 pub mod ReportReading
 pub mod ReportFields
+pub mod OneElement

@@ -29,7 +29,7 @@ use Rattle.rank_sched.specs.Plan.{Morsel, Planned, IsPlan, measured, is_drawn_fi
 use Rattle.rank_sched.specs.Task.{task_of, all_of_task, IsFair}
 use Rattle.rank_sched.specs.Hauls.{all_records, AreSound}
 use Rattle.rank_sched.specs.Answers.{line_of, lines_of}
-use Rattle.rank_sched.proofs.Ordered as ordered
+use Rattle.ghcn_fields.proofs.Ordered as ordered
 use Rattle.rank_sched.proofs.PlanOrder.{of_one_station}
 use Rattle.rank_sched.proofs.PlanMade.{plan_distinct}
 use Rattle.rank_sched.proofs.PlanBest.{plan_has_best}

@@ -7,3 +7,4 @@ pub mod CertificateLines
 pub mod Places
 pub mod PlanPapers
 pub mod Laws
+pub mod OneElement

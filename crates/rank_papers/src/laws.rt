@@ -1,6 +1,9 @@
 //! What the texts of papers are worth, as laws over their definitions.
 
 ghost use Rattle.rank_papers.specs.Laws as laws;
+ghost use Rattle.rank_papers.specs.OneElement as one_element;
+
+use rank_scores::one_element_is_enough;
 
 /// A text is read as a certificate exactly where it is the text of what is read, and every other
 /// text is refused at its first bad line. A certificate is right exactly where what is read is.
@@ -17,3 +20,13 @@ pub fn reports_are_read()
     ensures wrong { laws.ReportsGoWrong }
     ensures right { laws.RightReportsSayRight }
 {}
+
+/// The papers of a query say nothing of the series of other elements: where these are left out of
+/// the data, the same report and the same certificates are right.
+pub fn papers_of_one_element()
+    ensures report { one_element.ReportStays }
+    ensures certificate { one_element.CertificateStays }
+    ensures measured { one_element.MeasuredStays }
+{
+    one_element_is_enough();
+}

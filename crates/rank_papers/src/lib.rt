@@ -24,7 +24,7 @@ mod tests;
 pub use certificate_lines::read_certificate;
 pub use certificate_text::certificate;
 pub use fault::PaperFault;
-pub use laws::{certificates_are_read, reports_are_read};
+pub use laws::{certificates_are_read, papers_of_one_element, reports_are_read};
 pub use paper::{Certificate, Report, Row};
 pub use rank_sched::Line;
 pub use report_lines::read_report;

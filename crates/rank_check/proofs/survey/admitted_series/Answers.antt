@@ -1,4 +1,5 @@
-use Rattle.std.proofs.Common.{◌≡◌, ◌+◌, ◌++◌, ◌∷◌, [], ℕ, List, Option, map, take, length, suc, sym, ap, ◌∙◌, ◌≤◌, arith, append-nil, option_to_list}
+use Rattle.std.proofs.Common.{◌≡◌, ◌+◌, ◌++◌, ◌∷◌, [], ℕ, List, Option, map, take, length, suc, sym, ap, ◌∙◌, ◌≤◌}
+use Rattle.std.proofs.Common.{arith, append-nil, option_to_list}
 use Rattle.std.specs.List.{filter_map}
 use Rattle.std.specs.Option.{option_copied}
 use Rattle.std.proofs.lemmas.List.{map-append}

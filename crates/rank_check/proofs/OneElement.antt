@@ -1,0 +1,55 @@
+-- A verdict rests on the series of the query's element alone.
+use Rattle.std.proofs.Common.{◌≡◌, ℕ, [], ◌∷◌, ◌++◌, length, Result, Ok, Err, refl}
+use Rattle.std.specs.List.{flat_map, enumerate_from}
+use Rattle.std.proofs.Math.Path.{fun_ext}
+use Rattle.ghcn_fields.specs.Faults.{first_failing}
+use Rattle.ghcn_series.specs.Series.{Contents}
+use Rattle.rank_query.specs.Asked.{Asked}
+use Rattle.rank_scores.specs.Morsels.{all_candidates, morsels, kth_of_query}
+use Rattle.rank_scores.specs.OneElement.{data_for, CandidatesStay, MorselsStay, KthStays}
+use Rattle.rank_papers.specs.ReportLines.{Reported, read_report}
+use Rattle.rank_papers.specs.Certificate.{Certified}
+use Rattle.rank_papers.specs.CertificateLines.{read_certificate}
+use Rattle.rank_check.specs.declared.verdict.Paper.TheVariants.{Report, Certificate}
+use Rattle.rank_check.specs.declared.verdict.Why.TheVariants.{OtherQuery, OtherFloor}
+use Rattle.rank_check.specs.declared.verdict.Verdict.TheVariants.{Refused}
+use Rattle.rank_check.specs.Tests.{same_query, same_score, row_tests, report_tests, entry_tests}
+use Rattle.rank_check.specs.Tests.{number_test, length_test, certificate_tests, or_accepted, judged}
+use Rattle.rank_check.specs.Laws.{VerdictStays}
+
+module _ (candidates : CandidatesStay) (series : MorselsStay) (score : KthStays) (q : Asked) (c : Contents) where
+  -- the tests of a report are the same
+  reports_tested : (r : Reported) → report_tests q (data_for q c) r ≡ report_tests q c r
+  reports_tested r =
+      let all : all_candidates q (data_for q c) ≡ all_candidates q c = candidates q c in
+      let rows : row_tests q (data_for q c) r.rows ≡ row_tests q c r.rows = fun_ext (λ row. rw (candidates q c)) in
+      λ i. (same_query r.query q, Refused Report 2 OtherQuery)
+      ∷ flat_map (rows i) (enumerate_from 1 r.rows)
+      ++ number_test q.k (length (all i)) (length r.rows)
+      ∷ []
+
+  -- those of a certificate too
+  certificates_tested : (z : Certified) → certificate_tests q (data_for q c) z ≡ certificate_tests q c z
+  certificates_tested z =
+      let kth : kth_of_query q (data_for q c) ≡ kth_of_query q c = score q c in
+      let all : morsels q (data_for q c) ≡ morsels q c = series q c in
+      let lines : entry_tests q (data_for q c) z.kth ≡ entry_tests q c z.kth = fun_ext (λ l. rw (series q c)) in
+      λ i. (same_query z.query q, Refused Certificate 2 OtherQuery)
+      ∷ (same_score z.kth (kth i), Refused Certificate 3 OtherFloor)
+      ∷ flat_map (lines i) (enumerate_from 1 z.entries)
+      ++ length_test (length (all i)) (length z.entries)
+      ∷ []
+
+  -- so the verdict is the same
+  pub judged-same : (r : Result Reported ℕ) (z : Result Certified ℕ) → judged q (data_for q c) r z ≡ judged q c r z
+  judged-same (Err n) z = refl
+  judged-same (Ok r) (Err n) = refl
+  judged-same (Ok r) (Ok z) =
+      let report : report_tests q (data_for q c) r ≡ report_tests q c r = reports_tested r in
+      let certificate : certificate_tests q (data_for q c) z ≡ certificate_tests q c z = certificates_tested z in
+      λ i. or_accepted (first_failing (report i ++ certificate i))
+
+-- on the texts of papers
+pub verdict_stays : CandidatesStay → MorselsStay → KthStays → VerdictStays
+verdict_stays candidates series score q c report certificate =
+    judged-same candidates series score q c (read_report report) (read_certificate certificate)

@@ -1,0 +1,57 @@
+-- What is said of a fault that was found, whatever the query and the data of which these are the findings: it is that
+-- of the first test that fails.
+use Rattle.std.specs.Prelude.{◌≡◌, ℕ, ◌+◌, List, map, Option, Some, ℤ, slice_get}
+use Rattle.std.specs.Option.{option_map}
+use Rattle.ghcn_fields.specs.Faults.{first_failing}
+use Rattle.ghcn_files.specs.declared.station.Station.{Station}
+use Rattle.ghcn_series.specs.Series.{Usable, Contents}
+use Rattle.rank_query.specs.Asked.{Asked}
+use Rattle.rank_scores.specs.Morsels.{all_candidates, morsels, kth_of_query}
+use Rattle.rank_papers.specs.declared.paper.Row.{Row}
+use Rattle.rank_papers.specs.ReportLines.{named_in}
+use Rattle.rank_papers.specs.Certificate.{Entry, Certified}
+use Rattle.rank_check.specs.declared.tally.Met.{Met}
+use Rattle.rank_check.specs.declared.survey.Top.{Top}
+use Rattle.rank_check.specs.declared.survey.Findings.{Findings}
+use Rattle.rank_check.specs.declared.verdict.Verdict.{Verdict}
+use Rattle.rank_check.specs.Survey.{AreFindings, candidates_of, met, top}
+use Rattle.rank_check.specs.Tests.{row_tests, tests_of_rows, line_tests, tests_of_lines, certificate_tests}
+
+-- ---- rows
+
+-- the fault of all rows, where these are the stations and this was found of the rows
+abbrev pub IsFaultOfRows : List Station → List Row → Findings → Option Verdict → Type 0
+IsFaultOfRows stations rows found fault = (q : Asked) (c : Contents) → stations ≡ c.stations
+    → AreFindings q c (candidates_of rows) found
+    → fault ≡ first_failing (tests_of_rows q c (map named_in rows))
+
+-- the fault of the row at a place, where this was found of it
+abbrev pub IsFaultOfRow : List Station → List Row → ℕ → Met → Option Verdict → Type 0
+IsFaultOfRow stations rows place found fault = (q : Asked) (c : Contents) → stations ≡ c.stations
+    → option_map (λ row. met (all_candidates q c) row.candidate) (slice_get rows place) ≡ Some found
+    → option_map (λ row. first_failing (row_tests q c (map named_in rows) (place + 1, named_in row)))
+    (slice_get rows place) ≡ Some fault
+
+-- ---- lines of morsels, where the certificate has this k-th score
+
+-- the fault of all lines, where these are the greatest scores of the morsels
+abbrev pub IsFaultOfLines : Option ℤ → List Entry → List Top → Option Verdict → Type 0
+IsFaultOfLines kth lines tops fault = (q : Asked) (c : Contents) → tops ≡ map (top q) (morsels q c)
+    → fault ≡ first_failing (tests_of_lines q c kth lines)
+
+-- the fault of a line by its number, where this is the greatest score of its morsel, if there is one
+abbrev pub IsFaultOfLine : Option ℤ → ℕ → Entry → Option Top → Option Verdict → Type 0
+IsFaultOfLine kth number line found fault = (q : Asked) (s : Option Usable) → found ≡ option_map (top q) s
+    → fault ≡ first_failing (line_tests q kth number line s)
+
+-- the fault of the line at a place
+abbrev pub IsFaultOfLineAt : Option ℤ → List Entry → ℕ → Option Top → Option Verdict → Type 0
+IsFaultOfLineAt kth lines place found fault = (q : Asked) (s : Option Usable) → found ≡ option_map (top q) s
+    → option_map (λ line. first_failing (line_tests q kth (place + 4) line s)) (slice_get lines place) ≡ Some fault
+
+-- ---- certificates
+
+-- the fault of a certificate, where this is the k-th score, and these are the greatest scores of the morsels
+abbrev pub IsFaultOfCertificate : Asked → Option ℤ → Certified → List Top → Option Verdict → Type 0
+IsFaultOfCertificate q kth z tops fault = (c : Contents) → kth ≡ kth_of_query q c → tops ≡ map (top q) (morsels q c)
+    → fault ≡ first_failing (certificate_tests q c z)

@@ -1,0 +1,66 @@
+-- Papers of one element's data: of data with the same stations, the same best candidates, the same k-th score and the
+-- same morsels the same papers are right.
+use Rattle.std.proofs.Common.{◌≡◌, ℕ, List, map, Option, refl, sym, ap, ◌∙◌, subst, ℤ}
+use Rattle.std.specs.List.{AllZip}
+use Rattle.ghcn_series.specs.Series.{Usable, Contents}
+use Rattle.rank_query.specs.Asked.{Asked}
+use Rattle.rank_scores.specs.Morsels.{best_of_query, kth_of_query, morsels}
+use Rattle.rank_scores.specs.OneElement.{data_for, BestStay, KthStays, MorselsStay}
+use Rattle.rank_blocks.specs.Bounds.{bound}
+use Rattle.rank_papers.specs.Report.{IsReport}
+use Rattle.rank_papers.specs.Certificate.{IsCertificate, IsRightEntry, certificate_text}
+use Rattle.rank_papers.specs.PlanPapers.{IsMeasuredCertificate}
+use Rattle.rank_papers.specs.OneElement.{ReportStays, CertificateStays, MeasuredStays}
+
+-- what is right of a report in some data is right of it in others, where they have the same stations and the same best
+report-moved : (q : Asked) (a b : Contents) (bytes : List ℕ) → a.stations ≡ b.stations →
+    best_of_query q a ≡ best_of_query q b → IsReport q a bytes → IsReport q b bytes
+report-moved q a b bytes listed same r = record {
+  rows = r.rows;
+  best = r.best ∙ same;
+  listed = rw (sym listed) r.listed;
+  text = r.text;
+}
+
+-- and of a certificate, where they have the same k-th score and the same morsels
+certificate-moved : (q : Asked) (a b : Contents) (bytes : List ℕ) → kth_of_query q a ≡ kth_of_query q b →
+    morsels q a ≡ morsels q b → IsCertificate q a bytes → IsCertificate q b bytes
+certificate-moved q a b bytes kth same z = record {
+  entries = z.entries;
+  right =
+      subst (λ (ss : List Usable). AllZip (IsRightEntry q (kth_of_query q b)) z.entries ss) same
+      (subst (λ (k : Option ℤ). AllZip (IsRightEntry q k) z.entries (morsels q a)) kth z.right);
+  text =
+      z.text
+      ∙ ap (λ (k : Option ℤ). certificate_text (record { query = q; kth = k; entries = z.entries })) kth;
+}
+
+-- and of one with the bounds of the series
+measured-moved : (q : Asked) (a b : Contents) (bytes : List ℕ) → kth_of_query q a ≡ kth_of_query q b →
+    morsels q a ≡ morsels q b → IsMeasuredCertificate q a bytes → IsMeasuredCertificate q b bytes
+unfolding certificate-moved
+measured-moved q a b bytes kth same z = record {
+  certificate = certificate-moved q a b bytes kth same z.certificate;
+  bounds = z.bounds ∙ ap (map (bound q)) same;
+}
+
+-- a report, both ways
+pub report_stays : BestStay → ReportStays
+report_stays best q c bytes = (
+  report-moved q (data_for q c) c bytes refl (best q c),
+  report-moved q c (data_for q c) bytes refl (sym (best q c)),
+)
+
+-- a certificate
+pub certificate_stays : KthStays → MorselsStay → CertificateStays
+certificate_stays kth series q c bytes = (
+  certificate-moved q (data_for q c) c bytes (kth q c) (series q c),
+  certificate-moved q c (data_for q c) bytes (sym (kth q c)) (sym (series q c)),
+)
+
+-- and one with the bounds of the series
+pub measured_stays : KthStays → MorselsStay → MeasuredStays
+measured_stays kth series q c bytes = (
+  measured-moved q (data_for q c) c bytes (kth q c) (series q c),
+  measured-moved q c (data_for q c) bytes (sym (kth q c)) (sym (series q c)),
+)

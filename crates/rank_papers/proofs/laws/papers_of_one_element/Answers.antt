@@ -1,0 +1,16 @@
+use Rattle.rank_papers.proofs.OneElement.{report_stays, certificate_stays, measured_stays}
+use Rattle.rank_papers.proofs.laws.papers_of_one_element.Goals as goal
+
+-- the report, by the best candidates
+pub returns-clause-report : goal.returns-clause-report
+returns-clause-report c = report_stays c.one_element_is_enough.ensures.best
+
+-- certificates, by the k-th score and the morsels
+pub returns-clause-certificate : goal.returns-clause-certificate
+returns-clause-certificate c =
+    certificate_stays c.one_element_is_enough.ensures.kth c.one_element_is_enough.ensures.morsels
+
+-- and those with the bounds of the series
+pub returns-clause-measured : goal.returns-clause-measured
+returns-clause-measured c =
+    measured_stays c.one_element_is_enough.ensures.kth c.one_element_is_enough.ensures.morsels

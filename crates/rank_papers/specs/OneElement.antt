@@ -1,0 +1,23 @@
+-- The papers of what a query needs of data are those of all these data, as statements for the contract of a public
+-- function.
+use Rattle.std.specs.Prelude.{◌↔◌, ℕ, List}
+use Rattle.ghcn_series.specs.Series.{Contents}
+use Rattle.rank_query.specs.Asked.{Asked}
+use Rattle.rank_scores.specs.OneElement.{data_for}
+use Rattle.rank_papers.specs.Report.{IsReport}
+use Rattle.rank_papers.specs.Certificate.{IsCertificate}
+use Rattle.rank_papers.specs.PlanPapers.{IsMeasuredCertificate}
+
+-- the right report of what a query needs of any data is that of all of them
+abbrev pub ReportStays : Type 0
+ReportStays = (q : Asked) (c : Contents) (bytes : List ℕ) → IsReport q (data_for q c) bytes ↔ IsReport q c bytes
+
+-- a right certificate of the one is a right certificate of the other
+abbrev pub CertificateStays : Type 0
+CertificateStays = (q : Asked) (c : Contents) (bytes : List ℕ) →
+    IsCertificate q (data_for q c) bytes ↔ IsCertificate q c bytes
+
+-- so it is where each bound is the bound of its series
+abbrev pub MeasuredStays : Type 0
+MeasuredStays = (q : Asked) (c : Contents) (bytes : List ℕ) →
+    IsMeasuredCertificate q (data_for q c) bytes ↔ IsMeasuredCertificate q c bytes
