@@ -2,5 +2,12 @@ pub mod Guesses
 pub mod Delivering
 pub mod PlanAnswers
 pub mod Crews
+pub mod Texts
+pub mod GoingOn
+pub mod Courses
+pub mod Openings
+pub mod Finishes
+pub mod Feedings
+pub mod FedRuns
 pub mod CommandLines
 pub mod CommandExamples

@@ -5,3 +5,5 @@ pub mod Printed
 pub mod Delivered
 pub mod CommandLine
 pub mod Judged
+pub mod Taken
+pub mod Feeding

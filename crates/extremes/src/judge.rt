@@ -4,13 +4,13 @@ ghost use Rattle.std.specs.Prelude.{◌≡◌, None, IfOk, IfErr, map};
 ghost use Rattle.extremes.specs.Ending.{ending_of};
 ghost use Rattle.extremes.specs.Input.{read_input, IsRefusal};
 ghost use Rattle.extremes.specs.Judged.{IsJudged};
+ghost use Rattle.extremes.specs.Taken.{HasTakenSome, JudgesInput, RefusesInput};
 
 use crate::ending::Ending;
 use crate::fault::Fault;
-use ghcn_files::Stations;
-use ghcn_series::Data;
-use rank_check::{Verdict, check};
-use rank_query::Query;
+use crate::intake::Intake;
+use rank_check::{Verdict, check, verdict_of_one_element};
+use rank_papers::papers_of_one_element;
 use std::alloc::Global;
 
 /// Judges a report and a certificate of a query over a station list and daily files, whoever made
@@ -31,9 +31,24 @@ pub fn judge(
     ensures err { IfErr result (λ fault.
         IsRefusal fault (read_input None query.now stations.now (map (λ file. file.now) files.now))) }
 {
-    let query = Query::parse(query)?;
-    let stations = Stations::read(alloc, stations)?;
-    let held = Data::read(alloc, stations, files)?;
+    let intake = Intake::of_files(alloc, 1, None, query, stations, files);
+    judge_intake(alloc, intake, report, certificate)
+}
+
+/// Judges papers over what was given, as `judge` does.
+pub fn judge_intake(
+    alloc: Global,
+    intake: Intake,
+    report: &[u8],
+    certificate: &[u8],
+) -> Result<Verdict, Fault>
+    requires { HasTakenSome intake }
+    ensures ok { IfOk result (JudgesInput intake report.now certificate.now) }
+    ensures err { IfErr result (RefusesInput intake) }
+{
+    let (query, held) = intake.finish()?;
+    papers_of_one_element();
+    verdict_of_one_element();
     Ok(check(alloc, &held, &query, report, certificate)?)
 }
 

@@ -1,13 +1,16 @@
 //! The k best records of GHCN-Daily files: a program over a library of its own.
 #![tactic(auto)]
 
+mod archive;
 mod command;
 mod delivery;
 mod ending;
 mod fault;
 mod help;
+mod intake;
 mod judge;
 mod laws;
+mod limits;
 mod papers;
 mod rank;
 mod run;

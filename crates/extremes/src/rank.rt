@@ -4,26 +4,21 @@ ghost use Rattle.std.specs.Prelude.{◌≡◌, true, IfOk, IfErr, map};
 ghost use Rattle.ghcn_series.specs.Held.{IsContents};
 ghost use Rattle.extremes.specs.Answer.{Answers, ArePapers, ArePapersOfPlan};
 ghost use Rattle.extremes.specs.Input.{is_crew, is_guess, read_input, read_run, IsRefusal};
+ghost use Rattle.extremes.specs.Taken.{HasTakenSome, AnswersInput, RefusesInput};
 ghost use Rattle.rank_sched.specs.Answers.{IsAnswerOfPlan};
 
 use crate::fault::Fault;
+use crate::intake::Intake;
 use crate::papers::Papers;
 use ghcn_fields::Memory;
-use ghcn_files::Stations;
 use ghcn_series::Data;
 use rank_crew::{Gate, crew, survey};
-use rank_papers::{certificate, report};
+use rank_papers::{certificate, papers_of_one_element, report};
 use rank_query::Query;
 use rank_sched::{Answer, Plan, run_alone};
 use std::alloc::Global;
 use std::sync::Wait;
 use std::thread::Threads;
-
-/// The greatest number of workers of a run.
-const MOST_WORKERS: u64 = 64;
-
-/// The greatest magnitude of a guess, in the raw unit of a score.
-const GREATEST_GUESS: i64 = 1 << 31;
 
 /// Ranks the candidates of a query over a station list and daily files by 1 to 64 workers in
 /// threads: a report of the k best, and a certificate that accounts for each series.
@@ -48,16 +43,26 @@ pub fn rank<R: Threads + Wait + AllocGlobal + Sync, G: Gate + Sync>(
     ensures err { IfErr result (λ fault.
         IsRefusal fault (read_run workers guess query.now stations.now (map (λ file. file.now) files.now))) }
 {
-    if !may_be_crew(workers) {
-        return Err(Fault::BadWorkers);
-    }
-    if !may_be_guessed(guess) {
-        return Err(Fault::BadGuess);
-    }
-    let asked = Query::parse(query)?;
-    let stations = Stations::read(rt.alloc(), stations)?;
-    let held = Data::read(rt.alloc(), stations, files)?;
-    Ok(ranked_by_crew(rt, &held, &asked, workers, guess, gate)?)
+    let alloc = rt.alloc();
+    let intake = Intake::of_files(alloc, workers, guess, query, stations, files);
+    rank_intake(rt, intake, gate)
+}
+
+/// Ranks the candidates of a query over what was given, as `rank` does.
+pub fn rank_intake<R: Threads + Wait + AllocGlobal + Sync, G: Gate + Sync>(
+    rt: &R,
+    intake: Intake,
+    gate: &G,
+) -> Result<Papers, Fault>
+    requires { HasTakenSome intake }
+    ensures ok { IfOk result (AnswersInput intake) }
+    ensures workers { IfOk result (λ papers. is_crew intake.workers ≡ true) }
+    ensures err { IfErr result (RefusesInput intake) }
+{
+    let (workers, guess) = (intake.workers, intake.guess);
+    let (query, held) = intake.finish()?;
+    papers_of_one_element();
+    Ok(ranked_by_crew(rt, &held, &query, workers, guess, gate)?)
 }
 
 /// Ranks the candidates of a query over a station list and daily files: a report of the k best, and
@@ -78,30 +83,10 @@ pub fn rank_serial(
     ensures err { IfErr result (λ fault.
         IsRefusal fault (read_input guess query.now stations.now (map (λ file. file.now) files.now))) }
 {
-    if !may_be_guessed(guess) {
-        return Err(Fault::BadGuess);
-    }
-    let query = Query::parse(query)?;
-    let stations = Stations::read(alloc, stations)?;
-    let held = Data::read(alloc, stations, files)?;
+    let intake = Intake::of_files(alloc, 1, guess, query, stations, files);
+    let (query, held) = intake.finish()?;
+    papers_of_one_element();
     Ok(ranked(alloc, &held, &query, guess)?)
-}
-
-/// Whether so many workers may run, 1 to 64.
-fn may_be_crew(workers: u64) -> bool
-    ensures { result ≡ is_crew workers }
-{
-    0 < workers && workers <= MOST_WORKERS
-}
-
-/// Whether there is no guess, or one from -2^31 to 2^31.
-fn may_be_guessed(guess: Option<i64>) -> bool
-    ensures { result ≡ is_guess guess }
-{
-    match guess {
-        None => true,
-        Some(score) => -GREATEST_GUESS <= score && score <= GREATEST_GUESS,
-    }
 }
 
 /// The papers of a query, from a run of one worker that begins with a guess or none.

@@ -1,27 +1,27 @@
 //! A run of the program: reads what is named, ranks, and prints.
 
-ghost use Rattle.std.specs.Prelude.{◌≡◌, ◌<◌, None, IfOk, IfErr, length, map, vec_len};
+ghost use Rattle.std.specs.Prelude.{◌≡◌, IfOk, map, string_bytes};
 ghost use Rattle.extremes.specs.declared.ending.Ending.TheVariants as endings;
-ghost use Rattle.extremes.specs.Answer.{Answers};
-ghost use Rattle.extremes.specs.Input.{read_input, read_run, IsRefusal};
-ghost use Rattle.extremes.specs.Judged.{IsJudged};
+ghost use Rattle.extremes.specs.Feeding.{RanksFiles, JudgesFiles};
 ghost use Rattle.extremes.specs.Printed.{IsPrinted, IsReported, IsToldVerdict};
 
+use crate::archive::{Archive, System, feed_files, piece_room, read_whole};
 use crate::command::{Command, CommandFault};
 use crate::delivery::{Delivery, deliver};
 use crate::ending::Ending;
 use crate::fault::Fault;
-use crate::judge::{ending, judge};
+use crate::intake::Intake;
+use crate::judge::{ending, judge_intake};
 use crate::papers::Papers;
-use crate::rank::{rank, rank_serial};
+use crate::rank::{rank_intake, rank_serial};
 use crate::sample;
 use crate::words::command;
 use ghcn_fields::Memory;
 use rank_check::Verdict;
 use rank_crew::Open;
-use std::alloc::{AllocError, Global};
-use std::fs::{File, OpenFile};
-use std::io::{Read, Write};
+use std::alloc::Global;
+use std::fs::File;
+use std::io::Write;
 use std::rt::{Env, Files};
 use std::sync::Wait;
 use std::thread::Threads;
@@ -66,7 +66,7 @@ fn run_command<R: Files + Print + Eprint + Threads + Wait + AllocGlobal + Sync>(
             files,
         } => {
             let out = certificate.as_ref().map(|path| path.as_str());
-            match rank_files(rt, &stations, &files, &query, workers, guess) {
+            match rank_files(rt, &System(rt), &stations, &files, &query, workers, guess) {
                 Ok(answer) => print_answer(rt, answer, out, &mut io::writer(rt)),
                 Err(path) => not_read(rt, path),
             }
@@ -77,10 +77,22 @@ fn run_command<R: Files + Print + Eprint + Threads + Wait + AllocGlobal + Sync>(
             report,
             certificate,
             files,
-        } => match judge_files(rt, &stations, &query, &report, &certificate, &files) {
-            Ok(judged) => print_verdict(rt, judged),
-            Err(path) => not_read(rt, path),
-        },
+        } => {
+            let alloc = rt.alloc();
+            let archive = System(rt);
+            match judge_files(
+                alloc,
+                &archive,
+                &stations,
+                &query,
+                &report,
+                &certificate,
+                &files,
+            ) {
+                Ok(judged) => print_verdict(rt, judged),
+                Err(path) => not_read(rt, path),
+            }
+        }
     }
 }
 
@@ -114,106 +126,60 @@ fn rank_sample<R: Files + Print + Eprint + AllocGlobal>(rt: &R) -> Ending {
 
 /// Reads the station list and then the daily files in order, and ranks them, or answers the path of
 /// the first file that can't be read.
-fn rank_files<'p, R: Files + Threads + Wait + AllocGlobal + Sync>(
+fn rank_files<'p, R: Threads + Wait + AllocGlobal + Sync, A: Archive>(
     rt: &R,
+    archive: &A,
     stations: &'p str,
     files: &'p [String],
     query: &str,
     workers: u64,
     guess: Option<i64>,
-) -> Result<Result<Papers, Fault>, &'p str> {
-    let stations_text = read_file(rt, stations).map_err(|_| stations)?;
-    let texts = read_files(rt, files).map_err(|place| files[place].as_str())?;
-    Ok(rank_texts(rt, &stations_text, &texts, query, workers, guess))
+) -> Result<Result<Papers, Fault>, &'p str>
+    ensures { IfOk result (RanksFiles workers guess query.now (A.bytes_of archive.now stations.now)
+        (map (λ path. A.bytes_of archive.now (string_bytes path)) files.now)) }
+{
+    let alloc = rt.alloc();
+    let Ok(stations_text) = read_whole(alloc, archive, stations) else {
+        return Err(stations);
+    };
+    let Ok(mut room) = piece_room(alloc) else {
+        return Ok(Err(Fault::Memory(Memory)));
+    };
+    let mut intake = Intake::new(alloc, workers, guess, query, &stations_text);
+    feed_files(archive, &mut intake, files, &mut room)?;
+    Ok(rank_intake(rt, intake, &Open))
 }
 
 /// Reads the station list, the report, the certificate and then the daily files in order, and judges
 /// the papers, or answers the path of the first file that can't be read.
-fn judge_files<'p, R: Files + AllocGlobal>(
-    rt: &R,
+fn judge_files<'p, A: Archive>(
+    alloc: Global,
+    archive: &A,
     stations: &'p str,
     query: &str,
     report: &'p str,
     certificate: &'p str,
     files: &'p [String],
-) -> Result<Result<Verdict, Fault>, &'p str> {
-    let stations_text = read_file(rt, stations).map_err(|_| stations)?;
-    let report_text = read_file(rt, report).map_err(|_| report)?;
-    let certificate_text = read_file(rt, certificate).map_err(|_| certificate)?;
-    let texts = read_files(rt, files).map_err(|place| files[place].as_str())?;
-    Ok(judge_texts(
-        rt.alloc(),
-        &stations_text,
-        &texts,
-        query,
-        &report_text,
-        &certificate_text,
-    ))
-}
-
-/// The text of each file, in order, or the place of the first that can't be read.
-fn read_files<R: Files + AllocGlobal>(rt: &R, paths: &[String]) -> Result<Vec<Vec<u8>>, usize>
-    ensures all { IfOk result (λ texts. vec_len texts ≡ length paths.now) }
-    ensures place { IfErr result (λ place. place < length paths.now) }
+) -> Result<Result<Verdict, Fault>, &'p str>
+    ensures { IfOk result (JudgesFiles query.now (A.bytes_of archive.now stations.now)
+        (A.bytes_of archive.now report.now) (A.bytes_of archive.now certificate.now)
+        (map (λ path. A.bytes_of archive.now (string_bytes path)) files.now)) }
 {
-    let mut texts = Vec::new(rt.alloc());
-    for (place, path) in paths.iter().enumerate() {
-        let text = read_file(rt, path.as_str()).map_err(|_| place)?;
-        texts.push(text).map_err(|_| place)?;
-    }
-    Ok(texts)
-}
-
-/// Ranks the candidates of a query over the texts of all files.
-fn rank_texts<R: Threads + Wait + AllocGlobal + Sync>(
-    rt: &R,
-    stations: &[u8],
-    texts: &[Vec<u8>],
-    query: &str,
-    workers: u64,
-    guess: Option<i64>,
-) -> Result<Papers, Fault>
-    ensures ok { IfOk result (Answers guess query.now stations.now (map (λ text. text.items) texts.now)) }
-    ensures err { IfErr result (λ fault.
-        IsRefusal fault (read_run workers guess query.now stations.now (map (λ text. text.items) texts.now))) }
-{
-    let files = slices_of(rt.alloc(), texts).map_err(|_| Fault::Memory(Memory))?;
-    rank(rt, stations, &files, query, workers, guess, &Open)
-}
-
-/// Judges papers of a query over the texts of all files.
-fn judge_texts(
-    alloc: Global,
-    stations: &[u8],
-    texts: &[Vec<u8>],
-    query: &str,
-    report: &[u8],
-    certificate: &[u8],
-) -> Result<Verdict, Fault>
-    ensures ok { IfOk result (IsJudged
-        query.now stations.now (map (λ text. text.items) texts.now) report.now certificate.now) }
-    ensures err { IfErr result (λ fault.
-        IsRefusal fault (read_input None query.now stations.now (map (λ text. text.items) texts.now))) }
-{
-    let files = slices_of(alloc, texts).map_err(|_| Fault::Memory(Memory))?;
-    judge(alloc, stations, &files, query, report, certificate)
-}
-
-/// All the texts, as they are read.
-fn slices_of(alloc: Global, texts: &[Vec<u8>]) -> Result<Vec<&[u8]>, AllocError>
-    ensures { IfOk result (λ slices. map (λ s. s.now) slices.items ≡ map (λ text. text.items) texts.now) }
-{
-    texts.iter().map(|text| text.as_slice()).collect(alloc)
-}
-
-/// The whole of a file, in a buffer of its length.
-fn read_file<R: Files + AllocGlobal>(rt: &R, path: &str) -> io::Result<Vec<u8>> {
-    let mut file = File::open(rt, path)?;
-    let len = file.metadata()?.len() as usize;
-    // One byte more, so that the end is found without a growth.
-    let mut bytes = Vec::with_capacity(rt.alloc(), len.saturating_add(1))?;
-    file.read_to_end(&mut bytes)?;
-    Ok(bytes)
+    let Ok(stations_text) = read_whole(alloc, archive, stations) else {
+        return Err(stations);
+    };
+    let Ok(report_text) = read_whole(alloc, archive, report) else {
+        return Err(report);
+    };
+    let Ok(certificate_text) = read_whole(alloc, archive, certificate) else {
+        return Err(certificate);
+    };
+    let Ok(mut room) = piece_room(alloc) else {
+        return Ok(Err(Fault::Memory(Memory)));
+    };
+    let mut intake = Intake::new(alloc, 1, None, query, &stations_text);
+    feed_files(archive, &mut intake, files, &mut room)?;
+    Ok(judge_intake(alloc, intake, &report_text, &certificate_text))
 }
 
 fn not_read<R: Eprint>(rt: &R, path: &str) -> Ending

@@ -1,10 +1,18 @@
 //! Worked runs of the ranking and of the command line.
 
+ghost use Rattle.extremes.specs.Taken.{HasTakenSome};
+
+mod growths;
+
+use crate::archive::feed;
 use crate::command::{Command, CommandFault};
+use crate::delivery::{Delivery, deliver};
 use crate::ending::Ending;
 use crate::fault::Fault;
+use crate::intake::Intake;
 use crate::judge::{ending, judge};
-use crate::rank::{rank, rank_serial};
+use crate::papers::Papers;
+use crate::rank::{rank, rank_intake, rank_serial};
 use crate::run::print_answer;
 use crate::words::command;
 use ghcn_fields::Memory;
@@ -13,9 +21,13 @@ use ghcn_series::DailyWhy;
 use rank_check::{Paper, Verdict, Why};
 use rank_crew::{Gate, Open};
 use std::alloc::{AllocError, Global};
+use std::io;
+use std::io::Write;
+use std::process::Abort;
 use std::sync::Wait;
 use std::sync::atomic::{AtomicU64, Ordering};
 use std::test::Fail;
+use std::thread::Threads;
 
 const STATIONS: &[u8] = b"ZZA00000001  10.0000   20.0000  100.0    ALPHA
 ZZA00000002  11.0000   21.0000  100.0    BRAVO
@@ -51,6 +63,120 @@ fn reports_are_printed_whole(rt: HostRuntime) {
     let faulty = rank_serial(rt.alloc(), STATIONS, &[DAILY], "top 3 highest", None);
     assert_eq!(rt; print_answer(&rt, faulty, None, &mut out), Ending::Refused);
     assert_eq!(rt; out.as_slice(), REPORT);
+}
+
+/// A writer that takes so many bytes at once, and in all. Then it fails, or takes no byte.
+#[derive(Drop)]
+struct Narrow {
+    taken: Vec<u8>,
+    at_once: usize,
+    room: usize,
+    fails: bool,
+    flushes: bool,
+}
+
+impl Write for Narrow {
+    fn write(&mut self, buf: &[u8]) -> io::Result<usize> {
+        let count = buf.len().min(self.at_once).min(self.room);
+        if count == 0 && self.fails {
+            return Err(io::Error::from(io::ErrorKind::StorageFull));
+        }
+        self.taken.extend_from_slice(&buf[..count])?;
+        self.room -= count;
+        Ok(count)
+    }
+
+    fn flush(&mut self) -> io::Result<()> {
+        if self.flushes {
+            Ok(())
+        } else {
+            Err(io::Error::from(io::ErrorKind::StorageFull))
+        }
+    }
+}
+
+/// A writer that fails behind so many bytes.
+fn failing_behind(alloc: Global, at_once: usize, room: usize) -> Narrow {
+    Narrow {
+        taken: Vec::new(alloc),
+        at_once,
+        room,
+        fails: true,
+        flushes: true,
+    }
+}
+
+#[test]
+fn papers_are_delivered(rt: HostRuntime) -> Result<(), Fail> {
+    let alloc = rt.alloc();
+    let ranked = rank_serial(alloc, STATIONS, &[DAILY], "top 3 highest TMAX", None);
+    let Ok(papers) = ranked else {
+        return Err(Fail::from("no papers"));
+    };
+    let whole = papers.certificate.as_slice();
+    let cases: [(bool, Narrow, Narrow, Delivery, &[u8], &[u8]); 6] = [
+        (
+            true,
+            failing_behind(alloc, 1, 999),
+            failing_behind(alloc, 1, 999),
+            Delivery::Done,
+            whole,
+            REPORT,
+        ),
+        (
+            true,
+            failing_behind(alloc, 99, 999),
+            failing_behind(alloc, 99, 10),
+            Delivery::ReportFailed,
+            whole,
+            b"extremes r",
+        ),
+        (
+            true,
+            failing_behind(alloc, 99, 0),
+            failing_behind(alloc, 99, 999),
+            Delivery::CertificateFailed,
+            b"",
+            b"",
+        ),
+        (
+            false,
+            failing_behind(alloc, 99, 0),
+            failing_behind(alloc, 1, 999),
+            Delivery::Done,
+            b"",
+            REPORT,
+        ),
+        (
+            true,
+            Narrow {
+                fails: false,
+                ..failing_behind(alloc, 99, 8)
+            },
+            failing_behind(alloc, 99, 999),
+            Delivery::CertificateFailed,
+            b"extremes",
+            b"",
+        ),
+        (
+            true,
+            failing_behind(alloc, 99, 999),
+            Narrow {
+                flushes: false,
+                ..failing_behind(alloc, 99, 999)
+            },
+            Delivery::ReportFailed,
+            whole,
+            REPORT,
+        ),
+    ];
+    for (wanted, mut certificate, mut report, expected, first, second) in cases {
+        let ended = deliver(&papers, wanted, &mut certificate, &mut report);
+        assert_eq!(rt; ended, expected);
+        assert_eq!(rt; certificate.taken.as_slice(), first, "{ended:?}");
+        assert_eq!(rt; report.taken.as_slice(), second, "{ended:?}");
+    }
+    Ok(())
 }
 
 #[test]
@@ -133,6 +259,121 @@ fn texts_of_faults(rt: HostRuntime) -> Result<(), Fail> {
     Ok(())
 }
 
+/// What two workers rank of files that come in pieces of a length.
+fn ranked_by_pieces<R: Threads + Wait + AllocGlobal + Sync>(
+    rt: &R,
+    files: &[&[u8]],
+    length: usize,
+) -> Result<Vec<u8>, Fault> {
+    let query = "top 3 highest TMAX";
+    let mut intake = Intake::new(rt.alloc(), 2, None, query, STATIONS);
+    for file in files {
+        for piece in file.chunks(length.max(1)) {
+            intake.piece(piece);
+        }
+        intake.end_of_file();
+    }
+    Ok(rank_intake(rt, intake, &Open)?.report)
+}
+
+/// A file of DAILY's lines with a carriage return before each line feed.
+fn with_returns(alloc: Global) -> Result<Vec<u8>, AllocError> {
+    let mut text = Vec::new(alloc);
+    for line in DAILY.split(|b| *b == b'\n') {
+        if !line.is_empty() {
+            text.extend_from_slice(line)?;
+            text.extend_from_slice(b"\r\n")?;
+        }
+    }
+    Ok(text)
+}
+
+/// Ranks files by pieces of several lengths, each of which gives the same report or fault.
+fn check_pieces<R: Abort + AllocGlobal + Threads + Wait + Sync>(
+    rt: &R,
+    files: &[&[u8]],
+    expected: Result<&[u8], Fault>,
+) {
+    for length in [1, 269, 270, 700, 65_536] {
+        let found = ranked_by_pieces(rt, files, length);
+        let report = found.as_ref().map(|report| report.as_slice());
+        assert_eq!(rt; report.ok(), expected.ok(), "pieces of {length} bytes");
+        assert_eq!(rt; found.err(), expected.err(), "pieces of {length} bytes");
+    }
+}
+
+#[test]
+fn pieces_of_any_length(rt: HostRuntime) -> Result<(), Fail> {
+    let returns = with_returns(rt.alloc())?;
+    let (first, others) = DAILY.split_at(270);
+    let cut = &DAILY[..539];
+    let short = Fault::DailyLine {
+        file: 2,
+        line: 1,
+        why: DailyWhy::Line(LineWhy::Short),
+    };
+    let repeated = Fault::DailyLine {
+        file: 3,
+        line: 1,
+        why: DailyWhy::DuplicateMonth,
+    };
+    check_pieces(&rt, &[DAILY], Ok(REPORT));
+    check_pieces(&rt, &[&returns], Ok(REPORT));
+    check_pieces(&rt, &[first, b"", others], Ok(REPORT));
+    check_pieces(&rt, &[first, &others[..200], b"x"], Err(short));
+    check_pieces(&rt, &[b"", cut, DAILY, &DAILY[..200]], Err(repeated));
+    check_pieces(&rt, &[first, &cut[270..], &others[270..]], Ok(REPORT));
+    Ok(())
+}
+
+/// Ends so many files.
+fn end_files(intake: &mut Intake, count: u64)
+    requires { HasTakenSome intake.old }
+    ensures { HasTakenSome intake.new }
+{
+    for _ in 0..count {
+        intake.end_of_file();
+    }
+}
+
+#[test]
+fn files_behind_a_fault_are_counted(rt: HostRuntime) {
+    let fault = Fault::DailyLine {
+        file: 1,
+        line: 1,
+        why: DailyWhy::Line(LineWhy::Short),
+    };
+    let bad_query = Fault::UnexpectedWord(3);
+    let cases: [(&str, &[u8], u64, &[u8], Fault); 5] = [
+        ("top 1 dry", b"x", 1 << 20, b"", fault),
+        ("top 1 dry", b"x", 1 << 20, b"y", Fault::TooManyFiles),
+        ("top 1 dry", b"x", (1 << 20) + 1, b"", Fault::TooManyFiles),
+        ("top 1 dry", b"", (1 << 20) + 1, b"", Fault::TooManyFiles),
+        ("top 1 hot", b"x", (1 << 20) + 1, b"", bad_query),
+    ];
+    for (query, first, count, last, expected) in cases {
+        let mut intake = Intake::new(rt.alloc(), 1, None, query, STATIONS);
+        intake.piece(first);
+        end_files(&mut intake, count);
+        intake.piece(last);
+        let found = intake.finish().err();
+        assert_eq!(rt; found, Some(expected), "{count} files, at {query}");
+    }
+}
+
+#[test]
+fn sources_are_fed_whole(rt: HostRuntime) {
+    for length in [1, 270, 700, 4096] {
+        let mut buffer = [0; 4096];
+        let mut intake = Intake::new(rt.alloc(), 1, None, "top 3 highest TMAX", STATIONS);
+        let mut source: &[u8] = DAILY;
+        assert!(rt; feed(&mut intake, &mut source, &mut buffer[..length]).is_ok());
+        let found = rank_intake(&rt, intake, &Open);
+        let report = found.as_ref().map(|papers| papers.report.as_slice()).ok();
+        assert_eq!(rt; report, Some(REPORT), "a buffer of {length} bytes");
+    }
+}
+
 /// How often a gate's calls came.
 #[derive(Drop)]
 struct Calls {
@@ -157,6 +398,7 @@ fn workers_and_the_first_fault(rt: HostRuntime) {
         (65, None, Some(Fault::BadWorkers)),
         (64, Some(2_147_483_649), Some(Fault::BadGuess)),
         (64, Some(2_147_483_648), None),
+        (64, Some(-2_147_483_648), None),
         (1, None, None),
         (4, Some(305), None),
     ];

@@ -1,5 +1,5 @@
 -- What is gone from the rest was taken by the writer.
-use Rattle.std.proofs.Common.{◌≡◌, ℕ, length}
+use Rattle.std.proofs.Common.{length}
 use Rattle.extremes.proofs.Delivering.{HasTaken}
 use Rattle.extremes.proofs.delivery.write_whole.Given as goal
 

@@ -1,5 +1,5 @@
-use Rattle.std.proofs.Common.{rules, ◌≡◌, ◌∙◌, ◌⊎◌, inl, inr, List, map, true, false, Some, Option, refl, ap, ap₂, subst, sym, codes, IsSome}
-use Rattle.clap.specs.Words.{App, Text, app_of, is_simple, fault_of, is_simple_and_free, subcommand_of}
+use Rattle.std.proofs.Common.{rules, ◌≡◌, ◌∙◌, ◌⊎◌, inl, inr, map, true, false, Some, refl, ap, ap₂, subst, sym, codes, IsSome}
+use Rattle.clap.specs.Words.{App, app_of, is_simple, fault_of, is_simple_and_free, subcommand_of}
 use Rattle.clap.specs.Words.{found_of, rows_of, subcommand_rows_of, subcommand_name_of, has_subcommand}
 use Rattle.clap.proofs.CallerLemmas.{subcommand_required}
 use Rattle.clap.proofs.OnLiterals.{clap_on_literals}

@@ -1,0 +1,112 @@
+-- A run over files that were fed whole.
+use Rattle.std.proofs.Common.{ℕ, List, [], ◌∷◌, refl, subst}
+use Rattle.std.specs.Prelude.{Option, None, Some, Result, Ok, Err, IfOk, IfErr, ℤ}
+use Rattle.ghcn_fields.specs.declared.memory.Memory.{Memory as WantOfMemory}
+use Rattle.rank_check.specs.declared.verdict.Verdict.{Verdict}
+use Rattle.extremes.specs.declared.fault.Fault.{Fault}
+use Rattle.extremes.specs.declared.fault.Fault.TheVariants.{Memory}
+use Rattle.extremes.specs.declared.intake.Intake.{Intake}
+use Rattle.extremes.specs.declared.papers.Papers.{Papers}
+use Rattle.extremes.specs.Taken.{given, HasTaken, AnswersInput, RefusesInput, JudgesInput}
+use Rattle.extremes.specs.Feeding.{AreAllOf, AreFilesOf, FeedsFiles, IsRanked, RanksFiles, IsJudgement}
+use Rattle.extremes.specs.Feeding.{JudgesFiles}
+use Rattle.extremes.proofs.Feedings.{given-files}
+
+-- what was fed behind the station list is the whole input
+pub taken-all : (old new : Intake) (known : List (Option (List ℕ))) (workers : ℕ) (guess : Option ℤ)
+    (query stations : List ℕ)
+    (fed : FeedsFiles old new known) → HasTaken old (given workers guess query stations [])
+    → HasTaken new (given workers guess query stations fed.files)
+taken-all old new known workers guess query stations fed is =
+    subst (HasTaken new) (given-files workers guess query stations [] fed.files)
+    (fed.taken (given workers guess query stations []) is)
+
+-- the answer for an intake is that for its texts
+ranked-is : (t : Intake) (workers : ℕ) (guess : Option ℤ) (query stations : List ℕ) (files : List (List ℕ))
+    (answer : Result Papers Fault) → HasTaken t (given workers guess query stations files)
+    → IfOk answer (AnswersInput t)
+    → IfErr answer (RefusesInput t) → IsRanked workers guess query stations files answer
+ranked-is t workers guess query stations files (Ok papers) taken ok err =
+    ok.is (given workers guess query stations files) taken
+ranked-is t workers guess query stations files (Err fault) taken ok err =
+    err.is (given workers guess query stations files) taken
+
+-- the ranking of an intake that was fed all files
+pub ranks-files : (old new : Intake) (workers : ℕ) (guess : Option ℤ) (query stations : List ℕ)
+    (list : Option (List ℕ))
+    (known : List (Option (List ℕ))) (answer : Result Papers Fault) → AreAllOf list stations
+    → HasTaken old (given workers guess query stations []) → FeedsFiles old new known → IfOk answer (AnswersInput new)
+    → IfErr answer (RefusesInput new) → RanksFiles workers guess query list known answer
+ranks-files old new workers guess query stations list known answer whole taken fed ok err = record {
+  stations = stations;
+  whole = whole;
+  files = fed.files;
+  all = fed.all;
+  ranked = ranked-is new workers guess query stations fed.files answer
+      (taken-all old new known workers guess query stations fed taken) ok err;
+}
+
+-- the verdict for an intake is that for its texts
+judged-is : (t : Intake) (query stations : List ℕ) (files : List (List ℕ)) (report certificate : List ℕ)
+    (answer : Result Verdict Fault) → HasTaken t (given 1 None query stations files)
+    → IfOk answer (JudgesInput t report certificate) → IfErr answer (RefusesInput t)
+    → IsJudgement query stations files report certificate answer
+judged-is t query stations files report certificate (Ok v) taken ok err =
+    ok.is (given 1 None query stations files) taken
+judged-is t query stations files report certificate (Err fault) taken ok err =
+    err.is (given 1 None query stations files) taken
+
+-- the judgement of an intake that was fed all files
+pub judges-files : (old new : Intake) (query stations report certificate : List ℕ)
+    (list first second : Option (List ℕ))
+    (known : List (Option (List ℕ))) (answer : Result Verdict Fault) → AreAllOf list stations → AreAllOf first report
+    → AreAllOf second certificate → HasTaken old (given 1 None query stations []) → FeedsFiles old new known
+    → IfOk answer (JudgesInput new report certificate) → IfErr answer (RefusesInput new)
+    → JudgesFiles query list first second known answer
+judges-files old new query stations report certificate list first second known answer whole one two taken fed ok
+    err = record {
+      stations = stations;
+      whole = whole;
+      report = report;
+      report_whole = one;
+      certificate = certificate;
+      certificate_whole = two;
+      files = fed.files;
+      all = fed.all;
+      judged = judged-is new query stations fed.files report certificate answer
+          (taken-all old new known 1 None query stations fed taken) ok err;
+    }
+
+-- there are files whose bytes are all of those that are known
+some_files : (known : List (Option (List ℕ))) → (files : List (List ℕ)) × AreFilesOf known files
+some_files [] = ([], tt)
+some_files (None ∷ ks) = let rest = some_files ks in ([] ∷ rest.0, (tt, rest.1))
+some_files (Some bytes ∷ ks) = let rest = some_files ks in (bytes ∷ rest.0, (refl, rest.1))
+
+-- want of memory may be answered to any files
+pub ranks-memory : (workers : ℕ) (guess : Option ℤ) (query stations : List ℕ) (list : Option (List ℕ))
+    (known : List (Option (List ℕ))) (m : WantOfMemory) → AreAllOf list stations
+    → RanksFiles workers guess query list known (Err (Memory m))
+ranks-memory workers guess query stations list known m whole = record {
+  stations = stations;
+  whole = whole;
+  files = (some_files known).0;
+  all = (some_files known).1;
+  ranked = tt;
+}
+
+-- and to papers
+pub judges-memory : (query stations report certificate : List ℕ) (list first second : Option (List ℕ))
+    (known : List (Option (List ℕ))) (m : WantOfMemory) → AreAllOf list stations → AreAllOf first report
+    → AreAllOf second certificate → JudgesFiles query list first second known (Err (Memory m))
+judges-memory query stations report certificate list first second known m whole one two = record {
+  stations = stations;
+  whole = whole;
+  report = report;
+  report_whole = one;
+  certificate = certificate;
+  certificate_whole = two;
+  files = (some_files known).0;
+  all = (some_files known).1;
+  judged = tt;
+}

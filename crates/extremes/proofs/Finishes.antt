@@ -1,0 +1,135 @@
+-- The end of an intake.
+use Rattle.std.proofs.Common.{◌≡◌, ℕ, Bool, List, [], ◌++◌, sym, ap, ◌∙◌, subst}
+use Rattle.std.specs.Prelude.{◌↔◌, Result, Ok}
+use Rattle.std.proofs.lemmas.List.{append-nil}
+use Rattle.ghcn_series.specs.declared.fault.DataFault.{DataFault}
+use Rattle.ghcn_series.specs.Series.{Contents}
+use Rattle.ghcn_series.specs.Fed.{and_current}
+use Rattle.ghcn_series.specs.Pieces.{HoldsFed}
+use Rattle.rank_query.specs.Asked.{Asked}
+use Rattle.extremes.specs.declared.fault.Fault.{Fault}
+use Rattle.extremes.specs.declared.intake.Intake.{Intake}
+use Rattle.extremes.specs.declared.intake.Opened.{Opened}
+use Rattle.extremes.specs.declared.intake.Course.{Course}
+use Rattle.extremes.specs.declared.intake.Course.TheVariants.{Reading, Refused}
+use Rattle.extremes.specs.Input.{then_read, of_data, IsRefusal}
+use Rattle.extremes.specs.Taken.{Input, fed_of, given_files, told, GoesOn, Decides, IsReading, HasCourse}
+use Rattle.extremes.specs.Taken.{HoldsInput, RefusesInput, CountsFiles, DataRefuses, read_given}
+use Rattle.extremes.specs.Taken.{AnswersInput, JudgesInput}
+use Rattle.extremes.specs.Answer.{ArePapers}
+use Rattle.extremes.specs.declared.papers.Papers.{Papers}
+use Rattle.rank_scores.specs.OneElement.{data_for}
+use Rattle.rank_papers.specs.OneElement.{ReportStays, CertificateStays, MeasuredStays}
+use Rattle.rank_papers.specs.Report.{IsReport}
+use Rattle.rank_papers.specs.Certificate.{IsCertificate}
+use Rattle.rank_check.specs.declared.verdict.Verdict.{Verdict}
+use Rattle.rank_check.specs.declared.verdict.Verdict.TheVariants.{Accepted}
+use Rattle.rank_check.specs.Tests.{verdict}
+use Rattle.rank_check.specs.Laws.{VerdictStays}
+use Rattle.extremes.proofs.GoingOn.{refused_data}
+use Rattle.extremes.proofs.Openings.{without_guess, without_workers}
+
+-- the input goes on with nothing
+goes_on-here : (i : Input) → GoesOn i (given_files i)
+goes_on-here i = record {
+  later = [];
+  others = [];
+  parts = ap (λ (t : List ℕ). and_current i.ended t) (sym (append-nil i.current))
+      ∙ sym (append-nil (and_current i.ended (i.current ++ [])));
+}
+
+-- a reader's data are those of the input
+pub holds_input : (t : Intake) (o o' : Opened) (query : Asked) (held : Contents) → t.course ≡ Reading o → o' ≡ o
+    → query ≡ o'.query → HoldsFed o'.reader held → HoldsInput t query held
+holds_input t o o' query held is same asked holds = record {
+  is = λ i taken.
+      let course : IsReading i o' = subst (λ (c : Course). HasCourse c i) (is ∙ ap Reading (sym same)) taken.course in
+      let are = holds.is (fed_of o'.query course.stations i) course.fed in
+      record {
+        whole = are.whole;
+        read_is = rw asked (course.others (given_files i)
+            ∙ ap (λ (d : Result Contents DataFault). then_read of_data d (λ held. Ok (o'.query, held))) are.read);
+        needed = are.is ∙ ap (λ (q : Asked). data_for q are.whole) (sym asked);
+      };
+}
+
+-- a reader's refusal is that of the input
+pub refuses_input : (t : Intake) (o o' : Opened) (fault : Fault) → t.course ≡ Reading o → o' ≡ o
+    → DataRefuses o'.reader fault → RefusesInput t fault
+refuses_input t o o' fault is same refuses = record {
+  is = λ i taken.
+      let course : IsReading i o' = subst (λ (c : Course). HasCourse c i) (is ∙ ap Reading (sym same)) taken.course in
+      subst (λ (f : Fault). IsRefusal f (read_given i)) (sym refuses.is)
+      (subst (IsRefusal (of_data refuses.cause)) (sym (course.others (given_files i)))
+      (refused_data course.stations o'.query (given_files i) refuses.cause
+      (refuses.refuses.is (fed_of o'.query course.stations i) course.fed)));
+}
+
+-- a fault that was kept is that of the input
+pub kept_refuses : (t : Intake) (many : Bool) (fault fault' result : Fault) → t.course ≡ Refused fault
+    → fault' ≡ fault
+    → result ≡ told many fault' → CountsFiles t many → RefusesInput t result
+kept_refuses t many fault fault' result is same tells counts = record {
+  is = λ i taken.
+      let course : Decides i fault = subst (λ (c : Course). HasCourse c i) is taken.course in
+      subst (λ (f : Fault). IsRefusal f (read_given i)) (sym (tells ∙ ap (told many) same))
+      (subst (λ b. IsRefusal (told b fault) (read_given i)) (sym (counts.is i taken))
+      (course.whatever (given_files i) (goes_on-here i)));
+}
+
+-- papers that are right for what a query needs of some data are right for these data, and the other way round
+right_for : (query : Asked) (held whole : Contents) (report certificate : List ℕ) → ReportStays → CertificateStays
+    → held ≡ data_for query whole
+    → (IsReport query held report × IsCertificate query held certificate)
+    ↔ (IsReport query whole report × IsCertificate query whole certificate)
+right_for query held whole report certificate reports certificates needed =
+    subst (λ (h : Contents). (IsReport query h report × IsCertificate query h certificate)
+    ↔ (IsReport query whole report × IsCertificate query whole certificate)) (sym needed) (
+      λ are. ((reports query whole report).0 are.0, (certificates query whole certificate).0 are.1),
+      λ are. ((reports query whole report).1 are.0, (certificates query whole certificate).1 are.1),
+    )
+
+-- the verdict for the query and the data of an intake is that for its input
+pub judges_input : (t : Intake) (query : Asked) (held : Contents) (report certificate : List ℕ) (v : Verdict)
+    → ReportStays → CertificateStays → VerdictStays
+    → HoldsInput t query held → v ≡ verdict query held report certificate
+    → (v ≡ Accepted) ↔ (IsReport query held report × IsCertificate query held certificate)
+    → JudgesInput t report certificate v
+judges_input t query held report certificate v reports certificates verdicts holds is accepted = record {
+  is = λ i taken.
+      let input = holds.is i taken in
+      let right = right_for query held input.whole report certificate reports certificates input.needed in
+      record {
+        asked = query;
+        held = input.whole;
+        read = without_guess i.workers i.guess i.query i.stations (given_files i) (query, input.whole) input.read_is;
+        verdict = is ∙ ap (λ (h : Contents). verdict query h report certificate) input.needed
+            ∙ verdicts query input.whole report certificate;
+        accepted = (λ a. right.0 (accepted.0 a), λ r. accepted.1 (right.1 r));
+      };
+}
+
+-- the papers of what a query needs of some data are those of these data
+papers_for : (query : Asked) (held whole : Contents) (papers : Papers) → ReportStays → MeasuredStays
+    → held ≡ data_for query whole → ArePapers query held papers → ArePapers query whole papers
+papers_for query held whole papers reports certificates needed are =
+    let of : ArePapers query (data_for query whole) papers = subst (λ (h : Contents). ArePapers query h papers) needed are in
+    record {
+      report = (reports query whole papers.report.items).0 of.report;
+      certificate = (certificates query whole papers.certificate.items).0 of.certificate;
+      unlisted = of.unlisted;
+    }
+
+-- the papers for the query and the data of an intake answer its input
+pub answers_input : (t : Intake) (query : Asked) (held : Contents) (papers : Papers) → ReportStays → MeasuredStays
+    → HoldsInput t query held → ArePapers query held papers → AnswersInput t papers
+answers_input t query held papers reports certificates holds are = record {
+  is = λ i taken.
+      let input = holds.is i taken in
+      record {
+        asked = query;
+        held = input.whole;
+        read = without_workers i.workers i.guess i.query i.stations (given_files i) (query, input.whole) input.read_is;
+        right = papers_for query held input.whole papers reports certificates input.needed are;
+      };
+}

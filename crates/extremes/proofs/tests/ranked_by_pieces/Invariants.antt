@@ -1,0 +1,10 @@
+use Rattle.extremes.specs.Taken.{HasTakenSome}
+use Rattle.extremes.proofs.tests.ranked_by_pieces.Given as goal
+
+-- what was given stays what an intake was given
+abbrev pub invariant-loop-file : goal.invariant-loop-file
+invariant-loop-file g l = HasTakenSome l.intake
+
+-- so it does in a file
+abbrev pub invariant-loop-piece : goal.invariant-loop-piece
+invariant-loop-piece g l = HasTakenSome l.intake

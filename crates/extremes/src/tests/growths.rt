@@ -1,0 +1,107 @@
+//! Rankings and judgements of which `examples/grow` refuses one growth of memory after the other.
+//!
+//! A test prints `memory` where the call that it is about met the refusal, and `answered` where it
+//! answered what it has to.
+
+use super::*;
+
+const BEST: &[u8] = b"extremes report 1
+query top 1 highest TMAX
+1 ZZA00000001 2020-07-01 2020-07-01 31.1 C ALPHA
+end 1
+";
+
+const BEST_CERTIFICATE: &[u8] = b"extremes certificate 1
+query top 1 highest TMAX
+kth 311
+scan ZZA00000001 311
+scan ZZA00000002 311
+skip ZZA00000003 250
+end 3
+";
+
+const ALL: &[u8] = b"extremes report 1
+query top 10 highest TMAX
+1 ZZA00000001 2020-07-01 2020-07-01 31.1 C ALPHA
+2 ZZA00000002 2020-07-01 2020-07-01 31.1 C BRAVO
+3 ZZA00000001 2020-07-02 2020-07-02 30.5 C ALPHA
+4 ZZA00000003 2020-07-01 2020-07-01 25.0 C CHARLIE
+end 4 all
+";
+
+const ALL_CERTIFICATE: &[u8] = b"extremes certificate 1
+query top 10 highest TMAX
+kth none
+scan ZZA00000001 311
+scan ZZA00000002 311
+scan ZZA00000003 250
+end 3
+";
+
+/// Prints what a call met: papers or a verdict, which were compared before, or want of memory.
+fn print_met<R: Abort + Print>(rt: &R, fault: Option<Fault>) -> Result<(), Fail> {
+    match fault {
+        None => println!(rt; "answered")?,
+        Some(fault) => {
+            assert_eq!(rt; fault, Fault::Memory(Memory));
+            println!(rt; "memory")?;
+        }
+    }
+    Ok(())
+}
+
+#[test]
+fn a_ranking_by_four_workers(rt: HostRuntime) -> Result<(), Fail> {
+    let query = "top 1 highest TMAX";
+    let ranked = rank(&rt, STATIONS, &[DAILY], query, 4, None, &Open);
+    if let Ok(papers) = &ranked {
+        let (report, certificate) = (papers.report.as_slice(), papers.certificate.as_slice());
+        assert_eq!(rt; report, BEST);
+        let judged = judge(rt.alloc(), STATIONS, &[DAILY], query, report, certificate);
+        assert!(rt; matches!(judged, Ok(Verdict::Accepted) | Err(Fault::Memory(_))));
+    }
+    print_met(&rt, ranked.err())
+}
+
+/// Ranks on one thread under a guess that passes too much over.
+fn check_taken_back<R: Abort + Print + AllocGlobal>(
+    rt: &R,
+    query: &str,
+    guess: i64,
+    report: &[u8],
+    certificate: &[u8],
+) -> Result<(), Fail> {
+    let ranked = rank_serial(rt.alloc(), STATIONS, &[DAILY], query, Some(guess));
+    if let Ok(papers) = &ranked {
+        assert_eq!(rt; papers.report.as_slice(), report);
+        assert_eq!(rt; papers.certificate.as_slice(), certificate);
+    }
+    print_met(rt, ranked.err())
+}
+
+#[test]
+fn a_guess_above_every_value(rt: HostRuntime) -> Result<(), Fail> {
+    check_taken_back(&rt, "top 1 highest TMAX", 1000, BEST, BEST_CERTIFICATE)
+}
+
+#[test]
+fn a_guess_where_fewer_are_there_than_asked_for(rt: HostRuntime) -> Result<(), Fail> {
+    check_taken_back(&rt, "top 10 highest TMAX", 300, ALL, ALL_CERTIFICATE)
+}
+
+#[test]
+fn a_judgement_of_right_papers(rt: HostRuntime) -> Result<(), Fail> {
+    let query = "top 1 highest TMAX";
+    let judged = judge(
+        rt.alloc(),
+        STATIONS,
+        &[DAILY],
+        query,
+        BEST,
+        BEST_CERTIFICATE,
+    );
+    if let Ok(verdict) = &judged {
+        assert_eq!(rt; *verdict, Verdict::Accepted);
+    }
+    print_met(&rt, judged.err())
+}
