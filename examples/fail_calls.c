@@ -2,7 +2,8 @@
    FAIL_CALL   open, read or write; calls that write to standard error aren't meant
    FAIL_AT     the number of that call, from 1; 0 for each of them
    FAIL_HOW    fail: it ends with an error; one: it takes or gives one byte; signal: it is interrupted;
-               full: writes take this many bytes in all, and then there is no space; FAIL_AT is that number
+               full: writes take this many bytes in all, and then there is no space; FAIL_AT is that number;
+               most: each read gives at most FAIL_AT bytes
    FAIL_FILE   a file's name without its folder. FAIL_HOW cut: its reads end after FAIL_AT bytes;
                missing: it can't be opened
    FAIL_MARK   a file that is left where a call met this */
@@ -38,7 +39,7 @@ static int is_how(const char *how) {
 /* Counts a call of this name, and tells whether it is the one that is meant. */
 static int is_met(const char *call) {
     long at = atol(said("FAIL_AT"));
-    if (strcmp(said("FAIL_CALL"), call) || is_how("full") || is_how("cut"))
+    if (strcmp(said("FAIL_CALL"), call) || is_how("full") || is_how("cut") || is_how("most"))
         return 0;
     if (atomic_fetch_add(&calls, 1) + 1 != at && at != 0)
         return 0;
@@ -77,6 +78,8 @@ ssize_t read(int file, void *into, size_t size) {
         atomic_fetch_add(&bytes, taken > 0 ? taken : 0);
         return taken;
     }
+    if (is_how("most") && (long)size > atol(said("FAIL_AT")))
+        size = atol(said("FAIL_AT"));
     if (size > 0 && is_met("read")) {
         if (!is_how("one"))
             return -1;
