@@ -179,6 +179,33 @@ compares_equal a b p q = by (same_id a b) refl (is_eq (key_cmp (key_of a.0) (key
         ∙ ap (same_id a) (same_key a b p q (is_eq-key_cmp (key_of a.0) (key_of b.0) et)) ∙ is))
     by false is false et = et
 
+-- numbers are equal where they compare so
+equal_cmp : (n m : ℕ) → (n == m) ≡ is_eq (nat_cmp n m)
+equal_cmp n m = by (nat_cmp n m) refl
+  where
+    by : (o : Ordering) → nat_cmp n m ≡ o → (n == m) ≡ is_eq (nat_cmp n m)
+    by Less is = (let none : (n == m) ≡ false = grind (arith, nat_tests) in none) ∙ sym (ap is_eq is)
+    by Equal is = (let same : (n == m) ≡ true = grind (arith, nat_tests) in same) ∙ sym (ap is_eq is)
+    by Greater is = (let none : (n == m) ≡ false = grind (arith, nat_tests) in none) ∙ sym (ap is_eq is)
+
+-- two IDs are the same where both parts of their keys are
+pub equal_keys : (a b : StationId) (x y : ℕ × ℕ) → x ≡ key_of a.0 → y ≡ key_of b.0 → AreEleven a.0 → AreEleven b.0
+    → (x.0 == y.0 && x.1 == y.1) ≡ same_id a b
+equal_keys a b x y is_a is_b p q =
+    both x y ∙ ap (λ (k : ℕ × ℕ). is_eq (key_cmp k y)) is_a
+    ∙ ap (λ (k : ℕ × ℕ). is_eq (key_cmp (key_of a.0) k)) is_b ∙ compares_equal a b p q
+  where
+    by : (o p : Ordering) → (is_eq o && is_eq p) ≡ is_eq (ordering_then o p)
+    by Less p = refl
+    by Equal p = refl
+    by Greater p = refl
+
+    both : (x y : ℕ × ℕ) → (x.0 == y.0 && x.1 == y.1) ≡ is_eq (key_cmp x y)
+    both x y =
+        ap (λ (b : Bool). b && x.1 == y.1) (equal_cmp x.0 y.0)
+        ∙ ap (λ (b : Bool). is_eq (nat_cmp x.0 y.0) && b) (equal_cmp x.1 y.1)
+        ∙ by (nat_cmp x.0 y.0) (nat_cmp x.1 y.1)
+
 -- visible bytes are bytes
 visible_bytes : (bs : List ℕ) → list_all is_visible bs ≡ true → (i : ℕ) → get_or bs i 0 < 256
 visible_bytes [] all i = omega arith

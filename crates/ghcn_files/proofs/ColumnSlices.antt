@@ -1,6 +1,6 @@
 -- Columns of a line, and slices of it.
 use Rattle.std.proofs.Common.{◌≡◌, ℕ, zero, suc, ◌+◌, ◌-◌, ◌<◌, ◌≤◌, min, List, [], ◌∷◌, ◌++◌, length, take, drop}
-use Rattle.std.proofs.Common.{get_or, refl, sym, ap, ◌∙◌, arith, length-drop}
+use Rattle.std.proofs.Common.{get_or, refl, sym, ap, ◌∙◌, arith, length-drop, length-append}
 use Rattle.std.specs.Prelude.{replicate}
 use Rattle.std.proofs.lemmas.List.{take-append-le, drop-append-le, drop-replicate, take-replicate}
 use Rattle.ghcn_fields.specs.Lines.{columns}
@@ -77,3 +77,12 @@ columns-filled from n start count line low s e =
     ap (λ (k : ℕ). take k (drop (from - 1) (line ++ replicate to 32))) (omega arith)
     ∙ ap (take n) parts.2
     ∙ filled n parts.0 count (drop start line) parts.1 e
+
+-- columns of the front of a line
+pub columns-front : (from to i j : ℕ) (front behind : List ℕ) → from ≡ i + 1 → to ≡ j → i ≤ j → j ≤ length front
+    → columns from to (front ++ behind) ≡ columns from to front
+columns-front from to i j front behind first last order within =
+    columns-slice from to i j (front ++ behind) first last order (omega (arith, length-append front behind))
+    ∙ ap (take (j - i)) (drop-append-le i front behind (omega arith))
+    ∙ take-append-le (j - i) (drop i front) behind (omega (arith, length-drop i front))
+    ∙ sym (columns-slice from to i j front first last order within)

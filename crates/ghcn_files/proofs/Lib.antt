@@ -10,3 +10,4 @@ pub mod PrintedText
 pub mod Adding
 pub mod ReadLines
 pub mod Rows
+pub mod WholeLines

@@ -26,7 +26,7 @@ pub(crate) const UP_TO_ELEMENT: usize = 21;
 const LEAST_COLUMNS: usize = 266;
 
 /// The columns of a whole line.
-const COLUMNS: usize = 269;
+pub(crate) const COLUMNS: usize = 269;
 
 /// How many days a line has groups for.
 pub(crate) const DAYS: usize = 31;

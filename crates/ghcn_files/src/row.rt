@@ -1,13 +1,13 @@
 //! Months of daily values as rows: what one line of a daily file says, without what doesn't count.
 
 ghost use Rattle.std.specs.Prelude.{◌≡◌, ◌≤◌, ◌<◌, ◌+◌, ◌^◌, length, Some, None, IfOk, IfErr, false, ◌&&◌, not, nat_lt};
-ghost use Rattle.std.specs.Prelude.{if◌then◌else◌};
+ghost use Rattle.std.specs.Prelude.{if◌then◌else◌, ◌++◌, ◌-◌, replicate};
 ghost use Rattle.ghcn_files.specs.Elements.{least_of};
 ghost use Rattle.ghcn_files.specs.Months as months;
 ghost use Rattle.ghcn_files.specs.Rows as rows;
 
 use crate::missing::MISSING;
-use crate::month::{DAYS, UP_TO_ELEMENT, head_of, is_flagged, readings, value_column};
+use crate::month::{COLUMNS, DAYS, UP_TO_ELEMENT, head_of, is_flagged, readings, value_column};
 use crate::{Element, LineWhy, StationId};
 use ghcn_fields::{days_in_month, value_or};
 
@@ -75,10 +75,21 @@ fn days_of(element: Element, count: u8, line: &[u8]) -> Result<(u32, [i32; 32]),
     Ok(values_from(least_of(element), &values))
 }
 
-/// Whether a value of a line is bad, and the values in a month with so many days: no branch depends
-/// on one of them. `MISSING` stands for those that are missing, flagged, or of a day that the month lacks.
+/// Whether a value of a line is bad, and the values in a month with so many days. `MISSING` stands for
+/// those that are missing, flagged, or of a day that the month lacks.
 fn values_of(count: u8, line: &[u8]) -> (bool, [i32; 32])
     requires { 266 ≤ length line.now }
+    ensures fine { result.0 ≡ false → months.days_why line.now ≡ None }
+    ensures values { rows.AreValues count line.now result.1 }
+{
+    match line.first_chunk() {
+        Some(whole) => values_of_whole(count, whole),
+        None => values_of_whole(count, &with_blanks(line)),
+    }
+}
+
+/// The same of a line with all its columns: no branch depends on a value, and no place on its length.
+fn values_of_whole(count: u8, line: &[u8; COLUMNS]) -> (bool, [i32; 32])
     ensures fine { result.0 ≡ false → months.days_why line.now ≡ None }
     ensures values { rows.AreValues count line.now result.1 }
 {
@@ -90,6 +101,16 @@ fn values_of(count: u8, line: &[u8]) -> (bool, [i32; 32])
         values[day] = value_if(may_count(count, line, day), value, MISSING);
     }
     (any_is_bad, values)
+}
+
+/// A line with the blanks that its end leaves out.
+fn with_blanks(line: &[u8]) -> [u8; COLUMNS]
+    requires { length line.now < 269 }
+    ensures { result ≡ line.now ++ replicate (269 - length line.now) 32 }
+{
+    let mut whole = [b' '; COLUMNS];
+    whole[..line.len()].copy_from_slice(line);
+    whole
 }
 
 /// Whether a month of so many days has a day, from 0, whose quality flag is a blank.

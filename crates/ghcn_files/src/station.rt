@@ -11,12 +11,13 @@ ghost use Rattle.std.specs.Prelude.{map, if◌then◌else◌, IfOk, OnOk, IfErr}
 ghost use Rattle.std.specs.List.{list_all};
 ghost use Rattle.ghcn_fields.specs.Lines as lines;
 ghost use Rattle.ghcn_fields.specs.Numbers as numbers;
-ghost use Rattle.ghcn_files.specs.Ids.{is_id, is_visible};
+ghost use Rattle.ghcn_files.specs.Ids.{is_id, is_visible, same_id};
 ghost use Rattle.ghcn_files.specs.StationLines as stations;
 
 use crate::StationWhy;
 use crate::columns::columns;
 use crate::missing::{is_bad, unless_missing};
+use crate::stations::key;
 use ghcn_fields::{Field, scaled_field};
 
 /// The columns up to the longitude's last: what follows may be left out.
@@ -33,6 +34,15 @@ const MOST_EAST: i32 = 1_800_000;
 pub struct StationId(pub [u8; 11]);
 
 impl StationId {
+    /// Whether both have the same eleven bytes, by two comparisons.
+    pub fn is_same(&self, other: &Self) -> bool
+        ensures { result ≡ same_id self.now other.now }
+    {
+        let (front, back) = key(&self.0);
+        let (other_front, other_back) = key(&other.0);
+        front == other_front && back == other_back
+    }
+
     /// The ID that a line begins with, unless one of its bytes doesn't show in print.
     pub(crate) fn of_line(line: &[u8]) -> Option<Self>
         requires { 11 ≤ length line.now }

@@ -135,7 +135,7 @@ impl Stations {
 
 /// The eleven bytes of an ID as the numbers of the first eight and of the last four, which are
 /// compared in two steps.
-fn key(id: &[u8; 11]) -> (u64, u32)
+pub(crate) fn key(id: &[u8; 11]) -> (u64, u32)
     ensures key { result ≡ key_of id.now }
     ensures bytes { AreEleven id.now }
 {

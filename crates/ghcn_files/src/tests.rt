@@ -126,6 +126,21 @@ fn stations_by_id_and_by_place(rt: HostRuntime) -> Result<(), Fail> {
 }
 
 #[test]
+fn ids_that_are_the_same(rt: HostRuntime) {
+    let id = StationId(*b"ZZA00000001");
+    let cases: [(&[u8; 11], bool); 5] = [
+        (b"ZZA00000001", true),
+        (b"ZZA00000002", false),
+        (b"ZZA00001001", false),
+        (b"ZZA0000A001", false),
+        (b"YZA00000001", false),
+    ];
+    for (other, same) in cases {
+        assert_eq!(rt; id.is_same(&StationId(*other)), same, "{other:?}");
+    }
+}
+
+#[test]
 fn names_are_made_printable(rt: HostRuntime) -> Result<(), Fail> {
     let text = b"ZZA00000001  10.0000   20.0000        \xe9Y S\xc3\xa3o Paulo\t";
     let stations = Stations::read(rt.alloc(), text)?;
@@ -158,7 +173,8 @@ fn months(rt: HostRuntime) {
         flagged: false,
     };
     for (columns, last) in [(269, last), (268, last), (267, cut), (266, cut)] {
-        let found = read_month(&july[..columns]).map(|month| {
+        let line = &july[..columns];
+        let found = read_month(line).map(|month| {
             month.map(|it| (
                 it.id,
                 it.element,
@@ -172,6 +188,9 @@ fn months(rt: HostRuntime) {
         let id = StationId(*b"ZZA00000001");
         let expected = Ok(Some((id, Element::Tmax, 2020, 7, first, missing, last)));
         assert_eq!(rt; found, expected, "at {columns} columns");
+        let row = read_days(line).map(|row| row.map(|it| (it.word >> 30, it.values[30])));
+        let kept = if last.flagged { (0, 0) } else { (1, -15) };
+        assert_eq!(rt; row, Ok(Some(kept)), "the row at {columns} columns");
     }
 }
 

@@ -143,7 +143,7 @@ impl Reader {
         ensures { result ≡ place_of self.now.stations id.now }
     {
         match self.stations.at(self.last as u64) {
-            Some(station) if station.id == *id => Some(self.last),
+            Some(station) if station.id.is_same(id) => Some(self.last),
             _ => {
                 let place = self.stations.place(id)?;
                 Some(place as usize)
