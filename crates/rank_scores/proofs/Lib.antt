@@ -9,3 +9,4 @@ pub mod Exactly
 pub mod Examples
 pub mod QueryCandidates
 pub mod OneElement
+pub mod WindowRing

@@ -1,7 +1,6 @@
 -- A window with its sum, as days come and leave.
 use Rattle.std.proofs.Common.{◌≡◌, ◌↔◌, FitsSigned, w64, rules, ℕ, zero, suc, ◌+◌, ◌-◌, ◌<◌, ◌≤◌, Bool, true, false, cond, List, [], ◌∷◌, drop, Option, Some, None, refl, sym, ap, subst, ◌∙◌, arith, ℤ, pos, ◌+ℤ◌, ◌-ℤ◌, ◌≤ℤ◌, ◌<ℤ◌}
 use Rattle.std.specs.Prelude.{IsTrue}
-use Rattle.std.specs.Iterator.{YieldsFirst}
 use Rattle.std.specs.List.{AllByRecursion, cons_option, filter_map}
 use Rattle.std.specs.Option.{option_map}
 use Rattle.std.proofs.lemmas.Bool.Decides.{Decides-int_eq}
@@ -10,9 +9,9 @@ use Rattle.ghcn_files.specs.declared.station.StationId.{StationId}
 use Rattle.ghcn_series.specs.Series.{DayValue, Usable, IsSeries}
 use Rattle.rank_query.specs.Asked.{Asked}
 use Rattle.rank_scores.specs.declared.candidate.Candidate.{Candidate}
-use Rattle.rank_scores.specs.declared.window.Window.{Window}
 use Rattle.rank_scores.specs.Candidates.{Windows, plus, admitted, candidate, begun, candidates_among}
-use Rattle.rank_scores.specs.Windows.{gone_on, with_day, without_first, first_day, first_value}
+use Rattle.ghcn_fields.specs.Days.{is_day, day_if}
+use Rattle.rank_scores.proofs.Runs.{AreDays, admitted-days}
 use Rattle.rank_scores.proofs.Rising.{Rise, from_each, same_made, differ, admitted-rise}
 use Rattle.rank_scores.proofs.Totals.{leading, leading-split, leading-first, total-behind, total-leading, leading-small, IsSmall, admitted-small}
 
@@ -62,6 +61,40 @@ passed id n (suc len) a t (x ∷ xs) few rise e gap =
     (ap (leading len (a +ℤ pos 1)) (sym same) ∙ parts.4)
     (λ m some. ap (λ (d : ℤ). leading (suc m) d (drop len xs)) next ∙ gap m (omega arith))
 
+-- ---- a window by what it stands for
+
+-- the days from a window's first one on, how many of them are in it, and their total
+pub record Span : Type 0 where
+  pub leaving : List DayValue
+  pub len : ℕ
+  pub total : ℤ
+
+-- the window itself where it goes on, else one without a day behind its days
+abbrev pub gone_on : Bool → Span → Span
+gone_on true w = w
+gone_on false w = record { leaving = drop w.len w.leaving; len = 0; total = pos 0 }
+
+-- the window with one day more, which has this value
+abbrev pub with_day : Span → ℤ → Span
+with_day w v = record { leaving = w.leaving; len = w.len + 1; total = w.total +ℤ v }
+
+-- the first of some days
+abbrev pub first_day : List DayValue → Option ℤ
+first_day [] = None
+first_day (x ∷ xs) = Some x.0
+
+-- the value of the first of some days
+abbrev pub first_value : List DayValue → ℤ
+first_value [] = pos 0
+first_value (x ∷ xs) = x.1
+
+-- the window without its first day
+abbrev pub without_first : Span → Span
+without_first w = elim w.leaving [
+  | [] ↦ w
+  | x ∷ xs ↦ record { leaving = xs; len = w.len - 1; total = w.total -ℤ x.1 }
+]
+
 -- ---- one window
 
 -- the window's last day is the one before this
@@ -70,13 +103,14 @@ Ends None first len = len ≡ 0
 Ends (Some last) first len = last +ℤ pos 1 ≡ first +ℤ pos len
 
 -- the window has days one after another up to the last one that came, with their sum, and these days are to come
-pub record IsAt (w : Window) (last : Option ℤ) (rest : List DayValue) : Type 0 where
+pub record IsAt (w : Span) (last : Option ℤ) (rest : List DayValue) : Type 0 where
   pub first : ℤ
   pub sum : leading w.len first w.leaving ≡ Some w.total
   pub behind : drop w.len w.leaving ≡ rest
   pub ends : Ends last first w.len
   pub rise : Rise w.leaving
   pub small : AllByRecursion (λ x. IsSmall x.1) w.leaving
+  pub days : AreDays w.leaving
 
 -- at first the window has no day
 pub at_first : (q : Asked) (s : Usable) (all left : List DayValue) → IsSeries s → all ≡ admitted q s
@@ -88,10 +122,11 @@ at_first q s all left series is same = record {
   ends = refl;
   rise = subst Rise (sym is) (admitted-rise q s series);
   small = subst (AllByRecursion (λ x. IsSmall x.1)) (sym is) (admitted-small q s series);
+  days = subst AreDays (sym is) (admitted-days q s.days);
 }
 
 -- sums of so few small values fit 64 bits
-pub fits : (w : Window) (last : Option ℤ) (rest : List DayValue) → IsAt w last rest → w.len ≤ 65_535
+pub fits : (w : Span) (last : Option ℤ) (rest : List DayValue) → IsAt w last rest → w.len ≤ 65_535
     → FitsSigned w64 w.total
 fits w last rest at few =
     let both = leading-small w.len at.first w.total w.leaving at.small at.sum in
@@ -128,25 +163,8 @@ drop-more zero (x ∷ xs) ys y e = cc
 drop-more (suc len) [] ys y e = absurd cc
 drop-more (suc len) (x ∷ xs) ys y e = drop-more len xs ys y e
 
--- nothing is left behind all days
-drop-none : (len : ℕ) (xs : List DayValue) → drop len xs ≡ [] → drop (suc len) xs ≡ []
-drop-none zero [] e = refl
-drop-none zero (x ∷ xs) e = absurd cc
-drop-none (suc len) [] e = refl
-drop-none (suc len) (x ∷ xs) e = drop-none len xs e
-
--- a step of an iterator passes over one day more
-pub passed_one : (r : Option DayValue) (len : ℕ) (xs s t : List DayValue) → s ≡ drop len xs
-    → YieldsFirst (λ (l : List DayValue). l) s r t → t ≡ drop (len + 1) xs
-passed_one None len xs s t e steps =
-    let one : suc len ≡ len + 1 = omega arith in
-    steps.1 ∙ sym (drop-none len xs (sym e ∙ steps.0)) ∙ ap (λ (k : ℕ). drop k xs) one
-passed_one (Some y) len xs s t e steps =
-    let one : suc len ≡ len + 1 = omega arith in
-    sym (drop-more len xs t y (sym e ∙ steps)) ∙ ap (λ (k : ℕ). drop k xs) one
-
 -- the window with the day that comes next, where that day goes on with it
-pub joined : (w : Window) (last : Option ℤ) (y : DayValue) (ys : List DayValue) → IsAt w last (y ∷ ys)
+pub joined : (w : Span) (last : Option ℤ) (y : DayValue) (ys : List DayValue) → IsAt w last (y ∷ ys)
     → option_map (λ d. d +ℤ pos 1) last ≡ Some y.0 → IsAt (with_day w y.1) (Some y.0) ys
 joined w None y ys at next = absurd cc
 joined w (Some last) y ys at next =
@@ -160,10 +178,11 @@ joined w (Some last) y ys at next =
       ends = omega (arith, ints);
       rise = at.rise;
       small = at.small;
+      days = at.days;
     }
 
 -- the window of the next day alone
-pub alone : (w : Window) (last : Option ℤ) (y : DayValue) (ys : List DayValue) → IsAt w last (y ∷ ys)
+pub alone : (w : Span) (last : Option ℤ) (y : DayValue) (ys : List DayValue) → IsAt w last (y ∷ ys)
     → IsAt (with_day (gone_on false w) y.1) (Some y.0) ys
 alone w last y ys at = record {
   first = y.0;
@@ -172,16 +191,17 @@ alone w last y ys at = record {
   ends = refl;
   rise = rise-drop w.len w.leaving at.rise;
   small = all-drop (λ x. IsSmall x.1) w.len w.leaving at.small;
+  days = all-drop (λ x. is_day x.0 ≡ true) w.len w.leaving at.days;
 }
 
 -- the day that comes next is taken in
-pub taken_in : (w : Window) (last : Option ℤ) (y : DayValue) (ys : List DayValue) (b : Bool) → IsAt w last (y ∷ ys)
+pub taken_in : (w : Span) (last : Option ℤ) (y : DayValue) (ys : List DayValue) (b : Bool) → IsAt w last (y ∷ ys)
     → (IsTrue b ↔ (option_map (λ d. d +ℤ pos 1) last ≡ Some y.0)) → IsAt (with_day (gone_on b w) y.1) (Some y.0) ys
 taken_in w last y ys true at is = joined w last y ys at (is.0 refl)
 taken_in w last y ys false at is = alone w last y ys at
 
 -- no window begins on a day that left before a new one was begun
-pub none_lost : (id : StationId) (n : ℕ) (w : Window) (last : Option ℤ) (y : DayValue) (ys : List DayValue) (b : Bool)
+pub none_lost : (id : StationId) (n : ℕ) (w : Span) (last : Option ℤ) (y : DayValue) (ys : List DayValue) (b : Bool)
     → IsAt w last (y ∷ ys) → w.len < n → (IsTrue b ↔ (option_map (λ d. d +ℤ pos 1) last ≡ Some y.0))
     → windows id n w.leaving ≡ windows id n (gone_on b w).leaving
 none_lost id n w last y ys true at few is = refl
@@ -197,14 +217,14 @@ none_lost id n w last y ys false at few is =
     joins (Some d) ends some on = let next : d +ℤ pos 1 ≡ y.0 = omega (arith, ints) in ap (λ (z : ℤ). Some z) next
 
 -- where no day is to come, no window begins on the days that are left
-pub none_left : (id : StationId) (n : ℕ) (w : Window) (last : Option ℤ) → IsAt w last [] → w.len < n
+pub none_left : (id : StationId) (n : ℕ) (w : Span) (last : Option ℤ) → IsAt w last [] → w.len < n
     → windows id n w.leaving ≡ []
 none_left id n w last at few =
     passed id n w.len at.first w.total w.leaving few at.rise at.sum
     (λ m some. ap (leading (suc m) (at.first +ℤ pos w.len)) at.behind) ∙ ap (windows id n) at.behind
 
 -- a window with a day has a first one, and what is true of it, what begins with it and what it leaves
-pub record HasFirst (w : Window) (d : ℤ) (rest : List DayValue) : Type 0 where
+pub record HasFirst (w : Span) (d : ℤ) (rest : List DayValue) : Type 0 where
   pub first : DayValue
   pub left : List DayValue
   pub is : w.leaving ≡ first ∷ left
@@ -214,7 +234,7 @@ pub record HasFirst (w : Window) (d : ℤ) (rest : List DayValue) : Type 0 where
   pub at : IsAt (without_first w) (Some d) rest
 
 -- a window with a day has a first one
-pub has_first : (w : Window) (d : ℤ) (rest : List DayValue) → IsAt w (Some d) rest → 0 < w.len → HasFirst w d rest
+pub has_first : (w : Span) (d : ℤ) (rest : List DayValue) → IsAt w (Some d) rest → 0 < w.len → HasFirst w d rest
 has_first w d rest at some = of w.leaving w.len w.total at some
   where
     of : (l : List DayValue) (len : ℕ) (t : ℤ) → IsAt record { leaving = l; len = len; total = t } (Some d) rest
@@ -244,11 +264,12 @@ has_first w d rest at some = of w.leaving w.len w.total at some
             ends = omega (arith, ints);
             rise = at.rise.1;
             small = at.small.1;
+            days = at.days.1;
           };
         }
 
 -- a whole window is the one that begins on its first day
-whole : (id : StationId) (n : ℕ) (w : Window) (d : ℤ) (rest : List DayValue) (h : HasFirst w d rest) → Rise w.leaving
+whole : (id : StationId) (n : ℕ) (w : Span) (d : ℤ) (rest : List DayValue) (h : HasFirst w d rest) → Rise w.leaving
     → w.len ≡ n
     → windows id n w.leaving ≡ candidate id h.first.0 (d, w.total) ∷ windows id n (without_first w).leaving
 whole id n w d rest h rise is =
@@ -260,30 +281,30 @@ whole id n w d rest h rise is =
     ∙ windows-first id n h.first h.left (subst Rise h.is rise)
     ∙ ap (λ (o : Option ℤ). cons_option (window_on id n h.first.0 o) (windows id n h.left)) found
     ∙ ap (λ (z : ℤ). candidate id h.first.0 (z, w.total) ∷ windows id n h.left) last
-    ∙ ap (λ (v : Window). candidate id h.first.0 (d, w.total) ∷ windows id n v.leaving) (sym h.leaves)
+    ∙ ap (λ (v : Span). candidate id h.first.0 (d, w.total) ∷ windows id n v.leaving) (sym h.leaves)
 
 -- ---- a step of the scan
 
 -- the window v is what became of w once the day d came: it has that day, and the same windows begin on its days
-pub record Came (id : StationId) (n : ℕ) (w v : Window) (d : ℤ) (rest : List DayValue) : Type 0 where
+pub record Came (id : StationId) (n : ℕ) (w v : Span) (d : ℤ) (rest : List DayValue) : Type 0 where
   pub at : IsAt v (Some d) rest
   pub some : 0 < v.len
   pub few : v.len ≤ n
   pub same : windows id n v.leaving ≡ windows id n w.leaving
 
 -- a window that is begun anew has fewer days
-gone_on-len : (b : Bool) (w : Window) → (gone_on b w).len ≤ w.len
+pub gone_on-len : (b : Bool) (w : Span) → (gone_on b w).len ≤ w.len
 gone_on-len true w = omega arith
 gone_on-len false w = omega arith
 
 -- so it is once the next day is taken in
-pub came : {n : ℕ} {w v : Window} {last : Option ℤ} {rest ys : List DayValue} {y : DayValue} {b : Bool} (id : StationId)
+pub came : {n : ℕ} {w v : Span} {last : Option ℤ} {rest ys : List DayValue} {y : DayValue} {b : Bool} (id : StationId)
     → IsAt w last rest → w.len < n → rest ≡ y ∷ ys → (IsTrue b ↔ (option_map (λ d. d +ℤ pos 1) last ≡ Some y.0))
     → v ≡ with_day (gone_on b w) y.1 → Came id n w v y.0 ys
 came {n} {w} {v} {last} {rest} {ys} {y} {b} id at few step is then =
     let here = subst (IsAt w last) step at in
     let less = gone_on-len b w in
-    subst (λ (u : Window). Came id n w u y.0 ys) (sym then) record {
+    subst (λ (u : Span). Came id n w u y.0 ys) (sym then) record {
       at = taken_in w last y ys b here is;
       some = omega arith;
       few = omega arith;
@@ -291,25 +312,25 @@ came {n} {w} {v} {last} {rest} {ys} {y} {b} id at few step is then =
     }
 
 -- a day that is found is the one that was
-same_day : (a b : ℤ) → ◌≡◌ {A = Option ℤ} (Some a) (Some b) → a ≡ b
+pub same_day : (a b : ℤ) → ◌≡◌ {A = Option ℤ} (Some a) (Some b) → a ≡ b
 same_day a b e = cc
 
 -- the window u is what became of v once its first day left: the whole window v was offered
-pub record Left (id : StationId) (n : ℕ) (v u : Window) (d : ℤ) (rest : List DayValue) (c : Candidate) : Type 0 where
+pub record Left (id : StationId) (n : ℕ) (v u : Span) (d : ℤ) (rest : List DayValue) (c : Candidate) : Type 0 where
   pub at : IsAt u (Some d) rest
   pub few : u.len < n
   pub offered : windows id n v.leaving ≡ c ∷ windows id n u.leaving
 
 -- so it is for a whole window
-pub leaves : {id : StationId} {n : ℕ} {w v u : Window} {d first : ℤ} {rest : List DayValue} → Came id n w v d rest
+pub leaves : {id : StationId} {n : ℕ} {w v u : Span} {d first : ℤ} {rest : List DayValue} → Came id n w v d rest
     → v.len ≡ n → first_day v.leaving ≡ Some first → u ≡ without_first v
     → Left id n v u d rest (candidate id first (d, v.total))
 leaves {id} {n} {w} {v} {u} {d} {first} {rest} c is begins then =
     let h = has_first v d rest c.at c.some in
     let same = same_day h.first.0 first (sym (ap first_day h.is) ∙ begins) in
     let some = c.some in
-    let len : (without_first v).len ≡ v.len - 1 = ap (λ (x : Window). x.len) h.leaves in
-    subst (λ (x : Window). Left id n v x d rest (candidate id first (d, v.total))) (sym then) record {
+    let len : (without_first v).len ≡ v.len - 1 = ap (λ (x : Span). x.len) h.leaves in
+    subst (λ (x : Span). Left id n v x d rest (candidate id first (d, v.total))) (sym then) record {
       at = h.at;
       few = omega arith;
       offered = whole id n v d rest h c.at.rise is
@@ -317,19 +338,31 @@ leaves {id} {n} {w} {v} {u} {d} {first} {rest} c is begins then =
     }
 
 -- a window with a day has a first one
-pub none-not : {id : StationId} {n : ℕ} {w v : Window} {d : ℤ} {rest : List DayValue} → Came id n w v d rest
+pub none-not : {id : StationId} {n : ℕ} {w v : Span} {d : ℤ} {rest : List DayValue} → Came id n w v d rest
     → first_day v.leaving ≡ None → ⊥
 none-not {id} {n} {w} {v} {d} {rest} c e =
     let begins = sym e ∙ ap first_day (has_first v d rest c.at c.some).is in absurd cc
 
+-- the first day of a whole window is so many days before the one behind its last
+pub begins : {id : StationId} {n : ℕ} {w v : Span} {d : ℤ} {rest : List DayValue} → Came id n w v d rest → v.len ≡ n
+    → (first_day v.leaving ≡ Some (d +ℤ pos 1 -ℤ pos n)) × (day_if (d +ℤ pos 1 -ℤ pos n) ≡ Some (d +ℤ pos 1 -ℤ pos n))
+begins {id} {n} {w} {v} {d} {rest} c is =
+    let h = has_first v d rest c.at c.some in
+    let on : d +ℤ pos 1 ≡ h.first.0 +ℤ pos v.len = h.on in
+    let first : h.first.0 ≡ d +ℤ pos 1 -ℤ pos n = omega (arith, ints) in
+    let days : AreDays (h.first ∷ h.left) = subst AreDays h.is c.at.days in (
+      ap first_day h.is ∙ ap (λ (z : ℤ). Some z) first,
+      ap (λ (b : Bool). cond b (Some (d +ℤ pos 1 -ℤ pos n)) None) (ap is_day (sym first) ∙ days.0),
+    )
+
 -- the sum without the first day fits
-pub fits-without : {id : StationId} {n : ℕ} {w v : Window} {d : ℤ} {rest : List DayValue} → Came id n w v d rest
+pub fits-without : {id : StationId} {n : ℕ} {w v : Span} {d : ℤ} {rest : List DayValue} → Came id n w v d rest
     → n ≤ 65_535 → FitsSigned w64 (v.total -ℤ first_value v.leaving)
 fits-without {id} {n} {w} {v} {d} {rest} c few =
     let h = has_first v d rest c.at c.some in
     let some = c.some in
     let most = c.few in
-    let len : (without_first v).len ≡ v.len - 1 = ap (λ (x : Window). x.len) h.leaves in
+    let len : (without_first v).len ≡ v.len - 1 = ap (λ (x : Span). x.len) h.leaves in
     let total : (without_first v).total ≡ v.total -ℤ first_value v.leaving =
-    ap (λ (x : Window). x.total) h.leaves ∙ sym (ap (λ (l : List DayValue). v.total -ℤ first_value l) h.is) in
+    ap (λ (x : Span). x.total) h.leaves ∙ sym (ap (λ (l : List DayValue). v.total -ℤ first_value l) h.is) in
     subst (λ (z : ℤ). FitsSigned w64 z) total (fits (without_first v) (Some d) rest h.at (omega arith))

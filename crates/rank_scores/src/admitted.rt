@@ -1,6 +1,6 @@
 //! The days of a series that a query admits, one after another.
 
-ghost use Rattle.std.specs.Prelude.{◌≡◌, ◌↔◌, IsTrue, drop, pos, ◌+ℤ◌};
+ghost use Rattle.std.specs.Prelude.{◌≡◌, ◌↔◌, IsTrue, pos, ◌+ℤ◌};
 ghost use Rattle.std.specs.Iterator.{YieldsFirst};
 ghost use Rattle.std.specs.Option.{option_map};
 ghost use Rattle.ghcn_series.specs.Series.{IsSeries};
@@ -66,16 +66,6 @@ fn next_admitted(days: &mut Days, query: &Query) -> Option<(Day, i32)>
         }
     }
     None
-}
-
-/// Passes over so many days, or over all that are left.
-#[inline(always)]
-pub(crate) fn pass_over(days: &mut Admitted, count: u16)
-    ensures { days.new ≡ drop count days.old }
-{
-    for _ in 0..count {
-        days.next();
-    }
 }
 
 /// Whether there is a last day, and a day is the one behind it.
