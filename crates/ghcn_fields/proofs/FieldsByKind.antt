@@ -43,7 +43,7 @@ kind-precedes : (b c : ℕ) → kind_may_precede (kind_of b) (kind_of c) ≡ may
 kind-precedes b c = rw (kind-blank b, kind-digit b, kind-minus b, kind-digit c) refl
 
 -- what a form is, by its parts
-abbrev form : Bool → Bool → Bool → Form
+abbrev pub form : Bool → Bool → Bool → Form
 form number negative blank =
     if number then (if negative then Negative else Plain) else (if blank then Blanks else Malformed)
 

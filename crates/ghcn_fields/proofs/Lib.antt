@@ -13,3 +13,4 @@ pub mod Examples
 pub mod FieldsByForm
 pub mod FieldsByKind
 pub mod Ordered
+pub mod FieldLanes

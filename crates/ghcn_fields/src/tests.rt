@@ -143,6 +143,28 @@ fn value_columns(rt: HostRuntime) {
 }
 
 #[test]
+fn fields_side_by_side(rt: HostRuntime) {
+    let cases: [(&[u8; 16], bool); 13] = [
+        (b"                ", false),
+        (b"  311   -9999   ", false),
+        (b"        00311  S", false),
+        (b"-9999GXW99999123", false),
+        (b"   -0 1    -7  2", false),
+        (b"    -       0   ", true),
+        (b"    -1      0   ", true),
+        (b"    0       -1  ", true),
+        (b"  +31       0   ", true),
+        (b"    0   1 311   ", true),
+        (b"    0   311     ", true),
+        (b"- 311       0   ", true),
+        (b"   \xb21       0   ", true),
+    ];
+    for (columns, bad) in cases {
+        assert_eq!(rt; has_bad_field(columns), bad, "at {columns:?}");
+    }
+}
+
+#[test]
 fn decimal_number_fields(rt: HostRuntime) {
     let cases: [(&[u8], u8, Field); 14] = [
         (b"        ", 4, Field::Blank),

@@ -1,9 +1,11 @@
 -- The days of a line, as they are read one after the other.
-use Rattle.std.proofs.Common.{◌≡◌, ℕ, suc, ◌+◌, Bool, true, false, cond, List, map, Option, Some, None, refl, sym, ap}
-use Rattle.std.proofs.Common.{◌∙◌}
+use Rattle.std.proofs.Common.{◌≡◌, ℕ, suc, ◌+◌, ◌*◌, Bool, true, false, cond, List, map, Option, Some, None, refl, sym, ap}
+use Rattle.std.proofs.Common.{◌∙◌, arith}
 use Rattle.std.specs.Prelude.{not, ◌||◌, ℤ, if◌then◌else◌}
 use Rattle.std.specs.List.{range_with_len}
 use Rattle.ghcn_fields.specs.declared.field.Field.{Field}
+use Rattle.ghcn_fields.specs.Lines.{columns}
+use Rattle.ghcn_fields.specs.Numbers.{int_field}
 use Rattle.ghcn_fields.specs.Faults.{first_failing}
 use Rattle.ghcn_files.specs.declared.month.Reading.{Reading}
 use Rattle.ghcn_files.specs.declared.fault.LineWhy.{LineWhy}
@@ -99,3 +101,13 @@ passes-fine line a m n e fine =
 pub neither : (x y : Bool) → (x || y) ≡ false → (x ≡ false) × (y ≡ false)
 neither false y e = (refl, e)
 neither true y e = absurd cc
+
+-- the tests of two days are passed where neither's value is bad
+pub two-fine : (line : List ℕ) (a m n : ℕ) (first second : List ℕ) → m ≡ suc (suc n)
+    → first ≡ columns (14 + 8 * a) (18 + 8 * a) line → second ≡ columns (14 + 8 * (a + 1)) (18 + 8 * (a + 1)) line
+    → (is_bad (int_field first) || is_bad (int_field second)) ≡ false → tests_from line a m ≡ tests_from line (a + 2) n
+two-fine line a m n first second e one two fine =
+    let parts = neither (is_bad (int_field first)) (is_bad (int_field second)) fine in
+    passes-fine line a m (suc n) e (ap (λ (bytes : List ℕ). is_bad (int_field bytes)) (sym one) ∙ parts.0)
+    ∙ passes-fine line (a + 1) (suc n) n refl (ap (λ (bytes : List ℕ). is_bad (int_field bytes)) (sym two) ∙ parts.1)
+    ∙ ap (λ (k : ℕ). tests_from line k n) (omega arith)

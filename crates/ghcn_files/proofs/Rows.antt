@@ -1,15 +1,15 @@
 -- A row, a day at a time.
 use Rattle.std.proofs.Common.{◌≡◌, ℕ, zero, suc, ◌+◌, ◌<◌, ◌≤◌, ◌^◌, Bool, true, false, cond, List, length}
 use Rattle.std.proofs.Common.{get_or, set, Option, Some, None, inl, inr, refl, sym, ap, subst, ◌∙◌, arith, ℤ, pos}
-use Rattle.std.proofs.Common.{replicate}
+use Rattle.std.proofs.Common.{replicate, min}
 use Rattle.std.specs.Prelude.{◌==◌, ◌&&◌, ◌||◌, not, bit_or, neg_ℤ, int_le, nat_lt, if◌then◌else◌}
 use Rattle.std.specs.Option.{option_and_then, option_map_or}
 use Rattle.std.specs.Ordering.{int_eq}
 use Rattle.std.specs.Int.Bits.{or_zero_r}
 use Rattle.std.specs.Int.{bit_at}
 use Rattle.std.proofs.Math.Pow.{pow-lt}
-use Rattle.std.proofs.lemmas.Bool.{cases_lt, cases_eq, and_parts}
-use Rattle.std.proofs.lemmas.Bool.Decides.{Decides-int_eq}
+use Rattle.std.proofs.lemmas.Bool.{cases_lt, cases_eq, and_parts, eqb-false}
+use Rattle.std.proofs.lemmas.Bool.Decides.{Decides-int_eq, nat_tests}
 use Rattle.std.proofs.lemmas.List.{get_or-set_same, get_or-set_other, get_or_past, length-set}
 use Rattle.std.proofs.lemmas.List.FromFn.{get_or-map-range_with_len}
 use Rattle.std.proofs.lemmas.Nat.{or_lt}
@@ -24,7 +24,7 @@ use Rattle.ghcn_files.specs.Elements.{may_be_negative, least_of}
 use Rattle.ghcn_files.specs.StationLines.{unless_missing}
 use Rattle.ghcn_files.specs.Months.{reading, value_field, is_flagged, is_readable, days_of_group, head_of, month_of}
 use Rattle.ghcn_files.specs.Rows.{if_so, if_possible, value_at, no_reading, value_within, line_value, AreDays, IsRowOf}
-use Rattle.ghcn_files.specs.Rows.{AreValues, value_from}
+use Rattle.ghcn_files.specs.Rows.{AreValues, value_from, if_kept}
 use Rattle.ghcn_files.proofs.Ranges.{reading-right}
 
 -- a word and values have what the first so many of some days have
@@ -64,7 +64,7 @@ module _ (day : ℕ → Option ℤ) (i w : ℕ) (vs : List ℤ) (is : HasFirst d
   bit-here = omega (arith, bit_at_or w (2 ^ i) i, bit_at-pow_same i, bit_at-lt w i)
 
   -- a day that counts is set
-  pub first-set : (v : ℤ) → day i ≡ Some v → i < 31 → HasFirst day (i + 1) (bit_or w (2 ^ i)) (set vs i v)
+  pub first-set : (v : ℤ) → day i ≡ Some v → i < 32 → HasFirst day (i + 1) (bit_or w (2 ^ i)) (set vs i v)
   first-set v some lt = record {
     fits =
         let more = pow-lt {i = i} {j = i + 1} (omega arith) in
@@ -109,7 +109,7 @@ module _ (day : ℕ → Option ℤ) (i w : ℕ) (vs : List ℤ) (is : HasFirst d
 
 -- a day is set where it counts, and else cleared
 pub first-step : (day : ℕ → Option ℤ) (i w : ℕ) (vs : List ℤ) (t : Bool) (v : ℤ) → HasFirst day i w vs
-    → day i ≡ if_so t v → i < 31
+    → day i ≡ if_so t v → i < 32
     → HasFirst day (i + 1) (bit_or w (if t then 2 ^ i else 0)) (set vs i (if t then v else pos 0))
 first-step day i w vs true v is some lt = first-set day i w vs is v some lt
 first-step day i w vs false v is none lt =
@@ -132,16 +132,38 @@ first-none day = record {
   zeros = λ j none. zero_at 32 j;
 }
 
--- all days are those of a row
-pub all-are : (day : ℕ → Option ℤ) (i w : ℕ) (vs : List ℤ) → i ≡ 31 → HasFirst day i w vs → AreDays day w vs
-all-are day i w vs e is =
-    let all : HasFirst day 31 w vs = subst (λ (k : ℕ). HasFirst day k w vs) e is in
-    record { fits = all.fits; holds = all.holds; zeros = all.zeros }
+-- no day is kept
+pub no-days : AreDays (λ j. None) 0 (replicate 32 (pos 0))
+no-days = record {
+  fits = omega arith;
+  holds = λ j lt. absent_value 0 (replicate 32 (pos 0)) j (bit_at-zero j);
+  zeros = λ j none. zero_at 32 j;
+}
+
+-- a bit that has a value is set
+set_bit : (t : Bool) (v : ℤ) → if_so t v ≡ None → t ≡ false
+set_bit true v e = absurd cc
+set_bit false v e = refl
+
+-- all days are those of a row, where the place behind them has none
+pub all-are : (day some : ℕ → Option ℤ) (i w : ℕ) (vs : List ℤ) → i ≡ 32 → some 31 ≡ None
+    → ((j : ℕ) → j < 31 → some j ≡ day j) → HasFirst some i w vs → AreDays day w vs
+all-are day some i w vs e none same is =
+    let all : HasFirst some 32 w vs = subst (λ (k : ℕ). HasFirst some k w vs) e is in
+    let unset : (bit_at w 31 == 1) ≡ false =
+    set_bit (bit_at w 31 == 1) (get_or vs 31 (pos 0)) (all.holds 31 (omega arith) ∙ none) in
+    let clear : bit_at w 31 ≡ 1 → ⊥ = eqb-false (bit_at w 31) 1 unset in
+    record {
+      fits = let below = all.fits in omega (arith, bit_at-lt w 31, clear);
+      holds = λ j lt. all.holds j (omega (arith, lt)) ∙ same j lt;
+      zeros = all.zeros;
+    }
 
 -- the row of a line is that of its month
-pub line-row : (element : Element) (line : List ℕ) (head : Head) (count w : ℕ) (vs : List ℤ) → head ≡ head_of line
-    → count ≡ days_in_month (pos head.year) head.month → AreDays (line_value element count line) w vs
-    → IsRowOf (month_of element line) (record {
+pub line-row : (kept : Bool) (element : Element) (line : List ℕ) (head : Head) (count w : ℕ) (vs : List ℤ) → head ≡ head_of line
+    → count ≡ days_in_month (pos head.year) head.month
+    → AreDays (λ j. if_kept kept (line_value element count line j)) w vs
+    → IsRowOf kept (month_of element line) (record {
       id = head.id;
       element = element;
       year = head.year;
@@ -150,7 +172,7 @@ pub line-row : (element : Element) (line : List ℕ) (head : Head) (count w : �
       values = vs;
     })
 unfolding days_of_group
-line-row element line head count w vs is many days = record {
+line-row kept element line head count w vs is many days = record {
   id = ap (λ (h : Head). h.id) is;
   element = refl;
   year = ap (λ (h : Head). h.year) is;
@@ -161,9 +183,9 @@ line-row element line head count w vs is many days = record {
         let same : count ≡ days_in_month (pos (head_of line).year) (head_of line).month =
         many ∙ ap (λ (h : Head). days_in_month (pos h.year) h.month) is in
         days.holds j lt
-        ∙ ap (value_within count element j)
+        ∙ ap (if_kept kept) (ap (value_within count element j)
         (sym (get_or-map-range_with_len (reading line) 1 31 j (j + 1) no_reading lt (omega arith)))
-        ∙ ap (λ (n : ℕ). value_within n element j (get_or (month_of element line).days j no_reading)) same;
+        ∙ ap (λ (n : ℕ). value_within n element j (get_or (month_of element line).days j no_reading)) same);
     zeros = days.zeros;
   };
 }
@@ -191,23 +213,40 @@ from_least e z false same fine = by_sign (may_be_negative e)
     by_sign true = ap (λ (t : Bool). if_so t z) (and_parts _ _ fine).0
     by_sign false = refl
 
+-- nothing and another fact isn't so
+and_false : (t : Bool) → (t && false) ≡ false
+and_false true = refl
+and_false false = refl
+
+-- of a day that a month has, the value decides
+within_month : (e : Element) (value : ℤ)
+    → if_so (int_le (least_of e) value && true) value ≡ if_so (int_le (least_of e) value) value
+within_month e value = by (int_le (least_of e) value)
+  where
+    by : (t : Bool) → if_so (t && true) value ≡ if_so t value
+    by true = refl
+    by false = refl
+
 -- so is the field of a day that counts, and no other
 by_parts : (e : Element) (within flagged : Bool) (f : Field) (value : ℤ)
     → option_map_or is_readable (unless_missing f) true ≡ true
-    → value ≡ cond (within && not flagged) (number_or (neg_ℤ (pos 9999)) f) (neg_ℤ (pos 9999))
-    → if_so (int_le (least_of e) value) value
+    → value ≡ cond (not flagged) (number_or (neg_ℤ (pos 9999)) f) (neg_ℤ (pos 9999))
+    → if_so (int_le (least_of e) value && within) value
     ≡ cond within (cond flagged None (option_and_then (if_possible e) (unless_missing f))) None
-by_parts e false flagged f value fine is = ap (λ (x : ℤ). if_so (int_le (least_of e) x) x) is ∙ below_least e
-by_parts e true true f value fine is = ap (λ (x : ℤ). if_so (int_le (least_of e) x) x) is ∙ below_least e
-by_parts e true false Blank value fine is = ap (λ (x : ℤ). if_so (int_le (least_of e) x) x) is ∙ below_least e
-by_parts e true false Bad value fine is = ap (λ (x : ℤ). if_so (int_le (least_of e) x) x) is ∙ below_least e
+by_parts e false flagged f value fine is = ap (λ (t : Bool). if_so t value) (and_false (int_le (least_of e) value))
+by_parts e true true f value fine is =
+    within_month e value ∙ ap (λ (x : ℤ). if_so (int_le (least_of e) x) x) is ∙ below_least e
+by_parts e true false Blank value fine is =
+    within_month e value ∙ ap (λ (x : ℤ). if_so (int_le (least_of e) x) x) is ∙ below_least e
+by_parts e true false Bad value fine is =
+    within_month e value ∙ ap (λ (x : ℤ). if_so (int_le (least_of e) x) x) is ∙ below_least e
 by_parts e true false (Number z) value fine is =
-    ap (λ (x : ℤ). if_so (int_le (least_of e) x) x) is
+    within_month e value ∙ ap (λ (x : ℤ). if_so (int_le (least_of e) x) x) is
     ∙ from_least e z (int_eq z (neg_ℤ (pos 9999))) refl fine
 
 -- the values of a line from the least on are those that count
 pub line-days : (e : Element) (count : ℕ) (line : List ℕ) (raw : List ℤ) (w : ℕ) (vs : List ℤ)
-    → AreValues count line raw → AreDays (value_from (least_of e) raw) w vs → AreDays (line_value e count line) w vs
+    → AreValues line raw → AreDays (value_from (least_of e) count raw) w vs → AreDays (line_value e count line) w vs
 line-days e count line raw w vs are days = record {
   fits = days.fits;
   holds = λ j lt. days.holds j lt
@@ -215,3 +254,22 @@ line-days e count line raw w vs are days = record {
       (reading-right line (j + 1)) (are j lt);
   zeros = days.zeros;
 }
+
+-- the days of a month are those of its first 31 places
+days_within : (j count days : ℕ) → days ≡ min count 31 → j < 31 → nat_lt j days ≡ nat_lt j count
+days_within j count days e lt = grind (arith, nat_tests)
+
+-- a place that no month has, has no value
+pub no_32nd : (least : ℤ) (days : ℕ) (raw : List ℤ) → days ≤ 31 → value_from least days raw 31 ≡ None
+no_32nd least days raw few =
+    let value : ℤ = get_or raw 31 (pos 0) in
+    let past : nat_lt 31 days ≡ false = grind (arith, nat_tests) in
+    ap (λ (t : Bool). if_so (int_le least value && t) value) past
+    ∙ ap (λ (t : Bool). if_so t value) (and_false (int_le least value))
+
+-- the values at the places of a month's days are those at its first 31 places
+pub within_31 : (least : ℤ) (count days : ℕ) (raw : List ℤ) → days ≡ min count 31 → (j : ℕ) → j < 31
+    → value_from least days raw j ≡ value_from least count raw j
+within_31 least count days raw e j lt =
+    ap (λ (t : Bool). if_so (int_le least (get_or raw j (pos 0)) && t) (get_or raw j (pos 0)))
+    (days_within j count days e lt)

@@ -2,7 +2,7 @@
 -- blanks out.
 use Rattle.std.proofs.Common.{◌≡◌, ℕ, zero, suc, ◌+◌, ◌*◌, ◌≤◌, Bool, cond, List, [], ◌∷◌, ◌++◌, length, take, drop}
 use Rattle.std.proofs.Common.{get_or, Option, Some, refl, sym, ap, subst, ◌∙◌, arith, ℤ, pos}
-use Rattle.std.specs.Prelude.{◌&&◌, not, nat_lt, neg_ℤ, replicate}
+use Rattle.std.specs.Prelude.{not, neg_ℤ, replicate}
 use Rattle.std.proofs.lemmas.List.{take-append-drop, length-take-le}
 use Rattle.ghcn_fields.specs.Bytes.{is_blank}
 use Rattle.ghcn_fields.specs.Lines.{columns}
@@ -72,12 +72,12 @@ same-why whole line same =
     all_tests whole ∙ same-tests_from whole line same 1 31 (omega arith) (omega arith) ∙ sym (all_tests line)
 
 -- and so are the values
-pub same-values : (count : ℕ) (whole line : List ℕ) (values : List ℤ) → SaysSame whole line
-    → AreValues count whole values → AreValues count line values
-same-values count whole line values same are = λ j lt.
+pub same-values : (whole line : List ℕ) (values : List ℤ) → SaysSame whole line
+    → AreValues whole values → AreValues line values
+same-values whole line values same are = λ j lt.
     are j lt
-    ∙ ap (λ (b : Bool). cond (nat_lt j count && not b) (number_or (neg_ℤ (pos 9999)) (value_field whole (j + 1)))
+    ∙ ap (λ (b : Bool). cond (not b) (number_or (neg_ℤ (pos 9999)) (value_field whole (j + 1)))
     (neg_ℤ (pos 9999))) (same.flag (j + 1) (omega arith) (omega arith))
-    ∙ ap (λ (bytes : List ℕ). cond (nat_lt j count && not (is_flagged line (j + 1)))
+    ∙ ap (λ (bytes : List ℕ). cond (not (is_flagged line (j + 1)))
     (number_or (neg_ℤ (pos 9999)) (int_field bytes)) (neg_ℤ (pos 9999)))
     (same.value (j + 1) (omega arith) (omega arith))

@@ -1,5 +1,5 @@
 -- The five elements and their codes.
-use Rattle.std.specs.Prelude.{ℕ, Bool, true, false, ◌==◌, List, [], ◌∷◌, codes, Option, ℤ, pos, neg_ℤ, if◌then◌else◌}
+use Rattle.std.specs.Prelude.{ℕ, Bool, true, false, ◌==◌, List, [], ◌∷◌, codes, Option, None, Some, ℤ, pos, neg_ℤ, if◌then◌else◌}
 use Rattle.std.specs.List.{find}
 use Rattle.ghcn_fields.specs.Bytes.{same_bytes}
 use Rattle.ghcn_files.specs.declared.element.Element.{Element}
@@ -28,6 +28,11 @@ element_index Tmin = 4
 -- two elements are the same
 abbrev pub same_element : Element → Element → Bool
 same_element a b = element_index a == element_index b
+
+-- the values of an element are kept: it is the one that is asked for, or none is
+abbrev pub is_kept : Option Element → Element → Bool
+is_kept None e = true
+is_kept (Some only) e = same_element e only
 
 -- the element that bytes name
 abbrev pub element_of : List ℕ → Option Element

@@ -10,7 +10,7 @@ use Rattle.ghcn_files.specs.declared.month.Month.{Month}
 use Rattle.ghcn_files.specs.declared.month.Reading.{Reading}
 use Rattle.ghcn_files.specs.declared.row.MonthRow.{MonthRow}
 use Rattle.ghcn_files.specs.declared.fault.LineWhy.{LineWhy}
-use Rattle.ghcn_files.specs.Elements.{may_be_negative}
+use Rattle.ghcn_files.specs.Elements.{may_be_negative, is_kept}
 use Rattle.ghcn_files.specs.Months.{reading, value_field, is_flagged, read_month, IsMonth}
 
 -- x, where the test passes
@@ -47,43 +47,45 @@ pub record AreDays (day : ℕ → Option ℤ) (word : ℕ) (values : List ℤ) :
   pub holds : (j : ℕ) → j < 31 → value_at word values j ≡ day j
   pub zeros : (j : ℕ) → bit_at word j ≡ 0 → get_or values j (pos 0) ≡ pos 0
 
--- the row of a month
-pub record IsRowOf (m : Month) (row : MonthRow) : Type 0 where
+-- what stands at a place, where it is kept
+abbrev pub if_kept : {A : Type 0} → Bool → Option A → Option A
+if_kept kept o = if kept then o else None
+
+-- the row of a month whose days are kept, or of one whose days aren't
+pub record IsRowOf (kept : Bool) (m : Month) (row : MonthRow) : Type 0 where
   pub id : row.id ≡ m.id
   pub element : row.element ≡ m.element
   pub year : row.year ≡ m.year
   pub month : row.month ≡ m.month
-  pub days : AreDays (day_value m) row.word row.values
+  pub days : AreDays (λ j. if_kept kept (day_value m j)) row.word row.values
 
--- a row is of the month that a line says
-pub record IsOfLine (line : List ℕ) (found : MonthRow) : Type 0 where
+-- a row is of the month that a line says, with the days of the element that is asked for, or of any
+pub record IsOfLine (asked : Option Element) (line : List ℕ) (found : MonthRow) : Type 0 where
   pub month : Month
   pub read : read_month line ≡ Ok (Some month)
   pub right : IsMonth month
-  pub row : IsRowOf month found
+  pub row : IsRowOf (is_kept asked found.element) month found
 
 -- what is read of a line as a row: that of its month, or nothing, or a refusal, as the month is read
-abbrev pub IsRead : List ℕ → Result (Option MonthRow) LineWhy → Type 0
-IsRead line (Ok (Some row)) = IsOfLine line row
-IsRead line (Ok None) = read_month line ≡ Ok None
-IsRead line (Err why) = read_month line ≡ Err why
+abbrev pub IsRead : Option Element → List ℕ → Result (Option MonthRow) LineWhy → Type 0
+IsRead asked line (Ok (Some row)) = IsOfLine asked line row
+IsRead asked line (Ok None) = read_month line ≡ Ok None
+IsRead asked line (Err why) = read_month line ≡ Err why
 
 -- the value of a day at a place, from 0, of a line, in a month with so many days
 abbrev pub line_value : Element → ℕ → List ℕ → ℕ → Option ℤ
 line_value e days line j = value_within days e j (reading line (j + 1))
 
--- the value of a day at a place, from 0, of a line in a month with so many days; -9999 stands for a missing one, a
--- flagged one, and a day that the month lacks
-abbrev pub value_or_missing : ℕ → List ℕ → ℕ → ℤ
-value_or_missing days line j =
-    if nat_lt j days && not (is_flagged line (j + 1))
-    then number_or (neg_ℤ (pos 9999)) (value_field line (j + 1))
-    else neg_ℤ (pos 9999)
+-- the value of a day at a place, from 0, of a line; -9999 stands for a missing one and a flagged one
+abbrev pub value_or_missing : List ℕ → ℕ → ℤ
+value_or_missing line j =
+    if not (is_flagged line (j + 1)) then number_or (neg_ℤ (pos 9999)) (value_field line (j + 1)) else neg_ℤ (pos 9999)
 
 -- these values of the 31 days of a line
-abbrev pub AreValues : ℕ → List ℕ → List ℤ → Type 0
-AreValues days line values = (j : ℕ) → j < 31 → get_or values j (pos 0) ≡ value_or_missing days line j
+abbrev pub AreValues : List ℕ → List ℤ → Type 0
+AreValues line values = (j : ℕ) → j < 31 → get_or values j (pos 0) ≡ value_or_missing line j
 
--- the value at a place, if it isn't below a least one
-abbrev pub value_from : ℤ → List ℤ → ℕ → Option ℤ
-value_from least values j = if_so (int_le least (get_or values j (pos 0))) (get_or values j (pos 0))
+-- the value at a place, if it is one of so many first places, and the value isn't below a least one
+abbrev pub value_from : ℤ → ℕ → List ℤ → ℕ → Option ℤ
+value_from least days values j =
+    if_so (int_le least (get_or values j (pos 0)) && nat_lt j days) (get_or values j (pos 0))

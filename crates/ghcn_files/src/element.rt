@@ -1,7 +1,7 @@
 //! What a daily value measures.
 
 ghost use Rattle.std.specs.Prelude.{◌≡◌};
-ghost use Rattle.ghcn_files.specs.Elements.{code_of, element_of};
+ghost use Rattle.ghcn_files.specs.Elements.{code_of, element_of, is_kept};
 
 use std::fmt;
 
@@ -32,6 +32,16 @@ impl Element {
             b"TMAX" => Some(Element::Tmax),
             b"TMIN" => Some(Element::Tmin),
             _ => None,
+        }
+    }
+
+    /// Whether its values are kept: it is the element that is asked for, or none is.
+    pub fn is_kept(self, asked: Option<Element>) -> bool
+        ensures { result ≡ is_kept asked self }
+    {
+        match asked {
+            Some(only) => self == only,
+            None => true,
         }
     }
 

@@ -7,7 +7,7 @@
 //!  18-21  element          29     its source flag
 //! ```
 
-ghost use Rattle.std.specs.Prelude.{◌≡◌, ◌≤◌, ◌<◌, ◌+◌, ◌*◌, length, drop, map, pos, Some, None, IfOk, IfSome};
+ghost use Rattle.std.specs.Prelude.{◌≡◌, ◌≤◌, ◌<◌, ◌+◌, ◌*◌, length, take, drop, map, pos, Some, None, IfOk, IfSome};
 ghost use Rattle.std.specs.Prelude.{if◌then◌else◌, unsigned_abs};
 ghost use Rattle.ghcn_fields.specs.Numbers as numbers;
 ghost use Rattle.ghcn_fields.specs.Bytes as bytes;
@@ -193,6 +193,19 @@ pub(crate) fn value_column(line: &[u8], day: usize) -> &[u8; 5]
 {
     match line[FIRST_GROUP + GROUP * day..].first_chunk() {
         Some(column) => column,
+        None => unreachable!(),
+    }
+}
+
+/// The columns of two days, a day from 0 and the next one: each has five of its value, and three behind them.
+pub(crate) fn two_groups(line: &[u8], day: usize) -> &[u8; 16]
+    requires long { 269 ≤ length line.now }
+    requires day { day < 30 }
+    ensures first { take 5 result.now ≡ columns (14 + 8 * (day + 1)) (18 + 8 * (day + 1)) line.now }
+    ensures second { take 5 (drop 8 result.now) ≡ columns (14 + 8 * (day + 2)) (18 + 8 * (day + 2)) line.now }
+{
+    match line[FIRST_GROUP + GROUP * day..].first_chunk() {
+        Some(groups) => groups,
         None => unreachable!(),
     }
 }

@@ -2,17 +2,20 @@
 
 ghost use Rattle.std.specs.Prelude.{◌≡◌, ◌≤◌, ◌<◌, ◌+◌, ◌^◌, length, Some, None, IfOk, IfErr, false, ◌&&◌, not, nat_lt};
 ghost use Rattle.std.specs.Prelude.{if◌then◌else◌, ◌++◌, ◌-◌, replicate};
-ghost use Rattle.ghcn_files.specs.Elements.{least_of};
+ghost use Rattle.ghcn_files.specs.Elements.{least_of, is_kept};
 ghost use Rattle.ghcn_files.specs.Months as months;
 ghost use Rattle.ghcn_files.specs.Rows as rows;
 
 use crate::missing::MISSING;
-use crate::month::{COLUMNS, DAYS, UP_TO_ELEMENT, head_of, is_flagged, readings, value_column};
+use crate::month::{
+    COLUMNS, DAYS, UP_TO_ELEMENT, head_of, is_flagged, readings, two_groups, value_column,
+};
 use crate::{Element, LineWhy, StationId};
-use ghcn_fields::{days_in_month, value_or};
+use ghcn_fields::{days_in_month, has_bad_field, value_or};
 
 /// The days of a month whose values count: those that the month has, whose value isn't missing,
 /// whose quality flag is a blank, and whose value the element can have. Only temperatures are negative.
+/// It has no days where those of another element were asked for.
 #[derive(Clone, Copy)]
 pub struct MonthRow {
     pub id: StationId,
@@ -27,28 +30,29 @@ pub struct MonthRow {
     pub values: [i32; 32],
 }
 
-/// Reads a line as `read_month` does, and keeps the values that count alone.
-pub fn read_days(line: &[u8]) -> Result<Option<MonthRow>, LineWhy>
-    ensures { rows.IsRead line.now result }
+/// Reads a line as `read_month` does, and keeps the values that count alone. Where an element is asked
+/// for, a line of another one is tested in the same way, and its row has no days.
+pub fn read_days(line: &[u8], asked: Option<Element>) -> Result<Option<MonthRow>, LineWhy>
+    ensures { rows.IsRead asked line.now result }
 {
     if line.len() < UP_TO_ELEMENT {
         return Err(LineWhy::Short);
     }
     match Element::of_code(&line[17..21]) {
         None => Ok(None),
-        Some(element) => Ok(Some(row_of(element, line)?)),
+        Some(element) => Ok(Some(row_of(asked, element, line)?)),
     }
 }
 
 /// The row of a line of this element.
-fn row_of(element: Element, line: &[u8]) -> Result<MonthRow, LineWhy>
+fn row_of(asked: Option<Element>, element: Element, line: &[u8]) -> Result<MonthRow, LineWhy>
     ensures err { IfErr result (λ why. months.month_why line.now ≡ Some why) }
     ensures fine { IfOk result (λ _. months.month_why line.now ≡ None) }
-    ensures row { IfOk result (rows.IsRowOf (months.month_of element line.now)) }
+    ensures row { IfOk result (rows.IsRowOf (is_kept asked element) (months.month_of element line.now)) }
 {
     let head = head_of(line)?;
     let count = days_in_month(head.year, head.month);
-    let (word, values) = days_of(element, count, line)?;
+    let (word, values) = if_kept(element.is_kept(asked), element, count, line)?;
     Ok(MonthRow {
         id: head.id,
         element,
@@ -59,6 +63,64 @@ fn row_of(element: Element, line: &[u8]) -> Result<MonthRow, LineWhy>
     })
 }
 
+/// The values of a line that count, in a month with so many days, where they are kept, or which day's
+/// value, the first such one, is no number.
+fn if_kept(
+    kept: bool,
+    element: Element,
+    count: u8,
+    line: &[u8],
+) -> Result<(u32, [i32; 32]), LineWhy>
+    requires { 266 ≤ length line.now }
+    ensures err { IfErr result (λ why. months.days_why line.now ≡ Some why) }
+    ensures fine { IfOk result (λ _. months.days_why line.now ≡ None) }
+    ensures days { IfOk result (λ row.
+        rows.AreDays (λ j. rows.if_kept kept (rows.line_value element count line.now j)) row.0 row.1) }
+{
+    if kept {
+        days_of(element, count, line)
+    } else {
+        no_days(line)
+    }
+}
+
+/// No values of a line, or which day's value, the first such one, is no number.
+fn no_days(line: &[u8]) -> Result<(u32, [i32; 32]), LineWhy>
+    requires { 266 ≤ length line.now }
+    ensures err { IfErr result (λ why. months.days_why line.now ≡ Some why) }
+    ensures fine { IfOk result (λ _. months.days_why line.now ≡ None) }
+    ensures days { IfOk result (λ row. rows.AreDays (λ _. None) row.0 row.1) }
+{
+    if has_bad_value(line) {
+        // It says which one.
+        readings(line)?;
+    }
+    Ok((0, [0; 32]))
+}
+
+/// Whether a value of a line is bad.
+fn has_bad_value(line: &[u8]) -> bool
+    requires { 266 ≤ length line.now }
+    ensures { result ≡ false → months.days_why line.now ≡ None }
+{
+    match line.first_chunk() {
+        Some(whole) => has_bad_value_in(whole),
+        None => has_bad_value_in(&with_blanks(line)),
+    }
+}
+
+/// The same of a line with all its columns, two days at a time: the last one comes with the day before it.
+fn has_bad_value_in(line: &[u8; COLUMNS]) -> bool
+    ensures { result ≡ false → months.days_why line.now ≡ None }
+{
+    let mut any_is_bad = false;
+    for pair in 0..DAYS / 2 {
+        any_is_bad |= has_bad_field(two_groups(line, 2 * pair));
+    }
+    let last_two = two_groups(line, DAYS - 2);
+    any_is_bad | has_bad_field(last_two)
+}
+
 /// The values of a line that count, in a month with so many days, or which day's value, the first
 /// such one, is no number.
 fn days_of(element: Element, count: u8, line: &[u8]) -> Result<(u32, [i32; 32]), LineWhy>
@@ -67,38 +129,38 @@ fn days_of(element: Element, count: u8, line: &[u8]) -> Result<(u32, [i32; 32]),
     ensures fine { IfOk result (λ _. months.days_why line.now ≡ None) }
     ensures days { IfOk result (λ row. rows.AreDays (rows.line_value element count line.now) row.0 row.1) }
 {
-    let (any_is_bad, values) = values_of(count, line);
+    let (any_is_bad, values) = values_of(line);
     if any_is_bad {
         // It says which one.
         readings(line)?;
     }
-    Ok(values_from(least_of(element), &values))
+    Ok(values_from(least_of(element), count, &values))
 }
 
-/// Whether a value of a line is bad, and the values in a month with so many days. `MISSING` stands for
-/// those that are missing, flagged, or of a day that the month lacks.
-fn values_of(count: u8, line: &[u8]) -> (bool, [i32; 32])
+/// Whether a value of a line is bad, and the values. `MISSING` stands for those that are missing or
+/// flagged.
+fn values_of(line: &[u8]) -> (bool, [i32; 32])
     requires { 266 ≤ length line.now }
     ensures fine { result.0 ≡ false → months.days_why line.now ≡ None }
-    ensures values { rows.AreValues count line.now result.1 }
+    ensures values { rows.AreValues line.now result.1 }
 {
     match line.first_chunk() {
-        Some(whole) => values_of_whole(count, whole),
-        None => values_of_whole(count, &with_blanks(line)),
+        Some(whole) => values_of_whole(whole),
+        None => values_of_whole(&with_blanks(line)),
     }
 }
 
 /// The same of a line with all its columns: no branch depends on a value, and no place on its length.
-fn values_of_whole(count: u8, line: &[u8; COLUMNS]) -> (bool, [i32; 32])
+fn values_of_whole(line: &[u8; COLUMNS]) -> (bool, [i32; 32])
     ensures fine { result.0 ≡ false → months.days_why line.now ≡ None }
-    ensures values { rows.AreValues count line.now result.1 }
+    ensures values { rows.AreValues line.now result.1 }
 {
     let mut any_is_bad = false;
     let mut values = [MISSING; 32];
     for day in 0..DAYS {
         let (is_bad, value) = value_or(value_column(line, day), MISSING);
         any_is_bad |= is_bad;
-        values[day] = value_if(may_count(count, line, day), value, MISSING);
+        values[day] = value_if(!is_flagged(line, day), value, MISSING);
     }
     (any_is_bad, values)
 }
@@ -113,23 +175,18 @@ fn with_blanks(line: &[u8]) -> [u8; COLUMNS]
     whole
 }
 
-/// Whether a month of so many days has a day, from 0, whose quality flag is a blank.
-fn may_count(count: u8, line: &[u8], day: usize) -> bool
-    requires { day < 31 }
-    ensures { result ≡ (nat_lt day count && not (months.is_flagged line.now (day + 1))) }
+/// The word of the days of a month with so many whose value isn't below a least one, and these values,
+/// with 0 for the others. The 32nd place, which no month has, makes all places a whole number of lanes.
+fn values_from(least: i32, count: u8, values: &[i32; 32]) -> (u32, [i32; 32])
+    ensures { rows.AreDays (rows.value_from least count values.now) result.0 result.1 }
 {
-    day < count as usize && !is_flagged(line, day)
-}
-
-/// The word of the days whose value isn't below a least one, and these values, with 0 for the others.
-fn values_from(least: i32, values: &[i32; 32]) -> (u32, [i32; 32])
-    ensures { rows.AreDays (rows.value_from least values.now) result.0 result.1 }
-{
+    let days = (count as u32).min(DAYS as u32);
     let mut word = 0;
     let mut kept = [0; 32];
-    for day in 0..DAYS {
-        let counts = values[day] >= least;
-        word |= bit_if(counts, day as u32);
+    for day in 0..32 {
+        let place = day as u32;
+        let counts = (values[day] >= least) & (place < days);
+        word |= bit_if(counts, place);
         kept[day] = value_if(counts, values[day], 0);
     }
     (word, kept)

@@ -188,7 +188,7 @@ fn months(rt: HostRuntime) {
         let id = StationId(*b"ZZA00000001");
         let expected = Ok(Some((id, Element::Tmax, 2020, 7, first, missing, last)));
         assert_eq!(rt; found, expected, "at {columns} columns");
-        let row = read_days(line).map(|row| row.map(|it| (it.word >> 30, it.values[30])));
+        let row = read_days(line, None).map(|row| row.map(|it| (it.word >> 30, it.values[30])));
         let kept = if last.flagged { (0, 0) } else { (1, -15) };
         assert_eq!(rt; row, Ok(Some(kept)), "the row at {columns} columns");
     }
@@ -234,8 +234,10 @@ fn first_fault_of_a_line(rt: HostRuntime) {
     for (line, why) in cases {
         let found = read_month(line).map(|month| month.is_some());
         assert_eq!(rt; found, Err(why), "at {line:?}");
-        let row = read_days(line).map(|row| row.is_some());
-        assert_eq!(rt; row, Err(why), "the row at {line:?}");
+        for asked in [None, Some(Element::Tmax), Some(Element::Snow)] {
+            let row = read_days(line, asked).map(|row| row.is_some());
+            assert_eq!(rt; row, Err(why), "the row at {line:?}");
+        }
     }
 }
 
@@ -259,7 +261,7 @@ fn rows_of_months(rt: HostRuntime) {
         (b"ZZA00000001190002SNWD", 0x08000001, [311, 0, 0, 0, 0]),
     ];
     for (head, word, values) in cases {
-        let found = read_days(&line_of(head, &groups)).map(|row| {
+        let found = read_days(&line_of(head, &groups), None).map(|row| {
             row.map(|it| (
                 it.word,
                 [
@@ -276,6 +278,33 @@ fn rows_of_months(rt: HostRuntime) {
 }
 
 #[test]
+fn rows_of_the_element_that_is_asked_for(rt: HostRuntime) {
+    let july = line_of(
+        b"ZZA00000001202007TMAX",
+        &[(1, b"  311   "), (31, b"  -15   ")],
+    );
+    let id = StationId(*b"ZZA00000001");
+    let cases = [
+        (None, (0x40000001, 311, -15)),
+        (Some(Element::Tmax), (0x40000001, 311, -15)),
+        (Some(Element::Tmin), (0, 0, 0)),
+        (Some(Element::Prcp), (0, 0, 0)),
+    ];
+    for (asked, days) in cases {
+        for line in [&july[..], &july[..266]] {
+            let found = read_days(line, asked).map(|row| {
+                row.map(|it| (
+                    (it.id, it.element, it.year, it.month),
+                    (it.word, it.values[0], it.values[30]),
+                ))
+            });
+            let expected = ((id, Element::Tmax, 2020, 7), days);
+            assert_eq!(rt; found, Ok(Some(expected)), "at {asked:?}");
+        }
+    }
+}
+
+#[test]
 fn lines_of_other_elements(rt: HostRuntime) {
     let lines: [&[u8]; 3] = [
         b"ZZA00000001202007WSFG",
@@ -285,7 +314,7 @@ fn lines_of_other_elements(rt: HostRuntime) {
     for line in lines {
         let found = read_month(line).map(|month| month.is_some());
         assert_eq!(rt; found, Ok(false), "at {line:?}");
-        let row = read_days(line).map(|row| row.is_some());
+        let row = read_days(line, None).map(|row| row.is_some());
         assert_eq!(rt; row, Ok(false), "the row at {line:?}");
     }
 }

@@ -11,7 +11,7 @@ use Rattle.ghcn_files.specs.declared.element.Element.{Element}
 use Rattle.ghcn_files.specs.declared.element.Element.TheVariants.{Prcp, Snow, Snwd, Tmax, Tmin}
 use Rattle.ghcn_files.specs.declared.month.Month.{Month}
 use Rattle.ghcn_files.specs.Ids.{same_id}
-use Rattle.ghcn_files.specs.Elements.{elements, same_element}
+use Rattle.ghcn_files.specs.Elements.{elements, same_element, is_kept}
 use Rattle.ghcn_files.specs.Listed.{AreListed}
 use Rattle.ghcn_files.specs.Months.{IsMonth}
 use Rattle.ghcn_series.specs.declared.gathering.Gathering.{Gathering}
@@ -20,7 +20,7 @@ use Rattle.ghcn_series.specs.Series.{DayValue, Usable, Contents, IsSeries, by_da
 use Rattle.ghcn_series.specs.DailyFaults.{is_listed}
 use Rattle.ghcn_series.specs.Says.{Fact, facts_of, is_usable, days_of, usable_of, all_series}
 use Rattle.ghcn_series.specs.Held.{AreByStation, AreSeries, all_of, same_series}
-use Rattle.ghcn_series.specs.Kept.{is_kept, kept}
+use Rattle.ghcn_series.specs.Kept.{kept}
 use Rattle.ghcn_series.specs.Gathered.{usable_days, kept_days, gathered_days, months_of, IsGatheringOf}
 use Rattle.ghcn_series.specs.Gathered.{AreByElement, IsStationOf, IsReady, gathered_series, station_series}
 use Rattle.ghcn_series.proofs.Places.{ids, same_id-refl}

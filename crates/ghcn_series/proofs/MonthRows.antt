@@ -203,7 +203,7 @@ module _ (m : Month) (first : ℤ) (begins : day_number m.year m.month 1 ≡ Som
             ] refl some
 
 -- a month's row at the place of its first day: as a row may be, with the values of the month's usable days
-pub row-at : (m : Month) (row : MonthRow) (first number block : ℤ) (place : ℕ) → IsMonth m → IsRowOf m row
+pub row-at : (m : Month) (row : MonthRow) (first number block : ℤ) (place : ℕ) → IsMonth m → IsRowOf true m row
     → day_number row.year row.month 1 ≡ Some first → number ≡ block → day_of block place ≡ first
     → IsRow (day_of number place) row.word row.values
     × ((d : ℤ) → value_on (row_days number place row.word row.values) d ≡ value_on (usable_days m) d)

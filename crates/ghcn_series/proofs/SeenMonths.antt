@@ -169,18 +169,18 @@ turned false true e = refl
 turned false false e = absurd cc
 
 -- a month's number is that of its row
-pub number_is : (m : Month) (row : MonthRow) (n : ℕ) → IsRowOf m row → n ≡ 12 * row.year + row.month → n ≡ number_of m
-number_is m row n of e =
+pub number_is : (kept : Bool) (m : Month) (row : MonthRow) (n : ℕ) → IsRowOf kept m row → n ≡ 12 * row.year + row.month → n ≡ number_of m
+number_is kept m row n of e =
     e ∙ ap (λ (y : ℕ). 12 * y + row.month) of.year ∙ ap (λ (t : ℕ). 12 * m.year + t) of.month
 
 -- a month is noted, unless one of its time was
 pub noted : (row : MonthRow) (old new : Gathering) (result : Result Bool Memory)
     → IfOk result (λ is_new. is_new ≡ not (has_month old.seen (12 * row.year + row.month)))
     → OnOk result (Adds old.seen new.seen (12 * row.year + row.month)) → new.parts ≡ old.parts
-    → IfOk result (λ added. OfMonth row (λ m. Gathers false old new m added))
+    → IfOk result (λ added. OfMonth false row (λ m. Gathers false old new m added))
 noted row old new (Err memory) told adds same = tt
 noted row old new (Ok added) told adds same = λ m right of.
-    let number : 12 * row.year + row.month ≡ number_of m = number_is m row (12 * row.year + row.month) of refl in
+    let number : 12 * row.year + row.month ≡ number_of m = number_is false m row (12 * row.year + row.month) of refl in
     let is_new : added ≡ not (has_month old.seen (number_of m)) = told ∙ ap (λ n. not (has_month old.seen n)) number in
     let more : Adds old.seen new.seen (number_of m) = subst (Adds old.seen new.seen) number adds in
     record {

@@ -14,12 +14,11 @@ use Rattle.ghcn_files.specs.declared.element.Element.{Element}
 use Rattle.ghcn_files.specs.declared.element.Element.TheVariants.{Prcp, Snow, Snwd, Tmax, Tmin}
 use Rattle.ghcn_files.specs.declared.month.Month.{Month}
 use Rattle.ghcn_files.specs.Ids.{same_id}
-use Rattle.ghcn_files.specs.Elements.{elements, same_element, element_index}
+use Rattle.ghcn_files.specs.Elements.{elements, same_element, element_index, is_kept}
 use Rattle.ghcn_series.specs.declared.gathering.Gathering.{Gathering}
 use Rattle.ghcn_series.specs.DailyFaults.{same_month}
 use Rattle.ghcn_series.specs.Gathered.{same_time, months_of, IsGathering, IsGatheringOf, AreByElement}
 use Rattle.ghcn_files.specs.IdLaws.{same_id-turned}
-use Rattle.ghcn_series.specs.Kept.{is_kept}
 use Rattle.ghcn_series.specs.Steps.{Gathers, GathersSome, GathersNothing}
 use Rattle.ghcn_series.proofs.ListFacts.{neither, and_false}
 

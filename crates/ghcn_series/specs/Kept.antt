@@ -1,16 +1,10 @@
 -- What is kept of data where the series of one element are asked for.
-use Rattle.std.specs.Prelude.{◌≡◌, ℕ, Bool, true, List, Option, None, Some, filter, Ok}
+use Rattle.std.specs.Prelude.{◌≡◌, ℕ, List, Option, None, Some, filter, Ok}
 use Rattle.ghcn_files.specs.declared.station.Station.{Station}
 use Rattle.ghcn_files.specs.declared.element.Element.{Element}
-use Rattle.ghcn_files.specs.Elements.{same_element}
 use Rattle.ghcn_series.specs.Series.{Contents}
 use Rattle.ghcn_series.specs.Says.{data_of}
 use Rattle.ghcn_series.specs.Held.{is_of_element}
-
--- the series of an element are kept: it is the one that is named, or none is
-abbrev pub is_kept : Option Element → Element → Bool
-is_kept None e = true
-is_kept (Some only) e = same_element e only
 
 -- of these data, the series of one element, or of all where none is named
 abbrev pub kept : Option Element → Contents → Contents

@@ -19,13 +19,13 @@ use Rattle.ghcn_series.specs.Kept.{kept}
 use Rattle.ghcn_series.specs.Gathered.{same_time, IsGathering, IsGatheringOf, AreByElement, HasRead, HasReadLines}
 use Rattle.ghcn_series.specs.Gathered.{IsLineRefusal}
 
--- the row is that of some month
-abbrev pub IsOfMonth : MonthRow → Type 0
-IsOfMonth row = (m : Month) × (IsMonth m × IsRowOf m row)
+-- the row is that of some month, whose days are kept or aren't
+abbrev pub IsOfMonth : Bool → MonthRow → Type 0
+IsOfMonth kept row = (m : Month) × (IsMonth m × IsRowOf kept m row)
 
 -- a fact about each month whose row this is
-abbrev pub OfMonth : MonthRow → (Month → Type 0) → Type 0
-OfMonth row P = (m : Month) → IsMonth m → IsRowOf m row → P m
+abbrev pub OfMonth : Bool → MonthRow → (Month → Type 0) → Type 0
+OfMonth kept row P = (m : Month) → IsMonth m → IsRowOf kept m row → P m
 
 -- what a gathering has whose days are kept or aren't: some months
 abbrev pub GathersSome : Bool → Gathering → Type 0

@@ -38,10 +38,10 @@ impl Gathering {
 
     /// Adds a month with its days, or answers false where one of its time was added before.
     pub(crate) fn add(&mut self, alloc: Global, row: &MonthRow) -> Result<bool, Memory>
-        requires right { IsOfMonth row.now }
+        requires right { IsOfMonth true row.now }
         requires gathered { GathersSome true self.old }
         ensures element { self.new.element ≡ self.old.element }
-        ensures added { IfOk result (λ added. OfMonth row.now (λ m. Gathers true self.old self.new m added)) }
+        ensures added { IfOk result (λ added. OfMonth true row.now (λ m. Gathers true self.old self.new m added)) }
     {
         if !self.seen.add(alloc, number_of(row))? {
             return Ok(false);
@@ -54,7 +54,7 @@ impl Gathering {
     pub(crate) fn note(&mut self, alloc: Global, row: &MonthRow) -> Result<bool, Memory>
         requires { GathersSome false self.old }
         ensures element { self.new.element ≡ self.old.element }
-        ensures added { IfOk result (λ added. OfMonth row.now (λ m. Gathers false self.old self.new m added)) }
+        ensures added { IfOk result (λ added. OfMonth false row.now (λ m. Gathers false self.old self.new m added)) }
     {
         self.seen.add(alloc, number_of(row))
     }
@@ -92,12 +92,12 @@ fn number_of(row: &MonthRow) -> u32
 
 /// Adds the usable days of a month, none of which was added before.
 fn add_days(held: &mut Parts, row: &MonthRow) -> Result<(), Memory>
-    requires right { IsOfMonth row.now }
+    requires right { IsOfMonth true row.now }
     requires parts { parts.AreParts held.old }
-    requires fresh { OfMonth row.now (λ m. parts.HaveNone held.old (gathered.usable_days m)) }
+    requires fresh { OfMonth true row.now (λ m. parts.HaveNone held.old (gathered.usable_days m)) }
     ensures parts { OnOk result (parts.AreParts held.new) }
     ensures joined { OnOk result
-        (OfMonth row.now (λ m. parts.JoinDays held.old (gathered.usable_days m) held.new)) }
+        (OfMonth true row.now (λ m. parts.JoinDays held.old (gathered.usable_days m) held.new)) }
 {
     let Some(first) = Day::of(row.year, row.month, 1) else {
         unreachable!()

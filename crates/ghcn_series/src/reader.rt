@@ -1,6 +1,7 @@
 //! Reads the lines of daily files one after another.
 
 ghost use Rattle.std.specs.Prelude.{◌≡◌, ◌∷◌, [], IfOk, IfErr, OnOk};
+ghost use Rattle.ghcn_files.specs.Elements.{is_kept};
 ghost use Rattle.ghcn_files.specs.Listed.{AreListed, place_of};
 ghost use Rattle.ghcn_series.specs.DailyFaults.{line_of, one_line};
 ghost use Rattle.ghcn_series.specs.Gathered.{HasRead};
@@ -105,7 +106,7 @@ impl Reader {
         ensures read { OnOk result (Reads self.old self.new (line_of file (line, bytes.now) ∷ [])) }
         ensures fault { IfErr result (Refuses self.old (line_of file (line, bytes.now) ∷ [])) }
     {
-        let row = match read_days(bytes) {
+        let row = match read_days(bytes, self.element) {
             Ok(Some(row)) => row,
             Ok(None) => return Ok(()),
             Err(why) => return Err(refused(file, line, DailyWhy::Line(why))),
@@ -119,11 +120,12 @@ impl Reader {
 
     /// Adds a month, or answers false where its station is listed and has that month already.
     fn add_month(&mut self, alloc: Global, row: &MonthRow) -> Result<bool, Memory>
-        requires right { IsOfMonth row.now }
+        requires right { IsOfMonth (is_kept self.old.element row.now.element) row.now }
         requires read { HasReadSome self.old }
         ensures element { self.new.element ≡ self.old.element }
         ensures stations { self.new.stations ≡ self.old.stations }
-        ensures added { IfOk result (λ added. OfMonth row.now (λ m. ReadsMonth self.old self.new m added)) }
+        ensures added { IfOk result (λ added. OfMonth (is_kept self.old.element row.now.element) row.now
+            (λ m. ReadsMonth self.old self.new m added)) }
     {
         match self.place(&row.id) {
             Some(place) => {

@@ -3,8 +3,7 @@
 ghost use Rattle.std.specs.Prelude.{◌≡◌, ◌++◌, ◌∷◌, [], List, length, map, not, IfOk, OnOk};
 ghost use Rattle.std.specs.Bool.{OnTrue};
 ghost use Rattle.std.specs.List.{list_any, AllByRecursion, AllZip};
-ghost use Rattle.ghcn_files.specs.Elements.{elements, element_index};
-ghost use Rattle.ghcn_series.specs.Kept.{is_kept};
+ghost use Rattle.ghcn_files.specs.Elements.{elements, element_index, is_kept};
 ghost use Rattle.ghcn_series.specs.Gathered as gathered;
 ghost use Rattle.ghcn_series.specs.Steps.{GathersAt, GathersNothing, StationGathersSome, Opens, IsOfMonth, OfMonth};
 
@@ -52,14 +51,15 @@ impl StationGathering {
         asked: Option<Element>,
     ) -> Result<bool, Memory>
         requires own { row.now.id ≡ self.old.id }
-        requires right { IsOfMonth row.now }
+        requires right { IsOfMonth (is_kept asked row.now.element) row.now }
         requires gathered { StationGathersSome asked self.old }
         ensures id { self.new.id ≡ self.old.id }
-        ensures added { IfOk result (λ added. OfMonth row.now (λ m. GathersAt asked self.old self.new m added)) }
+        ensures added { IfOk result (λ added. OfMonth (is_kept asked row.now.element) row.now
+            (λ m. GathersAt asked self.old self.new m added)) }
     {
         self.open(alloc)?;
         let gathering = &mut self.by_element[place_of(row.element)];
-        if is_kept(asked, row.element) {
+        if row.element.is_kept(asked) {
             gathering.add(alloc, row)
         } else {
             gathering.note(alloc, row)
@@ -108,16 +108,6 @@ fn nothing_by_element(alloc: Global) -> Result<Vec<Gathering>, Memory>
         five.push(Gathering::new(alloc, element))?;
     }
     Ok(five)
-}
-
-/// Whether the days of an element are kept: it is the one that is asked for, or none is.
-fn is_kept(asked: Option<Element>, element: Element) -> bool
-    ensures { result ≡ is_kept asked element }
-{
-    match asked {
-        Some(only) => element == only,
-        None => true,
-    }
 }
 
 /// An element's place among the five.

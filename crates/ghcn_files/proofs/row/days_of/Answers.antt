@@ -12,5 +12,5 @@ returns-clause-days c =
     let least : to_z w32 (of_z w32 c.least_of.result) ≡ least_of c.args.element =
     to_z-of_z w32 c.least_of.result (search rules) ∙ c.least_of.ensures in
     line-days c.args.element c.args.count c.args.line.now values _ _ c.values_of-any_is_bad.ensures.values
-    (subst (λ (z : ℤ). AreDays (value_from z values) c.values_from.result.0 c.values_from.result.1) least
+    (subst (λ (z : ℤ). AreDays (value_from z c.args.count values) c.values_from.result.0 c.values_from.result.1) least
     c.values_from.ensures)

@@ -1,7 +1,9 @@
 use Rattle.std.proofs.Common.{Option, Some, sym, ap, subst, ◌∙◌}
+use Rattle.ghcn_files.specs.declared.element.Element.{Element}
 use Rattle.ghcn_files.specs.declared.fault.LineWhy.{LineWhy}
 use Rattle.ghcn_files.specs.Months.{unless, month_of}
-use Rattle.ghcn_files.specs.Rows.{IsRead}
+use Rattle.ghcn_files.specs.Elements.{is_kept}
+use Rattle.ghcn_files.specs.Rows.{IsRead, IsRowOf}
 use Rattle.ghcn_files.proofs.Errors.{err_given}
 use Rattle.ghcn_files.proofs.Months.{read_month-element}
 use Rattle.ghcn_files.proofs.Ranges.{month_of-right}
@@ -12,7 +14,7 @@ pub returns-in_err-row_of-in-Some : goal.returns-in_err-row_of-in-Some
 returns-in_err-row_of-in-Some c =
     let line = c.args.line.now in
     let element = c.in-Some.element in
-    subst (IsRead line) (sym (err_given _ _ c.from_residual.ensures.1))
+    subst (IsRead c.args.asked line) (sym (err_given _ _ c.from_residual.ensures.1))
     (read_month-element line element c.if-line-lt-UP_TO_ELEMENT.false (sym c.of_code.ensures ∙ c.in-Some.is)
     ∙ ap (λ (o : Option LineWhy). unless o (Some (month_of element line))) c.in_err-row_of-in-Some.ensures.err)
 
@@ -22,11 +24,14 @@ returns-in_ok-row_of-in-Some c =
     let line = c.args.line.now in
     let element = c.in-Some.element in
     let fine = c.in_ok-row_of-in-Some.ensures.fine in
+    let found = c.in_ok-row_of-in-Some.field-0 in
+    let of = c.in_ok-row_of-in-Some.ensures.row in
     record {
       month = month_of element line;
       read =
           read_month-element line element c.if-line-lt-UP_TO_ELEMENT.false (sym c.of_code.ensures ∙ c.in-Some.is)
           ∙ ap (λ (o : Option LineWhy). unless o (Some (month_of element line))) fine;
       right = month_of-right element line fine;
-      row = c.in_ok-row_of-in-Some.ensures.row;
+      row =
+          subst (λ (e : Element). IsRowOf (is_kept c.args.asked e) (month_of element line) found) (sym of.element) of;
     }

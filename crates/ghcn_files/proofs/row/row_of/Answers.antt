@@ -1,8 +1,9 @@
-use Rattle.std.proofs.Common.{◌≡◌, Option, Result, Some, IfErr, sym, ap, subst, ◌∙◌}
+use Rattle.std.proofs.Common.{◌≡◌, Bool, Option, Result, Some, IfErr, sym, ap, subst, ◌∙◌}
 use Rattle.std.specs.Option.{option_or}
 use Rattle.ghcn_files.specs.declared.fault.LineWhy.{LineWhy}
 use Rattle.ghcn_files.specs.declared.row.MonthRow.{MonthRow}
 use Rattle.ghcn_files.specs.Months.{days_why, month_why}
+use Rattle.ghcn_files.specs.Rows.{AreDays, if_kept, line_value}
 use Rattle.ghcn_files.proofs.Errors.{err_given}
 use Rattle.ghcn_files.proofs.Months.{month_why-parts, unless_ok, unless_err}
 use Rattle.ghcn_files.proofs.Rows.{line-row}
@@ -38,5 +39,6 @@ returns-clause-fine c =
 pub returns-clause-row : goal.returns-clause-row
 returns-clause-row c =
     let head = unless_ok _ _ _ (sym c.head_of.ensures.value ∙ c.in_ok-head.was) in
-    line-row c.args.element c.args.line.now c.in_ok-head.head _ _ _ head.1 c.days_in_month-count.ensures
-    c.in_ok-word.ensures.days
+    line-row _ c.args.element c.args.line.now c.in_ok-head.head _ _ _ head.1 c.days_in_month-count.ensures
+    (subst (λ (k : Bool). AreDays (λ j. if_kept k (line_value c.args.element c.days_in_month-count.result c.args.line.now j))
+    c.in_ok-word.word c.in_ok-word.values) c.is_kept.ensures c.in_ok-word.ensures.days)

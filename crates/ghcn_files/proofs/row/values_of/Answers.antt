@@ -17,7 +17,7 @@ returns-in-Some-clause-values c =
     let line = c.args.line.now in
     let whole = c.in-Some.whole.now in
     let chunk = c.in-Some.ensures.cases in
-    same-values c.args.count whole line _ (first-say whole line chunk.enough chunk.same)
+    same-values whole line _ (first-say whole line chunk.enough chunk.same)
     c.values_of_whole.ensures.values
 
 -- a line with blanks behind it does
@@ -32,6 +32,6 @@ returns-in-None-clause-fine c = λ none.
 pub returns-in-None-clause-values : goal.returns-in-None-clause-values
 returns-in-None-clause-values c =
     let line = c.args.line.now in
-    same-values c.args.count c.with_blanks.result line _
+    same-values c.with_blanks.result line _
     (rw (c.with_blanks.ensures) (filled-says line (269 - length line) c.requires))
     c.values_of_whole-in-None.ensures.values

@@ -1,6 +1,6 @@
 use Rattle.std.proofs.Common.{rules, ◌≡◌, ℕ, ◌+◌, ◌-◌, Bool, cond, List, get_or, set, inl, inr, sym}
 use Rattle.std.proofs.Common.{ap, subst, ◌∙◌, arith, ℤ, pos, w32, to_z, of_z, length-set}
-use Rattle.std.specs.Prelude.{◌&&◌, not, nat_lt, neg_ℤ}
+use Rattle.std.specs.Prelude.{not, neg_ℤ}
 use Rattle.std.proofs.lemmas.Bool.{cases_lt}
 use Rattle.std.proofs.lemmas.List.{get_or-set_same, get_or-set_other}
 use Rattle.ghcn_fields.specs.Numbers.{int_field, is_bad, number_or}
@@ -18,10 +18,10 @@ loop-day-preserved c =
     let missing : ℤ = neg_ℤ (pos 9999) in
     let found : ℤ = c.value_or-is_bad.result.1 in
     let now : ℤ = to_z w32 (of_z w32 c.value_if.result) in
-    let chosen : now ≡ cond c.may_count.result found missing = search rules in
-    let value : now ≡ value_or_missing c.args.count line day =
-    chosen ∙ ap (λ (b : Bool). cond b found missing) c.may_count.ensures
-    ∙ ap (λ (z : ℤ). cond (nat_lt day c.args.count && not (is_flagged line (day + 1))) z missing)
+    let chosen : now ≡ cond (not c.is_flagged.result) found missing = search rules in
+    let value : now ≡ value_or_missing line day =
+    chosen ∙ ap (λ (b : Bool). cond (not b) found missing) c.is_flagged.ensures
+    ∙ ap (λ (z : ℤ). cond (not (is_flagged line (day + 1))) z missing)
     (c.value_or-is_bad.ensures.number ∙ ap (λ (bytes : List ℕ). number_or missing (int_field bytes))
     c.value_column.ensures) in
     record {
@@ -31,7 +31,7 @@ loop-day-preserved c =
             get_or-set_other vs day j now (pos 0) (omega (arith, before)) ∙ c.loop-day.invariant.so_far j before
         | inr from ↦
             let here : day ≡ j = omega arith in
-            subst (λ (k : ℕ). get_or (set vs day now) k (pos 0) ≡ value_or_missing c.args.count line k) here
+            subst (λ (k : ℕ). get_or (set vs day now) k (pos 0) ≡ value_or_missing line k) here
             (get_or-set_same vs day now (pos 0) (omega (arith, c.loop-day.invariant.many)) ∙ value)
       ];
       passed = λ none.

@@ -7,6 +7,6 @@ use Rattle.ghcn_files.proofs.row.values_of_whole.Given as goal
 abbrev pub invariant-loop-day : goal.invariant-loop-day
 invariant-loop-day l = record {
   many : length l.values ≡ 32;
-  so_far : (j : ℕ) → j < l.day → get_or l.values j (pos 0) ≡ value_or_missing l.count l.line j;
+  so_far : (j : ℕ) → j < l.day → get_or l.values j (pos 0) ≡ value_or_missing l.line j;
   passed : l.any_is_bad ≡ false → tests_from l.line 1 31 ≡ tests_from l.line (1 + l.day) (31 - l.day);
 }

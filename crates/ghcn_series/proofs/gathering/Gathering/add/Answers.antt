@@ -7,7 +7,7 @@ use Rattle.ghcn_series.proofs.gathering.Gathering.add.Goals as goal
 -- a month whose time was seen isn't new
 pub returns-then-not-branch-clause-added : goal.returns-then-not-branch-clause-added
 returns-then-not-branch-clause-added c = λ m right of.
-    let number = number_is m c.args.row.now c.number_of.result of c.number_of.ensures in
+    let number = number_is true m c.args.row.now c.number_of.result of c.number_of.ensures in
     let told : false ≡ not (has_month c.args.self.now.seen (number_of m)) =
     sym c.if-not-branch.true ∙ c.in_ok-add.ensures.is_new
     ∙ ap (λ (t : ℕ). not (has_month c.args.self.now.seen t)) number in
@@ -23,7 +23,7 @@ add_days-requires-clause-parts c = c.requires.gathered.1.parts
 -- no day of a new month was added before
 pub add_days-requires-clause-fresh : goal.add_days-requires-clause-fresh
 add_days-requires-clause-fresh c = λ m right of.
-    let number = number_is m c.args.row.now c.number_of.result of c.number_of.ensures in
+    let number = number_is true m c.args.row.now c.number_of.result of c.number_of.ensures in
     let told : true ≡ not (has_month c.args.self.now.seen (number_of m)) =
     sym c.if-not-branch.false ∙ c.in_ok-add.ensures.is_new
     ∙ ap (λ (t : ℕ). not (has_month c.args.self.now.seen t)) number in
@@ -32,7 +32,7 @@ add_days-requires-clause-fresh c = λ m right of.
 -- any other is added
 pub returns-clause-added : goal.returns-clause-added
 returns-clause-added c = λ m right of.
-    let number = number_is m c.args.row.now c.number_of.result of c.number_of.ensures in
+    let number = number_is true m c.args.row.now c.number_of.result of c.number_of.ensures in
     let told : true ≡ not (has_month c.args.self.now.seen (number_of m)) =
     sym c.if-not-branch.false ∙ c.in_ok-add.ensures.is_new
     ∙ ap (λ (t : ℕ). not (has_month c.args.self.now.seen t)) number in

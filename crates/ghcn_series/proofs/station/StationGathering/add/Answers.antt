@@ -1,10 +1,15 @@
 use Rattle.std.proofs.Common.{◌≡◌, ℕ, Bool, true, false, get_or, subst, sym, ap, ◌∙◌}
 use Rattle.std.proofs.lemmas.Result.{IfOk-weaker}
-use Rattle.ghcn_files.specs.Elements.{element_index}
-use Rattle.ghcn_series.specs.Kept.{is_kept}
-use Rattle.ghcn_series.specs.Steps.{Gathers}
+use Rattle.ghcn_files.specs.Elements.{element_index, is_kept}
+use Rattle.ghcn_files.specs.Rows.{IsRowOf}
+use Rattle.ghcn_series.specs.Steps.{Gathers, IsOfMonth}
 use Rattle.ghcn_series.proofs.StationMonths.{by_element-more, some_at}
 use Rattle.ghcn_series.proofs.station.StationGathering.add.Goals as goal
+
+-- the month's days are kept
+pub add-requires-clause-right : goal.add-requires-clause-right
+add-requires-clause-right c =
+    subst (λ (k : Bool). IsOfMonth k c.args.row.now) (sym c.is_kept.ensures ∙ c.if-is_kept.true) c.requires.right
 
 -- the gathering of the month's element has the station's months of it
 pub add-requires-clause-gathered : goal.add-requires-clause-gathered
@@ -32,12 +37,13 @@ note-requires c =
 pub returns-then-is_kept-clause-added : goal.returns-then-is_kept-clause-added
 returns-then-is_kept-clause-added c =
     IfOk-weaker c.add.result _ _ (λ added adds m right of.
+    let kept_row : is_kept c.args.asked c.args.row.now.element ≡ true = sym c.is_kept.ensures ∙ c.if-is_kept.true in
     let kept : is_kept c.args.asked m.element ≡ true =
     ap (is_kept c.args.asked) (sym of.element) ∙ sym c.is_kept.ensures ∙ c.if-is_kept.true in
     let P : Bool → Type 0 = λ b. Gathers b c.index_mut-gathering.result.now c.add.new.self m added in
     let more = by_element-more c.args.asked m c.args.self.now.id c.open.new.self.by_element.items c.place_of.result
     c.index_mut-gathering.result.now c.add.new.self added (c.place_of.ensures ∙ ap element_index of.element)
-    c.index_mut-gathering.ensures.value c.add.ensures.element (subst P (sym kept) (adds m right of)) in
+    c.index_mut-gathering.ensures.value c.add.ensures.element (subst P (sym kept) (adds m right (subst (λ (k : Bool). IsRowOf k m c.args.row.now) kept_row of))) in
     let own = sym of.id ∙ c.requires.own in
     record {
       is_new = λ before is. (more before own (c.in_ok-open.ensures.same.holds c.args.asked before is)).0;
@@ -48,12 +54,13 @@ returns-then-is_kept-clause-added c =
 pub returns-else-is_kept-clause-added : goal.returns-else-is_kept-clause-added
 returns-else-is_kept-clause-added c =
     IfOk-weaker c.note.result _ _ (λ added adds m right of.
+    let kept_row : is_kept c.args.asked c.args.row.now.element ≡ false = sym c.is_kept.ensures ∙ c.if-is_kept.false in
     let kept : is_kept c.args.asked m.element ≡ false =
     ap (is_kept c.args.asked) (sym of.element) ∙ sym c.is_kept.ensures ∙ c.if-is_kept.false in
     let P : Bool → Type 0 = λ b. Gathers b c.index_mut-gathering.result.now c.note.new.self m added in
     let more = by_element-more c.args.asked m c.args.self.now.id c.open.new.self.by_element.items c.place_of.result
     c.index_mut-gathering.result.now c.note.new.self added (c.place_of.ensures ∙ ap element_index of.element)
-    c.index_mut-gathering.ensures.value c.note.ensures.element (subst P (sym kept) (adds m right of)) in
+    c.index_mut-gathering.ensures.value c.note.ensures.element (subst P (sym kept) (adds m right (subst (λ (k : Bool). IsRowOf k m c.args.row.now) kept_row of))) in
     let own = sym of.id ∙ c.requires.own in
     record {
       is_new = λ before is. (more before own (c.in_ok-open.ensures.same.holds c.args.asked before is)).0;
