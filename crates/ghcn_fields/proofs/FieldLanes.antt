@@ -1,5 +1,6 @@
 -- Two number fields of five columns each, tested by lanes.
-use Rattle.std.proofs.Common.{◌≡◌, ℕ, zero, suc, ◌+◌, ◌*◌, ◌-◌, ◌/◌, ◌%◌, ◌^◌, Bool, true, false, cond, List, [], ◌∷◌, map, length, get_or, refl, sym, ap, ap₂, ◌∙◌, arith, pos, eqb, leb}
+use Rattle.std.proofs.Common.{◌≡◌, ℕ, zero, suc, ◌+◌, ◌*◌, ◌-◌, ◌/◌, ◌%◌, ◌^◌, Bool, true, false, cond, List, [], ◌∷◌}
+use Rattle.std.proofs.Common.{◌++◌, map, length, get_or, refl, sym, ap, ap₂, ◌∙◌, arith, pos, eqb, leb}
 use Rattle.std.specs.Prelude.{◌&&◌, ◌||◌, ◌==◌, not, bit_or, bit_and}
 use Rattle.std.specs.Char.{is_ascii_digit}
 use Rattle.std.specs.List.{list_all, list_any, range_with_len}
@@ -10,7 +11,8 @@ use Rattle.std.proofs.lemmas.Simd.{pick_l_whole, mask_l-mod}
 use lib.Lanes.{mask_l, top}
 use Rattle.ghcn_fields.specs.Bytes.{is_blank}
 use Rattle.ghcn_fields.specs.Numbers.{int_field, is_bad}
-use Rattle.ghcn_fields.specs.FieldForms.{digit_of, kind_of, may_precede, is_minus, is_number_form, form_of_kinds, is_malformed, IsSum}
+use Rattle.ghcn_fields.specs.FieldForms.{digit_of, kind_of, may_precede, is_minus, is_number_form}
+use Rattle.ghcn_fields.specs.FieldForms.{form_of_kinds, is_malformed, IsSum}
 use Rattle.ghcn_fields.proofs.FieldsByKind.{sum_of, form_field, form-cases, form}
 
 -- ---- a field whose bytes may stand where they do
@@ -26,8 +28,9 @@ blank_digit : (b : ℕ) → (b == 32) ≡ true → is_ascii_digit b ≡ false
 blank_digit b e = grind (arith, nat_tests)
 
 -- where blanks alone follow, a blank alone may precede
-before_blanks : (blank other digit : Bool) (number blanks : Bool) → (blanks ≡ true → digit ≡ false)
-    → ((blank || (other && digit)) && (number || blanks)) ≡ (((blank || (other && digit)) && number) || (blank && blanks))
+before_blanks : (blank other digit number blanks : Bool) → (blanks ≡ true → digit ≡ false)
+    → ((blank || (other && digit)) && (number || blanks))
+    ≡ (((blank || (other && digit)) && number) || (blank && blanks))
 before_blanks true other digit number blanks apart = refl
 before_blanks false false digit number blanks apart = refl
 before_blanks false true false number blanks apart = refl
@@ -106,10 +109,13 @@ lane b next front last behind =
     top 7 (bit_or (bit_or (bit_or (mark (eqb b 32)) (bit_and goes_on (mark front))) (bit_and (digits b) (mark last)))
     (mark behind))
 
+-- a byte before its field's last one goes on: a digit or a minus, before a digit
+abbrev goes_on : ℕ → ℕ → Bool
+goes_on b next = (is_ascii_digit b || (b == 45)) && is_ascii_digit next
+
 -- that the byte may stand there
 lane-is : (b next : ℕ) (front last behind : Bool) → lane b next front last behind
-    ≡ ((((b == 32) || (((is_ascii_digit b || (b == 45)) && is_ascii_digit next) && front)) || (is_ascii_digit b && last))
-    || behind)
+    ≡ ((((b == 32) || (goes_on b next && front)) || (is_ascii_digit b && last)) || behind)
 lane-is b next front last behind =
     let d : Bool = is_ascii_digit b in
     let n : Bool = is_ascii_digit next in
@@ -128,8 +134,7 @@ lane-is b next front last behind =
 
 -- a byte of a field before its last one
 lane-front : (b next : ℕ) → lane b next true false false ≡ may_precede b next
-lane-front b next =
-    lane-is b next true false false ∙ by (b == 32) ((is_ascii_digit b || (b == 45)) && is_ascii_digit next) (is_ascii_digit b)
+lane-front b next = lane-is b next true false false ∙ by (b == 32) (goes_on b next) (is_ascii_digit b)
   where
     by : (blank goes digit : Bool) → (((blank || (goes && true)) || (digit && false)) || false) ≡ (blank || goes)
     by true goes digit = refl
@@ -139,8 +144,7 @@ lane-front b next =
 
 -- a field's last byte
 lane-last : (b next : ℕ) → lane b next false true false ≡ may_stand (b ∷ [])
-lane-last b next =
-    lane-is b next false true false ∙ by (b == 32) ((is_ascii_digit b || (b == 45)) && is_ascii_digit next) (is_ascii_digit b)
+lane-last b next = lane-is b next false true false ∙ by (b == 32) (goes_on b next) (is_ascii_digit b)
   where
     by : (blank goes digit : Bool) → (((blank || (goes && false)) || (digit && true)) || false) ≡ (blank || digit)
     by true goes digit = refl
@@ -193,70 +197,42 @@ either false t = refl
 both : {s t : Bool} {ss ts : List Bool} → s ≡ t → ss ≡ ts → s ∷ ss ≡ t ∷ ts
 both p q = ap₂ (λ (x : Bool) (xs : List Bool). x ∷ xs) p q
 
+-- what the lanes of a field's five columns and the three behind them say, by the column that comes next
+abbrev eight : ℕ → ℕ → ℕ → ℕ → ℕ → ℕ → ℕ → ℕ → ℕ → List Bool
+eight a b c d e f g h next =
+    lane a b true false false ∷ lane b c true false false ∷ lane c d true false false ∷ lane d e true false false
+    ∷ lane e f false true false ∷ lane f g false false true ∷ lane g h false false true ∷ lane h next false false true
+    ∷ []
+
+-- whether each of a field's columns may stand where it does, and that the three behind them may
+abbrev may_stand_each : ℕ → ℕ → ℕ → ℕ → ℕ → List Bool
+may_stand_each a b c d e =
+    may_precede a b ∷ may_precede b c ∷ may_precede c d ∷ may_precede d e ∷ may_stand (e ∷ []) ∷ true ∷ true ∷ true ∷ []
+
+-- that is what they say
+eight-are : (a b c d e f g h next : ℕ) → eight a b c d e f g h next ≡ may_stand_each a b c d e
+eight-are a b c d e f g h next =
+    both (lane-front a b) (both (lane-front b c) (both (lane-front c d) (both (lane-front d e) (both (lane-last e f)
+    (both (lane-behind f g) (both (lane-behind g h) (both (lane-behind h next) (refl {a = []}))))))))
+
 -- sixteen columns, one by one
 pub sixteen_are : (xs : List ℕ) → length xs ≡ 16 → xs ≡ map (λ j. get_or xs j 0) (range_with_len 0 16)
 sixteen_are xs many = sym (pick_l_whole 0 xs 16 many)
 
 -- the lanes of sixteen columns say whether one of the two fields is bad
-pub two_fields : (b0 b1 b2 b3 b4 b5 b6 b7 b8 b9 b10 b11 b12 b13 b14 b15 : ℕ)
-    → not (mask_l (
-    lane b0 b1 true false false ∷
-    lane b1 b2 true false false ∷
-    lane b2 b3 true false false ∷
-    lane b3 b4 true false false ∷
-    lane b4 b5 false true false ∷
-    lane b5 b6 false false true ∷
-    lane b6 b7 false false true ∷
-    lane b7 b8 false false true ∷
-    lane b8 b9 true false false ∷
-    lane b9 b10 true false false ∷
-    lane b10 b11 true false false ∷
-    lane b11 b12 true false false ∷
-    lane b12 b13 false true false ∷
-    lane b13 b14 false false true ∷
-    lane b14 b15 false false true ∷
-    lane b15 b0 false false true ∷ [])
-    % 2 ^ 64 == 65535)
-    ≡ (is_bad (int_field (b0 ∷ b1 ∷ b2 ∷ b3 ∷ b4 ∷ [])) || is_bad (int_field (b8 ∷ b9 ∷ b10 ∷ b11 ∷ b12 ∷ [])))
-two_fields b0 b1 b2 b3 b4 b5 b6 b7 b8 b9 b10 b11 b12 b13 b14 b15 =
-    let first : Bool = may_stand (b0 ∷ b1 ∷ b2 ∷ b3 ∷ b4 ∷ []) in
-    let second : Bool = may_stand (b8 ∷ b9 ∷ b10 ∷ b11 ∷ b12 ∷ []) in
-    let tests : List Bool =
-    (may_precede b0 b1) ∷
-    (may_precede b1 b2) ∷
-    (may_precede b2 b3) ∷
-    (may_precede b3 b4) ∷
-    (may_stand (b4 ∷ [])) ∷
-    (true) ∷
-    (true) ∷
-    (true) ∷
-    (may_precede b8 b9) ∷
-    (may_precede b9 b10) ∷
-    (may_precede b10 b11) ∷
-    (may_precede b11 b12) ∷
-    (may_stand (b12 ∷ [])) ∷
-    (true) ∷
-    (true) ∷
-    (true) ∷ [] in
-    ap (λ (ts : List Bool). not (mask_l ts % 2 ^ 64 == 65535)) (
-    both (lane-front b0 b1) (both (lane-front b1 b2)
-    (both (lane-front b2 b3)
-    (both (lane-front b3 b4)
-    (both (lane-last b4 b5)
-    (both (lane-behind b5 b6)
-    (both (lane-behind b6 b7)
-    (both (lane-behind b7 b8)
-    (both (lane-front b8 b9)
-    (both (lane-front b9 b10)
-    (both (lane-front b10 b11)
-    (both (lane-front b11 b12)
-    (both (lane-last b12 b13)
-    (both (lane-behind b13 b14)
-    (both (lane-behind b14 b15)
-    (ap (λ (t : Bool). t ∷ []) (lane-behind b15 b0)))))))))))))))))
-    ∙ ap (λ (n : ℕ). not (n == 65535)) (mask_l-mod tests 64 (omega arith))
-    ∙ ap not (all_set tests 65535 refl)
-    ∙ ap not (all_of (may_precede b0 b1) (may_precede b1 b2) (may_precede b2 b3) (may_precede b3 b4) (may_stand (b4 ∷ [])) _
-    ∙ ap (λ (t : Bool). first && t) (all_of (may_precede b8 b9) (may_precede b9 b10) (may_precede b10 b11) (may_precede b11 b12) (may_stand (b12 ∷ [])) _))
+pub two_fields : (a b c d e f g h i j k l m n o p : ℕ)
+    → not (mask_l (eight a b c d e f g h i ++ eight i j k l m n o p a) % 2 ^ 64 == 65535)
+    ≡ (is_bad (int_field (a ∷ b ∷ c ∷ d ∷ e ∷ [])) || is_bad (int_field (i ∷ j ∷ k ∷ l ∷ m ∷ [])))
+two_fields a b c d e f g h i j k l m n o p =
+    let tests : List Bool = may_stand_each a b c d e ++ may_stand_each i j k l m in
+    let first : Bool = may_stand (a ∷ b ∷ c ∷ d ∷ e ∷ []) in
+    let second : Bool = may_stand (i ∷ j ∷ k ∷ l ∷ m ∷ []) in
+    ap₂ (λ (ss ts : List Bool). not (mask_l (ss ++ ts) % 2 ^ 64 == 65535)) (eight-are a b c d e f g h i)
+    (eight-are i j k l m n o p a)
+    ∙ ap (λ (mask : ℕ). not (mask == 65535)) (mask_l-mod tests 64 (omega arith))
+    ∙ ap not (all_set tests 65535 refl
+    ∙ all_of (may_precede a b) (may_precede b c) (may_precede c d) (may_precede d e) (may_stand (e ∷ [])) _
+    ∙ ap (λ (t : Bool). first && t)
+    (all_of (may_precede i j) (may_precede j k) (may_precede k l) (may_precede l m) (may_stand (m ∷ [])) _))
     ∙ either first second
-    ∙ ap₂ (λ (s t : Bool). s || t) (sym (bad_five b0 b1 b2 b3 b4)) (sym (bad_five b8 b9 b10 b11 b12))
+    ∙ ap₂ (λ (s t : Bool). s || t) (sym (bad_five a b c d e)) (sym (bad_five i j k l m))

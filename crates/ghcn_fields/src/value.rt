@@ -98,31 +98,31 @@ fn form_of(kinds: u32) -> Form
 fn first(byte: u8) -> u32
     ensures { result ≡ 10000 * digit_of byte + 131072 * kind_of byte }
 {
-    FIRST[byte as usize]
+    COLUMNS[0][byte as usize]
 }
 
 fn second(byte: u8) -> u32
     ensures { result ≡ 1000 * digit_of byte + 524288 * kind_of byte }
 {
-    SECOND[byte as usize]
+    COLUMNS[1][byte as usize]
 }
 
 fn third(byte: u8) -> u32
     ensures { result ≡ 100 * digit_of byte + 2097152 * kind_of byte }
 {
-    THIRD[byte as usize]
+    COLUMNS[2][byte as usize]
 }
 
 fn fourth(byte: u8) -> u32
     ensures { result ≡ 10 * digit_of byte + 8388608 * kind_of byte }
 {
-    FOURTH[byte as usize]
+    COLUMNS[3][byte as usize]
 }
 
 fn fifth(byte: u8) -> u32
     ensures { result ≡ 1 * digit_of byte + 33554432 * kind_of byte }
 {
-    FIFTH[byte as usize]
+    COLUMNS[4][byte as usize]
 }
 
 /// What each byte adds in a column of this worth whose kind counts so much.
@@ -172,15 +172,14 @@ macro_rules! column {
     };
 }
 
-static FIRST: [u32; 256] = column!(10000, KINDS);
-
-static SECOND: [u32; 256] = column!(1000, 4 * KINDS);
-
-static THIRD: [u32; 256] = column!(100, 16 * KINDS);
-
-static FOURTH: [u32; 256] = column!(10, 64 * KINDS);
-
-static FIFTH: [u32; 256] = column!(1, 256 * KINDS);
+/// What each byte adds, by its column. One table, since a loop then needs one address alone.
+static COLUMNS: [[u32; 256]; 5] = [
+    column!(10000, KINDS),
+    column!(1000, 4 * KINDS),
+    column!(100, 16 * KINDS),
+    column!(10, 64 * KINDS),
+    column!(1, 256 * KINDS),
+];
 
 const B: Form = Form::Blanks;
 

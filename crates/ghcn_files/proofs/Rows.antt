@@ -160,7 +160,8 @@ all-are day some i w vs e none same is =
     }
 
 -- the row of a line is that of its month
-pub line-row : (kept : Bool) (element : Element) (line : List ℕ) (head : Head) (count w : ℕ) (vs : List ℤ) → head ≡ head_of line
+pub line-row : (kept : Bool) (element : Element) (line : List ℕ) (head : Head) (count w : ℕ) (vs : List ℤ)
+    → head ≡ head_of line
     → count ≡ days_in_month (pos head.year) head.month
     → AreDays (λ j. if_kept kept (line_value element count line j)) w vs
     → IsRowOf kept (month_of element line) (record {

@@ -129,40 +129,39 @@ fn days_of(element: Element, count: u8, line: &[u8]) -> Result<(u32, [i32; 32]),
     ensures fine { IfOk result (λ _. months.days_why line.now ≡ None) }
     ensures days { IfOk result (λ row. rows.AreDays (rows.line_value element count line.now) row.0 row.1) }
 {
-    let (any_is_bad, values) = values_of(line);
-    if any_is_bad {
+    let mut values = [MISSING; 32];
+    if read_values(line, &mut values) {
         // It says which one.
         readings(line)?;
     }
     Ok(values_from(least_of(element), count, &values))
 }
 
-/// Whether a value of a line is bad, and the values. `MISSING` stands for those that are missing or
-/// flagged.
-fn values_of(line: &[u8]) -> (bool, [i32; 32])
+/// Reads the values of a line, and answers whether one is bad. `MISSING` stands for those that are missing
+/// or flagged.
+fn read_values(line: &[u8], values: &mut [i32; 32]) -> bool
     requires { 266 ≤ length line.now }
-    ensures fine { result.0 ≡ false → months.days_why line.now ≡ None }
-    ensures values { rows.AreValues line.now result.1 }
+    ensures fine { result ≡ false → months.days_why line.now ≡ None }
+    ensures values { rows.AreValues line.now values.new }
 {
     match line.first_chunk() {
-        Some(whole) => values_of_whole(whole),
-        None => values_of_whole(&with_blanks(line)),
+        Some(whole) => read_whole(whole, values),
+        None => read_whole(&with_blanks(line), values),
     }
 }
 
 /// The same of a line with all its columns: no branch depends on a value, and no place on its length.
-fn values_of_whole(line: &[u8; COLUMNS]) -> (bool, [i32; 32])
-    ensures fine { result.0 ≡ false → months.days_why line.now ≡ None }
-    ensures values { rows.AreValues line.now result.1 }
+fn read_whole(line: &[u8; COLUMNS], values: &mut [i32; 32]) -> bool
+    ensures fine { result ≡ false → months.days_why line.now ≡ None }
+    ensures values { rows.AreValues line.now values.new }
 {
     let mut any_is_bad = false;
-    let mut values = [MISSING; 32];
     for day in 0..DAYS {
         let (is_bad, value) = value_or(value_column(line, day), MISSING);
         any_is_bad |= is_bad;
         values[day] = value_if(!is_flagged(line, day), value, MISSING);
     }
-    (any_is_bad, values)
+    any_is_bad
 }
 
 /// A line with the blanks that its end leaves out.

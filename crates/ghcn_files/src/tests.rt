@@ -291,6 +291,11 @@ fn rows_of_the_element_that_is_asked_for(rt: HostRuntime) {
         (Some(Element::Prcp), (0, 0, 0)),
     ];
     for (asked, days) in cases {
+        assert_eq!(rt;
+            Element::Tmax.is_kept(asked),
+            days.0 > 0,
+            "where {asked:?} is asked for"
+        );
         for line in [&july[..], &july[..266]] {
             let found = read_days(line, asked).map(|row| {
                 row.map(|it| (

@@ -169,7 +169,8 @@ turned false true e = refl
 turned false false e = absurd cc
 
 -- a month's number is that of its row
-pub number_is : (kept : Bool) (m : Month) (row : MonthRow) (n : ℕ) → IsRowOf kept m row → n ≡ 12 * row.year + row.month → n ≡ number_of m
+pub number_is : (kept : Bool) (m : Month) (row : MonthRow) (n : ℕ) → IsRowOf kept m row
+    → n ≡ 12 * row.year + row.month → n ≡ number_of m
 number_is kept m row n of e =
     e ∙ ap (λ (y : ℕ). 12 * y + row.month) of.year ∙ ap (λ (t : ℕ). 12 * m.year + t) of.month
 

@@ -6,6 +6,6 @@ use Rattle.ghcn_fields.proofs.lanes.has_bad_field.Goals as goal
 pub returns : goal.returns
 returns c =
     let xs : List ℕ = c.args.columns.now in
-    let are = sixteen_are xs (omega arith) in
-    let b = λ (j : ℕ). get_or xs j 0 in
-    rw are (two_fields (b 0) (b 1) (b 2) (b 3) (b 4) (b 5) (b 6) (b 7) (b 8) (b 9) (b 10) (b 11) (b 12) (b 13) (b 14) (b 15))
+    let at = λ (j : ℕ). get_or xs j 0 in
+    rw (sixteen_are xs (omega arith)) (two_fields (at 0) (at 1) (at 2) (at 3) (at 4) (at 5) (at 6) (at 7) (at 8) (at 9)
+    (at 10) (at 11) (at 12) (at 13) (at 14) (at 15))

@@ -1,12 +1,12 @@
-use Rattle.std.proofs.Common.{◌+◌, ◌*◌, true, get_or, refl, arith}
+use Rattle.std.proofs.Common.{◌+◌, ◌*◌, true, [], get_or, refl, arith}
 use Rattle.std.specs.Prelude.{◌==◌}
 use Rattle.std.proofs.lemmas.Bool.{agree_below_at, eqb-true}
-use Rattle.ghcn_fields.specs.declared.value.TheConstants.{FIFTH}
+use Rattle.ghcn_fields.specs.declared.value.TheConstants.{COLUMNS}
 use Rattle.ghcn_fields.specs.FieldForms.{digit_of, kind_of}
 use Rattle.ghcn_fields.proofs.value.fifth.Goals as goal
 
 -- the table has what is said at each byte
 pub returns : goal.returns
 returns c = eqb-true _ _ (agree_below_at
-    (λ b. get_or FIFTH b 0 == 1 * digit_of b + 33554432 * kind_of b)
+    (λ b. get_or (get_or COLUMNS 4 []) b 0 == 1 * digit_of b + 33554432 * kind_of b)
     (λ _. true) 256 c.args.byte refl (omega arith))

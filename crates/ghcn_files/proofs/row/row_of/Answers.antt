@@ -38,7 +38,10 @@ returns-clause-fine c =
 -- has its month's row
 pub returns-clause-row : goal.returns-clause-row
 returns-clause-row c =
+    let line = c.args.line.now in
+    let count = c.days_in_month-count.result in
     let head = unless_ok _ _ _ (sym c.head_of.ensures.value ∙ c.in_ok-head.was) in
-    line-row _ c.args.element c.args.line.now c.in_ok-head.head _ _ _ head.1 c.days_in_month-count.ensures
-    (subst (λ (k : Bool). AreDays (λ j. if_kept k (line_value c.args.element c.days_in_month-count.result c.args.line.now j))
-    c.in_ok-word.word c.in_ok-word.values) c.is_kept.ensures c.in_ok-word.ensures.days)
+    let days = λ (k : Bool). AreDays (λ j. if_kept k (line_value c.args.element count line j)) c.in_ok-word.word
+    c.in_ok-word.values in
+    line-row _ c.args.element line c.in_ok-head.head _ _ _ head.1 c.days_in_month-count.ensures
+    (subst days c.is_kept.ensures c.in_ok-word.ensures.days)

@@ -1,4 +1,4 @@
-use Rattle.std.proofs.Common.{rules, ◌≡◌, ℕ, ◌^◌, Bool, get_or, refl, subst, arith, ℤ, pos, w32, to_z, of_z}
+use Rattle.std.proofs.Common.{rules, ◌≡◌, ℕ, ◌^◌, Bool, get_or, Option, refl, subst, arith, ℤ, pos, w32, to_z, of_z}
 use Rattle.std.specs.Prelude.{if◌then◌else◌, int_le, ◌&&◌, nat_lt}
 use Rattle.std.proofs.lemmas.Int.{to_z-of_z}
 use Rattle.ghcn_files.specs.Rows.{AreDays, value_from}
@@ -7,7 +7,9 @@ use Rattle.ghcn_files.proofs.row.values_from.Goals as goal
 
 -- no day is in the row yet
 pub loop-day-init : goal.loop-day-init
-loop-day-init c = record { row = first-none (value_from (to_z w32 (of_z w32 c.args.least)) c.min-days.result c.args.values.now) }
+loop-day-init c =
+    let least : ℤ = to_z w32 (of_z w32 c.args.least) in
+    record { row = first-none (value_from least c.min-days.result c.args.values.now) }
 
 -- one day more is
 pub loop-day-preserved : goal.loop-day-preserved
@@ -18,9 +20,11 @@ loop-day-preserved c =
     let counts : Bool = int_le least value && nat_lt day c.min-days.result in
     let bit : c.bit_if-word.result ≡ (if counts then 2 ^ day else 0) = search rules in
     let kept : to_z w32 (of_z w32 c.value_if.result) ≡ (if counts then value else pos 0) = search rules in
+    let some : ℕ → Option ℤ = value_from least c.min-days.result c.args.values.now in
     record {
-      row = rw (bit, kept) (first-step (value_from least c.min-days.result c.args.values.now) day c.loop-day.word c.loop-day.kept counts
-          value c.loop-day.invariant.row refl c.loop-day-test.true);
+      row = rw (bit, kept)
+          (first-step some day c.loop-day.word c.loop-day.kept counts value c.loop-day.invariant.row refl
+          c.loop-day-test.true);
     }
 
 -- all days are, and the place behind them has none

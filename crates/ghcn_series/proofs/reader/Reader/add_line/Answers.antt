@@ -8,7 +8,8 @@ use Rattle.ghcn_series.proofs.reader.Reader.add_line.Goals as goal
 -- the row is that of a month
 pub add_month-requires-clause-right : goal.add_month-requires-clause-right
 add_month-requires-clause-right c =
-    let is : IsOfLine c.args.self.now.element c.args.bytes.now c.in-Ok-Some.row = rw c.in-Ok-Some.field-0-is at c.in-Ok-Some.ensures in
+    let is : IsOfLine c.args.self.now.element c.args.bytes.now c.in-Ok-Some.row =
+    rw c.in-Ok-Some.field-0-is at c.in-Ok-Some.ensures in
     (is.month, (is.right, is.row))
 
 -- a line of none of the elements is passed over
@@ -29,7 +30,8 @@ returns-in-Err-clause-fault c =
 pub returns-in-Ok-true-clause-read : goal.returns-in-Ok-true-clause-read
 returns-in-Ok-true-clause-read c =
     let this : FileLine = line_of c.args.file (c.args.line, c.args.bytes.now) in
-    let is : IsOfLine c.args.self.now.element c.args.bytes.now c.in-Ok-Some.row = rw c.in-Ok-Some.field-0-is at c.in-Ok-Some.ensures in
+    let is : IsOfLine c.args.self.now.element c.args.bytes.now c.in-Ok-Some.row =
+    rw c.in-Ok-Some.field-0-is at c.in-Ok-Some.ensures in
     let adds = rw c.in-Ok-true.field-0-test at c.in-Ok-true.ensures.added in
     record {
       holds = λ before read. read-month c.args.self.now c.add_month.new.self this is.month is.read
@@ -40,7 +42,8 @@ returns-in-Ok-true-clause-read c =
 pub returns-in-Ok-false-clause-fault : goal.returns-in-Ok-false-clause-fault
 returns-in-Ok-false-clause-fault c =
     let this : FileLine = line_of c.args.file (c.args.line, c.args.bytes.now) in
-    let is : IsOfLine c.args.self.now.element c.args.bytes.now c.in-Ok-Some.row = rw c.in-Ok-Some.field-0-is at c.in-Ok-Some.ensures in
+    let is : IsOfLine c.args.self.now.element c.args.bytes.now c.in-Ok-Some.row =
+    rw c.in-Ok-Some.field-0-is at c.in-Ok-Some.ensures in
     let adds = rw c.in-Ok-false.field-0-test at c.in-Ok-false.ensures.added in
     rw c.refused-in-Ok-false.ensures (record {
       first = λ before read. refused-month c.args.self.now

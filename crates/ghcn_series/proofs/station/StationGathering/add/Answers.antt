@@ -39,11 +39,12 @@ returns-then-is_kept-clause-added c =
     IfOk-weaker c.add.result _ _ (λ added adds m right of.
     let kept_row : is_kept c.args.asked c.args.row.now.element ≡ true = sym c.is_kept.ensures ∙ c.if-is_kept.true in
     let kept : is_kept c.args.asked m.element ≡ true =
-    ap (is_kept c.args.asked) (sym of.element) ∙ sym c.is_kept.ensures ∙ c.if-is_kept.true in
+    ap (is_kept c.args.asked) (sym of.element) ∙ kept_row in
     let P : Bool → Type 0 = λ b. Gathers b c.index_mut-gathering.result.now c.add.new.self m added in
     let more = by_element-more c.args.asked m c.args.self.now.id c.open.new.self.by_element.items c.place_of.result
     c.index_mut-gathering.result.now c.add.new.self added (c.place_of.ensures ∙ ap element_index of.element)
-    c.index_mut-gathering.ensures.value c.add.ensures.element (subst P (sym kept) (adds m right (subst (λ (k : Bool). IsRowOf k m c.args.row.now) kept_row of))) in
+    c.index_mut-gathering.ensures.value c.add.ensures.element
+    (subst P (sym kept) (adds m right (subst (λ (k : Bool). IsRowOf k m c.args.row.now) kept_row of))) in
     let own = sym of.id ∙ c.requires.own in
     record {
       is_new = λ before is. (more before own (c.in_ok-open.ensures.same.holds c.args.asked before is)).0;
@@ -56,11 +57,12 @@ returns-else-is_kept-clause-added c =
     IfOk-weaker c.note.result _ _ (λ added adds m right of.
     let kept_row : is_kept c.args.asked c.args.row.now.element ≡ false = sym c.is_kept.ensures ∙ c.if-is_kept.false in
     let kept : is_kept c.args.asked m.element ≡ false =
-    ap (is_kept c.args.asked) (sym of.element) ∙ sym c.is_kept.ensures ∙ c.if-is_kept.false in
+    ap (is_kept c.args.asked) (sym of.element) ∙ kept_row in
     let P : Bool → Type 0 = λ b. Gathers b c.index_mut-gathering.result.now c.note.new.self m added in
     let more = by_element-more c.args.asked m c.args.self.now.id c.open.new.self.by_element.items c.place_of.result
     c.index_mut-gathering.result.now c.note.new.self added (c.place_of.ensures ∙ ap element_index of.element)
-    c.index_mut-gathering.ensures.value c.note.ensures.element (subst P (sym kept) (adds m right (subst (λ (k : Bool). IsRowOf k m c.args.row.now) kept_row of))) in
+    c.index_mut-gathering.ensures.value c.note.ensures.element
+    (subst P (sym kept) (adds m right (subst (λ (k : Bool). IsRowOf k m c.args.row.now) kept_row of))) in
     let own = sym of.id ∙ c.requires.own in
     record {
       is_new = λ before is. (more before own (c.in_ok-open.ensures.same.holds c.args.asked before is)).0;

@@ -1,7 +1,7 @@
 use Rattle.std.proofs.Common.{◌≡◌, ℕ, ◌+◌, ◌-◌, ◌<◌, false, length, get_or, pos}
 use Rattle.ghcn_files.specs.Rows.{value_or_missing}
 use Rattle.ghcn_files.proofs.Readings.{tests_from}
-use Rattle.ghcn_files.proofs.row.values_of_whole.Given as goal
+use Rattle.ghcn_files.proofs.row.read_whole.Given as goal
 
 -- the values so far, and where none of them is bad, their tests are passed
 abbrev pub invariant-loop-day : goal.invariant-loop-day

@@ -7,7 +7,7 @@ use Rattle.ghcn_fields.specs.Numbers.{int_field, is_bad, number_or}
 use Rattle.ghcn_files.specs.Months.{is_flagged}
 use Rattle.ghcn_files.specs.Rows.{value_or_missing}
 use Rattle.ghcn_files.proofs.Readings.{all_tests, no_test, passes-fine, neither, tests_from}
-use Rattle.ghcn_files.proofs.row.values_of_whole.Goals as goal
+use Rattle.ghcn_files.proofs.row.read_whole.Goals as goal
 
 -- one day more has its value, and its test is passed where that isn't bad
 pub loop-day-preserved : goal.loop-day-preserved
