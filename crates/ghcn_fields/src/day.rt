@@ -59,6 +59,14 @@ impl Day {
         Some(Day { number })
     }
 
+    /// The day with this number.
+    pub fn numbered(number: i32) -> Self
+        requires { IsTrue (is_day number) }
+        ensures { result ≡ number }
+    {
+        Day { number }
+    }
+
     /// Days since 1970-01-01.
     pub fn number(self) -> i32
         ensures value { result ≡ self }

@@ -1,5 +1,5 @@
 -- The first day of a block, and the days behind it.
-use Rattle.std.proofs.Common.{◌≡◌, ◌≢◌, ℕ, zero, suc, ◌+◌, ◌*◌, ◌%◌, ◌<◌, ◌≤◌, ◌^◌, Bool, true, List, [], ◌∷◌, ◌++◌}
+use Rattle.std.proofs.Common.{◌≡◌, ◌≢◌, ℕ, zero, suc, ◌+◌, ◌*◌, ◌%◌, ◌<◌, ◌≤◌, ◌^◌, true, List, [], ◌∷◌, ◌++◌}
 use Rattle.std.proofs.Common.{length, get_or, Option, Some, None, inl, inr, refl, sym, ap, ◌∙◌, arith, ℤ, pos, ◌+ℤ◌}
 use Rattle.std.proofs.Common.{w32}
 use Rattle.std.specs.Prelude.{◌==◌, bit_and}
@@ -9,10 +9,10 @@ use Rattle.std.proofs.lemmas.Bool.{cases_lt}
 use Rattle.std.proofs.lemmas.Nat.Bits.{bit_at-zero, bit_at-trailing_zeros, bit_at_clear_same, bit_at_clear_other}
 use Rattle.std.proofs.Common.{subst, neg_ℤ, ◌≤ℤ◌}
 use Rattle.std.proofs.lemmas.Int.{ints}
-use Rattle.std.proofs.Common.{cond}
-use Rattle.std.specs.Iterator.{YieldsFirst}
+use Rattle.std.specs.Iterator.{YieldsFirst, MakesProgress, item_count}
+use Rattle.std.specs.Prelude.{⊤}
 use Rattle.std.specs.List.{AllByRecursion}
-use Rattle.ghcn_fields.specs.Days.{is_day, day_if, IsBlock}
+use Rattle.ghcn_fields.specs.Days.{is_day, IsBlock}
 use Rattle.ghcn_series.specs.Series.{DayValue}
 use Rattle.ghcn_series.specs.Packed.{block_start, if_so, day_at, block_days, days_from, days_of, blocks_of, AreDays}
 use Rattle.ghcn_series.specs.Packed.{IsPacked}
@@ -133,13 +133,6 @@ pub lowest-block : (n : ℤ) (w : ℕ) → AreDays n w → 0 < w → w < 2 ^ 32 
 lowest-block n w are some fits = block-of_day n (trailing_zeros w32 w) (bit_at-trailing_zeros w32 w some fits).0
     (lowest-day n w are some fits)
 
--- the day of the lowest bit, as it is tested
-pub lowest-if : (n : ℤ) (w : ℕ) → AreDays n w → 0 < w → w < 2 ^ 32
-    → day_if (block_start n +ℤ pos (trailing_zeros w32 w)) ≡ Some (block_start n +ℤ pos (trailing_zeros w32 w))
-lowest-if n w are some fits =
-    let day : ℤ = block_start n +ℤ pos (trailing_zeros w32 w) in
-    ap (λ (t : Bool). cond t (Some day) None) (lowest-day n w are some fits)
-
 -- what comes of the first days of two parts, of which the first has one
 pub yields-before : (r : Option DayValue) (cur new rest : List DayValue) → 0 < length cur
     → YieldsFirst (λ (days : List DayValue). days) cur r new
@@ -156,3 +149,10 @@ first-packed n w vs ns ws vss all = all.0
 -- days behind a first one are fewer
 pub fewer : (all rest : List DayValue) (x : DayValue) → all ≡ x ∷ rest → length rest < length all
 fewer all rest x e = let long : length all ≡ length (x ∷ rest) = ap (λ (l : List DayValue). length l) e in omega arith
+
+-- so a day that is yielded leaves fewer
+pub progress : (all left : List DayValue) (r : Option DayValue)
+    → YieldsFirst (λ (days : List DayValue). days) all r left
+    → MakesProgress (λ _. ⊤) (item_count (λ (days : List DayValue). days)) all r left
+progress all left None yields = record { on = λ _. tt; keeps = tt; rests = λ _. tt }
+progress all left (Some x) yields = record { on = λ _. (tt, tt, fewer all left x yields); keeps = tt; rests = λ _. tt }

@@ -1,7 +1,7 @@
 -- What is looked up among the days of blocks.
 use Rattle.std.proofs.Common.{◌≡◌, ℕ, zero, suc, ◌+◌, ◌<◌, ◌≤◌, Bool, true, false, cond, List, [], ◌∷◌, ◌++◌, length}
 use Rattle.std.proofs.Common.{get_or, Option, Some, None, inl, inr, refl, sym, ap, subst, ◌∙◌, arith, ℤ, pos, negsuc}
-use Rattle.std.proofs.Common.{◌≤ℤ◌, ◌<ℤ◌, ◌+ℤ◌}
+use Rattle.std.proofs.Common.{◌≤ℤ◌, ◌<ℤ◌, ◌+ℤ◌, drop, drop_of_length-le}
 use Rattle.std.specs.Prelude.{◌==◌, unsigned_abs}
 use Rattle.std.specs.Int.{bit_at}
 use Rattle.std.specs.List.{find, cons_option, filter_map, range_with_len, zip}
@@ -10,11 +10,12 @@ use Rattle.std.specs.Ordering.{int_eq}
 use Rattle.std.proofs.lemmas.Bool.{cases_lt}
 use Rattle.std.proofs.lemmas.Bool.Decides.{Decides-int_eq}
 use Rattle.std.proofs.lemmas.Int.{ints}
+use Rattle.std.proofs.lemmas.List.{drop_more}
 use Rattle.std.proofs.lemmas.Slice.Zip.{length-zip, get_or-zip}
 use Rattle.ghcn_fields.specs.Days.{block_of}
 use Rattle.ghcn_series.specs.Series.{DayValue, value_on}
 use Rattle.ghcn_series.specs.Packed.{Block, block_start, place_of, if_so, value_at, day_from, days_from, block_days}
-use Rattle.ghcn_series.specs.Packed.{days_of, blocks_of}
+use Rattle.ghcn_series.specs.Packed.{days_of, blocks_of, AreBlocks}
 
 -- equal numbers pass the test
 pub int_eq-yes : (a b : ℤ) → a ≡ b → int_eq a b ≡ true
@@ -199,3 +200,18 @@ at_day P day h =
     let is = place_is day in
     subst P {x = block_start (block_of day) +ℤ pos (unsigned_abs (place_of day))} (omega (arith, ints))
     (h (unsigned_abs (place_of day)) (omega (arith, ints)))
+
+-- the blocks behind so many are the next one and those behind it
+pub blocks-behind : (ns : List ℤ) (ws : List ℕ) (vs : List (List ℤ)) (i : ℕ) → AreBlocks ns ws vs → i < length ns
+    → drop i (blocks_of ns ws vs)
+    ≡ (get_or ns i (pos 0), (get_or ws i 0, get_or vs i [])) ∷ drop (i + 1) (blocks_of ns ws vs)
+blocks-behind ns ws vs i bs lt =
+    drop_more (blocks_of ns ws vs) i no_block (rw (blocks-length ns ws vs bs.enough_words bs.enough_values) lt)
+    ∙ ap (λ (b : Block). b ∷ drop (i + 1) (blocks_of ns ws vs))
+    (blocks-at ns ws vs i bs.enough_words bs.enough_values lt)
+
+-- behind all of them there is none
+pub blocks-end : (ns : List ℤ) (ws : List ℕ) (vs : List (List ℤ)) (i : ℕ) → AreBlocks ns ws vs → length ns ≤ i
+    → drop i (blocks_of ns ws vs) ≡ []
+blocks-end ns ws vs i bs le =
+    drop_of_length-le (blocks_of ns ws vs) (rw (blocks-length ns ws vs bs.enough_words bs.enough_values) le)

@@ -120,7 +120,7 @@ fn last_day(number: i32, word: u32) -> Option<Day>
     requires some { 0 < word }
     ensures { packed.IsLastOf number word result }
 {
-    day_at(number, word.ilog2())
+    Some(day_at(number, word.ilog2()))
 }
 
 /// Where a number stands among numbers that rise, looked for at one place first.

@@ -1,7 +1,7 @@
 //! The usable days of a series, one after another.
 
-ghost use Rattle.std.specs.Prelude.{◌≡◌, ◌<◌, ◌++◌, pos, ◌+ℤ◌};
-ghost use Rattle.ghcn_fields.specs.Days.{IsBlock, day_if};
+ghost use Rattle.std.specs.Prelude.{◌≡◌, ◌<◌, ◌++◌, IsTrue, pos, ◌+ℤ◌};
+ghost use Rattle.ghcn_fields.specs.Days.{IsBlock, is_day};
 ghost use Rattle.ghcn_series.specs.Packed as packed;
 
 use ghcn_fields::Day;
@@ -69,19 +69,20 @@ impl<'a> Iterator for BlockDays<'a> {
             return None;
         }
         let place = self.left.trailing_zeros();
-        let day = day_at(self.number, place)?;
+        let day = day_at(self.number, place);
         self.left &= !(1 << place);
         Some((day, self.values[place as usize]))
     }
 }
 
-/// The day at a place of a block, or `None` outside the calendar.
-pub(crate) fn day_at(number: i32, place: u32) -> Option<Day>
+/// The day at a place of a block.
+pub(crate) fn day_at(number: i32, place: u32) -> Day
     requires number { IsBlock number }
     requires place { place < 32 }
-    ensures { result ≡ day_if (packed.block_start number +ℤ pos place) }
+    requires day { IsTrue (is_day (packed.block_start number +ℤ pos place)) }
+    ensures { result ≡ packed.block_start number +ℤ pos place }
 {
-    Day::with_number(number * 32 + place as i32)
+    Day::numbered(number * 32 + place as i32)
 }
 
 /// The usable days that are still to come, by increasing day, each with its value.
@@ -91,16 +92,18 @@ pub struct Days<'a> {
     numbers: &'a [i32],
     words: &'a [u32],
     values: &'a [[i32; 32]],
+    /// How many blocks are behind: one number that changes where three slices would.
+    passed: usize,
 }
 
 impl<'a> Model for Days<'a> {
-    ghost use Rattle.std.specs.Prelude.{List, ◌++◌};
+    ghost use Rattle.std.specs.Prelude.{List, ◌++◌, drop};
     ghost use Rattle.ghcn_series.specs.Series.{DayValue};
     ghost use Rattle.ghcn_series.specs.Packed.{days_of, blocks_of, AreBlocks};
 
     ghost Value = { List DayValue };
 
-    ghost view = { λ d. d.current ++ days_of (blocks_of d.numbers.now d.words.now d.values.now) };
+    ghost view = { λ d. d.current ++ days_of (drop d.passed (blocks_of d.numbers.now d.words.now d.values.now)) };
 
     ghost invariant = { λ d. AreBlocks d.numbers.now d.words.now d.values.now };
 }
@@ -119,6 +122,7 @@ impl<'a> Days<'a> {
             numbers,
             words,
             values,
+            passed: 0,
         }
     }
 }
@@ -137,6 +141,7 @@ impl<'a> Clone for Days<'a> {
             numbers: self.numbers,
             words: self.words,
             values: self.values,
+            passed: self.passed,
         })
     }
 }
@@ -154,13 +159,10 @@ impl<'a> Iterator for Days<'a> {
         if let Some(first) = self.current.next() {
             return Some(first);
         }
-        let (number, numbers) = self.numbers.split_first()?;
-        let (word, words) = self.words.split_first()?;
-        let (values, rest) = self.values.split_first()?;
-        self.current = BlockDays::of(*number, *word, values);
-        self.numbers = numbers;
-        self.words = words;
-        self.values = rest;
+        let next = self.passed;
+        let number = self.numbers.get(next)?;
+        self.current = BlockDays::of(*number, self.words[next], &self.values[next]);
+        self.passed += 1;
         self.current.next()
     }
 }

@@ -10,7 +10,7 @@ use Rattle.ghcn_series.specs.Series.{DayValue, Usable, IsSeries}
 use Rattle.rank_query.specs.Asked.{Asked}
 use Rattle.rank_scores.specs.declared.candidate.Candidate.{Candidate}
 use Rattle.rank_scores.specs.Candidates.{Windows, plus, admitted, candidate, begun, candidates_among}
-use Rattle.ghcn_fields.specs.Days.{is_day, day_if}
+use Rattle.ghcn_fields.specs.Days.{is_day}
 use Rattle.rank_scores.proofs.Runs.{AreDays, admitted-days}
 use Rattle.rank_scores.proofs.Rising.{Rise, from_each, same_made, differ, admitted-rise}
 use Rattle.rank_scores.proofs.Totals.{leading, leading-split, leading-first, total-behind, total-leading, leading-small, IsSmall, admitted-small}
@@ -78,11 +78,6 @@ gone_on false w = record { leaving = drop w.len w.leaving; len = 0; total = pos 
 abbrev pub with_day : Span → ℤ → Span
 with_day w v = record { leaving = w.leaving; len = w.len + 1; total = w.total +ℤ v }
 
--- the first of some days
-abbrev pub first_day : List DayValue → Option ℤ
-first_day [] = None
-first_day (x ∷ xs) = Some x.0
-
 -- the value of the first of some days
 abbrev pub first_value : List DayValue → ℤ
 first_value [] = pos 0
@@ -97,38 +92,33 @@ without_first w = elim w.leaving [
 
 -- ---- one window
 
--- the window's last day is the one before this
-abbrev Ends : Option ℤ → ℤ → ℕ → Type 0
-Ends None first len = len ≡ 0
-Ends (Some last) first len = last +ℤ pos 1 ≡ first +ℤ pos len
-
--- the window has days one after another up to the last one that came, with their sum, and these days are to come
-pub record IsAt (w : Span) (last : Option ℤ) (rest : List DayValue) : Type 0 where
+-- the window has days one after another, with their sum, this day goes on with it, and these are to come
+pub record IsAt (w : Span) (next : ℤ) (rest : List DayValue) : Type 0 where
   pub first : ℤ
   pub sum : leading w.len first w.leaving ≡ Some w.total
   pub behind : drop w.len w.leaving ≡ rest
-  pub ends : Ends last first w.len
+  pub ends : next ≡ first +ℤ pos w.len
   pub rise : Rise w.leaving
   pub small : AllByRecursion (λ x. IsSmall x.1) w.leaving
   pub days : AreDays w.leaving
 
 -- at first the window has no day
-pub at_first : (q : Asked) (s : Usable) (all left : List DayValue) → IsSeries s → all ≡ admitted q s
-    → left ≡ admitted q s → IsAt record { leaving = all; len = 0; total = pos 0 } None left
-at_first q s all left series is same = record {
-  first = pos 0;
+pub at_first : (q : Asked) (s : Usable) (all left : List DayValue) (next : ℤ) → IsSeries s → all ≡ admitted q s
+    → left ≡ admitted q s → IsAt record { leaving = all; len = 0; total = pos 0 } next left
+at_first q s all left next series is same = record {
+  first = next;
   sum = refl;
   behind = is ∙ sym same;
-  ends = refl;
+  ends = omega (arith, ints);
   rise = subst Rise (sym is) (admitted-rise q s series);
   small = subst (AllByRecursion (λ x. IsSmall x.1)) (sym is) (admitted-small q s series);
   days = subst AreDays (sym is) (admitted-days q s.days);
 }
 
 -- sums of so few small values fit 64 bits
-pub fits : (w : Span) (last : Option ℤ) (rest : List DayValue) → IsAt w last rest → w.len ≤ 65_535
+pub fits : (w : Span) (next : ℤ) (rest : List DayValue) → IsAt w next rest → w.len ≤ 65_535
     → FitsSigned w64 w.total
-fits w last rest at few =
+fits w next rest at few =
     let both = leading-small w.len at.first w.total w.leaving at.small at.sum in
     let low = both.0 in
     let high = both.1 in
@@ -164,16 +154,14 @@ drop-more (suc len) [] ys y e = absurd cc
 drop-more (suc len) (x ∷ xs) ys y e = drop-more len xs ys y e
 
 -- the window with the day that comes next, where that day goes on with it
-pub joined : (w : Span) (last : Option ℤ) (y : DayValue) (ys : List DayValue) → IsAt w last (y ∷ ys)
-    → option_map (λ d. d +ℤ pos 1) last ≡ Some y.0 → IsAt (with_day w y.1) (Some y.0) ys
-joined w None y ys at next = absurd cc
-joined w (Some last) y ys at next =
-    let on : last +ℤ pos 1 ≡ y.0 = cc in
+joined : (w : Span) (next : ℤ) (y : DayValue) (ys : List DayValue) → IsAt w next (y ∷ ys) → y.0 ≡ next
+    → IsAt (with_day w y.1) (y.0 +ℤ pos 1) ys
+joined w next y ys at on =
     let one : w.len + 1 ≡ suc w.len = omega arith in
-    let ends : last +ℤ pos 1 ≡ at.first +ℤ pos w.len = at.ends in
+    let ends : next ≡ at.first +ℤ pos w.len = at.ends in
     record {
       first = at.first;
-      sum = more w.len at.first w.total w.leaving ys y at.sum at.behind (omega (arith, ints));
+      sum = more w.len at.first w.total w.leaving ys y at.sum at.behind (on ∙ ends);
       behind = ap (λ (k : ℕ). drop k w.leaving) one ∙ drop-more w.len w.leaving ys y at.behind;
       ends = omega (arith, ints);
       rise = at.rise;
@@ -182,9 +170,9 @@ joined w (Some last) y ys at next =
     }
 
 -- the window of the next day alone
-pub alone : (w : Span) (last : Option ℤ) (y : DayValue) (ys : List DayValue) → IsAt w last (y ∷ ys)
-    → IsAt (with_day (gone_on false w) y.1) (Some y.0) ys
-alone w last y ys at = record {
+alone : (w : Span) (next : ℤ) (y : DayValue) (ys : List DayValue) → IsAt w next (y ∷ ys)
+    → IsAt (with_day (gone_on false w) y.1) (y.0 +ℤ pos 1) ys
+alone w next y ys at = record {
   first = y.0;
   sum = more 0 y.0 (pos 0) (drop w.len w.leaving) ys y refl at.behind (omega (arith, ints));
   behind = drop-more 0 (drop w.len w.leaving) ys y at.behind;
@@ -195,50 +183,45 @@ alone w last y ys at = record {
 }
 
 -- the day that comes next is taken in
-pub taken_in : (w : Span) (last : Option ℤ) (y : DayValue) (ys : List DayValue) (b : Bool) → IsAt w last (y ∷ ys)
-    → (IsTrue b ↔ (option_map (λ d. d +ℤ pos 1) last ≡ Some y.0)) → IsAt (with_day (gone_on b w) y.1) (Some y.0) ys
-taken_in w last y ys true at is = joined w last y ys at (is.0 refl)
-taken_in w last y ys false at is = alone w last y ys at
+taken_in : (w : Span) (next : ℤ) (y : DayValue) (ys : List DayValue) (b : Bool) → IsAt w next (y ∷ ys)
+    → (IsTrue b ↔ (y.0 ≡ next)) → IsAt (with_day (gone_on b w) y.1) (y.0 +ℤ pos 1) ys
+taken_in w next y ys true at is = joined w next y ys at (is.0 refl)
+taken_in w next y ys false at is = alone w next y ys at
 
 -- no window begins on a day that left before a new one was begun
-pub none_lost : (id : StationId) (n : ℕ) (w : Span) (last : Option ℤ) (y : DayValue) (ys : List DayValue) (b : Bool)
-    → IsAt w last (y ∷ ys) → w.len < n → (IsTrue b ↔ (option_map (λ d. d +ℤ pos 1) last ≡ Some y.0))
+none_lost : (id : StationId) (n : ℕ) (w : Span) (next : ℤ) (y : DayValue) (ys : List DayValue) (b : Bool)
+    → IsAt w next (y ∷ ys) → w.len < n → (IsTrue b ↔ (y.0 ≡ next))
     → windows id n w.leaving ≡ windows id n (gone_on b w).leaving
-none_lost id n w last y ys true at few is = refl
-none_lost id n w last y ys false at few is =
+none_lost id n w next y ys true at few is = refl
+none_lost id n w next y ys false at few is =
     passed id n w.len at.first w.total w.leaving few at.rise at.sum
     (λ m some. ap (leading (suc m) (at.first +ℤ pos w.len)) at.behind
     ∙ ap (λ (t : Bool). cond t (plus (Some y.1) (leading m ((at.first +ℤ pos w.len) +ℤ pos 1) ys)) None)
-    (differ y.0 (at.first +ℤ pos w.len) (λ on. let goes : false ≡ true = is.1 (joins last at.ends some on) in cc)))
-  where
-    joins : (o : Option ℤ) → Ends o at.first w.len → 0 < w.len → y.0 ≡ at.first +ℤ pos w.len
-        → option_map (λ d. d +ℤ pos 1) o ≡ Some y.0
-    joins None ends some on = absurd (omega arith)
-    joins (Some d) ends some on = let next : d +ℤ pos 1 ≡ y.0 = omega (arith, ints) in ap (λ (z : ℤ). Some z) next
+    (differ y.0 (at.first +ℤ pos w.len) (λ on. let goes : false ≡ true = is.1 (on ∙ sym at.ends) in cc)))
 
 -- where no day is to come, no window begins on the days that are left
-pub none_left : (id : StationId) (n : ℕ) (w : Span) (last : Option ℤ) → IsAt w last [] → w.len < n
+pub none_left : (id : StationId) (n : ℕ) (w : Span) (next : ℤ) → IsAt w next [] → w.len < n
     → windows id n w.leaving ≡ []
-none_left id n w last at few =
+none_left id n w next at few =
     passed id n w.len at.first w.total w.leaving few at.rise at.sum
     (λ m some. ap (leading (suc m) (at.first +ℤ pos w.len)) at.behind) ∙ ap (windows id n) at.behind
 
 -- a window with a day has a first one, and what is true of it, what begins with it and what it leaves
-pub record HasFirst (w : Span) (d : ℤ) (rest : List DayValue) : Type 0 where
+pub record HasFirst (w : Span) (next : ℤ) (rest : List DayValue) : Type 0 where
   pub first : DayValue
   pub left : List DayValue
   pub is : w.leaving ≡ first ∷ left
-  pub on : d +ℤ pos 1 ≡ first.0 +ℤ pos w.len
+  pub on : next ≡ first.0 +ℤ pos w.len
   pub sum : leading w.len first.0 w.leaving ≡ Some w.total
   pub leaves : without_first w ≡ record { leaving = left; len = w.len - 1; total = w.total -ℤ first.1 }
-  pub at : IsAt (without_first w) (Some d) rest
+  pub at : IsAt (without_first w) next rest
 
 -- a window with a day has a first one
-pub has_first : (w : Span) (d : ℤ) (rest : List DayValue) → IsAt w (Some d) rest → 0 < w.len → HasFirst w d rest
-has_first w d rest at some = of w.leaving w.len w.total at some
+pub has_first : (w : Span) (next : ℤ) (rest : List DayValue) → IsAt w next rest → 0 < w.len → HasFirst w next rest
+has_first w next rest at some = of w.leaving w.len w.total at some
   where
-    of : (l : List DayValue) (len : ℕ) (t : ℤ) → IsAt record { leaving = l; len = len; total = t } (Some d) rest
-        → 0 < len → HasFirst record { leaving = l; len = len; total = t } d rest
+    of : (l : List DayValue) (len : ℕ) (t : ℤ) → IsAt record { leaving = l; len = len; total = t } next rest
+        → 0 < len → HasFirst record { leaving = l; len = len; total = t } next rest
     of l zero t at some = absurd (omega arith)
     of [] (suc len) t at some = let none = at.sum in absurd cc
     of (x ∷ xs) (suc len) t at some =
@@ -247,7 +230,7 @@ has_first w d rest at some = of w.leaving w.len w.total at some
         let same : parts.1 ≡ xs = cc in
         let own : parts.0 ≡ x = cc in
         let on : x.0 ≡ at.first = ap (λ (y : DayValue). y.0) (sym own) ∙ parts.3 in
-        let ends : d +ℤ pos 1 ≡ at.first +ℤ pos (suc len) = at.ends in
+        let ends : next ≡ at.first +ℤ pos (suc len) = at.ends in
         let fewer : len ≡ suc len - 1 = omega arith in
         record {
           first = x;
@@ -256,7 +239,7 @@ has_first w d rest at some = of w.leaving w.len w.total at some
           on = omega (arith, ints);
           sum = ap (λ (a : ℤ). leading (suc len) a (x ∷ xs)) on ∙ at.sum;
           leaves = refl;
-          at = subst (λ (m : ℕ). IsAt record { leaving = xs; len = m; total = t -ℤ x.1 } (Some d) rest) fewer record {
+          at = subst (λ (m : ℕ). IsAt record { leaving = xs; len = m; total = t -ℤ x.1 } next rest) fewer record {
             first = at.first +ℤ pos 1;
             sum = ap (leading len (at.first +ℤ pos 1)) (sym same) ∙ parts.4
                 ∙ ap (λ (y : DayValue). Some (t -ℤ y.1)) own;
@@ -269,8 +252,8 @@ has_first w d rest at some = of w.leaving w.len w.total at some
         }
 
 -- a whole window is the one that begins on its first day
-whole : (id : StationId) (n : ℕ) (w : Span) (d : ℤ) (rest : List DayValue) (h : HasFirst w d rest) → Rise w.leaving
-    → w.len ≡ n
+whole : (id : StationId) (n : ℕ) (w : Span) (d : ℤ) (rest : List DayValue) (h : HasFirst w (d +ℤ pos 1) rest)
+    → Rise w.leaving → w.len ≡ n
     → windows id n w.leaving ≡ candidate id h.first.0 (d, w.total) ∷ windows id n (without_first w).leaving
 whole id n w d rest h rise is =
     let on : d +ℤ pos 1 ≡ h.first.0 +ℤ pos w.len = h.on in
@@ -287,7 +270,7 @@ whole id n w d rest h rise is =
 
 -- the window v is what became of w once the day d came: it has that day, and the same windows begin on its days
 pub record Came (id : StationId) (n : ℕ) (w v : Span) (d : ℤ) (rest : List DayValue) : Type 0 where
-  pub at : IsAt v (Some d) rest
+  pub at : IsAt v (d +ℤ pos 1) rest
   pub some : 0 < v.len
   pub few : v.len ≤ n
   pub same : windows id n v.leaving ≡ windows id n w.leaving
@@ -298,71 +281,59 @@ gone_on-len true w = omega arith
 gone_on-len false w = omega arith
 
 -- so it is once the next day is taken in
-pub came : {n : ℕ} {w v : Span} {last : Option ℤ} {rest ys : List DayValue} {y : DayValue} {b : Bool} (id : StationId)
-    → IsAt w last rest → w.len < n → rest ≡ y ∷ ys → (IsTrue b ↔ (option_map (λ d. d +ℤ pos 1) last ≡ Some y.0))
+pub came : {n : ℕ} {w v : Span} {next : ℤ} {rest ys : List DayValue} {y : DayValue} {b : Bool} (id : StationId)
+    → IsAt w next rest → w.len < n → rest ≡ y ∷ ys → (IsTrue b ↔ (y.0 ≡ next))
     → v ≡ with_day (gone_on b w) y.1 → Came id n w v y.0 ys
-came {n} {w} {v} {last} {rest} {ys} {y} {b} id at few step is then =
-    let here = subst (IsAt w last) step at in
+came {n} {w} {v} {next} {rest} {ys} {y} {b} id at few step is then =
+    let here = subst (IsAt w next) step at in
     let less = gone_on-len b w in
     subst (λ (u : Span). Came id n w u y.0 ys) (sym then) record {
-      at = taken_in w last y ys b here is;
+      at = taken_in w next y ys b here is;
       some = omega arith;
       few = omega arith;
-      same = sym (none_lost id n w last y ys b here few is);
+      same = sym (none_lost id n w next y ys b here few is);
     }
-
--- a day that is found is the one that was
-pub same_day : (a b : ℤ) → ◌≡◌ {A = Option ℤ} (Some a) (Some b) → a ≡ b
-same_day a b e = cc
 
 -- the window u is what became of v once its first day left: the whole window v was offered
 pub record Left (id : StationId) (n : ℕ) (v u : Span) (d : ℤ) (rest : List DayValue) (c : Candidate) : Type 0 where
-  pub at : IsAt u (Some d) rest
+  pub at : IsAt u (d +ℤ pos 1) rest
   pub few : u.len < n
   pub offered : windows id n v.leaving ≡ c ∷ windows id n u.leaving
 
 -- so it is for a whole window
-pub leaves : {id : StationId} {n : ℕ} {w v u : Span} {d first : ℤ} {rest : List DayValue} → Came id n w v d rest
-    → v.len ≡ n → first_day v.leaving ≡ Some first → u ≡ without_first v
-    → Left id n v u d rest (candidate id first (d, v.total))
-leaves {id} {n} {w} {v} {u} {d} {first} {rest} c is begins then =
-    let h = has_first v d rest c.at c.some in
-    let same = same_day h.first.0 first (sym (ap first_day h.is) ∙ begins) in
+pub leaves : {id : StationId} {n : ℕ} {w v u : Span} {d : ℤ} {rest : List DayValue} → Came id n w v d rest → v.len ≡ n
+    → u ≡ without_first v → Left id n v u d rest (candidate id (d +ℤ pos 1 -ℤ pos n) (d, v.total))
+leaves {id} {n} {w} {v} {u} {d} {rest} c is then =
+    let h = has_first v (d +ℤ pos 1) rest c.at c.some in
+    let on : d +ℤ pos 1 ≡ h.first.0 +ℤ pos v.len = h.on in
+    let begins : h.first.0 ≡ d +ℤ pos 1 -ℤ pos n = omega (arith, ints) in
     let some = c.some in
     let len : (without_first v).len ≡ v.len - 1 = ap (λ (x : Span). x.len) h.leaves in
-    subst (λ (x : Span). Left id n v x d rest (candidate id first (d, v.total))) (sym then) record {
+    subst (λ (x : Span). Left id n v x d rest (candidate id (d +ℤ pos 1 -ℤ pos n) (d, v.total))) (sym then) record {
       at = h.at;
       few = omega arith;
       offered = whole id n v d rest h c.at.rise is
-          ∙ ap (λ (z : ℤ). candidate id z (d, v.total) ∷ windows id n (without_first v).leaving) same;
+          ∙ ap (λ (z : ℤ). candidate id z (d, v.total) ∷ windows id n (without_first v).leaving) begins;
     }
 
--- a window with a day has a first one
-pub none-not : {id : StationId} {n : ℕ} {w v : Span} {d : ℤ} {rest : List DayValue} → Came id n w v d rest
-    → first_day v.leaving ≡ None → ⊥
-none-not {id} {n} {w} {v} {d} {rest} c e =
-    let begins = sym e ∙ ap first_day (has_first v d rest c.at c.some).is in absurd cc
-
--- the first day of a whole window is so many days before the one behind its last
+-- a whole window begins on a day
 pub begins : {id : StationId} {n : ℕ} {w v : Span} {d : ℤ} {rest : List DayValue} → Came id n w v d rest → v.len ≡ n
-    → (first_day v.leaving ≡ Some (d +ℤ pos 1 -ℤ pos n)) × (day_if (d +ℤ pos 1 -ℤ pos n) ≡ Some (d +ℤ pos 1 -ℤ pos n))
+    → is_day (d +ℤ pos 1 -ℤ pos n) ≡ true
 begins {id} {n} {w} {v} {d} {rest} c is =
-    let h = has_first v d rest c.at c.some in
+    let h = has_first v (d +ℤ pos 1) rest c.at c.some in
     let on : d +ℤ pos 1 ≡ h.first.0 +ℤ pos v.len = h.on in
     let first : h.first.0 ≡ d +ℤ pos 1 -ℤ pos n = omega (arith, ints) in
-    let days : AreDays (h.first ∷ h.left) = subst AreDays h.is c.at.days in (
-      ap first_day h.is ∙ ap (λ (z : ℤ). Some z) first,
-      ap (λ (b : Bool). cond b (Some (d +ℤ pos 1 -ℤ pos n)) None) (ap is_day (sym first) ∙ days.0),
-    )
+    let days : AreDays (h.first ∷ h.left) = subst AreDays h.is c.at.days in
+    ap is_day (sym first) ∙ days.0
 
 -- the sum without the first day fits
 pub fits-without : {id : StationId} {n : ℕ} {w v : Span} {d : ℤ} {rest : List DayValue} → Came id n w v d rest
     → n ≤ 65_535 → FitsSigned w64 (v.total -ℤ first_value v.leaving)
 fits-without {id} {n} {w} {v} {d} {rest} c few =
-    let h = has_first v d rest c.at c.some in
+    let h = has_first v (d +ℤ pos 1) rest c.at c.some in
     let some = c.some in
     let most = c.few in
     let len : (without_first v).len ≡ v.len - 1 = ap (λ (x : Span). x.len) h.leaves in
     let total : (without_first v).total ≡ v.total -ℤ first_value v.leaving =
     ap (λ (x : Span). x.total) h.leaves ∙ sym (ap (λ (l : List DayValue). v.total -ℤ first_value l) h.is) in
-    subst (λ (z : ℤ). FitsSigned w64 z) total (fits (without_first v) (Some d) rest h.at (omega arith))
+    subst (λ (z : ℤ). FitsSigned w64 z) total (fits (without_first v) (d +ℤ pos 1) rest h.at (omega arith))

@@ -1,27 +1,27 @@
 //! Windows: so many consecutive days, each admitted and usable.
 
-ghost use Rattle.std.specs.Prelude.{◌≡◌, ◌<◌, ◌≤◌, FitsSigned, ◌+ℤ◌, ◌-ℤ◌, pos};
+ghost use Rattle.std.specs.Prelude.{◌≡◌, ◌<◌, ◌≤◌, ◌+◌, ◌%◌, FitsSigned, IsTrue, ◌+ℤ◌, ◌-ℤ◌, pos, set, get_or};
 ghost use Rattle.std.specs.Int.{w64};
 ghost use Rattle.std.specs.List.{fold};
-ghost use Rattle.ghcn_fields.specs.Days.{day_if};
+ghost use Rattle.std.specs.Ordering.{int_eq};
+ghost use Rattle.ghcn_fields.specs.Days.{is_day};
 ghost use Rattle.rank_scores.specs.Candidates as found;
-ghost use Rattle.rank_scores.specs.Windows.{IsWindow, begun_anew_unless, with_value, first_value, without_first};
+ghost use Rattle.rank_scores.specs.Windows.{begun_anew_unless, with_value, first_value, without_first, next_place};
 
-use crate::admitted::{Admitted, comes_next};
+use crate::admitted::Admitted;
 use crate::{Candidate, Sink};
 use ghcn_fields::Day;
 use ghcn_files::StationId;
 use ghcn_series::Series;
 use rank_query::Query;
 
-/// How many values a window has places for: no window has as many days.
+/// How many values the ring of a window has places for: no window has as many days.
 const PLACES: usize = 512;
 
-/// Days one after another, with the sum of their values.
+/// Days one after another, with the sum of their values, which stand in a ring. The ring isn't a part
+/// of it, so that its numbers stay in registers.
 #[derive(Drop)]
 struct Window {
-    /// The values of its days, in a ring.
-    values: [i32; PLACES],
     /// The place of the first day's value.
     first: usize,
     len: usize,
@@ -31,24 +31,21 @@ struct Window {
 impl Window {
     /// No day.
     fn empty() -> Self
-        ensures window { IsWindow result }
-        ensures len { result.len ≡ 0 }
-        ensures total { result.total ≡ pos 0 }
+        ensures { result ≡ record { first = 0; len = 0; total = pos 0 } }
     {
         Window {
-            values: [0; PLACES],
             first: 0,
             len: 0,
             total: 0,
         }
     }
 
-    /// The same window where it goes on, else one without a day.
+    /// The same window where the day that comes has this number, else one without a day.
     #[inline(always)]
-    fn go_on(&mut self, on: bool)
-        ensures { self.new ≡ begun_anew_unless on self.old }
+    fn go_on(&mut self, next: i32, day: Day)
+        ensures { self.new ≡ begun_anew_unless (int_eq day next) self.old }
     {
-        if on {
+        if day.number() == next {
             return;
         }
         self.len = 0;
@@ -57,39 +54,42 @@ impl Window {
 
     /// Takes in the day that comes next, by its value.
     #[inline(always)]
-    fn take_in(&mut self, value: i32)
-        requires window { IsWindow self.now }
+    fn take_in(&mut self, ring: &mut [i32; PLACES], value: i32)
+        requires first { self.now.first < 512 }
         requires len { self.now.len < 512 }
         requires total { FitsSigned w64 (self.now.total +ℤ value) }
-        ensures { self.new ≡ with_value self.old value }
+        ensures window { self.new ≡ with_value self.old value }
+        ensures ring { ring.new ≡ set ring.old (next_place self.old) value }
     {
-        self.values[(self.first + self.len) % PLACES] = value;
+        ring[(self.first + self.len) % PLACES] = value;
         self.len += 1;
         self.total += value as i64;
     }
 
     /// Takes the first day off.
     #[inline(always)]
-    fn leave(&mut self)
-        requires window { IsWindow self.now }
+    fn leave(&mut self, ring: &[i32; PLACES])
+        requires first { self.now.first < 512 }
         requires len { 0 < self.now.len }
-        requires total { FitsSigned w64 (self.now.total -ℤ first_value self.now) }
-        ensures { self.new ≡ without_first self.old }
+        requires total { FitsSigned w64 (self.now.total -ℤ first_value ring.now self.now) }
+        ensures { self.new ≡ without_first ring.now self.old }
     {
-        self.total -= self.values[self.first] as i64;
+        self.total -= ring[self.first] as i64;
         self.first = (self.first + 1) % PLACES;
         self.len -= 1;
     }
 }
 
 /// The first of so many days of which this is the last.
-fn first_of(last: Day, days: u16) -> Option<Day>
-    ensures { result ≡ day_if (last +ℤ pos 1 -ℤ pos days) }
+fn first_of(last: Day, days: u16) -> Day
+    requires { IsTrue (is_day (last +ℤ pos 1 -ℤ pos days)) }
+    ensures { result ≡ last +ℤ pos 1 -ℤ pos days }
 {
-    Day::with_number(last.number() + 1 - days as i32)
+    Day::numbered(last.number() + 1 - days as i32)
 }
 
 /// Offers each window of `n` days, with a sum that goes along.
+#[inline(never)]
 pub(crate) fn scan_windows<S: Sink>(
     id: StationId,
     series: &Series,
@@ -103,22 +103,22 @@ pub(crate) fn scan_windows<S: Sink>(
         (found.candidates_among id (found.Windows n) (found.admitted query.now series.now)) }
 {
     let mut window = Window::empty();
-    let mut before = None;
+    let mut ring = [0; PLACES];
+    // The number of the day that goes on with the window.
+    let mut next = 0;
     for (day, value) in Admitted::of(series, query) {
-        window.go_on(comes_next(before, day));
-        window.take_in(value);
-        before = Some(day);
+        window.go_on(next, day);
+        window.take_in(&mut ring, value);
+        next = day.number() + 1;
         if window.len == n as usize {
-            let total = window.total;
-            window.leave();
-            if let Some(first) = first_of(day, n) {
-                sink.offer(Candidate {
-                    id,
-                    first,
-                    last: day,
-                    score: total,
-                });
-            }
+            let first = first_of(day, n);
+            sink.offer(Candidate {
+                id,
+                first,
+                last: day,
+                score: window.total,
+            });
+            window.leave(&ring);
         }
     }
 }

@@ -1,10 +1,11 @@
-use Rattle.std.proofs.Common.{refl, sym, subst, ap, ◌∙◌, FitsSigned, to_z-of_z, w32, arith, rules, ℤ, pos}
+use Rattle.std.proofs.Common.{refl, sym, subst, ap, ◌∙◌, FitsSigned, to_z-of_z, w32, arith, rules, ℤ, pos, ◌+ℤ◌}
 use Rattle.std.specs.List.{fold}
+use Rattle.std.proofs.lemmas.Bool.Decides.{Decides-int_eq}
 use Rattle.rank_scores.specs.Candidates.{candidate, admitted}
-use Rattle.rank_scores.specs.Windows.{with_value}
 use Rattle.rank_scores.proofs.WindowSums as sums
 use Rattle.rank_scores.proofs.WindowSums.{windows}
 use Rattle.rank_scores.proofs.WindowRing as ring
+use Rattle.rank_scores.proofs.window.scan_windows.Goals.{After-go_on, After-take_in}
 use Rattle.rank_scores.proofs.window.scan_windows.Goals as goal
 
 -- at first nothing is summed
@@ -14,101 +15,97 @@ loop-day-init g c =
     let series = c.args.series.now in
     record {
       span = record { leaving = admitted query series; len = 0; total = pos 0 };
-      shows = ring.shows-nothing c.empty-window.result (admitted query series) c.empty-window.ensures.window
-          c.empty-window.ensures.len c.empty-window.ensures.total;
-      at = sums.at_first query series (admitted query series) c.into_iter-day-iterator.result
+      shows = rw c.empty-window.ensures (ring.shows-nothing _ _ (admitted query series) refl (omega arith) refl refl);
+      at = sums.at_first query series (admitted query series) c.into_iter-day-iterator.result (pos 0)
           c.of-day-items.ensures.series refl (c.into_iter-day-iterator.ensures.into_iter_gives ∙ c.of-day-items.ensures.days);
       few = c.requires.some;
       so_far = refl;
     }
 
--- the day that comes has a place
-pub take_in-requires-clause-window : goal.take_in-requires-clause-window
-take_in-requires-clause-window g c =
-    (ring.takes c.args.id c.loop-day.invariant.shows c.loop-day.invariant.at c.loop-day.invariant.few c.requires.few
-    c.in-Some.ensures.steps c.comes_next.ensures c.go_on.ensures).ring
+-- the day that comes can be taken in
+comes : (g : _) (c : After-go_on g) → ring.Takes c.args.id c.args.n c.loop-day.invariant.span c.loop-day.ring
+    c.go_on.new.self (c.in-Some.day, c.in-Some.value) c.next.new.self
+comes g c =
+    ring.takes c.args.id c.loop-day.invariant.shows c.loop-day.invariant.at c.loop-day.invariant.few c.requires.few
+    c.in-Some.ensures.steps (Decides-int_eq _ _) c.go_on.ensures
 
--- which no other has
-pub take_in-requires-clause-len : goal.take_in-requires-clause-len
-take_in-requires-clause-len g c =
-    (ring.takes c.args.id c.loop-day.invariant.shows c.loop-day.invariant.at c.loop-day.invariant.few c.requires.few
-    c.in-Some.ensures.steps c.comes_next.ensures c.go_on.ensures).few
-
--- the sum with the day fits
+-- its value fits the sum
 pub take_in-requires-clause-total : goal.take_in-requires-clause-total
 take_in-requires-clause-total g c =
     let small : FitsSigned w32 c.in-Some.value = search rules in
-    rw (to_z-of_z small) (ring.takes c.args.id c.loop-day.invariant.shows c.loop-day.invariant.at
-    c.loop-day.invariant.few c.requires.few c.in-Some.ensures.steps c.comes_next.ensures c.go_on.ensures).fits
+    rw (to_z-of_z small) (comes g (goal.at.take_in-requires-clause-total g c).After-go_on).fits
 
--- the first day's value has a place
-pub leave-requires-clause-window : goal.leave-requires-clause-window
-leave-requires-clause-window g c =
+-- so it was
+came : (g : _) (c : After-take_in g) → ring.Takes c.args.id c.args.n c.loop-day.invariant.span c.loop-day.ring
+    c.go_on.new.self (c.in-Some.day, c.in-Some.value) c.next.new.self
+    → ring.Step c.args.id c.args.n c.loop-day.invariant.span c.take_in.new.ring c.take_in.new.self c.in-Some.day
+    c.next.new.self
+came g c takes =
     let small : FitsSigned w32 c.in-Some.value = search rules in
-    let came = (ring.takes c.args.id c.loop-day.invariant.shows c.loop-day.invariant.at c.loop-day.invariant.few
-    c.requires.few c.in-Some.ensures.steps c.comes_next.ensures c.go_on.ensures).step c.take_in.new.self (c.take_in.ensures ∙ ap (with_value c.go_on.new.self) (to_z-of_z small)) in
-    (ring.leaves came c.requires.few c.if-window-n.true).ring
+    rw (c.take_in.ensures.window, c.take_in.ensures.ring, to_z-of_z small) takes.step
 
--- the sum without the first day fits
+-- a whole window begins on a day
+pub first_of-first-requires : goal.first_of-first-requires
+first_of-first-requires g c =
+    let at = goal.at.first_of-first-requires g c in
+    (ring.leaves (came g at.After-take_in (comes g at.After-go_on)) c.requires.few c.if-window-n.true).begins
+
+-- its first day's value has a place
+pub leave-requires-clause-first : goal.leave-requires-clause-first
+leave-requires-clause-first g c =
+    let at = goal.at.leave-requires-clause-first g c in
+    (ring.leaves (came g at.After-take_in (comes g at.After-go_on)) c.requires.few c.if-window-n.true).first
+
+-- and leaves a sum that fits
 pub leave-requires-clause-total : goal.leave-requires-clause-total
 leave-requires-clause-total g c =
-    let small : FitsSigned w32 c.in-Some.value = search rules in
-    let came = (ring.takes c.args.id c.loop-day.invariant.shows c.loop-day.invariant.at c.loop-day.invariant.few
-    c.requires.few c.in-Some.ensures.steps c.comes_next.ensures c.go_on.ensures).step c.take_in.new.self (c.take_in.ensures ∙ ap (with_value c.go_on.new.self) (to_z-of_z small)) in
-    (ring.leaves came c.requires.few c.if-window-n.true).fits
+    let at = goal.at.leave-requires-clause-total g c in
+    (ring.leaves (came g at.After-take_in (comes g at.After-go_on)) c.requires.few c.if-window-n.true).fits
 
 -- the window was offered, and its first day left
-pub loop-day-preserved-in-Some-first_of : goal.loop-day-preserved-in-Some-first_of
-loop-day-preserved-in-Some-first_of g c =
-    let small : FitsSigned w32 c.in-Some.value = search rules in
-    let came = (ring.takes c.args.id c.loop-day.invariant.shows c.loop-day.invariant.at c.loop-day.invariant.few
-    c.requires.few c.in-Some.ensures.steps c.comes_next.ensures c.go_on.ensures).step c.take_in.new.self (c.take_in.ensures ∙ ap (with_value c.go_on.new.self) (to_z-of_z small)) in
-    let left = ring.leaves came c.requires.few c.if-window-n.true in
-    let first = sums.same_day _ _ (sym c.in-Some-first_of.is ∙ c.first_of.ensures ∙ left.first) in
+pub loop-day-preserved-then-window-n : goal.loop-day-preserved-then-window-n
+loop-day-preserved-then-window-n g c =
+    let at = goal.at.loop-day-preserved-then-window-n g c in
+    let step = came g at.After-take_in (comes g at.After-go_on) in
+    let left = ring.leaves step c.requires.few c.if-window-n.true in
     let taken = g.S.Sink.taken c.loop-day.sink in
+    let small : FitsSigned w32 c.number-next.result = search rules in
+    let near : FitsSigned w32 (c.number-next.result +ℤ pos 1) = search rules in
     let offered =
     c.offer.ensures
-    ∙ ap (λ (z : ℤ). taken (candidate c.args.id c.in-Some-first_of.first (c.in-Some.day, z))) (to_z-of_z left.wide)
-    ∙ ap (λ (a : ℤ). taken (candidate c.args.id a (c.in-Some.day, c.take_in.new.self.total))) first in
+    ∙ ap (λ (z : ℤ). taken (candidate c.args.id c.first_of-first.result (c.in-Some.day, z))) (to_z-of_z left.wide)
+    ∙ ap (λ (a : ℤ). taken (candidate c.args.id a (c.in-Some.day, c.take_in.new.self.total)))
+    c.first_of-first.ensures in
     record {
       span = left.now;
-      shows = left.shows c.leave.new.self c.leave.ensures;
-      at = left.left.at;
+      shows = rw c.leave.ensures left.shows;
+      at = rw (to_z-of_z small, to_z-of_z near, c.number-next.ensures.value) left.left.at;
       few = left.left.few;
       so_far = ap (λ (s : _). fold g.S.Sink.taken s (windows c.args.id c.args.n left.now.leaving)) offered
-          ∙ sym (ap (fold g.S.Sink.taken c.loop-day.sink) (sym came.came.same ∙ left.left.offered))
+          ∙ sym (ap (fold g.S.Sink.taken c.loop-day.sink) (sym step.came.same ∙ left.left.offered))
           ∙ c.loop-day.invariant.so_far;
     }
-
--- a whole window has a first day
-pub loop-day-preserved-in_default : goal.loop-day-preserved-in_default
-loop-day-preserved-in_default g c =
-    let small : FitsSigned w32 c.in-Some.value = search rules in
-    let came = (ring.takes c.args.id c.loop-day.invariant.shows c.loop-day.invariant.at c.loop-day.invariant.few
-    c.requires.few c.in-Some.ensures.steps c.comes_next.ensures c.go_on.ensures).step c.take_in.new.self (c.take_in.ensures ∙ ap (with_value c.go_on.new.self) (to_z-of_z small)) in
-    let left = ring.leaves came c.requires.few c.if-window-n.true in
-    let none = sym c.in_default.is ∙ c.first_of.ensures ∙ left.first in
-    absurd cc
 
 -- the window isn't whole yet
 pub loop-day-preserved : goal.loop-day-preserved
 loop-day-preserved g c =
-    let small : FitsSigned w32 c.in-Some.value = search rules in
-    let came = (ring.takes c.args.id c.loop-day.invariant.shows c.loop-day.invariant.at c.loop-day.invariant.few
-    c.requires.few c.in-Some.ensures.steps c.comes_next.ensures c.go_on.ensures).step c.take_in.new.self (c.take_in.ensures ∙ ap (with_value c.go_on.new.self) (to_z-of_z small)) in
-    let size = came.shows.len in
+    let at = goal.at.loop-day-preserved g c in
+    let step = came g at.After-take_in (comes g at.After-go_on) in
+    let size = step.shows.len in
+    let small : FitsSigned w32 c.number-next.result = search rules in
+    let near : FitsSigned w32 (c.number-next.result +ℤ pos 1) = search rules in
     let some = c.if-window-n.false in
     record {
-      span = came.now;
-      shows = came.shows;
-      at = came.came.at;
-      few = omega (arith, came.came.few);
-      so_far = ap (fold g.S.Sink.taken c.loop-day.sink) came.came.same ∙ c.loop-day.invariant.so_far;
+      span = step.now;
+      shows = step.shows;
+      at = rw (to_z-of_z small, to_z-of_z near, c.number-next.ensures.value) step.came.at;
+      few = omega (arith, step.came.few);
+      so_far = ap (fold g.S.Sink.taken c.loop-day.sink) step.came.same ∙ c.loop-day.invariant.so_far;
     }
 
 -- no day is left
 pub returns : goal.returns
 returns g c =
-    sym (ap (fold g.S.Sink.taken c.loop-day.sink) (sums.none_left c.args.id c.args.n c.loop-day.invariant.span
-    c.loop-day.before (subst (sums.IsAt c.loop-day.invariant.span c.loop-day.before) c.in-None.ensures.steps.0
-    c.loop-day.invariant.at) c.loop-day.invariant.few)) ∙ c.loop-day.invariant.so_far
+    sym (ap (fold g.S.Sink.taken c.loop-day.sink) (sums.none_left c.args.id c.args.n c.loop-day.invariant.span _
+    (subst (sums.IsAt c.loop-day.invariant.span _) c.in-None.ensures.steps.0 c.loop-day.invariant.at)
+    c.loop-day.invariant.few)) ∙ c.loop-day.invariant.so_far

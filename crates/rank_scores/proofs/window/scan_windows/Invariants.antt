@@ -9,8 +9,8 @@ use Rattle.rank_scores.proofs.window.scan_windows.Given as goal
 abbrev pub invariant-loop-day : goal.invariant-loop-day
 invariant-loop-day g l = record {
   span : Span;
-  shows : Shows l.window span;
-  at : IsAt span l.before l.day-iterator;
+  shows : Shows l.ring l.window span;
+  at : IsAt span l.next l.day-iterator;
   few : span.len < l.n;
   so_far : fold g.S.Sink.taken l.sink (windows l.id l.n span.leaving)
       ≡ fold g.S.Sink.taken l.fn.sink (windows l.id l.n (admitted l.query l.series));

@@ -1,12 +1,12 @@
-use Rattle.std.proofs.Common.{rules, arith, ◌≡◌, ◌∙◌, ℕ, ◌<◌, ◌^◌, List, [], ◌∷◌, Some, None, ℤ, pos, ◌+ℤ◌, get_or, sym}
+use Rattle.std.proofs.Common.{rules, arith, ◌≡◌, ◌∙◌, ℕ, ◌<◌, ◌^◌, List, [], ◌∷◌, ℤ, pos, ◌+ℤ◌, get_or, sym}
 use Rattle.std.proofs.Common.{ap, subst, w32, FitsSigned}
 use Rattle.std.specs.Int.{trailing_zeros}
 use Rattle.std.proofs.lemmas.Int.{to_z-of_z}
-use Rattle.ghcn_fields.specs.Days.{day_if, IsBlock}
+use Rattle.ghcn_fields.specs.Days.{IsBlock}
 use Rattle.ghcn_series.specs.Series.{DayValue}
 use Rattle.ghcn_series.specs.Packed.{block_start, block_days}
-use Rattle.ghcn_series.proofs.FirstDays.{block-empty, block-first, lowest-if, lowest-block, days-left, without_lowest}
-use Rattle.ghcn_series.proofs.FirstDays.{fewer}
+use Rattle.ghcn_series.proofs.FirstDays.{block-empty, block-first, lowest-day, lowest-block, days-left, without_lowest}
+use Rattle.ghcn_series.proofs.FirstDays.{progress}
 use Rattle.ghcn_series.proofs.days.BlockDaysIterator.next.Goals as goal
 
 -- without a bit there is no day
@@ -17,17 +17,14 @@ returns-then-self-eq0-clause-steps c =
     (empty, empty)
 
 -- each bit is of a day of the calendar
-pub returns-in_err-day-clause-steps : goal.returns-in_err-day-clause-steps
-returns-in_err-day-clause-steps c =
+pub day_at-day-requires-clause-day : goal.day_at-day-requires-clause-day
+day_at-day-requires-clause-day c =
     let n : ℤ = c.self.inside.number in
     let w : ℕ = c.self.inside.left in
     let some : 0 < w = omega (arith, c.if-self-eq0.false) in
     let fits : w < 2 ^ 32 = search rules in
     let near : FitsSigned w32 n = search rules in
-    let tested : None ≡ Some (block_start n +ℤ pos (trailing_zeros w32 w)) =
-    c.in_err-day.ensures ∙ ap (λ (z : ℤ). day_if (block_start z +ℤ pos (trailing_zeros w32 w))) (to_z-of_z w32 n near)
-    ∙ lowest-if n w c.self.invariant some fits in
-    absurd cc
+    rw (to_z-of_z w32 n near) (lowest-day n w c.self.invariant some fits)
 
 -- the days that are left are of the calendar
 pub invariant_of-self : goal.invariant_of-self
@@ -48,19 +45,17 @@ returns-clause-steps c =
     let fits : w < 2 ^ 32 = search rules in
     let near : FitsSigned w32 n = search rules in
     let value_near : FitsSigned w32 v = search rules in
-    let tested : Some c.in_ok-day.day ≡ Some (block_start n +ℤ pos t) =
-    c.in_ok-day.ensures ∙ ap (λ (z : ℤ). day_if (block_start z +ℤ pos t)) (to_z-of_z w32 n near)
-    ∙ lowest-if n w c.self.invariant some fits in
-    let day : block_start n +ℤ pos t ≡ c.in_ok-day.day = cc in
+    let day : block_start n +ℤ pos t ≡ c.day_at-day.result =
+    sym (c.day_at-day.ensures ∙ ap (λ (z : ℤ). block_start z +ℤ pos t) (to_z-of_z w32 n near)) in
     let rest : List DayValue = block_days (n, (without_lowest w, vs)) in
     sym c.self.view_is
     ∙ block-first n vs w some fits
     ∙ ap (λ (d : ℤ). (d, v) ∷ rest) day
-    ∙ ap (λ (z : ℤ). (c.in_ok-day.day, z) ∷ rest) (sym (to_z-of_z w32 v value_near))
+    ∙ ap (λ (z : ℤ). (c.day_at-day.result, z) ∷ rest) (sym (to_z-of_z w32 v value_near))
 
 -- the number is that of a block
-pub day_at-requires-clause-number : goal.day_at-requires-clause-number
-day_at-requires-clause-number c =
+pub day_at-day-requires-clause-number : goal.day_at-day-requires-clause-number
+day_at-day-requires-clause-number c =
     let n : ℤ = c.self.inside.number in
     let some : 0 < c.self.inside.left = omega (arith, c.if-self-eq0.false) in
     let fits : c.self.inside.left < 2 ^ 32 = search rules in
@@ -69,6 +64,4 @@ day_at-requires-clause-number c =
 
 -- one day less is left
 pub returns-clause-goes : goal.returns-clause-goes
-returns-clause-goes c =
-    let less = fewer _ _ _ (returns-clause-steps c) in
-    record { on = λ _. (tt, tt, less); keeps = tt; rests = λ _. tt }
+returns-clause-goes c = progress _ _ _ (returns-clause-steps c)
