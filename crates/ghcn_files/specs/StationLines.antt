@@ -1,6 +1,6 @@
 -- A line of the station list: its fields, and the first test that it fails by itself.
 use Rattle.std.specs.Prelude.{ℕ, Bool, false, ◌&&◌, ◌==◌, not, nat_le, if◌then◌else◌, List, [], ◌∷◌, length, map}
-use Rattle.std.specs.Prelude.{Option, None, Some, ℤ, pos, neg_ℤ, int_le}
+use Rattle.std.specs.Prelude.{Option, None, Some, ℤ, pos, neg_ℤ, int_le, unsigned_abs}
 use Rattle.std.specs.List.{list_all}
 use Rattle.std.specs.Ordering.{int_eq}
 use Rattle.ghcn_fields.specs.declared.field.Field.{Field}
@@ -31,6 +31,15 @@ abbrev pub number_of : Field → ℤ
 number_of Blank = pos 0
 number_of (Number z) = z
 number_of Bad = pos 0
+
+-- the number of a field, where it has one from low to high
+abbrev pub number_within : ℤ → ℤ → Field → Option ℤ
+number_within low high field = if is_number_within low high field then Some (number_of field) else None
+
+-- the natural number of a field, where it has one from 1 to a limit
+abbrev pub natural_up_to : ℕ → Field → Option ℕ
+natural_up_to limit field =
+    if is_number_within (pos 1) (pos limit) field then Some (unsigned_abs (number_of field)) else None
 
 -- the number of a field, where it has one and that isn't -9999, which stands for a missing one
 abbrev pub unless_missing : Field → Option ℤ

@@ -138,9 +138,7 @@ fn only_blanks_follow(line: &[u8]) -> bool
 
 /// The whole number of a field, where it has one from 1 to a limit.
 fn number_up_to(limit: u16, field: &[u8]) -> Option<u16>
-    ensures value { let found = numbers.int_field field.now in
-        result ≡ (if stations.is_number_within (pos 1) (pos limit) found
-        then Some (unsigned_abs (stations.number_of found)) else None) }
+    ensures value { result ≡ stations.natural_up_to limit (numbers.int_field field.now) }
     ensures range { IfSome result (λ number. (1 ≤ number) × (number ≤ limit)) }
 {
     match int_field(field) {

@@ -113,9 +113,7 @@ impl Station {
 /// The ten-thousandths of a degree of a field, where it has a number at most a limit away from 0.
 fn degrees(limit: i32, field: &[u8]) -> Option<i32>
     requires { pos 0 ≤ℤ limit }
-    ensures { let found = numbers.scaled_field 4 field.now in
-        result ≡ (if stations.is_number_within (neg_ℤ limit) limit found
-        then Some (stations.number_of found) else None) }
+    ensures { result ≡ stations.number_within (neg_ℤ limit) limit (numbers.scaled_field 4 field.now) }
 {
     match scaled_field(field, 4) {
         Field::Number(number) if is_within(limit, number) => Some(number),

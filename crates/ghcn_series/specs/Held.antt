@@ -1,5 +1,5 @@
 -- What is true of all data that was read.
-use Rattle.std.specs.Prelude.{◌≡◌, Bool, true, ◌&&◌, List}
+use Rattle.std.specs.Prelude.{◌≡◌, ℕ, Bool, true, ◌&&◌, List}
 use Rattle.std.specs.List.{flat_map, IsDistinct, AllByRecursion, AllZip}
 use Rattle.ghcn_files.specs.declared.station.Station.{Station}
 use Rattle.ghcn_files.specs.declared.element.Element.{Element}
@@ -32,6 +32,10 @@ is_of_element e u = same_element u.element e
 -- the series of all lists, one list after the other
 abbrev pub all_of : List (List Usable) → List Usable
 all_of lists = flat_map (λ series. series) lists
+
+-- the data of stations with one list of series each, where so many lines were passed over
+abbrev pub contents : List Station → List (List Usable) → ℕ → Contents
+contents stations lists unlisted = record { stations = stations; series = all_of lists; unlisted = unlisted }
 
 -- what is true of the series of listed stations that are kept in one list for each: those of a list are its station's,
 -- and all of them are right

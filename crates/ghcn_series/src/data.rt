@@ -6,7 +6,7 @@ ghost use Rattle.std.specs.Option.{option_copied};
 ghost use Rattle.ghcn_series.specs.Series.{series_of};
 ghost use Rattle.ghcn_series.specs.DailyFaults.{IsRefusal, IsFirstRefusal};
 ghost use Rattle.ghcn_series.specs.Says.{data_of};
-ghost use Rattle.ghcn_series.specs.Held.{IsContents, AreByStation, all_of, is_of_element};
+ghost use Rattle.ghcn_series.specs.Held.{IsContents, AreByStation, contents, is_of_element};
 ghost use Rattle.ghcn_series.specs.Kept.{AreKept};
 
 use crate::{DataFault, DataReader, Series};
@@ -29,15 +29,11 @@ pub struct Data {
 impl Model for Data {
     ghost use Rattle.std.specs.Prelude.{map};
     ghost use Rattle.ghcn_series.specs.Series.{Contents};
-    ghost use Rattle.ghcn_series.specs.Held.{AreByStation, all_of};
+    ghost use Rattle.ghcn_series.specs.Held.{AreByStation, contents};
 
     ghost Value = { Contents };
 
-    ghost view = { λ d. record {
-      stations = d.stations;
-      series = all_of (map (λ s. s.items) d.series.items);
-      unlisted = d.unlisted;
-    } };
+    ghost view = { λ d. contents d.stations (map (λ s. s.items) d.series.items) d.unlisted };
 
     ghost invariant = { λ d. AreByStation d.stations (map (λ s. s.items) d.series.items) };
 }
@@ -94,11 +90,7 @@ impl Data {
     /// These series of the stations, which have one list each.
     pub(crate) fn of(stations: Stations, series: Vec<Vec<Series>>, unlisted: u64) -> Self
         requires { AreByStation stations (map (λ s. s.items) series.items) }
-        ensures { result ≡ record {
-          stations = stations;
-          series = all_of (map (λ s. s.items) series.items);
-          unlisted = unlisted;
-        } }
+        ensures { result ≡ contents stations (map (λ s. s.items) series.items) unlisted }
     {
         Data {
             stations,
