@@ -1,8 +1,8 @@
 -- A day more, behind all that are held.
-use Rattle.std.proofs.Common.{◌≡◌, ℕ, zero, suc, ◌<◌, ◌^◌, true, false, List, [], ◌∷◌, ◌++◌, length, get_or, Option}
-use Rattle.std.proofs.Common.{Some, None, IsSome, Result, Ok, Err, OnOk, inl, inr, refl, sym, ap, subst, ◌∙◌, arith, ℤ}
+use Rattle.std.proofs.Common.{◌≡◌, ℕ, zero, suc, ◌<◌, ◌^◌, true, false, List, [], ◌∷◌, ◌++◌, length, get_or}
+use Rattle.std.proofs.Common.{None, IsSome, Result, Ok, Err, OnOk, inl, inr, refl, sym, ap, subst, ◌∙◌, arith, ℤ}
 use Rattle.std.proofs.Common.{pos, ◌+ℤ◌, ◌<ℤ◌, ◌≤ℤ◌}
-use Rattle.std.specs.Prelude.{◌==◌, ◌||◌, ◌&&◌, nat_lt, int_lt, if◌then◌else◌}
+use Rattle.std.specs.Prelude.{◌==◌, ◌||◌, ◌&&◌, nat_lt, int_lt}
 use Rattle.std.specs.Int.{bit_at}
 use Rattle.std.specs.List.{AllByRecursion}
 use Rattle.std.specs.List.Sorted.{IsStrictlySortedBy}
@@ -10,17 +10,19 @@ use Rattle.std.specs.Map.{keys_of}
 use Rattle.std.specs.declared.cmp.Ordering.TheVariants.{Less}
 use Rattle.std.specs.Option.{option_or}
 use Rattle.std.specs.Ordering.{int_cmp, int_eq}
-use Rattle.std.proofs.lemmas.Bool.{cases_lt}
+use Rattle.std.proofs.lemmas.Bool.{cases_eq, false≢true}
 use Rattle.std.proofs.lemmas.Bool.Decides.{nat_tests}
 use Rattle.std.proofs.lemmas.Int.{ints}
 use Rattle.std.proofs.lemmas.Nat.{pow_pos}
 use Rattle.std.proofs.lemmas.Nat.Bits.{bit_at-zero, bit_at-pow_same, bit_at-pow_other}
+use Rattle.ghcn_series.proofs.JoinedDays.{same_block}
+use Rattle.ghcn_series.proofs.ListFacts.{both_all}
 use Rattle.ghcn_fields.specs.Days.{is_day, block_of}
 use Rattle.ghcn_series.specs.Series.{DayValue, value_on}
-use Rattle.ghcn_series.specs.Packed.{block_start, block_days, days_from, days_of, blocks_of, IsPacked, AreRising}
+use Rattle.ghcn_series.specs.Packed.{block_start, block_days, days_from, days_of, blocks_of, IsPacked, AreRising, Block}
 use Rattle.ghcn_series.specs.Parts.{AreNew, AreJoined, AreBefore, AreOrdered, IsRowOf, days_held}
 use Rattle.ghcn_series.specs.declared.parts.Parts.{Parts}
-use Rattle.ghcn_series.proofs.Lookups.{value_on-append, block-holds}
+use Rattle.ghcn_series.proofs.Lookups.{value_on-append, block-holds, block-of_place}
 use Rattle.ghcn_series.proofs.FirstDays.{lowest-first, none-set}
 use Rattle.ghcn_series.proofs.Nexts.{AreOf, block-own, block-nonempty}
 use Rattle.ghcn_series.proofs.RisingDays.{columns-rise, same-from_values, behind}
@@ -36,42 +38,36 @@ single-day n vs p lt =
     ∙ ap (λ (l : List DayValue). (block_start n +ℤ pos p, get_or vs p (pos 0)) ∷ l)
     (none-set n vs 0 0 32 (λ i le less. bit_at-zero i))
 
--- at its place a row of one value has it
-value_here : (j p : ℕ) (v : ℤ) → j ≡ p → (if j == p then v else pos 0) ≡ v
-value_here j p v e = grind (arith, nat_tests)
-
--- at any other place it has 0
-value_elsewhere : (j p : ℕ) (v : ℤ) → (j ≡ p → ⊥) → (if j == p then v else pos 0) ≡ pos 0
-value_elsewhere j p v ne = grind (arith, nat_tests)
-
--- the part of one day
-pub single-is : (n : ℤ) (vs : List ℤ) (p : ℕ) (day v : ℤ) → p < 32 → block_start n +ℤ pos p ≡ day → IsRowOf vs p v
-    → block_days (n, (2 ^ p, vs)) ≡ (day, v) ∷ []
-single-is n vs p day v lt is row =
-    single-day n vs p lt
-    ∙ ap (λ (d : ℤ). (d, get_or vs p (pos 0)) ∷ []) is
-    ∙ ap (λ (x : ℤ). (day, x) ∷ []) (row p lt ∙ value_here p p v refl)
-
 -- a word of one bit has no other
 one_place : (p j : ℕ) → bit_at (2 ^ p) j ≡ 1 → j ≡ p
-one_place p j set = elim (cases_lt j p) [
-  | inl before ↦ absurd (omega (arith, set, bit_at-pow_other p j (λ e. omega (arith, e, before))))
-  | inr rest ↦ elim (cases_lt p j) [
-    | inl behind_it ↦ absurd (omega (arith, set, bit_at-pow_other p j (λ e. omega (arith, e, behind_it))))
-    | inr same ↦ omega arith
-  ]
+one_place p j set = elim (cases_eq j p) [
+  | inl same ↦ same
+  | inr other ↦ absurd (omega (arith, set, bit_at-pow_other p j other))
 ]
 
--- it is as it may be
-pub single-packed : (n : ℤ) (vs : List ℤ) (p : ℕ) (day v : ℤ) → p < 32 → 2 ^ p < 2 ^ 32 → is_day day ≡ true
-    → block_start n +ℤ pos p ≡ day → IsRowOf vs p v → IsPacked (n, (2 ^ p, vs))
-single-packed n vs p day v lt fits of is row = record {
-  present = pow_pos p;
-  fits = fits;
-  zeros = λ j less none. row j less ∙ value_elsewhere j p v
-      (λ e. omega (arith, none, bit_at-pow_same p, ap (bit_at (2 ^ p)) e));
-  days = λ j less set. ap (λ (k : ℕ). is_day (block_start n +ℤ pos k)) (one_place p j set) ∙ ap is_day is ∙ of;
-}
+-- a part of one day with its value
+pub record IsOneDay (b : Block) (day v : ℤ) : Type 0 where
+  pub packed : IsPacked b
+  pub days : block_days b ≡ (day, v) ∷ []
+  pub number : b.0 ≡ block_of day
+
+-- the bit of the day's place and the row of its value are one
+pub one-day : (n : ℤ) (w : ℕ) (vs : List ℤ) (p : ℕ) (day v : ℤ) → p < 32 → w < 2 ^ 32 → w ≡ 2 ^ p → is_day day ≡ true
+    → block_start n +ℤ pos p ≡ day → IsRowOf vs p v → IsOneDay (n, (w, vs)) day v
+one-day n w vs p day v lt fits bit of is row =
+    let here : get_or vs p (pos 0) ≡ v = row p lt ∙ grind (arith, nat_tests) in
+    rw bit (record {
+      packed = record {
+        present = pow_pos p;
+        fits = omega arith;
+        zeros = λ j less none.
+            let other : j ≡ p → ⊥ = λ e. omega (arith, none, bit_at-pow_same p, ap (bit_at (2 ^ p)) e) in
+            row j less ∙ grind (arith, nat_tests);
+        days = λ j less set. ap (λ (k : ℕ). is_day (block_start n +ℤ pos k)) (one_place p j set) ∙ ap is_day is ∙ of;
+      };
+      days = rw (single-day n vs p lt, is, here);
+      number = sym (block-of_place n p lt) ∙ ap block_of is;
+    })
 
 -- a day behind all is none of them
 none-before : (days : List DayValue) (day : ℤ) → AreBefore day days → value_on days day ≡ None
@@ -79,36 +75,22 @@ none-before [] day all = refl
 none-before (x ∷ xs) day all = behind x xs day (λ e. let lt = all.0 in omega (arith, ints, e))
     ∙ none-before xs day all.1
 
--- one day has no value on another
-other_none : (day d v : ℤ) → (day ≡ d → ⊥) → value_on ((day, v) ∷ []) d ≡ None
-other_none day d v ne = behind (day, v) [] d ne
-
--- what is there isn't missing
-not_none : (o : Option ℤ) → IsSome o → o ≡ None → ⊥
-not_none None some e = let no : false ≡ true = some in absurd cc
-not_none (Some v) some e = absurd cc
-
 -- so it is new
 pub single-new : (days more : List DayValue) (day v : ℤ) → more ≡ (day, v) ∷ [] → AreBefore day days → AreNew days more
-single-new days more day v is all d some =
-    let one : IsSome (value_on ((day, v) ∷ []) d) = subst (λ (l : List DayValue). IsSome (value_on l d)) is some in
-    elim (int_eq day d) as (λ b. int_eq day d ≡ b → value_on days d ≡ None) [
-      | true ↦ λ e. let same : day ≡ d = grind (arith, ints) in subst (λ (z : ℤ). value_on days z ≡ None) same
-          (none-before days day all)
-      | false ↦ λ e.
-          let ne : day ≡ d → ⊥ = λ same. let hit : int_eq day d ≡ true = grind (arith, ints) in absurd cc in
-          absurd (not_none _ one (other_none day d v ne))
-    ] refl
+single-new days more day v is all d some = elim (same_block day d) [
+  | inl same ↦ subst (λ (z : ℤ). value_on days z ≡ None) same (none-before days day all)
+  | inr other ↦
+      let none : value_on more d ≡ None = ap (λ (l : List DayValue). value_on l d) is ∙ behind (day, v) [] d other in
+      absurd (false≢true (subst IsSome none some))
+]
 
 -- rising days and one behind them rise
 rising-more : (days : List DayValue) (x : DayValue) → AreRising days → AreBefore x.0 days → AreRising (days ++ x ∷ [])
 rising-more [] x rise all = (tt, tt)
-rising-more (y ∷ ys) x rise all = (last y.0 ys rise.0 all.0, rising-more ys x rise.1 all.1)
-  where
-    last : (d : ℤ) (zs : List DayValue) → AllByRecursion (λ z. d <ℤ z.0) zs → d <ℤ x.0
-        → AllByRecursion (λ z. d <ℤ z.0) (zs ++ x ∷ [])
-    last d [] more lt = (lt, tt)
-    last d (z ∷ zs) more lt = (more.0, last d zs more.1 lt)
+rising-more (y ∷ ys) x rise all = (
+  both_all (λ z. y.0 <ℤ z.0) ys (x ∷ []) rise.0 (all.0, tt),
+  rising-more ys x rise.1 all.1,
+)
 
 -- joined days are those held and the new one behind them
 pub day-added : (old new more : List DayValue) (day v : ℤ) → AreRising old → AreRising new → more ≡ (day, v) ∷ []

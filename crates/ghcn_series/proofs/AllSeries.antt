@@ -2,13 +2,14 @@
 use Rattle.std.proofs.Common.{◌≡◌, ℕ, Bool, true, false, cond, not, List, [], ◌∷◌, ◌++◌, length, map, filter}
 use Rattle.std.proofs.Common.{Option, None, Some, refl, sym, ap, ◌∙◌, subst}
 use Rattle.std.specs.Prelude.{◌==◌, ◌&&◌, ◌||◌}
-use Rattle.std.specs.List.{filter_map, flat_map, cons_option, list_any, AllZip, AllByRecursion, IsDistinct}
+use Rattle.std.specs.List.{filter_map, flat_map, cons_option, list_any, AllZip, AllByRecursion, IsDistinct, slice_get}
 use Rattle.std.proofs.lemmas.List.Elements.{filter-append}
+use Rattle.std.proofs.lemmas.Bool.{and_right, and_parts, or_right, eqb-true}
+use Rattle.std.proofs.lemmas.Option.{same_Some}
 use Rattle.ghcn_fields.specs.Sorting.{sorted_by}
 use Rattle.ghcn_files.specs.declared.station.StationId.{StationId}
 use Rattle.ghcn_files.specs.declared.station.Station.{Station}
 use Rattle.ghcn_files.specs.declared.element.Element.{Element}
-use Rattle.ghcn_files.specs.declared.element.Element.TheVariants.{Prcp, Snow, Snwd, Tmax, Tmin}
 use Rattle.ghcn_files.specs.declared.month.Month.{Month}
 use Rattle.ghcn_files.specs.Ids.{same_id}
 use Rattle.ghcn_files.specs.Elements.{elements, same_element, is_kept}
@@ -24,38 +25,15 @@ use Rattle.ghcn_series.specs.Kept.{kept}
 use Rattle.ghcn_series.specs.Gathered.{usable_days, kept_days, gathered_days, months_of, IsGatheringOf}
 use Rattle.ghcn_series.specs.Gathered.{AreByElement, IsStationOf, IsReady, gathered_series, station_series}
 use Rattle.ghcn_series.proofs.Places.{ids, same_id-refl}
-use Rattle.ghcn_series.proofs.StationMonths.{months_of-none, elements_differ}
+use Rattle.ghcn_series.proofs.StationMonths.{months_of-none, elements_differ, element_at}
 use Rattle.ghcn_series.proofs.ReadySeries.{is_series, length-sorted, gathered-sorted}
 use Rattle.ghcn_series.proofs.FactsOfMonths.{selected-months}
-use Rattle.ghcn_series.proofs.ListFacts.{and_false, both_all, weaken}
+use Rattle.ghcn_series.proofs.ListFacts.{both_all, weaken, both_distinct}
 
 -- elements that are the same
 same_element-is : (a b : Element) → same_element a b ≡ true → a ≡ b
-same_element-is Prcp Prcp e = refl
-same_element-is Prcp Snow e = absurd cc
-same_element-is Prcp Snwd e = absurd cc
-same_element-is Prcp Tmax e = absurd cc
-same_element-is Prcp Tmin e = absurd cc
-same_element-is Snow Prcp e = absurd cc
-same_element-is Snow Snow e = refl
-same_element-is Snow Snwd e = absurd cc
-same_element-is Snow Tmax e = absurd cc
-same_element-is Snow Tmin e = absurd cc
-same_element-is Snwd Prcp e = absurd cc
-same_element-is Snwd Snow e = absurd cc
-same_element-is Snwd Snwd e = refl
-same_element-is Snwd Tmax e = absurd cc
-same_element-is Snwd Tmin e = absurd cc
-same_element-is Tmax Prcp e = absurd cc
-same_element-is Tmax Snow e = absurd cc
-same_element-is Tmax Snwd e = absurd cc
-same_element-is Tmax Tmax e = refl
-same_element-is Tmax Tmin e = absurd cc
-same_element-is Tmin Prcp e = absurd cc
-same_element-is Tmin Snow e = absurd cc
-same_element-is Tmin Snwd e = absurd cc
-same_element-is Tmin Tmax e = absurd cc
-same_element-is Tmin Tmin e = refl
+same_element-is a b e = same_Some a b
+    (sym (element_at a) ∙ ap (slice_get elements) (eqb-true _ _ e) ∙ element_at b)
 
 -- each gathering of a station can become a series
 right_of : (id : StationId) (e f : Element) (ms : List Month) → f ≡ e → AllByRecursion IsMonth ms
@@ -67,17 +45,13 @@ right_of id e f (m ∷ ms) same all =
       | true ↦ λ is. (
         (
           all.0,
-          same_element-is m.element e (second (same_id m.id id) (same_element m.element e) is)
+          same_element-is m.element e (and_parts (same_id m.id id) (same_element m.element e) is).1
               ∙ sym same,
         ),
         right_of id e f ms same all.1,
       )
       | false ↦ λ is. right_of id e f ms same all.1
     ] refl
-  where
-    second : (a b : Bool) → (a && b) ≡ true → b ≡ true
-    second true b p = p
-    second false b p = absurd cc
 
 -- gatherings by element can become series
 ready_zip : (asked : Option Element) (ms : List Month) (id : StationId) (gs : List Gathering) (es : List Element)
@@ -138,13 +112,6 @@ from_gatherings P id (g ∷ gs) each ready =
 abbrev IsOther : Usable → List Usable → Type 0
 IsOther u us = AllByRecursion (λ v. same_series u v ≡ false) us
 
--- two lists of distinct series, none of which is in both, are distinct together
-both_apart : (xs ys : List Usable) → IsDistinct same_series xs → IsDistinct same_series ys
-    → AllByRecursion (λ x. IsOther x ys) xs → IsDistinct same_series (xs ++ ys)
-unfolding IsDistinct
-both_apart [] ys p q all = q
-both_apart (x ∷ xs) ys p q all = (both_all (λ v. same_series x v ≡ false) xs ys p.0 all.0, both_apart xs ys p.1 q all.1)
-
 -- a series of one element is none of those of the others
 others_apart : (asked : Option Element) (ms : List Month) (id : StationId) (u : Usable) (gs : List Gathering)
     (es : List Element) → AllByRecursion (λ e. same_element u.element e ≡ false) es
@@ -159,7 +126,7 @@ others_apart asked ms id u (g ∷ gs) (e ∷ es) other all =
     (filter_map (gathered_series id) gs))) [
       | true ↦ others_apart asked ms id u gs es other.1 all.1
       | false ↦ (
-        and_false (same_id u.id id) (same_element u.element g.element)
+        and_right (same_id u.id id) (same_element u.element g.element)
             (ap (same_element u.element) all.0.element ∙ other.0),
         others_apart asked ms id u gs es other.1 all.1,
       )
@@ -234,8 +201,8 @@ stations_apart asked ms (s ∷ ss) [] apart all = absurd all
 stations_apart asked ms (s ∷ ss) (g ∷ gs) apart all =
     let others : AllByRecursion (λ u. same_id s.id u.id ≡ false) (all_gathered gs) =
     other_ids asked s.id ms ss gs apart.0 all.1 in
-    both_apart (station_series g) (all_gathered gs) (station_apart asked ms g.id g.by_element.items all.0.holds)
-    (stations_apart asked ms ss gs apart.1 all.1)
+    both_distinct same_series (station_series g) (all_gathered gs)
+    (station_apart asked ms g.id g.by_element.items all.0.holds) (stations_apart asked ms ss gs apart.1 all.1)
     (weaken (λ u. u.id ≡ g.id) (λ u. IsOther u (all_gathered gs)) (station_series g)
     (λ u e. weaken (λ v. same_id s.id v.id ≡ false) (λ v. same_series u v ≡ false) (all_gathered gs)
     (λ v o. ap (λ (i : StationId). same_id i v.id && same_element u.element v.element) (e ∙ all.0.id)
@@ -379,11 +346,7 @@ listed_among all s more = ap (λ (b : Bool). b || is_listed more s.id) (same_id-
 -- a listed station stays so with one more in front
 still_listed : (s : Station) (more : List Station) (i : StationId) → is_listed more i ≡ true
     → is_listed (s ∷ more) i ≡ true
-still_listed s more i e = either (same_id s.id i) (is_listed more i) e
-  where
-    either : (a b : Bool) → b ≡ true → (a || b) ≡ true
-    either true b e = refl
-    either false b e = e
+still_listed s more i e = or_right (same_id s.id i) (is_listed more i) e
 
 -- each station of a list is listed
 each_listed : (ss : List Station) → AllByRecursion (λ s. is_listed ss s.id ≡ true) ss

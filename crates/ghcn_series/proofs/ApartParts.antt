@@ -8,12 +8,14 @@ use Rattle.std.specs.Map.{keys_of}
 use Rattle.std.specs.Option.{option_map, option_or}
 use Rattle.std.specs.Ordering.{int_eq}
 use Rattle.std.proofs.lemmas.Int.{ints}
+use Rattle.std.proofs.lemmas.Bool.{false≢true}
+use Rattle.std.proofs.lemmas.Option.{none-some}
 use Rattle.ghcn_series.specs.Series.{DayValue, value_on}
-use Rattle.ghcn_series.specs.Packed.{Block, block_days, days_of, blocks_of, IsPacked, AreBlocks, AreRising}
-use Rattle.ghcn_series.specs.Parts.{AreNew, AreDisjoint, AreJoined, JoinsValues}
+use Rattle.ghcn_series.specs.Packed.{Block, block_days, days_of, blocks_of, AreBlocks, AreRising}
+use Rattle.ghcn_series.specs.Parts.{AreNew, AreDisjoint, AreJoined}
 use Rattle.ghcn_series.proofs.Lookups.{int_eq-no, value_on-append}
 use Rattle.ghcn_series.proofs.JoinedDays.{both-none, same_block, last-joined, pushed-blocks}
-use Rattle.ghcn_series.proofs.PartsAdded.{days-pushed, join-last}
+use Rattle.ghcn_series.proofs.PartsAdded.{days-pushed, join-last, IsJoin}
 use Rattle.ghcn_series.proofs.RisingDays.{behind, front, block-rises}
 
 -- days that are new beside two lists are new beside both together
@@ -76,15 +78,12 @@ module _ (ns : List ℤ) (ws : List ℕ) (vs : List (List ℤ)) (bs : AreBlocks 
       subst AreDisjoint (sym (pushed-blocks ns ws vs n w v bs.enough_words bs.enough_values))
       (push-apart (blocks_of ns ws vs) (n, (w, v)) apart fresh)
 
-  -- more days of the last part
-  pub join-apart : (i p : ℕ) (u r : List ℤ) → i + 1 ≡ length ns → IsPacked (get_or ns i (pos 0), (p, u))
-      → AreNew (days_of (blocks_of ns ws vs)) (block_days (get_or ns i (pos 0), (p, u)))
-      → JoinsValues (get_or vs i []) u r
-      → AreDisjoint (blocks_of ns ws vs) → AreDisjoint (blocks_of ns (set ws i (bit_or (get_or ws i 0) p)) (set vs i r))
-  join-apart i p u r last one fresh row apart =
-      last-apart ns ws vs i (bit_or (get_or ws i 0) p) r (block_days (get_or ns i (pos 0), (p, u))) bs.enough_words
-      bs.enough_values last
-      (join-last ns ws vs bs i p u r last one fresh row) apart fresh
+-- more days of the last part
+pub join-apart : (ns : List ℤ) (ws : List ℕ) (vs : List (List ℤ)) (i p : ℕ) (u r : List ℤ) → IsJoin ns ws vs i p u r
+    → AreDisjoint (blocks_of ns ws vs) → AreDisjoint (blocks_of ns (set ws i (bit_or (get_or ws i 0) p)) (set vs i r))
+join-apart ns ws vs i p u r is apart =
+    last-apart ns ws vs i (bit_or (get_or ws i 0) p) r (block_days (get_or ns i (pos 0), (p, u)))
+    is.blocks.enough_words is.blocks.enough_values is.last (join-last ns ws vs i p u r is) apart is.fresh
 
 -- ---- no day stands twice
 
@@ -96,12 +95,9 @@ other-turned a b e = grind (arith, ints)
 none-is : (xs : List DayValue) (d : ℤ) → value_on xs d ≡ None → AllByRecursion (λ k. int_eq d k ≡ false) (keys_of xs)
 none-is [] d none = tt
 none-is (x ∷ xs) d none = elim (same_block x.0 d) [
-  | inl here ↦ absurd (some_not_none x.1 (sym (front x xs) ∙ ap (value_on (x ∷ xs)) here ∙ none))
+  | inl here ↦ absurd (none-some x.1 (sym (sym (front x xs) ∙ ap (value_on (x ∷ xs)) here ∙ none)))
   | inr other ↦ (other-turned x.0 d (int_eq-no x.0 d other), none-is xs d (sym (behind x xs d other) ∙ none))
 ]
-  where
-    some_not_none : (v : ℤ) → Some v ≡ None → ⊥
-    some_not_none v e = cc
 
 -- and a day that is none of them has no value
 pub none-from : (xs : List DayValue) (d : ℤ) → AllByRecursion (λ k. int_eq d k ≡ false) (keys_of xs)
@@ -120,13 +116,9 @@ new-behind (x ∷ xs) ys distinct d some = elim (same_block x.0 d) [
   | inl here ↦
       let none = both-none (value_on xs x.0) (value_on ys x.0) (sym (value_on-append xs ys x.0)
       ∙ none-from (xs ++ ys) x.0 distinct.0) in
-      absurd (not_both (value_on ys d) some (ap (value_on ys) (sym here) ∙ none.1))
+      absurd (false≢true (subst IsSome (ap (value_on ys) (sym here) ∙ none.1) some))
   | inr other ↦ behind x xs d other ∙ new-behind xs ys distinct.1 d some
 ]
-  where
-    not_both : (o : Option ℤ) → IsSome o → o ≡ None → ⊥
-    not_both None some e = cc
-    not_both (Some v) some e = cc
 
 -- distinct days, and new ones behind them, are distinct
 new-distinct : (xs ys : List DayValue) → AreNew xs ys → IsDistinct int_eq (keys_of xs) → IsDistinct int_eq (keys_of ys)
@@ -137,15 +129,12 @@ new-distinct (x ∷ xs) ys fresh p q =
     let later : value_on ys x.0 ≡ None =
     elim (value_on ys x.0) as (λ o. value_on ys x.0 ≡ o → o ≡ None) [
       | None ↦ λ e. refl
-      | Some v ↦ λ e. absurd (some_not_none x.1 (sym (front x xs) ∙ fresh x.0 (subst IsSome (sym e) refl)))
+      | Some v ↦ λ e. absurd (none-some x.1 (sym (sym (front x xs) ∙ fresh x.0 (subst IsSome (sym e) refl))))
     ] refl in (
       none-is (xs ++ ys) x.0 (value_on-append xs ys x.0 ∙ ap (λ (o : Option ℤ). option_or o (value_on ys x.0))
           (none-from xs x.0 p.0) ∙ later),
       new-distinct xs ys (new-each (x ∷ []) xs ys fresh).1 p.1 q,
     )
-  where
-    some_not_none : (v : ℤ) → Some v ≡ None → ⊥
-    some_not_none v e = cc
 
 -- rising days are distinct
 pub rising-distinct : (xs : List DayValue) → AreRising xs → IsDistinct int_eq (keys_of xs)

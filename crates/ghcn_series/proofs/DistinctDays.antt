@@ -1,13 +1,14 @@
 -- The usable days of months of different times are different days.
 use Rattle.std.proofs.Common.{◌≡◌, ℕ, ◌+◌, ◌<◌, ◌≤◌, Bool, true, false, cond, List, [], ◌∷◌, ◌++◌, Option, Some, None}
-use Rattle.std.proofs.Common.{refl, sym, ap, ◌∙◌, subst, arith, ℤ, pos}
-use Rattle.std.specs.Prelude.{◌==◌, ◌&&◌, ◌||◌, int_le}
+use Rattle.std.proofs.Common.{refl, sym, ap, ◌∙◌, arith, ℤ, pos}
+use Rattle.std.specs.Prelude.{◌||◌, int_le}
 use Rattle.std.specs.Ordering.{int_eq}
 use Rattle.std.specs.List.{filter_map, flat_map, enumerate_from, cons_option, IsDistinct, AllByRecursion}
 use Rattle.std.specs.Option.{option_and_then}
 use Rattle.std.specs.Map.{keys_of}
-use Rattle.std.proofs.lemmas.Bool.Decides.{Decides-int_eq, nat_tests}
+use Rattle.std.proofs.lemmas.Bool.Decides.{Decides-int_eq}
 use Rattle.std.proofs.lemmas.Int.{ints}
+use Rattle.std.proofs.lemmas.Bool.{false_from_ne_true, both_ways, and_from, eq-eqb}
 use Rattle.jiff_core.specs.Calendar.{IsCivilDate}
 use Rattle.ghcn_fields.specs.Days.{day_number}
 use Rattle.ghcn_fields.specs.Dates.{civil}
@@ -19,7 +20,7 @@ use Rattle.ghcn_series.specs.Series.{DayValue}
 use Rattle.ghcn_series.specs.Says.{fact_if}
 use Rattle.ghcn_series.specs.Gathered.{counted, usable_day, usable_days, same_time}
 use Rattle.ghcn_series.proofs.MonthDays.{has_number}
-use Rattle.ghcn_series.proofs.ListFacts.{both_all}
+use Rattle.ghcn_series.proofs.ListFacts.{both_all, both_distinct}
 
 -- a day's number gives its date back
 date_is : (y m d : ℕ) (n : ℤ) → day_number y m d ≡ Some n → civil n ≡ (y, m, d)
@@ -36,31 +37,22 @@ date_is y m d n e =
 abbrev IsDayOf : Month → ℕ → ℤ → Type 0
 IsDayOf m j n = day_number m.year m.month j ≡ Some n
 
--- two pairs of equal numbers pass both tests
-same_parts : (a b c d : ℕ) → a ≡ b → c ≡ d → ((a == b) && (c == d)) ≡ true
-same_parts a b c d p q = grind (arith, nat_tests)
-
--- what is false where it is true is false
-false_unless : (b : Bool) → (b ≡ true → b ≡ false) → b ≡ false
-false_unless true h = h refl
-false_unless false h = refl
-
 -- days of months of different times differ
 apart_by_time : (a b : Month) (i j : ℕ) (m n : ℤ) → same_time a b ≡ false → IsDayOf a i m → IsDayOf b j n
     → int_eq m n ≡ false
 apart_by_time a b i j m n other p q =
-    false_unless (int_eq m n) (λ eq.
+    false_from_ne_true (int_eq m n) (λ eq.
     let same : m ≡ n = (Decides-int_eq m n).0 eq in
     let dates : ◌≡◌ {A = ℕ × ℕ × ℕ} (a.year, a.month, i) (b.year, b.month, j) = sym (date_is a.year a.month i m p)
     ∙ ap civil same ∙ date_is b.year b.month j n q in
     let year : a.year ≡ b.year = ap (λ (t : ℕ × ℕ × ℕ). t.0) dates in
     let month : a.month ≡ b.month = ap (λ (t : ℕ × ℕ × ℕ). t.1) dates in
-    absurd (cc (other, same_parts a.year b.year a.month b.month year month)))
+    both_ways (same_time a b) other (and_from _ _ (eq-eqb a.year b.year year) (eq-eqb a.month b.month month)))
 
 -- different days of one month differ
 apart_by_place : (a : Month) (i j : ℕ) (m n : ℤ) → i < j → IsDayOf a i m → IsDayOf a j n → int_eq m n ≡ false
 apart_by_place a i j m n lt p q =
-    false_unless (int_eq m n) (λ eq.
+    false_from_ne_true (int_eq m n) (λ eq.
     let same : m ≡ n = (Decides-int_eq m n).0 eq in
     let dates : ◌≡◌ {A = ℕ × ℕ × ℕ} (a.year, a.month, i) (a.year, a.month, j) = sym (date_is a.year a.month i m p)
     ∙ ap civil same ∙ date_is a.year a.month j n q in
@@ -157,21 +149,9 @@ apart_from_others : (a : Month) (i : ℕ) (n : ℤ) (ms : List Month) → AllByR
     → IsDayOf a i n → AllByRecursion (λ k. int_eq n k ≡ false) (keys_of (flat_map usable_days ms))
 apart_from_others a i n [] all is = tt
 apart_from_others a i n (b ∷ bs) all is =
-    let P : List ℤ → Type 0 = AllByRecursion (λ k. int_eq n k ≡ false) in
-    subst P (sym (keys_of-append (usable_days b) (flat_map usable_days bs)))
+    rw (keys_of-append (usable_days b) (flat_map usable_days bs))
     (both_all (λ k. int_eq n k ≡ false) (keys_of (usable_days b)) (keys_of (flat_map usable_days bs))
     (apart_from_other a b i 1 n _ all.0 is (usable_from b 1 b.days)) (apart_from_others a i n bs all.1 is))
-
--- two lists of distinct days without a common one are distinct together
-both_distinct : (xs ys : List ℤ) → IsDistinct int_eq xs → IsDistinct int_eq ys
-    → AllByRecursion (λ x. AllByRecursion (λ y. int_eq x y ≡ false) ys) xs → IsDistinct int_eq (xs ++ ys)
-unfolding IsDistinct
-both_distinct [] ys p q all = q
-both_distinct (x ∷ xs) ys p q all = (
-  both_all (λ y. int_eq x y ≡ false) xs ys p.0 all.0,
-  both_distinct xs ys p.1 q
-      all.1,
-)
 
 -- no day of a month is one of months of other times
 all_apart : (a : Month) (ms : List Month) (days : List ℤ) → AllByRecursion (λ b. same_time a b ≡ false) ms
@@ -185,7 +165,6 @@ pub distinct_days : (ms : List Month) → IsDistinct same_time ms → IsDistinct
 unfolding IsDistinct
 distinct_days [] distinct = tt
 distinct_days (m ∷ ms) distinct =
-    let P : List ℤ → Type 0 = IsDistinct int_eq in
-    subst P (sym (keys_of-append (usable_days m) (flat_map usable_days ms)))
-    (both_distinct (keys_of (usable_days m)) (keys_of (flat_map usable_days ms)) (distinct_in_month m 1 m.days)
+    rw (keys_of-append (usable_days m) (flat_map usable_days ms))
+    (both_distinct int_eq (keys_of (usable_days m)) (keys_of (flat_map usable_days ms)) (distinct_in_month m 1 m.days)
     (distinct_days ms distinct.1) (all_apart m ms (keys_of (usable_days m)) distinct.0 (usable_from m 1 m.days)))

@@ -6,6 +6,7 @@ use Rattle.std.specs.List.{filter_map, flat_map, enumerate_from, cons_option}
 use Rattle.std.specs.Option.{option_and_then}
 use Rattle.std.proofs.lemmas.List.{map-append}
 use Rattle.std.proofs.lemmas.List.Elements.{filter-append}
+use Rattle.std.proofs.lemmas.Bool.{and_parts}
 use Rattle.ghcn_files.specs.declared.station.StationId.{StationId}
 use Rattle.ghcn_files.specs.declared.station.Station.{Station}
 use Rattle.ghcn_files.specs.declared.element.Element.{Element}
@@ -75,16 +76,6 @@ module _ (stations : List Station) (id : StationId) (e : Element) where
   is_of-month m f of = ap (λ (i : StationId). same_id i id && same_element f.element e) of.0
       ∙ ap (λ (x : Element). same_id m.id id && same_element x e) of.1
 
-  -- a passed test changes nothing before another
-  and_true : (a b : Bool) → a ≡ true → (a && b) ≡ b
-  and_true true b p = refl
-  and_true false b p = absurd cc
-
-  -- where both tests are passed, the first one is
-  first_true : (a b : Bool) → (a && b) ≡ true → a ≡ true
-  first_true true b p = refl
-  first_true false b p = absurd cc
-
   -- of a month of the station and element
   selected-this : (m : Month) (xs : List (ℕ × Reading)) → is_listed stations id ≡ true
       → (same_id m.id id && same_element m.element e) ≡ true → selected (filter_map (fact_of m) xs)
@@ -97,11 +88,11 @@ module _ (stations : List Station) (id : StationId) (e : Element) where
         | None ↦ λ is. selected-this m xs listed this
         | Some f ↦ λ is.
             let of = of_month m x.1.flagged _ x.1.value f is in
-            let same : m.id ≡ id = same_id-is m.id id (first_true (same_id m.id id) (same_element m.element e) this) in
+            let same : m.id ≡ id = same_id-is m.id id (and_parts (same_id m.id id) (same_element m.element e) this).0 in
             let known : is_listed stations f.id ≡ true = ap (is_listed stations) (of.0 ∙ same) ∙ listed in
             let counts : Bool = may_be_negative f.element || int_le (pos 0) f.value in
             one_selected (is_usable stations f) counts f (filter (is_usable stations) (filter_map (fact_of m) xs))
-            (and_true (is_listed stations f.id) counts known) (is_of-month m f of ∙ this)
+            (ap (λ (b : Bool). b && counts) known) (is_of-month m f of ∙ this)
             ∙ ap (λ ds. cons_option (cond counts (Some (pair f)) None) ds) (selected-this m xs listed this)
       ] refl
 

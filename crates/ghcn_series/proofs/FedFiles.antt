@@ -1,8 +1,8 @@
 -- Whole files that are fed, one after the other.
-use Rattle.std.proofs.Common.{◌≡◌, ℕ, zero, suc, ◌+◌, ◌<◌, ◌≤◌, ◌^◌, List, [], ◌∷◌, ◌++◌, length, Option}
-use Rattle.std.proofs.Common.{take, drop, get_or, Bor, add-one, refl}
-use Rattle.std.proofs.Common.{sym, ap, ◌∙◌, subst, arith}
-use Rattle.std.proofs.lemmas.List.{append-nil, take-append-drop}
+use Rattle.std.proofs.Common.{◌≡◌, ℕ, ◌+◌, ◌<◌, ◌≤◌, ◌^◌, List, [], ◌∷◌, ◌++◌, length, Option}
+use Rattle.std.proofs.Common.{take, drop, get_or, Bor, refl}
+use Rattle.std.proofs.Common.{sym, ap, ◌∙◌, arith}
+use Rattle.std.proofs.lemmas.List.{append-nil, take-append-drop, take_more, get_or-map}
 use Rattle.ghcn_files.specs.declared.station.Station.{Station}
 use Rattle.ghcn_files.specs.declared.element.Element.{Element}
 use Rattle.ghcn_series.specs.declared.fault.DataFault.{DataFault}
@@ -24,13 +24,9 @@ fed_files element stations files n = record {
 -- the first files, and one more
 pub texts-more : (files : List (Bor (List ℕ))) (i : ℕ) (d : Bor (List ℕ)) → i < length files
     → take (i + 1) (texts files) ≡ take i (texts files) ++ (get_or files i d).now ∷ []
-texts-more files i d lt = ap (λ k. take k (texts files)) (add-one i) ∙ go files i d lt
-  where
-    go : (files : List (Bor (List ℕ))) (i : ℕ) (d : Bor (List ℕ)) → i < length files
-        → take (suc i) (texts files) ≡ take i (texts files) ++ (get_or files i d).now ∷ []
-    go [] i d lt = absurd (omega arith)
-    go (f ∷ fs) zero d lt = refl
-    go (f ∷ fs) (suc i) d lt = ap (λ (ts : List (List ℕ)). f.now ∷ ts) (go fs i d (omega arith))
+texts-more files i d lt =
+    take_more (texts files) i [] (omega (arith, lt, length-texts files))
+    ∙ ap (λ t. take i (texts files) ++ t ∷ []) (get_or-map (λ f. f.now) files i d [] lt)
 
 -- the fault of a file's piece that is the whole of it
 pub told_in_file : (stations : List Station) (files : List (Bor (List ℕ))) (i : ℕ) (d : Bor (List ℕ)) (f : DataFault)
@@ -39,9 +35,8 @@ pub told_in_file : (stations : List Station) (files : List (Bor (List ℕ))) (i 
     → IsRefusal f (data_of stations (texts files))
 told_in_file stations files i d f lt few told =
     let le : length (texts files) ≤ 2 ^ 20 = omega (arith, length-texts files, few) in
-    let P : List ℕ → Type 0 = λ t. IsToldOf stations (and_current (take i (texts files)) t) f in
     let of : IsToldOf stations (and_current (take i (texts files)) (get_or files i d).now) f =
-    subst P (append-nil (get_or files i d).now) told in
+    rw (append-nil (get_or files i d).now) at told in
     elim (get_or files i d).now as (λ t. (get_or files i d).now ≡ t
     → IsToldOf stations (and_current (take i (texts files)) t) f → IsRefusal f (data_of stations (texts files))) [
       | [] ↦ λ empty here. told_all stations (take i (texts files)) (drop i (texts files)) (texts files) f

@@ -7,16 +7,16 @@ use Rattle.std.proofs.Common.{sym, ap, ◌∙◌, subst, append_assoc, length-ap
 use Rattle.std.specs.List.{enumerate_from}
 use Rattle.std.specs.Str.Lines.{strip_carriage_return}
 use Rattle.std.proofs.lemmas.List.{append-nil, nil_from_length}
+use Rattle.std.proofs.lemmas.Bool.{or_parts}
 use Rattle.ghcn_fields.specs.Lines.{lines, HasNoLineFeed, EndsLine}
 use Rattle.ghcn_fields.specs.LineLaws.{lines-append, lines-one, lines-unended, lines-some}
 use Rattle.ghcn_fields.specs.LineLaws.{no_line_feed-append}
-use Rattle.ghcn_fields.specs.Faults.{HaveNoFault}
 use Rattle.ghcn_files.specs.declared.station.Station.{Station}
 use Rattle.ghcn_files.specs.declared.element.Element.{Element}
 use Rattle.ghcn_series.specs.declared.reader.Reader.{Reader}
 use Rattle.ghcn_series.specs.declared.pieces.DataReader.{DataReader}
 use Rattle.ghcn_series.specs.declared.fault.DataFault.{DataFault}
-use Rattle.ghcn_series.specs.DailyFaults.{FileLine, not_blank, one_line, file_lines, daily_lines, daily_fault}
+use Rattle.ghcn_series.specs.DailyFaults.{not_blank, one_line, file_lines, daily_lines}
 use Rattle.ghcn_series.specs.DailyFaults.{IsRefusal}
 use Rattle.ghcn_series.specs.Says.{contents, data_of}
 use Rattle.ghcn_series.specs.Series.{Contents}
@@ -29,7 +29,6 @@ use Rattle.ghcn_series.proofs.ReadFiles.{data_of-right}
 use Rattle.ghcn_series.proofs.ReadFiles.{first_refusal}
 use Rattle.ghcn_series.proofs.FedLines.{file_lines-append, file_lines-one, daily_lines-one}
 use Rattle.ghcn_series.proofs.ToldFaults.{told_of, told_here}
-use Rattle.ghcn_series.proofs.ListFacts.{neither}
 
 -- so few files are ended that one more can be read
 few_with : (ended : List (List ℕ)) (current : List ℕ) → length ended < 2 ^ 20
@@ -104,11 +103,9 @@ line-told old line later fed f none lt refuses is =
     let file = length fed.ended + 1 in
     let one : lines tail ≡ strip_carriage_return (old.rest.items ++ line) ∷ [] =
     lines-one (old.rest.items ++ line) (no_line_feed-append old.rest.items line is.unended none) in
-    let P : List FileLine → Type 0 = λ ls. IsLineRefusal old.reader.stations ls f in
-    let Q : List Station → Type 0 = λ ss. IsLineRefusal ss
-    (daily_lines fed.ended ++ file_lines (file, is.whole ++ tail)) f in
-    let here = subst Q is.stations (subst P (numbered old fed tail line is one)
-    (refuses.first (daily_lines fed.ended ++ file_lines (file, is.whole)) is.read)) in
+    let here : IsLineRefusal fed.stations (daily_lines fed.ended ++ file_lines (file, is.whole ++ tail)) f =
+    rw (← is.stations, ← numbered old fed tail line is one)
+    (refuses.first (daily_lines fed.ended ++ file_lines (file, is.whole)) is.read) in
     let ends : EndsLine (is.whole ++ tail) = inr (
       is.whole ++ (old.rest.items ++ line),
       sym
@@ -150,29 +147,6 @@ part-fed old new bytes fed none lt reader ended line kept is = record {
   read = subst (λ (r : Reader). HasReadLines r (daily_lines fed.ended ++ file_lines (length fed.ended + 1, is.whole)))
       (sym reader) is.read;
 }
-
--- no bytes change nothing
-pub nothing-fed : (r : DataReader) (fed : Fed) (bytes : List ℕ) → bytes ≡ [] → HasFed r fed → HasFed r (more fed bytes)
-nothing-fed r fed bytes none is =
-    let P : List ℕ → Type 0 = λ current. HasFed r (record
-    { element = fed.element; stations = fed.stations; ended = fed.ended; current = current }) in
-    subst P (sym (append-nil fed.current) ∙ ap (λ (xs : List ℕ). fed.current ++ xs) (sym none)) is
-
--- one file too many has begun
-pub one_too_many : (r : DataReader) (fed : Fed) (bytes later : List ℕ) → 0 < length bytes → 2 ^ 20 ≤ r.ended
-    → HasFed r fed → 2 ^ 20 < length (files_of (more fed (bytes ++ later)))
-one_too_many r fed bytes later some many is =
-    let all = fed.current ++ (bytes ++ later) in
-    let has : 0 < length all = omega (arith, length-append fed.current (bytes ++ later), length-append bytes later) in
-    omega (
-      arith,
-      some,
-      many,
-      is.ended,
-      ap length (and_current-some fed.ended all has),
-      length-append fed.ended
-          (all ∷ []),
-    )
 
 -- bytes that are fed in two parts
 pub more-more : (fed : Fed) (a b c : List ℕ) → a ++ b ≡ c → more (more fed a) b ≡ more fed c
@@ -235,7 +209,6 @@ end-fed old new fed lt none reader ended line empty is =
     ap (λ t. done ++ file_lines (length fed.ended + 1, t)) (sym all)
     ∙ sym (daily_lines-one fed.ended fed.current)
     ∙ sym (append-nil (daily_lines (fed.ended ++ fed.current ∷ []))) in
-    let P : Reader → Type 0 = λ r. HasReadLines r (done ++ file_lines (length fed.ended + 1, is.whole)) in
     record {
       element = ap (λ (r : Reader). r.element) reader ∙ is.element;
       stations = ap (λ (r : Reader). r.stations) reader ∙ is.stations;
@@ -246,7 +219,7 @@ end-fed old new fed lt none reader ended line empty is =
       ends = inl refl;
       unended = subst HasNoLineFeed (sym empty) tt;
       counted = line;
-      read = subst (HasReadLines new.reader) lines_are (subst P (sym reader) is.read);
+      read = subst (HasReadLines new.reader) lines_are (rw reader is.read);
     }
 
 -- what is left of a file is its last line
@@ -272,7 +245,6 @@ pub last-fed : (old mid new : DataReader) (fed : Fed) → old.ended < 2 ^ 20 →
     → new.reader ≡ mid.reader → new.ended ≡ mid.ended + 1 → new.line ≡ 0 → new.rest.items ≡ [] → HasFed old fed
     → HasFed new (with_end fed)
 last-fed old mid new fed lt some adds reader ended line empty is =
-    let P : Reader → Type 0 = λ r. HasReadLines r (daily_lines (fed.ended ++ fed.current ∷ []) ++ []) in
     let read = adds.read.holds (daily_lines fed.ended ++ file_lines (length fed.ended + 1, is.whole)) is.read in
     record {
       element = ap (λ (r : Reader). r.element) reader ∙ adds.element ∙ is.element;
@@ -284,7 +256,7 @@ last-fed old mid new fed lt some adds reader ended line empty is =
       ends = inl refl;
       unended = subst HasNoLineFeed (sym empty) tt;
       counted = line;
-      read = subst P (sym reader) (subst (HasReadLines mid.reader)
+      read = rw reader (subst (HasReadLines mid.reader)
           (with_last old fed is some ∙ sym (append-nil (daily_lines (fed.ended ++ fed.current ∷ [])))) read);
     }
 
@@ -294,18 +266,12 @@ pub last-told : (old : DataReader) (fed : Fed) (f : DataFault) → old.ended < 2
     → HasFed old fed → IsToldOf fed.stations (fed.ended ++ fed.current ∷ []) f
 last-told old fed f lt some refuses is =
     let files = fed.ended ++ fed.current ∷ [] in
-    let P : List FileLine → Type 0 = λ ls. IsLineRefusal old.reader.stations ls f in
-    let Q : List Station → Type 0 = λ ss. IsLineRefusal ss (daily_lines files) f in
-    let here = subst Q is.stations (subst P (with_last old fed is some)
-    (refuses.first (daily_lines fed.ended ++ file_lines (length fed.ended + 1, is.whole)) is.read)) in
+    let here : IsLineRefusal fed.stations (daily_lines files) f =
+    rw (← is.stations, ← with_last old fed is some)
+    (refuses.first (daily_lines fed.ended ++ file_lines (length fed.ended + 1, is.whole)) is.read) in
     told_of fed.stations files (daily_lines files) [] f
     (omega (arith, is.ended, lt, length-append fed.ended (fed.current ∷ []))) (sym (append-nil (daily_lines files)))
     here
-
--- one file too many is ended
-pub one_too_many_ended : (r : DataReader) (fed : Fed) → 2 ^ 20 ≤ r.ended → HasFed r fed
-    → 2 ^ 20 < length (fed.ended ++ fed.current ∷ [])
-one_too_many_ended r fed many is = omega (arith, many, is.ended, length-append fed.ended (fed.current ∷ []))
 
 -- a line or part of one has come
 pub has_begun : (r : DataReader) → (nat_lt 0 r.line || nat_lt 0 (length r.rest.items)) ≡ true
@@ -321,7 +287,7 @@ has_begun r e = some r.line (length r.rest.items) e
 pub not_begun : (r : DataReader) → (nat_lt 0 r.line || nat_lt 0 (length r.rest.items)) ≡ false
     → (r.line ≡ 0) × (r.rest.items ≡ [])
 not_begun r e =
-    let both = neither (nat_lt 0 r.line) (nat_lt 0 (length r.rest.items)) e in
+    let both = or_parts (nat_lt 0 r.line) (nat_lt 0 (length r.rest.items)) e in
     (grind (arith, nat_tests, both.0), nil_from_length r.rest.items (grind (arith, nat_tests, both.1)))
 
 -- a line or part of one has come of the current file
@@ -355,14 +321,12 @@ data_fed r fed held none holds is =
     ∙ append-nil (daily_lines fed.ended) in
     let files : files_of fed ≡ fed.ended = ap (and_current fed.ended) none in
     let few : length fed.ended ≤ 2 ^ 20 = subst (λ (fs : List (List ℕ)). length fs ≤ 2 ^ 20) files is.few in
-    let P : List FileLine → Type 0 = λ xs. HaveNoFault (daily_fault r.reader.stations) xs in
-    let Q : List Station → Type 0 = λ ss. HaveNoFault (daily_fault ss) (daily_lines fed.ended) in
     let of : contents r.reader.stations ls ≡ contents fed.stations (daily_lines fed.ended) =
     ap (contents r.reader.stations) all ∙ ap (λ (ss : List Station). contents ss (daily_lines fed.ended)) is.stations in
     record {
       whole = contents fed.stations (daily_lines fed.ended);
       read = ap (data_of fed.stations) files
-          ∙ data_of-right fed.stations fed.ended few (subst Q is.stations (subst P all is.read.right));
+          ∙ data_of-right fed.stations fed.ended few (rw (← is.stations, ← all) is.read.right);
       is = holds.is ls is.read ∙ ap (kept r.reader.element) of
           ∙ ap (λ (e : Option Element). kept e (contents fed.stations (daily_lines fed.ended))) is.element;
     }
@@ -371,8 +335,7 @@ data_fed r fed held none holds is =
 pub told_at_end : (r : DataReader) (fed : Fed) (f : DataFault) → 0 < r.line + length r.rest.items → HasFed r fed
     → IsToldOf fed.stations (fed.ended ++ fed.current ∷ []) f → IsRefusal f (data_of fed.stations (files_of fed))
 told_at_end r fed f some is told =
-    let P : List (List ℕ) → Type 0 = λ files. IsRefusal f (data_of fed.stations files) in
-    subst P (sym (and_current-some fed.ended fed.current (begun r fed some is)))
+    rw (and_current-some fed.ended fed.current (begun r fed some is))
     (told_here fed.stations (fed.ended ++ fed.current ∷ []) f told)
 
 -- the data when the current file is ended are those of the files
@@ -380,8 +343,7 @@ pub data_at_end : (old r : DataReader) (fed : Fed) (held : Contents) → 0 < old
     → HasFed old fed → HasFed r (with_end fed)
     → HoldsAll r.reader held → AreKept fed.element fed.stations (files_of fed) held
 data_at_end old r fed held some was is holds =
-    let P : List (List ℕ) → Type 0 = λ files. AreKept fed.element fed.stations files held in
-    subst P (sym (and_current-some fed.ended fed.current (begun old fed some was)))
+    rw (and_current-some fed.ended fed.current (begun old fed some was))
     (data_fed r (with_end fed) held refl holds is)
 
 -- the lines that a reader has read

@@ -7,15 +7,13 @@ use Rattle.std.specs.Int.{bit_at, bit_not, trailing_zeros}
 use Rattle.std.specs.List.{cons_option, filter_map, range_with_len}
 use Rattle.std.proofs.lemmas.Bool.{cases_lt}
 use Rattle.std.proofs.lemmas.Nat.Bits.{bit_at-zero, bit_at-trailing_zeros, bit_at_clear_same, bit_at_clear_other}
-use Rattle.std.proofs.Common.{subst, neg_ℤ, ◌≤ℤ◌}
+use Rattle.std.proofs.Common.{neg_ℤ, ◌≤ℤ◌}
 use Rattle.std.proofs.lemmas.Int.{ints}
 use Rattle.std.specs.Iterator.{YieldsFirst, MakesProgress, item_count}
 use Rattle.std.specs.Prelude.{⊤}
-use Rattle.std.specs.List.{AllByRecursion}
 use Rattle.ghcn_fields.specs.Days.{is_day, IsBlock}
 use Rattle.ghcn_series.specs.Series.{DayValue}
-use Rattle.ghcn_series.specs.Packed.{block_start, if_so, day_at, block_days, days_from, days_of, blocks_of, AreDays}
-use Rattle.ghcn_series.specs.Packed.{IsPacked}
+use Rattle.ghcn_series.specs.Packed.{block_start, if_so, day_at, block_days, days_from, AreDays}
 
 -- the day at a place, where a bit that is read tells whether it is present
 place : ℤ → List ℤ → ℕ → ℕ → List DayValue → List DayValue
@@ -98,40 +96,34 @@ block-first n vs w some fits =
 pub day-range : (d : ℤ) → is_day d ≡ true → (neg_ℤ (pos 719_162) ≤ℤ d) × (d ≤ℤ pos 2_932_896)
 day-range d e = grind (arith, ints)
 
--- the day of a word's lowest bit is a day of the calendar
-pub lowest-day : (n : ℤ) (w : ℕ) → AreDays n w → 0 < w → w < 2 ^ 32
-    → is_day (block_start n +ℤ pos (trailing_zeros w32 w)) ≡ true
-lowest-day n w are some fits =
-    let lowest = bit_at-trailing_zeros w32 w some fits in
-    are.days (trailing_zeros w32 w) lowest.0 lowest.1
-
--- the bits that stay are of days too
-pub days-left : (n : ℤ) (w : ℕ) → AreDays n w → 0 < w → w < 2 ^ 32 → AreDays n (without_lowest w)
-days-left n w are some fits = record {
-  days = λ j lt set.
-      let t : ℕ = trailing_zeros w32 w in
-      let lowest = bit_at-trailing_zeros w32 w some fits in
-      let gone : bit_at (without_lowest w) t ≡ 0 = bit_at_clear_same w32 w t lowest.0 in
-      let other : j ≢ t = λ same. let both : bit_at (without_lowest w) t
-      ≡ 1 = subst (λ (k : ℕ). bit_at (without_lowest w) k ≡ 1) same set in absurd (omega arith) in
-      are.days j lt (sym (bit_at_clear_other w32 w t lowest.0 j lt other) ∙ set);
-}
-
--- the blocks of columns, the first apart
-pub blocks-first : (n : ℤ) (w : ℕ) (vs : List ℤ) (ns : List ℤ) (ws : List ℕ) (vss : List (List ℤ))
-    → days_of (blocks_of (n ∷ ns) (w ∷ ws) (vs ∷ vss)) ≡ block_days (n, (w, vs)) ++ days_of (blocks_of ns ws vss)
-blocks-first n w vs ns ws vss = refl
-
 -- the block of a day of the calendar
 pub block-of_day : (n : ℤ) (j : ℕ) → j < 32 → is_day (block_start n +ℤ pos j) ≡ true → IsBlock n
 block-of_day n j lt is =
     let range = day-range (block_start n +ℤ pos j) is in
     record { low = omega (arith, ints, range.0); high = omega (arith, ints, range.1) }
 
--- the block of a word with a bit
-pub lowest-block : (n : ℤ) (w : ℕ) → AreDays n w → 0 < w → w < 2 ^ 32 → IsBlock n
-lowest-block n w are some fits = block-of_day n (trailing_zeros w32 w) (bit_at-trailing_zeros w32 w some fits).0
-    (lowest-day n w are some fits)
+module _ (n : ℤ) (w : ℕ) (are : AreDays n w) (some : 0 < w) (fits : w < 2 ^ 32) where
+  -- the place of the lowest bit
+  abbrev lowest : ℕ
+  lowest = trailing_zeros w32 w
+
+  -- its day is a day of the calendar
+  pub lowest-day : is_day (block_start n +ℤ pos lowest) ≡ true
+  lowest-day = let at = bit_at-trailing_zeros w32 w some fits in are.days lowest at.0 at.1
+
+  -- the bits that stay are of days too
+  pub days-left : AreDays n (without_lowest w)
+  days-left = record {
+    days = λ j lt set.
+        let at = bit_at-trailing_zeros w32 w some fits in
+        let gone : bit_at (without_lowest w) lowest ≡ 0 = bit_at_clear_same w32 w lowest at.0 in
+        let other : j ≢ lowest = λ same. omega (arith, gone, set, ap (bit_at (without_lowest w)) same) in
+        are.days j lt (sym (bit_at_clear_other w32 w lowest at.0 j lt other) ∙ set);
+  }
+
+  -- the block is one of the calendar's
+  pub lowest-block : IsBlock n
+  lowest-block = block-of_day n lowest (bit_at-trailing_zeros w32 w some fits).0 lowest-day
 
 -- what comes of the first days of two parts, of which the first has one
 pub yields-before : (r : Option DayValue) (cur new rest : List DayValue) → 0 < length cur
@@ -140,11 +132,6 @@ pub yields-before : (r : Option DayValue) (cur new rest : List DayValue) → 0 <
 yields-before None cur new rest some y = let none : length cur ≡ 0 = ap (λ (l : List DayValue). length l) y.0 in absurd
     (omega arith)
 yields-before (Some x) cur new rest some y = ap (λ (l : List DayValue). l ++ rest) y
-
--- the first of some blocks is as it may be
-pub first-packed : (n : ℤ) (w : ℕ) (vs : List ℤ) (ns : List ℤ) (ws : List ℕ) (vss : List (List ℤ))
-    → AllByRecursion IsPacked (blocks_of (n ∷ ns) (w ∷ ws) (vs ∷ vss)) → IsPacked (n, (w, vs))
-first-packed n w vs ns ws vss all = all.0
 
 -- days behind a first one are fewer
 pub fewer : (all rest : List DayValue) (x : DayValue) → all ≡ x ∷ rest → length rest < length all

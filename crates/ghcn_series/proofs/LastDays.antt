@@ -1,17 +1,17 @@
 -- The last day of a word, of a block and of columns.
 use Rattle.std.proofs.Common.{◌≡◌, ℕ, zero, suc, ◌+◌, ◌-◌, ◌*◌, ◌<◌, ◌≤◌, ◌^◌, List, [], ◌∷◌, ◌++◌, length, get_or}
-use Rattle.std.proofs.Common.{Option, Some, None, inl, inr, refl, sym, ap, subst, ◌∙◌, arith, ℤ, pos, ◌+ℤ◌}
+use Rattle.std.proofs.Common.{Option, Some, None, inl, inr, refl, sym, ap, ◌∙◌, arith, ℤ, pos, ◌+ℤ◌}
 use Rattle.std.specs.Prelude.{◌==◌, slice_get}
 use Rattle.std.specs.Int.{bit_at}
 use Rattle.std.specs.List.{cons_option, filter_map, range_with_len}
 use Rattle.std.specs.Option.{option_map}
 use Rattle.std.proofs.lemmas.Bool.{cases_lt}
 use Rattle.std.proofs.lemmas.List.{append-nil}
-use Rattle.std.proofs.lemmas.Option.{slice_get_within, slice_get-get_or}
+use Rattle.std.proofs.lemmas.Option.{slice_get_within, get_or_from_slice_get}
 use Rattle.std.proofs.lemmas.Nat.Bits.{bit_at_cat_high, bit_at_above}
 use Rattle.ghcn_series.specs.Series.{DayValue}
 use Rattle.ghcn_series.specs.Packed.{Block, block_start, if_so, day_at, block_days, days_from, days_of, blocks_of}
-use Rattle.ghcn_series.specs.Packed.{AreBlocks, AreDays, IsLastOf}
+use Rattle.ghcn_series.specs.Packed.{AreBlocks, AreDays, IsLastOf, IsPacked}
 use Rattle.ghcn_series.proofs.FirstDays.{none-set}
 use Rattle.ghcn_series.proofs.PartsAdded.{packed-at}
 
@@ -98,17 +98,6 @@ highest-bit w t low high =
     double : (k : ℕ) → 2 ^ suc k ≡ 2 * 2 ^ k
     double k = search arith
 
--- the same values are there
-same_some : {X : Type 0} (u v : X) → Some u ≡ Some v → u ≡ v
-same_some u v e = cc
-
--- what is found at a place stands there
-got-last : {X : Type 0} (xs : List X) (i : ℕ) (v d : X) → Some v ≡ slice_get xs i
-    → (i < length xs) × (get_or xs i d ≡ v)
-got-last xs i v d e =
-    let lt = slice_get_within xs i v (sym e) in
-    (lt, same_some _ _ (sym (slice_get-get_or xs i d lt) ∙ sym e))
-
 -- the last block of columns, and its days
 pub record IsLastBlock (ns : List ℤ) (ws : List ℕ) (n : ℤ) (w : ℕ) : Type 0 where
   pub some_block : (length ns - 1) + 1 ≡ length ns
@@ -122,15 +111,15 @@ pub last-block : (ns : List ℤ) (ws : List ℕ) (vs : List (List ℤ)) (n : ℤ
     → Some n ≡ slice_get ns (length ns - 1) → Some w ≡ slice_get ws (length ws - 1) → IsLastBlock ns ws n w
 last-block ns ws vs n w bs here there =
     let i : ℕ = length ns - 1 in
-    let number = got-last ns i n (pos 0) here in
-    let word = got-last ws (length ws - 1) w 0 there in
-    let at : get_or ws i 0 ≡ w = ap (λ (k : ℕ). get_or ws (k - 1) 0) (sym bs.enough_words) ∙ word.1 in
-    let packed = packed-at ns ws vs bs i number.0 in
-    let own : AreDays (get_or ns i (pos 0)) (get_or ws i 0) = record { days = packed.days } in
+    let within : i < length ns = slice_get_within ns i n (sym here) in
+    let number : get_or ns i (pos 0) ≡ n = get_or_from_slice_get ns i n (pos 0) (sym here) in
+    let word : get_or ws i 0 ≡ w = ap (λ (k : ℕ). get_or ws (k - 1) 0) (sym bs.enough_words)
+    ∙ get_or_from_slice_get ws (length ws - 1) w 0 (sym there) in
+    let packed : IsPacked (n, (w, get_or vs i [])) = rw (number, word) at (packed-at ns ws vs bs i within) in
     record {
-      some_block = omega (arith, number.0);
-      number = number.1;
-      word = at;
-      days = subst (λ (z : ℤ). AreDays z w) number.1 (subst (λ (k : ℕ). AreDays (get_or ns i (pos 0)) k) at own);
-      present = subst (λ (k : ℕ). 0 < k) at packed.present;
+      some_block = omega (arith, within);
+      number = number;
+      word = word;
+      days = record { days = packed.days };
+      present = packed.present;
     }

@@ -1,28 +1,7 @@
--- Facts of two tests, and of all elements of a list.
-use Rattle.std.proofs.Common.{◌≡◌, ℕ, zero, suc, ◌<◌, Bool, true, false, List, [], ◌∷◌, ◌++◌, length}
-use Rattle.std.proofs.Common.{get_or, refl, arith}
-use Rattle.std.specs.Prelude.{◌&&◌, ◌||◌}
-use Rattle.std.specs.List.{AllByRecursion}
-
--- where one of two isn't true, none is
-pub neither : (a b : Bool) → (a || b) ≡ false → (a ≡ false) × (b ≡ false)
-neither true b e = absurd cc
-neither false b e = (refl, e)
-
--- a failed test behind another fails both
-pub and_false : (a b : Bool) → b ≡ false → (a && b) ≡ false
-and_false true b e = e
-and_false false b e = refl
-
--- where both tests are passed, each is
-pub both_true : (a b : Bool) → (a && b) ≡ true → (a ≡ true) × (b ≡ true)
-both_true true b e = (refl, e)
-both_true false b e = absurd cc
-
--- two passed tests pass both
-pub and_true : (a b : Bool) → a ≡ true → b ≡ true → (a && b) ≡ true
-and_true true b p q = q
-and_true false b p q = absurd cc
+-- Facts of all elements of a list.
+use Rattle.std.proofs.Common.{◌≡◌, ℕ, zero, suc, ◌<◌, List, [], ◌∷◌, ◌++◌, length, Some, subst, Bool, false}
+use Rattle.std.proofs.Common.{get_or, arith}
+use Rattle.std.specs.List.{AllByRecursion, slice_get, IsDistinct}
 
 module _ {X : Type 0} where
   -- what is true of two lists is true of both together
@@ -30,6 +9,16 @@ module _ {X : Type 0} where
       → AllByRecursion P (xs ++ ys)
   both_all P [] ys p q = q
   both_all P (x ∷ xs) ys p q = (p.0, both_all P xs ys p.1 q)
+
+  -- two lists of distinct elements, of which none is in both, are distinct together
+  pub both_distinct : (eq : X → X → Bool) (xs ys : List X) → IsDistinct eq xs → IsDistinct eq ys
+      → AllByRecursion (λ x. AllByRecursion (λ y. eq x y ≡ false) ys) xs → IsDistinct eq (xs ++ ys)
+  unfolding IsDistinct
+  both_distinct eq [] ys p q all = q
+  both_distinct eq (x ∷ xs) ys p q all = (
+    both_all (λ y. eq x y ≡ false) xs ys p.0 all.0,
+    both_distinct eq xs ys p.1 q all.1,
+  )
 
   -- what follows from a fact of each follows for all
   pub weaken : (P Q : X → Type 0) (xs : List X) → ((x : X) → P x → Q x) → AllByRecursion P xs → AllByRecursion Q xs
@@ -42,3 +31,10 @@ pub all-at : {X : Type 0} (P : X → Type 0) (xs : List X) (i : ℕ) (d : X) →
 all-at P [] i d all lt = absurd (omega arith)
 all-at P (x ∷ xs) zero d all lt = all.0
 all-at P (x ∷ xs) (suc i) d all lt = all-at P xs i d all.1 (omega arith)
+
+-- what is true of all is true of what is found at a place
+pub from_all : {X : Type 0} (P : X → Type 0) (xs : List X) (k : ℕ) (x : X) → AllByRecursion P xs
+    → slice_get xs k ≡ Some x → P x
+from_all P [] k x all at = absurd cc
+from_all P (y ∷ ys) zero x all at = let same : y ≡ x = cc in subst P same all.0
+from_all P (y ∷ ys) (suc k) x all at = from_all P ys k x all.1 at

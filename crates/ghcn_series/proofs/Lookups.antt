@@ -7,7 +7,7 @@ use Rattle.std.specs.Int.{bit_at}
 use Rattle.std.specs.List.{find, cons_option, filter_map, range_with_len, zip}
 use Rattle.std.specs.Option.{option_map, option_or}
 use Rattle.std.specs.Ordering.{int_eq}
-use Rattle.std.proofs.lemmas.Bool.{cases_lt}
+use Rattle.std.proofs.lemmas.Bool.{cases_lt, false_from_ne_true}
 use Rattle.std.proofs.lemmas.Bool.Decides.{Decides-int_eq}
 use Rattle.std.proofs.lemmas.Int.{ints}
 use Rattle.std.proofs.lemmas.List.{drop_more}
@@ -23,11 +23,7 @@ int_eq-yes a b e = (Decides-int_eq a b).1 e
 
 -- others fail it
 pub int_eq-no : (a b : ℤ) → (a ≡ b → ⊥) → int_eq a b ≡ false
-int_eq-no a b h =
-    elim (int_eq a b) as (λ t. int_eq a b ≡ t → t ≡ false) [
-      | true ↦ λ e. absurd (h ((Decides-int_eq a b).0 e))
-      | false ↦ λ e. refl
-    ] refl
+int_eq-no a b h = false_from_ne_true (int_eq a b) (λ e. h ((Decides-int_eq a b).0 e))
 
 -- a day lies in its block
 pub block-holds : (day : ℤ) → (block_start (block_of day) ≤ℤ day) × (day <ℤ (block_start (block_of day) +ℤ pos 32))
@@ -121,7 +117,7 @@ value_on-append (x ∷ xs) ys day =
     ]
 
 -- x, or nothing
-pub or_none : (x : Option ℤ) → option_or x None ≡ x
+pub or_none : {X : Type 0} (x : Option X) → option_or x None ≡ x
 or_none (Some v) = refl
 or_none None = refl
 

@@ -4,6 +4,7 @@ use Rattle.std.proofs.Common.{pos}
 use Rattle.std.specs.Prelude.{◌&&◌, ◌+ℤ◌}
 use Rattle.std.proofs.lemmas.Bool.Decides.{nat_tests}
 use Rattle.std.proofs.lemmas.Int.{ints}
+use Rattle.std.proofs.lemmas.Bool.{and_parts, and_from}
 use Rattle.jiff_core.specs.Calendar.{days_in_month, days_from_civil, IsCivilDate}
 use Rattle.jiff_core.proofs.SignedLemmas.{signed_arith}
 use Rattle.jiff_core.proofs.CalendarLemmas.{days_from_civil-day_count, day_count-day}
@@ -26,18 +27,6 @@ pub record IsOfCalendar (y m d : ℕ) : Type 0 where
   pub month : (1 ≤ m) × (m ≤ 12)
   pub day : (1 ≤ d) × (d ≤ days_in_month (pos y) m)
 
--- where three tests are passed, each is
-parts : (a b c : Bool) → (a && b && c) ≡ true → (a ≡ true) × (b ≡ true) × (c ≡ true)
-parts true true true e = (refl, refl, refl)
-parts true true false e = absurd cc
-parts true false c e = absurd cc
-parts false b c e = absurd cc
-
--- three passed tests pass all
-whole : (a b c : Bool) → a ≡ true → b ≡ true → c ≡ true → (a && b && c) ≡ true
-whole true b c p q r = cc
-whole false b c p q r = absurd cc
-
 -- a number that passes the test is in range
 within : (low high n : ℕ) → is_within low high n ≡ true → (low ≤ n) × (n ≤ high)
 within low high n e = (grind (arith, nat_tests), grind (arith, nat_tests))
@@ -49,18 +38,19 @@ is_within-from low high n l h = grind (arith, nat_tests)
 -- the parts of a date are of the calendar
 pub from_date : (y m d : ℕ) → is_date y m d ≡ true → IsOfCalendar y m d
 from_date y m d e =
-    let all = parts (is_within 1 9999 y) (is_within 1 12 m) (is_within 1 (days_in_month (pos y) m) d) e in
+    let all = and_parts (is_within 1 9999 y && is_within 1 12 m) (is_within 1 (days_in_month (pos y) m) d) e in
+    let month = and_parts (is_within 1 9999 y) (is_within 1 12 m) all.0 in
     record {
-      year = within 1 9999 y all.0;
-      month = within 1 12 m all.1;
-      day = within 1 (days_in_month (pos y) m) d all.2;
+      year = within 1 9999 y month.0;
+      month = within 1 12 m month.1;
+      day = within 1 (days_in_month (pos y) m) d all.1;
     }
 
 -- parts of the calendar are a date
 pub to_date : (y m d : ℕ) → IsOfCalendar y m d → is_date y m d ≡ true
 to_date y m d is =
-    whole (is_within 1 9999 y) (is_within 1 12 m) (is_within 1 (days_in_month (pos y) m) d)
-    (is_within-from 1 9999 y is.year.0 is.year.1) (is_within-from 1 12 m is.month.0 is.month.1)
+    and_from _ _ (and_from _ _ (is_within-from 1 9999 y is.year.0 is.year.1)
+    (is_within-from 1 12 m is.month.0 is.month.1))
     (is_within-from 1 (days_in_month (pos y) m) d is.day.0 is.day.1)
 
 -- a day that has a number is of the calendar, and its number is that of its date

@@ -8,6 +8,7 @@ use Rattle.std.specs.List.{cons_option, filter_map, enumerate_from}
 use Rattle.std.specs.Option.{option_map, option_and_then}
 use Rattle.std.proofs.lemmas.Bool.{cases_lt, lt-ltb, le-ltb}
 use Rattle.std.proofs.lemmas.Int.{ints, by_lt_z}
+use Rattle.std.proofs.lemmas.Option.{same_Some}
 use Rattle.jiff_core.specs.Calendar.{days_in_month, days_from_civil}
 use Rattle.jiff_core.proofs.CalendarLemmas.{days_in_month_bounds}
 use Rattle.ghcn_fields.specs.Days.{day_number, is_day}
@@ -88,10 +89,7 @@ module _ (m : Month) (first : ℤ) (begins : day_number m.year m.month 1 ≡ Som
       let day = is_day_of m (k + 1) r x is in
       let has = has_number m.year m.month (k + 1) x.0 day in
       let after = day_number-after m.year m.month k first begins (omega (arith, has.0.day)) in
-      same_day x.0 (first +ℤ pos k) (sym day ∙ after.0)
-    where
-      same_day : (a b : ℤ) → Some a ≡ Some b → a ≡ b
-      same_day a b e = cc
+      same_Some x.0 (first +ℤ pos k) (sym day ∙ after.0)
 
   -- a day at none of some places isn't usable
   elsewhere : (rs : List Reading) (s : ℕ) (d : ℤ) → ((k : ℕ) → s ≤ k → first +ℤ pos k ≡ d → ⊥)
@@ -212,9 +210,7 @@ row-at m row first number block place right of first_is near at =
     ap (λ (y : ℕ). day_number y m.month 1) (sym of.year)
     ∙ ap (λ (t : ℕ). day_number row.year t 1) (sym of.month) ∙ first_is in
     let is : day_of number place ≡ first = ap (λ (n : ℤ). day_of n place) near ∙ at in
-    subst (λ (f : ℤ). IsRow f row.word row.values
-    × ((d : ℤ) → value_on (days_from f row.word row.values) d ≡ value_on (usable_days m) d)) (sym is) (
+    rw is (
       row-is m first begins row.word row.values right of.days,
-      row-values m first begins row.word row.values right
-          of.days,
+      row-values m first begins row.word row.values right of.days,
     )

@@ -5,12 +5,16 @@ use Rattle.std.specs.Prelude.{◌||◌, nat_lt}
 use Rattle.std.specs.List.{slice_get, position_or_len, AllByRecursion, IsDistinct}
 use Rattle.std.proofs.lemmas.Bool.Decides.{nat_tests}
 use Rattle.std.proofs.lemmas.Cmp.{nat_list_eq_equiv}
+use Rattle.std.proofs.lemmas.Bool.{lt-ltb, le-ltb, ltb-true}
+use Rattle.std.proofs.lemmas.Option.{cond_some, slice_get-map}
+use Rattle.std.specs.Option.{option_map}
+use Rattle.ghcn_series.proofs.ListFacts.{from_all}
 use Rattle.ghcn_files.specs.declared.station.StationId.{StationId}
 use Rattle.ghcn_files.specs.declared.station.Station.{Station}
 use Rattle.ghcn_files.specs.Ids.{same_id}
 use Rattle.ghcn_files.specs.Listed.{is_station_of, place_of}
 use Rattle.ghcn_series.specs.DailyFaults.{is_listed}
-use Rattle.ghcn_files.specs.IdLaws.{same_id-is}
+use Rattle.ghcn_files.specs.IdLaws.{same_id-is, no_place}
 
 -- an ID is the same as itself
 pub same_id-refl : (a : StationId) → same_id a a ≡ true
@@ -23,20 +27,8 @@ ids stations = map (λ s. s.id) stations
 -- what is true of all IDs is true of a station's
 pub from_ids : (P : StationId → Type 0) (ss : List Station) (k : ℕ) (s : Station) → AllByRecursion P (ids ss)
     → slice_get ss k ≡ Some s → P s.id
-from_ids P [] k s all at = absurd cc
-from_ids P (x ∷ xs) zero s all at = let same : x ≡ s = cc in let Q : Station
-    → Type 0 = λ y. P y.id in subst Q same all.0
-from_ids P (x ∷ xs) (suc k) s all at = from_ids P xs k s all.1 at
-
--- a search goes on past what fails its test
-past : (b : Bool) (n : ℕ) → b ≡ false → cond (not b) (1 + n) 0 ≡ 1 + n
-past true n e = absurd cc
-past false n e = refl
-
--- it ends at what passes it
-at_once : (b : Bool) (n : ℕ) → b ≡ true → cond (not b) (1 + n) 0 ≡ 0
-at_once true n e = refl
-at_once false n e = absurd cc
+from_ids P ss k s all at =
+    from_all P (ids ss) k s.id all (slice_get-map (λ s. s.id) ss k ∙ ap (option_map (λ (s : Station). s.id)) at)
 
 -- where no ID stands twice, a station is the first of its ID
 first_place : (ss : List Station) (k : ℕ) (s : Station) → IsDistinct same_id (ids ss) → slice_get ss k ≡ Some s
@@ -45,21 +37,18 @@ unfolding IsDistinct
 first_place [] k s apart at = absurd cc
 first_place (x ∷ xs) zero s apart at =
     let same : x ≡ s = cc in (
-      at_once (same_id x.id s.id) _ (ap (λ (y : Station). same_id x.id y.id) (sym same) ∙ same_id-refl x.id),
+      ap (λ (b : Bool). cond (not b) (1 + position_or_len (is_station_of s.id) xs) 0)
+          (ap (λ (y : Station). same_id x.id y.id) (sym same) ∙ same_id-refl x.id),
       omega
           arith,
     )
 first_place (x ∷ xs) (suc k) s apart at =
     let more = first_place xs k s apart.1 at in
     let other = from_ids (λ y. same_id x.id y ≡ false) xs k s apart.0 at in (
-      past (same_id x.id s.id) (position_or_len (is_station_of s.id) xs) other
+      ap (λ (b : Bool). cond (not b) (1 + position_or_len (is_station_of s.id) xs) 0) other
           ∙ omega (arith, more.0),
       omega (arith, more.1),
     )
-
--- a lesser number passes the test
-lt_true : (n m : ℕ) → n < m → nat_lt n m ≡ true
-lt_true n m lt = grind (arith, nat_tests)
 
 -- the place of a station's ID is its own
 pub place_of-at : (ss : List Station) (k : ℕ) (s : Station) (id : StationId) → IsDistinct same_id (ids ss)
@@ -68,7 +57,7 @@ place_of-at ss k s id apart at of =
     let first = first_place ss k s apart at in
     let place : place_of ss s.id ≡ Some k =
     ap (λ (n : ℕ). cond (nat_lt n (length ss)) (Some n) None) first.0
-    ∙ ap (λ (b : Bool). cond b (Some k) None) (lt_true k (length ss) first.1) in
+    ∙ ap (λ (b : Bool). cond b (Some k) None) (lt-ltb k (length ss) first.1) in
     ap (place_of ss) (sym of) ∙ place
 
 -- both numbers may be one greater
@@ -82,24 +71,14 @@ has_place [] id = refl
 has_place (x ∷ xs) id =
     elim (is_station_of id x) as (λ b. nat_lt (cond (not b) (1 + position_or_len (is_station_of id) xs) 0)
     (suc (length xs)) ≡ (b || is_listed xs id)) [
-      | true ↦ lt_true 0 (suc (length xs)) (omega arith)
+      | true ↦ lt-ltb 0 (suc (length xs)) (omega arith)
       | false ↦ lt_next (position_or_len (is_station_of id) xs) (length xs) ∙ has_place xs id
     ]
 
--- no place is found where the test fails
-none_at : (b : Bool) (n : ℕ) → cond b (Some n) None ≡ None → b ≡ false
-none_at true n e = absurd cc
-none_at false n e = refl
-
 -- an ID without a place isn't listed
 pub unlisted-is : (ss : List Station) (id : StationId) → place_of ss id ≡ None → is_listed ss id ≡ false
-unlisted-is ss id none = sym (has_place ss id) ∙ none_at (nat_lt (position_or_len (is_station_of id) ss) (length ss))
-    (position_or_len (is_station_of id) ss) none
-
--- a place is found where it is passed
-some_at : (b : Bool) (n k : ℕ) → cond b (Some n) None ≡ Some k → (b ≡ true) × (n ≡ k)
-some_at true n k e = (refl, cc)
-some_at false n k e = absurd cc
+unlisted-is ss id none = sym (has_place ss id) ∙ le-ltb (position_or_len (is_station_of id) ss) (length ss)
+    (no_place ss id none)
 
 -- the station at a place
 abbrev pub IsAt : List Station → ℕ → StationId → Type 0
@@ -124,10 +103,7 @@ station_at (x ∷ xs) id k e lt =
 pub listed-is : (ss : List Station) (id : StationId) (k : ℕ) → place_of ss id ≡ Some k
     → IsAt ss k id × (is_listed ss id ≡ true) × (k < length ss)
 listed-is ss id k some =
-    let at = some_at (nat_lt (position_or_len (is_station_of id) ss) (length ss))
+    let at = cond_some (nat_lt (position_or_len (is_station_of id) ss) (length ss))
     (position_or_len (is_station_of id) ss) k some in
-    let lt : k < length ss = lt_from (position_or_len (is_station_of id) ss) (length ss) k at.0 at.1 in
+    let lt : k < length ss = omega (arith, ltb-true _ _ at.0, at.1) in
     (station_at ss id k at.1 lt, sym (has_place ss id) ∙ at.0, lt)
-  where
-    lt_from : (n m k : ℕ) → nat_lt n m ≡ true → n ≡ k → k < m
-    lt_from n m k t e = grind (arith, nat_tests)

@@ -1,9 +1,9 @@
 -- The data of files that were read.
-use Rattle.std.proofs.Common.{◌≡◌, ℕ, zero, suc, ◌<◌, ◌≤◌, ◌^◌, Bool, true, false, cond, List, [], ◌∷◌, length, map}
+use Rattle.std.proofs.Common.{◌≡◌, ℕ, ◌<◌, ◌≤◌, ◌^◌, Bool, cond, List, length, map}
 use Rattle.std.proofs.Common.{take, Option, None, Some, Ok, Err, Bor, refl, sym, ap, ◌∙◌, arith}
-use Rattle.std.specs.Prelude.{nat_le}
 use Rattle.std.specs.Option.{option_map}
-use Rattle.std.proofs.lemmas.Bool.Decides.{nat_tests}
+use Rattle.std.proofs.lemmas.List.{take_all, length-map}
+use Rattle.std.proofs.lemmas.Bool.{le-leb, lt-leb}
 use Rattle.ghcn_fields.specs.Faults.{first_fault, HaveNoFault}
 use Rattle.ghcn_fields.specs.FaultLaws.{first_fault-none, first_fault-from, first_fault-is}
 use Rattle.ghcn_files.specs.declared.station.Station.{Station}
@@ -21,21 +21,13 @@ use Rattle.ghcn_series.specs.Gathered.{IsLineRefusal}
 abbrev pub texts : List (Bor (List ℕ)) → List (List ℕ)
 texts files = map (λ f. f.now) files
 
--- at most 2^20 files pass the test
-few_true : (n : ℕ) → n ≤ 2 ^ 20 → nat_le n (2 ^ 20) ≡ true
-few_true n le = grind (arith, nat_tests)
-
--- more fail it
-many_false : (n : ℕ) → 2 ^ 20 < n → nat_le n (2 ^ 20) ≡ false
-many_false n lt = grind (arith, nat_tests)
-
--- of so few files the lines are read
+-- of at most 2^20 files the lines are read
 few_files : (stations : List Station) (files : List (List ℕ)) → length files ≤ 2 ^ 20
     → data_of stations files ≡ contents_unless (first_fault (daily_fault stations) (daily_lines files))
     (contents stations (daily_lines files))
 few_files stations files few =
     ap (λ (b : Bool). cond b (contents_unless (first_fault (daily_fault stations) (daily_lines files))
-    (contents stations (daily_lines files))) (Err TooManyFiles)) (few_true (length files) few)
+    (contents stations (daily_lines files))) (Err TooManyFiles)) (le-leb (length files) (2 ^ 20) few)
 
 -- files without a fault have their contents
 pub data_of-right : (stations : List Station) (files : List (List ℕ)) → length files ≤ 2 ^ 20
@@ -92,16 +84,12 @@ pub data_of-many : (stations : List Station) (files : List (List ℕ)) → 2 ^ 2
     → data_of stations files ≡ Err TooManyFiles
 data_of-many stations files many =
     ap (λ (b : Bool). cond b (contents_unless (first_fault (daily_fault stations) (daily_lines files))
-    (contents stations (daily_lines files))) (Err TooManyFiles)) (many_false (length files) many)
-
--- all texts are taken
-pub all_texts : (files : List (Bor (List ℕ))) (k : ℕ) → length files ≤ k → take k (texts files) ≡ texts files
-all_texts [] zero le = refl
-all_texts [] (suc k) le = refl
-all_texts (f ∷ fs) zero le = absurd (omega arith)
-all_texts (f ∷ fs) (suc k) le = ap (λ ts. f.now ∷ ts) (all_texts fs k (omega arith))
+    (contents stations (daily_lines files))) (Err TooManyFiles)) (lt-leb (length files) (2 ^ 20) many)
 
 -- there are as many texts as files
 pub length-texts : (files : List (Bor (List ℕ))) → length (texts files) ≡ length files
-length-texts [] = refl
-length-texts (f ∷ fs) = ap suc (length-texts fs)
+length-texts files = length-map files (λ f. f.now)
+
+-- all texts are taken
+pub all_texts : (files : List (Bor (List ℕ))) (k : ℕ) → length files ≤ k → take k (texts files) ≡ texts files
+all_texts files k le = take_all k (texts files) (omega (arith, le, length-texts files))

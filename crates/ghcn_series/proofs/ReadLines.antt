@@ -1,11 +1,12 @@
 -- A reader that has read one line more.
-use Rattle.std.proofs.Common.{◌≡◌, Bool, true, false, cond, not, List, [], ◌∷◌, ◌++◌, Option, None}
-use Rattle.std.proofs.Common.{Some, Result, Ok, Err, refl, sym, ap, ◌∙◌, subst, append_assoc}
+use Rattle.std.proofs.Common.{◌≡◌, Bool, true, false, cond, List, [], ◌∷◌, ◌++◌, Option, None}
+use Rattle.std.proofs.Common.{Some, Result, Ok, Err, refl, sym, ap, ◌∙◌, append_assoc}
 use Rattle.std.specs.Prelude.{◌&&◌}
 use Rattle.std.specs.List.{filter_map}
 use Rattle.std.specs.Option.{option_map, option_to_list}
 use Rattle.std.proofs.lemmas.List.{append-nil}
 use Rattle.std.proofs.lemmas.List.Elements.{filter_map-append}
+use Rattle.std.proofs.lemmas.Bool.{not-true, not-false}
 use Rattle.ghcn_fields.specs.Faults.{HaveNoFault, IsFirstFault}
 use Rattle.ghcn_fields.specs.FaultLaws.{no_fault-more}
 use Rattle.ghcn_files.specs.declared.station.Station.{Station}
@@ -18,7 +19,7 @@ use Rattle.ghcn_series.specs.declared.fault.DataFault.TheVariants.{DailyLine, To
 use Rattle.ghcn_series.specs.declared.reader.Reader.{Reader}
 use Rattle.ghcn_series.specs.DailyFaults.{FileLine, month_on, month_if_ok, repeats, is_listed}
 use Rattle.ghcn_series.specs.DailyFaults.{daily_why, daily_fault}
-use Rattle.ghcn_series.specs.Gathered.{HasRead, HasReadLines, IsLineRefusal}
+use Rattle.ghcn_series.specs.Gathered.{HasReadLines, IsLineRefusal}
 use Rattle.ghcn_series.specs.Steps.{ReadsMonth}
 
 module _ {L W : Type 0} (fault : List L → L → Option W) where
@@ -65,11 +66,8 @@ why_of stations before l r is = ap (λ x. option_map (λ why. DailyLine l.file l
 pub read-passed : (r : Reader) (l : FileLine) → read_month l.bytes ≡ Ok None → (before : List FileLine)
     → HasReadLines r before → HasReadLines r (before ++ l ∷ [])
 read-passed r l is before read =
-    let P : List Month → Type 0 = HasRead r in
-    let same : filter_map month_on before ≡ filter_map month_on (before ++ l ∷ []) = sym
-    (append-nil (filter_map month_on before)) ∙ sym (months-more before l None (ap month_if_ok is)) in
     record {
-      months = subst P same read.months;
+      months = rw (months-more before l None (ap month_if_ok is), append-nil (filter_map month_on before)) read.months;
       right = no_fault-more (daily_fault r.stations) before l read.right
           (why_of r.stations before l (Ok None) is);
     }
@@ -83,16 +81,6 @@ refused-line r l why is before read = (
       (DailyLine l.file l.line (Line why)) read.right (why_of r.stations before l (Err why) is),
 )
 
--- a month that isn't repeated has no fault
-not_repeated : (b : Bool) → true ≡ not b → cond b (Some DuplicateMonth) None ≡ None
-not_repeated true e = absurd cc
-not_repeated false e = refl
-
--- one that is has this fault
-repeated : (b : Bool) → false ≡ not b → cond b (Some DuplicateMonth) None ≡ Some DuplicateMonth
-repeated true e = refl
-repeated false e = absurd cc
-
 -- a line that is a new month is read
 pub read-month : (old new : Reader) (l : FileLine) (m : Month) → read_month l.bytes ≡ Ok (Some m)
     → new.stations ≡ old.stations
@@ -100,15 +88,14 @@ pub read-month : (old new : Reader) (l : FileLine) (m : Month) → read_month l.
     → HasReadLines new (before ++ l ∷ [])
 read-month old new l m is stations adds before read =
     let months = filter_map month_on before in
-    let P : List Month → Type 0 = HasRead new in
-    let Q : List Station → Type 0 = λ ss. HaveNoFault (daily_fault ss) (before ++ l ∷ []) in
     let none : daily_fault old.stations before l ≡ None =
     why_of old.stations before l (Ok (Some m)) is
     ∙ ap (option_map (λ why. DailyLine l.file l.line why))
-    (not_repeated (is_listed old.stations m.id && repeats before m) (adds.is_new months read.months)) in
+    (ap (λ (b : Bool). cond b (Some DuplicateMonth) None)
+    (not-true (is_listed old.stations m.id && repeats before m) (sym (adds.is_new months read.months)))) in
     record {
-      months = subst P (sym (months-more before l (Some m) (ap month_if_ok is))) (adds.holds months read.months);
-      right = subst Q (sym stations) (no_fault-more (daily_fault old.stations) before l read.right none);
+      months = rw (months-more before l (Some m) (ap month_if_ok is)) (adds.holds months read.months);
+      right = rw stations (no_fault-more (daily_fault old.stations) before l read.right none);
     }
 
 -- a line that is a month of an earlier line is the first with a fault
@@ -120,7 +107,8 @@ refused-month old new l m is adds before read =
       l,
       first_here (daily_fault old.stations) before l (DailyLine l.file l.line DuplicateMonth) read.right
           (why_of old.stations before l (Ok (Some m)) is ∙ ap (option_map (λ why. DailyLine l.file l.line why))
-          (repeated (is_listed old.stations m.id && repeats before m) (adds.is_new months read.months))),
+          (ap (λ (b : Bool). cond b (Some DuplicateMonth) None)
+          (not-false (is_listed old.stations m.id && repeats before m) (sym (adds.is_new months read.months))))),
     )
 
 -- more lines behind change no fault

@@ -7,37 +7,28 @@ use Rattle.std.specs.List.{list_any, slice_get, count_by, AllZip, AllByRecursion
 use Rattle.std.proofs.Math.ListN.{set}
 use Rattle.std.proofs.lemmas.List.Folds.{list_any-append}
 use Rattle.std.proofs.lemmas.List.Sums.{sum_by-append}
+use Rattle.std.proofs.lemmas.Bool.{or_parts, OnTrue_from, OnTrue_at, and_left}
+use Rattle.std.proofs.lemmas.Slice.Zip.{AllZip-long}
+use Rattle.ghcn_files.specs.declared.element.Element.TheVariants.{Prcp, Snow, Snwd, Tmax, Tmin}
+use Rattle.ghcn_series.proofs.ListFacts.{both_all}
 use Rattle.ghcn_files.specs.declared.station.StationId.{StationId}
 use Rattle.ghcn_files.specs.declared.station.Station.{Station}
 use Rattle.ghcn_files.specs.declared.element.Element.{Element}
 use Rattle.ghcn_files.specs.declared.month.Month.{Month}
 use Rattle.ghcn_files.specs.Ids.{same_id}
 use Rattle.ghcn_files.specs.Elements.{elements, same_element}
-use Rattle.ghcn_files.specs.Listed.{place_of, AreListed}
+use Rattle.ghcn_files.specs.Listed.{place_of}
 use Rattle.ghcn_files.specs.Months.{IsMonth}
 use Rattle.ghcn_series.specs.declared.gathering.Gathering.{Gathering}
 use Rattle.ghcn_series.specs.declared.station.StationGathering.{StationGathering}
 use Rattle.ghcn_series.specs.declared.reader.Reader.{Reader}
 use Rattle.ghcn_series.specs.DailyFaults.{same_month, is_listed}
 use Rattle.ghcn_series.specs.Says.{in_64_bits}
-use Rattle.ghcn_series.specs.Gathered.{IsGatheringOf, AreByElement, IsStationOf, HasRead}
+use Rattle.ghcn_series.specs.Gathered.{AreByElement, IsStationOf, HasRead}
 use Rattle.ghcn_series.specs.Steps.{GathersAt}
-use Rattle.ghcn_series.proofs.StationMonths.{gathering-other}
+use Rattle.ghcn_series.proofs.StationMonths.{other_elements}
 use Rattle.ghcn_series.proofs.Places.{ids, from_ids, listed-is}
 use Rattle.ghcn_files.specs.IdLaws.{same_id-turned}
-use Rattle.ghcn_series.proofs.ListFacts.{neither}
-
--- a month of another station changes none of these gatherings
-other_zip : (asked : Option Element) (before : List Month) (m : Month) (id : StationId) (gs : List Gathering)
-    (es : List Element) → same_id m.id id ≡ false → AllZip (IsGatheringOf asked before id) gs es
-    → AllZip (IsGatheringOf asked (before ++ m ∷ []) id) gs es
-other_zip asked before m id [] [] other is = tt
-other_zip asked before m id [] (e ∷ es) other is = absurd is
-other_zip asked before m id (g ∷ gs) [] other is = absurd is
-other_zip asked before m id (g ∷ gs) (e ∷ es) other is = (
-  gathering-other asked before m id g e (ap (λ (b : Bool). b && same_element m.element e) other) is.0,
-  other_zip asked before m id gs es other is.1,
-)
 
 -- a station without a month has none after another's
 none_more : (before : List Month) (m : Month) (id : StationId) → same_id m.id id ≡ false
@@ -57,7 +48,10 @@ station-other asked before m s g other is =
     kept : (gs : List Gathering) → same_id m.id g.id ≡ false → AreByElement asked before g.id gs
         → AreByElement asked (before ++ m ∷ []) g.id gs
     kept [] apart holds = none_more before m g.id apart holds
-    kept (x ∷ xs) apart holds = other_zip asked before m g.id (x ∷ xs) elements apart holds
+    kept (x ∷ xs) apart holds =
+        let none = λ (e : Element). and_left (same_id m.id g.id) (same_element m.element e) apart in
+        other_elements asked before m g.id (x ∷ xs) elements
+        (none Prcp, (none Snow, (none Snwd, (none Tmax, (none Tmin, tt))))) holds
 
 -- a month of none of these stations changes none of them
 stations-other : (asked : Option Element) (before : List Month) (m : Month) (ss : List Station)
@@ -84,13 +78,10 @@ put_station asked before m [] gs k s g new apart at of is here same more = absur
 put_station asked before m (x ∷ xs) [] k s g new apart at of is here same more = absurd is
 put_station asked before m (x ∷ xs) (y ∷ ys) zero s g new apart at of is here same more =
     let this : x ≡ s = cc in
-    let P : StationGathering → Type 0 = λ h. IsStationOf asked before x h in
-    let Q : Station → Type 0 = λ z. IsStationOf asked before z g in
-    let was : IsStationOf asked before s g = subst Q this (subst P (sym here) is.0) in
-    let R : StationId → Type 0 = λ i. AreByElement asked (before ++ m ∷ []) i new.by_element.items in
-    let S : StationId → Type 0 = λ i. AllByRecursion (λ j. same_id i j ≡ false) (ids xs) in (
-      record { id = same ∙ was.id ∙ ap (λ (z : Station). z.id) (sym this); holds = subst R (sym same) (more was) },
-      stations-other asked before m xs ys (subst S (ap (λ (z : Station). z.id) this ∙ of) apart.0) is.1,
+    let was : IsStationOf asked before s g = rw (here, ← this) is.0 in
+    let others : AllByRecursion (λ j. same_id m.id j ≡ false) (ids xs) = rw (← of, ← this) apart.0 in (
+      record { id = same ∙ was.id ∙ ap (λ (z : Station). z.id) (sym this); holds = rw same (more was) },
+      stations-other asked before m xs ys others is.1,
     )
 put_station asked before m (x ∷ xs) (y ∷ ys) (suc k) s g new apart at of is here same more =
     let other : same_id m.id x.id ≡ false = same_id-turned m.id x.id ∙ ap (same_id x.id) (sym of)
@@ -115,12 +106,6 @@ count_more stations before m b is =
 capped : (n : ℕ) → in_64_bits (in_64_bits n + 1) ≡ in_64_bits (n + 1)
 capped n = omega arith
 
--- right months and one more are right
-both_right : (before : List Month) (m : Month) → AllByRecursion IsMonth before → IsMonth m
-    → AllByRecursion IsMonth (before ++ m ∷ [])
-both_right [] m all right = (right, tt)
-both_right (x ∷ xs) m all right = (all.0, both_right xs m all.1 right)
-
 -- the gathering at a place is of the station there
 station_at : (asked : Option Element) (before : List Month) (ss : List Station) (gs : List StationGathering) (k : ℕ)
     (s : Station) (g : StationGathering) → AllZip (IsStationOf asked before) ss gs → slice_get ss k ≡ Some s
@@ -129,10 +114,7 @@ station_at : (asked : Option Element) (before : List Month) (ss : List Station) 
 station_at asked before [] gs k s g all at here = absurd cc
 station_at asked before (x ∷ xs) [] k s g all at here = absurd all
 station_at asked before (x ∷ xs) (y ∷ ys) zero s g all at here =
-    let this : x ≡ s = cc in
-    let P : StationGathering → Type 0 = λ h. IsStationOf asked before x h in
-    let Q : Station → Type 0 = λ z. IsStationOf asked before z g in
-    subst Q this (subst P (sym here) all.0)
+    let this : x ≡ s = cc in rw (here, ← this) all.0
 station_at asked before (x ∷ xs) (y ∷ ys) (suc k) s g all at here = station_at asked before xs ys k s g all.1 at here
 
 -- the gathering at the place of an ID has that ID
@@ -164,32 +146,19 @@ read-listed old new m k g now added place here same adds element stations unlist
     let at = listed-is old.stations m.id k place in
     let station = station_at old.element before old.stations old.gathered.items k at.0.0 g is.gathered at.0.1 here in (
       adds.is_new before station.holds ∙ ap (λ (b : Bool). not (b && list_any (same_month m) before)) (sym at.1),
-      on_true added (adds.holds before station.holds),
+      OnTrue_from added _ (λ yes. record {
+        listed = rw stations is.listed;
+        right = both_all IsMonth before (m ∷ []) is.right (right, tt);
+        unlisted =
+            unlisted ∙ is.unlisted
+            ∙ ap in_64_bits (sym (add-zero (unlisted_months old.stations before))
+            ∙ sym (count_more old.stations before m true at.1))
+            ∙ ap (λ (ss : List Station). in_64_bits (unlisted_months ss (before ++ m ∷ []))) (sym stations);
+        gathered = rw (element, stations, gathered) (put_station old.element before m old.stations old.gathered.items k
+            at.0.0 g now is.listed.distinct at.0.1 at.0.2 is.gathered here same
+            (λ _. OnTrue_at yes (adds.holds before station.holds)));
+      }),
     )
-  where
-    on_true : (b : Bool) → OnTrue b (AreByElement old.element (before ++ m ∷ []) g.id now.by_element.items)
-        → OnTrue b (HasRead new (before ++ m ∷ []))
-    on_true true holds =
-        let at = listed-is old.stations m.id k place in
-        let P : List Station → Type 0 = AreListed in
-        let Q : List Station → List StationGathering → Type 0 = λ ss gs.
-        AllZip (IsStationOf old.element (before ++ m ∷ [])) ss gs in
-        let R : Option Element → Type 0 = λ e.
-        AllZip (IsStationOf e (before ++ m ∷ [])) new.stations new.gathered.items in
-        let put = put_station old.element before m old.stations old.gathered.items k at.0.0 g now is.listed.distinct
-        at.0.1 at.0.2 is.gathered here same (λ _. holds) in
-        record {
-          listed = subst P (sym stations) is.listed;
-          right = both_right before m is.right right;
-          unlisted =
-              unlisted ∙ is.unlisted
-              ∙ ap in_64_bits (sym (add-zero (unlisted_months old.stations before))
-              ∙ sym (count_more old.stations before m true at.1))
-              ∙ ap (λ (ss : List Station). in_64_bits (unlisted_months ss (before ++ m ∷ []))) (sym stations);
-          gathered = subst R (sym element)
-              (subst (λ ss. Q ss new.gathered.items) (sym stations) (subst (Q old.stations) (sym gathered) put));
-        }
-    on_true false holds = tt
 
 -- a month of a station that isn't listed is passed over and counted
 pub read-unlisted : (old new : Reader) (m : Month) → is_listed old.stations m.id ≡ false
@@ -198,30 +167,25 @@ pub read-unlisted : (old new : Reader) (m : Month) → is_listed old.stations m.
     → (before : List Month) → IsMonth m → HasRead old before
     → (true ≡ not (is_listed old.stations m.id && list_any (same_month m) before)) × HasRead new (before ++ m ∷ [])
 read-unlisted old new m none element stations gathered unlisted before right is =
-    let P : List Station → Type 0 = AreListed in
-    let Q : List Station → List StationGathering → Type 0 = λ ss gs.
-    AllZip (IsStationOf old.element (before ++ m ∷ [])) ss gs in
-    let R : Option Element → Type 0 = λ e. AllZip (IsStationOf e (before ++ m ∷ [])) new.stations new.gathered.items in
     let others = apart old.stations none in
     let kept = stations-other old.element before m old.stations old.gathered.items others is.gathered in (
       ap (λ (b : Bool). not (b && list_any (same_month m) before)) (sym none),
       record {
-        listed = subst P (sym stations) is.listed;
-        right = both_right before m is.right right;
+        listed = rw stations is.listed;
+        right = both_all IsMonth before (m ∷ []) is.right (right, tt);
         unlisted =
             unlisted ∙ ap (λ (n : ℕ). in_64_bits (n + 1)) is.unlisted
             ∙ capped (unlisted_months old.stations before)
             ∙ ap in_64_bits (sym (count_more old.stations before m false none))
             ∙ ap (λ (ss : List Station). in_64_bits (unlisted_months ss (before ++ m ∷ []))) (sym stations);
-        gathered = subst R (sym element)
-            (subst (λ ss. Q ss new.gathered.items) (sym stations) (subst (Q old.stations) (sym gathered) kept));
+        gathered = rw (element, stations, gathered) kept;
       },
     )
   where
     apart : (ss : List Station) → is_listed ss m.id ≡ false → AllByRecursion (λ i. same_id m.id i ≡ false) (ids ss)
     apart [] none = tt
     apart (x ∷ xs) none =
-        let both = neither (same_id x.id m.id) (is_listed xs m.id) none in
+        let both = or_parts (same_id x.id m.id) (is_listed xs m.id) none in
         (same_id-turned m.id x.id ∙ both.0, apart xs both.1)
 
 -- one station more, of which nothing was read
@@ -246,19 +210,11 @@ all_taken [] (suc k) none = refl
 all_taken (x ∷ xs) zero none = absurd cc
 all_taken (x ∷ xs) (suc k) none = ap (λ (ss : List Station). x ∷ ss) (all_taken xs k none)
 
--- there are as many gatherings as stations
-length-gathered : (asked : Option Element) (months : List Month) (ss : List Station) (gs : List StationGathering)
-    → AllZip (IsStationOf asked months) ss gs → length ss ≡ length gs
-length-gathered asked months [] [] all = refl
-length-gathered asked months [] (g ∷ gs) all = absurd all
-length-gathered asked months (s ∷ ss) [] all = absurd all
-length-gathered asked months (s ∷ ss) (g ∷ gs) all = ap suc (length-gathered asked months ss gs all.1)
-
 -- a listed station has its gathering
 pub within_gathered : (months : List Month) (r : Reader) (id : StationId) (k : ℕ) → HasRead r months
     → place_of r.stations id ≡ Some k → k < length r.gathered.items
 within_gathered months r id k is place = omega (
   arith,
   (listed-is r.stations id k place).2,
-  length-gathered r.element months r.stations r.gathered.items is.gathered,
+  AllZip-long _ r.stations r.gathered.items is.gathered,
 )

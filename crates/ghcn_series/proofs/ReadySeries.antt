@@ -1,19 +1,22 @@
 -- A gathering becomes a series.
-use Rattle.std.proofs.Common.{◌≡◌, ℕ, suc, ◌+◌, ◌<◌, Bool, true, false, cond, List, [], ◌∷◌, ◌++◌, length, Option, None}
-use Rattle.std.proofs.Common.{Some, refl, sym, ap, ◌∙◌, subst, append_assoc, arith, ℤ, pos}
-use Rattle.std.specs.Prelude.{◌==◌, ◌&&◌, ◌||◌, int_le, int_lt, neg_ℤ}
+use Rattle.std.proofs.Common.{◌≡◌, ℕ, ◌+◌, Bool, true, false, cond, List, [], ◌∷◌, ◌++◌, length, Option, None}
+use Rattle.std.proofs.Common.{Some, refl, sym, ap, ◌∙◌, append_assoc, arith, ℤ, pos}
+use Rattle.std.specs.Prelude.{◌==◌, ◌&&◌, ◌||◌, int_le, int_lt}
 use Rattle.std.specs.declared.cmp.Ordering.TheVariants.{Less}
 use Rattle.std.specs.Ordering.{int_cmp, int_eq}
 use Rattle.std.specs.List.{filter_map, flat_map, enumerate_from, cons_option, list_all, IsDistinct, AllByRecursion}
 use Rattle.std.specs.List.Sorted.{IsStrictlySortedBy}
 use Rattle.std.specs.Option.{option_and_then, option_map_or}
 use Rattle.std.specs.Map.{keys_of}
-use Rattle.std.proofs.lemmas.Bool.Decides.{nat_tests}
 use Rattle.std.proofs.lemmas.Int.{ints}
 use Rattle.std.proofs.lemmas.List.Folds.{list_all-append}
+use Rattle.std.proofs.lemmas.Bool.{and_from, and_parts, eqb-false}
+use Rattle.std.proofs.lemmas.List.Sorted.{All-permutation, length_permutation}
+use Rattle.std.proofs.lemmas.List.Sums.{list_all-from_AllPass, AllPass-from_list_all}
+use Rattle.ghcn_fields.proofs.Ordered.{sorted-permutation}
 use Rattle.jiff_core.specs.Calendar.{IsCivilDate}
 use Rattle.ghcn_fields.specs.Days.{day_number, is_day}
-use Rattle.ghcn_fields.specs.Sorting.{placed, sorted_by}
+use Rattle.ghcn_fields.specs.Sorting.{sorted_by}
 use Rattle.ghcn_fields.proofs.DayNumbers.{is_day-from_civil}
 use Rattle.ghcn_files.specs.declared.station.StationId.{StationId}
 use Rattle.ghcn_files.specs.declared.element.Element.{Element}
@@ -31,7 +34,6 @@ use Rattle.ghcn_series.proofs.MonthDays.{has_number}
 use Rattle.ghcn_series.proofs.ApartParts.{apart-distinct}
 use Rattle.ghcn_series.proofs.DistinctDays.{distinct_days}
 use Rattle.ghcn_series.proofs.SortedDays.{sorted_by-rises, sorted-same}
-use Rattle.ghcn_series.proofs.ListFacts.{both_true, and_true}
 
 -- a day that a series can have
 abbrev IsDayOf : Element → DayValue → Bool
@@ -72,14 +74,6 @@ parts_of m false (Some n) (Some v) d e =
       | false ↦ λ counts is. absurd cc
     ] refl e
 
--- four passed tests pass all
-four : (a b c d : Bool) → a ≡ true → (b && c) ≡ true → d ≡ true → (a && (b && c && d)) ≡ true
-four true true true true p q r = refl
-four true true true false p q r = absurd cc
-four true true false d p q r = absurd cc
-four true false c d p q r = absurd cc
-four false b c d p q r = absurd cc
-
 -- a readable value is in its range
 readable_from : (o : Option ℤ) (v : ℤ) → option_map_or is_readable o true ≡ true → o ≡ Some v → is_readable v ≡ true
 readable_from None v r e = absurd cc
@@ -91,27 +85,19 @@ right_day : (m : Month) (j : ℕ) (r : Reading) (d : DayValue) → is_reading r 
 unfolding Parts
 right_day m j r d reads is =
     let parts = parts_of m r.flagged (day_number m.year m.month j) r.value d is in
-    four (is_day d.0) (int_le (neg_ℤ (pos 9998)) d.1) (int_le d.1 (pos 99_999))
-    (may_be_negative m.element || int_le (pos 0) d.1)
-    (is_day-numbered m.year m.month j d.0 parts.0) (readable_from r.value d.1 reads parts.1) parts.2
-
--- what is read of a usable day is in its range
-pub readable_day : (m : Month) (j : ℕ) (r : Reading) (d : DayValue) → is_reading r ≡ true → usable_day m (j, r) ≡ Some d
-    → is_readable d.1 ≡ true
-unfolding Parts
-readable_day m j r d reads is = readable_from r.value d.1 reads
-    (parts_of m r.flagged (day_number m.year m.month j) r.value d is).1
+    and_from _ _ (is_day-numbered m.year m.month j d.0 parts.0)
+    (and_from _ _ (readable_from r.value d.1 reads parts.1) parts.2)
 
 -- so are those of all readings
 right_days : (m : Month) (j : ℕ) (rs : List Reading) → list_all is_reading rs ≡ true
     → list_all (IsDayOf m.element) (filter_map (usable_day m) (enumerate_from j rs)) ≡ true
 right_days m j [] all = refl
 right_days m j (r ∷ rs) all =
-    let both = both_true (is_reading r) (list_all is_reading rs) all in
+    let both = and_parts (is_reading r) (list_all is_reading rs) all in
     elim (usable_day m (j, r)) as (λ o. usable_day m (j, r) ≡ o
     → list_all (IsDayOf m.element) (cons_option o (filter_map (usable_day m) (enumerate_from (j + 1) rs))) ≡ true) [
       | None ↦ λ is. right_days m (j + 1) rs both.1
-      | Some d ↦ λ is. and_true (IsDayOf m.element d)
+      | Some d ↦ λ is. and_from (IsDayOf m.element d)
           (list_all (IsDayOf m.element) (filter_map (usable_day m) (enumerate_from (j + 1) rs)))
           (right_day m j r d both.0 is) (right_days m (j + 1) rs both.1)
     ] refl
@@ -124,41 +110,19 @@ all_right e (m ∷ ms) all =
     let here : list_all (IsDayOf e) (usable_days m) ≡ true = ap (λ (f : Element). list_all (IsDayOf f) (usable_days m))
     (sym all.0.1) ∙ right_days m 1 m.days all.0.0.values in
     list_all-append (IsDayOf e) (usable_days m) (flat_map usable_days ms)
-    ∙ and_true (list_all (IsDayOf e) (usable_days m)) (list_all (IsDayOf e) (flat_map usable_days ms)) here
+    ∙ and_from (list_all (IsDayOf e) (usable_days m)) (list_all (IsDayOf e) (flat_map usable_days ms)) here
     (all_right e ms all.1)
-
--- a right day put in its place leaves all right
-placed_right : (P : DayValue → Bool) (x : DayValue) (ys : List DayValue) → P x ≡ true → list_all P ys ≡ true
-    → list_all P (placed by_day x ys) ≡ true
-placed_right P x [] p all = and_true (P x) true p refl
-placed_right P x (y ∷ ys) p all =
-    let both = both_true (P y) (list_all P ys) all in
-    elim (by_day x y) as (λ b. list_all P (cond b (x ∷ y ∷ ys) (y ∷ placed by_day x ys)) ≡ true) [
-      | true ↦ and_true (P x) (P y && list_all P ys) p all
-      | false ↦ and_true (P y) (list_all P (placed by_day x ys)) both.0 (placed_right P x ys p both.1)
-    ]
 
 -- right days in order are right
 sorted_right : (P : DayValue → Bool) (xs : List DayValue) → list_all P xs ≡ true → list_all P (sorted_by by_day xs)
     ≡ true
-sorted_right P [] all = refl
-sorted_right P (x ∷ xs) all =
-    let both = both_true (P x) (list_all P xs) all in
-    placed_right P x (sorted_by by_day xs) both.0 (sorted_right P xs both.1)
-
--- a day put in its place is one more
-length-placed : (x : DayValue) (ys : List DayValue) → length (placed by_day x ys) ≡ suc (length ys)
-length-placed x [] = refl
-length-placed x (y ∷ ys) =
-    elim (by_day x y) as (λ b. length (cond b (x ∷ y ∷ ys) (y ∷ placed by_day x ys)) ≡ suc (suc (length ys))) [
-      | true ↦ refl
-      | false ↦ ap suc (length-placed x ys)
-    ]
+sorted_right P xs all =
+    list_all-from_AllPass P (sorted_by by_day xs) (All-permutation (λ x. P x ≡ true) xs (sorted_by by_day xs)
+    (sorted-permutation by_day xs) (AllPass-from_list_all P xs all))
 
 -- days in their order are as many
 pub length-sorted : (xs : List DayValue) → length (sorted_by by_day xs) ≡ length xs
-length-sorted [] = refl
-length-sorted (x ∷ xs) = length-placed x (sorted_by by_day xs) ∙ ap suc (length-sorted xs)
+length-sorted xs = length_permutation xs (sorted_by by_day xs) (sorted-permutation by_day xs)
 
 -- a number that compares as less passes the test
 lt_from_cmp : (a b : ℤ) → int_cmp a b ≡ Less → int_lt a b ≡ true
@@ -169,12 +133,8 @@ rises : (days : List DayValue) → IsStrictlySortedBy int_cmp (keys_of days) →
 unfolding IsStrictlySortedBy
 rises [] sorted = refl
 rises (x ∷ []) sorted = refl
-rises (x ∷ y ∷ ys) sorted = and_true (int_lt x.0 y.0) (is_by_day (y ∷ ys)) (lt_from_cmp x.0 y.0 sorted.0.0)
+rises (x ∷ y ∷ ys) sorted = and_from (int_lt x.0 y.0) (is_by_day (y ∷ ys)) (lt_from_cmp x.0 y.0 sorted.0.0)
     (rises (y ∷ ys) sorted.1)
-
--- a number that isn't 0 is above 0
-positive : (n : ℕ) → (n == 0) ≡ false → 0 < n
-positive n e = grind (arith, nat_tests)
 
 -- no day that is kept stands twice
 distinct_kept : (kept : Bool) (months : List Month) → IsDistinct same_time months
@@ -204,9 +164,8 @@ is_series id g days ready some sorted =
     let apart : IsDistinct int_eq (keys_of (gathered_days g)) = apart-distinct _ ready.holds.parts.apart in
     let held = kept_days ready.kept ready.months in
     let all : list_all (IsDayOf g.element) held ≡ true = kept_right ready.kept g.element ready.months ready.right in
-    let P : List DayValue → Type 0 = λ ds. IsSeries (record { id = id; element = g.element; days = ds }) in
-    subst P (sym sorted) (record {
-      nonempty = omega (arith, length-sorted (gathered_days g), positive (length (gathered_days g)) some);
+    rw sorted (record {
+      nonempty = omega (arith, length-sorted (gathered_days g), eqb-false (length (gathered_days g)) 0 some);
       by_day = rises (sorted_by by_day (gathered_days g)) (sorted_by-rises (gathered_days g) apart);
       values =
           ap (list_all (IsDayOf g.element)) (gathered-sorted ready.kept g ready.months ready.holds)

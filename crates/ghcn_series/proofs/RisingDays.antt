@@ -8,6 +8,7 @@ use Rattle.std.specs.Option.{option_map}
 use Rattle.std.specs.Ordering.{int_eq}
 use Rattle.std.proofs.Common.{inl, inr}
 use Rattle.std.proofs.lemmas.Int.{ints, by_lt_z}
+use Rattle.std.proofs.lemmas.Option.{none-some, same_Some}
 use Rattle.ghcn_series.proofs.ListFacts.{weaken, both_all}
 use Rattle.ghcn_series.proofs.JoinedDays.{same_block}
 use Rattle.ghcn_fields.specs.Days.{block_of}
@@ -93,15 +94,11 @@ blocks-rise (b ∷ bs) h =
 pub columns-rise : (ns : List ℤ) (ws : List ℕ) (vs : List (List ℤ)) → AreColumns ns ws vs
     → AreRising (days_of (blocks_of ns ws vs))
 columns-rise ns ws vs cols = blocks-rise (blocks_of ns ws vs) (λ i j lt in_range.
-    let long = blocks-length ns ws vs cols.blocks.enough_words cols.blocks.enough_values in
-    let at_i : get_or ns i (pos 0) ≡ (get_or (blocks_of ns ws vs) i no_block).0 = sym
-    (ap (λ (b : Block). b.0) (blocks-at ns ws vs i cols.blocks.enough_words cols.blocks.enough_values
-    (omega arith))) in
-    let at_j : get_or ns j (pos 0) ≡ (get_or (blocks_of ns ws vs) j no_block).0 = sym
-    (ap (λ (b : Block). b.0) (blocks-at ns ws vs j cols.blocks.enough_words cols.blocks.enough_values
-    (omega arith))) in
-    subst (λ (z : ℤ). z <ℤ (get_or (blocks_of ns ws vs) j no_block).0) at_i
-    (subst (λ (z : ℤ). get_or ns i (pos 0) <ℤ z) at_j (cols.rise.less i j lt (omega arith))))
+    let words = cols.blocks.enough_words in
+    let values = cols.blocks.enough_values in
+    let within : j < length ns = omega (arith, blocks-length ns ws vs words values, in_range) in
+    rw (blocks-at ns ws vs i words values (omega arith), blocks-at ns ws vs j words values within)
+    (cols.rise.less i j lt within))
 
 -- ---- rising days are told by their values
 
@@ -126,14 +123,6 @@ earlier_all : (a b : ℤ) (xs : List DayValue) → a <ℤ b → AllByRecursion (
 earlier_all a b xs lt all = weaken (λ (y : DayValue). b <ℤ y.0) (λ (y : DayValue). a <ℤ y.0) xs
     (λ y more. omega (arith, ints)) all
 
--- the same values are there
-same_some : (u v : ℤ) → Some u ≡ Some v → u ≡ v
-same_some u v e = cc
-
--- a missing value is none
-none_is_some : (v : ℤ) → None ≡ Some v → ⊥
-none_is_some v e = cc
-
 -- days behind the same first day have the same values
 rest_same : (x y : DayValue) (xs ys : List DayValue) → x.0 ≡ y.0 → AllByRecursion (λ z. x.0 <ℤ z.0) xs
     → AllByRecursion (λ z. y.0 <ℤ z.0) ys
@@ -150,16 +139,16 @@ rest_same x y xs ys day a b same d = elim (same_block x.0 d) [
 pub same-from_values : (xs ys : List DayValue) → AreRising xs → AreRising ys → ((d : ℤ) → value_on xs d ≡ value_on ys d)
     → xs ≡ ys
 same-from_values [] [] a b same = refl
-same-from_values [] (y ∷ ys) a b same = absurd (none_is_some y.1 (same y.0 ∙ front y ys))
-same-from_values (x ∷ xs) [] a b same = absurd (none_is_some x.1 (sym (same x.0) ∙ front x xs))
+same-from_values [] (y ∷ ys) a b same = absurd (none-some y.1 (same y.0 ∙ front y ys))
+same-from_values (x ∷ xs) [] a b same = absurd (none-some x.1 (sym (same x.0) ∙ front x xs))
 same-from_values (x ∷ xs) (y ∷ ys) a b same = by_lt_z x.0 y.0
-    (λ (lt : x.0 <ℤ y.0). absurd (none_is_some x.1 (sym (before_all (y ∷ ys) x.0 (lt, earlier_all x.0 y.0 ys lt b.0))
+    (λ (lt : x.0 <ℤ y.0). absurd (none-some x.1 (sym (before_all (y ∷ ys) x.0 (lt, earlier_all x.0 y.0 ys lt b.0))
     ∙ sym (same x.0) ∙ front x xs)))
     (λ (ge : y.0 ≤ℤ x.0). by_lt_z y.0 x.0
-    (λ (lt : y.0 <ℤ x.0). absurd (none_is_some y.1 (sym (before_all (x ∷ xs) y.0 (lt, earlier_all y.0 x.0 xs lt a.0))
+    (λ (lt : y.0 <ℤ x.0). absurd (none-some y.1 (sym (before_all (x ∷ xs) y.0 (lt, earlier_all y.0 x.0 xs lt a.0))
     ∙ same y.0 ∙ front y ys)))
     (λ (le : x.0 ≤ℤ y.0).
     let day : x.0 ≡ y.0 = omega (arith, ints, ge, le) in
-    let value : x.1 ≡ y.1 = same_some x.1 y.1 (sym (front x xs) ∙ same x.0 ∙ ap (value_on (y ∷ ys)) day ∙ front y ys) in
+    let value : x.1 ≡ y.1 = same_Some x.1 y.1 (sym (front x xs) ∙ same x.0 ∙ ap (value_on (y ∷ ys)) day ∙ front y ys) in
     let rest : xs ≡ ys = same-from_values xs ys a.1 b.1 (rest_same x y xs ys day a.0 b.0 same) in
     ap (λ (d : ℤ). (d, x.1) ∷ xs) day ∙ ap (λ (v : ℤ). (y.0, v) ∷ xs) value ∙ ap (λ (l : List DayValue). y ∷ l) rest))

@@ -3,13 +3,13 @@ use Rattle.std.proofs.Common.{◌≡◌, ℕ, zero, suc, ◌+◌, ◌-◌, ◌*�
 use Rattle.std.proofs.Common.{take, drop, get_or}
 use Rattle.std.proofs.Common.{Option, Some, None, IsSome, inl, inr}
 use Rattle.std.proofs.Common.{refl, sym, ap, subst, ◌∙◌, arith, true, ℤ, pos, ◌+ℤ◌}
-use Rattle.std.specs.Prelude.{◌==◌, Result, Ok, Err, OnOk}
+use Rattle.std.specs.Prelude.{◌==◌}
 use Rattle.std.specs.Int.{bit_at}
 use Rattle.std.specs.List.{list_all}
 use Rattle.std.specs.Option.{option_or}
 use Rattle.std.specs.Ordering.{int_eq}
 use Rattle.std.proofs.Math.Nat.{div-add-mod, mul_comm}
-use Rattle.std.proofs.lemmas.Bool.{cases_lt}
+use Rattle.std.proofs.lemmas.Bool.{cases_lt, and_parts, false≢true}
 use Rattle.std.proofs.lemmas.Bool.Decides.{Decides-int_eq}
 use Rattle.std.proofs.lemmas.Grind.{common_steps}
 use Rattle.std.proofs.lemmas.Int.{ints}
@@ -21,17 +21,11 @@ use Rattle.ghcn_series.specs.Packed.{Block, block_start, if_so, value_at, days_f
 use Rattle.ghcn_series.specs.Parts.{AreNew, AreJoined, day_of, row_days, IsRow, IsPartOf, HasBitsOf}
 use Rattle.ghcn_series.proofs.Lookups.{from-value, from-other, block-value, block-other, block-holds, or_none, at_day}
 use Rattle.ghcn_series.proofs.JoinedDays.{same_block, or_assoc}
-use Rattle.ghcn_series.proofs.ListFacts.{both_true}
 
 -- a first choice that is there is chosen
 some_either : (a b : Option ℤ) → IsSome a → IsSome (option_or a b)
 some_either None b some = absurd cc
 some_either (Some x) b some = some
-
--- a missing value isn't there
-none_some : (a : Option ℤ) → a ≡ None → IsSome a → ⊥
-none_some None e some = cc
-none_some (Some x) e some = cc
 
 -- a place whose bit isn't set has no value
 no_value : (w : ℕ) (vs : List ℤ) (j : ℕ) → bit_at w j ≡ 0 → value_at w vs j ≡ None
@@ -189,7 +183,7 @@ module _ (n : ℤ) (place w : ℕ) (vs : List ℤ) (one two : Block) (s : IsSpli
           joined d
           ∙ ap (λ (o : Option ℤ). option_or o (value_on (block_days one) d)) (fresh d in_row)
           ∙ block-other one d (λ here. differ d here there)
-      | inr other ↦ absurd (none_some (value_on (block_days two) d) (block-other two d other) some)
+      | inr other ↦ absurd (false≢true (subst IsSome (block-other two d other) some))
     ]
 
     -- both parts joined one after the other are the row joined
@@ -201,11 +195,6 @@ module _ (n : ℤ) (place w : ℕ) (vs : List ℤ) (one two : Block) (s : IsSpli
         ∙ ap (λ (o : Option ℤ). option_or o (value_on (block_days two) d)) (a d)
         ∙ sym (or_assoc (value_on old d) (value_on (block_days one) d) (value_on (block_days two) d))
         ∙ ap (option_or (value_on old d)) (sym (row-split d))
-
--- what follows of success from what holds of it
-pub on_ok-then : {A E P Q : Type 0} (r : Result A E) → (P → Q) → OnOk r P → OnOk r Q
-on_ok-then (Ok x) f p = f p
-on_ok-then (Err e) f p = tt
 
 -- ---- the bits of both parts
 
@@ -267,8 +256,8 @@ high-bits w place fits some below j lt =
 pub zero_at : (zs : List ℤ) → list_all (int_eq (pos 0)) zs ≡ true → (j : ℕ) → get_or zs j (pos 0) ≡ pos 0
 zero_at [] all j = refl
 zero_at (z ∷ zs) all zero = sym ((Decides-int_eq (pos 0) z).0
-    (both_true (int_eq (pos 0) z) (list_all (int_eq (pos 0)) zs) all).0)
-zero_at (z ∷ zs) all (suc j) = zero_at zs (both_true (int_eq (pos 0) z) (list_all (int_eq (pos 0)) zs) all).1 j
+    (and_parts (int_eq (pos 0) z) (list_all (int_eq (pos 0)) zs) all).0)
+zero_at (z ∷ zs) all (suc j) = zero_at zs (and_parts (int_eq (pos 0) z) (list_all (int_eq (pos 0)) zs) all).1 j
 
 module _ (vs zs : List ℤ) (place : ℕ) (below : place < 32) (whole : length vs ≡ 32) (long : length zs ≡ 32)
     (none : (j : ℕ) → get_or zs j (pos 0) ≡ pos 0) where

@@ -2,15 +2,20 @@
 use Rattle.std.proofs.Common.{◌≡◌, ℕ, ◌+◌, ◌*◌, ◌≤◌, Bool, true, false, not, List, [], ◌∷◌, ◌++◌, Option, refl, sym, ap}
 use Rattle.std.proofs.Common.{subst, ◌∙◌, arith, ℤ, Result, Ok, Err}
 use Rattle.std.specs.Prelude.{◌==◌, ◌&&◌, ◌||◌, IfOk, OnOk}
-use Rattle.std.specs.Bool.{OnTrue}
 use Rattle.std.specs.List.{list_any, flat_map, IsDistinct, AllByRecursion}
 use Rattle.std.specs.Map.{keys_of}
 use Rattle.std.specs.Option.{option_or}
 use Rattle.std.specs.Ordering.{int_eq}
 use Rattle.std.proofs.lemmas.List.{append-nil}
 use Rattle.std.proofs.lemmas.List.Concat.{flat_map-append}
-use Rattle.std.proofs.lemmas.Bool.Decides.{nat_tests}
+use Rattle.std.proofs.lemmas.Bool.Decides.{same_from_decides, Decides-eqb, Decides-like, Decides-and}
 use Rattle.std.proofs.lemmas.List.Folds.{list_any-append}
+use Rattle.std.proofs.lemmas.Cmp.{and_equiv, on_equiv, nat_eq_equiv}
+use Rattle.std.specs.Cmp.{IsEquivalence}
+use Rattle.std.proofs.lemmas.Map.Keys.{IsDistinct-push}
+use Rattle.std.proofs.lemmas.Bool.{not-true, OnTrue_from}
+use Rattle.std.proofs.Math.Bool.{or-false}
+use Rattle.ghcn_series.proofs.ListFacts.{both_all}
 use Rattle.ghcn_fields.specs.declared.memory.Memory.{Memory}
 use Rattle.ghcn_files.specs.declared.month.Month.{Month}
 use Rattle.ghcn_files.specs.declared.row.MonthRow.{MonthRow}
@@ -25,53 +30,22 @@ use Rattle.ghcn_series.specs.SeenMonths.{has_month, Adds}
 use Rattle.ghcn_series.proofs.Lookups.{value_on-append}
 use Rattle.ghcn_series.proofs.ApartParts.{new-behind}
 use Rattle.ghcn_series.proofs.DistinctDays.{distinct_days}
-use Rattle.ghcn_series.proofs.ListFacts.{neither}
 
--- two numbers are the same in both directions
-eqb-turned : (a b : ℕ) → (a == b) ≡ (b == a)
-eqb-turned a b = grind (arith, nat_tests)
-
--- so are the times of two months
-same_time-turned : (a b : Month) → same_time a b ≡ same_time b a
-same_time-turned a b =
-    ap (λ (t : Bool). t && (a.month == b.month)) (eqb-turned a.year b.year)
-    ∙ ap (λ (t : Bool). (b.year == a.year) && t) (eqb-turned a.month b.month)
-
--- a month of another time than all is so with one more
-apart_from_last : (m x : Month) (xs : List Month) → AllByRecursion (λ y. same_time x y ≡ false) xs
-    → same_time m x ≡ false → AllByRecursion (λ y. same_time x y ≡ false) (xs ++ m ∷ [])
-apart_from_last m x [] all none = (same_time-turned x m ∙ none, tt)
-apart_from_last m x (y ∷ ys) all none = (all.0, apart_from_last m x ys all.1 none)
+-- months are of one time as a relation of equals
+time_laws : IsEquivalence same_time
+time_laws = and_equiv (on_equiv (λ (m : Month). m.year) nat_eq_equiv) (on_equiv (λ (m : Month). m.month) nat_eq_equiv)
 
 -- a month whose time none has is apart from all
 pub distinct-more : (m : Month) (before : List Month) → IsDistinct same_time before → list_any (same_time m) before
     ≡ false → IsDistinct same_time (before ++ m ∷ [])
-unfolding IsDistinct
-distinct-more m [] distinct none = (tt, tt)
-distinct-more m (x ∷ xs) distinct none =
-    let both = neither (same_time m x) (list_any (same_time m) xs) none in
-    (apart_from_last m x xs distinct.0 both.0, distinct-more m xs distinct.1 both.1)
+distinct-more m before = IsDistinct-push time_laws before m
 
 -- months have the same number where year and month are the same
 same_number : (a b c d : ℕ) → 1 ≤ b → b ≤ 12 → 1 ≤ d → d ≤ 12 → (12 * a + b == 12 * c + d) ≡ ((a == c) && (b == d))
 same_number a b c d low high low_d high_d =
-    elim (a == c) as (λ x. (a == c) ≡ x → (12 * a + b == 12 * c + d) ≡ (x && (b == d))) [
-      | true ↦ λ e. let same : a ≡ c = grind (arith, nat_tests) in alike a c b d same
-      | false ↦ λ e. let other : a ≡ c → ⊥ = λ same. differ a c same e in apart a c b d other low high low_d high_d
-    ] refl
-  where
-    alike : (a c b d : ℕ) → a ≡ c → (12 * a + b == 12 * c + d) ≡ (b == d)
-    alike a c b d e = grind (arith, nat_tests)
-
-    differ : (a c : ℕ) → a ≡ c → (a == c) ≡ false → ⊥
-    differ a c same e = grind (arith, nat_tests)
-
-    apart : (a c b d : ℕ) → (a ≡ c → ⊥) → 1 ≤ b → b ≤ 12 → 1 ≤ d → d ≤ 12 → (12 * a + b == 12 * c + d) ≡ false
-    apart a c b d other low high low_d high_d =
-        elim (12 * a + b == 12 * c + d) as (λ x. (12 * a + b == 12 * c + d) ≡ x → x ≡ false) [
-          | true ↦ λ e. let same : 12 * a + b ≡ 12 * c + d = grind (arith, nat_tests) in absurd (other (omega arith))
-          | false ↦ λ e. refl
-        ] refl
+    same_from_decides (12 * a + b == 12 * c + d) ((a == c) && (b == d)) (Decides-eqb (12 * a + b) (12 * c + d))
+    (Decides-like ((a == c) && (b == d)) (λ same. omega (arith, same.0, same.1))
+    (λ e. (omega (arith, e), omega (arith, e))) (Decides-and (a == c) (b == d) (Decides-eqb a c) (Decides-eqb b d)))
 
 -- months have one number where they are of one time
 numbers-are : (m : Month) (ms : List Month) → IsMonth m → AllByRecursion IsMonth ms
@@ -86,20 +60,6 @@ numbers-are m (x ∷ xs) right all =
 pub seen-is : (kept : Bool) (g : Gathering) (m : Month) (before : List Month) → IsMonth m → IsGathering kept g before
     → has_month g.seen (number_of m) ≡ list_any (same_time m) before
 seen-is kept g m before right is = is.seen (number_of m) ∙ numbers-are m before right is.right
-
--- one more to ask about comes last
-or_last : (a c d : Bool) → c ≡ d → (a || c) ≡ (a || (d || false))
-or_last true c d e = refl
-or_last false true true e = refl
-or_last false true false e = absurd cc
-or_last false false true e = absurd cc
-or_last false false false e = refl
-
--- right months and one more are right
-all_more : (m : Month) (before : List Month) → AllByRecursion IsMonth before → IsMonth m
-    → AllByRecursion IsMonth (before ++ m ∷ [])
-all_more m [] all right = (right, tt)
-all_more m (x ∷ xs) all right = (all.0, all_more m xs all.1 right)
 
 -- one month more adds its usable days
 days-more : (before : List Month) (m : Month) → flat_map usable_days (before ++ m ∷ []) ≡ flat_map usable_days before
@@ -127,7 +87,8 @@ seen-more : (kept : Bool) (old new : Gathering) (m : Month) (before : List Month
 seen-more kept old new m before is adds t =
     adds t
     ∙ ap (λ (b : Bool). b || (number_of m == t)) (is.seen t)
-    ∙ or_last (list_any (has_number t) before) (number_of m == t) (t == number_of m) (eqb-turned (number_of m) t)
+    ∙ ap (λ (b : Bool). list_any (has_number t) before || b)
+    (nat_eq_equiv.symm (number_of m) t ∙ sym (or-false (t == number_of m)))
     ∙ sym (list_any-append (has_number t) before (m ∷ []))
 
 -- one month more is gathered with its days
@@ -137,7 +98,7 @@ pub gathering-more : (old new : Gathering) (m : Month) (before : List Month) →
     → AreParts new.parts → AreJoined (gathered_days old) (usable_days m) (gathered_days new)
     → IsGathering true new (before ++ m ∷ [])
 gathering-more old new m before right is fresh adds parts joined = record {
-  right = all_more m before is.right right;
+  right = both_all IsMonth before (m ∷ []) is.right (right, tt);
   seen = seen-more true old new m before is adds;
   parts = parts;
   values = λ d.
@@ -154,19 +115,12 @@ pub gathering-noted : (old new : Gathering) (m : Month) (before : List Month) �
     → Adds old.seen new.seen (number_of m) → new.parts ≡ old.parts
     → IsGathering false new (before ++ m ∷ [])
 gathering-noted old new m before right is fresh adds same = record {
-  right = all_more m before is.right right;
+  right = both_all IsMonth before (m ∷ []) is.right (right, tt);
   seen = seen-more false old new m before is adds;
   parts = subst AreParts (sym same) is.parts;
   values = λ d. ap (λ p. value_on (days_held p) d) same ∙ is.values d;
   distinct = distinct-more m before is.distinct (sym (seen-is false old m before right is) ∙ fresh);
 }
-
--- what isn't new was seen, and the other way round
-pub turned : (b c : Bool) → b ≡ not c → c ≡ not b
-turned true true e = absurd cc
-turned true false e = refl
-turned false true e = refl
-turned false false e = absurd cc
 
 -- a month's number is that of its row
 pub number_is : (kept : Bool) (m : Month) (row : MonthRow) (n : ℕ) → IsRowOf kept m row
@@ -186,8 +140,6 @@ noted row old new (Ok added) told adds same = λ m right of.
     let more : Adds old.seen new.seen (number_of m) = subst (Adds old.seen new.seen) number adds in
     record {
       is_new = λ before is. is_new ∙ ap not (seen-is false old m before right is);
-      holds = λ before is. elim added as (λ b. added ≡ b → OnTrue b (IsGathering false new (before ++ m ∷ []))) [
-        | true ↦ λ yes. gathering-noted old new m before right is (turned true _ (sym yes ∙ is_new)) more same
-        | false ↦ λ no. tt
-      ] refl;
+      holds = λ before is. OnTrue_from added _ (λ yes.
+          gathering-noted old new m before right is (not-true _ (sym (sym yes ∙ is_new))) more same);
     }

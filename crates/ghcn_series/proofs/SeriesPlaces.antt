@@ -8,11 +8,11 @@ use Rattle.std.proofs.lemmas.Bool.Decides.{nat_tests}
 use Rattle.std.proofs.lemmas.List.{length-map}
 use Rattle.std.proofs.lemmas.List.Folds.{find-append}
 use Rattle.std.proofs.lemmas.Option.{slice_get_past, slice_get-get_or, slice_get-map}
+use Rattle.std.proofs.lemmas.Slice.Zip.{AllZip-long}
+use Rattle.ghcn_series.proofs.Lookups.{or_none}
 use Rattle.ghcn_files.specs.declared.station.StationId.{StationId}
 use Rattle.ghcn_files.specs.declared.station.Station.{Station}
 use Rattle.ghcn_files.specs.declared.element.Element.{Element}
-use Rattle.ghcn_files.specs.declared.element.Element.TheVariants.{Prcp, Snow, Snwd, Tmax, Tmin}
-use Rattle.ghcn_files.specs.contracts.element.ElementPartialEq.TheImpl.{ghosts}
 use Rattle.ghcn_files.specs.Ids.{same_id}
 use Rattle.ghcn_files.specs.Elements.{same_element}
 use Rattle.ghcn_files.specs.Listed.{is_station_of, place_of}
@@ -21,34 +21,6 @@ use Rattle.ghcn_series.specs.Held.{all_of, is_of_element}
 use Rattle.ghcn_series.proofs.Places.{ids}
 use Rattle.ghcn_files.specs.IdLaws.{same_id-is, same_id-turned, place_is, no_place}
 use Rattle.ghcn_series.proofs.ListFacts.{both_all}
-
--- `==` of elements
-pub eq_is : (a b : Element) → ghosts.eq a b ≡ same_element a b
-eq_is Prcp Prcp = refl
-eq_is Prcp Snow = refl
-eq_is Prcp Snwd = refl
-eq_is Prcp Tmax = refl
-eq_is Prcp Tmin = refl
-eq_is Snow Prcp = refl
-eq_is Snow Snow = refl
-eq_is Snow Snwd = refl
-eq_is Snow Tmax = refl
-eq_is Snow Tmin = refl
-eq_is Snwd Prcp = refl
-eq_is Snwd Snow = refl
-eq_is Snwd Snwd = refl
-eq_is Snwd Tmax = refl
-eq_is Snwd Tmin = refl
-eq_is Tmax Prcp = refl
-eq_is Tmax Snow = refl
-eq_is Tmax Snwd = refl
-eq_is Tmax Tmax = refl
-eq_is Tmax Tmin = refl
-eq_is Tmin Prcp = refl
-eq_is Tmin Snow = refl
-eq_is Tmin Snwd = refl
-eq_is Tmin Tmax = refl
-eq_is Tmin Tmin = refl
 
 -- of the series of one station, an element's is the station's and the element's
 find_own : (id : StationId) (e : Element) (us : List Usable) → AllByRecursion (λ u. same_id u.id id ≡ true) us
@@ -88,15 +60,6 @@ all_other id (s ∷ ss) (us ∷ lists) other own =
     (with_id id false s us (same_id-turned s.id id ∙ other.0) own.0)
     (all_other id ss lists other.1 own.1)
 
--- without a second choice there is the first
-or_none : (o p : Option Usable) → p ≡ None → option_or o p ≡ o
-or_none None p e = e
-or_none (Some u) p e = refl
-
--- behind the first list stand the others
-onward : (lists : List (List Usable)) (us : List Usable) (n : ℕ) → slice_get (us ∷ lists) (1 + n) ≡ slice_get lists n
-onward lists us n = let e : 1 + n ≡ suc n = omega arith in ap (slice_get (us ∷ lists)) e
-
 -- the series of a station and an element is found in the list at the station's place
 pub found_by_place : (id : StationId) (e : Element) (ss : List Station) (lists : List (List Usable))
     → IsDistinct same_id (ids ss) → AreOwn ss lists
@@ -118,27 +81,17 @@ found_by_place id e (s ∷ ss) (us ∷ lists) apart own = by (same_id s.id id) r
     by true is rest =
         let others = all_other id ss lists (subst (λ i. AllByRecursion (λ j. same_id i j ≡ false) (ids ss))
         (same_id-is s.id id is) apart.0) own.1 in
-        ap (λ (b : Bool). option_and_then (find (is_of_element e))
-        (slice_get (us ∷ lists) (cond (not b) (1 + position_or_len (is_station_of id) ss) 0))) is
-        ∙ sym (find_own id e us (with_id id true s us is own.0))
-        ∙ sym (or_none (find (is_series_of id e) us) (find (is_series_of id e) (all_of lists))
-        (find_none id e (all_of lists) others))
+        rw is (sym (find_own id e us (with_id id true s us is own.0))
+        ∙ sym (ap (option_or (find (is_series_of id e) us)) (find_none id e (all_of lists) others)
+        ∙ or_none (find (is_series_of id e) us)))
     by false is rest =
-        ap (λ (b : Bool). option_and_then (find (is_of_element e))
-        (slice_get (us ∷ lists) (cond (not b) (1 + position_or_len (is_station_of id) ss) 0))) is
-        ∙ ap (option_and_then (find (is_of_element e))) (onward lists us (position_or_len (is_station_of id) ss))
+        rw is (ap (option_and_then (find (is_of_element e))) (ap (slice_get (us ∷ lists))
+        {x = 1 + position_or_len (is_station_of id) ss} {y = suc (position_or_len (is_station_of id) ss)} (omega arith))
         ∙ rest
         ∙ sym (ap (λ (o : Option Usable). option_or o (find (is_series_of id e) (all_of lists)))
-        (find_none id e us (with_id id false s us is own.0)))
+        (find_none id e us (with_id id false s us is own.0))))
 
 -- ---- as a list at a place is looked up
-
--- there are as many lists as stations
-as_many : (ss : List Station) (lists : List (List Usable)) → AreOwn ss lists → length lists ≡ length ss
-as_many [] [] own = refl
-as_many [] (us ∷ lists) own = absurd own
-as_many (s ∷ ss) [] own = absurd own
-as_many (s ∷ ss) (us ∷ lists) own = ap suc (as_many ss lists own.1)
 
 -- a station that isn't listed has no series
 pub none-unlisted : (id : StationId) (e : Element) (ss : List Station) (lists : List (List Usable))
@@ -146,7 +99,7 @@ pub none-unlisted : (id : StationId) (e : Element) (ss : List Station) (lists : 
     → None ≡ find (is_series_of id e) (all_of lists)
 none-unlisted id e ss lists apart own none =
     let at : ℕ = position_or_len (is_station_of id) ss in
-    let beyond : length lists ≤ at = omega (arith, as_many ss lists own, no_place ss id none) in
+    let beyond : length lists ≤ at = omega (arith, AllZip-long _ ss lists own, no_place ss id none) in
     sym (ap (option_and_then (find (is_of_element e))) (slice_get_past lists at beyond))
     ∙ found_by_place id e ss lists apart own
 

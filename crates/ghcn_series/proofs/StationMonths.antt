@@ -1,14 +1,19 @@
 -- The months of one station, by element.
 use Rattle.std.proofs.Common.{◌≡◌, ℕ, zero, suc, Bool, true, false, cond, not, List, [], ◌∷◌, ◌++◌, length, map, get_or}
-use Rattle.std.proofs.Common.{Option, Some, refl, sym, ap, ◌∙◌, subst}
+use Rattle.std.proofs.Common.{Option, Some, refl, sym, ap, ◌∙◌}
 use Rattle.std.specs.Prelude.{◌==◌, ◌&&◌, ◌||◌}
-use Rattle.std.specs.Bool.{OnTrue}
 use Rattle.std.specs.List.{list_any, slice_get, AllZip, AllByRecursion, IsDistinct}
 use Rattle.std.specs.Cmp.{nat_eq_equiv}
 use Rattle.std.proofs.Math.ListN.{set}
 use Rattle.std.proofs.lemmas.Cmp.{nat_list_eq_equiv}
 use Rattle.std.proofs.lemmas.List.{append-nil}
 use Rattle.std.proofs.lemmas.List.Elements.{filter-append}
+use Rattle.std.proofs.lemmas.Bool.{and_right, or_parts, OnTrue_from, OnTrue_at}
+use Rattle.std.proofs.lemmas.Slice.Zip.{AllZip-long}
+use Rattle.std.proofs.Math.Bool.{and_assoc}
+use Rattle.std.specs.Bool.{OnTrue}
+use Rattle.ghcn_series.specs.declared.station.StationGathering.{StationGathering}
+use Rattle.ghcn_series.proofs.ListFacts.{from_all, weaken}
 use Rattle.ghcn_files.specs.declared.station.StationId.{StationId}
 use Rattle.ghcn_files.specs.declared.element.Element.{Element}
 use Rattle.ghcn_files.specs.declared.element.Element.TheVariants.{Prcp, Snow, Snwd, Tmax, Tmin}
@@ -19,24 +24,16 @@ use Rattle.ghcn_series.specs.declared.gathering.Gathering.{Gathering}
 use Rattle.ghcn_series.specs.DailyFaults.{same_month}
 use Rattle.ghcn_series.specs.Gathered.{same_time, months_of, IsGathering, IsGatheringOf, AreByElement}
 use Rattle.ghcn_files.specs.IdLaws.{same_id-turned}
-use Rattle.ghcn_series.specs.Steps.{Gathers, GathersSome, GathersNothing}
-use Rattle.ghcn_series.proofs.ListFacts.{neither, and_false}
+use Rattle.ghcn_series.specs.Steps.{Gathers, GathersSome, GathersNothing, Opens}
 
 -- a station without a month has none of any element
 pub months_of-none : (months : List Month) (id : StationId) (e : Element) → list_any (λ m. same_id m.id id) months
     ≡ false → months_of months id e ≡ []
 months_of-none [] id e none = refl
 months_of-none (m ∷ ms) id e none =
-    let both = neither (same_id m.id id) (list_any (λ m. same_id m.id id) ms) none in
+    let both = or_parts (same_id m.id id) (list_any (λ m. same_id m.id id) ms) none in
     ap (λ (b : Bool). cond (b && same_element m.element e) (m ∷ months_of ms id e) (months_of ms id e)) both.0
     ∙ months_of-none ms id e both.1
-
--- two lists that fit together have one length
-length-zip : {A B : Type 0} (R : A → B → Type 0) (xs : List A) (ys : List B) → AllZip R xs ys → length xs ≡ length ys
-length-zip R [] [] all = refl
-length-zip R [] (y ∷ ys) all = absurd all
-length-zip R (x ∷ xs) [] all = absurd all
-length-zip R (x ∷ xs) (y ∷ ys) all = ap suc (length-zip R xs ys all.1)
 
 -- gatherings of nothing fit a station without a month
 empty_zip : (asked : Option Element) (months : List Month) (id : StationId) (gs : List Gathering) (es : List Element)
@@ -47,9 +44,8 @@ empty_zip asked months id [] (e ∷ es) none is all = absurd cc
 empty_zip asked months id (g ∷ gs) [] none is all = absurd cc
 empty_zip asked months id (g ∷ gs) (e ∷ es) none is all =
     let head : g.element ≡ e = cc in
-    let tail : map (λ h. h.element) gs ≡ es = cc in
-    let P : List Month → Type 0 = IsGathering (is_kept asked e) g in (
-      record { element = head; holds = subst P (sym (months_of-none months id e none)) (all.0 (is_kept asked e)) },
+    let tail : map (λ h. h.element) gs ≡ es = cc in (
+      record { element = head; holds = rw (months_of-none months id e none) (all.0 (is_kept asked e)) },
       empty_zip asked months id gs es none tail all.1,
     )
 
@@ -61,7 +57,7 @@ pub by_element-new : (asked : Option Element) (months : List Month) (id : Statio
 by_element-new asked months id [] after few is elements_are all =
     empty_zip asked months id after elements is elements_are all
 by_element-new asked months id (g ∷ gs) after few is elements_are all = absurd
-    (few (length-zip (IsGatheringOf asked months id) (g ∷ gs) elements is))
+    (few (sym (AllZip-long (IsGatheringOf asked months id) (g ∷ gs) elements is)))
 
 -- two elements are the same in both directions
 same_element-turned : (a b : Element) → same_element a b ≡ same_element b a
@@ -88,27 +84,19 @@ pub gathering-other : (asked : Option Element) (before : List Month) (m : Month)
     (e : Element) → (same_id m.id id && same_element m.element e) ≡ false → IsGatheringOf asked before id g e
     → IsGatheringOf asked (before ++ m ∷ []) id g e
 gathering-other asked before m id g e other is =
-    let P : List Month → Type 0 = IsGathering (is_kept asked e) g in
-    record { element = is.element; holds = subst P (sym (months_of-other before m id e other)) is.holds }
+    record { element = is.element; holds = rw (months_of-other before m id e other) is.holds }
 
--- a month of another element changes none of these gatherings
-other_elements : (asked : Option Element) (before : List Month) (m : Month) (id : StationId) (gs : List Gathering)
-    (es : List Element) → AllByRecursion (λ e. same_element m.element e ≡ false) es
+-- a month of another station or of other elements changes none of these gatherings
+pub other_elements : (asked : Option Element) (before : List Month) (m : Month) (id : StationId) (gs : List Gathering)
+    (es : List Element) → AllByRecursion (λ e. (same_id m.id id && same_element m.element e) ≡ false) es
     → AllZip (IsGatheringOf asked before id) gs es → AllZip (IsGatheringOf asked (before ++ m ∷ []) id) gs es
 other_elements asked before m id [] [] other is = tt
 other_elements asked before m id [] (e ∷ es) other is = absurd is
 other_elements asked before m id (g ∷ gs) [] other is = absurd is
 other_elements asked before m id (g ∷ gs) (e ∷ es) other is = (
-  gathering-other asked before m id g e (and_false (same_id m.id id) (same_element m.element e) other.0) is.0,
+  gathering-other asked before m id g e other.0 is.0,
   other_elements asked before m id gs es other.1 is.1,
 )
-
--- what is true of all is true at each place
-from_all : {X : Type 0} (P : X → Type 0) (xs : List X) (k : ℕ) (x : X) → AllByRecursion P xs → slice_get xs k ≡ Some x
-    → P x
-from_all P [] k x all at = absurd cc
-from_all P (y ∷ ys) zero x all at = let same : y ≡ x = cc in subst P same all.0
-from_all P (y ∷ ys) (suc k) x all at = from_all P ys k x all.1 at
 
 -- a month of this station and element passes the test
 same_here : (m : Month) (id : StationId) (e : Element) → m.id ≡ id → e ≡ m.element
@@ -132,18 +120,19 @@ put_gathering asked before m id [] (e ∷ es) k g new of apart is at here same h
 put_gathering asked before m id (x ∷ xs) [] k g new of apart is at here same holds = absurd is
 put_gathering asked before m id (x ∷ xs) (e ∷ es) zero g new of apart is at here same holds =
     let this : e ≡ m.element = cc in
-    let P : List Month → Type 0 = IsGathering (is_kept asked e) new in
-    let R : Element → Type 0 = λ f. IsGathering (is_kept asked f) new (months_of before id f ++ m ∷ []) in
-    let all : IsGathering (is_kept asked e) new (months_of (before ++ m ∷ []) id e) =
-    subst P (sym (months_of-this before m id e (same_here m id e of this))) (subst R (sym this) holds) in
-    let Q : Element → Type 0 = λ f. AllByRecursion (λ d. same_element f d ≡ false) es in (
-      record { element = same ∙ ap (λ (h : Gathering). h.element) here ∙ is.0.element; holds = all },
-      other_elements asked before m id xs es (subst Q this apart.0) is.1,
+    let others : AllByRecursion (λ d. same_element m.element d ≡ false) es = rw (← this) apart.0 in
+    let none = weaken _ (λ d. (same_id m.id id && same_element m.element d) ≡ false) es
+    (λ d. and_right (same_id m.id id) (same_element m.element d)) others in (
+      record {
+        element = same ∙ ap (λ (h : Gathering). h.element) here ∙ is.0.element;
+        holds = rw (months_of-this before m id e (same_here m id e of this), this) holds;
+      },
+      other_elements asked before m id xs es none is.1,
     )
 put_gathering asked before m id (x ∷ xs) (e ∷ es) (suc k) g new of apart is at here same holds =
     let other : same_element m.element e ≡ false = same_element-turned m.element e
     ∙ from_all (λ d. same_element e d ≡ false) es k m.element apart.0 at in (
-      gathering-other asked before m id x e (and_false (same_id m.id id) (same_element m.element e) other) is.0,
+      gathering-other asked before m id x e (and_right (same_id m.id id) (same_element m.element e) other) is.0,
       put_gathering asked before m id xs es k g new of apart.1 is.1 at here same holds,
     )
 
@@ -171,10 +160,7 @@ found_at asked [] [] months id k e g is at here = absurd cc
 found_at asked [] (d ∷ ds) months id k e g is at here = absurd is
 found_at asked (x ∷ xs) [] months id k e g is at here = absurd is
 found_at asked (x ∷ xs) (d ∷ ds) months id zero e g is at here =
-    let this : d ≡ e = cc in
-    let P : Element → Type 0 = λ f. IsGathering (is_kept asked f) g (months_of months id f) in
-    let Q : Gathering → Type 0 = λ h. IsGathering (is_kept asked d) h (months_of months id d) in
-    subst P this (subst Q (sym here) is.0.holds)
+    let this : d ≡ e = cc in rw (here, ← this) is.0.holds
 found_at asked (x ∷ xs) (d ∷ ds) months id (suc k) e g is at here = found_at asked xs ds months id k e g is.1 at here
 
 -- the gathering of an element has some months, with their days or without
@@ -182,9 +168,8 @@ pub some_at : (asked : Option Element) (kept : Bool) (five : List Gathering) (be
     (e : Element) (g : Gathering) → is_kept asked e ≡ kept → AllZip (IsGatheringOf asked before id) five elements
     → g ≡ get_or five (element_index e) g → GathersSome kept g
 some_at asked kept five before id e g is all here =
-    let months = months_of before id e in
-    let P : Bool → Type 0 = λ b. IsGathering b g months in
-    (months, subst P is (found_at asked five elements before id (element_index e) e g all (element_at e) here))
+    let holds = found_at asked five elements before id (element_index e) e g all (element_at e) here in
+    (months_of before id e, rw (← is) holds)
 
 -- a test of the kept ones is one of all
 any_if : {X : Type 0} (p : X → Bool) (i e : Bool) (x : X) (xs : List X) → (i && e && p x || list_any p xs)
@@ -193,19 +178,13 @@ any_if p true true x xs = refl
 any_if p true false x xs = refl
 any_if p false e x xs = refl
 
--- four tests may be grouped by two
-assoc : (a b c d : Bool) → (a && b && c && d) ≡ (a && b && (c && d))
-assoc true true c d = refl
-assoc true false c d = refl
-assoc false b c d = refl
-
 -- a month was read before where one of its time, station and element was
 pub repeats-is : (before : List Month) (m : Month) → list_any (same_month m) before
     ≡ list_any (same_time m) (months_of before m.id m.element)
 repeats-is [] m = refl
 repeats-is (x ∷ xs) m =
     ap (λ (b : Bool). b || list_any (same_month m) xs)
-    (assoc (same_id m.id x.id) (same_element m.element x.element) (m.year == x.year) (m.month == x.month))
+    (and_assoc (same_id m.id x.id && same_element m.element x.element) (m.year == x.year) (m.month == x.month))
     ∙ ap (λ (b : Bool). b && same_element m.element x.element && same_time m x || list_any (same_month m) xs)
     (same_id-turned m.id x.id)
     ∙ ap (λ (b : Bool). same_id x.id m.id && b && same_time m x || list_any (same_month m) xs)
@@ -219,26 +198,23 @@ kept_by_element : (asked : Option Element) (months : List Month) (id : StationId
 kept_by_element asked months id [] is = absurd is
 kept_by_element asked months id (g ∷ gs) is = is
 
--- one month more of a station, unless it was read before
-pub by_element-more : (asked : Option Element) (m : Month) (id : StationId) (five : List Gathering) (k : ℕ)
-    (g new : Gathering) (added : Bool)
-    → k ≡ element_index m.element → g ≡ get_or five k g → new.element ≡ g.element
-    → Gathers (is_kept asked m.element) g new m added
-    → (before : List Month) → m.id ≡ id → AllZip (IsGatheringOf asked before id) five elements
+-- one month more of a station, unless it was read before, where the gathering of its element adds it
+pub station-more : (asked : Option Element) (m : Month) (old mid : StationGathering) (k : ℕ) (g now : Gathering)
+    (added : Bool) → m.id ≡ old.id → Opens old mid → k ≡ element_index m.element → g ≡ get_or mid.by_element.items k g
+    → now.element ≡ g.element → Gathers (is_kept asked m.element) g now m added
+    → (before : List Month) → AreByElement asked before old.id old.by_element.items
     → (added ≡ not (list_any (same_month m) before))
-    × OnTrue added (AreByElement asked (before ++ m ∷ []) id (set five k new))
-by_element-more asked m id five k g new added place here same adds before of is =
+    × OnTrue added (AreByElement asked (before ++ m ∷ []) old.id (set mid.by_element.items k now))
+station-more asked m old mid k g now added of opens place here same adds before held =
+    let five = mid.by_element.items in
     let at : slice_get elements k ≡ Some m.element = ap (slice_get elements) place ∙ element_at m.element in
-    let months = months_of before id m.element in
-    let own = found_at asked five elements before id k m.element g is at here in
-    let repeated = repeats-is before m ∙ ap (λ (i : StationId). list_any (same_time m) (months_of before i m.element))
-    of in
-    (adds.is_new months own ∙ ap not (sym repeated), on_true added (adds.holds months own))
-  where
-    on_true : (b : Bool)
-        → OnTrue b (IsGathering (is_kept asked m.element) new (months_of before id m.element ++ m ∷ []))
-        → OnTrue b (AreByElement asked (before ++ m ∷ []) id (set five k new))
-    on_true true holds = kept_by_element asked (before ++ m ∷ []) id (set five k new)
-        (put_gathering asked before m id five elements k g new of elements_differ is (ap (slice_get elements) place
-        ∙ element_at m.element) here same holds)
-    on_true false holds = tt
+    let all = opens.holds asked before held in
+    let months = months_of before old.id m.element in
+    let own = found_at asked five elements before old.id k m.element g all at here in
+    let repeated = repeats-is before m
+    ∙ ap (λ (i : StationId). list_any (same_time m) (months_of before i m.element)) of in (
+      adds.is_new months own ∙ ap not (sym repeated),
+      OnTrue_from added _ (λ yes. kept_by_element asked (before ++ m ∷ []) old.id (set five k now)
+          (put_gathering asked before m old.id five elements k g now of elements_differ all at here same
+          (OnTrue_at yes (adds.holds months own)))),
+    )

@@ -1,6 +1,6 @@
 -- Faults that are told before all files were fed.
 use Rattle.std.proofs.Common.{◌≡◌, ℕ, ◌+◌, ◌≤◌, ◌^◌, List, [], ◌++◌, length}
-use Rattle.std.proofs.Common.{sym, ap, ◌∙◌, subst, append_assoc, length-append, arith}
+use Rattle.std.proofs.Common.{sym, ap, ◌∙◌, append_assoc, length-append, arith}
 use Rattle.std.proofs.lemmas.List.{append-nil}
 use Rattle.ghcn_files.specs.declared.station.Station.{Station}
 use Rattle.ghcn_series.specs.declared.fault.DataFault.{DataFault}
@@ -9,7 +9,7 @@ use Rattle.ghcn_series.specs.DailyFaults.{FileLine, daily_lines}
 use Rattle.ghcn_series.specs.DailyFaults.{IsRefusal}
 use Rattle.ghcn_series.specs.Says.{data_of}
 use Rattle.ghcn_series.specs.Gathered.{IsLineRefusal}
-use Rattle.ghcn_series.specs.Fed.{IsToldOf, IsOfMemory}
+use Rattle.ghcn_series.specs.Fed.{IsToldOf}
 use Rattle.ghcn_series.proofs.ReadLines.{refused_among}
 use Rattle.ghcn_series.proofs.ReadFiles.{data_of-refused, data_of-many}
 use Rattle.ghcn_series.proofs.FedLines.{lines_from, daily_lines-append}
@@ -24,19 +24,11 @@ told_of stations files ls behind (DailyLine file line why) few is refused = reco
   few = few;
   whatever = λ others le.
       let rest = lines_from (1 + length files) others in
-      let P : List FileLine → Type 0 = λ xs. IsLineRefusal stations xs (DailyLine file line why) in
       let whole : ls ++ (behind ++ rest) ≡ daily_lines (files ++ others) =
       sym (append_assoc ls behind rest) ∙ ap (λ xs. xs ++ rest) (sym is) ∙ sym (daily_lines-append files others) in
       data_of-refused stations (files ++ others) (DailyLine file line why) le
-      (subst P whole (refused_among stations ls (behind ++ rest) (DailyLine file line why) refused));
+      (rw (← whole) (refused_among stations ls (behind ++ rest) (DailyLine file line why) refused));
 }
-
--- want of memory is told of any files
-pub told_memory : (stations : List Station) (files : List (List ℕ)) (f : DataFault) → IsOfMemory f
-    → IsToldOf stations files f
-told_memory stations files (Memory m) is = tt
-told_memory stations files TooManyFiles is = absurd is
-told_memory stations files (DailyLine file line why) is = absurd is
 
 -- a fault that is told of the first files is that of all
 pub told_all : (stations : List Station) (files others all : List (List ℕ)) (f : DataFault) → files ++ others ≡ all

@@ -1,11 +1,11 @@
 use Rattle.std.proofs.Common.{rules, ◌≡◌, List, ℤ, IsSome, subst, sym, ap, ◌∙◌, w32, to_z, of_z}
 use Rattle.std.specs.Option.{option_or}
 use Rattle.std.proofs.lemmas.Int.{to_z-of_z}
+use Rattle.std.proofs.lemmas.Result.{on_ok_weaker}
 use Rattle.ghcn_files.specs.declared.row.MonthRow.{MonthRow}
 use Rattle.ghcn_series.specs.Series.{DayValue, value_on}
 use Rattle.ghcn_series.specs.Parts.{AreJoined, row_days, days_held}
 use Rattle.ghcn_series.proofs.MonthRows.{row-at}
-use Rattle.ghcn_series.proofs.RowParts.{on_ok-then}
 use Rattle.ghcn_series.proofs.gathering.add_days.Goals as goal
 
 -- the month's row is as it may be
@@ -35,7 +35,7 @@ returns-clause-joined c =
     let near : z ≡ c.place_of-number.result.0 = to_z-of_z w32 c.place_of-number.result.0 (search rules) in
     let old : List DayValue = days_held c.args.held.now in
     let new : List DayValue = days_held c.add_row.new.self in
-    on_ok-then c.add_row.result
+    on_ok_weaker c.add_row.result
     (λ (joined : AreJoined old (row_days z place row.word row.values) new) m right of d.
     joined d ∙ ap (option_or (value_on old d))
     ((row-at m row c.in-Some.first z c.place_of-number.result.0 place right of

@@ -1,4 +1,4 @@
-use Rattle.std.proofs.Common.{arith, List, ℤ, ℕ, subst, sym, ◌∙◌, ◌≡◌, w32, get_or, [], to_z, of_z}
+use Rattle.std.proofs.Common.{arith, List, ℤ, ℕ, subst, ◌∙◌, ◌≡◌, w32, get_or, []}
 use Rattle.std.proofs.lemmas.Int.{to_z-of_z}
 use Rattle.std.proofs.lemmas.List.{get_or_default}
 use Rattle.ghcn_series.specs.Packed as packed
@@ -12,9 +12,7 @@ pub returns-in_err-at-clause-none : goal.returns-in_err-at-clause-none
 returns-in_err-at-clause-none c =
     let numbers : List ℤ = c.self.inside.numbers.items in
     let nowhere : packed.IsNowhere numbers c.args.number =
-    subst (λ (z : ℤ). packed.IsNowhere numbers z) (to_z-of_z w32 c.args.number c.ranges.number)
-    (subst (λ (ns : List ℤ). packed.IsNowhere ns (to_z w32 (of_z w32 c.args.number))) c.deref.ensures.value
-    c.in_err-at.ensures.none) in
+    rw (to_z-of_z w32 c.args.number c.ranges.number, c.deref.ensures.value) at c.in_err-at.ensures.none in
     rw c.from_residual.ensures
     (subst (λ (days : List DayValue). packed.HasNone days c.args.number) c.self.view_is
     (block-absent numbers c.self.inside.words.items c.self.inside.values.items c.self.invariant c.args.number nowhere))
@@ -22,22 +20,15 @@ returns-in_err-at-clause-none c =
 -- the block at the number's place is the one
 pub returns-clause-some : goal.returns-clause-some
 returns-clause-some c =
-    let numbers : List ℤ = c.self.inside.numbers.items in
     let words : List ℕ = c.self.inside.words.items in
     let values : List (List ℤ) = c.self.inside.values.items in
-    let cols : AreColumns numbers words values = c.self.invariant in
+    let cols : AreColumns c.self.inside.numbers.items words values = c.self.invariant in
     let i : ℕ = c.in_ok-at.at in
-    let at : packed.IsAt numbers c.args.number i =
-    subst (λ (z : ℤ). packed.IsAt numbers z i) (to_z-of_z w32 c.args.number c.ranges.number)
-    (subst (λ (ns : List ℤ). packed.IsAt ns (to_z w32 (of_z w32 c.args.number)) i) c.deref.ensures.value
-    c.in_ok-at.ensures.some) in
-    let word : get_or words i 0 ≡ c.index.result.now = get_or_default words i 0 c.index.result.now
-    (omega (arith, at.in_range, cols.blocks.enough_words)) ∙ sym c.index.ensures in
-    let row : get_or values i [] ≡ c.index-2.result.now = get_or_default values i [] c.index-2.result.now
-    (omega (arith, at.in_range, cols.blocks.enough_values)) ∙ sym c.index-2.ensures in
-    let found : packed.IsBlockOf c.args.self.now c.args.number (get_or words i 0) (get_or values i []) =
-    subst (λ (days : List DayValue). packed.IsBlockOf days c.args.number (get_or words i 0) (get_or values i []))
-    c.self.view_is
-    (block-found numbers words values cols c.args.number i at) in
-    subst (λ (w : ℕ). packed.IsBlockOf c.args.self.now c.args.number w c.index-2.result.now) word
-    (subst (λ (v : List ℤ). packed.IsBlockOf c.args.self.now c.args.number (get_or words i 0) v) row found)
+    let at : packed.IsAt c.self.inside.numbers.items c.args.number i =
+    rw (to_z-of_z w32 c.args.number c.ranges.number, c.deref.ensures.value) at c.in_ok-at.ensures.some in
+    let word : c.index.result.now ≡ get_or words i 0 = c.index.ensures
+    ∙ get_or_default words i c.index.result.now 0 (omega (arith, at.in_range, cols.blocks.enough_words)) in
+    let row : c.index-2.result.now ≡ get_or values i [] = c.index-2.ensures
+    ∙ get_or_default values i c.index-2.result.now [] (omega (arith, at.in_range, cols.blocks.enough_values)) in
+    rw (word, row) (subst (λ (days : List DayValue). packed.IsBlockOf days c.args.number (get_or words i 0)
+    (get_or values i [])) c.self.view_is (block-found c.self.inside.numbers.items words values cols c.args.number i at))

@@ -1,7 +1,8 @@
 use Rattle.std.proofs.Common.{◌≡◌, ℕ, true, false, not, sym, ap, ◌∙◌}
+use Rattle.std.proofs.lemmas.Bool.{not-true}
 use Rattle.ghcn_series.specs.SeenMonths.{has_month, Adds}
 use Rattle.ghcn_series.specs.Gathered.{number_of}
-use Rattle.ghcn_series.proofs.SeenMonths.{gathering-more, month-new, seen-is, number_is, turned}
+use Rattle.ghcn_series.proofs.SeenMonths.{gathering-more, month-new, seen-is, number_is}
 use Rattle.ghcn_series.proofs.gathering.Gathering.add.Goals as goal
 
 -- a month whose time was seen isn't new
@@ -27,7 +28,7 @@ add_days-requires-clause-fresh c = λ m right of.
     let told : true ≡ not (has_month c.args.self.now.seen (number_of m)) =
     sym c.if-not-branch.false ∙ c.in_ok-add.ensures.is_new
     ∙ ap (λ (t : ℕ). not (has_month c.args.self.now.seen t)) number in
-    month-new c.args.self.now m c.requires.gathered.0 right c.requires.gathered.1 (turned true _ told)
+    month-new c.args.self.now m c.requires.gathered.0 right c.requires.gathered.1 (not-true _ (sym told))
 
 -- any other is added
 pub returns-clause-added : goal.returns-clause-added
@@ -40,6 +41,6 @@ returns-clause-added c = λ m right of.
     record {
       is_new = λ before is. told ∙ ap not (seen-is true c.args.self.now m before right is);
       holds = λ before is.
-          gathering-more c.args.self.now _ m before right is (turned true _ told) adds
+          gathering-more c.args.self.now _ m before right is (not-true _ (sym told)) adds
           c.in_ok-add_days.ensures.parts (c.in_ok-add_days.ensures.joined m right of);
     }

@@ -12,6 +12,5 @@ returns-then-is_after-clause-is_new c =
     c.in_default.is c.self.invariant in
     let now : months ≡ c.args.self.now = sym (ap (months_of months) c.in_default.is) ∙ c.self.view_is in
     let after : (length months == 0 || nat_lt (slice_index months (length months - 1)) c.args.month) ≡ true =
-    subst (λ (l : List ℕ). (length l == 0 || nat_lt (slice_index l (length l - 1)) c.args.month) ≡ true)
-    c.deref.ensures.value (sym c.is_after.ensures ∙ c.if-is_after.true) in
+    rw c.deref.ensures.value at (sym c.is_after.ensures ∙ c.if-is_after.true) in
     ap not (sym (fresh-after months rise c.args.month after) ∙ ap (λ (l : List ℕ). has_month l c.args.month) now)

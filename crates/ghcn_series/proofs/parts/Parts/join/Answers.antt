@@ -1,74 +1,56 @@
-use Rattle.std.proofs.Common.{arith, ◌≡◌, ◌∙◌, ◌+◌, ◌-◌, List, ℤ, ℕ, pos, get_or, set, length, sym, subst, []}
-use Rattle.std.specs.Prelude.{bit_or}
+use Rattle.std.proofs.Common.{arith, ◌≡◌, ◌∙◌, ◌-◌, List, ℤ, get_or, length, []}
 use Rattle.std.proofs.lemmas.List.{get_or_default}
-use Rattle.ghcn_series.specs.Packed.{IsPacked, AreBlocks, block_days, days_of, blocks_of}
-use Rattle.ghcn_series.specs.Parts.{JoinsValues, AreNew, AreDisjoint, AreJoined, days_held}
-use Rattle.ghcn_series.proofs.PartsAdded.{join-days, join-blocks}
+use Rattle.ghcn_series.specs.Parts.{JoinsValues}
+use Rattle.ghcn_series.specs.Packed.{AreBlocks}
+use Rattle.ghcn_series.proofs.PartsAdded.{join-days, join-blocks, IsJoin}
 use Rattle.ghcn_series.proofs.ApartParts.{join-apart}
 use Rattle.ghcn_series.proofs.parts.Parts.join.Goals as goal
+use Rattle.ghcn_series.proofs.parts.Parts.join.Goals.{After-index}
+
+-- the place of the last part, as the code computes it
+place : (c : After-index) → length c.args.self.now.numbers.items - 1 ≡ c.len-last.result - 1
+place c = omega (arith, c.len-last.ensures, c.args.self.now.numbers.ok.0)
+
+-- more days join the last part
+joins : (c : After-index) (r : List ℤ) → JoinsValues c.index.result.now c.args.values.now r
+    → IsJoin c.args.self.now.numbers.items c.args.self.now.words.items c.args.self.now.values.items
+    (c.len-last.result - 1) c.args.word c.args.values.now r
+joins c r row =
+    let vs : List (List ℤ) = c.args.self.now.values.items in
+    let bs : AreBlocks c.args.self.now.numbers.items c.args.self.now.words.items vs = c.requires.parts.blocks in
+    let at : c.len-last.result ≡ length c.args.self.now.numbers.items =
+    omega (arith, c.len-last.ensures, c.args.self.now.numbers.ok.0) in
+    let values : c.index.result.now ≡ get_or vs (c.len-last.result - 1) [] = c.index.ensures
+    ∙ get_or_default vs _ c.index.result.now [] (omega (arith, bs.enough_values, c.requires.some)) in
+    record {
+      blocks = bs;
+      last = omega (arith, c.requires.some);
+      one = rw (place c) at c.requires.packed;
+      fresh = rw (place c) at c.requires.fresh;
+      row = rw values at row;
+    }
+
+-- the word that they join is that of the last part
+word : (c : After-index) → c.index_mut.result.now ≡ get_or c.args.self.now.words.items (c.len-last.result - 1) 0
+word c =
+    let bs : AreBlocks c.args.self.now.numbers.items c.args.self.now.words.items c.args.self.now.values.items =
+    c.requires.parts.blocks in
+    c.index_mut.ensures.value ∙ get_or_default c.args.self.now.words.items _ c.index_mut.result.now 0
+    (omega (arith, bs.enough_words, c.requires.some, c.len-last.ensures, c.args.self.now.numbers.ok.0))
 
 -- the parts stay as they may be
 pub returns-clause-parts : goal.returns-clause-parts
 returns-clause-parts c =
-    let ns : List ℤ = c.args.self.now.numbers.items in
-    let ws : List ℕ = c.args.self.now.words.items in
-    let vs : List (List ℤ) = c.args.self.now.values.items in
-    let u : List ℤ = c.args.values.now in
-    let p : ℕ = c.args.word in
-    let r : List ℤ = c.joined.result in
-    let i : ℕ = c.len-last.result - 1 in
-    let bs : AreBlocks ns ws vs = c.requires.parts.blocks in
-    let last : i + 1 ≡ length ns = omega (arith, c.len-last.ensures, c.args.self.now.numbers.ok.0, c.requires.some) in
-    let at : length ns - 1 ≡ i = omega arith in
-    let one : IsPacked (get_or ns i (pos 0), (p, u)) = subst (λ (k : ℕ). IsPacked (get_or ns k (pos 0), (p, u))) at
-    c.requires.packed in
-    let fresh : AreNew (days_held c.args.self.now) (block_days (get_or ns i (pos 0), (p, u))) =
-    subst (λ (k : ℕ). AreNew (days_held c.args.self.now) (block_days (get_or ns k (pos 0), (p, u)))) at
-    c.requires.fresh in
-    let word : get_or ws i 0 ≡ c.index_mut.result.now = get_or_default ws i 0 c.index_mut.result.now
-    (omega (arith, bs.enough_words)) ∙ sym c.index_mut.ensures.value in
-    let row : c.index.result.now ≡ get_or vs i [] = c.index.ensures
-    ∙ get_or_default vs i c.index.result.now [] (omega (arith, bs.enough_values)) in
-    let joins : JoinsValues (get_or vs i []) u r = subst (λ (x : List ℤ). JoinsValues x u r) row c.joined.ensures in
-    let joined : AreBlocks ns (set ws i (bit_or (get_or ws i 0) p)) (set vs i r) =
-    join-blocks ns ws vs bs i p u r last one fresh joins in
-    let apart : AreDisjoint (blocks_of ns (set ws i (bit_or (get_or ws i 0) p)) (set vs i r)) =
-    join-apart ns ws vs bs i p u r last one fresh joins c.requires.parts.apart in
+    let own = (goal.at.returns-clause-parts c).After-index in
+    let join = joins own c.joined.result c.joined.ensures in
     record {
-      blocks = subst (λ (w : ℕ). AreBlocks ns (set ws i (bit_or w p)) (set vs i r)) word joined;
-      apart = subst (λ (w : ℕ). AreDisjoint (blocks_of ns (set ws i (bit_or w p)) (set vs i r))) word apart;
+      blocks = rw (word own) (join-blocks _ _ _ _ _ _ _ join);
+      apart = rw (word own) (join-apart _ _ _ _ _ _ _ join c.requires.parts.apart);
       rise = c.requires.parts.rise;
     }
 
 -- the days of the part are joined
 pub returns-clause-joined : goal.returns-clause-joined
 returns-clause-joined c =
-    let ns : List ℤ = c.args.self.now.numbers.items in
-    let ws : List ℕ = c.args.self.now.words.items in
-    let vs : List (List ℤ) = c.args.self.now.values.items in
-    let u : List ℤ = c.args.values.now in
-    let p : ℕ = c.args.word in
-    let r : List ℤ = c.joined.result in
-    let i : ℕ = c.len-last.result - 1 in
-    let bs : AreBlocks ns ws vs = c.requires.parts.blocks in
-    let last : i + 1 ≡ length ns = omega (arith, c.len-last.ensures, c.args.self.now.numbers.ok.0, c.requires.some) in
-    let at : length ns - 1 ≡ i = omega arith in
-    let one : IsPacked (get_or ns i (pos 0), (p, u)) = subst (λ (k : ℕ). IsPacked (get_or ns k (pos 0), (p, u))) at
-    c.requires.packed in
-    let fresh : AreNew (days_held c.args.self.now) (block_days (get_or ns i (pos 0), (p, u))) =
-    subst (λ (k : ℕ). AreNew (days_held c.args.self.now) (block_days (get_or ns k (pos 0), (p, u)))) at
-    c.requires.fresh in
-    let word : get_or ws i 0 ≡ c.index_mut.result.now = get_or_default ws i 0 c.index_mut.result.now
-    (omega (arith, bs.enough_words)) ∙ sym c.index_mut.ensures.value in
-    let row : c.index.result.now ≡ get_or vs i [] = c.index.ensures
-    ∙ get_or_default vs i c.index.result.now [] (omega (arith, bs.enough_values)) in
-    let joins : JoinsValues (get_or vs i []) u r = subst (λ (x : List ℤ). JoinsValues x u r) row c.joined.ensures in
-    let days : AreJoined (days_of (blocks_of ns ws vs)) (block_days (get_or ns i (pos 0), (p, u)))
-    (days_of (blocks_of ns (set ws i (bit_or (get_or ws i 0) p)) (set vs i r))) =
-    join-days ns ws vs bs i p u r last one fresh joins in
-    let now : AreJoined (days_of (blocks_of ns ws vs)) (block_days (get_or ns i (pos 0), (p, u)))
-    (days_of (blocks_of ns (set ws i (bit_or c.index_mut.result.now p)) (set vs i r))) =
-    subst (λ (w : ℕ). AreJoined (days_of (blocks_of ns ws vs)) (block_days (get_or ns i (pos 0), (p, u)))
-    (days_of (blocks_of ns (set ws i (bit_or w p)) (set vs i r)))) word days in
-    subst (λ (k : ℕ). AreJoined (days_of (blocks_of ns ws vs)) (block_days (get_or ns k (pos 0), (p, u)))
-    (days_of (blocks_of ns (set ws i (bit_or c.index_mut.result.now p)) (set vs i r)))) (sym at) now
+    let own = (goal.at.returns-clause-joined c).After-index in
+    rw (place own, word own) (join-days _ _ _ _ _ _ _ (joins own c.joined.result c.joined.ensures))

@@ -1,11 +1,9 @@
-use Rattle.std.proofs.Common.{rules, arith, ◌≡◌, ℕ, ◌+◌, ◌++◌, [], List, sym, ap, ◌∙◌, subst}
+use Rattle.std.proofs.Common.{rules, arith, ◌≡◌, ◌+◌, ◌++◌, [], sym, ap, ◌∙◌}
 use Rattle.std.proofs.lemmas.Result.{err_from_is_err_and}
 use Rattle.std.proofs.lemmas.Bool.Decides.{nat_tests}
 use Rattle.std.proofs.lemmas.List.{nil_from_length}
 use Rattle.ghcn_series.specs.declared.pieces.DataReader.{DataReader}
 use Rattle.ghcn_series.specs.declared.reader.Reader.{Reader}
-use Rattle.ghcn_series.specs.DailyFaults.{one_line}
-use Rattle.ghcn_series.specs.Steps.{Reads, Refuses}
 use Rattle.ghcn_series.proofs.pieces.DataReader.end_line.Goals as goal
 use Rattle.ghcn_series.proofs.pieces.DataReader.end_line.Goals.{then-is_empty+in_ok-add}
 use Rattle.ghcn_series.proofs.pieces.DataReader.end_line.Goals.{else-is_empty+in_ok-keep+in_ok-add-2}
@@ -18,24 +16,17 @@ returns-in_err-add-2-clause-fault c =
     let line : c.in_ok-line.line ≡ old.line + 1 = search rules in
     let bytes : c.deref.result.now ≡ old.rest.items ++ c.args.bytes.now =
     c.deref.ensures.value ∙ c.in_ok-keep.ensures.kept in
-    let P : ℕ → List ℕ → Reader → Type 0 = λ n text r. Refuses r (one_line (old.ended + 1) n text)
-    c.in_err-add-2.field-0.0 in
-    rw (p.1, p.2) (subst (λ n. P n (old.rest.items ++ c.args.bytes.now) old.reader) line
-    (subst (λ (t : List ℕ). P c.in_ok-line.line t old.reader) bytes
-    (subst (P c.in_ok-line.line c.deref.result.now) c.in_ok-keep.ensures.reader c.in_err-add-2.ensures.fault)))
+    rw (p.1, p.2) (rw (line, bytes, c.in_ok-keep.ensures.reader) at c.in_err-add-2.ensures.fault)
 
 -- a line is added
 pub returns-clause-added : goal.returns-clause-added
 returns-clause-added c =
     let line : c.in_ok-line.line ≡ c.args.self.now.line + 1 = search rules in
     let old = c.args.self.now in
-    let P : ℕ → List ℕ → Reader → Reader → Type 0 = λ n text r q. Reads r q (one_line (old.ended + 1) n text) in
     elim c.if-is_empty.branch [
       | then-is_empty+in_ok-add w ↦
           let none : old.rest.items ≡ [] = nil_from_length old.rest.items
           (grind (arith, nat_tests, w.if-is_empty.true, c.is_empty.ensures, old.rest.ok.0)) in
-          let bytes : c.args.bytes.now ≡ old.rest.items ++ c.args.bytes.now =
-          ap (λ (xs : List ℕ). xs ++ c.args.bytes.now) (sym none) in
           let new : w.add.new.self ≡ c.if-is_empty.self.reader = ap (λ (r : DataReader). r.reader) (sym w.self-is) in
           record {
             element = ap (λ (r : Reader). r.element) (sym new) ∙ w.add.ensures.element;
@@ -43,9 +34,7 @@ returns-clause-added c =
             ended = ap (λ (r : DataReader). r.ended) w.self-is;
             counted = line;
             rest = ap (λ (r : DataReader). r.rest.items) w.self-is ∙ none;
-            read = subst (P (old.line + 1) (old.rest.items ++ c.args.bytes.now) old.reader) new
-                (subst (λ (t : List ℕ). P (old.line + 1) t old.reader w.add.new.self) bytes
-                (subst (λ n. P n c.args.bytes.now old.reader w.add.new.self) line w.in_ok-add.ensures.read));
+            read = rw (← new, none, ← line) w.in_ok-add.ensures.read;
           }
       | else-is_empty+in_ok-keep+in_ok-add-2 w ↦
           let bytes : w.deref.result.now ≡ old.rest.items ++ c.args.bytes.now =
@@ -60,10 +49,6 @@ returns-clause-added c =
             ended = ap (λ (r : DataReader). r.ended) w.self-is ∙ w.in_ok-keep.ensures.ended;
             counted = line;
             rest = ap (λ (r : DataReader). r.rest.items) w.self-is ∙ search rules;
-            read = subst (P (old.line + 1) (old.rest.items ++ c.args.bytes.now) old.reader) new
-                (subst (λ n. P n (old.rest.items ++ c.args.bytes.now) old.reader after) line
-                (subst (λ (t : List ℕ). P c.in_ok-line.line t old.reader after) bytes
-                (subst (λ r. P c.in_ok-line.line w.deref.result.now r after) w.in_ok-keep.ensures.reader
-                w.in_ok-add-2.ensures.read)));
+            read = rw (← new, ← line, ← bytes, ← w.in_ok-keep.ensures.reader) w.in_ok-add-2.ensures.read;
           }
     ]

@@ -1,7 +1,6 @@
 use Rattle.std.proofs.Common.{◌≡◌, Ok, None}
 use Rattle.ghcn_files.specs.Months.{read_month}
 use Rattle.ghcn_files.specs.Rows.{IsOfLine}
-use Rattle.ghcn_series.specs.DailyFaults.{FileLine, line_of}
 use Rattle.ghcn_series.proofs.ReadLines.{read-passed, read-month, refused-line, refused-month}
 use Rattle.ghcn_series.proofs.reader.Reader.add_line.Goals as goal
 
@@ -15,37 +14,33 @@ add_month-requires-clause-right c =
 -- a line of none of the elements is passed over
 pub returns-in-Ok-None-clause-read : goal.returns-in-Ok-None-clause-read
 returns-in-Ok-None-clause-read c =
-    let this : FileLine = line_of c.args.file (c.args.line, c.args.bytes.now) in
     let is : read_month c.args.bytes.now ≡ Ok None = rw c.in-Ok-None.field-0-is at c.in-Ok-None.ensures in
-    record { holds = λ before read. read-passed c.args.self.now this is before read }
+    record { holds = λ before read. read-passed c.args.self.now _ is before read }
 
 -- a line that fails a test by itself is refused
 pub returns-in-Err-clause-fault : goal.returns-in-Err-clause-fault
 returns-in-Err-clause-fault c =
-    let this : FileLine = line_of c.args.file (c.args.line, c.args.bytes.now) in
     rw c.refused.ensures
-    (record { first = λ before read. refused-line c.args.self.now this c.in-Err.why c.in-Err.ensures before read })
+    (record { first = λ before read. refused-line c.args.self.now _ c.in-Err.why c.in-Err.ensures before read })
 
 -- a new month is read
 pub returns-in-Ok-true-clause-read : goal.returns-in-Ok-true-clause-read
 returns-in-Ok-true-clause-read c =
-    let this : FileLine = line_of c.args.file (c.args.line, c.args.bytes.now) in
     let is : IsOfLine c.args.self.now.element c.args.bytes.now c.in-Ok-Some.row =
     rw c.in-Ok-Some.field-0-is at c.in-Ok-Some.ensures in
     let adds = rw c.in-Ok-true.field-0-test at c.in-Ok-true.ensures.added in
     record {
-      holds = λ before read. read-month c.args.self.now c.add_month.new.self this is.month is.read
+      holds = λ before read. read-month c.args.self.now c.add_month.new.self _ is.month is.read
           c.add_month.ensures.stations (adds is.month is.right is.row) before read;
     }
 
 -- a month of an earlier line is refused
 pub returns-in-Ok-false-clause-fault : goal.returns-in-Ok-false-clause-fault
 returns-in-Ok-false-clause-fault c =
-    let this : FileLine = line_of c.args.file (c.args.line, c.args.bytes.now) in
     let is : IsOfLine c.args.self.now.element c.args.bytes.now c.in-Ok-Some.row =
     rw c.in-Ok-Some.field-0-is at c.in-Ok-Some.ensures in
     let adds = rw c.in-Ok-false.field-0-test at c.in-Ok-false.ensures.added in
     rw c.refused-in-Ok-false.ensures (record {
       first = λ before read. refused-month c.args.self.now
-          c.add_month.new.self this is.month is.read (adds is.month is.right is.row) before read;
+          c.add_month.new.self _ is.month is.read (adds is.month is.right is.row) before read;
     })

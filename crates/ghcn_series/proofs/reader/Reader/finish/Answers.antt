@@ -1,5 +1,5 @@
 use Rattle.std.proofs.Common.{◌≡◌, ℕ, [], ◌∷◌, ◌++◌, List, map, sym, ap, ◌∙◌, subst, append_assoc}
-use Rattle.std.specs.List.{AllByRecursion, filter_map}
+use Rattle.std.specs.List.{filter_map}
 use Rattle.std.specs.Vec.Iter.{into_iter_items}
 use Rattle.std.proofs.lemmas.List.{append-nil, nil_from_length, map-append}
 use Rattle.ghcn_series.specs.declared.station.StationGathering.{StationGathering}
@@ -7,7 +7,7 @@ use Rattle.ghcn_series.specs.Series.{Usable, Contents}
 use Rattle.ghcn_series.specs.DailyFaults.{month_on}
 use Rattle.ghcn_series.specs.Says.{contents}
 use Rattle.ghcn_series.specs.Held.{AreByStation, all_of}
-use Rattle.ghcn_series.specs.Gathered.{IsReady, station_series}
+use Rattle.ghcn_series.specs.Gathered.{station_series}
 use Rattle.ghcn_series.proofs.AllSeries.{all_ready, series_are, all_listed, all_of-are, are_by_station, kept-is}
 use Rattle.ghcn_series.proofs.reader.Reader.finish.Goals as goal
 
@@ -16,27 +16,17 @@ pub loop-station-init : goal.loop-station-init
 loop-station-init c =
     let read = c.requires.1.months in
     let all = c.into_iter-station-iterator.ensures.into_iter_gives.0 in
-    let P : List StationGathering → Type 0 = AllByRecursion (λ s. AllByRecursion IsReady s.by_element.items) in
     record {
-      ready = subst P (sym all) (all_ready c.args.self.element (filter_map month_on c.requires.0) c.args.self.stations
+      ready = rw all (all_ready c.args.self.element (filter_map month_on c.requires.0) c.args.self.stations
           c.args.self.gathered.items read.right read.gathered);
       whole = ap (λ vs. map (λ s. s.items) vs
           ++ map station_series (into_iter_items c.into_iter-station-iterator.result)) c.in_ok-series.ensures.items
           ∙ ap (map station_series) all;
     }
 
--- the next station can become series, and so can those behind it
-ready_parts : (g : StationGathering) (rest left : List StationGathering) → rest ≡ g ∷ left
-    → AllByRecursion (λ s. AllByRecursion IsReady s.by_element.items) rest → AllByRecursion IsReady g.by_element.items
-    × AllByRecursion (λ s. AllByRecursion IsReady s.by_element.items) left
-ready_parts g rest left step all =
-    let P : List StationGathering → Type 0 = AllByRecursion (λ s. AllByRecursion IsReady s.by_element.items) in
-    let both : AllByRecursion (λ s. AllByRecursion IsReady s.by_element.items) (g ∷ left) = subst P step all in
-    (both.0, both.1)
-
 -- the station can become series
 pub into_series-requires : goal.into_series-requires
-into_series-requires c = (ready_parts c.in-Some.station _ _ c.in-Some.ensures.steps.0 c.loop-station.invariant.ready).0
+into_series-requires c = let ready = rw c.in-Some.ensures.steps.0 at c.loop-station.invariant.ready in ready.0
 
 -- one list more, behind those that are held
 one_more : {V : Type 0} (items : V → List Usable) (held : List V) (v : V) (g : StationGathering)
@@ -54,8 +44,9 @@ pub loop-station-preserved : goal.loop-station-preserved
 loop-station-preserved c =
     let held = c.loop-station.series.items in
     let step = c.in-Some.ensures.steps.0 in
+    let ready = rw step at c.loop-station.invariant.ready in
     record {
-      ready = (ready_parts c.in-Some.station _ _ step c.loop-station.invariant.ready).1;
+      ready = ready.1;
       whole =
           ap (λ vs. map (λ s. s.items) vs ++ map station_series (into_iter_items c.next.new.self))
           c.in_ok-push.ensures.items

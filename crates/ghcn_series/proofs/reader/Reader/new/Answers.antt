@@ -1,10 +1,6 @@
-use Rattle.std.proofs.Common.{◌+◌, [], List, take, refl, sym, ap, ◌∙◌, arith, add-one, subst}
-use Rattle.std.specs.List.{AllZip}
+use Rattle.std.proofs.Common.{refl, sym, ap, ◌∙◌, arith, add-one}
 use Rattle.std.specs.Option.{option_copied}
 use Rattle.std.proofs.lemmas.Option.{slice_get_within}
-use Rattle.ghcn_files.specs.declared.station.Station.{Station}
-use Rattle.ghcn_series.specs.declared.station.StationGathering.{StationGathering}
-use Rattle.ghcn_series.specs.Gathered.{IsStationOf}
 use Rattle.ghcn_series.proofs.ReadMonths.{station-new, all_taken}
 use Rattle.ghcn_series.proofs.reader.Reader.new.Goals as goal
 
@@ -15,18 +11,15 @@ loop-station-preserved c =
     let within = slice_get_within c.args.stations c.loop-station.place c.in-Some.station.now here in
     let more = station-new c.args.element c.args.stations c.loop-station.gathered.items c.loop-station.place
     c.in-Some.station.now c.new.result here c.new.ensures.id c.new.ensures.empty c.loop-station.invariant.gathered in
-    let P : List StationGathering → Type 0 = AllZip (IsStationOf c.args.element [])
-    (take (c.loop-station.place + 1) c.args.stations) in
-    record { within = omega (arith, within); gathered = subst P (sym c.in_ok-push.ensures.items) (rw add-one more) }
+    record { within = omega (arith, within); gathered = rw (c.in_ok-push.ensures.items, add-one) more }
 
 -- nothing is read yet
 pub returns-clause-read : goal.returns-clause-read
 returns-clause-read c =
     let past = sym c.at.ensures ∙ ap option_copied c.in_default.is in
-    let P : List Station → Type 0 = λ ss.
-    AllZip (IsStationOf c.args.element []) ss c.loop-station.gathered.items in record {
+    record {
       listed = c.len.ensures.listed;
       right = tt;
       unlisted = refl;
-      gathered = subst P (all_taken c.args.stations c.loop-station.place past) c.loop-station.invariant.gathered;
+      gathered = rw (all_taken c.args.stations c.loop-station.place past) at c.loop-station.invariant.gathered;
     }

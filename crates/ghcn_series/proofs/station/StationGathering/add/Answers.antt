@@ -1,9 +1,8 @@
 use Rattle.std.proofs.Common.{◌≡◌, ℕ, Bool, true, false, get_or, subst, sym, ap, ◌∙◌}
 use Rattle.std.proofs.lemmas.Result.{IfOk-weaker}
 use Rattle.ghcn_files.specs.Elements.{element_index, is_kept}
-use Rattle.ghcn_files.specs.Rows.{IsRowOf}
-use Rattle.ghcn_series.specs.Steps.{Gathers, IsOfMonth}
-use Rattle.ghcn_series.proofs.StationMonths.{by_element-more, some_at}
+use Rattle.ghcn_series.specs.Steps.{IsOfMonth}
+use Rattle.ghcn_series.proofs.StationMonths.{station-more, some_at}
 use Rattle.ghcn_series.proofs.station.StationGathering.add.Goals as goal
 
 -- the month's days are kept
@@ -37,34 +36,24 @@ note-requires c =
 pub returns-then-is_kept-clause-added : goal.returns-then-is_kept-clause-added
 returns-then-is_kept-clause-added c =
     IfOk-weaker c.add.result _ _ (λ added adds m right of.
-    let kept_row : is_kept c.args.asked c.args.row.now.element ≡ true = sym c.is_kept.ensures ∙ c.if-is_kept.true in
-    let kept : is_kept c.args.asked m.element ≡ true =
-    ap (is_kept c.args.asked) (sym of.element) ∙ kept_row in
-    let P : Bool → Type 0 = λ b. Gathers b c.index_mut-gathering.result.now c.add.new.self m added in
-    let more = by_element-more c.args.asked m c.args.self.now.id c.open.new.self.by_element.items c.place_of.result
-    c.index_mut-gathering.result.now c.add.new.self added (c.place_of.ensures ∙ ap element_index of.element)
-    c.index_mut-gathering.ensures.value c.add.ensures.element
-    (subst P (sym kept) (adds m right (subst (λ (k : Bool). IsRowOf k m c.args.row.now) kept_row of))) in
-    let own = sym of.id ∙ c.requires.own in
-    record {
-      is_new = λ before is. (more before own (c.in_ok-open.ensures.same.holds c.args.asked before is)).0;
-      holds = λ before is. (more before own (c.in_ok-open.ensures.same.holds c.args.asked before is)).1;
-    }) c.add.ensures.added
+    let is : is_kept c.args.asked c.args.row.now.element ≡ true = sym c.is_kept.ensures ∙ c.if-is_kept.true in
+    let kept : is_kept c.args.asked m.element ≡ true = ap (is_kept c.args.asked) (sym of.element) ∙ is in
+    let more = station-more c.args.asked m c.args.self.now c.open.new.self c.place_of.result
+    c.index_mut-gathering.result.now c.add.new.self added (sym of.id ∙ c.requires.own) c.in_ok-open.ensures.same
+    (c.place_of.ensures ∙ ap element_index of.element) c.index_mut-gathering.ensures.value c.add.ensures.element
+    (rw kept (adds m right (rw is at of))) in
+    record { is_new = λ before held. (more before held).0; holds = λ before held. (more before held).1 })
+    c.add.ensures.added
 
 -- or noted there
 pub returns-else-is_kept-clause-added : goal.returns-else-is_kept-clause-added
 returns-else-is_kept-clause-added c =
     IfOk-weaker c.note.result _ _ (λ added adds m right of.
-    let kept_row : is_kept c.args.asked c.args.row.now.element ≡ false = sym c.is_kept.ensures ∙ c.if-is_kept.false in
-    let kept : is_kept c.args.asked m.element ≡ false =
-    ap (is_kept c.args.asked) (sym of.element) ∙ kept_row in
-    let P : Bool → Type 0 = λ b. Gathers b c.index_mut-gathering.result.now c.note.new.self m added in
-    let more = by_element-more c.args.asked m c.args.self.now.id c.open.new.self.by_element.items c.place_of.result
-    c.index_mut-gathering.result.now c.note.new.self added (c.place_of.ensures ∙ ap element_index of.element)
-    c.index_mut-gathering.ensures.value c.note.ensures.element
-    (subst P (sym kept) (adds m right (subst (λ (k : Bool). IsRowOf k m c.args.row.now) kept_row of))) in
-    let own = sym of.id ∙ c.requires.own in
-    record {
-      is_new = λ before is. (more before own (c.in_ok-open.ensures.same.holds c.args.asked before is)).0;
-      holds = λ before is. (more before own (c.in_ok-open.ensures.same.holds c.args.asked before is)).1;
-    }) c.note.ensures.added
+    let is : is_kept c.args.asked c.args.row.now.element ≡ false = sym c.is_kept.ensures ∙ c.if-is_kept.false in
+    let kept : is_kept c.args.asked m.element ≡ false = ap (is_kept c.args.asked) (sym of.element) ∙ is in
+    let more = station-more c.args.asked m c.args.self.now c.open.new.self c.place_of.result
+    c.index_mut-gathering.result.now c.note.new.self added (sym of.id ∙ c.requires.own) c.in_ok-open.ensures.same
+    (c.place_of.ensures ∙ ap element_index of.element) c.index_mut-gathering.ensures.value c.note.ensures.element
+    (rw kept (adds m right (rw is at of))) in
+    record { is_new = λ before held. (more before held).0; holds = λ before held. (more before held).1 })
+    c.note.ensures.added

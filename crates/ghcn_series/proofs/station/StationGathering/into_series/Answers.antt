@@ -1,20 +1,13 @@
-use Rattle.std.proofs.Common.{◌≡◌, [], ◌∷◌, ◌++◌, List, subst, sym, ap, ◌∙◌}
+use Rattle.std.proofs.Common.{◌≡◌, [], ◌++◌, List, subst, sym, ap, ◌∙◌}
 use Rattle.std.specs.List.{AllByRecursion, filter_map}
 use Rattle.std.specs.Vec.Iter.{into_iter_items}
 use Rattle.std.proofs.lemmas.List.{append-nil, nil_from_length}
 use Rattle.ghcn_files.specs.declared.station.StationId.{StationId}
 use Rattle.ghcn_files.specs.declared.element.Element.{Element}
-use Rattle.ghcn_series.specs.declared.gathering.Gathering.{Gathering}
-use Rattle.ghcn_series.specs.Series.{DayValue, Usable, IsSeries}
+use Rattle.ghcn_series.specs.Series.{DayValue, Usable}
 use Rattle.ghcn_series.specs.Gathered.{IsReady, gathered_series}
 use Rattle.ghcn_series.proofs.ReadySeries.{is_series, no_series, one_series}
 use Rattle.ghcn_series.proofs.station.StationGathering.into_series.Goals as goal
-
--- the next gathering can become a series, and so can those behind it
-ready_parts : (g : Gathering) (rest left : List Gathering) → rest ≡ g ∷ left → AllByRecursion IsReady rest
-    → IsReady g × AllByRecursion IsReady left
-ready_parts g rest left step all = let P : List Gathering → Type 0 = AllByRecursion IsReady in let both : AllByRecursion
-    IsReady (g ∷ left) = subst P step all in (both.0, both.1)
 
 -- no gathering is a series yet
 pub loop-gathering-init : goal.loop-gathering-init
@@ -31,27 +24,24 @@ loop-gathering-init c =
 -- a gathering of a station has some months
 pub is_empty-requires : goal.is_empty-requires
 is_empty-requires c =
-    let ready = (ready_parts c.in-Some.gathering _ _ c.in-Some.ensures.steps.0 c.loop-gathering.invariant.ready).0 in
-    ready
+    let ready = rw c.in-Some.ensures.steps.0 at c.loop-gathering.invariant.ready in ready.0
 
 -- the gathering has some months
 pub into_columns-requires : goal.into_columns-requires
 into_columns-requires c =
-    let ready = (ready_parts c.in-Some.gathering _ _ c.in-Some.ensures.steps.0 c.loop-gathering.invariant.ready).0 in
-    ready
+    let ready = rw c.in-Some.ensures.steps.0 at c.loop-gathering.invariant.ready in ready.0
 
 -- its days are those of a series
 pub of-requires : goal.of-requires
 of-requires c =
-    let ready = (ready_parts c.in-Some.gathering _ _ c.in-Some.ensures.steps.0 c.loop-gathering.invariant.ready).0 in
-    let P : Element → Type 0 = λ e. IsSeries (record { id = c.args.self.id; element = e; days = c.in_ok-days.days }) in
-    subst P (sym c.element-element.ensures) (is_series c.args.self.id c.in-Some.gathering c.in_ok-days.days ready
+    let ready = rw c.in-Some.ensures.steps.0 at c.loop-gathering.invariant.ready in
+    rw c.element-element.ensures (is_series c.args.self.id c.in-Some.gathering c.in_ok-days.days ready.0
     (sym c.is_empty.ensures ∙ c.if-is_empty.false) c.in_ok-days.ensures)
 
 -- a gathering without a day is left out
 pub loop-gathering-preserved-then-is_empty : goal.loop-gathering-preserved-then-is_empty
 loop-gathering-preserved-then-is_empty c = record {
-  ready = (ready_parts c.in-Some.gathering _ _ c.in-Some.ensures.steps.0 c.loop-gathering.invariant.ready).1;
+  ready = let ready = rw c.in-Some.ensures.steps.0 at c.loop-gathering.invariant.ready in ready.1;
   whole = no_series c.args.self.id c.in-Some.gathering c.loop-gathering.series.items _ _ _ c.in-Some.ensures.steps.0
       (sym c.is_empty.ensures ∙ c.if-is_empty.true) c.loop-gathering.invariant.whole;
 }
@@ -67,11 +57,11 @@ made id e f days sorted s is p q =
 -- any other one is a series
 pub loop-gathering-preserved : goal.loop-gathering-preserved
 loop-gathering-preserved c =
-    let parts = ready_parts c.in-Some.gathering _ _ c.in-Some.ensures.steps.0 c.loop-gathering.invariant.ready in
+    let ready = rw c.in-Some.ensures.steps.0 at c.loop-gathering.invariant.ready in
     let series = made c.args.self.id c.element-element.result c.in-Some.gathering.element c.in_ok-days.days _
     c.of.result c.of.ensures c.element-element.ensures c.in_ok-days.ensures in
     record {
-      ready = parts.1;
+      ready = ready.1;
       whole =
           one_series c.args.self.id c.in-Some.gathering c.of.result c.loop-gathering.series.items c.push.new.self.items
           _ _ _ c.in-Some.ensures.steps.0 (sym c.is_empty.ensures ∙ c.if-is_empty.false)
