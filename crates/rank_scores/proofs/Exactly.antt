@@ -1,95 +1,37 @@
 -- The candidates that are listed, as they are computed, are exactly those with the property.
-use Rattle.std.proofs.Common.{◌≡◌, ℕ, zero, suc, ◌<◌, ◌≤◌, Bool, true, false, cond, List, Option, Some, None, refl, sym, ap, subst, ◌∙◌, arith, inl, inr, ℤ, pos, ◌+ℤ◌, ◌-ℤ◌, ◌≤ℤ◌, [], ◌∷◌}
-use Rattle.std.specs.Prelude.{not, int_le, nat_le, ◌&&◌, map, ◌↔◌, ◌≤ℤ◌}
-use Rattle.std.specs.Option.{option_map, option_map_or}
-use Rattle.std.specs.List.{AllByRecursion, Contains, filter_map, find, cons_option, IsDistinct}
-use Rattle.std.specs.Cmp.{IsEquivalence}
+use Rattle.std.proofs.Common.{◌≡◌, ℕ, zero, suc, ◌<◌, ◌≤◌, Bool, true, false, cond, List, Option, Some, None, refl, sym, ap, subst, ◌∙◌, arith, inl, inr, ℤ, pos, ◌+ℤ◌, ◌-ℤ◌, ◌≤ℤ◌, neg_ℤ, [], ◌∷◌, get_or}
+use Rattle.std.specs.Prelude.{not, map, ◌↔◌}
+use Rattle.std.specs.Option.{option_map}
+use Rattle.std.specs.List.{AllByRecursion, Contains, filter_map, find, cons_option}
 use Rattle.std.specs.Ordering.{int_eq, int_cmp}
-use Rattle.std.proofs.lemmas.Bool.{cases_lt}
+use Rattle.std.proofs.Math.ListN.{get_or-map}
+use Rattle.std.proofs.lemmas.List.{length-map}
+use Rattle.std.proofs.lemmas.Bool.{cases_lt, and_parts, and_from, and_right, leb-true, not-true, not_from_false}
 use Rattle.std.proofs.lemmas.Int.{ints}
-use Rattle.std.proofs.lemmas.Cmp.{and_equiv, on_equiv, nat_list_eq_equiv, int_eq_equiv}
-use Rattle.std.proofs.lemmas.Map.Made.{IsDistinct-from_count}
-use Rattle.std.proofs.lemmas.Map.Keys.{IsDistinct-head, IsDistinct-tail, IsDistinct-cons, IsDistinct-from_sorted}
+use Rattle.std.proofs.lemmas.Map.Keys.{IsDistinct-from_apart, IsDistinct-from_sorted, apart_from_distinct}
 use Rattle.std.proofs.lemmas.Bool.Decides.{Decides-int_eq}
 use Rattle.std.proofs.lemmas.List.Elements.{All-from_recursion, All-contains, Contains-append_right, Contains-append_left}
-use Rattle.ghcn_fields.specs.Days.{first_day, last_day, is_within}
+use Rattle.ghcn_fields.specs.Days.{is_within}
 use Rattle.ghcn_series.specs.Series.{DayValue, value_on, Usable, IsSeries}
 use Rattle.rank_query.specs.declared.score.Score.{Score}
 use Rattle.rank_query.specs.declared.score.Score.TheVariants.{Highest, Lowest, Sum, Dry, Wet}
 use Rattle.rank_query.specs.Asked.{is_score, is_fall, Asked, IsAsked}
-use Rattle.ghcn_files.specs.Ids.{same_id}
 use Rattle.ghcn_files.specs.declared.station.StationId.{StationId}
 use Rattle.rank_scores.specs.Runs.{run_from, run_len, begins_run, calendar_len, IsRun}
-use Rattle.rank_scores.specs.Candidates.{Shape, Days, Windows, Spells, shape, IsCandidate, begun, window_total, is_such, candidate, candidates, admitted, IsCandidateOf, AreTheCandidates, RiseByFirstDay}
+use Rattle.rank_scores.specs.Candidates.{Shape, Days, Windows, Spells, shape, is_dry, is_wet, IsWindow, IsCandidate, begun, window_total, is_such, candidate, candidates, admitted, IsCandidateOf, AreTheCandidates, RiseByFirstDay}
 use Rattle.rank_scores.proofs.Totals.{plus-parts, days-total, total-days}
-use Rattle.rank_scores.proofs.Rising.{Rise, both_pass, le_of, admitted-rise, values_stand, firsts_rise, from_each}
-use Rattle.rank_scores.proofs.Runs.{AreDays, counted, run-found, run-more, such-has, such-is_day, none_past, both_parts, days-few, admitted-days}
+use Rattle.rank_scores.proofs.Rising.{Rise, admitted-rise, values_stand, firsts_rise, from_each, all-made}
+use Rattle.rank_scores.proofs.Runs.{AreDays, counted, run-found, run-more, such-has, such-none, such-is_day, none_past, day-bounds, days-few, admitted-days}
 use Rattle.rank_scores.specs.Order.{begin_alike, AreApart}
 use Rattle.rank_scores.specs.declared.candidate.Candidate.{Candidate}
 use Rattle.rank_scores.specs.Morsels.{IsAbove, NoneIsAbove}
 
 -- ---- what begins on a day is what is a candidate from that day on
 
--- what is ranked has a day at least
-abbrev pub HasDay : Shape → Type 0
-HasDay (Days f) = Unit {0}
-HasDay (Windows n) = 0 < n
-HasDay (Spells test) = Unit {0}
-
--- a number from 1 is above 0
-above_zero : (n : ℕ) → nat_le 1 n ≡ true → 0 < n
-above_zero zero e = absurd cc
-above_zero (suc n) e = omega arith
-
--- what can be asked for has a day at least
-pub asked-HasDay : (score : Score) → is_score score ≡ true → HasDay (shape score)
-asked-HasDay (Highest e) h = tt
-asked-HasDay (Lowest e) h = tt
-asked-HasDay (Sum n e) h = above_zero n (both_pass (nat_le 1 n) (nat_le n 366)
-    (both_pass (is_within 1 366 n) (is_fall e) h).0).0
-asked-HasDay Dry h = tt
-asked-HasDay Wet h = tt
-
--- the last day and the score of a spell, by its parts
-spell-begun : (b : Bool) (run len : ℕ) (first last score : ℤ) → b ≡ true → run ≡ len
-    → first +ℤ pos len -ℤ pos 1 ≡ last → score ≡ pos len
-    → cond {A = Option (ℤ × ℤ)} b (Some (first +ℤ pos run -ℤ pos 1, pos run)) None ≡ Some (last, score)
-spell-begun b run len first last score begins found on is =
-    ap (λ (t : Bool). cond {A = Option (ℤ × ℤ)} t (Some (first +ℤ pos run -ℤ pos 1, pos run)) None) begins
-    ∙ ap (λ (r : ℕ). Some (first +ℤ pos r -ℤ pos 1, pos r)) found
-    ∙ ap (λ (z : ℤ). Some (z, pos len)) on
-    ∙ ap (λ (z : ℤ). Some (last, z)) (sym is)
-
 -- the candidate that begins on a day with its value is that with this last day and score
 abbrev pub Begins : Shape → List DayValue → ℤ → ℤ → ℤ → Type 0
 Begins sh days first last score = (v : ℤ) × (value_on days first ≡ Some v) ×
     (begun sh days (first, v) ≡ Some (last, score))
-
--- two pairs that are the same have the same parts
-pair_is : (a b last score : ℤ) → ◌≡◌ {A = Option (ℤ × ℤ)} (Some (a, b)) (Some (last, score)) → (last ≡ a) × (score ≡ b)
-pair_is a b last score e =
-    let pair : ◌≡◌ {A = ℤ × ℤ} (a, b) (last, score) = cc in
-    (sym (ap (λ (p : ℤ × ℤ). p.0) pair), sym (ap (λ (p : ℤ × ℤ). p.1) pair))
-
--- the parts of a window that begins on a day
-window_made : (a last score : ℤ) (n : ℕ) (o : Option ℤ)
-    → option_map {U = ℤ × ℤ} (λ total. (a +ℤ pos n -ℤ pos 1, total)) o ≡ Some (last, score)
-    → (last +ℤ pos 1 ≡ a +ℤ pos n) × (o ≡ Some score)
-window_made a last score n None e = absurd cc
-window_made a last score n (Some t) e =
-    let is = pair_is (a +ℤ pos n -ℤ pos 1) t last score e in
-    (omega (arith, ints, is.0), ap (λ (z : ℤ). Some z) (sym is.1))
-
--- the parts of a spell that begins on a day
-spell_made : (b : Bool) (p r last score : ℤ)
-    → cond {A = Option (ℤ × ℤ)} b (Some (p, r)) None ≡ Some (last, score) → (b ≡ true) × (last ≡ p) × (score ≡ r)
-spell_made true p r last score e = let is = pair_is p r last score e in (refl, is.0, is.1)
-spell_made false p r last score e = absurd cc
-
--- a test whose opposite passes fails
-negated : (b : Bool) → not b ≡ true → b ≡ false
-negated true e = absurd cc
-negated false e = refl
 
 module _ (days : List DayValue) (cal : AreDays days) (test : ℤ → Bool) where
   -- a day whose value passes
@@ -102,29 +44,28 @@ module _ (days : List DayValue) (cal : AreDays days) (test : ℤ → Bool) where
       elim (cases_lt (run_from such_day calendar_len a) calendar_len) [
         | inl lt ↦ (counted such_day calendar_len a).stops lt
         | inr le ↦
-            let low = le_of first_day a (both_pass (int_le first_day a) (int_le a last_day)
-            (such-is_day days test a cal first)).0 in
-            ap (λ (o : Option ℤ). option_map_or test o false) (none_past days (a +ℤ pos (run_len such_day a)) cal
-            (omega (arith, ints, le, low)))
+            let low = (day-bounds a (such-is_day days test a cal first)).0 in
+            such-none days test (a +ℤ pos (run_len such_day a))
+            (none_past days (a +ℤ pos (run_len such_day a)) cal (omega (arith, ints, le, low)))
       ]
 
   -- what begins a run is the first of one
   run-is : (a : ℤ) → begins_run such_day a ≡ true
       → IsRun such_day a (a +ℤ pos (run_len such_day a) -ℤ pos 1) (run_len such_day a)
   run-is a e =
-      let both = both_pass (such_day a) (not (such_day (a -ℤ pos 1))) e in
-      let next : (a +ℤ pos (run_len such_day a) -ℤ pos 1) +ℤ pos 1 ≡ a +ℤ pos (run_len such_day a) = omega
-      (arith, ints) in
+      let both = and_parts (such_day a) (not (such_day (a -ℤ pos 1))) e in
+      let next : (a +ℤ pos (run_len such_day a) -ℤ pos 1) +ℤ pos 1 ≡ a +ℤ pos (run_len such_day a) =
+      omega (arith, ints) in
       record {
         nonempty = omega (arith, run-more such_day 3_652_058 a both.0);
         ends = next;
         inside = (counted such_day calendar_len a).inside;
-        before = negated (such_day (a -ℤ pos 1)) both.1;
+        before = not-true (such_day (a -ℤ pos 1)) both.1;
         after = ap such_day next ∙ after_run a both.0;
       }
 
   -- a spell begins on its first day
-  spell-begins : (first last score : ℤ) (len : ℕ) → score ≡ pos len → IsRun such_day first last len
+  pub spell-begins : (first last score : ℤ) (len : ℕ) → score ≡ pos len → IsRun such_day first last len
       → Begins (Spells test) days first last score
   spell-begins first last score len is run =
       let here : first +ℤ pos 0 ≡ first = omega (arith, ints) in
@@ -133,13 +74,9 @@ module _ (days : List DayValue) (cal : AreDays days) (test : ℤ → Bool) where
       let short : len ≤ calendar_len = days-few days test first len cal run.nonempty run.inside in
       let found : run_len such_day first ≡ len = run-found such_day calendar_len len first short run.inside
       (ap such_day (sym run.ends) ∙ run.after) in
-      let begins = both_parts (such_day first) (such_day (first -ℤ pos 1)) passes run.before in
-      let on : first +ℤ pos len -ℤ pos 1 ≡ last = omega (arith, ints, run.ends) in (
-        has.0,
-        has.1,
-        spell-begun (begins_run such_day first) (run_len such_day first) len first last score begins found
-            on is,
-      )
+      let begins = and_from (such_day first) (not (such_day (first -ℤ pos 1))) passes (not_from_false _ run.before) in
+      let on : first +ℤ pos len -ℤ pos 1 ≡ last = omega (arith, ints, run.ends) in
+      (has.0, has.1, rw (begins, found, on, is))
 
 -- a window begins on its first day
 window-begins : (days : List DayValue) (n : ℕ) (first last score : ℤ) → 0 < n → last +ℤ pos 1 ≡ first +ℤ pos n
@@ -147,95 +84,77 @@ window-begins : (days : List DayValue) (n : ℕ) (first last score : ℤ) → 0 
 window-begins days zero first last score some ends total = absurd (omega arith)
 window-begins days (suc n) first last score some ends total =
     let parts = plus-parts (value_on days first) (window_total days n (first +ℤ pos 1)) score total in
-    let on : first +ℤ pos (suc n) -ℤ pos 1 ≡ last = omega (arith, ints, ends) in (
-      parts.0,
-      parts.2,
-      ap (option_map (λ (t : ℤ). (first +ℤ pos (suc n) -ℤ pos 1, t))) total ∙ ap (λ (z : ℤ). Some (z, score)) on,
-    )
+    let on : first +ℤ pos (suc n) -ℤ pos 1 ≡ last = omega (arith, ints, ends) in
+    (parts.0, parts.2, rw (total, on))
 
 -- ---- both ways
 
--- each candidate begins on its first day, which has a value
-pub begins-from_IsCandidate : (days : List DayValue) → Rise days → AreDays days → (sh : Shape) (first last score : ℤ)
-    → HasDay sh → IsCandidate sh days first last score → Begins sh days first last score
-begins-from_IsCandidate days rise cal (Days f) first last score some is =
-    (is.1, is.2, ap (λ (z : ℤ). Some (z, f is.1)) (sym is.0) ∙ ap (λ (z : ℤ). Some (last, z)) (sym is.3))
-begins-from_IsCandidate days rise cal (Windows n) first last score some is =
-    window-begins days n first last score some is.ends
+-- a day is ranked by its value
+day-begins : (days : List DayValue) (f : ℤ → ℤ) (first last score : ℤ) → IsCandidate (Days f) days first last score
+    → Begins (Days f) days first last score
+day-begins days f first last score is = (is.1, is.2, rw (is.0, is.3))
+
+-- each candidate of what can be asked for begins on its first day, which has a value
+pub begins-from_IsCandidate : (days : List DayValue) → Rise days → AreDays days → (sc : Score) (first last score : ℤ)
+    → is_score sc ≡ true → IsCandidate (shape sc) days first last score → Begins (shape sc) days first last score
+begins-from_IsCandidate days rise cal (Highest e) first last score h is = day-begins days (λ v. v) first last score is
+begins-from_IsCandidate days rise cal (Lowest e) first last score h is = day-begins days neg_ℤ first last score is
+begins-from_IsCandidate days rise cal (Sum n e) first last score h is =
+    let some = leb-true 1 n (and_parts _ _ (and_parts (is_within 1 366 n) (is_fall e) h).0).0 in
+    window-begins days n first last score (omega (arith, some)) is.ends
     (days-total days rise n first last is.ends is.whole ∙ ap (λ (z : ℤ). Some z) (sym is.sum))
-begins-from_IsCandidate days rise cal (Spells test) first last score some is =
-    spell-begins days cal test first last score is.0 is.1 is.2
+begins-from_IsCandidate days rise cal Dry first last score h is =
+    spell-begins days cal is_dry first last score is.0 is.1 is.2
+begins-from_IsCandidate days rise cal Wet first last score h is =
+    spell-begins days cal is_wet first last score is.0 is.1 is.2
 
 -- what begins on a day that has its value is a candidate
-pub begun-IsCandidate : (days : List DayValue) → Rise days → AreDays days → (sh : Shape) (x : DayValue) (last score : ℤ)
-    → value_on days x.0 ≡ Some x.1 → begun sh days x ≡ Some (last, score) → IsCandidate sh days x.0 last score
-begun-IsCandidate days rise cal (Days f) x last score has e =
-    let is = pair_is x.0 (f x.1) last score e in (is.0, x.1, has, is.1)
-begun-IsCandidate days rise cal (Windows n) x last score has e =
-    let is = window_made x.0 last score n (window_total days n x.0) e in
-    let days_of = total-days days rise n x.0 last score is.0 is.1 in
-    record { ends = is.0; whole = days_of.0; sum = days_of.1 }
-begun-IsCandidate days rise cal (Spells test) x last score has e =
+pub begun-IsCandidate : (days : List DayValue) → Rise days → AreDays days → (sh : Shape) (x : DayValue) (p : ℤ × ℤ)
+    → value_on days x.0 ≡ Some x.1 → begun sh days x ≡ Some p → IsCandidate sh days x.0 p.0 p.1
+begun-IsCandidate days rise cal (Days f) x p has e =
+    let same : (x.0, f x.1) ≡ p = cc in
+    subst (λ (r : ℤ × ℤ). IsCandidate (Days f) days x.0 r.0 r.1) same (refl, x.1, has, refl)
+begun-IsCandidate days rise cal (Windows n) x p has e =
+    elim (window_total days n x.0) as (λ o. window_total days n x.0 ≡ o
+    → option_map (λ (total : ℤ). (x.0 +ℤ pos n -ℤ pos 1, total)) o ≡ Some p → IsWindow days n x.0 p.0 p.1) [
+      | None ↦ λ _ none. absurd cc
+      | Some t ↦ λ total some.
+          let last : ℤ = x.0 +ℤ pos n -ℤ pos 1 in
+          let ends : last +ℤ pos 1 ≡ x.0 +ℤ pos n = omega (arith, ints) in
+          let are = total-days days rise n x.0 last t ends total in
+          let same : (last, t) ≡ p = cc in
+          subst (λ (r : ℤ × ℤ). IsWindow days n x.0 r.0 r.1) same (record { ends = ends; whole = are.0; sum = are.1 })
+    ] refl e
+begun-IsCandidate days rise cal (Spells test) x p has e =
     let len : ℕ = run_len (is_such test days) x.0 in
-    let is = spell_made (begins_run (is_such test days) x.0) (x.0 +ℤ pos len -ℤ pos 1) (pos len) last score e in
-    (len, is.2, subst (λ (z : ℤ). IsRun (is_such test days) x.0 z len) (sym is.1) (run-is days cal test x.0 is.0))
+    elim (begins_run (is_such test days) x.0) as (λ b. begins_run (is_such test days) x.0 ≡ b
+    → cond b (Some (x.0 +ℤ pos len -ℤ pos 1, pos len)) None ≡ Some p → IsCandidate (Spells test) days x.0 p.0 p.1) [
+      | true ↦ λ begins some.
+          let same : (x.0 +ℤ pos len -ℤ pos 1, pos len) ≡ p = cc in
+          subst (λ (r : ℤ × ℤ). IsCandidate (Spells test) days x.0 r.0 r.1) same
+          (len, refl, run-is days cal test x.0 begins)
+      | false ↦ λ _ none. absurd cc
+    ] refl e
 
 -- ---- the candidates of a series
 
--- nothing and false is false
-and_false : (b : Bool) → (b && false) ≡ false
-and_false true = refl
-and_false false = refl
-
--- beginning alike is an equivalence
-alike-equivalence : IsEquivalence begin_alike
-alike-equivalence = and_equiv (on_equiv (λ c. c.id.0) nat_list_eq_equiv) (on_equiv (λ c. c.first) int_eq_equiv)
-
--- candidates that begin on other days begin apart
-other_days : (a : Candidate) (cs : List Candidate)
-    → AllByRecursion (λ z. int_eq a.first z ≡ false) (map (λ c. c.first) cs)
-    → AllByRecursion (λ b. begin_alike a b ≡ false) cs
-other_days a [] h = tt
-other_days a (b ∷ cs) h =
-    (ap (λ (t : Bool). same_id a.id b.id && t) h.0 ∙ and_false (same_id a.id b.id), other_days a cs h.1)
-
--- where there are no candidates, they are apart
-pub none_apart : AreApart []
-none_apart = IsDistinct-from_count alike-equivalence [] refl
-
--- candidates that begin on days that differ are apart
-apart-from_days : (cs : List Candidate) → IsDistinct int_eq (map (λ c. c.first) cs) → AreApart cs
-apart-from_days [] h = none_apart
-apart-from_days (c ∷ cs) h =
-    IsDistinct-cons begin_alike c cs (other_days c cs (IsDistinct-head int_eq c.first (map (λ x. x.first) cs) h))
-    (apart-from_days cs (IsDistinct-tail int_eq c.first (map (λ x. x.first) cs) h))
-
 -- candidates that rise by first day are apart
 apart-from_rise : (cs : List Candidate) → RiseByFirstDay cs → AreApart cs
-apart-from_rise cs h = apart-from_days cs (IsDistinct-from_sorted int_cmp (map (λ c. c.first) cs) h)
+apart-from_rise cs h = IsDistinct-from_apart begin_alike cs (λ i j d lt within.
+    and_right _ _ (sym (ap (int_eq (get_or cs i d).first) (get_or-map (λ c. c.first) cs j d))
+    ∙ sym (ap (λ (z : ℤ). int_eq z (get_or (map (λ c. c.first) cs) j d.first)) (get_or-map (λ c. c.first) cs i d))
+    ∙ apart_from_distinct int_eq (map (λ c. c.first) cs) i j d.first
+    (IsDistinct-from_sorted int_cmp (map (λ c. c.first) cs) h) lt
+    (omega (arith, length-map cs (λ (c : Candidate). c.first)))))
 
 -- what a candidate is made of
-made : (id : StationId) (day : ℤ) (o : Option (ℤ × ℤ)) (c : Candidate)
+pub made : (id : StationId) (day : ℤ) (o : Option (ℤ × ℤ)) (c : Candidate)
     → option_map (candidate id day) o ≡ Some c
     → (c.id ≡ id) × (c.first ≡ day) × (o ≡ Some (c.last, c.score))
 made id day None c e = absurd cc
 made id day (Some x) c e =
-    let same : candidate id day x ≡ c = cc in (
-      sym (ap (λ (d : Candidate). d.id) same),
-      sym (ap (λ (d : Candidate). d.first) same),
-      ap (λ (d : Candidate). Some (d.last, d.score)) same,
-    )
-
--- what is true of all that is made of some elements
-all_made : (f : DayValue → Option Candidate) (Q : DayValue → Type 0) (P : Candidate → Type 0)
-    → ((x : DayValue) (c : Candidate) → Q x → f x ≡ Some c → P c) → (xs : List DayValue)
-    → AllByRecursion Q xs → AllByRecursion P (filter_map f xs)
-all_made f Q P follows [] h = tt
-all_made f Q P follows (x ∷ xs) h =
-    elim (f x) as (λ o. f x ≡ o → AllByRecursion P (cons_option o (filter_map f xs))) [
-      | None ↦ λ e. all_made f Q P follows xs h.1
-      | Some c ↦ λ e. (follows x c h.0 e, all_made f Q P follows xs h.1)
-    ] refl
+    let same : candidate id day x ≡ c = cc in
+    subst (λ (d : Candidate). (d.id ≡ id) × (d.first ≡ day) × (Some x ≡ Some (d.last, d.score))) same (refl, refl, refl)
 
 -- what stands in a list stands in a longer one
 contains-more : (o : Option Candidate) (cs : List Candidate) (c : Candidate) → Contains cs c
@@ -260,15 +179,15 @@ made_stands f day v c e (x ∷ xs) h =
       | false ↦ λ is found. contains-more (f x) (filter_map f xs) c (made_stands f day v c e xs found)
     ] refl h
 
-module _ (q : Asked) (s : Usable) (series : IsSeries s) where
-  -- the candidate that begins on a day of the series, if one does
-  abbrev from : DayValue → Option Candidate
-  from x = option_map (candidate s.id x.0) (begun (shape q.score) (admitted q s) x)
+-- the candidate that begins on a day of a series, if one does
+abbrev pub begun_on : Asked → Usable → DayValue → Option Candidate
+begun_on q s x = option_map (candidate s.id x.0) (begun (shape q.score) (admitted q s) x)
 
+module _ (q : Asked) (s : Usable) (series : IsSeries s) where
   -- the candidates rise by first day
   pub rise : RiseByFirstDay (candidates q s)
   rise =
-      firsts_rise from (λ x c e. (made s.id x.0 (begun (shape q.score) (admitted q s) x) c e).1)
+      firsts_rise (begun_on q s) (λ x c e. (made s.id x.0 (begun (shape q.score) (admitted q s) x) c e).1)
       (admitted q s) (admitted-rise q s series)
 
   -- no two of them begin on one day
@@ -278,15 +197,17 @@ module _ (q : Asked) (s : Usable) (series : IsSeries s) where
   -- each that is listed is a candidate
   all_listed : AllByRecursion (IsCandidateOf q s) (candidates q s)
   all_listed =
-      all_made from (λ x. value_on (admitted q s) x.0 ≡ Some x.1) (IsCandidateOf q s)
-      (λ x d stands e.
-      let is = made s.id x.0 (begun (shape q.score) (admitted q s) x) d e in (
+      all-made (IsCandidateOf q s) (begun_on q s) (admitted q s)
+      (from_each (λ x. value_on (admitted q s) x.0 ≡ Some x.1)
+      (λ x. (c : Candidate) → begun_on q s x ≡ Some c → IsCandidateOf q s c) (admitted q s)
+      (λ x stands c e.
+      let is = made s.id x.0 (begun (shape q.score) (admitted q s) x) c e in (
         is.0,
-        subst (λ (z : ℤ). IsCandidate (shape q.score) (admitted q s) z d.last d.score) (sym is.1)
+        subst (λ (z : ℤ). IsCandidate (shape q.score) (admitted q s) z c.last c.score) (sym is.1)
             (begun-IsCandidate (admitted q s) (admitted-rise q s series) (admitted-days q s.days)
-            (shape q.score) x d.last d.score stands is.2),
+            (shape q.score) x (c.last, c.score) stands is.2),
       ))
-      (admitted q s) (values_stand (admitted q s) (admitted-rise q s series))
+      (values_stand (admitted q s) (admitted-rise q s series)))
 
   -- what is listed is a candidate
   listed-is : (c : Candidate) → Contains (candidates q s) c → IsCandidateOf q s c
@@ -296,13 +217,12 @@ module _ (q : Asked) (s : Usable) (series : IsSeries s) where
   -- each candidate is listed
   is-listed : IsAsked q → (c : Candidate) → IsCandidateOf q s c → Contains (candidates q s) c
   is-listed asked c is =
-      let has_day = asked-HasDay q.score asked.score in
       let begins = begins-from_IsCandidate (admitted q s) (admitted-rise q s series) (admitted-days q s.days)
-      (shape q.score) c.first c.last c.score has_day is.1 in
-      let made_here : from (c.first, begins.0) ≡ Some c =
+      q.score c.first c.last c.score asked.score is.1 in
+      let made_here : begun_on q s (c.first, begins.0) ≡ Some c =
       ap (option_map (candidate s.id c.first)) begins.2
       ∙ ap (λ (i : StationId). Some (candidate i c.first (c.last, c.score))) (sym is.0) in
-      made_stands from c.first begins.0 c made_here (admitted q s) begins.1
+      made_stands (begun_on q s) c.first begins.0 c made_here (admitted q s) begins.1
 
   -- the candidates are exactly those with the property
   pub exactly : IsAsked q → AreTheCandidates q s (candidates q s)

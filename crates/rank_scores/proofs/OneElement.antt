@@ -1,7 +1,8 @@
 -- A query needs the series of its element alone.
-use Rattle.std.proofs.Common.{◌≡◌, Bool, true, false, cond, List, [], ◌∷◌, filter, Option, Some, refl, ap}
-use Rattle.std.specs.List.{filter_map, find, flat_map}
+use Rattle.std.proofs.Common.{◌≡◌, filter, Option, Some, ap}
+use Rattle.std.specs.List.{filter_map, flat_map}
 use Rattle.std.proofs.Math.Path.{fun_ext}
+use Rattle.std.proofs.lemmas.Bool.{and_parts}
 use Rattle.ghcn_files.specs.declared.element.Element.{Element}
 use Rattle.ghcn_files.specs.declared.station.Station.{Station}
 use Rattle.ghcn_files.specs.declared.station.StationId.{StationId}
@@ -14,29 +15,13 @@ use Rattle.rank_query.specs.Asked.{score_element}
 use Rattle.rank_query.specs.Admits.{admits_station}
 use Rattle.rank_scores.specs.Candidates.{candidates}
 use Rattle.rank_scores.specs.Order.{best, kth_score}
+use Rattle.rank_scores.proofs.Rising.{find-filter}
 use Rattle.rank_scores.specs.OneElement.{SeriesStay, CandidatesStay, MorselsStay, BestStay, KthStays}
-use Rattle.rank_scores.proofs.Rising.{both_pass}
-
--- among what is kept, the same is found, where all that passes the search is kept
-find-filter : {X : Type 0} (test keeps : X → Bool) (xs : List X) → ((x : X) → test x ≡ true → keeps x ≡ true) →
-    find test (filter keeps xs) ≡ find test xs
-find-filter test keeps [] h = refl
-find-filter test keeps (x ∷ xs) h =
-    let rest = find-filter test keeps xs h in
-    elim (keeps x) as (λ k. keeps x ≡ k →
-    find test (cond k (x ∷ filter keeps xs) (filter keeps xs)) ≡ find test (x ∷ xs)) [
-      | true ↦ λ _. ap (cond (test x) (Some x)) rest
-      | false ↦ λ dropped. elim (test x) as (λ t. test x ≡ t →
-          find test (filter keeps xs) ≡ cond t (Some x) (find test xs)) [
-            | true ↦ λ passes. let stays = h x passes in absurd cc
-            | false ↦ λ _. rest
-          ] refl
-    ] refl
 
 -- a station has the same series of an element among those of that element
 series_of-kept : (e : Element) (c : Contents) (id : StationId) → series_of (kept (Some e) c) id e ≡ series_of c id e
 series_of-kept e c id = find-filter (is_series_of id e) (is_of_element e) c.series
-    (λ s passes. (both_pass (same_id s.id id) (same_element s.element e) passes).1)
+    (λ s passes. (and_parts (same_id s.id id) (same_element s.element e) passes).1)
 
 -- so a query is about the same series
 pub series_stay : SeriesStay

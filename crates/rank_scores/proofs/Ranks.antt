@@ -3,15 +3,16 @@ use Rattle.std.proofs.Common.{◌≡◌, ℕ, zero, suc, ◌+◌, Bool, true, fa
 use Rattle.std.specs.Prelude.{slice_get, ◌==◌}
 use Rattle.std.specs.List.{find, filter_map, range_with_len, AllByRecursion, list_any, cons_option}
 use Rattle.std.specs.List.Sorted.{IsPermutation}
-use Rattle.std.specs.Ordering.{is_lt, ordering_reverse}
-use Rattle.std.specs.declared.cmp.Ordering.{Ordering}
-use Rattle.std.specs.declared.cmp.Ordering.TheVariants.{Less, Equal, Greater}
-use Rattle.std.proofs.lemmas.Bool.{eqb-true, eq-eqb}
+use Rattle.std.proofs.lemmas.Bool.{eqb-true, eq-eqb, false_from_ne_true}
 use Rattle.std.proofs.lemmas.Cmp.{nat_list_cmp_total, int_cmp_total, on_total, then_total, back_total}
 use Rattle.std.specs.Cmp.{IsTotalOrder}
 use Rattle.std.proofs.lemmas.List.Elements.{recursion_from_All, All-from_recursion}
 use Rattle.std.proofs.lemmas.List.Sorted.{sum_by-IsPermutation, list_any-IsPermutation, All-permutation, IsPermutation-sym}
 use Rattle.std.proofs.lemmas.List.Sums.{sum_by-cons}
+use Rattle.std.proofs.lemmas.Option.{slice_get-get_or, slice_get_within, get_or_from_slice_get}
+use Rattle.std.proofs.Math.Seq.{take-nil}
+use Rattle.std.proofs.lemmas.List.MinMax.{ranks_by}
+use Rattle.std.proofs.lemmas.Map.Keys.{any_passes_from_place}
 use Rattle.rank_scores.specs.declared.candidate.Candidate.{Candidate}
 use Rattle.rank_scores.specs.Order.{precedes, rank_cmp, rank_in, of_rank, best}
 use Rattle.rank_scores.proofs.Rising.{from_each}
@@ -21,25 +22,13 @@ pub rank_cmp_total : IsTotalOrder rank_cmp
 rank_cmp_total = then_total (on_total (λ c. c.score) (back_total int_cmp_total))
     (then_total (on_total (λ c. c.id.0) nat_list_cmp_total) (on_total (λ c. c.first) int_cmp_total))
 
--- where one of two precedes, the other doesn't
-turned : (o p : Ordering) → o ≡ ordering_reverse p → is_lt p ≡ true → is_lt o ≡ false
-turned o Less e h = ap is_lt e
-turned o Equal e h = ap is_lt e
-turned o Greater e h = absurd cc
-
--- nothing precedes itself, as an answer of a comparison
-own : (o : Ordering) → o ≡ ordering_reverse o → is_lt o ≡ false
-own Less e = absurd cc
-own Equal e = refl
-own Greater e = refl
+-- of two candidates at most one precedes the other
+asym : (a b : Candidate) → precedes a b ≡ true → precedes b a ≡ false
+asym a b h = (ranks_by rank_cmp_total (λ (c : Candidate). c)).one_way a b h
 
 -- no candidate precedes itself
 irrefl : (c : Candidate) → precedes c c ≡ false
-irrefl c = own (rank_cmp c c) (rank_cmp_total.antisymm c c)
-
--- of two candidates at most one precedes the other
-asym : (a b : Candidate) → precedes a b ≡ true → precedes b a ≡ false
-asym a b h = turned (rank_cmp b a) (rank_cmp a b) (rank_cmp_total.antisymm b a) h
+irrefl c = false_from_ne_true (precedes c c) (λ h. let no = asym c c h in absurd cc)
 
 -- each precedes all that stand behind it
 abbrev pub Descends : List Candidate → Type 0
@@ -61,27 +50,17 @@ first_rank x (y ∷ ys) h =
     let here : one_if (precedes y x) ≡ 0 = ap one_if (asym x y h.0) in
     omega (arith, rank-cons x y ys, here, first_rank x ys h.1)
 
--- what is true of each is true of the one at a place
-member : (P : Candidate → Type 0) (xs : List Candidate) (r : ℕ) (c : Candidate)
-    → AllByRecursion P xs → slice_get xs r ≡ Some c → P c
-member P [] r c h e = absurd cc
-member P (x ∷ xs) zero c h e =
-    let same : x ≡ c = cc in
-    subst P same h.0
-member P (x ∷ xs) (suc r) c h e = member P xs r c h.1 e
-
 -- the rank is the place
 rank_at : (xs : List Candidate) (r : ℕ) (c : Candidate) → Descends xs → slice_get xs r ≡ Some c → rank_in xs c ≡ r
 rank_at [] r c h e = absurd cc
 rank_at (x ∷ xs) zero c h e =
     let same : x ≡ c = cc in
-    let here : one_if (precedes x c) ≡ 0 = ap (λ (d : Candidate). one_if (precedes x d)) (sym same)
-    ∙ ap one_if (irrefl x) in
-    let behind : rank_in xs c ≡ 0 = ap (rank_in xs) (sym same) ∙ first_rank x xs h.0 in
-    omega (arith, rank-cons c x xs, here, behind)
+    subst (λ (d : Candidate). rank_in (x ∷ xs) d ≡ 0) same
+    (omega (arith, rank-cons x x xs, ap one_if (irrefl x), first_rank x xs h.0))
 rank_at (x ∷ xs) (suc r) c h e =
-    let here : one_if (precedes x c) ≡ 1 = ap one_if (member (λ y. precedes x y ≡ true) xs r c h.0 e) in
-    omega (arith, rank-cons c x xs, here, rank_at xs r c h.1 e)
+    let before : precedes x c ≡ true = subst (λ (d : Candidate). precedes x d ≡ true) (get_or_from_slice_get xs r c c e)
+    (All-from_recursion (λ d. precedes x d ≡ true) xs h.0 r c (slice_get_within xs r c e)) in
+    omega (arith, rank-cons c x xs, ap one_if before, rank_at xs r c h.1 e)
 
 -- the rank doesn't depend on the order in which a set is listed
 rank-permuted : (all xs : List Candidate) (c : Candidate) → IsPermutation all xs → rank_in all c ≡ rank_in xs c
@@ -106,26 +85,6 @@ finds_none p (y ∷ ys) h = ap (λ (b : Bool). cond b (Some y) (find p ys)) h.0 
 abbrev Placed : List Candidate → Candidate → Type 0
 Placed xs c = (i : ℕ) × (slice_get xs i ≡ Some c)
 
--- each element has a place
-all_placed : (xs : List Candidate) → AllByRecursion (Placed xs) xs
-all_placed [] = tt
-all_placed (x ∷ xs) = ((0, refl), from_each (Placed xs) (Placed (x ∷ xs)) xs (λ c h. (suc h.0, h.1)) (all_placed xs))
-
--- a test that the element at a place passes is passed by some element
-any_at : (p : Candidate → Bool) (xs : List Candidate) (r : ℕ) (c : Candidate)
-    → slice_get xs r ≡ Some c → p c ≡ true → list_any p xs ≡ true
-any_at p [] r c e h = absurd cc
-any_at p (x ∷ xs) zero c e h =
-    let same : x ≡ c = cc in
-    ap (λ (b : Bool). b || list_any p xs) (ap p same ∙ h)
-any_at p (x ∷ xs) (suc r) c e h =
-    elim (p x) as (λ b. (b || list_any p xs) ≡ true) [ true ↦ refl | false ↦ any_at p xs r c e h ]
-
--- nothing can be taken of nothing
-take-nil : (k : ℕ) → take {A = Candidate} k [] ≡ []
-take-nil zero = refl
-take-nil (suc k) = refl
-
 -- one more is taken
 take-more : (xs : List Candidate) (a k : ℕ)
     → cons_option (slice_get xs a) (take k (drop (suc a) xs)) ≡ take (suc k) (drop a xs)
@@ -137,8 +96,8 @@ take-more (x ∷ xs) (suc a) k = take-more xs a k
 module _ (all xs : List Candidate) (perm : IsPermutation all xs) (down : Descends xs) where
   -- each of the set has a place in the list
   placed_in : AllByRecursion (Placed xs) all
-  placed_in = recursion_from_All (Placed xs) all (All-permutation (Placed xs) xs all
-      (IsPermutation-sym all xs perm) (All-from_recursion (Placed xs) xs (all_placed xs)))
+  placed_in = recursion_from_All (Placed xs) all (All-permutation (Placed xs) xs all (IsPermutation-sym all xs perm)
+      (λ k d lt. (k, slice_get-get_or xs k d lt)))
 
   -- the rank within the set is the place in the list
   rank_placed : (c : Candidate) (i : ℕ) → slice_get xs i ≡ Some c → rank_in all c ≡ i
@@ -154,15 +113,12 @@ module _ (all xs : List Candidate) (perm : IsPermutation all xs) (down : Descend
       elim (slice_get xs r) as (λ o. slice_get xs r ≡ o → of_rank all r ≡ o) [
         | None ↦ λ e. finds_none (λ c. rank_in all c == r) all
             (from_each (Placed xs) (λ c. (rank_in all c == r) ≡ false) all
-            (λ c placed. elim (rank_in all c == r) as (λ b. (rank_in all c == r) ≡ b → b ≡ false) [
-              | true ↦ λ h. let here = at_rank r c placed h in absurd cc
-              | false ↦ λ h. refl
-            ] refl) placed_in)
+            (λ c placed. false_from_ne_true _ (λ h. let here = at_rank r c placed h in absurd cc)) placed_in)
         | Some c ↦ λ e. finds (λ d. rank_in all d == r) c all
             (from_each (Placed xs) (λ d. (rank_in all d == r) ≡ true → d ≡ c) all
             (λ d placed h. let here = at_rank r d placed h in cc) placed_in)
             (list_any-IsPermutation (λ d. rank_in all d == r) all xs perm
-            ∙ any_at (λ d. rank_in all d == r) xs r c e (eq-eqb _ _ (rank_placed c r e)))
+            ∙ any_passes_from_place (λ d. rank_in all d == r) xs r c e (eq-eqb _ _ (rank_placed c r e)))
       ] refl
 
   -- the candidates of some ranks are those at these places

@@ -1,13 +1,16 @@
 -- Days that rise, look-ups among them, and what begins on them.
-use Rattle.std.proofs.Common.{◌≡◌, Bool, true, false, cond, List, [], ◌∷◌, map, Option, Some, None, refl, ap, ◌∙◌, filter, ℤ, ◌<ℤ◌, ◌≤ℤ◌, arith}
-use Rattle.std.specs.Prelude.{◌&&◌, int_lt, int_le}
+use Rattle.std.proofs.Common.{◌≡◌, Bool, true, false, cond, List, [], ◌∷◌, map, Option, Some, None, refl, sym, ap, ◌∙◌, filter, ℤ, ◌<ℤ◌, ◌≤ℤ◌, arith}
+use Rattle.std.specs.Prelude.{int_lt, int_le}
 use Rattle.std.specs.List.{AllByRecursion, filter_map, find, cons_option}
 use Rattle.std.specs.List.Sorted.{IsStrictlySortedBy}
 use Rattle.std.specs.Option.{option_map}
+use Rattle.std.specs.Cmp.{int_cmp_is}
 use Rattle.std.specs.Ordering.{int_cmp, int_eq}
-use Rattle.std.specs.declared.cmp.Ordering.TheVariants.{Less, Equal, Greater}
+use Rattle.std.specs.declared.cmp.Ordering.TheVariants.{Less}
+use Rattle.std.proofs.lemmas.Bool.{and_parts, false_from_ne_true}
 use Rattle.std.proofs.lemmas.Bool.Decides.{Decides-int_eq}
 use Rattle.std.proofs.lemmas.Int.{ints}
+use Rattle.std.proofs.lemmas.List.Elements.{recursion_from_All, All-from_recursion, All-filter, All-map}
 use Rattle.ghcn_series.specs.Series.{DayValue, Usable, IsSeries, value_on, is_by_day}
 use Rattle.rank_query.specs.Asked.{Asked}
 use Rattle.rank_query.specs.Admits.{admits_day}
@@ -33,45 +36,48 @@ pub from_each : {X : Type 0} (P R : X → Type 0) (xs : List X) → ((x : X) →
 from_each P R [] f p = tt
 from_each P R (x ∷ xs) f p = (f x p.0, from_each P R xs f p.1)
 
+-- what is true of every element is true of all
+pub each : {X : Type 0} (P : X → Type 0) (xs : List X) → ((x : X) → P x) → AllByRecursion P xs
+each P [] f = tt
+each P (x ∷ xs) f = (f x, each P xs f)
+
 -- what is true of all is true of those that pass a test
 pub all-filter : {X : Type 0} (P : X → Type 0) (t : X → Bool) (xs : List X) → AllByRecursion P xs
     → AllByRecursion P (filter t xs)
-all-filter P t [] h = tt
-all-filter P t (x ∷ xs) h =
-    elim (t x) as (λ b. AllByRecursion P (cond b (x ∷ filter t xs) (filter t xs))) [
-      | true ↦ (h.0, all-filter P t xs h.1)
-      | false ↦ all-filter P t xs h.1
-    ]
+all-filter P t xs h = recursion_from_All P (filter t xs) (All-filter t P xs (All-from_recursion P xs h))
 
--- two tests that both pass
-pub both_pass : (a b : Bool) → (a && b) ≡ true → (a ≡ true) × (b ≡ true)
-both_pass true b e = (refl, e)
-both_pass false b e = absurd cc
+-- what is true of what each gives is true of all that is given
+all-map : {X Y : Type 0} (P : Y → Type 0) (f : X → Y) (xs : List X) → AllByRecursion (λ x. P (f x)) xs
+    → AllByRecursion P (map f xs)
+all-map P f xs h = recursion_from_All P (map f xs) (All-map P f xs (All-from_recursion (λ x. P (f x)) xs h))
+
+-- and the other way round
+pub all-mapped : {X Y : Type 0} (P : Y → Type 0) (f : X → Y) (xs : List X) → AllByRecursion P (map f xs)
+    → AllByRecursion (λ x. P (f x)) xs
+all-mapped P f [] h = tt
+all-mapped P f (x ∷ xs) h = (h.0, all-mapped P f xs h.1)
+
+-- what follows for what each makes is true of all that is made
+pub all-made : {X Y : Type 0} (P : Y → Type 0) (f : X → Option Y) (xs : List X)
+    → AllByRecursion (λ x. (y : Y) → f x ≡ Some y → P y) xs → AllByRecursion P (filter_map f xs)
+all-made P f [] h = tt
+all-made P f (x ∷ xs) h =
+    elim (f x) as (λ o. f x ≡ o → AllByRecursion P (cons_option o (filter_map f xs))) [
+      | None ↦ λ e. all-made P f xs h.1
+      | Some y ↦ λ e. (h.0 y e, all-made P f xs h.1)
+    ] refl
 
 -- what a test of two numbers says
 lt_of : (a b : ℤ) → int_lt a b ≡ true → a <ℤ b
 lt_of a b e = grind (arith, ints)
 
--- what a test of two numbers answers
-lt_test : (a b : ℤ) → a <ℤ b → int_lt a b ≡ true
-lt_test a b h = grind (arith, ints)
-
--- the order of two numbers
-less : (a b : ℤ) → a <ℤ b → int_cmp a b ≡ Less
-less a b h = ap (λ (t : Bool). cond t Less (cond (int_lt b a) Greater Equal)) (lt_test a b h)
-
 -- what a test of two numbers says
 pub le_of : (a b : ℤ) → int_le a b ≡ true → a ≤ℤ b
 le_of a b e = grind (arith, ints)
 
--- a test that doesn't pass fails
-pub not_true : (t : Bool) → (t ≡ true → ⊥) → t ≡ false
-not_true true h = absurd (h refl)
-not_true false h = refl
-
 -- two different days aren't taken for one
 pub differ : (x a : ℤ) → (x ≡ a → ⊥) → int_eq x a ≡ false
-differ x a unlike = not_true (int_eq x a) (λ e. unlike ((Decides-int_eq x a).0 e))
+differ x a unlike = false_from_ne_true (int_eq x a) (λ e. unlike ((Decides-int_eq x a).0 e))
 
 -- ---- days that rise
 
@@ -80,7 +86,7 @@ pub rise-from_by_day : (days : List DayValue) → is_by_day days ≡ true → Ri
 rise-from_by_day [] e = tt
 rise-from_by_day (x ∷ []) e = (tt, tt)
 rise-from_by_day (x ∷ y ∷ ys) e =
-    let both = both_pass (int_lt x.0 y.0) (is_by_day (y ∷ ys)) e in
+    let both = and_parts (int_lt x.0 y.0) (is_by_day (y ∷ ys)) e in
     let rest : Rise (y ∷ ys) = rise-from_by_day (y ∷ ys) both.1 in
     let first : x.0 <ℤ y.0 = lt_of x.0 y.0 both.0 in
     ((first, from_each (λ z. y.0 <ℤ z.0) (λ z. x.0 <ℤ z.0) ys (λ z l. omega (arith, ints, first, l)) rest.0), rest)
@@ -99,6 +105,22 @@ pub admitted-rise : (q : Asked) (s : Usable) → IsSeries s → Rise (admitted q
 admitted-rise q s series = rise-filter (λ x. admits_day q x.0) s.days (rise-from_by_day s.days series.by_day)
 
 -- ---- look-ups
+
+-- among what is kept, the same is found, where all that passes the search is kept
+pub find-filter : {X : Type 0} (test keeps : X → Bool) (xs : List X) → ((x : X) → test x ≡ true → keeps x ≡ true) →
+    find test (filter keeps xs) ≡ find test xs
+find-filter test keeps [] h = refl
+find-filter test keeps (x ∷ xs) h =
+    let rest = find-filter test keeps xs h in
+    elim (keeps x) as (λ k. keeps x ≡ k →
+    find test (cond k (x ∷ filter keeps xs) (filter keeps xs)) ≡ find test (x ∷ xs)) [
+      | true ↦ λ _. ap (cond (test x) (Some x)) rest
+      | false ↦ λ dropped. elim (test x) as (λ t. test x ≡ t →
+          find test (filter keeps xs) ≡ cond t (Some x) (find test xs)) [
+            | true ↦ λ passes. let stays = h x passes in absurd cc
+            | false ↦ λ _. rest
+          ] refl
+    ] refl
 
 -- behind a pair of another day, the day has the value that it had
 pub value_on-other : (x : DayValue) (xs : List DayValue) (a : ℤ) → (x.0 ≡ a → ⊥) → value_on (x ∷ xs) a ≡ value_on xs a
@@ -145,17 +167,6 @@ same_made f g (x ∷ xs) h =
 
 module _ (f : DayValue → Option Candidate)
     (begins : (x : DayValue) (c : Candidate) → f x ≡ Some c → c.first ≡ x.0) where
-  -- what begins on days that are later than one begins later
-  firsts_later : (day : ℤ) (xs : List DayValue) → AllByRecursion (λ y. day <ℤ y.0) xs
-      → AllByRecursion (λ z. int_cmp day z ≡ Less) (map (λ c. c.first) (filter_map f xs))
-  firsts_later day [] h = tt
-  firsts_later day (x ∷ xs) h =
-      elim (f x) as (λ o. f x ≡ o
-      → AllByRecursion (λ z. int_cmp day z ≡ Less) (map (λ c. c.first) (cons_option o (filter_map f xs)))) [
-        | None ↦ λ e. firsts_later day xs h.1
-        | Some c ↦ λ e. (ap (int_cmp day) (begins x c e) ∙ less day x.0 h.0, firsts_later day xs h.1)
-      ] refl
-
   -- what begins on days that rise rises by first day
   pub firsts_rise : (xs : List DayValue) → Rise xs → IsStrictlySortedBy int_cmp (map (λ c. c.first) (filter_map f xs))
   unfolding IsStrictlySortedBy
@@ -165,9 +176,11 @@ module _ (f : DayValue → Option Candidate)
       → IsStrictlySortedBy int_cmp (map (λ c. c.first) (cons_option o (filter_map f xs)))) [
         | None ↦ λ e. firsts_rise xs h.1
         | Some c ↦ λ e. (
-          from_each (λ z. int_cmp x.0 z ≡ Less) (λ z. int_cmp c.first z ≡ Less)
-              (map (λ c. c.first) (filter_map f xs))
-              (λ z l. ap (λ (d : ℤ). int_cmp d z) (begins x c e) ∙ l) (firsts_later x.0 xs h.0),
+          all-map (λ z. int_cmp c.first z ≡ Less) (λ d. d.first) (filter_map f xs)
+              (all-made (λ d. int_cmp c.first d.first ≡ Less) f xs
+              (from_each (λ y. x.0 <ℤ y.0) (λ y. (d : Candidate) → f y ≡ Some d → int_cmp c.first d.first ≡ Less) xs
+              (λ y l d g. sym (int_cmp_is c.first d.first Less (omega (arith, ints, begins x c e, begins y d g, l))))
+              h.0)),
           firsts_rise xs h.1,
         )
       ] refl

@@ -1,19 +1,20 @@
 -- Totals of windows: as sums of the first of some days, and of the days from a first to a last one.
-use Rattle.std.proofs.Common.{◌≡◌, ℕ, zero, suc, ◌+◌, ◌*◌, Bool, true, false, cond, List, [], ◌∷◌, drop, Option, Some, None, refl, sym, ap, ◌∙◌, arith, ℤ, pos, neg_ℤ, ◌+ℤ◌, ◌-ℤ◌, ◌≤ℤ◌, ◌<ℤ◌, ◌⊎◌, inl, inr, ◌<◌, length, subst}
-use Rattle.std.specs.Prelude.{◌&&◌, ◌||◌, int_le}
-use Rattle.std.specs.List.{AllByRecursion, find, list_all, cons_option}
+use Rattle.std.proofs.Common.{◌≡◌, ℕ, zero, suc, ◌+◌, ◌*◌, Bool, true, false, cond, List, [], ◌∷◌, drop, Option, Some, None, refl, sym, ap, ◌∙◌, arith, ℤ, pos, neg_ℤ, ◌+ℤ◌, ◌-ℤ◌, ◌≤ℤ◌, ◌<ℤ◌, ◌⊎◌, inl, inr, ◌<◌, ◌≤◌, length, subst}
+use Rattle.std.specs.Prelude.{◌&&◌, int_le}
+use Rattle.std.specs.List.{AllByRecursion, list_all}
 use Rattle.std.specs.Option.{option_map}
 use Rattle.std.specs.Ordering.{int_eq}
+use Rattle.std.proofs.lemmas.Bool.{and_parts, and_from}
 use Rattle.std.proofs.lemmas.Bool.Decides.{Decides-int_eq}
 use Rattle.std.proofs.lemmas.Int.{ints}
+use Rattle.std.proofs.lemmas.List.Elements.{recursion_from_All, filter_passes}
 use Rattle.ghcn_fields.specs.Days.{is_day}
 use Rattle.ghcn_files.specs.declared.element.Element.{Element}
-use Rattle.ghcn_files.specs.Elements.{may_be_negative}
 use Rattle.ghcn_series.specs.Series.{DayValue, Usable, IsSeries, value_on, is_value}
 use Rattle.rank_query.specs.Asked.{Asked}
 use Rattle.rank_query.specs.Admits.{admits_day}
 use Rattle.rank_scores.specs.Candidates.{plus, window_total, admitted, days_within, sum_of_values}
-use Rattle.rank_scores.proofs.Rising.{Rise, all-filter, both_pass, le_of, from_each, value_on-other, value_on-here, value_on-later, not_true}
+use Rattle.rank_scores.proofs.Rising.{Rise, rise-filter, all-filter, le_of, from_each, from_both, find-filter, value_on-other, value_on-here, value_on-later}
 
 -- ---- sums that there may be
 
@@ -124,94 +125,81 @@ total-leading (suc n) a (x ∷ xs) rise from =
 le_test : (a b : ℤ) → a ≤ℤ b → int_le a b ≡ true
 le_test a b h = grind (arith, ints)
 
--- tests of which each passes where the other does are one
-alike : (s t : Bool) → (s ≡ true → t ≡ true) → (t ≡ true → s ≡ true) → s ≡ t
-alike true t h k = sym (h refl)
-alike false true h k = k refl
-alike false false h k = refl
-
 -- the day lies from a to b
 abbrev inside : ℤ → ℤ → DayValue → Bool
 inside a b x = int_le a x.0 && int_le x.0 b
 
--- where b comes before a there are none
-none-within : (a b : ℤ) (xs : List DayValue) → b <ℤ a → days_within a b xs ≡ []
-none-within a b [] lt = refl
-none-within a b (x ∷ xs) lt =
-    let out = not_true (inside a b x) (λ e. let both = both_pass (int_le a x.0) (int_le x.0 b) e in
-    omega (arith, ints, lt, le_of a x.0 both.0, le_of x.0 b both.1)) in
-    ap (λ (t : Bool). cond t (x ∷ days_within a b xs) (days_within a b xs)) out ∙ none-within a b xs lt
-
--- the day a with its value, if it has one
-abbrev day_with : ℤ → Option ℤ → Option DayValue
-day_with a o = option_map (λ v. (a, v)) o
-
--- the days from a to b are the day a, if it has a value, and those from the next day on
-split_first : (a b : ℤ) (xs : List DayValue) → Rise xs → a ≤ℤ b
-    → days_within a b xs ≡ cons_option (day_with a (value_on xs a)) (days_within (a +ℤ pos 1) b xs)
-split_first a b [] rise le = refl
-split_first a b (x ∷ xs) rise le =
-    let here : List DayValue = days_within a b xs in
-    let next : List DayValue = days_within (a +ℤ pos 1) b xs in
-    let rest : here ≡ cons_option (day_with a (value_on xs a)) next = split_first a b xs rise.1 le in
-    let later = λ (low : a ≤ℤ x.0). value_on-later xs a
-    (from_each (λ y. x.0 <ℤ y.0) (λ y. a <ℤ y.0) xs (λ y l. omega (arith, ints, low, l)) rise.0) in
-    let without = λ (none : value_on xs a ≡ None). ap (λ (l : List DayValue). x ∷ l)
-    (rest ∙ ap (λ (o : Option ℤ). cons_option (day_with a o) next) none) in
-    elim (int_eq x.0 a) as (λ t. int_eq x.0 a ≡ t → days_within a b (x ∷ xs)
-    ≡ cons_option (day_with a (option_map (λ (y : DayValue). y.1) (cond t (Some x) (find (λ y. int_eq y.0 a) xs))))
-    (days_within (a +ℤ pos 1) b (x ∷ xs))) [
-      | true ↦ λ is.
-          let on : x.0 ≡ a = (Decides-int_eq x.0 a).0 is in
-          let out = not_true (inside (a +ℤ pos 1) b x) (λ e.
-          omega (arith, ints, on, le_of (a +ℤ pos 1) x.0 (both_pass (int_le (a +ℤ pos 1) x.0) (int_le x.0 b) e).0)) in
-          ap (λ (t : Bool). cond (t && int_le x.0 b) (x ∷ here) here) (le_test a x.0 (omega (arith, ints, on)))
-          ∙ ap (λ (t : Bool). cond t (x ∷ here) here) (le_test x.0 b (omega (arith, ints, on, le)))
-          ∙ without (later (omega (arith, ints, on))) ∙ ap (λ (d : ℤ). (d, x.1) ∷ next) on
-          ∙ sym (ap (λ (t : Bool). (a, x.1) ∷ cond t (x ∷ next) next) out)
-      | false ↦ λ is.
-          let unlike : x.0 ≡ a → ⊥ = λ on. let yes = (Decides-int_eq x.0 a).1 on in cc in
-          let same = alike (int_le a x.0) (int_le (a +ℤ pos 1) x.0)
-          (λ e. le_test (a +ℤ pos 1) x.0 (omega (arith, ints, unlike, le_of a x.0 e)))
-          (λ e. le_test a x.0 (omega (arith, ints, le_of (a +ℤ pos 1) x.0 e))) in
-          ap (λ (t : Bool). cond (t && int_le x.0 b) (x ∷ here) here) same
-          ∙ elim (inside (a +ℤ pos 1) b x) as (λ t. inside (a +ℤ pos 1) b x ≡ t
-          → cond t (x ∷ here) here ≡ cons_option (day_with a (value_on xs a)) (cond t (x ∷ next) next)) [
-            | true ↦ λ e.
-                let none = later (omega (
-                  arith,
-                  ints,
-                  le_of (a +ℤ pos 1) x.0
-                      (both_pass (int_le (a +ℤ pos 1) x.0) (int_le x.0 b) e).0,
-                )) in
-                without none ∙ sym (ap (λ (o : Option ℤ). cons_option (day_with a o) (x ∷ next)) none)
-            | false ↦ λ e. rest
-          ] refl
-    ] refl
+-- a window within some days has its total among these
+total-within : (days : List DayValue) (first last : ℤ) (n : ℕ) (a : ℤ) → first ≤ℤ a
+    → (a +ℤ pos n) ≤ℤ (last +ℤ pos 1) → window_total (days_within first last days) n a ≡ window_total days n a
+total-within days first last zero a low high = refl
+total-within days first last (suc n) a low high =
+    let kept = λ (x : DayValue) (e : int_eq x.0 a ≡ true). let on = (Decides-int_eq x.0 a).0 e in
+    and_from (int_le first x.0) (int_le x.0 last) (le_test first x.0 (omega (arith, ints, on, low)))
+    (le_test x.0 last (omega (arith, ints, on, high))) in
+    ap (λ (o : Option DayValue). plus (option_map (λ (y : DayValue). y.1) o)
+    (window_total (days_within first last days) n (a +ℤ pos 1)))
+    (find-filter (λ x. int_eq x.0 a) (inside first last) days kept)
+    ∙ ap (plus (value_on days a)) (total-within days first last n (a +ℤ pos 1) (omega (arith, ints, low))
+    (omega (arith, ints, high)))
 
 -- there are n days with the total as the sum of their values, or there are fewer and there is no total
 abbrev Summed : ℕ → List DayValue → Option ℤ → Type 0
 Summed n days total = ((total ≡ Some (sum_of_values days)) × (length days ≡ n)) ⊎ ((total ≡ None) × (length days < n))
 
--- with one day more, if it has a value
-one_more : (n : ℕ) (a : ℤ) (v : Option ℤ) (days : List DayValue) (total : Option ℤ) → Summed n days total
-    → Summed (suc n) (cons_option (day_with a v) days) (plus v total)
-one_more n a None days total (inl h) = inr (refl, omega (arith, h.1))
-one_more n a None days total (inr h) = inr (refl, omega (arith, h.1))
-one_more n a (Some v) days total (inl h) = inl (ap (plus (Some v)) h.0, ap suc h.1)
-one_more n a (Some v) days total (inr h) = inr (ap (plus (Some v)) h.0, omega (arith, h.1))
+-- there are no more than n
+at_most : (n : ℕ) (days : List DayValue) (total : Option ℤ) → Summed n days total → length days ≤ n
+at_most n days total (inl h) = omega (arith, h.1)
+at_most n days total (inr h) = omega (arith, h.1)
+
+-- so it is with one day more
+one_more : (n : ℕ) (x : DayValue) (days : List DayValue) (total : Option ℤ) → Summed n days total
+    → Summed (suc n) (x ∷ days) (plus (Some x.1) total)
+one_more n x days total (inl h) = inl (ap (plus (Some x.1)) h.0, ap suc h.1)
+one_more n x days total (inr h) = inr (ap (plus (Some x.1)) h.0, omega (arith, h.1))
+
+-- the day is one of the n from a on
+abbrev Lies : ℕ → ℤ → DayValue → Type 0
+Lies n a x = (a ≤ℤ x.0) × (x.0 <ℤ (a +ℤ pos n))
+
+-- so it is for rising days that lie there
+leading-summed : (n : ℕ) (a : ℤ) (xs : List DayValue) → Rise xs → AllByRecursion (Lies n a) xs
+    → Summed n xs (leading n a xs)
+leading-summed zero a [] rise h = inl (refl, refl)
+leading-summed zero a (x ∷ xs) rise h = absurd (omega (arith, ints, h.0.0, h.0.1))
+leading-summed (suc n) a [] rise h = inr (refl, omega arith)
+leading-summed (suc n) a (x ∷ xs) rise h =
+    let next : AllByRecursion (Lies n (a +ℤ pos 1)) xs = from_both (λ y. x.0 <ℤ y.0) (Lies (suc n) a)
+    (Lies n (a +ℤ pos 1)) xs (λ y l k. (omega (arith, ints, h.0.0, l), omega (arith, ints, k.1))) rise.0 h.1 in
+    elim (int_eq x.0 a) as (λ t. int_eq x.0 a ≡ t
+    → Summed (suc n) (x ∷ xs) (cond t (plus (Some x.1) (leading n (a +ℤ pos 1) xs)) None)) [
+      | true ↦ λ is. one_more n x xs (leading n (a +ℤ pos 1) xs) (leading-summed n (a +ℤ pos 1) xs rise.1 next)
+      | false ↦ λ is.
+          let unlike : x.0 ≡ a → ⊥ = λ on. let yes = (Decides-int_eq x.0 a).1 on in cc in
+          inr (
+            refl,
+            omega (
+              arith,
+              at_most n (x ∷ xs) (leading n (a +ℤ pos 1) (x ∷ xs))
+                  (leading-summed n (a +ℤ pos 1) (x ∷ xs) rise
+                  ((omega (arith, ints, unlike, h.0.0), omega (arith, ints, h.0.1)), next)),
+            ),
+          )
+    ] refl
 
 -- so it is for each window
 summed : (days : List DayValue) → Rise days → (n : ℕ) (a b : ℤ) → b +ℤ pos 1 ≡ a +ℤ pos n
     → Summed n (days_within a b days) (window_total days n a)
-summed days rise zero a b ends =
-    let none = none-within a b days (omega (arith, ints)) in
-    inl (ap (λ (l : List DayValue). Some (sum_of_values l)) (sym none), ap length none)
-summed days rise (suc n) a b ends =
-    subst (λ (l : List DayValue). Summed (suc n) l (window_total days (suc n) a))
-    (sym (split_first a b days rise (omega (arith, ints))))
-    (one_more n a (value_on days a) (days_within (a +ℤ pos 1) b days) (window_total days n (a +ℤ pos 1))
-    (summed days rise n (a +ℤ pos 1) b (omega (arith, ints))))
+summed days rise n a b ends =
+    let all : List DayValue = days_within a b days in
+    let rises : Rise all = rise-filter (inside a b) days rise in
+    let lie : AllByRecursion (Lies n a) all = from_each (λ x. inside a b x ≡ true) (Lies n a) all
+    (λ x e. let both = and_parts (int_le a x.0) (int_le x.0 b) e in
+    (le_of a x.0 both.0, omega (arith, ints, ends, le_of x.0 b both.1)))
+    (recursion_from_All (λ x. inside a b x ≡ true) all (filter_passes (inside a b) days)) in
+    let from : AllByRecursion (λ y. a ≤ℤ y.0) all = from_each (Lies n a) (λ y. a ≤ℤ y.0) all (λ y l. l.0) lie in
+    subst (Summed n all) (sym (total-leading n a all rises from)
+    ∙ total-within days a b n a (omega (arith, ints)) (omega (arith, ints, ends))) (leading-summed n a all rises lie)
 
 -- a window with a total has its n days, and the total is the sum of their values
 pub total-days : (days : List DayValue) → Rise days → (n : ℕ) (a b t : ℤ) → b +ℤ pos 1 ≡ a +ℤ pos n
@@ -244,29 +232,26 @@ pub leading-small : (n : ℕ) (a t : ℤ) (xs : List DayValue) → AllByRecursio
 leading-small zero a t xs h e = let none : pos 0 ≡ t = cc in (omega (arith, ints), omega (arith, ints))
 leading-small (suc n) a t [] h e = absurd cc
 leading-small (suc n) a t (x ∷ xs) h e =
-    let parts = leading-first n a t (x ∷ xs) e in
-    let same : parts.1 ≡ xs = let lists = parts.2 in cc in
-    let own : parts.0 ≡ x = let lists = parts.2 in cc in
-    let value : parts.0.1 ≡ x.1 = ap (λ (y : DayValue). y.1) own in
-    let left : leading n (a +ℤ pos 1) xs ≡ Some (t -ℤ x.1) =
-    ap (leading n (a +ℤ pos 1)) (sym same) ∙ parts.4 ∙ ap (λ (z : ℤ). Some (t -ℤ z)) value in
-    let rest = leading-small n (a +ℤ pos 1) (t -ℤ x.1) xs h.1 left in
-    let low = rest.0 in
-    let high = rest.1 in
-    (omega (arith, ints, h.0.low), omega (arith, ints, h.0.high))
+    elim (int_eq x.0 a) as (λ b. cond b (plus (Some x.1) (leading n (a +ℤ pos 1) xs)) None ≡ Some t
+    → (neg_ℤ (pos (suc n * 99_999)) ≤ℤ t) × (t ≤ℤ pos (suc n * 99_999))) [
+      | true ↦ λ found.
+          let parts = plus-parts (Some x.1) (leading n (a +ℤ pos 1) xs) t found in
+          let own : x.1 ≡ parts.0 = cc in
+          let rest = leading-small n (a +ℤ pos 1) parts.1 xs h.1 parts.3 in
+          (omega (arith, ints, own, parts.4, rest.0, h.0.low), omega (arith, ints, own, parts.4, rest.1, h.0.high))
+      | false ↦ λ found. absurd cc
+    ] e
 
 -- the values of a series are small
 series-small : (e : Element) (days : List DayValue) → list_all (λ x. is_day x.0 && is_value e x.1) days ≡ true
     → AllByRecursion (λ x. IsSmall x.1) days
 series-small e [] h = tt
 series-small e (x ∷ xs) h =
-    let all = both_pass (is_day x.0 && is_value e x.1) (list_all (λ x. is_day x.0 && is_value e x.1) xs) h in
-    let value = (both_pass (is_day x.0) (is_value e x.1) all.0).1 in
-    let limits = (both_pass (int_le (neg_ℤ (pos 9998)) x.1 && int_le x.1 (pos 99_999))
-    (may_be_negative e || int_le (pos 0) x.1) value).0 in
-    let both = both_pass (int_le (neg_ℤ (pos 9998)) x.1) (int_le x.1 (pos 99_999)) limits in
-    let low = le_of (neg_ℤ (pos 9998)) x.1 both.0 in
-    (record { low = omega (arith, ints); high = le_of x.1 (pos 99_999) both.1 }, series-small e xs all.1)
+    let all = and_parts (is_day x.0 && is_value e x.1) (list_all (λ x. is_day x.0 && is_value e x.1) xs) h in
+    let limits : (int_le (neg_ℤ (pos 9998)) x.1 ≡ true) × (int_le x.1 (pos 99_999) ≡ true) =
+    and_parts _ _ (and_parts _ _ (and_parts (is_day x.0) (is_value e x.1) all.0).1).0 in
+    let low = le_of (neg_ℤ (pos 9998)) x.1 limits.0 in
+    (record { low = omega (arith, ints); high = le_of x.1 (pos 99_999) limits.1 }, series-small e xs all.1)
 
 -- and so are those of its admitted days
 pub admitted-small : (q : Asked) (s : Usable) → IsSeries s → AllByRecursion (λ x. IsSmall x.1) (admitted q s)

@@ -1,21 +1,20 @@
 use Rattle.std.proofs.Common.{ap}
 use Rattle.std.specs.Option.{option_map}
 use Rattle.rank_scores.specs.declared.candidate.Candidate.{Candidate}
-use Rattle.rank_scores.proofs.Ranks.{Descends, best-is, of_rank-is}
-use Rattle.rank_scores.proofs.Listing.{descends, apart-permuted}
+use Rattle.rank_scores.proofs.Ranks.{best-is, of_rank-is}
+use Rattle.rank_scores.proofs.Listing.{descends}
 use Rattle.rank_scores.proofs.best.best_first.Goals as goal
 
 -- the first k of the sorted candidates are the best k
 pub returns-clause-best : goal.returns-clause-best
 returns-clause-best c = λ k.
-    let down : Descends c.sort.new.self.items = descends c.sort.new.self.items c.in_ok-sort.ensures.sorted
-    (apart-permuted c.args.candidates.items c.sort.new.self.items c.sort.ensures.permutation c.requires) in
-    best-is c.args.candidates.items c.sort.new.self.items c.sort.ensures.permutation down k
+    best-is c.args.candidates.items c.sort.new.self.items c.sort.ensures.permutation
+    (descends c.args.candidates.items c.sort.new.self.items c.sort.ensures.permutation c.in_ok-sort.ensures.sorted
+    c.requires) k
 
 -- the score of each place is the score of its rank
 pub returns-clause-kth : goal.returns-clause-kth
-returns-clause-kth c = λ rank.
-    let down : Descends c.sort.new.self.items = descends c.sort.new.self.items c.in_ok-sort.ensures.sorted
-    (apart-permuted c.args.candidates.items c.sort.new.self.items c.sort.ensures.permutation c.requires) in
-    ap (option_map (λ (x : Candidate). x.score))
-    (of_rank-is c.args.candidates.items c.sort.new.self.items c.sort.ensures.permutation down rank)
+returns-clause-kth c = λ rank. ap (option_map (λ (x : Candidate). x.score))
+    (of_rank-is c.args.candidates.items c.sort.new.self.items c.sort.ensures.permutation
+    (descends c.args.candidates.items c.sort.new.self.items c.sort.ensures.permutation c.in_ok-sort.ensures.sorted
+    c.requires) rank)
