@@ -1,8 +1,8 @@
 -- No candidate has a score above the bound.
 use Rattle.std.proofs.Common.{◌≡◌, ℕ, zero, suc, ◌+◌, ◌*◌, ◌<◌, ◌≤◌, Bool, true, false, cond, List, [], ◌∷◌, map}
 use Rattle.std.proofs.Common.{filter, Option, Some, None, refl, sym, ap, ◌∙◌, subst, arith, ℤ, pos, negsuc, neg_ℤ, ◌≤ℤ◌}
-use Rattle.std.proofs.Common.{◌<ℤ◌, ◌+ℤ◌, ◌*ℤ◌}
-use Rattle.std.specs.Prelude.{◌&&◌, ◌||◌, int_le, int_lt, ◌-ℤ◌}
+use Rattle.std.proofs.Common.{◌+ℤ◌, ◌*ℤ◌}
+use Rattle.std.specs.Prelude.{◌&&◌, ◌||◌, int_le, ◌-ℤ◌}
 use Rattle.std.specs.List.{AllByRecursion, Contains, filter_map, cons_option, list_all, find}
 use Rattle.std.specs.Option.{option_map}
 use Rattle.std.specs.Ordering.{int_eq}
@@ -25,10 +25,11 @@ use Rattle.rank_scores.specs.Morsels.{IsAbove}
 use Rattle.rank_blocks.specs.Blocks.{total, blocks_total, is_among, is_reached, days_reached}
 use Rattle.rank_blocks.specs.Bounds.{blocks_of_window}
 use Rattle.rank_blocks.specs.Greatest.{IsGreatest, IsScore, IsRunLength, IsSumBound, IsBoundFor, IsBound}
-use Rattle.rank_blocks.proofs.Members.{from_each, all-passing, stands, total-least, total-wider, filter-both}
-use Rattle.rank_blocks.proofs.DayTests.{both_pass, pass_both, int_le-true, int_lt-true, le-int_le, lt-int_lt}
+use Rattle.rank_blocks.proofs.Members.{from_each, each, all-kept, all-passing, stands, total-least, total-wider, filter-both}
+use Rattle.rank_blocks.proofs.Members.{total-cons, part-wider}
+use Rattle.rank_blocks.proofs.DayTests.{both_pass, int_le-true}
 use Rattle.rank_blocks.proofs.DayValues.{block-holds, block-rises}
-use Rattle.rank_blocks.proofs.WindowTotals.{among-from}
+use Rattle.rank_blocks.proofs.WindowTotals.{among-from, among-parts, before-among}
 use Rattle.rank_blocks.proofs.ReachedDays.{admitted-reached, such-wider, value_on-among}
 
 -- ---- what begins on a day
@@ -74,35 +75,20 @@ module _ (such : ℤ → Bool) where
   unfolding run_from
   run-more n a e = ap (λ (b : Bool). elim b as (λ _. ℕ) [ true ↦ suc (run_from such n (a +ℤ pos 1)) | false ↦ 0 ]) e
 
-  -- a number that fails has no run
-  run-ends : (n : ℕ) (a : ℤ) → such a ≡ false → run_from such (suc n) a ≡ 0
-  unfolding run_from
-  run-ends n a e = ap (λ (b : Bool). elim b as (λ _. ℕ) [ true ↦ suc (run_from such n (a +ℤ pos 1)) | false ↦ 0 ]) e
-
-  -- counted up to none there is no run
-  run-zero : (a : ℤ) → run_from such 0 a ≡ 0
-  unfolding run_from
-  run-zero a = refl
-
-  -- the numbers of a run that is one longer pass too
-  inside : (n i : ℕ) (a : ℤ) → i < run_from such (suc n) a → such a ≡ true
-      → ((i : ℕ) (b : ℤ) → i < run_from such n b → such (b +ℤ pos i) ≡ true) → such (a +ℤ pos i) ≡ true
-  inside n zero a lt e rest =
-      let same : a +ℤ pos 0 ≡ a = omega (arith, ints) in
-      ap such same ∙ e
-  inside n (suc i) a lt e rest =
-      let same : a +ℤ pos (suc i) ≡ (a +ℤ pos 1) +ℤ pos i = omega (arith, ints) in
-      let more = run-more n a e in
-      ap such same ∙ rest i (a +ℤ pos 1) (omega arith)
-
   -- the numbers of a run pass
   pub run-inside : (n i : ℕ) (a : ℤ) → i < run_from such n a → such (a +ℤ pos i) ≡ true
-  run-inside zero i a lt = let none = run-zero a in absurd (omega arith)
+  unfolding run_from
+  run-inside zero i a lt = absurd (omega arith)
   run-inside (suc n) i a lt =
-      elim (such a) as (λ b. such a ≡ b → such (a +ℤ pos i) ≡ true) [
-        | false ↦ λ e. let none = run-ends n a e in absurd (omega arith)
-        | true ↦ λ e. inside n i a lt e (λ j b. run-inside n j b)
-      ] refl
+      elim (such a) as (λ b. such a ≡ b
+      → i < elim b as (λ _. ℕ) [ true ↦ suc (run_from such n (a +ℤ pos 1)) | false ↦ 0 ] → such (a +ℤ pos i) ≡ true) [
+        | false ↦ λ e lt. absurd (omega arith)
+        | true ↦ λ e. elim i as (λ i. i < suc (run_from such n (a +ℤ pos 1)) → such (a +ℤ pos i) ≡ true) [
+          | zero ↦ λ lt. let same : a +ℤ pos 0 ≡ a = omega (arith, ints) in ap such same ∙ e
+          | suc j ↦ λ lt. let same : a +ℤ pos (suc j) ≡ (a +ℤ pos 1) +ℤ pos j = omega (arith, ints) in
+              ap such same ∙ run-inside n j (a +ℤ pos 1) (omega arith)
+        ]
+      ] refl lt
 
   -- a run is at least as long as so many numbers that pass one after another
   pub run-at_least : (len n : ℕ) (a : ℤ) → len ≤ n → ((i : ℕ) → i < len → such (a +ℤ pos i) ≡ true)
@@ -126,11 +112,6 @@ spell-score true first len e is = let pair : (first +ℤ pos len -ℤ pos 1, pos
     ap (λ (p : ℤ × ℤ). p.1) pair
 spell-score false first len e is = absurd cc
 
--- nothing is said of a day by itself
-all-days : (P : DayValue → Type 0) (days : List DayValue) → ((x : DayValue) → P x) → AllByRecursion P days
-all-days P [] h = tt
-all-days P (x ∷ xs) h = (h x, all-days P xs h)
-
 -- a spell is no longer than the longest run
 pub spells-below : (test : ℤ → Bool) (q : Asked) (s : Usable) (z : ℤ) → IsGreatest
     (IsRunLength (is_such test (days_reached q s))) z → AllByRecursion (λ c. c.score ≤ℤ z)
@@ -138,7 +119,7 @@ pub spells-below : (test : ℤ → Bool) (q : Asked) (s : Usable) (z : ℤ) → 
 spells-below test q s z of_z =
     let such : ℤ → Bool = is_such test (admitted q s) in
     candidates-below s.id (begun (Spells test) (admitted q s)) z (admitted q s)
-    (all-days (λ x. (e : ℤ × ℤ) → begun (Spells test) (admitted q s) x ≡ Some e → e.1 ≤ℤ z) (admitted q s)
+    (each (λ x. (e : ℤ × ℤ) → begun (Spells test) (admitted q s) x ≡ Some e → e.1 ≤ℤ z) (admitted q s)
     (λ x e is.
     let score = spell-score (begins_run such x.0) x.0 (run_len such x.0) e is in
     let below = of_z.is_most (pos (run_len such x.0)) (
@@ -186,7 +167,6 @@ window-times days z most (suc n) a t e =
     let parts = plus-parts (value_on days a) (window_total days n (a +ℤ pos 1)) t e in
     let rest = window-times days z most n (a +ℤ pos 1) parts.1 parts.3 in
     let here : parts.0 ≤ℤ z = value_on-among (λ (d v : ℤ). v ≤ℤ z) days a parts.0 most parts.2 in
-    let sum = parts.4 in
     let times = times-suc n z in
     omega (arith, ints)
 
@@ -198,14 +178,14 @@ total-of_both p u w days falls wider =
     subst (λ (ys : List DayValue). total (map (λ x. x.1) ys) ≤ℤ total (map (λ x. x.1) (filter w days)))
     (sym (filter-both p u days))
     (total-wider (λ x. x.1) (λ x. u x && p x) w days falls
-    (all-days (λ x. (u x && p x) ≡ true → w x ≡ true) days (λ x e. wider x (both_pass (u x) (p x) e).1)))
+    (each (λ x. (u x && p x) ≡ true → w x ≡ true) days (λ x e. wider x (both_pass (u x) (p x) e).1)))
 
 -- those of some days that pass a test have at most the total of those that pass a wider one
 total-wide : (p w : DayValue → Bool) (days : List DayValue) → AreFallen days
     → ((x : DayValue) → p x ≡ true → w x ≡ true)
     → total (map (λ x. x.1) (filter p days)) ≤ℤ total (map (λ x. x.1) (filter w days))
 total-wide p w days falls wider =
-    total-wider (λ x. x.1) p w days falls (all-days (λ x. p x ≡ true → w x ≡ true) days wider)
+    total-wider (λ x. x.1) p w days falls (each (λ x. p x ≡ true → w x ≡ true) days wider)
 
 -- no total of such days is below zero
 pub total-fallen : (p : DayValue → Bool) (days : List DayValue) → AreFallen days
@@ -219,59 +199,24 @@ module _ (p w : DayValue → Bool) (a : ℤ) (wider : (x : DayValue) → p x ≡
       → (v +ℤ total (map (λ x. x.1) (filter p days))) ≤ℤ total (map (λ x. x.1) (filter w days))
   day-added [] v falls e = absurd cc
   day-added (x ∷ xs) v falls e =
-      let here = falls.0 in
+      let of_p = total-cons (λ (y : DayValue). y.1) p x xs in
+      let of_w = total-cons (λ (y : DayValue). y.1) w x xs in
       elim (int_eq x.0 a) as (λ t. int_eq x.0 a ≡ t → option_map (λ (y : DayValue). y.1)
       (cond t (Some x) (find (λ y. int_eq y.0 a) xs)) ≡ Some v
       → (v +ℤ total (map (λ x. x.1) (filter p (x ∷ xs)))) ≤ℤ total (map (λ x. x.1) (filter w (x ∷ xs)))) [
         | true ↦ λ is found.
             let day : x.0 ≡ a = (Decides-int_eq x.0 a).0 is in
             let value : x.1 ≡ v = cc in
-            let rest = total-wide p w xs falls.1 wider in
-            let without : total (map (λ x. x.1) (filter p (x ∷ xs))) ≡ total (map (λ x. x.1) (filter p xs)) =
-            ap (λ (b : Bool). total (map (λ x. x.1) (cond b (x ∷ filter p xs) (filter p xs)))) (not_p x day) in
-            let with_day : total (map (λ x. x.1) (filter w (x ∷ xs))) ≡ x.1 +ℤ total (map (λ x. x.1) (filter w xs)) =
-            ap (λ (b : Bool). total (map (λ x. x.1) (cond b (x ∷ filter w xs) (filter w xs)))) (is_w x day) in
-            omega (arith, ints)
+            let without = ap (λ (t : Bool). cond t x.1 (pos 0)) (not_p x day) in
+            let with_day = ap (λ (t : Bool). cond t x.1 (pos 0)) (is_w x day) in
+            omega (arith, ints, total-wide p w xs falls.1 wider)
         | false ↦ λ is found.
-            let rest = day-added xs v falls.1 found in
-            elim (p x) as (λ b. p x ≡ b
-            → (v +ℤ total (map (λ x. x.1) (cond b (x ∷ filter p xs) (filter p xs)))) ≤ℤ total
-            (map (λ x. x.1) (filter w (x ∷ xs)))) [
-              | false ↦
-                  λ k. elim (w x) as (λ b. (v +ℤ total (map (λ x. x.1) (filter p xs))) ≤ℤ total
-                  (map (λ x. x.1) (cond b (x ∷ filter w xs) (filter w xs)))) [
-                    | true ↦ omega (arith, ints)
-                    | false ↦ rest
-                  ]
-              | true ↦ λ k.
-                  let P : Bool → Type 0 = λ b. (v +ℤ (x.1 +ℤ total (map (λ x. x.1) (filter p xs)))) ≤ℤ total
-                  (map (λ x. x.1) (cond b (x ∷ filter w xs) (filter w xs))) in
-                  subst P (sym (wider x k)) (omega (arith, ints))
-            ] refl
+            omega (arith, ints, part-wider (p x) (w x) x.1 falls.0 (wider x), day-added xs v falls.1 found)
       ] refl e
 
 -- the day is one of n days from a on
 abbrev in_window : ℤ → ℕ → DayValue → Bool
-in_window a n x = int_le a x.0 && int_lt x.0 (a +ℤ pos n)
-
--- what that tells
-window-parts : (a : ℤ) (n : ℕ) (x : DayValue) → in_window a n x ≡ true → (a ≤ℤ x.0) × (x.0 <ℤ (a +ℤ pos n))
-window-parts a n x e =
-    let both = both_pass (int_le a x.0) (int_lt x.0 (a +ℤ pos n)) e in
-    (int_le-true a x.0 both.0, int_lt-true x.0 (a +ℤ pos n) both.1)
-
--- and what makes it so
-window-from : (a : ℤ) (n : ℕ) (x : DayValue) → a ≤ℤ x.0 → x.0 <ℤ (a +ℤ pos n) → in_window a n x ≡ true
-window-from a n x low high = pass_both (int_le a x.0) (int_lt x.0 (a +ℤ pos n)) (le-int_le a x.0 low)
-    (lt-int_lt x.0 (a +ℤ pos n) high)
-
--- a day before a window isn't in it
-window-before : (a : ℤ) (n : ℕ) (x : DayValue) → x.0 <ℤ a → in_window a n x ≡ false
-window-before a n x lt =
-    elim (in_window a n x) as (λ t. in_window a n x ≡ t → t ≡ false) [
-      | true ↦ λ e. let parts = window-parts a n x e in absurd (let low = parts.0 in omega (arith, ints))
-      | false ↦ λ e. refl
-    ] refl
+in_window a n x = is_among a n x.0
 
 -- the sum of a window is at most the total of its days
 window-total : (days : List DayValue) → AreFallen days → (n : ℕ) (a t : ℤ) → window_total days n a ≡ Some t
@@ -283,12 +228,11 @@ window-total days falls zero a t e =
 window-total days falls (suc n) a t e =
     let parts = plus-parts (value_on days a) (window_total days n (a +ℤ pos 1)) t e in
     let rest = window-total days falls n (a +ℤ pos 1) parts.1 parts.3 in
-    let sum = parts.4 in
     let added = day-added (in_window (a +ℤ pos 1) n) (in_window a (suc n)) a
-    (λ x inside. let both = window-parts (a +ℤ pos 1) n x inside in let low = both.0 in let high = both.1 in
-    window-from a (suc n) x (omega (arith, ints)) (omega (arith, ints)))
-    (λ x on. window-before (a +ℤ pos 1) n x (omega (arith, ints)))
-    (λ x on. window-from a (suc n) x (omega (arith, ints)) (omega (arith, ints)))
+    (λ x inside. let both = among-parts (a +ℤ pos 1) n x.0 inside in let low = both.0 in let high = both.1 in
+    among-from a (suc n) x.0 (omega (arith, ints)) (omega (arith, ints)))
+    (λ x on. before-among (a +ℤ pos 1) n x.0 (omega (arith, ints)))
+    (λ x on. among-from a (suc n) x.0 (omega (arith, ints)) (omega (arith, ints)))
     days parts.0 falls parts.2 in
     omega (arith, ints)
 
@@ -296,9 +240,8 @@ window-total days falls (suc n) a t e =
 window-blocks : (a : ℤ) (n : ℕ) (x : DayValue) → in_window a n x ≡ true → is_among (block_of a) (blocks_of_window n)
     (block_of x.0) ≡ true
 window-blocks a n x e =
-    let parts = window-parts a n x e in
+    let parts = among-parts a n x.0 e in
     let low = parts.0 in
-    let high = parts.1 in
     let first = block-holds a in
     let day = block-holds x.0 in
     among-from (block_of a) (blocks_of_window n) (block_of x.0) (block-rises a x.0 low) (omega (arith, ints))
@@ -319,11 +262,6 @@ most-admitted q s z of_z =
     (all-passing Stands (λ x. admits_day q x.0) s.days
     (stands (λ y. y.1) (λ x. is_reached q.period (block_of x.0)) s.days))
 
--- what is true of all is true of those that pass
-all-kept : (P : DayValue → Type 0) (t : DayValue → Bool) (xs : List DayValue) → AllByRecursion P xs
-    → AllByRecursion P (filter t xs)
-all-kept P t xs h = from_each (λ x. P x × (t x ≡ true)) P (filter t xs) (λ x both. both.0) (all-passing P t xs h)
-
 -- the sum of a window is at most the bound of sums
 pub windows-below : (n : ℕ) (q : Asked) (s : Usable) (z : ℤ) → AreFallen s.days → IsSumBound q s n z
     → AllByRecursion (λ c. c.score ≤ℤ z) (candidates_among s.id (Windows n) (admitted q s))
@@ -342,7 +280,6 @@ windows-below n q s z falls of_z =
     (λ y. is_among (block_of x.0) (blocks_of_window n) (block_of y.0)) s.days falls (window-blocks x.0 n) in
     let greatest = of_z.greatest_total.is_most (blocks_total s.days (blocks_of_window n) (block_of x.0))
     (block_of x.0, admitted-reached q x.0 h.1, refl) in
-    let smaller = of_z.smaller in
     omega (arith, ints, clamps))
     (all-passing All (λ x. admits_day q x.0) s.days falls))
 

@@ -23,7 +23,8 @@ use Rattle.rank_blocks.specs.Summaries.{HasBits, IsSummary, IsSummaryOf}
 use Rattle.rank_blocks.specs.Values.{IsValue, IsWordOf}
 use Rattle.rank_blocks.proofs.Members.{all-passing, pick, stands}
 use Rattle.rank_blocks.proofs.DayTests.{distance}
-use Rattle.rank_blocks.proofs.DayValues.{value_on-between, value_on-behind, own-values, block-holds, block-of_place}
+use Rattle.rank_blocks.proofs.DayValues.{other-int_eq, value_on-between, value_on-behind, own-values, block-holds}
+use Rattle.rank_blocks.proofs.DayValues.{block-of_place}
 use Rattle.rank_blocks.proofs.ReachedDays.{value_on-among}
 
 -- ---- words
@@ -71,19 +72,9 @@ AreValues days b values = (j : ℕ) → j < 32 → get_or values j (pos 0) ≡ u
 pub place-in : (b d : ℤ) → block_of d ≡ b → (j : ℕ) × (j < 32) × (d ≡ block_start b +ℤ pos j)
 place-in b d is =
     let holds = block-holds d in
-    let low = holds.0 in
-    let high = holds.1 in
     let far = distance (block_start b) d (omega (arith, ints)) in
     let at = far.1 in
     (far.0, omega (arith, ints), at)
-
--- days that aren't equal are told apart
-other-day : (a b : ℤ) → (a ≡ b → ⊥) → int_eq a b ≡ false
-other-day a b other =
-    elim (int_eq a b) as (λ t. int_eq a b ≡ t → t ≡ false) [
-      | true ↦ λ e. absurd (other ((Decides-int_eq a b).0 e))
-      | false ↦ λ e. refl
-    ] refl
 
 -- the total of a block's days is that of its values
 pub block-total : (days : List DayValue) (b : ℤ) (values : List ℤ) → AreRising days → length values ≡ 32
@@ -106,7 +97,7 @@ block-total (x ∷ xs) b values rise size are =
           block-total xs b values rise.1 size
           (λ j lt.
           let other : int_eq x.0 (block_start b +ℤ pos j) ≡ false =
-          other-day x.0 (block_start b +ℤ pos j)
+          other-int_eq x.0 (block_start b +ℤ pos j)
           (λ same. let in_block : int_eq (block_of x.0) b ≡ true = (Decides-int_eq (block_of x.0) b).1
           (ap block_of same ∙ block-of_place b j lt) in both_ways (int_eq (block_of x.0) b) in_block e) in
           are j lt ∙ ap (λ (o : Option ℤ). unwrap_or o (pos 0)) (value_on-behind x xs (block_start b +ℤ pos j) other))
@@ -214,7 +205,6 @@ module _ (days : List DayValue) (rise : AreRising days) (b : ℤ) (word : ℕ) (
             is_most = λ y h.
                 let of_y = value-of neg_ℤ y h in
                 let least = extremes.is_least of_y.0 of_y.1 of_y.2 in
-                let made_of = of_y.3 in
                 omega (arith, ints);
           };
           total_value = are ∙ sym of_m.total_value;

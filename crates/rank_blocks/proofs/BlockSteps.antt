@@ -1,6 +1,6 @@
 -- One more summary of a list, as a loop comes to it.
 use Rattle.std.proofs.Common.{◌≡◌, ℕ, ◌+◌, ◌-◌, ◌*◌, ◌<◌, ◌≤◌, Bool, true, false, cond, List, [], ◌∷◌, ◌++◌, map}
-use Rattle.std.proofs.Common.{length, get_or, take, drop, Option, Some, None, refl, sym, ap, ◌∙◌, subst, arith, ℤ, pos}
+use Rattle.std.proofs.Common.{length, get_or, take, drop, Option, Some, None, sym, ap, ◌∙◌, subst, arith, ℤ, pos}
 use Rattle.std.proofs.Common.{neg_ℤ, ◌≤ℤ◌, ◌<ℤ◌, ◌+ℤ◌, to_z, of_z, w64}
 use Rattle.std.specs.Int.{int_max}
 use Rattle.std.specs.Prelude.{int_le}
@@ -8,7 +8,7 @@ use Rattle.rank_blocks.specs.Blocks.{is_among}
 use Rattle.rank_blocks.specs.Greatest.{IsGreatest}
 use Rattle.std.specs.Option.{IfSome, unwrap_or}
 use Rattle.std.proofs.lemmas.Int.{ints}
-use Rattle.std.proofs.lemmas.List.{append-nil, drop_all, drop_more, take_all, length-drop}
+use Rattle.std.proofs.lemmas.List.{append-nil, map-append, drop_all, drop_more, take_all, length-drop}
 use Rattle.std.proofs.lemmas.List.Elements.{All-from_recursion, All-get_or, filter_more}
 use Rattle.ghcn_fields.specs.Sorting.{greatest}
 use Rattle.rank_blocks.specs.declared.range.BlockRange.{BlockRange}
@@ -51,11 +51,6 @@ behind-left ms i lt h =
 
 -- ---- the greatest day
 
--- what is made of some summaries and one more
-map-push : (f : Summary → ℤ) (ms : List Summary) (m : Summary) → map f (ms ++ m ∷ []) ≡ map f ms ++ f m ∷ []
-map-push f [] m = refl
-map-push f (x ∷ xs) m = ap (λ zs. f x ∷ zs) (map-push f xs m)
-
 -- what a measure makes of the summaries before a place whose blocks lie in the range
 abbrev pub made : (Summary → ℤ) → BlockRange → List Summary → ℕ → List ℤ
 made f r ms i = map f (summaries_in r (take i ms))
@@ -74,7 +69,7 @@ module _ (f : Summary → ℤ) (r : BlockRange) (ms : List Summary) (i : ℕ) (l
       → f (block_at ms i) ≡ z → ((zs : List ℤ) → greatest zs ≡ found → greatest (zs ++ z ∷ []) ≡ Some next)
       → greatest (made f r ms (i + 1)) ≡ Some next
   greatest-in found z next holds so_far is greater =
-      ap greatest (made-next true holds ∙ map-push f (summaries_in r (take i ms)) (block_at ms i)
+      ap greatest (made-next true holds ∙ map-append f (summaries_in r (take i ms)) (block_at ms i ∷ [])
       ∙ ap (λ (y : ℤ). made f r ms i ++ y ∷ []) is)
       ∙ greater (made f r ms i) so_far
 
@@ -86,8 +81,6 @@ module _ (f : Summary → ℤ) (r : BlockRange) (ms : List Summary) (i : ℕ) (l
 -- a score that days can have is read as it was written
 pub near-read : (z : ℤ) → IsNear z → to_z w64 (of_z w64 z) ≡ z
 near-read z near =
-    let low = near.low in
-    let high = near.high in
     omega (arith, ints)
 
 -- a score that was found is one that days can have, and so is none
@@ -114,10 +107,6 @@ module _ (ms : List Summary) (possible : ArePossible ms) (w : ℕ) (first : ℤ)
       × ((sum +ℤ (block_at ms i).total) ≤ℤ pos (68_719_476_736 * (i + 1)))
   sum-bounds =
       let is = possible-at ms i lt possible in
-      let least = is.least_total in
-      let most = is.greatest_total in
-      let low = far.low in
-      let high = far.high in
       (omega (arith, ints), omega (arith, ints))
 
   -- a block of the window is added
@@ -155,7 +144,6 @@ module _ (ms : List Summary) (possible : ArePossible ms) (w : ℕ) (first : ℤ)
             (λ m lt. omega (arith, ints)) behind,
       ) in
       let left = left-total in
-      let whole = far.whole in
       omega (arith, ints)
 
 -- nor behind the last block
@@ -163,7 +151,6 @@ pub sum-end : (ms : List Summary) (w : ℕ) (first : ℤ) (i : ℕ) (sum : ℤ) 
     → sum ≡ summaries_total ms w first
 sum-end ms w first i sum end far =
     let none = ap (λ ks. summaries_total ks w first) (drop_all i ms end) in
-    let whole = far.whole in
     omega (arith, ints)
 
 -- ---- the greatest total

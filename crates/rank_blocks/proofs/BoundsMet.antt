@@ -51,8 +51,6 @@ period-rises (Some p) h =
 -- nor that of its range
 pub range-rises : (r : BlockRange) (q : Asked) → IsRangeOf r q → IsAsked q → r.first ≤ℤ r.last
 range-rises r q of asked =
-    let first = of.first in
-    let last = of.last in
     let le = period-rises q.period asked.period in
     omega (arith, ints)
 
@@ -108,7 +106,6 @@ module _ (r : BlockRange) (q : Asked) (s : Usable) (ms : List Summary) (of : IsR
       from_each (IsSummary s.days) (λ m. pos 0 ≤ℤ m.total) ms
       (λ m is.
       let fall = total-fallen (λ x. int_eq (block_of x.0) m.number) s.days falls in
-      let total_is = is.values.total_value in
       omega (arith, ints)) are.each
 
   -- the greatest total, from the summaries

@@ -1,14 +1,17 @@
 -- The bound as it is computed is the bound by what it is greatest of, and there is but one.
 use Rattle.std.proofs.Common.{◌≡◌, ℕ, zero, suc, ◌+◌, ◌<◌, ◌≤◌, Bool, true, false, cond, List, [], ◌∷◌, map, filter}
-use Rattle.std.proofs.Common.{length, ◌⊎◌, inl, inr, Option, refl, sym, ap, ◌∙◌, subst, arith, ℤ, pos, neg_ℤ, ◌≤ℤ◌}
+use Rattle.std.proofs.Common.{length, ◌⊎◌, inl, inr, Option, refl, sym, ap, ◌∙◌, subst, arith, ℤ, pos, neg_ℤ}
 use Rattle.std.proofs.Common.{◌+ℤ◌, ◌-ℤ◌, ◌*ℤ◌}
-use Rattle.std.specs.Prelude.{◌&&◌, int_le}
+use Rattle.std.specs.Prelude.{◌&&◌}
 use Rattle.std.specs.List.{AllByRecursion, Contains, flat_map, range_with_len, list_all}
 use Rattle.std.specs.Option.{unwrap_or}
 use Rattle.std.specs.Int.{int_min}
 use Rattle.std.proofs.lemmas.Int.{ints}
-use Rattle.std.proofs.lemmas.List.Elements.{Contains-append_left, Contains-append_right}
-use Rattle.std.proofs.Math.Nat.{le-max_left, le-max_right, max-eq_left, max-eq_right}
+use Rattle.std.proofs.lemmas.List.{length-map}
+use Rattle.std.proofs.lemmas.List.Elements.{Contains-append_left, Contains-append_right, All-contains, All-from_recursion}
+use Rattle.std.proofs.lemmas.List.FromFn.{length-range_with_len, get_or-range_with_len}
+use Rattle.std.proofs.Math.ListN.{get_or-map}
+use Rattle.std.proofs.Math.Nat.{le-max_left, le-max_right}
 use Rattle.ghcn_fields.specs.Days.{block_of, is_day, first_day, last_day}
 use Rattle.ghcn_files.specs.declared.element.Element.{Element}
 use Rattle.ghcn_series.specs.Series.{DayValue, Usable, IsSeries, value_on, is_value}
@@ -22,12 +25,12 @@ use Rattle.rank_blocks.specs.Blocks.{days_reached, is_reached, total, blocks_tot
 use Rattle.rank_blocks.specs.Bounds.{greatest_by, blocks_of_window, first_blocks, greatest_total, spell_bound}
 use Rattle.rank_blocks.specs.Bounds.{bound_for, bound, IsAskedOf}
 use Rattle.rank_blocks.specs.Greatest.{IsGreatest, IsScore, IsBlocksTotal, IsRunLength, IsSumBound, IsBoundFor, IsBound}
-use Rattle.rank_blocks.proofs.DayTests.{at_most_or_more, both_pass, int_le-true, distance}
-use Rattle.rank_blocks.proofs.Members.{from_each, all-passing, pick, stands, contains-first, contains-behind}
-use Rattle.rank_blocks.proofs.Members.{contains-cases, greatest-IsGreatest, greatest-exists, greatest-unique}
-use Rattle.rank_blocks.proofs.Members.{nothing_said}
+use Rattle.rank_blocks.proofs.DayTests.{both_pass, between, distance}
+use Rattle.rank_blocks.proofs.Members.{from_each, each, all-kept, all-passing, pick, stands}
+use Rattle.rank_blocks.proofs.Members.{greatest-IsGreatest, greatest-exists, greatest-unique}
 use Rattle.rank_blocks.proofs.WindowTotals.{among-parts}
-use Rattle.rank_blocks.proofs.ReachedDays.{admitted-reached, such-kept, such-has, value_on-among}
+use Rattle.rank_blocks.proofs.LongestRuns.{max-one}
+use Rattle.rank_blocks.proofs.ReachedDays.{admitted-reached, such-has, value_on-among}
 use Rattle.rank_blocks.proofs.Above.{AreFallen, total-fallen, run-inside, run-at_least, sums-fall}
 
 -- ---- there is but one
@@ -86,28 +89,16 @@ day-greatest f q s some =
 
 -- a number from a on, before n more, stands among those n
 contains-range : (a n i : ℕ) → i < n → Contains (range_with_len a n) (a + i)
-contains-range a zero i lt = absurd (omega arith)
-contains-range a (suc n) zero lt = contains-first a (a + 0) (range_with_len (a + 1) n) (omega arith)
-contains-range a (suc n) (suc i) lt =
-    let rest = contains-range (a + 1) n i (omega arith) in
-    let same : a + 1 + i ≡ a + suc i = omega arith in
-    let P : ℕ → Type 0 = λ k. Contains (range_with_len (a + 1) n) k in
-    contains-behind a (a + suc i) (range_with_len (a + 1) n) (subst P same rest)
+contains-range a n i lt =
+    (i, omega (arith, length-range_with_len a n), get_or-range_with_len a n i (a + i) lt)
 
 -- what a measure makes of an element stands in what it makes of all
-contains-map : {X Y : Type 0} (f : X → Y) (xs : List X) → AllByRecursion (λ x. Contains (map f xs) (f x)) xs
-contains-map f [] = tt
-contains-map f (x ∷ xs) = (
-  contains-first (f x) (f x) (map f xs) refl,
-  from_each (λ y. Contains (map f xs) (f y)) (λ y. Contains (map f (x ∷ xs)) (f y)) xs
-      (λ y h. contains-behind (f x) (f y) (map f xs) h) (contains-map f xs),
-)
+contains-map : {X Y : Type 0} (f : X → Y) (xs : List X) (x : X) → Contains xs x → Contains (map f xs) (f x)
+contains-map f xs x h = (h.0, omega (arith, h.1, length-map xs f), get_or-map f xs h.0 x ∙ ap f h.2)
 
 -- what an element stands for, among what is made of a list
 contained : {X : Type 0} (P : X → Type 0) (xs : List X) (x : X) → AllByRecursion P xs → Contains xs x → P x
-contained P [] x h has = absurd (let lt = has.1 in omega arith)
-contained P (y ∷ ys) x h has =
-    elim (contains-cases y x ys has) [ inl is ↦ subst P is h.0 | inr there ↦ contained P ys x h.1 there ]
+contained P xs x h has = All-contains P xs x (All-from_recursion P xs h) has
 
 -- what is in one of the lists that are made of elements is in all of them together
 contains-flat_map : (f : DayValue → List ℤ) (xs : List DayValue) → AllByRecursion
@@ -129,12 +120,10 @@ start-of : (w : ℕ) (x : DayValue) (first : ℤ) → is_among first w (block_of
 start-of w x first e =
     let parts = among-parts first w (block_of x.0) e in
     let low = parts.0 in
-    let high = parts.1 in
     let far = distance first (block_of x.0) low in
-    let is = far.1 in
     let lt : far.0 < w = omega (arith, ints) in
-    let there = contained (λ i. Contains (starts w x) (block_of x.0 -ℤ pos i)) (range_with_len 0 w) (0 + far.0)
-    (contains-map (λ i. block_of x.0 -ℤ pos i) (range_with_len 0 w)) (contains-range 0 w far.0 lt) in
+    let there = contains-map (λ i. block_of x.0 -ℤ pos i) (range_with_len 0 w) (0 + far.0)
+    (contains-range 0 w far.0 lt) in
     let same : block_of x.0 -ℤ pos (0 + far.0) ≡ first = omega (arith, ints) in
     let P : ℤ → Type 0 = Contains (starts w x) in
     subst P same there
@@ -158,18 +147,17 @@ window-seen q w first all (x ∷ xs) h =
 pub total-greatest : (q : Asked) (s : Usable) (w : ℕ) → 0 < w → 0 < length (admitted q s) → AreFallen s.days
     → IsGreatest (IsBlocksTotal q.period s.days w) (greatest_total q s.days w)
 total-greatest q s w some_blocks some falls =
-    let all : List ℤ = flat_map (starts w) s.days in
     let T : ℤ → ℤ = blocks_total s.days w in
     let Starts : DayValue → Type 0 = λ x. (y : ℤ) → Contains (starts w x) y → Contains (flat_map (starts w) s.days) y in
-    let each = contains-flat_map (starts w) s.days in
-    let day = some_admitted q s Starts some each in
+    let found_in = contains-flat_map (starts w) s.days in
+    let day = some_admitted q s Starts some found_in in
     let reached = admitted-reached q day.0.0 day.2 in
     let Stands : ℤ → Type 0 = λ b. is_reached q.period b ≡ true
     → Contains (map (blocks_total s.days w) (first_blocks q s.days w)) (blocks_total s.days w b) in
     let stand : AllByRecursion Stands (flat_map (starts w) s.days) = stands (blocks_total s.days w)
     (is_reached q.period) (flat_map (starts w) s.days) in
-    let own = contained (λ i. Contains (starts w day.0) (block_of day.0.0 -ℤ pos i)) (range_with_len 0 w) (0 + 0)
-    (contains-map (λ i. block_of day.0.0 -ℤ pos i) (range_with_len 0 w)) (contains-range 0 w 0 some_blocks) in
+    let own = contains-map (λ i. block_of day.0.0 -ℤ pos i) (range_with_len 0 w) (0 + 0)
+    (contains-range 0 w 0 some_blocks) in
     let same : block_of day.0.0 -ℤ pos (0 + 0) ≡ block_of day.0.0 = omega (arith, ints) in
     let Among : ℤ → Type 0 = Contains (flat_map (starts w) s.days) in
     let here = contained Stands (flat_map (starts w) s.days) (block_of day.0.0) stand
@@ -180,14 +168,13 @@ total-greatest q s w some_blocks some falls =
     let found = pick (blocks_total s.days w) (λ b. Unit {0} × (is_reached q.period b ≡ true))
     (first_blocks q s.days w) exists.0
     (all-passing (λ b. Unit {0}) (is_reached q.period) (flat_map (starts w) s.days)
-    (nothing_said (flat_map (starts w) s.days))) of_z.is_one in
+    (each (λ _. Unit {0}) (flat_map (starts w) s.days) (λ _. tt))) of_z.is_one in
     let P : Option ℤ → Type 0 = λ o. IsGreatest (IsBlocksTotal q.period s.days w) (unwrap_or o (pos 0)) in
     subst P (sym exists.1)
     (record {
       is_one = (found.0, found.1.1, found.2);
       is_most = λ y h.
-          let is = h.2 in
-          elim (window-seen q w h.0 (flat_map (starts w) s.days) s.days each) [
+          elim (window-seen q w h.0 (flat_map (starts w) s.days) s.days found_in) [
             | inl seen ↦
                 let below =
                 of_z.is_most (blocks_total s.days w h.0)
@@ -195,7 +182,6 @@ total-greatest q s w some_blocks some falls =
                 omega (arith, ints)
             | inr none ↦
                 let fall = total-fallen (λ x. is_among found.0 w (block_of x.0)) s.days falls in
-                let found_is = found.2 in
                 omega (arith, ints)
           ];
     })
@@ -209,22 +195,20 @@ Somewhere such len = (first : ℤ) × ((i : ℕ) → i < len → such (first +�
 -- the longest of the runs from some numbers on is a run
 longest-somewhere : (such : ℤ → Bool) (ns : List ℤ) → Somewhere such (longest_run such ns)
 longest-somewhere such [] = (pos 0, λ i lt. absurd (omega arith))
-longest-somewhere such (a ∷ ns) =
-    let P : ℕ → Type 0 = Somewhere such in
-    let here : Somewhere such (run_len such a) = (a, λ i lt. run-inside such calendar_len i a lt) in
-    elim (at_most_or_more (run_len such a) (longest_run such ns)) [
-      | inl le ↦ subst P (sym (max-eq_right le)) (longest-somewhere such ns)
-      | inr more ↦ subst P (sym (max-eq_left {n = run_len such a} {m = longest_run such ns} (omega arith))) here
-    ]
+longest-somewhere such (a ∷ ns) = max-one (Somewhere such) (run_len such a) (longest_run such ns)
+    (a, λ i lt. run-inside such calendar_len i a lt) (longest-somewhere such ns)
 
--- the run from one of the numbers on is no longer
-longest-most : (such : ℤ → Bool) (ns : List ℤ) → AllByRecursion (λ a. run_len such a ≤ longest_run such ns) ns
+-- the run from one of some days on is no longer
+longest-most : (such : ℤ → Bool) (days : List DayValue)
+    → AllByRecursion (λ x. run_len such x.0 ≤ longest_run such (map (λ x. x.0) days)) days
 longest-most such [] = tt
-longest-most such (a ∷ ns) = (
-  le-max_left (run_len such a) (longest_run such ns),
-  from_each (λ b. run_len such b ≤ longest_run such ns) (λ b. run_len such b ≤ longest_run such (a ∷ ns)) ns
-      (λ b le. let more = le-max_right (run_len such a) (longest_run such ns) in omega arith) (longest-most such ns),
-)
+longest-most such (x ∷ xs) =
+    let rest : ℕ = longest_run such (map (λ y. y.0) xs) in (
+      le-max_left (run_len such x.0) rest,
+      from_each (λ y. run_len such y.0 ≤ rest)
+          (λ y. run_len such y.0 ≤ longest_run such (map (λ z. z.0) (x ∷ xs))) xs
+          (λ y le. let more = le-max_right (run_len such x.0) rest in omega arith) (longest-most such xs),
+    )
 
 -- each day of a series is one of the calendar
 pub days-valid : (s : Usable) (days : List DayValue) → list_all (λ x. is_day x.0 && is_value s.element x.1) days ≡ true
@@ -235,65 +219,46 @@ days-valid s (x ∷ xs) h =
     both_pass (is_day x.0 && is_value s.element x.1) (list_all (λ x. is_day x.0 && is_value s.element x.1) xs) h in
     ((both_pass (is_day x.0) (is_value s.element x.1) parts.0).0, days-valid s xs parts.1)
 
--- a day that passes, of those reached, is a day of the calendar
-such-is_day : (test : ℤ → Bool) (q : Asked) (s : Usable) → IsSeries s → (d : ℤ)
-    → is_such test (days_reached q s) d ≡ true → (first_day ≤ℤ d) × (d ≤ℤ last_day)
-such-is_day test q s series d e =
-    let kept = such-kept test (λ n. is_reached q.period (block_of n)) s.days d e in
-    let has = such-has test (value_on s.days d) kept.1 in
-    let day = value_on-among (λ (n v : ℤ). is_day n ≡ true) s.days d has.0 (days-valid s s.days series.values) has.1 in
-    let both = both_pass (int_le first_day d) (int_le d last_day) day in
-    (int_le-true first_day d both.0, int_le-true d last_day both.1)
+-- a day that passes is one of the days, and all that is true of each of them is true of it
+pub such-among : (test : ℤ → Bool) (days : List DayValue) (Q : ℤ → Type 0) → AllByRecursion (λ x. Q x.0) days → (d : ℤ)
+    → is_such test days d ≡ true → Q d
+such-among test days Q all d e =
+    let has = such-has test (value_on days d) e in value_on-among (λ (n v : ℤ). Q n) days d has.0 all has.1
 
--- what is true of the days' numbers is true of each day's
-of_days : (P : ℤ → Type 0) (xs : List DayValue) → AllByRecursion P (map (λ x. x.0) xs) → AllByRecursion (λ x. P x.0) xs
-of_days P [] h = tt
-of_days P (x ∷ xs) h = (h.0, of_days P xs h.1)
+-- so many numbers in a row that pass, from one on, are no more than the calendar has and no more than were found
+abbrev pub IsNoLonger : (ℤ → Bool) → ℕ → ℤ → Type 0
+IsNoLonger such found d = (len : ℕ) → len ≤ calendar_len → ((i : ℕ) → i < len → such (d +ℤ pos i) ≡ true) → len ≤ found
 
--- a day that passes is one of those from which runs are counted
-such-listed : (test : ℤ → Bool) (days : List DayValue) (P : ℤ → Type 0) (d : ℤ) → AllByRecursion P (map (λ x. x.0) days)
-    → is_such test days d ≡ true → P d
-such-listed test days P d all e =
-    let has = such-has test (value_on days d) e in
-    value_on-among (λ (n v : ℤ). P n) days d has.0 (of_days P days all) has.1
-
--- no run of days that pass is longer than the longest that is counted
-run-most : (test : ℤ → Bool) (q : Asked) (s : Usable) → IsSeries s → (len : ℕ) (a : ℤ)
-    → ((i : ℕ) → i < len → is_such test (days_reached q s) (a +ℤ pos i) ≡ true)
-    → len ≤ longest_run (is_such test (days_reached q s)) (map (λ x. x.0) (days_reached q s))
-run-most test q s series zero a pass = omega arith
-run-most test q s series (suc n) a pass =
-    let such : ℤ → Bool = is_such test (days_reached q s) in
+-- where no run from one of the days is longer, none is
+pub run-most : (test : ℤ → Bool) (days : List DayValue) (found : ℕ) → AllByRecursion (λ x. is_day x.0 ≡ true) days
+    → AllByRecursion (λ x. IsNoLonger (is_such test days) found x.0) days → (len : ℕ) (a : ℤ)
+    → ((i : ℕ) → i < len → is_such test days (a +ℤ pos i) ≡ true) → len ≤ found
+run-most test days found valid most zero a pass = omega arith
+run-most test days found valid most (suc n) a pass =
     let same : a +ℤ pos 0 ≡ a = omega (arith, ints) in
-    let first : is_such test (days_reached q s) a ≡ true = ap (is_such test (days_reached q s)) (sym same)
-    ∙ pass 0 (omega arith) in
-    let begins = such-is_day test q s series a first in
-    let ends = such-is_day test q s series (a +ℤ pos n) (pass n (omega arith)) in
-    let low = begins.0 in
-    let high = ends.1 in
-    let counted = run-at_least (is_such test (days_reached q s)) (suc n) calendar_len a (omega (arith, ints)) pass in
-    let most =
-    such-listed test (days_reached q s)
-    (λ b. run_len (is_such test (days_reached q s)) b ≤ longest_run (is_such test (days_reached q s))
-    (map (λ x. x.0) (days_reached q s))) a
-    (longest-most (is_such test (days_reached q s)) (map (λ x. x.0) (days_reached q s))) first in
-    omega arith
+    let first : is_such test days a ≡ true = ap (is_such test days) (sym same) ∙ pass 0 (omega arith) in
+    let begins = between first_day a last_day (such-among test days (λ d. is_day d ≡ true) valid a first) in
+    let ends = between first_day (a +ℤ pos n) last_day
+    (such-among test days (λ d. is_day d ≡ true) valid (a +ℤ pos n) (pass n (omega arith))) in
+    such-among test days (IsNoLonger (is_such test days) found) most a first (suc n)
+    (omega (arith, ints, begins.0, ends.1)) pass
 
 -- the longest run of days that pass, of those reached
 run-greatest : (test : ℤ → Bool) (q : Asked) (s : Usable) → IsSeries s → IsGreatest
     (IsRunLength (is_such test (days_reached q s))) (spell_bound test (days_reached q s))
 run-greatest test q s series =
-    let such : ℤ → Bool = is_such test (days_reached q s) in
-    let firsts : List ℤ = map (λ x. x.0) (days_reached q s) in
-    let somewhere = longest-somewhere (is_such test (days_reached q s)) (map (λ x. x.0) (days_reached q s)) in
+    let days : List DayValue = days_reached q s in
+    let found : ℕ = longest_run (is_such test days) (map (λ x. x.0) days) in
+    let somewhere = longest-somewhere (is_such test days) (map (λ x. x.0) days) in
+    let valid = all-kept (λ x. is_day x.0 ≡ true) (λ x. is_reached q.period (block_of x.0)) s.days
+    (days-valid s s.days series.values) in
+    let most = from_each (λ x. run_len (is_such test days) x.0 ≤ found)
+    (λ x. IsNoLonger (is_such test days) found x.0) days
+    (λ x le len short pass. let least = run-at_least (is_such test days) len calendar_len x.0 short pass in omega arith)
+    (longest-most (is_such test days) days) in
     record {
-      is_one = (
-        longest_run (is_such test (days_reached q s)) (map (λ x. x.0) (days_reached q s)),
-        somewhere.0,
-        refl,
-        somewhere.1,
-      );
-      is_most = λ y run. let le = run-most test q s series run.0 run.1 run.3 in let is = run.2 in omega (arith, ints);
+      is_one = (found, somewhere.0, refl, somewhere.1);
+      is_most = λ y run. omega (arith, ints, run.2, run-most test days found valid most run.0 run.1 run.3);
     }
 
 -- ---- the bound

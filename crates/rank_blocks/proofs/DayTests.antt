@@ -3,7 +3,7 @@ use Rattle.std.proofs.Common.{◌≡◌, ℕ, ◌<◌, ◌≤◌, Bool, true, fa
 use Rattle.std.proofs.Common.{◌<ℤ◌, ◌+ℤ◌, ◌-ℤ◌}
 use Rattle.std.specs.Prelude.{◌&&◌, int_lt, int_le}
 use Rattle.std.proofs.lemmas.Bool.Decides.{leb_tells}
-use Rattle.std.proofs.lemmas.Int.{ints}
+use Rattle.std.proofs.lemmas.Int.{ints, by_lt_z}
 
 -- two tests that both pass
 pub both_pass : (a b : Bool) → (a && b) ≡ true → (a ≡ true) × (b ≡ true)
@@ -60,11 +60,7 @@ at_most_or_more a b = elim (leb_tells a b) [ inl h ↦ inl h.1 | inr h ↦ inr h
 
 -- the same of whole numbers
 pub int_le_or_lt : (a b : ℤ) → (a ≤ℤ b) ⊎ (b <ℤ a)
-int_le_or_lt a b =
-    elim (int_le a b) as (λ t. int_le a b ≡ t → (a ≤ℤ b) ⊎ (b <ℤ a)) [
-      | true ↦ λ e. inl (int_le-true a b e)
-      | false ↦ λ e. inr (int_le-false a b e)
-    ] refl
+int_le_or_lt a b = by_lt_z b a (λ lt. inr lt) (λ le. inl le)
 
 -- how far a number lies behind another
 pub distance : (x y : ℤ) → x ≤ℤ y → (n : ℕ) × (y ≡ x +ℤ pos n)

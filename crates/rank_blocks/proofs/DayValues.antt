@@ -5,6 +5,7 @@ use Rattle.std.specs.Prelude.{int_lt}
 use Rattle.std.specs.List.{AllByRecursion, find}
 use Rattle.std.specs.Option.{option_map}
 use Rattle.std.specs.Ordering.{int_eq}
+use Rattle.std.proofs.lemmas.Bool.{false_from_ne_true}
 use Rattle.std.proofs.lemmas.Bool.Decides.{Decides-int_eq}
 use Rattle.std.proofs.lemmas.Int.{ints}
 use Rattle.ghcn_fields.specs.Days.{block_of}
@@ -12,23 +13,15 @@ use Rattle.ghcn_series.specs.Series.{DayValue, value_on, is_by_day}
 use Rattle.rank_blocks.specs.Blocks.{block_start}
 use Rattle.ghcn_series.specs.Packed.{AreRising}
 use Rattle.rank_blocks.proofs.DayTests.{both_pass, int_lt-true}
-use Rattle.rank_blocks.proofs.Members.{from_each}
+use Rattle.rank_blocks.proofs.Members.{from_each, from_both}
+
+-- different numbers are told apart
+pub other-int_eq : (a b : ℤ) → (a ≡ b → ⊥) → int_eq a b ≡ false
+other-int_eq a b other = false_from_ne_true (int_eq a b) (λ e. other ((Decides-int_eq a b).0 e))
 
 -- numbers of which one is less are not equal
 pub lt-int_eq : (a b : ℤ) → a <ℤ b → int_eq a b ≡ false
-lt-int_eq a b h =
-    elim (int_eq a b) as (λ t. int_eq a b ≡ t → t ≡ false) [
-      | true ↦ λ e. let same = (Decides-int_eq a b).0 e in absurd (omega (arith, ints))
-      | false ↦ λ e. refl
-    ] refl
-
--- the same the other way round
-pub gt-int_eq : (a b : ℤ) → b <ℤ a → int_eq a b ≡ false
-gt-int_eq a b h =
-    elim (int_eq a b) as (λ t. int_eq a b ≡ t → t ≡ false) [
-      | true ↦ λ e. let same = (Decides-int_eq a b).0 e in absurd (omega (arith, ints))
-      | false ↦ λ e. refl
-    ] refl
+lt-int_eq a b h = other-int_eq a b (λ e. omega (arith, ints, e))
 
 -- a number is equal to itself
 pub int_eq-same : (a : ℤ) → int_eq a a ≡ true
@@ -54,7 +47,8 @@ value_on-behind x xs day other =
 pub value_on-between : (read rest : List DayValue) (day : ℤ) → AllByRecursion (λ y. y.0 <ℤ day) read
     → AllByRecursion (λ z. day <ℤ z.0) rest → value_on (read ++ rest) day ≡ None
 value_on-between [] [] day earlier later = refl
-value_on-between [] (z ∷ zs) day earlier later = value_on-behind z zs day (gt-int_eq z.0 day later.0)
+value_on-between [] (z ∷ zs) day earlier later =
+    value_on-behind z zs day (other-int_eq z.0 day (λ e. omega (arith, ints, e, later.0)))
     ∙ value_on-between [] zs day tt later.1
 value_on-between (y ∷ ys) rest day earlier later = value_on-behind y (ys ++ rest) day (lt-int_eq y.0 day earlier.0)
     ∙ value_on-between ys rest day earlier.1 later
@@ -65,16 +59,9 @@ own-values [] rise = tt
 own-values (x ∷ xs) rise = (
   ap (λ (b : Bool). option_map (λ (y : DayValue). y.1) (cond b (Some x) (find (λ y. int_eq y.0 x.0) xs)))
       (int_eq-same x.0),
-  own-behind x xs xs rise.0 (own-values xs rise.1),
+  from_both (λ y. x.0 <ℤ y.0) (λ y. value_on xs y.0 ≡ Some y.1) (λ y. value_on (x ∷ xs) y.0 ≡ Some y.1) xs
+      (λ y later own. value_on-behind x xs y.0 (lt-int_eq x.0 y.0 later) ∙ own) rise.0 (own-values xs rise.1),
 )
-  where
-    -- with an earlier day in front, each has its value still
-    own-behind : (x : DayValue) (all xs : List DayValue) → AllByRecursion (λ y. x.0 <ℤ y.0) xs
-        → AllByRecursion (λ y. value_on all y.0 ≡ Some y.1) xs → AllByRecursion
-        (λ y. value_on (x ∷ all) y.0 ≡ Some y.1) xs
-    own-behind x all [] later own = tt
-    own-behind x all (y ∷ ys) later own =
-        (value_on-behind x all y.0 (lt-int_eq x.0 y.0 later.0) ∙ own.0, own-behind x all ys later.1 own.1)
 
 -- a day lies in its block
 pub block-holds : (day : ℤ) → (block_start (block_of day) ≤ℤ day) × (day <ℤ (block_start (block_of day) +ℤ pos 32))

@@ -101,8 +101,6 @@ module _ (such : ℤ → Bool) where
     over_border i lt =
         elim (at_most_or_more r.last i) [
           | inl le ↦
-              let ends = are.ends in
-              let within = firsts.within in
               of_bit (i - r.last) (are.from +ℤ pos i) true (omega arith) (omega (arith, ints))
               (firsts.pass (i - r.last) (omega arith) (omega arith))
           | inr before ↦ are.last i before
@@ -117,7 +115,6 @@ module _ (such : ℤ → Bool) where
           | inr lt ↦
               let far = distance first (are.from -ℤ pos 1) (omega (arith, ints)) in
               let is = far.1 in
-              let ends = are.ends in
               absurd (not_both _ (ap such is ∙ pass far.0 (omega (arith, ints))) are.begins)
         ]
 
@@ -146,7 +143,6 @@ module _ (such : ℤ → Bool) where
               elim (int_le_or_lt (block_start r.next) first) [
                 | inl behind ↦
                     let far = distance (block_start r.next) first behind in
-                    let is = far.1 in
                     let here =
                     most.nowhere_more far.0 len (omega (arith, ints))
                     (λ k low high.
@@ -156,7 +152,6 @@ module _ (such : ℤ → Bool) where
                 | inr cross ↦
                     let low = before_border first len cross over pass in
                     let high = after_border first len cross within pass in
-                    let ends = are.ends in
                     omega (arith, ints)
               ]
         ]
@@ -166,7 +161,6 @@ module _ (such : ℤ → Bool) where
     somewhere-so_far =
         let P : ℕ → Type 0 = λ n. (first : ℤ) × AllFrom such first n in
         let place = most.somewhere in
-        let within = place.1 in
         max-one P _ _
         (max-one P _ _ are.somewhere (
           block_start r.next +ℤ pos place.0,
@@ -181,7 +175,6 @@ module _ (such : ℤ → Bool) where
     few-last lt =
         elim (at_most_or_more 32 l) [
           | inl all ↦
-              let within = lasts.within in
               absurd (not_both _ (lasts.pass 0 (omega arith) f (omega arith) lt) (firsts.ends lt))
           | inr less ↦ less
         ]
@@ -197,7 +190,6 @@ module _ (such : ℤ → Bool) where
         (λ first len within pass. let le = most-so_far first len (omega (arith, ints)) pass in omega arith) in
         elim (at_most_or_more 32 f) [
           | inl all ↦
-              let within = firsts.within in
               let is = full (omega arith) in
               let ends = are.ends in
               record {
@@ -209,7 +201,6 @@ module _ (such : ℤ → Bool) where
                 nowhere_more = most;
               }
           | inr lt ↦
-              let is = part lt in
               let few = few-last lt in
               record {
                 from = block_start r.next +ℤ pos (32 - l);

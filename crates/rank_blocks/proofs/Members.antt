@@ -1,12 +1,13 @@
 -- Elements of lists that are filtered and measured.
 use Rattle.std.proofs.Common.{◌≡◌, ℕ, zero, suc, drop, ◌<◌, Bool, true, false, cond, List, [], ◌∷◌, ◌++◌, map, filter}
-use Rattle.std.proofs.Common.{◌⊎◌, inl, inr, refl, sym, ap, pos, subst, arith, ℤ, ◌≤ℤ◌, Some}
+use Rattle.std.proofs.Common.{◌⊎◌, inl, inr, refl, sym, ap, pos, ◌+ℤ◌, subst, arith, ℤ, ◌≤ℤ◌, Some}
 use Rattle.std.specs.List.{AllByRecursion, Contains, fold}
-use Rattle.std.specs.Prelude.{◌&&◌, ◌+ℤ◌}
+use Rattle.std.specs.Prelude.{◌&&◌}
 use Rattle.std.specs.Int.{int_max}
 use Rattle.std.proofs.lemmas.Int.{ints, fold-int_max_bounds, fold-int_max_reached}
 use Rattle.std.proofs.lemmas.List.Elements.{Contains-append_cases, Contains-append_left, Contains-append_right}
-use Rattle.std.proofs.lemmas.List.Elements.{Contains-push_cases, All-contains}
+use Rattle.std.proofs.lemmas.List.Elements.{Contains-push_cases, All-contains, All-filter, All-from_recursion}
+use Rattle.std.proofs.lemmas.List.Elements.{recursion_from_All}
 use Rattle.ghcn_fields.specs.Sorting.{greatest}
 use Rattle.rank_blocks.specs.Blocks.{total}
 use Rattle.rank_blocks.specs.Greatest.{IsGreatest}
@@ -76,10 +77,15 @@ all-passing P t (x ∷ xs) h =
       | false ↦ λ e. all-passing P t xs h.1
     ] refl
 
--- what is true of all, where nothing is said of any
-pub nothing_said : {X : Type 0} (xs : List X) → AllByRecursion (λ x. Unit {0}) xs
-nothing_said [] = tt
-nothing_said (x ∷ xs) = (tt, nothing_said xs)
+-- what is true of every element is true of all
+pub each : {X : Type 0} (P : X → Type 0) (xs : List X) → ((x : X) → P x) → AllByRecursion P xs
+each P [] f = tt
+each P (x ∷ xs) f = (f x, each P xs f)
+
+-- what is true of all is true of those that pass a test
+pub all-kept : {X : Type 0} (P : X → Type 0) (t : X → Bool) (xs : List X) → AllByRecursion P xs
+    → AllByRecursion P (filter t xs)
+all-kept P t xs h = recursion_from_All P (filter t xs) (All-filter t P xs (All-from_recursion P xs h))
 
 -- what is true of some and of others is true of both together
 pub all-append : {X : Type 0} (P : X → Type 0) (xs ys : List X) → AllByRecursion P xs → AllByRecursion P ys
@@ -120,31 +126,39 @@ stands-wider f t u xs y wider h =
     let P : _ → Type 0 = Contains (map f (filter u xs)) in
     subst P found.2 (found.1.0 (wider found.0 found.1.1))
 
+-- one element more adds to a total what it is, if it passes
+pub total-cons : {X : Type 0} (f : X → ℤ) (p : X → Bool) (x : X) (xs : List X)
+    → total (map f (filter p (x ∷ xs))) ≡ cond (p x) (f x) (pos 0) +ℤ total (map f (filter p xs))
+total-cons f p x xs =
+    elim (p x) as (λ t. total (map f (cond t (x ∷ filter p xs) (filter p xs)))
+    ≡ cond t (f x) (pos 0) +ℤ total (map f (filter p xs))) [ true ↦ refl | false ↦ omega (arith, ints) ]
+
+-- what is added isn't below zero where the number isn't
+pub part-least : (t : Bool) (v : ℤ) → pos 0 ≤ℤ v → pos 0 ≤ℤ cond t v (pos 0)
+part-least true v h = h
+part-least false v h = omega (arith, ints)
+
+-- a wider test adds no less
+pub part-wider : (t u : Bool) (v : ℤ) → pos 0 ≤ℤ v → (t ≡ true → u ≡ true) → cond t v (pos 0) ≤ℤ cond u v (pos 0)
+part-wider true true v h wider = omega (arith, ints)
+part-wider true false v h wider = absurd (let no = wider refl in cc)
+part-wider false u v h wider = part-least u v h
+
 -- no total is below zero where no number is
 pub total-least : {X : Type 0} (f : X → ℤ) (p : X → Bool) (xs : List X) → AllByRecursion (λ x. pos 0 ≤ℤ f x) xs
     → pos 0 ≤ℤ total (map f (filter p xs))
 total-least f p [] falls = omega (arith, ints)
 total-least f p (x ∷ xs) falls =
-    let rest = total-least f p xs falls.1 in
-    let here = falls.0 in
-    elim (p x) as (λ t. pos 0 ≤ℤ total (map f (cond t (x ∷ filter p xs) (filter p xs)))) [
-      | true ↦ omega (arith, ints)
-      | false ↦ rest
-    ]
+    omega (arith, ints, total-cons f p x xs, part-least (p x) (f x) falls.0, total-least f p xs falls.1)
 
 -- where each that passes one test passes another, the first have at most the total of the others
 pub total-wider : {X : Type 0} (f : X → ℤ) (p w : X → Bool) (xs : List X) → AllByRecursion (λ x. pos 0 ≤ℤ f x) xs
     → AllByRecursion (λ x. p x ≡ true → w x ≡ true) xs → total (map f (filter p xs)) ≤ℤ total (map f (filter w xs))
 total-wider f p w [] falls wider = omega (arith, ints)
 total-wider f p w (x ∷ xs) falls wider =
-    let rest = total-wider f p w xs falls.1 wider.1 in
-    let here = falls.0 in
-    let Less : List _ → Bool → Type 0 =
-    λ ys t. total (map f ys) ≤ℤ total (map f (cond t (x ∷ filter w xs) (filter w xs))) in
-    elim (p x) as (λ t. p x ≡ t → Less (cond t (x ∷ filter p xs) (filter p xs)) (w x)) [
-      | false ↦ λ e. elim (w x) as (Less (filter p xs)) [ true ↦ omega (arith, ints) | false ↦ rest ]
-      | true ↦ λ e. subst (Less (x ∷ filter p xs)) (sym (wider.0 e)) (omega (arith, ints))
-    ] refl
+    let of_w = total-cons f w x xs in
+    let part = part-wider (p x) (w x) (f x) falls.0 wider.0 in
+    omega (arith, ints, total-cons f p x xs, total-wider f p w xs falls.1 wider.1)
 
 -- those that pass one test of those that pass another pass both
 pub filter-both : {X : Type 0} (p u : X → Bool) (xs : List X) → filter p (filter u xs) ≡ filter (λ x. u x && p x) xs

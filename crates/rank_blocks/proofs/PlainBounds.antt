@@ -1,5 +1,5 @@
 -- The bound as a plain program finds it, day by day.
-use Rattle.std.proofs.Common.{append_assoc, Option, ◌*◌, ◌≡◌, ℕ, zero, suc, ◌<◌, ◌≤◌, Bool, true, false, cond, max}
+use Rattle.std.proofs.Common.{append_assoc, Option, ◌*◌, ◌≡◌, ℕ, ◌<◌, ◌≤◌, Bool, true, false, cond, max}
 use Rattle.std.proofs.Common.{List, [], ◌∷◌, ◌++◌, map, filter, length, inl, inr, Some, None, refl, sym, ap, ◌∙◌, subst}
 use Rattle.std.proofs.Common.{arith, ℤ, pos, neg_ℤ, ◌≤ℤ◌, ◌<ℤ◌, ◌+ℤ◌}
 use Rattle.std.specs.Prelude.{int_le}
@@ -7,12 +7,12 @@ use Rattle.std.specs.List.{AllByRecursion}
 use Rattle.std.specs.Option.{unwrap_or, IfSome}
 use Rattle.std.specs.Int.{int_max}
 use Rattle.std.proofs.lemmas.Int.{ints, clamps}
-use Rattle.std.proofs.lemmas.List.{length-append, append-nil}
-use Rattle.std.proofs.Math.Nat.{max-eq_left, max-eq_right}
+use Rattle.std.proofs.lemmas.List.{length-append, append-nil, map-append}
+use Rattle.std.proofs.lemmas.List.Elements.{filter-append}
 use Rattle.ghcn_fields.specs.Days.{block_of, is_day, day_if, first_day, last_day}
 use Rattle.ghcn_fields.specs.Sorting.{greatest}
 use Rattle.ghcn_files.specs.declared.element.Element.{Element}
-use Rattle.ghcn_series.specs.Series.{DayValue, Usable, IsSeries, value_on}
+use Rattle.ghcn_series.specs.Series.{DayValue, Usable, IsSeries}
 use Rattle.rank_query.specs.declared.score.Score.{Score}
 use Rattle.rank_query.specs.declared.score.Score.TheVariants.{Sum}
 use Rattle.rank_query.specs.Asked.{Asked, IsAsked}
@@ -26,35 +26,31 @@ use Rattle.rank_blocks.specs.Greatest.{IsGreatest, IsRunLength, IsBlocksTotal, I
 use Rattle.rank_blocks.specs.Reached.{IsNear, IsRangeOf, in_range, days_in_range, score_of, IsDaysTotal}
 use Rattle.ghcn_series.specs.Packed.{AreRising}
 use Rattle.rank_blocks.proofs.DayTests.{at_most_or_more, both_pass, int_le-true, int_le_or_lt, between, is-between}
-use Rattle.rank_blocks.proofs.Members.{from_each, greatest-unique}
-use Rattle.rank_blocks.proofs.ReachedDays.{such-kept, such-has, value_on-among}
-use Rattle.rank_blocks.proofs.Computed.{days-valid, total-greatest}
+use Rattle.rank_blocks.proofs.DayTests.{fails}
+use Rattle.rank_blocks.proofs.Members.{from_each, all-kept, greatest-unique}
+use Rattle.rank_blocks.proofs.ReachedDays.{such-kept}
+use Rattle.rank_blocks.proofs.Computed.{days-valid, total-greatest, such-among, run-most, IsNoLonger}
 use Rattle.rank_blocks.proofs.Above.{sums-fall}
+use Rattle.rank_blocks.proofs.ValueSteps.{max-one}
+use Rattle.rank_blocks.proofs.LongestRuns as runs
 use Rattle.rank_blocks.proofs.BoundsMet.{range-is, bound-for, bound-computed}
 
--- what is made of some days that pass and one more day
-made-push : (f : DayValue → ℤ) (p : DayValue → Bool) (read : List DayValue) (x : DayValue)
-    → map f (filter p (read ++ x ∷ [])) ≡ map f (filter p read) ++ cond (p x) (f x ∷ []) []
-made-push f p [] x =
-    elim (p x) as (λ t. map f (cond t (x ∷ []) []) ≡ cond t (f x ∷ []) []) [ true ↦ refl | false ↦ refl ]
-made-push f p (y ∷ ys) x =
-    elim (p y) as (λ t. map f (cond t (y ∷ filter p (ys ++ x ∷ [])) (filter p (ys ++ x ∷ [])))
-    ≡ map f (cond t (y ∷ filter p ys) (filter p ys)) ++ cond (p x) (f x ∷ []) []) [
-      | true ↦ ap (λ zs. f y ∷ zs) (made-push f p ys x)
-      | false ↦ made-push f p ys x
-    ]
+-- what is made of some days that pass and one more day, as that passes or doesn't
+made-push : (f : DayValue → ℤ) (p : DayValue → Bool) (read : List DayValue) (x : DayValue) (t : Bool) → p x ≡ t
+    → map f (filter p (read ++ x ∷ [])) ≡ map f (filter p read) ++ map f (cond t (x ∷ []) [])
+made-push f p read x t is =
+    ap (map f) (filter-append p read (x ∷ [])) ∙ map-append f (filter p read) (filter p (x ∷ []))
+    ∙ ap (λ (b : Bool). map f (filter p read) ++ map f (cond b (x ∷ []) [])) is
 
 -- with one that passes
 made-more : (f : DayValue → ℤ) (p : DayValue → Bool) (read : List DayValue) (x : DayValue) → p x ≡ true
     → map f (filter p (read ++ x ∷ [])) ≡ map f (filter p read) ++ f x ∷ []
-made-more f p read x is = made-push f p read x ∙ ap (λ t. map f (filter p read) ++ cond t (f x ∷ []) []) is
+made-more f p read x is = made-push f p read x true is
 
 -- with a day that fails
 made-same : (f : DayValue → ℤ) (p : DayValue → Bool) (read : List DayValue) (x : DayValue) → p x ≡ false
     → map f (filter p (read ++ x ∷ [])) ≡ map f (filter p read)
-made-same f p read x is =
-    made-push f p read x ∙ ap (λ t. map f (filter p read) ++ cond t (f x ∷ []) []) is
-    ∙ append-nil (map f (filter p read))
+made-same f p read x is = made-push f p read x false is ∙ append-nil (map f (filter p read))
 
 -- some of these days were read, and the rest are to come
 pub record AreRead (days read rest : List DayValue) : Type 0 where
@@ -114,7 +110,6 @@ few-days : (b : ℤ) (days : List DayValue) → b ≤ℤ last_day → AreRising 
     → AllByRecursion (λ x. is_day x.0 ≡ true) days → (b +ℤ pos (length days)) ≤ℤ last_day
 few-days b [] le rise behind valid = omega (arith, ints)
 few-days b (x ∷ xs) le rise behind valid =
-    let first = behind.0 in
     let within = int_le-true x.0 last_day (both_pass (int_le first_day x.0) (int_le x.0 last_day) valid.0).1 in
     let rest = few-days x.0 xs within rise.1 rise.0 valid.1 in
     omega (arith, ints)
@@ -161,7 +156,6 @@ module _ (p : DayValue → Bool) (days it rest : List DayValue) (x : DayValue) (
       let more = length-append far.read (x ∷ []) in
       let low = far.low in
       let high = far.high in
-      let before = far.total_is in
       let added = ap total (made-more (λ y. y.1) p far.read x passes) ∙ total-more
       (map (λ y. y.1) (filter p far.read)) x.1 in
       record {
@@ -199,14 +193,6 @@ pub record IsMostOf (r : BlockRange) (days : List DayValue) (w : ℕ) (next foun
   pub last : blocks_total days w r.last ≤ℤ found
   pub each : (b : ℤ) → r.first ≤ℤ b → b <ℤ next → blocks_total days w b ≤ℤ found
 
--- the greater of two is one of them
-greater-one : (P : ℤ → Type 0) (a b : ℤ) → P a → P b → P (int_max a b)
-greater-one P a b of_a of_b =
-    elim (int_le_or_lt a b) [
-      | inl le ↦ let is : int_max a b ≡ b = omega (arith, ints, clamps) in subst P (sym is) of_b
-      | inr lt ↦ let is : int_max a b ≡ a = omega (arith, ints, clamps) in subst P (sym is) of_a
-    ]
-
 module _ (r : BlockRange) (days : List DayValue) (w : ℕ) where
   -- with one more block
   pub most-more : (b after found next : ℤ) → after ≡ b +ℤ pos 1 → next ≡ int_max found (blocks_total days w b)
@@ -215,9 +201,8 @@ module _ (r : BlockRange) (days : List DayValue) (w : ℕ) where
       let low = most.from in
       let last = most.last in
       record {
-        one = subst (IsDaysTotal r days w) (sym is)
-            (greater-one (IsDaysTotal r days w) found (blocks_total days w b) most.one
-            (b, is-between r.first b r.last low (omega (arith, ints)), refl));
+        one = max-one (IsDaysTotal r days w) found (blocks_total days w b) next is most.one
+            (b, is-between r.first b r.last low (omega (arith, ints)), refl);
         from = omega (arith, ints);
         last = omega (arith, ints, clamps);
         each = λ a from before.
@@ -237,8 +222,6 @@ module _ (r : BlockRange) (days : List DayValue) (w : ℕ) where
     is_one = most.one;
     is_most = λ y h.
         let both = between r.first h.0 r.last h.1 in
-        let is = h.2 in
-        let last = most.last in
         elim (int_le_or_lt r.last h.0) [
           | inr before ↦ let below = most.each h.0 both.0 (omega (arith, ints)) in omega (arith, ints)
           | inl past ↦
@@ -253,17 +236,11 @@ module _ (r : BlockRange) (days : List DayValue) (w : ℕ) where
 -- a day without a number in the calendar isn't of the kind
 pub no_day-such : (test : ℤ → Bool) (r : BlockRange) (s : Usable) → IsSeries s → (d : ℤ) → day_if d ≡ None
     → is_such test (days_in_range r s.days) d ≡ false
-no_day-such test r s series d none =
-    elim (is_such test (days_in_range r s.days) d) as (λ t. is_such test (days_in_range r s.days) d ≡ t → t ≡ false) [
-      | false ↦ λ e. refl
-      | true ↦ λ e.
-          let kept = such-kept test (λ n. in_range r (block_of n)) s.days d e in
-          let has = such-has test (value_on s.days d) kept.1 in
-          let day = value_on-among (λ (n v : ℤ). is_day n ≡ true) s.days d has.0
-          (days-valid s s.days series.values) has.1 in
-          let found : day_if d ≡ Some d = ap (λ (b : Bool). cond b (Some d) None) day in
-          absurd cc
-    ] refl
+no_day-such test r s series d none = fails (is_such test (days_in_range r s.days) d) (λ e.
+    let day = such-among test (days_in_range r s.days) (λ n. is_day n ≡ true) (all-kept (λ x. is_day x.0 ≡ true)
+    (λ x. in_range r (block_of x.0)) s.days (days-valid s s.days series.values)) d e in
+    let found : day_if d ≡ Some d = ap (λ (b : Bool). cond b (Some d) None) day in
+    absurd cc)
 
 -- a choice that answers something answers what it has
 is_Some : (b : Bool) (d e : ℤ) → cond b (Some d) None ≡ Some e → e ≡ d
@@ -277,11 +254,8 @@ day_is d e h = is_Some (is_day d) d e h
 -- a day that isn't in the range isn't of the kind among its days
 pub out-such : (test : ℤ → Bool) (r : BlockRange) (days : List DayValue) (d : ℤ) → in_range r (block_of d) ≡ false
     → is_such test (days_in_range r days) d ≡ false
-out-such test r days d out =
-    elim (is_such test (days_in_range r days) d) as (λ t. is_such test (days_in_range r days) d ≡ t → t ≡ false) [
-      | false ↦ λ e. refl
-      | true ↦ λ e. let kept = such-kept test (λ n. in_range r (block_of n)) days d e in let is = kept.0 in absurd cc
-    ] refl
+out-such test r days d out = fails (is_such test (days_in_range r days) d)
+    (λ e. let is = (such-kept test (λ n. in_range r (block_of n)) days d e).0 in absurd cc)
 
 -- a run from a day that ends after so many days is the longest from it on
 pub run-bounded : (such : ℤ → Bool) (a : ℤ) (found len : ℕ) → (found < calendar_len → such (a +ℤ pos found) ≡ false)
@@ -295,54 +269,23 @@ run-bounded such a found len ends short pass =
 -- the longer of a run that was found and one from a day on is a run
 pub longer-run : (such : ℤ → Bool) (found here longer : ℕ) (a : ℤ) → longer ≡ max found here
     → IsRunLength such (pos found) → ((i : ℕ) → i < here → such (a +ℤ pos i) ≡ true) → IsRunLength such (pos longer)
-longer-run such found here longer a is run pass =
-    let P : ℕ → Type 0 = λ n. IsRunLength such (pos n) in
-    elim (at_most_or_more found here) [
-      | inl le ↦ subst P (sym (is ∙ max-eq_right le)) (here, a, refl, pass)
-      | inr more ↦ subst P (sym (is ∙ max-eq_left {n = found} {m = here} (omega arith))) run
-    ]
-
--- a day of the kind is a day of the calendar, and all that is true of each day is true of it
-kind-day : (test : ℤ → Bool) (r : BlockRange) (s : Usable) (Q : ℤ → Type 0) → AllByRecursion (λ x. Q x.0) s.days
-    → (d : ℤ) → is_such test (days_in_range r s.days) d ≡ true → Q d
-kind-day test r s Q all d e =
-    let kept = such-kept test (λ n. in_range r (block_of n)) s.days d e in
-    let has = such-has test (value_on s.days d) kept.1 in
-    value_on-among (λ (n v : ℤ). Q n) s.days d has.0 all has.1
-
--- no run is longer than those from the days of the series
-no-longer : (test : ℤ → Bool) (r : BlockRange) (s : Usable) (found : ℕ) → IsSeries s
-    → AllByRecursion
-    (λ x. (len : ℕ) → len ≤ calendar_len
-    → ((i : ℕ) → i < len → is_such test (days_in_range r s.days) (x.0 +ℤ pos i) ≡ true) → len ≤ found) s.days
-    → (len : ℕ) (a : ℤ) → ((i : ℕ) → i < len → is_such test (days_in_range r s.days) (a +ℤ pos i) ≡ true) → len ≤ found
-no-longer test r s found series each zero a pass = omega arith
-no-longer test r s found series each (suc n) a pass =
-    let Most : ℤ → Type 0 = λ d. (len : ℕ) → len ≤ calendar_len
-    → ((i : ℕ) → i < len → is_such test (days_in_range r s.days) (d +ℤ pos i) ≡ true) → len ≤ found in
-    let same : a +ℤ pos 0 ≡ a = omega (arith, ints) in
-    let first : is_such test (days_in_range r s.days) a ≡ true = ap (is_such test (days_in_range r s.days)) (sym same)
-    ∙ pass 0 (omega arith) in
-    let valid = days-valid s s.days series.values in
-    let begins = kind-day test r s (λ d. is_day d ≡ true) valid a first in
-    let ends = kind-day test r s (λ d. is_day d ≡ true) valid (a +ℤ pos n) (pass n (omega arith)) in
-    let low = int_le-true first_day a (both_pass (int_le first_day a) (int_le a last_day) begins).0 in
-    let high =
-    int_le-true (a +ℤ pos n) last_day
-    (both_pass (int_le first_day (a +ℤ pos n)) (int_le (a +ℤ pos n) last_day) ends).1 in
-    kind-day test r s Most each a first (suc n) (omega (arith, ints)) pass
+longer-run such found here longer a is run pass = subst (λ (n : ℕ). IsRunLength such (pos n)) (sym is)
+    (runs.max-one (λ n. IsRunLength such (pos n)) found here run (here, a, refl, pass))
 
 -- where no run from a day of the series is longer, it is the longest
 pub longest-IsGreatest : (test : ℤ → Bool) (r : BlockRange) (s : Usable) (found : ℕ) → IsSeries s
     → IsRunLength (is_such test (days_in_range r s.days)) (pos found)
-    → AllByRecursion
-    (λ x. (len : ℕ) → len ≤ calendar_len
-    → ((i : ℕ) → i < len → is_such test (days_in_range r s.days) (x.0 +ℤ pos i) ≡ true) → len ≤ found) s.days
+    → AllByRecursion (λ x. IsNoLonger (is_such test (days_in_range r s.days)) found x.0) s.days
     → IsGreatest (IsRunLength (is_such test (days_in_range r s.days))) (pos found)
-longest-IsGreatest test r s found series run each = record {
-  is_one = run;
-  is_most = λ y h. let le = no-longer test r s found series each h.0 h.1 h.3 in let is = h.2 in omega (arith, ints);
-}
+longest-IsGreatest test r s found series run most =
+    let days : List DayValue = days_in_range r s.days in
+    let inside : DayValue → Bool = λ x. in_range r (block_of x.0) in
+    let valid = all-kept (λ x. is_day x.0 ≡ true) inside s.days (days-valid s s.days series.values) in
+    let here = all-kept (λ x. IsNoLonger (is_such test days) found x.0) inside s.days most in
+    record {
+      is_one = run;
+      is_most = λ y h. omega (arith, ints, h.2, run-most test days found valid here h.0 h.1 h.3);
+    }
 
 -- ---- the bound
 
@@ -363,7 +306,6 @@ module _ (r : BlockRange) (q : Asked) (s : Usable) (of : IsRangeOf r q) where
   pub window-plain : (n : ℕ) (e : Element) (z : ℤ) → IsAsked q → IsAskedOf q s → q.score ≡ Sum n e
       → IsGreatest (IsDaysTotal r s.days (blocks_of_window n)) z → z ≡ greatest_total q s.days (blocks_of_window n)
   window-plain n e z asked asked_of is of_z =
-      let w : ℕ = blocks_of_window n in
       let same = range-is r q of in
       let one = of_z.is_one in
       let falls = sums-fall q s n e asked asked_of.series asked_of.element is in

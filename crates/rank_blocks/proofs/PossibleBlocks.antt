@@ -45,7 +45,6 @@ few-behind : (b : ℤ) (ms : List Summary) → b ≤ℤ pos 91_653 → AllByRecu
 few-behind b [] low possible sorted behind = omega (arith, ints)
 few-behind b (m ∷ ms) low possible sorted behind =
     let high = possible.0.high in
-    let first = behind.0 in
     let rest = few-behind m.number ms high possible.1 (sorted-tail m ms sorted) (sorted-behind m ms sorted) in
     omega (arith, ints)
 

@@ -38,14 +38,10 @@ module _ (p : ℤ → Bool) (d : ℤ) where
       → value_on (cond b (x ∷ kept xs) (kept xs)) d ≡ cond (p d)
       (option_map (λ y. y.1) (cond e (Some x) (find (λ y. int_eq y.0 d) xs))) None
   at x xs true true hb he ih =
-      let same : p d ≡ true = ap p (sym ((Decides-int_eq x.0 d).0 he)) ∙ hb in
-      ap (λ (t : Bool). option_map (λ y. y.1) (cond t (Some x) (find (λ y. int_eq y.0 d) (kept xs)))) he
-      ∙ sym (ap (λ (t : Bool). cond t (Some x.1) None) same)
-  at x xs true false hb he ih =
-      ap (λ (t : Bool). option_map (λ y. y.1) (cond t (Some x) (find (λ y. int_eq y.0 d) (kept xs)))) he ∙ ih
+      let same : p d ≡ true = ap p (sym ((Decides-int_eq x.0 d).0 he)) ∙ hb in rw (he, same)
+  at x xs true false hb he ih = rw he ih
   at x xs false true hb he ih =
-      let same : p d ≡ false = ap p (sym ((Decides-int_eq x.0 d).0 he)) ∙ hb in
-      ih ∙ ap (λ (t : Bool). cond t (value_on xs d) None) same ∙ sym (ap (λ (t : Bool). cond t (Some x.1) None) same)
+      let same : p d ≡ false = ap p (sym ((Decides-int_eq x.0 d).0 he)) ∙ hb in ih ∙ rw same
   at x xs false false hb he ih = ih
 
   -- of the days that pass a test, a day has the value that it had
@@ -169,6 +165,5 @@ module _ (f : ℤ → ℤ) (g : Summary → ℤ) (P : ℤ → Bool) (s : Usable)
             let own = day.1.0.0 block.0.number ((Decides-int_eq (block_of day.0.0) block.0.number).1 (sym block.2)) in
             let below_block = of_block.is_most (f day.0.1) own in
             let below_z = block.1.1 (ap P block.2 ∙ day.1.1) in
-            let is = day.2 in
             omega (arith, ints);
       }

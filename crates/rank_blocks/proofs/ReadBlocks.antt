@@ -1,13 +1,14 @@
 -- The summaries of a series, block by block.
 use Rattle.std.proofs.Common.{◌≡◌, ℕ, ◌<◌, ◌^◌, true, false, cond, List, [], ◌∷◌, ◌++◌, map, ◌⊎◌, inl, inr, Option}
-use Rattle.std.proofs.Common.{Some, None, refl, sym, ap, ◌∙◌, subst, arith, ℤ, pos, ◌≤ℤ◌, ◌<ℤ◌, ◌+ℤ◌, w32}
+use Rattle.std.proofs.Common.{Some, None, refl, sym, ◌∙◌, subst, arith, ℤ, pos, ◌≤ℤ◌, ◌<ℤ◌, ◌+ℤ◌, w32}
 use Rattle.std.specs.Prelude.{int_le}
 use Rattle.std.specs.Int.{trailing_zeros}
 use Rattle.std.specs.List.{AllByRecursion, Contains, find}
 use Rattle.std.specs.List.Sorted.{IsStrictlySortedBy}
 use Rattle.std.specs.Option.{option_map}
 use Rattle.std.specs.Ordering.{int_cmp}
-use Rattle.std.proofs.lemmas.Int.{ints}
+use Rattle.std.proofs.lemmas.Int.{ints, by_lt_z}
+use Rattle.std.proofs.lemmas.List.{map-append}
 use Rattle.std.proofs.lemmas.List.Elements.{Contains-append_left}
 use Rattle.std.proofs.lemmas.Nat.Bits.{bit_at-trailing_zeros}
 use Rattle.ghcn_fields.specs.Days.{block_of, is_day, first_day, last_day, IsBlock}
@@ -22,12 +23,6 @@ use Rattle.rank_blocks.proofs.DayValues.{rise-from_by_day, own-values, block-of_
 use Rattle.rank_blocks.proofs.Numbers.{sorted-none, sorted-push}
 use Rattle.rank_blocks.proofs.Computed.{days-valid}
 use Rattle.rank_blocks.proofs.BlockDays.{place-in, block-day}
-
--- the numbers of some blocks and one more
-numbers-push : (ms : List Summary) (m : Summary) → map (λ m. m.number) (ms ++ m ∷ []) ≡ map
-    (λ m. m.number) ms ++ m.number ∷ []
-numbers-push [] m = refl
-numbers-push (x ∷ xs) m = ap (λ (ns : List ℤ). x.number ∷ ns) (numbers-push xs m)
 
 -- what is true of the blocks' numbers
 of_numbers : (P : ℤ → Type 0) (ms : List Summary) → AllByRecursion (λ m. P m.number) ms
@@ -85,9 +80,7 @@ block-IsBlock s b word values series fits of_block =
 pub read-more : (s : Usable) (n : ℤ) (ms : List Summary) (m : Summary) → AreSummariesTo s n ms → m.number ≡ n
     → IsBlock n → IsSummary s.days m → IsPossible m → AreSummariesTo s (n +ℤ pos 1) (ms ++ m ∷ [])
 read-more s n ms m so_far number block is possible =
-    let block_low = block.low in
-    let block_high = block.high in
-    let push = numbers-push ms m in
+    let push = map-append (λ (k : Summary). k.number) ms (m ∷ []) in
     record {
       series = so_far.series;
       low = omega (arith, ints);
@@ -163,10 +156,6 @@ none-of_block days b x none own is =
     let missing = none at.0 at.1 in
     (let same : None ≡ Some x.1 = sym missing ∙ value in cc)
 
--- a number is another one or isn't
-equal_or_more : (a b : ℤ) → a ≤ℤ b → (a ≡ b) ⊎ (a <ℤ b)
-equal_or_more a b le = elim (int_le_or_lt b a) [ inl ge ↦ inl (omega (arith, ints)) | inr lt ↦ inr lt ]
-
 module _ (s : Usable) (n : ℤ) (ms : List Summary) (so_far : AreSummariesTo s n ms) (none : HasNone s.days n) where
   -- a block without a day is passed over, and a later one is next
   pub read-next : (next : Option ℤ) → next_block s.days n ≡ next → AreSummariesUpTo s ms next
@@ -181,15 +170,10 @@ module _ (s : Usable) (n : ℤ) (ms : List Summary) (so_far : AreSummariesTo s n
       let x : DayValue = found.0.0 in
       let is = found.0.2 in
       let within = in_calendar x.0 found.0.1.1 in
-      let within_low = within.0 in
-      let within_high = within.1 in
       let low = so_far.low in
       let high = so_far.high in
-      let later : n <ℤ k =
-      elim (equal_or_more n k found.0.3) [
-        | inl same ↦ absurd (none-of_block s.days n x none found.0.1.0 (is ∙ sym same))
-        | inr lt ↦ lt
-      ] in (
+      let later : n <ℤ k = by_lt_z n k (λ lt. lt)
+      (λ ge. absurd (none-of_block s.days n x none found.0.1.0 (is ∙ omega (arith, ints, ge, found.0.3)))) in (
         record {
           series = so_far.series;
           low = omega (arith, ints);
@@ -207,7 +191,6 @@ module _ (s : Usable) (n : ℤ) (ms : List Summary) (so_far : AreSummariesTo s n
         omega (arith, ints),
       )
   read-next None e =
-      let low = so_far.low in
       let high = so_far.high in (
         (
           record {

@@ -1,6 +1,6 @@
 -- Totals of days, block by block.
 use Rattle.std.proofs.Common.{◌≡◌, ℕ, Bool, true, false, cond, List, [], ◌∷◌, map, filter, inl, inr, refl, sym, ap, ◌∙◌}
-use Rattle.std.proofs.Common.{subst, arith, ℤ, pos, ◌+ℤ◌}
+use Rattle.std.proofs.Common.{arith, ℤ, pos, ◌+ℤ◌}
 use Rattle.std.specs.List.{AllByRecursion, Contains}
 use Rattle.std.specs.List.Sorted.{IsStrictlySortedBy}
 use Rattle.std.specs.Ordering.{int_cmp, int_eq}
@@ -13,7 +13,7 @@ use Rattle.rank_blocks.specs.declared.summary.Summary.{Summary}
 use Rattle.rank_blocks.specs.Blocks.{days_in, total, blocks_total, is_among}
 use Rattle.rank_blocks.specs.Reached.{summaries_total}
 use Rattle.rank_blocks.specs.Summaries.{IsSummary, AreSummaries}
-use Rattle.rank_blocks.proofs.Members.{from_each, contains-cases}
+use Rattle.rank_blocks.proofs.Members.{from_each, contains-cases, total-cons}
 use Rattle.rank_blocks.proofs.DayValues.{lt-int_eq}
 use Rattle.rank_blocks.proofs.Numbers.{int_cmp-less}
 
@@ -40,13 +40,14 @@ module _ (P : ℤ → Bool) (b v : ℤ) (g : ℤ → ℤ) where
   over-absent : (ns : List ℤ) → AllByRecursion (λ n. int_eq b n ≡ false) ns → over more ns ≡ over g ns
   over-absent [] h = refl
   over-absent (n ∷ ns) h =
-      let rest = over-absent ns h.1 in
       let here : more n ≡ g n = ap (λ (t : Bool). cond t (v +ℤ g n) (g n)) h.0 in
-      elim (P n) as (λ t. total (map more (cond t (n ∷ filter P ns) (filter P ns))) ≡ total
-      (map g (cond t (n ∷ filter P ns) (filter P ns)))) [
-        | true ↦ ap (λ (z : ℤ). z +ℤ over more ns) here ∙ ap (λ (z : ℤ). g n +ℤ z) rest
-        | false ↦ rest
-      ]
+      let part = ap (λ (z : ℤ). cond (P n) z (pos 0)) here in
+      omega (arith, ints, total-cons more P n ns, total-cons g P n ns, over-absent ns h.1)
+
+  -- two numbers are added together or each by itself
+  added : (t : Bool) (y z : ℤ) → cond t (y +ℤ z) (pos 0) ≡ cond t y (pos 0) +ℤ cond t z (pos 0)
+  added true y z = refl
+  added false y z = omega (arith, ints)
 
   -- where it is among them, v was added if it passes
   over-added : (ns : List ℤ) → IsStrictlySortedBy int_cmp ns → Contains ns b
@@ -62,13 +63,9 @@ module _ (P : ℤ → Bool) (b v : ℤ) (g : ℤ → ℤ) where
             (from_each (λ y. int_cmp n y ≡ Less) (λ y. int_eq b y ≡ false) ns
             (λ y less. lt-int_eq b y (let lt = int_cmp-less n y less in omega (arith, ints))) sorted.0) in
             let here : more n ≡ v +ℤ g n = ap (λ (t : Bool). cond t (v +ℤ g n) (g n)) e in
-            let Goal : ℤ → Type 0 = λ k. over more (n ∷ ns) ≡ cond (P k) v (pos 0) +ℤ over g (n ∷ ns) in
-            subst Goal (sym same)
-            (elim (P n) as (λ t. total (map more (cond t (n ∷ filter P ns) (filter P ns))) ≡ cond t v
-            (pos 0) +ℤ total (map g (cond t (n ∷ filter P ns) (filter P ns)))) [
-              | true ↦ omega (arith, ints)
-              | false ↦ omega (arith, ints)
-            ])
+            let part = ap (λ (z : ℤ). cond (P n) z (pos 0)) here ∙ added (P n) v (g n) in
+            let own = ap (λ (k : ℤ). cond (P k) v (pos 0)) same in
+            omega (arith, ints, total-cons more P n ns, total-cons g P n ns, absent)
         | false ↦ λ e.
             let there : Contains ns b =
             elim (contains-cases n b ns h) [
@@ -77,13 +74,9 @@ module _ (P : ℤ → Bool) (b v : ℤ) (g : ℤ → ℤ) where
                   λ t. int_eq b n ≡ t in cc)
               | inr there ↦ there
             ] in
-            let rest = over-added ns sorted.1 there in
             let here : more n ≡ g n = ap (λ (t : Bool). cond t (v +ℤ g n) (g n)) e in
-            elim (P n) as (λ t. total (map more (cond t (n ∷ filter P ns) (filter P ns))) ≡ cond (P b) v
-            (pos 0) +ℤ total (map g (cond t (n ∷ filter P ns) (filter P ns)))) [
-              | true ↦ omega (arith, ints)
-              | false ↦ rest
-            ]
+            let part = ap (λ (z : ℤ). cond (P n) z (pos 0)) here in
+            omega (arith, ints, total-cons more P n ns, total-cons g P n ns, over-added ns sorted.1 there)
       ] refl
 
 -- the total of a block's days, with one more day in front
@@ -110,15 +103,8 @@ total-by_blocks P ns (x ∷ xs) sorted h =
     let fronts =
     ap total (map-same (λ n. total (map (λ y. y.1) (days_in (x ∷ xs) n))) (more P (block_of x.0) x.1 g)
     (filter P ns) (total-front x xs)) in
-    let here : total (map (λ y. y.1) (filter (λ x. P (block_of x.0)) (x ∷ xs))) ≡ cond (P (block_of x.0)) x.1
-    (pos 0) +ℤ total (map (λ y. y.1) (filter (λ x. P (block_of x.0)) xs)) =
-    elim (P (block_of x.0)) as (λ t. total
-    (map (λ y. y.1) (cond t (x ∷ filter (λ x. P (block_of x.0)) xs) (filter (λ x. P (block_of x.0)) xs)))
-    ≡ cond t x.1 (pos 0) +ℤ total (map (λ y. y.1) (filter (λ x. P (block_of x.0)) xs))) [
-      | true ↦ refl
-      | false ↦ omega (arith, ints)
-    ] in
-    here ∙ ap (λ (z : ℤ). cond (P (block_of x.0)) x.1 (pos 0) +ℤ z) rest ∙ sym added ∙ sym fronts
+    total-cons (λ (y : DayValue). y.1) (λ y. P (block_of y.0)) x xs
+    ∙ ap (λ (z : ℤ). cond (P (block_of x.0)) x.1 (pos 0) +ℤ z) rest ∙ sym added ∙ sym fronts
 
 -- the totals of summaries are those of their blocks
 totals-summaries : (P : ℤ → Bool) (days : List DayValue) (ms : List Summary) → AllByRecursion (IsSummary days) ms
@@ -126,16 +112,11 @@ totals-summaries : (P : ℤ → Bool) (days : List DayValue) (ms : List Summary)
     (map (λ n. total (map (λ y. y.1) (days_in days n))) (filter P (map (λ m. m.number) ms)))
 totals-summaries P days [] h = refl
 totals-summaries P days (m ∷ ms) h =
-    let rest = totals-summaries P days ms h.1 in
     let g : ℤ → ℤ = λ n. total (map (λ y. y.1) (days_in days n)) in
-    let here : g m.number ≡ m.total = h.0.values.total_value in
-    elim (P m.number) as (λ t. total
-    (map (λ m. m.total) (cond t (m ∷ filter (λ m. P m.number) ms) (filter (λ m. P m.number) ms))) ≡ total
-    (map g (cond t (m.number ∷ filter P (map (λ m. m.number) ms)) (filter P (map (λ m. m.number) ms))))) [
-      | true ↦ ap (λ (z : ℤ). z +ℤ total (map (λ m. m.total) (filter (λ m. P m.number) ms))) (sym here)
-          ∙ ap (λ (z : ℤ). g m.number +ℤ z) rest
-      | false ↦ rest
-    ]
+    let part = ap (λ (z : ℤ). cond (P m.number) z (pos 0)) h.0.values.total_value in
+    let of_ms = total-cons (λ (k : Summary). k.total) (λ k. P k.number) m ms in
+    let of_ns = total-cons g P m.number (map (λ k. k.number) ms) in
+    omega (arith, ints, totals-summaries P days ms h.1)
 
 -- the total of some blocks is that of their days
 pub summaries_total-is : (s : Usable) (ms : List Summary) → AreSummaries s ms → (w : ℕ) (first : ℤ)

@@ -1,5 +1,5 @@
 -- The greatest total of so many blocks in a row, as a loop over the summaries finds it.
-use Rattle.std.proofs.Common.{◌≡◌, ℕ, Bool, true, false, cond, List, [], ◌∷◌, map, filter, ◌⊎◌, inl, inr, refl, ap, ◌∙◌}
+use Rattle.std.proofs.Common.{◌≡◌, ℕ, Bool, true, false, cond, List, [], ◌∷◌, ◌⊎◌, inl, inr, refl, ap, ◌∙◌}
 use Rattle.std.proofs.Common.{subst, arith, ℤ, pos, ◌≤ℤ◌, ◌<ℤ◌, ◌+ℤ◌}
 use Rattle.std.specs.Prelude.{int_le, int_lt}
 use Rattle.std.specs.List.{AllByRecursion}
@@ -11,8 +11,8 @@ use Rattle.rank_blocks.specs.Blocks.{total, is_among}
 use Rattle.rank_blocks.specs.Greatest.{IsGreatest}
 use Rattle.rank_blocks.specs.Reached.{in_range, summaries_total, IsTotalFrom}
 use Rattle.rank_blocks.proofs.DayTests.{not_both, both_pass, pass_both, int_le-true, int_lt-true, le-int_le, lt-int_lt}
-use Rattle.rank_blocks.proofs.DayTests.{int_le_or_lt}
-use Rattle.rank_blocks.proofs.Members.{from_each, total-least, total-wider}
+use Rattle.rank_blocks.proofs.DayTests.{int_le_or_lt, fails}
+use Rattle.rank_blocks.proofs.Members.{from_each, total-cons, part-least, total-least, total-wider}
 
 -- no total of a block is below zero
 abbrev pub AreFalls : List Summary → Type 0
@@ -35,35 +35,25 @@ among-from first w b low high = pass_both (int_le first b) (int_lt b (first +ℤ
 
 -- a number before a window isn't among it
 pub before-among : (first : ℤ) (w : ℕ) (b : ℤ) → b <ℤ first → is_among first w b ≡ false
-before-among first w b lt =
-    elim (is_among first w b) as (λ t. is_among first w b ≡ t → t ≡ false) [
-      | true ↦ λ e. let parts = among-parts first w b e in absurd (let low = parts.0 in omega (arith, ints))
-      | false ↦ λ e. refl
-    ] refl
+before-among first w b lt = fails (is_among first w b) (λ e. omega (arith, ints, (among-parts first w b e).0))
 
 -- a number behind a window isn't among it
 pub behind-among : (first : ℤ) (w : ℕ) (b : ℤ) → (first +ℤ pos w) ≤ℤ b → is_among first w b ≡ false
-behind-among first w b le =
-    elim (is_among first w b) as (λ t. is_among first w b ≡ t → t ≡ false) [
-      | true ↦ λ e. let parts = among-parts first w b e in absurd (let high = parts.1 in omega (arith, ints))
-      | false ↦ λ e. refl
-    ] refl
+behind-among first w b le = fails (is_among first w b) (λ e. omega (arith, ints, (among-parts first w b e).1))
 
 -- the total with a block in front that is among the window
 pub total-in : (m : Summary) (ms : List Summary) (w : ℕ) (first : ℤ) → is_among first w m.number ≡ true
     → summaries_total (m ∷ ms) w first ≡ m.total +ℤ summaries_total ms w first
 total-in m ms w first e =
-    ap (λ (t : Bool). total
-    (map (λ m. m.total)
-    (cond t (m ∷ filter (λ m. is_among first w m.number) ms) (filter (λ m. is_among first w m.number) ms)))) e
+    let own = ap (λ (t : Bool). cond t m.total (pos 0)) e in
+    omega (arith, ints, total-cons (λ (k : Summary). k.total) (λ k. is_among first w k.number) m ms)
 
 -- the total with a block in front that isn't
 pub total-out : (m : Summary) (ms : List Summary) (w : ℕ) (first : ℤ) → is_among first w m.number ≡ false
     → summaries_total (m ∷ ms) w first ≡ summaries_total ms w first
 total-out m ms w first e =
-    ap (λ (t : Bool). total
-    (map (λ m. m.total)
-    (cond t (m ∷ filter (λ m. is_among first w m.number) ms) (filter (λ m. is_among first w m.number) ms)))) e
+    let none = ap (λ (t : Bool). cond t m.total (pos 0)) e in
+    omega (arith, ints, total-cons (λ (k : Summary). k.total) (λ k. is_among first w k.number) m ms)
 
 -- where all blocks stand behind a window, its total is zero
 pub total-behind : (ms : List Summary) (w : ℕ) (first : ℤ) → AllByRecursion (λ m. (first +ℤ pos w) ≤ℤ m.number) ms
@@ -80,12 +70,8 @@ total-fall ms w first falls = total-least (λ m. m.total) (λ m. is_among first 
 total-more : (m : Summary) (ms : List Summary) (w : ℕ) (first : ℤ) → AreFalls (m ∷ ms)
     → summaries_total ms w first ≤ℤ summaries_total (m ∷ ms) w first
 total-more m ms w first falls =
-    let here = falls.0 in
-    elim (is_among first w m.number) as (λ t. is_among first w m.number ≡ t
-    → summaries_total ms w first ≤ℤ summaries_total (m ∷ ms) w first) [
-      | true ↦ λ e. let is = total-in m ms w first e in omega (arith, ints)
-      | false ↦ λ e. let is = total-out m ms w first e in omega (arith, ints)
-    ] refl
+    let whole = total-cons (λ (k : Summary). k.total) (λ k. is_among first w k.number) m ms in
+    omega (arith, ints, part-least (is_among first w m.number) m.total falls.0)
 
 -- where no block stands before the later of two windows, that one has at least the total of the other
 total-later : (ms : List Summary) (w : ℕ) (first other : ℤ) → AreFalls ms → first ≤ℤ other
@@ -131,8 +117,6 @@ module _ (r : BlockRange) (w : ℕ) (ms : List Summary) where
     is_one = far.one;
     is_most = λ y h.
         let fall = total-fall ms w far.one.0 falls in
-        let is = far.one.2 in
-        let total_is = h.2 in
         elim (far.each h.0 h.1) [
           | inl le ↦ omega (arith, ints)
           | inr none ↦ omega (arith, ints)
@@ -167,7 +151,6 @@ module _ (r : BlockRange) (w : ℕ) (ms : List Summary) where
                   | inr before ↦ inr (same ∙ total-out m later w b (before-among b w m.number before))
                   | inl le ↦
                       let both = both_pass (int_le r.first b) (int_le b r.last) e in
-                      let low = int_le-true r.first b both.0 in
                       let high = int_le-true b r.last both.1 in
                       let past : r.last ≤ℤ m.number =
                       elim (int_le_or_lt m.number r.last) [
@@ -179,7 +162,6 @@ module _ (r : BlockRange) (w : ℕ) (ms : List Summary) where
                       ] in
                       let most = total-later (m ∷ later) w b r.last falls high (at_or_behind r.last past) in
                       let part = far.part r.last in
-                      let last = far.last in
                       inl (omega (arith, ints))
                 ]
           ];
@@ -193,7 +175,6 @@ module _ (r : BlockRange) (w : ℕ) (ms : List Summary) where
           | false ↦ λ e.
               elim h [
                 | inl le ↦
-                    let not_less : found ≤ℤ y = grind (arith, ints) in
                     let same : found ≡ y = omega (arith, ints) in
                     let P : ℤ → Type 0 = IsTotalFrom r ms w in
                     subst P same far.one

@@ -195,14 +195,9 @@ first-ones word fits =
 highest-bit : (m t : ℕ) → 2 ^ t ≤ m → m < 2 ^ suc t → bit_at m t ≡ 1
 highest-bit m t low high =
     let rest : ℕ = m - 2 ^ t in
-    let twice : 2 ^ suc t ≡ 2 * 2 ^ t = double t in
     let parts : 1 * 2 ^ t + rest ≡ m = omega arith in
     ap (λ (k : ℕ). bit_at k t) (sym parts) ∙ bit_at_cat_high 1 t rest t (omega arith) (omega arith)
     ∙ ap (bit_at 1) {x = t - t} {y = 0} (omega arith)
-  where
-    -- a power of 2 and the next
-    double : (k : ℕ) → 2 ^ suc k ≡ 2 * 2 ^ k
-    double k = search arith
 
 -- the bits that come last
 pub last-ones : (word : ℕ) → word < 2 ^ 32 → ComeLast (has_bit word) 32 (leading_ones w32 word)
@@ -220,7 +215,6 @@ last-ones word fits =
           let unset : ℕ = bit_not w32 word in
           let top = leading_top 32 unset (omega arith) (omega arith) in
           let j : ℕ = top.0 in
-          let count = top.1 in
           let highest = highest-bit unset j top.2 top.3 in
           record {
             within = omega arith;

@@ -30,8 +30,6 @@ returns-in_ok-push-in-Some-clause-read c =
     c.in-Some.values.now of_block c.of_block.result made in
     let more = read-more s c.args.number c.args.summaries.now.items c.of_block.result c.requires made.number block is
     c.of_block.ensures.possible in
-    let low = block.low in
-    let high = block.high in
     let To : ℤ → List Summary → Type 0 = λ n ms. AreSummariesTo s n ms in
     subst (λ (n : ℤ). To n c.push.new.self.items) {x = c.args.number +ℤ pos 1} (omega (arith, ints))
     (subst (To (c.args.number +ℤ pos 1)) (sym c.in_ok-push-in-Some.ensures.items) more)
@@ -42,24 +40,14 @@ returns-in_ok-push-in-Some-clause-later c =
     let fits : c.in-Some.word < 2 ^ 32 = search rules in
     let block = block-IsBlock c.args.series.now _ c.in-Some.word c.in-Some.values.now c.requires.series fits
     c.in-Some.ensures.some in
-    let low = block.low in
-    let high = block.high in
     omega (arith, ints)
 
--- a block without a day is passed over
-pub returns-in-None-clause-read : goal.returns-in-None-clause-read
-returns-in-None-clause-read c =
+-- a block without a day is passed over, and fewer numbers are left
+pub returns-in-None : goal.returns-in-None
+returns-in-None c =
     let s = c.args.series.now in
     let number : to_z w32 (of_z w32 c.args.number) ≡ c.args.number = to_z-of_z w32 _ c.ranges.number in
     let none : HasNone s.days c.args.number = subst (HasNone s.days) number c.in-None.ensures.none in
-    (read-next s c.args.number c.args.summaries.now.items c.requires none c.next_block.result
-    (sym (c.next_block.ensures ∙ ap (next_block s.days) number))).0
-
--- fewer numbers are left
-pub returns-in-None-clause-later : goal.returns-in-None-clause-later
-returns-in-None-clause-later c =
-    let s = c.args.series.now in
-    let number : to_z w32 (of_z w32 c.args.number) ≡ c.args.number = to_z-of_z w32 _ c.ranges.number in
-    let none : HasNone s.days c.args.number = subst (HasNone s.days) number c.in-None.ensures.none in
-    (read-next s c.args.number c.args.summaries.now.items c.requires none c.next_block.result
-    (sym (c.next_block.ensures ∙ ap (next_block s.days) number))).1
+    let next = read-next s c.args.number c.args.summaries.now.items c.requires none c.next_block.result
+    (sym (c.next_block.ensures ∙ ap (next_block s.days) number)) in
+    record { read = next.0; later = next.1 }

@@ -11,8 +11,6 @@ pub loop-next-init : goal.loop-next-init
 loop-next-init c =
     let s = c.args.series.now in
     let split : s.days ≡ c.in-Some.first ∷ c.next.new.self = sym c.days-days.ensures.days ∙ c.in-Some.ensures.steps in
-    let low = c.block.ensures.range.low in
-    let high = c.block.ensures.range.high in
     let same : c.block.result ≡ to_z w32 (of_z w32 c.block.result) = omega (arith, ints) in
     let first = read-first s c.in-Some.first c.next.new.self c.days-days.ensures.series split in
     let To : ℤ → List Summary → Type 0 = λ n ms. AreSummariesTo s n ms in
@@ -24,8 +22,6 @@ number-read : (s : Usable) (ms : List Summary) (next : Option ℤ) (n : ℤ) →
     → (AreSummariesTo s n ms) × (n ≡ to_z w32 (of_z w32 n))
 number-read s ms next n is so_far =
     let to : AreSummariesTo s n ms = subst (AreSummariesUpTo s ms) is so_far in
-    let low = to.low in
-    let high = to.high in
     (to, omega (arith, ints))
 
 -- the blocks before the next are read

@@ -1,4 +1,4 @@
-use Rattle.std.proofs.Common.{SFits, arith, rules, w32}
+use Rattle.std.proofs.Common.{arith}
 use Rattle.std.proofs.lemmas.Int.{ints, clamps}
 use Rattle.rank_blocks.proofs.PlainBounds.{most-more, most-end}
 use Rattle.rank_blocks.proofs.plain.greatest_window.Goals as goal
@@ -6,11 +6,6 @@ use Rattle.rank_blocks.proofs.plain.greatest_window.Goals as goal
 -- with one more window
 pub loop-first-preserved : goal.loop-first-preserved
 loop-first-preserved c = λ le.
-    let fits_last : SFits w32 c.args.range.last = search rules in
-    let lt = c.loop-first-test.true in
-    let total = c.total_of.ensures in
-    let fits = c.total_of.type_inv in
-    let most = c.max-greatest.ensures.value in
     most-more c.args.range c.args.series.now.days c.args.width _ _ _ _ (omega (arith, ints))
     (omega (arith, ints, clamps))
     (omega (arith, ints)) (c.loop-first.invariant le)
@@ -18,6 +13,4 @@ loop-first-preserved c = λ le.
 -- all windows are seen
 pub returns : goal.returns
 returns c = λ le.
-    let fits_last : SFits w32 c.args.range.last = search rules in
-    let past = c.loop-first-test.false in
     most-end c.args.range c.args.series.now.days c.args.width _ _ (omega (arith, ints)) (c.loop-first.invariant le)

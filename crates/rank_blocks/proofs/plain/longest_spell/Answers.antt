@@ -1,4 +1,4 @@
-use Rattle.std.proofs.Common.{◌≡◌, ℕ, ◌<◌, ◌≤◌, ◌++◌, ◌∷◌, [], Bool, true, ℤ, pos, ◌+ℤ◌, refl, sym, ap, ◌∙◌, subst}
+use Rattle.std.proofs.Common.{◌≡◌, ℕ, ◌++◌, ◌∷◌, [], pos, refl, sym, ap, ◌∙◌, subst}
 use Rattle.std.proofs.Common.{arith, append_assoc, to_z, w64}
 use Rattle.std.specs.List.{AllByRecursion}
 use Rattle.std.proofs.Math.Nat.{le-max_left, le-max_right}
@@ -6,11 +6,11 @@ use Rattle.std.proofs.lemmas.Int.{ints}
 use Rattle.std.proofs.lemmas.List.{append-nil}
 use Rattle.ghcn_series.specs.Series.{DayValue}
 use Rattle.rank_scores.specs.Candidates.{is_such}
-use Rattle.rank_scores.specs.Runs.{calendar_len}
 use Rattle.rank_blocks.specs.Greatest.{IsGreatest}
 use Rattle.rank_blocks.specs.Reached.{days_in_range}
 use Rattle.rank_scores.specs.Spells.{test_of}
 use Rattle.rank_blocks.proofs.Members.{from_each, all-append}
+use Rattle.rank_blocks.proofs.Computed.{IsNoLonger}
 use Rattle.rank_blocks.proofs.PlainBounds.{run-bounded, longer-run, longest-IsGreatest}
 use Rattle.rank_blocks.proofs.plain.longest_spell.Goals as goal
 
@@ -28,11 +28,8 @@ pub loop-day-preserved : goal.loop-day-preserved
 loop-day-preserved c =
     let read = c.loop-day.invariant.0 in
     let split = c.loop-day.invariant.1 ∙ ap (λ days. read ++ days) c.in-Some.ensures.steps in
-    let such : ℤ → Bool = is_such (test_of c.args.spell) (days_in_range c.args.range c.args.series.now.days) in
-    let Most : ℕ → DayValue → Type 0 = λ n x. (len : ℕ) → len ≤ calendar_len
-    → ((i : ℕ) → i < len → is_such (test_of c.args.spell) (days_in_range c.args.range c.args.series.now.days)
-    (x.0 +ℤ pos i) ≡ true) → len ≤ n in
-    let is = c.max-longest.ensures in
+    let such = is_such (test_of c.args.spell) (days_in_range c.args.range c.args.series.now.days) in
+    let Most : ℕ → DayValue → Type 0 = λ n x. IsNoLonger such n x.0 in
     let left = le-max_left c.loop-day.longest c.spell_from.result in
     let right = le-max_right c.loop-day.longest c.spell_from.result in (
       read ++ (c.in-Some.day, c.in-Some.field-0-1) ∷ [],
@@ -56,10 +53,8 @@ returns c =
     let read = c.loop-day.invariant.0 in
     let all : c.args.series.now.days ≡ read = c.loop-day.invariant.1 ∙ ap (λ days. c.loop-day.invariant.0 ++ days)
     c.in-None.ensures.steps.0 ∙ append-nil c.loop-day.invariant.0 in
-    let Most : DayValue → Type 0 = λ x. (len : ℕ) → len ≤ calendar_len
-    → ((i : ℕ) → i < len → is_such (test_of c.args.spell) (days_in_range c.args.range c.args.series.now.days)
-    (x.0 +ℤ pos i) ≡ true) → len ≤ c.loop-day.longest in
-    let fits = c.loop-day.auto.longest-fits in
+    let Most : DayValue → Type 0 = λ x. IsNoLonger (is_such (test_of c.args.spell)
+    (days_in_range c.args.range c.args.series.now.days)) c.loop-day.longest x.0 in
     let is : pos c.loop-day.longest ≡ to_z w64 c.loop-day.longest = omega (arith, ints) in
     subst (IsGreatest _) is
     (longest-IsGreatest (test_of c.args.spell) c.args.range c.args.series.now c.loop-day.longest

@@ -21,15 +21,11 @@ sum_of-total-requires c =
     let few =
     total-few _ _ _ _ (c.in-Some.day, c.in-Some.value) _ c.loop-day.invariant c.in-Some.ensures.steps
     (series-few c.args.series.now series (rise-from_by_day c.args.series.now.days series.by_day)) in
-    let low = c.loop-day.invariant.low in
-    let high = c.loop-day.invariant.high in
     omega (arith, ints)
 
 -- with a day of the window
 pub loop-day-preserved-then-is_among : goal.loop-day-preserved-then-is_among
 loop-day-preserved-then-is_among c =
-    let sum = c.sum_of-total.ensures in
-    let fits = c.sum_of-total.type_inv in
     total-in _ _ _ _ (c.in-Some.day, c.in-Some.value) _ c.loop-day.invariant c.in-Some.ensures.steps _
     (sym c.is_among.ensures ∙ c.if-is_among.true) (omega (arith, ints)) (omega (arith, ints)) (omega (arith, ints))
 

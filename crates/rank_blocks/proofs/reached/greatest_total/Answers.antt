@@ -28,15 +28,12 @@ loop-index-preserved c =
     c.loop-index.invariant in
     let same = most-out c.args.range c.args.width c.args.blocks.now c.requires c.loop-index.index c.loop-index-test.true
     _ c.loop-index.invariant in
-    let old = c.loop-index.greatest-is in
-    let new = c.if-is_in.greatest-is in
     elim c.if-is_in.branch [
       | then-is_in w ↦
           let total = w.window_total.ensures ∙ of_window _ w.window.result _ _ w.window.ensures.first
           w.window.ensures.width
           ∙ ap (λ ks. summaries_total ks c.args.width (block_at c.args.blocks.now c.loop-index.index).number)
           (left-whole c.args.blocks.now c.loop-index.index) in
-          let most = w.max-greatest.ensures.value in
           far _ (w.greatest-is ∙ omega (arith, ints, clamps)) (sym c.is_in.ensures ∙ w.if-is_in.true)
       | else-is_in w ↦ same _ (w.greatest-is ∙ omega (arith, ints)) (sym c.is_in.ensures ∙ w.if-is_in.false)
     ]

@@ -22,8 +22,6 @@ add-runs-requires-clause-order c =
 pub add-runs-requires-clause-room : goal.add-runs-requires-clause-room
 add-runs-requires-clause-room c =
     let few = possible-few c.args.blocks.now c.requires in
-    let room = c.loop-block.invariant.room in
-    let lt = c.loop-block-test.true in
     omega arith
 
 -- with one more block

@@ -1,6 +1,6 @@
 use Rattle.std.proofs.Common.{sym, ◌∙◌, arith}
 use Rattle.std.proofs.lemmas.Int.{ints}
-use Rattle.rank_blocks.proofs.BlockSteps.{sum-bounds, sum-in, sum-out, sum-past, sum-end, possible-at}
+use Rattle.rank_blocks.proofs.BlockSteps.{sum-bounds, sum-in, sum-out, sum-past, sum-end}
 use Rattle.rank_blocks.proofs.PossibleBlocks.{possible-few}
 use Rattle.rank_blocks.proofs.reached.window_total.Goals as goal
 use Rattle.rank_blocks.proofs.reached.window_total.Goals.{then-holds, else-holds}
@@ -15,11 +15,8 @@ returns-then-is_before c =
 pub sum_of-total-requires : goal.sum_of-total-requires
 sum_of-total-requires c =
     let few = possible-few c.args.blocks.now c.requires in
-    let lt = c.loop-block-test.true in
     let bounds = sum-bounds c.args.blocks.now c.requires c.args.window.width c.args.window.first
     c.loop-block.block-index c.loop-block-test.true _ c.loop-block.invariant in
-    let low = bounds.0 in
-    let high = bounds.1 in
     omega (arith, ints)
 
 -- with one more block
@@ -31,11 +28,6 @@ loop-block-preserved c =
     c.loop-block-test.true _ c.loop-block.invariant in
     elim c.if-holds.branch [
       | then-holds w ↦
-          let block = possible-at c.args.blocks.now c.loop-block.block-index c.loop-block-test.true c.requires in
-          let least = block.least_total in
-          let most = block.greatest_total in
-          let sum = w.sum_of-total.ensures in
-          let fits = w.sum_of-total.type_inv in
           far _ (w.total-is ∙ omega (arith, ints)) (sym c.holds.ensures ∙ w.if-holds.true)
       | else-holds w ↦ same _ w.total-is (sym c.holds.ensures ∙ w.if-holds.false)
     ]

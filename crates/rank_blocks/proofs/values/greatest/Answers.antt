@@ -13,8 +13,6 @@ loop-value-preserved c =
     let fits : SFits w32 (get_or values i (pos 0)) = search rules in
     let value : to_z w32 (of_z w32 (get_or values i (pos 0))) ≡ get_or values i (pos 0) = to_z-of_z w32 _ fits in
     let result : c.max-greatest.result ≡ to_z w32 (of_z w32 c.max-greatest.result) = omega (arith, ints) in
-    let self_bound = c.max-greatest.ensures.self_bound in
-    let other_bound = c.max-greatest.ensures.other_bound in
     record {
       one = subst (StandsAmong values) result
           (max-one (StandsAmong values) _ _ _ c.max-greatest.ensures.value c.loop-value.invariant.one

@@ -13,8 +13,6 @@ loop-value-preserved c =
     let fits : SFits w32 (get_or values i (pos 0)) = search rules in
     let value : to_z w32 (of_z w32 (get_or values i (pos 0))) ≡ get_or values i (pos 0) = to_z-of_z w32 _ fits in
     let result : c.min-least.result ≡ to_z w32 (of_z w32 c.min-least.result) = omega (arith, ints) in
-    let self_bound = c.min-least.ensures.self_bound in
-    let other_bound = c.min-least.ensures.other_bound in
     record {
       one = subst (StandsAmong values) result
           (min-one (StandsAmong values) _ _ _ c.min-least.ensures.value c.loop-value.invariant.one (i, lt, sym value));

@@ -1,5 +1,5 @@
-use Rattle.std.proofs.Common.{◌≡◌, ◌<◌, length, get_or, pos, to_z, of_z, SFits, w32, ap, arith, rules}
-use Rattle.std.proofs.lemmas.Int.{ints, to_z-of_z}
+use Rattle.std.proofs.Common.{◌<◌, length, get_or, pos, SFits, w32, ap, arith, rules}
+use Rattle.std.proofs.lemmas.Int.{ints}
 use Rattle.std.proofs.lemmas.List.{drop_more}
 use Rattle.rank_blocks.specs.Blocks.{total}
 use Rattle.rank_blocks.proofs.values.total.Goals as goal
@@ -11,7 +11,6 @@ loop-value-preserved c =
     let i = c.loop-value.value-index in
     let within : i < length values = (let size = c.told-values in let lt = c.loop-value-test.true in omega arith) in
     let fits : SFits w32 (get_or values i (pos 0)) = search rules in
-    let value : to_z w32 (of_z w32 (get_or values i (pos 0))) ≡ get_or values i (pos 0) = to_z-of_z w32 _ fits in
     let low = c.loop-value.invariant.low in
     let high = c.loop-value.invariant.high in
     let whole = c.loop-value.invariant.whole in

@@ -29,8 +29,6 @@ returns-clause-runs c = λ such are none bits.
       | then-block-self w ↦ absurd (differ (same-read _ _ fits_number fits w.if-block-self.true))
       | else-block-self w ↦ w.before-is
     ] in
-    let low = c.requires.block.low in
-    let high = c.requires.block.high in
     let told = runs-up_to such c.args.self up_to are c.requires.order none same other refl in
     let word : AreBitsOf such c.args.block.now.number c.days-word.result = subst
     (AreBitsOf such c.args.block.now.number) (sym c.days-word.ensures) bits in
