@@ -31,7 +31,7 @@ from_ids P ss k s all at =
     from_all P (ids ss) k s.id all (slice_get-map (λ s. s.id) ss k ∙ ap (option_map (λ (s : Station). s.id)) at)
 
 -- where no ID stands twice, a station is the first of its ID
-first_place : (ss : List Station) (k : ℕ) (s : Station) → IsDistinct same_id (ids ss) → slice_get ss k ≡ Some s
+pub first_place : (ss : List Station) (k : ℕ) (s : Station) → IsDistinct same_id (ids ss) → slice_get ss k ≡ Some s
     → (position_or_len (is_station_of s.id) ss ≡ k) × (k < length ss)
 unfolding IsDistinct
 first_place [] k s apart at = absurd cc

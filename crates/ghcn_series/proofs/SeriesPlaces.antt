@@ -1,6 +1,6 @@
 -- The series of a station and an element, in the list at its place.
-use Rattle.std.proofs.Common.{◌≡◌, ℕ, suc, ◌+◌, ◌≤◌, get_or, Bool, true, false, cond, not, List, [], ◌∷◌, length, map}
-use Rattle.std.proofs.Common.{Option, None, Some, refl, sym, ap, ◌∙◌, subst, arith}
+use Rattle.std.proofs.Common.{◌≡◌, ℕ, zero, suc, ◌+◌, ◌≤◌, get_or, Bool, true, false, cond, not, List, [], ◌∷◌}
+use Rattle.std.proofs.Common.{length, map, Option, None, Some, refl, sym, ap, ◌∙◌, subst, arith}
 use Rattle.std.specs.Prelude.{◌&&◌, nat_lt}
 use Rattle.std.specs.List.{find, slice_get, position_or_len, IsDistinct, AllByRecursion, AllZip}
 use Rattle.std.specs.Option.{option_or, option_and_then, option_map}
@@ -18,7 +18,7 @@ use Rattle.ghcn_files.specs.Elements.{same_element}
 use Rattle.ghcn_files.specs.Listed.{is_station_of, place_of}
 use Rattle.ghcn_series.specs.Series.{Usable, is_series_of}
 use Rattle.ghcn_series.specs.Held.{all_of, is_of_element}
-use Rattle.ghcn_series.proofs.Places.{ids}
+use Rattle.ghcn_series.proofs.Places.{ids, first_place}
 use Rattle.ghcn_files.specs.IdLaws.{same_id-is, same_id-turned, place_is, no_place}
 use Rattle.ghcn_series.proofs.ListFacts.{both_all}
 
@@ -111,6 +111,30 @@ pub found-listed : (id : StationId) (e : Element) (ss : List Station) (lists : L
 found-listed id e ss lists k us apart own at is =
     ap (option_and_then (find (is_of_element e))) (is ∙ ap (slice_get lists) (sym (place_is ss id k at)))
     ∙ found_by_place id e ss lists apart own
+
+-- a list ends before a place where it has nothing
+none_past : {A : Type 0} (xs : List A) (k : ℕ) → slice_get xs k ≡ None → length xs ≤ k
+none_past [] k none = omega arith
+none_past (x ∷ xs) zero none = absurd cc
+none_past (x ∷ xs) (suc k) none = omega (arith, none_past xs k none)
+
+-- the series of the station at a place are in the list there
+pub found-at : (e : Element) (ss : List Station) (lists : List (List Usable)) (k : ℕ) (us : Option (List Usable))
+    → IsDistinct same_id (ids ss) → AreOwn ss lists → us ≡ slice_get lists k
+    → option_and_then (find (is_of_element e)) us
+    ≡ option_and_then (λ (s : Station). find (is_series_of s.id e) (all_of lists)) (slice_get ss k)
+found-at e ss lists k us apart own is = by (slice_get ss k) refl
+  where
+    by : (o : Option Station) → slice_get ss k ≡ o
+        → option_and_then (find (is_of_element e)) us
+        ≡ option_and_then (λ (s : Station). find (is_series_of s.id e) (all_of lists)) o
+    by None none =
+        let beyond : length lists ≤ k = omega (arith, AllZip-long _ ss lists own, none_past ss k none) in
+        ap (option_and_then (find (is_of_element e))) (is ∙ slice_get_past lists k beyond)
+    by (Some s) at =
+        ap (option_and_then (find (is_of_element e)))
+        (is ∙ ap (slice_get lists) (sym (first_place ss k s apart at).0))
+        ∙ found_by_place s.id e ss lists apart own
 
 -- what is found at a place of a list of lists
 pub list-there : {V : Type 0} (items : V → List Usable) (vs : List V) (k : ℕ) (v : V) → nat_lt k (length vs) ≡ true

@@ -1,8 +1,8 @@
 //! The series of all listed stations, from the bytes of daily files.
 
-ghost use Rattle.std.specs.Prelude.{◌≡◌, ◌<◌, ◌^◌, map, length, Some, Ok, Err, IfOk, IfErr};
+ghost use Rattle.std.specs.Prelude.{◌≡◌, ◌<◌, ◌^◌, map, length, slice_get, Some, Ok, Err, IfOk, IfErr};
 ghost use Rattle.std.specs.List.{find};
-ghost use Rattle.std.specs.Option.{option_copied};
+ghost use Rattle.std.specs.Option.{option_and_then, option_copied};
 ghost use Rattle.ghcn_series.specs.Series.{series_of};
 ghost use Rattle.ghcn_series.specs.DailyFaults.{IsRefusal, IsFirstRefusal};
 ghost use Rattle.ghcn_series.specs.Says.{data_of};
@@ -114,6 +114,15 @@ impl Data {
         let place = self.stations.place(id)?;
         let series = self.series.get(place as usize)?;
         of_element(series, element)
+    }
+
+    /// The series of an element and of the station at a place in the list, from 0, where it has a usable
+    /// day.
+    pub fn series_at(&self, place: u64, element: Element) -> Option<&Series>
+        ensures { option_copied result
+            ≡ option_and_then (λ s. series_of self.now s.id element) (slice_get self.now.stations place) }
+    {
+        of_element(self.series.get(place as usize)?, element)
     }
 
     /// How many lines of the five elements were passed over, since their stations aren't listed.
