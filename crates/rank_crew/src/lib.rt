@@ -5,6 +5,7 @@
 #![tactic(auto)]
 
 mod crewed;
+mod cut;
 mod gate;
 mod halves;
 mod job;

@@ -5,9 +5,10 @@ ghost use denote.Param.Send.{IsSync};
 ghost use Rattle.rank_crew.specs.Places as crew;
 
 use crate::Gate;
+use crate::cut::cut;
 use crate::halves::both;
-use ghcn_fields::Memory;
-use ghcn_series::Data;
+use ghcn_fields::{Day, Memory};
+use ghcn_series::{Data, Series};
 use rank_query::Query;
 use rank_sched::measure;
 use std::alloc::Global;
@@ -31,6 +32,9 @@ pub(crate) trait Places {
     ) -> Result<Option<i64>, Memory>
         requires { place < length (bounds self.now) }
         ensures { IfOk result (λ bound. slice_get (bounds self.now) place ≡ Some bound) };
+
+    /// How long a place takes to measure, beside other places. No bound depends on it.
+    fn weight(&self, place: u64) -> u64;
 }
 
 /// The places of all listed stations.
@@ -56,10 +60,35 @@ impl<'p, G: Gate> Places for StationPlaces<'p, G> {
         self.gate.measuring(rt, worker, place);
         measure(alloc, self.held, self.query, place)
     }
+
+    /// One for the place, and one for each block of 32 days from the first day of its series to the
+    /// last.
+    fn weight(&self, place: u64) -> u64 {
+        match admitted_series(self.held, self.query, place) {
+            Some(series) => 2 + blocks_between(series.span()) as u64,
+            None => 1,
+        }
+    }
+}
+
+/// The series at a place that the query's region admits.
+fn admitted_series<'a>(held: &'a Data, query: &Query, place: u64) -> Option<&'a Series> {
+    let series = held.series_at(place, query.element())?;
+    if query.admits_station(held.stations().at(place)?) {
+        Some(series)
+    } else {
+        None
+    }
+}
+
+/// How many blocks lie between two days, with that of one of them.
+fn blocks_between((first, last): (Day, Day)) -> u32 {
+    last.block().abs_diff(first.block())
 }
 
 /// The bounds of the places from one up to another, by so many workers, started by halves in
-/// threads. Where a thread can't be started, the caller does that half too.
+/// threads. Each half of the workers has its share of the work. Where a thread can't be started, the
+/// caller does that half too.
 pub(crate) fn measure_part<R: Threads + Wait + Sync, P: Places + Sync>(
     rt: &R,
     alloc: Global,
@@ -80,7 +109,7 @@ pub(crate) fn measure_part<R: Threads + Wait + Sync, P: Places + Sync>(
     let fewer = workers / 2;
     let more = workers - fewer;
     let next = worker + more;
-    let middle = to - (to - from) / 2;
+    let middle = cut(places, from, to, more, workers);
     let (first, second) = join(
         rt,
         move ||

@@ -29,9 +29,9 @@ const USUAL: Values = [&[311, 305], &[311], &[250]];
 
 const FALLING: Values = [&[311], &[300], &[250]];
 
-/// Writes the line of a station's month.
-fn push_month(text: &mut String, id: &str, values: &[i32]) -> Result<(), AllocError> {
-    write!(text, "{id}202007TMAX")?;
+/// Writes the line of a station's July of a year.
+fn push_july(text: &mut String, id: &str, year: u16, values: &[i32]) -> Result<(), AllocError> {
+    write!(text, "{id}{year}07TMAX")?;
     for day in 0..31 {
         let value = values.get(day).copied().unwrap_or(-9999);
         write!(text, "{value:>5}   ")?;
@@ -42,9 +42,9 @@ fn push_month(text: &mut String, id: &str, values: &[i32]) -> Result<(), AllocEr
 /// The data of these values, where memory is there.
 fn data_of(alloc: Global, values: &Values) -> Option<Data> {
     let mut text = String::new(alloc);
-    push_month(&mut text, "ZZA00000001", values[0]).ok()?;
-    push_month(&mut text, "ZZA00000002", values[1]).ok()?;
-    push_month(&mut text, "ZZA00000003", values[2]).ok()?;
+    push_july(&mut text, "ZZA00000001", 2020, values[0]).ok()?;
+    push_july(&mut text, "ZZA00000002", 2020, values[1]).ok()?;
+    push_july(&mut text, "ZZA00000003", 2020, values[2]).ok()?;
     let stations = Stations::read(alloc, STATIONS).ok()?;
     Data::read(alloc, stations, &[text.as_bytes()]).ok()
 }
@@ -158,6 +158,83 @@ fn gated_run_of_two_workers(rt: HostRuntime) -> Result<(), Fail> {
         assert_eq!(rt; times.load(Ordering::SeqCst), 1, "{record:?}");
         assert_eq!(rt; last.load(Ordering::SeqCst), record.worker, "{record:?}");
         assert_eq!(rt; record.seen, seen, "{record:?}");
+    }
+    Ok(())
+}
+
+/// A gate that notes which worker measures each of three places.
+#[derive(Drop)]
+struct Measurers([AtomicU64; 3]);
+
+impl Gate for Measurers {
+    fn measuring<R: Wait>(&self, _rt: &R, worker: u64, place: u64) {
+        if let Some(measurer) = self.0.get(place as usize) {
+            measurer.store(worker, Ordering::SeqCst);
+        }
+    }
+
+    fn claimed<R: Wait>(&self, _rt: &R, _worker: u64, _morsel: u64) {}
+}
+
+/// The data of three stations that each have the July of 2020, and that of an earlier year if one is
+/// named.
+fn data_since(alloc: Global, years: &[Option<u16>; 3]) -> Result<Data, Fail> {
+    let mut text = String::new(alloc);
+    for (id, year) in ["ZZA00000001", "ZZA00000002", "ZZA00000003"]
+        .iter()
+        .zip(years)
+    {
+        if let Some(year) = *year {
+            push_july(&mut text, id, year, &[250])?;
+        }
+        push_july(&mut text, id, 2020, &[250])?;
+    }
+    let stations = Stations::read(alloc, STATIONS).ok().ok_or("no stations")?;
+    Ok(
+        Data::read(alloc, stations, &[text.as_bytes()])
+            .ok()
+            .ok_or("no data")?,
+    )
+}
+
+#[test]
+fn stations_are_cut_by_their_blocks(rt: HostRuntime) -> Result<(), Fail> {
+    const ROWS: [(&str, [Option<u16>; 3], u64, [u64; 3]); 6] = [
+        ("top 1 highest TMAX", [None, None, None], 2, [0, 0, 1]),
+        ("top 1 highest TMAX", [Some(1990), None, None], 2, [0, 1, 1]),
+        ("top 1 highest TMAX", [None, None, Some(1990)], 2, [0, 0, 1]),
+        (
+            "top 1 highest TMAX",
+            [Some(2000), Some(2000), Some(1980)],
+            2,
+            [0, 0, 1],
+        ),
+        (
+            "top 1 highest TMAX",
+            [Some(2000), Some(2000), Some(2000)],
+            3,
+            [0, 1, 2],
+        ),
+        (
+            "top 1 highest TMAX box 10.5 0 90 90",
+            [Some(1990), None, None],
+            2,
+            [0, 0, 1],
+        ),
+    ];
+    let alloc = rt.alloc();
+    for (text, years, workers, expected) in ROWS {
+        let data = data_since(alloc, &years)?;
+        let gate = Measurers([AtomicU64::new(9), AtomicU64::new(9), AtomicU64::new(9)]);
+        let plan = survey(&rt, alloc, &data, &query_of(text)?, workers, &gate)?;
+        assert!(rt; plan.len() > 0, "{text}");
+        for (measurer, expected) in gate.0.iter().zip(expected) {
+            assert_eq!(rt;
+                measurer.load(Ordering::SeqCst),
+                expected,
+                "{text} {years:?}"
+            );
+        }
     }
     Ok(())
 }
