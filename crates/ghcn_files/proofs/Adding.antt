@@ -1,5 +1,6 @@
 -- Stations are added one after the other: what is known of a line after those before it.
-use Rattle.std.proofs.Common.{◌≡◌, ℕ, suc, ◌<◌, ◌^◌, Bool, true, false, cond, List, [], ◌∷◌, ◌++◌, length, map, drop, replicate, length-append, length-drop, Option}
+use Rattle.std.proofs.Common.{◌≡◌, ℕ, suc, ◌<◌, ◌^◌, Bool, true, false, cond, List, [], ◌∷◌, ◌++◌, length, map, drop}
+use Rattle.std.proofs.Common.{replicate, length-append, length-drop, Option}
 use Rattle.std.proofs.Common.{Some, None, refl, sym, ap, subst, ◌∙◌, arith, true≢false, ◌||◌, ◌&&◌, is_some}
 use Rattle.std.specs.Prelude.{◌==◌, nat_lt, nat_le, ℤ, pos, neg_ℤ}
 use Rattle.std.specs.List.{list_any, list_all, IsDistinct}

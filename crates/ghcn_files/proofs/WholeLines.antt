@@ -17,7 +17,8 @@ use Rattle.ghcn_files.proofs.Readings.{tests_from, all_tests}
 
 -- one line says of each day what another one says
 pub record SaysSame (whole line : List ℕ) : Type 0 where
-  pub value : (j : ℕ) → 1 ≤ j → j ≤ 31 → columns (14 + 8 * j) (18 + 8 * j) whole ≡ columns (14 + 8 * j) (18 + 8 * j) line
+  pub value : (j : ℕ) → 1 ≤ j → j ≤ 31
+      → columns (14 + 8 * j) (18 + 8 * j) whole ≡ columns (14 + 8 * j) (18 + 8 * j) line
   pub flag : (j : ℕ) → 1 ≤ j → j ≤ 31 → is_flagged whole j ≡ is_flagged line j
 
 -- the front of a line does

@@ -25,7 +25,8 @@ use Rattle.rank_scores.specs.Morsels.{IsAbove}
 use Rattle.rank_blocks.specs.Blocks.{total, blocks_total, is_among, is_reached, days_reached}
 use Rattle.rank_blocks.specs.Bounds.{blocks_of_window}
 use Rattle.rank_blocks.specs.Greatest.{IsGreatest, IsScore, IsRunLength, IsSumBound, IsBoundFor, IsBound}
-use Rattle.rank_blocks.proofs.Members.{from_each, each, all-kept, all-passing, stands, total-least, total-wider, filter-both}
+use Rattle.rank_blocks.proofs.Members.{from_each, each, all-kept, all-passing, stands, total-least, total-wider}
+use Rattle.rank_blocks.proofs.Members.{filter-both}
 use Rattle.rank_blocks.proofs.Members.{total-cons, part-wider}
 use Rattle.rank_blocks.proofs.DayTests.{both_pass, int_le-true}
 use Rattle.rank_blocks.proofs.DayValues.{block-holds, block-rises}

@@ -1,5 +1,6 @@
 -- The candidates that are listed, as they are computed, are exactly those with the property.
-use Rattle.std.proofs.Common.{◌≡◌, ℕ, zero, suc, ◌<◌, ◌≤◌, Bool, true, false, cond, List, Option, Some, None, refl, sym, ap, subst, ◌∙◌, arith, inl, inr, ℤ, pos, ◌+ℤ◌, ◌-ℤ◌, ◌≤ℤ◌, neg_ℤ, [], ◌∷◌, get_or}
+use Rattle.std.proofs.Common.{◌≡◌, ℕ, zero, suc, ◌<◌, ◌≤◌, Bool, true, false, cond, List, Option, Some, None, refl, sym}
+use Rattle.std.proofs.Common.{ap, subst, ◌∙◌, arith, inl, inr, ℤ, pos, ◌+ℤ◌, ◌-ℤ◌, ◌≤ℤ◌, neg_ℤ, [], ◌∷◌, get_or}
 use Rattle.std.specs.Prelude.{not, map, ◌↔◌}
 use Rattle.std.specs.Option.{option_map}
 use Rattle.std.specs.List.{AllByRecursion, Contains, filter_map, find, cons_option}
@@ -10,7 +11,8 @@ use Rattle.std.proofs.lemmas.Bool.{cases_lt, and_parts, and_from, and_right, leb
 use Rattle.std.proofs.lemmas.Int.{ints}
 use Rattle.std.proofs.lemmas.Map.Keys.{IsDistinct-from_apart, IsDistinct-from_sorted, apart_from_distinct}
 use Rattle.std.proofs.lemmas.Bool.Decides.{Decides-int_eq}
-use Rattle.std.proofs.lemmas.List.Elements.{All-from_recursion, All-contains, Contains-append_right, Contains-append_left}
+use Rattle.std.proofs.lemmas.List.Elements.{All-from_recursion, All-contains, Contains-append_right}
+use Rattle.std.proofs.lemmas.List.Elements.{Contains-append_left}
 use Rattle.ghcn_fields.specs.Days.{is_within}
 use Rattle.ghcn_series.specs.Series.{DayValue, value_on, Usable, IsSeries}
 use Rattle.rank_query.specs.declared.score.Score.{Score}
@@ -18,10 +20,13 @@ use Rattle.rank_query.specs.declared.score.Score.TheVariants.{Highest, Lowest, S
 use Rattle.rank_query.specs.Asked.{is_score, is_fall, Asked, IsAsked}
 use Rattle.ghcn_files.specs.declared.station.StationId.{StationId}
 use Rattle.rank_scores.specs.Runs.{run_from, run_len, begins_run, calendar_len, IsRun}
-use Rattle.rank_scores.specs.Candidates.{Shape, Days, Windows, Spells, shape, is_dry, is_wet, IsWindow, IsCandidate, begun, window_total, is_such, candidate, candidates, admitted, IsCandidateOf, AreTheCandidates, RiseByFirstDay}
+use Rattle.rank_scores.specs.Candidates.{Shape, Days, Windows, Spells, shape, is_dry, is_wet, IsWindow, IsCandidate}
+use Rattle.rank_scores.specs.Candidates.{begun, window_total, is_such, candidate, candidates, admitted, IsCandidateOf}
+use Rattle.rank_scores.specs.Candidates.{AreTheCandidates, RiseByFirstDay}
 use Rattle.rank_scores.proofs.Totals.{plus-parts, days-total, total-days}
 use Rattle.rank_scores.proofs.Rising.{Rise, admitted-rise, values_stand, firsts_rise, from_each, all-made}
-use Rattle.rank_scores.proofs.Runs.{AreDays, counted, run-found, run-more, such-has, such-none, such-is_day, none_past, day-bounds, days-few, admitted-days}
+use Rattle.rank_scores.proofs.Runs.{AreDays, counted, run-found, run-more, such-has, such-none, such-is_day, none_past}
+use Rattle.rank_scores.proofs.Runs.{day-bounds, days-few, admitted-days}
 use Rattle.rank_scores.specs.Order.{begin_alike, AreApart}
 use Rattle.rank_scores.specs.declared.candidate.Candidate.{Candidate}
 use Rattle.rank_scores.specs.Morsels.{IsAbove, NoneIsAbove}

@@ -1,7 +1,9 @@
 -- The candidates of a query: that no two begin alike, and that they and the best of them are of listed stations.
-use Rattle.std.proofs.Common.{◌≡◌, ℕ, Bool, true, false, cond, List, [], ◌∷◌, ◌++◌, map, filter, Option, Some, None, refl, sym, ap, ◌∙◌, subst, ◌||◌}
+use Rattle.std.proofs.Common.{◌≡◌, ℕ, Bool, true, false, cond, List, [], ◌∷◌, ◌++◌, map, filter, Option, Some, None}
+use Rattle.std.proofs.Common.{refl, sym, ap, ◌∙◌, subst, ◌||◌}
 use Rattle.std.specs.Prelude.{◌&&◌, ◌==◌, IsTrue}
-use Rattle.std.specs.List.{flat_map, filter_map, find, cons_option, range_with_len, AllByRecursion, IsDistinct, list_any}
+use Rattle.std.specs.List.{flat_map, filter_map, find, cons_option, range_with_len, AllByRecursion, IsDistinct}
+use Rattle.std.specs.List.{list_any}
 use Rattle.std.specs.Option.{is_some}
 use Rattle.std.specs.Ordering.{int_eq}
 use Rattle.std.specs.Cmp.Lexicographic.{bytes_decides}

@@ -1,5 +1,6 @@
 -- Days that rise, look-ups among them, and what begins on them.
-use Rattle.std.proofs.Common.{◌≡◌, Bool, true, false, cond, List, [], ◌∷◌, map, Option, Some, None, refl, sym, ap, ◌∙◌, filter, ℤ, ◌<ℤ◌, ◌≤ℤ◌, arith}
+use Rattle.std.proofs.Common.{◌≡◌, Bool, true, false, cond, List, [], ◌∷◌, map, Option, Some, None, refl, sym, ap, ◌∙◌}
+use Rattle.std.proofs.Common.{filter, ℤ, ◌<ℤ◌, ◌≤ℤ◌, arith}
 use Rattle.std.specs.Prelude.{int_lt, int_le}
 use Rattle.std.specs.List.{AllByRecursion, filter_map, find, cons_option}
 use Rattle.std.specs.List.Sorted.{IsStrictlySortedBy}

@@ -1,10 +1,12 @@
 -- The spells that are offered as one day after another comes are those of the days.
-use Rattle.std.proofs.Common.{◌≡◌, ℕ, suc, ◌-◌, ◌<◌, Bool, true, false, cond, List, [], ◌∷◌, ◌++◌, Option, Some, None, refl, sym, ap, ◌∙◌, arith, inl, inr, ℤ, pos, ◌+ℤ◌, ◌-ℤ◌, ◌<ℤ◌}
+use Rattle.std.proofs.Common.{◌≡◌, ℕ, suc, ◌-◌, ◌<◌, Bool, true, false, cond, List, [], ◌∷◌, ◌++◌, Option, Some, None}
+use Rattle.std.proofs.Common.{refl, sym, ap, ◌∙◌, arith, inl, inr, ℤ, pos, ◌+ℤ◌, ◌-ℤ◌, ◌<ℤ◌}
 use Rattle.std.specs.Prelude.{◌&&◌, not}
 use Rattle.std.specs.List.{AllByRecursion, filter_map, cons_option}
 use Rattle.std.specs.Option.{option_map, option_map_or}
 use Rattle.std.specs.Ordering.{int_eq}
-use Rattle.std.proofs.lemmas.Bool.{and_parts, and_from, false_from_ne_true, and_left, and_right, not_from_true, cases_lt}
+use Rattle.std.proofs.lemmas.Bool.{and_parts, and_from, false_from_ne_true, and_left, and_right, not_from_true}
+use Rattle.std.proofs.lemmas.Bool.{cases_lt}
 use Rattle.std.proofs.lemmas.Bool.Decides.{Decides-int_eq}
 use Rattle.std.proofs.lemmas.Int.{ints, by_lt_z}
 use Rattle.ghcn_fields.specs.Days.{first_day, is_day}
@@ -15,7 +17,8 @@ use Rattle.rank_scores.specs.declared.candidate.Candidate.{Candidate}
 use Rattle.rank_scores.specs.Runs.{run_len, begins_run, IsRun}
 use Rattle.rank_scores.specs.Candidates.{Spells, begun, candidate, candidates_among, admitted, is_such}
 use Rattle.rank_scores.specs.Spells.{goes_on, spell_from, spell_list}
-use Rattle.rank_scores.proofs.Rising.{Rise, admitted-rise, from_each, value_on-other, value_on-here, value_on-later, value_on-before}
+use Rattle.rank_scores.proofs.Rising.{Rise, admitted-rise, from_each, value_on-other, value_on-here, value_on-later}
+use Rattle.rank_scores.proofs.Rising.{value_on-before}
 use Rattle.rank_scores.proofs.Runs.{AreDays, admitted-days, day-bounds}
 use Rattle.rank_scores.proofs.Exactly.{spell-begins}
 

@@ -1,5 +1,7 @@
 -- Totals of windows: as sums of the first of some days, and of the days from a first to a last one.
-use Rattle.std.proofs.Common.{◌≡◌, ℕ, zero, suc, ◌+◌, ◌*◌, Bool, true, false, cond, List, [], ◌∷◌, drop, Option, Some, None, refl, sym, ap, ◌∙◌, arith, ℤ, pos, neg_ℤ, ◌+ℤ◌, ◌-ℤ◌, ◌≤ℤ◌, ◌<ℤ◌, ◌⊎◌, inl, inr, ◌<◌, ◌≤◌, length, subst}
+use Rattle.std.proofs.Common.{◌≡◌, ℕ, zero, suc, ◌+◌, ◌*◌, Bool, true, false, cond, List, [], ◌∷◌, drop, Option, Some}
+use Rattle.std.proofs.Common.{None, refl, sym, ap, ◌∙◌, arith, ℤ, pos, neg_ℤ, ◌+ℤ◌, ◌-ℤ◌, ◌≤ℤ◌, ◌<ℤ◌, ◌⊎◌, inl, inr}
+use Rattle.std.proofs.Common.{◌<◌, ◌≤◌, length, subst}
 use Rattle.std.specs.Prelude.{◌&&◌, int_le}
 use Rattle.std.specs.List.{AllByRecursion, list_all}
 use Rattle.std.specs.Option.{option_map}
@@ -14,7 +16,8 @@ use Rattle.ghcn_series.specs.Series.{DayValue, Usable, IsSeries, value_on, is_va
 use Rattle.rank_query.specs.Asked.{Asked}
 use Rattle.rank_query.specs.Admits.{admits_day}
 use Rattle.rank_scores.specs.Candidates.{plus, window_total, admitted, days_within, sum_of_values}
-use Rattle.rank_scores.proofs.Rising.{Rise, rise-filter, all-filter, le_of, from_each, from_both, find-filter, value_on-other, value_on-here, value_on-later}
+use Rattle.rank_scores.proofs.Rising.{Rise, rise-filter, all-filter, le_of, from_each, from_both, find-filter}
+use Rattle.rank_scores.proofs.Rising.{value_on-other, value_on-here, value_on-later}
 
 -- ---- sums that there may be
 

@@ -1,6 +1,7 @@
 -- A window holds the values of its days in a ring.
 use Rattle.std.proofs.Common.{◌≡◌, ℕ, zero, suc, ◌+◌, ◌-◌, ◌<◌, ◌%◌, Bool, true, false, List, [], ◌∷◌, drop}
-use Rattle.std.proofs.Common.{length, get_or, set, inl, inr, refl, sym, ap, subst, ◌∙◌, arith, ℤ, pos, ◌+ℤ◌, ◌-ℤ◌, length-set}
+use Rattle.std.proofs.Common.{length, get_or, set, inl, inr, refl, sym, ap, subst, ◌∙◌, arith, ℤ, pos, ◌+ℤ◌, ◌-ℤ◌}
+use Rattle.std.proofs.Common.{length-set}
 use Rattle.std.proofs.Common.{◌↔◌, ◌≤◌, FitsSigned, w64}
 use Rattle.std.specs.Prelude.{IsTrue}
 use Rattle.std.proofs.lemmas.Bool.{cases_lt}
@@ -181,7 +182,8 @@ leaves {id} {n} {s} {ring} {v} {d} {rest} p most is =
       wide = subst (λ (z : ℤ). FitsSigned w64 z) (sym total)
           (sums.fits p.now (d +ℤ pos 1) rest p.came.at (omega arith));
       now = sums.without_first p.now;
-      left = subst (λ (z : ℤ). Left id n p.now (sums.without_first p.now) d rest (candidate id (d +ℤ pos 1 -ℤ pos n) (d, z)))
+      left = subst
+          (λ (z : ℤ). Left id n p.now (sums.without_first p.now) d rest (candidate id (d +ℤ pos 1 -ℤ pos n) (d, z)))
           (sym total) (sums.leaves p.came whole refl);
       shows = shows-less ring v p.now (d +ℤ pos 1) rest p.shows h p.came.some;
     }

@@ -1,5 +1,7 @@
 -- A window with its sum, as days come and leave.
-use Rattle.std.proofs.Common.{◌≡◌, ◌↔◌, FitsSigned, w64, rules, ℕ, zero, suc, ◌+◌, ◌-◌, ◌<◌, ◌≤◌, Bool, true, false, cond, List, [], ◌∷◌, drop, Option, Some, None, refl, sym, ap, subst, ◌∙◌, arith, ℤ, pos, ◌+ℤ◌, ◌-ℤ◌, ◌≤ℤ◌, ◌<ℤ◌}
+use Rattle.std.proofs.Common.{◌≡◌, ◌↔◌, FitsSigned, w64, rules, ℕ, zero, suc, ◌+◌, ◌-◌, ◌<◌, ◌≤◌, Bool, true, false}
+use Rattle.std.proofs.Common.{cond, List, [], ◌∷◌, drop, Option, Some, None, refl, sym, ap, subst, ◌∙◌, arith, ℤ, pos}
+use Rattle.std.proofs.Common.{◌+ℤ◌, ◌-ℤ◌, ◌≤ℤ◌, ◌<ℤ◌}
 use Rattle.std.specs.Prelude.{IsTrue}
 use Rattle.std.specs.List.{AllByRecursion, cons_option, filter_map}
 use Rattle.std.specs.Option.{option_map}
@@ -13,7 +15,8 @@ use Rattle.rank_scores.specs.Candidates.{Windows, plus, admitted, candidate, beg
 use Rattle.ghcn_fields.specs.Days.{is_day}
 use Rattle.rank_scores.proofs.Runs.{AreDays, admitted-days}
 use Rattle.rank_scores.proofs.Rising.{Rise, from_each, same_made, differ, admitted-rise}
-use Rattle.rank_scores.proofs.Totals.{leading, leading-split, leading-first, total-behind, total-leading, leading-small, IsSmall, admitted-small}
+use Rattle.rank_scores.proofs.Totals.{leading, leading-split, leading-first, total-behind, total-leading, leading-small}
+use Rattle.rank_scores.proofs.Totals.{IsSmall, admitted-small}
 
 -- ---- the windows of days that rise
 

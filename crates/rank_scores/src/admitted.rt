@@ -4,7 +4,7 @@ ghost use Rattle.std.specs.Prelude.{◌≡◌, ◌↔◌, IsTrue, pos, ◌+ℤ�
 ghost use Rattle.std.specs.Iterator.{YieldsFirst};
 ghost use Rattle.std.specs.Option.{option_map};
 ghost use Rattle.ghcn_series.specs.Series.{IsSeries};
-ghost use Rattle.rank_scores.specs.Candidates as found;
+ghost use Rattle.rank_scores.specs.Candidates as meaning;
 
 use ghcn_fields::Day;
 use ghcn_series::{Days, Series};
@@ -31,7 +31,7 @@ impl<'s, 'q> Model for Admitted<'s, 'q> {
 impl<'s, 'q> Admitted<'s, 'q> {
     /// The days of a series that a query admits.
     pub(crate) fn of(series: &'s Series, query: &'q Query) -> Self
-        ensures days { result ≡ found.admitted query.now series.now }
+        ensures days { result ≡ meaning.admitted query.now series.now }
         ensures series { IsSeries series.now }
     {
         Admitted {
@@ -58,7 +58,7 @@ impl<'s, 'q> Iterator for Admitted<'s, 'q> {
 /// The first of some days that is admitted.
 #[inline(always)]
 fn next_admitted(days: &mut Days, query: &Query) -> Option<(Day, i32)>
-    ensures { YieldsFirst (found.admitted_among query.now) days.old result days.new }
+    ensures { YieldsFirst (meaning.admitted_among query.now) days.old result days.new }
 {
     while let Some((day, value)) = days.next() {
         if query.admits_day(day) {

@@ -2,7 +2,7 @@
 
 ghost use Rattle.std.specs.Prelude.{◌≡◌};
 ghost use Rattle.std.specs.List.{fold};
-ghost use Rattle.rank_scores.specs.Candidates as found;
+ghost use Rattle.rank_scores.specs.Candidates as meaning;
 ghost use Rattle.rank_scores.specs.Extremes.{score_by};
 
 use crate::admitted::Admitted;
@@ -18,7 +18,7 @@ use rank_query::{Query, Score};
 ///
 /// The station is taken as admitted, and the series as one of the query's element.
 pub fn scan<S: Sink>(series: &Series, query: &Query, sink: &mut S)
-    ensures { sink.new ≡ fold S.taken sink.old (found.candidates query.now series.now) }
+    ensures { sink.new ≡ fold S.taken sink.old (meaning.candidates query.now series.now) }
 {
     let id = series.id();
     match query.score() {
@@ -33,7 +33,7 @@ pub fn scan<S: Sink>(series: &Series, query: &Query, sink: &mut S)
 /// Offers each admitted day, by the number that ranks it.
 fn scan_days<S: Sink>(id: StationId, series: &Series, query: &Query, extreme: Extreme, sink: &mut S)
     ensures { sink.new ≡ fold S.taken sink.old
-        (found.candidates_among id (found.Days (score_by extreme)) (found.admitted query.now series.now)) }
+        (meaning.candidates_among id (meaning.Days (score_by extreme)) (meaning.admitted query.now series.now)) }
 {
     for (day, value) in Admitted::of(series, query) {
         sink.offer(Candidate {

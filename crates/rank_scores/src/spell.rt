@@ -4,7 +4,7 @@ ghost use Rattle.std.specs.Prelude.{◌≡◌, false, if◌then◌else◌};
 ghost use Rattle.std.specs.List.{fold};
 ghost use Rattle.std.specs.Option.{option_map_or};
 ghost use Rattle.rank_scores.specs.Spells.{test_of, goes_on, spell_list};
-ghost use Rattle.rank_scores.specs.Candidates as found;
+ghost use Rattle.rank_scores.specs.Candidates as meaning;
 
 use crate::admitted::{Admitted, comes_next};
 use crate::{Candidate, Sink};
@@ -47,7 +47,7 @@ pub(crate) fn scan_spells<S: Sink>(
     sink: &mut S,
 )
     ensures { sink.new ≡ fold S.taken sink.old
-        (found.candidates_among id (found.Spells (test_of spell)) (found.admitted query.now series.now)) }
+        (meaning.candidates_among id (meaning.Spells (test_of spell)) (meaning.admitted query.now series.now)) }
 {
     // The first and the last day of the spell that days may still be added to.
     let mut run = None;

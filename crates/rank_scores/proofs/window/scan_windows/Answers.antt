@@ -17,7 +17,8 @@ loop-day-init g c =
       span = record { leaving = admitted query series; len = 0; total = pos 0 };
       shows = rw c.empty-window.ensures (ring.shows-nothing _ _ (admitted query series) refl (omega arith) refl refl);
       at = sums.at_first query series (admitted query series) c.into_iter-day-iterator.result (pos 0)
-          c.of-day-items.ensures.series refl (c.into_iter-day-iterator.ensures.into_iter_gives ∙ c.of-day-items.ensures.days);
+          c.of-day-items.ensures.series refl
+          (c.into_iter-day-iterator.ensures.into_iter_gives ∙ c.of-day-items.ensures.days);
       few = c.requires.some;
       so_far = refl;
     }
