@@ -1,5 +1,5 @@
 -- The end of an intake.
-use Rattle.std.proofs.Common.{◌≡◌, ℕ, Bool, List, [], ◌++◌, sym, ap, ◌∙◌, subst}
+use Rattle.std.proofs.Common.{◌≡◌, ℕ, Bool, true, List, [], ◌++◌, sym, ap, ◌∙◌, subst}
 use Rattle.std.specs.Prelude.{◌↔◌, Result, Ok}
 use Rattle.std.proofs.lemmas.List.{append-nil}
 use Rattle.ghcn_series.specs.declared.fault.DataFault.{DataFault}
@@ -12,7 +12,8 @@ use Rattle.extremes.specs.declared.intake.Intake.{Intake}
 use Rattle.extremes.specs.declared.intake.Opened.{Opened}
 use Rattle.extremes.specs.declared.intake.Course.{Course}
 use Rattle.extremes.specs.declared.intake.Course.TheVariants.{Reading, Refused}
-use Rattle.extremes.specs.Input.{then_read, of_data, IsRefusal}
+use Rattle.ghcn_fields.specs.Refusals.{IsRefusal}
+use Rattle.extremes.specs.Input.{then_read, of_data, is_memory}
 use Rattle.extremes.specs.Taken.{Input, fed_of, given_files, told, GoesOn, Decides, IsReading, HasCourse}
 use Rattle.extremes.specs.Taken.{HoldsInput, RefusesInput, CountsFiles, DataRefuses, read_given}
 use Rattle.extremes.specs.Taken.{AnswersInput, JudgesInput}
@@ -59,8 +60,8 @@ pub refuses_input : (t : Intake) (o o' : Opened) (fault : Fault) → t.course �
 refuses_input t o o' fault is same refuses = record {
   is = λ i taken.
       let course : IsReading i o' = subst (λ (c : Course). HasCourse c i) (is ∙ ap Reading (sym same)) taken.course in
-      subst (λ (f : Fault). IsRefusal f (read_given i)) (sym refuses.is)
-      (subst (IsRefusal (of_data refuses.cause)) (sym (course.others (given_files i)))
+      subst (λ (f : Fault). IsRefusal is_memory f (read_given i)) (sym refuses.is)
+      (subst (IsRefusal is_memory (of_data refuses.cause)) (sym (course.others (given_files i)))
       (refused_data course.stations o'.query (given_files i) refuses.cause
       (refuses.refuses.is (fed_of o'.query course.stations i) course.fed)));
 }
@@ -72,9 +73,15 @@ pub kept_refuses : (t : Intake) (many : Bool) (fault fault' result : Fault) → 
 kept_refuses t many fault fault' result is same tells counts = record {
   is = λ i taken.
       let course : Decides i fault = subst (λ (c : Course). HasCourse c i) is taken.course in
-      subst (λ (f : Fault). IsRefusal f (read_given i)) (sym (tells ∙ ap (told many) same))
-      (subst (λ b. IsRefusal (told b fault) (read_given i)) (sym (counts.is i taken))
+      subst (λ (f : Fault). IsRefusal is_memory f (read_given i)) (sym (tells ∙ ap (told many) same))
+      (subst (λ b. IsRefusal is_memory (told b fault) (read_given i)) (sym (counts.is i taken))
       (course.whatever (given_files i) (goes_on-here i)));
+}
+
+-- want of memory is a refusal of any input
+pub memory_refuses : (t : Intake) (fault : Fault) → is_memory fault ≡ true → RefusesInput t fault
+memory_refuses t fault is = record {
+  is = λ i taken. rw is tt;
 }
 
 -- papers that are right for what a query needs of some data are right for these data, and the other way round

@@ -8,12 +8,13 @@ use Rattle.ghcn_files.specs.declared.station.Station.{Station}
 use Rattle.ghcn_series.specs.declared.fault.DataFault.{DataFault}
 use Rattle.ghcn_series.specs.declared.fault.DataFault.TheVariants as daily
 use Rattle.ghcn_series.specs.Series.{Contents}
-use Rattle.ghcn_series.specs.DailyFaults.{IsRefusal as IsDataRefusal}
+use Rattle.ghcn_series.specs.DailyFaults.{is_memory as is_data_memory}
 use Rattle.ghcn_series.specs.Says.{data_of}
 use Rattle.ghcn_series.specs.Fed.{and_current, IsToldOf}
 use Rattle.rank_query.specs.Asked.{Asked}
 use Rattle.extremes.specs.declared.fault.Fault.{Fault}
-use Rattle.extremes.specs.Input.{then_read, of_data, IsRefusal}
+use Rattle.ghcn_fields.specs.Refusals.{IsRefusal}
+use Rattle.extremes.specs.Input.{then_read, of_data, is_memory}
 use Rattle.extremes.specs.Taken.{Input, with_bytes, with_file_end, read_with, GoesOn, told, are_many, Decides}
 
 -- the current file stands behind those that were ended
@@ -84,7 +85,7 @@ pub told_on : (i : Input) (query : Asked) (stations : List Station) (first other
     → ((files : List (List ℕ))
     → read_with i files ≡ then_read of_data (data_of stations files) (λ held. Ok (query, held)))
     → files ≡ first ++ others → IsToldOf stations first fault
-    → IsRefusal (told (are_many files) (of_data fault)) (read_with i files)
+    → IsRefusal is_memory (told (are_many files) (of_data fault)) (read_with i files)
 told_on i query stations first others files (daily.Memory m) reads is of = tt
 told_on i query stations first others files daily.TooManyFiles reads is of =
     let many : are_many files ≡ true = grind (arith, nat_tests, of, ap length is, length-append first others) in
@@ -93,7 +94,7 @@ told_on i query stations first others files daily.TooManyFiles reads is of =
 told_on i query stations first others files (daily.DailyLine file line why) reads is of = go (are_many files) refl
   where
     go : (many : Bool) → are_many files ≡ many
-        → IsRefusal (told many (of_data (daily.DailyLine file line why))) (read_with i files)
+        → IsRefusal is_memory (told many (of_data (daily.DailyLine file line why))) (read_with i files)
     go true many =
         reads files ∙ ap (λ (r : Result Contents DataFault). then_read of_data r (λ held. Ok (query, held)))
         (many_files stations files many)
@@ -104,8 +105,8 @@ told_on i query stations first others files (daily.DailyLine file line why) read
 
 -- the refusal of the daily files is that of the input
 pub refused_data : (stations : List Station) (query : Asked) (files : List (List ℕ)) (fault : DataFault)
-    → IsDataRefusal fault (data_of stations files)
-    → IsRefusal (of_data fault) (then_read of_data (data_of stations files) (λ held. Ok (query, held)))
+    → IsRefusal is_data_memory fault (data_of stations files)
+    → IsRefusal {A = Asked × Contents} is_memory (of_data fault) (then_read of_data (data_of stations files) (λ held. Ok (query, held)))
 refused_data stations query files (daily.Memory m) is = tt
 refused_data stations query files daily.TooManyFiles is =
     ap (λ (r : Result Contents DataFault). then_read of_data r (λ held. Ok (query, held))) is

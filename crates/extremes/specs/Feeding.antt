@@ -5,7 +5,8 @@ use Rattle.rank_check.specs.declared.verdict.Verdict.{Verdict}
 use Rattle.extremes.specs.declared.fault.Fault.{Fault}
 use Rattle.extremes.specs.declared.intake.Intake.{Intake}
 use Rattle.extremes.specs.declared.papers.Papers.{Papers}
-use Rattle.extremes.specs.Input.{read_input, read_run, IsRefusal}
+use Rattle.ghcn_fields.specs.Refusals.{IsRefusal}
+use Rattle.extremes.specs.Input.{read_input, read_run, is_memory}
 use Rattle.extremes.specs.Answer.{Answers}
 use Rattle.extremes.specs.Judged.{IsJudged}
 use Rattle.extremes.specs.Taken.{Input, with_bytes, with_file_end, HasTaken}
@@ -44,7 +45,7 @@ pub record FeedsFiles (old new : Intake) (known : List (Option (List ℕ))) : Ty
 abbrev pub IsRanked : ℕ → Option ℤ → List ℕ → List ℕ → List (List ℕ) → Result Papers Fault → Type 0
 IsRanked workers guess query stations files (Ok papers) = Answers guess query stations files papers
 IsRanked workers guess query stations files (Err fault) =
-    IsRefusal fault (read_run workers guess query stations files)
+    IsRefusal is_memory fault (read_run workers guess query stations files)
 
 -- the ranking of all bytes of the station list and of each daily file, in order
 pub record RanksFiles (workers : ℕ) (guess : Option ℤ) (query : List ℕ) (list : Option (List ℕ))
@@ -59,7 +60,7 @@ pub record RanksFiles (workers : ℕ) (guess : Option ℤ) (query : List ℕ) (l
 abbrev pub IsJudgement : List ℕ → List ℕ → List (List ℕ) → List ℕ → List ℕ → Result Verdict Fault → Type 0
 IsJudgement query stations files report certificate (Ok v) = IsJudged query stations files report certificate v
 IsJudgement query stations files report certificate (Err fault) =
-    IsRefusal fault (read_input None query stations files)
+    IsRefusal is_memory fault (read_input None query stations files)
 
 -- the judgement of all bytes of two papers for those of the station list and of each daily file, in order
 pub record JudgesFiles (query : List ℕ) (list first second : Option (List ℕ))

@@ -1,5 +1,6 @@
 -- What the input says, and the first fault in it.
-use Rattle.std.specs.Prelude.{◌≡◌, ℕ, Bool, true, ◌&&◌, if◌then◌else◌, List, Option, None, Some, Result, Ok, Err, ⊤, ℤ, pos, neg_ℤ, int_le, nat_lt, nat_le}
+use Rattle.std.specs.Prelude.{ℕ, Bool, true, false, ◌&&◌, if◌then◌else◌, List, Option, None, Some, Result, Ok, Err}
+use Rattle.std.specs.Prelude.{ℤ, pos, neg_ℤ, int_le, nat_lt, nat_le}
 use Rattle.ghcn_files.specs.declared.fault.StationsFault.{StationsFault}
 use Rattle.ghcn_files.specs.declared.fault.StationsFault.TheVariants as station
 use Rattle.ghcn_files.specs.Listed.{listed}
@@ -64,7 +65,7 @@ abbrev pub read_run : ℕ → Option ℤ → List ℕ → List ℕ → List (Lis
 read_run workers guess query stations files =
     if is_crew workers then read_input guess query stations files else Err BadWorkers
 
--- want of memory, or the very fault that the input has
-abbrev pub IsRefusal : Fault → Result (Asked × Contents) Fault → Type 0
-IsRefusal (Memory m) read = ⊤
-IsRefusal fault read = read ≡ Err fault
+-- memory ran out
+abbrev pub is_memory : Fault → Bool
+is_memory (Memory m) = true
+is_memory fault = false

@@ -17,7 +17,8 @@ use Rattle.extremes.specs.declared.intake.Opened.{Opened}
 use Rattle.extremes.specs.declared.intake.Course.{Course}
 use Rattle.extremes.specs.declared.intake.Course.TheVariants.{Reading, Refused}
 use Rattle.extremes.specs.declared.papers.Papers.{Papers}
-use Rattle.extremes.specs.Input.{read_run, then_read, of_data, IsRefusal}
+use Rattle.ghcn_fields.specs.Refusals.{IsRefusal}
+use Rattle.extremes.specs.Input.{read_run, then_read, of_data, is_memory}
 use Rattle.extremes.specs.Answer.{Answers}
 use Rattle.rank_check.specs.declared.verdict.Verdict.{Verdict}
 use Rattle.extremes.specs.Judged.{IsJudged}
@@ -87,7 +88,7 @@ are_many files = nat_lt (2 ^ 20) (length files)
 -- the input has this fault whatever bytes and files follow, where it isn't one of too many files then
 pub record Decides (i : Input) (fault : Fault) : Type 0 where
   pub whatever : (files : List (List ℕ)) → GoesOn i files
-      → IsRefusal (told (are_many files) fault) (read_with i files)
+      → IsRefusal is_memory (told (are_many files) fault) (read_with i files)
 
 -- what a reader of daily files was fed where an input is read for a query and some stations: it keeps the series of the
 -- query's element
@@ -164,7 +165,7 @@ pub record HoldsInput (t : Intake) (query : Asked) (held : Contents) : Type 0 wh
 
 -- want of memory, or the first fault of an intake's input
 pub record RefusesInput (t : Intake) (fault : Fault) : Type 0 where
-  pub is : (i : Input) → HasTaken t i → IsRefusal fault (read_given i)
+  pub is : (i : Input) → HasTaken t i → IsRefusal is_memory fault (read_given i)
 
 -- the fault is that of the files that a reader was fed
 pub record DataRefuses (r : DataReader) (fault : Fault) : Type 0 where

@@ -2,7 +2,8 @@
 
 ghost use Rattle.std.specs.Prelude.{◌≡◌, None, IfOk, IfErr, map};
 ghost use Rattle.extremes.specs.Ending.{ending_of};
-ghost use Rattle.extremes.specs.Input.{read_input, IsRefusal};
+ghost use Rattle.ghcn_fields.specs.Refusals.{IsRefusal};
+ghost use Rattle.extremes.specs.Input.{read_input, is_memory};
 ghost use Rattle.extremes.specs.Judged.{IsJudged};
 ghost use Rattle.extremes.specs.Taken.{HasTakenSome, JudgesInput, RefusesInput};
 
@@ -29,7 +30,7 @@ pub fn judge(
     ensures ok { IfOk result (IsJudged
         query.now stations.now (map (λ file. file.now) files.now) report.now certificate.now) }
     ensures err { IfErr result (λ fault.
-        IsRefusal fault (read_input None query.now stations.now (map (λ file. file.now) files.now))) }
+        IsRefusal is_memory fault (read_input None query.now stations.now (map (λ file. file.now) files.now))) }
 {
     let intake = Intake::of_files(alloc, 1, None, query, stations, files);
     judge_intake(alloc, intake, report, certificate)

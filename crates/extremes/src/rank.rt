@@ -1,9 +1,10 @@
 //! The ranking, from the bytes of the files to the bytes of the papers, in threads or on one.
 
-ghost use Rattle.std.specs.Prelude.{◌≡◌, true, IfOk, IfErr, map};
+ghost use Rattle.std.specs.Prelude.{◌≡◌, true, Err, IfOk, IfErr, map};
 ghost use Rattle.ghcn_series.specs.Held.{IsContents};
 ghost use Rattle.extremes.specs.Answer.{Answers, ArePapers, ArePapersOfPlan};
-ghost use Rattle.extremes.specs.Input.{is_crew, is_guess, read_input, read_run, IsRefusal};
+ghost use Rattle.ghcn_fields.specs.Refusals.{IsRefusal};
+ghost use Rattle.extremes.specs.Input.{is_crew, is_guess, read_input, read_run, is_memory};
 ghost use Rattle.extremes.specs.Taken.{HasTakenSome, AnswersInput, RefusesInput};
 ghost use Rattle.rank_sched.specs.Answers.{IsAnswerOfPlan};
 
@@ -41,11 +42,20 @@ pub fn rank<R: Threads + Wait + AllocGlobal + Sync, G: Gate + Sync>(
     ensures ok { IfOk result (Answers guess query.now stations.now (map (λ file. file.now) files.now)) }
     ensures workers { IfOk result (λ papers. is_crew workers ≡ true) }
     ensures err { IfErr result (λ fault.
-        IsRefusal fault (read_run workers guess query.now stations.now (map (λ file. file.now) files.now))) }
+        IsRefusal is_memory fault (read_run workers guess query.now stations.now (map (λ file. file.now) files.now))) }
 {
     let alloc = rt.alloc();
     let intake = Intake::of_files(alloc, workers, guess, query, stations, files);
-    rank_intake(rt, intake, gate)
+    rank_intake(rt, intake, gate).answer
+}
+
+/// What a ranking answers, and the data that it ranked.
+#[derive(Drop)]
+pub struct Ranked {
+    pub answer: Result<Papers, Fault>,
+    /// Nothing where there was a fault in what was given. To free many series takes a while, so a
+    /// caller may use the answer first.
+    pub held: Option<Data>,
 }
 
 /// Ranks the candidates of a query over what was given, as `rank` does.
@@ -53,16 +63,34 @@ pub fn rank_intake<R: Threads + Wait + AllocGlobal + Sync, G: Gate + Sync>(
     rt: &R,
     intake: Intake,
     gate: &G,
-) -> Result<Papers, Fault>
+) -> Ranked
     requires { HasTakenSome intake }
-    ensures ok { IfOk result (AnswersInput intake) }
-    ensures workers { IfOk result (λ papers. is_crew intake.workers ≡ true) }
-    ensures err { IfErr result (RefusesInput intake) }
+    ensures ok { IfOk result.answer (AnswersInput intake) }
+    ensures workers { IfOk result.answer (λ papers. is_crew intake.workers ≡ true) }
+    ensures err { IfErr result.answer (RefusesInput intake) }
 {
     let (workers, guess) = (intake.workers, intake.guess);
-    let (query, held) = intake.finish()?;
-    papers_of_one_element();
-    Ok(ranked_by_crew(rt, &held, &query, workers, guess, gate)?)
+    match intake.finish() {
+        Ok((query, held)) => {
+            papers_of_one_element();
+            let answer = ranked_by_crew(rt, &held, &query, workers, guess, gate);
+            Ranked {
+                answer,
+                held: Some(held),
+            }
+        }
+        Err(fault) => refused(fault),
+    }
+}
+
+/// What a ranking answers that has no data.
+pub(crate) fn refused(fault: Fault) -> Ranked
+    ensures { result.answer ≡ Err fault }
+{
+    Ranked {
+        answer: Err(fault),
+        held: None,
+    }
 }
 
 /// Ranks the candidates of a query over a station list and daily files: a report of the k best, and
@@ -81,16 +109,21 @@ pub fn rank_serial(
 ) -> Result<Papers, Fault>
     ensures ok { IfOk result (Answers guess query.now stations.now (map (λ file. file.now) files.now)) }
     ensures err { IfErr result (λ fault.
-        IsRefusal fault (read_input guess query.now stations.now (map (λ file. file.now) files.now))) }
+        IsRefusal is_memory fault (read_input guess query.now stations.now (map (λ file. file.now) files.now))) }
 {
     let intake = Intake::of_files(alloc, 1, guess, query, stations, files);
     let (query, held) = intake.finish()?;
     papers_of_one_element();
-    Ok(ranked(alloc, &held, &query, guess)?)
+    Ok(ranked_alone(alloc, &held, &query, guess)?)
 }
 
 /// The papers of a query, from a run of one worker that begins with a guess or none.
-fn ranked(alloc: Global, held: &Data, query: &Query, guess: Option<i64>) -> Result<Papers, Memory>
+fn ranked_alone(
+    alloc: Global,
+    held: &Data,
+    query: &Query,
+    guess: Option<i64>,
+) -> Result<Papers, Memory>
     requires guess { is_guess guess ≡ true }
     requires contents { IsContents held.now }
     ensures { IfOk result (ArePapers query.now held.now) }
@@ -108,15 +141,16 @@ fn ranked_by_crew<R: Threads + Wait + AllocGlobal + Sync, G: Gate + Sync>(
     workers: u64,
     guess: Option<i64>,
     gate: &G,
-) -> Result<Papers, Memory>
+) -> Result<Papers, Fault>
     requires crew { is_crew workers ≡ true }
     requires guess { is_guess guess ≡ true }
     requires contents { IsContents held.now }
-    ensures { IfOk result (ArePapers query.now held.now) }
+    ensures ok { IfOk result (ArePapers query.now held.now) }
+    ensures err { IfErr result (λ fault. is_memory fault ≡ true) }
 {
     let plan = survey(rt, rt.alloc(), held, query, workers, gate)?;
     let answer = crew(rt, rt.alloc(), &plan, workers, guess, gate)?;
-    papers_of(rt.alloc(), &plan, &answer, held.unlisted())
+    Ok(papers_of(rt.alloc(), &plan, &answer, held.unlisted())?)
 }
 
 /// The papers of a plan's answer, and how many lines were passed over.

@@ -13,7 +13,7 @@ use crate::fault::Fault;
 use crate::intake::Intake;
 use crate::judge::{ending, judge_intake};
 use crate::papers::Papers;
-use crate::rank::{rank_intake, rank_serial};
+use crate::rank::{self, Ranked, rank_intake, rank_serial};
 use crate::sample;
 use crate::words::command;
 use ghcn_fields::Memory;
@@ -67,7 +67,7 @@ fn run_command<R: Files + Print + Eprint + Threads + Wait + AllocGlobal + Sync>(
         } => {
             let out = certificate.as_ref().map(|path| path.as_str());
             match rank_files(rt, &System(rt), &stations, &files, &query, workers, guess) {
-                Ok(answer) => print_answer(rt, answer, out, &mut io::writer(rt)),
+                Ok(ranked) => print_ranked(rt, ranked, out),
                 Err(path) => not_read(rt, path),
             }
         }
@@ -117,6 +117,18 @@ fn no_words<R: Eprint>(rt: &R, error: &io::Error) -> Ending {
     Ending::Words
 }
 
+/// Prints what a ranking answers, and then frees its data.
+fn print_ranked<R: Files + Print + Eprint>(
+    rt: &R,
+    ranked: Ranked,
+    certificate: Option<&str>,
+) -> Ending {
+    let Ranked { answer, held } = ranked;
+    let ending = print_answer(rt, answer, certificate, &mut io::writer(rt));
+    drop(held);
+    ending
+}
+
 /// Ranks the texts that are built in.
 fn rank_sample<R: Files + Print + Eprint + AllocGlobal>(rt: &R) -> Ending {
     let files = [sample::DAILY];
@@ -134,16 +146,16 @@ fn rank_files<'p, R: Threads + Wait + AllocGlobal + Sync, A: Archive>(
     query: &str,
     workers: u64,
     guess: Option<i64>,
-) -> Result<Result<Papers, Fault>, &'p str>
-    ensures { IfOk result (RanksFiles workers guess query.now (A.bytes_of archive.now stations.now)
-        (map (λ path. A.bytes_of archive.now (string_bytes path)) files.now)) }
+) -> Result<Ranked, &'p str>
+    ensures { IfOk result (λ ranked. RanksFiles workers guess query.now (A.bytes_of archive.now stations.now)
+        (map (λ path. A.bytes_of archive.now (string_bytes path)) files.now) ranked.answer) }
 {
     let alloc = rt.alloc();
     let Ok(stations_text) = read_whole(alloc, archive, stations) else {
         return Err(stations);
     };
     let Ok(mut room) = piece_room(alloc) else {
-        return Ok(Err(Fault::Memory(Memory)));
+        return Ok(rank::refused(Fault::Memory(Memory)));
     };
     let mut intake = Intake::new(alloc, workers, guess, query, &stations_text);
     feed_files(archive, &mut intake, files, &mut room)?;

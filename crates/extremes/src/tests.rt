@@ -273,7 +273,7 @@ fn ranked_by_pieces<R: Threads + Wait + AllocGlobal + Sync>(
         }
         intake.end_of_file();
     }
-    Ok(rank_intake(rt, intake, &Open)?.report)
+    Ok(rank_intake(rt, intake, &Open).answer?.report)
 }
 
 /// A file of DAILY's lines with a carriage return before each line feed.
@@ -368,7 +368,7 @@ fn sources_are_fed_whole(rt: HostRuntime) {
         let mut intake = Intake::new(rt.alloc(), 1, None, "top 3 highest TMAX", STATIONS);
         let mut source: &[u8] = DAILY;
         assert!(rt; feed(&mut intake, &mut source, &mut buffer[..length]).is_ok());
-        let found = rank_intake(&rt, intake, &Open);
+        let found = rank_intake(&rt, intake, &Open).answer;
         let report = found.as_ref().map(|papers| papers.report.as_slice()).ok();
         assert_eq!(rt; report, Some(REPORT), "a buffer of {length} bytes");
     }

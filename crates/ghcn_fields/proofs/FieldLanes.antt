@@ -101,11 +101,17 @@ top-mark : (t : Bool) → top 7 (mark t) ≡ t
 top-mark true = refl
 top-mark false = refl
 
+-- a mask's lanes are those where 1 was taken by it, and 0 elsewhere
+one-mark : (t : Bool) → mark (eqb (cond (top 7 (mark t)) 1 0) 1) ≡ mark t
+one-mark true = refl
+one-mark false = refl
+
 -- what a byte's lane says, by the next byte, and whether its field goes on, ends, or was before
 abbrev lane : ℕ → ℕ → Bool → Bool → Bool → Bool
 lane b next front last behind =
     let digits = λ (x : ℕ). bit_and (mark (leb 48 x)) (mark (leb x 57)) in
-    let goes_on = bit_and (bit_or (digits b) (mark (eqb b 45))) (digits next) in
+    let before = mark (eqb (cond (top 7 (digits next)) 1 0) 1) in
+    let goes_on = bit_and (bit_or (digits b) (mark (eqb b 45))) before in
     top 7 (bit_or (bit_or (bit_or (mark (eqb b 32)) (bit_and goes_on (mark front))) (bit_and (digits b) (mark last)))
     (mark behind))
 
@@ -123,6 +129,7 @@ lane-is b next front last behind =
     rw (
       and-mark (leb 48 b) (leb b 57),
       and-mark (leb 48 next) (leb next 57),
+      one-mark n,
       or-mark d (b == 45),
       and-mark (d || (b == 45)) n,
       and-mark goes front,

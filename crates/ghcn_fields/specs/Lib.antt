@@ -3,6 +3,7 @@ pub mod Lines
 pub mod LineLaws
 pub mod Faults
 pub mod FaultLaws
+pub mod Refusals
 pub mod Numbers
 pub mod Fields
 pub mod NumberTexts

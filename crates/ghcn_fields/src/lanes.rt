@@ -23,14 +23,17 @@ pub fn has_bad_field(columns: &[u8; 16]) -> bool
     ensures { result ≡ (is_bad (int_field (take 5 columns.now)) || is_bad (int_field (take 5 (drop 8 columns.now)))) }
 {
     let bytes = u8x16::from_array(*columns);
-    let next = bytes.rotate_elements_left::<1>();
+    let ones = u8x16::splat(1);
     let blanks = bytes.simd_eq(u8x16::splat(b' '));
     let minuses = bytes.simd_eq(u8x16::splat(b'-'));
     let digits = bytes.simd_ge(u8x16::splat(b'0')) & bytes.simd_le(u8x16::splat(b'9'));
-    let before_digits = next.simd_ge(u8x16::splat(b'0')) & next.simd_le(u8x16::splat(b'9'));
-    let front = u8x16::from_array(FRONT).simd_eq(u8x16::splat(1));
-    let last = u8x16::from_array(LAST).simd_eq(u8x16::splat(1));
-    let behind = u8x16::from_array(BEHIND).simd_eq(u8x16::splat(1));
+    let next = digits
+        .select(ones, u8x16::splat(0))
+        .rotate_elements_left::<1>();
+    let before_digits = next.simd_eq(ones);
+    let front = u8x16::from_array(FRONT).simd_eq(ones);
+    let last = u8x16::from_array(LAST).simd_eq(ones);
+    let behind = u8x16::from_array(BEHIND).simd_eq(ones);
     let goes_on = (digits | minuses) & before_digits;
     !(blanks | goes_on & front | digits & last | behind).all()
 }

@@ -1,7 +1,10 @@
 -- The tests of a line of a daily file, one after the other.
 use Rattle.std.proofs.Common.{◌≡◌, ℕ, ◌≤◌, Bool, true, false, cond, List, length, take, drop, map, Option, Some, None}
 use Rattle.std.proofs.Common.{Ok, Err, refl, sym, ap, ◌∙◌, arith}
-use Rattle.std.specs.Prelude.{pos, unsigned_abs, nat_le}
+use Rattle.std.specs.Prelude.{pos, unsigned_abs, nat_le, ◌∷◌}
+use Rattle.std.specs.List.{range_with_len}
+use Rattle.std.proofs.lemmas.Simd.{pick_l-range_with_len}
+use lib.Lanes.{pick_l}
 use Rattle.std.specs.Option.{option_or}
 use Rattle.std.proofs.lemmas.Bool.{le-leb, le-ltb}
 use Rattle.ghcn_fields.specs.Bytes.{is_blank}
@@ -25,23 +28,27 @@ why_by long ends id year month days =
     cond long (cond ends (cond id (cond year (cond month days (Some BadMonth)) (Some BadYear)) (Some BadId))
     (Some TooLong)) (Some Short)
 
--- the year of a line that is long enough
-pub year_slice : (line : List ℕ) → 266 ≤ length line → int_field (take 4 (drop 11 line)) ≡ year_field line
-year_slice line long = ap int_field (sym (columns-slice 12 15 11 15 line (omega arith) (omega arith) (omega arith)
-    (omega arith)))
+-- the year of a line that is long enough, read behind a blank
+pub year_columns : (line : List ℕ) → 266 ≤ length line
+    → int_field (32 ∷ pick_l 0 line (range_with_len 11 4)) ≡ year_field line
+year_columns line long =
+    ap int_field (pick_l-range_with_len 0 line 11 4 (omega arith)
+    ∙ sym (columns-slice 12 15 11 15 line (omega arith) (omega arith) (omega arith) (omega arith)))
 
--- its month
-pub month_slice : (line : List ℕ) → 266 ≤ length line → int_field (take 2 (drop 15 line)) ≡ month_field line
-month_slice line long = ap int_field (sym (columns-slice 16 17 15 17 line (omega arith) (omega arith) (omega arith)
-    (omega arith)))
+-- its month, read behind three blanks
+pub month_columns : (line : List ℕ) → 266 ≤ length line
+    → int_field (32 ∷ 32 ∷ 32 ∷ pick_l 0 line (range_with_len 15 2)) ≡ month_field line
+month_columns line long =
+    ap int_field (pick_l-range_with_len 0 line 15 2 (omega arith)
+    ∙ sym (columns-slice 16 17 15 17 line (omega arith) (omega arith) (omega arith) (omega arith)))
 
 -- how the tests of a line that is long enough came out
 pub record Tested (line : List ℕ) (ends id year month : Bool) : Type 0 where
   pub long : 266 ≤ length line
   pub ends_is : is_blank (drop 269 line) ≡ ends
   pub id_is : is_id (columns 1 11 line) ≡ id
-  pub year_is : is_number_within (pos 1) (pos 9999) (int_field (take 4 (drop 11 line))) ≡ year
-  pub month_is : is_number_within (pos 1) (pos 12) (int_field (take 2 (drop 15 line))) ≡ month
+  pub year_is : is_number_within (pos 1) (pos 9999) (year_field line) ≡ year
+  pub month_is : is_number_within (pos 1) (pos 12) (month_field line) ≡ month
 
 -- the first test that fails is that of how the tests came out
 pub head_why-tested : {line : List ℕ} {ends id year month : Bool}
@@ -54,10 +61,8 @@ head_why-tested {line} {ends} {id} {year} {month} t =
     (le-leb 266 (length line) t.long)
     ∙ ap (λ (b : Bool). why_by true b (is_id (columns 1 11 line)) in_year in_month tests) t.ends_is
     ∙ ap (λ (b : Bool). why_by true ends b in_year in_month tests) t.id_is
-    ∙ ap (λ (b : Bool). why_by true ends id b in_month tests)
-    (ap (is_number_within (pos 1) (pos 9999)) (sym (year_slice line t.long)) ∙ t.year_is)
-    ∙ ap (λ (b : Bool). why_by true ends id year b tests)
-    (ap (is_number_within (pos 1) (pos 12)) (sym (month_slice line t.long)) ∙ t.month_is)
+    ∙ ap (λ (b : Bool). why_by true ends id b in_month tests) t.year_is
+    ∙ ap (λ (b : Bool). why_by true ends id year b tests) t.month_is
 
 -- tests behind others count where none of those fails
 why_parts : (long ends id year month : Bool) (days : Option LineWhy)

@@ -11,9 +11,11 @@ use Rattle.ghcn_files.specs.declared.station.Station.{Station}
 use Rattle.ghcn_files.specs.declared.fault.StationsFault.{StationsFault}
 use Rattle.ghcn_files.specs.declared.fault.StationsFault.TheVariants.{StationLine, TooManyStations, Memory}
 use Rattle.ghcn_files.specs.StationLines.{station_of}
+use Rattle.ghcn_fields.specs.Refusals.{IsRefusal}
 use Rattle.ghcn_files.specs.Listed.{Numbered, stations_of, station_fault, station_lines, listed, listed_unless}
 use Rattle.ghcn_files.specs.KeptStations.{Adds}
-use Rattle.ghcn_files.specs.Listed.{IsRefusal, IsFirstRefusal}
+use Rattle.ghcn_fields.specs.Refusals.{IsRefusal}
+use Rattle.ghcn_files.specs.Listed.{is_memory, IsFirstRefusal}
 use Rattle.ghcn_files.specs.KeptStations.{IsFaultAfter, IsRefusedFor}
 
 -- the lines that aren't blank
@@ -128,7 +130,7 @@ refused text l f first = ap (λ (o : Option (Numbered × StationsFault)). listed
 pub ends_by : (text : List ℕ) (k : ℕ) (held : List Station) (l : Numbered) (f : StationsFault)
     → k < length (numbered_lines text) → l ≡ get_or (numbered_lines text) k l → is_blank l.1 ≡ false
     → IsRefusedFor f held l → HasRead (numbered_lines text) k held
-    → IsRefusal f (listed text) × IsFirstRefusal f text
+    → IsRefusal is_memory f (listed text) × IsFirstRefusal f text
 ends_by text k held l (Memory m) lt is shown bad h = (tt, tt)
 ends_by text k held l (StationLine n why) lt is shown bad h =
     let first = fault_here text k held l (StationLine n why) lt is shown bad h in

@@ -9,7 +9,8 @@ use Rattle.ghcn_files.specs.declared.station.StationId.{StationId}
 use Rattle.ghcn_files.specs.declared.station.Station.{Station}
 use Rattle.ghcn_files.specs.declared.fault.StationsFault.{StationsFault}
 use Rattle.ghcn_files.specs.StationLines.{station_of}
-use Rattle.ghcn_files.specs.Listed.{Numbered, stations_of, station_fault, place_of, AreListed, OrMemory}
+use Rattle.ghcn_fields.specs.Refusals.{OrMemory}
+use Rattle.ghcn_files.specs.Listed.{Numbered, stations_of, station_fault, place_of, AreListed, is_memory}
 
 -- the bytes of an ID as two numbers: of the first eight and of the last four, the most significant byte first
 abbrev pub key_of : List ℕ → ℕ × ℕ
@@ -44,4 +45,4 @@ IsFaultAfter fault held l =
 
 -- want of memory, or the very fault of the line
 abbrev pub IsRefusedFor : StationsFault → List Station → Numbered → Type 0
-IsRefusedFor fault held l = OrMemory (λ f. IsFaultAfter f held l) fault
+IsRefusedFor fault held l = OrMemory is_memory (λ f. IsFaultAfter f held l) fault

@@ -1,11 +1,12 @@
 -- The listed stations of a text, or the first line with a fault.
-use Rattle.std.specs.Prelude.{◌≡◌, ℕ, ◌≤◌, ◌^◌, Bool, not, nat_lt, if◌then◌else◌, List, length, map}
-use Rattle.std.specs.Prelude.{Option, None, Some, Result, Ok, Err, filter, ⊤, IsTrue}
+use Rattle.std.specs.Prelude.{ℕ, ◌≤◌, ◌^◌, Bool, true, false, not, nat_lt, if◌then◌else◌, List, length, map}
+use Rattle.std.specs.Prelude.{Option, None, Some, Result, Ok, Err, filter, IsTrue}
 use Rattle.std.specs.List.{list_all, list_any, IsDistinct, position}
 use Rattle.std.specs.Option.{option_or, option_map}
 use Rattle.ghcn_fields.specs.Bytes.{is_blank}
 use Rattle.ghcn_fields.specs.Lines.{numbered_lines}
 use Rattle.ghcn_fields.specs.Faults.{first_fault, IsFirstFault}
+use Rattle.ghcn_fields.specs.Refusals.{OrMemory}
 use Rattle.ghcn_files.specs.declared.station.StationId.{StationId}
 use Rattle.ghcn_files.specs.declared.station.Station.{Station}
 use Rattle.ghcn_files.specs.declared.fault.StationWhy.{StationWhy}
@@ -64,15 +65,10 @@ pub record AreListed (stations : List Station) : Type 0 where
   pub few : length stations ≤ 2 ^ 20
   pub right : IsTrue (list_all is_station stations)
 
--- want of memory, or a fault of which something is true
-abbrev pub OrMemory : (StationsFault → Type 0) → StationsFault → Type 0
-OrMemory P (Memory m) = ⊤
-OrMemory P (StationLine line why) = P (StationLine line why)
-OrMemory P TooManyStations = P TooManyStations
-
--- want of memory, or the very fault that the text has
-abbrev pub IsRefusal : StationsFault → Result (List Station) StationsFault → Type 0
-IsRefusal fault read = OrMemory (λ f. read ≡ Err f) fault
+-- memory ran out
+abbrev pub is_memory : StationsFault → Bool
+is_memory (Memory m) = true
+is_memory fault = false
 
 -- some line of the text is the first with a fault, and has this one
 abbrev pub HasFirst : StationsFault → List ℕ → Type 0
@@ -80,4 +76,4 @@ HasFirst fault text = (l : Numbered) × IsFirstFault station_fault (station_line
 
 -- want of memory, or the fault of the first line that has one
 abbrev pub IsFirstRefusal : StationsFault → List ℕ → Type 0
-IsFirstRefusal fault text = OrMemory (λ f. HasFirst f text) fault
+IsFirstRefusal fault text = OrMemory is_memory (λ f. HasFirst f text) fault

@@ -17,7 +17,7 @@ ghost use Rattle.ghcn_files.specs.Months as months;
 
 use crate::missing::{is_bad, unless_missing};
 use crate::{Element, LineWhy, StationId};
-use ghcn_fields::{Field, int_field, is_blank, value_field};
+use ghcn_fields::{is_blank, value_field, value_or};
 
 /// The columns up to the element's last.
 pub(crate) const UP_TO_ELEMENT: usize = 21;
@@ -116,10 +116,10 @@ pub(crate) fn head_of(line: &[u8]) -> Result<Head, LineWhy>
     let Some(id) = StationId::of_line(line) else {
         return Err(LineWhy::BadId);
     };
-    let Some(year) = number_up_to(9999, &line[11..15]) else {
+    let Some(year) = year_of(line) else {
         return Err(LineWhy::BadYear);
     };
-    let Some(month) = number_up_to(12, &line[15..17]) else {
+    let Some(month) = month_number(line) else {
         return Err(LineWhy::BadMonth);
     };
     Ok(Head {
@@ -136,14 +136,34 @@ fn only_blanks_follow(line: &[u8]) -> bool
     line.len() <= COLUMNS || is_blank(&line[COLUMNS..])
 }
 
+/// The year of a line, where its four columns are one.
+fn year_of(line: &[u8]) -> Option<u16>
+    requires { 266 ≤ length line.now }
+    ensures value { result ≡ stations.natural_up_to 9999 (months.year_field line.now) }
+    ensures range { IfSome result (λ year. year ≤ 9999) }
+{
+    number_up_to(9999, &[b' ', line[11], line[12], line[13], line[14]])
+}
+
+/// The month of a line, where its two columns are one.
+fn month_number(line: &[u8]) -> Option<u16>
+    requires { 266 ≤ length line.now }
+    ensures value { result ≡ stations.natural_up_to 12 (months.month_field line.now) }
+    ensures range { IfSome result (λ month. month ≤ 12) }
+{
+    number_up_to(12, &[b' ', b' ', b' ', line[15], line[16]])
+}
+
 /// The whole number of a field, where it has one from 1 to a limit.
-fn number_up_to(limit: u16, field: &[u8]) -> Option<u16>
+fn number_up_to(limit: u16, field: &[u8; 5]) -> Option<u16>
     ensures value { result ≡ stations.natural_up_to limit (numbers.int_field field.now) }
     ensures range { IfSome result (λ number. (1 ≤ number) × (number ≤ limit)) }
 {
-    match int_field(field) {
-        Field::Number(number) if 1 <= number && number <= limit as i32 => Some(number as u16),
-        _ => None,
+    let (_, number) = value_or(field, 0);
+    if 1 <= number && number <= limit as i32 {
+        Some(number as u16)
+    } else {
+        None
     }
 }
 

@@ -1,7 +1,7 @@
 //! Months of daily values as rows: what one line of a daily file says, without what doesn't count.
 
 ghost use Rattle.std.specs.Prelude.{◌≡◌, ◌≤◌, ◌<◌, ◌+◌, ◌^◌, length, Some, None, IfOk, IfErr, false, ◌&&◌, not, nat_lt};
-ghost use Rattle.std.specs.Prelude.{if◌then◌else◌, ◌++◌, ◌-◌, replicate};
+ghost use Rattle.std.specs.Prelude.{if◌then◌else◌, ◌++◌, ◌-◌, replicate, OnOk};
 ghost use Rattle.ghcn_files.specs.Elements.{least_of, is_kept};
 ghost use Rattle.ghcn_files.specs.Months as months;
 ghost use Rattle.ghcn_files.specs.Rows as rows;
@@ -92,10 +92,21 @@ fn no_days(line: &[u8]) -> Result<(u32, [i32; 32]), LineWhy>
     ensures days { IfOk result (λ row. rows.AreDays (λ _. None) row.0 row.1) }
 {
     if has_bad_value(line) {
-        // It says which one.
-        readings(line)?;
+        test_values(line)?;
     }
     Ok((0, [0; 32]))
+}
+
+/// Refuses a line for the first day whose value is no number. It isn't built into its callers, which
+/// would clear the room for all 31 readings at each line.
+#[inline(never)]
+fn test_values(line: &[u8]) -> Result<(), LineWhy>
+    requires { 266 ≤ length line.now }
+    ensures err { IfErr result (λ why. months.days_why line.now ≡ Some why) }
+    ensures fine { OnOk result (months.days_why line.now ≡ None) }
+{
+    readings(line)?;
+    Ok(())
 }
 
 /// Whether a value of a line is bad.
@@ -131,8 +142,7 @@ fn days_of(element: Element, count: u8, line: &[u8]) -> Result<(u32, [i32; 32]),
 {
     let mut values = [MISSING; 32];
     if read_values(line, &mut values) {
-        // It says which one.
-        readings(line)?;
+        test_values(line)?;
     }
     Ok(values_from(least_of(element), count, &values))
 }

@@ -7,7 +7,8 @@ ghost use Rattle.std.specs.Option.{option_copied};
 ghost use Rattle.ghcn_files.specs.StationLines.{is_station};
 ghost use Rattle.ghcn_files.specs.Listed.{AreListed, is_station_of, place_of, listed};
 ghost use Rattle.ghcn_files.specs.KeptStations.{AreEleven, key_of, Adds};
-ghost use Rattle.ghcn_files.specs.Listed.{IsRefusal, IsFirstRefusal};
+ghost use Rattle.ghcn_fields.specs.Refusals.{IsRefusal};
+ghost use Rattle.ghcn_files.specs.Listed.{is_memory, IsFirstRefusal};
 ghost use Rattle.ghcn_files.specs.KeptStations.{IsRefusedFor};
 
 use crate::{Station, StationId, StationWhy, StationsFault};
@@ -45,7 +46,7 @@ impl Stations {
     /// are passed over; the first line with a fault decides.
     pub fn read(alloc: Global, text: &[u8]) -> Result<Self, StationsFault>
         ensures ok { IfOk result (λ stations. listed text.now ≡ Ok stations) }
-        ensures err { IfErr result (λ fault. IsRefusal fault (listed text.now)) }
+        ensures err { IfErr result (λ fault. IsRefusal is_memory fault (listed text.now)) }
         ensures first { IfErr result (λ fault. IsFirstRefusal fault text.now) }
     {
         let mut stations = Stations {

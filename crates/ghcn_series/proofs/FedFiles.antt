@@ -6,7 +6,8 @@ use Rattle.std.proofs.lemmas.List.{append-nil, take-append-drop, take_more, get_
 use Rattle.ghcn_files.specs.declared.station.Station.{Station}
 use Rattle.ghcn_files.specs.declared.element.Element.{Element}
 use Rattle.ghcn_series.specs.declared.fault.DataFault.{DataFault}
-use Rattle.ghcn_series.specs.DailyFaults.{IsRefusal}
+use Rattle.ghcn_fields.specs.Refusals.{IsRefusal}
+use Rattle.ghcn_series.specs.DailyFaults.{is_memory}
 use Rattle.ghcn_series.specs.Says.{data_of}
 use Rattle.ghcn_series.specs.Fed.{Fed, IsToldOf, and_current}
 use Rattle.ghcn_series.proofs.ReadFiles.{texts, length-texts}
@@ -32,13 +33,13 @@ texts-more files i d lt =
 pub told_in_file : (stations : List Station) (files : List (Bor (List ℕ))) (i : ℕ) (d : Bor (List ℕ)) (f : DataFault)
     → i < length files → length files ≤ 2 ^ 20
     → IsToldOf stations (and_current (take i (texts files)) ((get_or files i d).now ++ [])) f
-    → IsRefusal f (data_of stations (texts files))
+    → IsRefusal is_memory f (data_of stations (texts files))
 told_in_file stations files i d f lt few told =
     let le : length (texts files) ≤ 2 ^ 20 = omega (arith, length-texts files, few) in
     let of : IsToldOf stations (and_current (take i (texts files)) (get_or files i d).now) f =
     rw (append-nil (get_or files i d).now) at told in
     elim (get_or files i d).now as (λ t. (get_or files i d).now ≡ t
-    → IsToldOf stations (and_current (take i (texts files)) t) f → IsRefusal f (data_of stations (texts files))) [
+    → IsToldOf stations (and_current (take i (texts files)) t) f → IsRefusal is_memory f (data_of stations (texts files))) [
       | [] ↦ λ empty here. told_all stations (take i (texts files)) (drop i (texts files)) (texts files) f
           (take-append-drop i (texts files)) le here
       | b ∷ bs ↦ λ some here.
@@ -52,7 +53,7 @@ told_in_file stations files i d f lt few told =
 pub told_at_file : (stations : List Station) (files : List (Bor (List ℕ))) (i : ℕ) (d : Bor (List ℕ)) (f : DataFault)
     → i < length files → length files ≤ 2 ^ 20
     → IsToldOf stations (take i (texts files) ++ (get_or files i d).now ∷ []) f
-    → IsRefusal f (data_of stations (texts files))
+    → IsRefusal is_memory f (data_of stations (texts files))
 told_at_file stations files i d f lt few told =
     told_all stations (take i (texts files) ++ (get_or files i d).now ∷ []) (drop (i + 1) (texts files)) (texts files) f
     (ap (λ (fs : List (List ℕ)). fs ++ drop (i + 1) (texts files)) (sym (texts-more files i d lt))

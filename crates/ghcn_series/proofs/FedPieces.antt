@@ -17,7 +17,8 @@ use Rattle.ghcn_series.specs.declared.reader.Reader.{Reader}
 use Rattle.ghcn_series.specs.declared.pieces.DataReader.{DataReader}
 use Rattle.ghcn_series.specs.declared.fault.DataFault.{DataFault}
 use Rattle.ghcn_series.specs.DailyFaults.{not_blank, one_line, file_lines, daily_lines}
-use Rattle.ghcn_series.specs.DailyFaults.{IsRefusal}
+use Rattle.ghcn_fields.specs.Refusals.{IsRefusal}
+use Rattle.ghcn_series.specs.DailyFaults.{is_memory}
 use Rattle.ghcn_series.specs.Says.{contents, data_of}
 use Rattle.ghcn_series.specs.Series.{Contents}
 use Rattle.ghcn_series.specs.Gathered.{HasReadLines, IsLineRefusal}
@@ -333,7 +334,7 @@ data_fed r fed held none holds is =
 
 -- a fault that is told when the current file is ended is that of the files
 pub told_at_end : (r : DataReader) (fed : Fed) (f : DataFault) → 0 < r.line + length r.rest.items → HasFed r fed
-    → IsToldOf fed.stations (fed.ended ++ fed.current ∷ []) f → IsRefusal f (data_of fed.stations (files_of fed))
+    → IsToldOf fed.stations (fed.ended ++ fed.current ∷ []) f → IsRefusal is_memory f (data_of fed.stations (files_of fed))
 told_at_end r fed f some is told =
     rw (and_current-some fed.ended fed.current (begun r fed some is))
     (told_here fed.stations (fed.ended ++ fed.current ∷ []) f told)
@@ -352,7 +353,7 @@ lines_read r fed is = (daily_lines fed.ended ++ file_lines (length fed.ended + 1
 
 -- a refusal of the files that were fed is that of their first line with a fault
 pub refuses_fed : (r : DataReader) (f : DataFault)
-    → ((fed : Fed) → HasFed r fed → IsRefusal f (data_of fed.stations (files_of fed))) → RefusesFed r f
+    → ((fed : Fed) → HasFed r fed → IsRefusal is_memory f (data_of fed.stations (files_of fed))) → RefusesFed r f
 refuses_fed r f is = record {
   is = is;
   first = λ fed has. first_refusal fed.stations (files_of fed) f has.few (is fed has);

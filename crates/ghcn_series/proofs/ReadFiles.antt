@@ -11,7 +11,8 @@ use Rattle.ghcn_files.specs.Months.{read_month}
 use Rattle.ghcn_series.specs.declared.fault.DailyWhy.{DailyWhy}
 use Rattle.ghcn_series.specs.declared.fault.DataFault.{DataFault}
 use Rattle.ghcn_series.specs.declared.fault.DataFault.TheVariants.{DailyLine, TooManyFiles, Memory}
-use Rattle.ghcn_series.specs.DailyFaults.{FileLine, daily_lines, daily_why, daily_fault, IsRefusal, IsFirstRefusal}
+use Rattle.ghcn_fields.specs.Refusals.{IsRefusal}
+use Rattle.ghcn_series.specs.DailyFaults.{FileLine, daily_lines, daily_why, daily_fault, is_memory, IsFirstRefusal}
 use Rattle.ghcn_series.specs.DailyFaults.{HasFirst}
 use Rattle.ghcn_series.specs.Series.{Contents}
 use Rattle.ghcn_series.specs.Says.{contents, contents_unless, data_of}
@@ -40,7 +41,7 @@ data_of-right stations files few right =
 
 -- files with a fault have their first
 pub data_of-refused : (stations : List Station) (files : List (List ℕ)) (f : DataFault) → length files ≤ 2 ^ 20
-    → IsLineRefusal stations (daily_lines files) f → IsRefusal f (data_of stations files)
+    → IsLineRefusal stations (daily_lines files) f → IsRefusal is_memory f (data_of stations files)
 data_of-refused stations files (Memory m) few is = tt
 data_of-refused stations files TooManyFiles few is = absurd is
 data_of-refused stations files (DailyLine file line why) few is =
@@ -65,7 +66,7 @@ not_of_a_line file line n (Some why) e = absurd cc
 
 -- a refusal of so few files is that of their first line with a fault
 pub first_refusal : (stations : List Station) (files : List (List ℕ)) (f : DataFault) → length files ≤ 2 ^ 20
-    → IsRefusal f (data_of stations files) → IsFirstRefusal f stations files
+    → IsRefusal is_memory f (data_of stations files) → IsFirstRefusal f stations files
 first_refusal stations files (Memory m) few is = tt
 first_refusal stations files TooManyFiles few is =
     let ls = daily_lines files in

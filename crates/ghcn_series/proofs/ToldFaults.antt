@@ -6,7 +6,8 @@ use Rattle.ghcn_files.specs.declared.station.Station.{Station}
 use Rattle.ghcn_series.specs.declared.fault.DataFault.{DataFault}
 use Rattle.ghcn_series.specs.declared.fault.DataFault.TheVariants.{DailyLine, TooManyFiles, Memory}
 use Rattle.ghcn_series.specs.DailyFaults.{FileLine, daily_lines}
-use Rattle.ghcn_series.specs.DailyFaults.{IsRefusal}
+use Rattle.ghcn_fields.specs.Refusals.{IsRefusal}
+use Rattle.ghcn_series.specs.DailyFaults.{is_memory}
 use Rattle.ghcn_series.specs.Says.{data_of}
 use Rattle.ghcn_series.specs.Gathered.{IsLineRefusal}
 use Rattle.ghcn_series.specs.Fed.{IsToldOf}
@@ -32,7 +33,7 @@ told_of stations files ls behind (DailyLine file line why) few is refused = reco
 
 -- a fault that is told of the first files is that of all
 pub told_all : (stations : List Station) (files others all : List (List ℕ)) (f : DataFault) → files ++ others ≡ all
-    → length all ≤ 2 ^ 20 → IsToldOf stations files f → IsRefusal f (data_of stations all)
+    → length all ≤ 2 ^ 20 → IsToldOf stations files f → IsRefusal is_memory f (data_of stations all)
 told_all stations files others all (Memory m) is few told = tt
 told_all stations files others all TooManyFiles is few told =
     absurd (omega (arith, told, few, ap length is, length-append files others))
@@ -41,7 +42,7 @@ told_all stations files others all (DailyLine file line why) is few told =
 
 -- a fault that is told of files is theirs
 pub told_here : (stations : List Station) (files : List (List ℕ)) (f : DataFault) → IsToldOf stations files f
-    → IsRefusal f (data_of stations files)
+    → IsRefusal is_memory f (data_of stations files)
 told_here stations files (Memory m) told = tt
 told_here stations files TooManyFiles told = data_of-many stations files told
 told_here stations files (DailyLine file line why) told =

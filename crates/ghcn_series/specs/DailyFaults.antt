@@ -1,6 +1,6 @@
 -- The lines of the daily files in order, and the first of them with a fault.
-use Rattle.std.specs.Prelude.{◌≡◌, ℕ, ◌<◌, ◌^◌, Bool, ◌&&◌, not, ◌==◌, if◌then◌else◌, List, length, map, Option, None}
-use Rattle.std.specs.Prelude.{Some, Result, Ok, Err, filter, ⊤, [], ◌∷◌}
+use Rattle.std.specs.Prelude.{ℕ, ◌<◌, ◌^◌, Bool, true, false, ◌&&◌, not, ◌==◌, if◌then◌else◌, List, length}
+use Rattle.std.specs.Prelude.{map, Option, None, Some, Result, Ok, Err, filter, ⊤, [], ◌∷◌}
 use Rattle.std.specs.List.{list_any, flat_map, filter_map, enumerate_from}
 use Rattle.std.specs.Option.{option_map}
 use Rattle.std.specs.Str.Lines.{strip_carriage_return}
@@ -19,7 +19,6 @@ use Rattle.ghcn_series.specs.declared.fault.DailyWhy.{DailyWhy}
 use Rattle.ghcn_series.specs.declared.fault.DailyWhy.TheVariants.{Line, DuplicateMonth}
 use Rattle.ghcn_series.specs.declared.fault.DataFault.{DataFault}
 use Rattle.ghcn_series.specs.declared.fault.DataFault.TheVariants.{DailyLine, TooManyFiles, Memory}
-use Rattle.ghcn_series.specs.Series.{Contents}
 
 -- a line of the daily files that isn't blank
 pub record FileLine : Type 0 where
@@ -80,11 +79,10 @@ abbrev pub daily_fault : List Station → List FileLine → FileLine → Option 
 daily_fault stations earlier l = option_map (λ why. DailyLine l.file l.line why)
     (daily_why stations earlier (read_month l.bytes))
 
--- want of memory, or the very fault that the files have
-abbrev pub IsRefusal : DataFault → Result Contents DataFault → Type 0
-IsRefusal (Memory m) read = ⊤
-IsRefusal (DailyLine file line why) read = read ≡ Err (DailyLine file line why)
-IsRefusal TooManyFiles read = read ≡ Err TooManyFiles
+-- memory ran out
+abbrev pub is_memory : DataFault → Bool
+is_memory (Memory m) = true
+is_memory fault = false
 
 -- some line is the first with a fault, and has this one
 abbrev pub HasFirst : DataFault → List Station → List FileLine → Type 0

@@ -4,7 +4,8 @@ use Rattle.ghcn_fields.specs.Lines.{lines, HasNoLineFeed, EndsLine}
 use Rattle.ghcn_series.specs.declared.pieces.DataReader.{DataReader}
 use Rattle.ghcn_series.specs.declared.fault.DataFault.{DataFault}
 use Rattle.ghcn_series.specs.Series.{Contents}
-use Rattle.ghcn_series.specs.DailyFaults.{one_line, file_lines, daily_lines, IsRefusal, IsFirstRefusal}
+use Rattle.ghcn_fields.specs.Refusals.{IsRefusal}
+use Rattle.ghcn_series.specs.DailyFaults.{one_line, file_lines, daily_lines, is_memory, IsFirstRefusal}
 use Rattle.ghcn_series.specs.Says.{data_of}
 use Rattle.ghcn_series.specs.Kept.{AreKept}
 use Rattle.ghcn_series.specs.Gathered.{HasReadLines}
@@ -52,7 +53,7 @@ pub record HoldsFed (r : DataReader) (held : Contents) : Type 0 where
 
 -- want of memory, or the first fault of the files that a reader was fed
 pub record RefusesFed (r : DataReader) (fault : DataFault) : Type 0 where
-  pub is : (fed : Fed) → HasFed r fed → IsRefusal fault (data_of fed.stations (files_of fed))
+  pub is : (fed : Fed) → HasFed r fed → IsRefusal is_memory fault (data_of fed.stations (files_of fed))
   pub first : (fed : Fed) → HasFed r fed → IsFirstRefusal fault fed.stations (files_of fed)
 
 -- a reader adds the line of the current file of which these are the last bytes

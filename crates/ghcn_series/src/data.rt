@@ -4,7 +4,8 @@ ghost use Rattle.std.specs.Prelude.{◌≡◌, ◌<◌, ◌^◌, map, length, sl
 ghost use Rattle.std.specs.List.{find};
 ghost use Rattle.std.specs.Option.{option_and_then, option_copied};
 ghost use Rattle.ghcn_series.specs.Series.{series_of};
-ghost use Rattle.ghcn_series.specs.DailyFaults.{IsRefusal, IsFirstRefusal};
+ghost use Rattle.ghcn_fields.specs.Refusals.{IsRefusal};
+ghost use Rattle.ghcn_series.specs.DailyFaults.{is_memory, IsFirstRefusal};
 ghost use Rattle.ghcn_series.specs.Says.{data_of};
 ghost use Rattle.ghcn_series.specs.Held.{IsContents, AreByStation, contents, is_of_element};
 ghost use Rattle.ghcn_series.specs.Kept.{AreKept};
@@ -42,7 +43,7 @@ impl Data {
     /// Reads daily files, in their order. A line of a station that isn't listed is passed over.
     pub fn read(alloc: Global, stations: Stations, files: &[&[u8]]) -> Result<Self, DataFault>
         ensures ok { IfOk result (λ held. data_of stations (map (λ f. f.now) files.now) ≡ Ok held) }
-        ensures err { IfErr result (λ fault. IsRefusal fault (data_of stations (map (λ f. f.now) files.now))) }
+        ensures err { IfErr result (λ fault. IsRefusal is_memory fault (data_of stations (map (λ f. f.now) files.now))) }
         ensures first { IfErr result (λ fault. IsFirstRefusal fault stations (map (λ f. f.now) files.now)) }
         ensures many { 2 ^ 20 < length files.now → result ≡ Err DataFault.TooManyFiles }
     {
@@ -57,7 +58,7 @@ impl Data {
         element: Element,
     ) -> Result<Self, DataFault>
         ensures ok { IfOk result (AreKept (Some element) stations (map (λ f. f.now) files.now)) }
-        ensures err { IfErr result (λ fault. IsRefusal fault (data_of stations (map (λ f. f.now) files.now))) }
+        ensures err { IfErr result (λ fault. IsRefusal is_memory fault (data_of stations (map (λ f. f.now) files.now))) }
         ensures first { IfErr result (λ fault. IsFirstRefusal fault stations (map (λ f. f.now) files.now)) }
         ensures many { 2 ^ 20 < length files.now → result ≡ Err DataFault.TooManyFiles }
     {
@@ -72,7 +73,7 @@ impl Data {
         element: Option<Element>,
     ) -> Result<Self, DataFault>
         ensures ok { IfOk result (AreKept element stations (map (λ f. f.now) files.now)) }
-        ensures err { IfErr result (λ fault. IsRefusal fault (data_of stations (map (λ f. f.now) files.now))) }
+        ensures err { IfErr result (λ fault. IsRefusal is_memory fault (data_of stations (map (λ f. f.now) files.now))) }
         ensures first { IfErr result (λ fault. IsFirstRefusal fault stations (map (λ f. f.now) files.now)) }
         ensures many { 2 ^ 20 < length files.now → result ≡ Err DataFault.TooManyFiles }
     {

@@ -1,9 +1,16 @@
-use Rattle.extremes.proofs.Finishes.{answers_input}
+use Rattle.std.proofs.lemmas.Result.{IfOk-weaker, IfErr-weaker}
+use Rattle.extremes.proofs.Finishes.{answers_input, memory_refuses}
 use Rattle.extremes.proofs.rank.rank_intake.Goals as goal
 
 -- the papers of what the query needs answer all that was given
-pub returns-clause-ok : goal.returns-clause-ok
-returns-clause-ok g c =
-    answers_input c.args.intake c.in_ok-query.query c.in_ok-query.held c.in_ok-ranked_by_crew.field-0
-    c.papers_of_one_element.ensures.report c.papers_of_one_element.ensures.measured c.in_ok-query.ensures.ok
-    c.in_ok-ranked_by_crew.ensures
+pub returns-in-Ok-clause-ok : goal.returns-in-Ok-clause-ok
+returns-in-Ok-clause-ok g c =
+    IfOk-weaker c.ranked_by_crew-answer.result _ _ (λ papers are.
+    answers_input c.args.intake _ _ papers
+    c.papers_of_one_element.ensures.report c.papers_of_one_element.ensures.measured c.in-Ok.ensures.ok are)
+    c.ranked_by_crew-answer.ensures.ok
+
+-- want of memory is a refusal of any input
+pub returns-in-Ok-clause-err : goal.returns-in-Ok-clause-err
+returns-in-Ok-clause-err g c =
+    IfErr-weaker c.ranked_by_crew-answer.result _ _ (memory_refuses c.args.intake) c.ranked_by_crew-answer.ensures.err

@@ -6,8 +6,8 @@ use Rattle.extremes.proofs.rank.rank_serial.Goals as goal
 -- the papers of what the query needs answer all that was given
 pub returns-clause-ok : goal.returns-clause-ok
 returns-clause-ok c =
-    (answers_input c.of_files-intake.result c.in_ok-query.query c.in_ok-query.held c.in_ok-ranked.field-0
+    (answers_input c.of_files-intake.result c.in_ok-query.query c.in_ok-query.held c.in_ok-ranked_alone.field-0
     c.papers_of_one_element.ensures.report c.papers_of_one_element.ensures.measured c.in_ok-query.ensures.ok
-    c.in_ok-ranked.ensures).is
+    c.in_ok-ranked_alone.ensures).is
     (given 1 c.args.guess c.args.query.now c.args.stations.now (map (λ file. file.now) c.args.files.now))
     c.of_files-intake.ensures

@@ -1,5 +1,4 @@
 use Rattle.std.proofs.Common.{ap, ◌∙◌, subst}
-use Rattle.std.proofs.lemmas.Result.{IfOk-weaker}
 use Rattle.rank_query.specs.Asked.{IsAsked}
 use Rattle.rank_sched.specs.Plan.{Planned}
 use Rattle.extremes.proofs.Crews.{some_workers, few_workers}
@@ -32,7 +31,9 @@ pub papers_of-requires : goal.papers_of-requires
 papers_of-requires g c = crew_is_plan _ _ _ _ c.in_ok-answer.ensures.answer
 
 -- the papers of the plan are those of the query and the data
-pub returns : goal.returns
-returns g c =
-    let asked = subst IsAsked (ap (λ (p : Planned). p.query) (c.plan.view_is ∙ c.in_ok-plan.ensures)) c.plan.invariant.asked in
-    IfOk-weaker c.papers_of.result _ _ (λ papers are. papers_are _ _ _ _ papers asked c.requires.contents c.in_ok-plan.ensures c.unlisted.ensures are) c.papers_of.ensures
+pub returns-clause-ok : goal.returns-clause-ok
+returns-clause-ok g c =
+    let asked = subst IsAsked (ap (λ (p : Planned). p.query) (c.plan.view_is ∙ c.in_ok-plan.ensures))
+    c.plan.invariant.asked in
+    papers_are _ _ _ _ c.in_ok-papers_of.field-0 asked c.requires.contents c.in_ok-plan.ensures c.unlisted.ensures
+    c.in_ok-papers_of.ensures

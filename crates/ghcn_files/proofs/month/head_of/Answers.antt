@@ -1,35 +1,32 @@
 use Rattle.std.proofs.Common.{true, false, Option, Ok, refl, sym, ap, ◌∙◌}
-use Rattle.std.specs.Prelude.{unsigned_abs}
-use Rattle.ghcn_fields.specs.declared.field.Field.{Field}
 use Rattle.ghcn_files.specs.declared.month.Head.{Head}
 use Rattle.ghcn_files.specs.declared.fault.LineWhy.{LineWhy}
-use Rattle.ghcn_files.specs.StationLines.{number_of}
 use Rattle.ghcn_files.specs.Months.{unless, head_of}
-use Rattle.ghcn_files.proofs.Months.{Tested, head_why-tested, head_of-parts, year_slice, month_slice, test_held}
+use Rattle.ghcn_files.proofs.Months.{Tested, head_why-tested, head_of-parts, test_held}
 use Rattle.ghcn_files.proofs.Months.{test_failed}
 use Rattle.ghcn_files.proofs.month.head_of.Goals as goal
 
 -- a year that isn't one
-pub returns-in_default-number_up_to-clause-value : goal.returns-in_default-number_up_to-clause-value
-returns-in_default-number_up_to-clause-value c =
+pub returns-in_default-year_of-clause-value : goal.returns-in_default-year_of-clause-value
+returns-in_default-year_of-clause-value c =
     let tested : Tested c.args.line.now true true false _ = record {
       long = c.if-line-lt-LEAST_COLUMNS.false;
       ends_is = sym c.only_blanks_follow.ensures ∙ c.if-not-only_blanks_follow.false;
       id_is = (test_held _ _ _ (sym c.of_line.ensures ∙ c.in-Some.is)).0;
-      year_is = test_failed _ _ (sym c.number_up_to.ensures.value ∙ c.in_default-number_up_to.is);
+      year_is = test_failed _ _ (sym c.year_of.ensures.value ∙ c.in_default-year_of.is);
       month_is = refl;
     } in
     sym (ap (λ (o : Option LineWhy). unless o (head_of c.args.line.now)) (head_why-tested tested))
 
 -- a month that isn't one
-pub returns-in_default-number_up_to-2-clause-value : goal.returns-in_default-number_up_to-2-clause-value
-returns-in_default-number_up_to-2-clause-value c =
+pub returns-in_default-month_number-clause-value : goal.returns-in_default-month_number-clause-value
+returns-in_default-month_number-clause-value c =
     let tested : Tested c.args.line.now true true true false = record {
       long = c.if-line-lt-LEAST_COLUMNS.false;
       ends_is = sym c.only_blanks_follow.ensures ∙ c.if-not-only_blanks_follow.false;
       id_is = (test_held _ _ _ (sym c.of_line.ensures ∙ c.in-Some.is)).0;
-      year_is = (test_held _ _ _ (sym c.number_up_to.ensures.value ∙ c.in-Some-number_up_to.is)).0;
-      month_is = test_failed _ _ (sym c.number_up_to-2.ensures.value ∙ c.in_default-number_up_to-2.is);
+      year_is = (test_held _ _ _ (sym c.year_of.ensures.value ∙ c.in-Some-year_of.is)).0;
+      month_is = test_failed _ _ (sym c.month_number.ensures.value ∙ c.in_default-month_number.is);
     } in
     sym (ap (λ (o : Option LineWhy). unless o (head_of c.args.line.now)) (head_why-tested tested))
 
@@ -39,8 +36,8 @@ returns-clause-value c =
     let line = c.args.line.now in
     let long = c.if-line-lt-LEAST_COLUMNS.false in
     let id = test_held _ _ _ (sym c.of_line.ensures ∙ c.in-Some.is) in
-    let year = test_held _ _ _ (sym c.number_up_to.ensures.value ∙ c.in-Some-number_up_to.is) in
-    let month = test_held _ _ _ (sym c.number_up_to-2.ensures.value ∙ c.in-Some-number_up_to-2.is) in
+    let year = test_held _ _ _ (sym c.year_of.ensures.value ∙ c.in-Some-year_of.is) in
+    let month = test_held _ _ _ (sym c.month_number.ensures.value ∙ c.in-Some-month_number.is) in
     let tested : Tested line true true true true = record {
       long = long;
       ends_is = sym c.only_blanks_follow.ensures ∙ c.if-not-only_blanks_follow.false;
@@ -48,7 +45,5 @@ returns-clause-value c =
       year_is = year.0;
       month_is = month.0;
     } in
-    ap (λ (h : Head). Ok h) (head_of-parts line _ _ _ id.1
-    (year.1 ∙ ap (λ (f : Field). unsigned_abs (number_of f)) (year_slice line long))
-    (month.1 ∙ ap (λ (f : Field). unsigned_abs (number_of f)) (month_slice line long)))
+    ap (λ (h : Head). Ok h) (head_of-parts line _ _ _ id.1 year.1 month.1)
     ∙ sym (ap (λ (o : Option LineWhy). unless o (head_of line)) (head_why-tested tested))

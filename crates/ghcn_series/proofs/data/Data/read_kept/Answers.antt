@@ -1,6 +1,7 @@
 use Rattle.std.proofs.Common.{◌≤◌, ◌^◌, [], ℕ, Bor, List, length, get_or, arith, subst}
 use Rattle.std.proofs.lemmas.Result.{err_from_is_err_and, IfOk-weaker, IfErr-weaker}
-use Rattle.ghcn_series.specs.DailyFaults.{IsRefusal, IsFirstRefusal}
+use Rattle.ghcn_fields.specs.Refusals.{IsRefusal}
+use Rattle.ghcn_series.specs.DailyFaults.{is_memory, IsFirstRefusal}
 use Rattle.ghcn_series.specs.Says.{data_of}
 use Rattle.ghcn_series.specs.Kept.{AreKept}
 use Rattle.ghcn_series.specs.Fed.{more}
@@ -99,7 +100,7 @@ returns-clause-err c =
     let fed = fed_files c.args.element c.args.stations c.args.files.now c.loop-file.file-index in
     let all = all_texts c.args.files.now c.loop-file.file-index (omega (arith, c.loop-file-test.false)) in
     IfErr-weaker c.finish.result _ _
-    (λ fault refuses. subst (λ (files : List (List ℕ)). IsRefusal fault (data_of c.args.stations files)) all
+    (λ fault refuses. subst (λ (files : List (List ℕ)). IsRefusal is_memory fault (data_of c.args.stations files)) all
     (refuses.is fed c.loop-file.invariant)) c.finish.ensures.err
 
 -- and of their first line with a fault

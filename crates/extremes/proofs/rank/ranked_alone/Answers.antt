@@ -4,7 +4,7 @@ use Rattle.rank_query.specs.Asked.{IsAsked}
 use Rattle.rank_sched.specs.Plan.{Planned}
 use Rattle.extremes.proofs.Guesses.{guess_is_score}
 use Rattle.extremes.proofs.PlanAnswers.{crew_is_plan, papers_are}
-use Rattle.extremes.proofs.rank.ranked.Goals as goal
+use Rattle.extremes.proofs.rank.ranked_alone.Goals as goal
 
 -- a guess that may be made is a score
 pub run_alone-requires : goal.run_alone-requires
@@ -17,5 +17,8 @@ papers_of-requires c = crew_is_plan _ _ _ _ c.in_ok-answer.ensures.answer
 -- the papers of the plan are those of the query and the data
 pub returns : goal.returns
 returns c =
-    let asked = subst IsAsked (ap (λ (p : Planned). p.query) (c.plan.view_is ∙ c.in_ok-plan.ensures)) c.plan.invariant.asked in
-    IfOk-weaker c.papers_of.result _ _ (λ papers are. papers_are _ _ _ _ papers asked c.requires.contents c.in_ok-plan.ensures c.unlisted.ensures are) c.papers_of.ensures
+    let asked = subst IsAsked (ap (λ (p : Planned). p.query) (c.plan.view_is ∙ c.in_ok-plan.ensures))
+    c.plan.invariant.asked in
+    IfOk-weaker c.papers_of.result _ _ (λ papers are.
+    papers_are _ _ _ _ papers asked c.requires.contents c.in_ok-plan.ensures c.unlisted.ensures are)
+    c.papers_of.ensures
