@@ -43,7 +43,8 @@ impl Data {
     /// Reads daily files, in their order. A line of a station that isn't listed is passed over.
     pub fn read(alloc: Global, stations: Stations, files: &[&[u8]]) -> Result<Self, DataFault>
         ensures ok { IfOk result (λ held. data_of stations (map (λ f. f.now) files.now) ≡ Ok held) }
-        ensures err { IfErr result (λ fault. IsRefusal is_memory fault (data_of stations (map (λ f. f.now) files.now))) }
+        ensures err { IfErr result (λ fault.
+            IsRefusal is_memory fault (data_of stations (map (λ f. f.now) files.now))) }
         ensures first { IfErr result (λ fault. IsFirstRefusal fault stations (map (λ f. f.now) files.now)) }
         ensures many { 2 ^ 20 < length files.now → result ≡ Err DataFault.TooManyFiles }
     {
@@ -58,7 +59,8 @@ impl Data {
         element: Element,
     ) -> Result<Self, DataFault>
         ensures ok { IfOk result (AreKept (Some element) stations (map (λ f. f.now) files.now)) }
-        ensures err { IfErr result (λ fault. IsRefusal is_memory fault (data_of stations (map (λ f. f.now) files.now))) }
+        ensures err { IfErr result (λ fault.
+            IsRefusal is_memory fault (data_of stations (map (λ f. f.now) files.now))) }
         ensures first { IfErr result (λ fault. IsFirstRefusal fault stations (map (λ f. f.now) files.now)) }
         ensures many { 2 ^ 20 < length files.now → result ≡ Err DataFault.TooManyFiles }
     {
@@ -73,7 +75,8 @@ impl Data {
         element: Option<Element>,
     ) -> Result<Self, DataFault>
         ensures ok { IfOk result (AreKept element stations (map (λ f. f.now) files.now)) }
-        ensures err { IfErr result (λ fault. IsRefusal is_memory fault (data_of stations (map (λ f. f.now) files.now))) }
+        ensures err { IfErr result (λ fault.
+            IsRefusal is_memory fault (data_of stations (map (λ f. f.now) files.now))) }
         ensures first { IfErr result (λ fault. IsFirstRefusal fault stations (map (λ f. f.now) files.now)) }
         ensures many { 2 ^ 20 < length files.now → result ≡ Err DataFault.TooManyFiles }
     {
