@@ -106,7 +106,8 @@ told_on i query stations first others files (daily.DailyLine file line why) read
 -- the refusal of the daily files is that of the input
 pub refused_data : (stations : List Station) (query : Asked) (files : List (List ℕ)) (fault : DataFault)
     → IsRefusal is_data_memory fault (data_of stations files)
-    → IsRefusal {A = Asked × Contents} is_memory (of_data fault) (then_read of_data (data_of stations files) (λ held. Ok (query, held)))
+    → IsRefusal {A = Asked × Contents} is_memory (of_data fault)
+    (then_read of_data (data_of stations files) (λ held. Ok (query, held)))
 refused_data stations query files (daily.Memory m) is = tt
 refused_data stations query files daily.TooManyFiles is =
     ap (λ (r : Result Contents DataFault). then_read of_data r (λ held. Ok (query, held))) is

@@ -14,5 +14,6 @@ pub returns : goal.returns
 returns g c =
     let list = g.A.Archive.bytes_of c.args.archive.now c.args.stations.now in
     ranks-files c.new-intake.result c.feed_files.new.intake c.args.workers c.args.guess c.args.query.now
-    c.deref.result.now list _ c.rank_intake.result.answer (subst (AreAllOf list) (sym c.deref.ensures.value) c.in-Ok.ensures)
+    c.deref.result.now list _ c.rank_intake.result.answer
+    (subst (AreAllOf list) (sym c.deref.ensures.value) c.in-Ok.ensures)
     c.new-intake.ensures c.in_ok-feed_files.ensures.fed c.rank_intake.ensures.ok c.rank_intake.ensures.err
