@@ -1,7 +1,8 @@
 -- Facts of all elements of a list.
 use Rattle.std.proofs.Common.{◌≡◌, ℕ, zero, suc, ◌<◌, List, [], ◌∷◌, ◌++◌, length, Some, subst, Bool, false}
-use Rattle.std.proofs.Common.{get_or, arith}
-use Rattle.std.specs.List.{AllByRecursion, slice_get, IsDistinct}
+use Rattle.std.proofs.Common.{get_or, arith, sym}
+use Rattle.std.specs.List.{AllByRecursion, AllZip, slice_get, IsDistinct}
+use Rattle.std.proofs.Math.ListN.{set}
 
 module _ {X : Type 0} where
   -- what is true of two lists is true of both together
@@ -38,3 +39,21 @@ pub from_all : {X : Type 0} (P : X → Type 0) (xs : List X) (k : ℕ) (x : X) �
 from_all P [] k x all at = absurd cc
 from_all P (y ∷ ys) zero x all at = let same : y ≡ x = cc in subst P same all.0
 from_all P (y ∷ ys) (suc k) x all at = from_all P ys k x all.1 at
+
+-- an item takes the place of one that fitted, in the first of two lists that fit place by place
+pub set_first : {A B : Type 0} (R : A → B → Type 0) (xs : List A) (ys : List B) (k : ℕ) (x new : A) → AllZip R xs ys
+    → x ≡ get_or xs k x → ((y : B) → R x y → R new y) → AllZip R (set xs k new) ys
+set_first R [] [] k x new all here fits = tt
+set_first R [] (y ∷ ys) k x new all here fits = absurd all
+set_first R (w ∷ ws) [] k x new all here fits = absurd all
+set_first R (w ∷ ws) (y ∷ ys) zero x new all here fits = (fits y (subst (λ v. R v y) (sym here) all.0), all.1)
+set_first R (w ∷ ws) (y ∷ ys) (suc k) x new all here fits = (all.0, set_first R ws ys k x new all.1 here fits)
+
+-- and in the second
+pub set_second : {A B : Type 0} (R : A → B → Type 0) (xs : List A) (ys : List B) (k : ℕ) (y new : B) → AllZip R xs ys
+    → y ≡ get_or ys k y → ((x : A) → R x y → R x new) → AllZip R xs (set ys k new)
+set_second R [] [] k y new all here fits = tt
+set_second R [] (z ∷ zs) k y new all here fits = absurd all
+set_second R (x ∷ xs) [] k y new all here fits = absurd all
+set_second R (x ∷ xs) (z ∷ zs) zero y new all here fits = (fits x (subst (R x) (sym here) all.0), all.1)
+set_second R (x ∷ xs) (z ∷ zs) (suc k) y new all here fits = (all.0, set_second R xs zs k y new all.1 here fits)

@@ -1,7 +1,8 @@
 -- A reader that has read one month more.
 use Rattle.std.proofs.Common.{◌≡◌, ℕ, zero, suc, ◌+◌, ◌<◌, Bool, true, false, cond, not, List, [], ◌∷◌, ◌++◌, length}
-use Rattle.std.proofs.Common.{take, get_or, Option, None, Some, refl, sym, ap, ◌∙◌, arith, subst, add-zero, zero-add}
-use Rattle.std.specs.Prelude.{◌&&◌, ◌||◌}
+use Rattle.std.proofs.Common.{take, get_or, Result, Ok, Err, Option, None, Some, refl, sym, ap, ◌∙◌, arith, subst}
+use Rattle.std.proofs.Common.{add-zero, zero-add}
+use Rattle.std.specs.Prelude.{◌&&◌, ◌||◌, OnOk}
 use Rattle.std.specs.Bool.{OnTrue}
 use Rattle.std.specs.List.{list_any, slice_get, count_by, AllZip, AllByRecursion, IsDistinct}
 use Rattle.std.proofs.Math.ListN.{set}
@@ -10,7 +11,8 @@ use Rattle.std.proofs.lemmas.List.Sums.{sum_by-append}
 use Rattle.std.proofs.lemmas.Bool.{or_parts, OnTrue_from, OnTrue_at, and_left}
 use Rattle.std.proofs.lemmas.Slice.Zip.{AllZip-long}
 use Rattle.ghcn_files.specs.declared.element.Element.TheVariants.{Prcp, Snow, Snwd, Tmax, Tmin}
-use Rattle.ghcn_series.proofs.ListFacts.{both_all}
+use Rattle.ghcn_series.proofs.ListFacts.{both_all, set_second}
+use Rattle.ghcn_fields.specs.declared.memory.Memory.{Memory}
 use Rattle.ghcn_files.specs.declared.station.StationId.{StationId}
 use Rattle.ghcn_files.specs.declared.station.Station.{Station}
 use Rattle.ghcn_files.specs.declared.element.Element.{Element}
@@ -25,7 +27,8 @@ use Rattle.ghcn_series.specs.declared.reader.Reader.{Reader}
 use Rattle.ghcn_series.specs.DailyFaults.{same_month, is_listed}
 use Rattle.ghcn_series.specs.Says.{in_64_bits}
 use Rattle.ghcn_series.specs.Gathered.{AreByElement, IsStationOf, HasRead}
-use Rattle.ghcn_series.specs.Steps.{GathersAt}
+use Rattle.ghcn_series.specs.Parts.{AreEmpty}
+use Rattle.ghcn_series.specs.Steps.{GathersAt, StationKeepsMonths, KeepsRead, ReadsMonth}
 use Rattle.ghcn_series.proofs.StationMonths.{other_elements}
 use Rattle.ghcn_series.proofs.Places.{ids, from_ids, listed-is}
 use Rattle.ghcn_files.specs.IdLaws.{same_id-turned}
@@ -138,11 +141,11 @@ pub read-listed : (old new : Reader) (m : Month) (k : ℕ) (g now : StationGathe
     → place_of old.stations m.id ≡ Some k → g ≡ get_or old.gathered.items k g → now.id ≡ g.id
     → GathersAt old.element g now m added
     → new.element ≡ old.element → new.stations ≡ old.stations → new.unlisted ≡ old.unlisted
-    → new.gathered.items ≡ set old.gathered.items k now
+    → new.gathered.items ≡ set old.gathered.items k now → AllByRecursion AreEmpty new.spare.items
     → (before : List Month) → IsMonth m → HasRead old before
     → (added ≡ not (is_listed old.stations m.id && list_any (same_month m) before))
     × OnTrue added (HasRead new (before ++ m ∷ []))
-read-listed old new m k g now added place here same adds element stations unlisted gathered before right is =
+read-listed old new m k g now added place here same adds element stations unlisted gathered spare before right is =
     let at = listed-is old.stations m.id k place in
     let station = station_at old.element before old.stations old.gathered.items k at.0.0 g is.gathered at.0.1 here in (
       adds.is_new before station.holds ∙ ap (λ (b : Bool). not (b && list_any (same_month m) before)) (sym at.1),
@@ -157,16 +160,17 @@ read-listed old new m k g now added place here same adds element stations unlist
         gathered = rw (element, stations, gathered) (put_station old.element before m old.stations old.gathered.items k
             at.0.0 g now is.listed.distinct at.0.1 at.0.2 is.gathered here same
             (λ _. OnTrue_at yes (adds.holds before station.holds)));
+        spare = spare;
       }),
     )
 
 -- a month of a station that isn't listed is passed over and counted
 pub read-unlisted : (old new : Reader) (m : Month) → is_listed old.stations m.id ≡ false
     → new.element ≡ old.element → new.stations ≡ old.stations → new.gathered.items ≡ old.gathered.items
-    → new.unlisted ≡ in_64_bits (old.unlisted + 1)
+    → new.spare.items ≡ old.spare.items → new.unlisted ≡ in_64_bits (old.unlisted + 1)
     → (before : List Month) → IsMonth m → HasRead old before
     → (true ≡ not (is_listed old.stations m.id && list_any (same_month m) before)) × HasRead new (before ++ m ∷ [])
-read-unlisted old new m none element stations gathered unlisted before right is =
+read-unlisted old new m none element stations gathered spare unlisted before right is =
     let others = apart old.stations none in
     let kept = stations-other old.element before m old.stations old.gathered.items others is.gathered in (
       ap (λ (b : Bool). not (b && list_any (same_month m) before)) (sym none),
@@ -179,6 +183,7 @@ read-unlisted old new m none element stations gathered unlisted before right is 
             ∙ ap in_64_bits (sym (count_more old.stations before m false none))
             ∙ ap (λ (ss : List Station). in_64_bits (unlisted_months ss (before ++ m ∷ []))) (sym stations);
         gathered = rw (element, stations, gathered) kept;
+        spare = rw spare is.spare;
       },
     )
   where
@@ -218,3 +223,32 @@ within_gathered months r id k is place = omega (
   (listed-is r.stations id k place).2,
   AllZip-long _ r.stations r.gathered.items is.gathered,
 )
+
+-- the days of one station stand in memory of their own, where that was given
+pub read-settled : (old new : Reader) (k : ℕ) (g now : StationGathering) (result : Result (Unit {0}) Memory)
+    → g ≡ get_or old.gathered.items k g → now.id ≡ g.id → OnOk result (StationKeepsMonths g now)
+    → new.element ≡ old.element → new.stations ≡ old.stations → new.unlisted ≡ old.unlisted
+    → new.gathered.items ≡ set old.gathered.items k now → AllByRecursion AreEmpty new.spare.items
+    → OnOk result (KeepsRead old new)
+read-settled old new k g now (Err memory) here same keeps element stations unlisted gathered spare = tt
+read-settled old new k g now (Ok done) here same keeps element stations unlisted gathered spare = record {
+  holds = λ before is. record {
+    listed = rw stations is.listed;
+    right = is.right;
+    unlisted = rw stations (unlisted ∙ is.unlisted);
+    gathered = rw (element, stations, gathered) (set_second (IsStationOf old.element before) old.stations
+        old.gathered.items k g now is.gathered here (λ s of.
+        record { id = same ∙ of.id; holds = keeps.holds old.element before of.holds }));
+    spare = spare;
+  };
+}
+
+-- a month is read behind what was read
+pub read-behind : (old mid new : Reader) (m : Month) (added : Bool) → KeepsRead old mid → mid.stations ≡ old.stations
+    → ReadsMonth mid new m added → ReadsMonth old new m added
+read-behind old mid new m added keeps stations reads = record {
+  is_new = λ before is.
+      reads.is_new before (keeps.holds before is)
+      ∙ ap (λ (ss : List Station). not (is_listed ss m.id && list_any (same_month m) before)) stations;
+  holds = λ before is. reads.holds before (keeps.holds before is);
+}

@@ -13,7 +13,7 @@ use Rattle.std.proofs.lemmas.Slice.Zip.{AllZip-long}
 use Rattle.std.proofs.Math.Bool.{and_assoc}
 use Rattle.std.specs.Bool.{OnTrue}
 use Rattle.ghcn_series.specs.declared.station.StationGathering.{StationGathering}
-use Rattle.ghcn_series.proofs.ListFacts.{from_all, weaken}
+use Rattle.ghcn_series.proofs.ListFacts.{from_all, weaken, set_first}
 use Rattle.ghcn_files.specs.declared.station.StationId.{StationId}
 use Rattle.ghcn_files.specs.declared.element.Element.{Element}
 use Rattle.ghcn_files.specs.declared.element.Element.TheVariants.{Prcp, Snow, Snwd, Tmax, Tmin}
@@ -24,7 +24,7 @@ use Rattle.ghcn_series.specs.declared.gathering.Gathering.{Gathering}
 use Rattle.ghcn_series.specs.DailyFaults.{same_month}
 use Rattle.ghcn_series.specs.Gathered.{same_time, months_of, IsGathering, IsGatheringOf, AreByElement}
 use Rattle.ghcn_files.specs.IdLaws.{same_id-turned}
-use Rattle.ghcn_series.specs.Steps.{Gathers, GathersSome, GathersNothing, Opens}
+use Rattle.ghcn_series.specs.Steps.{Gathers, GathersSome, GathersNothing, KeepsMonths, Opens}
 
 -- a station without a month has none of any element
 pub months_of-none : (months : List Month) (id : StationId) (e : Element) → list_any (λ m. same_id m.id id) months
@@ -197,6 +197,16 @@ kept_by_element : (asked : Option Element) (months : List Month) (id : StationId
     → AllZip (IsGatheringOf asked months id) gs elements → AreByElement asked months id gs
 kept_by_element asked months id [] is = absurd is
 kept_by_element asked months id (g ∷ gs) is = is
+
+-- gatherings by element, of which one has the months that it had
+pub settled_at : (asked : Option Element) (before : List Month) (id : StationId) (gs : List Gathering) (k : ℕ)
+    (g new : Gathering) → g ≡ get_or gs k g → new.element ≡ g.element → KeepsMonths g new
+    → AreByElement asked before id gs → AreByElement asked before id (set gs k new)
+settled_at asked before id [] k g new here same keeps is = is
+settled_at asked before id (x ∷ xs) k g new here same keeps is =
+    kept_by_element asked before id (set (x ∷ xs) k new)
+    (set_first (IsGatheringOf asked before id) (x ∷ xs) elements k g new is here (λ e of.
+    record { element = same ∙ of.element; holds = keeps.holds (is_kept asked e) (months_of before id e) of.holds }))
 
 -- one month more of a station, unless it was read before, where the gathering of its element adds it
 pub station-more : (asked : Option Element) (m : Month) (old mid : StationGathering) (k : ℕ) (g now : Gathering)

@@ -21,7 +21,7 @@ use Rattle.ghcn_series.specs.declared.reader.Reader.{Reader}
 use Rattle.ghcn_series.specs.declared.fault.DataFault.{DataFault}
 use Rattle.ghcn_series.specs.declared.fault.DataFault.TheVariants.{TooManyFiles, DailyLine, Memory}
 use Rattle.ghcn_series.specs.Series.{DayValue, Usable, value_on, by_day}
-use Rattle.ghcn_series.specs.Parts.{AreParts, days_held}
+use Rattle.ghcn_series.specs.Parts.{AreParts, AreEmpty, days_held}
 use Rattle.ghcn_series.specs.SeenMonths.{has_month}
 use Rattle.ghcn_series.specs.DailyFaults.{FileLine, month_on, is_listed, daily_fault, HasFirst}
 use Rattle.ghcn_series.specs.Says.{Fact, fact_of, in_64_bits}
@@ -116,6 +116,7 @@ pub record HasRead (r : Reader) (months : List Month) : Type 0 where
   pub right : AllByRecursion IsMonth months
   pub unlisted : r.unlisted ≡ in_64_bits (count_by (λ m. not (is_listed r.stations m.id)) months)
   pub gathered : AllZip (IsStationOf r.element months) r.stations r.gathered.items
+  pub spare : AllByRecursion AreEmpty r.spare.items
 
 -- a reader has read these lines, none of which has a fault
 pub record HasReadLines (r : Reader) (ls : List FileLine) : Type 0 where

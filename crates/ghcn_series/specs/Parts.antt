@@ -70,6 +70,18 @@ pub record AreOrdered (p : Parts) : Type 0 where
   pub parts : AreParts p
   pub in_order : p.in_order ≡ true
 
+-- parts without a day
+pub record AreEmpty (p : Parts) : Type 0 where
+  pub order : AreOrdered p
+  pub none : days_held p ≡ []
+
+-- the same parts, in whichever memory
+pub record AreSame (a b : Parts) : Type 0 where
+  pub numbers : b.numbers.items ≡ a.numbers.items
+  pub words : b.words.items ≡ a.words.items
+  pub values : b.values.items ≡ a.values.items
+  pub in_order : b.in_order ≡ a.in_order
+
 -- all days come before one
 abbrev pub AreBefore : ℤ → List DayValue → Type 0
 AreBefore day days = AllByRecursion (λ x. x.0 <ℤ day) days

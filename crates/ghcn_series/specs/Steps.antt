@@ -41,6 +41,10 @@ pub record Gathers (kept : Bool) (old new : Gathering) (m : Month) (added : Bool
   pub holds : (before : List Month) → IsGathering kept old before
       → OnTrue added (IsGathering kept new (before ++ m ∷ []))
 
+-- a gathering has the months that it had
+pub record KeepsMonths (old new : Gathering) : Type 0 where
+  pub holds : (kept : Bool) (before : List Month) → IsGathering kept old before → IsGathering kept new before
+
 -- a station has its five gatherings, with what it had before
 pub record Opens (old new : StationGathering) : Type 0 where
   pub holds : (asked : Option Element) (before : List Month) → AreByElement asked before old.id old.by_element.items
@@ -49,6 +53,11 @@ pub record Opens (old new : StationGathering) : Type 0 where
 -- what a station has: some months
 abbrev pub StationGathersSome : Option Element → StationGathering → Type 0
 StationGathersSome asked s = (months : List Month) × AreByElement asked months s.id s.by_element.items
+
+-- a station has the months that it had
+pub record StationKeepsMonths (old new : StationGathering) : Type 0 where
+  pub holds : (asked : Option Element) (before : List Month) → AreByElement asked before old.id old.by_element.items
+      → AreByElement asked before new.id new.by_element.items
 
 -- a station adds a month, unless it has that month
 pub record GathersAt (asked : Option Element) (old new : StationGathering) (m : Month) (added : Bool) : Type 0 where
@@ -62,6 +71,10 @@ pub record ReadsMonth (old new : Reader) (m : Month) (added : Bool) : Type 0 whe
   pub is_new : (before : List Month) → HasRead old before
       → added ≡ not (is_listed old.stations m.id && list_any (same_month m) before)
   pub holds : (before : List Month) → HasRead old before → OnTrue added (HasRead new (before ++ m ∷ []))
+
+-- a reader has read what it had read
+pub record KeepsRead (old new : Reader) : Type 0 where
+  pub holds : (before : List Month) → HasRead old before → HasRead new before
 
 -- what a reader has read: some lines
 abbrev pub HasReadSome : Reader → Type 0

@@ -5,7 +5,7 @@ ghost use Rattle.ghcn_fields.specs.Sorting.{sorted_by};
 ghost use Rattle.ghcn_series.specs.Series.{by_day};
 ghost use Rattle.ghcn_series.specs.Gathered as gathered;
 ghost use Rattle.ghcn_series.specs.Parts as parts;
-ghost use Rattle.ghcn_series.specs.Steps.{Gathers, GathersSome, GathersNothing, IsOfMonth, OfMonth};
+ghost use Rattle.ghcn_series.specs.Steps.{Gathers, GathersSome, GathersNothing, KeepsMonths, IsOfMonth, OfMonth};
 
 use crate::columns::Columns;
 use crate::months::Months;
@@ -24,15 +24,16 @@ pub(crate) struct Gathering {
 }
 
 impl Gathering {
-    /// Nothing of an element yet.
-    pub(crate) fn new(alloc: Global, element: Element) -> Self
+    /// Nothing of an element yet, with memory for its days.
+    pub(crate) fn new(alloc: Global, element: Element, empty: Parts) -> Self
+        requires { parts.AreEmpty empty }
         ensures element { result.element ≡ element }
         ensures empty { GathersNothing result }
     {
         Gathering {
             element,
             seen: Months::new(alloc),
-            parts: Parts::new(alloc),
+            parts: empty,
         }
     }
 
@@ -57,6 +58,15 @@ impl Gathering {
         ensures added { IfOk result (λ added. OfMonth false row.now (λ m. Gathers false self.old self.new m added)) }
     {
         self.seen.add(alloc, number_of(row))
+    }
+
+    /// Moves the days to memory of exactly their size, and hands back the memory where they grew.
+    pub(crate) fn settle(&mut self, alloc: Global) -> Result<Parts, Memory>
+        ensures element { self.new.element ≡ self.old.element }
+        ensures same { OnOk result (KeepsMonths self.old self.new) }
+        ensures empty { IfOk result parts.AreEmpty }
+    {
+        self.parts.settle(alloc)
     }
 
     /// What is gathered.

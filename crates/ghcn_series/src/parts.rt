@@ -15,6 +15,7 @@ use crate::days::Days;
 use ghcn_fields::{Day, Memory};
 use std::alloc::Global;
 use std::collections::BTreeMap;
+use std::mem;
 
 /// Parts of blocks in the order in which they were added.
 #[derive(Drop)]
@@ -41,8 +42,7 @@ fn packed(alloc: Global, days: BTreeMap<Day, i32>) -> Result<Columns, Memory>
 impl Parts {
     /// No days.
     pub(crate) fn new(alloc: Global) -> Self
-        ensures order { parts.AreOrdered result }
-        ensures empty { parts.days_held result ≡ [] }
+        ensures { parts.AreEmpty result }
     {
         Parts {
             numbers: Vec::new(alloc),
@@ -120,6 +120,39 @@ impl Parts {
         self.numbers.is_empty()
     }
 
+    /// Moves the days to memory of exactly their size, and hands back the memory where they grew.
+    pub(crate) fn settle(&mut self, alloc: Global) -> Result<Self, Memory>
+        ensures same { OnOk result (parts.AreSame self.old self.new) }
+        ensures empty { IfOk result parts.AreEmpty }
+    {
+        let settled = self.copied(alloc)?;
+        let mut spare = mem::replace(self, settled);
+        spare.clear();
+        Ok(spare)
+    }
+
+    /// The same days in memory of exactly their size.
+    fn copied(&self, alloc: Global) -> Result<Self, Memory>
+        ensures { IfOk result (parts.AreSame self.now) }
+    {
+        Ok(Parts {
+            numbers: copied(alloc, &self.numbers)?,
+            words: copied(alloc, &self.words)?,
+            values: copied(alloc, &self.values)?,
+            in_order: self.in_order,
+        })
+    }
+
+    /// Takes all days away, and keeps their memory.
+    fn clear(&mut self)
+        ensures { parts.AreEmpty self.new }
+    {
+        self.numbers.clear();
+        self.words.clear();
+        self.values.clear();
+        self.in_order = true;
+    }
+
     /// The same days as columns, put in order where they aren't.
     pub(crate) fn put_in_order(self, alloc: Global) -> Result<Columns, Memory>
         requires { parts.AreParts self }
@@ -154,6 +187,15 @@ impl Parts {
         self.words[last] |= word;
         self.values[last] = joined(&self.values[last], values);
     }
+}
+
+/// These items in memory of exactly their size.
+fn copied<T: Copy>(alloc: Global, items: &[T]) -> Result<Vec<T>, Memory>
+    ensures { IfOk result (λ copy. copy.items ≡ items.now) }
+{
+    let mut copy = Vec::with_capacity(alloc, items.len())?;
+    copy.extend_from_slice(items)?;
+    Ok(copy)
 }
 
 /// Whether a number is the last.

@@ -5,13 +5,16 @@ ghost use Rattle.ghcn_files.specs.Elements.{is_kept};
 ghost use Rattle.ghcn_files.specs.Listed.{AreListed, place_of};
 ghost use Rattle.ghcn_series.specs.DailyFaults.{line_of, one_line};
 ghost use Rattle.ghcn_series.specs.Gathered.{HasRead};
-ghost use Rattle.ghcn_series.specs.Steps.{HasReadSome, Reads, Refuses, ReadsMonth, HoldsAll, IsOfMonth, OfMonth};
+ghost use Rattle.ghcn_series.specs.Steps.{HasReadSome, Reads, Refuses, ReadsMonth, KeepsRead, HoldsAll};
+ghost use Rattle.ghcn_series.specs.Steps.{IsOfMonth, OfMonth};
 
+use crate::parts::Parts;
 use crate::station::StationGathering;
 use crate::{DailyWhy, Data, DataFault};
 use ghcn_fields::{Memory, is_blank, without_return};
 use ghcn_files::{Element, MonthRow, StationId, Stations, read_days};
 use std::alloc::Global;
+use std::mem;
 
 /// What was read so far.
 #[derive(Drop)]
@@ -23,6 +26,8 @@ pub(crate) struct Reader {
     gathered: Vec<StationGathering>,
     /// The place of the station of the line before, where lines of a station mostly come together.
     last: usize,
+    /// Memory without days, where the days of the next station grow.
+    spare: Vec<Parts>,
     /// How many months of stations that aren't listed were passed over.
     unlisted: u64,
 }
@@ -49,6 +54,7 @@ impl Reader {
             stations,
             gathered,
             last: 0,
+            spare: Vec::new(alloc),
             unlisted: 0,
         })
     }
@@ -129,13 +135,31 @@ impl Reader {
     {
         match self.place(&row.id) {
             Some(place) => {
-                self.last = place;
-                self.gathered[place].add(alloc, row, self.element)
+                self.turn_to(alloc, place)?;
+                self.gathered[place].add(alloc, row, self.element, &mut self.spare)
             }
             None => {
                 self.unlisted = self.unlisted.saturating_add(1);
                 Ok(true)
             }
+        }
+    }
+
+    /// Notes whose lines come now. The days of the station before stay behind in memory of exactly
+    /// their size.
+    fn turn_to(&mut self, alloc: Global, place: usize) -> Result<(), Memory>
+        requires { HasReadSome self.old }
+        ensures element { self.new.element ≡ self.old.element }
+        ensures stations { self.new.stations ≡ self.old.stations }
+        ensures same { OnOk result (KeepsRead self.old self.new) }
+    {
+        if place == self.last {
+            return Ok(());
+        }
+        let last = mem::replace(&mut self.last, place);
+        match self.gathered.get_mut(last) {
+            Some(station) => station.settle(alloc, &mut self.spare),
+            None => Ok(()),
         }
     }
 

@@ -5,10 +5,13 @@ ghost use Rattle.std.specs.Bool.{OnTrue};
 ghost use Rattle.std.specs.List.{list_any, AllByRecursion, AllZip};
 ghost use Rattle.ghcn_files.specs.Elements.{elements, element_index, is_kept};
 ghost use Rattle.ghcn_series.specs.Gathered as gathered;
+ghost use Rattle.ghcn_series.specs.Parts.{AreEmpty};
 ghost use Rattle.ghcn_series.specs.Steps.{GathersAt, GathersNothing, StationGathersSome, Opens, IsOfMonth, OfMonth};
+ghost use Rattle.ghcn_series.specs.Steps.{StationKeepsMonths};
 
 use crate::Series;
 use crate::gathering::Gathering;
+use crate::parts::Parts;
 use ghcn_fields::Memory;
 use ghcn_files::{Element, MonthRow, StationId};
 use std::alloc::Global;
@@ -28,6 +31,8 @@ const ELEMENTS: [Element; 5] = [
 pub(crate) struct StationGathering {
     id: StationId,
     by_element: Vec<Gathering>,
+    /// Whether its days stand in memory of their own, since lines of another station came behind.
+    is_settled: bool,
 }
 
 impl StationGathering {
@@ -39,6 +44,7 @@ impl StationGathering {
         StationGathering {
             id,
             by_element: Vec::new(alloc),
+            is_settled: false,
         }
     }
 
@@ -49,15 +55,18 @@ impl StationGathering {
         alloc: Global,
         row: &MonthRow,
         asked: Option<Element>,
+        spare: &mut Vec<Parts>,
     ) -> Result<bool, Memory>
         requires own { row.now.id ≡ self.old.id }
         requires right { IsOfMonth (is_kept asked row.now.element) row.now }
         requires gathered { StationGathersSome asked self.old }
+        requires spare { AllByRecursion AreEmpty spare.old.items }
         ensures id { self.new.id ≡ self.old.id }
+        ensures spare { AllByRecursion AreEmpty spare.new.items }
         ensures added { IfOk result (λ added. OfMonth (is_kept asked row.now.element) row.now
             (λ m. GathersAt asked self.old self.new m added)) }
     {
-        self.open(alloc)?;
+        self.open(alloc, spare)?;
         let gathering = &mut self.by_element[place_of(row.element)];
         if row.element.is_kept(asked) {
             gathering.add(alloc, row)
@@ -66,12 +75,30 @@ impl StationGathering {
         }
     }
 
+    /// Moves what was read to memory of exactly its size, the first time that it is called: the memory
+    /// where it grew is spare for another station.
+    pub(crate) fn settle(&mut self, alloc: Global, spare: &mut Vec<Parts>) -> Result<(), Memory>
+        requires spare { AllByRecursion AreEmpty spare.old.items }
+        ensures id { self.new.id ≡ self.old.id }
+        ensures same { OnOk result (StationKeepsMonths self.old self.new) }
+        ensures spare { AllByRecursion AreEmpty spare.new.items }
+    {
+        if self.is_settled {
+            return Ok(());
+        }
+        self.is_settled = !self.by_element.is_empty();
+        for place in 0..self.by_element.len() {
+            spare.push(self.by_element[place].settle(alloc)?)?;
+        }
+        Ok(())
+    }
+
     /// The series of the station that have a usable day, by element.
     pub(crate) fn into_series(self, alloc: Global) -> Result<Vec<Series>, Memory>
         requires { AllByRecursion gathered.IsReady self.by_element.items }
         ensures { IfOk result (λ series. series.items ≡ gathered.station_series self) }
     {
-        let StationGathering { id, by_element } = self;
+        let StationGathering { id, by_element, .. } = self;
         let mut series = Vec::new(alloc);
         for gathering in by_element {
             if gathering.is_empty() {
@@ -85,29 +112,45 @@ impl StationGathering {
     }
 
     /// Makes the five gatherings where there are none yet.
-    fn open(&mut self, alloc: Global) -> Result<(), Memory>
+    fn open(&mut self, alloc: Global, spare: &mut Vec<Parts>) -> Result<(), Memory>
+        requires { AllByRecursion AreEmpty spare.old.items }
         ensures id { self.new.id ≡ self.old.id }
+        ensures spare { AllByRecursion AreEmpty spare.new.items }
         ensures number { OnOk result (length self.new.by_element.items ≡ 5) }
         ensures same { OnOk result (Opens self.old self.new) }
     {
         if self.by_element.len() != ELEMENTS.len() {
-            self.by_element = nothing_by_element(alloc)?;
+            self.by_element = nothing_by_element(alloc, spare)?;
         }
         Ok(())
     }
 }
 
 /// Five gatherings of nothing, in the order of the elements.
-fn nothing_by_element(alloc: Global) -> Result<Vec<Gathering>, Memory>
+fn nothing_by_element(alloc: Global, spare: &mut Vec<Parts>) -> Result<Vec<Gathering>, Memory>
+    requires { AllByRecursion AreEmpty spare.old.items }
+    ensures spare { AllByRecursion AreEmpty spare.new.items }
     ensures number { IfOk result (λ five. length five.items ≡ 5) }
     ensures elements { IfOk result (λ five. map (λ g. g.element) five.items ≡ elements) }
     ensures empty { IfOk result (λ five. AllByRecursion GathersNothing five.items) }
 {
     let mut five = Vec::with_capacity(alloc, ELEMENTS.len())?;
     for element in ELEMENTS {
-        five.push(Gathering::new(alloc, element))?;
+        five.push(Gathering::new(alloc, element, without_days(alloc, spare)))?;
     }
     Ok(five)
+}
+
+/// Parts without days, in spare memory where there is some.
+fn without_days(alloc: Global, spare: &mut Vec<Parts>) -> Parts
+    requires { AllByRecursion AreEmpty spare.old.items }
+    ensures empty { AreEmpty result }
+    ensures spare { AllByRecursion AreEmpty spare.new.items }
+{
+    match spare.pop() {
+        Some(parts) => parts,
+        None => Parts::new(alloc),
+    }
 }
 
 /// An element's place among the five.

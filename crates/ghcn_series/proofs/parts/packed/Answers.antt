@@ -12,7 +12,7 @@ pub loop-day-init : goal.loop-day-init
 loop-day-init c = record {
   order = c.new-parts.ensures.order;
   whole =
-      ap (λ (l : List DayValue). l ++ c.into_iter-day-iterator.result) c.new-parts.ensures.empty
+      ap (λ (l : List DayValue). l ++ c.into_iter-day-iterator.result) c.new-parts.ensures.none
       ∙ c.into_iter-day-iterator.ensures.into_iter_gives.0;
 }
 

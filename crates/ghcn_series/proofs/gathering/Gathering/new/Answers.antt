@@ -16,7 +16,7 @@ unfolding IsDistinct
 returns-clause-empty c = λ kept. record {
   right = tt;
   seen = λ t. ap (λ months. has_month months t) c.new.ensures;
-  parts = c.new-2.ensures.order.parts;
-  values = λ d. ap (λ (days : List DayValue). value_on days d) (c.new-2.ensures.empty ∙ nothing kept);
+  parts = c.requires.order.parts;
+  values = λ d. ap (λ (days : List DayValue). value_on days d) (c.requires.none ∙ nothing kept);
   distinct = tt;
 }

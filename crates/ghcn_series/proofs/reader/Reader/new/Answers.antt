@@ -1,6 +1,8 @@
-use Rattle.std.proofs.Common.{refl, sym, ap, ◌∙◌, arith, add-one}
+use Rattle.std.proofs.Common.{refl, sym, ap, ◌∙◌, subst, arith, add-one}
+use Rattle.std.specs.List.{AllByRecursion}
 use Rattle.std.specs.Option.{option_copied}
 use Rattle.std.proofs.lemmas.Option.{slice_get_within}
+use Rattle.ghcn_series.specs.Parts.{AreEmpty}
 use Rattle.ghcn_series.proofs.ReadMonths.{station-new, all_taken}
 use Rattle.ghcn_series.proofs.reader.Reader.new.Goals as goal
 
@@ -22,4 +24,5 @@ returns-clause-read c =
       right = tt;
       unlisted = refl;
       gathered = rw (all_taken c.args.stations c.loop-station.place past) at c.loop-station.invariant.gathered;
+      spare = subst (AllByRecursion AreEmpty) (sym c.new-2.ensures.items) tt;
     }
