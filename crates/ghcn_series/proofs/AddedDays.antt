@@ -1,15 +1,14 @@
 -- A day more, behind all that are held.
-use Rattle.std.proofs.Common.{◌≡◌, ℕ, zero, suc, ◌<◌, ◌^◌, true, false, List, [], ◌∷◌, ◌++◌, length, get_or}
+use Rattle.std.proofs.Common.{◌≡◌, ℕ, zero, suc, ◌<◌, ◌^◌, true, List, [], ◌∷◌, ◌++◌, length, get_or}
 use Rattle.std.proofs.Common.{None, IsSome, Result, Ok, Err, OnOk, inl, inr, refl, sym, ap, subst, ◌∙◌, arith, ℤ}
 use Rattle.std.proofs.Common.{pos, ◌+ℤ◌, ◌<ℤ◌, ◌≤ℤ◌}
-use Rattle.std.specs.Prelude.{◌==◌, ◌||◌, ◌&&◌, nat_lt, int_lt}
 use Rattle.std.specs.Int.{bit_at}
 use Rattle.std.specs.List.{AllByRecursion}
 use Rattle.std.specs.List.Sorted.{IsStrictlySortedBy}
 use Rattle.std.specs.Map.{keys_of}
 use Rattle.std.specs.declared.cmp.Ordering.TheVariants.{Less}
 use Rattle.std.specs.Option.{option_or}
-use Rattle.std.specs.Ordering.{int_cmp, int_eq}
+use Rattle.std.specs.Ordering.{int_cmp}
 use Rattle.std.proofs.lemmas.Bool.{cases_eq, false≢true}
 use Rattle.std.proofs.lemmas.Bool.Decides.{nat_tests}
 use Rattle.std.proofs.lemmas.Int.{ints}
@@ -148,12 +147,6 @@ numbers-before (n ∷ ns) (w ∷ ws) (v ∷ vs) zero day lw lv lt packed all =
 numbers-before (n ∷ ns) (w ∷ ws) (v ∷ vs) (suc i) day lw lv lt packed all =
     numbers-before ns ws vs i day (omega arith) (omega arith) (omega arith) packed.1
     (before-right day (block_days (n, (w, v))) (days_of (blocks_of ns ws vs)) all)
-
--- a number that isn't the last, and at least the last, is after it
-pub rises-from : (k : ℕ) (l n : ℤ) → (nat_lt 0 k && int_eq l n) ≡ false → (0 < k → l ≤ℤ n)
-    → (k == 0 || int_lt l n) ≡ true
-rises-from zero l n ends le = refl
-rises-from (suc k) l n ends le = let lt = le (omega arith) in grind (arith, ints, nat_tests)
 
 -- ---- days of a map
 

@@ -22,7 +22,7 @@ use Rattle.ghcn_series.specs.DailyFaults.{is_memory}
 use Rattle.ghcn_series.specs.Says.{contents, data_of}
 use Rattle.ghcn_series.specs.Series.{Contents}
 use Rattle.ghcn_series.specs.Gathered.{HasReadLines, IsLineRefusal}
-use Rattle.ghcn_series.specs.Steps.{HoldsAll, HasReadSome}
+use Rattle.ghcn_series.specs.Steps.{HoldsAll}
 use Rattle.ghcn_series.specs.Kept.{kept, AreKept}
 use Rattle.ghcn_series.specs.Fed.{Fed, IsToldOf, more, with_end, files_of, and_current}
 use Rattle.ghcn_series.specs.Pieces.{HasFed, AddsLine, RefusesLine, RefusesFed}
@@ -346,10 +346,6 @@ pub data_at_end : (old r : DataReader) (fed : Fed) (held : Contents) → 0 < old
 data_at_end old r fed held some was is holds =
     rw (and_current-some fed.ended fed.current (begun old fed some was))
     (data_fed r (with_end fed) held refl holds is)
-
--- the lines that a reader has read
-pub lines_read : (r : DataReader) (fed : Fed) → HasFed r fed → HasReadSome r.reader
-lines_read r fed is = (daily_lines fed.ended ++ file_lines (length fed.ended + 1, is.whole), is.read)
 
 -- a refusal of the files that were fed is that of their first line with a fault
 pub refuses_fed : (r : DataReader) (f : DataFault)

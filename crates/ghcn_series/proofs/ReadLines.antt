@@ -1,6 +1,6 @@
 -- A reader that has read one line more.
 use Rattle.std.proofs.Common.{◌≡◌, Bool, true, false, cond, List, [], ◌∷◌, ◌++◌, Option, None}
-use Rattle.std.proofs.Common.{Some, Result, Ok, Err, refl, sym, ap, ◌∙◌, append_assoc}
+use Rattle.std.proofs.Common.{Some, Result, Ok, refl, sym, ap, ◌∙◌, append_assoc}
 use Rattle.std.specs.Prelude.{◌&&◌}
 use Rattle.std.specs.List.{filter_map}
 use Rattle.std.specs.Option.{option_map, option_to_list}
@@ -13,7 +13,7 @@ use Rattle.ghcn_files.specs.declared.station.Station.{Station}
 use Rattle.ghcn_files.specs.declared.month.Month.{Month}
 use Rattle.ghcn_files.specs.declared.fault.LineWhy.{LineWhy}
 use Rattle.ghcn_files.specs.Months.{read_month}
-use Rattle.ghcn_series.specs.declared.fault.DailyWhy.TheVariants.{Line, DuplicateMonth}
+use Rattle.ghcn_series.specs.declared.fault.DailyWhy.TheVariants.{DuplicateMonth}
 use Rattle.ghcn_series.specs.declared.fault.DataFault.{DataFault}
 use Rattle.ghcn_series.specs.declared.fault.DataFault.TheVariants.{DailyLine, TooManyFiles, Memory}
 use Rattle.ghcn_series.specs.declared.reader.Reader.{Reader}
@@ -71,15 +71,6 @@ read-passed r l is before read =
       right = no_fault-more (daily_fault r.stations) before l read.right
           (why_of r.stations before l (Ok None) is);
     }
-
--- a line that fails a test by itself is the first with a fault
-pub refused-line : (r : Reader) (l : FileLine) (why : LineWhy) → read_month l.bytes ≡ Err why → (before : List FileLine)
-    → HasReadLines r before → IsLineRefusal r.stations (before ++ l ∷ []) (DailyLine l.file l.line (Line why))
-refused-line r l why is before read = (
-  l,
-  first_here (daily_fault r.stations) before l
-      (DailyLine l.file l.line (Line why)) read.right (why_of r.stations before l (Err why) is),
-)
 
 -- a line that is a new month is read
 pub read-month : (old new : Reader) (l : FileLine) (m : Month) → read_month l.bytes ≡ Ok (Some m)

@@ -146,13 +146,6 @@ module _ (ms : List Summary) (possible : ArePossible ms) (w : ℕ) (first : ℤ)
       let left = left-total in
       omega (arith, ints)
 
--- nor behind the last block
-pub sum-end : (ms : List Summary) (w : ℕ) (first : ℤ) (i : ℕ) (sum : ℤ) → length ms ≤ i → IsSumTo ms w first i sum
-    → sum ≡ summaries_total ms w first
-sum-end ms w first i sum end far =
-    let none = ap (λ ks. summaries_total ks w first) (drop_all i ms end) in
-    omega (arith, ints)
-
 -- ---- the greatest total
 
 -- where no total is below zero and the range has a block, the greatest total is known up to a place

@@ -1,14 +1,13 @@
 -- The runs of the bits of a word.
 use Rattle.std.proofs.Common.{◌≡◌, ℕ, zero, suc, ◌+◌, ◌-◌, ◌*◌, ◌/◌, ◌%◌, ◌<◌, ◌≤◌, ◌^◌, true, false, min, ◌⊎◌, inl}
-use Rattle.std.proofs.Common.{inr, refl, sym, ap, ◌∙◌, subst, arith, w32}
+use Rattle.std.proofs.Common.{inr, refl, sym, ap, ◌∙◌, arith, w32}
 use Rattle.std.specs.Prelude.{◌==◌, bit_and}
 use Rattle.std.specs.Int.{bit_at, bit_not, leading_ones, trailing_ones, trailing_zeros}
-use Rattle.std.proofs.lemmas.Bool.Decides.{Decides-eqb}
 use Rattle.std.proofs.lemmas.Nat.{leading_top}
 use Rattle.std.proofs.lemmas.Nat.Bits.{bit_at-lt, bit_at-zero, bit_at_and, bit_at_above, bit_at_cat_low}
 use Rattle.std.proofs.lemmas.Nat.Bits.{bit_at_cat_high, bit_at_not, bit_at_ones, bit_at-trailing_ones}
 use Rattle.std.proofs.lemmas.Nat.Bits.{bit_at-trailing_zeros}
-use Rattle.rank_blocks.specs.DayRuns.{has_bit, AllPass, ComeFirst, ComeLast, FollowAtMost}
+use Rattle.rank_blocks.specs.DayRuns.{has_bit, AllPass, ComeFirst, ComeLast}
 use Rattle.rank_blocks.proofs.DayTests.{at_most_or_more}
 
 -- a bit that is set, and one that isn't
@@ -18,10 +17,6 @@ set-true word j e = ap (λ (k : ℕ). k == 1) e
 -- a bit that isn't set fails
 set-false : (word j : ℕ) → bit_at word j ≡ 0 → has_bit word j ≡ false
 set-false word j e = ap (λ (k : ℕ). k == 1) e
-
--- a bit that passes is set
-true-set : (word j : ℕ) → has_bit word j ≡ true → bit_at word j ≡ 1
-true-set word j e = (Decides-eqb (bit_at word j) 1).0 e
 
 -- the bits of a word moved up by one place
 moved-up : (w k : ℕ) → k + 1 < 32 → bit_at (w * 2 ^ 1 % 2 ^ 32) (k + 1) ≡ bit_at w k
@@ -48,19 +43,6 @@ pub record AreEnds (word n ends : ℕ) : Type 0 where
   pub every : (from : ℕ) → from + n < 32 → AllPass (has_bit word) from (from + n + 1) → bit_at ends (from + n) ≡ 1
   pub none : (k : ℕ) → k < n → bit_at ends k ≡ 0
   pub somewhere : (from : ℕ) × (from + n ≤ 32) × AllPass (has_bit word) from (from + n)
-
--- at first all bits
-pub ends-start : (word : ℕ) → AreEnds word 0 word
-ends-start word = record {
-  some = λ from lt bit k low high.
-      let same : from + 0 ≡ k = omega arith in
-      subst (λ (i : ℕ). has_bit word i ≡ true) same (set-true word (from + 0) bit);
-  every = λ from lt pass.
-      let same : from ≡ from + 0 = omega arith in
-      subst (λ (i : ℕ). bit_at word i ≡ 1) same (true-set word from (pass from (omega arith) (omega arith)));
-  none = λ k lt. absurd (omega arith);
-  somewhere = (0, omega arith, λ k low high. absurd (omega arith));
-}
 
 module _ (word n ends : ℕ) (are : AreEnds word n ends) (fits : ends < 2 ^ 32) where
   -- the bits that are set in a word and in the word moved up
@@ -133,24 +115,6 @@ module _ (word n ends : ℕ) (are : AreEnds word n ends) (fits : ends < 2 ^ 32) 
       none = λ k lt. next-none k lt (omega arith);
       somewhere = longer;
     }
-
-  -- once no bit remains, n bits are the most
-  pub ends-none : ends ≡ 0 → FollowAtMost (has_bit word) 32 n
-  ends-none no_end = record {
-    somewhere = are.somewhere;
-    nowhere_more = λ from len within pass.
-        elim (at_most_or_more len n) [
-          | inl le ↦ le
-          | inr more ↦
-              let bit = are.every from (omega arith) (λ k low high. pass k low (omega arith)) in
-              let none = ap (λ (e : ℕ). bit_at e (from + n)) no_end ∙ bit_at-zero (from + n) in
-              absurd (omega arith)
-        ];
-  }
-
--- more bits than a word has don't follow one another
-pub ends-all : (word ends : ℕ) → AreEnds word 32 ends → FollowAtMost (has_bit word) 32 32
-ends-all word ends are = record { somewhere = are.somewhere; nowhere_more = λ from len within pass. omega arith }
 
 -- a word is full, or it isn't
 full-or_not : (word : ℕ) → word < 2 ^ 32 → (word ≡ 2 ^ 32 - 1) ⊎ (word + 1 < 2 ^ 32)

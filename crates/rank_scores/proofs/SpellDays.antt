@@ -199,10 +199,3 @@ module _ (id : StationId) (test : ℤ → Bool) (run : Option (ℤ × ℤ)) (res
       → offered id test run rest ≡ offered id test (Some (first, y.0)) ys
   goes_with first e =
       let here : goes_on run y.0 (test y.1) ≡ Some first = sym (ap (goes_on run y.0) is) ∙ e in rw (step, here, offered)
-
-  -- and from one on that is not
-  pub moves_on : (next : Option (ℤ × ℤ)) → goes_on run y.0 b ≡ None → next ≡ cond b (Some (y.0, y.0)) None
-      → offered id test run rest ≡ spell_list id run ++ offered id test next ys
-  moves_on next e now =
-      let here : goes_on run y.0 (test y.1) ≡ None = sym (ap (goes_on run y.0) is) ∙ e in
-      let now_is : next ≡ cond (test y.1) (Some (y.0, y.0)) None = rw (now, is) in rw (step, now_is, here, offered)

@@ -1,29 +1,8 @@
-use Rattle.std.proofs.Common.{◌≡◌, ◌∙◌, Some, ℤ, ℕ, pos, ◌+ℤ◌, ap, sym, subst, w32, to_z, of_z}
+use Rattle.std.proofs.Common.{◌≡◌, ◌∙◌, Some, ℤ, ℕ, pos, ◌+ℤ◌, ap, w32, to_z, of_z}
 use Rattle.std.proofs.lemmas.Int.{to_z-of_z}
-use Rattle.ghcn_fields.specs.Days.{IsBlock}
 use Rattle.ghcn_series.specs.Packed.{block_start}
-use Rattle.ghcn_series.proofs.FirstDays.{block-of_day}
 use Rattle.ghcn_series.proofs.LastDays.{highest-bit}
 use Rattle.ghcn_series.proofs.columns.last_day.Goals as goal
-
--- the block is of the calendar
-pub day_at-requires-clause-number : goal.day_at-requires-clause-number
-day_at-requires-clause-number c =
-    let n : ℤ = c.args.number in
-    let t : ℕ = c.ilog2.result in
-    let top = highest-bit c.args.word t c.ilog2.ensures.power_le c.ilog2.ensures.next_power_gt in
-    let near : to_z w32 (of_z w32 n) ≡ n = to_z-of_z w32 n c.ranges.number in
-    subst IsBlock (sym near) (block-of_day n t c.ilog2.ensures.bound
-    (c.requires.days.days t c.ilog2.ensures.bound top.0))
-
--- and its day too
-pub day_at-requires-clause-day : goal.day_at-requires-clause-day
-day_at-requires-clause-day c =
-    let n : ℤ = c.args.number in
-    let t : ℕ = c.ilog2.result in
-    let top = highest-bit c.args.word t c.ilog2.ensures.power_le c.ilog2.ensures.next_power_gt in
-    let near : to_z w32 (of_z w32 n) ≡ n = to_z-of_z w32 n c.ranges.number in
-    rw near (c.requires.days.days t c.ilog2.ensures.bound top.0)
 
 -- the highest bit has the last day
 pub returns : goal.returns

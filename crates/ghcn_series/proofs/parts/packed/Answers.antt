@@ -1,20 +1,10 @@
 use Rattle.std.proofs.Common.{rules, ◌≡◌, ◌∙◌, ◌++◌, ◌∷◌, [], List, ℤ, ap, sym, subst, append_assoc, w32, to_z, of_z}
-use Rattle.std.proofs.lemmas.List.{append-nil}
 use Rattle.std.proofs.lemmas.Int.{to_z-of_z}
 use Rattle.ghcn_series.specs.Series.{DayValue}
 use Rattle.ghcn_series.specs.Packed.{AreRising}
 use Rattle.ghcn_series.specs.Parts.{days_held}
 use Rattle.ghcn_series.proofs.AddedDays.{rising-before}
 use Rattle.ghcn_series.proofs.parts.packed.Goals as goal
-
--- no day is packed yet
-pub loop-day-init : goal.loop-day-init
-loop-day-init c = record {
-  order = c.new-parts.ensures.order;
-  whole =
-      ap (λ (l : List DayValue). l ++ c.into_iter-day-iterator.result) c.new-parts.ensures.none
-      ∙ c.into_iter-day-iterator.ensures.into_iter_gives.0;
-}
 
 -- the next day is later than those that are packed
 pub add_day-requires-clause-later : goal.add_day-requires-clause-later
@@ -38,12 +28,3 @@ loop-day-preserved c =
           ∙ append_assoc held ((c.in-Some.day, c.in-Some.value) ∷ []) left
           ∙ whole;
     }
-
--- all days are packed
-pub returns : goal.returns
-returns c =
-    let held : List DayValue = days_held c.loop-day.parts in
-    c.into_columns.ensures
-    ∙ sym (append-nil held)
-    ∙ ap (λ (l : List DayValue). held ++ l) (sym c.in-None.ensures.steps.0)
-    ∙ c.loop-day.invariant.whole

@@ -1,8 +1,8 @@
-use Rattle.std.proofs.Common.{◌≡◌, [], ◌∷◌, ◌<◌, List, Option, Some, ℤ, to_z, of_z, w32, sym, ap, ◌∙◌, subst, arith}
+use Rattle.std.proofs.Common.{◌≡◌, [], ◌∷◌, List, Option, Some, ℤ, to_z, of_z, w32, sym, ◌∙◌, subst, arith}
 use Rattle.std.proofs.lemmas.Int.{ints}
 use Rattle.ghcn_series.specs.Series.{Usable}
 use Rattle.rank_blocks.specs.declared.summary.Summary.{Summary}
-use Rattle.rank_blocks.specs.Summaries.{AreSummariesTo, AreSummariesUpTo, numbers_left}
+use Rattle.rank_blocks.specs.Summaries.{AreSummariesTo, AreSummariesUpTo}
 use Rattle.rank_blocks.proofs.ReadBlocks.{read-first}
 use Rattle.rank_blocks.proofs.blocks.summaries_of.Goals as goal
 
@@ -23,18 +23,3 @@ number-read : (s : Usable) (ms : List Summary) (next : Option ℤ) (n : ℤ) →
 number-read s ms next n is so_far =
     let to : AreSummariesTo s n ms = subst (AreSummariesUpTo s ms) is so_far in
     (to, omega (arith, ints))
-
--- the blocks before the next are read
-pub add_block-requires : goal.add_block-requires
-add_block-requires c =
-    let read = number-read c.args.series.now c.loop-next.summaries.items c.loop-next.next c.in-Some-next.number
-    c.in-Some-next.is c.loop-next.invariant in
-    subst (λ (n : ℤ). AreSummariesTo c.args.series.now n c.loop-next.summaries.items) read.1 read.0
-
--- fewer numbers are left
-pub loop-next-smaller : goal.loop-next-smaller
-loop-next-smaller c =
-    let read = number-read c.args.series.now c.loop-next.summaries.items c.loop-next.next c.in-Some-next.number
-    c.in-Some-next.is c.loop-next.invariant in
-    subst (λ (o : Option ℤ). numbers_left c.in_ok-next.next < numbers_left o)
-    (ap (λ (n : ℤ). Some n) (sym read.1) ∙ sym c.in-Some-next.is) c.in_ok-next.ensures.later

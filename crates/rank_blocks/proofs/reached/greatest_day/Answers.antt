@@ -1,9 +1,7 @@
-use Rattle.std.proofs.Common.{◌≡◌, map, to_z, of_z, w64, pos, ℤ, Option, Some, sym, ap, ◌∙◌, subst}
-use Rattle.std.specs.Option.{IfSome, unwrap_or}
-use Rattle.std.proofs.lemmas.List.{take_all}
-use Rattle.ghcn_fields.specs.Sorting.{greatest}
-use Rattle.rank_blocks.specs.Reached.{IsNear, extreme_of, summaries_in}
-use Rattle.rank_blocks.proofs.BlockSteps.{greatest-in, greatest-out, near-or_none, near-read}
+use Rattle.std.proofs.Common.{◌≡◌, ℤ, Option, Some, sym, ap, ◌∙◌, subst}
+use Rattle.std.specs.Option.{IfSome}
+use Rattle.rank_blocks.specs.Reached.{IsNear, extreme_of}
+use Rattle.rank_blocks.proofs.BlockSteps.{greatest-in, greatest-out, near-read}
 use Rattle.rank_blocks.proofs.reached.greatest_day.Goals as goal
 use Rattle.rank_blocks.proofs.reached.greatest_day.Goals.{then-is_in, else-is_in}
 
@@ -33,17 +31,3 @@ loop-block-preserved c =
             near = subst (λ (o : Option ℤ). IfSome o IsNear) (sym w.found-is) c.loop-block.invariant.near;
           }
     ]
-
--- behind the last block
-pub returns : goal.returns
-returns c =
-    let near : IsNear (unwrap_or c.loop-block.found (pos 0)) = near-or_none c.loop-block.found
-    c.loop-block.invariant.near in
-    let same : to_z w64 (of_z w64 c.unwrap_or.result) ≡ unwrap_or c.loop-block.found (pos 0) =
-    ap (λ (z : ℤ). to_z w64 (of_z w64 z)) c.unwrap_or.ensures ∙ near-read _ near in
-    let all = take_all c.loop-block.block-index c.args.blocks.now c.loop-block-test.false in
-    record {
-      value = same ∙ ap (λ (o : Option ℤ). unwrap_or o (pos 0)) (sym c.loop-block.invariant.found
-          ∙ ap (λ ms. greatest (map (extreme_of c.args.extreme) (summaries_in c.args.range ms))) all);
-      near = subst IsNear (sym same) near;
-    }

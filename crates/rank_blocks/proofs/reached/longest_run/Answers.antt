@@ -2,7 +2,7 @@ use Rattle.std.proofs.Common.{◌≡◌, pos, to_z, w64, sym, ◌∙◌, subst, 
 use Rattle.std.proofs.lemmas.Int.{ints}
 use Rattle.rank_blocks.specs.Greatest.{IsGreatest}
 use Rattle.rank_blocks.proofs.PossibleBlocks.{possible-few}
-use Rattle.rank_blocks.proofs.RangeRuns.{IsTold, told-start, told-order, told-in, told-out, told-end}
+use Rattle.rank_blocks.proofs.RangeRuns.{IsTold, told-start, told-in, told-out, told-end}
 use Rattle.rank_blocks.proofs.reached.longest_run.Goals as goal
 use Rattle.rank_blocks.proofs.reached.longest_run.Goals.{then-is_in, else-is_in}
 
@@ -11,12 +11,6 @@ pub loop-block-init : goal.loop-block-init
 loop-block-init c =
     subst (IsTold c.args.range c.args.spell c.args.blocks.now 0) (sym c.before-runs.ensures)
     (told-start c.args.range c.args.spell c.args.blocks.now)
-
--- a block of the range comes later
-pub add-runs-requires-clause-order : goal.add-runs-requires-clause-order
-add-runs-requires-clause-order c =
-    told-order c.args.range c.args.spell c.args.blocks.now c.requires c.loop-block.block-index c.loop-block-test.true
-    c.loop-block.runs c.loop-block.invariant (sym c.is_in.ensures ∙ c.if-is_in.true)
 
 -- there are few blocks
 pub add-runs-requires-clause-room : goal.add-runs-requires-clause-room

@@ -1,6 +1,6 @@
 use Rattle.std.proofs.Common.{sym, ◌∙◌, arith}
 use Rattle.std.proofs.lemmas.Int.{ints}
-use Rattle.rank_blocks.proofs.BlockSteps.{sum-bounds, sum-in, sum-out, sum-past, sum-end}
+use Rattle.rank_blocks.proofs.BlockSteps.{sum-bounds, sum-in, sum-out, sum-past}
 use Rattle.rank_blocks.proofs.PossibleBlocks.{possible-few}
 use Rattle.rank_blocks.proofs.reached.window_total.Goals as goal
 use Rattle.rank_blocks.proofs.reached.window_total.Goals.{then-holds, else-holds}
@@ -31,7 +31,3 @@ loop-block-preserved c =
           far _ (w.total-is ∙ omega (arith, ints)) (sym c.holds.ensures ∙ w.if-holds.true)
       | else-holds w ↦ same _ w.total-is (sym c.holds.ensures ∙ w.if-holds.false)
     ]
-
--- behind the last block
-pub returns : goal.returns
-returns c = sum-end c.args.blocks.now _ _ c.loop-block.block-index _ c.loop-block-test.false c.loop-block.invariant

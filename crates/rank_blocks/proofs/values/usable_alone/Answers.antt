@@ -42,7 +42,3 @@ loop-place-preserved c =
       first = c.loop-place.invariant.first;
       filled = row-more c.args.word c.args.values.now c.loop-place.row p _ (omega arith) here filled;
     }
-
--- each place is filled
-pub returns : goal.returns
-returns c = λ j lt. c.loop-place.invariant.filled j (let end = c.loop-place-test.false in omega arith)

@@ -13,29 +13,6 @@ use Rattle.ghcn_series.proofs.data.Data.read_kept.Goals as goal
 nothing : Bor (List ℕ)
 nothing = record { ref_ptr = (0, 0); now = [] }
 
--- some files were fed
-pub piece-requires : goal.piece-requires
-piece-requires c = (
-  fed_files c.args.element c.args.stations c.args.files.now c.loop-file.file-index,
-  c.loop-file.invariant,
-)
-
--- and one file's bytes
-pub end_of_file-requires : goal.end_of_file-requires
-unfolding nothing
-end_of_file-requires c =
-    let fed = fed_files c.args.element c.args.stations c.args.files.now c.loop-file.file-index in (
-      more fed (get_or c.args.files.now c.loop-file.file-index nothing).now,
-      c.in_ok-piece.ensures.fed.holds fed c.loop-file.invariant,
-    )
-
--- all files were fed
-pub finish-requires : goal.finish-requires
-finish-requires c = (
-  fed_files c.args.element c.args.stations c.args.files.now c.loop-file.file-index,
-  c.loop-file.invariant,
-)
-
 -- one file more is fed
 pub loop-file-preserved : goal.loop-file-preserved
 unfolding nothing

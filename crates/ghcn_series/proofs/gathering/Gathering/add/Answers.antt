@@ -17,10 +17,6 @@ returns-then-not-branch-clause-added c = λ m right of.
       holds = λ before is. tt;
     }
 
--- its parts are as they may be
-pub add_days-requires-clause-parts : goal.add_days-requires-clause-parts
-add_days-requires-clause-parts c = c.requires.gathered.1.parts
-
 -- no day of a new month was added before
 pub add_days-requires-clause-fresh : goal.add_days-requires-clause-fresh
 add_days-requires-clause-fresh c = λ m right of.

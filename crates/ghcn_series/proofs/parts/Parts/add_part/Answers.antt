@@ -1,14 +1,12 @@
-use Rattle.std.proofs.Common.{arith, ◌≡◌, ◌∙◌, ◌-◌, List, true, false, ℤ, ℕ, pos, ◌++◌, ◌∷◌, get_or, length, sym}
+use Rattle.std.proofs.Common.{arith, ◌≡◌, ◌∙◌, ◌-◌, List, true, ℤ, ℕ, pos, ◌++◌, ◌∷◌, get_or, length, sym}
 use Rattle.std.proofs.Common.{[], w32, to_z, of_z}
-use Rattle.std.specs.Prelude.{◌==◌, ◌||◌, ◌&&◌, nat_lt, int_lt}
-use Rattle.std.specs.Ordering.{int_eq}
+use Rattle.std.specs.Prelude.{◌==◌, ◌||◌, int_lt}
 use Rattle.std.proofs.lemmas.Int.{to_z-of_z}
-use Rattle.std.proofs.lemmas.Bool.{and_from, and_parts}
+use Rattle.std.proofs.lemmas.Bool.{and_parts}
 use Rattle.ghcn_series.specs.Packed.{AreBlocks}
 use Rattle.ghcn_series.specs.Parts.{days_held}
 use Rattle.ghcn_series.proofs.PartsAdded.{add-none, push-blocks, push-days, push-rise}
 use Rattle.ghcn_series.proofs.ApartParts.{pushed-apart}
-use Rattle.ghcn_series.proofs.AddedDays.{rises-from}
 use Rattle.ghcn_series.proofs.parts.Parts.add_part.Goals as goal
 
 -- without a bit no day is joined
@@ -37,18 +35,6 @@ returns-clause-parts c =
           rw (c.deref-2.ensures.value, near) at (sym c.is_after-rises.ensures ∙ both.1) in
           rw numbers (push-rise ns n (c.requires.parts.rise both.0) after);
     }
-
--- the number rises where it isn't below the last
-pub returns-clause-order : goal.returns-clause-order
-returns-clause-order c = λ ordered last.
-    let ns : List ℤ = c.args.self.now.numbers.items in
-    let n : ℤ = c.args.number in
-    let near : to_z w32 (of_z w32 n) ≡ n = to_z-of_z w32 n c.ranges.number in
-    let apart : (nat_lt 0 (length ns) && int_eq (get_or ns (length ns - 1) (pos 0)) n) ≡ false =
-    rw (c.deref.ensures.value, near) at (sym c.ends_in.ensures ∙ c.if-ends_in.false) in
-    let told : c.is_after-rises.result ≡ true =
-    rw (c.deref-2.ensures.value, near) at c.is_after-rises.ensures ∙ rises-from (length ns) _ n apart last in
-    and_from c.args.self.now.in_order c.is_after-rises.result ordered told
 
 -- its days are joined
 pub returns-clause-joined : goal.returns-clause-joined

@@ -1,5 +1,4 @@
 use Rattle.std.proofs.Common.{rules, arith, ◌≡◌, ◌+◌, ◌++◌, [], sym, ap, ◌∙◌}
-use Rattle.std.proofs.lemmas.Result.{err_from_is_err_and}
 use Rattle.std.proofs.lemmas.Bool.Decides.{nat_tests}
 use Rattle.std.proofs.lemmas.List.{nil_from_length}
 use Rattle.ghcn_series.specs.declared.pieces.DataReader.{DataReader}
@@ -7,16 +6,6 @@ use Rattle.ghcn_series.specs.declared.reader.Reader.{Reader}
 use Rattle.ghcn_series.proofs.pieces.DataReader.end_line.Goals as goal
 use Rattle.ghcn_series.proofs.pieces.DataReader.end_line.Goals.{then-is_empty+in_ok-add}
 use Rattle.ghcn_series.proofs.pieces.DataReader.end_line.Goals.{else-is_empty+in_ok-keep+in_ok-add-2}
-
--- a line is put together, and refused
-pub returns-in_err-add-2-clause-fault : goal.returns-in_err-add-2-clause-fault
-returns-in_err-add-2-clause-fault c =
-    let p = err_from_is_err_and c.from_residual-in_err-add-2.result c.from_residual-in_err-add-2.ensures.1 in
-    let old = c.args.self.now in
-    let line : c.in_ok-line.line ≡ old.line + 1 = search rules in
-    let bytes : c.deref.result.now ≡ old.rest.items ++ c.args.bytes.now =
-    c.deref.ensures.value ∙ c.in_ok-keep.ensures.kept in
-    rw (p.1, p.2) (rw (line, bytes, c.in_ok-keep.ensures.reader) at c.in_err-add-2.ensures.fault)
 
 -- a line is added
 pub returns-clause-added : goal.returns-clause-added

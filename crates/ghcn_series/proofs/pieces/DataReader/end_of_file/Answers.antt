@@ -1,19 +1,12 @@
-use Rattle.std.proofs.Common.{arith, ◌≡◌, ◌+◌, ◌<◌, ◌^◌, ◌++◌, ◌∙◌, [], length, ap, refl}
+use Rattle.std.proofs.Common.{arith, ◌≡◌, ◌+◌, ◌<◌, ◌^◌, ◌∙◌, [], length, ap, refl}
 use Rattle.std.proofs.lemmas.Bool.Decides.{nat_tests}
 use Rattle.std.proofs.lemmas.List.{nil_from_length}
 use Rattle.std.proofs.lemmas.Result.{err_from_is_err_and}
 use Rattle.ghcn_series.specs.declared.pieces.DataReader.{DataReader}
-use Rattle.ghcn_series.specs.DailyFaults.{daily_lines, file_lines}
 use Rattle.ghcn_series.specs.Fed.{with_end}
 use Rattle.ghcn_series.proofs.FedPieces.{end-fed, last-fed, last-told}
 use Rattle.ghcn_series.proofs.pieces.DataReader.end_of_file.Goals as goal
 use Rattle.ghcn_series.proofs.pieces.DataReader.end_of_file.Goals.{then-not-is_empty+in_ok-end_line, else-not-is_empty}
-
--- the reader of lines has read some
-pub end_line-requires-clause-read : goal.end_line-requires-clause-read
-end_line-requires-clause-read c =
-    let fed = c.requires.0 in
-    (daily_lines fed.ended ++ file_lines (length fed.ended + 1, c.requires.1.whole), c.requires.1.read)
 
 -- a last line with a fault is told
 pub returns-in_err-end_line-clause-fault : goal.returns-in_err-end_line-clause-fault

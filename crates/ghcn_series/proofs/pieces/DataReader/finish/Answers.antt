@@ -1,25 +1,11 @@
 use Rattle.std.proofs.Common.{◌+◌, ◌<◌, length, sym, subst, ◌∙◌}
 use Rattle.std.proofs.lemmas.Result.{err_from_is_err_and}
 use Rattle.ghcn_series.specs.declared.pieces.DataReader.{DataReader}
-use Rattle.ghcn_series.specs.Steps.{HoldsAll, HasReadSome}
-use Rattle.ghcn_series.specs.Fed.{with_end}
+use Rattle.ghcn_series.specs.Steps.{HoldsAll}
 use Rattle.ghcn_series.proofs.FedPieces.{told_at_end, data_at_end, data_fed, has_begun, not_begun}
-use Rattle.ghcn_series.proofs.FedPieces.{unbegun, refuses_fed, lines_read}
+use Rattle.ghcn_series.proofs.FedPieces.{unbegun, refuses_fed}
 use Rattle.ghcn_series.proofs.pieces.DataReader.finish.Goals as goal
 use Rattle.ghcn_series.proofs.pieces.DataReader.finish.Goals.{then-has_begun+in_ok-end_of_file, else-has_begun}
-
--- the reader of lines has read some
-pub finish-requires : goal.finish-requires
-finish-requires c =
-    elim c.if-has_begun.branch [
-      | then-has_begun+in_ok-end_of_file w ↦
-          subst (λ (r : DataReader). HasReadSome r.reader) (sym w.self-is)
-          (lines_read w.end_of_file.new.self (with_end c.requires.0)
-          (w.in_ok-end_of_file.ensures.fed.holds c.requires.0 c.requires.1))
-      | else-has_begun w ↦
-          subst (λ (r : DataReader). HasReadSome r.reader) (sym w.self-is)
-          (lines_read c.args.self c.requires.0 c.requires.1)
-    ]
 
 -- the fault of the last line is that of the files
 pub returns-in_err-end_of_file-clause-err : goal.returns-in_err-end_of_file-clause-err

@@ -1,27 +1,14 @@
 use Rattle.std.proofs.Common.{◌≡◌, Ok, None}
 use Rattle.ghcn_files.specs.Months.{read_month}
 use Rattle.ghcn_files.specs.Rows.{IsOfLine}
-use Rattle.ghcn_series.proofs.ReadLines.{read-passed, read-month, refused-line, refused-month}
+use Rattle.ghcn_series.proofs.ReadLines.{read-passed, read-month, refused-month}
 use Rattle.ghcn_series.proofs.reader.Reader.add_line.Goals as goal
-
--- the row is that of a month
-pub add_month-requires-clause-right : goal.add_month-requires-clause-right
-add_month-requires-clause-right c =
-    let is : IsOfLine c.args.self.now.element c.args.bytes.now c.in-Ok-Some.row =
-    rw c.in-Ok-Some.field-0-is at c.in-Ok-Some.ensures in
-    (is.month, (is.right, is.row))
 
 -- a line of none of the elements is passed over
 pub returns-in-Ok-None-clause-read : goal.returns-in-Ok-None-clause-read
 returns-in-Ok-None-clause-read c =
     let is : read_month c.args.bytes.now ≡ Ok None = rw c.in-Ok-None.field-0-is at c.in-Ok-None.ensures in
     record { holds = λ before read. read-passed c.args.self.now _ is before read }
-
--- a line that fails a test by itself is refused
-pub returns-in-Err-clause-fault : goal.returns-in-Err-clause-fault
-returns-in-Err-clause-fault c =
-    rw c.refused.ensures
-    (record { first = λ before read. refused-line c.args.self.now _ c.in-Err.why c.in-Err.ensures before read })
 
 -- a new month is read
 pub returns-in-Ok-true-clause-read : goal.returns-in-Ok-true-clause-read

@@ -9,10 +9,6 @@ use Rattle.ghcn_series.proofs.Places.{unlisted-is}
 use Rattle.ghcn_series.proofs.ReadMonths.{read-listed, read-unlisted, read-behind, within_gathered, own_id, own_months}
 use Rattle.ghcn_series.proofs.reader.Reader.add_month.Goals as goal
 
--- the stations are listed
-pub place-requires : goal.place-requires
-place-requires c = c.requires.read.1.months.listed
-
 -- a listed station has a gathering
 pub index_mut-requires : goal.index_mut-requires
 index_mut-requires c =
@@ -36,10 +32,6 @@ add-requires-clause-gathered c =
       own_months _ c.turn_to.new.self c.args.row.now.id c.in-Some.place c.index_mut.result.now read
           (rw c.turn_to.ensures.stations (sym c.place.ensures ∙ c.in-Some.is)) c.index_mut.ensures.value,
     )
-
--- and memory without days to grow in
-pub add-requires-clause-spare : goal.add-requires-clause-spare
-add-requires-clause-spare c = (c.in_ok-turn_to-in-Some.ensures.same.holds _ c.requires.read.1.months).spare
 
 -- a month of a listed station is added to its own
 pub returns-in_ok-turn_to-in-Some-clause-added : goal.returns-in_ok-turn_to-in-Some-clause-added

@@ -24,10 +24,6 @@ loop-station-init c =
           ∙ ap (map station_series) all;
     }
 
--- the station can become series
-pub into_series-requires : goal.into_series-requires
-into_series-requires c = let ready = rw c.in-Some.ensures.steps.0 at c.loop-station.invariant.ready in ready.0
-
 -- one list more, behind those that are held
 one_more : {V : Type 0} (items : V → List Usable) (held : List V) (v : V) (g : StationGathering)
     (rest left : List StationGathering) (all : List (List Usable)) → items v ≡ station_series g → rest ≡ g ∷ left
@@ -38,21 +34,6 @@ one_more items held v g rest left all is step whole =
     ∙ ap (λ (us : List Usable). map items held ++ us ∷ map station_series left) is
     ∙ ap (λ gs. map items held ++ map station_series gs) (sym step)
     ∙ whole
-
--- one station more is finished
-pub loop-station-preserved : goal.loop-station-preserved
-loop-station-preserved c =
-    let held = c.loop-station.series.items in
-    let step = c.in-Some.ensures.steps.0 in
-    let ready = rw step at c.loop-station.invariant.ready in
-    record {
-      ready = ready.1;
-      whole =
-          ap (λ vs. map (λ s. s.items) vs ++ map station_series (into_iter_items c.next.new.self))
-          c.in_ok-push.ensures.items
-          ∙ one_more (λ s. s.items) held c.in_ok-into_series.field-0 c.in-Some.station _ _ _ c.in_ok-into_series.ensures
-          step c.loop-station.invariant.whole;
-    }
 
 -- nothing is left
 all_added : (held all : List (List Usable)) (rest : List StationGathering) → rest ≡ [] → held ++ map station_series rest

@@ -1,14 +1,8 @@
-use Rattle.std.proofs.Common.{◌≡◌, ℕ, Bool, true, false, get_or, subst, sym, ap, ◌∙◌}
+use Rattle.std.proofs.Common.{◌≡◌, ℕ, true, false, get_or, sym, ap, ◌∙◌}
 use Rattle.std.proofs.lemmas.Result.{IfOk-weaker}
 use Rattle.ghcn_files.specs.Elements.{element_index, is_kept}
-use Rattle.ghcn_series.specs.Steps.{IsOfMonth}
 use Rattle.ghcn_series.proofs.StationMonths.{station-more, some_at}
 use Rattle.ghcn_series.proofs.station.StationGathering.add.Goals as goal
-
--- the month's days are kept
-pub add-requires-clause-right : goal.add-requires-clause-right
-add-requires-clause-right c =
-    subst (λ (k : Bool). IsOfMonth k c.args.row.now) (sym c.is_kept.ensures ∙ c.if-is_kept.true) c.requires.right
 
 -- the gathering of the month's element has the station's months of it
 pub add-requires-clause-gathered : goal.add-requires-clause-gathered
