@@ -16,10 +16,10 @@ use Rattle.ghcn_files.specs.declared.element.Element.{Element}
 use Rattle.ghcn_files.specs.Ids.{same_id}
 use Rattle.ghcn_files.specs.Elements.{same_element}
 use Rattle.ghcn_files.specs.Listed.{is_station_of, place_of}
-use Rattle.ghcn_series.specs.Series.{Usable, is_series_of}
+use Rattle.ghcn_series.specs.Series.{Usable, Contents, is_series_of, series_of}
 use Rattle.ghcn_series.specs.Held.{all_of, is_of_element}
-use Rattle.ghcn_series.proofs.Places.{ids, first_place}
-use Rattle.ghcn_files.specs.IdLaws.{same_id-is, same_id-turned, place_is, no_place}
+use Rattle.ghcn_series.proofs.Places.{ids, first_place, listed-is}
+use Rattle.ghcn_files.specs.IdLaws.{same_id-is, same_id-turned, no_place}
 use Rattle.ghcn_series.proofs.ListFacts.{both_all}
 
 -- of the series of one station, an element's is the station's and the element's
@@ -103,15 +103,6 @@ none-unlisted id e ss lists apart own none =
     sym (ap (option_and_then (find (is_of_element e))) (slice_get_past lists at beyond))
     ∙ found_by_place id e ss lists apart own
 
--- the series of a listed station are in the list at its place
-pub found-listed : (id : StationId) (e : Element) (ss : List Station) (lists : List (List Usable)) (k : ℕ)
-    (us : Option (List Usable)) → IsDistinct same_id (ids ss) → AreOwn ss lists → place_of ss id ≡ Some k
-    → us ≡ slice_get lists k
-    → option_and_then (find (is_of_element e)) us ≡ find (is_series_of id e) (all_of lists)
-found-listed id e ss lists k us apart own at is =
-    ap (option_and_then (find (is_of_element e))) (is ∙ ap (slice_get lists) (sym (place_is ss id k at)))
-    ∙ found_by_place id e ss lists apart own
-
 -- a list ends before a place where it has nothing
 none_past : {A : Type 0} (xs : List A) (k : ℕ) → slice_get xs k ≡ None → length xs ≤ k
 none_past [] k none = omega arith
@@ -135,6 +126,17 @@ found-at e ss lists k us apart own is = by (slice_get ss k) refl
         ap (option_and_then (find (is_of_element e)))
         (is ∙ ap (slice_get lists) (sym (first_place ss k s apart at).0))
         ∙ found_by_place s.id e ss lists apart own
+
+-- the series of the station at a place
+abbrev pub at_place : Contents → Element → ℕ → Option Usable
+at_place all e k = option_and_then (λ (s : Station). series_of all s.id e) (slice_get all.stations k)
+
+-- at the place of an ID they are that ID's
+pub listed-at : (all : Contents) (id : StationId) (e : Element) (k : ℕ) → place_of all.stations id ≡ Some k
+    → at_place all e k ≡ series_of all id e
+listed-at all id e k place =
+    let at = listed-is all.stations id k place in
+    rw at.0.1 (ap (λ (i : StationId). series_of all i e) at.0.2)
 
 -- what is found at a place of a list of lists
 pub list-there : {V : Type 0} (items : V → List Usable) (vs : List V) (k : ℕ) (v : V) → nat_lt k (length vs) ≡ true

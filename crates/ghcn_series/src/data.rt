@@ -115,9 +115,7 @@ impl Data {
     pub fn series(&self, id: &StationId, element: Element) -> Option<&Series>
         ensures { option_copied result ≡ series_of self.now id.now element }
     {
-        let place = self.stations.place(id)?;
-        let series = self.series.get(place as usize)?;
-        of_element(series, element)
+        self.series_at(self.stations.place(id)?, element)
     }
 
     /// The series of an element and of the station at a place in the list, from 0, where it has a usable
