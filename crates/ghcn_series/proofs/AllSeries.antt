@@ -4,12 +4,13 @@ use Rattle.std.proofs.Common.{Option, None, Some, refl, sym, ap, ◌∙◌, subs
 use Rattle.std.specs.Prelude.{◌==◌, ◌&&◌, ◌||◌}
 use Rattle.std.specs.List.{filter_map, flat_map, cons_option, list_any, AllZip, AllByRecursion, IsDistinct, slice_get}
 use Rattle.std.proofs.lemmas.List.Elements.{filter-append}
-use Rattle.std.proofs.lemmas.Bool.{and_right, and_parts, or_right, eqb-true}
+use Rattle.std.proofs.lemmas.Bool.{and_left, and_right, and_parts, or_right, eqb-true}
 use Rattle.std.proofs.lemmas.Option.{same_Some}
 use Rattle.ghcn_fields.specs.Sorting.{sorted_by}
 use Rattle.ghcn_files.specs.declared.station.StationId.{StationId}
 use Rattle.ghcn_files.specs.declared.station.Station.{Station}
 use Rattle.ghcn_files.specs.declared.element.Element.{Element}
+use Rattle.ghcn_files.specs.declared.element.Element.TheVariants.{Prcp, Snow, Snwd, Tmax, Tmin}
 use Rattle.ghcn_files.specs.declared.month.Month.{Month}
 use Rattle.ghcn_files.specs.Ids.{same_id}
 use Rattle.ghcn_files.specs.Elements.{elements, same_element, is_kept}
@@ -20,15 +21,16 @@ use Rattle.ghcn_series.specs.declared.station.StationGathering.{StationGathering
 use Rattle.ghcn_series.specs.Series.{DayValue, Usable, Contents, IsSeries, by_day}
 use Rattle.ghcn_series.specs.DailyFaults.{is_listed}
 use Rattle.ghcn_series.specs.Says.{Fact, facts_of, is_usable, days_of, usable_of, all_series}
-use Rattle.ghcn_series.specs.Held.{AreByStation, AreSeries, all_of, same_series}
+use Rattle.ghcn_series.specs.Held.{AreByStation, all_of, same_series}
 use Rattle.ghcn_series.specs.Kept.{kept}
 use Rattle.ghcn_series.specs.Gathered.{usable_days, kept_days, gathered_days, months_of, IsGatheringOf}
 use Rattle.ghcn_series.specs.Gathered.{AreByElement, IsStationOf, IsReady, gathered_series, station_series}
 use Rattle.ghcn_series.proofs.Places.{ids, same_id-refl}
 use Rattle.ghcn_series.proofs.StationMonths.{months_of-none, elements_differ, element_at}
+use Rattle.ghcn_series.proofs.SeriesPlaces.{AreOwn}
 use Rattle.ghcn_series.proofs.ReadySeries.{is_series, length-sorted, gathered-sorted}
 use Rattle.ghcn_series.proofs.FactsOfMonths.{selected-months}
-use Rattle.ghcn_series.proofs.ListFacts.{both_all, weaken, both_distinct}
+use Rattle.ghcn_series.proofs.ListFacts.{both_all, weaken, both_distinct, distinct_filter}
 
 -- elements that are the same
 same_element-is : (a b : Element) → same_element a b ≡ true → a ≡ b
@@ -87,77 +89,59 @@ all_ready asked ms (s ∷ ss) (g ∷ gs) right all = (
   all_ready asked ms ss gs right all.1,
 )
 
--- the series of a gathering, in its order
-series_of_gathering : StationId → Gathering → Usable
-series_of_gathering id g = record { id = id; element = g.element; days = sorted_by by_day (gathered_days g) }
-
--- what is true of each series of a station
-from_gatherings : (P : Usable → Type 0) (id : StationId) (gs : List Gathering)
-    → ((g : Gathering) (u : Usable) → IsReady g → (length (gathered_days g) == 0) ≡ false → u ≡ series_of_gathering id g
-    → P u)
-    → AllByRecursion IsReady gs → AllByRecursion P (filter_map (gathered_series id) gs)
-unfolding series_of_gathering
-from_gatherings P id [] each ready = tt
-from_gatherings P id (g ∷ gs) each ready =
+-- each series of a station is right
+from_gatherings : (id : StationId) (gs : List Gathering) → AllByRecursion IsReady gs
+    → AllByRecursion IsSeries (filter_map (gathered_series id) gs)
+from_gatherings id [] ready = tt
+from_gatherings id (g ∷ gs) ready =
     elim (length (gathered_days g) == 0) as (λ b. (length (gathered_days g) == 0) ≡ b
-    → AllByRecursion P (cons_option (cond b None (Some (series_of_gathering id g)))
+    → AllByRecursion IsSeries (cons_option (cond b None (Some (record
+    { id = id; element = g.element; days = sorted_by by_day (gathered_days g) })))
     (filter_map (gathered_series id) gs))) [
-      | true ↦ λ is. from_gatherings P id gs each ready.1
-      | false ↦ λ is. (each g (series_of_gathering id g) ready.0 is refl, from_gatherings P id gs each ready.1)
+      | true ↦ λ is. from_gatherings id gs ready.1
+      | false ↦ λ is. (is_series id g _ ready.0 is refl, from_gatherings id gs ready.1)
     ] refl
 
 -- ---- no two series are of one station and element
 
--- a series is none of those
-abbrev IsOther : Usable → List Usable → Type 0
-IsOther u us = AllByRecursion (λ v. same_series u v ≡ false) us
-
--- a series of one element is none of those of the others
-others_apart : (asked : Option Element) (ms : List Month) (id : StationId) (u : Usable) (gs : List Gathering)
-    (es : List Element) → AllByRecursion (λ e. same_element u.element e ≡ false) es
-    → AllZip (IsGatheringOf asked ms id) gs es → IsOther u (filter_map (gathered_series id) gs)
-others_apart asked ms id u [] [] other all = tt
-others_apart asked ms id u [] (e ∷ es) other all = absurd all
-others_apart asked ms id u (g ∷ gs) [] other all = absurd all
-others_apart asked ms id u (g ∷ gs) (e ∷ es) other all =
-    elim (length (gathered_days g) == 0) as
-    (λ b. IsOther u (cons_option (cond b None
-    (Some (record { id = id; element = g.element; days = sorted_by by_day (gathered_days g) })))
-    (filter_map (gathered_series id) gs))) [
-      | true ↦ others_apart asked ms id u gs es other.1 all.1
-      | false ↦ (
-        and_right (same_id u.id id) (same_element u.element g.element)
-            (ap (same_element u.element) all.0.element ∙ other.0),
-        others_apart asked ms id u gs es other.1 all.1,
-      )
-    ]
+-- the series of one element is none of those of the others
+others_apart : (facts : List Fact) (s : Station) (e : Element) (es : List Element)
+    → AllByRecursion (λ f. same_element e f ≡ false) es
+    → AllByRecursion (λ u. same_series (usable_of facts s e) u ≡ false) (map (usable_of facts s) es)
+others_apart facts s e [] other = tt
+others_apart facts s e (f ∷ fs) other =
+    (and_right (same_id s.id s.id) (same_element e f) other.0, others_apart facts s e fs other.1)
 
 -- the series of distinct elements are distinct
-elements_apart : (asked : Option Element) (ms : List Month) (id : StationId) (gs : List Gathering) (es : List Element)
-    → IsDistinct same_element es → AllZip (IsGatheringOf asked ms id) gs es
-    → IsDistinct same_series (filter_map (gathered_series id) gs)
+elements_apart : (facts : List Fact) (s : Station) (es : List Element) → IsDistinct same_element es
+    → IsDistinct same_series (map (usable_of facts s) es)
 unfolding IsDistinct
-elements_apart asked ms id [] [] apart all = tt
-elements_apart asked ms id [] (e ∷ es) apart all = absurd all
-elements_apart asked ms id (g ∷ gs) [] apart all = absurd all
-elements_apart asked ms id (g ∷ gs) (e ∷ es) apart all =
-    let this : Usable = record { id = id; element = g.element; days = sorted_by by_day (gathered_days g) } in
-    elim (length (gathered_days g) == 0) as
-    (λ b. IsDistinct same_series (cons_option (cond b None (Some this)) (filter_map (gathered_series id) gs))) [
-      | true ↦ elements_apart asked ms id gs es apart.1 all.1
-      | false ↦ (
-        others_apart asked ms id this gs es (subst (λ d. AllByRecursion (λ x. same_element d x ≡ false) es)
-            (sym all.0.element) apart.0) all.1,
-        elements_apart asked ms id gs es apart.1 all.1,
-      )
-    ]
+elements_apart facts s [] apart = tt
+elements_apart facts s (e ∷ es) apart = (others_apart facts s e es apart.0, elements_apart facts s es apart.1)
 
--- those of a station are
-station_apart : (asked : Option Element) (ms : List Month) (id : StationId) (gs : List Gathering)
-    → AreByElement asked ms id gs → IsDistinct same_series (filter_map (gathered_series id) gs)
+-- all that may be said of these stations
+abbrev all_said : List Fact → List Station → List Usable
+all_said facts ss = flat_map (λ s. map (usable_of facts s) elements) ss
+
+-- a series is none of those of stations with other IDs
+ids_apart : (facts : List Fact) (u : Usable) (ss : List Station) → AllByRecursion (λ i. same_id u.id i ≡ false) (ids ss)
+    → AllByRecursion (λ v. same_series u v ≡ false) (all_said facts ss)
+ids_apart facts u [] other = tt
+ids_apart facts u (s ∷ ss) other =
+    let each = λ (e : Element). and_left (same_id u.id s.id) (same_element u.element e) other.0 in
+    both_all (λ v. same_series u v ≡ false) (map (usable_of facts s) elements) (all_said facts ss)
+    (each Prcp, (each Snow, (each Snwd, (each Tmax, (each Tmin, tt))))) (ids_apart facts u ss other.1)
+
+-- where no ID stands twice, no two of all series are of one station and element
+stations_apart : (facts : List Fact) (ss : List Station) → IsDistinct same_id (ids ss)
+    → IsDistinct same_series (all_said facts ss)
 unfolding IsDistinct
-station_apart asked ms id [] all = tt
-station_apart asked ms id (g ∷ gs) all = elements_apart asked ms id (g ∷ gs) elements elements_differ all
+stations_apart facts [] apart = tt
+stations_apart facts (s ∷ ss) apart =
+    let each = λ (e : Element). ids_apart facts (usable_of facts s e) ss apart.0 in
+    both_distinct same_series (map (usable_of facts s) elements) (all_said facts ss)
+    (elements_apart facts s elements elements_differ) (stations_apart facts ss apart.1)
+    (each Prcp, (each Snow, (each Snwd, (each Tmax, (each Tmin, tt)))))
 
 -- a station's series have its ID
 ids_of_station : (id : StationId) (gs : List Gathering)
@@ -176,38 +160,6 @@ ids_of_station id (g ∷ gs) =
 -- the series of all stations
 abbrev pub all_gathered : List StationGathering → List Usable
 all_gathered gs = flat_map station_series gs
-
--- the series of other stations have other IDs
-other_ids : (asked : Option Element) (id : StationId) (ms : List Month) (ss : List Station)
-    (gs : List StationGathering)
-    → AllByRecursion (λ i. same_id id i ≡ false) (ids ss) → AllZip (IsStationOf asked ms) ss gs
-    → AllByRecursion (λ u. same_id id u.id ≡ false) (all_gathered gs)
-other_ids asked id ms [] [] other all = tt
-other_ids asked id ms [] (g ∷ gs) other all = absurd all
-other_ids asked id ms (s ∷ ss) [] other all = absurd all
-other_ids asked id ms (s ∷ ss) (g ∷ gs) other all =
-    both_all (λ u. same_id id u.id ≡ false) (station_series g) (all_gathered gs)
-    (weaken (λ u. u.id ≡ g.id) (λ u. same_id id u.id ≡ false) (station_series g) (λ u e. ap (same_id id) (e ∙ all.0.id)
-    ∙ other.0) (ids_of_station g.id g.by_element.items))
-    (other_ids asked id ms ss gs other.1 all.1)
-
--- where no ID stands twice, the series of all stations are apart
-pub stations_apart : (asked : Option Element) (ms : List Month) (ss : List Station) (gs : List StationGathering)
-    → IsDistinct same_id (ids ss) → AllZip (IsStationOf asked ms) ss gs → IsDistinct same_series (all_gathered gs)
-unfolding IsDistinct
-stations_apart asked ms [] [] apart all = tt
-stations_apart asked ms [] (g ∷ gs) apart all = absurd all
-stations_apart asked ms (s ∷ ss) [] apart all = absurd all
-stations_apart asked ms (s ∷ ss) (g ∷ gs) apart all =
-    let others : AllByRecursion (λ u. same_id s.id u.id ≡ false) (all_gathered gs) =
-    other_ids asked s.id ms ss gs apart.0 all.1 in
-    both_distinct same_series (station_series g) (all_gathered gs)
-    (station_apart asked ms g.id g.by_element.items all.0.holds) (stations_apart asked ms ss gs apart.1 all.1)
-    (weaken (λ u. u.id ≡ g.id) (λ u. IsOther u (all_gathered gs)) (station_series g)
-    (λ u e. weaken (λ v. same_id s.id v.id ≡ false) (λ v. same_series u v ≡ false) (all_gathered gs)
-    (λ v o. ap (λ (i : StationId). same_id i v.id && same_element u.element v.element) (e ∙ all.0.id)
-    ∙ ap (λ (b : Bool). b && same_element u.element v.element) o) others)
-    (ids_of_station g.id g.by_element.items))
 
 -- ---- they are the series of the facts
 
@@ -361,21 +313,25 @@ each_listed (s ∷ ss) = (
 pub all_listed : (ss : List Station) → AllByRecursion (λ s. is_listed ss s.id ≡ true) ss
 all_listed ss = each_listed ss
 
--- what is true of each gathering's series is true of all series
-of_stations : (asked : Option Element) (P : Usable → Type 0) (stations : List Station) (ms : List Month)
-    (ss : List Station) (gs : List StationGathering) → AllByRecursion (λ s. is_listed stations s.id ≡ true) ss
-    → ((id : StationId) (g : Gathering) (u : Usable) → is_listed stations id ≡ true → IsReady g
-    → (length (gathered_days g) == 0) ≡ false → u ≡ series_of_gathering id g → P u)
-    → AllByRecursion (λ s. AllByRecursion IsReady s.by_element.items) gs → AllZip (IsStationOf asked ms) ss gs
-    → AllByRecursion P (all_gathered gs)
-of_stations asked P stations ms [] [] listed each ready all = tt
-of_stations asked P stations ms [] (g ∷ gs) listed each ready all = absurd all
-of_stations asked P stations ms (s ∷ ss) [] listed each ready all = absurd all
-of_stations asked P stations ms (s ∷ ss) (g ∷ gs) listed each ready all =
-    both_all P (station_series g) (all_gathered gs)
-    (from_gatherings P g.id g.by_element.items
-    (λ h u r some is. each g.id h u (ap (is_listed stations) all.0.id ∙ listed.0) r some is) ready.0)
-    (of_stations asked P stations ms ss gs listed.1 each ready.1 all.1)
+-- all series are right
+all_right : (gs : List StationGathering) → AllByRecursion (λ s. AllByRecursion IsReady s.by_element.items) gs
+    → AllByRecursion IsSeries (all_gathered gs)
+all_right [] ready = tt
+all_right (g ∷ gs) ready =
+    both_all IsSeries (station_series g) (all_gathered gs) (from_gatherings g.id g.by_element.items ready.0)
+    (all_right gs ready.1)
+
+-- the series of listed stations are of listed ones
+own_listed : (stations ss : List Station) (lists : List (List Usable))
+    → AllByRecursion (λ s. is_listed stations s.id ≡ true) ss → AreOwn ss lists
+    → AllByRecursion (λ u. is_listed stations u.id ≡ true) (all_of lists)
+own_listed stations [] [] listed own = tt
+own_listed stations [] (us ∷ lists) listed own = absurd own
+own_listed stations (s ∷ ss) [] listed own = absurd own
+own_listed stations (s ∷ ss) (us ∷ lists) listed own =
+    both_all (λ u. is_listed stations u.id ≡ true) us (all_of lists)
+    (weaken (λ u. u.id ≡ s.id) (λ u. is_listed stations u.id ≡ true) us
+    (λ u e. ap (is_listed stations) e ∙ listed.0) own.0) (own_listed stations ss lists listed.1 own.1)
 
 -- the series of a station have its ID
 own_ids : (asked : Option Element) (ms : List Month) (ss : List Station) (gs : List StationGathering)
@@ -399,21 +355,22 @@ all_of-are (g ∷ gs) = ap (λ (us : List Usable). station_series g ++ us) (all_
 pub are_by_station : (asked : Option Element) (ms : List Month) (ss : List Station) (gs : List StationGathering)
     → AreListed ss → AllByRecursion IsMonth ms → AllZip (IsStationOf asked ms) ss gs
     → AreByStation ss (map station_series gs)
-unfolding series_of_gathering
+unfolding has_days
 are_by_station asked ms ss gs listed right all =
-    let ready = all_ready asked ms ss gs right all in
+    let own = own_ids asked ms ss gs all in
     record {
-      own = own_ids asked ms ss gs all;
+      own = own;
       listed = listed;
-      series = subst (AreSeries ss) (sym (all_of-are gs)) (record {
-        distinct = stations_apart asked ms ss gs listed.distinct all;
-        listed = of_stations asked (λ u. is_listed ss u.id ≡ true) ss ms ss gs (all_listed ss)
-            (λ id g u l r some is. ap (λ (v : Usable). is_listed ss v.id) is ∙ l) ready all;
+      series = record {
+        distinct =
+            subst (IsDistinct same_series)
+            (sym (all_of-are gs ∙ series_are asked ss ms ss gs (all_listed ss) all))
+            (distinct_filter same_series (is_kept_series asked) (all_series ss _)
+            (distinct_filter same_series has_days (all_said _ ss) (stations_apart _ ss listed.distinct)));
+        listed = own_listed ss ss (map station_series gs) (all_listed ss) own;
         right =
-            of_stations asked IsSeries ss ms ss gs (all_listed ss)
-            (λ id g u l r some is. subst IsSeries (sym is)
-            (is_series id g (sorted_by by_day (gathered_days g)) r some refl)) ready all;
-      });
+            subst (AllByRecursion IsSeries) (sym (all_of-are gs)) (all_right gs (all_ready asked ms ss gs right all));
+      };
     }
 
 -- ---- what is kept of them

@@ -1,5 +1,6 @@
 -- Facts of all elements of a list.
-use Rattle.std.proofs.Common.{◌≡◌, ℕ, zero, suc, ◌<◌, List, [], ◌∷◌, ◌++◌, length, Some, subst, Bool, false}
+use Rattle.std.proofs.Common.{◌≡◌, ℕ, zero, suc, ◌<◌, List, [], ◌∷◌, ◌++◌, length, Some, subst, Bool, true, false}
+use Rattle.std.proofs.Common.{cond, filter}
 use Rattle.std.proofs.Common.{get_or, arith, sym}
 use Rattle.std.specs.List.{AllByRecursion, AllZip, slice_get, IsDistinct}
 use Rattle.std.proofs.Math.ListN.{set}
@@ -25,6 +26,25 @@ module _ {X : Type 0} where
   pub weaken : (P Q : X → Type 0) (xs : List X) → ((x : X) → P x → Q x) → AllByRecursion P xs → AllByRecursion Q xs
   weaken P Q [] f all = tt
   weaken P Q (x ∷ xs) f all = (f x all.0, weaken P Q xs f all.1)
+
+  -- what is true of all is true of those that pass a test
+  pub all_filter : (P : X → Type 0) (p : X → Bool) (xs : List X) → AllByRecursion P xs
+      → AllByRecursion P (filter p xs)
+  all_filter P p [] all = tt
+  all_filter P p (x ∷ xs) all = elim (p x) as (λ b. AllByRecursion P (cond b (x ∷ filter p xs) (filter p xs))) [
+    | true ↦ (all.0, all_filter P p xs all.1)
+    | false ↦ all_filter P p xs all.1
+  ]
+
+  -- distinct elements stay distinct
+  pub distinct_filter : (eq : X → X → Bool) (p : X → Bool) (xs : List X) → IsDistinct eq xs
+      → IsDistinct eq (filter p xs)
+  unfolding IsDistinct
+  distinct_filter eq p [] apart = tt
+  distinct_filter eq p (x ∷ xs) apart = elim (p x) as (λ b. IsDistinct eq (cond b (x ∷ filter p xs) (filter p xs))) [
+    | true ↦ (all_filter (λ y. eq x y ≡ false) p xs apart.0, distinct_filter eq p xs apart.1)
+    | false ↦ distinct_filter eq p xs apart.1
+  ]
 
 -- what is true of all is true at each place
 pub all-at : {X : Type 0} (P : X → Type 0) (xs : List X) (i : ℕ) (d : X) → AllByRecursion P xs → i < length xs
