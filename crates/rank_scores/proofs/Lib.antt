@@ -9,4 +9,3 @@ pub mod Exactly
 pub mod Examples
 pub mod QueryCandidates
 pub mod OneElement
-pub mod WindowRing

@@ -70,20 +70,17 @@ leading-split (suc n) (suc len) m a (x ∷ xs) e =
     ]
 
 -- where days are summed, the first of them is the day a, and those behind it have the rest of the sum
-pub leading-first : (n : ℕ) (a t : ℤ) (xs : List DayValue) → leading (suc n) a xs ≡ Some t
-    → (x : DayValue) × (ys : List DayValue) × (xs ≡ x ∷ ys) × (x.0 ≡ a) × (leading n (a +ℤ pos 1) ys ≡ Some (t -ℤ x.1))
-leading-first n a t [] e = absurd cc
-leading-first n a t (x ∷ xs) e =
+pub leading-first : (n : ℕ) (a t : ℤ) (x : DayValue) (xs : List DayValue) → leading (suc n) a (x ∷ xs) ≡ Some t
+    → (x.0 ≡ a) × (leading n (a +ℤ pos 1) xs ≡ Some (t -ℤ x.1))
+leading-first n a t x xs e =
     elim (int_eq x.0 a) as (λ b. int_eq x.0 a ≡ b
     → cond b (plus (Some x.1) (leading n (a +ℤ pos 1) xs)) None ≡ Some t
-    → (y : DayValue) × (ys : List DayValue) × (x ∷ xs ≡ y ∷ ys) × (y.0 ≡ a)
-    × (leading n (a +ℤ pos 1) ys ≡ Some (t -ℤ y.1))) [
+    → (x.0 ≡ a) × (leading n (a +ℤ pos 1) xs ≡ Some (t -ℤ x.1))) [
       | true ↦ λ is found.
           let parts = plus-parts (Some x.1) (leading n (a +ℤ pos 1) xs) t found in
           let own : x.1 ≡ parts.0 = cc in
-          let sum : t ≡ parts.0 +ℤ parts.1 = parts.4 in
-          let rest : parts.1 ≡ t -ℤ x.1 = omega (arith, ints) in
-          (x, xs, refl, (Decides-int_eq x.0 a).0 is, parts.3 ∙ ap (λ (z : ℤ). Some z) rest)
+          let rest : parts.1 ≡ t -ℤ x.1 = omega (arith, ints, parts.4) in
+          ((Decides-int_eq x.0 a).0 is, parts.3 ∙ ap (λ (z : ℤ). Some z) rest)
       | false ↦ λ is found. absurd cc
     ] refl e
 

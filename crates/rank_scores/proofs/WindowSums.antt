@@ -1,17 +1,21 @@
--- A window with its sum, as days come and leave.
-use Rattle.std.proofs.Common.{◌≡◌, ◌↔◌, FitsSigned, w64, rules, ℕ, zero, suc, ◌+◌, ◌-◌, ◌<◌, ◌≤◌, Bool, true, false}
-use Rattle.std.proofs.Common.{cond, List, [], ◌∷◌, drop, Option, Some, None, refl, sym, ap, subst, ◌∙◌, arith, ℤ, pos}
-use Rattle.std.proofs.Common.{◌+ℤ◌, ◌-ℤ◌, ◌≤ℤ◌, ◌<ℤ◌}
+-- A window with its sum and its ring of values, as days come and leave.
+use Rattle.std.proofs.Common.{◌≡◌, ◌↔◌, FitsSigned, w64, rules, ℕ, zero, suc, ◌+◌, ◌-◌, ◌%◌, ◌<◌, ◌≤◌, Bool, true}
+use Rattle.std.proofs.Common.{false, List, [], ◌∷◌, drop, Option, Some, None, refl, sym, ap, subst, ◌∙◌, arith, ℤ, pos}
+use Rattle.std.proofs.Common.{◌+ℤ◌, ◌-ℤ◌, ◌≤ℤ◌, ◌<ℤ◌, length, length-set, get_or, set, inl, inr}
 use Rattle.std.specs.Prelude.{IsTrue}
 use Rattle.std.specs.List.{AllByRecursion, cons_option, filter_map}
 use Rattle.std.specs.Option.{option_map}
+use Rattle.std.proofs.lemmas.Bool.{cases_lt}
 use Rattle.std.proofs.lemmas.Bool.Decides.{Decides-int_eq}
 use Rattle.std.proofs.lemmas.Int.{ints}
+use Rattle.std.proofs.lemmas.List.{get_or-set_same, get_or-set_other, get_or-drop, drop-drop}
 use Rattle.ghcn_files.specs.declared.station.StationId.{StationId}
 use Rattle.ghcn_series.specs.Series.{DayValue, Usable, IsSeries}
 use Rattle.rank_query.specs.Asked.{Asked}
 use Rattle.rank_scores.specs.declared.candidate.Candidate.{Candidate}
-use Rattle.rank_scores.specs.Candidates.{Windows, plus, admitted, candidate, begun, candidates_among}
+use Rattle.rank_scores.specs.declared.window.Window.{Window}
+use Rattle.rank_scores.specs.Candidates.{Windows, admitted, candidate, begun, candidates_among}
+use Rattle.rank_scores.specs.Windows.{begun_anew_unless, next_place, with_value, first_value, without_first}
 use Rattle.ghcn_fields.specs.Days.{is_day}
 use Rattle.rank_scores.proofs.Runs.{AreDays, admitted-days}
 use Rattle.rank_scores.proofs.Rising.{Rise, from_each, same_made, differ, admitted-rise}
@@ -47,296 +51,217 @@ passed : (id : StationId) (n len : ℕ) (a t : ℤ) (xs : List DayValue) → len
 passed id n zero a t xs few rise e gap = refl
 passed id n (suc len) a t [] few rise e gap = absurd cc
 passed id n (suc len) a t (x ∷ xs) few rise e gap =
-    let parts = leading-first len a t (x ∷ xs) e in
-    let lists = parts.2 in
-    let same : parts.1 ≡ xs = cc in
-    let own : parts.0 ≡ x = cc in
-    let on : x.0 ≡ a = ap (λ (y : DayValue). y.0) (sym own) ∙ parts.3 in
+    let own = leading-first len a t x xs e in
+    let on : x.0 ≡ a = own.0 in
     let whole : n ≡ suc len + suc (n - len - 2) = omega arith in
     let none : leading n x.0 (x ∷ xs) ≡ None =
-    ap (λ (d : ℤ). leading n d (x ∷ xs)) on
-    ∙ leading-split n (suc len) (suc (n - len - 2)) a (x ∷ xs) whole
-    ∙ ap (λ (o : Option ℤ). plus o (leading (suc (n - len - 2)) (a +ℤ pos (suc len)) (drop len xs))) e
-    ∙ ap (plus (Some t)) (gap (n - len - 2) (omega arith)) in
+    ap (λ (d : ℤ). leading n d (x ∷ xs)) on ∙ leading-split n (suc len) (suc (n - len - 2)) a (x ∷ xs) whole
+    ∙ rw (e, gap (n - len - 2) (omega arith)) in
     let next : (a +ℤ pos 1) +ℤ pos len ≡ a +ℤ pos (suc len) = omega (arith, ints) in
-    windows-first id n x xs rise ∙ ap (λ (o : Option ℤ). cons_option (window_on id n x.0 o) (windows id n xs)) none
-    ∙ passed id n len (a +ℤ pos 1) (t -ℤ parts.0.1) xs (omega arith) rise.1
-    (ap (leading len (a +ℤ pos 1)) (sym same) ∙ parts.4)
-    (λ m some. ap (λ (d : ℤ). leading (suc m) d (drop len xs)) next ∙ gap m (omega arith))
-
--- ---- a window by what it stands for
-
--- the days from a window's first one on, how many of them are in it, and their total
-pub record Span : Type 0 where
-  pub leaving : List DayValue
-  pub len : ℕ
-  pub total : ℤ
-
--- the window itself where it goes on, else one without a day behind its days
-abbrev pub gone_on : Bool → Span → Span
-gone_on true w = w
-gone_on false w = record { leaving = drop w.len w.leaving; len = 0; total = pos 0 }
-
--- the window with one day more, which has this value
-abbrev pub with_day : Span → ℤ → Span
-with_day w v = record { leaving = w.leaving; len = w.len + 1; total = w.total +ℤ v }
-
--- the value of the first of some days
-abbrev pub first_value : List DayValue → ℤ
-first_value [] = pos 0
-first_value (x ∷ xs) = x.1
-
--- the window without its first day
-abbrev pub without_first : Span → Span
-without_first w = elim w.leaving [
-  | [] ↦ w
-  | x ∷ xs ↦ record { leaving = xs; len = w.len - 1; total = w.total -ℤ x.1 }
-]
+    windows-first id n x xs rise ∙ rw none (passed id n len (a +ℤ pos 1) (t -ℤ x.1) xs (omega arith) rise.1 own.1
+    (λ m some. rw next (gap m (omega arith))))
 
 -- ---- one window
 
--- the window has days one after another, with their sum, this day goes on with it, and these are to come
-pub record IsAt (w : Span) (next : ℤ) (rest : List DayValue) : Type 0 where
+-- days that rise, with small values
+pub record AreGood (days : List DayValue) : Type 0 where
+  pub rise : Rise days
+  pub small : AllByRecursion (λ x. IsSmall x.1) days
+  pub calendar : AreDays days
+
+-- so are those behind some of them
+good-drop : (n : ℕ) (xs : List DayValue) → AreGood xs → AreGood (drop n xs)
+good-drop zero xs h = h
+good-drop (suc n) [] h = h
+good-drop (suc n) (x ∷ xs) h =
+    good-drop n xs record { rise = h.rise.1; small = h.small.1; calendar = h.calendar.1 }
+
+-- the value of the day at a place of some days, from 0
+abbrev value_at : List DayValue → ℕ → ℤ
+value_at days i = (get_or days i (pos 0, pos 0)).1
+
+-- the window has the first of these days, one after another, with their sum, and their values in the ring; this day
+-- goes on with it, and the rest is to come
+pub record IsAt (ring : List ℤ) (w : Window) (days : List DayValue) (next : ℤ) (rest : List DayValue) : Type 0 where
   pub first : ℤ
-  pub sum : leading w.len first w.leaving ≡ Some w.total
-  pub behind : drop w.len w.leaving ≡ rest
+  pub sum : leading w.len first days ≡ Some w.total
+  pub behind : drop w.len days ≡ rest
   pub ends : next ≡ first +ℤ pos w.len
-  pub rise : Rise w.leaving
-  pub small : AllByRecursion (λ x. IsSmall x.1) w.leaving
-  pub days : AreDays w.leaving
+  pub good : AreGood days
+  pub places : length ring ≡ 512
+  pub place : w.first < 512
+  pub held : (i : ℕ) → i < w.len → get_or ring ((w.first + i) % 512) (pos 0) ≡ value_at days i
 
 -- at first the window has no day
-pub at_first : (q : Asked) (s : Usable) (all left : List DayValue) (next : ℤ) → IsSeries s → all ≡ admitted q s
-    → left ≡ admitted q s → IsAt record { leaving = all; len = 0; total = pos 0 } next left
-at_first q s all left next series is same = record {
-  first = next;
+pub at_first : (q : Asked) (s : Usable) (ring : List ℤ) (left : List DayValue) → IsSeries s → length ring ≡ 512
+    → left ≡ admitted q s → IsAt ring record { first = 0; len = 0; total = pos 0 } (admitted q s) (pos 0) left
+at_first q s ring left series places same = record {
+  first = pos 0;
   sum = refl;
-  behind = is ∙ sym same;
-  ends = omega (arith, ints);
-  rise = subst Rise (sym is) (admitted-rise q s series);
-  small = subst (AllByRecursion (λ x. IsSmall x.1)) (sym is) (admitted-small q s series);
-  days = subst AreDays (sym is) (admitted-days q s.days);
+  behind = sym same;
+  ends = refl;
+  good = record {
+    rise = admitted-rise q s series;
+    small = admitted-small q s series;
+    calendar = admitted-days q s.days;
+  };
+  places = places;
+  place = omega arith;
+  held = λ i lt. absurd (omega arith);
 }
 
 -- sums of so few small values fit 64 bits
-pub fits : (w : Span) (next : ℤ) (rest : List DayValue) → IsAt w next rest → w.len ≤ 65_535
-    → FitsSigned w64 w.total
-fits w next rest at few =
-    let both = leading-small w.len at.first w.total w.leaving at.small at.sum in
+pub fits : {ring : List ℤ} {w : Window} {days rest : List DayValue} {next : ℤ} → IsAt ring w days next rest
+    → w.len ≤ 65_535 → FitsSigned w64 w.total
+fits {ring} {w} {days} {rest} {next} at few =
+    let both = leading-small w.len at.first w.total days at.good.small at.sum in
     let low = both.0 in
     let high = both.1 in
     first_of (omega (arith, ints), search rules, grind (arith, ints))
 
--- days that rise do so behind some of them
-rise-drop : (n : ℕ) (xs : List DayValue) → Rise xs → Rise (drop n xs)
-rise-drop zero xs h = h
-rise-drop (suc n) [] h = tt
-rise-drop (suc n) (x ∷ xs) h = rise-drop n xs h.1
+-- the days from the window's first one on, or those behind it where it is begun anew
+abbrev days_of : Bool → Window → List DayValue → List DayValue
+days_of true w days = days
+days_of false w days = drop w.len days
 
--- what is true of each is true of those behind some
-all-drop : (P : DayValue → Type 0) (n : ℕ) (xs : List DayValue) → AllByRecursion P xs → AllByRecursion P (drop n xs)
-all-drop P zero xs h = h
-all-drop P (suc n) [] h = tt
-all-drop P (suc n) (x ∷ xs) h = all-drop P n xs h.1
-
--- a day that stands where the days of a sum end is summed too
-more : (len : ℕ) (a t : ℤ) (xs ys : List DayValue) (y : DayValue) → leading len a xs ≡ Some t → drop len xs ≡ y ∷ ys
-    → y.0 ≡ a +ℤ pos len → leading (len + 1) a xs ≡ Some (t +ℤ y.1)
-more len a t xs ys y e behind on =
-    let zero_more : y.1 +ℤ pos 0 ≡ y.1 = omega (arith, ints) in
-    leading-split (len + 1) len 1 a xs refl ∙ ap (λ (o : Option ℤ). plus o (leading 1 (a +ℤ pos len) (drop len xs))) e
-    ∙ ap (λ (l : List DayValue). plus (Some t) (leading 1 (a +ℤ pos len) l)) behind
-    ∙ ap (λ (b : Bool). plus (Some t) (cond b (Some (y.1 +ℤ pos 0)) None)) ((Decides-int_eq y.0 (a +ℤ pos len)).1 on)
-    ∙ ap (λ (z : ℤ). Some (t +ℤ z)) zero_more
-
--- one more is dropped
-drop-more : (len : ℕ) (xs ys : List DayValue) (y : DayValue) → drop len xs ≡ y ∷ ys → drop (suc len) xs ≡ ys
-drop-more zero [] ys y e = absurd cc
-drop-more zero (x ∷ xs) ys y e = cc
-drop-more (suc len) [] ys y e = absurd cc
-drop-more (suc len) (x ∷ xs) ys y e = drop-more len xs ys y e
-
--- the window with the day that comes next, where that day goes on with it
-joined : (w : Span) (next : ℤ) (y : DayValue) (ys : List DayValue) → IsAt w next (y ∷ ys) → y.0 ≡ next
-    → IsAt (with_day w y.1) (y.0 +ℤ pos 1) ys
-joined w next y ys at on =
-    let one : w.len + 1 ≡ suc w.len = omega arith in
-    let ends : next ≡ at.first +ℤ pos w.len = at.ends in
-    record {
-      first = at.first;
-      sum = more w.len at.first w.total w.leaving ys y at.sum at.behind (on ∙ ends);
-      behind = ap (λ (k : ℕ). drop k w.leaving) one ∙ drop-more w.len w.leaving ys y at.behind;
-      ends = omega (arith, ints);
-      rise = at.rise;
-      small = at.small;
-      days = at.days;
-    }
-
--- the window of the next day alone
-alone : (w : Span) (next : ℤ) (y : DayValue) (ys : List DayValue) → IsAt w next (y ∷ ys)
-    → IsAt (with_day (gone_on false w) y.1) (y.0 +ℤ pos 1) ys
-alone w next y ys at = record {
+-- the window is begun anew unless the next day goes on with it
+anew : (ring : List ℤ) (w : Window) (days : List DayValue) (next : ℤ) (y : DayValue) (ys : List DayValue) (b : Bool)
+    → IsAt ring w days next (y ∷ ys) → (IsTrue b ↔ (y.0 ≡ next))
+    → IsAt ring (begun_anew_unless b w) (days_of b w days) y.0 (y ∷ ys)
+anew ring w days next y ys true at is = subst (λ (d : ℤ). IsAt ring w days d (y ∷ ys)) (sym (is.0 refl)) at
+anew ring w days next y ys false at is = record {
   first = y.0;
-  sum = more 0 y.0 (pos 0) (drop w.len w.leaving) ys y refl at.behind (omega (arith, ints));
-  behind = drop-more 0 (drop w.len w.leaving) ys y at.behind;
-  ends = refl;
-  rise = rise-drop w.len w.leaving at.rise;
-  small = all-drop (λ x. IsSmall x.1) w.len w.leaving at.small;
-  days = all-drop (λ x. is_day x.0 ≡ true) w.len w.leaving at.days;
+  sum = refl;
+  behind = at.behind;
+  ends = omega (arith, ints);
+  good = good-drop w.len days at.good;
+  places = at.places;
+  place = at.place;
+  held = λ i lt. absurd (omega arith);
 }
 
--- the day that comes next is taken in
-taken_in : (w : Span) (next : ℤ) (y : DayValue) (ys : List DayValue) (b : Bool) → IsAt w next (y ∷ ys)
-    → (IsTrue b ↔ (y.0 ≡ next)) → IsAt (with_day (gone_on b w) y.1) (y.0 +ℤ pos 1) ys
-taken_in w next y ys true at is = joined w next y ys at (is.0 refl)
-taken_in w next y ys false at is = alone w next y ys at
+-- and has no more days than before
+anew-len : (w : Window) (b : Bool) → (begun_anew_unless b w).len ≤ w.len
+anew-len w true = omega arith
+anew-len w false = omega arith
 
 -- no window begins on a day that left before a new one was begun
-none_lost : (id : StationId) (n : ℕ) (w : Span) (next : ℤ) (y : DayValue) (ys : List DayValue) (b : Bool)
-    → IsAt w next (y ∷ ys) → w.len < n → (IsTrue b ↔ (y.0 ≡ next))
-    → windows id n w.leaving ≡ windows id n (gone_on b w).leaving
-none_lost id n w next y ys true at few is = refl
-none_lost id n w next y ys false at few is =
-    passed id n w.len at.first w.total w.leaving few at.rise at.sum
-    (λ m some. ap (leading (suc m) (at.first +ℤ pos w.len)) at.behind
-    ∙ ap (λ (t : Bool). cond t (plus (Some y.1) (leading m ((at.first +ℤ pos w.len) +ℤ pos 1) ys)) None)
-    (differ y.0 (at.first +ℤ pos w.len) (λ on. let goes : false ≡ true = is.1 (on ∙ sym at.ends) in cc)))
+none_lost : (id : StationId) (n : ℕ) (ring : List ℤ) (w : Window) (days : List DayValue) (next : ℤ) (y : DayValue)
+    (ys : List DayValue) (b : Bool) → IsAt ring w days next (y ∷ ys) → w.len < n → (IsTrue b ↔ (y.0 ≡ next))
+    → windows id n (days_of b w days) ≡ windows id n days
+none_lost id n ring w days next y ys true at few is = refl
+none_lost id n ring w days next y ys false at few is =
+    let gap = differ y.0 (at.first +ℤ pos w.len) (λ on. let goes : false ≡ true = is.1 (on ∙ sym at.ends) in cc) in
+    sym (passed id n w.len at.first w.total days few at.good.rise at.sum (λ m some. rw (at.behind, gap)))
 
 -- where no day is to come, no window begins on the days that are left
-pub none_left : (id : StationId) (n : ℕ) (w : Span) (next : ℤ) → IsAt w next [] → w.len < n
-    → windows id n w.leaving ≡ []
-none_left id n w next at few =
-    passed id n w.len at.first w.total w.leaving few at.rise at.sum
-    (λ m some. ap (leading (suc m) (at.first +ℤ pos w.len)) at.behind) ∙ ap (windows id n) at.behind
+pub none_left : {ring : List ℤ} {w : Window} {days rest : List DayValue} {next : ℤ} (id : StationId) (n : ℕ)
+    → IsAt ring w days next rest → rest ≡ [] → w.len < n → windows id n days ≡ []
+none_left {ring} {w} {days} {rest} {next} id n at none few =
+    let end = at.behind ∙ none in
+    passed id n w.len at.first w.total days few at.good.rise at.sum (λ m some. rw end) ∙ ap (windows id n) end
 
--- a window with a day has a first one, and what is true of it, what begins with it and what it leaves
-pub record HasFirst (w : Span) (next : ℤ) (rest : List DayValue) : Type 0 where
-  pub first : DayValue
-  pub left : List DayValue
-  pub is : w.leaving ≡ first ∷ left
-  pub on : next ≡ first.0 +ℤ pos w.len
-  pub sum : leading w.len first.0 w.leaving ≡ Some w.total
-  pub leaves : without_first w ≡ record { leaving = left; len = w.len - 1; total = w.total -ℤ first.1 }
-  pub at : IsAt (without_first w) next rest
-
--- a window with a day has a first one
-pub has_first : (w : Span) (next : ℤ) (rest : List DayValue) → IsAt w next rest → 0 < w.len → HasFirst w next rest
-has_first w next rest at some = of w.leaving w.len w.total at some
-  where
-    of : (l : List DayValue) (len : ℕ) (t : ℤ) → IsAt record { leaving = l; len = len; total = t } next rest
-        → 0 < len → HasFirst record { leaving = l; len = len; total = t } next rest
-    of l zero t at some = absurd (omega arith)
-    of [] (suc len) t at some = let none = at.sum in absurd cc
-    of (x ∷ xs) (suc len) t at some =
-        let parts = leading-first len at.first t (x ∷ xs) at.sum in
-        let lists = parts.2 in
-        let same : parts.1 ≡ xs = cc in
-        let own : parts.0 ≡ x = cc in
-        let on : x.0 ≡ at.first = ap (λ (y : DayValue). y.0) (sym own) ∙ parts.3 in
-        let ends : next ≡ at.first +ℤ pos (suc len) = at.ends in
-        let fewer : len ≡ suc len - 1 = omega arith in
-        record {
-          first = x;
-          left = xs;
-          is = refl;
-          on = omega (arith, ints);
-          sum = ap (λ (a : ℤ). leading (suc len) a (x ∷ xs)) on ∙ at.sum;
-          leaves = refl;
-          at = subst (λ (m : ℕ). IsAt record { leaving = xs; len = m; total = t -ℤ x.1 } next rest) fewer record {
-            first = at.first +ℤ pos 1;
-            sum = ap (leading len (at.first +ℤ pos 1)) (sym same) ∙ parts.4
-                ∙ ap (λ (y : DayValue). Some (t -ℤ y.1)) own;
-            behind = at.behind;
-            ends = omega (arith, ints);
-            rise = at.rise.1;
-            small = at.small.1;
-            days = at.days.1;
-          };
-        }
-
--- a whole window is the one that begins on its first day
-whole : (id : StationId) (n : ℕ) (w : Span) (d : ℤ) (rest : List DayValue) (h : HasFirst w (d +ℤ pos 1) rest)
-    → Rise w.leaving → w.len ≡ n
-    → windows id n w.leaving ≡ candidate id h.first.0 (d, w.total) ∷ windows id n (without_first w).leaving
-whole id n w d rest h rise is =
-    let on : d +ℤ pos 1 ≡ h.first.0 +ℤ pos w.len = h.on in
-    let last : h.first.0 +ℤ pos n -ℤ pos 1 ≡ d = omega (arith, ints) in
-    let found : leading n h.first.0 (h.first ∷ h.left) ≡ Some w.total =
-    ap (leading n h.first.0) (sym h.is) ∙ ap (λ (m : ℕ). leading m h.first.0 w.leaving) (sym is) ∙ h.sum in
-    ap (windows id n) h.is
-    ∙ windows-first id n h.first h.left (subst Rise h.is rise)
-    ∙ ap (λ (o : Option ℤ). cons_option (window_on id n h.first.0 o) (windows id n h.left)) found
-    ∙ ap (λ (z : ℤ). candidate id h.first.0 (z, w.total) ∷ windows id n h.left) last
-    ∙ ap (λ (v : Span). candidate id h.first.0 (d, w.total) ∷ windows id n v.leaving) (sym h.leaves)
+-- the day that comes next is taken in
+taken : (ring : List ℤ) (w : Window) (days : List DayValue) (y : DayValue) (ys : List DayValue)
+    → IsAt ring w days y.0 (y ∷ ys) → w.len < 512
+    → IsAt (set ring (next_place w) y.1) (with_value w y.1) days (y.0 +ℤ pos 1) ys
+taken ring w days y ys at few =
+    let place : ℕ = (w.first + w.len) % 512 in
+    let zero_more : y.1 +ℤ pos 0 ≡ y.1 = omega (arith, ints) in
+    record {
+      first = at.first;
+      sum = rw (
+        leading-split (w.len + 1) w.len 1 at.first days refl,
+        at.sum,
+        at.behind,
+        (Decides-int_eq y.0 (at.first +ℤ pos w.len)).1 at.ends,
+        zero_more,
+      );
+      behind = sym (drop-drop 1 w.len days) ∙ ap (drop 1) at.behind;
+      ends = omega (arith, ints, at.ends);
+      good = at.good;
+      places = length-set ring place y.1 ∙ at.places;
+      place = at.place;
+      held = λ i lt. elim (cases_lt i w.len) [
+        | inl before ↦ get_or-set_other ring place ((w.first + i) % 512) y.1 (pos 0) (omega (arith, before, at.place))
+            ∙ at.held i before
+        | inr from ↦
+            let here : w.len ≡ i = omega arith in
+            let last : w.len ≡ w.len + 0 = omega arith in
+            rw (← here, get_or-set_same ring place y.1 (pos 0) (omega (arith, at.places)))
+            (sym (ap (value_at days) last ∙ sym (ap (λ (x : DayValue). x.1) (get_or-drop w.len days 0 (pos 0, pos 0)))
+            ∙ ap (λ (l : List DayValue). value_at l 0) at.behind))
+      ];
+    }
 
 -- ---- a step of the scan
 
--- the window v is what became of w once the day d came: it has that day, and the same windows begin on its days
-pub record Came (id : StationId) (n : ℕ) (w v : Span) (d : ℤ) (rest : List DayValue) : Type 0 where
-  pub at : IsAt v (d +ℤ pos 1) rest
-  pub some : 0 < v.len
+-- the window with its ring is what became of one with some days, once the day d came: the same windows begin
+pub record Step (id : StationId) (n : ℕ) (days : List DayValue) (ring : List ℤ) (v : Window) (d : ℤ)
+    (rest : List DayValue) : Type 0 where
+  pub now : List DayValue
+  pub at : IsAt ring v now (d +ℤ pos 1) rest
   pub few : v.len ≤ n
-  pub same : windows id n v.leaving ≡ windows id n w.leaving
-
--- a window that is begun anew has fewer days
-pub gone_on-len : (b : Bool) (w : Span) → (gone_on b w).len ≤ w.len
-gone_on-len true w = omega arith
-gone_on-len false w = omega arith
+  pub same : windows id n now ≡ windows id n days
 
 -- so it is once the next day is taken in
-pub came : {n : ℕ} {w v : Span} {next : ℤ} {rest ys : List DayValue} {y : DayValue} {b : Bool} (id : StationId)
-    → IsAt w next rest → w.len < n → rest ≡ y ∷ ys → (IsTrue b ↔ (y.0 ≡ next))
-    → v ≡ with_day (gone_on b w) y.1 → Came id n w v y.0 ys
-came {n} {w} {v} {next} {rest} {ys} {y} {b} id at few step is then =
-    let here = subst (IsAt w next) step at in
-    let less = gone_on-len b w in
-    subst (λ (u : Span). Came id n w u y.0 ys) (sym then) record {
-      at = taken_in w next y ys b here is;
-      some = omega arith;
+pub takes : {n : ℕ} {ring : List ℤ} {w u : Window} {days rest ys : List DayValue} {next : ℤ} {y : DayValue} {b : Bool}
+    (id : StationId) → IsAt ring w days next rest → w.len < n → n ≤ 366 → rest ≡ y ∷ ys → (IsTrue b ↔ (y.0 ≡ next))
+    → u ≡ begun_anew_unless b w → Step id n days (set ring (next_place u) y.1) (with_value u y.1) y.0 ys
+takes {n} {ring} {w} {u} {days} {rest} {ys} {next} {y} {b} id at few most step is then =
+    let here : IsAt ring w days next (y ∷ ys) = subst (IsAt ring w days next) step at in
+    let less = anew-len w b in
+    rw then record {
+      now = days_of b w days;
+      at = taken ring (begun_anew_unless b w) (days_of b w days) y ys (anew ring w days next y ys b here is)
+          (omega arith);
       few = omega arith;
-      same = sym (none_lost id n w next y ys b here few is);
+      same = none_lost id n ring w days next y ys b here few is;
     }
 
--- the window u is what became of v once its first day left: the whole window v was offered
-pub record Left (id : StationId) (n : ℕ) (v u : Span) (d : ℤ) (rest : List DayValue) (c : Candidate) : Type 0 where
-  pub at : IsAt u (d +ℤ pos 1) rest
-  pub few : u.len < n
-  pub offered : windows id n v.leaving ≡ c ∷ windows id n u.leaving
+-- a whole window is offered, and its first day taken off
+pub record Leaves (id : StationId) (n : ℕ) (days : List DayValue) (ring : List ℤ) (v : Window) (d : ℤ)
+    (rest : List DayValue) : Type 0 where
+  pub begins : is_day (d +ℤ pos 1 -ℤ pos n) ≡ true
+  pub wide : FitsSigned w64 v.total
+  pub fits : FitsSigned w64 (v.total -ℤ first_value ring v)
+  pub now : List DayValue
+  pub at : IsAt ring (without_first ring v) now (d +ℤ pos 1) rest
+  pub offered : windows id n days ≡ candidate id (d +ℤ pos 1 -ℤ pos n) (d, v.total) ∷ windows id n now
 
--- so it is for a whole window
-pub leaves : {id : StationId} {n : ℕ} {w v u : Span} {d : ℤ} {rest : List DayValue} → Came id n w v d rest → v.len ≡ n
-    → u ≡ without_first v → Left id n v u d rest (candidate id (d +ℤ pos 1 -ℤ pos n) (d, v.total))
-leaves {id} {n} {w} {v} {u} {d} {rest} c is then =
-    let h = has_first v (d +ℤ pos 1) rest c.at c.some in
-    let on : d +ℤ pos 1 ≡ h.first.0 +ℤ pos v.len = h.on in
-    let begins : h.first.0 ≡ d +ℤ pos 1 -ℤ pos n = omega (arith, ints) in
-    let some = c.some in
-    let len : (without_first v).len ≡ v.len - 1 = ap (λ (x : Span). x.len) h.leaves in
-    subst (λ (x : Span). Left id n v x d rest (candidate id (d +ℤ pos 1 -ℤ pos n) (d, v.total))) (sym then) record {
-      at = h.at;
-      few = omega arith;
-      offered = whole id n v d rest h c.at.rise is
-          ∙ ap (λ (z : ℤ). candidate id z (d, v.total) ∷ windows id n (without_first v).leaving) begins;
+-- so it is where the window is whole
+pub leaves : {n : ℕ} {days rest : List DayValue} {ring : List ℤ} {v : Window} (id : StationId) (d : ℤ)
+    → IsAt ring v days (d +ℤ pos 1) rest → 0 < n → n ≤ 366 → v.len ≡ n → Leaves id n days ring v d rest
+leaves {days = []} {v = v} id d at some most is =
+    let size : v.len ≡ suc (v.len - 1) = omega arith in
+    let none : None ≡ Some v.total = rw size at at.sum in
+    absurd cc
+leaves {n = n} {days = x ∷ xs} {rest = rest} {ring = ring} {v = v} id d at some most is =
+    let size : v.len ≡ suc (v.len - 1) = omega arith in
+    let own = leading-first (v.len - 1) at.first v.total x xs (rw size at at.sum) in
+    let on : x.0 ≡ at.first = own.0 in
+    let begins : x.0 ≡ d +ℤ pos 1 -ℤ pos n = omega (arith, ints, at.ends) in
+    let ends : x.0 +ℤ pos n -ℤ pos 1 ≡ d = omega (arith, ints) in
+    let found : leading n x.0 (x ∷ xs) ≡ Some v.total = cc in
+    let here : v.first ≡ (v.first + 0) % 512 = omega (arith, at.place) in
+    let value : first_value ring v ≡ x.1 = ap (λ (m : ℕ). get_or ring m (pos 0)) here ∙ at.held 0 (omega arith) in
+    let left : IsAt ring (without_first ring v) xs (d +ℤ pos 1) rest = record {
+      first = at.first +ℤ pos 1;
+      sum = rw value own.1;
+      behind = ap (λ (m : ℕ). drop m (x ∷ xs)) (sym size) ∙ at.behind;
+      ends = omega (arith, ints, at.ends);
+      good = good-drop 1 (x ∷ xs) at.good;
+      places = at.places;
+      place = omega arith;
+      held = λ i lt.
+          let place : ((v.first + 1) % 512 + i) % 512 ≡ (v.first + suc i) % 512 = omega arith in
+          ap (λ (m : ℕ). get_or ring m (pos 0)) place ∙ at.held (suc i) (omega arith);
+    } in
+    record {
+      begins = ap is_day (sym begins) ∙ at.good.calendar.0;
+      wide = fits at (omega arith);
+      fits = fits left (omega arith);
+      now = xs;
+      at = left;
+      offered = windows-first id n x xs at.good.rise ∙ rw (found, ends, begins);
     }
-
--- a whole window begins on a day
-pub begins : {id : StationId} {n : ℕ} {w v : Span} {d : ℤ} {rest : List DayValue} → Came id n w v d rest → v.len ≡ n
-    → is_day (d +ℤ pos 1 -ℤ pos n) ≡ true
-begins {id} {n} {w} {v} {d} {rest} c is =
-    let h = has_first v (d +ℤ pos 1) rest c.at c.some in
-    let on : d +ℤ pos 1 ≡ h.first.0 +ℤ pos v.len = h.on in
-    let first : h.first.0 ≡ d +ℤ pos 1 -ℤ pos n = omega (arith, ints) in
-    let days : AreDays (h.first ∷ h.left) = subst AreDays h.is c.at.days in
-    ap is_day (sym first) ∙ days.0
-
--- the sum without the first day fits
-pub fits-without : {id : StationId} {n : ℕ} {w v : Span} {d : ℤ} {rest : List DayValue} → Came id n w v d rest
-    → n ≤ 65_535 → FitsSigned w64 (v.total -ℤ first_value v.leaving)
-fits-without {id} {n} {w} {v} {d} {rest} c few =
-    let h = has_first v (d +ℤ pos 1) rest c.at c.some in
-    let some = c.some in
-    let most = c.few in
-    let len : (without_first v).len ≡ v.len - 1 = ap (λ (x : Span). x.len) h.leaves in
-    let total : (without_first v).total ≡ v.total -ℤ first_value v.leaving =
-    ap (λ (x : Span). x.total) h.leaves ∙ sym (ap (λ (l : List DayValue). v.total -ℤ first_value l) h.is) in
-    subst (λ (z : ℤ). FitsSigned w64 z) total (fits (without_first v) (d +ℤ pos 1) rest h.at (omega arith))
