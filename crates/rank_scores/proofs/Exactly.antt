@@ -188,6 +188,10 @@ made_stands f day v c e (x ∷ xs) h =
 abbrev pub begun_on : Asked → Usable → DayValue → Option Candidate
 begun_on q s x = option_map (candidate s.id x.0) (begun (shape q.score) (admitted q s) x)
 
+-- what is true of all is true of what stands among them
+of_all : (P : Candidate → Type 0) (cs : List Candidate) (c : Candidate) → AllByRecursion P cs → Contains cs c → P c
+of_all P cs c h = All-contains P cs c (All-from_recursion P cs h)
+
 module _ (q : Asked) (s : Usable) (series : IsSeries s) where
   -- the candidates rise by first day
   pub rise : RiseByFirstDay (candidates q s)
@@ -214,11 +218,6 @@ module _ (q : Asked) (s : Usable) (series : IsSeries s) where
       ))
       (values_stand (admitted q s) (admitted-rise q s series)))
 
-  -- what is listed is a candidate
-  listed-is : (c : Candidate) → Contains (candidates q s) c → IsCandidateOf q s c
-  listed-is c h = All-contains (IsCandidateOf q s) (candidates q s) c
-      (All-from_recursion (IsCandidateOf q s) (candidates q s) all_listed) h
-
   -- each candidate is listed
   is-listed : IsAsked q → (c : Candidate) → IsCandidateOf q s c → Contains (candidates q s) c
   is-listed asked c is =
@@ -231,13 +230,11 @@ module _ (q : Asked) (s : Usable) (series : IsSeries s) where
 
   -- the candidates are exactly those with the property
   pub exactly : IsAsked q → AreTheCandidates q s (candidates q s)
-  exactly asked = λ c. (listed-is c, is-listed asked c)
+  exactly asked = λ c. (of_all (IsCandidateOf q s) (candidates q s) c all_listed, is-listed asked c)
 
   -- no listed candidate is above a number exactly where none is that has the property
   pub bounds : IsAsked q → (bound : ℤ) → IsAbove q s bound ↔ NoneIsAbove q s bound
   bounds asked bound = (
-    λ h c is.
-        All-contains (λ d. d.score ≤ℤ bound) (candidates q s) c
-        (All-from_recursion (λ d. d.score ≤ℤ bound) (candidates q s) h) (is-listed asked c is),
-    λ h. from_each (IsCandidateOf q s) (λ d. d.score ≤ℤ bound) (candidates q s) (λ c is. h c is) all_listed,
+    λ h c is. of_all (λ d. d.score ≤ℤ bound) (candidates q s) c h (is-listed asked c is),
+    λ h. from_each (IsCandidateOf q s) (λ d. d.score ≤ℤ bound) (candidates q s) h all_listed,
   )

@@ -16,7 +16,7 @@ use Rattle.rank_query.specs.Admits.{admits_station}
 use Rattle.rank_scores.specs.Candidates.{candidates}
 use Rattle.rank_scores.specs.Order.{best, kth_score}
 use Rattle.rank_scores.proofs.Rising.{find-filter}
-use Rattle.rank_scores.specs.OneElement.{SeriesStay, CandidatesStay, MorselsStay, BestStay, KthStays}
+use Rattle.rank_scores.specs.OneElement.{SeriesStay}
 
 -- a station has the same series of an element among those of that element
 series_of-kept : (e : Element) (c : Contents) (id : StationId) → series_of (kept (Some e) c) id e ≡ series_of c id e
@@ -29,19 +29,3 @@ series_stay q c =
     let e : Element = score_element q.score in
     ap (λ (of_station : Station → Option Usable). filter_map of_station (filter (admits_station q) c.stations))
     (fun_ext (λ (st : Station). series_of-kept e c st.id))
-
--- and has the same candidates
-pub candidates_stay : CandidatesStay
-candidates_stay q c = ap (flat_map (candidates q)) (series_stay q c)
-
--- the same morsels
-pub morsels_stay : MorselsStay
-morsels_stay q c = rw (series_stay q c)
-
--- the same best candidates
-pub best_stay : BestStay
-best_stay q c = ap (best q.k) (candidates_stay q c)
-
--- and the same k-th score
-pub kth_stays : KthStays
-kth_stays q c = ap (kth_score q.k) (candidates_stay q c)

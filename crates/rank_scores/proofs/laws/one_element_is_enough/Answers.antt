@@ -1,22 +1,15 @@
-use Rattle.rank_scores.proofs.OneElement.{series_stay, candidates_stay, morsels_stay, best_stay, kth_stays}
+use Rattle.std.proofs.Common.{ap}
+use Rattle.std.specs.List.{flat_map}
+use Rattle.rank_scores.specs.Candidates.{candidates}
+use Rattle.rank_scores.proofs.OneElement.{series_stay}
 use Rattle.rank_scores.proofs.laws.one_element_is_enough.Goals as goal
 
--- the same series
-pub returns-clause-series : goal.returns-clause-series
-returns-clause-series c = series_stay
-
--- the same candidates
-pub returns-clause-candidates : goal.returns-clause-candidates
-returns-clause-candidates c = candidates_stay
-
--- the same morsels
-pub returns-clause-morsels : goal.returns-clause-morsels
-returns-clause-morsels c = morsels_stay
-
--- the same best candidates
-pub returns-clause-best : goal.returns-clause-best
-returns-clause-best c = best_stay
-
--- and the same k-th score
-pub returns-clause-kth : goal.returns-clause-kth
-returns-clause-kth c = kth_stays
+-- the series of a query stay, and so does all that is made of them
+pub returns : goal.returns
+returns c = record {
+  series = series_stay;
+  candidates = λ q c. ap (flat_map (candidates q)) (series_stay q c);
+  morsels = λ q c. rw (series_stay q c);
+  best = λ q c. rw (series_stay q c);
+  kth = λ q c. rw (series_stay q c);
+}
