@@ -21,9 +21,9 @@ use Rattle.rank_query.specs.Asked.{is_score, is_fall, Asked, IsAsked}
 use Rattle.ghcn_files.specs.declared.station.StationId.{StationId}
 use Rattle.rank_scores.specs.Runs.{run_from, run_len, begins_run, calendar_len, IsRun}
 use Rattle.rank_scores.specs.Candidates.{Shape, Days, Windows, Spells, shape, is_dry, is_wet, IsWindow, IsCandidate}
-use Rattle.rank_scores.specs.Candidates.{begun, window_total, is_such, candidate, candidates, admitted, IsCandidateOf}
-use Rattle.rank_scores.specs.Candidates.{AreTheCandidates, RiseByFirstDay}
-use Rattle.rank_scores.proofs.Totals.{plus-parts, days-total, total-days}
+use Rattle.rank_scores.specs.Candidates.{begun, plus, window_total, is_such, candidate, candidates, admitted}
+use Rattle.rank_scores.specs.Candidates.{IsCandidateOf, AreTheCandidates, RiseByFirstDay}
+use Rattle.rank_scores.proofs.Totals.{days-total, total-days}
 use Rattle.rank_scores.proofs.Rising.{Rise, admitted-rise, values_stand, firsts_rise, from_each, all-made}
 use Rattle.rank_scores.proofs.Runs.{AreDays, counted, run-found, run-more, such-has, such-none, such-is_day, none_past}
 use Rattle.rank_scores.proofs.Runs.{day-bounds, days-few, admitted-days}
@@ -83,14 +83,19 @@ module _ (days : List DayValue) (cal : AreDays days) (test : ℤ → Bool) where
       let on : first +ℤ pos len -ℤ pos 1 ≡ last = omega (arith, ints, run.ends) in
       (has.0, has.1, rw (begins, found, on, is))
 
+-- a sum that there is has its first part
+first_part : (a b : Option ℤ) (t : ℤ) → plus a b ≡ Some t → (v : ℤ) × (a ≡ Some v)
+first_part None b t e = absurd cc
+first_part (Some v) b t e = (v, refl)
+
 -- a window begins on its first day
 window-begins : (days : List DayValue) (n : ℕ) (first last score : ℤ) → 0 < n → last +ℤ pos 1 ≡ first +ℤ pos n
     → window_total days n first ≡ Some score → Begins (Windows n) days first last score
 window-begins days zero first last score some ends total = absurd (omega arith)
 window-begins days (suc n) first last score some ends total =
-    let parts = plus-parts (value_on days first) (window_total days n (first +ℤ pos 1)) score total in
+    let here = first_part (value_on days first) (window_total days n (first +ℤ pos 1)) score total in
     let on : first +ℤ pos (suc n) -ℤ pos 1 ≡ last = omega (arith, ints, ends) in
-    (parts.0, parts.2, rw (total, on))
+    (here.0, here.1, rw (total, on))
 
 -- ---- both ways
 
@@ -156,10 +161,7 @@ apart-from_rise cs h = IsDistinct-from_apart begin_alike cs (λ i j d lt within.
 pub made : (id : StationId) (day : ℤ) (o : Option (ℤ × ℤ)) (c : Candidate)
     → option_map (candidate id day) o ≡ Some c
     → (c.id ≡ id) × (c.first ≡ day) × (o ≡ Some (c.last, c.score))
-made id day None c e = absurd cc
-made id day (Some x) c e =
-    let same : candidate id day x ≡ c = cc in
-    subst (λ (d : Candidate). (d.id ≡ id) × (d.first ≡ day) × (Some x ≡ Some (d.last, d.score))) same (refl, refl, refl)
+made id day o c e = (grind arith, grind arith, grind arith)
 
 -- what stands in a list stands in a longer one
 contains-more : (o : Option Candidate) (cs : List Candidate) (c : Candidate) → Contains cs c

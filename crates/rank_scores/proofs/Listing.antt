@@ -24,11 +24,7 @@ full_cmp_total = then_total rank_cmp_total (on_total (λ c. c.last) int_cmp_tota
 
 -- two that tie by score, ID and first day have one ID and one first day
 tied : (s i f : Ordering) → ordering_then s (ordering_then i f) ≡ Equal → (is_eq i && is_eq f) ≡ true
-tied Equal Equal f e = ap is_eq e
-tied Equal Less f e = absurd cc
-tied Equal Greater f e = absurd cc
-tied Less i f e = absurd cc
-tied Greater i f e = absurd cc
+tied s i f e = grind arith
 
 -- candidates that tie in rank begin alike
 tied_alike : (a b : Candidate) → rank_cmp a b ≡ Equal → begin_alike a b ≡ true

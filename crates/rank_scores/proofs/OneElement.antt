@@ -1,6 +1,6 @@
 -- A query needs the series of its element alone.
 use Rattle.std.proofs.Common.{◌≡◌, filter, Option, Some, ap}
-use Rattle.std.specs.List.{filter_map, flat_map}
+use Rattle.std.specs.List.{filter_map}
 use Rattle.std.proofs.Math.Path.{fun_ext}
 use Rattle.std.proofs.lemmas.Bool.{and_parts}
 use Rattle.ghcn_files.specs.declared.element.Element.{Element}
@@ -13,8 +13,6 @@ use Rattle.ghcn_series.specs.Held.{is_of_element}
 use Rattle.ghcn_series.specs.Kept.{kept}
 use Rattle.rank_query.specs.Asked.{score_element}
 use Rattle.rank_query.specs.Admits.{admits_station}
-use Rattle.rank_scores.specs.Candidates.{candidates}
-use Rattle.rank_scores.specs.Order.{best, kth_score}
 use Rattle.rank_scores.proofs.Rising.{find-filter}
 use Rattle.rank_scores.specs.OneElement.{SeriesStay}
 

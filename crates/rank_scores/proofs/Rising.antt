@@ -1,15 +1,13 @@
 -- Days that rise, look-ups among them, and what begins on them.
 use Rattle.std.proofs.Common.{◌≡◌, Bool, true, false, cond, List, [], ◌∷◌, map, Option, Some, None, refl, sym, ap, ◌∙◌}
-use Rattle.std.proofs.Common.{filter, ℤ, ◌<ℤ◌, ◌≤ℤ◌, arith}
-use Rattle.std.specs.Prelude.{int_lt, int_le}
+use Rattle.std.proofs.Common.{filter, ℤ, ◌<ℤ◌, arith}
+use Rattle.std.specs.Prelude.{int_lt}
 use Rattle.std.specs.List.{AllByRecursion, filter_map, find, cons_option}
 use Rattle.std.specs.List.Sorted.{IsStrictlySortedBy}
-use Rattle.std.specs.Option.{option_map}
 use Rattle.std.specs.Cmp.{int_cmp_is}
-use Rattle.std.specs.Ordering.{int_cmp, int_eq}
+use Rattle.std.specs.Ordering.{int_cmp}
 use Rattle.std.specs.declared.cmp.Ordering.TheVariants.{Less}
-use Rattle.std.proofs.lemmas.Bool.{and_parts, false_from_ne_true}
-use Rattle.std.proofs.lemmas.Bool.Decides.{Decides-int_eq}
+use Rattle.std.proofs.lemmas.Bool.{and_parts}
 use Rattle.std.proofs.lemmas.Int.{ints}
 use Rattle.std.proofs.lemmas.List.Elements.{recursion_from_All, All-from_recursion, All-filter, All-map}
 use Rattle.ghcn_series.specs.Series.{DayValue, Usable, IsSeries, value_on, is_by_day}
@@ -72,14 +70,6 @@ all-made P f (x ∷ xs) h =
 lt_of : (a b : ℤ) → int_lt a b ≡ true → a <ℤ b
 lt_of a b e = grind (arith, ints)
 
--- what a test of two numbers says
-pub le_of : (a b : ℤ) → int_le a b ≡ true → a ≤ℤ b
-le_of a b e = grind (arith, ints)
-
--- two different days aren't taken for one
-pub differ : (x a : ℤ) → (x ≡ a → ⊥) → int_eq x a ≡ false
-differ x a unlike = false_from_ne_true (int_eq x a) (λ e. unlike ((Decides-int_eq x a).0 e))
-
 -- ---- days that rise
 
 -- days of which each is later than the one before rise
@@ -125,15 +115,11 @@ find-filter test keeps (x ∷ xs) h =
 
 -- behind a pair of another day, the day has the value that it had
 pub value_on-other : (x : DayValue) (xs : List DayValue) (a : ℤ) → (x.0 ≡ a → ⊥) → value_on (x ∷ xs) a ≡ value_on xs a
-value_on-other x xs a unlike =
-    ap (λ (b : Bool). option_map (λ (y : DayValue). y.1) (cond b (Some x) (find (λ y. int_eq y.0 a) xs)))
-    (differ x.0 a unlike)
+value_on-other x xs a unlike = grind (arith, ints)
 
 -- a pair of the day has its value
 pub value_on-here : (x : DayValue) (xs : List DayValue) (a : ℤ) → x.0 ≡ a → value_on (x ∷ xs) a ≡ Some x.1
-value_on-here x xs a e =
-    ap (λ (b : Bool). option_map (λ (y : DayValue). y.1) (cond b (Some x) (find (λ y. int_eq y.0 a) xs)))
-    ((Decides-int_eq x.0 a).1 e)
+value_on-here x xs a e = grind (arith, ints)
 
 -- a day has no value among later ones
 pub value_on-later : (xs : List DayValue) (a : ℤ) → AllByRecursion (λ y. a <ℤ y.0) xs → value_on xs a ≡ None

@@ -1,7 +1,6 @@
 -- Runs of numbers that pass, and of days of the calendar.
 use Rattle.std.proofs.Common.{◌≡◌, ℕ, zero, suc, ◌-◌, ◌<◌, ◌≤◌, Bool, true, false, List, [], ◌∷◌, Option, Some, None}
 use Rattle.std.proofs.Common.{refl, sym, ap, ◌∙◌, arith, inl, inr, ℤ, pos, ◌+ℤ◌, ◌<ℤ◌, ◌≤ℤ◌}
-use Rattle.std.specs.Prelude.{int_le}
 use Rattle.std.specs.List.{AllByRecursion}
 use Rattle.std.specs.Option.{option_map_or}
 use Rattle.std.proofs.lemmas.Bool.{cases_lt, and_parts, false_from_ne_true, true_from_ne_false}
@@ -13,7 +12,7 @@ use Rattle.rank_query.specs.Asked.{Asked}
 use Rattle.rank_query.specs.Admits.{admits_day, period_holds}
 use Rattle.rank_scores.specs.Runs.{run_from, calendar_len}
 use Rattle.rank_scores.specs.Candidates.{admitted_among, is_such}
-use Rattle.rank_scores.proofs.Rising.{le_of, from_each, value_on-other}
+use Rattle.rank_scores.proofs.Rising.{from_each, value_on-other}
 
 -- so many numbers from a on pass, counted up to n
 pub record IsCounted (such : ℤ → Bool) (n : ℕ) (a : ℤ) (len : ℕ) : Type 0 where
@@ -24,7 +23,7 @@ module _ (such : ℤ → Bool) where
   -- a number that passes makes the run behind it longer by one
   pub run-more : (n : ℕ) (a : ℤ) → such a ≡ true → run_from such (suc n) a ≡ suc (run_from such n (a +ℤ pos 1))
   unfolding run_from
-  run-more n a e = ap (λ (b : Bool). elim b as (λ _. ℕ) [ true ↦ suc (run_from such n (a +ℤ pos 1)) | false ↦ 0 ]) e
+  run-more n a e = grind arith
 
   -- what a run is
   pub counted : (n : ℕ) (a : ℤ) → IsCounted such n a (run_from such n a)
@@ -71,8 +70,7 @@ AreDays days = AllByRecursion (λ x. is_day x.0 ≡ true) days
 
 -- a day of the calendar lies between its first and its last one
 pub day-bounds : (d : ℤ) → is_day d ≡ true → (first_day ≤ℤ d) × (d ≤ℤ last_day)
-day-bounds d e = let both = and_parts (int_le first_day d) (int_le d last_day) e in
-    (le_of first_day d both.0, le_of d last_day both.1)
+day-bounds d e = (grind (arith, ints), grind (arith, ints))
 
 -- admitted days are days of the calendar
 pub admitted-days : (q : Asked) (days : List DayValue) → AreDays (admitted_among q days)
@@ -96,7 +94,7 @@ none_past days d h lt =
 -- a day without a value isn't of the kind
 pub such-none : (days : List DayValue) (test : ℤ → Bool) (d : ℤ) → value_on days d ≡ None
     → is_such test days d ≡ false
-such-none days test d e = ap (λ (o : Option ℤ). option_map_or test o false) e
+such-none days test d e = grind arith
 
 -- a day that passes has a value
 pub such-has : (test : ℤ → Bool) (o : Option ℤ) → option_map_or test o false ≡ true → (v : ℤ) × (o ≡ Some v)

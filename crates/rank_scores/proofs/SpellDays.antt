@@ -14,7 +14,7 @@ use Rattle.ghcn_files.specs.declared.station.StationId.{StationId}
 use Rattle.ghcn_series.specs.Series.{DayValue, Usable, IsSeries}
 use Rattle.rank_query.specs.Asked.{Asked}
 use Rattle.rank_scores.specs.declared.candidate.Candidate.{Candidate}
-use Rattle.rank_scores.specs.Runs.{run_len, begins_run, IsRun}
+use Rattle.rank_scores.specs.Runs.{begins_run, IsRun}
 use Rattle.rank_scores.specs.Candidates.{Spells, begun, candidate, candidates_among, admitted, is_such}
 use Rattle.rank_scores.specs.Spells.{goes_on, spell_from, spell_list}
 use Rattle.rank_scores.proofs.Rising.{Rise, admitted-rise, from_each, value_on-other, value_on-here, value_on-later}
@@ -49,8 +49,7 @@ module _ (id : StationId) (test : ℤ → Bool) (days : List DayValue) (cal : Ar
 
   -- where no run begins, no spell does
   none_on : (d : ℤ) → begins_run such d ≡ false → spell_on d ≡ None
-  none_on d e = ap (λ (b : Bool). option_map (candidate id d)
-      (cond b (Some (d +ℤ pos (run_len such d) -ℤ pos 1, pos (run_len such d))) None)) e
+  none_on d e = grind arith
 
   -- an open spell ends where the next day isn't of the kind
   ends_here : (first last : ℤ) → IsOpen such first last → such (last +ℤ pos 1) ≡ false

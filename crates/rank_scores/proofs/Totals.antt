@@ -4,34 +4,29 @@ use Rattle.std.proofs.Common.{None, refl, sym, ap, ◌∙◌, arith, ℤ, pos, n
 use Rattle.std.proofs.Common.{◌<◌, ◌≤◌, length, subst}
 use Rattle.std.specs.Prelude.{◌&&◌, int_le}
 use Rattle.std.specs.List.{AllByRecursion, list_all}
-use Rattle.std.specs.Option.{option_map}
 use Rattle.std.specs.Ordering.{int_eq}
-use Rattle.std.proofs.lemmas.Bool.{and_parts, and_from}
+use Rattle.std.proofs.lemmas.Bool.{and_parts}
 use Rattle.std.proofs.lemmas.Bool.Decides.{Decides-int_eq}
 use Rattle.std.proofs.lemmas.Int.{ints}
 use Rattle.std.proofs.lemmas.List.Elements.{recursion_from_All, filter_passes}
 use Rattle.ghcn_fields.specs.Days.{is_day}
 use Rattle.ghcn_files.specs.declared.element.Element.{Element}
-use Rattle.ghcn_series.specs.Series.{DayValue, Usable, IsSeries, value_on, is_value}
+use Rattle.ghcn_series.specs.Series.{DayValue, Usable, IsSeries, is_value}
 use Rattle.rank_query.specs.Asked.{Asked}
 use Rattle.rank_query.specs.Admits.{admits_day}
 use Rattle.rank_scores.specs.Candidates.{plus, window_total, admitted, days_within, sum_of_values}
-use Rattle.rank_scores.proofs.Rising.{Rise, rise-filter, all-filter, le_of, from_each, from_both, find-filter}
+use Rattle.rank_scores.proofs.Rising.{Rise, rise-filter, all-filter, from_each, from_both, find-filter}
 use Rattle.rank_scores.proofs.Rising.{value_on-other, value_on-here, value_on-later}
 
 -- ---- sums that there may be
 
--- a sum that there is has both its parts
-pub plus-parts : (a b : Option ℤ) (t : ℤ) → plus a b ≡ Some t
-    → (v : ℤ) × (w : ℤ) × (a ≡ Some v) × (b ≡ Some w) × (t ≡ v +ℤ w)
-plus-parts None b t e = absurd cc
-plus-parts (Some v) None t e = absurd cc
-plus-parts (Some v) (Some w) t e = (v, w, refl, refl, cc)
+-- where there is a sum, the second part is what the first leaves of it
+plus-rest : (v : ℤ) (o : Option ℤ) (t : ℤ) → plus (Some v) o ≡ Some t → o ≡ Some (t -ℤ v)
+plus-rest v o t e = grind (arith, ints)
 
 -- nothing added to zero
 plus-zero : (o : Option ℤ) → plus (Some (pos 0)) o ≡ o
-plus-zero None = refl
-plus-zero (Some t) = let same : pos 0 +ℤ t ≡ t = omega (arith, ints) in ap (λ (z : ℤ). Some z) same
+plus-zero o = grind (arith, ints)
 
 -- sums of three
 plus-assoc : (v : ℤ) (b c : Option ℤ) → plus (Some v) (plus b c) ≡ plus (plus (Some v) b) c
@@ -73,16 +68,8 @@ leading-split (suc n) (suc len) m a (x ∷ xs) e =
 pub leading-first : (n : ℕ) (a t : ℤ) (x : DayValue) (xs : List DayValue) → leading (suc n) a (x ∷ xs) ≡ Some t
     → (x.0 ≡ a) × (leading n (a +ℤ pos 1) xs ≡ Some (t -ℤ x.1))
 leading-first n a t x xs e =
-    elim (int_eq x.0 a) as (λ b. int_eq x.0 a ≡ b
-    → cond b (plus (Some x.1) (leading n (a +ℤ pos 1) xs)) None ≡ Some t
-    → (x.0 ≡ a) × (leading n (a +ℤ pos 1) xs ≡ Some (t -ℤ x.1))) [
-      | true ↦ λ is found.
-          let parts = plus-parts (Some x.1) (leading n (a +ℤ pos 1) xs) t found in
-          let own : x.1 ≡ parts.0 = cc in
-          let rest : parts.1 ≡ t -ℤ x.1 = omega (arith, ints, parts.4) in
-          ((Decides-int_eq x.0 a).0 is, parts.3 ∙ ap (λ (z : ℤ). Some z) rest)
-      | false ↦ λ is found. absurd cc
-    ] refl e
+    let on : x.0 ≡ a = grind (arith, ints) in
+    (on, plus-rest x.1 (leading n (a +ℤ pos 1) xs) t (rw ((Decides-int_eq x.0 a).1 on) at e))
 
 -- ---- windows
 
@@ -91,9 +78,8 @@ pub total-behind : (x : DayValue) (xs : List DayValue) (n : ℕ) (a : ℤ) → x
     → window_total (x ∷ xs) n a ≡ window_total xs n a
 total-behind x xs zero a lt = refl
 total-behind x xs (suc n) a lt =
-    ap (λ (o : Option ℤ). plus o (window_total (x ∷ xs) n (a +ℤ pos 1)))
-    (value_on-other x xs a (λ e. omega (arith, ints, e, lt)))
-    ∙ ap (plus (value_on xs a)) (total-behind x xs n (a +ℤ pos 1) (omega (arith, ints, lt)))
+    let rest = total-behind x xs n (a +ℤ pos 1) (omega (arith, ints, lt)) in
+    rw (value_on-other x xs a (λ e. omega (arith, ints, e, lt)), rest)
 
 -- among days that rise from a on, the total of a window is the sum of the first days
 pub total-leading : (n : ℕ) (a : ℤ) (xs : List DayValue) → Rise xs → AllByRecursion (λ y. a ≤ℤ y.0) xs
@@ -107,41 +93,39 @@ total-leading (suc n) a (x ∷ xs) rise from =
           let on : x.0 ≡ a = (Decides-int_eq x.0 a).0 is in
           let next = from_each (λ y. x.0 <ℤ y.0) (λ y. (a +ℤ pos 1) ≤ℤ y.0) xs
           (λ y l. omega (arith, ints, on, l)) rise.0 in
-          ap (λ (o : Option ℤ). plus o (window_total (x ∷ xs) n (a +ℤ pos 1))) (value_on-here x xs a on)
-          ∙ ap (plus (Some x.1)) (total-behind x xs n (a +ℤ pos 1) (omega (arith, ints, on))
-          ∙ total-leading n (a +ℤ pos 1) xs rise.1 next)
+          rw (
+            value_on-here x xs a on,
+            total-behind x xs n (a +ℤ pos 1) (omega (arith, ints, on)),
+            total-leading n (a +ℤ pos 1) xs rise.1 next,
+          )
       | false ↦ λ is.
           let unlike : x.0 ≡ a → ⊥ = λ on. let yes = (Decides-int_eq x.0 a).1 on in cc in
           let low : a ≤ℤ x.0 = from.0 in
           let before : a <ℤ x.0 = omega (arith, ints, unlike, low) in
           let later = from_each (λ y. x.0 <ℤ y.0) (λ y. a <ℤ y.0) xs (λ y l. omega (arith, ints, before, l)) rise.0 in
-          ap (λ (o : Option ℤ). plus o (window_total (x ∷ xs) n (a +ℤ pos 1)))
-          (value_on-later (x ∷ xs) a (before, later))
+          rw (value_on-later (x ∷ xs) a (before, later))
     ] refl
 
 -- ---- the days of a window
 
--- what a test of two numbers answers
-le_test : (a b : ℤ) → a ≤ℤ b → int_le a b ≡ true
-le_test a b h = grind (arith, ints)
-
 -- the day lies from a to b
 abbrev inside : ℤ → ℤ → DayValue → Bool
 inside a b x = int_le a x.0 && int_le x.0 b
+
+-- a day between the two lies there
+lies : (first last a : ℤ) (x : DayValue) → first ≤ℤ a → a ≤ℤ last → int_eq x.0 a ≡ true → inside first last x ≡ true
+lies first last a x low high e = grind (arith, ints)
 
 -- a window within some days has its total among these
 total-within : (days : List DayValue) (first last : ℤ) (n : ℕ) (a : ℤ) → first ≤ℤ a
     → (a +ℤ pos n) ≤ℤ (last +ℤ pos 1) → window_total (days_within first last days) n a ≡ window_total days n a
 total-within days first last zero a low high = refl
 total-within days first last (suc n) a low high =
-    let kept = λ (x : DayValue) (e : int_eq x.0 a ≡ true). let on = (Decides-int_eq x.0 a).0 e in
-    and_from (int_le first x.0) (int_le x.0 last) (le_test first x.0 (omega (arith, ints, on, low)))
-    (le_test x.0 last (omega (arith, ints, on, high))) in
-    ap (λ (o : Option DayValue). plus (option_map (λ (y : DayValue). y.1) o)
-    (window_total (days_within first last days) n (a +ℤ pos 1)))
-    (find-filter (λ x. int_eq x.0 a) (inside first last) days kept)
-    ∙ ap (plus (value_on days a)) (total-within days first last n (a +ℤ pos 1) (omega (arith, ints, low))
-    (omega (arith, ints, high)))
+    rw (
+      find-filter (λ x. int_eq x.0 a) (inside first last) days
+          (λ x e. lies first last a x low (omega (arith, ints, high)) e),
+      total-within days first last n (a +ℤ pos 1) (omega (arith, ints, low)) (omega (arith, ints, high)),
+    )
 
 -- there are n days with the total as the sum of their values, or there are fewer and there is no total
 abbrev Summed : ℕ → List DayValue → Option ℤ → Type 0
@@ -149,14 +133,12 @@ Summed n days total = ((total ≡ Some (sum_of_values days)) × (length days ≡
 
 -- there are no more than n
 at_most : (n : ℕ) (days : List DayValue) (total : Option ℤ) → Summed n days total → length days ≤ n
-at_most n days total (inl h) = omega (arith, h.1)
-at_most n days total (inr h) = omega (arith, h.1)
+at_most n days total h = grind arith
 
 -- so it is with one day more
 one_more : (n : ℕ) (x : DayValue) (days : List DayValue) (total : Option ℤ) → Summed n days total
     → Summed (suc n) (x ∷ days) (plus (Some x.1) total)
-one_more n x days total (inl h) = inl (ap (plus (Some x.1)) h.0, ap suc h.1)
-one_more n x days total (inr h) = inr (ap (plus (Some x.1)) h.0, omega (arith, h.1))
+one_more n x days total h = grind arith
 
 -- the day is one of the n from a on
 abbrev Lies : ℕ → ℤ → DayValue → Type 0
@@ -194,8 +176,7 @@ summed days rise n a b ends =
     let all : List DayValue = days_within a b days in
     let rises : Rise all = rise-filter (inside a b) days rise in
     let lie : AllByRecursion (Lies n a) all = from_each (λ x. inside a b x ≡ true) (Lies n a) all
-    (λ x e. let both = and_parts (int_le a x.0) (int_le x.0 b) e in
-    (le_of a x.0 both.0, omega (arith, ints, ends, le_of x.0 b both.1)))
+    (λ x e. (grind (arith, ints), grind (arith, ints)))
     (recursion_from_All (λ x. inside a b x ≡ true) all (filter_passes (inside a b) days)) in
     let from : AllByRecursion (λ y. a ≤ℤ y.0) all = from_each (Lies n a) (λ y. a ≤ℤ y.0) all (λ y l. l.0) lie in
     subst (Summed n all) (sym (total-leading n a all rises from)
@@ -205,19 +186,13 @@ summed days rise n a b ends =
 pub total-days : (days : List DayValue) → Rise days → (n : ℕ) (a b t : ℤ) → b +ℤ pos 1 ≡ a +ℤ pos n
     → window_total days n a ≡ Some t
     → (length (days_within a b days) ≡ n) × (t ≡ sum_of_values (days_within a b days))
-total-days days rise n a b t ends e = elim (summed days rise n a b ends) [
-  | inl h ↦ let same = sym e ∙ h.0 in (h.1, cc)
-  | inr h ↦ let none = sym e ∙ h.0 in absurd cc
-]
+total-days days rise n a b t ends e = let is = summed days rise n a b ends in (grind arith, grind arith)
 
 -- a window with n days has the sum of their values as its total
 pub days-total : (days : List DayValue) → Rise days → (n : ℕ) (a b : ℤ) → b +ℤ pos 1 ≡ a +ℤ pos n
     → length (days_within a b days) ≡ n
     → window_total days n a ≡ Some (sum_of_values (days_within a b days))
-days-total days rise n a b ends e = elim (summed days rise n a b ends) [
-  | inl h ↦ h.0
-  | inr h ↦ absurd (omega (arith, h.1, e))
-]
+days-total days rise n a b ends e = let is = summed days rise n a b ends in grind arith
 
 -- ---- small values
 
@@ -232,15 +207,12 @@ pub leading-small : (n : ℕ) (a t : ℤ) (xs : List DayValue) → AllByRecursio
 leading-small zero a t xs h e = let none : pos 0 ≡ t = cc in (omega (arith, ints), omega (arith, ints))
 leading-small (suc n) a t [] h e = absurd cc
 leading-small (suc n) a t (x ∷ xs) h e =
-    elim (int_eq x.0 a) as (λ b. cond b (plus (Some x.1) (leading n (a +ℤ pos 1) xs)) None ≡ Some t
-    → (neg_ℤ (pos (suc n * 99_999)) ≤ℤ t) × (t ≤ℤ pos (suc n * 99_999))) [
-      | true ↦ λ found.
-          let parts = plus-parts (Some x.1) (leading n (a +ℤ pos 1) xs) t found in
-          let own : x.1 ≡ parts.0 = cc in
-          let rest = leading-small n (a +ℤ pos 1) parts.1 xs h.1 parts.3 in
-          (omega (arith, ints, own, parts.4, rest.0, h.0.low), omega (arith, ints, own, parts.4, rest.1, h.0.high))
-      | false ↦ λ found. absurd cc
-    ] e
+    let rest = leading-small n (a +ℤ pos 1) (t -ℤ x.1) xs h.1 (leading-first n a t x xs e).1 in
+    (omega (arith, ints, rest.0, h.0.low), omega (arith, ints, rest.1, h.0.high))
+
+-- the values of the elements are small
+value-small : (e : Element) (x : DayValue) → (is_day x.0 && is_value e x.1) ≡ true → IsSmall x.1
+value-small e x h = record { low = grind (arith, ints); high = grind (arith, ints) }
 
 -- the values of a series are small
 series-small : (e : Element) (days : List DayValue) → list_all (λ x. is_day x.0 && is_value e x.1) days ≡ true
@@ -248,10 +220,7 @@ series-small : (e : Element) (days : List DayValue) → list_all (λ x. is_day x
 series-small e [] h = tt
 series-small e (x ∷ xs) h =
     let all = and_parts (is_day x.0 && is_value e x.1) (list_all (λ x. is_day x.0 && is_value e x.1) xs) h in
-    let limits : (int_le (neg_ℤ (pos 9998)) x.1 ≡ true) × (int_le x.1 (pos 99_999) ≡ true) =
-    and_parts _ _ (and_parts _ _ (and_parts (is_day x.0) (is_value e x.1) all.0).1).0 in
-    let low = le_of (neg_ℤ (pos 9998)) x.1 limits.0 in
-    (record { low = omega (arith, ints); high = le_of x.1 (pos 99_999) limits.1 }, series-small e xs all.1)
+    (value-small e x all.0, series-small e xs all.1)
 
 -- and so are those of its admitted days
 pub admitted-small : (q : Asked) (s : Usable) → IsSeries s → AllByRecursion (λ x. IsSmall x.1) (admitted q s)

@@ -5,7 +5,8 @@ use Rattle.std.proofs.Common.{◌+ℤ◌, ◌-ℤ◌, ◌≤ℤ◌, ◌<ℤ◌, 
 use Rattle.std.specs.Prelude.{IsTrue}
 use Rattle.std.specs.List.{AllByRecursion, cons_option, filter_map}
 use Rattle.std.specs.Option.{option_map}
-use Rattle.std.proofs.lemmas.Bool.{cases_lt}
+use Rattle.std.specs.Ordering.{int_eq}
+use Rattle.std.proofs.lemmas.Bool.{cases_lt, false_from_ne_true}
 use Rattle.std.proofs.lemmas.Bool.Decides.{Decides-int_eq}
 use Rattle.std.proofs.lemmas.Int.{ints}
 use Rattle.std.proofs.lemmas.List.{get_or-set_same, get_or-set_other, get_or-drop, drop-drop}
@@ -18,7 +19,7 @@ use Rattle.rank_scores.specs.Candidates.{Windows, admitted, candidate, begun, ca
 use Rattle.rank_scores.specs.Windows.{begun_anew_unless, next_place, with_value, first_value, without_first}
 use Rattle.ghcn_fields.specs.Days.{is_day}
 use Rattle.rank_scores.proofs.Runs.{AreDays, admitted-days}
-use Rattle.rank_scores.proofs.Rising.{Rise, from_each, same_made, differ, admitted-rise}
+use Rattle.rank_scores.proofs.Rising.{Rise, from_each, same_made, admitted-rise}
 use Rattle.rank_scores.proofs.Totals.{leading, leading-split, leading-first, total-behind, total-leading, leading-small}
 use Rattle.rank_scores.proofs.Totals.{IsSmall, admitted-small}
 
@@ -151,7 +152,8 @@ none_lost : (id : StationId) (n : ℕ) (ring : List ℤ) (w : Window) (days : Li
     → windows id n (days_of b w days) ≡ windows id n days
 none_lost id n ring w days next y ys true at few is = refl
 none_lost id n ring w days next y ys false at few is =
-    let gap = differ y.0 (at.first +ℤ pos w.len) (λ on. let goes : false ≡ true = is.1 (on ∙ sym at.ends) in cc) in
+    let gap = false_from_ne_true (int_eq y.0 (at.first +ℤ pos w.len)) (λ on.
+    let goes : false ≡ true = is.1 ((Decides-int_eq y.0 (at.first +ℤ pos w.len)).0 on ∙ sym at.ends) in cc) in
     sym (passed id n w.len at.first w.total days few at.good.rise at.sum (λ m some. rw (at.behind, gap)))
 
 -- where no day is to come, no window begins on the days that are left
