@@ -1,16 +1,16 @@
 -- The candidates that are listed, as they are computed, are exactly those with the property.
-use Rattle.std.proofs.Common.{◌≡◌, ℕ, zero, suc, ◌<◌, ◌≤◌, Bool, true, false, cond, List, Option, Some, None, refl, sym}
-use Rattle.std.proofs.Common.{ap, subst, ◌∙◌, arith, inl, inr, ℤ, pos, ◌+ℤ◌, ◌-ℤ◌, ◌≤ℤ◌, neg_ℤ, [], ◌∷◌, get_or}
+use Rattle.std.proofs.Common.{◌≡◌, ℕ, zero, suc, ◌<◌, ◌≤◌, Bool, true, false, List, Option, Some, None, refl, sym}
+use Rattle.std.proofs.Common.{ap, subst, ◌∙◌, arith, ◌⊎◌, inl, inr, ℤ, pos, ◌+ℤ◌, ◌-ℤ◌, ◌≤ℤ◌, neg_ℤ, [], ◌∷◌, get_or}
 use Rattle.std.specs.Prelude.{not, map, ◌↔◌}
 use Rattle.std.specs.Option.{option_map}
-use Rattle.std.specs.List.{AllByRecursion, Contains, filter_map, find, cons_option}
+use Rattle.std.specs.List.{AllByRecursion, Contains, filter_map, cons_option}
 use Rattle.std.specs.Ordering.{int_eq, int_cmp}
 use Rattle.std.proofs.Math.ListN.{get_or-map}
 use Rattle.std.proofs.lemmas.List.{length-map}
 use Rattle.std.proofs.lemmas.Bool.{cases_lt, and_parts, and_from, and_right, leb-true, not-true, not_from_false}
 use Rattle.std.proofs.lemmas.Int.{ints}
+use Rattle.std.proofs.lemmas.Option.{cond_some}
 use Rattle.std.proofs.lemmas.Map.Keys.{IsDistinct-from_apart, IsDistinct-from_sorted, apart_from_distinct}
-use Rattle.std.proofs.lemmas.Bool.Decides.{Decides-int_eq}
 use Rattle.std.proofs.lemmas.List.Elements.{All-from_recursion, All-contains, Contains-append_right}
 use Rattle.std.proofs.lemmas.List.Elements.{Contains-append_left}
 use Rattle.ghcn_fields.specs.Days.{is_within}
@@ -20,7 +20,7 @@ use Rattle.rank_query.specs.declared.score.Score.TheVariants.{Highest, Lowest, S
 use Rattle.rank_query.specs.Asked.{is_score, is_fall, Asked, IsAsked}
 use Rattle.ghcn_files.specs.declared.station.StationId.{StationId}
 use Rattle.rank_scores.specs.Runs.{run_from, run_len, begins_run, calendar_len, IsRun}
-use Rattle.rank_scores.specs.Candidates.{Shape, Days, Windows, Spells, shape, is_dry, is_wet, IsWindow, IsCandidate}
+use Rattle.rank_scores.specs.Candidates.{Shape, Days, Windows, Spells, shape, is_dry, is_wet, IsCandidate}
 use Rattle.rank_scores.specs.Candidates.{begun, plus, window_total, is_such, candidate, candidates, admitted}
 use Rattle.rank_scores.specs.Candidates.{IsCandidateOf, AreTheCandidates, RiseByFirstDay}
 use Rattle.rank_scores.proofs.Totals.{days-total, total-days}
@@ -118,6 +118,11 @@ begins-from_IsCandidate days rise cal Dry first last score h is =
 begins-from_IsCandidate days rise cal Wet first last score h is =
     spell-begins days cal is_wet first last score is.0 is.1 is.2
 
+-- what a window that begins on a day is made of
+window-made : (o : Option ℤ) (last : ℤ) (p : ℤ × ℤ) → option_map (λ (total : ℤ). (last, total)) o ≡ Some p
+    → (o ≡ Some p.1) × (p.0 ≡ last)
+window-made o last p e = (grind arith, grind arith)
+
 -- what begins on a day that has its value is a candidate
 pub begun-IsCandidate : (days : List DayValue) → Rise days → AreDays days → (sh : Shape) (x : DayValue) (p : ℤ × ℤ)
     → value_on days x.0 ≡ Some x.1 → begun sh days x ≡ Some p → IsCandidate sh days x.0 p.0 p.1
@@ -125,26 +130,15 @@ begun-IsCandidate days rise cal (Days f) x p has e =
     let same : (x.0, f x.1) ≡ p = cc in
     subst (λ (r : ℤ × ℤ). IsCandidate (Days f) days x.0 r.0 r.1) same (refl, x.1, has, refl)
 begun-IsCandidate days rise cal (Windows n) x p has e =
-    elim (window_total days n x.0) as (λ o. window_total days n x.0 ≡ o
-    → option_map (λ (total : ℤ). (x.0 +ℤ pos n -ℤ pos 1, total)) o ≡ Some p → IsWindow days n x.0 p.0 p.1) [
-      | None ↦ λ _ none. absurd cc
-      | Some t ↦ λ total some.
-          let last : ℤ = x.0 +ℤ pos n -ℤ pos 1 in
-          let ends : last +ℤ pos 1 ≡ x.0 +ℤ pos n = omega (arith, ints) in
-          let are = total-days days rise n x.0 last t ends total in
-          let same : (last, t) ≡ p = cc in
-          subst (λ (r : ℤ × ℤ). IsWindow days n x.0 r.0 r.1) same (record { ends = ends; whole = are.0; sum = are.1 })
-    ] refl e
+    let parts = window-made (window_total days n x.0) (x.0 +ℤ pos n -ℤ pos 1) p e in
+    let ends : p.0 +ℤ pos 1 ≡ x.0 +ℤ pos n = omega (arith, ints, parts.1) in
+    let are = total-days days rise n x.0 p.0 p.1 ends parts.0 in
+    record { ends = ends; whole = are.0; sum = are.1 }
 begun-IsCandidate days rise cal (Spells test) x p has e =
     let len : ℕ = run_len (is_such test days) x.0 in
-    elim (begins_run (is_such test days) x.0) as (λ b. begins_run (is_such test days) x.0 ≡ b
-    → cond b (Some (x.0 +ℤ pos len -ℤ pos 1, pos len)) None ≡ Some p → IsCandidate (Spells test) days x.0 p.0 p.1) [
-      | true ↦ λ begins some.
-          let same : (x.0 +ℤ pos len -ℤ pos 1, pos len) ≡ p = cc in
-          subst (λ (r : ℤ × ℤ). IsCandidate (Spells test) days x.0 r.0 r.1) same
-          (len, refl, run-is days cal test x.0 begins)
-      | false ↦ λ _ none. absurd cc
-    ] refl e
+    let both = cond_some (begins_run (is_such test days) x.0) (x.0 +ℤ pos len -ℤ pos 1, pos len) p e in
+    subst (λ (r : ℤ × ℤ). IsCandidate (Spells test) days x.0 r.0 r.1) both.1
+    (len, refl, run-is days cal test x.0 both.0)
 
 -- ---- the candidates of a series
 
@@ -169,22 +163,20 @@ contains-more : (o : Option Candidate) (cs : List Candidate) (c : Candidate) →
 contains-more None cs c h = h
 contains-more (Some d) cs c h = Contains-append_right (d ∷ []) cs c h
 
+-- the value of a day stands first, or is that of the others
+first_or_later : (x : DayValue) (xs : List DayValue) (day v : ℤ) → value_on (x ∷ xs) day ≡ Some v
+    → ((x.0 ≡ day) × (x.1 ≡ v)) ⊎ (value_on xs day ≡ Some v)
+first_or_later x xs day v h = grind (arith, ints)
+
 -- what is made of a day with its value stands among what is made of all
 made_stands : (f : DayValue → Option Candidate) (day v : ℤ) (c : Candidate) → f (day, v) ≡ Some c
     → (xs : List DayValue) → value_on xs day ≡ Some v → Contains (filter_map f xs) c
 made_stands f day v c e [] h = absurd cc
 made_stands f day v c e (x ∷ xs) h =
-    elim (int_eq x.0 day) as (λ b. int_eq x.0 day ≡ b
-    → option_map (λ (y : DayValue). y.1) (cond b (Some x) (find (λ y. int_eq y.0 day) xs)) ≡ Some v
-    → Contains (cons_option (f x) (filter_map f xs)) c) [
-      | true ↦ λ is found.
-          let on : x.0 ≡ day = (Decides-int_eq x.0 day).0 is in
-          let value : x.1 ≡ v = cc in
-          let here : f x ≡ Some c = ap (λ (d : ℤ). f (d, x.1)) on ∙ ap (λ (w : ℤ). f (day, w)) value ∙ e in
-          let P : Option Candidate → Type 0 = λ o. Contains (cons_option o (filter_map f xs)) c in
-          subst P (sym here) (Contains-append_left (c ∷ []) (filter_map f xs) c (0, omega arith, refl))
-      | false ↦ λ is found. contains-more (f x) (filter_map f xs) c (made_stands f day v c e xs found)
-    ] refl h
+    elim (first_or_later x xs day v h) [
+      | inl is ↦ rw (is.0, is.1, e) (Contains-append_left (c ∷ []) (filter_map f xs) c (0, omega arith, refl))
+      | inr later ↦ contains-more (f x) (filter_map f xs) c (made_stands f day v c e xs later)
+    ]
 
 -- the candidate that begins on a day of a series, if one does
 abbrev pub begun_on : Asked → Usable → DayValue → Option Candidate

@@ -8,4 +8,3 @@ pub mod Rising
 pub mod Exactly
 pub mod Examples
 pub mod QueryCandidates
-pub mod OneElement

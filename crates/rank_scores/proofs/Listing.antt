@@ -1,5 +1,5 @@
 -- Candidates that are apart, once they are put in order: each precedes all behind it.
-use Rattle.std.proofs.Common.{◌≡◌, ℕ, suc, ◌<◌, Bool, true, false, List, [], ◌∷◌, refl, sym, ap, ◌∙◌, arith, length}
+use Rattle.std.proofs.Common.{◌≡◌, ℕ, suc, ◌<◌, Bool, true, false, List, [], ◌∷◌, sym, ap, ◌∙◌, arith, length}
 use Rattle.std.proofs.Common.{get_or}
 use Rattle.std.specs.Prelude.{◌&&◌}
 use Rattle.std.specs.List.Sorted.{IsPermutation, IsSorted}
@@ -7,7 +7,7 @@ use Rattle.std.specs.Cmp.{IsTotalOrder}
 use Rattle.std.specs.Ordering.{is_lt, is_eq, int_cmp, nat_cmp, ordering_then, ordering_reverse, int_eq}
 use Rattle.std.specs.Cmp.Lexicographic.{slice_cmp}
 use Rattle.std.specs.declared.cmp.Ordering.{Ordering}
-use Rattle.std.specs.declared.cmp.Ordering.TheVariants.{Less, Equal, Greater}
+use Rattle.std.specs.declared.cmp.Ordering.TheVariants.{Equal}
 use Rattle.std.proofs.lemmas.Cmp.{int_cmp_total, int_eq_equiv, nat_list_eq_equiv, on_total, then_total}
 use Rattle.std.proofs.lemmas.List.Elements.{recursion_from_All}
 use Rattle.std.proofs.lemmas.List.Sorted.{ranks_by, sorted_far}
@@ -32,18 +32,16 @@ tied_alike a b e =
     ap (λ (t : Bool). t && int_eq a.first b.first) (sym (is_eq-slice_cmp (a.id.0) (b.id.0)))
     ∙ tied (int_cmp b.score a.score) (slice_cmp nat_cmp a.id.0 b.id.0) (int_cmp a.first b.first) e
 
--- of two that are apart, the one that isn't listed later precedes
+-- of two that don't tie, the one that isn't listed later comes first
+ahead : (o p l : Ordering) → p ≡ ordering_reverse o → (o ≡ Equal → ⊥) → is_lt (ordering_then p l) ≡ false
+    → is_lt o ≡ true
+ahead o p l back unlike listed = grind arith
+
+-- so it is with two that are apart
 pub listed_first : (a b : Candidate) → is_lt (full_cmp b a) ≡ false → begin_alike a b ≡ false → precedes a b ≡ true
 listed_first a b listed apart =
-    elim (rank_cmp a b) as (λ o. rank_cmp a b ≡ o → is_lt o ≡ true) [
-      | Less ↦ λ e. refl
-      | Equal ↦ λ e. let alike = tied_alike a b e in absurd cc
-      | Greater ↦ λ e.
-          let back : rank_cmp b a ≡ Less = rank_cmp_total.antisymm b a ∙ ap ordering_reverse e in
-          let later : is_lt (full_cmp b a) ≡ true =
-          ap (λ (o : Ordering). is_lt (ordering_then o (int_cmp b.last a.last))) back in
-          absurd cc
-    ] refl
+    ahead (rank_cmp a b) (rank_cmp b a) (int_cmp b.last a.last) (rank_cmp_total.antisymm b a)
+    (λ e. let alike = tied_alike a b e in cc) listed
 
 -- where each precedes what stands at later places, each precedes all behind it
 by_place : (xs : List Candidate)

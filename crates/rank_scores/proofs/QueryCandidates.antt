@@ -1,13 +1,13 @@
 -- The candidates of a query: that no two begin alike, and that they and the best of them are of listed stations.
 use Rattle.std.proofs.Common.{◌≡◌, ℕ, Bool, true, false, cond, List, [], ◌∷◌, ◌++◌, map, filter, Option, Some, None}
-use Rattle.std.proofs.Common.{refl, sym, ap, ◌∙◌, subst, ◌||◌}
+use Rattle.std.proofs.Common.{refl, sym, ap, ◌∙◌, subst, arith}
 use Rattle.std.specs.Prelude.{◌&&◌, ◌==◌, IsTrue}
 use Rattle.std.specs.List.{flat_map, filter_map, find, cons_option, range_with_len, AllByRecursion, IsDistinct}
 use Rattle.std.specs.List.{list_any}
 use Rattle.std.specs.Option.{is_some}
 use Rattle.std.specs.Ordering.{int_eq}
 use Rattle.std.specs.Cmp.Lexicographic.{bytes_decides}
-use Rattle.std.proofs.lemmas.Bool.{and_parts}
+use Rattle.std.proofs.lemmas.Bool.{and_parts, cond_both}
 use Rattle.ghcn_files.specs.declared.station.Station.{Station}
 use Rattle.ghcn_files.specs.declared.station.StationId.{StationId}
 use Rattle.ghcn_files.specs.Ids.{same_id}
@@ -45,10 +45,7 @@ found-holds P test xs x h e = (found P test xs x h e).1
 any_found : {X : Type 0} (test : X → Bool) (xs : List X) → is_some (find test xs) ≡ list_any test xs
 any_found test [] = refl
 any_found test (x ∷ xs) =
-    elim (test x) as (λ b. is_some (cond b (Some x) (find test xs)) ≡ (b || list_any test xs)) [
-      | true ↦ refl
-      | false ↦ any_found test xs
-    ]
+    grind (arith, any_found test xs)
 
 -- each element of two lists, one after the other
 each-append : {X : Type 0} (P : X → Type 0) (xs ys : List X) →
@@ -139,20 +136,15 @@ module _ (q : Asked) (c : Contents) where
   apart_among right (st ∷ sts) d =
       let all : List Usable = series_among sts in
       let tail : AreApart (flat_map (candidates q) all) = apart_among right sts d.1 in
-      elim (admits_station q st) as (λ b. AreApart (flat_map (candidates q)
-      (filter_map of_station (cond b (st ∷ filter (admits_station q) sts) (filter (admits_station q) sts))))) [
-        | true ↦ elim (of_station st) as (λ o.
-            of_station st ≡ o → AreApart (flat_map (candidates q) (cons_option o all))) [
-              | None ↦ λ e. tail
-              | Some u ↦ λ e. apart-append st.id (candidates q u) (flat_map (candidates q) all)
-                  (subst (λ (i : StationId). AllByRecursion (λ x. x.id ≡ i) (candidates q u)) (of_station-own st u e)
-                  (candidates-own q u))
-                  (each_candidate (λ i. same_id st.id i ≡ false) q all (others_among st.id sts d.0))
-                  (apart q u (found-holds IsSeries (is_series_of st.id (score_element q.score)) c.series u right e))
-                  tail
-            ] refl
-        | false ↦ tail
-      ]
+      cond_both (admits_station q st) (st ∷ filter (admits_station q) sts) (filter (admits_station q) sts)
+      (λ (l : List Station). AreApart (flat_map (candidates q) (filter_map of_station l)))
+      (λ _. elim (of_station st) as (λ o. of_station st ≡ o → AreApart (flat_map (candidates q) (cons_option o all))) [
+        | None ↦ λ e. tail
+        | Some u ↦ λ e. apart-append st.id (candidates q u) (flat_map (candidates q) all)
+            (subst (λ (i : StationId). AllByRecursion (λ x. x.id ≡ i) (candidates q u)) (of_station-own st u e)
+            (candidates-own q u)) (each_candidate (λ i. same_id st.id i ≡ false) q all (others_among st.id sts d.0))
+            (apart q u (found-holds IsSeries (is_series_of st.id (score_element q.score)) c.series u right e)) tail
+      ] refl) (λ _. tail)
 
 -- ---- all candidates of a query
 

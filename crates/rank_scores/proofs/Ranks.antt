@@ -1,6 +1,6 @@
 -- The best of some candidates, by rank, are the first of them when they are put in order.
 use Rattle.std.proofs.Common.{◌≡◌, ℕ, zero, suc, ◌+◌, Bool, true, false, cond, List, [], ◌∷◌, take, drop, Option, Some}
-use Rattle.std.proofs.Common.{None, refl, sym, ap, ◌∙◌, subst, arith, ◌||◌}
+use Rattle.std.proofs.Common.{None, refl, sym, ap, ◌∙◌, subst, arith}
 use Rattle.std.specs.Prelude.{slice_get, ◌==◌}
 use Rattle.std.specs.List.{find, filter_map, range_with_len, AllByRecursion, list_any, cons_option}
 use Rattle.std.specs.List.Sorted.{IsPermutation}
@@ -28,10 +28,6 @@ rank_cmp_total = then_total (on_total (λ c. c.score) (back_total int_cmp_total)
 asym : (a b : Candidate) → precedes a b ≡ true → precedes b a ≡ false
 asym a b h = (ranks_by rank_cmp_total (λ (c : Candidate). c)).one_way a b h
 
--- no candidate precedes itself
-irrefl : (c : Candidate) → precedes c c ≡ false
-irrefl c = false_from_ne_true (precedes c c) (λ h. let no = asym c c h in absurd cc)
-
 -- each precedes all that stand behind it
 abbrev pub Descends : List Candidate → Type 0
 Descends [] = Unit {0}
@@ -57,8 +53,9 @@ rank_at : (xs : List Candidate) (r : ℕ) (c : Candidate) → Descends xs → sl
 rank_at [] r c h e = absurd cc
 rank_at (x ∷ xs) zero c h e =
     let same : x ≡ c = cc in
+    let none = false_from_ne_true (precedes x x) (λ e. let no = asym x x e in cc) in
     subst (λ (d : Candidate). rank_in (x ∷ xs) d ≡ 0) same
-    (omega (arith, rank-cons x x xs, ap one_if (irrefl x), first_rank x xs h.0))
+    (omega (arith, rank-cons x x xs, ap one_if none, first_rank x xs h.0))
 rank_at (x ∷ xs) (suc r) c h e =
     let before : precedes x c ≡ true = subst (λ (d : Candidate). precedes x d ≡ true) (get_or_from_slice_get xs r c c e)
     (All-from_recursion (λ d. precedes x d ≡ true) xs h.0 r c (slice_get_within xs r c e)) in
@@ -73,10 +70,9 @@ finds : (p : Candidate → Bool) (c : Candidate) (ys : List Candidate)
     → AllByRecursion (λ d. p d ≡ true → d ≡ c) ys → list_any p ys ≡ true → find p ys ≡ Some c
 finds p c [] h e = absurd cc
 finds p c (y ∷ ys) h e =
-    elim (p y) as (λ b. p y ≡ b → (b || list_any p ys) ≡ true → cond b (Some y) (find p ys) ≡ Some c) [
-      | true ↦ λ is any. ap (λ (d : Candidate). Some d) (h.0 is)
-      | false ↦ λ is any. finds p c ys h.1 any
-    ] refl e
+    let own = h.0 in
+    let rest = finds p c ys h.1 in
+    grind arith
 
 -- a test that none passes finds none
 finds_none : (p : Candidate → Bool) (ys : List Candidate) → AllByRecursion (λ d. p d ≡ false) ys → find p ys ≡ None

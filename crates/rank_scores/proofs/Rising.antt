@@ -1,5 +1,5 @@
 -- Days that rise, look-ups among them, and what begins on them.
-use Rattle.std.proofs.Common.{◌≡◌, Bool, true, false, cond, List, [], ◌∷◌, map, Option, Some, None, refl, sym, ap, ◌∙◌}
+use Rattle.std.proofs.Common.{◌≡◌, Bool, true, List, [], ◌∷◌, map, Option, Some, None, refl, sym, ◌∙◌}
 use Rattle.std.proofs.Common.{filter, ℤ, ◌<ℤ◌, arith}
 use Rattle.std.specs.Prelude.{int_lt}
 use Rattle.std.specs.List.{AllByRecursion, filter_map, find, cons_option}
@@ -7,7 +7,7 @@ use Rattle.std.specs.List.Sorted.{IsStrictlySortedBy}
 use Rattle.std.specs.Cmp.{int_cmp_is}
 use Rattle.std.specs.Ordering.{int_cmp}
 use Rattle.std.specs.declared.cmp.Ordering.TheVariants.{Less}
-use Rattle.std.proofs.lemmas.Bool.{and_parts}
+use Rattle.std.proofs.lemmas.Bool.{cond_both, and_parts}
 use Rattle.std.proofs.lemmas.Int.{ints}
 use Rattle.std.proofs.lemmas.List.Elements.{recursion_from_All, All-from_recursion, All-filter, All-map}
 use Rattle.ghcn_series.specs.Series.{DayValue, Usable, IsSeries, value_on, is_by_day}
@@ -66,10 +66,6 @@ all-made P f (x ∷ xs) h =
       | Some y ↦ λ e. (h.0 y e, all-made P f xs h.1)
     ] refl
 
--- what a test of two numbers says
-lt_of : (a b : ℤ) → int_lt a b ≡ true → a <ℤ b
-lt_of a b e = grind (arith, ints)
-
 -- ---- days that rise
 
 -- days of which each is later than the one before rise
@@ -79,17 +75,16 @@ rise-from_by_day (x ∷ []) e = (tt, tt)
 rise-from_by_day (x ∷ y ∷ ys) e =
     let both = and_parts (int_lt x.0 y.0) (is_by_day (y ∷ ys)) e in
     let rest : Rise (y ∷ ys) = rise-from_by_day (y ∷ ys) both.1 in
-    let first : x.0 <ℤ y.0 = lt_of x.0 y.0 both.0 in
+    let before = both.0 in
+    let first : x.0 <ℤ y.0 = grind (arith, ints) in
     ((first, from_each (λ z. y.0 <ℤ z.0) (λ z. x.0 <ℤ z.0) ys (λ z l. omega (arith, ints, first, l)) rest.0), rest)
 
 -- days that pass a test rise as before
 pub rise-filter : (t : DayValue → Bool) (days : List DayValue) → Rise days → Rise (filter t days)
 rise-filter t [] h = tt
 rise-filter t (x ∷ xs) h =
-    elim (t x) as (λ b. Rise (cond b (x ∷ filter t xs) (filter t xs))) [
-      | true ↦ (all-filter (λ y. x.0 <ℤ y.0) t xs h.0, rise-filter t xs h.1)
-      | false ↦ rise-filter t xs h.1
-    ]
+    cond_both (t x) (x ∷ filter t xs) (filter t xs) Rise
+    (λ _. (all-filter (λ y. x.0 <ℤ y.0) t xs h.0, rise-filter t xs h.1)) (λ _. rise-filter t xs h.1)
 
 -- the admitted days of a series rise
 pub admitted-rise : (q : Asked) (s : Usable) → IsSeries s → Rise (admitted q s)
@@ -97,21 +92,17 @@ admitted-rise q s series = rise-filter (λ x. admits_day q x.0) s.days (rise-fro
 
 -- ---- look-ups
 
+-- among what is kept, the same is found with one element more, which is kept where it passes the search
+find-cons : {X : Type 0} (test keeps : X → Bool) (x : X) (xs : List X) → (test x ≡ true → keeps x ≡ true)
+    → find test (filter keeps xs) ≡ find test xs → find test (filter keeps (x ∷ xs)) ≡ find test (x ∷ xs)
+find-cons test keeps x xs h rest = grind arith
+
 -- among what is kept, the same is found, where all that passes the search is kept
 pub find-filter : {X : Type 0} (test keeps : X → Bool) (xs : List X) → ((x : X) → test x ≡ true → keeps x ≡ true) →
     find test (filter keeps xs) ≡ find test xs
 find-filter test keeps [] h = refl
 find-filter test keeps (x ∷ xs) h =
-    let rest = find-filter test keeps xs h in
-    elim (keeps x) as (λ k. keeps x ≡ k →
-    find test (cond k (x ∷ filter keeps xs) (filter keeps xs)) ≡ find test (x ∷ xs)) [
-      | true ↦ λ _. ap (cond (test x) (Some x)) rest
-      | false ↦ λ dropped. elim (test x) as (λ t. test x ≡ t →
-          find test (filter keeps xs) ≡ cond t (Some x) (find test xs)) [
-            | true ↦ λ passes. let stays = h x passes in absurd cc
-            | false ↦ λ _. rest
-          ] refl
-    ] refl
+    find-cons test keeps x xs (h x) (find-filter test keeps xs h)
 
 -- behind a pair of another day, the day has the value that it had
 pub value_on-other : (x : DayValue) (xs : List DayValue) (a : ℤ) → (x.0 ≡ a → ⊥) → value_on (x ∷ xs) a ≡ value_on xs a
@@ -149,8 +140,7 @@ pub same_made : (f g : DayValue → Option Candidate) (xs : List DayValue) → A
     → filter_map f xs ≡ filter_map g xs
 same_made f g [] h = refl
 same_made f g (x ∷ xs) h =
-    ap (λ (o : Option Candidate). cons_option o (filter_map f xs)) h.0
-    ∙ ap (cons_option (g x)) (same_made f g xs h.1)
+    rw (h.0, same_made f g xs h.1)
 
 module _ (f : DayValue → Option Candidate)
     (begins : (x : DayValue) (c : Candidate) → f x ≡ Some c → c.first ≡ x.0) where

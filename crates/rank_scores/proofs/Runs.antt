@@ -3,7 +3,7 @@ use Rattle.std.proofs.Common.{◌≡◌, ℕ, zero, suc, ◌-◌, ◌<◌, ◌�
 use Rattle.std.proofs.Common.{refl, sym, ap, ◌∙◌, arith, inl, inr, ℤ, pos, ◌+ℤ◌, ◌<ℤ◌, ◌≤ℤ◌}
 use Rattle.std.specs.List.{AllByRecursion}
 use Rattle.std.specs.Option.{option_map_or}
-use Rattle.std.proofs.lemmas.Bool.{cases_lt, and_parts, false_from_ne_true, true_from_ne_false}
+use Rattle.std.proofs.lemmas.Bool.{cases_order, and_parts, false_from_ne_true, true_from_ne_false}
 use Rattle.std.proofs.lemmas.List.Elements.{recursion_from_All, filter_passes}
 use Rattle.std.proofs.lemmas.Int.{ints}
 use Rattle.ghcn_fields.specs.Days.{first_day, last_day, is_day}
@@ -54,12 +54,10 @@ module _ (such : ℤ → Bool) where
       → such (a +ℤ pos len) ≡ false → run_from such n a ≡ len
   run-found n len a le inside ends =
       let is = counted n a in
-      elim (cases_lt (run_from such n a) len) [
-        | inl lt ↦ let yes = inside (run_from such n a) lt in let no = is.stops (omega arith) in absurd cc
-        | inr ge ↦ elim (cases_lt len (run_from such n a)) [
-          | inl lt ↦ let yes = is.inside len lt in absurd cc
-          | inr most ↦ omega arith
-        ]
+      elim (cases_order (run_from such n a) len) [
+        | inl same ↦ same
+        | inr (inl lt) ↦ let yes = inside (run_from such n a) lt in let no = is.stops (omega arith) in absurd cc
+        | inr (inr lt) ↦ let yes = is.inside len lt in absurd cc
       ]
 
 -- ---- days of the kind

@@ -158,15 +158,9 @@ leading-summed (suc n) a (x ∷ xs) rise h =
       | true ↦ λ is. one_more n x xs (leading n (a +ℤ pos 1) xs) (leading-summed n (a +ℤ pos 1) xs rise.1 next)
       | false ↦ λ is.
           let unlike : x.0 ≡ a → ⊥ = λ on. let yes = (Decides-int_eq x.0 a).1 on in cc in
-          inr (
-            refl,
-            omega (
-              arith,
-              at_most n (x ∷ xs) (leading n (a +ℤ pos 1) (x ∷ xs))
-                  (leading-summed n (a +ℤ pos 1) (x ∷ xs) rise
-                  ((omega (arith, ints, unlike, h.0.0), omega (arith, ints, h.0.1)), next)),
-            ),
-          )
+          let few = at_most n (x ∷ xs) (leading n (a +ℤ pos 1) (x ∷ xs)) (leading-summed n (a +ℤ pos 1) (x ∷ xs) rise
+          ((omega (arith, ints, unlike, h.0.0), omega (arith, ints, h.0.1)), next)) in
+          inr (refl, omega (arith, few))
     ] refl
 
 -- so it is for each window

@@ -1,16 +1,13 @@
 use Rattle.std.proofs.Common.{ap, ◌∙◌}
 use Rattle.std.specs.List.{fold}
-use Rattle.ghcn_files.specs.declared.station.StationId.{StationId}
 use Rattle.rank_query.specs.declared.score.Score.{Score}
-use Rattle.rank_scores.specs.Candidates.{Days, shape, admitted, candidates_among}
+use Rattle.rank_scores.specs.Candidates.{shape, admitted, candidates_among}
 use Rattle.rank_scores.proofs.scans.scan.Goals as goal
 
 -- single days are ranked by their value
 pub returns-in-Highest : goal.returns-in-Highest
 returns-in-Highest g c =
     let days = admitted c.args.query.now c.args.series.now in
-    c.scan_days.ensures
-    ∙ ap (λ (i : StationId). fold g.S.Sink.taken c.args.sink.now
-    (candidates_among i (Days (λ v. v)) days)) c.id-id.ensures.id
-    ∙ ap (λ (sc : Score). fold g.S.Sink.taken c.args.sink.now
-    (candidates_among c.args.series.now.id (shape sc) days)) c.in-Highest.ensures.score
+    c.scan_days.ensures ∙ rw c.id-id.ensures.id
+    (ap (λ (sc : Score). fold g.S.Sink.taken c.args.sink.now
+    (candidates_among c.args.series.now.id (shape sc) days)) c.in-Highest.ensures.score)
