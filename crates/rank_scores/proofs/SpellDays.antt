@@ -5,8 +5,8 @@ use Rattle.std.specs.Prelude.{◌&&◌, not}
 use Rattle.std.specs.List.{AllByRecursion, filter_map, cons_option}
 use Rattle.std.specs.Option.{option_map, option_map_or}
 use Rattle.std.specs.Ordering.{int_eq}
-use Rattle.std.proofs.lemmas.Bool.{and_parts, and_from, false_from_ne_true, and_left, and_right, not_from_true}
-use Rattle.std.proofs.lemmas.Bool.{cases_lt}
+use Rattle.std.proofs.lemmas.Bool.{and_parts, and_left, and_right, not_from_true}
+use Rattle.std.proofs.lemmas.Bool.{cases_lt, cases_Bool}
 use Rattle.std.proofs.lemmas.Bool.Decides.{Decides-int_eq}
 use Rattle.std.proofs.lemmas.Int.{ints, by_lt_z}
 use Rattle.ghcn_fields.specs.Days.{first_day, is_day}
@@ -103,9 +103,8 @@ module _ (id : StationId) (test : ℤ → Bool) (days : List DayValue) (cal : Ar
     anew : (test y.1 ≡ true → such (y.0 -ℤ pos 1) ≡ false)
         → offered id test (cond (test y.1) (Some (y.0, y.0)) None) ys ≡ left None (y ∷ ys)
     anew before =
-        elim (test y.1) as (λ b. test y.1 ≡ b
-        → offered id test (cond b (Some (y.0, y.0)) None) ys ≡ left None (y ∷ ys)) [
-          | true ↦ λ e. rest (Some (y.0, y.0)) (
+        elim (cases_Bool (test y.1)) [
+          | inl e ↦ rw e (rest (Some (y.0, y.0)) (
             refl,
             record {
               len = 1;
@@ -114,10 +113,9 @@ module _ (id : StationId) (test : ℤ → Bool) (days : List DayValue) (cal : Ar
               inside = λ i lt. let same : y.0 +ℤ pos i ≡ y.0 = omega (arith, ints, lt) in ap such same ∙ here ∙ e;
               before = before e;
             },
-          )
-          | false ↦ λ e. rest None (here ∙ e) ∙ sym (ap (λ (o : Option Candidate). cons_option o (left None ys))
-              (none_on y.0 (and_left (such y.0) (not (such (y.0 -ℤ pos 1))) (here ∙ e))))
-        ] refl
+          ))
+          | inr e ↦ rw (e, none_on y.0 (and_left (such y.0) (not (such (y.0 -ℤ pos 1))) (here ∙ e))) (rest None (here ∙ e))
+        ]
 
     -- where an open spell goes on, the next day is of it, and none begins there
     longer : (s : ℤ × ℤ) → s.1 ≡ last → IsOpen such s.0 s.1 → test y.1 ≡ true → y.0 ≡ s.1 +ℤ pos 1
@@ -126,7 +124,7 @@ module _ (id : StationId) (test : ℤ → Bool) (days : List DayValue) (cal : Ar
         let back : s.0 +ℤ pos (o.len - 1) ≡ y.0 -ℤ pos 1 = omega (arith, ints, o.ends, o.some, on) in
         let no_run = and_right (such y.0) (not (such (y.0 -ℤ pos 1)))
         (not_from_true _ (ap such (sym back) ∙ o.inside (o.len - 1) (omega (arith, o.some)))) in
-        rest (Some (s.0, y.0)) (
+        rw (none_on y.0 no_run) (rest (Some (s.0, y.0)) (
           refl,
           record {
             len = suc o.len;
@@ -139,31 +137,23 @@ module _ (id : StationId) (test : ℤ → Bool) (days : List DayValue) (cal : Ar
             ];
             before = o.before;
           },
-        )
-        ∙ sym (ap (λ (c : Option Candidate). cons_option (spell_on s.0) (cons_option c (left None ys)))
-        (none_on y.0 no_run))
+        ))
 
     -- what the next day leads to
     next : (run : Option (ℤ × ℤ)) → IsState run last → offered id test run (y ∷ ys) ≡ left run (y ∷ ys)
     next None state = anew (λ _. quiet_before (λ _. state))
     next (Some s) state =
-        elim (test y.1 && int_eq y.0 (s.1 +ℤ pos 1)) as (λ b. (test y.1 && int_eq y.0 (s.1 +ℤ pos 1)) ≡ b
-        → elim (cond b (Some s.0) None) as (λ _. List Candidate) [
-          | Some first ↦ offered id test (Some (first, y.0)) ys
-          | None ↦ spell_from id s.0 s.1 ∷ offered id test (cond (test y.1) (Some (y.0, y.0)) None) ys
-        ] ≡ left (Some s) (y ∷ ys)) [
-          | true ↦ λ e. let both = and_parts _ _ e in
-              longer s state.0 state.1 both.0 ((Decides-int_eq y.0 (s.1 +ℤ pos 1)).0 both.1)
-          | false ↦ λ e.
-              let stops : y.0 ≡ last +ℤ pos 1 → test y.1 ≡ false = λ on.
-              let yes = (Decides-int_eq y.0 (s.1 +ℤ pos 1)).1 (omega (arith, ints, on, state.0)) in
-              false_from_ne_true (test y.1) (λ passes. let both = and_from _ _ passes yes in absurd cc) in
-              ap (λ (l : List Candidate). spell_from id s.0 s.1 ∷ l)
-              (anew (λ passes. quiet_before (λ on. let fails = stops on in absurd cc)))
-              ∙ sym (ap (λ (c : Option Candidate). cons_option c (left None (y ∷ ys)))
-              (ends_here s.0 s.1 state.1
-              (ap (λ (d : ℤ). such (d +ℤ pos 1)) state.0 ∙ quiet_behind stops)))
-        ] refl
+        elim (cases_Bool (test y.1 && int_eq y.0 (s.1 +ℤ pos 1))) [
+          | inl e ↦
+              let both = and_parts _ _ e in
+              rw (e, offered) (longer s state.0 state.1 both.0 ((Decides-int_eq y.0 (s.1 +ℤ pos 1)).0 both.1))
+          | inr e ↦
+              let stops : y.0 ≡ last +ℤ pos 1 → test y.1 ≡ false = λ on. let is = state.0 in grind (arith, ints) in
+              let ended : such (s.1 +ℤ pos 1) ≡ false = ap (λ (d : ℤ). such (d +ℤ pos 1)) state.0 ∙ quiet_behind stops in
+              let begins = anew (λ passes. quiet_before (λ on. let fails = stops on in absurd cc)) in
+              rw (e, offered) (ap (λ (l : List Candidate). spell_from id s.0 s.1 ∷ l) begins
+              ∙ sym (ap (λ (c : Option Candidate). cons_option c (left None (y ∷ ys))) (ends_here s.0 s.1 state.1 ended)))
+        ]
 
   -- what is offered is what is to be offered
   offered-is : (run : Option (ℤ × ℤ)) (last : ℤ) (rest : List DayValue) → IsState run last → Rise rest
@@ -171,8 +161,7 @@ module _ (id : StationId) (test : ℤ → Bool) (days : List DayValue) (cal : Ar
       → offered id test run rest ≡ left run rest
   offered-is None last [] state rise later agree = refl
   offered-is (Some s) last [] state rise later agree =
-      sym (ap (λ (c : Option Candidate). cons_option c []) (ends_here s.0 s.1 state.1
-      (agree (s.1 +ℤ pos 1) (omega (arith, ints, state.0)))))
+      rw (ends_here s.0 s.1 state.1 (agree (s.1 +ℤ pos 1) (omega (arith, ints, state.0))))
   offered-is run last (y ∷ ys) state rise later agree =
       next last y ys rise later.0 agree
       (λ after here. offered-is after y.0 ys here rise.1 rise.0

@@ -5,7 +5,7 @@ use Rattle.std.proofs.Common.{◌<◌, ◌≤◌, length, subst}
 use Rattle.std.specs.Prelude.{◌&&◌, int_le}
 use Rattle.std.specs.List.{AllByRecursion, list_all}
 use Rattle.std.specs.Ordering.{int_eq}
-use Rattle.std.proofs.lemmas.Bool.{and_parts}
+use Rattle.std.proofs.lemmas.Bool.{cases_Bool, and_parts}
 use Rattle.std.proofs.lemmas.Bool.Decides.{Decides-int_eq}
 use Rattle.std.proofs.lemmas.Int.{ints}
 use Rattle.std.proofs.lemmas.List.Elements.{recursion_from_All, filter_passes}
@@ -16,7 +16,7 @@ use Rattle.rank_query.specs.Asked.{Asked}
 use Rattle.rank_query.specs.Admits.{admits_day}
 use Rattle.rank_scores.specs.Candidates.{plus, window_total, admitted, days_within, sum_of_values}
 use Rattle.rank_scores.proofs.Rising.{Rise, rise-filter, all-filter, from_each, from_both, find-filter}
-use Rattle.rank_scores.proofs.Rising.{value_on-other, value_on-here, value_on-later}
+use Rattle.rank_scores.proofs.Rising.{value_on-other, value_on-later}
 
 -- ---- sums that there may be
 
@@ -28,12 +28,14 @@ plus-rest v o t e = grind (arith, ints)
 plus-zero : (o : Option ℤ) → plus (Some (pos 0)) o ≡ o
 plus-zero o = grind (arith, ints)
 
--- sums of three
-plus-assoc : (v : ℤ) (b c : Option ℤ) → plus (Some v) (plus b c) ≡ plus (plus (Some v) b) c
-plus-assoc v None c = refl
-plus-assoc v (Some t) None = refl
-plus-assoc v (Some t) (Some u) =
-    let same : v +ℤ (t +ℤ u) ≡ (v +ℤ t) +ℤ u = omega (arith, ints) in ap (λ (z : ℤ). Some z) same
+-- sums of three, where there is one
+plus-cond : (b : Bool) (v : ℤ) (o p : Option ℤ) → cond b (plus (Some v) (plus o p)) None
+    ≡ plus (cond b (plus (Some v) o) None) p
+plus-cond false v o p = refl
+plus-cond true v None p = refl
+plus-cond true v (Some t) None = refl
+plus-cond true v (Some t) (Some u) =
+    let same : v +ℤ (t +ℤ u) ≡ (v +ℤ t) +ℤ u = omega (arith, ints) in rw same
 
 -- ---- the first of some days
 
@@ -55,14 +57,8 @@ leading-split zero (suc len) m a xs e = absurd (omega arith)
 leading-split (suc n) (suc len) m a [] e = refl
 leading-split (suc n) (suc len) m a (x ∷ xs) e =
     let same : (a +ℤ pos 1) +ℤ pos len ≡ a +ℤ pos (suc len) = omega (arith, ints) in
-    elim (int_eq x.0 a) as (λ t. cond t (plus (Some x.1) (leading n (a +ℤ pos 1) xs)) None
-    ≡ plus (cond t (plus (Some x.1) (leading len (a +ℤ pos 1) xs)) None)
-    (leading m (a +ℤ pos (suc len)) (drop len xs))) [
-      | true ↦ ap (plus (Some x.1)) (leading-split n len m (a +ℤ pos 1) xs (omega arith)
-          ∙ ap (λ (d : ℤ). plus (leading len (a +ℤ pos 1) xs) (leading m d (drop len xs))) same)
-          ∙ plus-assoc x.1 (leading len (a +ℤ pos 1) xs) (leading m (a +ℤ pos (suc len)) (drop len xs))
-      | false ↦ refl
-    ]
+    rw (leading-split n len m (a +ℤ pos 1) xs (omega arith), same)
+    (plus-cond (int_eq x.0 a) x.1 (leading len (a +ℤ pos 1) xs) (leading m (a +ℤ pos (suc len)) (drop len xs)))
 
 -- where days are summed, the first of them is the day a, and those behind it have the rest of the sum
 pub leading-first : (n : ℕ) (a t : ℤ) (x : DayValue) (xs : List DayValue) → leading (suc n) a (x ∷ xs) ≡ Some t
@@ -87,24 +83,20 @@ pub total-leading : (n : ℕ) (a : ℤ) (xs : List DayValue) → Rise xs → All
 total-leading zero a xs rise from = refl
 total-leading (suc n) a [] rise from = refl
 total-leading (suc n) a (x ∷ xs) rise from =
-    elim (int_eq x.0 a) as (λ t. int_eq x.0 a ≡ t → window_total (x ∷ xs) (suc n) a
-    ≡ cond t (plus (Some x.1) (leading n (a +ℤ pos 1) xs)) None) [
-      | true ↦ λ is.
+    elim (cases_Bool (int_eq x.0 a)) [
+      | inl is ↦
           let on : x.0 ≡ a = (Decides-int_eq x.0 a).0 is in
           let next = from_each (λ y. x.0 <ℤ y.0) (λ y. (a +ℤ pos 1) ≤ℤ y.0) xs
           (λ y l. omega (arith, ints, on, l)) rise.0 in
-          rw (
-            value_on-here x xs a on,
-            total-behind x xs n (a +ℤ pos 1) (omega (arith, ints, on)),
-            total-leading n (a +ℤ pos 1) xs rise.1 next,
-          )
-      | false ↦ λ is.
+          let behind = total-behind x xs n (a +ℤ pos 1) (omega (arith, ints, on)) in
+          rw (is, behind, total-leading n (a +ℤ pos 1) xs rise.1 next)
+      | inr is ↦
           let unlike : x.0 ≡ a → ⊥ = λ on. let yes = (Decides-int_eq x.0 a).1 on in cc in
           let low : a ≤ℤ x.0 = from.0 in
           let before : a <ℤ x.0 = omega (arith, ints, unlike, low) in
           let later = from_each (λ y. x.0 <ℤ y.0) (λ y. a <ℤ y.0) xs (λ y l. omega (arith, ints, before, l)) rise.0 in
-          rw (value_on-later (x ∷ xs) a (before, later))
-    ] refl
+          rw (is, value_on-later xs a later)
+    ]
 
 -- ---- the days of a window
 
@@ -153,15 +145,14 @@ leading-summed (suc n) a [] rise h = inr (refl, omega arith)
 leading-summed (suc n) a (x ∷ xs) rise h =
     let next : AllByRecursion (Lies n (a +ℤ pos 1)) xs = from_both (λ y. x.0 <ℤ y.0) (Lies (suc n) a)
     (Lies n (a +ℤ pos 1)) xs (λ y l k. (omega (arith, ints, h.0.0, l), omega (arith, ints, k.1))) rise.0 h.1 in
-    elim (int_eq x.0 a) as (λ t. int_eq x.0 a ≡ t
-    → Summed (suc n) (x ∷ xs) (cond t (plus (Some x.1) (leading n (a +ℤ pos 1) xs)) None)) [
-      | true ↦ λ is. one_more n x xs (leading n (a +ℤ pos 1) xs) (leading-summed n (a +ℤ pos 1) xs rise.1 next)
-      | false ↦ λ is.
+    elim (cases_Bool (int_eq x.0 a)) [
+      | inl is ↦ rw is (one_more n x xs (leading n (a +ℤ pos 1) xs) (leading-summed n (a +ℤ pos 1) xs rise.1 next))
+      | inr is ↦
           let unlike : x.0 ≡ a → ⊥ = λ on. let yes = (Decides-int_eq x.0 a).1 on in cc in
           let few = at_most n (x ∷ xs) (leading n (a +ℤ pos 1) (x ∷ xs)) (leading-summed n (a +ℤ pos 1) (x ∷ xs) rise
           ((omega (arith, ints, unlike, h.0.0), omega (arith, ints, h.0.1)), next)) in
-          inr (refl, omega (arith, few))
-    ] refl
+          rw is (inr (refl, omega (arith, few)))
+    ]
 
 -- so it is for each window
 summed : (days : List DayValue) → Rise days → (n : ℕ) (a b : ℤ) → b +ℤ pos 1 ≡ a +ℤ pos n
