@@ -3,7 +3,7 @@ use Rattle.std.proofs.Common.{◌≡◌, ℕ, zero, suc, ◌-◌, ◌<◌, ◌�
 use Rattle.std.proofs.Common.{refl, sym, ap, ◌∙◌, arith, inl, inr, ℤ, pos, ◌+ℤ◌, ◌<ℤ◌, ◌≤ℤ◌}
 use Rattle.std.specs.List.{AllByRecursion}
 use Rattle.std.specs.Option.{option_map_or}
-use Rattle.std.proofs.lemmas.Bool.{cases_order, and_parts, false_from_ne_true, true_from_ne_false}
+use Rattle.std.proofs.lemmas.Bool.{cases_Bool, cases_order, and_parts, false_from_ne_true, true_from_ne_false}
 use Rattle.std.proofs.lemmas.List.Elements.{recursion_from_All, filter_passes}
 use Rattle.std.proofs.lemmas.Int.{ints}
 use Rattle.ghcn_fields.specs.Days.{first_day, last_day, is_day}
@@ -32,11 +32,10 @@ module _ (such : ℤ → Bool) where
   counted (suc n) a =
       let rest = counted n (a +ℤ pos 1) in
       let len : ℕ = run_from such n (a +ℤ pos 1) in
-      elim (such a) as (λ b. such a ≡ b
-      → IsCounted such (suc n) a (elim b as (λ _. ℕ) [ true ↦ suc len | false ↦ 0 ])) [
-        | true ↦ λ e.
+      elim (cases_Bool (such a)) [
+        | inl e ↦
             let end : a +ℤ pos (suc len) ≡ (a +ℤ pos 1) +ℤ pos len = omega (arith, ints) in
-            record {
+            rw (e, run_from) record {
               inside = λ i. elim i as (λ i. i < suc len → such (a +ℤ pos i) ≡ true) [
                 | zero ↦ λ _. let same : a +ℤ pos 0 ≡ a = omega (arith, ints) in ap such same ∙ e
                 | suc j ↦ λ lt. let same : a +ℤ pos (suc j) ≡ (a +ℤ pos 1) +ℤ pos j = omega (arith, ints) in
@@ -44,10 +43,10 @@ module _ (such : ℤ → Bool) where
               ];
               stops = λ lt. ap such end ∙ rest.stops (omega arith);
             }
-        | false ↦ λ e.
+        | inr e ↦
             let end : a +ℤ pos 0 ≡ a = omega (arith, ints) in
-            record { inside = λ i lt. absurd (omega arith); stops = λ lt. ap such end ∙ e }
-      ] refl
+            rw (e, run_from) record { inside = λ i lt. absurd (omega arith); stops = λ lt. ap such end ∙ e }
+      ]
 
   -- numbers that pass one after another, up to one that doesn't, are a run of that length
   pub run-found : (n len : ℕ) (a : ℤ) → len ≤ n → ((i : ℕ) → i < len → such (a +ℤ pos i) ≡ true)

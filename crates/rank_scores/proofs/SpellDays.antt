@@ -114,7 +114,9 @@ module _ (id : StationId) (test : ℤ → Bool) (days : List DayValue) (cal : Ar
               before = before e;
             },
           ))
-          | inr e ↦ rw (e, none_on y.0 (and_left (such y.0) (not (such (y.0 -ℤ pos 1))) (here ∙ e))) (rest None (here ∙ e))
+          | inr e ↦
+              let quiet_here = and_left (such y.0) (not (such (y.0 -ℤ pos 1))) (here ∙ e) in
+              rw (e, none_on y.0 quiet_here) (rest None (here ∙ e))
         ]
 
     -- where an open spell goes on, the next day is of it, and none begins there
@@ -149,10 +151,11 @@ module _ (id : StationId) (test : ℤ → Bool) (days : List DayValue) (cal : Ar
               rw (e, offered) (longer s state.0 state.1 both.0 ((Decides-int_eq y.0 (s.1 +ℤ pos 1)).0 both.1))
           | inr e ↦
               let stops : y.0 ≡ last +ℤ pos 1 → test y.1 ≡ false = λ on. let is = state.0 in grind (arith, ints) in
-              let ended : such (s.1 +ℤ pos 1) ≡ false = ap (λ (d : ℤ). such (d +ℤ pos 1)) state.0 ∙ quiet_behind stops in
+              let ended = ap (λ (d : ℤ). such (d +ℤ pos 1)) state.0 ∙ quiet_behind stops in
               let begins = anew (λ passes. quiet_before (λ on. let fails = stops on in absurd cc)) in
               rw (e, offered) (ap (λ (l : List Candidate). spell_from id s.0 s.1 ∷ l) begins
-              ∙ sym (ap (λ (c : Option Candidate). cons_option c (left None (y ∷ ys))) (ends_here s.0 s.1 state.1 ended)))
+              ∙ sym (ap (λ (c : Option Candidate). cons_option c (left None (y ∷ ys)))
+              (ends_here s.0 s.1 state.1 ended)))
         ]
 
   -- what is offered is what is to be offered

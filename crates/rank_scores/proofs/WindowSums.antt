@@ -1,5 +1,5 @@
 -- A window with its sum and its ring of values, as days come and leave.
-use Rattle.std.proofs.Common.{◌≡◌, ◌↔◌, FitsSigned, w64, rules, ℕ, zero, suc, ◌+◌, ◌-◌, ◌%◌, ◌<◌, ◌≤◌, Bool, true}
+use Rattle.std.proofs.Common.{◌≡◌, ◌↔◌, FitsSigned, w64, ℕ, zero, suc, ◌+◌, ◌-◌, ◌%◌, ◌<◌, ◌≤◌, Bool, true}
 use Rattle.std.proofs.Common.{false, List, [], ◌∷◌, drop, Option, Some, None, refl, sym, ap, subst, ◌∙◌, arith, ℤ, pos}
 use Rattle.std.proofs.Common.{◌+ℤ◌, ◌-ℤ◌, ◌≤ℤ◌, ◌<ℤ◌, length, length-set, get_or, set, inl, inr}
 use Rattle.std.specs.Prelude.{IsTrue}
@@ -116,9 +116,7 @@ pub fits : {ring : List ℤ} {w : Window} {days rest : List DayValue} {next : �
     → w.len ≤ 65_535 → FitsSigned w64 w.total
 fits {ring} {w} {days} {rest} {next} at few =
     let both = leading-small w.len at.first w.total days at.good.small at.sum in
-    let low = both.0 in
-    let high = both.1 in
-    first_of (omega (arith, ints), search rules, grind (arith, ints))
+    grind (arith, ints, both.0, both.1)
 
 -- the days from the window's first one on, or those behind it where it is begun anew
 abbrev days_of : Bool → Window → List DayValue → List DayValue
