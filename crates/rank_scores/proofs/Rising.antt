@@ -32,8 +32,7 @@ from_both P Q R (x ∷ xs) f p q = (f x p.0 q.0, from_both P Q R xs f p.1 q.1)
 -- what follows for each follows for all
 pub from_each : {X : Type 0} (P R : X → Type 0) (xs : List X) → ((x : X) → P x → R x) → AllByRecursion P xs
     → AllByRecursion R xs
-from_each P R [] f p = tt
-from_each P R (x ∷ xs) f p = (f x p.0, from_each P R xs f p.1)
+from_each P R xs f p = from_both P P R xs (λ x h _. f x h) p p
 
 -- what is true of every element is true of all
 pub each : {X : Type 0} (P : X → Type 0) (xs : List X) → ((x : X) → P x) → AllByRecursion P xs

@@ -1,6 +1,3 @@
-use Rattle.std.proofs.Common.{ap}
-use Rattle.std.specs.Option.{option_map}
-use Rattle.rank_scores.specs.declared.candidate.Candidate.{Candidate}
 use Rattle.rank_scores.proofs.Ranks.{best-is, of_rank-is}
 use Rattle.rank_scores.proofs.Listing.{descends}
 use Rattle.rank_scores.proofs.best.best_first.Goals as goal
@@ -14,7 +11,6 @@ returns-clause-best c = λ k.
 
 -- the score of each place is the score of its rank
 pub returns-clause-kth : goal.returns-clause-kth
-returns-clause-kth c = λ rank. ap (option_map (λ (x : Candidate). x.score))
-    (of_rank-is c.args.candidates.items c.sort.new.self.items c.sort.ensures.permutation
+returns-clause-kth c = λ rank. rw (of_rank-is c.args.candidates.items c.sort.new.self.items c.sort.ensures.permutation
     (descends c.args.candidates.items c.sort.new.self.items c.sort.ensures.permutation c.in_ok-sort.ensures.sorted
     c.requires) rank)
