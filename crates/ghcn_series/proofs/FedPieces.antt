@@ -16,7 +16,7 @@ use Rattle.ghcn_files.specs.declared.element.Element.{Element}
 use Rattle.ghcn_series.specs.declared.reader.Reader.{Reader}
 use Rattle.ghcn_series.specs.declared.pieces.DataReader.{DataReader}
 use Rattle.ghcn_series.specs.declared.fault.DataFault.{DataFault}
-use Rattle.ghcn_series.specs.DailyFaults.{not_blank, one_line, file_lines, daily_lines}
+use Rattle.ghcn_series.specs.DailyFaults.{FileLine, not_blank, one_line, file_lines, daily_lines}
 use Rattle.ghcn_fields.specs.Refusals.{IsRefusal}
 use Rattle.ghcn_series.specs.DailyFaults.{is_memory}
 use Rattle.ghcn_series.specs.Says.{contents, data_of}
@@ -61,11 +61,7 @@ numbered r fed tail line is one =
 -- the current file with a line and its line feed
 joined : (whole rest line behind : List ℕ) → (whole ++ rest) ++ (line ++ 10 ∷ behind)
     ≡ (whole ++ ((rest ++ line) ++ 10 ∷ [])) ++ behind
-joined whole rest line behind =
-    append_assoc whole rest (line ++ 10 ∷ behind)
-    ∙ ap (λ (xs : List ℕ). whole ++ xs) (sym (append_assoc rest line (10 ∷ behind))
-    ∙ sym (append_assoc (rest ++ line) (10 ∷ []) behind))
-    ∙ sym (append_assoc whole ((rest ++ line) ++ 10 ∷ []) behind)
+joined whole rest line behind = simp append_assoc
 
 -- a line and its line feed are fed
 pub line-fed : (old new : DataReader) (line : List ℕ) (fed : Fed) → HasNoLineFeed line → old.ended < 2 ^ 20
@@ -80,16 +76,11 @@ line-fed old new line fed none lt adds is =
       ended = adds.ended ∙ is.ended;
       few = few_with fed.ended (fed.current ++ (line ++ 10 ∷ [])) (omega (arith, is.ended, lt));
       whole = is.whole ++ tail;
-      parts = ap (λ (xs : List ℕ). xs ++ (line ++ 10 ∷ [])) is.parts ∙ joined is.whole old.rest.items line []
-          ∙ ap (λ (xs : List ℕ). (is.whole ++ tail) ++ xs) (sym adds.rest);
+      parts = rw (adds.rest, is.parts) (joined is.whole old.rest.items line []);
       ends = inr (is.whole ++ (old.rest.items ++ line), sym (append_assoc is.whole (old.rest.items ++ line) (10 ∷ [])));
-      unended = subst HasNoLineFeed (sym adds.rest) tt;
-      counted =
-          adds.counted
-          ∙ ap (λ n. n + 1) is.counted
-          ∙ sym (length-append (lines is.whole) (strip_carriage_return (old.rest.items ++ line) ∷ []))
-          ∙ ap (λ ls. length (lines is.whole ++ ls)) (sym one)
-          ∙ ap length (sym (lines-append is.whole tail is.ends));
+      unended = rw adds.rest tt;
+      counted = rw (lines-append is.whole tail is.ends, one)
+          (omega (arith, adds.counted, is.counted, length-append {A = List ℕ}));
       read = subst (HasReadLines new.reader) (numbered old fed tail line is one)
           (adds.read.holds (daily_lines fed.ended ++ file_lines (length fed.ended + 1, is.whole)) is.read);
     }
@@ -107,53 +98,27 @@ line-told old line later fed f none lt refuses is =
     let here : IsLineRefusal fed.stations (daily_lines fed.ended ++ file_lines (file, is.whole ++ tail)) f =
     rw (← is.stations, ← numbered old fed tail line is one)
     (refuses.first (daily_lines fed.ended ++ file_lines (file, is.whole)) is.read) in
-    let ends : EndsLine (is.whole ++ tail) = inr (
-      is.whole ++ (old.rest.items ++ line),
-      sym
-          (append_assoc is.whole (old.rest.items ++ line) (10 ∷ [])),
-    ) in
+    let ends : EndsLine (is.whole ++ tail) = inr (is.whole ++ (old.rest.items ++ line), simp append_assoc) in
     let behind = not_blank file (enumerate_from (1 + length (lines (is.whole ++ tail))) (lines later)) in
     let current : fed.current ++ (line ++ 10 ∷ later) ≡ (is.whole ++ tail) ++ later =
-    ap (λ (xs : List ℕ). xs ++ (line ++ 10 ∷ later)) is.parts ∙ joined is.whole old.rest.items line later in
-    let some : 0 < length (fed.current ++ (line ++ 10 ∷ later)) =
-    omega (arith, length-append fed.current (line ++ 10 ∷ later), length-append line (10 ∷ later)) in
-    let files : files_of (more fed (line ++ 10 ∷ later)) ≡ fed.ended ++ (fed.current ++ (line ++ 10 ∷ later)) ∷ [] =
-    and_current-some fed.ended (fed.current ++ (line ++ 10 ∷ later)) some in
+    rw is.parts (joined is.whole old.rest.items line later) in
+    let some : 0 < length (fed.current ++ (line ++ 10 ∷ later)) = omega (arith, length-append {A = ℕ}) in
     let whole : daily_lines (files_of (more fed (line ++ 10 ∷ later)))
     ≡ (daily_lines fed.ended ++ file_lines (file, is.whole ++ tail)) ++ behind =
-    ap daily_lines files
-    ∙ daily_lines-one fed.ended (fed.current ++ (line ++ 10 ∷ later))
-    ∙ ap (λ t. daily_lines fed.ended ++ file_lines (file, t)) current
-    ∙ ap (λ ls. daily_lines fed.ended ++ ls) (file_lines-append file (is.whole ++ tail) later ends)
-    ∙ sym (append_assoc (daily_lines fed.ended) (file_lines (file, is.whole ++ tail)) behind) in
+    rw (
+      and_current-some fed.ended (fed.current ++ (line ++ 10 ∷ later)) some,
+      daily_lines-one fed.ended (fed.current ++ (line ++ 10 ∷ later)),
+      current,
+      file_lines-append file (is.whole ++ tail) later ends,
+    )
+    (sym (append_assoc (daily_lines fed.ended) (file_lines (file, is.whole ++ tail)) behind)) in
     told_of fed.stations (files_of (more fed (line ++ 10 ∷ later)))
     (daily_lines fed.ended ++ file_lines (file, is.whole ++ tail)) behind f
     (few_with fed.ended (fed.current ++ (line ++ 10 ∷ later)) (omega (arith, is.ended, lt))) whole here
 
--- part of a line is fed
-pub part-fed : (old new : DataReader) (bytes : List ℕ) (fed : Fed) → HasNoLineFeed bytes → old.ended < 2 ^ 20
-    → new.reader ≡ old.reader → new.ended ≡ old.ended → new.line ≡ old.line → new.rest.items ≡ old.rest.items ++ bytes
-    → HasFed old fed → HasFed new (more fed bytes)
-part-fed old new bytes fed none lt reader ended line kept is = record {
-  element = ap (λ (r : Reader). r.element) reader ∙ is.element;
-  stations = ap (λ (r : Reader). r.stations) reader ∙ is.stations;
-  ended = ended ∙ is.ended;
-  few = few_with fed.ended (fed.current ++ bytes) (omega (arith, is.ended, lt));
-  whole = is.whole;
-  parts = ap (λ (xs : List ℕ). xs ++ bytes) is.parts ∙ append_assoc is.whole old.rest.items bytes
-      ∙ ap (λ (xs : List ℕ). is.whole ++ xs) (sym kept);
-  ends = is.ends;
-  unended = subst HasNoLineFeed (sym kept) (no_line_feed-append old.rest.items bytes is.unended none);
-  counted = line ∙ is.counted;
-  read = subst (λ (r : Reader). HasReadLines r (daily_lines fed.ended ++ file_lines (length fed.ended + 1, is.whole)))
-      (sym reader) is.read;
-}
-
 -- bytes that are fed in two parts
-pub more-more : (fed : Fed) (a b c : List ℕ) → a ++ b ≡ c → more (more fed a) b ≡ more fed c
-more-more fed a b c is =
-    ap (λ (xs : List ℕ). record { element = fed.element; stations = fed.stations; ended = fed.ended; current = xs })
-    (append_assoc fed.current a b ∙ ap (λ (xs : List ℕ). fed.current ++ xs) is)
+more-more : (fed : Fed) (a b c : List ℕ) → a ++ b ≡ c → more (more fed a) b ≡ more fed c
+more-more fed a b c is = rw (← is, append_assoc) refl
 
 -- how far a piece is read: some of its lines are done
 pub record IsWithinPiece (now : DataReader) (before : Fed) (left bytes : List ℕ) : Type 0 where
@@ -168,10 +133,7 @@ pub piece-line : (old new : DataReader) (line behind left bytes : List ℕ) (fed
 piece-line old new line behind left bytes fed is none lt adds within =
     record {
       done = within.done ++ (line ++ 10 ∷ []);
-      parts =
-          append_assoc within.done (line ++ 10 ∷ []) behind
-          ∙ ap (λ (xs : List ℕ). within.done ++ xs) (append_assoc line (10 ∷ []) behind ∙ sym is)
-          ∙ within.parts;
+      parts = simp append_assoc (rw is at within.parts);
       fed = subst (HasFed new) (more-more fed within.done (line ++ 10 ∷ []) (within.done ++ (line ++ 10 ∷ [])) refl)
           (line-fed old new line (more fed within.done) none lt adds within.fed);
     }
@@ -184,10 +146,7 @@ pub piece-told : (old : DataReader) (line behind left bytes later : List ℕ) (f
 piece-told old line behind left bytes later fed f is none lt refuses within =
     let P : Fed → Type 0 = λ x. IsToldOf fed.stations (files_of x) f in
     let all : within.done ++ (line ++ 10 ∷ (behind ++ later)) ≡ bytes ++ later =
-    ap (λ (xs : List ℕ). within.done ++ xs) (sym (append_assoc line (10 ∷ behind) later)
-    ∙ ap (λ (xs : List ℕ). xs ++ later) (sym is))
-    ∙ sym (append_assoc within.done left later)
-    ∙ ap (λ (xs : List ℕ). xs ++ later) within.parts in
+    rw (← within.parts, is) (simp append_assoc) in
     subst P (more-more fed within.done (line ++ 10 ∷ (behind ++ later)) (bytes ++ later) all)
     (line-told old line (behind ++ later) (more fed within.done) f none lt refuses within.fed)
 
@@ -196,32 +155,46 @@ pub piece-part : (old new : DataReader) (left bytes : List ℕ) (fed : Fed) → 
     → new.reader ≡ old.reader → new.ended ≡ old.ended → new.line ≡ old.line → new.rest.items ≡ old.rest.items ++ left
     → IsWithinPiece old fed left bytes → HasFed new (more fed bytes)
 piece-part old new left bytes fed none lt reader ended line kept within =
-    subst (HasFed new) (more-more fed within.done left bytes within.parts)
-    (part-fed old new left (more fed within.done) none lt reader ended line kept within.fed)
+    let is = within.fed in
+    record {
+      element = rw reader is.element;
+      stations = rw reader is.stations;
+      ended = ended ∙ is.ended;
+      few = few_with fed.ended (fed.current ++ bytes) (omega (arith, is.ended, lt));
+      whole = is.whole;
+      parts = rw (kept, ← within.parts, ← append_assoc, is.parts) (simp append_assoc);
+      ends = is.ends;
+      unended = rw kept (no_line_feed-append old.rest.items left is.unended none);
+      counted = line ∙ is.counted;
+      read = rw reader is.read;
+    }
+
+-- the current file is ended, and its lines were read
+file-fed : (old new : DataReader) (fed : Fed) (ls : List FileLine) → old.ended < 2 ^ 20
+    → new.reader.element ≡ old.reader.element → new.reader.stations ≡ old.reader.stations → new.ended ≡ old.ended + 1
+    → new.line ≡ 0 → new.rest.items ≡ [] → ls ≡ daily_lines (fed.ended ++ fed.current ∷ [])
+    → HasReadLines new.reader ls → HasFed old fed → HasFed new (with_end fed)
+file-fed old new fed ls lt element stations ended line empty all read is = record {
+  element = element ∙ is.element;
+  stations = stations ∙ is.stations;
+  ended = omega (arith, ended, is.ended, length-append fed.ended (fed.current ∷ []));
+  few = omega (arith, is.ended, lt, length-append fed.ended (fed.current ∷ []));
+  whole = [];
+  parts = sym empty;
+  ends = inl refl;
+  unended = rw empty tt;
+  counted = line;
+  read = rw (append-nil (daily_lines (fed.ended ++ fed.current ∷ [])), ← all) read;
+}
 
 -- the current file is ended, behind its last line feed
 pub end-fed : (old new : DataReader) (fed : Fed) → old.ended < 2 ^ 20 → old.rest.items ≡ [] → new.reader ≡ old.reader
     → new.ended ≡ old.ended + 1 → new.line ≡ 0 → new.rest.items ≡ [] → HasFed old fed → HasFed new (with_end fed)
 end-fed old new fed lt none reader ended line empty is =
     let all : fed.current ≡ is.whole = is.parts ∙ ap (λ (xs : List ℕ). is.whole ++ xs) none ∙ append-nil is.whole in
-    let done = daily_lines fed.ended in
-    let lines_are : done ++ file_lines (length fed.ended + 1, is.whole)
-    ≡ daily_lines (fed.ended ++ fed.current ∷ []) ++ [] =
-    ap (λ t. done ++ file_lines (length fed.ended + 1, t)) (sym all)
-    ∙ sym (daily_lines-one fed.ended fed.current)
-    ∙ sym (append-nil (daily_lines (fed.ended ++ fed.current ∷ []))) in
-    record {
-      element = ap (λ (r : Reader). r.element) reader ∙ is.element;
-      stations = ap (λ (r : Reader). r.stations) reader ∙ is.stations;
-      ended = ended ∙ omega (arith, is.ended, length-append fed.ended (fed.current ∷ []));
-      few = omega (arith, is.ended, lt, length-append fed.ended (fed.current ∷ []));
-      whole = [];
-      parts = sym empty;
-      ends = inl refl;
-      unended = subst HasNoLineFeed (sym empty) tt;
-      counted = line;
-      read = subst (HasReadLines new.reader) lines_are (rw reader is.read);
-    }
+    let ls = daily_lines fed.ended ++ file_lines (length fed.ended + 1, is.whole) in
+    file-fed old new fed ls lt (ap (λ (r : Reader). r.element) reader) (ap (λ (r : Reader). r.stations) reader) ended
+    line empty (rw (daily_lines-one fed.ended fed.current, all) refl) (rw reader is.read) is
 
 -- what is left of a file is its last line
 lines-rest : (rest : List ℕ) → 0 < length rest → HasNoLineFeed rest
@@ -236,9 +209,8 @@ with_last : (r : DataReader) (fed : Fed) (is : HasFed r fed) → 0 < length r.re
     (r.rest.items ++ [])
     ≡ daily_lines (fed.ended ++ fed.current ∷ [])
 with_last r fed is some =
-    numbered r fed r.rest.items [] is (lines-rest r.rest.items some is.unended)
-    ∙ ap (λ t. daily_lines fed.ended ++ file_lines (length fed.ended + 1, t)) (sym is.parts)
-    ∙ sym (daily_lines-one fed.ended fed.current)
+    rw (daily_lines-one fed.ended fed.current, is.parts)
+    (numbered r fed r.rest.items [] is (lines-rest r.rest.items some is.unended))
 
 -- the current file is ended in its last line
 pub last-fed : (old mid new : DataReader) (fed : Fed) → old.ended < 2 ^ 20 → 0 < length old.rest.items
@@ -247,19 +219,9 @@ pub last-fed : (old mid new : DataReader) (fed : Fed) → old.ended < 2 ^ 20 →
     → HasFed new (with_end fed)
 last-fed old mid new fed lt some adds reader ended line empty is =
     let read = adds.read.holds (daily_lines fed.ended ++ file_lines (length fed.ended + 1, is.whole)) is.read in
-    record {
-      element = ap (λ (r : Reader). r.element) reader ∙ adds.element ∙ is.element;
-      stations = ap (λ (r : Reader). r.stations) reader ∙ adds.stations ∙ is.stations;
-      ended = omega (arith, ended, adds.ended, is.ended, length-append fed.ended (fed.current ∷ []));
-      few = omega (arith, is.ended, lt, length-append fed.ended (fed.current ∷ []));
-      whole = [];
-      parts = sym empty;
-      ends = inl refl;
-      unended = subst HasNoLineFeed (sym empty) tt;
-      counted = line;
-      read = rw reader (subst (HasReadLines mid.reader)
-          (with_last old fed is some ∙ sym (append-nil (daily_lines (fed.ended ++ fed.current ∷ [])))) read);
-    }
+    file-fed old new fed _ lt (ap (λ (r : Reader). r.element) reader ∙ adds.element)
+    (ap (λ (r : Reader). r.stations) reader ∙ adds.stations) (omega (arith, ended, adds.ended)) line empty
+    (with_last old fed is some) (rw reader read) is
 
 -- the fault of a file's last line is told with the file's end
 pub last-told : (old : DataReader) (fed : Fed) (f : DataFault) → old.ended < 2 ^ 20 → 0 < length old.rest.items
@@ -277,19 +239,13 @@ last-told old fed f lt some refuses is =
 -- a line or part of one has come
 pub has_begun : (r : DataReader) → (nat_lt 0 r.line || nat_lt 0 (length r.rest.items)) ≡ true
     → 0 < r.line + length r.rest.items
-has_begun r e = some r.line (length r.rest.items) e
-  where
-    some : (a b : ℕ) → (nat_lt 0 a || nat_lt 0 b) ≡ true → 0 < a + b
-    some zero zero e = absurd cc
-    some (suc a) b e = omega arith
-    some zero (suc b) e = omega arith
+has_begun r e = grind (arith, nat_tests)
 
 -- neither a line nor part of one has come
 pub not_begun : (r : DataReader) → (nat_lt 0 r.line || nat_lt 0 (length r.rest.items)) ≡ false
     → (r.line ≡ 0) × (r.rest.items ≡ [])
 not_begun r e =
-    let both = or_parts (nat_lt 0 r.line) (nat_lt 0 (length r.rest.items)) e in
-    (grind (arith, nat_tests, both.0), nil_from_length r.rest.items (grind (arith, nat_tests, both.1)))
+    (grind (arith, nat_tests), nil_from_length r.rest.items (grind (arith, nat_tests)))
 
 -- a line or part of one has come of the current file
 pub begun : (r : DataReader) (fed : Fed) → 0 < r.line + length r.rest.items → HasFed r fed → 0 < length fed.current
@@ -304,8 +260,7 @@ begun r fed some is =
 -- nothing has come of it
 pub unbegun : (r : DataReader) (fed : Fed) → r.line ≡ 0 → r.rest.items ≡ [] → HasFed r fed → fed.current ≡ []
 unbegun r fed nothing none is =
-    is.parts ∙ ap (λ (xs : List ℕ). is.whole ++ xs) none ∙ append-nil is.whole
-    ∙ lines-some is.whole is.ends (sym is.counted ∙ nothing)
+    is.parts ∙ rw (none, lines-some is.whole is.ends (sym is.counted ∙ nothing)) refl
 
 -- what nothing begins with is nothing
 nil_front : (xs ys : List ℕ) → [] ≡ xs ++ ys → xs ≡ []
@@ -318,18 +273,13 @@ pub data_fed : (r : DataReader) (fed : Fed) (held : Contents) → fed.current �
 data_fed r fed held none holds is =
     let ls = daily_lines fed.ended ++ file_lines (length fed.ended + 1, is.whole) in
     let whole : is.whole ≡ [] = nil_front is.whole r.rest.items (sym none ∙ is.parts) in
-    let all : ls ≡ daily_lines fed.ended = ap (λ w. daily_lines fed.ended ++ file_lines (length fed.ended + 1, w)) whole
-    ∙ append-nil (daily_lines fed.ended) in
+    let all : ls ≡ daily_lines fed.ended = rw whole (append-nil (daily_lines fed.ended)) in
     let files : files_of fed ≡ fed.ended = ap (and_current fed.ended) none in
-    let few : length fed.ended ≤ 2 ^ 20 = subst (λ (fs : List (List ℕ)). length fs ≤ 2 ^ 20) files is.few in
-    let of : contents r.reader.stations ls ≡ contents fed.stations (daily_lines fed.ended) =
-    ap (contents r.reader.stations) all ∙ ap (λ (ss : List Station). contents ss (daily_lines fed.ended)) is.stations in
     record {
       whole = contents fed.stations (daily_lines fed.ended);
       read = ap (data_of fed.stations) files
-          ∙ data_of-right fed.stations fed.ended few (rw (← is.stations, ← all) is.read.right);
-      is = holds.is ls is.read ∙ ap (kept r.reader.element) of
-          ∙ ap (λ (e : Option Element). kept e (contents fed.stations (daily_lines fed.ended))) is.element;
+          ∙ data_of-right fed.stations fed.ended (rw files at is.few) (rw (← is.stations, ← all) is.read.right);
+      is = rw (← all, ← is.stations, ← is.element) (holds.is ls is.read);
     }
 
 -- a fault that is told when the current file is ended is that of the files

@@ -27,31 +27,21 @@ pub record IsOfCalendar (y m d : ℕ) : Type 0 where
   pub month : (1 ≤ m) × (m ≤ 12)
   pub day : (1 ≤ d) × (d ≤ days_in_month (pos y) m)
 
--- a number that passes the test is in range
-within : (low high n : ℕ) → is_within low high n ≡ true → (low ≤ n) × (n ≤ high)
-within low high n e = (grind (arith, nat_tests), grind (arith, nat_tests))
-
--- a number in range passes the test
-is_within-from : (low high n : ℕ) → low ≤ n → n ≤ high → is_within low high n ≡ true
-is_within-from low high n l h = grind (arith, nat_tests)
+-- parts of the calendar are a date of it
+pub civil_of : (y m d : ℕ) → IsOfCalendar y m d → IsCivilDate (pos y) m d
+civil_of y m d is = ((omega (arith, ints, is.year), omega (arith, ints, is.year)), is.month, is.day)
 
 -- the parts of a date are of the calendar
 pub from_date : (y m d : ℕ) → is_date y m d ≡ true → IsOfCalendar y m d
-from_date y m d e =
-    let all = and_parts (is_within 1 9999 y && is_within 1 12 m) (is_within 1 (days_in_month (pos y) m) d) e in
-    let month = and_parts (is_within 1 9999 y) (is_within 1 12 m) all.0 in
-    record {
-      year = within 1 9999 y month.0;
-      month = within 1 12 m month.1;
-      day = within 1 (days_in_month (pos y) m) d all.1;
-    }
+from_date y m d e = record {
+  year = (grind (arith, nat_tests), grind (arith, nat_tests));
+  month = (grind (arith, nat_tests), grind (arith, nat_tests));
+  day = (grind (arith, nat_tests), grind (arith, nat_tests));
+}
 
 -- parts of the calendar are a date
 pub to_date : (y m d : ℕ) → IsOfCalendar y m d → is_date y m d ≡ true
-to_date y m d is =
-    and_from _ _ (and_from _ _ (is_within-from 1 9999 y is.year.0 is.year.1)
-    (is_within-from 1 12 m is.month.0 is.month.1))
-    (is_within-from 1 (days_in_month (pos y) m) d is.day.0 is.day.1)
+to_date y m d is = grind (arith, nat_tests, is.year, is.month, is.day)
 
 -- a day that has a number is of the calendar, and its number is that of its date
 pub has_number : (y m d : ℕ) (n : ℤ) → day_number y m d ≡ Some n
@@ -74,12 +64,7 @@ day_number-after y m i first is lt =
     let has = has_number y m 1 first is in
     let of : IsOfCalendar y m (i + 1) = record
     { year = has.0.year; month = has.0.month; day = (omega arith, omega arith) } in
-    let civil : IsCivilDate (pos y) m (i + 1) = (
-      (omega (arith, ints, of.year), omega (arith, ints, of.year)),
-      of.month,
-      of.day,
-    ) in
-    let day = is_day-from_civil y m (i + 1) civil of.year.0 in
+    let day = is_day-from_civil y m (i + 1) (civil_of y m (i + 1) of) of.year.0 in
     let same : days_from_civil (pos y) m (i + 1) ≡ first +ℤ pos i = later_day (pos y) m i
     ∙ ap (λ (z : ℤ). z +ℤ pos i) (sym has.1) in (
       day_number-is y m (i + 1) of ∙ ap (λ (z : ℤ). Some z) same,

@@ -30,9 +30,9 @@ use Rattle.ghcn_series.specs.Says.{fact_if}
 use Rattle.ghcn_series.specs.Gathered.{counted, usable_day, usable_days, kept_days, same_time, gathered_days}
 use Rattle.ghcn_series.specs.Gathered.{IsGathering, IsReady}
 use Rattle.ghcn_series.specs.Gathered.{gathered_series}
-use Rattle.ghcn_series.proofs.MonthDays.{has_number}
+use Rattle.ghcn_series.proofs.MonthDays.{has_number, civil_of}
 use Rattle.ghcn_series.proofs.ApartParts.{apart-distinct}
-use Rattle.ghcn_series.proofs.DistinctDays.{distinct_days}
+use Rattle.ghcn_series.proofs.DistinctDays.{distinct_days, parts_of}
 use Rattle.ghcn_series.proofs.SortedDays.{sorted_by-rises, sorted-same}
 
 -- a day that a series can have
@@ -43,46 +43,15 @@ IsDayOf e x = is_day x.0 && is_value e x.1
 pub is_day-numbered : (y m d : ℕ) (n : ℤ) → day_number y m d ≡ Some n → is_day n ≡ true
 is_day-numbered y m d n e =
     let has = has_number y m d n e in
-    let civil : IsCivilDate (pos y) m d = (
-      (omega (arith, ints, has.0.year), omega (arith, ints, has.0.year)),
-      has.0.month,
-      has.0.day,
-    ) in
-    ap is_day has.1 ∙ is_day-from_civil y m d civil has.0.year.0
-
--- what a usable day is made of
-Parts : Month → Option ℤ → Option ℤ → DayValue → Type 0
-Parts m day value d = (day ≡ Some d.0) × (value ≡ Some d.1) × ((may_be_negative m.element || int_le (pos 0) d.1) ≡ true)
-
--- a fact that counts has a day and a value that its element can have
-parts_of : (m : Month) (b : Bool) (o v : Option ℤ) (d : DayValue) → option_and_then counted (fact_if m b o v) ≡ Some d
-    → Parts m o v d
-unfolding Parts
-parts_of m true o v d e = absurd cc
-parts_of m false None v d e = absurd cc
-parts_of m false (Some n) None d e = absurd cc
-parts_of m false (Some n) (Some v) d e =
-    elim (may_be_negative m.element || int_le (pos 0) v) as (λ b. (may_be_negative m.element || int_le (pos 0) v) ≡ b
-    → cond b (Some (n, v)) None ≡ Some d → Parts m (Some n) (Some v) d) [
-      | true ↦ λ counts is.
-          let pair : ◌≡◌ {A = DayValue} (n, v) d = cc in (
-            ap (λ (x : DayValue). Some x.0) pair,
-            ap (λ (x : DayValue). Some x.1) pair,
-            ap
-                (λ (x : DayValue). may_be_negative m.element || int_le (pos 0) x.1) (sym pair) ∙ counts,
-          )
-      | false ↦ λ counts is. absurd cc
-    ] refl e
+    ap is_day has.1 ∙ is_day-from_civil y m d (civil_of y m d has.0) has.0.year.0
 
 -- a readable value is in its range
 readable_from : (o : Option ℤ) (v : ℤ) → option_map_or is_readable o true ≡ true → o ≡ Some v → is_readable v ≡ true
-readable_from None v r e = absurd cc
-readable_from (Some x) v r e = let same : x ≡ v = cc in ap is_readable (sym same) ∙ r
+readable_from o v r e = rw e at r
 
 -- a usable day is right
 right_day : (m : Month) (j : ℕ) (r : Reading) (d : DayValue) → is_reading r ≡ true → usable_day m (j, r) ≡ Some d
     → IsDayOf m.element d ≡ true
-unfolding Parts
 right_day m j r d reads is =
     let parts = parts_of m r.flagged (day_number m.year m.month j) r.value d is in
     and_from _ _ (is_day-numbered m.year m.month j d.0 parts.0)
@@ -124,17 +93,13 @@ sorted_right P xs all =
 pub length-sorted : (xs : List DayValue) → length (sorted_by by_day xs) ≡ length xs
 length-sorted xs = length_permutation xs (sorted_by by_day xs) (sorted-permutation by_day xs)
 
--- a number that compares as less passes the test
-lt_from_cmp : (a b : ℤ) → int_cmp a b ≡ Less → int_lt a b ≡ true
-lt_from_cmp a b e = grind (arith, ints)
-
 -- days whose keys are in order pass the test of order
 rises : (days : List DayValue) → IsStrictlySortedBy int_cmp (keys_of days) → is_by_day days ≡ true
 unfolding IsStrictlySortedBy
 rises [] sorted = refl
 rises (x ∷ []) sorted = refl
-rises (x ∷ y ∷ ys) sorted = and_from (int_lt x.0 y.0) (is_by_day (y ∷ ys)) (lt_from_cmp x.0 y.0 sorted.0.0)
-    (rises (y ∷ ys) sorted.1)
+rises (x ∷ y ∷ ys) sorted =
+    let less : int_cmp x.0 y.0 ≡ Less = sorted.0.0 in and_from _ _ (grind (arith, ints)) (rises (y ∷ ys) sorted.1)
 
 -- no day that is kept stands twice
 distinct_kept : (kept : Bool) (months : List Month) → IsDistinct same_time months
