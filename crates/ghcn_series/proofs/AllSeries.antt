@@ -1,7 +1,7 @@
 -- The series of all stations, from what was gathered of each.
 use Rattle.std.proofs.Common.{◌≡◌, ℕ, Bool, true, false, cond, not, List, [], ◌∷◌, ◌++◌, length, map, filter}
 use Rattle.std.proofs.Common.{Option, None, Some, refl, sym, ap, ◌∙◌, subst}
-use Rattle.std.specs.Prelude.{◌==◌, ◌&&◌, ◌||◌}
+use Rattle.std.specs.Prelude.{◌==◌, ◌&&◌}
 use Rattle.std.specs.List.{filter_map, flat_map, cons_option, list_any, AllZip, AllByRecursion, IsDistinct, slice_get}
 use Rattle.std.proofs.lemmas.List.Elements.{filter-append}
 use Rattle.std.proofs.lemmas.Bool.{and_left, and_right, and_parts, or_right, eqb-true}
@@ -184,10 +184,7 @@ one_kept asked true true x u xs us same this kept rest = rest
 one_kept asked true false x u xs us same this kept rest = absurd cc
 one_kept asked false true x u xs us same this kept rest = absurd cc
 one_kept asked false false x u xs us same this kept rest =
-    let others = filter (is_kept_series asked) us in
-    ap (λ (y : Usable). y ∷ xs) this
-    ∙ ap (λ (ys : List Usable). u ∷ ys) rest
-    ∙ sym (ap (λ (k : Bool). cond k (u ∷ others) others) kept)
+    rw (this, rest, kept)
 
 -- of any other none stands
 none_kept : (asked : Option Element) (b c : Bool) (x u : Usable) (xs us : List Usable) → b ≡ true
@@ -196,8 +193,7 @@ none_kept : (asked : Option Element) (b c : Bool) (x u : Usable) (xs us : List U
 none_kept asked false c x u xs us none kept rest = absurd cc
 none_kept asked true true x u xs us none kept rest = rest
 none_kept asked true false x u xs us none kept rest =
-    let others = filter (is_kept_series asked) us in
-    rest ∙ sym (ap (λ (k : Bool). cond k (u ∷ others) others) kept)
+    rw kept rest
 
 module _ (asked : Option Element) (stations : List Station) (ms : List Month) where
   -- what all months say
@@ -257,10 +253,7 @@ module _ (asked : Option Element) (stations : List Station) (ms : List Month) wh
   no_series s (e ∷ es) listed none =
       let empty : days_of facts s.id e ≡ [] = days_of-is s.id e listed
       ∙ ap (sorted_by by_day) (no_days ms s.id e none) in
-      ap (λ (ds : List DayValue). cond (not (length ds == 0))
-      (usable_of facts s e ∷ filter has_days (map (usable_of facts s) es))
-      (filter has_days (map (usable_of facts s) es))) empty
-      ∙ no_series s es listed none
+      rw empty (no_series s es listed none)
 
   -- the series of a station are those of the facts that are kept
   station_series-are : (s : Station) (gs : List Gathering) → is_listed stations s.id ≡ true
@@ -291,27 +284,14 @@ module _ (asked : Option Element) (stations : List Station) (ms : List Month) wh
 
 -- ---- what is true of them
 
--- the first station of a list is listed
-listed_among : (all : List Station) (s : Station) (more : List Station) → is_listed (s ∷ more) s.id ≡ true
-listed_among all s more = ap (λ (b : Bool). b || is_listed more s.id) (same_id-refl s.id)
-
--- a listed station stays so with one more in front
-still_listed : (s : Station) (more : List Station) (i : StationId) → is_listed more i ≡ true
-    → is_listed (s ∷ more) i ≡ true
-still_listed s more i e = or_right (same_id s.id i) (is_listed more i) e
-
--- each station of a list is listed
-each_listed : (ss : List Station) → AllByRecursion (λ s. is_listed ss s.id ≡ true) ss
-each_listed [] = tt
-each_listed (s ∷ ss) = (
-  listed_among ss s ss,
-  weaken (λ x. is_listed ss x.id ≡ true)
-      (λ x. is_listed (s ∷ ss) x.id ≡ true) ss (λ x. still_listed s ss x.id) (each_listed ss),
-)
-
 -- each station of a list is listed
 pub all_listed : (ss : List Station) → AllByRecursion (λ s. is_listed ss s.id ≡ true) ss
-all_listed ss = each_listed ss
+all_listed [] = tt
+all_listed (s ∷ ss) = (
+  rw (same_id-refl s.id),
+  weaken (λ x. is_listed ss x.id ≡ true) (λ x. is_listed (s ∷ ss) x.id ≡ true) ss
+      (λ x. or_right (same_id s.id x.id) (is_listed ss x.id)) (all_listed ss),
+)
 
 -- all series are right
 all_right : (gs : List StationGathering) → AllByRecursion (λ s. AllByRecursion IsReady s.by_element.items) gs

@@ -1,11 +1,11 @@
 -- Parts without a common day: a part more, and no day of theirs stands twice.
-use Rattle.std.proofs.Common.{◌≡◌, ℕ, zero, suc, ◌+◌, Bool, false, cond, List, [], ◌∷◌, ◌++◌, length, get_or, set}
+use Rattle.std.proofs.Common.{◌≡◌, ℕ, zero, suc, ◌+◌, false, List, [], ◌∷◌, ◌++◌, length, get_or, set}
 use Rattle.std.proofs.Common.{Option, Some, None, IsSome}
 use Rattle.std.proofs.Common.{inl, inr, refl, sym, ap, subst, ◌∙◌, arith, ℤ, pos, ◌<ℤ◌}
 use Rattle.std.specs.Prelude.{bit_or}
-use Rattle.std.specs.List.{find, IsDistinct, AllByRecursion}
+use Rattle.std.specs.List.{IsDistinct, AllByRecursion}
 use Rattle.std.specs.Map.{keys_of}
-use Rattle.std.specs.Option.{option_map, option_or}
+use Rattle.std.specs.Option.{option_or}
 use Rattle.std.specs.Ordering.{int_eq}
 use Rattle.std.proofs.lemmas.Int.{ints}
 use Rattle.std.proofs.lemmas.Bool.{false≢true}
@@ -103,10 +103,7 @@ none-is (x ∷ xs) d none = elim (same_block x.0 d) [
 pub none-from : (xs : List DayValue) (d : ℤ) → AllByRecursion (λ k. int_eq d k ≡ false) (keys_of xs)
     → value_on xs d ≡ None
 none-from [] d all = refl
-none-from (x ∷ xs) d all =
-    ap (λ (b : Bool). option_map (λ (y : DayValue). y.1) (cond b (Some x) (find (λ y. int_eq y.0 d) xs)))
-    (other-turned d x.0 all.0)
-    ∙ none-from xs d all.1
+none-from (x ∷ xs) d all = rw (other-turned d x.0 all.0) (none-from xs d all.1)
 
 -- of days in a row, of which no two are the same, the later are new
 pub new-behind : (xs ys : List DayValue) → IsDistinct int_eq (keys_of (xs ++ ys)) → AreNew xs ys

@@ -2,9 +2,9 @@
 use Rattle.std.proofs.Common.{◌≡◌, ◌≢◌, ℕ, zero, suc, ◌+◌, ◌*◌, ◌%◌, ◌<◌, ◌≤◌, ◌^◌, true, List, [], ◌∷◌, ◌++◌}
 use Rattle.std.proofs.Common.{length, get_or, Option, Some, None, inl, inr, refl, sym, ap, ◌∙◌, arith, ℤ, pos, ◌+ℤ◌}
 use Rattle.std.proofs.Common.{w32}
-use Rattle.std.specs.Prelude.{◌==◌, bit_and}
+use Rattle.std.specs.Prelude.{bit_and}
 use Rattle.std.specs.Int.{bit_at, bit_not, trailing_zeros}
-use Rattle.std.specs.List.{cons_option, filter_map, range_with_len}
+use Rattle.std.specs.List.{filter_map, range_with_len}
 use Rattle.std.proofs.lemmas.Bool.{cases_lt}
 use Rattle.std.proofs.lemmas.Nat.Bits.{bit_at-zero, bit_at-trailing_zeros, bit_at_clear_same, bit_at_clear_other}
 use Rattle.std.proofs.Common.{neg_ℤ, ◌≤ℤ◌}
@@ -13,30 +13,22 @@ use Rattle.std.specs.Iterator.{YieldsFirst, MakesProgress, item_count}
 use Rattle.std.specs.Prelude.{⊤}
 use Rattle.ghcn_fields.specs.Days.{is_day, IsBlock}
 use Rattle.ghcn_series.specs.Series.{DayValue}
-use Rattle.ghcn_series.specs.Packed.{block_start, if_so, day_at, block_days, days_from, AreDays}
-
--- the day at a place, where a bit that is read tells whether it is present
-place : ℤ → List ℤ → ℕ → ℕ → List DayValue → List DayValue
-place n vs s bit rest = cons_option (if_so (bit == 1) (block_start n +ℤ pos s, get_or vs s (pos 0))) rest
+use Rattle.ghcn_series.specs.Packed.{block_start, day_at, block_days, days_from, AreDays}
 
 -- words with the same bits at some places have the same days there
 pub same-bits : (n : ℤ) (vs : List ℤ) (w v : ℕ) (s m : ℕ) → ((i : ℕ) → s ≤ i → i < s + m → bit_at w i ≡ bit_at v i)
     → filter_map (day_at (n, (w, vs))) (range_with_len s m) ≡ filter_map (day_at (n, (v, vs))) (range_with_len s m)
-unfolding place
 same-bits n vs w v s zero same = refl
 same-bits n vs w v s (suc m) same =
-    ap (place n vs s (bit_at w s)) (same-bits n vs w v (s + 1) m (λ i le lt. same i (omega arith) (omega arith)))
-    ∙ ap (λ (bit : ℕ). place n vs s bit (filter_map (day_at (n, (v, vs))) (range_with_len (s + 1) m)))
-    (same s (omega arith) (omega arith))
+    rw (same s (omega arith) (omega arith))
+    (rw (same-bits n vs w v (s + 1) m (λ i le lt. same i (omega arith) (omega arith))))
 
 -- a word without bits at some places has no days there
 pub none-set : (n : ℤ) (vs : List ℤ) (w : ℕ) (s m : ℕ) → ((i : ℕ) → s ≤ i → i < s + m → bit_at w i ≡ 0)
     → filter_map (day_at (n, (w, vs))) (range_with_len s m) ≡ []
-unfolding place
 none-set n vs w s zero none = refl
 none-set n vs w s (suc m) none =
-    ap (place n vs s (bit_at w s)) (none-set n vs w (s + 1) m (λ i le lt. none i (omega arith) (omega arith)))
-    ∙ ap (λ (bit : ℕ). place n vs s bit []) (none s (omega arith) (omega arith))
+    rw (none s (omega arith) (omega arith)) (none-set n vs w (s + 1) m (λ i le lt. none i (omega arith) (omega arith)))
 
 -- the day of the lowest bit comes first, and those of the other bits come behind it
 pub lowest-first : (n : ℤ) (vs : List ℤ) (w v t : ℕ) (s m : ℕ) → s ≤ t → t < s + m
@@ -45,31 +37,20 @@ pub lowest-first : (n : ℤ) (vs : List ℤ) (w v t : ℕ) (s m : ℕ) → s ≤
     → ((i : ℕ) → i < s + m → i ≢ t → bit_at v i ≡ bit_at w i)
     → filter_map (day_at (n, (w, vs))) (range_with_len s m) ≡ (block_start n +ℤ pos t, get_or vs t (pos 0))
     ∷ filter_map (day_at (n, (v, vs))) (range_with_len s m)
-unfolding place
 lowest-first n vs w v t s zero le lt set cleared below other = absurd (omega arith)
 lowest-first n vs w v t s (suc m) le lt set cleared below other =
-    let first : DayValue = (block_start n +ℤ pos t, get_or vs t (pos 0)) in
     elim (cases_lt s t) [
       | inl before ↦
           let neither : bit_at w s ≡ 0 = below s before in
           let nor : bit_at v s ≡ 0 = other s (omega arith) (omega arith) ∙ neither in
-          ap (λ (bit : ℕ). place n vs s bit (filter_map (day_at (n, (w, vs))) (range_with_len (s + 1) m))) neither
-          ∙ lowest-first n vs w v t (s + 1) m (omega arith) (omega arith) set cleared below
-          (λ i less ne. other i (omega arith) ne)
-          ∙ ap (λ (bit : ℕ). first ∷ place n vs s bit (filter_map (day_at (n, (v, vs))) (range_with_len (s + 1) m)))
-          (sym nor)
+          rw (neither, nor) (lowest-first n vs w v t (s + 1) m (omega arith) (omega arith) set cleared below
+          (λ i less ne. other i (omega arith) ne))
       | inr here ↦
           let is : s ≡ t = omega arith in
           let same : filter_map (day_at (n, (w, vs))) (range_with_len (s + 1) m) ≡ filter_map (day_at (n, (v, vs)))
           (range_with_len (s + 1) m) =
           same-bits n vs w v (s + 1) m (λ i more less. sym (other i (omega arith) (omega arith))) in
-          ap (place n vs s (bit_at w s)) same
-          ∙ ap (λ (bit : ℕ). place n vs s bit (filter_map (day_at (n, (v, vs))) (range_with_len (s + 1) m)))
-          (ap (bit_at w) is ∙ set)
-          ∙ ap (λ (k : ℕ). (block_start n +ℤ pos k, get_or vs k (pos 0)) ∷ filter_map (day_at (n, (v, vs)))
-          (range_with_len (s + 1) m)) is
-          ∙ ap (λ (bit : ℕ). first ∷ place n vs s bit (filter_map (day_at (n, (v, vs))) (range_with_len (s + 1) m)))
-          (sym (ap (bit_at v) is ∙ cleared))
+          rw (same, is, set, cleared)
     ]
 
 -- a block whose word is 0 has no days

@@ -50,21 +50,14 @@ module _ (w p : ℕ) (v u r : List ℤ) (j : ℕ)
   value-joined = elim (bit_cases w j) [
     | inl absent ↦
         let bit : bit_at (bit_or w p) j ≡ bit_at p j = omega (arith, bit_at_or w p j) in
-        let mine : value_at w v j ≡ None = ap (λ (b : ℕ). if_so (b == 1) (get_or v j (pos 0))) absent in
-        ap (λ (b : ℕ). if_so (b == 1) (get_or r j (pos 0))) bit
-        ∙ ap (if_so (bit_at p j == 1)) (row.second (zeros_w absent))
-        ∙ sym (ap (λ (o : Option ℤ). option_or o (value_at p u j)) mine)
+        rw (bit, absent) (ap (if_so (bit_at p j == 1)) (row.second (zeros_w absent)))
     | inr present ↦
         let other : bit_at p j ≡ 0 = elim (bit_cases p j) [
           | inl none ↦ none
           | inr both ↦ absurd (apart present both)
         ] in
         let bit : bit_at (bit_or w p) j ≡ 1 = omega (arith, bit_at_or w p j) in
-        let mine : value_at w v j ≡ Some (get_or v j (pos 0)) = ap (λ (b : ℕ). if_so (b == 1) (get_or v j (pos 0)))
-        present in
-        ap (λ (b : ℕ). if_so (b == 1) (get_or r j (pos 0))) bit
-        ∙ ap Some (row.first (zeros_p other))
-        ∙ sym (ap (λ (o : Option ℤ). option_or o (value_at p u j)) mine)
+        rw (bit, present) (ap Some (row.first (zeros_p other)))
   ]
 
 -- days of one block that are apart
@@ -82,11 +75,8 @@ module _ (n : ℤ) (w p : ℕ) (v u r : List ℤ) (a : IsPacked (n, (w, v))) (b 
   at_places : (j : ℕ) → j < 32 → Joined (block_start n +ℤ pos j)
   unfolding Joined
   at_places j lt =
-      block-value (n, (bit_or w p, r)) j lt
-      ∙ value-joined w p v u r j (a.zeros j lt) (b.zeros j lt) (apart.apart j lt) (row j lt)
-      ∙ sym (ap (λ (o : Option ℤ). option_or o (value_on (block_days (n, (p, u))) (block_start n +ℤ pos j)))
-      (block-value (n, (w, v)) j lt)
-      ∙ ap (option_or (value_at w v j)) (block-value (n, (p, u)) j lt))
+      rw (block-value (n, (bit_or w p, r)) j lt, block-value (n, (w, v)) j lt, block-value (n, (p, u)) j lt)
+      (value-joined w p v u r j (a.zeros j lt) (b.zeros j lt) (apart.apart j lt) (row j lt))
 
   -- the joined block has the days of both
   pub block-joined : AreJoined (block_days (n, (w, v))) (block_days (n, (p, u))) (block_days (n, (bit_or w p, r)))
@@ -95,9 +85,7 @@ module _ (n : ℤ) (w p : ℕ) (v u r : List ℤ) (a : IsPacked (n, (w, v))) (b 
     | inl here ↦
         at_day Joined d (subst (λ (b : ℤ). (j : ℕ) → j < 32 → Joined (block_start b +ℤ pos j)) here at_places)
     | inr other ↦
-        block-other (n, (bit_or w p, r)) d other
-        ∙ sym (ap (λ (o : Option ℤ). option_or o (value_on (block_days (n, (p, u))) d))
-        (block-other (n, (w, v)) d other) ∙ block-other (n, (p, u)) d other)
+        rw (block-other (n, (bit_or w p, r)) d other, block-other (n, (w, v)) d other, block-other (n, (p, u)) d other)
   ]
 
   -- and is as it may be
@@ -129,19 +117,10 @@ pub last-joined : (ns : List ℤ) (ws : List ℕ) (vs : List (List ℤ)) (i : �
 last-joined [] ws vs i p r more lw lv last is d = absurd (omega arith)
 last-joined (n ∷ ns) [] vs i p r more lw lv last is d = absurd (omega arith)
 last-joined (n ∷ ns) (w ∷ ws) [] i p r more lw lv last is d = absurd (omega arith)
-last-joined (n ∷ []) (w ∷ ws) (v ∷ vs) zero p r more lw lv last is d =
-    value_on-append (block_days (n, (p, r))) [] d ∙ or_none (value_on (block_days (n, (p, r))) d) ∙ is d
-    ∙ sym (ap (λ (o : Option ℤ). option_or o (value_on more d)) (value_on-append (block_days (n, (w, v))) [] d
-    ∙ or_none (value_on (block_days (n, (w, v))) d)))
+last-joined (n ∷ []) (w ∷ ws) (v ∷ vs) zero p r more lw lv last is d = simp (value_on-append, or_none) (is d)
 last-joined (n ∷ m ∷ ns) (w ∷ ws) (v ∷ vs) zero p r more lw lv last is d = absurd (omega arith)
 last-joined (n ∷ ns) (w ∷ ws) (v ∷ vs) (suc i) p r more lw lv last is d =
-    let old : List DayValue = days_of (blocks_of ns ws vs) in
-    let new : List DayValue = days_of (blocks_of ns (set ws i p) (set vs i r)) in
-    value_on-append (block_days (n, (w, v))) new d
-    ∙ ap (option_or (value_on (block_days (n, (w, v))) d))
-    (last-joined ns ws vs i p r more (omega arith) (omega arith) (omega arith) is d)
-    ∙ or_assoc (value_on (block_days (n, (w, v))) d) (value_on old d) (value_on more d)
-    ∙ sym (ap (λ (o : Option ℤ). option_or o (value_on more d)) (value_on-append (block_days (n, (w, v))) old d))
+    simp (value_on-append, last-joined ns ws vs i p r more (omega arith) (omega arith) (omega arith) is d, or_assoc)
 
 -- and the blocks are as they may be
 pub last-packed : (ns : List ℤ) (ws : List ℕ) (vs : List (List ℤ)) (i : ℕ) (p : ℕ) (r : List ℤ)
@@ -184,13 +163,11 @@ none-at (n ∷ ns) (w ∷ ws) (v ∷ vs) (suc i) d lw lv lt none =
 
 -- joined to 0 a value stays
 or-first : (a b : ℤ) → FitsSigned w32 b → a ≡ pos 0 → to_z w32 (bit_or (of_z w32 a) (of_z w32 b)) ≡ b
-or-first a b fits e = ap (λ (z : ℤ). to_z w32 (bit_or (of_z w32 z) (of_z w32 b))) e
-    ∙ ap (to_z w32) (or_zero_l (of_z w32 b)) ∙ to_z-of_z w32 b fits
+or-first a b fits e = rw (e, or_zero_l (of_z w32 b)) (to_z-of_z w32 b fits)
 
 -- and so with the 0 behind it
 or-second : (a b : ℤ) → FitsSigned w32 a → b ≡ pos 0 → to_z w32 (bit_or (of_z w32 a) (of_z w32 b)) ≡ a
-or-second a b fits e = ap (λ (z : ℤ). to_z w32 (bit_or (of_z w32 a) (of_z w32 z))) e
-    ∙ ap (to_z w32) (or_zero_r (of_z w32 a)) ∙ to_z-of_z w32 a fits
+or-second a b fits e = rw (e, or_zero_r (of_z w32 a)) (to_z-of_z w32 a fits)
 
 -- one place more is joined
 pub joins-more : (a b both : List ℤ) (i : ℕ) → i < length both → FitsSigned w32 (get_or a i (pos 0))

@@ -1,7 +1,7 @@
 -- The last day of a word, of a block and of columns.
 use Rattle.std.proofs.Common.{◌≡◌, ℕ, zero, suc, ◌+◌, ◌-◌, ◌*◌, ◌<◌, ◌≤◌, ◌^◌, List, [], ◌∷◌, ◌++◌, length, get_or}
 use Rattle.std.proofs.Common.{Option, Some, None, inl, inr, refl, sym, ap, ◌∙◌, arith, ℤ, pos, ◌+ℤ◌}
-use Rattle.std.specs.Prelude.{◌==◌, slice_get}
+use Rattle.std.specs.Prelude.{slice_get}
 use Rattle.std.specs.Int.{bit_at}
 use Rattle.std.specs.List.{cons_option, filter_map, range_with_len}
 use Rattle.std.specs.Option.{option_map}
@@ -10,7 +10,7 @@ use Rattle.std.proofs.lemmas.List.{append-nil}
 use Rattle.std.proofs.lemmas.Option.{slice_get_within, get_or_from_slice_get}
 use Rattle.std.proofs.lemmas.Nat.Bits.{bit_at_cat_high, bit_at_above}
 use Rattle.ghcn_series.specs.Series.{DayValue}
-use Rattle.ghcn_series.specs.Packed.{Block, block_start, if_so, day_at, block_days, days_from, days_of, blocks_of}
+use Rattle.ghcn_series.specs.Packed.{Block, block_start, day_at, block_days, days_from, days_of, blocks_of}
 use Rattle.ghcn_series.specs.Packed.{AreBlocks, AreDays, IsLastOf, IsPacked}
 use Rattle.ghcn_series.proofs.FirstDays.{none-set}
 use Rattle.ghcn_series.proofs.PartsAdded.{packed-at}
@@ -57,10 +57,7 @@ last-places b t s (suc m) le lt set above = elim (cases_lt s t) [
       let is : s ≡ t = omega arith in
       let rest : filter_map (day_at b) (range_with_len (s + 1) m) ≡ [] =
       none-set b.0 b.1.1 b.1.0 (s + 1) m (λ i more less. above i (omega arith)) in
-      ap (λ (l : List DayValue). last_of (cons_option (day_at b s) l)) rest
-      ∙ ap (λ (bit : ℕ). last_of (cons_option (if_so (bit == 1) (block_start b.0 +ℤ pos s, get_or b.1.1 s (pos 0))) []))
-      (ap (bit_at b.1.0) is ∙ set)
-      ∙ ap (λ (k : ℕ). Some (block_start b.0 +ℤ pos k)) is
+      rw (rest, is, set)
 ]
 
 -- the last day of a block

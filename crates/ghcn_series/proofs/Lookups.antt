@@ -130,9 +130,8 @@ pub days-without : (bs : List Block) (day : ℤ) → ((k : ℕ) → k < length b
     → value_on (days_of bs) day ≡ None
 days-without [] day h = refl
 days-without (b ∷ bs) day h =
-    value_on-append (block_days b) (days_of bs) day
-    ∙ ap (λ (o : Option ℤ). option_or o (value_on (days_of bs) day)) (block-other b day (h 0 (omega arith)))
-    ∙ days-without bs day (λ k lt. h (suc k) (omega arith))
+    rw (value_on-append (block_days b) (days_of bs) day, block-other b day (h 0 (omega arith)))
+    (days-without bs day (λ k lt. h (suc k) (omega arith)))
 
 -- where one block alone has the day's number, the day has the value of its place there
 pub days-at : (bs : List Block) (i : ℕ) (number : ℤ) (j : ℕ) → j < 32 → i < length bs
@@ -149,10 +148,7 @@ days-at (b ∷ bs) zero number j below lt is alone =
     (block-value b j below) in
     let behind : value_on (days_of bs) day ≡ None = days-without bs day
     (λ k less e. let same : suc k ≡ zero = alone (suc k) (omega arith) (e ∙ of) in absurd (omega arith)) in
-    value_on-append (block_days b) (days_of bs) day
-    ∙ ap (option_or (value_on (block_days b) day)) behind
-    ∙ or_none (value_on (block_days b) day)
-    ∙ here
+    rw (value_on-append (block_days b) (days_of bs) day, behind, or_none (value_on (block_days b) day)) here
 days-at (b ∷ bs) (suc i) number j below lt is alone =
     let day : ℤ = block_start number +ℤ pos j in
     let of : block_of day ≡ number = block-of_place number j below in

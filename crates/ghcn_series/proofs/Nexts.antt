@@ -79,18 +79,14 @@ reached b x = int_le b (block_of x.0)
 first-reached : (b n : ℤ) (xs ys : List DayValue) → AreOf n xs → 0 < length xs → int_le b n ≡ true
     → option_map (λ x. block_of x.0) (find (reached b) (xs ++ ys)) ≡ Some n
 first-reached b n [] ys all some hit = absurd (omega arith)
-first-reached b n (x ∷ xs) ys all some hit =
-    let passes : reached b x ≡ true = ap (int_le b) all.0 ∙ hit in
-    ap (λ (t : Bool). option_map (λ (y : DayValue). block_of y.0) (cond t (Some x) (find (reached b) (xs ++ ys))))
-    passes ∙ ap Some all.0
+first-reached b n (x ∷ xs) ys all some hit = rw (all.0, hit) (ap Some all.0)
 
 -- where it isn't, its days are passed over
 none-reached : (b n : ℤ) (xs ys : List DayValue) → AreOf n xs → int_le b n ≡ false → find (reached b) (xs ++ ys)
     ≡ find (reached b) ys
 none-reached b n [] ys all missed = refl
 none-reached b n (x ∷ xs) ys all missed =
-    let fails : reached b x ≡ false = ap (int_le b) all.0 ∙ missed in
-    ap (λ (t : Bool). cond t (Some x) (find (reached b) (xs ++ ys))) fails ∙ none-reached b n xs ys all.1 missed
+    rw (all.0, missed) (none-reached b n xs ys all.1 missed)
 
 -- the next block of some days is found among the numbers of their blocks
 pub next-of_numbers : (b : ℤ) (bs : List Block) → AllByRecursion IsPacked bs → next_block (days_of bs) b
@@ -112,7 +108,7 @@ found-at_partition b [] i parted = refl
 found-at_partition b (n ∷ ns) zero parted =
     let above : int_lt n b ≡ false = parted.1 0 (pos 0) (omega arith) (omega arith) in
     let hit : int_le b n ≡ true = grind (arith, ints) in
-    sym (ap (λ (t : Bool). cond t (Some n) (find (int_le b) ns)) hit)
+    rw hit
 found-at_partition b (n ∷ ns) (suc i) parted =
     let below : int_lt n b ≡ true = parted.0 0 (pos 0) (omega arith) (omega arith) in
     let missed : int_le b n ≡ false = grind (arith, ints) in

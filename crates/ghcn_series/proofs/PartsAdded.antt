@@ -1,6 +1,6 @@
 -- Parts that are joined or pushed.
 use Rattle.std.proofs.Common.{◌≡◌, ℕ, ◌+◌, ◌-◌, ◌<◌, true, List, [], ◌∷◌, ◌++◌, length, get_or}
-use Rattle.std.proofs.Common.{set, Option, Some, None, IsSome, inl, inr, refl, sym, ap, subst, ◌∙◌, arith, ℤ, pos, ◌+ℤ◌}
+use Rattle.std.proofs.Common.{set, Some, None, IsSome, inl, inr, refl, sym, ap, subst, ◌∙◌, arith, ℤ, pos, ◌+ℤ◌}
 use Rattle.std.proofs.Common.{◌<ℤ◌}
 use Rattle.std.specs.Prelude.{◌==◌, ◌||◌, bit_or, int_lt}
 use Rattle.std.specs.List.{AllByRecursion}
@@ -24,13 +24,8 @@ use Rattle.ghcn_series.proofs.JoinedDays.{pushed-blocks, none-at, or_assoc}
 -- the days of a block more
 pub days-pushed : (bs : List Block) (b : Block) (d : ℤ) → value_on (days_of (bs ++ b ∷ [])) d
     ≡ option_or (value_on (days_of bs) d) (value_on (block_days b) d)
-days-pushed [] b d = value_on-append (block_days b) [] d ∙ or_none (value_on (block_days b) d)
-days-pushed (x ∷ xs) b d =
-    value_on-append (block_days x) (days_of (xs ++ b ∷ [])) d
-    ∙ ap (option_or (value_on (block_days x) d)) (days-pushed xs b d)
-    ∙ or_assoc (value_on (block_days x) d) (value_on (days_of xs) d) (value_on (block_days b) d)
-    ∙ sym (ap (λ (o : Option ℤ). option_or o (value_on (block_days b) d))
-    (value_on-append (block_days x) (days_of xs) d))
+days-pushed [] b d = simp (value_on-append, or_none)
+days-pushed (x ∷ xs) b d = simp (value_on-append, days-pushed xs b d, or_assoc)
 
 -- a number after the last one is greater than it
 last_less : (k : ℕ) (last n : ℤ) → (k == 0 || int_lt last n) ≡ true → 0 < k → last <ℤ n

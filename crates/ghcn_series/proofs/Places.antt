@@ -55,10 +55,7 @@ pub place_of-at : (ss : List Station) (k : ℕ) (s : Station) (id : StationId) �
     → slice_get ss k ≡ Some s → s.id ≡ id → place_of ss id ≡ Some k
 place_of-at ss k s id apart at of =
     let first = first_place ss k s apart at in
-    let place : place_of ss s.id ≡ Some k =
-    ap (λ (n : ℕ). cond (nat_lt n (length ss)) (Some n) None) first.0
-    ∙ ap (λ (b : Bool). cond b (Some k) None) (lt-ltb k (length ss) first.1) in
-    ap (place_of ss) (sym of) ∙ place
+    rw (← of, first.0, lt-ltb k (length ss) first.1)
 
 -- both numbers may be one greater
 lt_next : (n m : ℕ) → nat_lt (1 + n) (suc m) ≡ nat_lt n m

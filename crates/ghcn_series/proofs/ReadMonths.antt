@@ -2,7 +2,7 @@
 use Rattle.std.proofs.Common.{◌≡◌, ℕ, zero, suc, ◌+◌, ◌<◌, Bool, true, false, cond, not, List, [], ◌∷◌, ◌++◌, length}
 use Rattle.std.proofs.Common.{take, get_or, Result, Ok, Err, Option, None, Some, refl, sym, ap, ◌∙◌, arith, subst}
 use Rattle.std.proofs.Common.{add-zero, zero-add}
-use Rattle.std.specs.Prelude.{◌&&◌, ◌||◌, OnOk}
+use Rattle.std.specs.Prelude.{◌&&◌, OnOk}
 use Rattle.std.specs.Bool.{OnTrue}
 use Rattle.std.specs.List.{list_any, slice_get, count_by, AllZip, AllByRecursion, IsDistinct}
 use Rattle.std.proofs.Math.ListN.{set}
@@ -36,10 +36,7 @@ use Rattle.ghcn_files.specs.IdLaws.{same_id-turned}
 -- a station without a month has none after another's
 none_more : (before : List Month) (m : Month) (id : StationId) → same_id m.id id ≡ false
     → list_any (λ x. same_id x.id id) before ≡ false → list_any (λ x. same_id x.id id) (before ++ m ∷ []) ≡ false
-none_more before m id other none =
-    list_any-append (λ x. same_id x.id id) before (m ∷ [])
-    ∙ ap (λ (b : Bool). b || (same_id m.id id || false)) none
-    ∙ ap (λ (b : Bool). b || false) other
+none_more before m id other none = rw (list_any-append (λ x. same_id x.id id) before (m ∷ []), none, other)
 
 -- a month of another station changes no gathering of a station
 station-other : (asked : Option Element) (before : List Month) (m : Month) (s : Station) (g : StationGathering)
@@ -152,11 +149,7 @@ read-listed old new m k g now added place here same adds element stations unlist
       OnTrue_from added _ (λ yes. record {
         listed = rw stations is.listed;
         right = both_all IsMonth before (m ∷ []) is.right (right, tt);
-        unlisted =
-            unlisted ∙ is.unlisted
-            ∙ ap in_64_bits (sym (add-zero (unlisted_months old.stations before))
-            ∙ sym (count_more old.stations before m true at.1))
-            ∙ ap (λ (ss : List Station). in_64_bits (unlisted_months ss (before ++ m ∷ []))) (sym stations);
+        unlisted = rw (stations, count_more old.stations before m true at.1, add-zero) (unlisted ∙ is.unlisted);
         gathered = rw (element, stations, gathered) (put_station old.element before m old.stations old.gathered.items k
             at.0.0 g now is.listed.distinct at.0.1 at.0.2 is.gathered here same
             (λ _. OnTrue_at yes (adds.holds before station.holds)));
@@ -178,10 +171,8 @@ read-unlisted old new m none element stations gathered spare unlisted before rig
         listed = rw stations is.listed;
         right = both_all IsMonth before (m ∷ []) is.right (right, tt);
         unlisted =
-            unlisted ∙ ap (λ (n : ℕ). in_64_bits (n + 1)) is.unlisted
-            ∙ capped (unlisted_months old.stations before)
-            ∙ ap in_64_bits (sym (count_more old.stations before m false none))
-            ∙ ap (λ (ss : List Station). in_64_bits (unlisted_months ss (before ++ m ∷ []))) (sym stations);
+            rw (stations, count_more old.stations before m false none, unlisted, is.unlisted)
+            (capped (unlisted_months old.stations before));
         gathered = rw (element, stations, gathered) kept;
         spare = rw spare is.spare;
       },

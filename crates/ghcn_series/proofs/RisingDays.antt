@@ -1,11 +1,9 @@
 -- Days of blocks in order rise, and rising days are told by their values alone.
-use Rattle.std.proofs.Common.{◌≡◌, ℕ, zero, suc, ◌+◌, ◌<◌, Bool, true, false, cond, List, [], ◌∷◌, ◌++◌, length, get_or}
+use Rattle.std.proofs.Common.{◌≡◌, ℕ, zero, suc, ◌+◌, ◌<◌, Bool, true, false, List, [], ◌∷◌, ◌++◌, length, get_or}
 use Rattle.std.proofs.Common.{Some, None, refl, sym, ap, subst, ◌∙◌, arith, ℤ, pos, ◌+ℤ◌, ◌<ℤ◌, ◌≤ℤ◌}
 use Rattle.std.specs.Prelude.{◌==◌}
 use Rattle.std.specs.Int.{bit_at}
-use Rattle.std.specs.List.{cons_option, filter_map, find, range_with_len, AllByRecursion}
-use Rattle.std.specs.Option.{option_map}
-use Rattle.std.specs.Ordering.{int_eq}
+use Rattle.std.specs.List.{cons_option, filter_map, range_with_len, AllByRecursion}
 use Rattle.std.proofs.Common.{inl, inr}
 use Rattle.std.proofs.lemmas.Int.{ints, by_lt_z}
 use Rattle.std.proofs.lemmas.Option.{none-some, same_Some}
@@ -104,13 +102,11 @@ columns-rise ns ws vs cols = blocks-rise (blocks_of ns ws vs) (λ i j lt in_rang
 
 -- the first of other days is passed over
 pub behind : (x : DayValue) (xs : List DayValue) (d : ℤ) → (x.0 ≡ d → ⊥) → value_on (x ∷ xs) d ≡ value_on xs d
-behind x xs d other = ap (λ (b : Bool). option_map (λ (y : DayValue). y.1)
-    (cond b (Some x) (find (λ y. int_eq y.0 d) xs))) (int_eq-no x.0 d other)
+behind x xs d other = rw (int_eq-no x.0 d other)
 
 -- the first day has its value
 pub front : (x : DayValue) (xs : List DayValue) → value_on (x ∷ xs) x.0 ≡ Some x.1
-front x xs = ap (λ (b : Bool). option_map (λ (y : DayValue). y.1) (cond b (Some x) (find (λ y. int_eq y.0 x.0) xs)))
-    (int_eq-yes x.0 x.0 refl)
+front x xs = rw (int_eq-yes x.0 x.0 refl)
 
 -- a day before all has no value
 before_all : (xs : List DayValue) (d : ℤ) → AllByRecursion (λ y. d <ℤ y.0) xs → value_on xs d ≡ None

@@ -1,7 +1,7 @@
 -- The series of a station and an element, in the list at its place.
 use Rattle.std.proofs.Common.{◌≡◌, ℕ, zero, suc, ◌+◌, ◌≤◌, get_or, Bool, true, false, cond, not, List, [], ◌∷◌}
 use Rattle.std.proofs.Common.{length, map, Option, None, Some, refl, sym, ap, ◌∙◌, subst, arith}
-use Rattle.std.specs.Prelude.{◌&&◌, nat_lt}
+use Rattle.std.specs.Prelude.{nat_lt}
 use Rattle.std.specs.List.{find, slice_get, position_or_len, IsDistinct, AllByRecursion, AllZip}
 use Rattle.std.specs.Option.{option_or, option_and_then, option_map}
 use Rattle.std.proofs.lemmas.Bool.Decides.{nat_tests}
@@ -14,7 +14,6 @@ use Rattle.ghcn_files.specs.declared.station.StationId.{StationId}
 use Rattle.ghcn_files.specs.declared.station.Station.{Station}
 use Rattle.ghcn_files.specs.declared.element.Element.{Element}
 use Rattle.ghcn_files.specs.Ids.{same_id}
-use Rattle.ghcn_files.specs.Elements.{same_element}
 use Rattle.ghcn_files.specs.Listed.{is_station_of, place_of}
 use Rattle.ghcn_series.specs.Series.{Usable, Contents, is_series_of, series_of}
 use Rattle.ghcn_series.specs.Held.{all_of, is_of_element}
@@ -26,17 +25,13 @@ use Rattle.ghcn_series.proofs.ListFacts.{both_all}
 find_own : (id : StationId) (e : Element) (us : List Usable) → AllByRecursion (λ u. same_id u.id id ≡ true) us
     → find (is_series_of id e) us ≡ find (is_of_element e) us
 find_own id e [] own = refl
-find_own id e (u ∷ us) own =
-    ap (λ (b : Bool). cond (b && same_element u.element e) (Some u) (find (is_series_of id e) us)) own.0
-    ∙ ap (λ (o : Option Usable). cond (same_element u.element e) (Some u) o) (find_own id e us own.1)
+find_own id e (u ∷ us) own = rw (own.0, find_own id e us own.1)
 
 -- among the series of other stations there is none
 find_none : (id : StationId) (e : Element) (us : List Usable) → AllByRecursion (λ u. same_id u.id id ≡ false) us
     → find (is_series_of id e) us ≡ None
 find_none id e [] other = refl
-find_none id e (u ∷ us) other =
-    ap (λ (b : Bool). cond (b && same_element u.element e) (Some u) (find (is_series_of id e) us)) other.0
-    ∙ find_none id e us other.1
+find_none id e (u ∷ us) other = rw other.0 (find_none id e us other.1)
 
 -- each list has the series of its station
 abbrev pub AreOwn : List Station → List (List Usable) → Type 0

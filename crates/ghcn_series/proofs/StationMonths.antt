@@ -32,8 +32,7 @@ pub months_of-none : (months : List Month) (id : StationId) (e : Element) → li
 months_of-none [] id e none = refl
 months_of-none (m ∷ ms) id e none =
     let both = or_parts (same_id m.id id) (list_any (λ m. same_id m.id id) ms) none in
-    ap (λ (b : Bool). cond (b && same_element m.element e) (m ∷ months_of ms id e) (months_of ms id e)) both.0
-    ∙ months_of-none ms id e both.1
+    rw both.0 (months_of-none ms id e both.1)
 
 -- gatherings of nothing fit a station without a month
 empty_zip : (asked : Option Element) (months : List Month) (id : StationId) (gs : List Gathering) (es : List Element)
@@ -67,17 +66,15 @@ same_element-turned a b = nat_eq_equiv.symm (element_index a) (element_index b)
 pub months_of-other : (before : List Month) (m : Month) (id : StationId) (e : Element)
     → (same_id m.id id && same_element m.element e) ≡ false → months_of (before ++ m ∷ []) id e ≡ months_of before id e
 months_of-other before m id e other =
-    filter-append (λ x. same_id x.id id && same_element x.element e) before (m ∷ [])
-    ∙ ap (λ (b : Bool). months_of before id e ++ cond b (m ∷ []) []) other
-    ∙ append-nil (months_of before id e)
+    rw (filter-append (λ x. same_id x.id id && same_element x.element e) before (m ∷ []), other)
+    (append-nil (months_of before id e))
 
 -- and one more of its own
 months_of-this : (before : List Month) (m : Month) (id : StationId) (e : Element)
     → (same_id m.id id && same_element m.element e) ≡ true → months_of (before ++ m ∷ []) id e ≡ months_of before id e
     ++ m ∷ []
 months_of-this before m id e this =
-    filter-append (λ x. same_id x.id id && same_element x.element e) before (m ∷ [])
-    ∙ ap (λ (b : Bool). months_of before id e ++ cond b (m ∷ []) []) this
+    rw (filter-append (λ x. same_id x.id id && same_element x.element e) before (m ∷ []), this)
 
 -- a month of another station or element changes no gathering
 pub gathering-other : (asked : Option Element) (before : List Month) (m : Month) (id : StationId) (g : Gathering)
@@ -102,10 +99,7 @@ other_elements asked before m id (g ∷ gs) (e ∷ es) other is = (
 same_here : (m : Month) (id : StationId) (e : Element) → m.id ≡ id → e ≡ m.element
     → (same_id m.id id && same_element m.element e) ≡ true
 same_here m id e of at =
-    ap (λ (i : StationId). same_id m.id i && same_element m.element e) (sym of)
-    ∙ ap (λ (f : Element). same_id m.id m.id && same_element m.element f) at
-    ∙ ap (λ (b : Bool). b && same_element m.element m.element) (nat_list_eq_equiv.refl m.id.0)
-    ∙ nat_eq_equiv.refl (element_index m.element)
+    rw (← of, at, nat_list_eq_equiv.refl m.id.0) (nat_eq_equiv.refl (element_index m.element))
 
 -- a gathering with one month more, among those of other elements
 put_gathering : (asked : Option Element) (before : List Month) (m : Month) (id : StationId) (gs : List Gathering)
@@ -182,15 +176,12 @@ any_if p false e x xs = refl
 pub repeats-is : (before : List Month) (m : Month) → list_any (same_month m) before
     ≡ list_any (same_time m) (months_of before m.id m.element)
 repeats-is [] m = refl
-repeats-is (x ∷ xs) m =
-    ap (λ (b : Bool). b || list_any (same_month m) xs)
-    (and_assoc (same_id m.id x.id && same_element m.element x.element) (m.year == x.year) (m.month == x.month))
-    ∙ ap (λ (b : Bool). b && same_element m.element x.element && same_time m x || list_any (same_month m) xs)
-    (same_id-turned m.id x.id)
-    ∙ ap (λ (b : Bool). same_id x.id m.id && b && same_time m x || list_any (same_month m) xs)
-    (same_element-turned m.element x.element)
-    ∙ ap (λ (b : Bool). same_id x.id m.id && same_element x.element m.element && same_time m x || b) (repeats-is xs m)
-    ∙ any_if (same_time m) (same_id x.id m.id) (same_element x.element m.element) x (months_of xs m.id m.element)
+repeats-is (x ∷ xs) m = rw (
+  and_assoc (same_id m.id x.id && same_element m.element x.element) (m.year == x.year) (m.month == x.month),
+  same_id-turned m.id x.id,
+  same_element-turned m.element x.element,
+  repeats-is xs m,
+) (any_if (same_time m) (same_id x.id m.id) (same_element x.element m.element) x (months_of xs m.id m.element))
 
 -- five gatherings are gatherings by element
 kept_by_element : (asked : Option Element) (months : List Month) (id : StationId) (gs : List Gathering)
