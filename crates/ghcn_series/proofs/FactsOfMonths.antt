@@ -1,10 +1,11 @@
 -- The facts that count, of one station and element, are the usable days of its months.
 use Rattle.std.proofs.Common.{◌≡◌, ℕ, Bool, true, false, cond, List, [], ◌∷◌, ◌++◌, map, filter, Option, None, Some}
-use Rattle.std.proofs.Common.{refl, sym, ap, ◌∙◌, ℤ, pos}
+use Rattle.std.proofs.Common.{refl, ap, subst, ◌∙◌, ℤ, pos}
 use Rattle.std.specs.Prelude.{◌&&◌, ◌||◌, int_le}
 use Rattle.std.specs.List.{filter_map, flat_map, enumerate_from, cons_option}
 use Rattle.std.specs.Option.{option_and_then}
 use Rattle.std.proofs.lemmas.List.{map-append}
+use Rattle.std.proofs.lemmas.Option.{same_Some}
 use Rattle.std.proofs.lemmas.List.Elements.{filter-append}
 use Rattle.std.proofs.lemmas.Bool.{and_parts}
 use Rattle.ghcn_files.specs.declared.station.StationId.{StationId}
@@ -21,19 +22,16 @@ use Rattle.ghcn_series.specs.Gathered.{counted, usable_day, usable_days, months_
 use Rattle.ghcn_files.specs.IdLaws.{same_id-is}
 
 -- a fact is of its month's station and element
-OfMonth : Month → Fact → Type 0
+abbrev OfMonth : Month → Fact → Type 0
 OfMonth m f = (f.id ≡ m.id) × (f.element ≡ m.element)
 
 -- a fact of a month has its station, element, day and value
 of_month : (m : Month) (b : Bool) (o v : Option ℤ) (f : Fact) → fact_if m b o v ≡ Some f → OfMonth m f
-unfolding OfMonth
 of_month m true o v f e = absurd cc
 of_month m false None v f e = absurd cc
 of_month m false (Some n) None f e = absurd cc
 of_month m false (Some n) (Some v) f e =
-    let this : Fact = record { id = m.id; element = m.element; day = n; value = v } in
-    let same : this ≡ f = cc in
-    (ap (λ (x : Fact). x.id) (sym same), ap (λ (x : Fact). x.element) (sym same))
+    subst (OfMonth m) (same_Some (record { id = m.id; element = m.element; day = n; value = v }) f e) (refl, refl)
 
 module _ (stations : List Station) (id : StationId) (e : Element) where
   -- the fact is of this station and element
@@ -51,18 +49,14 @@ module _ (stations : List Station) (id : StationId) (e : Element) where
   -- what is selected of two lists is that of both
   selected-append : (xs ys : List Fact) → selected (xs ++ ys) ≡ selected xs ++ selected ys
   selected-append xs ys =
-      ap (λ fs. map pair (filter is_of fs)) (filter-append (is_usable stations) xs ys)
-      ∙ ap (map pair) (filter-append is_of (filter (is_usable stations) xs) (filter (is_usable stations) ys))
-      ∙ map-append pair (filter is_of (filter (is_usable stations) xs)) (filter is_of (filter (is_usable stations) ys))
+      simp (filter-append, map-append)
 
   -- a fact of the station and element is selected where it counts
-  one_selected : (u c : Bool) (f : Fact) (fs : List Fact) → u ≡ c → is_of f ≡ true
-      → map pair (filter is_of (cond u (f ∷ fs) fs)) ≡ cons_option (cond c (Some (pair f)) None)
+  one_selected : (c : Bool) (f : Fact) (fs : List Fact) → is_of f ≡ true
+      → map pair (filter is_of (cond c (f ∷ fs) fs)) ≡ cons_option (cond c (Some (pair f)) None)
       (map pair (filter is_of fs))
-  one_selected true true f fs same of = ap (λ b. map pair (cond b (f ∷ filter is_of fs) (filter is_of fs))) of
-  one_selected true false f fs same of = absurd cc
-  one_selected false true f fs same of = absurd cc
-  one_selected false false f fs same of = refl
+  one_selected true f fs of = ap (λ b. map pair (cond b (f ∷ filter is_of fs) (filter is_of fs))) of
+  one_selected false f fs of = refl
 
   -- a fact of another isn't
   none_selected : (u : Bool) (f : Fact) (fs : List Fact) → is_of f ≡ false
@@ -72,15 +66,12 @@ module _ (stations : List Station) (id : StationId) (e : Element) where
 
   -- a fact is of a station and element where its month is
   is_of-month : (m : Month) (f : Fact) → OfMonth m f → is_of f ≡ (same_id m.id id && same_element m.element e)
-  unfolding OfMonth
-  is_of-month m f of = ap (λ (i : StationId). same_id i id && same_element f.element e) of.0
-      ∙ ap (λ (x : Element). same_id m.id id && same_element x e) of.1
+  is_of-month m f of = rw (of.0, of.1) refl
 
   -- of a month of the station and element
   selected-this : (m : Month) (xs : List (ℕ × Reading)) → is_listed stations id ≡ true
       → (same_id m.id id && same_element m.element e) ≡ true → selected (filter_map (fact_of m) xs)
       ≡ filter_map (usable_day m) xs
-  unfolding OfMonth
   selected-this m [] listed this = refl
   selected-this m (x ∷ xs) listed this =
       elim (fact_of m x) as (λ o. fact_of m x ≡ o → selected (cons_option o (filter_map (fact_of m) xs))
@@ -90,16 +81,14 @@ module _ (stations : List Station) (id : StationId) (e : Element) where
             let of = of_month m x.1.flagged _ x.1.value f is in
             let same : m.id ≡ id = same_id-is m.id id (and_parts (same_id m.id id) (same_element m.element e) this).0 in
             let known : is_listed stations f.id ≡ true = ap (is_listed stations) (of.0 ∙ same) ∙ listed in
-            let counts : Bool = may_be_negative f.element || int_le (pos 0) f.value in
-            one_selected (is_usable stations f) counts f (filter (is_usable stations) (filter_map (fact_of m) xs))
-            (ap (λ (b : Bool). b && counts) known) (is_of-month m f of ∙ this)
-            ∙ ap (λ ds. cons_option (cond counts (Some (pair f)) None) ds) (selected-this m xs listed this)
+            rw (known, ← selected-this m xs listed this)
+            (one_selected (may_be_negative f.element || int_le (pos 0) f.value) f
+            (filter (is_usable stations) (filter_map (fact_of m) xs)) (is_of-month m f of ∙ this))
       ] refl
 
   -- of any other month
   selected-other : (m : Month) (xs : List (ℕ × Reading)) → (same_id m.id id && same_element m.element e) ≡ false
       → selected (filter_map (fact_of m) xs) ≡ []
-  unfolding OfMonth
   selected-other m [] other = refl
   selected-other m (x ∷ xs) other =
       elim (fact_of m x) as (λ o. fact_of m x ≡ o → selected (cons_option o (filter_map (fact_of m) xs)) ≡ []) [
@@ -120,9 +109,6 @@ module _ (stations : List Station) (id : StationId) (e : Element) where
       ∙ elim (same_id m.id id && same_element m.element e) as (λ b. (same_id m.id id && same_element m.element e) ≡ b
       → selected (facts_of m) ++ selected (flat_map facts_of ms)
       ≡ flat_map usable_days (cond b (m ∷ months_of ms id e) (months_of ms id e))) [
-        | true ↦ λ this. ap (λ ds. ds ++ selected (flat_map facts_of ms))
-            (selected-this m (enumerate_from 1 m.days) listed this)
-            ∙ ap (λ ds. usable_days m ++ ds) (selected-months ms listed)
-        | false ↦ λ other. ap (λ ds. ds ++ selected (flat_map facts_of ms))
-            (selected-other m (enumerate_from 1 m.days) other) ∙ selected-months ms listed
+        | true ↦ λ this. rw (selected-this m (enumerate_from 1 m.days) listed this, selected-months ms listed) refl
+        | false ↦ λ other. rw (selected-other m (enumerate_from 1 m.days) other) (selected-months ms listed)
       ] refl

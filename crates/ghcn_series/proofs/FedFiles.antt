@@ -1,7 +1,7 @@
 -- Whole files that are fed, one after the other.
 use Rattle.std.proofs.Common.{◌≡◌, ℕ, ◌+◌, ◌<◌, ◌≤◌, ◌^◌, List, [], ◌∷◌, ◌++◌, length, Option}
 use Rattle.std.proofs.Common.{take, drop, get_or, Bor, refl}
-use Rattle.std.proofs.Common.{sym, ap, ◌∙◌, arith}
+use Rattle.std.proofs.Common.{ap, ◌∙◌, arith}
 use Rattle.std.proofs.lemmas.List.{append-nil, take-append-drop, take_more, get_or-map}
 use Rattle.ghcn_files.specs.declared.station.Station.{Station}
 use Rattle.ghcn_files.specs.declared.element.Element.{Element}
@@ -29,6 +29,16 @@ texts-more files i d lt =
     take_more (texts files) i [] (omega (arith, lt, length-texts files))
     ∙ ap (λ t. take i (texts files) ++ t ∷ []) (get_or-map (λ f. f.now) files i d [] lt)
 
+-- the fault at a file's end
+pub told_at_file : (stations : List Station) (files : List (Bor (List ℕ))) (i : ℕ) (d : Bor (List ℕ)) (f : DataFault)
+    → i < length files → length files ≤ 2 ^ 20
+    → IsToldOf stations (take i (texts files) ++ (get_or files i d).now ∷ []) f
+    → IsRefusal is_memory f (data_of stations (texts files))
+told_at_file stations files i d f lt few told =
+    told_all stations (take i (texts files) ++ (get_or files i d).now ∷ []) (drop (i + 1) (texts files)) (texts files) f
+    (rw (← texts-more files i d lt) (take-append-drop (i + 1) (texts files)))
+    (omega (arith, length-texts files, few)) told
+
 -- the fault of a file's piece that is the whole of it
 pub told_in_file : (stations : List Station) (files : List (Bor (List ℕ))) (i : ℕ) (d : Bor (List ℕ)) (f : DataFault)
     → i < length files → length files ≤ 2 ^ 20
@@ -42,20 +52,5 @@ told_in_file stations files i d f lt few told =
     → IsToldOf stations (and_current (take i (texts files)) t) f → IsRefusal is_memory f (data_of stations (texts files))) [
       | [] ↦ λ empty here. told_all stations (take i (texts files)) (drop i (texts files)) (texts files) f
           (take-append-drop i (texts files)) le here
-      | b ∷ bs ↦ λ some here.
-          told_all stations (take i (texts files) ++ (b ∷ bs) ∷ []) (drop (i + 1) (texts files)) (texts files) f
-          (ap (λ (t : List ℕ). (take i (texts files) ++ t ∷ []) ++ drop (i + 1) (texts files)) (sym some)
-          ∙ ap (λ (fs : List (List ℕ)). fs ++ drop (i + 1) (texts files)) (sym (texts-more files i d lt))
-          ∙ take-append-drop (i + 1) (texts files)) le here
+      | b ∷ bs ↦ λ some here. told_at_file stations files i d f lt few (rw some here)
     ] refl of
-
--- the fault at a file's end
-pub told_at_file : (stations : List Station) (files : List (Bor (List ℕ))) (i : ℕ) (d : Bor (List ℕ)) (f : DataFault)
-    → i < length files → length files ≤ 2 ^ 20
-    → IsToldOf stations (take i (texts files) ++ (get_or files i d).now ∷ []) f
-    → IsRefusal is_memory f (data_of stations (texts files))
-told_at_file stations files i d f lt few told =
-    told_all stations (take i (texts files) ++ (get_or files i d).now ∷ []) (drop (i + 1) (texts files)) (texts files) f
-    (ap (λ (fs : List (List ℕ)). fs ++ drop (i + 1) (texts files)) (sym (texts-more files i d lt))
-    ∙ take-append-drop (i + 1) (texts files))
-    (omega (arith, length-texts files, few)) told

@@ -1,42 +1,29 @@
 -- The lines of files, of which one more line or file has come.
 use Rattle.std.proofs.Common.{◌≡◌, ℕ, ◌+◌, List, [], ◌∷◌, ◌++◌, length}
-use Rattle.std.proofs.Common.{map, filter}
-use Rattle.std.proofs.Common.{ap, ◌∙◌, arith}
-use Rattle.std.specs.Prelude.{not}
+use Rattle.std.proofs.Common.{ap, arith}
 use Rattle.std.specs.List.{flat_map, enumerate_from}
 use Rattle.std.proofs.lemmas.List.{append-nil, map-append}
 use Rattle.std.proofs.lemmas.List.Elements.{filter-append}
 use Rattle.std.proofs.lemmas.Grind.{flat_map-append}
-use Rattle.ghcn_fields.specs.Bytes.{is_blank}
-use Rattle.ghcn_fields.specs.Lines.{lines, numbered_lines, EndsLine}
+use Rattle.ghcn_fields.specs.Lines.{lines, EndsLine}
 use Rattle.ghcn_fields.specs.LineLaws.{numbered_lines-append}
 use Rattle.ghcn_fields.specs.LineLaws.{enumerate_from-append}
-use Rattle.ghcn_series.specs.DailyFaults.{FileLine, line_of, not_blank, file_lines, daily_lines}
-
--- lines of a file that aren't blank, one after the other
-not_blank-append : (file : ℕ) (xs ys : List (ℕ × List ℕ))
-    → not_blank file (xs ++ ys) ≡ not_blank file xs ++ not_blank file ys
-not_blank-append file xs ys =
-    let line : ℕ × List ℕ → FileLine = line_of file in
-    ap (map line) (filter-append (λ l. not (is_blank l.1)) xs ys)
-    ∙ map-append line (filter (λ l. not (is_blank l.1)) xs) (filter (λ l. not (is_blank l.1)) ys)
+use Rattle.ghcn_series.specs.DailyFaults.{FileLine, not_blank, file_lines, daily_lines}
 
 -- the lines of a file, of which the first part ends a line
 pub file_lines-append : (file : ℕ) (whole tail : List ℕ) → EndsLine whole
     → file_lines (file, whole ++ tail) ≡ file_lines (file, whole) ++ not_blank file
     (enumerate_from (1 + length (lines whole)) (lines tail))
 file_lines-append file whole tail ends =
-    ap (not_blank file) (numbered_lines-append whole tail ends)
-    ∙ not_blank-append file (numbered_lines whole) (enumerate_from (1 + length (lines whole)) (lines tail))
+    rw (numbered_lines-append whole tail ends) (simp (filter-append, map-append))
 
 -- and whose other part is one line
 pub file_lines-one : (file : ℕ) (whole tail line : List ℕ) → EndsLine whole → lines tail ≡ line ∷ []
     → file_lines (file, whole ++ tail) ≡ file_lines (file, whole) ++ not_blank file
     ((length (lines whole) + 1, line) ∷ [])
 file_lines-one file whole tail line ends one =
-    file_lines-append file whole tail ends
-    ∙ ap (λ ls. file_lines (file, whole) ++ not_blank file (enumerate_from (1 + length (lines whole)) ls)) one
-    ∙ ap (λ n. file_lines (file, whole) ++ not_blank file ((n, line) ∷ [])) (omega arith)
+    rw (file_lines-append file whole tail ends, one)
+    (ap (λ n. file_lines (file, whole) ++ not_blank file ((n, line) ∷ [])) (omega arith))
 
 -- the lines of files from a number on
 pub lines_from : ℕ → List (List ℕ) → List FileLine
@@ -47,14 +34,12 @@ pub daily_lines-append : (files others : List (List ℕ))
     → daily_lines (files ++ others) ≡ daily_lines files ++ lines_from (1 + length files) others
 unfolding lines_from
 daily_lines-append files others =
-    ap (flat_map file_lines) (enumerate_from-append 1 files others)
-    ∙ flat_map-append file_lines (enumerate_from 1 files) (enumerate_from (1 + length files) others)
+    simp (enumerate_from-append, flat_map-append)
 
 -- the lines of one file more
 pub daily_lines-one : (files : List (List ℕ)) (file : List ℕ)
     → daily_lines (files ++ file ∷ []) ≡ daily_lines files ++ file_lines (length files + 1, file)
 unfolding lines_from
 daily_lines-one files file =
-    daily_lines-append files (file ∷ [])
-    ∙ ap (λ ls. daily_lines files ++ ls) (append-nil (file_lines (1 + length files, file)))
-    ∙ ap (λ n. daily_lines files ++ file_lines (n, file)) (omega arith)
+    rw (daily_lines-append files (file ∷ []))
+    (simp append-nil (ap (λ n. daily_lines files ++ file_lines (n, file)) (omega arith)))

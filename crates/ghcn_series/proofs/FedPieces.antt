@@ -1,18 +1,15 @@
 -- A reader that was fed one line more, one file's end more, or part of a line.
 use Rattle.std.specs.Prelude.{◌||◌, nat_lt}
 use Rattle.std.proofs.lemmas.Bool.Decides.{nat_tests}
-use Rattle.std.proofs.Common.{◌≡◌, ℕ, zero, suc, true, false, ◌+◌, ◌<◌, ◌≤◌, ◌^◌, List, [], ◌∷◌, ◌++◌, length}
-use Rattle.std.proofs.Common.{Option, inl, inr, refl}
+use Rattle.std.proofs.Common.{◌≡◌, ℕ, true, false, ◌+◌, ◌<◌, ◌≤◌, ◌^◌, List, [], ◌∷◌, ◌++◌, length}
+use Rattle.std.proofs.Common.{inl, inr, refl}
 use Rattle.std.proofs.Common.{sym, ap, ◌∙◌, subst, append_assoc, length-append, arith}
 use Rattle.std.specs.List.{enumerate_from}
 use Rattle.std.specs.Str.Lines.{strip_carriage_return}
 use Rattle.std.proofs.lemmas.List.{append-nil, nil_from_length}
-use Rattle.std.proofs.lemmas.Bool.{or_parts}
 use Rattle.ghcn_fields.specs.Lines.{lines, HasNoLineFeed, EndsLine}
 use Rattle.ghcn_fields.specs.LineLaws.{lines-append, lines-one, lines-unended, lines-some}
 use Rattle.ghcn_fields.specs.LineLaws.{no_line_feed-append}
-use Rattle.ghcn_files.specs.declared.station.Station.{Station}
-use Rattle.ghcn_files.specs.declared.element.Element.{Element}
 use Rattle.ghcn_series.specs.declared.reader.Reader.{Reader}
 use Rattle.ghcn_series.specs.declared.pieces.DataReader.{DataReader}
 use Rattle.ghcn_series.specs.declared.fault.DataFault.{DataFault}
@@ -50,13 +47,9 @@ numbered : (r : DataReader) (fed : Fed) (tail line : List ℕ) (fed_is : HasFed 
     (r.rest.items ++ line)
     ≡ daily_lines fed.ended ++ file_lines (length fed.ended + 1, fed_is.whole ++ tail)
 numbered r fed tail line is one =
-    let this = strip_carriage_return (r.rest.items ++ line) in
-    let done = daily_lines fed.ended in
     let file = length fed.ended + 1 in
-    append_assoc done (file_lines (file, is.whole)) (not_blank (r.ended + 1) ((r.line + 1, this) ∷ []))
-    ∙ ap (λ n. done ++ (file_lines (file, is.whole) ++ not_blank (n + 1) ((r.line + 1, this) ∷ []))) is.ended
-    ∙ ap (λ n. done ++ (file_lines (file, is.whole) ++ not_blank file ((n + 1, this) ∷ []))) is.counted
-    ∙ ap (λ ls. done ++ ls) (sym (file_lines-one file is.whole tail this is.ends one))
+    rw (is.ended, is.counted, file_lines-one file is.whole tail (strip_carriage_return (r.rest.items ++ line)) is.ends one)
+    (append_assoc (daily_lines fed.ended) (file_lines (file, is.whole)) _)
 
 -- the current file with a line and its line feed
 joined : (whole rest line behind : List ℕ) → (whole ++ rest) ++ (line ++ 10 ∷ behind)
@@ -262,17 +255,13 @@ pub unbegun : (r : DataReader) (fed : Fed) → r.line ≡ 0 → r.rest.items ≡
 unbegun r fed nothing none is =
     is.parts ∙ rw (none, lines-some is.whole is.ends (sym is.counted ∙ nothing)) refl
 
--- what nothing begins with is nothing
-nil_front : (xs ys : List ℕ) → [] ≡ xs ++ ys → xs ≡ []
-nil_front [] ys e = refl
-nil_front (x ∷ xs) ys e = absurd cc
-
 -- the data of ended files
 pub data_fed : (r : DataReader) (fed : Fed) (held : Contents) → fed.current ≡ [] → HoldsAll r.reader held
     → HasFed r fed → AreKept fed.element fed.stations (files_of fed) held
 data_fed r fed held none holds is =
     let ls = daily_lines fed.ended ++ file_lines (length fed.ended + 1, is.whole) in
-    let whole : is.whole ≡ [] = nil_front is.whole r.rest.items (sym none ∙ is.parts) in
+    let whole : is.whole ≡ [] = nil_from_length is.whole
+    (omega (arith, ap length none, ap length is.parts, length-append is.whole r.rest.items)) in
     let all : ls ≡ daily_lines fed.ended = rw whole (append-nil (daily_lines fed.ended)) in
     let files : files_of fed ≡ fed.ended = ap (and_current fed.ended) none in
     record {

@@ -1,14 +1,13 @@
 -- The days of a month by their places, and what of them counts.
 use Rattle.std.proofs.Common.{◌≡◌, ℕ, ◌+◌, ◌<◌, ◌≤◌, Bool, true, false, cond, Some, None, refl, sym, ap, ◌∙◌, arith, ℤ}
 use Rattle.std.proofs.Common.{pos}
-use Rattle.std.specs.Prelude.{◌&&◌, ◌+ℤ◌}
+use Rattle.std.specs.Prelude.{◌+ℤ◌}
 use Rattle.std.proofs.lemmas.Bool.Decides.{nat_tests}
 use Rattle.std.proofs.lemmas.Int.{ints}
-use Rattle.std.proofs.lemmas.Bool.{and_parts, and_from}
 use Rattle.jiff_core.specs.Calendar.{days_in_month, days_from_civil, IsCivilDate}
 use Rattle.jiff_core.proofs.SignedLemmas.{signed_arith}
 use Rattle.jiff_core.proofs.CalendarLemmas.{days_from_civil-day_count, day_count-day}
-use Rattle.ghcn_fields.specs.Days.{day_number, day_if, is_date, is_day, is_within}
+use Rattle.ghcn_fields.specs.Days.{day_number, day_if, is_date, is_day}
 use Rattle.ghcn_fields.proofs.DayNumbers.{is_day-from_civil}
 
 -- a day of a month so many places after its first

@@ -2,7 +2,7 @@
 use Rattle.std.proofs.Common.{◌≡◌, ℕ, zero, suc, ◌+◌, ◌<◌, ◌≤◌, Bool, true, false, cond, List, [], ◌∷◌, get_or}
 use Rattle.std.proofs.Common.{Option, Some, None, inl, inr, refl, sym, ap, subst, ◌∙◌, arith, ℤ, pos, ◌+ℤ◌, ◌-ℤ◌, ◌<ℤ◌}
 use Rattle.std.proofs.Common.{◌≤ℤ◌}
-use Rattle.std.specs.Prelude.{◌==◌, ◌||◌, unsigned_abs, int_le}
+use Rattle.std.specs.Prelude.{◌||◌, unsigned_abs, int_le}
 use Rattle.std.specs.Int.{bit_at}
 use Rattle.std.specs.List.{cons_option, filter_map, enumerate_from}
 use Rattle.std.specs.Option.{option_map, option_and_then}
@@ -17,7 +17,7 @@ use Rattle.ghcn_files.specs.declared.month.Reading.{Reading}
 use Rattle.ghcn_files.specs.declared.row.MonthRow.{MonthRow}
 use Rattle.ghcn_files.specs.Elements.{may_be_negative}
 use Rattle.ghcn_files.specs.Months.{IsMonth}
-use Rattle.ghcn_files.specs.Rows.{if_so, value_at, if_possible, good_value, no_reading, day_value, AreDays, IsRowOf}
+use Rattle.ghcn_files.specs.Rows.{value_at, if_possible, no_reading, day_value, AreDays, IsRowOf}
 use Rattle.ghcn_series.specs.Series.{DayValue, value_on}
 use Rattle.ghcn_series.specs.Says.{fact_if}
 use Rattle.ghcn_series.specs.Packed.{days_from}
@@ -60,19 +60,15 @@ usable_is : (m : Month) (j : ℕ) → IsMonth m → usable_value m j ≡ day_val
 usable_is m j right =
     let r : Reading = get_or m.days j no_reading in
     let days : ℕ = days_in_month (pos m.year) m.month in
-    let usable : Option ℤ → Option ℤ =
-    λ o. option_map (λ (x : DayValue). x.1) (option_and_then counted (fact_if m r.flagged o r.value)) in
     elim (cases_lt j days) [
       | inl lt ↦
           let is : IsOfCalendar m.year m.month (j + 1) =
           record { year = right.year; month = right.month; day = (omega arith, omega (arith, lt)) } in
-          ap usable (day_number-is m.year m.month (j + 1) is)
-          ∙ counted_is m r.flagged r.value (days_from_civil (pos m.year) m.month (j + 1))
-          ∙ sym (ap (λ (b : Bool). cond b (good_value m.element r) None) (lt-ltb j days lt))
+          rw (day_number-is m.year m.month (j + 1) is, lt-ltb j days lt)
+          (counted_is m r.flagged r.value (days_from_civil (pos m.year) m.month (j + 1)))
       | inr past ↦
-          ap usable (no_number m.year m.month (j + 1) (λ le. omega (arith, past, le)))
-          ∙ missing_is m r.flagged r.value
-          ∙ sym (ap (λ (b : Bool). cond b (good_value m.element r) None) (le-ltb j days past))
+          rw (no_number m.year m.month (j + 1) (λ le. omega (arith, past, le)), le-ltb j days past)
+          (missing_is m r.flagged r.value)
     ]
 
 -- a reading of nothing isn't usable
@@ -149,9 +145,8 @@ module _ (m : Month) (first : ℤ) (begins : day_number m.year m.month 1 ≡ Som
     row-holds k lt = elim (cases_lt k 31) [
       | inl less ↦ row.holds k less ∙ sym (usable_is m k right)
       | inr last ↦
-          let same : 31 ≡ k = omega (arith, lt, last) in
-          ap (λ (b : ℕ). if_so (b == 1) (get_or vs k (pos 0))) (ap (bit_at w) (sym same) ∙ past-bit)
-          ∙ sym (ap (option_map (λ (x : DayValue). x.1)) (past-none k (get_or m.days k no_reading) last))
+          let same : k ≡ 31 = omega (arith, lt, last) in
+          rw (past-none k (get_or m.days k no_reading) last, same, past-bit) refl
     ]
 
     -- on each day from the first one on, the row has the values of the month's usable days
@@ -161,10 +156,9 @@ module _ (m : Month) (first : ℤ) (begins : day_number m.year m.month 1 ≡ Som
         elim (cases_lt k 32) [
           | inl lt ↦ from-value first w vs k lt ∙ row-holds k lt ∙ sym usable
           | inr past ↦
-              let none : usable_value m k ≡ None =
-              ap (option_map (λ (x : DayValue). x.1))
-              (past-none k (get_or m.days k no_reading) (omega (arith, past))) in
-              from-other first w vs (first +ℤ pos k) (λ j lt e. omega (arith, ints, lt, past, e)) ∙ sym (usable ∙ none)
+              let none = past-none k (get_or m.days k no_reading) (omega (arith, past)) in
+              from-other first w vs (first +ℤ pos k) (λ j lt e. omega (arith, ints, lt, past, e))
+              ∙ sym (rw none at usable)
         ]
 
     -- the days of a month's row have the values of its usable days
@@ -183,10 +177,7 @@ module _ (m : Month) (first : ℤ) (begins : day_number m.year m.month 1 ≡ Som
     row-is = record {
       fits = omega (arith, row.fits);
       zeros = λ j lt. row.zeros j;
-      days = λ j lt set.
-          let some : usable_value m j ≡ Some (get_or vs j (pos 0)) =
-          sym (row-holds j lt) ∙ ap (λ (b : ℕ). if_so (b == 1) (get_or vs j (pos 0))) set in
-          usable j (get_or vs j (pos 0)) some;
+      days = λ j lt set. usable j (get_or vs j (pos 0)) (sym (rw set at (row-holds j lt)));
     }
       where
         usable : (j : ℕ) (v : ℤ) → usable_value m j ≡ Some v → is_day (first +ℤ pos j) ≡ true
@@ -206,9 +197,7 @@ pub row-at : (m : Month) (row : MonthRow) (first number block : ℤ) (place : �
     → IsRow (day_of number place) row.word row.values
     × ((d : ℤ) → value_on (row_days number place row.word row.values) d ≡ value_on (usable_days m) d)
 row-at m row first number block place right of first_is near at =
-    let begins : day_number m.year m.month 1 ≡ Some first =
-    ap (λ (y : ℕ). day_number y m.month 1) (sym of.year)
-    ∙ ap (λ (t : ℕ). day_number row.year t 1) (sym of.month) ∙ first_is in
+    let begins : day_number m.year m.month 1 ≡ Some first = rw (← of.year, ← of.month) first_is in
     let is : day_of number place ≡ first = ap (λ (n : ℤ). day_of n place) near ∙ at in
     rw is (
       row-is m first begins row.word row.values right of.days,

@@ -1,5 +1,5 @@
 -- The data of files that were read.
-use Rattle.std.proofs.Common.{◌≡◌, ℕ, ◌<◌, ◌≤◌, ◌^◌, Bool, cond, List, length, map}
+use Rattle.std.proofs.Common.{◌≡◌, ℕ, ◌<◌, ◌≤◌, ◌^◌, List, length, map}
 use Rattle.std.proofs.Common.{take, Option, None, Some, Ok, Err, Bor, refl, sym, ap, ◌∙◌, arith}
 use Rattle.std.specs.Option.{option_map}
 use Rattle.std.proofs.lemmas.List.{take_all, length-map}
@@ -27,17 +27,14 @@ few_files : (stations : List Station) (files : List (List ℕ)) → length files
     → data_of stations files ≡ contents_unless (first_fault (daily_fault stations) (daily_lines files))
     (contents stations (daily_lines files))
 few_files stations files few =
-    ap (λ (b : Bool). cond b (contents_unless (first_fault (daily_fault stations) (daily_lines files))
-    (contents stations (daily_lines files))) (Err TooManyFiles)) (le-leb (length files) (2 ^ 20) few)
+    rw (le-leb (length files) (2 ^ 20) few) refl
 
 -- files without a fault have their contents
 pub data_of-right : (stations : List Station) (files : List (List ℕ)) → length files ≤ 2 ^ 20
     → HaveNoFault (daily_fault stations) (daily_lines files)
     → data_of stations files ≡ Ok (contents stations (daily_lines files))
 data_of-right stations files few right =
-    few_files stations files few
-    ∙ ap (λ o. contents_unless o (contents stations (daily_lines files)))
-    (first_fault-none (daily_fault stations) (daily_lines files) right)
+    few_files stations files few ∙ rw (first_fault-none (daily_fault stations) (daily_lines files) right) refl
 
 -- files with a fault have their first
 pub data_of-refused : (stations : List Station) (files : List (List ℕ)) (f : DataFault) → length files ≤ 2 ^ 20
@@ -46,8 +43,7 @@ data_of-refused stations files (Memory m) few is = tt
 data_of-refused stations files TooManyFiles few is = absurd is
 data_of-refused stations files (DailyLine file line why) few is =
     few_files stations files few
-    ∙ ap (λ o. contents_unless o (contents stations (daily_lines files)))
-    (first_fault-from (daily_fault stations) (daily_lines files) is.0 (DailyLine file line why) is.1)
+    ∙ rw (first_fault-from (daily_fault stations) (daily_lines files) is.0 (DailyLine file line why) is.1) refl
 
 -- the fault that is found among the lines of files is the first
 first_found : (stations : List Station) (ls : List FileLine) (found : Option (FileLine × DataFault)) (held : Contents)
@@ -76,16 +72,14 @@ first_refusal stations files TooManyFiles few is =
     (daily_why stations first.1.before (read_month first.0.bytes)) first.1.here
 first_refusal stations files (DailyLine file line why) few is =
     let ls = daily_lines files in
-    first_found stations ls (first_fault (daily_fault stations) ls) (contents stations ls) (DailyLine file line why)
-    refl
+    first_found stations ls _ (contents stations ls) (DailyLine file line why) refl
     (sym (few_files stations files few) ∙ is)
 
 -- too many files
 pub data_of-many : (stations : List Station) (files : List (List ℕ)) → 2 ^ 20 < length files
     → data_of stations files ≡ Err TooManyFiles
 data_of-many stations files many =
-    ap (λ (b : Bool). cond b (contents_unless (first_fault (daily_fault stations) (daily_lines files))
-    (contents stations (daily_lines files))) (Err TooManyFiles)) (lt-leb (length files) (2 ^ 20) many)
+    rw (lt-leb (length files) (2 ^ 20) many) refl
 
 -- there are as many texts as files
 pub length-texts : (files : List (Bor (List ℕ))) → length (texts files) ≡ length files

@@ -1,39 +1,27 @@
 -- A reader that has read one line more.
-use Rattle.std.proofs.Common.{◌≡◌, Bool, true, false, cond, List, [], ◌∷◌, ◌++◌, Option, None}
-use Rattle.std.proofs.Common.{Some, Result, Ok, refl, sym, ap, ◌∙◌, append_assoc}
+use Rattle.std.proofs.Common.{◌≡◌, true, false, List, [], ◌∷◌, ◌++◌, Option, None}
+use Rattle.std.proofs.Common.{Some, Ok, refl, sym, ap, ◌∙◌, append_assoc}
 use Rattle.std.specs.Prelude.{◌&&◌}
 use Rattle.std.specs.List.{filter_map}
-use Rattle.std.specs.Option.{option_map, option_to_list}
+use Rattle.std.specs.Option.{option_to_list}
 use Rattle.std.proofs.lemmas.List.{append-nil}
 use Rattle.std.proofs.lemmas.List.Elements.{filter_map-append}
 use Rattle.std.proofs.lemmas.Bool.{not-true, not-false}
-use Rattle.ghcn_fields.specs.Faults.{HaveNoFault, IsFirstFault}
+use Rattle.ghcn_fields.specs.Faults.{IsFirstFault}
 use Rattle.ghcn_fields.specs.FaultLaws.{no_fault-more}
 use Rattle.ghcn_files.specs.declared.station.Station.{Station}
 use Rattle.ghcn_files.specs.declared.month.Month.{Month}
-use Rattle.ghcn_files.specs.declared.fault.LineWhy.{LineWhy}
 use Rattle.ghcn_files.specs.Months.{read_month}
 use Rattle.ghcn_series.specs.declared.fault.DailyWhy.TheVariants.{DuplicateMonth}
 use Rattle.ghcn_series.specs.declared.fault.DataFault.{DataFault}
 use Rattle.ghcn_series.specs.declared.fault.DataFault.TheVariants.{DailyLine, TooManyFiles, Memory}
 use Rattle.ghcn_series.specs.declared.reader.Reader.{Reader}
 use Rattle.ghcn_series.specs.DailyFaults.{FileLine, month_on, month_if_ok, repeats, is_listed}
-use Rattle.ghcn_series.specs.DailyFaults.{daily_why, daily_fault}
+use Rattle.ghcn_series.specs.DailyFaults.{daily_fault}
 use Rattle.ghcn_series.specs.Gathered.{HasReadLines, IsLineRefusal}
 use Rattle.ghcn_series.specs.Steps.{ReadsMonth}
 
 module _ {L W : Type 0} (fault : List L → L → Option W) where
-  -- the line behind lines without a fault is the first with one
-  first_here : (before : List L) (l : L) (w : W) → HaveNoFault fault before → fault before l ≡ Some w
-      → IsFirstFault fault (before ++ l ∷ []) l w
-  first_here before l w none here = record {
-    before = before;
-    behind = [];
-    place = refl;
-    here = here;
-    none_before = none;
-  }
-
   -- more lines behind change nothing
   pub first_among : (ls more : List L) (l : L) (w : W) → IsFirstFault fault ls l w → IsFirstFault fault (ls ++ more) l w
   first_among ls more l w is = record {
@@ -47,20 +35,8 @@ module _ {L W : Type 0} (fault : List L → L → Option W) where
 -- one line more adds the month that it is
 months-more : (before : List FileLine) (l : FileLine) (o : Option Month) → month_on l ≡ o
     → filter_map month_on (before ++ l ∷ []) ≡ filter_map month_on before ++ option_to_list o
-months-more before l o is =
-    filter_map-append month_on before (l ∷ [])
-    ∙ ap (λ ms. filter_map month_on before ++ ms) (last (month_on l) o is)
-  where
-    last : (a b : Option Month) → a ≡ b → filter_map {X = Option Month} (λ x. x) (a ∷ []) ≡ option_to_list b
-    last None b e = ap option_to_list e
-    last (Some m) b e = ap option_to_list e
-
--- the fault of a line follows from what is read of it
-why_of : (stations : List Station) (before : List FileLine) (l : FileLine) (r : Result (Option Month) LineWhy)
-    → read_month l.bytes ≡ r → daily_fault stations before l ≡ option_map (λ why. DailyLine l.file l.line why)
-    (daily_why stations before r)
-why_of stations before l r is = ap (λ x. option_map (λ why. DailyLine l.file l.line why) (daily_why stations before x))
-    is
+months-more before l None is = rw (filter_map-append month_on before (l ∷ []), is) refl
+months-more before l (Some m) is = rw (filter_map-append month_on before (l ∷ []), is) refl
 
 -- a line of none of the elements is passed over
 pub read-passed : (r : Reader) (l : FileLine) → read_month l.bytes ≡ Ok None → (before : List FileLine)
@@ -68,8 +44,7 @@ pub read-passed : (r : Reader) (l : FileLine) → read_month l.bytes ≡ Ok None
 read-passed r l is before read =
     record {
       months = rw (months-more before l None (ap month_if_ok is), append-nil (filter_map month_on before)) read.months;
-      right = no_fault-more (daily_fault r.stations) before l read.right
-          (why_of r.stations before l (Ok None) is);
+      right = no_fault-more (daily_fault r.stations) before l read.right (rw is refl);
     }
 
 -- a line that is a new month is read
@@ -80,10 +55,7 @@ pub read-month : (old new : Reader) (l : FileLine) (m : Month) → read_month l.
 read-month old new l m is stations adds before read =
     let months = filter_map month_on before in
     let none : daily_fault old.stations before l ≡ None =
-    why_of old.stations before l (Ok (Some m)) is
-    ∙ ap (option_map (λ why. DailyLine l.file l.line why))
-    (ap (λ (b : Bool). cond b (Some DuplicateMonth) None)
-    (not-true (is_listed old.stations m.id && repeats before m) (sym (adds.is_new months read.months)))) in
+    rw (is, not-true (is_listed old.stations m.id && repeats before m) (sym (adds.is_new months read.months))) refl in
     record {
       months = rw (months-more before l (Some m) (ap month_if_ok is)) (adds.holds months read.months);
       right = rw stations (no_fault-more (daily_fault old.stations) before l read.right none);
@@ -94,12 +66,15 @@ pub refused-month : (old new : Reader) (l : FileLine) (m : Month) → read_month
     → ReadsMonth old new m false → (before : List FileLine) → HasReadLines old before
     → IsLineRefusal old.stations (before ++ l ∷ []) (DailyLine l.file l.line DuplicateMonth)
 refused-month old new l m is adds before read =
-    let months = filter_map month_on before in (
+    let again = sym (adds.is_new (filter_map month_on before) read.months) in (
       l,
-      first_here (daily_fault old.stations) before l (DailyLine l.file l.line DuplicateMonth) read.right
-          (why_of old.stations before l (Ok (Some m)) is ∙ ap (option_map (λ why. DailyLine l.file l.line why))
-          (ap (λ (b : Bool). cond b (Some DuplicateMonth) None)
-          (not-false (is_listed old.stations m.id && repeats before m) (sym (adds.is_new months read.months))))),
+      record {
+        before = before;
+        behind = [];
+        place = refl;
+        here = rw (is, not-false (is_listed old.stations m.id && repeats before m) again) refl;
+        none_before = read.right;
+      },
     )
 
 -- more lines behind change no fault

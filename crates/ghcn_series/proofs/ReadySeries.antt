@@ -1,12 +1,12 @@
 -- A gathering becomes a series.
-use Rattle.std.proofs.Common.{◌≡◌, ℕ, ◌+◌, Bool, true, false, cond, List, [], ◌∷◌, ◌++◌, length, Option, None}
-use Rattle.std.proofs.Common.{Some, refl, sym, ap, ◌∙◌, append_assoc, arith, ℤ, pos}
-use Rattle.std.specs.Prelude.{◌==◌, ◌&&◌, ◌||◌, int_le, int_lt}
+use Rattle.std.proofs.Common.{◌≡◌, ℕ, ◌+◌, Bool, true, false, List, [], ◌∷◌, length, Option, None}
+use Rattle.std.proofs.Common.{Some, refl, sym, ap, ◌∙◌, arith, ℤ}
+use Rattle.std.specs.Prelude.{◌==◌, ◌&&◌}
 use Rattle.std.specs.declared.cmp.Ordering.TheVariants.{Less}
 use Rattle.std.specs.Ordering.{int_cmp, int_eq}
 use Rattle.std.specs.List.{filter_map, flat_map, enumerate_from, cons_option, list_all, IsDistinct, AllByRecursion}
 use Rattle.std.specs.List.Sorted.{IsStrictlySortedBy}
-use Rattle.std.specs.Option.{option_and_then, option_map_or}
+use Rattle.std.specs.Option.{option_map_or}
 use Rattle.std.specs.Map.{keys_of}
 use Rattle.std.proofs.lemmas.Int.{ints}
 use Rattle.std.proofs.lemmas.List.Folds.{list_all-append}
@@ -14,7 +14,6 @@ use Rattle.std.proofs.lemmas.Bool.{and_from, and_parts, eqb-false}
 use Rattle.std.proofs.lemmas.List.Sorted.{All-permutation, length_permutation}
 use Rattle.std.proofs.lemmas.List.Sums.{list_all-from_AllPass, AllPass-from_list_all}
 use Rattle.ghcn_fields.proofs.Ordered.{sorted-permutation}
-use Rattle.jiff_core.specs.Calendar.{IsCivilDate}
 use Rattle.ghcn_fields.specs.Days.{day_number, is_day}
 use Rattle.ghcn_fields.specs.Sorting.{sorted_by}
 use Rattle.ghcn_fields.proofs.DayNumbers.{is_day-from_civil}
@@ -22,14 +21,11 @@ use Rattle.ghcn_files.specs.declared.station.StationId.{StationId}
 use Rattle.ghcn_files.specs.declared.element.Element.{Element}
 use Rattle.ghcn_files.specs.declared.month.Month.{Month}
 use Rattle.ghcn_files.specs.declared.month.Reading.{Reading}
-use Rattle.ghcn_files.specs.Elements.{may_be_negative}
 use Rattle.ghcn_files.specs.Months.{is_reading, is_readable, IsMonth}
 use Rattle.ghcn_series.specs.declared.gathering.Gathering.{Gathering}
-use Rattle.ghcn_series.specs.Series.{DayValue, Usable, IsSeries, by_day, is_by_day, is_value}
-use Rattle.ghcn_series.specs.Says.{fact_if}
-use Rattle.ghcn_series.specs.Gathered.{counted, usable_day, usable_days, kept_days, same_time, gathered_days}
+use Rattle.ghcn_series.specs.Series.{DayValue, IsSeries, by_day, is_by_day, is_value}
+use Rattle.ghcn_series.specs.Gathered.{usable_day, usable_days, kept_days, same_time, gathered_days}
 use Rattle.ghcn_series.specs.Gathered.{IsGathering, IsReady}
-use Rattle.ghcn_series.specs.Gathered.{gathered_series}
 use Rattle.ghcn_series.proofs.MonthDays.{has_number, civil_of}
 use Rattle.ghcn_series.proofs.ApartParts.{apart-distinct}
 use Rattle.ghcn_series.proofs.DistinctDays.{distinct_days, parts_of}
@@ -136,31 +132,3 @@ is_series id g days ready some sorted =
           ap (list_all (IsDayOf g.element)) (gathered-sorted ready.kept g ready.months ready.holds)
           ∙ sorted_right (IsDayOf g.element) held all;
     })
-
--- a gathering without a usable day adds no series
-pub no_series : (id : StationId) (g : Gathering) (held all : List Usable) (rest left : List Gathering) → rest ≡ g ∷ left
-    → (length (gathered_days g) == 0) ≡ true
-    → held ++ filter_map (gathered_series id) rest ≡ all → held ++ filter_map (gathered_series id) left ≡ all
-no_series id g held all rest left step empty is =
-    let none : gathered_series id g ≡ None = ap
-    (λ (b : Bool). cond b None (Some
-    (record { id = id; element = g.element; days = sorted_by by_day (gathered_days g) }))) empty in
-    ap (λ (o : Option Usable). held ++ cons_option o (filter_map (gathered_series id) left)) (sym none)
-    ∙ ap (λ gs. held ++ filter_map (gathered_series id) gs) (sym step)
-    ∙ is
-
--- any other adds one
-pub one_series : (id : StationId) (g : Gathering) (s : Usable) (held now all : List Usable) (rest left : List Gathering)
-    → rest ≡ g ∷ left → (length (gathered_days g) == 0) ≡ false
-    → s ≡ record { id = id; element = g.element; days = sorted_by by_day (gathered_days g) } → now ≡ held ++ s ∷ []
-    → held ++ filter_map (gathered_series id) rest ≡ all → now ++ filter_map (gathered_series id) left ≡ all
-one_series id g s held now all rest left step some made put is =
-    let one : gathered_series id g ≡ Some s = ap
-    (λ (b : Bool). cond b None (Some
-    (record { id = id; element = g.element; days = sorted_by by_day (gathered_days g) }))) some
-    ∙ ap (λ (u : Usable). Some u) (sym made) in
-    ap (λ us. us ++ filter_map (gathered_series id) left) put
-    ∙ append_assoc held (s ∷ []) (filter_map (gathered_series id) left)
-    ∙ ap (λ (o : Option Usable). held ++ cons_option o (filter_map (gathered_series id) left)) (sym one)
-    ∙ ap (λ gs. held ++ filter_map (gathered_series id) gs) (sym step)
-    ∙ is

@@ -3,7 +3,6 @@ use Rattle.std.proofs.Common.{◌≡◌, ℕ, zero, suc, ◌+◌, ◌-◌, ◌*�
 use Rattle.std.proofs.Common.{take, drop, get_or}
 use Rattle.std.proofs.Common.{Option, Some, None, IsSome, inl, inr}
 use Rattle.std.proofs.Common.{refl, sym, ap, subst, ◌∙◌, arith, true, ℤ, pos, ◌+ℤ◌}
-use Rattle.std.specs.Prelude.{◌==◌}
 use Rattle.std.specs.Int.{bit_at}
 use Rattle.std.specs.List.{list_all}
 use Rattle.std.specs.Option.{option_or}
@@ -17,7 +16,7 @@ use Rattle.std.proofs.lemmas.List.{get_or-take, get_or-drop, get_or_append_left,
 use Rattle.std.proofs.lemmas.Nat.Bits.{bit_at_cat_low, bit_at_cat_high, bit_at-zero, bit_at_above}
 use Rattle.ghcn_fields.specs.Days.{is_day, block_of}
 use Rattle.ghcn_series.specs.Series.{DayValue, value_on}
-use Rattle.ghcn_series.specs.Packed.{Block, block_start, if_so, value_at, days_from, block_days, IsPacked}
+use Rattle.ghcn_series.specs.Packed.{Block, block_start, value_at, days_from, block_days, IsPacked}
 use Rattle.ghcn_series.specs.Parts.{AreNew, AreJoined, day_of, row_days, IsRow, IsPartOf, HasBitsOf}
 use Rattle.ghcn_series.proofs.Lookups.{from-value, from-other, block-value, block-other, block-holds, or_none, at_day}
 use Rattle.ghcn_series.proofs.JoinedDays.{same_block, or_assoc}
@@ -26,16 +25,6 @@ use Rattle.ghcn_series.proofs.JoinedDays.{same_block, or_assoc}
 some_either : (a b : Option ℤ) → IsSome a → IsSome (option_or a b)
 some_either None b some = absurd cc
 some_either (Some x) b some = some
-
--- a place whose bit isn't set has no value
-no_value : (w : ℕ) (vs : List ℤ) (j : ℕ) → bit_at w j ≡ 0 → value_at w vs j ≡ None
-no_value w vs j e = ap (λ (b : ℕ). if_so (b == 1) (get_or vs j (pos 0))) e
-
--- places of the same bit and value have the same value
-same_value : (w v : ℕ) (a b : List ℤ) (j k : ℕ) → bit_at w j ≡ bit_at v k → get_or a j (pos 0) ≡ get_or b k (pos 0)
-    → value_at w a j ≡ value_at v b k
-same_value w v a b j k e f =
-    ap (λ (bit : ℕ). if_so (bit == 1) (get_or a j (pos 0))) e ∙ ap (if_so (bit_at v k == 1)) f
 
 -- a block has what a row has so many places behind the begin of the block where the row begins
 pub record IsPart (first : ℤ) (place w : ℕ) (vs : List ℤ) (offset : ℕ) (b : Block) : Type 0 where
@@ -62,17 +51,13 @@ module _ (first : ℤ) (place w : ℕ) (vs : List ℤ) (offset : ℕ) (b : Block
       ≡ value_at b.1.0 b.1.1 j
   part-value j lt =
       at_part (λ j. value_on (days_from first w vs) (block_start b.0 +ℤ pos j) ≡ value_at b.1.0 b.1.1 j) j
-      (λ less.
-      from-other first w vs (block_start b.0 +ℤ pos j) (λ k _ e. omega (arith, ints, p.starts, e))
-      ∙ sym (no_value b.1.0 b.1.1 j ((p.bits j lt).before less)))
-      (λ more.
-      from-other first w vs (block_start b.0 +ℤ pos j) (λ k less e. omega (arith, ints, p.starts, e))
-      ∙ sym (no_value b.1.0 b.1.1 j ((p.bits j lt).behind more)))
+      (λ less. rw ((p.bits j lt).before less)
+      (from-other first w vs (block_start b.0 +ℤ pos j) (λ k _ e. omega (arith, ints, p.starts, e))))
+      (λ more. rw ((p.bits j lt).behind more)
+      (from-other first w vs (block_start b.0 +ℤ pos j) (λ k less e. omega (arith, ints, p.starts, e))))
       (λ k less is.
       let day : block_start b.0 +ℤ pos j ≡ first +ℤ pos k = omega (arith, ints, p.starts) in
-      ap (value_on (days_from first w vs)) day
-      ∙ from-value first w vs k less
-      ∙ sym (same_value b.1.0 w b.1.1 vs j k ((p.bits j lt).within k less is) ((p.values j lt).within k less is)))
+      rw (day, (p.bits j lt).within k less is, (p.values j lt).within k less is) (from-value first w vs k less))
 
   -- and is as it may be
   pub part-packed : b.1.0 < 2 ^ 32 → 0 < b.1.0 → IsPacked b
@@ -146,17 +131,12 @@ module _ (n : ℤ) (place w : ℕ) (vs : List ℤ) (one two : Block) (s : IsSpli
   row-split : (d : ℤ) → value_on days d ≡ option_or (value_on (block_days one) d) (value_on (block_days two) d)
   row-split d = elim (same_block one.0 (block_of d)) [
     | inl here ↦
-        in_part (day_of n place) place w vs 0 one is_one d here
-        ∙ sym (ap (option_or (value_on (block_days one) d)) (block-other two d (differ d here))
-        ∙ or_none (value_on (block_days one) d))
-    | inr other ↦
-        let behind : option_or (value_on (block_days one) d) (value_on (block_days two) d) ≡ value_on (block_days two) d
-        =
-        ap (λ (o : Option ℤ). option_or o (value_on (block_days two) d)) (block-other one d other) in
-        elim (same_block two.0 (block_of d)) [
-          | inl there ↦ in_part (day_of n place) place w vs 32 two is_two d there ∙ sym behind
-          | inr none ↦ in_neither d other none ∙ sym (behind ∙ block-other two d none)
-        ]
+        rw (block-other two d (differ d here), or_none (value_on (block_days one) d))
+        (in_part (day_of n place) place w vs 0 one is_one d here)
+    | inr other ↦ rw (block-other one d other) (elim (same_block two.0 (block_of d)) [
+      | inl there ↦ in_part (day_of n place) place w vs 32 two is_two d there
+      | inr none ↦ rw (block-other two d none) (in_neither d other none)
+    ])
   ]
 
   -- both parts are as they may be
@@ -180,9 +160,7 @@ module _ (n : ℤ) (place w : ℕ) (vs : List ℤ) (one two : Block) (s : IsSpli
       | inl there ↦
           let in_row : IsSome (value_on days d) =
           subst IsSome (sym (in_part (day_of n place) place w vs 32 two is_two d there)) some in
-          joined d
-          ∙ ap (λ (o : Option ℤ). option_or o (value_on (block_days one) d)) (fresh d in_row)
-          ∙ block-other one d (λ here. differ d here there)
+          rw (joined d, fresh d in_row) (block-other one d (λ here. differ d here there))
       | inr other ↦ absurd (false≢true (subst IsSome (block-other two d other) some))
     ]
 
@@ -191,10 +169,8 @@ module _ (n : ℤ) (place w : ℕ) (vs : List ℤ) (one two : Block) (s : IsSpli
         → AreJoined mid (block_days two) new
         → AreJoined old days new
     joined-both mid new a b d =
-        b d
-        ∙ ap (λ (o : Option ℤ). option_or o (value_on (block_days two) d)) (a d)
-        ∙ sym (or_assoc (value_on old d) (value_on (block_days one) d) (value_on (block_days two) d))
-        ∙ ap (option_or (value_on old d)) (sym (row-split d))
+        rw (b d, a d, row-split d)
+        (sym (or_assoc (value_on old d) (value_on (block_days one) d) (value_on (block_days two) d)))
 
 -- ---- the bits of both parts
 

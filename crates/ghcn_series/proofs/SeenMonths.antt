@@ -1,14 +1,13 @@
 -- The months that were seen, and one more.
-use Rattle.std.proofs.Common.{◌≡◌, ℕ, ◌+◌, ◌*◌, ◌≤◌, Bool, true, false, not, List, [], ◌∷◌, ◌++◌, Option, refl, sym, ap}
+use Rattle.std.proofs.Common.{◌≡◌, ℕ, ◌+◌, ◌*◌, ◌≤◌, Bool, true, false, not, List, [], ◌∷◌, ◌++◌, refl, sym, ap}
 use Rattle.std.proofs.Common.{subst, ◌∙◌, arith, ℤ, Result, Ok, Err}
-use Rattle.std.specs.Prelude.{◌==◌, ◌&&◌, ◌||◌, IfOk, OnOk}
+use Rattle.std.specs.Prelude.{◌==◌, ◌&&◌, IfOk, OnOk}
 use Rattle.std.specs.List.{list_any, flat_map, IsDistinct, AllByRecursion}
 use Rattle.std.specs.Map.{keys_of}
-use Rattle.std.specs.Option.{option_or}
 use Rattle.std.specs.Ordering.{int_eq}
 use Rattle.std.proofs.lemmas.List.{append-nil}
 use Rattle.std.proofs.lemmas.List.Concat.{flat_map-append}
-use Rattle.std.proofs.lemmas.Bool.Decides.{same_from_decides, Decides-eqb, Decides-like, Decides-and}
+use Rattle.std.proofs.lemmas.Bool.Decides.{nat_tests}
 use Rattle.std.proofs.lemmas.List.Folds.{list_any-append}
 use Rattle.std.proofs.lemmas.Cmp.{and_equiv, on_equiv, nat_eq_equiv}
 use Rattle.std.specs.Cmp.{IsEquivalence}
@@ -24,8 +23,8 @@ use Rattle.ghcn_files.specs.Rows.{IsRowOf}
 use Rattle.ghcn_series.specs.declared.gathering.Gathering.{Gathering}
 use Rattle.ghcn_series.specs.Series.{DayValue, value_on}
 use Rattle.ghcn_series.specs.Steps.{OfMonth, Gathers}
-use Rattle.ghcn_series.specs.Parts.{AreParts, AreNew, AreJoined, days_held}
-use Rattle.ghcn_series.specs.Gathered.{number_of, has_number, same_time, usable_days, gathered_days, IsGathering}
+use Rattle.ghcn_series.specs.Parts.{AreParts, AreNew, AreJoined}
+use Rattle.ghcn_series.specs.Gathered.{number_of, has_number, same_time, usable_days, gathered_days, kept_days, IsGathering}
 use Rattle.ghcn_series.specs.SeenMonths.{has_month, Adds}
 use Rattle.ghcn_series.proofs.Lookups.{value_on-append}
 use Rattle.ghcn_series.proofs.ApartParts.{new-behind}
@@ -42,19 +41,17 @@ distinct-more m before = IsDistinct-push time_laws before m
 
 -- months have the same number where year and month are the same
 same_number : (a b c d : ℕ) → 1 ≤ b → b ≤ 12 → 1 ≤ d → d ≤ 12 → (12 * a + b == 12 * c + d) ≡ ((a == c) && (b == d))
-same_number a b c d low high low_d high_d =
-    same_from_decides (12 * a + b == 12 * c + d) ((a == c) && (b == d)) (Decides-eqb (12 * a + b) (12 * c + d))
-    (Decides-like ((a == c) && (b == d)) (λ same. omega (arith, same.0, same.1))
-    (λ e. (omega (arith, e), omega (arith, e))) (Decides-and (a == c) (b == d) (Decides-eqb a c) (Decides-eqb b d)))
+same_number a b c d low high low_d high_d = grind (arith, nat_tests)
 
 -- months have one number where they are of one time
 numbers-are : (m : Month) (ms : List Month) → IsMonth m → AllByRecursion IsMonth ms
     → list_any (has_number (number_of m)) ms ≡ list_any (same_time m) ms
 numbers-are m [] right all = refl
 numbers-are m (x ∷ xs) right all =
-    ap (λ (b : Bool). b || list_any (has_number (number_of m)) xs)
-    (same_number m.year m.month x.year x.month right.month.0 right.month.1 all.0.month.0 all.0.month.1)
-    ∙ ap (λ (b : Bool). same_time m x || b) (numbers-are m xs right all.1)
+    rw (
+      same_number m.year m.month x.year x.month right.month.0 right.month.1 all.0.month.0 all.0.month.1,
+      numbers-are m xs right all.1,
+    ) refl
 
 -- whether a month was seen is whether one of its time was
 pub seen-is : (kept : Bool) (g : Gathering) (m : Month) (before : List Month) → IsMonth m → IsGathering kept g before
@@ -65,8 +62,7 @@ seen-is kept g m before right is = is.seen (number_of m) ∙ numbers-are m befor
 days-more : (before : List Month) (m : Month) → flat_map usable_days (before ++ m ∷ []) ≡ flat_map usable_days before
     ++ usable_days m
 days-more before m =
-    flat_map-append usable_days before (m ∷ [])
-    ∙ ap (λ (xs : List DayValue). flat_map usable_days before ++ xs) (append-nil (usable_days m))
+    simp (flat_map-append, append-nil)
 
 -- a month whose time wasn't seen has no day that was gathered
 pub month-new : (g : Gathering) (m : Month) (before : List Month) → IsMonth m → IsGathering true g before
@@ -85,11 +81,21 @@ seen-more : (kept : Bool) (old new : Gathering) (m : Month) (before : List Month
     → Adds old.seen new.seen (number_of m)
     → (t : ℕ) → has_month new.seen t ≡ list_any (has_number t) (before ++ m ∷ [])
 seen-more kept old new m before is adds t =
-    adds t
-    ∙ ap (λ (b : Bool). b || (number_of m == t)) (is.seen t)
-    ∙ ap (λ (b : Bool). list_any (has_number t) before || b)
-    (nat_eq_equiv.symm (number_of m) t ∙ sym (or-false (t == number_of m)))
-    ∙ sym (list_any-append (has_number t) before (m ∷ []))
+    adds t ∙ rw (is.seen t, list_any-append, or-false, nat_eq_equiv.symm (number_of m) t) refl
+
+-- one month more is gathered, with its days where they are kept
+gathered_with : (kept : Bool) (old new : Gathering) (m : Month) (before : List Month) → IsMonth m
+    → IsGathering kept old before → has_month old.seen (number_of m) ≡ false → Adds old.seen new.seen (number_of m)
+    → AreParts new.parts
+    → ((d : ℤ) → value_on (gathered_days new) d ≡ value_on (kept_days kept (before ++ m ∷ [])) d)
+    → IsGathering kept new (before ++ m ∷ [])
+gathered_with kept old new m before right is fresh adds parts values = record {
+  right = both_all IsMonth before (m ∷ []) is.right (right, tt);
+  seen = seen-more kept old new m before is adds;
+  parts = parts;
+  values = values;
+  distinct = distinct-more m before is.distinct (sym (seen-is kept old m before right is) ∙ fresh);
+}
 
 -- one month more is gathered with its days
 pub gathering-more : (old new : Gathering) (m : Month) (before : List Month) → IsMonth m → IsGathering true old before
@@ -97,36 +103,19 @@ pub gathering-more : (old new : Gathering) (m : Month) (before : List Month) →
     → Adds old.seen new.seen (number_of m)
     → AreParts new.parts → AreJoined (gathered_days old) (usable_days m) (gathered_days new)
     → IsGathering true new (before ++ m ∷ [])
-gathering-more old new m before right is fresh adds parts joined = record {
-  right = both_all IsMonth before (m ∷ []) is.right (right, tt);
-  seen = seen-more true old new m before is adds;
-  parts = parts;
-  values = λ d.
-      joined d
-      ∙ ap (λ (o : Option ℤ). option_or o (value_on (usable_days m) d)) (is.values d)
-      ∙ sym (value_on-append (flat_map usable_days before) (usable_days m) d)
-      ∙ ap (λ (xs : List DayValue). value_on xs d) (sym (days-more before m));
-  distinct = distinct-more m before is.distinct (sym (seen-is true old m before right is) ∙ fresh);
-}
-
--- one month more is gathered whose days aren't kept
-pub gathering-noted : (old new : Gathering) (m : Month) (before : List Month) → IsMonth m → IsGathering false old before
-    → has_month old.seen (number_of m) ≡ false
-    → Adds old.seen new.seen (number_of m) → new.parts ≡ old.parts
-    → IsGathering false new (before ++ m ∷ [])
-gathering-noted old new m before right is fresh adds same = record {
-  right = both_all IsMonth before (m ∷ []) is.right (right, tt);
-  seen = seen-more false old new m before is adds;
-  parts = subst AreParts (sym same) is.parts;
-  values = λ d. ap (λ p. value_on (days_held p) d) same ∙ is.values d;
-  distinct = distinct-more m before is.distinct (sym (seen-is false old m before right is) ∙ fresh);
-}
+gathering-more old new m before right is fresh adds parts joined =
+    gathered_with true old new m before right is fresh adds parts (λ d.
+    joined d ∙ rw (
+      is.values d,
+      days-more before m,
+      value_on-append (flat_map usable_days before) (usable_days m) d,
+    ) refl)
 
 -- a month's number is that of its row
 pub number_is : (kept : Bool) (m : Month) (row : MonthRow) (n : ℕ) → IsRowOf kept m row
     → n ≡ 12 * row.year + row.month → n ≡ number_of m
 number_is kept m row n of e =
-    e ∙ ap (λ (y : ℕ). 12 * y + row.month) of.year ∙ ap (λ (t : ℕ). 12 * m.year + t) of.month
+    omega arith
 
 -- a month is noted, unless one of its time was
 pub noted : (row : MonthRow) (old new : Gathering) (result : Result Bool Memory)
@@ -141,5 +130,6 @@ noted row old new (Ok added) told adds same = λ m right of.
     record {
       is_new = λ before is. is_new ∙ ap not (seen-is false old m before right is);
       holds = λ before is. OnTrue_from added _ (λ yes.
-          gathering-noted old new m before right is (not-true _ (sym (sym yes ∙ is_new))) more same);
+          gathered_with false old new m before right is (not-true _ (sym (sym yes ∙ is_new))) more
+          (rw same is.parts) (rw same is.values));
     }

@@ -26,7 +26,7 @@ told_of stations files ls behind (DailyLine file line why) few is refused = reco
   whatever = λ others le.
       let rest = lines_from (1 + length files) others in
       let whole : ls ++ (behind ++ rest) ≡ daily_lines (files ++ others) =
-      sym (append_assoc ls behind rest) ∙ ap (λ xs. xs ++ rest) (sym is) ∙ sym (daily_lines-append files others) in
+      rw (daily_lines-append files others, is) (simp append_assoc) in
       data_of-refused stations (files ++ others) (DailyLine file line why) le
       (rw (← whole) (refused_among stations ls (behind ++ rest) (DailyLine file line why) refused));
 }
