@@ -48,7 +48,8 @@ numbered : (r : DataReader) (fed : Fed) (tail line : List ℕ) (fed_is : HasFed 
     ≡ daily_lines fed.ended ++ file_lines (length fed.ended + 1, fed_is.whole ++ tail)
 numbered r fed tail line is one =
     let file = length fed.ended + 1 in
-    rw (is.ended, is.counted, file_lines-one file is.whole tail (strip_carriage_return (r.rest.items ++ line)) is.ends one)
+    let this = strip_carriage_return (r.rest.items ++ line) in
+    rw (is.ended, is.counted, file_lines-one file is.whole tail this is.ends one)
     (append_assoc (daily_lines fed.ended) (file_lines (file, is.whole)) _)
 
 -- the current file with a line and its line feed

@@ -24,7 +24,8 @@ use Rattle.ghcn_series.specs.declared.gathering.Gathering.{Gathering}
 use Rattle.ghcn_series.specs.Series.{DayValue, value_on}
 use Rattle.ghcn_series.specs.Steps.{OfMonth, Gathers}
 use Rattle.ghcn_series.specs.Parts.{AreParts, AreNew, AreJoined}
-use Rattle.ghcn_series.specs.Gathered.{number_of, has_number, same_time, usable_days, gathered_days, kept_days, IsGathering}
+use Rattle.ghcn_series.specs.Gathered.{number_of, has_number, same_time, usable_days, gathered_days, kept_days}
+use Rattle.ghcn_series.specs.Gathered.{IsGathering}
 use Rattle.ghcn_series.specs.SeenMonths.{has_month, Adds}
 use Rattle.ghcn_series.proofs.Lookups.{value_on-append}
 use Rattle.ghcn_series.proofs.ApartParts.{new-behind}
