@@ -1,5 +1,5 @@
 -- The runs of the bits of a word.
-use Rattle.std.proofs.Common.{◌≡◌, ℕ, zero, suc, ◌+◌, ◌-◌, ◌*◌, ◌/◌, ◌%◌, ◌<◌, ◌≤◌, ◌^◌, true, false, min, ◌⊎◌, inl}
+use Rattle.std.proofs.Common.{◌≡◌, ℕ, zero, suc, ◌+◌, ◌-◌, ◌*◌, ◌/◌, ◌%◌, ◌<◌, ◌≤◌, ◌^◌, true, min, ◌⊎◌, inl}
 use Rattle.std.proofs.Common.{inr, refl, sym, ap, ◌∙◌, arith, w32}
 use Rattle.std.specs.Prelude.{◌==◌, bit_and}
 use Rattle.std.specs.Int.{bit_at, bit_not, leading_ones, trailing_ones, trailing_zeros}
@@ -7,16 +7,14 @@ use Rattle.std.proofs.lemmas.Nat.{leading_top}
 use Rattle.std.proofs.lemmas.Nat.Bits.{bit_at-lt, bit_at-zero, bit_at_and, bit_at_above, bit_at_cat_low}
 use Rattle.std.proofs.lemmas.Nat.Bits.{bit_at_cat_high, bit_at_not, bit_at_ones, bit_at-trailing_ones}
 use Rattle.std.proofs.lemmas.Nat.Bits.{bit_at-trailing_zeros}
+use Rattle.std.proofs.Math.Nat.{pow-succ'}
+use Rattle.ghcn_series.proofs.LastDays.{highest-bit}
 use Rattle.rank_blocks.specs.DayRuns.{has_bit, AllPass, ComeFirst, ComeLast}
 use Rattle.rank_blocks.proofs.DayTests.{at_most_or_more}
 
--- a bit that is set, and one that isn't
-set-true : (word j : ℕ) → bit_at word j ≡ 1 → has_bit word j ≡ true
-set-true word j e = ap (λ (k : ℕ). k == 1) e
-
--- a bit that isn't set fails
-set-false : (word j : ℕ) → bit_at word j ≡ 0 → has_bit word j ≡ false
-set-false word j e = ap (λ (k : ℕ). k == 1) e
+-- a bit that is set passes, and one that isn't fails
+set-is : (word j b : ℕ) → bit_at word j ≡ b → has_bit word j ≡ (b == 1)
+set-is word j b e = ap (λ (k : ℕ). k == 1) e
 
 -- the bits of a word moved up by one place
 moved-up : (w k : ℕ) → k + 1 < 32 → bit_at (w * 2 ^ 1 % 2 ^ 32) (k + 1) ≡ bit_at w k
@@ -122,7 +120,7 @@ full-or_not word fits = elim (at_most_or_more (2 ^ 32) (word + 1)) [ inl le ↦ 
 
 -- all bits of a full word are set
 full-set : (word j : ℕ) → word ≡ 2 ^ 32 - 1 → j < 32 → has_bit word j ≡ true
-full-set word j full lt = set-true word j (ap (λ (w : ℕ). bit_at w j) full ∙ bit_at_ones 32 j lt)
+full-set word j full lt = set-is word j 1 (ap (λ (w : ℕ). bit_at w j) full ∙ bit_at_ones 32 j lt)
 
 -- all bits of a full word come first
 full-first : trailing_ones w32 4_294_967_295 ≡ 32
@@ -150,18 +148,10 @@ first-ones word fits =
           let lowest = bit_at-trailing_ones w32 word other in
           record {
             within = (let lt = lowest.0 in omega arith);
-            pass = λ k low high. set-true word k (lowest.2 k high);
-            ends = λ some. set-false word (trailing_ones w32 word) lowest.1;
+            pass = λ k low high. set-is word k 1 (lowest.2 k high);
+            ends = λ some. set-is word (trailing_ones w32 word) 0 lowest.1;
           }
     ]
-
--- the highest bit of a number
-highest-bit : (m t : ℕ) → 2 ^ t ≤ m → m < 2 ^ suc t → bit_at m t ≡ 1
-highest-bit m t low high =
-    let rest : ℕ = m - 2 ^ t in
-    let parts : 1 * 2 ^ t + rest ≡ m = omega arith in
-    ap (λ (k : ℕ). bit_at k t) (sym parts) ∙ bit_at_cat_high 1 t rest t (omega arith) (omega arith)
-    ∙ ap (bit_at 1) {x = t - t} {y = 0} (omega arith)
 
 -- the bits that come last
 pub last-ones : (word : ℕ) → word < 2 ^ 32 → ComeLast (has_bit word) 32 (leading_ones w32 word)
@@ -179,19 +169,19 @@ last-ones word fits =
           let unset : ℕ = bit_not w32 word in
           let top = leading_top 32 unset (omega arith) (omega arith) in
           let j : ℕ = top.0 in
-          let highest = highest-bit unset j top.2 top.3 in
+          let highest = (highest-bit unset j top.2 (omega (arith, top.3, pow-succ' 2 j))).0 in
           record {
             within = omega arith;
             pass = λ from at k low high.
                 let above = bit_at_above unset (suc j) k top.3 (omega arith) in
                 let of_not = bit_at_not w32 word k fits high in
                 let bit = bit_at-lt word k in
-                set-true word k (omega arith);
+                set-is word k 1 (omega arith);
             begins = λ k at.
                 let here : k ≡ j = omega arith in
                 let of_not = bit_at_not w32 word k fits (omega arith) in
                 let bit = bit_at-lt word k in
                 let set = ap (bit_at unset) here ∙ highest in
-                set-false word k (omega arith);
+                set-is word k 0 (omega arith);
           }
     ]
