@@ -1,5 +1,4 @@
 pub mod Begins
-pub mod Shares
 pub mod Scores
 pub mod Rising
 pub mod Settling

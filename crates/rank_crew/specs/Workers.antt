@@ -68,11 +68,10 @@ pub record Works (b : Board) (t : Task) (w : ℕ) (before after : Seat) (h : Hau
 
 -- ---- some workers
 
--- a seat of the board with rights enough for the workers of these numbers, which are below 64
-pub record HasShare (b : Board) (t : Task) (from workers : ℕ) (s : Seat) : Type 0 where
+-- a seat of the board with rights enough for so many workers
+pub record HasShare (b : Board) (t : Task) (workers : ℕ) (s : Seat) : Type 0 where
   pub mine : IsSeatOf b s
   pub some : 0 < workers
-  pub limit : from + workers ≤ 64
   pub rights : workers * (t.len + 1) ≤ rights_of s
 
 -- sound workers, with these numbers and upwards, did their work between two moments of a seat,

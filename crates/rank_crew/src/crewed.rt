@@ -55,7 +55,7 @@ fn gather<R: Threads + Wait + Sync, G: Gate + Sync>(
 {
     let (board, seat) = Board::open(alloc, workers * (plan.len() + 1), guess)?;
     let job = PlanJob { plan, gate };
-    let (seat, hauls) = part(rt, alloc, &job, &board, seat, 0, workers);
+    let (seat, hauls) = part(rt, alloc, &job, &board, seat, workers);
     board.close(seat);
     hauls
 }

@@ -4,10 +4,10 @@
 //! `extremes` runs them. The crate gives the plan of a query, and a crew's answer.
 #![tactic(auto)]
 
+mod both;
 mod crewed;
 mod cut;
 mod gate;
-mod halves;
 mod job;
 mod part;
 mod places;

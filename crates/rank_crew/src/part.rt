@@ -1,11 +1,11 @@
-//! Some workers at once: half of them in a thread of their own, and so on down to one.
+//! Some workers at once, each but the first in a thread of its own.
 
 ghost use Rattle.std.specs.Prelude.{◌≡◌, ◌∷◌, [], ◌+◌, ◌≤◌, IfOk};
 ghost use denote.Param.Send.{IsSync};
 ghost use Rattle.rank_board.specs.Seats.{rights_of, IsSeatOf};
 ghost use Rattle.rank_crew.specs.Workers as crew;
 
-use crate::halves::both;
+use crate::both::both;
 use crate::job::Job;
 use ghcn_fields::Memory;
 use rank_board::{Board, Seat};
@@ -14,43 +14,40 @@ use std::alloc::Global;
 use std::sync::Wait;
 use std::thread::{Threads, join};
 
-/// So many workers with these numbers and upwards, started by halves in threads. Where a thread
-/// can't be started, the caller does that half too.
+/// The first so many workers of a job. The last of them has a thread; the caller starts the others in
+/// the same way, and is the first. Where a thread can't be started, the caller does its work too.
 pub(crate) fn part<R: Threads + Wait + Sync, J: Job + Sync>(
     rt: &R,
     alloc: Global,
     job: &J,
     board: &Board,
     mut seat: Seat,
-    from: u64,
     workers: u64,
 ) -> (Seat, Result<Vec<Haul>, Memory>)
-    requires { crew.HasShare board.now (J.task job.now) from workers seat }
+    requires { crew.HasShare board.now (J.task job.now) workers seat }
     ensures kept { crew.IsKept board.now seat result.0 }
     ensures gathers { IfOk result.1
-        (λ hauls. crew.Gathers board.now (J.task job.now) from workers seat result.0 hauls.items) }
+        (λ hauls. crew.Gathers board.now (J.task job.now) 0 workers seat result.0 hauls.items) }
 {
-    if workers == 1 {
-        return alone(rt, alloc, job, board, seat, from);
+    let last = workers - 1;
+    if last == 0 {
+        return alone(rt, alloc, job, board, seat, 0);
     }
-    let fewer = workers / 2;
-    let more = workers - fewer;
-    let after = from + more;
-    let other = board.split(&mut seat, fewer * (job.len() + 1));
-    let ((mut seat, first), (other, second)) = join(
+    let other = board.split(&mut seat, job.len() + 1);
+    let ((other, second), (mut seat, first)) = join(
         rt,
         move ||
             requires { IsSync R.row × IsSync J.row
-                × crew.HasShare board.now (J.task job.now) from more seat }
-            ensures { crew.IsKept board.entry.now seat result.0 × IfOk result.1
-                (λ hauls. crew.Gathers board.entry.now (J.task job.entry.now) from more seat result.0 hauls.items) }
-        { part(rt, alloc, job, board, seat, from, more) },
+                × crew.HasShare board.now (J.task job.now) 1 other }
+            ensures { crew.IsKept board.entry.now other result.0 × IfOk result.1
+                (λ hauls. crew.Gathers board.entry.now (J.task job.entry.now) last 1 other result.0 hauls.items) }
+        { alone(rt, alloc, job, board, other, last) },
         move ||
             requires { IsSync R.row × IsSync J.row
-                × crew.HasShare board.now (J.task job.now) after fewer other }
-            ensures { crew.IsKept board.entry.now other result.0 × IfOk result.1
-                (λ hauls. crew.Gathers board.entry.now (J.task job.entry.now) after fewer other result.0 hauls.items) }
-        { part(rt, alloc, job, board, other, after, fewer) },
+                × crew.HasShare board.now (J.task job.now) last seat }
+            ensures { crew.IsKept board.entry.now seat result.0 × IfOk result.1
+                (λ hauls. crew.Gathers board.entry.now (J.task job.entry.now) 0 last seat result.0 hauls.items) }
+        { part(rt, alloc, job, board, seat, last) },
     );
     board.join(&mut seat, other);
     (seat, both(first, second))

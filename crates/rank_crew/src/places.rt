@@ -5,8 +5,8 @@ ghost use denote.Param.Send.{IsSync};
 ghost use Rattle.rank_crew.specs.Places as crew;
 
 use crate::Gate;
-use crate::cut::cut;
-use crate::halves::both;
+use crate::both::both;
+use crate::cut::{LastPart, cut};
 use ghcn_fields::{Day, Memory};
 use ghcn_series::{Data, Series};
 use rank_query::Query;
@@ -86,42 +86,40 @@ fn blocks_between((first, last): (Day, Day)) -> u32 {
     last.block().abs_diff(first.block())
 }
 
-/// The bounds of the places from one up to another, by so many workers, started by halves in
-/// threads. Each half of the workers has its share of the work. Where a thread can't be started, the
-/// caller does that half too.
-pub(crate) fn measure_part<R: Threads + Wait + Sync, P: Places + Sync>(
+/// The bounds of the places before one, which have this weight, by so many workers. The last worker
+/// has a thread, and its share of the weight; the caller starts the others in the same way, and is the
+/// first. Where a thread can't be started, the caller measures its places too.
+pub(crate) fn measure_places<R: Threads + Wait + Sync, P: Places + Sync>(
     rt: &R,
     alloc: Global,
     places: &P,
-    worker: u64,
     workers: u64,
-    from: u64,
     to: u64,
+    weight: u64,
 ) -> Result<Vec<Option<i64>>, Memory>
     requires some { 0 < workers }
-    requires limit { worker + workers ≤ 64 }
-    requires within { crew.IsPart from to (P.bounds places.now) }
-    ensures { IfOk result (λ bounds. bounds.items ≡ crew.part_of from to (P.bounds places.now)) }
+    requires within { crew.IsPart 0 to (P.bounds places.now) }
+    ensures { IfOk result (λ bounds. bounds.items ≡ crew.part_of 0 to (P.bounds places.now)) }
 {
-    if workers == 1 {
-        return measure_alone(rt, alloc, places, worker, from, to);
+    let last = workers - 1;
+    if last == 0 {
+        return measure_alone(rt, alloc, places, 0, 0, to);
     }
-    let fewer = workers / 2;
-    let more = workers - fewer;
-    let next = worker + more;
-    let middle = cut(places, from, to, more, workers);
-    let (first, second) = join(
+    let LastPart {
+        from,
+        weight: share,
+    } = cut(places, to, weight / workers);
+    let rest = weight.saturating_sub(share);
+    let (second, first) = join(
         rt,
         move ||
-            requires { IsSync R.row × IsSync P.row × (0 < more) × (worker + more ≤ 64)
-                × crew.IsPart from middle (P.bounds places.now) }
-            ensures { IfOk result (λ bounds. bounds.items ≡ crew.part_of from middle (P.bounds places.entry.now)) }
-        { measure_part(rt, alloc, places, worker, more, from, middle) },
+            requires { IsSync R.row × IsSync P.row × crew.IsPart from to (P.bounds places.now) }
+            ensures { IfOk result (λ bounds. bounds.items ≡ crew.part_of from to (P.bounds places.entry.now)) }
+        { measure_alone(rt, alloc, places, last, from, to) },
         move ||
-            requires { IsSync R.row × IsSync P.row × (0 < fewer) × (next + fewer ≤ 64)
-                × crew.IsPart middle to (P.bounds places.now) }
-            ensures { IfOk result (λ bounds. bounds.items ≡ crew.part_of middle to (P.bounds places.entry.now)) }
-        { measure_part(rt, alloc, places, next, fewer, middle, to) },
+            requires { IsSync R.row × IsSync P.row × (0 < last) × crew.IsPart 0 from (P.bounds places.now) }
+            ensures { IfOk result (λ bounds. bounds.items ≡ crew.part_of 0 from (P.bounds places.entry.now)) }
+        { measure_places(rt, alloc, places, last, from, rest) },
     );
     both(first, second)
 }

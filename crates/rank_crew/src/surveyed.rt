@@ -4,7 +4,8 @@ ghost use Rattle.std.specs.Prelude.{◌≡◌, ◌<◌, ◌≤◌, IfOk};
 ghost use Rattle.rank_sched.specs.Plan.{planned};
 
 use crate::Gate;
-use crate::places::{StationPlaces, measure_part};
+use crate::cut::weight_of;
+use crate::places::{StationPlaces, measure_places};
 use ghcn_fields::Memory;
 use ghcn_series::Data;
 use rank_query::Query;
@@ -30,6 +31,7 @@ pub fn survey<'d, R: Threads + Wait + Sync, G: Gate + Sync>(
 {
     let places = StationPlaces { held, query, gate };
     let all = held.stations().len();
-    let bounds = measure_part(rt, alloc, &places, 0, workers, 0, all)?;
+    let weight = weight_of(&places, all);
+    let bounds = measure_places(rt, alloc, &places, workers, all, weight)?;
     Plan::of_bounds(alloc, held, query, bounds.as_slice())
 }

@@ -207,8 +207,7 @@ fn morsel_at<'a>(
         ≡ Some (option_map plan.planned_morsel result) }
 {
     let bound = bound?;
-    let station = held.stations().at(place)?;
-    let series = held.series(&station.id, element)?;
+    let series = held.series_at(place, element)?;
     Some(Morsel { series, bound })
 }
 

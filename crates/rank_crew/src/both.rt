@@ -1,10 +1,10 @@
-//! What two halves of some workers bring home, as one list.
+//! What two groups of workers bring home, as one list.
 
 ghost use Rattle.std.specs.Prelude.{◌≡◌, ◌++◌, IfOk, IsOkAnd};
 
 use ghcn_fields::Memory;
 
-/// Both lists, one behind the other.
+/// Both lists, the second behind the first.
 pub(crate) fn both<T: Drop>(
     first: Result<Vec<T>, Memory>,
     second: Result<Vec<T>, Memory>,
