@@ -1,5 +1,6 @@
 /* Preloaded before a program, lets one of its calls of the system end otherwise. The environment says which:
-   FAIL_CALL   open, read or write; calls that write to standard error aren't meant
+   FAIL_CALL   open, read, write or thread, which is the start of one; calls that write to standard error
+               aren't meant
    FAIL_AT     the number of that call, from 1; 0 for each of them
    FAIL_HOW    fail: it ends with an error; one: it takes or gives one byte; signal: it is interrupted;
                full: writes take this many bytes in all, and then there is no space; FAIL_AT is that number;
@@ -11,6 +12,7 @@
 #include <dlfcn.h>
 #include <errno.h>
 #include <fcntl.h>
+#include <pthread.h>
 #include <stdarg.h>
 #include <stdatomic.h>
 #include <stdlib.h>
@@ -111,4 +113,9 @@ ssize_t write(int file, const void *from, size_t size) {
 
 ssize_t __write(int file, const void *from, size_t size) {
     return write(file, from, size);
+}
+
+int pthread_create(pthread_t *thread, const pthread_attr_t *attributes, void *(*start)(void *), void *given) {
+    int (*real)(pthread_t *, const pthread_attr_t *, void *(*)(void *), void *) = dlsym(RTLD_NEXT, "pthread_create");
+    return is_met("thread") ? EAGAIN : real(thread, attributes, start, given);
 }
