@@ -1,6 +1,8 @@
 -- What one worker says as a group of one, and what two groups say together.
-use Rattle.std.proofs.Common.{◌≡◌, ℕ, ◌+◌, List, [], ◌∷◌, ◌++◌, ℤ, Result, Ok, Err, IfOk, IsOkAnd, All, Contains, refl, sym, ap, ◌∙◌, subst, arith, length-append, append-nil}
-use Rattle.std.proofs.lemmas.List.Elements.{All-append, All-weaker, All-contains_itself, Contains-append_left, Contains-append_right}
+use Rattle.std.proofs.Common.{◌≡◌, ℕ, ◌+◌, List, [], ◌∷◌, ◌++◌, ℤ, Result, Ok, Err, IfOk, IsOkAnd, All, Contains}
+use Rattle.std.proofs.Common.{refl, sym, ap, ◌∙◌, subst, arith, length-append, append-nil}
+use Rattle.std.proofs.lemmas.List.Elements.{All-append, All-weaker, All-contains_itself, Contains-append_left}
+use Rattle.std.proofs.lemmas.List.Elements.{Contains-append_right}
 use Rattle.ghcn_fields.specs.Counting.{times}
 use Rattle.ghcn_fields.specs.CountingLaws.{times-append}
 use Rattle.rank_board.specs.declared.board.Board.{Board}

@@ -1,5 +1,6 @@
 -- Parts of lists: one place more, and two parts one behind the other.
-use Rattle.std.proofs.Common.{◌≡◌, ℕ, zero, suc, ◌+◌, ◌-◌, ◌≤◌, List, [], ◌∷◌, ◌++◌, take, drop, Some, Result, Ok, Err, IfOk, IsOkAnd, refl, sym, ap, ◌∙◌, arith}
+use Rattle.std.proofs.Common.{◌≡◌, ℕ, zero, suc, ◌+◌, ◌-◌, ◌≤◌, List, [], ◌∷◌, ◌++◌, take, drop, Some, Result, Ok}
+use Rattle.std.proofs.Common.{Err, IfOk, IsOkAnd, refl, sym, ap, ◌∙◌, arith}
 use Rattle.std.specs.Prelude.{slice_get}
 use Rattle.rank_crew.specs.Places.{part_of}
 

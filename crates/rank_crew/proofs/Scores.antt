@@ -1,5 +1,6 @@
 -- What a worker raises after a morsel: the k-th score of all that it scanned, which can be a floor.
-use Rattle.std.proofs.Common.{◌≡◌, ℕ, zero, suc, ◌<◌, Bool, true, false, cond, List, [], ◌∷◌, ◌++◌, ℤ, Option, None, IfSome, refl, sym, ap, ◌∙◌, subst}
+use Rattle.std.proofs.Common.{◌≡◌, ℕ, zero, suc, ◌<◌, Bool, true, false, cond, List, [], ◌∷◌, ◌++◌, ℤ, Option, None}
+use Rattle.std.proofs.Common.{IfSome, refl, sym, ap, ◌∙◌, subst}
 use Rattle.std.specs.Prelude.{slice_get}
 use Rattle.std.specs.List.{fold, AllByRecursion}
 use Rattle.std.specs.Option.{option_map}
@@ -74,7 +75,8 @@ raises_score true k xs a = tt
 raises_score false k xs a = kth_is_score k xs a
 
 module _ (t : Task) (h h' : Haul) (r : Record) (raised : Option ℤ) (fair : IsFair t)
-    (pool : h.pool ≡ pool_of t (records_of h)) (settled : HasSettled t h r h') (is : raised ≡ cond r.skipped None (last_score h'.pool)) where
+    (pool : h.pool ≡ pool_of t (records_of h)) (settled : HasSettled t h r h')
+    (is : raised ≡ cond r.skipped None (last_score h'.pool)) where
   -- what is raised is what the record's exchange says
   pub raised_then : raised ≡ (exchange t (scanned t (records_of h)) r).raised
   raised_then = is ∙ last_then t.k r.skipped (scanned t (records_of h)) (t.candidates r.morsel) h.pool h'.pool fair.some

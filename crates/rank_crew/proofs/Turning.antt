@@ -1,5 +1,7 @@
 -- One worker: at the start, one turn further, and when it stops.
-use Rattle.std.proofs.Common.{◌≡◌, ℕ, zero, suc, ◌+◌, ◌<◌, ◌≤◌, List, [], ◌∷◌, ◌++◌, length, length-append, ℤ, ◌≤ℤ◌, Option, All, refl, sym, ap, ◌∙◌, subst, append-nil, append_assoc, option_to_list, arith}
+use Rattle.std.proofs.Common.{◌≡◌, ℕ, zero, suc, ◌+◌, ◌<◌, ◌≤◌, List, [], ◌∷◌, ◌++◌, length, length-append, ℤ, ◌≤ℤ◌}
+use Rattle.std.proofs.Common.{Option, All, refl, sym, ap, ◌∙◌, subst, append-nil, append_assoc, option_to_list}
+use Rattle.std.proofs.Common.{arith}
 use Rattle.std.specs.Prelude.{IsSomeAnd, take}
 use Rattle.std.specs.List.{AllByRecursion}
 use Rattle.std.proofs.lemmas.List.Elements.{recursion_from_All}
@@ -12,7 +14,8 @@ use Rattle.rank_board.specs.Calls.{Claims}
 use Rattle.rank_sched.specs.declared.record.Record.{Record}
 use Rattle.rank_sched.specs.declared.haul.Haul.{Haul}
 use Rattle.rank_sched.specs.Task.{Task}
-use Rattle.rank_sched.specs.Exchanges.{Exchange, morsels_of, scanned, pool_of, exchange, exchanges, seen_in, raised_in, SeeUpward, IsRightSkip}
+use Rattle.rank_sched.specs.Exchanges.{Exchange, morsels_of, scanned, pool_of, exchange, exchanges, seen_in}
+use Rattle.rank_sched.specs.Exchanges.{raised_in, SeeUpward, IsRightSkip}
 use Rattle.rank_sched.specs.Machine.{record_of}
 use Rattle.rank_sched.specs.SoundRun.{Rise}
 use Rattle.rank_sched.specs.Hauls.{records_of, exchanges_in, IsHaulOf}

@@ -1,5 +1,6 @@
 -- What a whole seat says of a group that has all workers: together they are a sound run that has stopped.
-use Rattle.std.proofs.Common.{◌≡◌, ℕ, ◌<◌, List, [], ◌∷◌, ◌++◌, length, ℤ, Option, Result, Ok, Err, IfOk, All, Contains, refl, ap, ◌∙◌, subst, arith}
+use Rattle.std.proofs.Common.{◌≡◌, ℕ, ◌<◌, List, [], ◌∷◌, ◌++◌, length, ℤ, Option, Result, Ok, Err, IfOk, All}
+use Rattle.std.proofs.Common.{Contains, refl, ap, ◌∙◌, subst, arith}
 use Rattle.std.proofs.lemmas.List.Elements.{All-weaker, All-contains}
 use Rattle.ghcn_fields.specs.Counting.{times}
 use Rattle.ghcn_fields.specs.Floor.{IsFloorOf, IsGuessOrRaised}

@@ -1,5 +1,6 @@
 -- What workers do to a seat of a board, and what they bring home.
-use Rattle.std.specs.Prelude.{◌≡◌, ℕ, ◌+◌, ◌*◌, ◌<◌, ◌≤◌, true, List, ◌++◌, length, ℤ, Option, option_to_list, All, Contains}
+use Rattle.std.specs.Prelude.{◌≡◌, ℕ, ◌+◌, ◌*◌, ◌<◌, ◌≤◌, true, List, ◌++◌, length, ℤ, Option, option_to_list, All}
+use Rattle.std.specs.Prelude.{Contains}
 use Rattle.ghcn_fields.specs.Counting.{times}
 use Rattle.ghcn_fields.specs.Floor.{IsAtLeast}
 use Rattle.rank_board.specs.declared.seat.Seat.{Seat}

@@ -1,4 +1,5 @@
-use Rattle.std.proofs.Common.{◌≡◌, ◌++◌, refl, ℤ, Option, Some, to_z, of_z, rules, ap, sym, ◌∙◌, append-nil, option_to_list}
+use Rattle.std.proofs.Common.{◌≡◌, ◌++◌, refl, ℤ, Option, Some, to_z, of_z, rules, ap, sym, ◌∙◌, append-nil}
+use Rattle.std.proofs.Common.{option_to_list}
 use mir.Syntax.{w64}
 use Rattle.rank_board.specs.Seats.{raised_of}
 use Rattle.rank_sched.specs.Task.{task_of}
