@@ -98,7 +98,8 @@ guess_read gives parses (Some t) (Some n) none value = let r = parses t (Ok n) (
 
 -- and so is what is read of the text of a count
 pub count_read : {E : Type 0} (gives : List ℕ → Result ℕ E → Type 0)
-    → ((bs : List ℕ) (r : Result ℕ E) → gives bs r → ParsesUnsigned 64 10 bs r) → (text : Option Text) (count : Option ℕ)
+    → ((bs : List ℕ) (r : Result ℕ E) → gives bs r → ParsesUnsigned 64 10 bs r)
+    → (text : Option Text) (count : Option ℕ)
     → (text ≡ None → count ≡ None) → ((t : Text) → text ≡ Some t → ReadsOne gives t count) → IsCount text count
 count_read gives parses None count none value = none refl
 count_read gives parses (Some t) None none value = let r = value t refl in parses t (Err r.0) r.1

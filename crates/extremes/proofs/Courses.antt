@@ -13,7 +13,8 @@ use Rattle.extremes.specs.declared.intake.Opened.{Opened}
 use Rattle.extremes.specs.declared.intake.Course.TheVariants.{Reading, Refused}
 use Rattle.extremes.specs.Input.{of_data}
 use Rattle.extremes.specs.declared.intake.Intake.{Intake}
-use Rattle.extremes.specs.Taken.{fed_of, with_bytes, with_file_end, HasCourseSome, ReadsBytes, ReadsFileEnd, IsCount, CountsOneMore}
+use Rattle.extremes.specs.Taken.{fed_of, with_bytes, with_file_end, HasCourseSome, ReadsBytes, ReadsFileEnd}
+use Rattle.extremes.specs.Taken.{IsCount, CountsOneMore}
 use Rattle.extremes.specs.Taken.{TakesBytes, TakesFileEnd}
 use Rattle.extremes.proofs.GoingOn.{decides-bytes, decides-end, told_on, behind_one}
 

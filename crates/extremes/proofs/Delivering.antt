@@ -1,5 +1,6 @@
 -- A paper that is written bit by bit.
-use Rattle.std.proofs.Common.{◌≡◌, ℕ, List, [], ◌++◌, Option, None, Some, length, ◌-◌, take, drop, refl, sym, ap, ◌∙◌, subst, append_assoc, append-nil, take-append-drop}
+use Rattle.std.proofs.Common.{◌≡◌, ℕ, List, [], ◌++◌, Option, None, Some, length, ◌-◌, take, drop, refl, sym, ap}
+use Rattle.std.proofs.Common.{◌∙◌, subst, append_assoc, append-nil, take-append-drop}
 use Rattle.std.proofs.lemmas.List.{take_rest}
 use Rattle.std.specs.Io.KnownBytes.{Appends}
 use Rattle.std.proofs.KnownBytes.{Appends-trans}
@@ -20,21 +21,32 @@ pub record HasTaken (paper rest : List ℕ) (before after : Option (List ℕ)) :
   pub given : Appends before after part
 
 -- n bytes more are given
-pub more-taken : (paper rest : List ℕ) (n : ℕ) (before between after : Option (List ℕ)) → HasTaken paper rest before between → Appends between after (take n rest) → HasTaken paper (take (length rest - n) (drop n rest)) before after
+pub more-taken : (paper rest : List ℕ) (n : ℕ) (before between after : Option (List ℕ))
+    → HasTaken paper rest before between → Appends between after (take n rest)
+    → HasTaken paper (take (length rest - n) (drop n rest)) before after
 more-taken paper rest n before between after taken more = record {
   part = taken.part ++ take n rest;
-  split = taken.split ∙ ap (λ l. taken.part ++ l) (sym (take-append-drop n rest)) ∙ sym (append_assoc taken.part (take n rest) (drop n rest)) ∙ ap (λ l. (taken.part ++ take n rest) ++ l) (sym (take_rest rest n));
+  split = taken.split ∙ ap (λ l. taken.part ++ l) (sym (take-append-drop n rest))
+      ∙ sym (append_assoc taken.part (take n rest) (drop n rest))
+      ∙ ap (λ l. (taken.part ++ take n rest) ++ l) (sym (take_rest rest n));
   given = Appends-trans _ _ _ _ _ taken.given more;
 }
 
 -- a writer that stays as it was has the empty beginning
 nothing-given : (paper : List ℕ) (before after : Option (List ℕ)) → after ≡ before → HasBeginning paper before after
 nothing-given paper None after same = record { part = []; rest = paper; of_paper = refl; given = tt }
-nothing-given paper (Some held) after same = record { part = []; rest = paper; of_paper = refl; given = subst (λ a. Appends (Some held) a []) (sym same) (sym (append-nil held)) }
+nothing-given paper (Some held) after same = record {
+  part = [];
+  rest = paper;
+  of_paper = refl;
+  given = subst (λ a. Appends (Some held) a []) (sym same) (sym (append-nil held));
+}
 
 -- where the certificate couldn't be written, the answer is printed with no byte of its report
-pub printed-nothing : (answer : Result Papers Fault) (before after : Option (List ℕ)) (ending : Ending) (papers : Papers) (delivery : Delivery)
-    → answer ≡ Ok papers → delivery ≡ CertificateFailed → ending ≡ File → IsReported papers before after delivery → IsPrinted answer before after ending
+pub printed-nothing : (answer : Result Papers Fault) (before after : Option (List ℕ)) (ending : Ending)
+    (papers : Papers) (delivery : Delivery)
+    → answer ≡ Ok papers → delivery ≡ CertificateFailed → ending ≡ File
+    → IsReported papers before after delivery → IsPrinted answer before after ending
 printed-nothing answer before after ending papers delivery answered failed ended reported =
     subst (λ a. IsPrinted a before after ending) (sym answered)
     (subst (λ e. IsPrinted (Ok papers) before after e) (sym ended)

@@ -120,7 +120,8 @@ judges_input t query held report certificate v reports certificates verdicts hol
 papers_for : (query : Asked) (held whole : Contents) (papers : Papers) → ReportStays → MeasuredStays
     → held ≡ data_for query whole → ArePapers query held papers → ArePapers query whole papers
 papers_for query held whole papers reports certificates needed are =
-    let of : ArePapers query (data_for query whole) papers = subst (λ (h : Contents). ArePapers query h papers) needed are in
+    let of : ArePapers query (data_for query whole) papers =
+    subst (λ (h : Contents). ArePapers query h papers) needed are in
     record {
       report = (reports query whole papers.report.items).0 of.report;
       certificate = (certificates query whole papers.certificate.items).0 of.certificate;

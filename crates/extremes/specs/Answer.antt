@@ -8,7 +8,8 @@ use Rattle.rank_papers.specs.PlanPapers.{IsMeasuredCertificate, IsReportOfPlan, 
 use Rattle.extremes.specs.declared.papers.Papers.{Papers}
 use Rattle.extremes.specs.Input.{read_input}
 
--- the papers of a query and data: the right report, a right certificate whose bounds are those of the series, and how many lines are of unlisted stations
+-- the papers of a query and data: the right report, a right certificate whose bounds are those of the series, and how
+-- many lines are of unlisted stations
 pub record ArePapers (q : Asked) (c : Contents) (papers : Papers) : Type 0 where
   pub report : IsReport q c papers.report.items
   pub certificate : IsMeasuredCertificate q c papers.certificate.items

@@ -1,10 +1,12 @@
 -- What the words of a command line ask for, in `clap`'s words.
-use Rattle.std.specs.Prelude.{◌≡◌, ◌⊎◌, List, [], ◌∷◌, map, codes, Option, Some, None, unwrap_or, Bool, true, String, string_bytes}
+use Rattle.std.specs.Prelude.{◌≡◌, ◌⊎◌, List, [], ◌∷◌, map, codes, Option, Some, None, unwrap_or, Bool, true}
+use Rattle.std.specs.Prelude.{String, string_bytes}
 use Rattle.std.specs.Prelude.{ℕ, ◌<◌, ◌^◌, ℤ, pos, negsuc, FitsSigned}
 use Rattle.std.specs.Option.{option_map}
 use Rattle.clap.specs.declared.builder.Arg.{Arg}
 use Rattle.std.specs.Int.{w64}
-use Rattle.std.specs.Str.Parse.{IsNumeral, without_leading_sign, without_leading_plus, signed_digits_value, digits_value}
+use Rattle.std.specs.Str.Parse.{IsNumeral, without_leading_sign, without_leading_plus, signed_digits_value}
+use Rattle.std.specs.Str.Parse.{digits_value}
 use Rattle.clap.specs.Words.{App, Row, Rule, Text, all_of, first_of, one_of, new_app, new_rule, subcommand_of}
 use Rattle.clap.specs.Words.{with_rule, with_subcommand, fault_of}
 use Rattle.clap.specs.Lexer.{usize_max}

@@ -23,7 +23,8 @@ IsGiven true paper before after = Appends before after paper
 IsGiven false paper before after = after ≡ before
 
 -- what the writers of the certificate and of the report were given, by how the writing ended
-abbrev pub IsDelivered : Papers → Bool → Option (List ℕ) → Option (List ℕ) → Option (List ℕ) → Option (List ℕ) → Delivery → Type 0
+abbrev pub IsDelivered : Papers → Bool → Option (List ℕ) → Option (List ℕ) → Option (List ℕ) → Option (List ℕ)
+    → Delivery → Type 0
 IsDelivered papers wanted c c' r r' Done =
     IsGiven wanted papers.certificate.items c c' × Appends r r' papers.report.items
 IsDelivered papers wanted c c' r r' CertificateFailed =

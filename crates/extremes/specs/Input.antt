@@ -13,7 +13,10 @@ use Rattle.rank_query.specs.declared.fault.QueryFault.TheVariants as query
 use Rattle.rank_query.specs.Asked.{Asked}
 use Rattle.rank_query.specs.Reading.{read_query}
 use Rattle.extremes.specs.declared.fault.Fault.{Fault}
-use Rattle.extremes.specs.declared.fault.Fault.TheVariants.{StationLine, TooManyStations, Memory, DailyLine, TooManyFiles, QueryTooLong, UnexpectedWord, QueryEnds, OutOfLimits, BadDate, BadBox, EmptyPeriod, BadWorkers, BadGuess}
+use Rattle.extremes.specs.declared.fault.Fault.TheVariants.{StationLine, TooManyStations, Memory, DailyLine}
+use Rattle.extremes.specs.declared.fault.Fault.TheVariants.{TooManyFiles, QueryTooLong, UnexpectedWord, QueryEnds}
+use Rattle.extremes.specs.declared.fault.Fault.TheVariants.{OutOfLimits, BadDate, BadBox, EmptyPeriod, BadWorkers}
+use Rattle.extremes.specs.declared.fault.Fault.TheVariants.{BadGuess}
 
 -- a guess that may be made: none, or a score from -2^31 to 2^31
 abbrev pub is_guess : Option ℤ → Bool
@@ -51,7 +54,8 @@ abbrev pub then_read : {A B E : Type 0} → (E → Fault) → Result A E → (A 
 then_read of (Ok a) next = next a
 then_read of (Err e) next = Err (of e)
 
--- the query and the data that the input holds, or the first fault: of the guess, the query, the stations, the daily files
+-- the query and the data that the input holds, or the first fault: of the guess, the query, the stations, the daily
+-- files
 abbrev pub read_input : Option ℤ → List ℕ → List ℕ → List (List ℕ) → Result (Asked × Contents) Fault
 read_input guess query stations files =
     if is_guess guess

@@ -23,6 +23,7 @@ pub record IsJudged (query stations : List ℕ) (files : List (List ℕ)) (repor
 
 -- papers that answer an input are accepted on that input, whatever the guess was
 abbrev pub AnswersAreAccepted : Type 0
-AnswersAreAccepted = (guess : Option ℤ) (query stations : List ℕ) (files : List (List ℕ)) (papers : Papers) (v : Verdict)
+AnswersAreAccepted = (guess : Option ℤ) (query stations : List ℕ) (files : List (List ℕ)) (papers : Papers)
+    (v : Verdict)
     → Answers guess query stations files papers
     → IsJudged query stations files papers.report.items papers.certificate.items v → v ≡ Accepted

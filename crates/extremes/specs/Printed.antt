@@ -11,13 +11,15 @@ use Rattle.rank_check.specs.declared.verdict.Verdict.{Verdict}
 use Rattle.extremes.specs.Delivered.{HasBeginning}
 use Rattle.extremes.specs.Ending.{ending_of}
 
--- what the report's writer was given: the whole report, nothing behind a certificate that couldn't be written, or a beginning
+-- what the report's writer was given: the whole report, nothing behind a certificate that couldn't be written, or a
+-- beginning
 abbrev pub IsReported : Papers → Option (List ℕ) → Option (List ℕ) → Delivery → Type 0
 IsReported papers before after delivery.Done = Appends before after papers.report.items
 IsReported papers before after delivery.CertificateFailed = after ≡ before
 IsReported papers before after delivery.ReportFailed = HasBeginning papers.report.items before after
 
--- papers end done with the whole report written, or as a file that couldn't be written with a beginning of it; a fault writes nothing
+-- papers end done with the whole report written, or as a file that couldn't be written with a beginning of it; a fault
+-- writes nothing
 abbrev pub IsPrinted : Result Papers Fault → Option (List ℕ) → Option (List ℕ) → Ending → Type 0
 IsPrinted (Ok papers) before after Done = Appends before after papers.report.items
 IsPrinted (Ok papers) before after Refused = ⊥
@@ -25,7 +27,8 @@ IsPrinted (Ok papers) before after Words = ⊥
 IsPrinted (Ok papers) before after File = HasBeginning papers.report.items before after
 IsPrinted (Err fault) before after ending = (ending ≡ Refused) × (after ≡ before)
 
--- a verdict that was printed ends the run as it says, and one that couldn't be printed as a file that couldn't be written; a fault is refused
+-- a verdict that was printed ends the run as it says, and one that couldn't be printed as a file that couldn't be
+-- written; a fault is refused
 abbrev pub IsToldVerdict : Result Verdict Fault → Ending → Type 0
 IsToldVerdict (Ok v) ending = (ending ≡ ending_of v) ⊎ (ending ≡ File)
 IsToldVerdict (Err fault) ending = ending ≡ Refused

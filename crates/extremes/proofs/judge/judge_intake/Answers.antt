@@ -6,4 +6,5 @@ pub returns-clause-ok : goal.returns-clause-ok
 returns-clause-ok c =
     judges_input c.args.intake c.in_ok-query.query c.in_ok-query.held c.args.report.now c.args.certificate.now
     c.in_ok-check.field-0 c.papers_of_one_element.ensures.report c.papers_of_one_element.ensures.certificate
-    c.verdict_of_one_element.ensures c.in_ok-query.ensures.ok c.in_ok-check.ensures.verdict c.in_ok-check.ensures.accepted
+    c.verdict_of_one_element.ensures c.in_ok-query.ensures.ok
+    c.in_ok-check.ensures.verdict c.in_ok-check.ensures.accepted

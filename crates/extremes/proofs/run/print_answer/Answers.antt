@@ -1,7 +1,7 @@
--- Behind a certificate that couldn't be written the report has no byte.
 use Rattle.extremes.proofs.Delivering.{printed-nothing}
 use Rattle.extremes.proofs.run.print_answer.Goals as goal
 
+-- behind a certificate that couldn't be written the report has no byte
 pub returns-in-CertificateFailed : goal.returns-in-CertificateFailed
 returns-in-CertificateFailed g c =
     printed-nothing _ _ _ _ _ _ c.in-Ok.is c.in-CertificateFailed.is c.not_written.ensures c.write_papers.ensures

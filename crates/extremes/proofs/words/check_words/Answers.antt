@@ -17,14 +17,17 @@ returns c =
     ∙ ap₂ with_rule (c.in_ok-arg-3.ensures.shape c.needed-3.ensures.local
     ∙ ap₂ with_rule (c.in_ok-arg-2.ensures.shape c.needed-2.ensures.local
     ∙ ap₂ with_rule (c.in_ok-arg.ensures.shape c.needed.ensures.local
-    ∙ ap₂ with_rule made c.needed.ensures.rule) c.needed-2.ensures.rule) c.needed-3.ensures.rule) c.needed-4.ensures.rule in
+    ∙ ap₂ with_rule made c.needed.ensures.rule) c.needed-2.ensures.rule) c.needed-3.ensures.rule)
+    c.needed-4.ensures.rule in
     let without = c.in_ok-arg-4.ensures.globals
     ∙ ap₂ either (c.in_ok-arg-3.ensures.globals ∙ ap₂ either (c.in_ok-arg-2.ensures.globals
     ∙ ap₂ either (c.in_ok-arg.ensures.globals
-    ∙ ap₂ either plain c.needed.ensures.local) c.needed-2.ensures.local) c.needed-3.ensures.local) c.needed-4.ensures.local in
+    ∙ ap₂ either plain c.needed.ensures.local) c.needed-2.ensures.local) c.needed-3.ensures.local)
+    c.needed-4.ensures.local in
     record {
       app = IfOk-weaker c.arg-5.result _ _
-          (λ r h. h.shape c.daily_files.ensures.local ∙ ap₂ with_rule options c.daily_files.ensures.rule) c.arg-5.ensures;
+          (λ r h. h.shape c.daily_files.ensures.local ∙ ap₂ with_rule options c.daily_files.ensures.rule)
+          c.arg-5.ensures;
       local = IfOk-weaker c.arg-5.result _ _
           (λ r h. h.globals ∙ ap₂ either without c.daily_files.ensures.local) c.arg-5.ensures;
     }

@@ -1,4 +1,5 @@
-use Rattle.std.proofs.Common.{rules, ◌≡◌, ◌∙◌, ◌⊎◌, inl, inr, map, true, false, Some, refl, ap, ap₂, subst, sym, codes, IsSome}
+use Rattle.std.proofs.Common.{rules, ◌≡◌, ◌∙◌, ◌⊎◌, inl, inr, map, true, false, Some, refl, ap, ap₂, subst, sym}
+use Rattle.std.proofs.Common.{codes, IsSome}
 use Rattle.clap.specs.Words.{App, app_of, is_simple, fault_of, is_simple_and_free, subcommand_of}
 use Rattle.clap.specs.Words.{found_of, rows_of, subcommand_rows_of, subcommand_name_of, has_subcommand}
 use Rattle.clap.proofs.CallerLemmas.{subcommand_required}
@@ -42,8 +43,10 @@ unreachable-requires c =
     let named : (subcommand_name_of m ≡ Some (codes "rank")) ⊎ (subcommand_name_of m ≡ Some (codes "check"))
     = met_one _ _ (codes "rank") (codes "check") has rows_are (only_two (words_of c.args.words.now)) in
     elim named [
-      | inl is ↦ let bad : false ≡ true = subst (λ o. IsSome o) c.in_default.is (c.subcommand_matches.ensures.found.1 is) in cc
-      | inr is ↦ let bad : false ≡ true = subst (λ o. IsSome o) c.in_default-subcommand_matches.is (c.subcommand_matches-2.ensures.found.1 is) in cc
+      | inl is ↦ let bad : false ≡ true =
+          subst (λ o. IsSome o) c.in_default.is (c.subcommand_matches.ensures.found.1 is) in cc
+      | inr is ↦ let bad : false ≡ true =
+          subst (λ o. IsSome o) c.in_default-subcommand_matches.is (c.subcommand_matches-2.ensures.found.1 is) in cc
     ]
 
 -- what is read behind `rank` is its command

@@ -18,7 +18,8 @@ long_by t r = record r { long = Some t }
 
 -- the option is the one of the definition
 pub returns-clause-rule : goal.returns-clause-rule
-returns-clause-rule c = ap rule_of c.action.ensures ∙ ap set_once (ap rule_of c.help.ensures ∙ ap rule_of c.value_name.ensures
+returns-clause-rule c = ap rule_of c.action.ensures
+    ∙ ap set_once (ap rule_of c.help.ensures ∙ ap rule_of c.value_name.ensures
     ∙ ap named (ap rule_of c.long.ensures ∙ ap (long_by _) c.new.ensures.rule))
 
 -- and it is no option of subcommands

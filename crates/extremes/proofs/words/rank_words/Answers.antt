@@ -36,14 +36,17 @@ returns c =
     ∙ ap₂ with_rule (c.in_ok-arg-3.ensures.shape local_workers
     ∙ ap₂ with_rule (c.in_ok-arg-2.ensures.shape c.needed-2.ensures.local
     ∙ ap₂ with_rule (c.in_ok-arg.ensures.shape c.needed.ensures.local
-    ∙ ap₂ with_rule made c.needed.ensures.rule) c.needed-2.ensures.rule) workers_is) guess_is) c.option-3.ensures.rule in
+    ∙ ap₂ with_rule made c.needed.ensures.rule) c.needed-2.ensures.rule) workers_is) guess_is)
+    c.option-3.ensures.rule in
     let without = c.in_ok-arg-5.ensures.globals
     ∙ ap₂ either (c.in_ok-arg-4.ensures.globals ∙ ap₂ either (c.in_ok-arg-3.ensures.globals
     ∙ ap₂ either (c.in_ok-arg-2.ensures.globals ∙ ap₂ either (c.in_ok-arg.ensures.globals
-    ∙ ap₂ either plain c.needed.ensures.local) c.needed-2.ensures.local) local_workers) local_guess) c.option-3.ensures.local in
+    ∙ ap₂ either plain c.needed.ensures.local) c.needed-2.ensures.local) local_workers) local_guess)
+    c.option-3.ensures.local in
     record {
       app = IfOk-weaker c.arg-6.result _ _
-          (λ r h. h.shape c.daily_files.ensures.local ∙ ap₂ with_rule options c.daily_files.ensures.rule) c.arg-6.ensures;
+          (λ r h. h.shape c.daily_files.ensures.local ∙ ap₂ with_rule options c.daily_files.ensures.rule)
+          c.arg-6.ensures;
       local = IfOk-weaker c.arg-6.result _ _
           (λ r h. h.globals ∙ ap₂ either without c.daily_files.ensures.local) c.arg-6.ensures;
     }
