@@ -1,5 +1,5 @@
 use Rattle.extremes.specs.Taken.{HasTakenSome}
-use Rattle.extremes.proofs.tests.ranked_by_pieces.Given as goal
+use Rattle.extremes.proofs.tests.pieces.ranked_by_pieces.Given as goal
 
 -- what was given stays what an intake was given
 abbrev pub invariant-loop-file : goal.invariant-loop-file

@@ -1,5 +1,5 @@
 use Rattle.extremes.specs.Taken.{HasTakenSome}
-use Rattle.extremes.proofs.tests.end_files.Given as goal
+use Rattle.extremes.proofs.tests.pieces.end_files.Given as goal
 
 -- what was given stays what an intake was given
 abbrev pub invariant-loop : goal.invariant-loop

@@ -1,0 +1,123 @@
+//! Rankings of files that come in pieces, or from a source.
+
+ghost use Rattle.extremes.specs.Taken.{HasTakenSome};
+
+use super::*;
+use crate::archive::feed;
+use crate::intake::Intake;
+use crate::rank::rank_intake;
+
+/// What two workers rank of files that come in pieces of a length.
+fn ranked_by_pieces<R: Threads + Wait + AllocGlobal + Sync>(
+    rt: &R,
+    files: &[&[u8]],
+    length: usize,
+) -> Result<Vec<u8>, Fault> {
+    let query = "top 3 highest TMAX";
+    let mut intake = Intake::new(rt.alloc(), 2, None, query, STATIONS);
+    for file in files {
+        for piece in file.chunks(length.max(1)) {
+            intake.piece(piece);
+        }
+        intake.end_of_file();
+    }
+    Ok(rank_intake(rt, intake, &Open).answer?.report)
+}
+
+/// A file of DAILY's lines with a carriage return before each line feed.
+fn with_returns(alloc: Global) -> Result<Vec<u8>, AllocError> {
+    let mut text = Vec::new(alloc);
+    for line in DAILY.split(|b| *b == b'\n') {
+        if !line.is_empty() {
+            text.extend_from_slice(line)?;
+            text.extend_from_slice(b"\r\n")?;
+        }
+    }
+    Ok(text)
+}
+
+/// Ranks files by pieces of several lengths, each of which gives the same report or fault.
+fn check_pieces<R: Abort + AllocGlobal + Threads + Wait + Sync>(
+    rt: &R,
+    files: &[&[u8]],
+    expected: Result<&[u8], Fault>,
+) {
+    for length in [1, 269, 270, 700, 65_536] {
+        let found = ranked_by_pieces(rt, files, length);
+        let report = found.as_ref().map(|report| report.as_slice());
+        assert_eq!(rt; report.ok(), expected.ok(), "pieces of {length} bytes");
+        assert_eq!(rt; found.err(), expected.err(), "pieces of {length} bytes");
+    }
+}
+
+#[test]
+fn pieces_of_any_length(rt: HostRuntime) -> Result<(), Fail> {
+    let returns = with_returns(rt.alloc())?;
+    let (first, others) = DAILY.split_at(270);
+    let cut = &DAILY[..539];
+    let short = Fault::DailyLine {
+        file: 2,
+        line: 1,
+        why: DailyWhy::Line(LineWhy::Short),
+    };
+    let repeated = Fault::DailyLine {
+        file: 3,
+        line: 1,
+        why: DailyWhy::DuplicateMonth,
+    };
+    check_pieces(&rt, &[DAILY], Ok(REPORT));
+    check_pieces(&rt, &[&returns], Ok(REPORT));
+    check_pieces(&rt, &[first, b"", others], Ok(REPORT));
+    check_pieces(&rt, &[first, &others[..200], b"x"], Err(short));
+    check_pieces(&rt, &[b"", cut, DAILY, &DAILY[..200]], Err(repeated));
+    check_pieces(&rt, &[first, &cut[270..], &others[270..]], Ok(REPORT));
+    Ok(())
+}
+
+/// Ends so many files.
+fn end_files(intake: &mut Intake, count: u64)
+    requires { HasTakenSome intake.old }
+    ensures { HasTakenSome intake.new }
+{
+    for _ in 0..count {
+        intake.end_of_file();
+    }
+}
+
+#[test]
+fn files_behind_a_fault_are_counted(rt: HostRuntime) {
+    let fault = Fault::DailyLine {
+        file: 1,
+        line: 1,
+        why: DailyWhy::Line(LineWhy::Short),
+    };
+    let bad_query = Fault::UnexpectedWord(3);
+    let cases: [(&str, &[u8], u64, &[u8], Fault); 5] = [
+        ("top 1 dry", b"x", 1 << 20, b"", fault),
+        ("top 1 dry", b"x", 1 << 20, b"y", Fault::TooManyFiles),
+        ("top 1 dry", b"x", (1 << 20) + 1, b"", Fault::TooManyFiles),
+        ("top 1 dry", b"", (1 << 20) + 1, b"", Fault::TooManyFiles),
+        ("top 1 hot", b"x", (1 << 20) + 1, b"", bad_query),
+    ];
+    for (query, first, count, last, expected) in cases {
+        let mut intake = Intake::new(rt.alloc(), 1, None, query, STATIONS);
+        intake.piece(first);
+        end_files(&mut intake, count);
+        intake.piece(last);
+        let found = intake.finish().err();
+        assert_eq!(rt; found, Some(expected), "{count} files, at {query}");
+    }
+}
+
+#[test]
+fn sources_are_fed_whole(rt: HostRuntime) {
+    for length in [1, 270, 700, 4096] {
+        let mut buffer = [0; 4096];
+        let mut intake = Intake::new(rt.alloc(), 1, None, "top 3 highest TMAX", STATIONS);
+        let mut source: &[u8] = DAILY;
+        assert!(rt; feed(&mut intake, &mut source, &mut buffer[..length]).is_ok());
+        let found = rank_intake(&rt, intake, &Open).answer;
+        let report = found.as_ref().map(|papers| papers.report.as_slice()).ok();
+        assert_eq!(rt; report, Some(REPORT), "a buffer of {length} bytes");
+    }
+}

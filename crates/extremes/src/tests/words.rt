@@ -1,0 +1,155 @@
+//! What the words of a command line ask for, and the statuses.
+
+use super::*;
+use crate::command::{Command, CommandFault};
+use crate::words::command;
+
+fn words_of(alloc: Global, words: &[&str]) -> Result<Vec<String>, AllocError> {
+    words
+        .iter()
+        .map(|word| String::from_str(alloc, word))
+        .try_collect(alloc)
+}
+
+#[test]
+fn commands_of_words(rt: HostRuntime) -> Result<(), Fail> {
+    let none = command(rt.alloc(), words_of(rt.alloc(), &[])?);
+    assert!(rt; matches!(none, Ok(Command::Sample)));
+    let rank = words_of(
+        rt.alloc(),
+        &[
+            "rank",
+            "--stations",
+            "s",
+            "--query",
+            "q",
+            "--guess=-3",
+            "--workers",
+            "64",
+            "--certificate=c",
+            "a",
+            "b",
+        ],
+    )?;
+    let Ok(
+        Command::Rank {
+            stations,
+            query,
+            workers,
+            guess,
+            certificate,
+            files,
+        },
+    ) = command(rt.alloc(), rank)
+    else {
+        return Err(Fail::from("no command to rank"));
+    };
+    assert_eq!(rt; stations.as_str(), "s");
+    assert_eq!(rt; query.as_str(), "q");
+    assert_eq!(rt; workers, 64);
+    assert_eq!(rt; guess, Some(-3));
+    assert_eq!(rt; certificate.as_ref().map(|path| path.as_str()), Some("c"));
+    let paths: [&str; 2] = ["a", "b"];
+    assert_eq!(rt; files.len(), paths.len());
+    for (file, path) in files.iter().zip(paths) {
+        assert_eq!(rt; file.as_str(), path);
+    }
+    let without = words_of(rt.alloc(), &["rank", "--query", "q"])?;
+    assert!(rt; matches!(command(rt.alloc(), without), Err(CommandFault::Words(_))));
+    Ok(())
+}
+
+#[test]
+fn commands_to_check(rt: HostRuntime) -> Result<(), Fail> {
+    let check = [
+        "check",
+        "--stations=s",
+        "--query=q",
+        "--report=r",
+        "--certificate=c",
+        "a",
+        "b",
+    ];
+    let Ok(
+        Command::Check {
+            stations,
+            query,
+            report,
+            certificate,
+            files,
+        },
+    ) = command(rt.alloc(), words_of(rt.alloc(), &check)?)
+    else {
+        return Err(Fail::from("no command to check"));
+    };
+    let texts = [&stations, &query, &report, &certificate];
+    for (text, expected) in texts.iter().zip(["s", "q", "r", "c"]) {
+        assert_eq!(rt; text.as_str(), expected);
+    }
+    assert_eq!(rt; files.len(), 2);
+    for (file, expected) in files.iter().zip(["a", "b"]) {
+        assert_eq!(rt; file.as_str(), expected);
+    }
+    let without = words_of(
+        rt.alloc(),
+        &["check", "--stations=s", "--query=q", "--report=r"],
+    )?;
+    assert!(rt; matches!(command(rt.alloc(), without), Err(CommandFault::Words(_))));
+    Ok(())
+}
+
+#[test]
+fn texts_of_words(rt: HostRuntime) -> Result<(), Fail> {
+    let cases: [(&[&str], &str); 11] = [
+        (
+            &["check", "--help"],
+            "\n  NotBest          fewer or more candidates precede it",
+        ),
+        (
+            &["check"],
+            "check --stations <FILE> --query <QUERY> --report <FILE>",
+        ),
+        (
+            &["rank", "--help"],
+            "\n  top K SCORE [REGION] [PERIOD]    K is from 1 to 1000\n",
+        ),
+        (&["rank", "--help"], "\n           sum N FALL "),
+        (
+            &["rank", "--help"],
+            "--query 'top 5 sum 3 PRCP country GM' GM*.dly\n",
+        ),
+        (
+            &["rank", "--help"],
+            "ghcnd-stations.txt \\\n      --query 'top 3 dry box",
+        ),
+        (
+            &["rank", "--help"],
+            "\n  SNWD     snow depth, whole millimetres\n",
+        ),
+        (&["rank", "--help"], "\n  refused 13 EmptyPeriod  "),
+        (&["--help"], "'extremes rank --help' has the queries"),
+        (&["--query", "top 1 dry"], "\n       extremes rank --help\n"),
+        (&["top"], "\n       extremes rank --help\n"),
+    ];
+    for (words, part) in cases {
+        let Err(CommandFault::Words(text)) = command(rt.alloc(), words_of(rt.alloc(), words)?)
+        else {
+            return Err(Fail::from("no text to show"));
+        };
+        assert!(rt; text.as_str().contains(part), "at {part:?}: {text}");
+    }
+    Ok(())
+}
+
+#[test]
+fn statuses(rt: HostRuntime) {
+    let cases = [
+        (Ending::Done, 0),
+        (Ending::Refused, 1),
+        (Ending::Words, 2),
+        (Ending::File, 3),
+    ];
+    for (ending, status) in cases {
+        assert_eq!(rt; ending.status(), status, "at {ending:?}");
+    }
+}
