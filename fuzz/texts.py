@@ -20,9 +20,18 @@ BAD_WORDS = (b"top", b"0", b"1001", b"1000", b"00001", b"366", b"367", b"-1", b"
              b"2020-07-01x", b"ZZ", b"Z", b"ZZZ", b"\xc3\xa9", b"x\ty")
 GUESSES = (0, 1, 55, -100, 300, 2**31, -2**31)
 
+# A run starts threads from so many bytes of daily files on.
+WORTH_THREADS = 1 << 24
+
 # The least and greatest value of a month, and whether days are missing or flagged.
 SHAPES = ((-300, 400, True), (0, 30, True), (0, 30, False), (0, 12, False), (-5, 5, True), (0, 0, False),
           (9, 10, False), (-9999, 99999, True))
+
+
+def padding():
+    """Lines of an element that isn't ranked, so many that a run which has them too starts its threads."""
+    line = b"ZZA00000001202007WSFG".ljust(269) + b"\n"
+    return line * (WORTH_THREADS // len(line) + 1)
 
 
 def station_line(rng, name):

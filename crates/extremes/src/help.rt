@@ -12,7 +12,9 @@ pub const GUESS_HELP: &str =
           millimetre, whole millimetres of snow, or days; negative as --guess=-3";
 
 /// Behind `--workers`.
-pub const WORKERS_HELP: &str = "How many threads look for records, 1 to 64; 4 where it isn't given";
+pub const WORKERS_HELP: &str =
+    "How many threads look for records, 1 to 64; 4 where it isn't given. Below 16 MB of
+          daily files there is one";
 
 /// Behind `--certificate` of `rank`.
 pub const CERTIFICATE_HELP: &str =

@@ -22,6 +22,8 @@ use std::alloc::Global;
 pub struct Intake {
     pub workers: u64,
     pub guess: Option<i64>,
+    /// How many bytes of daily files came, or 2^64 - 1 where there are more.
+    pub bytes: u64,
     course: Course,
     /// How many daily files were ended.
     ended: u64,
@@ -64,6 +66,7 @@ impl Intake {
         Intake {
             workers,
             guess,
+            bytes: 0,
             course,
             ended: 0,
             begun: false,
@@ -96,6 +99,7 @@ impl Intake {
         ensures taken { TakesBytes self.old self.new bytes.now }
         ensures going { HasTakenSome self.new }
     {
+        self.bytes = self.bytes.saturating_add(bytes.len() as u64);
         self.begun = has_byte(self.begun, bytes);
         self.course.piece(bytes);
     }

@@ -1,6 +1,6 @@
 //! The ranking, from the bytes of the files to the bytes of the papers, in threads or on one.
 
-ghost use Rattle.std.specs.Prelude.{◌≡◌, true, Err, IfOk, IfErr, map};
+ghost use Rattle.std.specs.Prelude.{◌≡◌, ◌<◌, true, Err, IfOk, IfErr, map};
 ghost use Rattle.ghcn_series.specs.Held.{IsContents};
 ghost use Rattle.extremes.specs.Answer.{Answers, ArePapers, ArePapersOfPlan};
 ghost use Rattle.ghcn_fields.specs.Refusals.{IsRefusal};
@@ -10,6 +10,7 @@ ghost use Rattle.rank_sched.specs.Answers.{IsAnswerOfPlan};
 
 use crate::fault::Fault;
 use crate::intake::Intake;
+use crate::limits::{MOST_WORKERS, at_most};
 use crate::papers::Papers;
 use ghcn_fields::Memory;
 use ghcn_series::Data;
@@ -46,7 +47,7 @@ pub fn rank<R: Threads + Wait + AllocGlobal + Sync, G: Gate + Sync>(
 {
     let alloc = rt.alloc();
     let intake = Intake::of_files(alloc, workers, guess, query, stations, files);
-    rank_intake(rt, intake, gate).answer
+    rank_intake(rt, intake, MOST_WORKERS, gate).answer
 }
 
 /// What a ranking answers, and the data that it ranked.
@@ -58,13 +59,16 @@ pub struct Ranked {
     pub held: Option<Data>,
 }
 
-/// Ranks the candidates of a query over what was given, as `rank` does.
+/// Ranks the candidates of a query over what was given, as `rank` does, by the workers that were
+/// asked for, but at most by so many.
 pub fn rank_intake<R: Threads + Wait + AllocGlobal + Sync, G: Gate + Sync>(
     rt: &R,
     intake: Intake,
+    most: u64,
     gate: &G,
 ) -> Ranked
-    requires { HasTakenSome intake }
+    requires taken { HasTakenSome intake }
+    requires some { 0 < most }
     ensures ok { IfOk result.answer (AnswersInput intake) }
     ensures workers { IfOk result.answer (λ papers. is_crew intake.workers ≡ true) }
     ensures err { IfErr result.answer (RefusesInput intake) }
@@ -73,6 +77,7 @@ pub fn rank_intake<R: Threads + Wait + AllocGlobal + Sync, G: Gate + Sync>(
     match intake.finish() {
         Ok((query, held)) => {
             papers_of_one_element();
+            let workers = at_most(workers, most);
             let answer = ranked_by_crew(rt, &held, &query, workers, guess, gate);
             Ranked {
                 answer,

@@ -12,6 +12,7 @@ use crate::ending::Ending;
 use crate::fault::Fault;
 use crate::intake::Intake;
 use crate::judge::{ending, judge_intake};
+use crate::limits::worth_starting;
 use crate::papers::Papers;
 use crate::rank::{self, Ranked, rank_intake, rank_serial};
 use crate::sample;
@@ -159,7 +160,8 @@ fn rank_files<'p, R: Threads + Wait + AllocGlobal + Sync, A: Archive>(
     };
     let mut intake = Intake::new(alloc, workers, guess, query, &stations_text);
     feed_files(archive, &mut intake, files, &mut room)?;
-    Ok(rank_intake(rt, intake, &Open))
+    let most = worth_starting(intake.bytes);
+    Ok(rank_intake(rt, intake, most, &Open))
 }
 
 /// Reads the station list, the report, the certificate and then the daily files in order, and judges

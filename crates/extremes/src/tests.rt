@@ -8,6 +8,7 @@ use crate::delivery::{Delivery, deliver};
 use crate::ending::Ending;
 use crate::fault::Fault;
 use crate::judge::{ending, judge};
+use crate::limits::worth_starting;
 use crate::papers::Papers;
 use crate::rank::{rank, rank_serial};
 use crate::run::print_answer;
@@ -351,4 +352,19 @@ fn papers_are_judged(rt: HostRuntime) -> Result<(), Fail> {
     assert_eq!(rt; ending(&Verdict::Accepted), Ending::Done);
     assert_eq!(rt; ending(&other), Ending::Refused);
     Ok(())
+}
+
+#[test]
+fn workers_that_are_worth_starting(rt: HostRuntime) {
+    let cases = [
+        (0, 1),
+        (270, 1),
+        (16_777_215, 1),
+        (16_777_216, 64),
+        (30_000_000_000, 64),
+        (u64::MAX, 64),
+    ];
+    for (bytes, workers) in cases {
+        assert_eq!(rt; worth_starting(bytes), workers, "{bytes} bytes");
+    }
 }

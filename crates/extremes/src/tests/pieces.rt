@@ -21,7 +21,7 @@ fn ranked_by_pieces<R: Threads + Wait + AllocGlobal + Sync>(
         }
         intake.end_of_file();
     }
-    Ok(rank_intake(rt, intake, &Open).answer?.report)
+    Ok(rank_intake(rt, intake, 64, &Open).answer?.report)
 }
 
 /// A file of DAILY's lines with a carriage return before each line feed.
@@ -116,8 +116,10 @@ fn sources_are_fed_whole(rt: HostRuntime) {
         let mut intake = Intake::new(rt.alloc(), 1, None, "top 3 highest TMAX", STATIONS);
         let mut source: &[u8] = DAILY;
         assert!(rt; feed(&mut intake, &mut source, &mut buffer[..length]).is_ok());
-        let found = rank_intake(&rt, intake, &Open).answer;
+        let bytes = intake.bytes;
+        let found = rank_intake(&rt, intake, 64, &Open).answer;
         let report = found.as_ref().map(|papers| papers.report.as_slice()).ok();
         assert_eq!(rt; report, Some(REPORT), "a buffer of {length} bytes");
+        assert_eq!(rt; bytes, 810, "a buffer of {length} bytes");
     }
 }
