@@ -50,8 +50,8 @@ pub fn at_most(workers: u64, most: u64) -> u64
     requires crew { is_crew workers ≡ true }
     requires some { 0 < most }
     ensures crew { is_crew result ≡ true }
-    ensures asked { result ≤ workers }
-    ensures most { result ≤ most }
+    ensures asked { workers ≤ most → result ≡ workers }
+    ensures most { most < workers → result ≡ most }
 {
     workers.min(most)
 }

@@ -1,5 +1,6 @@
 //! Worked runs of the ranking and of the command line.
 
+mod gated;
 mod growths;
 mod pieces;
 mod words;
@@ -16,13 +17,12 @@ use ghcn_fields::Memory;
 use ghcn_files::{LineWhy, StationWhy};
 use ghcn_series::DailyWhy;
 use rank_check::{Paper, Verdict, Why};
-use rank_crew::{Gate, Open};
+use rank_crew::Open;
 use std::alloc::{AllocError, Global};
 use std::io;
 use std::io::Write;
 use std::process::Abort;
 use std::sync::Wait;
-use std::sync::atomic::{AtomicU64, Ordering};
 use std::test::Fail;
 use std::thread::Threads;
 
@@ -43,6 +43,12 @@ query top 3 highest TMAX
 2 ZZA00000002 2020-07-01 2020-07-01 31.1 C BRAVO
 3 ZZA00000001 2020-07-02 2020-07-02 30.5 C ALPHA
 end 3
+";
+
+const BEST: &[u8] = b"extremes report 1
+query top 1 highest TMAX
+1 ZZA00000001 2020-07-01 2020-07-01 31.1 C ALPHA
+end 1
 ";
 
 #[test]
@@ -256,23 +262,6 @@ fn texts_of_faults(rt: HostRuntime) -> Result<(), Fail> {
     Ok(())
 }
 
-/// How often a gate's calls came.
-#[derive(Drop)]
-struct Calls {
-    measuring: AtomicU64,
-    claimed: AtomicU64,
-}
-
-impl Gate for Calls {
-    fn measuring<R: Wait>(&self, _rt: &R, _worker: u64, _place: u64) {
-        self.measuring.fetch_add(1, Ordering::SeqCst);
-    }
-
-    fn claimed<R: Wait>(&self, _rt: &R, _worker: u64, _morsel: u64) {
-        self.claimed.fetch_add(1, Ordering::SeqCst);
-    }
-}
-
 #[test]
 fn workers_and_the_first_fault(rt: HostRuntime) {
     let cases = [
@@ -292,27 +281,6 @@ fn workers_and_the_first_fault(rt: HostRuntime) {
         assert_eq!(rt; report, expected, "{workers} workers, guess {guess:?}");
         assert_eq!(rt; ranked.err(), fault, "{workers} workers, guess {guess:?}");
     }
-}
-
-#[test]
-fn a_gate_is_called_by_the_workers(rt: HostRuntime) {
-    let calls = Calls {
-        measuring: AtomicU64::new(0),
-        claimed: AtomicU64::new(0),
-    };
-    let query = "top 3 highest TMAX";
-    let ranked = rank(&rt, STATIONS, &[DAILY], query, 2, None, &calls);
-    assert!(rt; ranked.is_ok());
-    assert_eq!(rt;
-        calls.measuring.load(Ordering::SeqCst),
-        3,
-        "once for each station"
-    );
-    assert_eq!(rt;
-        calls.claimed.load(Ordering::SeqCst),
-        3,
-        "once for each morsel"
-    );
 }
 
 #[test]

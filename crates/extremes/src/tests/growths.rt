@@ -5,12 +5,6 @@
 
 use super::*;
 
-const BEST: &[u8] = b"extremes report 1
-query top 1 highest TMAX
-1 ZZA00000001 2020-07-01 2020-07-01 31.1 C ALPHA
-end 1
-";
-
 const BEST_CERTIFICATE: &[u8] = b"extremes certificate 1
 query top 1 highest TMAX
 kth 311
