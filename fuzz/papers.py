@@ -8,7 +8,8 @@ from formats import Candidate, Refused
 
 ROW = re.compile(rb"([0-9]+) ([!-~]{11}) ([0-9-]{10}) ([0-9-]{10}) (-?)(0|[1-9][0-9]*)(?:\.([0-9]))?"
                  rb" (C|mm|days)(?: ([ -~]{1,30}))?\n")
-LINE = re.compile(rb"(scan|skip) ([!-~]{11}) (-?(?:0|[1-9][0-9]*))\n")
+LINE = re.compile(rb"(scan|skip) ([!-~]{11}) (-?(?:0|[1-9][0-9]*))(?: (0|[1-9][0-9]*))?\n")
+TITLES = {b"extremes certificate 1\n": 1, b"extremes certificate 2\n": 2}
 KTH = re.compile(rb"kth (none|-?(?:0|[1-9][0-9]*))\n")
 
 
@@ -21,9 +22,9 @@ def is_number(text):
     return text != b"-0" and -2**63 <= int(text) < 2**63
 
 
-def head(pieces, title):
+def head(pieces, titles):
     """The query of a paper, whose first lines are its title and its query."""
-    if pieces[:1] != [title]:
+    if not pieces or pieces[0] not in titles:
         raise Unlike(1)
     line = pieces[1] if len(pieces) > 1 else b""
     try:
@@ -58,7 +59,7 @@ def read_row(query, rank, line):
 
 def read_report(text):
     pieces = re.findall(rb"[^\n]*\n|[^\n]+", text)
-    query, rows = head(pieces, b"extremes report 1\n"), []
+    query, rows = head(pieces, [b"extremes report 1\n"]), []
     for line in pieces[2:]:
         found = read_row(query, len(rows) + 1, line) if len(rows) < query.k else None
         if not found:
@@ -68,17 +69,27 @@ def read_report(text):
     return query, rows
 
 
+def read_line(version, line):
+    """What a line of a series says, its count None where it has none; None where it isn't of that form."""
+    found = LINE.fullmatch(line)
+    if not found or not is_number(found[3]) or (found[4] is not None) != (version == 2 and found[1] == b"scan"):
+        return None
+    if found[4] is not None and int(found[4]) > 1000:
+        return None
+    return found[1], found[2], int(found[3]), None if found[4] is None else int(found[4])
+
+
 def read_certificate(text):
     pieces = re.findall(rb"[^\n]*\n|[^\n]+", text)
-    query, series = head(pieces, b"extremes certificate 1\n"), []
+    query, series = head(pieces, TITLES), []
     kth = KTH.fullmatch(pieces[2]) if len(pieces) > 2 else None
     if not kth or (kth[1] != b"none" and not is_number(kth[1])):
         raise Unlike(3)
     for line in pieces[3:]:
-        found = LINE.fullmatch(line)
-        if not found or not is_number(found[3]):
+        found = read_line(TITLES[pieces[0]], line)
+        if not found:
             break
-        series.append((found[1], found[2], int(found[3])))
+        series.append(found)
     whole(pieces, 3 + len(series), b"end %d\n" % len(series))
     return query, None if kth[1] == b"none" else int(kth[1]), series
 
@@ -102,7 +113,7 @@ def judge_report(query, everyone, paper, rows):
     return (3 + len(rows), "TooFew") if len(rows) < min(query.k, len(everyone)) else None
 
 
-def judge_certificate(query, found, everyone, paper, kth, series):
+def judge_certificate(query, found, everyone, rows, paper, kth, series):
     """The first line of the certificate that fails a test, and why."""
     floor = everyone[query.k - 1].score if len(everyone) >= query.k else None
     if paper.text != query.text:
@@ -110,13 +121,15 @@ def judge_certificate(query, found, everyone, paper, kth, series):
     if kth != floor:
         return 3, "OtherFloor"
     names = list(found)
-    for i, (kind, name, limit) in enumerate(series):
+    for i, (kind, name, limit, count) in enumerate(series):
         if names[i:i + 1] != [name]:
             return 4 + i, "OtherSeries"
         if any(it.score > limit for it in found[name]):
             return 4 + i, "NoBound"
         if kind == b"skip" and (floor is None or limit >= floor):
             return 4 + i, "NotBelow"
+        if count is not None and count != sum(it.id == name for it in rows):
+            return 4 + i, "NotCounted"
     return (4 + len(series), "OtherSeries") if len(series) < len(names) else None
 
 
@@ -130,7 +143,7 @@ def verdict(query, found, everyone, report, certificate):
     wrong = judge_report(query, everyone, *forms[0])
     if wrong:
         return "report", wrong
-    return "certificate", judge_certificate(query, found, everyone, *forms[1])
+    return "certificate", judge_certificate(query, found, everyone, forms[0][1], *forms[1])
 
 
 def check(query_text, stations, daily, report, certificate):
@@ -146,17 +159,18 @@ def check(query_text, stations, daily, report, certificate):
     return 1, f"refused {paper} line {wrong[0]} {wrong[1]}\n".encode(), b""
 
 
-def papers(query_text, stations, daily):
-    """A right report, and a certificate with the least bounds."""
+def papers(query_text, stations, daily, version=2):
+    """A right report, and a certificate of a version with the least bounds."""
     query, found, _ = formats.read_all(query_text, stations, daily)
     everyone = sorted((it for its in found.values() for it in its), key=formats.in_order)
     kth = everyone[query.k - 1].score if len(everyone) >= query.k else None
     series = []
     for name, its in found.items():
         kind = b"skip" if kth is not None and bound(its) < kth else b"scan"
-        series.append(b"%s %s %d\n" % (kind, name, bound(its)))
+        count = b" %d" % sum(it in everyone[:query.k] for it in its) if version == 2 and kind == b"scan" else b""
+        series.append(b"%s %s %d%s\n" % (kind, name, bound(its), count))
     shown = b"none" if kth is None else b"%d" % kth
-    head = b"extremes certificate 1\nquery %s\nkth %s\n" % (query.text, shown)
+    head = b"extremes certificate %d\nquery %s\nkth %s\n" % (version, query.text, shown)
     certificate = head + b"".join(series) + b"end %d\n" % len(series)
     return formats.report(query, everyone), certificate
 

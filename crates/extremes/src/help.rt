@@ -34,16 +34,18 @@ and what each refusal means; 'extremes check --help' has the verdicts on papers.
 
 /// Below the options of `rank`: queries, units, statuses and refusals.
 pub const RANK_HELP: &str = "Queries:
-  top K SCORE [REGION] [PERIOD]    K is from 1 to 1000
+  top K SCORE [REGION] [SEASON] [PERIOD]    K is from 1 to 1000
 
   SCORE    highest ELEM            greatest values of PRCP, SNOW, SNWD, TMAX or TMIN
            lowest TEMP             least values of TMAX or TMIN
            sum N FALL              greatest sums of N days in a row, 1 to 366, of PRCP or SNOW
            dry, wet                longest spells of days below 1 mm, or of at least 1 mm
+           hot T                   longest spells of days whose TMAX is at least T, -100 to 100 degrees
   REGION   box S W N E             degrees; over the date line where W is greater than E
            country CC              NOAA's code, the first two letters of the ID: GM is Germany
            state SS                the state's letters in the station list
            station ID
+  SEASON   months A..B             days of these months alone; 12..2 is December to February
   PERIOD   from YYYY-MM-DD to YYYY-MM-DD, both days included
 
 Elements:
@@ -74,7 +76,8 @@ Refusals (A counts the query's words, F the daily files, L the lines of a file, 
   refused 7 QueryTooLong                  the query has more than 256 bytes
   refused 8 UnexpectedWord A              no query has this word there
   refused 9 QueryEnds                     the query ends where a word is needed
-  refused 10 OutOfLimits A                K isn't from 1 to 1000, or N not from 1 to 366
+  refused 10 OutOfLimits A                K isn't from 1 to 1000, N not from 1 to 366, T not from -100
+                                          to 100, or a month not from 1 to 12
   refused 11 BadDate A                    the word is no date
   refused 12 BadBox A                     an edge is no number of degrees, or N is less than S
   refused 13 EmptyPeriod                  the second date is before the first

@@ -1,5 +1,6 @@
 //! Worked runs of the ranking and of the command line.
 
+mod alone;
 mod gated;
 mod growths;
 mod pieces;

@@ -15,16 +15,18 @@ use Rattle.ghcn_files.specs.declared.element.Element.TheVariants.{Prcp, Snow, Sn
 use Rattle.ghcn_files.specs.Elements.{may_be_negative}
 use Rattle.ghcn_series.specs.Series.{DayValue, Usable, IsSeries, value_on, is_value}
 use Rattle.rank_query.specs.declared.score.Score.{Score}
-use Rattle.rank_query.specs.declared.score.Score.TheVariants.{Highest, Lowest, Sum, Dry, Wet}
+use Rattle.rank_query.specs.declared.score.Score.TheVariants.{Highest, Lowest, Sum, Dry, Wet, Hot}
 use Rattle.rank_query.specs.Asked.{Asked, score_element, is_score, is_fall, IsAsked}
 use Rattle.rank_query.specs.Admits.{admits_day}
-use Rattle.rank_scores.specs.Candidates.{Days, Windows, Spells, shape, is_dry, is_wet, is_such, plus, window_total}
-use Rattle.rank_scores.specs.Candidates.{begun, candidate, candidates_among, admitted}
+use Rattle.rank_scores.specs.Candidates.{Days, Windows, Spells, shape, is_dry, is_wet, is_hot, is_such, plus}
+use Rattle.rank_scores.specs.Candidates.{window_total, begun, candidate, candidates_among, admitted}
 use Rattle.rank_scores.specs.Runs.{run_from, run_len, begins_run, calendar_len}
 use Rattle.rank_scores.specs.Morsels.{IsAbove}
 use Rattle.rank_blocks.specs.Blocks.{total, blocks_total, is_among, is_reached, days_reached}
-use Rattle.rank_blocks.specs.Bounds.{blocks_of_window}
-use Rattle.rank_blocks.specs.Greatest.{IsGreatest, IsScore, IsRunLength, IsSumBound, IsBoundFor, IsBound}
+use Rattle.rank_blocks.specs.Bounds.{blocks_of_window, holds_such}
+use Rattle.rank_blocks.specs.Greatest.{IsGreatest, IsScore, IsRunLength, IsSumBound, IsBlocksBound, IsBoundFor}
+use Rattle.rank_blocks.specs.Greatest.{IsBound}
+use Rattle.rank_blocks.proofs.HotBlocks.{such-holds, days-greatest}
 use Rattle.rank_blocks.proofs.Members.{from_each, each, all-kept, all-passing, stands, total-least, total-wider}
 use Rattle.rank_blocks.proofs.Members.{filter-both}
 use Rattle.rank_blocks.proofs.Members.{total-cons, part-wider}
@@ -113,11 +115,17 @@ spell-score true first len e is = let pair : (first +ℤ pos len -ℤ pos 1, pos
     ap (λ (p : ℤ × ℤ). p.1) pair
 spell-score false first len e is = absurd cc
 
--- a spell is no longer than the longest run
-pub spells-below : (test : ℤ → Bool) (q : Asked) (s : Usable) (z : ℤ) → IsGreatest
-    (IsRunLength (is_such test (days_reached q s))) z → AllByRecursion (λ c. c.score ≤ℤ z)
-    (candidates_among s.id (Spells test) (admitted q s))
-spells-below test q s z of_z =
+-- such an admitted day is such a day of those reached
+reached-such : (test : ℤ → Bool) (q : Asked) (s : Usable) (d : ℤ) → is_such test (admitted q s) d ≡ true
+    → is_such test (days_reached q s) d ≡ true
+reached-such test q s d e =
+    such-wider test (admits_day q) (λ n. is_reached q.period (block_of n)) s.days d (admitted-reached q) e
+
+-- a spell is no longer than the longest run of a wider kind
+spells-under : (test wide : ℤ → Bool) (q : Asked) (s : Usable) (z : ℤ)
+    → ((d : ℤ) → is_such test (admitted q s) d ≡ true → wide d ≡ true) → IsGreatest (IsRunLength wide) z
+    → AllByRecursion (λ c. c.score ≤ℤ z) (candidates_among s.id (Spells test) (admitted q s))
+spells-under test wide q s z wider of_z =
     let such : ℤ → Bool = is_such test (admitted q s) in
     candidates-below s.id (begun (Spells test) (admitted q s)) z (admitted q s)
     (each (λ x. (e : ℤ × ℤ) → begun (Spells test) (admitted q s) x ≡ Some e → e.1 ≤ℤ z) (admitted q s)
@@ -127,12 +135,28 @@ spells-below test q s z of_z =
       run_len such x.0,
       x.0,
       refl,
-      λ i lt.
-          such-wider test (admits_day q) (λ n. is_reached q.period (block_of n)) s.days (x.0 +ℤ pos i)
-          (admitted-reached q) (run-inside such calendar_len i x.0 lt),
+      λ i lt. wider (x.0 +ℤ pos i) (run-inside such calendar_len i x.0 lt),
     ) in
     let P : ℤ → Type 0 = λ n. n ≤ℤ z in
     subst P score below))
+
+-- or than the longest run of its own
+pub spells-below : (test : ℤ → Bool) (q : Asked) (s : Usable) (z : ℤ) → IsGreatest
+    (IsRunLength (is_such test (days_reached q s))) z → AllByRecursion (λ c. c.score ≤ℤ z)
+    (candidates_among s.id (Spells test) (admitted q s))
+spells-below test q s z of_z =
+    spells-under test (is_such test (days_reached q s)) q s z (reached-such test q s) of_z
+
+-- or than the days of the most blocks in a row that hold such a day
+spells-in_blocks : (test : ℤ → Bool) (q : Asked) (s : Usable) (z : ℤ)
+    → IsBlocksBound (holds_such test (days_reached q s)) z → AllByRecursion (λ c. c.score ≤ℤ z)
+    (candidates_among s.id (Spells test) (admitted q s))
+spells-in_blocks test q s z of_z =
+    let such : ℤ → Bool = holds_such test (days_reached q s) in
+    subst (λ (n : ℤ). AllByRecursion (λ c. c.score ≤ℤ n) (candidates_among s.id (Spells test) (admitted q s))) of_z.times
+    (spells-under test (λ d. such (block_of d)) q s (pos (32 * of_z.blocks))
+    (λ d e. such-holds test (days_reached q s) d (reached-such test q s d e))
+    (days-greatest such of_z.blocks of_z.greatest))
 
 -- ---- windows
 
@@ -324,6 +348,7 @@ above-for (Lowest e) q s z falls of_z = days-below neg_ℤ q s z of_z
 above-for (Sum n e) q s z falls of_z = windows-below n q s z (falls n e refl) of_z
 above-for Dry q s z falls of_z = spells-below is_dry q s z of_z
 above-for Wet q s z falls of_z = spells-below is_wet q s z of_z
+above-for (Hot t) q s z falls of_z = spells-in_blocks (is_hot t) q s z of_z
 
 -- no candidate of the series has a score above the bound
 pub bound-IsAbove : (q : Asked) (s : Usable) (z : ℤ) → IsAsked q → IsSeries s → s.element ≡ score_element q.score

@@ -1,6 +1,6 @@
 -- The bound of a series is found from its summaries.
 use Rattle.std.proofs.Common.{◌≡◌, ℕ, Bool, true, List, map, filter, Option, Some, None, sym, ap, ◌∙◌, subst, arith, ℤ}
-use Rattle.std.proofs.Common.{pos, ◌≤ℤ◌, ◌*ℤ◌}
+use Rattle.std.proofs.Common.{pos, ◌≤ℤ◌, ◌*ℤ◌, ◌*◌}
 use Rattle.std.specs.Prelude.{◌&&◌, int_le}
 use Rattle.std.specs.List.{Contains}
 use Rattle.std.specs.Option.{unwrap_or}
@@ -21,8 +21,9 @@ use Rattle.rank_blocks.specs.declared.extreme.Extreme.{Extreme}
 use Rattle.rank_blocks.specs.declared.extreme.Extreme.TheVariants as extremes
 use Rattle.rank_blocks.specs.declared.summary.Summary.{Summary}
 use Rattle.rank_blocks.specs.Blocks.{days_in, days_reached, is_reached, period_of}
-use Rattle.rank_blocks.specs.Bounds.{blocks_of_window, bound, IsAskedOf}
-use Rattle.rank_blocks.specs.Greatest.{IsGreatest, IsScore, IsBlocksTotal, IsRunLength, IsBoundFor, IsBound}
+use Rattle.rank_blocks.specs.Bounds.{blocks_of_window, holds_such, bound, IsAskedOf}
+use Rattle.rank_blocks.specs.Greatest.{IsGreatest, IsScore, IsBlocksTotal, IsRunLength, IsBlocksBound, IsBoundFor}
+use Rattle.rank_blocks.specs.Greatest.{IsBound}
 use Rattle.rank_blocks.specs.Reached.{IsRangeOf, in_range, summaries_in, score_of, extreme_of, IsTotalFrom}
 use Rattle.rank_blocks.specs.Summaries.{IsSummary, AreSummaries}
 use Rattle.rank_blocks.proofs.Members.{from_each, pick, stands, greatest-exists}
@@ -32,7 +33,9 @@ use Rattle.rank_blocks.proofs.WindowTotals.{AreFalls}
 use Rattle.rank_blocks.proofs.Totals.{summaries_total-is}
 use Rattle.rank_blocks.proofs.ReachedDays.{admitted-reached, greatest-of_blocks}
 use Rattle.rank_blocks.proofs.Above.{AreFallen, total-fallen, sums-fall, bound-IsAbove}
-use Rattle.rank_blocks.proofs.Computed.{some_admitted, bound-unique, computed-IsBound}
+use Rattle.rank_blocks.proofs.Computed.{some_admitted, bound-unique, blocks-computed, computed-IsBound}
+use Rattle.rank_blocks.proofs.HotBlocks.{days-greatest}
+use Rattle.rank_blocks.proofs.Members.{greatest-unique}
 
 -- its blocks are those of the period
 pub range-is : (r : BlockRange) (q : Asked) → IsRangeOf r q → in_range r ≡ is_reached q.period
@@ -99,6 +102,23 @@ module _ (r : BlockRange) (q : Asked) (s : Usable) (ms : List Summary) (of : IsR
       let P : (ℤ → Bool) → Type 0 = λ p. IsGreatest (IsRunLength (is_such test (filter (λ x. p (block_of x.0)) s.days)))
       z in
       subst P (range-is r q of) longest
+
+  -- the days in a row in blocks that hold one which passes, from the summaries
+  pub blocks-met : (test : ℤ → Bool) (z : ℤ)
+      → IsGreatest (IsRunLength (λ d. holds_such test (filter (λ x. in_range r (block_of x.0)) s.days) (block_of d))) z
+      → IsBlocksBound (holds_such test (days_reached q s)) z
+  blocks-met test z longest =
+      let P : (ℤ → Bool) → Type 0 =
+      λ p. IsGreatest (IsRunLength (λ d. holds_such test (filter (λ x. p (block_of x.0)) s.days) (block_of d))) z in
+      let here = subst P (range-is r q of) longest in
+      let such : ℤ → Bool = holds_such test (days_reached q s) in
+      let found = blocks-computed test q s asked_of.series in
+      record {
+        blocks = found.blocks;
+        greatest = found.greatest;
+        times = greatest-unique (IsRunLength (λ d. such (block_of d))) (pos (32 * found.blocks)) z
+            (days-greatest such found.blocks found.greatest) here;
+      }
 
   -- no total of a block is below zero, where no value is
   pub totals-fall : AreFallen s.days → AreFalls ms

@@ -1,7 +1,7 @@
 -- The bound as it is computed is the bound by what it is greatest of, and there is but one.
 use Rattle.std.proofs.Common.{◌≡◌, ℕ, zero, suc, ◌+◌, ◌<◌, ◌≤◌, Bool, true, false, cond, List, [], ◌∷◌, map, filter}
 use Rattle.std.proofs.Common.{length, ◌⊎◌, inl, inr, Option, refl, sym, ap, ◌∙◌, subst, arith, ℤ, pos, neg_ℤ}
-use Rattle.std.proofs.Common.{◌+ℤ◌, ◌-ℤ◌, ◌*ℤ◌}
+use Rattle.std.proofs.Common.{◌+ℤ◌, ◌-ℤ◌, ◌*ℤ◌, ◌≤ℤ◌}
 use Rattle.std.specs.Prelude.{◌&&◌}
 use Rattle.std.specs.List.{AllByRecursion, Contains, flat_map, range_with_len, list_all}
 use Rattle.std.specs.Option.{unwrap_or}
@@ -17,17 +17,21 @@ use Rattle.ghcn_fields.specs.Days.{block_of, is_day, first_day, last_day}
 use Rattle.ghcn_files.specs.declared.element.Element.{Element}
 use Rattle.ghcn_series.specs.Series.{DayValue, Usable, IsSeries, value_on, is_value}
 use Rattle.rank_query.specs.declared.score.Score.{Score}
-use Rattle.rank_query.specs.declared.score.Score.TheVariants.{Highest, Lowest, Sum, Dry, Wet}
+use Rattle.rank_query.specs.declared.score.Score.TheVariants.{Highest, Lowest, Sum, Dry, Wet, Hot}
 use Rattle.rank_query.specs.Asked.{Asked, IsAsked}
 use Rattle.rank_query.specs.Admits.{admits_day}
-use Rattle.rank_scores.specs.Candidates.{is_dry, is_wet, is_such, admitted}
+use Rattle.rank_scores.specs.Candidates.{is_dry, is_wet, is_hot, is_such, admitted}
 use Rattle.rank_scores.specs.Runs.{run_len, longest_run, calendar_len}
 use Rattle.rank_blocks.specs.Blocks.{days_reached, is_reached, total, blocks_total, is_among}
 use Rattle.rank_blocks.specs.Bounds.{greatest_by, blocks_of_window, first_blocks, greatest_total, spell_bound}
-use Rattle.rank_blocks.specs.Bounds.{bound_for, bound, IsAskedOf}
-use Rattle.rank_blocks.specs.Greatest.{IsGreatest, IsScore, IsBlocksTotal, IsRunLength, IsSumBound, IsBoundFor, IsBound}
+use Rattle.rank_blocks.specs.Bounds.{blocks_bound}
+use Rattle.rank_blocks.specs.Bounds.{holds_such, bound_for, bound, IsAskedOf}
+use Rattle.rank_blocks.specs.Greatest.{IsGreatest, IsScore, IsBlocksTotal, IsRunLength, IsSumBound, IsBlocksBound}
+use Rattle.rank_blocks.specs.Greatest.{IsBoundFor, IsBound}
 use Rattle.rank_blocks.proofs.DayTests.{both_pass, between, distance}
-use Rattle.rank_blocks.proofs.Members.{from_each, each, all-kept, all-passing, pick, stands}
+use Rattle.rank_blocks.proofs.DayValues.{block-rises}
+use Rattle.rank_blocks.proofs.HotBlocks.{holds-among}
+use Rattle.rank_blocks.proofs.Members.{from_each, from_both, each, all-kept, all-passing, pick, stands}
 use Rattle.rank_blocks.proofs.Members.{greatest-IsGreatest, greatest-exists, greatest-unique}
 use Rattle.rank_blocks.proofs.WindowTotals.{among-parts}
 use Rattle.rank_blocks.proofs.LongestRuns.{max-one}
@@ -46,6 +50,12 @@ sum-unique q s n y z of_y of_z =
     sym of_y.smaller ∙ ap (λ (v : ℤ). int_min (pos n *ℤ v) of_y.most) value
     ∙ ap (λ (t : ℤ). int_min (pos n *ℤ of_z.value) t) most ∙ of_z.smaller
 
+-- as many blocks make the same bound
+blocks-unique : (such : ℤ → Bool) (y z : ℤ) → IsBlocksBound such y → IsBlocksBound such z → y ≡ z
+blocks-unique such y z of_y of_z =
+    let same = greatest-unique (IsRunLength such) (pos of_y.blocks) (pos of_z.blocks) of_y.greatest of_z.greatest in
+    omega (arith, ints, same, of_y.times, of_z.times)
+
 -- there is but one bound for a score
 unique-for : (score : Score) (q : Asked) (s : Usable) (y z : ℤ) → IsBoundFor score q s y → IsBoundFor score q s z
     → y ≡ z
@@ -54,6 +64,7 @@ unique-for (Lowest e) q s y z of_y of_z = greatest-unique (IsScore neg_ℤ (days
 unique-for (Sum n e) q s y z of_y of_z = sum-unique q s n y z of_y of_z
 unique-for Dry q s y z of_y of_z = greatest-unique (IsRunLength (is_such is_dry (days_reached q s))) y z of_y of_z
 unique-for Wet q s y z of_y of_z = greatest-unique (IsRunLength (is_such is_wet (days_reached q s))) y z of_y of_z
+unique-for (Hot t) q s y z of_y of_z = blocks-unique (holds_such (is_hot t) (days_reached q s)) y z of_y of_z
 
 -- there is but one bound
 pub bound-unique : (q : Asked) (s : Usable) (y z : ℤ) → IsBound q s y → IsBound q s z → y ≡ z
@@ -199,16 +210,15 @@ longest-somewhere such [] = (pos 0, λ i lt. absurd (omega arith))
 longest-somewhere such (a ∷ ns) = max-one (Somewhere such) (run_len such a) (longest_run such ns)
     (a, λ i lt. run-inside such calendar_len i a lt) (longest-somewhere such ns)
 
--- the run from one of some days on is no longer
-longest-most : (such : ℤ → Bool) (days : List DayValue)
-    → AllByRecursion (λ x. run_len such x.0 ≤ longest_run such (map (λ x. x.0) days)) days
-longest-most such [] = tt
-longest-most such (x ∷ xs) =
-    let rest : ℕ = longest_run such (map (λ y. y.0) xs) in (
-      le-max_left (run_len such x.0) rest,
-      from_each (λ y. run_len such y.0 ≤ rest)
-          (λ y. run_len such y.0 ≤ longest_run such (map (λ z. z.0) (x ∷ xs))) xs
-          (λ y le. let more = le-max_right (run_len such x.0) rest in omega arith) (longest-most such xs),
+-- the run from a number of one of some days on is no longer
+longest-most : (such : ℤ → Bool) (f : DayValue → ℤ) (days : List DayValue)
+    → AllByRecursion (λ x. run_len such (f x) ≤ longest_run such (map f days)) days
+longest-most such f [] = tt
+longest-most such f (x ∷ xs) =
+    let rest : ℕ = longest_run such (map f xs) in (
+      le-max_left (run_len such (f x)) rest,
+      from_each (λ y. run_len such (f y) ≤ rest) (λ y. run_len such (f y) ≤ longest_run such (map f (x ∷ xs))) xs
+          (λ y le. let more = le-max_right (run_len such (f x)) rest in omega arith) (longest-most such f xs),
     )
 
 -- each day of a series is one of the calendar
@@ -256,11 +266,67 @@ run-greatest test q s series =
     let most = from_each (λ x. run_len (is_such test days) x.0 ≤ found)
     (λ x. IsNoLonger (is_such test days) found x.0) days
     (λ x le len short pass. let least = run-at_least (is_such test days) len calendar_len x.0 short pass in omega arith)
-    (longest-most (is_such test days) days) in
+    (longest-most (is_such test days) (λ x. x.0) days) in
     record {
       is_one = (found, somewhere.0, refl, somewhere.1);
       is_most = λ y run. omega (arith, ints, run.2, run-most test days found valid most run.0 run.1 run.3);
     }
+
+-- ---- blocks in a row
+
+-- a block that holds a day is one of the calendar's
+day-block : (d : ℤ) → is_day d ≡ true → (block_of first_day ≤ℤ block_of d) × (block_of d ≤ℤ block_of last_day)
+day-block d e =
+    let both = between first_day d last_day e in
+    (block-rises first_day d both.0, block-rises d last_day both.1)
+
+-- no more blocks in a row hold a day which passes than were found
+blocks-most : (test : ℤ → Bool) (days : List DayValue) (found : ℕ)
+    → AllByRecursion (λ x. (is_day x.0 ≡ true) × (run_len (holds_such test days) (block_of x.0) ≤ found)) days
+    → (len : ℕ) (a : ℤ) → ((i : ℕ) → i < len → holds_such test days (a +ℤ pos i) ≡ true) → len ≤ found
+blocks-most test days found all zero a pass = omega arith
+blocks-most test days found all (suc n) a pass =
+    let such : ℤ → Bool = holds_such test days in
+    let same : a +ℤ pos 0 ≡ a = omega (arith, ints) in
+    let Q : DayValue → Type 0 = λ x. (is_day x.0 ≡ true) × (run_len such (block_of x.0) ≤ found) in
+    let one = holds-among test Q days a all (ap such (sym same) ∙ pass 0 (omega arith)) in
+    let two = holds-among test Q days (a +ℤ pos n) all (pass n (omega arith)) in
+    let begins : block_of first_day ≤ℤ a = subst (λ (b : ℤ). block_of first_day ≤ℤ b) one.2
+    (day-block one.0.0 one.1.0).0 in
+    let ends : (a +ℤ pos n) ≤ℤ block_of last_day = subst (λ (b : ℤ). b ≤ℤ block_of last_day) two.2
+    (day-block two.0.0 two.1.0).1 in
+    let short : suc n ≤ calendar_len = omega (arith, ints, begins, ends) in
+    let least = run-at_least such (suc n) calendar_len a short pass in
+    let most : run_len such a ≤ found = subst (λ (b : ℤ). run_len such b ≤ found) one.2 one.1.1 in
+    omega (arith, least, most)
+
+-- the most blocks in a row that hold a day which passes, of those reached
+blocks-greatest : (test : ℤ → Bool) (q : Asked) (s : Usable) → IsSeries s → IsGreatest
+    (IsRunLength (holds_such test (days_reached q s)))
+    (pos (longest_run (holds_such test (days_reached q s)) (map (λ x. block_of x.0) (days_reached q s))))
+blocks-greatest test q s series =
+    let days : List DayValue = days_reached q s in
+    let such : ℤ → Bool = holds_such test days in
+    let found : ℕ = longest_run such (map (λ x. block_of x.0) days) in
+    let somewhere = longest-somewhere such (map (λ x. block_of x.0) days) in
+    let valid = all-kept (λ x. is_day x.0 ≡ true) (λ x. is_reached q.period (block_of x.0)) s.days
+    (days-valid s s.days series.values) in
+    let all = from_both (λ x. is_day x.0 ≡ true) (λ x. run_len such (block_of x.0) ≤ found)
+    (λ x. (is_day x.0 ≡ true) × (run_len such (block_of x.0) ≤ found)) days (λ x day le. (day, le)) valid
+    (longest-most such (λ x. block_of x.0) days) in
+    record {
+      is_one = (found, somewhere.0, refl, somewhere.1);
+      is_most = λ y run. omega (arith, ints, run.2, blocks-most test days found all run.0 run.1 run.3);
+    }
+
+-- 32 times as many is the bound of hot spells
+pub blocks-computed : (test : ℤ → Bool) (q : Asked) (s : Usable) → IsSeries s
+    → IsBlocksBound (holds_such test (days_reached q s)) (blocks_bound test (days_reached q s))
+blocks-computed test q s series = record {
+  blocks = longest_run (holds_such test (days_reached q s)) (map (λ x. block_of x.0) (days_reached q s));
+  greatest = blocks-greatest test q s series;
+  times = refl;
+}
 
 -- ---- the bound
 
@@ -278,6 +344,7 @@ computed-for (Sum n e) q s series some falls = record {
 }
 computed-for Dry q s series some falls = run-greatest is_dry q s series
 computed-for Wet q s series some falls = run-greatest is_wet q s series
+computed-for (Hot t) q s series some falls = blocks-computed (is_hot t) q s series
 
 -- the bound as it is computed is the bound by what it is greatest of
 pub computed-IsBound : (q : Asked) (s : Usable) → IsAsked q → IsAskedOf q s → IsBound q s (bound q s)

@@ -5,7 +5,7 @@ use Rattle.ghcn_files.specs.declared.element.Element.{Element}
 use Rattle.ghcn_files.specs.declared.element.Element.TheVariants.{Tmax, Tmin, Prcp}
 use Rattle.ghcn_series.specs.Series.{DayValue, Usable}
 use Rattle.rank_query.specs.declared.score.Score.{Score}
-use Rattle.rank_query.specs.declared.score.Score.TheVariants.{Highest, Lowest, Sum, Dry, Wet}
+use Rattle.rank_query.specs.declared.score.Score.TheVariants.{Highest, Lowest, Sum, Dry, Wet, Hot}
 use Rattle.rank_query.specs.declared.region.Region.TheVariants.{Everywhere}
 use Rattle.rank_query.specs.Asked.{Asked}
 use Rattle.rank_scores.specs.Runs.{run_from}
@@ -17,7 +17,7 @@ series e days = record { id = record { 0 = codes "ZZA00000001" }; element = e; d
 
 -- a query without a region
 abbrev pub ask : Score → Option (ℤ × ℤ) → Asked
-ask score period = record { k = 1; score = score; region = Everywhere; period = period }
+ask score period = record { k = 1; score = score; region = Everywhere; season = None; period = period }
 
 -- a value on each of n days from one on
 abbrev pub each_day : ℤ → ℕ → ℤ → List DayValue
@@ -96,3 +96,11 @@ block_behind = refl
 before_1970 : bound (ask (Highest Tmax) (Some (neg_ℤ (pos 1), neg_ℤ (pos 1))))
     (series Tmax ((neg_ℤ (pos 33), pos 300) ∷ (neg_ℤ (pos 32), pos 100) ∷ (pos 0, pos 200) ∷ [])) ≡ pos 100
 before_1970 = refl
+
+-- two hot days in two blocks, and one that isn't hot between others of one block
+hot_blocks : (bound (ask (Hot (pos 300)) None) (series Tmax ((pos 18463, pos 300) ∷ (pos 18464, pos 300) ∷ [])) ≡ pos 64)
+    × (bound (ask (Hot (pos 300)) None) (series Tmax ((pos 18444, pos 300) ∷ (pos 18445, pos 310)
+    ∷ (pos 18446, pos 299) ∷ (pos 18447, pos 305) ∷ [])) ≡ pos 32)
+    × (bound (ask (Hot (pos 400)) None) (series Tmax ((pos 18444, pos 300) ∷ [])) ≡ pos 0)
+unfolding run_from
+hot_blocks = (refl, refl, refl)

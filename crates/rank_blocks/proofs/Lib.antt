@@ -9,6 +9,7 @@ pub mod WindowTotals
 pub mod PossibleBlocks
 pub mod ReachedDays
 pub mod LongestRuns
+pub mod HotBlocks
 pub mod RangeRuns
 pub mod BlockDays
 pub mod Above

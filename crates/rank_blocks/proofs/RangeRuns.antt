@@ -7,36 +7,27 @@ use Rattle.std.proofs.lemmas.Int.{ints}
 use Rattle.std.proofs.lemmas.List.{drop_all}
 use Rattle.std.proofs.lemmas.List.Elements.{All-from_recursion, All-get_or}
 use Rattle.ghcn_fields.specs.Days.{block_of}
-use Rattle.ghcn_series.specs.Series.{DayValue, Usable, value_on}
-use Rattle.rank_scores.specs.Candidates.{is_such}
-use Rattle.rank_scores.specs.Spells.{test_of}
+use Rattle.ghcn_series.specs.Series.{Usable}
 use Rattle.rank_scores.specs.declared.spell.Spell.{Spell}
-use Rattle.rank_scores.specs.declared.spell.Spell.TheVariants.{Dry, Wet}
 use Rattle.rank_blocks.specs.declared.runs.Runs.{Runs}
 use Rattle.rank_blocks.specs.declared.summary.Summary.{Summary}
 use Rattle.rank_blocks.specs.declared.range.BlockRange.{BlockRange}
 use Rattle.rank_blocks.specs.Blocks.{block_start}
 use Rattle.rank_blocks.specs.DayRuns.{AreRuns, runs_before, NoneBetween, AreBitsOf, AllFrom, Continues}
 use Rattle.rank_blocks.specs.Greatest.{IsGreatest, IsRunLength}
-use Rattle.rank_blocks.specs.Reached.{in_range, days_in_range, word_of}
-use Rattle.rank_blocks.specs.Summaries.{HasBits, IsSummary, AreSummaries, ArePossible}
+use Rattle.rank_blocks.specs.Reached.{in_range, days_in_range, word_of, counts}
+use Rattle.rank_blocks.specs.Summaries.{IsSummary, AreSummaries, ArePossible}
 use Rattle.rank_blocks.proofs.BlockSteps.{block_at, no_block, left-at, behind-left}
 use Rattle.rank_blocks.proofs.DayTests.{not_both, between, fails}
 use Rattle.rank_blocks.proofs.DayValues.{block-holds, block-of_place}
 use Rattle.rank_blocks.proofs.LongestRuns.{runs-none}
 use Rattle.rank_blocks.proofs.Members.{contains-cases, contains-nothing, pick}
-use Rattle.rank_blocks.proofs.ReachedDays.{such-kept, such-filter, such-has, value_on-among}
+use Rattle.rank_blocks.proofs.HotBlocks.{counts-kept, counts-filter, counts-among, counts-bits}
 use Rattle.rank_blocks.proofs.WindowTotals.{AreBehind}
 
--- the word of a kind in a summary has the bits of its block
-spell-bits : (k : Spell) (days : List DayValue) (m : Summary) → IsSummary days m
-    → HasBits (test_of k) days m.number (word_of k m)
-spell-bits Dry days m is = is.dry
-spell-bits Wet days m is = is.wet
-
--- a day of the kind among the usable days in the blocks of a range
+-- a day that counts for a spell among the usable days in the blocks of a range
 abbrev pub kind : BlockRange → Spell → Usable → ℤ → Bool
-kind r k s = is_such (test_of k) (days_in_range r s.days)
+kind r k s = counts k (days_in_range r s.days)
 
 -- the runs of the days before a block are told, and each day of the kind lies there, or in a block that is to come
 pub record AreRunsSoFar (r : BlockRange) (k : Spell) (s : Usable) (rest : List Summary) (runs : Runs) : Type 0 where
@@ -68,7 +59,7 @@ ahead-behind r b next (m ∷ ms) is behind = (λ holds. omega (arith, ints), ahe
 module _ (r : BlockRange) (k : Spell) (s : Usable) where
   -- the block of a day of the kind lies in the range
   kind-range : (d : ℤ) → kind r k s d ≡ true → in_range r (block_of d) ≡ true
-  kind-range d e = (such-kept (test_of k) (λ n. in_range r (block_of n)) s.days d e).0
+  kind-range d e = (counts-kept k (in_range r) s.days d e).0
 
   -- before any block, each day of the kind is to come
   pub so_far-start : (ms : List Summary) → AreSummaries s ms → AreRunsSoFar r k s ms (runs_before r.first)
@@ -79,9 +70,8 @@ module _ (r : BlockRange) (k : Spell) (s : Usable) where
         let block = block-holds d in
         absurd (omega (arith, ints))));
     left = λ d e.
-        let kept = such-kept (test_of k) (λ n. in_range r (block_of n)) s.days d e in
-        let has = such-has (test_of k) (value_on s.days d) kept.1 in
-        inr (value_on-among (λ n v. Contains (map (λ m. m.number) ms) (block_of n)) s.days d has.0 are.all has.1);
+        let kept = counts-kept k (in_range r) s.days d e in
+        inr (counts-among k (Contains (map (λ m. m.number) ms)) s.days d are.all kept.1);
   }
 
   module _ (m : Summary) (later : List Summary) (runs : Runs) (far : AreRunsSoFar r k s (m ∷ later) runs)
@@ -122,8 +112,7 @@ module _ (r : BlockRange) (k : Spell) (s : Usable) where
     bits-of is holds i lt =
         let d : ℤ = block_start m.number +ℤ pos i in
         let block : in_range r (block_of d) ≡ true = ap (in_range r) (block-of_place m.number i lt) ∙ holds in
-        spell-bits k s.days m is i lt
-        ∙ sym (such-filter (test_of k) (λ n. in_range r (block_of n)) s.days d block)
+        counts-bits k s.days m is i lt ∙ sym (counts-filter k (in_range r) s.days d block)
 
     -- with a block of the range
     pub so_far-in : (new : Runs) → runs.next ≤ℤ m.number → new.next ≡ m.number +ℤ pos 1 → AreRuns (kind r k s) new

@@ -11,7 +11,7 @@ use Rattle.ghcn_fields.specs.Days.{block_of, is_day, first_day, last_day}
 use Rattle.ghcn_fields.specs.Sorting.{greatest}
 use Rattle.ghcn_series.specs.Series.{DayValue, Usable, value_on}
 use Rattle.rank_query.specs.Asked.{Asked}
-use Rattle.rank_query.specs.Admits.{admits_day, period_holds}
+use Rattle.rank_query.specs.Admits.{admits_day, period_holds, season_holds}
 use Rattle.rank_scores.specs.Candidates.{is_such}
 use Rattle.rank_blocks.specs.declared.summary.Summary.{Summary}
 use Rattle.rank_blocks.specs.Blocks.{days_in, is_reached}
@@ -116,7 +116,8 @@ reached_in (Some p) d e = within_blocks p.0 p.1 d (both_pass (is_day d) (period_
 
 -- an admitted day lies in a block of the period
 pub admitted-reached : (q : Asked) (d : ℤ) → admits_day q d ≡ true → is_reached q.period (block_of d) ≡ true
-admitted-reached q d e = reached_in q.period d e
+admitted-reached q d e =
+    reached_in q.period d (both_pass (is_day d && period_holds q.period d) (season_holds q.season d) e).0
 
 -- ---- the greatest score of a day, from the summaries
 

@@ -1,15 +1,16 @@
 -- The bound of a series: a number that no candidate's score exceeds, found from whole blocks.
-use Rattle.std.specs.Prelude.{◌≡◌, ℕ, ◌+◌, ◌/◌, ◌<◌, Bool, List, length, map, filter, ℤ, pos, neg_ℤ, ◌-ℤ◌, ◌*ℤ◌}
-use Rattle.std.specs.List.{flat_map, range_with_len}
+use Rattle.std.specs.Prelude.{◌≡◌, ℕ, ◌+◌, ◌*◌, ◌/◌, ◌<◌, Bool, true, false, ◌&&◌, List, length, map, filter, ℤ, pos, neg_ℤ, ◌-ℤ◌, ◌*ℤ◌}
+use Rattle.std.specs.List.{flat_map, range_with_len, list_any}
 use Rattle.std.specs.Option.{unwrap_or}
 use Rattle.std.specs.Int.{int_min}
+use Rattle.std.specs.Ordering.{int_eq}
 use Rattle.ghcn_fields.specs.Days.{block_of}
 use Rattle.ghcn_fields.specs.Sorting.{greatest}
 use Rattle.ghcn_series.specs.Series.{DayValue, Usable, IsSeries}
 use Rattle.rank_query.specs.declared.score.Score.{Score}
-use Rattle.rank_query.specs.declared.score.Score.TheVariants.{Highest, Lowest, Sum, Dry, Wet}
+use Rattle.rank_query.specs.declared.score.Score.TheVariants.{Highest, Lowest, Sum, Dry, Wet, Hot}
 use Rattle.rank_query.specs.Asked.{Asked, score_element}
-use Rattle.rank_scores.specs.Candidates.{is_dry, is_wet, is_such, admitted}
+use Rattle.rank_scores.specs.Candidates.{is_dry, is_wet, is_hot, is_such, admitted}
 use Rattle.rank_scores.specs.Runs.{longest_run}
 use Rattle.rank_blocks.specs.Blocks.{is_reached, days_reached, blocks_total}
 
@@ -39,6 +40,14 @@ sum_bound q s n =
 abbrev pub spell_bound : (ℤ → Bool) → List DayValue → ℤ
 spell_bound test days = pos (longest_run (is_such test days) (map (λ x. x.0) days))
 
+-- a block holds one of some days whose value passes
+abbrev pub holds_such : (ℤ → Bool) → List DayValue → ℤ → Bool
+holds_such test days b = list_any (λ x. int_eq (block_of x.0) b && test x.1) days
+
+-- the bound of hot spells: 32 times the most blocks in a row that hold a day which passes, 0 where none does
+abbrev pub blocks_bound : (ℤ → Bool) → List DayValue → ℤ
+blocks_bound test days = pos (32 * longest_run (holds_such test days) (map (λ x. block_of x.0) days))
+
 -- the bound of a score
 abbrev pub bound_for : Score → Asked → Usable → ℤ
 bound_for (Highest e) q s = greatest_by (λ v. v) (days_reached q s)
@@ -46,6 +55,16 @@ bound_for (Lowest e) q s = greatest_by neg_ℤ (days_reached q s)
 bound_for (Sum n e) q s = sum_bound q s n
 bound_for Dry q s = spell_bound is_dry (days_reached q s)
 bound_for Wet q s = spell_bound is_wet (days_reached q s)
+bound_for (Hot t) q s = blocks_bound (is_hot t) (days_reached q s)
+
+-- a score whose bound the plain program finds: any but hot spells
+abbrev pub has_plain : Score → Bool
+has_plain (Highest e) = true
+has_plain (Lowest e) = true
+has_plain (Sum n e) = true
+has_plain Dry = true
+has_plain Wet = true
+has_plain (Hot t) = false
 
 -- the bound of a series under a query
 abbrev pub bound : Asked → Usable → ℤ

@@ -1,15 +1,15 @@
 -- The bound of a series by what it is greatest of, and not by how it is found; and all that is true of the bound.
-use Rattle.std.specs.Prelude.{◌≡◌, ℕ, ◌<◌, Bool, true, List, map, Option, ℤ, pos, neg_ℤ, ◌+ℤ◌, ◌*ℤ◌, ◌≤ℤ◌}
+use Rattle.std.specs.Prelude.{◌≡◌, ℕ, ◌*◌, ◌<◌, Bool, true, List, map, Option, ℤ, pos, neg_ℤ, ◌+ℤ◌, ◌*ℤ◌, ◌≤ℤ◌}
 use Rattle.std.specs.List.{Contains}
 use Rattle.std.specs.Int.{int_min}
 use Rattle.ghcn_series.specs.Series.{DayValue, Usable}
 use Rattle.rank_query.specs.declared.score.Score.{Score}
-use Rattle.rank_query.specs.declared.score.Score.TheVariants.{Highest, Lowest, Sum, Dry, Wet}
+use Rattle.rank_query.specs.declared.score.Score.TheVariants.{Highest, Lowest, Sum, Dry, Wet, Hot}
 use Rattle.rank_query.specs.Asked.{Asked}
-use Rattle.rank_scores.specs.Candidates.{is_dry, is_wet, is_such}
+use Rattle.rank_scores.specs.Candidates.{is_dry, is_wet, is_hot, is_such}
 use Rattle.rank_scores.specs.Morsels.{IsAbove}
 use Rattle.rank_blocks.specs.Blocks.{is_reached, days_reached, blocks_total}
-use Rattle.rank_blocks.specs.Bounds.{blocks_of_window, bound}
+use Rattle.rank_blocks.specs.Bounds.{blocks_of_window, holds_such, bound}
 
 -- z is the greatest of the numbers that have a property
 pub record IsGreatest (P : ℤ → Type 0) (z : ℤ) : Type 0 where
@@ -36,6 +36,12 @@ pub record IsSumBound (q : Asked) (s : Usable) (n : ℕ) (z : ℤ) : Type 0 wher
   pub greatest_total : IsGreatest (IsBlocksTotal q.period s.days (blocks_of_window n)) most
   pub smaller : int_min (pos n *ℤ value) most ≡ z
 
+-- z is 32 times the greatest number of blocks in a row that pass
+pub record IsBlocksBound (such : ℤ → Bool) (z : ℤ) : Type 0 where
+  pub blocks : ℕ
+  pub greatest : IsGreatest (IsRunLength such) (pos blocks)
+  pub times : pos (32 * blocks) ≡ z
+
 -- z is the bound for a score
 abbrev pub IsBoundFor : Score → Asked → Usable → ℤ → Type 0
 IsBoundFor (Highest e) q s z = IsGreatest (IsScore (λ v. v) (days_reached q s)) z
@@ -43,6 +49,7 @@ IsBoundFor (Lowest e) q s z = IsGreatest (IsScore neg_ℤ (days_reached q s)) z
 IsBoundFor (Sum n e) q s z = IsSumBound q s n z
 IsBoundFor Dry q s z = IsGreatest (IsRunLength (is_such is_dry (days_reached q s))) z
 IsBoundFor Wet q s z = IsGreatest (IsRunLength (is_such is_wet (days_reached q s))) z
+IsBoundFor (Hot t) q s z = IsBlocksBound (holds_such (is_hot t) (days_reached q s)) z
 
 -- z is the bound of the series under the query
 abbrev pub IsBound : Asked → Usable → ℤ → Type 0

@@ -1,15 +1,17 @@
 -- What the summaries of the blocks of a range tell.
-use Rattle.std.specs.Prelude.{◌≡◌, ℕ, Bool, true, ◌&&◌, List, map, filter, ℤ, pos, neg_ℤ, ◌≤ℤ◌, int_le}
+use Rattle.std.specs.Prelude.{◌≡◌, ℕ, Bool, true, ◌&&◌, if◌then◌else◌, List, map, filter, ℤ, pos, neg_ℤ, ◌≤ℤ◌, int_le}
 use Rattle.ghcn_fields.specs.Days.{block_of}
 use Rattle.ghcn_series.specs.Series.{DayValue}
 use Rattle.rank_query.specs.Asked.{Asked}
+use Rattle.rank_scores.specs.Candidates.{is_dry, is_wet, is_hot, is_such}
 use Rattle.rank_scores.specs.declared.spell.Spell.{Spell}
-use Rattle.rank_scores.specs.declared.spell.Spell.TheVariants.{Dry, Wet}
+use Rattle.rank_scores.specs.declared.spell.Spell.TheVariants.{Dry, Wet, Hot}
 use Rattle.rank_blocks.specs.declared.range.BlockRange.{BlockRange}
 use Rattle.rank_blocks.specs.declared.extreme.Extreme.{Extreme}
 use Rattle.rank_blocks.specs.declared.extreme.Extreme.TheVariants.{Highest, Lowest}
 use Rattle.rank_blocks.specs.declared.summary.Summary.{Summary}
 use Rattle.rank_blocks.specs.Blocks.{period_of, total, is_among, blocks_total}
+use Rattle.rank_blocks.specs.Bounds.{holds_such}
 
 -- a score that single days can have
 pub record IsNear (z : ℤ) : Type 0 where
@@ -43,10 +45,17 @@ abbrev pub extreme_of : Extreme → Summary → ℤ
 extreme_of Highest m = m.greatest
 extreme_of Lowest m = neg_ℤ m.least
 
--- the word of a spell's days in a block
+-- the word of the days of a block that count for a spell
 abbrev pub word_of : Spell → Summary → ℕ
 word_of Dry m = m.dry
 word_of Wet m = m.wet
+word_of (Hot t) m = if int_le t m.greatest then 4_294_967_295 else 0
+
+-- the day counts for a spell: it is dry or wet, or its block holds a hot day, since no summary has which days are hot
+abbrev pub counts : Spell → List DayValue → ℤ → Bool
+counts Dry days d = is_such is_dry days d
+counts Wet days d = is_such is_wet days d
+counts (Hot t) days d = holds_such (is_hot t) days (block_of d)
 
 -- the total of w blocks from one on
 abbrev pub summaries_total : List Summary → ℕ → ℤ → ℤ

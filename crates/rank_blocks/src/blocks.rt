@@ -77,6 +77,7 @@ fn bound_of(blocks: &[Summary], query: &Query) -> i64
         ),
         Score::Dry => longest_run(blocks, range, Spell::Dry),
         Score::Wet => longest_run(blocks, range, Spell::Wet),
+        Score::Hot(least) => longest_run(blocks, range, Spell::Hot(least)),
     }
 }
 

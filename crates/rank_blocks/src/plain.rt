@@ -1,6 +1,6 @@
 //! The bound day by day, as its definition has it: a plain program to compare the quick one with.
 
-ghost use Rattle.std.specs.Prelude.{◌≡◌, ℕ, ℤ, true, false, ◌<◌, ◌≤◌, ◌≤ℤ◌, ◌+ℤ◌, pos, map, unwrap_or};
+ghost use Rattle.std.specs.Prelude.{◌≡◌, ℕ, ℤ, true, false, IsTrue, ◌<◌, ◌≤◌, ◌≤ℤ◌, ◌+ℤ◌, pos, map, unwrap_or};
 ghost use Rattle.ghcn_fields.specs.Days.{block_of, day_if};
 ghost use Rattle.ghcn_fields.specs.Sorting.{greatest};
 ghost use Rattle.ghcn_series.specs.Series.{IsSeries};
@@ -8,7 +8,7 @@ ghost use Rattle.rank_scores.specs.Candidates.{is_such};
 ghost use Rattle.rank_scores.specs.Runs.{calendar_len};
 ghost use Rattle.rank_scores.specs.Spells.{test_of};
 ghost use Rattle.rank_blocks.specs.Blocks as blocks;
-ghost use Rattle.rank_blocks.specs.Bounds.{blocks_of_window, bound, IsAskedOf};
+ghost use Rattle.rank_blocks.specs.Bounds.{blocks_of_window, bound, has_plain, IsAskedOf};
 ghost use Rattle.rank_blocks.specs.Greatest.{IsGreatest, IsRunLength};
 ghost use Rattle.rank_blocks.specs.Reached as told;
 
@@ -25,8 +25,16 @@ use rank_scores::Spell;
 /// How many days there are in the years 1 to 9999.
 const CALENDAR_LEN: u32 = 3_652_059;
 
+/// Whether the score of the query has a bound here: any but hot spells.
+pub(crate) fn has_plain_bound(query: &Query) -> bool
+    ensures { result ≡ has_plain query.now.score }
+{
+    !matches!(query.score(), Score::Hot(_))
+}
+
 /// The bound of a series under a query that asks about it, in the unit of the score.
 pub(crate) fn plain_bound(series: &Series, query: &Query) -> i64
+    requires { IsTrue (has_plain query.now.score) }
     ensures { IsAskedOf query.now series.now → result ≡ bound query.now series.now }
 {
     let range = BlockRange::of(query);
@@ -40,6 +48,7 @@ pub(crate) fn plain_bound(series: &Series, query: &Query) -> i64
         ),
         Score::Dry => longest_spell(series, range, Spell::Dry),
         Score::Wet => longest_spell(series, range, Spell::Wet),
+        Score::Hot(_) => unreachable!(),
     }
 }
 

@@ -6,8 +6,6 @@ ghost use Rattle.std.specs.Int.{int_min};
 ghost use Rattle.std.specs.List.{AllByRecursion};
 ghost use Rattle.ghcn_fields.specs.Sorting.{greatest};
 ghost use Rattle.ghcn_series.specs.Series.{Usable};
-ghost use Rattle.rank_scores.specs.Candidates.{is_such};
-ghost use Rattle.rank_scores.specs.Spells.{test_of};
 ghost use Rattle.rank_blocks.specs.Bounds.{blocks_of_window};
 ghost use Rattle.rank_blocks.specs.Greatest.{IsGreatest, IsRunLength};
 ghost use Rattle.rank_blocks.specs.Reached as told;
@@ -97,11 +95,11 @@ fn window_total(blocks: &[Summary], window: Window) -> i64
     total
 }
 
-/// How many days of a kind follow one another at most in the blocks of a range.
+/// How many days that count for a spell follow one another at most in the blocks of a range.
 pub(crate) fn longest_run(blocks: &[Summary], range: BlockRange, spell: Spell) -> i64
     requires { ArePossible blocks.now }
     ensures { (s : Usable) → AreSummaries s blocks.now →
-        IsGreatest (IsRunLength (is_such (test_of spell) (told.days_in_range range s.days))) result }
+        IsGreatest (IsRunLength (told.counts spell (told.days_in_range range s.days))) result }
 {
     let mut runs = Runs::before(range);
     for block in blocks {

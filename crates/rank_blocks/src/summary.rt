@@ -69,13 +69,15 @@ impl Summary {
         }
     }
 
-    /// The word of a spell's days in the block.
+    /// The word of the days of the block that count for a spell: of a hot one all, where one is hot.
     pub(crate) fn days(&self, spell: Spell) -> u32
         ensures { result ≡ word_of spell self.now }
     {
         match spell {
             Spell::Dry => self.dry,
             Spell::Wet => self.wet,
+            Spell::Hot(least) if self.greatest >= least => u32::MAX,
+            Spell::Hot(_) => 0,
         }
     }
 }

@@ -1,7 +1,7 @@
 //! Worked bounds.
 
 use super::*;
-use crate::plain::plain_bound;
+use crate::plain::{has_plain_bound, plain_bound};
 use ghcn_fields::Day;
 use ghcn_files::{Element, StationId, Stations};
 use ghcn_series::Data;
@@ -65,17 +65,25 @@ fn text_of(alloc: Global, element: Element, stretches: &[Stretch]) -> Result<Str
     Ok(text)
 }
 
-/// The bound of the station's series in a daily file, and the same by the plain program.
-fn bounds_in(alloc: Global, text: &str, query: &Query) -> Result<(i64, i64), Fail> {
+/// The bound of the station's series in a daily file, and the same by the plain program where it has it.
+fn bounds_in(alloc: Global, text: &str, query: &Query) -> Result<(i64, Option<i64>), Fail> {
     let stations = Stations::read(alloc, STATIONS)?;
     let data = Data::read(alloc, stations, &[text.as_bytes()])?;
     let series = data.series(&A, query.element()).ok_or("no series")?;
     let bound = Blocks::build(alloc, series)?.bound(query);
-    Ok((bound, plain_bound(series, query)))
+    if has_plain_bound(query) {
+        Ok((bound, Some(plain_bound(series, query))))
+    } else {
+        Ok((bound, None))
+    }
 }
 
 /// The same of a series that has these days.
-fn bounds_of(alloc: Global, stretches: &[Stretch], query: &str) -> Result<(i64, i64), Fail> {
+fn bounds_of(
+    alloc: Global,
+    stretches: &[Stretch],
+    query: &str,
+) -> Result<(i64, Option<i64>), Fail> {
     let query = Query::parse(query).ok().ok_or("no query")?;
     let text = text_of(alloc, query.element(), stretches)?;
     bounds_in(alloc, text.as_str(), &query)
@@ -86,7 +94,11 @@ fn compare(rt: &impl Abort, alloc: Global, rows: &[Row]) -> Result<(), Fail> {
     for (stretches, query, expected) in rows {
         let (bound, plain) = bounds_of(alloc, stretches, query)?;
         assert_eq!(rt; bound, *expected, "at {query} of {stretches:?}");
-        assert_eq!(rt; plain, *expected, "plainly at {query} of {stretches:?}");
+        assert_eq!(rt;
+            plain.unwrap_or(*expected),
+            *expected,
+            "plainly at {query} of {stretches:?}"
+        );
     }
     Ok(())
 }
@@ -125,7 +137,7 @@ fn bounds_of_single_days(rt: HostRuntime) -> Result<(), Fail> {
 }
 
 #[rattlefmt::skip]
-const SUMS: [Row; 12] = [
+const SUMS: [Row; 14] = [
     (
         &[(18_258, 1, 10), (18_259, 1, 20), (18_260, 1, 30), (18_262, 1, 5), (18_263, 1, 6), (18_264, 1, 7)],
         "top 5 sum 3 PRCP from 2019-12-28 to 2020-01-03",
@@ -144,6 +156,23 @@ const SUMS: [Row; 12] = [
     (&[(18_463, 1, 50), (18_464, 1, 7)], "top 1 sum 2 PRCP from 2020-07-01 to 2020-07-20", 57),
     // Four days have rain, and that is less than five times the greatest.
     (&[(18_440, 2, 20), (18_443, 2, 20)], "top 1 sum 5 PRCP", 80),
+    // A season bounds nothing.
+    (
+        &[
+            (18_258, 1, 10), (18_259, 1, 20), (18_260, 1, 30), (18_261, 1, 40), (18_262, 1, 5), (18_263, 1, 6),
+            (18_264, 1, 7),
+        ],
+        "top 2 sum 3 PRCP months 12..1",
+        118,
+    ),
+    (
+        &[
+            (18_258, 1, 10), (18_259, 1, 20), (18_260, 1, 30), (18_261, 1, 40), (18_262, 1, 5), (18_263, 1, 6),
+            (18_264, 1, 7),
+        ],
+        "top 2 sum 3 PRCP months 1..1",
+        118,
+    ),
     (&[(-719_162, 1, 90), (2_932_896, 1, 70)], "top 1 sum 2 PRCP", 90),
     (&[(-719_162, 1, 90), (2_932_896, 1, 70)], "top 1 sum 2 PRCP from 9999-12-31 to 9999-12-31", 70),
 ];
@@ -154,7 +183,7 @@ fn bounds_of_sums(rt: HostRuntime) -> Result<(), Fail> {
 }
 
 #[rattlefmt::skip]
-const SPELLS: [Row; 16] = [
+const SPELLS: [Row; 26] = [
     (&[(18_444, 31, 0)], "top 1 dry", 31),
     (&[(18_444, 31, 0)], "top 2 dry from 2020-07-05 to 2020-07-10", 20),
     (&[(18_444, 31, 0)], "top 1 wet", 0),
@@ -172,6 +201,18 @@ const SPELLS: [Row; 16] = [
     (&[(-719_162, 30, 0)], "top 1 dry from 0001-01-01 to 0001-01-01", 26),
     (&[(2_932_890, 7, 10)], "top 1 wet", 7),
     (&[(2_932_890, 7, 10)], "top 1 wet from 9999-12-31 to 9999-12-31", 1),
+    // A season bounds nothing.
+    (&[(18_442, 4, 0)], "top 2 dry months 6..6", 4),
+    // Each block in a row that holds a hot day has 32, whichever of its days are hot.
+    (&[(18_463, 2, 300)], "top 1 hot 30", 64),
+    (&[(18_444, 1, 300), (18_445, 1, 310), (18_446, 1, 299), (18_447, 1, 305)], "top 2 hot 30", 32),
+    (&[(18_444, 1, 250)], "top 1 hot 30", 0),
+    (&[(18_444, 2, 300)], "top 1 hot 30.1", 0),
+    (&[(18_431, 1, 300), (18_464, 1, 300)], "top 1 hot 30", 32),
+    (&[(18_431, 1, 300), (18_440, 1, 299), (18_464, 1, 300)], "top 1 hot 30", 32),
+    (&[(18_431, 1, -5), (18_440, 1, 300), (18_464, 1, -5)], "top 1 hot -0.5", 96),
+    (&[(18_400, 64, 300)], "top 1 hot 30 from 2020-07-01 to 2020-07-05", 32),
+    (&[(-719_162, 1, 300), (2_932_896, 1, 300)], "top 1 hot 30 from 9999-12-31 to 9999-12-31", 32),
 ];
 
 #[test]
@@ -195,7 +236,7 @@ fn a_flagged_day_is_missing(rt: HostRuntime) -> Result<(), Fail> {
     for (query, expected) in cases {
         let parsed = Query::parse(query).ok().ok_or("no query")?;
         let bounds = bounds_in(rt.alloc(), text.as_str(), &parsed)?;
-        assert_eq!(rt; bounds, (expected, expected), "at {query}");
+        assert_eq!(rt; bounds, (expected, Some(expected)), "at {query}");
     }
     Ok(())
 }
@@ -221,7 +262,7 @@ fn compare_plainly(
         for score in scores {
             let query = format!(in alloc; "top 1 {score} {period}")?;
             let (bound, plain) = bounds_of(alloc, stretches, query.as_str())?;
-            assert_eq!(rt; bound, plain, "at {query} of {stretches:?}");
+            assert_eq!(rt; Some(bound), plain, "at {query} of {stretches:?}");
         }
     }
     Ok(())

@@ -8,7 +8,9 @@ use Rattle.rank_query.specs.Asked.{Asked}
 use Rattle.rank_papers.specs.ReportLines.{Reported}
 use Rattle.rank_papers.specs.Certificate.{Certified}
 use Rattle.rank_check.specs.declared.verdict.Verdict.TheVariants.{Accepted}
-use Rattle.rank_check.specs.Tests.{Test, row_tests, report_tests, entry_tests, certificate_tests, or_accepted, judged}
+use Rattle.rank_scores.specs.declared.candidate.Candidate.{Candidate}
+use Rattle.rank_check.specs.Tests.{Test, row_tests, report_tests, entry_tests, certificate_tests, of_rows, or_accepted}
+use Rattle.rank_check.specs.Tests.{judged}
 
 -- a test passes
 abbrev pub Passes : Test → Type 0
@@ -66,17 +68,18 @@ report-refuse q c r = (
       ))) (λ e. absurd cc, tt),
 )
 
-certificate-refuse : (q : Asked) (c : Contents) (z : Certified) → AllByRecursion Refuses (certificate_tests q c z)
-certificate-refuse q c z = (
+certificate-refuse : (q : Asked) (c : Contents) (rows : List Candidate) (z : Certified)
+    → AllByRecursion Refuses (certificate_tests q c rows z)
+certificate-refuse q c rows z = (
   λ e. absurd cc,
   (
     λ e. absurd cc,
-    both (flat_map (entry_tests q c z.kth) (enumerate_from 1
-        z.entries)) _ (each (entry_tests q c z.kth) (enumerate_from 1 z.entries) (λ l. (
+    both (flat_map (entry_tests q c z.kth rows z.counts) (enumerate_from 1 z.entries)) _
+        (each (entry_tests q c z.kth rows z.counts) (enumerate_from 1 z.entries) (λ l. (
           λ e. absurd cc,
           (
             λ e. absurd cc,
-            (λ e. absurd cc, tt),
+            (λ e. absurd cc, (λ e. absurd cc, tt)),
           ),
         ))) (λ e. absurd cc, tt),
   ),
@@ -88,7 +91,7 @@ pub record AllPass (q : Asked) (c : Contents) (r : Result Reported ℕ) (z : Res
   pub certificate : Certified
   pub report_read : r ≡ Ok report
   pub certificate_read : z ≡ Ok certificate
-  pub tests : AllByRecursion Passes (report_tests q c report ++ certificate_tests q c certificate)
+  pub tests : AllByRecursion Passes (report_tests q c report ++ certificate_tests q c (of_rows report.rows) certificate)
 
 pub accepted-pass : (q : Asked) (c : Contents) (r : Result Reported ℕ) (z : Result Certified ℕ)
     → judged q c r z ≡ Accepted → AllPass q c r z
@@ -99,9 +102,10 @@ accepted-pass q c (Ok r) (Ok z) e = record {
   certificate = z;
   report_read = refl;
   certificate_read = refl;
-  tests = none_fails (report_tests q c r ++ certificate_tests q c z) (accepted-none (report_tests q c r ++
-      certificate_tests q c z) (both (report_tests q c r) (certificate_tests q c z) (report-refuse q c r)
-      (certificate-refuse q c z)) e);
+  tests = none_fails (report_tests q c r ++ certificate_tests q c (of_rows r.rows) z)
+      (accepted-none (report_tests q c r ++ certificate_tests q c (of_rows r.rows) z)
+      (both (report_tests q c r) (certificate_tests q c (of_rows r.rows) z) (report-refuse q c r)
+      (certificate-refuse q c (of_rows r.rows) z)) e);
 }
 
 pub pass-accepted : (q : Asked) (c : Contents) (r : Result Reported ℕ) (z : Result Certified ℕ) → AllPass q c r z
@@ -109,4 +113,5 @@ pub pass-accepted : (q : Asked) (c : Contents) (r : Result Reported ℕ) (z : Re
 pass-accepted q c r z h =
     ap (λ (x : Result Reported ℕ). judged q c x z) h.report_read
     ∙ ap (λ (x : Result Certified ℕ). judged q c (Ok h.report) x) h.certificate_read
-    ∙ ap or_accepted (all_pass (report_tests q c h.report ++ certificate_tests q c h.certificate) h.tests)
+    ∙ ap or_accepted
+    (all_pass (report_tests q c h.report ++ certificate_tests q c (of_rows h.report.rows) h.certificate) h.tests)

@@ -1,6 +1,6 @@
 -- Worked verdicts, by computation.
-use Rattle.std.proofs.Common.{◌≡◌, ℕ, List, [], ◌∷◌, ◌++◌, refl, None}
-use Rattle.std.specs.Prelude.{codes, pos}
+use Rattle.std.proofs.Common.{◌≡◌, ℕ, Bool, true, false, List, [], ◌∷◌, ◌++◌, refl, Option, None, Some}
+use Rattle.std.specs.Prelude.{codes, pos, ℤ}
 use Rattle.std.specs.Fmt.{digits}
 use Rattle.jiff_core.specs.Calendar.{days_from_civil, day_count, days_of_years, days_of_months}
 use Rattle.ghcn_fields.specs.Dates.{year_and_rest, month_and_day}
@@ -13,14 +13,22 @@ use Rattle.rank_query.specs.Asked.{Asked}
 use Rattle.rank_query.specs.Words.{says}
 use Rattle.rank_query.specs.Readers.{keyword}
 use Rattle.rank_query.specs.WordValues.{number, element}
-use Rattle.rank_query.specs.Reading.{no_score_at, score_at, region_at, period_at, read_words, read_query}
+use Rattle.rank_query.specs.Reading.{no_score_at, score_at, region_at, season_at, period_at, read_words}
+use Rattle.rank_query.specs.Reading.{read_query}
 use Rattle.rank_check.specs.declared.verdict.Paper.TheVariants.{Report, Certificate}
 use Rattle.rank_check.specs.declared.verdict.Why.{Why}
 use Rattle.rank_check.specs.declared.verdict.Why.TheVariants.{Form, OtherQuery, NotACandidate, OutOfOrder, NotBest}
-use Rattle.rank_check.specs.declared.verdict.Why.TheVariants.{TooFew, OtherSeries, NoBound, NotBelow, OtherFloor}
+use Rattle.rank_check.specs.declared.verdict.Why.TheVariants.{TooFew, OtherSeries, NoBound, NotBelow, NotCounted}
+use Rattle.rank_check.specs.declared.verdict.Why.TheVariants.{OtherFloor}
 use Rattle.rank_check.specs.declared.verdict.Verdict.{Verdict}
 use Rattle.rank_check.specs.declared.verdict.Verdict.TheVariants.{Accepted, Refused}
+use Rattle.ghcn_fields.specs.Faults.{first_failing}
+use Rattle.ghcn_files.specs.declared.station.Station.{Station}
+use Rattle.rank_scores.specs.declared.candidate.Candidate.{Candidate}
+use Rattle.rank_papers.specs.Report.{Named}
+use Rattle.rank_papers.specs.Certificate.{Entry}
 use Rattle.rank_check.specs.Tests.{verdict}
+use Rattle.rank_check.specs.Pieces.{is_morsel, piece_tests}
 
 -- a series of daily maxima
 abbrev warm : List ℕ → List DayValue → Usable
@@ -42,7 +50,7 @@ held = record {
 
 -- the k highest of all
 abbrev ask : ℕ → Asked
-ask k = record { k = k; score = Highest Tmax; region = Everywhere; period = None }
+ask k = record { k = k; score = Highest Tmax; region = Everywhere; season = None; period = None }
 
 -- lines, each with a line feed
 abbrev text : List (List ℕ) → List ℕ
@@ -94,14 +102,14 @@ bad_entry line why = Refused Certificate line why
 -- the right papers are accepted
 accepted : verdict (ask 1) held right_report right_certificate ≡ Accepted
 unfolding digits year_and_rest month_and_day read_query read_words keyword says number element score_at no_score_at
-    region_at period_at days_from_civil day_count days_of_years days_of_months
+    region_at season_at period_at days_from_civil day_count days_of_years days_of_months
 accepted = refl
 
 -- another bound that is above all candidates and below the k-th score, and no skip at all
 also_accepted : (of_certificate (scanned (codes "skip ZZA00000003 310" ∷ codes "end 3" ∷ [])) ≡ Accepted)
     × (of_certificate (scanned (codes "scan ZZA00000003 9999" ∷ codes "end 3" ∷ [])) ≡ Accepted)
 unfolding digits year_and_rest month_and_day read_query read_words keyword says number element score_at no_score_at
-    region_at period_at days_from_civil day_count days_of_years days_of_months
+    region_at season_at period_at days_from_civil day_count days_of_years days_of_months
 also_accepted = (refl, refl)
 
 -- a skip at the k-th score, a bound below a candidate, a series left out, a wrong number of lines, another k-th score
@@ -112,7 +120,7 @@ certificates : (of_certificate (scanned (codes "skip ZZA00000003 311" ∷ codes 
     × (of_certificate (certificate (codes "kth 310" ∷ codes "scan ZZA00000001 311" ∷ codes "scan ZZA00000002 311"
     ∷ codes "skip ZZA00000003 250" ∷ codes "end 3" ∷ [])) ≡ bad_entry 3 OtherFloor)
 unfolding digits year_and_rest month_and_day read_query read_words keyword says number element score_at no_score_at
-    region_at period_at days_from_civil day_count days_of_years days_of_months
+    region_at season_at period_at days_from_civil day_count days_of_years days_of_months
 certificates = (refl, refl, refl, refl, refl)
 
 -- a certificate with the first series twice, and this end
@@ -127,7 +135,7 @@ doubled : (of_certificate (with_one_twice (codes "end 3")) ≡ bad_entry 8 Form)
     × (of_certificate (scanned (codes "skip ZZA00000003 250" ∷ codes "end 3" ∷ codes "end 3" ∷ [])) ≡ bad_entry 8 Form)
     × (of_report (report (row ∷ row ∷ codes "end 2" ∷ [])) ≡ bad_row 4 Form)
 unfolding digits year_and_rest month_and_day read_query read_words keyword says number element score_at no_score_at
-    region_at period_at days_from_civil day_count days_of_years days_of_months
+    region_at season_at period_at days_from_civil day_count days_of_years days_of_months
 doubled = (refl, refl, refl, refl)
 
 -- the verdict on a report with this row
@@ -141,7 +149,7 @@ reports : (of_one (codes "1 ZZA00000001 2020-07-01 2020-07-01 31.0 C ALPHA") ≡
     × (of_report (report (codes "end 0 all" ∷ [])) ≡ bad_row 3 TooFew)
     × (verdict (ask 2) held right_report right_certificate ≡ bad_row 2 OtherQuery)
 unfolding digits year_and_rest month_and_day read_query read_words keyword says number element score_at no_score_at
-    region_at period_at days_from_civil day_count days_of_years days_of_months
+    region_at season_at period_at days_from_civil day_count days_of_years days_of_months
 reports = (refl, refl, refl, refl, refl)
 
 -- the verdict on a report with these two rows
@@ -156,5 +164,86 @@ of_two : (two_rows (row ∷ codes "2 ZZA00000001 2020-07-01 2020-07-01 31.1 C AL
     ∷ codes "2 ZZA00000002 2020-07-01 2020-07-01 31.1 C BRAVO" ∷ []) ≡ bad_row 3 NotBest)
     × (two_rows (row ∷ codes "2 ZZA00000002 2020-07-01 2020-07-01 31.1 C BRAVO" ∷ []) ≡ bad_entry 2 OtherQuery)
 unfolding digits year_and_rest month_and_day read_query read_words keyword says number element score_at no_score_at
-    region_at period_at days_from_civil day_count days_of_years days_of_months
+    region_at season_at period_at days_from_civil day_count days_of_years days_of_months
 of_two = (refl, refl, refl)
+
+-- ---- version 2
+
+-- a certificate of version 2, by what stands behind its head
+abbrev counted : List (List ℕ) → Verdict
+counted ls = of_certificate
+    (text (codes "extremes certificate 2" ∷ codes "query top 1 highest TMAX" ∷ codes "kth 311" ∷ ls))
+
+-- the right counts; these exchanged; a count on a skip; none on a scan; another version
+versions : (counted (codes "scan ZZA00000001 311 1" ∷ codes "scan ZZA00000002 311 0" ∷ codes "skip ZZA00000003 250"
+    ∷ codes "end 3" ∷ []) ≡ Accepted)
+    × (counted (codes "scan ZZA00000001 311 0" ∷ codes "scan ZZA00000002 311 1" ∷ codes "skip ZZA00000003 250"
+    ∷ codes "end 3" ∷ []) ≡ bad_entry 4 NotCounted)
+    × (counted (codes "scan ZZA00000001 311 1" ∷ codes "scan ZZA00000002 311 0" ∷ codes "skip ZZA00000003 250 0"
+    ∷ codes "end 3" ∷ []) ≡ bad_entry 6 Form)
+    × (counted (codes "scan ZZA00000001 311" ∷ []) ≡ bad_entry 4 Form)
+    × (of_certificate (text (codes "extremes certificate 3" ∷ [])) ≡ bad_entry 1 Form)
+unfolding digits year_and_rest month_and_day read_query read_words keyword says number element score_at no_score_at
+    region_at season_at period_at days_from_civil day_count days_of_years days_of_months
+versions = (refl, refl, refl, refl, refl)
+
+-- ---- pieces
+
+-- the stations
+abbrev at_alpha : Station
+at_alpha = station_of (codes "ZZA00000001  10.0000   20.0000  100.0    ALPHA")
+
+abbrev at_bravo : Station
+at_bravo = station_of (codes "ZZA00000002  11.0000   21.0000  100.0    BRAVO")
+
+abbrev at_charlie : Station
+at_charlie = station_of (codes "ZZA00000003  12.0000   22.0000  100.0    CHARLIE")
+
+-- their series
+abbrev of_alpha : Usable
+of_alpha = warm (codes "ZZA00000001") ((pos 18444, pos 311) ∷ (pos 18445, pos 305) ∷ [])
+
+abbrev of_bravo : Usable
+of_bravo = warm (codes "ZZA00000002") ((pos 18444, pos 311) ∷ [])
+
+abbrev of_charlie : Usable
+of_charlie = warm (codes "ZZA00000003") ((pos 18444, pos 250) ∷ [])
+
+-- the worst row, which is the only one
+abbrev worst : Candidate
+worst = record { id = record { 0 = codes "ZZA00000001" }; first = pos 18444; last = pos 18444; score = pos 311 }
+
+-- its row
+abbrev own_row : List Named
+own_row = (worst, codes "ALPHA") ∷ []
+
+-- a line
+abbrev line : Bool → Station → ℤ → Entry
+line skipped st bound = record { id = st.id; bound = bound; skipped = skipped }
+
+-- the judgement of a line by itself, of the highest one
+abbrev alone : Station → Usable → Entry → ℕ → List Named → Option Why
+alone st u e printed rows = first_failing (piece_tests (ask 1) st (Some u) e printed rows (Some worst))
+
+-- right lines; a row left out, without its count and with it; a bound that is too low; a skip at the k-th score
+lines : (alone at_alpha of_alpha (line false at_alpha (pos 311)) 1 own_row ≡ None)
+    × (alone at_bravo of_bravo (line false at_bravo (pos 311)) 0 [] ≡ None)
+    × (alone at_charlie of_charlie (line true at_charlie (pos 250)) 0 [] ≡ None)
+    × (alone at_alpha of_alpha (line false at_alpha (pos 311)) 0 [] ≡ Some NotBest)
+    × (alone at_alpha of_alpha (line false at_alpha (pos 311)) 1 [] ≡ Some NotCounted)
+    × (alone at_charlie of_charlie (line true at_charlie (pos 249)) 0 [] ≡ Some NoBound)
+    × (alone at_charlie of_charlie (line true at_charlie (pos 311)) 0 [] ≡ Some NotBelow)
+    × (alone at_bravo of_alpha (line false at_alpha (pos 311)) 1 own_row ≡ Some OtherSeries)
+    × (alone at_alpha of_alpha (line false at_alpha (pos 311)) 1 ((worst, codes "BRAVO") ∷ []) ≡ Some NotACandidate)
+lines = (refl, refl, refl, refl, refl, refl, refl, refl, refl)
+
+-- a station with a morsel, and none in a period without its days
+absent : (is_morsel (ask 1) at_charlie (Some of_charlie) ≡ true)
+    × (is_morsel (record {
+      k = 1;
+      score = Highest Tmax;
+      region = Everywhere;
+      season = None;
+      period = Some (pos 18628, pos 18629);
+    }) at_charlie (Some of_charlie) ≡ false)
+absent = (refl, refl)

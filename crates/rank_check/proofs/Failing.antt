@@ -16,7 +16,7 @@ use Rattle.rank_check.specs.declared.verdict.Verdict.{Verdict}
 use Rattle.rank_check.specs.Survey.{met, candidates_of, top, top_score}
 use Rattle.rank_check.specs.declared.survey.Top.{Top}
 use Rattle.rank_check.specs.declared.verdict.Paper.TheVariants.{Certificate}
-use Rattle.rank_check.specs.declared.verdict.Why.TheVariants.{OtherSeries, NoBound, NotBelow}
+use Rattle.rank_check.specs.declared.verdict.Why.TheVariants.{OtherSeries, NoBound, NotBelow, NotCounted}
 use Rattle.rank_check.specs.declared.verdict.Verdict.TheVariants.{Refused}
 use Rattle.ghcn_files.specs.Ids.{same_id}
 use Rattle.ghcn_files.specs.IdLaws.{same_id-turned}
@@ -29,7 +29,7 @@ use Rattle.rank_papers.specs.Certificate.{Entry}
 use Rattle.std.specs.Int.{int_max}
 use Rattle.std.proofs.lemmas.Int.{ints}
 use Rattle.std.proofs.Math.Bool.{and-true}
-use Rattle.rank_check.specs.Tests.{Test, follows, line_tests, entry_tests}
+use Rattle.rank_check.specs.Tests.{Test, follows, is_counted, line_tests, entry_tests}
 
 -- where none of some tests fails, the first that fails is among those behind
 pub behind_none : (ts us : List Test) → first_failing ts ≡ None → first_failing (ts ++ us) ≡ first_failing us
@@ -227,80 +227,84 @@ pub top-bounded : (bound : ℤ) (cs : List Candidate) → list_all (λ c. int_le
 top-bounded bound [] = refl
 top-bounded bound (c ∷ cs) = sym (fold-bounded c.score bound cs)
 
--- the tests of a line by what was found of its morsel
-pub line_tests-top : (q : Asked) (kth : Option ℤ) (number : ℕ) (e : Entry) (t : Top) (s : Option Usable)
-    → Some t ≡ option_map (top q) s → first_failing (line_tests q kth number e s)
-    ≡ cond (same_id e.id t.id) (cond (option_map_or (λ score. int_le score e.bound) t.highest true)
-    (cond (not e.skipped || is_below kth e.bound) None (Some (Refused Certificate number NotBelow)))
-    (Some (Refused Certificate number NoBound))) (Some (Refused Certificate number OtherSeries))
-line_tests-top q kth number e t None f = absurd cc
-line_tests-top q kth number e t (Some u) f =
-    let same : top q u ≡ t = cc in
-    ap (λ (b : Bool). cond (same_id e.id u.id) (cond b
-    (cond (not e.skipped || is_below kth e.bound) None (Some (Refused Certificate number NotBelow)))
-    (Some (Refused Certificate number NoBound))) (Some (Refused Certificate number OtherSeries)))
-    (top-bounded e.bound (candidates q u))
-    ∙ ap (λ (x : Top). cond (same_id e.id x.id) (cond (option_map_or (λ score. int_le score e.bound) x.highest true)
-    (cond (not e.skipped || is_below kth e.bound) None (Some (Refused Certificate number NotBelow)))
-    (Some (Refused Certificate number NoBound))) (Some (Refused Certificate number OtherSeries))) same
+-- the fault of a line by what its four tests come to
+abbrev fault_by : ℕ → Bool → Bool → Bool → Bool → Option Verdict
+fault_by number own above below counted =
+    cond own (cond above (cond below (cond counted None (Some (Refused Certificate number NotCounted)))
+    (Some (Refused Certificate number NotBelow))) (Some (Refused Certificate number NoBound)))
+    (Some (Refused Certificate number OtherSeries))
 
-module _ (q : Asked) (kth : Option ℤ) (number : ℕ) (e : Entry) (t : Top) (s : Option Usable)
-    (made : Some t ≡ option_map (top q) s) (named : same_id t.id e.id ≡ true) where
-  -- what is left of the tests once the ID is right
-  own_line : first_failing (line_tests q kth number e s)
-      ≡ cond (option_map_or (λ score. int_le score e.bound) t.highest true)
-      (cond (not e.skipped || is_below kth e.bound) None (Some (Refused Certificate number NotBelow)))
-      (Some (Refused Certificate number NoBound))
-  own_line = line_tests-top q kth number e t s made
-      ∙ ap (λ (b : Bool). cond b (cond (option_map_or (λ score. int_le score e.bound) t.highest true)
-      (cond (not e.skipped || is_below kth e.bound) None (Some (Refused Certificate number NotBelow)))
-      (Some (Refused Certificate number NoBound))) (Some (Refused Certificate number OtherSeries)))
-      (same_id-turned e.id t.id ∙ named)
+-- no candidate is above a bound, by the greatest score
+abbrev pub is_low : ℤ → Option ℤ → Bool
+is_low bound highest = option_map_or (λ score. int_le score bound) highest true
+
+-- the tests of a line by what was found of its morsel
+line_tests-top : (q : Asked) (kth : Option ℤ) (rows : List Candidate) (number : ℕ) (e : Entry) (count : Option ℕ)
+    (t : Top) (s : Option Usable) → Some t ≡ option_map (top q) s
+    → first_failing (line_tests q kth rows number e count s)
+    ≡ fault_by number (same_id e.id t.id) (is_low e.bound t.highest) (not e.skipped || is_below kth e.bound)
+    (is_counted rows e count)
+line_tests-top q kth rows number e count t None f = absurd cc
+line_tests-top q kth rows number e count t (Some u) f =
+    let same : top q u ≡ t = cc in
+    ap (λ (b : Bool). fault_by number (same_id e.id u.id) b (not e.skipped || is_below kth e.bound)
+    (is_counted rows e count)) (top-bounded e.bound (candidates q u))
+    ∙ ap (λ (x : Top). fault_by number (same_id e.id x.id) (is_low e.bound x.highest)
+    (not e.skipped || is_below kth e.bound) (is_counted rows e count)) same
+
+module _ (q : Asked) (kth : Option ℤ) (rows : List Candidate) (number : ℕ) (e : Entry) (count : Option ℕ) (t : Top)
+    (s : Option Usable) (made : Some t ≡ option_map (top q) s) (named : same_id t.id e.id ≡ true) where
+  -- the fault by three tests, once the ID is right
+  by_three : (above below counted : Bool) → is_low e.bound t.highest ≡ above
+      → (not e.skipped || is_below kth e.bound) ≡ below → is_counted rows e count ≡ counted
+      → first_failing (line_tests q kth rows number e count s) ≡ fault_by number true above below counted
+  by_three above below counted f g h =
+      line_tests-top q kth rows number e count t s made
+      ∙ (λ i. fault_by number ((same_id-turned e.id t.id ∙ named) i) (f i) (g i) (h i))
 
   -- a candidate is above the bound
-  pub no_bound : option_map_or (λ score. int_le score e.bound) t.highest true ≡ false
-      → Some (Refused Certificate number NoBound) ≡ first_failing (line_tests q kth number e s)
-  no_bound f = sym (own_line ∙ ap (λ (b : Bool). cond b
-      (cond (not e.skipped || is_below kth e.bound) None (Some (Refused Certificate number NotBelow)))
-      (Some (Refused Certificate number NoBound))) f)
-
-  -- what is left once the bound is right
-  low_line : option_map_or (λ score. int_le score e.bound) t.highest true ≡ true
-      → first_failing (line_tests q kth number e s)
-      ≡ cond (not e.skipped || is_below kth e.bound) None (Some (Refused Certificate number NotBelow))
-  low_line f = own_line ∙ ap (λ (b : Bool). cond b
-      (cond (not e.skipped || is_below kth e.bound) None (Some (Refused Certificate number NotBelow)))
-      (Some (Refused Certificate number NoBound))) f
+  pub no_bound : is_low e.bound t.highest ≡ false
+      → Some (Refused Certificate number NoBound) ≡ first_failing (line_tests q kth rows number e count s)
+  no_bound f =
+      sym (by_three false (not e.skipped || is_below kth e.bound) (is_counted rows e count) f refl refl)
 
   -- a skip isn't below
-  pub not_below : option_map_or (λ score. int_le score e.bound) t.highest true ≡ true
-      → (not e.skipped || is_below kth e.bound) ≡ false
-      → Some (Refused Certificate number NotBelow) ≡ first_failing (line_tests q kth number e s)
-  not_below f g = sym (low_line f ∙ ap (λ (b : Bool). cond b None (Some (Refused Certificate number NotBelow))) g)
+  pub not_below : is_low e.bound t.highest ≡ true → (not e.skipped || is_below kth e.bound) ≡ false
+      → Some (Refused Certificate number NotBelow) ≡ first_failing (line_tests q kth rows number e count s)
+  not_below f g = sym (by_three true false (is_counted rows e count) f g refl)
+
+  -- a count is wrong
+  pub not_counted : is_low e.bound t.highest ≡ true → (not e.skipped || is_below kth e.bound) ≡ true
+      → is_counted rows e count ≡ false
+      → Some (Refused Certificate number NotCounted) ≡ first_failing (line_tests q kth rows number e count s)
+  not_counted f g h = sym (by_three true true false f g h)
 
   -- no test fails
-  pub none_fails_there : option_map_or (λ score. int_le score e.bound) t.highest true ≡ true
-      → (not e.skipped || is_below kth e.bound) ≡ true → None ≡ first_failing (line_tests q kth number e s)
-  none_fails_there f g =
-      sym (low_line f ∙ ap (λ (b : Bool). cond b None (Some (Refused Certificate number NotBelow))) g)
+  pub none_fails_there : is_low e.bound t.highest ≡ true → (not e.skipped || is_below kth e.bound) ≡ true
+      → is_counted rows e count ≡ true → None ≡ first_failing (line_tests q kth rows number e count s)
+  none_fails_there f g h = sym (by_three true true true f g h)
+
+-- the fault of a line by its number and its place
+abbrev fault_at : Asked → Contents → Option ℤ → List Candidate → List ℕ → Entry → ℕ → ℕ → Option Verdict
+fault_at q c kth rows counts e number place =
+    first_failing (line_tests q kth rows number e (slice_get counts place) (slice_get (morsels q c) place))
 
 -- what is said of the line at a place
-pub line_there : (q : Asked) (c : Contents) (kth : Option ℤ) (es : List Entry) (i : ℕ) (o : Option Verdict)
-    → option_map (λ e. first_failing (line_tests q kth (i + 4) e (slice_get (morsels q c) i))) (slice_get es i) ≡ Some o
-    → (e : Entry) × (slice_get es i ≡ Some e) × (o ≡ first_failing (entry_tests q c kth (i + 1, e)))
-line_there q c kth es i o h = by (slice_get es i) refl h
+pub line_there : (q : Asked) (c : Contents) (kth : Option ℤ) (rows : List Candidate) (counts : List ℕ)
+    (es : List Entry) (i : ℕ) (o : Option Verdict)
+    → option_map (λ e. first_failing (line_tests q kth rows (i + 4) e (slice_get counts i) (slice_get (morsels q c) i)))
+    (slice_get es i) ≡ Some o
+    → (e : Entry) × (slice_get es i ≡ Some e) × (o ≡ first_failing (entry_tests q c kth rows counts (i + 1, e)))
+line_there q c kth rows counts es i o h = by (slice_get es i) refl h
   where
-    by : (found : Option Entry) → slice_get es i ≡ found
-        → option_map (λ e. first_failing (line_tests q kth (i + 4) e (slice_get (morsels q c) i))) found ≡ Some o
-        → (e : Entry) × (slice_get es i ≡ Some e) × (o ≡ first_failing (entry_tests q c kth (i + 1, e)))
+    by : (found : Option Entry) → slice_get es i ≡ found → option_map (λ e. fault_at q c kth rows counts e (i + 4) i) found ≡ Some o
+        → (e : Entry) × (slice_get es i ≡ Some e) × (o ≡ first_failing (entry_tests q c kth rows counts (i + 1, e)))
     by None f g = absurd cc
     by (Some e) f g =
-        let same : first_failing (line_tests q kth (i + 4) e (slice_get (morsels q c) i)) ≡ o = cc in
+        let same : fault_at q c kth rows counts e (i + 4) i ≡ o = cc in
         let number : i + 4 ≡ i + 1 + 3 = omega arith in
         let place : i ≡ i + 1 - 1 = omega arith in (
           e,
           f,
-          sym same
-              ∙ ap (λ (n : ℕ). first_failing (line_tests q kth n e (slice_get (morsels q c) i))) number
-              ∙ ap (λ (n : ℕ). first_failing (line_tests q kth (i + 1 + 3) e (slice_get (morsels q c) n))) place,
+          sym same ∙ (λ j. fault_at q c kth rows counts e (number j) (place j)),
         )

@@ -11,6 +11,7 @@ use Rattle.ghcn_files.specs.declared.station.Station.{Station}
 use Rattle.ghcn_series.specs.Series.{Contents}
 use Rattle.ghcn_series.specs.Says.{in_64_bits}
 use Rattle.rank_query.specs.Asked.{Asked}
+use Rattle.rank_scores.specs.declared.candidate.Candidate.{Candidate}
 use Rattle.rank_scores.specs.Morsels.{all_candidates, morsels, kth_of_query}
 use Rattle.rank_papers.specs.declared.paper.Report.{Report as ReadReport}
 use Rattle.rank_papers.specs.declared.paper.Row.{Row}
@@ -88,17 +89,17 @@ report_decided q c r fault few same rows number =
 -- ---- a certificate
 
 -- the fault of the lines, or else of their number, is that of the certificate
-pub certificate_decided : (q : Asked) (c : Contents) (z : Certified) (fault few : Option Verdict)
+pub certificate_decided : (q : Asked) (c : Contents) (rows : List Candidate) (z : Certified) (fault few : Option Verdict)
     → same_query z.query q ≡ true → same_score z.kth (kth_of_query q c) ≡ true
-    → fault ≡ first_failing (tests_of_lines q c z.kth z.entries)
+    → fault ≡ first_failing (tests_of_lines q c z.kth rows z.counts z.entries)
     → few ≡ first_failing (length_test (length (morsels q c)) (length z.entries) ∷ [])
-    → option_or fault few ≡ first_failing (certificate_tests q c z)
-certificate_decided q c z fault few same score lines number =
+    → option_or fault few ≡ first_failing (certificate_tests q c rows z)
+certificate_decided q c rows z fault few same score lines number =
     let last : List Test = length_test (length (morsels q c)) (length z.entries) ∷ [] in
-    let behind : List Test = tests_of_lines q c z.kth z.entries ++ last in
+    let behind : List Test = tests_of_lines q c z.kth rows z.counts z.entries ++ last in
     ap (λ (o : Option Verdict). option_or o few) lines
-    ∙ ap (option_or (first_failing (tests_of_lines q c z.kth z.entries))) number
-    ∙ first_failing-append (tests_of_lines q c z.kth z.entries) last
+    ∙ ap (option_or (first_failing (tests_of_lines q c z.kth rows z.counts z.entries))) number
+    ∙ first_failing-append (tests_of_lines q c z.kth rows z.counts z.entries) last
     ∙ ap (λ (b : Bool). cond b (first_failing behind) (Some (Refused Certificate 3 OtherFloor))) (sym score)
     ∙ ap (λ (b : Bool). cond b (cond (same_score z.kth (kth_of_query q c)) (first_failing behind)
     (Some (Refused Certificate 3 OtherFloor))) (Some (Refused Certificate 2 OtherQuery))) (sym same)

@@ -24,14 +24,14 @@ use Rattle.rank_check.proofs.RightRows.{rows_best}
 use Rattle.rank_check.proofs.SortedCandidates.{in_order, ordered-permutation, ordered-descends, best_first}
 
 -- the last of those taken
-last_taken : (n : ℕ) (xs : List Candidate) → slice_get (take (suc n) xs) n ≡ slice_get xs n
+pub last_taken : (n : ℕ) (xs : List Candidate) → slice_get (take (suc n) xs) n ≡ slice_get xs n
 last_taken zero [] = refl
 last_taken zero (x ∷ xs) = refl
 last_taken (suc n) [] = refl
 last_taken (suc n) (x ∷ xs) = last_taken n xs
 
 -- the score of the k-th of the best is the k-th score
-kth-best : (k : ℕ) (all : List Candidate) → AreApart all → 1 ≤ k → kth_of_best k (best k all) ≡ kth_score k all
+pub kth-best : (k : ℕ) (all : List Candidate) → AreApart all → 1 ≤ k → kth_of_best k (best k all) ≡ kth_score k all
 kth-best zero all apart some = absurd (omega arith)
 kth-best (suc n) all apart some =
     let place : suc n - 1 ≡ n = omega arith in

@@ -11,3 +11,12 @@ pub mod Failing
 pub mod Judging
 pub mod KthScores
 pub mod OneElement
+pub mod Reaching
+pub mod Piecing
+pub mod Members
+pub mod QueryMembers
+pub mod RowsWithin
+pub mod RisingIds
+pub mod PiecesSay
+pub mod RowCounts
+pub mod SaidInPieces

@@ -1,10 +1,11 @@
 -- A verdict rests on the series of the query's element alone.
-use Rattle.std.proofs.Common.{◌≡◌, ℕ, [], ◌∷◌, ◌++◌, length, Result, Ok, Err, refl}
+use Rattle.std.proofs.Common.{◌≡◌, ℕ, List, [], ◌∷◌, ◌++◌, length, Result, Ok, Err, refl}
 use Rattle.std.specs.List.{flat_map, enumerate_from}
 use Rattle.std.proofs.Math.Path.{fun_ext}
 use Rattle.ghcn_fields.specs.Faults.{first_failing}
 use Rattle.ghcn_series.specs.Series.{Contents}
 use Rattle.rank_query.specs.Asked.{Asked}
+use Rattle.rank_scores.specs.declared.candidate.Candidate.{Candidate}
 use Rattle.rank_scores.specs.Morsels.{all_candidates, morsels, kth_of_query}
 use Rattle.rank_scores.specs.OneElement.{data_for, CandidatesStay, MorselsStay, KthStays}
 use Rattle.rank_papers.specs.ReportLines.{Reported, read_report}
@@ -14,7 +15,8 @@ use Rattle.rank_check.specs.declared.verdict.Paper.TheVariants.{Report, Certific
 use Rattle.rank_check.specs.declared.verdict.Why.TheVariants.{OtherQuery, OtherFloor}
 use Rattle.rank_check.specs.declared.verdict.Verdict.TheVariants.{Refused}
 use Rattle.rank_check.specs.Tests.{same_query, same_score, row_tests, report_tests, entry_tests}
-use Rattle.rank_check.specs.Tests.{number_test, length_test, certificate_tests, or_accepted, judged}
+use Rattle.rank_check.specs.Tests.{number_test, length_test, certificate_tests, of_rows, or_accepted}
+use Rattle.rank_check.specs.Tests.{judged}
 use Rattle.rank_check.specs.Laws.{VerdictStays}
 
 module _ (candidates : CandidatesStay) (series : MorselsStay) (score : KthStays) (q : Asked) (c : Contents) where
@@ -29,11 +31,13 @@ module _ (candidates : CandidatesStay) (series : MorselsStay) (score : KthStays)
       ∷ []
 
   -- those of a certificate too
-  certificates_tested : (z : Certified) → certificate_tests q (data_for q c) z ≡ certificate_tests q c z
-  certificates_tested z =
+  certificates_tested : (rows : List Candidate) (z : Certified)
+      → certificate_tests q (data_for q c) rows z ≡ certificate_tests q c rows z
+  certificates_tested rows z =
       let kth : kth_of_query q (data_for q c) ≡ kth_of_query q c = score q c in
       let all : morsels q (data_for q c) ≡ morsels q c = series q c in
-      let lines : entry_tests q (data_for q c) z.kth ≡ entry_tests q c z.kth = fun_ext (λ l. rw (series q c)) in
+      let lines : entry_tests q (data_for q c) z.kth rows z.counts ≡ entry_tests q c z.kth rows z.counts =
+      fun_ext (λ l. rw (series q c)) in
       λ i. (same_query z.query q, Refused Certificate 2 OtherQuery)
       ∷ (same_score z.kth (kth i), Refused Certificate 3 OtherFloor)
       ∷ flat_map (lines i) (enumerate_from 1 z.entries)
@@ -46,7 +50,9 @@ module _ (candidates : CandidatesStay) (series : MorselsStay) (score : KthStays)
   judged-same (Ok r) (Err n) = refl
   judged-same (Ok r) (Ok z) =
       let report : report_tests q (data_for q c) r ≡ report_tests q c r = reports_tested r in
-      let certificate : certificate_tests q (data_for q c) z ≡ certificate_tests q c z = certificates_tested z in
+      let rows : List Candidate = of_rows r.rows in
+      let certificate : certificate_tests q (data_for q c) rows z ≡ certificate_tests q c rows z =
+      certificates_tested rows z in
       λ i. or_accepted (first_failing (report i ++ certificate i))
 
 -- on the texts of papers

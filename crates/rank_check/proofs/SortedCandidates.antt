@@ -97,7 +97,7 @@ found_passes test (y ∷ ys) x e =
     ] refl e
 
 -- candidates that tie in all four parts are the same
-same_from_tie : (a b : Candidate) → is_eq (full_cmp a b) ≡ true → a ≡ b
+pub same_from_tie : (a b : Candidate) → is_eq (full_cmp a b) ≡ true → a ≡ b
 same_from_tie a b e =
     let ids = slice_cmp nat_cmp a.id.0 b.id.0 in
     let whole = both_tie (rank_cmp a b) (int_cmp a.last b.last) e in
@@ -110,11 +110,11 @@ same_from_tie a b e =
     λ i. record { id = id i; first = first i; last = last i; score = score i }
 
 -- each ties with itself
-own_tie : (c : Candidate) → is_eq (full_cmp c c) ≡ true
+pub own_tie : (c : Candidate) → is_eq (full_cmp c c) ≡ true
 own_tie c = ap is_eq (tied_itself full_cmp_total c)
 
 -- what is among some has a place there
-place_among : (xs : List Candidate) (c : Candidate) → is_among xs c ≡ true → (i : ℕ) × (slice_get xs i ≡ Some c)
+pub place_among : (xs : List Candidate) (c : Candidate) → is_among xs c ≡ true → (i : ℕ) × (slice_get xs i ≡ Some c)
 place_among [] c e = absurd cc
 place_among (x ∷ xs) c e =
     elim (is_eq (full_cmp x c)) as (λ b. is_eq (full_cmp x c) ≡ b → (b || is_among xs c) ≡ true
@@ -124,7 +124,7 @@ place_among (x ∷ xs) c e =
     ] refl e
 
 -- what has a place is among them
-among_at : (xs : List Candidate) (i : ℕ) (c : Candidate) → slice_get xs i ≡ Some c → is_among xs c ≡ true
+pub among_at : (xs : List Candidate) (i : ℕ) (c : Candidate) → slice_get xs i ≡ Some c → is_among xs c ≡ true
 among_at [] i c e = absurd cc
 among_at (x ∷ xs) zero c e =
     let same : x ≡ c = cc in

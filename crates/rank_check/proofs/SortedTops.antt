@@ -47,11 +47,11 @@ abbrev pub of_one : Top → Top → Bool
 of_one a b = same_id a.id b.id
 
 -- which of two is named first makes no difference
-of_one-turned : (a b : Top) → of_one a b ≡ of_one b a
+pub of_one-turned : (a b : Top) → of_one a b ≡ of_one b a
 of_one-turned a b = nat_list_eq_equiv.symm (a.id.0) (b.id.0)
 
 -- those that tie are of one station
-tied_one : (a b : Top) → by_id a b ≡ Equal → of_one a b ≡ true
+pub tied_one : (a b : Top) → by_id a b ≡ Equal → of_one a b ≡ true
 tied_one a b e = sym (is_eq-slice_cmp (a.id.0) (b.id.0)) ∙ ap is_eq e
 
 -- one is strictly before another
@@ -81,7 +81,7 @@ module _ (q : Asked) where
       ]
 
   -- so it is with all
-  sorted-top : (ss : List Usable) → map (top q) (sorted_by (λ a b. id_comes_first a.id b.id) ss)
+  pub sorted-top : (ss : List Usable) → map (top q) (sorted_by (λ a b. id_comes_first a.id b.id) ss)
       ≡ sorted_by comes_first (map (top q) ss)
   sorted-top [] = refl
   sorted-top (s ∷ ss) = placed-top s (sorted_by (λ a b. id_comes_first a.id b.id) ss)
@@ -144,7 +144,7 @@ module _ (q : Asked) (c : Contents) where
       ] refl
 
   -- so no two are of one station
-  distinct_tops : (sts : List Station) → IsDistinct same_id (map (λ (x : Station). x.id) sts)
+  pub distinct_tops : (sts : List Station) → IsDistinct same_id (map (λ (x : Station). x.id) sts)
       → IsDistinct of_one (tops_of (filter_map (series_at q c) sts))
   distinct_tops [] d = no_tops
   distinct_tops (st ∷ sts) d =

@@ -34,7 +34,7 @@ use Rattle.rank_check.specs.Survey.{reset, series_at, series_there}
 -- ---- one candidate more
 
 -- or nothing
-or_false : (b : Bool) → (b || false) ≡ b
+pub or_false : (b : Bool) → (b || false) ≡ b
 or_false true = refl
 or_false false = refl
 
@@ -90,7 +90,7 @@ fold-more a [] d = refl
 fold-more a (c ∷ cs) d = fold-more (int_max a c.score) cs d
 
 -- the greatest score with one candidate more
-top-more : (cs : List Candidate) (d : Candidate) → Some (raised (top_score cs) d.score) ≡ top_score (cs ++ d ∷ [])
+pub top-more : (cs : List Candidate) (d : Candidate) → Some (raised (top_score cs) d.score) ≡ top_score (cs ++ d ∷ [])
 top-more [] d = refl
 top-more (c ∷ cs) d = ap (λ (z : ℤ). Some z) (sym (fold-more c.score cs d))
 

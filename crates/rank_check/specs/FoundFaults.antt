@@ -6,6 +6,7 @@ use Rattle.ghcn_fields.specs.Faults.{first_failing}
 use Rattle.ghcn_files.specs.declared.station.Station.{Station}
 use Rattle.ghcn_series.specs.Series.{Usable, Contents}
 use Rattle.rank_query.specs.Asked.{Asked}
+use Rattle.rank_scores.specs.declared.candidate.Candidate.{Candidate}
 use Rattle.rank_scores.specs.Morsels.{all_candidates, morsels, kth_of_query}
 use Rattle.rank_papers.specs.declared.paper.Row.{Row}
 use Rattle.rank_papers.specs.ReportLines.{named_in}
@@ -32,26 +33,34 @@ IsFaultOfRow stations rows place found fault = (q : Asked) (c : Contents) → st
     → option_map (λ row. first_failing (row_tests q c (map named_in rows) (place + 1, named_in row)))
     (slice_get rows place) ≡ Some fault
 
--- ---- lines of morsels, where the certificate has this k-th score
+-- ---- lines of morsels, where the certificate has this k-th score, and the report these rows
 
--- the fault of all lines, where these are the greatest scores of the morsels
-abbrev pub IsFaultOfLines : Option ℤ → List Entry → List Top → Option Verdict → Type 0
-IsFaultOfLines kth lines tops fault = (q : Asked) (c : Contents) → tops ≡ map (top q) (morsels q c)
-    → fault ≡ first_failing (tests_of_lines q c kth lines)
+-- the fault of all lines with these counts, where these are the greatest scores of the morsels
+abbrev pub IsFaultOfLines : Option ℤ → List Candidate → List ℕ → List Entry → List Top → Option Verdict → Type 0
+IsFaultOfLines kth rows counts lines tops fault = (q : Asked) (c : Contents) → tops ≡ map (top q) (morsels q c)
+    → fault ≡ first_failing (tests_of_lines q c kth rows counts lines)
 
--- the fault of a line by its number, where this is the greatest score of its morsel, if there is one
-abbrev pub IsFaultOfLine : Option ℤ → ℕ → Entry → Option Top → Option Verdict → Type 0
-IsFaultOfLine kth number line found fault = (q : Asked) (s : Option Usable) → found ≡ option_map (top q) s
-    → fault ≡ first_failing (line_tests q kth number line s)
+-- the fault of a line by its number and its count, if it has one, where this is the greatest score of its morsel, if
+-- there is one
+abbrev pub IsFaultOfLine :
+    Option ℤ → List Candidate → ℕ → Entry → Option ℕ → Option Top → Option Verdict → Type 0
+IsFaultOfLine kth rows number line count found fault =
+    (q : Asked) (s : Option Usable) → found ≡ option_map (top q) s
+    → fault ≡ first_failing (line_tests q kth rows number line count s)
 
 -- the fault of the line at a place
-abbrev pub IsFaultOfLineAt : Option ℤ → List Entry → ℕ → Option Top → Option Verdict → Type 0
-IsFaultOfLineAt kth lines place found fault = (q : Asked) (s : Option Usable) → found ≡ option_map (top q) s
-    → option_map (λ line. first_failing (line_tests q kth (place + 4) line s)) (slice_get lines place) ≡ Some fault
+abbrev pub IsFaultOfLineAt :
+    Option ℤ → List Candidate → List ℕ → List Entry → ℕ → Option Top → Option Verdict → Type 0
+IsFaultOfLineAt kth rows counts lines place found fault =
+    (q : Asked) (s : Option Usable) → found ≡ option_map (top q) s
+    → option_map (λ line. first_failing (line_tests q kth rows (place + 4) line (slice_get counts place) s))
+    (slice_get lines place) ≡ Some fault
 
 -- ---- certificates
 
--- the fault of a certificate, where this is the k-th score, and these are the greatest scores of the morsels
-abbrev pub IsFaultOfCertificate : Asked → Option ℤ → Certified → List Top → Option Verdict → Type 0
-IsFaultOfCertificate q kth z tops fault = (c : Contents) → kth ≡ kth_of_query q c → tops ≡ map (top q) (morsels q c)
-    → fault ≡ first_failing (certificate_tests q c z)
+-- the fault of a certificate beside a report with these rows, where this is the k-th score, and these are the greatest
+-- scores of the morsels
+abbrev pub IsFaultOfCertificate : Asked → Option ℤ → List Candidate → Certified → List Top → Option Verdict → Type 0
+IsFaultOfCertificate q kth rows z tops fault =
+    (c : Contents) → kth ≡ kth_of_query q c → tops ≡ map (top q) (morsels q c)
+    → fault ≡ first_failing (certificate_tests q c rows z)

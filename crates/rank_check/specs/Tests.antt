@@ -1,6 +1,6 @@
 -- The tests of a report and a certificate, in their order, and the verdict: the first that fails.
 use Rattle.std.specs.Prelude.{ℕ, ◌+◌, ◌-◌, ◌==◌, Bool, true, false, ◌&&◌, ◌||◌, not, nat_le, if◌then◌else◌, List, []}
-use Rattle.std.specs.Prelude.{◌∷◌, ◌++◌, length, Option, None, Some, Result, Ok, Err, ℤ, int_le, slice_get}
+use Rattle.std.specs.Prelude.{◌∷◌, ◌++◌, length, map, Option, None, Some, Result, Ok, Err, ℤ, int_le, slice_get}
 use Rattle.std.specs.List.{flat_map, list_all, list_any, find, enumerate_from}
 use Rattle.std.specs.Option.{option_map_or}
 use Rattle.std.specs.Ordering.{is_eq, int_eq}
@@ -18,11 +18,12 @@ use Rattle.rank_scores.specs.Order.{full_cmp, precedes, rank_in, is_below}
 use Rattle.rank_scores.specs.Morsels.{all_candidates, morsels, kth_of_query}
 use Rattle.rank_papers.specs.Report.{Named, trimmed}
 use Rattle.rank_papers.specs.ReportLines.{Reported, read_report}
-use Rattle.rank_papers.specs.Certificate.{Entry, Certified}
+use Rattle.rank_papers.specs.Certificate.{Entry, Certified, count_of}
 use Rattle.rank_papers.specs.CertificateLines.{read_certificate}
 use Rattle.rank_check.specs.declared.verdict.Paper.TheVariants.{Report, Certificate}
 use Rattle.rank_check.specs.declared.verdict.Why.TheVariants.{Form, OtherQuery, NotACandidate, OutOfOrder, NotBest}
-use Rattle.rank_check.specs.declared.verdict.Why.TheVariants.{TooFew, OtherSeries, NoBound, NotBelow, OtherFloor}
+use Rattle.rank_check.specs.declared.verdict.Why.TheVariants.{TooFew, OtherSeries, NoBound, NotBelow, NotCounted}
+use Rattle.rank_check.specs.declared.verdict.Why.TheVariants.{OtherFloor}
 use Rattle.rank_check.specs.declared.verdict.Verdict.{Verdict}
 use Rattle.rank_check.specs.declared.verdict.Verdict.TheVariants.{Accepted, Refused}
 
@@ -94,33 +95,39 @@ report_tests q c r =
 abbrev pub is_above : Asked → ℤ → Usable → Bool
 is_above q bound s = list_all (λ c. int_le c.score bound) (candidates q s)
 
+-- a count, where there is one, is the number of the rows of an entry's station
+abbrev pub is_counted : List Candidate → Entry → Option ℕ → Bool
+is_counted rows e count = option_map_or (λ n. n == count_of rows e) count true
+
 -- the tests of the line of this number about a morsel, if there is one for it, where the certificate has this k-th
--- score
-abbrev pub line_tests : Asked → Option ℤ → ℕ → Entry → Option Usable → List Test
-line_tests q kth number e morsel =
+-- score, the report these rows, and the line this count, if it has one
+abbrev pub line_tests : Asked → Option ℤ → List Candidate → ℕ → Entry → Option ℕ → Option Usable → List Test
+line_tests q kth rows number e count morsel =
     (option_map_or (λ s. same_id e.id s.id) morsel false, Refused Certificate number OtherSeries)
     ∷ (option_map_or (is_above q e.bound) morsel true, Refused Certificate number NoBound)
     ∷ (not e.skipped || is_below kth e.bound, Refused Certificate number NotBelow)
+    ∷ (is_counted rows e count, Refused Certificate number NotCounted)
     ∷ []
 
--- the tests of the j-th line, from 1
-abbrev pub entry_tests : Asked → Contents → Option ℤ → ℕ × Entry → List Test
-entry_tests q c kth l = line_tests q kth (l.0 + 3) l.1 (slice_get (morsels q c) (l.0 - 1))
+-- the tests of the j-th line, from 1, of a certificate with these counts
+abbrev pub entry_tests : Asked → Contents → Option ℤ → List Candidate → List ℕ → ℕ × Entry → List Test
+entry_tests q c kth rows counts l =
+    line_tests q kth rows (l.0 + 3) l.1 (slice_get counts (l.0 - 1)) (slice_get (morsels q c) (l.0 - 1))
 
 -- the tests of all lines of morsels
-abbrev pub tests_of_lines : Asked → Contents → Option ℤ → List Entry → List Test
-tests_of_lines q c kth es = flat_map (entry_tests q c kth) (enumerate_from 1 es)
+abbrev pub tests_of_lines : Asked → Contents → Option ℤ → List Candidate → List ℕ → List Entry → List Test
+tests_of_lines q c kth rows counts es = flat_map (entry_tests q c kth rows counts) (enumerate_from 1 es)
 
 -- the test of the number of lines: there are as many as morsels
 abbrev pub length_test : ℕ → ℕ → Test
 length_test morsels lines = (nat_le morsels lines, Refused Certificate (lines + 4) OtherSeries)
 
--- the tests of a certificate that was read
-abbrev pub certificate_tests : Asked → Contents → Certified → List Test
-certificate_tests q c z =
+-- the tests of a certificate that was read, beside a report with these rows
+abbrev pub certificate_tests : Asked → Contents → List Candidate → Certified → List Test
+certificate_tests q c rows z =
     (same_query z.query q, Refused Certificate 2 OtherQuery)
     ∷ (same_score z.kth (kth_of_query q c), Refused Certificate 3 OtherFloor)
-    ∷ tests_of_lines q c z.kth z.entries
+    ∷ tests_of_lines q c z.kth rows z.counts z.entries
     ++ length_test (length (morsels q c)) (length z.entries)
     ∷ []
 
@@ -131,11 +138,16 @@ abbrev pub or_accepted : Option Verdict → Verdict
 or_accepted None = Accepted
 or_accepted (Some v) = v
 
+-- the candidates of rows
+abbrev pub of_rows : List Named → List Candidate
+of_rows rows = map (λ row. row.0) rows
+
 -- the verdict on what both papers say, once both have been read
 abbrev pub judged : Asked → Contents → Result Reported ℕ → Result Certified ℕ → Verdict
 judged q c (Err line) z = Refused Report line Form
 judged q c (Ok r) (Err line) = Refused Certificate line Form
-judged q c (Ok r) (Ok z) = or_accepted (first_failing (report_tests q c r ++ certificate_tests q c z))
+judged q c (Ok r) (Ok z) =
+    or_accepted (first_failing (report_tests q c r ++ certificate_tests q c (of_rows r.rows) z))
 
 -- the verdict on the texts of a report and a certificate
 abbrev pub verdict : Asked → Contents → List ℕ → List ℕ → Verdict

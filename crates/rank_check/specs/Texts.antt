@@ -5,7 +5,8 @@ use Rattle.rank_check.specs.declared.verdict.Paper.{Paper}
 use Rattle.rank_check.specs.declared.verdict.Paper.TheVariants.{Report, Certificate}
 use Rattle.rank_check.specs.declared.verdict.Why.{Why}
 use Rattle.rank_check.specs.declared.verdict.Why.TheVariants.{Form, OtherQuery, NotACandidate, OutOfOrder, NotBest}
-use Rattle.rank_check.specs.declared.verdict.Why.TheVariants.{TooFew, OtherSeries, NoBound, NotBelow, OtherFloor}
+use Rattle.rank_check.specs.declared.verdict.Why.TheVariants.{TooFew, OtherSeries, NoBound, NotBelow, NotCounted}
+use Rattle.rank_check.specs.declared.verdict.Why.TheVariants.{OtherFloor}
 use Rattle.rank_check.specs.declared.verdict.Verdict.{Verdict}
 use Rattle.rank_check.specs.declared.verdict.Verdict.TheVariants.{Accepted, Refused}
 
@@ -25,6 +26,7 @@ why_text TooFew = codes "TooFew"
 why_text OtherSeries = codes "OtherSeries"
 why_text NoBound = codes "NoBound"
 why_text NotBelow = codes "NotBelow"
+why_text NotCounted = codes "NotCounted"
 why_text OtherFloor = codes "OtherFloor"
 
 -- the line of a verdict, without its line feed

@@ -41,8 +41,9 @@ pub(crate) fn judge(
         return Ok(fault);
     }
     let kth = kth_score(query, report);
+    let rows = report.rows.as_slice();
     Ok(
-        match certificate_fault(alloc, query, certificate, kth, &found)? {
+        match certificate_fault(alloc, query, kth, rows, certificate, &found)? {
             Some(fault) => fault,
             None => Verdict::Accepted,
         },
@@ -97,16 +98,18 @@ fn kth_score(query: &Query, report: &Report) -> Option<i64>
     Some(row.candidate.score)
 }
 
-/// The first test that a certificate fails, where this is the k-th score.
+/// The first test that a certificate fails beside a report with these rows, where this is the k-th
+/// score.
 fn certificate_fault(
     alloc: Global,
     query: &Query,
-    certificate: &Certificate,
     kth: Option<i64>,
+    rows: &[Row],
+    certificate: &Certificate,
     found: &Findings,
 ) -> Result<Option<Verdict>, Memory>
-    ensures { IfOk result
-        (IsFaultOfCertificate query.now kth (certified_in certificate.now) found.now.tops.items) }
+    ensures { IfOk result (IsFaultOfCertificate query.now kth (candidates_of rows.now)
+        (certified_in certificate.now) found.now.tops.items) }
 {
     if !is_same_query(alloc, &certificate.query, query)? {
         return Ok(refused(Paper::Certificate, 2, Why::OtherQuery));
@@ -114,10 +117,10 @@ fn certificate_fault(
     if !is_same_score(certificate.kth, kth) {
         return Ok(refused(Paper::Certificate, 3, Why::OtherFloor));
     }
-    let lines = certificate.lines.as_slice();
+    let (lines, counts) = (certificate.lines.as_slice(), certificate.counts.as_slice());
     let tops = found.tops.as_slice();
     let few = length_fault(tops, lines);
-    Ok(lines_fault(certificate.kth, lines, tops).or(few))
+    Ok(lines_fault(certificate.kth, rows, counts, lines, tops).or(few))
 }
 
 /// The refusal of a certificate with fewer lines than morsels.

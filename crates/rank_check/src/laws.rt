@@ -1,5 +1,6 @@
 //! What a verdict is worth, as a law over the definitions.
 
+ghost use Rattle.rank_check.specs.InPieces as pieces;
 ghost use Rattle.rank_check.specs.Laws as laws;
 
 use rank_papers::{certificates_are_read, reports_are_read};
@@ -20,4 +21,17 @@ pub fn verdict_of_one_element()
     ensures { laws.VerdictStays }
 {
     one_element_is_enough();
+}
+
+/// Papers with a certificate of version 2 say what is right exactly where the head is right, each line
+/// is accepted by itself, and so is each listed station without a line. The pieces may be judged in
+/// any order. So `check` accepts them exactly there.
+pub fn right_in_pieces()
+    ensures says { pieces.RightInPieces }
+    ensures accepted { pieces.AcceptedInPieces }
+{
+    accepted_where_right();
+    candidates_of_queries();
+    certificates_are_read();
+    reports_are_read();
 }

@@ -8,12 +8,14 @@ mod judge;
 mod laws;
 mod lines;
 mod papers;
+mod pieces;
 mod rows;
 mod survey;
 mod tally;
 mod text;
 mod verdict;
 
-pub use laws::{accepted_where_right, verdict_of_one_element};
+pub use laws::{accepted_where_right, right_in_pieces, verdict_of_one_element};
 pub use papers::check;
+pub use pieces::{check_absent, check_line};
 pub use verdict::{Paper, Verdict, Why};

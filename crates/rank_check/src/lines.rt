@@ -1,21 +1,33 @@
 //! The tests of the lines of a certificate, one line after the other.
 
-ghost use Rattle.std.specs.Prelude.{◌≡◌, Some, true, ◌<◌, length, slice_get, int_le, not, ◌||◌};
+ghost use Rattle.std.specs.Prelude.{◌≡◌, Some, true, ◌<◌, ◌==◌, length, slice_get, int_le, not, ◌||◌};
+ghost use Rattle.std.specs.List.{count_by};
 ghost use Rattle.std.specs.Option.{option_copied, option_map_or};
+ghost use Rattle.ghcn_files.specs.Ids.{same_id};
+ghost use Rattle.rank_papers.specs.Certificate.{count_of};
 ghost use Rattle.rank_scores.specs.Order as order;
 ghost use Rattle.rank_check.specs.FoundFaults.{IsFaultOfLine, IsFaultOfLineAt, IsFaultOfLines};
+ghost use Rattle.rank_check.specs.Survey.{candidates_of};
+ghost use Rattle.rank_check.specs.Tests as tests;
 
 use crate::survey::Top;
 use crate::verdict::{Paper, Verdict, Why};
-use rank_papers::Line;
+use ghcn_files::StationId;
+use rank_papers::{Line, Row};
 
 /// The first test that a line fails, after the lines before it, where the certificate has this k-th
-/// score.
-pub(crate) fn lines_fault(kth: Option<i64>, lines: &[Line], tops: &[Top]) -> Option<Verdict>
-    ensures { IsFaultOfLines kth lines.now tops.now result }
+/// score and these counts, and the report these rows.
+pub(crate) fn lines_fault(
+    kth: Option<i64>,
+    rows: &[Row],
+    counts: &[u64],
+    lines: &[Line],
+    tops: &[Top],
+) -> Option<Verdict>
+    ensures { IsFaultOfLines kth (candidates_of rows.now) counts.now lines.now tops.now result }
 {
     for place in 0..lines.len() {
-        let fault = fault_at(kth, lines, place, top_at(tops, place));
+        let fault = fault_at(kth, rows, counts, lines, place, top_at(tops, place));
         if fault.is_some() {
             return fault;
         }
@@ -30,17 +42,42 @@ fn top_at(tops: &[Top], place: usize) -> Option<&Top>
     tops.get(place)
 }
 
-/// The first test that the line at a place fails.
-fn fault_at(kth: Option<i64>, lines: &[Line], place: usize, top: Option<&Top>) -> Option<Verdict>
-    requires { place < length lines.now }
-    ensures { IsFaultOfLineAt kth lines.now place (option_copied top.entry) result }
+/// The count of a place, if there is one.
+fn count_at(counts: &[u64], place: usize) -> Option<u64>
+    ensures { result ≡ slice_get counts.now place }
 {
-    line_fault(kth, &lines[place], place as u64 + 4, top)
+    counts.get(place).copied()
 }
 
-/// The first test that a line fails, by its number and what was found of the morsel of its place.
-fn line_fault(kth: Option<i64>, line: &Line, number: u64, top: Option<&Top>) -> Option<Verdict>
-    ensures { IsFaultOfLine kth number line.now (option_copied top.entry) result }
+/// The first test that the line at a place fails.
+fn fault_at(
+    kth: Option<i64>,
+    rows: &[Row],
+    counts: &[u64],
+    lines: &[Line],
+    place: usize,
+    top: Option<&Top>,
+) -> Option<Verdict>
+    requires { place < length lines.now }
+    ensures { IsFaultOfLineAt kth (candidates_of rows.now) counts.now lines.now place
+        (option_copied top.entry) result }
+{
+    let count = count_at(counts, place);
+    line_fault(kth, rows, &lines[place], place as u64 + 4, count, top)
+}
+
+/// The first test that a line fails, by its number, its count, and what was found of the morsel of its
+/// place.
+fn line_fault(
+    kth: Option<i64>,
+    rows: &[Row],
+    line: &Line,
+    number: u64,
+    count: Option<u64>,
+    top: Option<&Top>,
+) -> Option<Verdict>
+    ensures { IsFaultOfLine kth (candidates_of rows.now) number line.now count
+        (option_copied top.entry) result }
 {
     let top = match top {
         Some(top) if top.id == line.id => top,
@@ -52,7 +89,44 @@ fn line_fault(kth: Option<i64>, line: &Line, number: u64, top: Option<&Top>) -> 
     if !may_stand(kth, line) {
         return refused(number, Why::NotBelow);
     }
+    if !is_counted(rows, line, count) {
+        return refused(number, Why::NotCounted);
+    }
     None
+}
+
+/// Whether a count, where there is one, is the number of rows of a line's station.
+fn is_counted(rows: &[Row], line: &Line, count: Option<u64>) -> bool
+    ensures { result ≡ tests.is_counted (candidates_of rows.now) line.now count }
+{
+    match count {
+        Some(count) => count == rows_of(rows, line),
+        None => true,
+    }
+}
+
+/// How many rows are of the station of a line. Of one that was passed over none is counted.
+fn rows_of(rows: &[Row], line: &Line) -> u64
+    ensures { result ≡ count_of (candidates_of rows.now) line.now }
+{
+    if line.skipped {
+        0
+    } else {
+        of_station(rows, &line.id)
+    }
+}
+
+/// How many rows are of a station.
+fn of_station(rows: &[Row], id: &StationId) -> u64
+    ensures { result ≡ count_by (λ c. same_id c.id id.now) (candidates_of rows.now) }
+{
+    let mut count = 0;
+    for row in rows {
+        if row.candidate.id == *id {
+            count += 1;
+        }
+    }
+    count
 }
 
 /// A refusal of a line of the certificate.
@@ -67,7 +141,7 @@ fn refused(line: u64, why: Why) -> Option<Verdict>
 }
 
 /// Whether no candidate of a morsel is above a line's bound.
-fn is_at_most(top: &Top, line: &Line) -> bool
+pub(crate) fn is_at_most(top: &Top, line: &Line) -> bool
     ensures { result ≡ option_map_or (λ score. int_le score line.now.bound) top.now.highest true }
 {
     match top.highest {
@@ -77,7 +151,7 @@ fn is_at_most(top: &Top, line: &Line) -> bool
 }
 
 /// Whether a line is no skip, or a skip below the k-th score.
-fn may_stand(kth: Option<i64>, line: &Line) -> bool
+pub(crate) fn may_stand(kth: Option<i64>, line: &Line) -> bool
     ensures { result ≡ (not line.now.skipped || order.is_below kth line.now.bound) }
 {
     !line.skipped || is_below(kth, line.bound)

@@ -110,7 +110,7 @@ fn series_at<'a>(held: &'a Data, query: &Query, place: u64) -> Option<&'a Series
 }
 
 /// Whether the query admits a usable day of the series.
-fn has_admitted_day(series: &Series, query: &Query) -> bool
+pub(crate) fn has_admitted_day(series: &Series, query: &Query) -> bool
     ensures { result ≡ survey.has_admitted query.now series.now }
 {
     for (day, _) in series.days() {

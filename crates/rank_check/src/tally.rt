@@ -124,7 +124,7 @@ fn meet_each(rows: &mut [Met], candidate: &Candidate)
 }
 
 /// The greater of a score and those before it.
-fn raised(highest: Option<i64>, score: i64) -> i64
+pub(crate) fn raised(highest: Option<i64>, score: i64) -> i64
     ensures { result ≡ survey.raised highest score }
 {
     match highest {

@@ -34,6 +34,7 @@ impl fmt::Display for Why {
             Why::OtherSeries => "OtherSeries",
             Why::NoBound => "NoBound",
             Why::NotBelow => "NotBelow",
+            Why::NotCounted => "NotCounted",
             Why::OtherFloor => "OtherFloor",
         })
     }

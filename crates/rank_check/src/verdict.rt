@@ -28,6 +28,8 @@ pub enum Why {
     NoBound,
     /// A series is passed over whose bound isn't strictly below the k-th score.
     NotBelow,
+    /// It has another count than the report has rows of its station.
+    NotCounted,
     /// It has another k-th score than the candidates have.
     OtherFloor,
 }

@@ -34,11 +34,11 @@ same_err n m e = cc
 
 -- a query that can be asked
 abbrev pub some_query : Asked
-some_query = record { k = 1; score = Dry; region = Everywhere; period = None }
+some_query = record { k = 1; score = Dry; region = Everywhere; season = None; period = None }
 
 -- it can be asked
 pub some_asked : IsAsked some_query
-some_asked = record { k = refl; score = refl; region = refl; period = refl }
+some_asked = record { k = refl; score = refl; region = refl; season = refl; period = refl }
 
 -- ---- a bad line among the lines of a text
 

@@ -1,6 +1,6 @@
 -- The candidates of a query begin and end on days of the years 1 to 9999.
 use Rattle.std.proofs.Common.{◌≡◌, ℕ, zero, suc, ◌<◌, Bool, true, false, cond, not, List, [], ◌∷◌, filter, Option, Some, None, refl, sym, ap, ◌∙◌, arith, ℤ, pos, ◌+ℤ◌, ◌-ℤ◌}
-use Rattle.std.specs.Prelude.{neg_ℤ}
+use Rattle.std.specs.Prelude.{neg_ℤ, ◌&&◌}
 use Rattle.std.specs.List.{filter_map, cons_option, find, AllByRecursion}
 use Rattle.std.specs.Option.{option_map, option_map_or}
 use Rattle.std.specs.Ordering.{int_eq}
@@ -11,12 +11,12 @@ use Rattle.ghcn_fields.specs.Days.{is_day, is_within}
 use Rattle.ghcn_files.specs.declared.station.StationId.{StationId}
 use Rattle.ghcn_series.specs.Series.{DayValue, Usable, value_on}
 use Rattle.rank_query.specs.declared.score.Score.{Score}
-use Rattle.rank_query.specs.declared.score.Score.TheVariants.{Highest, Lowest, Sum, Dry, Wet}
+use Rattle.rank_query.specs.declared.score.Score.TheVariants.{Highest, Lowest, Sum, Dry, Wet, Hot}
 use Rattle.rank_query.specs.Asked.{Asked, IsAsked, is_score, is_fall}
-use Rattle.rank_query.specs.Admits.{admits_day, period_holds}
+use Rattle.rank_query.specs.Admits.{admits_day, period_holds, season_holds}
 use Rattle.rank_scores.specs.declared.candidate.Candidate.{Candidate}
 use Rattle.rank_scores.specs.Runs.{run_from, run_len, begins_run}
-use Rattle.rank_scores.specs.Candidates.{Shape, Days, Windows, Spells, shape, plus, window_total, admitted_among, is_dry, is_wet, is_such, begun, candidate, candidates}
+use Rattle.rank_scores.specs.Candidates.{Shape, Days, Windows, Spells, shape, plus, window_total, admitted_among, is_dry, is_wet, is_hot, is_such, begun, candidate, candidates}
 
 -- a candidate begins and ends on a day
 abbrev pub IsOfDays : Candidate → Type 0
@@ -108,7 +108,11 @@ module _ (q : Asked) (days : List DayValue) where
   own_days (x ∷ xs) = elim (admits_day q x.0) as (λ b. admits_day q x.0 ≡ b
       → AllByRecursion (λ x. is_day x.0 ≡ true) (cond b (x ∷ filter (λ y. admits_day q y.0) xs)
       (filter (λ y. admits_day q y.0) xs))) [
-        | true ↦ λ e. ((and_parts (is_day x.0) (period_holds q.period x.0) e).0, own_days xs)
+        | true ↦ λ e. (
+          (and_parts (is_day x.0) (period_holds q.period x.0)
+              (and_parts (is_day x.0 && period_holds q.period x.0) (season_holds q.season x.0) e).0).0,
+          own_days xs,
+        )
         | false ↦ λ e. own_days xs
       ] refl
 
@@ -171,6 +175,7 @@ module _ (q : Asked) (days : List DayValue) where
   asked_ends (Sum n e) right x day = sum_ends n (and_parts (is_within 1 366 n) (is_fall e) right).0 x
   asked_ends Dry right x day = spell_ends is_dry x
   asked_ends Wet right x day = spell_ends is_wet x
+  asked_ends (Hot t) right x day = spell_ends (is_hot t) x
 
   -- what begins on some days is of days
   each_begun : (id : StationId) (sh : Shape) (xs : List DayValue) → AllByRecursion (λ x. is_day x.0 ≡ true) xs

@@ -10,7 +10,8 @@ use Rattle.std.proofs.lemmas.Str.Ascii.{IsAscii-from_all}
 use Rattle.ghcn_fields.specs.Bytes.{same_bytes}
 use Rattle.rank_papers.specs.declared.fault.PaperFault.{PaperFault}
 use Rattle.rank_papers.specs.declared.fault.PaperFault.TheVariants.{BadReport, BadCertificate, Memory}
-use Rattle.rank_papers.specs.Certificate.{Entry, end_line}
+use Rattle.rank_papers.specs.declared.counted.Counted.{Counted}
+use Rattle.rank_papers.specs.Certificate.{end_line}
 use Rattle.ghcn_files.specs.StationLines.{is_printable}
 use Rattle.rank_papers.specs.Lines.{paper_lines, onto_first, IsCut}
 use Rattle.rank_papers.specs.CertificateLines.{entry_in, and_then_entries, nothing_behind, entry_or_end, ending, entries_in, IsBadCertificate}
@@ -48,79 +49,79 @@ ending-more n line behind e some =
     n)).1 e) ∙ some_lines n behind some
 
 -- some entries before those that are read
-abbrev pub and_entries : List Entry → Result (List Entry) ℕ → Result (List Entry) ℕ
+abbrev pub and_entries : List Counted → Result (List Counted) ℕ → Result (List Counted) ℕ
 and_entries es (Ok fs) = Ok (es ++ fs)
 and_entries es (Err n) = Err n
 
 -- one entry more among those before
-and_entries-more : (es : List Entry) (e : Entry) (r : Result (List Entry) ℕ) → and_entries (es
+and_entries-more : (es : List Counted) (e : Counted) (r : Result (List Counted) ℕ) → and_entries (es
     ++ e ∷ []) r ≡ and_entries es (and_then_entries e r)
 and_entries-more es e (Ok fs) = ap Ok (append_assoc es (e ∷ []) fs)
 and_entries-more es e (Err n) = refl
 
 -- how far the entries of a text have been read: those found, and those of the rest, are those of all
-abbrev pub HasRead : List ℕ → List Entry → List ℕ → Type 0
-HasRead text found rest = and_entries found (entries_in (length found) (paper_lines rest)) ≡ entries_in 0
+abbrev pub HasRead : ℕ → List ℕ → List Counted → List ℕ → Type 0
+HasRead w text found rest = and_entries found (entries_in w (length found) (paper_lines rest)) ≡ entries_in w 0
     (paper_lines text)
 
 -- at first none has been read
-pub HasRead-start : (text : List ℕ) → HasRead text [] text
-HasRead-start text = elim (entries_in 0 (paper_lines text)) as (λ r. and_entries [] r ≡ r) [
+pub HasRead-start : (w : ℕ) (text : List ℕ) → HasRead w text [] text
+HasRead-start w text = elim (entries_in w 0 (paper_lines text)) as (λ r. and_entries [] r ≡ r) [
   | Ok es ↦ refl
   | Err n ↦
       refl
 ]
 
 -- the line that is cut off is the first to be read
-first-entry : (n : ℕ) (rest line behind : List ℕ) → IsCut rest (Some (line, behind))
-    → entries_in n (paper_lines rest) ≡ entry_or_end n (entry_in line) (same_bytes line (end_line n)) (paper_lines
-    behind) (entries_in (suc n) (paper_lines behind))
-first-entry n rest line behind cut = ap (entries_in n) cut.0
+first-entry : (w n : ℕ) (rest line behind : List ℕ) → IsCut rest (Some (line, behind))
+    → entries_in w n (paper_lines rest) ≡ entry_or_end n (entry_in w line) (same_bytes line (end_line n)) (paper_lines
+    behind) (entries_in w (suc n) (paper_lines behind))
+first-entry w n rest line behind cut = ap (entries_in w n) cut.0
 
 -- one entry more has been read
-pub HasRead-more : (text rest line behind : List ℕ) (found more : List Entry) (e : Entry)
-    → HasRead text found rest → IsCut rest (Some (line, behind)) → Some e ≡ entry_in line → more ≡ found
-    ++ e ∷ [] → HasRead text more behind
-HasRead-more text rest line behind found more e h cut is push =
+pub HasRead-more : (w : ℕ) (text rest line behind : List ℕ) (found more : List Counted) (e : Counted)
+    → HasRead w text found rest → IsCut rest (Some (line, behind)) → Some e ≡ entry_in w line → more ≡ found
+    ++ e ∷ [] → HasRead w text more behind
+HasRead-more w text rest line behind found more e h cut is push =
     let len : length more ≡ suc (length found) = ap length push ∙ omega (arith, length-append found (e ∷ [])) in
-    let r = entries_in (suc (length found)) (paper_lines behind) in
-    ap (λ (n : ℕ). and_entries more (entries_in n (paper_lines behind))) len
-    ∙ ap (λ (es : List Entry). and_entries es r) push
+    let r = entries_in w (suc (length found)) (paper_lines behind) in
+    ap (λ (n : ℕ). and_entries more (entries_in w n (paper_lines behind))) len
+    ∙ ap (λ (es : List Counted). and_entries es r) push
     ∙ and_entries-more found e r
-    ∙ ap (and_entries found) (sym (first-entry (length found) rest line behind cut
-    ∙ ap (λ (o : Option Entry). entry_or_end (length found) o (same_bytes line (end_line (length found)))
+    ∙ ap (and_entries found) (sym (first-entry w (length found) rest line behind cut
+    ∙ ap (λ (o : Option Counted). entry_or_end (length found) o (same_bytes line (end_line (length found)))
     (paper_lines behind) r) (sym is)))
     ∙ h
 
 -- where no entry stands the reading ends, by the end line or not
-pub HasRead-end : (text rest line behind : List ℕ) (found : List Entry) → HasRead text found rest
-    → IsCut rest (Some (line, behind)) → None ≡ entry_in line
-    → entries_in 0 (paper_lines text) ≡ and_entries found (ending (length found) line behind)
-HasRead-end text rest line behind found h cut is =
+pub HasRead-end : (w : ℕ) (text rest line behind : List ℕ) (found : List Counted) → HasRead w text found rest
+    → IsCut rest (Some (line, behind)) → None ≡ entry_in w line
+    → entries_in w 0 (paper_lines text) ≡ and_entries found (ending (length found) line behind)
+HasRead-end w text rest line behind found h cut is =
     sym h
-    ∙ ap (and_entries found) (first-entry (length found) rest line behind cut
-    ∙ ap (λ (o : Option Entry). entry_or_end (length found) o (same_bytes line (end_line (length found)))
-    (paper_lines behind) (entries_in (suc (length found)) (paper_lines behind))) (sym is))
+    ∙ ap (and_entries found) (first-entry w (length found) rest line behind cut
+    ∙ ap (λ (o : Option Counted). entry_or_end (length found) o (same_bytes line (end_line (length found)))
+    (paper_lines behind) (entries_in w (suc (length found)) (paper_lines behind))) (sym is))
 
 -- the reading ended well by the end line
-pub ended-ok : (text line behind : List ℕ) (found : List Entry) (n : ℕ) → n ≡ length found
-    → entries_in 0 (paper_lines text) ≡ and_entries found (ending (length found) line behind)
-    → ending n line behind ≡ Ok [] → entries_in 0 (paper_lines text) ≡ Ok found
-ended-ok text line behind found n len e is =
+pub ended-ok : (w : ℕ) (text line behind : List ℕ) (found : List Counted) (n : ℕ) → n ≡ length found
+    → entries_in w 0 (paper_lines text) ≡ and_entries found (ending (length found) line behind)
+    → ending n line behind ≡ Ok [] → entries_in w 0 (paper_lines text) ≡ Ok found
+ended-ok w text line behind found n len e is =
     e ∙ ap (λ (m : ℕ). and_entries found (ending m line behind)) (sym len) ∙ ap (and_entries found) is
     ∙ ap Ok (append-nil found)
 
 -- or it ended at a bad line
-pub ended-err : (text line behind : List ℕ) (found : List Entry) (n : ℕ) (f : PaperFault) → n ≡ length found
-    → entries_in 0 (paper_lines text) ≡ and_entries found (ending (length found) line behind)
-    → IsBadCertificate (ending n line behind) f → IsBadCertificate (entries_in 0 (paper_lines text)) f
-ended-err text line behind found n (BadReport m) len e is = absurd is
-ended-err text line behind found n (BadCertificate m) len e is = e
+pub ended-err : (w : ℕ) (text line behind : List ℕ) (found : List Counted) (n : ℕ) (f : PaperFault) → n ≡ length found
+    → entries_in w 0 (paper_lines text) ≡ and_entries found (ending (length found) line behind)
+    → IsBadCertificate (ending n line behind) f → IsBadCertificate (entries_in w 0 (paper_lines text)) f
+ended-err w text line behind found n (BadReport m) len e is = absurd is
+ended-err w text line behind found n (BadCertificate m) len e is = e
     ∙ ap (λ (k : ℕ). and_entries found (ending k line behind)) (sym len) ∙ ap (and_entries found) is
-ended-err text line behind found n (Memory m) len e is = tt
+ended-err w text line behind found n (Memory m) len e is = tt
 
 -- where no line is left the end line is missing
-pub HasRead-past : (text rest : List ℕ) (found : List Entry) → HasRead text found rest → IsCut rest None
-    → entries_in 0 (paper_lines text) ≡ Err (length found + 4)
-HasRead-past text rest found h cut = sym h ∙ ap (λ (r : List ℕ). and_entries found (entries_in (length found)
+pub HasRead-past : (w : ℕ) (text rest : List ℕ) (found : List Counted) → HasRead w text found rest → IsCut rest None
+    → entries_in w 0 (paper_lines text) ≡ Err (length found + 4)
+HasRead-past w text rest found h cut = sym h ∙ ap (λ (r : List ℕ). and_entries found (entries_in w (length found)
     (paper_lines r))) cut

@@ -22,7 +22,7 @@ charlie = record { 0 = codes "ZZA00000003" }
 
 -- the k best of a score, everywhere and at any time
 abbrev ask : ℕ → Score → Asked
-ask k s = record { k = k; score = s; region = Everywhere; period = None }
+ask k s = record { k = k; score = s; region = Everywhere; season = None; period = None }
 
 -- lines, each with a line feed
 abbrev text : List (List ℕ) → List ℕ
@@ -35,9 +35,11 @@ entry skipped id bound = record { id = id; bound = bound; skipped = skipped }
 
 -- two series were scanned, and one was passed over
 three : certificate_text (record {
+  version = 1;
   query = ask 1 (Highest Tmax);
   kth = Some (pos 311);
   entries = entry false alpha (pos 311) ∷ entry false bravo (pos 311) ∷ entry true charlie (pos 250) ∷ [];
+  counts = [];
 }) ≡ text (
     codes "extremes certificate 1"
     ∷ codes "query top 1 highest TMAX"
@@ -50,11 +52,32 @@ three : certificate_text (record {
 unfolding digits
 three = refl
 
+-- the same in version 2, where one row is of the first series and none of the second
+counted : certificate_text (record {
+  version = 2;
+  query = ask 1 (Highest Tmax);
+  kth = Some (pos 311);
+  entries = entry false alpha (pos 311) ∷ entry false bravo (pos 311) ∷ entry true charlie (pos 250) ∷ [];
+  counts = 1 ∷ 0 ∷ 0 ∷ [];
+}) ≡ text (
+    codes "extremes certificate 2"
+    ∷ codes "query top 1 highest TMAX"
+    ∷ codes "kth 311"
+    ∷ codes "scan ZZA00000001 311 1"
+    ∷ codes "scan ZZA00000002 311 0"
+    ∷ codes "skip ZZA00000003 250"
+    ∷ codes "end 3"
+    ∷ [])
+unfolding digits
+counted = refl
+
 -- a k-th score below zero
 below_zero : certificate_text (record {
+  version = 1;
   query = ask 2 (Lowest Tmin);
   kth = Some (negsuc 2);
   entries = entry false alpha (pos 5) ∷ [];
+  counts = [];
 }) ≡ text (
     codes "extremes certificate 1"
     ∷ codes "query top 2 lowest TMIN"
@@ -66,8 +89,14 @@ unfolding digits
 below_zero = refl
 
 -- no series at all
-none : certificate_text (record { query = ask 1 (Highest Tmax); kth = None; entries = [] }) ≡ text (
-    codes "extremes certificate 1"
+none : certificate_text (record {
+  version = 2;
+  query = ask 1 (Highest Tmax);
+  kth = None;
+  entries = [];
+  counts = [];
+}) ≡ text (
+    codes "extremes certificate 2"
     ∷ codes "query top 1 highest TMAX"
     ∷ codes "kth none"
     ∷ codes "end 0"

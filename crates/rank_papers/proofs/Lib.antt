@@ -6,6 +6,7 @@ pub mod PlanLines
 pub mod PlanPapers
 pub mod PaperLines
 pub mod CertificateReading
+pub mod Counts
 pub mod LineValues
 pub mod CertificateValues
 pub mod ReportValues

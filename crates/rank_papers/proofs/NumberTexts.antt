@@ -25,7 +25,7 @@ unsigned (d ∷ ds) some digits =
     ds)))) other
 
 -- the number that decimal digits write is read of them
-natural-decimal : (n : ℕ) → n < 2 ^ 64 → natural (decimal n) ≡ Some n
+pub natural-decimal : (n : ℕ) → n < 2 ^ 64 → natural (decimal n) ≡ Some n
 natural-decimal n fits =
     let numeral = decimal_numeral n fits in
     natural-from (decimal n) numeral.some_digit numeral.digits_alone ∙ ap (λ (m : ℕ). Some m) (sym numeral.value)

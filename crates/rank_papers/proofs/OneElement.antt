@@ -8,7 +8,7 @@ use Rattle.rank_scores.specs.Morsels.{best_of_query, kth_of_query, morsels}
 use Rattle.rank_scores.specs.OneElement.{data_for, BestStay, KthStays, MorselsStay}
 use Rattle.rank_blocks.specs.Bounds.{bound}
 use Rattle.rank_papers.specs.Report.{IsReport}
-use Rattle.rank_papers.specs.Certificate.{IsCertificate, IsRightEntry, certificate_text}
+use Rattle.rank_papers.specs.Certificate.{IsCertificate, IsRightEntry, counts_of, certificate_text}
 use Rattle.rank_papers.specs.PlanPapers.{IsMeasuredCertificate}
 use Rattle.rank_papers.specs.OneElement.{ReportStays, CertificateStays, MeasuredStays}
 
@@ -22,25 +22,33 @@ report-moved q a b bytes listed same r = record {
   text = r.text;
 }
 
--- and of a certificate, where they have the same k-th score and the same morsels
-certificate-moved : (q : Asked) (a b : Contents) (bytes : List ℕ) → kth_of_query q a ≡ kth_of_query q b →
-    morsels q a ≡ morsels q b → IsCertificate q a bytes → IsCertificate q b bytes
-certificate-moved q a b bytes kth same z = record {
+-- and of a certificate, where they have the same best, the same k-th score and the same morsels
+certificate-moved : (q : Asked) (a b : Contents) (bytes : List ℕ) → best_of_query q a ≡ best_of_query q b →
+    kth_of_query q a ≡ kth_of_query q b → morsels q a ≡ morsels q b → IsCertificate q a bytes → IsCertificate q b bytes
+certificate-moved q a b bytes best kth same z = record {
+  version = z.version;
+  known = z.known;
   entries = z.entries;
   right =
       subst (λ (ss : List Usable). AllZip (IsRightEntry q (kth_of_query q b)) z.entries ss) same
       (subst (λ (k : Option ℤ). AllZip (IsRightEntry q k) z.entries (morsels q a)) kth z.right);
-  text =
-      z.text
-      ∙ ap (λ (k : Option ℤ). certificate_text (record { query = q; kth = k; entries = z.entries })) kth;
+  text = z.text ∙ λ i. certificate_text (record {
+    version = z.version;
+    query = q;
+    kth = kth i;
+    entries = z.entries;
+    counts = counts_of z.version (best i) z.entries;
+  });
 }
 
 -- and of one with the bounds of the series
-measured-moved : (q : Asked) (a b : Contents) (bytes : List ℕ) → kth_of_query q a ≡ kth_of_query q b →
-    morsels q a ≡ morsels q b → IsMeasuredCertificate q a bytes → IsMeasuredCertificate q b bytes
+measured-moved : (q : Asked) (a b : Contents) (bytes : List ℕ) → best_of_query q a ≡ best_of_query q b →
+    kth_of_query q a ≡ kth_of_query q b → morsels q a ≡ morsels q b → IsMeasuredCertificate q a bytes →
+    IsMeasuredCertificate q b bytes
 unfolding certificate-moved
-measured-moved q a b bytes kth same z = record {
-  certificate = certificate-moved q a b bytes kth same z.certificate;
+measured-moved q a b bytes best kth same z = record {
+  certificate = certificate-moved q a b bytes best kth same z.certificate;
+  version = z.version;
   bounds = z.bounds ∙ ap (map (bound q)) same;
 }
 
@@ -52,15 +60,15 @@ report_stays best q c bytes = (
 )
 
 -- a certificate
-pub certificate_stays : KthStays → MorselsStay → CertificateStays
-certificate_stays kth series q c bytes = (
-  certificate-moved q (data_for q c) c bytes (kth q c) (series q c),
-  certificate-moved q c (data_for q c) bytes (sym (kth q c)) (sym (series q c)),
+pub certificate_stays : BestStay → KthStays → MorselsStay → CertificateStays
+certificate_stays best kth series q c bytes = (
+  certificate-moved q (data_for q c) c bytes (best q c) (kth q c) (series q c),
+  certificate-moved q c (data_for q c) bytes (sym (best q c)) (sym (kth q c)) (sym (series q c)),
 )
 
 -- and one with the bounds of the series
-pub measured_stays : KthStays → MorselsStay → MeasuredStays
-measured_stays kth series q c bytes = (
-  measured-moved q (data_for q c) c bytes (kth q c) (series q c),
-  measured-moved q c (data_for q c) bytes (sym (kth q c)) (sym (series q c)),
+pub measured_stays : BestStay → KthStays → MorselsStay → MeasuredStays
+measured_stays best kth series q c bytes = (
+  measured-moved q (data_for q c) c bytes (best q c) (kth q c) (series q c),
+  measured-moved q c (data_for q c) bytes (sym (best q c)) (sym (kth q c)) (sym (series q c)),
 )

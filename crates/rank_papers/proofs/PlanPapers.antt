@@ -1,5 +1,5 @@
 -- The papers of a plan's answer: its best candidates and lines are those of the query.
-use Rattle.std.proofs.Common.{◌≡◌, ℕ, zero, suc, ◌-◌, ◌<◌, List, [], ◌∷◌, ◌++◌, length, take, Option, Result, Ok, Err, refl, sym, ap, ◌∙◌, subst, arith, ℤ}
+use Rattle.std.proofs.Common.{◌≡◌, inr, ℕ, zero, suc, ◌-◌, ◌<◌, List, [], ◌∷◌, ◌++◌, length, take, Option, Result, Ok, Err, refl, sym, ap, ◌∙◌, subst, arith, ℤ}
 use Rattle.std.specs.Prelude.{slice_get, codes, IfOk}
 use Rattle.std.specs.List.{flat_map, AllZip}
 use Rattle.std.specs.Option.{option_map}
@@ -20,7 +20,7 @@ use Rattle.rank_sched.specs.Plan.{Planned, IsPlan, planned}
 use Rattle.rank_sched.specs.Answers.{best_of_plan, IsAnswerOfPlan, IsAnswerOfCrew}
 use Rattle.rank_sched.proofs.PlanBest.{plan_has_best}
 use Rattle.rank_papers.specs.Report.{IsReportOfBest, query_line}
-use Rattle.rank_papers.specs.Certificate.{Entry, kth_line, entry_line, end_line, kth_of_best, certificate_text, AreInRange, certificate_of_best}
+use Rattle.rank_papers.specs.Certificate.{Entry, kth_line, counted, counts_of, entry_line, end_line, kth_of_best, certificate_text, AreInRange, certificate_of_best}
 use Rattle.rank_papers.specs.PlanPapers.{IsReportOfPlan, IsCertificateOfPlan}
 use Rattle.rank_papers.proofs.PlanLines.{IsLineOf, right_entries, bounds_are, lines_right}
 
@@ -85,12 +85,12 @@ kth_is q c cs asked right e =
 
 -- the parts of a certificate, one after the other, make its text
 pub certificate-made : (q : Asked) (best : List Candidate) (es : List Entry) (t u v w x : List ℕ)
-    → t ≡ codes "extremes certificate 1\n" → u ≡ t ++ query_line q → v ≡ u ++ kth_line (kth_of_best q.k best)
-    → w ≡ v ++ flat_map entry_line es → x ≡ w ++ end_line (length es) → x ≡ certificate_of_best q best es
+    → t ≡ codes "extremes certificate 2\n" → u ≡ t ++ query_line q → v ≡ u ++ kth_line (kth_of_best q.k best)
+    → w ≡ v ++ flat_map (entry_line 2) (counted es (counts_of 2 best es)) → x ≡ w ++ end_line (length es) → x ≡ certificate_of_best q best es
 certificate-made q best es t u v w x title query score lines end =
     let after_title : List ℕ → List ℕ = λ b. b ++ query_line q in
     let after_query : List ℕ → List ℕ = λ b. b ++ kth_line (kth_of_best q.k best) in
-    let after_score : List ℕ → List ℕ = λ b. b ++ flat_map entry_line es in
+    let after_score : List ℕ → List ℕ = λ b. b ++ flat_map (entry_line 2) (counted es (counts_of 2 best es)) in
     end ∙ ap (λ (b : List ℕ). b ++ end_line (length es))
     (lines ∙ ap after_score (score ∙ ap after_query (query ∙ ap after_title title)))
 
@@ -101,18 +101,27 @@ pub certificate-of_plan : (p : Planned) (a : Answer) (bytes : List ℕ) → IsAn
 certificate-of_plan p a bytes answer fits text q c asked right is =
     let own : IsAnswerOfPlan (planned q c) a = subst (λ (x : Planned). IsAnswerOfPlan x a) is answer in
     let lines = lines_right q c asked right own.hauls own.sound in
-    let score : kth_of_best q.k a.best.items ≡ kth_of_query q c =
-    kth_is q c a.best.items asked right (best_is p a q c answer asked right is) in
+    let of_kth : kth_of_best p.query.k a.best.items ≡ kth_of_query q c =
+    ap (λ (x : Planned). kth_of_best x.query.k a.best.items) is
+    ∙ kth_is q c a.best.items asked right (best_is p a q c answer asked right is) in
     let IsRight : List Entry → Type 0 = λ es. AllZip (IsLineOf q (kth_of_query q c)) es (morsels q c) in
     let are : IsRight a.lines.items = subst IsRight (sym own.lines_are) lines in
-    let of_kth : Option ℤ → List ℕ = λ k. certificate_text (record { query = q; kth = k; entries = a.lines.items }) in
+    let best : a.best.items ≡ best_of_query q c = best_is p a q c answer asked right is in
     record {
       certificate = record {
+        version = 2;
+        known = inr refl;
         entries = a.lines.items;
         right = right_entries q (kth_of_query q c) a.lines.items (morsels q c) fits are;
-        text =
-            text ∙ ap (λ (x : Planned). certificate_of_best x.query a.best.items a.lines.items) is ∙ ap of_kth score;
+        text = text ∙ λ i. certificate_text (record {
+          version = 2;
+          query = (is i).query;
+          kth = of_kth i;
+          entries = a.lines.items;
+          counts = counts_of 2 (best i) a.lines.items;
+        });
       };
+      version = refl;
       bounds = bounds_are q (kth_of_query q c) a.lines.items (morsels q c) are;
     }
 

@@ -1,15 +1,17 @@
 -- A right certificate is a text of the form that says what is right.
-use Rattle.std.proofs.Common.{◌≡◌, ℕ, zero, suc, Bool, true, false, cond, not, List, [], ◌∷◌, length, Option, Some, None, refl, sym, ap, ◌∙◌, arith, ℤ, FitsSigned, w64}
-use Rattle.std.specs.Prelude.{◌==◌, ◌||◌, IfSome, filter}
-use Rattle.std.specs.List.{flat_map, filter_map, cons_option, list_all, AllByRecursion, AllZip}
+use Rattle.std.proofs.Common.{◌≡◌, inl, inr, ℕ, zero, suc, ◌≤◌, min, take, map, subst, Bool, true, false, cond, not, List, [], ◌∷◌, length, Option, Some, None, refl, sym, ap, ◌∙◌, arith, ℤ, FitsSigned, w64}
+use Rattle.std.specs.Prelude.{◌==◌, ◌||◌, nat_le, IfSome, filter}
+use Rattle.std.specs.List.{flat_map, filter_map, cons_option, count_by, list_all, AllByRecursion, AllZip}
 use Rattle.std.specs.Option.{option_map}
-use Rattle.std.proofs.lemmas.Bool.{and_parts}
+use Rattle.std.proofs.lemmas.Bool.{and_parts, leb-true}
+use Rattle.std.proofs.lemmas.List.{length-take}
+use Rattle.std.proofs.lemmas.List.Sums.{count_by-le-length}
 use Rattle.std.proofs.lemmas.Int.{ints}
 use Rattle.ghcn_fields.specs.Floor.{IsScore}
 use Rattle.ghcn_fields.specs.Sorting.{placed, sorted_by}
 use Rattle.ghcn_files.specs.declared.station.Station.{Station}
 use Rattle.ghcn_files.specs.declared.station.StationId.{StationId}
-use Rattle.ghcn_files.specs.Ids.{is_id}
+use Rattle.ghcn_files.specs.Ids.{is_id, same_id}
 use Rattle.ghcn_files.specs.IdLaws.{same_id-is}
 use Rattle.ghcn_files.specs.Listed.{is_station_of}
 use Rattle.ghcn_files.specs.StationLines.{is_station}
@@ -21,12 +23,16 @@ use Rattle.rank_query.specs.Admits.{admits_station}
 use Rattle.rank_scores.specs.declared.candidate.Candidate.{Candidate}
 use Rattle.rank_scores.specs.Candidates.{admitted, candidates}
 use Rattle.rank_scores.specs.Order.{of_rank, rank_in, kth_score}
-use Rattle.rank_scores.specs.Morsels.{admitted_series, morsels, id_comes_first, all_candidates, kth_of_query}
-use Rattle.rank_scores.proofs.QueryCandidates.{found-holds}
+use Rattle.rank_scores.specs.Morsels.{admitted_series, morsels, id_comes_first, all_candidates, best_of_query}
+use Rattle.rank_scores.specs.Morsels.{kth_of_query}
+use Rattle.rank_scores.proofs.QueryCandidates.{found-holds, all_apart}
+use Rattle.rank_pool.specs.First.{in_order}
+use Rattle.rank_pool.proofs.Ranked.{best-first}
 use Rattle.rank_sched.proofs.Lists.{each-append, each-weaker}
 use Rattle.rank_sched.proofs.ScoreRanges.{candidates_ranged}
-use Rattle.rank_papers.specs.Certificate.{Entry, Certified, certificate_text, IsEntry, IsCertificateOf, IsRightEntry, IsCertificate, SaysRight}
+use Rattle.rank_papers.specs.Certificate.{Entry, Certified, certificate_text, IsEntry, IsCount, AreCounts, IsVersion, IsCertificateOf, IsRightEntry, count_of, counts_of, IsCertificate, SaysRight}
 use Rattle.rank_papers.specs.Laws.{RightCertificatesSayRight}
+use Rattle.rank_papers.proofs.Counts.{has_version}
 use Rattle.rank_papers.proofs.ListedStations.{station_fields}
 
 -- ---- what holds of each element
@@ -135,31 +141,83 @@ each_entry q k (e ∷ es) (s ∷ ss) v h = (
   each_entry q k es ss v.1 h.1,
 )
 
+-- ---- the counts of best candidates
+
+-- at most k candidates are the best
+few_best : (q : Asked) (c : Contents) → IsAsked q → IsContents c → length (best_of_query q c) ≤ 1000
+few_best q c asked right =
+    let all : List Candidate = all_candidates q c in
+    let first : length (best_of_query q c) ≡ length (take q.k (in_order all)) =
+    ap (λ (l : List Candidate). length l) (best-first q.k all (all_apart q c right)) in
+    let taken : length (take q.k (in_order all)) ≡ min q.k (length (in_order all)) = length-take q.k (in_order all) in
+    let high : q.k ≤ 1000 = leb-true q.k 1000 (and_parts (nat_le 1 q.k) (nat_le q.k 1000) asked.k).1 in
+    omega (arith, first, taken, high)
+
+-- so few are of one station
+count_few : (best : List Candidate) (e : Entry) → length best ≤ 1000 → IsCount e (count_of best e)
+count_few best e few =
+    let parts = by e.skipped (count_of best e) refl in record { few = parts.0; none = parts.1 }
+  where
+    counted : count_by (λ c. same_id c.id e.id) best ≤ length best
+    counted = count_by-le-length (λ (c : Candidate). same_id c.id e.id) best
+
+    by : (b : Bool) → (n : ℕ) → n ≡ cond b 0 (count_by (λ c. same_id c.id e.id) best)
+        → (n ≤ 1000) × (b ≡ true → n ≡ 0)
+    by true n is = (omega (arith, is), λ t. is)
+    by false n is = (omega (arith, is, counted, few), λ t. absurd cc)
+
+-- the counts of the best candidates can be
+each_count : (best : List Candidate) (es : List Entry) → length best ≤ 1000 → AllZip IsCount es (map (count_of best) es)
+each_count best [] few = tt
+each_count best (e ∷ es) few = (count_few best e few, each_count best es few)
+
+-- in a version that has them, and in one that has none
+right_counts : (w : ℕ) (best : List Candidate) (es : List Entry) → IsVersion w → length best ≤ 1000
+    → AreCounts w es (counts_of w best es)
+right_counts w best es (inl e) few = inl (e, ap (λ (v : ℕ). counts_of v best es) e)
+right_counts w best es (inr e) few = inr (
+  e,
+  subst (AllZip IsCount es) (sym (ap (λ (v : ℕ). counts_of v best es) e)) (each_count best es few),
+)
+
 module _ (q : Asked) (c : Contents) (bytes : List ℕ) (asked : IsAsked q) (right : IsContents c) where
   -- a right certificate is of the form, and says what is right
   says_right : IsCertificate q c bytes → (v : Certified) × IsCertificateOf v bytes × SaysRight q c v
   says_right h = (
-    record { query = q; kth = kth_of_query q c; entries = h.entries },
+    record {
+      version = h.version;
+      query = q;
+      kth = kth_of_query q c;
+      entries = h.entries;
+      counts = counts_of h.version (best_of_query q c) h.entries;
+    },
     record {
       can_be = record {
         asked = asked;
         kth = kth_fits q.k (all_candidates q c)
             (candidates_fit q (admitted_series q c) asked (series_hold IsSeries q c right.series.right));
         entries = each_entry q (kth_of_query q c) h.entries (morsels q c) (morsels_visible q c right) h.right;
+        counts = right_counts h.version (best_of_query q c) h.entries h.known (few_best q c asked right);
       };
       text = h.text;
     },
-    record { asked = refl; kth = refl; entries = h.right },
+    record { asked = refl; kth = refl; entries = h.right; counts = refl },
   )
 
   -- and what says so is a right certificate
   right_where : (v : Certified) → IsCertificateOf v bytes → SaysRight q c v → IsCertificate q c bytes
   right_where v is says = record {
+    version = v.version;
+    known = has_version v.version v.entries v.counts is.can_be.counts;
     entries = v.entries;
     right = says.entries;
-    text = is.text
-        ∙ ap (λ (x : Asked). certificate_text (record { query = x; kth = v.kth; entries = v.entries })) says.asked
-        ∙ ap (λ (k : Option ℤ). certificate_text (record { query = q; kth = k; entries = v.entries })) says.kth;
+    text = is.text ∙ λ i. certificate_text (record {
+      version = v.version;
+      query = says.asked i;
+      kth = says.kth i;
+      entries = v.entries;
+      counts = says.counts i;
+    });
   }
 
 -- both directions

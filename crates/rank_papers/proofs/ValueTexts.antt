@@ -18,7 +18,7 @@ use Rattle.ghcn_fields.specs.NumberTexts.{tenths_of}
 use Rattle.ghcn_fields.proofs.Digits.{natural-from}
 use Rattle.ghcn_files.specs.Ids.{is_visible}
 use Rattle.rank_query.specs.declared.score.Score.{Score}
-use Rattle.rank_query.specs.declared.score.Score.TheVariants.{Highest, Lowest, Sum, Dry, Wet}
+use Rattle.rank_query.specs.declared.score.Score.TheVariants.{Highest, Lowest, Sum, Dry, Wet, Hot}
 use Rattle.rank_query.specs.Asked.{Asked}
 use Rattle.rank_query.specs.Spelling.{IsNumeralOf}
 use Rattle.rank_query.proofs.PrintedWords.{decimal_numeral}
@@ -134,6 +134,7 @@ value_of-twice (Lowest e) z = twice_negated z
 value_of-twice (Sum n e) z = refl
 value_of-twice Dry z = refl
 value_of-twice Wet z = refl
+value_of-twice (Hot t) z = refl
 
 -- a number inside 64 bits has a magnitude inside 64 bits
 magnitude_fits : (z : ℤ) → FitsSigned w64 z → unsigned_abs z < 2 ^ 64
@@ -150,6 +151,7 @@ value_fits (Lowest e) z h = negated_fits z h
 value_fits (Sum n e) z h = magnitude_fits z h
 value_fits Dry z h = magnitude_fits z h
 value_fits Wet z h = magnitude_fits z h
+value_fits (Hot t) z h = magnitude_fits z h
 
 -- a score is read of the value that is printed for it
 pub score_in-text : (q : Asked) (z : ℤ) → FitsSigned w64 z
@@ -167,7 +169,7 @@ digit_visible : (d : ℕ) → is_ascii_digit d ≡ true → is_visible d ≡ tru
 digit_visible d h = grind (arith, nat_tests)
 
 -- so is a number
-decimal_visible : (n : ℕ) → n < 2 ^ 64 → list_all is_visible (decimal n) ≡ true
+pub decimal_visible : (n : ℕ) → n < 2 ^ 64 → list_all is_visible (decimal n) ≡ true
 decimal_visible n fits =
     pass-weaker is_ascii_digit is_visible digit_visible (decimal n) (decimal_numeral n fits).digits_alone
 

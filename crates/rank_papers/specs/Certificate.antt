@@ -1,18 +1,19 @@
 -- The text of a certificate, and when it is right.
-use Rattle.std.specs.Prelude.{◌≡◌, ℕ, ◌-◌, true, if◌then◌else◌, List, [], ◌∷◌, ◌++◌, length, codes, Option, None, Some, ℤ, FitsSigned, IfSome, IsTrue, slice_get}
-use Rattle.std.specs.List.{flat_map, AllByRecursion, AllZip}
+use Rattle.std.specs.Prelude.{◌≡◌, ◌⊎◌, ◌≤◌, ℕ, ◌-◌, ◌==◌, Bool, true, ◌&&◌, not, if◌then◌else◌, List, [], ◌∷◌, ◌++◌, length, map, codes, Option, None, Some, ℤ, FitsSigned, IfSome, IsTrue, slice_get}
+use Rattle.std.specs.List.{flat_map, count_by, AllByRecursion, AllZip}
 use Rattle.std.specs.Option.{option_map}
 use Rattle.std.specs.Int.{w64}
 use Rattle.std.specs.Fmt.{decimal}
 use Rattle.ghcn_fields.specs.NumberTexts.{whole}
-use Rattle.ghcn_files.specs.Ids.{is_id}
+use Rattle.ghcn_files.specs.Ids.{is_id, same_id}
 use Rattle.ghcn_series.specs.Series.{Usable, Contents}
 use Rattle.rank_query.specs.Asked.{Asked, IsAsked}
 use Rattle.rank_scores.specs.declared.candidate.Candidate.{Candidate}
 use Rattle.rank_scores.specs.Order.{is_below}
-use Rattle.rank_scores.specs.Morsels.{morsels, kth_of_query, IsAbove}
+use Rattle.rank_scores.specs.Morsels.{morsels, best_of_query, kth_of_query, IsAbove}
 use Rattle.rank_sched.specs.declared.line.Line.{Line}
-use Rattle.rank_papers.specs.Report.{text_line, query_line}
+use Rattle.rank_papers.specs.declared.counted.Counted.{Counted}
+use Rattle.rank_papers.specs.Report.{text_line, query_line, after_blank}
 
 -- ---- the text
 
@@ -20,11 +21,19 @@ use Rattle.rank_papers.specs.Report.{text_line, query_line}
 abbrev pub Entry : Type 0
 Entry = Line
 
--- what a certificate says: a query, a k-th score or none, and an entry for each series
+-- what a certificate says: its version, a query, a k-th score or none, an entry for each series, and in version 2 a
+-- count for each entry
 pub record Certified : Type 0 where
+  pub version : ℕ
   pub query : Asked
   pub kth : Option ℤ
   pub entries : List Entry
+  pub counts : List ℕ
+
+-- the first line of a version
+abbrev pub title_line : ℕ → List ℕ
+title_line version =
+    text_line ((if version == 1 then codes "extremes certificate 1" else codes "extremes certificate 2") ∷ [])
 
 -- the word of a k-th score, or of none
 abbrev pub kth_text : Option ℤ → List ℕ
@@ -35,9 +44,27 @@ kth_text (Some score) = whole score
 abbrev pub kth_line : Option ℤ → List ℕ
 kth_line kth = text_line (codes "kth" ∷ kth_text kth ∷ [])
 
--- the line of an entry
-abbrev pub entry_line : Entry → List ℕ
-entry_line e = text_line ((if e.skipped then codes "skip" else codes "scan") ∷ e.id.0 ∷ whole e.bound ∷ [])
+-- entries with their counts, 0 where there are no more of these
+abbrev pub counted : List Entry → List ℕ → List Counted
+counted [] counts = []
+counted (e ∷ es) [] = record { entry = e; count = 0 } ∷ counted es []
+counted (e ∷ es) (n ∷ counts) = record { entry = e; count = n } ∷ counted es counts
+
+-- the line of an entry ends by a count: in version 2, where the series wasn't passed over
+abbrev pub has_count : ℕ → Entry → Bool
+has_count version e = version == 2 && not e.skipped
+
+-- a count behind its blank, where there is one
+abbrev pub count_text : Bool → ℕ → List ℕ
+count_text has n = if has then after_blank (decimal n) else []
+
+-- the line of an entry, with its count where it has one
+abbrev pub entry_line : ℕ → Counted → List ℕ
+entry_line version l = text_line (
+    (if l.entry.skipped then codes "skip" else codes "scan")
+    ∷ l.entry.id.0
+    ∷ (whole l.entry.bound ++ count_text (has_count version l.entry) l.count)
+    ∷ [])
 
 -- the last line, of so many entries
 abbrev pub end_line : ℕ → List ℕ
@@ -46,10 +73,10 @@ end_line n = text_line (codes "end" ∷ decimal n ∷ [])
 -- the text of a certificate
 abbrev pub certificate_text : Certified → List ℕ
 certificate_text v =
-    text_line (codes "extremes certificate 1" ∷ [])
+    title_line v.version
     ++ query_line v.query
     ++ kth_line v.kth
-    ++ flat_map entry_line v.entries
+    ++ flat_map (entry_line v.version) (counted v.entries v.counts)
     ++ end_line (length v.entries)
 
 -- each bound is inside 64 bits
@@ -63,11 +90,22 @@ pub record IsEntry (e : Entry) : Type 0 where
   pub id : IsTrue (is_id e.id.0)
   pub bound : FitsSigned w64 e.bound
 
+-- a count that an entry can have: of at most a thousand rows, and none where the series was passed over
+pub record IsCount (e : Entry) (n : ℕ) : Type 0 where
+  pub few : n ≤ 1000
+  pub none : e.skipped ≡ true → n ≡ 0
+
+-- the counts of a version: none at all in version 1, and one for each entry in version 2
+abbrev pub AreCounts : ℕ → List Entry → List ℕ → Type 0
+AreCounts version es counts =
+    ((version ≡ 1) × (counts ≡ [])) ⊎ ((version ≡ 2) × AllZip IsCount es counts)
+
 -- what a certificate can say
 pub record IsCertified (v : Certified) : Type 0 where
   pub asked : IsAsked v.query
   pub kth : IfSome v.kth (FitsSigned w64)
   pub entries : AllByRecursion IsEntry v.entries
+  pub counts : AreCounts v.version v.entries v.counts
 
 -- the bytes are the text of a certificate that says this
 pub record IsCertificateOf (v : Certified) (bytes : List ℕ) : Type 0 where
@@ -88,18 +126,40 @@ pub record IsRightEntry (q : Asked) (kth : Option ℤ) (e : Entry) (s : Usable) 
 abbrev pub AreRightEntries : Asked → Contents → List Entry → Type 0
 AreRightEntries q c es = AllZip (IsRightEntry q (kth_of_query q c)) es (morsels q c)
 
--- a right certificate of a query and data, whatever its bounds and skips: it has the query, the k-th score, and a right
--- entry for each series
+-- how many of these candidates are of the station of an entry; of one that was passed over none is counted
+abbrev pub count_of : List Candidate → Entry → ℕ
+count_of best e = if e.skipped then 0 else count_by (λ c. same_id c.id e.id) best
+
+-- the counts that a version has of these best candidates
+abbrev pub counts_of : ℕ → List Candidate → List Entry → List ℕ
+counts_of version best es = if version == 2 then map (count_of best) es else []
+
+-- there is such a version
+abbrev pub IsVersion : ℕ → Type 0
+IsVersion version = (version ≡ 1) ⊎ (version ≡ 2)
+
+-- a right certificate of a query and data, whatever its version, its bounds and skips: it has the query, the k-th
+-- score, a right entry for each series, and in version 2 how many of the best candidates are of each
 pub record IsCertificate (q : Asked) (c : Contents) (bytes : List ℕ) : Type 0 where
+  pub version : ℕ
+  pub known : IsVersion version
   pub entries : List Entry
   pub right : AreRightEntries q c entries
-  pub text : bytes ≡ certificate_text (record { query = q; kth = kth_of_query q c; entries = entries })
+  pub text : bytes ≡ certificate_text (record {
+    version = version;
+    query = q;
+    kth = kth_of_query q c;
+    entries = entries;
+    counts = counts_of version (best_of_query q c) entries;
+  })
 
--- what a certificate says is right: it is of the query, has the k-th score, and a right entry for each series
+-- what a certificate says is right: it is of the query, has the k-th score, a right entry for each series, and the
+-- counts that its version has of the best candidates
 pub record SaysRight (q : Asked) (c : Contents) (v : Certified) : Type 0 where
   pub asked : v.query ≡ q
   pub kth : v.kth ≡ kth_of_query q c
   pub entries : AreRightEntries q c v.entries
+  pub counts : v.counts ≡ counts_of v.version (best_of_query q c) v.entries
 
 -- ---- the certificate of some best candidates
 
@@ -107,6 +167,12 @@ pub record SaysRight (q : Asked) (c : Contents) (v : Certified) : Type 0 where
 abbrev pub kth_of_best : ℕ → List Candidate → Option ℤ
 kth_of_best k best = option_map (λ c. c.score) (slice_get best (k - 1))
 
--- the text of the certificate with these best candidates and entries
+-- the text of the certificate of version 2 with these best candidates and entries
 abbrev pub certificate_of_best : Asked → List Candidate → List Entry → List ℕ
-certificate_of_best q best es = certificate_text (record { query = q; kth = kth_of_best q.k best; entries = es })
+certificate_of_best q best es = certificate_text (record {
+  version = 2;
+  query = q;
+  kth = kth_of_best q.k best;
+  entries = es;
+  counts = counts_of 2 best es;
+})

@@ -1,14 +1,16 @@
 -- Reading a certificate line by line: what its text says, or the number of its first bad line.
-use Rattle.std.specs.Prelude.{◌≡◌, ⊤, ℕ, suc, ◌+◌, ◌-◌, Bool, if◌then◌else◌, List, [], ◌∷◌, length, take, codes, slice_range, Option, None, Some, Result, Ok, Err, ℤ}
+use Rattle.std.specs.Prelude.{◌≡◌, ⊤, ℕ, suc, ◌+◌, ◌-◌, ◌==◌, Bool, if◌then◌else◌, List, [], ◌∷◌, length, take, drop, map, codes, slice_range, Option, None, Some, Result, Ok, Err, ℤ}
 use Rattle.std.specs.Option.{option_map, option_map_or}
 use Rattle.ghcn_fields.specs.Bytes.{same_bytes}
+use Rattle.ghcn_fields.specs.Numbers.{natural, up_to}
 use Rattle.ghcn_files.specs.Ids.{is_id}
 use Rattle.rank_query.specs.Asked.{Asked}
 use Rattle.rank_papers.specs.declared.fault.PaperFault.{PaperFault}
 use Rattle.rank_papers.specs.declared.fault.PaperFault.TheVariants.{BadReport, BadCertificate, Memory}
 use Rattle.rank_papers.specs.declared.paper.Certificate.{Certificate}
-use Rattle.rank_papers.specs.Report.{text_line}
-use Rattle.rank_papers.specs.Certificate.{Entry, Certified, kth_line, entry_line, end_line}
+use Rattle.rank_papers.specs.declared.counted.Counted.{Counted}
+use Rattle.rank_papers.specs.ReportLines.{first_word}
+use Rattle.rank_papers.specs.Certificate.{Entry, Certified, title_line, kth_line, has_count, entry_line, end_line}
 use Rattle.rank_papers.specs.Lines.{paper_lines, exactly, number_in, query_in}
 
 -- a k-th score or none, by its word
@@ -28,59 +30,101 @@ entry_with word id bound = if is_id id then Some (record {
       same_bytes word (codes "skip");
 }) else None
 
--- the entry in the columns of a line
-abbrev pub entry_in_columns : List ℕ → Option Entry
-entry_in_columns line = option_map_or (entry_with (take 4 line) (slice_range line 5 16)) (number_in (slice_range
-    line 17 (length line - 1))) None
+-- what stands behind the ID in a line
+abbrev pub behind_id : List ℕ → List ℕ
+behind_id line = slice_range line 17 (length line - 1)
 
--- the entry whose line this is
-abbrev pub entry_in : List ℕ → Option Entry
-entry_in line = exactly entry_line line (entry_in_columns line)
+-- the entry in the columns of a line, whose bound ends at the next blank
+abbrev pub entry_in_columns : List ℕ → Option Entry
+entry_in_columns line =
+    option_map_or (entry_with (take 4 line) (slice_range line 5 16)) (number_in (first_word (behind_id line))) None
+
+-- what stands behind the first blank
+abbrev pub behind_word : List ℕ → List ℕ
+behind_word field = drop (length (first_word field) + 1) field
+
+-- the count that a field writes, at most a thousand; 0 where a line has none
+abbrev pub count_in : Bool → List ℕ → Option ℕ
+count_in has field = if has then up_to 1000 (natural field) else Some 0
+
+-- an entry with the count that a field writes, where its line has one
+abbrev pub with_count : ℕ → List ℕ → Entry → Option Counted
+with_count version field e =
+    option_map (λ n. record { entry = e; count = n }) (count_in (has_count version e) field)
+
+-- the entry and the count in the columns of a line
+abbrev pub counted_in_columns : ℕ → List ℕ → Option Counted
+counted_in_columns version line =
+    option_map_or (with_count version (behind_word (behind_id line))) (entry_in_columns line) None
+
+-- the entry and the count whose line this is
+abbrev pub entry_in : ℕ → List ℕ → Option Counted
+entry_in version line = exactly (entry_line version) line (counted_in_columns version line)
 
 -- one entry more at the front, where the rest could be read
-abbrev pub and_then_entries : Entry → Result (List Entry) ℕ → Result (List Entry) ℕ
+abbrev pub and_then_entries : Counted → Result (List Counted) ℕ → Result (List Counted) ℕ
 and_then_entries e (Ok es) = Ok (e ∷ es)
 and_then_entries e (Err n) = Err n
 
 -- nothing stands behind the end line of so many entries
-abbrev pub nothing_behind : ℕ → List (List ℕ) → Result (List Entry) ℕ
+abbrev pub nothing_behind : ℕ → List (List ℕ) → Result (List Counted) ℕ
 nothing_behind n [] = Ok []
 nothing_behind n (l ∷ ls) = Err (n + 5)
 
 -- the end line of so many entries, and what stands behind it
-abbrev pub ending : ℕ → List ℕ → List ℕ → Result (List Entry) ℕ
+abbrev pub ending : ℕ → List ℕ → List ℕ → Result (List Counted) ℕ
 ending n line behind = if same_bytes line (end_line n) then nothing_behind n (paper_lines behind) else Err (n + 4)
 
 -- an entry and what follows it, or the end line, behind so many entries; else the line is bad
-abbrev pub entry_or_end : ℕ → Option Entry → Bool → List (List ℕ) → Result (List Entry) ℕ → Result (List Entry) ℕ
+abbrev pub entry_or_end : ℕ → Option Counted → Bool → List (List ℕ) → Result (List Counted) ℕ → Result (List Counted) ℕ
 entry_or_end n (Some e) is_end behind rest = and_then_entries e rest
 entry_or_end n None is_end behind rest = if is_end then nothing_behind n behind else Err (n + 4)
 
 -- the entries of these lines, which stand behind so many other entries, up to an end line with the number of all
-abbrev pub entries_in : ℕ → List (List ℕ) → Result (List Entry) ℕ
-entries_in n [] = Err (n + 4)
-entries_in n (l ∷ ls) = entry_or_end n (entry_in l) (same_bytes l (end_line n)) ls (entries_in (suc n) ls)
+abbrev pub entries_in : ℕ → ℕ → List (List ℕ) → Result (List Counted) ℕ
+entries_in version n [] = Err (n + 4)
+entries_in version n (l ∷ ls) =
+    entry_or_end n (entry_in version l) (same_bytes l (end_line n)) ls (entries_in version (suc n) ls)
 
--- a certificate with these entries
-abbrev pub with_entries : Asked → Option ℤ → Result (List Entry) ℕ → Result Certified ℕ
-with_entries q s (Ok es) = Ok (record { query = q; kth = s; entries = es })
-with_entries q s (Err n) = Err n
+-- the entries alone
+abbrev pub entries_of : List Counted → List Entry
+entries_of ls = map (λ l. l.entry) ls
+
+-- their counts, in a version that has them
+abbrev pub counts_in : ℕ → List Counted → List ℕ
+counts_in version ls = if version == 2 then map (λ l. l.count) ls else []
+
+-- a certificate with these entries and counts
+abbrev pub with_entries : ℕ → Asked → Option ℤ → Result (List Counted) ℕ → Result Certified ℕ
+with_entries version q s (Ok ls) = Ok (record {
+  version = version;
+  query = q;
+  kth = s;
+  entries = entries_of ls;
+  counts = counts_in version ls;
+})
+with_entries version q s (Err n) = Err n
 
 -- a k-th score, and entries
-abbrev pub behind_query : Asked → List (List ℕ) → Result Certified ℕ
-behind_query q [] = Err 3
-behind_query q (l ∷ ls) = option_map_or (λ s. with_entries q s (entries_in 0 ls)) (kth_in l) (Err 3)
+abbrev pub behind_query : ℕ → Asked → List (List ℕ) → Result Certified ℕ
+behind_query version q [] = Err 3
+behind_query version q (l ∷ ls) =
+    option_map_or (λ s. with_entries version q s (entries_in version 0 ls)) (kth_in l) (Err 3)
 
 -- a query, and what follows it
-abbrev pub behind_title : List (List ℕ) → Result Certified ℕ
-behind_title [] = Err 2
-behind_title (l ∷ ls) = option_map_or (λ q. behind_query q ls) (query_in l) (Err 2)
+abbrev pub behind_title : ℕ → List (List ℕ) → Result Certified ℕ
+behind_title version [] = Err 2
+behind_title version (l ∷ ls) = option_map_or (λ q. behind_query version q ls) (query_in l) (Err 2)
+
+-- the version whose first line this is
+abbrev pub version_in : List ℕ → Option ℕ
+version_in line =
+    if same_bytes line (title_line 1) then Some 1 else if same_bytes line (title_line 2) then Some 2 else None
 
 -- a title, and what follows it
 abbrev pub certified_lines : List (List ℕ) → Result Certified ℕ
 certified_lines [] = Err 1
-certified_lines (l ∷ ls) = if same_bytes l (text_line (codes "extremes certificate 1" ∷ [])) then behind_title ls
-    else Err 1
+certified_lines (l ∷ ls) = option_map_or (λ version. behind_title version ls) (version_in l) (Err 1)
 
 -- what a certificate says, or the number of its first line that isn't of the form of its place
 abbrev pub read_certificate : List ℕ → Result Certified ℕ
@@ -88,7 +132,13 @@ read_certificate bytes = certified_lines (paper_lines bytes)
 
 -- what a certificate that was read says
 abbrev pub certified_in : Certificate → Certified
-certified_in c = record { query = c.query; kth = c.kth; entries = c.lines.items }
+certified_in c = record {
+  version = c.version;
+  query = c.query;
+  kth = c.kth;
+  entries = c.lines.items;
+  counts = c.counts.items;
+}
 
 -- a fault is want of memory, or the number of the line at which reading a certificate ends
 abbrev pub IsBadCertificate : {A : Type 0} → Result A ℕ → PaperFault → Type 0

@@ -14,9 +14,10 @@ abbrev pub IsReportOfPlan : Planned → List ℕ → Type 0
 IsReportOfPlan p bytes =
     (q : Asked) (c : Contents) → IsAsked q → IsContents c → p ≡ planned q c → IsReport q c bytes
 
--- a right certificate of a query and data, in which each bound is the bound of its series
+-- a right certificate of a query and data, of version 2, in which each bound is the bound of its series
 pub record IsMeasuredCertificate (q : Asked) (c : Contents) (bytes : List ℕ) : Type 0 where
   pub certificate : IsCertificate q c bytes
+  pub version : certificate.version ≡ 2
   pub bounds : map (λ e. e.bound) certificate.entries ≡ map (bound q) (morsels q c)
 
 -- the bytes are such a certificate of all data of which this is the plan

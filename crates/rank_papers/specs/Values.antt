@@ -6,7 +6,7 @@ use Rattle.ghcn_fields.specs.Fields.{sign_text}
 use Rattle.ghcn_files.specs.declared.element.Element.{Element}
 use Rattle.ghcn_files.specs.declared.element.Element.TheVariants.{Prcp, Snow, Snwd, Tmax, Tmin}
 use Rattle.rank_query.specs.declared.score.Score.{Score}
-use Rattle.rank_query.specs.declared.score.Score.TheVariants.{Highest, Lowest, Sum, Dry, Wet}
+use Rattle.rank_query.specs.declared.score.Score.TheVariants.{Highest, Lowest, Sum, Dry, Wet, Hot}
 use Rattle.rank_papers.specs.declared.measure.Measure.{Measure}
 use Rattle.rank_papers.specs.declared.measure.Measure.TheVariants.{Degrees, Millimetres, WholeMillimetres, Days}
 
@@ -25,6 +25,7 @@ measure_of (Lowest e) = element_measure e
 measure_of (Sum n e) = element_measure e
 measure_of Dry = Days
 measure_of Wet = Days
+measure_of (Hot t) = Days
 
 -- so many raw units, in the unit that is printed: tenths have one decimal
 abbrev pub magnitude_text : Measure → ℕ → List ℕ
@@ -51,6 +52,7 @@ value_of (Lowest e) score = neg_ℤ score
 value_of (Sum n e) score = score
 value_of Dry score = score
 value_of Wet score = score
+value_of (Hot t) score = score
 
 -- the fields of a score: the value behind it as it is printed, and its unit
 abbrev pub value_fields : Score → ℤ → List (List ℕ)

@@ -1,21 +1,26 @@
 //! The certificate of a query. Each of its lines ends by a line feed:
 //!
 //! ```text
-//! extremes certificate 1
+//! extremes certificate 2
 //! query TEXT                the query in its one spelling
 //! kth S                     the score of the last row where there are k; otherwise `kth none`
-//! scan ID B                 a line for each series of the query, by increasing ID, with a bound on
-//!                           its candidates' scores; `skip ID B` where it was passed over
+//! scan ID B C               a line for each series of the query, by increasing ID, with a bound on
+//!                           its candidates' scores and the number of the report's rows of its
+//!                           station; `skip ID B` where it was passed over
 //! end M                     M lines of series
 //! ```
+//!
+//! In version 1, which is read alone, no line has a number of rows.
 
 ghost use Rattle.std.specs.Prelude.{◌≡◌, ◌<◌, ◌++◌, FitsSigned, OnOk, IfOk};
 ghost use Rattle.std.specs.Int.{w64};
 ghost use Rattle.std.specs.List.{flat_map};
+ghost use Rattle.ghcn_fields.specs.NumberTexts.{whole};
 ghost use Rattle.rank_sched.specs.Answers.{IsAnswerOfPlan};
 ghost use Rattle.rank_papers.specs.Certificate as certificate;
 ghost use Rattle.rank_papers.specs.PlanPapers.{IsCertificateOfPlan};
 
+use crate::counted::{Counted, count_of, has_count};
 use crate::number::{push_number, push_whole};
 use crate::report_text::push_query;
 use crate::row::push_field;
@@ -24,17 +29,20 @@ use rank_sched::{Answer, Line, Plan};
 use rank_scores::Candidate;
 use std::alloc::Global;
 
-/// The certificate of a plan's query with the lines of an answer.
+/// The version that is written.
+const VERSION: u64 = 2;
+
+/// The certificate of a plan's query with the lines of an answer, in version 2.
 pub fn certificate(alloc: Global, plan: &Plan<'_>, answer: &Answer) -> Result<Vec<u8>, Memory>
     requires { IsAnswerOfPlan plan.now answer.now }
     ensures text { IfOk result (λ paper. paper.items
         ≡ certificate.certificate_of_best plan.now.query answer.now.best.items answer.now.lines.items) }
     ensures right { IfOk result (λ paper. IsCertificateOfPlan plan.now paper.items) }
 {
-    let mut paper = Vec::from_slice(alloc, b"extremes certificate 1\n")?;
+    let mut paper = Vec::from_slice(alloc, b"extremes certificate 2\n")?;
     push_query(alloc, &mut paper, plan.query())?;
     push_kth(&mut paper, kth_score(plan.query().k(), &answer.best))?;
-    push_lines(&mut paper, &answer.lines)?;
+    push_lines(&mut paper, &answer.lines, &answer.best)?;
     push_end(&mut paper, answer.lines.len() as u64)?;
     Ok(paper)
 }
@@ -61,27 +69,65 @@ pub(crate) fn push_kth(paper: &mut Vec<u8>, kth: Option<i64>) -> Result<(), Memo
     Ok(())
 }
 
-/// Adds the line of each series.
-fn push_lines(paper: &mut Vec<u8>, lines: &[Line]) -> Result<(), Memory>
-    ensures text { OnOk result (paper.new.items ≡ paper.old.items ++ flat_map certificate.entry_line lines.now) }
+/// Adds the line of each series, with the number of the best candidates that are of it.
+fn push_lines(paper: &mut Vec<u8>, lines: &[Line], best: &[Candidate]) -> Result<(), Memory>
+    ensures text { OnOk result (paper.new.items ≡ paper.old.items ++ flat_map (certificate.entry_line 2)
+        (certificate.counted lines.now (certificate.counts_of 2 best.now lines.now))) }
     ensures fits { OnOk result (certificate.AreInRange lines.now) }
 {
     for line in lines {
-        push_line(paper, line)?;
+        push_line(paper, VERSION, &counted(line, best))?;
     }
     Ok(())
 }
 
-/// Adds the line of a series.
-pub(crate) fn push_line(paper: &mut Vec<u8>, line: &Line) -> Result<(), Memory>
-    ensures text { OnOk result (paper.new.items ≡ paper.old.items ++ certificate.entry_line line.now) }
-    ensures fits { OnOk result (FitsSigned w64 line.now.bound) }
+/// The line of a series with its count.
+fn counted(line: &Line, best: &[Candidate]) -> Counted
+    ensures entry { result.entry ≡ line.now }
+    ensures count { result.count ≡ certificate.count_of best.now line.now }
 {
-    paper.extend_from_slice(if line.skipped { b"skip" } else { b"scan" })?;
-    push_field(paper, &line.id.0)?;
+    Counted {
+        entry: *line,
+        count: count_of(best, line),
+    }
+}
+
+/// Adds the line of a series, with its count where the version has one.
+pub(crate) fn push_line(paper: &mut Vec<u8>, version: u64, line: &Counted) -> Result<(), Memory>
+    ensures text { OnOk result (paper.new.items ≡ paper.old.items ++ certificate.entry_line version line.now) }
+    ensures fits { OnOk result (FitsSigned w64 line.now.entry.bound) }
+{
+    paper.extend_from_slice(if line.entry.skipped { b"skip" } else { b"scan" })?;
+    push_field(paper, &line.entry.id.0)?;
     paper.push(b' ')?;
-    push_whole(paper, line.bound)?;
+    push_bound(
+        paper,
+        line.entry.bound,
+        has_count(version, &line.entry),
+        line.count,
+    )?;
     paper.push(b'\n')?;
+    Ok(())
+}
+
+/// Adds a bound, and a count behind it where there is one.
+fn push_bound(paper: &mut Vec<u8>, bound: i64, has: bool, count: u64) -> Result<(), Memory>
+    ensures text { OnOk result (paper.new.items
+        ≡ paper.old.items ++ (whole bound ++ certificate.count_text has count)) }
+    ensures fits { OnOk result (FitsSigned w64 bound) }
+{
+    push_whole(paper, bound)?;
+    push_count(paper, has, count)
+}
+
+/// Adds a blank and a count, where there is one.
+fn push_count(paper: &mut Vec<u8>, has: bool, count: u64) -> Result<(), Memory>
+    ensures { OnOk result (paper.new.items ≡ paper.old.items ++ certificate.count_text has count) }
+{
+    if has {
+        paper.push(b' ')?;
+        push_number(paper, count)?;
+    }
     Ok(())
 }
 

@@ -8,6 +8,7 @@
 
 mod certificate_lines;
 mod certificate_text;
+mod counted;
 mod fault;
 mod laws;
 mod lines;

@@ -27,6 +27,7 @@ pub fn measure_of(score: Score) -> Measure
         Score::Sum(_, element) => element_measure(element),
         Score::Dry => Measure::Days,
         Score::Wet => Measure::Days,
+        Score::Hot(_) => Measure::Days,
     }
 }
 

@@ -242,7 +242,7 @@ fn id_of(bytes: &[u8]) -> Option<StationId>
 }
 
 /// What stands in front of the first blank.
-fn first_word(text: &[u8]) -> &[u8]
+pub(crate) fn first_word(text: &[u8]) -> &[u8]
     ensures { result.now ≡ report.first_word text.now }
 {
     match memchr(b' ', text) {

@@ -106,11 +106,11 @@ query top 1 highest TMAX
 1 ZZA00000001 2020-07-01 2020-07-01 31.1 C ALPHA
 end 1
 ";
-    let lines: &[u8] = b"extremes certificate 1
+    let lines: &[u8] = b"extremes certificate 2
 query top 1 highest TMAX
 kth 311
-scan ZZA00000001 311
-scan ZZA00000002 311
+scan ZZA00000001 311 1
+scan ZZA00000002 311 0
 skip ZZA00000003 250
 end 3
 ";
@@ -119,13 +119,21 @@ end 3
     Ok(())
 }
 
-const CERTIFICATE: &str = "extremes certificate 1
+const CERTIFICATE: &str = "extremes certificate 2
+query top 1 highest TMAX
+kth 311
+scan ZZA00000001 311 1
+scan ZZA00000002 311 0
+skip ZZA00000003 250
+end 3
+";
+
+const CERTIFICATE_1: &str = "extremes certificate 1
 query top 1 highest TMAX
 kth 311
 scan ZZA00000001 311
-scan ZZA00000002 311
 skip ZZA00000003 250
-end 3
+end 2
 ";
 
 #[test]
@@ -138,6 +146,53 @@ fn certificate_read_back(rt: HostRuntime) -> Result<(), Fail> {
     assert_eq!(rt; read.lines.len(), 3);
     assert_eq!(rt; read.lines[2].bound, 250);
     assert!(rt; read.lines[2].skipped);
+    assert_eq!(rt; read.version, 2);
+    let counts: &[u64] = &[1, 0, 0];
+    assert_eq!(rt; read.counts.as_slice(), counts);
+    Ok(())
+}
+
+#[test]
+fn certificate_of_version_1_read_back(rt: HostRuntime) -> Result<(), Fail> {
+    let Ok(read) = read_certificate(rt.alloc(), CERTIFICATE_1.as_bytes()) else {
+        return Err(Fail::from("it isn't read"));
+    };
+    assert_eq!(rt; read.version, 1);
+    assert_eq!(rt; read.lines.len(), 2);
+    assert_eq!(rt; read.counts.len(), 0);
+    Ok(())
+}
+
+/// What follows the line of the k-th score in certificates of both versions, and the first bad line.
+const LINES: [(&str, &str, u64); 12] = [
+    ("1", "scan ZZA00000001 311\nend 1\n", 0),
+    ("1", "scan ZZA00000001 311 1\nend 1\n", 4),
+    ("1", "skip ZZA00000001 250\nend 1\n", 0),
+    ("2", "scan ZZA00000001 311 1\nend 1\n", 0),
+    ("2", "scan ZZA00000001 311 1000\nend 1\n", 0),
+    ("2", "scan ZZA00000001 311 1001\nend 1\n", 4),
+    ("2", "scan ZZA00000001 311 01\nend 1\n", 4),
+    ("2", "scan ZZA00000001 311 \nend 1\n", 4),
+    ("2", "scan ZZA00000001 311\nend 1\n", 4),
+    ("2", "skip ZZA00000001 250\nend 1\n", 0),
+    ("2", "skip ZZA00000001 250 0\nend 1\n", 4),
+    ("3", "end 0\n", 1),
+];
+
+#[test]
+fn first_bad_counts_of_certificates(rt: HostRuntime) -> Result<(), Fail> {
+    for (version, lines, bad) in LINES {
+        let mut text = String::new(rt.alloc());
+        write!(
+            text,
+            "extremes certificate {version}\nquery top 1 wet\nkth 311\n{lines}"
+        )?;
+        let found = match read_certificate(rt.alloc(), text.as_bytes()) {
+            Err(PaperFault::BadCertificate { line }) => line,
+            _ => 0,
+        };
+        assert_eq!(rt; found, bad, "at {version} {lines}");
+    }
     Ok(())
 }
 
@@ -145,7 +200,7 @@ fn certificate_read_back(rt: HostRuntime) -> Result<(), Fail> {
 fn first_bad_lines_of_certificates(rt: HostRuntime) -> Result<(), Fail> {
     let cases: [(&str, u64); 8] = [
         ("", 1),
-        ("extremes certificate 2\n", 1),
+        ("extremes certificate 3\n", 1),
         ("extremes certificate 1\nquery top 01 wet\n", 2),
         ("extremes certificate 1\nquery top 1 wet\nkth -0\n", 3),
         ("extremes certificate 1\nquery top 1 wet\nkth none\n", 4),

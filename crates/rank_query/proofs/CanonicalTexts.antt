@@ -7,24 +7,30 @@ use Rattle.std.proofs.lemmas.Bool.{and_parts}
 use Rattle.std.proofs.lemmas.Bool.Decides.{nat_tests}
 use Rattle.std.proofs.lemmas.Int.{ints}
 use Rattle.ghcn_fields.specs.Days.{is_within}
-use Rattle.ghcn_fields.specs.NumberTexts.{four_places}
+use Rattle.ghcn_fields.specs.NumberTexts.{four_places, tenths}
 use Rattle.rank_query.specs.declared.score.Score.{Score}
-use Rattle.rank_query.specs.declared.score.Score.TheVariants.{Highest, Lowest, Sum, Dry, Wet}
+use Rattle.rank_query.specs.declared.score.Score.TheVariants.{Highest, Lowest, Sum, Dry, Wet, Hot}
 use Rattle.rank_query.specs.declared.region.Region.{Region}
 use Rattle.rank_query.specs.declared.region.Region.TheVariants.{Everywhere, Inside, Country, State, Only}
-use Rattle.rank_query.specs.Asked.{Asked, IsAsked, is_score, is_fall, is_region}
+use Rattle.rank_query.specs.Asked.{Asked, IsAsked, is_score, is_fall, is_heat, is_month, is_season, is_region}
 use Rattle.rank_query.specs.Laws.{IsShortLine}
-use Rattle.rank_query.specs.QueryTexts.{score_words, region_words, period_words, query_words, query_text}
-use Rattle.rank_query.specs.Spelling.{SpellsScore, SpellsRegion, SpellsPeriod, IsSpelling}
+use Rattle.rank_query.specs.QueryTexts.{score_words, region_words, season_words, period_words, query_words, query_text}
+use Rattle.rank_query.specs.QueryTexts.{months_text}
+use Rattle.rank_query.specs.Spelling.{SpellsScore, SpellsRegion, SpellsSeason, SpellsPeriod, IsSpelling}
 use Rattle.rank_query.proofs.OneWords.{words_of-join}
 use Rattle.rank_query.proofs.PrintedWords.{IsShortWord, short_words, length-join, printable-join, all_both}
 use Rattle.rank_query.proofs.PrintedWords.{known_word, decimal_numeral, decimal_word, code_word, visible_word}
-use Rattle.rank_query.proofs.PrintedWords.{date_word, four_places_spelt, four_places_word}
+use Rattle.rank_query.proofs.PrintedWords.{date_word, four_places_spelt, four_places_word, tenths_spelt, tenths_word}
+use Rattle.rank_query.proofs.PrintedWords.{months_word, months_text_joins}
 use Rattle.rank_query.proofs.RegionWords.{edges_of, longitude-range}
 
 -- a number within limits is small
 small : (low high n : ℕ) → high < 10 ^ 4 → IsTrue (is_within low high n) → (n < 10 ^ 4) × (n < 2 ^ 64)
 small low high n few h = let below : n ≤ high = grind (arith, nat_tests) in (omega arith, omega arith)
+
+-- a number of degrees lies within its limits
+heat-range : (t : ℤ) → is_heat t ≡ true → (neg_ℤ (pos 1_000) ≤ℤ t) × (t ≤ℤ pos 1_000)
+heat-range t is = (grind (arith, ints), grind (arith, ints))
 
 -- the words of a score are words, and few
 score_printed : (s : Score) → is_score s ≡ true → AllByRecursion IsShortWord (score_words s)
@@ -36,6 +42,9 @@ score_printed (Sum n e) is =
     ((known_word (codes "sum") refl, (decimal_word n few.0 few.1, (code_word e, tt))), omega arith)
 score_printed Dry is = ((known_word (codes "dry") refl, tt), omega arith)
 score_printed Wet is = ((known_word (codes "wet") refl, tt), omega arith)
+score_printed (Hot t) is =
+    let range = heat-range t is in
+    ((known_word (codes "hot") refl, (tenths_word t range.0 range.1, tt)), omega arith)
 
 -- and spell it
 score_spelt : (s : Score) → is_score s ≡ true → SpellsScore (score_words s) s
@@ -48,6 +57,7 @@ score_spelt (Sum n e) is = (
 )
 score_spelt Dry is = refl
 score_spelt Wet is = refl
+score_spelt (Hot t) is = let range = heat-range t is in (tenths t, tenths_spelt t range.0 range.1, refl)
 
 -- the edges of a box that can be asked for, in ten-thousandths of a degree
 record AreDegrees (south west north east : ℤ) : Type 0 where
@@ -120,6 +130,25 @@ region_spelt (Country code) is = refl
 region_spelt (State code) is = refl
 region_spelt (Only id) is = refl
 
+-- a month is one of twelve
+twelve : (m : ℕ) → is_month m ≡ true → m ≤ 12
+twelve m is = grind (arith, nat_tests)
+
+-- the words of a season are words, and few
+season_printed : (s : Option (ℕ × ℕ)) → is_season s ≡ true → AllByRecursion IsShortWord (season_words s)
+    × (length (season_words s) ≤ 2)
+season_printed None is = (tt, omega arith)
+season_printed (Some s) is =
+    let both = and_parts (is_month s.0) (is_month s.1) is in
+    ((known_word (codes "months") refl, (months_word s (twelve s.0 both.0) (twelve s.1 both.1), tt)), omega arith)
+
+-- and spell it
+season_spelt : (s : Option (ℕ × ℕ)) → is_season s ≡ true → SpellsSeason (season_words s) s
+season_spelt None is = refl
+season_spelt (Some s) is =
+    let both = and_parts (is_month s.0) (is_month s.1) is in
+    (months_text s, months_text_joins s (twelve s.0 both.0) (twelve s.1 both.1), refl)
+
 -- the words of a period are words, and few
 period_printed : (p : Option (ℤ × ℤ)) → AllByRecursion IsShortWord (period_words p) × (length (period_words p) ≤ 4)
 period_printed None = (tt, omega arith)
@@ -145,13 +174,15 @@ canonical q is =
     let rows = small 1 1000 q.k (omega arith) is.k in
     let score = score_printed q.score is.score in
     let region = region_printed q.region is.region in
+    let season = season_printed q.season is.season in
     let period = period_printed q.period in
-    let front = all_both (score_words q.score) (region_words q.region) score.0 region.0 in
+    let placed = all_both (score_words q.score) (region_words q.region) score.0 region.0 in
+    let front = all_both (score_words q.score ++ region_words q.region) (season_words q.season) placed season.0 in
     let all : AllByRecursion IsShortWord (query_words q) = (
       known_word (codes "top") refl,
       (
         decimal_word q.k rows.0 rows.1,
-        all_both (score_words q.score ++ region_words q.region)
+        all_both (score_words q.score ++ region_words q.region ++ season_words q.season)
             (period_words q.period) front period.0,
       ),
     ) in
@@ -160,11 +191,13 @@ canonical q is =
         k = decimal q.k;
         score = score_words q.score;
         region = region_words q.region;
+        season = season_words q.season;
         period = period_words q.period;
         words = words_of-join (query_words q) (short_words (query_words q) all);
         spells_k = decimal_numeral q.k rows.1;
         spells_score = score_spelt q.score is.score;
         spells_region = region_spelt q.region is.region;
+        spells_season = season_spelt q.season is.season;
         spells_period = period_spelt q.period;
       };
       line = record {
@@ -174,9 +207,12 @@ canonical q is =
           length-join (query_words q) all,
           score.1,
           region.1,
+          season.1,
           period.1,
           length-append (score_words q.score) (region_words q.region),
-          length-append (score_words q.score ++ region_words q.region) (period_words q.period),
+          length-append (score_words q.score ++ region_words q.region) (season_words q.season),
+          length-append (score_words q.score ++ region_words q.region ++ season_words q.season)
+              (period_words q.period),
         );
         printable = printable-join (query_words q) all;
       };

@@ -8,7 +8,7 @@ use Rattle.ghcn_fields.specs.Dates.{year_and_rest, month_and_day}
 use Rattle.ghcn_files.specs.declared.element.Element.TheVariants.{Tmax, Tmin, Prcp}
 use Rattle.ghcn_files.specs.declared.station.Station.{Station}
 use Rattle.rank_query.specs.declared.score.Score.{Score}
-use Rattle.rank_query.specs.declared.score.Score.TheVariants.{Highest, Lowest, Sum, Dry, Wet}
+use Rattle.rank_query.specs.declared.score.Score.TheVariants.{Highest, Lowest, Sum, Dry, Wet, Hot}
 use Rattle.rank_query.specs.declared.region.Region.{Region}
 use Rattle.rank_query.specs.declared.region.Region.TheVariants.{Everywhere, Inside, Country, State, Only}
 use Rattle.rank_query.specs.declared.fault.QueryFault.TheVariants.{QueryTooLong, UnexpectedWord, QueryEnds}
@@ -18,16 +18,17 @@ use Rattle.rank_query.specs.Admits.{region_holds, admits_day}
 use Rattle.rank_query.specs.QueryTexts.{query_text}
 use Rattle.rank_query.specs.Words.{words_of, says}
 use Rattle.rank_query.specs.Readers.{keyword}
-use Rattle.rank_query.specs.WordValues.{number, element, degrees, code, date}
-use Rattle.rank_query.specs.FaultKinds.{Place, number as a_number, edge, date as a_date, other as another, place_behind}
+use Rattle.rank_query.specs.WordValues.{number, element, heat, months, degrees, code, date}
+use Rattle.rank_query.specs.FaultKinds.{number as a_number, heat as a_heat, season as a_season, edge}
+use Rattle.rank_query.specs.FaultKinds.{date as a_date, other as another, place_behind}
 use Rattle.rank_query.specs.FaultPlaces.{BeginQuery, EndsTooEarly, StandsIn}
-use Rattle.rank_query.specs.Reading.{sum_at, no_score_at, score_at, box_at, region_at, days_at, period_at, read_words}
-use Rattle.rank_query.specs.Reading.{read_query}
+use Rattle.rank_query.specs.Reading.{sum_at, no_score_at, score_at, box_at, region_at, season_at, days_at, period_at}
+use Rattle.rank_query.specs.Reading.{read_words, read_query}
 use Rattle.rank_query.proofs.FaultPlaces.{fault_stands, one_place}
 
 -- a query of all stations and days
 abbrev asked : ℕ → Score → Asked
-asked k s = record { k = k; score = s; region = Everywhere; period = None }
+asked k s = record { k = k; score = s; region = Everywhere; season = None; period = None }
 
 -- the words of a text, whatever the blanks
 words : words_of (codes "  top 007  highest TMAX ") ≡ codes "top" ∷ codes "007" ∷ codes "highest" ∷ codes "TMAX" ∷ []
@@ -36,20 +37,20 @@ words = refl
 -- texts that are read
 read : (read_query (codes "top 1000 highest TMAX") ≡ Ok (asked 1000 (Highest Tmax)))
     × (read_query (codes " top  0001 highest   PRCP ") ≡ Ok (asked 1 (Highest Prcp)))
-unfolding read_query read_words keyword says number element score_at no_score_at region_at period_at
+unfolding read_query read_words keyword says number element score_at no_score_at region_at season_at period_at
 read = (refl, refl)
 
 -- k is from 1 to 1000, however many digits it has
 out_of_limits : (read_query (codes "top 1001 highest TMAX") ≡ Err (OutOfLimits 2))
     × (read_query (codes "top 0 highest TMAX") ≡ Err (OutOfLimits 2))
     × (read_query (codes "top 18446744073709551617 highest TMAX") ≡ Err (OutOfLimits 2))
-unfolding read_query read_words keyword says number element score_at no_score_at region_at period_at
+unfolding read_query read_words keyword says number element score_at no_score_at region_at season_at period_at
 out_of_limits = (refl, refl, refl)
 
 -- a word is needed and there is none
 ends : (read_query (codes "top 1") ≡ Err QueryEnds) × (read_query [] ≡ Err QueryEnds)
     × (read_query (codes "top 1 highest") ≡ Err QueryEnds)
-unfolding read_query read_words keyword says number element score_at no_score_at region_at period_at
+unfolding read_query read_words keyword says number element score_at no_score_at region_at season_at period_at
 ends = (refl, refl, refl)
 
 -- a word that doesn't stand there
@@ -57,14 +58,14 @@ unexpected : (read_query (codes "Top 1 highest TMAX") ≡ Err (UnexpectedWord 1)
     × (read_query (codes "top +1 highest TMAX") ≡ Err (UnexpectedWord 2))
     × (read_query (codes "top 1 highest TAVG") ≡ Err (UnexpectedWord 4))
     × (read_query (codes "top 1 highest TMAX TMAX") ≡ Err (UnexpectedWord 5))
-unfolding read_query read_words keyword says number element score_at no_score_at region_at period_at
+unfolding read_query read_words keyword says number element score_at no_score_at region_at season_at period_at
 unexpected = (refl, refl, refl, refl)
 
 -- the other scores
 scores : (read_query (codes "top 2 lowest TMIN") ≡ Ok (asked 2 (Lowest Tmin)))
     × (read_query (codes "top 1 sum 366 PRCP") ≡ Ok (asked 1 (Sum 366 Prcp)))
     × (read_query (codes "top  007 wet") ≡ Ok (asked 7 Wet)) × (read_query (codes "top 3 dry ") ≡ Ok (asked 3 Dry))
-unfolding read_query read_words keyword says number element score_at sum_at no_score_at region_at period_at
+unfolding read_query read_words keyword says number element score_at sum_at no_score_at region_at season_at period_at
 scores = (refl, refl, refl, refl)
 
 -- lowest values are of temperatures, and sums of rain or snow over 1 to 366 days
@@ -73,9 +74,9 @@ scores_refused : (read_query (codes "top 1 lowest PRCP") ≡ Err (UnexpectedWord
     × (read_query (codes "top 1 sum 0 PRCP") ≡ Err (OutOfLimits 4))
     × (read_query (codes "top 1 sum 3 SNWD") ≡ Err (UnexpectedWord 5))
     × (read_query (codes "top 1 sum PRCP") ≡ Err (UnexpectedWord 4))
-    × (read_query (codes "top 1 hot 30") ≡ Err (UnexpectedWord 3))
+    × (read_query (codes "top 1 hotter 30") ≡ Err (UnexpectedWord 3))
     × (read_query (codes "top 1 dry PRCP") ≡ Err (UnexpectedWord 4))
-unfolding read_query read_words keyword says number element score_at sum_at no_score_at region_at period_at
+unfolding read_query read_words keyword says number element score_at sum_at no_score_at region_at season_at period_at
 scores_refused = (refl, refl, refl, refl, refl, refl, refl)
 
 -- the first of several faults of a box is told at its word: no latitude and no longitude,
@@ -85,7 +86,7 @@ boxes_refused : (read_query (codes "top 1 highest TMAX box -91 0 10 10") ≡ Err
     × (read_query (codes "top 1 highest TMAX box 0 181 0 x") ≡ Err (BadBox 7))
     × (read_query (codes "top 1 highest TMAX box 0 0 0 1.00000") ≡ Err (BadBox 9))
     × (read_query (codes "top 1 highest TMAX box 0 0 0") ≡ Err QueryEnds)
-unfolding read_query read_words keyword says number element score_at no_score_at region_at period_at box_at degrees
+unfolding read_query read_words keyword says number element score_at no_score_at region_at season_at period_at box_at degrees
 boxes_refused = (refl, refl, refl, refl, refl)
 
 -- a box over the date line, and one at the edges of the world
@@ -95,6 +96,7 @@ boxes_read : (read_query (codes "top 3 highest TMAX box -10 170 10.0000 -170") �
       score = Highest Tmax;
       region = Inside (neg_ℤ (pos 100_000)) (pos 1_700_000) (pos 100_000)
           (neg_ℤ (pos 1_700_000));
+      season = None;
       period = None;
     }))
     × (read_query (codes "top 3 highest TMAX box -90 -180.0 0090 180.0000") ≡ Ok
@@ -103,9 +105,10 @@ boxes_read : (read_query (codes "top 3 highest TMAX box -10 170 10.0000 -170") �
       score = Highest Tmax;
       region = Inside (neg_ℤ (pos 900_000)) (neg_ℤ (pos 1_800_000)) (pos 900_000)
           (pos 1_800_000);
+      season = None;
       period = None;
     }))
-unfolding read_query read_words keyword says number element score_at no_score_at region_at period_at box_at degrees
+unfolding read_query read_words keyword says number element score_at no_score_at region_at season_at period_at box_at degrees
 boxes_read = (refl, refl)
 
 -- codes of another length, and bytes that don't show in print
@@ -114,30 +117,69 @@ codes_refused : (read_query (codes "top 1 highest TMAX country ZZZ") ≡ Err (Un
     × (read_query (codes "top 1 highest TMAX station ZZA0000000") ≡ Err (UnexpectedWord 6))
     × (read_query (codes "top 1 highest TMAX country" ++ 32 ∷ 127 ∷ 33 ∷ []) ≡ Err (UnexpectedWord 6))
     × (read_query (codes "top 1 highest TMAX state NY country ZZ") ≡ Err (UnexpectedWord 7))
-unfolding read_query read_words keyword says number element score_at no_score_at region_at period_at code
+unfolding read_query read_words keyword says number element score_at no_score_at region_at season_at period_at code
 codes_refused = (refl, refl, refl, refl, refl)
 
 -- codes that are read
 codes_read : (read_query (codes "top 1 highest TMAX state NY") ≡ Ok
-    (record { k = 1; score = Highest Tmax; region = State (codes "NY"); period = None }))
+    (record { k = 1; score = Highest Tmax; region = State (codes "NY"); season = None; period = None }))
     × (read_query (codes "top 1 highest TMAX country from") ≡ Err (UnexpectedWord 6))
     × (read_query (codes "top 1 highest TMAX country ZZ") ≡ Ok
-    (record { k = 1; score = Highest Tmax; region = Country (codes "ZZ"); period = None }))
+    (record { k = 1; score = Highest Tmax; region = Country (codes "ZZ"); season = None; period = None }))
     × (read_query (codes "top 1 highest TMAX station ZZA00000003") ≡ Ok
-    (record { k = 1; score = Highest Tmax; region = Only (record { 0 = codes "ZZA00000003" }); period = None }))
-unfolding read_query read_words keyword says number element score_at no_score_at region_at period_at code
+    (record { k = 1; score = Highest Tmax; region = Only (record { 0 = codes "ZZA00000003" }); season = None; period = None }))
+unfolding read_query read_words keyword says number element score_at no_score_at region_at season_at period_at code
 codes_read = (refl, refl, refl, refl)
+
+-- degrees, with a minus or without, and with one decimal at most
+heats_read : (read_query (codes "top 2 hot 30") ≡ Ok (asked 2 (Hot (pos 300))))
+    × (read_query (codes "top 1 hot -0") ≡ Ok (asked 1 (Hot (pos 0))))
+    × (read_query (codes "top 1 hot -00.5") ≡ Ok (asked 1 (Hot (neg_ℤ (pos 5)))))
+    × (read_query (codes "top 1 hot 100.0") ≡ Ok (asked 1 (Hot (pos 1_000))))
+unfolding read_query read_words keyword says number heat score_at no_score_at region_at season_at period_at
+heats_read = (refl, refl, refl, refl)
+
+-- from -100 to 100 degrees, however many digits there are
+heats_refused : (read_query (codes "top 1 hot 100.1") ≡ Err (OutOfLimits 4))
+    × (read_query (codes "top 1 hot -100.1") ≡ Err (OutOfLimits 4))
+    × (read_query (codes "top 1 hot 99999999999999999999") ≡ Err (OutOfLimits 4))
+    × (read_query (codes "top 1 hot 30.05") ≡ Err (UnexpectedWord 4))
+    × (read_query (codes "top 1 hot 30.") ≡ Err (UnexpectedWord 4))
+    × (read_query (codes "top 1 hot +30") ≡ Err (UnexpectedWord 4)) × (read_query (codes "top 1 hot") ≡ Err QueryEnds)
+unfolding read_query read_words keyword says number heat score_at no_score_at region_at season_at period_at
+heats_refused = (refl, refl, refl, refl, refl, refl, refl)
+
+-- dry days of some months
+abbrev dry_in : ℕ × ℕ → Asked
+dry_in s = record { k = 1; score = Dry; region = Everywhere; season = Some s; period = None }
+
+-- seasons, of one year or over its turn
+seasons_read : (read_query (codes "top 1 dry months 6..6") ≡ Ok (dry_in (6, 6)))
+    × (read_query (codes "top 1 dry months 012..02") ≡ Ok (dry_in (12, 2)))
+unfolding read_query read_words keyword says number months score_at no_score_at region_at season_at period_at
+seasons_read = (refl, refl)
+
+-- two numbers of 1 to 12 with two points between them, before a period
+seasons_refused : (read_query (codes "top 1 dry months 0..3") ≡ Err (OutOfLimits 5))
+    × (read_query (codes "top 1 dry months 1..13") ≡ Err (OutOfLimits 5))
+    × (read_query (codes "top 1 dry months 1-3") ≡ Err (UnexpectedWord 5))
+    × (read_query (codes "top 1 dry months 1.3") ≡ Err (UnexpectedWord 5))
+    × (read_query (codes "top 1 dry months 1...3") ≡ Err (UnexpectedWord 5))
+    × (read_query (codes "top 1 dry months ..3") ≡ Err (UnexpectedWord 5))
+    × (read_query (codes "top 1 dry months") ≡ Err QueryEnds)
+unfolding read_query read_words keyword says number months score_at no_score_at region_at season_at period_at
+seasons_refused = (refl, refl, refl, refl, refl, refl, refl)
 
 -- no dates
 dates_refused : (read_query (codes "top 1 highest TMAX from 2019-02-29 to 2019-03-01") ≡ Err (BadDate 6))
     × (read_query (codes "top 1 highest TMAX from 2020-07-01 2020-07-02") ≡ Err (UnexpectedWord 7))
     × (read_query (codes "top 1 highest TMAX from 2020-07-01 to") ≡ Err QueryEnds)
-unfolding read_query read_words keyword says number element score_at no_score_at region_at period_at days_at date
+unfolding read_query read_words keyword says number element score_at no_score_at region_at season_at period_at days_at date
 dates_refused = (refl, refl, refl)
 
 -- a text of 257 blanks is too long, one of 256 has no word
 too_long : (read_query (replicate 257 32) ≡ Err QueryTooLong) × (read_query (replicate 256 32) ≡ Err QueryEnds)
-unfolding read_query read_words keyword says number element score_at no_score_at region_at period_at
+unfolding read_query read_words keyword says number element score_at no_score_at region_at season_at period_at
 too_long = (refl, refl)
 
 -- what the grammar has behind words, of which the nearest comes first: K and the days of a sum, the four edges of a box,
@@ -155,6 +197,12 @@ edges_behind : map place_behind (
     ∷ [])
     ≡ edge ∷ edge ∷ edge ∷ another ∷ []
 edges_behind = refl
+
+-- degrees and months
+others_behind : map place_behind ((codes "hot" ∷ codes "1" ∷ []) ∷ (codes "30" ∷ codes "hot" ∷ [])
+    ∷ (codes "months" ∷ codes "dry" ∷ []) ∷ (codes "1..2" ∷ codes "months" ∷ []) ∷ [])
+    ≡ a_heat ∷ another ∷ a_season ∷ another ∷ []
+others_behind = refl
 
 -- of a period: "to" may be a country too
 dates_behind : map place_behind (
@@ -187,17 +235,19 @@ places = (
 begun : BeginQuery (codes "top" ∷ codes "007" ∷ codes "lowest" ∷ [])
 begun = record {
   query = asked 7 (Lowest Tmax);
-  can_be_asked = record { k = refl; score = refl; region = refl; period = refl };
+  can_be_asked = record { k = refl; score = refl; region = refl; season = refl; period = refl };
   more = codes "TMAX" ∷ [];
   spelt = record {
     k = codes "007";
     score = codes "lowest" ∷ codes "TMAX" ∷ [];
     region = [];
+    season = [];
     period = [];
     words = refl;
     spells_k = record { some_digit = omega arith; digits_alone = refl; value = refl };
     spells_score = refl;
     spells_region = refl;
+    spells_season = refl;
     spells_period = refl;
   };
 }
@@ -231,9 +281,16 @@ too_early =
 canonical_texts : (query_text (asked 1000 (Highest Tmax)) ≡ codes "top 1000 highest TMAX")
     × (query_text (asked 2 (Lowest Tmin)) ≡ codes "top 2 lowest TMIN")
     × (query_text (asked 5 (Sum 3 Prcp)) ≡ codes "top 5 sum 3 PRCP") × (query_text (asked 3 Dry) ≡ codes "top 3 dry")
-    × (query_text (asked 7 Wet) ≡ codes "top 7 wet")
+    × (query_text (asked 7 Wet) ≡ codes "top 7 wet") × (query_text (asked 1 (Hot (pos 0))) ≡ codes "top 1 hot 0.0")
+    × (query_text (asked 2 (Hot (neg_ℤ (pos 5)))) ≡ codes "top 2 hot -0.5")
+    × (query_text (asked 2 (Hot (pos 300))) ≡ codes "top 2 hot 30.0")
 unfolding digits
-canonical_texts = (refl, refl, refl, refl, refl)
+canonical_texts = (refl, refl, refl, refl, refl, refl, refl, refl)
+
+-- with a season
+season_text : query_text (dry_in (12, 2)) ≡ codes "top 1 dry months 12..2"
+unfolding digits
+season_text = refl
 
 -- with a region
 box_text : query_text (record {
@@ -241,6 +298,7 @@ box_text : query_text (record {
   score = Highest Tmax;
   region = Inside (neg_ℤ (pos 100_000)) (pos 1_700_000)
       (pos 100_000) (neg_ℤ (pos 1_700_000));
+  season = None;
   period = None;
 }) ≡ codes
     "top 3 highest TMAX box -10.0000 170.0000 10.0000 -170.0000"
@@ -249,26 +307,27 @@ box_text = refl
 
 -- less than one degree, and no degree at all
 small_box_text : query_text (record
-    { k = 1; score = Wet; region = Inside (neg_ℤ (pos 5)) (pos 0) (pos 12_345) (pos 1_800_000); period = None }) ≡
+    { k = 1; score = Wet; region = Inside (neg_ℤ (pos 5)) (pos 0) (pos 12_345) (pos 1_800_000); season = None; period = None }) ≡
     codes "top 1 wet box -0.0005 0.0000 1.2345 180.0000"
 unfolding digits
 small_box_text = refl
 
 -- with a code
-region_texts : (query_text (record { k = 1; score = Dry; region = Country (codes "ZZ"); period = None }) ≡ codes
+region_texts : (query_text (record { k = 1; score = Dry; region = Country (codes "ZZ"); season = None; period = None }) ≡ codes
     "top 1 dry country ZZ") × (query_text (record {
       k = 1;
       score = Dry;
       region = State (codes "NY");
+      season = None;
       period = None;
     }) ≡ codes "top 1 dry state NY")
-    × (query_text (record { k = 1; score = Dry; region = Only (record { 0 = codes "ZZA00000003" }); period = None }) ≡
+    × (query_text (record { k = 1; score = Dry; region = Only (record { 0 = codes "ZZA00000003" }); season = None; period = None }) ≡
     codes "top 1 dry station ZZA00000003")
 unfolding digits
 region_texts = (refl, refl, refl)
 
 -- with a period
-period_text : query_text (record { k = 1; score = Dry; region = Everywhere; period = Some (pos 18444, pos 18444) }) ≡
+period_text : query_text (record { k = 1; score = Dry; region = Everywhere; season = None; period = Some (pos 18444, pos 18444) }) ≡
     codes "top 1 dry from 2020-07-01 to 2020-07-01"
 unfolding digits year_and_rest month_and_day
 period_text = refl
@@ -320,7 +379,7 @@ by_code = refl
 
 -- the first and the last day of a period belong to it
 days : map (λ day. admits_day (record
-    { k = 1; score = Dry; region = Everywhere; period = Some (pos 18444, pos 18445) }) day)
+    { k = 1; score = Dry; region = Everywhere; season = None; period = Some (pos 18444, pos 18445) }) day)
     (pos 18443 ∷ pos 18444 ∷ pos 18445 ∷ pos 18446 ∷ []) ≡ false ∷ true ∷ true ∷ false ∷ []
 days = refl
 
@@ -328,3 +387,15 @@ days = refl
 all_days : map (λ day. admits_day (asked 1 Dry) day)
     (neg_ℤ (pos 719_163) ∷ neg_ℤ (pos 719_162) ∷ pos 2_932_896 ∷ pos 2_932_897 ∷ []) ≡ false ∷ true ∷ true ∷ false ∷ []
 all_days = refl
+
+-- a season over the turn of the year has its first and its last month: 2019-11-30 to 2019-12-01, 2020-01-31 to 2020-02-01
+winter : map (λ day. admits_day (dry_in (12, 1)) day) (pos 18230 ∷ pos 18231 ∷ pos 18292 ∷ pos 18293 ∷ [])
+    ≡ false ∷ true ∷ true ∷ false ∷ []
+unfolding year_and_rest month_and_day
+winter = refl
+
+-- one of one year has what lies between: 2020-05-31 to 2020-06-01, 2020-06-30 to 2020-07-01
+june : map (λ day. admits_day (dry_in (6, 6)) day) (pos 18413 ∷ pos 18414 ∷ pos 18443 ∷ pos 18444 ∷ [])
+    ≡ false ∷ true ∷ true ∷ false ∷ []
+unfolding year_and_rest month_and_day
+june = refl

@@ -14,36 +14,39 @@ use Rattle.ghcn_files.specs.declared.element.Element.{Element}
 use Rattle.ghcn_files.specs.Elements.{element_of}
 use Rattle.ghcn_files.specs.StationLines.{is_number_within, number_of}
 use Rattle.rank_query.specs.declared.score.Score.{Score}
-use Rattle.rank_query.specs.declared.score.Score.TheVariants.{Highest, Lowest, Sum, Dry, Wet}
+use Rattle.rank_query.specs.declared.score.Score.TheVariants.{Highest, Lowest, Sum, Dry, Wet, Hot}
 use Rattle.rank_query.specs.declared.region.Region.{Region}
 use Rattle.rank_query.specs.declared.region.Region.TheVariants.{Everywhere, Inside, Country, State, Only}
 use Rattle.rank_query.specs.declared.fault.QueryFault.{QueryFault}
 use Rattle.rank_query.specs.declared.fault.QueryFault.TheVariants.{QueryTooLong, UnexpectedWord, QueryEnds}
 use Rattle.rank_query.specs.declared.fault.QueryFault.TheVariants.{OutOfLimits, BadDate, BadBox, EmptyPeriod}
-use Rattle.rank_query.specs.Asked.{Asked, is_temperature, is_fall, is_code}
+use Rattle.rank_query.specs.Asked.{Asked, is_temperature, is_fall, is_heat, is_month, is_code}
 use Rattle.rank_query.specs.Words.{Word, says, words_of, numbered_words}
 use Rattle.rank_query.specs.Readers.{◌>>=◌, Read, or_fault, keyword, one_word, made_into, by_word}
-use Rattle.rank_query.specs.WordValues.{number, element, degrees, code, date}
-use Rattle.rank_query.specs.Reading.{no_score_at, highest_at, lowest_at, sum_at, dry_at, wet_at, score_at}
+use Rattle.rank_query.specs.WordValues.{number, element, heat, months, degrees, code, date, tenths_of, two_numbers}
+use Rattle.rank_query.specs.Reading.{no_score_at, highest_at, lowest_at, sum_at, dry_at, wet_at, hot_at, score_at}
 use Rattle.rank_query.specs.Reading.{latitude_from, longitude, box_at, country_at, state_at, station_at}
-use Rattle.rank_query.specs.Reading.{everywhere_at, region_at, days_at, between_at, always_at, period_at}
+use Rattle.rank_query.specs.Reading.{everywhere_at, region_at, months_at, all_year_at, season_at}
+use Rattle.rank_query.specs.Reading.{days_at, between_at, always_at, period_at}
 use Rattle.rank_query.specs.Reading.{nothing_more, read_words, read_query}
-use Rattle.rank_query.specs.FaultKinds.{place_behind, number as a_number, edge, date as a_date, other, is_digits}
-use Rattle.rank_query.specs.FaultKinds.{is_date, is_behind_box, is_behind_first_day, IsFaultOf, IsFaultAmong}
+use Rattle.rank_query.specs.FaultKinds.{place_behind, number as a_number, edge, date as a_date, other}
+use Rattle.rank_query.specs.FaultKinds.{has_form, is_date, is_behind_box, is_behind_first_day, IsFaultOf, IsFaultAmong}
 use Rattle.rank_query.proofs.ReadingSteps.{said, unnumbered, unnumbered-enumerate_from}
 use Rattle.rank_query.proofs.Spellings.{asked}
 use Rattle.rank_query.proofs.FaultPlaces.{place_of}
 use Rattle.rank_query.proofs.Places.{IsSettled, IsNoKeyword, HaveOtherLengths, not_both, settled_word, edge_more}
-use Rattle.rank_query.proofs.Places.{edge_less, edge_place, number_no_keyword, degrees_no_keyword, code_no_keyword}
-use Rattle.rank_query.proofs.Places.{date_no_keyword, element_settled, degrees_decimal, day_date}
+use Rattle.rank_query.proofs.Places.{edge_less, edge_place, number_no_keyword, heat_no_keyword, months_no_keyword}
+use Rattle.rank_query.proofs.Places.{degrees_no_keyword, code_no_keyword, date_no_keyword, element_settled}
+use Rattle.rank_query.proofs.Places.{degrees_decimal, day_date}
+use Rattle.rank_query.proofs.WordStops.{limited}
 
 -- the fault of a word that is wrong behind these, told by the word's number
 abbrev IsKind : QueryFault → ℕ → List (List ℕ) → List ℕ → Type 0
 IsKind QueryTooLong n past word = ⊥
 IsKind (UnexpectedWord m) n past word =
-    (m ≡ n) × ((place_behind past ≡ other) ⊎ ((place_behind past ≡ a_number) × (is_digits word ≡ false)))
+    (m ≡ n) × ((place_behind past ≡ other) ⊎ (has_form (place_behind past) word ≡ Some false))
 IsKind QueryEnds n past word = ⊥
-IsKind (OutOfLimits m) n past word = (m ≡ n) × (place_behind past ≡ a_number) × (is_digits word ≡ true)
+IsKind (OutOfLimits m) n past word = (m ≡ n) × (has_form (place_behind past) word ≡ Some true)
 IsKind (BadDate m) n past word = (m ≡ n) × (place_behind past ≡ a_date) × (is_date word ≡ false)
 IsKind (BadBox m) n past word = (m ≡ n) × (place_behind past ≡ edge)
 IsKind EmptyPeriod n past word = (place_behind past ≡ a_date) × (is_date word ≡ true)
@@ -176,24 +179,46 @@ rows_part [] otherwise rows others = others
 rows_part (row ∷ table) otherwise rows others =
     row_step row.0 row.1 table otherwise rows.0 (rows_part table otherwise rows.1 others)
 
--- the kind of a fault of a number
+-- what stands at the place behind some words has a form, and a value is read of what has it
+abbrev ReadByForm : {A : Type 0} → (List ℕ → Option A) → List (List ℕ) → Type 0
+ReadByForm read past = (word : List ℕ) → has_form (place_behind past) word ≡ Some (is_some (read word))
+
+-- the kind of a fault of a value with limits
+limited_kind : {A : Type 0} (read : List ℕ → Option A) (within : A → Bool) (past : List (List ℕ))
+    → ReadByForm read past → (w : Word) (f : QueryFault) → limited read within w ≡ Err f → IsKind f w.0 past w.1
+limited_kind {A} read within past form w f e = by_value (read w.1) refl e where
+  by_test : (b : Bool) (x : A) → has_form (place_behind past) w.1 ≡ Some true → ◌≡◌ {A = Result A QueryFault}
+      (cond b (Ok x) (Err (OutOfLimits w.0))) (Err f) → IsKind f w.0 past w.1
+  by_test true x is e = absurd cc
+  by_test false x is e =
+      let same : OutOfLimits w.0 ≡ f = cc in subst (λ f. IsKind f w.0 past w.1) same (refl, is)
+
+  by_value : (o : Option A) → read w.1 ≡ o
+      → (or_fault (UnexpectedWord w.0) o >>= λ x. cond (within x) (Ok x) (Err (OutOfLimits w.0))) ≡ Err f
+      → IsKind f w.0 past w.1
+  by_value None is e =
+      let same : UnexpectedWord w.0 ≡ f = cc in subst (λ f. IsKind f w.0 past w.1) same
+      (refl, inr (form w.1 ∙ ap (λ o. Some (is_some o)) is))
+  by_value (Some x) is e = by_test (within x) x (form w.1 ∙ ap (λ o. Some (is_some o)) is) e
+
+-- of a number
 number_kind : (low high : ℕ) (past : List (List ℕ)) → place_behind past ≡ a_number → (w : Word) (f : QueryFault)
     → number low high w ≡ Err f → IsKind f w.0 past w.1
 unfolding number
-number_kind low high past place w f e = by_number (natural w.1) refl e where
-  by_test : (b : Bool) (m : ℕ) → is_digits w.1 ≡ true → ◌≡◌ {A = Result ℕ QueryFault}
-      (cond b (Ok m) (Err (OutOfLimits w.0))) (Err f) → IsKind f w.0 past w.1
-  by_test true m is e = absurd cc
-  by_test false m is e =
-      let same : OutOfLimits w.0 ≡ f = cc in subst (λ f. IsKind f w.0 past w.1) same (refl, place, is)
+number_kind low high past place w f e = limited_kind natural (is_within low high) past
+    (λ word. ap (λ p. has_form p word) place) w f e
 
-  by_number : (o : Option ℕ) → natural w.1 ≡ o
-      → (or_fault (UnexpectedWord w.0) o >>= λ m. cond (is_within low high m) (Ok m) (Err (OutOfLimits w.0))) ≡ Err f
-      → IsKind f w.0 past w.1
-  by_number None is e =
-      let same : UnexpectedWord w.0 ≡ f = cc in subst (λ f. IsKind f w.0 past w.1) same
-      (refl, inr (place, ap is_some is))
-  by_number (Some m) is e = by_test (is_within low high m) m (ap is_some is) e
+-- of degrees from which on a day is hot
+heat_kind : (past : List (List ℕ)) → ReadByForm tenths_of past → (w : Word) (f : QueryFault) → heat w ≡ Err f
+    → IsKind f w.0 past w.1
+unfolding heat
+heat_kind past form w f e = limited_kind tenths_of is_heat past form w f e
+
+-- of the months of a season
+months_kind : (past : List (List ℕ)) → ReadByForm two_numbers past → (w : Word) (f : QueryFault) → months w ≡ Err f
+    → IsKind f w.0 past w.1
+unfolding months
+months_kind past form w f e = limited_kind two_numbers (λ s. is_month s.0 && is_month s.1) past form w f e
 
 -- of an element
 element_kind : (allows : Element → Bool) (past : List (List ℕ)) → IsSettled past → (w : Word) (f : QueryFault)
@@ -267,6 +292,15 @@ sum_row = λ past ws g fault e next.
     (λ v x rest is e.
     further behind v rest fault (next (v.1 ∷ behind) (Sum n x) rest (element_settled is_fall v x behind is) e))))
 
+-- degrees from which on a day is hot
+hot_row : Row Score (codes "hot") hot_at
+hot_row = λ past ws g fault e next.
+    let hot : List (List ℕ) = codes "hot" ∷ past in
+    one_step heat (λ p. g (Hot p.0, p.1)) hot ws fault (sym (made_then Hot (one_word heat ws) g) ∙ e)
+    (heat_kind hot (λ word. refl))
+    (λ w t rest is e. further hot w rest fault (next (w.1 ∷ hot) (Hot t) rest
+    (settled_word w.1 hot (heat_no_keyword w t is) refl refl) e))
+
 -- a word alone
 word_row : {A : Type 0} (text : List ℕ) (y : A) → ((past : List (List ℕ)) → IsSettled (text ∷ past))
     → Row A text (λ ws. Ok (y, ws))
@@ -288,11 +322,14 @@ score_part : Part Score score_at
 unfolding score_at
 score_part =
     rows_part ((codes "highest", highest_at) ∷ (codes "lowest", lowest_at) ∷ (codes "sum", sum_at) ∷
-    (codes "dry", dry_at) ∷ (codes "wet", wet_at) ∷ []) no_score_at (
+    (codes "dry", dry_at) ∷ (codes "wet", wet_at) ∷ (codes "hot", hot_at) ∷ []) no_score_at (
       element_row (codes "highest") (λ e. true) Highest (λ past. refl),
       (
         element_row (codes "lowest") is_temperature Lowest (λ past. refl),
-        (sum_row, (word_row (codes "dry") Dry (λ past. refl), (word_row (codes "wet") Wet (λ past. refl), tt))),
+        (
+          sum_row,
+          (word_row (codes "dry") Dry (λ past. refl), (word_row (codes "wet") Wet (λ past. refl), (hot_row, tt))),
+        ),
       ),
     ) no_score
 
@@ -380,10 +417,24 @@ region_part =
     ) (always_part Everywhere)
   where
     two : HaveOtherLengths 2
-    two = record { box = refl; top = refl; sum = refl; from = refl }
+    two = record { box = refl; top = refl; sum = refl; hot = refl; months = refl; from = refl }
 
     eleven : HaveOtherLengths 11
-    eleven = record { box = refl; top = refl; sum = refl; from = refl }
+    eleven = record { box = refl; top = refl; sum = refl; hot = refl; months = refl; from = refl }
+
+-- two months behind "months"
+months_row : Row (Option (ℕ × ℕ)) (codes "months") months_at
+months_row = λ past ws g fault e next.
+    let front : List (List ℕ) = codes "months" ∷ past in
+    one_step months (λ p. g (Some p.0, p.1)) front ws fault (sym (made_then Some (one_word months ws) g) ∙ e)
+    (months_kind front (λ word. refl))
+    (λ w s rest is e. further front w rest fault (next (w.1 ∷ front) (Some s) rest
+    (settled_word w.1 front (months_no_keyword w s is) refl refl) e))
+
+-- a season
+season_part : Part (Option (ℕ × ℕ)) season_at
+unfolding season_at
+season_part = rows_part ((codes "months", months_at) ∷ []) all_year_at (months_row, tt) (always_part None)
 
 -- two days behind "from"
 days_row : Row (Option (ℤ × ℤ)) (codes "from") between_at
@@ -442,8 +493,9 @@ words_kind ws fault e =
     score_part (v.1 ∷ top) rest _ fault (settled_word v.1 top (number_no_keyword 1 1000 v k is) refl refl) e
     (λ past s rest settled e.
     region_part past rest _ fault settled e (λ past r rest settled e.
-    period_part past rest (λ p. nothing_more p.1 (asked k s r p.0)) fault settled e (λ past p rest settled e.
-    nothing_kind past rest (asked k s r p) fault settled e))))))
+    season_part past rest _ fault settled e (λ past t rest settled e.
+    period_part past rest (λ p. nothing_more p.1 (asked k s r t p.0)) fault settled e (λ past p rest settled e.
+    nothing_kind past rest (asked k s r t p) fault settled e)))))))
 
 -- the number of the fault's word is one more than there are words before it
 numbered : (fault : QueryFault) (n : ℕ) (past : List (List ℕ)) (word : List ℕ) → n ≡ length past + 1
@@ -451,7 +503,7 @@ numbered : (fault : QueryFault) (n : ℕ) (past : List (List ℕ)) (word : List 
 numbered QueryTooLong n past word at is = absurd is
 numbered (UnexpectedWord m) n past word at is = (is.0 ∙ at, is.1)
 numbered QueryEnds n past word at is = absurd is
-numbered (OutOfLimits m) n past word at is = (is.0 ∙ at, is.1, is.2)
+numbered (OutOfLimits m) n past word at is = (is.0 ∙ at, is.1)
 numbered (BadDate m) n past word at is = (is.0 ∙ at, is.1, is.2)
 numbered (BadBox m) n past word at is = (is.0 ∙ at, is.1)
 numbered EmptyPeriod n past word at is = is

@@ -5,6 +5,8 @@ pub mod ReadingSteps
 pub mod WordValues
 pub mod ScoreWords
 pub mod RegionWords
+pub mod Months
+pub mod SeasonWords
 pub mod PeriodWords
 pub mod Spellings
 pub mod PrintedWords
@@ -15,6 +17,7 @@ pub mod PartStops
 pub mod WordStops
 pub mod ScoreStops
 pub mod RegionStops
+pub mod SeasonStops
 pub mod PeriodStops
 pub mod QueryStops
 pub mod FaultPlaces

@@ -12,11 +12,12 @@ use Rattle.rank_query.specs.Asked.{is_period}
 use Rattle.rank_query.specs.Words.{Word, says}
 use Rattle.rank_query.specs.Readers.{keyword, one_word, made_into}
 use Rattle.rank_query.specs.WordValues.{date}
-use Rattle.rank_query.specs.Reading.{region_at, days_at, between_at, always_at, period_at}
+use Rattle.rank_query.specs.Reading.{region_at, season_at, days_at, between_at, always_at, period_at}
 use Rattle.rank_query.specs.Spelling.{SpellsPeriod}
 use Rattle.rank_query.proofs.ReadingSteps.{bind_ok, test_ok, keyword_took, one_word_took, made_into_took}
 use Rattle.rank_query.proofs.ReadingSteps.{by_word_took, Took, behind_took, words_took, one_word_again}
 use Rattle.rank_query.proofs.RegionWords.{BeginsNoRegion}
+use Rattle.rank_query.proofs.SeasonWords.{BeginsNoSeason}
 use Rattle.rank_query.proofs.WordValues.{date_written, written_date}
 
 -- the days that were read are written there
@@ -78,3 +79,11 @@ period_no_region None words spelt =
     λ n. subst (λ ws. region_at (enumerate_from n ws) ≡ Ok (Everywhere, enumerate_from n ws)) (sym spelt) refl
 period_no_region (Some p) words spelt =
     λ n. subst (λ ws. region_at (enumerate_from n ws) ≡ Ok (Everywhere, enumerate_from n ws)) (sym spelt) refl
+
+-- nor a season
+pub period_no_season : (p : Option (ℤ × ℤ)) (words : List (List ℕ)) → SpellsPeriod words p → BeginsNoSeason words
+unfolding season_at says
+period_no_season None words spelt =
+    λ n. subst (λ ws. season_at (enumerate_from n ws) ≡ Ok (None, enumerate_from n ws)) (sym spelt) refl
+period_no_season (Some p) words spelt =
+    λ n. subst (λ ws. season_at (enumerate_from n ws) ≡ Ok (None, enumerate_from n ws)) (sym spelt) refl

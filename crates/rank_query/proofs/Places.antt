@@ -1,5 +1,5 @@
 -- What the grammar has behind the words that were read.
-use Rattle.std.proofs.Common.{◌≡◌, ℕ, suc, Bool, true, false, cond, ◌&&◌, ◌||◌, List, [], ◌∷◌, Option, Some, None}
+use Rattle.std.proofs.Common.{◌≡◌, ℕ, suc, Bool, true, false, cond, ◌&&◌, ◌||◌, List, ◌∷◌}
 use Rattle.std.proofs.Common.{Result, Ok, Err, codes, refl, sym, ap, ◌∙◌, subst, is_some}
 use Rattle.std.specs.Prelude.{ℤ}
 use Rattle.std.specs.Cmp.Lexicographic.{bytes_decides}
@@ -16,8 +16,9 @@ use Rattle.rank_query.specs.declared.fault.QueryFault.{QueryFault}
 use Rattle.rank_query.specs.declared.fault.QueryFault.TheVariants.{UnexpectedWord, BadDate, BadBox}
 use Rattle.rank_query.specs.Asked.{is_code}
 use Rattle.rank_query.specs.Words.{Word}
-use Rattle.rank_query.specs.WordValues.{number, element, degrees, code, date}
-use Rattle.rank_query.specs.FaultKinds.{Place, number as a_number, edge, date as a_date, other, is_number, is_decimal}
+use Rattle.rank_query.specs.WordValues.{number, element, heat, months, degrees, code, date}
+use Rattle.rank_query.specs.FaultKinds.{number as a_number, heat as a_heat, season as a_season, edge}
+use Rattle.rank_query.specs.FaultKinds.{date as a_date, other, is_number, is_decimal}
 use Rattle.rank_query.specs.FaultKinds.{is_date, is_behind_box, is_behind_first_day, is_behind_from, is_behind}
 use Rattle.rank_query.specs.FaultKinds.{place_behind}
 use Rattle.rank_query.proofs.ReadingSteps.{or_fault_ok}
@@ -27,19 +28,23 @@ use Rattle.rank_query.proofs.WordValues.{element_code}
 abbrev pub IsSettled : List (List ℕ) → Type 0
 IsSettled past = place_behind past ≡ other
 
--- a word is none of those behind which a number, an edge or a first date stands
+-- a word is none of those behind which a number, degrees, an edge, months or a first date stand
 pub record IsNoKeyword (w : List ℕ) : Type 0 where
   pub box : same_bytes w (codes "box") ≡ false
   pub top : same_bytes w (codes "top") ≡ false
   pub sum : same_bytes w (codes "sum") ≡ false
+  pub hot : same_bytes w (codes "hot") ≡ false
+  pub months : same_bytes w (codes "months") ≡ false
   pub from : same_bytes w (codes "from") ≡ false
 
 -- a place is another one where each test fails
-none_of_three : (a b c : Bool) → a ≡ false → b ≡ false → c ≡ false
-    → cond a edge (cond b a_number (cond c a_date other)) ≡ other
-none_of_three a b c p q r =
-    ap (λ t. cond t edge (cond b a_number (cond c a_date other))) p
-    ∙ ap (λ t. cond t a_number (cond c a_date other)) q ∙ ap (λ t. cond t a_date other) r
+none_of_five : (a b c d e : Bool) → a ≡ false → b ≡ false → c ≡ false → d ≡ false → e ≡ false
+    → cond a edge (cond b a_number (cond c a_heat (cond d a_season (cond e a_date other)))) ≡ other
+none_of_five a b c d e p q r s t =
+    ap (λ x. cond x edge (cond b a_number (cond c a_heat (cond d a_season (cond e a_date other))))) p
+    ∙ ap (λ x. cond x a_number (cond c a_heat (cond d a_season (cond e a_date other)))) q
+    ∙ ap (λ x. cond x a_heat (cond d a_season (cond e a_date other))) r
+    ∙ ap (λ x. cond x a_season (cond e a_date other)) s ∙ ap (λ x. cond x a_date other) t
 
 -- tests of which both fail
 neither : (a b : Bool) → a ≡ false → b ≡ false → (a || b) ≡ false
@@ -59,11 +64,12 @@ second false b e = e
 pub settled_word : (v : List ℕ) (past : List (List ℕ)) → IsNoKeyword v → is_behind_box 2 past ≡ false
     → is_behind_first_day past ≡ false → IsSettled (v ∷ past)
 settled_word v past word box day =
-    none_of_three (is_behind_box 3 (v ∷ past))
-    (is_behind (codes "top") (v ∷ past) || is_behind (codes "sum") (v ∷ past)) (is_behind_from (v ∷ past))
+    none_of_five (is_behind_box 3 (v ∷ past))
+    (is_behind (codes "top") (v ∷ past) || is_behind (codes "sum") (v ∷ past)) (is_behind (codes "hot") (v ∷ past))
+    (is_behind (codes "months") (v ∷ past)) (is_behind_from (v ∷ past))
     (neither (same_bytes v (codes "box")) (is_decimal v && is_behind_box 2 past) word.box
     (not_both (is_decimal v) (is_behind_box 2 past) box))
-    (neither (same_bytes v (codes "top")) (same_bytes v (codes "sum")) word.top word.sum)
+    (neither (same_bytes v (codes "top")) (same_bytes v (codes "sum")) word.top word.sum) word.hot word.months
     (neither (same_bytes v (codes "from")) (same_bytes v (codes "to") && is_behind_first_day past) word.from
     (not_both (same_bytes v (codes "to")) (is_behind_first_day past) day))
 
@@ -85,7 +91,8 @@ edge_less n w past apart behind =
 pub edge_place : (past : List (List ℕ)) → is_behind_box 3 past ≡ true → place_behind past ≡ edge
 edge_place past is =
     ap (λ t. cond t edge (cond (is_behind (codes "top") past || is_behind (codes "sum") past) a_number
-    (cond (is_behind_from past) a_date other))) is
+    (cond (is_behind (codes "hot") past) a_heat (cond (is_behind (codes "months") past) a_season
+    (cond (is_behind_from past) a_date other))))) is
 
 -- a word with a value isn't one without
 not_same : {A : Type 0} (value : Word → Result A QueryFault) (w : Word) (x : A) (text : List ℕ) (fault : QueryFault)
@@ -105,16 +112,44 @@ number_no_keyword low high w n e = record {
   box = not_same (number low high) w n (codes "box") (UnexpectedWord w.0) e refl;
   top = not_same (number low high) w n (codes "top") (UnexpectedWord w.0) e refl;
   sum = not_same (number low high) w n (codes "sum") (UnexpectedWord w.0) e refl;
+  hot = not_same (number low high) w n (codes "hot") (UnexpectedWord w.0) e refl;
+  months = not_same (number low high) w n (codes "months") (UnexpectedWord w.0) e refl;
   from = not_same (number low high) w n (codes "from") (UnexpectedWord w.0) e refl;
 }
 
--- nor are degrees
+-- nor are degrees from which on a day is hot
+pub heat_no_keyword : (w : Word) (t : ℤ) → heat w ≡ Ok t → IsNoKeyword w.1
+unfolding heat
+heat_no_keyword w t e = record {
+  box = not_same heat w t (codes "box") (UnexpectedWord w.0) e refl;
+  top = not_same heat w t (codes "top") (UnexpectedWord w.0) e refl;
+  sum = not_same heat w t (codes "sum") (UnexpectedWord w.0) e refl;
+  hot = not_same heat w t (codes "hot") (UnexpectedWord w.0) e refl;
+  months = not_same heat w t (codes "months") (UnexpectedWord w.0) e refl;
+  from = not_same heat w t (codes "from") (UnexpectedWord w.0) e refl;
+}
+
+-- nor are the months of a season
+pub months_no_keyword : (w : Word) (s : ℕ × ℕ) → months w ≡ Ok s → IsNoKeyword w.1
+unfolding months
+months_no_keyword w s e = record {
+  box = not_same months w s (codes "box") (UnexpectedWord w.0) e refl;
+  top = not_same months w s (codes "top") (UnexpectedWord w.0) e refl;
+  sum = not_same months w s (codes "sum") (UnexpectedWord w.0) e refl;
+  hot = not_same months w s (codes "hot") (UnexpectedWord w.0) e refl;
+  months = not_same months w s (codes "months") (UnexpectedWord w.0) e refl;
+  from = not_same months w s (codes "from") (UnexpectedWord w.0) e refl;
+}
+
+-- nor are degrees of a box
 pub degrees_no_keyword : (low high : ℤ) (w : Word) (z : ℤ) → degrees low high w ≡ Ok z → IsNoKeyword w.1
 unfolding degrees
 degrees_no_keyword low high w z e = record {
   box = not_same (degrees low high) w z (codes "box") (BadBox w.0) e refl;
   top = not_same (degrees low high) w z (codes "top") (BadBox w.0) e refl;
   sum = not_same (degrees low high) w z (codes "sum") (BadBox w.0) e refl;
+  hot = not_same (degrees low high) w z (codes "hot") (BadBox w.0) e refl;
+  months = not_same (degrees low high) w z (codes "months") (BadBox w.0) e refl;
   from = not_same (degrees low high) w z (codes "from") (BadBox w.0) e refl;
 }
 
@@ -123,6 +158,8 @@ pub record HaveOtherLengths (len : ℕ) : Type 0 where
   pub box : is_code len (codes "box") ≡ false
   pub top : is_code len (codes "top") ≡ false
   pub sum : is_code len (codes "sum") ≡ false
+  pub hot : is_code len (codes "hot") ≡ false
+  pub months : is_code len (codes "months") ≡ false
   pub from : is_code len (codes "from") ≡ false
 
 -- so no code is a keyword
@@ -135,6 +172,10 @@ code_no_keyword len w c lengths e = record {
       (ap (λ b. cond b (Ok (codes "top")) (Err (UnexpectedWord w.0))) lengths.top);
   sum = not_same (code len) w c (codes "sum") (UnexpectedWord w.0) e
       (ap (λ b. cond b (Ok (codes "sum")) (Err (UnexpectedWord w.0))) lengths.sum);
+  hot = not_same (code len) w c (codes "hot") (UnexpectedWord w.0) e
+      (ap (λ b. cond b (Ok (codes "hot")) (Err (UnexpectedWord w.0))) lengths.hot);
+  months = not_same (code len) w c (codes "months") (UnexpectedWord w.0) e
+      (ap (λ b. cond b (Ok (codes "months")) (Err (UnexpectedWord w.0))) lengths.months);
   from = not_same (code len) w c (codes "from") (UnexpectedWord w.0) e
       (ap (λ b. cond b (Ok (codes "from")) (Err (UnexpectedWord w.0))) lengths.from);
 }
@@ -146,6 +187,8 @@ date_no_keyword w day e = record {
   box = not_same date w day (codes "box") (BadDate w.0) e refl;
   top = not_same date w day (codes "top") (BadDate w.0) e refl;
   sum = not_same date w day (codes "sum") (BadDate w.0) e refl;
+  hot = not_same date w day (codes "hot") (BadDate w.0) e refl;
+  months = not_same date w day (codes "months") (BadDate w.0) e refl;
   from = not_same date w day (codes "from") (BadDate w.0) e refl;
 }
 

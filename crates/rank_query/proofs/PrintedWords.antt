@@ -7,20 +7,21 @@ use Rattle.std.specs.Char.{is_ascii_digit, digit_value}
 use Rattle.std.specs.Str.Parse.{AllDigits, digits_value}
 use Rattle.std.proofs.lemmas.Bool.{and_parts}
 use Rattle.std.proofs.lemmas.Bool.Decides.{nat_tests}
-use Rattle.std.proofs.lemmas.Fmt.{decimal_is_IsNumeral, length-decimal-le}
+use Rattle.std.proofs.lemmas.Fmt.{decimal_is_IsNumeral, length-decimal-le, decimal_digit}
 use Rattle.std.proofs.lemmas.Int.{ints}
 use Rattle.std.proofs.lemmas.List.Folds.{list_all-append}
 use Rattle.std.proofs.lemmas.Str.Parse.{digit_from_value}
 use Rattle.ghcn_fields.specs.Dates.{civil, date_text}
 use Rattle.ghcn_fields.specs.Fields.{Spells}
-use Rattle.ghcn_fields.specs.NumberTexts.{last_digits, four_places, four_places_of}
+use Rattle.ghcn_fields.specs.NumberTexts.{last_digits, four_places, four_places_of, tenths, tenths_of}
 use Rattle.ghcn_files.specs.declared.element.Element.{Element}
 use Rattle.ghcn_files.specs.declared.element.Element.TheVariants.{Prcp, Snow, Snwd, Tmax, Tmin}
 use Rattle.ghcn_files.specs.Elements.{code_of}
 use Rattle.ghcn_files.specs.Ids.{is_visible}
 use Rattle.ghcn_files.specs.StationLines.{is_printable}
 use Rattle.rank_query.specs.Asked.{is_code}
-use Rattle.rank_query.specs.Spelling.{IsNumeralOf}
+use Rattle.rank_query.specs.QueryTexts.{months_text}
+use Rattle.rank_query.specs.Spelling.{IsNumeralOf, JoinsTwo}
 use Rattle.rank_query.proofs.OneWords.{stands_in_word, IsOneWord}
 
 -- one word of at most eleven visible bytes
@@ -250,3 +251,94 @@ four_places_word (pos n) low high = (four_places_of_word n (omega (arith, ints))
 four_places_word (negsuc n) low high =
     let it = four_places_of_word (suc n) (omega (arith, ints)) in
     word_from (45 ∷ four_places_of (suc n)) (omega arith) (omega (arith, it.1)) it.0.visible
+
+-- one decimal writes what is left of the number by its whole part
+tenth_value : (n : ℕ) → digits_value 10 ((48 + n % 10) ∷ []) ≡ n % 10
+tenth_value n = rw (digit_value-byte n) (omega arith)
+
+-- a whole part and one decimal
+tenths_value : (n : ℕ) → n < 10 ^ 4 → n ≡ digits_value 10 (decimal (n / 10)) * 10 ^ 1 + digits_value 10
+    ((48 + n % 10) ∷ []) * 10 ^ 0
+tenths_value n few =
+    let whole : digits_value 10 (decimal (n / 10)) ≡ n / 10 = (decimal_is_IsNumeral (n / 10) (omega arith)).1 in
+    omega (arith, whole, tenth_value n)
+
+-- its decimal is one digit
+tenths_of-is : (n : ℕ) → tenths_of n ≡ decimal (n / 10) ++ 46 ∷ (48 + n % 10) ∷ []
+tenths_of-is n = ap (λ (d : List ℕ). decimal (n / 10) ++ 46 ∷ d) (decimal_digit (n % 10) (omega arith))
+
+-- its digits
+tenths_digits : (n : ℕ) → n < 10 ^ 4 → list_all is_ascii_digit (decimal (n / 10) ++ (48 + n % 10) ∷ []) ≡ true
+tenths_digits n few =
+    let numeral = decimal_numeral (n / 10) (omega arith) in
+    list_all-append is_ascii_digit (decimal (n / 10)) ((48 + n % 10) ∷ [])
+    ∙ ap (λ t. t && list_all is_ascii_digit ((48 + n % 10) ∷ [])) numeral.digits_alone ∙ digits-last_digits 1 n
+
+-- the text of so many tenths spells them
+pub tenths_spelt : (t : ℤ) → neg_ℤ (pos 1_000) ≤ℤ t → t ≤ℤ pos 1_000 → Spells 1 (tenths t) t
+tenths_spelt (pos n) low high =
+    let few : n < 10 ^ 4 = omega (arith, ints) in
+    record {
+      negative = false;
+      whole = decimal (n / 10);
+      part = (48 + n % 10) ∷ [];
+      parts = tenths_of-is n;
+      some_digit = (decimal_numeral (n / 10) (omega arith)).some_digit;
+      digits = tenths_digits n few;
+      few = omega arith;
+      value = ap pos (tenths_value n few);
+    }
+tenths_spelt (negsuc n) low high =
+    let few : suc n < 10 ^ 4 = omega (arith, ints) in
+    record {
+      negative = true;
+      whole = decimal (suc n / 10);
+      part = (48 + suc n % 10) ∷ [];
+      parts = ap (λ (text : List ℕ). 45 ∷ text) (tenths_of-is (suc n));
+      some_digit = (decimal_numeral (suc n / 10) (omega arith)).some_digit;
+      digits = tenths_digits (suc n) few;
+      few = omega arith;
+      value = ap (λ m. neg_ℤ (pos m)) (tenths_value (suc n) few);
+    }
+
+-- it is one word
+tenths_of_word : (n : ℕ) → n < 10 ^ 4 → IsShortWord (tenths_of n) × (length (tenths_of n) ≤ 6)
+tenths_of_word n few =
+    let whole = decimal_numeral (n / 10) (omega arith) in
+    let tenth = decimal_numeral (n % 10) (omega arith) in
+    let long : length (decimal (n / 10)) ≤ 4 = length-decimal-le 4 (n / 10) (omega arith) (omega arith) (omega arith) in
+    let one : length (decimal (n % 10)) ≤ 1 = length-decimal-le 1 (n % 10) (omega arith) (omega arith) (omega arith) in
+    let all = length-append (decimal (n / 10)) (46 ∷ decimal (n % 10)) in
+    let short : length (tenths_of n) ≤ 6 = omega (arith, long, one, all) in
+    let visible = visible-append (decimal (n / 10)) (46 ∷ decimal (n % 10))
+    (digits_visible (decimal (n / 10)) whole.digits_alone) (digits_visible (decimal (n % 10)) tenth.digits_alone) in
+    (word_from (tenths_of n) (omega (arith, all)) (omega arith) visible, short)
+
+-- with a minus below zero, or without one
+pub tenths_word : (t : ℤ) → neg_ℤ (pos 1_000) ≤ℤ t → t ≤ℤ pos 1_000 → IsShortWord (tenths t)
+tenths_word (pos n) low high = (tenths_of_word n (omega (arith, ints))).0
+tenths_word (negsuc n) low high =
+    let it = tenths_of_word (suc n) (omega (arith, ints)) in
+    word_from (45 ∷ tenths_of (suc n)) (omega arith) (omega (arith, it.1)) it.0.visible
+
+-- two months joined by two points are one word
+pub months_word : (s : ℕ × ℕ) → s.0 ≤ 12 → s.1 ≤ 12 → IsShortWord (months_text s)
+months_word s first last =
+    let one = decimal_numeral s.0 (omega arith) in
+    let two = decimal_numeral s.1 (omega arith) in
+    let long : length (decimal s.0) ≤ 2 = length-decimal-le 2 s.0 (omega arith) (omega arith) (omega arith) in
+    let wide : length (decimal s.1) ≤ 2 = length-decimal-le 2 s.1 (omega arith) (omega arith) (omega arith) in
+    let all = length-append (decimal s.0) (46 ∷ 46 ∷ decimal s.1) in
+    let visible = visible-append (decimal s.0) (46 ∷ 46 ∷ decimal s.1) (digits_visible (decimal s.0) one.digits_alone)
+    (digits_visible (decimal s.1) two.digits_alone) in
+    word_from (months_text s) (omega (arith, all)) (omega (arith, all, long, wide)) visible
+
+-- and join them
+pub months_text_joins : (s : ℕ × ℕ) → s.0 ≤ 12 → s.1 ≤ 12 → JoinsTwo (months_text s) s.0 s.1
+months_text_joins s first last = record {
+  first = decimal s.0;
+  last = decimal s.1;
+  parts = refl;
+  spells_first = decimal_numeral s.0 (omega arith);
+  spells_last = decimal_numeral s.1 (omega arith);
+}

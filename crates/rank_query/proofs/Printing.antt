@@ -16,7 +16,7 @@ use Rattle.rank_query.specs.declared.score.Score.{Score}
 use Rattle.rank_query.specs.declared.region.Region.{Region}
 use Rattle.rank_query.specs.declared.region.Region.TheVariants.{Inside}
 use Rattle.rank_query.specs.Printed.{spaced}
-use Rattle.rank_query.specs.QueryTexts.{query_text, score_words, region_words, period_words}
+use Rattle.rank_query.specs.QueryTexts.{query_text, score_words, region_words, season_words, period_words}
 
 -- words that are joined by a blank are the first one, and each other one behind a blank
 pub join-spaced : (word : List ℕ) (words : List (List ℕ)) → join_with_byte 32 (word ∷ words) ≡ word ++ spaced words
@@ -30,15 +30,24 @@ spaced-three xs ys zs =
     ∙ ap (λ text. text ++ spaced zs) (flat_map-append (λ w. 32 ∷ w) xs ys)
     ∙ append_assoc (spaced xs) (spaced ys) (spaced zs)
 
+-- and so are four
+spaced-four : (ws xs ys zs : List (List ℕ)) → spaced (ws ++ xs ++ ys ++ zs) ≡ spaced ws ++
+    (spaced xs ++ (spaced ys ++ spaced zs))
+spaced-four ws xs ys zs =
+    spaced-three (ws ++ xs) ys zs
+    ∙ ap (λ text. text ++ (spaced ys ++ spaced zs)) (flat_map-append (λ w. 32 ∷ w) ws xs)
+    ∙ append_assoc (spaced ws) (spaced xs) (spaced ys ++ spaced zs)
+
 -- the pieces that are printed are the canonical text
-pub printed-is : (k : ℕ) (s : Score) (r : Region) (p : Option (ℤ × ℤ))
+pub printed-is : (k : ℕ) (s : Score) (r : Region) (t : Option (ℕ × ℕ)) (p : Option (ℤ × ℤ))
     → (codes "top " ++ decimal k) ++
-    (spaced (score_words s) ++ (spaced (region_words r) ++ spaced (period_words p))) ≡ query_text
-    (record { k = k; score = s; region = r; period = p })
-printed-is k s r p =
+    (spaced (score_words s) ++ (spaced (region_words r) ++ (spaced (season_words t) ++ spaced (period_words p))))
+    ≡ query_text (record { k = k; score = s; region = r; season = t; period = p })
+printed-is k s r t p =
     sym (
-    join-spaced (codes "top") (decimal k ∷ score_words s ++ region_words r ++ period_words p)
-    ∙ ap (λ text. codes "top " ++ (decimal k ++ text)) (spaced-three (score_words s) (region_words r) (period_words p)))
+    join-spaced (codes "top") (decimal k ∷ score_words s ++ region_words r ++ season_words t ++ period_words p)
+    ∙ ap (λ text. codes "top " ++ (decimal k ++ text))
+    (spaced-four (score_words s) (region_words r) (season_words t) (period_words p)))
 
 -- four digits, one after another
 four_digits : (a b c d : ℕ) → a < 10 → b < 10 → c < 10 → d < 10

@@ -2,6 +2,7 @@
 use Rattle.std.proofs.Common.{◌≡◌, ℕ, true, inl, inr, List, [], ◌∷◌, Option, None, Result, Ok, Err, codes, refl, sym}
 use Rattle.std.proofs.Common.{ap, ◌∙◌}
 use Rattle.std.specs.Prelude.{ℤ}
+use Rattle.std.specs.List.{AllByRecursion}
 use Rattle.ghcn_fields.specs.Days.{is_within}
 use Rattle.rank_query.specs.declared.score.Score.{Score}
 use Rattle.rank_query.specs.declared.region.Region.{Region}
@@ -10,151 +11,146 @@ use Rattle.rank_query.specs.declared.fault.QueryFault.{QueryFault}
 use Rattle.rank_query.specs.declared.fault.QueryFault.TheVariants.{UnexpectedWord}
 use Rattle.rank_query.specs.Asked.{Asked, IsAsked}
 use Rattle.rank_query.specs.Words.{Word, says}
-use Rattle.rank_query.specs.Readers.{◌>>=◌, one_word}
+use Rattle.rank_query.specs.Readers.{◌>>=◌, Read, one_word, by_word}
 use Rattle.rank_query.specs.WordValues.{number}
-use Rattle.rank_query.specs.Reading.{score_at, everywhere_at, region_at, always_at, period_at, nothing_more, read_words}
+use Rattle.rank_query.specs.Reading.{score_at, region_at, season_at, period_at, nothing_more, read_words}
 use Rattle.rank_query.proofs.Spellings.{asked}
-use Rattle.rank_query.proofs.Stops.{Reading, then, GoesOn, Stops, StopsFirst, stops_behind, first_then}
+use Rattle.rank_query.proofs.Stops.{Reading, then, GoesOn, Stops, StopsFirst, ReadsPart, stops_behind, first_then}
 use Rattle.rank_query.proofs.PartStops.{the_word, Any, part_word, part_the_word, keyword-then, first_same, by_first}
 use Rattle.rank_query.proofs.WordStops.{reads_number, told}
 use Rattle.rank_query.proofs.ScoreStops.{GoodScore, score_part}
 use Rattle.rank_query.proofs.RegionStops.{GoodRegion, region_rows, region_parts}
+use Rattle.rank_query.proofs.SeasonStops.{GoodSeason, season_rows, season_parts}
 use Rattle.rank_query.proofs.PeriodStops.{GoodPeriod, period_rows, period_parts}
 
--- what is asked up to a score, and up to a region
+-- what is asked up to a score
 record IsBegun (k : ℕ) (s : Score) : Type 0 where
   rows : is_within 1 1000 k ≡ true
   score : GoodScore s
 
--- it is asked with a region and a period
-whole_is : (k : ℕ) (s : Score) (r : Region) (p : Option (ℤ × ℤ)) → IsBegun k s → GoodRegion r → GoodPeriod p
-    → IsAsked (asked k s r p)
-whole_is k s r p begun region period = record { k = begun.rows; score = begun.score; region = region; period = period }
+-- it is asked with a region, a season and a period
+whole_is : (k : ℕ) (s : Score) (r : Region) (t : Option (ℕ × ℕ)) (p : Option (ℤ × ℤ)) → IsBegun k s → GoodRegion r
+    → GoodSeason t → GoodPeriod p → IsAsked (asked k s r t p)
+whole_is k s r t p begun region season period =
+    record { k = begun.rows; score = begun.score; region = region; season = season; period = period }
 
--- what is read behind a region, and behind a score
-abbrev from_period : ℕ → Score → Region → Reading Asked
-from_period k s r ws = period_at ws >>= λ p. nothing_more p.1 (asked k s r p.0)
+-- what is read behind a season
+abbrev from_period : ℕ → Score → Region → Option (ℕ × ℕ) → Reading Asked
+from_period k s r t ws = period_at ws >>= λ p. nothing_more p.1 (asked k s r t p.0)
 
--- and what is read behind a score
+-- behind a region
+abbrev from_season : ℕ → Score → Region → Reading Asked
+from_season k s r ws = season_at ws >>= λ t. from_period k s r t.0 t.1
+
+-- and behind a score
 abbrev from_region : ℕ → Score → Reading Asked
-from_region k s ws = region_at ws >>= λ r. from_period k s r.0 r.1
+from_region k s ws = region_at ws >>= λ r. from_season k s r.0 r.1
+
+-- where a word comes next, all that is read as this is stops where this stops
+abbrev StopsAhead : Reading Asked → Type 0
+StopsAhead next =
+    (whole : Reading Asked) (w : Word) (ws : List Word) (fault : QueryFault)
+    → ((rest : List Word) → whole (w ∷ rest) ≡ next (w ∷ rest)) → GoesOn Asked IsAsked whole
+    → whole (w ∷ ws) ≡ Err fault → Stops Asked IsAsked whole fault (w ∷ ws)
 
 -- where nothing more is asked each word is wrong
-nothing_first : (q : Asked) → IsAsked q → StopsFirst Asked IsAsked (λ ws. nothing_more ws q)
-nothing_first q is = record { on = on; stops = stops } where
-  on : GoesOn Asked IsAsked (λ ws. nothing_more ws q)
-  on = record { tail = []; clean = tt; value = q; good = is; reads = refl }
+nothing_ahead : (q : Asked) → StopsAhead (λ ws. nothing_more ws q)
+nothing_ahead q whole w ws fault same on e =
+    let here : ◌≡◌ {A = Result Asked QueryFault} (Err (UnexpectedWord w.0)) (Err fault) = sym (same ws) ∙ e in
+    record {
+      before = [];
+      left = w ∷ ws;
+      parts = refl;
+      on = on;
+      at = (told (UnexpectedWord w.0) fault w refl here, λ more. same more ∙ here);
+    }
 
-  stops : (ws : List Word) (fault : QueryFault) → nothing_more ws q ≡ Err fault
-      → Stops Asked IsAsked (λ ws. nothing_more ws q) fault ws
-  stops [] fault e = absurd cc
-  stops (w ∷ ws) fault e =
-      record {
-        before = [];
-        left = w ∷ ws;
-        parts = refl;
-        on = on;
-        at = (told (UnexpectedWord w.0) fault w refl e, λ more. e);
-      }
-
--- a reading that is from a period on where this word comes next, and that needs no word
-period_stops : (k : ℕ) (s : Score) (r : Region) (whole : Reading Asked) (w : Word) (ws : List Word)
-    (fault : QueryFault) → IsBegun k s → GoodRegion r
-    → ((rest : List Word) → whole (w ∷ rest) ≡ from_period k s r (w ∷ rest)) → whole [] ≡ Ok (asked k s r None)
-    → whole (w ∷ ws) ≡ Err fault → Stops Asked IsAsked whole fault (w ∷ ws)
-unfolding period_at
-period_stops k s r whole w ws fault begun region same empty
-    e = elim (by_first GoodPeriod period_rows always_at w period_parts) [
+-- a part that may be missing, and what is read behind it
+optional_ahead : {A : Type 0} (Good : A → Type 0) (rows : List (List ℕ × (List Word → Read A))) (none : A)
+    (onward : A → Reading Asked)
+    → AllByRecursion (λ row. ReadsPart A Good row.1) rows → ((x : A) → Good x → StopsFirst Asked IsAsked (onward x))
+    → StopsAhead (onward none)
+    → StopsAhead (λ ws. by_word rows (λ ws. Ok (none, ws)) ws >>= λ x. onward x.0 x.1)
+optional_ahead {A} Good rows none onward parts firsts ahead whole w ws fault same on e =
+    elim (by_first Good rows (λ ws. Ok (none, ws)) w parts) [
       | inl found ↦
-          let onward : Option (ℤ × ℤ) → Reading Asked = λ p ws. nothing_more ws (asked k s r p) in
-          let first = first_then GoodPeriod IsAsked found.0 onward found.1
-          (λ p period. nothing_first (asked k s r p) (whole_is k s r p begun region period)) in
+          let first = first_then Good IsAsked found.0 onward found.1 firsts in
           let behind : (rest : List Word) → whole (w ∷ rest) ≡ then found.0 onward rest = λ rest. same rest
-          ∙ ap (λ p. p >>= λ p. onward p.0 p.1) (found.2 rest) in
+          ∙ ap (λ x. x >>= λ x. onward x.0 x.1) (found.2 rest) in
           stops_behind IsAsked whole (then found.0 onward) (w ∷ []) ws fault behind
           (first.stops ws fault (sym (behind ws) ∙ e))
-      | inr none ↦
-          let wrong : (rest : List Word) → whole (w ∷ rest) ≡ Err (UnexpectedWord w.0) = λ rest. same rest
-          ∙ ap (λ p. p >>= λ p. nothing_more p.1 (asked k s r p.0)) (none rest) in
-          let here : ◌≡◌ {A = Result Asked QueryFault} (Err (UnexpectedWord w.0)) (Err fault) = sym (wrong ws) ∙ e in
-          record {
-            before = [];
-            left = w ∷ ws;
-            parts = refl;
-            on = record {
-              tail = [];
-              clean = tt;
-              value = asked k s r None;
-              good = whole_is k s r None begun region refl;
-              reads = empty;
-            };
-            at = (told (UnexpectedWord w.0) fault w refl here, λ more. wrong more ∙ here);
-          }
+      | inr missing ↦ ahead whole w ws fault (λ rest. same rest ∙ ap (λ x. x >>= λ x. onward x.0 x.1) (missing rest)) on e
     ]
 
--- no word is no period
-no_period : (k : ℕ) (s : Score) (r : Region) → from_period k s r [] ≡ Ok (asked k s r None)
-unfolding period_at
-no_period k s r = refl
+-- no word is needed, and where one comes it stops there or goes on
+first_from : (next : Reading Asked) (q : Asked) → IsAsked q → next [] ≡ Ok q → StopsAhead next
+    → StopsFirst Asked IsAsked next
+first_from next q is reads ahead = record { on = on; stops = stops } where
+  on : GoesOn Asked IsAsked next
+  on = record { tail = []; clean = tt; value = q; good = is; reads = reads }
+
+  stops : (ws : List Word) (fault : QueryFault) → next ws ≡ Err fault → Stops Asked IsAsked next fault ws
+  stops [] fault e = let ok : ◌≡◌ {A = Result Asked QueryFault} (Ok q) (Err fault) = sym reads ∙ e in absurd cc
+  stops (w ∷ ws) fault e = ahead next w ws fault (λ rest. refl) on e
 
 -- from a period on
-period_first : (k : ℕ) (s : Score) (r : Region) → IsBegun k s → GoodRegion r
-    → StopsFirst Asked IsAsked (from_period k s r)
-period_first k s r begun region = record {
-  on = record {
-    tail = [];
-    clean = tt;
-    value = asked k s r None;
-    good = whole_is k s r None begun region refl;
-    reads = no_period k s r;
-  };
-  stops = stops;
-} where
-  stops : (ws : List Word) (fault : QueryFault) → from_period k s r ws ≡ Err fault
-      → Stops Asked IsAsked (from_period k s r) fault ws
-  stops [] fault e =
-      let ok : ◌≡◌ {A = Result Asked QueryFault} (Ok (asked k s r None)) (Err fault) = sym (no_period k s r)
-      ∙ e in absurd cc
-  stops (w ∷ ws) fault e =
-      period_stops k s r (from_period k s r) w ws fault begun region (λ rest. refl) (no_period k s r) e
+period_ahead : (k : ℕ) (s : Score) (r : Region) (t : Option (ℕ × ℕ)) → IsBegun k s → GoodRegion r → GoodSeason t
+    → StopsAhead (from_period k s r t)
+unfolding period_at
+period_ahead k s r t begun region season =
+    optional_ahead GoodPeriod period_rows None (λ p ws. nothing_more ws (asked k s r t p)) period_parts
+    (λ p period. first_from (λ ws. nothing_more ws (asked k s r t p)) (asked k s r t p)
+    (whole_is k s r t p begun region season period) refl (nothing_ahead (asked k s r t p)))
+    (nothing_ahead (asked k s r t None))
+
+-- no word is no period
+no_period : (k : ℕ) (s : Score) (r : Region) (t : Option (ℕ × ℕ)) → from_period k s r t [] ≡ Ok (asked k s r t None)
+unfolding period_at
+no_period k s r t = refl
+
+-- a period may be missing
+period_first : (k : ℕ) (s : Score) (r : Region) (t : Option (ℕ × ℕ)) → IsBegun k s → GoodRegion r → GoodSeason t
+    → StopsFirst Asked IsAsked (from_period k s r t)
+period_first k s r t begun region season =
+    first_from (from_period k s r t) (asked k s r t None) (whole_is k s r t None begun region season refl)
+    (no_period k s r t) (period_ahead k s r t begun region season)
+
+-- from a season on
+season_ahead : (k : ℕ) (s : Score) (r : Region) → IsBegun k s → GoodRegion r → StopsAhead (from_season k s r)
+unfolding season_at
+season_ahead k s r begun region =
+    optional_ahead GoodSeason season_rows None (from_period k s r) season_parts
+    (λ t season. period_first k s r t begun region season) (period_ahead k s r None begun region refl)
+
+-- no word is no season
+no_season : (k : ℕ) (s : Score) (r : Region) → from_season k s r [] ≡ Ok (asked k s r None None)
+unfolding season_at period_at
+no_season k s r = refl
+
+-- a season and a period may both be missing
+season_first : (k : ℕ) (s : Score) (r : Region) → IsBegun k s → GoodRegion r
+    → StopsFirst Asked IsAsked (from_season k s r)
+season_first k s r begun region =
+    first_from (from_season k s r) (asked k s r None None) (whole_is k s r None None begun region refl refl)
+    (no_season k s r) (season_ahead k s r begun region)
+
+-- from a region on
+region_ahead : (k : ℕ) (s : Score) → IsBegun k s → StopsAhead (from_region k s)
+unfolding region_at
+region_ahead k s begun =
+    optional_ahead GoodRegion region_rows Everywhere (from_season k s) region_parts
+    (λ r region. season_first k s r begun region) (season_ahead k s Everywhere begun refl)
 
 -- no word is no region
-no_region : (k : ℕ) (s : Score) → from_region k s [] ≡ Ok (asked k s Everywhere None)
-unfolding region_at period_at
+no_region : (k : ℕ) (s : Score) → from_region k s [] ≡ Ok (asked k s Everywhere None None)
+unfolding region_at season_at period_at
 no_region k s = refl
 
--- from a region on, by its first word
-region_stops : (k : ℕ) (s : Score) (ws : List Word) (fault : QueryFault) → IsBegun k s
-    → from_region k s ws ≡ Err fault → Stops Asked IsAsked (from_region k s) fault ws
-unfolding region_at
-region_stops k s [] fault begun e =
-    let ok : ◌≡◌ {A = Result Asked QueryFault} (Ok (asked k s Everywhere None)) (Err fault) = sym (no_region k s)
-    ∙ e in absurd cc
-region_stops k s (w ∷ ws) fault begun e = elim (by_first GoodRegion region_rows everywhere_at w region_parts) [
-  | inl found ↦
-      let first = first_then GoodRegion IsAsked found.0 (from_period k s) found.1
-      (λ r region. period_first k s r begun region) in
-      let behind : (rest : List Word) → from_region k s (w ∷ rest) ≡ then found.0 (from_period k s) rest = λ rest. ap
-      (λ r. r >>= λ r. from_period k s r.0 r.1) (found.2 rest) in
-      stops_behind IsAsked (from_region k s) (then found.0 (from_period k s)) (w ∷ []) ws fault behind
-      (first.stops ws fault (sym (behind ws) ∙ e))
-  | inr none ↦ period_stops k s Everywhere (from_region k s) w ws fault begun refl
-      (λ rest. ap (λ r. r >>= λ r. from_period k s r.0 r.1) (none rest)) (no_region k s) e
-]
-
--- a region and a period may both be missing
+-- a region, a season and a period may all be missing
 region_first : (k : ℕ) (s : Score) → IsBegun k s → StopsFirst Asked IsAsked (from_region k s)
-region_first k s begun = record {
-  on = record {
-    tail = [];
-    clean = tt;
-    value = asked k s Everywhere None;
-    good = whole_is k s Everywhere None begun
-        refl refl;
-    reads = no_region k s;
-  };
-  stops = λ ws fault e. region_stops k s ws fault begun e;
-}
+region_first k s begun =
+    first_from (from_region k s) (asked k s Everywhere None None) (whole_is k s Everywhere None None begun refl refl refl)
+    (no_region k s) (region_ahead k s begun)
 
 -- 1 is a number of rows
 one_row : number 1 1000 (0, codes "1") ≡ Ok 1

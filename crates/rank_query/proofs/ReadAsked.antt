@@ -1,19 +1,18 @@
 -- What is read as a query can be asked.
-use Rattle.std.proofs.Common.{◌≡◌, ℕ, Bool, true, false, cond, List, [], ◌∷◌, Option, Some, None, Result, Ok, Err}
+use Rattle.std.proofs.Common.{◌≡◌, ℕ, Bool, true, false, cond, List, [], ◌∷◌, None, Result, Ok, Err}
 use Rattle.std.proofs.Common.{codes, inl, inr, refl, sym, ap, ◌∙◌, subst, length, IfOk}
-use Rattle.std.specs.Prelude.{nat_lt, ℤ}
+use Rattle.std.specs.Prelude.{nat_lt}
 use Rattle.std.specs.List.{AllByRecursion}
 use Rattle.ghcn_fields.specs.Days.{is_within}
-use Rattle.rank_query.specs.declared.region.Region.{Region}
 use Rattle.rank_query.specs.declared.region.Region.TheVariants.{Everywhere}
 use Rattle.rank_query.specs.declared.fault.QueryFault.{QueryFault}
 use Rattle.rank_query.specs.declared.fault.QueryFault.TheVariants.{QueryTooLong}
-use Rattle.rank_query.specs.Asked.{Asked, IsAsked, is_region, is_period}
+use Rattle.rank_query.specs.Asked.{Asked, IsAsked}
 use Rattle.rank_query.specs.Words.{Word, numbered_words}
 use Rattle.rank_query.specs.Readers.{Read, keyword, one_word, by_word}
 use Rattle.rank_query.specs.WordValues.{number}
-use Rattle.rank_query.specs.Reading.{score_at, everywhere_at, region_at, always_at, period_at, nothing_more}
-use Rattle.rank_query.specs.Reading.{read_words, read_query}
+use Rattle.rank_query.specs.Reading.{score_at, region_at, season_at, period_at}
+use Rattle.rank_query.specs.Reading.{nothing_more, read_words, read_query}
 use Rattle.rank_query.specs.Spelling.{IsSpelling}
 use Rattle.rank_query.proofs.Spellings.{asked, read_spells}
 use Rattle.rank_query.proofs.ReadingSteps.{bind_ok}
@@ -22,6 +21,7 @@ use Rattle.rank_query.proofs.PartStops.{by_first, part_word}
 use Rattle.rank_query.proofs.WordStops.{reads_number}
 use Rattle.rank_query.proofs.ScoreStops.{score_part}
 use Rattle.rank_query.proofs.RegionStops.{GoodRegion, region_rows, region_parts}
+use Rattle.rank_query.proofs.SeasonStops.{GoodSeason, season_rows, season_parts}
 use Rattle.rank_query.proofs.PeriodStops.{GoodPeriod, period_rows, period_parts}
 
 -- what is read by its first word, or without one, is good, if both are
@@ -52,20 +52,22 @@ one_row = refl
 
 -- the query of some words can be asked
 words_asked : (ws : List Word) (q : Asked) → read_words ws ≡ Ok q → IsAsked q
-unfolding read_words region_at period_at
+unfolding read_words region_at season_at period_at
 words_asked ws q e =
     let top = bind_ok (keyword (codes "top") ws) _ q e in
     let k = bind_ok (one_word (number 1 1000) top.0) _ q top.2 in
     let s = bind_ok (score_at k.0.1) _ q k.2 in
     let r = bind_ok (region_at s.0.1) _ q s.2 in
-    let p = bind_ok (period_at r.0.1) _ q r.2 in
+    let t = bind_ok (season_at r.0.1) _ q r.2 in
+    let p = bind_ok (period_at t.0.1) _ q t.2 in
     let rows = ((part_word (λ k. is_within 1 1000 k ≡ true) (number 1 1000) (reads_number 1 1000 one_row)).takes top.0
     k.0 k.1).good in
     let score = (score_part.takes k.0.1 s.0 s.1).good in
     let region = by_word_good GoodRegion region_rows Everywhere s.0.1 r.0.1 r.0.0 region_parts refl r.1 in
-    let period = by_word_good GoodPeriod period_rows None r.0.1 p.0.1 p.0.0 period_parts refl p.1 in
-    subst IsAsked (left_is p.0.1 (asked k.0.0 s.0.0 r.0.0 p.0.0) q p.2)
-    (record { k = rows; score = score; region = region; period = period })
+    let season = by_word_good GoodSeason season_rows None r.0.1 t.0.1 t.0.0 season_parts refl t.1 in
+    let period = by_word_good GoodPeriod period_rows None t.0.1 p.0.1 p.0.0 period_parts refl p.1 in
+    subst IsAsked (left_is p.0.1 (asked k.0.0 s.0.0 r.0.0 t.0.0 p.0.0) q p.2)
+    (record { k = rows; score = score; region = region; season = season; period = period })
 
 -- so can that of a text of any length
 within_asked : (b : Bool) (text : List ℕ) (q : Asked) → cond b (Err QueryTooLong)

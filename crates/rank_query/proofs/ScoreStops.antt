@@ -4,18 +4,18 @@ use Rattle.std.specs.List.{AllByRecursion}
 use Rattle.ghcn_fields.specs.Days.{is_within}
 use Rattle.ghcn_files.specs.declared.element.Element.TheVariants.{Prcp, Tmax}
 use Rattle.rank_query.specs.declared.score.Score.{Score}
-use Rattle.rank_query.specs.declared.score.Score.TheVariants.{Highest, Lowest, Sum, Dry, Wet}
+use Rattle.rank_query.specs.declared.score.Score.TheVariants.{Highest, Lowest, Sum, Dry, Wet, Hot}
 use Rattle.rank_query.specs.declared.fault.QueryFault.{QueryFault}
 use Rattle.rank_query.specs.declared.fault.QueryFault.TheVariants.{UnexpectedWord, QueryEnds}
-use Rattle.rank_query.specs.Asked.{is_temperature, is_fall, is_score}
+use Rattle.rank_query.specs.Asked.{is_temperature, is_fall, is_heat, is_score}
 use Rattle.rank_query.specs.Words.{Word, says}
 use Rattle.rank_query.specs.Readers.{Read, one_word}
-use Rattle.rank_query.specs.WordValues.{number, element}
-use Rattle.rank_query.specs.Reading.{highest_at, lowest_at, sum_at, dry_at, wet_at, no_score_at, score_at}
+use Rattle.rank_query.specs.WordValues.{number, element, heat}
+use Rattle.rank_query.specs.Reading.{highest_at, lowest_at, sum_at, dry_at, wet_at, hot_at, no_score_at, score_at}
 use Rattle.rank_query.proofs.RegionWords.{and_true}
 use Rattle.rank_query.proofs.Stops.{GoesOn, Stops, TakesAll, Ended, ReadsPart, stops_behind, takes_behind, part_then}
 use Rattle.rank_query.proofs.PartStops.{part_word, part_made, part_always, by_first}
-use Rattle.rank_query.proofs.WordStops.{reads_number, reads_element, told}
+use Rattle.rank_query.proofs.WordStops.{reads_number, reads_element, reads_heat, told}
 
 -- a score that can be asked for
 abbrev pub GoodScore : Score → Type 0
@@ -31,11 +31,16 @@ sum_part =
     (part_word (λ e. is_fall e ≡ true) (element is_fall) (reads_element is_fall Prcp refl refl)) (λ e fall.
     part_always GoodScore (Sum n e) (and_true (is_within 1 366 n) (is_fall e) few fall)))
 
+-- hot spells
+hot_part : ReadsPart Score GoodScore hot_at
+hot_part = part_made (λ t. is_heat t ≡ true) GoodScore Hot (one_word heat) (λ t is. is)
+    (part_word (λ t. is_heat t ≡ true) heat reads_heat)
+
 -- each score behind its word
 abbrev rows : List (List ℕ × (List Word → Read Score))
 rows =
     (codes "highest", highest_at) ∷ (codes "lowest", lowest_at) ∷ (codes "sum", sum_at) ∷ (codes "dry", dry_at) ∷
-    (codes "wet", wet_at) ∷ []
+    (codes "wet", wet_at) ∷ (codes "hot", hot_at) ∷ []
 
 -- all of them are parts
 parts : AllByRecursion (λ row. ReadsPart Score GoodScore row.1) rows
@@ -46,7 +51,7 @@ parts = (
     part_made (λ e. is_temperature e ≡ true) GoodScore Lowest (one_word (element is_temperature)) (λ e is. is)
         (part_word (λ e. is_temperature e ≡ true) (element is_temperature)
         (reads_element is_temperature Tmax refl refl)),
-    (sum_part, (part_always GoodScore Dry refl, (part_always GoodScore Wet refl, tt))),
+    (sum_part, (part_always GoodScore Dry refl, (part_always GoodScore Wet refl, (hot_part, tt)))),
   ),
 )
 

@@ -7,16 +7,17 @@ use Rattle.ghcn_fields.specs.Days.{is_within}
 use Rattle.ghcn_files.specs.declared.element.Element.{Element}
 use Rattle.ghcn_files.specs.Elements.{code_of}
 use Rattle.rank_query.specs.declared.score.Score.{Score}
-use Rattle.rank_query.specs.declared.score.Score.TheVariants.{Highest, Lowest, Sum, Dry, Wet}
+use Rattle.rank_query.specs.declared.score.Score.TheVariants.{Highest, Lowest, Sum, Dry, Wet, Hot}
 use Rattle.rank_query.specs.Asked.{is_temperature, is_fall, is_score}
 use Rattle.rank_query.specs.Words.{Word, says}
 use Rattle.rank_query.specs.Readers.{Read, one_word, made_into}
-use Rattle.rank_query.specs.WordValues.{number, element}
-use Rattle.rank_query.specs.Reading.{highest_at, lowest_at, sum_at, dry_at, wet_at, no_score_at, score_at}
+use Rattle.rank_query.specs.WordValues.{number, element, heat}
+use Rattle.rank_query.specs.Reading.{highest_at, lowest_at, sum_at, dry_at, wet_at, hot_at, no_score_at, score_at}
 use Rattle.rank_query.specs.Spelling.{IsNumeralOf, SpellsScore}
 use Rattle.rank_query.proofs.ReadingSteps.{bind_ok, one_word_took, by_word_took, Took, behind_took, made_took}
 use Rattle.rank_query.proofs.ReadingSteps.{words_took, one_word_again, made_again}
-use Rattle.rank_query.proofs.WordValues.{number_numeral, numeral_number, element_code, code_element}
+use Rattle.rank_query.proofs.WordValues.{number_numeral, numeral_number, element_code, code_element, heat_spelt}
+use Rattle.rank_query.proofs.WordValues.{spelt_heat}
 
 -- where no score stands none is read
 no_score : (ws : List Word) (y : Score × List Word) → no_score_at ws ≡ Ok y → ⊥
@@ -52,6 +53,13 @@ sum_took ws rest s e =
     words_took (λ words v. SpellsScore (codes "sum" ∷ words) v) ws what.0.1 rest words (Sum days.0.0 what.0.0) s spelt
     (n.1 ∙ ap (λ left. n.0.1 ∷ left) f.1) what.2
 
+-- the degrees that were read are spelt there, behind "hot"
+heat_took : (ws rest : List Word) (s : Score) → hot_at ws ≡ Ok (s, rest)
+    → Took (λ words. SpellsScore (codes "hot" ∷ words) s) ws rest
+heat_took ws rest s e =
+    made_took (λ words v. SpellsScore (codes "hot" ∷ words) v) heat Hot ws rest s
+    (λ w t read. (w.1, heat_spelt w t read, refl)) e
+
 -- the score that was read is spelt there
 pub score_took : (ws rest : List Word) (s : Score) → score_at ws ≡ Ok (s, rest)
     → Took (λ words. SpellsScore words s) ws rest
@@ -59,8 +67,9 @@ unfolding score_at
 score_took ws rest s e =
     let Spelt : List (List ℕ) → Type 0 = λ words. SpellsScore words s in
     let Table : Type 0 = List (List ℕ × (List Word → Read Score)) in
-    let last : Table = (codes "wet", wet_at) ∷ [] in
-    let spells : Table = (codes "dry", dry_at) ∷ last in
+    let last : Table = (codes "hot", hot_at) ∷ [] in
+    let wets : Table = (codes "wet", wet_at) ∷ last in
+    let spells : Table = (codes "dry", dry_at) ∷ wets in
     let sums : Table = (codes "sum", sum_at) ∷ spells in
     elim (by_word_took (codes "highest") highest_at ((codes "lowest", lowest_at) ∷ sums) no_score_at ws (s, rest) e) [
       | inl highest ↦ behind_took Spelt (codes "highest") ws highest.0 rest highest.1
@@ -70,14 +79,17 @@ score_took ws rest s e =
             (element_took is_temperature Lowest (codes "lowest") lowest.0 rest s (λ e. refl) lowest.2)
         | inr no_lowest ↦ elim (by_word_took (codes "sum") sum_at spells no_score_at ws (s, rest) no_lowest) [
           | inl sum ↦ behind_took Spelt (codes "sum") ws sum.0 rest sum.1 (sum_took sum.0 rest s sum.2)
-          | inr no_sum ↦ elim (by_word_took (codes "dry") dry_at last no_score_at ws (s, rest) no_sum) [
+          | inr no_sum ↦ elim (by_word_took (codes "dry") dry_at wets no_score_at ws (s, rest) no_sum) [
             | inl dry ↦ behind_took Spelt (codes "dry") ws dry.0 rest dry.1
                 (words_took (λ words v. SpellsScore (codes "dry" ∷ words) v) dry.0 dry.0 rest [] Dry s refl refl dry.2)
-            | inr no_dry ↦ elim (by_word_took (codes "wet") wet_at [] no_score_at ws (s, rest) no_dry) [
+            | inr no_dry ↦ elim (by_word_took (codes "wet") wet_at last no_score_at ws (s, rest) no_dry) [
               | inl wet ↦ behind_took Spelt (codes "wet") ws wet.0 rest wet.1
                   (words_took (λ words v. SpellsScore (codes "wet" ∷ words) v) wet.0 wet.0 rest [] Wet s refl refl
                   wet.2)
-              | inr none ↦ absurd (no_score ws (s, rest) none)
+              | inr no_wet ↦ elim (by_word_took (codes "hot") hot_at [] no_score_at ws (s, rest) no_wet) [
+                | inl hot ↦ behind_took Spelt (codes "hot") ws hot.0 rest hot.1 (heat_took hot.0 rest s hot.2)
+                | inr none ↦ absurd (no_score ws (s, rest) none)
+              ]
             ]
           ]
         ]
@@ -116,3 +128,8 @@ score_again (Sum k e) words more n is spelt = (
 )
 score_again Dry words more n is spelt = (n + 1, ap (λ ws. score_at (enumerate_from n (ws ++ more))) spelt)
 score_again Wet words more n is spelt = (n + 1, ap (λ ws. score_at (enumerate_from n (ws ++ more))) spelt)
+score_again (Hot t) words more n is spelt = (
+  n + 1 + 1,
+  ap (λ ws. score_at (enumerate_from n (ws ++ more))) spelt.2
+      ∙ made_again heat Hot (n + 1) spelt.0 more t (spelt_heat t (n + 1) spelt.0 is spelt.1),
+)

@@ -1,26 +1,27 @@
 -- What is read as a query spells it, and what spells a query is read as it.
-use Rattle.std.proofs.Common.{◌≡◌, ℕ, ◌≤◌, Bool, true, false, cond, List, [], ◌∷◌, ◌++◌, length, Option, Result, Ok}
+use Rattle.std.proofs.Common.{◌≡◌, ℕ, ◌≤◌, Bool, true, false, cond, List, [], ◌∷◌, ◌++◌, length, Option, Ok}
 use Rattle.std.proofs.Common.{Err, codes, refl, sym, ap, ◌∙◌, subst, append_assoc, append-nil, arith}
 use Rattle.std.specs.Prelude.{nat_lt, ℤ}
 use Rattle.std.specs.List.{enumerate_from, AllByRecursion}
 use Rattle.std.proofs.lemmas.Bool.Decides.{nat_tests}
 use Rattle.rank_query.specs.declared.score.Score.{Score}
 use Rattle.rank_query.specs.declared.region.Region.{Region}
-use Rattle.rank_query.specs.declared.fault.QueryFault.{QueryFault}
 use Rattle.rank_query.specs.declared.fault.QueryFault.TheVariants.{QueryTooLong}
 use Rattle.rank_query.specs.Asked.{Asked, IsAsked}
 use Rattle.rank_query.specs.Words.{Word, words_of, numbered_words, says}
 use Rattle.rank_query.specs.Readers.{◌>>=◌, Read, keyword, one_word}
 use Rattle.rank_query.specs.WordValues.{number}
-use Rattle.rank_query.specs.Reading.{score_at, region_at, period_at, nothing_more, read_words, read_query}
-use Rattle.rank_query.specs.Spelling.{IsNumeralOf, SpellsScore, SpellsRegion, SpellsPeriod, SpellsQuery, IsSpelling}
+use Rattle.rank_query.specs.Reading.{score_at, region_at, season_at, period_at, nothing_more, read_words, read_query}
+use Rattle.rank_query.specs.Spelling.{IsNumeralOf, SpellsScore, SpellsRegion, SpellsSeason, SpellsPeriod}
+use Rattle.rank_query.specs.Spelling.{SpellsQuery, IsSpelling}
 use Rattle.rank_query.proofs.OneWords.{HasNoBlank, words_no_blank, all_behind}
 use Rattle.rank_query.proofs.ReadingSteps.{bind_ok, unnumbered, unnumbered-enumerate_from, keyword_took}
 use Rattle.rank_query.proofs.ReadingSteps.{one_word_took, one_word_again}
 use Rattle.rank_query.proofs.WordValues.{number_numeral, numeral_number}
 use Rattle.rank_query.proofs.ScoreWords.{score_took, score_again}
 use Rattle.rank_query.proofs.RegionWords.{region_took, region_again}
-use Rattle.rank_query.proofs.PeriodWords.{period_took, period_again, period_no_region}
+use Rattle.rank_query.proofs.SeasonWords.{season_took, season_again, season_no_region}
+use Rattle.rank_query.proofs.PeriodWords.{period_took, period_again, period_no_region, period_no_season}
 
 -- where nothing more comes, nothing is left
 nothing_left : (ws : List Word) (q r : Asked) → nothing_more ws q ≡ Ok r → (ws ≡ []) × (q ≡ r)
@@ -28,8 +29,12 @@ nothing_left [] q r e = (refl, cc)
 nothing_left (w ∷ ws) q r e = cc
 
 -- what is asked by its parts
-abbrev pub asked : ℕ → Score → Region → Option (ℤ × ℤ) → Asked
-asked k s r p = record { k = k; score = s; region = r; period = p }
+abbrev pub asked : ℕ → Score → Region → Option (ℕ × ℕ) → Option (ℤ × ℤ) → Asked
+asked k s r t p = record { k = k; score = s; region = r; season = t; period = p }
+
+-- four lists one behind the other
+four_joined : (a b c d : List (List ℕ)) → a ++ b ++ c ++ d ≡ a ++ (b ++ (c ++ d))
+four_joined a b c d = append_assoc (a ++ b) c d ∙ append_assoc a b (c ++ d)
 
 -- the query that was read is spelt by the words
 pub words_spell : (ws : List Word) (q : Asked) → AllByRecursion HasNoBlank (unnumbered ws) → read_words ws ≡ Ok q
@@ -40,8 +45,9 @@ words_spell ws q no_blank e =
     let k = bind_ok (one_word (number 1 1000) top.0) _ q top.2 in
     let s = bind_ok (score_at k.0.1) _ q k.2 in
     let r = bind_ok (region_at s.0.1) _ q s.2 in
-    let p = bind_ok (period_at r.0.1) _ q r.2 in
-    let end = nothing_left p.0.1 (asked k.0.0 s.0.0 r.0.0 p.0.0) q p.2 in
+    let t = bind_ok (season_at r.0.1) _ q r.2 in
+    let p = bind_ok (period_at t.0.1) _ q t.2 in
+    let end = nothing_left p.0.1 (asked k.0.0 s.0.0 r.0.0 t.0.0 p.0.0) q p.2 in
     let first = keyword_took (codes "top") ws top.0 top.1 in
     let rows = one_word_took (number 1 1000) top.0 k.0.1 k.0.0 k.1 in
     let score = score_took k.0.1 s.0.1 s.0.0 s.1 in
@@ -50,21 +56,25 @@ words_spell ws q no_blank e =
     let clean = all_behind HasNoBlank (codes "top" ∷ rows.0.1 ∷ score.words) (unnumbered s.0.1)
     (subst (AllByRecursion HasNoBlank) front no_blank) in
     let region = region_took s.0.1 r.0.1 r.0.0 clean r.1 in
-    let period = period_took r.0.1 p.0.1 p.0.0 p.1 in
-    let last : unnumbered r.0.1 ≡ period.words = period.taken ∙ ap (λ left. period.words ++ unnumbered left) end.0
+    let season = season_took r.0.1 t.0.1 t.0.0 t.1 in
+    let period = period_took t.0.1 p.0.1 p.0.0 p.1 in
+    let last : unnumbered t.0.1 ≡ period.words = period.taken ∙ ap (λ left. period.words ++ unnumbered left) end.0
     ∙ append-nil period.words in
-    let spelling : SpellsQuery (unnumbered ws) (asked k.0.0 s.0.0 r.0.0 p.0.0) = record {
+    let spelling : SpellsQuery (unnumbered ws) (asked k.0.0 s.0.0 r.0.0 t.0.0 p.0.0) = record {
       k = rows.0.1;
       score = score.words;
       region = region.words;
+      season = season.words;
       period = period.words;
       words =
           front ∙ ap (λ left. codes "top" ∷ rows.0.1 ∷ score.words ++ left)
-          (region.taken ∙ ap (λ left. region.words ++ left) last)
-          ∙ ap (λ more. codes "top" ∷ rows.0.1 ∷ more) (sym (append_assoc score.words region.words period.words));
+          (region.taken ∙ ap (λ left. region.words ++ left) (season.taken ∙ ap (λ left. season.words ++ left) last))
+          ∙ ap (λ more. codes "top" ∷ rows.0.1 ∷ more)
+          (sym (four_joined score.words region.words season.words period.words));
       spells_k = number_numeral 1 1000 rows.0 k.0.0 rows.2;
       spells_score = score.spelt;
       spells_region = region.spelt;
+      spells_season = season.spelt;
       spells_period = period.spelt;
     } in
     subst (λ q. SpellsQuery (unnumbered ws) q) end.1 spelling
@@ -88,30 +98,36 @@ unfolding read_query
 read_spells text q e = within_spells (nat_lt 256 (length text)) text q e
 
 -- the words of a query that can be asked are read as it
-words_again : (q : Asked) (k : List ℕ) (score region period : List (List ℕ)) → IsAsked q
-    → IsNumeralOf k q.k → SpellsScore score q.score → SpellsRegion region q.region → SpellsPeriod period q.period
-    → read_words (enumerate_from 1 (codes "top" ∷ k ∷ score ++ region ++ period)) ≡ Ok q
+words_again : (q : Asked) (k : List ℕ) (score region season period : List (List ℕ)) → IsAsked q
+    → IsNumeralOf k q.k → SpellsScore score q.score → SpellsRegion region q.region → SpellsSeason season q.season
+    → SpellsPeriod period q.period
+    → read_words (enumerate_from 1 (codes "top" ∷ k ∷ score ++ region ++ season ++ period)) ≡ Ok q
 unfolding read_words keyword says
-words_again q k score region period is numeral spells_score spells_region spells_period =
-    let s = score_again q.score score (region ++ period) 3 is.score spells_score in
-    let r = region_again q.region region period s.0 is.region spells_region
-    (period_no_region q.period period spells_period) in
-    let p = period_again q.period period r.0 is.period spells_period in
-    ap (λ ws. read_words (enumerate_from 1 (codes "top" ∷ k ∷ ws))) (append_assoc score region period)
-    ∙ one_word_again (number 1 1000) 2 k (score ++ (region ++ period)) q.k _
+words_again q k score region season period is numeral spells_score spells_region spells_season spells_period =
+    let s = score_again q.score score (region ++ (season ++ period)) 3 is.score spells_score in
+    let r = region_again q.region region (season ++ period) s.0 is.region spells_region
+    (season_no_region q.season season period spells_season (period_no_region q.period period spells_period)) in
+    let t = season_again q.season season period r.0 is.season spells_season
+    (period_no_season q.period period spells_period) in
+    let p = period_again q.period period t.0 is.period spells_period in
+    ap (λ ws. read_words (enumerate_from 1 (codes "top" ∷ k ∷ ws))) (four_joined score region season period)
+    ∙ one_word_again (number 1 1000) 2 k (score ++ (region ++ (season ++ period))) q.k _
     (numeral_number 1 1000 q.k 2 k is.k numeral)
-    ∙ ap (λ (x : Read Score). x >>= λ s. region_at s.1 >>= λ r. period_at r.1 >>= λ p. nothing_more p.1
-    (asked q.k s.0 r.0 p.0)) s.1
-    ∙ ap (λ (x : Read Region). x >>= λ r. period_at r.1 >>= λ p. nothing_more p.1 (asked q.k q.score r.0 p.0)) r.1
-    ∙ ap (λ (x : Read (Option (ℤ × ℤ))). x >>= λ p. nothing_more p.1 (asked q.k q.score q.region p.0)) p
+    ∙ ap (λ (x : Read Score). x >>= λ s. region_at s.1 >>= λ r. season_at r.1 >>= λ t. period_at t.1 >>= λ p.
+    nothing_more p.1 (asked q.k s.0 r.0 t.0 p.0)) s.1
+    ∙ ap (λ (x : Read Region). x >>= λ r. season_at r.1 >>= λ t. period_at t.1 >>= λ p. nothing_more p.1
+    (asked q.k q.score r.0 t.0 p.0)) r.1
+    ∙ ap (λ (x : Read (Option (ℕ × ℕ))). x >>= λ t. period_at t.1 >>= λ p. nothing_more p.1
+    (asked q.k q.score q.region t.0 p.0)) t.1
+    ∙ ap (λ (x : Read (Option (ℤ × ℤ))). x >>= λ p. nothing_more p.1 (asked q.k q.score q.region q.season p.0)) p
 
 -- words that spell a query that may be asked are read as it
 pub spelt_read : (ws : List (List ℕ)) (q : Asked) → IsAsked q → SpellsQuery ws q
     → read_words (enumerate_from 1 ws) ≡ Ok q
 spelt_read ws q is spelling =
     ap (λ ws. read_words (enumerate_from 1 ws)) spelling.words
-    ∙ words_again q spelling.k spelling.score spelling.region spelling.period is spelling.spells_k
-    spelling.spells_score spelling.spells_region spelling.spells_period
+    ∙ words_again q spelling.k spelling.score spelling.region spelling.season spelling.period is spelling.spells_k
+    spelling.spells_score spelling.spells_region spelling.spells_season spelling.spells_period
 
 -- and so is a text of at most 256 bytes
 pub spelling_read : (text : List ℕ) (q : Asked) → IsAsked q → IsSpelling text q → length text ≤ 256

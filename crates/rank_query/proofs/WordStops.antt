@@ -12,10 +12,10 @@ use Rattle.ghcn_files.specs.Elements.{code_of, element_of}
 use Rattle.ghcn_files.specs.StationLines.{is_number_within, number_of}
 use Rattle.rank_query.specs.declared.fault.QueryFault.{QueryFault}
 use Rattle.rank_query.specs.declared.fault.QueryFault.TheVariants.{UnexpectedWord, OutOfLimits, BadDate, BadBox}
-use Rattle.rank_query.specs.Asked.{is_code, is_longitude}
+use Rattle.rank_query.specs.Asked.{is_code, is_longitude, is_heat, is_month}
 use Rattle.rank_query.specs.Words.{Word}
 use Rattle.rank_query.specs.Readers.{◌>>=◌, or_fault}
-use Rattle.rank_query.specs.WordValues.{number, element, degrees, code, date}
+use Rattle.rank_query.specs.WordValues.{number, element, heat, months, degrees, code, date, tenths_of, two_numbers}
 use Rattle.rank_query.specs.Reading.{latitude_from, longitude}
 use Rattle.rank_query.proofs.OneWords.{HasNoBlank}
 use Rattle.rank_query.proofs.ReadingSteps.{bind_ok, test_ok}
@@ -35,29 +35,50 @@ test_told : {A : Type 0} (b : Bool) (x : A) (named fault : QueryFault) (w : Word
 test_told true x named fault w is e = absurd cc
 test_told false x named fault w is e = told named fault w is e
 
--- a word that is no number, or none within the limits
-number_told : (low high : ℕ) (o : Option ℕ) (w : Word) (fault : QueryFault)
-    → (or_fault (UnexpectedWord w.0) o >>= λ m. cond (is_within low high m) (Ok m) (Err (OutOfLimits w.0))) ≡ Err
-    fault → IsWordOf fault [] w
-number_told low high None w fault e = told (UnexpectedWord w.0) fault w refl e
-number_told low high (Some m) w fault e = test_told (is_within low high m) m (OutOfLimits w.0) fault w refl e
+-- a word with a value that lies within limits
+abbrev pub limited : {A : Type 0} → (List ℕ → Option A) → (A → Bool) → Word → Result A QueryFault
+limited read within w =
+    or_fault (UnexpectedWord w.0) (read w.1) >>= λ x. cond (within x) (Ok x) (Err (OutOfLimits w.0))
+
+-- a word without a value, or with one past the limits
+limited_told : {A : Type 0} (within : A → Bool) (o : Option A) (w : Word) (fault : QueryFault)
+    → (or_fault (UnexpectedWord w.0) o >>= λ x. cond (within x) (Ok x) (Err (OutOfLimits w.0))) ≡ Err fault
+    → IsWordOf fault [] w
+limited_told within None w fault e = told (UnexpectedWord w.0) fault w refl e
+limited_told within (Some x) w fault e = test_told (within x) x (OutOfLimits w.0) fault w refl e
+
+-- values within limits, of which some word writes one
+reads_limited : {A : Type 0} (read : List ℕ → Option A) (within : A → Bool) (sample : List ℕ) (it : A)
+    → HasNoBlank sample → limited read within (0, sample) ≡ Ok it
+    → ReadsWord A (λ x. within x ≡ true) (limited read within)
+reads_limited read within sample it clean reads = record {
+  good = λ w x e.
+      let value = bind_ok (or_fault (UnexpectedWord w.0) (read w.1))
+      (λ y. cond (within y) (Ok y) (Err (OutOfLimits w.0))) x e in
+      let test = test_ok (within value.0) value.0 x (OutOfLimits w.0) value.2 in
+      subst (λ y. within y ≡ true) test.1 test.0;
+  told = λ w fault e. limited_told within (read w.1) w fault e;
+  sample = sample;
+  clean = clean;
+  it = it;
+  reads = reads;
+}
 
 -- numbers within limits, of which 1 is one
 pub reads_number : (low high : ℕ) → number low high (0, codes "1") ≡ Ok 1
     → ReadsWord ℕ (λ n. is_within low high n ≡ true) (number low high)
 unfolding number
-reads_number low high one = record {
-  good = λ w n e.
-      let value = bind_ok (or_fault (UnexpectedWord w.0) (natural w.1))
-      (λ m. cond (is_within low high m) (Ok m) (Err (OutOfLimits w.0))) n e in
-      let test = test_ok (is_within low high value.0) value.0 n (OutOfLimits w.0) value.2 in
-      subst (λ n. is_within low high n ≡ true) test.1 test.0;
-  told = λ w fault e. number_told low high (natural w.1) w fault e;
-  sample = codes "1";
-  clean = refl;
-  it = 1;
-  reads = one;
-}
+reads_number low high one = reads_limited natural (is_within low high) (codes "1") 1 refl one
+
+-- degrees from which on a day is hot
+pub reads_heat : ReadsWord ℤ (λ t. is_heat t ≡ true) heat
+unfolding heat
+reads_heat = reads_limited tenths_of is_heat (codes "0") (pos 0) refl refl
+
+-- the months of a season
+pub reads_months : ReadsWord (ℕ × ℕ) (λ s. (is_month s.0 && is_month s.1) ≡ true) months
+unfolding months
+reads_months = reads_limited two_numbers (λ s. is_month s.0 && is_month s.1) (codes "1..1") (1, 1) refl refl
 
 -- a word that is no element, or none that is allowed
 element_told : (allows : Element → Bool) (o : Option Element) (w : Word) (fault : QueryFault)

@@ -1,11 +1,16 @@
 -- What a single word is read as spells it, and what spells a value is read as it.
-use Rattle.std.proofs.Common.{◌≡◌, ℕ, zero, suc, Bool, true, false, cond, ◌&&◌, List, [], ◌∷◌, ◌++◌, replicate, Some}
-use Rattle.std.proofs.Common.{None, Ok, Err, refl, sym, ap, ◌∙◌, subst, FitsSigned, w32, arith}
+use Rattle.std.proofs.Common.{◌≡◌, ℕ, zero, suc, ◌+◌, ◌<◌, Bool, true, false, cond, ◌&&◌, List, [], ◌∷◌, ◌++◌, length}
+use Rattle.std.proofs.Common.{take, drop, get_or, replicate, Option, Some, None, Ok, Err, refl, sym, ap, ◌∙◌, subst}
+use Rattle.std.proofs.Common.{FitsSigned, w32, arith, length-drop}
 use Rattle.std.specs.Prelude.{ℤ, int_le}
-use Rattle.std.specs.List.{find, list_all}
+use Rattle.std.specs.List.{find, list_all, before_first, after_first, position_or_len}
 use Rattle.std.specs.Char.{is_ascii_digit}
 use Rattle.std.specs.Str.Parse.{digits_value}
 use Rattle.std.specs.Cmp.Lexicographic.{bytes_decides}
+use Rattle.std.proofs.Math.Seq.{take-append_seam, drop-append-add}
+use Rattle.std.proofs.lemmas.Bool.{and_parts}
+use Rattle.std.proofs.lemmas.Bool.Decides.{nat_tests}
+use Rattle.std.proofs.lemmas.List.Sums.{split_at_first, passes_at_first}
 use Rattle.std.proofs.lemmas.Option.{cond_some}
 use Rattle.ghcn_fields.specs.declared.field.Field.{Field}
 use Rattle.ghcn_fields.specs.declared.field.Field.TheVariants.{Blank, Number, Bad}
@@ -15,17 +20,19 @@ use Rattle.ghcn_fields.specs.Dates.{date_text, read_date}
 use Rattle.ghcn_fields.specs.Fields.{Spells}
 use Rattle.ghcn_fields.specs.Numbers.{natural, scaled_field}
 use Rattle.ghcn_fields.proofs.DateTexts.{read_date-law}
+use Rattle.ghcn_fields.proofs.DecimalTexts.{spells-from_signed, signed-from_spells}
 use Rattle.ghcn_fields.proofs.FieldNumbers.{scaled_field-number}
 use Rattle.ghcn_files.specs.declared.element.Element.{Element}
 use Rattle.ghcn_files.specs.declared.element.Element.TheVariants.{Prcp, Snow, Snwd, Tmax, Tmin}
 use Rattle.ghcn_files.specs.Elements.{code_of, element_of, elements}
 use Rattle.ghcn_files.specs.StationLines.{is_number_within, number_of}
 use Rattle.rank_query.specs.declared.fault.QueryFault.TheVariants.{UnexpectedWord, OutOfLimits, BadDate, BadBox}
-use Rattle.rank_query.specs.Asked.{is_code}
+use Rattle.rank_query.specs.Asked.{is_code, is_heat, is_month}
 use Rattle.rank_query.specs.Words.{Word}
 use Rattle.rank_query.specs.Readers.{◌>>=◌, or_fault}
-use Rattle.rank_query.specs.WordValues.{number, element, degrees, code, date}
-use Rattle.rank_query.specs.Spelling.{IsNumeralOf}
+use Rattle.rank_query.specs.WordValues.{number, element, heat, months, degrees, code, date, tenths_of, two_numbers}
+use Rattle.rank_query.specs.WordValues.{is_point, natural_behind, both_numbers}
+use Rattle.rank_query.specs.Spelling.{IsNumeralOf, JoinsTwo}
 use Rattle.rank_query.proofs.OneWords.{stands_in_word, HasNoBlank}
 use Rattle.rank_query.proofs.ReadingSteps.{bind_ok, test_ok, or_fault_ok}
 
@@ -59,6 +66,107 @@ numeral_number low high n at digits inside numeral =
     ap (λ o. or_fault (UnexpectedWord at) o >>= λ m. cond (is_within low high m) (Ok m) (Err (OutOfLimits at)))
     (numeral_natural digits n numeral)
     ∙ ap (λ b. cond b (Ok n) (Err (OutOfLimits at))) inside
+
+-- a word that is read as a number of degrees spells its tenths
+pub heat_spelt : (w : Word) (t : ℤ) → heat w ≡ Ok t → Spells 1 w.1 t
+unfolding heat
+heat_spelt w t e =
+    let value = bind_ok (or_fault (UnexpectedWord w.0) (tenths_of w.1))
+    (λ z. cond (is_heat z) (Ok z) (Err (OutOfLimits w.0))) t e in
+    let test = test_ok (is_heat value.0) value.0 t (OutOfLimits w.0) value.2 in
+    spells-from_signed 1 w.1 t (or_fault_ok (UnexpectedWord w.0) (tenths_of w.1) value.0 value.1 ∙ ap Some test.1)
+
+-- what spells tenths within the limits is read as them
+pub spelt_heat : (t : ℤ) (at : ℕ) (text : List ℕ) → is_heat t ≡ true → Spells 1 text t → heat (at, text) ≡ Ok t
+unfolding heat
+spelt_heat t at text inside spells =
+    ap (λ o. or_fault (UnexpectedWord at) o >>= λ z. cond (is_heat z) (Ok z) (Err (OutOfLimits at)))
+    (signed-from_spells 1 text t spells)
+    ∙ ap (λ b. cond b (Ok t) (Err (OutOfLimits at))) inside
+
+-- a point is the byte 46
+point_is : (b : ℕ) → is_point b ≡ true → b ≡ 46
+point_is b e = grind (arith, nat_tests)
+
+-- a digit is no point
+no_point : (d : ℕ) → is_ascii_digit d ≡ true → is_point d ≡ false
+no_point d is = grind (arith, nat_tests)
+
+-- the first point stands behind the digits before it
+point_at : (digits rest : List ℕ) → list_all is_ascii_digit digits ≡ true
+    → position_or_len is_point (digits ++ 46 ∷ rest) ≡ length digits
+point_at [] rest all = refl
+point_at (d ∷ digits) rest all =
+    let parts = and_parts (is_ascii_digit d) (list_all is_ascii_digit digits) all in
+    rw (no_point d parts.0) (omega (arith, point_at digits rest parts.1))
+
+-- two numbers that there are
+both-some : (o p : Option ℕ) (s : ℕ × ℕ) → both_numbers o p ≡ Some s → (o ≡ Some s.0) × (p ≡ Some s.1)
+both-some None p s e = cc
+both-some (Some a) None s e = cc
+both-some (Some a) (Some b) s e =
+    let same : (a, b) ≡ s = cc in (ap (λ (s : ℕ × ℕ). Some s.0) same, ap (λ (s : ℕ × ℕ). Some s.1) same)
+
+-- a number behind a point
+behind-some : (bytes : List ℕ) (n : ℕ) → natural_behind bytes ≡ Some n
+    → (digits : List ℕ) × (bytes ≡ 46 ∷ digits) × (natural digits ≡ Some n)
+behind-some [] n e = cc
+behind-some (b ∷ bytes) n e = by_point (is_point b) refl e where
+  by_point : (t : Bool) → is_point b ≡ t → cond t (natural bytes) None ≡ Some n
+      → (digits : List ℕ) × (b ∷ bytes ≡ 46 ∷ digits) × (natural digits ≡ Some n)
+  by_point true is e = (bytes, ap (λ (c : ℕ). c ∷ bytes) (point_is b is), e)
+  by_point false is e = cc
+
+-- a word that is read as two numbers joins them
+two_joined : (word : List ℕ) (s : ℕ × ℕ) → two_numbers word ≡ Some s → JoinsTwo word s.0 s.1
+two_joined word s e =
+    let front : List ℕ = before_first is_point word in
+    let place : ℕ = position_or_len is_point word in
+    let both = both-some (natural front) (natural_behind (after_first is_point word)) s e in
+    let behind = behind-some (after_first is_point word) s.1 both.1 in
+    let inside : place < length word = omega (arith, ap length behind.1, length-drop (place + 1) word) in
+    let at : get_or word place 0 ≡ 46 = point_is _ (passes_at_first is_point word 0 inside) in
+    record {
+      first = front;
+      last = behind.0;
+      parts = split_at_first is_point word 0 inside ∙ ap (λ (b : ℕ). front ++ b ∷ after_first is_point word) at
+          ∙ ap (λ (rest : List ℕ). front ++ 46 ∷ rest) behind.1;
+      spells_first = natural_numeral front s.0 both.0;
+      spells_last = natural_numeral behind.0 s.1 behind.2;
+    }
+
+-- and a word that joins two numbers is read as them
+joined_two : (word : List ℕ) (a b : ℕ) → JoinsTwo word a b → two_numbers word ≡ Some (a, b)
+joined_two word a b j =
+    let rest : List ℕ = 46 ∷ j.last in
+    let text : List ℕ = j.first ++ 46 ∷ rest in
+    let front : take (length j.first) text ≡ j.first = take-append_seam j.first (46 ∷ rest) in
+    let behind : drop (length j.first + 1) text ≡ rest = drop-append-add j.first (46 ∷ rest) 1 in
+    ap two_numbers j.parts
+    ∙ ap (λ (n : ℕ). both_numbers (natural (take n text)) (natural_behind (drop (n + 1) text)))
+    (point_at j.first rest j.spells_first.digits_alone)
+    ∙ ap (λ (xs : List ℕ). both_numbers (natural xs) (natural_behind (drop (length j.first + 1) text))) front
+    ∙ ap (λ (xs : List ℕ). both_numbers (natural j.first) (natural_behind xs)) behind
+    ∙ ap (λ (o : Option ℕ). both_numbers o (natural j.last)) (numeral_natural j.first a j.spells_first)
+    ∙ ap (both_numbers (Some a)) (numeral_natural j.last b j.spells_last)
+
+-- a word that is read as months joins them
+pub months_joined : (w : Word) (s : ℕ × ℕ) → months w ≡ Ok s → JoinsTwo w.1 s.0 s.1
+unfolding months
+months_joined w s e =
+    let value = bind_ok (or_fault (UnexpectedWord w.0) (two_numbers w.1))
+    (λ v. cond (is_month v.0 && is_month v.1) (Ok v) (Err (OutOfLimits w.0))) s e in
+    let test = test_ok (is_month value.0.0 && is_month value.0.1) value.0 s (OutOfLimits w.0) value.2 in
+    two_joined w.1 s (or_fault_ok (UnexpectedWord w.0) (two_numbers w.1) value.0 value.1 ∙ ap Some test.1)
+
+-- what joins two months is read as them
+pub joined_months : (s : ℕ × ℕ) (at : ℕ) (word : List ℕ) → (is_month s.0 && is_month s.1) ≡ true
+    → JoinsTwo word s.0 s.1 → months (at, word) ≡ Ok s
+unfolding months
+joined_months s at word inside joins =
+    ap (λ o. or_fault (UnexpectedWord at) o >>= λ v. cond (is_month v.0 && is_month v.1) (Ok v)
+    (Err (OutOfLimits at))) (joined_two word s.0 s.1 joins)
+    ∙ ap (λ b. cond b (Ok s) (Err (OutOfLimits at))) inside
 
 -- the first of two elements passes, or what is found among the others does
 first_passes : {A : Type 0} (b : Bool) (p : A → Bool) (ys : List A) (x y : A) → p y ≡ b

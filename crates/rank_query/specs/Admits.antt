@@ -1,7 +1,8 @@
 -- The stations and days that a query admits.
-use Rattle.std.specs.Prelude.{Bool, true, ◌&&◌, ◌||◌, if◌then◌else◌, take, Option, None, Some, ℤ, int_le}
+use Rattle.std.specs.Prelude.{ℕ, Bool, true, ◌&&◌, ◌||◌, if◌then◌else◌, nat_le, take, Option, None, Some, ℤ, int_le}
 use Rattle.ghcn_fields.specs.Bytes.{same_bytes}
-use Rattle.ghcn_fields.specs.Days.{is_day}
+use Rattle.ghcn_fields.specs.Dates.{civil}
+use Rattle.ghcn_fields.specs.Days.{is_day, is_within}
 use Rattle.ghcn_files.specs.declared.station.Station.{Station}
 use Rattle.ghcn_files.specs.Ids.{same_id}
 use Rattle.rank_query.specs.declared.region.Region.{Region}
@@ -31,6 +32,16 @@ abbrev pub period_holds : Option (ℤ × ℤ) → ℤ → Bool
 period_holds None day = true
 period_holds (Some p) day = int_le p.0 day && int_le day p.1
 
+-- a month lies from a first to a last one, over the turn of the year where the first is greater
+abbrev pub is_between_months : ℕ → ℕ → ℕ → Bool
+is_between_months first last m =
+    if nat_le first last then is_within first last m else nat_le first m || nat_le m last
+
+-- the season holds the day, by its month; without one every day
+abbrev pub season_holds : Option (ℕ × ℕ) → ℤ → Bool
+season_holds None day = true
+season_holds (Some s) day = is_between_months s.0 s.1 (civil day).1
+
 -- the query admits the day
 abbrev pub admits_day : Asked → ℤ → Bool
-admits_day q day = is_day day && period_holds q.period day
+admits_day q day = is_day day && period_holds q.period day && season_holds q.season day

@@ -7,15 +7,17 @@ use Rattle.ghcn_files.specs.declared.element.Element.{Element}
 use Rattle.ghcn_files.specs.declared.element.Element.TheVariants.{Prcp, Snow, Snwd, Tmax, Tmin}
 use Rattle.ghcn_files.specs.Ids.{is_visible, is_id}
 use Rattle.rank_query.specs.declared.score.Score.{Score}
-use Rattle.rank_query.specs.declared.score.Score.TheVariants.{Highest, Lowest, Sum, Dry, Wet}
+use Rattle.rank_query.specs.declared.score.Score.TheVariants.{Highest, Lowest, Sum, Dry, Wet, Hot}
 use Rattle.rank_query.specs.declared.region.Region.{Region}
 use Rattle.rank_query.specs.declared.region.Region.TheVariants.{Everywhere, Inside, Country, State, Only}
 
--- the k best of a score, of the stations of a region, within a period of a first and a last day
+-- the k best of a score, of the stations of a region, in a season from a first to a last month, within a period of a
+-- first and a last day
 pub record Asked : Type 0 where
   pub k : ℕ
   pub score : Score
   pub region : Region
+  pub season : Option (ℕ × ℕ)
   pub period : Option (ℤ × ℤ)
 
 -- the element that a score is about
@@ -25,6 +27,7 @@ score_element (Lowest e) = e
 score_element (Sum n e) = e
 score_element Dry = Prcp
 score_element Wet = Prcp
+score_element (Hot t) = Tmax
 
 -- an element whose lowest values are ranked
 abbrev pub is_temperature : Element → Bool
@@ -42,6 +45,10 @@ is_fall Snwd = false
 is_fall Tmax = false
 is_fall Tmin = false
 
+-- a number of tenths of a degree from which on a day can be called hot: -100 to 100 degrees
+abbrev pub is_heat : ℤ → Bool
+is_heat t = int_le (neg_ℤ (pos 1_000)) t && int_le t (pos 1_000)
+
 -- a score that can be asked for
 abbrev pub is_score : Score → Bool
 is_score (Highest e) = true
@@ -49,6 +56,7 @@ is_score (Lowest e) = is_temperature e
 is_score (Sum n e) = is_within 1 366 n && is_fall e
 is_score Dry = true
 is_score Wet = true
+is_score (Hot t) = is_heat t
 
 -- a longitude, in ten-thousandths of a degree
 abbrev pub is_longitude : ℤ → Bool
@@ -68,6 +76,15 @@ is_region (Country code) = is_code 2 code
 is_region (State code) = is_code 2 code
 is_region (Only id) = is_id id.0
 
+-- the number of a month
+abbrev pub is_month : ℕ → Bool
+is_month m = is_within 1 12 m
+
+-- a season that can be asked for: none, or two months
+abbrev pub is_season : Option (ℕ × ℕ) → Bool
+is_season None = true
+is_season (Some s) = is_month s.0 && is_month s.1
+
 -- a period that can be asked for: none, or two days, the second not before the first
 abbrev pub is_period : Option (ℤ × ℤ) → Bool
 is_period None = true
@@ -78,4 +95,5 @@ pub record IsAsked (q : Asked) : Type 0 where
   pub k : IsTrue (is_within 1 1000 q.k)
   pub score : IsTrue (is_score q.score)
   pub region : IsTrue (is_region q.region)
+  pub season : IsTrue (is_season q.season)
   pub period : IsTrue (is_period q.period)

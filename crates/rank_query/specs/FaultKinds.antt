@@ -1,18 +1,22 @@
 -- Which fault a wrong word has: it depends on what the grammar has behind the words before it.
 use Rattle.std.specs.Prelude.{◌≡◌, ℕ, zero, suc, ◌+◌, Bool, true, false, ◌&&◌, ◌||◌, if◌then◌else◌, ◌⊎◌, List, []}
-use Rattle.std.specs.Prelude.{◌∷◌, ◌++◌, length, reverse, codes, is_some}
+use Rattle.std.specs.Prelude.{◌∷◌, ◌++◌, length, reverse, codes, is_some, Option, None, Some}
 use Rattle.ghcn_fields.specs.declared.field.Field.{Field}
 use Rattle.ghcn_fields.specs.declared.field.Field.TheVariants.{Blank, Number, Bad}
 use Rattle.ghcn_fields.specs.Bytes.{same_bytes}
 use Rattle.ghcn_fields.specs.Dates.{read_date}
 use Rattle.ghcn_fields.specs.Numbers.{natural, scaled_field}
+use Rattle.rank_query.specs.WordValues.{tenths_of, two_numbers}
 use Rattle.rank_query.specs.declared.fault.QueryFault.{QueryFault}
 use Rattle.rank_query.specs.declared.fault.QueryFault.TheVariants.{QueryTooLong, UnexpectedWord, QueryEnds}
 use Rattle.rank_query.specs.declared.fault.QueryFault.TheVariants.{OutOfLimits, BadDate, BadBox, EmptyPeriod}
 
--- what the grammar has at a place: a number of rows or of days, an edge of a box, a date, or any other word
+-- what the grammar has at a place: a number of rows or of days, one of degrees, the months of a season, an edge of a
+-- box, a date, or any other word
 pub data Place : Type 0 where
   number : Place
+  heat : Place
+  season : Place
   edge : Place
   date : Place
   other : Place
@@ -20,6 +24,23 @@ pub data Place : Type 0 where
 -- the word is one digit or more, and nothing else
 abbrev pub is_digits : List ℕ → Bool
 is_digits word = is_some (natural word)
+
+-- the word is a number with one decimal at most
+abbrev pub is_tenths : List ℕ → Bool
+is_tenths word = is_some (tenths_of word)
+
+-- the word is two numbers with two points between them
+abbrev pub are_two : List ℕ → Bool
+are_two word = is_some (two_numbers word)
+
+-- whether a word has the form of the numbers of a place, where these have limits
+abbrev pub has_form : Place → List ℕ → Option Bool
+has_form number word = Some (is_digits word)
+has_form heat word = Some (is_tenths word)
+has_form season word = Some (are_two word)
+has_form edge word = None
+has_form date word = None
+has_form other word = None
 
 -- a field is a number
 abbrev pub is_number : Field → Bool
@@ -56,12 +77,14 @@ abbrev pub is_behind_from : List (List ℕ) → Bool
 is_behind_from [] = false
 is_behind_from (w ∷ past) = same_bytes w (codes "from") || (same_bytes w (codes "to") && is_behind_first_day past)
 
--- the place behind some words: a number stands behind "top" and "sum", the four edges behind "box",
--- the dates behind "from" and "to"
+-- the place behind some words: a number stands behind "top" and "sum", degrees behind "hot", the four edges behind
+-- "box", the months behind "months", the dates behind "from" and "to"
 abbrev pub place_behind : List (List ℕ) → Place
 place_behind past =
     if is_behind_box 3 past then edge
     else if is_behind (codes "top") past || is_behind (codes "sum") past then number
+    else if is_behind (codes "hot") past then heat
+    else if is_behind (codes "months") past then season
     else if is_behind_from past then date
     else other
 
@@ -69,9 +92,9 @@ place_behind past =
 abbrev pub IsFaultOf : QueryFault → List (List ℕ) → List ℕ → Type 0
 IsFaultOf QueryTooLong past word = ⊥
 IsFaultOf (UnexpectedWord n) past word =
-    (n ≡ length past + 1) × ((place_behind past ≡ other) ⊎ ((place_behind past ≡ number) × (is_digits word ≡ false)))
+    (n ≡ length past + 1) × ((place_behind past ≡ other) ⊎ (has_form (place_behind past) word ≡ Some false))
 IsFaultOf QueryEnds past word = ⊥
-IsFaultOf (OutOfLimits n) past word = (n ≡ length past + 1) × (place_behind past ≡ number) × (is_digits word ≡ true)
+IsFaultOf (OutOfLimits n) past word = (n ≡ length past + 1) × (has_form (place_behind past) word ≡ Some true)
 IsFaultOf (BadDate n) past word = (n ≡ length past + 1) × (place_behind past ≡ date) × (is_date word ≡ false)
 IsFaultOf (BadBox n) past word = (n ≡ length past + 1) × (place_behind past ≡ edge)
 IsFaultOf EmptyPeriod past word = (place_behind past ≡ date) × (is_date word ≡ true)

@@ -2,7 +2,7 @@
 use Rattle.std.specs.Prelude.{ℕ, true, nat_lt, if◌then◌else◌, List, [], ◌∷◌, length, codes, Option, None, Some}
 use Rattle.std.specs.Prelude.{Result, Ok, Err, ℤ, pos, neg_ℤ, int_le}
 use Rattle.rank_query.specs.declared.score.Score.{Score}
-use Rattle.rank_query.specs.declared.score.Score.TheVariants.{Highest, Lowest, Sum, Dry, Wet}
+use Rattle.rank_query.specs.declared.score.Score.TheVariants.{Highest, Lowest, Sum, Dry, Wet, Hot}
 use Rattle.rank_query.specs.declared.region.Region.{Region}
 use Rattle.rank_query.specs.declared.region.Region.TheVariants.{Everywhere, Inside, Country, State, Only}
 use Rattle.rank_query.specs.declared.fault.QueryFault.{QueryFault}
@@ -10,7 +10,7 @@ use Rattle.rank_query.specs.declared.fault.QueryFault.TheVariants.{QueryTooLong,
 use Rattle.rank_query.specs.Asked.{Asked, is_temperature, is_fall}
 use Rattle.rank_query.specs.Words.{Word, numbered_words}
 use Rattle.rank_query.specs.Readers.{◌>>=◌, Read, next_word, keyword, one_word, made_into, by_word}
-use Rattle.rank_query.specs.WordValues.{number, element, degrees, code, date}
+use Rattle.rank_query.specs.WordValues.{number, element, heat, months, degrees, code, date}
 
 -- no score: another word stands there, or none
 unfoldable pub no_score_at : List Word → Read Score
@@ -41,11 +41,15 @@ dry_at ws = Ok (Dry, ws)
 abbrev pub wet_at : List Word → Read Score
 wet_at ws = Ok (Wet, ws)
 
+-- hot spells
+abbrev pub hot_at : List Word → Read Score
+hot_at ws = made_into Hot (one_word heat ws)
+
 -- a score, by its first word
 unfoldable pub score_at : List Word → Read Score
 score_at ws =
     by_word ((codes "highest", highest_at) ∷ (codes "lowest", lowest_at) ∷ (codes "sum", sum_at) ∷
-    (codes "dry", dry_at) ∷ (codes "wet", wet_at) ∷ []) no_score_at ws
+    (codes "dry", dry_at) ∷ (codes "wet", wet_at) ∷ (codes "hot", hot_at) ∷ []) no_score_at ws
 
 -- degrees of latitude, from a southernmost one to the north pole
 abbrev pub latitude_from : ℤ → Word → Result ℤ QueryFault
@@ -86,6 +90,18 @@ region_at ws =
     by_word ((codes "box", box_at) ∷ (codes "country", country_at) ∷ (codes "state", state_at) ∷
     (codes "station", station_at) ∷ []) everywhere_at ws
 
+-- a season from a first to a last month
+abbrev pub months_at : List Word → Read (Option (ℕ × ℕ))
+months_at ws = made_into Some (one_word months ws)
+
+-- all months, without a word
+abbrev pub all_year_at : List Word → Read (Option (ℕ × ℕ))
+all_year_at ws = Ok (None, ws)
+
+-- a season, by its first word, and without one all months
+unfoldable pub season_at : List Word → Read (Option (ℕ × ℕ))
+season_at ws = by_word ((codes "months", months_at) ∷ []) all_year_at ws
+
 -- the first and the last day of a period, which isn't before the first
 unfoldable pub days_at : List Word → Read (ℤ × ℤ)
 days_at ws = do
@@ -118,8 +134,10 @@ read_words ws = do
   k ← one_word (number 1 1000) after_top
   score ← score_at k.1
   region ← region_at score.1
-  period ← period_at region.1
-  nothing_more period.1 (record { k = k.0; score = score.0; region = region.0; period = period.0 })
+  season ← season_at region.1
+  period ← period_at season.1
+  nothing_more period.1
+      (record { k = k.0; score = score.0; region = region.0; season = season.0; period = period.0 })
 
 -- the query of a text of at most 256 bytes
 unfoldable pub read_query : List ℕ → Result Asked QueryFault

@@ -1,6 +1,7 @@
 -- What single words of a query text are read as.
-use Rattle.std.specs.Prelude.{ℕ, Bool, if◌then◌else◌, List, Result, Ok, Err, ℤ}
-use Rattle.ghcn_fields.specs.Numbers.{natural, scaled_field}
+use Rattle.std.specs.Prelude.{ℕ, Bool, ◌&&◌, ◌==◌, if◌then◌else◌, List, [], ◌∷◌, Option, None, Some, Result, Ok, Err, ℤ}
+use Rattle.std.specs.List.{before_first, after_first}
+use Rattle.ghcn_fields.specs.Numbers.{natural, decimal_number, signed_by, scaled_field}
 use Rattle.ghcn_fields.specs.Days.{is_within}
 use Rattle.ghcn_fields.specs.Dates.{read_date}
 use Rattle.ghcn_files.specs.declared.element.Element.{Element}
@@ -8,7 +9,7 @@ use Rattle.ghcn_files.specs.Elements.{element_of}
 use Rattle.ghcn_files.specs.StationLines.{is_number_within, number_of}
 use Rattle.rank_query.specs.declared.fault.QueryFault.{QueryFault}
 use Rattle.rank_query.specs.declared.fault.QueryFault.TheVariants.{UnexpectedWord, OutOfLimits, BadDate, BadBox}
-use Rattle.rank_query.specs.Asked.{is_code}
+use Rattle.rank_query.specs.Asked.{is_code, is_heat, is_month}
 use Rattle.rank_query.specs.Words.{Word}
 use Rattle.rank_query.specs.Readers.{◌>>=◌, or_fault}
 
@@ -28,6 +29,41 @@ element allows w = do
 unfoldable pub degrees : ℤ → ℤ → Word → Result ℤ QueryFault
 degrees low high w =
     if is_number_within low high (scaled_field 4 w.1) then Ok (number_of (scaled_field 4 w.1)) else Err (BadBox w.0)
+
+-- so many tenths, as a number with one decimal at most writes them
+abbrev pub tenths_of : List ℕ → Option ℤ
+tenths_of word = signed_by (decimal_number 1) word
+
+-- a number of degrees from which on a day is hot, in tenths, within its limits
+unfoldable pub heat : Word → Result ℤ QueryFault
+heat w = do
+  t ← or_fault (UnexpectedWord w.0) (tenths_of w.1)
+  if is_heat t then Ok t else Err (OutOfLimits w.0)
+
+-- a point
+abbrev pub is_point : ℕ → Bool
+is_point b = b == 46
+
+-- the number behind a point that comes first
+abbrev pub natural_behind : List ℕ → Option ℕ
+natural_behind [] = None
+natural_behind (b ∷ bytes) = if is_point b then natural bytes else None
+
+-- two numbers, where there are both
+abbrev pub both_numbers : Option ℕ → Option ℕ → Option (ℕ × ℕ)
+both_numbers None b = None
+both_numbers (Some a) None = None
+both_numbers (Some a) (Some b) = Some (a, b)
+
+-- the numbers before and behind two points
+abbrev pub two_numbers : List ℕ → Option (ℕ × ℕ)
+two_numbers word = both_numbers (natural (before_first is_point word)) (natural_behind (after_first is_point word))
+
+-- a first and a last month
+unfoldable pub months : Word → Result (ℕ × ℕ) QueryFault
+months w = do
+  s ← or_fault (UnexpectedWord w.0) (two_numbers w.1)
+  if is_month s.0 && is_month s.1 then Ok s else Err (OutOfLimits w.0)
 
 -- so many visible bytes
 unfoldable pub code : ℕ → Word → Result (List ℕ) QueryFault

@@ -1,7 +1,7 @@
 //! Reading a query text from left to right, up to the first fault.
 
 ghost use Rattle.std.specs.Prelude.{◌≡◌, ◌≤◌, length, Some, IfOk, IfErr, IsTrue};
-ghost use Rattle.rank_query.specs.Asked.{Asked, IsAsked, is_score, is_region, is_period};
+ghost use Rattle.rank_query.specs.Asked.{Asked, IsAsked, is_score, is_region, is_season, is_period};
 ghost use Rattle.rank_query.specs.QueryTexts.{query_text};
 ghost use Rattle.rank_query.specs.Spelling.{IsSpelling};
 ghost use Rattle.rank_query.specs.FaultKinds.{IsFaultAmong};
@@ -10,7 +10,9 @@ ghost use Rattle.rank_query.specs.Readers.{Gives};
 ghost use Rattle.rank_query.specs.Reading as reading;
 ghost use Rattle.rank_query.specs.Words.{words_of};
 
-use crate::values::{code, date, degrees, element, fall, keyword, needed, number, temperature};
+use crate::values::{
+    code, date, degrees, element, fall, heat, keyword, months, needed, number, temperature,
+};
 use crate::words::Words;
 use crate::{Query, QueryFault, Region, Score};
 use ghcn_fields::Day;
@@ -70,6 +72,7 @@ fn query_of(words: &mut Words) -> Result<Query, QueryFault>
     let k = number(words, 1, MOST_ROWS)?;
     let score = score(words)?;
     let region = region(words)?;
+    let season = season(words)?;
     let period = period(words)?;
     match words.next() {
         Some((at, _)) => Err(QueryFault::UnexpectedWord(at)),
@@ -77,6 +80,7 @@ fn query_of(words: &mut Words) -> Result<Query, QueryFault>
             k,
             score,
             region,
+            season,
             period,
         }),
     }
@@ -101,6 +105,9 @@ fn score(words: &mut Words) -> Result<Score, QueryFault>
     }
     if words.take_if(b"wet") {
         return Ok(Score::Wet);
+    }
+    if words.take_if(b"hot") {
+        return Ok(Score::Hot(heat(words)?));
     }
     let (at, _) = needed(words)?;
     Err(QueryFault::UnexpectedWord(at))
@@ -152,6 +159,17 @@ fn edges(words: &mut Words) -> Result<Region, QueryFault>
         north,
         east,
     })
+}
+
+#[tactic(auto, unfolding(crate::specs::Reading::season_at))]
+fn season(words: &mut Words) -> Result<Option<(u8, u8)>, QueryFault>
+    ensures read { Gives (λ s. (s, words.new)) result (reading.season_at words.old) }
+    ensures asked { IfOk result (λ s. IsTrue (is_season s)) }
+{
+    if words.take_if(b"months") {
+        return Ok(Some(months(words)?));
+    }
+    Ok(None)
 }
 
 #[tactic(auto, unfolding(crate::specs::Reading::period_at))]

@@ -1,20 +1,23 @@
 //! A query, and what it admits.
 
-ghost use Rattle.std.specs.Prelude.{◌≡◌};
+ghost use Rattle.std.specs.Prelude.{◌≡◌, ◌≤◌, nat_le, ℤ, ◌≤ℤ◌, IsTrue};
+ghost use Rattle.ghcn_fields.specs.Dates.{civil};
+ghost use Rattle.ghcn_fields.specs.Days.{is_day};
 ghost use Rattle.rank_query.specs.Admits as admits;
 ghost use Rattle.rank_query.specs.Asked.{score_element, IsAsked};
 
 use crate::{Region, Score};
-use ghcn_fields::Day;
+use ghcn_fields::{Day, days_in_month};
 use ghcn_files::{Element, Station};
 use std::marker::Model;
 
-/// What is asked: the k best of a score, in a region and a period.
+/// What is asked: the k best of a score, in a region, a season and a period.
 #[derive(Clone, Copy, Debug)]
 pub struct Query {
     pub(crate) k: u64,
     pub(crate) score: Score,
     pub(crate) region: Region,
+    pub(crate) season: Option<(u8, u8)>,
     pub(crate) period: Option<(Day, Day)>,
 }
 
@@ -23,11 +26,29 @@ impl Model for Query {
 
     ghost Value = { Asked };
 
-    ghost view = { λ q. record { k = q.k; score = q.score; region = q.region; period = q.period } };
+    ghost view = { λ q. record {
+      k = q.k;
+      score = q.score;
+      region = q.region;
+      season = q.season;
+      period = q.period;
+    } };
 
-    ghost invariant = { λ q. IsAsked (record { k = q.k; score = q.score; region = q.region; period = q.period }) };
+    ghost invariant = { λ q. IsAsked (record {
+      k = q.k;
+      score = q.score;
+      region = q.region;
+      season = q.season;
+      period = q.period;
+    }) };
 
-    ghost inverse = { λ q. record { k = q.k; score = q.score; region = q.region; period = q.period } };
+    ghost inverse = { λ q. record {
+      k = q.k;
+      score = q.score;
+      region = q.region;
+      season = q.season;
+      period = q.period;
+    } };
 }
 
 impl Query {
@@ -54,6 +75,15 @@ impl Query {
         self.region
     }
 
+    /// The first and the last month of the season, 1 to 12, where one is given. Where the first is
+    /// greater, the season goes over the turn of the year.
+    pub fn season(&self) -> Option<(u8, u8)>
+        ensures season { result ≡ self.now.season }
+        ensures asked { IsAsked self.now }
+    {
+        self.season
+    }
+
     /// The first and the last day of the period, where one is given.
     pub fn period(&self) -> Option<(Day, Day)>
         ensures { result ≡ self.now.period }
@@ -72,6 +102,7 @@ impl Query {
             Score::Sum(_, element) => element,
             Score::Dry => Element::Prcp,
             Score::Wet => Element::Prcp,
+            Score::Hot(_) => Element::Tmax,
         }
     }
 
@@ -82,14 +113,98 @@ impl Query {
         self.region.holds(station)
     }
 
-    /// Whether the period holds the day, as all days of the years 1 to 9999 do without one.
+    /// Whether the period and the season hold the day. Where one isn't given, it holds all days of the
+    /// years 1 to 9999.
     pub fn admits_day(&self, day: Day) -> bool
         ensures { result ≡ admits.admits_day self.now day }
+    {
+        self.is_in_period(day) && self.is_in_season(day)
+    }
+
+    fn is_in_period(&self, day: Day) -> bool
+        ensures { result ≡ admits.period_holds self.now.period day }
     {
         let number = day.number();
         match self.period {
             None => true,
             Some((first, last)) => first.number() <= number && number <= last.number(),
         }
+    }
+
+    fn is_in_season(&self, day: Day) -> bool
+        ensures { result ≡ admits.season_holds self.now.season day }
+    {
+        match self.season {
+            None => true,
+            Some((first, last)) => is_between(first, last, day.civil().1),
+        }
+    }
+
+    /// Whether the query admits the day, and a number up to which the days from it on are alike in that.
+    ///
+    /// Who goes through days by number asks once a month at most.
+    pub fn admits_from(&self, day: Day) -> (bool, i32)
+        ensures on { day ≤ℤ result.1 }
+        ensures alike { (d : ℤ) → IsTrue (is_day d) → day ≤ℤ d → d ≤ℤ result.1
+            → admits.admits_day self.now d ≡ result.0 }
+    {
+        let (in_period, period_to) = self.period_from(day);
+        if !in_period {
+            return (false, period_to);
+        }
+        let (in_season, season_to) = self.season_from(day);
+        (in_season, season_to.min(period_to))
+    }
+
+    /// Whether the period holds the day, and a number up to which the days from it on are alike in that.
+    fn period_from(&self, day: Day) -> (bool, i32)
+        ensures on { day ≤ℤ result.1 }
+        ensures alike { (d : ℤ) → IsTrue (is_day d) → day ≤ℤ d → d ≤ℤ result.1
+            → admits.period_holds self.now.period d ≡ result.0 }
+    {
+        match self.period {
+            None => (true, i32::MAX),
+            Some((first, _)) if day.number() < first.number() => (false, first.number() - 1),
+            Some((_, last)) if day.number() <= last.number() => (true, last.number()),
+            Some(_) => (false, i32::MAX),
+        }
+    }
+
+    /// Whether the season holds the day, and the last day of its month, up to which the days from it
+    /// on are alike in that.
+    fn season_from(&self, day: Day) -> (bool, i32)
+        ensures on { day ≤ℤ result.1 }
+        ensures alike { (d : ℤ) → IsTrue (is_day d) → day ≤ℤ d → d ≤ℤ result.1
+            → admits.season_holds self.now.season d ≡ result.0 }
+    {
+        match self.season {
+            None => (true, i32::MAX),
+            Some((first, last)) => {
+                let (month, end) = month_of(day);
+                (is_between(first, last, month), end)
+            }
+        }
+    }
+}
+
+/// The month of a day, and the number of that month's last day.
+fn month_of(day: Day) -> (u8, i32)
+    ensures on { day ≤ℤ result.1 }
+    ensures month { (d : ℤ) → day ≤ℤ d → d ≤ℤ result.1 → (civil d).1 ≡ result.0 }
+{
+    let (year, month, place) = day.civil();
+    let left = days_in_month(year, month) - place;
+    (month, day.number() + left as i32)
+}
+
+/// Whether a month lies from a first to a last one, over the turn of the year where the first is
+/// greater.
+fn is_between(first: u8, last: u8, month: u8) -> bool
+    ensures { result ≡ admits.is_between_months first last month }
+{
+    if first <= last {
+        first <= month && month <= last
+    } else {
+        first <= month || month <= last
     }
 }

@@ -15,4 +15,7 @@ pub enum Score {
     Dry,
     /// Spells of days with at least 1 mm of precipitation, by their length (ETCCDI).
     Wet,
+    /// Spells of days with a maximum temperature of at least so many tenths of a degree, -1000 to
+    /// 1000, by their length.
+    Hot(i32),
 }

@@ -18,7 +18,21 @@ fn first_fault_of_a_query(rt: HostRuntime) {
         ("top 1001 highest TMAX", Some(QueryFault::OutOfLimits(2))),
         ("top 0 highest TMAX", Some(QueryFault::OutOfLimits(2))),
         ("top 1", Some(QueryFault::QueryEnds)),
-        ("top 1 hot 30", Some(QueryFault::UnexpectedWord(3))),
+        ("top 1 hotter 30", Some(QueryFault::UnexpectedWord(3))),
+        ("top 1 hot 30", None),
+        ("top 1 hot 100.0", None),
+        ("top 1 hot 100.1", Some(QueryFault::OutOfLimits(4))),
+        ("top 1 hot -100.1", Some(QueryFault::OutOfLimits(4))),
+        ("top 1 hot 101", Some(QueryFault::OutOfLimits(4))),
+        ("top 1 hot 99999999999", Some(QueryFault::OutOfLimits(4))),
+        ("top 1 hot 30.05", Some(QueryFault::UnexpectedWord(4))),
+        ("top 1 hot 30.", Some(QueryFault::UnexpectedWord(4))),
+        ("top 1 hot .5", Some(QueryFault::UnexpectedWord(4))),
+        ("top 1 hot +30", Some(QueryFault::UnexpectedWord(4))),
+        ("top 1 hot --3", Some(QueryFault::UnexpectedWord(4))),
+        ("top 1 hot TMAX", Some(QueryFault::UnexpectedWord(4))),
+        ("top 1 hot 30 TMAX", Some(QueryFault::UnexpectedWord(5))),
+        ("top 1 hot", Some(QueryFault::QueryEnds)),
         ("top 1 highest", Some(QueryFault::QueryEnds)),
         ("top 1 highest TAVG", Some(QueryFault::UnexpectedWord(4))),
         ("top 1 lowest PRCP", Some(QueryFault::UnexpectedWord(4))),
@@ -29,7 +43,6 @@ fn first_fault_of_a_query(rt: HostRuntime) {
         ("top 1 sum PRCP", Some(QueryFault::UnexpectedWord(4))),
         ("top 1 sum 3 SNWD", Some(QueryFault::UnexpectedWord(5))),
         ("top 1 sum 3", Some(QueryFault::QueryEnds)),
-        ("top 1 dry months 1..2", Some(QueryFault::UnexpectedWord(4))),
         (
             "top 1 highest TMAX TMAX",
             Some(QueryFault::UnexpectedWord(5)),
@@ -70,6 +83,50 @@ fn first_fault_of_a_region(rt: HostRuntime) -> Result<(), Fail> {
         assert_eq!(rt; Query::parse(&text).err(), fault, "at {words}");
     }
     Ok(())
+}
+
+#[test]
+fn first_fault_of_a_season(rt: HostRuntime) {
+    let cases = [
+        ("top 1 dry months 1..12", None),
+        ("top 1 dry months 012..0000000000000000000002", None),
+        ("top 1 dry months 0..3", Some(QueryFault::OutOfLimits(5))),
+        ("top 1 dry months 3..0", Some(QueryFault::OutOfLimits(5))),
+        ("top 1 dry months 13..1", Some(QueryFault::OutOfLimits(5))),
+        (
+            "top 1 dry months 1..99999999999999999999999",
+            Some(QueryFault::OutOfLimits(5)),
+        ),
+        ("top 1 dry months 0..x", Some(QueryFault::UnexpectedWord(5))),
+        ("top 1 dry months 1-3", Some(QueryFault::UnexpectedWord(5))),
+        ("top 1 dry months 1.3", Some(QueryFault::UnexpectedWord(5))),
+        (
+            "top 1 dry months 1...3",
+            Some(QueryFault::UnexpectedWord(5)),
+        ),
+        (
+            "top 1 dry months 1..3.",
+            Some(QueryFault::UnexpectedWord(5)),
+        ),
+        ("top 1 dry months ..3", Some(QueryFault::UnexpectedWord(5))),
+        ("top 1 dry months 1..", Some(QueryFault::UnexpectedWord(5))),
+        (
+            "top 1 dry months 1 ..3",
+            Some(QueryFault::UnexpectedWord(5)),
+        ),
+        ("top 1 dry months", Some(QueryFault::QueryEnds)),
+        (
+            "top 1 dry months 1..2 country ZZ",
+            Some(QueryFault::UnexpectedWord(6)),
+        ),
+        (
+            "top 1 dry from 2020-07-01 to 2020-07-01 months 1..2",
+            Some(QueryFault::UnexpectedWord(8)),
+        ),
+    ];
+    for (text, fault) in cases {
+        assert_eq!(rt; Query::parse(text).err(), fault, "at {text}");
+    }
 }
 
 #[test]
@@ -162,6 +219,15 @@ fn canonical_texts(rt: HostRuntime) -> Result<(), Fail> {
         ("top  007 wet", "top 7 wet"),
         ("top 1 sum 0366 PRCP", "top 1 sum 366 PRCP"),
         ("top 2 lowest TMIN", "top 2 lowest TMIN"),
+        ("top 1 hot -0", "top 1 hot 0.0"),
+        ("top 1 hot 30", "top 1 hot 30.0"),
+        ("top 1 hot -00.5", "top 1 hot -0.5"),
+        ("top 1 hot -100", "top 1 hot -100.0"),
+        ("top 1 dry months 012..02", "top 1 dry months 12..2"),
+        (
+            "top 1 wet state NY months 6..08 from 2020-07-01 to 2020-07-01",
+            "top 1 wet state NY months 6..8 from 2020-07-01 to 2020-07-01",
+        ),
         (
             "top 1 dry from 2020-07-01 to 2020-07-01",
             "top 1 dry from 2020-07-01 to 2020-07-01",
@@ -221,6 +287,7 @@ fn parts_of_a_query(rt: HostRuntime) -> Result<(), Fail> {
     assert_eq!(rt; query.k(), 12);
     assert_eq!(rt; query.score(), Score::Highest(Element::Snow));
     assert_eq!(rt; query.region(), Region::Everywhere);
+    assert_eq!(rt; query.season(), None);
     assert_eq!(rt; query.period(), None);
     assert!(rt; query.admits_station(&station(0, 0)));
     for number in [-719_162, 0, 2_932_896] {
@@ -260,6 +327,7 @@ fn scores_and_their_elements(rt: HostRuntime) -> Result<(), Fail> {
         ),
         ("top 1 dry", Score::Dry, Element::Prcp),
         ("top 1 wet", Score::Wet, Element::Prcp),
+        ("top 1 hot 31.1", Score::Hot(311), Element::Tmax),
     ];
     for (text, score, element) in cases {
         let query = Query::parse(text).ok().ok_or("the text is a query")?;
@@ -344,6 +412,7 @@ fn edges_of_a_box_over_the_date_line(rt: HostRuntime) {
             north: 100_000,
             east: -1_700_000,
         },
+        season: None,
         period: None,
     };
     let cases = [
@@ -364,6 +433,33 @@ fn edges_of_a_box_over_the_date_line(rt: HostRuntime) {
             "at {latitude} {longitude}"
         );
     }
+}
+
+#[test]
+fn days_of_a_season(rt: HostRuntime) -> Result<(), Fail> {
+    // 2019-11-30 and the day after it, 2019-12-31, 2020-01-31 and the day after it, 2020-02-29.
+    let cases = [
+        ("months 12..1", [false, true, true, true, false, false]),
+        ("months 1..1", [false, false, false, true, false, false]),
+        ("months 2..11", [true, false, false, false, true, true]),
+        ("months 2..2", [false, false, false, false, true, true]),
+        ("months 1..12", [true, true, true, true, true, true]),
+        (
+            "months 12..2 from 2019-12-31 to 2020-02-01",
+            [false, false, true, true, true, false],
+        ),
+    ];
+    for (words, admitted) in cases {
+        let text = format!(in rt.alloc(); "top 1 dry {words}")?;
+        let query = Query::parse(&text).ok().ok_or("the text is a query")?;
+        let numbers = [18_230, 18_231, 18_261, 18_292, 18_293, 18_321];
+        for (number, admitted) in numbers.into_iter().zip(admitted) {
+            let day = Day::with_number(number).ok_or("it is a day")?;
+            assert_eq!(rt; query.admits_day(day), admitted, "{words} at {number}");
+            assert_eq!(rt; query.admits_from(day).0, admitted, "{words} from {number}");
+        }
+    }
+    Ok(())
 }
 
 fn station(latitude: i32, longitude: i32) -> Station {

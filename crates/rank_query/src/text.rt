@@ -3,11 +3,11 @@
 ghost use Rattle.std.specs.Prelude.{◌≡◌, ◌∷◌, IfOk, IsTrue, Some, string_bytes};
 ghost use Rattle.std.specs.Fmt.{WritesOnOk};
 ghost use Rattle.std.specs.List.{list_all};
-ghost use Rattle.ghcn_fields.specs.NumberTexts.{four_places, four_places_of};
+ghost use Rattle.ghcn_fields.specs.NumberTexts.{four_places, four_places_of, tenths};
 ghost use Rattle.ghcn_files.specs.Ids.{is_visible};
 ghost use Rattle.rank_query.specs.Asked.{is_region};
 ghost use Rattle.rank_query.specs.Printed.{spaced};
-ghost use Rattle.rank_query.specs.QueryTexts.{query_text, score_words, region_words, period_words};
+ghost use Rattle.rank_query.specs.QueryTexts.{query_text, score_words, region_words, season_words, period_words};
 
 use crate::{Query, Region, Score};
 use ghcn_fields::{Day, Memory, write_date};
@@ -32,6 +32,7 @@ impl fmt::Display for Query {
         write!(f, "top {k}")?;
         write_score(f, self.score)?;
         write_region(f, &self.region)?;
+        write_season(f, self.season)?;
         write_period(f, self.period)
     }
 }
@@ -45,7 +46,21 @@ fn write_score<W: fmt::Write>(f: &mut fmt::Formatter<W>, score: Score) -> fmt::R
         Score::Sum(days, element) => write!(f, " sum {days} {element}"),
         Score::Dry => f.write_str(" dry"),
         Score::Wet => f.write_str(" wet"),
+        Score::Hot(degrees) => {
+            f.write_str(" hot")?;
+            write_tenths(f, degrees)
+        }
     }
+}
+
+/// A blank and a number of tenths, with one decimal.
+fn write_tenths<W: fmt::Write>(f: &mut fmt::Formatter<W>, number: i32) -> fmt::Result
+    ensures { WritesOnOk W.write_str_gives f.old result (32 ∷ tenths number) f.new }
+{
+    let sign = if number < 0 { " -" } else { " " };
+    let magnitude = number.unsigned_abs();
+    let (whole, tenth) = (magnitude / 10, magnitude % 10);
+    write!(f, "{sign}{whole}.{tenth}")
 }
 
 fn write_region<W: fmt::Write>(f: &mut fmt::Formatter<W>, region: &Region) -> fmt::Result
@@ -107,6 +122,15 @@ fn write_four_places<W: fmt::Write>(f: &mut fmt::Formatter<W>, number: u32) -> f
     let (first, second) = (number / 1_000 % 10, number / 100 % 10);
     let (third, fourth) = (number / 10 % 10, number % 10);
     write!(f, "{whole}.{first}{second}{third}{fourth}")
+}
+
+fn write_season<W: fmt::Write>(f: &mut fmt::Formatter<W>, season: Option<(u8, u8)>) -> fmt::Result
+    ensures { WritesOnOk W.write_str_gives f.old result (spaced (season_words season)) f.new }
+{
+    let Some((first, last)) = season else {
+        return Ok(());
+    };
+    write!(f, " months {first}..{last}")
 }
 
 fn write_period<W: fmt::Write>(f: &mut fmt::Formatter<W>, period: Option<(Day, Day)>) -> fmt::Result

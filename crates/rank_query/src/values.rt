@@ -1,12 +1,12 @@
 //! What single words of a query text are read as.
 
-ghost use Rattle.std.specs.Prelude.{◌≡◌, true, ◌+◌, ◌<◌, ◌^◌, ◌&&◌, int_le, min, IfOk, IsTrue};
+ghost use Rattle.std.specs.Prelude.{◌≡◌, true, ◌+◌, ◌<◌, ◌^◌, ◌&&◌, int_le, min, IfOk, IsTrue, length};
 ghost use Rattle.std.specs.List.{list_all};
 ghost use Rattle.std.specs.Option.{option_map};
-ghost use Rattle.ghcn_fields.specs.Numbers.{natural};
+ghost use Rattle.ghcn_fields.specs.Numbers.{natural, joined, decimal_number, signed_by};
 ghost use Rattle.ghcn_fields.specs.Days.{is_within};
 ghost use Rattle.ghcn_files.specs.Ids.{is_visible};
-ghost use Rattle.rank_query.specs.Asked.{is_code, is_temperature, is_fall};
+ghost use Rattle.rank_query.specs.Asked.{is_code, is_temperature, is_fall, is_heat, is_month};
 ghost use Rattle.rank_query.specs.Readers as readers;
 ghost use Rattle.rank_query.specs.Readers.{Gives, one_word};
 ghost use Rattle.rank_query.specs.WordValues as values;
@@ -15,6 +15,16 @@ use crate::QueryFault;
 use crate::words::{Words, says};
 use ghcn_fields::{Day, Field, read_date, scaled_field};
 use ghcn_files::Element;
+use memchr::memchr;
+
+/// The greatest number of degrees from which on a day can be called hot.
+const MOST_DEGREES: u64 = 100;
+
+/// The same in tenths.
+const MOST_TENTHS: u64 = 1000;
+
+/// The number of December.
+const LAST_MONTH: u64 = 12;
 
 /// The next word, with its number.
 pub(crate) fn needed<'a>(words: &mut Words<'a>) -> Result<(u64, &'a [u8]), QueryFault>
@@ -100,6 +110,97 @@ pub(crate) fn fall(words: &mut Words) -> Result<Element, QueryFault>
     match Element::of_code(word) {
         Some(element @ (Element::Prcp | Element::Snow)) => Ok(element),
         _ => Err(QueryFault::UnexpectedWord(at)),
+    }
+}
+
+/// A number of degrees from -100 to 100, in tenths, with one decimal at most.
+#[tactic(auto, unfolding(crate::specs::WordValues::heat))]
+pub(crate) fn heat(words: &mut Words) -> Result<i32, QueryFault>
+    ensures read { Gives (λ t. (t, words.new)) result (one_word values.heat words.old) }
+    ensures within { IfOk result (λ t. IsTrue (is_heat t)) }
+{
+    let (place, word) = needed(words)?;
+    match tenths_up_to_most(word) {
+        None => Err(QueryFault::UnexpectedWord(place)),
+        Some(tenths) if is_between(-1000, tenths, 1000) => Ok(tenths),
+        Some(_) => Err(QueryFault::OutOfLimits(place)),
+    }
+}
+
+/// The tenths that a word writes, with a minus or without. A number out of the limits of degrees is
+/// another one that is out of them too.
+fn tenths_up_to_most(word: &[u8]) -> Option<i32>
+    ensures { result ≡ signed_by (λ digits. option_map (min 1001) (decimal_number 1 digits)) word.now }
+{
+    match word {
+        [b'-', digits @ ..] => Some(-(decimal_up_to_most(digits)? as i32)),
+        digits => Some(decimal_up_to_most(digits)? as i32),
+    }
+}
+
+/// The tenths that digits write, with one digit at most behind a point, or one past the most in place
+/// of any greater number.
+fn decimal_up_to_most(text: &[u8]) -> Option<u64>
+    ensures { result ≡ option_map (min 1001) (decimal_number 1 text.now) }
+{
+    match memchr(b'.', text) {
+        None => joined_up_to_most(text, b"0"),
+        Some(point) => joined_up_to_most(&text[..point], &text[point + 1..]),
+    }
+}
+
+/// The tenths with these digits before their point and these behind it.
+fn joined_up_to_most(whole: &[u8], part: &[u8]) -> Option<u64>
+    ensures { result ≡ option_map (min 1001)
+        (joined 1 (natural whole.now) (natural part.now) (length part.now)) }
+{
+    if part.len() > 1 {
+        return None;
+    }
+    let tenths = number_up_to(whole, MOST_DEGREES)? * 10 + number_up_to(part, 9)?;
+    Some(tenths.min(MOST_TENTHS + 1))
+}
+
+/// The first and the last month of a season, which two points join.
+#[tactic(auto, unfolding(crate::specs::WordValues::months))]
+pub(crate) fn months(words: &mut Words) -> Result<(u8, u8), QueryFault>
+    ensures read { Gives (λ s. (s, words.new)) result (one_word values.months words.old) }
+    ensures within { IfOk result (λ s. IsTrue (is_month s.0 && is_month s.1)) }
+{
+    let (place, word) = needed(words)?;
+    match two_up_to(word, LAST_MONTH) {
+        None => Err(QueryFault::UnexpectedWord(place)),
+        Some((first, last)) if is_month(first) && is_month(last) => Ok((first as u8, last as u8)),
+        Some(_) => Err(QueryFault::OutOfLimits(place)),
+    }
+}
+
+fn is_month(number: u64) -> bool
+    ensures { result ≡ is_month number }
+{
+    1 <= number && number <= LAST_MONTH
+}
+
+/// The numbers before and behind two points, or one past `most` in place of any greater number.
+fn two_up_to(word: &[u8], most: u64) -> Option<(u64, u64)>
+    requires { most < 2 ^ 32 }
+    ensures { result ≡ option_map (λ s. (min (most + 1) s.0, min (most + 1) s.1)) (values.two_numbers word.now) }
+{
+    match memchr(b'.', word) {
+        None => None,
+        Some(point) => both_up_to(&word[..point], &word[point + 1..], most),
+    }
+}
+
+/// The number that digits write, and the one behind a point.
+fn both_up_to(first: &[u8], rest: &[u8], most: u64) -> Option<(u64, u64)>
+    requires { most < 2 ^ 32 }
+    ensures { result ≡ option_map (λ s. (min (most + 1) s.0, min (most + 1) s.1))
+        (values.both_numbers (natural first.now) (values.natural_behind rest.now)) }
+{
+    match rest {
+        [b'.', last @ ..] => number_up_to(first, most).zip(number_up_to(last, most)),
+        _ => None,
     }
 }
 

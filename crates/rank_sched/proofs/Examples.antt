@@ -76,7 +76,7 @@ nothing = record { stations = alpha ∷ []; series = []; unlisted = 0 }
 
 -- the k highest temperatures, anywhere and at any time
 abbrev pub ask : ℕ → Asked
-ask k = record { k = k; score = Highest Tmax; region = Everywhere; period = None }
+ask k = record { k = k; score = Highest Tmax; region = Everywhere; season = None; period = None }
 
 -- the highest k of the three stations
 abbrev pub plan : ℕ → Planned

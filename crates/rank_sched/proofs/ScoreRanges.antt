@@ -12,11 +12,11 @@ use Rattle.ghcn_files.specs.declared.station.StationId.{StationId}
 use Rattle.ghcn_files.specs.Elements.{may_be_negative}
 use Rattle.ghcn_series.specs.Series.{DayValue, Usable, IsSeries, value_on, is_value}
 use Rattle.rank_query.specs.declared.score.Score.{Score}
-use Rattle.rank_query.specs.declared.score.Score.TheVariants.{Highest, Lowest, Sum, Dry, Wet}
+use Rattle.rank_query.specs.declared.score.Score.TheVariants.{Highest, Lowest, Sum, Dry, Wet, Hot}
 use Rattle.rank_query.specs.Asked.{Asked, IsAsked, is_score, is_fall}
 use Rattle.rank_query.specs.Admits.{admits_day}
 use Rattle.rank_scores.specs.Runs.{run_from, run_len, begins_run, calendar_len}
-use Rattle.rank_scores.specs.Candidates.{Shape, Days, Windows, Spells, shape, plus, window_total, is_dry, is_wet, is_such, begun, candidate, candidates_among, candidates, admitted}
+use Rattle.rank_scores.specs.Candidates.{Shape, Days, Windows, Spells, shape, plus, window_total, is_dry, is_wet, is_hot, is_such, begun, candidate, candidates_among, candidates, admitted}
 
 -- ---- values
 
@@ -175,6 +175,8 @@ module _ (days : List DayValue) (valued : AllByRecursion IsValued days) where
       (each_so IsValued (BeginsRight (Spells is_dry) days) days (spell_right is_dry) valued)
   by_score id Wet right = each_begun id (Spells is_wet) days days
       (each_so IsValued (BeginsRight (Spells is_wet) days) days (spell_right is_wet) valued)
+  by_score id (Hot t) right = each_begun id (Spells (is_hot t)) days days
+      (each_so IsValued (BeginsRight (Spells (is_hot t)) days) days (spell_right (is_hot t)) valued)
 
 -- the score of each candidate of a series can be a floor
 pub candidates_ranged : (q : Asked) (s : Usable) → IsAsked q → IsSeries s

@@ -16,11 +16,11 @@ use Rattle.std.proofs.lemmas.List.Elements.{Contains-append_left}
 use Rattle.ghcn_fields.specs.Days.{is_within}
 use Rattle.ghcn_series.specs.Series.{DayValue, value_on, Usable, IsSeries}
 use Rattle.rank_query.specs.declared.score.Score.{Score}
-use Rattle.rank_query.specs.declared.score.Score.TheVariants.{Highest, Lowest, Sum, Dry, Wet}
+use Rattle.rank_query.specs.declared.score.Score.TheVariants.{Highest, Lowest, Sum, Dry, Wet, Hot}
 use Rattle.rank_query.specs.Asked.{is_score, is_fall, Asked, IsAsked}
 use Rattle.ghcn_files.specs.declared.station.StationId.{StationId}
 use Rattle.rank_scores.specs.Runs.{run_from, run_len, begins_run, calendar_len, IsRun}
-use Rattle.rank_scores.specs.Candidates.{Shape, Days, Windows, Spells, shape, is_dry, is_wet, IsCandidate}
+use Rattle.rank_scores.specs.Candidates.{Shape, Days, Windows, Spells, shape, is_dry, is_wet, is_hot, IsCandidate}
 use Rattle.rank_scores.specs.Candidates.{begun, plus, window_total, is_such, candidate, candidates, admitted}
 use Rattle.rank_scores.specs.Candidates.{IsCandidateOf, AreTheCandidates, RiseByFirstDay}
 use Rattle.rank_scores.proofs.Totals.{days-total, total-days}
@@ -117,6 +117,8 @@ begins-from_IsCandidate days rise cal Dry first last score h is =
     spell-begins days cal is_dry first last score is.0 is.1 is.2
 begins-from_IsCandidate days rise cal Wet first last score h is =
     spell-begins days cal is_wet first last score is.0 is.1 is.2
+begins-from_IsCandidate days rise cal (Hot t) first last score h is =
+    spell-begins days cal (is_hot t) first last score is.0 is.1 is.2
 
 -- what a window that begins on a day is made of
 window-made : (o : Option ℤ) (last : ℤ) (p : ℤ × ℤ) → option_map (λ (total : ℤ). (last, total)) o ≡ Some p

@@ -4,9 +4,10 @@ use Rattle.std.specs.Prelude.{codes, ℤ, pos, neg_ℤ, ◌+ℤ◌}
 use Rattle.ghcn_files.specs.declared.station.StationId.{StationId}
 use Rattle.ghcn_files.specs.declared.element.Element.{Element}
 use Rattle.ghcn_files.specs.declared.element.Element.TheVariants.{Tmax, Tmin, Prcp, Snow}
+use Rattle.ghcn_fields.specs.Dates.{year_and_rest, month_and_day}
 use Rattle.ghcn_series.specs.Series.{DayValue, Usable, Contents}
 use Rattle.rank_query.specs.declared.score.Score.{Score}
-use Rattle.rank_query.specs.declared.score.Score.TheVariants.{Highest, Lowest, Sum, Dry, Wet}
+use Rattle.rank_query.specs.declared.score.Score.TheVariants.{Highest, Lowest, Sum, Dry, Wet, Hot}
 use Rattle.rank_query.specs.declared.region.Region.TheVariants.{Everywhere}
 use Rattle.rank_query.specs.Asked.{Asked}
 use Rattle.rank_scores.specs.Runs.{run_from}
@@ -33,7 +34,13 @@ series id e days = record { id = id; element = e; days = days }
 
 -- a query without a region
 abbrev pub ask : ℕ → Score → Option (ℤ × ℤ) → Asked
-ask k score period = record { k = k; score = score; region = Everywhere; period = period }
+ask k score period =
+    record { k = k; score = score; region = Everywhere; season = None; period = period }
+
+-- a query of some months
+abbrev pub ask_in : ℕ → Score → ℕ × ℕ → Asked
+ask_in k score season =
+    record { k = k; score = score; region = Everywhere; season = Some season; period = None }
 
 -- a candidate
 abbrev pub found : StationId → ℤ → ℤ → ℤ → Candidate
@@ -92,6 +99,36 @@ cut_spell : candidates (ask 2 Dry (Some (pos 18448, pos 18453))) (series id_a Pr
     ≡ found id_a (pos 18448) (pos 18453) (pos 6) ∷ []
 unfolding run_from
 cut_spell = refl
+
+-- warm days of which the third isn't hot
+abbrev pub warm : List DayValue
+warm = (pos 18444, pos 300) ∷ (pos 18445, pos 310) ∷ (pos 18446, pos 299) ∷ (pos 18447, pos 305) ∷ []
+
+-- spells of 30 degrees and more
+hot_spells : best 2 (candidates (ask 2 (Hot (pos 300)) None) (series id_a Tmax warm))
+    ≡ found id_a (pos 18444) (pos 18445) (pos 2) ∷ found id_a (pos 18447) (pos 18447) (pos 1) ∷ []
+unfolding run_from
+hot_spells = refl
+
+-- rain over the turn of a year
+abbrev pub winter_rain : List DayValue
+winter_rain = (pos 18258, pos 10) ∷ (pos 18259, pos 20) ∷ (pos 18260, pos 30) ∷ (pos 18261, pos 40) ∷
+    (pos 18262, pos 5) ∷ (pos 18263, pos 6) ∷ (pos 18264, pos 7) ∷ []
+
+-- December and January are neighbours, and without one of them a window ends with the year
+winter_sums : (best 2 (candidates (ask_in 2 (Sum 3 Prcp) (12, 1)) (series id_a Prcp winter_rain))
+    ≡ found id_a (pos 18259) (pos 18261) (pos 90) ∷ found id_a (pos 18260) (pos 18262) (pos 75) ∷ [])
+    × (best 2 (candidates (ask_in 2 (Sum 3 Prcp) (1, 1)) (series id_a Prcp winter_rain))
+    ≡ found id_a (pos 18262) (pos 18264) (pos 18) ∷ [])
+    × (candidates (ask_in 2 (Sum 3 Prcp) (2, 11)) (series id_a Prcp winter_rain) ≡ [])
+unfolding year_and_rest month_and_day
+winter_sums = (refl, refl, refl)
+
+-- a season cuts a spell: 2020-06-29 to 2020-07-02 in June
+june_spell : candidates (ask_in 2 Dry (6, 6)) (series id_a Prcp (each_day (pos 18442) 4 (pos 0)))
+    ≡ found id_a (pos 18442) (pos 18443) (pos 2) ∷ []
+unfolding run_from year_and_rest month_and_day
+june_spell = refl
 
 -- below and above zero, the lowest first
 lowest : best 2 (candidates (ask 2 (Lowest Tmin) None)

@@ -4,6 +4,7 @@ pub mod Totals
 pub mod WindowSums
 pub mod SpellDays
 pub mod Runs
+pub mod StretchDays
 pub mod Rising
 pub mod Exactly
 pub mod Examples

@@ -1,6 +1,7 @@
 -- Runs of numbers that pass, and of days of the calendar.
 use Rattle.std.proofs.Common.{◌≡◌, ℕ, zero, suc, ◌-◌, ◌<◌, ◌≤◌, Bool, true, false, List, [], ◌∷◌, Option, Some, None}
 use Rattle.std.proofs.Common.{refl, sym, ap, ◌∙◌, arith, inl, inr, ℤ, pos, ◌+ℤ◌, ◌<ℤ◌, ◌≤ℤ◌}
+use Rattle.std.specs.Prelude.{◌&&◌}
 use Rattle.std.specs.List.{AllByRecursion}
 use Rattle.std.specs.Option.{option_map_or}
 use Rattle.std.proofs.lemmas.Bool.{cases_Bool, cases_order, and_parts, false_from_ne_true, true_from_ne_false}
@@ -9,7 +10,7 @@ use Rattle.std.proofs.lemmas.Int.{ints}
 use Rattle.ghcn_fields.specs.Days.{first_day, last_day, is_day}
 use Rattle.ghcn_series.specs.Series.{DayValue, value_on}
 use Rattle.rank_query.specs.Asked.{Asked}
-use Rattle.rank_query.specs.Admits.{admits_day, period_holds}
+use Rattle.rank_query.specs.Admits.{admits_day, period_holds, season_holds}
 use Rattle.rank_scores.specs.Runs.{run_from, calendar_len}
 use Rattle.rank_scores.specs.Candidates.{admitted_among, is_such}
 use Rattle.rank_scores.proofs.Rising.{from_each, value_on-other}
@@ -72,7 +73,8 @@ day-bounds d e = (grind (arith, ints), grind (arith, ints))
 -- admitted days are days of the calendar
 pub admitted-days : (q : Asked) (days : List DayValue) → AreDays (admitted_among q days)
 admitted-days q days = from_each (λ x. admits_day q x.0 ≡ true) (λ x. is_day x.0 ≡ true) (admitted_among q days)
-    (λ x e. (and_parts (is_day x.0) (period_holds q.period x.0) e).0)
+    (λ x e. (and_parts (is_day x.0) (period_holds q.period x.0)
+    (and_parts (is_day x.0 && period_holds q.period x.0) (season_holds q.season x.0) e).0).0)
     (recursion_from_All (λ x. admits_day q x.0 ≡ true) (admitted_among q days)
     (filter_passes (λ x. admits_day q x.0) days))
 

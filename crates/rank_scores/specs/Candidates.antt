@@ -8,7 +8,7 @@ use Rattle.std.specs.Ordering.{int_cmp}
 use Rattle.ghcn_files.specs.declared.station.StationId.{StationId}
 use Rattle.ghcn_series.specs.Series.{DayValue, Usable, value_on}
 use Rattle.rank_query.specs.declared.score.Score.{Score}
-use Rattle.rank_query.specs.declared.score.Score.TheVariants.{Highest, Lowest, Sum, Dry, Wet}
+use Rattle.rank_query.specs.declared.score.Score.TheVariants.{Highest, Lowest, Sum, Dry, Wet, Hot}
 use Rattle.rank_query.specs.Asked.{Asked}
 use Rattle.rank_query.specs.Admits.{admits_day}
 use Rattle.rank_scores.specs.declared.candidate.Candidate.{Candidate}
@@ -21,6 +21,10 @@ is_dry v = int_lt v (pos 10)
 -- at least one millimetre
 abbrev pub is_wet : ℤ → Bool
 is_wet v = int_le (pos 10) v
+
+-- at least so many tenths of a degree
+abbrev pub is_hot : ℤ → ℤ → Bool
+is_hot t v = int_le t v
 
 -- what a score ranks: days by a number made of their value, windows of n days by their total, or spells by a test
 pub data Shape : Type 0 where
@@ -35,6 +39,7 @@ shape (Lowest e) = Days neg_ℤ
 shape (Sum n e) = Windows n
 shape Dry = Spells is_dry
 shape Wet = Spells is_wet
+shape (Hot t) = Spells (is_hot t)
 
 -- those of some days that a query admits
 abbrev pub admitted_among : Asked → List DayValue → List DayValue

@@ -1,6 +1,7 @@
 pub mod Runs
 pub mod Candidates
 pub mod Spells
+pub mod Stretches
 pub mod Windows
 pub mod Order
 pub mod Morsels

@@ -1,10 +1,13 @@
 //! The days of a series that a query admits, one after another.
 
-ghost use Rattle.std.specs.Prelude.{◌≡◌, ◌↔◌, IsTrue, pos, ◌+ℤ◌};
+ghost use Rattle.std.specs.Prelude.{◌≡◌, ◌↔◌, IsTrue, List, ◌∷◌, ℤ, pos, ◌+ℤ◌, ◌≤ℤ◌};
 ghost use Rattle.std.specs.Iterator.{YieldsFirst};
 ghost use Rattle.std.specs.Option.{option_map};
-ghost use Rattle.ghcn_series.specs.Series.{IsSeries};
+ghost use Rattle.ghcn_fields.specs.Days.{is_day};
+ghost use Rattle.ghcn_series.specs.Series.{DayValue, IsSeries};
+ghost use Rattle.rank_query.specs.Admits.{admits_day};
 ghost use Rattle.rank_scores.specs.Candidates as meaning;
+ghost use Rattle.rank_scores.specs.Stretches.{IsStretch};
 
 use ghcn_fields::Day;
 use ghcn_series::{Days, Series};
@@ -16,16 +19,20 @@ use std::marker::Model;
 pub(crate) struct Admitted<'s, 'q> {
     days: Days<'s>,
     query: &'q Query,
+    stretch: Stretch,
 }
 
 impl<'s, 'q> Model for Admitted<'s, 'q> {
     ghost use Rattle.std.specs.Prelude.{List};
     ghost use Rattle.ghcn_series.specs.Series.{DayValue};
     ghost use Rattle.rank_scores.specs.Candidates.{admitted_among};
+    ghost use Rattle.rank_scores.specs.Stretches.{IsStretch};
 
     ghost Value = { List DayValue };
 
     ghost view = { λ a. admitted_among a.query.now a.days };
+
+    ghost invariant = { λ a. IsStretch a.query.now a.days a.stretch };
 }
 
 impl<'s, 'q> Admitted<'s, 'q> {
@@ -37,6 +44,10 @@ impl<'s, 'q> Admitted<'s, 'q> {
         Admitted {
             days: series.days(),
             query,
+            stretch: Stretch {
+                admitted: false,
+                last: i32::MIN,
+            },
         }
     }
 }
@@ -50,22 +61,60 @@ impl<'s, 'q> Iterator for Admitted<'s, 'q> {
 
     ghost remaining = { item_count (λ rest. rest) };
 
+    #[inline(always)]
     fn next(&mut self) -> Option<(Day, i32)> {
-        next_admitted(&mut self.days, self.query)
+        next_admitted(&mut self.days, self.query, &mut self.stretch)
     }
 }
 
 /// The first of some days that is admitted.
 #[inline(always)]
-fn next_admitted(days: &mut Days, query: &Query) -> Option<(Day, i32)>
-    ensures { YieldsFirst (meaning.admitted_among query.now) days.old result days.new }
+fn next_admitted(days: &mut Days, query: &Query, stretch: &mut Stretch) -> Option<(Day, i32)>
+    requires { IsStretch query.now days.old stretch.old }
+    ensures first { YieldsFirst (meaning.admitted_among query.now) days.old result days.new }
+    ensures stretch { IsStretch query.now days.new stretch.new }
 {
     while let Some((day, value)) = days.next() {
-        if query.admits_day(day) {
+        *stretch = stretch.at(query, day);
+        if stretch.admitted {
             return Some((day, value));
         }
     }
     None
+}
+
+/// Whether days are admitted, up to a last one by its number.
+#[derive(Clone, Copy)]
+pub(crate) struct Stretch {
+    admitted: bool,
+    last: i32,
+}
+
+impl Stretch {
+    /// The stretch that a day lies in. Days are asked about one behind another.
+    #[inline(always)]
+    fn at(self, query: &Query, day: Day) -> Stretch
+        ensures on { day ≤ℤ result.last }
+        ensures alike { (value : ℤ) (rest : List DayValue) → IsStretch query.now ((day, value) ∷ rest) self
+            → IsStretch query.now ((day, value) ∷ rest) result }
+    {
+        if day.number() <= self.last {
+            return self;
+        }
+        Stretch::of(query, day)
+    }
+
+    /// The stretch that a day begins.
+    // It is asked for once a month at most, and has no place in the loops over days.
+    #[inline(never)]
+    fn of(query: &Query, day: Day) -> Stretch
+        ensures on { day ≤ℤ result.last }
+        ensures alike { (d : ℤ) → IsTrue (is_day d) → day ≤ℤ d → d ≤ℤ result.last
+            → admits_day query.now d ≡ result.admitted }
+    {
+        let (admitted, last) = query.admits_from(day);
+        Stretch { admitted, last }
+    }
 }
 
 /// Whether there is a last day, and a day is the one behind it.

@@ -27,6 +27,7 @@ pub fn scan<S: Sink>(series: &Series, query: &Query, sink: &mut S)
         Score::Sum(n, _) => scan_windows(id, series, query, n, sink),
         Score::Dry => scan_spells(id, series, query, Spell::Dry, sink),
         Score::Wet => scan_spells(id, series, query, Spell::Wet, sink),
+        Score::Hot(least) => scan_spells(id, series, query, Spell::Hot(least), sink),
     }
 }
 

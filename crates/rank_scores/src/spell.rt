@@ -16,17 +16,20 @@ use rank_query::Query;
 /// 1 mm, in tenths of a millimetre.
 const ONE_MILLIMETRE: i32 = 10;
 
-/// Which days a spell has, by their precipitation (ETCCDI).
+/// Which days a spell has, by their values: precipitation (ETCCDI) or maximum temperature.
 #[derive(Clone, Copy, Debug)]
 pub enum Spell {
     /// Less than 1 mm.
     Dry,
     /// At least 1 mm.
     Wet,
+    /// At least so many tenths of a degree.
+    Hot(i32),
 }
 
 impl Spell {
-    /// Whether there is a value, in tenths of a millimetre, and a day that has it is of the kind.
+    /// Whether there is a value, in tenths of a millimetre or of a degree, and a day that has it is of
+    /// the kind.
     pub fn passes(self, value: Option<i32>) -> bool
         ensures { result ≡ option_map_or (test_of self) value false }
     {
@@ -34,6 +37,7 @@ impl Spell {
             (_, None) => false,
             (Spell::Dry, Some(value)) => value < ONE_MILLIMETRE,
             (Spell::Wet, Some(value)) => value >= ONE_MILLIMETRE,
+            (Spell::Hot(least), Some(value)) => value >= least,
         }
     }
 }

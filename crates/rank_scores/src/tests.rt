@@ -4,7 +4,7 @@ ghost use Rattle.std.specs.Prelude.{◌≡◌, ◌+◌, ◌%◌, ◌^◌, ◌==�
 
 use super::*;
 use ghcn_fields::Day;
-use ghcn_files::{StationId, Stations};
+use ghcn_files::{Element, StationId, Stations};
 use ghcn_series::Data;
 use rank_query::Query;
 use std::alloc::{AllocError, Global};
@@ -133,21 +133,22 @@ type Row = (&'static [Stretch], &'static str, &'static [(i32, i32, i64)]);
 /// Writes the line of a month, where it has a day.
 fn push_month(
     text: &mut String,
+    element: Element,
     (year, month): (u16, u8),
     groups: &[&'static str; 31],
 ) -> Result<(), AllocError> {
     if groups.iter().all(|it| it.is_empty()) {
         return Ok(());
     }
-    write!(text, "ZZA00000001{year:04}{month:02}PRCP")?;
+    write!(text, "ZZA00000001{year:04}{month:02}{element}")?;
     for group in groups {
         text.push_str(if group.is_empty() { "-9999   " } else { group })?;
     }
     text.push_str("\n")
 }
 
-/// A daily file of station A with precipitation of these days, from the first to the last.
-fn text_of(alloc: Global, stretches: &[Stretch]) -> Result<String, Fail> {
+/// A daily file of station A with an element of these days, from the first to the last.
+fn text_of(alloc: Global, element: Element, stretches: &[Stretch]) -> Result<String, Fail> {
     let mut text = String::new(alloc);
     let mut time = (0, 0);
     let mut groups = [""; 31];
@@ -156,7 +157,7 @@ fn text_of(alloc: Global, stretches: &[Stretch]) -> Result<String, Fail> {
             let number = first.saturating_add(later);
             let (year, month, day) = Day::with_number(number).ok_or("no day")?.civil();
             if time != (year, month) {
-                push_month(&mut text, time, &groups)?;
+                push_month(&mut text, element, time, &groups)?;
                 time = (year, month);
                 groups = [""; 31];
             }
@@ -165,7 +166,7 @@ fn text_of(alloc: Global, stretches: &[Stretch]) -> Result<String, Fail> {
             }
         }
     }
-    push_month(&mut text, time, &groups)?;
+    push_month(&mut text, element, time, &groups)?;
     Ok(text)
 }
 
@@ -173,7 +174,13 @@ fn text_of(alloc: Global, stretches: &[Stretch]) -> Result<String, Fail> {
 // Day 2932896 is the last of the calendar, and alone in its block.
 
 #[rattlefmt::skip]
-const SCANS: [Row; 16] = [
+const TURN_OF_THE_YEAR: [Stretch; 7] = [
+    (18_258, 1, "   10   "), (18_259, 1, "   20   "), (18_260, 1, "   30   "), (18_261, 1, "   40   "),
+    (18_262, 1, "    5   "), (18_263, 1, "    6   "), (18_264, 1, "    7   "),
+];
+
+#[rattlefmt::skip]
+const SCANS: [Row; 24] = [
     // Windows over a block's edge, and spells.
     (&[(30, 1, "    1   "), (31, 1, "    2   "), (32, 1, "    3   "), (33, 1, "    4   ")], "top 9 sum 3 PRCP",
         &[(30, 32, 6), (31, 33, 9)]),
@@ -198,19 +205,32 @@ const SCANS: [Row; 16] = [
     (&[(5, 1, "    9   "), (6, 2, "   10   ")], "top 9 wet", &[(6, 7, 2)]),
     (&[(2_932_895, 2, "   10   ")], "top 9 wet", &[(2_932_895, 2_932_896, 2)]),
     (&[(0, 9, "   10   ")], "top 9 wet from 1970-01-03 to 1970-01-05", &[(2, 4, 3)]),
+    // Seasons: day 18262 is 2020-01-01, day 18444 is 2020-07-01.
+    (&TURN_OF_THE_YEAR, "top 9 sum 3 PRCP months 12..1",
+        &[(18_258, 18_260, 60), (18_259, 18_261, 90), (18_260, 18_262, 75), (18_261, 18_263, 51), (18_262, 18_264, 18)]),
+    (&TURN_OF_THE_YEAR, "top 9 sum 3 PRCP months 1..1", &[(18_262, 18_264, 18)]),
+    (&TURN_OF_THE_YEAR, "top 9 sum 3 PRCP months 2..11", &[]),
+    (&[(18_442, 4, "    0   ")], "top 9 dry months 6..6", &[(18_442, 18_443, 2)]),
+    (&[(18_300, 800, "    0   ")], "top 9 dry months 06..7 from 2020-06-03 to 2021-07-30",
+        &[(18_416, 18_474, 59), (18_779, 18_838, 60)]),
+    (&[(-90, 200, "   10   ")], "top 9 wet months 11..2", &[(-61, 58, 120)]),
+    // Spells of heat and of frost.
+    (&[(18_444, 1, "  300   "), (18_445, 1, "  310   "), (18_446, 1, "  299   "), (18_447, 1, "  305   ")], "top 9 hot 30",
+        &[(18_444, 18_445, 2), (18_447, 18_447, 1)]),
+    (&[(30, 2, "   -5   "), (32, 2, "   -6   "), (34, 3, "    0   ")], "top 9 hot -0.5", &[(30, 31, 2), (34, 36, 3)]),
 ];
 
 #[test]
 fn candidates_by_first_day(rt: HostRuntime) -> Result<(), Fail> {
     let stations = b"ZZA00000001  10.0000   20.0000  100.0    ALPHA\n";
     for (stretches, query, expected) in SCANS {
-        let text = text_of(rt.alloc(), stretches)?;
+        let asked = Query::parse(query).ok().ok_or("no query")?;
+        let text = text_of(rt.alloc(), asked.element(), stretches)?;
         let data = Data::read(
             rt.alloc(),
             Stations::read(rt.alloc(), stations)?,
             &[text.as_str().as_bytes()],
         )?;
-        let asked = Query::parse(query).ok().ok_or("no query")?;
         let series = data.series(&A, asked.element()).ok_or("no series")?;
         for place in 0..=expected.len() as u64 {
             let mut at = At {

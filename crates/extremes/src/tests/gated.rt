@@ -82,10 +82,10 @@ impl Gate for Meeting {
     }
 }
 
-const CERTIFICATE: &[u8] = b"extremes certificate 1
+const CERTIFICATE: &[u8] = b"extremes certificate 2
 query top 1 highest TMAX
 kth 311
-scan ZZA00000001 311
+scan ZZA00000001 311 1
 skip ZZA00000002 300
 skip ZZA00000003 250
 end 3

@@ -5,11 +5,11 @@
 
 use super::*;
 
-const BEST_CERTIFICATE: &[u8] = b"extremes certificate 1
+const BEST_CERTIFICATE: &[u8] = b"extremes certificate 2
 query top 1 highest TMAX
 kth 311
-scan ZZA00000001 311
-scan ZZA00000002 311
+scan ZZA00000001 311 1
+scan ZZA00000002 311 0
 skip ZZA00000003 250
 end 3
 ";
@@ -23,12 +23,12 @@ query top 10 highest TMAX
 end 4 all
 ";
 
-const ALL_CERTIFICATE: &[u8] = b"extremes certificate 1
+const ALL_CERTIFICATE: &[u8] = b"extremes certificate 2
 query top 10 highest TMAX
 kth none
-scan ZZA00000001 311
-scan ZZA00000002 311
-scan ZZA00000003 250
+scan ZZA00000001 311 2
+scan ZZA00000002 311 1
+scan ZZA00000003 250 1
 end 3
 ";
 

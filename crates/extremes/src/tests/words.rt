@@ -111,7 +111,7 @@ fn texts_of_words(rt: HostRuntime) -> Result<(), Fail> {
         ),
         (
             &["rank", "--help"],
-            "\n  top K SCORE [REGION] [PERIOD]    K is from 1 to 1000\n",
+            "\n  top K SCORE [REGION] [SEASON] [PERIOD]    K is from 1 to 1000\n",
         ),
         (&["rank", "--help"], "\n           sum N FALL "),
         (

@@ -1,13 +1,14 @@
 use Rattle.std.proofs.Common.{◌≡◌, ℕ, ℤ, pos, ◌*ℤ◌, to_z, of_z, w64, sym, ap, ◌∙◌, subst, arith}
+use Rattle.std.proofs.Common.{rules, FitsSigned, to_z-of_z, w32}
 use Rattle.std.specs.Int.{int_min}
 use Rattle.std.proofs.lemmas.Int.{ints}
-use Rattle.rank_query.specs.declared.score.Score.TheVariants.{Highest, Lowest, Dry, Wet}
+use Rattle.rank_query.specs.declared.score.Score.TheVariants.{Highest, Lowest, Dry, Wet, Hot}
 use Rattle.rank_blocks.specs.declared.extreme.Extreme.TheVariants as extremes
-use Rattle.rank_scores.specs.Candidates.{is_dry, is_wet}
+use Rattle.rank_scores.specs.Candidates.{is_dry, is_wet, is_hot}
 use Rattle.rank_blocks.specs.Greatest.{IsBound, IsGreatest}
 use Rattle.rank_blocks.specs.Reached.{IsTotalFrom}
 use Rattle.rank_blocks.proofs.BlockSteps.{near-read}
-use Rattle.rank_blocks.proofs.BoundsMet.{day-met, run-met, sum-met, bound-for}
+use Rattle.rank_blocks.proofs.BoundsMet.{day-met, run-met, blocks-met, sum-met, bound-for}
 use Rattle.rank_blocks.proofs.blocks.bound_of.Goals as goal
 
 -- the greatest value
@@ -54,3 +55,13 @@ returns-in-Wet-clause-bound c = λ s are of.
     subst (IsBound c.args.query.now s) same
     (bound-for _ s Wet _ (sym c.score.ensures.score ∙ c.in-Wet.is)
     (run-met _ _ s _ c.of-range.ensures.range are of is_wet _ (c.longest_run-in-Wet.ensures s are)))
+
+-- the days of the most blocks in a row that hold a hot day
+pub returns-in-Hot-clause-bound : goal.returns-in-Hot-clause-bound
+returns-in-Hot-clause-bound c = λ s are of.
+    let fits : FitsSigned w32 c.in-Hot.least = search rules in
+    let same : c.longest_run-in-Hot.result ≡ to_z w64 (of_z w64 c.longest_run-in-Hot.result) = omega (arith, ints) in
+    subst (IsBound c.args.query.now s) same
+    (bound-for _ s (Hot c.in-Hot.least) _ (sym c.score.ensures.score ∙ c.in-Hot.is)
+    (blocks-met _ _ s _ c.of-range.ensures.range are of (is_hot c.in-Hot.least) _
+    (rw (to_z-of_z fits) at (c.longest_run-in-Hot.ensures s are))))

@@ -2,10 +2,11 @@ use Rattle.std.proofs.Common.{◌≡◌, ℕ, List, [], ◌∷◌, true, length,
 use Rattle.std.proofs.lemmas.List.{length-map}
 use Rattle.ghcn_fields.specs.Faults.{first_failing}
 use Rattle.rank_scores.specs.Morsels.{morsels, kth_of_query}
+use Rattle.rank_scores.specs.declared.candidate.Candidate.{Candidate}
 use Rattle.rank_papers.specs.Certificate.{Entry}
 use Rattle.rank_papers.specs.CertificateLines.{certified_in}
 use Rattle.rank_check.specs.declared.survey.Top.{Top}
-use Rattle.rank_check.specs.Survey.{top}
+use Rattle.rank_check.specs.Survey.{top, candidates_of}
 use Rattle.rank_check.specs.Tests.{same_query, same_score, length_test, tests_of_lines}
 use Rattle.rank_check.proofs.Judging.{certificate_decided}
 use Rattle.rank_check.proofs.judge.certificate_fault.Goals as goal
@@ -15,6 +16,7 @@ pub returns : goal.returns
 returns c = λ held kth tops.
     let q = c.args.query.now in
     let z = c.args.certificate.now in
+    let rows : List Candidate = candidates_of c.args.rows.now in
     let same : same_query z.query q ≡ true = sym c.in_ok-is_same_query.ensures ∙ c.if-not-branch.false in
     let score : same_score z.kth (kth_of_query q held) ≡ true =
     ap (same_score z.kth) (sym kth) ∙ sym c.is_same_score.ensures ∙ c.if-not-is_same_score.false in
@@ -25,6 +27,9 @@ returns c = λ held kth tops.
     ∙ ap (λ (n : ℕ). first_failing (length_test n (length c.as_slice-lines.result.now) ∷ [])) long
     ∙ ap (λ (es : List Entry). first_failing (length_test (length (morsels q held)) (length es) ∷ []))
     c.as_slice-lines.ensures.value in
-    c.or.ensures ∙ certificate_decided q held (certified_in z) c.lines_fault.result c.length_fault-few.result same score
+    c.or.ensures ∙ certificate_decided q held rows (certified_in z) c.lines_fault.result c.length_fault-few.result same score
     (c.lines_fault.ensures q held found
-    ∙ ap (λ (es : List Entry). first_failing (tests_of_lines q held z.kth es)) c.as_slice-lines.ensures.value) few
+    ∙ ap (λ (ns : List ℕ). first_failing (tests_of_lines q held z.kth rows ns c.as_slice-lines.result.now))
+    c.as_slice-counts.ensures.value
+    ∙ ap (λ (es : List Entry). first_failing (tests_of_lines q held z.kth rows z.counts.items es))
+    c.as_slice-lines.ensures.value) few

@@ -5,7 +5,9 @@ use Rattle.rank_scores.specs.Morsels.{kth_of_query}
 use Rattle.rank_papers.specs.Certificate.{kth_of_best}
 use Rattle.rank_papers.specs.ReportLines.{reported_in}
 use Rattle.rank_papers.specs.CertificateLines.{certified_in}
-use Rattle.rank_check.specs.Tests.{or_accepted, report_tests, certificate_tests}
+use Rattle.rank_papers.specs.declared.paper.Row.{Row}
+use Rattle.rank_check.specs.Survey.{candidates_of}
+use Rattle.rank_check.specs.Tests.{of_rows, or_accepted, report_tests, certificate_tests}
 use Rattle.rank_check.proofs.Failing.{behind_none, before_some}
 use Rattle.rank_check.proofs.KthScores.{candidates_named, kth_known}
 use Rattle.rank_check.proofs.judge.judge.Goals as goal
@@ -15,7 +17,8 @@ use Rattle.rank_check.proofs.judge.judge.Goals.{in-Some-2, in-None}
 pub returns-in-Some : goal.returns-in-Some
 returns-in-Some c =
     let r = report_tests c.args.query.now c.args.held.now (reported_in c.args.report.now) in
-    let z = certificate_tests c.args.query.now c.args.held.now (certified_in c.args.certificate.now) in
+    let rows : List Candidate = of_rows (reported_in c.args.report.now).rows in
+    let z = certificate_tests c.args.query.now c.args.held.now rows (certified_in c.args.certificate.now) in
     sym (ap or_accepted (before_some r z c.in-Some.fault (sym c.in_ok-fault.ensures ∙ c.in-Some.is)))
 
 -- the report passes, and the certificate decides
@@ -24,7 +27,8 @@ returns c =
     let q = c.args.query.now in
     let held = c.args.held.now in
     let r = report_tests q held (reported_in c.args.report.now) in
-    let z = certificate_tests q held (certified_in c.args.certificate.now) in
+    let rows : List Candidate = of_rows (reported_in c.args.report.now).rows in
+    let z = certificate_tests q held rows (certified_in c.args.certificate.now) in
     let none : first_failing r ≡ None = sym c.in_ok-fault.ensures ∙ c.in_default.is in
     let apart = c.candidates_of_queries.ensures.apart q held c.stations-stations.ensures.contents in
     let kth : c.kth_score-kth.result ≡ kth_of_query q held =
@@ -32,7 +36,11 @@ returns c =
     ∙ ap (λ (l : List Candidate). kth_of_best q.k l) (candidates_named c.args.report.now.rows.items)
     ∙ kth_known c.certificates_are_read.ensures.read q held c.kth_score-kth.ensures.asked apart
     (reported_in c.args.report.now) c.requires none in
-    let rest = c.in_ok-fault-2.ensures held kth c.in_ok-found.ensures.tops in
+    let lent : candidates_of c.as_slice-rows.result.now ≡ of_rows (reported_in c.args.report.now).rows =
+    ap candidates_of c.as_slice-rows.ensures.value ∙ candidates_named c.args.report.now.rows.items in
+    let rest = c.in_ok-fault-2.ensures held kth c.in_ok-found.ensures.tops
+    ∙ ap (λ (l : List Candidate). first_failing (certificate_tests q held l (certified_in c.args.certificate.now)))
+    lent in
     elim c.match-branch-5.branch [
       | in-Some-2 w ↦ w.result-is ∙ sym (ap or_accepted (behind_none r z none ∙ sym rest ∙ w.in-Some-2.is))
       | in-None w ↦ w.result-is ∙ sym (ap or_accepted (behind_none r z none ∙ sym rest ∙ w.in-None.is))

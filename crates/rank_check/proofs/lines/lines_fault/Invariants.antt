@@ -2,7 +2,7 @@ use Rattle.std.proofs.Common.{◌≡◌, take, map, None}
 use Rattle.ghcn_series.specs.Series.{Contents}
 use Rattle.rank_query.specs.Asked.{Asked}
 use Rattle.rank_scores.specs.Morsels.{morsels}
-use Rattle.rank_check.specs.Survey.{top}
+use Rattle.rank_check.specs.Survey.{top, candidates_of}
 use Rattle.rank_check.specs.Tests.{entry_tests}
 use Rattle.rank_check.proofs.Failing.{first_of}
 use Rattle.rank_check.proofs.lines.lines_fault.Given as goal
@@ -11,4 +11,4 @@ use Rattle.rank_check.proofs.lines.lines_fault.Given as goal
 abbrev pub invariant-loop-place : goal.invariant-loop-place
 invariant-loop-place l =
     (q : Asked) → (c : Contents) → l.tops ≡ map (top q) (morsels q c)
-    → first_of (entry_tests q c l.kth) 1 (take l.place l.lines) ≡ None
+    → first_of (entry_tests q c l.kth (candidates_of l.rows) l.counts) 1 (take l.place l.lines) ≡ None

@@ -4,5 +4,5 @@ use Rattle.rank_papers.proofs.CertificateValues.{if_read-is}
 use Rattle.rank_papers.proofs.certificate_lines.read_certificate.Goals as goal
 
 -- what was read is what the text says
-pub returns-clause-says : goal.returns-clause-says
-returns-clause-says c = if_read-is certified_in c.args.bytes.now c.read_query.result (search rules)
+pub returns-in-Some-version_of-clause-says : goal.returns-in-Some-version_of-clause-says
+returns-in-Some-version_of-clause-says c = if_read-is certified_in c.args.bytes.now c.read_query.result (search rules)

@@ -3,7 +3,7 @@ use Rattle.std.specs.List.{flat_map}
 use Rattle.rank_query.specs.Asked.{Asked}
 use Rattle.rank_scores.specs.declared.candidate.Candidate.{Candidate}
 use Rattle.rank_papers.specs.Report.{query_line}
-use Rattle.rank_papers.specs.Certificate.{Entry, AreInRange, kth_of_best, kth_line, entry_line, end_line}
+use Rattle.rank_papers.specs.Certificate.{Entry, AreInRange, kth_of_best, kth_line, counted, counts_of, entry_line, end_line}
 use Rattle.rank_papers.proofs.PlanPapers.{some_asked, certificate-made, certificate-of_plan}
 use Rattle.rank_papers.proofs.certificate_text.certificate.Goals as goal
 
@@ -23,8 +23,11 @@ returns-clause-text c =
     certificate-made q a.best.items a.lines.items c.in_ok-paper.paper.items _ _ _ _ c.in_ok-paper.ensures.items
     (c.in_ok-push_query.ensures ∙ ap (λ (x : Asked). c.in_ok-paper.paper.items ++ query_line x) c.query.ensures.query)
     (c.in_ok-push_kth.ensures ∙ ap (λ (s : Option ℤ). c.push_query.new.paper.items ++ kth_line s) score)
-    (c.in_ok-push_lines.ensures.text ∙ ap (λ (l : List Entry). c.push_kth.new.paper.items
-    ++ flat_map entry_line l) c.deref-2.ensures.value)
+    (c.in_ok-push_lines.ensures.text
+    ∙ ap (λ (l : List Entry). c.push_kth.new.paper.items
+    ++ flat_map (entry_line 2) (counted l (counts_of 2 c.deref-3.result.now l))) c.deref-2.ensures.value
+    ∙ ap (λ (b : List Candidate). c.push_kth.new.paper.items
+    ++ flat_map (entry_line 2) (counted a.lines.items (counts_of 2 b a.lines.items))) c.deref-3.ensures.value)
     (c.in_ok-push_end.ensures ∙ ap (λ (n : ℕ). c.push_lines.new.paper.items ++ end_line n) count)
 
 -- so it is a right certificate

@@ -5,12 +5,12 @@ use Rattle.rank_papers.proofs.laws.papers_of_one_element.Goals as goal
 pub returns-clause-report : goal.returns-clause-report
 returns-clause-report c = report_stays c.one_element_is_enough.ensures.best
 
--- certificates, by the k-th score and the morsels
+-- certificates, by the best candidates, the k-th score and the morsels
 pub returns-clause-certificate : goal.returns-clause-certificate
 returns-clause-certificate c =
-    certificate_stays c.one_element_is_enough.ensures.kth c.one_element_is_enough.ensures.morsels
+    let same = c.one_element_is_enough.ensures in certificate_stays same.best same.kth same.morsels
 
 -- and those with the bounds of the series
 pub returns-clause-measured : goal.returns-clause-measured
 returns-clause-measured c =
-    measured_stays c.one_element_is_enough.ensures.kth c.one_element_is_enough.ensures.morsels
+    let same = c.one_element_is_enough.ensures in measured_stays same.best same.kth same.morsels

@@ -1,7 +1,11 @@
 use Rattle.std.proofs.Common.{◌≡◌}
 use Rattle.rank_scores.specs.Candidates.{admitted_among}
+use Rattle.rank_scores.specs.Stretches.{IsStretch}
 use Rattle.rank_scores.proofs.admitted.next_admitted.Given as goal
 
--- the admitted days to come are those that there were at first
+-- the admitted days to come are those that there were at first, and the stretch is one of the days to come
 abbrev pub invariant-loop-day : goal.invariant-loop-day
-invariant-loop-day l = admitted_among l.query l.days ≡ admitted_among l.query l.initial.days
+invariant-loop-day l = record {
+  left : admitted_among l.query l.days ≡ admitted_among l.query l.initial.days;
+  stretch : IsStretch l.query l.days l.stretch;
+}

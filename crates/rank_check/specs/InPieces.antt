@@ -1,0 +1,93 @@
+-- Papers with a certificate of version 2, judged in pieces: the head, each line, and each station without a line.
+use Rattle.std.specs.Prelude.{◌≡◌, ◌↔◌, ℕ, ◌-◌, Bool, true, false, ◌&&◌, not, List, [], ◌∷◌, length, filter, Option}
+use Rattle.std.specs.Prelude.{None, Some, ⊤, slice_get}
+use Rattle.std.specs.List.{list_any, find, sum, AllByRecursion, AllZip}
+use Rattle.std.specs.Option.{option_map}
+use Rattle.std.specs.Ordering.{is_lt, nat_cmp}
+use Rattle.std.specs.Cmp.Lexicographic.{slice_cmp}
+use Rattle.ghcn_fields.specs.Faults.{first_failing}
+use Rattle.ghcn_files.specs.declared.station.Station.{Station}
+use Rattle.ghcn_files.specs.declared.station.StationId.{StationId}
+use Rattle.ghcn_files.specs.Ids.{same_id}
+use Rattle.ghcn_files.specs.Listed.{is_station_of}
+use Rattle.ghcn_series.specs.Series.{Usable, Contents, series_of}
+use Rattle.ghcn_series.specs.Held.{IsContents}
+use Rattle.rank_query.specs.Asked.{Asked, IsAsked, score_element}
+use Rattle.rank_scores.specs.declared.candidate.Candidate.{Candidate}
+use Rattle.rank_papers.specs.Report.{Named}
+use Rattle.rank_papers.specs.ReportLines.{Reported, IsReported, IsReportOf, SaysRightReport}
+use Rattle.rank_papers.specs.Certificate.{Entry, Certified, IsCertified, IsCertificateOf, SaysRight}
+use Rattle.rank_check.specs.declared.verdict.Verdict.TheVariants.{Accepted}
+use Rattle.rank_check.specs.Tests.{of_rows, verdict}
+use Rattle.rank_check.specs.Pieces.{is_morsel, score_of, AreInOrder, piece_tests}
+
+-- ---- what each piece is given
+
+-- the rows of the station with this ID
+abbrev pub rows_with : StationId → List Named → List Named
+rows_with id rows = filter (λ row. same_id row.0.id id) rows
+
+-- the last row, where there are as many as were asked for
+abbrev pub worst_of : ℕ → List Named → Option Candidate
+worst_of k rows = option_map (λ row. row.0) (slice_get rows (k - 1))
+
+-- the series of the query's element of a station
+abbrev pub own_series : Asked → Contents → Station → Option Usable
+own_series q c st = series_of c st.id (score_element q.score)
+
+-- ---- the head
+
+-- the ID stands before the other
+abbrev pub stands_before : StationId → StationId → Bool
+stands_before a b = is_lt (slice_cmp nat_cmp a.0 b.0)
+
+-- the IDs of entries rise
+abbrev pub Rise : List Entry → Type 0
+Rise [] = ⊤
+Rise (e ∷ []) = ⊤
+Rise (e ∷ f ∷ es) = (stands_before e.id f.id ≡ true) × Rise (f ∷ es)
+
+-- an entry that isn't passed over is of this station
+abbrev pub is_scanned : List Entry → StationId → Bool
+is_scanned es id = list_any (λ e. not e.skipped && same_id e.id id) es
+
+-- what can be seen of both papers without the data: the query, the order of the rows and of the lines, the k-th score,
+-- that each row is of a series that was scanned, and that the counts add up to the number of rows
+pub record IsRightHead (q : Asked) (r : Reported) (z : Certified) : Type 0 where
+  pub report : r.query ≡ q
+  pub certificate : z.query ≡ q
+  pub order : AreInOrder (of_rows r.rows)
+  pub kth : z.kth ≡ score_of (worst_of q.k r.rows)
+  pub rise : Rise z.entries
+  pub scanned : AllByRecursion (λ row. is_scanned z.entries row.0.id ≡ true) r.rows
+  pub sum : sum z.counts ≡ length r.rows
+
+-- ---- all pieces
+
+-- a line with its count is accepted by itself: its station is listed, and no test fails
+abbrev pub IsAccepted : Asked → Contents → List Named → Entry → ℕ → Type 0
+IsAccepted q c rows e n = (st : Station) × (find (is_station_of e.id) c.stations ≡ Some st)
+    × (first_failing (piece_tests q st (own_series q c st) e n (rows_with e.id rows) (worst_of q.k rows)) ≡ None)
+
+-- a listed station without a line is accepted by itself: it is no morsel
+abbrev pub IsAbsent : Asked → Contents → List Entry → Station → Type 0
+IsAbsent q c es st =
+    list_any (λ e. same_id e.id st.id) es ≡ false → is_morsel q st (own_series q c st) ≡ false
+
+-- the head is right, each line is accepted by itself, and so is each listed station without a line
+pub record AreRightPieces (q : Asked) (c : Contents) (r : Reported) (z : Certified) : Type 0 where
+  pub head : IsRightHead q r z
+  pub lines : AllZip (IsAccepted q c r.rows) z.entries z.counts
+  pub absent : AllByRecursion (IsAbsent q c z.entries) c.stations
+
+-- papers of version 2 say what is right exactly where their pieces are right, in whatever order these are judged
+abbrev pub RightInPieces : Type 0
+RightInPieces = (q : Asked) (c : Contents) (r : Reported) (z : Certified) → IsAsked q → IsContents c → IsReported r
+    → IsCertified z → z.version ≡ 2
+    → (SaysRightReport q c r × SaysRight q c z) ↔ AreRightPieces q c r z
+
+-- so the verdict on the texts of such papers accepts exactly where their pieces are right
+abbrev pub AcceptedInPieces : Type 0
+AcceptedInPieces = (q : Asked) (c : Contents) (report certificate : List ℕ) (r : Reported) (z : Certified)
+    → IsAsked q → IsContents c → IsReportOf r report → IsCertificateOf z certificate → z.version ≡ 2
+    → (verdict q c report certificate ≡ Accepted) ↔ AreRightPieces q c r z

@@ -1,0 +1,65 @@
+-- Days one after another in one month.
+use Rattle.std.proofs.Common.{◌≡◌, ℕ, ◌+◌, ◌-◌, ◌≤◌, true, ◌&&◌, Some, ap, ◌∙◌, arith}
+use Rattle.std.specs.Prelude.{ℤ, pos, ◌+ℤ◌, ◌-ℤ◌, ◌≤ℤ◌, unsigned_abs}
+use Rattle.std.proofs.lemmas.Bool.{and_parts}
+use Rattle.std.proofs.lemmas.Bool.Decides.{nat_tests}
+use Rattle.std.proofs.lemmas.Int.{ints}
+use Rattle.std.proofs.lemmas.Option.{cond_some}
+use Rattle.jiff_core.specs.Calendar.{days_from_civil, days_in_month}
+use Rattle.jiff_core.proofs.SignedLemmas.{signed_arith}
+use Rattle.jiff_core.proofs.CalendarLemmas.{days_from_civil-day_count, day_count-day_of_year}
+use Rattle.ghcn_fields.specs.Dates.{civil}
+use Rattle.ghcn_fields.specs.Days.{is_within, is_date, day_number}
+use Rattle.ghcn_fields.proofs.WholeDays.{day_number-law}
+
+-- a day of a month that the calendar has
+pub record IsPlaced (y m d : ℕ) (n : ℤ) : Type 0 where
+  pub low : 1 ≤ d
+  pub high : d ≤ days_in_month (pos y) m
+  pub year : y ≤ 9999
+  pub before : (is_within 1 9999 y && is_within 1 12 m) ≡ true
+  pub number : days_from_civil (pos y) m d ≡ n
+
+-- so is each day with a number
+pub placed : (y m d : ℕ) (n : ℤ) → day_number y m d ≡ Some n → IsPlaced y m d n
+placed y m d n e =
+    let both = cond_some (is_date y m d) (days_from_civil (pos y) m d) n e in
+    let parts = and_parts (is_within 1 9999 y && is_within 1 12 m) (is_within 1 (days_in_month (pos y) m) d) both.0 in
+    let year = (and_parts (is_within 1 9999 y) (is_within 1 12 m) parts.0).0 in
+    record {
+      low = grind (arith, nat_tests);
+      high = grind (arith, nat_tests);
+      year = grind (arith, nat_tests);
+      before = parts.0;
+      number = both.1;
+    }
+
+-- a place in a month that the month has
+within_month : (y m d : ℕ) → 1 ≤ d → d ≤ days_in_month (pos y) m → is_within 1 (days_in_month (pos y) m) d ≡ true
+within_month y m d low high = grind (arith, nat_tests)
+
+-- so many days later in the month
+later : (y m d i : ℕ) (n : ℤ) → IsPlaced y m d n → d + i ≤ days_in_month (pos y) m → day_number y m (d + i) ≡ Some
+    (n +ℤ pos i)
+later y m d i n is within =
+    let one = days_from_civil-day_count (pos y) m d in
+    let two = days_from_civil-day_count (pos y) m (d + i) in
+    let first = day_count-day_of_year (pos y) m d is.low in
+    let second = day_count-day_of_year (pos y) m (d + i) (omega (arith, is.low)) in
+    let number : days_from_civil (pos y) m (d + i) ≡ n +ℤ pos i =
+    omega (arith, signed_arith, one, two, first, second, is.number) in
+    let date : is_date y m (d + i) ≡ true =
+    ap (λ b. b && is_within 1 (days_in_month (pos y) m) (d + i)) is.before
+    ∙ within_month y m (d + i) (omega (arith, is.low)) within in
+    rw date (ap (λ (z : ℤ). Some z) number)
+
+-- the days up to the month's last one are of that month
+pub same_month : (y m d : ℕ) (n e : ℤ) → day_number y m d ≡ Some n → n ≤ℤ e
+    → e ≤ℤ (n +ℤ pos (days_in_month (pos y) m - d)) → (civil e).1 ≡ m
+same_month y m d n e is from to =
+    let here = placed y m d n is in
+    let i : ℕ = unsigned_abs (e -ℤ n) in
+    let at : n +ℤ pos i ≡ e = grind (arith, ints) in
+    let within : d + i ≤ days_in_month (pos y) m = omega (arith, ints, at, to, here.high) in
+    let date = (day_number-law y m (d + i) e).0 (later y m d i n here within ∙ ap (λ (z : ℤ). Some z) at) in
+    ap (λ (c : ℕ × ℕ × ℕ). c.1) date.1

@@ -1,0 +1,23 @@
+use Rattle.std.proofs.Common.{◌≡◌, ◌-◌, ◌+ℤ◌, ◌≤ℤ◌, pos, arith, rules, FitsSigned, to_z, of_z, to_z-of_z, w32, subst, refl}
+use Rattle.std.specs.Prelude.{ℕ, ℤ}
+use Rattle.std.proofs.lemmas.Int.{to_z_pos}
+use Rattle.jiff_core.specs.Calendar.{days_in_month}
+use Rattle.rank_query.proofs.Months.{same_month}
+use Rattle.rank_query.proofs.query.month_of.Goals as goal
+
+-- the days up to the month's last one are of that month
+pub returns-clause-month : goal.returns-clause-month
+returns-clause-month c = λ d from to.
+    let year : ℕ = c.civil-year.result.0 in
+    let month : ℕ = c.civil-year.result.1 in
+    let place : ℕ = c.civil-year.result.2 in
+    let left : ℕ = c.days_in_month.result - place in
+    let count : c.days_in_month.result ≡ days_in_month (pos year) month = c.days_in_month.ensures in
+    let small : FitsSigned w32 c.number.result = search rules in
+    let more : to_z w32 left ≡ pos left = to_z_pos w32 left (omega arith) in
+    let near : FitsSigned w32 (c.number.result +ℤ pos left) = search rules in
+    let end : to_z w32 (of_z w32 (to_z w32 (of_z w32 c.number.result) +ℤ to_z w32 left)) ≡ c.args.day +ℤ pos left =
+    rw (to_z-of_z small, more, to_z-of_z near, c.number.ensures.value) refl in
+    let within : d ≤ℤ (c.args.day +ℤ pos left) = subst (λ (z : ℤ). d ≤ℤ z) end to in
+    same_month year month place c.args.day d c.civil-year.ensures.number from
+    (subst (λ (n : ℕ). d ≤ℤ (c.args.day +ℤ pos (n - place))) count within)

@@ -1,0 +1,32 @@
+use Rattle.std.proofs.Common.{◌≡◌, List, ℕ, ◌+◌, ◌-◌, min, length, take, drop, Option, Some, None, sym, ap, subst, ◌∙◌}
+use Rattle.std.proofs.Common.{arith}
+use Rattle.std.specs.Option.{option_map}
+use Rattle.std.proofs.lemmas.Grind.{common_steps}
+use Rattle.memchr.specs.Find.{IsFirstByte, is_byte}
+use Rattle.ghcn_fields.specs.Numbers.{natural, joined}
+use Rattle.ghcn_fields.proofs.Decimals.{decimal_number-whole, decimal_number-point}
+use Rattle.rank_query.proofs.Numerals.{joined-zero}
+use Rattle.rank_query.proofs.values.decimal_up_to_most.Goals as goal
+
+-- without a point there are whole degrees
+pub returns-in-None : goal.returns-in-None
+returns-in-None c =
+    let text : List ℕ = c.args.text.now in
+    let nowhere : IsFirstByte (is_byte 46) text None =
+    subst (λ (r : Option ℕ). IsFirstByte (is_byte 46) text r) c.in-None.is c.memchr.ensures in
+    c.joined_up_to_most.ensures
+    ∙ ap (option_map (min 1001)) (joined-zero (natural text) ∙ sym (decimal_number-whole 1 text nowhere))
+
+-- with a point there are two parts
+pub returns-in-Some : goal.returns-in-Some
+returns-in-Some c =
+    let text : List ℕ = c.args.text.now in
+    let point : ℕ = c.in-Some.point in
+    let first : IsFirstByte (is_byte 46) text (Some point) =
+    subst (λ (r : Option ℕ). IsFirstByte (is_byte 46) text r) c.in-Some.is c.memchr.ensures in
+    let rest : take (length text - (point + 1)) (drop (point + 1) text) ≡ drop (point + 1) text =
+    grind (arith, common_steps) in
+    c.joined_up_to_most-in-Some.ensures
+    ∙ ap (λ (part : List ℕ). option_map (min 1001) (joined 1 (natural (take point text)) (natural part) (length part)))
+    rest
+    ∙ sym (ap (option_map (min 1001)) (decimal_number-point 1 text point first))

@@ -1,0 +1,34 @@
+use Rattle.std.proofs.Common.{◌≡◌, List, ℕ, ◌+◌, ◌-◌, min, length, take, drop, Option, Some, None, sym, ap, subst, ◌∙◌}
+use Rattle.std.proofs.Common.{arith}
+use Rattle.std.specs.Option.{option_map}
+use Rattle.std.proofs.lemmas.Grind.{common_steps}
+use Rattle.memchr.specs.Find.{IsFirstByte, is_byte}
+use Rattle.ghcn_fields.specs.Numbers.{natural}
+use Rattle.rank_query.specs.WordValues.{both_numbers, natural_behind}
+use Rattle.rank_query.proofs.Numerals.{two-whole, two-point}
+use Rattle.rank_query.proofs.values.two_up_to.Goals as goal
+
+-- both numbers, each up to a limit
+abbrev kept : ℕ → Option (ℕ × ℕ) → Option (ℕ × ℕ)
+kept most o = option_map (λ s. (min (most + 1) s.0, min (most + 1) s.1)) o
+
+-- without a point there are no two numbers
+pub returns-in-None : goal.returns-in-None
+returns-in-None c =
+    let word : List ℕ = c.args.word.now in
+    let nowhere : IsFirstByte (is_byte 46) word None =
+    subst (λ (r : Option ℕ). IsFirstByte (is_byte 46) word r) c.in-None.is c.memchr.ensures in
+    sym (ap (kept c.args.most) (two-whole word nowhere))
+
+-- with one they stand on both sides of it
+pub returns-in-Some : goal.returns-in-Some
+returns-in-Some c =
+    let word : List ℕ = c.args.word.now in
+    let point : ℕ = c.in-Some.point in
+    let first : IsFirstByte (is_byte 46) word (Some point) =
+    subst (λ (r : Option ℕ). IsFirstByte (is_byte 46) word r) c.in-Some.is c.memchr.ensures in
+    let rest : take (length word - (point + 1)) (drop (point + 1) word) ≡ drop (point + 1) word =
+    grind (arith, common_steps) in
+    c.both_up_to.ensures
+    ∙ ap (λ (part : List ℕ). kept c.args.most (both_numbers (natural (take point word)) (natural_behind part))) rest
+    ∙ sym (ap (kept c.args.most) (two-point word point first))

@@ -1,0 +1,68 @@
+-- Days of a stretch, as one after another comes.
+use Rattle.std.proofs.Common.{◌≡◌, Bool, true, cond, List, [], ◌∷◌, refl, ap, ◌∙◌, arith, ℤ, ◌≤ℤ◌, ◌<ℤ◌}
+use Rattle.std.specs.Prelude.{◌&&◌, IsTrue}
+use Rattle.std.specs.List.{AllByRecursion, list_all}
+use Rattle.std.proofs.lemmas.Bool.{and_parts}
+use Rattle.std.proofs.lemmas.Int.{ints}
+use Rattle.ghcn_fields.specs.Days.{is_day, first_day}
+use Rattle.ghcn_series.specs.Series.{DayValue, Usable, IsSeries, is_by_day, is_value}
+use Rattle.rank_query.specs.Asked.{Asked}
+use Rattle.rank_query.specs.Admits.{admits_day}
+use Rattle.rank_scores.specs.declared.admitted.Stretch.{Stretch}
+use Rattle.rank_scores.specs.Candidates.{admitted_among}
+use Rattle.rank_scores.specs.Stretches.{IsStretch}
+use Rattle.rank_scores.proofs.Rising.{rise-from_by_day, from_each, from_both}
+use Rattle.rank_scores.proofs.Runs.{day-bounds}
+
+-- days that rise still do without the first
+by_day-rest : (x : DayValue) (xs : List DayValue) → is_by_day (x ∷ xs) ≡ true → is_by_day xs ≡ true
+by_day-rest x [] e = refl
+by_day-rest x (y ∷ ys) e = (and_parts _ (is_by_day (y ∷ ys)) e).1
+
+-- what is known of days is known of those behind the first
+pub stretch-rest : (q : Asked) (x : DayValue) (xs : List DayValue) (s : Stretch) → IsStretch q (x ∷ xs) s
+    → IsStretch q xs s
+stretch-rest q x xs s is =
+    record { by_day = by_day-rest x xs is.by_day; calendar = is.calendar.1; alike = is.alike.1 }
+
+-- the days of a series are days
+series_days : (s : Usable) (days : List DayValue) → list_all (λ x. is_day x.0 && is_value s.element x.1) days ≡ true
+    → AllByRecursion (λ x. IsTrue (is_day x.0)) days
+series_days s [] e = tt
+series_days s (x ∷ xs) e =
+    let all = and_parts (is_day x.0 && is_value s.element x.1)
+    (list_all (λ x. is_day x.0 && is_value s.element x.1) xs) e in
+    ((and_parts (is_day x.0) (is_value s.element x.1) all.0).0, series_days s xs all.1)
+
+-- at first nothing is known of the days of a series
+pub stretch-first : (q : Asked) (u : Usable) (s : Stretch) → IsSeries u → s.last <ℤ first_day → IsStretch q u.days s
+stretch-first q u s series none =
+    let days = series_days u u.days series.values in
+    record {
+      by_day = series.by_day;
+      calendar = days;
+      alike = from_each (λ x. IsTrue (is_day x.0)) (λ x. x.0 ≤ℤ s.last → admits_day q x.0 ≡ s.admitted) u.days
+          (λ x is le. absurd (omega (arith, ints, none, le, (day-bounds x.0 is).0))) days;
+    }
+
+-- a stretch that begins with the first of some days
+pub stretch-anew : (q : Asked) (x : DayValue) (xs : List DayValue) (old s : Stretch) → IsStretch q (x ∷ xs) old
+    → ((d : ℤ) → IsTrue (is_day d) → x.0 ≤ℤ d → d ≤ℤ s.last → admits_day q d ≡ s.admitted) → IsStretch q (x ∷ xs) s
+stretch-anew q x xs old s is alike =
+    let rise = rise-from_by_day (x ∷ xs) is.by_day in
+    record {
+      by_day = is.by_day;
+      calendar = is.calendar;
+      alike = (
+        λ le. alike x.0 is.calendar.0 (omega (arith, ints)) le,
+        from_both (λ y. IsTrue (is_day y.0)) (λ y. x.0 <ℤ y.0) (λ y. y.0 ≤ℤ s.last → admits_day q y.0 ≡ s.admitted) xs
+            (λ y is later le. alike y.0 is (omega (arith, ints, later)) le) is.calendar.1 rise.0,
+      );
+    }
+
+-- by the stretch of the first of some days: it is admitted, or isn't
+pub stretch-first_of : (b : Bool) (q : Asked) (x : DayValue) (xs : List DayValue) (s : Stretch)
+    → IsStretch q (x ∷ xs) s → x.0 ≤ℤ s.last → s.admitted ≡ b
+    → admitted_among q (x ∷ xs) ≡ cond b (x ∷ admitted_among q xs) (admitted_among q xs)
+stretch-first_of b q x xs s is on e =
+    ap (λ t. cond t (x ∷ admitted_among q xs) (admitted_among q xs)) (is.alike.0 on ∙ e)
