@@ -15,7 +15,7 @@ MOST = 2**20
 BLANK, BAD = "blank", "bad"
 
 Station = namedtuple("Station", "id latitude longitude state name")
-Query = namedtuple("Query", "k kind element window region first last text")
+Query = namedtuple("Query", "k kind element number region months first last text")
 Candidate = namedtuple("Candidate", "score id first last name")
 
 
@@ -54,6 +54,10 @@ def number_of(text, places):
 
 def is_within(value, least, greatest):
     return value not in (BLANK, BAD) and least <= value <= greatest
+
+
+def one_decimal(tenths):
+    return b"%s%d.%d" % (b"-" if tenths < 0 else b"", abs(tenths) // 10, abs(tenths) % 10)
 
 
 def visible(text):
@@ -184,6 +188,22 @@ class Words:
             self.wrong()
         return int(word) if 1 <= int(word) <= greatest else self.wrong("10 OutOfLimits")
 
+    def degrees(self):
+        """A number of degrees with one decimal at most, in tenths."""
+        found = re.fullmatch(rb"(-?)([0-9]+)(?:\.([0-9]))?", self.next())
+        if not found:
+            self.wrong()
+        value = int(found[2] + (found[3] or b"0")) * (-1 if found[1] else 1)
+        return value if -1000 <= value <= 1000 else self.wrong("10 OutOfLimits")
+
+    def season(self):
+        """Two months."""
+        found = re.fullmatch(rb"([0-9]+)\.\.([0-9]+)", self.next())
+        if not found:
+            self.wrong()
+        first, last = int(found[1]), int(found[2])
+        return (first, last) if 1 <= first <= 12 and 1 <= last <= 12 else self.wrong("10 OutOfLimits")
+
     def edge(self, least, greatest):
         found = re.fullmatch(rb"(-?)([0-9]+)(?:\.([0-9]{1,4}))?", self.next())
         if not found:
@@ -200,10 +220,14 @@ class Words:
 
 
 def read_score(words):
-    """The kind, the element and the number of days of a window, and the words of the canonical text."""
-    kind = words.one_of(b"highest", b"lowest", b"sum", b"dry", b"wet")
+    """The kind, the element, a number, and the words of the canonical text. The number is that of a window's days, or
+    the least value of a hot day."""
+    kind = words.one_of(b"highest", b"lowest", b"sum", b"dry", b"wet", b"hot")
     if kind in (b"dry", b"wet"):
         return kind, b"PRCP", 0, [kind]
+    if kind == b"hot":
+        least = words.degrees()
+        return kind, b"TMAX", least, [kind, one_decimal(least)]
     window = words.limited(366) if kind == b"sum" else 0
     element = words.one_of(*{b"highest": ELEMENTS, b"lowest": TEMPERATURES, b"sum": FALLS}[kind])
     return kind, element, window, [kind, b"%d" % window, element] if window else [kind, element]
@@ -225,14 +249,25 @@ def read_region(words):
     return (kind, *edges), [kind, *spelled]
 
 
+def read_season(words):
+    """The months that are admitted, and the words of the canonical text."""
+    if not words.is_next(b"months"):
+        return range(1, 13), []
+    words.next()
+    first, last = words.season()
+    months = range(first, last + 1) if first <= last else [*range(first, 13), *range(1, last + 1)]
+    return months, [b"months", b"%d..%d" % (first, last)]
+
+
 def read_query(text):
     if len(text) > 256:
         raise Refused("refused 7 QueryTooLong")
     words = Words(text)
     words.one_of(b"top")
     k = words.limited(1000)
-    kind, element, window, score = read_score(words)
+    kind, element, number, score = read_score(words)
     region, spelled = read_region(words)
+    months, season = read_season(words)
     first, last, period = 1, date.max.toordinal(), []
     if words.is_next(b"from"):
         words.next()
@@ -245,8 +280,8 @@ def read_query(text):
     if words.at < len(words.words):
         words.next()
         words.wrong()
-    text = b" ".join([b"top", b"%d" % k, *score, *spelled, *period])
-    return Query(k, kind, element, window, region, first, last, text)
+    text = b" ".join([b"top", b"%d" % k, *score, *spelled, *season, *period])
+    return Query(k, kind, element, number, region, months, first, last, text)
 
 
 def is_admitted(station, region):
@@ -272,16 +307,22 @@ def runs(days):
     return found
 
 
+def is_in_spell(query, value):
+    if query.kind == b"hot":
+        return value >= query.number
+    return (value < 10) == (query.kind == b"dry")
+
+
 def candidates(query, station, days):
     """All candidates of a series, whose admitted usable days these are."""
     if query.kind in (b"highest", b"lowest"):
         sign = -1 if query.kind == b"lowest" else 1
         found = [(sign * value, day, day) for day, value in days.items()]
     elif query.kind == b"sum":
-        found = [(sum(days[it] for it in range(start, start + query.window)), start, start + query.window - 1)
-                 for first, last in runs(days) for start in range(first, last - query.window + 2)]
+        found = [(sum(days[it] for it in range(start, start + query.number)), start, start + query.number - 1)
+                 for first, last in runs(days) for start in range(first, last - query.number + 2)]
     else:
-        spell = [day for day, value in days.items() if (value < 10) == (query.kind == b"dry")]
+        spell = [day for day, value in days.items() if is_in_spell(query, value)]
         found = [(last - first + 1, first, last) for first, last in runs(spell)]
     return [Candidate(score, station.id, first, last, station.name) for score, first, last in found]
 
@@ -295,15 +336,14 @@ def has_decimal(query):
 
 
 def unit(query):
-    if query.kind in (b"dry", b"wet"):
+    if query.kind in (b"dry", b"wet", b"hot"):
         return b"days"
     return b"C" if query.element in TEMPERATURES else b"mm"
 
 
 def row(query, rank, it):
     value = -it.score if query.kind == b"lowest" else it.score
-    sign = b"-" if value < 0 else b""
-    shown = b"%s%d.%d" % (sign, abs(value) // 10, abs(value) % 10) if has_decimal(query) else b"%d" % value
+    shown = one_decimal(value) if has_decimal(query) else b"%d" % value
     fields = [b"%d" % rank, it.id, date_text(it.first), date_text(it.last), shown, unit(query)]
     return b" ".join(fields + ([it.name] if it.name else [])) + b"\n"
 
@@ -323,7 +363,7 @@ def read_all(query_text, stations, daily):
     found = {}
     for name in sorted(listed):
         days = {day: value for day, value in series.get((name, query.element), {}).items()
-                if query.first <= day <= query.last}
+                if query.first <= day <= query.last and date.fromordinal(day).month in query.months}
         if days and is_admitted(listed[name], query.region):
             found[name] = candidates(query, listed[name], days)
     return query, found, unlisted

@@ -9,7 +9,8 @@ from formats import Candidate, Refused
 ROW = re.compile(rb"([0-9]+) ([!-~]{11}) ([0-9-]{10}) ([0-9-]{10}) (-?)(0|[1-9][0-9]*)(?:\.([0-9]))?"
                  rb" (C|mm|days)(?: ([ -~]{1,30}))?\n")
 LINE = re.compile(rb"(scan|skip) ([!-~]{11}) (-?(?:0|[1-9][0-9]*))(?: (0|[1-9][0-9]*))?\n")
-TITLES = {b"extremes certificate 1\n": 1, b"extremes certificate 2\n": 2}
+TITLE = b"extremes certificate 2\n"
+TITLES = {b"extremes certificate 1\n": 1, TITLE: 2}
 KTH = re.compile(rb"kth (none|-?(?:0|[1-9][0-9]*))\n")
 
 

@@ -16,8 +16,12 @@ BYTES = b" \n\r\t-+.0139aZ?~!\x00\x7f\x80\xff"
 BAD_WORDS = (b"top", b"0", b"1001", b"1000", b"00001", b"366", b"367", b"-1", b"+1", b"1.0", b"99999999999999999999",
              b"highest", b"lowest", b"sum", b"dry", b"wet", b"box", b"country", b"state", b"station", b"from", b"to",
              b"TMAX", b"tmax", b"PRCP", b"SNOW", b"SNWD", b"TAVG", b"-0", b"90", b"90.0001", b"-180", b"180.00000",
+             b"hot", b"30", b"30.0", b"30.05", b"100.0", b"100.1", b"-100.0", b"-100.1", b"4294967396", b"99999999999",
+             b"months", b"1..12", b"12..01", b"0..3", b"3..0", b"1..13", b"1-3", b"1..", b"..2", b"1...2", b"1.2",
+             b"1..2..3", b"-1..2",
              b".5", b"5.", b"2020-02-30", b"2019-02-29", b"0000-01-01", b"0001-01-01", b"9999-12-31", b"2020-7-1",
              b"2020-07-01x", b"ZZ", b"Z", b"ZZZ", b"\xc3\xa9", b"x\ty")
+DEGREES = (b"30", b"0", b"-0", b"0.9", b"1.0", b"020.5", b"-10.0", b"-29.9", b"100", b"-100")
 GUESSES = (0, 1, 55, -100, 300, 2**31, -2**31)
 
 # A run starts threads from so many bytes of daily files on.
@@ -121,11 +125,15 @@ def date(rng):
 
 
 def score(rng):
-    """A score, whose element is its last word, but for spells, whose element is PRCP."""
-    kind = rng.choice((b"highest", b"highest", b"lowest", b"sum", b"dry", b"wet"))
+    """The words of a score, and its element."""
+    kind = rng.choice((b"highest", b"highest", b"lowest", b"sum", b"dry", b"wet", b"hot"))
+    if kind == b"hot":
+        return [kind, rng.choice(DEGREES)], b"TMAX"
+    if kind in (b"dry", b"wet"):
+        return [kind], b"PRCP"
     window = [rng.choice((b"1", b"2", b"3", b"5", b"30", b"031", b"366"))] if kind == b"sum" else []
-    elements = {b"highest": ELEMENTS, b"lowest": ELEMENTS[3:], b"sum": ELEMENTS[:2]}.get(kind)
-    return [kind, *window, *([rng.choice(elements)] if elements else [])]
+    element = rng.choice({b"highest": ELEMENTS, b"lowest": ELEMENTS[3:], b"sum": ELEMENTS[:2]}[kind])
+    return [kind, *window, element], element
 
 
 def query_words(rng, names, asked):
@@ -141,6 +149,8 @@ def query_words(rng, names, asked):
         words += [b"state", rng.choice((b"NY", b"CA", b"A?", b"??", b"TX"))]
     elif region == 3:
         words += [b"station", rng.choice(names or IDS)]
+    if rng.random() < 0.3:
+        words += [b"months", rng.choice((b"1..1", b"12..1", b"6..8", b"10..03", b"7..7", b"2..11", b"1..12", b"8..7"))]
     if rng.random() < 0.25:
         first, last = date(rng), date(rng)
         if rng.random() < 0.9:
@@ -175,8 +185,8 @@ def case(number):
     rng = random.Random(number)
     names = rng.sample(IDS, rng.choice((0, 2, 3, 4, 5, 5, 5)))
     stations = [station_line(rng, it) for it in names]
-    asked = score(rng)
-    daily = daily_lines(rng, names, asked[-1] if asked[-1] in ELEMENTS else b"PRCP")
+    asked, element = score(rng)
+    daily = daily_lines(rng, names, element)
     for _ in range(rng.choice((0, 0, 1, 1, 2))):
         if rng.random() < 0.3:
             stations = changed(rng, stations)
