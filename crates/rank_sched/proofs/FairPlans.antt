@@ -16,12 +16,12 @@ use Rattle.ghcn_series.specs.Held.{IsContents}
 use Rattle.rank_query.specs.Asked.{Asked, score_element}
 use Rattle.rank_query.specs.Admits.{admits_station}
 use Rattle.rank_scores.specs.Candidates.{candidates}
-use Rattle.rank_scores.specs.Morsels.{morsels, all_candidates}
+use Rattle.rank_scores.specs.Morsels.{has_admitted, morsels, all_candidates}
 use Rattle.rank_scores.specs.Order.{AreApart}
 use Rattle.rank_blocks.specs.Bounds.{bound, IsAskedOf}
 use Rattle.rank_blocks.proofs.Computed.{computed-IsBound}
 use Rattle.rank_blocks.proofs.BoundsMet.{bound-above}
-use Rattle.rank_sched.specs.Plan.{Morsel, Planned, measured, is_drawn_first, planned, AreDrawnInTurn, IsPlan, is_asked_of, passing, morsel_at}
+use Rattle.rank_sched.specs.Plan.{Morsel, Planned, measured, is_drawn_first, planned, AreDrawnInTurn, IsPlan, passing, morsel_at}
 use Rattle.rank_sched.specs.Task.{task_of, all_of_task}
 use Rattle.rank_sched.specs.Laws.{PlansAreFair}
 use Rattle.rank_scores.proofs.QueryCandidates.{all_apart}
@@ -49,11 +49,11 @@ module _ (q : Asked) (c : Contents) (right : IsContents c) where
   one_measured st m e = cases (admits_station q st) (of_station st) refl e
     where
       cases : (b : Bool) (o : Option Usable) → of_station st ≡ o
-          → option_map (measured q) (cond b (passing (is_asked_of q) o) None) ≡ Some m → IsMeasured q m
+          → option_map (measured q) (cond b (passing (has_admitted q) o) None) ≡ Some m → IsMeasured q m
       cases false o f e = absurd cc
       cases true None f e = absurd cc
-      cases true (Some u) f e = elim (is_asked_of q u)
-          as (λ b. is_asked_of q u ≡ b → option_map (measured q) (cond b (Some u) None) ≡ Some m → IsMeasured q m) [
+      cases true (Some u) f e = elim (has_admitted q u)
+          as (λ b. has_admitted q u ≡ b → option_map (measured q) (cond b (Some u) None) ≡ Some m → IsMeasured q m) [
             | true ↦ λ k g.
                 let same : measured q u ≡ m = cc in
                 let is = found IsSeries (is_series_of st.id (score_element q.score)) c.series u right.series.right f in

@@ -13,8 +13,9 @@ use Rattle.ghcn_files.specs.Elements.{elements, element_index, same_element}
 use Rattle.ghcn_series.specs.Series.{Usable, Contents, IsSeries, series_of, is_series_of}
 use Rattle.rank_query.specs.Asked.{Asked, score_element}
 use Rattle.rank_scores.specs.Candidates.{admitted}
+use Rattle.rank_scores.specs.Morsels.{has_admitted}
 use Rattle.rank_blocks.specs.Bounds.{IsAskedOf}
-use Rattle.rank_sched.specs.Plan.{is_asked_of, measure_of, measures}
+use Rattle.rank_sched.specs.Plan.{measure_of, measures}
 
 -- an element stands at its place among the five
 at_index : (e : Element) → get_or elements (element_index e) Prcp ≡ e
@@ -54,7 +55,7 @@ some_days (suc n) e = omega arith
 
 -- a series of the query's element with an admitted day is one that the query asks about
 pub asked_of : (q : Asked) (c : Contents) (id : StationId) (u : Usable)
-    → series_of c id (score_element q.score) ≡ Some u → IsSeries u → is_asked_of q u ≡ true → IsAskedOf q u
+    → series_of c id (score_element q.score) ≡ Some u → IsSeries u → has_admitted q u ≡ true → IsAskedOf q u
 asked_of q c id u e right asked = record {
   series = right;
   element = same_element-is u.element (score_element q.score)

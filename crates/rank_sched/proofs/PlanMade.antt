@@ -14,8 +14,8 @@ use Rattle.ghcn_series.specs.Series.{Usable, Contents, series_of, is_series_of}
 use Rattle.ghcn_series.specs.Held.{IsContents}
 use Rattle.rank_query.specs.Asked.{Asked, score_element}
 use Rattle.rank_query.specs.Admits.{admits_station}
-use Rattle.rank_scores.specs.Morsels.{admitted_series, morsels}
-use Rattle.rank_sched.specs.Plan.{Morsel, Planned, measured, is_drawn_first, planned, AreDrawnInTurn, IsPlanOf, IsPlan, is_asked_of, passing, morsel_at}
+use Rattle.rank_scores.specs.Morsels.{has_admitted, admitted_series, morsels}
+use Rattle.rank_sched.specs.Plan.{Morsel, Planned, measured, is_drawn_first, planned, AreDrawnInTurn, IsPlanOf, IsPlan, passing, morsel_at}
 use Rattle.rank_sched.specs.Laws.{PlanIsTheOne}
 use Rattle.rank_scores.proofs.QueryCandidates.{id_from_same}
 use Rattle.rank_sched.proofs.Measures.{passes, left_part}
@@ -70,30 +70,30 @@ module _ (q : Asked) (c : Contents) where
 
   -- a series in front of others adds its morsel in front of theirs, if the query asks about it
   one_series : (o : Option Usable) (rest : List Usable)
-      → cons_option (option_map (measured q) (passing (is_asked_of q) o))
-      (map (measured q) (filter (is_asked_of q) rest)) ≡ map (measured q)
-      (filter (is_asked_of q) (cons_option o rest))
+      → cons_option (option_map (measured q) (passing (has_admitted q) o))
+      (map (measured q) (filter (has_admitted q) rest)) ≡ map (measured q)
+      (filter (has_admitted q) (cons_option o rest))
   one_series None rest = refl
-  one_series (Some u) rest = elim (is_asked_of q u)
+  one_series (Some u) rest = elim (has_admitted q u)
       as (λ b. cons_option (option_map (measured q) (cond b (Some u) None))
-      (map (measured q) (filter (is_asked_of q) rest)) ≡ map (measured q)
-      (cond b (u ∷ filter (is_asked_of q) rest) (filter (is_asked_of q) rest))) [
+      (map (measured q) (filter (has_admitted q) rest)) ≡ map (measured q)
+      (cond b (u ∷ filter (has_admitted q) rest) (filter (has_admitted q) rest))) [
         | true ↦ refl
         | false ↦ refl
       ]
 
   -- the morsels station by station are the series that are asked about, with their bounds
   by_station : (sts : List Station) → filter_map (morsel_at q c) sts ≡ map (measured q)
-      (filter (is_asked_of q) (filter_map of_station (filter (admits_station q) sts)))
+      (filter (has_admitted q) (filter_map of_station (filter (admits_station q) sts)))
   unfolding of_station
   by_station [] = refl
   by_station (st ∷ sts) =
       let fs : List Station = filter (admits_station q) sts in
       elim (admits_station q st) as (λ b. cons_option
-      (option_map (measured q) (cond b (passing (is_asked_of q) (series_of c st.id (score_element q.score)))
+      (option_map (measured q) (cond b (passing (has_admitted q) (series_of c st.id (score_element q.score)))
       None)) (filter_map (morsel_at q c) sts) ≡ map (measured q)
-      (filter (is_asked_of q) (filter_map of_station (cond b (st ∷ fs) fs)))) [
-        | true ↦ one_more (option_map (measured q) (passing (is_asked_of q) (of_station st))) _ _ (by_station sts)
+      (filter (has_admitted q) (filter_map of_station (cond b (st ∷ fs) fs)))) [
+        | true ↦ one_more (option_map (measured q) (passing (has_admitted q) (of_station st))) _ _ (by_station sts)
             ∙ one_series (of_station st) (filter_map of_station fs)
         | false ↦ by_station sts
       ]
@@ -104,10 +104,10 @@ module _ (q : Asked) (c : Contents) where
   own_id st m e = cases (admits_station q st) (of_station st) refl e
     where
       cases : (b : Bool) (o : Option Usable) → of_station st ≡ o
-          → option_map (measured q) (cond b (passing (is_asked_of q) o) None) ≡ Some m → m.series.id ≡ st.id
+          → option_map (measured q) (cond b (passing (has_admitted q) o) None) ≡ Some m → m.series.id ≡ st.id
       cases false o f e = absurd cc
       cases true None f e = absurd cc
-      cases true (Some u) f e = elim (is_asked_of q u)
+      cases true (Some u) f e = elim (has_admitted q u)
           as (λ b. option_map (measured q) (cond b (Some u) None) ≡ Some m → m.series.id ≡ st.id) [
             | true ↦ λ g.
                 let same : measured q u ≡ m = cc in
@@ -153,8 +153,8 @@ module _ (q : Asked) (c : Contents) where
   pub by_id : IsPermutation (filter_map (morsel_at q c) c.stations) (map (measured q) (morsels q c))
   unfolding of_station
   by_id = subst (λ (l : List Morsel). IsPermutation l (map (measured q) (morsels q c))) (sym (by_station c.stations))
-      (IsPermutation-map (measured q) (filter (is_asked_of q) (admitted_series q c)) (morsels q c)
-      (sorted-permutation _ (filter (is_asked_of q) (admitted_series q c))))
+      (IsPermutation-map (measured q) (filter (has_admitted q) (admitted_series q c)) (morsels q c)
+      (sorted-permutation _ (filter (has_admitted q) (admitted_series q c))))
 
   -- no two morsels of a query are of one station
   distinct_morsels : IsContents c → IsDistinct of_one_station (map (measured q) (morsels q c))

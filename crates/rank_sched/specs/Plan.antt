@@ -1,5 +1,5 @@
 -- The plan of a query: its morsels with their bounds, in the order in which they are drawn.
-use Rattle.std.specs.Prelude.{◌≡◌, Bool, true, ◌&&◌, ◌||◌, ◌==◌, not, if◌then◌else◌, List, [], ◌∷◌, length, map, Option, None, Some, ℤ, int_lt}
+use Rattle.std.specs.Prelude.{◌≡◌, Bool, true, ◌&&◌, ◌||◌, if◌then◌else◌, List, [], ◌∷◌, map, Option, None, Some, ℤ, int_lt}
 use Rattle.std.specs.List.{AllByRecursion}
 use Rattle.std.specs.List.Sorted.{IsPermutation}
 use Rattle.std.specs.Option.{option_map}
@@ -12,8 +12,7 @@ use Rattle.ghcn_series.specs.Series.{Usable, Contents, series_of}
 use Rattle.ghcn_series.specs.Held.{IsContents}
 use Rattle.rank_query.specs.Asked.{Asked, IsAsked, score_element}
 use Rattle.rank_query.specs.Admits.{admits_station}
-use Rattle.rank_scores.specs.Candidates.{admitted}
-use Rattle.rank_scores.specs.Morsels.{morsels, id_comes_first}
+use Rattle.rank_scores.specs.Morsels.{has_admitted, morsels, id_comes_first}
 use Rattle.rank_blocks.specs.Bounds.{bound}
 use Rattle.rank_sched.specs.declared.plan.Morsel as code
 
@@ -72,10 +71,6 @@ pub record IsPlan (p : Planned) : Type 0 where
   pub right : IsContents held
   pub plan : p ≡ planned p.query held
 
--- the series has an admitted usable day
-abbrev pub is_asked_of : Asked → Usable → Bool
-is_asked_of q s = not (length (admitted q s) == 0)
-
 -- a value, if it passes
 abbrev pub passing : {A : Type 0} → (A → Bool) → Option A → Option A
 passing test None = None
@@ -83,7 +78,7 @@ passing test (Some x) = if test x then Some x else None
 
 -- the series of a station that is a morsel, if the station is one
 abbrev pub morsel_of : Asked → Contents → Station → Option Usable
-morsel_of q c st = if admits_station q st then passing (is_asked_of q)
+morsel_of q c st = if admits_station q st then passing (has_admitted q)
     (series_of c st.id (score_element q.score)) else None
 
 -- the morsel of a station, if it is one

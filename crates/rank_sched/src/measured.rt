@@ -2,7 +2,6 @@
 
 ghost use Rattle.std.specs.Prelude.{◌≡◌, ◌<◌, Some, length, slice_get, IfOk, IfSome};
 ghost use Rattle.std.specs.Option.{option_copied};
-ghost use Rattle.ghcn_series.specs.Series.{IsSeries};
 ghost use Rattle.rank_blocks.specs.Bounds.{bound, IsAskedOf};
 ghost use Rattle.rank_sched.specs.Plan as plan;
 
@@ -11,6 +10,7 @@ use ghcn_files::Station;
 use ghcn_series::{Data, Series};
 use rank_blocks::Blocks;
 use rank_query::Query;
+use rank_scores::has_admitted_day;
 use std::alloc::Global;
 
 /// The bound of the station at a place in the list, or `None` where it has no morsel.
@@ -63,17 +63,4 @@ fn morsel_of<'a>(held: &'a Data, query: &Query, station: &Station) -> Option<&'a
     } else {
         None
     }
-}
-
-/// Whether the query admits a usable day of the series.
-fn has_admitted_day(series: &Series, query: &Query) -> bool
-    ensures asked { result ≡ plan.is_asked_of query.now series.now }
-    ensures series { IsSeries series.now }
-{
-    for (day, _) in series.days() {
-        if query.admits_day(day) {
-            return true;
-        }
-    }
-    false
 }

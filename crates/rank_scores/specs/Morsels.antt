@@ -25,10 +25,13 @@ all_candidates q c = flat_map (candidates q) (admitted_series q c)
 abbrev pub id_comes_first : StationId → StationId → Bool
 id_comes_first a b = is_le (slice_cmp nat_cmp a.0 b.0)
 
+-- the series has an admitted usable day
+abbrev pub has_admitted : Asked → Usable → Bool
+has_admitted q s = not (length (admitted q s) == 0)
+
 -- those of these series that have an admitted day, by increasing ID
 abbrev pub morsels : Asked → Contents → List Usable
-morsels q c = sorted_by (λ a b. id_comes_first a.id b.id)
-    (filter (λ s. not (length (admitted q s) == 0)) (admitted_series q c))
+morsels q c = sorted_by (λ a b. id_comes_first a.id b.id) (filter (has_admitted q) (admitted_series q c))
 
 -- the best candidates of a query
 abbrev pub best_of_query : Asked → Contents → List Candidate

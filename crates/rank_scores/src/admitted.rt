@@ -7,6 +7,7 @@ ghost use Rattle.ghcn_fields.specs.Days.{is_day};
 ghost use Rattle.ghcn_series.specs.Series.{DayValue, IsSeries};
 ghost use Rattle.rank_query.specs.Admits.{admits_day};
 ghost use Rattle.rank_scores.specs.Candidates as meaning;
+ghost use Rattle.rank_scores.specs.Morsels.{has_admitted};
 ghost use Rattle.rank_scores.specs.Stretches.{IsStretch};
 
 use ghcn_fields::Day;
@@ -65,6 +66,16 @@ impl<'s, 'q> Iterator for Admitted<'s, 'q> {
     fn next(&mut self) -> Option<(Day, i32)> {
         next_admitted(&mut self.days, self.query, &mut self.stretch)
     }
+}
+
+/// Whether the query admits a usable day of the series.
+///
+/// The query is asked once a month at most, and not once a day.
+pub fn has_admitted_day(series: &Series, query: &Query) -> bool
+    ensures asked { result ≡ has_admitted query.now series.now }
+    ensures series { IsSeries series.now }
+{
+    Admitted::of(series, query).next().is_some()
 }
 
 /// The first of some days that is admitted.

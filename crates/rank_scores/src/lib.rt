@@ -16,6 +16,7 @@ mod spell;
 mod tests;
 mod window;
 
+pub use admitted::has_admitted_day;
 pub use best::best_first;
 pub use candidate::{Candidate, precedes};
 pub use laws::{candidates_of_queries, candidates_of_series, one_element_is_enough};
