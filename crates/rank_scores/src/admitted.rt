@@ -86,7 +86,7 @@ fn next_admitted(days: &mut Days, query: &Query, stretch: &mut Stretch) -> Optio
     ensures stretch { IsStretch query.now days.new stretch.new }
 {
     while let Some((day, value)) = days.next() {
-        *stretch = stretch.at(query, day);
+        stretch.go_on(query, day);
         if stretch.admitted {
             return Some((day, value));
         }
@@ -102,17 +102,16 @@ pub(crate) struct Stretch {
 }
 
 impl Stretch {
-    /// The stretch that a day lies in. Days are asked about one behind another.
+    /// Goes on to the stretch of a day, where the day lies past this one. Days come one behind another.
     #[inline(always)]
-    fn at(self, query: &Query, day: Day) -> Stretch
-        ensures on { day ≤ℤ result.last }
-        ensures alike { (value : ℤ) (rest : List DayValue) → IsStretch query.now ((day, value) ∷ rest) self
-            → IsStretch query.now ((day, value) ∷ rest) result }
+    fn go_on(&mut self, query: &Query, day: Day)
+        ensures on { day ≤ℤ self.new.last }
+        ensures alike { (value : ℤ) (rest : List DayValue) → IsStretch query.now ((day, value) ∷ rest) self.old
+            → IsStretch query.now ((day, value) ∷ rest) self.new }
     {
-        if day.number() <= self.last {
-            return self;
+        if day.number() > self.last {
+            *self = Stretch::of(query, day);
         }
-        Stretch::of(query, day)
     }
 
     /// The stretch that a day begins.

@@ -13,30 +13,30 @@ with_value {x} {rest} fits = ap (λ (z : ℤ). (x.0, z) ∷ rest) (sym (to_z-of_
 -- an admitted day is the first of those to come
 pub returns-then-stretch-clause-first : goal.returns-then-stretch-clause-first
 returns-then-stretch-clause-first c =
-    let here = c.at.ensures.alike _ c.next.new.self (
+    let here = c.go_on.ensures.alike _ c.next.new.self (
     subst (λ (days : List DayValue). IsStretch c.args.query.now days c.loop-day.stretch) c.in-Some.ensures.steps
     c.loop-day.invariant.stretch) in
     sym c.loop-day.invariant.left ∙ ap (admitted_among c.args.query.now) c.in-Some.ensures.steps
-    ∙ stretch-first_of true c.args.query.now _ c.next.new.self c.at.result here c.at.ensures.on c.if-stretch.true
+    ∙ stretch-first_of true c.args.query.now _ c.next.new.self c.go_on.new.self here c.go_on.ensures.on c.if-stretch.true
     ∙ with_value (search rules)
 
 -- and the stretch is one of those behind it
 pub returns-then-stretch-clause-stretch : goal.returns-then-stretch-clause-stretch
 returns-then-stretch-clause-stretch c =
-    let here = c.at.ensures.alike _ c.next.new.self (
+    let here = c.go_on.ensures.alike _ c.next.new.self (
     subst (λ (days : List DayValue). IsStretch c.args.query.now days c.loop-day.stretch) c.in-Some.ensures.steps
     c.loop-day.invariant.stretch) in
-    stretch-rest c.args.query.now _ c.next.new.self c.at.result here
+    stretch-rest c.args.query.now _ c.next.new.self c.go_on.new.self here
 
 -- another day is passed over
 pub loop-day-preserved : goal.loop-day-preserved
 loop-day-preserved c =
-    let here = c.at.ensures.alike _ c.next.new.self (
+    let here = c.go_on.ensures.alike _ c.next.new.self (
     subst (λ (days : List DayValue). IsStretch c.args.query.now days c.loop-day.stretch) c.in-Some.ensures.steps
     c.loop-day.invariant.stretch) in
     record {
-      left = sym (stretch-first_of false c.args.query.now _ c.next.new.self c.at.result here c.at.ensures.on
+      left = sym (stretch-first_of false c.args.query.now _ c.next.new.self c.go_on.new.self here c.go_on.ensures.on
           c.if-stretch.false)
           ∙ sym (ap (admitted_among c.args.query.now) c.in-Some.ensures.steps) ∙ c.loop-day.invariant.left;
-      stretch = stretch-rest c.args.query.now _ c.next.new.self c.at.result here;
+      stretch = stretch-rest c.args.query.now _ c.next.new.self c.go_on.new.self here;
     }
