@@ -153,8 +153,8 @@ spells-in_blocks : (test : ℤ → Bool) (q : Asked) (s : Usable) (z : ℤ)
     (candidates_among s.id (Spells test) (admitted q s))
 spells-in_blocks test q s z of_z =
     let such : ℤ → Bool = holds_such test (days_reached q s) in
-    subst (λ (n : ℤ). AllByRecursion (λ c. c.score ≤ℤ n) (candidates_among s.id (Spells test) (admitted q s))) of_z.times
-    (spells-under test (λ d. such (block_of d)) q s (pos (32 * of_z.blocks))
+    subst (λ (n : ℤ). AllByRecursion (λ c. c.score ≤ℤ n) (candidates_among s.id (Spells test) (admitted q s)))
+    of_z.times (spells-under test (λ d. such (block_of d)) q s (pos (32 * of_z.blocks))
     (λ d e. such-holds test (days_reached q s) d (reached-such test q s d e))
     (days-greatest such of_z.blocks of_z.greatest))
 

@@ -50,10 +50,6 @@ between a b c e =
     let both = both_pass (int_le a b) (int_le b c) e in
     (int_le-true a b both.0, int_le-true b c both.1)
 
--- the tests pass at a whole number between two others
-pub is-between : (a b c : ℤ) → a ≤ℤ b → b ≤ℤ c → (int_le a b && int_le b c) ≡ true
-is-between a b c low high = pass_both (int_le a b) (int_le b c) (le-int_le a b low) (le-int_le b c high)
-
 -- one of two numbers is at most the other, or above it
 pub at_most_or_more : (a b : ℕ) → (a ≤ b) ⊎ (b < a)
 at_most_or_more a b = elim (leb_tells a b) [ inl h ↦ inl h.1 | inr h ↦ inr h.1 ]

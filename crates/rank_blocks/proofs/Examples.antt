@@ -98,7 +98,8 @@ before_1970 : bound (ask (Highest Tmax) (Some (neg_ℤ (pos 1), neg_ℤ (pos 1))
 before_1970 = refl
 
 -- two hot days in two blocks, and one that isn't hot between others of one block
-hot_blocks : (bound (ask (Hot (pos 300)) None) (series Tmax ((pos 18463, pos 300) ∷ (pos 18464, pos 300) ∷ [])) ≡ pos 64)
+hot_blocks : (bound (ask (Hot (pos 300)) None) (series Tmax ((pos 18463, pos 300) ∷ (pos 18464, pos 300) ∷ []))
+    ≡ pos 64)
     × (bound (ask (Hot (pos 300)) None) (series Tmax ((pos 18444, pos 300) ∷ (pos 18445, pos 310)
     ∷ (pos 18446, pos 299) ∷ (pos 18447, pos 305) ∷ [])) ≡ pos 32)
     × (bound (ask (Hot (pos 400)) None) (series Tmax ((pos 18444, pos 300) ∷ [])) ≡ pos 0)

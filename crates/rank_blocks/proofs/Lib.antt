@@ -18,4 +18,3 @@ pub mod Computed
 pub mod ReadBlocks
 pub mod BoundsMet
 pub mod Examples
-pub mod PlainBounds

@@ -1,5 +1,6 @@
 -- The bound of a series: a number that no candidate's score exceeds, found from whole blocks.
-use Rattle.std.specs.Prelude.{◌≡◌, ℕ, ◌+◌, ◌*◌, ◌/◌, ◌<◌, Bool, true, false, ◌&&◌, List, length, map, filter, ℤ, pos, neg_ℤ, ◌-ℤ◌, ◌*ℤ◌}
+use Rattle.std.specs.Prelude.{◌≡◌, ℕ, ◌+◌, ◌*◌, ◌/◌, ◌<◌, Bool, ◌&&◌, List, length, map, filter, ℤ, pos, neg_ℤ, ◌-ℤ◌}
+use Rattle.std.specs.Prelude.{◌*ℤ◌}
 use Rattle.std.specs.List.{flat_map, range_with_len, list_any}
 use Rattle.std.specs.Option.{unwrap_or}
 use Rattle.std.specs.Int.{int_min}
@@ -56,15 +57,6 @@ bound_for (Sum n e) q s = sum_bound q s n
 bound_for Dry q s = spell_bound is_dry (days_reached q s)
 bound_for Wet q s = spell_bound is_wet (days_reached q s)
 bound_for (Hot t) q s = blocks_bound (is_hot t) (days_reached q s)
-
--- a score whose bound the plain program finds: any but hot spells
-abbrev pub has_plain : Score → Bool
-has_plain (Highest e) = true
-has_plain (Lowest e) = true
-has_plain (Sum n e) = true
-has_plain Dry = true
-has_plain Wet = true
-has_plain (Hot t) = false
 
 -- the bound of a series under a query
 abbrev pub bound : Asked → Usable → ℤ

@@ -10,7 +10,7 @@ use Rattle.rank_blocks.specs.declared.range.BlockRange.{BlockRange}
 use Rattle.rank_blocks.specs.declared.extreme.Extreme.{Extreme}
 use Rattle.rank_blocks.specs.declared.extreme.Extreme.TheVariants.{Highest, Lowest}
 use Rattle.rank_blocks.specs.declared.summary.Summary.{Summary}
-use Rattle.rank_blocks.specs.Blocks.{period_of, total, is_among, blocks_total}
+use Rattle.rank_blocks.specs.Blocks.{period_of, total, is_among}
 use Rattle.rank_blocks.specs.Bounds.{holds_such}
 
 -- a score that single days can have
@@ -64,7 +64,3 @@ summaries_total ms w first = total (map (λ m. m.total) (filter (λ m. is_among 
 -- this is the total of w blocks of which the first lies in the range
 abbrev pub IsTotalFrom : BlockRange → List Summary → ℕ → ℤ → Type 0
 IsTotalFrom r ms w y = (first : ℤ) × (in_range r first ≡ true) × (summaries_total ms w first ≡ y)
-
--- this is the total of the days of w blocks of which the first lies in the range
-abbrev pub IsDaysTotal : BlockRange → List DayValue → ℕ → ℤ → Type 0
-IsDaysTotal r days w y = (first : ℤ) × (in_range r first ≡ true) × (blocks_total days w first ≡ y)

@@ -6,8 +6,6 @@
 
 mod blocks;
 mod extreme;
-#[cfg(test)]
-mod plain;
 mod range;
 mod reached;
 mod runs;

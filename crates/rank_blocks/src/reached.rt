@@ -35,7 +35,7 @@ pub(crate) fn greatest_day(blocks: &[Summary], range: BlockRange, extreme: Extre
 }
 
 /// The greater of what was found and one more number.
-pub(crate) fn greater(found: Option<i64>, number: i64) -> i64
+fn greater(found: Option<i64>, number: i64) -> i64
     requires near { told.IsNear number }
     requires found_near { IfSome found told.IsNear }
     ensures greatest { (zs : List ℤ) → greatest zs ≡ found → greatest (zs ++ number ∷ []) ≡ Some result }

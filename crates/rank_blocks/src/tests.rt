@@ -1,7 +1,6 @@
 //! Worked bounds.
 
 use super::*;
-use crate::plain::{has_plain_bound, plain_bound};
 use ghcn_fields::Day;
 use ghcn_files::{Element, StationId, Stations};
 use ghcn_series::Data;
@@ -65,40 +64,26 @@ fn text_of(alloc: Global, element: Element, stretches: &[Stretch]) -> Result<Str
     Ok(text)
 }
 
-/// The bound of the station's series in a daily file, and the same by the plain program where it has it.
-fn bounds_in(alloc: Global, text: &str, query: &Query) -> Result<(i64, Option<i64>), Fail> {
+/// The bound of the station's series in a daily file.
+fn bound_in(alloc: Global, text: &str, query: &Query) -> Result<i64, Fail> {
     let stations = Stations::read(alloc, STATIONS)?;
     let data = Data::read(alloc, stations, &[text.as_bytes()])?;
     let series = data.series(&A, query.element()).ok_or("no series")?;
-    let bound = Blocks::build(alloc, series)?.bound(query);
-    if has_plain_bound(query) {
-        Ok((bound, Some(plain_bound(series, query))))
-    } else {
-        Ok((bound, None))
-    }
+    Ok(Blocks::build(alloc, series)?.bound(query))
 }
 
-/// The same of a series that has these days.
-fn bounds_of(
-    alloc: Global,
-    stretches: &[Stretch],
-    query: &str,
-) -> Result<(i64, Option<i64>), Fail> {
+/// The bound of a series that has these days.
+fn bound_of(alloc: Global, stretches: &[Stretch], query: &str) -> Result<i64, Fail> {
     let query = Query::parse(query).ok().ok_or("no query")?;
     let text = text_of(alloc, query.element(), stretches)?;
-    bounds_in(alloc, text.as_str(), &query)
+    bound_in(alloc, text.as_str(), &query)
 }
 
-/// Compares both bounds of each row with the expected one.
+/// Compares the bound of each row with the expected one.
 fn compare(rt: &impl Abort, alloc: Global, rows: &[Row]) -> Result<(), Fail> {
     for (stretches, query, expected) in rows {
-        let (bound, plain) = bounds_of(alloc, stretches, query)?;
+        let bound = bound_of(alloc, stretches, query)?;
         assert_eq!(rt; bound, *expected, "at {query} of {stretches:?}");
-        assert_eq!(rt;
-            plain.unwrap_or(*expected),
-            *expected,
-            "plainly at {query} of {stretches:?}"
-        );
     }
     Ok(())
 }
@@ -235,74 +220,8 @@ fn a_flagged_day_is_missing(rt: HostRuntime) -> Result<(), Fail> {
     ];
     for (query, expected) in cases {
         let parsed = Query::parse(query).ok().ok_or("no query")?;
-        let bounds = bounds_in(rt.alloc(), text.as_str(), &parsed)?;
-        assert_eq!(rt; bounds, (expected, Some(expected)), "at {query}");
-    }
-    Ok(())
-}
-
-/// Periods that hold all of the days below, some of them, or none.
-const PERIODS: [&str; 6] = [
-    "from 1960-01-01 to 2025-12-31",
-    "from 2020-07-01 to 2020-07-20",
-    "from 2020-07-21 to 2020-07-21",
-    "from 2020-04-01 to 2020-08-31",
-    "from 1969-12-31 to 1969-12-31",
-    "from 1969-12-01 to 1970-02-09",
-];
-
-/// Compares each score's bound in each period with the plain program's.
-fn compare_plainly(
-    rt: &impl Abort,
-    alloc: Global,
-    stretches: &[Stretch],
-    scores: &[&str],
-) -> Result<(), Fail> {
-    for period in PERIODS {
-        for score in scores {
-            let query = format!(in alloc; "top 1 {score} {period}")?;
-            let (bound, plain) = bounds_of(alloc, stretches, query.as_str())?;
-            assert_eq!(rt; Some(bound), plain, "at {query} of {stretches:?}");
-        }
-    }
-    Ok(())
-}
-
-#[rattlefmt::skip]
-const FALLS: [&[Stretch]; 4] = [
-    &[(18_460, 3, 10), (18_464, 2, 0), (18_470, 30, 25)],
-    &[(-40, 3, 5), (-33, 4, 20), (-2, 5, 9), (40, 1, 900)],
-    &[(18_300, 1, 7), (18_333, 64, 0), (18_400, 1, 100), (18_463, 2, 50)],
-    &[(-65, 1, 8), (-32, 32, 3), (0, 1, 9), (1, 1, 12), (31, 2, 0), (96, 1, 1)],
-];
-
-#[test]
-fn rain_as_the_plain_program_has_it(rt: HostRuntime) -> Result<(), Fail> {
-    let scores = [
-        "highest PRCP",
-        "sum 1 PRCP",
-        "sum 2 PRCP",
-        "sum 33 PRCP",
-        "sum 34 PRCP",
-        "sum 66 PRCP",
-        "sum 366 PRCP",
-        "dry",
-        "wet",
-    ];
-    for stretches in FALLS {
-        compare_plainly(&rt, rt.alloc(), stretches, &scores)?;
-    }
-    Ok(())
-}
-
-#[test]
-fn temperatures_as_the_plain_program_has_them(rt: HostRuntime) -> Result<(), Fail> {
-    let temperatures: [&[Stretch]; 2] = [
-        &[(-33, 2, -120), (-1, 2, -30), (64, 1, -250)],
-        &[(18_431, 2, 311), (18_463, 2, -5), (18_500, 1, 400)],
-    ];
-    for stretches in temperatures {
-        compare_plainly(&rt, rt.alloc(), stretches, &["highest TMIN", "lowest TMIN"])?;
+        let bound = bound_in(rt.alloc(), text.as_str(), &parsed)?;
+        assert_eq!(rt; bound, expected, "at {query}");
     }
     Ok(())
 }
