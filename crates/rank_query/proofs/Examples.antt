@@ -86,7 +86,8 @@ boxes_refused : (read_query (codes "top 1 highest TMAX box -91 0 10 10") ≡ Err
     × (read_query (codes "top 1 highest TMAX box 0 181 0 x") ≡ Err (BadBox 7))
     × (read_query (codes "top 1 highest TMAX box 0 0 0 1.00000") ≡ Err (BadBox 9))
     × (read_query (codes "top 1 highest TMAX box 0 0 0") ≡ Err QueryEnds)
-unfolding read_query read_words keyword says number element score_at no_score_at region_at season_at period_at box_at degrees
+unfolding read_query read_words keyword says number element score_at no_score_at region_at season_at period_at box_at
+    degrees
 boxes_refused = (refl, refl, refl, refl, refl)
 
 -- a box over the date line, and one at the edges of the world
@@ -108,7 +109,8 @@ boxes_read : (read_query (codes "top 3 highest TMAX box -10 170 10.0000 -170") �
       season = None;
       period = None;
     }))
-unfolding read_query read_words keyword says number element score_at no_score_at region_at season_at period_at box_at degrees
+unfolding read_query read_words keyword says number element score_at no_score_at region_at season_at period_at box_at
+    degrees
 boxes_read = (refl, refl)
 
 -- codes of another length, and bytes that don't show in print
@@ -127,7 +129,13 @@ codes_read : (read_query (codes "top 1 highest TMAX state NY") ≡ Ok
     × (read_query (codes "top 1 highest TMAX country ZZ") ≡ Ok
     (record { k = 1; score = Highest Tmax; region = Country (codes "ZZ"); season = None; period = None }))
     × (read_query (codes "top 1 highest TMAX station ZZA00000003") ≡ Ok
-    (record { k = 1; score = Highest Tmax; region = Only (record { 0 = codes "ZZA00000003" }); season = None; period = None }))
+    (record {
+      k = 1;
+      score = Highest Tmax;
+      region = Only (record { 0 = codes "ZZA00000003" });
+      season = None;
+      period = None;
+    }))
 unfolding read_query read_words keyword says number element score_at no_score_at region_at season_at period_at code
 codes_read = (refl, refl, refl, refl)
 
@@ -174,7 +182,8 @@ seasons_refused = (refl, refl, refl, refl, refl, refl, refl)
 dates_refused : (read_query (codes "top 1 highest TMAX from 2019-02-29 to 2019-03-01") ≡ Err (BadDate 6))
     × (read_query (codes "top 1 highest TMAX from 2020-07-01 2020-07-02") ≡ Err (UnexpectedWord 7))
     × (read_query (codes "top 1 highest TMAX from 2020-07-01 to") ≡ Err QueryEnds)
-unfolding read_query read_words keyword says number element score_at no_score_at region_at season_at period_at days_at date
+unfolding read_query read_words keyword says number element score_at no_score_at region_at season_at period_at days_at
+    date
 dates_refused = (refl, refl, refl)
 
 -- a text of 257 blanks is too long, one of 256 has no word
@@ -182,8 +191,8 @@ too_long : (read_query (replicate 257 32) ≡ Err QueryTooLong) × (read_query (
 unfolding read_query read_words keyword says number element score_at no_score_at region_at season_at period_at
 too_long = (refl, refl)
 
--- what the grammar has behind words, of which the nearest comes first: K and the days of a sum, the four edges of a box,
--- no fifth one, both dates, and behind codes whatever comes next
+-- what the grammar has behind words, of which the nearest comes first: K and the days of a sum, the four edges of a
+-- box, no fifth one, both dates, and behind codes whatever comes next
 places_behind : map place_behind ((codes "top" ∷ []) ∷ (codes "sum" ∷ codes "1" ∷ codes "top" ∷ []) ∷ [])
     ≡ a_number ∷ a_number ∷ []
 places_behind = refl
@@ -306,29 +315,35 @@ unfolding digits
 box_text = refl
 
 -- less than one degree, and no degree at all
-small_box_text : query_text (record
-    { k = 1; score = Wet; region = Inside (neg_ℤ (pos 5)) (pos 0) (pos 12_345) (pos 1_800_000); season = None; period = None }) ≡
-    codes "top 1 wet box -0.0005 0.0000 1.2345 180.0000"
+small_box_text : query_text (record {
+      k = 1;
+      score = Wet;
+      region = Inside (neg_ℤ (pos 5)) (pos 0) (pos 12_345) (pos 1_800_000);
+      season = None;
+      period = None;
+    }) ≡ codes "top 1 wet box -0.0005 0.0000 1.2345 180.0000"
 unfolding digits
 small_box_text = refl
 
+-- the longest dry spell of a region
+abbrev dry_of : Region → Asked
+dry_of region = record { k = 1; score = Dry; region = region; season = None; period = None }
+
 -- with a code
-region_texts : (query_text (record { k = 1; score = Dry; region = Country (codes "ZZ"); season = None; period = None }) ≡ codes
-    "top 1 dry country ZZ") × (query_text (record {
-      k = 1;
-      score = Dry;
-      region = State (codes "NY");
-      season = None;
-      period = None;
-    }) ≡ codes "top 1 dry state NY")
-    × (query_text (record { k = 1; score = Dry; region = Only (record { 0 = codes "ZZA00000003" }); season = None; period = None }) ≡
-    codes "top 1 dry station ZZA00000003")
+region_texts : (query_text (dry_of (Country (codes "ZZ"))) ≡ codes "top 1 dry country ZZ")
+    × (query_text (dry_of (State (codes "NY"))) ≡ codes "top 1 dry state NY")
+    × (query_text (dry_of (Only (record { 0 = codes "ZZA00000003" }))) ≡ codes "top 1 dry station ZZA00000003")
 unfolding digits
 region_texts = (refl, refl, refl)
 
 -- with a period
-period_text : query_text (record { k = 1; score = Dry; region = Everywhere; season = None; period = Some (pos 18444, pos 18444) }) ≡
-    codes "top 1 dry from 2020-07-01 to 2020-07-01"
+period_text : query_text (record {
+      k = 1;
+      score = Dry;
+      region = Everywhere;
+      season = None;
+      period = Some (pos 18444, pos 18444);
+    }) ≡ codes "top 1 dry from 2020-07-01 to 2020-07-01"
 unfolding digits year_and_rest month_and_day
 period_text = refl
 
@@ -388,7 +403,8 @@ all_days : map (λ day. admits_day (asked 1 Dry) day)
     (neg_ℤ (pos 719_163) ∷ neg_ℤ (pos 719_162) ∷ pos 2_932_896 ∷ pos 2_932_897 ∷ []) ≡ false ∷ true ∷ true ∷ false ∷ []
 all_days = refl
 
--- a season over the turn of the year has its first and its last month: 2019-11-30 to 2019-12-01, 2020-01-31 to 2020-02-01
+-- a season over the turn of the year has its first and its last month: 2019-11-30 to 2019-12-01, 2020-01-31 to
+-- 2020-02-01
 winter : map (λ day. admits_day (dry_in (12, 1)) day) (pos 18230 ∷ pos 18231 ∷ pos 18292 ∷ pos 18293 ∷ [])
     ≡ false ∷ true ∷ true ∷ false ∷ []
 unfolding year_and_rest month_and_day

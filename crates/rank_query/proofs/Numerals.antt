@@ -1,6 +1,7 @@
 -- The number that digits write, up to a limit.
 use Rattle.std.proofs.Common.{◌≡◌, ℕ, ◌+◌, ◌-◌, ◌*◌, ◌<◌, ◌≤◌, ◌^◌, Bool, true, false, cond, min, List, [], ◌∷◌}
-use Rattle.std.proofs.Common.{length, take, drop, get_or, Option, Some, None, Ok, Err, refl, sym, ap, ◌∙◌, arith, inl, inr}
+use Rattle.std.proofs.Common.{length, take, drop, get_or, Option, Some, None, Ok, Err, refl, sym, ap, ◌∙◌, arith, inl}
+use Rattle.std.proofs.Common.{inr}
 use Rattle.std.specs.Prelude.{◌==◌, ℤ, pos, neg_ℤ}
 use Rattle.std.specs.List.{list_all, before_first, after_first, position_or_len}
 use Rattle.std.specs.Option.{option_map}
@@ -70,8 +71,8 @@ record IsKept (o : Option ℤ) (t : ℤ) : Type 0 where
   same : is_heat t ≡ true → it ≡ t
 
 -- so it is with a sign
-sign-kept : (negative : Bool) (o : Option ℕ) (t : ℤ) → option_map (with_sign negative) (option_map (min 1001) o) ≡ Some t
-    → IsKept (option_map (with_sign negative) o) t
+sign-kept : (negative : Bool) (o : Option ℕ) (t : ℤ)
+    → option_map (with_sign negative) (option_map (min 1001) o) ≡ Some t → IsKept (option_map (with_sign negative) o) t
 sign-kept negative None t e = cc
 sign-kept true (Some n) t e =
     let same : neg_ℤ (pos (min 1001 n)) ≡ t = cc in

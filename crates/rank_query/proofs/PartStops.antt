@@ -284,6 +284,6 @@ by_first {A} Good (row ∷ table) otherwise w all =
           λ rest. ap
               (λ b. reads_or (cond b (Some rest) None) row.1 (by_word table otherwise (w ∷ rest))) is ∙ found.2 rest,
         )
-        | inr none ↦ inr (λ rest. ap (λ b. reads_or (cond b (Some rest) None) row.1 (by_word table otherwise (w ∷ rest)))
-            is ∙ none rest)
+        | inr none ↦ inr (λ rest. ap
+            (λ b. reads_or (cond b (Some rest) None) row.1 (by_word table otherwise (w ∷ rest))) is ∙ none rest)
       ]

@@ -79,7 +79,8 @@ optional_ahead {A} Good rows none onward parts firsts ahead whole w ws fault sam
           ∙ ap (λ x. x >>= λ x. onward x.0 x.1) (found.2 rest) in
           stops_behind IsAsked whole (then found.0 onward) (w ∷ []) ws fault behind
           (first.stops ws fault (sym (behind ws) ∙ e))
-      | inr missing ↦ ahead whole w ws fault (λ rest. same rest ∙ ap (λ x. x >>= λ x. onward x.0 x.1) (missing rest)) on e
+      | inr missing ↦ ahead whole w ws fault
+          (λ rest. same rest ∙ ap (λ x. x >>= λ x. onward x.0 x.1) (missing rest)) on e
     ]
 
 -- no word is needed, and where one comes it stops there or goes on
@@ -149,8 +150,8 @@ no_region k s = refl
 -- a region, a season and a period may all be missing
 region_first : (k : ℕ) (s : Score) → IsBegun k s → StopsFirst Asked IsAsked (from_region k s)
 region_first k s begun =
-    first_from (from_region k s) (asked k s Everywhere None None) (whole_is k s Everywhere None None begun refl refl refl)
-    (no_region k s) (region_ahead k s begun)
+    first_from (from_region k s) (asked k s Everywhere None None)
+    (whole_is k s Everywhere None None begun refl refl refl) (no_region k s) (region_ahead k s begun)
 
 -- 1 is a number of rows
 one_row : number 1 1000 (0, codes "1") ≡ Ok 1

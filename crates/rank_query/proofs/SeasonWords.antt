@@ -1,5 +1,6 @@
 -- The words of a season: those that are read as a season spell it, and those that spell it are read as it.
-use Rattle.std.proofs.Common.{◌≡◌, ℕ, ◌+◌, true, List, [], ◌∷◌, ◌++◌, Option, Some, None, Ok, inl, inr, codes, refl, sym}
+use Rattle.std.proofs.Common.{◌≡◌, ℕ, ◌+◌, true, List, [], ◌∷◌, ◌++◌, Option, Some, None, Ok, inl, inr, codes, refl}
+use Rattle.std.proofs.Common.{sym}
 use Rattle.std.proofs.Common.{ap, ◌∙◌, subst}
 use Rattle.std.specs.List.{enumerate_from}
 use Rattle.rank_query.specs.declared.region.Region.TheVariants.{Everywhere}

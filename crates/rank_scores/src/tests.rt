@@ -11,6 +11,8 @@ use std::alloc::{AllocError, Global};
 use std::fmt::Write;
 use std::test::Fail;
 
+const STATIONS: &[u8] = b"ZZA00000001  10.0000   20.0000  100.0    ALPHA\n";
+
 const A: StationId = StationId(*b"ZZA00000001");
 
 const B: StationId = StationId(*b"ZZA00000002");
@@ -207,7 +209,8 @@ const SCANS: [Row; 24] = [
     (&[(0, 9, "   10   ")], "top 9 wet from 1970-01-03 to 1970-01-05", &[(2, 4, 3)]),
     // Seasons: day 18262 is 2020-01-01, day 18444 is 2020-07-01.
     (&TURN_OF_THE_YEAR, "top 9 sum 3 PRCP months 12..1",
-        &[(18_258, 18_260, 60), (18_259, 18_261, 90), (18_260, 18_262, 75), (18_261, 18_263, 51), (18_262, 18_264, 18)]),
+        &[(18_258, 18_260, 60), (18_259, 18_261, 90), (18_260, 18_262, 75), (18_261, 18_263, 51),
+            (18_262, 18_264, 18)]),
     (&TURN_OF_THE_YEAR, "top 9 sum 3 PRCP months 1..1", &[(18_262, 18_264, 18)]),
     (&TURN_OF_THE_YEAR, "top 9 sum 3 PRCP months 2..11", &[]),
     (&[(18_442, 4, "    0   ")], "top 9 dry months 6..6", &[(18_442, 18_443, 2)]),
@@ -215,20 +218,19 @@ const SCANS: [Row; 24] = [
         &[(18_416, 18_474, 59), (18_779, 18_838, 60)]),
     (&[(-90, 200, "   10   ")], "top 9 wet months 11..2", &[(-61, 58, 120)]),
     // Spells of heat and of frost.
-    (&[(18_444, 1, "  300   "), (18_445, 1, "  310   "), (18_446, 1, "  299   "), (18_447, 1, "  305   ")], "top 9 hot 30",
-        &[(18_444, 18_445, 2), (18_447, 18_447, 1)]),
+    (&[(18_444, 1, "  300   "), (18_445, 1, "  310   "), (18_446, 1, "  299   "), (18_447, 1, "  305   ")],
+        "top 9 hot 30", &[(18_444, 18_445, 2), (18_447, 18_447, 1)]),
     (&[(30, 2, "   -5   "), (32, 2, "   -6   "), (34, 3, "    0   ")], "top 9 hot -0.5", &[(30, 31, 2), (34, 36, 3)]),
 ];
 
 #[test]
 fn candidates_by_first_day(rt: HostRuntime) -> Result<(), Fail> {
-    let stations = b"ZZA00000001  10.0000   20.0000  100.0    ALPHA\n";
     for (stretches, query, expected) in SCANS {
         let asked = Query::parse(query).ok().ok_or("no query")?;
         let text = text_of(rt.alloc(), asked.element(), stretches)?;
         let data = Data::read(
             rt.alloc(),
-            Stations::read(rt.alloc(), stations)?,
+            Stations::read(rt.alloc(), STATIONS)?,
             &[text.as_str().as_bytes()],
         )?;
         let series = data.series(&A, asked.element()).ok_or("no series")?;
@@ -253,6 +255,38 @@ fn candidates_by_first_day(rt: HostRuntime) -> Result<(), Fail> {
                 "of {query} of {stretches:?}"
             );
         }
+    }
+    Ok(())
+}
+
+/// Whether a query admits a day of station A's rain over the turn of the year.
+fn has_day_of_the_turn(alloc: Global, query: &str) -> Result<bool, Fail> {
+    let asked = Query::parse(query).ok().ok_or("no query")?;
+    let text = text_of(alloc, asked.element(), &TURN_OF_THE_YEAR)?;
+    let data = Data::read(
+        alloc,
+        Stations::read(alloc, STATIONS)?,
+        &[text.as_str().as_bytes()],
+    )?;
+    let series = data.series(&A, asked.element()).ok_or("no series")?;
+    Ok(has_admitted_day(series, &asked))
+}
+
+#[test]
+fn series_with_an_admitted_day(rt: HostRuntime) -> Result<(), Fail> {
+    let cases = [
+        ("top 1 dry", true),
+        ("top 1 dry months 12..12", true),
+        ("top 1 dry months 1..3", true),
+        ("top 1 dry months 2..11", false),
+        ("top 1 dry from 2020-01-03 to 2020-12-31", true),
+        ("top 1 dry from 2020-01-04 to 2020-12-31", false),
+        ("top 1 dry from 2019-01-01 to 2019-12-27", false),
+        ("top 1 dry months 1..1 from 2019-01-01 to 2019-12-31", false),
+    ];
+    for (query, expected) in cases {
+        let has = has_day_of_the_turn(rt.alloc(), query)?;
+        assert_eq!(rt; has, expected, "of {query}");
     }
     Ok(())
 }

@@ -1,4 +1,5 @@
-use Rattle.std.proofs.Common.{◌≡◌, ◌-◌, ◌+ℤ◌, ◌≤ℤ◌, pos, arith, rules, FitsSigned, to_z, of_z, to_z-of_z, w32, subst, refl}
+use Rattle.std.proofs.Common.{◌≡◌, ◌-◌, ◌+ℤ◌, ◌≤ℤ◌, pos, arith, rules, FitsSigned, to_z, of_z, to_z-of_z, w32, subst}
+use Rattle.std.proofs.Common.{refl}
 use Rattle.std.specs.Prelude.{ℕ, ℤ}
 use Rattle.std.proofs.lemmas.Int.{to_z_pos}
 use Rattle.jiff_core.specs.Calendar.{days_in_month}
