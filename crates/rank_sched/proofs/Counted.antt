@@ -1,5 +1,6 @@
 -- How many events a run has.
-use Rattle.std.proofs.Common.{◌≡◌, ℕ, zero, suc, ◌+◌, ◌<◌, Bool, true, false, cond, List, [], ◌∷◌, ◌++◌, length, length-append, replicate, Option, refl, sym, ap, ◌∙◌, subst, arith, ℤ}
+use Rattle.std.proofs.Common.{◌≡◌, ℕ, zero, suc, ◌+◌, ◌<◌, Bool, true, false, cond, List, [], ◌∷◌, ◌++◌, length}
+use Rattle.std.proofs.Common.{length-append, replicate, Option, refl, sym, ap, ◌∙◌, subst, arith, ℤ}
 use Rattle.std.specs.Prelude.{◌&&◌, nat_lt, count_by, sum_by}
 use Rattle.std.specs.List.{flat_map, list_all}
 use Rattle.std.proofs.lemmas.List.{length-map}
@@ -12,7 +13,8 @@ use Rattle.rank_sched.specs.declared.turn.Turn.{Turn}
 use Rattle.rank_sched.specs.declared.turn.Turn.TheVariants.{Idle, Claimed, Looked, Stopped}
 use Rattle.rank_sched.specs.Task.{Task}
 use Rattle.rank_sched.specs.Exchanges.{morsels_of}
-use Rattle.rank_sched.specs.Machine.{Worker, State, new_worker, started, drawn, worker_of, Does, IsStep, Leads, has_stopped}
+use Rattle.rank_sched.specs.Machine.{Worker, State, new_worker, started, drawn, worker_of, Does, IsStep, Leads}
+use Rattle.rank_sched.specs.Machine.{has_stopped}
 use Rattle.rank_sched.specs.SoundRun.{open_exchange, IsSoundState, IsSoundEnd}
 use Rattle.rank_sched.specs.Laws.{is_claim, is_look, is_settle, EventsAreCounted}
 use Rattle.rank_sched.proofs.Lists.{At, at}

@@ -1,5 +1,7 @@
 -- A run in which all workers have stopped: its records, its hauls, and how many events it had.
-use Rattle.std.proofs.Common.{◌≡◌, ℕ, ◌+◌, ◌<◌, ◌≤◌, Bool, true, false, cond, List, [], ◌∷◌, ◌++◌, length, length-append, Option, refl, sym, ap, ◌∙◌, subst, append-nil, arith, ℤ, option_to_list, All}
+use Rattle.std.proofs.Common.{◌≡◌, ℕ, ◌+◌, ◌<◌, ◌≤◌, Bool, true, false, cond, List, [], ◌∷◌, ◌++◌, length}
+use Rattle.std.proofs.Common.{length-append, Option, refl, sym, ap, ◌∙◌, subst, append-nil, arith, ℤ, option_to_list}
+use Rattle.std.proofs.Common.{All}
 use Rattle.std.specs.Prelude.{◌&&◌, ◌==◌, nat_lt}
 use Rattle.std.specs.List.{flat_map, list_all, AllByRecursion, AllZip}
 use Rattle.std.proofs.lemmas.List.Sums.{sum_by-cons}
@@ -13,9 +15,11 @@ use Rattle.rank_sched.specs.declared.haul.Haul.{Haul}
 use Rattle.rank_sched.specs.declared.turn.Turn.{Turn}
 use Rattle.rank_sched.specs.declared.turn.Turn.TheVariants.{Idle, Claimed, Looked, Stopped}
 use Rattle.rank_sched.specs.Task.{Task}
-use Rattle.rank_sched.specs.Exchanges.{Exchange, morsels_of, exchanges, seen_in, raised_in, SeeUpward, pool_of, IsRightSkip}
+use Rattle.rank_sched.specs.Exchanges.{Exchange, morsels_of, exchanges, seen_in, raised_in, SeeUpward, pool_of}
+use Rattle.rank_sched.specs.Exchanges.{IsRightSkip}
 use Rattle.rank_sched.specs.Machine.{Worker, State, has_stopped, all_stopped}
-use Rattle.rank_sched.specs.SoundRun.{Rise, unsettled, IsTurnOf, open_exchange, exchanges_of, all_exchanges, AreSoundFrom, IsSoundState, IsSoundEnd}
+use Rattle.rank_sched.specs.SoundRun.{Rise, unsettled, IsTurnOf, open_exchange, exchanges_of, all_exchanges}
+use Rattle.rank_sched.specs.SoundRun.{AreSoundFrom, IsSoundState, IsSoundEnd}
 use Rattle.rank_sched.specs.Hauls.{records_of, all_records, exchanges_in, turns_of, AreHaulsFrom}
 use Rattle.rank_sched.specs.Laws.{EndsAreSound}
 use Rattle.rank_sched.proofs.Lists.{times-append, each-append, All-left, All-right}

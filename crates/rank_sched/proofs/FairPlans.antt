@@ -1,5 +1,6 @@
 -- What is true of every plan's task.
-use Rattle.std.proofs.Common.{◌≡◌, ℕ, zero, suc, ◌<◌, ◌≤◌, Bool, true, false, cond, List, [], ◌∷◌, length, map, Option, Some, None, refl, sym, ap, ◌∙◌, subst, arith, ℤ, pos, ◌≤ℤ◌}
+use Rattle.std.proofs.Common.{◌≡◌, ℕ, zero, suc, ◌<◌, ◌≤◌, Bool, true, false, cond, List, [], ◌∷◌, length, map, Option}
+use Rattle.std.proofs.Common.{Some, None, refl, sym, ap, ◌∙◌, subst, arith, ℤ, pos, ◌≤ℤ◌}
 use Rattle.std.specs.Prelude.{◌&&◌, ◌||◌, int_lt, slice_get}
 use Rattle.std.specs.List.{filter_map, cons_option, AllByRecursion}
 use Rattle.std.specs.List.Sorted.{IsPermutation}
@@ -21,7 +22,8 @@ use Rattle.rank_scores.specs.Order.{AreApart}
 use Rattle.rank_blocks.specs.Bounds.{bound, IsAskedOf}
 use Rattle.rank_blocks.proofs.Computed.{computed-IsBound}
 use Rattle.rank_blocks.proofs.BoundsMet.{bound-above}
-use Rattle.rank_sched.specs.Plan.{Morsel, Planned, measured, is_drawn_first, planned, AreDrawnInTurn, IsPlan, passing, morsel_at}
+use Rattle.rank_sched.specs.Plan.{Morsel, Planned, measured, is_drawn_first, planned, AreDrawnInTurn, IsPlan, passing}
+use Rattle.rank_sched.specs.Plan.{morsel_at}
 use Rattle.rank_sched.specs.Task.{task_of, all_of_task}
 use Rattle.rank_sched.specs.Laws.{PlansAreFair}
 use Rattle.rank_scores.proofs.QueryCandidates.{all_apart}

@@ -1,5 +1,6 @@
 -- What was scanned in a sound run and then taken back has the first k of all candidates.
-use Rattle.std.proofs.Common.{◌≡◌, ◌≢◌, ℕ, zero, suc, ◌+◌, ◌<◌, ◌≤◌, Bool, true, false, cond, not, List, [], ◌∷◌, ◌++◌, length, refl, sym, ap, ◌∙◌, subst, append-nil, append_assoc, inl, inr, arith, All}
+use Rattle.std.proofs.Common.{◌≡◌, ◌≢◌, ℕ, zero, suc, ◌+◌, ◌<◌, ◌≤◌, Bool, true, false, cond, not, List, [], ◌∷◌, ◌++◌}
+use Rattle.std.proofs.Common.{length, refl, sym, ap, ◌∙◌, subst, append-nil, append_assoc, inl, inr, arith, All}
 use Rattle.std.specs.Prelude.{◌||◌, ◌&&◌, ◌==◌, nat_lt}
 use Rattle.std.specs.List.{flat_map, range_with_len}
 use Rattle.std.proofs.lemmas.Bool.{cases_eq, eq-eqb, ne_eqb}
@@ -7,7 +8,8 @@ use Rattle.std.proofs.lemmas.Grind.{flat_map-append}
 use Rattle.std.proofs.lemmas.List.Elements.{All-head, All-tail}
 use Rattle.std.proofs.lemmas.List.Sums.{sum_by-cons}
 use Rattle.ghcn_fields.specs.Counting.{one_if_equal, times, times_below, HasEachBelow}
-use Rattle.ghcn_fields.specs.CountingLaws.{one_if_equal-equal, one_if_equal-apart, times_below-suc, times_below-yes, all_below, length-each_below}
+use Rattle.ghcn_fields.specs.CountingLaws.{one_if_equal-equal, one_if_equal-apart, times_below-suc, times_below-yes}
+use Rattle.ghcn_fields.specs.CountingLaws.{all_below, length-each_below}
 use Rattle.rank_scores.specs.declared.candidate.Candidate.{Candidate}
 use Rattle.rank_scores.specs.Order.{is_below}
 use Rattle.rank_pool.specs.First.{in_order, first, kth, above}

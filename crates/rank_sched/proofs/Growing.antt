@@ -6,12 +6,14 @@ use Rattle.std.proofs.lemmas.Grind.{flat_map-append}
 use Rattle.std.proofs.lemmas.List.Folds.{list_all-append}
 use Rattle.ghcn_fields.specs.Counting.{times}
 use Rattle.rank_sched.specs.declared.record.Record.{Record}
-use Rattle.rank_sched.specs.Exchanges.{morsels_of, scanned, scanned_for, best_pool, pool_of, exchanges, raised_in, seen_in, IsRightSkip}
+use Rattle.rank_sched.specs.Exchanges.{morsels_of, scanned, scanned_for, best_pool, pool_of, exchanges, raised_in}
+use Rattle.rank_sched.specs.Exchanges.{seen_in, IsRightSkip}
 use Rattle.rank_sched.specs.Machine.{Worker, has_stopped}
 use Rattle.rank_sched.specs.SoundRun.{Rise, AreSoundFrom, exchanges_of, all_exchanges, claims_in}
 use Rattle.rank_sched.specs.Hauls.{records_of}
 use Rattle.rank_sched.specs.Laws.{HaulsGrow, TurnsGrow, UpwardGrows, WorkersJoin, HaulsJoin, StopsJoin, TurnsJoin}
-use Rattle.rank_sched.proofs.Lists.{each-append, times-append, rise-push, morsels-push, scanned-push, exchanges-push, upward-push, seen_in-append, raised_in-append}
+use Rattle.rank_sched.proofs.Lists.{each-append, times-append, rise-push, morsels-push, scanned-push, exchanges-push}
+use Rattle.rank_sched.proofs.Lists.{upward-push, seen_in-append, raised_in-append}
 use Rattle.rank_sched.proofs.Ending.{best_more}
 
 -- a haul of a worker, and one record more of a later morsel

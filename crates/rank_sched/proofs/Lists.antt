@@ -1,12 +1,15 @@
 -- What is true of lists and of their elements, and the lists that records give.
-use Rattle.std.proofs.Common.{◌≡◌, ℕ, zero, suc, ◌+◌, ◌-◌, ◌<◌, List, [], ◌∷◌, ◌++◌, length, take, Option, Some, None, refl, sym, ap, ◌∙◌, subst, append-nil, append_assoc, arith, ℤ, ◌≤ℤ◌, option_to_list, All, Contains}
+use Rattle.std.proofs.Common.{◌≡◌, ℕ, zero, suc, ◌+◌, ◌-◌, ◌<◌, List, [], ◌∷◌, ◌++◌, length, take, Option, Some, None}
+use Rattle.std.proofs.Common.{refl, sym, ap, ◌∙◌, subst, append-nil, append_assoc, arith, ℤ, ◌≤ℤ◌, option_to_list, All}
+use Rattle.std.proofs.Common.{Contains}
 use Rattle.std.specs.Prelude.{slice_get, slice_set, IfSome, IsSomeAnd}
 use Rattle.std.specs.List.{AllByRecursion}
 use Rattle.std.specs.Option.{option_map}
 use Rattle.std.proofs.lemmas.Grind.{flat_map-append}
 use Rattle.std.proofs.lemmas.List.{map-append}
 use Rattle.std.proofs.lemmas.List.Sums.{sum_by-append}
-use Rattle.std.proofs.lemmas.List.Elements.{All-nil, All-cons, All-append, All-weaker, All-contains, All-contains_itself, Contains-append_left, Contains-append_right}
+use Rattle.std.proofs.lemmas.List.Elements.{All-nil, All-cons, All-append, All-weaker, All-contains}
+use Rattle.std.proofs.lemmas.List.Elements.{All-contains_itself, Contains-append_left, Contains-append_right}
 use Rattle.ghcn_fields.specs.Counting.{times}
 use Rattle.ghcn_fields.specs.Floor.{IsAtLeast}
 use Rattle.rank_scores.specs.declared.candidate.Candidate.{Candidate}
@@ -14,7 +17,8 @@ use Rattle.rank_pool.specs.First.{first, kth, in_order}
 use Rattle.rank_pool.specs.Pools.{last_score}
 use Rattle.rank_sched.specs.declared.record.Record.{Record}
 use Rattle.rank_sched.specs.Task.{Task}
-use Rattle.rank_sched.specs.Exchanges.{Exchange, morsels_of, scanned_for, scanned, exchange, exchanges, seen_in, raised_in, SeeUpward}
+use Rattle.rank_sched.specs.Exchanges.{Exchange, morsels_of, scanned_for, scanned, exchange, exchanges, seen_in}
+use Rattle.rank_sched.specs.Exchanges.{raised_in, SeeUpward}
 use Rattle.rank_sched.specs.SoundRun.{Rise}
 
 -- ---- elements

@@ -1,5 +1,6 @@
 -- A run with one worker: of each morsel a claim, a look and a settle, and then a last claim.
-use Rattle.std.proofs.Common.{◌≡◌, ℕ, suc, ◌+◌, ◌<◌, ◌≤◌, Bool, true, false, cond, List, [], ◌∷◌, length, Option, Some, None, Result, Ok, Err, IfOk, refl, sym, ap, ◌∙◌, subst, arith, ℤ}
+use Rattle.std.proofs.Common.{◌≡◌, ℕ, suc, ◌+◌, ◌<◌, ◌≤◌, Bool, true, false, cond, List, [], ◌∷◌, length, Option, Some}
+use Rattle.std.proofs.Common.{None, Result, Ok, Err, IfOk, refl, sym, ap, ◌∙◌, subst, arith, ℤ}
 use Rattle.std.specs.Prelude.{◌&&◌, not, nat_lt, slice_get, slice_set}
 use Rattle.std.specs.List.{list_all, AllZip}
 use Rattle.rank_sched.specs.declared.haul.Haul.{Haul}

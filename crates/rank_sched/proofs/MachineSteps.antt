@@ -1,5 +1,7 @@
 -- Steps of a machine by its turns and hauls: which are refused, and what those that are made lead to.
-use Rattle.std.proofs.Common.{◌≡◌, ℕ, zero, suc, ◌+◌, ◌-◌, ◌*◌, ◌<◌, ◌≤◌, Bool, true, false, cond, List, [], ◌∷◌, ◌++◌, length, length-append, get_or, replicate, Option, Some, None, Result, Ok, Err, IsErr, IsErrAnd, ◌≢◌, refl, sym, ap, ◌∙◌, subst, arith, append-nil, ℤ, IfSome}
+use Rattle.std.proofs.Common.{◌≡◌, ℕ, zero, suc, ◌+◌, ◌-◌, ◌*◌, ◌<◌, ◌≤◌, Bool, true, false, cond, List, [], ◌∷◌, ◌++◌}
+use Rattle.std.proofs.Common.{length, length-append, get_or, replicate, Option, Some, None, Result, Ok, Err, IsErr}
+use Rattle.std.proofs.Common.{IsErrAnd, ◌≢◌, refl, sym, ap, ◌∙◌, subst, arith, append-nil, ℤ, IfSome}
 use Rattle.std.specs.Prelude.{◌&&◌, not, nat_lt, map, zip, slice_get, slice_set}
 use Rattle.std.specs.List.{AllByRecursion, flat_map}
 use Rattle.std.specs.Option.{option_map_or}
@@ -16,10 +18,12 @@ use Rattle.rank_sched.specs.declared.turn.Turn.TheVariants.{Idle, Claimed, Looke
 use Rattle.rank_sched.specs.Plan.{Planned, IsPlan}
 use Rattle.rank_sched.specs.Task.{Task, task_of}
 use Rattle.rank_sched.specs.Exchanges.{morsels_of}
-use Rattle.rank_sched.specs.Machine.{Worker, State, new_worker, started, worker_of, is_awaited, is_now, refusal, drawn, record_of, greater_floor, floor_after, IsStep, all_stopped}
+use Rattle.rank_sched.specs.Machine.{Worker, State, new_worker, started, worker_of, is_awaited, is_now, refusal, drawn}
+use Rattle.rank_sched.specs.Machine.{record_of, greater_floor, floor_after, IsStep, all_stopped}
 use Rattle.rank_sched.specs.SoundRun.{unsettled, Rise, AreSoundFrom, IsSoundState, IsSoundEnd}
 use Rattle.rank_sched.specs.Hauls.{records_of, AreHaulsOf, AreSound, AreUnderFloor}
-use Rattle.rank_sched.specs.Run.{new_run, is_stopped, Running, worker_with, state_of, IsRunning, Refuses, HasSettled, IsEmptyHaul, IsSameHaul}
+use Rattle.rank_sched.specs.Run.{new_run, is_stopped, Running, worker_with, state_of, IsRunning, Refuses, HasSettled}
+use Rattle.rank_sched.specs.Run.{IsEmptyHaul, IsSameHaul}
 use Rattle.rank_sched.proofs.Lists.{morsels-push}
 use Rattle.rank_sched.proofs.SoundSteps.{runs_sound}
 use Rattle.rank_sched.proofs.Ends.{rise_front, ends_sound}

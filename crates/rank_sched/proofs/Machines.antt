@@ -1,5 +1,6 @@
 -- Steps: which are accepted, that they are computed, and that a machine that failed stays so.
-use Rattle.std.proofs.Common.{◌≡◌, ℕ, zero, suc, ◌<◌, Bool, true, false, cond, List, [], ◌∷◌, ◌++◌, length, Option, Some, None, Ok, Err, refl, sym, ap, ◌∙◌, subst, arith}
+use Rattle.std.proofs.Common.{◌≡◌, ℕ, zero, suc, ◌<◌, Bool, true, false, cond, List, [], ◌∷◌, ◌++◌, length, Option}
+use Rattle.std.proofs.Common.{Some, None, Ok, Err, refl, sym, ap, ◌∙◌, subst, arith}
 use Rattle.std.specs.Prelude.{◌&&◌, not, nat_lt, slice_get, slice_set, fold}
 use Rattle.std.specs.Option.{option_map_or}
 use Rattle.rank_pool.specs.Pools.{taken}
@@ -12,7 +13,8 @@ use Rattle.rank_sched.specs.declared.turn.Turn.{Turn}
 use Rattle.rank_sched.specs.declared.turn.Turn.TheVariants.{Idle, Claimed, Looked, Stopped}
 use Rattle.rank_sched.specs.Task.{Task}
 use Rattle.rank_sched.specs.Exchanges.{scanned_for}
-use Rattle.rank_sched.specs.Machine.{Worker, State, worker_of, is_awaited, is_now, refusal, drawn, record_of, floor_after, IsStep, Does, moved, after, all_stopped}
+use Rattle.rank_sched.specs.Machine.{Worker, State, worker_of, is_awaited, is_now, refusal, drawn, record_of}
+use Rattle.rank_sched.specs.Machine.{floor_after, IsStep, Does, moved, after, all_stopped}
 use Rattle.rank_sched.specs.Laws.{FailedStaysFailed, OneWorkerHasNoChoice, StepsAreComputed}
 
 -- ---- a machine that failed

@@ -1,5 +1,7 @@
 -- The candidates of a plan are those of the query in another order, so they have the same best.
-use Rattle.std.proofs.Common.{◌≡◌, ℕ, zero, suc, ◌+◌, Bool, true, false, cond, not, List, [], ◌∷◌, ◌++◌, length, length-append, take, map, filter, Option, Some, None, refl, sym, ap, ◌∙◌, subst, append_assoc, arith}
+use Rattle.std.proofs.Common.{◌≡◌, ℕ, zero, suc, ◌+◌, Bool, true, false, cond, not, List, [], ◌∷◌, ◌++◌, length}
+use Rattle.std.proofs.Common.{length-append, take, map, filter, Option, Some, None, refl, sym, ap, ◌∙◌, subst}
+use Rattle.std.proofs.Common.{append_assoc, arith}
 use Rattle.std.specs.Prelude.{IfOk, Result, Ok, Err, ◌&&◌, ◌==◌, slice_get}
 use Rattle.std.specs.List.{flat_map, filter_map, find, cons_option, range_with_len, AllByRecursion, IsDistinct}
 use Rattle.std.specs.Option.{option_map, option_map_or}

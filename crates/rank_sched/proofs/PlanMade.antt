@@ -1,5 +1,6 @@
 -- The plan of a query is the one list of its morsels in which they are drawn.
-use Rattle.std.proofs.Common.{◌≡◌, ℕ, zero, suc, ◌<◌, ◌≤◌, get_or, Bool, true, false, cond, List, [], ◌∷◌, ◌++◌, length, take, map, filter, Option, Some, None, refl, sym, ap, ◌∙◌, subst, arith, option_to_list}
+use Rattle.std.proofs.Common.{◌≡◌, ℕ, zero, suc, ◌<◌, ◌≤◌, get_or, Bool, true, false, cond, List, [], ◌∷◌, ◌++◌, length}
+use Rattle.std.proofs.Common.{take, map, filter, Option, Some, None, refl, sym, ap, ◌∙◌, subst, arith, option_to_list}
 use Rattle.std.specs.Prelude.{slice_get}
 use Rattle.std.specs.List.{filter_map, cons_option, AllByRecursion, IsDistinct}
 use Rattle.std.specs.List.Sorted.{IsPermutation, IsSortedBy}
@@ -15,12 +16,14 @@ use Rattle.ghcn_series.specs.Held.{IsContents}
 use Rattle.rank_query.specs.Asked.{Asked, score_element}
 use Rattle.rank_query.specs.Admits.{admits_station}
 use Rattle.rank_scores.specs.Morsels.{has_admitted, admitted_series, morsels}
-use Rattle.rank_sched.specs.Plan.{Morsel, Planned, measured, is_drawn_first, planned, AreDrawnInTurn, IsPlanOf, IsPlan, passing, morsel_at}
+use Rattle.rank_sched.specs.Plan.{Morsel, Planned, measured, is_drawn_first, planned, AreDrawnInTurn, IsPlanOf, IsPlan}
+use Rattle.rank_sched.specs.Plan.{passing, morsel_at}
 use Rattle.rank_sched.specs.Laws.{PlanIsTheOne}
 use Rattle.rank_scores.proofs.QueryCandidates.{id_from_same}
 use Rattle.rank_sched.proofs.Measures.{passes, left_part}
 use Rattle.ghcn_fields.proofs.Ordered.{sorted-permutation}
-use Rattle.rank_sched.proofs.PlanOrder.{sorted-in_turn, strictly, sort-in_turn, of_one_station, of_one_station-symm, one_order}
+use Rattle.rank_sched.proofs.PlanOrder.{sorted-in_turn, strictly, sort-in_turn, of_one_station, of_one_station-symm}
+use Rattle.rank_sched.proofs.PlanOrder.{one_order}
 
 -- ---- one place more
 

@@ -1,5 +1,7 @@
 -- Floors that were seen were reached by scanned candidates, or are the guess: so no skip is taken back.
-use Rattle.std.proofs.Common.{◌≡◌, ℕ, ◌+◌, ◌<◌, ◌≤◌, ⊎_elim, Bool, true, false, cond, not, List, [], ◌∷◌, ◌++◌, ℤ, pos, ◌-ℤ◌, ◌≤ℤ◌, Option, Some, None, option_to_list, All, refl, sym, ap, ◌∙◌, subst, append_assoc, arith}
+use Rattle.std.proofs.Common.{◌≡◌, ℕ, ◌+◌, ◌<◌, ◌≤◌, ⊎_elim, Bool, true, false, cond, not, List, [], ◌∷◌, ◌++◌, ℤ, pos}
+use Rattle.std.proofs.Common.{◌-ℤ◌, ◌≤ℤ◌, Option, Some, None, option_to_list, All, refl, sym, ap, ◌∙◌, subst}
+use Rattle.std.proofs.Common.{append_assoc, arith}
 use Rattle.std.specs.Prelude.{◌||◌, ◌&&◌, ◌==◌, nat_lt, int_lt, IfSome, IsSomeAnd, count_by}
 use Rattle.std.specs.List.{AllByRecursion}
 use Rattle.std.proofs.lemmas.Int.{ints}
@@ -14,11 +16,14 @@ use Rattle.rank_pool.proofs.Counts.{above-append, above-cons, one_if, below_kth}
 use Rattle.rank_sched.specs.declared.record.Record.{Record}
 use Rattle.rank_sched.specs.declared.haul.Haul.{Haul}
 use Rattle.rank_sched.specs.Task.{Task, all_of_task, IsFair}
-use Rattle.rank_sched.specs.Exchanges.{morsels_of, scanned_for, scanned, exchange, exchanges, seen_in, raised_in, IsRightSkip}
-use Rattle.rank_sched.specs.Hauls.{records_of, all_records, exchanges_in, turns_of, AreHaulsFrom, AreSound, AreUnderFloor}
+use Rattle.rank_sched.specs.Exchanges.{morsels_of, scanned_for, scanned, exchange, exchanges, seen_in, raised_in}
+use Rattle.rank_sched.specs.Exchanges.{IsRightSkip}
+use Rattle.rank_sched.specs.Hauls.{records_of, all_records, exchanges_in, turns_of, AreHaulsFrom, AreSound}
+use Rattle.rank_sched.specs.Hauls.{AreUnderFloor}
 use Rattle.rank_sched.specs.TakingBack.{known_for, known_before, is_justified, was_skipped, stays}
 use Rattle.rank_sched.specs.Laws.{IsReached, RaisedIsReached, IsLowGuess, NoneIsTakenBack}
-use Rattle.rank_sched.proofs.Lists.{All-left, All-right, each-append, each-weaker, each_both, scanned-append, seen_in-append, raised_in-append}
+use Rattle.rank_sched.proofs.Lists.{All-left, All-right, each-append, each-weaker, each_both, scanned-append}
+use Rattle.rank_sched.proofs.Lists.{seen_in-append, raised_in-append}
 use Rattle.rank_sched.proofs.Totals.{over, over_records, records_over, fewer_above}
 
 -- ---- raised scores are reached

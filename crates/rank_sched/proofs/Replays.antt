@@ -1,5 +1,6 @@
 -- A run from a list of events, event by event.
-use Rattle.std.proofs.Common.{ℕ, ◌+◌, ◌<◌, List, [], ◌∷◌, ◌++◌, length, take, get_or, Option, refl, sym, ap, ◌∙◌, subst, ℤ}
+use Rattle.std.proofs.Common.{ℕ, ◌+◌, ◌<◌, List, [], ◌∷◌, ◌++◌, length, take, get_or, Option, refl, sym, ap, ◌∙◌, subst}
+use Rattle.std.proofs.Common.{ℤ}
 use Rattle.std.proofs.lemmas.List.{take_more}
 use Rattle.rank_sched.specs.declared.event.Event.{Event}
 use Rattle.rank_sched.specs.Plan.{Planned}

@@ -1,5 +1,6 @@
 -- The score of each candidate can be a floor: it lies from -2^31 to 2^31.
-use Rattle.std.proofs.Common.{◌≡◌, ℕ, zero, suc, ◌*◌, ◌≤◌, Bool, true, false, cond, List, [], ◌∷◌, filter, Option, Some, None, refl, subst, arith, ℤ, pos, neg_ℤ, ◌+ℤ◌, ◌-ℤ◌, ◌≤ℤ◌}
+use Rattle.std.proofs.Common.{◌≡◌, ℕ, zero, suc, ◌*◌, ◌≤◌, Bool, true, false, cond, List, [], ◌∷◌, filter, Option, Some}
+use Rattle.std.proofs.Common.{None, refl, subst, arith, ℤ, pos, neg_ℤ, ◌+ℤ◌, ◌-ℤ◌, ◌≤ℤ◌}
 use Rattle.std.specs.Prelude.{◌&&◌, ◌||◌, int_le}
 use Rattle.std.specs.List.{list_all, find, filter_map, cons_option, AllByRecursion}
 use Rattle.std.specs.Option.{option_map}
@@ -16,7 +17,8 @@ use Rattle.rank_query.specs.declared.score.Score.TheVariants.{Highest, Lowest, S
 use Rattle.rank_query.specs.Asked.{Asked, IsAsked, is_score, is_fall}
 use Rattle.rank_query.specs.Admits.{admits_day}
 use Rattle.rank_scores.specs.Runs.{run_from, run_len, begins_run, calendar_len}
-use Rattle.rank_scores.specs.Candidates.{Shape, Days, Windows, Spells, shape, plus, window_total, is_dry, is_wet, is_hot, is_such, begun, candidate, candidates_among, candidates, admitted}
+use Rattle.rank_scores.specs.Candidates.{Shape, Days, Windows, Spells, shape, plus, window_total, is_dry, is_wet}
+use Rattle.rank_scores.specs.Candidates.{is_hot, is_such, begun, candidate, candidates_among, candidates, admitted}
 
 -- ---- values
 

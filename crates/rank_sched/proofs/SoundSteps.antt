@@ -1,12 +1,15 @@
 -- The state of a run is sound at the start, and each step keeps it so.
-use Rattle.std.proofs.Common.{◌≡◌, ℕ, zero, suc, ◌+◌, ◌<◌, ◌≤◌, ◌⊎◌, ⊎_elim, inl, inr, Bool, true, false, cond, List, [], ◌∷◌, ◌++◌, length, replicate, Option, Some, None, refl, sym, ap, ◌∙◌, subst, append-nil, arith, ℤ, ◌≤ℤ◌, option_to_list, All, Contains}
+use Rattle.std.proofs.Common.{◌≡◌, ℕ, zero, suc, ◌+◌, ◌<◌, ◌≤◌, ◌⊎◌, ⊎_elim, inl, inr, Bool, true, false, cond, List}
+use Rattle.std.proofs.Common.{[], ◌∷◌, ◌++◌, length, replicate, Option, Some, None, refl, sym, ap, ◌∙◌, subst}
+use Rattle.std.proofs.Common.{append-nil, arith, ℤ, ◌≤ℤ◌, option_to_list, All, Contains}
 use Rattle.std.specs.Prelude.{◌==◌, nat_lt, IfSome, IsSomeAnd, fold, take, int_le}
 use Rattle.std.specs.Int.{int_max}
 use Rattle.std.specs.List.{flat_map, AllByRecursion}
 use Rattle.std.proofs.lemmas.Int.{ints}
 use Rattle.std.proofs.lemmas.Grind.{flat_map-append}
 use Rattle.std.proofs.lemmas.List.Sums.{sum_by-cons}
-use Rattle.std.proofs.lemmas.List.Elements.{All-nil, All-append, All-weaker, All-contains, Contains-append_left, Contains-append_right, Contains-append_cases, recursion_from_All}
+use Rattle.std.proofs.lemmas.List.Elements.{All-nil, All-append, All-weaker, All-contains, Contains-append_left}
+use Rattle.std.proofs.lemmas.List.Elements.{Contains-append_right, Contains-append_cases, recursion_from_All}
 use Rattle.ghcn_fields.specs.Counting.{times, times_below, one_if_equal}
 use Rattle.ghcn_fields.specs.Floor.{IsAtLeast, IsGuessOrRaised, IsFloorOf}
 use Rattle.ghcn_fields.specs.CountingLaws.{times_below-suc, all_below}
@@ -20,12 +23,17 @@ use Rattle.rank_sched.specs.declared.event.Event.TheVariants.{Claim, Look, Settl
 use Rattle.rank_sched.specs.declared.turn.Turn.{Turn}
 use Rattle.rank_sched.specs.declared.turn.Turn.TheVariants.{Idle, Claimed, Looked, Stopped}
 use Rattle.rank_sched.specs.Task.{Task}
-use Rattle.rank_sched.specs.Exchanges.{Exchange, morsels_of, pool_of, scanned_for, scanned, exchange, exchanges, seen_in, raised_in, SeeUpward, IsRightSkip}
-use Rattle.rank_sched.specs.Machine.{Worker, State, new_worker, started, drawn, record_of, greater_floor, floor_after, worker_of, is_awaited, moved, IsStep}
-use Rattle.rank_sched.specs.SoundRun.{unsettled, IsTurnOf, open_exchange, exchanges_of, all_exchanges, IsSoundWorker, AreSoundFrom, IsSoundState}
+use Rattle.rank_sched.specs.Exchanges.{Exchange, morsels_of, pool_of, scanned_for, scanned, exchange, exchanges}
+use Rattle.rank_sched.specs.Exchanges.{seen_in, raised_in, SeeUpward, IsRightSkip}
+use Rattle.rank_sched.specs.Machine.{Worker, State, new_worker, started, drawn, record_of, greater_floor, floor_after}
+use Rattle.rank_sched.specs.Machine.{worker_of, is_awaited, moved, IsStep}
+use Rattle.rank_sched.specs.SoundRun.{unsettled, IsTurnOf, open_exchange, exchanges_of, all_exchanges, IsSoundWorker}
+use Rattle.rank_sched.specs.SoundRun.{AreSoundFrom, IsSoundState}
 use Rattle.rank_sched.specs.Laws.{RunsAreSound}
 use Rattle.rank_sched.proofs.Machines.{IsAccepted, accepted, steps_computed, after_here}
-use Rattle.rank_sched.proofs.Lists.{all_from, All-left, All-right, each-append, only_one, one_there, times-append, rise-push, morsels-push, scanned-push, exchanges-push, seen_in-append, raised_in-append, upward-push, upward-last, At, at, last_is_kth, one_in}
+use Rattle.rank_sched.proofs.Lists.{all_from, All-left, All-right, each-append, only_one, one_there, times-append}
+use Rattle.rank_sched.proofs.Lists.{rise-push, morsels-push, scanned-push, exchanges-push, seen_in-append}
+use Rattle.rank_sched.proofs.Lists.{raised_in-append, upward-push, upward-last, At, at, last_is_kth, one_in}
 
 -- ---- floors
 

@@ -6,7 +6,8 @@ use Rattle.ghcn_fields.specs.Floor.{IsFloorOf, IsGuessOrRaised}
 use Rattle.rank_sched.specs.declared.record.Record.{Record}
 use Rattle.rank_sched.specs.declared.haul.Haul.{Haul}
 use Rattle.rank_sched.specs.Task.{Task}
-use Rattle.rank_sched.specs.Exchanges.{Exchange, morsels_of, pool_of, IsRightSkip, exchanges, seen_in, raised_in, SeeUpward}
+use Rattle.rank_sched.specs.Exchanges.{Exchange, morsels_of, pool_of, IsRightSkip, exchanges, seen_in, raised_in}
+use Rattle.rank_sched.specs.Exchanges.{SeeUpward}
 use Rattle.rank_sched.specs.Machine.{Worker}
 use Rattle.rank_sched.specs.SoundRun.{Rise}
 

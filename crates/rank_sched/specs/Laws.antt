@@ -1,5 +1,6 @@
 -- What plans, runs and answers are worth. Each is a statement for the contract of a public function.
-use Rattle.std.specs.Prelude.{◌≡◌, ◌↔◌, ℕ, ◌+◌, ◌*◌, ◌<◌, ◌≤◌, Bool, true, false, List, [], ◌∷◌, ◌++◌, length, Option, None, Result, ℤ, ◌≤ℤ◌, int_lt, All, count_by, IfSome, IsSomeAnd}
+use Rattle.std.specs.Prelude.{◌≡◌, ◌↔◌, ℕ, ◌+◌, ◌*◌, ◌<◌, ◌≤◌, Bool, true, false, List, [], ◌∷◌, ◌++◌, length, Option}
+use Rattle.std.specs.Prelude.{None, Result, ℤ, ◌≤ℤ◌, int_lt, All, count_by, IfSome, IsSomeAnd}
 use Rattle.std.specs.List.{AllByRecursion}
 use Rattle.ghcn_fields.specs.Counting.{times}
 use Rattle.ghcn_fields.specs.Floor.{IsAtLeast}
@@ -17,11 +18,13 @@ use Rattle.rank_sched.specs.declared.event.Event.TheVariants.{Claim, Look, Settl
 use Rattle.rank_sched.specs.declared.event.StepFault.{StepFault}
 use Rattle.rank_sched.specs.Plan.{Planned, planned, IsPlanOf, IsPlan}
 use Rattle.rank_sched.specs.Task.{Task, task_of, all_of_task, IsFair}
-use Rattle.rank_sched.specs.Exchanges.{Exchange, morsels_of, scanned, IsRightSkip, exchange, raised_in, seen_in, SeeUpward}
+use Rattle.rank_sched.specs.Exchanges.{Exchange, morsels_of, scanned, IsRightSkip, exchange, raised_in, seen_in}
+use Rattle.rank_sched.specs.Exchanges.{SeeUpward}
 use Rattle.rank_sched.specs.Machine.{Worker, State, started, refusal, IsStep, Reaches, all_stopped, after}
 use Rattle.rank_sched.specs.Run.{Running, IsAnswered, IsOfMemory, is_stopped, HasSettled}
 use Rattle.rank_sched.specs.SoundRun.{AreSoundFrom, IsSoundState, IsSoundEnd, all_exchanges, claims_in}
-use Rattle.rank_sched.specs.Hauls.{records_of, all_records, exchanges_in, turns_of, IsHaulOf, AreSound, AreUnderFloor, AreHaulsOf, AreSoundRecords}
+use Rattle.rank_sched.specs.Hauls.{records_of, all_records, exchanges_in, turns_of, IsHaulOf, AreSound, AreUnderFloor}
+use Rattle.rank_sched.specs.Hauls.{AreHaulsOf, AreSoundRecords}
 use Rattle.rank_sched.specs.TakingBack.{was_skipped, is_justified, stays, taken_back, back_below}
 use Rattle.rank_sched.specs.Answers.{best_of_plan}
 

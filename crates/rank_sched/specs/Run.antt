@@ -1,5 +1,6 @@
 -- What contracts see of a machine, and what its calls answer.
-use Rattle.std.specs.Prelude.{◌≡◌, ◌⊎◌, ℕ, ◌<◌, ◌≤◌, ◌++◌, Bool, true, false, ◌&&◌, not, List, [], ◌∷◌, fold, length, take, map, zip, IfSome, Option, None, Some, Result, Ok, Err, ℤ, slice_get, ⊤}
+use Rattle.std.specs.Prelude.{◌≡◌, ◌⊎◌, ℕ, ◌<◌, ◌≤◌, ◌++◌, Bool, true, false, ◌&&◌, not, List, [], ◌∷◌, fold, length}
+use Rattle.std.specs.Prelude.{take, map, zip, IfSome, Option, None, Some, Result, Ok, Err, ℤ, slice_get, ⊤}
 use Rattle.ghcn_fields.specs.Floor.{IsScore}
 use Rattle.rank_pool.specs.Pools.{empty_pool, taken}
 use Rattle.rank_sched.specs.declared.record.Record.{Record}

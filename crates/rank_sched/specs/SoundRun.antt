@@ -1,12 +1,14 @@
 -- What is true of the state of every run, at each moment, and once all workers have stopped.
-use Rattle.std.specs.Prelude.{◌≡◌, ℕ, ◌+◌, ◌<◌, ◌≤◌, List, [], ◌∷◌, ◌++◌, length, ℤ, Option, None, option_to_list, All, ⊤}
+use Rattle.std.specs.Prelude.{◌≡◌, ℕ, ◌+◌, ◌<◌, ◌≤◌, List, [], ◌∷◌, ◌++◌, length, ℤ, Option, None, option_to_list, All}
+use Rattle.std.specs.Prelude.{⊤}
 use Rattle.std.specs.List.{flat_map, AllByRecursion}
 use Rattle.ghcn_fields.specs.Counting.{HasEachBelow}
 use Rattle.ghcn_fields.specs.Floor.{IsFloorOf, IsGuessOrRaised}
 use Rattle.rank_sched.specs.declared.turn.Turn.{Turn}
 use Rattle.rank_sched.specs.declared.turn.Turn.TheVariants.{Idle, Claimed, Looked, Stopped}
 use Rattle.rank_sched.specs.Task.{Task}
-use Rattle.rank_sched.specs.Exchanges.{Exchange, morsels_of, pool_of, IsRightSkip, exchanges, seen_in, raised_in, SeeUpward}
+use Rattle.rank_sched.specs.Exchanges.{Exchange, morsels_of, pool_of, IsRightSkip, exchanges, seen_in, raised_in}
+use Rattle.rank_sched.specs.Exchanges.{SeeUpward}
 use Rattle.rank_sched.specs.Machine.{Worker, State}
 
 -- each number is above all before it

@@ -1,6 +1,7 @@
 //! The machine: the run of some workers over a plan, event by event.
 
-ghost use Rattle.std.specs.Prelude.{◌≡◌, ◌<◌, ◌≤◌, true, false, Some, IfOk, IfErr, IfSome, length, replicate, slice_get};
+ghost use Rattle.std.specs.Prelude.{◌≡◌, ◌<◌, ◌≤◌, true, false, Some, IfOk, IfErr, IfSome, length, replicate};
+ghost use Rattle.std.specs.Prelude.{slice_get};
 ghost use Rattle.std.specs.List.{list_all, AllByRecursion};
 ghost use Rattle.ghcn_fields.specs.Floor.{IsScore};
 ghost use Rattle.rank_scores.specs.Order as order;

@@ -1,6 +1,7 @@
 use Rattle.std.proofs.Common.{◌<◌, ◌≤◌, length, sym, subst, arith}
 use Rattle.rank_sched.specs.declared.event.Event.TheVariants.{Claim}
-use Rattle.rank_sched.proofs.LoneWorker.{Awaits, awaits_first, awaits_look, awaits_settle, awaits_claim, last_claim, lone_sound, lone_result}
+use Rattle.rank_sched.proofs.LoneWorker.{Awaits, awaits_first, awaits_look, awaits_settle, awaits_claim, last_claim}
+use Rattle.rank_sched.proofs.LoneWorker.{lone_sound, lone_result}
 use Rattle.rank_sched.proofs.PlanBest.{best_of_answer}
 use Rattle.rank_sched.proofs.alone.run_alone.Goals as goal
 

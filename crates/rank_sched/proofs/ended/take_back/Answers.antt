@@ -1,9 +1,12 @@
 use Rattle.std.proofs.Common.{◌≡◌, ◌<◌, true, false, ℕ, length, sym, ap, ◌∙◌, subst, arith}
 use Rattle.rank_sched.specs.Task.{task_of}
 use Rattle.rank_sched.specs.Finish.{AreWithin}
-use Rattle.rank_sched.proofs.Ending.{IsRead, once_within, carried, read_there, told, read_scanned, read_stays, read_back, all_tried}
+use Rattle.rank_sched.proofs.Ending.{IsRead, once_within, carried, read_there, told, read_scanned, read_stays}
+use Rattle.rank_sched.proofs.Ending.{read_back, all_tried}
 use Rattle.rank_sched.proofs.ended.take_back.Goals as goal
-use Rattle.rank_sched.proofs.ended.take_back.Goals.{then-index+then-not-is_justified, else-index, else-index-via-then-index+else-not-is_justified, else-index-via-else-index}
+use Rattle.rank_sched.proofs.ended.take_back.Goals.{then-index+then-not-is_justified, else-index}
+use Rattle.rank_sched.proofs.ended.take_back.Goals.{else-index-via-then-index+else-not-is_justified}
+use Rattle.rank_sched.proofs.ended.take_back.Goals.{else-index-via-else-index}
 
 -- the records are of morsels
 pub skips_of-requires : goal.skips_of-requires

@@ -1,4 +1,5 @@
-use Rattle.std.proofs.Common.{◌<◌, length, get_or, ℤ, ◌≡◌, ◌+◌, ◌++◌, ◌∷◌, [], suc, ℕ, List, Option, map, take, Some, None, sym, ap, ◌∙◌, arith, append-nil, option_to_list}
+use Rattle.std.proofs.Common.{◌<◌, length, get_or, ℤ, ◌≡◌, ◌+◌, ◌++◌, ◌∷◌, [], suc, ℕ, List, Option, map, take, Some}
+use Rattle.std.proofs.Common.{None, sym, ap, ◌∙◌, arith, append-nil, option_to_list}
 use Rattle.std.specs.Prelude.{slice_get}
 use Rattle.std.specs.List.{filter_map}
 use Rattle.std.specs.Option.{option_map}

@@ -6,7 +6,8 @@ use Rattle.rank_sched.specs.declared.event.StepFault.{StepFault}
 use Rattle.rank_sched.specs.Task.{task_of}
 use Rattle.rank_sched.specs.Run.{Running, state_of, IsAnswered, Refuses, Steps}
 use Rattle.rank_sched.specs.declared.event.Event.TheVariants.{Claim}
-use Rattle.rank_sched.proofs.MachineSteps.{IsThere, there, set-length, err_is, not_idle, no_worker_refused, not_now_refused, claim_step, still_running, next_small}
+use Rattle.rank_sched.proofs.MachineSteps.{IsThere, there, set-length, err_is, not_idle, no_worker_refused}
+use Rattle.rank_sched.proofs.MachineSteps.{not_now_refused, claim_step, still_running, next_small}
 use Rattle.rank_sched.proofs.machine.Machine.claim.Goals as goal
 
 -- there is no such worker

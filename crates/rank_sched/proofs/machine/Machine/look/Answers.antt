@@ -6,7 +6,8 @@ use Rattle.rank_sched.specs.declared.event.StepFault.{StepFault}
 use Rattle.rank_sched.specs.Task.{task_of}
 use Rattle.rank_sched.specs.Run.{Running, state_of, IsAnswered, Steps}
 use Rattle.rank_sched.specs.declared.event.Event.TheVariants.{Look}
-use Rattle.rank_sched.proofs.MachineSteps.{IsThere, there, set-length, err_is, not_claimed, no_worker_refused, not_now_refused, look_step, still_running}
+use Rattle.rank_sched.proofs.MachineSteps.{IsThere, there, set-length, err_is, not_claimed, no_worker_refused}
+use Rattle.rank_sched.proofs.MachineSteps.{not_now_refused, look_step, still_running}
 use Rattle.rank_sched.proofs.machine.Machine.look.Goals as goal
 
 -- there is no such worker

@@ -7,7 +7,8 @@ use Rattle.rank_sched.specs.Task.{task_of}
 use Rattle.rank_sched.specs.Machine.{State}
 use Rattle.rank_sched.specs.Run.{IsRunning, Running, Fails, state_of, IsAnswered, Steps}
 use Rattle.rank_sched.specs.declared.event.Event.TheVariants.{Settle}
-use Rattle.rank_sched.proofs.MachineSteps.{IsThere, there, set-length, err_is, settle_made, same_state_of, not_looked, is_now_by, running_failed, no_worker_refused, not_now_refused, still_running}
+use Rattle.rank_sched.proofs.MachineSteps.{IsThere, there, set-length, err_is, settle_made, same_state_of, not_looked}
+use Rattle.rank_sched.proofs.MachineSteps.{is_now_by, running_failed, no_worker_refused, not_now_refused, still_running}
 use Rattle.rank_sched.proofs.machine.Machine.settle.Goals as goal
 
 -- there is no such worker
