@@ -6,6 +6,8 @@ pub mod RightRows
 pub mod RightLines
 pub mod AcceptedWhereRight
 pub mod Surveying
+pub mod Places
+pub mod Marks
 pub mod SortedTops
 pub mod Failing
 pub mod Judging

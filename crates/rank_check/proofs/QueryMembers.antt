@@ -20,10 +20,9 @@ use Rattle.rank_query.specs.Asked.{Asked, score_element}
 use Rattle.rank_query.specs.Admits.{admits_station}
 use Rattle.rank_scores.specs.declared.candidate.Candidate.{Candidate}
 use Rattle.rank_scores.specs.Candidates.{admitted, shape, candidates_among, candidates}
-use Rattle.rank_scores.specs.Morsels.{admitted_series, all_candidates, morsels, id_comes_first}
+use Rattle.rank_scores.specs.Morsels.{has_admitted, admitted_series, all_candidates, morsels, id_comes_first}
 use Rattle.rank_scores.proofs.QueryCandidates.{candidates-own}
 use Rattle.ghcn_fields.proofs.Ordered as ordered
-use Rattle.rank_check.specs.Survey.{has_admitted}
 use Rattle.rank_check.specs.Pieces.{is_morsel}
 use Rattle.rank_check.proofs.Members.{In, of_one, for_each, found_in, kept_in, in_kept, made_in, in_made, in_all, all_in}
 use Rattle.rank_check.proofs.Members.{in_found}

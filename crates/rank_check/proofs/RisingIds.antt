@@ -17,11 +17,11 @@ use Rattle.ghcn_files.specs.Ids.{same_id}
 use Rattle.ghcn_series.specs.Series.{Usable, Contents}
 use Rattle.ghcn_series.specs.Held.{IsContents}
 use Rattle.rank_query.specs.Asked.{Asked}
-use Rattle.rank_scores.specs.Morsels.{admitted_series, morsels, id_comes_first}
+use Rattle.rank_scores.specs.Morsels.{has_admitted, admitted_series, morsels, id_comes_first}
 use Rattle.rank_papers.specs.Certificate.{Entry}
 use Rattle.ghcn_fields.proofs.Ordered as ordered
 use Rattle.rank_check.specs.declared.survey.Top.{Top}
-use Rattle.rank_check.specs.Survey.{top, has_admitted}
+use Rattle.rank_check.specs.Survey.{top}
 use Rattle.rank_check.specs.InPieces.{stands_before, Rise}
 use Rattle.rank_check.proofs.Members.{In, for_each}
 use Rattle.rank_check.proofs.SortedTops.{by_id, by_id_total, comes_first, of_one, of_one-turned, tied_one, distinct_tops}

@@ -22,9 +22,9 @@ use Rattle.ghcn_series.specs.Series.{Usable, Contents, series_of, is_series_of}
 use Rattle.ghcn_series.specs.Held.{IsContents}
 use Rattle.rank_query.specs.Asked.{Asked, score_element}
 use Rattle.rank_query.specs.Admits.{admits_station}
-use Rattle.rank_scores.specs.Morsels.{admitted_series, morsels, id_comes_first}
+use Rattle.rank_scores.specs.Morsels.{has_admitted, admitted_series, morsels, id_comes_first}
 use Rattle.rank_check.specs.declared.survey.Top.{Top}
-use Rattle.rank_check.specs.Survey.{top, has_admitted, series_at}
+use Rattle.rank_check.specs.Survey.{top, series_at}
 use Rattle.ghcn_fields.proofs.Ordered as ordered
 use Rattle.rank_check.proofs.Surveying.{by_station}
 

@@ -26,8 +26,11 @@ use Rattle.rank_scores.proofs.Listing.{full_cmp_total}
 use Rattle.rank_check.specs.declared.tally.Met.{Met}
 use Rattle.rank_check.specs.Tests.{is_among}
 use Rattle.ghcn_fields.proofs.Ordered.{each-weaker, first_trans, first_either}
+use Rattle.rank_check.specs.Marks.{known}
 use Rattle.rank_check.proofs.Each.{take-nil, each-more}
-use Rattle.rank_check.specs.Survey.{IsLast, reaches, later, has_admitted, top, met, met_by, raised, top_score, Tallied}
+use Rattle.rank_scores.specs.Morsels.{has_admitted}
+use Rattle.rank_check.specs.Survey.{IsLast, reaches, later, top, met, met_by, raised, top_score, Tallied}
+use Rattle.rank_check.specs.declared.tally.Mark.{Mark}
 use Rattle.rank_check.specs.Survey.{taken}
 use Rattle.rank_check.specs.Survey.{reset, series_at, series_there}
 
@@ -199,21 +202,15 @@ later-own (Some l) c =
     ] refl
 
 -- so it is the last with one row more
-pub last-more : (last : Option Candidate) (rows : List Met) (i : ℕ) (m : Met) (z : Candidate)
-    → IsLast last (take i rows) → z ≡ later last m.candidate → i < length rows → m ≡ get_or rows i m
+pub last-more : (last : Option Candidate) (rows : List Candidate) (i : ℕ) (c z : Candidate)
+    → IsLast last (take i rows) → z ≡ later last c → i < length rows → c ≡ get_or rows i c
     → IsLast (Some z) (take (i + 1) rows)
-last-more last rows i m z h e lt is =
-    let next : Option Candidate = Some (later last m.candidate) in
+last-more last rows i c z h e lt is =
+    let next : Option Candidate = Some (later last c) in
     subst (λ (y : Candidate). IsLast (Some y) (take (i + 1) rows)) (sym e)
-    (each-more (λ (r : Met). reaches next r.candidate ≡ true) rows i m lt is
-    (each-weaker (λ (r : Met). reaches last r.candidate ≡ true) (λ (r : Met). reaches next r.candidate ≡ true)
-    (take i rows) (λ r k. later-holds last m.candidate r.candidate k) h) (later-own last m.candidate))
-
--- rows keep their candidates
-pub last-met : (last : Option Candidate) (c : Candidate) (rows : List Met) → IsLast last rows
-    → IsLast last (map (met_by c) rows)
-last-met last c [] h = tt
-last-met last c (m ∷ rows) h = (h.0, last-met last c rows h.1)
+    (each-more (λ d. reaches next d ≡ true) rows i c lt is
+    (each-weaker (λ d. reaches last d ≡ true) (λ d. reaches next d ≡ true)
+    (take i rows) (λ d k. later-holds last c d k) h) (later-own last c))
 
 -- a candidate that stands behind the last row stands behind each
 behind : (last : Option Candidate) (d c : Candidate) → reaches last c ≡ true → reaches last d ≡ false
@@ -249,12 +246,13 @@ row-behind d m e =
     λ i. record { candidate = m.candidate; present = present i; ahead = ahead i }
 
 -- nor about any of them
-pub rows-behind : (last : Option Candidate) (d : Candidate) (rows : List Met) → IsLast last rows
-    → reaches last d ≡ false → map (met_by d) rows ≡ rows
-rows-behind last d [] h e = refl
-rows-behind last d (m ∷ rows) h e =
-    ap (λ (x : Met). x ∷ map (met_by d) rows) (row-behind d m (behind last d m.candidate h.0 e))
-    ∙ ap (λ (l : List Met). m ∷ l) (rows-behind last d rows h.1 e)
+pub rows-behind : (last : Option Candidate) (d : Candidate) (marks : List Mark) (rows : List Candidate)
+    → IsLast last rows → reaches last d ≡ false → map (met_by d) (map (known marks) rows) ≡ map (known marks) rows
+rows-behind last d marks [] h e = refl
+rows-behind last d marks (c ∷ rows) h e =
+    ap (λ (x : Met). x ∷ map (met_by d) (map (known marks) rows))
+    (row-behind d (known marks c) (behind last d c h.0 e))
+    ∙ ap (λ (l : List Met). known marks c ∷ l) (rows-behind last d marks rows h.1 e)
 
 -- ---- station by station
 

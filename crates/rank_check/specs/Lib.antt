@@ -1,5 +1,6 @@
 pub mod Tests
 pub mod Survey
+pub mod Marks
 pub mod FoundFaults
 pub mod Pieces
 pub mod Reach

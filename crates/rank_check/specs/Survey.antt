@@ -76,18 +76,14 @@ later None c = c
 later (Some last) c = if is_le (full_cmp c last) then last else c
 
 -- no row stands behind the last one
-abbrev pub IsLast : Option Candidate → List Met → Type 0
-IsLast last rows = AllByRecursion (λ m. reaches last m.candidate ≡ true) rows
+abbrev pub IsLast : Option Candidate → List Candidate → Type 0
+IsLast last rows = AllByRecursion (λ c. reaches last c ≡ true) rows
 
 -- the candidates of rows
 abbrev pub candidates_of : List Row → List Candidate
 candidates_of rows = map (λ row. row.candidate) rows
 
 -- ---- series
-
--- the query admits a day of the series
-abbrev pub has_admitted : Asked → Usable → Bool
-has_admitted q s = not (length (admitted q s) == 0)
 
 -- the series that the query asks about at a station
 abbrev pub series_at : Asked → Contents → Station → Option Usable

@@ -13,14 +13,14 @@ ghost use Rattle.rank_check.specs.Survey as survey;
 ghost use Rattle.rank_check.specs.Tests as tests;
 
 use crate::lines::{is_at_most, may_stand};
-use crate::survey::{Top, has_admitted_day};
+use crate::survey::Top;
 use crate::tally::raised;
 use crate::verdict::Why;
 use ghcn_files::Station;
 use ghcn_series::Series;
 use rank_papers::{Line, Row, trimmed};
 use rank_query::Query;
-use rank_scores::{Candidate, Sink, precedes, scan};
+use rank_scores::{Candidate, Sink, has_admitted_day, precedes, scan};
 
 /// Judges one line of a certificate of version 2 by itself: the first test that it fails, and None
 /// exactly where it is right.

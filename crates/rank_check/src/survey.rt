@@ -15,6 +15,7 @@ use ghcn_files::StationId;
 use ghcn_series::{Data, Series};
 use rank_papers::Row;
 use rank_query::Query;
+use rank_scores::has_admitted_day;
 use std::alloc::Global;
 
 /// A series with an admitted day, and the greatest score of its candidates, if it has any.
@@ -57,7 +58,7 @@ fn scan_all(alloc: Global, all: &[&Series], query: &Query, rows: &[Row]) -> Resu
     ensures count { IfOk result (λ found. found.count
         ≡ in_64_bits (length (candidates_in query.now (map (λ s. s.now) all.now)))) }
     ensures tops { IfOk result (λ found. found.tops.items
-        ≡ map (survey.top query.now) (filter (survey.has_admitted query.now) (map (λ s. s.now) all.now))) }
+        ≡ map (survey.top query.now) (filter (morsels.has_admitted query.now) (map (λ s. s.now) all.now))) }
 {
     let mut tally = Tally::of(alloc, rows)?;
     let mut tops = Vec::new(alloc);
@@ -70,10 +71,9 @@ fn scan_all(alloc: Global, all: &[&Series], query: &Query, rows: &[Row]) -> Resu
             })?;
         }
     }
-    let count = tally.count();
     Ok(Findings {
-        rows: tally.into_rows(),
-        count,
+        rows: tally.rows(alloc)?,
+        count: tally.count(),
         tops,
     })
 }
@@ -107,16 +107,4 @@ fn series_at<'a>(held: &'a Data, query: &Query, place: u64) -> Option<&'a Series
     } else {
         None
     }
-}
-
-/// Whether the query admits a usable day of the series.
-pub(crate) fn has_admitted_day(series: &Series, query: &Query) -> bool
-    ensures { result ≡ survey.has_admitted query.now series.now }
-{
-    for (day, _) in series.days() {
-        if query.admits_day(day) {
-            return true;
-        }
-    }
-    false
 }

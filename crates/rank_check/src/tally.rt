@@ -1,8 +1,13 @@
 //! Candidates, counted against the rows of a report.
+//!
+//! The rows' candidates are marks in the order of all candidates. What is offered is counted at the first mark that
+//! it precedes, so that what precedes a row was counted at the marks that the row doesn't precede.
 
-ghost use Rattle.std.specs.Prelude.{◌≡◌, [], map, fold, IfOk};
+ghost use Rattle.std.specs.Prelude.{◌≡◌, ◌≤◌, [], map, fold, length, IfOk};
+ghost use Rattle.ghcn_series.specs.Says.{in_64_bits};
 ghost use Rattle.rank_scores.specs.Candidates.{candidates};
 ghost use Rattle.rank_check.specs.Survey as survey;
+ghost use Rattle.rank_check.specs.Marks as order;
 
 use ghcn_fields::Memory;
 use ghcn_series::Series;
@@ -22,22 +27,39 @@ pub(crate) struct Met {
     pub(crate) ahead: u64,
 }
 
-impl Met {
-    /// Takes one more candidate into account.
-    fn meet(&mut self, candidate: &Candidate)
-        ensures { self.new ≡ survey.met_by candidate.now self.old }
+/// A row's candidate, as a mark in the order of the candidates that are offered.
+#[derive(Clone, Copy, Debug)]
+pub(crate) struct Mark {
+    pub(crate) candidate: Candidate,
+    /// Whether it was offered itself.
+    pub(crate) present: bool,
+    /// How many were offered that precede it, and no mark before it.
+    pub(crate) fresh: u64,
+}
+
+impl Mark {
+    /// Takes a candidate into account that may be the mark's own.
+    fn show(&mut self, candidate: &Candidate)
+        ensures { self.new ≡ order.shown_by candidate.now self.old }
     {
-        if precedes(candidate, &self.candidate) {
-            self.ahead = self.ahead.saturating_add(1);
-        }
         self.present = self.present || candidate.cmp(&self.candidate).is_eq();
+    }
+
+    /// Takes a candidate into account that precedes the mark, and no mark before it.
+    fn count(&mut self)
+        ensures { self.new ≡ order.counted self.old }
+    {
+        self.fresh = self.fresh.saturating_add(1);
     }
 }
 
 /// The rows of a report against all candidates that were offered.
 #[derive(Drop)]
 pub(crate) struct Tally {
-    rows: Vec<Met>,
+    /// In the order of the report.
+    rows: Vec<Candidate>,
+    /// The same in the order of candidates.
+    marks: Vec<Mark>,
     /// No row stands behind this one, so that most candidates end at one comparison.
     last: Option<Candidate>,
     count: u64,
@@ -45,13 +67,19 @@ pub(crate) struct Tally {
 }
 
 impl Model for Tally {
-    ghost use Rattle.rank_check.specs.Survey.{Tallied, IsLast};
+    ghost use Rattle.std.specs.Prelude.{map};
+    ghost use Rattle.rank_check.specs.Survey.{Tallied};
+    ghost use Rattle.rank_check.specs.Marks.{AreMarked, known};
 
     ghost Value = { Tallied };
 
-    ghost view = { λ t. record { rows = t.rows.items; count = t.count; highest = t.highest } };
+    ghost view = { λ t. record {
+      rows = map (known t.marks.items) t.rows.items;
+      count = t.count;
+      highest = t.highest;
+    } };
 
-    ghost invariant = { λ t. IsLast t.last t.rows.items };
+    ghost invariant = { λ t. AreMarked t.last t.rows.items t.marks.items };
 }
 
 impl Tally {
@@ -59,10 +87,12 @@ impl Tally {
     pub(crate) fn of(alloc: Global, rows: &[Row]) -> Result<Tally, Memory>
         ensures { IfOk result (λ made. made ≡ survey.nothing_offered (survey.candidates_of rows.now)) }
     {
-        let rows = unmet(alloc, rows)?;
+        let rows = candidates_of(alloc, rows)?;
+        let marks = marks_of(alloc, rows.as_slice())?;
         Ok(Tally {
             last: last_of(rows.as_slice()),
             rows,
+            marks,
             count: 0,
             highest: None,
         })
@@ -86,10 +116,10 @@ impl Tally {
     }
 
     /// The rows with what is known of each.
-    pub(crate) fn into_rows(self) -> Vec<Met>
-        ensures { result.items ≡ self.rows }
+    pub(crate) fn rows(&self, alloc: Global) -> Result<Vec<Met>, Memory>
+        ensures { IfOk result (λ rows. rows.items ≡ self.now.rows) }
     {
-        self.rows
+        known_rows(alloc, self.rows.as_slice(), self.marks.as_slice())
     }
 }
 
@@ -102,24 +132,83 @@ impl Sink for Tally {
         self.count = self.count.saturating_add(1);
         self.highest = Some(raised(self.highest, candidate.score));
         if reaches(self.last, &candidate) {
-            meet_all(&mut self.rows, &candidate);
+            meet(&mut self.marks, &candidate);
         }
     }
 }
 
-/// Takes one more candidate into account at all rows.
-fn meet_all(rows: &mut Vec<Met>, candidate: &Candidate)
-    ensures { rows.new.items ≡ map (survey.met_by candidate.now) rows.old.items }
+/// Takes one more candidate into account.
+fn meet(marks: &mut Vec<Mark>, candidate: &Candidate)
+    requires { order.AreInOrder marks.old.items }
+    ensures { order.Meets candidate.now marks.old.items marks.new.items }
 {
-    meet_each(rows.as_mut_slice(), candidate);
+    meet_marks(marks.as_mut_slice(), candidate);
 }
 
-/// Takes one more candidate into account at each of some rows.
-fn meet_each(rows: &mut [Met], candidate: &Candidate)
-    ensures { rows.new ≡ map (survey.met_by candidate.now) rows.old }
+/// Takes one more candidate into account at the marks of some.
+fn meet_marks(marks: &mut [Mark], candidate: &Candidate)
+    requires { order.AreInOrder marks.old }
+    ensures { order.Meets candidate.now marks.old marks.new }
 {
-    for row in rows {
-        row.meet(candidate);
+    let place = place_of(marks, candidate);
+    if may_be_marked(marks, place, candidate) {
+        show_all(marks, candidate);
+    }
+    count_at(marks, place);
+}
+
+/// The place of the first mark that the candidate precedes, or the number of all marks.
+fn place_of(marks: &[Mark], candidate: &Candidate) -> usize
+    requires { order.AreInOrder marks.now }
+    ensures bound { result ≤ length marks.now }
+    ensures place { order.IsPlace (order.candidates_at marks.now) candidate.now result }
+{
+    if precedes_all(marks, candidate) {
+        return 0;
+    }
+    marks.partition_point(|mark| !precedes(candidate, &mark.candidate))
+}
+
+/// Whether the candidate precedes the first mark.
+///
+/// Where a report's rows have low scores nearly all candidates do, and end at this comparison.
+fn precedes_all(marks: &[Mark], candidate: &Candidate) -> bool
+    ensures { result ≡ order.precedes_first candidate.now marks.now }
+{
+    match marks.first() {
+        Some(first) => precedes(candidate, &first.candidate),
+        None => false,
+    }
+}
+
+/// Whether a mark may be of the candidate: it ties with the mark before its place.
+///
+/// No two candidates of a query tie, so this is so at most once for each row.
+fn may_be_marked(marks: &[Mark], place: usize, candidate: &Candidate) -> bool
+    requires { place ≤ length marks.now }
+    ensures { result ≡ order.ties_before place marks.now candidate.now }
+{
+    match place.checked_sub(1) {
+        Some(before) => !precedes(&marks[before].candidate, candidate),
+        None => false,
+    }
+}
+
+/// Takes a candidate into account at the marks that may be of it.
+fn show_all(marks: &mut [Mark], candidate: &Candidate)
+    ensures { marks.new ≡ map (order.shown_by candidate.now) marks.old }
+{
+    for mark in marks {
+        mark.show(candidate);
+    }
+}
+
+/// Takes a candidate into account that precedes the mark at a place first.
+fn count_at(marks: &mut [Mark], place: usize)
+    ensures { marks.new ≡ order.counted_at place marks.old }
+{
+    if place < marks.len() {
+        marks[place].count();
     }
 }
 
@@ -133,28 +222,105 @@ pub(crate) fn raised(highest: Option<i64>, score: i64) -> i64
     }
 }
 
-/// The candidates of rows, of which nothing is known yet.
-fn unmet(alloc: Global, rows: &[Row]) -> Result<Vec<Met>, Memory>
-    ensures { IfOk result (λ found. found.items ≡ map (survey.met []) (survey.candidates_of rows.now)) }
+/// The candidates of rows.
+fn candidates_of(alloc: Global, rows: &[Row]) -> Result<Vec<Candidate>, Memory>
+    ensures { IfOk result (λ found. found.items ≡ survey.candidates_of rows.now) }
+{
+    let mut found = Vec::new(alloc);
+    for row in rows {
+        found.push(row.candidate)?;
+    }
+    Ok(found)
+}
+
+/// Marks for candidates, of which nothing is known yet.
+fn marks_of(alloc: Global, rows: &[Candidate]) -> Result<Vec<Mark>, Memory>
+    ensures { IfOk result (λ marks. order.AreUnmet rows.now marks.items) }
+{
+    let mut ordered = Vec::new(alloc);
+    ordered.extend_from_slice(rows)?;
+    ordered.sort()?;
+    unmet(alloc, ordered.as_slice())
+}
+
+/// A mark for each candidate, of which nothing is known yet.
+fn unmet(alloc: Global, ordered: &[Candidate]) -> Result<Vec<Mark>, Memory>
+    ensures { IfOk result (λ marks. marks.items ≡ map order.unmet ordered.now) }
+{
+    let mut marks = Vec::new(alloc);
+    for candidate in ordered {
+        marks.push(Mark {
+            candidate: *candidate,
+            present: false,
+            fresh: 0,
+        })?;
+    }
+    Ok(marks)
+}
+
+/// What marks know of each of some candidates.
+fn known_rows(alloc: Global, rows: &[Candidate], marks: &[Mark]) -> Result<Vec<Met>, Memory>
+    ensures { IfOk result (λ found. found.items ≡ map (order.known marks.now) rows.now) }
 {
     let mut found = Vec::new(alloc);
     for row in rows {
         found.push(Met {
-            candidate: row.candidate,
-            present: false,
-            ahead: 0,
+            candidate: *row,
+            present: is_met(marks, row),
+            ahead: passed(marks, row),
         })?;
     }
     Ok(found)
 }
 
+/// Whether a candidate has a mark that was offered.
+fn is_met(marks: &[Mark], candidate: &Candidate) -> bool
+    ensures { result ≡ order.is_met marks.now candidate.now }
+{
+    for mark in marks {
+        if is_met_at(mark, candidate) {
+            return true;
+        }
+    }
+    false
+}
+
+/// Whether the mark is the candidate's, and was offered.
+fn is_met_at(mark: &Mark, candidate: &Candidate) -> bool
+    ensures { result ≡ order.is_met_at candidate.now mark.now }
+{
+    mark.present && mark.candidate.cmp(candidate).is_eq()
+}
+
+/// How many were counted at the marks that a candidate doesn't precede.
+fn passed(marks: &[Mark], candidate: &Candidate) -> u64
+    ensures { result ≡ in_64_bits (order.passed marks.now candidate.now) }
+{
+    let mut ahead = 0u64;
+    for mark in marks {
+        ahead = ahead.saturating_add(passed_at(mark, candidate));
+    }
+    ahead
+}
+
+/// What was counted at a mark, where the candidate doesn't precede it.
+fn passed_at(mark: &Mark, candidate: &Candidate) -> u64
+    ensures { result ≡ order.passed_at candidate.now mark.now }
+{
+    if precedes(candidate, &mark.candidate) {
+        0
+    } else {
+        mark.fresh
+    }
+}
+
 /// A row that no other stands behind, if there are rows.
-fn last_of(rows: &[Met]) -> Option<Candidate>
+fn last_of(rows: &[Candidate]) -> Option<Candidate>
     ensures { survey.IsLast result rows.now }
 {
     let mut last = None;
     for row in rows {
-        last = Some(later(last, &row.candidate));
+        last = Some(later(last, row));
     }
     last
 }

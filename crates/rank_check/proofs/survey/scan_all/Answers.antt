@@ -5,7 +5,8 @@ use Rattle.ghcn_series.specs.Says.{in_64_bits}
 use Rattle.rank_scores.specs.Candidates.{candidates}
 use Rattle.ghcn_files.specs.declared.station.StationId.{StationId}
 use Rattle.rank_check.specs.declared.survey.Top.{Top}
-use Rattle.rank_check.specs.Survey.{Tallied, met, candidates_of, top, has_admitted}
+use Rattle.rank_scores.specs.Morsels.{has_admitted}
+use Rattle.rank_check.specs.Survey.{Tallied, met, candidates_of, top}
 use Rattle.rank_check.proofs.Each.{made-more}
 use Rattle.rank_check.proofs.Surveying.{tallied, scanned-more, top-kept, top-left}
 use Rattle.rank_check.proofs.survey.scan_all.Goals as goal
@@ -32,11 +33,11 @@ loop-series-preserved c =
           c.loop-series.invariant.tops
           ∙ ap (λ (i : StationId). map (top q) (filter (has_admitted q) before)
           ++ record { id = i; highest = c.scan-highest.result } ∷ []) w.id.ensures.id
-          ∙ top-kept q before s c.scan-highest.result (sym c.has_admitted_day.ensures ∙ w.if-has_admitted_day.true)
+          ∙ top-kept q before s c.scan-highest.result (sym c.has_admitted_day.ensures.asked ∙ w.if-has_admitted_day.true)
           (c.scan-highest.ensures.highest ∙ ap (λ (t : Tallied). t.highest) new)
       | else-has_admitted_day w ↦
           ap (λ v. v.items) w.tops-is ∙ c.loop-series.invariant.tops
-          ∙ top-left q before s (sym c.has_admitted_day.ensures ∙ w.if-has_admitted_day.false)
+          ∙ top-left q before s (sym c.has_admitted_day.ensures.asked ∙ w.if-has_admitted_day.false)
     ] in
     record {
       rows = ap (λ (t : Tallied). t.rows) new

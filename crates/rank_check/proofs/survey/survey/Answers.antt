@@ -4,8 +4,8 @@ use Rattle.std.proofs.lemmas.List.Sorted.{answers_always}
 use Rattle.ghcn_series.specs.Series.{Usable}
 use Rattle.ghcn_series.specs.Says.{in_64_bits}
 use Rattle.rank_scores.specs.Candidates.{candidates}
-use Rattle.rank_scores.specs.Morsels.{admitted_series}
-use Rattle.rank_check.specs.Survey.{met, candidates_of, top, has_admitted}
+use Rattle.rank_scores.specs.Morsels.{has_admitted, admitted_series}
+use Rattle.rank_check.specs.Survey.{met, candidates_of, top}
 use Rattle.rank_check.proofs.SortedTops.{strictly, strictly_ranks, sorted_tops}
 use Rattle.rank_check.proofs.survey.survey.Goals as goal
 

@@ -1,7 +1,7 @@
-use Rattle.std.proofs.Common.{◌≡◌, [], take, map}
-use Rattle.rank_check.specs.Survey.{met, candidates_of}
+use Rattle.std.proofs.Common.{◌≡◌, take, map}
+use Rattle.rank_check.specs.Marks.{unmet}
 use Rattle.rank_check.proofs.tally.unmet.Given as goal
 
--- the rows so far
-abbrev pub invariant-loop-row : goal.invariant-loop-row
-invariant-loop-row l = l.found.items ≡ map (met []) (candidates_of (take l.row-index l.rows))
+-- the marks so far
+abbrev pub invariant-loop-candidate : goal.invariant-loop-candidate
+invariant-loop-candidate l = l.marks.items ≡ map unmet (take l.candidate-index l.ordered)

@@ -1,0 +1,350 @@
+-- What marks in the order of candidates know of the rows, and how one more candidate changes it.
+use Rattle.std.proofs.Common.{◌≡◌, ℕ, zero, suc, ◌+◌, ◌<◌, ◌≤◌, Bool, true, false, cond, List, [], ◌∷◌, length}
+use Rattle.std.proofs.Common.{map, Some, None, refl, sym, ap, ◌∙◌, subst, arith, get_or, set, not, ◌||◌, ◌&&◌}
+use Rattle.std.proofs.Common.{ltb, ltb-true, ltb-false}
+use Rattle.std.specs.Prelude.{slice_get, Option}
+use Rattle.std.specs.Option.{option_map_or}
+use Rattle.std.specs.List.{AllByRecursion, Contains, sum_by}
+use Rattle.std.specs.List.Sorted.{IsPermutation, IsSorted}
+use Rattle.std.specs.Ordering.{is_eq}
+use Rattle.std.proofs.lemmas.List.{length-map, get_or_default}
+use Rattle.std.proofs.lemmas.List.Folds.{list_any_at}
+use Rattle.std.proofs.lemmas.List.Sums.{sum_by-set, sum_by_more_le, sum_by-cons}
+use Rattle.std.proofs.lemmas.List.Elements.{recursion_from_All}
+use Rattle.std.proofs.lemmas.List.Sorted.{Contains-permutation}
+use Rattle.std.proofs.lemmas.Option.{slice_get-get_or}
+use Rattle.std.proofs.Math.ListN.{get_or-map}
+use Rattle.ghcn_series.specs.Says.{in_64_bits}
+use Rattle.rank_scores.specs.declared.candidate.Candidate.{Candidate}
+use Rattle.rank_scores.specs.Order.{full_cmp, precedes}
+use Rattle.rank_check.specs.declared.tally.Mark.{Mark}
+use Rattle.rank_check.specs.declared.tally.Met.{Met}
+use Rattle.rank_check.specs.Survey.{met, met_by}
+use Rattle.rank_check.specs.Marks.{candidates_at, unmet, is_met_at, is_met, passed_at, passed, known, shown_by}
+use Rattle.rank_check.specs.Marks.{counted, counted_at, IsPlace, ties_before, AreInOrder, Meets}
+use Rattle.rank_check.specs.Marks.{AreUnmet}
+use Rattle.rank_check.proofs.SortedCandidates.{same_from_tie, own_tie}
+use Rattle.rank_check.proofs.Surveying.{or_false}
+use Rattle.rank_check.proofs.Places.{not_itself, in_turn, precedes-at, precedes-none, at-mark}
+
+-- or something true
+or_true : (b : Bool) → (b || true) ≡ true
+or_true true = refl
+or_true false = refl
+
+-- and nothing
+and_none : (b : Bool) → (b && false) ≡ false
+and_none true = refl
+and_none false = refl
+
+-- nothing stands beyond the end
+slice_get-beyond : {X : Type 0} (xs : List X) (i : ℕ) → length xs ≤ i → slice_get xs i ≡ None
+slice_get-beyond [] i low = refl
+slice_get-beyond (x ∷ xs) zero low = absurd (omega arith)
+slice_get-beyond (x ∷ xs) (suc i) low = slice_get-beyond xs i (omega arith)
+
+-- what is put at a place counts in the sum
+part-of : (marks : List Mark) (i : ℕ) (m : Mark) (c : Candidate) → i < length marks
+    → passed_at c m ≤ passed (set marks i m) c
+part-of [] i m c lt = absurd (omega arith)
+part-of (x ∷ marks) zero m c lt = omega (arith, sum_by-cons (passed_at c) m marks)
+part-of (x ∷ marks) (suc i) m c lt =
+    omega (arith, sum_by-cons (passed_at c) x (set marks i m), part-of marks i m c (omega arith))
+
+-- ---- one more candidate is counted
+
+-- counting one more keeps the candidates
+pub counted-same : (p : ℕ) (marks : List Mark) → candidates_at (counted_at p marks) ≡ candidates_at marks
+counted-same p [] = refl
+counted-same zero (m ∷ marks) = refl
+counted-same (suc p) (m ∷ marks) = elim (slice_get marks p) as (λ o. slice_get marks p ≡ o
+    → candidates_at (option_map_or (λ x. set (m ∷ marks) (suc p) (counted x)) o (m ∷ marks))
+    ≡ candidates_at (m ∷ marks)) [
+      | None ↦ λ _. refl
+      | Some x ↦ λ e.
+          let rest : candidates_at (set marks p (counted x)) ≡ candidates_at marks =
+          ap (λ (o : Option Mark). candidates_at (option_map_or (λ x. set marks p (counted x)) o marks)) (sym e)
+          ∙ counted-same p marks in
+          ap (λ (l : List Candidate). m.candidate ∷ l) rest
+    ] refl
+
+-- and what is met
+pub counted-met : (p : ℕ) (marks : List Mark) (c : Candidate) → is_met (counted_at p marks) c ≡ is_met marks c
+counted-met p [] c = refl
+counted-met zero (m ∷ marks) c = refl
+counted-met (suc p) (m ∷ marks) c = elim (slice_get marks p) as (λ o. slice_get marks p ≡ o
+    → is_met (option_map_or (λ x. set (m ∷ marks) (suc p) (counted x)) o (m ∷ marks)) c ≡ is_met (m ∷ marks) c) [
+      | None ↦ λ _. refl
+      | Some x ↦ λ e.
+          let rest : is_met (set marks p (counted x)) c ≡ is_met marks c =
+          ap (λ (o : Option Mark). is_met (option_map_or (λ x. set marks p (counted x)) o marks) c) (sym e)
+          ∙ counted-met p marks c in
+          ap (λ (b : Bool). is_met_at c m || b) rest
+    ] refl
+
+-- a number once one more may count, within 64 bits
+abbrev one_more_if : Bool → ℕ → ℕ
+one_more_if b n = cond b (in_64_bits (in_64_bits n + 1)) (in_64_bits n)
+
+-- a sum of which one part is counted up, within 64 bits
+one_more : (s t x : ℕ) → t + x ≡ s + in_64_bits (x + 1) → x ≤ s → in_64_bits (x + 1) ≤ t
+    → in_64_bits t ≡ in_64_bits (in_64_bits s + 1)
+one_more s t x e low high = omega (arith, e, low, high)
+
+-- those at a mark that the row doesn't precede are one more
+counted-by : (b : Bool) (s t x : ℕ) → t + cond b 0 x ≡ s + cond b 0 (in_64_bits (x + 1)) → cond b 0 x ≤ s
+    → cond b 0 (in_64_bits (x + 1)) ≤ t
+    → in_64_bits t ≡ one_more_if (not b) s
+counted-by true s t x e low high = let same : t ≡ s = omega (arith, e) in ap in_64_bits same
+counted-by false s t x e low high = one_more s t x e low high
+
+-- those that a row doesn't precede are one more where the candidate precedes the row
+pub counted-passed : (marks : List Mark) → AreInOrder marks → (d : Candidate) (p : ℕ)
+    → IsPlace (candidates_at marks) d p → (c : Candidate) → Contains (candidates_at marks) c
+    → in_64_bits (passed (counted_at p marks) c)
+    ≡ one_more_if (precedes d c) (passed marks c)
+counted-passed marks up d p here c there = elim (ltb p (length marks)) as (λ t. ltb p (length marks) ≡ t → the) [
+  | true ↦ λ b. within (ltb-true p (length marks) b)
+  | false ↦ λ b. beyond (ltb-false p (length marks) b)
+] refl
+  where
+    ks : List Candidate
+    ks = candidates_at marks
+
+    the : Type 0
+    the = in_64_bits (passed (counted_at p marks) c)
+        ≡ one_more_if (precedes d c) (passed marks c)
+
+    many : length ks ≡ length marks
+    many = length-map marks (λ m. m.candidate)
+
+    beyond : length marks ≤ p → the
+    beyond low =
+        let none : slice_get marks p ≡ None = slice_get-beyond marks p low in
+        let same : counted_at p marks ≡ marks =
+        ap (λ (o : Option Mark). option_map_or (λ m. set marks p (counted m)) o marks) none in
+        let out : precedes d c ≡ false = precedes-none ks up d p here c there (omega (arith, many, low)) in
+        ap (λ (l : List Mark). in_64_bits (passed l c)) same
+        ∙ sym (ap (λ (b : Bool). one_more_if b (passed marks c)) out)
+
+    within : p < length marks → the
+    within lt =
+        let x : Mark = get_or marks p (unmet c) in
+        let got : slice_get marks p ≡ Some x = slice_get-get_or marks p (unmet c) lt in
+        let now : counted_at p marks ≡ set marks p (counted x) =
+        ap (λ (o : Option Mark). option_map_or (λ m. set marks p (counted m)) o marks) got in
+        let first : precedes d c ≡ not (precedes c x.candidate) =
+        precedes-at ks up d p here c there (omega (arith, many, lt))
+        ∙ ap (λ (y : Candidate). not (precedes c y)) (at-mark marks p c) in
+        let total : sum_by (passed_at c) (set marks p (counted x)) + passed_at c x
+        ≡ passed marks c + passed_at c (counted x) = sum_by-set (passed_at c) marks p (counted x) (unmet c) lt in
+        let low : passed_at c x ≤ passed marks c =
+        omega (arith, sum_by_more_le (passed_at c) marks p (unmet c) lt) in
+        let high : passed_at c (counted x) ≤ passed (set marks p (counted x)) c = part-of marks p (counted x) c lt in
+        ap (λ (l : List Mark). in_64_bits (passed l c)) now
+        ∙ counted-by (precedes c x.candidate) (passed marks c) (passed (set marks p (counted x)) c) x.fresh total low
+        high
+        ∙ sym (ap (λ (b : Bool). one_more_if b (passed marks c))
+        first)
+
+-- ---- a candidate that may be a row's
+
+-- taking it into account keeps the candidates
+pub shown-same : (d : Candidate) (marks : List Mark) → candidates_at (map (shown_by d) marks) ≡ candidates_at marks
+shown-same d [] = refl
+shown-same d (m ∷ marks) = ap (λ (l : List Candidate). m.candidate ∷ l) (shown-same d marks)
+
+-- and what was counted
+pub shown-passed : (d : Candidate) (marks : List Mark) (c : Candidate)
+    → passed (map (shown_by d) marks) c ≡ passed marks c
+shown-passed d [] c = refl
+shown-passed d (m ∷ marks) c =
+    let one = sum_by-cons (passed_at c) (shown_by d m) (map (shown_by d) marks) in
+    let other = sum_by-cons (passed_at c) m marks in
+    omega (arith, one, other, shown-passed d marks c)
+
+-- of candidates that aren't the same at most one ties with a third
+apart : (d m c : Candidate) → is_eq (full_cmp d c) ≡ false → is_eq (full_cmp m c) ≡ true → is_eq (full_cmp d m) ≡ false
+apart d m c e f = ap (λ (x : Candidate). is_eq (full_cmp d x)) (same_from_tie m c f) ∙ e
+
+-- another candidate is met as before
+met-other : (d : Candidate) (marks : List Mark) (c : Candidate) → is_eq (full_cmp d c) ≡ false
+    → is_met (map (shown_by d) marks) c ≡ is_met marks c
+met-other d [] c e = refl
+met-other d (m ∷ marks) c e =
+    ap (λ (b : Bool). b || is_met (map (shown_by d) marks) c) own
+    ∙ ap (λ (b : Bool). is_met_at c m || b) (met-other d marks c e)
+  where
+    own : is_met_at c (shown_by d m) ≡ is_met_at c m
+    own = elim (is_eq (full_cmp m.candidate c)) as (λ t. is_eq (full_cmp m.candidate c) ≡ t
+        → ((m.present || is_eq (full_cmp d m.candidate)) && t) ≡ (m.present && t)) [
+          | true ↦ λ h. ap (λ (b : Bool). (m.present || b) && true) (apart d m.candidate c e h)
+              ∙ ap (λ (b : Bool). b && true) (or_false m.present)
+          | false ↦ λ h. and_none (m.present || is_eq (full_cmp d m.candidate)) ∙ sym (and_none m.present)
+        ] refl
+
+-- its own is met
+met-own : (marks : List Mark) (c : Candidate) → Contains (candidates_at marks) c
+    → is_met (map (shown_by c) marks) c ≡ true
+met-own marks c (j, lt, e) =
+    let m : Mark = get_or marks j (unmet c) in
+    let its : m.candidate ≡ c = sym (at-mark marks j c) ∙ e in
+    let met : is_met_at c (shown_by c m) ≡ true =
+    ap (λ (x : Candidate). (m.present || is_eq (full_cmp c x)) && is_eq (full_cmp x c)) its
+    ∙ ap (λ (b : Bool). (m.present || b) && b) (own_tie c)
+    ∙ ap (λ (b : Bool). b && true) (or_true m.present) in
+    list_any_at (is_met_at c) (map (shown_by c) marks) j (shown_by c (unmet c))
+    (omega (arith, lt, length-map marks (shown_by c), length-map marks (λ m. m.candidate)))
+    (ap (is_met_at c) (get_or-map (shown_by c) marks j (unmet c)) ∙ met)
+
+-- a candidate is met where it was, or is the one that is offered
+pub shown-met : (d : Candidate) (marks : List Mark) (c : Candidate) → Contains (candidates_at marks) c
+    → is_met (map (shown_by d) marks) c ≡ (is_met marks c || is_eq (full_cmp d c))
+shown-met d marks c there = elim (is_eq (full_cmp d c)) as (λ t. is_eq (full_cmp d c) ≡ t
+    → is_met (map (shown_by d) marks) c ≡ (is_met marks c || t)) [
+      | true ↦ λ h.
+          let same : d ≡ c = same_from_tie d c h in
+          ap (λ (x : Candidate). is_met (map (shown_by x) marks) c) same ∙ met-own marks c there
+          ∙ sym (or_true (is_met marks c))
+      | false ↦ λ h. met-other d marks c h ∙ sym (or_false (is_met marks c))
+    ] refl
+
+-- ---- where no row ties with the candidate
+
+-- where the mark before the place precedes the candidate none is at a place
+none_ties : (marks : List Mark) → AreInOrder marks → (d : Candidate) (p : ℕ) → p ≤ length marks
+    → IsPlace (candidates_at marks) d p → ties_before p marks d ≡ false
+    → (j : ℕ) (c : Candidate) → j < length (candidates_at marks) → get_or (candidates_at marks) j c ≡ d → ⊥
+none_ties marks up d zero bound here none j c lt e =
+    let front : precedes d (get_or (candidates_at marks) j c) ≡ true = here.1 j c (omega arith) lt in
+    let no : precedes d (get_or (candidates_at marks) j c) ≡ false = ap (precedes d) e ∙ not_itself d in
+    cc
+none_ties marks up d (suc q) bound here none j c lt e = elim (ltb q j) as (λ t. ltb q j ≡ t → ⊥) [
+  | true ↦ λ b.
+      let behind : q < j = ltb-true q j b in
+      let front : precedes d (get_or (candidates_at marks) j c) ≡ true = here.1 j c (omega (arith, behind)) lt in
+      let no : precedes d (get_or (candidates_at marks) j c) ≡ false = ap (precedes d) e ∙ not_itself d in
+      cc
+  | false ↦ λ b.
+      let x : Mark = get_or marks q (unmet c) in
+      let many : length (candidates_at marks) ≡ length marks = length-map marks (λ m. m.candidate) in
+      let got : slice_get marks q ≡ Some x = slice_get-get_or marks q (unmet c) (omega (arith, bound)) in
+      let ahead : not (precedes x.candidate d) ≡ false =
+      sym (ap (λ (o : Option Mark). option_map_or (λ m. not (precedes m.candidate d)) o false) got) ∙ none in
+      let turn : precedes (get_or (candidates_at marks) q c) (get_or (candidates_at marks) j c) ≡ false =
+      in_turn (candidates_at marks) up j q c (ltb-false q j b) (omega (arith, bound, many)) in
+      let no : precedes x.candidate d ≡ false =
+      ap (λ (y : Candidate). precedes y d) (sym (at-mark marks q c))
+      ∙ ap (precedes (get_or (candidates_at marks) q c)) (sym e) ∙ turn in
+      let yes : not (precedes x.candidate d) ≡ true = ap not no in
+      cc
+] refl
+
+-- where the mark before the place precedes the candidate no mark is its own
+pub not_marked : (marks : List Mark) → AreInOrder marks → (d : Candidate) (p : ℕ) → p ≤ length marks
+    → IsPlace (candidates_at marks) d p → ties_before p marks d ≡ false → (c : Candidate)
+    → Contains (candidates_at marks) c → is_eq (full_cmp d c) ≡ false
+not_marked marks up d p bound here none c (j, lt, e) = elim (is_eq (full_cmp d c)) as (λ t. is_eq (full_cmp d c) ≡ t
+    → t ≡ false) [
+      | true ↦ λ h. absurd (none_ties marks up d p bound here none j c lt (e ∙ sym (same_from_tie d c h)))
+      | false ↦ λ _. refl
+    ] refl
+
+-- ---- what is known of the rows once one more candidate was offered
+
+-- what is known of a row
+met-known : (d : Candidate) (old new : List Mark) (c : Candidate)
+    → is_met new c ≡ (is_met old c || is_eq (full_cmp d c))
+    → in_64_bits (passed new c)
+    ≡ one_more_if (precedes d c) (passed old c)
+    → known new c ≡ met_by d (known old c)
+met-known d old new c e f = λ i. record { candidate = c; present = e i; ahead = f i }
+
+module _ (marks : List Mark) (up : AreInOrder marks) (d : Candidate) (p : ℕ) (bound : p ≤ length marks)
+    (here : IsPlace (candidates_at marks) d p) where
+  -- where no mark is the candidate's own it is counted at its place
+  pub meet-apart : ties_before p marks d ≡ false → Meets d marks (counted_at p marks)
+  meet-apart none = record {
+    same = counted-same p marks;
+    met = λ c there.
+        met-known d marks (counted_at p marks) c
+        (counted-met p marks c ∙ sym (or_false (is_met marks c))
+        ∙ ap (λ (b : Bool). is_met marks c || b) (sym (not_marked marks up d p bound here none c there)))
+        (counted-passed marks up d p here c there);
+  }
+
+  -- where one may be it is also taken into account at that one
+  pub meet-own : Meets d marks (counted_at p (map (shown_by d) marks))
+  meet-own = record {
+    same = counted-same p (map (shown_by d) marks) ∙ shown-same d marks;
+    met = λ c there.
+        let shown : List Mark = map (shown_by d) marks in
+        let keys : candidates_at marks ≡ candidates_at shown = sym (shown-same d marks) in
+        met-known d marks (counted_at p shown) c (counted-met p shown c ∙ shown-met d marks c there)
+        (counted-passed shown (subst (λ (ks : List Candidate). IsSorted full_cmp ks) keys up) d p
+        (subst (λ (ks : List Candidate). IsPlace ks d p) keys here) c
+        (subst (λ (ks : List Candidate). Contains ks c) keys there)
+        ∙ ap (λ (n : ℕ). one_more_if (precedes d c) n) (shown-passed d marks c));
+  }
+
+-- what is known of each of the rows
+pub rows-met : (d : Candidate) (old new : List Mark) → Meets d old new → (rows : List Candidate)
+    → AllByRecursion (Contains (candidates_at old)) rows → map (known new) rows ≡ map (met_by d) (map (known old) rows)
+rows-met d old new m [] h = refl
+rows-met d old new m (c ∷ rows) h =
+    ap (λ (x : Met). x ∷ map (known new) rows) (m.met c h.0)
+    ∙ ap (λ (l : List Met). met_by d (known old c) ∷ l) (rows-met d old new m rows h.1)
+
+-- ---- nothing was offered yet
+
+-- marks that were offered nothing have met none
+unmet-met : (ks : List Candidate) (c : Candidate) → is_met (map unmet ks) c ≡ false
+unmet-met [] c = refl
+unmet-met (k ∷ ks) c = unmet-met ks c
+
+-- nor passed any
+unmet-passed : (ks : List Candidate) (c : Candidate) → passed (map unmet ks) c ≡ 0
+unmet-passed [] c = refl
+unmet-passed (k ∷ ks) c =
+    let one = sum_by-cons (passed_at c) (unmet k) (map unmet ks) in
+    omega (arith, one, no_part (precedes c k) 0 refl, unmet-passed ks c)
+  where
+    no_part : (b : Bool) (n : ℕ) → n ≡ 0 → cond b 0 n ≡ 0
+    no_part true n e = refl
+    no_part false n e = e
+
+-- so of the rows nothing is known
+pub rows-unmet : (ks rows : List Candidate) → map (known (map unmet ks)) rows ≡ map (met []) rows
+rows-unmet ks [] = refl
+rows-unmet ks (c ∷ rows) =
+    (λ i. record { candidate = c; present = unmet-met ks c i; ahead = in_64_bits (unmet-passed ks c i) }
+    ∷ map (known (map unmet ks)) rows)
+    ∙ ap (λ (l : List Met). met [] c ∷ l) (rows-unmet ks rows)
+
+-- marks have the candidates that they were made of
+pub unmet-same : (ks : List Candidate) → candidates_at (map unmet ks) ≡ ks
+unmet-same [] = refl
+unmet-same (k ∷ ks) = ap (λ (l : List Candidate). k ∷ l) (unmet-same ks)
+
+-- the rows are among what they are sorted to
+all_among : (xs ks : List Candidate) → IsPermutation xs ks → (rows : List Candidate)
+    → AllByRecursion (Contains xs) rows → AllByRecursion (Contains ks) rows
+all_among xs ks moved [] h = tt
+all_among xs ks moved (c ∷ rows) h = (Contains-permutation xs ks c moved h.0, all_among xs ks moved rows h.1)
+
+-- each of some is among them
+each_among : (rows : List Candidate) → AllByRecursion (Contains rows) rows
+each_among rows = recursion_from_All (Contains rows) rows
+    (λ k d lt. (k, lt, get_or_default rows k (get_or rows k d) d lt))
+
+-- marks of sorted rows are in order
+pub marks-unmet : (rows ks : List Candidate) (marks : List Mark) → IsPermutation rows ks → IsSorted full_cmp ks
+    → marks ≡ map unmet ks → AreUnmet rows marks
+marks-unmet rows ks marks moved up e =
+    let keys : candidates_at marks ≡ ks = ap candidates_at e ∙ unmet-same ks in
+    record {
+      order = subst (λ (l : List Candidate). IsSorted full_cmp l) (sym keys) up;
+      marked = subst (λ (l : List Candidate). AllByRecursion (Contains l) rows) (sym keys)
+          (all_among rows ks moved rows (each_among rows));
+      blank = e ∙ ap (map unmet) (sym keys);
+    }
