@@ -60,23 +60,34 @@ fn read_pieces(alloc: Global, stations: Stations) -> Result<Data, DataFault> {
     reader.finish()
 }
 
+/// Whether the data have a first value of each month from June to September, and one line was passed
+/// over.
+fn is_whole(data: &Data) -> Option<bool> {
+    let series = data.series(&StationId(*b"ZZA00000001"), Element::Tmax)?;
+    for month in 6..10 {
+        if series.value(Day::of(2020, month, 1)?) != Some(311) {
+            return Some(false);
+        }
+    }
+    Some(data.unlisted() == 1)
+}
+
+/// Whether the files are read whole, where the station list is.
+fn whole_pieces(alloc: Global) -> Option<Result<bool, DataFault>> {
+    let stations = Stations::read(alloc, STATIONS).ok()?;
+    let data = read_pieces(alloc, stations);
+    Some(data.map(|it| is_whole(&it) == Some(true)))
+}
+
 #[test]
 fn files_in_pieces(rt: HostRuntime) -> Result<(), Fail> {
-    let Ok(stations) = Stations::read(rt.alloc(), STATIONS) else {
-        return Ok(());
-    };
-    match read_pieces(rt.alloc(), stations) {
-        Ok(data) => {
-            let id = StationId(*b"ZZA00000001");
-            let series = data.series(&id, Element::Tmax).ok_or("no series")?;
-            for month in 6..10 {
-                let day = Day::of(2020, month, 1).ok_or("no day")?;
-                assert_eq!(rt; series.value(day), Some(311), "month {month}");
-            }
-            assert_eq!(rt; data.unlisted(), 1);
+    match whole_pieces(rt.alloc()) {
+        None => {}
+        Some(Ok(whole)) => {
+            assert!(rt; whole);
             println!(rt; "answered")?;
         }
-        Err(fault) => {
+        Some(Err(fault)) => {
             assert_eq!(rt; fault, DataFault::Memory(Memory));
             println!(rt; "memory")?;
         }

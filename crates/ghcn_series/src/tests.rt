@@ -1,4 +1,6 @@
 //! Worked examples of daily files and the series that they hold.
+//!
+//! Data and readers live in helpers that answer plain facts: a test that holds them is dear to prove.
 
 ghost use Rattle.std.specs.Prelude.{IfOk};
 ghost use Rattle.ghcn_series.specs.Pieces.{HasFedSome};
@@ -36,7 +38,7 @@ fn line_of(head: &[u8; 21], groups: &[(usize, &[u8; 8])]) -> [u8; 269] {
 }
 
 /// The lines one below the other, each with this end.
-fn text_of(alloc: Global, lines: &[&[u8]], end: &[u8]) -> Result<Vec<u8>, Fail> {
+fn text_of(alloc: Global, lines: &[&[u8]], end: &[u8]) -> Result<Vec<u8>, Memory> {
     let mut text = Vec::new(alloc);
     for line in lines {
         text.extend_from_slice(line)?;
@@ -53,36 +55,87 @@ fn read(alloc: Global, files: &[&[u8]]) -> Result<Data, DataFault> {
     }
 }
 
-#[test]
-fn usable_values(rt: HostRuntime) -> Result<(), Fail> {
-    let cases: [(&[u8; 4], Element, &[u8; 8], Option<i32>); 12] = [
-        (b"TMAX", Element::Tmax, b"  311   ", Some(311)),
-        (b"TMAX", Element::Tmax, b"  311D W", Some(311)),
-        (b"TMAX", Element::Tmax, b"  311 X ", None),
-        (b"TMAX", Element::Tmax, b"-9999   ", None),
-        (b"TMAX", Element::Tmax, b"        ", None),
-        (b"TMAX", Element::Tmax, b"   -1   ", Some(-1)),
-        (b"TMIN", Element::Tmin, b"-9998   ", Some(-9998)),
-        (b"PRCP", Element::Prcp, b"   -1   ", None),
-        (b"PRCP", Element::Prcp, b"    0   ", Some(0)),
-        (b"SNOW", Element::Snow, b"   -1   ", None),
-        (b"SNWD", Element::Snwd, b"   -1   ", None),
-        (b"SNWD", Element::Snwd, b"  250   ", Some(250)),
-    ];
-    for (code, element, group, expected) in cases {
-        let mut head = *b"ZZA00000001202007....";
-        head[17..].copy_from_slice(code);
-        let data = read(rt.alloc(), &[&line_of(&head, &[(1, group)])])?;
-        let july = Day::with_number(JULY).ok_or("no day")?;
-        let found = data.series(&A, element).and_then(|it| it.value(july));
-        assert_eq!(rt; found, expected, "at {code:?} {group:?}");
-        assert_eq!(rt; data.series(&A, element).is_some(), expected.is_some());
+/// Whether these are the days of a series, with their values.
+fn has_days(series: &Series, days: &[(i32, i32)]) -> bool {
+    let mut at = 0;
+    for (day, value) in series.days() {
+        if days.get(at) != Some(&(day.number(), value)) || series.value(day) != Some(value) {
+            return false;
+        }
+        at = at.saturating_add(1);
     }
-    Ok(())
+    at == days.len()
+}
+
+/// Whether the data give a station and an element these days alone, and no series where there are none.
+fn has_series(data: &Data, id: &StationId, element: Element, days: &[(i32, i32)]) -> bool {
+    match data.series(id, element) {
+        Some(series) => !days.is_empty() && has_days(series, days),
+        None => days.is_empty(),
+    }
+}
+
+/// The same of files.
+fn gives(
+    alloc: Global,
+    files: &[&[u8]],
+    id: &StationId,
+    element: Element,
+    days: &[(i32, i32)],
+) -> Result<bool, DataFault> {
+    Ok(has_series(&read(alloc, files)?, id, element, days))
 }
 
 #[test]
-fn series_of_months_in_any_order(rt: HostRuntime) -> Result<(), Fail> {
+fn usable_values(rt: HostRuntime) {
+    let cases: [(&[u8; 4], Element, &[u8; 8], &[(i32, i32)]); 12] = [
+        (b"TMAX", Element::Tmax, b"  311   ", &[(JULY, 311)]),
+        (b"TMAX", Element::Tmax, b"  311D W", &[(JULY, 311)]),
+        (b"TMAX", Element::Tmax, b"  311 X ", &[]),
+        (b"TMAX", Element::Tmax, b"-9999   ", &[]),
+        (b"TMAX", Element::Tmax, b"        ", &[]),
+        (b"TMAX", Element::Tmax, b"   -1   ", &[(JULY, -1)]),
+        (b"TMIN", Element::Tmin, b"-9998   ", &[(JULY, -9998)]),
+        (b"PRCP", Element::Prcp, b"   -1   ", &[]),
+        (b"PRCP", Element::Prcp, b"    0   ", &[(JULY, 0)]),
+        (b"SNOW", Element::Snow, b"   -1   ", &[]),
+        (b"SNWD", Element::Snwd, b"   -1   ", &[]),
+        (b"SNWD", Element::Snwd, b"  250   ", &[(JULY, 250)]),
+    ];
+    for (code, element, group, days) in cases {
+        let mut head = *b"ZZA00000001202007....";
+        head[17..].copy_from_slice(code);
+        let line = line_of(&head, &[(1, group)]);
+        let found = gives(rt.alloc(), &[&line], &A, element, days);
+        assert_eq!(rt; found, Ok(true), "at {code:?} {group:?}");
+    }
+}
+
+/// A series: its ID, its element, and the numbers of its first and its last usable day.
+type Span = (StationId, Element, i32, i32);
+
+/// What a series says of itself.
+fn span_of(series: &Series) -> Span {
+    let (first, last) = series.span();
+    (series.id(), series.element(), first.number(), last.number())
+}
+
+/// The first station's series of greatest temperatures, found by its place, and the numbers of
+/// stations and of unlisted lines.
+type Counts = (Span, u64, u64);
+
+fn counts_of(data: &Data) -> Option<Counts> {
+    let series = data.series_at(0, Element::Tmax)?;
+    Some((span_of(series), data.stations().len(), data.unlisted()))
+}
+
+/// The same of files.
+fn counts_in(alloc: Global, files: &[&[u8]]) -> Result<Option<Counts>, DataFault> {
+    Ok(counts_of(&read(alloc, files)?))
+}
+
+#[test]
+fn series_of_months_in_any_order(rt: HostRuntime) {
     let july = line_of(
         b"ZZA00000001202007TMAX",
         &[(1, b"  311   "), (31, b"  305   ")],
@@ -92,46 +145,83 @@ fn series_of_months_in_any_order(rt: HostRuntime) -> Result<(), Fail> {
         b"ZZA00000001202006TMAX",
         &[(30, b"  299   "), (31, b"  999   ")],
     );
-    let data = read(rt.alloc(), &[&july, &other, &june])?;
-    let series = data.series(&A, Element::Tmax).ok_or("no series")?;
-    assert_eq!(rt; series.id(), A);
-    assert_eq!(rt; series.element(), Element::Tmax);
-    let (first, last) = series.span();
-    assert_eq!(rt; (first.number(), last.number()), (JULY - 1, JULY + 30));
-    let days: [(i32, i32); 3] = [(JULY - 1, 299), (JULY, 311), (JULY + 30, 305)];
-    let mut at = 0;
-    for (day, value) in series.days() {
-        assert_eq!(rt; Some(&(day.number(), value)), days.get(at), "at {at}");
-        at = at.saturating_add(1);
+    let files: [&[u8]; 3] = [&july, &other, &june];
+    let series = (A, Element::Tmax, JULY - 1, JULY + 30);
+    assert_eq!(rt; counts_in(rt.alloc(), &files), Ok(Some((series, 2, 0))));
+    let cases: [(StationId, Element, &[(i32, i32)]); 3] = [
+        (
+            A,
+            Element::Tmax,
+            &[(JULY - 1, 299), (JULY, 311), (JULY + 30, 305)],
+        ),
+        (A, Element::Tmin, &[]),
+        (B, Element::Tmax, &[(JULY, 250)]),
+    ];
+    for (id, element, days) in cases {
+        let found = gives(rt.alloc(), &files, &id, element, days);
+        assert_eq!(rt; found, Ok(true), "{id:?} {element:?}");
     }
-    assert_eq!(rt; at, days.len());
-    assert_eq!(rt; data.series(&A, Element::Tmin).is_some(), false);
-    assert_eq!(rt; data.series(&B, Element::Tmax).is_some(), true);
-    assert_eq!(rt; data.stations().len(), 2);
-    assert_eq!(rt; data.unlisted(), 0);
-    Ok(())
 }
 
 /// A block: its number, its word, and its values by their places.
 type Block = (i32, u32, [(usize, i32); 3]);
 
-/// Whether the series has this block.
-fn has_block(series: &Series, block: &Block) -> bool {
-    let (number, word, values) = block;
+/// Whether this is what a series lends of a block.
+fn is_block(found: Option<(u32, &[i32; 32])>, block: &Block) -> bool {
+    let (_, word, values) = block;
     let mut row = [0; 32];
     for (place, value) in values {
         if *place < 32 {
             row[*place] = *value;
         }
     }
-    match series.block(*number) {
+    match found {
         Some((found, days)) => found == *word && *days == row,
         None => *word == 0,
     }
 }
 
+/// The first block of a table that the series lacks, wherever it is looked for first.
+fn first_wrong_block(series: &Series, blocks: &[Block]) -> Option<i32> {
+    for (at, block) in blocks.iter().enumerate() {
+        let (number, _, _) = *block;
+        let near = series.block_near(at, number);
+        if !is_block(series.block(number), block) || !is_block(near, block) {
+            return Some(number);
+        }
+    }
+    None
+}
+
+/// The first number of a table from which the next block isn't this one.
+fn first_wrong_next(series: &Series, cases: &[(i32, Option<i32>)]) -> Option<i32> {
+    for (from, expected) in cases {
+        if series.next_block(*from) != *expected {
+            return Some(*from);
+        }
+    }
+    None
+}
+
+/// The first row of each table that the first station's greatest temperatures don't meet, and their span.
+fn wrong_blocks(
+    alloc: Global,
+    files: &[&[u8]],
+    blocks: &[Block],
+    nexts: &[(i32, Option<i32>)],
+) -> Result<Option<(Option<i32>, Option<i32>)>, DataFault> {
+    let data = read(alloc, files)?;
+    Ok(match data.series(&A, Element::Tmax) {
+        Some(series) => Some((
+            first_wrong_block(series, blocks),
+            first_wrong_next(series, nexts),
+        )),
+        None => None,
+    })
+}
+
 #[test]
-fn blocks_of_a_series(rt: HostRuntime) -> Result<(), Fail> {
+fn blocks_of_a_series(rt: HostRuntime) {
     let lines: [&[u8]; 6] = [
         &line_of(
             b"ZZA00000001202007TMAX",
@@ -152,8 +242,6 @@ fn blocks_of_a_series(rt: HostRuntime) -> Result<(), Fail> {
             &[(1, b"  101   "), (27, b"  127   ")],
         ),
     ];
-    let data = read(rt.alloc(), &lines)?;
-    let series = data.series(&A, Element::Tmax).ok_or("no series")?;
     let blocks: [Block; 12] = [
         (-22_475, 0, [(0, 0); 3]),
         (-22_474, 1 << 6, [(6, 101), (6, 101), (6, 101)]),
@@ -168,41 +256,36 @@ fn blocks_of_a_series(rt: HostRuntime) -> Result<(), Fail> {
         (91_653, 1, [(0, 121), (0, 121), (0, 121)]),
         (91_654, 0, [(0, 0); 3]),
     ];
-    for block in &blocks {
-        assert_eq!(rt; has_block(series, block), true, "block {}", block.0);
-    }
-    let (first, last) = series.span();
-    assert_eq!(rt; (first.number(), last.number()), (-719_162, 2_932_896));
-    Ok(())
-}
-
-#[test]
-fn next_blocks_of_a_series(rt: HostRuntime) -> Result<(), Fail> {
-    let december = line_of(b"ZZA00000001196912TMAX", &[(31, b"   -1   ")]);
-    let july = line_of(
-        b"ZZA00000001202007TMAX",
-        &[(1, b"  311   "), (31, b"  305   ")],
-    );
-    let data = read(rt.alloc(), &[&july, &december])?;
-    let series = data.series(&A, Element::Tmax).ok_or("no series")?;
-    let cases: [(i32, Option<i32>); 8] = [
-        (i32::MIN, Some(-1)),
+    let nexts: [(i32, Option<i32>); 10] = [
+        (i32::MIN, Some(-22_474)),
+        (-22_473, Some(-22_473)),
+        (-22_472, Some(-1)),
         (-1, Some(-1)),
-        (0, Some(576)),
-        (575, Some(576)),
+        (1, Some(576)),
         (576, Some(576)),
         (577, Some(577)),
-        (578, None),
+        (578, Some(91_652)),
+        (91_654, None),
         (i32::MAX, None),
     ];
-    for (from, expected) in cases {
-        assert_eq!(rt; series.next_block(from), expected, "from {from}");
-    }
-    Ok(())
+    let found = wrong_blocks(rt.alloc(), &lines, &blocks, &nexts);
+    assert_eq!(rt; found, Ok(Some((None, None))));
+    let ends = (A, Element::Tmax, -719_162, 2_932_896);
+    assert_eq!(rt; counts_in(rt.alloc(), &lines), Ok(Some((ends, 2, 0))));
+}
+
+/// How many lines of these files were passed over, or their fault.
+fn unlisted(alloc: Global, files: &[&[u8]]) -> Result<u64, DataFault> {
+    Ok(read(alloc, files)?.unlisted())
+}
+
+/// The fault of a line.
+fn refused(file: u64, line: u64, why: DailyWhy) -> Result<u64, DataFault> {
+    Err(DataFault::DailyLine { file, line, why })
 }
 
 #[test]
-fn months_backwards_and_shuffled(rt: HostRuntime) -> Result<(), Fail> {
+fn months_backwards_and_shuffled(rt: HostRuntime) {
     let january = line_of(b"ZZA00000001202001TMAX", &[(31, b"    1   ")]);
     let february = line_of(b"ZZA00000001202002TMAX", &[(1, b"    2   ")]);
     let december = line_of(b"ZZA00000001201912TMAX", &[(31, b"   12   ")]);
@@ -217,27 +300,16 @@ fn months_backwards_and_shuffled(rt: HostRuntime) -> Result<(), Fail> {
     // 2019-12-31 is day 18261, 2020-01-31 is day 18292.
     let days: [(i32, i32); 3] = [(18_261, 12), (18_292, 1), (18_293, 2)];
     for order in orders {
-        let data = read(rt.alloc(), &order)?;
-        let series = data.series(&A, Element::Tmax).ok_or("no series")?;
-        let mut at = 0;
-        for (day, value) in series.days() {
-            assert_eq!(rt; Some(&(day.number(), value)), days.get(at), "at {at}");
-            at = at.saturating_add(1);
-        }
-        assert_eq!(rt; at, days.len());
-        for (again, line) in order.iter().enumerate() {
-            let mut files: [&[u8]; 5] = [order[0], order[1], order[2], order[3], *line];
-            let found = read(rt.alloc(), &files).map(|data| data.unlisted());
+        let found = gives(rt.alloc(), &order, &A, Element::Tmax, &days);
+        assert_eq!(rt; found, Ok(true));
+        for line in order {
+            let files: [&[u8]; 5] = [order[0], order[1], order[2], order[3], line];
             assert_eq!(rt;
-                found,
-                refused(5, 1, DailyWhy::DuplicateMonth),
-                "line {again}"
+                unlisted(rt.alloc(), &files),
+                refused(5, 1, DailyWhy::DuplicateMonth)
             );
-            files[4] = b"";
-            assert_eq!(rt; read(rt.alloc(), &files).map(|data| data.unlisted()), Ok(0));
         }
     }
-    Ok(())
 }
 
 /// The first days of the months of 2019, each with the month as its value.
@@ -282,8 +354,24 @@ fn year_of(station: u8) -> [[u8; 269]; 12] {
     lines
 }
 
+/// The lines of a year of each of two stations, in turn, by the places of their months.
+fn years_in<'a>(
+    order: &[usize; 12],
+    one: &'a [[u8; 269]; 12],
+    two: &'a [[u8; 269]; 12],
+) -> [&'a [u8]; 24] {
+    let mut files: [&[u8]; 24] = [b""; 24];
+    for at in 0..12 {
+        if order[at] < 12 {
+            files[2 * at] = &one[order[at]];
+            files[2 * at + 1] = &two[order[at]];
+        }
+    }
+    files
+}
+
 #[test]
-fn a_year_in_any_order(rt: HostRuntime) -> Result<(), Fail> {
+fn a_year_in_any_order(rt: HostRuntime) {
     let orders: [[usize; 12]; 3] = [
         [0, 1, 2, 3, 4, 5, 6, 7, 8, 9, 10, 11],
         [11, 10, 9, 8, 7, 6, 5, 4, 3, 2, 1, 0],
@@ -292,158 +380,176 @@ fn a_year_in_any_order(rt: HostRuntime) -> Result<(), Fail> {
     let one = year_of(b'1');
     let two = year_of(b'2');
     for order in orders {
-        let mut files: Vec<&[u8]> = Vec::new(rt.alloc());
-        for place in order {
-            files.push(one.get(place).ok_or("no line")?)?;
-            files.push(two.get(place).ok_or("no line")?)?;
-        }
-        let data = read(rt.alloc(), &files)?;
+        let files = years_in(&order, &one, &two);
         for id in [A, B] {
-            let series = data.series(&id, Element::Tmax).ok_or("no series")?;
-            let mut at = 0;
-            for (day, value) in series.days() {
-                assert_eq!(rt; Some(&(day.number(), value)), FIRSTS.get(at), "at {at}");
-                at = at.saturating_add(1);
-            }
-            assert_eq!(rt; at, FIRSTS.len());
-        }
-        for again in &one {
-            files.push(again)?;
-            let found = read(rt.alloc(), &files).map(|data| data.unlisted());
-            assert_eq!(rt; found, refused(25, 1, DailyWhy::DuplicateMonth));
-            files.pop();
+            let found = gives(rt.alloc(), &files, &id, Element::Tmax, &FIRSTS);
+            assert_eq!(rt; found, Ok(true), "{id:?}: {order:?}");
         }
     }
-    Ok(())
 }
 
 #[test]
-fn days_that_the_month_lacks(rt: HostRuntime) -> Result<(), Fail> {
-    let cases: [(&[u8; 21], u8); 4] = [
-        (b"ZZA00000001190002TMAX", 28),
-        (b"ZZA00000001200002TMAX", 29),
-        (b"ZZA00000001202011TMAX", 30),
-        (b"ZZA00000001999912TMAX", 31),
+fn days_that_the_month_lacks(rt: HostRuntime) {
+    // The last day of each month, and its number.
+    let cases: [(&[u8; 21], &[(i32, i32)]); 4] = [
+        (b"ZZA00000001190002TMAX", &[(-25_509, 28)]),
+        (b"ZZA00000001200002TMAX", &[(11_015, 28), (11_016, 29)]),
+        (
+            b"ZZA00000001202011TMAX",
+            &[(18_594, 28), (18_595, 29), (18_596, 30)],
+        ),
+        (
+            b"ZZA00000001999912TMAX",
+            &[
+                (2_932_893, 28),
+                (2_932_894, 29),
+                (2_932_895, 30),
+                (2_932_896, 31),
+            ],
+        ),
     ];
-    for (head, length) in cases {
+    for (head, days) in cases {
         let groups: [(usize, &[u8; 8]); 4] = [
-            (28, b"  100   "),
-            (29, b"  500   "),
-            (30, b"  500   "),
-            (31, b"  500   "),
+            (28, b"   28   "),
+            (29, b"   29   "),
+            (30, b"   30   "),
+            (31, b"   31   "),
         ];
-        let data = read(rt.alloc(), &[&line_of(head, &groups)])?;
-        let series = data.series(&A, Element::Tmax).ok_or("no series")?;
-        let (_, _, last) = series.span().1.civil();
-        assert_eq!(rt; last, length, "at {head:?}");
+        let found = gives(
+            rt.alloc(),
+            &[&line_of(head, &groups)],
+            &A,
+            Element::Tmax,
+            days,
+        );
+        assert_eq!(rt; found, Ok(true), "at {head:?}");
     }
-    Ok(())
 }
 
-/// How many lines of two files were passed over, or their fault.
-fn unlisted_of(alloc: Global, one: &[u8], two: &[u8]) -> Result<u64, DataFault> {
-    read(alloc, &[one, two]).map(|data| data.unlisted())
-}
-
-/// The fault of a line.
-fn refused(file: u64, line: u64, why: DailyWhy) -> Result<u64, DataFault> {
-    Err(DataFault::DailyLine { file, line, why })
+/// How many lines of two files were passed over, or their fault. The lines have this end.
+fn unlisted_of(alloc: Global, one: &[&[u8]], two: &[&[u8]], end: &[u8]) -> Result<u64, DataFault> {
+    let one = text_of(alloc, one, end).map_err(DataFault::Memory)?;
+    let two = text_of(alloc, two, end).map_err(DataFault::Memory)?;
+    unlisted(alloc, &[&one, &two])
 }
 
 #[test]
-fn first_fault_of_the_files(rt: HostRuntime) -> Result<(), Fail> {
-    let first = line_of(b"ZZA00000001202007TMAX", &[(1, b"  311   ")]);
-    let second = line_of(b"ZZA00000002202007TMAX", &[(1, b"  311   ")]);
-    let letters = line_of(b"ZZA00000002202007TMAX", &[(3, b"12 34   ")]);
-    let bad = text_of(rt.alloc(), &[&first, b"  ", &letters], b"\r\n")?;
-    let doubled = text_of(rt.alloc(), &[&second, &second], b"\n")?;
-    let two_faults = text_of(rt.alloc(), &[b"", &first, b"x"], b"\n")?;
-    let other = text_of(rt.alloc(), &[b"ZZA00000001202007WSFG", &first], b"\r\n")?;
+fn first_fault_of_the_files(rt: HostRuntime) {
+    let first: &[u8] = &line_of(b"ZZA00000001202007TMAX", &[(1, b"  311   ")]);
+    let second: &[u8] = &line_of(b"ZZA00000002202007TMAX", &[(1, b"  311   ")]);
+    let letters: &[u8] = &line_of(b"ZZA00000002202007TMAX", &[(3, b"12 34   ")]);
+    let unlisted: &[u8] = &line_of(b"ZZA00000009202007TMAX", &[(1, b"  400   ")]);
+    let other: &[u8] = b"ZZA00000001202007WSFG";
+    let cut: &[u8] = b"ZZA00000009202007TMAX";
     let third = DailyWhy::Line(LineWhy::BadValue(3));
     let again = DailyWhy::DuplicateMonth;
-    let cases: [(&str, &[u8], &[u8], Result<u64, DataFault>); 6] = [
-        ("no lines", b"", b"\n\r\n", Ok(0)),
-        ("a bad value", &bad, &first, refused(1, 3, third)),
-        ("a month in two files", &first, &first, refused(2, 1, again)),
+    let short = DailyWhy::Line(LineWhy::Short);
+    let cases: [(&str, [&[u8]; 3], [&[u8]; 3], Result<u64, DataFault>); 9] = [
+        ("no lines", [b"", b"", b""], [b"", b"", b""], Ok(0)),
+        (
+            "a bad value",
+            [first, b"  ", letters],
+            [first, b"", b""],
+            refused(1, 3, third),
+        ),
+        (
+            "a month in two files",
+            [first, b"", b""],
+            [first, b"", b""],
+            refused(2, 1, again),
+        ),
         (
             "a month in one file",
-            &doubled,
-            &first,
+            [second, second, b""],
+            [first, b"", b""],
             refused(1, 2, again),
         ),
         (
             "the first of two faults",
-            &first,
-            &two_faults,
+            [first, b"", b""],
+            [b"", first, b"x"],
             refused(2, 2, again),
         ),
-        ("another element", &other, &second, Ok(0)),
+        (
+            "another element",
+            [other, first, b""],
+            [second, b"", b""],
+            Ok(0),
+        ),
+        (
+            "an unlisted station's month",
+            [unlisted, unlisted, b""],
+            [unlisted, b"", b""],
+            Ok(3),
+        ),
+        (
+            "its other element",
+            [b"ZZA00000009202007WSFG", b"", b""],
+            [b"", b"", b""],
+            Ok(0),
+        ),
+        (
+            "its line that is cut",
+            [b"", b"", b""],
+            [cut, b"", b""],
+            refused(2, 1, short),
+        ),
     ];
     for (name, one, two, expected) in cases {
-        assert_eq!(rt; unlisted_of(rt.alloc(), one, two), expected, "{name}");
+        assert_eq!(rt;
+            unlisted_of(rt.alloc(), &one, &two, b"\n"),
+            expected,
+            "{name}"
+        );
+        assert_eq!(rt;
+            unlisted_of(rt.alloc(), &one, &two, b"\r\n"),
+            expected,
+            "{name}"
+        );
     }
-    Ok(())
+}
+
+/// How many lines of a text's first bytes were passed over, or their fault.
+fn unlisted_to(alloc: Global, lines: &[&[u8]], length: usize) -> Result<u64, DataFault> {
+    let text = text_of(alloc, lines, b"\n").map_err(DataFault::Memory)?;
+    unlisted(alloc, &[&text[..length.min(text.len())]])
 }
 
 #[test]
-fn lines_of_unlisted_stations(rt: HostRuntime) -> Result<(), Fail> {
-    let unlisted = line_of(b"ZZA00000009202007TMAX", &[(1, b"  400   ")]);
-    let twice = text_of(rt.alloc(), &[&unlisted, &unlisted], b"\n")?;
-    assert_eq!(rt;
-        unlisted_of(rt.alloc(), &twice, &unlisted),
-        Ok(3),
-        "one month"
-    );
-    let other: &[u8] = b"ZZA00000009202007WSFG";
-    assert_eq!(rt;
-        unlisted_of(rt.alloc(), other, b""),
-        Ok(0),
-        "another element"
-    );
-    let short = DailyWhy::Line(LineWhy::Short);
-    let cut: &[u8] = b"ZZA00000009202007TMAX";
-    let found = unlisted_of(rt.alloc(), b"", cut);
-    assert_eq!(rt; found, refused(2, 1, short), "tested as any line");
-    Ok(())
-}
-
-#[test]
-fn daily_lines_cut_to_each_length(rt: HostRuntime) -> Result<(), Fail> {
+fn daily_lines_cut_to_each_length(rt: HostRuntime) {
     let july = line_of(b"ZZA00000001202007TMAX", &[(1, b"  311   ")]);
     let june = line_of(b"ZZA00000001202006TMAX", &[(1, b"  299   ")]);
     let other = line_of(b"ZZA00000002202007TMAX", &[(1, b"  250   ")]);
-    let lines: [&[u8]; 3] = [&july, &june, &other];
-    let text = text_of(rt.alloc(), &lines, b"\n")?;
-    assert_eq!(rt; text.len(), 810);
-    for length in 0..=810 {
+    for length in 0..=810_u16 {
         let expected = match length % 270 {
             0 | 266..=269 => Ok(0),
-            _ => Err(DataFault::DailyLine {
-                file: 1,
-                line: length as u64 / 270 + 1,
-                why: DailyWhy::Line(LineWhy::Short),
-            }),
+            _ => {
+                let line = u64::from(length / 270 + 1);
+                refused(1, line, DailyWhy::Line(LineWhy::Short))
+            }
         };
-        let found = read(rt.alloc(), &[&text[..length.min(text.len())]]).map(
-            |data| data.unlisted(),
-        );
+        let found = unlisted_to(rt.alloc(), &[&july, &june, &other], usize::from(length));
         assert_eq!(rt; found, expected, "at {length} bytes");
     }
-    Ok(())
+}
+
+/// How many lines of so many empty files were passed over, or their fault.
+fn unlisted_of_empty(alloc: Global, count: usize) -> Result<u64, DataFault> {
+    let none: &[u8] = b"";
+    let mut files = Vec::new(alloc);
+    for _ in 0..count {
+        if files.push(none).is_err() {
+            return Err(DataFault::Memory(Memory));
+        }
+    }
+    unlisted(alloc, &files)
 }
 
 #[test]
-fn at_most_a_million_files(rt: HostRuntime) -> Result<(), Fail> {
-    let none: &[u8] = b"";
-    let mut files = Vec::with_capacity(rt.alloc(), (1 << 20) + 1)?;
-    for _ in 0..1 << 20 {
-        files.push(none)?;
-    }
-    assert_eq!(rt; read(rt.alloc(), &files).map(|data| data.unlisted()), Ok(0));
-    files.push(none)?;
-    let found = read(rt.alloc(), &files).map(|data| data.unlisted());
+fn at_most_a_million_files(rt: HostRuntime) {
+    assert_eq!(rt; unlisted_of_empty(rt.alloc(), 1 << 20), Ok(0));
+    let found = unlisted_of_empty(rt.alloc(), (1 << 20) + 1);
     assert_eq!(rt; found, Err(DataFault::TooManyFiles));
-    Ok(())
 }
 
 #[test]
@@ -484,10 +590,18 @@ fn reader(alloc: Global) -> Result<DataReader, DataFault>
     }
 }
 
+/// A reader that has taken this piece.
+fn fed(alloc: Global, piece: &[u8]) -> Result<DataReader, DataFault>
+    ensures { IfOk result HasFedSome }
+{
+    let mut reader = reader(alloc)?;
+    reader.piece(piece)?;
+    Ok(reader)
+}
+
 /// What a file says whose bytes come in two pieces.
 fn read_cut(alloc: Global, front: &[u8], behind: &[u8]) -> Result<Data, DataFault> {
-    let mut reader = reader(alloc)?;
-    reader.piece(front)?;
+    let mut reader = fed(alloc, front)?;
     reader.piece(behind)?;
     reader.finish()
 }
@@ -513,88 +627,109 @@ fn read_by_bytes(mut reader: DataReader, text: &[u8]) -> Result<Data, DataFault>
 }
 
 /// Three lines with carriage returns: July, an empty line, and another one.
-fn three_lines(alloc: Global, last: &[u8; 21]) -> Result<Vec<u8>, Fail> {
-    let july = line_of(b"ZZA00000001202007TMAX", &[(1, b"  311   ")]);
-    let other = line_of(last, &[(1, b"  322   ")]);
-    text_of(alloc, &[&july, b"", &other], b"\r\n")
+fn three_lines(last: &[u8; 21]) -> [u8; 544] {
+    let mut text = [b'\r'; 544];
+    text[..269].copy_from_slice(&line_of(b"ZZA00000001202007TMAX", &[(1, b"  311   ")]));
+    text[270] = b'\n';
+    text[272] = b'\n';
+    text[273..542].copy_from_slice(&line_of(last, &[(1, b"  322   ")]));
+    text[543] = b'\n';
+    text
 }
+
+/// The days of July and August, with their values.
+const SUMMER: [(i32, i32); 2] = [(JULY, 311), (JULY + 31, 322)];
 
 /// A month that the third line repeats.
-fn repeated() -> DataFault {
-    DataFault::DailyLine {
-        file: 1,
-        line: 3,
-        why: DailyWhy::DuplicateMonth,
-    }
+const REPEATED: DataFault = DataFault::DailyLine {
+    file: 1,
+    line: 3,
+    why: DailyWhy::DuplicateMonth,
+};
+
+/// Whether a text that is cut gives the days of July and August.
+fn gives_cut(alloc: Global, front: &[u8], behind: &[u8]) -> Result<bool, DataFault> {
+    let data = read_cut(alloc, front, behind)?;
+    Ok(has_series(&data, &A, Element::Tmax, &SUMMER))
 }
 
-#[test]
-fn cut_anywhere(rt: HostRuntime) -> Result<(), Fail> {
-    let text = three_lines(rt.alloc(), b"ZZA00000001202008TMAX")?;
-    let first = Day::with_number(JULY).ok_or("no day")?;
-    let second = Day::with_number(JULY + 31).ok_or("no day")?;
+/// Whether it does where its bytes come one by one.
+fn gives_by_bytes(alloc: Global, text: &[u8]) -> Result<bool, DataFault> {
+    let data = read_by_bytes(reader(alloc)?, text)?;
+    Ok(has_series(&data, &A, Element::Tmax, &SUMMER))
+}
+
+/// The first place at which a text is cut and then doesn't give this.
+fn first_wrong_cut(alloc: Global, text: &[u8], expected: Result<bool, DataFault>) -> Option<usize> {
     for end in 0..=text.len() {
-        let data = read_cut(rt.alloc(), &text[..end], &text[end..])?;
-        let series = data.series(&A, Element::Tmax).ok_or("no series")?;
-        assert_eq!(rt; series.value(first), Some(311), "cut at {end}");
-        assert_eq!(rt; series.value(second), Some(322), "cut at {end}");
+        if gives_cut(alloc, &text[..end], &text[end..]) != expected {
+            return Some(end);
+        }
     }
-    let again = three_lines(rt.alloc(), b"ZZA00000001202007TMAX")?;
-    for end in 0..=again.len() {
-        let fault = read_cut(rt.alloc(), &again[..end], &again[end..]).err();
-        assert_eq!(rt; fault, Some(repeated()), "cut at {end}");
-    }
-    Ok(())
+    None
 }
 
 #[test]
-fn one_byte_at_a_time(rt: HostRuntime) -> Result<(), Fail> {
-    let text = three_lines(rt.alloc(), b"ZZA00000001202008TMAX")?;
-    let data = read_by_bytes(reader(rt.alloc())?, &text)?;
-    let series = data.series(&A, Element::Tmax).ok_or("no series")?;
-    let second = Day::with_number(JULY + 31).ok_or("no day")?;
-    assert_eq!(rt; series.value(second), Some(322));
-    let again = three_lines(rt.alloc(), b"ZZA00000001202007TMAX")?;
-    let fault = read_by_bytes(reader(rt.alloc())?, &again).err();
-    assert_eq!(rt; fault, Some(repeated()));
-    Ok(())
+fn cut_anywhere(rt: HostRuntime) {
+    let text = three_lines(b"ZZA00000001202008TMAX");
+    assert_eq!(rt; first_wrong_cut(rt.alloc(), &text, Ok(true)), None);
+    assert_eq!(rt; gives_by_bytes(rt.alloc(), &text), Ok(true));
+    let again = three_lines(b"ZZA00000001202007TMAX");
+    assert_eq!(rt; first_wrong_cut(rt.alloc(), &again, Err(REPEATED)), None);
+    assert_eq!(rt; gives_by_bytes(rt.alloc(), &again), Err(REPEATED));
 }
 
-#[test]
-fn fault_is_told_at_its_line(rt: HostRuntime) -> Result<(), Fail> {
-    let text = three_lines(rt.alloc(), b"ZZA00000001202007TMAX")?;
-    let [front @ .., last] = text.as_slice() else {
-        return Err(Fail::from("no text"));
+/// Where a fault is told.
+#[derive(Clone, Copy, Debug)]
+enum Told {
+    AtPiece,
+    AtEndOfFile,
+    AtFinish,
+}
+
+/// The fault of a text that is told there, and not by a piece that lacks its last line feed.
+fn fault_at(alloc: Global, text: &[u8], at: Told) -> Result<Option<DataFault>, DataFault> {
+    let [front @ .., last] = text else {
+        return Ok(None);
     };
-    let mut with_feed = reader(rt.alloc())?;
-    with_feed.piece(front)?;
-    assert_eq!(rt; with_feed.piece(&[*last]).err(), Some(repeated()));
-    let mut with_end = reader(rt.alloc())?;
-    with_end.piece(front)?;
-    assert_eq!(rt; with_end.end_of_file().err(), Some(repeated()));
-    let mut at_last = reader(rt.alloc())?;
-    at_last.piece(front)?;
-    assert_eq!(rt; at_last.finish().err(), Some(repeated()));
-    Ok(())
+    let mut reader = fed(alloc, front)?;
+    Ok(match at {
+        Told::AtPiece => reader.piece(&[*last]).err(),
+        Told::AtEndOfFile => reader.end_of_file().err(),
+        Told::AtFinish => reader.finish().err(),
+    })
 }
 
 #[test]
-fn files_end_where_they_are_ended(rt: HostRuntime) -> Result<(), Fail> {
-    let july = line_of(b"ZZA00000001202007TMAX", &[(1, b"  311   ")]);
-    let mut reader = reader(rt.alloc())?;
+fn fault_is_told_at_its_line(rt: HostRuntime) {
+    let text = three_lines(b"ZZA00000001202007TMAX");
+    for at in [Told::AtPiece, Told::AtEndOfFile, Told::AtFinish] {
+        let found = fault_at(rt.alloc(), &text, at);
+        assert_eq!(rt; found, Ok(Some(REPEATED)), "{at:?}");
+    }
+}
+
+/// The fault of a month that the second file has, and the third again behind two lines.
+fn fault_of_files(alloc: Global, month: &[u8]) -> Result<Option<DataFault>, DataFault> {
+    let mut reader = reader(alloc)?;
     reader.end_of_file()?;
-    reader.piece(&july)?;
+    reader.piece(month)?;
     reader.end_of_file()?;
     reader.piece(b"\n \r")?;
     reader.piece(b"\n")?;
-    reader.piece(&july)?;
+    reader.piece(month)?;
+    Ok(reader.finish().err())
+}
+
+#[test]
+fn files_end_where_they_are_ended(rt: HostRuntime) {
+    let july = line_of(b"ZZA00000001202007TMAX", &[(1, b"  311   ")]);
     let fault = DataFault::DailyLine {
         file: 3,
         line: 3,
         why: DailyWhy::DuplicateMonth,
     };
-    assert_eq!(rt; reader.finish().err(), Some(fault));
-    Ok(())
+    assert_eq!(rt; fault_of_files(rt.alloc(), &july), Ok(Some(fault)));
 }
 
 /// What the files say of the two stations and one element.
@@ -605,25 +740,41 @@ fn read_element(alloc: Global, files: &[&[u8]], element: Element) -> Result<Data
     }
 }
 
-/// The value of the first station and an element on the first of July.
-fn value(data: &Data, element: Element) -> Option<i32> {
+/// The value of a station and an element on the first of July.
+fn value(data: &Data, id: &StationId, element: Element) -> Option<i32> {
     let july = Day::with_number(JULY)?;
-    data.series(&A, element)?.value(july)
+    data.series(id, element)?.value(july)
 }
 
-/// The same of each element.
-fn values(data: &Data) -> [Option<i32>; 5] {
-    [
-        value(data, Element::Prcp),
-        value(data, Element::Snow),
-        value(data, Element::Snwd),
-        value(data, Element::Tmax),
-        value(data, Element::Tmin),
-    ]
+/// The values of the first station and each element, the second's greatest temperature, and how many
+/// lines were passed over.
+type Values = ([Option<i32>; 5], Option<i32>, u64);
+
+fn values(data: &Data) -> Values {
+    let first = [
+        value(data, &A, Element::Prcp),
+        value(data, &A, Element::Snow),
+        value(data, &A, Element::Snwd),
+        value(data, &A, Element::Tmax),
+        value(data, &A, Element::Tmin),
+    ];
+    (first, value(data, &B, Element::Tmax), data.unlisted())
+}
+
+/// What is kept of one element of a whole text.
+fn kept(alloc: Global, lines: &[&[u8]], element: Element) -> Result<Values, DataFault> {
+    let text = text_of(alloc, lines, b"\n").map_err(DataFault::Memory)?;
+    Ok(values(&read_element(alloc, &[&text], element)?))
+}
+
+/// The same of a text whose bytes come one by one.
+fn kept_by_bytes(alloc: Global, lines: &[&[u8]], element: Element) -> Result<Values, DataFault> {
+    let text = text_of(alloc, lines, b"\n").map_err(DataFault::Memory)?;
+    Ok(values(&read_by_bytes(reader_of(alloc, element)?, &text)?))
 }
 
 #[test]
-fn series_of_one_element(rt: HostRuntime) -> Result<(), Fail> {
+fn series_of_one_element(rt: HostRuntime) {
     let lines: [&[u8]; 6] = [
         &line_of(b"ZZA00000001202007TMAX", &[(1, b"  311   ")]),
         &line_of(b"ZZA00000001202007TMIN", &[(1, b"  -12   ")]),
@@ -632,30 +783,27 @@ fn series_of_one_element(rt: HostRuntime) -> Result<(), Fail> {
         &line_of(b"ZZA00000001202007SNOW", &[(1, b"    0   ")]),
         &line_of(b"ZZA00000001202007SNWD", &[(1, b"  120   ")]),
     ];
-    let text = text_of(rt.alloc(), &lines, b"\n")?;
-    let cases: [(Element, [Option<i32>; 5]); 5] = [
-        (Element::Prcp, [Some(25), None, None, None, None]),
-        (Element::Snow, [None, Some(0), None, None, None]),
-        (Element::Snwd, [None, None, Some(120), None, None]),
-        (Element::Tmax, [None, None, None, Some(311), None]),
-        (Element::Tmin, [None, None, None, None, Some(-12)]),
+    let cases: [(Element, [Option<i32>; 5], Option<i32>); 5] = [
+        (Element::Prcp, [Some(25), None, None, None, None], None),
+        (Element::Snow, [None, Some(0), None, None, None], None),
+        (Element::Snwd, [None, None, Some(120), None, None], None),
+        (
+            Element::Tmax,
+            [None, None, None, Some(311), None],
+            Some(250),
+        ),
+        (Element::Tmin, [None, None, None, None, Some(-12)], None),
     ];
-    for (element, expected) in cases {
-        let data = read_element(rt.alloc(), &[&text], element)?;
-        assert_eq!(rt; values(&data), expected, "{element:?}");
-        let reader = reader_of(rt.alloc(), element)?;
-        let data = read_by_bytes(reader, &text)?;
-        assert_eq!(rt; values(&data), expected, "{element:?} by bytes");
-        let other = data.series(&B, Element::Tmax).is_some();
-        assert_eq!(rt; other, element == Element::Tmax);
+    for (element, first, second) in cases {
+        let expected = Ok((first, second, 0));
+        assert_eq!(rt; kept(rt.alloc(), &lines, element), expected, "{element:?}");
+        let found = kept_by_bytes(rt.alloc(), &lines, element);
+        assert_eq!(rt; found, expected, "{element:?} by bytes");
     }
-    let all = [Some(25), Some(0), Some(120), Some(311), Some(-12)];
-    assert_eq!(rt; values(&read(rt.alloc(), &[&text])?), all);
-    Ok(())
 }
 
 #[test]
-fn faults_of_elements_that_are_not_kept(rt: HostRuntime) -> Result<(), Fail> {
+fn faults_of_elements_that_are_not_kept(rt: HostRuntime) {
     let july = line_of(b"ZZA00000001202007TMIN", &[(1, b"  150   ")]);
     let asked = line_of(b"ZZA00000001202007TMAX", &[(1, b"  311   ")]);
     let letters = line_of(b"ZZA00000001202008TMIN", &[(3, b"12 34   ")]);
@@ -669,12 +817,9 @@ fn faults_of_elements_that_are_not_kept(rt: HostRuntime) -> Result<(), Fail> {
         ("an unlisted station", [&unlisted, &asked], Ok(1)),
     ];
     for (name, lines, expected) in cases {
-        let text = text_of(rt.alloc(), &lines, b"\n")?;
-        let found = read_element(rt.alloc(), &[&text], Element::Tmax);
-        assert_eq!(rt; found.map(|data| data.unlisted()), expected, "{name}");
-        let reader = reader_of(rt.alloc(), Element::Tmax)?;
-        let found = read_by_bytes(reader, &text);
-        assert_eq!(rt; found.map(|data| data.unlisted()), expected, "{name}");
+        let found = kept(rt.alloc(), &lines, Element::Tmax);
+        assert_eq!(rt; found.map(|it| it.2), expected, "{name}");
+        let found = kept_by_bytes(rt.alloc(), &lines, Element::Tmax);
+        assert_eq!(rt; found.map(|it| it.2), expected, "{name}");
     }
-    Ok(())
 }
