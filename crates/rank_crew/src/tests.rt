@@ -1,8 +1,15 @@
 //! Worked crews: the gated run of two workers, and each number of workers from 1 to 64.
+//!
+//! Data, plans and answers live in helpers that answer plain facts, and nothing where memory is
+//! refused: a test that holds them is dear to prove.
+
+ghost use Rattle.std.specs.Prelude.{◌<◌, ◌≤◌, IfSome};
+ghost use Rattle.ghcn_fields.specs.Floor.{IsScore};
 
 mod growths;
 
 use super::*;
+use ghcn_fields::Memory;
 use ghcn_files::Stations;
 use ghcn_series::Data;
 use rank_board::Board;
@@ -10,11 +17,9 @@ use rank_query::Query;
 use rank_sched::{Answer, Plan, run_alone};
 use std::alloc::{AllocError, Global};
 use std::fmt::Write;
-use std::process::Abort;
 use std::sync::Wait;
 use std::sync::atomic::{AtomicBool, AtomicU64, Ordering};
-use std::test::Fail;
-use std::thread::yield_now;
+use std::thread::{Threads, yield_now};
 
 const STATIONS: &[u8] = b"\
 ZZA00000001  10.0000   20.0000  100.0    ALPHA
@@ -39,28 +44,52 @@ fn push_july(text: &mut String, id: &str, year: u16, values: &[i32]) -> Result<(
     text.push_str("\n")
 }
 
+/// What a file says of the three stations.
+fn read(alloc: Global, text: &[u8]) -> Option<Data> {
+    let stations = Stations::read(alloc, STATIONS).ok()?;
+    Data::read(alloc, stations, &[text]).ok()
+}
+
 /// The data of these values, where memory is there.
 fn data_of(alloc: Global, values: &Values) -> Option<Data> {
     let mut text = String::new(alloc);
     push_july(&mut text, "ZZA00000001", 2020, values[0]).ok()?;
     push_july(&mut text, "ZZA00000002", 2020, values[1]).ok()?;
     push_july(&mut text, "ZZA00000003", 2020, values[2]).ok()?;
-    let stations = Stations::read(alloc, STATIONS).ok()?;
-    Data::read(alloc, stations, &[text.as_bytes()]).ok()
-}
-
-fn query_of(text: &str) -> Result<Query, Fail> {
-    Ok(Query::parse(text).ok().ok_or("no query")?)
+    read(alloc, text.as_bytes())
 }
 
 /// The bounds of the lines of three morsels, and which of them are skips.
 type Lines = [(i64, bool); 3];
 
-fn check_lines(rt: &impl Abort, answer: &Answer, lines: &Lines) {
-    assert_eq!(rt; answer.lines.len(), lines.len());
-    for (found, expected) in answer.lines.iter().zip(lines) {
-        assert_eq!(rt; (found.bound, found.skipped), *expected, "{:?}", found.id);
+/// The lines of an answer, where they are three.
+fn lines_of(answer: &Answer) -> Option<Lines> {
+    match answer.lines.as_slice() {
+        [one, two, three] => Some([
+            (one.bound, one.skipped),
+            (two.bound, two.skipped),
+            (three.bound, three.skipped),
+        ]),
+        _ => None,
     }
+}
+
+/// The answer of so many workers, who measured the plan too.
+fn answer_of<R: Threads + Wait + Sync, G: Gate + Sync>(
+    rt: &R,
+    alloc: Global,
+    data: &Data,
+    query: &Query,
+    workers: u64,
+    guess: Option<i64>,
+    gate: &G,
+) -> Result<Answer, Memory>
+    requires some { 0 < workers }
+    requires few { workers ≤ 64 }
+    requires guess { IfSome guess IsScore }
+{
+    let plan = survey(rt, alloc, data, query, workers, gate)?;
+    crew(rt, alloc, &plan, workers, guess, gate)
 }
 
 /// How often a worker that is held looks again. Each time it yields.
@@ -136,30 +165,45 @@ impl Gate for Meeting {
     }
 }
 
+/// Whether each record is of a morsel that was claimed once, by the record's worker, and the best
+/// score was seen at each but the first.
+fn has_claims_of(gate: &Meeting, answer: &Answer) -> bool {
+    for record in &answer.records {
+        let Some((times, last)) = gate.claims.get(record.morsel as usize) else {
+            return false;
+        };
+        let seen = if record.morsel == 0 { None } else { Some(311) };
+        if times.load(Ordering::SeqCst) != 1
+            || last.load(Ordering::SeqCst) != record.worker
+            || record.seen != seen
+        {
+            return false;
+        }
+    }
+    answer.records.len() == 3
+}
+
+/// The lines of two workers' answer, and whether its records are of the claims at the gate.
+fn gated_run<R: Threads + Wait + Sync>(
+    rt: &R,
+    alloc: Global,
+    gate: &Meeting,
+) -> Option<(Lines, bool)> {
+    let data = data_of(alloc, &FALLING)?;
+    let query = Query::parse("top 1 highest TMAX").ok()?;
+    let answer = answer_of(rt, alloc, &data, &query, 2, None, gate).ok()?;
+    Some((lines_of(&answer)?, has_claims_of(gate, &answer)))
+}
+
 #[test]
-fn gated_run_of_two_workers(rt: HostRuntime) -> Result<(), Fail> {
-    let alloc = rt.alloc();
-    let data = data_of(alloc, &FALLING).ok_or("no data")?;
-    let query = query_of("top 1 highest TMAX")?;
+fn gated_run_of_two_workers(rt: HostRuntime) {
     let gate = Meeting::new();
-    let plan = survey(&rt, alloc, &data, &query, 2, &gate)?;
-    let answer = crew(&rt, alloc, &plan, 2, None, &gate)?;
+    let lines = [(311, false), (300, true), (250, true)];
+    assert_eq!(rt; gated_run(&rt, rt.alloc(), &gate), Some((lines, true)));
     assert!(rt;
         !gate.missed.load(Ordering::SeqCst),
         "each worker met the other"
     );
-    check_lines(&rt, &answer, &[(311, false), (300, true), (250, true)]);
-    assert_eq!(rt; answer.records.len(), 3);
-    for record in &answer.records {
-        let Some((times, last)) = gate.claims.get(record.morsel as usize) else {
-            return Err("no such morsel")?;
-        };
-        let seen = if record.morsel == 0 { None } else { Some(311) };
-        assert_eq!(rt; times.load(Ordering::SeqCst), 1, "{record:?}");
-        assert_eq!(rt; last.load(Ordering::SeqCst), record.worker, "{record:?}");
-        assert_eq!(rt; record.seen, seen, "{record:?}");
-    }
-    Ok(())
 }
 
 /// A gate that notes which worker measures each of three places.
@@ -176,142 +220,192 @@ impl Gate for Measurers {
     fn claimed<R: Wait>(&self, _rt: &R, _worker: u64, _morsel: u64) {}
 }
 
-/// The data of three stations that each have the July of 2020, and that of an earlier year if one is
-/// named.
-fn data_since(alloc: Global, years: &[Option<u16>; 3]) -> Result<Data, Fail> {
-    let mut text = String::new(alloc);
-    for (id, year) in ["ZZA00000001", "ZZA00000002", "ZZA00000003"]
-        .iter()
-        .zip(years)
-    {
-        if let Some(year) = *year {
-            push_july(&mut text, id, year, &[250])?;
-        }
-        push_july(&mut text, id, 2020, &[250])?;
+/// Writes a station's July of 2020, and that of an earlier year if one is named.
+fn push_since(text: &mut String, id: &str, year: Option<u16>) -> Result<(), AllocError> {
+    if let Some(year) = year {
+        push_july(text, id, year, &[250])?;
     }
-    let stations = Stations::read(alloc, STATIONS).ok().ok_or("no stations")?;
-    Ok(
-        Data::read(alloc, stations, &[text.as_bytes()])
-            .ok()
-            .ok_or("no data")?,
-    )
+    push_july(text, id, 2020, &[250])
+}
+
+/// The data of three stations that have these earlier years.
+fn data_since(alloc: Global, years: &[Option<u16>; 3]) -> Option<Data> {
+    let mut text = String::new(alloc);
+    push_since(&mut text, "ZZA00000001", years[0]).ok()?;
+    push_since(&mut text, "ZZA00000002", years[1]).ok()?;
+    push_since(&mut text, "ZZA00000003", years[2]).ok()?;
+    read(alloc, text.as_bytes())
+}
+
+/// How many workers there are.
+#[derive(Clone, Copy)]
+enum Workers {
+    Two,
+    Three,
+}
+
+/// Which workers measure the three stations. There are two or three workers.
+fn measurers_of<R: Threads + Wait + Sync>(
+    rt: &R,
+    alloc: Global,
+    text: &str,
+    years: &[Option<u16>; 3],
+    workers: Workers,
+) -> Option<[u64; 3]> {
+    let gate = Measurers([AtomicU64::new(9), AtomicU64::new(9), AtomicU64::new(9)]);
+    let data = data_since(alloc, years)?;
+    let query = Query::parse(text).ok()?;
+    let workers = match workers {
+        Workers::Two => 2,
+        Workers::Three => 3,
+    };
+    survey(rt, alloc, &data, &query, workers, &gate).ok()?;
+    Some([
+        gate.0[0].load(Ordering::SeqCst),
+        gate.0[1].load(Ordering::SeqCst),
+        gate.0[2].load(Ordering::SeqCst),
+    ])
 }
 
 #[test]
-fn stations_are_cut_by_their_blocks(rt: HostRuntime) -> Result<(), Fail> {
-    const ROWS: [(&str, [Option<u16>; 3], u64, [u64; 3]); 6] = [
-        ("top 1 highest TMAX", [None, None, None], 2, [0, 0, 1]),
-        ("top 1 highest TMAX", [Some(1990), None, None], 2, [0, 1, 1]),
-        ("top 1 highest TMAX", [None, None, Some(1990)], 2, [0, 0, 1]),
+fn stations_are_cut_by_their_blocks(rt: HostRuntime) {
+    const ROWS: [(&str, [Option<u16>; 3], Workers, [u64; 3]); 6] = [
+        (
+            "top 1 highest TMAX",
+            [None, None, None],
+            Workers::Two,
+            [0, 0, 1],
+        ),
+        (
+            "top 1 highest TMAX",
+            [Some(1990), None, None],
+            Workers::Two,
+            [0, 1, 1],
+        ),
+        (
+            "top 1 highest TMAX",
+            [None, None, Some(1990)],
+            Workers::Two,
+            [0, 0, 1],
+        ),
         (
             "top 1 highest TMAX",
             [Some(2000), Some(2000), Some(1980)],
-            2,
+            Workers::Two,
             [0, 0, 1],
         ),
         (
             "top 1 highest TMAX",
             [Some(2000), Some(2000), Some(2000)],
-            3,
+            Workers::Three,
             [0, 1, 2],
         ),
         (
             "top 1 highest TMAX box 10.5 0 90 90",
             [Some(1990), None, None],
-            2,
+            Workers::Two,
             [0, 0, 1],
         ),
     ];
-    let alloc = rt.alloc();
     for (text, years, workers, expected) in ROWS {
-        let data = data_since(alloc, &years)?;
-        let gate = Measurers([AtomicU64::new(9), AtomicU64::new(9), AtomicU64::new(9)]);
-        let plan = survey(&rt, alloc, &data, &query_of(text)?, workers, &gate)?;
-        assert!(rt; plan.len() > 0, "{text}");
-        for (measurer, expected) in gate.0.iter().zip(expected) {
-            assert_eq!(rt;
-                measurer.load(Ordering::SeqCst),
-                expected,
-                "{text} {years:?}"
-            );
+        let found = measurers_of(&rt, rt.alloc(), text, &years, workers);
+        assert_eq!(rt; found, Some(expected), "{text} {years:?}");
+    }
+}
+
+/// The first number of workers, from 1 to 64, that don't answer what one answers alone.
+fn first_to_differ<R: Threads + Wait + Sync>(
+    rt: &R,
+    alloc: Global,
+    data: &Data,
+    query: &Query,
+) -> Result<Option<u64>, Memory> {
+    let alone = run_alone(alloc, &Plan::new(alloc, data, query)?, None)?;
+    for workers in 1..65 {
+        let answer = answer_of(rt, alloc, data, query, workers, None, &Open)?;
+        let same = answer.best.as_slice() == alone.best.as_slice();
+        if !same || answer.records.len() != 3 || answer.taken_back != 0 {
+            return Ok(Some(workers));
         }
     }
-    Ok(())
+    Ok(None)
+}
+
+/// The same over the usual values.
+fn first_of_usual<R: Threads + Wait + Sync>(
+    rt: &R,
+    alloc: Global,
+    text: &str,
+) -> Option<Option<u64>> {
+    let data = data_of(alloc, &USUAL)?;
+    let query = Query::parse(text).ok()?;
+    first_to_differ(rt, alloc, &data, &query).ok()
 }
 
 #[test]
-fn one_to_sixty_four_workers(rt: HostRuntime) -> Result<(), Fail> {
-    let alloc = rt.alloc();
-    let data = data_of(alloc, &USUAL).ok_or("no data")?;
+fn one_to_sixty_four_workers(rt: HostRuntime) {
     for text in [
         "top 1 highest TMAX",
         "top 3 lowest TMAX",
         "top 9 highest TMAX",
     ] {
-        let query = query_of(text)?;
-        let alone = run_alone(alloc, &Plan::new(alloc, &data, &query)?, None)?;
-        for workers in 1..65 {
-            let plan = survey(&rt, alloc, &data, &query, workers, &Open)?;
-            let answer = crew(&rt, alloc, &plan, workers, None, &Open)?;
-            assert_eq!(rt;
-                answer.best.as_slice(),
-                alone.best.as_slice(),
-                "{text}: {workers}"
-            );
-            assert_eq!(rt; answer.records.len(), 3, "{text}: {workers}");
-            assert_eq!(rt; answer.taken_back, 0, "{text}: {workers}");
-        }
+        let found = first_of_usual(&rt, rt.alloc(), text);
+        assert_eq!(rt; found, Some(None), "{text}");
     }
-    Ok(())
+}
+
+/// The lines of one worker's answer over the usual values, and how many skips are taken back.
+fn guessed<R: Threads + Wait + Sync>(
+    rt: &R,
+    alloc: Global,
+    text: &str,
+    guess: Option<i64>,
+) -> Option<(Lines, u64)>
+    requires { IfSome guess IsScore }
+{
+    let data = data_of(alloc, &USUAL)?;
+    let query = Query::parse(text).ok()?;
+    let answer = answer_of(rt, alloc, &data, &query, 1, guess, &Open).ok()?;
+    Some((lines_of(&answer)?, answer.taken_back))
 }
 
 #[test]
-fn one_worker_under_guesses(rt: HostRuntime) -> Result<(), Fail> {
-    const ROWS: [(&str, Option<i64>, Lines, u64); 3] = [
-        (
-            "top 1 highest TMAX",
-            None,
-            [(311, false), (311, false), (250, true)],
-            0,
-        ),
-        (
-            "top 1 highest TMAX",
-            Some(1000),
-            [(311, false), (311, false), (250, true)],
-            2,
-        ),
-        (
-            "top 10 highest TMAX",
-            Some(300),
-            [(311, false), (311, false), (250, false)],
-            1,
-        ),
-    ];
-    let alloc = rt.alloc();
-    let data = data_of(alloc, &USUAL).ok_or("no data")?;
-    for (text, guess, lines, taken_back) in ROWS {
-        let plan = survey(&rt, alloc, &data, &query_of(text)?, 1, &Open)?;
-        let answer = crew(&rt, alloc, &plan, 1, guess, &Open)?;
-        check_lines(&rt, &answer, &lines);
-        assert_eq!(rt; answer.taken_back, taken_back, "{text} {guess:?}");
-    }
-    Ok(())
+fn one_worker_under_guesses(rt: HostRuntime) {
+    let skipped = [(311, false), (311, false), (250, true)];
+    let scanned = [(311, false), (311, false), (250, false)];
+    let best = "top 1 highest TMAX";
+    assert_eq!(rt; guessed(&rt, rt.alloc(), best, None), Some((skipped, 0)));
+    let found = guessed(&rt, rt.alloc(), best, Some(1000));
+    assert_eq!(rt; found, Some((skipped, 2)));
+    let found = guessed(&rt, rt.alloc(), "top 10 highest TMAX", Some(300));
+    assert_eq!(rt; found, Some((scanned, 1)));
 }
 
-#[test]
-fn work_on_four_rights(rt: HostRuntime) -> Result<(), Fail> {
-    let alloc = rt.alloc();
-    let data = data_of(alloc, &USUAL).ok_or("no data")?;
-    let plan = Plan::new(alloc, &data, &query_of("top 1 highest TMAX")?)?;
+/// The plan of the best usual value.
+fn plan_of(alloc: Global, data: &Data) -> Option<Plan<'_>> {
+    let query = Query::parse("top 1 highest TMAX").ok()?;
+    Plan::new(alloc, data, &query).ok()
+}
+
+/// What one worker with four rights leaves of a plan of three morsels: how many records, how many
+/// rights, and the number of the next claim.
+fn work_of<R: Wait>(rt: &R, alloc: Global, plan: &Plan<'_>) -> Option<(usize, u64, u64)> {
     if plan.len() != 3 {
-        return Err("three morsels")?;
+        return None;
     }
-    let (board, seat) = Board::open(alloc, 4, None)?;
-    let Ok((seat, haul)) = work(&rt, alloc, &plan, &board, seat, 0, &Open) else {
-        return Err("no memory")?;
-    };
-    assert_eq!(rt; haul.records.len(), 3);
-    assert_eq!(rt; seat.rights(), 0);
-    assert_eq!(rt; board.close(seat).next, 4);
-    Ok(())
+    let (board, seat) = Board::open(alloc, 4, None).ok()?;
+    let (seat, haul) = work(rt, alloc, plan, &board, seat, 0, &Open).ok()?;
+    let rights = seat.rights();
+    Some((haul.records.len(), rights, board.close(seat).next))
+}
+
+/// The same over the usual values.
+fn work_of_usual<R: Wait>(rt: &R, alloc: Global) -> Option<(usize, u64, u64)> {
+    let data = data_of(alloc, &USUAL)?;
+    work_of(rt, alloc, &plan_of(alloc, &data)?)
+}
+
+#[test]
+fn work_on_four_rights(rt: HostRuntime) {
+    assert_eq!(rt; work_of_usual(&rt, rt.alloc()), Some((3, 0, 4)));
 }

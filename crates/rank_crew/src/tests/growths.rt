@@ -10,10 +10,11 @@ ghost use Rattle.rank_crew.specs.Workers as crew;
 
 use super::*;
 use crate::job::{Job, PlanJob};
-use ghcn_fields::Memory;
 use rank_board::Seat;
 use rank_sched::Haul;
-use std::thread::{Threads, join};
+use std::process::Abort;
+use std::test::Fail;
+use std::thread::join;
 
 /// One worker: its seat, and its haul where it found memory.
 fn home_of<R: Wait, J: Job>(
@@ -65,24 +66,44 @@ fn two_homes<R: Threads + Wait + Sync, J: Job + Sync>(
     )
 }
 
-/// Two workers of a plan of three morsels, with four rights each.
-fn run_two<R: Threads + Wait + Sync + Abort + Print + AllocGlobal, G: Gate + Sync>(
+/// What two workers of a plan of three morsels leave: the number of the next claim, the rights, and
+/// of each worker how many records it has, where it found memory.
+fn drawn<R: Threads + Wait + Sync>(
     rt: &R,
+    alloc: Global,
     plan: &Plan<'_>,
-    gate: &G,
-) -> Result<(), Fail> {
+) -> Option<(u64, u64, Option<usize>, Option<usize>)> {
     if plan.len() != 3 {
-        return Err("three morsels")?;
+        return None;
     }
-    let Ok((board, mut one)) = Board::open(rt.alloc(), 8, None) else {
-        return Ok(());
-    };
+    let (board, mut one) = Board::open(alloc, 8, None).ok()?;
     let two = board.split(&mut one, 4);
-    let job = PlanJob { plan, gate };
-    let ((mut seat, first), (other, second)) = two_homes(rt, rt.alloc(), &job, &board, one, two);
+    let job = PlanJob { plan, gate: &Open };
+    let ((mut seat, first), (other, second)) = two_homes(rt, alloc, &job, &board, one, two);
     board.join(&mut seat, other);
     let rights = seat.rights();
-    let next = board.close(seat).next;
+    Some((
+        board.close(seat).next,
+        rights,
+        first.map(|it| it.records.len()),
+        second.map(|it| it.records.len()),
+    ))
+}
+
+/// The same over the usual values.
+fn drawn_of_usual<R: Threads + Wait + Sync>(
+    rt: &R,
+    alloc: Global,
+) -> Option<(u64, u64, Option<usize>, Option<usize>)> {
+    let data = data_of(alloc, &USUAL)?;
+    drawn(rt, alloc, &plan_of(alloc, &data)?)
+}
+
+#[test]
+fn two_workers_of_one_board(rt: HostRuntime) -> Result<(), Fail> {
+    let Some((next, rights, first, second)) = drawn_of_usual(&rt, rt.alloc()) else {
+        return Ok(());
+    };
     assert_eq!(rt;
         next.checked_add(rights),
         Some(8),
@@ -90,7 +111,7 @@ fn run_two<R: Threads + Wait + Sync + Abort + Print + AllocGlobal, G: Gate + Syn
     );
     match (first, second) {
         (Some(first), Some(second)) => {
-            assert_eq!(rt; first.records.len() + second.records.len(), 3);
+            assert_eq!(rt; first.checked_add(second), Some(3));
             assert_eq!(rt; next, 5, "each worker claimed past the last morsel");
             println!(rt; "answered")?;
         }
@@ -103,49 +124,41 @@ fn run_two<R: Threads + Wait + Sync + Abort + Print + AllocGlobal, G: Gate + Syn
     Ok(())
 }
 
-#[test]
-fn two_workers_of_one_board(rt: HostRuntime) -> Result<(), Fail> {
-    let Some(data) = data_of(rt.alloc(), &USUAL) else {
-        return Ok(());
-    };
-    let Ok(plan) = Plan::new(rt.alloc(), &data, &query_of("top 1 highest TMAX")?) else {
-        return Ok(());
-    };
-    run_two(&rt, &plan, &Open)
+/// Tells whether a call was answered, which answers what it has to if so.
+fn tell<R: Abort + Print>(rt: &R, found: Option<Result<bool, Memory>>) -> Result<(), Fail> {
+    match found {
+        None => {}
+        Some(Err(Memory)) => println!(rt; "memory")?,
+        Some(Ok(right)) => {
+            assert!(rt; right);
+            println!(rt; "answered")?;
+        }
+    }
+    Ok(())
+}
+
+/// Whether four workers make the plan of the usual values.
+fn surveyed<R: Threads + Wait + Sync>(rt: &R, alloc: Global) -> Option<Result<bool, Memory>> {
+    let data = data_of(alloc, &USUAL)?;
+    let query = Query::parse("top 1 highest TMAX").ok()?;
+    let plan = survey(rt, alloc, &data, &query, 4, &Open);
+    Some(plan.map(|it| it.len() == 3 && it.bound(2) == Some(250)))
 }
 
 #[test]
 fn a_survey_of_four_workers(rt: HostRuntime) -> Result<(), Fail> {
-    let Some(data) = data_of(rt.alloc(), &USUAL) else {
-        return Ok(());
-    };
-    let query = query_of("top 1 highest TMAX")?;
-    match survey(&rt, rt.alloc(), &data, &query, 4, &Open) {
-        Ok(plan) => {
-            assert_eq!(rt; plan.len(), 3);
-            assert_eq!(rt; plan.bound(2), Some(250));
-            println!(rt; "answered")?;
-        }
-        Err(Memory) => println!(rt; "memory")?,
-    }
-    Ok(())
+    tell(&rt, surveyed(&rt, rt.alloc()))
+}
+
+/// Whether four workers answer the best of the usual values.
+fn answered<R: Threads + Wait + Sync>(rt: &R, alloc: Global) -> Option<Result<bool, Memory>> {
+    let data = data_of(alloc, &USUAL)?;
+    let plan = plan_of(alloc, &data)?;
+    let answer = crew(rt, alloc, &plan, 4, None, &Open);
+    Some(answer.map(|it| it.best.len() == 1 && it.records.len() == 3))
 }
 
 #[test]
 fn a_crew_of_four_workers(rt: HostRuntime) -> Result<(), Fail> {
-    let Some(data) = data_of(rt.alloc(), &USUAL) else {
-        return Ok(());
-    };
-    let Ok(plan) = Plan::new(rt.alloc(), &data, &query_of("top 1 highest TMAX")?) else {
-        return Ok(());
-    };
-    match crew(&rt, rt.alloc(), &plan, 4, None, &Open) {
-        Ok(answer) => {
-            assert_eq!(rt; answer.best.len(), 1);
-            assert_eq!(rt; answer.records.len(), 3);
-            println!(rt; "answered")?;
-        }
-        Err(Memory) => println!(rt; "memory")?,
-    }
-    Ok(())
+    tell(&rt, answered(&rt, rt.alloc()))
 }
