@@ -29,7 +29,7 @@ use Rattle.rank_sched.proofs.Totals.{range-push}
 -- ---- morsels that have one record each
 
 -- how often a number stands in a list with one more in front
-times-cons : (x y : ℕ) (ys : List ℕ) → times x (y ∷ ys) ≡ one_if_equal y x + times x ys
+pub times-cons : (x y : ℕ) (ys : List ℕ) → times x (y ∷ ys) ≡ one_if_equal y x + times x ys
 times-cons x y ys = sum_by-cons (λ z. one_if_equal z x) y ys
 
 -- a list and a number in it
@@ -126,7 +126,7 @@ abbrev skip_part : Task → List Record → ℕ → List Candidate
 skip_part t rs n = cond (was_skipped rs n) (t.candidates n) []
 
 -- a morsel without a record wasn't passed over
-not_skipped : (n : ℕ) (rs : List Record) → times n (morsels_of rs) ≡ 0 → was_skipped rs n ≡ false
+pub not_skipped : (n : ℕ) (rs : List Record) → times n (morsels_of rs) ≡ 0 → was_skipped rs n ≡ false
 not_skipped n [] e = refl
 not_skipped n (r ∷ rs) e = elim (cases_eq r.morsel n) [
   | inl same ↦ absurd (omega (arith, e, times-cons n r.morsel (morsels_of rs), one_if_equal-equal r.morsel n same))
@@ -192,7 +192,7 @@ known_suc t n (r ∷ rs) few = elim (cases_eq r.morsel n) [
 -- ---- what is taken back
 
 -- a number counts once or not at all among those below n
-below_few : (x n : ℕ) → times_below x n ≤ 1
+pub below_few : (x n : ℕ) → times_below x n ≤ 1
 below_few x n = grind arith
 
 module _ (t : Task) (rs : List Record) (fair : IsFair t) (once : HasEachBelow t.len (morsels_of rs)) where

@@ -9,6 +9,8 @@ pub mod Ends
 pub mod Counted
 pub mod Finished
 pub mod OneList
+pub mod OneWay
+pub mod ScanLines
 pub mod PlanBest
 pub mod Measures
 pub mod PlanOrder

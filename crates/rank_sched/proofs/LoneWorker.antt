@@ -1,8 +1,9 @@
 -- A run with one worker: of each morsel a claim, a look and a settle, and then a last claim.
-use Rattle.std.proofs.Common.{◌≡◌, ℕ, suc, ◌+◌, ◌<◌, ◌≤◌, Bool, true, false, cond, List, [], ◌∷◌, length, Option, Some}
-use Rattle.std.proofs.Common.{None, Result, Ok, Err, IfOk, refl, sym, ap, ◌∙◌, subst, arith, ℤ}
+use Rattle.std.proofs.Common.{◌≡◌, ℕ, suc, ◌+◌, ◌<◌, ◌≤◌, Bool, true, false, cond, List, [], ◌∷◌, ◌++◌, length, Option}
+use Rattle.std.proofs.Common.{Some, None, Result, Ok, Err, IfOk, refl, sym, ap, ◌∙◌, subst, arith, ℤ}
 use Rattle.std.specs.Prelude.{◌&&◌, not, nat_lt, slice_get, slice_set}
 use Rattle.std.specs.List.{list_all, AllZip}
+use Rattle.rank_sched.specs.declared.record.Record.{Record}
 use Rattle.rank_sched.specs.declared.haul.Haul.{Haul}
 use Rattle.rank_sched.specs.declared.answer.Answer.{Answer}
 use Rattle.rank_sched.specs.declared.event.Event.{Event}
@@ -13,8 +14,9 @@ use Rattle.rank_sched.specs.Plan.{Planned}
 use Rattle.rank_sched.specs.Task.{Task, task_of}
 use Rattle.rank_sched.specs.Machine.{Worker, worker_of, is_awaited, refusal, drawn, has_stopped, all_stopped}
 use Rattle.rank_sched.specs.Hauls.{records_of, all_records, AreSound, AreUnderFloor, AreHaulsOf}
-use Rattle.rank_sched.specs.Run.{Running, new_run, is_stopped, Steps}
-use Rattle.rank_sched.specs.Answers.{IsAnswer, IsAnswerOfCrew}
+use Rattle.rank_sched.specs.Run.{Running, new_run, is_stopped, Steps, IsReplayed}
+use Rattle.rank_sched.proofs.Replays.{replayed-push}
+use Rattle.rank_sched.specs.Answers.{IsAnswer, IsAnswerOfCrew, AreRecordsAlone, records_in}
 use Rattle.rank_sched.proofs.Machines.{not_refused}
 use Rattle.rank_sched.proofs.MachineSteps.{set-length}
 
@@ -26,6 +28,8 @@ pub record Awaits (p : Planned) (guess : Option ℤ) (n : ℕ) (e : Event) (m : 
   pub one : length m.state.workers ≡ 1
   pub next : m.state.next ≡ n
   pub accepted : refusal m.state e ≡ None
+  pub events : List Event
+  pub replayed : IsReplayed p 1 guess events m
 
 -- at the start it claims
 pub awaits_first : (p : Planned) (guess : Option ℤ) → Awaits p guess 0 (Claim 0) (new_run p 1 guess)
@@ -37,6 +41,8 @@ awaits_first p guess = record {
   next = refl;
   accepted =
       refl;
+  events = [];
+  replayed = record { running = refl; reached = refl; plan = refl; guessed = refl };
 }
 
 -- the first of some workers is the one that was put there
@@ -62,6 +68,8 @@ awaits_next p guess n n' e e' m m' v own own' a s set turn next =
       one = ap length put ∙ set-length m.state.workers 0 v ∙ a.one;
       next = next;
       accepted = not_refused m'.state e' (record { worker = v; here = here; awaited = turn });
+      events = a.events ++ e ∷ [];
+      replayed = replayed-push p 1 guess a.events e m m' a.replayed s;
     }
 
 -- what is below a number
@@ -111,18 +119,23 @@ one_stopped [] v e h = absurd (omega (arith, e))
 one_stopped (w ∷ []) v e h = ap (λ (b : Bool). b && true) h
 one_stopped (w ∷ x ∷ vs) v e h = absurd (omega (arith, e))
 
--- the last claim stops the machine
-pub last_claim : (p : Planned) (guess : Option ℤ) (n : ℕ) (m m' : Running) → length p.morsels ≤ n
-    → Awaits p guess n (Claim 0) m → Steps m (Claim 0) m' → is_stopped m' ≡ true
-last_claim p guess n m m' le a s =
+-- with the last claim all have stopped
+last_stops : (p : Planned) (guess : Option ℤ) (n : ℕ) (m m' : Running) → length p.morsels ≤ n
+    → Awaits p guess n (Claim 0) m → Steps m (Claim 0) m' → all_stopped m'.state.workers ≡ true
+last_stops p guess n m m' le a s =
     let past : length m.plan.morsels ≤ m.state.next =
     subst (λ (x : Planned). length x.morsels ≤ m.state.next) (sym a.plan) (omega (arith, le, a.next)) in
     let stop : has_stopped s.step.after.turn ≡ true = ap has_stopped s.step.does.turn
     ∙ drawn_stops (task_of m.plan) m.state.next past in
-    let all : all_stopped m'.state.workers ≡ true = ap (list_all (λ (w : Worker). has_stopped w.turn)) s.step.others
-    ∙ one_stopped m.state.workers s.step.after a.one stop in
+    ap (list_all (λ (w : Worker). has_stopped w.turn)) s.step.others
+    ∙ one_stopped m.state.workers s.step.after a.one stop
+
+-- so it stops the machine
+pub last_claim : (p : Planned) (guess : Option ℤ) (n : ℕ) (m m' : Running) → length p.morsels ≤ n
+    → Awaits p guess n (Claim 0) m → Steps m (Claim 0) m' → is_stopped m' ≡ true
+last_claim p guess n m m' le a s =
     let sound : m'.failed ≡ false = ap (λ (x : Running). x.failed) s.kept ∙ a.running in
-    ap (λ (b : Bool). not b && all_stopped m'.state.workers) sound ∙ all
+    ap (λ (b : Bool). not b && all_stopped m'.state.workers) sound ∙ last_stops p guess n m m' le a s
 
 -- as many hauls as workers
 hauls_number : (hs : List Haul) (vs : List Worker)
@@ -165,3 +178,25 @@ pub lone_result : {E : Type 0} (p : Planned) (guess : Option ℤ) (n : ℕ) (m m
 lone_result p guess n m m' hs (Ok answer) a s hauls sound under is =
     lone_answer p guess n m m' hs answer a s hauls sound under is
 lone_result p guess n m m' hs (Err why) a s hauls sound under is = tt
+
+-- the records of hauls are those of their workers
+haul_records : (vs : List Worker) (hs : List Haul) → AreHaulsOf vs hs → all_records hs ≡ records_in vs
+haul_records [] [] z = refl
+haul_records [] (h ∷ hs) z = absurd z
+haul_records (v ∷ vs) [] z = absurd z
+haul_records (v ∷ vs) (h ∷ hs) z = ap (λ (l : List Record). l ++ all_records hs) z.0.0
+    ∙ ap (λ (l : List Record). v.records ++ l) (haul_records vs hs z.1)
+
+-- the one worker's records are those of its run to the end
+pub lone_records : {E : Type 0} (p : Planned) (guess : Option ℤ) (n : ℕ) (m m' : Running) (hs : List Haul)
+    (r : Result Answer E) → length p.morsels ≤ n → Awaits p guess n (Claim 0) m → Steps m (Claim 0) m'
+    → AreHaulsOf m'.state.workers hs → IfOk r (IsAnswer p (all_records hs))
+    → IfOk r (λ answer. AreRecordsAlone (task_of p) guess answer.records.items)
+lone_records p guess n m m' hs (Ok answer) past a s hauls is = record {
+  events = a.events ++ Claim 0 ∷ [];
+  state = m'.state;
+  reached = (replayed-push p 1 guess a.events (Claim 0) m m' a.replayed s).reached;
+  stopped = last_stops p guess n m m' past a s;
+  records_are = is.records_are ∙ haul_records m'.state.workers hs hauls;
+}
+lone_records p guess n m m' hs (Err why) past a s hauls is = tt

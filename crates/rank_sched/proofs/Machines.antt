@@ -124,7 +124,8 @@ same_worker : (v w : Worker) → v.turn ≡ w.turn → v.claims ≡ w.claims →
 same_worker v w a b c d = λ i. record { turn = a i; claims = b i; records = c i; pool = d i }
 
 -- what a step of a worker in this turn does is what is computed
-does_awaited : (t : Task) (e : Event) (s s' : State) (v v' : Worker) → Does t e s s' v v' → is_awaited v.turn e ≡ true
+pub does_awaited : (t : Task) (e : Event) (s s' : State) (v v' : Worker) → Does t e s s' v v'
+    → is_awaited v.turn e ≡ true
 does_awaited t (Claim w) s s' v v' d = ap (λ (x : Turn). is_awaited x (Claim w)) d.idle
 does_awaited t (Look w) s s' v v' d = ap (λ (x : Turn). is_awaited x (Look w)) d.claimed
 does_awaited t (Settle w) s s' v v' d = ap (λ (x : Turn). is_awaited x (Settle w)) d.looked

@@ -1,6 +1,6 @@
 -- The answer that is made of the records of a run.
-use Rattle.std.specs.Prelude.{◌≡◌, ℕ, List, length, map, Option, ℤ}
-use Rattle.std.specs.List.{enumerate_from}
+use Rattle.std.specs.Prelude.{◌≡◌, ℕ, true, List, length, map, Option, ℤ}
+use Rattle.std.specs.List.{enumerate_from, flat_map}
 use Rattle.ghcn_fields.specs.Sorting.{sorted_by}
 use Rattle.rank_scores.specs.declared.candidate.Candidate.{Candidate}
 use Rattle.rank_scores.specs.Order.{best}
@@ -13,7 +13,9 @@ use Rattle.rank_sched.specs.declared.line.Line.{Line}
 use Rattle.rank_sched.specs.declared.haul.Haul.{Haul}
 use Rattle.rank_sched.specs.declared.answer.Answer.{Answer}
 use Rattle.rank_sched.specs.Plan.{Morsel, Planned, planned}
-use Rattle.rank_sched.specs.Task.{task_of, all_of_task}
+use Rattle.rank_sched.specs.Task.{Task, task_of, all_of_task}
+use Rattle.rank_sched.specs.declared.event.Event.{Event}
+use Rattle.rank_sched.specs.Machine.{Worker, State, Reaches, all_stopped}
 use Rattle.rank_sched.specs.Hauls.{all_records, AreSound, AreUnderFloor}
 use Rattle.rank_sched.specs.TakingBack.{stays, taken_back}
 
@@ -56,3 +58,15 @@ pub record IsAnswerOfCrew (p : Planned) (guess : Option ℤ) (workers : ℕ) (a 
   pub sound : AreSound (task_of p) hauls
   pub under_floor : AreUnderFloor (task_of p) guess hauls floor
   pub answer : IsAnswer p (all_records hauls) a
+
+-- the records of some workers, worker after worker
+abbrev pub records_in : List Worker → List Record
+records_in vs = flat_map (λ v. v.records) vs
+
+-- the records are those of the run that one worker makes from the start to its end, under a guess or none
+pub record AreRecordsAlone (t : Task) (guess : Option ℤ) (rs : List Record) : Type 0 where
+  pub events : List Event
+  pub state : State
+  pub reached : Reaches t 1 guess events state
+  pub stopped : all_stopped state.workers ≡ true
+  pub records_are : rs ≡ records_in state.workers

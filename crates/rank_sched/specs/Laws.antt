@@ -1,8 +1,8 @@
 -- What plans, runs and answers are worth. Each is a statement for the contract of a public function.
-use Rattle.std.specs.Prelude.{◌≡◌, ◌↔◌, ℕ, ◌+◌, ◌*◌, ◌<◌, ◌≤◌, Bool, true, false, List, [], ◌∷◌, ◌++◌, length, Option}
-use Rattle.std.specs.Prelude.{None, Result, ℤ, ◌≤ℤ◌, int_lt, All, count_by, IfSome, IsSomeAnd}
+use Rattle.std.specs.Prelude.{◌≡◌, ◌↔◌, ◌⊎◌, ℕ, ◌+◌, ◌*◌, ◌<◌, ◌≤◌, Bool, true, false, List, [], ◌∷◌, ◌++◌, length}
+use Rattle.std.specs.Prelude.{Option, None, Some, Result, ℤ, ◌≤ℤ◌, slice_get, int_lt, All, count_by, IfSome, IsSomeAnd}
 use Rattle.std.specs.List.{AllByRecursion}
-use Rattle.ghcn_fields.specs.Counting.{times}
+use Rattle.ghcn_fields.specs.Counting.{times, HasEachBelow}
 use Rattle.ghcn_fields.specs.Floor.{IsAtLeast}
 use Rattle.ghcn_series.specs.Series.{Contents}
 use Rattle.ghcn_series.specs.Held.{IsContents}
@@ -16,7 +16,7 @@ use Rattle.rank_sched.specs.declared.haul.Haul.{Haul}
 use Rattle.rank_sched.specs.declared.event.Event.{Event}
 use Rattle.rank_sched.specs.declared.event.Event.TheVariants.{Claim, Look, Settle}
 use Rattle.rank_sched.specs.declared.event.StepFault.{StepFault}
-use Rattle.rank_sched.specs.Plan.{Planned, planned, IsPlanOf, IsPlan}
+use Rattle.rank_sched.specs.Plan.{Morsel, Planned, planned, IsPlanOf, IsPlan}
 use Rattle.rank_sched.specs.Task.{Task, task_of, all_of_task, IsFair}
 use Rattle.rank_sched.specs.Exchanges.{Exchange, morsels_of, scanned, IsRightSkip, exchange, raised_in, seen_in}
 use Rattle.rank_sched.specs.Exchanges.{SeeUpward}
@@ -25,8 +25,8 @@ use Rattle.rank_sched.specs.Run.{Running, IsAnswered, IsOfMemory, is_stopped, Ha
 use Rattle.rank_sched.specs.SoundRun.{AreSoundFrom, IsSoundState, IsSoundEnd, all_exchanges, claims_in}
 use Rattle.rank_sched.specs.Hauls.{records_of, all_records, exchanges_in, turns_of, IsHaulOf, AreSound, AreUnderFloor}
 use Rattle.rank_sched.specs.Hauls.{AreHaulsOf, AreSoundRecords}
-use Rattle.rank_sched.specs.TakingBack.{was_skipped, is_justified, stays, taken_back, back_below}
-use Rattle.rank_sched.specs.Answers.{best_of_plan}
+use Rattle.rank_sched.specs.TakingBack.{was_skipped, is_justified, stays, is_taken_back, taken_back, back_below}
+use Rattle.rank_sched.specs.Answers.{best_of_plan, line_of, AreRecordsAlone}
 
 -- ---- plans
 
@@ -98,6 +98,16 @@ EventsAreCounted = (t : Task) (workers : ℕ) (guess : Option ℤ) (es : List Ev
 abbrev pub OneWorkerHasNoChoice : Type 0
 OneWorkerHasNoChoice = (s : State) (e e' : Event) → length s.workers ≡ 1 → refusal s e ≡ None → refusal s e' ≡ None
     → e ≡ e'
+
+-- so a run of one worker that ends stopped has one list of events and one end
+abbrev pub OneWorkerEndsOneWay : Type 0
+OneWorkerEndsOneWay = (t : Task) (guess : Option ℤ) (es es' : List Event) (s s' : State) → Reaches t 1 guess es s
+    → all_stopped s.workers ≡ true → Reaches t 1 guess es' s' → all_stopped s'.workers ≡ true → (es ≡ es') × (s ≡ s')
+
+-- so two lists of records that one worker makes under one guess are the same
+abbrev pub RecordsAloneAreOne : Type 0
+RecordsAloneAreOne = (t : Task) (guess : Option ℤ) (rs rs' : List Record) → AreRecordsAlone t guess rs
+    → AreRecordsAlone t guess rs' → rs ≡ rs'
 
 -- a machine that failed answers want of memory to each event, stays as it is, and isn't stopped
 abbrev pub FailedStaysFailed : Type 0
@@ -200,3 +210,11 @@ SkipsStayOnwards = (t : Task) (rs : List Record) (m n : ℕ) → IsFair t → m 
 abbrev pub RecordsAreSound : Type 0
 RecordsAreSound = (t : Task) (guess : Option ℤ) (hs : List Haul) (floor : Option ℤ) → AreSound t hs
     → AreUnderFloor t guess hs floor → AreSoundRecords t guess (length hs) (all_records hs)
+
+-- a line is a scan exactly where its morsel's record is no skip or the morsel is taken back, and never are both so
+abbrev pub ScansHaveOneCause : Type 0
+ScansHaveOneCause = (p : Planned) (rs : List Record) (i : ℕ) (r : Record) (x : Morsel)
+    → HasEachBelow (length p.morsels) (morsels_of rs) → slice_get rs i ≡ Some r →
+    (((line_of p rs (r.morsel, x)).skipped ≡ false)
+    ↔ ((r.skipped ≡ false) ⊎ (is_taken_back (task_of p) rs r.morsel ≡ true)))
+    × (¬ ((r.skipped ≡ false) × (is_taken_back (task_of p) rs r.morsel ≡ true)))

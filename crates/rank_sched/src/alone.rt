@@ -2,9 +2,10 @@
 
 ghost use Rattle.std.specs.Prelude.{◌≡◌, None, IfOk, IfSome};
 ghost use Rattle.ghcn_fields.specs.Floor.{IsScore};
-ghost use Rattle.rank_sched.specs.Answers.{IsAnswerOfCrew, AreBestOfQuery};
+ghost use Rattle.rank_sched.specs.Answers.{IsAnswerOfCrew, AreRecordsAlone, AreBestOfQuery};
 ghost use Rattle.rank_sched.specs.Machine.{refusal};
 ghost use Rattle.rank_sched.specs.Run.{Steps};
+ghost use Rattle.rank_sched.specs.Task.{task_of};
 
 use crate::{Answer, Event, Machine, Plan, StepFault, finish};
 use ghcn_fields::Memory;
@@ -14,6 +15,7 @@ use std::alloc::Global;
 pub fn run_alone(alloc: Global, plan: &Plan<'_>, guess: Option<i64>) -> Result<Answer, Memory>
     requires { IfSome guess IsScore }
     ensures answer { IfOk result (IsAnswerOfCrew plan.now guess 1) }
+    ensures alone { IfOk result (λ answer. AreRecordsAlone (task_of plan.now) guess answer.records.items) }
     ensures best { IfOk result (λ answer. AreBestOfQuery plan.now answer.best.items) }
 {
     let mut machine = Machine::new(alloc, plan, 1, guess)?;

@@ -2,11 +2,13 @@
 
 ghost use Rattle.rank_sched.specs.Laws as laws;
 
-/// Every event that isn't refused leads to one state, runs are sound from the start on, and a
-/// machine that failed stays failed.
+/// Every event that isn't refused leads to one state, one worker ends in one way, runs are sound
+/// from the start on, and a machine that failed stays failed.
 pub fn runs_are_sound()
     ensures steps { laws.StepsAreComputed }
     ensures choice { laws.OneWorkerHasNoChoice }
+    ensures way { laws.OneWorkerEndsOneWay }
+    ensures records { laws.RecordsAloneAreOne }
     ensures sound { laws.RunsAreSound }
     ensures seen { laws.SeenIsAtMost }
     ensures failed { laws.FailedStaysFailed }
@@ -35,11 +37,13 @@ pub fn workers_join()
     ensures turns { laws.TurnsJoin }
 {}
 
-/// Sound hauls are right, whatever the guess, and nothing is taken back where the guess is low.
+/// Sound hauls are right, whatever the guess, and nothing is taken back where the guess is low. A
+/// line is a scan for one cause: its morsel wasn't passed over, or was taken back.
 pub fn hauls_are_right()
     ensures raised { laws.RaisedIsReached }
     ensures skips { laws.SkipsAreRight }
     ensures back { laws.NoneIsTakenBack }
+    ensures scans { laws.ScansHaveOneCause }
     ensures onwards { laws.SkipsStayOnwards }
     ensures best { laws.BestAreThere }
     ensures pool { laws.PoolDecides }

@@ -1,7 +1,7 @@
 use Rattle.std.proofs.Common.{◌<◌, ◌≤◌, length, sym, subst, arith}
 use Rattle.rank_sched.specs.declared.event.Event.TheVariants.{Claim}
 use Rattle.rank_sched.proofs.LoneWorker.{Awaits, awaits_first, awaits_look, awaits_settle, awaits_claim, last_claim}
-use Rattle.rank_sched.proofs.LoneWorker.{lone_sound, lone_result}
+use Rattle.rank_sched.proofs.LoneWorker.{lone_sound, lone_result, lone_records}
 use Rattle.rank_sched.proofs.PlanBest.{best_of_answer}
 use Rattle.rank_sched.proofs.alone.run_alone.Goals as goal
 
@@ -59,5 +59,9 @@ returns c = record {
   answer = lone_result c.args.plan.now c.args.guess c.loop.counter _ _ c.hauls.result.items _ c.loop.invariant
       c.in_ok-advance-4.ensures c.hauls.ensures.hauls c.hauls.ensures.sound c.hauls.ensures.under_floor
       c.finish.ensures;
+  alone =
+      let past : length c.args.plan.now.morsels ≤ c.loop.counter = omega arith in
+      lone_records c.args.plan.now c.args.guess c.loop.counter _ _ c.hauls.result.items _ past c.loop.invariant
+      c.in_ok-advance-4.ensures c.hauls.ensures.hauls c.finish.ensures;
   best = best_of_answer c.args.plan.now _ c.finish.result c.finish.ensures;
 }

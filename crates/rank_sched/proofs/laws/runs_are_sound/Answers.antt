@@ -1,4 +1,5 @@
 use Rattle.rank_sched.proofs.Machines.{steps_computed, one_worker, failed_stays}
+use Rattle.rank_sched.proofs.OneWay.{ends_one_way, one_list}
 use Rattle.rank_sched.proofs.SoundSteps.{runs_sound}
 use Rattle.rank_sched.proofs.OneList.{seen_at_most}
 use Rattle.rank_sched.proofs.laws.runs_are_sound.Goals as goal
@@ -10,6 +11,14 @@ returns-clause-steps c = steps_computed
 -- with one worker at most one event is accepted
 pub returns-clause-choice : goal.returns-clause-choice
 returns-clause-choice c = one_worker
+
+-- so a run of one worker that ends stopped ends in one way
+pub returns-clause-way : goal.returns-clause-way
+returns-clause-way c = ends_one_way
+
+-- and its records are one list
+pub returns-clause-records : goal.returns-clause-records
+returns-clause-records c = one_list
 
 -- the start is sound, and a step keeps it so
 pub returns-clause-sound : goal.returns-clause-sound
