@@ -1,9 +1,11 @@
 -- The end of an intake.
-use Rattle.std.proofs.Common.{◌≡◌, ℕ, Bool, true, List, [], ◌++◌, sym, ap, ◌∙◌, subst}
-use Rattle.std.specs.Prelude.{◌↔◌, Result, Ok}
+use Rattle.std.proofs.Common.{◌≡◌, ◌<◌, ◌≤◌, ℕ, Bool, true, List, [], ◌++◌, sym, ap, ◌∙◌, subst, map, Option, ℤ}
+use Rattle.std.specs.Prelude.{◌↔◌, Result, Ok, Err, IfOk}
+use Rattle.ghcn_fields.specs.Sorting.{sorted_by}
+use Rattle.ghcn_files.specs.declared.station.Station.{Station}
 use Rattle.std.proofs.lemmas.List.{append-nil}
 use Rattle.ghcn_series.specs.declared.fault.DataFault.{DataFault}
-use Rattle.ghcn_series.specs.Series.{Contents}
+use Rattle.ghcn_series.specs.Series.{Contents, Usable}
 use Rattle.ghcn_series.specs.Fed.{and_current}
 use Rattle.ghcn_series.specs.Pieces.{HoldsFed}
 use Rattle.rank_query.specs.Asked.{Asked}
@@ -13,13 +15,16 @@ use Rattle.extremes.specs.declared.intake.Opened.{Opened}
 use Rattle.extremes.specs.declared.intake.Course.{Course}
 use Rattle.extremes.specs.declared.intake.Course.TheVariants.{Reading, Refused}
 use Rattle.ghcn_fields.specs.Refusals.{IsRefusal}
-use Rattle.extremes.specs.Input.{then_read, of_data, is_memory}
+use Rattle.extremes.specs.Input.{then_read, of_data, is_memory, is_crew}
+use Rattle.extremes.specs.Taken.{HasTaken, CrewsInput, SerialInput}
 use Rattle.extremes.specs.Taken.{Input, fed_of, given_files, told, GoesOn, Decides, IsReading, HasCourse}
 use Rattle.extremes.specs.Taken.{HoldsInput, RefusesInput, CountsFiles, DataRefuses, read_given}
 use Rattle.extremes.specs.Taken.{AnswersInput, JudgesInput}
-use Rattle.extremes.specs.Answer.{ArePapers}
+use Rattle.extremes.specs.Answer.{ArePapers, IsOfCrew, IsCrewed, IsOfOneWorker}
+use Rattle.rank_sched.specs.Plan.{Planned, planned, measured, is_drawn_first}
+use Rattle.extremes.proofs.Crews.{few_workers}
 use Rattle.extremes.specs.declared.papers.Papers.{Papers}
-use Rattle.rank_scores.specs.OneElement.{data_for}
+use Rattle.rank_scores.specs.OneElement.{data_for, MorselsStay}
 use Rattle.rank_papers.specs.OneElement.{ReportStays, CertificateStays, MeasuredStays}
 use Rattle.rank_papers.specs.Report.{IsReport}
 use Rattle.rank_papers.specs.Certificate.{IsCertificate}
@@ -139,5 +144,65 @@ answers_input t query held papers reports certificates holds are = record {
         held = input.whole;
         read = without_workers i.workers i.guess i.query i.stations (given_files i) (query, input.whole) input.read_is;
         right = papers_for query held input.whole papers reports certificates input.needed are;
+      };
+}
+
+-- a plan of these series
+abbrev plan_of : Asked → List Station → List Usable → Planned
+plan_of q stations series = record {
+  query = q;
+  stations = stations;
+  morsels = sorted_by is_drawn_first (map (measured q) series);
+}
+
+-- the plan of what a query needs of some data is that of these data
+plan_for : (q : Asked) (held whole : Contents) → MorselsStay → held ≡ data_for q whole
+    → planned q held ≡ planned q whole
+plan_for q held whole stay needed =
+    ap (planned q) needed ∙ ap (plan_of q whole.stations) (stay q whole)
+
+-- papers that are a crew's for the query and the data of an intake are so for its input
+pub crews_input : (t : Intake) (most ran : ℕ) (query : Asked) (held : Contents) (papers : Papers) → MorselsStay
+    → HoldsInput t query held → (t.workers ≤ most → ran ≡ t.workers) → (most < t.workers → ran ≡ most)
+    → IsOfCrew (planned query held) t.guess ran papers.certificate.items → CrewsInput t most papers
+crews_input t most ran query held papers stay holds all fewer are = record {
+  ran = ran;
+  all = all;
+  fewer = fewer;
+  is = λ i taken.
+      let input = holds.is i taken in
+      record {
+        asked = query;
+        held = input.whole;
+        read = without_workers i.workers i.guess i.query i.stations (given_files i) (query, input.whole) input.read_is;
+        crew = subst (λ (g : Option ℤ). IsOfCrew (planned query input.whole) g ran papers.certificate.items)
+            taken.guess (subst (λ (p : Planned). IsOfCrew p t.guess ran papers.certificate.items)
+            (plan_for query held input.whole stay input.needed) are);
+      };
+}
+
+-- of an intake for as many workers as may run, the papers are those of the workers that were asked for
+pub crewed : {E : Type 0} (t : Intake) (i : Input) (r : Result Papers E) → HasTaken t i
+    → IfOk r (λ papers. is_crew t.workers ≡ true) → IfOk r (CrewsInput t 64)
+    → IfOk r (IsCrewed i.workers i.guess i.query i.stations (given_files i))
+crewed t i (Ok papers) taken few crews =
+    subst (λ (n : ℕ). IsCrewed n i.guess i.query i.stations (given_files i) papers)
+    (crews.all (few_workers t.workers few) ∙ taken.workers) (crews.is i taken)
+crewed t i (Err e) taken few crews = tt
+
+-- papers that are one worker's for the query and the data of an intake are so for its input
+pub serial_input : (t : Intake) (guess : Option ℤ) (query : Asked) (held : Contents) (papers : Papers)
+    → t.guess ≡ guess → MorselsStay → HoldsInput t query held
+    → IsOfOneWorker (planned query held) guess papers.certificate.items → SerialInput t papers
+serial_input t guess query held papers same stay holds are = record {
+  is = λ i taken.
+      let input = holds.is i taken in
+      record {
+        asked = query;
+        held = input.whole;
+        read = without_workers i.workers i.guess i.query i.stations (given_files i) (query, input.whole) input.read_is;
+        alone = subst (λ (g : Option ℤ). IsOfOneWorker (planned query input.whole) g papers.certificate.items)
+            (sym same ∙ taken.guess) (subst (λ (p : Planned). IsOfOneWorker p guess papers.certificate.items)
+            (plan_for query held input.whole stay input.needed) are);
       };
 }

@@ -1,6 +1,7 @@
 pub mod Guesses
 pub mod Delivering
 pub mod PlanAnswers
+pub mod SerialPapers
 pub mod Crews
 pub mod Texts
 pub mod GoingOn

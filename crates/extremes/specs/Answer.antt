@@ -2,7 +2,12 @@
 use Rattle.std.specs.Prelude.{◌≡◌, ℕ, List, Option, ℤ, Ok}
 use Rattle.ghcn_series.specs.Series.{Contents}
 use Rattle.rank_query.specs.Asked.{Asked}
-use Rattle.rank_sched.specs.Plan.{Planned}
+use Rattle.rank_sched.specs.declared.record.Record.{Record}
+use Rattle.rank_sched.specs.Plan.{Planned, planned}
+use Rattle.rank_sched.specs.Task.{task_of}
+use Rattle.rank_sched.specs.Hauls.{AreSoundRecords}
+use Rattle.rank_sched.specs.Answers.{best_of_plan, lines_of, AreRecordsAlone}
+use Rattle.rank_papers.specs.Certificate.{certificate_of_best}
 use Rattle.rank_papers.specs.Report.{IsReport}
 use Rattle.rank_papers.specs.PlanPapers.{IsMeasuredCertificate, IsReportOfPlan, IsCertificateOfPlan}
 use Rattle.extremes.specs.declared.papers.Papers.{Papers}
@@ -27,3 +32,47 @@ pub record Answers (guess : Option ℤ) (query stations : List ℕ) (files : Lis
   pub held : Contents
   pub read : read_input guess query stations files ≡ Ok (asked, held)
   pub right : ArePapers asked held papers
+
+-- the certificate of a run over a plan with these records: it is about the plan's best, and has the run's lines
+abbrev pub certificate_of_run : Planned → List Record → List ℕ
+certificate_of_run p rs = certificate_of_best p.query (best_of_plan p) (lines_of p rs)
+
+-- the bytes are the certificate of a sound run of so many workers over a plan, under a guess or none
+pub record IsOfCrew (p : Planned) (guess : Option ℤ) (workers : ℕ) (bytes : List ℕ) : Type 0 where
+  pub records : List Record
+  pub sound : AreSoundRecords (task_of p) guess workers records
+  pub printed : bytes ≡ certificate_of_run p records
+
+-- the bytes are the certificate of the run that one worker makes over a plan, under a guess or none
+pub record IsOfOneWorker (p : Planned) (guess : Option ℤ) (bytes : List ℕ) : Type 0 where
+  pub records : List Record
+  pub alone : AreRecordsAlone (task_of p) guess records
+  pub printed : bytes ≡ certificate_of_run p records
+
+-- the certificate is that of a sound run of so many workers over the plan of what the input asks and holds
+pub record IsCrewed (workers : ℕ) (guess : Option ℤ) (query stations : List ℕ) (files : List (List ℕ))
+    (papers : Papers) : Type 0 where
+  pub asked : Asked
+  pub held : Contents
+  pub read : read_input guess query stations files ≡ Ok (asked, held)
+  pub crew : IsOfCrew (planned asked held) guess workers papers.certificate.items
+
+-- the certificate is that of the run that one worker makes over the plan of what the input asks and holds
+pub record IsSerial (guess : Option ℤ) (query stations : List ℕ) (files : List (List ℕ)) (papers : Papers)
+    : Type 0 where
+  pub asked : Asked
+  pub held : Contents
+  pub read : read_input guess query stations files ≡ Ok (asked, held)
+  pub alone : IsOfOneWorker (planned asked held) guess papers.certificate.items
+
+-- these papers are the same, byte for byte
+pub record AreSamePapers (a b : Papers) : Type 0 where
+  pub report : a.report.items ≡ b.report.items
+  pub certificate : a.certificate.items ≡ b.certificate.items
+  pub unlisted : a.unlisted ≡ b.unlisted
+
+-- what one worker answers to an input under a guess is one pair of papers
+abbrev pub SerialPapersAreOne : Type 0
+SerialPapersAreOne = (guess : Option ℤ) (query stations : List ℕ) (files : List (List ℕ)) (a b : Papers)
+    → Answers guess query stations files a → IsSerial guess query stations files a
+    → Answers guess query stations files b → IsSerial guess query stations files b → AreSamePapers a b

@@ -1,5 +1,5 @@
 -- What a run was given so far, and what an intake knows of it.
-use Rattle.std.specs.Prelude.{◌≡◌, ℕ, ◌+◌, ◌^◌, ◌≤◌, Bool, if◌then◌else◌, nat_lt, List, [], ◌∷◌, ◌++◌}
+use Rattle.std.specs.Prelude.{◌≡◌, ℕ, ◌+◌, ◌^◌, ◌<◌, ◌≤◌, Bool, if◌then◌else◌, nat_lt, List, [], ◌∷◌, ◌++◌}
 use Rattle.std.specs.Prelude.{length, Option, Some, Result, Ok, ℤ}
 use Rattle.ghcn_files.specs.declared.station.Station.{Station}
 use Rattle.ghcn_series.specs.declared.pieces.DataReader.{DataReader}
@@ -19,7 +19,7 @@ use Rattle.extremes.specs.declared.intake.Course.TheVariants.{Reading, Refused}
 use Rattle.extremes.specs.declared.papers.Papers.{Papers}
 use Rattle.ghcn_fields.specs.Refusals.{IsRefusal}
 use Rattle.extremes.specs.Input.{read_run, then_read, of_data, is_memory}
-use Rattle.extremes.specs.Answer.{Answers}
+use Rattle.extremes.specs.Answer.{Answers, IsCrewed, IsSerial}
 use Rattle.rank_check.specs.declared.verdict.Verdict.{Verdict}
 use Rattle.extremes.specs.Judged.{IsJudged}
 
@@ -176,6 +176,17 @@ pub record DataRefuses (r : DataReader) (fault : Fault) : Type 0 where
 -- papers answer an intake's input
 pub record AnswersInput (t : Intake) (papers : Papers) : Type 0 where
   pub is : (i : Input) → HasTaken t i → Answers i.guess i.query i.stations (given_files i) papers
+
+-- the papers are those of a crew for an intake's input: of the workers that were asked for, but of at most so many
+pub record CrewsInput (t : Intake) (most : ℕ) (papers : Papers) : Type 0 where
+  pub ran : ℕ
+  pub all : t.workers ≤ most → ran ≡ t.workers
+  pub fewer : most < t.workers → ran ≡ most
+  pub is : (i : Input) → HasTaken t i → IsCrewed ran i.guess i.query i.stations (given_files i) papers
+
+-- the papers are those of one worker for an intake's input
+pub record SerialInput (t : Intake) (papers : Papers) : Type 0 where
+  pub is : (i : Input) → HasTaken t i → IsSerial i.guess i.query i.stations (given_files i) papers
 
 -- an intake's daily files are more than may be given, or they aren't
 pub record CountsFiles (t : Intake) (many : Bool) : Type 0 where

@@ -2,11 +2,14 @@
 
 ghost use Rattle.std.specs.Prelude.{◌≡◌, ◌<◌, true, Err, IfOk, IfErr, map};
 ghost use Rattle.ghcn_series.specs.Held.{IsContents};
-ghost use Rattle.extremes.specs.Answer.{Answers, ArePapers, ArePapersOfPlan};
+ghost use Rattle.extremes.specs.Answer.{Answers, ArePapers, ArePapersOfPlan, IsCrewed, IsOfCrew};
+ghost use Rattle.extremes.specs.Answer.{IsOfOneWorker, IsSerial, SerialPapersAreOne};
+ghost use Rattle.rank_papers.specs.Certificate.{certificate_of_best};
 ghost use Rattle.ghcn_fields.specs.Refusals.{IsRefusal};
 ghost use Rattle.extremes.specs.Input.{is_crew, is_guess, read_input, read_run, is_memory};
-ghost use Rattle.extremes.specs.Taken.{HasTakenSome, AnswersInput, RefusesInput};
+ghost use Rattle.extremes.specs.Taken.{HasTakenSome, AnswersInput, CrewsInput, RefusesInput};
 ghost use Rattle.rank_sched.specs.Answers.{IsAnswerOfPlan};
+ghost use Rattle.rank_sched.specs.Plan.{planned};
 
 use crate::fault::Fault;
 use crate::intake::Intake;
@@ -17,7 +20,8 @@ use ghcn_series::Data;
 use rank_crew::{Gate, crew, survey};
 use rank_papers::{certificate, papers_of_one_element, report};
 use rank_query::Query;
-use rank_sched::{Answer, Plan, run_alone};
+use rank_sched::{Answer, Plan, ends_are_sound, run_alone, runs_are_sound};
+use rank_scores::one_element_is_enough;
 use std::alloc::Global;
 use std::sync::Wait;
 use std::thread::Threads;
@@ -42,6 +46,7 @@ pub fn rank<R: Threads + Wait + AllocGlobal + Sync, G: Gate + Sync>(
 ) -> Result<Papers, Fault>
     ensures ok { IfOk result (Answers guess query.now stations.now (map (λ file. file.now) files.now)) }
     ensures workers { IfOk result (λ papers. is_crew workers ≡ true) }
+    ensures crew { IfOk result (IsCrewed workers guess query.now stations.now (map (λ file. file.now) files.now)) }
     ensures err { IfErr result (λ fault.
         IsRefusal is_memory fault (read_run workers guess query.now stations.now (map (λ file. file.now) files.now))) }
 {
@@ -71,12 +76,14 @@ pub fn rank_intake<R: Threads + Wait + AllocGlobal + Sync, G: Gate + Sync>(
     requires some { 0 < most }
     ensures ok { IfOk result.answer (AnswersInput intake) }
     ensures workers { IfOk result.answer (λ papers. is_crew intake.workers ≡ true) }
+    ensures crew { IfOk result.answer (CrewsInput intake most) }
     ensures err { IfErr result.answer (RefusesInput intake) }
 {
     let (workers, guess) = (intake.workers, intake.guess);
     match intake.finish() {
         Ok((query, held)) => {
             papers_of_one_element();
+            one_element_is_enough();
             let workers = at_most(workers, most);
             let answer = ranked_by_crew(rt, &held, &query, workers, guess, gate);
             Ranked {
@@ -113,13 +120,23 @@ pub fn rank_serial(
     guess: Option<i64>,
 ) -> Result<Papers, Fault>
     ensures ok { IfOk result (Answers guess query.now stations.now (map (λ file. file.now) files.now)) }
+    ensures serial { IfOk result (IsSerial guess query.now stations.now (map (λ file. file.now) files.now)) }
     ensures err { IfErr result (λ fault.
         IsRefusal is_memory fault (read_input guess query.now stations.now (map (λ file. file.now) files.now))) }
 {
     let intake = Intake::of_files(alloc, 1, guess, query, stations, files);
     let (query, held) = intake.finish()?;
     papers_of_one_element();
+    one_element_is_enough();
     Ok(ranked_alone(alloc, &held, &query, guess)?)
+}
+
+/// What `rank_serial` answers is an exact function of the input: two reports, two certificates and
+/// two numbers of lines of unlisted stations are the same.
+pub fn serial_papers_are_one()
+    ensures { SerialPapersAreOne }
+{
+    runs_are_sound();
 }
 
 /// The papers of a query, from a run of one worker that begins with a guess or none.
@@ -131,7 +148,9 @@ fn ranked_alone(
 ) -> Result<Papers, Memory>
     requires guess { is_guess guess ≡ true }
     requires contents { IsContents held.now }
-    ensures { IfOk result (ArePapers query.now held.now) }
+    ensures papers { IfOk result (ArePapers query.now held.now) }
+    ensures alone { IfOk result (λ papers.
+        IsOfOneWorker (planned query.now held.now) guess papers.certificate.items) }
 {
     let plan = Plan::new(alloc, held, query)?;
     let answer = run_alone(alloc, &plan, guess)?;
@@ -151,8 +170,11 @@ fn ranked_by_crew<R: Threads + Wait + AllocGlobal + Sync, G: Gate + Sync>(
     requires guess { is_guess guess ≡ true }
     requires contents { IsContents held.now }
     ensures ok { IfOk result (ArePapers query.now held.now) }
+    ensures crew { IfOk result (λ papers.
+        IsOfCrew (planned query.now held.now) guess workers papers.certificate.items) }
     ensures err { IfErr result (λ fault. is_memory fault ≡ true) }
 {
+    ends_are_sound();
     let plan = survey(rt, rt.alloc(), held, query, workers, gate)?;
     let answer = crew(rt, rt.alloc(), &plan, workers, guess, gate)?;
     Ok(papers_of(rt.alloc(), &plan, &answer, held.unlisted())?)
@@ -166,7 +188,9 @@ fn papers_of(
     unlisted: u64,
 ) -> Result<Papers, Memory>
     requires { IsAnswerOfPlan plan.now answer.now }
-    ensures { IfOk result (ArePapersOfPlan plan.now unlisted) }
+    ensures plan { IfOk result (ArePapersOfPlan plan.now unlisted) }
+    ensures printed { IfOk result (λ papers. papers.certificate.items
+        ≡ certificate_of_best plan.now.query answer.now.best.items answer.now.lines.items) }
 {
     Ok(Papers {
         report: report(alloc, plan, answer)?,

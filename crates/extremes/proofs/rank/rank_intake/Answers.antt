@@ -1,5 +1,5 @@
 use Rattle.std.proofs.lemmas.Result.{IfOk-weaker, IfErr-weaker}
-use Rattle.extremes.proofs.Finishes.{answers_input, memory_refuses}
+use Rattle.extremes.proofs.Finishes.{answers_input, crews_input, memory_refuses}
 use Rattle.extremes.proofs.rank.rank_intake.Goals as goal
 
 -- the papers of what the query needs answer all that was given
@@ -14,3 +14,11 @@ returns-in-Ok-clause-ok g c =
 pub returns-in-Ok-clause-err : goal.returns-in-Ok-clause-err
 returns-in-Ok-clause-err g c =
     IfErr-weaker c.ranked_by_crew-answer.result _ _ (memory_refuses c.args.intake) c.ranked_by_crew-answer.ensures.err
+
+-- and they are those of a crew for all that was given
+pub returns-in-Ok-clause-crew : goal.returns-in-Ok-clause-crew
+returns-in-Ok-clause-crew g c =
+    IfOk-weaker c.ranked_by_crew-answer.result _ _ (λ papers are.
+    crews_input c.args.intake c.args.most _ _ _ papers c.one_element_is_enough.ensures.morsels c.in-Ok.ensures.ok
+    c.at_most-workers.ensures.asked c.at_most-workers.ensures.most are)
+    c.ranked_by_crew-answer.ensures.crew

@@ -3,7 +3,7 @@ use Rattle.rank_query.specs.Asked.{IsAsked}
 use Rattle.rank_sched.specs.Plan.{Planned}
 use Rattle.extremes.proofs.Crews.{some_workers, few_workers}
 use Rattle.extremes.proofs.Guesses.{guess_is_score}
-use Rattle.extremes.proofs.PlanAnswers.{crew_is_plan, papers_are}
+use Rattle.extremes.proofs.PlanAnswers.{crew_is_plan, papers_are, of_crew_is}
 use Rattle.extremes.proofs.rank.ranked_by_crew.Goals as goal
 
 -- there is a worker to measure
@@ -36,4 +36,11 @@ returns-clause-ok g c =
     let asked = subst IsAsked (ap (λ (p : Planned). p.query) (c.plan.view_is ∙ c.in_ok-plan.ensures))
     c.plan.invariant.asked in
     papers_are _ _ _ _ c.in_ok-papers_of.field-0 asked c.requires.contents c.in_ok-plan.ensures c.unlisted.ensures
-    c.in_ok-papers_of.ensures
+    c.in_ok-papers_of.ensures.plan
+
+-- and they are printed from the crew's answer
+pub returns-clause-crew : goal.returns-clause-crew
+returns-clause-crew g c =
+    of_crew_is _ c.args.query.now c.args.held.now _ _ _ c.in_ok-papers_of.field-0.certificate.items
+    c.ends_are_sound.ensures.records c.in_ok-plan.ensures c.in_ok-answer.ensures.answer
+    c.in_ok-papers_of.ensures.printed
