@@ -1,6 +1,6 @@
 -- One worker: at the start, one turn further, and when it stops.
 use Rattle.std.proofs.Common.{◌≡◌, ℕ, zero, suc, ◌+◌, ◌<◌, ◌≤◌, List, [], ◌∷◌, ◌++◌, length, length-append, ℤ, ◌≤ℤ◌}
-use Rattle.std.proofs.Common.{Option, All, refl, sym, ap, ◌∙◌, subst, append-nil, append_assoc, option_to_list}
+use Rattle.std.proofs.Common.{Option, Some, All, refl, sym, ap, ◌∙◌, subst, append-nil, append_assoc, option_to_list}
 use Rattle.std.proofs.Common.{arith}
 use Rattle.std.specs.Prelude.{IsSomeAnd, take}
 use Rattle.std.specs.List.{AllByRecursion}
@@ -22,7 +22,7 @@ use Rattle.rank_sched.specs.Hauls.{records_of, exchanges_in, IsHaulOf}
 use Rattle.rank_sched.specs.Run.{IsEmptyHaul}
 use Rattle.rank_sched.proofs.Lists.{All-right, each-append, morsels-push, seen_in-append, raised_in-append, rise-push}
 use Rattle.rank_sched.proofs.Growing.{haul_grows, turns_grow, upward_grows}
-use Rattle.rank_crew.specs.Workers.{Settles, KeepsClaims, Works}
+use Rattle.rank_crew.specs.Workers.{Settles, KeepsClaims, OnlyLooks, Works, BreaksOff}
 use Rattle.rank_crew.proofs.Rising.{rise_few}
 
 -- a worker between two turns: its haul is sound so far, and what its seat has more than at the start is what its
@@ -182,3 +182,22 @@ works b t w n begin before after h m c past =
       raised = c.raised ∙ m.raised;
       seen = c.seen ∙ m.seen;
     }
+
+-- want of memory in a turn: a morsel was drawn and the floor looked at, and nothing more was raised
+pub breaks : (t : Task) (guess : Option ℤ) (b : Board) (w n : ℕ) (begin before claimed after : Seat) (h : Haul)
+    → IsMidway t guess w begin before h → Claims b before n claimed → KeepsClaims b claimed after
+    → OnlyLooks claimed after → BreaksOff t w begin after
+breaks t guess b w n begin before claimed after h m c k o = record {
+  records = records_of h;
+  named = m.haul.named;
+  within = m.within;
+  skips = m.haul.skips;
+  drawn = Some n;
+  looked = o.floor;
+  claims = grown (claims_of begin) (claims_of before) (claims_of after) (morsels_of (records_of h)) (n ∷ [])
+      (morsels_of (records_of h) ++ n ∷ []) (k.claims ∙ c.claims) m.claims refl;
+  seen = grown (seen_of begin) (seen_of before) (seen_of after) (seen_in (exchanges_in t h)) (option_to_list o.floor)
+      (seen_in (exchanges_in t h) ++ option_to_list o.floor)
+      (o.seen ∙ ap (λ (l : List ℤ). l ++ option_to_list o.floor) c.seen) m.seen refl;
+  raised = o.raised ∙ c.raised ∙ m.raised;
+}

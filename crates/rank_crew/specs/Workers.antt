@@ -1,15 +1,17 @@
 -- What workers do to a seat of a board, and what they bring home.
 use Rattle.std.specs.Prelude.{◌≡◌, ℕ, ◌+◌, ◌*◌, ◌<◌, ◌≤◌, true, List, ◌++◌, length, ℤ, Option, option_to_list, All}
-use Rattle.std.specs.Prelude.{Contains}
+use Rattle.std.specs.Prelude.{Contains, []}
+use Rattle.std.specs.List.{AllByRecursion}
 use Rattle.ghcn_fields.specs.Counting.{times}
 use Rattle.ghcn_fields.specs.Floor.{IsAtLeast}
 use Rattle.rank_board.specs.declared.seat.Seat.{Seat}
 use Rattle.rank_board.specs.declared.board.Board.{Board}
 use Rattle.rank_board.specs.Seats.{claims_of, raised_of, seen_of, rights_of, guess_of, IsSeatOf}
 use Rattle.rank_sched.specs.declared.haul.Haul.{Haul}
+use Rattle.rank_sched.specs.declared.record.Record.{Record}
 use Rattle.rank_sched.specs.declared.turn.Turn.TheVariants.{Stopped}
 use Rattle.rank_sched.specs.Task.{Task, IsFair}
-use Rattle.rank_sched.specs.Exchanges.{scanned, pool_of, exchange, raised_in, seen_in}
+use Rattle.rank_sched.specs.Exchanges.{morsels_of, scanned, pool_of, IsRightSkip, exchange, exchanges, raised_in, seen_in}
 use Rattle.rank_sched.specs.Machine.{Worker, record_of, all_stopped}
 use Rattle.rank_sched.specs.SoundRun.{IsSoundWorker, AreSoundFrom, all_exchanges, claims_in}
 use Rattle.rank_sched.specs.Hauls.{records_of, exchanges_in, AreHaulsOf, AreSound, AreUnderFloor}
@@ -48,6 +50,12 @@ pub record Settles (b : Board) (t : Task) (w m : ℕ) (before after : Seat) (old
   pub above_seen : IsAtLeast floor (seen_of before)
   pub above_raised : IsAtLeast floor (raised_of before)
 
+-- a seat has seen one floor more, where there was one, and has raised nothing
+pub record OnlyLooks (before after : Seat) : Type 0 where
+  pub floor : Option ℤ
+  pub raised : raised_of after ≡ raised_of before
+  pub seen : seen_of after ≡ seen_of before ++ option_to_list floor
+
 -- ---- one worker
 
 -- a seat of the board that has what it claimed and raised before,
@@ -66,6 +74,19 @@ pub record Works (b : Board) (t : Task) (w : ℕ) (before after : Seat) (h : Hau
   pub claims : claims_of after ≡ claims_of before ++ (worker_with (Stopped last, h)).claims
   pub raised : raised_of after ≡ raised_of before ++ raised_in (exchanges_in t h)
   pub seen : seen_of after ≡ seen_of before ++ seen_in (exchanges_in t h)
+
+-- the worker of a number broke off: its seat has claimed the morsels of its records and maybe one more, has
+-- seen the floors of these records and maybe one more, and has raised what the records stand for, and nothing else
+pub record BreaksOff (t : Task) (w : ℕ) (before after : Seat) : Type 0 where
+  pub records : List Record
+  pub named : AllByRecursion (λ r. r.worker ≡ w) records
+  pub within : AllByRecursion (λ r. r.morsel < t.len) records
+  pub skips : AllByRecursion (IsRightSkip t) records
+  pub drawn : Option ℕ
+  pub looked : Option ℤ
+  pub claims : claims_of after ≡ claims_of before ++ (morsels_of records ++ option_to_list drawn)
+  pub seen : seen_of after ≡ seen_of before ++ (seen_in (exchanges t [] records) ++ option_to_list looked)
+  pub raised : raised_of after ≡ raised_of before ++ raised_in (exchanges t [] records)
 
 -- ---- some workers
 

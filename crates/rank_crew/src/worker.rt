@@ -1,6 +1,6 @@
 //! One worker: it draws morsels from a board until none is left.
 
-ghost use Rattle.std.specs.Prelude.{◌+◌, ◌<◌, ◌≤◌, length, IfOk, IfErr, OnOk};
+ghost use Rattle.std.specs.Prelude.{◌+◌, ◌<◌, ◌≤◌, length, IfOk, IfErr, OnOk, OnErr};
 ghost use Rattle.rank_board.specs.Seats.{rights_of, IsSeatOf};
 ghost use Rattle.rank_sched.specs.Task.{task_of};
 ghost use Rattle.rank_crew.specs.Workers as crew;
@@ -15,7 +15,7 @@ use std::sync::Wait;
 /// One worker of a plan, until its claim is past the last morsel.
 ///
 /// The seat has a right for each morsel and one more. It comes back with all claims and raises that
-/// were made, after want of memory too.
+/// were made, after want of memory too, and with no others.
 pub fn work<R: Wait, G: Gate>(
     rt: &R,
     alloc: Global,
@@ -30,6 +30,7 @@ pub fn work<R: Wait, G: Gate>(
     ensures kept { IfOk result (λ home. crew.IsKept board.now seat home.0) }
     ensures works { IfOk result (λ home. crew.Works board.now (task_of plan.now) worker seat home.0 home.1) }
     ensures err { IfErr result (λ home. crew.IsKept board.now seat home.0) }
+    ensures breaks { IfErr result (λ home. crew.BreaksOff (task_of plan.now) worker seat home.0) }
 {
     let mut haul = match Haul::new(alloc, plan.query().k()) {
         Ok(haul) => haul,
@@ -61,6 +62,7 @@ fn settle(
     ensures kept { crew.KeepsClaims board.now seat.old seat.new }
     ensures settles { OnOk result
         (crew.Settles board.now (task_of plan.now) worker morsel seat.old seat.new haul.old haul.new) }
+    ensures err { OnErr result (crew.OnlyLooks seat.old seat.new) }
 {
     let seen = board.look(seat);
     let record = record_of(plan, worker, morsel, seen);

@@ -2,7 +2,7 @@ use Rattle.std.proofs.Common.{◌<◌, ◌≤◌, ◌∷◌, [], length, length-
 use Rattle.rank_board.specs.Seats.{claims_of, guess_of}
 use Rattle.rank_sched.specs.Task.{task_of}
 use Rattle.rank_crew.proofs.Begins.{begins_more, begins_through, begins_after}
-use Rattle.rank_crew.proofs.Turning.{few_records, midway_next, works}
+use Rattle.rank_crew.proofs.Turning.{few_records, midway_next, works, breaks}
 use Rattle.rank_crew.proofs.worker.work.Goals as goal
 
 -- a right is left for the claim past the last morsel
@@ -49,3 +49,11 @@ loop-seat-preserved g c =
           c.loop-seat.seat c.claim-morsel.new.seat c.settle.new.seat c.loop-seat.haul c.settle.new.haul i.midway n
           e.kept e.settles low;
     }
+
+-- in a turn that met want of memory a morsel was drawn and the floor looked at, and nothing more was raised
+pub returns-in-Err-settle-clause-breaks : goal.returns-in-Err-settle-clause-breaks
+returns-in-Err-settle-clause-breaks g c =
+    breaks (task_of c.args.plan.now) (guess_of c.args.board.now) c.args.board.now c.args.worker c.claim-morsel.result
+    c.args.seat c.loop-seat.seat c.claim-morsel.new.seat c.settle.new.seat c.loop-seat.haul
+    c.loop-seat.invariant.midway c.claim-morsel.ensures.claims c.in-Err-settle.ensures.kept
+    c.in-Err-settle.ensures.err
