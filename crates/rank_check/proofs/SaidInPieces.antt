@@ -121,9 +121,11 @@ module _ (q : Asked) (c : Contents) (right : IsContents c) (apart : AreApart (al
   -- a row is a candidate that is within
   row_candidate : (d : Candidate) → In (of_rows rows) d → In (all_candidates q c) d × (is_within worst d ≡ true)
   row_candidate d h =
-      let kept = kept_in (is_within worst) xs d (subst (λ (l : List Candidate). In l d) rows_within h) in
-      (permuted_in xs (all_candidates q c)
-      (IsPermutation-sym (all_candidates q c) xs (ordered-permutation (all_candidates q c))) d kept.0, kept.1)
+      let kept = kept_in (is_within worst) xs d (subst (λ (l : List Candidate). In l d) rows_within h) in (
+        permuted_in xs (all_candidates q c)
+            (IsPermutation-sym (all_candidates q c) xs (ordered-permutation (all_candidates q c))) d kept.0,
+        kept.1,
+      )
 
   -- and back
   candidate_row : (d : Candidate) → In (all_candidates q c) d → is_within worst d ≡ true → In (of_rows rows) d
@@ -235,11 +237,14 @@ module _ (q : Asked) (c : Contents) (right : IsContents c) (apart : AreApart (al
               ),
             ),
           ),
-        ) in
-        (there.0, found, none_failing
-        (piece_tests q there.0 (own_series q c there.0) e (count_of (of_rows rows) e) (rows_with e.id rows) worst)
-        (subst (λ (o : Option Usable). AllByRecursion (λ t. t.0 ≡ true)
-        (piece_tests q there.0 o e (count_of (of_rows rows) e) (rows_with e.id rows) worst)) (sym there.3) tests))
+        ) in (
+          there.0,
+          found,
+          none_failing
+              (piece_tests q there.0 (own_series q c there.0) e (count_of (of_rows rows) e) (rows_with e.id rows) worst)
+              (subst (λ (o : Option Usable). AllByRecursion (λ t. t.0 ≡ true)
+              (piece_tests q there.0 o e (count_of (of_rows rows) e) (rows_with e.id rows) worst)) (sym there.3) tests),
+        )
 
     -- so are all lines
     pub lines_accepted : (es : List Entry) (ms : List Usable) → AllZip (IsRightEntry q kth) es ms

@@ -134,7 +134,8 @@ fn are_candidates(query: &Query, station: &Station, series: &Series, rows: &[Row
     ensures { result
         ≡ list_all (λ row. pieces.is_row_of query.now station.now series.now (named_in row)) rows.now }
 {
-    rows.iter().all(|row| is_row_of(query, station, series, row))
+    rows.iter()
+        .all(|row| is_row_of(query, station, series, row))
 }
 
 /// Whether a row is a candidate of the series, with the station's name.

@@ -316,12 +316,12 @@ box_text = refl
 
 -- less than one degree, and no degree at all
 small_box_text : query_text (record {
-      k = 1;
-      score = Wet;
-      region = Inside (neg_ℤ (pos 5)) (pos 0) (pos 12_345) (pos 1_800_000);
-      season = None;
-      period = None;
-    }) ≡ codes "top 1 wet box -0.0005 0.0000 1.2345 180.0000"
+  k = 1;
+  score = Wet;
+  region = Inside (neg_ℤ (pos 5)) (pos 0) (pos 12_345) (pos 1_800_000);
+  season = None;
+  period = None;
+}) ≡ codes "top 1 wet box -0.0005 0.0000 1.2345 180.0000"
 unfolding digits
 small_box_text = refl
 
@@ -338,12 +338,12 @@ region_texts = (refl, refl, refl)
 
 -- with a period
 period_text : query_text (record {
-      k = 1;
-      score = Dry;
-      region = Everywhere;
-      season = None;
-      period = Some (pos 18444, pos 18444);
-    }) ≡ codes "top 1 dry from 2020-07-01 to 2020-07-01"
+  k = 1;
+  score = Dry;
+  region = Everywhere;
+  season = None;
+  period = Some (pos 18444, pos 18444);
+}) ≡ codes "top 1 dry from 2020-07-01 to 2020-07-01"
 unfolding digits year_and_rest month_and_day
 period_text = refl
 
