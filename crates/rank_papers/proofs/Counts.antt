@@ -1,5 +1,5 @@
 -- Entries with their counts, taken together and apart.
-use Rattle.std.proofs.Common.{◌≡◌, inl, inr, ℕ, ◌≤◌, Bool, true, false, cond, not, List, [], ◌∷◌, length, map, refl, sym, ap, ◌∙◌, subst, arith, suc}
+use Rattle.std.proofs.Common.{◌≡◌, inl, inr, ℕ, ◌≤◌, Bool, true, false, cond, not, List, [], ◌∷◌, ◌++◌, length, map, refl, sym, ap, ◌∙◌, subst, arith, suc}
 use Rattle.std.specs.Prelude.{◌==◌, ◌&&◌}
 use Rattle.std.specs.List.{AllByRecursion, AllZip}
 use Rattle.rank_scores.specs.declared.candidate.Candidate.{Candidate}
@@ -26,6 +26,15 @@ pub length-counted : (es : List Entry) (ns : List ℕ) → length (counted es ns
 length-counted [] ns = refl
 length-counted (e ∷ es) [] = ap (λ (n : ℕ). suc n) (length-counted es [])
 length-counted (e ∷ es) (n ∷ ns) = ap (λ (m : ℕ). suc m) (length-counted es ns)
+
+-- one more entry and its count
+pub counted-more : (es : List Entry) (ns : List ℕ) (e : Entry) (n : ℕ) → length ns ≡ length es
+    → counted (es ++ e ∷ []) (ns ++ n ∷ []) ≡ counted es ns ++ record { entry = e; count = n } ∷ []
+counted-more [] [] e n h = refl
+counted-more [] (m ∷ ns) e n h = absurd (omega (arith, h))
+counted-more (x ∷ es) [] e n h = absurd (omega (arith, h))
+counted-more (x ∷ es) (m ∷ ns) e n h =
+    ap (λ (l : List Counted). record { entry = x; count = m } ∷ l) (counted-more es ns e n (omega (arith, h)))
 
 -- a count for each entry, made of it
 pub counted-map : (f : Entry → ℕ) (es : List Entry)

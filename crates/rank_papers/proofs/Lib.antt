@@ -7,6 +7,7 @@ pub mod PlanPapers
 pub mod PaperLines
 pub mod CertificateReading
 pub mod Counts
+pub mod StationRows
 pub mod LineValues
 pub mod CertificateValues
 pub mod ReportValues

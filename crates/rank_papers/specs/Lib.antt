@@ -1,6 +1,7 @@
 pub mod Values
 pub mod Report
 pub mod Certificate
+pub mod StationRows
 pub mod Lines
 pub mod ReportLines
 pub mod CertificateLines

@@ -12,7 +12,7 @@
 //!
 //! In version 1, which is read alone, no line has a number of rows.
 
-ghost use Rattle.std.specs.Prelude.{◌≡◌, ◌<◌, ◌++◌, FitsSigned, OnOk, IfOk};
+ghost use Rattle.std.specs.Prelude.{◌≡◌, ◌<◌, ◌++◌, FitsSigned, length, OnOk, IfOk};
 ghost use Rattle.std.specs.Int.{w64};
 ghost use Rattle.std.specs.List.{flat_map};
 ghost use Rattle.ghcn_fields.specs.NumberTexts.{whole};
@@ -20,10 +20,11 @@ ghost use Rattle.rank_sched.specs.Answers.{IsAnswerOfPlan};
 ghost use Rattle.rank_papers.specs.Certificate as certificate;
 ghost use Rattle.rank_papers.specs.PlanPapers.{IsCertificateOfPlan};
 
-use crate::counted::{Counted, count_of, has_count};
+use crate::counted::{Counted, has_count};
 use crate::number::{push_number, push_whole};
 use crate::report_text::push_query;
 use crate::row::push_field;
+use crate::station_rows::row_counts;
 use ghcn_fields::Memory;
 use rank_sched::{Answer, Line, Plan};
 use rank_scores::Candidate;
@@ -42,7 +43,8 @@ pub fn certificate(alloc: Global, plan: &Plan<'_>, answer: &Answer) -> Result<Ve
     let mut paper = Vec::from_slice(alloc, b"extremes certificate 2\n")?;
     push_query(alloc, &mut paper, plan.query())?;
     push_kth(&mut paper, kth_score(plan.query().k(), &answer.best))?;
-    push_lines(&mut paper, &answer.lines, &answer.best)?;
+    let counts = row_counts(alloc, &answer.best, &answer.lines)?;
+    push_lines(&mut paper, &answer.lines, counts.as_slice())?;
     push_end(&mut paper, answer.lines.len() as u64)?;
     Ok(paper)
 }
@@ -69,27 +71,21 @@ pub(crate) fn push_kth(paper: &mut Vec<u8>, kth: Option<i64>) -> Result<(), Memo
     Ok(())
 }
 
-/// Adds the line of each series, with the number of the best candidates that are of it.
-fn push_lines(paper: &mut Vec<u8>, lines: &[Line], best: &[Candidate]) -> Result<(), Memory>
-    ensures text { OnOk result (paper.new.items ≡ paper.old.items ++ flat_map (certificate.entry_line 2)
-        (certificate.counted lines.now (certificate.counts_of 2 best.now lines.now))) }
+/// Adds the line of each series, with its count.
+fn push_lines(paper: &mut Vec<u8>, lines: &[Line], counts: &[u64]) -> Result<(), Memory>
+    requires { length counts.now ≡ length lines.now }
+    ensures text { OnOk result (paper.new.items ≡ paper.old.items
+        ++ flat_map (certificate.entry_line 2) (certificate.counted lines.now counts.now)) }
     ensures fits { OnOk result (certificate.AreInRange lines.now) }
 {
-    for line in lines {
-        push_line(paper, VERSION, &counted(line, best))?;
+    for place in 0..lines.len() {
+        let line = Counted {
+            entry: lines[place],
+            count: counts[place],
+        };
+        push_line(paper, VERSION, &line)?;
     }
     Ok(())
-}
-
-/// The line of a series with its count.
-fn counted(line: &Line, best: &[Candidate]) -> Counted
-    ensures entry { result.entry ≡ line.now }
-    ensures count { result.count ≡ certificate.count_of best.now line.now }
-{
-    Counted {
-        entry: *line,
-        count: count_of(best, line),
-    }
 }
 
 /// Adds the line of a series, with its count where the version has one.

@@ -19,6 +19,7 @@ mod query_line;
 mod report_lines;
 mod report_text;
 mod row;
+mod station_rows;
 #[cfg(test)]
 mod tests;
 
@@ -31,3 +32,4 @@ pub use rank_sched::Line;
 pub use report_lines::read_report;
 pub use report_text::{report, report_of_best};
 pub use row::trimmed;
+pub use station_rows::row_counts;

@@ -1,15 +1,23 @@
-use Rattle.std.proofs.Common.{ℕ, List, ◌≡◌, ◌<◌, ◌++◌, ◌∙◌, ap, length, rules, subst, sym, Option, ℤ}
+use Rattle.std.proofs.Common.{ℕ, List, ◌≡◌, ◌<◌, ◌++◌, ◌∙◌, ap, length, map, rules, subst, sym, Option, ℤ}
 use Rattle.std.specs.List.{flat_map}
+use Rattle.std.proofs.lemmas.List.{length-map}
 use Rattle.rank_query.specs.Asked.{Asked}
 use Rattle.rank_scores.specs.declared.candidate.Candidate.{Candidate}
 use Rattle.rank_papers.specs.Report.{query_line}
-use Rattle.rank_papers.specs.Certificate.{Entry, AreInRange, kth_of_best, kth_line, counted, counts_of, entry_line, end_line}
+use Rattle.rank_papers.specs.Certificate.{Entry, AreInRange, kth_of_best, kth_line, counted, count_of, entry_line, end_line}
 use Rattle.rank_papers.proofs.PlanPapers.{some_asked, certificate-made, certificate-of_plan}
 use Rattle.rank_papers.proofs.certificate_text.certificate.Goals as goal
 
 -- at least one candidate is asked for
 pub kth_score-requires : goal.kth_score-requires
 kth_score-requires c = subst (λ (k : ℕ). 0 < k) (sym c.k.ensures.k) (some_asked c.query-2.result.now c.k.ensures.asked)
+
+-- there is a count for each line
+pub push_lines-requires : goal.push_lines-requires
+push_lines-requires c =
+    ap (λ (ns : List ℕ). length ns) (c.as_slice.ensures.value ∙ c.in_ok-counts.ensures)
+    ∙ length-map c.deref-3.result.now (count_of c.deref-2.result.now)
+    ∙ ap (λ (l : List Entry). length l) (c.deref-3.ensures.value ∙ sym c.deref-4.ensures.value)
 
 -- the parts were added in their order
 pub returns-clause-text : goal.returns-clause-text
@@ -24,16 +32,18 @@ returns-clause-text c =
     (c.in_ok-push_query.ensures ∙ ap (λ (x : Asked). c.in_ok-paper.paper.items ++ query_line x) c.query.ensures.query)
     (c.in_ok-push_kth.ensures ∙ ap (λ (s : Option ℤ). c.push_query.new.paper.items ++ kth_line s) score)
     (c.in_ok-push_lines.ensures.text
-    ∙ ap (λ (l : List Entry). c.push_kth.new.paper.items
-    ++ flat_map (entry_line 2) (counted l (counts_of 2 c.deref-3.result.now l))) c.deref-2.ensures.value
-    ∙ ap (λ (b : List Candidate). c.push_kth.new.paper.items
-    ++ flat_map (entry_line 2) (counted a.lines.items (counts_of 2 b a.lines.items))) c.deref-3.ensures.value)
+    ∙ ap (λ (l : List Entry). c.push_kth.new.paper.items ++ flat_map (entry_line 2) (counted l c.as_slice.result.now))
+    c.deref-4.ensures.value
+    ∙ ap (λ (ns : List ℕ). c.push_kth.new.paper.items ++ flat_map (entry_line 2) (counted a.lines.items ns))
+    (c.as_slice.ensures.value ∙ c.in_ok-counts.ensures
+    ∙ ap (λ (b : List Candidate). map (count_of b) c.deref-3.result.now) c.deref-2.ensures.value
+    ∙ ap (map (count_of a.best.items)) c.deref-3.ensures.value))
     (c.in_ok-push_end.ensures ∙ ap (λ (n : ℕ). c.push_lines.new.paper.items ++ end_line n) count)
 
 -- so it is a right certificate
 pub returns-clause-right : goal.returns-clause-right
 returns-clause-right c =
-    let fits : AreInRange c.args.answer.now.lines.items = subst AreInRange c.deref-2.ensures.value
+    let fits : AreInRange c.args.answer.now.lines.items = subst AreInRange c.deref-4.ensures.value
     c.in_ok-push_lines.ensures.fits in
     certificate-of_plan c.args.plan.now c.args.answer.now c.push_end.new.paper.items c.requires fits
     (returns-clause-text c)

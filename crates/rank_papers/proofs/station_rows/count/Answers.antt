@@ -1,0 +1,36 @@
+use Rattle.std.proofs.Common.{rules, arith, ◌≡◌, ◌+◌, List}
+use Rattle.std.specs.List.{count_by}
+use Rattle.std.specs.Ordering.{is_lt, is_le}
+use Rattle.std.proofs.lemmas.List.Sorted.{IsPartitionPoint-from_clause}
+use Rattle.ghcn_files.specs.declared.station.StationId.{StationId}
+use Rattle.ghcn_files.specs.Ids.{same_id}
+use Rattle.rank_papers.proofs.StationRows.{beside, less_first, most_first, counted-between}
+use Rattle.rank_papers.proofs.station_rows.count.Goals as goal
+
+-- no more stand before the ID than aren't behind it
+pub overflow_sub-result : goal.overflow_sub-result
+overflow_sub-result c =
+    let ids : List StationId = c.args.ids.now in
+    let id : StationId = c.args.id.now in
+    let between : c.partition_point-through.result
+    ≡ c.partition_point-before.result + count_by (λ i. same_id i id) ids =
+    counted-between id ids _ _ c.partition_point-before.ensures.bound c.partition_point-through.ensures.bound
+    (IsPartitionPoint-from_clause (λ i. is_lt (beside id i)) ids _ c.partition_point-before.ensures.partitioned
+    (less_first id ids c.requires) (λ a r q k. search rules))
+    (IsPartitionPoint-from_clause (λ i. is_le (beside id i)) ids _ c.partition_point-through.ensures.partitioned
+    (most_first id ids c.requires) (λ a r q k. search rules)) in
+    omega (arith, between)
+
+-- those between the two points are the ID's
+pub returns : goal.returns
+returns c =
+    let ids : List StationId = c.args.ids.now in
+    let id : StationId = c.args.id.now in
+    let between : c.partition_point-through.result
+    ≡ c.partition_point-before.result + count_by (λ i. same_id i id) ids =
+    counted-between id ids _ _ c.partition_point-before.ensures.bound c.partition_point-through.ensures.bound
+    (IsPartitionPoint-from_clause (λ i. is_lt (beside id i)) ids _ c.partition_point-before.ensures.partitioned
+    (less_first id ids c.requires) (λ a r q k. search rules))
+    (IsPartitionPoint-from_clause (λ i. is_le (beside id i)) ids _ c.partition_point-through.ensures.partitioned
+    (most_first id ids c.requires) (λ a r q k. search rules)) in
+    omega (arith, between)
