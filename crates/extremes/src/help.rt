@@ -107,6 +107,7 @@ WHY, in the order of the tests:
   OtherSeries      it isn't the series of its place, or a series has no line
   NoBound          a candidate of the series has a score above the bound
   NotBelow         a series is passed over whose bound isn't strictly below the k-th score
+  NotCounted       the number behind the bound isn't that of the report's rows of the station
 
 Example:
   extremes check --stations ghcnd-stations.txt --query 'top 10 highest TMAX' \\

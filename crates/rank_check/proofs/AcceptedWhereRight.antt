@@ -1,5 +1,6 @@
 -- Papers are accepted exactly where both are right.
-use Rattle.std.proofs.Common.{◌≡◌, inl, inr, ℕ, ◌≤◌, Bool, false, cond, map, subst, Option, true, List, [], ◌∷◌, ◌++◌, length, Ok, None, refl, sym, ap}
+use Rattle.std.proofs.Common.{◌≡◌, inl, inr, ℕ, ◌≤◌, false, cond, map, subst, Option, true, List, [], ◌∷◌, ◌++◌, length}
+use Rattle.std.proofs.Common.{Ok, None, refl, sym, ap}
 use Rattle.std.proofs.Common.{◌∙◌, ℤ}
 use Rattle.std.specs.Prelude.{codes, ◌==◌}
 use Rattle.std.specs.List.{flat_map, enumerate_from, AllByRecursion, AllZip}
@@ -13,7 +14,7 @@ use Rattle.rank_query.specs.QueryTexts.{query_text}
 use Rattle.rank_scores.specs.QueryCandidates.{CandidatesAreApart}
 use Rattle.rank_scores.specs.declared.candidate.Candidate.{Candidate}
 use Rattle.rank_scores.specs.Morsels.{morsels, best_of_query, kth_of_query}
-use Rattle.rank_papers.specs.Report.{text_line, Named, IsReport}
+use Rattle.rank_papers.specs.Report.{text_line, IsReport}
 use Rattle.rank_papers.specs.ReportLines.{Reported, IsReportOf, read_report, SaysRightReport}
 use Rattle.rank_papers.specs.Certificate.{Certified, Entry, title_line, certificate_text, kth_line, counted, entry_line}
 use Rattle.rank_papers.specs.Certificate.{end_line}

@@ -1,7 +1,7 @@
 -- The first test that fails, of tests of elements one after the other.
 use Rattle.std.proofs.Common.{◌≡◌, ℕ, zero, suc, ◌+◌, ◌-◌, ◌<◌, Bool, true, false, cond, List, [], ◌∷◌, ◌++◌, length}
 use Rattle.std.proofs.Common.{take, map, Option, Some, None, refl, sym, ap, ◌∙◌, arith, append-nil, get_or}
-use Rattle.std.specs.Prelude.{slice_get, nat_le, int_le, ◌&&◌, ◌||◌, not, ℤ}
+use Rattle.std.specs.Prelude.{slice_get, nat_le, int_le, ◌&&◌, ◌||◌, ◌==◌, not, ℤ}
 use Rattle.std.specs.List.{flat_map, enumerate_from, fold, list_all}
 use Rattle.std.specs.Option.{option_map, option_map_or, option_or, is_some}
 use Rattle.std.proofs.lemmas.Bool.{lt-leb}
@@ -25,7 +25,7 @@ use Rattle.ghcn_series.specs.Series.{Usable, Contents}
 use Rattle.rank_query.specs.Asked.{Asked}
 use Rattle.rank_scores.specs.Candidates.{candidates}
 use Rattle.rank_scores.specs.Order.{is_below}
-use Rattle.rank_papers.specs.Certificate.{Entry}
+use Rattle.rank_papers.specs.Certificate.{Entry, count_of}
 use Rattle.std.specs.Int.{int_max}
 use Rattle.std.proofs.lemmas.Int.{ints}
 use Rattle.std.proofs.Math.Bool.{and-true}
@@ -184,6 +184,22 @@ watched_at cs rows found i m e lt is =
     twice (r ∷ rs) = ap (λ (l : List Met). met cs r.candidate ∷ l) (twice rs)
 
 -- ---- the tests of a line
+
+-- the fault of a line is that of the line at its place
+pub fault-placed : (q : Asked) (kth : Option ℤ) (rows : List Candidate) (counts : List ℕ) (lines : List Entry) (i : ℕ)
+    (line : Entry) (count : Option ℕ) (s : Option Usable) (o : Option Verdict)
+    → o ≡ first_failing (line_tests q kth rows (i + 4) line count s) → count ≡ slice_get counts i
+    → slice_get lines i ≡ Some line
+    → option_map (λ l. first_failing (line_tests q kth rows (i + 4) l (slice_get counts i) s)) (slice_get lines i) ≡ Some o
+fault-placed q kth rows counts lines i line count s o said own there =
+    ap (option_map (λ (l : Entry). first_failing (line_tests q kth rows (i + 4) l (slice_get counts i) s))) there
+    ∙ ap (λ (n : Option ℕ). Some (first_failing (line_tests q kth rows (i + 4) line n s))) (sym own)
+    ∙ ap (λ (v : Option Verdict). Some v) (sym said)
+
+-- a count is the number of rows, where that is this number, exactly where it is this number
+pub counted_there : (rows : List Candidate) (e : Entry) (wanted : ℕ) (count : Option ℕ) → wanted ≡ count_of rows e
+    → is_counted rows e count ≡ option_map_or (λ n. n == wanted) count true
+counted_there rows e wanted count h = ap (λ (w : ℕ). option_map_or (λ n. n == w) count true) (sym h)
 
 -- the greater of two numbers is at most a bound where both are
 both_low : (x y b : ℤ) → int_le x b ≡ true → int_le y b ≡ true → int_le (int_max x y) b ≡ true

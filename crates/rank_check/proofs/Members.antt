@@ -1,15 +1,11 @@
 -- Which elements a list has: of what was found, kept, put in order, or made of series.
-use Rattle.std.proofs.Common.{◌≡◌, ◌⊎◌, inl, inr, ℕ, zero, suc, Bool, true, false, cond, not, List, [], ◌∷◌, ◌++◌, map}
-use Rattle.std.proofs.Common.{filter, length, Option, Some, None, refl, sym, ap, ◌∙◌, subst, ◌||◌}
-use Rattle.std.specs.Prelude.{◌==◌, ◌&&◌}
-use Rattle.std.specs.List.{find, list_any, flat_map, filter_map, cons_option, AllByRecursion, IsDistinct, Contains}
-use Rattle.std.specs.List.Sorted.{IsPermutation}
+use Rattle.std.proofs.Common.{◌≡◌, ◌⊎◌, inl, inr, Bool, true, false, cond, List, [], ◌∷◌, ◌++◌, map}
+use Rattle.std.proofs.Common.{filter, Option, Some, None, refl, sym, ap, ◌∙◌, subst, ◌||◌}
+use Rattle.std.specs.List.{find, list_any, flat_map, filter_map, cons_option, AllByRecursion, IsDistinct}
 use Rattle.std.specs.Ordering.{is_eq}
-use Rattle.std.proofs.lemmas.Bool.{and_parts}
 use Rattle.std.proofs.lemmas.Map.Keys.{IsDistinct-head, IsDistinct-tail}
 use Rattle.rank_scores.specs.declared.candidate.Candidate.{Candidate}
 use Rattle.rank_scores.specs.Order.{full_cmp}
-use Rattle.ghcn_fields.proofs.Ordered as ordered
 use Rattle.rank_check.specs.Tests.{is_among}
 use Rattle.rank_check.proofs.SortedCandidates.{same_from_tie, own_tie}
 

@@ -1,17 +1,18 @@
 -- Where all pieces are right, the papers say what is right.
-use Rattle.std.proofs.Common.{◌≡◌, ◌⊎◌, inl, inr, ℕ, zero, suc, ◌+◌, ◌-◌, ◌≤◌, ◌<◌, Bool, true, false, cond, not, List, []}
-use Rattle.std.proofs.Common.{◌∷◌, length, map, take, filter, Option, Some, None, refl, sym, ap, ◌∙◌, subst, arith, ◌||◌}
-use Rattle.std.proofs.Common.{ℤ, ◌≤ℤ◌, FitsSigned, w64}
-use Rattle.std.specs.Prelude.{slice_get, nat_le, ◌&&◌, ◌==◌}
+use Rattle.std.proofs.Common.{◌≡◌, ◌⊎◌, inl, inr, ℕ, zero, suc, ◌+◌, ◌-◌, ◌≤◌, ◌<◌, Bool, true, false, cond, not, List}
+use Rattle.std.proofs.Common.{[]}
+use Rattle.std.proofs.Common.{◌∷◌, length, map, take, filter, Option, Some, None, refl, sym, ap, ◌∙◌, subst, arith}
+use Rattle.std.proofs.Common.{◌||◌}
+use Rattle.std.proofs.Common.{ℤ, ◌≤ℤ◌}
+use Rattle.std.specs.Prelude.{slice_get, nat_le, ◌&&◌}
 use Rattle.std.specs.List.{find, list_any, count_by, AllByRecursion, AllZip}
-use Rattle.std.specs.Option.{option_map, option_map_or}
+use Rattle.std.specs.Option.{option_map}
 use Rattle.std.specs.Cmp.Lexicographic.{bytes_decides}
 use Rattle.std.proofs.lemmas.Bool.{and_parts, eqb-true, leb-true}
 use Rattle.std.proofs.lemmas.List.{length-map}
 use Rattle.std.proofs.lemmas.List.Sorted.{IsPermutation-sym}
 use Rattle.std.proofs.lemmas.List.Sums.{sum_by-cons}
 use Rattle.ghcn_fields.specs.Bytes.{same_bytes}
-use Rattle.ghcn_fields.specs.Faults.{first_failing}
 use Rattle.ghcn_files.specs.declared.station.Station.{Station}
 use Rattle.ghcn_files.specs.declared.station.StationId.{StationId}
 use Rattle.ghcn_files.specs.Ids.{same_id}
@@ -22,7 +23,7 @@ use Rattle.ghcn_series.specs.Held.{IsContents}
 use Rattle.rank_query.specs.Asked.{Asked, IsAsked, score_element}
 use Rattle.rank_scores.specs.declared.candidate.Candidate.{Candidate}
 use Rattle.rank_scores.specs.Candidates.{candidates}
-use Rattle.rank_scores.specs.Order.{AreApart, is_below, best}
+use Rattle.rank_scores.specs.Order.{AreApart, is_below}
 use Rattle.rank_scores.specs.Morsels.{all_candidates, morsels, best_of_query, kth_of_query}
 use Rattle.rank_scores.proofs.Ranks.{Descends}
 use Rattle.rank_papers.specs.Report.{Named, trimmed}
@@ -36,10 +37,10 @@ use Rattle.rank_check.specs.InPieces.{rows_with, worst_of, is_scanned, Rise, IsA
 use Rattle.rank_check.proofs.Each.{all_taken}
 use Rattle.rank_check.proofs.Failing.{slice_get-map}
 use Rattle.rank_check.proofs.KthScores.{kth-best}
-use Rattle.rank_check.proofs.Members.{In, of_one, for_each, found_in, any_in, in_any, kept_in, in_kept, in_map, map_in}
-use Rattle.rank_check.proofs.Members.{among_in, in_among}
+use Rattle.rank_check.proofs.Members.{In, of_one, for_each, found_in, any_in, kept_in, in_kept, in_map, map_in}
+use Rattle.rank_check.proofs.Members.{among_in}
 use Rattle.rank_check.proofs.Piecing.{passing, each_passes, or_rest}
-use Rattle.rank_check.proofs.QueryMembers.{permuted_in, own_id, listed_found, station_of, morsel_of, one_morsel}
+use Rattle.rank_check.proofs.QueryMembers.{permuted_in, own_id, station_of, morsel_of, one_morsel}
 use Rattle.rank_check.proofs.QueryMembers.{is_morsel_of, candidate_in, in_candidates}
 use Rattle.rank_check.proofs.RightLines.{above_from, below_from}
 use Rattle.rank_check.proofs.RisingIds.{ids_of, same_ids, rise_ids, morsel_ids}

@@ -1,8 +1,8 @@
 -- The candidates, series and stations of a query, one by one.
-use Rattle.std.proofs.Common.{◌≡◌, ℕ, zero, suc, Bool, true, false, cond, not, List, [], ◌∷◌, length, map, filter, Option}
+use Rattle.std.proofs.Common.{◌≡◌, Bool, true, false, not, List, [], ◌∷◌, length, filter, Option}
 use Rattle.std.proofs.Common.{Some, None, refl, sym, ap, ◌∙◌, subst, arith}
 use Rattle.std.specs.Prelude.{◌==◌, ◌&&◌}
-use Rattle.std.specs.List.{find, flat_map, filter_map, AllByRecursion}
+use Rattle.std.specs.List.{find, AllByRecursion}
 use Rattle.std.specs.List.Sorted.{IsPermutation}
 use Rattle.std.specs.Option.{option_map_or}
 use Rattle.std.proofs.lemmas.Bool.{and_parts, eqb-true}
@@ -14,7 +14,7 @@ use Rattle.ghcn_files.specs.declared.element.Element.{Element}
 use Rattle.ghcn_files.specs.Ids.{same_id}
 use Rattle.ghcn_files.specs.IdLaws.{same_id-is, same_id-laws}
 use Rattle.ghcn_files.specs.Listed.{is_station_of}
-use Rattle.ghcn_series.specs.Series.{DayValue, Usable, Contents, series_of, is_series_of}
+use Rattle.ghcn_series.specs.Series.{Usable, Contents, series_of, is_series_of}
 use Rattle.ghcn_series.specs.Held.{IsContents}
 use Rattle.rank_query.specs.Asked.{Asked, score_element}
 use Rattle.rank_query.specs.Admits.{admits_station}
@@ -24,7 +24,8 @@ use Rattle.rank_scores.specs.Morsels.{has_admitted, admitted_series, all_candida
 use Rattle.rank_scores.proofs.QueryCandidates.{candidates-own}
 use Rattle.ghcn_fields.proofs.Ordered as ordered
 use Rattle.rank_check.specs.Pieces.{is_morsel}
-use Rattle.rank_check.proofs.Members.{In, of_one, for_each, found_in, kept_in, in_kept, made_in, in_made, in_all, all_in}
+use Rattle.rank_check.proofs.Members.{In, of_one, for_each, found_in, kept_in, in_kept, made_in, in_made, in_all}
+use Rattle.rank_check.proofs.Members.{all_in}
 use Rattle.rank_check.proofs.Members.{in_found}
 
 -- what is there is in each permutation

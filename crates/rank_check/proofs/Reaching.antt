@@ -1,21 +1,18 @@
 -- What one scan of a series finds for a line by itself.
-use Rattle.std.proofs.Common.{◌≡◌, ℕ, Bool, true, false, not, List, [], ◌∷◌, ◌++◌, Option, Some, refl, sym, ap, ◌∙◌}
-use Rattle.std.proofs.Common.{map, append-nil, append_assoc, ◌||◌, ℤ}
+use Rattle.std.proofs.Common.{◌≡◌, Bool, true, false, not, List, [], ◌∷◌, ◌++◌, Option, refl, sym, ap, ◌∙◌}
+use Rattle.std.proofs.Common.{append-nil, append_assoc, ◌||◌}
 use Rattle.std.specs.Prelude.{◌&&◌}
 use Rattle.std.specs.List.{fold, list_any, list_all}
 use Rattle.std.specs.Ordering.{is_eq}
 use Rattle.std.proofs.lemmas.List.Folds.{list_any-append}
-use Rattle.ghcn_series.specs.Series.{Usable}
-use Rattle.rank_query.specs.Asked.{Asked}
 use Rattle.rank_scores.specs.declared.candidate.Candidate.{Candidate}
-use Rattle.rank_scores.specs.Candidates.{candidates}
 use Rattle.rank_scores.specs.Order.{full_cmp}
 use Rattle.rank_papers.specs.declared.paper.Row.{Row}
 use Rattle.rank_check.specs.declared.pieces.Wanted.{Wanted}
 use Rattle.rank_check.specs.declared.pieces.Reached.{Reached}
-use Rattle.rank_check.specs.Survey.{raised, top_score, candidates_of}
+use Rattle.rank_check.specs.Survey.{top_score, candidates_of}
 use Rattle.rank_check.specs.Tests.{is_among}
-use Rattle.rank_check.specs.Pieces.{is_within, has_all}
+use Rattle.rank_check.specs.Pieces.{is_within}
 use Rattle.rank_check.specs.Reach.{wanted_by, is_printed, is_missing, reached_by}
 use Rattle.rank_check.proofs.Surveying.{or_false, top-more}
 

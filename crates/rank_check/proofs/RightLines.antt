@@ -1,7 +1,7 @@
 -- The tests of a certificate's lines pass exactly where each is a right entry of its morsel.
 use Rattle.std.proofs.Common.{◌≡◌, ℕ, suc, ◌+◌, ◌-◌, ◌≤◌, Bool, true, false, not, List, [], ◌∷◌, length, map, Option}
 use Rattle.std.proofs.Common.{Some, None, refl, sym, ap, ◌∙◌, arith, ℤ, ◌≤ℤ◌, ◌||◌}
-use Rattle.std.specs.Prelude.{slice_get, nat_le, int_le, ◌&&◌, ◌==◌, ⊤}
+use Rattle.std.specs.Prelude.{slice_get, nat_le, int_le, ◌&&◌, ⊤}
 use Rattle.std.specs.List.{flat_map, enumerate_from, list_all, AllByRecursion, AllZip}
 use Rattle.std.specs.Option.{option_map_or}
 use Rattle.std.proofs.lemmas.Bool.{and_parts, leb-true, le-leb, eqb-true}

@@ -1,30 +1,29 @@
 -- IDs that rise, of lines and of morsels.
-use Rattle.std.proofs.Common.{◌≡◌, ◌⊎◌, inl, inr, Bool, true, false, cond, List, [], ◌∷◌, map, filter, refl, sym, ap, ◌∙◌}
+use Rattle.std.proofs.Common.{◌≡◌, inl, inr, true, false, List, [], ◌∷◌, map, filter, refl, sym, ap, ◌∙◌}
 use Rattle.std.proofs.Common.{subst}
 use Rattle.std.specs.List.{AllByRecursion, IsDistinct}
-use Rattle.std.specs.List.Sorted.{IsPermutation}
 use Rattle.std.specs.Cmp.{IsTotalOrder}
 use Rattle.std.specs.Cmp.Lexicographic.{slice_cmp}
-use Rattle.std.specs.Ordering.{is_lt, is_le, is_eq, nat_cmp, ordering_reverse, on}
+use Rattle.std.specs.Ordering.{is_lt, is_le, is_eq, nat_cmp, ordering_reverse}
 use Rattle.std.specs.declared.cmp.Ordering.{Ordering}
 use Rattle.std.specs.declared.cmp.Ordering.TheVariants.{Less, Equal, Greater}
-use Rattle.std.proofs.lemmas.Cmp.{nat_list_cmp_total, on_total, nat_list_eq_equiv}
+use Rattle.std.proofs.lemmas.Cmp.{nat_list_cmp_total, on_total}
 use Rattle.std.proofs.lemmas.Map.Text.{is_eq-slice_cmp}
 use Rattle.std.proofs.lemmas.Map.Keys.{IsDistinct-IsPermutation}
 use Rattle.ghcn_fields.specs.Sorting.{sorted_by}
 use Rattle.ghcn_files.specs.declared.station.StationId.{StationId}
-use Rattle.ghcn_files.specs.Ids.{same_id}
 use Rattle.ghcn_series.specs.Series.{Usable, Contents}
 use Rattle.ghcn_series.specs.Held.{IsContents}
 use Rattle.rank_query.specs.Asked.{Asked}
-use Rattle.rank_scores.specs.Morsels.{has_admitted, admitted_series, morsels, id_comes_first}
+use Rattle.rank_scores.specs.Morsels.{has_admitted, admitted_series, morsels}
 use Rattle.rank_papers.specs.Certificate.{Entry}
 use Rattle.ghcn_fields.proofs.Ordered as ordered
 use Rattle.rank_check.specs.declared.survey.Top.{Top}
 use Rattle.rank_check.specs.Survey.{top}
 use Rattle.rank_check.specs.InPieces.{stands_before, Rise}
 use Rattle.rank_check.proofs.Members.{In, for_each}
-use Rattle.rank_check.proofs.SortedTops.{by_id, by_id_total, comes_first, of_one, of_one-turned, tied_one, distinct_tops}
+use Rattle.rank_check.proofs.SortedTops.{by_id, by_id_total, comes_first, of_one, of_one-turned, tied_one}
+use Rattle.rank_check.proofs.SortedTops.{distinct_tops}
 use Rattle.rank_check.proofs.SortedTops.{sorted-top}
 use Rattle.rank_check.proofs.Surveying.{by_station}
 

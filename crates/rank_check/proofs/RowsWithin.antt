@@ -1,5 +1,5 @@
 -- The rows of a report, and the candidates that are the worst of them or precede it.
-use Rattle.std.proofs.Common.{◌≡◌, inl, inr, ℕ, zero, suc, ◌-◌, ◌≤◌, Bool, true, false, cond, List, [], ◌∷◌, length, take}
+use Rattle.std.proofs.Common.{◌≡◌, inl, inr, ℕ, zero, suc, Bool, true, false, cond, List, [], ◌∷◌, length, take}
 use Rattle.std.proofs.Common.{filter, Option, Some, None, refl, sym, ap, ◌∙◌, subst, arith, ◌||◌, ℤ, ◌≤ℤ◌, ◌<ℤ◌}
 use Rattle.std.specs.Prelude.{slice_get}
 use Rattle.std.specs.List.{AllByRecursion}
@@ -14,7 +14,7 @@ use Rattle.rank_scores.specs.Order.{precedes, rank_cmp, full_cmp}
 use Rattle.rank_scores.proofs.Ranks.{rank_cmp_total, Descends}
 use Rattle.ghcn_fields.proofs.Ordered as ordered
 use Rattle.rank_check.specs.Pieces.{is_within, AreInOrder}
-use Rattle.rank_check.proofs.Members.{In, of_one, for_each, kept_in, in_kept}
+use Rattle.rank_check.proofs.Members.{In, of_one, for_each}
 use Rattle.rank_check.proofs.SortedCandidates.{same_from_tie, own_tie}
 
 -- ---- precedence

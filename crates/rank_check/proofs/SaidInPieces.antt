@@ -1,10 +1,11 @@
 -- Where papers say what is right, all their pieces are right.
-use Rattle.std.proofs.Common.{◌≡◌, ◌⊎◌, inl, inr, ℕ, zero, suc, ◌+◌, ◌-◌, ◌≤◌, ◌<◌, Bool, true, false, cond, not, List, []}
-use Rattle.std.proofs.Common.{◌∷◌, length, map, take, filter, Option, Some, None, refl, sym, ap, ◌∙◌, subst, arith, ◌||◌}
+use Rattle.std.proofs.Common.{◌≡◌, inl, inr, ℕ, suc, ◌-◌, ◌≤◌, Bool, true, false, cond, not, List, []}
+use Rattle.std.proofs.Common.{◌∷◌, length, map, take, filter, Option, Some, None, refl, sym, ap, ◌∙◌, subst, arith}
+use Rattle.std.proofs.Common.{◌||◌}
 use Rattle.std.proofs.Common.{ℤ, ◌≤ℤ◌, eq-eqb, Ok}
-use Rattle.std.specs.Prelude.{slice_get, nat_le, ◌&&◌, ◌==◌, int_lt}
+use Rattle.std.specs.Prelude.{slice_get, nat_le, ◌&&◌, int_lt}
 use Rattle.std.specs.List.{find, list_any, count_by, sum, AllByRecursion, AllZip}
-use Rattle.std.specs.Option.{option_map, option_map_or}
+use Rattle.std.specs.Option.{option_map}
 use Rattle.std.specs.Cmp.Lexicographic.{bytes_decides}
 use Rattle.std.proofs.lemmas.Bool.{and_parts, leb-true}
 use Rattle.std.proofs.lemmas.Int.{ints}
@@ -16,18 +17,16 @@ use Rattle.ghcn_files.specs.declared.station.StationId.{StationId}
 use Rattle.ghcn_files.specs.Ids.{same_id}
 use Rattle.ghcn_files.specs.IdLaws.{same_id-is, same_id-laws}
 use Rattle.ghcn_files.specs.Listed.{is_station_of}
-use Rattle.ghcn_series.specs.Series.{Usable, Contents, series_of}
+use Rattle.ghcn_series.specs.Series.{Usable, Contents}
 use Rattle.ghcn_series.specs.Held.{IsContents}
-use Rattle.rank_query.specs.Asked.{Asked, IsAsked, score_element}
-use Rattle.rank_query.specs.Admits.{admits_station}
+use Rattle.rank_query.specs.Asked.{Asked, IsAsked}
 use Rattle.rank_scores.specs.declared.candidate.Candidate.{Candidate}
 use Rattle.rank_scores.specs.Candidates.{candidates}
-use Rattle.rank_scores.specs.Order.{AreApart, is_below, best}
+use Rattle.rank_scores.specs.Order.{AreApart, is_below}
 use Rattle.rank_scores.specs.Morsels.{all_candidates, morsels, best_of_query, kth_of_query}
 use Rattle.rank_papers.specs.Report.{Named, trimmed}
-use Rattle.rank_papers.specs.ReportLines.{Reported, IsReportOf, SaysRightReport, name_of, read_report}
+use Rattle.rank_papers.specs.ReportLines.{Reported, SaysRightReport, name_of, read_report}
 use Rattle.rank_papers.specs.CertificateLines.{read_certificate}
-use Rattle.rank_papers.specs.Certificate.{IsCertificateOf}
 use Rattle.rank_papers.specs.Laws.{CertificatesAreRead, RightCertificatesSayRight, ReportsAreRead, RightReportsSayRight}
 use Rattle.rank_check.specs.Laws.{AcceptedWhereRight}
 use Rattle.rank_papers.specs.Certificate.{Entry, Certified, IsRightEntry, SaysRight, count_of, counts_of, kth_of_best}
@@ -38,17 +37,16 @@ use Rattle.rank_check.specs.InPieces.{RightInPieces, AcceptedInPieces}
 use Rattle.rank_scores.specs.QueryCandidates.{CandidatesAreApart}
 use Rattle.rank_scores.proofs.Ranks.{Descends}
 use Rattle.rank_check.proofs.RowCounts.{counts_add_up}
-use Rattle.rank_check.proofs.Each.{all_taken}
 use Rattle.rank_check.proofs.Failing.{slice_get-map}
 use Rattle.rank_check.proofs.KthScores.{kth-best, last_taken}
-use Rattle.rank_check.proofs.Members.{In, of_one, for_each, found_in, any_in, in_any, kept_in, in_kept, in_map, map_in}
-use Rattle.rank_check.proofs.Members.{among_in, in_among}
+use Rattle.rank_check.proofs.Members.{In, of_one, for_each, in_any, kept_in, in_kept, in_map}
+use Rattle.rank_check.proofs.Members.{in_among}
 use Rattle.rank_check.proofs.Piecing.{none_failing, all_passes, or_made}
 use Rattle.rank_check.proofs.PiecesSay.{row_in, rows_counted, pieces_say}
 use Rattle.rank_check.proofs.QueryMembers.{permuted_in, own_id, listed_found, station_of, morsel_of, is_morsel_of}
 use Rattle.rank_check.proofs.QueryMembers.{one_morsel, candidate_in, in_candidates, candidate_id}
 use Rattle.rank_check.proofs.RightLines.{above_to, below_to}
-use Rattle.rank_check.proofs.RisingIds.{ids_of, RiseAll, IsBefore, ids_rise, morsel_ids}
+use Rattle.rank_check.proofs.RisingIds.{ids_of, RiseAll, ids_rise, morsel_ids}
 use Rattle.rank_check.proofs.RowsWithin.{kept_descends, descends_order, first_within, within_score}
 use Rattle.rank_check.proofs.SortedCandidates.{in_order, ordered-permutation, ordered-descends, best_first}
 

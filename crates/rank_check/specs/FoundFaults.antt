@@ -10,7 +10,7 @@ use Rattle.rank_scores.specs.declared.candidate.Candidate.{Candidate}
 use Rattle.rank_scores.specs.Morsels.{all_candidates, morsels, kth_of_query}
 use Rattle.rank_papers.specs.declared.paper.Row.{Row}
 use Rattle.rank_papers.specs.ReportLines.{named_in}
-use Rattle.rank_papers.specs.Certificate.{Entry, Certified}
+use Rattle.rank_papers.specs.Certificate.{Entry, Certified, count_of}
 use Rattle.rank_check.specs.declared.tally.Met.{Met}
 use Rattle.rank_check.specs.declared.survey.Top.{Top}
 use Rattle.rank_check.specs.declared.survey.Findings.{Findings}
@@ -33,26 +33,28 @@ IsFaultOfRow stations rows place found fault = (q : Asked) (c : Contents) → st
     → option_map (λ row. first_failing (row_tests q c (map named_in rows) (place + 1, named_in row)))
     (slice_get rows place) ≡ Some fault
 
--- ---- lines of morsels, where the certificate has this k-th score, and the report these rows
+-- ---- lines of morsels, where the certificate has this k-th score, and of the report's rows so many are of each line
 
 -- the fault of all lines with these counts, where these are the greatest scores of the morsels
-abbrev pub IsFaultOfLines : Option ℤ → List Candidate → List ℕ → List Entry → List Top → Option Verdict → Type 0
-IsFaultOfLines kth rows counts lines tops fault = (q : Asked) (c : Contents) → tops ≡ map (top q) (morsels q c)
+abbrev pub IsFaultOfLines : Option ℤ → List ℕ → List ℕ → List Entry → List Top → Option Verdict → Type 0
+IsFaultOfLines kth wanted counts lines tops fault =
+    (rows : List Candidate) → wanted ≡ map (count_of rows) lines
+    → (q : Asked) (c : Contents) → tops ≡ map (top q) (morsels q c)
     → fault ≡ first_failing (tests_of_lines q c kth rows counts lines)
 
 -- the fault of a line by its number and its count, if it has one, where this is the greatest score of its morsel, if
 -- there is one
-abbrev pub IsFaultOfLine :
-    Option ℤ → List Candidate → ℕ → Entry → Option ℕ → Option Top → Option Verdict → Type 0
-IsFaultOfLine kth rows number line count found fault =
-    (q : Asked) (s : Option Usable) → found ≡ option_map (top q) s
+abbrev pub IsFaultOfLine : Option ℤ → ℕ → ℕ → Entry → Option ℕ → Option Top → Option Verdict → Type 0
+IsFaultOfLine kth wanted number line count found fault =
+    (rows : List Candidate) → wanted ≡ count_of rows line
+    → (q : Asked) (s : Option Usable) → found ≡ option_map (top q) s
     → fault ≡ first_failing (line_tests q kth rows number line count s)
 
 -- the fault of the line at a place
-abbrev pub IsFaultOfLineAt :
-    Option ℤ → List Candidate → List ℕ → List Entry → ℕ → Option Top → Option Verdict → Type 0
-IsFaultOfLineAt kth rows counts lines place found fault =
-    (q : Asked) (s : Option Usable) → found ≡ option_map (top q) s
+abbrev pub IsFaultOfLineAt : Option ℤ → List ℕ → List ℕ → List Entry → ℕ → Option Top → Option Verdict → Type 0
+IsFaultOfLineAt kth wanted counts lines place found fault =
+    (rows : List Candidate) → wanted ≡ map (count_of rows) lines
+    → (q : Asked) (s : Option Usable) → found ≡ option_map (top q) s
     → option_map (λ line. first_failing (line_tests q kth rows (place + 4) line (slice_get counts place) s))
     (slice_get lines place) ≡ Some fault
 

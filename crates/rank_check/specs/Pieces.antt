@@ -1,6 +1,7 @@
 -- One line of a certificate of version 2 by itself, and one station without a line: a certificate is checked in pieces,
 -- in any order.
-use Rattle.std.specs.Prelude.{◌≡◌, ◌↔◌, ℕ, ◌==◌, Bool, true, false, ◌&&◌, ◌||◌, not, List, [], ◌∷◌, length, map, Option, None}
+use Rattle.std.specs.Prelude.{◌≡◌, ◌↔◌, ℕ, ◌==◌, Bool, true, false, ◌&&◌, ◌||◌, not, List, [], ◌∷◌, length, Option}
+use Rattle.std.specs.Prelude.{None}
 use Rattle.std.specs.Prelude.{Some, ⊤, ℤ}
 use Rattle.std.specs.List.{list_all, Contains, AllByRecursion}
 use Rattle.std.specs.Option.{option_map, option_map_or}

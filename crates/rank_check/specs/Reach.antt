@@ -1,5 +1,5 @@
 -- What one scan of a series finds for a line by itself, without memory.
-use Rattle.std.specs.Prelude.{◌≡◌, Bool, true, ◌&&◌, ◌||◌, not, List, Option, Some}
+use Rattle.std.specs.Prelude.{Bool, ◌&&◌, ◌||◌, not, List, Option, Some}
 use Rattle.std.specs.List.{list_any}
 use Rattle.std.specs.Ordering.{is_eq}
 use Rattle.rank_scores.specs.declared.candidate.Candidate.{Candidate}

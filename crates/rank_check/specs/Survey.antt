@@ -11,7 +11,7 @@ use Rattle.ghcn_series.specs.Says.{in_64_bits}
 use Rattle.rank_query.specs.Asked.{Asked, score_element}
 use Rattle.rank_query.specs.Admits.{admits_station}
 use Rattle.rank_scores.specs.declared.candidate.Candidate.{Candidate}
-use Rattle.rank_scores.specs.Candidates.{admitted, candidates}
+use Rattle.rank_scores.specs.Candidates.{candidates}
 use Rattle.rank_scores.specs.Order.{full_cmp, precedes, rank_in}
 use Rattle.rank_scores.specs.Morsels.{all_candidates, morsels}
 use Rattle.rank_papers.specs.declared.paper.Row.{Row}

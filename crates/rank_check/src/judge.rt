@@ -1,10 +1,10 @@
 //! The verdict on two papers that were read.
 
-ghost use Rattle.std.specs.Prelude.{◌≡◌, [], ◌∷◌, Ok, Some, IfOk, nat_le, length};
+ghost use Rattle.std.specs.Prelude.{◌≡◌, [], ◌∷◌, Ok, Some, IfOk, nat_le, length, map};
 ghost use Rattle.ghcn_fields.specs.Faults.{first_failing};
 ghost use Rattle.rank_query.specs.Asked.{IsAsked};
 ghost use Rattle.rank_papers.specs.ReportLines.{reported_in, IsReported};
-ghost use Rattle.rank_papers.specs.Certificate.{kth_of_best};
+ghost use Rattle.rank_papers.specs.Certificate.{kth_of_best, count_of};
 ghost use Rattle.rank_papers.specs.CertificateLines.{certified_in};
 ghost use Rattle.rank_check.specs.FoundFaults.{IsFaultOfCertificate};
 ghost use Rattle.rank_check.specs.Survey.{AreFindings, candidates_of};
@@ -13,10 +13,11 @@ ghost use Rattle.rank_check.specs.Tests as tests;
 use crate::lines::lines_fault;
 use crate::rows::rows_fault;
 use crate::survey::{Findings, Top, survey};
+use crate::tally::candidates_of;
 use crate::verdict::{Paper, Verdict, Why};
 use ghcn_fields::Memory;
 use ghcn_series::Data;
-use rank_papers::{Certificate, Line, Report, Row, certificates_are_read};
+use rank_papers::{Certificate, Line, Report, Row, certificates_are_read, row_counts};
 use rank_query::Query;
 use rank_scores::candidates_of_queries;
 use std::alloc::Global;
@@ -118,9 +119,18 @@ fn certificate_fault(
         return Ok(refused(Paper::Certificate, 3, Why::OtherFloor));
     }
     let (lines, counts) = (certificate.lines.as_slice(), certificate.counts.as_slice());
+    let wanted = wanted_counts(alloc, rows, lines)?;
     let tops = found.tops.as_slice();
     let few = length_fault(tops, lines);
-    Ok(lines_fault(certificate.kth, rows, counts, lines, tops).or(few))
+    Ok(lines_fault(certificate.kth, wanted.as_slice(), counts, lines, tops).or(few))
+}
+
+/// How many rows of a report are of the station of each line.
+fn wanted_counts(alloc: Global, rows: &[Row], lines: &[Line]) -> Result<Vec<u64>, Memory>
+    ensures { IfOk result (λ wanted. wanted.items ≡ map (count_of (candidates_of rows.now)) lines.now) }
+{
+    let candidates = candidates_of(alloc, rows)?;
+    row_counts(alloc, candidates.as_slice(), lines)
 }
 
 /// The refusal of a certificate with fewer lines than morsels.

@@ -1,33 +1,28 @@
 //! The tests of the lines of a certificate, one line after the other.
 
 ghost use Rattle.std.specs.Prelude.{◌≡◌, Some, true, ◌<◌, ◌==◌, length, slice_get, int_le, not, ◌||◌};
-ghost use Rattle.std.specs.List.{count_by};
 ghost use Rattle.std.specs.Option.{option_copied, option_map_or};
-ghost use Rattle.ghcn_files.specs.Ids.{same_id};
-ghost use Rattle.rank_papers.specs.Certificate.{count_of};
 ghost use Rattle.rank_scores.specs.Order as order;
 ghost use Rattle.rank_check.specs.FoundFaults.{IsFaultOfLine, IsFaultOfLineAt, IsFaultOfLines};
-ghost use Rattle.rank_check.specs.Survey.{candidates_of};
-ghost use Rattle.rank_check.specs.Tests as tests;
 
 use crate::survey::Top;
 use crate::verdict::{Paper, Verdict, Why};
-use ghcn_files::StationId;
-use rank_papers::{Line, Row};
+use rank_papers::Line;
 
 /// The first test that a line fails, after the lines before it, where the certificate has this k-th
-/// score and these counts, and the report these rows.
+/// score and these counts, and of the report's rows so many are of each line's station.
 pub(crate) fn lines_fault(
     kth: Option<i64>,
-    rows: &[Row],
+    wanted: &[u64],
     counts: &[u64],
     lines: &[Line],
     tops: &[Top],
 ) -> Option<Verdict>
-    ensures { IsFaultOfLines kth (candidates_of rows.now) counts.now lines.now tops.now result }
+    requires { length wanted.now ≡ length lines.now }
+    ensures { IsFaultOfLines kth wanted.now counts.now lines.now tops.now result }
 {
     for place in 0..lines.len() {
-        let fault = fault_at(kth, rows, counts, lines, place, top_at(tops, place));
+        let fault = fault_at(kth, wanted, counts, lines, place, top_at(tops, place));
         if fault.is_some() {
             return fault;
         }
@@ -35,7 +30,7 @@ pub(crate) fn lines_fault(
     None
 }
 
-/// What was found of the morsel of a place, if there is one.
+/// The morsel of a place, if there is one.
 fn top_at(tops: &[Top], place: usize) -> Option<&Top>
     ensures { option_copied result ≡ slice_get tops.now place }
 {
@@ -52,32 +47,39 @@ fn count_at(counts: &[u64], place: usize) -> Option<u64>
 /// The first test that the line at a place fails.
 fn fault_at(
     kth: Option<i64>,
-    rows: &[Row],
+    wanted: &[u64],
     counts: &[u64],
     lines: &[Line],
     place: usize,
     top: Option<&Top>,
 ) -> Option<Verdict>
-    requires { place < length lines.now }
-    ensures { IsFaultOfLineAt kth (candidates_of rows.now) counts.now lines.now place
+    requires within { place < length lines.now }
+    requires many { length wanted.now ≡ length lines.now }
+    ensures { IsFaultOfLineAt kth wanted.now counts.now lines.now place
         (option_copied top.entry) result }
 {
     let count = count_at(counts, place);
-    line_fault(kth, rows, &lines[place], place as u64 + 4, count, top)
+    line_fault(
+        kth,
+        wanted[place],
+        &lines[place],
+        place as u64 + 4,
+        count,
+        top,
+    )
 }
 
-/// The first test that a line fails, by its number, its count, and what was found of the morsel of its
-/// place.
+/// The first test that a line fails, by the number of rows of its station, its number, its count, and
+/// what was found of the morsel of its place.
 fn line_fault(
     kth: Option<i64>,
-    rows: &[Row],
+    wanted: u64,
     line: &Line,
     number: u64,
     count: Option<u64>,
     top: Option<&Top>,
 ) -> Option<Verdict>
-    ensures { IsFaultOfLine kth (candidates_of rows.now) number line.now count
-        (option_copied top.entry) result }
+    ensures { IsFaultOfLine kth wanted number line.now count (option_copied top.entry) result }
 {
     let top = match top {
         Some(top) if top.id == line.id => top,
@@ -89,44 +91,20 @@ fn line_fault(
     if !may_stand(kth, line) {
         return refused(number, Why::NotBelow);
     }
-    if !is_counted(rows, line, count) {
+    if !is_counted(wanted, count) {
         return refused(number, Why::NotCounted);
     }
     None
 }
 
 /// Whether a count, where there is one, is the number of rows of a line's station.
-fn is_counted(rows: &[Row], line: &Line, count: Option<u64>) -> bool
-    ensures { result ≡ tests.is_counted (candidates_of rows.now) line.now count }
+fn is_counted(wanted: u64, count: Option<u64>) -> bool
+    ensures { result ≡ option_map_or (λ n. n == wanted) count true }
 {
     match count {
-        Some(count) => count == rows_of(rows, line),
+        Some(count) => count == wanted,
         None => true,
     }
-}
-
-/// How many rows are of the station of a line. Of one that was passed over none is counted.
-fn rows_of(rows: &[Row], line: &Line) -> u64
-    ensures { result ≡ count_of (candidates_of rows.now) line.now }
-{
-    if line.skipped {
-        0
-    } else {
-        of_station(rows, &line.id)
-    }
-}
-
-/// How many rows are of a station.
-fn of_station(rows: &[Row], id: &StationId) -> u64
-    ensures { result ≡ count_by (λ c. same_id c.id id.now) (candidates_of rows.now) }
-{
-    let mut count = 0;
-    for row in rows {
-        if row.candidate.id == *id {
-            count += 1;
-        }
-    }
-    count
 }
 
 /// A refusal of a line of the certificate.

@@ -223,7 +223,7 @@ pub(crate) fn raised(highest: Option<i64>, score: i64) -> i64
 }
 
 /// The candidates of rows.
-fn candidates_of(alloc: Global, rows: &[Row]) -> Result<Vec<Candidate>, Memory>
+pub(crate) fn candidates_of(alloc: Global, rows: &[Row]) -> Result<Vec<Candidate>, Memory>
     ensures { IfOk result (λ found. found.items ≡ survey.candidates_of rows.now) }
 {
     let mut found = Vec::new(alloc);

@@ -20,6 +20,7 @@ returns c = λ held kth tops.
     let same : same_query z.query q ≡ true = sym c.in_ok-is_same_query.ensures ∙ c.if-not-branch.false in
     let score : same_score z.kth (kth_of_query q held) ≡ true =
     ap (same_score z.kth) (sym kth) ∙ sym c.is_same_score.ensures ∙ c.if-not-is_same_score.false in
+    let counted = c.as_slice.ensures.value ∙ c.in_ok-wanted.ensures in
     let found = c.as_slice-tops.ensures.value ∙ tops in
     let long = ap (λ (l : List Top). length l) found ∙ length-map (morsels q held) (top q) in
     let few =
@@ -28,7 +29,7 @@ returns c = λ held kth tops.
     ∙ ap (λ (es : List Entry). first_failing (length_test (length (morsels q held)) (length es) ∷ []))
     c.as_slice-lines.ensures.value in
     c.or.ensures ∙ certificate_decided q held rows (certified_in z) c.lines_fault.result c.length_fault-few.result same score
-    (c.lines_fault.ensures q held found
+    (c.lines_fault.ensures rows counted q held found
     ∙ ap (λ (ns : List ℕ). first_failing (tests_of_lines q held z.kth rows ns c.as_slice-lines.result.now))
     c.as_slice-counts.ensures.value
     ∙ ap (λ (es : List Entry). first_failing (tests_of_lines q held z.kth rows z.counts.items es))

@@ -5,7 +5,6 @@ use Rattle.rank_scores.specs.Morsels.{kth_of_query}
 use Rattle.rank_papers.specs.Certificate.{kth_of_best}
 use Rattle.rank_papers.specs.ReportLines.{reported_in}
 use Rattle.rank_papers.specs.CertificateLines.{certified_in}
-use Rattle.rank_papers.specs.declared.paper.Row.{Row}
 use Rattle.rank_check.specs.Survey.{candidates_of}
 use Rattle.rank_check.specs.Tests.{of_rows, or_accepted, report_tests, certificate_tests}
 use Rattle.rank_check.proofs.Failing.{behind_none, before_some}

@@ -1,8 +1,6 @@
-use Rattle.std.proofs.Common.{◌≡◌, ◌∙◌, sym, subst, List, map}
+use Rattle.std.proofs.Common.{◌∙◌, sym, subst, map}
 use Rattle.std.specs.Option.{option_copied}
-use Rattle.rank_scores.specs.declared.candidate.Candidate.{Candidate}
 use Rattle.rank_papers.specs.ReportLines.{named_in}
-use Rattle.rank_check.specs.Tests.{of_rows}
 use Rattle.rank_check.specs.Pieces.{AreRowsWithin}
 use Rattle.rank_check.proofs.KthScores.{candidates_named}
 use Rattle.rank_check.proofs.Piecing.{right_piece}

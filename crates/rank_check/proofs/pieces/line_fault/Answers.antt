@@ -3,7 +3,7 @@ use Rattle.std.specs.Option.{option_copied}
 use Rattle.rank_scores.specs.declared.candidate.Candidate.{Candidate}
 use Rattle.rank_scores.specs.Order.{is_below}
 use Rattle.rank_check.specs.Survey.{candidates_of}
-use Rattle.rank_check.specs.Pieces.{has_all, score_of}
+use Rattle.rank_check.specs.Pieces.{has_all}
 use Rattle.rank_check.proofs.Failing.{is_low}
 use Rattle.rank_check.proofs.Piecing.{last-by}
 use Rattle.rank_check.proofs.QueryMembers.{so}

@@ -1,5 +1,4 @@
-use Rattle.std.proofs.Common.{◌≡◌, List, [], None, false, ap, ◌∙◌}
-use Rattle.std.specs.List.{fold}
+use Rattle.std.proofs.Common.{List, [], None, false, ap, ◌∙◌}
 use Rattle.rank_scores.specs.declared.candidate.Candidate.{Candidate}
 use Rattle.rank_scores.specs.Candidates.{candidates}
 use Rattle.rank_check.specs.declared.pieces.Reached.{Reached}
