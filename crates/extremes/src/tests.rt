@@ -209,7 +209,7 @@ fn guesses_and_the_first_fault(rt: HostRuntime) {
         (Some(2_147_483_648), "top", b"x", Some(Fault::QueryEnds)),
         (None, "top 1 highest TMAX", b"", None),
         (Some(-2_147_483_648), "top 1 highest TMAX", b"", None),
-        (None, "top 1 hot 30", b"", Some(Fault::UnexpectedWord(3))),
+        (None, "top 1 icy 30", b"", Some(Fault::UnexpectedWord(3))),
     ];
     for (guess, query, stations, fault) in cases {
         let found = rank_serial(rt.alloc(), stations, &[], query, guess).err();

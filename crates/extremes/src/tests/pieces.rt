@@ -97,7 +97,7 @@ fn files_behind_a_fault_are_counted(rt: HostRuntime) {
         ("top 1 dry", b"x", 1 << 20, b"y", Fault::TooManyFiles),
         ("top 1 dry", b"x", (1 << 20) + 1, b"", Fault::TooManyFiles),
         ("top 1 dry", b"", (1 << 20) + 1, b"", Fault::TooManyFiles),
-        ("top 1 hot", b"x", (1 << 20) + 1, b"", bad_query),
+        ("top 1 icy", b"x", (1 << 20) + 1, b"", bad_query),
     ];
     for (query, first, count, last, expected) in cases {
         let mut intake = Intake::new(rt.alloc(), 1, None, query, STATIONS);
