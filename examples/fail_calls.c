@@ -7,20 +7,25 @@
                most: each read gives at most FAIL_AT bytes
    FAIL_FILE   a file's name without its folder. FAIL_HOW cut: its reads end after FAIL_AT bytes;
                missing: it can't be opened
-   FAIL_MARK   a file that is left where a call met this */
+   FAIL_MARK   a file that is left where a call meets this for the first time. It has the path of that call's
+               file: as it was given where it was to be opened, as the system names it where it is open,
+               and none for the start of a thread */
 #define _GNU_SOURCE
 #include <dlfcn.h>
 #include <errno.h>
 #include <fcntl.h>
+#include <limits.h>
 #include <pthread.h>
 #include <stdarg.h>
 #include <stdatomic.h>
+#include <stdio.h>
 #include <stdlib.h>
 #include <string.h>
 #include <sys/syscall.h>
 #include <unistd.h>
 
 static atomic_long calls, bytes;
+static atomic_int is_marked;
 static int cut_file = -1;
 
 static const char *said(const char *name) {
@@ -28,24 +33,35 @@ static const char *said(const char *name) {
     return value ? value : "";
 }
 
-static void leave_mark(void) {
-    long file = syscall(SYS_openat, AT_FDCWD, said("FAIL_MARK"), O_CREAT | O_WRONLY, 0600);
-    if (file >= 0)
-        syscall(SYS_close, file);
+/* Leaves the mark of a path, or of an open file where there is no path. */
+static void leave_mark(const char *path, int file) {
+    char link[32], found[PATH_MAX];
+    if (atomic_exchange(&is_marked, 1))
+        return;
+    long size = path ? (long)strlen(path) : 0, mark;
+    if (!path) {
+        snprintf(link, sizeof link, "/proc/self/fd/%d", file);
+        size = syscall(SYS_readlinkat, AT_FDCWD, link, found, sizeof found);
+    }
+    mark = syscall(SYS_openat, AT_FDCWD, said("FAIL_MARK"), O_CREAT | O_WRONLY, 0600);
+    if (mark >= 0) {
+        syscall(SYS_write, mark, path ? path : found, size > 0 ? size : 0);
+        syscall(SYS_close, mark);
+    }
 }
 
 static int is_how(const char *how) {
     return !strcmp(said("FAIL_HOW"), how);
 }
 
-/* Counts a call of this name, and tells whether it is the one that is meant. */
-static int is_met(const char *call) {
+/* Counts a call of this name for a path or an open file, and tells whether it is the one that is meant. */
+static int is_met(const char *call, const char *path, int file) {
     long at = atol(said("FAIL_AT"));
     if (strcmp(said("FAIL_CALL"), call) || is_how("full") || is_how("cut") || is_how("most"))
         return 0;
     if (atomic_fetch_add(&calls, 1) + 1 != at && at != 0)
         return 0;
-    leave_mark();
+    leave_mark(path, file);
     errno = is_how("signal") ? EINTR : EIO;
     return 1;
 }
@@ -55,7 +71,7 @@ int open(const char *path, int flags, ...) {
     va_start(rest, flags);
     int mode = flags & O_CREAT ? va_arg(rest, int) : 0;
     va_end(rest);
-    if (is_met("open"))
+    if (is_met("open", path, -1))
         return -1;
     const char *name = strrchr(path, '/');
     int is_named = !strcmp(name ? name + 1 : path, said("FAIL_FILE"));
@@ -80,9 +96,11 @@ ssize_t read(int file, void *into, size_t size) {
         atomic_fetch_add(&bytes, taken > 0 ? taken : 0);
         return taken;
     }
-    if (is_how("most") && (long)size > atol(said("FAIL_AT")))
+    if (is_how("most") && (long)size > atol(said("FAIL_AT"))) {
+        leave_mark(NULL, file);
         size = atol(said("FAIL_AT"));
-    if (size > 0 && is_met("read")) {
+    }
+    if (size > 0 && is_met("read", NULL, file)) {
         if (!is_how("one"))
             return -1;
         size = 1;
@@ -94,7 +112,7 @@ ssize_t write(int file, const void *from, size_t size) {
     if (file != 2 && is_how("full")) {
         long left = atol(said("FAIL_AT")) - atomic_load(&bytes);
         if (left < (long)size)
-            leave_mark();
+            leave_mark(NULL, file);
         if (size > 0 && left <= 0) {
             errno = ENOSPC;
             return -1;
@@ -103,7 +121,7 @@ ssize_t write(int file, const void *from, size_t size) {
         atomic_fetch_add(&bytes, taken > 0 ? taken : 0);
         return taken;
     }
-    if (file != 2 && size > 0 && is_met("write")) {
+    if (file != 2 && size > 0 && is_met("write", NULL, file)) {
         if (!is_how("one"))
             return -1;
         size = 1;
@@ -117,5 +135,5 @@ ssize_t __write(int file, const void *from, size_t size) {
 
 int pthread_create(pthread_t *thread, const pthread_attr_t *attributes, void *(*start)(void *), void *given) {
     int (*real)(pthread_t *, const pthread_attr_t *, void *(*)(void *), void *) = dlsym(RTLD_NEXT, "pthread_create");
-    return is_met("thread") ? EAGAIN : real(thread, attributes, start, given);
+    return is_met("thread", "", -1) ? EAGAIN : real(thread, attributes, start, given);
 }

@@ -3,14 +3,15 @@ use Rattle.std.proofs.Common.{ℕ, List, [], ◌∷◌, refl, subst}
 use Rattle.std.specs.Prelude.{Option, None, Some, Result, Ok, Err, IfOk, IfErr, ℤ}
 use Rattle.ghcn_fields.specs.declared.memory.Memory.{Memory as WantOfMemory}
 use Rattle.rank_check.specs.declared.verdict.Verdict.{Verdict}
-use Rattle.extremes.specs.declared.fault.Fault.{Fault}
-use Rattle.extremes.specs.declared.fault.Fault.TheVariants.{Memory}
-use Rattle.extremes.specs.declared.intake.Intake.{Intake}
+use Rattle.rank_input.specs.declared.fault.Fault.{Fault}
+use Rattle.rank_input.specs.declared.fault.Fault.TheVariants.{Memory}
+use Rattle.rank_input.specs.declared.intake.Intake.{Intake}
 use Rattle.extremes.specs.declared.papers.Papers.{Papers}
-use Rattle.extremes.specs.Taken.{given, HasTaken, AnswersInput, RefusesInput, JudgesInput}
-use Rattle.extremes.specs.Feeding.{AreAllOf, AreFilesOf, FeedsFiles, IsRanked, RanksFiles, IsJudgement}
-use Rattle.extremes.specs.Feeding.{JudgesFiles}
-use Rattle.extremes.proofs.Feedings.{given-files}
+use Rattle.rank_input.specs.Taken.{given, HasTaken, RefusesInput}
+use Rattle.rank_input.specs.Feeding.{AreAllOf, AreFilesOf, FeedsFiles}
+use Rattle.rank_input.proofs.Feedings.{given-files}
+use Rattle.extremes.specs.Runs.{AnswersInput, JudgesInput}
+use Rattle.extremes.specs.Runs.{IsRanked, RanksFiles, IsJudgement, JudgesFiles}
 
 -- what was fed behind the station list is the whole input
 pub taken-all : (old new : Intake) (known : List (Option (List ℕ))) (workers : ℕ) (guess : Option ℤ)

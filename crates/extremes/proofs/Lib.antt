@@ -1,14 +1,5 @@
-pub mod Guesses
 pub mod Delivering
 pub mod PlanAnswers
 pub mod SerialPapers
-pub mod Crews
-pub mod Texts
-pub mod GoingOn
-pub mod Courses
-pub mod Openings
-pub mod Finishes
-pub mod Feedings
+pub mod Answering
 pub mod FedRuns
-pub mod CommandLines
-pub mod CommandExamples

@@ -11,7 +11,7 @@ use Rattle.rank_sched.specs.Plan.{Planned, planned}
 use Rattle.rank_sched.specs.Task.{task_of}
 use Rattle.rank_sched.specs.Laws.{RecordsAloneAreOne}
 use Rattle.rank_papers.specs.Report.{WithStation, IsReport, named, report_text}
-use Rattle.extremes.specs.declared.fault.Fault.{Fault}
+use Rattle.rank_input.specs.declared.fault.Fault.{Fault}
 use Rattle.extremes.specs.Answer.{ArePapers, IsOfOneWorker, certificate_of_run, SerialPapersAreOne}
 
 -- candidates, each with its listed station, are one list

@@ -11,7 +11,7 @@ use Rattle.rank_papers.specs.Certificate.{certificate_of_best}
 use Rattle.rank_papers.specs.Report.{IsReport}
 use Rattle.rank_papers.specs.PlanPapers.{IsMeasuredCertificate, IsReportOfPlan, IsCertificateOfPlan}
 use Rattle.extremes.specs.declared.papers.Papers.{Papers}
-use Rattle.extremes.specs.Input.{read_input}
+use Rattle.rank_input.specs.Input.{read_input}
 
 -- the papers of a query and data: the right report, a right certificate whose bounds are those of the series, and how
 -- many lines are of unlisted stations

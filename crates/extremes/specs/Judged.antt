@@ -8,7 +8,7 @@ use Rattle.rank_check.specs.declared.verdict.Verdict.{Verdict}
 use Rattle.rank_check.specs.declared.verdict.Verdict.TheVariants.{Accepted}
 use Rattle.rank_check.specs.Tests.{verdict}
 use Rattle.extremes.specs.declared.papers.Papers.{Papers}
-use Rattle.extremes.specs.Input.{read_input}
+use Rattle.rank_input.specs.Input.{read_input}
 use Rattle.extremes.specs.Answer.{Answers}
 
 -- the verdict is that on the papers for what the input asks and holds: accepted exactly where the report is the right

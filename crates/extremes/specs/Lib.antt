@@ -1,9 +1,6 @@
-pub mod Input
 pub mod Answer
 pub mod Ending
 pub mod Printed
 pub mod Delivered
-pub mod CommandLine
 pub mod Judged
-pub mod Taken
-pub mod Feeding
+pub mod Runs

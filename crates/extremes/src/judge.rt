@@ -3,14 +3,14 @@
 ghost use Rattle.std.specs.Prelude.{◌≡◌, None, IfOk, IfErr, map};
 ghost use Rattle.extremes.specs.Ending.{ending_of};
 ghost use Rattle.ghcn_fields.specs.Refusals.{IsRefusal};
-ghost use Rattle.extremes.specs.Input.{read_input, is_memory};
+ghost use Rattle.rank_input.specs.Input.{read_input, is_memory};
 ghost use Rattle.extremes.specs.Judged.{IsJudged};
-ghost use Rattle.extremes.specs.Taken.{HasTakenSome, JudgesInput, RefusesInput};
+ghost use Rattle.rank_input.specs.Taken.{HasTakenSome, RefusesInput};
+ghost use Rattle.extremes.specs.Runs.{JudgesInput};
 
 use crate::ending::Ending;
-use crate::fault::Fault;
-use crate::intake::Intake;
 use rank_check::{Verdict, check, verdict_of_one_element};
+use rank_input::{Fault, Intake};
 use rank_papers::papers_of_one_element;
 use std::alloc::Global;
 

@@ -1,23 +1,17 @@
 //! The k best records of GHCN-Daily files: a program over a library of its own.
 #![tactic(auto)]
 
-mod archive;
-mod command;
 mod delivery;
 mod ending;
-mod fault;
-mod help;
-mod intake;
 mod judge;
 mod laws;
-mod limits;
 mod papers;
 mod rank;
 mod run;
 mod sample;
+mod target;
 #[cfg(test)]
 mod tests;
-mod words;
 
 use std::process::ExitCode;
 

@@ -6,18 +6,17 @@ ghost use Rattle.extremes.specs.Answer.{Answers, ArePapers, ArePapersOfPlan, IsC
 ghost use Rattle.extremes.specs.Answer.{IsOfOneWorker, IsSerial, SerialPapersAreOne};
 ghost use Rattle.rank_papers.specs.Certificate.{certificate_of_best};
 ghost use Rattle.ghcn_fields.specs.Refusals.{IsRefusal};
-ghost use Rattle.extremes.specs.Input.{is_crew, is_guess, read_input, read_run, is_memory};
-ghost use Rattle.extremes.specs.Taken.{HasTakenSome, AnswersInput, CrewsInput, RefusesInput};
+ghost use Rattle.rank_input.specs.Input.{is_crew, is_guess, read_input, read_run, is_memory};
+ghost use Rattle.rank_input.specs.Taken.{HasTakenSome, RefusesInput};
+ghost use Rattle.extremes.specs.Runs.{AnswersInput, CrewsInput};
 ghost use Rattle.rank_sched.specs.Answers.{IsAnswerOfPlan};
 ghost use Rattle.rank_sched.specs.Plan.{planned};
 
-use crate::fault::Fault;
-use crate::intake::Intake;
-use crate::limits::{MOST_WORKERS, at_most};
 use crate::papers::Papers;
 use ghcn_fields::Memory;
 use ghcn_series::Data;
 use rank_crew::{Gate, crew, survey};
+use rank_input::{Fault, Intake, MOST_WORKERS, at_most};
 use rank_papers::{certificate, papers_of_one_element, report};
 use rank_query::Query;
 use rank_sched::{Answer, Plan, ends_are_sound, run_alone, runs_are_sound};

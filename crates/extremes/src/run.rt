@@ -2,24 +2,23 @@
 
 ghost use Rattle.std.specs.Prelude.{◌≡◌, IfOk, map, string_bytes};
 ghost use Rattle.extremes.specs.declared.ending.Ending.TheVariants as endings;
-ghost use Rattle.extremes.specs.Feeding.{RanksFiles, JudgesFiles};
 ghost use Rattle.extremes.specs.Printed.{IsPrinted, IsReported, IsToldVerdict};
+ghost use Rattle.extremes.specs.Runs.{RanksFiles, JudgesFiles};
 
-use crate::archive::{Archive, System, feed_files, piece_room, read_whole};
-use crate::command::{Command, CommandFault};
 use crate::delivery::{Delivery, deliver};
 use crate::ending::Ending;
-use crate::fault::Fault;
-use crate::intake::Intake;
 use crate::judge::{ending, judge_intake};
-use crate::limits::worth_starting;
 use crate::papers::Papers;
 use crate::rank::{self, Ranked, rank_intake, rank_serial};
 use crate::sample;
-use crate::words::command;
+use crate::target::is_in_use;
+use command_line::{Command, CommandFault, command};
 use ghcn_fields::Memory;
 use rank_check::Verdict;
 use rank_crew::Open;
+use rank_input::{
+    Archive, Fault, Intake, System, feed_files, piece_room, read_whole, worth_starting,
+};
 use std::alloc::Global;
 use std::fs::File;
 use std::io::Write;
@@ -67,6 +66,11 @@ fn run_command<R: Files + Print + Eprint + Threads + Wait + AllocGlobal + Sync>(
             files,
         } => {
             let out = certificate.as_ref().map(|path| path.as_str());
+            if let Some(path) = out {
+                if is_in_use(rt, path, &stations, &files) {
+                    return not_written(rt, path);
+                }
+            }
             match rank_files(rt, &System(rt), &stations, &files, &query, workers, guess) {
                 Ok(ranked) => print_ranked(rt, ranked, out),
                 Err(path) => not_read(rt, path),

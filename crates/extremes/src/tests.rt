@@ -8,17 +8,17 @@ mod words;
 
 use crate::delivery::{Delivery, deliver};
 use crate::ending::Ending;
-use crate::fault::Fault;
 use crate::judge::{ending, judge};
-use crate::limits::worth_starting;
 use crate::papers::Papers;
 use crate::rank::{rank, rank_serial};
 use crate::run::print_answer;
+use crate::sample;
 use ghcn_fields::Memory;
 use ghcn_files::{LineWhy, StationWhy};
 use ghcn_series::DailyWhy;
 use rank_check::{Paper, Verdict, Why};
 use rank_crew::Open;
+use rank_input::{Fault, worth_starting};
 use std::alloc::{AllocError, Global};
 use std::io;
 use std::io::Write;
@@ -49,6 +49,13 @@ end 3
 const BEST: &[u8] = b"extremes report 1
 query top 1 highest TMAX
 1 ZZA00000001 2020-07-01 2020-07-01 31.1 C ALPHA
+end 1
+";
+
+const SAMPLE_CERTIFICATE: &[u8] = b"extremes certificate 2
+query top 1 highest TMAX
+kth 311
+scan ZZA00000001 311 1
 end 1
 ";
 
@@ -281,6 +288,30 @@ fn workers_and_the_first_fault(rt: HostRuntime) {
         let expected = if fault.is_none() { Some(REPORT) } else { None };
         assert_eq!(rt; report, expected, "{workers} workers, guess {guess:?}");
         assert_eq!(rt; ranked.err(), fault, "{workers} workers, guess {guess:?}");
+    }
+}
+
+#[test]
+fn the_sample_by_sixty_four_workers(rt: HostRuntime) {
+    let guesses = [None, Some(-2_147_483_648), Some(2_147_483_648)];
+    for guess in guesses {
+        let files = [sample::DAILY];
+        let ranked = rank(
+            &rt,
+            sample::STATIONS,
+            &files,
+            sample::QUERY,
+            64,
+            guess,
+            &Open,
+        );
+        let report = ranked.as_ref().map(|papers| papers.report.as_slice()).ok();
+        assert_eq!(rt; report, Some(BEST), "guess {guess:?}");
+        let certificate = ranked
+            .as_ref()
+            .map(|papers| papers.certificate.as_slice())
+            .ok();
+        assert_eq!(rt; certificate, Some(SAMPLE_CERTIFICATE), "guess {guess:?}");
     }
 }
 

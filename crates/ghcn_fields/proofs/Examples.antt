@@ -27,6 +27,12 @@ missing = refl
 all_blank : (int_field (codes "     ") ≡ Blank) × (int_field [] ≡ Blank)
 all_blank = (refl, refl)
 
+-- a blank before the digits but none behind them; a tab is no blank; a minus alone, two of them, a plus and a point
+last_column : (int_field (codes " 7") ≡ Number (pos 7)) × (int_field (codes "7 ") ≡ Bad)
+    × (int_field (9 ∷ codes "7") ≡ Bad) × (int_field (codes "   -") ≡ Bad) × (int_field (codes "--7") ≡ Bad)
+    × (int_field (codes "   +7") ≡ Bad) × (int_field (codes "7.0") ≡ Bad)
+last_column = (refl, refl, refl, refl, refl, refl, refl)
+
 -- the greatest number, and one past it
 too_large : (int_field (codes "2147483648") ≡ Bad) × (int_field (codes "2147483647") ≡ Number (pos 2147483647))
 too_large = (refl, refl)
@@ -40,6 +46,14 @@ scaled : (scaled_field 4 (codes " 10.0000") ≡ Number (pos 100000))
     × (scaled_field 4 (codes "-91") ≡ Number (neg_ℤ (pos 910000))) × (scaled_field 1 (codes "100.") ≡ Bad)
     × (scaled_field 1 (codes "  2.55") ≡ Bad)
 scaled = (refl, refl, refl, refl)
+
+-- half a degree with one decimal or with all four; a digit before the point and one behind it, and no fifth decimal
+degrees : (scaled_field 4 (codes " 90.5000") ≡ Number (pos 905000))
+    × (scaled_field 4 (codes "90.5") ≡ Number (pos 905000))
+    × (scaled_field 4 (codes " -0.0001") ≡ Number (negsuc 0)) × (scaled_field 4 (codes "  .5") ≡ Bad)
+    × (scaled_field 4 (codes " -.5") ≡ Bad) × (scaled_field 4 (codes "0.00001") ≡ Bad)
+    × (scaled_field 0 (codes "7.0") ≡ Bad)
+degrees = (refl, refl, refl, refl, refl, refl, refl)
 
 -- the definition by a reader and the one by a relation at one field
 has_tenths : HasNumber 1 (codes " -0.5") (neg_ℤ (pos 5))
@@ -70,6 +84,11 @@ three_numbers = refl
 -- a return at the end of the last line is taken off
 last_return : lines (97 ∷ 10 ∷ 98 ∷ 13 ∷ []) ≡ codes "a" ∷ codes "b" ∷ []
 last_return = refl
+
+-- of two returns one is taken off, and one inside a line stays; no text has no line, and a line feed has one
+other_returns : (lines (97 ∷ 13 ∷ 13 ∷ 10 ∷ []) ≡ (97 ∷ 13 ∷ []) ∷ [])
+    × (lines (97 ∷ 13 ∷ 98 ∷ 10 ∷ []) ≡ (97 ∷ 13 ∷ 98 ∷ []) ∷ []) × (lines [] ≡ []) × (lines (10 ∷ []) ≡ [] ∷ [])
+other_returns = (refl, refl, refl, refl)
 
 -- columns inside a line and past its end
 cut_columns : (columns 2 3 (codes "abc") ≡ codes "bc") × (columns 3 5 (codes "abc") ≡ codes "c  ")

@@ -10,8 +10,6 @@ mod lanes;
 mod laws;
 mod line;
 mod memory;
-#[cfg(test)]
-mod tests;
 mod text;
 mod value;
 

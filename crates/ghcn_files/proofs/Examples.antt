@@ -1,14 +1,17 @@
 -- Worked examples of the definitions, by computation.
-use Rattle.std.proofs.Common.{◌≡◌, ℕ, List, [], ◌∷◌, ◌++◌, refl, true, false, Some, None, Ok, Err, take, replicate}
-use Rattle.std.specs.Prelude.{codes, pos}
+use Rattle.std.proofs.Common.{◌≡◌, ◌∙◌, ap, ℕ, zero, suc, Bool, List, [], ◌∷◌, ◌++◌, refl, true, false, Some, None}
+use Rattle.std.proofs.Common.{Ok, Err, take, replicate}
+use Rattle.std.specs.Prelude.{codes, pos, neg_ℤ, map, ◌^◌, ◌-◌, nat_lt, length, if◌then◌else◌}
+use Rattle.std.specs.Option.{option_or, option_map}
 use Rattle.std.specs.List.{repeat, find}
-use Rattle.ghcn_files.specs.declared.element.Element.TheVariants.{Prcp, Tmax, Tmin}
+use Rattle.std.proofs.lemmas.List.{length-replicate}
+use Rattle.ghcn_files.specs.declared.element.Element.TheVariants.{Prcp, Snow, Snwd, Tmax, Tmin}
 use Rattle.ghcn_files.specs.declared.fault.StationWhy.TheVariants as station
-use Rattle.ghcn_files.specs.declared.fault.StationsFault.TheVariants.{StationLine}
+use Rattle.ghcn_files.specs.declared.fault.StationsFault.TheVariants.{StationLine, TooManyStations}
 use Rattle.ghcn_files.specs.declared.fault.LineWhy.TheVariants as why
-use Rattle.ghcn_files.specs.Elements.{element_of}
+use Rattle.ghcn_files.specs.Elements.{element_of, may_be_negative}
 use Rattle.ghcn_files.specs.StationLines.{id_of, station_of}
-use Rattle.ghcn_files.specs.Listed.{listed, is_station_of, place_of}
+use Rattle.ghcn_files.specs.Listed.{Numbered, listed, is_repeated, station_fault, is_station_of, place_of}
 use Rattle.ghcn_files.specs.Months.{read_month, month_of, reading, days_of_group}
 
 -- ---- the station list
@@ -86,6 +89,102 @@ longitude_out = refl
 cut_elevation : listed (take 33 alpha) ≡ Err (StationLine 1 station.BadElevation)
 cut_elevation = refl
 
+-- half a degree past a pole, and past both edges of the world by the last decimal
+past_the_world : (listed (codes "ZZA00000001  90.5000   20.0000") ≡ Err (StationLine 1 station.BadLatitude))
+    × (listed (codes "ZZA00000001 -90.5000   20.0000") ≡ Err (StationLine 1 station.BadLatitude))
+    × (listed (codes "ZZA00000001  90.0001   20.0000") ≡ Err (StationLine 1 station.BadLatitude))
+    × (listed (codes "ZZA00000001 -90.0001   20.0000") ≡ Err (StationLine 1 station.BadLatitude))
+    × (listed (codes "ZZA00000001  10.0000  180.0001") ≡ Err (StationLine 1 station.BadLongitude))
+past_the_world = (refl, refl, refl, refl, refl)
+
+-- a line with these degrees of latitude and longitude
+abbrev placed_at : List ℕ → List ℕ
+placed_at degrees = codes "ZZA00000001 " ++ degrees
+
+-- the edges themselves are places
+world_edges : (listed (placed_at (codes " 90.0000  180.0000"))
+    ≡ Ok (station_of (placed_at (codes " 90.0000  180.0000")) ∷ []))
+    × (listed (placed_at (codes "-90.0000 -180.0000"))
+    ≡ Ok (station_of (placed_at (codes "-90.0000 -180.0000")) ∷ []))
+world_edges = (refl, refl)
+
+-- no latitude, and no longitude
+no_place : (listed (placed_at (codes "           20.0000")) ≡ Err (StationLine 1 station.BadLatitude))
+    × (listed (placed_at (codes " 10.0000          ")) ≡ Err (StationLine 1 station.BadLongitude))
+no_place = (refl, refl)
+
+-- a station whose ID ends with this byte
+abbrev ends_with : ℕ → List ℕ
+ends_with b = codes "ZZA0000000" ++ b ∷ codes "  10.0000   20.0000"
+
+-- IDs have the bytes from 33 to 126
+id_bytes : (listed (ends_with 127) ≡ Err (StationLine 1 station.BadId))
+    × (listed (ends_with 126) ≡ Ok (station_of (ends_with 126) ∷ []))
+    × (listed (ends_with 33) ≡ Ok (station_of (ends_with 33) ∷ []))
+    × (listed (ends_with 31) ≡ Err (StationLine 1 station.BadId))
+    × (listed (ends_with 195) ≡ Err (StationLine 1 station.BadId))
+id_bytes = (refl, refl, refl, refl, refl)
+
+-- in a name and a state the bytes from 32 to 126 stay, and each other one becomes a question mark
+printed_bytes : ((station_of (take 41 alpha ++ 31 ∷ 32 ∷ 126 ∷ 127 ∷ 195 ∷ 169 ∷ [])).name
+    ≡ codes "? ~???" ++ replicate 24 32)
+    × ((station_of (take 38 alpha ++ 31 ∷ 127 ∷ [])).state ≡ codes "??")
+    × ((station_of (take 38 alpha ++ 32 ∷ 126 ∷ [])).state ≡ codes " ~")
+printed_bytes = (refl, refl, refl)
+
+-- a record of 85 columns, with something in the columns between the fields
+abbrev whole_record : List ℕ
+whole_record = codes "ZZA00000001x 40.7789x -73.9692x  42.7xNYxABCDEFGHIJKLMNOPQRSTUVWXYZ0123XGSN HCN 72506"
+
+-- each field from its first column to its last; what lies between them and behind the name isn't read
+record_fields : (listed whole_record ≡ Ok (station_of whole_record ∷ []))
+    × ((station_of whole_record).latitude ≡ pos 407_789)
+    × ((station_of whole_record).longitude ≡ neg_ℤ (pos 739_692))
+    × ((station_of whole_record).elevation ≡ Some (pos 427)) × ((station_of whole_record).state ≡ codes "NY")
+    × ((station_of whole_record).name ≡ codes "ABCDEFGHIJKLMNOPQRSTUVWXYZ0123")
+record_fields = (refl, refl, refl, refl, refl, refl)
+
+-- of two faults of a line the one of the earlier test is told: length, ID, latitude, longitude, elevation, and last a
+-- repeated ID
+earlier_test : (listed (codes "ZZA0000 001  10.0000   20.000") ≡ Err (StationLine 1 station.Short))
+    × (listed (codes "ZZA0000 001  91.0000   20.0000") ≡ Err (StationLine 1 station.BadId))
+    × (listed (codes "ZZA00000001  91.0000  181.0000") ≡ Err (StationLine 1 station.BadLatitude))
+    × (listed (codes "ZZA00000001  10.0000  181.0000  x") ≡ Err (StationLine 1 station.BadLongitude))
+    × (listed (alpha ++ 10 ∷ take 33 alpha) ≡ Err (StationLine 2 station.BadElevation))
+earlier_test = (refl, refl, refl, refl, refl)
+
+-- of two lines with a fault the first, and a line of blanks counts for the numbers of the lines behind it
+earlier_line : (listed (alpha ++ 10 ∷ take 29 bravo ++ 10 ∷ alpha) ≡ Err (StationLine 2 station.Short))
+    × (listed (alpha ++ 10 ∷ 10 ∷ 32 ∷ 10 ∷ alpha) ≡ Err (StationLine 4 station.Duplicate))
+earlier_line = (refl, refl)
+
+-- so many lines of one station
+abbrev so_many : ℕ → List Numbered
+so_many n = replicate n (1, alpha)
+
+-- none of them is another station's
+none_of_bravo : (n : ℕ) → is_repeated (so_many n) (id_of bravo) ≡ false
+none_of_bravo zero = refl
+none_of_bravo (suc n) = none_of_bravo n
+
+-- behind so many stations a line without a fault is told as one too many, or not at all
+at_limit : (n : ℕ) → station_fault (so_many n) (7, bravo) ≡ (if nat_lt n (2 ^ 20) then None else Some TooManyStations)
+at_limit n =
+    ap (λ (b : Bool). option_or (option_map (λ why. StationLine 7 why) (if b then Some station.Duplicate else None))
+    (if nat_lt (length (so_many n)) (2 ^ 20) then None else Some TooManyStations))
+    (none_of_bravo n)
+    ∙ ap (λ (m : ℕ). if nat_lt m (2 ^ 20) then None else Some TooManyStations) (length-replicate n (1, alpha))
+
+-- it is one too many behind 2^20 stations, and not behind one fewer
+too_many : (station_fault (so_many (2 ^ 20)) (7, bravo) ≡ Some TooManyStations)
+    × (station_fault (so_many (2 ^ 20 - 1)) (7, bravo) ≡ None)
+too_many = (at_limit (2 ^ 20), at_limit (2 ^ 20 - 1))
+
+-- behind so many a repeated ID and a line that is too short are told as they are
+before_too_many : (station_fault (so_many (2 ^ 20)) (7, alpha) ≡ Some (StationLine 7 station.Duplicate))
+    × (station_fault (so_many (2 ^ 20)) (7, take 29 bravo) ≡ Some (StationLine 7 station.Short))
+before_too_many = (refl, refl)
+
 -- ---- lines of a daily file
 
 -- codes byte for byte
@@ -146,3 +245,84 @@ no_such_month = (refl, refl)
 passed_over : (read_month (codes "ZZA00000001202007WSFG") ≡ Ok None)
     × (read_month (codes "ZZA00000001202007WSF") ≡ Err why.Short)
 passed_over = (refl, refl)
+
+-- the five codes, and which elements have negative values
+all_codes : (map element_of
+    (codes "PRCP" ∷ codes "SNOW" ∷ codes "SNWD" ∷ codes "TMAX" ∷ codes "TMIN" ∷ codes "TAVG" ∷ [])
+    ≡ Some Prcp ∷ Some Snow ∷ Some Snwd ∷ Some Tmax ∷ Some Tmin ∷ None ∷ [])
+    × (map may_be_negative (Prcp ∷ Snow ∷ Snwd ∷ Tmax ∷ Tmin ∷ []) ≡ false ∷ false ∷ false ∷ true ∷ true ∷ [])
+all_codes = (refl, refl)
+
+-- a line of this head, without a value
+abbrev empty_line : List ℕ → List ℕ
+empty_line head = head ++ repeat 31 gap
+
+-- a month and a year with blanks before their digits
+blanks_before : (read_month (empty_line (codes "ZZA000000012020 7TMAX"))
+    ≡ Ok (Some (month_of Tmax (empty_line (codes "ZZA000000012020 7TMAX")))))
+    × ((month_of Tmax (empty_line (codes "ZZA000000012020 7TMAX"))).month ≡ 7)
+    × ((month_of Tmax (empty_line (codes "ZZA00000001 98712TMAX"))).year ≡ 987)
+unfolding days_of_group
+blanks_before = (refl, refl, refl)
+
+-- a blank behind the digit, no month, no year, and a month below zero
+no_month : (read_month (empty_line (codes "ZZA0000000120207 TMAX")) ≡ Err why.BadMonth)
+    × (read_month (empty_line (codes "ZZA000000012020  TMAX")) ≡ Err why.BadMonth)
+    × (read_month (empty_line (codes "ZZA00000001    07TMAX")) ≡ Err why.BadYear)
+    × (read_month (empty_line (codes "ZZA000000012020-1TMAX")) ≡ Err why.BadMonth)
+    × (read_month (empty_line (codes "ZZA00000001-02007TMAX")) ≡ Err why.BadYear)
+unfolding days_of_group
+no_month = (refl, refl, refl, refl, refl)
+
+-- the edges of the years and of the months
+time_edges : (read_month (empty_line (codes "ZZA00000001000101TMAX"))
+    ≡ Ok (Some (month_of Tmax (empty_line (codes "ZZA00000001000101TMAX")))))
+    × (read_month (empty_line (codes "ZZA00000001999912TMAX"))
+    ≡ Ok (Some (month_of Tmax (empty_line (codes "ZZA00000001999912TMAX")))))
+    × (read_month (empty_line (codes "ZZA00000001202000TMAX")) ≡ Err why.BadMonth)
+unfolding days_of_group
+time_edges = (refl, refl, refl)
+
+-- a byte 127 in the ID
+unseen_id : read_month (codes "ZZA0000000" ++ 127 ∷ empty_line (codes "202007TMAX")) ≡ Err why.BadId
+unfolding days_of_group
+unseen_id = refl
+
+-- of two faults of a line the one of the earlier test is told: length, what stands past its end, ID, year, month, the
+-- first value
+earlier_told : (read_month (empty_line (codes "ZZA0000 001202007TMAX") ++ codes "x") ≡ Err why.TooLong)
+    × (read_month (empty_line (codes "ZZA0000 001000007TMAX")) ≡ Err why.BadId)
+    × (read_month (empty_line (codes "ZZA00000001000013TMAX")) ≡ Err why.BadYear)
+    × (read_month (codes "ZZA00000001202013TMAX    x   " ++ repeat 30 gap) ≡ Err why.BadMonth)
+    × (read_month (codes "ZZA00000001202007TMAX" ++ gap ++ codes "   +7   " ++ codes "    x   " ++ repeat 28 gap)
+    ≡ Err (why.BadValue 2))
+    × (read_month (take 265 (empty_line (codes "ZZA0000 001202007TMAX"))) ≡ Err why.Short)
+unfolding days_of_group
+earlier_told = (refl, refl, refl, refl, refl, refl)
+
+-- of a line of another element nothing else is looked at
+other_element : (read_month (codes "ZZA0000 001000013TAVG" ++ repeat 31 (codes "    x   ") ++ codes "x") ≡ Ok None)
+    × (read_month (codes "ZZA0000 001000013TAV") ≡ Err why.Short)
+unfolding days_of_group
+other_element = (refl, refl)
+
+-- of the three flags only the second one counts, and each byte but a blank does: a nought, a small letter, a tab
+flags : (reading (codes "ZZA00000001201912PRCP  400 0 ") 1 ≡ record { value = Some (pos 400); flagged = true })
+    × (reading (codes "ZZA00000001201912PRCP  400M 7") 1 ≡ record { value = Some (pos 400); flagged = false })
+    × (reading (codes "ZZA00000001201912PRCP  400 i ") 1 ≡ record { value = Some (pos 400); flagged = true })
+    × (reading (codes "ZZA00000001201912PRCP  400 " ++ 9 ∷ codes " ") 1
+    ≡ record { value = Some (pos 400); flagged = true })
+flags = (refl, refl, refl, refl)
+
+-- a blank value is missing as -9999 is, and the numbers beside that one are values
+missing_values : (reading (codes "ZZA00000001201912TMIN        ") 1 ≡ record { value = None; flagged = false })
+    × (reading (codes "ZZA00000001201912TMIN-9998   ") 1 ≡ record { value = Some (neg_ℤ (pos 9998)); flagged = false })
+    × (reading (codes "ZZA00000001201912TMIN99999   ") 1 ≡ record { value = Some (pos 99999); flagged = false })
+missing_values = (refl, refl, refl)
+
+-- the last day's group, in the columns 262 to 269
+last_day : (reading (codes "ZZA00000001202007TMAX" ++ repeat 30 gap ++ codes "  305 X ") 31
+    ≡ record { value = Some (pos 305); flagged = true })
+    × (reading (codes "ZZA00000001202007TMAX" ++ repeat 30 gap ++ codes "  305 X ") 30
+    ≡ record { value = None; flagged = false })
+last_day = (refl, refl)

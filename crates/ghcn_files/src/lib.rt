@@ -12,8 +12,6 @@ mod month;
 mod row;
 mod station;
 mod stations;
-#[cfg(test)]
-mod tests;
 
 pub use element::Element;
 pub use fault::{LineWhy, StationWhy, StationsFault};

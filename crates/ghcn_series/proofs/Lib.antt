@@ -1,4 +1,5 @@
 pub mod ListFacts
+pub mod PartDays
 pub mod Lookups
 pub mod FirstDays
 pub mod JoinedDays
@@ -29,3 +30,4 @@ pub mod FedLines
 pub mod ToldFaults
 pub mod FedPieces
 pub mod FedFiles
+pub mod Examples

@@ -1,6 +1,6 @@
 -- Packed columns: blocks of 32 days, each with a word, whose bit j says that day j is present, and the days' values.
 use Rattle.std.specs.Prelude.{◌≡◌, ℕ, ◌<◌, ◌^◌, ◌==◌, true, List, [], ◌∷◌, length, get_or, ⊤}
-use Rattle.std.specs.Prelude.{Option, Some, None, ℤ, pos, ◌+ℤ◌, ◌*ℤ◌, ◌<ℤ◌, int_le}
+use Rattle.std.specs.Prelude.{Option, Some, None, ℤ, pos, ◌+ℤ◌, ◌*ℤ◌, ◌≤ℤ◌, ◌<ℤ◌, int_le}
 use Rattle.std.specs.Int.{bit_at, int_rem_euclid}
 use Rattle.std.specs.List.{find, filter_map, flat_map, range_with_len, zip, AllByRecursion}
 use Rattle.std.specs.Option.{option_map}
@@ -97,6 +97,11 @@ IsNowhere numbers number = (k : ℕ) → IsAt numbers number k → ⊥
 abbrev pub AreRising : List DayValue → Type 0
 AreRising [] = ⊤
 AreRising (x ∷ xs) = AllByRecursion (λ y. x.0 <ℤ y.0) xs × AreRising xs
+
+-- the first of some days comes no later than a last one
+abbrev pub BeginsBy : ℤ → List DayValue → Type 0
+BeginsBy last [] = ⊥
+BeginsBy last (x ∷ xs) = x.0 ≤ℤ last
 
 -- the day of the highest bit of a word
 pub record IsLastOf (number : ℤ) (word : ℕ) (day : Option ℤ) : Type 0 where

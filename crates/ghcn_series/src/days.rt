@@ -1,6 +1,9 @@
 //! The usable days of a series, one after another.
 
-ghost use Rattle.std.specs.Prelude.{◌≡◌, ◌<◌, ◌++◌, IsTrue, pos, ◌+ℤ◌};
+ghost use Rattle.std.specs.Prelude.{◌≡◌, ◌↔◌, ℕ, ◌<◌, ◌≤◌, ◌-◌, ◌^◌, ◌++◌, [], IsTrue, pos, ◌+ℤ◌, ◌≤ℤ◌, ◌<ℤ◌};
+ghost use Rattle.std.specs.Prelude.{IfSome, IfNone, length, slice_get};
+ghost use Rattle.std.specs.List.{AllByRecursion};
+ghost use Rattle.std.specs.Option.{option_map};
 ghost use Rattle.ghcn_fields.specs.Days.{IsBlock, is_day};
 ghost use Rattle.ghcn_series.specs.Packed as packed;
 
@@ -8,9 +11,9 @@ use ghcn_fields::Day;
 use std::alloc::AllocError;
 use std::marker::Model;
 
-/// The days of one block that are still to come.
+/// The days of one block that are still to come, by increasing day, each with its value.
 #[derive(Drop)]
-pub(crate) struct BlockDays<'a> {
+pub struct BlockDays<'a> {
     number: i32,
     left: u32,
     values: &'a [i32; 32],
@@ -43,6 +46,46 @@ impl<'a> BlockDays<'a> {
 }
 
 impl<'a> BlockDays<'a> {
+    /// No day.
+    pub fn none() -> Self
+        ensures { result ≡ [] }
+    {
+        BlockDays::of(0, 0, &NO_VALUES)
+    }
+
+    /// Whether no day is to come.
+    fn is_empty(&self) -> bool
+        ensures { IsTrue result ↔ (self.now ≡ []) }
+    {
+        self.left == 0
+    }
+
+    /// The first day that is to come.
+    fn first(&self) -> Option<Day>
+        ensures { result ≡ option_map (λ x. x.0) (slice_get self.now 0) }
+    {
+        if self.left == 0 {
+            return None;
+        }
+        Some(day_at(self.number, self.left.trailing_zeros()))
+    }
+
+    /// Takes the days up to a last one by its number, which come first.
+    fn take_to(&mut self, last: i32) -> Self
+        ensures parts { self.old ≡ result ++ self.new }
+        ensures taken { AllByRecursion (λ x. x.0 ≤ℤ last) result }
+        ensures left { AllByRecursion (λ x. last <ℤ x.0) self.new }
+    {
+        let taken = first_places(places_to(self.number, last));
+        let days = BlockDays {
+            number: self.number,
+            left: self.left & taken,
+            values: self.values,
+        };
+        self.left &= !taken;
+        days
+    }
+
     /// The same days once more.
     fn again(&self) -> Self
         ensures { result ≡ self.now }
@@ -75,6 +118,30 @@ impl<'a> Iterator for BlockDays<'a> {
     }
 }
 
+/// How many places of a block are of days up to a last one by its number.
+fn places_to(number: i32, last: i32) -> u32
+    ensures few { result ≤ 32 }
+    ensures up_to { (j : ℕ) → j < result → (packed.block_start number +ℤ pos j) ≤ℤ last }
+    ensures behind { (j : ℕ) → result ≤ j → j < 32 → last <ℤ (packed.block_start number +ℤ pos j) }
+{
+    let places = last as i64 + 1 - number as i64 * 32;
+    if places <= 0 {
+        0
+    } else if places < 32 {
+        places as u32
+    } else {
+        32
+    }
+}
+
+/// The word of the first so many places of a block.
+fn first_places(count: u32) -> u32
+    requires { count ≤ 32 }
+    ensures { result ≡ 2 ^ count - 1 }
+{
+    ((1u64 << count) - 1) as u32
+}
+
 /// The day at a place of a block.
 pub(crate) fn day_at(number: i32, place: u32) -> Day
     requires number { IsBlock number }
@@ -85,10 +152,9 @@ pub(crate) fn day_at(number: i32, place: u32) -> Day
     Day::numbered(number * 32 + place as i32)
 }
 
-/// The usable days that are still to come, by increasing day, each with its value.
+/// The blocks that are still to come.
 #[derive(Drop)]
-pub struct Days<'a> {
-    current: BlockDays<'a>,
+struct Blocks<'a> {
     numbers: &'a [i32],
     words: &'a [u32],
     values: &'a [[i32; 32]],
@@ -96,16 +162,59 @@ pub struct Days<'a> {
     passed: usize,
 }
 
-impl<'a> Model for Days<'a> {
-    ghost use Rattle.std.specs.Prelude.{List, ◌++◌, drop};
+impl<'a> Model for Blocks<'a> {
+    ghost use Rattle.std.specs.Prelude.{List, drop};
     ghost use Rattle.ghcn_series.specs.Series.{DayValue};
     ghost use Rattle.ghcn_series.specs.Packed.{days_of, blocks_of, AreBlocks};
 
     ghost Value = { List DayValue };
 
-    ghost view = { λ d. d.current ++ days_of (drop d.passed (blocks_of d.numbers.now d.words.now d.values.now)) };
+    ghost view = { λ b. days_of (drop b.passed (blocks_of b.numbers.now b.words.now b.values.now)) };
 
-    ghost invariant = { λ d. AreBlocks d.numbers.now d.words.now d.values.now };
+    ghost invariant = { λ b. AreBlocks b.numbers.now b.words.now b.values.now };
+}
+
+impl<'a> Blocks<'a> {
+    /// The days of the next block, of which there is one at least.
+    fn next(&mut self) -> Option<BlockDays<'a>>
+        ensures some { IfSome result (λ block. self.old ≡ block ++ self.new) }
+        ensures day { IfSome result (λ block. 0 < length block) }
+        ensures none { IfNone result (self.old ≡ []) }
+        ensures end { IfNone result (self.new ≡ []) }
+    {
+        let next = self.passed;
+        let number = self.numbers.get(next)?;
+        self.passed += 1;
+        Some(BlockDays::of(*number, self.words[next], &self.values[next]))
+    }
+
+    /// The same blocks once more.
+    fn again(&self) -> Self
+        ensures { result ≡ self.now }
+    {
+        Blocks {
+            numbers: self.numbers,
+            words: self.words,
+            values: self.values,
+            passed: self.passed,
+        }
+    }
+}
+
+/// The usable days that are still to come, by increasing day, each with its value.
+#[derive(Drop)]
+pub struct Days<'a> {
+    current: BlockDays<'a>,
+    behind: Blocks<'a>,
+}
+
+impl<'a> Model for Days<'a> {
+    ghost use Rattle.std.specs.Prelude.{List, ◌++◌};
+    ghost use Rattle.ghcn_series.specs.Series.{DayValue};
+
+    ghost Value = { List DayValue };
+
+    ghost view = { λ d. d.current ++ d.behind };
 }
 
 /// The values of a block without a day.
@@ -118,12 +227,42 @@ impl<'a> Days<'a> {
         ensures { result ≡ packed.days_of (packed.blocks_of numbers.now words.now values.now) }
     {
         Days {
-            current: BlockDays::of(0, 0, &NO_VALUES),
-            numbers,
-            words,
-            values,
-            passed: 0,
+            current: BlockDays::none(),
+            behind: Blocks {
+                numbers,
+                words,
+                values,
+                passed: 0,
+            },
         }
+    }
+
+    /// The first day that is to come, which stays so.
+    pub fn first(&mut self) -> Option<Day>
+        ensures first { result ≡ option_map (λ x. x.0) (slice_get self.old 0) }
+        ensures same { self.new ≡ self.old }
+    {
+        if self.current.is_empty() {
+            self.current = self.behind.next()?;
+        }
+        self.current.first()
+    }
+
+    /// Takes days of the next block that has one, as many as come no later than a last one by its number.
+    ///
+    /// Who goes through days part by part asks what holds of a part once, and nothing of a day.
+    pub fn take_to(&mut self, last: i32) -> BlockDays<'a>
+        ensures parts { self.old ≡ result ++ self.new }
+        ensures taken { AllByRecursion (λ x. x.0 ≤ℤ last) result }
+        ensures some { packed.BeginsBy last self.old → 0 < length result }
+    {
+        if self.current.is_empty() {
+            let Some(block) = self.behind.next() else {
+                return BlockDays::none();
+            };
+            self.current = block;
+        }
+        self.current.take_to(last)
     }
 }
 
@@ -138,10 +277,7 @@ impl<'a> Clone for Days<'a> {
     fn clone(&self) -> Result<Days<'a>, AllocError> {
         Ok(Days {
             current: self.current.again(),
-            numbers: self.numbers,
-            words: self.words,
-            values: self.values,
-            passed: self.passed,
+            behind: self.behind.again(),
         })
     }
 }
@@ -159,10 +295,7 @@ impl<'a> Iterator for Days<'a> {
         if let Some(first) = self.current.next() {
             return Some(first);
         }
-        let next = self.passed;
-        let number = self.numbers.get(next)?;
-        self.current = BlockDays::of(*number, self.words[next], &self.values[next]);
-        self.passed += 1;
+        self.current = self.behind.next()?;
         self.current.next()
     }
 }

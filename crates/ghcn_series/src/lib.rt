@@ -21,7 +21,7 @@ mod station;
 mod tests;
 
 pub use data::Data;
-pub use days::Days;
+pub use days::{BlockDays, Days};
 pub use fault::{DailyWhy, DataFault};
 pub use pieces::DataReader;
 pub use series::Series;

@@ -10,8 +10,6 @@ mod range;
 mod reached;
 mod runs;
 mod summary;
-#[cfg(test)]
-mod tests;
 mod values;
 mod window;
 

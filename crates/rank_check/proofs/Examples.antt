@@ -187,6 +187,102 @@ unfolding digits year_and_rest month_and_day read_query read_words keyword says 
     region_at season_at period_at days_from_civil day_count days_of_years days_of_months
 versions = (refl, refl, refl, refl, refl)
 
+-- ---- of two faults the one of the earlier test is told
+
+-- the report's query before its rows; the form of the certificate before the report's query
+early : (verdict (ask 2) held (report (codes "1 ZZA00000001 2020-07-01 2020-07-01 31.0 C ALPHA" ∷ codes "end 1" ∷ []))
+    right_certificate ≡ bad_row 2 OtherQuery)
+    × (verdict (ask 2) held right_report (scanned (codes "end 3" ∷ [])) ≡ bad_entry 6 Form)
+unfolding digits year_and_rest month_and_day read_query read_words keyword says number element score_at no_score_at
+    region_at season_at period_at days_from_civil day_count days_of_years days_of_months
+early = (refl, refl)
+
+-- the verdict on a report that has this row and says that there are no more, where two are asked for, beside the
+-- certificate of another query
+abbrev one_of_two : List ℕ → Verdict
+one_of_two line =
+    verdict (ask 2) held (text (codes "extremes report 1" ∷ codes "query top 2 highest TMAX" ∷ line ∷ codes "end 1 all"
+    ∷ [])) right_certificate
+
+-- a wrong name before the wrong order; a row before the next one; a row before the number of rows; the number of rows,
+-- told at the end line, before the certificate's query
+rows_in_turn : (two_rows (row ∷ codes "2 ZZA00000001 2020-07-01 2020-07-01 31.1 C BRAVO" ∷ [])
+    ≡ bad_row 4 NotACandidate)
+    × (two_rows (codes "1 ZZA00000001 2020-07-02 2020-07-02 30.5 C ALPHA"
+    ∷ codes "2 ZZA00000001 2020-07-01 2020-07-01 31.0 C ALPHA" ∷ []) ≡ bad_row 3 NotBest)
+    × (one_of_two (codes "1 ZZA00000001 2020-07-01 2020-07-01 31.0 C ALPHA") ≡ bad_row 3 NotACandidate)
+    × (one_of_two row ≡ bad_row 4 TooFew)
+unfolding digits year_and_rest month_and_day read_query read_words keyword says number element score_at no_score_at
+    region_at season_at period_at days_from_civil day_count days_of_years days_of_months
+rows_in_turn = (refl, refl, refl, refl)
+
+-- the verdict on a certificate of these lines beside the right two rows
+abbrev beside_two : List (List ℕ) → Verdict
+beside_two ls =
+    verdict (ask 2) held (text (codes "extremes report 1" ∷ codes "query top 2 highest TMAX" ∷ row
+    ∷ codes "2 ZZA00000002 2020-07-01 2020-07-01 31.1 C BRAVO" ∷ codes "end 2" ∷ [])) (certificate ls)
+
+-- the verdict on a certificate of these lines beside the right three rows, of which the last has 305
+abbrev beside_three : List (List ℕ) → Verdict
+beside_three ls =
+    verdict (ask 3) held (text (codes "extremes report 1" ∷ codes "query top 3 highest TMAX" ∷ row
+    ∷ codes "2 ZZA00000002 2020-07-01 2020-07-01 31.1 C BRAVO"
+    ∷ codes "3 ZZA00000001 2020-07-02 2020-07-02 30.5 C ALPHA" ∷ codes "end 3" ∷ []))
+    (text (codes "extremes certificate 1" ∷ codes "query top 3 highest TMAX" ∷ ls))
+
+-- the certificate's query before its k-th score; the bound before the skip; the series before the skip
+entries_in_turn : (beside_two (codes "kth 310" ∷ codes "scan ZZA00000001 311" ∷ codes "end 1" ∷ [])
+    ≡ bad_entry 2 OtherQuery)
+    × (beside_three (codes "kth 305" ∷ codes "skip ZZA00000001 310" ∷ codes "end 1" ∷ []) ≡ bad_entry 4 NoBound)
+    × (of_certificate (scanned (codes "skip ZZA00000004 311" ∷ codes "end 3" ∷ [])) ≡ bad_entry 6 OtherSeries)
+unfolding digits year_and_rest month_and_day read_query read_words keyword says number element score_at no_score_at
+    region_at season_at period_at days_from_civil day_count days_of_years days_of_months
+entries_in_turn = (refl, refl, refl)
+
+-- a line before the next one, and before the number of lines; of two lines too many the first
+lines_in_turn : (of_certificate (certificate (codes "kth 311" ∷ codes "scan ZZA00000001 310"
+    ∷ codes "scan ZZA00000003 311" ∷ codes "end 2" ∷ [])) ≡ bad_entry 4 NoBound)
+    × (of_certificate (certificate (codes "kth 311" ∷ codes "skip ZZA00000001 311" ∷ codes "scan ZZA00000002 310"
+    ∷ codes "end 2" ∷ [])) ≡ bad_entry 4 NotBelow)
+    × (of_certificate (scanned (codes "skip ZZA00000003 250" ∷ codes "scan ZZA00000004 1" ∷ codes "scan ZZA00000005 1"
+    ∷ codes "end 5" ∷ [])) ≡ bad_entry 7 OtherSeries)
+unfolding digits year_and_rest month_and_day read_query read_words keyword says number element score_at no_score_at
+    region_at season_at period_at days_from_civil day_count days_of_years days_of_months
+lines_in_turn = (refl, refl, refl)
+
+-- the report's form before the certificate's; the k-th score before the lines; the series before the bound
+firsts : (verdict (ask 1) held [] [] ≡ bad_row 1 Form)
+    × (of_certificate (certificate (codes "kth 310" ∷ codes "scan ZZA00000001 310" ∷ codes "end 1" ∷ []))
+    ≡ bad_entry 3 OtherFloor)
+    × (of_certificate (certificate (codes "kth 311" ∷ codes "scan ZZA00000001 311" ∷ codes "skip ZZA00000003 250"
+    ∷ codes "end 2" ∷ [])) ≡ bad_entry 5 OtherSeries)
+unfolding digits year_and_rest month_and_day read_query read_words keyword says number element score_at no_score_at
+    region_at season_at period_at days_from_civil day_count days_of_years days_of_months
+firsts = (refl, refl, refl)
+
+-- where there are fewer candidates than were asked for there is no k-th score, and no series may be passed over
+without_kth : verdict (ask 10) held (text (codes "extremes report 1" ∷ codes "query top 10 highest TMAX" ∷ row
+    ∷ codes "2 ZZA00000002 2020-07-01 2020-07-01 31.1 C BRAVO"
+    ∷ codes "3 ZZA00000001 2020-07-02 2020-07-02 30.5 C ALPHA"
+    ∷ codes "4 ZZA00000003 2020-07-01 2020-07-01 25.0 C CHARLIE" ∷ codes "end 4 all" ∷ []))
+    (text (codes "extremes certificate 1" ∷ codes "query top 10 highest TMAX" ∷ codes "kth none"
+    ∷ codes "skip ZZA00000001 311" ∷ codes "end 1" ∷ [])) ≡ bad_entry 4 NotBelow
+unfolding digits year_and_rest month_and_day read_query read_words keyword says number element score_at no_score_at
+    region_at season_at period_at days_from_civil day_count days_of_years days_of_months
+without_kth = refl
+
+-- of version 2: the series, the bound and the skip before the count of the same line, and that before the next line and
+-- the number of lines
+counts_in_turn : (counted (codes "scan ZZA00000002 311 1" ∷ codes "end 1" ∷ []) ≡ bad_entry 4 OtherSeries)
+    × (counted (codes "scan ZZA00000001 310 0" ∷ codes "end 1" ∷ []) ≡ bad_entry 4 NoBound)
+    × (counted (codes "skip ZZA00000001 311" ∷ codes "end 1" ∷ []) ≡ bad_entry 4 NotBelow)
+    × (counted (codes "scan ZZA00000001 311 0" ∷ codes "scan ZZA00000002 310 0" ∷ codes "end 2" ∷ [])
+    ≡ bad_entry 4 NotCounted)
+    × (counted (codes "scan ZZA00000001 311 2" ∷ codes "end 1" ∷ []) ≡ bad_entry 4 NotCounted)
+unfolding digits year_and_rest month_and_day read_query read_words keyword says number element score_at no_score_at
+    region_at season_at period_at days_from_civil day_count days_of_years days_of_months
+counts_in_turn = (refl, refl, refl, refl, refl)
+
 -- ---- pieces
 
 -- the stations
@@ -247,3 +343,21 @@ absent : (is_morsel (ask 1) at_charlie (Some of_charlie) ≡ true)
       period = Some (pos 18628, pos 18629);
     }) at_charlie (Some of_charlie) ≡ false)
 absent = (refl, refl)
+
+-- a row that no line of the files gives
+abbrev warmer : Candidate
+warmer = record { id = record { 0 = codes "ZZA00000001" }; first = pos 18444; last = pos 18444; score = pos 312 }
+
+-- the second row of the first station
+abbrev second : Candidate
+second = record { id = record { 0 = codes "ZZA00000001" }; first = pos 18445; last = pos 18445; score = pos 305 }
+
+-- of a line by itself: the series, the count, the candidate and its name, a row left out, the bound, and at last the
+-- skip, here of the three highest, whose k-th score is 305
+alone_in_turn : (alone at_bravo of_alpha (line false at_alpha (pos 311)) 2 own_row ≡ Some OtherSeries)
+    × (alone at_alpha of_alpha (line false at_alpha (pos 311)) 2 ((worst, codes "BRAVO") ∷ []) ≡ Some NotCounted)
+    × (alone at_alpha of_alpha (line false at_alpha (pos 311)) 1 ((warmer, codes "ALPHA") ∷ []) ≡ Some NotACandidate)
+    × (alone at_alpha of_alpha (line false at_alpha (pos 310)) 0 [] ≡ Some NotBest)
+    × (first_failing (piece_tests (ask 3) at_alpha (Some of_alpha) (line true at_alpha (pos 310)) 2
+    ((worst, codes "ALPHA") ∷ (second, codes "ALPHA") ∷ []) (Some second)) ≡ Some NoBound)
+alone_in_turn = (refl, refl, refl, refl, refl)

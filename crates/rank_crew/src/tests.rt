@@ -206,6 +206,134 @@ fn gated_run_of_two_workers(rt: HostRuntime) {
     );
 }
 
+/// A gate of three workers, each of whom is held until all have claimed.
+#[derive(Drop)]
+struct Three {
+    claiming: [AtomicBool; 3],
+    /// Some worker was held in vain.
+    missed: AtomicBool,
+}
+
+impl Three {
+    fn have_claimed(&self) -> bool {
+        self.claiming[0].load(Ordering::SeqCst)
+            && self.claiming[1].load(Ordering::SeqCst)
+            && self.claiming[2].load(Ordering::SeqCst)
+    }
+}
+
+impl Gate for Three {
+    fn measuring<R: Wait>(&self, _rt: &R, _worker: u64, _place: u64) {}
+
+    fn claimed<R: Wait>(&self, _rt: &R, worker: u64, _morsel: u64) {
+        if let Some(flag) = self.claiming.get(worker as usize) {
+            flag.store(true, Ordering::SeqCst);
+        }
+        for _ in 0..TURNS {
+            if self.have_claimed() {
+                return;
+            }
+            yield_now();
+        }
+        self.missed.store(true, Ordering::SeqCst);
+    }
+}
+
+/// How many records three workers leave over the usual values.
+fn records_of_three<R: Threads + Wait + Sync>(
+    rt: &R,
+    alloc: Global,
+    gate: &Three,
+) -> Option<usize> {
+    let data = data_of(alloc, &USUAL)?;
+    let query = Query::parse("top 1 highest TMAX").ok()?;
+    let answer = answer_of(rt, alloc, &data, &query, 3, None, gate).ok()?;
+    Some(answer.records.len())
+}
+
+#[test]
+fn three_workers_at_once(rt: HostRuntime) {
+    let gate = Three {
+        claiming: [
+            AtomicBool::new(false),
+            AtomicBool::new(false),
+            AtomicBool::new(false),
+        ],
+        missed: AtomicBool::new(false),
+    };
+    assert_eq!(rt; records_of_three(&rt, rt.alloc(), &gate), Some(3));
+    assert!(rt;
+        !gate.missed.load(Ordering::SeqCst),
+        "each worker met the others"
+    );
+}
+
+/// A gate that holds whoever claims morsel 0 until morsel 2 is claimed.
+#[derive(Drop)]
+struct FirstLast {
+    last_claimed: AtomicBool,
+    /// The worker was held in vain.
+    missed: AtomicBool,
+}
+
+impl Gate for FirstLast {
+    fn measuring<R: Wait>(&self, _rt: &R, _worker: u64, _place: u64) {}
+
+    fn claimed<R: Wait>(&self, _rt: &R, _worker: u64, morsel: u64) {
+        if morsel == 2 {
+            self.last_claimed.store(true, Ordering::SeqCst);
+        }
+        if morsel != 0 {
+            return;
+        }
+        for _ in 0..TURNS {
+            if self.last_claimed.load(Ordering::SeqCst) {
+                return;
+            }
+            yield_now();
+        }
+        self.missed.store(true, Ordering::SeqCst);
+    }
+}
+
+/// The floor that the record of a morsel saw, where there is such a record.
+fn seen_at(answer: &Answer, morsel: u64) -> Option<Option<i64>> {
+    for record in &answer.records {
+        if record.morsel == morsel {
+            return Some(record.seen);
+        }
+    }
+    None
+}
+
+/// The lines of two workers' answer, and what the records of the first two morsels saw.
+fn first_last_run<R: Threads + Wait + Sync>(
+    rt: &R,
+    alloc: Global,
+    gate: &FirstLast,
+) -> Option<(Lines, [Option<i64>; 2])> {
+    let data = data_of(alloc, &FALLING)?;
+    let query = Query::parse("top 1 highest TMAX").ok()?;
+    let answer = answer_of(rt, alloc, &data, &query, 2, None, gate).ok()?;
+    let seen = [seen_at(&answer, 0)?, seen_at(&answer, 1)?];
+    Some((lines_of(&answer)?, seen))
+}
+
+#[test]
+fn first_morsel_is_looked_at_last(rt: HostRuntime) {
+    let gate = FirstLast {
+        last_claimed: AtomicBool::new(false),
+        missed: AtomicBool::new(false),
+    };
+    let lines = [(311, false), (300, false), (250, true)];
+    let found = first_last_run(&rt, rt.alloc(), &gate);
+    assert_eq!(rt; found, Some((lines, [Some(300), None])));
+    assert!(rt;
+        !gate.missed.load(Ordering::SeqCst),
+        "the other worker went on"
+    );
+}
+
 /// A gate that notes which worker measures each of three places.
 #[derive(Drop)]
 struct Measurers([AtomicU64; 3]);

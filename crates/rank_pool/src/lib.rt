@@ -6,8 +6,6 @@
 
 mod laws;
 mod pool;
-#[cfg(test)]
-mod tests;
 
 pub use laws::{first_are_the_same, pools_hold_the_first, scores_tell_places};
 pub use pool::Pool;

@@ -3,7 +3,9 @@ use Rattle.std.proofs.Common.{◌≡◌, ℕ, true, false, [], ◌∷◌, ◌++�
 use Rattle.std.proofs.Common.{codes, arith}
 use Rattle.std.specs.Prelude.{pos, neg_ℤ, ℤ, map}
 use Rattle.std.specs.Fmt.{digits}
+use Rattle.std.specs.List.{repeat}
 use Rattle.std.proofs.lemmas.Int.{ints}
+use Rattle.jiff_core.specs.Calendar.{days_from_civil, day_count, days_of_years, days_of_months}
 use Rattle.ghcn_fields.specs.Dates.{year_and_rest, month_and_day}
 use Rattle.ghcn_files.specs.declared.element.Element.TheVariants.{Tmax, Tmin, Prcp}
 use Rattle.ghcn_files.specs.declared.station.Station.{Station}
@@ -12,7 +14,7 @@ use Rattle.rank_query.specs.declared.score.Score.TheVariants.{Highest, Lowest, S
 use Rattle.rank_query.specs.declared.region.Region.{Region}
 use Rattle.rank_query.specs.declared.region.Region.TheVariants.{Everywhere, Inside, Country, State, Only}
 use Rattle.rank_query.specs.declared.fault.QueryFault.TheVariants.{QueryTooLong, UnexpectedWord, QueryEnds}
-use Rattle.rank_query.specs.declared.fault.QueryFault.TheVariants.{OutOfLimits, BadDate, BadBox}
+use Rattle.rank_query.specs.declared.fault.QueryFault.TheVariants.{OutOfLimits, BadDate, BadBox, EmptyPeriod}
 use Rattle.rank_query.specs.Asked.{Asked}
 use Rattle.rank_query.specs.Admits.{region_holds, admits_day}
 use Rattle.rank_query.specs.QueryTexts.{query_text}
@@ -33,6 +35,13 @@ asked k s = record { k = k; score = s; region = Everywhere; season = None; perio
 -- the words of a text, whatever the blanks
 words : words_of (codes "  top 007  highest TMAX ") ≡ codes "top" ∷ codes "007" ∷ codes "highest" ∷ codes "TMAX" ∷ []
 words = refl
+
+-- a blank alone separates words, and neither a tab nor a return does
+no_blanks : (read_query (codes "top" ++ 9 ∷ codes "1 wet") ≡ Err (UnexpectedWord 1))
+    × (read_query (codes "top 1" ++ 9 ∷ codes " wet") ≡ Err (UnexpectedWord 2))
+    × (read_query (codes "top 1 wet" ++ 13 ∷ []) ≡ Err (UnexpectedWord 3))
+unfolding read_query read_words keyword says number score_at no_score_at region_at season_at period_at
+no_blanks = (refl, refl, refl)
 
 -- texts that are read
 read : (read_query (codes "top 1000 highest TMAX") ≡ Ok (asked 1000 (Highest Tmax)))
@@ -90,6 +99,11 @@ unfolding read_query read_words keyword says number element score_at no_score_at
     degrees
 boxes_refused = (refl, refl, refl, refl, refl)
 
+-- wet spells in a box
+abbrev in_box_of : ℤ → ℤ → ℤ → ℤ → Asked
+in_box_of south west north east =
+    record { k = 1; score = Wet; region = Inside south west north east; season = None; period = None }
+
 -- a box over the date line, and one at the edges of the world
 boxes_read : (read_query (codes "top 3 highest TMAX box -10 170 10.0000 -170") ≡ Ok
     (record {
@@ -113,6 +127,35 @@ unfolding read_query read_words keyword says number element score_at no_score_at
     degrees
 boxes_read = (refl, refl)
 
+-- the edges of the world in each place of a box, and a box of one point
+at_the_edges : (read_query (codes "top 1 wet box 90 180 90 -180") ≡ Ok
+    (in_box_of (pos 900_000) (pos 1_800_000) (pos 900_000) (neg_ℤ (pos 1_800_000))))
+    × (read_query (codes "top 1 wet box -90.0000 -180.0000 -90 180") ≡ Ok
+    (in_box_of (neg_ℤ (pos 900_000)) (neg_ℤ (pos 1_800_000)) (neg_ℤ (pos 900_000)) (pos 1_800_000)))
+    × (read_query (codes "top 1 wet box 12 22 12.0 22.00") ≡ Ok
+    (in_box_of (pos 120_000) (pos 220_000) (pos 120_000) (pos 220_000)))
+unfolding read_query read_words keyword says number score_at no_score_at region_at season_at period_at box_at degrees
+at_the_edges = (refl, refl, refl)
+
+-- past them by the last decimal; a point without decimals, and decimals without a digit before them
+past_the_world : (read_query (codes "top 1 wet box -90.0001 0 0 0") ≡ Err (BadBox 5))
+    × (read_query (codes "top 1 wet box 90.0001 0 0 0") ≡ Err (BadBox 5))
+    × (read_query (codes "top 1 wet box 0 -180.0001 0 0") ≡ Err (BadBox 6))
+    × (read_query (codes "top 1 wet box 0 180.0001 0 0") ≡ Err (BadBox 6))
+    × (read_query (codes "top 1 wet box 0 0 90.0001 0") ≡ Err (BadBox 7))
+    × (read_query (codes "top 1 wet box 0 0 0 -180.0001") ≡ Err (BadBox 8))
+    × (read_query (codes "top 1 wet box 0 0 0 180.0001") ≡ Err (BadBox 8))
+    × (read_query (codes "top 1 wet box 1. 0 2 0") ≡ Err (BadBox 5))
+    × (read_query (codes "top 1 wet box .5 0 2 0") ≡ Err (BadBox 5))
+unfolding read_query read_words keyword says number score_at no_score_at region_at season_at period_at box_at degrees
+past_the_world = (refl, refl, refl, refl, refl, refl, refl, refl, refl)
+
+-- a northern edge one ten-thousandth south of the southern one, and a word that is no number, told before what follows
+turned : (read_query (codes "top 1 wet box 1 0 0.9999 181") ≡ Err (BadBox 7))
+    × (read_query (codes "top 1 wet box south 0 95 0") ≡ Err (BadBox 5))
+unfolding read_query read_words keyword says number score_at no_score_at region_at season_at period_at box_at degrees
+turned = (refl, refl)
+
 -- codes of another length, and bytes that don't show in print
 codes_refused : (read_query (codes "top 1 highest TMAX country ZZZ") ≡ Err (UnexpectedWord 6))
     × (read_query (codes "top 1 highest TMAX state N") ≡ Err (UnexpectedWord 6))
@@ -121,6 +164,16 @@ codes_refused : (read_query (codes "top 1 highest TMAX country ZZZ") ≡ Err (Un
     × (read_query (codes "top 1 highest TMAX state NY country ZZ") ≡ Err (UnexpectedWord 7))
 unfolding read_query read_words keyword says number element score_at no_score_at region_at season_at period_at code
 codes_refused = (refl, refl, refl, refl, refl)
+
+-- a letter of two bytes is no code, and neither is a control byte; the first and the last byte that show in print are
+no_codes : (read_query (codes "top 1 wet country " ++ 195 ∷ 169 ∷ []) ≡ Err (UnexpectedWord 5))
+    × (read_query (codes "top 1 wet state N" ++ 1 ∷ []) ≡ Err (UnexpectedWord 5))
+    × (read_query (codes "top 1 wet state N" ++ 128 ∷ []) ≡ Err (UnexpectedWord 5))
+    × (read_query (codes "top 1 wet station ZZA0000000" ++ 127 ∷ []) ≡ Err (UnexpectedWord 5))
+    × (read_query (codes "top 1 wet state !~") ≡ Ok
+    (record { k = 1; score = Wet; region = State (codes "!~"); season = None; period = None }))
+unfolding read_query read_words keyword says number element score_at no_score_at region_at season_at period_at code
+no_codes = (refl, refl, refl, refl, refl)
 
 -- codes that are read
 codes_read : (read_query (codes "top 1 highest TMAX state NY") ≡ Ok
@@ -186,10 +239,33 @@ unfolding read_query read_words keyword says number element score_at no_score_at
     date
 dates_refused = (refl, refl, refl)
 
+-- a period from a day to itself, one that ends before it begins, told before a word too many, and a word too many
+periods : (read_query (codes "top 1 dry from 2020-07-01 to 2020-07-01") ≡ Ok
+    (record { k = 1; score = Dry; region = Everywhere; season = None; period = Some (pos 18444, pos 18444) }))
+    × (read_query (codes "top 1 dry from 2020-07-02 to 2020-07-01 now") ≡ Err EmptyPeriod)
+    × (read_query (codes "top 1 dry from 2020-07-01 to 2020-07-01 now") ≡ Err (UnexpectedWord 8))
+unfolding read_query read_words keyword says number score_at no_score_at region_at season_at period_at days_at date
+    days_from_civil day_count days_of_years days_of_months
+periods = (refl, refl, refl)
+
+-- region, season and period stand in this order
+in_order : (read_query (codes "top 1 dry months 6..8 country ZZ") ≡ Err (UnexpectedWord 6))
+    × (read_query (codes "top 1 dry from 2020-07-01 to 2020-07-01 months 6..8") ≡ Err (UnexpectedWord 8))
+    × (read_query (codes "top 1 country ZZ dry") ≡ Err (UnexpectedWord 3))
+unfolding read_query read_words keyword says number months code score_at no_score_at region_at season_at period_at
+    days_at date days_from_civil day_count days_of_years days_of_months
+in_order = (refl, refl, refl)
+
 -- a text of 257 blanks is too long, one of 256 has no word
 too_long : (read_query (replicate 257 32) ≡ Err QueryTooLong) × (read_query (replicate 256 32) ≡ Err QueryEnds)
 unfolding read_query read_words keyword says number element score_at no_score_at region_at season_at period_at
 too_long = (refl, refl)
+
+-- the length is that in bytes: 129 letters of two bytes are too long, 128 are one word
+two_byte_letters : (read_query (repeat 129 (195 ∷ 169 ∷ [])) ≡ Err QueryTooLong)
+    × (read_query (repeat 128 (195 ∷ 169 ∷ [])) ≡ Err (UnexpectedWord 1))
+unfolding read_query read_words keyword says number score_at no_score_at region_at season_at period_at
+two_byte_letters = (refl, refl)
 
 -- what the grammar has behind words, of which the nearest comes first: K and the days of a sum, the four edges of a
 -- box, no fifth one, both dates, and behind codes whatever comes next
@@ -384,6 +460,20 @@ boxes : (region_holds (Inside (pos 120_000) (pos 220_000) (pos 120_000) (pos 220
     (at (pos 120_000) (pos 220_000)) ≡ true)
     × (region_holds (Inside (pos 0) (pos 0) (pos 100_000) (pos 100_000)) (at (pos 50_000) (pos 100_001)) ≡ false)
 boxes = (refl, refl)
+
+-- 180 and -180 degrees aren't one longitude, and a box of one meridian isn't the world
+one_meridian : (region_holds (Inside (pos 0) (pos 1_700_000) (pos 100_000) (pos 1_800_000))
+    (at (pos 50_000) (neg_ℤ (pos 1_800_000))) ≡ false)
+    × (region_holds (Inside (pos 0) (neg_ℤ (pos 1_800_000)) (pos 100_000) (neg_ℤ (pos 1_700_000)))
+    (at (pos 50_000) (pos 1_800_000)) ≡ false)
+    × (region_holds (Inside (pos 0) (pos 200_000) (pos 100_000) (pos 200_000)) (at (pos 50_000) (pos 200_001)) ≡ false)
+    × (region_holds (Inside (pos 0) (pos 200_000) (pos 100_000) (pos 200_000)) (at (pos 50_000) (pos 200_000)) ≡ true)
+one_meridian = (refl, refl, refl, refl)
+
+-- the western and the eastern edge belong to an ordinary box, and nothing past them
+meridians : map (λ z. region_holds (Inside (pos 0) (neg_ℤ (pos 200_000)) (pos 100_000) (pos 300_000)) (at (pos 0) z))
+    (neg_ℤ (pos 200_001) ∷ neg_ℤ (pos 200_000) ∷ pos 300_000 ∷ pos 300_001 ∷ []) ≡ false ∷ true ∷ true ∷ false ∷ []
+meridians = refl
 
 -- by the first two bytes of the ID, by the state and not the name, by the ID
 by_code : (map (λ r. region_holds r (at (pos 0) (pos 0)))

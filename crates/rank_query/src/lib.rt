@@ -19,6 +19,3 @@ pub use laws::queries_have_texts;
 pub use query::Query;
 pub use region::Region;
 pub use score::Score;
-
-#[cfg(test)]
-mod tests;

@@ -167,6 +167,14 @@ one_worker : (all_stopped ((alone 1 None).0).workers ≡ true) × ((alone 1 None
     (lines_after 1 (alone 1 None) ≡ one_skipped) × (back_after 1 (alone 1 None) ≡ 0)
 one_worker = (refl, refl, refl, refl, refl)
 
+-- a floor that one worker raised reaches the other, whose own k-th score is lower
+floor_is_shared : records_in (run (planned (ask 1) (of_three (pos 311) (pos 300) (pos 300))) 2 None
+    (Claim 0 ∷ Claim 1 ∷ Look 0 ∷ Look 1 ∷ Settle 1 ∷ Settle 0 ∷ turn 1 ++ Claim 0 ∷ Claim 1 ∷ []))
+    ≡ record { morsel = 0; worker = 0; seen = None; skipped = false } ∷
+    record { morsel = 1; worker = 1; seen = None; skipped = false } ∷
+    record { morsel = 2; worker = 1; seen = Some (pos 311); skipped = true } ∷ []
+floor_is_shared = refl
+
 -- a guess that is the k-th score: one morsel is skipped, and none is taken back
 right_guess : (lines_after 1 (alone 1 (Some (pos 311))) ≡ one_skipped) × (back_after 1 (alone 1 (Some (pos 311))) ≡ 0)
 right_guess = (refl, refl)

@@ -16,8 +16,6 @@ mod measured;
 mod plan;
 mod record;
 mod replayed;
-#[cfg(test)]
-mod tests;
 mod turn;
 
 pub use alone::run_alone;

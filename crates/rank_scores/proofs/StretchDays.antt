@@ -1,11 +1,14 @@
 -- Days of a stretch, as one after another comes.
-use Rattle.std.proofs.Common.{◌≡◌, Bool, true, cond, List, [], ◌∷◌, refl, ap, ◌∙◌, arith, ℤ, ◌≤ℤ◌, ◌<ℤ◌}
-use Rattle.std.specs.Prelude.{◌&&◌, IsTrue}
+use Rattle.std.proofs.Common.{◌≡◌, Bool, true, false, cond, List, [], ◌∷◌, ◌++◌, Some, None, refl, sym, ap, ◌∙◌, subst}
+use Rattle.std.proofs.Common.{ℕ, ◌+◌, ◌<◌, length, length-append, arith, ℤ, ◌≤ℤ◌, ◌<ℤ◌}
+use Rattle.std.specs.Prelude.{◌&&◌, IsTrue, slice_get}
+use Rattle.std.specs.Option.{option_map}
 use Rattle.std.specs.List.{AllByRecursion, list_all}
 use Rattle.std.proofs.lemmas.Bool.{and_parts}
 use Rattle.std.proofs.lemmas.Int.{ints}
 use Rattle.ghcn_fields.specs.Days.{is_day, first_day}
 use Rattle.ghcn_series.specs.Series.{DayValue, Usable, IsSeries, is_by_day, is_value}
+use Rattle.ghcn_series.specs.Packed.{BeginsBy}
 use Rattle.rank_query.specs.Asked.{Asked}
 use Rattle.rank_query.specs.Admits.{admits_day}
 use Rattle.rank_scores.specs.declared.admitted.Stretch.{Stretch}
@@ -66,3 +69,58 @@ pub stretch-first_of : (b : Bool) (q : Asked) (x : DayValue) (xs : List DayValue
     → admitted_among q (x ∷ xs) ≡ cond b (x ∷ admitted_among q xs) (admitted_among q xs)
 stretch-first_of b q x xs s is on e =
     ap (λ t. cond t (x ∷ admitted_among q xs) (admitted_among q xs)) (is.alike.0 on ∙ e)
+
+-- what is known of days is known of those behind some of them
+pub stretch-behind : (q : Asked) (part days : List DayValue) (s : Stretch) → IsStretch q (part ++ days) s
+    → IsStretch q days s
+stretch-behind q [] days s is = is
+stretch-behind q (x ∷ xs) days s is = stretch-behind q xs days s (stretch-rest q x (xs ++ days) s is)
+
+-- the days of a part within a stretch are admitted, or aren't, all alike
+pub stretch-part : (b : Bool) (q : Asked) (part days : List DayValue) (s : Stretch) → IsStretch q (part ++ days) s
+    → AllByRecursion (λ x. x.0 ≤ℤ s.last) part → s.admitted ≡ b
+    → admitted_among q (part ++ days) ≡ cond b part [] ++ admitted_among q days
+stretch-part true q [] days s is within e = refl
+stretch-part false q [] days s is within e = refl
+stretch-part true q (x ∷ xs) days s is within e =
+    stretch-first_of true q x (xs ++ days) s is within.0 e
+    ∙ ap (λ (them : List DayValue). x ∷ them)
+    (stretch-part true q xs days s (stretch-rest q x (xs ++ days) s is) within.1 e)
+stretch-part false q (x ∷ xs) days s is within e =
+    stretch-first_of false q x (xs ++ days) s is within.0 e
+    ∙ stretch-part false q xs days s (stretch-rest q x (xs ++ days) s is) within.1 e
+
+-- what holds of days, of which one is the first, holds of them by that name
+pub with-first : (P : List DayValue → Type 0) (days : List DayValue) (day : ℤ)
+    → option_map (λ (x : DayValue). x.0) (slice_get days 0) ≡ Some day
+    → ((value : ℤ) (rest : List DayValue) → P ((day, value) ∷ rest)) → P days
+with-first P [] day is holds = absurd cc
+with-first P (x ∷ xs) day is holds =
+    let same : x.0 ≡ day = cc in
+    subst (λ (d : ℤ). P ((d, x.1) ∷ xs)) (sym same) (holds x.1 xs)
+
+-- without a first one there is none
+pub no-first : (days : List DayValue) → None ≡ option_map (λ (x : DayValue). x.0) (slice_get days 0) → days ≡ []
+no-first [] is = refl
+no-first (x ∷ xs) is = absurd cc
+
+-- the stretch that goes on with the first of some days is one of them
+pub stretch-on : (q : Asked) (days : List DayValue) (day : ℤ) (old new : Stretch)
+    → Some day ≡ option_map (λ (x : DayValue). x.0) (slice_get days 0) → IsStretch q days old
+    → ((value : ℤ) (rest : List DayValue) → IsStretch q ((day, value) ∷ rest) old
+    → IsStretch q ((day, value) ∷ rest) new)
+    → IsStretch q days new
+stretch-on q days day old new first is on =
+    with-first (λ (them : List DayValue). IsStretch q them old → IsStretch q them new) days day (sym first) on is
+
+-- the first of some days comes no later than one that it comes no later than
+pub begins-by : (days : List DayValue) (day last : ℤ)
+    → Some day ≡ option_map (λ (x : DayValue). x.0) (slice_get days 0) → day ≤ℤ last → BeginsBy last days
+begins-by days day last first le = with-first (BeginsBy last) days day (sym first) (λ value rest. le)
+
+-- days without some of the first are fewer
+pub part-fewer : (all part rest : List DayValue) → all ≡ part ++ rest → 0 < length part → length rest < length all
+part-fewer all part rest is some =
+    let long : length all ≡ length part + length rest =
+    ap (λ (days : List DayValue). length days) is ∙ length-append part rest in
+    omega (arith, long, some)

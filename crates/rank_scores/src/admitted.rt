@@ -1,7 +1,6 @@
 //! The days of a series that a query admits, one after another.
 
-ghost use Rattle.std.specs.Prelude.{◌≡◌, ◌↔◌, IsTrue, List, ◌∷◌, ℤ, pos, ◌+ℤ◌, ◌≤ℤ◌};
-ghost use Rattle.std.specs.Iterator.{YieldsFirst};
+ghost use Rattle.std.specs.Prelude.{◌≡◌, ◌↔◌, IsTrue, List, [], ◌∷◌, ◌++◌, ℤ, pos, ◌+ℤ◌, ◌≤ℤ◌};
 ghost use Rattle.std.specs.Option.{option_map};
 ghost use Rattle.ghcn_fields.specs.Days.{is_day};
 ghost use Rattle.ghcn_series.specs.Series.{DayValue, IsSeries};
@@ -11,27 +10,30 @@ ghost use Rattle.rank_scores.specs.Morsels.{has_admitted};
 ghost use Rattle.rank_scores.specs.Stretches.{IsStretch};
 
 use ghcn_fields::Day;
-use ghcn_series::{Days, Series};
+use ghcn_series::{BlockDays, Days, Series};
 use rank_query::Query;
 use std::marker::Model;
 
 /// The admitted usable days that are still to come, by increasing day, each with its value.
 #[derive(Drop)]
 pub(crate) struct Admitted<'s, 'q> {
+    /// Those of the block at hand.
+    part: BlockDays<'s>,
+    /// All days behind them.
     days: Days<'s>,
     query: &'q Query,
     stretch: Stretch,
 }
 
 impl<'s, 'q> Model for Admitted<'s, 'q> {
-    ghost use Rattle.std.specs.Prelude.{List};
+    ghost use Rattle.std.specs.Prelude.{List, ◌++◌};
     ghost use Rattle.ghcn_series.specs.Series.{DayValue};
     ghost use Rattle.rank_scores.specs.Candidates.{admitted_among};
     ghost use Rattle.rank_scores.specs.Stretches.{IsStretch};
 
     ghost Value = { List DayValue };
 
-    ghost view = { λ a. admitted_among a.query.now a.days };
+    ghost view = { λ a. a.part ++ admitted_among a.query.now a.days };
 
     ghost invariant = { λ a. IsStretch a.query.now a.days a.stretch };
 }
@@ -43,6 +45,7 @@ impl<'s, 'q> Admitted<'s, 'q> {
         ensures series { IsSeries series.now }
     {
         Admitted {
+            part: BlockDays::none(),
             days: series.days(),
             query,
             stretch: Stretch {
@@ -64,7 +67,11 @@ impl<'s, 'q> Iterator for Admitted<'s, 'q> {
 
     #[inline(always)]
     fn next(&mut self) -> Option<(Day, i32)> {
-        next_admitted(&mut self.days, self.query, &mut self.stretch)
+        if let Some(first) = self.part.next() {
+            return Some(first);
+        }
+        self.part = next_part(&mut self.days, self.query, &mut self.stretch);
+        self.part.next()
     }
 }
 
@@ -78,20 +85,22 @@ pub fn has_admitted_day(series: &Series, query: &Query) -> bool
     Admitted::of(series, query).next().is_some()
 }
 
-/// The first of some days that is admitted.
-#[inline(always)]
-fn next_admitted(days: &mut Days, query: &Query, stretch: &mut Stretch) -> Option<(Day, i32)>
+/// The first of some days that are admitted, as many as lie in one block and one stretch.
+fn next_part<'s>(days: &mut Days<'s>, query: &Query, stretch: &mut Stretch) -> BlockDays<'s>
     requires { IsStretch query.now days.old stretch.old }
-    ensures first { YieldsFirst (meaning.admitted_among query.now) days.old result days.new }
+    ensures parts { meaning.admitted_among query.now days.old
+        ≡ result ++ meaning.admitted_among query.now days.new }
+    ensures end { result ≡ [] → meaning.admitted_among query.now days.new ≡ [] }
     ensures stretch { IsStretch query.now days.new stretch.new }
 {
-    while let Some((day, value)) = days.next() {
+    while let Some(day) = days.first() {
         stretch.go_on(query, day);
+        let part = days.take_to(stretch.last);
         if stretch.admitted {
-            return Some((day, value));
+            return part;
         }
     }
-    None
+    BlockDays::none()
 }
 
 /// Whether days are admitted, up to a last one by its number.

@@ -12,8 +12,6 @@ mod laws;
 mod scans;
 mod sink;
 mod spell;
-#[cfg(test)]
-mod tests;
 mod window;
 
 pub use admitted::has_admitted_day;

@@ -43,6 +43,8 @@ impl Spell {
 }
 
 /// Offers each spell, once the day came that isn't in it any more.
+// Each kind of spell has a loop of its own, whose test on values is one comparison.
+#[inline(always)]
 pub(crate) fn scan_spells<S: Sink>(
     id: StationId,
     series: &Series,

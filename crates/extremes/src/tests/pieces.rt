@@ -1,11 +1,10 @@
 //! Rankings of files that come in pieces, or from a source.
 
-ghost use Rattle.extremes.specs.Taken.{HasTakenSome};
+ghost use Rattle.rank_input.specs.Taken.{HasTakenSome};
 
 use super::*;
-use crate::archive::feed;
-use crate::intake::Intake;
 use crate::rank::rank_intake;
+use rank_input::{Intake, feed};
 
 /// What two workers rank of files that come in pieces of a length.
 fn ranked_by_pieces<R: Threads + Wait + AllocGlobal + Sync>(

@@ -1,8 +1,7 @@
 //! What the words of a command line ask for, and the statuses.
 
 use super::*;
-use crate::command::{Command, CommandFault};
-use crate::words::command;
+use command_line::{Command, CommandFault, command};
 
 fn words_of(alloc: Global, words: &[&str]) -> Result<Vec<String>, AllocError> {
     words

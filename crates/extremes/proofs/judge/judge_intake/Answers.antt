@@ -1,5 +1,5 @@
-use Rattle.extremes.proofs.Finishes.{judges_input}
 use Rattle.extremes.proofs.judge.judge_intake.Goals as goal
+use Rattle.extremes.proofs.Answering.{judges_input}
 
 -- the verdict is that on what was given
 pub returns-clause-ok : goal.returns-clause-ok

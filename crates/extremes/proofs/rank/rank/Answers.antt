@@ -1,7 +1,7 @@
 use Rattle.std.specs.Prelude.{map}
-use Rattle.extremes.specs.Taken.{given}
-use Rattle.extremes.proofs.Finishes.{crewed}
+use Rattle.rank_input.specs.Taken.{given}
 use Rattle.extremes.proofs.rank.rank.Goals as goal
+use Rattle.extremes.proofs.Answering.{crewed}
 
 -- the papers are those of the crew that was asked for
 pub returns-clause-crew : goal.returns-clause-crew

@@ -1,6 +1,7 @@
 use Rattle.std.proofs.lemmas.Result.{IfOk-weaker, IfErr-weaker}
-use Rattle.extremes.proofs.Finishes.{answers_input, crews_input, memory_refuses}
+use Rattle.rank_input.proofs.Finishes.{memory_refuses}
 use Rattle.extremes.proofs.rank.rank_intake.Goals as goal
+use Rattle.extremes.proofs.Answering.{answers_input, crews_input}
 
 -- the papers of what the query needs answer all that was given
 pub returns-in-Ok-clause-ok : goal.returns-in-Ok-clause-ok

@@ -1,7 +1,7 @@
 use Rattle.std.specs.Prelude.{map}
-use Rattle.extremes.specs.Taken.{given}
-use Rattle.extremes.proofs.Finishes.{answers_input, serial_input}
+use Rattle.rank_input.specs.Taken.{given}
 use Rattle.extremes.proofs.rank.rank_serial.Goals as goal
+use Rattle.extremes.proofs.Answering.{answers_input, serial_input}
 
 -- the papers of what the query needs answer all that was given
 pub returns-clause-ok : goal.returns-clause-ok

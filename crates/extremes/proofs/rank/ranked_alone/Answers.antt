@@ -2,7 +2,7 @@ use Rattle.std.proofs.Common.{rules, ap, ◌∙◌, subst}
 use Rattle.std.proofs.lemmas.Result.{IfOk-weaker}
 use Rattle.rank_query.specs.Asked.{IsAsked}
 use Rattle.rank_sched.specs.Plan.{Planned}
-use Rattle.extremes.proofs.Guesses.{guess_is_score}
+use Rattle.rank_input.proofs.Guesses.{guess_is_score}
 use Rattle.extremes.proofs.PlanAnswers.{crew_is_plan, papers_are, of_one_is}
 use Rattle.extremes.proofs.rank.ranked_alone.Goals as goal
 

@@ -1,8 +1,8 @@
 use Rattle.std.proofs.Common.{ap, ◌∙◌, subst}
 use Rattle.rank_query.specs.Asked.{IsAsked}
 use Rattle.rank_sched.specs.Plan.{Planned}
-use Rattle.extremes.proofs.Crews.{some_workers, few_workers}
-use Rattle.extremes.proofs.Guesses.{guess_is_score}
+use Rattle.rank_input.proofs.Crews.{some_workers, few_workers}
+use Rattle.rank_input.proofs.Guesses.{guess_is_score}
 use Rattle.extremes.proofs.PlanAnswers.{crew_is_plan, papers_are, of_crew_is}
 use Rattle.extremes.proofs.rank.ranked_by_crew.Goals as goal
 

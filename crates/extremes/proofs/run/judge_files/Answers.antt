@@ -1,5 +1,5 @@
 use Rattle.std.proofs.Common.{sym, subst}
-use Rattle.extremes.specs.Feeding.{AreAllOf}
+use Rattle.rank_input.specs.Feeding.{AreAllOf}
 use Rattle.extremes.proofs.FedRuns.{judges-files, judges-memory}
 use Rattle.extremes.proofs.run.judge_files.Goals as goal
 

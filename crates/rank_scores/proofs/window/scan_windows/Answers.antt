@@ -3,7 +3,7 @@ use Rattle.std.specs.List.{fold}
 use Rattle.std.proofs.lemmas.Bool.Decides.{Decides-int_eq}
 use Rattle.rank_scores.specs.Candidates.{candidate, admitted}
 use Rattle.rank_scores.specs.Windows.{next_place, with_value}
-use Rattle.rank_scores.proofs.WindowSums.{windows, at_first, fits, Step, takes, leaves, none_left}
+use Rattle.rank_scores.proofs.WindowSums.{windows, at_first, fits, anew-place, anew-room, Step, takes, leaves, none_left}
 use Rattle.rank_scores.proofs.window.scan_windows.Goals.{After-go_on, After-take_in}
 use Rattle.rank_scores.proofs.window.scan_windows.Goals as goal
 
@@ -28,6 +28,15 @@ comes : (g : _) (c : After-go_on g) → Step c.args.id c.args.n c.loop-day.invar
 comes g c =
     takes c.args.id c.loop-day.invariant.at c.loop-day.invariant.few c.requires.few c.in-Some.ensures.steps
     (Decides-int_eq _ _) c.go_on.ensures
+
+-- it finds a place, and room
+pub take_in-requires-clause-first : goal.take_in-requires-clause-first
+take_in-requires-clause-first g c =
+    anew-place c.loop-day.window c.go_on.new.self _ c.go_on.ensures c.loop-day.invariant.at.place
+
+pub take_in-requires-clause-len : goal.take_in-requires-clause-len
+take_in-requires-clause-len g c =
+    anew-room c.loop-day.window c.go_on.new.self _ c.args.n c.go_on.ensures c.loop-day.invariant.few c.requires.few
 
 -- its value fits the sum
 pub take_in-requires-clause-total : goal.take_in-requires-clause-total

@@ -1,4 +1,4 @@
-use Rattle.extremes.specs.Taken.{HasTakenSome}
+use Rattle.rank_input.specs.Taken.{HasTakenSome}
 use Rattle.extremes.proofs.tests.pieces.end_files.Given as goal
 
 -- what was given stays what an intake was given

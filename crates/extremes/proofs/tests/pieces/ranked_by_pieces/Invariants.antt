@@ -1,4 +1,4 @@
-use Rattle.extremes.specs.Taken.{HasTakenSome}
+use Rattle.rank_input.specs.Taken.{HasTakenSome}
 use Rattle.extremes.proofs.tests.pieces.ranked_by_pieces.Given as goal
 
 -- what was given stays what an intake was given

@@ -1,0 +1,106 @@
+-- What is read of a parse, by the words of its meaning.
+use Rattle.std.proofs.Common.{◌≡◌, Bool, true, false, List, ◌∷◌, Option, Some, None, IsSomeAnd, unwrap_or, option_map}
+use Rattle.std.proofs.Common.{is_some, codes, refl, sym, ap, ap₂, ◌∙◌, ◌⊎◌, inl, inr, ◌||◌}
+use Rattle.std.specs.Prelude.{Box, if◌then◌else◌, ℤ, ℕ, [], Result, Ok, Err}
+use Rattle.std.specs.Box.{box_value}
+use Rattle.std.specs.Int.{w64}
+use Rattle.std.specs.Str.Parse.{ParsesSigned, ParsesUnsigned}
+use Rattle.clap.specs.declared.builder.ValueParser.{ValueParser}
+use Rattle.clap.specs.Words.{Row, Rule, Text, Shape, Kinds, IsAmong, ReadsOne, subcommand_of, subcommand_rows}
+use Rattle.clap.specs.declared.error.ErrorKind.{ErrorKind}
+use Rattle.clap.specs.declared.error.ErrorKind.TheVariants.{OutOfMemory}
+use Rattle.clap.specs.Walk.{answers_to, stop_after}
+use Rattle.clap.specs.Simple.{argument_words, built, entered, names_of, rows_at}
+use Rattle.clap.specs.declared.parser.matches.SubCommand.{SubCommand}
+use Rattle.clap.specs.declared.parser.matches.ArgMatches.TheViews.{out-SubCommand}
+use Rattle.command_line.specs.CommandLine.{extremes_app, IsGuess, IsCount}
+
+-- what is some value is it
+pub some_is : {X : Type 0} (o : Option X) (v : X) → IsSomeAnd o (λ r. r ≡ v) → o ≡ Some v
+some_is None v h = absurd h
+some_is {X} (Some x) v h = ap (λ (r : X). Some r) h
+
+module _ {X Y : Type 0} (f : X → Y) where
+  -- a value or another, read by f
+  mapped_or : (o : Option X) (d : X) → f (unwrap_or o d) ≡ unwrap_or (option_map f o) (f d)
+  mapped_or None d = refl
+  mapped_or (Some x) d = refl
+
+  -- the same, where the value is known by what f reads
+  pub read_or : (o : Option X) (given d : X) (v : Option Y) (e : Y) → given ≡ unwrap_or o d
+      → option_map f o ≡ v → f d ≡ e → f given ≡ unwrap_or v e
+  read_or o given d v e g h k = ap f g ∙ mapped_or o d ∙ ap (λ q. unwrap_or q (f d)) h ∙ ap (λ y. unwrap_or v y) k
+
+-- a rule whose value is read so
+abbrev pub parsed_by : Option ValueParser → Rule → Rule
+parsed_by p r = record r { parser = p }
+
+-- one or the other
+abbrev pub either : Bool → Bool → Bool
+either a b = a || b
+
+-- where no kind of fault may come, an error is want of memory
+pub only_memory : (k : ErrorKind) (kinds : Kinds) → kinds ≡ [] → (k ≡ OutOfMemory) ⊎ IsAmong k kinds → k ≡ OutOfMemory
+only_memory k [] none (inl memory) = memory
+only_memory k [] none (inr among) = absurd among
+only_memory k (x ∷ xs) none has = absurd cc
+
+-- of two subcommands only their names can be met
+one_of_two : (s t : Shape) (p : Text × List Text) (r : Text × List Row) (first second : Bool)
+    → option_map (λ (u : Shape). rows_at u p.1) (if first then Some s else (if second then Some t else None)) ≡ Some r
+    → (r.0 ≡ s.name) ⊎ (r.0 ≡ t.name)
+one_of_two s t p r true second e = inl (ap (λ (q : Option (Text × List Row)). (unwrap_or q r).0) (sym e))
+one_of_two s t p r false true e = inr (ap (λ (q : Option (Text × List Row)). (unwrap_or q r).0) (sym e))
+one_of_two s t p r false false e = absurd cc
+
+-- a subcommand that the program's words meet is `rank` or `check`
+met_name : (stop : Option (Text × List Text)) (r : Text × List Row) → entered (built extremes_app) stop ≡ Some r
+    → (r.0 ≡ codes "rank") ⊎ (r.0 ≡ codes "check")
+met_name None r e = absurd cc
+met_name (Some p) r e = one_of_two _ _ p r (answers_to p.0 (codes "rank", [])) (answers_to p.0 (codes "check", [])) e
+
+-- so is one that is met anywhere in them
+pub only_two : (words : List Text) (r : Text × List Row) → subcommand_of extremes_app words ≡ Some r
+    → (r.0 ≡ codes "rank") ⊎ (r.0 ≡ codes "check")
+only_two words r e =
+    met_name (stop_after (built extremes_app).top.rules (names_of (built extremes_app))
+    (argument_words extremes_app words)) r e
+
+-- the name of a subcommand
+abbrev pub name_met : {Z : Type 0} → Option (Box SubCommand Z) → Option Text
+name_met o = option_map (λ b. (out-SubCommand (box_value b)).name.now) o
+
+-- where one was met that can only be of two names, it has one of them
+pub met_one : {Z : Type 0} (o : Option (Box SubCommand Z)) (t : Option (Text × List Row)) (a b : Text)
+    → is_some o ≡ true → subcommand_rows o ≡ t → ((r : Text × List Row) → t ≡ Some r → (r.0 ≡ a) ⊎ (r.0 ≡ b))
+    → (name_met o ≡ Some a) ⊎ (name_met o ≡ Some b)
+met_one None t a b some e only = absurd cc
+met_one (Some s) t a b some e only = elim (only _ (sym e)) [
+  | inl is ↦ inl (ap (λ (n : Text). Some n) is)
+  | inr is ↦ inr (ap (λ (n : Text). Some n) is)
+]
+
+-- one that was met by a name, and the rows behind it
+pub met_rows : {Z : Type 0} (o : Option (Box SubCommand Z)) (name : Text) (rows : List Row) → name_met o ≡ Some name
+    → option_map (λ p. p.1) (subcommand_rows o) ≡ Some rows → subcommand_rows o ≡ Some (name, rows)
+met_rows None name rows is behind = absurd cc
+met_rows (Some s) name rows is behind =
+    ap₂ (λ (a : Text) (b : List Row). Some (a, b)) (ap (λ (q : Option Text). unwrap_or q name) is)
+    (ap (λ (q : Option (List Row)). unwrap_or q rows) behind)
+
+-- what is read of the text of a guess is the number that it writes
+pub guess_read : {E : Type 0} (gives : List ℕ → Result ℤ E → Type 0)
+    → ((bs : List ℕ) (r : Result ℤ E) → gives bs r → ParsesSigned w64 10 bs r) → (text : Option Text) (guess : Option ℤ)
+    → (text ≡ None → guess ≡ None) → ((t : Text) → text ≡ Some t → ReadsOne gives t guess) → IsGuess text guess
+guess_read gives parses None guess none value = none refl
+guess_read gives parses (Some t) None none value = let r = value t refl in parses t (Err r.0) r.1
+guess_read gives parses (Some t) (Some n) none value = let r = parses t (Ok n) (value t refl) in (r.0.0, r.1)
+
+-- and so is what is read of the text of a count
+pub count_read : {E : Type 0} (gives : List ℕ → Result ℕ E → Type 0)
+    → ((bs : List ℕ) (r : Result ℕ E) → gives bs r → ParsesUnsigned 64 10 bs r)
+    → (text : Option Text) (count : Option ℕ)
+    → (text ≡ None → count ≡ None) → ((t : Text) → text ≡ Some t → ReadsOne gives t count) → IsCount text count
+count_read gives parses None count none value = none refl
+count_read gives parses (Some t) None none value = let r = value t refl in parses t (Err r.0) r.1
+count_read gives parses (Some t) (Some n) none value = let r = parses t (Ok n) (value t refl) in (r.0.0, r.1)

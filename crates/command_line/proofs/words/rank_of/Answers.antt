@@ -1,0 +1,30 @@
+use Rattle.std.proofs.Common.{◌∙◌, map, [], refl, codes}
+use Rattle.std.specs.Int.{w64}
+use Rattle.std.specs.Str.Parse.{ParsesSigned, ExplainsSignedError, HasSignedDigitsIfOk}
+use Rattle.std.specs.Str.Parse.{ParsesUnsigned, ExplainsUnsignedError, HasUnsignedDigitsIfOk}
+use Rattle.clap.specs.Words.{found_of}
+use Rattle.clap.proofs.WalkLemmas.{first_value-rows, one_text-rows, raw_values-rows}
+use Rattle.command_line.proofs.CommandLines.{read_or, guess_read, count_read}
+use Rattle.command_line.proofs.words.rank_of.Goals as goal
+
+-- each field is what the matches have under its name
+pub returns : goal.returns
+returns c = let f = found_of c.args.matches.now in (
+  c.in_ok-text.ensures,
+  c.in_ok-text-2.ensures,
+  (
+    c.get_one.result,
+    count_read (λ bs r. ParsesUnsigned 64 10 bs r × ExplainsUnsignedError 10 bs r × HasUnsignedDigitsIfOk bs r)
+        (λ bs r given. given.0) _ _
+        (λ e. c.get_one.ensures.none (one_text-rows f (codes "workers") ∙ e))
+        (λ t e. c.get_one.ensures.value t (one_text-rows f (codes "workers") ∙ e)),
+    c.unwrap_or.ensures,
+  ),
+  guess_read (λ bs r. ParsesSigned w64 10 bs r × ExplainsSignedError 10 bs r × HasSignedDigitsIfOk bs r)
+      (λ bs r given. given.0) _ _
+      (λ e. c.get_one-2.ensures.none (one_text-rows f (codes "guess") ∙ e))
+      (λ t e. c.get_one-2.ensures.value t (one_text-rows f (codes "guess") ∙ e)),
+  c.in_ok-copy.ensures ∙ c.get_str.ensures ∙ first_value-rows f (codes "certificate"),
+  c.in_ok-copies.ensures ∙ read_or (λ s. map (λ v. v.now) s.now) _ _ _ _ [] c.unwrap_or-2.ensures
+      (c.get_strs.ensures ∙ raw_values-rows f (codes "files")) refl,
+)

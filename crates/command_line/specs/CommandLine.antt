@@ -1,0 +1,133 @@
+-- What the words of a command line ask for, in `clap`'s words.
+use Rattle.std.specs.Prelude.{◌≡◌, ◌⊎◌, List, [], ◌∷◌, map, codes, Option, Some, None, unwrap_or, Bool, true}
+use Rattle.std.specs.Prelude.{String, string_bytes}
+use Rattle.std.specs.Prelude.{ℕ, ◌<◌, ◌^◌, ℤ, pos, negsuc, FitsSigned}
+use Rattle.std.specs.Option.{option_map}
+use Rattle.clap.specs.declared.builder.Arg.{Arg}
+use Rattle.std.specs.Int.{w64}
+use Rattle.std.specs.Str.Parse.{IsNumeral, without_leading_sign, without_leading_plus, signed_digits_value}
+use Rattle.std.specs.Str.Parse.{digits_value}
+use Rattle.clap.specs.Words.{App, Row, Rule, Text, all_of, first_of, one_of, new_app, new_rule, subcommand_of}
+use Rattle.clap.specs.Words.{with_rule, with_subcommand, fault_of}
+use Rattle.clap.specs.Lexer.{usize_max}
+use Rattle.clap.specs.declared.builder.ArgAction.TheVariants.{Set, Append}
+use Rattle.clap.specs.declared.builder.ValueParser.{ValueParser}
+use Rattle.clap.specs.declared.builder.ValueParser.TheVariants.{Signed, Unsigned}
+use Rattle.command_line.specs.declared.asked.Command.{Command}
+use Rattle.command_line.specs.declared.asked.Command.TheVariants.{Sample, Rank, Check}
+
+-- `--NAME VALUE`: an option with one value, which may be given once
+abbrev pub option_of : Text → Rule
+option_of name = record (new_rule name) { long = Some name; value_names = 1; action = Some Set }
+
+-- the same, which must be given
+abbrev pub required : Rule → Rule
+required rule = record rule { required = true }
+
+-- the same, whose value such a parser accepts
+abbrev pub parsed : ValueParser → Rule → Rule
+parsed parser rule = record rule { parser = Some parser }
+
+-- an argument that subcommands have too
+abbrev pub is_global : Arg → Bool
+is_global a = a.global
+
+-- the values that are whole numbers of 64 bits
+abbrev pub whole_number : ValueParser
+whole_number = Signed (negsuc 9223372036854775807) (pos 9223372036854775807)
+
+-- the values that are whole numbers of 64 bits from 0 on
+abbrev pub whole_count : ValueParser
+whole_count = Unsigned 0 18446744073709551615
+
+-- the files behind them, as many as there are
+abbrev pub files_rule : Rule
+files_rule = record (new_rule (codes "files")) {
+  range = Some (record { start_inclusive = 0; end_inclusive = usize_max });
+  value_names = 1;
+  action = Some Append;
+}
+
+-- `rank` with its options and files
+abbrev pub rank_app : App
+rank_app = with_rule (with_rule (with_rule (with_rule (with_rule (with_rule (new_app (codes "rank"))
+    (required (option_of (codes "stations"))))
+    (required (option_of (codes "query"))))
+    (parsed whole_count (option_of (codes "workers"))))
+    (parsed whole_number (option_of (codes "guess"))))
+    (option_of (codes "certificate"))) files_rule
+
+-- `check` with its options, all of which must be given, and files
+abbrev pub check_app : App
+check_app = with_rule (with_rule (with_rule (with_rule (with_rule (new_app (codes "check"))
+    (required (option_of (codes "stations"))))
+    (required (option_of (codes "query"))))
+    (required (option_of (codes "report"))))
+    (required (option_of (codes "certificate")))) files_rule
+
+-- the program's command line: it has the subcommands `rank` and `check`, and needs one
+abbrev pub extremes_app : App
+extremes_app = with_subcommand (with_subcommand (record (new_app (codes "extremes")) {
+  top = record (new_app (codes "extremes")).top { subcommand_required = true; disable_help_subcommand = true };
+}) rank_app.top) check_app.top
+
+-- all words, the program's name first
+abbrev pub words_of : {A : Type 0} → List (String A) → List Text
+words_of words = codes "extremes" ∷ map (λ w. string_bytes w) words
+
+-- the words are a right command line: `clap` has no fault to tell
+abbrev pub AreRight : List Text → Type 0
+AreRight words = fault_of extremes_app words ≡ []
+
+-- the guess is the number of 64 bits that the text writes; there is none where no text is given
+abbrev pub IsGuess : Option Text → Option ℤ → Type 0
+IsGuess None guess = guess ≡ None
+IsGuess (Some text) None = IsNumeral 10 (without_leading_sign text) × FitsSigned w64 (signed_digits_value 10 text) → ⊥
+IsGuess (Some text) (Some number) = IsNumeral 10 (without_leading_sign text) × (number ≡ signed_digits_value 10 text)
+
+-- the count is the number of 64 bits that the text writes; there is none where no text is given
+abbrev pub IsCount : Option Text → Option ℕ → Type 0
+IsCount None count = count ≡ None
+IsCount (Some text) None =
+    IsNumeral 10 (without_leading_plus text) × (digits_value 10 (without_leading_plus text) < 2 ^ 64) → ⊥
+IsCount (Some text) (Some number) =
+    IsNumeral 10 (without_leading_plus text) × (number ≡ digits_value 10 (without_leading_plus text))
+
+-- so many workers are given by the text, or there are 4 where no text is given
+abbrev pub AreWorkers : Option Text → ℕ → Type 0
+AreWorkers text workers = (given : Option ℕ) × IsCount text given × (workers ≡ unwrap_or given 4)
+
+-- the command has the options and files of a subcommand's matches
+abbrev pub IsRank : List Row → Command → Type 0
+IsRank rows Sample = ⊥
+IsRank rows (Check stations query report certificate files) = ⊥
+IsRank rows (Rank stations query workers guess certificate files) =
+    (string_bytes stations ≡ unwrap_or (first_of (codes "stations") rows) [])
+    × (string_bytes query ≡ unwrap_or (first_of (codes "query") rows) [])
+    × AreWorkers (one_of (codes "workers") rows) workers
+    × IsGuess (one_of (codes "guess") rows) guess
+    × (option_map (λ s. string_bytes s) certificate ≡ first_of (codes "certificate") rows)
+    × (map (λ s. string_bytes s) files.items ≡ unwrap_or (all_of (codes "files") rows) [])
+
+-- the same for a subcommand that judges papers
+abbrev pub IsCheck : List Row → Command → Type 0
+IsCheck rows Sample = ⊥
+IsCheck rows (Rank stations query workers guess certificate files) = ⊥
+IsCheck rows (Check stations query report certificate files) =
+    (string_bytes stations ≡ unwrap_or (first_of (codes "stations") rows) [])
+    × (string_bytes query ≡ unwrap_or (first_of (codes "query") rows) [])
+    × (string_bytes report ≡ unwrap_or (first_of (codes "report") rows) [])
+    × (string_bytes certificate ≡ unwrap_or (first_of (codes "certificate") rows) [])
+    × (map (λ s. string_bytes s) files.items ≡ unwrap_or (all_of (codes "files") rows) [])
+
+-- the command is that of the subcommand of this name, `rank` or `check`
+abbrev pub IsCommand : Text → List Row → Command → Type 0
+IsCommand name rows c = ((name ≡ codes "rank") × IsRank rows c) ⊎ ((name ≡ codes "check") × IsCheck rows c)
+
+-- the words are right and name a subcommand, and the command has what `clap` reads behind it
+pub record IsCommandOf (words : List Text) (c : Command) : Type 0 where
+  pub name : Text
+  pub rows : List Row
+  pub right : AreRight words
+  pub entered : subcommand_of extremes_app words ≡ Some (name, rows)
+  pub named : IsCommand name rows c

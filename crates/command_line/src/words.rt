@@ -1,0 +1,216 @@
+//! Reading the words of a command line.
+
+ghost use Rattle.std.specs.Prelude.{◌≡◌, ◌≢◌, IfOk, IfErr, [], Ok, map, option_map, unwrap_or, false, string_bytes};
+ghost use Rattle.clap.specs.Words.{app_of, first_of, kind_of, found_of, rows_of, rule_of};
+ghost use Rattle.clap.specs.declared.builder.Command.TheViews.{out-Command as fields_of};
+ghost use Rattle.command_line.specs.CommandLine.{extremes_app, rank_app, check_app, option_of, required, files_rule};
+ghost use Rattle.command_line.specs.CommandLine.{is_global, words_of, AreRight, IsCommandOf, IsRank, IsCheck};
+ghost use Rattle.command_line.specs.declared.asked.Command.TheVariants as commands;
+ghost use Rattle.command_line.specs.declared.asked.CommandFault.TheVariants as faults;
+
+use crate::asked::{Command, CommandFault};
+use crate::help::{
+    CERTIFICATE_HELP, CHECK_HELP, GUESS_HELP, HELP, QUERY_HELP, RANK_HELP, STATIONS_HELP, USAGE,
+    WORKERS_HELP,
+};
+use clap::error::ErrorKind;
+use clap::{Arg, ArgAction, ArgMatches, Error, value_parser};
+use std::alloc::{AllocError, Global};
+
+/// How many workers there are where the words don't say.
+const WORKERS: u64 = 4;
+
+/// The command that the words after the program's name ask for: the sample where there is none.
+pub fn command(alloc: Global, words: Vec<String>) -> Result<Command, CommandFault>
+    // No words ask for the sample.
+    ensures none { words.items ≡ [] → result ≡ Ok commands.Sample }
+    // Other words are a command only where they are right, and it is the one that they name.
+    ensures named { words.items ≢ [] → IfOk result (IsCommandOf (words_of words.items)) }
+    // Right words are refused for want of memory alone.
+    ensures right { AreRight (words_of words.items) → IfErr result (λ f. f ≡ faults.Memory) }
+{
+    if words.is_empty() {
+        return Ok(Command::Sample);
+    }
+    match named_command(alloc, &words) {
+        Ok(named) => Ok(named),
+        Err(error) => Err(fault_of(alloc, &error)),
+    }
+}
+
+/// What a refused command line leads to: the text to show, or want of memory.
+fn fault_of(alloc: Global, error: &Error) -> CommandFault
+    ensures { kind_of error.now ≡ ErrorKind.OutOfMemory → result ≡ faults.Memory }
+{
+    if error.kind() == ErrorKind::OutOfMemory {
+        return CommandFault::Memory;
+    }
+    match error.to_string(alloc) {
+        Ok(text) => CommandFault::Words(text),
+        Err(_) => CommandFault::Memory,
+    }
+}
+
+/// The words as one of the commands that they can name, `rank` and `check`.
+fn named_command(alloc: Global, words: &[String]) -> Result<Command, Error>
+    ensures ok { IfOk result (IsCommandOf (words_of words.now)) }
+    ensures right { AreRight (words_of words.now) → IfErr result (λ e. kind_of e ≡ ErrorKind.OutOfMemory) }
+{
+    let all = with_name(alloc, words)?;
+    let matches = program(alloc)?.try_get_matches_from(all.as_slice())?;
+    if let Some(rank) = matches.subcommand_matches("rank") {
+        return Ok(rank_of(alloc, rank)?);
+    }
+    let Some(check) = matches.subcommand_matches("check") else {
+        unreachable!();
+    };
+    Ok(check_of(alloc, check)?)
+}
+
+/// All words, the program's name first.
+fn with_name<'a>(alloc: Global, words: &'a [String]) -> Result<Vec<&'a str>, AllocError>
+    ensures { IfOk result (λ all. map (λ s. s.now) all.items ≡ words_of words.now) }
+{
+    let mut all = Vec::with_capacity(alloc, words.len() + 1)?;
+    all.push("extremes")?;
+    for word in words {
+        all.push(word.as_str())?;
+    }
+    Ok(all)
+}
+
+/// The program's command line, as `clap` reads it.
+fn program<'a>(alloc: Global) -> Result<clap::Command<'a>, AllocError>
+    ensures app { IfOk result (λ c. app_of c ≡ extremes_app) }
+    ensures local { IfOk result (λ c. (fields_of c).has_globals ≡ false) }
+{
+    clap::Command::new(alloc, "extremes")
+        .about("The k best records of GHCN-Daily files; without words, of a sample")
+        .override_usage(USAGE)
+        .after_help(HELP)
+        .subcommand_required(true)
+        .disable_help_subcommand(true)
+        .subcommand(rank_words(alloc)?)?
+        .subcommand(check_words(alloc)?)
+}
+
+/// The words of `rank`.
+fn rank_words<'a>(alloc: Global) -> Result<clap::Command<'a>, AllocError>
+    ensures app { IfOk result (λ c. app_of c ≡ rank_app) }
+    ensures local { IfOk result (λ c. (fields_of c).has_globals ≡ false) }
+{
+    let workers = option(alloc, "workers", "N", WORKERS_HELP).value_parser(value_parser!(u64));
+    let guess = option(alloc, "guess", "SCORE", GUESS_HELP).value_parser(value_parser!(i64));
+    clap::Command::new(alloc, "rank")
+        .about("Prints the k best records of a query")
+        .after_help(RANK_HELP)
+        .arg(needed(alloc, "stations", "FILE", STATIONS_HELP))?
+        .arg(needed(alloc, "query", "QUERY", QUERY_HELP))?
+        .arg(workers)?
+        .arg(guess)?
+        .arg(option(alloc, "certificate", "OUT", CERTIFICATE_HELP))?
+        .arg(daily_files(alloc))
+}
+
+/// The words of `check`.
+fn check_words<'a>(alloc: Global) -> Result<clap::Command<'a>, AllocError>
+    ensures app { IfOk result (λ c. app_of c ≡ check_app) }
+    ensures local { IfOk result (λ c. (fields_of c).has_globals ≡ false) }
+{
+    clap::Command::new(alloc, "check")
+        .about("Judges a report and a certificate, whoever made them")
+        .after_help(CHECK_HELP)
+        .arg(needed(alloc, "stations", "FILE", STATIONS_HELP))?
+        .arg(needed(alloc, "query", "QUERY", QUERY_HELP))?
+        .arg(needed(alloc, "report", "FILE", "The report"))?
+        .arg(needed(alloc, "certificate", "FILE", "The certificate"))?
+        .arg(daily_files(alloc))
+}
+
+/// An option with one value, which may be given once.
+fn option<'a>(alloc: Global, name: &'a str, value: &'a str, help: &'a str) -> Arg<'a>
+    ensures rule { rule_of result ≡ option_of name.now }
+    ensures local { is_global result ≡ false }
+{
+    Arg::new(alloc, name)
+        .long(name)
+        .value_name(value)
+        .help(help)
+        .action(ArgAction::Set)
+}
+
+/// An option with one value, which has to be given once.
+fn needed<'a>(alloc: Global, name: &'a str, value: &'a str, help: &'a str) -> Arg<'a>
+    ensures rule { rule_of result ≡ required (option_of name.now) }
+    ensures local { is_global result ≡ false }
+{
+    option(alloc, name, value, help).required(true)
+}
+
+/// The daily files behind the options, as many as there are.
+fn daily_files<'a>(alloc: Global) -> Arg<'a>
+    ensures rule { rule_of result ≡ files_rule }
+    ensures local { is_global result ≡ false }
+{
+    Arg::new(alloc, "files")
+        .value_name("FILE")
+        .help("Daily files, .dly, uncompressed")
+        .num_args(0..)
+        .action(ArgAction::Append)
+}
+
+/// The command that the matches of `rank` name.
+fn rank_of(alloc: Global, matches: &ArgMatches) -> Result<Command, AllocError>
+    ensures { IfOk result (IsRank (rows_of (found_of matches.now))) }
+{
+    Ok(Command::Rank {
+        stations: text(alloc, matches, "stations")?,
+        query: text(alloc, matches, "query")?,
+        workers: matches.get_one("workers").unwrap_or(WORKERS),
+        guess: matches.get_one("guess"),
+        certificate: copy(alloc, matches.get_str("certificate"))?,
+        files: copies(alloc, matches.get_strs("files").unwrap_or(&[]))?,
+    })
+}
+
+/// The command that the matches of `check` name.
+fn check_of(alloc: Global, matches: &ArgMatches) -> Result<Command, AllocError>
+    ensures { IfOk result (IsCheck (rows_of (found_of matches.now))) }
+{
+    Ok(Command::Check {
+        stations: text(alloc, matches, "stations")?,
+        query: text(alloc, matches, "query")?,
+        report: text(alloc, matches, "report")?,
+        certificate: text(alloc, matches, "certificate")?,
+        files: copies(alloc, matches.get_strs("files").unwrap_or(&[]))?,
+    })
+}
+
+/// The text that is given under a name, or the empty text.
+fn text(alloc: Global, matches: &ArgMatches, name: &str) -> Result<String, AllocError>
+    ensures { IfOk result (λ text. string_bytes text
+        ≡ unwrap_or (first_of name.now (rows_of (found_of matches.now))) []) }
+{
+    String::from_str(alloc, matches.get_str(name).unwrap_or(""))
+}
+
+/// The same text, owned, where there is one.
+fn copy(alloc: Global, text: Option<&str>) -> Result<Option<String>, AllocError>
+    ensures { IfOk result (λ copy. option_map (λ s. string_bytes s) copy ≡ option_map (λ s. s.now) text.entry) }
+{
+    match text {
+        None => Ok(None),
+        Some(text) => Ok(Some(String::from_str(alloc, text)?)),
+    }
+}
+
+/// The same texts, owned.
+fn copies(alloc: Global, texts: &[&str]) -> Result<Vec<String>, AllocError>
+    ensures { IfOk result (λ copies. map (λ s. string_bytes s) copies.items ≡ map (λ s. s.now) texts.now) }
+{
+    let mut copies = Vec::new(alloc);
+    for text in texts {
+        copies.push(String::from_str(alloc, text)?)?;
+    }
+    Ok(copies)
+}

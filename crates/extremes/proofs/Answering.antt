@@ -1,0 +1,142 @@
+-- What is answered for the query and the data of an intake, as an answer to its input.
+use Rattle.std.proofs.Common.{◌≡◌, ◌<◌, ◌≤◌, ℕ, true, List, sym, ap, ◌∙◌, subst, map, Option, ℤ}
+use Rattle.std.specs.Prelude.{◌↔◌, Result, Ok, Err, IfOk}
+use Rattle.ghcn_fields.specs.Sorting.{sorted_by}
+use Rattle.ghcn_files.specs.declared.station.Station.{Station}
+use Rattle.ghcn_series.specs.Series.{Contents, Usable}
+use Rattle.rank_query.specs.Asked.{Asked}
+use Rattle.rank_scores.specs.OneElement.{data_for, MorselsStay}
+use Rattle.rank_sched.specs.Plan.{Planned, planned, measured, is_drawn_first}
+use Rattle.rank_papers.specs.OneElement.{ReportStays, CertificateStays, MeasuredStays}
+use Rattle.rank_papers.specs.Report.{IsReport}
+use Rattle.rank_papers.specs.Certificate.{IsCertificate}
+use Rattle.rank_check.specs.declared.verdict.Verdict.{Verdict}
+use Rattle.rank_check.specs.declared.verdict.Verdict.TheVariants.{Accepted}
+use Rattle.rank_check.specs.Tests.{verdict}
+use Rattle.rank_check.specs.Laws.{VerdictStays}
+use Rattle.rank_input.specs.declared.intake.Intake.{Intake}
+use Rattle.rank_input.specs.Input.{is_crew}
+use Rattle.rank_input.specs.Taken.{HasTaken, Input, given_files, HoldsInput}
+use Rattle.rank_input.proofs.Crews.{few_workers}
+use Rattle.rank_input.proofs.Openings.{without_guess, without_workers}
+use Rattle.extremes.specs.declared.papers.Papers.{Papers}
+use Rattle.extremes.specs.Answer.{ArePapers, IsOfCrew, IsCrewed, IsOfOneWorker}
+use Rattle.extremes.specs.Runs.{AnswersInput, CrewsInput, SerialInput, JudgesInput}
+
+-- papers that are right for what a query needs of some data are right for these data, and the other way round
+right_for : (query : Asked) (held whole : Contents) (report certificate : List ℕ) → ReportStays → CertificateStays
+    → held ≡ data_for query whole
+    → (IsReport query held report × IsCertificate query held certificate)
+    ↔ (IsReport query whole report × IsCertificate query whole certificate)
+right_for query held whole report certificate reports certificates needed =
+    subst (λ (h : Contents). (IsReport query h report × IsCertificate query h certificate)
+    ↔ (IsReport query whole report × IsCertificate query whole certificate)) (sym needed) (
+      λ are. ((reports query whole report).0 are.0, (certificates query whole certificate).0 are.1),
+      λ are. ((reports query whole report).1 are.0, (certificates query whole certificate).1 are.1),
+    )
+
+-- the verdict for the query and the data of an intake is that for its input
+pub judges_input : (t : Intake) (query : Asked) (held : Contents) (report certificate : List ℕ) (v : Verdict)
+    → ReportStays → CertificateStays → VerdictStays
+    → HoldsInput t query held → v ≡ verdict query held report certificate
+    → (v ≡ Accepted) ↔ (IsReport query held report × IsCertificate query held certificate)
+    → JudgesInput t report certificate v
+judges_input t query held report certificate v reports certificates verdicts holds is accepted = record {
+  is = λ i taken.
+      let input = holds.is i taken in
+      let right = right_for query held input.whole report certificate reports certificates input.needed in
+      record {
+        asked = query;
+        held = input.whole;
+        read = without_guess i.workers i.guess i.query i.stations (given_files i) (query, input.whole) input.read_is;
+        verdict = is ∙ ap (λ (h : Contents). verdict query h report certificate) input.needed
+            ∙ verdicts query input.whole report certificate;
+        accepted = (λ a. right.0 (accepted.0 a), λ r. accepted.1 (right.1 r));
+      };
+}
+
+-- the papers of what a query needs of some data are those of these data
+papers_for : (query : Asked) (held whole : Contents) (papers : Papers) → ReportStays → MeasuredStays
+    → held ≡ data_for query whole → ArePapers query held papers → ArePapers query whole papers
+papers_for query held whole papers reports certificates needed are =
+    let of : ArePapers query (data_for query whole) papers =
+    subst (λ (h : Contents). ArePapers query h papers) needed are in
+    record {
+      report = (reports query whole papers.report.items).0 of.report;
+      certificate = (certificates query whole papers.certificate.items).0 of.certificate;
+      unlisted = of.unlisted;
+    }
+
+-- the papers for the query and the data of an intake answer its input
+pub answers_input : (t : Intake) (query : Asked) (held : Contents) (papers : Papers) → ReportStays → MeasuredStays
+    → HoldsInput t query held → ArePapers query held papers → AnswersInput t papers
+answers_input t query held papers reports certificates holds are = record {
+  is = λ i taken.
+      let input = holds.is i taken in
+      record {
+        asked = query;
+        held = input.whole;
+        read = without_workers i.workers i.guess i.query i.stations (given_files i) (query, input.whole) input.read_is;
+        right = papers_for query held input.whole papers reports certificates input.needed are;
+      };
+}
+
+-- a plan of these series
+abbrev plan_of : Asked → List Station → List Usable → Planned
+plan_of q stations series = record {
+  query = q;
+  stations = stations;
+  morsels = sorted_by is_drawn_first (map (measured q) series);
+}
+
+-- the plan of what a query needs of some data is that of these data
+plan_for : (q : Asked) (held whole : Contents) → MorselsStay → held ≡ data_for q whole
+    → planned q held ≡ planned q whole
+plan_for q held whole stay needed =
+    ap (planned q) needed ∙ ap (plan_of q whole.stations) (stay q whole)
+
+-- papers that are a crew's for the query and the data of an intake are so for its input
+pub crews_input : (t : Intake) (most ran : ℕ) (query : Asked) (held : Contents) (papers : Papers) → MorselsStay
+    → HoldsInput t query held → (t.workers ≤ most → ran ≡ t.workers) → (most < t.workers → ran ≡ most)
+    → IsOfCrew (planned query held) t.guess ran papers.certificate.items → CrewsInput t most papers
+crews_input t most ran query held papers stay holds all fewer are = record {
+  ran = ran;
+  all = all;
+  fewer = fewer;
+  is = λ i taken.
+      let input = holds.is i taken in
+      record {
+        asked = query;
+        held = input.whole;
+        read = without_workers i.workers i.guess i.query i.stations (given_files i) (query, input.whole) input.read_is;
+        crew = subst (λ (g : Option ℤ). IsOfCrew (planned query input.whole) g ran papers.certificate.items)
+            taken.guess (subst (λ (p : Planned). IsOfCrew p t.guess ran papers.certificate.items)
+            (plan_for query held input.whole stay input.needed) are);
+      };
+}
+
+-- of an intake for as many workers as may run, the papers are those of the workers that were asked for
+pub crewed : {E : Type 0} (t : Intake) (i : Input) (r : Result Papers E) → HasTaken t i
+    → IfOk r (λ papers. is_crew t.workers ≡ true) → IfOk r (CrewsInput t 64)
+    → IfOk r (IsCrewed i.workers i.guess i.query i.stations (given_files i))
+crewed t i (Ok papers) taken few crews =
+    subst (λ (n : ℕ). IsCrewed n i.guess i.query i.stations (given_files i) papers)
+    (crews.all (few_workers t.workers few) ∙ taken.workers) (crews.is i taken)
+crewed t i (Err e) taken few crews = tt
+
+-- papers that are one worker's for the query and the data of an intake are so for its input
+pub serial_input : (t : Intake) (guess : Option ℤ) (query : Asked) (held : Contents) (papers : Papers)
+    → t.guess ≡ guess → MorselsStay → HoldsInput t query held
+    → IsOfOneWorker (planned query held) guess papers.certificate.items → SerialInput t papers
+serial_input t guess query held papers same stay holds are = record {
+  is = λ i taken.
+      let input = holds.is i taken in
+      record {
+        asked = query;
+        held = input.whole;
+        read = without_workers i.workers i.guess i.query i.stations (given_files i) (query, input.whole) input.read_is;
+        alone = subst (λ (g : Option ℤ). IsOfOneWorker (planned query input.whole) g papers.certificate.items)
+            (sym same ∙ taken.guess) (subst (λ (p : Planned). IsOfOneWorker p guess papers.certificate.items)
+            (plan_for query held input.whole stay input.needed) are);
+      };
+}

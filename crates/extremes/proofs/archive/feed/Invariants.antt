@@ -1,7 +1,0 @@
-use Rattle.extremes.proofs.Feedings.{IsFedTo}
-use Rattle.extremes.proofs.archive.feed.Given as goal
-
--- what was read so far is fed
-abbrev pub invariant-loop : goal.invariant-loop
-invariant-loop g l =
-    IsFedTo l.initial.intake l.intake (g.S.Read.remaining l.initial.source) (g.S.Read.remaining l.source)

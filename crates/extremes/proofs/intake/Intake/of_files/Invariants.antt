@@ -1,9 +1,0 @@
-use Rattle.std.proofs.Common.{take}
-use Rattle.extremes.specs.Taken.{given, HasTaken}
-use Rattle.extremes.proofs.Texts.{texts}
-use Rattle.extremes.proofs.intake.Intake.of_files.Given as goal
-
--- the files so far were given
-abbrev pub invariant-loop-file : goal.invariant-loop-file
-invariant-loop-file l = HasTaken l.intake
-    (given l.fn.workers l.fn.guess l.fn.query l.fn.stations (take l.file-index (texts l.files)))

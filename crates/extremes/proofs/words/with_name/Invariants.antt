@@ -1,7 +1,0 @@
-use Rattle.std.proofs.Common.{◌≡◌, map, take}
-use Rattle.extremes.specs.CommandLine.{words_of}
-use Rattle.extremes.proofs.words.with_name.Given as goal
-
--- each word so far is in its place, behind the name
-abbrev pub invariant-loop-word : goal.invariant-loop-word
-invariant-loop-word l = map (λ s. s.now) l.all.items ≡ words_of (take l.word-index l.words)

@@ -1,0 +1,250 @@
+-- Worked examples of the definitions, by computation.
+use Rattle.std.proofs.Common.{◌≡◌, ◌∙◌, ap, ℕ, zero, suc, List, [], ◌∷◌, ◌++◌, refl, Some, None, Ok, Err, take}
+use Rattle.std.proofs.Common.{replicate}
+use Rattle.std.specs.Prelude.{Result, codes, pos, neg_ℤ, map, ◌+◌, ◌-◌, ◌^◌, nat_le, if◌then◌else◌}
+use Rattle.std.specs.List.{repeat, flat_map, enumerate_from}
+use Rattle.std.proofs.lemmas.List.{length-replicate}
+use Rattle.jiff_core.specs.Calendar.{days_from_civil, day_count, days_of_years, days_of_months}
+use Rattle.ghcn_fields.specs.Faults.{first_fault}
+use Rattle.ghcn_files.specs.declared.element.Element.{Element}
+use Rattle.ghcn_files.specs.declared.element.Element.TheVariants.{Prcp, Snow, Tmax, Tmin}
+use Rattle.ghcn_files.specs.declared.station.Station.{Station}
+use Rattle.ghcn_files.specs.declared.fault.LineWhy.TheVariants as why
+use Rattle.ghcn_files.specs.StationLines.{station_of}
+use Rattle.ghcn_files.specs.Months.{days_of_group}
+use Rattle.ghcn_series.specs.declared.fault.DailyWhy.TheVariants.{Line, DuplicateMonth}
+use Rattle.ghcn_series.specs.declared.fault.DataFault.TheVariants.{DailyLine, TooManyFiles}
+use Rattle.ghcn_series.specs.declared.fault.DataFault.{DataFault}
+use Rattle.ghcn_series.specs.Series.{DayValue, Usable, Contents, value_on, series_of}
+use Rattle.ghcn_series.specs.DailyFaults.{FileLine, file_lines, daily_lines, daily_fault}
+use Rattle.ghcn_series.specs.Says.{in_64_bits, contents, contents_unless, data_of}
+use Rattle.ghcn_series.specs.Kept.{kept}
+use Rattle.ghcn_series.specs.Fed.{Fed, nothing_fed, more, with_end, files_of}
+
+-- ---- lines and stations
+
+-- a station
+abbrev alpha : Station
+alpha = station_of (codes "ZZA00000001  10.0000   20.0000  100.0    ALPHA")
+
+-- and another
+abbrev bravo : Station
+bravo = station_of (codes "ZZA00000002  11.0000   21.0000  100.0    BRAVO")
+
+-- the list, with the second one first
+abbrev both : List Station
+both = bravo ∷ alpha ∷ []
+
+-- lines, each with a line feed
+abbrev text : List (List ℕ) → List ℕ
+text [] = []
+text (l ∷ ls) = l ++ 10 ∷ text ls
+
+-- a missing day
+abbrev gap : List ℕ
+gap = codes "-9999   "
+
+-- the line with this head and these groups, and missing days behind them
+abbrev line : List ℕ → List ℕ → List ℕ
+line head groups = take 269 (head ++ groups ++ repeat 31 gap)
+
+-- a line whose first day has 31.1
+abbrev warm : List ℕ → List ℕ
+warm head = line head (codes "  311   ")
+
+-- the series of a station and element with these days
+abbrev series : Station → Element → List DayValue → Usable
+series s e days = record { id = s.id; element = e; days = days }
+
+-- what files hold that have these series, and no line of an unlisted station
+abbrev held : List Usable → Contents
+held all = record { stations = both; series = all; unlisted = 0 }
+
+-- ---- the lines of files
+
+-- the places and the bytes of some lines
+abbrev seen : FileLine → ℕ × ℕ × List ℕ
+seen l = (l.file, l.line, l.bytes)
+
+-- blank lines and files without a line count, but are no lines to read; a return before a line feed is taken off
+places : map seen (daily_lines ((10 ∷ codes "a" ++ 13 ∷ 10 ∷ 32 ∷ 13 ∷ 10 ∷ codes "b") ∷ [] ∷ codes "c" ∷ []))
+    ≡ (1, 2, codes "a") ∷ (1, 4, codes "b") ∷ (3, 1, codes "c") ∷ []
+places = refl
+
+-- ---- what files say
+
+-- no files and no lines
+nothing_said : (data_of both [] ≡ Ok (held [])) × (data_of both ([] ∷ (10 ∷ 32 ∷ 10 ∷ []) ∷ []) ≡ Ok (held []))
+nothing_said = (refl, refl)
+
+-- of rain a flagged, a missing, a blank and a negative value don't count, and a value of 0 does
+rain : data_of both (line (codes "ZZA00000001202007PRCP")
+    (codes "   -5   " ++ codes "    5   " ++ codes "  400 X " ++ gap ++ codes "        " ++ codes "    0   ") ∷ [])
+    ≡ Ok (held (series alpha Prcp ((pos 18445, pos 5) ∷ (pos 18449, pos 0) ∷ []) ∷ []))
+unfolding days_of_group days_from_civil day_count days_of_years days_of_months
+rain = refl
+
+-- of a temperature a negative value counts
+frost : data_of both (line (codes "ZZA00000001202007TMIN") (codes "   -5   ") ∷ [])
+    ≡ Ok (held (series alpha Tmin ((pos 18444, neg_ℤ (pos 5)) ∷ []) ∷ []))
+unfolding days_of_group days_from_civil day_count days_of_years days_of_months
+frost = refl
+
+-- 1900 had no February 29, and June has no day 31
+no_such_days : (data_of both (line (codes "ZZA00000001190002TMAX")
+    (repeat 27 gap ++ codes "  100   " ++ codes "  500   ") ∷ [])
+    ≡ Ok (held (series alpha Tmax ((neg_ℤ (pos 25509), pos 100) ∷ []) ∷ [])))
+    × (data_of both (line (codes "ZZA00000001202006TMAX")
+    (repeat 29 gap ++ codes "  300   " ++ codes "  400   ") ∷ [])
+    ≡ Ok (held (series alpha Tmax ((pos 18443, pos 300) ∷ []) ∷ [])))
+unfolding days_of_group days_from_civil day_count days_of_years days_of_months
+no_such_days = (refl, refl)
+
+-- the first and the last day of all
+all_years : data_of both (text (line (codes "ZZA00000001999912TMAX") (repeat 30 gap ++ codes "   90   ")
+    ∷ line (codes "ZZA00000001000101TMAX") (codes "  100   ") ∷ []) ∷ [])
+    ≡ Ok (held (series alpha Tmax ((neg_ℤ (pos 719_162), pos 100) ∷ (pos 2_932_896, pos 90) ∷ []) ∷ []))
+unfolding days_of_group days_from_civil day_count days_of_years days_of_months
+all_years = refl
+
+-- two files of which neither is in order
+abbrev mixed : List (List ℕ)
+mixed = text (line (codes "ZZA00000001202008TMIN") (codes "    3   ")
+    ∷ line (codes "ZZA00000002202007TMAX") (codes "  311   ") ∷ [])
+    ∷ text (line (codes "ZZA00000001202007TMIN") (codes "   -5   ")
+    ∷ line (codes "ZZA00000001202007TMAX") (gap ++ codes "  305   ")
+    ∷ line (codes "ZZA00000001202007SNOW") gap ∷ [])
+    ∷ []
+
+-- series by station in the order of the list and then by element, days by day, and no series without a day
+in_order : data_of both mixed ≡ Ok (held (series bravo Tmax ((pos 18444, pos 311) ∷ [])
+    ∷ series alpha Tmax ((pos 18445, pos 305) ∷ [])
+    ∷ series alpha Tmin ((pos 18444, neg_ℤ (pos 5)) ∷ (pos 18475, pos 3) ∷ []) ∷ []))
+unfolding days_of_group days_from_civil day_count days_of_years days_of_months
+in_order = refl
+
+-- lines of an unlisted station are counted, also for one month, and lines of other elements aren't
+unlisted_lines : data_of both (text (warm (codes "ZZA00000009202007TMAX") ∷ warm (codes "ZZA00000009202007TMAX")
+    ∷ codes "ZZA00000009202007TAVG" ∷ warm (codes "ZZA00000001202007TMAX") ∷ []) ∷ [])
+    ≡ Ok (record { stations = both; series = series alpha Tmax ((pos 18444, pos 311) ∷ []) ∷ []; unlisted = 2 })
+unfolding days_of_group days_from_civil day_count days_of_years days_of_months
+unlisted_lines = refl
+
+-- their number ends at the greatest one of 64 bits
+many_lines : (in_64_bits 2 ≡ 2) × (in_64_bits (2 ^ 64 - 1) ≡ 2 ^ 64 - 1) × (in_64_bits (2 ^ 64) ≡ 2 ^ 64 - 1)
+many_lines = (refl, refl, refl)
+
+-- ---- the first fault
+
+-- a line cut to 265 columns: the third of the second file, behind a blank one
+cut_line : data_of both (warm (codes "ZZA00000001202007TMAX")
+    ∷ (text (warm (codes "ZZA00000002202007TMAX") ∷ [] ∷ take 265 (warm (codes "ZZA00000001202008TMAX")) ∷ [])) ∷ [])
+    ≡ Err (DailyLine 2 3 (Line why.Short))
+unfolding days_of_group
+cut_line = refl
+
+-- a month of a station and element twice: in one file, and in two, with its number written otherwise
+twice : (data_of both (text (warm (codes "ZZA00000001202007TMAX") ∷ warm (codes "ZZA00000001202007TMAX") ∷ []) ∷ [])
+    ≡ Err (DailyLine 1 2 DuplicateMonth))
+    × (data_of both (warm (codes "ZZA00000001202007TMAX") ∷ line (codes "ZZA000000012020 7TMAX") gap ∷ [])
+    ≡ Err (DailyLine 2 1 DuplicateMonth))
+unfolding days_of_group
+twice = (refl, refl)
+
+-- the same month of another element, station or year, and another month of the year
+not_twice : data_of both (text (line (codes "ZZA00000001202007TMAX") gap ∷ line (codes "ZZA00000001202007TMIN") gap
+    ∷ line (codes "ZZA00000002202007TMAX") gap ∷ line (codes "ZZA00000001202107TMAX") gap
+    ∷ line (codes "ZZA00000001202008TMAX") gap ∷ []) ∷ []) ≡ Ok (held [])
+unfolding days_of_group
+not_twice = refl
+
+-- of two faults of a line its own is told, and of two lines the first; a line of an unlisted station has to be right
+first_told : (data_of both (text (warm (codes "ZZA00000001202007TMAX")
+    ∷ line (codes "ZZA00000001202007TMAX") (codes "    x   ") ∷ []) ∷ []) ≡ Err (DailyLine 1 2 (Line (why.BadValue 1))))
+    × (data_of both (text (warm (codes "ZZA00000001202007TMAX") ∷ warm (codes "ZZA00000001202007TMAX")
+    ∷ codes "x" ∷ []) ∷ codes "x" ∷ []) ≡ Err (DailyLine 1 2 DuplicateMonth))
+    × (data_of both (warm (codes "ZZA00000009202013TMAX") ∷ []) ≡ Err (DailyLine 1 1 (Line why.BadMonth)))
+unfolding days_of_group
+first_told = (refl, refl, refl)
+
+-- the group of a day that the month lacks is read for its form
+day_31_of_june : data_of both (line (codes "ZZA00000001202006TMAX") (repeat 30 gap ++ codes "  4 0   ") ∷ [])
+    ≡ Err (DailyLine 1 1 (Line (why.BadValue 31)))
+unfolding days_of_group
+day_31_of_june = refl
+
+-- so many files that hold nothing
+abbrev so_many : ℕ → List (List ℕ)
+so_many n = replicate n []
+
+-- they have no lines, from whichever number on they are counted
+no_lines : (n from : ℕ) → flat_map file_lines (enumerate_from from (so_many n)) ≡ []
+no_lines zero from = refl
+no_lines (suc n) from = no_lines n (from + 1)
+
+-- what these lines hold, or their first fault
+abbrev read_lines : List FileLine → Result Contents DataFault
+read_lines ls = contents_unless (first_fault (daily_fault both) ls) (contents both ls)
+
+-- files are read where they are few enough
+by_number : (n : ℕ) (file : List ℕ) → data_of both (replicate n file)
+    ≡ (if nat_le n (2 ^ 20) then read_lines (daily_lines (replicate n file)) else Err TooManyFiles)
+by_number n file =
+    ap (λ (m : ℕ). if nat_le m (2 ^ 20) then read_lines (daily_lines (replicate n file)) else Err TooManyFiles)
+    (length-replicate n file)
+
+-- those that hold nothing are read as no series, unless they are too many
+nothing_in : (n : ℕ) → data_of both (so_many n) ≡ (if nat_le n (2 ^ 20) then Ok (held []) else Err TooManyFiles)
+nothing_in n =
+    by_number n []
+    ∙ ap (λ (ls : List FileLine). if nat_le n (2 ^ 20) then read_lines ls else Err TooManyFiles) (no_lines n 1)
+
+-- 2^20 files are few enough, and one more are not, whatever fault they have
+too_many : (data_of both (so_many (2 ^ 20)) ≡ Ok (held []))
+    × (data_of both (replicate (2 ^ 20 + 1) (codes "x")) ≡ Err TooManyFiles)
+too_many = (nothing_in (2 ^ 20), by_number (2 ^ 20 + 1) (codes "x"))
+
+-- ---- what is kept
+
+-- some data
+abbrev some : Contents
+some = record {
+  stations = both;
+  series = series bravo Tmax ((pos 18444, pos 311) ∷ []) ∷ series alpha Snow ((pos 18444, pos 5) ∷ [])
+      ∷ series alpha Tmax ((pos 18444, pos 300) ∷ (pos 18446, pos 305) ∷ []) ∷ [];
+  unlisted = 7;
+}
+
+-- of one element its series, with all stations and the number of unlisted lines; of all where none is named
+of_one_element : (kept (Some Tmax) some ≡ record {
+  stations = both;
+  series = series bravo Tmax ((pos 18444, pos 311) ∷ [])
+      ∷ series alpha Tmax ((pos 18444, pos 300) ∷ (pos 18446, pos 305) ∷ []) ∷ [];
+  unlisted = 7;
+}) × (kept (Some Tmin) some ≡ record { stations = both; series = []; unlisted = 7 }) × (kept None some ≡ some)
+of_one_element = (refl, refl, refl)
+
+-- the series of a station and element, if there is one, and the values of its days
+looked_up : (series_of some alpha.id Snow ≡ Some (series alpha Snow ((pos 18444, pos 5) ∷ [])))
+    × (series_of some bravo.id Snow ≡ None)
+    × (map (value_on ((pos 18444, pos 300) ∷ (pos 18446, pos 305) ∷ [])) (pos 18444 ∷ pos 18445 ∷ pos 18446 ∷ [])
+    ≡ Some (pos 300) ∷ None ∷ Some (pos 305) ∷ [])
+looked_up = (refl, refl, refl)
+
+-- ---- what was fed
+
+-- nothing yet
+abbrev begun : Fed
+begun = nothing_fed (Some Tmax) both
+
+-- no file as long as no byte came and none was ended; one file by pieces
+pieces : (files_of begun ≡ []) × (files_of (more begun []) ≡ [])
+    × (files_of (more (more begun (codes "ab")) (codes "c")) ≡ codes "abc" ∷ [])
+pieces = (refl, refl, refl)
+
+-- a file that was ended counts where it is empty too, and what comes then is of the next one
+ended : (files_of (with_end begun) ≡ [] ∷ [])
+    × (files_of (more (with_end (more begun (codes "ab"))) (codes "c")) ≡ codes "ab" ∷ codes "c" ∷ [])
+    × (files_of (with_end (more (with_end (more begun (codes "ab"))) (codes "c"))) ≡ codes "ab" ∷ codes "c" ∷ [])
+    × (files_of (with_end (with_end (more begun (codes "ab")))) ≡ codes "ab" ∷ [] ∷ [])
+ended = (refl, refl, refl, refl)

@@ -1,0 +1,182 @@
+-- Bytes of a file that are fed one after the other.
+use Rattle.std.proofs.Common.{◌≡◌, ℕ, zero, suc, ◌+◌, ◌<◌, ◌≤◌, List, [], ◌∷◌, ◌++◌, length, map, take, get_or}
+use Rattle.std.proofs.Common.{Option, None, Some, refl, sym, ap, ◌∙◌, subst, append_assoc, add-one, arith}
+use Rattle.std.specs.Prelude.{ℤ}
+use Rattle.std.specs.Io.KnownBytes.{Consumes, Keeps, IsAtEnd}
+use Rattle.std.proofs.lemmas.List.{append-nil}
+use Rattle.rank_input.specs.declared.intake.Intake.{Intake}
+use Rattle.rank_input.specs.Taken.{Input, given, with_bytes, HasTaken, HasTakenSome, TakesBytes}
+use Rattle.rank_input.specs.Taken.{TakesFileEnd}
+use Rattle.rank_input.specs.Feeding.{AreAllOf, AreFilesOf, with_file, with_files, FeedsFile, FeedsFiles}
+
+-- of all bytes that a source had, some were fed, and these are left
+pub record IsFedTo (old new : Intake) (all left : Option (List ℕ)) : Type 0 where
+  pub bytes : List ℕ
+  pub parts : Consumes all left bytes
+  pub taken : (i : Input) → HasTaken old i → HasTaken new (with_bytes i bytes)
+
+-- nothing is read at first
+consumes-nil : (all : Option (List ℕ)) → Consumes all all []
+consumes-nil None = tt
+consumes-nil (Some xs) = refl
+
+-- more bytes are read
+consumes-more : (all left next : Option (List ℕ)) (bytes more : List ℕ) → Consumes all left bytes
+    → Consumes left next more
+    → Consumes all next (bytes ++ more)
+consumes-more None left next bytes more was is = tt
+consumes-more (Some xs) None next bytes more was is = absurd was
+consumes-more (Some xs) (Some ys) None bytes more was is = absurd is
+consumes-more (Some xs) (Some ys) (Some zs) bytes more was is =
+    was ∙ ap (λ (t : List ℕ). bytes ++ t) is ∙ sym (append_assoc bytes more zs)
+
+-- nothing more is read
+consumes-kept : (all left next : Option (List ℕ)) (bytes : List ℕ) → Consumes all left bytes → Keeps left next
+    → Consumes all next bytes
+consumes-kept None left next bytes was is = tt
+consumes-kept (Some xs) None next bytes was is = absurd was
+consumes-kept (Some xs) (Some ys) None bytes was is = absurd is
+consumes-kept (Some xs) (Some ys) (Some zs) bytes was is = was ∙ ap (λ (t : List ℕ). bytes ++ t) (sym is)
+
+-- at the end all is read
+all-read : (all left next : Option (List ℕ)) (bytes : List ℕ) → Consumes all left bytes → Consumes left next []
+    → IsAtEnd next → AreAllOf all bytes
+all-read None left next bytes was is ends = tt
+all-read (Some xs) None next bytes was is ends = absurd was
+all-read (Some xs) (Some ys) None bytes was is ends = absurd is
+all-read (Some xs) (Some ys) (Some zs) bytes was is ends =
+    sym (was ∙ ap (λ (t : List ℕ). bytes ++ t) (is ∙ ends) ∙ append-nil bytes)
+
+-- with no bytes more
+with_bytes-nil : (t : Intake) (i : Input) → HasTaken t i → HasTaken t (with_bytes i [])
+with_bytes-nil t i is =
+    let P : List ℕ → Type 0 = λ current. HasTaken t (record {
+      workers = i.workers;
+      guess = i.guess;
+      query = i.query;
+      stations = i.stations;
+      ended = i.ended;
+      current = current;
+    }) in subst P (sym (append-nil i.current)) is
+
+-- nothing is fed at first
+pub fed-nothing : (t : Intake) (all : Option (List ℕ)) → IsFedTo t t all all
+fed-nothing t all = record { bytes = []; parts = consumes-nil all; taken = λ i is. with_bytes-nil t i is }
+
+-- a piece more is fed
+pub fed-more : (old mid new : Intake) (all left next : Option (List ℕ)) (piece : List ℕ) → IsFedTo old mid all left
+    → Consumes left next piece → TakesBytes mid new piece → IsFedTo old new all next
+fed-more old mid new all left next piece was is takes = record {
+  bytes = was.bytes ++ piece;
+  parts = consumes-more all left next was.bytes piece was.parts is;
+  taken = λ i has.
+      let P : List ℕ → Type 0 = λ current. HasTaken new (record {
+        workers = i.workers;
+        guess = i.guess;
+        query = i.query;
+        stations = i.stations;
+        ended = i.ended;
+        current = current;
+      }) in
+      subst P (append_assoc i.current was.bytes piece) (takes.holds (with_bytes i was.bytes) (was.taken i has));
+}
+
+-- a read that gave nothing
+pub fed-kept : (old new : Intake) (all left next : Option (List ℕ)) → IsFedTo old new all left → Keeps left next
+    → IsFedTo old new all next
+fed-kept old new all left next was is = record {
+  bytes = was.bytes;
+  parts = consumes-kept all left next was.bytes was.parts is;
+  taken = was.taken;
+}
+
+-- the end of a file is fed
+pub fed-whole : (old mid new : Intake) (all left next : Option (List ℕ)) → IsFedTo old mid all left
+    → Consumes left next [] → IsAtEnd next → TakesFileEnd mid new → FeedsFile old new all
+fed-whole old mid new all left next was is ends takes = record {
+  bytes = was.bytes;
+  all = all-read all left next was.bytes was.parts is ends;
+  taken = λ i has. takes.holds (with_bytes i was.bytes) (was.taken i has);
+}
+
+-- the same where a read gave nothing
+pub fed-end : (old mid new : Intake) (all left next : Option (List ℕ)) (n : ℕ) (buffer : List ℕ)
+    → IsFedTo old mid all left
+    → n ≡ 0 → Consumes left next (take n buffer) × (n ≡ 0 → 0 < length buffer → IsAtEnd next) → 0 < length buffer
+    → TakesFileEnd mid new → FeedsFile old new all
+fed-end old mid new all left next n buffer was none is some takes =
+    fed-whole old mid new all left next was (subst (λ k. Consumes left next (take k buffer)) none is.0)
+    (is.1 none some)
+    takes
+
+-- something was given where something was before
+pub fed-some : (old new : Intake) (all left : Option (List ℕ)) → HasTakenSome old → IsFedTo old new all left
+    → HasTakenSome new
+fed-some old new all left some was = (with_bytes some.0 was.bytes, was.taken some.0 some.1)
+
+-- one file behind some others
+with_files-one : (i : Input) (files : List (List ℕ)) (bytes : List ℕ)
+    → with_files i (files ++ bytes ∷ []) ≡ with_file (with_files i files) bytes
+with_files-one i [] bytes = refl
+with_files-one i (f ∷ fs) bytes = with_files-one (with_file i f) fs bytes
+
+-- one file more has all of its bytes
+files_of-one : (known : List (Option (List ℕ))) (files : List (List ℕ)) (one : Option (List ℕ)) (bytes : List ℕ)
+    → AreFilesOf known files → AreAllOf one bytes → AreFilesOf (known ++ one ∷ []) (files ++ bytes ∷ [])
+files_of-one [] [] one bytes all is = (is, tt)
+files_of-one [] (f ∷ fs) one bytes all is = absurd all
+files_of-one (k ∷ ks) [] one bytes all is = absurd all
+files_of-one (k ∷ ks) (f ∷ fs) one bytes all is = (all.0, files_of-one ks fs one bytes all.1 is)
+
+-- no file is fed
+pub files-none : (t : Intake) → FeedsFiles t t []
+files-none t = record { files = []; all = tt; taken = λ i is. is }
+
+-- one file more is fed
+pub files-more : (old mid new : Intake) (known : List (Option (List ℕ))) (one : Option (List ℕ))
+    → FeedsFiles old mid known
+    → FeedsFile mid new one → FeedsFiles old new (known ++ one ∷ [])
+files-more old mid new known one was is = record {
+  files = was.files ++ is.bytes ∷ [];
+  all = files_of-one known was.files one is.bytes was.all is.all;
+  taken = λ i has.
+      subst (HasTaken new) (sym (with_files-one i was.files is.bytes))
+      (is.taken (with_files i was.files) (was.taken i has));
+}
+
+-- files that are fed to an intake that was given whole files
+pub given-files : (workers : ℕ) (guess : Option ℤ) (query stations : List ℕ) (ended files : List (List ℕ))
+    → with_files (given workers guess query stations ended) files
+    ≡ given workers guess query stations (ended ++ files)
+given-files workers guess query stations ended [] = ap (given workers guess query stations) (sym (append-nil ended))
+given-files workers guess query stations ended (f ∷ fs) =
+    given-files workers guess query stations (ended ++ f ∷ []) fs
+    ∙ ap (given workers guess query stations) (append_assoc ended (f ∷ []) fs)
+
+-- what is known of the first files, and of one more
+pub known-more : {X : Type 0} (f : X → Option (List ℕ)) (xs : List X) (i : ℕ) (d : X) → i < length xs
+    → map f (take (i + 1) xs) ≡ map f (take i xs) ++ f (get_or xs i d) ∷ []
+known-more {X} f xs i d lt = ap (λ k. map f (take k xs)) (add-one i) ∙ go xs i d lt
+  where
+    go : (xs : List X) (i : ℕ) (d : X) → i < length xs
+        → map f (take (suc i) xs) ≡ map f (take i xs) ++ f (get_or xs i d) ∷ []
+    go [] i d lt = absurd (omega arith)
+    go (x ∷ xs) zero d lt = refl
+    go (x ∷ xs) (suc i) d lt = ap (λ (ks : List (Option (List ℕ))). f x ∷ ks) (go xs i d (omega arith))
+
+-- what is known of the first files, where these are all
+pub known-all : {X : Type 0} (f : X → Option (List ℕ)) (xs : List X) (i : ℕ) → length xs ≤ i
+    → map f (take i xs) ≡ map f xs
+known-all f [] zero le = refl
+known-all f [] (suc i) le = refl
+known-all f (x ∷ xs) zero le = absurd (omega arith)
+known-all f (x ∷ xs) (suc i) le = ap (λ (ks : List (Option (List ℕ))). f x ∷ ks) (known-all f xs i (omega arith))
+
+-- one file more of a list is fed
+pub files-next : {X : Type 0} (old mid new : Intake) (f : X → Option (List ℕ)) (xs : List X) (i : ℕ) (x : X)
+    (known : Option (List ℕ)) → i < length xs → get_or xs i x ≡ x → known ≡ f x
+    → FeedsFiles old mid (map f (take i xs))
+    → FeedsFile mid new known → FeedsFiles old new (map f (take (i + 1) xs))
+files-next old mid new f xs i x known lt at same was is =
+    subst (FeedsFiles old new) (sym (known-more f xs i x lt ∙ ap (λ y. map f (take i xs) ++ f y ∷ []) at))
+    (files-more old mid new (map f (take i xs)) (f x) was (subst (FeedsFile mid new) same is))

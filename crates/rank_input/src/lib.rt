@@ -1,0 +1,14 @@
+//! What a run is asked, and the files that it is given, taken piece by piece.
+//!
+//! The crate gives the query and the data of what was given, or the first fault in it.
+#![tactic(auto)]
+
+mod archive;
+mod fault;
+mod intake;
+mod limits;
+
+pub use archive::{Archive, System, feed, feed_files, piece_room, read_whole};
+pub use fault::Fault;
+pub use intake::Intake;
+pub use limits::{MOST_WORKERS, at_most, worth_starting};

@@ -1,0 +1,57 @@
+use Rattle.std.proofs.Common.{◌≡◌, ◌++◌, ◌<◌, List, true, false, [], sym, ap, ◌∙◌, subst, ℤ, ◌≤ℤ◌, length, rules, w32}
+use Rattle.std.proofs.Common.{FitsSigned, to_z-of_z}
+use Rattle.std.specs.List.{AllByRecursion}
+use Rattle.ghcn_series.specs.Series.{DayValue}
+use Rattle.rank_query.specs.Asked.{Asked}
+use Rattle.rank_scores.specs.Candidates.{admitted_among}
+use Rattle.rank_scores.specs.Stretches.{IsStretch}
+use Rattle.rank_scores.proofs.StretchDays.{stretch-behind, stretch-part, stretch-on, begins-by, part-fewer, no-first}
+use Rattle.rank_scores.proofs.admitted.next_part.Goals as goal
+
+-- an admitted part is the first of the admitted days
+pub returns-then-stretch-clause-parts : goal.returns-then-stretch-clause-parts
+returns-then-stretch-clause-parts c =
+    let q : Asked = c.args.query.now in
+    let late : FitsSigned w32 c.go_on.new.self.last = search rules in
+    let parts : c.loop-day.days ≡ c.take_to-part.result ++ c.take_to-part.new.self =
+    sym c.in-Some.ensures.same ∙ c.take_to-part.ensures.parts in
+    let here : IsStretch q (c.take_to-part.result ++ c.take_to-part.new.self) c.go_on.new.self =
+    subst (λ (days : List DayValue). IsStretch q days c.go_on.new.self) parts
+    (stretch-on q c.loop-day.days _ _ _ c.in-Some.ensures.first c.loop-day.invariant.stretch c.go_on.ensures.alike) in
+    let within : AllByRecursion (λ (x : DayValue). x.0 ≤ℤ c.go_on.new.self.last) c.take_to-part.result =
+    rw (to_z-of_z late) at c.take_to-part.ensures.taken in
+    sym c.loop-day.invariant.left ∙ ap (admitted_among q) parts
+    ∙ stretch-part true q c.take_to-part.result c.take_to-part.new.self c.go_on.new.self here within c.if-stretch.true
+
+-- and the stretch is one of the days behind it
+pub returns-then-stretch-clause-stretch : goal.returns-then-stretch-clause-stretch
+returns-then-stretch-clause-stretch c =
+    let q : Asked = c.args.query.now in
+    let parts : c.loop-day.days ≡ c.take_to-part.result ++ c.take_to-part.new.self =
+    sym c.in-Some.ensures.same ∙ c.take_to-part.ensures.parts in
+    stretch-behind q c.take_to-part.result c.take_to-part.new.self c.go_on.new.self
+    (subst (λ (days : List DayValue). IsStretch q days c.go_on.new.self) parts
+    (stretch-on q c.loop-day.days _ _ _ c.in-Some.ensures.first c.loop-day.invariant.stretch c.go_on.ensures.alike))
+
+-- another part is passed over
+pub loop-day-preserved : goal.loop-day-preserved
+loop-day-preserved c =
+    let q : Asked = c.args.query.now in
+    let late : FitsSigned w32 c.go_on.new.self.last = search rules in
+    let parts : c.loop-day.days ≡ c.take_to-part.result ++ c.take_to-part.new.self =
+    sym c.in-Some.ensures.same ∙ c.take_to-part.ensures.parts in
+    let here : IsStretch q (c.take_to-part.result ++ c.take_to-part.new.self) c.go_on.new.self =
+    subst (λ (days : List DayValue). IsStretch q days c.go_on.new.self) parts
+    (stretch-on q c.loop-day.days _ _ _ c.in-Some.ensures.first c.loop-day.invariant.stretch c.go_on.ensures.alike) in
+    let within : AllByRecursion (λ (x : DayValue). x.0 ≤ℤ c.go_on.new.self.last) c.take_to-part.result =
+    rw (to_z-of_z late) at c.take_to-part.ensures.taken in
+    record {
+      left = sym (stretch-part false q c.take_to-part.result c.take_to-part.new.self c.go_on.new.self here within
+          c.if-stretch.false) ∙ sym (ap (admitted_among q) parts) ∙ c.loop-day.invariant.left;
+      stretch = stretch-behind q c.take_to-part.result c.take_to-part.new.self c.go_on.new.self here;
+    }
+
+-- behind the last day there is none
+pub returns-clause-end : goal.returns-clause-end
+returns-clause-end c = λ none. ap (admitted_among c.args.query.now)
+    (c.in_default.ensures.same ∙ no-first c.loop-day.days c.in_default.ensures.first)

@@ -1,0 +1,15 @@
+//! The tests of the crates that rank: scores, bounds, pools and runs. A module has those of a crate.
+//!
+//! They know these crates as their callers do, by what they show.
+#![tactic(auto)]
+
+#[cfg(test)]
+mod blocks;
+#[cfg(test)]
+mod days;
+#[cfg(test)]
+mod pool;
+#[cfg(test)]
+mod sched;
+#[cfg(test)]
+mod scores;

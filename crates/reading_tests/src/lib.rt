@@ -1,0 +1,13 @@
+//! The tests of the crates that read: fields, files and queries. A module has those of a crate.
+//!
+//! They know these crates as their callers do, by what they show.
+#![tactic(auto)]
+
+#[cfg(test)]
+mod fields;
+#[cfg(test)]
+mod files;
+#[cfg(test)]
+mod query;
+#[cfg(test)]
+mod texts;
