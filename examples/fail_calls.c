@@ -4,7 +4,7 @@
    FAIL_AT     the number of that call, from 1; 0 for each of them
    FAIL_HOW    fail: it ends with an error; one: it takes or gives one byte; signal: it is interrupted;
                full: writes take this many bytes in all, and then there is no space; FAIL_AT is that number;
-               most: each read gives at most FAIL_AT bytes
+               most: each read gives at most FAIL_AT bytes, behind three million of them what it asks for
    FAIL_FILE   a file's name without its folder. FAIL_HOW cut: its reads end after FAIL_AT bytes;
                missing: it can't be opened
    FAIL_MARK   a file that is left where a call meets this for the first time. It has the path of that call's
@@ -23,6 +23,9 @@
 #include <string.h>
 #include <sys/syscall.h>
 #include <unistd.h>
+
+/* How many reads are cut at most: a long input takes too long byte by byte. */
+enum { CUT_READS = 3000000 };
 
 static atomic_long calls, bytes;
 static atomic_int is_marked;
@@ -96,7 +99,7 @@ ssize_t read(int file, void *into, size_t size) {
         atomic_fetch_add(&bytes, taken > 0 ? taken : 0);
         return taken;
     }
-    if (is_how("most") && (long)size > atol(said("FAIL_AT"))) {
+    if (is_how("most") && (long)size > atol(said("FAIL_AT")) && atomic_fetch_add(&calls, 1) < CUT_READS) {
         leave_mark(NULL, file);
         size = atol(said("FAIL_AT"));
     }

@@ -1,17 +1,18 @@
 -- A run over files that were fed whole.
-use Rattle.std.proofs.Common.{ℕ, List, [], ◌∷◌, refl, subst}
-use Rattle.std.specs.Prelude.{Option, None, Some, Result, Ok, Err, IfOk, IfErr, ℤ}
+use Rattle.std.proofs.Common.{◌≡◌, ℕ, ◌<◌, ◌≤◌, Bool, true, false, List, [], ◌∷◌, refl, subst, arith}
+use Rattle.std.specs.Prelude.{nat_le, Option, None, Some, Result, Ok, Err, IfOk, IfErr, ℤ}
+use Rattle.std.proofs.lemmas.Bool.{leb-true, leb-false}
 use Rattle.ghcn_fields.specs.declared.memory.Memory.{Memory as WantOfMemory}
 use Rattle.rank_check.specs.declared.verdict.Verdict.{Verdict}
 use Rattle.rank_input.specs.declared.fault.Fault.{Fault}
 use Rattle.rank_input.specs.declared.fault.Fault.TheVariants.{Memory}
 use Rattle.rank_input.specs.declared.intake.Intake.{Intake}
 use Rattle.extremes.specs.declared.papers.Papers.{Papers}
-use Rattle.rank_input.specs.Taken.{given, HasTaken, RefusesInput}
+use Rattle.rank_input.specs.Taken.{given, given_files, Input, HasTaken, RefusesInput}
 use Rattle.rank_input.specs.Feeding.{AreAllOf, AreFilesOf, FeedsFiles}
 use Rattle.rank_input.proofs.Feedings.{given-files}
-use Rattle.extremes.specs.Runs.{AnswersInput, JudgesInput}
-use Rattle.extremes.specs.Runs.{IsRanked, RanksFiles, IsJudgement, JudgesFiles}
+use Rattle.extremes.specs.Runs.{AnswersInput, CrewsInput, JudgesInput}
+use Rattle.extremes.specs.Runs.{IsCrewedBySome, IsRanked, RanksFiles, IsJudgement, JudgesFiles}
 
 -- what was fed behind the station list is the whole input
 pub taken-all : (old new : Intake) (known : List (Option (List ℕ))) (workers : ℕ) (guess : Option ℤ)
@@ -22,29 +23,47 @@ taken-all old new known workers guess query stations fed is =
     subst (HasTaken new) (given-files workers guess query stations [] fed.files)
     (fed.taken (given workers guess query stations []) is)
 
+-- as many as were asked for, or as the most where more were, are no more than were asked for
+few-ran : (asked most ran : ℕ) → (asked ≤ most → ran ≡ asked) → (most < asked → ran ≡ most) → ran ≤ asked
+few-ran asked most ran all fewer = by (nat_le asked most) refl
+  where
+    by : (b : Bool) → nat_le asked most ≡ b → ran ≤ asked
+    by true e = omega (arith, all (leb-true asked most e))
+    by false e = let more = leb-false asked most e in omega (arith, fewer more, more)
+
+-- so the papers of an intake's crew are those of at most so many workers
+crewed-by-some : (t : Intake) (most : ℕ) (i : Input) (papers : Papers) → HasTaken t i → CrewsInput t most papers
+    → IsCrewedBySome i.workers i.guess i.query i.stations (given_files i) papers
+crewed-by-some t most i papers taken crews = record {
+  ran = crews.ran;
+  few = subst (λ (n : ℕ). crews.ran ≤ n) taken.workers (few-ran t.workers most crews.ran crews.all crews.fewer);
+  crew = crews.is i taken;
+}
+
 -- the answer for an intake is that for its texts
-ranked-is : (t : Intake) (workers : ℕ) (guess : Option ℤ) (query stations : List ℕ) (files : List (List ℕ))
+ranked-is : (t : Intake) (workers most : ℕ) (guess : Option ℤ) (query stations : List ℕ) (files : List (List ℕ))
     (answer : Result Papers Fault) → HasTaken t (given workers guess query stations files)
-    → IfOk answer (AnswersInput t)
+    → IfOk answer (AnswersInput t) → IfOk answer (CrewsInput t most)
     → IfErr answer (RefusesInput t) → IsRanked workers guess query stations files answer
-ranked-is t workers guess query stations files (Ok papers) taken ok err =
-    ok.is (given workers guess query stations files) taken
-ranked-is t workers guess query stations files (Err fault) taken ok err =
+ranked-is t workers most guess query stations files (Ok papers) taken ok crews err =
+    let i = given workers guess query stations files in
+    (ok.is i taken, crewed-by-some t most i papers taken crews)
+ranked-is t workers most guess query stations files (Err fault) taken ok crews err =
     err.is (given workers guess query stations files) taken
 
 -- the ranking of an intake that was fed all files
-pub ranks-files : (old new : Intake) (workers : ℕ) (guess : Option ℤ) (query stations : List ℕ)
-    (list : Option (List ℕ))
-    (known : List (Option (List ℕ))) (answer : Result Papers Fault) → AreAllOf list stations
+pub ranks-files : (old new : Intake) (workers most : ℕ) (guess : Option ℤ) (query stations : List ℕ)
+    (list : Option (List ℕ)) (known : List (Option (List ℕ))) (answer : Result Papers Fault) → AreAllOf list stations
     → HasTaken old (given workers guess query stations []) → FeedsFiles old new known → IfOk answer (AnswersInput new)
-    → IfErr answer (RefusesInput new) → RanksFiles workers guess query list known answer
-ranks-files old new workers guess query stations list known answer whole taken fed ok err = record {
+    → IfOk answer (CrewsInput new most) → IfErr answer (RefusesInput new)
+    → RanksFiles workers guess query list known answer
+ranks-files old new workers most guess query stations list known answer whole taken fed ok crews err = record {
   stations = stations;
   whole = whole;
   files = fed.files;
   all = fed.all;
-  ranked = ranked-is new workers guess query stations fed.files answer
-      (taken-all old new known workers guess query stations fed taken) ok err;
+  ranked = ranked-is new workers most guess query stations fed.files answer
+      (taken-all old new known workers guess query stations fed taken) ok crews err;
 }
 
 -- the verdict for an intake is that for its texts

@@ -3,3 +3,4 @@ pub mod PlanAnswers
 pub mod SerialPapers
 pub mod Answering
 pub mod FedRuns
+pub mod NamedFiles

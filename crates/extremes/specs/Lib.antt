@@ -4,3 +4,4 @@ pub mod Printed
 pub mod Delivered
 pub mod Judged
 pub mod Runs
+pub mod Commands

@@ -1,5 +1,5 @@
 -- How an answer is printed.
-use Rattle.std.specs.Prelude.{◌≡◌, ◌⊎◌, ℕ, List, Option, Result, Ok, Err}
+use Rattle.std.specs.Prelude.{◌≡◌, ◌⊎◌, ℕ, List, ◌++◌, codes, Option, Result, Ok, Err}
 use Rattle.std.specs.Io.KnownBytes.{Appends}
 use Rattle.extremes.specs.declared.papers.Papers.{Papers}
 use Rattle.rank_input.specs.declared.fault.Fault.{Fault}
@@ -8,8 +8,13 @@ use Rattle.extremes.specs.declared.ending.Ending.TheVariants.{Done, Refused, Wor
 use Rattle.extremes.specs.declared.delivery.Delivery.{Delivery}
 use Rattle.extremes.specs.declared.delivery.Delivery.TheVariants as delivery
 use Rattle.rank_check.specs.declared.verdict.Verdict.{Verdict}
+use Rattle.rank_check.specs.Texts.{verdict_text}
 use Rattle.extremes.specs.Delivered.{HasBeginning}
 use Rattle.extremes.specs.Ending.{ending_of}
+
+-- the line of a verdict
+abbrev pub line_of : Verdict → List ℕ
+line_of v = verdict_text v ++ codes "\n"
 
 -- what the report's writer was given: the whole report, nothing behind a certificate that couldn't be written, or a
 -- beginning
@@ -27,8 +32,9 @@ IsPrinted (Ok papers) before after Words = ⊥
 IsPrinted (Ok papers) before after File = HasBeginning papers.report.items before after
 IsPrinted (Err fault) before after ending = (ending ≡ Refused) × (after ≡ before)
 
--- a verdict that was printed ends the run as it says, and one that couldn't be printed as a file that couldn't be
--- written; a fault is refused
-abbrev pub IsToldVerdict : Result Verdict Fault → Ending → Type 0
-IsToldVerdict (Ok v) ending = (ending ≡ ending_of v) ⊎ (ending ≡ File)
-IsToldVerdict (Err fault) ending = ending ≡ Refused
+-- a verdict is printed as its line and ends the run as it says, or it ends as a file that couldn't be written; a fault
+-- prints nothing and is refused
+abbrev pub IsToldVerdict : Result Verdict Fault → Option (List ℕ) → Option (List ℕ) → Ending → Type 0
+IsToldVerdict (Ok v) before after ending =
+    ((ending ≡ ending_of v) × Appends before after (line_of v)) ⊎ (ending ≡ File)
+IsToldVerdict (Err fault) before after ending = (ending ≡ Refused) × (after ≡ before)

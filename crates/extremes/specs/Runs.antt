@@ -30,9 +30,17 @@ pub record SerialInput (t : Intake) (papers : Papers) : Type 0 where
 pub record JudgesInput (t : Intake) (report certificate : List ℕ) (v : Verdict) : Type 0 where
   pub is : (i : Input) → HasTaken t i → IsJudged i.query i.stations (given_files i) report certificate v
 
--- papers that answer these texts, or their first fault
+-- the papers are those of a crew of at most so many workers
+pub record IsCrewedBySome (workers : ℕ) (guess : Option ℤ) (query stations : List ℕ) (files : List (List ℕ))
+    (papers : Papers) : Type 0 where
+  pub ran : ℕ
+  pub few : ran ≤ workers
+  pub crew : IsCrewed ran guess query stations files papers
+
+-- papers that answer these texts, of at most so many workers, or their first fault
 abbrev pub IsRanked : ℕ → Option ℤ → List ℕ → List ℕ → List (List ℕ) → Result Papers Fault → Type 0
-IsRanked workers guess query stations files (Ok papers) = Answers guess query stations files papers
+IsRanked workers guess query stations files (Ok papers) =
+    Answers guess query stations files papers × IsCrewedBySome workers guess query stations files papers
 IsRanked workers guess query stations files (Err fault) =
     IsRefusal is_memory fault (read_run workers guess query stations files)
 

@@ -3,9 +3,11 @@
 
 mod delivery;
 mod ending;
+mod files;
 mod judge;
 mod laws;
 mod papers;
+mod print;
 mod rank;
 mod run;
 mod sample;

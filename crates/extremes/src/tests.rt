@@ -10,8 +10,8 @@ use crate::delivery::{Delivery, deliver};
 use crate::ending::Ending;
 use crate::judge::{ending, judge};
 use crate::papers::Papers;
+use crate::print::print_answer;
 use crate::rank::{rank, rank_serial};
-use crate::run::print_answer;
 use crate::sample;
 use ghcn_fields::Memory;
 use ghcn_files::{LineWhy, StationWhy};
@@ -76,12 +76,14 @@ fn reports_are_printed_whole(rt: HostRuntime) {
     assert_eq!(rt; out.as_slice(), REPORT);
 }
 
-/// A writer that takes so many bytes at once, and in all. Then it fails, or takes no byte.
+/// A writer that takes so many bytes at once, and in all. Then it fails once, or takes no byte, and
+/// behind that it takes so many more.
 #[derive(Drop)]
 struct Narrow {
     taken: Vec<u8>,
     at_once: usize,
     room: usize,
+    more: usize,
     fails: bool,
     flushes: bool,
 }
@@ -89,8 +91,13 @@ struct Narrow {
 impl Write for Narrow {
     fn write(&mut self, buf: &[u8]) -> io::Result<usize> {
         let count = buf.len().min(self.at_once).min(self.room);
-        if count == 0 && self.fails {
-            return Err(io::Error::from(io::ErrorKind::StorageFull));
+        if count == 0 {
+            self.room = self.more;
+            self.more = 0;
+            if self.fails {
+                return Err(io::Error::from(io::ErrorKind::StorageFull));
+            }
+            return Ok(0);
         }
         self.taken.extend_from_slice(&buf[..count])?;
         self.room -= count;
@@ -112,8 +119,17 @@ fn failing_behind(alloc: Global, at_once: usize, room: usize) -> Narrow {
         taken: Vec::new(alloc),
         at_once,
         room,
+        more: 0,
         fails: true,
         flushes: true,
+    }
+}
+
+/// A writer that fails once behind so many bytes, and then takes bytes again.
+fn failing_once_behind(alloc: Global, room: usize) -> Narrow {
+    Narrow {
+        more: 999,
+        ..failing_behind(alloc, 99, room)
     }
 }
 
@@ -125,7 +141,7 @@ fn papers_are_delivered(rt: HostRuntime) -> Result<(), Fail> {
         return Err(Fail::from("no papers"));
     };
     let whole = papers.certificate.as_slice();
-    let cases: [(bool, Narrow, Narrow, Delivery, &[u8], &[u8]); 6] = [
+    let cases: [(bool, Narrow, Narrow, Delivery, &[u8], &[u8]); 11] = [
         (
             true,
             failing_behind(alloc, 1, 999),
@@ -179,6 +195,55 @@ fn papers_are_delivered(rt: HostRuntime) -> Result<(), Fail> {
             Delivery::ReportFailed,
             whole,
             REPORT,
+        ),
+        (
+            true,
+            Narrow {
+                flushes: false,
+                ..failing_behind(alloc, 99, 999)
+            },
+            failing_behind(alloc, 99, 999),
+            Delivery::CertificateFailed,
+            whole,
+            b"",
+        ),
+        (
+            true,
+            failing_behind(alloc, 99, 999),
+            failing_once_behind(alloc, 10),
+            Delivery::ReportFailed,
+            whole,
+            b"extremes r",
+        ),
+        (
+            true,
+            failing_once_behind(alloc, 8),
+            failing_behind(alloc, 99, 999),
+            Delivery::CertificateFailed,
+            b"extremes",
+            b"",
+        ),
+        (
+            false,
+            failing_behind(alloc, 99, 999),
+            Narrow {
+                fails: false,
+                ..failing_once_behind(alloc, 0)
+            },
+            Delivery::ReportFailed,
+            b"",
+            b"",
+        ),
+        (
+            true,
+            Narrow {
+                fails: false,
+                ..failing_once_behind(alloc, 8)
+            },
+            failing_behind(alloc, 99, 999),
+            Delivery::CertificateFailed,
+            b"extremes",
+            b"",
         ),
     ];
     for (wanted, mut certificate, mut report, expected, first, second) in cases {

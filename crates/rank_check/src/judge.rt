@@ -1,6 +1,6 @@
 //! The verdict on two papers that were read.
 
-ghost use Rattle.std.specs.Prelude.{◌≡◌, [], ◌∷◌, Ok, Some, IfOk, nat_le, length, map};
+ghost use Rattle.std.specs.Prelude.{◌≡◌, true, [], ◌∷◌, Ok, Some, IfOk, nat_le, length, map};
 ghost use Rattle.ghcn_fields.specs.Faults.{first_failing};
 ghost use Rattle.rank_query.specs.Asked.{IsAsked};
 ghost use Rattle.rank_papers.specs.ReportLines.{reported_in, IsReported};
@@ -22,7 +22,8 @@ use rank_query::Query;
 use rank_scores::candidates_of_queries;
 use std::alloc::Global;
 
-/// The verdict of the first test that fails, after one pass over the data.
+/// The verdict of the first test that fails, after one pass over the data, if the report is of this
+/// query.
 pub(crate) fn judge(
     alloc: Global,
     held: &Data,
@@ -37,8 +38,15 @@ pub(crate) fn judge(
     candidates_of_queries();
     certificates_are_read();
     let _stations = held.stations();
+    if !is_same_query(alloc, &report.query, query)? {
+        return Ok(Verdict::Refused {
+            paper: Paper::Report,
+            line: 2,
+            why: Why::OtherQuery,
+        });
+    }
     let found = survey(alloc, held, query, report.rows.as_slice())?;
-    if let Some(fault) = report_fault(alloc, held, query, report, &found)? {
+    if let Some(fault) = report_fault(held, query, report, &found) {
         return Ok(fault);
     }
     let kth = kth_score(query, report);
@@ -51,25 +59,16 @@ pub(crate) fn judge(
     )
 }
 
-/// The first test that a report fails.
-fn report_fault(
-    alloc: Global,
-    held: &Data,
-    query: &Query,
-    report: &Report,
-    found: &Findings,
-) -> Result<Option<Verdict>, Memory>
+/// The first test that a report of this query fails.
+fn report_fault(held: &Data, query: &Query, report: &Report, found: &Findings) -> Option<Verdict>
     requires can_be { IsReported (reported_in report.now) }
+    requires same { tests.same_query report.now.query query.now ≡ true }
     requires found { AreFindings query.now held.now (candidates_of report.now.rows.items) found.now }
-    ensures { IfOk result (λ fault.
-        fault ≡ first_failing (tests.report_tests query.now held.now (reported_in report.now))) }
+    ensures { result ≡ first_failing (tests.report_tests query.now held.now (reported_in report.now)) }
 {
-    if !is_same_query(alloc, &report.query, query)? {
-        return Ok(refused(Paper::Report, 2, Why::OtherQuery));
-    }
     let rows = report.rows.as_slice();
     let few = number_fault(query, rows, found);
-    Ok(rows_fault(held.stations(), rows, found).or(few))
+    rows_fault(held.stations(), rows, found).or(few)
 }
 
 /// The refusal of a report with too few rows.

@@ -44,9 +44,9 @@ fn push_july(text: &mut String, id: &str, year: u16, values: &[i32]) -> Result<(
     text.push_str("\n")
 }
 
-/// What a file says of the three stations.
-fn read(alloc: Global, text: &[u8]) -> Option<Data> {
-    let stations = Stations::read(alloc, STATIONS).ok()?;
+/// What a list and a file say.
+fn read(alloc: Global, list: &[u8], text: &[u8]) -> Option<Data> {
+    let stations = Stations::read(alloc, list).ok()?;
     Data::read(alloc, stations, &[text]).ok()
 }
 
@@ -56,7 +56,7 @@ fn data_of(alloc: Global, values: &Values) -> Option<Data> {
     push_july(&mut text, "ZZA00000001", 2020, values[0]).ok()?;
     push_july(&mut text, "ZZA00000002", 2020, values[1]).ok()?;
     push_july(&mut text, "ZZA00000003", 2020, values[2]).ok()?;
-    read(alloc, text.as_bytes())
+    read(alloc, STATIONS, text.as_bytes())
 }
 
 /// The bounds of the lines of three morsels, and which of them are skips.
@@ -334,9 +334,12 @@ fn first_morsel_is_looked_at_last(rt: HostRuntime) {
     );
 }
 
-/// A gate that notes which worker measures each of three places.
+/// Stands for no worker, where there is no place.
+const NOBODY: u64 = 64;
+
+/// A gate that notes which worker measures each of up to four places.
 #[derive(Drop)]
-struct Measurers([AtomicU64; 3]);
+struct Measurers([AtomicU64; 4]);
 
 impl Gate for Measurers {
     fn measuring<R: Wait>(&self, _rt: &R, worker: u64, place: u64) {
@@ -356,13 +359,18 @@ fn push_since(text: &mut String, id: &str, year: Option<u16>) -> Result<(), Allo
     push_july(text, id, 2020, &[250])
 }
 
-/// The data of three stations that have these earlier years.
-fn data_since(alloc: Global, years: &[Option<u16>; 3]) -> Option<Data> {
+const IDS: [&str; 4] = ["ZZA00000001", "ZZA00000002", "ZZA00000003", "ZZA00000004"];
+
+/// The data of as many stations as there are earlier years, up to four. The first lies at 10 degrees
+/// of latitude, and each further one a degree farther north.
+fn data_since(alloc: Global, years: &[Option<u16>]) -> Option<Data> {
+    let mut list = String::new(alloc);
     let mut text = String::new(alloc);
-    push_since(&mut text, "ZZA00000001", years[0]).ok()?;
-    push_since(&mut text, "ZZA00000002", years[1]).ok()?;
-    push_since(&mut text, "ZZA00000003", years[2]).ok()?;
-    read(alloc, text.as_bytes())
+    for ((number, id), year) in IDS.iter().enumerate().zip(years) {
+        write!(list, "{id}  1{number}.0000   20.0000\n").ok()?;
+        push_since(&mut text, id, *year).ok()?;
+    }
+    read(alloc, list.as_bytes(), text.as_bytes())
 }
 
 /// How many workers there are.
@@ -370,73 +378,93 @@ fn data_since(alloc: Global, years: &[Option<u16>; 3]) -> Option<Data> {
 enum Workers {
     Two,
     Three,
+    Four,
 }
 
-/// Which workers measure the three stations. There are two or three workers.
+/// Which workers measure the stations. There are two to four workers.
 fn measurers_of<R: Threads + Wait + Sync>(
     rt: &R,
     alloc: Global,
     text: &str,
-    years: &[Option<u16>; 3],
+    years: &[Option<u16>],
     workers: Workers,
-) -> Option<[u64; 3]> {
-    let gate = Measurers([AtomicU64::new(9), AtomicU64::new(9), AtomicU64::new(9)]);
+) -> Option<[u64; 4]> {
+    let gate = Measurers([
+        AtomicU64::new(NOBODY),
+        AtomicU64::new(NOBODY),
+        AtomicU64::new(NOBODY),
+        AtomicU64::new(NOBODY),
+    ]);
     let data = data_since(alloc, years)?;
     let query = Query::parse(text).ok()?;
     let workers = match workers {
         Workers::Two => 2,
         Workers::Three => 3,
+        Workers::Four => 4,
     };
     survey(rt, alloc, &data, &query, workers, &gate).ok()?;
     Some([
         gate.0[0].load(Ordering::SeqCst),
         gate.0[1].load(Ordering::SeqCst),
         gate.0[2].load(Ordering::SeqCst),
+        gate.0[3].load(Ordering::SeqCst),
     ])
 }
 
 #[test]
 fn stations_are_cut_by_their_blocks(rt: HostRuntime) {
-    const ROWS: [(&str, [Option<u16>; 3], Workers, [u64; 3]); 6] = [
+    const ROWS: [(&str, &[Option<u16>], Workers, [u64; 4]); 8] = [
         (
             "top 1 highest TMAX",
-            [None, None, None],
+            &[None, None, None],
             Workers::Two,
-            [0, 0, 1],
+            [0, 0, 1, NOBODY],
         ),
         (
             "top 1 highest TMAX",
-            [Some(1990), None, None],
+            &[Some(1990), None, None],
             Workers::Two,
-            [0, 1, 1],
+            [0, 1, 1, NOBODY],
         ),
         (
             "top 1 highest TMAX",
-            [None, None, Some(1990)],
+            &[None, None, Some(1990)],
             Workers::Two,
-            [0, 0, 1],
+            [0, 0, 1, NOBODY],
         ),
         (
             "top 1 highest TMAX",
-            [Some(2000), Some(2000), Some(1980)],
+            &[Some(2000), Some(2000), Some(1980)],
             Workers::Two,
-            [0, 0, 1],
+            [0, 0, 1, NOBODY],
         ),
         (
             "top 1 highest TMAX",
-            [Some(2000), Some(2000), Some(2000)],
+            &[Some(2000), Some(2000), Some(2000)],
             Workers::Three,
-            [0, 1, 2],
+            [0, 1, 2, NOBODY],
+        ),
+        (
+            "top 1 highest TMAX",
+            &[Some(2000), Some(2000), Some(2000), Some(2000)],
+            Workers::Two,
+            [0, 0, 1, 1],
+        ),
+        (
+            "top 1 highest TMAX",
+            &[Some(2000), Some(2000), Some(2000), Some(2000)],
+            Workers::Four,
+            [0, 1, 2, 3],
         ),
         (
             "top 1 highest TMAX box 10.5 0 90 90",
-            [Some(1990), None, None],
+            &[Some(1990), None, None],
             Workers::Two,
-            [0, 0, 1],
+            [0, 0, 1, NOBODY],
         ),
     ];
     for (text, years, workers, expected) in ROWS {
-        let found = measurers_of(&rt, rt.alloc(), text, &years, workers);
+        let found = measurers_of(&rt, rt.alloc(), text, years, workers);
         assert_eq!(rt; found, Some(expected), "{text} {years:?}");
     }
 }

@@ -115,11 +115,14 @@ fn a_replay(rt: HostRuntime) -> Result<(), Fail> {
         Some(
             Some(
                 ReplayFault {
+                    accepted,
                     why: StepFault::Memory(_),
-                    ..
                 },
             ),
-        ) => Told::Memory,
+        ) => {
+            println!(rt; "behind-{accepted}")?;
+            Told::Memory
+        }
         Some(Some(_)) => Told::Other,
     };
     tell(&rt, told)

@@ -18,7 +18,7 @@ returns-in-Some c =
     let r = report_tests c.args.query.now c.args.held.now (reported_in c.args.report.now) in
     let rows : List Candidate = of_rows (reported_in c.args.report.now).rows in
     let z = certificate_tests c.args.query.now c.args.held.now rows (certified_in c.args.certificate.now) in
-    sym (ap or_accepted (before_some r z c.in-Some.fault (sym c.in_ok-fault.ensures ∙ c.in-Some.is)))
+    sym (ap or_accepted (before_some r z c.in-Some.fault (sym c.report_fault.ensures ∙ c.in-Some.is)))
 
 -- the report passes, and the certificate decides
 pub returns : goal.returns
@@ -28,7 +28,7 @@ returns c =
     let r = report_tests q held (reported_in c.args.report.now) in
     let rows : List Candidate = of_rows (reported_in c.args.report.now).rows in
     let z = certificate_tests q held rows (certified_in c.args.certificate.now) in
-    let none : first_failing r ≡ None = sym c.in_ok-fault.ensures ∙ c.in_default.is in
+    let none : first_failing r ≡ None = sym c.report_fault.ensures ∙ c.in_default.is in
     let apart = c.candidates_of_queries.ensures.apart q held c.stations-stations.ensures.contents in
     let kth : c.kth_score-kth.result ≡ kth_of_query q held =
     c.kth_score-kth.ensures.kth
@@ -37,10 +37,10 @@ returns c =
     (reported_in c.args.report.now) c.requires none in
     let lent : candidates_of c.as_slice-rows.result.now ≡ of_rows (reported_in c.args.report.now).rows =
     ap candidates_of c.as_slice-rows.ensures.value ∙ candidates_named c.args.report.now.rows.items in
-    let rest = c.in_ok-fault-2.ensures held kth c.in_ok-found.ensures.tops
+    let rest = c.in_ok-fault.ensures held kth c.in_ok-found.ensures.tops
     ∙ ap (λ (l : List Candidate). first_failing (certificate_tests q held l (certified_in c.args.certificate.now)))
     lent in
-    elim c.match-branch-5.branch [
+    elim c.match-branch-4.branch [
       | in-Some-2 w ↦ w.result-is ∙ sym (ap or_accepted (behind_none r z none ∙ sym rest ∙ w.in-Some-2.is))
       | in-None w ↦ w.result-is ∙ sym (ap or_accepted (behind_none r z none ∙ sym rest ∙ w.in-None.is))
     ]

@@ -1,6 +1,5 @@
-use Rattle.std.proofs.Common.{◌≡◌, true, sym, ◌∙◌}
+use Rattle.std.proofs.Common.{◌∙◌}
 use Rattle.rank_papers.specs.ReportLines.{reported_in}
-use Rattle.rank_check.specs.Tests.{same_query}
 use Rattle.rank_check.proofs.Judging.{few_rows, number_decided, rows_decided, report_decided}
 use Rattle.rank_check.proofs.judge.report_fault.Goals as goal
 
@@ -14,8 +13,7 @@ returns c =
     let lent = c.as_slice-rows.ensures.value in
     let rows = c.as_slice-rows.result.now in
     let are = c.requires.found in
-    let same : same_query report.query q ≡ true = sym c.in_ok-is_same_query.ensures ∙ c.if-not-branch.false in
-    c.or.ensures ∙ report_decided q held (reported_in report) c.rows_fault.result c.number_fault-few.result same
+    c.or.ensures ∙ report_decided q held (reported_in report) c.rows_fault.result c.number_fault-few.result c.requires.same
     (rows_decided q held own rows lent c.args.found.now are c.stations.result.now c.rows_fault.result
     c.stations.ensures.stations c.rows_fault.ensures)
     (number_decided q held own rows lent c.args.found.now are c.number_fault-few.result

@@ -1,7 +1,7 @@
 use Rattle.std.proofs.Common.{sym, subst}
 use Rattle.rank_input.specs.Feeding.{AreAllOf}
 use Rattle.extremes.proofs.FedRuns.{judges-files, judges-memory}
-use Rattle.extremes.proofs.run.judge_files.Goals as goal
+use Rattle.extremes.proofs.files.judge_files.Goals as goal
 
 -- there is no room for a piece
 pub returns-in_default-piece_room : goal.returns-in_default-piece_room

@@ -1,5 +1,5 @@
 use Rattle.extremes.proofs.Delivering.{printed-nothing}
-use Rattle.extremes.proofs.run.print_answer.Goals as goal
+use Rattle.extremes.proofs.print.print_answer.Goals as goal
 
 -- behind a certificate that couldn't be written the report has no byte
 pub returns-in-CertificateFailed : goal.returns-in-CertificateFailed

@@ -1,0 +1,114 @@
+//! What a run prints, and how it ends then.
+
+ghost use Rattle.std.specs.Prelude.{◌≡◌};
+ghost use Rattle.extremes.specs.declared.ending.Ending.TheVariants as endings;
+ghost use Rattle.extremes.specs.Printed.{IsPrinted, IsReported, IsToldVerdict};
+
+use crate::delivery::{Delivery, deliver};
+use crate::ending::Ending;
+use crate::judge::ending;
+use crate::papers::Papers;
+use crate::rank::Ranked;
+use rank_check::Verdict;
+use rank_input::Fault;
+use std::fs::File;
+use std::io;
+use std::io::Write;
+use std::rt::Files;
+
+/// Prints what a ranking answers, and then frees its data.
+pub(crate) fn print_ranked<R: Files + Eprint, W: Write>(
+    rt: &R,
+    ranked: Ranked,
+    certificate: Option<&str>,
+    out: &mut W,
+) -> Ending
+    ensures { IsPrinted ranked.answer (W.contents out.old) (W.contents out.new) result }
+{
+    let Ranked { answer, held } = ranked;
+    let ending = print_answer(rt, answer, certificate, out);
+    drop(held);
+    ending
+}
+
+pub(crate) fn not_read<R: Eprint>(rt: &R, path: &str) -> Ending
+    ensures { result ≡ endings.File }
+{
+    let _ = eprintln!(rt; "file not read {path}");
+    Ending::File
+}
+
+pub(crate) fn refused<R: Eprint>(rt: &R, fault: Fault) -> Ending
+    ensures { result ≡ endings.Refused }
+{
+    let _ = eprintln!(rt; "{fault}");
+    Ending::Refused
+}
+
+pub(crate) fn not_written<R: Eprint>(rt: &R, path: &str) -> Ending
+    ensures { result ≡ endings.File }
+{
+    let _ = eprintln!(rt; "file not written {path}");
+    Ending::File
+}
+
+/// Prints the papers behind a word on what was passed over, or tells the fault. The certificate
+/// goes to the file of a path, where one is named, and the report behind it.
+pub fn print_answer<R: Files + Eprint, W: Write>(
+    rt: &R,
+    answer: Result<Papers, Fault>,
+    certificate: Option<&str>,
+    out: &mut W,
+) -> Ending
+    ensures { IsPrinted answer (W.contents out.old) (W.contents out.new) result }
+{
+    let papers = match answer {
+        Ok(papers) => papers,
+        Err(fault) => return refused(rt, fault),
+    };
+    let unlisted = papers.unlisted;
+    if unlisted > 0 {
+        let _ = eprintln!(rt; "unlisted {unlisted}");
+    }
+    match write_papers(rt, &papers, certificate, out) {
+        Delivery::Done => Ending::Done,
+        Delivery::CertificateFailed => not_written(rt, certificate.unwrap_or("-")),
+        Delivery::ReportFailed => not_written(rt, "-"),
+    }
+}
+
+/// Writes the certificate into the file of a path, where one is named, and then the report.
+fn write_papers<R: Files, W: Write>(
+    rt: &R,
+    papers: &Papers,
+    certificate: Option<&str>,
+    out: &mut W,
+) -> Delivery
+    ensures { IsReported papers.now (W.contents out.old) (W.contents out.new) result }
+{
+    let Some(path) = certificate else {
+        return deliver(papers, false, &mut io::sink(), out);
+    };
+    match File::create(rt, path) {
+        Ok(mut file) => deliver(papers, true, &mut file, out),
+        Err(_) => Delivery::CertificateFailed,
+    }
+}
+
+/// Prints a verdict, or tells the fault.
+pub(crate) fn print_verdict<R: Eprint, W: Write>(
+    rt: &R,
+    judged: Result<Verdict, Fault>,
+    out: &mut W,
+) -> Ending
+    ensures { IsToldVerdict judged (W.contents out.old) (W.contents out.new) result }
+{
+    let verdict = match judged {
+        Ok(verdict) => verdict,
+        Err(fault) => return refused(rt, fault),
+    };
+    match writeln!(out, "{verdict}") {
+        Ok(()) => ending(&verdict),
+        Err(_) => not_written(rt, "-"),
+    }
+}
