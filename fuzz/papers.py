@@ -1,4 +1,4 @@
-"""The two papers of a run, papers changed at random, and the verdict of `extremes check` on them, by
+"""The two papers of a run, papers changed at random, the verdict of `extremes check` on them, and merged papers, by
 docs/FORMATS.md and docs/CERTIFICATE.md alone."""
 import random
 import re
@@ -174,6 +174,111 @@ def papers(query_text, stations, daily, version=2):
     head = b"extremes certificate %d\nquery %s\nkth %s\n" % (version, query.text, shown)
     certificate = head + b"".join(series) + b"end %d\n" % len(series)
     return formats.report(query, everyone), certificate
+
+
+def head_fault(query, asked, rows, other, kth, series):
+    """What is wrong with the papers of a part that can be seen without data, None where nothing is."""
+    if not asked.text == other.text == query.text:
+        return "OtherQuery"
+    for i in range(1, len(rows)):
+        if formats.in_order(rows[i - 1]) >= formats.in_order(rows[i]):
+            return f"report line {3 + i} OutOfOrder"
+    if kth != (rows[-1].score if len(rows) == query.k else None):
+        return "OtherFloor"
+    for i in range(1, len(series)):
+        if series[i - 1][1] >= series[i][1]:
+            return f"certificate line {4 + i} NotRising"
+    scanned = {name for kind, name, _, _ in series if kind == b"scan"}
+    for i, it in enumerate(rows):
+        if it.id not in scanned:
+            return f"report line {3 + i} NotScanned"
+    for i, (_, name, _, count) in enumerate(series):
+        if count is not None and count != sum(it.id == name for it in rows):
+            return f"certificate line {4 + i} NotCounted"
+    return None
+
+
+def head_refusal(query, asked, rows, other, kth, series):
+    """The same as a part of the files says it: the paper, its line and why."""
+    fault = head_fault(query, asked, rows, other, kth, series)
+    if fault is None:
+        return None
+    if fault == "OtherQuery":
+        return "report" if asked.text != query.text else "certificate", (2, "OtherQuery")
+    if fault == "OtherFloor":
+        return "certificate", (3, "OtherFloor")
+    paper, _, line, why = fault.split()
+    return paper, (int(line), {"NotRising": "OtherSeries", "NotScanned": "NotACandidate"}.get(why, why))
+
+
+def line_fault(its, rows, worst, kind, limit):
+    """Why a line of a series with these candidates, of which the report has these rows, is refused."""
+    if any(row not in its for row in rows):
+        return "NotACandidate"
+    within = [it for it in its if not worst or it == worst or formats.in_order(it) < formats.in_order(worst)]
+    if any(it not in rows for it in within):
+        return "NotBest"
+    if any(it.score > limit for it in its):
+        return "NoBound"
+    return "NotBelow" if kind == b"skip" and not (worst and limit < worst.score) else None
+
+
+def part_verdict(query, found, report, certificate):
+    """What files with these series say of papers of a whole archive: how many series and how many lines there are, or
+    the paper that is refused, the line and why."""
+    forms = []
+    for name, read, text in (("report", read_report, report), ("certificate", read_certificate, certificate)):
+        try:
+            forms += read(text)
+        except Unlike as line:
+            return name, (line, "Form")
+    wrong = head_refusal(query, *forms)
+    if wrong:
+        return wrong
+    rows, series = forms[1], forms[4]
+    worst = rows[-1] if len(rows) == query.k else None
+    for i, (kind, name, limit, _) in enumerate(series):
+        if name in found:
+            why = line_fault(found[name], [it for it in rows if it.id == name], worst, kind, limit)
+            if why:
+                return "certificate", (4 + i, why)
+    if set(found) - {name for _, name, _, _ in series}:
+        return "certificate", (4 + len(series), "OtherSeries")
+    return len(found), len(series)
+
+
+def read_part(query, number, report, certificate):
+    """The rows and the lines of the papers of a part."""
+    forms = []
+    for paper, read, text in (("report", read_report, report), ("certificate", read_certificate, certificate)):
+        try:
+            forms += read(text)
+        except Unlike as line:
+            raise Refused(f"refused part {number} {paper} line {line} Bad{paper.capitalize()}") from None
+    fault = head_fault(query, *forms)
+    if fault:
+        raise Refused(f"refused part {number} {fault}")
+    return forms[1], forms[4]
+
+
+def merge(query_text, parts):
+    """The answer of `extremes merge`, and the certificate that it writes, None where it writes none."""
+    try:
+        query = formats.read_query(query_text)
+        read = [read_part(query, number, *it) for number, it in enumerate(parts, 1)]
+        series = sorted((it for _, its in read for it in its), key=lambda it: it[1])
+        for one, next in zip(series, series[1:]):
+            if one[1] == next[1]:
+                raise Refused(f"refused twice {one[1].decode()}")
+    except Refused as refusal:
+        return (1, b"", f"{refusal}\n".encode()), None
+    rows = sorted((it for its, _ in read for it in its), key=formats.in_order)
+    best = rows[:query.k]
+    kth = b"%d" % best[-1].score if len(best) == query.k else b"none"
+    shown = [b"%s %s %d%s\n" % (kind, name, limit, b" %d" % sum(it.id == name for it in best) if kind == b"scan" else b"")
+             for kind, name, limit, _ in series]
+    head = b"%squery %s\nkth %s\n" % (TITLE, query.text, kth)
+    return (0, formats.report(query, rows), b""), head + b"".join(shown) + b"end %d\n" % len(series)
 
 
 def changed_number(rng, line):

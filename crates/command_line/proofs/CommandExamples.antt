@@ -1,17 +1,17 @@
 -- The meaning of words that are written out.
-use Rattle.std.proofs.Common.{◌≡◌, List, [], ◌∷◌, Some, option_map, codes, refl}
+use Rattle.std.proofs.Common.{◌≡◌, List, [], ◌∷◌, Some, None, option_map, codes, refl}
 use Rattle.clap.specs.Words.{Text, fault_of, subcommand_of, first_of, one_of, all_of}
 use Rattle.clap.specs.declared.error.ErrorKind.TheVariants.{MissingRequiredArgument, ValueValidation}
 use Rattle.clap.proofs.OnLiterals.{clap_on_literals}
-use Rattle.command_line.specs.CommandLine.{extremes_app, AreRight}
+use Rattle.command_line.specs.CommandLine.{extremes_app, papers_of}
 
 -- a command line with both options, a guess and two files
 abbrev words : List Text
 words = codes "extremes" ∷ codes "rank" ∷ codes "a" ∷ codes "--query=q" ∷ codes "--stations" ∷ codes "s"
     ∷ codes "--guess=-3" ∷ codes "b" ∷ []
 
--- it is right
-right : AreRight words
+-- `clap` has no fault to tell
+right : fault_of extremes_app words ≡ []
 unfolding clap_on_literals
 right = refl
 
@@ -50,8 +50,8 @@ abbrev to_check : List Text
 to_check = codes "extremes" ∷ codes "check" ∷ codes "--query=q" ∷ codes "--stations=s" ∷ codes "--certificate=c"
     ∷ codes "--report" ∷ codes "r" ∷ codes "a" ∷ []
 
--- it is right
-check_right : AreRight to_check
+-- `clap` has no fault to tell
+check_right : fault_of extremes_app to_check ≡ []
 unfolding clap_on_literals
 check_right = refl
 
@@ -66,3 +66,77 @@ check_without : fault_of extremes_app (codes "extremes" ∷ codes "check" ∷ co
     ∷ codes "--report=r" ∷ []) ≡ MissingRequiredArgument ∷ []
 unfolding clap_on_literals
 check_without = refl
+
+-- its files aren't a part
+check_whole : option_map (λ p. one_of (codes "part") p.1) (subcommand_of extremes_app to_check)
+    ≡ Some (Some (codes "false"))
+unfolding clap_on_literals
+check_whole = refl
+
+-- a command line to check papers of a whole archive by a part of it
+abbrev to_check_part : List Text
+to_check_part = codes "extremes" ∷ codes "check" ∷ codes "--part" ∷ codes "--query=q" ∷ codes "--stations=s"
+    ∷ codes "--certificate=c" ∷ codes "--report=r" ∷ codes "a" ∷ []
+
+-- `clap` has no fault to tell
+check_part_right : fault_of extremes_app to_check_part ≡ []
+unfolding clap_on_literals
+check_part_right = refl
+
+-- its files are a part
+check_part : option_map (λ p. one_of (codes "part") p.1) (subcommand_of extremes_app to_check_part)
+    ≡ Some (Some (codes "true"))
+unfolding clap_on_literals
+check_part = refl
+
+-- and they are not the flag's value
+check_part_files : option_map (λ p. all_of (codes "files") p.1) (subcommand_of extremes_app to_check_part)
+    ≡ Some (Some (codes "a" ∷ []))
+unfolding clap_on_literals
+check_part_files = refl
+
+-- a command line to merge the papers of two parts
+abbrev to_merge : List Text
+to_merge = codes "extremes" ∷ codes "merge" ∷ codes "r" ∷ codes "c" ∷ codes "--query=q" ∷ codes "s" ∷ codes "d" ∷ []
+
+-- `clap` has no fault to tell
+merge_read : fault_of extremes_app to_merge ≡ []
+unfolding clap_on_literals
+merge_read = refl
+
+-- its papers are those four, in order
+merge_papers : option_map (λ p. papers_of p.1) (subcommand_of extremes_app to_merge)
+    ≡ Some (codes "r" ∷ codes "c" ∷ codes "s" ∷ codes "d" ∷ [])
+unfolding clap_on_literals
+merge_papers = refl
+
+-- it names no certificate to write
+merge_writes : option_map (λ p. first_of (codes "certificate") p.1) (subcommand_of extremes_app to_merge) ≡ Some None
+unfolding clap_on_literals
+merge_writes = refl
+
+-- without papers there are none
+no_papers : option_map (λ p. papers_of p.1)
+    (subcommand_of extremes_app (codes "extremes" ∷ codes "merge" ∷ codes "--query=q" ∷ [])) ≡ Some []
+unfolding clap_on_literals
+no_papers = refl
+
+-- papers can't be merged without a query
+merge_without : fault_of extremes_app (codes "extremes" ∷ codes "merge" ∷ codes "r" ∷ codes "c" ∷ [])
+    ≡ MissingRequiredArgument ∷ []
+unfolding clap_on_literals
+merge_without = refl
+
+-- a command line with a report alone
+abbrev odd : List Text
+odd = codes "extremes" ∷ codes "merge" ∷ codes "--query=q" ∷ codes "r" ∷ []
+
+-- `clap` has no fault to tell of it
+odd_read : fault_of extremes_app odd ≡ []
+unfolding clap_on_literals
+odd_read = refl
+
+-- its subcommand has that one paper
+odd_papers : option_map (λ p. papers_of p.1) (subcommand_of extremes_app odd) ≡ Some (codes "r" ∷ [])
+unfolding clap_on_literals
+odd_papers = refl

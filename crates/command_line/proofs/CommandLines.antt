@@ -1,19 +1,25 @@
 -- What is read of a parse, by the words of its meaning.
 use Rattle.std.proofs.Common.{◌≡◌, Bool, true, false, List, ◌∷◌, Option, Some, None, IsSomeAnd, unwrap_or, option_map}
-use Rattle.std.proofs.Common.{is_some, codes, refl, sym, ap, ap₂, ◌∙◌, ◌⊎◌, inl, inr, ◌||◌}
+use Rattle.std.proofs.Common.{is_some, codes, refl, sym, ap, ap₂, subst, arith, length, ◌%◌, map, get_or, ◌∙◌, ◌⊎◌, inl, inr, ◌||◌}
 use Rattle.std.specs.Prelude.{Box, if◌then◌else◌, ℤ, ℕ, [], Result, Ok, Err}
 use Rattle.std.specs.Box.{box_value}
+use Rattle.std.proofs.lemmas.List.{length-map}
+use denote.Ref.{Bor}
 use Rattle.std.specs.Int.{w64}
 use Rattle.std.specs.Str.Parse.{ParsesSigned, ParsesUnsigned}
 use Rattle.clap.specs.declared.builder.ValueParser.{ValueParser}
-use Rattle.clap.specs.Words.{Row, Rule, Text, Shape, Kinds, IsAmong, ReadsOne, subcommand_of, subcommand_rows}
+use Rattle.clap.specs.Words.{Row, Rule, Text, Shape, Kinds, IsAmong, ReadsOne, fault_of, subcommand_of, subcommand_rows}
 use Rattle.clap.specs.declared.error.ErrorKind.{ErrorKind}
 use Rattle.clap.specs.declared.error.ErrorKind.TheVariants.{OutOfMemory}
 use Rattle.clap.specs.Walk.{answers_to, stop_after}
 use Rattle.clap.specs.Simple.{argument_words, built, entered, names_of, rows_at}
 use Rattle.clap.specs.declared.parser.matches.SubCommand.{SubCommand}
 use Rattle.clap.specs.declared.parser.matches.ArgMatches.TheViews.{out-SubCommand}
-use Rattle.command_line.specs.CommandLine.{extremes_app, IsGuess, IsCount}
+use Rattle.command_line.specs.declared.asked.Part.{Part}
+use Rattle.command_line.specs.declared.asked.Command.{Command}
+use Rattle.command_line.specs.declared.asked.Command.TheVariants.{Sample, Rank, Merge, Check}
+use Rattle.command_line.specs.CommandLine.{extremes_app, paths_of, papers_of, AreInPairs, IsGuess, IsCount, IsFlag}
+use Rattle.command_line.specs.CommandLine.{IsCommand, IsCommandOf}
 
 -- what is some value is it
 pub some_is : {X : Type 0} (o : Option X) (v : X) → IsSomeAnd o (λ r. r ≡ v) → o ≡ Some v
@@ -45,24 +51,33 @@ only_memory k [] none (inl memory) = memory
 only_memory k [] none (inr among) = absurd among
 only_memory k (x ∷ xs) none has = absurd cc
 
--- of two subcommands only their names can be met
-one_of_two : (s t : Shape) (p : Text × List Text) (r : Text × List Row) (first second : Bool)
-    → option_map (λ (u : Shape). rows_at u p.1) (if first then Some s else (if second then Some t else None)) ≡ Some r
-    → (r.0 ≡ s.name) ⊎ (r.0 ≡ t.name)
-one_of_two s t p r true second e = inl (ap (λ (q : Option (Text × List Row)). (unwrap_or q r).0) (sym e))
-one_of_two s t p r false true e = inr (ap (λ (q : Option (Text × List Row)). (unwrap_or q r).0) (sym e))
-one_of_two s t p r false false e = absurd cc
+-- of three subcommands only their names can be met
+one_of_three : (s t u : Shape) (p : Text × List Text) (r : Text × List Row) (first second third : Bool)
+    → option_map (λ (v : Shape). rows_at v p.1)
+    (if first then Some s else (if second then Some t else (if third then Some u else None))) ≡ Some r
+    → (r.0 ≡ s.name) ⊎ ((r.0 ≡ t.name) ⊎ (r.0 ≡ u.name))
+one_of_three s t u p r true second third e = inl (ap (λ (q : Option (Text × List Row)). (unwrap_or q r).0) (sym e))
+one_of_three s t u p r false true third e =
+    inr (inl (ap (λ (q : Option (Text × List Row)). (unwrap_or q r).0) (sym e)))
+one_of_three s t u p r false false true e =
+    inr (inr (ap (λ (q : Option (Text × List Row)). (unwrap_or q r).0) (sym e)))
+one_of_three s t u p r false false false e = absurd cc
 
--- a subcommand that the program's words meet is `rank` or `check`
+-- it is one of the three names
+abbrev pub IsOneOf : Text → Text → Text → Text → Type 0
+IsOneOf a b c name = (name ≡ a) ⊎ ((name ≡ b) ⊎ (name ≡ c))
+
+-- a subcommand that the program's words meet is `rank`, `merge` or `check`
 met_name : (stop : Option (Text × List Text)) (r : Text × List Row) → entered (built extremes_app) stop ≡ Some r
-    → (r.0 ≡ codes "rank") ⊎ (r.0 ≡ codes "check")
+    → IsOneOf (codes "rank") (codes "merge") (codes "check") r.0
 met_name None r e = absurd cc
-met_name (Some p) r e = one_of_two _ _ p r (answers_to p.0 (codes "rank", [])) (answers_to p.0 (codes "check", [])) e
+met_name (Some p) r e = one_of_three _ _ _ p r (answers_to p.0 (codes "rank", []))
+    (answers_to p.0 (codes "merge", [])) (answers_to p.0 (codes "check", [])) e
 
 -- so is one that is met anywhere in them
-pub only_two : (words : List Text) (r : Text × List Row) → subcommand_of extremes_app words ≡ Some r
-    → (r.0 ≡ codes "rank") ⊎ (r.0 ≡ codes "check")
-only_two words r e =
+pub only_three : (words : List Text) (r : Text × List Row) → subcommand_of extremes_app words ≡ Some r
+    → IsOneOf (codes "rank") (codes "merge") (codes "check") r.0
+only_three words r e =
     met_name (stop_after (built extremes_app).top.rules (names_of (built extremes_app))
     (argument_words extremes_app words)) r e
 
@@ -70,14 +85,17 @@ only_two words r e =
 abbrev pub name_met : {Z : Type 0} → Option (Box SubCommand Z) → Option Text
 name_met o = option_map (λ b. (out-SubCommand (box_value b)).name.now) o
 
--- where one was met that can only be of two names, it has one of them
-pub met_one : {Z : Type 0} (o : Option (Box SubCommand Z)) (t : Option (Text × List Row)) (a b : Text)
-    → is_some o ≡ true → subcommand_rows o ≡ t → ((r : Text × List Row) → t ≡ Some r → (r.0 ≡ a) ⊎ (r.0 ≡ b))
-    → (name_met o ≡ Some a) ⊎ (name_met o ≡ Some b)
-met_one None t a b some e only = absurd cc
-met_one (Some s) t a b some e only = elim (only _ (sym e)) [
+-- where one was met that can only be of three names, it has one of them
+pub met_one : {Z : Type 0} (o : Option (Box SubCommand Z)) (t : Option (Text × List Row)) (a b c : Text)
+    → is_some o ≡ true → subcommand_rows o ≡ t → ((r : Text × List Row) → t ≡ Some r → IsOneOf a b c r.0)
+    → (name_met o ≡ Some a) ⊎ ((name_met o ≡ Some b) ⊎ (name_met o ≡ Some c))
+met_one None t a b c some e only = absurd cc
+met_one (Some s) t a b c some e only = elim (only _ (sym e)) [
   | inl is ↦ inl (ap (λ (n : Text). Some n) is)
-  | inr is ↦ inr (ap (λ (n : Text). Some n) is)
+  | inr others ↦ elim others [
+    | inl is ↦ inr (inl (ap (λ (n : Text). Some n) is))
+    | inr is ↦ inr (inr (ap (λ (n : Text). Some n) is))
+  ]
 ]
 
 -- one that was met by a name, and the rows behind it
@@ -87,6 +105,60 @@ met_rows None name rows is behind = absurd cc
 met_rows (Some s) name rows is behind =
     ap₂ (λ (a : Text) (b : List Row). Some (a, b)) (ap (λ (q : Option Text). unwrap_or q name) is)
     (ap (λ (q : Option (List Row)). unwrap_or q rows) behind)
+
+-- two that are met as one have one name and the same rows
+met_same : (a b : Text) (rows others : List Row)
+    → ◌≡◌ {A = Option (Text × List Row)} (Some (a, rows)) (Some (b, others)) → (a ≡ b) × (rows ≡ others)
+met_same a b rows others e = (
+  ap (λ (q : Option (Text × List Row)). (unwrap_or q (a, rows)).0) e,
+  ap (λ (q : Option (Text × List Row)). (unwrap_or q (a, rows)).1) e,
+)
+
+-- parts have two papers each
+pub paths-even : (parts : List Part) → length (paths_of parts) % 2 ≡ 0
+paths-even [] = refl
+paths-even (p ∷ ps) = let rest = paths-even ps in omega (arith, rest)
+
+-- equal texts begin alike
+first_code : (a : ℕ) (more bs : List ℕ) → a ∷ more ≡ bs → a ≡ get_or bs 0 a
+first_code a more bs e = ap (λ (t : List ℕ). get_or t 0 a) e
+
+-- so the papers of a command that merges stand in pairs
+merges-pairs : (name : Text) (rows : List Row) (c : Command) → IsCommand name rows c → name ≡ codes "merge"
+    → AreInPairs rows
+merges-pairs name rows c (inl is) e = let bad : 109 ≡ 114 = first_code _ _ _ (sym e ∙ is.0) in absurd (omega (arith, bad))
+merges-pairs name rows c (inr (inr is)) e = let bad : 109 ≡ 99 = first_code _ _ _ (sym e ∙ is.0) in absurd (omega (arith, bad))
+merges-pairs name rows Sample (inr (inl is)) e = absurd is.1
+merges-pairs name rows (Rank stations query workers guess certificate files) (inr (inl is)) e = absurd is.1
+merges-pairs name rows (Check stations query report certificate part files) (inr (inl is)) e = absurd is.1
+merges-pairs name rows (Merge query certificate parts) (inr (inl is)) e =
+    ap (λ (ps : List Text). length ps % 2) (sym is.1.2) ∙ paths-even parts.items
+
+-- words without a fault in which a subcommand was met by this name, with these rows behind it, name the command that
+-- is read of the rows
+pub command-met : {Z : Type 0} (words : List Text) (o : Option (Box SubCommand Z)) (name : Text) (rows : List Row)
+    (c : Command) → fault_of extremes_app words ≡ [] → subcommand_rows o ≡ subcommand_of extremes_app words
+    → name_met o ≡ Some name → option_map (λ p. p.1) (subcommand_rows o) ≡ Some rows → IsCommand name rows c
+    → IsCommandOf words c
+command-met words o name rows c read rows_are met behind is =
+    let entered : subcommand_of extremes_app words ≡ Some (name, rows) = sym rows_are ∙ met_rows o name rows met behind in
+    record {
+      name = name;
+      rows = rows;
+      right = record {
+        read = read;
+        paired = λ others e. let same = met_same name (codes "merge") rows others (sym entered ∙ e) in
+            subst AreInPairs same.1 (merges-pairs name rows c is same.0);
+      };
+      entered = entered;
+      named = is;
+    }
+
+-- so do papers that are lent, where those of the rows do
+pub lent-pairs : (papers : List (Bor Text)) (rows : List Row) → map (λ s. s.now) papers ≡ papers_of rows
+    → AreInPairs rows → length papers % 2 ≡ 0
+lent-pairs papers rows same pairs =
+    ap (λ (n : ℕ). n % 2) (sym (length-map papers (λ (s : Bor Text). s.now)) ∙ ap (λ (ts : List Text). length ts) same) ∙ pairs
 
 -- what is read of the text of a guess is the number that it writes
 pub guess_read : {E : Type 0} (gives : List ℕ → Result ℤ E → Type 0)
@@ -104,3 +176,10 @@ pub count_read : {E : Type 0} (gives : List ℕ → Result ℕ E → Type 0)
 count_read gives parses None count none value = none refl
 count_read gives parses (Some t) None none value = let r = value t refl in parses t (Err r.0) r.1
 count_read gives parses (Some t) (Some n) none value = let r = parses t (Ok n) (value t refl) in (r.0.0, r.1)
+
+-- what is read of the text of a flag is what the text says
+pub flag_read : (text : Option Text) (on : Bool) → (text ≡ None → on ≡ false)
+    → (text ≡ Some (codes "true") → on ≡ true) → (text ≡ Some (codes "false") → on ≡ false) → IsFlag text on
+flag_read None on none if_true if_false = none refl
+flag_read (Some t) on none if_true if_false =
+    (λ e. if_true (ap (λ (x : Text). Some x) e), λ e. if_false (ap (λ (x : Text). Some x) e))

@@ -1,8 +1,9 @@
 -- What the words of a command line ask for, in `clap`'s words.
-use Rattle.std.specs.Prelude.{◌≡◌, ◌⊎◌, List, [], ◌∷◌, map, codes, Option, Some, None, unwrap_or, Bool, true}
+use Rattle.std.specs.Prelude.{◌≡◌, ◌⊎◌, List, [], ◌∷◌, map, codes, Option, Some, None, unwrap_or, Bool, true, false}
 use Rattle.std.specs.Prelude.{String, string_bytes}
-use Rattle.std.specs.Prelude.{ℕ, ◌<◌, ◌^◌, ℤ, pos, negsuc, FitsSigned}
+use Rattle.std.specs.Prelude.{length, ◌%◌, ℕ, ◌<◌, ◌^◌, ℤ, pos, negsuc, FitsSigned}
 use Rattle.std.specs.Option.{option_map}
+use Rattle.std.specs.List.{flat_map}
 use Rattle.clap.specs.declared.builder.Arg.{Arg}
 use Rattle.std.specs.Int.{w64}
 use Rattle.std.specs.Str.Parse.{IsNumeral, without_leading_sign, without_leading_plus, signed_digits_value}
@@ -10,17 +11,22 @@ use Rattle.std.specs.Str.Parse.{digits_value}
 use Rattle.clap.specs.Words.{App, Row, Rule, Text, all_of, first_of, one_of, new_app, new_rule, subcommand_of}
 use Rattle.clap.specs.Words.{with_rule, with_subcommand, fault_of}
 use Rattle.clap.specs.Lexer.{usize_max}
-use Rattle.clap.specs.declared.builder.ArgAction.TheVariants.{Set, Append}
+use Rattle.clap.specs.declared.builder.ArgAction.TheVariants.{Set, SetTrue, Append}
 use Rattle.clap.specs.declared.builder.ValueParser.{ValueParser}
 use Rattle.clap.specs.declared.builder.ValueParser.TheVariants.{Signed, Unsigned}
+use Rattle.command_line.specs.declared.asked.Part.{Part}
 use Rattle.command_line.specs.declared.asked.Command.{Command}
-use Rattle.command_line.specs.declared.asked.Command.TheVariants.{Sample, Rank, Check}
+use Rattle.command_line.specs.declared.asked.Command.TheVariants.{Sample, Rank, Merge, Check}
 
 -- `--NAME VALUE`: an option with one value, which may be given once
 abbrev pub option_of : Text → Rule
 option_of name = record (new_rule name) { long = Some name; value_names = 1; action = Some Set }
 
--- the same, which must be given
+-- `--NAME`: a flag, which may be given once
+abbrev pub flag_of : Text → Rule
+flag_of name = record (new_rule name) { long = Some name; action = Some SetTrue }
+
+-- an option which must be given
 abbrev pub required : Rule → Rule
 required rule = record rule { required = true }
 
@@ -40,9 +46,9 @@ whole_number = Signed (negsuc 9223372036854775807) (pos 9223372036854775807)
 abbrev pub whole_count : ValueParser
 whole_count = Unsigned 0 18446744073709551615
 
--- the files behind them, as many as there are
-abbrev pub files_rule : Rule
-files_rule = record (new_rule (codes "files")) {
+-- what stands behind them under a name, as many as there are
+abbrev pub many_of : Text → Rule
+many_of name = record (new_rule name) {
   range = Some (record { start_inclusive = 0; end_inclusive = usize_max });
   value_names = 1;
   action = Some Append;
@@ -55,29 +61,45 @@ rank_app = with_rule (with_rule (with_rule (with_rule (with_rule (with_rule (new
     (required (option_of (codes "query"))))
     (parsed whole_count (option_of (codes "workers"))))
     (parsed whole_number (option_of (codes "guess"))))
-    (option_of (codes "certificate"))) files_rule
+    (option_of (codes "certificate"))) (many_of (codes "files"))
 
--- `check` with its options, all of which must be given, and files
+-- `merge` with its options, of which the query must be given, and papers
+abbrev pub merge_app : App
+merge_app = with_rule (with_rule (with_rule (new_app (codes "merge"))
+    (required (option_of (codes "query"))))
+    (option_of (codes "certificate"))) (many_of (codes "papers"))
+
+-- `check` with its options, all of which must be given, its flag and files
 abbrev pub check_app : App
-check_app = with_rule (with_rule (with_rule (with_rule (with_rule (new_app (codes "check"))
+check_app = with_rule (with_rule (with_rule (with_rule (with_rule (with_rule (new_app (codes "check"))
     (required (option_of (codes "stations"))))
     (required (option_of (codes "query"))))
     (required (option_of (codes "report"))))
-    (required (option_of (codes "certificate")))) files_rule
+    (required (option_of (codes "certificate"))))
+    (flag_of (codes "part"))) (many_of (codes "files"))
 
--- the program's command line: it has the subcommands `rank` and `check`, and needs one
+-- the program's command line: it has the subcommands `rank`, `merge` and `check`, and needs one
 abbrev pub extremes_app : App
-extremes_app = with_subcommand (with_subcommand (record (new_app (codes "extremes")) {
+extremes_app = with_subcommand (with_subcommand (with_subcommand (record (new_app (codes "extremes")) {
   top = record (new_app (codes "extremes")).top { subcommand_required = true; disable_help_subcommand = true };
-}) rank_app.top) check_app.top
+}) rank_app.top) merge_app.top) check_app.top
 
 -- all words, the program's name first
 abbrev pub words_of : {A : Type 0} → List (String A) → List Text
 words_of words = codes "extremes" ∷ map (λ w. string_bytes w) words
 
--- the words are a right command line: `clap` has no fault to tell
-abbrev pub AreRight : List Text → Type 0
-AreRight words = fault_of extremes_app words ≡ []
+-- the papers that `merge` is given, in their order
+abbrev pub papers_of : List Row → List Text
+papers_of rows = unwrap_or (all_of (codes "papers") rows) []
+
+-- there are two of each part
+abbrev pub AreInPairs : List Row → Type 0
+AreInPairs rows = length (papers_of rows) % 2 ≡ 0
+
+-- the words are a right command line: `clap` has no fault to tell, and papers to merge stand in pairs
+pub record AreRight (words : List Text) : Type 0 where
+  pub read : fault_of extremes_app words ≡ []
+  pub paired : (rows : List Row) → subcommand_of extremes_app words ≡ Some (codes "merge", rows) → AreInPairs rows
 
 -- the guess is the number of 64 bits that the text writes; there is none where no text is given
 abbrev pub IsGuess : Option Text → Option ℤ → Type 0
@@ -97,10 +119,16 @@ IsCount (Some text) (Some number) =
 abbrev pub AreWorkers : Option Text → ℕ → Type 0
 AreWorkers text workers = (given : Option ℕ) × IsCount text given × (workers ≡ unwrap_or given 4)
 
+-- a flag is on where its text is `true`, which it is given where the flag stands, and off where it is `false` or none
+abbrev pub IsFlag : Option Text → Bool → Type 0
+IsFlag None on = on ≡ false
+IsFlag (Some text) on = (text ≡ codes "true" → on ≡ true) × (text ≡ codes "false" → on ≡ false)
+
 -- the command has the options and files of a subcommand's matches
 abbrev pub IsRank : List Row → Command → Type 0
 IsRank rows Sample = ⊥
-IsRank rows (Check stations query report certificate files) = ⊥
+IsRank rows (Merge query certificate parts) = ⊥
+IsRank rows (Check stations query report certificate part files) = ⊥
 IsRank rows (Rank stations query workers guess certificate files) =
     (string_bytes stations ≡ unwrap_or (first_of (codes "stations") rows) [])
     × (string_bytes query ≡ unwrap_or (first_of (codes "query") rows) [])
@@ -109,20 +137,37 @@ IsRank rows (Rank stations query workers guess certificate files) =
     × (option_map (λ s. string_bytes s) certificate ≡ first_of (codes "certificate") rows)
     × (map (λ s. string_bytes s) files.items ≡ unwrap_or (all_of (codes "files") rows) [])
 
+-- the paths of the papers of parts, those of a part side by side
+abbrev pub paths_of : List Part → List Text
+paths_of parts = flat_map (λ p. string_bytes p.report ∷ string_bytes p.certificate ∷ []) parts
+
+-- the same for a subcommand that merges papers
+abbrev pub IsMerge : List Row → Command → Type 0
+IsMerge rows Sample = ⊥
+IsMerge rows (Rank stations query workers guess certificate files) = ⊥
+IsMerge rows (Check stations query report certificate part files) = ⊥
+IsMerge rows (Merge query certificate parts) =
+    (string_bytes query ≡ unwrap_or (first_of (codes "query") rows) [])
+    × (option_map (λ s. string_bytes s) certificate ≡ first_of (codes "certificate") rows)
+    × (paths_of parts.items ≡ papers_of rows)
+
 -- the same for a subcommand that judges papers
 abbrev pub IsCheck : List Row → Command → Type 0
 IsCheck rows Sample = ⊥
+IsCheck rows (Merge query certificate parts) = ⊥
 IsCheck rows (Rank stations query workers guess certificate files) = ⊥
-IsCheck rows (Check stations query report certificate files) =
+IsCheck rows (Check stations query report certificate part files) =
     (string_bytes stations ≡ unwrap_or (first_of (codes "stations") rows) [])
     × (string_bytes query ≡ unwrap_or (first_of (codes "query") rows) [])
     × (string_bytes report ≡ unwrap_or (first_of (codes "report") rows) [])
     × (string_bytes certificate ≡ unwrap_or (first_of (codes "certificate") rows) [])
+    × IsFlag (one_of (codes "part") rows) part
     × (map (λ s. string_bytes s) files.items ≡ unwrap_or (all_of (codes "files") rows) [])
 
--- the command is that of the subcommand of this name, `rank` or `check`
+-- the command is that of the subcommand of this name, `rank`, `merge` or `check`
 abbrev pub IsCommand : Text → List Row → Command → Type 0
-IsCommand name rows c = ((name ≡ codes "rank") × IsRank rows c) ⊎ ((name ≡ codes "check") × IsCheck rows c)
+IsCommand name rows c = ((name ≡ codes "rank") × IsRank rows c)
+    ⊎ (((name ≡ codes "merge") × IsMerge rows c) ⊎ ((name ≡ codes "check") × IsCheck rows c))
 
 -- the words are right and name a subcommand, and the command has what `clap` reads behind it
 pub record IsCommandOf (words : List Text) (c : Command) : Type 0 where

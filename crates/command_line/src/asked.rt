@@ -1,5 +1,7 @@
 //! What a command line asks for.
 
+use std::alloc::AllocError;
+
 /// A command of the program.
 #[derive(Debug, Drop)]
 pub enum Command {
@@ -17,14 +19,30 @@ pub enum Command {
         certificate: Option<String>,
         files: Vec<String>,
     },
+    /// Merge the papers of parts into those of all files. No data is read.
+    Merge {
+        query: String,
+        /// Where the certificate goes, if it is wanted.
+        certificate: Option<String>,
+        parts: Vec<Part>,
+    },
     /// Judge a report and a certificate over files, named by their paths.
     Check {
         stations: String,
         query: String,
         report: String,
         certificate: String,
+        /// Whether the files are a part of those that the papers are of.
+        part: bool,
         files: Vec<String>,
     },
+}
+
+/// The papers of a part, named by their paths.
+#[derive(Debug, Drop)]
+pub struct Part {
+    pub report: String,
+    pub certificate: String,
 }
 
 /// Why a command line isn't a command.
@@ -34,4 +52,15 @@ pub enum CommandFault {
     Words(String),
     /// Memory was refused.
     Memory,
+}
+
+impl From<AllocError> for CommandFault {
+    ghost use Rattle.std.specs.Prelude.{◌≡◌};
+    ghost use Rattle.command_line.specs.declared.asked.CommandFault.TheVariants.{Memory};
+
+    ghost from_gives = { λ _ fault. fault ≡ Memory };
+
+    fn from(_refused: AllocError) -> Self {
+        CommandFault::Memory
+    }
 }

@@ -13,7 +13,7 @@ pub const GUESS_HELP: &str =
 
 /// Behind `--workers`.
 pub const WORKERS_HELP: &str =
-    "How many threads look for records, 1 to 64; 4 where it isn't given. Below 16 MB of
+    "How many threads look for records, 1 to 64; 4 where it isn't given. Below 16 MiB of
           daily files there is one";
 
 /// Behind `--certificate` of `rank`.
@@ -21,16 +21,45 @@ pub const CERTIFICATE_HELP: &str =
     "A file to write the certificate to, none of those that are read: a line for each station
           series that the query asks about, with a bound on its records";
 
+/// Behind `--certificate` of `merge`.
+pub const MERGED_CERTIFICATE_HELP: &str =
+    "A file to write the certificate of all files to, none of the papers that are read";
+
+/// Behind `--part`.
+pub const PART_HELP: &str = "The files are of some stations alone, the papers of a whole archive";
+
+/// Behind the daily files.
+pub const FILES_HELP: &str = "Daily files, .dly, uncompressed";
+
+/// Behind the papers to merge.
+pub const PAPERS_HELP: &str = "The report and the certificate of a part, then those of the next";
+
 /// The forms of a command line.
 pub const USAGE: &str = "extremes rank --stations <FILE> --query <QUERY> [FILE]...
-       extremes check --stations <FILE> --query <QUERY> --report <FILE> --certificate <FILE> [FILE]...
+       extremes merge --query <QUERY> [--certificate <OUT>] [REPORT CERTIFICATE]...
+       extremes check [--part] --stations <FILE> --query <QUERY> --report <FILE> --certificate <FILE> [FILE]...
        extremes rank --help
+       extremes merge --help
        extremes check --help";
+
+/// The form of a command line of `merge`.
+pub const MERGE_USAGE: &str =
+    "extremes merge --query <QUERY> [--certificate <OUT>] [REPORT CERTIFICATE]...";
+
+/// What is shown where the papers to merge are odd in number, in the form of the parser's own texts.
+pub const ODD_PAPERS: &str =
+    "error: the papers stand in pairs, a report and its certificate, and the last is alone
+
+Usage: extremes merge --query <QUERY> [--certificate <OUT>] [REPORT CERTIFICATE]...
+
+For more information, try '--help'.
+";
 
 /// Below the subcommands.
 pub const HELP: &str =
     "'extremes rank --help' has the queries, their elements and units, the exit statuses
-and what each refusal means; 'extremes check --help' has the verdicts on papers.";
+and what each refusal means; 'extremes merge --help' has how an archive is ranked in parts;
+'extremes check --help' has the verdicts on papers.";
 
 /// Below the options of `rank`: queries, units, statuses and refusals.
 pub const RANK_HELP: &str = "Queries:
@@ -90,6 +119,43 @@ WHY is the first test that the line fails. In the station list: Short, BadId, Ba
 BadLongitude, BadElevation, Duplicate. In a daily file: Short, TooLong, BadId, BadYear, BadMonth,
 BadValue DAY, DuplicateMonth.";
 
+/// Below the options of `merge`: what it is for, faults and statuses.
+pub const MERGE_HELP: &str =
+    "Merges the papers of parts into the papers of the whole, and looks at no data. An archive is cut by
+stations into parts. Each part is ranked by a run of its own, with a certificate. All of them need
+the same station list, the same query and the same program, and no station may be in two parts. The
+merged report is the one of a single run over all files, byte for byte, and the merged certificate
+is right for all files, if the papers of each part are right for its files and the files together
+have no fault. Without papers the answer is that of no data.
+The papers don't hold the numbers that 'rank' tells as 'unlisted'. Those of the parts add up to that
+of the whole. 'merge' can't tell whether a part's papers are right for its files: 'extremes check'
+judges the merged papers over all files. Merged papers can be merged again.
+Example:
+  extremes rank --stations ghcnd-stations.txt --query 'top 10 highest TMAX' \\
+      --certificate 1.certificate GM*.dly > 1.report
+  extremes rank --stations ghcnd-stations.txt --query 'top 10 highest TMAX' \\
+      --certificate 2.certificate US*.dly > 2.report
+  extremes merge --query 'top 10 highest TMAX' --certificate all.certificate \\
+      1.report 1.certificate 2.report 2.certificate > all.report
+Refusals, the first of them (P counts the parts and L the lines of a paper, all from 1):
+  refused part P report line L BadReport            the line isn't of the form of its place
+  refused part P certificate line L BadCertificate  the line isn't of the form of its place
+  refused part P OtherQuery                         a paper of the part has another query
+  refused part P report line L OutOfOrder           the row before it doesn't precede it
+  refused part P OtherFloor                         the k-th score isn't the one of the report's rows
+  refused part P certificate line L NotRising       the ID isn't above the one of the line before
+  refused part P report line L NotScanned           no series of the row's station was scanned
+  refused part P certificate line L NotCounted      the number behind the bound isn't that of the
+                                                    report's rows of the station
+  refused twice ID                                  the station has lines in two certificates
+  refused 3 Memory                                  the system gave no more memory
+A query's fault is told before any of them, as by 'rank'.
+Exit statuses:
+  0        done: the report is on standard output
+  1        refused: one line on standard error says why
+  2        the words are no command, or ask for help, or the papers are odd in number
+  3        a paper can't be read, or the report or the certificate can't be written";
+
 /// Below the options of `check`: verdicts and statuses.
 pub const CHECK_HELP: &str =
     "Judges the papers of a ranking, whoever made them, from the files alone. The verdict is one line on
@@ -97,7 +163,7 @@ standard output:
 
   accepted                            the report is the right one, and the certificate a right one
   refused report line L WHY           line L of the report is the first that fails a test
-  refused certificate line L WHY      the report is right, and line L of the certificate isn't
+  refused certificate line L WHY      line L of the certificate is the first that fails a test
 
 WHY, in the order of the tests:
   Form             the line isn't of the form of its place
@@ -112,9 +178,22 @@ WHY, in the order of the tests:
   NotBelow         a series is passed over whose bound isn't strictly below the k-th score
   NotCounted       the number behind the bound isn't that of the report's rows of the station
 
-Example:
+With --part the papers are of a whole archive, and the files those of some of its stations. Tested is
+what can be seen without data, and then the lines of these files' series. The verdict is
+
+  accepted N of M                     no test fails: these files have N series that the query asks
+                                      about, and the certificate has M lines
+
+or the refusal of the first line that fails a test. A series of these files without a line is
+OtherSeries at the certificate's end line. The papers are right for the whole archive if each of its
+parts accepts them, the N of all parts add up to M, no station is in two parts and the files together
+have no fault. All parts need the same station list, the same query and the same papers.
+
+Examples:
   extremes check --stations ghcnd-stations.txt --query 'top 10 highest TMAX' \\
       --report report.txt --certificate certificate.txt *.dly
+  extremes check --part --stations ghcnd-stations.txt --query 'top 10 highest TMAX' \\
+      --report report.txt --certificate certificate.txt GM*.dly
 
 Exit statuses:
   0        accepted

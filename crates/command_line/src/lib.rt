@@ -7,5 +7,5 @@ mod asked;
 mod help;
 mod words;
 
-pub use asked::{Command, CommandFault};
+pub use asked::{Command, CommandFault, Part};
 pub use words::command;

@@ -1,17 +1,19 @@
 //! Reading the words of a command line.
 
-ghost use Rattle.std.specs.Prelude.{◌≡◌, ◌≢◌, IfOk, IfErr, [], Ok, map, option_map, unwrap_or, false, string_bytes};
+ghost use Rattle.std.specs.Prelude.{◌≡◌, ◌≢◌, IfOk, IfErr, [], Ok, map, option_map, unwrap_or, false, string_bytes, length, ◌%◌};
 ghost use Rattle.clap.specs.Words.{app_of, first_of, kind_of, found_of, rows_of, rule_of};
 ghost use Rattle.clap.specs.declared.builder.Command.TheViews.{out-Command as fields_of};
-ghost use Rattle.command_line.specs.CommandLine.{extremes_app, rank_app, check_app, option_of, required, files_rule};
-ghost use Rattle.command_line.specs.CommandLine.{is_global, words_of, AreRight, IsCommandOf, IsRank, IsCheck};
+ghost use Rattle.command_line.specs.CommandLine.{extremes_app, rank_app, merge_app, check_app};
+ghost use Rattle.command_line.specs.CommandLine.{option_of, flag_of, required, many_of, is_global, paths_of};
+ghost use Rattle.command_line.specs.CommandLine.{words_of, AreRight, AreInPairs, IsCommandOf, IsRank, IsMerge, IsCheck};
 ghost use Rattle.command_line.specs.declared.asked.Command.TheVariants as commands;
 ghost use Rattle.command_line.specs.declared.asked.CommandFault.TheVariants as faults;
 
-use crate::asked::{Command, CommandFault};
+use crate::asked::{Command, CommandFault, Part};
 use crate::help::{
-    CERTIFICATE_HELP, CHECK_HELP, GUESS_HELP, HELP, QUERY_HELP, RANK_HELP, STATIONS_HELP, USAGE,
-    WORKERS_HELP,
+    CERTIFICATE_HELP, CHECK_HELP, FILES_HELP, GUESS_HELP, HELP, MERGE_HELP, MERGE_USAGE,
+    MERGED_CERTIFICATE_HELP, ODD_PAPERS, PAPERS_HELP, PART_HELP, QUERY_HELP, RANK_HELP,
+    STATIONS_HELP, USAGE, WORKERS_HELP,
 };
 use clap::error::ErrorKind;
 use clap::{Arg, ArgAction, ArgMatches, Error, value_parser};
@@ -32,10 +34,7 @@ pub fn command(alloc: Global, words: Vec<String>) -> Result<Command, CommandFaul
     if words.is_empty() {
         return Ok(Command::Sample);
     }
-    match named_command(alloc, &words) {
-        Ok(named) => Ok(named),
-        Err(error) => Err(fault_of(alloc, &error)),
-    }
+    named_command(alloc, &words)
 }
 
 /// What a refused command line leads to: the text to show, or want of memory.
@@ -51,15 +50,21 @@ fn fault_of(alloc: Global, error: &Error) -> CommandFault
     }
 }
 
-/// The words as one of the commands that they can name, `rank` and `check`.
-fn named_command(alloc: Global, words: &[String]) -> Result<Command, Error>
+/// The words as one of the commands that they can name, `rank`, `merge` and `check`.
+fn named_command(alloc: Global, words: &[String]) -> Result<Command, CommandFault>
     ensures ok { IfOk result (IsCommandOf (words_of words.now)) }
-    ensures right { AreRight (words_of words.now) → IfErr result (λ e. kind_of e ≡ ErrorKind.OutOfMemory) }
+    ensures right { AreRight (words_of words.now) → IfErr result (λ f. f ≡ faults.Memory) }
 {
     let all = with_name(alloc, words)?;
-    let matches = program(alloc)?.try_get_matches_from(all.as_slice())?;
+    let matches = match program(alloc)?.try_get_matches_from(all.as_slice()) {
+        Ok(matches) => matches,
+        Err(error) => return Err(fault_of(alloc, &error)),
+    };
     if let Some(rank) = matches.subcommand_matches("rank") {
         return Ok(rank_of(alloc, rank)?);
+    }
+    if let Some(merge) = matches.subcommand_matches("merge") {
+        return merge_of(alloc, merge);
     }
     let Some(check) = matches.subcommand_matches("check") else {
         unreachable!();
@@ -91,6 +96,7 @@ fn program<'a>(alloc: Global) -> Result<clap::Command<'a>, AllocError>
         .subcommand_required(true)
         .disable_help_subcommand(true)
         .subcommand(rank_words(alloc)?)?
+        .subcommand(merge_words(alloc)?)?
         .subcommand(check_words(alloc)?)
 }
 
@@ -109,7 +115,21 @@ fn rank_words<'a>(alloc: Global) -> Result<clap::Command<'a>, AllocError>
         .arg(workers)?
         .arg(guess)?
         .arg(option(alloc, "certificate", "OUT", CERTIFICATE_HELP))?
-        .arg(daily_files(alloc))
+        .arg(many(alloc, "files", "FILE", FILES_HELP))
+}
+
+/// The words of `merge`.
+fn merge_words<'a>(alloc: Global) -> Result<clap::Command<'a>, AllocError>
+    ensures app { IfOk result (λ c. app_of c ≡ merge_app) }
+    ensures local { IfOk result (λ c. (fields_of c).has_globals ≡ false) }
+{
+    clap::Command::new(alloc, "merge")
+        .about("Makes the papers of all files out of the papers of parts")
+        .override_usage(MERGE_USAGE)
+        .after_help(MERGE_HELP)
+        .arg(needed(alloc, "query", "QUERY", QUERY_HELP))?
+        .arg(option(alloc, "certificate", "OUT", MERGED_CERTIFICATE_HELP))?
+        .arg(many(alloc, "papers", "PAPERS", PAPERS_HELP))
 }
 
 /// The words of `check`.
@@ -124,7 +144,8 @@ fn check_words<'a>(alloc: Global) -> Result<clap::Command<'a>, AllocError>
         .arg(needed(alloc, "query", "QUERY", QUERY_HELP))?
         .arg(needed(alloc, "report", "FILE", "The report"))?
         .arg(needed(alloc, "certificate", "FILE", "The certificate"))?
-        .arg(daily_files(alloc))
+        .arg(flag(alloc, "part", PART_HELP))?
+        .arg(many(alloc, "files", "FILE", FILES_HELP))
 }
 
 /// An option with one value, which may be given once.
@@ -147,14 +168,25 @@ fn needed<'a>(alloc: Global, name: &'a str, value: &'a str, help: &'a str) -> Ar
     option(alloc, name, value, help).required(true)
 }
 
-/// The daily files behind the options, as many as there are.
-fn daily_files<'a>(alloc: Global) -> Arg<'a>
-    ensures rule { rule_of result ≡ files_rule }
+/// A flag, which may be given once.
+fn flag<'a>(alloc: Global, name: &'a str, help: &'a str) -> Arg<'a>
+    ensures rule { rule_of result ≡ flag_of name.now }
     ensures local { is_global result ≡ false }
 {
-    Arg::new(alloc, "files")
-        .value_name("FILE")
-        .help("Daily files, .dly, uncompressed")
+    Arg::new(alloc, name)
+        .long(name)
+        .help(help)
+        .action(ArgAction::SetTrue)
+}
+
+/// What stands behind the options, as many as there are.
+fn many<'a>(alloc: Global, name: &'a str, value: &'a str, help: &'a str) -> Arg<'a>
+    ensures rule { rule_of result ≡ many_of name.now }
+    ensures local { is_global result ≡ false }
+{
+    Arg::new(alloc, name)
+        .value_name(value)
+        .help(help)
         .num_args(0..)
         .action(ArgAction::Append)
 }
@@ -173,6 +205,22 @@ fn rank_of(alloc: Global, matches: &ArgMatches) -> Result<Command, AllocError>
     })
 }
 
+/// The command that the matches of `merge` name, or the fault of papers that don't stand in pairs.
+fn merge_of(alloc: Global, matches: &ArgMatches) -> Result<Command, CommandFault>
+    ensures ok { IfOk result (IsMerge (rows_of (found_of matches.now))) }
+    ensures paired { AreInPairs (rows_of (found_of matches.now)) → IfErr result (λ f. f ≡ faults.Memory) }
+{
+    let papers = matches.get_strs("papers").unwrap_or(&[]);
+    if papers.len() % 2 != 0 {
+        return Err(CommandFault::Words(String::from_str(alloc, ODD_PAPERS)?));
+    }
+    Ok(Command::Merge {
+        query: text(alloc, matches, "query")?,
+        certificate: copy(alloc, matches.get_str("certificate"))?,
+        parts: parts(alloc, papers)?,
+    })
+}
+
 /// The command that the matches of `check` name.
 fn check_of(alloc: Global, matches: &ArgMatches) -> Result<Command, AllocError>
     ensures { IfOk result (IsCheck (rows_of (found_of matches.now))) }
@@ -182,6 +230,7 @@ fn check_of(alloc: Global, matches: &ArgMatches) -> Result<Command, AllocError>
         query: text(alloc, matches, "query")?,
         report: text(alloc, matches, "report")?,
         certificate: text(alloc, matches, "certificate")?,
+        part: matches.get_flag("part"),
         files: copies(alloc, matches.get_strs("files").unwrap_or(&[]))?,
     })
 }
@@ -213,4 +262,19 @@ fn copies(alloc: Global, texts: &[&str]) -> Result<Vec<String>, AllocError>
         copies.push(String::from_str(alloc, text)?)?;
     }
     Ok(copies)
+}
+
+/// The parts whose papers these are, two of each.
+fn parts(alloc: Global, papers: &[&str]) -> Result<Vec<Part>, AllocError>
+    requires { length papers.now % 2 ≡ 0 }
+    ensures { IfOk result (λ parts. paths_of parts.items ≡ map (λ s. s.now) papers.now) }
+{
+    let mut parts = Vec::new(alloc);
+    for pair in papers.chunks_exact(2) {
+        parts.push(Part {
+            report: String::from_str(alloc, pair[0])?,
+            certificate: String::from_str(alloc, pair[1])?,
+        })?;
+    }
+    Ok(parts)
 }

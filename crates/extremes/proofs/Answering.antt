@@ -14,6 +14,9 @@ use Rattle.rank_check.specs.declared.verdict.Verdict.{Verdict}
 use Rattle.rank_check.specs.declared.verdict.Verdict.TheVariants.{Accepted}
 use Rattle.rank_check.specs.Tests.{verdict}
 use Rattle.rank_check.specs.Laws.{VerdictStays}
+use Rattle.rank_parts.specs.declared.verdict.PartVerdict.{PartVerdict}
+use Rattle.rank_parts.specs.Parts.{part_verdict}
+use Rattle.rank_parts.specs.Laws.{PartVerdictStays}
 use Rattle.rank_input.specs.declared.intake.Intake.{Intake}
 use Rattle.rank_input.specs.Input.{is_crew}
 use Rattle.rank_input.specs.Taken.{HasTaken, Input, given_files, HoldsInput}
@@ -21,7 +24,7 @@ use Rattle.rank_input.proofs.Crews.{few_workers}
 use Rattle.rank_input.proofs.Openings.{without_guess, without_workers}
 use Rattle.extremes.specs.declared.papers.Papers.{Papers}
 use Rattle.extremes.specs.Answer.{ArePapers, IsOfCrew, IsCrewed, IsOfOneWorker}
-use Rattle.extremes.specs.Runs.{AnswersInput, CrewsInput, SerialInput, JudgesInput}
+use Rattle.extremes.specs.Runs.{AnswersInput, CrewsInput, SerialInput, JudgesInput, JudgesPart}
 
 -- papers that are right for what a query needs of some data are right for these data, and the other way round
 right_for : (query : Asked) (held whole : Contents) (report certificate : List ℕ) → ReportStays → CertificateStays
@@ -52,6 +55,22 @@ judges_input t query held report certificate v reports certificates verdicts hol
         verdict = is ∙ ap (λ (h : Contents). verdict query h report certificate) input.needed
             ∙ verdicts query input.whole report certificate;
         accepted = (λ a. right.0 (accepted.0 a), λ r. accepted.1 (right.1 r));
+      };
+}
+
+-- the same for a part's verdict
+pub judges_part : (t : Intake) (query : Asked) (held : Contents) (report certificate : List ℕ) (v : PartVerdict)
+    → PartVerdictStays → HoldsInput t query held → v ≡ part_verdict query held report certificate
+    → JudgesPart t report certificate v
+judges_part t query held report certificate v verdicts holds is = record {
+  is = λ i taken.
+      let input = holds.is i taken in
+      record {
+        asked = query;
+        held = input.whole;
+        read = without_guess i.workers i.guess i.query i.stations (given_files i) (query, input.whole) input.read_is;
+        verdict = is ∙ ap (λ (h : Contents). part_verdict query h report certificate) input.needed
+            ∙ verdicts query input.whole report certificate;
       };
 }
 

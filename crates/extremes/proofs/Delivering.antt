@@ -6,7 +6,6 @@ use Rattle.std.specs.Io.KnownBytes.{Appends}
 use Rattle.std.proofs.KnownBytes.{Appends-trans}
 use Rattle.std.specs.Prelude.{Result, Ok}
 use Rattle.extremes.specs.declared.papers.Papers.{Papers}
-use Rattle.rank_input.specs.declared.fault.Fault.{Fault}
 use Rattle.extremes.specs.declared.delivery.Delivery.{Delivery}
 use Rattle.extremes.specs.declared.delivery.Delivery.TheVariants.{CertificateFailed}
 use Rattle.extremes.specs.declared.ending.Ending.{Ending}
@@ -43,11 +42,11 @@ nothing-given paper (Some held) after same = record {
 }
 
 -- where the certificate couldn't be written, the answer is printed with no byte of its report
-pub printed-nothing : (answer : Result Papers Fault) (before after : Option (List ℕ)) (ending : Ending)
+pub printed-nothing : {F : Type 0} (answer : Result Papers F) (before after : Option (List ℕ)) (ending : Ending)
     (papers : Papers) (delivery : Delivery)
     → answer ≡ Ok papers → delivery ≡ CertificateFailed → ending ≡ File
     → IsReported papers before after delivery → IsPrinted answer before after ending
-printed-nothing answer before after ending papers delivery answered failed ended reported =
-    subst (λ a. IsPrinted a before after ending) (sym answered)
-    (subst (λ e. IsPrinted (Ok papers) before after e) (sym ended)
+printed-nothing {F} answer before after ending papers delivery answered failed ended reported =
+    subst (λ (a : Result Papers F). IsPrinted a before after ending) (sym answered)
+    (subst (λ e. IsPrinted {F = F} (Ok papers) before after e) (sym ended)
     (nothing-given papers.report.items before after (subst (λ d. IsReported papers before after d) failed reported)))

@@ -3,15 +3,16 @@ use Rattle.std.proofs.Common.{◌≡◌, ℕ, ◌<◌, ◌≤◌, Bool, true, fa
 use Rattle.std.specs.Prelude.{nat_le, Option, None, Some, Result, Ok, Err, IfOk, IfErr, ℤ}
 use Rattle.std.proofs.lemmas.Bool.{leb-true, leb-false}
 use Rattle.ghcn_fields.specs.declared.memory.Memory.{Memory as WantOfMemory}
-use Rattle.rank_check.specs.declared.verdict.Verdict.{Verdict}
 use Rattle.rank_input.specs.declared.fault.Fault.{Fault}
 use Rattle.rank_input.specs.declared.fault.Fault.TheVariants.{Memory}
 use Rattle.rank_input.specs.declared.intake.Intake.{Intake}
 use Rattle.extremes.specs.declared.papers.Papers.{Papers}
+use Rattle.extremes.specs.declared.judgement.Judgement.{Judgement}
+use Rattle.extremes.specs.declared.judgement.Judgement.TheVariants.{Whole, Part}
 use Rattle.rank_input.specs.Taken.{given, given_files, Input, HasTaken, RefusesInput}
 use Rattle.rank_input.specs.Feeding.{AreAllOf, AreFilesOf, FeedsFiles}
 use Rattle.rank_input.proofs.Feedings.{given-files}
-use Rattle.extremes.specs.Runs.{AnswersInput, CrewsInput, JudgesInput}
+use Rattle.extremes.specs.Runs.{AnswersInput, CrewsInput, JudgesInputAs, IsJudgedAs}
 use Rattle.extremes.specs.Runs.{IsCrewedBySome, IsRanked, RanksFiles, IsJudgement, JudgesFiles}
 
 -- what was fed behind the station list is the whole input
@@ -66,24 +67,35 @@ ranks-files old new workers most guess query stations list known answer whole ta
       (taken-all old new known workers guess query stations fed taken) ok crews err;
 }
 
--- the verdict for an intake is that for its texts
-judged-is : (t : Intake) (query stations : List ℕ) (files : List (List ℕ)) (report certificate : List ℕ)
-    (answer : Result Verdict Fault) → HasTaken t (given 1 None query stations files)
-    → IfOk answer (JudgesInput t report certificate) → IfErr answer (RefusesInput t)
-    → IsJudgement query stations files report certificate answer
-judged-is t query stations files report certificate (Ok v) taken ok err =
+-- what is said for an intake is said for its texts
+judged-as : (part : Bool) (t : Intake) (query stations : List ℕ) (files : List (List ℕ)) (report certificate : List ℕ)
+    (j : Judgement) → HasTaken t (given 1 None query stations files) → JudgesInputAs part t report certificate j
+    → IsJudgedAs part query stations files report certificate j
+judged-as false t query stations files report certificate (Whole v) taken ok =
     ok.is (given 1 None query stations files) taken
-judged-is t query stations files report certificate (Err fault) taken ok err =
+judged-as false t query stations files report certificate (Part v) taken ok = absurd ok
+judged-as true t query stations files report certificate (Whole v) taken ok = absurd ok
+judged-as true t query stations files report certificate (Part v) taken ok =
+    ok.is (given 1 None query stations files) taken
+
+-- and so is the fault
+judged-is : (part : Bool) (t : Intake) (query stations : List ℕ) (files : List (List ℕ)) (report certificate : List ℕ)
+    (answer : Result Judgement Fault) → HasTaken t (given 1 None query stations files)
+    → IfOk answer (JudgesInputAs part t report certificate) → IfErr answer (RefusesInput t)
+    → IsJudgement part query stations files report certificate answer
+judged-is part t query stations files report certificate (Ok j) taken ok err =
+    judged-as part t query stations files report certificate j taken ok
+judged-is part t query stations files report certificate (Err fault) taken ok err =
     err.is (given 1 None query stations files) taken
 
 -- the judgement of an intake that was fed all files
-pub judges-files : (old new : Intake) (query stations report certificate : List ℕ)
+pub judges-files : (part : Bool) (old new : Intake) (query stations report certificate : List ℕ)
     (list first second : Option (List ℕ))
-    (known : List (Option (List ℕ))) (answer : Result Verdict Fault) → AreAllOf list stations → AreAllOf first report
+    (known : List (Option (List ℕ))) (answer : Result Judgement Fault) → AreAllOf list stations → AreAllOf first report
     → AreAllOf second certificate → HasTaken old (given 1 None query stations []) → FeedsFiles old new known
-    → IfOk answer (JudgesInput new report certificate) → IfErr answer (RefusesInput new)
-    → JudgesFiles query list first second known answer
-judges-files old new query stations report certificate list first second known answer whole one two taken fed ok
+    → IfOk answer (JudgesInputAs part new report certificate) → IfErr answer (RefusesInput new)
+    → JudgesFiles part query list first second known answer
+judges-files part old new query stations report certificate list first second known answer whole one two taken fed ok
     err = record {
       stations = stations;
       whole = whole;
@@ -93,7 +105,7 @@ judges-files old new query stations report certificate list first second known a
       certificate_whole = two;
       files = fed.files;
       all = fed.all;
-      judged = judged-is new query stations fed.files report certificate answer
+      judged = judged-is part new query stations fed.files report certificate answer
           (taken-all old new known 1 None query stations fed taken) ok err;
     }
 
@@ -116,10 +128,10 @@ ranks-memory workers guess query stations list known m whole = record {
 }
 
 -- and to papers
-pub judges-memory : (query stations report certificate : List ℕ) (list first second : Option (List ℕ))
+pub judges-memory : (part : Bool) (query stations report certificate : List ℕ) (list first second : Option (List ℕ))
     (known : List (Option (List ℕ))) (m : WantOfMemory) → AreAllOf list stations → AreAllOf first report
-    → AreAllOf second certificate → JudgesFiles query list first second known (Err (Memory m))
-judges-memory query stations report certificate list first second known m whole one two = record {
+    → AreAllOf second certificate → JudgesFiles part query list first second known (Err (Memory m))
+judges-memory part query stations report certificate list first second known m whole one two = record {
   stations = stations;
   whole = whole;
   report = report;

@@ -4,3 +4,6 @@ pub mod SerialPapers
 pub mod Answering
 pub mod FedRuns
 pub mod NamedFiles
+pub mod PartsRead
+pub mod RankedParts
+pub mod JudgedParts

@@ -1,7 +1,9 @@
 -- How a run ends, and its exit status.
 use Rattle.std.specs.Prelude.{ℕ}
-use Rattle.rank_check.specs.declared.verdict.Verdict.{Verdict}
 use Rattle.rank_check.specs.declared.verdict.Verdict.TheVariants as verdicts
+use Rattle.rank_parts.specs.declared.verdict.PartVerdict.TheVariants as parts
+use Rattle.extremes.specs.declared.judgement.Judgement.{Judgement}
+use Rattle.extremes.specs.declared.judgement.Judgement.TheVariants.{Whole, Part}
 use Rattle.extremes.specs.declared.ending.Ending.{Ending}
 use Rattle.extremes.specs.declared.ending.Ending.TheVariants.{Done, Refused, Words, File}
 
@@ -13,6 +15,8 @@ status_of Words = 2
 status_of File = 3
 
 -- papers that are accepted are done, and others are refused
-abbrev pub ending_of : Verdict → Ending
-ending_of verdicts.Accepted = Done
-ending_of (verdicts.Refused paper line why) = Refused
+abbrev pub ending_of : Judgement → Ending
+ending_of (Whole verdicts.Accepted) = Done
+ending_of (Whole (verdicts.Refused paper line why)) = Refused
+ending_of (Part (parts.Accepted series lines)) = Done
+ending_of (Part (parts.Refused paper line why)) = Refused

@@ -7,6 +7,8 @@ use Rattle.rank_papers.specs.Certificate.{IsCertificate}
 use Rattle.rank_check.specs.declared.verdict.Verdict.{Verdict}
 use Rattle.rank_check.specs.declared.verdict.Verdict.TheVariants.{Accepted}
 use Rattle.rank_check.specs.Tests.{verdict}
+use Rattle.rank_parts.specs.declared.verdict.PartVerdict.{PartVerdict}
+use Rattle.rank_parts.specs.Parts.{part_verdict}
 use Rattle.extremes.specs.declared.papers.Papers.{Papers}
 use Rattle.rank_input.specs.Input.{read_input}
 use Rattle.extremes.specs.Answer.{Answers}
@@ -20,6 +22,14 @@ pub record IsJudged (query stations : List ℕ) (files : List (List ℕ)) (repor
   pub read : read_input None query stations files ≡ Ok (asked, held)
   pub verdict : v ≡ verdict asked held report certificate
   pub accepted : (v ≡ Accepted) ↔ (IsReport asked held report × IsCertificate asked held certificate)
+
+-- the verdict is that of a part on the papers, for what the input asks and holds
+pub record IsJudgedByPart (query stations : List ℕ) (files : List (List ℕ)) (report certificate : List ℕ)
+    (v : PartVerdict) : Type 0 where
+  pub asked : Asked
+  pub held : Contents
+  pub read : read_input None query stations files ≡ Ok (asked, held)
+  pub verdict : v ≡ part_verdict asked held report certificate
 
 -- papers that answer an input are accepted on that input, whatever the guess was
 abbrev pub AnswersAreAccepted : Type 0

@@ -3,5 +3,8 @@ pub mod Ending
 pub mod Printed
 pub mod Delivered
 pub mod Judged
+pub mod JudgedInParts
 pub mod Runs
+pub mod Merges
+pub mod RankedInParts
 pub mod Commands

@@ -7,14 +7,21 @@ use Rattle.extremes.specs.declared.ending.Ending.{Ending}
 use Rattle.extremes.specs.declared.ending.Ending.TheVariants.{Done, Refused, Words, File}
 use Rattle.extremes.specs.declared.delivery.Delivery.{Delivery}
 use Rattle.extremes.specs.declared.delivery.Delivery.TheVariants as delivery
-use Rattle.rank_check.specs.declared.verdict.Verdict.{Verdict}
 use Rattle.rank_check.specs.Texts.{verdict_text}
+use Rattle.rank_parts.specs.Texts as parts
+use Rattle.extremes.specs.declared.judgement.Judgement.{Judgement}
+use Rattle.extremes.specs.declared.judgement.Judgement.TheVariants.{Whole, Part}
 use Rattle.extremes.specs.Delivered.{HasBeginning}
 use Rattle.extremes.specs.Ending.{ending_of}
 
--- the line of a verdict
-abbrev pub line_of : Verdict → List ℕ
-line_of v = verdict_text v ++ codes "\n"
+-- what is said of papers, without a line feed
+abbrev pub text_of : Judgement → List ℕ
+text_of (Whole v) = verdict_text v
+text_of (Part v) = parts.verdict_text v
+
+-- the line of it
+abbrev pub line_of : Judgement → List ℕ
+line_of j = text_of j ++ codes "\n"
 
 -- what the report's writer was given: the whole report, nothing behind a certificate that couldn't be written, or a
 -- beginning
@@ -25,16 +32,16 @@ IsReported papers before after delivery.ReportFailed = HasBeginning papers.repor
 
 -- papers end done with the whole report written, or as a file that couldn't be written with a beginning of it; a fault
 -- writes nothing
-abbrev pub IsPrinted : Result Papers Fault → Option (List ℕ) → Option (List ℕ) → Ending → Type 0
+abbrev pub IsPrinted : {F : Type 0} → Result Papers F → Option (List ℕ) → Option (List ℕ) → Ending → Type 0
 IsPrinted (Ok papers) before after Done = Appends before after papers.report.items
 IsPrinted (Ok papers) before after Refused = ⊥
 IsPrinted (Ok papers) before after Words = ⊥
 IsPrinted (Ok papers) before after File = HasBeginning papers.report.items before after
 IsPrinted (Err fault) before after ending = (ending ≡ Refused) × (after ≡ before)
 
--- a verdict is printed as its line and ends the run as it says, or it ends as a file that couldn't be written; a fault
+-- what is said of papers is printed as its line and ends the run as it says, or it ends as a file that couldn't be written; a fault
 -- prints nothing and is refused
-abbrev pub IsToldVerdict : Result Verdict Fault → Option (List ℕ) → Option (List ℕ) → Ending → Type 0
-IsToldVerdict (Ok v) before after ending =
-    ((ending ≡ ending_of v) × Appends before after (line_of v)) ⊎ (ending ≡ File)
-IsToldVerdict (Err fault) before after ending = (ending ≡ Refused) × (after ≡ before)
+abbrev pub IsTold : Result Judgement Fault → Option (List ℕ) → Option (List ℕ) → Ending → Type 0
+IsTold (Ok j) before after ending =
+    ((ending ≡ ending_of j) × Appends before after (line_of j)) ⊎ (ending ≡ File)
+IsTold (Err fault) before after ending = (ending ≡ Refused) × (after ≡ before)

@@ -4,14 +4,18 @@ ghost use Rattle.std.specs.Prelude.{◌≡◌, None, IfOk, IfErr, map};
 ghost use Rattle.extremes.specs.Ending.{ending_of};
 ghost use Rattle.ghcn_fields.specs.Refusals.{IsRefusal};
 ghost use Rattle.rank_input.specs.Input.{read_input, is_memory};
-ghost use Rattle.extremes.specs.Judged.{IsJudged};
+ghost use Rattle.extremes.specs.Judged.{IsJudged, IsJudgedByPart};
+ghost use Rattle.extremes.specs.JudgedInParts.{PartsJudgeTheWhole};
 ghost use Rattle.rank_input.specs.Taken.{HasTakenSome, RefusesInput};
-ghost use Rattle.extremes.specs.Runs.{JudgesInput};
+ghost use Rattle.extremes.specs.Runs.{JudgesInput, JudgesPart, JudgesInputAs};
 
 use crate::ending::Ending;
+use crate::judgement::Judgement;
+use crate::laws::parts_judge_the_whole;
 use rank_check::{Verdict, check, verdict_of_one_element};
 use rank_input::{Fault, Intake};
 use rank_papers::papers_of_one_element;
+use rank_parts::{PartVerdict, check_part, part_verdict_of_one_element};
 use std::alloc::Global;
 
 /// Judges a report and a certificate of a query over a station list and daily files, whoever made
@@ -36,6 +40,52 @@ pub fn judge(
     judge_intake(alloc, intake, report, certificate)
 }
 
+/// Judges a report and a certificate of a whole archive over the station list and the daily files of
+/// some of its stations, as far as these show.
+///
+/// The papers are right for the whole where each part accepts them, the numbers of the parts' series
+/// add up to that of the certificate's lines, no station is in two parts and the files together have
+/// no fault. Files and faults are those of `judge`.
+pub fn judge_part(
+    alloc: Global,
+    stations: &[u8],
+    files: &[&[u8]],
+    query: &str,
+    report: &[u8],
+    certificate: &[u8],
+) -> Result<PartVerdict, Fault>
+    ensures ok { IfOk result (IsJudgedByPart
+        query.now stations.now (map (λ file. file.now) files.now) report.now certificate.now) }
+    ensures err { IfErr result (λ fault.
+        IsRefusal is_memory fault (read_input None query.now stations.now (map (λ file. file.now) files.now))) }
+    ensures whole { PartsJudgeTheWhole }
+{
+    parts_judge_the_whole();
+    let intake = Intake::of_files(alloc, 1, None, query, stations, files);
+    judge_part_intake(alloc, intake, report, certificate)
+}
+
+/// Judges papers over what was given: as `judge_part` does where that is a part of their files, and
+/// as `judge` does where it isn't.
+pub fn judge_as(
+    alloc: Global,
+    intake: Intake,
+    part: bool,
+    report: &[u8],
+    certificate: &[u8],
+) -> Result<Judgement, Fault>
+    requires { HasTakenSome intake }
+    ensures ok { IfOk result (JudgesInputAs part intake report.now certificate.now) }
+    ensures err { IfErr result (RefusesInput intake) }
+{
+    if part {
+        let verdict = judge_part_intake(alloc, intake, report, certificate)?;
+        return Ok(Judgement::Part(verdict));
+    }
+    let verdict = judge_intake(alloc, intake, report, certificate)?;
+    Ok(Judgement::Whole(verdict))
+}
+
 /// Judges papers over what was given, as `judge` does.
 pub fn judge_intake(
     alloc: Global,
@@ -53,12 +103,30 @@ pub fn judge_intake(
     Ok(check(alloc, &held, &query, report, certificate)?)
 }
 
-/// How a run ends that answers this verdict.
-pub fn ending(verdict: &Verdict) -> Ending
-    ensures { result ≡ ending_of verdict.now }
+/// Judges papers over what was given, as `judge_part` does.
+pub fn judge_part_intake(
+    alloc: Global,
+    intake: Intake,
+    report: &[u8],
+    certificate: &[u8],
+) -> Result<PartVerdict, Fault>
+    requires { HasTakenSome intake }
+    ensures ok { IfOk result (JudgesPart intake report.now certificate.now) }
+    ensures err { IfErr result (RefusesInput intake) }
 {
-    match verdict {
-        Verdict::Accepted => Ending::Done,
-        Verdict::Refused { .. } => Ending::Refused,
+    let (query, held) = intake.finish()?;
+    part_verdict_of_one_element();
+    Ok(check_part(alloc, &held, &query, report, certificate)?)
+}
+
+/// How a run ends that answers this judgement.
+pub fn ending(judgement: &Judgement) -> Ending
+    ensures { result ≡ ending_of judgement.now }
+{
+    match judgement {
+        Judgement::Whole(Verdict::Accepted) => Ending::Done,
+        Judgement::Whole(Verdict::Refused { .. }) => Ending::Refused,
+        Judgement::Part(PartVerdict::Accepted { .. }) => Ending::Done,
+        Judgement::Part(PartVerdict::Refused { .. }) => Ending::Refused,
     }
 }

@@ -1,8 +1,30 @@
-//! What ranking and judging say of each other, as a law over their contracts.
+//! What ranking, judging and merging say of each other, as laws over their contracts.
 
 ghost use Rattle.extremes.specs.Judged.{AnswersAreAccepted};
+ghost use Rattle.extremes.specs.JudgedInParts.{PartsJudgeTheWhole};
+ghost use Rattle.extremes.specs.RankedInParts.{MergedIsRanked};
+
+use rank_parts::parts_make_the_whole;
+use rank_query::queries_have_texts;
 
 /// The papers that a ranking answers are accepted where they are judged on the same texts.
 pub fn answers_are_accepted()
     ensures { AnswersAreAccepted }
 {}
+
+/// Where each part's papers are what a ranking answers to its files, with one station list and one
+/// query, what is merged of them has the report that a ranking answers to all files, byte for byte,
+/// and a certificate that is right for all files.
+pub fn merged_is_ranked()
+    ensures { MergedIsRanked }
+{}
+
+/// Papers that the files of each part accept are right for the files of all parts, one part after the
+/// other, where these have no fault together, no station has an admitted day in two parts, and the
+/// numbers of the parts' series add up to that of the certificate's lines.
+pub fn parts_judge_the_whole()
+    ensures { PartsJudgeTheWhole }
+{
+    parts_make_the_whole();
+    queries_have_texts();
+}

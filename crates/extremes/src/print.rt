@@ -2,15 +2,16 @@
 
 ghost use Rattle.std.specs.Prelude.{◌≡◌};
 ghost use Rattle.extremes.specs.declared.ending.Ending.TheVariants as endings;
-ghost use Rattle.extremes.specs.Printed.{IsPrinted, IsReported, IsToldVerdict};
+ghost use Rattle.extremes.specs.Printed.{IsPrinted, IsReported, IsTold};
 
 use crate::delivery::{Delivery, deliver};
 use crate::ending::Ending;
 use crate::judge::ending;
+use crate::judgement::Judgement;
 use crate::papers::Papers;
 use crate::rank::Ranked;
-use rank_check::Verdict;
 use rank_input::Fault;
+use std::fmt::Display;
 use std::fs::File;
 use std::io;
 use std::io::Write;
@@ -38,7 +39,7 @@ pub(crate) fn not_read<R: Eprint>(rt: &R, path: &str) -> Ending
     Ending::File
 }
 
-pub(crate) fn refused<R: Eprint>(rt: &R, fault: Fault) -> Ending
+pub(crate) fn refused<R: Eprint, F: Display + Drop>(rt: &R, fault: F) -> Ending
     ensures { result ≡ endings.Refused }
 {
     let _ = eprintln!(rt; "{fault}");
@@ -54,9 +55,9 @@ pub(crate) fn not_written<R: Eprint>(rt: &R, path: &str) -> Ending
 
 /// Prints the papers behind a word on what was passed over, or tells the fault. The certificate
 /// goes to the file of a path, where one is named, and the report behind it.
-pub fn print_answer<R: Files + Eprint, W: Write>(
+pub fn print_answer<R: Files + Eprint, W: Write, F: Display + Drop>(
     rt: &R,
-    answer: Result<Papers, Fault>,
+    answer: Result<Papers, F>,
     certificate: Option<&str>,
     out: &mut W,
 ) -> Ending
@@ -95,20 +96,20 @@ fn write_papers<R: Files, W: Write>(
     }
 }
 
-/// Prints a verdict, or tells the fault.
-pub(crate) fn print_verdict<R: Eprint, W: Write>(
+/// Prints what is said of papers, or tells the fault.
+pub(crate) fn print_judgement<R: Eprint, W: Write>(
     rt: &R,
-    judged: Result<Verdict, Fault>,
+    judged: Result<Judgement, Fault>,
     out: &mut W,
 ) -> Ending
-    ensures { IsToldVerdict judged (W.contents out.old) (W.contents out.new) result }
+    ensures { IsTold judged (W.contents out.old) (W.contents out.new) result }
 {
-    let verdict = match judged {
-        Ok(verdict) => verdict,
+    let judgement = match judged {
+        Ok(judgement) => judgement,
         Err(fault) => return refused(rt, fault),
     };
-    match writeln!(out, "{verdict}") {
-        Ok(()) => ending(&verdict),
+    match writeln!(out, "{judgement}") {
+        Ok(()) => ending(&judgement),
         Err(_) => not_written(rt, "-"),
     }
 }

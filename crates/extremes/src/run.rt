@@ -3,12 +3,12 @@
 ghost use Rattle.extremes.specs.Commands.{IsRun};
 
 use crate::ending::Ending;
-use crate::files::{judge_files, rank_files};
+use crate::files::{judge_files, merge_files, rank_files};
 use crate::papers::Papers;
-use crate::print::{not_read, not_written, print_answer, print_ranked, print_verdict, refused};
+use crate::print::{not_read, not_written, print_answer, print_judgement, print_ranked, refused};
 use crate::rank::rank_serial;
 use crate::sample;
-use crate::target::is_in_use;
+use crate::target::{is_in_use, is_paper_or_output};
 use command_line::{Command, CommandFault, command};
 use ghcn_fields::Memory;
 use rank_input::{Archive, Fault, System};
@@ -73,11 +73,28 @@ fn run_command<R: Files + Eprint + Threads + Wait + AllocGlobal + Sync, A: Archi
                 Err(path) => not_read(rt, path),
             }
         }
+        Command::Merge {
+            query,
+            certificate,
+            parts,
+        } => {
+            let certificate = certificate.as_ref().map(|path| path.as_str());
+            if let Some(path) = certificate {
+                if is_paper_or_output(rt, path, &parts) {
+                    return not_written(rt, path);
+                }
+            }
+            match merge_files(rt.alloc(), archive, &query, &parts) {
+                Ok(merged) => print_answer(rt, merged, certificate, out),
+                Err(path) => not_read(rt, path),
+            }
+        }
         Command::Check {
             stations,
             query,
             report,
             certificate,
+            part,
             files,
         } => {
             let alloc = rt.alloc();
@@ -88,9 +105,10 @@ fn run_command<R: Files + Eprint + Threads + Wait + AllocGlobal + Sync, A: Archi
                 &query,
                 &report,
                 &certificate,
+                part,
                 &files,
             ) {
-                Ok(judged) => print_verdict(rt, judged, out),
+                Ok(judged) => print_judgement(rt, judged, out),
                 Err(path) => not_read(rt, path),
             }
         }

@@ -1,5 +1,6 @@
 //! Where the certificate goes: into a file that the run neither reads nor prints to.
 
+use command_line::Part;
 use std::fs::{self, Metadata};
 use std::os::unix::fs::MetadataExt;
 use std::rt::Files;
@@ -13,6 +14,15 @@ pub(crate) fn is_in_use<R: Files>(rt: &R, out: &str, stations: &str, files: &[St
     is_same(rt, out, &node, stations)
         || is_same(rt, out, &node, STANDARD_OUTPUT)
         || files.iter().any(|file| is_same(rt, out, &node, file))
+}
+
+/// Whether a certificate's file is a paper of a part or the file of standard output.
+pub(crate) fn is_paper_or_output<R: Files>(rt: &R, out: &str, parts: &[Part]) -> bool {
+    let node = fs::metadata(rt, out).ok();
+    is_same(rt, out, &node, STANDARD_OUTPUT)
+        || parts.iter().any(|part| {
+            is_same(rt, out, &node, &part.report) || is_same(rt, out, &node, &part.certificate)
+        })
 }
 
 /// Whether two paths name one file that writing would change: by what the system says of both, or by the

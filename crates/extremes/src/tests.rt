@@ -1,6 +1,5 @@
 //! Worked runs of the ranking and of the command line.
 
-mod alone;
 mod gated;
 mod growths;
 mod pieces;
@@ -8,24 +7,23 @@ mod words;
 
 use crate::delivery::{Delivery, deliver};
 use crate::ending::Ending;
-use crate::judge::{ending, judge};
+use crate::judge::{ending, judge, judge_part};
+use crate::judgement::Judgement;
+use crate::merge::{MergingFault, PartTexts, merge_texts};
 use crate::papers::Papers;
 use crate::print::print_answer;
 use crate::rank::{rank, rank_serial};
 use crate::sample;
-use ghcn_fields::Memory;
-use ghcn_files::{LineWhy, StationWhy};
-use ghcn_series::DailyWhy;
 use rank_check::{Paper, Verdict, Why};
 use rank_crew::Open;
-use rank_input::{Fault, worth_starting};
+use rank_input::Fault;
+use rank_merge::MergeFault;
+use rank_parts::PartVerdict;
+use rank_query::QueryFault;
 use std::alloc::{AllocError, Global};
 use std::io;
 use std::io::Write;
-use std::process::Abort;
-use std::sync::Wait;
 use std::test::Fail;
-use std::thread::Threads;
 
 const STATIONS: &[u8] = b"ZZA00000001  10.0000   20.0000  100.0    ALPHA
 ZZA00000002  11.0000   21.0000  100.0    BRAVO
@@ -290,52 +288,6 @@ fn guesses_and_the_first_fault(rt: HostRuntime) {
 }
 
 #[test]
-fn texts_of_faults(rt: HostRuntime) -> Result<(), Fail> {
-    let cases = [
-        (
-            Fault::StationLine {
-                line: 3,
-                why: StationWhy::Duplicate,
-            },
-            "refused 1 StationLine line 3 Duplicate",
-        ),
-        (Fault::TooManyStations, "refused 2 TooManyStations"),
-        (Fault::Memory(Memory), "refused 3 Memory"),
-        (
-            Fault::DailyLine {
-                file: 2,
-                line: 7,
-                why: DailyWhy::Line(LineWhy::BadValue(31)),
-            },
-            "refused 5 DailyLine file 2 line 7 BadValue 31",
-        ),
-        (
-            Fault::DailyLine {
-                file: 1,
-                line: 2,
-                why: DailyWhy::DuplicateMonth,
-            },
-            "refused 5 DailyLine file 1 line 2 DuplicateMonth",
-        ),
-        (Fault::TooManyFiles, "refused 6 TooManyFiles"),
-        (Fault::QueryTooLong, "refused 7 QueryTooLong"),
-        (Fault::UnexpectedWord(4), "refused 8 UnexpectedWord 4"),
-        (Fault::QueryEnds, "refused 9 QueryEnds"),
-        (Fault::OutOfLimits(2), "refused 10 OutOfLimits 2"),
-        (Fault::BadDate(6), "refused 11 BadDate 6"),
-        (Fault::BadBox(8), "refused 12 BadBox 8"),
-        (Fault::EmptyPeriod, "refused 13 EmptyPeriod"),
-        (Fault::BadWorkers, "refused 18 BadWorkers"),
-        (Fault::BadGuess, "refused 19 BadGuess"),
-    ];
-    for (fault, text) in cases {
-        let told = fault.to_string(rt.alloc())?;
-        assert_eq!(rt; told.as_str(), text);
-    }
-    Ok(())
-}
-
-#[test]
 fn workers_and_the_first_fault(rt: HostRuntime) {
     let cases = [
         (0, Some(-2_147_483_649), Some(Fault::BadWorkers)),
@@ -414,22 +366,81 @@ fn papers_are_judged(rt: HostRuntime) -> Result<(), Fail> {
         assert_eq!(rt; told.as_str(), text);
         assert_eq!(rt; judged, expected, "at {asked}");
     }
-    assert_eq!(rt; ending(&Verdict::Accepted), Ending::Done);
-    assert_eq!(rt; ending(&other), Ending::Refused);
+    assert_eq!(rt; ending(&Judgement::Whole(Verdict::Accepted)), Ending::Done);
+    assert_eq!(rt; ending(&Judgement::Whole(other)), Ending::Refused);
     Ok(())
 }
 
 #[test]
-fn workers_that_are_worth_starting(rt: HostRuntime) {
-    let cases = [
-        (0, 1),
-        (270, 1),
-        (16_777_215, 1),
-        (16_777_216, 64),
-        (30_000_000_000, 64),
-        (u64::MAX, 64),
-    ];
-    for (bytes, workers) in cases {
-        assert_eq!(rt; worth_starting(bytes), workers, "{bytes} bytes");
+fn papers_are_judged_by_a_part(rt: HostRuntime) -> Result<(), Fail> {
+    let query = "top 3 highest TMAX";
+    let Ok(papers) = rank(&rt, STATIONS, &[DAILY], query, 4, None, &Open) else {
+        return Err(Fail::from("no papers"));
+    };
+    let (report, certificate) = (papers.report.as_slice(), papers.certificate.as_slice());
+    let part: &[u8] = &DAILY[..270];
+    let judged = judge_part(rt.alloc(), STATIONS, &[part], query, report, certificate);
+    let accepted = PartVerdict::Accepted {
+        series: 1,
+        lines: 3,
+    };
+    assert_eq!(rt; judged, Ok(accepted));
+    let judgement = Judgement::Part(accepted);
+    assert_eq!(rt;
+        judgement.to_string(rt.alloc())?.as_str(),
+        "accepted 1 of 3"
+    );
+    assert_eq!(rt; ending(&judgement), Ending::Done);
+    let refused = PartVerdict::Refused {
+        paper: Paper::Report,
+        line: 2,
+        why: Why::OtherQuery,
+    };
+    let asked = "top 2 highest TMAX";
+    let judged = judge_part(rt.alloc(), STATIONS, &[part], asked, report, certificate);
+    assert_eq!(rt; judged, Ok(refused));
+    assert_eq!(rt; ending(&Judgement::Part(refused)), Ending::Refused);
+    Ok(())
+}
+
+#[test]
+fn parts_are_merged(rt: HostRuntime) -> Result<(), Fail> {
+    let alloc = rt.alloc();
+    let query = "top 3 highest TMAX";
+    let mut parts = Vec::new(alloc);
+    for files in [&DAILY[540..], &DAILY[..540]] {
+        let Ok(papers) = rank_serial(alloc, STATIONS, &[files], query, None) else {
+            return Err(Fail::from("no papers"));
+        };
+        parts.push(PartTexts {
+            report: papers.report,
+            certificate: papers.certificate,
+        })?;
     }
+    let mut out = Vec::new(alloc);
+    let merged = merge_texts(alloc, " top 3  highest TMAX", parts.as_slice());
+    assert_eq!(rt; print_answer(&rt, merged, None, &mut out), Ending::Done);
+    assert_eq!(rt; out.as_slice(), REPORT);
+    let cases = [
+        (
+            "top 3 highest",
+            MergingFault::Query(QueryFault::QueryEnds),
+            "refused 9 QueryEnds",
+        ),
+        (
+            "top 4 highest TMAX",
+            MergingFault::Parts(MergeFault::OtherQuery { part: 1 }),
+            "refused part 1 OtherQuery",
+        ),
+    ];
+    for (asked, expected, text) in cases {
+        let refused = merge_texts(alloc, asked, parts.as_slice());
+        let fault = refused.as_ref().err().copied();
+        assert_eq!(rt; fault, Some(expected));
+        let told = expected.to_string(alloc)?;
+        assert_eq!(rt; told.as_str(), text);
+        assert_eq!(rt; print_answer(&rt, refused, None, &mut out), Ending::Refused);
+    }
+    assert_eq!(rt; out.as_slice(), REPORT);
+    Ok(())
 }

@@ -33,7 +33,7 @@ use Rattle.ghcn_series.proofs.FactsOfMonths.{selected-months}
 use Rattle.ghcn_series.proofs.ListFacts.{both_all, weaken, both_distinct, distinct_filter}
 
 -- elements that are the same
-same_element-is : (a b : Element) → same_element a b ≡ true → a ≡ b
+pub same_element-is : (a b : Element) → same_element a b ≡ true → a ≡ b
 same_element-is a b e = same_Some a b
     (sym (element_at a) ∙ ap (slice_get elements) (eqb-true _ _ e) ∙ element_at b)
 

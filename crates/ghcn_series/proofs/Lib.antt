@@ -31,3 +31,7 @@ pub mod ToldFaults
 pub mod FedPieces
 pub mod FedFiles
 pub mod Examples
+pub mod JoinedLists
+pub mod JoinedFiles
+pub mod FoundSeries
+pub mod JoinedSeries

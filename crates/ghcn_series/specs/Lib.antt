@@ -10,3 +10,4 @@ pub mod Fed
 pub mod Pieces
 pub mod Packed
 pub mod Parts
+pub mod JoinedFiles

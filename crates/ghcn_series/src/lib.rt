@@ -9,16 +9,12 @@ mod data;
 mod days;
 mod fault;
 mod gathering;
-#[cfg(test)]
-mod growth_tests;
 mod months;
 mod parts;
 mod pieces;
 mod reader;
 mod series;
 mod station;
-#[cfg(test)]
-mod tests;
 
 pub use data::Data;
 pub use days::{BlockDays, Days};

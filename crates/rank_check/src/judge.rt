@@ -2,9 +2,8 @@
 
 ghost use Rattle.std.specs.Prelude.{◌≡◌, true, [], ◌∷◌, Ok, Some, IfOk, nat_le, length, map};
 ghost use Rattle.ghcn_fields.specs.Faults.{first_failing};
-ghost use Rattle.rank_query.specs.Asked.{IsAsked};
 ghost use Rattle.rank_papers.specs.ReportLines.{reported_in, IsReported};
-ghost use Rattle.rank_papers.specs.Certificate.{kth_of_best, count_of};
+ghost use Rattle.rank_papers.specs.Certificate.{count_of};
 ghost use Rattle.rank_papers.specs.CertificateLines.{certified_in};
 ghost use Rattle.rank_check.specs.FoundFaults.{IsFaultOfCertificate};
 ghost use Rattle.rank_check.specs.Survey.{AreFindings, candidates_of};
@@ -17,6 +16,7 @@ use crate::tally::candidates_of;
 use crate::verdict::{Paper, Verdict, Why};
 use ghcn_fields::Memory;
 use ghcn_series::Data;
+use rank_head::{is_same_query, kth_score};
 use rank_papers::{Certificate, Line, Report, Row, certificates_are_read, row_counts};
 use rank_query::Query;
 use rank_scores::candidates_of_queries;
@@ -49,8 +49,8 @@ pub(crate) fn judge(
     if let Some(fault) = report_fault(held, query, report, &found) {
         return Ok(fault);
     }
-    let kth = kth_score(query, report);
     let rows = report.rows.as_slice();
+    let kth = kth_score(query, rows);
     Ok(
         match certificate_fault(alloc, query, kth, rows, certificate, &found)? {
             Some(fault) => fault,
@@ -87,15 +87,6 @@ fn are_enough(query: &Query, rows: u64, candidates: u64) -> bool
     ensures { result ≡ tests.are_enough query.now.k candidates rows }
 {
     query.k() <= rows || candidates <= rows
-}
-
-/// The score of the last row, where there are as many as were asked for.
-fn kth_score(query: &Query, report: &Report) -> Option<i64>
-    ensures asked { IsAsked query.now }
-    ensures kth { result ≡ kth_of_best query.now.k (candidates_of report.now.rows.items) }
-{
-    let row = report.rows.as_slice().get(query.k() as usize - 1)?;
-    Some(row.candidate.score)
 }
 
 /// The first test that a certificate fails beside a report with these rows, where this is the k-th
@@ -165,12 +156,4 @@ fn refused(paper: Paper, line: u64, why: Why) -> Option<Verdict>
     ensures { result ≡ Some (Verdict.Refused paper line why) }
 {
     Some(Verdict::Refused { paper, line, why })
-}
-
-/// Whether two queries have one canonical text.
-fn is_same_query(alloc: Global, a: &Query, b: &Query) -> Result<bool, Memory>
-    ensures { IfOk result (λ same. same ≡ tests.same_query a.now b.now) }
-{
-    let (one, other) = (a.text(alloc)?, b.text(alloc)?);
-    Ok(one.as_bytes() == other.as_bytes())
 }

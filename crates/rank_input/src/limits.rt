@@ -6,7 +6,7 @@ ghost use Rattle.rank_input.specs.Input.{is_crew, is_guess};
 /// The greatest number of workers of a run.
 pub const MOST_WORKERS: u64 = 64;
 
-/// From so many bytes of daily files on, threads are worth starting. To read 16 MB takes some 15 ms,
+/// From so many bytes of daily files on, threads are worth starting. To read 16 MiB takes some 15 ms,
 /// and to start the threads of four workers half a millisecond.
 const WORTH_THREADS: u64 = 1 << 24;
 

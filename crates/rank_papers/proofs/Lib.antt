@@ -29,3 +29,5 @@ pub mod RightReports
 pub mod ReportReading
 pub mod ReportFields
 pub mod OneElement
+pub mod Answered
+pub mod GivenRows

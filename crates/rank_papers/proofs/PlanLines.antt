@@ -57,7 +57,7 @@ module _ {A B : Type 0} (R : A → B → Type 0) (f : A → A → Bool) (g : B �
       ])
 
   -- so two lists are, element by element
-  sorted-zip : (xs : List A) (ys : List B) → AllZip R xs ys → AllZip R (sorted_by f xs) (sorted_by g ys)
+  pub sorted-zip : (xs : List A) (ys : List B) → AllZip R xs ys → AllZip R (sorted_by f xs) (sorted_by g ys)
   sorted-zip [] [] h = tt
   sorted-zip [] (y ∷ ys) h = absurd h
   sorted-zip (x ∷ xs) [] h = absurd h

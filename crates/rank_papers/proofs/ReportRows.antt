@@ -23,7 +23,7 @@ enumerate_from-append n (x ∷ xs) ys =
     ∙ ap (λ (m : ℕ). (n, x) ∷ (enumerate_from (n + 1) xs ++ enumerate_from m ys)) same
 
 -- the line of one row more follows the lines of the rows before it
-rows_text-push : (q : Asked) (rows : List Named) (row : Named) →
+pub rows_text-push : (q : Asked) (rows : List Named) (row : Named) →
     rows_text q (enumerate_from 1 (rows ++ row ∷ []))
     ≡ rows_text q (enumerate_from 1 rows) ++ text_line (row_fields q (1 + length rows, row))
 rows_text-push q rows row =

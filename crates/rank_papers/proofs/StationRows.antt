@@ -1,14 +1,19 @@
 -- IDs in order, counted by two searches, and the rows that they are of.
 use Rattle.std.proofs.Common.{◌≡◌, ℕ, zero, suc, ◌+◌, ◌-◌, ◌≤◌, Bool, true, false, cond, List, [], ◌∷◌, length, take, map}
-use Rattle.std.proofs.Common.{refl, sym, ap, ◌∙◌, subst, arith, get_or, leb}
+use Rattle.std.proofs.Common.{refl, sym, ap, ◌∙◌, subst, arith, get_or, leb, ◌<◌, inl, inr, Option}
 use Rattle.std.specs.List.{count_by}
 use Rattle.std.specs.List.Sorted.{IsPartitionPoint, IsPartitionedBy, IsPermutation}
-use Rattle.std.specs.Ordering.{is_eq, is_lt, is_le, nat_cmp, ordering_index}
+use Rattle.std.specs.Prelude.{slice_get, ◌==◌, ◌||◌}
+use Rattle.std.specs.Option.{option_map_or}
+use Rattle.std.specs.Ordering.{is_eq, is_lt, is_le, is_gt, nat_cmp, ordering_index}
 use Rattle.std.specs.declared.cmp.Ordering.{Ordering}
 use Rattle.std.specs.declared.cmp.Ordering.TheVariants.{Less, Equal, Greater}
 use Rattle.std.specs.Cmp.Lexicographic.{slice_cmp}
 use Rattle.std.proofs.lemmas.Cmp.{nat_list_cmp_total}
-use Rattle.std.proofs.lemmas.List.{take_all}
+use Rattle.std.proofs.lemmas.List.{take_all, get_or_default}
+use Rattle.std.proofs.Math.Dec.{eqb-suc-zero}
+use Rattle.std.proofs.lemmas.Bool.{and_parts, false_from_ne_true}
+use Rattle.std.proofs.lemmas.Option.{slice_get-get_or, slice_get_cases}
 use Rattle.std.proofs.lemmas.List.Sums.{count_by_more_yes, count_by_more_no, sum_by-cons}
 use Rattle.std.proofs.lemmas.List.Sorted.{searchable_from_sorted, IsPartitionedBy-leb, sum_by-IsPermutation}
 use Rattle.std.proofs.lemmas.Map.Text.{is_eq-slice_cmp}
@@ -16,7 +21,7 @@ use Rattle.ghcn_files.specs.declared.station.StationId.{StationId}
 use Rattle.ghcn_files.specs.Ids.{same_id}
 use Rattle.rank_scores.specs.declared.candidate.Candidate.{Candidate}
 use Rattle.rank_papers.specs.Certificate.{Entry, count_of}
-use Rattle.rank_papers.specs.StationRows.{AreInOrder, count_in}
+use Rattle.rank_papers.specs.StationRows.{AreInOrder, count_in, is_gap}
 
 -- ---- how many pass a test that the first ones pass
 
@@ -116,6 +121,80 @@ module _ (id : StationId) where
       ∙ split ids
       ∙ ap (λ (n : ℕ). n + count_by (λ i. same_id i id) ids)
       (counted-point (λ i. is_lt (beside i)) ids b id low before)
+
+-- ---- a place between two IDs
+
+-- of two tests the second passes, where one does and the first doesn't
+or_rest : (a b : Bool) → a ≡ false → (a || b) ≡ true → b ≡ true
+or_rest true b never h = absurd cc
+or_rest false b never h = h
+
+-- what is less is at most
+at_most : (o : Ordering) → is_lt o ≡ true → is_le o ≡ true
+at_most Less e = refl
+at_most Equal e = absurd cc
+at_most Greater e = absurd cc
+
+-- what is greater isn't at most
+greater : (o : Ordering) → is_gt o ≡ true → is_le o ≡ false
+greater Less e = absurd cc
+greater Equal e = absurd cc
+greater Greater e = refl
+
+module _ (id : StationId) (ids : List StationId) (up : AreInOrder ids) (place : ℕ) (within : place ≤ length ids)
+    (lower : 0 < place → is_lt (beside id (get_or ids (place - 1) id)) ≡ true)
+    (higher : place < length ids → is_le (beside id (get_or ids place id)) ≡ false) where
+  -- those in front of the place are before the ID
+  front : (k : ℕ) → k < place → is_lt (beside id (get_or ids k id)) ≡ true
+  front k lt = less_first id ids up k (place - 1) id (omega (arith, lt)) (omega (arith, lt, within)) (lower (omega (arith, lt)))
+
+  -- those behind it aren't
+  back : (k : ℕ) → place ≤ k → k < length ids → is_le (beside id (get_or ids k id)) ≡ false
+  back k le lt = false_from_ne_true _ (λ e. let no = higher (omega (arith, le, lt)) in
+      let so = most_first id ids up place k id le lt e in absurd cc)
+
+  -- so none of them is the same
+  pub gap-counts : count_by (λ i. same_id i id) ids ≡ 0
+  gap-counts =
+      omega (
+        arith,
+        counted-between id ids place place within within (
+          λ k d low lt. subst (λ x. is_lt (beside id x) ≡ true) (get_or_default ids k id d (omega (arith, lt, within))) (front k lt),
+          λ k d low lt. subst (λ x. is_lt (beside id x) ≡ false) (get_or_default ids k id d lt)
+              (false_from_ne_true _ (λ e. let so = at_most _ e in let no = back k low lt in absurd cc)),
+        ) (
+          λ k d low lt. subst (λ x. is_le (beside id x) ≡ true) (get_or_default ids k id d (omega (arith, lt, within)))
+              (at_most _ (front k lt)),
+          λ k d low lt. subst (λ x. is_le (beside id x) ≡ false) (get_or_default ids k id d lt) (back k low lt),
+        ),
+      )
+
+module _ (id : StationId) (ids : List StationId) (p : StationId → Bool) where
+  -- what a look at a place says is so of the ID there
+  at_place : (b : Bool) (place : ℕ) → place < length ids → option_map_or p (slice_get ids place) b ≡ true
+      → p (get_or ids place id) ≡ true
+  at_place b place lt h = subst (λ (o : Option StationId). option_map_or p o b ≡ true) (slice_get-get_or ids place id lt) h
+
+  -- a look that finds one is at a place inside the list
+  is_inside : (place : ℕ) → option_map_or p (slice_get ids place) false ≡ true → place < length ids
+  is_inside place h = elim (slice_get_cases ids place).1 [
+    | inl here ↦ here.1
+    | inr past ↦
+        let no : false ≡ true = subst (λ (o : Option StationId). option_map_or p o false ≡ true) past.1 h in absurd cc
+  ]
+
+-- an ID that would stand at a place among some in order, and is the same as neither neighbour, isn't among them
+pub gap-none : (id : StationId) (ids : List StationId) → AreInOrder ids → (place : ℕ) → is_gap ids id place ≡ true
+    → count_by (λ i. same_id i id) ids ≡ 0
+gap-none id ids up zero h =
+    gap-counts id ids up zero (omega arith) (λ lt. absurd (omega (arith, lt)))
+    (λ lt. greater _ (at_place id ids (λ i. is_gt (beside id i)) true zero lt (and_parts _ _ h).0))
+gap-none id ids up (suc n) h =
+    let low = or_rest (suc n == 0) _ (eqb-suc-zero n) (and_parts _ _ h).1 in
+    let inside = is_inside id ids (λ i. is_lt (beside id i)) (suc n - 1) low in
+    gap-counts id ids up (suc n) (omega (arith, inside))
+    (λ lt. at_place id ids (λ i. is_lt (beside id i)) false (suc n - 1) inside low)
+    (λ lt. greater _ (at_place id ids (λ i. is_gt (beside id i)) true (suc n) lt (and_parts _ _ h).0))
 
 -- ---- the rows behind IDs
 

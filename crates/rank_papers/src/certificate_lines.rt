@@ -8,12 +8,12 @@ ghost use Rattle.rank_papers.specs.CertificateLines as certificate;
 
 use crate::certificate_text::{push_end, push_kth, push_line};
 use crate::counted::{Counted, has_count};
-use crate::lines::{are_visible, field_from, first_line, magnitude, number};
+use crate::lines::{field_from, first_line, magnitude, number};
 use crate::query_line::query_of;
 use crate::report_lines::first_word;
 use crate::{Certificate, Line, PaperFault};
 use ghcn_fields::Memory;
-use ghcn_files::StationId;
+use ghcn_files::{StationId, are_visible};
 use rank_query::Query;
 use std::alloc::Global;
 

@@ -26,6 +26,7 @@ use crate::report_text::push_query;
 use crate::row::push_field;
 use crate::station_rows::row_counts;
 use ghcn_fields::Memory;
+use rank_query::Query;
 use rank_sched::{Answer, Line, Plan};
 use rank_scores::Candidate;
 use std::alloc::Global;
@@ -40,12 +41,27 @@ pub fn certificate(alloc: Global, plan: &Plan<'_>, answer: &Answer) -> Result<Ve
         ≡ certificate.certificate_of_best plan.now.query answer.now.best.items answer.now.lines.items) }
     ensures right { IfOk result (λ paper. IsCertificateOfPlan plan.now paper.items) }
 {
+    certificate_of_best(alloc, plan.query(), &answer.best, &answer.lines)
+}
+
+/// The certificate of a query with these best candidates and these lines, in version 2: its k-th score
+/// and its counts are those of the candidates.
+pub fn certificate_of_best(
+    alloc: Global,
+    query: &Query,
+    best: &[Candidate],
+    lines: &[Line],
+) -> Result<Vec<u8>, Memory>
+    ensures text { IfOk result (λ paper.
+        paper.items ≡ certificate.certificate_of_best query.now best.now lines.now) }
+    ensures fits { OnOk result (certificate.AreInRange lines.now) }
+{
     let mut paper = Vec::from_slice(alloc, b"extremes certificate 2\n")?;
-    push_query(alloc, &mut paper, plan.query())?;
-    push_kth(&mut paper, kth_score(plan.query().k(), &answer.best))?;
-    let counts = row_counts(alloc, &answer.best, &answer.lines)?;
-    push_lines(&mut paper, &answer.lines, counts.as_slice())?;
-    push_end(&mut paper, answer.lines.len() as u64)?;
+    push_query(alloc, &mut paper, query)?;
+    push_kth(&mut paper, kth_score(query.k(), best))?;
+    let counts = row_counts(alloc, best, lines)?;
+    push_lines(&mut paper, lines, counts.as_slice())?;
+    push_end(&mut paper, lines.len() as u64)?;
     Ok(paper)
 }
 

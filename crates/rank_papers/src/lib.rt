@@ -20,16 +20,14 @@ mod report_lines;
 mod report_text;
 mod row;
 mod station_rows;
-#[cfg(test)]
-mod tests;
 
 pub use certificate_lines::read_certificate;
-pub use certificate_text::certificate;
+pub use certificate_text::{certificate, certificate_of_best};
 pub use fault::PaperFault;
 pub use laws::{certificates_are_read, papers_of_one_element, reports_are_read};
 pub use paper::{Certificate, Report, Row};
 pub use rank_sched::Line;
 pub use report_lines::read_report;
-pub use report_text::{report, report_of_best};
+pub use report_text::{report, report_of_best, report_of_rows};
 pub use row::trimmed;
 pub use station_rows::row_counts;

@@ -6,7 +6,6 @@ ghost use Rattle.std.specs.Option.{option_map};
 ghost use Rattle.ghcn_fields.specs.Numbers as numbers;
 ghost use Rattle.ghcn_fields.specs.NumberTexts.{whole};
 ghost use Rattle.ghcn_fields.specs.Bytes.{same_bytes};
-ghost use Rattle.ghcn_files.specs.Ids.{is_visible};
 ghost use Rattle.ghcn_files.specs.StationLines.{is_printable};
 ghost use Rattle.rank_papers.specs.Lines as lines;
 
@@ -53,13 +52,6 @@ pub fn are_printable(bytes: &[u8]) -> bool
     ensures { result ≡ list_all is_printable bytes.now }
 {
     bytes.iter().all(|byte| b' ' <= *byte && *byte <= b'~')
-}
-
-/// Whether each byte shows in print.
-pub fn are_visible(bytes: &[u8]) -> bool
-    ensures { result ≡ list_all is_visible bytes.now }
-{
-    bytes.iter().all(|byte| byte.is_ascii_graphic())
 }
 
 /// The number of 64 bits that a field writes, in its one spelling.

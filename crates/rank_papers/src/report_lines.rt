@@ -16,16 +16,14 @@ ghost use Rattle.rank_papers.specs.Lines as lines;
 ghost use Rattle.rank_papers.specs.ReportLines as report;
 ghost use Rattle.rank_papers.specs.Values.{value_of};
 
-use crate::lines::{
-    are_printable, are_visible, columns, field_from, first_line, magnitude, signed,
-};
+use crate::lines::{are_printable, columns, field_from, first_line, magnitude, signed};
 use crate::measure::measure_of;
 use crate::query_line::query_of;
 use crate::report_text::push_end;
 use crate::row::push_named;
 use crate::{PaperFault, Report, Row};
 use ghcn_fields::{Day, Memory, read_date};
-use ghcn_files::StationId;
+use ghcn_files::{StationId, are_visible};
 use itoa::Buffer;
 use memchr::memchr;
 use rank_query::{Query, Score};

@@ -7,15 +7,17 @@
 //! end N                                 N rows; where fewer than were asked for, `end N all`
 //! ```
 
-ghost use Rattle.std.specs.Prelude.{◌≡◌, ◌++◌, OnOk, IfOk};
+ghost use Rattle.std.specs.Prelude.{◌≡◌, ◌++◌, codes, map, OnOk, IfOk};
 ghost use Rattle.std.specs.List.{enumerate_from};
 ghost use Rattle.rank_scores.specs.QueryCandidates.{AreOfListed};
 ghost use Rattle.rank_sched.specs.Answers.{IsAnswerOfPlan};
 ghost use Rattle.rank_papers.specs.PlanPapers.{IsReportOfPlan};
 ghost use Rattle.rank_papers.specs.Report as report;
+ghost use Rattle.rank_papers.specs.ReportLines.{named_in};
 
+use crate::Row;
 use crate::number::push_number;
-use crate::row::push_row;
+use crate::row::{push_named, push_row};
 use ghcn_fields::Memory;
 use ghcn_files::Stations;
 use rank_query::Query;
@@ -42,10 +44,29 @@ pub fn report_of_best(
     ensures text { IfOk result (λ paper. paper.items ≡ report.text_of_best query.now stations.now best.now) }
     ensures right { IfOk result (λ paper. report.IsReportOfBest query.now stations.now best.now paper.items) }
 {
-    let mut paper = Vec::from_slice(alloc, b"extremes report 1\n")?;
-    push_query(alloc, &mut paper, query)?;
+    let mut paper = begun(alloc, query)?;
     push_rows(&mut paper, query, stations, best)?;
     push_end(&mut paper, query.k(), best.len() as u64)?;
+    Ok(paper)
+}
+
+/// The report of a query with these rows, in their order.
+pub fn report_of_rows(alloc: Global, query: &Query, rows: &[Row]) -> Result<Vec<u8>, Memory>
+    ensures { IfOk result (λ paper. paper.items ≡ report.report_text query.now (map named_in rows.now)) }
+{
+    let mut paper = begun(alloc, query)?;
+    push_named_rows(&mut paper, query, rows)?;
+    push_end(&mut paper, query.k(), rows.len() as u64)?;
+    Ok(paper)
+}
+
+/// The title of a report, and the line of its query.
+fn begun(alloc: Global, query: &Query) -> Result<Vec<u8>, Memory>
+    ensures { IfOk result (λ paper. paper.items
+        ≡ codes "extremes report 1\n" ++ report.query_line query.now) }
+{
+    let mut paper = Vec::from_slice(alloc, b"extremes report 1\n")?;
+    push_query(alloc, &mut paper, query)?;
     Ok(paper)
 }
 
@@ -75,6 +96,17 @@ fn push_rows(
             unreachable!();
         };
         push_row(paper, query, place as u64 + 1, candidate, station)?;
+    }
+    Ok(())
+}
+
+/// Adds each row, ranked from 1.
+fn push_named_rows(paper: &mut Vec<u8>, query: &Query, rows: &[Row]) -> Result<(), Memory>
+    ensures { OnOk result (paper.new.items ≡ paper.old.items
+        ++ report.rows_text query.now (enumerate_from 1 (map named_in rows.now))) }
+{
+    for (place, row) in rows.iter().enumerate() {
+        push_named(paper, query, place as u64 + 1, &row.candidate, &row.name)?;
     }
     Ok(())
 }

@@ -15,7 +15,8 @@ use std::alloc::Global;
 
 /// How many rows are of the station of each line, in the order of the lines; 0 where it was passed over.
 ///
-/// The rows are sorted by ID once, so a line costs the logarithm of their number.
+/// The rows are sorted by ID once, so a line costs at most the logarithm of their number; one that
+/// stands with the line before it between the same two rows costs two comparisons.
 pub fn row_counts(alloc: Global, rows: &[Candidate], lines: &[Line]) -> Result<Vec<u64>, Memory>
     ensures { IfOk result (λ found. found.items ≡ map (certificate.count_of rows.now) lines.now) }
 {
@@ -46,30 +47,62 @@ fn counts_in(alloc: Global, ids: &[StationId], lines: &[Line]) -> Result<Vec<u64
     ensures { IfOk result (λ found. found.items ≡ map (counts.count_in ids.now) lines.now) }
 {
     let mut found = Vec::new(alloc);
+    let mut place = 0;
     for line in lines {
-        found.push(count_of(ids, line))?;
+        let (count, behind) = count_of(ids, line, place);
+        found.push(count)?;
+        place = behind;
     }
     Ok(found)
 }
 
-/// How many of some IDs are that of a line, none where it was passed over.
-fn count_of(ids: &[StationId], line: &Line) -> u64
+/// How many of some IDs are that of a line, none where it was passed over, and the place behind
+/// them.
+fn count_of(ids: &[StationId], line: &Line, place: usize) -> (u64, usize)
     requires { counts.AreInOrder ids.now }
-    ensures { result ≡ counts.count_in ids.now line.now }
+    ensures { result.0 ≡ counts.count_in ids.now line.now }
 {
     if line.skipped {
-        0
+        (0, place)
     } else {
-        count(ids, &line.id)
+        count(ids, &line.id, place)
     }
 }
 
-/// How often an ID is among some in order.
-fn count(ids: &[StationId], id: &StationId) -> u64
+/// How often an ID is among some in order, and the place behind it. A place is looked at first, that
+/// behind the line before: lines rise by ID, and most are of stations without rows.
+fn count(ids: &[StationId], id: &StationId, place: usize) -> (u64, usize)
     requires { counts.AreInOrder ids.now }
-    ensures { result ≡ count_by (λ i. same_id i id.now) ids.now }
+    ensures { result.0 ≡ count_by (λ i. same_id i id.now) ids.now }
 {
+    if is_gap(ids, id, place) {
+        return (0, place);
+    }
     let before = ids.partition_point(|it| it.cmp(id).is_lt());
     let through = ids.partition_point(|it| it.cmp(id).is_le());
-    (through - before) as u64
+    ((through - before) as u64, through)
+}
+
+/// Whether an ID would stand at a place among some in order, and is the same as neither neighbour.
+fn is_gap(ids: &[StationId], id: &StationId, place: usize) -> bool
+    ensures { result ≡ counts.is_gap ids.now id.now place }
+{
+    let is_before = match ids.get(place) {
+        Some(next) => next.cmp(id).is_gt(),
+        None => true,
+    };
+    is_before && is_behind(ids, id, place)
+}
+
+/// Whether an ID stands behind the one in front of a place, if there is one.
+fn is_behind(ids: &[StationId], id: &StationId, place: usize) -> bool
+    ensures { result ≡ counts.is_behind ids.now id.now place }
+{
+    if place == 0 {
+        return true;
+    }
+    match ids.get(place - 1) {
+        Some(last) => last.cmp(id).is_lt(),
+        None => false,
+    }
 }

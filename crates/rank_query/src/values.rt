@@ -1,11 +1,9 @@
 //! What single words of a query text are read as.
 
 ghost use Rattle.std.specs.Prelude.{◌≡◌, true, ◌+◌, ◌<◌, ◌^◌, ◌&&◌, int_le, min, IfOk, IsTrue, length};
-ghost use Rattle.std.specs.List.{list_all};
 ghost use Rattle.std.specs.Option.{option_map};
 ghost use Rattle.ghcn_fields.specs.Numbers.{natural, joined, decimal_number, signed_by};
 ghost use Rattle.ghcn_fields.specs.Days.{is_within};
-ghost use Rattle.ghcn_files.specs.Ids.{is_visible};
 ghost use Rattle.rank_query.specs.Asked.{is_code, is_temperature, is_fall, is_heat, is_month};
 ghost use Rattle.rank_query.specs.Readers as readers;
 ghost use Rattle.rank_query.specs.Readers.{Gives, one_word};
@@ -14,7 +12,7 @@ ghost use Rattle.rank_query.specs.WordValues as values;
 use crate::QueryFault;
 use crate::words::{Words, says};
 use ghcn_fields::{Day, Field, read_date, scaled_field};
-use ghcn_files::Element;
+use ghcn_files::{Element, are_visible};
 use memchr::memchr;
 
 /// The greatest number of degrees from which on a day can be called hot.
@@ -234,13 +232,6 @@ pub(crate) fn code<const N: usize>(words: &mut Words) -> Result<[u8; N], QueryFa
         Ok(code) if are_visible(word) => Ok(code),
         _ => Err(QueryFault::UnexpectedWord(at)),
     }
-}
-
-/// Whether each byte shows in print, from `!` to `~`.
-fn are_visible(bytes: &[u8]) -> bool
-    ensures { result ≡ list_all is_visible bytes.now }
-{
-    bytes.iter().all(|byte| byte.is_ascii_graphic())
 }
 
 /// The day whose date, `YYYY-MM-DD`, the next word is.

@@ -15,7 +15,8 @@ use Rattle.rank_sched.specs.Task.{Task}
 use Rattle.rank_sched.specs.Exchanges.{scanned_for}
 use Rattle.rank_sched.specs.Machine.{Worker, State, worker_of, is_awaited, is_now, refusal, drawn, record_of}
 use Rattle.rank_sched.specs.Machine.{floor_after, IsStep, Does, moved, after, all_stopped}
-use Rattle.rank_sched.specs.Laws.{FailedStaysFailed, OneWorkerHasNoChoice, StepsAreComputed}
+use Rattle.rank_sched.specs.Laws.{FailedStaysFailed, OneWorkerHasNoChoice, StepsAreComputed, WantOfMemoryFails}
+use Rattle.rank_sched.specs.Run.{Running, IsAnswered, IsOfMemory}
 
 -- ---- a machine that failed
 
@@ -30,6 +31,13 @@ failed_stays m m' e (Err (Memory x)) f a = (
       ∙ ap (λ (t : Bool). record m { failed = t }) (sym f),
   ap (λ (t : Bool). not t && all_stopped m.state.workers) f,
 )
+
+-- want of memory leaves a machine that failed
+pub want_fails : WantOfMemoryFails
+want_fails m m' e (Ok x) w a = absurd w
+want_fails m m' e (Err (NoWorker i)) w a = absurd w
+want_fails m m' e (Err (NotNow i)) w a = absurd w
+want_fails m m' e (Err (Memory x)) w a = ap (λ (n : Running). n.failed) a.failed
 
 -- ---- which events are accepted
 

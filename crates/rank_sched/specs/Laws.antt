@@ -114,6 +114,11 @@ abbrev pub FailedStaysFailed : Type 0
 FailedStaysFailed = (m m' : Running) (e : Event) (r : Result (Unit {0}) StepFault) → m.failed ≡ true
     → IsAnswered m e r m' → IsOfMemory r × (m' ≡ m) × (is_stopped m ≡ false)
 
+-- an answer of want of memory leaves a machine that failed
+abbrev pub WantOfMemoryFails : Type 0
+WantOfMemoryFails = (m m' : Running) (e : Event) (r : Result (Unit {0}) StepFault) → IsOfMemory r → IsAnswered m e r m'
+    → m'.failed ≡ true
+
 -- ---- hauls and workers that grow
 
 -- a haul of a worker, and one record more of a later morsel that passes over what it should, is a haul of the worker

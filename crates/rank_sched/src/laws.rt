@@ -3,7 +3,7 @@
 ghost use Rattle.rank_sched.specs.Laws as laws;
 
 /// Every event that isn't refused leads to one state, one worker ends in one way, runs are sound
-/// from the start on, and a machine that failed stays failed.
+/// from the start on, and a machine that was refused memory has failed and stays so.
 pub fn runs_are_sound()
     ensures steps { laws.StepsAreComputed }
     ensures choice { laws.OneWorkerHasNoChoice }
@@ -11,6 +11,7 @@ pub fn runs_are_sound()
     ensures records { laws.RecordsAloneAreOne }
     ensures sound { laws.RunsAreSound }
     ensures seen { laws.SeenIsAtMost }
+    ensures memory { laws.WantOfMemoryFails }
     ensures failed { laws.FailedStaysFailed }
 {}
 

@@ -75,7 +75,7 @@ impl<'a> Plan<'a> {
         ensures { IfOk result (λ made. made ≡ plan.planned query.now held.now) }
     {
         let mut morsels = morsels_of(alloc, held, query, bounds)?;
-        morsels.sort_by(|a, b| drawn_cmp(a, b))?;
+        morsels.sort_unstable_by(|a, b| drawn_cmp(a, b));
         Ok(Plan {
             data: held,
             query: *query,

@@ -9,3 +9,4 @@ pub mod QueryCandidates
 pub mod Extremes
 pub mod SeriesCandidates
 pub mod OneElement
+pub mod Cut

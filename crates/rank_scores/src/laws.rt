@@ -1,5 +1,7 @@
 //! What is true of the candidates of every series and query, as laws over the definitions.
 
+ghost use Rattle.ghcn_series.specs.JoinedFiles as joined;
+ghost use Rattle.rank_scores.specs.Cut as cut;
 ghost use Rattle.rank_scores.specs.OneElement as one_element;
 ghost use Rattle.rank_scores.specs.QueryCandidates as query;
 ghost use Rattle.rank_scores.specs.SeriesCandidates as series;
@@ -29,4 +31,15 @@ pub fn one_element_is_enough()
     ensures morsels { one_element.MorselsStay }
     ensures best { one_element.BestStay }
     ensures kth { one_element.KthStays }
+{}
+
+/// Files that are cut into parts are cut as a query sees them, where no station has morsels in two
+/// parts: the candidates of all files are those of the parts, and the morsels serve for those of
+/// the parts. Where no station has a series of the query's element in two parts, they are the same
+/// series. What all files say is what the parts say, and so are all series where they are apart.
+pub fn files_in_parts()
+    ensures cut { cut.CutByFiles }
+    ensures morsels { cut.MorselsOfParts }
+    ensures facts { joined.FactsOfParts }
+    ensures series { joined.SeriesOfParts }
 {}

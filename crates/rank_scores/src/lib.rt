@@ -17,7 +17,9 @@ mod window;
 pub use admitted::has_admitted_day;
 pub use best::best_first;
 pub use candidate::{Candidate, precedes};
-pub use laws::{candidates_of_queries, candidates_of_series, one_element_is_enough};
+pub use laws::{
+    candidates_of_queries, candidates_of_series, files_in_parts, one_element_is_enough,
+};
 pub use scans::scan;
 pub use sink::Sink;
 pub use spell::Spell;

@@ -1,4 +1,4 @@
-//! The tests of the crates that read: fields, files and queries. A module has those of a crate.
+//! The tests of the crates that read: fields, files, series and queries. A module has those of a crate.
 //!
 //! They know these crates as their callers do, by what they show.
 #![tactic(auto)]
@@ -8,6 +8,10 @@ mod fields;
 #[cfg(test)]
 mod files;
 #[cfg(test)]
+mod growths;
+#[cfg(test)]
 mod query;
+#[cfg(test)]
+mod series;
 #[cfg(test)]
 mod texts;

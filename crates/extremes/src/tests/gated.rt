@@ -2,6 +2,7 @@
 
 use super::*;
 use rank_crew::Gate;
+use std::sync::Wait;
 use std::sync::atomic::{AtomicBool, AtomicU64, Ordering};
 use std::thread::yield_now;
 

@@ -4,6 +4,10 @@
 //! answered what it has to.
 
 use super::*;
+use crate::merge::{MergingFault, PartTexts, merge_texts};
+use ghcn_fields::Memory;
+use rank_merge::MergeFault;
+use std::process::Abort;
 
 const BEST_CERTIFICATE: &[u8] = b"extremes certificate 2
 query top 1 highest TMAX
@@ -30,6 +34,17 @@ scan ZZA00000001 311 2
 scan ZZA00000002 311 1
 scan ZZA00000003 250 1
 end 3
+";
+
+const NO_DATA: &[u8] = b"extremes report 1
+query top 10 highest TMAX
+end 0 all
+";
+
+const NO_DATA_CERTIFICATE: &[u8] = b"extremes certificate 1
+query top 10 highest TMAX
+kth none
+end 0
 ";
 
 /// Prints what a call met: papers or a verdict, which were compared before, or want of memory.
@@ -98,4 +113,34 @@ fn a_judgement_of_right_papers(rt: HostRuntime) -> Result<(), Fail> {
         assert_eq!(rt; *verdict, Verdict::Accepted);
     }
     print_met(&rt, judged.err())
+}
+
+/// The papers of a part.
+fn part(alloc: Global, report: &[u8], certificate: &[u8]) -> Result<PartTexts, AllocError> {
+    Ok(PartTexts {
+        report: Vec::from_slice(alloc, report)?,
+        certificate: Vec::from_slice(alloc, certificate)?,
+    })
+}
+
+#[test]
+fn a_merge_of_merged_papers(rt: HostRuntime) -> Result<(), Fail> {
+    let query = "top 10 highest TMAX";
+    let (Ok(none), Ok(all)) = (
+        part(rt.alloc(), NO_DATA, NO_DATA_CERTIFICATE),
+        part(rt.alloc(), ALL, ALL_CERTIFICATE),
+    ) else {
+        return print_met(&rt, Some(Fault::Memory(Memory)));
+    };
+    match merge_texts(rt.alloc(), query, &[none, all]) {
+        Ok(papers) => {
+            assert_eq!(rt; papers.report.as_slice(), ALL);
+            assert_eq!(rt; papers.certificate.as_slice(), ALL_CERTIFICATE);
+            print_met(&rt, None)
+        }
+        Err(fault) => {
+            assert_eq!(rt; fault, MergingFault::Parts(MergeFault::Memory(Memory)));
+            print_met(&rt, Some(Fault::Memory(Memory)))
+        }
+    }
 }

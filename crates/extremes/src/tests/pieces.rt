@@ -1,10 +1,14 @@
 //! Rankings of files that come in pieces, or from a source.
 
-ghost use Rattle.rank_input.specs.Taken.{HasTakenSome};
-
 use super::*;
 use crate::rank::rank_intake;
+use ghcn_files::LineWhy;
+use ghcn_series::DailyWhy;
 use rank_input::{Intake, feed};
+use std::alloc::AllocError;
+use std::process::Abort;
+use std::sync::Wait;
+use std::thread::Threads;
 
 /// What two workers rank of files that come in pieces of a length.
 fn ranked_by_pieces<R: Threads + Wait + AllocGlobal + Sync>(
@@ -71,41 +75,6 @@ fn pieces_of_any_length(rt: HostRuntime) -> Result<(), Fail> {
     check_pieces(&rt, &[b"", cut, DAILY, &DAILY[..200]], Err(repeated));
     check_pieces(&rt, &[first, &cut[270..], &others[270..]], Ok(REPORT));
     Ok(())
-}
-
-/// Ends so many files.
-fn end_files(intake: &mut Intake, count: u64)
-    requires { HasTakenSome intake.old }
-    ensures { HasTakenSome intake.new }
-{
-    for _ in 0..count {
-        intake.end_of_file();
-    }
-}
-
-#[test]
-fn files_behind_a_fault_are_counted(rt: HostRuntime) {
-    let fault = Fault::DailyLine {
-        file: 1,
-        line: 1,
-        why: DailyWhy::Line(LineWhy::Short),
-    };
-    let bad_query = Fault::UnexpectedWord(3);
-    let cases: [(&str, &[u8], u64, &[u8], Fault); 5] = [
-        ("top 1 dry", b"x", 1 << 20, b"", fault),
-        ("top 1 dry", b"x", 1 << 20, b"y", Fault::TooManyFiles),
-        ("top 1 dry", b"x", (1 << 20) + 1, b"", Fault::TooManyFiles),
-        ("top 1 dry", b"", (1 << 20) + 1, b"", Fault::TooManyFiles),
-        ("top 1 icy", b"x", (1 << 20) + 1, b"", bad_query),
-    ];
-    for (query, first, count, last, expected) in cases {
-        let mut intake = Intake::new(rt.alloc(), 1, None, query, STATIONS);
-        intake.piece(first);
-        end_files(&mut intake, count);
-        intake.piece(last);
-        let found = intake.finish().err();
-        assert_eq!(rt; found, Some(expected), "{count} files, at {query}");
-    }
 }
 
 #[test]

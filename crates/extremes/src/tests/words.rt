@@ -2,6 +2,7 @@
 
 use super::*;
 use command_line::{Command, CommandFault, command};
+use std::alloc::AllocError;
 
 fn words_of(alloc: Global, words: &[&str]) -> Result<Vec<String>, AllocError> {
     words
@@ -59,6 +60,49 @@ fn commands_of_words(rt: HostRuntime) -> Result<(), Fail> {
 }
 
 #[test]
+fn commands_to_merge(rt: HostRuntime) -> Result<(), Fail> {
+    let merge = [
+        "merge",
+        "r",
+        "c",
+        "--query=q",
+        "--certificate",
+        "o",
+        "s",
+        "d",
+    ];
+    let Ok(
+        Command::Merge {
+            query,
+            certificate,
+            parts,
+        },
+    ) = command(rt.alloc(), words_of(rt.alloc(), &merge)?)
+    else {
+        return Err(Fail::from("no command to merge"));
+    };
+    assert_eq!(rt; query.as_str(), "q");
+    assert_eq!(rt; certificate.as_ref().map(|path| path.as_str()), Some("o"));
+    assert_eq!(rt; parts.len(), 2);
+    for (part, (report, certificate)) in parts.iter().zip([("r", "c"), ("s", "d")]) {
+        assert_eq!(rt; part.report.as_str(), report);
+        assert_eq!(rt; part.certificate.as_str(), certificate);
+    }
+    let none = words_of(rt.alloc(), &["merge", "--query=q"])?;
+    let none = command(rt.alloc(), none);
+    assert!(rt;
+        matches!(
+            none,
+            Ok(Command::Merge {
+                certificate: None,
+                ..
+            })
+        )
+    );
+    Ok(())
+}
+
+#[test]
 fn commands_to_check(rt: HostRuntime) -> Result<(), Fail> {
     let check = [
         "check",
@@ -75,6 +119,7 @@ fn commands_to_check(rt: HostRuntime) -> Result<(), Fail> {
             query,
             report,
             certificate,
+            part,
             files,
         },
     ) = command(rt.alloc(), words_of(rt.alloc(), &check)?)
@@ -89,6 +134,22 @@ fn commands_to_check(rt: HostRuntime) -> Result<(), Fail> {
     for (file, expected) in files.iter().zip(["a", "b"]) {
         assert_eq!(rt; file.as_str(), expected);
     }
+    assert!(rt; !part);
+    let of_part = [
+        "check",
+        "--part",
+        "--stations=s",
+        "--query=q",
+        "--report=r",
+        "--certificate=c",
+    ];
+    let of_part = words_of(rt.alloc(), &of_part)?;
+    assert!(rt;
+        matches!(
+            command(rt.alloc(), of_part),
+            Ok(Command::Check { part: true, .. })
+        )
+    );
     let without = words_of(
         rt.alloc(),
         &["check", "--stations=s", "--query=q", "--report=r"],
@@ -99,7 +160,19 @@ fn commands_to_check(rt: HostRuntime) -> Result<(), Fail> {
 
 #[test]
 fn texts_of_words(rt: HostRuntime) -> Result<(), Fail> {
-    let cases: [(&[&str], &str); 11] = [
+    let odd =
+        "error: the papers stand in pairs, a report and its certificate, and the last is alone\n";
+    let cases: [(&[&str], &str); 15] = [
+        (&["merge", "--query=q", "r"], odd),
+        (&["merge", "r", "c", "s", "--query=q"], odd),
+        (
+            &["merge"],
+            "merge --query <QUERY> [--certificate <OUT>] [REPORT CERTIFICATE]...\n",
+        ),
+        (
+            &["merge", "--help"],
+            "\n  refused twice ID                                  the station has lines",
+        ),
         (
             &["check", "--help"],
             "\n  NotBest          fewer or more candidates precede it",

@@ -13,21 +13,23 @@ returns c =
     = ap app_of_fields c.after_help.ensures ∙ ap app_of_fields c.about.ensures ∙ c.new.ensures.app in
     let plain : (fields_of c.after_help.result).has_globals ≡ false
     = ap (λ f. f.has_globals) c.after_help.ensures ∙ ap (λ f. f.has_globals) c.about.ensures ∙ c.new.ensures.local in
-    let options = c.in_ok-arg-4.ensures.shape c.needed-4.ensures.local
+    let options = c.in_ok-arg-5.ensures.shape c.flag.ensures.local
+    ∙ ap₂ with_rule (c.in_ok-arg-4.ensures.shape c.needed-4.ensures.local
     ∙ ap₂ with_rule (c.in_ok-arg-3.ensures.shape c.needed-3.ensures.local
     ∙ ap₂ with_rule (c.in_ok-arg-2.ensures.shape c.needed-2.ensures.local
     ∙ ap₂ with_rule (c.in_ok-arg.ensures.shape c.needed.ensures.local
     ∙ ap₂ with_rule made c.needed.ensures.rule) c.needed-2.ensures.rule) c.needed-3.ensures.rule)
-    c.needed-4.ensures.rule in
-    let without = c.in_ok-arg-4.ensures.globals
+    c.needed-4.ensures.rule) c.flag.ensures.rule in
+    let without = c.in_ok-arg-5.ensures.globals
+    ∙ ap₂ either (c.in_ok-arg-4.ensures.globals
     ∙ ap₂ either (c.in_ok-arg-3.ensures.globals ∙ ap₂ either (c.in_ok-arg-2.ensures.globals
     ∙ ap₂ either (c.in_ok-arg.ensures.globals
     ∙ ap₂ either plain c.needed.ensures.local) c.needed-2.ensures.local) c.needed-3.ensures.local)
-    c.needed-4.ensures.local in
+    c.needed-4.ensures.local) c.flag.ensures.local in
     record {
-      app = IfOk-weaker c.arg-5.result _ _
-          (λ r h. h.shape c.daily_files.ensures.local ∙ ap₂ with_rule options c.daily_files.ensures.rule)
-          c.arg-5.ensures;
-      local = IfOk-weaker c.arg-5.result _ _
-          (λ r h. h.globals ∙ ap₂ either without c.daily_files.ensures.local) c.arg-5.ensures;
+      app = IfOk-weaker c.arg-6.result _ _
+          (λ r h. h.shape c.many.ensures.local ∙ ap₂ with_rule options c.many.ensures.rule)
+          c.arg-6.ensures;
+      local = IfOk-weaker c.arg-6.result _ _
+          (λ r h. h.globals ∙ ap₂ either without c.many.ensures.local) c.arg-6.ensures;
     }

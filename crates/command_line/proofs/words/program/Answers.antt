@@ -26,14 +26,18 @@ returns c =
     ∙ ap (λ f. f.has_globals) c.after_help.ensures ∙ ap (λ f. f.has_globals) c.override_usage.ensures
     ∙ ap (λ f. f.has_globals) c.about.ensures ∙ c.new.ensures.local in
     let rank_local = c.in_ok-rank_words.ensures.local in
+    let merge_local = c.in_ok-merge_words.ensures.local in
     let check_local = c.in_ok-check_words.ensures.local in
-    let ranks = c.in_ok-subcommand.ensures.shape rank_local
-    ∙ ap₂ with_subcommand made (ap (λ (a : App). a.top) c.in_ok-rank_words.ensures.app) in
-    let without = c.in_ok-subcommand.ensures.globals ∙ ap₂ either plain rank_local in
+    let merges = c.in_ok-subcommand-2.ensures.shape merge_local
+    ∙ ap₂ with_subcommand (c.in_ok-subcommand.ensures.shape rank_local
+    ∙ ap₂ with_subcommand made (ap (λ (a : App). a.top) c.in_ok-rank_words.ensures.app))
+    (ap (λ (a : App). a.top) c.in_ok-merge_words.ensures.app) in
+    let without = c.in_ok-subcommand-2.ensures.globals
+    ∙ ap₂ either (c.in_ok-subcommand.ensures.globals ∙ ap₂ either plain rank_local) merge_local in
     record {
-      app = IfOk-weaker c.subcommand-2.result _ _
+      app = IfOk-weaker c.subcommand-3.result _ _
           (λ r h. h.shape check_local
-          ∙ ap₂ with_subcommand ranks (ap (λ (a : App). a.top) c.in_ok-check_words.ensures.app)) c.subcommand-2.ensures;
-      local = IfOk-weaker c.subcommand-2.result _ _
-          (λ r h. h.globals ∙ ap₂ either without check_local) c.subcommand-2.ensures;
+          ∙ ap₂ with_subcommand merges (ap (λ (a : App). a.top) c.in_ok-check_words.ensures.app)) c.subcommand-3.ensures;
+      local = IfOk-weaker c.subcommand-3.result _ _
+          (λ r h. h.globals ∙ ap₂ either without check_local) c.subcommand-3.ensures;
     }

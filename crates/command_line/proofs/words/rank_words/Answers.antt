@@ -45,8 +45,8 @@ returns c =
     c.option-3.ensures.local in
     record {
       app = IfOk-weaker c.arg-6.result _ _
-          (λ r h. h.shape c.daily_files.ensures.local ∙ ap₂ with_rule options c.daily_files.ensures.rule)
+          (λ r h. h.shape c.many.ensures.local ∙ ap₂ with_rule options c.many.ensures.rule)
           c.arg-6.ensures;
       local = IfOk-weaker c.arg-6.result _ _
-          (λ r h. h.globals ∙ ap₂ either without c.daily_files.ensures.local) c.arg-6.ensures;
+          (λ r h. h.globals ∙ ap₂ either without c.many.ensures.local) c.arg-6.ensures;
     }

@@ -1,9 +1,10 @@
-use Rattle.std.proofs.Common.{◌≡◌, List, None, sym, ap, ◌∙◌}
+use Rattle.std.proofs.Common.{◌≡◌, List, map, None, sym, ap, ◌∙◌}
 use Rattle.ghcn_fields.specs.Faults.{first_failing}
 use Rattle.rank_scores.specs.declared.candidate.Candidate.{Candidate}
 use Rattle.rank_scores.specs.Morsels.{kth_of_query}
 use Rattle.rank_papers.specs.Certificate.{kth_of_best}
-use Rattle.rank_papers.specs.ReportLines.{reported_in}
+use Rattle.rank_papers.specs.declared.paper.Row.{Row}
+use Rattle.rank_papers.specs.ReportLines.{named_in, reported_in}
 use Rattle.rank_papers.specs.CertificateLines.{certified_in}
 use Rattle.rank_check.specs.Survey.{candidates_of}
 use Rattle.rank_check.specs.Tests.{of_rows, or_accepted, report_tests, certificate_tests}
@@ -32,7 +33,7 @@ returns c =
     let apart = c.candidates_of_queries.ensures.apart q held c.stations-stations.ensures.contents in
     let kth : c.kth_score-kth.result ≡ kth_of_query q held =
     c.kth_score-kth.ensures.kth
-    ∙ ap (λ (l : List Candidate). kth_of_best q.k l) (candidates_named c.args.report.now.rows.items)
+    ∙ ap (λ (l : List Row). kth_of_best q.k (of_rows (map named_in l))) c.as_slice-rows.ensures.value
     ∙ kth_known c.certificates_are_read.ensures.read q held c.kth_score-kth.ensures.asked apart
     (reported_in c.args.report.now) c.requires none in
     let lent : candidates_of c.as_slice-rows.result.now ≡ of_rows (reported_in c.args.report.now).rows =

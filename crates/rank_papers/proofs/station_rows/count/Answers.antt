@@ -1,10 +1,10 @@
-use Rattle.std.proofs.Common.{rules, arith, ◌≡◌, ◌+◌, List}
+use Rattle.std.proofs.Common.{rules, arith, ◌≡◌, ◌+◌, ◌∙◌, sym, List}
 use Rattle.std.specs.List.{count_by}
 use Rattle.std.specs.Ordering.{is_lt, is_le}
 use Rattle.std.proofs.lemmas.List.Sorted.{IsPartitionPoint-from_clause}
 use Rattle.ghcn_files.specs.declared.station.StationId.{StationId}
 use Rattle.ghcn_files.specs.Ids.{same_id}
-use Rattle.rank_papers.proofs.StationRows.{beside, less_first, most_first, counted-between}
+use Rattle.rank_papers.proofs.StationRows.{beside, less_first, most_first, counted-between, gap-none}
 use Rattle.rank_papers.proofs.station_rows.count.Goals as goal
 
 -- no more stand before the ID than aren't behind it
@@ -34,3 +34,8 @@ returns c =
     (IsPartitionPoint-from_clause (λ i. is_le (beside id i)) ids _ c.partition_point-through.ensures.partitioned
     (most_first id ids c.requires) (λ a r q k. search rules)) in
     omega (arith, between)
+
+-- in a gap there is none
+pub returns-then-is_gap : goal.returns-then-is_gap
+returns-then-is_gap c =
+    sym (gap-none c.args.id.now c.args.ids.now c.requires c.args.place (sym c.is_gap.ensures ∙ c.if-is_gap.true))

@@ -1,4 +1,4 @@
-use Rattle.rank_sched.proofs.Machines.{steps_computed, one_worker, failed_stays}
+use Rattle.rank_sched.proofs.Machines.{steps_computed, one_worker, failed_stays, want_fails}
 use Rattle.rank_sched.proofs.OneWay.{ends_one_way, one_list}
 use Rattle.rank_sched.proofs.SoundSteps.{runs_sound}
 use Rattle.rank_sched.proofs.OneList.{seen_at_most}
@@ -27,6 +27,10 @@ returns-clause-sound c = runs_sound
 -- no floor that was seen is above the floor
 pub returns-clause-seen : goal.returns-clause-seen
 returns-clause-seen c = seen_at_most
+
+-- want of memory leaves a machine that failed
+pub returns-clause-memory : goal.returns-clause-memory
+returns-clause-memory c = want_fails
 
 -- a machine that failed stays failed, and is never stopped
 pub returns-clause-failed : goal.returns-clause-failed

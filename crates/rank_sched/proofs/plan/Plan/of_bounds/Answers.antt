@@ -9,11 +9,11 @@ use Rattle.rank_sched.proofs.plan.Plan.of_bounds.Goals as goal
 -- a plan with the sorted morsels is the plan of its query over the data
 pub invariant_of-result : goal.invariant_of-result
 invariant_of-result c =
-    let up = c.in_ok-sort_by.ensures.sorted (strictly planned_morsel) (strictly_ranks planned_morsel)
+    let up = c.sort_unstable_by.ensures.sorted (strictly planned_morsel) (strictly_ranks planned_morsel)
     (answers_always _ _ _ (λ f a r g called. search rules)) in
-    let same : map planned_morsel c.sort_by.new.self.items ≡ (plan.planned c.args.query.now c.args.held.now).morsels =
-    sort-planned c.args.query.now c.args.held.now planned_morsel c.in_ok-morsels.morsels.items c.sort_by.new.self.items
-    c.morsels_of.ensures.contents c.in_ok-morsels.ensures.morsels c.sort_by.ensures.permutation up in
+    let same : map planned_morsel c.sort_unstable_by.new.self.items ≡ (plan.planned c.args.query.now c.args.held.now).morsels =
+    sort-planned c.args.query.now c.args.held.now planned_morsel c.in_ok-morsels.morsels.items c.sort_unstable_by.new.self.items
+    c.morsels_of.ensures.contents c.in_ok-morsels.ensures.morsels c.sort_unstable_by.ensures.permutation up in
     record {
       asked = c.morsels_of.ensures.asked;
       held = c.args.held.now;
@@ -29,11 +29,11 @@ invariant_of-result c =
 -- the sorted morsels are the plan's
 pub returns : goal.returns
 returns c =
-    let up = c.in_ok-sort_by.ensures.sorted (strictly planned_morsel) (strictly_ranks planned_morsel)
+    let up = c.sort_unstable_by.ensures.sorted (strictly planned_morsel) (strictly_ranks planned_morsel)
     (answers_always _ _ _ (λ f a r g called. search rules)) in
-    let same : map planned_morsel c.sort_by.new.self.items ≡ (plan.planned c.args.query.now c.args.held.now).morsels =
-    sort-planned c.args.query.now c.args.held.now planned_morsel c.in_ok-morsels.morsels.items c.sort_by.new.self.items
-    c.morsels_of.ensures.contents c.in_ok-morsels.ensures.morsels c.sort_by.ensures.permutation up in
+    let same : map planned_morsel c.sort_unstable_by.new.self.items ≡ (plan.planned c.args.query.now c.args.held.now).morsels =
+    sort-planned c.args.query.now c.args.held.now planned_morsel c.in_ok-morsels.morsels.items c.sort_unstable_by.new.self.items
+    c.morsels_of.ensures.contents c.in_ok-morsels.ensures.morsels c.sort_unstable_by.ensures.permutation up in
     ap (λ (l : List plan.Morsel). record {
       query = c.args.query.now;
       stations = c.args.held.now.stations;

@@ -1,0 +1,6 @@
+use Rattle.extremes.proofs.RankedParts.{merged-is-ranked}
+use Rattle.extremes.proofs.laws.merged_is_ranked.Goals as goal
+
+-- the law
+pub returns : goal.returns
+returns c = merged-is-ranked

@@ -1,6 +1,0 @@
-use Rattle.rank_input.specs.Taken.{HasTakenSome}
-use Rattle.extremes.proofs.tests.pieces.end_files.Given as goal
-
--- what was given stays what an intake was given
-abbrev pub invariant-loop : goal.invariant-loop
-invariant-loop l = HasTakenSome l.intake

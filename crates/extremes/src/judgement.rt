@@ -1,0 +1,28 @@
+//! What is said of papers: over the files that they are of, or over a part of these.
+
+use rank_check::Verdict;
+use rank_parts::PartVerdict;
+use std::fmt;
+
+/// What is said of a report and a certificate.
+#[derive(Clone, Copy, Debug, PartialEq, Eq)]
+pub enum Judgement {
+    /// By the files that the papers are of.
+    Whole(Verdict),
+    /// By some of them.
+    Part(PartVerdict),
+}
+
+impl fmt::Display for Judgement {
+    ghost use Rattle.std.specs.Prelude.{Some};
+    ghost use Rattle.extremes.specs.Printed.{text_of};
+
+    ghost output = { λ judgement. Some (text_of judgement) };
+
+    fn fmt<W: fmt::Write>(&self, f: &mut fmt::Formatter<W>) -> fmt::Result {
+        match self {
+            Judgement::Whole(verdict) => write!(f, "{verdict}"),
+            Judgement::Part(verdict) => write!(f, "{verdict}"),
+        }
+    }
+}

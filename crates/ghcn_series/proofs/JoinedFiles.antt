@@ -1,0 +1,159 @@
+-- Files that are cut into parts: the facts of all of them are those of the parts, and so are the days that they say.
+use Rattle.std.proofs.Common.{◌≡◌, ℕ, ◌+◌, Bool, true, false, cond, not, List, [], ◌∷◌, ◌++◌, length, map, filter}
+use Rattle.std.proofs.Common.{Option, None, Some, Ok, Err, refl, sym, ap, ◌∙◌, arith}
+use Rattle.std.specs.Prelude.{◌==◌, ◌&&◌, nat_le, ◌^◌}
+use Rattle.std.specs.List.{filter_map, flat_map, cons_option, enumerate_from, AllZip}
+use Rattle.std.proofs.lemmas.Bool.{eqb-true, not-false}
+use Rattle.std.proofs.lemmas.Grind.{flat_map-append}
+use Rattle.std.proofs.lemmas.List.{map-append, append-nil}
+use Rattle.std.proofs.lemmas.List.Elements.{filter-append, filter_map-append}
+use Rattle.std.proofs.lemmas.List.Folds.{flat_map-map}
+use Rattle.ghcn_fields.specs.Bytes.{is_blank}
+use Rattle.ghcn_fields.specs.Faults.{first_fault}
+use Rattle.ghcn_fields.specs.Lines.{numbered_lines}
+use Rattle.ghcn_fields.specs.LineLaws.{enumerate_from-append}
+use Rattle.ghcn_fields.specs.Sorting.{sorted_by}
+use Rattle.ghcn_files.specs.declared.station.StationId.{StationId}
+use Rattle.ghcn_files.specs.declared.station.Station.{Station}
+use Rattle.ghcn_files.specs.declared.element.Element.{Element}
+use Rattle.ghcn_files.specs.declared.month.Month.{Month}
+use Rattle.ghcn_files.specs.Ids.{same_id}
+use Rattle.ghcn_files.specs.Elements.{same_element}
+use Rattle.ghcn_series.specs.declared.fault.DataFault.{DataFault}
+use Rattle.ghcn_series.specs.declared.fault.DataFault.TheVariants.{TooManyFiles}
+use Rattle.ghcn_series.specs.Series.{DayValue, Contents, by_day}
+use Rattle.ghcn_series.specs.DailyFaults.{FileLine, daily_lines, daily_fault, file_lines, line_of, month_on}
+use Rattle.ghcn_series.specs.Says.{Fact, facts_of, is_usable, contents, contents_unless}
+use Rattle.ghcn_series.specs.JoinedFiles.{facts_in, HaveData, FactsOfParts}
+use Rattle.ghcn_series.proofs.ReadySeries.{length-sorted}
+
+-- ---- the facts of files don't name them
+
+-- the months on lines of a file don't depend on its number
+months-numbered : (a b : ℕ) (ls : List (ℕ × List ℕ))
+    → filter_map month_on (map (line_of a) ls) ≡ filter_map month_on (map (line_of b) ls)
+months-numbered a b [] = refl
+months-numbered a b (l ∷ ls) = ap (cons_option (month_on (line_of b l))) (months-numbered a b ls)
+
+-- the lines of files, the first of this number
+abbrev lines_numbered : ℕ → List (List ℕ) → List FileLine
+lines_numbered n files = flat_map file_lines (enumerate_from n files)
+
+-- the months of files don't depend on the number of the first
+months-from : (a b : ℕ) (files : List (List ℕ))
+    → filter_map month_on (lines_numbered a files) ≡ filter_map month_on (lines_numbered b files)
+months-from a b [] = refl
+months-from a b (file ∷ files) =
+    let told : List (ℕ × List ℕ) = filter (λ l. not (is_blank l.1)) (numbered_lines file) in
+    filter_map-append month_on (file_lines (a, file)) (lines_numbered (a + 1) files)
+    ∙ ap (λ (l : List Month). l ++ filter_map month_on (lines_numbered (a + 1) files)) (months-numbered a b told)
+    ∙ ap (λ (l : List Month). filter_map month_on (file_lines (b, file)) ++ l) (months-from (a + 1) (b + 1) files)
+    ∙ sym (filter_map-append month_on (file_lines (b, file)) (lines_numbered (b + 1) files))
+
+-- the months of files, and of others behind them
+months-append : (files others : List (List ℕ)) → filter_map month_on (daily_lines (files ++ others))
+    ≡ filter_map month_on (daily_lines files) ++ filter_map month_on (daily_lines others)
+months-append files others =
+    ap (λ (l : List (ℕ × List ℕ)). filter_map month_on (flat_map file_lines l)) (enumerate_from-append 1 files others)
+    ∙ ap (filter_map month_on) (flat_map-append file_lines (enumerate_from 1 files)
+    (enumerate_from (1 + length files) others))
+    ∙ filter_map-append month_on (daily_lines files) (lines_numbered (1 + length files) others)
+    ∙ ap (λ (l : List Month). filter_map month_on (daily_lines files) ++ l)
+    (months-from (1 + length files) 1 others)
+
+-- the facts of files, and of others behind them
+pub facts-append : (stations : List Station) (files others : List (List ℕ))
+    → facts_in stations (files ++ others) ≡ facts_in stations files ++ facts_in stations others
+facts-append stations files others =
+    let first : List Month = filter_map month_on (daily_lines files) in
+    let rest : List Month = filter_map month_on (daily_lines others) in
+    ap (λ (ms : List Month). filter (is_usable stations) (flat_map facts_of ms)) (months-append files others)
+    ∙ ap (filter (is_usable stations)) (flat_map-append facts_of first rest)
+    ∙ filter-append (is_usable stations) (flat_map facts_of first) (flat_map facts_of rest)
+
+-- the facts of the files of all parts are those of each part, one part after the other
+pub facts_of_parts : {P : Type 0} (stations : List Station) (files : P → List (List ℕ)) (parts : List P)
+    → facts_in stations (flat_map files parts) ≡ flat_map (λ (f : List Fact). f)
+    (map (λ p. facts_in stations (files p)) parts)
+facts_of_parts stations files [] = refl
+facts_of_parts stations files (p ∷ parts) =
+    facts-append stations (files p) (flat_map files parts)
+    ∙ ap (λ (l : List Fact). facts_in stations (files p) ++ l) (facts_of_parts stations files parts)
+
+-- so it is with parts that are files alone
+pub facts_joined : FactsOfParts
+facts_joined stations parts =
+    facts_of_parts stations (λ files. files) parts
+    ∙ flat_map-map (λ (f : List Fact). f) (facts_in stations) parts
+
+-- ---- what files hold
+
+-- the contents of the lines of files
+abbrev pub contents_in : List Station → List (List ℕ) → Contents
+contents_in stations files = contents stations (daily_lines files)
+
+-- what lines hold, unless one has a fault
+held_unless : (o : Option (FileLine × DataFault)) (c d : Contents) → contents_unless o c ≡ Ok d → c ≡ d
+held_unless None c d e = cc
+held_unless (Some f) c d e = absurd cc
+
+-- unless there are too many files
+held_if_few : (b : Bool) (o : Option (FileLine × DataFault)) (c d : Contents)
+    → cond b (contents_unless o c) (Err TooManyFiles) ≡ Ok d → c ≡ d
+held_if_few true o c d e = held_unless o c d e
+held_if_few false o c d e = absurd cc
+
+-- the data of files without a fault are what their lines hold
+pub data-held : (stations : List Station) (files : List (List ℕ)) (d : Contents) → HaveData stations files d
+    → contents_in stations files ≡ d
+data-held stations files d e =
+    held_if_few (nat_le (length files) (2 ^ 20)) (first_fault (daily_fault stations) (daily_lines files))
+    (contents_in stations files) d e
+
+-- so it is with those of all parts
+pub all_data-held : {P : Type 0} (stations : List Station) (files : P → List (List ℕ)) (parts : List P)
+    (ds : List Contents) → AllZip (λ p d. HaveData stations (files p) d) parts ds
+    → map (λ p. contents_in stations (files p)) parts ≡ ds
+all_data-held stations files [] [] h = refl
+all_data-held stations files [] (d ∷ ds) h = absurd h
+all_data-held stations files (p ∷ parts) [] h = absurd h
+all_data-held stations files (p ∷ parts) (d ∷ ds) h =
+    ap (λ (c : Contents). c ∷ map (λ x. contents_in stations (files x)) parts) (data-held stations (files p) d h.0)
+    ∙ ap (λ (l : List Contents). d ∷ l) (all_data-held stations files parts ds h.1)
+
+-- ---- the days of facts
+
+-- a list without an element
+pub none_in : {X : Type 0} (xs : List X) → (length xs == 0) ≡ true → xs ≡ []
+none_in [] e = refl
+none_in (x ∷ xs) e = absurd (omega (arith, eqb-true (length (x ∷ xs)) 0 e))
+
+-- days without one in their order are none
+none_sorted : (xs : List DayValue) → not (length (sorted_by by_day xs) == 0) ≡ false → xs ≡ []
+none_sorted xs e =
+    none_in xs (ap (λ (n : ℕ). n == 0) (sym (length-sorted xs)) ∙ not-false (length (sorted_by by_day xs) == 0) e)
+
+-- days of which the first ones are none
+pub joined-left : (xs ys : List DayValue) → not (length (sorted_by by_day xs) == 0) ≡ false
+    → sorted_by by_day (xs ++ ys) ≡ sorted_by by_day ys
+joined-left xs ys none = ap (λ (l : List DayValue). sorted_by by_day (l ++ ys)) (none_sorted xs none)
+
+-- and the last ones
+pub joined-right : (xs ys : List DayValue) → not (length (sorted_by by_day ys) == 0) ≡ false
+    → sorted_by by_day (xs ++ ys) ≡ sorted_by by_day xs
+joined-right xs ys none =
+    ap (λ (l : List DayValue). sorted_by by_day (xs ++ l)) (none_sorted ys none)
+    ∙ ap (sorted_by by_day) (append-nil xs)
+
+-- the days of a station and element, as facts come
+abbrev pub days_said : List Fact → StationId → Element → List DayValue
+days_said facts id e =
+    map (λ f. (f.day, f.value)) (filter (λ f. same_id f.id id && same_element f.element e) facts)
+
+-- those of facts, and of others behind them
+pub days_said-append : (xs ys : List Fact) (id : StationId) (e : Element)
+    → days_said (xs ++ ys) id e ≡ days_said xs id e ++ days_said ys id e
+days_said-append xs ys id e =
+    let is_of : Fact → Bool = λ f. same_id f.id id && same_element f.element e in
+    let pair : Fact → DayValue = λ f. (f.day, f.value) in
+    ap (map pair) (filter-append is_of xs ys) ∙ map-append pair (filter is_of xs) (filter is_of ys)

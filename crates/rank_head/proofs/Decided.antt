@@ -1,0 +1,147 @@
+-- Which of some tests decide.
+use Rattle.std.proofs.Common.{◌≡◌, ℕ, true, false, List, [], ◌∷◌, ◌++◌, map, Option, Some, None, refl, sym, ap, ◌∙◌, ℤ}
+use Rattle.std.specs.Option.{option_or, is_some}
+use Rattle.ghcn_fields.specs.Faults.{first_failing}
+use Rattle.rank_query.specs.Asked.{Asked}
+use Rattle.rank_papers.specs.Report.{Named}
+use Rattle.rank_papers.specs.declared.paper.Row.{Row}
+use Rattle.rank_papers.specs.ReportLines.{Reported, named_in}
+use Rattle.rank_papers.specs.Certificate.{Entry, Certified}
+use Rattle.rank_head.specs.declared.fault.HeadFault.{HeadFault}
+use Rattle.rank_head.specs.declared.fault.HeadFault.TheVariants.{OtherReportQuery, OtherCertificateQuery, NotRising}
+use Rattle.rank_head.specs.HeadTests.{Test, same_query, floor_test, order_tests, rising_tests, scanned_tests}
+use Rattle.rank_head.specs.HeadTests.{neighbours, stands_before, Rise, place_tests, count_tests, head_fault}
+use Rattle.rank_head.proofs.FirstPlaces.{first_failing-append, all_pass}
+
+-- a fault that is found decides
+pub some_decides : (ts us : List Test) (seen : Option HeadFault) → seen ≡ first_failing ts → is_some seen ≡ true
+    → seen ≡ first_failing (ts ++ us)
+some_decides ts us None e some = absurd cc
+some_decides ts us (Some fault) e some =
+    ap (λ o. option_or o (first_failing us)) e ∙ sym (first_failing-append ts us)
+
+-- where none is found, it is left to the tests behind
+pub none_decides : (ts us : List Test) (seen : Option HeadFault) → seen ≡ first_failing ts → is_some seen ≡ false
+    → first_failing us ≡ first_failing (ts ++ us)
+none_decides ts us (Some fault) e none = absurd cc
+none_decides ts us None e none =
+    ap (λ o. option_or o (first_failing us)) e ∙ sym (first_failing-append ts us)
+
+-- the first of three that are there
+or_or : (o p r : Option HeadFault) → option_or (option_or o p) r ≡ option_or o (option_or p r)
+or_or None p r = refl
+or_or (Some w) p r = refl
+
+-- no fault of two is none of the second
+pub none_behind : (o p : Option HeadFault) → is_some (option_or o p) ≡ false → p ≡ None
+none_behind None None e = refl
+none_behind None (Some w) e = absurd cc
+none_behind (Some w) p e = absurd cc
+
+-- the tests of the order of rows, of the k-th score and of the order of lines, made one after the other
+pub early_tests : (q : Asked) (rows : List Named) (kth : Option ℤ) (es : List Entry)
+    → option_or (option_or (first_failing (order_tests rows)) (first_failing (floor_test q rows kth ∷ [])))
+    (first_failing (rising_tests es))
+    ≡ first_failing (order_tests rows ++ floor_test q rows kth ∷ rising_tests es)
+early_tests q rows kth es =
+    or_or (first_failing (order_tests rows)) (first_failing (floor_test q rows kth ∷ []))
+    (first_failing (rising_tests es))
+    ∙ ap (option_or (first_failing (order_tests rows)))
+    (sym (first_failing-append (floor_test q rows kth ∷ []) (rising_tests es)))
+    ∙ sym (first_failing-append (order_tests rows) (floor_test q rows kth ∷ rising_tests es))
+
+-- a test that fails is the first, whatever stands behind it
+first_fails : (t : Test) (ts : List Test) → t.0 ≡ false → Some t.1 ≡ first_failing (t ∷ ts)
+first_fails (true, why) ts e = absurd cc
+first_fails (false, why) ts e = refl
+
+-- one that passes leaves it to those behind
+first_passes : (t : Test) (ts : List Test) → t.0 ≡ true → first_failing (t ∷ ts) ≡ first_failing ts
+first_passes (true, why) ts e = refl
+first_passes (false, why) ts e = absurd cc
+
+module _ (q : Asked) (r : Reported) (z : Certified) where
+  -- the tests behind those of the queries
+  abbrev behind : List Test
+  behind = place_tests q r.rows z.kth z.entries ++ count_tests r.rows z.entries z.counts
+
+  -- the test of the report's query, and that of the certificate's
+  abbrev of_report : Test
+  of_report = (same_query r.query q, OtherReportQuery)
+
+  abbrev of_certificate : Test
+  of_certificate = (same_query z.query q, OtherCertificateQuery)
+
+  -- a report of another query is refused first
+  pub other_report : same_query r.query q ≡ false → Some OtherReportQuery ≡ head_fault q r z
+  other_report e = first_fails of_report (of_certificate ∷ behind) e
+
+  -- and then a certificate of another query
+  pub other_certificate : same_query r.query q ≡ true → same_query z.query q ≡ false
+      → Some OtherCertificateQuery ≡ head_fault q r z
+  other_certificate e f =
+      first_fails of_certificate behind f ∙ sym (first_passes of_report (of_certificate ∷ behind) e)
+
+  -- papers of the query are left to the tests behind
+  pub behind_queries : same_query r.query q ≡ true → same_query z.query q ≡ true
+      → head_fault q r z
+      ≡ first_failing (place_tests q r.rows z.kth z.entries ++ count_tests r.rows z.entries z.counts)
+  behind_queries e f =
+      first_passes of_report (of_certificate ∷ behind) e ∙ first_passes of_certificate behind f
+
+-- ---- places
+
+module _ (q : Asked) (rows : List Named) (kth : Option ℤ) (es : List Entry) (o p r s t : Option HeadFault)
+    (order : o ≡ first_failing (order_tests rows)) (floor : p ≡ first_failing (floor_test q rows kth ∷ []))
+    (rise : r ≡ first_failing (rising_tests es)) (both : s ≡ option_or o p) (all : t ≡ option_or s r) where
+  -- the first of the early tests
+  early_is : t ≡ first_failing (order_tests rows ++ floor_test q rows kth ∷ rising_tests es)
+  early_is =
+      let made : t ≡ option_or (option_or (first_failing (order_tests rows)) (first_failing (floor_test q rows kth ∷ [])))
+      (first_failing (rising_tests es)) = cc in
+      made ∙ early_tests q rows kth es
+
+  -- one of them decides
+  pub early_decides : is_some t ≡ true → t ≡ first_failing (place_tests q rows kth es)
+  early_decides e =
+      some_decides (order_tests rows ++ floor_test q rows kth ∷ rising_tests es) (scanned_tests es rows) t early_is e
+
+  -- where none does, the series of rows decide
+  pub late_decides : is_some t ≡ false → first_failing (scanned_tests es rows) ≡ first_failing (place_tests q rows kth es)
+  late_decides e =
+      none_decides (order_tests rows ++ floor_test q rows kth ∷ rising_tests es) (scanned_tests es rows) t early_is e
+
+  -- and the IDs of lines rise
+  pub lines_rise : is_some t ≡ false → Rise es
+  lines_rise e =
+      let none : r ≡ None = none_behind s r (ap is_some (sym all) ∙ e) in
+      all_pass (λ (two : Entry × Entry). stands_before two.0.id two.1.id) NotRising 5 (neighbours es) (sym rise ∙ none)
+
+-- ---- the head
+
+module _ (q : Asked) (r : Reported) (z : Certified) (report : same_query r.query q ≡ true)
+    (certificate : same_query z.query q ≡ true) (rows : List Row) (lines : List Entry) (counts : List ℕ)
+    (rows_are : map named_in rows ≡ r.rows) (lines_are : lines ≡ z.entries) (counts_are : counts ≡ z.counts)
+    (seen : Option HeadFault) (places : seen ≡ first_failing (place_tests q (map named_in rows) z.kth lines)) where
+  -- the tests of places are those of the papers
+  same_places : seen ≡ first_failing (place_tests q r.rows z.kth z.entries)
+  same_places =
+      places
+      ∙ ap (λ (l : List Named). first_failing (place_tests q l z.kth lines)) rows_are
+      ∙ ap (λ (es : List Entry). first_failing (place_tests q r.rows z.kth es)) lines_are
+
+  -- they decide
+  pub places_decide : is_some seen ≡ true → seen ≡ head_fault q r z
+  places_decide e =
+      some_decides (place_tests q r.rows z.kth z.entries) (count_tests r.rows z.entries z.counts) seen same_places e
+      ∙ sym (behind_queries q r z report certificate)
+
+  -- or else the counts do
+  pub counts_decide : is_some seen ≡ false
+      → first_failing (count_tests (map named_in rows) lines counts) ≡ head_fault q r z
+  counts_decide e =
+      ap (λ (l : List Named). first_failing (count_tests l lines counts)) rows_are
+      ∙ ap (λ (es : List Entry). first_failing (count_tests r.rows es counts)) lines_are
+      ∙ ap (λ (ns : List ℕ). first_failing (count_tests r.rows z.entries ns)) counts_are
+      ∙ none_decides (place_tests q r.rows z.kth z.entries) (count_tests r.rows z.entries z.counts) seen same_places e
+      ∙ sym (behind_queries q r z report certificate)

@@ -1,0 +1,7 @@
+pub mod Examples
+pub mod FirstPlaces
+pub mod NamedRows
+pub mod Decided
+pub mod Scanned
+pub mod RightHeads
+pub mod CountSums

@@ -1,0 +1,13 @@
+use Rattle.std.proofs.Common.{◌≡◌, ℕ, ◌+◌, Some, sym, ap, ◌∙◌, arith}
+use Rattle.rank_head.specs.declared.fault.HeadFault.TheVariants.{NotRising}
+use Rattle.rank_head.proofs.lines.rise_fault.Goals as goal
+
+-- none fails
+pub returns-in_err-place : goal.returns-in_err-place
+returns-in_err-place c = c.from_residual.ensures ∙ sym (c.in_err-place.ensures.place NotRising 5)
+
+-- the first that fails
+pub returns : goal.returns
+returns c =
+    let turned : c.in_ok-place.place + 5 ≡ 5 + c.in_ok-place.place = omega arith in
+    ap (λ (n : ℕ). Some (NotRising n)) turned ∙ sym (c.in_ok-place.ensures.place NotRising 5)

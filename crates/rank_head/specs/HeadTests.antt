@@ -1,0 +1,110 @@
+-- What can be seen of a report and a certificate without data, as tests in their order.
+use Rattle.std.specs.Prelude.{◌≡◌, ℕ, suc, Bool, true, false, ◌==◌, ◌&&◌, not, List, [], ◌∷◌, ◌++◌, map, Option}
+use Rattle.std.specs.Prelude.{None, Some, ℤ}
+use Rattle.std.specs.List.{list_any, zip, AllByRecursion}
+use Rattle.std.specs.Ordering.{is_lt, nat_cmp, int_eq}
+use Rattle.std.specs.Cmp.Lexicographic.{slice_cmp}
+use Rattle.ghcn_fields.specs.Bytes.{same_bytes}
+use Rattle.ghcn_fields.specs.Faults.{first_failing}
+use Rattle.ghcn_files.specs.declared.station.StationId.{StationId}
+use Rattle.ghcn_files.specs.Ids.{same_id}
+use Rattle.rank_query.specs.Asked.{Asked}
+use Rattle.rank_query.specs.QueryTexts.{query_text}
+use Rattle.rank_scores.specs.declared.candidate.Candidate.{Candidate}
+use Rattle.rank_scores.specs.Order.{precedes}
+use Rattle.rank_papers.specs.Report.{Named}
+use Rattle.rank_papers.specs.ReportLines.{Reported}
+use Rattle.rank_papers.specs.Certificate.{Entry, Certified, kth_of_best, count_of}
+use Rattle.rank_head.specs.declared.fault.HeadFault.{HeadFault}
+use Rattle.rank_head.specs.declared.fault.HeadFault.TheVariants.{OtherReportQuery, OtherCertificateQuery, OutOfOrder}
+use Rattle.rank_head.specs.declared.fault.HeadFault.TheVariants.{OtherFloor, NotRising, NotScanned, NotCounted}
+
+-- a test that may fail, and why the head is refused where it does
+abbrev pub Test : Type 0
+Test = Bool × HeadFault
+
+-- ---- lines
+
+-- a test of each of these, which stand on the lines from this one on
+abbrev pub on_lines : {A : Type 0} → (A → Bool) → (ℕ → HeadFault) → ℕ → List A → List Test
+on_lines passes why line [] = []
+on_lines passes why line (x ∷ xs) = (passes x, why line) ∷ on_lines passes why (suc line) xs
+
+-- each of these but the last, with the one behind it
+abbrev pub neighbours : {A : Type 0} → List A → List (A × A)
+neighbours [] = []
+neighbours (x ∷ []) = []
+neighbours (x ∷ y ∷ xs) = (x, y) ∷ neighbours (y ∷ xs)
+
+-- the candidates of rows
+abbrev pub of_rows : List Named → List Candidate
+of_rows rows = map (λ row. row.0) rows
+
+-- ---- queries and scores
+
+-- two queries are the same: their canonical texts are equal
+abbrev pub same_query : Asked → Asked → Bool
+same_query a b = same_bytes (query_text a) (query_text b)
+
+-- two scores are the same, or there are none
+abbrev pub same_score : Option ℤ → Option ℤ → Bool
+same_score None None = true
+same_score (Some a) (Some b) = int_eq a b
+same_score a b = false
+
+-- the k-th score is that of the k-th row, where there are k rows, and else none
+abbrev pub floor_test : Asked → List Named → Option ℤ → Test
+floor_test q rows kth = (same_score kth (kth_of_best q.k (of_rows rows)), OtherFloor)
+
+-- ---- rows and lines of series
+
+-- each row precedes the next; the second stands on line 4 of the report
+abbrev pub order_tests : List Named → List Test
+order_tests rows = on_lines (λ two. precedes two.0.0 two.1.0) OutOfOrder 4 (neighbours rows)
+
+-- an ID stands before another
+abbrev pub stands_before : StationId → StationId → Bool
+stands_before a b = is_lt (slice_cmp nat_cmp a.0 b.0)
+
+-- the IDs of lines rise
+abbrev pub Rise : List Entry → Type 0
+Rise es = AllByRecursion (λ two. stands_before two.0.id two.1.id ≡ true) (neighbours es)
+
+-- the test of that; the second stands on line 5 of the certificate
+abbrev pub rising_tests : List Entry → List Test
+rising_tests es = on_lines (λ two. stands_before two.0.id two.1.id) NotRising 5 (neighbours es)
+
+-- a line is of this station, and the series wasn't passed over
+abbrev pub is_scanned : List Entry → StationId → Bool
+is_scanned es id = list_any (λ e. not e.skipped && same_id e.id id) es
+
+-- each row is of a series that was scanned; the first stands on line 3 of the report
+abbrev pub scanned_tests : List Entry → List Named → List Test
+scanned_tests es rows = on_lines (λ row. is_scanned es row.0.id) NotScanned 3 rows
+
+-- the order of rows, the k-th score, the order of lines, and the series of the rows
+abbrev pub place_tests : Asked → List Named → Option ℤ → List Entry → List Test
+place_tests q rows kth es =
+    order_tests rows ++ floor_test q rows kth ∷ rising_tests es ++ scanned_tests es rows
+
+-- each count is the one that is wanted; the first stands on line 4 of the certificate
+abbrev pub matching_tests : List ℕ → List ℕ → List Test
+matching_tests counts wanted = on_lines (λ two. two.0 == two.1) NotCounted 4 (zip counts wanted)
+
+-- each count, where there are any, is the number of rows of its line's station
+abbrev pub count_tests : List Named → List Entry → List ℕ → List Test
+count_tests rows es counts = matching_tests counts (map (count_of (of_rows rows)) es)
+
+-- ---- the head
+
+-- the tests of a report and a certificate, as papers of this query
+abbrev pub head_tests : Asked → Reported → Certified → List Test
+head_tests q r z =
+    (same_query r.query q, OtherReportQuery)
+    ∷ (same_query z.query q, OtherCertificateQuery)
+    ∷ place_tests q r.rows z.kth z.entries
+    ++ count_tests r.rows z.entries z.counts
+
+-- the fault of the first of them that fails
+abbrev pub head_fault : Asked → Reported → Certified → Option HeadFault
+head_fault q r z = first_failing (head_tests q r z)

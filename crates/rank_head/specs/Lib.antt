@@ -1,0 +1,3 @@
+pub mod HeadTests
+pub mod RightHead
+pub mod FirstPlaces

@@ -1,0 +1,74 @@
+//! The head of a report and a certificate: query, order of rows, k-th score, order of lines, and
+//! that each row is of a series that was scanned and counted.
+
+ghost use Rattle.std.specs.Prelude.{◌≡◌, ◌++◌, ◌∷◌, IfOk, map};
+ghost use Rattle.ghcn_fields.specs.Faults.{first_failing};
+ghost use Rattle.rank_papers.specs.ReportLines.{named_in, reported_in};
+ghost use Rattle.rank_papers.specs.CertificateLines.{certified_in};
+ghost use Rattle.rank_head.specs.HeadTests as tests;
+ghost use Rattle.rank_head.specs.RightHead as right;
+
+use crate::HeadFault;
+use crate::laws::heads_are_right;
+use crate::lines::{count_fault, rise_fault};
+use crate::query::is_same_query;
+use crate::rows::{floor_fault, order_fault, scanned_fault};
+use ghcn_fields::Memory;
+use rank_papers::{Certificate, Line, Report, Row};
+use rank_query::Query;
+use std::alloc::Global;
+
+/// The first fault of the head of these papers, as papers of this query.
+///
+/// Of papers that were read there is none exactly where their head is right.
+pub fn check_head(
+    alloc: Global,
+    query: &Query,
+    report: &Report,
+    certificate: &Certificate,
+) -> Result<Option<HeadFault>, Memory>
+    ensures first { IfOk result (λ fault.
+        fault ≡ tests.head_fault query.now (reported_in report.now) (certified_in certificate.now)) }
+    ensures right { IfOk result
+        (right.IsNoneWhereRight query.now (reported_in report.now) (certified_in certificate.now)) }
+{
+    heads_are_right();
+    let _k = query.k();
+    head_fault(alloc, query, report, certificate)
+}
+
+/// The first fault of the head of these papers.
+fn head_fault(
+    alloc: Global,
+    query: &Query,
+    report: &Report,
+    certificate: &Certificate,
+) -> Result<Option<HeadFault>, Memory>
+    ensures { IfOk result (λ fault.
+        fault ≡ tests.head_fault query.now (reported_in report.now) (certified_in certificate.now)) }
+{
+    if !is_same_query(alloc, &report.query, query)? {
+        return Ok(Some(HeadFault::OtherReportQuery));
+    }
+    if !is_same_query(alloc, &certificate.query, query)? {
+        return Ok(Some(HeadFault::OtherCertificateQuery));
+    }
+    let (rows, lines) = (report.rows.as_slice(), certificate.lines.as_slice());
+    let seen = place_fault(query, rows, certificate.kth, lines);
+    if seen.is_some() {
+        return Ok(seen);
+    }
+    count_fault(alloc, rows, lines, certificate.counts.as_slice())
+}
+
+/// The first fault of the places of rows and lines, and of the k-th score.
+fn place_fault(query: &Query, rows: &[Row], kth: Option<i64>, lines: &[Line]) -> Option<HeadFault>
+    ensures { result ≡ first_failing (tests.place_tests query.now (map named_in rows.now) kth lines.now) }
+{
+    let rise = rise_fault(lines);
+    let fault = order_fault(rows).or(floor_fault(query, rows, kth)).or(rise);
+    if fault.is_some() {
+        return fault;
+    }
+    scanned_fault(lines, rows)
+}

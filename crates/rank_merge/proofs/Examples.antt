@@ -1,0 +1,148 @@
+-- Worked merges, by computation.
+use Rattle.std.proofs.Common.{◌≡◌, ℕ, List, [], ◌∷◌, ◌++◌, refl, Ok, Err, None}
+use Rattle.std.specs.Prelude.{codes}
+use Rattle.std.specs.Fmt.{digits}
+use Rattle.jiff_core.specs.Calendar.{days_from_civil, day_count, days_of_years, days_of_months}
+use Rattle.ghcn_fields.specs.Dates.{year_and_rest, month_and_day}
+use Rattle.ghcn_files.specs.declared.element.Element.TheVariants.{Tmax}
+use Rattle.rank_query.specs.declared.score.Score.TheVariants.{Highest}
+use Rattle.rank_query.specs.declared.region.Region.TheVariants.{Everywhere}
+use Rattle.rank_query.specs.Asked.{Asked}
+use Rattle.rank_query.specs.Words.{says}
+use Rattle.rank_query.specs.Readers.{keyword}
+use Rattle.rank_query.specs.WordValues.{number, element}
+use Rattle.rank_query.specs.Reading.{no_score_at, score_at, region_at, season_at, period_at, read_words}
+use Rattle.rank_query.specs.Reading.{read_query}
+use Rattle.rank_merge.specs.declared.fault.MergeFault.TheVariants.{BadReport, BadCertificate, OtherQuery, OutOfOrder}
+use Rattle.rank_merge.specs.declared.fault.MergeFault.TheVariants.{OtherFloor, NotRising, NotScanned, NotCounted, Twice}
+use Rattle.rank_merge.specs.Merging.{Texts, merge}
+
+-- lines, each with a line feed
+abbrev text : List (List ℕ) → List ℕ
+text [] = []
+text (l ∷ ls) = l ++ 10 ∷ text ls
+
+-- the k highest of all
+abbrev ask : ℕ → Asked
+ask k = record { k = k; score = Highest Tmax; region = Everywhere; season = None; period = None }
+
+-- ---- the highest one, of a part with two stations and one with the third
+
+abbrev two : Texts
+two = (
+  text (codes "extremes report 1" ∷ codes "query top 1 highest TMAX"
+      ∷ codes "1 ZZA00000001 2020-07-01 2020-07-01 31.1 C ALPHA" ∷ codes "end 1" ∷ []),
+  text (codes "extremes certificate 2" ∷ codes "query top 1 highest TMAX" ∷ codes "kth 311"
+      ∷ codes "scan ZZA00000001 311 1" ∷ codes "skip ZZA00000002 310" ∷ codes "end 2" ∷ []),
+)
+
+abbrev one : Texts
+one = (
+  text (codes "extremes report 1" ∷ codes "query top 1 highest TMAX"
+      ∷ codes "1 ZZA00000003 2020-07-01 2020-07-01 25.0 C CHARLIE" ∷ codes "end 1" ∷ []),
+  text (codes "extremes certificate 1" ∷ codes "query top 1 highest TMAX" ∷ codes "kth 250"
+      ∷ codes "scan ZZA00000003 250" ∷ codes "end 1" ∷ []),
+)
+
+abbrev two_and_one : Texts
+two_and_one = (
+  text (codes "extremes report 1" ∷ codes "query top 1 highest TMAX"
+      ∷ codes "1 ZZA00000001 2020-07-01 2020-07-01 31.1 C ALPHA" ∷ codes "end 1" ∷ []),
+  text (codes "extremes certificate 2" ∷ codes "query top 1 highest TMAX" ∷ codes "kth 311"
+      ∷ codes "scan ZZA00000001 311 1" ∷ codes "skip ZZA00000002 310" ∷ codes "scan ZZA00000003 250 0" ∷ codes "end 3"
+      ∷ []),
+)
+
+-- in either order they merge into these
+merged : (merge (ask 1) (two ∷ one ∷ []) ≡ Ok two_and_one) × (merge (ask 1) (one ∷ two ∷ []) ≡ Ok two_and_one)
+unfolding digits year_and_rest month_and_day read_query read_words keyword says number element score_at no_score_at
+    region_at season_at period_at days_from_civil day_count days_of_years days_of_months
+merged = (refl, refl)
+
+-- a station on two certificates, another query before a bad form, and a certificate cut short
+refused : (merge (ask 1) (two ∷ two ∷ []) ≡ Err (Twice (record { 0 = codes "ZZA00000001" })))
+    × (merge (ask 2) (two ∷ ([], []) ∷ []) ≡ Err (OtherQuery 1))
+    × (merge (ask 1) (two ∷ (one.0, text (codes "extremes certificate 1" ∷ [])) ∷ []) ≡ Err (BadCertificate 2 2))
+    × (merge (ask 1) (([], one.1) ∷ two ∷ []) ≡ Err (BadReport 1 1))
+unfolding digits year_and_rest month_and_day read_query read_words keyword says number element score_at no_score_at
+    region_at season_at period_at days_from_civil day_count days_of_years days_of_months
+refused = (refl, refl, refl, refl)
+
+-- ---- the three highest, where each part has fewer
+
+abbrev few : Texts
+few = (
+  text (codes "extremes report 1" ∷ codes "query top 3 highest TMAX"
+      ∷ codes "1 ZZA00000001 2020-07-01 2020-07-01 31.1 C ALPHA"
+      ∷ codes "2 ZZA00000001 2020-07-02 2020-07-02 30.5 C ALPHA" ∷ codes "end 2 all" ∷ []),
+  text (codes "extremes certificate 2" ∷ codes "query top 3 highest TMAX" ∷ codes "kth none"
+      ∷ codes "scan ZZA00000001 311 2" ∷ codes "end 1" ∷ []),
+)
+
+abbrev others : Texts
+others = (
+  text (codes "extremes report 1" ∷ codes "query top 3 highest TMAX"
+      ∷ codes "1 ZZA00000002 2020-07-01 2020-07-01 31.1 C BRAVO"
+      ∷ codes "2 ZZA00000003 2020-07-01 2020-07-01 25.0 C CHARLIE" ∷ codes "end 2 all" ∷ []),
+  text (codes "extremes certificate 2" ∷ codes "query top 3 highest TMAX" ∷ codes "kth none"
+      ∷ codes "scan ZZA00000002 311 1" ∷ codes "scan ZZA00000003 250 1" ∷ codes "end 2" ∷ []),
+)
+
+abbrev few_and_others : Texts
+few_and_others = (
+  text (codes "extremes report 1" ∷ codes "query top 3 highest TMAX"
+      ∷ codes "1 ZZA00000001 2020-07-01 2020-07-01 31.1 C ALPHA"
+      ∷ codes "2 ZZA00000002 2020-07-01 2020-07-01 31.1 C BRAVO"
+      ∷ codes "3 ZZA00000001 2020-07-02 2020-07-02 30.5 C ALPHA" ∷ codes "end 3" ∷ []),
+  text (codes "extremes certificate 2" ∷ codes "query top 3 highest TMAX" ∷ codes "kth 305"
+      ∷ codes "scan ZZA00000001 311 2" ∷ codes "scan ZZA00000002 311 1" ∷ codes "scan ZZA00000003 250 0"
+      ∷ codes "end 3" ∷ []),
+)
+
+-- a count falls where a row falls out
+three_merged : merge (ask 3) (others ∷ few ∷ []) ≡ Ok few_and_others
+unfolding digits year_and_rest month_and_day read_query read_words keyword says number element score_at no_score_at
+    region_at season_at period_at days_from_civil day_count days_of_years days_of_months
+three_merged = refl
+
+-- ---- heads
+
+-- the three rows and the three lines of the merged papers
+abbrev rows_1 : List ℕ
+rows_1 = codes "1 ZZA00000001 2020-07-01 2020-07-01 31.1 C ALPHA"
+
+abbrev report_with : List (List ℕ) → List ℕ
+report_with rows = text (codes "extremes report 1" ∷ codes "query top 2 highest TMAX" ∷ rows)
+
+abbrev certificate_with : List (List ℕ) → List ℕ
+certificate_with lines = text (codes "extremes certificate 2" ∷ codes "query top 2 highest TMAX" ∷ lines)
+
+-- a report with two rows in order
+abbrev in_order : List ℕ
+in_order = report_with (rows_1 ∷ codes "2 ZZA00000002 2020-07-01 2020-07-01 30.5 C" ∷ codes "end 2" ∷ [])
+
+-- the line that each reason names
+heads_refused : (merge (ask 2) ((
+  report_with (codes "1 ZZA00000002 2020-07-01 2020-07-01 30.5 C"
+      ∷ codes "2 ZZA00000001 2020-07-01 2020-07-01 31.1 C" ∷ codes "end 2" ∷ []),
+  certificate_with (codes "kth none" ∷ codes "end 0" ∷ []),
+) ∷ []) ≡ Err (OutOfOrder 1 4))
+    × (merge (ask 2) ((in_order, certificate_with (codes "kth none" ∷ codes "end 0" ∷ [])) ∷ []) ≡ Err (OtherFloor 1))
+    × (merge (ask 2) ((
+      in_order,
+      certificate_with (codes "kth 305" ∷ codes "skip ZZA00000002 3"
+          ∷ codes "skip ZZA00000001 3" ∷ codes "end 2" ∷ []),
+    ) ∷ []) ≡ Err (NotRising 1 5))
+    × (merge (ask 2) ((
+      in_order,
+      certificate_with (codes "kth 305" ∷ codes "scan ZZA00000001 311 0"
+          ∷ codes "skip ZZA00000002 3" ∷ codes "end 2" ∷ []),
+    ) ∷ []) ≡ Err (NotScanned 1 4))
+    × (merge (ask 2) ((
+      in_order,
+      certificate_with (codes "kth 305" ∷ codes "scan ZZA00000001 311 1"
+          ∷ codes "scan ZZA00000002 305 0" ∷ codes "end 2" ∷ []),
+    ) ∷ []) ≡ Err (NotCounted 1 5))
+unfolding digits year_and_rest month_and_day read_query read_words keyword says number element score_at no_score_at
+    region_at season_at period_at days_from_civil day_count days_of_years days_of_months
+heads_refused = (refl, refl, refl, refl, refl)

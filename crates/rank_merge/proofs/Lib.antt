@@ -1,0 +1,13 @@
+pub mod Examples
+pub mod Lists
+pub mod OneReport
+pub mod RightOrders
+pub mod RightHeads
+pub mod MergedPapers
+pub mod MergedTexts
+pub mod MeasuredPapers
+pub mod StableSorts
+pub mod Orders
+pub mod ReadParts
+pub mod Merges
+pub mod TwiceInOrder

@@ -1,0 +1,198 @@
+-- The bounds of merged papers are those of the series, where the parts' are, and no station has series in two parts.
+use Rattle.std.proofs.Common.{◌≡◌, inr, ◌≤◌, Bool, true, false, cond, List, [], ◌∷◌, length, map, take, Option, Ok, refl, sym}
+use Rattle.std.proofs.Common.{ap, ◌∙◌, subst, arith, ℕ, ℤ}
+use Rattle.std.specs.Prelude.{nat_le, IfSome, IsTrue, FitsSigned}
+use Rattle.std.specs.Int.{w64}
+use Rattle.std.specs.List.{flat_map, count_by, AllByRecursion, AllZip}
+use Rattle.std.proofs.lemmas.Bool.{leb-true, and_parts}
+use Rattle.std.proofs.lemmas.List.{length-take}
+use Rattle.std.proofs.lemmas.List.Sums.{count_by-le-length}
+use Rattle.ghcn_fields.specs.Sorting.{sorted_by}
+use Rattle.ghcn_files.specs.declared.station.Station.{Station}
+use Rattle.ghcn_files.specs.declared.station.StationId.{StationId}
+use Rattle.ghcn_files.specs.Ids.{is_id, same_id}
+use Rattle.ghcn_series.specs.Series.{Usable, Contents}
+use Rattle.ghcn_series.specs.Held.{IsContents}
+use Rattle.rank_query.specs.Asked.{Asked, IsAsked}
+use Rattle.rank_scores.specs.Cut.{series_first, Filed, IsDataOf, CutByFiles, MorselsOfParts}
+use Rattle.rank_scores.specs.Morsels.{all_candidates, morsels, id_comes_first, best_of_query, kth_of_query}
+use Rattle.rank_scores.specs.declared.candidate.Candidate.{Candidate}
+use Rattle.rank_pool.specs.First.{in_order}
+use Rattle.rank_blocks.specs.Bounds.{bound}
+use Rattle.rank_papers.specs.Certificate.{Entry, Certified, IsEntry, IsCount, IsRightEntry, count_of, counts_of}
+use Rattle.rank_papers.specs.CertificateLines.{read_certificate}
+use Rattle.rank_papers.specs.Laws.{CertificatesAreRead, RightCertificatesSayRight, ReportsAreRead}
+use Rattle.rank_papers.specs.Laws.{RightReportsSayRight}
+use Rattle.rank_papers.specs.PlanPapers.{IsMeasuredCertificate}
+use Rattle.rank_papers.proofs.PlanLines.{sorted-zip}
+use Rattle.rank_head.specs.RightHead.{HeadsAreRight}
+use Rattle.rank_merge.specs.Merged.{entries_of, merged_entries}
+use Rattle.rank_merge.specs.Laws.{IsMeasuredPart, MergedAreMeasured}
+use Rattle.rank_merge.proofs.Lists.{zip-append}
+use Rattle.rank_merge.proofs.MergedPapers.{WithData, IsRightPart, data_of_parts, parts_alone}
+use Rattle.rank_merge.proofs.RightHeads.{best_are}
+use Rattle.rank_merge.proofs.MergedTexts.{all, is_certificate, same_texts, same_data}
+
+-- the data of two lists of measured parts
+measured_data : (q : Asked) (stations : List Station) (parts : List Filed) (ds : List Contents)
+    → AllZip (IsMeasuredPart q stations) parts ds → AllZip (IsDataOf stations) parts ds
+measured_data q stations [] [] h = tt
+measured_data q stations [] (d ∷ ds) h = absurd h
+measured_data q stations (p ∷ parts) [] h = absurd h
+measured_data q stations (p ∷ parts) (d ∷ ds) h = (h.0.0, measured_data q stations parts ds h.1)
+
+module _ (q : Asked) where
+  -- a line has the ID and the bound of a series
+  abbrev pub IsMeasuredEntry : Entry → Usable → Type 0
+  IsMeasuredEntry e u = (e.id ≡ u.id) × (e.bound ≡ bound q u)
+
+  -- right lines whose bounds are those of the series
+  zip_measured : (kth : Option ℤ) (es : List Entry) (us : List Usable) → AllZip (IsRightEntry q kth) es us
+      → map (λ (e : Entry). e.bound) es ≡ map (bound q) us → AllZip IsMeasuredEntry es us
+  zip_measured kth [] [] h e = tt
+  zip_measured kth [] (u ∷ us) h e = absurd h
+  zip_measured kth (x ∷ es) [] h e = absurd h
+  zip_measured kth (x ∷ es) (u ∷ us) h e =
+      let first : x.bound ≡ bound q u = cc in
+      let rest : map (λ (y : Entry). y.bound) es ≡ map (bound q) us = cc in
+      ((h.0.named, first), zip_measured kth es us h.1 rest)
+
+  -- and back
+  zip_bounds : (es : List Entry) (us : List Usable) → AllZip IsMeasuredEntry es us
+      → map (λ (e : Entry). e.bound) es ≡ map (bound q) us
+  zip_bounds [] [] h = refl
+  zip_bounds [] (u ∷ us) h = absurd h
+  zip_bounds (x ∷ es) [] h = absurd h
+  zip_bounds (x ∷ es) (u ∷ us) h =
+      ap (λ (z : ℤ). z ∷ map (λ (e : Entry). e.bound) es) h.0.1
+      ∙ ap (λ (l : List ℤ). bound q u ∷ l) (zip_bounds es us h.1)
+
+  -- in order they stay so
+  sorted_measured : (es : List Entry) (us : List Usable) → AllZip IsMeasuredEntry es us
+      → AllZip IsMeasuredEntry (sorted_by (λ a b. id_comes_first a.id b.id) es) (sorted_by series_first us)
+  sorted_measured es us h =
+      sorted-zip IsMeasuredEntry (λ (a b : Entry). id_comes_first a.id b.id) series_first
+      (λ a x b y r t. ap (λ (i : StationId). id_comes_first i x.id) r.0
+      ∙ ap (λ (i : StationId). id_comes_first b.id i) t.0) es us h
+
+  -- ---- what is read of a measured certificate
+
+  -- entries of the same series can be alike
+  each_can : (kth : Option ℤ) (es fs : List Entry) (us : List Usable) → AllZip (IsRightEntry q kth) es us
+      → AllZip (IsRightEntry q kth) fs us → AllByRecursion IsEntry fs → AllByRecursion IsEntry es
+  each_can kth [] fs us h k can = tt
+  each_can kth (x ∷ es) fs [] h k can = absurd h
+  each_can kth (x ∷ es) [] (u ∷ us) h k can = absurd k
+  each_can kth (x ∷ es) (y ∷ fs) (u ∷ us) h k can = (
+    record {
+      id = subst (λ (i : StationId). IsTrue (is_id i.0)) (k.0.named ∙ sym h.0.named) can.0.id;
+      bound = h.0.fits;
+    },
+    each_can kth es fs us h.1 k.1 can.1,
+  )
+
+  -- of few candidates few are of one station, and none is counted where it was passed over
+  one_count : (best : List Candidate) (x : Entry) → length best ≤ 1000 → IsCount x (count_of best x)
+  one_count best x few =
+      let both = by x.skipped (count_of best x) refl in record { few = both.0; none = both.1 }
+    where
+      counted : count_by (λ c. same_id c.id x.id) best ≤ length best
+      counted = count_by-le-length (λ (c : Candidate). same_id c.id x.id) best
+
+      by : (b : Bool) (n : ℕ) → n ≡ cond b 0 (count_by (λ c. same_id c.id x.id) best)
+          → (n ≤ 1000) × (b ≡ true → n ≡ 0)
+      by true n is = (omega (arith, is), λ t. is)
+      by false n is = (omega (arith, is, counted, few), λ t. absurd cc)
+
+  -- so it is with all counts
+  all_counts : (best : List Candidate) (es : List Entry) → length best ≤ 1000
+      → AllZip IsCount es (map (count_of best) es)
+  all_counts best [] few = tt
+  all_counts best (x ∷ es) few = (one_count best x few, all_counts best es few)
+
+  -- there are at most a thousand best
+  few_best : (c : Contents) → IsAsked q → IsContents c → length (best_of_query q c) ≤ 1000
+  few_best c asked right =
+      let first : length (best_of_query q c) ≡ length (take q.k (in_order (all_candidates q c))) =
+      ap (λ (l : List Candidate). length l) (best_are q c asked right) in
+      let high : q.k ≤ 1000 = leb-true q.k 1000 (and_parts (nat_le 1 q.k) (nat_le q.k 1000) asked.k).1 in
+      omega (arith, first, length-take q.k (in_order (all_candidates q c)), high)
+
+  module _ (certificates : CertificatesAreRead) (right_certificates : RightCertificatesSayRight) (asked : IsAsked q)
+    where
+      -- the certificate itself is read
+      measured_read : (c : Contents) (bytes : List ℕ) → IsContents c → IsMeasuredCertificate q c bytes → (z : Certified)
+          → read_certificate bytes ≡ Ok z → map (λ (e : Entry). e.bound) z.entries ≡ map (bound q) (morsels q c)
+      measured_read c bytes right h z e =
+          let v = (right_certificates q c bytes asked right).0 h.certificate in
+          let es : List Entry = h.certificate.entries in
+          let kth : IfSome (kth_of_query q c) (FitsSigned w64) =
+          subst (λ (o : Option ℤ). IfSome o (FitsSigned w64)) v.2.kth v.1.can_be.kth in
+          let said : Certified = record {
+            version = h.certificate.version;
+            query = q;
+            kth = kth_of_query q c;
+            entries = h.certificate.entries;
+            counts = counts_of h.certificate.version (best_of_query q c) h.certificate.entries;
+          } in
+          let own : read_certificate bytes ≡ Ok said = (certificates bytes said).1 (record {
+            can_be = record {
+              asked = asked;
+              kth = kth;
+              entries = each_can (kth_of_query q c) h.certificate.entries v.0.entries (morsels q c) h.certificate.right
+                  v.2.entries v.1.can_be.entries;
+              counts = inr (
+                h.version,
+                subst (λ (w : ℕ). AllZip IsCount h.certificate.entries
+                    (counts_of w (best_of_query q c) h.certificate.entries)) (sym h.version)
+                    (all_counts (best_of_query q c) h.certificate.entries (few_best c asked right)),
+              );
+            };
+            text = h.certificate.text;
+          }) in
+          let same : z ≡ said = cc in
+          ap (λ (w : Certified). map (λ (x : Entry). x.bound) w.entries) same ∙ h.bounds
+
+      -- the lines of all parts
+      measured_parts : (stations : List Station) (parts : List Filed) (ws : List WithData)
+          → AllByRecursion (IsRightPart q) ws → AllZip (λ p w. read_certificate p.1.1 ≡ Ok w.1.certificate) parts ws
+          → AllZip (IsMeasuredPart q stations) parts (data_of_parts ws)
+          → AllZip IsMeasuredEntry (entries_of (parts_alone ws)) (flat_map (morsels q) (data_of_parts ws))
+      measured_parts stations [] [] h r m = tt
+      measured_parts stations [] (w ∷ ws) h r m = absurd r
+      measured_parts stations (p ∷ parts) [] h r m = absurd r
+      measured_parts stations (p ∷ parts) (w ∷ ws) h r m =
+          zip-append IsMeasuredEntry w.1.certificate.entries (entries_of (parts_alone ws)) (morsels q w.0)
+          (flat_map (morsels q) (data_of_parts ws))
+          (zip_measured (kth_of_query q w.0) w.1.certificate.entries (morsels q w.0) h.0.certificate.entries
+          (measured_read w.0 p.1.1 h.0.contents m.0.1 w.1.certificate r.0))
+          (measured_parts stations parts ws h.1 r.1 m.1)
+
+-- so the bounds of the merged lines are those of the series
+pub merged_measured : CertificatesAreRead → RightCertificatesSayRight → ReportsAreRead → RightReportsSayRight
+    → HeadsAreRight → CutByFiles → MorselsOfParts → MergedAreMeasured
+merged_measured certificates right_certificates reports right_reports heads cut morsels_of q texts papers asked merged
+    stations parts ds held same are measured contents read apart =
+    let m = same_texts q texts parts papers same merged in
+    let found = all certificates right_certificates reports right_reports heads cut q stations parts held papers asked m
+    are contents read in
+    let z = is_certificate certificates right_certificates reports right_reports heads cut q stations parts held papers
+    asked m are contents read in
+    let data_are = measured_data q stations parts ds measured in
+    let one : data_of_parts found.read ≡ ds = same_data stations parts (data_of_parts found.read) ds found.data_are data_are in
+    let own : AllZip (IsMeasuredPart q stations) parts (data_of_parts found.read) =
+    subst (AllZip (IsMeasuredPart q stations) parts) (sym one) measured in
+    let lines = measured_parts q certificates right_certificates asked stations parts found.read found.right found.certificates_are own in
+    let series : morsels q held ≡ sorted_by series_first (flat_map (morsels q) (data_of_parts found.read)) =
+    morsels_of q stations parts ds held data_are read apart
+    ∙ ap (λ (l : List Contents). sorted_by series_first (flat_map (morsels q) l)) (sym one) in
+    record {
+      certificate = z.0;
+      version = z.1;
+      bounds = ap (λ (es : List Entry). map (λ (e : Entry). e.bound) es) z.2
+          ∙ zip_bounds q (merged_entries (parts_alone found.read))
+          (sorted_by series_first (flat_map (morsels q) (data_of_parts found.read)))
+          (sorted_measured q (entries_of (parts_alone found.read))
+          (flat_map (morsels q) (data_of_parts found.read)) lines)
+          ∙ ap (map (bound q)) (sym series);
+    }

@@ -1,0 +1,98 @@
+-- What merged papers are worth, as statements for the contract of a public function.
+use Rattle.std.specs.Prelude.{◌≡◌, ℕ, List, Result, Ok, Err, map}
+use Rattle.std.specs.List.{flat_map, AllByRecursion, AllZip, IsDistinct}
+use Rattle.ghcn_files.specs.declared.station.Station.{Station}
+use Rattle.ghcn_files.specs.declared.station.StationId.{StationId}
+use Rattle.ghcn_files.specs.Ids.{same_id}
+use Rattle.ghcn_series.specs.Series.{Contents}
+use Rattle.ghcn_series.specs.Held.{IsContents}
+use Rattle.ghcn_series.specs.Says.{data_of}
+use Rattle.rank_query.specs.Asked.{Asked, IsAsked}
+use Rattle.rank_scores.specs.Cut.{Filed, IsDataOf, morsel_ids, series_ids}
+use Rattle.rank_papers.specs.Report.{IsReport}
+use Rattle.rank_papers.specs.Certificate.{IsCertificate}
+use Rattle.rank_papers.specs.PlanPapers.{IsMeasuredCertificate}
+use Rattle.rank_merge.specs.declared.fault.MergeFault.{MergeFault}
+use Rattle.rank_merge.specs.declared.fault.MergeFault.TheVariants.{Twice}
+use Rattle.rank_merge.specs.Merging.{Texts, merge}
+
+-- ---- files
+
+-- the files of all parts, one part after the other
+abbrev pub all_files : List Filed → List (List ℕ)
+all_files parts = flat_map (λ p. p.0) parts
+
+-- the texts of all parts
+abbrev pub all_texts : List Filed → List Texts
+all_texts parts = map (λ p. p.1) parts
+
+-- ---- merged papers are right
+
+-- the texts are a right report and a right certificate of the data of some files, where these have no fault
+pub record ArePapersOf (q : Asked) (stations : List Station) (files : List (List ℕ)) (texts : Texts) : Type 0 where
+  pub held : Contents
+  pub contents : IsContents held
+  pub read : data_of stations files ≡ Ok held
+  pub report : IsReport q held texts.0
+  pub certificate : IsCertificate q held texts.1
+
+-- each part's papers are right for its files
+abbrev pub AreAllParts : Asked → List Station → List Filed → Type 0
+AreAllParts q stations parts = AllByRecursion (λ p. ArePapersOf q stations p.0 p.1) parts
+
+-- the text is the right report, and there is no other
+abbrev pub IsOneReport : Asked → Contents → List ℕ → Type 0
+IsOneReport q c text = IsReport q c text × ((other : List ℕ) → IsReport q c other → other ≡ text)
+
+-- papers are right for all files of which these are the papers of the parts: wherever each part's papers are right for
+-- its files, with one station list, and all files together have no fault, both are right for all files
+abbrev pub AreRightForAll : Asked → List Texts → Texts → Type 0
+AreRightForAll q texts papers = (stations : List Station) (parts : List Filed) (held : Contents)
+    → all_texts parts ≡ texts → AreAllParts q stations parts → IsContents held
+    → data_of stations (all_files parts) ≡ Ok held
+    → IsOneReport q held papers.0 × IsCertificate q held papers.1
+
+-- merged papers are right for all files
+abbrev pub MergedAreRight : Type 0
+MergedAreRight = (q : Asked) (texts : List Texts) (papers : Texts) → IsAsked q → merge q texts ≡ Ok papers
+    → AreRightForAll q texts papers
+
+-- ---- bounds
+
+-- these are the data of a part's files, and each bound of its certificate is that of its series
+abbrev pub IsMeasuredPart : Asked → List Station → Filed → Contents → Type 0
+IsMeasuredPart q stations p d = IsDataOf stations p d × IsMeasuredCertificate q d p.1.1
+
+-- so is each bound of the papers of all, wherever the parts' are and no station has series of the query in two parts
+abbrev pub AreMeasuredForAll : Asked → List Texts → Texts → Type 0
+AreMeasuredForAll q texts papers =
+    (stations : List Station) (parts : List Filed) (ds : List Contents) (held : Contents)
+    → all_texts parts ≡ texts → AreAllParts q stations parts → AllZip (IsMeasuredPart q stations) parts ds
+    → IsContents held → data_of stations (all_files parts) ≡ Ok held → IsDistinct same_id (series_ids q ds)
+    → IsMeasuredCertificate q held papers.1
+
+-- merged papers keep the bounds of the series
+abbrev pub MergedAreMeasured : Type 0
+MergedAreMeasured = (q : Asked) (texts : List Texts) (papers : Texts) → IsAsked q → merge q texts ≡ Ok papers
+    → AreMeasuredForAll q texts papers
+
+-- ---- when right papers are refused
+
+-- of the papers of parts with these data: they are merged only where no station has morsels in two parts, and refused
+-- only where one has, by an ID that stands twice
+abbrev pub IsRightOutcome : Asked → List Contents → Result Texts MergeFault → Type 0
+IsRightOutcome q ds (Ok papers) = IsDistinct same_id (morsel_ids q ds)
+IsRightOutcome q ds (Err why) =
+    ((id : StationId) × (why ≡ Twice id)) × (IsDistinct same_id (morsel_ids q ds) → ⊥)
+
+-- so it is said of an outcome, wherever each part's papers are right for its files
+abbrev pub IsOutcomeWhereRight : Asked → List Texts → Result Texts MergeFault → Type 0
+IsOutcomeWhereRight q texts outcome = (stations : List Station) (parts : List Filed) (ds : List Contents)
+    → all_texts parts ≡ texts → AreAllParts q stations parts → AllZip (IsDataOf stations) parts ds
+    → IsRightOutcome q ds outcome
+
+-- right papers are merged exactly where no station has morsels in two parts
+abbrev pub RightAreMerged : Type 0
+RightAreMerged = (q : Asked) (stations : List Station) (parts : List Filed) (ds : List Contents) → IsAsked q
+    → AreAllParts q stations parts → AllZip (IsDataOf stations) parts ds
+    → IsRightOutcome q ds (merge q (all_texts parts))

@@ -1,0 +1,4 @@
+pub mod Merged
+pub mod Merging
+pub mod Found
+pub mod Laws

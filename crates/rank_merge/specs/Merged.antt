@@ -1,0 +1,64 @@
+-- The papers of all files, made of what the papers of their parts say.
+use Rattle.std.specs.Prelude.{ℕ, List, take}
+use Rattle.std.specs.List.{flat_map}
+use Rattle.ghcn_fields.specs.Sorting.{sorted_by}
+use Rattle.rank_query.specs.Asked.{Asked}
+use Rattle.rank_scores.specs.Morsels.{id_comes_first}
+use Rattle.rank_pool.specs.First.{comes_first}
+use Rattle.rank_papers.specs.Report.{Named}
+use Rattle.rank_papers.specs.ReportLines.{Reported}
+use Rattle.rank_papers.specs.Certificate.{Entry, Certified, kth_of_best, counts_of}
+use Rattle.rank_head.specs.HeadTests.{of_rows}
+
+-- ---- what parts say
+
+-- what the report and the certificate of one part say
+pub record Part : Type 0 where
+  pub report : Reported
+  pub certificate : Certified
+
+-- the rows of all parts, one part after the other
+abbrev pub rows_of : List Part → List Named
+rows_of ps = flat_map (λ p. p.report.rows) ps
+
+-- the lines of all parts, one part after the other
+abbrev pub entries_of : List Part → List Entry
+entries_of ps = flat_map (λ p. p.certificate.entries) ps
+
+-- ---- in order
+
+-- rows in the order of their candidates
+abbrev pub rows_in_order : List Named → List Named
+rows_in_order rows = sorted_by (λ a b. comes_first a.0 b.0) rows
+
+-- the first k of some rows in this order, and all of them where there are fewer
+abbrev pub first_rows : ℕ → List Named → List Named
+first_rows k rows = take k (rows_in_order rows)
+
+-- lines by increasing ID
+abbrev pub by_id : List Entry → List Entry
+by_id es = sorted_by (λ a b. id_comes_first a.id b.id) es
+
+-- ---- the papers of all
+
+-- the first k rows of all parts
+abbrev pub merged_rows : ℕ → List Part → List Named
+merged_rows k ps = first_rows k (rows_of ps)
+
+-- the lines of all parts by increasing ID, each with its own bound; what was passed over stays so
+abbrev pub merged_entries : List Part → List Entry
+merged_entries ps = by_id (entries_of ps)
+
+-- what the report of all says
+abbrev pub merged_report : Asked → List Part → Reported
+merged_report q ps = record { query = q; rows = merged_rows q.k ps }
+
+-- what the certificate of all says, in version 2: the k-th score and the counts are those of the merged rows
+abbrev pub merged_certificate : Asked → List Part → Certified
+merged_certificate q ps = record {
+  version = 2;
+  query = q;
+  kth = kth_of_best q.k (of_rows (merged_rows q.k ps));
+  entries = merged_entries ps;
+  counts = counts_of 2 (of_rows (merged_rows q.k ps)) (merged_entries ps);
+}

@@ -1,0 +1,68 @@
+//! Why parts are refused.
+
+use ghcn_fields::Memory;
+use ghcn_files::StationId;
+use std::fmt;
+use thiserror::Error;
+
+/// The first fault of parts, in their order, and then of all their lines together.
+///
+/// Parts and lines count from 1. Of one part first both papers have to be of their form, and then
+/// their heads are tested, in the order in which the reasons stand here.
+#[derive(Clone, Copy, Debug, PartialEq, Eq, Error)]
+pub enum MergeFault {
+    /// The line of the report isn't of the form of its place.
+    #[error("refused part {part} report line {line} BadReport")]
+    BadReport { part: u64, line: u64 },
+    /// The line of the certificate isn't of the form of its place.
+    #[error("refused part {part} certificate line {line} BadCertificate")]
+    BadCertificate { part: u64, line: u64 },
+    /// The report or the certificate has another query than the one that was asked.
+    #[error("refused part {part} OtherQuery")]
+    OtherQuery { part: u64 },
+    /// The row before this line of the report doesn't precede it.
+    #[error("refused part {part} report line {line} OutOfOrder")]
+    OutOfOrder { part: u64, line: u64 },
+    /// The certificate has another k-th score than the report's rows have.
+    #[error("refused part {part} OtherFloor")]
+    OtherFloor { part: u64 },
+    /// The ID before this line of the certificate doesn't stand before its own.
+    #[error("refused part {part} certificate line {line} NotRising")]
+    NotRising { part: u64, line: u64 },
+    /// The row of this line of the report is of no series that was scanned.
+    #[error("refused part {part} report line {line} NotScanned")]
+    NotScanned { part: u64, line: u64 },
+    /// This line of the certificate has another count than the report has rows of its station.
+    #[error("refused part {part} certificate line {line} NotCounted")]
+    NotCounted { part: u64, line: u64 },
+    /// The first station by ID that has two lines, in the certificates of two parts.
+    #[error("refused twice {}", Printed(*.id))]
+    Twice { id: StationId },
+    /// Memory was really refused. It can come at any growth, so it has no place in the order.
+    #[error(transparent)]
+    Memory(Memory),
+}
+
+impl From<Memory> for MergeFault {
+    ghost use Rattle.std.specs.Prelude.{◌≡◌};
+    ghost use Rattle.rank_merge.specs.declared.fault.MergeFault.TheVariants as faults;
+
+    ghost from_gives = { λ memory fault. fault ≡ faults.Memory memory };
+
+    fn from(memory: Memory) -> Self {
+        MergeFault::Memory(memory)
+    }
+}
+
+/// An ID as it is printed. Its eleven bytes show in print.
+#[derive(Clone, Copy)]
+struct Printed(StationId);
+
+impl fmt::Display for Printed {
+    fn fmt<W: fmt::Write>(&self, f: &mut fmt::Formatter<W>) -> fmt::Result {
+        for byte in self.0.0 {
+            f.write_char(char::from(byte))?;
+        }
+        Ok(())
+    }
+}

@@ -1,9 +1,0 @@
-use Rattle.rank_papers.proofs.PlanPapers.{answer_of_crew}
-use Rattle.rank_papers.proofs.tests.papers_of.Goals as goal
-
--- a run of one worker answers for its plan
-pub report-requires : goal.report-requires
-report-requires c = answer_of_crew _ _ _ _ c.in_ok-answer.ensures.answer
-
-pub certificate-requires : goal.certificate-requires
-certificate-requires c = answer_of_crew _ _ _ _ c.in_ok-answer.ensures.answer

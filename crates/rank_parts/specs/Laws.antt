@@ -1,0 +1,60 @@
+-- What the verdicts of all parts are worth.
+use Rattle.std.specs.Prelude.{◌≡◌, ◌↔◌, ℕ, ◌<◌, List, length, Ok}
+use Rattle.std.specs.List.{sum, flat_map, AllZip, IsDistinct}
+use Rattle.ghcn_files.specs.declared.station.Station.{Station}
+use Rattle.ghcn_files.specs.Ids.{same_id}
+use Rattle.ghcn_series.specs.Series.{Contents}
+use Rattle.ghcn_series.specs.Held.{IsContents}
+use Rattle.ghcn_series.specs.Says.{data_of}
+use Rattle.rank_query.specs.Asked.{Asked, IsAsked}
+use Rattle.rank_scores.specs.Cut.{IsCut, morsel_ids}
+use Rattle.rank_scores.specs.OneElement.{data_for}
+use Rattle.rank_papers.specs.Report.{IsReport}
+use Rattle.rank_papers.specs.Certificate.{IsCertificate}
+use Rattle.rank_parts.specs.declared.verdict.PartVerdict.TheVariants.{Accepted}
+use Rattle.rank_parts.specs.Parts.{part_verdict}
+
+-- ---- parts of data
+
+-- a part accepts the papers: it has so many series, of so many lines
+abbrev pub Accepts : Asked → List ℕ → List ℕ → ℕ → Contents → ℕ → Type 0
+Accepts q report certificate lines d series = part_verdict q d report certificate ≡ Accepted series lines
+
+-- each part accepts the papers, and the numbers of their series add up to that of the lines
+pub record AllAccept (q : Asked) (report certificate : List ℕ) (ds : List Contents) : Type 0 where
+  pub lines : ℕ
+  pub series : List ℕ
+  pub accepted : AllZip (Accepts q report certificate lines) ds series
+  pub sum : sum series ≡ lines
+
+-- papers are right for data that are cut into parts, at least one, exactly where all parts accept them
+abbrev pub PartsMakeTheWhole : Type 0
+PartsMakeTheWhole = (q : Asked) (c : Contents) (ds : List Contents) (report certificate : List ℕ) → IsAsked q
+    → IsContents c → IsCut q c ds → 0 < length ds
+    → AllAccept q report certificate ds ↔ (IsReport q c report × IsCertificate q c certificate)
+
+-- ---- parts of files
+
+-- these are the data of some files
+abbrev pub AreDataOf : List Station → List (List ℕ) → Contents → Type 0
+AreDataOf stations files d = data_of stations files ≡ Ok d
+
+-- the data of each part's files, and of all files one part after the other: no station has an admitted day in two parts
+pub record AreParts (q : Asked) (stations : List Station) (parts : List (List (List ℕ))) (ds : List Contents)
+    (c : Contents) : Type 0 where
+  pub each : AllZip (AreDataOf stations) parts ds
+  pub all : AreDataOf stations (flat_map (λ files. files) parts) c
+  pub apart : IsDistinct same_id (morsel_ids q ds)
+
+-- papers are right for all files exactly where each part of the files accepts them
+abbrev pub FilesMakeTheWhole : Type 0
+FilesMakeTheWhole = (q : Asked) (stations : List Station) (parts : List (List (List ℕ))) (ds : List Contents)
+    (c : Contents) (report certificate : List ℕ) → IsAsked q → IsContents c → AreParts q stations parts ds c
+    → 0 < length ds → AllAccept q report certificate ds ↔ (IsReport q c report × IsCertificate q c certificate)
+
+-- ---- one element
+
+-- what a part says is the same from what a query needs of its data as from all of them
+abbrev pub PartVerdictStays : Type 0
+PartVerdictStays = (q : Asked) (c : Contents) (report certificate : List ℕ) →
+    part_verdict q (data_for q c) report certificate ≡ part_verdict q c report certificate

@@ -1,0 +1,4 @@
+pub mod Parts
+pub mod Seen
+pub mod Texts
+pub mod Laws

@@ -1,0 +1,105 @@
+-- What a part of an archive says of papers of the whole: of their head, of the lines of its own series, and of its own
+-- series without a line.
+use Rattle.std.specs.Prelude.{ℕ, suc, ◌+◌, Bool, ◌||◌, not, if◌then◌else◌, List, [], ◌∷◌, length, Option, None, Some}
+use Rattle.std.specs.Prelude.{Result, Ok, Err}
+use Rattle.std.specs.List.{list_all, list_any, find}
+use Rattle.std.specs.Option.{option_or, option_map, option_and_then}
+use Rattle.ghcn_fields.specs.Faults.{first_failing}
+use Rattle.ghcn_files.specs.declared.station.Station.{Station}
+use Rattle.ghcn_files.specs.declared.station.StationId.{StationId}
+use Rattle.ghcn_files.specs.Ids.{same_id}
+use Rattle.ghcn_files.specs.Listed.{is_station_of}
+use Rattle.ghcn_series.specs.Series.{Contents}
+use Rattle.rank_query.specs.Asked.{Asked}
+use Rattle.rank_scores.specs.Morsels.{morsels}
+use Rattle.rank_papers.specs.Report.{Named}
+use Rattle.rank_papers.specs.ReportLines.{Reported, read_report}
+use Rattle.rank_papers.specs.Certificate.{Entry, Certified, count_of}
+use Rattle.rank_papers.specs.CertificateLines.{read_certificate}
+use Rattle.rank_head.specs.declared.fault.HeadFault.{HeadFault}
+use Rattle.rank_head.specs.declared.fault.HeadFault.TheVariants.{OtherReportQuery, OtherCertificateQuery, OutOfOrder}
+use Rattle.rank_head.specs.declared.fault.HeadFault.TheVariants.{OtherFloor, NotRising, NotScanned, NotCounted}
+use Rattle.rank_head.specs.HeadTests.{head_fault}
+use Rattle.rank_check.specs.declared.verdict.Paper.TheVariants.{Report, Certificate}
+use Rattle.rank_check.specs.declared.verdict.Why.{Why}
+use Rattle.rank_check.specs.declared.verdict.Why.TheVariants as why
+use Rattle.rank_check.specs.Tests.{of_rows}
+use Rattle.rank_check.specs.Pieces.{is_morsel, piece_tests}
+use Rattle.rank_check.specs.InPieces.{rows_with, worst_of, own_series}
+use Rattle.rank_parts.specs.declared.verdict.PartVerdict.{PartVerdict}
+use Rattle.rank_parts.specs.declared.verdict.PartVerdict.TheVariants.{Accepted, Refused}
+
+-- ---- the head
+
+-- the refusal that a fault of the head comes to
+abbrev pub refusal_of : HeadFault → PartVerdict
+refusal_of OtherReportQuery = Refused Report 2 why.OtherQuery
+refusal_of OtherCertificateQuery = Refused Certificate 2 why.OtherQuery
+refusal_of (OutOfOrder line) = Refused Report line why.OutOfOrder
+refusal_of OtherFloor = Refused Certificate 3 why.OtherFloor
+refusal_of (NotRising line) = Refused Certificate line why.OtherSeries
+refusal_of (NotScanned line) = Refused Report line why.NotACandidate
+refusal_of (NotCounted line) = Refused Certificate line why.NotCounted
+
+-- ---- lines
+
+-- the series of a listed station is a morsel of these data
+abbrev pub is_own : Asked → Contents → Station → Bool
+is_own q d st = is_morsel q st (own_series q d st)
+
+-- why a line of this station is refused: by the first test that it fails, where the series is a morsel of these
+-- data; its count is the number of the station's rows, as the head has it
+abbrev pub why_at : Asked → Contents → List Named → Entry → Station → Option Why
+why_at q d rows e st =
+    if is_own q d st
+    then first_failing (piece_tests q st (own_series q d st) e (count_of (of_rows rows) e) (rows_with e.id rows)
+    (worst_of q.k rows))
+    else None
+
+-- why a line is refused, if it is; the line of a station that isn't listed isn't looked at
+abbrev pub line_why : Asked → Contents → List Named → Entry → Option Why
+line_why q d rows e = option_and_then (why_at q d rows e) (find (is_station_of e.id) d.stations)
+
+-- the refusal of the first of these lines that has a reason, where the first of them has this number
+abbrev pub first_refused : (Entry → Option Why) → ℕ → List Entry → Option PartVerdict
+first_refused reason n [] = None
+first_refused reason n (e ∷ es) =
+    option_or (option_map (Refused Certificate n) (reason e)) (first_refused reason (suc n) es)
+
+-- ---- series without a line
+
+-- a line is of this station
+abbrev pub has_line : List Entry → StationId → Bool
+has_line es id = list_any (λ e. same_id e.id id) es
+
+-- each morsel of these data has a line
+abbrev pub have_lines : Asked → Contents → List Entry → Bool
+have_lines q d es = list_all (λ st. not (is_own q d st) || has_line es st.id) d.stations
+
+-- the refusal of lines among which one of a morsel is missing: it is told at the line behind them
+abbrev pub missing_refused : Asked → Contents → List Entry → Option PartVerdict
+missing_refused q d es =
+    if have_lines q d es then None else Some (Refused Certificate (length es + 4) why.OtherSeries)
+
+-- ---- the verdict
+
+-- the refusal of papers that were read: of the head, of the first line, or of a missing one
+abbrev pub refused : Asked → Contents → Reported → Certified → Option PartVerdict
+refused q d r z =
+    option_or (option_map refusal_of (head_fault q r z))
+    (option_or (first_refused (line_why q d r.rows) 4 z.entries) (missing_refused q d z.entries))
+
+-- the refusal, or so many series of so many lines where there is none
+abbrev pub or_accepted : ℕ → ℕ → Option PartVerdict → PartVerdict
+or_accepted series lines None = Accepted series lines
+or_accepted series lines (Some v) = v
+
+-- the verdict on what both papers say, once both have been read
+abbrev pub part_judged : Asked → Contents → Result Reported ℕ → Result Certified ℕ → PartVerdict
+part_judged q d (Err line) z = Refused Report line why.Form
+part_judged q d (Ok r) (Err line) = Refused Certificate line why.Form
+part_judged q d (Ok r) (Ok z) = or_accepted (length (morsels q d)) (length z.entries) (refused q d r z)
+
+-- what a part says of the texts of a report and a certificate
+abbrev pub part_verdict : Asked → Contents → List ℕ → List ℕ → PartVerdict
+part_verdict q d report certificate = part_judged q d (read_report report) (read_certificate certificate)

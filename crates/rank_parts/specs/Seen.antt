@@ -1,0 +1,20 @@
+-- What the head has shown of rows and lines, for whoever goes through the lines.
+use Rattle.std.specs.Prelude.{◌≡◌, ◌≤◌, List, [], length}
+use Rattle.std.specs.List.{AllByRecursion}
+use Rattle.rank_query.specs.Asked.{Asked}
+use Rattle.rank_papers.specs.Report.{Named}
+use Rattle.rank_papers.specs.Certificate.{Entry, count_of}
+use Rattle.rank_check.specs.Tests.{of_rows}
+use Rattle.rank_check.specs.Pieces.{AreInOrder}
+use Rattle.rank_check.specs.InPieces.{rows_with}
+
+-- each row precedes the next, there are at most as many as were asked for, and where none of them is counted at a line,
+-- none is of its station
+pub record IsSeen (q : Asked) (rows : List Named) (e : Entry) : Type 0 where
+  pub order : AreInOrder (of_rows rows)
+  pub few : length rows ≤ q.k
+  pub none : count_of (of_rows rows) e ≡ 0 → rows_with e.id rows ≡ []
+
+-- so it is with each line
+abbrev pub AreSeen : Asked → List Named → List Entry → Type 0
+AreSeen q rows es = AllByRecursion (IsSeen q rows) es

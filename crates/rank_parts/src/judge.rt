@@ -1,0 +1,75 @@
+//! The verdict of one part on two papers that were read.
+
+ghost use Rattle.std.specs.Prelude.{◌≡◌, Ok, Some, IfOk};
+ghost use Rattle.rank_papers.specs.ReportLines.{reported_in, IsReported};
+ghost use Rattle.rank_papers.specs.CertificateLines.{certified_in};
+ghost use Rattle.rank_papers.specs.Certificate.{IsCertified};
+ghost use Rattle.rank_parts.specs.Parts as parts;
+ghost use Rattle.rank_parts.specs.Seen.{AreSeen};
+
+use crate::lines::lines_fault;
+use crate::series::series_with_lines;
+use crate::verdict::PartVerdict;
+use ghcn_fields::Memory;
+use ghcn_series::Data;
+use rank_check::{Paper, Why};
+use rank_head::{HeadFault, check_head};
+use rank_papers::{Certificate, Report};
+use rank_query::Query;
+use std::alloc::Global;
+
+/// The verdict of the first test that fails: of the head, of the lines of these data's series, and of
+/// their series without a line.
+pub(crate) fn judge(
+    alloc: Global,
+    held: &Data,
+    query: &Query,
+    report: &Report,
+    certificate: &Certificate,
+) -> Result<PartVerdict, Memory>
+    requires report { IsReported (reported_in report.now) }
+    requires certificate { IsCertified (certified_in certificate.now) }
+    ensures { IfOk result (λ verdict. verdict ≡ parts.part_judged query.now held.now
+        (Ok (reported_in report.now)) (Ok (certified_in certificate.now))) }
+{
+    if let Some(fault) = check_head(alloc, query, report, certificate)? {
+        return Ok(refusal_of(fault));
+    }
+    let (rows, lines) = (report.rows.as_slice(), certificate.lines.as_slice());
+    if let Some(fault) = lines_fault(alloc, held, query, rows, lines)? {
+        return Ok(fault);
+    }
+    Ok(match series_with_lines(held, query, lines) {
+        Some(series) => PartVerdict::Accepted {
+            series,
+            lines: lines.len() as u64,
+        },
+        None => PartVerdict::Refused {
+            paper: Paper::Certificate,
+            line: lines.len() as u64 + 4,
+            why: Why::OtherSeries,
+        },
+    })
+}
+
+/// The refusal that a fault of the head comes to.
+fn refusal_of(fault: HeadFault) -> PartVerdict
+    ensures { result ≡ parts.refusal_of fault }
+{
+    match fault {
+        HeadFault::OtherReportQuery => refused(Paper::Report, 2, Why::OtherQuery),
+        HeadFault::OtherCertificateQuery => refused(Paper::Certificate, 2, Why::OtherQuery),
+        HeadFault::OutOfOrder { line } => refused(Paper::Report, line, Why::OutOfOrder),
+        HeadFault::OtherFloor => refused(Paper::Certificate, 3, Why::OtherFloor),
+        HeadFault::NotRising { line } => refused(Paper::Certificate, line, Why::OtherSeries),
+        HeadFault::NotScanned { line } => refused(Paper::Report, line, Why::NotACandidate),
+        HeadFault::NotCounted { line } => refused(Paper::Certificate, line, Why::NotCounted),
+    }
+}
+
+/// A refusal.
+fn refused(paper: Paper, line: u64, why: Why) -> PartVerdict
+    ensures { result ≡ PartVerdict.Refused paper line why }
+{
+    PartVerdict::Refused { paper, line, why }
+}

@@ -1,0 +1,75 @@
+//! The verdict of one part on the texts of two papers.
+
+ghost use Rattle.std.specs.Prelude.{◌≡◌, IfOk};
+ghost use Rattle.rank_parts.specs.Parts as parts;
+ghost use Rattle.rank_parts.specs.Laws as laws;
+
+use crate::judge::judge;
+use crate::laws::parts_make_the_whole;
+use crate::verdict::PartVerdict;
+use ghcn_fields::Memory;
+use ghcn_series::Data;
+use rank_check::{Paper, Why};
+use rank_papers::{PaperFault, read_certificate, read_report};
+use rank_query::Query;
+use std::alloc::Global;
+
+/// Judges a report and a certificate of a query over a whole archive, whoever made them, as far as
+/// the data of some of its stations show: the head of both papers, the lines of the series that these
+/// data hold, and that none of these is without a line.
+///
+/// Each series of these data is scanned once, and once more for each row of its station. The papers
+/// are right for the whole exactly where all parts accept them, and the numbers of their series add
+/// up to that of the lines.
+pub fn check_part(
+    alloc: Global,
+    held: &Data,
+    query: &Query,
+    report: &[u8],
+    certificate: &[u8],
+) -> Result<PartVerdict, Memory>
+    ensures verdict { IfOk result (λ found.
+        found ≡ parts.part_verdict query.now held.now report.now certificate.now) }
+    ensures whole { laws.PartsMakeTheWhole }
+    ensures files { laws.FilesMakeTheWhole }
+{
+    parts_make_the_whole();
+    judge_texts(alloc, held, query, report, certificate)
+}
+
+/// The verdict of the first test that fails.
+fn judge_texts(
+    alloc: Global,
+    held: &Data,
+    query: &Query,
+    report: &[u8],
+    certificate: &[u8],
+) -> Result<PartVerdict, Memory>
+    ensures { IfOk result (λ found.
+        found ≡ parts.part_verdict query.now held.now report.now certificate.now) }
+{
+    let report = match read_report(alloc, report) {
+        Ok(report) => report,
+        Err(PaperFault::BadReport { line }) => return Ok(bad_form(Paper::Report, line)),
+        Err(PaperFault::BadCertificate { .. }) => unreachable!(),
+        Err(PaperFault::Memory(memory)) => return Err(memory),
+    };
+    let certificate = match read_certificate(alloc, certificate) {
+        Ok(certificate) => certificate,
+        Err(PaperFault::BadReport { .. }) => unreachable!(),
+        Err(PaperFault::BadCertificate { line }) => return Ok(bad_form(Paper::Certificate, line)),
+        Err(PaperFault::Memory(memory)) => return Err(memory),
+    };
+    judge(alloc, held, query, &report, &certificate)
+}
+
+/// A refusal of a line that isn't of the form of its place.
+fn bad_form(paper: Paper, line: u64) -> PartVerdict
+    ensures { result ≡ PartVerdict.Refused paper line Why.Form }
+{
+    PartVerdict::Refused {
+        paper,
+        line,
+        why: Why::Form,
+    }
+}

@@ -1,0 +1,20 @@
+//! The line that a part prints: `accepted N of M`, or `refused PAPER line L WHY`.
+
+use crate::PartVerdict;
+use std::fmt;
+
+impl fmt::Display for PartVerdict {
+    ghost use Rattle.std.specs.Prelude.{Some};
+    ghost use Rattle.rank_parts.specs.Texts.{verdict_text};
+
+    ghost output = { λ verdict. Some (verdict_text verdict) };
+
+    fn fmt<W: fmt::Write>(&self, f: &mut fmt::Formatter<W>) -> fmt::Result {
+        match self {
+            PartVerdict::Accepted { series, lines } => write!(f, "accepted {series} of {lines}"),
+            PartVerdict::Refused { paper, line, why } => {
+                write!(f, "refused {paper} line {line} {why}")
+            }
+        }
+    }
+}

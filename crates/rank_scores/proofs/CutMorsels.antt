@@ -1,0 +1,203 @@
+-- The morsels of files that are cut into parts are those of the parts, where no station has a series in two of them.
+use Rattle.std.proofs.Common.{◌≡◌, ℕ, Bool, true, false, cond, not, List, [], ◌∷◌, ◌++◌, length, map, filter, refl, sym}
+use Rattle.std.proofs.Common.{ap, ◌∙◌, subst, None, Some}
+use Rattle.std.specs.Prelude.{◌==◌}
+use Rattle.std.specs.List.{flat_map, cons_option, AllByRecursion, IsDistinct}
+use Rattle.std.specs.List.Sorted.{IsPermutation}
+use Rattle.std.specs.Cmp.{IsTotalOrder}
+use Rattle.std.specs.Cmp.Lexicographic.{slice_cmp}
+use Rattle.std.specs.Ordering.{is_eq, nat_cmp, on}
+use Rattle.std.specs.declared.cmp.Ordering.{Ordering}
+use Rattle.std.specs.declared.cmp.Ordering.TheVariants.{Equal}
+use Rattle.std.proofs.lemmas.Cmp.{nat_list_cmp_total, on_total}
+use Rattle.std.proofs.lemmas.Map.Text.{is_eq-slice_cmp}
+use Rattle.ghcn_fields.specs.Sorting.{sorted_by}
+use Rattle.ghcn_files.specs.declared.station.Station.{Station}
+use Rattle.ghcn_files.specs.Ids.{same_id}
+use Rattle.ghcn_files.specs.IdLaws.{same_id-turned}
+use Rattle.ghcn_series.specs.Series.{Usable, Contents}
+use Rattle.ghcn_series.specs.Says.{Fact}
+use Rattle.ghcn_series.specs.JoinedFiles.{facts_in}
+use Rattle.ghcn_series.proofs.FoundSeries.{has_days}
+use Rattle.ghcn_series.proofs.JoinedFiles.{contents_in, facts_of_parts, data-held, all_data-held}
+use Rattle.ghcn_series.proofs.JoinedSeries.{usable_of-left, usable_of-right}
+use Rattle.ghcn_series.proofs.JoinedLists as lists
+use Rattle.ghcn_series.proofs.ListFacts.{distinct_filter}
+use Rattle.ghcn_series.proofs.Places.{same_id-refl}
+use Rattle.rank_query.specs.Asked.{Asked, score_element}
+use Rattle.rank_scores.specs.Morsels.{admitted_series, has_admitted, morsels}
+use Rattle.rank_scores.specs.Cut.{series_first, series_ids, Filed, MorselsOfParts}
+use Rattle.rank_scores.proofs.CutSeries.{admitted_stations, given, all_given, admitted_series-given}
+
+-- ---- series by their IDs
+
+-- two series are of one station
+abbrev same_station : Usable → Usable → Bool
+same_station a b = same_id a.id b.id
+
+-- which of two is named first makes no difference
+same_station-turned : (a b : Usable) → same_station a b ≡ same_station b a
+same_station-turned a b = same_id-turned a.id b.id
+
+-- the order by ID
+abbrev id_cmp : Usable → Usable → Ordering
+id_cmp = on (λ s. s.id.0) (slice_cmp nat_cmp)
+
+-- it is total
+id_total : IsTotalOrder id_cmp
+id_total = on_total (λ (s : Usable). s.id.0) nat_list_cmp_total
+
+-- series that tie are of one station
+series_tied : (a b : Usable) → id_cmp a b ≡ Equal → same_station a b ≡ true
+series_tied a b e = sym (is_eq-slice_cmp a.id.0 b.id.0) ∙ ap is_eq e
+
+-- series with different IDs are of different stations
+distinct_series : (us : List Usable) → IsDistinct same_id (map (λ (s : Usable). s.id) us) → IsDistinct same_station us
+unfolding IsDistinct
+distinct_series [] d = tt
+distinct_series (u ∷ us) d = (others us d.0, distinct_series us d.1)
+  where
+    others : (vs : List Usable) → AllByRecursion (λ i. same_id u.id i ≡ false) (map (λ (s : Usable). s.id) vs)
+        → AllByRecursion (λ v. same_station u v ≡ false) vs
+    others [] h = tt
+    others (v ∷ vs) h = (h.0, others vs h.1)
+
+-- ---- what facts give
+
+module _ (q : Asked) (stations : List Station) where
+  -- the series that facts give the admitted stations, where they have a day
+  abbrev own : List Fact → List Usable
+  own facts = filter has_days (map (given q stations facts) (admitted_stations q stations))
+
+  -- those that have an admitted day
+  abbrev ready : List Fact → List Usable
+  ready facts = filter (has_admitted q) (own facts)
+
+  -- those by ID
+  abbrev by_id : List Fact → List Usable
+  by_id facts = sorted_by series_first (ready facts)
+
+  -- what facts give joins where they do
+  given_join : lists.Joins (given q stations) has_days same_station
+  given_join = record {
+    turned = same_station-turned;
+    none = λ st. refl;
+    left = λ st. usable_of-left st (score_element q.score);
+    right = λ st. usable_of-right st (score_element q.score);
+    same = λ st f g. same_id-refl st.id;
+  }
+
+  -- the series that have a day are given
+  given-kept : (facts : List Fact) (sts : List Station)
+      → all_given q stations facts sts ≡ filter has_days (map (given q stations facts) sts)
+  given-kept facts [] = refl
+  given-kept facts (st ∷ sts) =
+      let u : Usable = given q stations facts st in
+      let us : List Usable = all_given q stations facts sts in
+      let kept : List Usable = filter has_days (map (given q stations facts) sts) in
+      elim (length u.days == 0) as (λ b. cons_option (cond b None (Some u)) us ≡ cond (not b) (u ∷ kept) kept) [
+        | true ↦ given-kept facts sts
+        | false ↦ ap (λ (l : List Usable). u ∷ l) (given-kept facts sts)
+      ]
+
+  -- the series that the query is about, in what files hold
+  own_held : (files : List (List ℕ)) → admitted_series q (contents_in stations files) ≡ own (facts_in stations files)
+  own_held files =
+      admitted_series-given q stations files
+      ∙ given-kept (facts_in stations files) (admitted_stations q stations)
+
+  -- the morsels in what files hold
+  ready_held : (files : List (List ℕ)) → morsels q (contents_in stations files) ≡ by_id (facts_in stations files)
+  ready_held files = ap (λ (us : List Usable). sorted_by series_first (filter (has_admitted q) us)) (own_held files)
+
+  -- ---- of parts
+
+  module _ {P : Type 0} (files : P → List (List ℕ)) where
+    -- the data of a part
+    abbrev data_in : P → Contents
+    data_in p = contents_in stations (files p)
+
+    -- its facts that count
+    abbrev facts_of_part : P → List Fact
+    facts_of_part p = facts_in stations (files p)
+
+    -- the series of all parts that the query is about
+    all_own : (ps : List P) → flat_map (admitted_series q) (map data_in ps) ≡ flat_map own (map facts_of_part ps)
+    all_own [] = refl
+    all_own (p ∷ ps) =
+        ap (λ (l : List Usable). l ++ flat_map (admitted_series q) (map data_in ps)) (own_held (files p))
+        ∙ ap (λ (l : List Usable). own (facts_of_part p) ++ l) (all_own ps)
+
+    -- the morsels of all parts
+    all_ready : (ps : List P) → flat_map (morsels q) (map data_in ps) ≡ flat_map by_id (map facts_of_part ps)
+    all_ready [] = refl
+    all_ready (p ∷ ps) =
+        ap (λ (l : List Usable). l ++ flat_map (morsels q) (map data_in ps)) (ready_held (files p))
+        ∙ ap (λ (l : List Usable). by_id (facts_of_part p) ++ l) (all_ready ps)
+
+    module _ (parts : List P) where
+      -- the files of all parts
+      abbrev all_files : List (List ℕ)
+      all_files = flat_map files parts
+
+      -- the facts of each part
+      abbrev facts_by_part : List (List Fact)
+      facts_by_part = map facts_of_part parts
+
+      -- the data of each part
+      abbrev data_by_part : List Contents
+      data_by_part = map data_in parts
+
+      -- the series with an admitted day, one by one
+      abbrev if_ready : Usable → List Usable
+      if_ready u = filter (has_admitted q) (u ∷ [])
+
+      -- those of all series
+      ready-pieces : (facts : List Fact) → flat_map if_ready (own facts) ≡ ready facts
+      ready-pieces facts = sym (lists.filter-pieces (has_admitted q) (own facts))
+
+      module _ (distinct : IsDistinct same_id (series_ids q data_by_part)) where
+        -- no two series of the parts are of one station
+        own_apart : IsDistinct same_station (flat_map own facts_by_part)
+        own_apart = subst (IsDistinct same_station) (all_own parts)
+            (distinct_series (flat_map (admitted_series q) data_by_part) distinct)
+
+        -- nor are two with an admitted day
+        ready_apart : IsDistinct same_station (flat_map ready facts_by_part)
+        ready_apart = subst (IsDistinct same_station) (lists.filter-flat_map (has_admitted q) own facts_by_part)
+            (distinct_filter same_station (has_admitted q) (flat_map own facts_by_part) own_apart)
+
+        -- the parts have the series with an admitted day that all files have
+        ready_together : IsPermutation (flat_map ready facts_by_part) (ready (facts_in stations all_files))
+        ready_together =
+            let whole : List Fact = flat_map (λ f. f) facts_by_part in
+            let moved : IsPermutation (flat_map (λ f. flat_map if_ready (own f)) facts_by_part)
+            (flat_map if_ready (own whole)) =
+            lists.made_whole (given q stations) has_days same_station given_join facts_by_part
+            (admitted_stations q stations) own_apart if_ready in
+            let all : flat_map if_ready (own whole) ≡ ready (facts_in stations all_files) =
+            ready-pieces whole ∙ ap ready (sym (facts_of_parts stations files parts)) in
+            subst (λ (l : List Usable). IsPermutation l (ready (facts_in stations all_files)))
+            (lists.flat_map-same (λ f. flat_map if_ready (own f)) ready facts_by_part ready-pieces)
+            (subst (IsPermutation (flat_map (λ f. flat_map if_ready (own f)) facts_by_part)) all moved)
+
+        -- so the morsels of all files are those of the parts
+        pub morsels_together : morsels q (contents_in stations all_files)
+            ≡ sorted_by series_first (flat_map (morsels q) data_by_part)
+        morsels_together =
+            ready_held all_files
+            ∙ lists.sorted_together id_cmp id_total series_first (λ a b. refl) same_station same_station-turned
+            series_tied ready facts_by_part (ready (facts_in stations all_files)) ready_apart ready_together
+            ∙ ap (sorted_by series_first) (sym (all_ready parts))
+
+-- where no station has a series of the query's element in two parts, the morsels of all files are those of the parts
+pub morsels_of_parts : MorselsOfParts
+morsels_of_parts q stations parts ds held are all distinct =
+    let files : Filed → List (List ℕ) = λ p. p.0 in
+    let own_data : List Contents = map (λ p. contents_in stations (files p)) parts in
+    let IsWhole : Contents → List Contents → Type 0 =
+    λ c l. morsels q c ≡ sorted_by series_first (flat_map (morsels q) l) in
+    subst (λ (l : List Contents). IsDistinct same_id (series_ids q l) → IsWhole held l)
+    (all_data-held stations files parts ds are)
+    (λ apart. subst (λ (c : Contents). IsWhole c own_data) (data-held stations (flat_map files parts) held all)
+    (morsels_together q stations files parts apart)) distinct

@@ -1,0 +1,113 @@
+//! What runs are given, and how faults are told.
+
+ghost use Rattle.rank_input.specs.Taken.{HasTakenSome};
+
+use ghcn_fields::Memory;
+use ghcn_files::{LineWhy, StationWhy};
+use ghcn_series::DailyWhy;
+use rank_input::{Fault, Intake, worth_starting};
+use std::alloc::Global;
+use std::test::Fail;
+
+const STATIONS: &[u8] = b"ZZA00000001  10.0000   20.0000  100.0    ALPHA\n";
+
+/// Ends so many files.
+fn end_files(intake: &mut Intake, count: u64)
+    requires { HasTakenSome intake.old }
+    ensures { HasTakenSome intake.new }
+{
+    for _ in 0..count {
+        intake.end_of_file();
+    }
+}
+
+/// What is told of files of which the first begins so, so many end, and the last begins so.
+fn fault_of(alloc: Global, query: &str, first: &[u8], count: u64, last: &[u8]) -> Option<Fault> {
+    let mut intake = Intake::new(alloc, 1, None, query, STATIONS);
+    intake.piece(first);
+    end_files(&mut intake, count);
+    intake.piece(last);
+    intake.finish().err()
+}
+
+#[test]
+fn files_behind_a_fault_are_counted(rt: HostRuntime) {
+    let fault = Fault::DailyLine {
+        file: 1,
+        line: 1,
+        why: DailyWhy::Line(LineWhy::Short),
+    };
+    let bad_query = Fault::UnexpectedWord(3);
+    let cases: [(&str, &[u8], u64, &[u8], Fault); 5] = [
+        ("top 1 dry", b"x", 1 << 20, b"", fault),
+        ("top 1 dry", b"x", 1 << 20, b"y", Fault::TooManyFiles),
+        ("top 1 dry", b"x", (1 << 20) + 1, b"", Fault::TooManyFiles),
+        ("top 1 dry", b"", (1 << 20) + 1, b"", Fault::TooManyFiles),
+        ("top 1 icy", b"x", (1 << 20) + 1, b"", bad_query),
+    ];
+    for (query, first, count, last, expected) in cases {
+        let found = fault_of(rt.alloc(), query, first, count, last);
+        assert_eq!(rt; found, Some(expected), "{count} files, at {query}");
+    }
+}
+
+#[test]
+fn texts_of_faults(rt: HostRuntime) -> Result<(), Fail> {
+    let cases = [
+        (
+            Fault::StationLine {
+                line: 3,
+                why: StationWhy::Duplicate,
+            },
+            "refused 1 StationLine line 3 Duplicate",
+        ),
+        (Fault::TooManyStations, "refused 2 TooManyStations"),
+        (Fault::Memory(Memory), "refused 3 Memory"),
+        (
+            Fault::DailyLine {
+                file: 2,
+                line: 7,
+                why: DailyWhy::Line(LineWhy::BadValue(31)),
+            },
+            "refused 5 DailyLine file 2 line 7 BadValue 31",
+        ),
+        (
+            Fault::DailyLine {
+                file: 1,
+                line: 2,
+                why: DailyWhy::DuplicateMonth,
+            },
+            "refused 5 DailyLine file 1 line 2 DuplicateMonth",
+        ),
+        (Fault::TooManyFiles, "refused 6 TooManyFiles"),
+        (Fault::QueryTooLong, "refused 7 QueryTooLong"),
+        (Fault::UnexpectedWord(4), "refused 8 UnexpectedWord 4"),
+        (Fault::QueryEnds, "refused 9 QueryEnds"),
+        (Fault::OutOfLimits(2), "refused 10 OutOfLimits 2"),
+        (Fault::BadDate(6), "refused 11 BadDate 6"),
+        (Fault::BadBox(8), "refused 12 BadBox 8"),
+        (Fault::EmptyPeriod, "refused 13 EmptyPeriod"),
+        (Fault::BadWorkers, "refused 18 BadWorkers"),
+        (Fault::BadGuess, "refused 19 BadGuess"),
+    ];
+    for (fault, text) in cases {
+        let told = fault.to_string(rt.alloc())?;
+        assert_eq!(rt; told.as_str(), text);
+    }
+    Ok(())
+}
+
+#[test]
+fn workers_that_are_worth_starting(rt: HostRuntime) {
+    let cases = [
+        (0, 1),
+        (270, 1),
+        (16_777_215, 1),
+        (16_777_216, 64),
+        (30_000_000_000, 64),
+        (u64::MAX, 64),
+    ];
+    for (bytes, workers) in cases {
+        assert_eq!(rt; worth_starting(bytes), workers, "{bytes} bytes");
+    }
+}

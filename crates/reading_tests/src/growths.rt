@@ -1,0 +1,96 @@
+//! Files in pieces of which `examples/grow` refuses one growth of memory after the other.
+//!
+//! A test prints `memory` where the reader met the refusal, and `answered` where it answered what it
+//! has to. It prints nothing where the station list met it.
+
+ghost use Rattle.std.specs.Prelude.{IfOk};
+ghost use Rattle.ghcn_series.specs.Pieces.{HasFedSome};
+
+use ghcn_fields::{Day, Memory};
+use ghcn_files::{Element, StationId, Stations};
+use ghcn_series::{Data, DataFault, DataReader};
+use std::alloc::Global;
+use std::test::Fail;
+
+const STATIONS: &[u8] = b"ZZA00000001  10.0000   20.0000  100.0    ALPHA
+ZZA00000002  11.0000   21.0000  100.0    BRAVO
+";
+
+/// A month whose first value is 311, and whose other days are missing.
+fn line_of(head: &[u8; 21]) -> [u8; 269] {
+    let mut line = [b' '; 269];
+    line[..21].copy_from_slice(head);
+    for day in 0..31 {
+        line[21 + 8 * day..26 + 8 * day].copy_from_slice(b"-9999");
+    }
+    line[21..26].copy_from_slice(b"  311");
+    line
+}
+
+/// Feeds the bytes one by one.
+fn fed(mut reader: DataReader, bytes: &[u8]) -> Result<DataReader, DataFault>
+    requires { HasFedSome reader }
+    ensures { IfOk result HasFedSome }
+{
+    for byte in bytes {
+        reader.piece(&[*byte])?;
+    }
+    Ok(reader)
+}
+
+/// Feeds a month's line, which ends by a carriage return and a line feed.
+fn with_month(reader: DataReader, head: &[u8; 21]) -> Result<DataReader, DataFault>
+    requires { HasFedSome reader }
+    ensures { IfOk result HasFedSome }
+{
+    fed(fed(reader, &line_of(head))?, b"\r\n")
+}
+
+/// What two files hold: a month before the one that stands first, a month of another station and
+/// element, one of a station that isn't listed, and a last line without its line feed.
+fn read_pieces(alloc: Global, stations: Stations) -> Result<Data, DataFault> {
+    let reader = DataReader::new(alloc, stations)?;
+    let reader = with_month(reader, b"ZZA00000001202007TMAX")?;
+    let reader = with_month(reader, b"ZZA00000001202006TMAX")?;
+    let reader = with_month(reader, b"ZZA00000002202007PRCP")?;
+    let reader = with_month(reader, b"ZZA00000009202007TMAX")?;
+    let mut reader = with_month(reader, b"ZZA00000001202008TMAX")?;
+    reader.end_of_file()?;
+    let reader = fed(reader, &line_of(b"ZZA00000001202009TMAX"))?;
+    reader.finish()
+}
+
+/// Whether the data have a first value of each month from June to September, and one line was passed
+/// over.
+fn is_whole(data: &Data) -> Option<bool> {
+    let series = data.series(&StationId(*b"ZZA00000001"), Element::Tmax)?;
+    for month in 6..10 {
+        if series.value(Day::of(2020, month, 1)?) != Some(311) {
+            return Some(false);
+        }
+    }
+    Some(data.unlisted() == 1)
+}
+
+/// Whether the files are read whole, where the station list is.
+fn whole_pieces(alloc: Global) -> Option<Result<bool, DataFault>> {
+    let stations = Stations::read(alloc, STATIONS).ok()?;
+    let data = read_pieces(alloc, stations);
+    Some(data.map(|it| is_whole(&it) == Some(true)))
+}
+
+#[test]
+fn files_in_pieces(rt: HostRuntime) -> Result<(), Fail> {
+    match whole_pieces(rt.alloc()) {
+        None => {}
+        Some(Ok(whole)) => {
+            assert!(rt; whole);
+            println!(rt; "answered")?;
+        }
+        Some(Err(fault)) => {
+            assert_eq!(rt; fault, DataFault::Memory(Memory));
+            println!(rt; "memory")?;
+        }
+    }
+    Ok(())
+}
