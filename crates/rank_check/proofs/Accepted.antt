@@ -7,9 +7,10 @@ use Rattle.ghcn_series.specs.Series.{Contents}
 use Rattle.rank_query.specs.Asked.{Asked}
 use Rattle.rank_papers.specs.ReportLines.{Reported}
 use Rattle.rank_papers.specs.Certificate.{Certified}
+use Rattle.rank_head.specs.HeadTests.{of_rows}
 use Rattle.rank_check.specs.declared.verdict.Verdict.TheVariants.{Accepted}
 use Rattle.rank_scores.specs.declared.candidate.Candidate.{Candidate}
-use Rattle.rank_check.specs.Tests.{Test, row_tests, report_tests, entry_tests, certificate_tests, of_rows, or_accepted}
+use Rattle.rank_check.specs.Tests.{Test, row_tests, report_tests, entry_tests, certificate_tests, or_accepted}
 use Rattle.rank_check.specs.Tests.{judged}
 
 -- a test passes

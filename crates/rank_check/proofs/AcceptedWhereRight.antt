@@ -22,9 +22,10 @@ use Rattle.rank_papers.specs.Certificate.{IsCount, AreCounts, IsCertificate, IsC
 use Rattle.rank_papers.specs.Certificate.{counts_of, SaysRight}
 use Rattle.rank_papers.specs.CertificateLines.{read_certificate}
 use Rattle.rank_papers.specs.Laws.{CertificatesAreRead, RightCertificatesSayRight, ReportsAreRead, RightReportsSayRight}
+use Rattle.rank_head.specs.HeadTests.{of_rows, same_query, same_score}
 use Rattle.rank_check.specs.declared.verdict.Verdict.TheVariants.{Accepted}
-use Rattle.rank_check.specs.Tests.{Test, same_query, same_score, row_tests, report_tests, entry_tests}
-use Rattle.rank_check.specs.Tests.{certificate_tests, of_rows, verdict}
+use Rattle.rank_check.specs.Tests.{Test, row_tests, report_tests, entry_tests}
+use Rattle.rank_check.specs.Tests.{certificate_tests, verdict}
 use Rattle.rank_check.specs.Laws.{AcceptedWhereRight}
 use Rattle.rank_check.proofs.Each.{each-append, each-parts}
 use Rattle.rank_check.proofs.Accepted.{Passes, accepted-pass, pass-accepted}

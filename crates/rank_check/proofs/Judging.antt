@@ -17,6 +17,7 @@ use Rattle.rank_papers.specs.declared.paper.Report.{Report as ReadReport}
 use Rattle.rank_papers.specs.declared.paper.Row.{Row}
 use Rattle.rank_papers.specs.ReportLines.{Reported, IsReported, reported_in, named_in}
 use Rattle.rank_papers.specs.Certificate.{Certified}
+use Rattle.rank_head.specs.HeadTests.{same_query, same_score}
 use Rattle.rank_check.specs.declared.survey.Findings.{Findings}
 use Rattle.rank_check.specs.declared.verdict.Paper.TheVariants.{Report, Certificate}
 use Rattle.rank_check.specs.declared.verdict.Why.TheVariants.{TooFew, OtherQuery, OtherFloor}
@@ -24,7 +25,7 @@ use Rattle.rank_check.specs.declared.verdict.Verdict.{Verdict}
 use Rattle.rank_check.specs.declared.verdict.Verdict.TheVariants.{Refused}
 use Rattle.rank_check.specs.FoundFaults.{IsFaultOfRows}
 use Rattle.rank_check.specs.Survey.{AreFindings, candidates_of}
-use Rattle.rank_check.specs.Tests.{Test, same_query, same_score, number_test, length_test, tests_of_rows, report_tests}
+use Rattle.rank_check.specs.Tests.{Test, number_test, length_test, tests_of_rows, report_tests}
 use Rattle.rank_check.specs.Tests.{tests_of_lines, certificate_tests}
 use Rattle.rank_check.proofs.Failing.{first_failing-append}
 

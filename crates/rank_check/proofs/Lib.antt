@@ -20,5 +20,4 @@ pub mod QueryMembers
 pub mod RowsWithin
 pub mod RisingIds
 pub mod PiecesSay
-pub mod RowCounts
 pub mod SaidInPieces

@@ -11,11 +11,12 @@ use Rattle.rank_scores.specs.OneElement.{data_for, CandidatesStay, MorselsStay, 
 use Rattle.rank_papers.specs.ReportLines.{Reported, read_report}
 use Rattle.rank_papers.specs.Certificate.{Certified}
 use Rattle.rank_papers.specs.CertificateLines.{read_certificate}
+use Rattle.rank_head.specs.HeadTests.{of_rows, same_query, same_score}
 use Rattle.rank_check.specs.declared.verdict.Paper.TheVariants.{Report, Certificate}
 use Rattle.rank_check.specs.declared.verdict.Why.TheVariants.{OtherQuery, OtherFloor}
 use Rattle.rank_check.specs.declared.verdict.Verdict.TheVariants.{Refused}
-use Rattle.rank_check.specs.Tests.{same_query, same_score, row_tests, report_tests, entry_tests}
-use Rattle.rank_check.specs.Tests.{number_test, length_test, certificate_tests, of_rows, or_accepted}
+use Rattle.rank_check.specs.Tests.{row_tests, report_tests, entry_tests}
+use Rattle.rank_check.specs.Tests.{number_test, length_test, certificate_tests, or_accepted}
 use Rattle.rank_check.specs.Tests.{judged}
 use Rattle.rank_check.specs.Laws.{VerdictStays}
 

@@ -30,10 +30,11 @@ use Rattle.rank_papers.specs.Report.{Named, trimmed}
 use Rattle.rank_papers.specs.ReportLines.{Reported, IsReported, SaysRightReport, name_of}
 use Rattle.rank_papers.specs.Certificate.{Entry, Certified, IsCertified, IsEntry, IsCount, IsRightEntry, SaysRight}
 use Rattle.rank_papers.specs.Certificate.{count_of, counts_of, kth_of_best}
-use Rattle.rank_check.specs.Tests.{is_among, of_rows}
+use Rattle.rank_head.specs.HeadTests.{of_rows, Rise, is_scanned}
+use Rattle.rank_check.specs.Tests.{is_among}
 use Rattle.rank_check.specs.Pieces.{is_morsel, is_within, score_of, is_row_of, piece_tests}
 use Rattle.rank_query.specs.Admits.{admits_station}
-use Rattle.rank_check.specs.InPieces.{rows_with, worst_of, is_scanned, Rise, IsAccepted, IsAbsent, AreRightPieces}
+use Rattle.rank_check.specs.InPieces.{rows_with, worst_of, IsAccepted, IsAbsent, AreRightPieces}
 use Rattle.rank_check.proofs.Each.{all_taken}
 use Rattle.rank_check.proofs.Failing.{slice_get-map}
 use Rattle.rank_check.proofs.KthScores.{kth-best}
@@ -44,7 +45,7 @@ use Rattle.rank_check.proofs.QueryMembers.{permuted_in, own_id, station_of, mors
 use Rattle.rank_check.proofs.QueryMembers.{is_morsel_of, candidate_in, in_candidates}
 use Rattle.rank_check.proofs.RightLines.{above_from, below_from}
 use Rattle.rank_check.proofs.RisingIds.{ids_of, same_ids, rise_ids, morsel_ids}
-use Rattle.rank_check.proofs.RowsWithin.{order_descends, kept_descends, within_front, first_within, same_rows}
+use Rattle.rank_check.proofs.RowsWithin.{rows_in_order, order_descends, kept_descends, within_front, first_within, same_rows}
 use Rattle.rank_check.proofs.SortedCandidates.{in_order, ordered-permutation, ordered-descends, best_first}
 
 -- the candidate of a row that is there is there
@@ -329,7 +330,7 @@ pieces_say q c r z asked right apart can is version h =
     let rows : List Named = r.rows in
     let es : List Entry = z.entries in
     let pieces = pieces_of q c right r.rows z.entries z.counts h.lines in
-    let falls = order_descends (of_rows r.rows) h.head.order in
+    let falls = order_descends (of_rows r.rows) (rows_in_order r.rows h.head.order) in
     let some : 1 ≤ q.k = leb-true 1 q.k (and_parts (nat_le 1 q.k) (nat_le q.k 1000) asked.k).0 in
     let few : length r.rows ≤ q.k =
     subst (λ (a : Asked). length r.rows ≤ a.k) h.head.report (leb-true (length r.rows) r.query.k can.few) in
@@ -343,7 +344,7 @@ pieces_say q c r z asked right apart can is version h =
       },
       record {
         asked = h.head.certificate;
-        kth = h.head.kth ∙ kth;
+        kth = h.head.kth ∙ ap score_of (slice_get-map (λ (row : Named). row.0) r.rows (q.k - 1)) ∙ kth;
         entries = entries_right q c right r.rows z.entries pieces h.head.scanned h.absent (kth_of_query q c) kth z.entries
             (morsels q c) (ids_right q c right r.rows z.entries pieces h.head.scanned h.absent h.head.rise) is.entries
             pieces (for_each (In (morsels q c)) (morsels q c) (λ u k. k));

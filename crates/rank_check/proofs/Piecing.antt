@@ -20,10 +20,11 @@ use Rattle.rank_scores.specs.Candidates.{candidates}
 use Rattle.rank_scores.specs.Order.{is_below}
 use Rattle.rank_papers.specs.Report.{Named, trimmed}
 use Rattle.rank_papers.specs.Certificate.{Entry}
+use Rattle.rank_head.specs.HeadTests.{of_rows}
 use Rattle.rank_check.specs.declared.verdict.Why.{Why}
 use Rattle.rank_check.specs.declared.verdict.Why.TheVariants.{NotACandidate, OtherSeries, NotCounted, NotBest}
 use Rattle.rank_check.specs.declared.verdict.Why.TheVariants.{NoBound, NotBelow}
-use Rattle.rank_check.specs.Tests.{is_among, of_rows}
+use Rattle.rank_check.specs.Tests.{is_among}
 use Rattle.rank_check.specs.Pieces.{is_morsel, is_within, score_of, AreRowsWithin, is_row_of, has_all, last_tests}
 use Rattle.rank_check.specs.Pieces.{piece_tests, IsRightPiece}
 use Rattle.rank_check.specs.Survey.{top_score}

@@ -18,7 +18,8 @@ use Rattle.rank_scores.specs.Candidates.{candidates}
 use Rattle.rank_scores.specs.Order.{is_below}
 use Rattle.rank_scores.specs.Morsels.{morsels}
 use Rattle.rank_papers.specs.Certificate.{Entry, IsEntry, IsRightEntry, count_of}
-use Rattle.rank_check.specs.Tests.{same_score, is_above, is_counted, entry_tests}
+use Rattle.rank_head.specs.HeadTests.{same_score}
+use Rattle.rank_check.specs.Tests.{is_above, is_counted, entry_tests}
 use Rattle.rank_check.proofs.Accepted.{Passes}
 
 -- ---- scores

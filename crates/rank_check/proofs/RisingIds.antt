@@ -18,9 +18,9 @@ use Rattle.rank_query.specs.Asked.{Asked}
 use Rattle.rank_scores.specs.Morsels.{has_admitted, admitted_series, morsels}
 use Rattle.rank_papers.specs.Certificate.{Entry}
 use Rattle.ghcn_fields.proofs.Ordered as ordered
+use Rattle.rank_head.specs.HeadTests.{Rise, stands_before}
 use Rattle.rank_check.specs.declared.survey.Top.{Top}
 use Rattle.rank_check.specs.Survey.{top}
-use Rattle.rank_check.specs.InPieces.{stands_before, Rise}
 use Rattle.rank_check.proofs.Members.{In, for_each}
 use Rattle.rank_check.proofs.SortedTops.{by_id, by_id_total, comes_first, of_one, of_one-turned, tied_one}
 use Rattle.rank_check.proofs.SortedTops.{distinct_tops}

@@ -4,12 +4,11 @@ use Rattle.std.proofs.Common.{◌∷◌, length, map, take, filter, Option, Some
 use Rattle.std.proofs.Common.{◌||◌}
 use Rattle.std.proofs.Common.{ℤ, ◌≤ℤ◌, eq-eqb, Ok}
 use Rattle.std.specs.Prelude.{slice_get, nat_le, ◌&&◌, int_lt}
-use Rattle.std.specs.List.{find, list_any, count_by, sum, AllByRecursion, AllZip}
+use Rattle.std.specs.List.{find, list_any, count_by, AllByRecursion, AllZip}
 use Rattle.std.specs.Option.{option_map}
 use Rattle.std.specs.Cmp.Lexicographic.{bytes_decides}
 use Rattle.std.proofs.lemmas.Bool.{and_parts, leb-true}
 use Rattle.std.proofs.lemmas.Int.{ints}
-use Rattle.std.proofs.lemmas.List.{length-map}
 use Rattle.std.proofs.lemmas.List.Sorted.{IsPermutation-sym}
 use Rattle.ghcn_fields.specs.Bytes.{same_bytes}
 use Rattle.ghcn_files.specs.declared.station.Station.{Station}
@@ -28,15 +27,15 @@ use Rattle.rank_papers.specs.Report.{Named, trimmed}
 use Rattle.rank_papers.specs.ReportLines.{Reported, SaysRightReport, name_of, read_report}
 use Rattle.rank_papers.specs.CertificateLines.{read_certificate}
 use Rattle.rank_papers.specs.Laws.{CertificatesAreRead, RightCertificatesSayRight, ReportsAreRead, RightReportsSayRight}
+use Rattle.rank_head.specs.HeadTests.{of_rows, is_scanned}
 use Rattle.rank_check.specs.Laws.{AcceptedWhereRight}
 use Rattle.rank_papers.specs.Certificate.{Entry, Certified, IsRightEntry, SaysRight, count_of, counts_of, kth_of_best}
-use Rattle.rank_check.specs.Tests.{is_among, of_rows}
+use Rattle.rank_check.specs.Tests.{is_among}
 use Rattle.rank_check.specs.Pieces.{is_morsel, is_within, score_of, is_row_of, piece_tests}
-use Rattle.rank_check.specs.InPieces.{rows_with, worst_of, own_series, is_scanned, IsAccepted, IsAbsent, AreRightPieces}
+use Rattle.rank_check.specs.InPieces.{rows_with, worst_of, own_series, IsAccepted, IsAbsent, AreRightPieces}
 use Rattle.rank_check.specs.InPieces.{RightInPieces, AcceptedInPieces}
 use Rattle.rank_scores.specs.QueryCandidates.{CandidatesAreApart}
 use Rattle.rank_scores.proofs.Ranks.{Descends}
-use Rattle.rank_check.proofs.RowCounts.{counts_add_up}
 use Rattle.rank_check.proofs.Failing.{slice_get-map}
 use Rattle.rank_check.proofs.KthScores.{kth-best, last_taken}
 use Rattle.rank_check.proofs.Members.{In, of_one, for_each, in_any, kept_in, in_kept, in_map}
@@ -47,7 +46,7 @@ use Rattle.rank_check.proofs.QueryMembers.{permuted_in, own_id, listed_found, st
 use Rattle.rank_check.proofs.QueryMembers.{one_morsel, candidate_in, in_candidates, candidate_id}
 use Rattle.rank_check.proofs.RightLines.{above_to, below_to}
 use Rattle.rank_check.proofs.RisingIds.{ids_of, RiseAll, ids_rise, morsel_ids}
-use Rattle.rank_check.proofs.RowsWithin.{kept_descends, descends_order, first_within, within_score}
+use Rattle.rank_check.proofs.RowsWithin.{order_rows, kept_descends, descends_order, first_within, within_score}
 use Rattle.rank_check.proofs.SortedCandidates.{in_order, ordered-permutation, ordered-descends, best_first}
 
 -- ---- two lists, one by one
@@ -294,12 +293,6 @@ module _ (q : Asked) (c : Contents) (right : IsContents c) (apart : AreApart (al
       pub ids_up : RiseAll (ids_of es)
       ids_up = subst RiseAll (sym (named_ids q kth es (morsels q c) entries)) (morsel_ids q c right)
 
--- what holds of each row's candidate
-of_each_row : (P : Candidate → Type 0) (rows : List Named) → AllByRecursion (λ row. P row.0) rows
-    → AllByRecursion P (of_rows rows)
-of_each_row P [] h = tt
-of_each_row P (row ∷ rows) h = (h.0, of_each_row P rows h.1)
-
 -- so papers that say what is right have right pieces
 pub said_in_pieces : (q : Asked) (c : Contents) (r : Reported) (z : Certified) → IsAsked q → IsContents c
     → AreApart (all_candidates q c) → z.version ≡ 2 → SaysRightReport q c r × SaysRight q c z → AreRightPieces q c r z
@@ -319,17 +312,14 @@ said_in_pieces q c r z asked right apart version h =
       head = record {
         report = h.0.asked;
         certificate = h.1.asked;
-        order = descends_order (of_rows r.rows) (subst Descends
+        order = order_rows r.rows (descends_order (of_rows r.rows) (subst Descends
             (sym (rows_within q c right apart some r.rows h.0.best))
             (kept_descends (is_within (worst_of q.k r.rows)) (in_order (all_candidates q c))
-            (ordered-descends (all_candidates q c) apart)));
-        kth = kth;
+            (ordered-descends (all_candidates q c) apart))));
+        kth = kth ∙ sym (ap score_of (slice_get-map (λ (row : Named). row.0) r.rows (q.k - 1)));
         rise = ids_rise z.entries up;
         scanned = scanned;
-        sum = ap sum (sym counts)
-            ∙ counts_add_up z.entries up (of_rows r.rows)
-            (of_each_row (λ d. is_scanned z.entries d.id ≡ true) r.rows scanned)
-            ∙ length-map r.rows (λ (row : Named). row.0);
+        counts = sym counts ∙ ap (λ (v : ℕ). counts_of v (of_rows r.rows) z.entries) (sym version);
       };
       lines = subst (AllZip (IsAccepted q c r.rows) z.entries) counts
           (lines_accepted q c right apart some r.rows h.0.best h.0.named z.kth kth z.entries (morsels q c) entries

@@ -1,10 +1,8 @@
 -- Papers with a certificate of version 2, judged in pieces: the head, each line, and each station without a line.
-use Rattle.std.specs.Prelude.{◌≡◌, ◌↔◌, ℕ, ◌-◌, Bool, true, false, ◌&&◌, not, List, [], ◌∷◌, length, filter, Option}
-use Rattle.std.specs.Prelude.{None, Some, ⊤, slice_get}
-use Rattle.std.specs.List.{list_any, find, sum, AllByRecursion, AllZip}
+use Rattle.std.specs.Prelude.{◌≡◌, ◌↔◌, ℕ, ◌-◌, false, List, filter, Option}
+use Rattle.std.specs.Prelude.{None, Some, slice_get}
+use Rattle.std.specs.List.{list_any, find, AllByRecursion, AllZip}
 use Rattle.std.specs.Option.{option_map}
-use Rattle.std.specs.Ordering.{is_lt, nat_cmp}
-use Rattle.std.specs.Cmp.Lexicographic.{slice_cmp}
 use Rattle.ghcn_fields.specs.Faults.{first_failing}
 use Rattle.ghcn_files.specs.declared.station.Station.{Station}
 use Rattle.ghcn_files.specs.declared.station.StationId.{StationId}
@@ -17,9 +15,10 @@ use Rattle.rank_scores.specs.declared.candidate.Candidate.{Candidate}
 use Rattle.rank_papers.specs.Report.{Named}
 use Rattle.rank_papers.specs.ReportLines.{Reported, IsReported, IsReportOf, SaysRightReport}
 use Rattle.rank_papers.specs.Certificate.{Entry, Certified, IsCertified, IsCertificateOf, SaysRight}
+use Rattle.rank_head.specs.RightHead.{IsRightHead}
 use Rattle.rank_check.specs.declared.verdict.Verdict.TheVariants.{Accepted}
-use Rattle.rank_check.specs.Tests.{of_rows, verdict}
-use Rattle.rank_check.specs.Pieces.{is_morsel, score_of, AreInOrder, piece_tests}
+use Rattle.rank_check.specs.Tests.{verdict}
+use Rattle.rank_check.specs.Pieces.{is_morsel, piece_tests}
 
 -- ---- what each piece is given
 
@@ -34,33 +33,6 @@ worst_of k rows = option_map (λ row. row.0) (slice_get rows (k - 1))
 -- the series of the query's element of a station
 abbrev pub own_series : Asked → Contents → Station → Option Usable
 own_series q c st = series_of c st.id (score_element q.score)
-
--- ---- the head
-
--- the ID stands before the other
-abbrev pub stands_before : StationId → StationId → Bool
-stands_before a b = is_lt (slice_cmp nat_cmp a.0 b.0)
-
--- the IDs of entries rise
-abbrev pub Rise : List Entry → Type 0
-Rise [] = ⊤
-Rise (e ∷ []) = ⊤
-Rise (e ∷ f ∷ es) = (stands_before e.id f.id ≡ true) × Rise (f ∷ es)
-
--- an entry that isn't passed over is of this station
-abbrev pub is_scanned : List Entry → StationId → Bool
-is_scanned es id = list_any (λ e. not e.skipped && same_id e.id id) es
-
--- what can be seen of both papers without the data: the query, the order of the rows and of the lines, the k-th score,
--- that each row is of a series that was scanned, and that the counts add up to the number of rows
-pub record IsRightHead (q : Asked) (r : Reported) (z : Certified) : Type 0 where
-  pub report : r.query ≡ q
-  pub certificate : z.query ≡ q
-  pub order : AreInOrder (of_rows r.rows)
-  pub kth : z.kth ≡ score_of (worst_of q.k r.rows)
-  pub rise : Rise z.entries
-  pub scanned : AllByRecursion (λ row. is_scanned z.entries row.0.id ≡ true) r.rows
-  pub sum : sum z.counts ≡ length r.rows
 
 -- ---- all pieces
 

@@ -18,10 +18,11 @@ use Rattle.rank_scores.specs.Order.{full_cmp, precedes, is_below}
 use Rattle.rank_scores.specs.Morsels.{has_admitted, IsAbove}
 use Rattle.rank_papers.specs.Report.{Named, trimmed}
 use Rattle.rank_papers.specs.Certificate.{Entry}
+use Rattle.rank_head.specs.HeadTests.{of_rows}
 use Rattle.rank_check.specs.declared.verdict.Why.{Why}
 use Rattle.rank_check.specs.declared.verdict.Why.TheVariants.{NotACandidate, NotBest, OtherSeries, NoBound, NotBelow}
 use Rattle.rank_check.specs.declared.verdict.Why.TheVariants.{NotCounted}
-use Rattle.rank_check.specs.Tests.{is_among, is_above, of_rows}
+use Rattle.rank_check.specs.Tests.{is_among, is_above}
 
 -- ---- what a piece looks at
 

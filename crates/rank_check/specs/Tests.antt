@@ -1,9 +1,9 @@
 -- The tests of a report and a certificate, in their order, and the verdict: the first that fails.
 use Rattle.std.specs.Prelude.{ℕ, ◌+◌, ◌-◌, ◌==◌, Bool, true, false, ◌&&◌, ◌||◌, not, nat_le, if◌then◌else◌, List, []}
-use Rattle.std.specs.Prelude.{◌∷◌, ◌++◌, length, map, Option, None, Some, Result, Ok, Err, ℤ, int_le, slice_get}
+use Rattle.std.specs.Prelude.{◌∷◌, ◌++◌, length, Option, None, Some, Result, Ok, Err, ℤ, int_le, slice_get}
 use Rattle.std.specs.List.{flat_map, list_all, list_any, find, enumerate_from}
 use Rattle.std.specs.Option.{option_map_or}
-use Rattle.std.specs.Ordering.{is_eq, int_eq}
+use Rattle.std.specs.Ordering.{is_eq}
 use Rattle.ghcn_fields.specs.Bytes.{same_bytes}
 use Rattle.ghcn_fields.specs.Faults.{first_failing}
 use Rattle.ghcn_files.specs.declared.station.Station.{Station}
@@ -11,7 +11,6 @@ use Rattle.ghcn_files.specs.Ids.{same_id}
 use Rattle.ghcn_files.specs.Listed.{is_station_of}
 use Rattle.ghcn_series.specs.Series.{Usable, Contents}
 use Rattle.rank_query.specs.Asked.{Asked}
-use Rattle.rank_query.specs.QueryTexts.{query_text}
 use Rattle.rank_scores.specs.declared.candidate.Candidate.{Candidate}
 use Rattle.rank_scores.specs.Candidates.{candidates}
 use Rattle.rank_scores.specs.Order.{full_cmp, precedes, rank_in, is_below}
@@ -20,6 +19,7 @@ use Rattle.rank_papers.specs.Report.{Named, trimmed}
 use Rattle.rank_papers.specs.ReportLines.{Reported, read_report}
 use Rattle.rank_papers.specs.Certificate.{Entry, Certified, count_of}
 use Rattle.rank_papers.specs.CertificateLines.{read_certificate}
+use Rattle.rank_head.specs.HeadTests.{of_rows, same_query, same_score}
 use Rattle.rank_check.specs.declared.verdict.Paper.TheVariants.{Report, Certificate}
 use Rattle.rank_check.specs.declared.verdict.Why.TheVariants.{Form, OtherQuery, NotACandidate, OutOfOrder, NotBest}
 use Rattle.rank_check.specs.declared.verdict.Why.TheVariants.{TooFew, OtherSeries, NoBound, NotBelow, NotCounted}
@@ -30,16 +30,6 @@ use Rattle.rank_check.specs.declared.verdict.Verdict.TheVariants.{Accepted, Refu
 -- a test that may fail, and the verdict where it does
 abbrev pub Test : Type 0
 Test = Bool × Verdict
-
--- two queries are the same: their canonical texts are equal
-abbrev pub same_query : Asked → Asked → Bool
-same_query a b = same_bytes (query_text a) (query_text b)
-
--- two scores are the same, or there are none
-abbrev pub same_score : Option ℤ → Option ℤ → Bool
-same_score None None = true
-same_score (Some a) (Some b) = int_eq a b
-same_score a b = false
 
 -- ---- rows
 
@@ -137,10 +127,6 @@ certificate_tests q c rows z =
 abbrev pub or_accepted : Option Verdict → Verdict
 or_accepted None = Accepted
 or_accepted (Some v) = v
-
--- the candidates of rows
-abbrev pub of_rows : List Named → List Candidate
-of_rows rows = map (λ row. row.0) rows
 
 -- the verdict on what both papers say, once both have been read
 abbrev pub judged : Asked → Contents → Result Reported ℕ → Result Certified ℕ → Verdict

@@ -5,6 +5,7 @@ ghost use Rattle.ghcn_fields.specs.Faults.{first_failing};
 ghost use Rattle.rank_papers.specs.ReportLines.{reported_in, IsReported};
 ghost use Rattle.rank_papers.specs.Certificate.{count_of};
 ghost use Rattle.rank_papers.specs.CertificateLines.{certified_in};
+ghost use Rattle.rank_head.specs.HeadTests as head;
 ghost use Rattle.rank_check.specs.FoundFaults.{IsFaultOfCertificate};
 ghost use Rattle.rank_check.specs.Survey.{AreFindings, candidates_of};
 ghost use Rattle.rank_check.specs.Tests as tests;
@@ -62,7 +63,7 @@ pub(crate) fn judge(
 /// The first test that a report of this query fails.
 fn report_fault(held: &Data, query: &Query, report: &Report, found: &Findings) -> Option<Verdict>
     requires can_be { IsReported (reported_in report.now) }
-    requires same { tests.same_query report.now.query query.now ≡ true }
+    requires same { head.same_query report.now.query query.now ≡ true }
     requires found { AreFindings query.now held.now (candidates_of report.now.rows.items) found.now }
     ensures { result ≡ first_failing (tests.report_tests query.now held.now (reported_in report.now)) }
 {
@@ -135,7 +136,7 @@ fn length_fault(tops: &[Top], lines: &[Line]) -> Option<Verdict>
 
 /// Whether two scores are the same, or there are none.
 fn is_same_score(a: Option<i64>, b: Option<i64>) -> bool
-    ensures { result ≡ tests.same_score a b }
+    ensures { result ≡ head.same_score a b }
 {
     match (a, b) {
         (None, None) => true,

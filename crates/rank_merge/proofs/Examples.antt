@@ -11,8 +11,7 @@ use Rattle.rank_query.specs.Asked.{Asked}
 use Rattle.rank_query.specs.Words.{says}
 use Rattle.rank_query.specs.Readers.{keyword}
 use Rattle.rank_query.specs.WordValues.{number, element}
-use Rattle.rank_query.specs.Reading.{no_score_at, score_at, region_at, season_at, period_at, read_words}
-use Rattle.rank_query.specs.Reading.{read_query}
+use Rattle.rank_query.specs.Reading.{no_score_at, score_at, region_at, season_at, period_at, read_words, read_query}
 use Rattle.rank_merge.specs.declared.fault.MergeFault.TheVariants.{BadReport, BadCertificate, OtherQuery, OutOfOrder}
 use Rattle.rank_merge.specs.declared.fault.MergeFault.TheVariants.{OtherFloor, NotRising, NotScanned, NotCounted, Twice}
 use Rattle.rank_merge.specs.Merging.{Texts, merge}
@@ -26,32 +25,41 @@ text (l ∷ ls) = l ++ 10 ∷ text ls
 abbrev ask : ℕ → Asked
 ask k = record { k = k; score = Highest Tmax; region = Everywhere; season = None; period = None }
 
+-- the line of a query for so many
+abbrev top : List ℕ → List ℕ
+top k = codes "query top " ++ k ++ codes " highest TMAX"
+
+-- a report of so many
+abbrev report_with : List ℕ → List (List ℕ) → List ℕ
+report_with k rows = text (codes "extremes report 1" ∷ top k ∷ rows)
+
+-- it, and a certificate of version 2
+abbrev papers : List ℕ → List (List ℕ) → List (List ℕ) → Texts
+papers k rows lines = (report_with k rows, text (codes "extremes certificate 2" ∷ top k ∷ lines))
+
+-- the row of the highest one
+abbrev alpha : List ℕ
+alpha = codes "1 ZZA00000001 2020-07-01 2020-07-01 31.1 C ALPHA"
+
 -- ---- the highest one, of a part with two stations and one with the third
 
+-- the papers of the part with two stations
 abbrev two : Texts
-two = (
-  text (codes "extremes report 1" ∷ codes "query top 1 highest TMAX"
-      ∷ codes "1 ZZA00000001 2020-07-01 2020-07-01 31.1 C ALPHA" ∷ codes "end 1" ∷ []),
-  text (codes "extremes certificate 2" ∷ codes "query top 1 highest TMAX" ∷ codes "kth 311"
-      ∷ codes "scan ZZA00000001 311 1" ∷ codes "skip ZZA00000002 310" ∷ codes "end 2" ∷ []),
-)
+two = papers (codes "1") (alpha ∷ codes "end 1" ∷ []) (codes "kth 311" ∷ codes "scan ZZA00000001 311 1"
+    ∷ codes "skip ZZA00000002 310" ∷ codes "end 2" ∷ [])
 
+-- those of the other
 abbrev one : Texts
 one = (
-  text (codes "extremes report 1" ∷ codes "query top 1 highest TMAX"
-      ∷ codes "1 ZZA00000003 2020-07-01 2020-07-01 25.0 C CHARLIE" ∷ codes "end 1" ∷ []),
-  text (codes "extremes certificate 1" ∷ codes "query top 1 highest TMAX" ∷ codes "kth 250"
-      ∷ codes "scan ZZA00000003 250" ∷ codes "end 1" ∷ []),
+  report_with (codes "1") (codes "1 ZZA00000003 2020-07-01 2020-07-01 25.0 C CHARLIE" ∷ codes "end 1" ∷ []),
+  text (codes "extremes certificate 1" ∷ top (codes "1") ∷ codes "kth 250" ∷ codes "scan ZZA00000003 250"
+      ∷ codes "end 1" ∷ []),
 )
 
+-- and those of both
 abbrev two_and_one : Texts
-two_and_one = (
-  text (codes "extremes report 1" ∷ codes "query top 1 highest TMAX"
-      ∷ codes "1 ZZA00000001 2020-07-01 2020-07-01 31.1 C ALPHA" ∷ codes "end 1" ∷ []),
-  text (codes "extremes certificate 2" ∷ codes "query top 1 highest TMAX" ∷ codes "kth 311"
-      ∷ codes "scan ZZA00000001 311 1" ∷ codes "skip ZZA00000002 310" ∷ codes "scan ZZA00000003 250 0" ∷ codes "end 3"
-      ∷ []),
-)
+two_and_one = papers (codes "1") (alpha ∷ codes "end 1" ∷ []) (codes "kth 311" ∷ codes "scan ZZA00000001 311 1"
+    ∷ codes "skip ZZA00000002 310" ∷ codes "scan ZZA00000003 250 0" ∷ codes "end 3" ∷ [])
 
 -- in either order they merge into these
 merged : (merge (ask 1) (two ∷ one ∷ []) ≡ Ok two_and_one) × (merge (ask 1) (one ∷ two ∷ []) ≡ Ok two_and_one)
@@ -70,34 +78,23 @@ refused = (refl, refl, refl, refl)
 
 -- ---- the three highest, where each part has fewer
 
+-- the papers of one part
 abbrev few : Texts
-few = (
-  text (codes "extremes report 1" ∷ codes "query top 3 highest TMAX"
-      ∷ codes "1 ZZA00000001 2020-07-01 2020-07-01 31.1 C ALPHA"
-      ∷ codes "2 ZZA00000001 2020-07-02 2020-07-02 30.5 C ALPHA" ∷ codes "end 2 all" ∷ []),
-  text (codes "extremes certificate 2" ∷ codes "query top 3 highest TMAX" ∷ codes "kth none"
-      ∷ codes "scan ZZA00000001 311 2" ∷ codes "end 1" ∷ []),
-)
+few = papers (codes "3") (alpha ∷ codes "2 ZZA00000001 2020-07-02 2020-07-02 30.5 C ALPHA" ∷ codes "end 2 all" ∷ [])
+    (codes "kth none" ∷ codes "scan ZZA00000001 311 2" ∷ codes "end 1" ∷ [])
 
+-- those of another
 abbrev others : Texts
-others = (
-  text (codes "extremes report 1" ∷ codes "query top 3 highest TMAX"
-      ∷ codes "1 ZZA00000002 2020-07-01 2020-07-01 31.1 C BRAVO"
-      ∷ codes "2 ZZA00000003 2020-07-01 2020-07-01 25.0 C CHARLIE" ∷ codes "end 2 all" ∷ []),
-  text (codes "extremes certificate 2" ∷ codes "query top 3 highest TMAX" ∷ codes "kth none"
-      ∷ codes "scan ZZA00000002 311 1" ∷ codes "scan ZZA00000003 250 1" ∷ codes "end 2" ∷ []),
-)
+others = papers (codes "3") (codes "1 ZZA00000002 2020-07-01 2020-07-01 31.1 C BRAVO"
+    ∷ codes "2 ZZA00000003 2020-07-01 2020-07-01 25.0 C CHARLIE" ∷ codes "end 2 all" ∷ [])
+    (codes "kth none" ∷ codes "scan ZZA00000002 311 1" ∷ codes "scan ZZA00000003 250 1" ∷ codes "end 2" ∷ [])
 
+-- and those of both
 abbrev few_and_others : Texts
-few_and_others = (
-  text (codes "extremes report 1" ∷ codes "query top 3 highest TMAX"
-      ∷ codes "1 ZZA00000001 2020-07-01 2020-07-01 31.1 C ALPHA"
-      ∷ codes "2 ZZA00000002 2020-07-01 2020-07-01 31.1 C BRAVO"
-      ∷ codes "3 ZZA00000001 2020-07-02 2020-07-02 30.5 C ALPHA" ∷ codes "end 3" ∷ []),
-  text (codes "extremes certificate 2" ∷ codes "query top 3 highest TMAX" ∷ codes "kth 305"
-      ∷ codes "scan ZZA00000001 311 2" ∷ codes "scan ZZA00000002 311 1" ∷ codes "scan ZZA00000003 250 0"
-      ∷ codes "end 3" ∷ []),
-)
+few_and_others = papers (codes "3") (alpha ∷ codes "2 ZZA00000002 2020-07-01 2020-07-01 31.1 C BRAVO"
+    ∷ codes "3 ZZA00000001 2020-07-02 2020-07-02 30.5 C ALPHA" ∷ codes "end 3" ∷ [])
+    (codes "kth 305" ∷ codes "scan ZZA00000001 311 2" ∷ codes "scan ZZA00000002 311 1"
+    ∷ codes "scan ZZA00000003 250 0" ∷ codes "end 3" ∷ [])
 
 -- a count falls where a row falls out
 three_merged : merge (ask 3) (others ∷ few ∷ []) ≡ Ok few_and_others
@@ -107,42 +104,22 @@ three_merged = refl
 
 -- ---- heads
 
--- the three rows and the three lines of the merged papers
-abbrev rows_1 : List ℕ
-rows_1 = codes "1 ZZA00000001 2020-07-01 2020-07-01 31.1 C ALPHA"
-
-abbrev report_with : List (List ℕ) → List ℕ
-report_with rows = text (codes "extremes report 1" ∷ codes "query top 2 highest TMAX" ∷ rows)
-
-abbrev certificate_with : List (List ℕ) → List ℕ
-certificate_with lines = text (codes "extremes certificate 2" ∷ codes "query top 2 highest TMAX" ∷ lines)
-
--- a report with two rows in order
-abbrev in_order : List ℕ
-in_order = report_with (rows_1 ∷ codes "2 ZZA00000002 2020-07-01 2020-07-01 30.5 C" ∷ codes "end 2" ∷ [])
+-- papers with two rows in order
+abbrev two_rows : List (List ℕ) → Texts
+two_rows lines =
+    papers (codes "2") (alpha ∷ codes "2 ZZA00000002 2020-07-01 2020-07-01 30.5 C" ∷ codes "end 2" ∷ []) lines
 
 -- the line that each reason names
-heads_refused : (merge (ask 2) ((
-  report_with (codes "1 ZZA00000002 2020-07-01 2020-07-01 30.5 C"
-      ∷ codes "2 ZZA00000001 2020-07-01 2020-07-01 31.1 C" ∷ codes "end 2" ∷ []),
-  certificate_with (codes "kth none" ∷ codes "end 0" ∷ []),
-) ∷ []) ≡ Err (OutOfOrder 1 4))
-    × (merge (ask 2) ((in_order, certificate_with (codes "kth none" ∷ codes "end 0" ∷ [])) ∷ []) ≡ Err (OtherFloor 1))
-    × (merge (ask 2) ((
-      in_order,
-      certificate_with (codes "kth 305" ∷ codes "skip ZZA00000002 3"
-          ∷ codes "skip ZZA00000001 3" ∷ codes "end 2" ∷ []),
-    ) ∷ []) ≡ Err (NotRising 1 5))
-    × (merge (ask 2) ((
-      in_order,
-      certificate_with (codes "kth 305" ∷ codes "scan ZZA00000001 311 0"
-          ∷ codes "skip ZZA00000002 3" ∷ codes "end 2" ∷ []),
-    ) ∷ []) ≡ Err (NotScanned 1 4))
-    × (merge (ask 2) ((
-      in_order,
-      certificate_with (codes "kth 305" ∷ codes "scan ZZA00000001 311 1"
-          ∷ codes "scan ZZA00000002 305 0" ∷ codes "end 2" ∷ []),
-    ) ∷ []) ≡ Err (NotCounted 1 5))
+heads_refused : (merge (ask 2) (papers (codes "2") (codes "1 ZZA00000002 2020-07-01 2020-07-01 30.5 C"
+    ∷ codes "2 ZZA00000001 2020-07-01 2020-07-01 31.1 C" ∷ codes "end 2" ∷ []) (codes "kth none" ∷ codes "end 0" ∷ [])
+    ∷ []) ≡ Err (OutOfOrder 1 4))
+    × (merge (ask 2) (two_rows (codes "kth none" ∷ codes "end 0" ∷ []) ∷ []) ≡ Err (OtherFloor 1))
+    × (merge (ask 2) (two_rows (codes "kth 305" ∷ codes "skip ZZA00000002 3" ∷ codes "skip ZZA00000001 3"
+    ∷ codes "end 2" ∷ []) ∷ []) ≡ Err (NotRising 1 5))
+    × (merge (ask 2) (two_rows (codes "kth 305" ∷ codes "scan ZZA00000001 311 0" ∷ codes "skip ZZA00000002 3"
+    ∷ codes "end 2" ∷ []) ∷ []) ≡ Err (NotScanned 1 4))
+    × (merge (ask 2) (two_rows (codes "kth 305" ∷ codes "scan ZZA00000001 311 1" ∷ codes "scan ZZA00000002 305 0"
+    ∷ codes "end 2" ∷ []) ∷ []) ≡ Err (NotCounted 1 5))
 unfolding digits year_and_rest month_and_day read_query read_words keyword says number element score_at no_score_at
     region_at season_at period_at days_from_civil day_count days_of_years days_of_months
 heads_refused = (refl, refl, refl, refl, refl)

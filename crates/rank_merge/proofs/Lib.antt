@@ -1,7 +1,5 @@
 pub mod Examples
 pub mod Lists
-pub mod OneReport
-pub mod RightOrders
 pub mod RightHeads
 pub mod MergedPapers
 pub mod MergedTexts
@@ -9,5 +7,3 @@ pub mod MeasuredPapers
 pub mod StableSorts
 pub mod Orders
 pub mod ReadParts
-pub mod Merges
-pub mod TwiceInOrder

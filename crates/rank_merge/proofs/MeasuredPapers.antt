@@ -1,9 +1,9 @@
 -- The bounds of merged papers are those of the series, where the parts' are, and no station has series in two parts.
-use Rattle.std.proofs.Common.{◌≡◌, inr, ◌≤◌, Bool, true, false, cond, List, [], ◌∷◌, length, map, take, Option, Ok, refl, sym}
-use Rattle.std.proofs.Common.{ap, ◌∙◌, subst, arith, ℕ, ℤ}
+use Rattle.std.proofs.Common.{◌≡◌, inr, ◌≤◌, List, [], ◌∷◌, length, map, take, Option, Ok, sym, ap, ◌∙◌, subst, arith}
+use Rattle.std.proofs.Common.{ℕ, ℤ}
 use Rattle.std.specs.Prelude.{nat_le, IfSome, IsTrue, FitsSigned}
 use Rattle.std.specs.Int.{w64}
-use Rattle.std.specs.List.{flat_map, count_by, AllByRecursion, AllZip}
+use Rattle.std.specs.List.{flat_map, AllByRecursion, AllZip}
 use Rattle.std.proofs.lemmas.Bool.{leb-true, and_parts}
 use Rattle.std.proofs.lemmas.List.{length-take}
 use Rattle.std.proofs.lemmas.List.Sums.{count_by-le-length}
@@ -21,25 +21,15 @@ use Rattle.rank_pool.specs.First.{in_order}
 use Rattle.rank_blocks.specs.Bounds.{bound}
 use Rattle.rank_papers.specs.Certificate.{Entry, Certified, IsEntry, IsCount, IsRightEntry, count_of, counts_of}
 use Rattle.rank_papers.specs.CertificateLines.{read_certificate}
-use Rattle.rank_papers.specs.Laws.{CertificatesAreRead, RightCertificatesSayRight, ReportsAreRead}
-use Rattle.rank_papers.specs.Laws.{RightReportsSayRight}
 use Rattle.rank_papers.specs.PlanPapers.{IsMeasuredCertificate}
 use Rattle.rank_papers.proofs.PlanLines.{sorted-zip}
-use Rattle.rank_head.specs.RightHead.{HeadsAreRight}
 use Rattle.rank_merge.specs.Merged.{entries_of, merged_entries}
 use Rattle.rank_merge.specs.Laws.{IsMeasuredPart, MergedAreMeasured}
-use Rattle.rank_merge.proofs.Lists.{zip-append}
+use Rattle.rank_merge.specs.Merging.{merge}
+use Rattle.rank_merge.proofs.Lists.{zip-append, zip-weaker, zip-same}
 use Rattle.rank_merge.proofs.MergedPapers.{WithData, IsRightPart, data_of_parts, parts_alone}
 use Rattle.rank_merge.proofs.RightHeads.{best_are}
-use Rattle.rank_merge.proofs.MergedTexts.{all, is_certificate, same_texts, same_data}
-
--- the data of two lists of measured parts
-measured_data : (q : Asked) (stations : List Station) (parts : List Filed) (ds : List Contents)
-    → AllZip (IsMeasuredPart q stations) parts ds → AllZip (IsDataOf stations) parts ds
-measured_data q stations [] [] h = tt
-measured_data q stations [] (d ∷ ds) h = absurd h
-measured_data q stations (p ∷ parts) [] h = absurd h
-measured_data q stations (p ∷ parts) (d ∷ ds) h = (h.0.0, measured_data q stations parts ds h.1)
+use Rattle.rank_merge.proofs.MergedTexts.{Known, IsMerged, all, is_certificate, same_data}
 
 module _ (q : Asked) where
   -- a line has the ID and the bound of a series
@@ -56,16 +46,6 @@ module _ (q : Asked) where
       let first : x.bound ≡ bound q u = cc in
       let rest : map (λ (y : Entry). y.bound) es ≡ map (bound q) us = cc in
       ((h.0.named, first), zip_measured kth es us h.1 rest)
-
-  -- and back
-  zip_bounds : (es : List Entry) (us : List Usable) → AllZip IsMeasuredEntry es us
-      → map (λ (e : Entry). e.bound) es ≡ map (bound q) us
-  zip_bounds [] [] h = refl
-  zip_bounds [] (u ∷ us) h = absurd h
-  zip_bounds (x ∷ es) [] h = absurd h
-  zip_bounds (x ∷ es) (u ∷ us) h =
-      ap (λ (z : ℤ). z ∷ map (λ (e : Entry). e.bound) es) h.0.1
-      ∙ ap (λ (l : List ℤ). bound q u ∷ l) (zip_bounds es us h.1)
 
   -- in order they stay so
   sorted_measured : (es : List Entry) (us : List Usable) → AllZip IsMeasuredEntry es us
@@ -94,15 +74,8 @@ module _ (q : Asked) where
   -- of few candidates few are of one station, and none is counted where it was passed over
   one_count : (best : List Candidate) (x : Entry) → length best ≤ 1000 → IsCount x (count_of best x)
   one_count best x few =
-      let both = by x.skipped (count_of best x) refl in record { few = both.0; none = both.1 }
-    where
-      counted : count_by (λ c. same_id c.id x.id) best ≤ length best
-      counted = count_by-le-length (λ (c : Candidate). same_id c.id x.id) best
-
-      by : (b : Bool) (n : ℕ) → n ≡ cond b 0 (count_by (λ c. same_id c.id x.id) best)
-          → (n ≤ 1000) × (b ≡ true → n ≡ 0)
-      by true n is = (omega (arith, is), λ t. is)
-      by false n is = (omega (arith, is, counted, few), λ t. absurd cc)
+      let counted = count_by-le-length (λ (c : Candidate). same_id c.id x.id) best in
+      record { few = grind arith; none = λ t. grind arith }
 
   -- so it is with all counts
   all_counts : (best : List Candidate) (es : List Entry) → length best ≤ 1000
@@ -118,81 +91,79 @@ module _ (q : Asked) where
       let high : q.k ≤ 1000 = leb-true q.k 1000 (and_parts (nat_le 1 q.k) (nat_le q.k 1000) asked.k).1 in
       omega (arith, first, length-take q.k (in_order (all_candidates q c)), high)
 
-  module _ (certificates : CertificatesAreRead) (right_certificates : RightCertificatesSayRight) (asked : IsAsked q)
-    where
-      -- the certificate itself is read
-      measured_read : (c : Contents) (bytes : List ℕ) → IsContents c → IsMeasuredCertificate q c bytes → (z : Certified)
-          → read_certificate bytes ≡ Ok z → map (λ (e : Entry). e.bound) z.entries ≡ map (bound q) (morsels q c)
-      measured_read c bytes right h z e =
-          let v = (right_certificates q c bytes asked right).0 h.certificate in
-          let es : List Entry = h.certificate.entries in
-          let kth : IfSome (kth_of_query q c) (FitsSigned w64) =
-          subst (λ (o : Option ℤ). IfSome o (FitsSigned w64)) v.2.kth v.1.can_be.kth in
-          let said : Certified = record {
-            version = h.certificate.version;
-            query = q;
-            kth = kth_of_query q c;
-            entries = h.certificate.entries;
-            counts = counts_of h.certificate.version (best_of_query q c) h.certificate.entries;
-          } in
-          let own : read_certificate bytes ≡ Ok said = (certificates bytes said).1 (record {
-            can_be = record {
-              asked = asked;
-              kth = kth;
-              entries = each_can (kth_of_query q c) h.certificate.entries v.0.entries (morsels q c) h.certificate.right
-                  v.2.entries v.1.can_be.entries;
-              counts = inr (
-                h.version,
-                subst (λ (w : ℕ). AllZip IsCount h.certificate.entries
-                    (counts_of w (best_of_query q c) h.certificate.entries)) (sym h.version)
-                    (all_counts (best_of_query q c) h.certificate.entries (few_best c asked right)),
-              );
-            };
-            text = h.certificate.text;
-          }) in
-          let same : z ≡ said = cc in
-          ap (λ (w : Certified). map (λ (x : Entry). x.bound) w.entries) same ∙ h.bounds
+  module _ (known : Known) (asked : IsAsked q) where
+    -- the certificate itself is read
+    measured_read : (c : Contents) (bytes : List ℕ) → IsContents c → IsMeasuredCertificate q c bytes → (z : Certified)
+        → read_certificate bytes ≡ Ok z → map (λ (e : Entry). e.bound) z.entries ≡ map (bound q) (morsels q c)
+    measured_read c bytes right h z e =
+        let v = (known.right_certificates q c bytes asked right).0 h.certificate in
+        let es : List Entry = h.certificate.entries in
+        let kth : IfSome (kth_of_query q c) (FitsSigned w64) =
+        subst (λ (o : Option ℤ). IfSome o (FitsSigned w64)) v.2.kth v.1.can_be.kth in
+        let said : Certified = record {
+          version = h.certificate.version;
+          query = q;
+          kth = kth_of_query q c;
+          entries = h.certificate.entries;
+          counts = counts_of h.certificate.version (best_of_query q c) h.certificate.entries;
+        } in
+        let own : read_certificate bytes ≡ Ok said = (known.certificates bytes said).1 (record {
+          can_be = record {
+            asked = asked;
+            kth = kth;
+            entries = each_can (kth_of_query q c) h.certificate.entries v.0.entries (morsels q c) h.certificate.right
+                v.2.entries v.1.can_be.entries;
+            counts = inr (
+              h.version,
+              subst (λ (w : ℕ). AllZip IsCount h.certificate.entries
+                  (counts_of w (best_of_query q c) h.certificate.entries)) (sym h.version)
+                  (all_counts (best_of_query q c) h.certificate.entries (few_best c asked right)),
+            );
+          };
+          text = h.certificate.text;
+        }) in
+        let same : z ≡ said = cc in
+        ap (λ (w : Certified). map (λ (x : Entry). x.bound) w.entries) same ∙ h.bounds
 
-      -- the lines of all parts
-      measured_parts : (stations : List Station) (parts : List Filed) (ws : List WithData)
-          → AllByRecursion (IsRightPart q) ws → AllZip (λ p w. read_certificate p.1.1 ≡ Ok w.1.certificate) parts ws
-          → AllZip (IsMeasuredPart q stations) parts (data_of_parts ws)
-          → AllZip IsMeasuredEntry (entries_of (parts_alone ws)) (flat_map (morsels q) (data_of_parts ws))
-      measured_parts stations [] [] h r m = tt
-      measured_parts stations [] (w ∷ ws) h r m = absurd r
-      measured_parts stations (p ∷ parts) [] h r m = absurd r
-      measured_parts stations (p ∷ parts) (w ∷ ws) h r m =
-          zip-append IsMeasuredEntry w.1.certificate.entries (entries_of (parts_alone ws)) (morsels q w.0)
-          (flat_map (morsels q) (data_of_parts ws))
-          (zip_measured (kth_of_query q w.0) w.1.certificate.entries (morsels q w.0) h.0.certificate.entries
-          (measured_read w.0 p.1.1 h.0.contents m.0.1 w.1.certificate r.0))
-          (measured_parts stations parts ws h.1 r.1 m.1)
+    -- the lines of all parts
+    measured_parts : (stations : List Station) (parts : List Filed) (ws : List WithData)
+        → AllByRecursion (IsRightPart q) ws → AllZip (λ p w. read_certificate p.1.1 ≡ Ok w.1.certificate) parts ws
+        → AllZip (IsMeasuredPart q stations) parts (data_of_parts ws)
+        → AllZip IsMeasuredEntry (entries_of (parts_alone ws)) (flat_map (morsels q) (data_of_parts ws))
+    measured_parts stations [] [] h r m = tt
+    measured_parts stations [] (w ∷ ws) h r m = absurd r
+    measured_parts stations (p ∷ parts) [] h r m = absurd r
+    measured_parts stations (p ∷ parts) (w ∷ ws) h r m =
+        zip-append IsMeasuredEntry w.1.certificate.entries (entries_of (parts_alone ws)) (morsels q w.0)
+        (flat_map (morsels q) (data_of_parts ws))
+        (zip_measured (kth_of_query q w.0) w.1.certificate.entries (morsels q w.0) h.0.certificate.entries
+        (measured_read w.0 p.1.1 h.0.contents m.0.1 w.1.certificate r.0))
+        (measured_parts stations parts ws h.1 r.1 m.1)
 
 -- so the bounds of the merged lines are those of the series
-pub merged_measured : CertificatesAreRead → RightCertificatesSayRight → ReportsAreRead → RightReportsSayRight
-    → HeadsAreRight → CutByFiles → MorselsOfParts → MergedAreMeasured
-merged_measured certificates right_certificates reports right_reports heads cut morsels_of q texts papers asked merged
-    stations parts ds held same are measured contents read apart =
-    let m = same_texts q texts parts papers same merged in
-    let found = all certificates right_certificates reports right_reports heads cut q stations parts held papers asked m
-    are contents read in
-    let z = is_certificate certificates right_certificates reports right_reports heads cut q stations parts held papers
-    asked m are contents read in
-    let data_are = measured_data q stations parts ds measured in
-    let one : data_of_parts found.read ≡ ds = same_data stations parts (data_of_parts found.read) ds found.data_are data_are in
+pub merged_measured : Known → CutByFiles → MorselsOfParts → MergedAreMeasured
+merged_measured known cut morsels_of q texts papers asked merged stations parts ds held same are measured contents read
+    apart =
+    let m : IsMerged q stations parts held papers =
+    record { asked = asked; merged = ap (merge q) same ∙ merged; are = are; contents = contents; read = read } in
+    let found = all known cut m in
+    let z = is_certificate known cut m in
+    let data_are = zip-weaker (IsMeasuredPart q stations) (IsDataOf stations) (λ p d h. h.0) parts ds measured in
+    let one : data_of_parts found.read ≡ ds =
+    same_data stations parts (data_of_parts found.read) ds found.data_are data_are in
     let own : AllZip (IsMeasuredPart q stations) parts (data_of_parts found.read) =
     subst (AllZip (IsMeasuredPart q stations) parts) (sym one) measured in
-    let lines = measured_parts q certificates right_certificates asked stations parts found.read found.right found.certificates_are own in
-    let series : morsels q held ≡ sorted_by series_first (flat_map (morsels q) (data_of_parts found.read)) =
+    let us : List Usable = flat_map (morsels q) (data_of_parts found.read) in
+    let lines = sorted_measured q (entries_of (parts_alone found.read)) us
+    (measured_parts q known asked stations parts found.read found.right found.certificates_are own) in
+    let series : morsels q held ≡ sorted_by series_first us =
     morsels_of q stations parts ds held data_are read apart
     ∙ ap (λ (l : List Contents). sorted_by series_first (flat_map (morsels q) l)) (sym one) in
     record {
       certificate = z.0;
       version = z.1;
       bounds = ap (λ (es : List Entry). map (λ (e : Entry). e.bound) es) z.2
-          ∙ zip_bounds q (merged_entries (parts_alone found.read))
-          (sorted_by series_first (flat_map (morsels q) (data_of_parts found.read)))
-          (sorted_measured q (entries_of (parts_alone found.read))
-          (flat_map (morsels q) (data_of_parts found.read)) lines)
+          ∙ zip-same (IsMeasuredEntry q) (λ e. e.bound) (bound q) (λ e u r. r.1)
+          (merged_entries (parts_alone found.read)) (sorted_by series_first us) lines
           ∙ ap (map (bound q)) (sym series);
     }

@@ -1,13 +1,27 @@
--- The orders of lines by ID and of rows by candidate.
+-- The orders of lines by ID and of rows by candidate. In order, an ID that stands twice stands on two neighbours.
 use Rattle.std.specs.Cmp.{IsTotalOrder}
 use Rattle.std.specs.Cmp.Lexicographic.{slice_cmp}
-use Rattle.std.specs.Ordering.{nat_cmp}
+use Rattle.std.specs.Ordering.{nat_cmp, is_le, is_eq, ordering_reverse}
 use Rattle.std.specs.declared.cmp.Ordering.{Ordering}
 use Rattle.std.proofs.lemmas.Cmp.{nat_list_cmp_total, on_total}
 use Rattle.rank_scores.specs.Order.{full_cmp}
 use Rattle.rank_scores.proofs.Listing.{full_cmp_total}
 use Rattle.rank_papers.specs.declared.paper.Row.{Row}
 use Rattle.rank_papers.specs.Certificate.{Entry}
+use Rattle.std.proofs.Common.{◌≡◌, Bool, true, false, cond, List, [], ◌∷◌, Option, Some, refl, sym, ap, ◌∙◌, drop, ◌||◌}
+use Rattle.std.proofs.Common.{arith}
+use Rattle.std.specs.List.{list_any, find, zip, AllByRecursion}
+use Rattle.std.specs.Option.{option_map}
+use Rattle.std.proofs.lemmas.Bool.{false_from_ne_true}
+use Rattle.std.proofs.lemmas.Map.Text.{is_eq-slice_cmp}
+use Rattle.ghcn_files.specs.Ids.{same_id}
+use Rattle.ghcn_files.specs.IdLaws.{same_id-is}
+use Rattle.rank_scores.specs.Morsels.{id_comes_first}
+use Rattle.rank_head.specs.HeadTests.{neighbours}
+use Rattle.rank_head.proofs.FirstPlaces.{neighbours-zip}
+use Rattle.rank_merge.specs.Merged.{by_id}
+use Rattle.rank_merge.specs.Merging.{twice}
+use Rattle.rank_merge.proofs.StableSorts.{InTurn, in_turn, sorted-twice}
 
 -- lines by their IDs
 abbrev pub id_cmp : Entry → Entry → Ordering
@@ -24,3 +38,54 @@ row_cmp a b = full_cmp a.candidate b.candidate
 -- a total order
 pub row_total : IsTotalOrder row_cmp
 row_total = on_total (λ (r : Row). r.candidate) full_cmp_total
+
+-- ---- an ID that stands twice
+
+-- two that are each at most the other tie
+tie : (o p : Ordering) → o ≡ ordering_reverse p → is_le o ≡ true → is_le p ≡ true → is_eq o ≡ true
+tie o p e h k = grind arith
+
+-- lines that each come first are of one station
+one_station : (e f : Entry) → id_comes_first e.id f.id ≡ true → id_comes_first f.id e.id ≡ true
+    → same_id e.id f.id ≡ true
+one_station e f h k =
+    sym (is_eq-slice_cmp e.id.0 f.id.0) ∙ tie (id_cmp e f) (id_cmp f e) (id_total.antisymm e f) h k
+
+-- behind the line of another station no line is of the first one's
+none_behind : (e f : Entry) (es : List Entry) → id_comes_first e.id f.id ≡ true → same_id e.id f.id ≡ false
+    → AllByRecursion (λ g. id_comes_first f.id g.id ≡ true) es → list_any (λ g. same_id e.id g.id) es ≡ false
+none_behind e f [] h other a = refl
+none_behind e f (g ∷ es) h other a =
+    let rest = none_behind e f es h other a.1 in
+    let here : same_id e.id g.id ≡ false = false_from_ne_true _ (λ t.
+    let same = one_station e f h (ap (id_comes_first f.id) (same_id-is e.id g.id t) ∙ a.0) in cc) in
+    grind arith
+
+-- two neighbours are of one station
+abbrev pub IsTwice : Entry × Entry → Bool
+IsTwice two = same_id two.0.id two.1.id
+
+-- so the first that stands twice does so on two neighbours
+pub twice_beside : (es : List Entry) → InTurn id_cmp id_total es
+    → twice es ≡ option_map (λ two. two.0.id) (find IsTwice (neighbours es))
+twice_beside [] h = refl
+twice_beside (e ∷ []) h = refl
+twice_beside (e ∷ f ∷ es) h =
+    elim (same_id e.id f.id) as (λ b. same_id e.id f.id ≡ b
+    → cond (b || list_any (λ g. same_id e.id g.id) es) (Some e.id) (twice (f ∷ es))
+    ≡ option_map (λ two. two.0.id) (cond b (Some (e, f)) (find IsTwice (neighbours (f ∷ es))))) [
+      | true ↦ λ t. refl
+      | false ↦ λ t. ap (λ b. cond b (Some e.id) (twice (f ∷ es))) (none_behind e f es h.0.0 t h.1.0)
+          ∙ twice_beside (f ∷ es) h.1
+    ] refl
+
+-- lines that were put in order are in order
+pub ordered_once : (ls es : List Entry) → ls ≡ by_id es → by_id ls ≡ ls
+ordered_once ls es e = ap by_id e ∙ sorted-twice id_cmp id_total es ∙ sym e
+
+-- what a search among neighbours finds is the first that stands twice
+pub twice_found : (es : List Entry) (r : Option (Entry × Entry)) → by_id es ≡ es
+    → r ≡ find IsTwice (zip es (drop 1 es)) → option_map (λ two. two.0.id) r ≡ twice es
+twice_found es r ordered e =
+    ap (option_map (λ (two : Entry × Entry). two.0.id)) (e ∙ ap (find IsTwice) (sym (neighbours-zip es)))
+    ∙ sym (twice_beside es (in_turn id_cmp id_total es ordered))

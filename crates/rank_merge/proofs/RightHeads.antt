@@ -1,55 +1,208 @@
 -- Papers that say what is right have a right head.
-use Rattle.std.proofs.Common.{◌≡◌, ◌⊎◌, inl, inr, ℕ, zero, suc, Bool, true, false, cond, not, List, [], ◌∷◌, ◌++◌, length}
-use Rattle.std.proofs.Common.{take, filter, Option, Some, None, refl, sym, ap, ◌∙◌, subst, arith, ℤ, ◌≤ℤ◌, ◌||◌}
-use Rattle.std.specs.Prelude.{int_lt, ◌==◌, ◌&&◌}
-use Rattle.std.specs.List.{flat_map, AllByRecursion, AllZip}
-use Rattle.std.specs.List.Sorted.{IsPermutation}
-use Rattle.std.proofs.lemmas.Bool.{eqb-true}
+use Rattle.std.proofs.Common.{◌≡◌, ℕ, zero, suc, Bool, true, false, List, [], ◌∷◌, map, take, filter, Option, Some}
+use Rattle.std.proofs.Common.{None, cond, refl, sym, ap, ◌∙◌, ℤ, arith, ◌⊎◌, inl, inr, not, ◌++◌, length, subst, ◌≤ℤ◌}
+use Rattle.std.proofs.Common.{append_assoc}
+use Rattle.std.specs.Prelude.{slice_get, int_lt, ◌==◌}
+use Rattle.std.specs.List.{find, filter_map, cons_option, AllByRecursion, AllZip, IsDistinct, flat_map}
+use Rattle.std.specs.Option.{option_map}
+use Rattle.std.specs.Cmp.{IsTotalOrder}
+use Rattle.std.specs.Cmp.Lexicographic.{slice_cmp}
+use Rattle.std.specs.Ordering.{is_lt, is_le, is_eq, nat_cmp, int_cmp, ordering_then}
+use Rattle.std.specs.declared.cmp.Ordering.{Ordering}
+use Rattle.std.specs.declared.cmp.Ordering.TheVariants.{Equal}
+use Rattle.std.proofs.lemmas.Bool.{and_parts}
+use Rattle.std.proofs.lemmas.Cmp.{nat_list_cmp_total, on_total}
 use Rattle.std.proofs.lemmas.Int.{ints}
-use Rattle.std.proofs.lemmas.List.Elements.{recursion_from_All, All-from_recursion}
-use Rattle.std.proofs.lemmas.List.Sorted.{All-permutation, IsPermutation-sym}
+use Rattle.std.proofs.lemmas.Map.Keys.{IsDistinct-IsPermutation}
+use Rattle.std.proofs.lemmas.Map.Text.{is_eq-slice_cmp}
 use Rattle.ghcn_fields.specs.Sorting.{sorted_by}
 use Rattle.ghcn_fields.proofs.Ordered as ordered
+use Rattle.ghcn_files.specs.declared.station.Station.{Station}
 use Rattle.ghcn_files.specs.declared.station.StationId.{StationId}
 use Rattle.ghcn_files.specs.Ids.{same_id}
-use Rattle.ghcn_files.specs.IdLaws.{same_id-laws}
-use Rattle.ghcn_series.specs.Series.{Usable, Contents}
+use Rattle.ghcn_files.specs.IdLaws.{same_id-is, same_id-turned, same_id-laws}
+use Rattle.ghcn_series.specs.Series.{Usable, Contents, series_of, is_series_of}
 use Rattle.ghcn_series.specs.Held.{IsContents}
-use Rattle.rank_query.specs.Asked.{Asked, IsAsked}
+use Rattle.ghcn_series.proofs.ListFacts.{distinct_filter, both_all}
+use Rattle.rank_query.specs.Asked.{Asked, score_element, IsAsked}
+use Rattle.rank_query.specs.Admits.{admits_station}
 use Rattle.rank_scores.specs.declared.candidate.Candidate.{Candidate}
-use Rattle.rank_scores.specs.Candidates.{admitted, shape, candidates_among, candidates}
 use Rattle.rank_scores.specs.Cut.{series_first}
-use Rattle.rank_scores.specs.Order.{is_below}
-use Rattle.rank_scores.specs.Morsels.{all_candidates, admitted_series, has_admitted, morsels, best_of_query, kth_of_query}
-use Rattle.rank_scores.proofs.QueryCandidates.{all_apart, candidates-own}
+use Rattle.rank_scores.specs.Order.{precedes, is_below}
+use Rattle.rank_scores.specs.Morsels.{admitted_series, has_admitted, morsels, all_candidates, best_of_query}
+use Rattle.rank_scores.specs.Morsels.{kth_of_query}
 use Rattle.rank_scores.proofs.Ranks.{Descends}
+use Rattle.rank_scores.proofs.Rising.{all-made, all-mapped, from_each}
+use Rattle.rank_papers.specs.Report.{Named}
+use Rattle.rank_papers.specs.Certificate.{Entry, IsRightEntry, Certified, SaysRight, kth_of_best, counts_of}
+use Rattle.rank_head.specs.HeadTests.{of_rows, stands_before, Rise, is_scanned}
+use Rattle.rank_head.specs.RightHead.{AreInOrder, IsRightHead}
+use Rattle.rank_pool.proofs.Orders.{take-all, sorted-all}
+use Rattle.rank_scores.specs.Candidates.{admitted, shape, candidates_among, candidates}
+use Rattle.rank_scores.proofs.QueryCandidates.{all_apart, candidates-own}
 use Rattle.rank_pool.specs.First.{in_order, kth, comes_first}
 use Rattle.rank_pool.proofs.Ranked.{in_order-descends, best-first, kth_score-kth}
-use Rattle.rank_papers.specs.Report.{Named}
 use Rattle.rank_papers.specs.ReportLines.{Reported, SaysRightReport}
-use Rattle.rank_papers.specs.Certificate.{Entry, Certified, IsRightEntry, SaysRight, kth_of_best, counts_of}
 use Rattle.rank_papers.proofs.PlanPapers.{kth-best, some_asked}
-use Rattle.rank_head.specs.HeadTests.{of_rows, is_scanned}
-use Rattle.rank_head.specs.RightHead.{IsRightHead}
-use Rattle.rank_merge.proofs.Lists.{each-append, each-take, each-sorted}
-use Rattle.rank_merge.proofs.RightOrders.{none_below, descends-take, rows_in_turn, right_rise}
+use Rattle.rank_merge.proofs.Lists.{each-unsorted}
+
+-- ---- scores
+
+-- what comes first in two orders, one after the other, isn't behind in the first
+lead : (o p : Ordering) → is_lt (ordering_then o p) ≡ true → is_le o ≡ true
+lead o p e = grind arith
+
+-- what one precedes doesn't score above it
+not_above : (x y : Candidate) → precedes x y ≡ true → int_lt x.score y.score ≡ false
+not_above x y e =
+    let scores : is_le (int_cmp y.score x.score) ≡ true = lead _ _ e in
+    grind (arith, ints)
+
+-- of one that precedes all of some, the score isn't below that of the one at a place
+first_above : (x : Candidate) (xs : List Candidate) (j : ℕ) → AllByRecursion (λ y. precedes x y ≡ true) xs
+    → is_below (option_map (λ c. c.score) (slice_get xs j)) x.score ≡ false
+first_above x [] zero h = refl
+first_above x [] (suc j) h = refl
+first_above x (y ∷ xs) zero h = not_above x y h.0
+first_above x (y ∷ xs) (suc j) h = first_above x xs j h.1
+
+-- so none of the first k scores below the k-th
+pub none_below : (xs : List Candidate) (j : ℕ) → Descends xs
+    → AllByRecursion (λ d. is_below (option_map (λ c. c.score) (slice_get xs j)) d.score ≡ false) (take (suc j) xs)
+none_below [] j h = tt
+none_below (x ∷ xs) zero h = (grind (arith, ints), tt)
+none_below (x ∷ xs) (suc j) h = (first_above x xs j h.0, none_below xs j h.1)
+
+-- ---- rows
+
+-- the first of candidates that descend do so too
+pub descends-take : (n : ℕ) (xs : List Candidate) → Descends xs → Descends (take n xs)
+descends-take zero xs h = tt
+descends-take (suc n) [] h = tt
+descends-take (suc n) (x ∷ xs) h = (take-all (λ y. precedes x y ≡ true) n xs h.0, descends-take n xs h.1)
+
+-- rows of candidates that descend are in order
+pub rows_in_turn : (rows : List Named) → Descends (of_rows rows) → AreInOrder rows
+rows_in_turn [] h = tt
+rows_in_turn (x ∷ []) h = tt
+rows_in_turn (x ∷ y ∷ rows) h = (h.0.0, rows_in_turn (y ∷ rows) h.1)
+
+-- ---- series with different IDs
+
+-- two series are of one station
+abbrev same_station : Usable → Usable → Bool
+same_station a b = same_id a.id b.id
+
+-- what is different by ID is so by its ID
+by_ids : {X : Type 0} (id : X → StationId) (xs : List X) → IsDistinct same_id (map id xs)
+    → IsDistinct (λ a b. same_id (id a) (id b)) xs
+unfolding IsDistinct
+by_ids id [] d = tt
+by_ids id (x ∷ xs) d = (all-mapped (λ i. same_id (id x) i ≡ false) id xs d.0, by_ids id xs d.1)
+
+-- what is found passes
+found_passes : {X : Type 0} (p : X → Bool) (xs : List X) (x : X) → find p xs ≡ Some x → p x ≡ true
+found_passes p [] x e = absurd cc
+found_passes p (y ∷ ys) x e = let behind = found_passes p ys x in grind arith
+
+module _ (q : Asked) (c : Contents) where
+  -- the series of a station of the query's element
+  abbrev of_station : Station → Option Usable
+  of_station st = series_of c st.id (score_element q.score)
+
+  -- has its ID
+  own_id : (st : Station) (u : Usable) → of_station st ≡ Some u → u.id ≡ st.id
+  own_id st u e =
+      let passes = found_passes (is_series_of st.id (score_element q.score)) c.series u e in
+      same_id-is u.id st.id (and_parts (same_id u.id st.id) _ passes).0
+
+  -- so the series of different stations are different
+  series_apart : (sts : List Station) → IsDistinct (λ a b. same_id a.id b.id) sts
+      → IsDistinct same_station (filter_map of_station sts)
+  unfolding IsDistinct
+  series_apart [] d = tt
+  series_apart (st ∷ sts) d =
+      elim (of_station st) as (λ o. of_station st ≡ o
+      → IsDistinct same_station (cons_option o (filter_map of_station sts))) [
+        | None ↦ λ e. series_apart sts d.1
+        | Some u ↦ λ e. (
+          all-made (λ v. same_id u.id v.id ≡ false) of_station sts
+              (from_each (λ s. same_id st.id s.id ≡ false)
+              (λ s. (v : Usable) → of_station s ≡ Some v → same_id u.id v.id ≡ false) sts
+              (λ s other v f. ap (λ (i : StationId). same_id i v.id) (own_id st u e)
+              ∙ ap (same_id st.id) (own_id s v f) ∙ other) d.0),
+          series_apart sts d.1,
+        )
+      ] refl
+
+-- ---- morsels by rising ID
+
+-- the order by ID
+abbrev id_cmp : Usable → Usable → Ordering
+id_cmp a b = slice_cmp nat_cmp a.id.0 b.id.0
+
+-- a total order
+id_total : IsTotalOrder id_cmp
+id_total = on_total (λ (s : Usable). s.id.0) nat_list_cmp_total
+
+-- series that tie are of one station
+tied : (a b : Usable) → id_cmp a b ≡ Equal → same_id a.id b.id ≡ true
+tied a b e = sym (is_eq-slice_cmp a.id.0 b.id.0) ∙ ap is_eq e
+
+-- what isn't behind another and doesn't tie stands before it
+strictly : (o : Ordering) → is_le o ≡ true → is_eq o ≡ false → is_lt o ≡ true
+strictly o h n = grind arith
+
+-- each series comes before all behind it, which are of other stations
+abbrev SeriesRise : List Usable → Type 0
+SeriesRise us = ordered.Descend (λ a b. (series_first a b ≡ true) × (same_id a.id b.id ≡ false)) us
+
+-- the morsels of a query do
+morsels_rise : (q : Asked) (c : Contents) → IsContents c → SeriesRise (morsels q c)
+morsels_rise q c right =
+    let stations : IsDistinct (λ (a b : Station). same_id a.id b.id) (filter (admits_station q) c.stations) =
+    distinct_filter (λ (a b : Station). same_id a.id b.id) (admits_station q) c.stations
+    (by_ids (λ (st : Station). st.id) c.stations right.listed.distinct) in
+    let apart : IsDistinct same_station (filter (has_admitted q) (admitted_series q c)) =
+    distinct_filter same_station (has_admitted q) (admitted_series q c)
+    (series_apart q c (filter (admits_station q) c.stations) stations) in
+    let us : List Usable = filter (has_admitted q) (admitted_series q c) in
+    let turned : (a b : Usable) → same_id a.id b.id ≡ same_id b.id a.id = λ a b. same_id-turned a.id b.id in
+    let still : IsDistinct same_station (sorted_by series_first us) =
+    IsDistinct-IsPermutation same_station turned us (sorted_by series_first us)
+    (ordered.sorted-permutation series_first us) apart in
+    ordered.descends id_cmp id_total series_first (λ a b. refl) same_station turned tied (sorted_by series_first us)
+    (ordered.sorted-in_turn id_cmp id_total series_first (λ a b. refl) us) still
+
+-- entries that name series that rise do so too
+entries_rise : (q : Asked) (kth : Option ℤ) (es : List Entry) (us : List Usable) → AllZip (IsRightEntry q kth) es us
+    → SeriesRise us → Rise es
+entries_rise q kth [] us h k = tt
+entries_rise q kth (e ∷ []) us h k = tt
+entries_rise q kth (e ∷ f ∷ es) [] h k = absurd h
+entries_rise q kth (e ∷ f ∷ es) (u ∷ []) h k = absurd h.1
+entries_rise q kth (e ∷ f ∷ es) (u ∷ v ∷ us) h k = (
+  ap (λ (i : StationId). stands_before i f.id) h.0.named
+      ∙ ap (λ (i : StationId). stands_before u.id i) h.1.0.named
+      ∙ strictly (id_cmp u v) k.0.0.0 (is_eq-slice_cmp u.id.0 v.id.0 ∙ k.0.0.1),
+  entries_rise q kth (f ∷ es) (v ∷ us) h.1 k.1,
+)
+
+-- so the lines of right entries rise
+pub right_rise : (q : Asked) (c : Contents) (kth : Option ℤ) (es : List Entry) → IsContents c
+    → AllZip (IsRightEntry q kth) es (morsels q c) → Rise es
+right_rise q c kth es right h = entries_rise q kth es (morsels q c) h (morsels_rise q c right)
 
 -- ---- lines that were scanned
 
 -- a line of a station behind others
 scanned-behind : (front es : List Entry) (id : StationId) → is_scanned es id ≡ true → is_scanned (front ++ es) id ≡ true
 scanned-behind [] es id h = h
-scanned-behind (f ∷ front) es id h = by (not f.skipped && same_id f.id id) (scanned-behind front es id h)
-  where
-    by : (b : Bool) → is_scanned (front ++ es) id ≡ true → (b || is_scanned (front ++ es) id) ≡ true
-    by true k = refl
-    by false k = k
+scanned-behind (f ∷ front) es id h = let behind = scanned-behind front es id h in grind arith
 
 -- a line that wasn't passed over scans its own station
 scanned_own : (e : Entry) (es : List Entry) → e.skipped ≡ false → is_scanned (e ∷ es) e.id ≡ true
-scanned_own e es h =
-    ap (λ b. (not b && same_id e.id e.id) || is_scanned es e.id) h
-    ∙ ap (λ b. b || is_scanned es e.id) (same_id-laws.refl e.id)
+scanned_own e es h = let own = same_id-laws.refl e.id in grind arith
 
 -- each line that wasn't passed over, among all
 abbrev Scans : List Entry → Entry → Type 0
@@ -60,23 +213,21 @@ each_scans : (front es : List Entry) → AllByRecursion (Scans (front ++ es)) es
 each_scans front [] = tt
 each_scans front (e ∷ es) = (
   λ h. scanned-behind front (e ∷ es) e.id (scanned_own e es h),
-  subst (λ (l : List Entry). AllByRecursion (Scans l) es) (one_more front) (each_scans (front ++ e ∷ []) es),
+  subst (λ (l : List Entry). AllByRecursion (Scans l) es) (append_assoc front (e ∷ []) es)
+      (each_scans (front ++ e ∷ []) es),
 )
-  where
-    one_more : (xs : List Entry) → (xs ++ e ∷ []) ++ es ≡ xs ++ e ∷ es
-    one_more [] = refl
-    one_more (x ∷ xs) = ap (λ (l : List Entry). x ∷ l) (one_more xs)
 
 -- ---- candidates of lines
 
--- what is at most a bound below a score is below it
-below-chain : (a b s : ℤ) → a ≤ℤ b → int_lt b s ≡ true → int_lt a s ≡ true
-below-chain a b s h e = grind (arith, ints)
-
--- so it is with the k-th score
+-- what is at most a number below the k-th score is below it
 below_kth : (k : Option ℤ) (a b : ℤ) → a ≤ℤ b → is_below k b ≡ true → is_below k a ≡ true
 below_kth None a b h e = absurd cc
-below_kth (Some s) a b h e = below-chain a b s h e
+below_kth (Some s) a b h e = grind (arith, ints)
+
+-- a list without elements
+empty : {X : Type 0} (xs : List X) → not (length xs == 0) ≡ false → xs ≡ []
+empty [] e = refl
+empty (x ∷ xs) e = absurd (grind arith)
 
 module _ (q : Asked) (k : Option ℤ) (all : List Entry) where
   -- a candidate is of a series that was scanned, or scores below the k-th
@@ -101,44 +252,30 @@ module _ (q : Asked) (k : Option ℤ) (all : List Entry) where
   seen_morsels [] (u ∷ us) h s = absurd h
   seen_morsels (e ∷ es) (u ∷ us) h s = (
     seen_of e (candidates q u) s.0 h.0.passed_over
-        (subst (λ (i : StationId). AllByRecursion (λ d. d.id ≡ i) (candidates q u)) (sym h.0.named) (candidates-own q u))
+        (subst (λ (i : StationId). AllByRecursion (λ d. d.id ≡ i) (candidates q u)) (sym h.0.named)
+        (candidates-own q u))
         h.0.above,
     seen_morsels es us h.1 s.1,
   )
 
-  -- a list without elements
-  nil_from : {X : Type 0} (xs : List X) → length xs ≡ 0 → xs ≡ []
-  nil_from [] e = refl
-  nil_from (x ∷ xs) e = absurd (omega (arith, e))
-
-  -- what isn't not so is so
-  so : (b : Bool) → not b ≡ false → b ≡ true
-  so true e = refl
-  so false e = absurd cc
-
-  -- a series without an admitted day has no candidates
-  none_of : (u : Usable) → has_admitted q u ≡ false → candidates q u ≡ []
-  none_of u e =
-      let none : admitted q u ≡ [] = nil_from (admitted q u) (eqb-true (length (admitted q u)) 0
-      (so (length (admitted q u) == 0) e)) in
-      ap (candidates_among u.id (shape q.score)) none
+  -- all candidates of a series are seen
+  abbrev AllSeen : Usable → Type 0
+  AllSeen u = AllByRecursion IsSeen (candidates q u)
 
   -- so those of all series are seen where those of the series with an admitted day are
-  seen_all : (us : List Usable) → AllByRecursion (λ u. AllByRecursion IsSeen (candidates q u)) (filter (has_admitted q) us)
+  seen_all : (us : List Usable) → AllByRecursion AllSeen (filter (has_admitted q) us)
       → AllByRecursion IsSeen (flat_map (candidates q) us)
   seen_all [] h = tt
-  seen_all (u ∷ us) h = by (has_admitted q u) refl h (seen_all us)
-    where
-      by : (b : Bool) → has_admitted q u ≡ b
-          → AllByRecursion (λ v. AllByRecursion IsSeen (candidates q v))
-          (cond b (u ∷ filter (has_admitted q) us) (filter (has_admitted q) us))
-          → (AllByRecursion (λ v. AllByRecursion IsSeen (candidates q v)) (filter (has_admitted q) us)
-          → AllByRecursion IsSeen (flat_map (candidates q) us))
-          → AllByRecursion IsSeen (candidates q u ++ flat_map (candidates q) us)
-      by true e k behind = each-append IsSeen (candidates q u) (flat_map (candidates q) us) k.0 (behind k.1)
-      by false e k behind =
-          subst (λ (ds : List Candidate). AllByRecursion IsSeen (ds ++ flat_map (candidates q) us)) (sym (none_of u e))
-          (behind k)
+  seen_all (u ∷ us) h =
+      elim (has_admitted q u) as (λ b. has_admitted q u ≡ b
+      → AllByRecursion AllSeen (cond b (u ∷ filter (has_admitted q) us) (filter (has_admitted q) us))
+      → AllByRecursion IsSeen (flat_map (candidates q) (u ∷ us))) [
+        | true ↦ λ e k. both_all IsSeen (candidates q u) (flat_map (candidates q) us) k.0 (seen_all us k.1)
+        | false ↦ λ e k.
+            let none : candidates q u ≡ [] = ap (candidates_among u.id (shape q.score)) (empty (admitted q u) e) in
+            both_all IsSeen (candidates q u) (flat_map (candidates q) us)
+            (subst (AllByRecursion IsSeen) (sym none) tt) (seen_all us k)
+      ] refl h
 
   -- a candidate that is seen and doesn't score below is of a series that was scanned
   scanned_unless_below : (rows : List Named) → AllByRecursion (λ d. IsSeen d) (of_rows rows)
@@ -179,22 +316,17 @@ module _ (q : Asked) (c : Contents) (asked : IsAsked q) (right : IsContents c) w
   all_seen : (es : List Entry) → AllZip (IsRightEntry q (kth_of_query q c)) es (morsels q c)
       → AllByRecursion (IsSeen q (kth_of_query q c) es) (all_candidates q c)
   all_seen es h =
-      let us : List Usable = filter (has_admitted q) (admitted_series q c) in
-      let P : Usable → Type 0 = λ u. AllByRecursion (IsSeen q (kth_of_query q c) es) (candidates q u) in
-      let moved : IsPermutation (sorted_by series_first us) us =
-      IsPermutation-sym us (sorted_by series_first us) (ordered.sorted-permutation series_first us) in
       seen_all q (kth_of_query q c) es (admitted_series q c)
-      (recursion_from_All P us (All-permutation P (sorted_by series_first us) us moved
-      (All-from_recursion P (sorted_by series_first us)
-      (seen_morsels q (kth_of_query q c) es es (morsels q c) h (each_scans [] es)))))
+      (each-unsorted (AllSeen q (kth_of_query q c) es) series_first (filter (has_admitted q) (admitted_series q c))
+      (seen_morsels q (kth_of_query q c) es es (morsels q c) h (each_scans [] es)))
 
   -- so are the best
   best_seen : (es : List Entry) → AllZip (IsRightEntry q (kth_of_query q c)) es (morsels q c)
       → AllByRecursion (IsSeen q (kth_of_query q c) es) (best_of_query q c)
   best_seen es h =
       let P : Candidate → Type 0 = IsSeen q (kth_of_query q c) es in
-      subst (AllByRecursion P) (sym best_are) (each-take P q.k (in_order (all_candidates q c))
-      (each-sorted P comes_first (all_candidates q c) (all_seen es h)))
+      subst (AllByRecursion P) (sym best_are) (take-all P q.k (in_order (all_candidates q c))
+      (sorted-all comes_first P (all_candidates q c) (all_seen es h)))
 
   -- the head of papers that say what is right
   pub right_head : (r : Reported) (z : Certified) → SaysRightReport q c r → SaysRight q c z → IsRightHead q r z

@@ -1,8 +1,8 @@
 -- A right head, as the pieces of papers have it.
 use Rattle.std.proofs.Common.{◌≡◌, inr, ◌≤◌, Bool, true, false, cond, List, [], ◌∷◌, length, map, refl}
-use Rattle.std.proofs.Common.{ap, ◌∙◌, subst, arith, ◌-◌}
+use Rattle.std.proofs.Common.{ap, subst, arith}
 use Rattle.std.specs.Prelude.{nat_le}
-use Rattle.std.specs.List.{count_by, AllByRecursion, AllZip}
+use Rattle.std.specs.List.{count_by, AllZip}
 use Rattle.std.proofs.lemmas.Bool.{and_parts, leb-true}
 use Rattle.std.proofs.lemmas.List.{length-map}
 use Rattle.std.proofs.lemmas.List.Sums.{count_by-le-length}
@@ -12,32 +12,8 @@ use Rattle.rank_scores.specs.declared.candidate.Candidate.{Candidate}
 use Rattle.rank_papers.specs.Report.{Named}
 use Rattle.rank_papers.specs.ReportLines.{Reported, IsReported}
 use Rattle.rank_papers.specs.Certificate.{Entry, Certified, IsCertified, IsCount, count_of}
-use Rattle.rank_head.specs.HeadTests as head
-use Rattle.rank_head.specs.RightHead as right
-use Rattle.rank_check.specs.Tests.{of_rows}
-use Rattle.rank_check.specs.Pieces.{AreInOrder, score_of}
-use Rattle.rank_check.specs.InPieces.{is_scanned, Rise, IsRightHead}
-use Rattle.rank_check.proofs.Failing.{slice_get-map}
-use Rattle.rank_check.proofs.RisingIds.{rise_ids}
-use Rattle.rank_check.proofs.RowCounts.{counts_add_up}
-
--- rows in order
-pub rows_in_order : (rows : List Named) → right.AreInOrder rows → AreInOrder (of_rows rows)
-rows_in_order [] h = tt
-rows_in_order (r ∷ []) h = tt
-rows_in_order (r ∷ s ∷ rows) h = (h.0, rows_in_order (s ∷ rows) h.1)
-
--- rising lines
-pub lines_rise : (es : List Entry) → head.Rise es → Rise es
-lines_rise [] h = tt
-lines_rise (e ∷ []) h = tt
-lines_rise (e ∷ f ∷ es) h = (h.0, lines_rise (f ∷ es) h.1)
-
--- what holds of each row's candidate
-pub of_each_row : (P : Candidate → Type 0) (rows : List Named) → AllByRecursion (λ row. P row.0) rows
-    → AllByRecursion P (of_rows rows)
-of_each_row P [] h = tt
-of_each_row P (row ∷ rows) h = (h.0, of_each_row P rows h.1)
+use Rattle.rank_head.specs.HeadTests.{of_rows}
+use Rattle.rank_head.specs.RightHead.{IsRightHead}
 
 -- the certificate of version 2 with the counts of some rows
 abbrev pub recounted : List Named → Certified → Certified
@@ -50,21 +26,17 @@ recounted rows z = record {
 }
 
 -- its head is right
-pub recounted_head : (q : Asked) (r : Reported) (z : Certified) → right.IsRightHead q r z
+pub recounted_head : (q : Asked) (r : Reported) (z : Certified) → IsRightHead q r z
     → IsRightHead q r (recounted r.rows z)
-recounted_head q r z h =
-    let rise = lines_rise z.entries h.rise in
-    record {
-      report = h.report;
-      certificate = h.certificate;
-      order = rows_in_order r.rows h.order;
-      kth = h.kth ∙ ap score_of (slice_get-map (λ (row : Named). row.0) r.rows (q.k - 1));
-      rise = rise;
-      scanned = h.scanned;
-      sum = counts_add_up z.entries (rise_ids z.entries rise) (of_rows r.rows)
-          (of_each_row (λ d. is_scanned z.entries d.id ≡ true) r.rows h.scanned)
-          ∙ length-map r.rows (λ (row : Named). row.0);
-    }
+recounted_head q r z h = record {
+  report = h.report;
+  certificate = h.certificate;
+  order = h.order;
+  kth = h.kth;
+  rise = h.rise;
+  scanned = h.scanned;
+  counts = refl;
+}
 
 -- a report has at most as many rows as are asked for
 pub few_rows : (q : Asked) (r : Reported) → IsReported r → r.query ≡ q → length r.rows ≤ q.k

@@ -20,18 +20,18 @@ use Rattle.rank_papers.specs.Report.{Named}
 use Rattle.rank_papers.specs.ReportLines.{Reported, IsReported}
 use Rattle.rank_papers.specs.Certificate.{Entry, Certified, count_of}
 use Rattle.rank_head.specs.RightHead as right
-use Rattle.rank_check.specs.Tests.{of_rows}
+use Rattle.rank_head.specs.HeadTests.{of_rows, is_scanned}
 use Rattle.rank_check.specs.Pieces.{is_morsel, is_within, piece_tests, AreInOrder, AreRowsWithin}
-use Rattle.rank_check.specs.InPieces.{rows_with, worst_of, own_series, is_scanned}
+use Rattle.rank_check.specs.InPieces.{rows_with, worst_of, own_series}
 use Rattle.rank_check.proofs.Each.{all_taken}
 use Rattle.rank_check.proofs.Failing.{slice_get-map}
 use Rattle.rank_check.proofs.Members.{In, of_one, for_each, found_in, any_in, kept_in}
 use Rattle.rank_check.proofs.PiecesSay.{rows_counted}
 use Rattle.rank_check.proofs.RisingIds.{RiseAll, ids_of, rise_ids}
-use Rattle.rank_check.proofs.RowsWithin.{order_descends, descends_order, kept_descends, first_within}
+use Rattle.rank_check.proofs.RowsWithin.{rows_in_order, order_descends, descends_order, kept_descends, first_within}
 use Rattle.rank_parts.specs.Parts.{why_at, line_why}
 use Rattle.rank_parts.specs.Seen.{IsSeen, AreSeen}
-use Rattle.rank_parts.proofs.Heads.{rows_in_order, lines_rise, few_rows, k_within}
+use Rattle.rank_parts.proofs.Heads.{few_rows, k_within}
 use Rattle.rank_parts.proofs.RisingLists.{one_entry}
 
 -- ---- what is looked up
@@ -171,5 +171,5 @@ head_shows q r z can h =
     for_each (IsSeen q r.rows) z.entries (λ e k. record {
       order = rows_in_order r.rows h.order;
       few = few_rows q r can h.report;
-      none = none_of r.rows z.entries (rise_ids z.entries (lines_rise z.entries h.rise)) h.scanned e k;
+      none = none_of r.rows z.entries (rise_ids z.entries h.rise) h.scanned e k;
     })

@@ -18,10 +18,9 @@ use Rattle.rank_scores.proofs.Rising.{find-filter}
 use Rattle.rank_papers.specs.ReportLines.{Reported, read_report}
 use Rattle.rank_papers.specs.Certificate.{Certified, count_of}
 use Rattle.rank_papers.specs.CertificateLines.{read_certificate}
-use Rattle.rank_head.specs.HeadTests.{head_fault}
+use Rattle.rank_head.specs.HeadTests.{of_rows, head_fault}
 use Rattle.rank_check.specs.declared.verdict.Paper.TheVariants.{Certificate}
 use Rattle.rank_check.specs.declared.verdict.Why.TheVariants.{OtherSeries}
-use Rattle.rank_check.specs.Tests.{of_rows}
 use Rattle.rank_check.specs.Pieces.{is_morsel, piece_tests}
 use Rattle.rank_check.specs.InPieces.{rows_with, worst_of, own_series}
 use Rattle.rank_parts.specs.declared.verdict.PartVerdict.TheVariants.{Refused}

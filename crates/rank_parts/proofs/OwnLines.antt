@@ -28,7 +28,8 @@ use Rattle.rank_scores.specs.Cut.{IsSameFor, IsCut, series_first}
 use Rattle.rank_papers.specs.Report.{Named, trimmed}
 use Rattle.rank_papers.specs.ReportLines.{Reported}
 use Rattle.rank_papers.specs.Certificate.{Entry, Certified, count_of}
-use Rattle.rank_check.specs.Tests.{is_among, of_rows}
+use Rattle.rank_head.specs.HeadTests.{of_rows}
+use Rattle.rank_check.specs.Tests.{is_among}
 use Rattle.rank_check.specs.Pieces.{is_morsel, is_within, piece_tests}
 use Rattle.rank_check.specs.InPieces.{rows_with, worst_of, own_series, IsAccepted, IsAbsent}
 use Rattle.rank_check.proofs.Members.{In, of_one, for_each, any_in, in_any, in_map, map_in, all_in}

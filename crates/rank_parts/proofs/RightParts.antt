@@ -20,18 +20,14 @@ use Rattle.rank_query.specs.Asked.{Asked, score_element}
 use Rattle.rank_query.specs.Admits.{admits_station}
 use Rattle.rank_scores.specs.Morsels.{has_admitted, morsels}
 use Rattle.rank_scores.specs.Cut.{IsSameFor, IsCut, series_first}
-use Rattle.rank_papers.specs.Report.{Named}
 use Rattle.rank_papers.specs.ReportLines.{Reported}
 use Rattle.rank_papers.specs.Certificate.{Entry, Certified, count_of}
-use Rattle.rank_head.specs.HeadTests as head
-use Rattle.rank_head.specs.HeadTests.{head_fault}
-use Rattle.rank_head.specs.RightHead as right
+use Rattle.rank_head.specs.HeadTests.{of_rows, head_fault}
 use Rattle.rank_check.specs.declared.verdict.Why.{Why}
 use Rattle.rank_check.specs.declared.verdict.Why.TheVariants.{OtherSeries}
 use Rattle.rank_check.specs.declared.verdict.Paper.TheVariants.{Certificate}
-use Rattle.rank_check.specs.Tests.{of_rows}
-use Rattle.rank_check.specs.Pieces.{AreInOrder, is_morsel, piece_tests}
-use Rattle.rank_check.specs.InPieces.{rows_with, worst_of, own_series, IsAccepted, IsAbsent, Rise, AreRightPieces}
+use Rattle.rank_check.specs.Pieces.{is_morsel, piece_tests}
+use Rattle.rank_check.specs.InPieces.{rows_with, worst_of, own_series, IsAccepted, IsAbsent, AreRightPieces}
 use Rattle.rank_check.proofs.Members.{In, of_one, for_each, found_in, in_all}
 use Rattle.rank_check.proofs.Piecing.{all_passes, or_made}
 use Rattle.rank_check.proofs.QueryMembers.{permuted_in, own_id, station_of, morsel_of, is_morsel_of}
@@ -41,20 +37,6 @@ use Rattle.rank_parts.specs.Parts.{refusal_of, is_own, why_at, line_why, first_r
 use Rattle.rank_parts.specs.Parts.{refused}
 use Rattle.rank_parts.proofs.Heads.{recounted}
 use Rattle.rank_parts.proofs.OwnLines.{in_zip, zip_long, same_tests}
-
--- ---- the head
-
--- rows in order
-pub in_order_rows : (rows : List Named) → AreInOrder (of_rows rows) → right.AreInOrder rows
-in_order_rows [] h = tt
-in_order_rows (r ∷ []) h = tt
-in_order_rows (r ∷ s ∷ rows) h = (h.0, in_order_rows (s ∷ rows) h.1)
-
--- rising lines
-pub rising_lines : (es : List Entry) → Rise es → head.Rise es
-rising_lines [] h = tt
-rising_lines (e ∷ []) h = tt
-rising_lines (e ∷ f ∷ es) h = (h.0, rising_lines (f ∷ es) h.1)
 
 -- ---- lines
 

@@ -1,6 +1,6 @@
 -- Papers that all parts accept are right for the whole.
 use Rattle.std.proofs.Common.{◌≡◌, ℕ, ◌<◌, List, [], ◌∷◌, ◌++◌, length, map, Result, Ok, Err, refl, sym, ap, ◌∙◌}
-use Rattle.std.proofs.Common.{subst, arith, inl, inr, ◌-◌}
+use Rattle.std.proofs.Common.{subst, arith, inl, inr}
 use Rattle.std.specs.List.{flat_map, sum, AllZip}
 use Rattle.ghcn_files.specs.declared.station.Station.{Station}
 use Rattle.ghcn_series.specs.Series.{Contents}
@@ -10,7 +10,7 @@ use Rattle.rank_query.specs.Asked.{Asked, IsAsked}
 use Rattle.rank_scores.specs.declared.candidate.Candidate.{Candidate}
 use Rattle.rank_scores.specs.Morsels.{morsels, kth_of_query}
 use Rattle.rank_scores.specs.Cut.{IsCut, IsDataOf, Filed, CutByFiles}
-use Rattle.rank_papers.specs.Report.{Named, IsReport}
+use Rattle.rank_papers.specs.Report.{IsReport}
 use Rattle.rank_papers.specs.ReportLines.{Reported, IsReported, SaysRightReport, read_report}
 use Rattle.rank_papers.specs.Certificate.{Certified, IsCertified, IsCertificate, IsRightEntry, SaysRight}
 use Rattle.rank_papers.specs.Certificate.{count_of, counts_of}
@@ -18,18 +18,16 @@ use Rattle.rank_papers.specs.CertificateLines.{read_certificate}
 use Rattle.rank_papers.specs.Laws.{CertificatesAreRead, RightCertificatesSayRight, ReportsAreRead, RightReportsSayRight}
 use Rattle.rank_head.specs.RightHead.{HeadsAreRight}
 use Rattle.rank_head.specs.RightHead as right
-use Rattle.rank_check.specs.Pieces.{score_of}
 use Rattle.rank_check.specs.InPieces.{RightInPieces, AreRightPieces}
-use Rattle.rank_check.proofs.Failing.{slice_get-map}
 use Rattle.rank_check.proofs.Members.{In}
 use Rattle.rank_check.proofs.RisingIds.{rise_ids}
 use Rattle.rank_parts.specs.declared.verdict.PartVerdict.TheVariants.{Accepted}
 use Rattle.rank_parts.specs.Parts.{or_accepted, part_judged}
 use Rattle.rank_parts.specs.Laws.{AllAccept, PartsMakeTheWhole, AreDataOf, FilesMakeTheWhole}
 use Rattle.rank_parts.proofs.Accepting.{SeesNothing, sees_nothing}
-use Rattle.rank_parts.proofs.Heads.{recounted, recounted_head, recounted_can, few_rows, k_within, lines_rise}
+use Rattle.rank_parts.proofs.Heads.{recounted, recounted_head, recounted_can, few_rows, k_within}
 use Rattle.rank_parts.proofs.OwnLines.{zip_long, lines_accepted, none_missing}
-use Rattle.rank_parts.proofs.RightParts.{in_order_rows, rising_lines, nothing_refused, add_up}
+use Rattle.rank_parts.proofs.RightParts.{nothing_refused, add_up}
 
 -- ---- papers that were read
 
@@ -42,7 +40,7 @@ module _ (heads : HeadsAreRight) (pieces : RightInPieces) (q : Asked) (c : Conte
   say head ns seen adds =
       let k = k_within q asked in
       let few = few_rows q r report head.report in
-      let up = rise_ids z.entries (lines_rise z.entries head.rise) in
+      let up = rise_ids z.entries head.rise in
       let can = recounted_can r.rows z (omega (arith, few, k.1)) certificate in
       let both = (pieces q c r (recounted r.rows z) asked held report can refl).1 (record {
         head = recounted_head q r z head;
@@ -92,9 +90,9 @@ module _ (heads : HeadsAreRight) (pieces : RightInPieces) (q : Asked) (c : Conte
   head_of said told h = record {
     report = said.asked;
     certificate = told.asked;
-    order = in_order_rows r.rows h.head.order;
-    kth = h.head.kth ∙ sym (ap score_of (slice_get-map (λ (row : Named). row.0) r.rows (q.k - 1)));
-    rise = rising_lines z.entries h.head.rise;
+    order = h.head.order;
+    kth = h.head.kth;
+    rise = h.head.rise;
     scanned = h.head.scanned;
     counts = told.counts ∙ ap (λ (l : List Candidate). counts_of z.version l z.entries) (sym said.best);
   }

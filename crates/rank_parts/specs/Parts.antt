@@ -19,11 +19,10 @@ use Rattle.rank_papers.specs.CertificateLines.{read_certificate}
 use Rattle.rank_head.specs.declared.fault.HeadFault.{HeadFault}
 use Rattle.rank_head.specs.declared.fault.HeadFault.TheVariants.{OtherReportQuery, OtherCertificateQuery, OutOfOrder}
 use Rattle.rank_head.specs.declared.fault.HeadFault.TheVariants.{OtherFloor, NotRising, NotScanned, NotCounted}
-use Rattle.rank_head.specs.HeadTests.{head_fault}
+use Rattle.rank_head.specs.HeadTests.{of_rows, head_fault}
 use Rattle.rank_check.specs.declared.verdict.Paper.TheVariants.{Report, Certificate}
 use Rattle.rank_check.specs.declared.verdict.Why.{Why}
 use Rattle.rank_check.specs.declared.verdict.Why.TheVariants as why
-use Rattle.rank_check.specs.Tests.{of_rows}
 use Rattle.rank_check.specs.Pieces.{is_morsel, piece_tests}
 use Rattle.rank_check.specs.InPieces.{rows_with, worst_of, own_series}
 use Rattle.rank_parts.specs.declared.verdict.PartVerdict.{PartVerdict}

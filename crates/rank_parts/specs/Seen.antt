@@ -4,7 +4,7 @@ use Rattle.std.specs.List.{AllByRecursion}
 use Rattle.rank_query.specs.Asked.{Asked}
 use Rattle.rank_papers.specs.Report.{Named}
 use Rattle.rank_papers.specs.Certificate.{Entry, count_of}
-use Rattle.rank_check.specs.Tests.{of_rows}
+use Rattle.rank_head.specs.HeadTests.{of_rows}
 use Rattle.rank_check.specs.Pieces.{AreInOrder}
 use Rattle.rank_check.specs.InPieces.{rows_with}
 

@@ -5,8 +5,8 @@ ghost use Rattle.std.specs.Option.{option_copied};
 ghost use Rattle.rank_papers.specs.Certificate.{count_of};
 ghost use Rattle.rank_papers.specs.ReportLines.{named_in};
 ghost use Rattle.rank_query.specs.Asked.{IsAsked};
+ghost use Rattle.rank_head.specs.HeadTests.{of_rows};
 ghost use Rattle.rank_check.specs.InPieces.{worst_of};
-ghost use Rattle.rank_check.specs.Tests.{of_rows};
 ghost use Rattle.rank_parts.specs.Parts as parts;
 ghost use Rattle.rank_parts.specs.Seen.{AreSeen, IsSeen};
 

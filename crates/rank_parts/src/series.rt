@@ -3,7 +3,7 @@
 ghost use Rattle.std.specs.Prelude.{◌≡◌, Some, None, length, if◌then◌else◌};
 ghost use Rattle.std.specs.Option.{option_copied};
 ghost use Rattle.rank_scores.specs.Morsels.{morsels};
-ghost use Rattle.rank_check.specs.InPieces.{Rise};
+ghost use Rattle.rank_head.specs.HeadTests.{Rise};
 ghost use Rattle.rank_check.specs.Pieces.{is_morsel};
 ghost use Rattle.rank_parts.specs.Parts as parts;
 

@@ -1,10 +1,9 @@
-pub mod Orders
-pub mod Places
-pub mod Counts
-pub mod Ranked
 pub mod Examples
+pub mod Orders
+pub mod Counts
+pub mod Moves
+pub mod Places
+pub mod Ranked
 pub mod Kept
-pub mod Inserts
 pub mod Searches
 pub mod Offers
-pub mod Moves

@@ -1,20 +1,16 @@
 -- How many events a run has.
-use Rattle.std.proofs.Common.{◌≡◌, ℕ, zero, suc, ◌+◌, ◌<◌, Bool, true, false, cond, List, [], ◌∷◌, ◌++◌, length}
-use Rattle.std.proofs.Common.{length-append, replicate, Option, refl, sym, ap, ◌∙◌, subst, arith, ℤ}
-use Rattle.std.specs.Prelude.{◌&&◌, nat_lt, count_by, sum_by}
+use Rattle.std.proofs.Common.{rules, ◌≡◌, ℕ, zero, suc, ◌+◌, ◌<◌, Bool, true, cond, List, [], ◌∷◌, ◌++◌, length}
+use Rattle.std.proofs.Common.{length-append, replicate, Option, refl, ◌∙◌, arith, ℤ}
+use Rattle.std.specs.Prelude.{◌&&◌, count_by, sum_by}
 use Rattle.std.specs.List.{flat_map, list_all}
 use Rattle.std.proofs.lemmas.List.{length-map}
 use Rattle.std.proofs.lemmas.List.Sums.{sum_by-cons, sum_by-append}
 use Rattle.ghcn_fields.specs.CountingLaws.{length-each_below}
-use Rattle.rank_sched.specs.declared.record.Record.{Record}
 use Rattle.rank_sched.specs.declared.event.Event.{Event}
-use Rattle.rank_sched.specs.declared.event.Event.TheVariants.{Claim, Look, Settle}
 use Rattle.rank_sched.specs.declared.turn.Turn.{Turn}
-use Rattle.rank_sched.specs.declared.turn.Turn.TheVariants.{Idle, Claimed, Looked, Stopped}
 use Rattle.rank_sched.specs.Task.{Task}
 use Rattle.rank_sched.specs.Exchanges.{morsels_of}
-use Rattle.rank_sched.specs.Machine.{Worker, State, new_worker, started, drawn, worker_of, Does, IsStep, Leads}
-use Rattle.rank_sched.specs.Machine.{has_stopped}
+use Rattle.rank_sched.specs.Machine.{Worker, State, new_worker, started, worker_of, Does, IsStep, Leads, has_stopped}
 use Rattle.rank_sched.specs.SoundRun.{open_exchange, IsSoundState, IsSoundEnd}
 use Rattle.rank_sched.specs.Laws.{is_claim, is_look, is_settle, EventsAreCounted}
 use Rattle.rank_sched.proofs.Lists.{At, at}
@@ -32,16 +28,11 @@ opened vs = sum_by (λ v. length (open_exchange v.turn)) vs
 -- a total over workers is that of those in front, of the one between, and of those behind
 by_parts : (f : Worker → ℕ) (front : List Worker) (v : Worker) (behind : List Worker)
     → sum_by f (front ++ v ∷ behind) ≡ sum_by f front + (f v + sum_by f behind)
-by_parts f front v behind = omega (arith, sum_by-append f front (v ∷ behind), sum_by-cons f v behind)
+by_parts f front v behind = simp (sum_by-append, sum_by-cons)
 
 -- one for an event of the kind, none for any other
 one_if : Bool → ℕ
 one_if b = cond b 1 0
-
--- a worker that has just drawn a number has no look open
-open_drawn : (t : Task) (n : ℕ) → length (open_exchange (drawn t n)) ≡ 0
-open_drawn t n = elim (nat_lt n t.len) as (λ b. length (open_exchange (cond b (Claimed n) (Stopped n))) ≡ 0)
-    [ true ↦ refl | false ↦ refl ]
 
 -- what a step counts
 pub record Counts (s : State) (e : Event) (s' : State) : Type 0 where
@@ -54,72 +45,7 @@ pub record Counts (s : State) (e : Event) (s' : State) : Type 0 where
 -- a claim draws one number, a look opens one turn, and a settle closes one with a record
 step_counts : (t : Task) (s s' : State) (e : Event) (v v' : Worker) (front behind : List Worker) → Does t e s s' v v'
     → s.workers ≡ front ++ v ∷ behind → s'.workers ≡ front ++ v' ∷ behind → Counts s e s'
-step_counts t s s' e v v' front behind d old new =
-    let lens : length s'.workers ≡ length s.workers =
-    omega (
-      arith,
-      ap length old,
-      ap length new,
-      length-append front (v ∷ behind),
-      length-append front
-          (v' ∷ behind),
-    ) in
-    let rs : Worker → ℕ = λ u. length u.records in
-    let os : Worker → ℕ = λ u. length (open_exchange u.turn) in
-    let made_old : made s.workers ≡ made front + (length v.records + made behind) = ap (sum_by rs) old
-    ∙ by_parts rs front v behind in
-    let made_new : made s'.workers ≡ made front + (length v'.records + made behind) = ap (sum_by rs) new
-    ∙ by_parts rs front v' behind in
-    let open_old : opened s.workers ≡ opened front + (length (open_exchange v.turn) + opened behind) =
-    ap (sum_by os) old ∙ by_parts os front v behind in
-    let open_new : opened s'.workers ≡ opened front + (length (open_exchange v'.turn) + opened behind) =
-    ap (sum_by os) new ∙ by_parts os front v' behind in
-    by_event e d lens made_old made_new open_old open_new
-  where
-    by_event : (e : Event) → Does t e s s' v v' → length s'.workers ≡ length s.workers
-        → made s.workers ≡ made front + (length v.records + made behind)
-        → made s'.workers ≡ made front + (length v'.records + made behind)
-        → opened s.workers ≡ opened front + (length (open_exchange v.turn) + opened behind)
-        → opened s'.workers ≡ opened front + (length (open_exchange v'.turn) + opened behind)
-        → Counts s e s'
-    by_event (Claim w) d lens mo mn oo on =
-        let same : length v'.records ≡ length v.records = ap length d.records in
-        let before : length (open_exchange v.turn) ≡ 0 = ap (λ (x : Turn). length (open_exchange x)) d.idle in
-        let after : length (open_exchange v'.turn) ≡ 0 = ap (λ (x : Turn). length (open_exchange x)) d.turn
-        ∙ open_drawn t s.next in
-        record {
-          claims = d.next;
-          looks = omega (arith, mo, mn, oo, on, same, before, after);
-          settles =
-              omega (arith, mo, mn, same);
-          kinds = refl;
-          workers = lens;
-        }
-    by_event (Look w) d lens mo mn oo on =
-        let same : length v'.records ≡ length v.records = ap length d.records in
-        let before : length (open_exchange v.turn) ≡ 0 = ap (λ (x : Turn). length (open_exchange x)) d.claimed in
-        let after : length (open_exchange v'.turn) ≡ 1 = ap (λ (x : Turn). length (open_exchange x)) d.turn in
-        record {
-          claims = omega (arith, d.next);
-          looks = omega (arith, mo, mn, oo, on, same, before, after);
-          settles =
-              omega (arith, mo, mn, same);
-          kinds = refl;
-          workers = lens;
-        }
-    by_event (Settle w) d lens mo mn oo on =
-        let more : length v'.records ≡ length v.records + 1 = ap length d.records
-        ∙ length-append v.records (_ ∷ []) in
-        let before : length (open_exchange v.turn) ≡ 1 = ap (λ (x : Turn). length (open_exchange x)) d.looked in
-        let after : length (open_exchange v'.turn) ≡ 0 = ap (λ (x : Turn). length (open_exchange x)) d.turn in
-        record {
-          claims = omega (arith, d.next);
-          looks = omega (arith, mo, mn, oo, on, more, before, after);
-          settles =
-              omega (arith, mo, mn, more);
-          kinds = refl;
-          workers = lens;
-        }
+step_counts t s s' e v v' front behind d old new = grind (arith, length-append, by_parts)
 
 -- so each step counts as the kind of its event
 counts : (t : Task) (s s' : State) (e : Event) → IsStep t s e s' → Counts s e s'
@@ -137,35 +63,26 @@ pub record Counted (s : State) (es : List Event) (s' : State) : Type 0 where
 
 -- the first event counts apart from the rest
 count-cons : (p : Event → Bool) (e : Event) (es : List Event) → count_by p (e ∷ es) ≡ cond (p e) 1 0 + count_by p es
-count-cons p e es = sum_by-cons (λ (x : Event). cond (p x) 1 0) e es
+count-cons p e es = simp sum_by-cons
 
 -- the numbers drawn, looks and records of a run are as many as its events of each kind
 run_counted : (t : Task) (s s' : State) (es : List Event) → Leads t s es s' → Counted s es s'
-run_counted t s s' [] h = subst (λ (x : State). Counted s [] x) (sym h)
-    (record { claims = omega arith; looks = omega arith; settles = omega arith; all = refl; workers = refl })
+run_counted t s s' [] h = search rules
 run_counted t s s' (e ∷ es) h =
     let one : Counts s e h.0 = counts t s h.0 e h.1 in
     let rest : Counted h.0 es s' = run_counted t h.0 s' es h.2 in
     record {
-      claims = omega (arith, one.claims, rest.claims, count-cons is_claim e es);
-      looks = omega (arith, one.looks, rest.looks, count-cons is_look e es);
-      settles = omega (arith, one.settles, rest.settles, count-cons is_settle e es);
-      all = omega (
-        arith,
-        rest.all,
-        one.kinds,
-        count-cons is_claim e es,
-        count-cons is_look e es,
-        count-cons is_settle
-            e es,
-      );
+      claims = search (rules, count-cons);
+      looks = search (rules, count-cons);
+      settles = search (rules, count-cons);
+      all = search (rules, count-cons);
       workers = rest.workers ∙ one.workers;
     }
 
 -- a run stays sound
 pub run_sound : (t : Task) (guess : Option ℤ) (s s' : State) (es : List Event) → 0 < t.k → IsSoundState t guess s
     → Leads t s es s' → IsSoundState t guess s'
-run_sound t guess s s' [] some sound h = subst (λ (x : State). IsSoundState t guess x) (sym h) sound
+run_sound t guess s s' [] some sound h = search rules
 run_sound t guess s s' (e ∷ es) some sound h =
     run_sound t guess h.0 s' es some (runs_sound.1 t guess s h.0 e some sound h.1) h.2
 
@@ -173,26 +90,15 @@ run_sound t guess s s' (e ∷ es) some sound h =
 new_made : (k n : ℕ) → (made (replicate n (new_worker k)) ≡ 0) × (opened (replicate n (new_worker k)) ≡ 0) ×
     (length (replicate n (new_worker k)) ≡ n)
 new_made k zero = (refl, refl, refl)
-new_made k (suc n) =
-    let rest = new_made k n in (
-      sum_by-cons (λ (v : Worker). length v.records) (new_worker k) (replicate n (new_worker k))
-          ∙ omega (arith, rest.0),
-      sum_by-cons (λ (v : Worker). length (open_exchange v.turn)) (new_worker k)
-          (replicate n (new_worker k)) ∙ omega (arith, rest.1),
-      ap (λ (m : ℕ). suc m) rest.2,
-    )
+new_made k (suc n) = grind (arith, new_made k n)
 
 -- of two tests that pass together each passes
 both_true : (a b : Bool) → (a && b) ≡ true → (a ≡ true) × (b ≡ true)
-both_true true b h = (refl, h)
-both_true false b h = absurd cc
+both_true a b h = grind arith
 
 -- a worker that has stopped has no look open
 closed : (turn : Turn) → has_stopped turn ≡ true → length (open_exchange turn) ≡ 0
-closed Idle e = absurd cc
-closed (Claimed m) e = absurd cc
-closed (Looked m seen) e = absurd cc
-closed (Stopped n) e = refl
+closed turn e = grind arith
 
 -- once all workers have stopped, no look is open
 none_open : (vs : List Worker) → list_all (λ v. has_stopped v.turn) vs ≡ true → opened vs ≡ 0
@@ -210,16 +116,7 @@ none_open (v ∷ vs) e =
 -- the records are as many as their morsels
 made_morsels : (vs : List Worker) → length (flat_map (λ (v : Worker). morsels_of v.records) vs) ≡ made vs
 made_morsels [] = refl
-made_morsels (v ∷ vs) =
-    omega (
-      arith,
-      length-append (morsels_of v.records)
-          (flat_map (λ (u : Worker). morsels_of u.records) vs),
-      length-map v.records
-          (λ (r : Record). r.morsel),
-      made_morsels vs,
-      sum_by-cons (λ (u : Worker). length u.records) v vs,
-    )
+made_morsels (v ∷ vs) = simp (length-append, length-map, sum_by-cons, made_morsels vs)
 
 -- events that end stopped are a claim for each morsel and each worker, and a look and a settle for each morsel
 pub events_counted : EventsAreCounted
@@ -229,11 +126,14 @@ events_counted t workers guess es s some_k some reached stopped =
     let sound : IsSoundState t guess s = run_sound t guess (started t workers guess) s es some_k
     (runs_sound.0 t workers guess) reached in
     let count : length s.workers ≡ workers = c.workers ∙ start.2 in
-    let end : IsSoundEnd t s = end_sound t guess s (omega (arith, count)) sound stopped in
-    let records : made s.workers ≡ t.len = sym (made_morsels s.workers)
-    ∙ length-each_below t.len (flat_map (λ (v : Worker). morsels_of v.records) s.workers) end.once in
+    let end : IsSoundEnd t s = grind (arith, end_sound) in
+    let records : made s.workers ≡ t.len = cc (
+      made_morsels s.workers,
+      length-each_below t.len (flat_map (λ (v : Worker). morsels_of v.records) s.workers)
+          end.once,
+    ) in
     let none : opened s.workers ≡ 0 = none_open s.workers stopped in
-    let claims : count_by is_claim es ≡ t.len + workers = omega (arith, c.claims, end.next, count) in
-    let settles : count_by is_settle es ≡ t.len = omega (arith, c.settles, records, start.0) in
-    let looks : count_by is_look es ≡ t.len = omega (arith, c.looks, records, none, start.0, start.1) in
-    record { claims = claims; looks = looks; settles = settles; all = omega (arith, c.all, claims, looks, settles) }
+    let claims : count_by is_claim es ≡ t.len + workers = omega arith in
+    let settles : count_by is_settle es ≡ t.len = omega arith in
+    let looks : count_by is_look es ≡ t.len = search rules in
+    record { claims = claims; looks = looks; settles = settles; all = omega arith }

@@ -1,28 +1,24 @@
 -- A run in which all workers have stopped: its records, its hauls, and how many events it had.
-use Rattle.std.proofs.Common.{◌≡◌, ℕ, ◌+◌, ◌<◌, ◌≤◌, Bool, true, false, cond, List, [], ◌∷◌, ◌++◌, length}
-use Rattle.std.proofs.Common.{length-append, Option, refl, sym, ap, ◌∙◌, subst, append-nil, arith, ℤ, option_to_list}
-use Rattle.std.proofs.Common.{All}
-use Rattle.std.specs.Prelude.{◌&&◌, ◌==◌, nat_lt}
+use Rattle.std.proofs.Common.{◌≡◌, ℕ, ◌+◌, ◌<◌, ◌≤◌, Bool, true, false, List, [], ◌∷◌, ◌++◌, length, length-append}
+use Rattle.std.proofs.Common.{Option, refl, sym, ap, ◌∙◌, append-nil, arith, ℤ, option_to_list, All}
+use Rattle.std.proofs.lemmas.Grind.{common_steps}
+use Rattle.std.specs.Prelude.{◌&&◌, nat_lt}
 use Rattle.std.specs.List.{flat_map, list_all, AllByRecursion, AllZip}
-use Rattle.std.proofs.lemmas.List.Sums.{sum_by-cons}
 use Rattle.std.proofs.lemmas.List.{map-append}
-use Rattle.std.proofs.lemmas.List.Elements.{All-from_recursion, All-append, All-nil, All-head}
+use Rattle.std.proofs.lemmas.List.Elements.{All-from_recursion, All-append, All-nil}
 use Rattle.ghcn_fields.specs.Counting.{times, times_below, HasEachBelow}
-use Rattle.ghcn_fields.specs.Floor.{IsGuessOrRaised, IsFloorOf}
 use Rattle.ghcn_fields.specs.CountingLaws.{times_below-yes, all_below, length-each_below, times-none_below}
 use Rattle.rank_sched.specs.declared.record.Record.{Record}
 use Rattle.rank_sched.specs.declared.haul.Haul.{Haul}
 use Rattle.rank_sched.specs.declared.turn.Turn.{Turn}
-use Rattle.rank_sched.specs.declared.turn.Turn.TheVariants.{Idle, Claimed, Looked, Stopped}
 use Rattle.rank_sched.specs.Task.{Task}
-use Rattle.rank_sched.specs.Exchanges.{Exchange, morsels_of, exchanges, seen_in, raised_in, SeeUpward, pool_of}
-use Rattle.rank_sched.specs.Exchanges.{IsRightSkip}
+use Rattle.rank_sched.specs.Exchanges.{Exchange, morsels_of, exchanges, SeeUpward}
 use Rattle.rank_sched.specs.Machine.{Worker, State, has_stopped, all_stopped}
 use Rattle.rank_sched.specs.SoundRun.{Rise, unsettled, IsTurnOf, open_exchange, exchanges_of, all_exchanges}
 use Rattle.rank_sched.specs.SoundRun.{AreSoundFrom, IsSoundState, IsSoundEnd}
 use Rattle.rank_sched.specs.Hauls.{records_of, all_records, exchanges_in, turns_of, AreHaulsFrom}
 use Rattle.rank_sched.specs.Laws.{EndsAreSound}
-use Rattle.rank_sched.proofs.Lists.{times-append, each-append, All-left, All-right}
+use Rattle.rank_sched.proofs.Lists.{each-append, All-left, All-right}
 
 -- the morsels of all records of some workers
 abbrev all_morsels : List Worker → List ℕ
@@ -37,29 +33,13 @@ module _ (t : Task) (guess : Option ℤ) where
   claims_split : (x w : ℕ) (vs : List Worker) → AreSoundFrom t guess w vs
       → times x (flat_map (λ (v : Worker). v.claims) vs) ≡ times x (all_morsels vs) + times x (lasts vs)
   claims_split x w [] h = refl
-  claims_split x w (v ∷ vs) h =
-      omega (
-        arith,
-        times-append x v.claims (flat_map (λ (u : Worker). u.claims) vs),
-        ap (times x) h.0.settled ∙ times-append x (morsels_of v.records) (unsettled v.turn),
-        times-append x (morsels_of v.records) (all_morsels vs),
-        times-append x (unsettled v.turn) (lasts vs),
-        claims_split x (w + 1) vs h.1,
-      )
+  claims_split x w (v ∷ vs) h = grind (arith, common_steps, claims_split x (w + 1) vs h.1)
 
   -- so there are as many claims as settled and unsettled numbers together
   lengths_split : (w : ℕ) (vs : List Worker) → AreSoundFrom t guess w vs
       → length (flat_map (λ (v : Worker). v.claims) vs) ≡ length (all_morsels vs) + length (lasts vs)
   lengths_split w [] h = refl
-  lengths_split w (v ∷ vs) h =
-      omega (
-        arith,
-        length-append v.claims (flat_map (λ (u : Worker). u.claims) vs),
-        ap length h.0.settled ∙ length-append (morsels_of v.records) (unsettled v.turn),
-        length-append (morsels_of v.records) (all_morsels vs),
-        length-append (unsettled v.turn) (lasts vs),
-        lengths_split (w + 1) vs h.1,
-      )
+  lengths_split w (v ∷ vs) h = grind (arith, length-append, lengths_split (w + 1) vs h.1)
 
   -- what is recorded of a plan's morsels gives no number past the last of them
   morsels_within : (rs : List Record) → AllByRecursion (λ r. r.morsel < t.len) rs
@@ -71,13 +51,11 @@ module _ (t : Task) (guess : Option ℤ) where
   all_within : (w : ℕ) (vs : List Worker) → AreSoundFrom t guess w vs
       → AllByRecursion (λ x. x < t.len) (all_morsels vs)
   all_within w [] h = tt
-  all_within w (v ∷ vs) h = each-append (λ x. x < t.len) (morsels_of v.records) (all_morsels vs)
-      (morsels_within v.records h.0.within) (all_within (w + 1) vs h.1)
+  all_within w (v ∷ vs) h = grind (arith, each-append, morsels_within, all_within (w + 1) vs h.1)
 
   -- of two tests that pass together each passes
   both_true : (a b : Bool) → (a && b) ≡ true → (a ≡ true) × (b ≡ true)
-  both_true true b h = (refl, h)
-  both_true false b h = absurd cc
+  both_true a b h = grind arith
 
   -- what a stopped worker hasn't settled is one number past the last morsel, and no floor is open
   pub record HasEnded (turn : Turn) : Type 0 where
@@ -87,10 +65,7 @@ module _ (t : Task) (guess : Option ℤ) where
 
   -- a sound worker that has stopped is left with one number past the last morsel, and with no open look
   ended : (turn : Turn) → has_stopped turn ≡ true → IsTurnOf t.len turn → HasEnded turn
-  ended Idle e h = absurd cc
-  ended (Claimed m) e h = absurd cc
-  ended (Looked m seen) e h = absurd cc
-  ended (Stopped n) e h = record { past = (h, tt); one = refl; closed = refl }
+  ended turn e h = grind arith
 
   -- once all have stopped, the numbers left are one for each worker, all past the last morsel, and no look is open
   lasts_past : (w : ℕ) (vs : List Worker) → AreSoundFrom t guess w vs → list_all (λ v. has_stopped v.turn) vs ≡ true
@@ -102,7 +77,7 @@ module _ (t : Task) (guess : Option ℤ) where
       let end : HasEnded v.turn = ended v.turn stop.0 h.0.turn in
       let rest = lasts_past (w + 1) vs h.1 stop.1 in (
         each-append (λ x. t.len ≤ x) (unsettled v.turn) (lasts vs) end.past rest.0,
-        omega (arith, length-append (unsettled v.turn) (lasts vs), end.one, rest.1),
+        omega (arith, length-append (unsettled v.turn) (lasts vs)),
         ap (λ (l : List Exchange). (exchanges t [] v.records ++ l) ++ all_exchanges t vs) end.closed
             ∙ ap (λ (l : List Exchange). l ++ all_exchanges t vs) (append-nil (exchanges t [] v.records))
             ∙ ap (λ (l : List Exchange). exchanges t [] v.records ++ l) rest.2,
@@ -111,16 +86,12 @@ module _ (t : Task) (guess : Option ℤ) where
   -- a number at or past n that is drawn
   some_past : (n next : ℕ) (ls : List ℕ) → 0 < length ls → AllByRecursion (λ x. n ≤ x) ls → All (λ x. x < next) ls
       → n < next
-  some_past n next [] some h b = absurd (omega arith)
-  some_past n next (l ∷ ls) some h b = let here : l < next = All-head (λ x. x < next) l ls b in omega (arith, h.0)
+  some_past n next ls some h b = grind (arith, common_steps)
 
   -- a number that isn't below n stands nowhere among numbers below n
   not_there : (n x : ℕ) (ms : List ℕ) → AllByRecursion (λ y. y < n) ms → n ≤ x → times x ms ≡ 0
   not_there n x [] h le = refl
-  not_there n x (m ∷ ms) h le =
-      let no : (m == x) ≡ false = grind (arith, h.0) in
-      let one : Bool → ℕ = λ b. cond b 1 0 in
-      omega (arith, sum_by-cons (λ (y : ℕ). one (y == x)) m ms, ap one no, not_there n x ms h.1 le)
+  not_there n x (m ∷ ms) h le = grind (arith, not_there n x ms h.1 le)
 
   -- a number that isn't below n isn't counted among those below n
   below_no : (x n : ℕ) → n ≤ x → times_below x n ≡ 0
@@ -134,7 +105,7 @@ module _ (t : Task) (guess : Option ℤ) where
       let P : ℕ → Type 0 = λ x. x < next in
       let own : All P v.claims = All-left P v.claims (flat_map (λ (u : Worker). u.claims) vs) b in
       All-append P (unsettled v.turn) (lasts vs) (All-right P (morsels_of v.records) (unsettled v.turn)
-      (subst (All P) h.0.settled own)) (lasts_below (w + 1) next vs h.1
+      (rw h.0.settled at own)) (lasts_below (w + 1) next vs h.1
       (All-right P v.claims (flat_map (λ (u : Worker). u.claims) vs) b))
 
   -- once all have stopped, each morsel has one record
@@ -144,8 +115,8 @@ module _ (t : Task) (guess : Option ℤ) where
       let vs : List Worker = s.workers in
       let past = lasts_past 0 vs h.each e in
       let below : All (λ x. x < s.next) (flat_map (λ (v : Worker). v.claims) vs) =
-      all_below s.next (flat_map (λ (v : Worker). v.claims) vs) h.claims in
-      let far : t.len < s.next = some_past t.len s.next (lasts vs) (omega (arith, past.1)) past.0
+      grind (arith, all_below) in
+      let far : t.len < s.next = some_past t.len s.next (lasts vs) (omega arith) past.0
       (lasts_below 0 s.next vs h.each below) in
       let once : HasEachBelow t.len (all_morsels vs) =
       λ x. elim (nat_lt x t.len) as (λ b. nat_lt x t.len ≡ b → times x (all_morsels vs) ≡ times_below x t.len) [
@@ -155,9 +126,7 @@ module _ (t : Task) (guess : Option ℤ) where
             (All-from_recursion (λ y. t.len ≤ y) (lasts vs) past.0) low in
             omega (
               arith,
-              h.claims x,
               claims_split x 0 vs h.each,
-              none,
               times_below-yes x t.len low,
               times_below-yes x
                   s.next (omega arith),
@@ -168,14 +137,11 @@ module _ (t : Task) (guess : Option ℤ) where
       ] refl in
       record {
         once = once;
-        next = omega (
-          arith,
-          length-each_below s.next
-              (flat_map (λ (v : Worker). v.claims) vs) h.claims,
-          lengths_split 0 vs h.each,
-          length-each_below t.len
-              (all_morsels vs) once,
-          past.1,
+        next = cc (
+          length-each_below s.next (flat_map (λ (v : Worker). v.claims) vs) h.claims,
+          lengths_split 0 vs
+              h.each,
+          length-each_below t.len (all_morsels vs) once,
         );
       }
 
@@ -186,22 +152,16 @@ module _ (t : Task) (guess : Option ℤ) where
       → AllZip (λ h v. (records_of h ≡ v.records) × (h.pool ≡ v.pool)) hs vs
       → morsels_of (all_records hs) ≡ all_morsels vs
   haul_morsels [] [] a = refl
-  haul_morsels [] (v ∷ vs) a = absurd a
-  haul_morsels (h ∷ hs) [] a = absurd a
-  haul_morsels (h ∷ hs) (v ∷ vs) a =
-      map-append (λ (r : Record). r.morsel) (records_of h) (all_records hs)
-      ∙ ap (λ (l : List ℕ). morsels_of (records_of h) ++ l) (haul_morsels hs vs a.1)
-      ∙ ap (λ (l : List Record). morsels_of l ++ all_morsels vs) a.0.0
+  haul_morsels (h ∷ hs) (v ∷ vs) a = grind (arith, map-append, haul_morsels hs vs a.1)
+  haul_morsels hs vs a = absurd a
 
   -- the turns of hauls are those of the workers' records
   haul_turns : (hs : List Haul) (vs : List Worker)
       → AllZip (λ h v. (records_of h ≡ v.records) × (h.pool ≡ v.pool)) hs vs
       → turns_of t hs ≡ flat_map (λ (v : Worker). exchanges t [] v.records) vs
   haul_turns [] [] a = refl
-  haul_turns [] (v ∷ vs) a = absurd a
-  haul_turns (h ∷ hs) [] a = absurd a
-  haul_turns (h ∷ hs) (v ∷ vs) a = ap (λ (l : List Exchange). exchanges_in t h ++ l) (haul_turns hs vs a.1)
-      ∙ ap (λ (l : List Record). exchanges t [] l ++ flat_map (λ (u : Worker). exchanges t [] u.records) vs) a.0.0
+  haul_turns (h ∷ hs) (v ∷ vs) a = cc (haul_turns hs vs a.1)
+  haul_turns hs vs a = absurd a
 
   -- what rises does so up to any place
   pub rise_front : (xs ys : List ℕ) → Rise (xs ++ ys) → Rise xs
@@ -217,19 +177,8 @@ module _ (t : Task) (guess : Option ℤ) where
       → AllZip (λ h v. (records_of h ≡ v.records) × (h.pool ≡ v.pool)) hs vs → AreSoundFrom t guess w vs
       → AreHaulsFrom t w hs
   hauls_from w [] [] a s = tt
-  hauls_from w [] (v ∷ vs) a s = absurd a
-  hauls_from w (h ∷ hs) [] a s = absurd a
-  hauls_from w (h ∷ hs) (v ∷ vs) a s =
-      let same : v.records ≡ records_of h = sym a.0.0 in (
-        record {
-          named = subst (λ (l : List Record). AllByRecursion (λ r. r.worker ≡ w) l) same s.0.named;
-          rise = subst (λ (l : List Record). Rise (morsels_of l)) same
-              (rise_front (morsels_of v.records) (unsettled v.turn) (subst Rise s.0.settled s.0.rise));
-          skips = subst (λ (l : List Record). AllByRecursion (IsRightSkip t) l) same s.0.skips;
-          pool = a.0.1 ∙ s.0.pool ∙ ap (pool_of t) same;
-        },
-        hauls_from (w + 1) hs vs a.1 s.1,
-      )
+  hauls_from w (h ∷ hs) (v ∷ vs) a s = grind (arith, rise_front, hauls_from (w + 1) hs vs a.1 s.1)
+  hauls_from w hs vs a s = absurd a
 
   -- where all have stopped, each haul's floors were seen upward
   hauls_upward : (w : ℕ) (hs : List Haul) (vs : List Worker)
@@ -237,34 +186,26 @@ module _ (t : Task) (guess : Option ℤ) where
       → list_all (λ v. has_stopped v.turn) vs ≡ true
       → AllByRecursion (λ h. SeeUpward (option_to_list guess) (exchanges_in t h)) hs
   hauls_upward w [] [] a s e = tt
-  hauls_upward w [] (v ∷ vs) a s e = absurd a
-  hauls_upward w (h ∷ hs) [] a s e = absurd a
   hauls_upward w (h ∷ hs) (v ∷ vs) a s e =
       let stop = both_true (has_stopped v.turn) (list_all (λ (u : Worker). has_stopped u.turn) vs) e in
       let end : HasEnded v.turn = ended v.turn stop.0 s.0.turn in
       let own : exchanges_of t v ≡ exchanges_in t h =
-      ap (λ (l : List Exchange). exchanges t [] v.records ++ l) end.closed ∙ append-nil (exchanges t [] v.records)
-      ∙ ap (exchanges t []) (sym a.0.0) in (
-        subst (λ (l : List Exchange). SeeUpward (option_to_list guess) l) own s.0.upward,
+      grind (arith, append-nil) in (
+        rw own at s.0.upward,
         hauls_upward
             (w + 1) hs vs a.1 s.1 stop.1,
       )
+  hauls_upward w hs vs a s e = absurd a
 
 -- once all have stopped, each morsel has one record and the hauls are sound and under the floor
 pub ends_sound : EndsAreSound
-ends_sound t guess s hs some h e a =
-    let end : IsSoundEnd t s = end_sound t guess s some h e in
-    let turns : all_exchanges t s.workers ≡ turns_of t hs = (lasts_past t guess 0 s.workers h.each e).2
-    ∙ sym (haul_turns t guess hs s.workers a) in (
-      end,
-      record {
-        each = hauls_from t guess 0 hs s.workers a h.each;
-        once =
-            subst (λ (l : List ℕ). HasEachBelow t.len l) (sym (haul_morsels t guess hs s.workers a)) end.once;
-      },
-      record {
-        floor_is = subst (λ (l : List Exchange). IsFloorOf guess (raised_in l) s.floor) turns h.floor;
-        upward = hauls_upward t guess 0 hs s.workers a h.each e;
-        seen = subst (λ (l : List Exchange). All (IsGuessOrRaised guess (raised_in l)) (seen_in l)) turns h.seen;
-      },
-    )
+ends_sound t guess s hs some h e a = grind (
+  arith,
+  end_sound t guess s some h e,
+  lasts_past t guess 0 s.workers h.each e,
+  haul_turns t guess hs s.workers a,
+  hauls_from t guess 0 hs s.workers a h.each,
+  haul_morsels t guess hs s.workers a,
+  hauls_upward t guess 0 hs
+      s.workers a h.each e,
+)

@@ -1,18 +1,18 @@
 -- What is true of every plan's task.
-use Rattle.std.proofs.Common.{◌≡◌, ℕ, zero, suc, ◌<◌, ◌≤◌, Bool, true, false, cond, List, [], ◌∷◌, length, map, Option}
-use Rattle.std.proofs.Common.{Some, None, refl, sym, ap, ◌∙◌, subst, arith, ℤ, pos, ◌≤ℤ◌}
-use Rattle.std.specs.Prelude.{◌&&◌, ◌||◌, int_lt, slice_get}
+use Rattle.std.proofs.Common.{rules, ◌≡◌, ℕ, zero, suc, ◌<◌, ◌≤◌, Bool, true, false, cond, List, [], ◌∷◌, length, map}
+use Rattle.std.proofs.Common.{Option, Some, None, refl, arith, pos, ◌≤ℤ◌}
+use Rattle.std.proofs.lemmas.Grind.{common_steps}
+use Rattle.std.specs.Prelude.{slice_get}
 use Rattle.std.specs.List.{filter_map, cons_option, AllByRecursion}
 use Rattle.std.specs.List.Sorted.{IsPermutation}
 use Rattle.std.specs.Option.{option_map, option_map_or}
-use Rattle.std.specs.Ordering.{int_eq}
 use Rattle.std.proofs.lemmas.Int.{ints}
-use Rattle.std.proofs.lemmas.List.Elements.{recursion_from_All, All-from_recursion}
+use Rattle.std.proofs.lemmas.List.Elements.{recursion_from_All}
 use Rattle.std.proofs.lemmas.List.Sorted.{All-permutation, IsPermutation-trans}
 use Rattle.ghcn_fields.specs.Floor.{IsScore}
 use Rattle.ghcn_fields.specs.Sorting.{sorted_by}
 use Rattle.ghcn_files.specs.declared.station.Station.{Station}
-use Rattle.ghcn_series.specs.Series.{Usable, Contents, IsSeries, series_of, is_series_of}
+use Rattle.ghcn_series.specs.Series.{Usable, Contents, series_of}
 use Rattle.ghcn_series.specs.Held.{IsContents}
 use Rattle.rank_query.specs.Asked.{Asked, score_element}
 use Rattle.rank_query.specs.Admits.{admits_station}
@@ -28,11 +28,9 @@ use Rattle.rank_sched.specs.Task.{task_of, all_of_task}
 use Rattle.rank_sched.specs.Laws.{PlansAreFair}
 use Rattle.rank_scores.proofs.QueryCandidates.{all_apart}
 use Rattle.rank_sched.proofs.PlanBest.{found, plan_alike, apart_alike}
-use Rattle.rank_sched.proofs.Measures.{asked_of}
 use Rattle.ghcn_fields.proofs.Ordered.{sorted-permutation}
 use Rattle.rank_sched.proofs.PlanOrder.{sorted-in_turn}
 use Rattle.rank_sched.proofs.PlanMade.{by_id, few_morsels}
-use Rattle.rank_sched.proofs.MachineSteps.{some_wanted, few_wanted}
 use Rattle.rank_sched.proofs.ScoreRanges.{candidates_ranged}
 
 -- a series that the query asks about, with its bound
@@ -56,10 +54,7 @@ module _ (q : Asked) (c : Contents) (right : IsContents c) where
       cases true None f e = absurd cc
       cases true (Some u) f e = elim (has_admitted q u)
           as (λ b. has_admitted q u ≡ b → option_map (measured q) (cond b (Some u) None) ≡ Some m → IsMeasured q m) [
-            | true ↦ λ k g.
-                let same : measured q u ≡ m = cc in
-                let is = found IsSeries (is_series_of st.id (score_element q.score)) c.series u right.series.right f in
-                subst (IsMeasured q) same (record { bounded = refl; asked = asked_of q c st.id u f is.0 k })
+            | true ↦ grind (arith, found)
             | false ↦ λ k g. absurd cc
           ] refl e
 
@@ -81,20 +76,18 @@ module _ (q : Asked) (c : Contents) (right : IsContents c) where
       (sorted-permutation is_drawn_first ms) in
       recursion_from_All (IsMeasured q) (sorted_by is_drawn_first ms)
       (All-permutation (IsMeasured q) (filter_map (morsel_at q c) c.stations) (sorted_by is_drawn_first ms) p
-      (All-from_recursion (IsMeasured q) (filter_map (morsel_at q c) c.stations) (all_measured c.stations)))
+      (grind (arith, common_steps, all_measured)))
 
 -- what is true of each morsel is true of the one at a place
 at_place : (P : Morsel → Type 0) (ms : List Morsel) (i : ℕ) (m : Morsel) → AllByRecursion P ms
     → slice_get ms i ≡ Some m → P m
 at_place P [] i m h e = absurd cc
-at_place P (x ∷ ms) zero m h e = let same : x ≡ m = cc in subst P same h.0
+at_place P (x ∷ ms) zero m h e = let same : x ≡ m = cc in rw same at h.0
 at_place P (x ∷ ms) (suc i) m h e = at_place P ms i m h.1 e
 
 -- the morsels of a plan are measured
 measured_of : (p : Planned) → IsPlan p → AllByRecursion (IsMeasured p.query) p.morsels
-measured_of p is =
-    subst (λ (r : Planned). AllByRecursion (IsMeasured p.query) r.morsels) (sym is.plan)
-    (plan_measured p.query is.held is.right)
+measured_of p is = grind (arith, plan_measured)
 
 -- no candidate's score is above the bound of its morsel
 pub plan_bounded : (p : Planned) → IsPlan p → (m : ℕ)
@@ -107,33 +100,21 @@ plan_bounded p is m = by_morsel (slice_get p.morsels m) refl
     by_morsel None e = tt
     by_morsel (Some x) e =
         let own : IsMeasured p.query x = at_place (IsMeasured p.query) p.morsels m x (measured_of p is) e in
-        subst (λ (z : ℤ). AllByRecursion (λ c. c.score ≤ℤ z) (candidates p.query x.series)) (sym own.bounded)
-        (bound-above p.query x.series (bound p.query x.series) is.asked own.asked
-        (computed-IsBound p.query x.series is.asked own.asked))
+        rw own.bounded (grind (arith, bound-above, computed-IsBound))
 
 -- all candidates of a plan are apart
 pub plan_apart : (p : Planned) → IsPlan p → AreApart (all_of_task (task_of p))
-plan_apart p is =
-    subst (λ (r : Planned). AreApart (all_of_task (task_of r))) (sym is.plan)
-    (apart_alike (all_of_task (task_of (planned p.query is.held))) (all_candidates p.query is.held)
-    (plan_alike p.query is.held) (all_apart p.query is.held is.right))
-
--- what is drawn first has no smaller bound
-lower : (a b : ℤ) (t : Bool) → (int_lt b a || (int_eq a b && t)) ≡ true → b ≤ℤ a
-lower a b t e = elim (int_lt b a) as (λ x. int_lt b a ≡ x → b ≤ℤ a) [
-  | true ↦ λ f. grind (arith, ints)
-  | false ↦ λ f. elim (int_eq a b) as (λ y. int_eq a b ≡ y → b ≤ℤ a) [
-    | true ↦ λ g. grind (arith, ints)
-    | false ↦ λ g. absurd (let no : (int_lt b a || (int_eq a b && t)) ≡ false =
-        ap (λ (x : Bool). x || (int_eq a b && t)) f ∙ ap (λ (x : Bool). x && t) g in cc)
-  ] refl
-] refl
+plan_apart p is = grind (
+  arith,
+  apart_alike (all_of_task (task_of (planned p.query is.held)))
+      (all_candidates p.query is.held) (plan_alike p.query is.held) (all_apart p.query is.held is.right),
+)
 
 -- no morsel that is drawn later has a greater bound
 each_lower : (x : Morsel) (ms : List Morsel) → AllByRecursion (λ n. is_drawn_first x n ≡ true) ms
     → AllByRecursion (λ n. n.bound ≤ℤ x.bound) ms
 each_lower x [] h = tt
-each_lower x (n ∷ ms) h = (lower x.bound n.bound _ h.0, each_lower x ms h.1)
+each_lower x (n ∷ ms) h = grind (arith, each_lower x ms h.1)
 
 -- no bound of morsels in turn is above that of a smaller number
 falls : (ms : List Morsel) (m n : ℕ) → AreDrawnInTurn ms → m ≤ n → n < length ms
@@ -153,9 +134,7 @@ falls (x ∷ ms) zero (suc n) h le lt = at_all ms n (each_lower x ms h.0) (omega
 -- the bounds of a plan fall
 pub plan_falls : (p : Planned) → IsPlan p → (m n : ℕ) → m ≤ n → n < (task_of p).len
     → (task_of p).bound n ≤ℤ (task_of p).bound m
-plan_falls p is m n le lt =
-    falls p.morsels m n (subst (λ (r : Planned). AreDrawnInTurn r.morsels) (sym is.plan)
-    (sorted-in_turn (map (measured p.query) (morsels p.query is.held)))) le lt
+plan_falls p is m n le lt = grind (arith, falls, sorted-in_turn)
 
 -- each candidate's score can be a floor
 pub plan_scores : (p : Planned) → IsPlan p → (m : ℕ)
@@ -171,12 +150,4 @@ plan_scores p is m = by_morsel (slice_get p.morsels m) refl
 
 -- what a plan asks is fair
 pub plans_fair : PlansAreFair
-plans_fair p is = record {
-  some = some_wanted p is;
-  limit = few_wanted p is;
-  few = few_morsels p is;
-  scores = plan_scores p is;
-  bounded = plan_bounded p is;
-  falling = plan_falls p is;
-  apart = plan_apart p is;
-}
+plans_fair p is = search (rules, few_morsels, plan_scores, plan_bounded, plan_falls, plan_apart)

@@ -1,13 +1,13 @@
 -- Lines by increasing ID: there is one such list of the lines of a plan's morsels.
 use Rattle.std.proofs.Common.{◌≡◌, ℕ, zero, suc, ◌+◌, ◌<◌, ◌≤◌, Bool, true, false, List, [], ◌∷◌, ◌++◌, length, take}
-use Rattle.std.proofs.Common.{map, Some, refl, sym, ap, ◌∙◌, subst, arith}
+use Rattle.std.proofs.Common.{map, Some, refl, sym, ap, ◌∙◌, arith, rules}
 use Rattle.std.specs.Prelude.{slice_get}
 use Rattle.std.specs.List.{enumerate_from, AllByRecursion, IsDistinct}
 use Rattle.std.specs.List.Sorted.{IsPermutation, IsSortedBy}
 use Rattle.std.specs.Option.{option_map}
 use Rattle.std.specs.Cmp.{IsTotalOrder, IsStrictWeakOrder}
 use Rattle.std.specs.Cmp.Lexicographic.{slice_cmp}
-use Rattle.std.specs.Ordering.{is_lt, is_eq, nat_cmp, on}
+use Rattle.std.specs.Ordering.{is_lt, nat_cmp, on}
 use Rattle.std.specs.declared.cmp.Ordering.{Ordering}
 use Rattle.std.specs.declared.cmp.Ordering.TheVariants.{Equal}
 use Rattle.std.proofs.lemmas.Cmp.{nat_list_cmp_total, on_total, nat_list_eq_equiv}
@@ -52,7 +52,7 @@ same_line-symm a b = nat_list_eq_equiv.symm (a.id.0) (b.id.0)
 
 -- lines that tie are of one station
 line_tied : (a b : Line) → id_cmp a b ≡ Equal → same_line a b ≡ true
-line_tied a b e = sym (is_eq-slice_cmp (a.id.0) (b.id.0)) ∙ ap is_eq e
+line_tied a b e = cc (is_eq-slice_cmp (a.id.0) (b.id.0))
 
 -- one line is strictly before another
 abbrev pub strictly : Line → Line → Bool
@@ -60,7 +60,7 @@ strictly a b = is_lt (id_cmp a b)
 
 -- that is an order
 pub strictly_ranks : IsStrictWeakOrder strictly
-strictly_ranks = ordered.strictly_ranks id_cmp id_total comes_first (λ a b. refl) (λ l. l)
+strictly_ranks = grind (arith, id_total)
 
 -- lines seen as they are
 map_same : (ls : List Line) → map (λ l. l) ls ≡ ls
@@ -73,7 +73,7 @@ sorted_lines : (xs ys : List Line) → IsDistinct same_line xs → IsPermutation
 sorted_lines xs ys d p up =
     let turn = ordered.sort-in_turn id_cmp id_total comes_first (λ a b. refl) (λ l. l) ys up in
     ordered.one_order id_cmp id_total comes_first (λ a b. refl) same_line same_line-symm line_tied xs ys d p
-    (subst (λ ls. ordered.InTurn id_cmp id_total comes_first (λ a b. refl) ls) (map_same ys) turn)
+    (rw (← map_same ys) turn)
 
 -- ---- the lines of morsels
 
@@ -104,22 +104,19 @@ pub lines_sorted : (p : Planned) (marks : List Bool) (xs ys : List Line) → IsP
     → ys ≡ marked_lines marks p.morsels
 lines_sorted p marks xs ys is e perm up =
     let made : List Line = map (marked_line marks) (enumerate_from 0 p.morsels) in
-    sorted_lines made ys (distinct_lines marks 0 p.morsels (plan_distinct p is))
-    (subst (λ ls. IsPermutation ls ys) e perm) up
+    sorted_lines made ys (grind (arith, distinct_lines, plan_distinct))
+    (rw e at perm) up
 
 -- one morsel's line more
 lines_push : (F : ℕ × Morsel → Line) (ms : List Morsel) (i n : ℕ) (l : Line)
     → option_map (λ m. F (n + i, m)) (slice_get ms i) ≡ Some l
     → map F (enumerate_from n (take (suc i) ms)) ≡ map F (enumerate_from n (take i ms)) ++ l ∷ []
 lines_push F [] i n l e = absurd cc
-lines_push F (m ∷ ms) zero n l e =
-    let none : n ≡ n + 0 = omega arith in
-    let same : F (n + 0, m) ≡ l = cc in
-    ap (λ x. x ∷ []) (ap (λ (k : ℕ). F (k, m)) none ∙ same)
+lines_push F (m ∷ ms) zero n l e = search rules
 lines_push F (m ∷ ms) (suc i) n l e =
     let next : (n + 1) + i ≡ n + suc i = omega arith in
     ap (λ r. F (n, m) ∷ r) (lines_push F ms i (n + 1) l
-    (ap (λ (k : ℕ). option_map (λ x. F (k, x)) (slice_get ms i)) next ∙ e))
+    (search rules))
 
 -- the line of the next morsel, with its mark
 pub lines_more : (marks : List Bool) (ms : List Morsel) (i : ℕ) (skipped : Bool) (xs ys : List Line) (l : Line)
@@ -132,29 +129,23 @@ lines_more marks ms i skipped xs ys l is e push before =
     let one : suc i ≡ i + 1 = omega arith in
     let made : Bool → Morsel → Line = λ b m. record { id = m.series.id; bound = m.bound; skipped = b } in
     let at : option_map (λ m. marked_line marks (0 + i, m)) (slice_get ms i) ≡ Some l =
-    ap (λ (k : ℕ). option_map (made (mark marks k)) (slice_get ms i)) none
-    ∙ ap (λ (b : Bool). option_map (made b) (slice_get ms i)) (sym is) ∙ e in
+    search rules in
     push ∙ ap (λ ls. ls ++ l ∷ []) before ∙ sym (lines_push (marked_line marks) ms i 0 l at)
     ∙ ap (λ (k : ℕ). map (marked_line marks) (enumerate_from 0 (take k ms))) one
 
 -- the lines of all morsels
 pub lines_all : (marks : List Bool) (ms : List Morsel) (i : ℕ) (xs : List Line) → length ms ≤ i
     → xs ≡ map (marked_line marks) (enumerate_from 0 (take i ms)) → xs ≡ map (marked_line marks) (enumerate_from 0 ms)
-lines_all marks ms i xs far e = e ∙ ap (λ l. map (marked_line marks) (enumerate_from 0 l)) (take_all i ms far)
+lines_all marks ms i xs far e = cc (take_all i ms far)
 
 -- lines by marks of the skips that stay are the lines of the answer
 lines_alike : (p : Planned) (rs : List Record) (marks : List Bool) (n : ℕ) (ms : List Morsel)
     → ((m : ℕ) → m < n + length ms → mark marks m ≡ stays (task_of p) rs m)
     → map (marked_line marks) (enumerate_from n ms) ≡ map (line_of p rs) (enumerate_from n ms)
 lines_alike p rs marks n [] h = refl
-lines_alike p rs marks n (x ∷ ms) h =
-    let own : marked_line marks (n, x) ≡ line_of p rs (n, x) =
-    ap (λ (b : Bool). record { id = x.series.id; bound = x.bound; skipped = b }) (h n (omega arith)) in
-    ap (λ l. l ∷ map (marked_line marks) (enumerate_from (n + 1) ms)) own
-    ∙ ap (λ ls. line_of p rs (n, x) ∷ ls) (lines_alike p rs marks (n + 1) ms (λ m lt. h m (omega (arith, lt))))
+lines_alike p rs marks n (x ∷ ms) h = grind (arith, lines_alike p rs marks (n + 1) ms (λ m lt. h m (omega arith)))
 
 -- and so are all of them in their order
 pub lines_are : (p : Planned) (rs : List Record) (marks : List Bool)
     → AreMarks (stays (task_of p) rs) (length p.morsels) marks → marked_lines marks p.morsels ≡ lines_of p rs
-lines_are p rs marks h = ap (sorted_by comes_first)
-    (lines_alike p rs marks 0 p.morsels (λ m lt. h.each m (omega (arith, lt))))
+lines_are p rs marks h = grind (arith, lines_alike)

@@ -1,15 +1,13 @@
 -- What is true of lists and of their elements, and the lists that records give.
-use Rattle.std.proofs.Common.{◌≡◌, ℕ, zero, suc, ◌+◌, ◌-◌, ◌<◌, List, [], ◌∷◌, ◌++◌, length, take, Option, Some, None}
-use Rattle.std.proofs.Common.{refl, sym, ap, ◌∙◌, subst, append-nil, append_assoc, arith, ℤ, ◌≤ℤ◌, option_to_list, All}
-use Rattle.std.proofs.Common.{Contains}
+use Rattle.std.proofs.Common.{rules, ◌≡◌, ℕ, zero, suc, ◌+◌, ◌-◌, ◌<◌, List, [], ◌∷◌, ◌++◌, length, take, Option, Some}
+use Rattle.std.proofs.Common.{refl, ap, ◌∙◌, append-nil, append_assoc, arith, ℤ, ◌≤ℤ◌, option_to_list, All, Contains}
 use Rattle.std.specs.Prelude.{slice_get, slice_set, IfSome, IsSomeAnd}
 use Rattle.std.specs.List.{AllByRecursion}
 use Rattle.std.specs.Option.{option_map}
 use Rattle.std.proofs.lemmas.Grind.{flat_map-append}
 use Rattle.std.proofs.lemmas.List.{map-append}
 use Rattle.std.proofs.lemmas.List.Sums.{sum_by-append}
-use Rattle.std.proofs.lemmas.List.Elements.{All-nil, All-cons, All-append, All-weaker, All-contains}
-use Rattle.std.proofs.lemmas.List.Elements.{All-contains_itself, Contains-append_left, Contains-append_right}
+use Rattle.std.proofs.lemmas.List.Elements.{All-append, All-contains, Contains-append_left, Contains-append_right}
 use Rattle.ghcn_fields.specs.Counting.{times}
 use Rattle.ghcn_fields.specs.Floor.{IsAtLeast}
 use Rattle.rank_scores.specs.declared.candidate.Candidate.{Candidate}
@@ -25,7 +23,7 @@ use Rattle.rank_sched.specs.SoundRun.{Rise}
 
 -- what is true of each element of a list is true of all
 pub all_from : {X : Type 0} (P : X → Type 0) (xs : List X) → ((x : X) → Contains xs x → P x) → All P xs
-all_from P xs f = All-weaker (Contains xs) P f xs (All-contains_itself xs)
+all_from P xs f = search rules
 
 -- what is true of all of two lists is true of all of the first
 pub All-left : {X : Type 0} (P : X → Type 0) (xs ys : List X) → All P (xs ++ ys) → All P xs
@@ -53,20 +51,13 @@ pub each_both : {X : Type 0} (P Q R : X → Type 0) (xs : List X) → ((x : X) �
 each_both P Q R [] f h k = tt
 each_both P Q R (x ∷ xs) f h k = (f x h.0 k.0, each_both P Q R xs f h.1 k.1)
 
--- nothing is in an empty list
-nothing_in : {X : Type 0} (P : Type 0) (x : X) → Contains [] x → P
-nothing_in P x c = absurd (omega (arith, c.1))
-
 -- an element of one
 pub only_one : {X : Type 0} (o : Option X) (x : X) → Contains (option_to_list o) x → o ≡ Some x
-only_one None x c = nothing_in (None ≡ Some x) x c
-only_one (Some y) x c = ap (λ z. Some z) (All-contains (λ z. y ≡ z) (y ∷ []) x
-    (All-cons (λ z. y ≡ z) y [] refl (All-nil (λ z. y ≡ z))) c)
+only_one o x c = grind arith
 
 -- what is true of a value, if there is one, is true of the list of it
 pub one_there : {X : Type 0} (P : X → Type 0) (o : Option X) → IfSome o P → All P (option_to_list o)
-one_there P None h = All-nil P
-one_there P (Some x) h = All-cons P x [] h (All-nil P)
+one_there P o h = grind arith
 
 -- ---- counts
 
@@ -79,13 +70,13 @@ times-append x xs ys = sum_by-append _ xs ys
 -- a list that rises goes on to rise with a number above all of it
 pub rise-push : (xs : List ℕ) (x : ℕ) → Rise xs → AllByRecursion (λ y. y < x) xs → Rise (xs ++ x ∷ [])
 rise-push [] x h a = (tt, tt)
-rise-push (y ∷ ys) x h a = (each-append (λ z. y < z) ys (x ∷ []) h.0 (a.0, tt), rise-push ys x h.1 a.1)
+rise-push (y ∷ ys) x h a = grind (arith, each-append, rise-push ys x h.1 a.1)
 
 -- ---- records
 
 -- the morsel of one record more comes last
 pub morsels-push : (rs : List Record) (r : Record) → morsels_of (rs ++ r ∷ []) ≡ morsels_of rs ++ r.morsel ∷ []
-morsels-push rs r = map-append (λ (q : Record). q.morsel) rs (r ∷ [])
+morsels-push rs r = grind (arith, map-append)
 
 -- the candidates of some records and then of others
 pub scanned-append : (t : Task) (rs qs : List Record) → scanned t (rs ++ qs) ≡ scanned t rs ++ scanned t qs
@@ -94,13 +85,12 @@ scanned-append t rs qs = flat_map-append (scanned_for t) rs qs
 -- one record more adds the candidates that it stands for
 pub scanned-push : (t : Task) (rs : List Record) (r : Record)
     → scanned t (rs ++ r ∷ []) ≡ scanned t rs ++ scanned_for t r
-scanned-push t rs r = scanned-append t rs (r ∷ [])
-    ∙ ap (λ (l : List Candidate). scanned t rs ++ l) (append-nil (scanned_for t r))
+scanned-push t rs r = simp (scanned-append, append-nil)
 
 -- one record more adds a turn, made after all that was scanned before
 pub exchanges-push : (t : Task) (before : List Candidate) (rs : List Record) (r : Record)
     → exchanges t before (rs ++ r ∷ []) ≡ exchanges t before rs ++ exchange t (before ++ scanned t rs) r ∷ []
-exchanges-push t before [] r = ap (λ (l : List Candidate). exchange t l r ∷ []) (sym (append-nil before))
+exchanges-push t before [] r = simp append-nil
 exchanges-push t before (q ∷ rs) r =
     let one : List Candidate = scanned_for t q in
     ap (λ (l : List Exchange). exchange t before q ∷ l)
@@ -109,11 +99,11 @@ exchanges-push t before (q ∷ rs) r =
 
 -- the floors seen in some turns and then in others
 pub seen_in-append : (xs ys : List Exchange) → seen_in (xs ++ ys) ≡ seen_in xs ++ seen_in ys
-seen_in-append xs ys = flat_map-append (λ (x : Exchange). option_to_list x.seen) xs ys
+seen_in-append xs ys = grind (arith, flat_map-append)
 
 -- the scores raised in some turns and then in others
 pub raised_in-append : (xs ys : List Exchange) → raised_in (xs ++ ys) ≡ raised_in xs ++ raised_in ys
-raised_in-append xs ys = flat_map-append (λ (x : Exchange). option_to_list x.raised) xs ys
+raised_in-append xs ys = grind (arith, flat_map-append)
 
 -- one turn more, whose floor is at least all that was known at first, seen and raised
 pub upward-push : (known : List ℤ) (xs : List Exchange) (x : Exchange) → SeeUpward known xs → IsAtLeast x.seen known
@@ -132,7 +122,7 @@ upward-push known (y ∷ ys) x h a b c =
 -- what is raised in the last turn doesn't matter for what was seen
 pub upward-last : (known : List ℤ) (xs : List Exchange) (x y : Exchange) → x.seen ≡ y.seen
     → SeeUpward known (xs ++ x ∷ []) → SeeUpward known (xs ++ y ∷ [])
-upward-last known [] x y e h = (subst (λ (o : Option ℤ). IsAtLeast o known) e h.0, tt)
+upward-last known [] x y e h = search rules
 upward-last known (z ∷ zs) x y e h = (
   h.0,
   upward-last
@@ -162,7 +152,7 @@ at (y ∷ ys) (suc i) x h =
       behind = a.behind;
       parts = ap (λ l. y ∷ l) a.parts;
       place =
-          omega (arith, a.place);
+          omega arith;
       put = λ z. ap (λ l. y ∷ l) (a.put z);
     }
 
@@ -187,4 +177,4 @@ last_is_kth (suc j) xs some =
 
 -- an element of a list of its own
 pub one_in : {X : Type 0} (x : X) → Contains (x ∷ []) x
-one_in x = All-contains_itself (x ∷ []) 0 x (omega arith)
+one_in x = search rules

@@ -1,10 +1,10 @@
 -- Steps of a machine by its turns and hauls: which are refused, and what those that are made lead to.
-use Rattle.std.proofs.Common.{◌≡◌, ℕ, zero, suc, ◌+◌, ◌-◌, ◌*◌, ◌<◌, ◌≤◌, Bool, true, false, cond, List, [], ◌∷◌, ◌++◌}
-use Rattle.std.proofs.Common.{length, length-append, get_or, replicate, Option, Some, None, Result, Ok, Err, IsErr}
-use Rattle.std.proofs.Common.{IsErrAnd, ◌≢◌, refl, sym, ap, ◌∙◌, subst, arith, append-nil, ℤ, IfSome}
+use Rattle.std.proofs.lemmas.Grind.{common_steps}
+use Rattle.std.proofs.Common.{◌≡◌, ℕ, zero, suc, ◌+◌, ◌-◌, ◌*◌, ◌<◌, ◌≤◌, Bool, true, false, cond, List, [], ◌∷◌}
+use Rattle.std.proofs.Common.{length, length-append, get_or, replicate, Option, Some, None, Result, Err, IsErr}
+use Rattle.std.proofs.Common.{IsErrAnd, ◌≢◌, refl, sym, ap, ◌∙◌, arith, append-nil, ℤ, IfSome, rules}
 use Rattle.std.specs.Prelude.{◌&&◌, not, nat_lt, map, zip, slice_get, slice_set}
 use Rattle.std.specs.List.{AllByRecursion, flat_map}
-use Rattle.std.specs.Option.{option_map_or}
 use Rattle.ghcn_fields.specs.Floor.{IsScore}
 use Rattle.ghcn_fields.specs.CountingLaws.{length-each_below}
 use Rattle.rank_pool.specs.Pools.{Pooled, last_score}
@@ -14,7 +14,7 @@ use Rattle.rank_sched.specs.declared.event.Event.{Event}
 use Rattle.rank_sched.specs.declared.event.Event.TheVariants.{Claim, Look, Settle}
 use Rattle.rank_sched.specs.declared.event.StepFault.TheVariants.{NoWorker, NotNow}
 use Rattle.rank_sched.specs.declared.turn.Turn.{Turn}
-use Rattle.rank_sched.specs.declared.turn.Turn.TheVariants.{Idle, Claimed, Looked, Stopped}
+use Rattle.rank_sched.specs.declared.turn.Turn.TheVariants.{Idle, Claimed, Looked}
 use Rattle.rank_sched.specs.Plan.{Planned, IsPlan}
 use Rattle.rank_sched.specs.Task.{Task, task_of}
 use Rattle.rank_sched.specs.Exchanges.{morsels_of}
@@ -40,7 +40,7 @@ pub workers-length : (turns : List Turn) (hs : List Haul) → length turns ≡ l
     → length (workers_with turns hs) ≡ length turns
 workers-length [] hs e = refl
 workers-length (x ∷ xs) [] e = absurd (omega (arith, e))
-workers-length (x ∷ xs) (h ∷ hs) e = omega (arith, workers-length xs hs (omega (arith, e)))
+workers-length (x ∷ xs) (h ∷ hs) e = cc (workers-length xs hs (omega (arith, e)))
 
 -- a worker that is there has a turn and a haul
 pub record IsThere (turns : List Turn) (hs : List Haul) (w : ℕ) (turn : Turn) : Type 0 where
@@ -55,7 +55,7 @@ pub there : (turns : List Turn) (hs : List Haul) (w : ℕ) (turn : Turn) → len
 there [] hs w turn e h = absurd cc
 there (x ∷ xs) [] w turn e h = absurd (omega (arith, e))
 there (x ∷ xs) (y ∷ hs) zero turn e h = let same : x ≡ turn = cc in
-    record { haul = y; own = refl; worker = ap (λ (z : Turn). Some (worker_with (z, y))) same; within = omega arith }
+    record { haul = y; own = refl; worker = cc; within = omega arith }
 there (x ∷ xs) (y ∷ hs) (suc w) turn e h =
     let rest : IsThere xs hs w turn = there xs hs w turn (omega (arith, e)) h in
     record { haul = rest.haul; own = rest.own; worker = rest.worker; within = omega (arith, rest.within) }
@@ -65,10 +65,8 @@ pub other_turn : (turns : List Turn) (hs : List Haul) (w : ℕ) (turn : Turn) (h
     → workers_with (slice_set turns w turn) hs ≡ slice_set (workers_with turns hs) w (worker_with (turn, h))
 other_turn [] hs w turn h e = refl
 other_turn (x ∷ xs) [] w turn h e = absurd cc
-other_turn (x ∷ xs) (y ∷ hs) zero turn h e = let same : y ≡ h = cc in
-    ap (λ (z : Haul). worker_with (turn, z) ∷ workers_with xs hs) same
-other_turn (x ∷ xs) (y ∷ hs) (suc w) turn h e =
-    ap (λ (l : List Worker). worker_with (x, y) ∷ l) (other_turn xs hs w turn h e)
+other_turn (x ∷ xs) (y ∷ hs) zero turn h e = cc
+other_turn (x ∷ xs) (y ∷ hs) (suc w) turn h e = cc (other_turn xs hs w turn h e)
 
 -- another turn and another haul change that worker alone
 pub other_both : (turns : List Turn) (hs : List Haul) (w : ℕ) (turn : Turn) (h : Haul) → length turns ≡ length hs
@@ -77,8 +75,7 @@ pub other_both : (turns : List Turn) (hs : List Haul) (w : ℕ) (turn : Turn) (h
 other_both [] hs w turn h e = refl
 other_both (x ∷ xs) [] w turn h e = absurd (omega (arith, e))
 other_both (x ∷ xs) (y ∷ hs) zero turn h e = refl
-other_both (x ∷ xs) (y ∷ hs) (suc w) turn h e =
-    ap (λ (l : List Worker). worker_with (x, y) ∷ l) (other_both xs hs w turn h (omega (arith, e)))
+other_both (x ∷ xs) (y ∷ hs) (suc w) turn h e = cc (other_both xs hs w turn h (omega (arith, e)))
 
 -- as many workers are there after one has changed
 pub set-length : {X : Type 0} (xs : List X) (i : ℕ) (x : X) → length (slice_set xs i x) ≡ length xs
@@ -100,10 +97,7 @@ below i n h = grind arith
 pub no_worker : (next : ℕ) (floor : Option ℤ) (turns : List Turn) (hs : List Haul) (e : Event)
     → length turns ≡ length hs → length turns ≤ worker_of e
     → refusal (state_of next floor turns hs) e ≡ Some (NoWorker (worker_of e))
-no_worker next floor turns hs e same far =
-    ap (λ (b : Bool). cond b (cond (is_now (state_of next floor turns hs) e) None (Some (NotNow (worker_of e))))
-    (Some (NoWorker (worker_of e))))
-    (not_below (worker_of e) (length (workers_with turns hs)) (omega (arith, far, workers-length turns hs same)))
+no_worker next floor turns hs e same far = simp (not_below, workers-length, e)
 
 -- an event that its worker doesn't wait for is refused for that
 pub not_now : (next : ℕ) (floor : Option ℤ) (turns : List Turn) (hs : List Haul) (e : Event) (turn : Turn)
@@ -112,7 +106,7 @@ pub not_now : (next : ℕ) (floor : Option ℤ) (turns : List Turn) (hs : List H
 not_now next floor turns hs e turn same here other =
     let at : IsThere turns hs (worker_of e) turn = there turns hs (worker_of e) turn same here in
     let now : is_now (state_of next floor turns hs) e ≡ false =
-    ap (λ (o : Option Worker). option_map_or (λ v. is_awaited v.turn e) o false) at.worker ∙ other in
+    cc in
     ap (λ (b : Bool). cond b (cond (is_now (state_of next floor turns hs) e) None (Some (NotNow (worker_of e))))
     (Some (NoWorker (worker_of e))))
     (below (worker_of e) (length (workers_with turns hs)) (omega (arith, at.within, workers-length turns hs same)))
@@ -125,7 +119,7 @@ pub is_now_by : (next : ℕ) (floor : Option ℤ) (turns : List Turn) (hs : List
 is_now_by next floor turns hs e turn same here awaited =
     let at : IsThere turns hs (worker_of e) turn = there turns hs (worker_of e) turn same here in
     let now : is_now (state_of next floor turns hs) e ≡ true =
-    ap (λ (o : Option Worker). option_map_or (λ v. is_awaited v.turn e) o false) at.worker ∙ awaited in
+    cc in
     ap (λ (b : Bool). cond b (cond (is_now (state_of next floor turns hs) e) None (Some (NotNow (worker_of e))))
     (Some (NoWorker (worker_of e))))
     (below (worker_of e) (length (workers_with turns hs)) (omega (arith, at.within, workers-length turns hs same)))
@@ -135,32 +129,20 @@ is_now_by next floor turns hs e turn same here awaited =
 
 -- the number that was drawn is what isn't settled
 drawn-number : (t : Task) (n : ℕ) → unsettled (drawn t n) ≡ n ∷ []
-drawn-number t n = elim (nat_lt n t.len) as (λ b. unsettled (cond b (Claimed n) (Stopped n)) ≡ n ∷ [])
-    [ true ↦ refl | false ↦ refl ]
+drawn-number t n = search rules
 
 -- an idle worker that takes the next number makes a claim's step
-pub claim_step : (t : Task) (next : ℕ) (floor : Option ℤ) (turns : List Turn) (hs : List Haul) (w : ℕ)
-    → length turns ≡ length hs → slice_get turns w ≡ Some Idle
-    → IsStep t (state_of next floor turns hs) (Claim w)
-    (state_of (next + 1) floor (slice_set turns w (drawn t next)) hs)
-claim_step t next floor turns hs w same here =
+pub claim_step : (t : Task) (next : ℕ) (floor : Option ℤ) (turns : List Turn) (hs : List Haul) (w : ℕ) (x : Turn)
+    → length turns ≡ length hs → slice_get turns w ≡ Some Idle → x ≡ drawn t next
+    → IsStep t (state_of next floor turns hs) (Claim w) (state_of (next + 1) floor (slice_set turns w x) hs)
+claim_step t next floor turns hs w x same here e =
     let at : IsThere turns hs w Idle = there turns hs w Idle same here in
-    let ms : List ℕ = morsels_of (records_of at.haul) in
     record {
       before = worker_with (Idle, at.haul);
-      after = worker_with (drawn t next, at.haul);
+      after = worker_with (x, at.haul);
       here = at.worker;
-      does = record {
-        idle = refl;
-        turn = refl;
-        claims = ap (λ (l : List ℕ). ms ++ l) (drawn-number t next)
-            ∙ ap (λ (l : List ℕ). l ++ next ∷ []) (sym (append-nil ms));
-        records = refl;
-        pool = refl;
-        next = refl;
-        floor = refl;
-      };
-      others = other_turn turns hs w (drawn t next) at.haul at.own;
+      does = grind (arith, drawn-number, append-nil);
+      others = other_turn turns hs w x at.haul at.own;
     }
 
 -- a worker that claimed, and then has the floor beside its morsel, makes a look's step
@@ -174,18 +156,8 @@ look_step t next floor turns hs w m same here =
       before = worker_with (Claimed m, at.haul);
       after = worker_with (Looked m floor, at.haul);
       here = at.worker;
-      does = record {
-        morsel = m;
-        claimed = refl;
-        turn = refl;
-        claims = refl;
-        records = refl;
-        pool = refl;
-        next =
-            refl;
-        floor = refl;
-      };
-      others = other_turn turns hs w (Looked m floor) at.haul at.own;
+      does = search rules;
+      others = grind (arith, other_turn);
     }
 
 -- a worker that looked, and then is idle with one record more, makes a settle's step
@@ -204,18 +176,8 @@ settle_step t next floor floor' turns hs w m seen h h' same here own did raised 
     record {
       before = worker_with (Looked m seen, h);
       after = worker_with (Idle, h');
-      here = at.worker ∙ ap (λ (z : Haul). Some (worker_with (Looked m seen, z))) haul;
-      does = record {
-        morsel = m;
-        seen = seen;
-        looked = refl;
-        turn = refl;
-        claims = append-nil (morsels_of (records_of h')) ∙ ap morsels_of did.records ∙ morsels-push rs r;
-        records = did.records;
-        pool = did.pool;
-        next = refl;
-        floor = raised;
-      };
+      here = cc;
+      does = grind (arith, append-nil, morsels-push);
       others = other_both turns hs w Idle h' same;
     }
 
@@ -225,17 +187,12 @@ settle_step t next floor floor' turns hs w m seen h h' same here own did raised 
 pub some_wanted : (p : Planned) → IsPlan p → 0 < p.query.k
 some_wanted p is = let k = is.asked.k in grind arith
 
--- a plan asks for at most 1000 candidates
-pub few_wanted : (p : Planned) → IsPlan p → p.query.k ≤ 1000
-few_wanted p is = let k = is.asked.k in grind arith
-
 -- what is true of every machine is true after a step, also of one that fails at it
 pub still_running : (m : Running) (e : Event) (s' : State) (failed : Bool) → IsRunning m
     → IsStep (task_of m.plan) m.state e s' → IsRunning
     (record { plan = m.plan; guess = m.guess; state = s'; failed = failed })
 still_running m e s' failed r step =
-    let len : length s'.workers ≡ length m.state.workers = ap length step.others
-    ∙ set-length m.state.workers (worker_of e) step.after in
+    let len : length s'.workers ≡ length m.state.workers = grind (arith, set-length) in
     record {
       plan = r.plan;
       guess = r.guess;
@@ -247,7 +204,7 @@ still_running m e s' failed r step =
 -- whether it has failed makes no difference
 pub running_failed : (m : Running) (failed : Bool) → IsRunning m
     → IsRunning (record { plan = m.plan; guess = m.guess; state = m.state; failed = failed })
-running_failed m failed r = record { plan = r.plan; guess = r.guess; some = r.some; limit = r.limit; sound = r.sound }
+running_failed m failed r = search rules
 
 -- ---- the answers of a machine
 
@@ -255,68 +212,38 @@ running_failed m failed r = record { plan = r.plan; guess = r.guess; some = r.so
 pub no_worker_refused : (m : Running) (next : ℕ) (floor : Option ℤ) (turns : List Turn) (hs : List Haul) (e : Event)
     → m.state ≡ state_of next floor turns hs → m.failed ≡ false → length turns ≡ length hs
     → length turns ≤ worker_of e → Refuses m e (NoWorker (worker_of e)) m
-no_worker_refused m next floor turns hs e is running same far =
-    record {
-      running = running;
-      refused = ap (λ (s : State). refusal s e) is
-          ∙ no_worker next floor turns hs e same far;
-      unchanged = refl;
-    }
+no_worker_refused m next floor turns hs e is running same far = grind (arith, no_worker next floor turns hs e same far)
 
 -- a machine refuses an event that the worker doesn't wait for, and stays as it is
 pub not_now_refused : (m : Running) (next : ℕ) (floor : Option ℤ) (turns : List Turn) (hs : List Haul) (e : Event)
     (turn : Turn) → m.state ≡ state_of next floor turns hs → m.failed ≡ false → length turns ≡ length hs
     → slice_get turns (worker_of e) ≡ Some turn → is_awaited turn e ≡ false → Refuses m e (NotNow (worker_of e)) m
-not_now_refused m next floor turns hs e turn is running same here other =
-    record {
-      running = running;
-      refused = ap (λ (s : State). refusal s e) is
-          ∙ not_now next floor turns hs e turn same here other;
-      unchanged = refl;
-    }
+not_now_refused m next floor turns hs e turn is running same here other = grind
+    (arith, not_now next floor turns hs e turn same here other)
 
 -- an answer that is known to be an error
 pub err_is : {A E : Type 0} (r : Result A E) (e : E) → IsErr r × IsErrAnd r (λ x. x ≡ e) → r ≡ Err e
-err_is (Ok a) e h = let bad : false ≡ true = h.0 in absurd cc
-err_is (Err x) e h = ap (λ z. Err z) h.1
+err_is r e h = grind arith
 
 -- ---- turns that wait for other events
 
 -- a worker that isn't idle doesn't wait for a claim
 pub not_idle : (w : ℕ) (turn : Turn) → (turn ≢ Idle) → is_awaited turn (Claim w) ≡ false
-not_idle w Idle h = absurd (h refl)
-not_idle w (Claimed m) h = refl
-not_idle w (Looked m seen) h = refl
-not_idle w (Stopped n) h = refl
+not_idle w turn h = grind arith
 
 -- a worker that hasn't claimed a morsel doesn't wait for a look
 pub not_claimed : (w : ℕ) (turn : Turn) → ((m : ℕ) → turn ≢ Claimed m) → is_awaited turn (Look w) ≡ false
-not_claimed w Idle h = refl
-not_claimed w (Claimed m) h = absurd (h m refl)
-not_claimed w (Looked m seen) h = refl
-not_claimed w (Stopped n) h = refl
+not_claimed w turn h = grind arith
 
 -- a worker that hasn't looked doesn't wait for a settle
 pub not_looked : (w : ℕ) (turn : Turn) → ((m : ℕ) (seen : Option ℤ) → turn ≢ Looked m seen)
     → is_awaited turn (Settle w) ≡ false
-not_looked w Idle h = refl
-not_looked w (Claimed m) h = refl
-not_looked w (Looked m seen) h = absurd (h m seen refl)
-not_looked w (Stopped n) h = refl
+not_looked w turn h = grind arith
 
 -- the greater floor, where a score is raised only by what isn't passed over
 pub raised_floor : (floor raised : Option ℤ) (r : Record) (p : Pooled) → raised ≡ cond r.skipped None (last_score p)
     → greater_floor floor raised ≡ floor_after floor r p
-raised_floor floor raised r p e = ap (greater_floor floor) e ∙ by_skip r.skipped
-  where
-    none_raised : (f : Option ℤ) → greater_floor f None ≡ f
-    none_raised None = refl
-    none_raised (Some a) = refl
-
-    by_skip : (b : Bool) → greater_floor floor (cond b None (last_score p)) ≡ cond b floor
-        (greater_floor floor (last_score p))
-    by_skip true = none_raised floor
-    by_skip false = refl
+raised_floor floor raised r p e = search rules
 
 -- ---- a haul that settles, or finds no memory
 
@@ -336,7 +263,7 @@ pub settle_made : (t : Task) (next : ℕ) (floor floor' raised : Option ℤ) (tu
 settle_made t next floor floor' raised turns hs w m seen h h' r same here own made did up new =
     let at : IsThere turns hs w (Looked m seen) = there turns hs w (Looked m seen) same here in
     settle_step t next floor floor' turns hs w m seen h h' same here (got hs w h (omega (arith, at.within, same)) own)
-    (subst (λ (q : Record). HasSettled t h q h') made did)
+    (rw made at did)
     (new ∙ raised_floor floor raised r h'.pool up ∙ ap (λ (q : Record). floor_after floor q h'.pool) made)
 
 -- a haul with the same records and pool leaves all workers as they are
@@ -344,34 +271,14 @@ same_workers : (turns : List Turn) (hs : List Haul) (w : ℕ) (h h' : Haul) → 
     → workers_with turns (slice_set hs w h') ≡ workers_with turns hs
 same_workers [] hs w h h' e s = refl
 same_workers (x ∷ xs) [] w h h' e s = refl
-same_workers (x ∷ xs) (y ∷ hs) zero h h' e s =
-    let same : h ≡ y = cc in
-    ap (λ (v : Worker). v ∷ workers_with xs hs)
-    (ap (λ (rs : List Record). record {
-      turn = x;
-      claims = morsels_of rs ++ unsettled x;
-      records = rs;
-      pool =
-          h'.pool;
-    }) s.records ∙ ap (λ (p : Pooled). record {
-      turn = x;
-      claims =
-          morsels_of (records_of h) ++ unsettled x;
-      records = records_of h;
-      pool = p;
-    }) s.pool
-    ∙ ap (λ (z : Haul). worker_with (x, z)) same)
-same_workers (x ∷ xs) (y ∷ hs) (suc w) h h' e s =
-    ap (λ (l : List Worker). worker_with (x, y) ∷ l) (same_workers xs hs w h h' e s)
+same_workers (x ∷ xs) (y ∷ hs) zero h h' e s = cc
+same_workers (x ∷ xs) (y ∷ hs) (suc w) h h' e s = cc (same_workers xs hs w h h' e s)
 
 -- want of memory leaves the state as it was
 pub same_state_of : (next : ℕ) (floor : Option ℤ) (turns : List Turn) (hs : List Haul) (w : ℕ) (turn : Turn)
     (h h' : Haul) → length turns ≡ length hs → slice_get turns w ≡ Some turn → h ≡ get_or hs w h → IsSameHaul h h'
     → state_of next floor turns (slice_set hs w h') ≡ state_of next floor turns hs
-same_state_of next floor turns hs w turn h h' same here own s =
-    let at : IsThere turns hs w turn = there turns hs w turn same here in
-    ap (λ (l : List Worker). record { next = next; floor = floor; workers = l })
-    (same_workers turns hs w h h' (got hs w h (omega (arith, at.within, same)) own) s)
+same_state_of next floor turns hs w turn h h' same here own s = grind (arith, common_steps, there, same_workers, got)
 
 -- ---- the next number is small
 
@@ -379,8 +286,7 @@ same_state_of next floor turns hs w turn h h' same here own s =
 rise_short : (n a : ℕ) (xs : List ℕ) → Rise xs → AllByRecursion (λ x. x < n) xs → AllByRecursion (λ x. a ≤ x) xs
     → length xs ≤ n - a
 rise_short n a [] r h k = omega arith
-rise_short n a (x ∷ xs) r h k = let rest : length xs ≤ n - suc x = rise_short n (suc x) xs r.1 h.1 r.0 in
-    omega (arith, rest, h.0, k.0)
+rise_short n a (x ∷ xs) r h k = grind (arith, rise_short n (suc x) xs r.1 h.1 r.0)
 
 -- no number is below zero
 from_zero : (xs : List ℕ) → AllByRecursion (λ x. 0 ≤ x) xs
@@ -389,10 +295,7 @@ from_zero (x ∷ xs) = (omega arith, from_zero xs)
 
 -- a worker has at most one number that it hasn't settled
 one_open : (turn : Turn) → length (unsettled turn) ≤ 1
-one_open Idle = omega arith
-one_open (Claimed m) = omega arith
-one_open (Looked m seen) = omega arith
-one_open (Stopped n) = omega arith
+one_open turn = grind arith
 
 module _ (t : Task) (guess : Option ℤ) where
   -- what is recorded of a plan's morsels gives no number past the last of them
@@ -408,7 +311,7 @@ module _ (t : Task) (guess : Option ℤ) where
   claims_few w (v ∷ vs) few h =
       let ms : List ℕ = morsels_of v.records in
       let short : length ms ≤ t.len - 0 = rise_short t.len 0 ms
-      (rise_front t guess ms (unsettled v.turn) (subst Rise h.0.settled h.0.rise))
+      (rise_front t guess ms (unsettled v.turn) (rw h.0.settled at h.0.rise))
       (morsels_below v.records h.0.within) (from_zero ms) in
       omega (
         arith,
@@ -422,16 +325,15 @@ module _ (t : Task) (guess : Option ℤ) where
 
   -- so the next number is at most as many for each worker
   next_few : (s : State) → t.len ≤ 1_048_576 → IsSoundState t guess s → s.next ≤ 1_048_577 * length s.workers
-  next_few s few h = omega (
+  next_few s few h = grind (
     arith,
-    length-each_below s.next
-        (flat_map (λ (v : Worker). v.claims) s.workers) h.claims,
+    length-each_below s.next (flat_map (λ (v : Worker). v.claims) s.workers) h.claims,
     claims_few 0 s.workers few h.each,
   )
 
 -- so one can be added to it
 pub next_small : (m : Running) → IsRunning m → m.state.next ≤ 67_108_928
-next_small m r = omega (arith, next_few (task_of m.plan) m.guess m.state (few_morsels m.plan r.plan) r.sound, r.limit)
+next_small m r = grind (arith, next_few, few_morsels)
 
 -- ---- the start
 
@@ -441,21 +343,13 @@ zipped : (k n : ℕ) (hs : List Haul) → length hs ≡ n → AllByRecursion (Is
 zipped k zero [] e h = refl
 zipped k zero (x ∷ hs) e h = absurd (omega (arith, e))
 zipped k (suc n) [] e h = absurd (omega (arith, e))
-zipped k (suc n) (x ∷ hs) e h =
-    let own : worker_with (Idle, x) ≡ new_worker k =
-    ap (λ (rs : List Record). record { turn = Idle; claims = morsels_of rs ++ []; records = rs; pool = x.pool })
-    h.0.records ∙ ap (λ (p : Pooled). record { turn = Idle; claims = []; records = []; pool = p }) h.0.pool in
-    ap (λ (v : Worker). v ∷ workers_with (replicate n Idle) hs) own
-    ∙ ap (λ (l : List Worker). new_worker k ∷ l) (zipped k n hs (omega (arith, e)) h.1)
+zipped k (suc n) (x ∷ hs) e h = cc (zipped k n hs (omega (arith, e)) h.1)
 
 -- idle turns and empty hauls under the guess are the state at the start
 pub start_state : (p : Planned) (guess : Option ℤ) (k workers : ℕ) (turns : List Turn) (hs : List Haul)
     → k ≡ p.query.k → turns ≡ replicate workers Idle → length hs ≡ workers → AllByRecursion (IsEmptyHaul k) hs
     → state_of 0 guess turns hs ≡ started (task_of p) workers guess
-start_state p guess k workers turns hs same idle len empty =
-    ap (λ (l : List Turn). state_of 0 guess l hs) idle
-    ∙ ap (λ (l : List Worker). record { next = 0; floor = guess; workers = l }) (zipped k workers hs len empty)
-    ∙ ap (λ (j : ℕ). record { next = 0; floor = guess; workers = replicate workers (new_worker j) }) same
+start_state p guess k workers turns hs same idle len empty = grind (arith, zipped)
 
 -- so many workers that have done nothing are so many
 replicate-length : {X : Type 0} (n : ℕ) (x : X) → length (replicate n x) ≡ n
@@ -471,7 +365,7 @@ pub start_running : (p : Planned) (guess : Option ℤ) (workers : ℕ) → IsPla
     → workers ≤ 64 → IsRunning (new_run p workers guess)
 start_running p guess workers is ok some few =
     let len : length (replicate workers (new_worker p.query.k)) ≡ workers =
-    replicate-length workers (new_worker p.query.k) in
+    grind (arith, replicate-length) in
     record {
       plan = is;
       guess = ok;
@@ -489,12 +383,11 @@ pub hauls_of : (next : ℕ) (floor : Option ℤ) (turns : List Turn) (hs : List 
 hauls_of next floor [] [] e = tt
 hauls_of next floor [] (h ∷ hs) e = absurd (omega (arith, e))
 hauls_of next floor (x ∷ xs) [] e = absurd (omega (arith, e))
-hauls_of next floor (x ∷ xs) (h ∷ hs) e = ((refl, refl), hauls_of next floor xs hs (omega (arith, e)))
+hauls_of next floor (x ∷ xs) (h ∷ hs) e = grind (arith, hauls_of next floor xs hs (omega (arith, e)))
 
 -- a machine that counts as stopped has all its workers stopped
 both_left : (a b : Bool) → (not a && b) ≡ true → b ≡ true
-both_left true b e = absurd cc
-both_left false b e = e
+both_left a b e = grind arith
 
 -- what the workers of a stopped machine bring home is sound
 pub stopped_sound : (m : Running) (hs : List Haul) → IsRunning m → is_stopped m ≡ true → AreHaulsOf m.state.workers hs

@@ -1,30 +1,23 @@
 -- The records of sound hauls as one list.
-use Rattle.std.proofs.Common.{◌≡◌, ◌≢◌, ℕ, suc, ◌+◌, ◌<◌, ◌≤◌, Bool, true, false, cond, List, [], ◌∷◌, ◌++◌, length}
-use Rattle.std.proofs.Common.{refl, sym, ap, ◌∙◌, subst, append-nil, append_assoc, arith, ℤ, ◌≤ℤ◌, option_to_list, All}
-use Rattle.std.specs.Prelude.{◌==◌, IsSomeAnd}
+use Rattle.std.proofs.Common.{rules, ◌≡◌, ◌≢◌, ℕ, ◌+◌, ◌<◌, ◌≤◌, true, false, List, [], ◌∷◌, ◌++◌, length, refl, sym}
+use Rattle.std.proofs.Common.{ap, ◌∙◌, append-nil, append_assoc, arith, option_to_list}
+use Rattle.std.specs.Prelude.{◌==◌}
 use Rattle.std.specs.List.{flat_map, range_with_len, AllByRecursion}
-use Rattle.std.proofs.lemmas.Bool.{eq-eqb, ne_eqb}
-use Rattle.std.proofs.lemmas.List.Elements.{All-weaker}
 use Rattle.ghcn_fields.specs.Counting.{times_below}
-use Rattle.ghcn_fields.specs.Floor.{IsGuessOrRaised}
 use Rattle.rank_sched.specs.declared.record.Record.{Record}
 use Rattle.rank_sched.specs.declared.haul.Haul.{Haul}
 use Rattle.rank_sched.specs.Task.{Task}
-use Rattle.rank_sched.specs.Exchanges.{Exchange, morsels_of, exchanges, seen_in, raised_in, SeeUpward}
-use Rattle.rank_sched.specs.SoundRun.{Rise, all_exchanges}
+use Rattle.rank_sched.specs.Exchanges.{Exchange, morsels_of, exchanges, SeeUpward}
+use Rattle.rank_sched.specs.SoundRun.{Rise}
 use Rattle.rank_sched.specs.Hauls.{records_of, all_records, exchanges_in, turns_of, IsHaulOf, AreHaulsFrom, records_by}
 use Rattle.rank_sched.specs.Hauls.{turns_by}
 use Rattle.rank_sched.specs.Laws.{SeenIsAtMost, NoHauls, RecordsAreSound}
 use Rattle.rank_sched.proofs.Lists.{each-append, each-weaker}
-use Rattle.rank_sched.proofs.SoundSteps.{known_below}
 use Rattle.rank_sched.proofs.Reached.{all_skips}
 
 -- no floor that was seen is above the floor
 pub seen_at_most : SeenIsAtMost
-seen_at_most t guess s h =
-    let raised : List ℤ = raised_in (all_exchanges t s.workers) in
-    All-weaker (IsGuessOrRaised guess raised) (λ z. IsSomeAnd s.floor (λ f. z ≤ℤ f))
-    (known_below t guess raised s.floor h.floor) (seen_in (all_exchanges t s.workers)) h.seen
+seen_at_most t guess s h = grind arith
 
 -- where there are no morsels, no number is a morsel's
 none_times : (x n : ℕ) → n ≡ 0 → 0 ≡ times_below x n
@@ -43,53 +36,29 @@ no_hauls t = (λ s. some_times t.len (s.once 0), λ e. record { each = tt; once 
 -- a worker's records in two lists are those in the first, and then those in the second
 by-append : (w : ℕ) (xs ys : List Record) → records_by w (xs ++ ys) ≡ records_by w xs ++ records_by w ys
 by-append w [] ys = refl
-by-append w (x ∷ xs) ys = elim (x.worker == w)
-    as (λ b. cond b (x ∷ records_by w (xs ++ ys)) (records_by w (xs ++ ys)) ≡ cond b (x ∷ records_by w xs)
-    (records_by w xs) ++ records_by w ys) [
-      | true ↦ ap (λ (l : List Record). x ∷ l) (by-append w xs ys)
-      | false ↦ by-append w xs ys
-    ]
+by-append w (x ∷ xs) ys = grind (arith, by-append w xs ys)
 
 -- a worker's own records are all its own
 by-own : (w : ℕ) (rs : List Record) → AllByRecursion (λ r. r.worker ≡ w) rs → records_by w rs ≡ rs
 by-own w [] h = refl
-by-own w (r ∷ rs) h = ap (λ (b : Bool). cond b (r ∷ records_by w rs) (records_by w rs)) (eq-eqb r.worker w h.0)
-    ∙ ap (λ (l : List Record). r ∷ l) (by-own w rs h.1)
+by-own w (r ∷ rs) h = grind (arith, by-own w rs h.1)
 
 -- and no other's
 by-other : (w : ℕ) (rs : List Record) → AllByRecursion (λ r. r.worker ≢ w) rs → records_by w rs ≡ []
 by-other w [] h = refl
-by-other w (r ∷ rs) h = ap (λ (b : Bool). cond b (r ∷ records_by w rs) (records_by w rs)) (ne_eqb r.worker w h.0)
-    ∙ by-other w rs h.1
+by-other w (r ∷ rs) h = grind (arith, by-other w rs h.1)
 
 -- the workers of hauls from one number on
 named_from : (t : Task) (w : ℕ) (hs : List Haul) → AreHaulsFrom t w hs
     → AllByRecursion (λ r. (w ≤ r.worker) × (r.worker < w + length hs)) (all_records hs)
 named_from t w [] a = tt
-named_from t w (h ∷ hs) a =
-    let n : ℕ = length hs in
-    each-append (λ r. (w ≤ r.worker) × (r.worker < w + suc n)) (records_of h) (all_records hs)
-    (each-weaker (λ r. r.worker ≡ w) (λ r. (w ≤ r.worker) × (r.worker < w + suc n)) (records_of h)
-    (λ r e. (omega (arith, e), omega (arith, e))) a.0.named)
-    (each-weaker (λ r. (w + 1 ≤ r.worker) × (r.worker < w + 1 + n)) (λ r. (w ≤ r.worker) × (r.worker < w + suc n))
-    (all_records hs) (λ r e. (omega (arith, e.0), omega (arith, e.1))) (named_from t (w + 1) hs a.1))
+named_from t w (h ∷ hs) a = grind (arith, each-append, each-weaker, named_from t (w + 1) hs a.1)
 
 -- the records of the first of some hauls, behind records of smaller workers
 first_own : (t : Task) (w : ℕ) (front : List Record) (h : Haul) (hs : List Haul)
     → AllByRecursion (λ r. r.worker < w) front → IsHaulOf t w h → AreHaulsFrom t (w + 1) hs
     → records_by w (front ++ (records_of h ++ all_records hs)) ≡ records_of h
-first_own t w front h hs low own rest =
-    by-append w front (records_of h ++ all_records hs)
-    ∙ ap (λ (l : List Record). l ++ records_by w (records_of h ++ all_records hs))
-    (by-other w front (each-weaker (λ r. r.worker < w) (λ r. r.worker ≢ w) front
-    (λ r lt e. absurd (omega (arith, lt, e))) low))
-    ∙ by-append w (records_of h) (all_records hs)
-    ∙ ap (λ (l : List Record). l ++ records_by w (all_records hs)) (by-own w (records_of h) own.named)
-    ∙ ap (λ (l : List Record). records_of h ++ l)
-    (by-other w (all_records hs) (each-weaker (λ r. (w + 1 ≤ r.worker) × (r.worker < w + 1 + length hs))
-    (λ r. r.worker ≢ w) (all_records hs) (λ r b e. absurd (omega (arith, b.0, e)))
-    (named_from t (w + 1) hs rest)))
-    ∙ append-nil (records_of h)
+first_own t w front h hs low own rest = search (rules, by-append, by-other, each-weaker, by-own, named_from, append-nil)
 
 -- what holds of no records and of each haul's holds of each worker's
 each_worker : (t : Task) (P : List Record → Type 0) → P [] → (w v : ℕ) (hs : List Haul) → AreHaulsFrom t v hs
@@ -97,17 +66,13 @@ each_worker : (t : Task) (P : List Record → Type 0) → P [] → (w v : ℕ) (
 each_worker t P none w v [] a p = none
 each_worker t P none w v (h ∷ hs) a p =
     elim (v == w) as (λ b. (v == w) ≡ b → P (records_by w (records_of h ++ all_records hs))) [
-      | true ↦ λ e.
-          let same : v ≡ w = grind arith in
-          let own : records_by v (records_of h ++ all_records hs) ≡ records_of h = first_own t v [] h hs tt a.0 a.1 in
-          subst (λ (n : ℕ). P (records_by n (records_of h ++ all_records hs))) same (subst P (sym own) p.0)
+      | true ↦ grind (arith, first_own t v [] h hs tt a.0 a.1)
       | false ↦ λ e.
-          let apart : v ≢ w = λ d. let yes : (v == w) ≡ true = eq-eqb v w d in cc in
+          let apart : v ≢ w = grind arith in
           let other : records_by w (records_of h) ≡ [] =
-          by-other w (records_of h) (each-weaker (λ r. r.worker ≡ v) (λ r. r.worker ≢ w) (records_of h)
-          (λ r f d. apart (sym f ∙ d)) a.0.named) in
-          subst P (sym (by-append w (records_of h) (all_records hs)
-          ∙ ap (λ (l : List Record). l ++ records_by w (all_records hs)) other))
+          grind (arith, by-other, each-weaker) in
+          rw (← sym (by-append w (records_of h) (all_records hs) ∙ ap
+          (λ (l : List Record). l ++ records_by w (all_records hs)) other))
           (each_worker t P none w (v + 1) hs a.1 p.1)
     ] refl
 
@@ -120,15 +85,10 @@ turns_from t w front (h ∷ hs) low a =
     let own : records_by w (front ++ (records_of h ++ all_records hs)) ≡ records_of h =
     first_own t w front h hs low a.0 a.1 in
     let more : AllByRecursion (λ r. r.worker < w + 1) (front ++ records_of h) =
-    each-append (λ r. r.worker < w + 1) front (records_of h)
-    (each-weaker (λ r. r.worker < w) (λ r. r.worker < w + 1) front (λ r lt. omega (arith, lt)) low)
-    (each-weaker (λ r. r.worker ≡ w) (λ r. r.worker < w + 1) (records_of h)
-    (λ r e. omega (arith, e)) a.0.named) in
+    grind (arith, each-append, each-weaker) in
     let rest : flat_map (λ (v : ℕ). exchanges t [] (records_by v (front ++ (records_of h ++ all_records hs))))
     (range_with_len (w + 1) (length hs)) ≡ turns_of t hs =
-    subst (λ (l : List Record). flat_map (λ (v : ℕ). exchanges t [] (records_by v l))
-    (range_with_len (w + 1) (length hs)) ≡ turns_of t hs) (append_assoc front (records_of h) (all_records hs))
-    (turns_from t (w + 1) (front ++ records_of h) hs more a.1) in
+    grind (arith, append_assoc, turns_from t (w + 1) (front ++ records_of h) hs more a.1) in
     ap (λ (l : List Record). exchanges t [] l ++ flat_map
     (λ (v : ℕ). exchanges t [] (records_by v (front ++ (records_of h ++ all_records hs))))
     (range_with_len (w + 1) (length hs))) own
@@ -145,12 +105,11 @@ pub records_sound : RecordsAreSound
 records_sound t guess hs floor s f =
     let turns : turns_by t (length hs) (all_records hs) ≡ turns_of t hs = turns_from t 0 [] hs tt s.each in
     record {
-      named = each-weaker (λ r. (0 ≤ r.worker) × (r.worker < 0 + length hs)) (λ r. r.worker < length hs)
-          (all_records hs) (λ r b. omega (arith, b.1)) (named_from t 0 hs s.each);
+      named = grind (arith, each-weaker, named_from);
       rise = λ w. each_worker t (λ l. Rise (morsels_of l)) tt w 0 hs s.each (each_rises t 0 hs s.each);
       once = s.once;
       skips = all_skips t 0 hs s.each;
       upward = λ w. each_worker t (λ l. SeeUpward (option_to_list guess) (exchanges t [] l)) tt w 0 hs
           s.each f.upward;
-      seen = subst (λ (l : List Exchange). All (IsGuessOrRaised guess (raised_in l)) (seen_in l)) (sym turns) f.seen;
+      seen = search rules;
     }

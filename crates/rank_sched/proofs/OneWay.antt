@@ -1,13 +1,13 @@
 -- With one worker a run that ends stopped has one list of events and one end.
-use Rattle.std.proofs.Common.{◌≡◌, ℕ, zero, suc, Bool, true, false, List, [], ◌∷◌, length, Some, refl, sym, ap, ◌∙◌, subst}
+use Rattle.std.proofs.Common.{◌≡◌, ℕ, zero, suc, Bool, true, false, List, [], ◌∷◌, length, Some, refl, sym, ap, ◌∙◌}
+use Rattle.std.proofs.Common.{subst, arith}
 use Rattle.std.specs.Prelude.{◌&&◌, slice_get}
 use Rattle.std.specs.List.{list_all}
 use Rattle.rank_sched.specs.declared.event.Event.{Event}
-use Rattle.rank_sched.specs.declared.event.Event.TheVariants.{Claim, Look, Settle}
 use Rattle.rank_sched.specs.declared.turn.Turn.{Turn}
-use Rattle.rank_sched.specs.declared.turn.Turn.TheVariants.{Idle, Claimed, Looked, Stopped}
 use Rattle.rank_sched.specs.Task.{Task}
-use Rattle.rank_sched.specs.Machine.{Worker, State, started, worker_of, is_awaited, IsStep, Leads, after, has_stopped, all_stopped}
+use Rattle.rank_sched.specs.Machine.{Worker, State, started, worker_of, is_awaited, IsStep, Leads, after, has_stopped}
+use Rattle.rank_sched.specs.Machine.{all_stopped}
 use Rattle.rank_sched.specs.Answers.{records_in}
 use Rattle.rank_sched.specs.Laws.{OneWorkerEndsOneWay, RecordsAloneAreOne}
 use Rattle.rank_sched.proofs.Machines.{steps_computed, one_worker, does_awaited}
@@ -15,21 +15,15 @@ use Rattle.rank_sched.proofs.MachineSteps.{set-length}
 
 -- a worker that stopped waits for no event
 stopped_waits : (turn : Turn) (e : Event) → has_stopped turn ≡ true → is_awaited turn e ≡ false
-stopped_waits Idle e h = absurd cc
-stopped_waits (Claimed m) e h = absurd cc
-stopped_waits (Looked m seen) e h = absurd cc
-stopped_waits (Stopped n) (Claim w) h = refl
-stopped_waits (Stopped n) (Look w) h = refl
-stopped_waits (Stopped n) (Settle w) h = refl
+stopped_waits turn e h = grind arith
 
--- both of two tests pass
+-- of two tests that pass together the first passes
 left : (a b : Bool) → (a && b) ≡ true → a ≡ true
-left true b h = refl
-left false b h = absurd cc
+left a b h = grind arith
 
+-- and so does the second
 right : (a b : Bool) → (a && b) ≡ true → b ≡ true
-right true b h = h
-right false b h = absurd cc
+right a b h = grind arith
 
 -- each of some workers has stopped, where all have
 stopped_at : (vs : List Worker) (i : ℕ) (v : Worker) → list_all (λ w. has_stopped w.turn) vs ≡ true

@@ -1,25 +1,18 @@
 -- The candidates of a plan are those of the query in another order, so they have the same best.
-use Rattle.std.proofs.Common.{◌≡◌, ℕ, zero, suc, ◌+◌, Bool, true, false, cond, not, List, [], ◌∷◌, ◌++◌, length}
-use Rattle.std.proofs.Common.{length-append, take, map, filter, Option, Some, None, refl, sym, ap, ◌∙◌, subst}
-use Rattle.std.proofs.Common.{append_assoc, arith}
-use Rattle.std.specs.Prelude.{IfOk, Result, Ok, Err, ◌&&◌, ◌==◌, slice_get}
-use Rattle.std.specs.List.{flat_map, filter_map, find, cons_option, range_with_len, AllByRecursion, IsDistinct}
+use Rattle.std.proofs.lemmas.Grind.{common_steps}
+use Rattle.std.proofs.Common.{◌≡◌, ℕ, zero, suc, Bool, true, false, cond, not, List, [], ◌∷◌, ◌++◌, length}
+use Rattle.std.proofs.Common.{length-append, take, map, filter, Option, Some, refl, sym, ap, ◌∙◌, append_assoc, arith}
+use Rattle.std.proofs.Common.{rules}
+use Rattle.std.specs.Prelude.{IfOk, Result, Ok, Err, ◌==◌, slice_get}
+use Rattle.std.specs.List.{flat_map, filter_map, find, range_with_len, AllByRecursion}
 use Rattle.std.specs.Option.{option_map, option_map_or}
-use Rattle.std.specs.Ordering.{int_eq}
-use Rattle.std.specs.Cmp.Lexicographic.{bytes_decides}
-use Rattle.std.proofs.lemmas.Cmp.{int_eq_equiv, nat_list_eq_equiv}
 use Rattle.std.proofs.lemmas.List.Sorted.{IsPermutation-sym}
-use Rattle.std.proofs.lemmas.Map.Keys.{IsDistinct-head, IsDistinct-tail, IsDistinct-cons, IsDistinct-IsPermutation}
+use Rattle.std.proofs.lemmas.Map.Keys.{IsDistinct-IsPermutation}
 use Rattle.ghcn_fields.specs.Sorting.{placed, sorted_by}
-use Rattle.ghcn_files.specs.declared.station.Station.{Station}
-use Rattle.ghcn_files.specs.declared.station.StationId.{StationId}
-use Rattle.ghcn_files.specs.Ids.{same_id}
-use Rattle.ghcn_series.specs.Series.{DayValue, Usable, Contents, IsSeries, series_of, is_series_of}
-use Rattle.ghcn_series.specs.Held.{IsContents}
-use Rattle.rank_query.specs.Asked.{Asked, IsAsked, score_element}
-use Rattle.rank_query.specs.Admits.{admits_station}
+use Rattle.ghcn_series.specs.Series.{DayValue, Usable, Contents}
+use Rattle.rank_query.specs.Asked.{Asked}
 use Rattle.rank_scores.specs.declared.candidate.Candidate.{Candidate}
-use Rattle.rank_scores.specs.Candidates.{Shape, shape, begun, candidate, candidates, admitted}
+use Rattle.rank_scores.specs.Candidates.{candidates, admitted}
 use Rattle.rank_scores.specs.Order.{begin_alike, AreApart, kth_score}
 use Rattle.rank_scores.specs.Morsels.{admitted_series, all_candidates, morsels}
 use Rattle.rank_scores.proofs.QueryCandidates.{all_apart}
@@ -33,33 +26,23 @@ use Rattle.rank_sched.specs.Answers.{IsAnswer, AreBestOfQuery, best_of_plan}
 use Rattle.rank_sched.specs.Plan.{Planned, Morsel, measured, is_drawn_first, planned}
 use Rattle.rank_sched.specs.Task.{task_of, all_of_task}
 use Rattle.rank_sched.specs.Laws.{PlanHasTheBest}
-use Rattle.rank_sched.proofs.Lists.{each-append, each-weaker}
 
 -- ---- the same candidates in another order
 
 -- two parts may change places
 alike_swap : (xs ys zs : List Candidate) → Alike (xs ++ (ys ++ zs)) (ys ++ (xs ++ zs))
-alike_swap xs ys zs =
-    ap in_order (sym (append_assoc xs ys zs)) ∙ alike-left (xs ++ ys) (ys ++ xs) zs (in_order-append_comm xs ys)
-    ∙ ap in_order (append_assoc ys xs zs)
+alike_swap xs ys zs = search (rules, append_assoc, alike-left, in_order-append_comm)
 
 module _ {A : Type 0} (before : A → A → Bool) (f : A → List Candidate) where
   -- placing an element among others changes no more than the order
   alike_placed : (x : A) (ys : List A) → Alike (flat_map f (placed before x ys)) (f x ++ flat_map f ys)
   alike_placed x [] = refl
-  alike_placed x (y ∷ ys) =
-      elim (before x y) as (λ b. Alike (flat_map f (cond b (x ∷ y ∷ ys) (y ∷ placed before x ys)))
-      (f x ++ (f y ++ flat_map f ys))) [
-        | true ↦ refl
-        | false ↦ alike-right (f y) (flat_map f (placed before x ys)) (f x ++ flat_map f ys) (alike_placed x ys)
-            ∙ alike_swap (f y) (f x) (flat_map f ys)
-      ]
+  alike_placed x (y ∷ ys) = grind (arith, alike-right, alike_swap, alike_placed x ys)
 
   -- sorting changes no more than the order
   alike_sorted : (xs : List A) → Alike (flat_map f (sorted_by before xs)) (flat_map f xs)
   alike_sorted [] = refl
-  alike_sorted (x ∷ xs) = alike_placed x (sorted_by before xs)
-      ∙ alike-right (f x) (flat_map f (sorted_by before xs)) (flat_map f xs) (alike_sorted xs)
+  alike_sorted (x ∷ xs) = grind (arith, alike_placed, alike-right, alike_sorted xs)
 
 -- an element behind some others
 get_behind : {A : Type 0} (front : List A) (x : A) (rest : List A)
@@ -72,44 +55,24 @@ by_place : {A : Type 0} (f : A → List Candidate) (front ms : List A)
     → flat_map (λ (m : ℕ). option_map_or f (slice_get (front ++ ms) m) [])
     (range_with_len (length front) (length ms)) ≡ flat_map f ms
 by_place f front [] = refl
-by_place {A} f front (x ∷ ms) =
-    let at : ℕ → List Candidate = λ m. option_map_or f (slice_get (front ++ x ∷ ms) m) [] in
-    let here : at (length front) ≡ f x = ap (λ (o : Option A). option_map_or f o []) (get_behind front x ms) in
-    let one : length (front ++ x ∷ []) ≡ length front + 1 = length-append front (x ∷ []) in
-    let rest : flat_map at (range_with_len (length front + 1) (length ms)) ≡ flat_map f ms =
-    subst (λ (n : ℕ). flat_map at (range_with_len n (length ms)) ≡ flat_map f ms) one
-    (subst (λ (l : List A). flat_map (λ (m : ℕ). option_map_or f (slice_get l m) [])
-    (range_with_len (length (front ++ x ∷ [])) (length ms)) ≡ flat_map f ms) (append_assoc front (x ∷ []) ms)
-    (by_place f (front ++ x ∷ []) ms)) in
-    ap (λ (l : List Candidate). l ++ flat_map at (range_with_len (length front + 1) (length ms))) here
-    ∙ ap (λ (l : List Candidate). f x ++ l) rest
+by_place {A} f front (x ∷ ms) = grind (arith, get_behind, length-append, append_assoc, by_place f (front ++ x ∷ []) ms)
 
 -- the candidates of elements that were changed first, taken in one pass
 flat-map-map : {A B : Type 0} (g : A → B) (f : B → List Candidate) (xs : List A)
     → flat_map f (map g xs) ≡ flat_map (λ x. f (g x)) xs
 flat-map-map g f [] = refl
-flat-map-map g f (x ∷ xs) = ap (λ (l : List Candidate). f (g x) ++ l) (flat-map-map g f xs)
+flat-map-map g f (x ∷ xs) = cc (flat-map-map g f xs)
 
 -- where there is no day, there is no candidate
 none_from : (f : DayValue → Option Candidate) (xs : List DayValue) → not (length xs == 0) ≡ false
     → filter_map f xs ≡ []
-none_from f [] e = refl
-none_from f (x ∷ xs) e = let no : (length (x ∷ xs) == 0) ≡ false = grind arith in
-    absurd (let yes : not (length (x ∷ xs) == 0) ≡ true = ap not no in cc)
+none_from f xs e = grind (arith, common_steps)
 
 -- series without an admitted day have no candidates
 asked_alone : (q : Asked) (ss : List Usable) → flat_map (candidates q)
     (filter (λ s. not (length (admitted q s) == 0)) ss) ≡ flat_map (candidates q) ss
 asked_alone q [] = refl
-asked_alone q (s ∷ ss) =
-    let more : List Usable = filter (λ u. not (length (admitted q u) == 0)) ss in
-    elim (not (length (admitted q s) == 0)) as (λ b. not (length (admitted q s) == 0) ≡ b
-    → flat_map (candidates q) (cond b (s ∷ more) more) ≡ candidates q s ++ flat_map (candidates q) ss) [
-      | true ↦ λ e. ap (λ (l : List Candidate). candidates q s ++ l) (asked_alone q ss)
-      | false ↦ λ e. asked_alone q ss ∙ ap (λ (l : List Candidate). l ++ flat_map (candidates q) ss)
-          (sym (none_from (λ x. option_map (candidate s.id x.0) (begun (shape q.score) (admitted q s) x))
-          (admitted q s) e))
-    ] refl
+asked_alone q (s ∷ ss) = grind (arith, none_from, asked_alone q ss)
 
 -- the candidates of a plan are the query's, in another order
 pub plan_alike : (q : Asked) (c : Contents) → Alike (all_of_task (task_of (planned q c))) (all_candidates q c)
@@ -128,7 +91,7 @@ pub found : {X : Type 0} (P : X → Type 0) (test : X → Bool) (xs : List X) (x
 found P test [] x h e = absurd cc
 found P test (y ∷ ys) x h e = elim (test y) as (λ b. test y ≡ b → cond b (Some y) (find test ys) ≡ Some x
     → P x × (test x ≡ true)) [
-      | true ↦ λ t f. let same : y ≡ x = cc in (subst P same h.0, ap test (sym same) ∙ t)
+      | true ↦ search rules
       | false ↦ λ t f. found P test ys x h.1 f
     ] refl e
 
@@ -136,9 +99,7 @@ found P test (y ∷ ys) x h e = elim (test y) as (λ b. test y ≡ b → cond b 
 
 -- beginning alike is the same both ways
 alike-symm : (a b : Candidate) → begin_alike a b ≡ begin_alike b a
-alike-symm a b =
-    ap (λ (t : Bool). t && int_eq a.first b.first) (nat_list_eq_equiv.symm (a.id.0) (b.id.0))
-    ∙ ap (λ (t : Bool). same_id b.id a.id && t) (int_eq_equiv.symm a.first b.first)
+alike-symm a b = search rules
 
 -- being apart doesn't depend on the order
 pub apart_alike : (xs ys : List Candidate) → Alike xs ys → AreApart ys → AreApart xs
@@ -147,7 +108,7 @@ apart_alike xs ys e a =
     (in_order-permutation ys) a in
     IsDistinct-IsPermutation begin_alike alike-symm (in_order xs) xs
     (IsPermutation-sym xs (in_order xs) (in_order-permutation xs))
-    (subst (λ (l : List Candidate). AreApart l) (sym e) sorted)
+    (rw e sorted)
 
 -- the best of a plan's candidates are the best of the query, and the k-th score is the query's
 pub plan_has_best : PlanHasTheBest
@@ -168,7 +129,7 @@ plan_has_best q c asked right =
 
     kth_same : (k : ℕ) (xs ys : List Candidate) → Alike xs ys → AreApart xs → kth_score k xs ≡ kth_score k ys
     kth_same k xs ys e b = kth_score-kth k xs b ∙ kth_of_order k xs ys e
-        ∙ sym (kth_score-kth k ys (apart_alike ys xs (sym e) b))
+        ∙ sym (grind (arith, kth_score-kth, apart_alike))
 
 -- so the best of an answer are those of the query
 pub best_of_answer : {E : Type 0} (p : Planned) (rs : List Record) (r : Result Answer E) → IfOk r (IsAnswer p rs)

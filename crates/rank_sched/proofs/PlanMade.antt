@@ -1,6 +1,6 @@
 -- The plan of a query is the one list of its morsels in which they are drawn.
-use Rattle.std.proofs.Common.{◌≡◌, ℕ, zero, suc, ◌<◌, ◌≤◌, get_or, Bool, true, false, cond, List, [], ◌∷◌, ◌++◌, length}
-use Rattle.std.proofs.Common.{take, map, filter, Option, Some, None, refl, sym, ap, ◌∙◌, subst, arith, option_to_list}
+use Rattle.std.proofs.Common.{◌≡◌, ℕ, zero, suc, ◌<◌, ◌≤◌, get_or, false, List, [], ◌∷◌, ◌++◌, length, take, map}
+use Rattle.std.proofs.Common.{filter, Option, Some, None, refl, ap, arith, option_to_list, rules}
 use Rattle.std.specs.Prelude.{slice_get}
 use Rattle.std.specs.List.{filter_map, cons_option, AllByRecursion, IsDistinct}
 use Rattle.std.specs.List.Sorted.{IsPermutation, IsSortedBy}
@@ -11,16 +11,15 @@ use Rattle.ghcn_fields.specs.Sorting.{sorted_by}
 use Rattle.ghcn_files.specs.declared.station.Station.{Station}
 use Rattle.ghcn_files.specs.declared.station.StationId.{StationId}
 use Rattle.ghcn_files.specs.Ids.{same_id}
-use Rattle.ghcn_series.specs.Series.{Usable, Contents, series_of, is_series_of}
+use Rattle.ghcn_series.specs.Series.{Usable, Contents, series_of}
 use Rattle.ghcn_series.specs.Held.{IsContents}
 use Rattle.rank_query.specs.Asked.{Asked, score_element}
 use Rattle.rank_query.specs.Admits.{admits_station}
 use Rattle.rank_scores.specs.Morsels.{has_admitted, admitted_series, morsels}
-use Rattle.rank_sched.specs.Plan.{Morsel, Planned, measured, is_drawn_first, planned, AreDrawnInTurn, IsPlanOf, IsPlan}
-use Rattle.rank_sched.specs.Plan.{passing, morsel_at}
+use Rattle.rank_sched.specs.Plan.{Morsel, Planned, measured, is_drawn_first, planned, AreDrawnInTurn, IsPlan, morsel_at}
 use Rattle.rank_sched.specs.Laws.{PlanIsTheOne}
 use Rattle.rank_scores.proofs.QueryCandidates.{id_from_same}
-use Rattle.rank_sched.proofs.Measures.{passes, left_part}
+use Rattle.rank_sched.proofs.Measures.{passes}
 use Rattle.ghcn_fields.proofs.Ordered.{sorted-permutation}
 use Rattle.rank_sched.proofs.PlanOrder.{sorted-in_turn, strictly, sort-in_turn, of_one_station, of_one_station-symm}
 use Rattle.rank_sched.proofs.PlanOrder.{one_order}
@@ -31,7 +30,7 @@ use Rattle.rank_sched.proofs.PlanOrder.{one_order}
 pub map-more : {A B : Type 0} (f : A → B) (xs : List A) (i : ℕ) (b : B) → option_map f (slice_get xs i) ≡ Some b
     → map f (take (suc i) xs) ≡ map f (take i xs) ++ b ∷ []
 map-more f [] i b e = absurd cc
-map-more f (x ∷ xs) zero b e = let same : f x ≡ b = cc in ap (λ y. y ∷ []) same
+map-more f (x ∷ xs) zero b e = cc
 map-more f (x ∷ xs) (suc i) b e = ap (λ l. f x ∷ l) (map-more f xs i b e)
 
 -- what stands at a place of a list that was made of another
@@ -41,28 +40,21 @@ made_at f [] i d lt = absurd (omega arith)
 made_at f (x ∷ xs) zero d lt = refl
 made_at f (x ∷ xs) (suc i) d lt = made_at f xs i d (omega arith)
 
--- equal lists stay equal with an element in front, or with none
-one_more : {B : Type 0} (a : Option B) (xs ys : List B) → xs ≡ ys → cons_option a xs ≡ cons_option a ys
-one_more a xs ys e = ap (cons_option a) e
-
 -- an element in front of two lists is in front of the first
 cons-append : {B : Type 0} (a : Option B) (xs ys : List B) → cons_option a (xs ++ ys) ≡ cons_option a xs ++ ys
-cons-append None xs ys = refl
-cons-append (Some x) xs ys = refl
+cons-append a xs ys = grind arith
 
 -- an element in front of nothing is alone
 cons-alone : {B : Type 0} (a : Option B) → cons_option a [] ≡ option_to_list a
-cons-alone None = refl
-cons-alone (Some x) = refl
+cons-alone a = grind arith
 
 -- one place more of a list adds what is made of the element there, if anything is
 pub kept-more : {A B : Type 0} (f : A → Option B) (xs : List A) (i : ℕ) (o : Option B)
     → option_map f (slice_get xs i) ≡ Some o → filter_map f (take (suc i) xs) ≡ filter_map f
     (take i xs) ++ option_to_list o
 kept-more f [] i o e = absurd cc
-kept-more f (x ∷ xs) zero o e = let same : f x ≡ o = cc in cons-alone (f x) ∙ ap (λ a. option_to_list a) same
-kept-more f (x ∷ xs) (suc i) o e = one_more (f x) _ _ (kept-more f xs i o e)
-    ∙ cons-append (f x) (filter_map f (take i xs)) (option_to_list o)
+kept-more f (x ∷ xs) zero o e = cc (cons-alone (f x))
+kept-more f (x ∷ xs) (suc i) o e = simp (cons-append, kept-more f xs i o e)
 
 -- ---- the morsels by station
 
@@ -71,65 +63,24 @@ module _ (q : Asked) (c : Contents) where
   of_station : Station → Option Usable
   of_station st = series_of c st.id (score_element q.score)
 
-  -- a series in front of others adds its morsel in front of theirs, if the query asks about it
-  one_series : (o : Option Usable) (rest : List Usable)
-      → cons_option (option_map (measured q) (passing (has_admitted q) o))
-      (map (measured q) (filter (has_admitted q) rest)) ≡ map (measured q)
-      (filter (has_admitted q) (cons_option o rest))
-  one_series None rest = refl
-  one_series (Some u) rest = elim (has_admitted q u)
-      as (λ b. cons_option (option_map (measured q) (cond b (Some u) None))
-      (map (measured q) (filter (has_admitted q) rest)) ≡ map (measured q)
-      (cond b (u ∷ filter (has_admitted q) rest) (filter (has_admitted q) rest))) [
-        | true ↦ refl
-        | false ↦ refl
-      ]
-
   -- the morsels station by station are the series that are asked about, with their bounds
   by_station : (sts : List Station) → filter_map (morsel_at q c) sts ≡ map (measured q)
       (filter (has_admitted q) (filter_map of_station (filter (admits_station q) sts)))
   unfolding of_station
   by_station [] = refl
-  by_station (st ∷ sts) =
-      let fs : List Station = filter (admits_station q) sts in
-      elim (admits_station q st) as (λ b. cons_option
-      (option_map (measured q) (cond b (passing (has_admitted q) (series_of c st.id (score_element q.score)))
-      None)) (filter_map (morsel_at q c) sts) ≡ map (measured q)
-      (filter (has_admitted q) (filter_map of_station (cond b (st ∷ fs) fs)))) [
-        | true ↦ one_more (option_map (measured q) (passing (has_admitted q) (of_station st))) _ _ (by_station sts)
-            ∙ one_series (of_station st) (filter_map of_station fs)
-        | false ↦ by_station sts
-      ]
+  by_station (st ∷ sts) = grind (arith, by_station sts)
 
   -- a station's morsel has its ID
   own_id : (st : Station) (m : Morsel) → morsel_at q c st ≡ Some m → m.series.id ≡ st.id
   unfolding of_station
-  own_id st m e = cases (admits_station q st) (of_station st) refl e
-    where
-      cases : (b : Bool) (o : Option Usable) → of_station st ≡ o
-          → option_map (measured q) (cond b (passing (has_admitted q) o) None) ≡ Some m → m.series.id ≡ st.id
-      cases false o f e = absurd cc
-      cases true None f e = absurd cc
-      cases true (Some u) f e = elim (has_admitted q u)
-          as (λ b. option_map (measured q) (cond b (Some u) None) ≡ Some m → m.series.id ≡ st.id) [
-            | true ↦ λ g.
-                let same : measured q u ≡ m = cc in
-                ap (λ (x : Morsel). x.series.id) (sym same) ∙ id_from_same u.id st.id
-                (left_part _ _ (passes (is_series_of st.id (score_element q.score)) c.series u f))
-            | false ↦ λ g. absurd cc
-          ] e
+  own_id st m e = grind (arith, id_from_same, passes)
 
   -- no other station's morsel has an ID
   other_ids : (id : StationId) (sts : List Station)
       → AllByRecursion (λ i. same_id id i ≡ false) (map (λ (x : Station). x.id) sts)
       → AllByRecursion (λ m. same_id id m.series.id ≡ false) (filter_map (morsel_at q c) sts)
   other_ids id [] h = tt
-  other_ids id (st ∷ sts) h = elim (morsel_at q c st)
-      as (λ o. morsel_at q c st ≡ o → AllByRecursion (λ m. same_id id m.series.id ≡ false)
-      (cons_option o (filter_map (morsel_at q c) sts))) [
-        | None ↦ λ e. other_ids id sts h.1
-        | Some m ↦ λ e. (ap (same_id id) (own_id st m e) ∙ h.0, other_ids id sts h.1)
-      ] refl
+  other_ids id (st ∷ sts) h = grind (arith, own_id, other_ids id sts h.1)
 
   -- of no morsels no two are of one station
   no_morsels : IsDistinct of_one_station []
@@ -148,16 +99,14 @@ module _ (q : Asked) (c : Contents) where
       → IsDistinct of_one_station (cons_option o (filter_map (morsel_at q c) sts))) [
         | None ↦ λ e. rest
         | Some m ↦ λ e. IsDistinct-cons of_one_station m (filter_map (morsel_at q c) sts)
-            (subst (λ (i : StationId). AllByRecursion (λ n. same_id i n.series.id ≡ false)
-            (filter_map (morsel_at q c) sts)) (sym (own_id st m e)) others) rest
+            (rw (own_id st m e) others) rest
       ] refl
 
   -- the morsels station by station, and by increasing ID
   pub by_id : IsPermutation (filter_map (morsel_at q c) c.stations) (map (measured q) (morsels q c))
   unfolding of_station
-  by_id = subst (λ (l : List Morsel). IsPermutation l (map (measured q) (morsels q c))) (sym (by_station c.stations))
-      (IsPermutation-map (measured q) (filter (has_admitted q) (admitted_series q c)) (morsels q c)
-      (sorted-permutation _ (filter (has_admitted q) (admitted_series q c))))
+  by_id = rw (by_station c.stations) (IsPermutation-map (measured q) (filter (has_admitted q) (admitted_series q c))
+      (morsels q c) (grind (arith, sorted-permutation)))
 
   -- no two morsels of a query are of one station
   distinct_morsels : IsContents c → IsDistinct of_one_station (map (measured q) (morsels q c))
@@ -177,26 +126,19 @@ module _ (q : Asked) (c : Contents) where
       → map seen xs ≡ filter_map (morsel_at q c) c.stations → IsPermutation xs ys → IsSortedBy (strictly seen) ys
       → map seen ys ≡ sorted_by is_drawn_first (map (measured q) (morsels q c))
   sort-planned seen xs ys right e p up = in_turn-planned right (map seen ys)
-      (subst (λ (l : List Morsel). IsPermutation l (map seen ys)) e (IsPermutation-map seen xs ys p))
+      (rw e at (IsPermutation-map seen xs ys p))
       (sort-in_turn seen ys up)
 
 -- plans with the same parts
 same_plan : (p r : Planned) → p.query ≡ r.query → p.stations ≡ r.stations → p.morsels ≡ r.morsels → p ≡ r
-same_plan p r a b d = λ i. record { query = a i; stations = b i; morsels = d i }
+same_plan p r a b d = search rules
 
 -- the plan is the only one with its properties
 pub plan_is_one : PlanIsTheOne
 plan_is_one q c p right = (
   λ h. same_plan p (planned q c) h.asked h.listed
-      (one_order (map (measured q) (morsels q c)) p.morsels (distinct_morsels q c right) h.morsels_are h.in_turn),
-  λ e. subst (IsPlanOf q c) (sym e) (record {
-    asked = refl;
-    listed = refl;
-    morsels_are =
-        sorted-permutation is_drawn_first (map (measured q) (morsels q c));
-    in_turn =
-        sorted-in_turn (map (measured q) (morsels q c));
-  }),
+      (search (rules, one_order, distinct_morsels)),
+  λ e. rw e (grind (arith, sorted-permutation, sorted-in_turn)),
 )
 
 -- ---- there are no more morsels than stations
@@ -204,10 +146,7 @@ plan_is_one q c p right = (
 -- no more is kept than there was
 kept-length : {A B : Type 0} (f : A → Option B) (xs : List A) → length (filter_map f xs) ≤ length xs
 kept-length f [] = omega arith
-kept-length f (x ∷ xs) = elim (f x) as (λ o. length (cons_option o (filter_map f xs)) ≤ length (x ∷ xs)) [
-  | None ↦ omega (arith, kept-length f xs)
-  | Some y ↦ omega (arith, kept-length f xs)
-]
+kept-length f (x ∷ xs) = grind (arith, kept-length f xs)
 
 -- a plan has no more morsels than there may be stations
 pub few_morsels : (p : Planned) → IsPlan p → length p.morsels ≤ 1_048_576
@@ -218,8 +157,8 @@ few_morsels p is =
     let one = length_permutation (filter_map (morsel_at q is.held) sts) ms (by_id q is.held) in
     let two = length_permutation ms (sorted_by is_drawn_first ms) (sorted-permutation is_drawn_first ms) in
     let all : length p.morsels ≡ length (sorted_by is_drawn_first ms) =
-    ap (λ (r : Planned). length r.morsels) is.plan in
-    omega (arith, one, two, all, kept-length (morsel_at q is.held) sts, is.right.listed.few)
+    cc in
+    omega (arith, kept-length (morsel_at q is.held) sts)
 
 -- the morsels of a plan are of different stations
 pub plan_distinct : (p : Planned) → IsPlan p → IsDistinct of_one_station p.morsels
@@ -228,4 +167,4 @@ plan_distinct p is =
     let sorted : IsDistinct of_one_station (sorted_by is_drawn_first ms) =
     IsDistinct-IsPermutation of_one_station of_one_station-symm ms (sorted_by is_drawn_first ms)
     (sorted-permutation is_drawn_first ms) (distinct_morsels p.query is.held is.right) in
-    subst (λ (r : Planned). IsDistinct of_one_station r.morsels) (sym is.plan) sorted
+    rw is.plan sorted

@@ -1,26 +1,23 @@
 -- Floors that were seen were reached by scanned candidates, or are the guess: so no skip is taken back.
-use Rattle.std.proofs.Common.{◌≡◌, ℕ, ◌+◌, ◌<◌, ◌≤◌, ⊎_elim, Bool, true, false, cond, not, List, [], ◌∷◌, ◌++◌, ℤ, pos}
-use Rattle.std.proofs.Common.{◌-ℤ◌, ◌≤ℤ◌, Option, Some, None, option_to_list, All, refl, sym, ap, ◌∙◌, subst}
-use Rattle.std.proofs.Common.{append_assoc, arith}
-use Rattle.std.specs.Prelude.{◌||◌, ◌&&◌, ◌==◌, nat_lt, int_lt, IfSome, IsSomeAnd, count_by}
+use Rattle.std.proofs.Common.{rules, ◌≡◌, ℕ, ◌+◌, ◌<◌, ◌≤◌, ⊎_elim, true, false, cond, not, List, [], ◌∷◌, ◌++◌, ℤ, pos}
+use Rattle.std.proofs.Common.{◌-ℤ◌, ◌≤ℤ◌, Option, Some, None, option_to_list, All, refl, append_assoc, arith}
+use Rattle.std.proofs.lemmas.Grind.{common_steps}
+use Rattle.std.specs.Prelude.{◌&&◌, int_lt, IfSome, IsSomeAnd, count_by}
 use Rattle.std.specs.List.{AllByRecursion}
 use Rattle.std.proofs.lemmas.Int.{ints}
-use Rattle.std.proofs.lemmas.Bool.{eq-eqb}
-use Rattle.std.proofs.lemmas.List.Sums.{sum_by-cons}
-use Rattle.std.proofs.lemmas.List.Elements.{All-nil, All-cons, All-head, All-append, All-weaker, All-contains}
+use Rattle.std.proofs.lemmas.List.Elements.{All-nil, All-head, All-append, All-weaker, All-contains}
 use Rattle.ghcn_fields.specs.Floor.{IsGuessOrRaised}
 use Rattle.rank_scores.specs.declared.candidate.Candidate.{Candidate}
 use Rattle.rank_scores.specs.Order.{is_below}
 use Rattle.rank_pool.specs.First.{kth, above}
-use Rattle.rank_pool.proofs.Counts.{above-append, above-cons, one_if, below_kth}
+use Rattle.rank_pool.proofs.Counts.{above-append, below_kth}
 use Rattle.rank_sched.specs.declared.record.Record.{Record}
 use Rattle.rank_sched.specs.declared.haul.Haul.{Haul}
 use Rattle.rank_sched.specs.Task.{Task, all_of_task, IsFair}
-use Rattle.rank_sched.specs.Exchanges.{morsels_of, scanned_for, scanned, exchange, exchanges, seen_in, raised_in}
-use Rattle.rank_sched.specs.Exchanges.{IsRightSkip}
+use Rattle.rank_sched.specs.Exchanges.{scanned_for, scanned, exchange, exchanges, seen_in, raised_in, IsRightSkip}
 use Rattle.rank_sched.specs.Hauls.{records_of, all_records, exchanges_in, turns_of, AreHaulsFrom, AreSound}
 use Rattle.rank_sched.specs.Hauls.{AreUnderFloor}
-use Rattle.rank_sched.specs.TakingBack.{known_for, known_before, is_justified, was_skipped, stays}
+use Rattle.rank_sched.specs.TakingBack.{known_before, is_justified, was_skipped, stays}
 use Rattle.rank_sched.specs.Laws.{IsReached, RaisedIsReached, IsLowGuess, NoneIsTakenBack}
 use Rattle.rank_sched.proofs.Lists.{All-left, All-right, each-append, each-weaker, each_both, scanned-append}
 use Rattle.rank_sched.proofs.Lists.{seen_in-append, raised_in-append}
@@ -37,7 +34,7 @@ more_reached t xs ys z le h b lt = omega (arith, le b, h b lt)
 one_reached : (t : Task) (xs : List Candidate) (o : Option ℤ) → ((b : ℤ) → is_below o b ≡ true → t.k ≤ above b xs)
     → All (IsReached t xs) (option_to_list o)
 one_reached t xs None h = All-nil (IsReached t xs)
-one_reached t xs (Some z) h = All-cons (IsReached t xs) z [] h (All-nil (IsReached t xs))
+one_reached t xs (Some z) h = search rules
 
 -- what a turn raised is reached by all that was scanned up to then, and by more
 turn_reached : (t : Task) (before rest : List Candidate) (r : Record) → 0 < t.k
@@ -52,7 +49,6 @@ turn_reached t before rest r some =
           (λ b h. let k : t.k ≤ above b xs = (below_kth t.k b xs some).0 h in
           omega (
             arith,
-            k,
             above-append b before (t.candidates r.morsel),
             above-append b before
                 (t.candidates r.morsel ++ rest),
@@ -68,8 +64,7 @@ worker_reached t before (r ∷ rs) some =
     All-append (IsReached t (before ++ scanned t (r ∷ rs))) (option_to_list (exchange t before r).raised)
     (raised_in (exchanges t (before ++ scanned_for t r) rs))
     (turn_reached t before (scanned t rs) r some)
-    (subst (λ (l : List Candidate). All (IsReached t l) (raised_in (exchanges t (before ++ scanned_for t r) rs)))
-    (append_assoc before (scanned_for t r) (scanned t rs)) (worker_reached t (before ++ scanned_for t r) rs some))
+    (grind (arith, append_assoc, worker_reached t (before ++ scanned_for t r) rs some))
 
 -- a score that was raised is reached by k candidates of scanned morsels
 pub raised_reached : RaisedIsReached
@@ -78,22 +73,12 @@ raised_reached t (h ∷ hs) some =
     let one : List Record = records_of h in
     let rest : List Record = all_records hs in
     let R : ℤ → Type 0 = IsReached t (scanned t (one ++ rest)) in
-    subst (All R) (sym (raised_in-append (exchanges_in t h) (turns_of t hs)))
+    rw (raised_in-append (exchanges_in t h) (turns_of t hs))
     (All-append R (raised_in (exchanges_in t h)) (raised_in (turns_of t hs))
-    (All-weaker (IsReached t (scanned t one)) R (λ z. more_reached t (scanned t one) (scanned t (one ++ rest)) z
-    (λ b. omega (
-      arith,
-      ap (above b) (scanned-append t one rest),
-      above-append b (scanned t one)
-          (scanned t rest),
-    ))) (raised_in (exchanges_in t h)) (worker_reached t [] one some))
-    (All-weaker (IsReached t (scanned t rest)) R (λ z. more_reached t (scanned t rest) (scanned t (one ++ rest)) z
-    (λ b. omega (
-      arith,
-      ap (above b) (scanned-append t one rest),
-      above-append b (scanned t one)
-          (scanned t rest),
-    ))) (raised_in (turns_of t hs)) (raised_reached t hs some)))
+    (grind (arith, common_steps, more_reached, scanned-append, above-append, worker_reached))
+    (All-weaker (IsReached t (scanned t rest)) R
+    (grind (arith, common_steps, more_reached, scanned-append, above-append)) (raised_in (turns_of t hs))
+    (raised_reached t hs some)))
 
 -- ---- each record's floor
 
@@ -120,7 +105,7 @@ module _ (Q : ℤ → Type 0) where
   all_seen_each t [] a = tt
   all_seen_each t (h ∷ hs) a =
       let both : All Q (seen_in (exchanges_in t h) ++ seen_in (turns_of t hs)) =
-      subst (All Q) (seen_in-append (exchanges_in t h) (turns_of t hs)) a in
+      rw (← seen_in-append (exchanges_in t h) (turns_of t hs)) a in
       each-append (λ r. IfSome r.seen Q) (records_of h) (all_records hs)
       (seen_each t [] (records_of h) (All-left Q (seen_in (exchanges_in t h)) (seen_in (turns_of t hs)) both))
       (all_seen_each t hs (All-right Q (seen_in (exchanges_in t h)) (seen_in (turns_of t hs)) both))
@@ -129,84 +114,47 @@ module _ (Q : ℤ → Type 0) where
 pub all_skips : (t : Task) (w : ℕ) (hs : List Haul) → AreHaulsFrom t w hs
     → AllByRecursion (IsRightSkip t) (all_records hs)
 all_skips t w [] a = tt
-all_skips t w (h ∷ hs) a = each-append (IsRightSkip t) (records_of h) (all_records hs) a.0.skips
-    (all_skips t (w + 1) hs a.1)
+all_skips t w (h ∷ hs) a = grind (arith, each-append, all_skips t (w + 1) hs a.1)
 
 -- ---- a skip whose floor is reached by what was scanned stays
 
 -- of what is known before a morsel at least as many score above a number as of what was scanned
 scanned_over : (t : Task) (b : ℤ) (m : ℕ) (rs : List Record) → above b (scanned t rs) ≤ above b (known_before t rs m)
 scanned_over t b m [] = omega arith
-scanned_over t b m (r ∷ rs) =
-    let here : above b (scanned_for t r) ≤ above b (known_for t m r) =
-    elim r.skipped as (λ u. above b (cond u [] (t.candidates r.morsel)) ≤ above b
-    (cond (not u || nat_lt r.morsel m) (t.candidates r.morsel) [])) [
-      | true ↦ omega arith
-      | false ↦ omega arith
-    ] in
-    omega (
-      arith,
-      here,
-      above-append b (scanned_for t r) (scanned t rs),
-      above-append b (known_for t m r)
-          (known_before t rs m),
-      scanned_over t b m rs,
-    )
-
--- k candidates score above a bound that is below a reached floor
-below_seen : (t : Task) (xs : List Candidate) (o : Option ℤ) (b : ℤ) → IfSome o (IsReached t xs) → is_below o b ≡ true
-    → t.k ≤ above b xs
-below_seen t xs None b q h = absurd cc
-below_seen t xs (Some z) b q h = q b h
+scanned_over t b m (r ∷ rs) = grind (arith, common_steps, scanned_over t b m rs)
 
 -- the k-th score of what is known justifies each skip
 justified_one : (t : Task) (rs : List Record) (r : Record) → 0 < t.k → IsRightSkip t r
     → IfSome r.seen (IsReached t (scanned t rs)) → r.skipped ≡ true → is_justified t rs r.morsel ≡ true
 justified_one t rs r some right q e =
     let b : ℤ = t.bound r.morsel in
-    let k : t.k ≤ above b (scanned t rs) = below_seen t (scanned t rs) r.seen b q (sym right ∙ e) in
-    (below_kth t.k b (known_before t rs r.morsel) some).1 (omega (arith, k, scanned_over t b r.morsel rs))
+    let k : t.k ≤ above b (scanned t rs) = grind arith in
+    (below_kth t.k b (known_before t rs r.morsel) some).1 (omega (arith, scanned_over t b r.morsel rs))
 
 -- ---- the guess
 
 -- none of a morsel's candidates scores above its bound
 none_above_bound : (c d : ℤ) (xs : List Candidate) → AllByRecursion (λ x. x.score ≤ℤ d) xs → d ≤ℤ c → above c xs ≡ 0
 none_above_bound c d [] a le = refl
-none_above_bound c d (x ∷ xs) a le =
-    let f : int_lt c x.score ≡ false = grind (arith, ints, a.0) in
-    omega (arith, above-cons c x xs, ap one_if f, none_above_bound c d xs a.1 le)
-
--- a record in front adds the candidates of its morsel
-over-cons : (t : Task) (b : ℤ) (r : Record) (rs : List Record)
-    → over_records t b (r ∷ rs) ≡ over t b r.morsel + over_records t b rs
-over-cons t b r rs = sum_by-cons (over t b) r.morsel (morsels_of rs)
+none_above_bound c d (x ∷ xs) a le = grind (arith, ints, none_above_bound c d xs a.1 le)
 
 -- where the skipped morsels have nothing above c, all that is above c was scanned
 only_scanned : (t : Task) (c : ℤ) (rs : List Record)
     → AllByRecursion (λ r. r.skipped ≡ true → over t c r.morsel ≡ 0) rs → over_records t c rs ≡ above c (scanned t rs)
 only_scanned t c [] a = refl
-only_scanned t c (r ∷ rs) a =
-    let rest : over_records t c rs ≡ above c (scanned t rs) = only_scanned t c rs a.1 in
-    let here : over t c r.morsel ≡ above c (scanned_for t r) =
-    elim r.skipped as (λ u. r.skipped ≡ u → over t c r.morsel ≡ above c (cond u [] (t.candidates r.morsel))) [
-      | true ↦ λ e. a.0 e
-      | false ↦ λ e. refl
-    ] refl in
-    omega (arith, over-cons t c r rs, rest, here, above-append c (scanned_for t r) (scanned t rs))
+only_scanned t c (r ∷ rs) a = grind (arith, common_steps, only_scanned t c rs a.1)
 
 -- a bound below a floor that is at most the guess is below the guess
 under_guess : (g b : ℤ) (o : Option ℤ) → IfSome o (λ s. s ≤ℤ g) → is_below o b ≡ true → b ≤ℤ (g -ℤ pos 1)
-under_guess g b None h e = absurd cc
-under_guess g b (Some s) h e = omega (arith, ints, h, e)
+under_guess g b o h e = grind (arith, ints)
 
 -- what is below the guess is at most the guess less one
 lt_less : (b g : ℤ) → int_lt b g ≡ true → b ≤ℤ (g -ℤ pos 1)
-lt_less b g e = omega (arith, ints, e)
+lt_less b g e = omega (arith, ints)
 
 -- a low guess less one is below the k-th score
 fits_below : (g : ℤ) (o : Option ℤ) → IsSomeAnd o (λ s. g ≤ℤ s) → is_below o (g -ℤ pos 1) ≡ true
-fits_below g None h = absurd h
-fits_below g (Some s) h = grind (arith, ints)
+fits_below g o h = grind (arith, ints)
 
 -- what is below the guess is below a floor that is at least the guess
 lt_le_lt : (b g f : ℤ) → int_lt b g ≡ true → g ≤ℤ f → int_lt b f ≡ true
@@ -218,7 +166,7 @@ same_some g s e = cc
 
 -- of two equal scores each is at most the other
 same_le : (g s : ℤ) → g ≡ s → s ≤ℤ g
-same_le g s e = omega (arith, ints, e)
+same_le g s e = omega (arith, ints)
 
 module _ (t : Task) (g : ℤ) (hs : List Haul) (fair : IsFair t) (s : AreSound t hs)
     (low_guess : IsLowGuess t (Some g)) where
@@ -226,7 +174,7 @@ module _ (t : Task) (g : ℤ) (hs : List Haul) (fair : IsFair t) (s : AreSound t
   skipped_over : (r : Record) → IsRightSkip t r → IfSome r.seen (λ z. z ≤ℤ g) → r.skipped ≡ true
       → over t (g -ℤ pos 1) r.morsel ≡ 0
   skipped_over r right h e = none_above_bound (g -ℤ pos 1) (t.bound r.morsel) (t.candidates r.morsel)
-      (fair.bounded r.morsel) (under_guess g (t.bound r.morsel) r.seen h (sym right ∙ e))
+      (fair.bounded r.morsel) (grind (arith, under_guess))
 
   -- where no score above the guess was seen, all that is at least the guess was scanned
   guess_alone : AllByRecursion (λ r. IfSome r.seen (λ z. z ≤ℤ g)) (all_records hs)
@@ -235,13 +183,10 @@ module _ (t : Task) (g : ℤ) (hs : List Haul) (fair : IsFair t) (s : AreSound t
       let c : ℤ = g -ℤ pos 1 in
       let rs : List Record = all_records hs in
       let none : AllByRecursion (λ r. r.skipped ≡ true → over t c r.morsel ≡ 0) rs =
-      each_both (IsRightSkip t) (λ r. IfSome r.seen (λ z. z ≤ℤ g))
-      (λ r. r.skipped ≡ true → over t c r.morsel ≡ 0) rs skipped_over (all_skips t 0 hs s.each) low in
-      let k : t.k ≤ above c (all_of_task t) = (below_kth t.k c (all_of_task t) fair.some).0
-      (fits_below g (kth t.k (all_of_task t)) low_guess) in
+      grind (arith, each_both, skipped_over, all_skips) in
+      let k : t.k ≤ above c (all_of_task t) = grind (arith, below_kth, fits_below) in
       omega (
         arith,
-        k,
         records_over t c rs s.once,
         only_scanned t c rs none,
         fewer_above b c (scanned t rs)
@@ -257,11 +202,8 @@ module _ (t : Task) (g : ℤ) (hs : List Haul) (fair : IsFair t) (s : AreSound t
       ⊎_elim
       (λ e.
       let here : g ≡ top = same_some g top e in
-      let low : All (λ z. z ≤ℤ g) raised = subst (λ (x : ℤ). All (λ z. z ≤ℤ x) raised)
-      (sym here) f.floor_is.raised_below in
-      guess_alone (all_seen_each (λ z. z ≤ℤ g) t hs (All-weaker (IsGuessOrRaised (Some g) raised) (λ z. z ≤ℤ g)
-      (λ z. ⊎_elim (λ d. same_le g z (same_some g z d)) (λ there. All-contains (λ u. u ≤ℤ g) raised z low there))
-      (seen_in (turns_of t hs)) f.seen)))
+      let low : All (λ z. z ≤ℤ g) raised = search rules in
+      guess_alone (all_seen_each (λ z. z ≤ℤ g) t hs (grind (arith, same_le, same_some))))
       (λ there. λ b e. All-contains (IsReached t (scanned t (all_records hs))) raised top
       (raised_reached t hs fair.some) there b (lt_le_lt b g top e under))
       f.floor_is.one_of_them
@@ -280,37 +222,12 @@ none_counted : (t : Task) (all rs : List Record)
     → AllByRecursion (λ r. r.skipped ≡ true → was_skipped all r.morsel ≡ true) rs
     → count_by (λ r. r.skipped && not (stays t all r.morsel)) rs ≡ 0
 none_counted t all [] a w = refl
-none_counted t all (r ∷ rs) a w =
-    let one : Bool → ℕ = λ u. cond u 1 0 in
-    let here : (r.skipped && not (stays t all r.morsel)) ≡ false =
-    elim r.skipped as (λ u. r.skipped ≡ u → (u && not (stays t all r.morsel)) ≡ false) [
-      | true ↦ λ e. ap (λ (u : Bool). not (u && is_justified t all r.morsel)) (w.0 e) ∙ ap not (a.0 e)
-      | false ↦ λ e. refl
-    ] refl in
-    omega (
-      arith,
-      sum_by-cons (λ (q : Record). one (q.skipped && not (stays t all q.morsel))) r rs,
-      ap one here,
-      none_counted t all rs a.1 w.1,
-    )
-
--- of two tests it is enough that the second passes
-or_right : (a : Bool) → (a || true) ≡ true
-or_right true = refl
-or_right false = refl
+none_counted t all (r ∷ rs) a w = grind (arith, none_counted t all rs a.1 w.1)
 
 -- a record of a skip is one of the skips of its morsel
 own_skip : (all : List Record) → AllByRecursion (λ r. r.skipped ≡ true → was_skipped all r.morsel ≡ true) all
 own_skip [] = tt
-own_skip (r ∷ rs) =
-    let own : (r.morsel == r.morsel) ≡ true = eq-eqb r.morsel r.morsel refl in (
-      λ e. ap (λ (u : Bool). (u && r.skipped) || was_skipped rs r.morsel) own
-          ∙ ap (λ (u : Bool). u || was_skipped rs r.morsel) e,
-      each-weaker (λ q. q.skipped ≡ true → was_skipped rs q.morsel ≡ true)
-          (λ q. q.skipped ≡ true → was_skipped (r ∷ rs) q.morsel ≡ true) rs
-          (λ q f e. ap (λ (u : Bool). ((r.morsel == q.morsel) && r.skipped) || u) (f e)
-          ∙ or_right ((r.morsel == q.morsel) && r.skipped)) (own_skip rs),
-    )
+own_skip (r ∷ rs) = grind (arith, each-weaker, own_skip rs)
 
 -- without a guess, or with one that is at most the k-th score, no skip is taken back
 pub none_back : NoneIsTakenBack
@@ -320,8 +237,6 @@ none_back t guess hs floor fair s f low =
     let raised : List ℤ = raised_in (turns_of t hs) in
     let known : IfSome guess R = guess_reached t guess hs floor fair s f low in
     let each : All R (seen_in (turns_of t hs)) = All-weaker (IsGuessOrRaised guess raised) R
-    (λ z. ⊎_elim (λ e. let it : IfSome (Some z) R = subst (λ (o : Option ℤ). IfSome o R) e known in it)
+    (λ z. ⊎_elim (λ e. let it : IfSome (Some z) R = rw e at known in it)
     (λ there. All-contains R raised z (raised_reached t hs fair.some) there)) (seen_in (turns_of t hs)) f.seen in
-    none_counted t rs rs (each_both (IsRightSkip t) (λ r. IfSome r.seen R)
-    (λ r. r.skipped ≡ true → is_justified t rs r.morsel ≡ true) rs (λ r. justified_one t rs r fair.some)
-    (all_skips t 0 hs s.each) (all_seen_each R t hs each)) (own_skip rs)
+    none_counted t rs rs (search (rules, each_both, justified_one, all_skips, all_seen_each)) (own_skip rs)

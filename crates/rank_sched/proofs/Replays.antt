@@ -1,7 +1,7 @@
 -- A run from a list of events, event by event.
-use Rattle.std.proofs.Common.{ℕ, ◌+◌, ◌<◌, List, [], ◌∷◌, ◌++◌, length, take, get_or, Option, refl, sym, ap, ◌∙◌, subst}
-use Rattle.std.proofs.Common.{ℤ}
-use Rattle.std.proofs.lemmas.List.{take_more}
+use Rattle.std.proofs.Common.{rules, arith, ℕ, ◌+◌, ◌<◌, List, [], ◌∷◌, ◌++◌, length, take, get_or, Option, ap, ◌∙◌}
+use Rattle.std.proofs.Common.{subst, ℤ}
+use Rattle.std.proofs.lemmas.Grind.{common_steps}
 use Rattle.rank_sched.specs.declared.event.Event.{Event}
 use Rattle.rank_sched.specs.Plan.{Planned}
 use Rattle.rank_sched.specs.Task.{Task, task_of}
@@ -11,24 +11,22 @@ use Rattle.rank_sched.specs.Run.{Running, Steps, IsReplayed}
 -- a run goes on by one step at its end
 leads-push : (t : Task) (s mid s' : State) (es : List Event) (e : Event) → Leads t s es mid → IsStep t mid e s'
     → Leads t s (es ++ e ∷ []) s'
-leads-push t s mid s' [] e l step = (s', subst (λ (x : State). IsStep t x e s') l step, refl)
+leads-push t s mid s' [] e l step = search rules
 leads-push t s mid s' (d ∷ es) e l step = (l.0, l.1, leads-push t l.0 mid s' es e l.2 step)
 
 -- one event more
 pub replayed-push : (p : Planned) (workers : ℕ) (guess : Option ℤ) (es : List Event) (e : Event) (m m' : Running)
     → IsReplayed p workers guess es m → Steps m e m' → IsReplayed p workers guess (es ++ e ∷ []) m'
 replayed-push p workers guess es e m m' r s = record {
-  running = ap (λ (x : Running). x.failed) s.kept ∙ r.running;
+  running = cc;
   reached = leads-push (task_of p) (started (task_of p) workers guess) m.state m'.state es e r.reached
       (subst (λ (x : Planned). IsStep (task_of x) m.state e m'.state) r.plan s.step);
   plan = ap (λ (x : Running). x.plan) s.kept ∙ r.plan;
-  guessed = ap (λ (x : Running). x.guess) s.kept ∙ r.guessed;
+  guessed = cc;
 }
 
 -- the event at the next place is accepted
 pub replayed-more : (p : Planned) (workers : ℕ) (guess : Option ℤ) (es : List Event) (i : ℕ) (d : Event)
     (m m' : Running) → i < length es → IsReplayed p workers guess (take i es) m → Steps m (get_or es i d) m'
     → IsReplayed p workers guess (take (i + 1) es) m'
-replayed-more p workers guess es i d m m' lt r s =
-    subst (λ (l : List Event). IsReplayed p workers guess l m') (sym (take_more es i d lt))
-    (replayed-push p workers guess (take i es) (get_or es i d) m m' r s)
+replayed-more p workers guess es i d m m' lt r s = grind (arith, common_steps, replayed-push)

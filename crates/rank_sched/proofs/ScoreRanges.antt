@@ -1,6 +1,6 @@
 -- The score of each candidate can be a floor: it lies from -2^31 to 2^31.
-use Rattle.std.proofs.Common.{◌≡◌, ℕ, zero, suc, ◌*◌, ◌≤◌, Bool, true, false, cond, List, [], ◌∷◌, filter, Option, Some}
-use Rattle.std.proofs.Common.{None, refl, subst, arith, ℤ, pos, neg_ℤ, ◌+ℤ◌, ◌-ℤ◌, ◌≤ℤ◌}
+use Rattle.std.proofs.Common.{rules, ◌≡◌, ℕ, zero, suc, ◌*◌, ◌≤◌, Bool, true, false, cond, List, [], ◌∷◌, filter}
+use Rattle.std.proofs.Common.{Option, Some, None, refl, arith, ℤ, pos, neg_ℤ, ◌+ℤ◌, ◌-ℤ◌, ◌≤ℤ◌}
 use Rattle.std.specs.Prelude.{◌&&◌, ◌||◌, int_le}
 use Rattle.std.specs.List.{list_all, find, filter_map, cons_option, AllByRecursion}
 use Rattle.std.specs.Option.{option_map}
@@ -14,11 +14,11 @@ use Rattle.ghcn_files.specs.Elements.{may_be_negative}
 use Rattle.ghcn_series.specs.Series.{DayValue, Usable, IsSeries, value_on, is_value}
 use Rattle.rank_query.specs.declared.score.Score.{Score}
 use Rattle.rank_query.specs.declared.score.Score.TheVariants.{Highest, Lowest, Sum, Dry, Wet, Hot}
-use Rattle.rank_query.specs.Asked.{Asked, IsAsked, is_score, is_fall}
+use Rattle.rank_query.specs.Asked.{Asked, IsAsked, is_score}
 use Rattle.rank_query.specs.Admits.{admits_day}
-use Rattle.rank_scores.specs.Runs.{run_from, run_len, begins_run, calendar_len}
-use Rattle.rank_scores.specs.Candidates.{Shape, Days, Windows, Spells, shape, plus, window_total, is_dry, is_wet}
-use Rattle.rank_scores.specs.Candidates.{is_hot, is_such, begun, candidate, candidates_among, candidates, admitted}
+use Rattle.rank_scores.specs.Runs.{run_from, run_len}
+use Rattle.rank_scores.specs.Candidates.{Shape, Windows, Spells, shape, plus, window_total, is_dry, is_wet, is_hot}
+use Rattle.rank_scores.specs.Candidates.{begun, candidate, candidates_among, candidates, admitted}
 
 -- ---- values
 
@@ -28,8 +28,7 @@ IsValued x = (neg_ℤ (pos 9998) ≤ℤ x.1) × (x.1 ≤ℤ pos 99_999)
 
 -- of two tests that both pass, each passes
 both : (a b : Bool) → (a && b) ≡ true → (a ≡ true) × (b ≡ true)
-both true b e = (refl, e)
-both false b e = absurd cc
+both a b e = grind arith
 
 -- what a test of two numbers says
 at_most : (a b : ℤ) → int_le a b ≡ true → a ≤ℤ b
@@ -51,11 +50,7 @@ all_valued e (x ∷ xs) h =
 each-filter : {X : Type 0} (P : X → Type 0) (test : X → Bool) (xs : List X) → AllByRecursion P xs
     → AllByRecursion P (filter test xs)
 each-filter P test [] h = tt
-each-filter P test (x ∷ xs) h =
-    elim (test x) as (λ b. AllByRecursion P (cond b (x ∷ filter test xs) (filter test xs))) [
-      | true ↦ (h.0, each-filter P test xs h.1)
-      | false ↦ each-filter P test xs h.1
-    ]
+each-filter P test (x ∷ xs) h = grind (arith, each-filter P test xs h.1)
 
 -- the value of a day is such a value
 value_valued : (days : List DayValue) (d v : ℤ) → AllByRecursion IsValued days → value_on days d ≡ Some v
@@ -64,7 +59,7 @@ value_valued [] d v h e = absurd cc
 value_valued (x ∷ xs) d v h e =
     elim (int_eq x.0 d) as (λ b. option_map (λ (y : DayValue). y.1)
     (cond b (Some x) (find (λ y. int_eq y.0 d) xs)) ≡ Some v → IsValued (d, v)) [
-      | true ↦ λ f. let same : x.1 ≡ v = cc in subst (λ (z : ℤ). IsValued (d, z)) same h.0
+      | true ↦ search rules
       | false ↦ λ f. value_valued xs d v h.1 f
     ] e
 
@@ -72,37 +67,30 @@ value_valued (x ∷ xs) d v h e =
 
 -- the sum of two numbers, if there are both
 sum_of : (a b : Option ℤ) (t : ℤ) → plus a b ≡ Some t → (v : ℤ) × (w : ℤ) × (a ≡ Some v) × (b ≡ Some w) × (t ≡ v +ℤ w)
-sum_of None b t e = absurd cc
-sum_of (Some v) None t e = absurd cc
-sum_of (Some v) (Some w) t e = (v, w, refl, refl, cc)
+sum_of a b t e = grind arith
 
 -- the total of n days is n times a value at most
 total_valued : (days : List DayValue) → AllByRecursion IsValued days → (n : ℕ) (a t : ℤ)
     → window_total days n a ≡ Some t
     → (neg_ℤ (pos (9998 * n)) ≤ℤ t) × (t ≤ℤ pos (99_999 * n))
-total_valued days h zero a t e = let same : pos 0 ≡ t = cc in (omega (arith, ints, same), omega (arith, ints, same))
+total_valued days h zero a t e = search (rules, ints)
 total_valued days h (suc n) a t e =
     let parts = sum_of (value_on days a) (window_total days n (a +ℤ pos 1)) t e in
     let one : IsValued (a, parts.0) = value_valued days a parts.0 h parts.2 in
     let rest = total_valued days h n (a +ℤ pos 1) parts.1 parts.3 in
     let low : neg_ℤ (pos 9998) ≤ℤ parts.0 = one.0 in
     let high : parts.0 ≤ℤ pos 99_999 = one.1 in
-    (omega (arith, ints, low, rest.0, parts.4), omega (arith, ints, high, rest.1, parts.4))
+    (omega (arith, ints), omega (arith, ints))
 
 -- a run is no longer than it was counted
 run_short : (such : ℤ → Bool) (n : ℕ) (a : ℤ) → run_from such n a ≤ n
 unfolding run_from
 run_short such zero a = omega arith
-run_short such (suc n) a =
-    elim (such a) as (λ b. elim b as (λ _. ℕ) [ true ↦ suc (run_from such n (a +ℤ pos 1)) | false ↦ 0 ] ≤ suc n) [
-      | true ↦ omega (arith, run_short such n (a +ℤ pos 1))
-      | false ↦ omega arith
-    ]
+run_short such (suc n) a = grind (arith, run_short such n (a +ℤ pos 1))
 
 -- the length of a run can be a floor
 run_score : (such : ℤ → Bool) (a : ℤ) → IsScore (pos (run_len such a))
-run_score such a = let short : run_from such calendar_len a ≤ 3_652_059 = run_short such calendar_len a in
-    (omega (arith, ints, short), omega (arith, ints, short))
+run_score such a = grind (arith, ints, run_short)
 
 -- ---- candidates
 
@@ -119,7 +107,7 @@ each_begun id sh days (x ∷ xs) h =
     → AllByRecursion (λ c. IsScore c.score) (cons_option (option_map (candidate id x.0) o)
     (filter_map (λ y. option_map (candidate id y.0) (begun sh days y)) xs))) [
       | None ↦ λ e. each_begun id sh days xs h.1
-      | Some found ↦ λ e. (h.0 found e, each_begun id sh days xs h.1)
+      | Some found ↦ grind (arith, each_begun id sh days xs h.1)
     ] refl
 
 -- a fact of each element that follows from another
@@ -129,16 +117,6 @@ each_so P Q [] f h = tt
 each_so P Q (x ∷ xs) f h = (f x h.0, each_so P Q xs f h.1)
 
 module _ (days : List DayValue) (valued : AllByRecursion IsValued days) where
-  -- a single day's
-  highest_right : (x : DayValue) → IsValued x → BeginsRight (Days (λ v. v)) days x
-  highest_right x h e f = let same : x.1 ≡ e.1 = cc in
-      (omega (arith, ints, same, h.0), omega (arith, ints, same, h.1))
-
-  -- a single day's, negated
-  lowest_right : (x : DayValue) → IsValued x → BeginsRight (Days neg_ℤ) days x
-  lowest_right x h e f = let same : neg_ℤ x.1 ≡ e.1 = cc in
-      (omega (arith, ints, same, h.1), omega (arith, ints, same, h.0))
-
   -- a window's
   window_right : (n : ℕ) → n ≤ 366 → (x : DayValue) → IsValued x → BeginsRight (Windows n) days x
   window_right n few x h e f = one (window_total days n x.0) refl f
@@ -149,27 +127,19 @@ module _ (days : List DayValue) (valued : AllByRecursion IsValued days) where
       one (Some t) g k =
           let limits = total_valued days valued n x.0 t g in
           let same : t ≡ e.1 = cc in
-          (omega (arith, ints, same, limits.0, few), omega (arith, ints, same, limits.1, few))
+          (omega (arith, ints), omega (arith, ints))
 
   -- a spell's
   spell_right : (test : ℤ → Bool) (x : DayValue) → IsValued x → BeginsRight (Spells test) days x
-  spell_right test x h e f = begins (begins_run (is_such test days) x.0) (run_len (is_such test days) x.0)
-      (run_score (is_such test days) x.0) f
-    where
-      begins : (b : Bool) (len : ℕ) → IsScore (pos len)
-          → cond b (Some (x.0 +ℤ pos len -ℤ pos 1, pos len)) None ≡ Some e → IsScore e.1
-      begins true len small g = let same : pos len ≡ e.1 = cc in subst IsScore same small
-      begins false len small g = absurd cc
+  spell_right test x h e f = grind (arith, run_score)
 
   -- the candidates among these days, whatever the query asks for
   by_score : (id : StationId) (sc : Score) → is_score sc ≡ true
       → AllByRecursion (λ c. IsScore c.score) (candidates_among id (shape sc) days)
-  by_score id (Highest e) right = each_begun id (Days (λ v. v)) days days
-      (each_so IsValued (BeginsRight (Days (λ v. v)) days) days highest_right valued)
-  by_score id (Lowest e) right = each_begun id (Days neg_ℤ) days days
-      (each_so IsValued (BeginsRight (Days neg_ℤ) days) days lowest_right valued)
+  by_score id (Highest e) right = grind (arith, each_begun, each_so)
+  by_score id (Lowest e) right = grind (arith, each_begun, each_so)
   by_score id (Sum n e) right =
-      let within : is_within 1 366 n ≡ true = (both (is_within 1 366 n) (is_fall e) right).0 in
+      let within : is_within 1 366 n ≡ true = grind arith in
       let few : n ≤ 366 = grind arith in
       each_begun id (Windows n) days days (each_so IsValued (BeginsRight (Windows n) days) days
       (window_right n few) valued)

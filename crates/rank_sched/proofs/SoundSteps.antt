@@ -1,12 +1,11 @@
 -- The state of a run is sound at the start, and each step keeps it so.
-use Rattle.std.proofs.Common.{◌≡◌, ℕ, zero, suc, ◌+◌, ◌<◌, ◌≤◌, ◌⊎◌, ⊎_elim, inl, inr, Bool, true, false, cond, List}
-use Rattle.std.proofs.Common.{[], ◌∷◌, ◌++◌, length, replicate, Option, Some, None, refl, sym, ap, ◌∙◌, subst}
-use Rattle.std.proofs.Common.{append-nil, arith, ℤ, ◌≤ℤ◌, option_to_list, All, Contains}
-use Rattle.std.specs.Prelude.{◌==◌, nat_lt, IfSome, IsSomeAnd, fold, take, int_le}
-use Rattle.std.specs.Int.{int_max}
+use Rattle.std.proofs.Common.{rules, ◌≡◌, ℕ, zero, suc, ◌+◌, ◌<◌, ◌⊎◌, ⊎_elim, inl, inr, true, List, [], ◌∷◌, ◌++◌}
+use Rattle.std.proofs.Common.{length, replicate, Option, Some, None, refl, sym, ◌∙◌, subst, append-nil, arith, ℤ, ◌≤ℤ◌}
+use Rattle.std.proofs.Common.{option_to_list, All, Contains}
+use Rattle.std.proofs.lemmas.Grind.{common_steps, flat_map-append}
+use Rattle.std.specs.Prelude.{IfSome, IsSomeAnd, fold, take}
 use Rattle.std.specs.List.{flat_map, AllByRecursion}
 use Rattle.std.proofs.lemmas.Int.{ints}
-use Rattle.std.proofs.lemmas.Grind.{flat_map-append}
 use Rattle.std.proofs.lemmas.List.Sums.{sum_by-cons}
 use Rattle.std.proofs.lemmas.List.Elements.{All-nil, All-append, All-weaker, All-contains, Contains-append_left}
 use Rattle.std.proofs.lemmas.List.Elements.{Contains-append_right, Contains-append_cases, recursion_from_All}
@@ -14,17 +13,15 @@ use Rattle.ghcn_fields.specs.Counting.{times, times_below, one_if_equal}
 use Rattle.ghcn_fields.specs.Floor.{IsAtLeast, IsGuessOrRaised, IsFloorOf}
 use Rattle.ghcn_fields.specs.CountingLaws.{times_below-suc, all_below}
 use Rattle.rank_scores.specs.declared.candidate.Candidate.{Candidate}
-use Rattle.rank_pool.specs.First.{first, kth}
-use Rattle.rank_pool.specs.Pools.{Pooled, taken, last_score}
+use Rattle.rank_pool.specs.Pools.{taken}
 use Rattle.rank_pool.proofs.Places.{holds-fold, size-fold}
 use Rattle.rank_sched.specs.declared.record.Record.{Record}
 use Rattle.rank_sched.specs.declared.event.Event.{Event}
 use Rattle.rank_sched.specs.declared.event.Event.TheVariants.{Claim, Look, Settle}
 use Rattle.rank_sched.specs.declared.turn.Turn.{Turn}
-use Rattle.rank_sched.specs.declared.turn.Turn.TheVariants.{Idle, Claimed, Looked, Stopped}
+use Rattle.rank_sched.specs.declared.turn.Turn.TheVariants.{Idle, Claimed, Looked}
 use Rattle.rank_sched.specs.Task.{Task}
-use Rattle.rank_sched.specs.Exchanges.{Exchange, morsels_of, pool_of, scanned_for, scanned, exchange, exchanges}
-use Rattle.rank_sched.specs.Exchanges.{seen_in, raised_in, SeeUpward, IsRightSkip}
+use Rattle.rank_sched.specs.Exchanges.{Exchange, pool_of, scanned_for, scanned, exchange, exchanges, seen_in, raised_in}
 use Rattle.rank_sched.specs.Machine.{Worker, State, new_worker, started, drawn, record_of, greater_floor, floor_after}
 use Rattle.rank_sched.specs.Machine.{worker_of, is_awaited, moved, IsStep}
 use Rattle.rank_sched.specs.SoundRun.{unsettled, IsTurnOf, open_exchange, exchanges_of, all_exchanges, IsSoundWorker}
@@ -48,40 +45,22 @@ known_in : (guess : Option ℤ) (old new : List ℤ) → ((x : ℤ) → Contains
     → IsGuessOrRaised guess old x → IsGuessOrRaised guess new x
 known_in guess old new sub x = ⊎_elim (λ g. inl g) (λ c. inr (sub x c))
 
--- what follows for each score is true of the one that is there, if one is
-if_some : (o : Option ℤ) (P Q : ℤ → Type 0) → ((x : ℤ) → P x → Q x) → IfSome o P → IfSome o Q
-if_some None P Q f h = tt
-if_some (Some x) P Q f h = f x h
-
 -- the greater of two floors is at least what the first is at least
 greater_left : (a b : Option ℤ) (s : ℤ) → IsSomeAnd a (λ f. s ≤ℤ f) → IsSomeAnd (greater_floor a b) (λ f. s ≤ℤ f)
 greater_left None b s h = absurd h
 greater_left (Some x) None s h = h
-greater_left (Some x) (Some y) s h = let le : s ≤ℤ int_max x y = grind (arith, ints) in le
+greater_left (Some x) (Some y) s h = search (rules, ints)
 
 -- and at least what the second is at least
 greater_right : (a b : Option ℤ) (s : ℤ) → IsSomeAnd b (λ f. s ≤ℤ f) → IsSomeAnd (greater_floor a b) (λ f. s ≤ℤ f)
 greater_right None b s h = h
 greater_right (Some x) None s h = absurd h
-greater_right (Some x) (Some y) s h = let le : s ≤ℤ int_max x y = grind (arith, ints) in le
-
--- the greater of two scores is one of them
-one_of_two : (x y : ℤ) → (int_max x y ≡ x) ⊎ (int_max x y ≡ y)
-one_of_two x y = elim (int_le x y) as (λ b. int_le x y ≡ b → (int_max x y ≡ x) ⊎ (int_max x y ≡ y)) [
-  | true ↦ λ e. inr (grind (arith, ints))
-  | false ↦ λ e. inl (grind (arith, ints))
-] refl
-
--- and it is one of them
-greater_is : (a b : Option ℤ) (P : ℤ → Type 0) → IfSome a P → IfSome b P → IfSome (greater_floor a b) P
-greater_is None b P h k = k
-greater_is (Some x) None P h k = h
-greater_is (Some x) (Some y) P h k = ⊎_elim (λ e. subst P (sym e) h) (λ e. subst P (sym e) k) (one_of_two x y)
+greater_right (Some x) (Some y) s h = search (rules, ints)
 
 -- a floor is at least its own score
 own_at_least : (z : Option ℤ) (x : ℤ) → z ≡ Some x → IsSomeAnd z (λ f. x ≤ℤ f)
 own_at_least None x e = absurd cc
-own_at_least (Some y) x e = let same : y ≡ x = cc in let le : x ≤ℤ y = omega (arith, ints, same) in le
+own_at_least (Some y) x e = search (rules, ints)
 
 -- one more score is raised, or none
 floor-more : (guess : Option ℤ) (old new : List ℤ) (floor z : Option ℤ) → IsFloorOf guess old floor
@@ -89,11 +68,8 @@ floor-more : (guess : Option ℤ) (old new : List ℤ) (floor z : Option ℤ) �
     → ((x : ℤ) → Contains new x → Contains old x ⊎ Contains (option_to_list z) x)
     → IsFloorOf guess new (greater_floor floor z)
 floor-more guess old new floor z f sub one cases = record {
-  one_of_them = greater_is floor z (IsGuessOrRaised guess new)
-      (if_some floor (IsGuessOrRaised guess old) (IsGuessOrRaised guess new)
-      (known_in guess old new sub) f.one_of_them) (raised_one z one);
-  guess_below = All-weaker (λ s. IsSomeAnd floor (λ y. s ≤ℤ y)) (λ s. IsSomeAnd (greater_floor floor z) (λ y. s ≤ℤ y))
-      (λ s. greater_left floor z s) (option_to_list guess) f.guess_below;
+  one_of_them = grind (arith, known_in);
+  guess_below = grind (arith, greater_left);
   raised_below = all_from (λ s. IsSomeAnd (greater_floor floor z) (λ y. s ≤ℤ y)) new (λ x c. ⊎_elim
       (λ there. greater_left floor z x (All-contains (λ s. IsSomeAnd floor (λ y. s ≤ℤ y)) old x f.raised_below there))
       (λ here. greater_right floor z x (own_at_least z x (only_one z x here)))
@@ -112,52 +88,36 @@ module _ (t : Task) (guess : Option ℤ) where
   replaced : (w : ℕ) (front : List Worker) (v v' : Worker) (behind : List Worker)
       → (IsSoundWorker t guess (w + length front) v → IsSoundWorker t guess (w + length front) v')
       → AreSoundFrom t guess w (front ++ v ∷ behind) → AreSoundFrom t guess w (front ++ v' ∷ behind)
-  replaced w [] v v' behind f h =
-      let same : w + 0 ≡ w = omega arith in
-      (subst (λ n. IsSoundWorker t guess n v') same (f (subst (λ n. IsSoundWorker t guess n v) (sym same) h.0)), h.1)
+  replaced w [] v v' behind f h = search rules
   replaced w (u ∷ us) v v' behind f h =
       let same : w + length (u ∷ us) ≡ w + 1 + length us = omega arith in (
         h.0,
-        replaced (w + 1) us v v' behind (λ k. subst (λ n. IsSoundWorker t guess n v') same
-            (f (subst (λ n. IsSoundWorker t guess n v) (sym same) k))) h.1,
+        replaced (w + 1) us v v' behind (λ k. rw same at (f (subst (λ n. IsSoundWorker t guess n v) (sym same) k))) h.1,
       )
 
   -- the parts of a state's turns
   turns_parts : (front : List Worker) (v : Worker) (behind : List Worker)
       → all_exchanges t (front ++ v ∷ behind) ≡ all_exchanges t front ++ (exchanges_of t v ++ all_exchanges t behind)
-  turns_parts front v behind = flat_map-append (exchanges_of t) front (v ∷ behind)
+  turns_parts front v behind = simp (flat_map-append, front)
 
   -- the scores that a state's workers raised, by parts
   raised_parts : (front : List Worker) (v : Worker) (behind : List Worker)
       → raised_in (all_exchanges t (front ++ v ∷ behind)) ≡ raised_in (all_exchanges t front) ++
       (raised_in (exchanges_of t v) ++ raised_in (all_exchanges t behind))
-  raised_parts front v behind =
-      ap raised_in (turns_parts front v behind) ∙ raised_in-append (all_exchanges t front)
-      (exchanges_of t v ++ all_exchanges t behind)
-      ∙ ap (λ (l : List ℤ). raised_in (all_exchanges t front) ++ l)
-      (raised_in-append (exchanges_of t v) (all_exchanges t behind))
+  raised_parts front v behind = simp (turns_parts, raised_in-append)
 
   -- the floors that a state's workers saw, by parts
   seen_parts : (front : List Worker) (v : Worker) (behind : List Worker)
       → seen_in (all_exchanges t (front ++ v ∷ behind)) ≡ seen_in (all_exchanges t front) ++
       (seen_in (exchanges_of t v) ++ seen_in (all_exchanges t behind))
-  seen_parts front v behind =
-      ap seen_in (turns_parts front v behind) ∙ seen_in-append (all_exchanges t front)
-      (exchanges_of t v ++ all_exchanges t behind)
-      ∙ ap (λ (l : List ℤ). seen_in (all_exchanges t front) ++ l)
-      (seen_in-append (exchanges_of t v) (all_exchanges t behind))
+  seen_parts front v behind = simp (turns_parts, seen_in-append)
 
   -- how often a number was claimed, by parts
   claims_parts : (x : ℕ) (front : List Worker) (v : Worker) (behind : List Worker)
       → times x (flat_map (λ (u : Worker). u.claims) (front ++ v ∷ behind)) ≡ times x
       (flat_map (λ (u : Worker). u.claims) front) +
       (times x v.claims + times x (flat_map (λ (u : Worker). u.claims) behind))
-  claims_parts x front v behind =
-      ap (times x) (flat_map-append (λ (u : Worker). u.claims) front (v ∷ behind))
-      ∙ times-append x (flat_map (λ (u : Worker). u.claims) front)
-      (v.claims ++ flat_map (λ (u : Worker). u.claims) behind)
-      ∙ ap (λ (n : ℕ). times x (flat_map (λ (u : Worker). u.claims) front) + n)
-      (times-append x v.claims (flat_map (λ (u : Worker). u.claims) behind))
+  claims_parts x front v behind = grind (arith, common_steps, flat_map-append, times-append)
 
   -- a state of these words and workers
   words : ℕ → Option ℤ → List Worker → State
@@ -167,20 +127,15 @@ module _ (t : Task) (guess : Option ℤ) where
 
   -- a number that was drawn isn't settled
   unsettled_drawn : (n : ℕ) → unsettled (drawn t n) ≡ n ∷ []
-  unsettled_drawn n = elim (nat_lt n t.len) as (λ b. unsettled (cond b (Claimed n) (Stopped n)) ≡ n ∷ [])
-      [ true ↦ refl | false ↦ refl ]
+  unsettled_drawn n = search rules
 
   -- no floor was seen yet for a number that was drawn
   open_drawn : (n : ℕ) → open_exchange (drawn t n) ≡ []
-  open_drawn n = elim (nat_lt n t.len) as (λ b. open_exchange (cond b (Claimed n) (Stopped n)) ≡ [])
-      [ true ↦ refl | false ↦ refl ]
+  open_drawn n = search rules
 
   -- a worker that drew a number has a morsel, or stops past the last one
   turn_drawn : (n : ℕ) → IsTurnOf t.len (drawn t n)
-  turn_drawn n = elim (nat_lt n t.len) as (λ b. nat_lt n t.len ≡ b → IsTurnOf t.len (cond b (Claimed n) (Stopped n))) [
-    | true ↦ λ e. let lt : n < t.len = grind arith in lt
-    | false ↦ λ e. let le : t.len ≤ n = grind arith in le
-  ] refl
+  turn_drawn n = search rules
 
   -- a worker after it drew a number
   drew : Worker → ℕ → Worker
@@ -189,33 +144,18 @@ module _ (t : Task) (guess : Option ℤ) where
   -- drawing a number adds no turn
   turns_drew : (v : Worker) (n : ℕ) → v.turn ≡ Idle → exchanges_of t (drew v n) ≡ exchanges_of t v
   unfolding drew
-  turns_drew v n e = ap (λ (l : List Exchange). exchanges t [] v.records ++ l) (open_drawn n)
-      ∙ ap (λ (x : Turn). exchanges t [] v.records ++ open_exchange x) (sym e)
+  turns_drew v n e = cc (open_drawn n)
 
   -- a sound worker that draws a number above all its others stays sound
   worker_drew : (w : ℕ) (v : Worker) (n : ℕ) → v.turn ≡ Idle → AllByRecursion (λ y. y < n) v.claims
       → IsSoundWorker t guess w v → IsSoundWorker t guess w (drew v n)
   unfolding drew
-  worker_drew w v n e below h = record {
-    rise = rise-push v.claims n h.rise below;
-    named = h.named;
-    settled =
-        ap (λ (l : List ℕ). l ++ n ∷ []) (h.settled ∙ ap (λ (x : Turn). morsels_of v.records ++ unsettled x) e
-        ∙ append-nil (morsels_of v.records))
-        ∙ ap (λ (l : List ℕ). morsels_of v.records ++ l) (sym (unsettled_drawn n));
-    within = h.within;
-    turn = turn_drawn n;
-    pool = h.pool;
-    skips = h.skips;
-    upward = subst (λ (l : List Exchange). SeeUpward (option_to_list guess) l) (sym (turns_drew v n e)) h.upward;
-  }
+  worker_drew w v n e below h = grind (arith, rise-push, append-nil, unsettled_drawn, turn_drawn, turns_drew)
 
   -- a worker whose turns are the same leaves all turns as they are
   same_turns : (front : List Worker) (v v' : Worker) (behind : List Worker) → exchanges_of t v' ≡ exchanges_of t v
       → all_exchanges t (front ++ v' ∷ behind) ≡ all_exchanges t (front ++ v ∷ behind)
-  same_turns front v v' behind e = turns_parts front v' behind
-      ∙ ap (λ (l : List Exchange). all_exchanges t front ++ (l ++ all_exchanges t behind)) e
-      ∙ sym (turns_parts front v behind)
+  same_turns front v v' behind e = simp (turns_parts, e)
 
   -- a claim keeps the state sound
   claim_keeps : (n : ℕ) (floor : Option ℤ) (front : List Worker) (v : Worker) (behind : List Worker) → v.turn ≡ Idle
@@ -226,16 +166,15 @@ module _ (t : Task) (guess : Option ℤ) where
       let claims : List ℕ = flat_map (λ (u : Worker). u.claims) (front ++ v ∷ behind) in
       let parts : claims ≡ flat_map (λ (u : Worker). u.claims) front ++
       (v.claims ++ flat_map (λ (u : Worker). u.claims) behind) =
-      flat_map-append (λ (u : Worker). u.claims) front (v ∷ behind) in
+      grind (arith, flat_map-append) in
       let all : All (λ y. y < n) claims = all_below n claims h.claims in
       let own : All (λ y. y < n) v.claims = All-left (λ y. y < n) v.claims _
       (All-right (λ y. y < n) (flat_map (λ (u : Worker). u.claims) front) _
-      (subst (All (λ y. y < n)) parts all)) in
+      (rw parts at all)) in
       let turns = same_turns front v (drew v n) behind (turns_drew v n e) in
       record {
         claims = λ x.
-            let one : times x (n ∷ []) ≡ one_if_equal n x = sum_by-cons (λ (y : ℕ). cond (y == x) 1 0) n []
-            ∙ omega arith in
+            let one : times x (n ∷ []) ≡ one_if_equal n x = grind (arith, sum_by-cons) in
             omega (
               arith,
               claims_parts x front (drew v n) behind,
@@ -246,11 +185,9 @@ module _ (t : Task) (guess : Option ℤ) where
               h.claims x,
               times_below-suc x n (n + 1) refl,
             );
-        each = replaced 0 front v (drew v n) behind (worker_drew (0 + length front) v n e
-            (recursion_from_All (λ y. y < n) v.claims own)) h.each;
-        floor = subst (λ (l : List Exchange). IsFloorOf guess (raised_in l) floor) (sym turns) h.floor;
-        seen = subst (λ (l : List Exchange). All (IsGuessOrRaised guess (raised_in l)) (seen_in l))
-            (sym turns) h.seen;
+        each = search (rules, replaced, worker_drew, recursion_from_All);
+        floor = search rules;
+        seen = rw turns h.seen;
       }
 
   -- ---- a look
@@ -265,14 +202,13 @@ module _ (t : Task) (guess : Option ℤ) where
 
   -- a worker that only claimed has no open turn
   turns_claimed : (v : Worker) (m : ℕ) → v.turn ≡ Claimed m → exchanges_of t v ≡ exchanges t [] v.records
-  turns_claimed v m e = ap (λ (x : Turn). exchanges t [] v.records ++ open_exchange x) e
-      ∙ append-nil (exchanges t [] v.records)
+  turns_claimed v m e = grind (arith, append-nil)
 
   -- seeing the floor opens a turn
   turns_saw : (v : Worker) (m : ℕ) (floor : Option ℤ) → v.turn ≡ Claimed m
       → exchanges_of t (saw v m floor) ≡ exchanges_of t v ++ looking floor ∷ []
   unfolding saw looking
-  turns_saw v m floor e = ap (λ (l : List Exchange). l ++ looking floor ∷ []) (sym (turns_claimed v m e))
+  turns_saw v m floor e = cc (turns_claimed v m e)
 
   -- a sound worker that sees a floor of at least the guess, and of all that it saw and raised, stays sound
   worker_saw : (w : ℕ) (v : Worker) (m : ℕ) (floor : Option ℤ) → v.turn ≡ Claimed m
@@ -280,25 +216,12 @@ module _ (t : Task) (guess : Option ℤ) where
       → IsAtLeast floor (raised_in (exchanges_of t v)) → IsSoundWorker t guess w v
       → IsSoundWorker t guess w (saw v m floor)
   unfolding saw looking
-  worker_saw w v m floor e g s r h = record {
-    rise = h.rise;
-    named = h.named;
-    settled = h.settled ∙ ap (λ (x : Turn). morsels_of v.records ++ unsettled x) e;
-    within = h.within;
-    turn = subst (λ (x : Turn). IsTurnOf t.len x) e h.turn;
-    pool = h.pool;
-    skips = h.skips;
-    upward = subst (λ (l : List Exchange). SeeUpward (option_to_list guess) l) (sym (turns_saw v m floor e))
-        (upward-push (option_to_list guess) (exchanges_of t v) (looking floor) h.upward g s r);
-  }
+  worker_saw w v m floor e g s r h = grind (arith, turns_saw, upward-push)
 
   -- a known score is at most the floor
   pub known_below : (raised : List ℤ) (floor : Option ℤ) → IsFloorOf guess raised floor → (x : ℤ)
       → IsGuessOrRaised guess raised x → IsSomeAnd floor (λ f. x ≤ℤ f)
-  known_below raised floor f x = ⊎_elim
-      (λ g. All-contains (λ s. IsSomeAnd floor (λ y. s ≤ℤ y)) (option_to_list guess) x f.guess_below
-      (subst (λ (o : Option ℤ). Contains (option_to_list o) x) (sym g) (one_in x)))
-      (λ c. All-contains (λ s. IsSomeAnd floor (λ y. s ≤ℤ y)) raised x f.raised_below c)
+  known_below raised floor f x = grind (arith, one_in)
 
   -- a look keeps the state sound
   look_keeps : (n : ℕ) (floor : Option ℤ) (front : List Worker) (v : Worker) (behind : List Worker) (m : ℕ)
@@ -311,38 +234,27 @@ module _ (t : Task) (guess : Option ℤ) where
       let F : List Exchange = all_exchanges t front in
       let B : List Exchange = all_exchanges t behind in
       let V : List Exchange = exchanges_of t v in
-      let raised_own : raised_in (exchanges_of t (saw v m floor)) ≡ raised_in V = ap raised_in (turns_saw v m floor e)
-      ∙ raised_in-append V (looking floor ∷ []) ∙ append-nil (raised_in V) in
-      let raised : raised_in after ≡ raised_in before = raised_parts front (saw v m floor) behind
-      ∙ ap (λ (l : List ℤ). raised_in F ++ (l ++ raised_in B)) raised_own ∙ sym (raised_parts front v behind) in
+      let raised_own : raised_in (exchanges_of t (saw v m floor)) ≡ raised_in V = simp
+      (turns_saw, raised_in-append, append-nil) in
+      let raised : raised_in after ≡ raised_in before = grind (arith, raised_parts) in
       let seen_own : seen_in (exchanges_of t (saw v m floor)) ≡ seen_in V ++ option_to_list floor =
-      ap seen_in (turns_saw v m floor e) ∙ seen_in-append V (looking floor ∷ [])
-      ∙ ap (λ (l : List ℤ). seen_in V ++ l) (append-nil (option_to_list floor)) in
+      simp (turns_saw, seen_in-append, append-nil) in
       let seen : seen_in after ≡ seen_in F ++ ((seen_in V ++ option_to_list floor) ++ seen_in B) =
-      seen_parts front (saw v m floor) behind ∙ ap (λ (l : List ℤ). seen_in F ++ (l ++ seen_in B)) seen_own in
+      grind (arith, seen_parts) in
       let K : ℤ → Type 0 = IsGuessOrRaised guess (raised_in before) in
-      let old : All K (seen_in F ++ (seen_in V ++ seen_in B)) = subst (All K) (seen_parts front v behind) h.seen in
+      let old : All K (seen_in F ++ (seen_in V ++ seen_in B)) = grind (arith, seen_parts) in
       let rest : All K (seen_in V ++ seen_in B) = All-right K (seen_in F) (seen_in V ++ seen_in B) old in
       let own : All K (seen_in V) = All-left K (seen_in V) (seen_in B) rest in
-      let low : IsAtLeast floor (seen_in V) = All-weaker K (λ s. IsSomeAnd floor (λ f. s ≤ℤ f))
-      (known_below (raised_in before) floor h.floor) (seen_in V) own in
+      let low : IsAtLeast floor (seen_in V) = grind (arith, known_below) in
       let up : IsAtLeast floor (raised_in V) = at_least_in floor (raised_in before) (raised_in V)
-      (λ x c. subst (λ (l : List ℤ). Contains l x) (sym (raised_parts front v behind))
+      (λ x c. rw (raised_parts front v behind)
       (Contains-append_right (raised_in F) _ x (Contains-append_left (raised_in V) (raised_in B) x c)))
       h.floor.raised_below in
       record {
-        claims = λ x. omega (
-          arith,
-          claims_parts x front
-              (saw v m floor) behind,
-          claims_parts x front v behind,
-          h.claims x,
-        );
-        each = replaced 0 front v (saw v m floor) behind
-            (worker_saw (0 + length front) v m floor e h.floor.guess_below low up) h.each;
-        floor = subst (λ (l : List ℤ). IsFloorOf guess l floor) (sym raised) h.floor;
-        seen = subst (λ (l : List ℤ). All (IsGuessOrRaised guess l) (seen_in after)) (sym raised)
-            (subst (All K) (sym seen)
+        claims = grind (arith, common_steps, claims_parts);
+        each = search (rules, replaced, worker_saw);
+        floor = search rules;
+        seen = rw raised (subst (All K) (sym seen)
             (All-append K (seen_in F) _ (All-left K (seen_in F) _ old)
             (All-append K (seen_in V ++ option_to_list floor) (seen_in B)
             (All-append K (seen_in V) (option_to_list floor) own (one_there K floor h.floor.one_of_them))
@@ -364,15 +276,7 @@ module _ (t : Task) (guess : Option ℤ) where
   -- its pool has the best of all that it scanned, the record's candidates among them
   pool_did : (v : Worker) (r : Record) → v.pool ≡ pool_of t v.records
       → fold taken v.pool (scanned_for t r) ≡ pool_of t (v.records ++ r ∷ [])
-  pool_did v r e =
-      let ys : List Candidate = scanned_for t r in
-      let p : Pooled = fold taken (pool_of t v.records) ys in
-      let size : p.size ≡ t.k = size-fold (pool_of t v.records) ys in
-      let held : p.held ≡ first t.k (scanned t (v.records ++ r ∷ [])) =
-      holds-fold (pool_of t v.records) (scanned t v.records) ys refl
-      ∙ ap (λ (n : ℕ). first n (scanned t v.records ++ ys)) size
-      ∙ ap (first t.k) (sym (scanned-push t v.records r)) in
-      ap (λ (x : Pooled). fold taken x ys) e ∙ (λ i. record { size = size i; held = held i })
+  pool_did v r e = grind (arith, size-fold, holds-fold, scanned-push)
 
   -- the turn that was settled
   done : Worker → Record → Exchange
@@ -382,34 +286,18 @@ module _ (t : Task) (guess : Option ℤ) where
   turns_looked : (v : Worker) (m : ℕ) (seen : Option ℤ) → v.turn ≡ Looked m seen
       → exchanges_of t v ≡ exchanges t [] v.records ++ looking seen ∷ []
   unfolding looking
-  turns_looked v m seen e = ap (λ (x : Turn). exchanges t [] v.records ++ open_exchange x) e
+  turns_looked v m seen e = cc
 
   -- settling closes the open turn
   turns_did : (v : Worker) (r : Record) → exchanges_of t (did v r) ≡ exchanges t [] v.records ++ done v r ∷ []
   unfolding did done
-  turns_did v r = append-nil (exchanges t [] (v.records ++ r ∷ [])) ∙ exchanges-push t [] v.records r
+  turns_did v r = grind (arith, append-nil, exchanges-push)
 
   -- the floor becomes the greater of itself and the score that was raised
   floor_did : (v : Worker) (r : Record) (floor : Option ℤ) → 0 < t.k → v.pool ≡ pool_of t v.records
       → floor_after floor r (fold taken v.pool (scanned_for t r)) ≡ greater_floor floor (done v r).raised
   unfolding done
-  floor_did v r floor some e =
-      elim r.skipped as (λ b. r.skipped ≡ b → cond b floor
-      (greater_floor floor (last_score (fold taken v.pool (scanned_for t r)))) ≡ greater_floor floor
-      (cond b None (kth t.k (scanned t v.records ++ t.candidates r.morsel)))) [
-        | true ↦ λ h. no_more floor
-        | false ↦ λ h.
-            let own : scanned_for t r ≡ t.candidates r.morsel =
-            ap (λ (b : Bool). cond b [] (t.candidates r.morsel)) h in
-            ap (greater_floor floor)
-            (ap (λ (x : Pooled). last_score x) (pool_did v r e)
-            ∙ last_is_kth t.k (scanned t (v.records ++ r ∷ [])) some
-            ∙ ap (kth t.k) (scanned-push t v.records r ∙ ap (λ (l : List Candidate). scanned t v.records ++ l) own))
-      ] refl
-    where
-      no_more : (o : Option ℤ) → o ≡ greater_floor o None
-      no_more None = refl
-      no_more (Some x) = refl
+  floor_did v r floor some e = grind (arith, pool_did, last_is_kth, scanned-push)
 
   -- a sound worker that settles stays sound
   worker_did : (w : ℕ) (v : Worker) (m : ℕ) (seen : Option ℤ) → v.turn ≡ Looked m seen → IsSoundWorker t guess w v
@@ -419,18 +307,13 @@ module _ (t : Task) (guess : Option ℤ) where
       let r : Record = record_of t w m seen in
       record {
         rise = h.rise;
-        named = each-append (λ q. q.worker ≡ w) v.records (r ∷ []) h.named (refl, tt);
-        settled = h.settled ∙ ap (λ (x : Turn). morsels_of v.records ++ unsettled x) e
-            ∙ sym (append-nil _ ∙ morsels-push v.records r);
-        within = each-append (λ q. q.morsel < t.len) v.records (r ∷ []) h.within
-            (subst (λ (x : Turn). IsTurnOf t.len x) e h.turn, tt);
+        named = grind (arith, each-append);
+        settled = grind (arith, append-nil, morsels-push);
+        within = grind (arith, each-append);
         turn = tt;
         pool = pool_did v r h.pool;
-        skips = each-append (IsRightSkip t) v.records (r ∷ []) h.skips (refl, tt);
-        upward = subst (λ (l : List Exchange). SeeUpward (option_to_list guess) l) (sym (turns_did v r))
-            (upward-last (option_to_list guess) (exchanges t [] v.records) (looking seen) (done v r) refl
-            (subst (λ (l : List Exchange). SeeUpward (option_to_list guess) l)
-            (turns_looked v m seen e) h.upward));
+        skips = grind (arith, each-append);
+        upward = grind (arith, turns_did, upward-last, turns_looked);
       }
 
   -- a settle keeps the state sound
@@ -451,21 +334,14 @@ module _ (t : Task) (guess : Option ℤ) where
       let X : List Exchange = exchanges t [] v.records in
       let z : List ℤ = option_to_list (done v r).raised in
       let S : List ℤ = seen_in X ++ option_to_list seen in
-      let raised_old : raised_in before ≡ F ++ (raised_in X ++ B) = raised_parts front v behind
-      ∙ ap (λ (l : List ℤ). F ++ (l ++ B)) (ap raised_in (turns_looked v m seen e)
-      ∙ raised_in-append X (looking seen ∷ []) ∙ append-nil (raised_in X)) in
-      let raised_new : raised_in after ≡ F ++ ((raised_in X ++ z) ++ B) = raised_parts front v' behind
-      ∙ ap (λ (l : List ℤ). F ++ (l ++ B)) (ap raised_in (turns_did v r) ∙ raised_in-append X (done v r ∷ [])
-      ∙ ap (λ (l : List ℤ). raised_in X ++ l) (append-nil z)) in
+      let raised_old : raised_in before ≡ F ++ (raised_in X ++ B) = grind
+      (arith, raised_parts, turns_looked, raised_in-append, append-nil) in
+      let raised_new : raised_in after ≡ F ++ ((raised_in X ++ z) ++ B) = simp
+      (raised_parts, turns_did, raised_in-append, append-nil) in
       let seen_old : seen_in before ≡ seen_in (all_exchanges t front) ++ (S ++ seen_in (all_exchanges t behind)) =
-      seen_parts front v behind ∙ ap (λ (l : List ℤ). seen_in (all_exchanges t front) ++
-      (l ++ seen_in (all_exchanges t behind))) (ap seen_in (turns_looked v m seen e)
-      ∙ seen_in-append X (looking seen ∷ []) ∙ ap (λ (l : List ℤ). seen_in X ++ l)
-      (append-nil (option_to_list seen))) in
+      grind (arith, seen_parts, turns_looked, seen_in-append, append-nil) in
       let seen_new : seen_in after ≡ seen_in (all_exchanges t front) ++ (S ++ seen_in (all_exchanges t behind)) =
-      seen_parts front v' behind ∙ ap (λ (l : List ℤ). seen_in (all_exchanges t front) ++
-      (l ++ seen_in (all_exchanges t behind))) (ap seen_in (turns_did v r) ∙ seen_in-append X (done v r ∷ [])
-      ∙ ap (λ (l : List ℤ). seen_in X ++ l) (append-nil (option_to_list seen))) in
+      simp (seen_parts, turns_did, seen_in-append, append-nil) in
       let Old : List ℤ = F ++ (raised_in X ++ B) in
       let New : List ℤ = F ++ ((raised_in X ++ z) ++ B) in
       let sub : (x : ℤ) → Contains Old x → Contains New x = λ x c.
@@ -487,52 +363,45 @@ module _ (t : Task) (guess : Option ℤ) where
       (Contains-append_cases F ((raised_in X ++ z) ++ B) x c) in
       let grown : IsFloorOf guess New (greater_floor floor (done v r).raised) =
       floor-more guess Old New floor (done v r).raised
-      (subst (λ (l : List ℤ). IsFloorOf guess l floor) raised_old h.floor) sub one cases in
+      (rw raised_old at h.floor) sub one cases in
       record {
-        claims = λ x. omega (arith, claims_parts x front v' behind, claims_parts x front v behind, h.claims x);
-        each = replaced 0 front v v' behind (λ k. let same : 0 + length front ≡ length front = omega arith in
-            subst (λ (w : ℕ). IsSoundWorker t guess w v') (sym same)
-            (worker_did (length front) v m seen e own)) h.each;
-        floor = subst (λ (o : Option ℤ). IsFloorOf guess (raised_in after) o)
-            (sym (floor_did v r floor some own.pool)) (subst
-            (λ (l : List ℤ). IsFloorOf guess l (greater_floor floor (done v r).raised)) (sym raised_new) grown);
-        seen = subst (λ (l : List ℤ). All (IsGuessOrRaised guess l) (seen_in after)) (sym raised_new)
-            (subst (All (IsGuessOrRaised guess New)) (seen_old ∙ sym seen_new)
+        claims = grind (arith, common_steps, claims_parts);
+        each = grind (arith, replaced, worker_did);
+        floor = grind (arith, floor_did v r floor some own.pool);
+        seen = rw raised_new (subst (All (IsGuessOrRaised guess New)) (seen_old ∙ sym seen_new)
             (All-weaker (IsGuessOrRaised guess Old) (IsGuessOrRaised guess New) (known_in guess Old New sub)
-            (seen_in before) (subst (λ (l : List ℤ). All (IsGuessOrRaised guess l) (seen_in before))
-            raised_old h.seen)));
+            (seen_in before) (subst (λ (l : List ℤ). All (IsGuessOrRaised guess l) (seen_in before)) raised_old
+            h.seen)));
       }
 
   -- the worker at a place is sound
   worker_at : (w : ℕ) (front : List Worker) (v : Worker) (behind : List Worker)
       → AreSoundFrom t guess w (front ++ v ∷ behind) → IsSoundWorker t guess (w + length front) v
-  worker_at w [] v behind h = let same : w ≡ w + 0 = omega arith in subst (λ n. IsSoundWorker t guess n v) same h.0
-  worker_at w (u ∷ us) v behind h = let same : w + 1 + length us ≡ w + length (u ∷ us) = omega arith in
-      subst (λ n. IsSoundWorker t guess n v) same (worker_at (w + 1) us v behind h.1)
+  worker_at w [] v behind h = search rules
+  worker_at w (u ∷ us) v behind h = grind (arith, worker_at (w + 1) us v behind h.1)
 
   -- what an event that is awaited does keeps the state sound
   moved_keeps : (s : State) (e : Event) (v : Worker) (turn : Turn) → 0 < t.k → At s.workers (worker_of e) v
       → v.turn ≡ turn → is_awaited turn e ≡ true → IsSoundState t guess s → IsSoundState t guess (moved t s e v turn)
   unfolding words drew saw did
-  moved_keeps s (Claim w) v Idle some a is ok h =
-      subst (λ (l : List Worker). IsSoundState t guess (record { next = s.next + 1; floor = s.floor; workers = l }))
-      (sym (a.put (drew v s.next)))
-      (claim_keeps s.next s.floor a.front v a.behind is
-      (subst (λ (l : List Worker). IsSoundState t guess (record { next = s.next; floor = s.floor; workers = l }))
-      a.parts h))
-  moved_keeps s (Look w) v (Claimed m) some a is ok h =
-      subst (λ (l : List Worker). IsSoundState t guess (record { next = s.next; floor = s.floor; workers = l }))
-      (sym (a.put (saw v m s.floor)))
-      (look_keeps s.next s.floor a.front v a.behind m is
-      (subst (λ (l : List Worker). IsSoundState t guess (record { next = s.next; floor = s.floor; workers = l }))
-      a.parts h))
+  moved_keeps s (Claim w) v Idle some a is ok h = grind (
+    arith,
+    claim_keeps s.next s.floor a.front v a.behind is
+        (subst (λ (l : List Worker). IsSoundState t guess (record { next = s.next; floor = s.floor; workers = l }))
+        a.parts h),
+  )
+  moved_keeps s (Look w) v (Claimed m) some a is ok h = grind (
+    arith,
+    look_keeps s.next s.floor a.front v a.behind m is
+        (subst (λ (l : List Worker). IsSoundState t guess (record { next = s.next; floor = s.floor; workers = l }))
+        a.parts h),
+  )
   moved_keeps s (Settle w) v (Looked m seen) some a is ok h =
       let here : IsSoundState t guess (record { next = s.next; floor = s.floor; workers = a.front ++ v ∷ a.behind }) =
-      subst (λ (l : List Worker). IsSoundState t guess (record { next = s.next; floor = s.floor; workers = l }))
-      a.parts h in
+      search rules in
       let zero_more : 0 + length a.front ≡ length a.front = omega arith in
       let own : IsSoundWorker t guess (length a.front) v =
-      subst (λ (n : ℕ). IsSoundWorker t guess n v) zero_more (worker_at 0 a.front v a.behind here.each) in
+      grind (arith, worker_at) in
       let out : (n : ℕ) → length a.front ≡ n → IsSoundState t guess
       (record {
         next = s.next;
@@ -541,32 +410,9 @@ module _ (t : Task) (guess : Option ℤ) where
         workers =
             a.front ++ did v (record_of t n m seen) ∷ a.behind;
       })
-      = λ n e. subst (λ (x : ℕ). IsSoundState t guess
-      (record {
-        next = s.next;
-        floor = floor_after s.floor (record_of t x m seen)
-            (fold taken v.pool (scanned_for t (record_of t x m seen)));
-        workers =
-            a.front ++ did v (record_of t x m seen) ∷ a.behind;
-      })) e
-      (settle_keeps s.next s.floor a.front v a.behind m seen some is own here) in
-      subst (λ (l : List Worker). IsSoundState t guess
-      (record {
-        next = s.next;
-        floor = floor_after s.floor (record_of t w m seen)
-            (fold taken v.pool (scanned_for t (record_of t w m seen)));
-        workers = l;
-      }))
-      (sym (a.put (did v (record_of t w m seen)))) (out w a.place)
-  moved_keeps s (Claim w) v (Claimed m) some a is ok h = absurd cc
-  moved_keeps s (Claim w) v (Looked m seen) some a is ok h = absurd cc
-  moved_keeps s (Claim w) v (Stopped n) some a is ok h = absurd cc
-  moved_keeps s (Look w) v Idle some a is ok h = absurd cc
-  moved_keeps s (Look w) v (Looked m seen) some a is ok h = absurd cc
-  moved_keeps s (Look w) v (Stopped n) some a is ok h = absurd cc
-  moved_keeps s (Settle w) v Idle some a is ok h = absurd cc
-  moved_keeps s (Settle w) v (Claimed m) some a is ok h = absurd cc
-  moved_keeps s (Settle w) v (Stopped n) some a is ok h = absurd cc
+      = grind (arith, settle_keeps s.next s.floor a.front v a.behind m seen some is own here) in
+      rw (a.put (did v (record_of t w m seen))) (out w a.place)
+  moved_keeps s e v turn some a is ok h = absurd cc
 
   -- each step keeps the state sound
   step_keeps : (s s' : State) (e : Event) → 0 < t.k → IsSoundState t guess s → IsStep t s e s'
@@ -574,7 +420,7 @@ module _ (t : Task) (guess : Option ℤ) where
   step_keeps s s' e some h step =
       let done_so = (steps_computed t s s' e).0 step in
       let a : IsAccepted s e = accepted s e done_so.0 in
-      subst (λ (x : State). IsSoundState t guess x) (sym (done_so.1 ∙ after_here t s e a.worker a.here))
+      rw (← sym (done_so.1 ∙ after_here t s e a.worker a.here))
       (moved_keeps s e a.worker a.worker.turn some (at s.workers (worker_of e) a.worker a.here) refl a.awaited h)
 
   -- ---- the start
@@ -587,20 +433,7 @@ module _ (t : Task) (guess : Option ℤ) where
   -- workers that have done nothing are sound
   new_from : (w n : ℕ) → AreSoundFrom t guess w (replicate n (new_worker t.k))
   new_from w zero = tt
-  new_from w (suc n) = (
-    record {
-      rise = tt;
-      named = tt;
-      settled = refl;
-      within = tt;
-      turn = tt;
-      pool =
-          ap (λ (l : List Candidate). record { size = t.k; held = l }) (sym (take_none t.k));
-      skips = tt;
-      upward = tt;
-    },
-    new_from (w + 1) n,
-  )
+  new_from w (suc n) = grind (arith, take_none, new_from (w + 1) n)
 
   -- they have drawn no numbers
   no_claims : (n : ℕ) → flat_map (λ (u : Worker). u.claims) (replicate n (new_worker t.k)) ≡ []
@@ -620,27 +453,16 @@ module _ (t : Task) (guess : Option ℤ) where
   -- a floor that is the guess is at least the guess
   above_itself : (o : Option ℤ) → IsAtLeast o (option_to_list o)
   above_itself None = All-nil _
-  above_itself (Some x) = let le : x ≤ℤ x = omega (arith, ints) in one_there (λ s. s ≤ℤ x) (Some x) le
+  above_itself (Some x) = grind (arith, ints, one_there)
 
   -- where the next number is the first, none was drawn
   none_times : (x : ℕ) → times x [] ≡ times_below x 0
-  none_times x = let no : nat_lt x 0 ≡ false = grind arith in sym (ap (λ (b : Bool). cond b 1 0) no)
+  none_times x = search rules
 
   -- the start is sound
   start_sound : (workers : ℕ) → IsSoundState t guess (started t workers guess)
-  start_sound workers = record {
-    claims = λ x. ap (times x) (no_claims workers) ∙ none_times x;
-    each = new_from 0 workers;
-    floor = subst (λ (l : List Exchange). IsFloorOf guess (raised_in l) guess) (sym (no_turns workers))
-        (record { one_of_them = itself guess; guess_below = above_itself guess; raised_below = All-nil _ });
-    seen = subst (λ (l : List Exchange). All (IsGuessOrRaised guess (raised_in l)) (seen_in l))
-        (sym (no_turns workers)) (All-nil _);
-  }
+  start_sound workers = grind (arith, no_claims, none_times, new_from, no_turns, itself, above_itself)
 
 -- the start is sound, and a step keeps it so
 pub runs_sound : RunsAreSound
-runs_sound = (
-  λ t workers guess. start_sound t guess workers,
-  λ t guess s s' e some h step. step_keeps t guess s s' e
-      some h step,
-)
+runs_sound = search (rules, start_sound, step_keeps)

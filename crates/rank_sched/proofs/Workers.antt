@@ -1,5 +1,5 @@
 -- The workers of a machine, by their turns and hauls.
-use Rattle.std.proofs.Common.{◌≡◌, Bool, true, false, List, [], ◌∷◌, length, refl, ap, arith}
+use Rattle.std.proofs.Common.{◌≡◌, Bool, false, List, [], ◌∷◌, length, refl, arith}
 use Rattle.std.specs.Prelude.{◌&&◌, not, map, zip}
 use Rattle.std.specs.List.{list_all}
 use Rattle.rank_sched.specs.declared.turn.Turn.{Turn}
@@ -11,10 +11,9 @@ use Rattle.rank_sched.specs.Run.{worker_with}
 pub turns_stopped : (turns : List Turn) (hauls : List Haul) → length turns ≡ length hauls
     → list_all has_stopped turns ≡ list_all (λ v. has_stopped v.turn) (map worker_with (zip turns hauls))
 turns_stopped [] hs e = refl
-turns_stopped (t ∷ ts) [] e = absurd (omega (arith, e))
-turns_stopped (t ∷ ts) (h ∷ hs) e = ap (λ (b : Bool). has_stopped t && b) (turns_stopped ts hs (omega (arith, e)))
+turns_stopped (t ∷ ts) [] e = absurd (omega arith)
+turns_stopped (t ∷ ts) (h ∷ hs) e = cc (turns_stopped ts hs (omega arith))
 
 -- a machine that didn't fail has stopped where its workers have
 pub not_failed : (failed stopped : Bool) → failed ≡ false → stopped ≡ (not failed && stopped)
-not_failed false stopped e = refl
-not_failed true stopped e = absurd cc
+not_failed failed stopped e = cc

@@ -5,9 +5,10 @@ use Rattle.rank_scores.specs.Morsels.{morsels, kth_of_query}
 use Rattle.rank_scores.specs.declared.candidate.Candidate.{Candidate}
 use Rattle.rank_papers.specs.Certificate.{Entry}
 use Rattle.rank_papers.specs.CertificateLines.{certified_in}
+use Rattle.rank_head.specs.HeadTests.{same_query, same_score}
 use Rattle.rank_check.specs.declared.survey.Top.{Top}
 use Rattle.rank_check.specs.Survey.{top, candidates_of}
-use Rattle.rank_check.specs.Tests.{same_query, same_score, length_test, tests_of_lines}
+use Rattle.rank_check.specs.Tests.{length_test, tests_of_lines}
 use Rattle.rank_check.proofs.Judging.{certificate_decided}
 use Rattle.rank_check.proofs.judge.certificate_fault.Goals as goal
 

@@ -6,8 +6,9 @@ use Rattle.rank_papers.specs.Certificate.{kth_of_best}
 use Rattle.rank_papers.specs.declared.paper.Row.{Row}
 use Rattle.rank_papers.specs.ReportLines.{named_in, reported_in}
 use Rattle.rank_papers.specs.CertificateLines.{certified_in}
+use Rattle.rank_head.specs.HeadTests.{of_rows}
 use Rattle.rank_check.specs.Survey.{candidates_of}
-use Rattle.rank_check.specs.Tests.{of_rows, or_accepted, report_tests, certificate_tests}
+use Rattle.rank_check.specs.Tests.{or_accepted, report_tests, certificate_tests}
 use Rattle.rank_check.proofs.Failing.{behind_none, before_some}
 use Rattle.rank_check.proofs.KthScores.{candidates_named, kth_known}
 use Rattle.rank_check.proofs.judge.judge.Goals as goal

@@ -6,7 +6,8 @@ use Rattle.rank_merge.proofs.gathering.gather.Goals as goal
 pub returns-in_err-papers-clause-err : goal.returns-in_err-papers-clause-err
 returns-in_err-papers-clause-err c =
     let told = refused_at c.args.query.now (λ p. (p.0.now, p.1.now)) c.args.parts.now c.loop-place.place _
-    c.loop-place-test.true c.loop-place.all c.in_err-papers.field-0.0 c.loop-place.invariant c.in_err-papers.ensures.err in
+    c.loop-place-test.true c.loop-place.all c.in_err-papers.field-0.0 c.loop-place.invariant
+    c.in_err-papers.ensures.err in
     search (rules, told)
 
 -- one part more

@@ -1,39 +1,39 @@
-use Rattle.std.proofs.Common.{drop, ap, sym, ◌∙◌, rules, tests}
+use Rattle.std.proofs.Common.{◌≡◌, drop, ap, sym, ◌∙◌, rules, tests}
 use Rattle.std.specs.Option.{option_map}
 use Rattle.std.proofs.lemmas.Iterator.{YieldsList-from_slice, YieldsList-from_zip}
 use Rattle.std.proofs.lemmas.Iterator.Consumers.{YieldsList-at}
 use Rattle.std.proofs.lemmas.Iterator.Search.{find_from_yields_List}
-use Rattle.ghcn_files.specs.Ids.{same_id}
 use Rattle.rank_papers.specs.Certificate.{Entry}
 use Rattle.rank_head.proofs.FirstPlaces.{behind_first}
-use Rattle.rank_merge.proofs.TwiceInOrder.{twice_found}
+use Rattle.rank_merge.specs.Merging.{twice}
+use Rattle.rank_merge.proofs.Orders.{IsTwice, twice_found}
+use Rattle.rank_merge.proofs.lines.twice.Goals.{After-find}
 use Rattle.rank_merge.proofs.lines.twice.Goals as goal
+
+-- the ID of what the search finds is that which stands twice
+found : (c : After-find)
+    → option_map (λ (two : Entry × Entry). two.0.id) (option_map (λ p. (p.0.now, p.1.now)) c.find.result)
+    ≡ twice c.args.lines.now
+found c =
+    let lines = c.args.lines.now in
+    let road = YieldsList-from_zip
+    (YieldsList-at c.zip-pairs.ensures.first (YieldsList-from_slice c.args.lines.now c.iter.ensures.rest))
+    (YieldsList-at c.zip-pairs.ensures.second (YieldsList-from_slice (drop 1 c.args.lines.now)
+    (c.iter-2.ensures.rest ∙ behind_first c.args.lines.now))) in
+    twice_found lines _ c.requires (find_from_yields_List IsTwice c.find.new.self _ c.find.result
+    c.find.ensures.ran road (λ x b q k. search (rules, tests)))
 
 -- none stands twice
 pub returns-in_err-line : goal.returns-in_err-line
 returns-in_err-line c =
-    let lines = c.args.lines.now in
-    let road = YieldsList-from_zip
-    (YieldsList-at c.zip-pairs.ensures.first (YieldsList-from_slice c.args.lines.now c.iter.ensures.rest))
-    (YieldsList-at c.zip-pairs.ensures.second (YieldsList-from_slice (drop 1 c.args.lines.now)
-    (c.iter-2.ensures.rest ∙ behind_first c.args.lines.now))) in
-    let found = find_from_yields_List (λ (two : Entry × Entry). same_id two.0.id two.1.id) c.find.new.self _ c.find.result
-    c.find.ensures.ran road (λ x b q k. search (rules, tests)) in
     c.from_residual.ensures
     ∙ ap (λ r. option_map (λ (two : Entry × Entry). two.0.id) (option_map (λ p. (p.0.now, p.1.now)) r))
     (sym c.in_err-line.was)
-    ∙ twice_found lines _ c.requires found
+    ∙ found (goal.at.returns-in_err-line c).After-find
 
 -- one does
 pub returns : goal.returns
 returns c =
-    let lines = c.args.lines.now in
-    let road = YieldsList-from_zip
-    (YieldsList-at c.zip-pairs.ensures.first (YieldsList-from_slice c.args.lines.now c.iter.ensures.rest))
-    (YieldsList-at c.zip-pairs.ensures.second (YieldsList-from_slice (drop 1 c.args.lines.now)
-    (c.iter-2.ensures.rest ∙ behind_first c.args.lines.now))) in
-    let found = find_from_yields_List (λ (two : Entry × Entry). same_id two.0.id two.1.id) c.find.new.self _ c.find.result
-    c.find.ensures.ran road (λ x b q k. search (rules, tests)) in
     ap (λ r. option_map (λ (two : Entry × Entry). two.0.id) (option_map (λ p. (p.0.now, p.1.now)) r))
     (sym c.in_ok-line.was)
-    ∙ twice_found lines _ c.requires found
+    ∙ found (goal.at.returns c).After-find

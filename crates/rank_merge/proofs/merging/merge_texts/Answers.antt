@@ -1,5 +1,5 @@
 use Rattle.std.proofs.Common.{◌∙◌}
-use Rattle.rank_merge.proofs.TwiceInOrder.{ordered_once}
+use Rattle.rank_merge.proofs.Orders.{ordered_once}
 use Rattle.rank_merge.proofs.merging.merge_texts.Goals as goal
 
 -- the lines were put in order

@@ -1,11 +1,11 @@
-use Rattle.std.proofs.Common.{◌≡◌, ◌∙◌, List, ap, map, rules, take}
+use Rattle.std.proofs.Common.{◌≡◌, ◌∙◌, List, ap, sym, map, rules, take}
+use Rattle.std.proofs.lemmas.List.{take-map}
 use Rattle.std.proofs.lemmas.List.Sorted.{answers_always}
 use Rattle.ghcn_fields.specs.Sorting.{sorted_by}
 use Rattle.rank_pool.specs.First.{comes_first}
 use Rattle.rank_papers.specs.declared.paper.Row.{Row}
 use Rattle.rank_papers.specs.Report.{Named}
 use Rattle.rank_papers.specs.ReportLines.{named_in}
-use Rattle.rank_merge.proofs.Lists.{map-take}
 use Rattle.rank_merge.proofs.Orders.{row_cmp, row_total}
 use Rattle.rank_merge.proofs.StableSorts.{first, before, before_ranks, stable-sorted, sorted-map}
 use Rattle.rank_merge.proofs.rows.first_rows.Goals as goal
@@ -20,6 +20,6 @@ returns c =
     (c.sort_by.ensures.stable (before row_cmp row_total) (before_ranks row_cmp row_total)
     (answers_always _ _ _ (λ f a r g called. search rules))) in
     ap (λ (l : List Row). map named_in l) c.truncate.ensures.items
-    ∙ map-take named_in c.args.k c.sort_by.new.self.items
+    ∙ sym (take-map named_in c.args.k c.sort_by.new.self.items)
     ∙ ap (λ (l : List Row). take c.args.k (map named_in l)) sorted
     ∙ ap (take c.args.k) (sorted-map named_in (λ (a b : Named). comes_first a.0 b.0) c.args.rows.items)

@@ -2,9 +2,8 @@ use Rattle.std.proofs.Common.{List, map, sym, subst}
 use Rattle.rank_papers.specs.declared.paper.Row.{Row}
 use Rattle.rank_papers.specs.ReportLines.{named_in, reported_in}
 use Rattle.rank_papers.specs.CertificateLines.{certified_in}
-use Rattle.rank_check.specs.InPieces.{Rise}
+use Rattle.rank_head.specs.HeadTests.{Rise}
 use Rattle.rank_parts.specs.Seen.{AreSeen}
-use Rattle.rank_parts.proofs.Heads.{lines_rise}
 use Rattle.rank_parts.proofs.LineReasons.{head_shows}
 use Rattle.rank_parts.proofs.judge.judge.Goals as goal
 
@@ -22,4 +21,4 @@ lines_fault-requires c =
 pub series_with_lines-requires : goal.series_with_lines-requires
 series_with_lines-requires c =
     let head = (c.in_ok-fault.ensures.right c.requires.report c.requires.certificate).0 c.in_default.is in
-    subst Rise (sym c.as_slice-lines.ensures.value) (lines_rise c.args.certificate.now.lines.items head.rise)
+    subst Rise (sym c.as_slice-lines.ensures.value) head.rise

@@ -10,10 +10,10 @@ use Rattle.rank_scores.specs.declared.candidate.Candidate.{Candidate}
 use Rattle.rank_papers.specs.Report.{Named}
 use Rattle.rank_papers.specs.Certificate.{count_of}
 use Rattle.rank_papers.specs.ReportLines.{named_in}
+use Rattle.rank_head.specs.HeadTests.{of_rows}
 use Rattle.rank_check.specs.Pieces.{AreRowsWithin, piece_tests}
 use Rattle.rank_check.specs.InPieces.{rows_with, worst_of}
 use Rattle.rank_check.specs.Survey.{candidates_of}
-use Rattle.rank_check.specs.Tests.{of_rows}
 use Rattle.rank_check.proofs.KthScores.{candidates_named}
 use Rattle.rank_parts.proofs.LineReasons.{no_series, not_own, of_own, rows_within}
 use Rattle.rank_parts.proofs.lines.line_why.Goals as goal

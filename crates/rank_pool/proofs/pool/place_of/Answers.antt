@@ -1,9 +1,9 @@
-use Rattle.std.proofs.Common.{◌≡◌, ◌≤◌, ◌<◌, ◌-◌, ℕ, List, length, get_or, rules, arith, true, ap, sym, ◌∙◌}
+use Rattle.std.proofs.Common.{◌≡◌, ◌≤◌, ◌-◌, List, length, get_or, rules, arith, ap, sym, ◌∙◌}
 use Rattle.std.specs.Ordering.{is_lt}
 use Rattle.std.proofs.lemmas.List.Sorted.{IsPartitionPoint-from_clause}
 use Rattle.rank_scores.specs.Order.{full_cmp}
 use Rattle.rank_scores.specs.declared.candidate.Candidate.{Candidate}
-use Rattle.rank_pool.proofs.Searches.{placed_at, placed-last, before-parts, listed_before, not_listed_before}
+use Rattle.rank_pool.proofs.Searches.{placed_at, placed-last, before-parts, listed, not_listed}
 use Rattle.rank_pool.proofs.pool.place_of.Goals as goal
 
 -- all of them are listed before the candidate
@@ -27,6 +27,6 @@ returns-else-lt-clause-placed c = λ order.
     (λ y. is_lt (full_cmp y x)) held c.partition_point.result c.partition_point.ensures.partitioned
     (before-parts x held order) (λ a r q k. search rules) in
     placed_at x held c.partition_point.result many
-    (λ k h. listed_before (get_or held k x) x (point.0 k x (omega arith) h))
-    (λ h. not_listed_before (get_or held c.partition_point.result x) x
+    (λ k h. listed (get_or held k x) x (point.0 k x (omega arith) h))
+    (λ h. not_listed (get_or held c.partition_point.result x) x
     (point.1 c.partition_point.result x (omega arith) h))

@@ -1,14 +1,12 @@
-use Rattle.std.proofs.Common.{◌<◌, ◌≤◌, length, sym, subst, arith}
-use Rattle.rank_sched.specs.declared.event.Event.TheVariants.{Claim}
-use Rattle.rank_sched.proofs.LoneWorker.{Awaits, awaits_first, awaits_look, awaits_settle, awaits_claim, last_claim}
-use Rattle.rank_sched.proofs.LoneWorker.{lone_sound, lone_result, lone_records}
+use Rattle.std.proofs.Common.{◌<◌, ◌≤◌, length, arith}
+use Rattle.rank_sched.proofs.LoneWorker.{awaits_first, awaits_look, awaits_settle, awaits_claim, last_claim, lone_sound}
+use Rattle.rank_sched.proofs.LoneWorker.{lone_result, lone_records}
 use Rattle.rank_sched.proofs.PlanBest.{best_of_answer}
 use Rattle.rank_sched.proofs.alone.run_alone.Goals as goal
 
 -- at the start the worker claims
 pub loop-init : goal.loop-init
-loop-init c = subst (Awaits c.args.plan.now c.args.guess 0 (Claim 0)) (sym c.in_ok-machine.ensures)
-    (awaits_first c.args.plan.now c.args.guess)
+loop-init c = grind (arith, awaits_first)
 
 -- each turn's claim is awaited
 pub advance-requires : goal.advance-requires
@@ -50,8 +48,7 @@ hauls-requires c =
 
 -- what the worker brings home is sound
 pub finish-requires : goal.finish-requires
-finish-requires c = lone_sound c.args.plan.now c.args.guess c.loop.counter _ _ c.hauls.result.items c.loop.invariant
-    c.in_ok-advance-4.ensures c.hauls.ensures.sound
+finish-requires c = grind (arith, lone_sound)
 
 -- the answer is that of a crew of one, and its best are the query's
 pub returns : goal.returns

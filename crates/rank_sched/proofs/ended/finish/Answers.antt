@@ -1,4 +1,4 @@
-use Rattle.std.proofs.Common.{◌≡◌, Bool, List, length, ap, ◌∙◌, subst}
+use Rattle.std.proofs.Common.{◌≡◌, Bool, List, length, ap, ◌∙◌, subst, arith}
 use Rattle.rank_sched.specs.declared.record.Record.{Record}
 use Rattle.rank_sched.specs.Task.{task_of}
 use Rattle.rank_sched.specs.Hauls.{all_records}
@@ -10,10 +10,7 @@ use Rattle.rank_sched.proofs.ended.finish.Goals as goal
 
 -- each record's morsel has a mark
 pub count_back-taken_back-requires : goal.count_back-taken_back-requires
-count_back-taken_back-requires c =
-    lent_within (length c.args.plan.now.morsels) (all_records c.args.hauls.items) c.in_ok-records.records.items _
-    c.in_ok-skips.skips.items _ c.requires.once c.in_ok-records.ensures.records
-    c.as_slice-3.ensures.value c.as_slice-4.ensures.value c.in_ok-skips.ensures.skips.count
+count_back-taken_back-requires c = grind (arith, lent_within)
 
 -- best candidates, lines, records and their number are the answer's
 pub returns : goal.returns

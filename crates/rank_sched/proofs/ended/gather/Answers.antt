@@ -1,25 +1,12 @@
-use Rattle.std.proofs.Common.{List, sym, ap, ◌∙◌, subst, ◌++◌}
-use Rattle.std.specs.List.{AllByRecursion}
-use Rattle.std.specs.Vec.Iter.{into_iter_items}
-use Rattle.rank_sched.specs.declared.record.Record.{Record}
+use Rattle.std.proofs.Common.{sym, ap, ◌∙◌, arith}
 use Rattle.rank_sched.specs.Task.{task_of}
 use Rattle.rank_sched.specs.Exchanges.{pool_of}
-use Rattle.rank_sched.specs.Hauls.{all_records}
-use Rattle.rank_sched.proofs.Ending.{HasOwnPool, own_pools, new_pool, own_parts, records_more, merged}
+use Rattle.rank_sched.proofs.Ending.{own_pools, new_pool, own_parts, records_more, merged}
 use Rattle.rank_sched.proofs.ended.gather.Goals as goal
 
 -- at first all hauls are to come
 pub loop-haul-init : goal.loop-haul-init
-loop-haul-init c =
-    let all = c.into_iter-haul-iterator.ensures.into_iter_gives.0 in
-    let k = c.k.ensures.k ∙ ap (λ q. q.k) c.query.ensures.query in
-    record {
-      own = subst (AllByRecursion (HasOwnPool (task_of c.args.plan.now))) (sym all)
-          (own_pools (task_of c.args.plan.now) 0 c.args.hauls.items c.requires.each);
-      records = ap (λ (rs : List Record). rs ++ all_records (into_iter_items c.into_iter-haul-iterator.result))
-          c.new-all.ensures.items ∙ ap all_records all;
-      pool = new_pool (task_of c.args.plan.now) _ c.in_ok-best.best _ k c.in_ok-best.ensures c.new-all.ensures.items;
-    }
+loop-haul-init c = grind (arith, own_pools, new_pool)
 
 -- one haul more is gathered
 pub loop-haul-preserved : goal.loop-haul-preserved

@@ -1,6 +1,5 @@
-use Rattle.std.proofs.Common.{◌≡◌, ◌<◌, true, false, ℕ, length, sym, ap, ◌∙◌, subst, arith}
+use Rattle.std.proofs.Common.{◌≡◌, ◌<◌, true, false, length, sym, ap, ◌∙◌, arith}
 use Rattle.rank_sched.specs.Task.{task_of}
-use Rattle.rank_sched.specs.Finish.{AreWithin}
 use Rattle.rank_sched.proofs.Ending.{IsRead, once_within, carried, read_there, told, read_scanned, read_stays}
 use Rattle.rank_sched.proofs.Ending.{read_back, all_tried}
 use Rattle.rank_sched.proofs.ended.take_back.Goals as goal
@@ -10,9 +9,7 @@ use Rattle.rank_sched.proofs.ended.take_back.Goals.{else-index-via-else-index}
 
 -- the records are of morsels
 pub skips_of-requires : goal.skips_of-requires
-skips_of-requires c =
-    subst (λ (n : ℕ). AreWithin n c.args.records.now) (sym c.len.ensures.morsels)
-    (once_within (length c.args.plan.now.morsels) c.args.records.now c.requires.once)
+skips_of-requires c = grind (arith, once_within)
 
 -- one morsel more was tried
 pub loop-morsel-preserved : goal.loop-morsel-preserved

@@ -1,4 +1,4 @@
-use Rattle.std.proofs.Common.{◌≡◌, ◌∙◌, ◌<◌, ap, sym, subst}
+use Rattle.std.proofs.Common.{◌∙◌, ◌<◌, ap, sym, subst}
 use Rattle.rank_pool.specs.Pools.{Pooled, last_score}
 use Rattle.rank_pool.proofs.Offers.{last_is_kth}
 use Rattle.rank_pool.proofs.Ranked.{kth_score-kth}

@@ -1,8 +1,7 @@
-use Rattle.std.proofs.Common.{◌≡◌, ◌∙◌, ◌++◌, ◌∷◌, [], ap, sym, subst, List, ℤ, true, FitsSigned, w64, to_z-of_z, rules}
+use Rattle.std.proofs.Common.{◌≡◌, ◌∙◌, sym, subst, true, FitsSigned, w64, to_z-of_z, rules}
 use Rattle.std.specs.Prelude.{int_lt}
-use Rattle.rank_scores.specs.declared.candidate.Candidate.{Candidate}
-use Rattle.rank_pool.specs.Pools.{Pooled, HoldsFirst, taken}
-use Rattle.rank_pool.proofs.Places.{holds-push}
+use Rattle.rank_pool.specs.Pools.{Pooled, taken}
+use Rattle.rank_pool.proofs.Places.{holds_taken}
 use Rattle.rank_pool.proofs.Offers.{falls_out}
 use Rattle.rank_pool.proofs.pool.PoolSink.offer.Goals as goal
 
@@ -20,18 +19,12 @@ returns-in-Some-clause-taken c =
 
 -- and what is held is still the first
 pub returns-in-Some-clause-all : goal.returns-in-Some-clause-all
-returns-in-Some-clause-all c = λ xs h.
-    subst (λ (p : Pooled). HoldsFirst p (xs ++ c.args.candidate ∷ [])) (sym (returns-in-Some-clause-taken c))
-    (holds-push c.args.self.now xs c.args.candidate h)
+returns-in-Some-clause-all c = λ xs h. holds_taken _ _ xs c.args.candidate (returns-in-Some-clause-taken c) h
 
--- one that is better than all others stands before them
+-- so it is where it stands before all others
 pub returns-in-Some-2-clause-all : goal.returns-in-Some-2-clause-all
-returns-in-Some-2-clause-all c = λ xs h.
-    subst (λ (p : Pooled). HoldsFirst p (xs ++ c.args.candidate ∷ [])) (sym c.lead.ensures)
-    (holds-push c.args.self.now xs c.args.candidate h)
+returns-in-Some-2-clause-all c = λ xs h. holds_taken _ _ xs c.args.candidate c.lead.ensures h
 
--- one candidate more takes its place
+-- and where it takes its place
 pub returns-in_default-clause-all : goal.returns-in_default-clause-all
-returns-in_default-clause-all c = λ xs h.
-    subst (λ (p : Pooled). HoldsFirst p (xs ++ c.args.candidate ∷ [])) (sym c.place.ensures)
-    (holds-push c.args.self.now xs c.args.candidate h)
+returns-in_default-clause-all c = λ xs h. holds_taken _ _ xs c.args.candidate c.place.ensures h

@@ -1,6 +1,5 @@
-use Rattle.std.proofs.Common.{◌∙◌, false, ap, sym, subst}
+use Rattle.std.proofs.Common.{◌∙◌, false, ap, sym}
 use Rattle.rank_sched.specs.Machine.{State}
-use Rattle.rank_sched.specs.Run.{IsRunning}
 use Rattle.rank_sched.proofs.MachineSteps.{start_state, start_turns, start_running}
 use Rattle.rank_sched.proofs.machine.Machine.new.Goals as goal
 
@@ -13,13 +12,7 @@ invariant_of-result c =
     c.in_ok-empty_hauls.ensures.empty in (
       start_turns c.args.workers c.in_ok-idle_turns.field-0.items c.in_ok-idle_turns.ensures
           ∙ sym c.in_ok-empty_hauls.ensures.len,
-      subst (λ (s : State). IsRunning (record {
-        plan = c.args.plan.now;
-        guess = c.args.guess;
-        state = s;
-        failed =
-            false;
-      })) (sym start)
+      rw start
           (start_running c.args.plan.now c.args.guess c.args.workers c.query.ensures.planned c.requires.guess
           c.requires.some c.requires.few),
     )

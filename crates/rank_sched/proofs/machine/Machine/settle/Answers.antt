@@ -1,58 +1,37 @@
-use Rattle.std.proofs.Common.{◌≡◌, ◌≤◌, ◌∙◌, List, length, Some, Err, true, refl, ap, sym, subst, arith}
-use Rattle.std.specs.Prelude.{slice_get, slice_set}
-use Rattle.rank_sched.specs.declared.turn.Turn.{Turn}
+use Rattle.std.proofs.Common.{◌≡◌, ◌≤◌, ◌∙◌, length, Some, Err, true, refl, ap, sym, arith, rules}
+use Rattle.std.specs.Prelude.{slice_get}
 use Rattle.rank_sched.specs.declared.turn.Turn.TheVariants.{Idle, Looked}
 use Rattle.rank_sched.specs.declared.event.StepFault.{StepFault}
 use Rattle.rank_sched.specs.Task.{task_of}
-use Rattle.rank_sched.specs.Machine.{State}
-use Rattle.rank_sched.specs.Run.{IsRunning, Running, Fails, state_of, IsAnswered, Steps}
+use Rattle.rank_sched.specs.Run.{Running}
 use Rattle.rank_sched.specs.declared.event.Event.TheVariants.{Settle}
-use Rattle.rank_sched.proofs.MachineSteps.{IsThere, there, set-length, err_is, settle_made, same_state_of, not_looked}
-use Rattle.rank_sched.proofs.MachineSteps.{is_now_by, running_failed, no_worker_refused, not_now_refused, still_running}
+use Rattle.rank_sched.proofs.Machines.{within}
+use Rattle.rank_sched.proofs.MachineSteps.{set-length, err_is, settle_made, same_state_of, not_looked, is_now_by}
+use Rattle.rank_sched.proofs.MachineSteps.{running_failed, no_worker_refused, not_now_refused, still_running}
 use Rattle.rank_sched.proofs.machine.Machine.settle.Goals as goal
 
 -- there is no such worker
 pub returns-in_err-morsel : goal.returns-in_err-morsel
 returns-in_err-morsel c =
-    let far : length c.self.inside.turns.items ≤ c.args.worker =
-    subst (λ (l : List Turn). length l ≤ c.args.worker) c.as_slice.ensures.value c.in_err-morsel.ensures.err.1 in
+    let far : length c.self.inside.turns.items ≤ c.args.worker = search rules in
     let why = err_is c.from_residual.result c.in_err-morsel.field-0.0 c.from_residual.ensures
     ∙ ap (λ (f : StepFault). Err f) c.in_err-morsel.ensures.err.0 in
-    subst (λ r. IsAnswered c.args.self.now (Settle c.args.worker) r c.args.self.now) (sym why)
-    (no_worker_refused c.args.self.now c.self.inside.next c.self.inside.floor c.self.inside.turns.items
-    c.self.inside.hauls.items (Settle c.args.worker)
-    (sym (ap (λ (m : Running). m.state) c.self.view_is)) c.requires c.self.invariant.0 far)
+    rw why (no_worker_refused c.args.self.now c.self.inside.next c.self.inside.floor c.self.inside.turns.items
+    c.self.inside.hauls.items (Settle c.args.worker) (cc) c.requires c.self.invariant.0 far)
 
 -- the worker has a haul to write to
 pub index_mut-requires : goal.index_mut-requires
-index_mut-requires c =
-    let here : slice_get c.self.inside.turns.items c.args.worker ≡ Some (Looked c.in-Looked.morsel c.in-Looked.seen) =
-    subst (λ (l : List Turn). slice_get l c.args.worker ≡ Some c.in_ok-morsel.field-0) c.as_slice.ensures.value
-    c.in_ok-morsel.ensures.ok ∙ ap (λ (x : Turn). Some x) c.in-Looked.is in
-    let at : IsThere c.self.inside.turns.items c.self.inside.hauls.items c.args.worker
-    (Looked c.in-Looked.morsel c.in-Looked.seen) =
-    there c.self.inside.turns.items c.self.inside.hauls.items c.args.worker
-    (Looked c.in-Looked.morsel c.in-Looked.seen) c.self.invariant.0 here in
-    omega (arith, at.within, c.self.invariant.0, c.self.inside.hauls.ok)
+index_mut-requires c = grind (arith, within)
 
 -- the worker has a turn to end
 pub index_mut-requires-in-Ok : goal.index_mut-requires-in-Ok
-index_mut-requires-in-Ok c =
-    let here : slice_get c.self.inside.turns.items c.args.worker ≡ Some (Looked c.in-Looked.morsel c.in-Looked.seen) =
-    subst (λ (l : List Turn). slice_get l c.args.worker ≡ Some c.in_ok-morsel.field-0) c.as_slice.ensures.value
-    c.in_ok-morsel.ensures.ok ∙ ap (λ (x : Turn). Some x) c.in-Looked.is in
-    let at : IsThere c.self.inside.turns.items c.self.inside.hauls.items c.args.worker
-    (Looked c.in-Looked.morsel c.in-Looked.seen) =
-    there c.self.inside.turns.items c.self.inside.hauls.items c.args.worker
-    (Looked c.in-Looked.morsel c.in-Looked.seen) c.self.invariant.0 here in
-    omega (arith, at.within, c.as_slice.ensures.len, ap length c.as_slice.ensures.value)
+index_mut-requires-in-Ok c = grind (arith, within)
 
 -- what is true of every machine is true after the settle
 pub invariant_of-self : goal.invariant_of-self
 invariant_of-self c =
     let here : slice_get c.self.inside.turns.items c.args.worker ≡ Some (Looked c.in-Looked.morsel c.in-Looked.seen) =
-    subst (λ (l : List Turn). slice_get l c.args.worker ≡ Some c.in_ok-morsel.field-0) c.as_slice.ensures.value
-    c.in_ok-morsel.ensures.ok ∙ ap (λ (x : Turn). Some x) c.in-Looked.is in
+    search rules in
     let step = settle_made (task_of c.self.inside.plan.now) c.self.inside.next c.self.inside.floor
     c.greater_floor-self-inside.result c.in-Ok.raised c.self.inside.turns.items c.self.inside.hauls.items
     c.args.worker c.in-Looked.morsel c.in-Looked.seen c.index_mut.result.now c.settle.new.self
@@ -67,79 +46,47 @@ invariant_of-self c =
 pub invariant_of-self-in-Err : goal.invariant_of-self-in-Err
 invariant_of-self-in-Err c =
     let here : slice_get c.self.inside.turns.items c.args.worker ≡ Some (Looked c.in-Looked.morsel c.in-Looked.seen) =
-    subst (λ (l : List Turn). slice_get l c.args.worker ≡ Some c.in_ok-morsel.field-0) c.as_slice.ensures.value
-    c.in_ok-morsel.ensures.ok ∙ ap (λ (x : Turn). Some x) c.in-Looked.is in
+    search rules in
     let same = same_state_of c.self.inside.next c.self.inside.floor c.self.inside.turns.items
     c.self.inside.hauls.items c.args.worker (Looked c.in-Looked.morsel c.in-Looked.seen) c.index_mut.result.now
     c.settle.new.self c.self.invariant.0 here c.index_mut.ensures.value c.in-Err.ensures.err in (
       c.self.invariant.0 ∙ sym (set-length c.self.inside.hauls.items c.args.worker c.settle.new.self),
-      subst (λ (s : State). IsRunning (record {
-        plan = c.self.inside.plan.now;
-        guess = c.self.inside.guess;
-        state =
-            s;
-        failed = true;
-      })) (sym same) (running_failed _ true c.self.invariant.1),
+      rw same (running_failed _ true c.self.invariant.1),
     )
 
 -- the morsel is scanned or passed over
 pub returns-in-Ok : goal.returns-in-Ok
 returns-in-Ok c =
     let here : slice_get c.self.inside.turns.items c.args.worker ≡ Some (Looked c.in-Looked.morsel c.in-Looked.seen) =
-    subst (λ (l : List Turn). slice_get l c.args.worker ≡ Some c.in_ok-morsel.field-0) c.as_slice.ensures.value
-    c.in_ok-morsel.ensures.ok ∙ ap (λ (x : Turn). Some x) c.in-Looked.is in
+    search rules in
     let step = settle_made (task_of c.self.inside.plan.now) c.self.inside.next c.self.inside.floor
     c.greater_floor-self-inside.result c.in-Ok.raised c.self.inside.turns.items c.self.inside.hauls.items
     c.args.worker c.in-Looked.morsel c.in-Looked.seen c.index_mut.result.now c.settle.new.self
     c.record_of-record.result c.self.invariant.0 here c.index_mut.ensures.value c.record_of-record.ensures
     c.in-Ok.ensures.settled c.in-Ok.ensures.raised c.greater_floor-self-inside.ensures in
-    subst (λ (m : Running). Steps m (Settle c.args.worker)
-    (record {
-      plan = c.self.inside.plan.now;
-      guess = c.self.inside.guess;
-      state =
-          state_of c.self.inside.next c.greater_floor-self-inside.result
-          (slice_set c.self.inside.turns.items c.args.worker Idle)
-          (slice_set c.self.inside.hauls.items c.args.worker c.settle.new.self);
-      failed =
-          c.self.inside.failed;
-    })) c.self.view_is
-    (record { running = ap (λ (m : Running). m.failed) c.self.view_is ∙ c.requires; step = step; kept = refl })
+    rw (← c.self.view_is) (record {
+      running = ap (λ (m : Running). m.failed) c.self.view_is ∙ c.requires;
+      step = step;
+      kept = refl;
+    })
 
 -- the machine fails
 pub returns-in-Err : goal.returns-in-Err
 returns-in-Err c =
     let here : slice_get c.self.inside.turns.items c.args.worker ≡ Some (Looked c.in-Looked.morsel c.in-Looked.seen) =
-    subst (λ (l : List Turn). slice_get l c.args.worker ≡ Some c.in_ok-morsel.field-0) c.as_slice.ensures.value
-    c.in_ok-morsel.ensures.ok ∙ ap (λ (x : Turn). Some x) c.in-Looked.is in
+    search rules in
     let same = same_state_of c.self.inside.next c.self.inside.floor c.self.inside.turns.items
     c.self.inside.hauls.items c.args.worker (Looked c.in-Looked.morsel c.in-Looked.seen) c.index_mut.result.now
     c.settle.new.self c.self.invariant.0 here c.index_mut.ensures.value c.in-Err.ensures.err in
     let now = is_now_by c.self.inside.next c.self.inside.floor c.self.inside.turns.items c.self.inside.hauls.items
     (Settle c.args.worker) (Looked c.in-Looked.morsel c.in-Looked.seen) c.self.invariant.0 here refl in
-    subst (λ (m : Running). Fails m (Settle c.args.worker)
-    (record {
-      plan = c.self.inside.plan.now;
-      guess = c.self.inside.guess;
-      state =
-          state_of c.self.inside.next c.self.inside.floor c.self.inside.turns.items
-          (slice_set c.self.inside.hauls.items c.args.worker c.settle.new.self);
-      failed = true;
-    }))
-    c.self.view_is
-    (record {
-      late = λ running. now;
-      failed = ap (λ
-          (s : State). record { plan = c.self.inside.plan.now; guess = c.self.inside.guess; state = s; failed = true })
-          same;
-    })
+    rw (← c.self.view_is) (record { late = λ running. now; failed = cc })
 
 -- it isn't the worker's turn
 pub returns-in_default : goal.returns-in_default
 returns-in_default c =
     let here : slice_get c.self.inside.turns.items c.args.worker ≡ Some c.in_ok-morsel.field-0 =
-    subst (λ (l : List Turn). slice_get l c.args.worker ≡ Some c.in_ok-morsel.field-0) c.as_slice.ensures.value
-    c.in_ok-morsel.ensures.ok in
+    search rules in
     not_now_refused c.args.self.now c.self.inside.next c.self.inside.floor c.self.inside.turns.items
     c.self.inside.hauls.items (Settle c.args.worker) c.in_ok-morsel.field-0
     (sym (ap (λ (m : Running). m.state) c.self.view_is)) c.requires c.self.invariant.0 here

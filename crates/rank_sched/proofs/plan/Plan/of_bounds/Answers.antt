@@ -1,4 +1,4 @@
-use Rattle.std.proofs.Common.{rules, ◌≡◌, List, map, ap}
+use Rattle.std.proofs.Common.{rules, ◌≡◌, map}
 use Rattle.std.proofs.lemmas.List.Sorted.{answers_always}
 use Rattle.rank_sched.specs.Plan as plan
 use Rattle.rank_sched.specs.Plan.{planned_morsel}
@@ -11,19 +11,16 @@ pub invariant_of-result : goal.invariant_of-result
 invariant_of-result c =
     let up = c.sort_unstable_by.ensures.sorted (strictly planned_morsel) (strictly_ranks planned_morsel)
     (answers_always _ _ _ (λ f a r g called. search rules)) in
-    let same : map planned_morsel c.sort_unstable_by.new.self.items ≡ (plan.planned c.args.query.now c.args.held.now).morsels =
-    sort-planned c.args.query.now c.args.held.now planned_morsel c.in_ok-morsels.morsels.items c.sort_unstable_by.new.self.items
+    let same : map planned_morsel c.sort_unstable_by.new.self.items ≡
+    (plan.planned c.args.query.now c.args.held.now).morsels =
+    sort-planned c.args.query.now c.args.held.now planned_morsel c.in_ok-morsels.morsels.items
+    c.sort_unstable_by.new.self.items
     c.morsels_of.ensures.contents c.in_ok-morsels.ensures.morsels c.sort_unstable_by.ensures.permutation up in
     record {
       asked = c.morsels_of.ensures.asked;
       held = c.args.held.now;
       right = c.morsels_of.ensures.contents;
-      plan = ap (λ (l : List plan.Morsel). record {
-        query = c.args.query.now;
-        stations =
-            c.args.held.now.stations;
-        morsels = l;
-      }) same;
+      plan = cc;
     }
 
 -- the sorted morsels are the plan's
@@ -31,12 +28,9 @@ pub returns : goal.returns
 returns c =
     let up = c.sort_unstable_by.ensures.sorted (strictly planned_morsel) (strictly_ranks planned_morsel)
     (answers_always _ _ _ (λ f a r g called. search rules)) in
-    let same : map planned_morsel c.sort_unstable_by.new.self.items ≡ (plan.planned c.args.query.now c.args.held.now).morsels =
-    sort-planned c.args.query.now c.args.held.now planned_morsel c.in_ok-morsels.morsels.items c.sort_unstable_by.new.self.items
+    let same : map planned_morsel c.sort_unstable_by.new.self.items ≡
+    (plan.planned c.args.query.now c.args.held.now).morsels =
+    sort-planned c.args.query.now c.args.held.now planned_morsel c.in_ok-morsels.morsels.items
+    c.sort_unstable_by.new.self.items
     c.morsels_of.ensures.contents c.in_ok-morsels.ensures.morsels c.sort_unstable_by.ensures.permutation up in
-    ap (λ (l : List plan.Morsel). record {
-      query = c.args.query.now;
-      stations = c.args.held.now.stations;
-      morsels =
-          l;
-    }) same
+    cc
