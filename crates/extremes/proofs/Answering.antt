@@ -1,6 +1,6 @@
 -- What is answered for the query and the data of an intake, as an answer to its input.
-use Rattle.std.proofs.Common.{◌≡◌, ◌<◌, ◌≤◌, ℕ, true, List, sym, ap, ◌∙◌, subst, map, Option, ℤ}
-use Rattle.std.specs.Prelude.{◌↔◌, Result, Ok, Err, IfOk}
+use Rattle.std.proofs.Common.{◌≡◌, ℕ, List, sym, ap, ◌∙◌, subst, map, Option, ℤ}
+use Rattle.std.specs.Prelude.{◌↔◌}
 use Rattle.ghcn_fields.specs.Sorting.{sorted_by}
 use Rattle.ghcn_files.specs.declared.station.Station.{Station}
 use Rattle.ghcn_series.specs.Series.{Contents, Usable}
@@ -18,13 +18,10 @@ use Rattle.rank_parts.specs.declared.verdict.PartVerdict.{PartVerdict}
 use Rattle.rank_parts.specs.Parts.{part_verdict}
 use Rattle.rank_parts.specs.Laws.{PartVerdictStays}
 use Rattle.rank_input.specs.declared.intake.Intake.{Intake}
-use Rattle.rank_input.specs.Input.{is_crew}
-use Rattle.rank_input.specs.Taken.{HasTaken, Input, given_files, HoldsInput}
-use Rattle.rank_input.proofs.Crews.{few_workers}
-use Rattle.rank_input.proofs.Openings.{without_guess, without_workers}
+use Rattle.rank_input.specs.Taken.{HoldsInput, IsTrueOf}
 use Rattle.extremes.specs.declared.papers.Papers.{Papers}
-use Rattle.extremes.specs.Answer.{ArePapers, IsOfCrew, IsCrewed, IsOfOneWorker}
-use Rattle.extremes.specs.Runs.{AnswersInput, CrewsInput, SerialInput, JudgesInput, JudgesPart}
+use Rattle.extremes.specs.Answer.{ArePapers, IsOfCrew, IsOfOneWorker, IsSerial}
+use Rattle.extremes.specs.Runs.{AnswersInput, CrewsInput, JudgesInput, JudgesPart}
 
 -- papers that are right for what a query needs of some data are right for these data, and the other way round
 right_for : (query : Asked) (held whole : Contents) (report certificate : List ℕ) → ReportStays → CertificateStays
@@ -51,7 +48,7 @@ judges_input t query held report certificate v reports certificates verdicts hol
       record {
         asked = query;
         held = input.whole;
-        read = without_guess i.workers i.guess i.query i.stations (given_files i) (query, input.whole) input.read_is;
+        read = input.read;
         verdict = is ∙ ap (λ (h : Contents). verdict query h report certificate) input.needed
             ∙ verdicts query input.whole report certificate;
         accepted = (λ a. right.0 (accepted.0 a), λ r. accepted.1 (right.1 r));
@@ -68,7 +65,7 @@ judges_part t query held report certificate v verdicts holds is = record {
       record {
         asked = query;
         held = input.whole;
-        read = without_guess i.workers i.guess i.query i.stations (given_files i) (query, input.whole) input.read_is;
+        read = input.read;
         verdict = is ∙ ap (λ (h : Contents). part_verdict query h report certificate) input.needed
             ∙ verdicts query input.whole report certificate;
       };
@@ -95,7 +92,7 @@ answers_input t query held papers reports certificates holds are = record {
       record {
         asked = query;
         held = input.whole;
-        read = without_workers i.workers i.guess i.query i.stations (given_files i) (query, input.whole) input.read_is;
+        read = input.read;
         right = papers_for query held input.whole papers reports certificates input.needed are;
       };
 }
@@ -115,47 +112,34 @@ plan_for q held whole stay needed =
     ap (planned q) needed ∙ ap (plan_of q whole.stations) (stay q whole)
 
 -- papers that are a crew's for the query and the data of an intake are so for its input
-pub crews_input : (t : Intake) (most ran : ℕ) (query : Asked) (held : Contents) (papers : Papers) → MorselsStay
-    → HoldsInput t query held → (t.workers ≤ most → ran ≡ t.workers) → (most < t.workers → ran ≡ most)
-    → IsOfCrew (planned query held) t.guess ran papers.certificate.items → CrewsInput t most papers
-crews_input t most ran query held papers stay holds all fewer are = record {
-  ran = ran;
-  all = all;
-  fewer = fewer;
+pub crews_input : (t : Intake) (workers : ℕ) (guess : Option ℤ) (query : Asked) (held : Contents) (papers : Papers)
+    → MorselsStay → HoldsInput t query held
+    → IsOfCrew (planned query held) guess workers papers.certificate.items → CrewsInput t workers guess papers
+crews_input t workers guess query held papers stay holds are = record {
   is = λ i taken.
       let input = holds.is i taken in
       record {
         asked = query;
         held = input.whole;
-        read = without_workers i.workers i.guess i.query i.stations (given_files i) (query, input.whole) input.read_is;
-        crew = subst (λ (g : Option ℤ). IsOfCrew (planned query input.whole) g ran papers.certificate.items)
-            taken.guess (subst (λ (p : Planned). IsOfCrew p t.guess ran papers.certificate.items)
-            (plan_for query held input.whole stay input.needed) are);
+        read = input.read;
+        crew = subst (λ (p : Planned). IsOfCrew p guess workers papers.certificate.items)
+            (plan_for query held input.whole stay input.needed) are;
       };
 }
 
--- of an intake for as many workers as may run, the papers are those of the workers that were asked for
-pub crewed : {E : Type 0} (t : Intake) (i : Input) (r : Result Papers E) → HasTaken t i
-    → IfOk r (λ papers. is_crew t.workers ≡ true) → IfOk r (CrewsInput t 64)
-    → IfOk r (IsCrewed i.workers i.guess i.query i.stations (given_files i))
-crewed t i (Ok papers) taken few crews =
-    subst (λ (n : ℕ). IsCrewed n i.guess i.query i.stations (given_files i) papers)
-    (crews.all (few_workers t.workers few) ∙ taken.workers) (crews.is i taken)
-crewed t i (Err e) taken few crews = tt
-
 -- papers that are one worker's for the query and the data of an intake are so for its input
 pub serial_input : (t : Intake) (guess : Option ℤ) (query : Asked) (held : Contents) (papers : Papers)
-    → t.guess ≡ guess → MorselsStay → HoldsInput t query held
-    → IsOfOneWorker (planned query held) guess papers.certificate.items → SerialInput t papers
-serial_input t guess query held papers same stay holds are = record {
+    → MorselsStay → HoldsInput t query held
+    → IsOfOneWorker (planned query held) guess papers.certificate.items
+    → IsTrueOf t (λ words stations files. IsSerial guess words stations files papers)
+serial_input t guess query held papers stay holds are = record {
   is = λ i taken.
       let input = holds.is i taken in
       record {
         asked = query;
         held = input.whole;
-        read = without_workers i.workers i.guess i.query i.stations (given_files i) (query, input.whole) input.read_is;
-        alone = subst (λ (g : Option ℤ). IsOfOneWorker (planned query input.whole) g papers.certificate.items)
-            (sym same ∙ taken.guess) (subst (λ (p : Planned). IsOfOneWorker p guess papers.certificate.items)
-            (plan_for query held input.whole stay input.needed) are);
+        read = input.read;
+        alone = subst (λ (p : Planned). IsOfOneWorker p guess papers.certificate.items)
+            (plan_for query held input.whole stay input.needed) are;
       };
 }

@@ -1,112 +1,107 @@
 -- A run over files that were fed whole.
-use Rattle.std.proofs.Common.{◌≡◌, ℕ, ◌<◌, ◌≤◌, Bool, true, false, List, [], ◌∷◌, refl, subst, arith}
-use Rattle.std.specs.Prelude.{nat_le, Option, None, Some, Result, Ok, Err, IfOk, IfErr, ℤ}
-use Rattle.std.proofs.lemmas.Bool.{leb-true, leb-false}
+use Rattle.std.proofs.Common.{◌≡◌, ℕ, ◌≤◌, Bool, true, List, [], ◌∷◌, map, refl, subst}
+use Rattle.std.specs.Prelude.{Option, None, Some, Result, Ok, Err, IfOk, IfErr, ℤ, string_bytes}
+use Rattle.std.proofs.lemmas.Bool.{OnFalse_from}
 use Rattle.ghcn_fields.specs.declared.memory.Memory.{Memory as WantOfMemory}
+use Rattle.ghcn_series.specs.Fed.{files_of}
 use Rattle.rank_input.specs.declared.fault.Fault.{Fault}
 use Rattle.rank_input.specs.declared.fault.Fault.TheVariants.{Memory}
 use Rattle.rank_input.specs.declared.intake.Intake.{Intake}
 use Rattle.extremes.specs.declared.papers.Papers.{Papers}
 use Rattle.extremes.specs.declared.judgement.Judgement.{Judgement}
-use Rattle.extremes.specs.declared.judgement.Judgement.TheVariants.{Whole, Part}
-use Rattle.rank_input.specs.Taken.{given, given_files, Input, HasTaken, RefusesInput}
+use Rattle.rank_input.specs.Input.{is_crew, is_guess, words_fault, read_unless, read_input, is_memory}
+use Rattle.rank_input.specs.Taken.{given, HasTaken, RefusesInput}
 use Rattle.rank_input.specs.Feeding.{AreAllOf, AreFilesOf, FeedsFiles}
+use Rattle.ghcn_fields.specs.Refusals.{IsRefusal}
 use Rattle.rank_input.proofs.Feedings.{given-files}
-use Rattle.extremes.specs.Runs.{AnswersInput, CrewsInput, JudgesInputAs, IsJudgedAs}
-use Rattle.extremes.specs.Runs.{IsCrewedBySome, IsRanked, RanksFiles, IsJudgement, JudgesFiles}
+use Rattle.extremes.specs.Runs.{AnswersInput, CrewsInput, RanksInput, JudgesInputAs}
+use Rattle.extremes.specs.Runs.{named, IsRanked, RanksFiles, IsJudgement, JudgesFiles}
+use Rattle.extremes.specs.Merges.{Known, known_part, AreBothOf}
+use Rattle.extremes.specs.declared.files.Ranking.{Ranking}
+use Rattle.extremes.specs.declared.files.Judging.{Judging}
+use Rattle.rank_merge.specs.Merging.{Texts}
 
 -- what was fed behind the station list is the whole input
-pub taken-all : (old new : Intake) (known : List (Option (List ℕ))) (workers : ℕ) (guess : Option ℤ)
-    (query stations : List ℕ)
-    (fed : FeedsFiles old new known) → HasTaken old (given workers guess query stations [])
-    → HasTaken new (given workers guess query stations fed.files)
-taken-all old new known workers guess query stations fed is =
-    subst (HasTaken new) (given-files workers guess query stations [] fed.files)
-    (fed.taken (given workers guess query stations []) is)
+taken-all : (old new : Intake) (known : List (Option (List ℕ))) (query stations : List ℕ)
+    (fed : FeedsFiles old new known) → HasTaken old (given query stations [])
+    → HasTaken new (given query stations fed.files)
+taken-all old new known query stations fed is =
+    subst (HasTaken new) (given-files query stations [] fed.files) (fed.taken (given query stations []) is)
 
--- as many as were asked for, or as the most where more were, are no more than were asked for
-few-ran : (asked most ran : ℕ) → (asked ≤ most → ran ≡ asked) → (most < asked → ran ≡ most) → ran ≤ asked
-few-ran asked most ran all fewer = by (nat_le asked most) refl
-  where
-    by : (b : Bool) → nat_le asked most ≡ b → ran ≤ asked
-    by true e = omega (arith, all (leb-true asked most e))
-    by false e = let more = leb-false asked most e in omega (arith, fewer more, more)
+-- a fault of the words of a run is its first
+pub words_refuse : (workers : ℕ) (guess : Option ℤ) (query stations : List ℕ) (files : List (List ℕ)) (fault : Fault)
+    → words_fault workers guess ≡ Some fault
+    → IsRefusal is_memory fault (read_unless (words_fault workers guess) (read_input query stations files))
+words_refuse workers guess query stations files fault is = OnFalse_from (is_memory fault) _ (λ e. rw is refl)
 
--- so the papers of an intake's crew are those of at most so many workers
-crewed-by-some : (t : Intake) (most : ℕ) (i : Input) (papers : Papers) → HasTaken t i → CrewsInput t most papers
-    → IsCrewedBySome i.workers i.guess i.query i.stations (given_files i) papers
-crewed-by-some t most i papers taken crews = record {
-  ran = crews.ran;
-  few = subst (λ (n : ℕ). crews.ran ≤ n) taken.workers (few-ran t.workers most crews.ran crews.all crews.fewer);
-  crew = crews.is i taken;
+-- behind words without a fault the input's fault is the first
+pub input_refuses : (workers : ℕ) (guess : Option ℤ) (query stations : List ℕ) (files : List (List ℕ)) (fault : Fault)
+    → is_crew workers ≡ true → is_guess guess ≡ true → IsRefusal is_memory fault (read_input query stations files)
+    → IsRefusal is_memory fault (read_unless (words_fault workers guess) (read_input query stations files))
+input_refuses workers guess query stations files fault crew might is = rw (crew, might) is
+
+-- what some of the workers that were asked for answer for an intake is an answer to its input
+pub ranks-input : (t : Intake) (workers ran : ℕ) (guess : Option ℤ) (answer : Result Papers Fault)
+    → is_crew workers ≡ true → is_guess guess ≡ true → ran ≤ workers → IfOk answer (AnswersInput t)
+    → IfOk answer (CrewsInput t ran guess) → IfErr answer (RefusesInput t) → RanksInput t workers guess answer
+ranks-input t workers ran guess (Ok papers) crew might few ok crews err = record {
+  is = λ i taken. (ok.is i taken, record { ran = ran; few = few; crew = crews.is i taken });
+}
+ranks-input t workers ran guess (Err fault) crew might few ok crews err = record {
+  is = λ i taken.
+      input_refuses workers guess i.query i.stations (files_of i.files) fault crew might (err.is i taken);
 }
 
--- the answer for an intake is that for its texts
-ranked-is : (t : Intake) (workers most : ℕ) (guess : Option ℤ) (query stations : List ℕ) (files : List (List ℕ))
-    (answer : Result Papers Fault) → HasTaken t (given workers guess query stations files)
-    → IfOk answer (AnswersInput t) → IfOk answer (CrewsInput t most)
-    → IfErr answer (RefusesInput t) → IsRanked workers guess query stations files answer
-ranked-is t workers most guess query stations files (Ok papers) taken ok crews err =
-    let i = given workers guess query stations files in
-    (ok.is i taken, crewed-by-some t most i papers taken crews)
-ranked-is t workers most guess query stations files (Err fault) taken ok crews err =
-    err.is (given workers guess query stations files) taken
+-- so is a fault of the words
+pub words-input : (t : Intake) (workers : ℕ) (guess : Option ℤ) (fault : Fault)
+    → words_fault workers guess ≡ Some fault → RanksInput t workers guess (Err fault)
+words-input t workers guess fault is = record {
+  is = λ i taken. words_refuse workers guess i.query i.stations (files_of i.files) fault is;
+}
 
--- the ranking of an intake that was fed all files
-pub ranks-files : (old new : Intake) (workers most : ℕ) (guess : Option ℤ) (query stations : List ℕ)
-    (list : Option (List ℕ)) (known : List (Option (List ℕ))) (answer : Result Papers Fault) → AreAllOf list stations
-    → HasTaken old (given workers guess query stations []) → FeedsFiles old new known → IfOk answer (AnswersInput new)
-    → IfOk answer (CrewsInput new most) → IfErr answer (RefusesInput new)
-    → RanksFiles workers guess query list known answer
-ranks-files old new workers most guess query stations list known answer whole taken fed ok crews err = record {
+-- the ranking of an intake that was fed all files that are named
+pub ranks-files : (bytes_of : Known) (r : Ranking) (old new : Intake) (query list stations : List ℕ)
+    (answer : Result Papers Fault) → query ≡ string_bytes r.query → list ≡ string_bytes r.stations
+    → AreAllOf (bytes_of list) stations → HasTaken old (given query stations [])
+    → FeedsFiles old new (map (named bytes_of) r.files.items) → RanksInput new r.workers r.guess answer
+    → RanksFiles bytes_of r answer
+ranks-files bytes_of r old new query list stations answer same_query same_list whole taken fed ranks = record {
   stations = stations;
-  whole = whole;
+  whole = subst (λ (l : List ℕ). AreAllOf (bytes_of l) stations) same_list whole;
   files = fed.files;
   all = fed.all;
-  ranked = ranked-is new workers most guess query stations fed.files answer
-      (taken-all old new known workers guess query stations fed taken) ok crews err;
+  ranked = subst (λ (q : List ℕ). IsRanked r.workers r.guess q stations fed.files answer) same_query
+      (ranks.is (given query stations fed.files) (taken-all old new _ query stations fed taken));
 }
 
--- what is said for an intake is said for its texts
-judged-as : (part : Bool) (t : Intake) (query stations : List ℕ) (files : List (List ℕ)) (report certificate : List ℕ)
-    (j : Judgement) → HasTaken t (given 1 None query stations files) → JudgesInputAs part t report certificate j
-    → IsJudgedAs part query stations files report certificate j
-judged-as false t query stations files report certificate (Whole v) taken ok =
-    ok.is (given 1 None query stations files) taken
-judged-as false t query stations files report certificate (Part v) taken ok = absurd ok
-judged-as true t query stations files report certificate (Whole v) taken ok = absurd ok
-judged-as true t query stations files report certificate (Part v) taken ok =
-    ok.is (given 1 None query stations files) taken
-
--- and so is the fault
+-- what is said for an intake, or its fault, is said for its texts
 judged-is : (part : Bool) (t : Intake) (query stations : List ℕ) (files : List (List ℕ)) (report certificate : List ℕ)
-    (answer : Result Judgement Fault) → HasTaken t (given 1 None query stations files)
+    (answer : Result Judgement Fault) → HasTaken t (given query stations files)
     → IfOk answer (JudgesInputAs part t report certificate) → IfErr answer (RefusesInput t)
     → IsJudgement part query stations files report certificate answer
 judged-is part t query stations files report certificate (Ok j) taken ok err =
-    judged-as part t query stations files report certificate j taken ok
+    ok.is (given query stations files) taken
 judged-is part t query stations files report certificate (Err fault) taken ok err =
-    err.is (given 1 None query stations files) taken
+    err.is (given query stations files) taken
 
--- the judgement of an intake that was fed all files
-pub judges-files : (part : Bool) (old new : Intake) (query stations report certificate : List ℕ)
-    (list first second : Option (List ℕ))
-    (known : List (Option (List ℕ))) (answer : Result Judgement Fault) → AreAllOf list stations → AreAllOf first report
-    → AreAllOf second certificate → HasTaken old (given 1 None query stations []) → FeedsFiles old new known
-    → IfOk answer (JudgesInputAs part new report certificate) → IfErr answer (RefusesInput new)
-    → JudgesFiles part query list first second known answer
-judges-files part old new query stations report certificate list first second known answer whole one two taken fed ok
-    err = record {
+-- the judgement of papers by an intake that was fed all files that are named
+pub judges-files : (bytes_of : Known) (j : Judging) (old new : Intake) (query list stations report certificate : List ℕ)
+    (answer : Result Judgement Fault) → query ≡ string_bytes j.query → list ≡ string_bytes j.stations
+    → AreAllOf (bytes_of list) stations → AreBothOf (known_part bytes_of j.papers) (report, certificate)
+    → HasTaken old (given query stations []) → FeedsFiles old new (map (named bytes_of) j.files.items)
+    → IfOk answer (JudgesInputAs j.part new report certificate) → IfErr answer (RefusesInput new)
+    → JudgesFiles bytes_of j answer
+judges-files bytes_of j old new query list stations report certificate answer same_query same_list whole papers taken
+    fed ok err = record {
       stations = stations;
-      whole = whole;
-      report = report;
-      report_whole = one;
-      certificate = certificate;
-      certificate_whole = two;
+      whole = subst (λ (l : List ℕ). AreAllOf (bytes_of l) stations) same_list whole;
+      papers = (report, certificate);
+      papers_whole = papers;
       files = fed.files;
       all = fed.all;
-      judged = judged-is part new query stations fed.files report certificate answer
-          (taken-all old new known 1 None query stations fed taken) ok err;
+      judged = subst (λ (q : List ℕ). IsJudgement j.part q stations fed.files report certificate answer) same_query
+          (judged-is j.part new query stations fed.files report certificate answer
+          (taken-all old new _ query stations fed taken) ok err);
     }
 
 -- there are files whose bytes are all of those that are known
@@ -116,29 +111,28 @@ some_files (None ∷ ks) = let rest = some_files ks in ([] ∷ rest.0, (tt, rest
 some_files (Some bytes ∷ ks) = let rest = some_files ks in (bytes ∷ rest.0, (refl, rest.1))
 
 -- want of memory may be answered to any files
-pub ranks-memory : (workers : ℕ) (guess : Option ℤ) (query stations : List ℕ) (list : Option (List ℕ))
-    (known : List (Option (List ℕ))) (m : WantOfMemory) → AreAllOf list stations
-    → RanksFiles workers guess query list known (Err (Memory m))
-ranks-memory workers guess query stations list known m whole = record {
-  stations = stations;
-  whole = whole;
-  files = (some_files known).0;
-  all = (some_files known).1;
-  ranked = tt;
-}
+pub ranks-memory : (bytes_of : Known) (r : Ranking) (list stations : List ℕ) (m : WantOfMemory)
+    → list ≡ string_bytes r.stations → AreAllOf (bytes_of list) stations → RanksFiles bytes_of r (Err (Memory m))
+ranks-memory bytes_of r list stations m same whole =
+    let some = some_files (map (named bytes_of) r.files.items) in record {
+      stations = stations;
+      whole = subst (λ (l : List ℕ). AreAllOf (bytes_of l) stations) same whole;
+      files = some.0;
+      all = some.1;
+      ranked = tt;
+    }
 
 -- and to papers
-pub judges-memory : (part : Bool) (query stations report certificate : List ℕ) (list first second : Option (List ℕ))
-    (known : List (Option (List ℕ))) (m : WantOfMemory) → AreAllOf list stations → AreAllOf first report
-    → AreAllOf second certificate → JudgesFiles part query list first second known (Err (Memory m))
-judges-memory part query stations report certificate list first second known m whole one two = record {
-  stations = stations;
-  whole = whole;
-  report = report;
-  report_whole = one;
-  certificate = certificate;
-  certificate_whole = two;
-  files = (some_files known).0;
-  all = (some_files known).1;
-  judged = tt;
-}
+pub judges-memory : (bytes_of : Known) (j : Judging) (list stations : List ℕ) (papers : Texts) (m : WantOfMemory)
+    → list ≡ string_bytes j.stations → AreAllOf (bytes_of list) stations
+    → AreBothOf (known_part bytes_of j.papers) papers → JudgesFiles bytes_of j (Err (Memory m))
+judges-memory bytes_of j list stations papers m same whole both =
+    let some = some_files (map (named bytes_of) j.files.items) in record {
+      stations = stations;
+      whole = subst (λ (l : List ℕ). AreAllOf (bytes_of l) stations) same whole;
+      papers = papers;
+      papers_whole = both;
+      files = some.0;
+      all = some.1;
+      judged = tt;
+    }

@@ -1,6 +1,6 @@
 -- What all parts accept is right for all files.
 use Rattle.std.proofs.Common.{◌≡◌, ℕ, ◌<◌, List, [], ◌∷◌, ◌++◌, length, map, refl, sym, ap, ◌∙◌, subst, arith}
-use Rattle.std.specs.Prelude.{None, Ok}
+use Rattle.std.specs.Prelude.{Ok}
 use Rattle.std.specs.List.{flat_map, AllByRecursion, AllZip}
 use Rattle.ghcn_files.specs.declared.station.Station.{Station}
 use Rattle.ghcn_files.specs.Listed.{listed}
@@ -13,7 +13,7 @@ use Rattle.rank_parts.specs.Parts.{part_verdict}
 use Rattle.rank_parts.specs.Laws as parts
 use Rattle.rank_parts.specs.Laws.{AreDataOf, FilesMakeTheWhole}
 use Rattle.extremes.specs.JudgedInParts.{Counted, Accepts, held_by, PartsJudgeTheWhole}
-use Rattle.extremes.proofs.RankedParts.{one_value, read-apart}
+use Rattle.extremes.proofs.Readings.{one_value}
 
 -- the files of all parts are those of each, one part after the other
 files-in-order : (ps : List Counted) → flat_map (λ files. files) (map (λ p. p.0) ps) ≡ flat_map (λ p. p.0) ps
@@ -31,8 +31,8 @@ module _ (query stations report certificate : List ℕ) (lines : ℕ) (q : Asked
       → AllZip (AreDataOf list) (map (λ p. p.0) ps) (held_by query stations report certificate lines ps accept)
   each-holds [] accept = tt
   each-holds (p ∷ ps) accept =
-      let r = read-apart None query stations p.0 accept.0.asked accept.0.held accept.0.read in (
-        subst (λ (l : List Station). data_of l p.0 ≡ Ok accept.0.held) (one_value _ _ _ r.lists lists) r.says,
+      let r = accept.0.read in (
+        subst (λ (l : List Station). data_of l p.0 ≡ Ok accept.0.held) (one_value _ _ _ r.lists lists) r.holds,
         each-holds ps accept.1,
       )
 
@@ -42,9 +42,9 @@ module _ (query stations report certificate : List ℕ) (lines : ℕ) (q : Asked
       (map (λ p. p.1) ps)
   each-accepts [] accept = tt
   each-accepts (p ∷ ps) accept =
-      let r = read-apart None query stations p.0 accept.0.asked accept.0.held accept.0.read in (
+      let r = accept.0.read in (
         subst (λ (a : Asked). part_verdict a accept.0.held report certificate ≡ Accepted p.1 lines)
-            (one_value _ _ _ r.asked asked) (sym accept.0.verdict),
+            (one_value _ _ _ r.asks asked) (sym accept.0.verdict),
         each-accepts ps accept.1,
       )
 
@@ -56,19 +56,18 @@ module _ (query stations report certificate : List ℕ) (lines : ℕ) (q : Asked
 
 -- so the papers are right for all files
 pub parts-judge-the-whole : ReadCanBeAsked → FilesMakeTheWhole → PartsJudgeTheWhole
-parts-judge-the-whole can whole query stations report certificate ps q c read contents all =
-    let r = read-apart None query stations (flat_map (λ p. p.0) ps) q c read in
+parts-judge-the-whole can whole query stations report certificate ps q c r contents all =
     (whole q r.list (map (λ p. p.0) ps) (held_by query stations report certificate all.lines ps all.accept) c report
-    certificate (can query q r.asked) contents
+    certificate (can query q r.asks) contents
     (record {
-      each = each-holds query stations report certificate all.lines q r.list r.asked r.lists ps all.accept;
-      all = ap (data_of r.list) (files-in-order ps) ∙ r.says;
+      each = each-holds query stations report certificate all.lines q r.list r.asks r.lists ps all.accept;
+      all = ap (data_of r.list) (files-in-order ps) ∙ r.holds;
       apart = all.apart;
     })
-    (some-held query stations report certificate all.lines q r.list r.asked r.lists ps all.accept all.nonempty)).0
+    (some-held query stations report certificate all.lines q r.list r.asks r.lists ps all.accept all.nonempty)).0
     (record {
       lines = all.lines;
       series = map (λ p. p.1) ps;
-      accepted = each-accepts query stations report certificate all.lines q r.list r.asked r.lists ps all.accept;
+      accepted = each-accepts query stations report certificate all.lines q r.list r.asks r.lists ps all.accept;
       sum = all.sum;
     })

@@ -1,9 +1,9 @@
 pub mod Delivering
 pub mod PlanAnswers
-pub mod SerialPapers
 pub mod Answering
 pub mod FedRuns
-pub mod NamedFiles
 pub mod PartsRead
+pub mod Readings
 pub mod RankedParts
+pub mod SerialPapers
 pub mod JudgedParts

@@ -1,6 +1,6 @@
 -- What one worker answers to an input under a guess is one pair of papers.
 use Rattle.std.proofs.Common.{◌≡◌, ℕ, List, [], ◌∷◌, Option, refl, sym, ap, ◌∙◌, subst, map, ℤ}
-use Rattle.std.specs.Prelude.{Result, Ok, Some, find}
+use Rattle.std.specs.Prelude.{Ok, Some, find}
 use Rattle.std.specs.List.{AllByRecursion}
 use Rattle.ghcn_files.specs.declared.station.Station.{Station}
 use Rattle.ghcn_files.specs.Listed.{is_station_of}
@@ -11,7 +11,7 @@ use Rattle.rank_sched.specs.Plan.{Planned, planned}
 use Rattle.rank_sched.specs.Task.{task_of}
 use Rattle.rank_sched.specs.Laws.{RecordsAloneAreOne}
 use Rattle.rank_papers.specs.Report.{WithStation, IsReport, named, report_text}
-use Rattle.rank_input.specs.declared.fault.Fault.{Fault}
+use Rattle.extremes.proofs.Readings.{one_reading}
 use Rattle.extremes.specs.Answer.{ArePapers, IsOfOneWorker, certificate_of_run, SerialPapersAreOne}
 
 -- candidates, each with its listed station, are one list
@@ -43,10 +43,6 @@ one_certificate p guess bytes bytes' one a b =
     a.printed ∙ ap (certificate_of_run p) (one (task_of p) guess a.records b.records a.alone b.alone)
     ∙ sym b.printed
 
--- an input is read in one way
-one_reading : (r : Result (Asked × Contents) Fault) (x y : Asked × Contents) → r ≡ Ok x → r ≡ Ok y → x ≡ y
-one_reading r x y a b = cc
-
 -- so the papers are one pair
 pub serial_one : RecordsAloneAreOne → SerialPapersAreOne
 serial_one one guess query stations files a b right-a serial-a right-b serial-b =
@@ -54,13 +50,15 @@ serial_one one guess query stations files a b right-a serial-a right-b serial-b 
     let c : Contents = right-a.held in
     let mine : IsOfOneWorker (planned q c) guess a.certificate.items =
     subst (λ (x : Asked × Contents). IsOfOneWorker (planned x.0 x.1) guess a.certificate.items)
-    (one_reading _ (serial-a.asked, serial-a.held) (q, c) serial-a.read right-a.read) serial-a.alone in
+    (one_reading query stations files (serial-a.asked, serial-a.held) (q, c) serial-a.read right-a.read)
+    serial-a.alone in
     let other : IsOfOneWorker (planned q c) guess b.certificate.items =
     subst (λ (x : Asked × Contents). IsOfOneWorker (planned x.0 x.1) guess b.certificate.items)
-    (one_reading _ (serial-b.asked, serial-b.held) (q, c) serial-b.read right-a.read) serial-b.alone in
+    (one_reading query stations files (serial-b.asked, serial-b.held) (q, c) serial-b.read right-a.read)
+    serial-b.alone in
     let right : ArePapers q c b =
     subst (λ (x : Asked × Contents). ArePapers x.0 x.1 b)
-    (one_reading _ (right-b.asked, right-b.held) (q, c) right-b.read right-a.read) right-b.right in
+    (one_reading query stations files (right-b.asked, right-b.held) (q, c) right-b.read right-a.read) right-b.right in
     record {
       report = one_report q c a.report.items b.report.items right-a.right.report right.report;
       certificate = one_certificate (planned q c) guess a.certificate.items b.certificate.items one mine other;

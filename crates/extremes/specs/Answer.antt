@@ -1,5 +1,5 @@
 -- What is answered to an input without a fault.
-use Rattle.std.specs.Prelude.{◌≡◌, ℕ, List, Option, ℤ, Ok}
+use Rattle.std.specs.Prelude.{◌≡◌, ℕ, List, Option, ℤ}
 use Rattle.ghcn_series.specs.Series.{Contents}
 use Rattle.rank_query.specs.Asked.{Asked}
 use Rattle.rank_sched.specs.declared.record.Record.{Record}
@@ -11,7 +11,7 @@ use Rattle.rank_papers.specs.Certificate.{certificate_of_best}
 use Rattle.rank_papers.specs.Report.{IsReport}
 use Rattle.rank_papers.specs.PlanPapers.{IsMeasuredCertificate, IsReportOfPlan, IsCertificateOfPlan}
 use Rattle.extremes.specs.declared.papers.Papers.{Papers}
-use Rattle.rank_input.specs.Input.{read_input}
+use Rattle.rank_input.specs.Input.{IsReadOf}
 
 -- the papers of a query and data: the right report, a right certificate whose bounds are those of the series, and how
 -- many lines are of unlisted stations
@@ -27,10 +27,10 @@ pub record ArePapersOfPlan (p : Planned) (passed_over : ℕ) (papers : Papers) :
   pub unlisted : papers.unlisted ≡ passed_over
 
 -- the papers answer the input: it has no fault, and they are those of what it asks and holds
-pub record Answers (guess : Option ℤ) (query stations : List ℕ) (files : List (List ℕ)) (papers : Papers) : Type 0 where
+pub record Answers (query stations : List ℕ) (files : List (List ℕ)) (papers : Papers) : Type 0 where
   pub asked : Asked
   pub held : Contents
-  pub read : read_input guess query stations files ≡ Ok (asked, held)
+  pub read : IsReadOf query stations files asked held
   pub right : ArePapers asked held papers
 
 -- the certificate of a run over a plan with these records: it is about the plan's best, and has the run's lines
@@ -54,7 +54,7 @@ pub record IsCrewed (workers : ℕ) (guess : Option ℤ) (query stations : List 
     (papers : Papers) : Type 0 where
   pub asked : Asked
   pub held : Contents
-  pub read : read_input guess query stations files ≡ Ok (asked, held)
+  pub read : IsReadOf query stations files asked held
   pub crew : IsOfCrew (planned asked held) guess workers papers.certificate.items
 
 -- the certificate is that of the run that one worker makes over the plan of what the input asks and holds
@@ -62,7 +62,7 @@ pub record IsSerial (guess : Option ℤ) (query stations : List ℕ) (files : Li
     : Type 0 where
   pub asked : Asked
   pub held : Contents
-  pub read : read_input guess query stations files ≡ Ok (asked, held)
+  pub read : IsReadOf query stations files asked held
   pub alone : IsOfOneWorker (planned asked held) guess papers.certificate.items
 
 -- these papers are the same, byte for byte
@@ -74,5 +74,5 @@ pub record AreSamePapers (a b : Papers) : Type 0 where
 -- what one worker answers to an input under a guess is one pair of papers
 abbrev pub SerialPapersAreOne : Type 0
 SerialPapersAreOne = (guess : Option ℤ) (query stations : List ℕ) (files : List (List ℕ)) (a b : Papers)
-    → Answers guess query stations files a → IsSerial guess query stations files a
-    → Answers guess query stations files b → IsSerial guess query stations files b → AreSamePapers a b
+    → Answers query stations files a → IsSerial guess query stations files a
+    → Answers query stations files b → IsSerial guess query stations files b → AreSamePapers a b

@@ -1,5 +1,5 @@
 -- What is answered to papers on an input without a fault.
-use Rattle.std.specs.Prelude.{◌≡◌, ◌↔◌, ℕ, List, Option, None, Ok, ℤ}
+use Rattle.std.specs.Prelude.{◌≡◌, ◌↔◌, ℕ, List}
 use Rattle.ghcn_series.specs.Series.{Contents}
 use Rattle.rank_query.specs.Asked.{Asked}
 use Rattle.rank_papers.specs.Report.{IsReport}
@@ -10,7 +10,7 @@ use Rattle.rank_check.specs.Tests.{verdict}
 use Rattle.rank_parts.specs.declared.verdict.PartVerdict.{PartVerdict}
 use Rattle.rank_parts.specs.Parts.{part_verdict}
 use Rattle.extremes.specs.declared.papers.Papers.{Papers}
-use Rattle.rank_input.specs.Input.{read_input}
+use Rattle.rank_input.specs.Input.{IsReadOf}
 use Rattle.extremes.specs.Answer.{Answers}
 
 -- the verdict is that on the papers for what the input asks and holds: accepted exactly where the report is the right
@@ -19,7 +19,7 @@ pub record IsJudged (query stations : List ℕ) (files : List (List ℕ)) (repor
     (v : Verdict) : Type 0 where
   pub asked : Asked
   pub held : Contents
-  pub read : read_input None query stations files ≡ Ok (asked, held)
+  pub read : IsReadOf query stations files asked held
   pub verdict : v ≡ verdict asked held report certificate
   pub accepted : (v ≡ Accepted) ↔ (IsReport asked held report × IsCertificate asked held certificate)
 
@@ -28,12 +28,12 @@ pub record IsJudgedByPart (query stations : List ℕ) (files : List (List ℕ)) 
     (v : PartVerdict) : Type 0 where
   pub asked : Asked
   pub held : Contents
-  pub read : read_input None query stations files ≡ Ok (asked, held)
+  pub read : IsReadOf query stations files asked held
   pub verdict : v ≡ part_verdict asked held report certificate
 
--- papers that answer an input are accepted on that input, whatever the guess was
+-- papers that answer an input are accepted on that input
 abbrev pub AnswersAreAccepted : Type 0
-AnswersAreAccepted = (guess : Option ℤ) (query stations : List ℕ) (files : List (List ℕ)) (papers : Papers)
+AnswersAreAccepted = (query stations : List ℕ) (files : List (List ℕ)) (papers : Papers)
     (v : Verdict)
-    → Answers guess query stations files papers
+    → Answers query stations files papers
     → IsJudged query stations files papers.report.items papers.certificate.items v → v ≡ Accepted

@@ -1,5 +1,5 @@
 -- What the verdicts of all parts of an archive are worth, as a statement for the contract of a public function.
-use Rattle.std.specs.Prelude.{◌≡◌, ℕ, ◌<◌, List, [], ◌∷◌, length, map, None, Ok}
+use Rattle.std.specs.Prelude.{◌≡◌, ℕ, ◌<◌, List, [], ◌∷◌, length, map}
 use Rattle.std.specs.List.{sum, flat_map, AllByRecursion, IsDistinct}
 use Rattle.ghcn_files.specs.Ids.{same_id}
 use Rattle.ghcn_series.specs.Series.{Contents}
@@ -9,7 +9,7 @@ use Rattle.rank_scores.specs.Cut.{morsel_ids}
 use Rattle.rank_papers.specs.Report.{IsReport}
 use Rattle.rank_papers.specs.Certificate.{IsCertificate}
 use Rattle.rank_parts.specs.declared.verdict.PartVerdict.TheVariants.{Accepted}
-use Rattle.rank_input.specs.Input.{read_input}
+use Rattle.rank_input.specs.Input.{IsReadOf}
 use Rattle.extremes.specs.Judged.{IsJudgedByPart}
 
 -- the texts of a part's files, and a number of series
@@ -40,6 +40,6 @@ pub record AllAccept (query stations report certificate : List ℕ) (asked : Ask
 -- papers that all parts accept are right for all files one part after the other, where these have no fault together
 abbrev pub PartsJudgeTheWhole : Type 0
 PartsJudgeTheWhole = (query stations report certificate : List ℕ) (parts : List Counted) (asked : Asked)
-    (held : Contents) → read_input None query stations (flat_map (λ p. p.0) parts) ≡ Ok (asked, held)
+    (held : Contents) → IsReadOf query stations (flat_map (λ p. p.0) parts) asked held
     → IsContents held → AllAccept query stations report certificate asked parts
     → IsReport asked held report × IsCertificate asked held certificate

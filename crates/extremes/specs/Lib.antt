@@ -4,7 +4,7 @@ pub mod Printed
 pub mod Delivered
 pub mod Judged
 pub mod JudgedInParts
-pub mod Runs
 pub mod Merges
+pub mod Runs
 pub mod RankedInParts
 pub mod Commands

@@ -64,12 +64,16 @@ IsMergeOf query texts (Ok papers) = AreMerged query texts papers
 IsMergeOf query texts (Err fault) =
     IsRefusal is_memory fault (merged_of query texts) × IsRefusedWhereRight query texts fault
 
+-- the bytes of files by their paths, where they are known
+abbrev pub Known : Type 0
+Known = List ℕ → Option (List ℕ)
+
 -- what is known of the bytes of a part's report and certificate
 abbrev pub KnownPart : Type 0
 KnownPart = Option (List ℕ) × Option (List ℕ)
 
 -- that of the papers that a command names for a part, by the bytes of files by their paths
-abbrev pub known_part : (List ℕ → Option (List ℕ)) → Part → KnownPart
+abbrev pub known_part : Known → Part → KnownPart
 known_part bytes_of part = (bytes_of (string_bytes part.report), bytes_of (string_bytes part.certificate))
 
 -- these are all the bytes of both papers, where those are known

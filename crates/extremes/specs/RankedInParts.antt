@@ -1,5 +1,5 @@
 -- What is ranked in parts and merged, as a statement for the contract of a public function.
-use Rattle.std.specs.Prelude.{◌≡◌, ℕ, List, Option, ℤ}
+use Rattle.std.specs.Prelude.{◌≡◌, ℕ, List}
 use Rattle.std.specs.List.{AllByRecursion}
 use Rattle.ghcn_series.specs.Held.{IsContents}
 use Rattle.rank_scores.specs.Cut.{Filed}
@@ -9,20 +9,19 @@ use Rattle.extremes.specs.declared.papers.Papers.{Papers}
 use Rattle.extremes.specs.Answer.{Answers}
 use Rattle.extremes.specs.Merges.{AreMerged}
 
--- the papers of a part are those that a ranking answers to its files, under a guess or none; what the files hold is as
--- all data that were read
+-- the papers of a part are those that a ranking answers to its files; what the files hold is as all data that were
+-- read
 pub record IsRankedPart (query stations : List ℕ) (p : Filed) : Type 0 where
-  pub guess : Option ℤ
   pub papers : Papers
-  pub answer : Answers guess query stations p.0 papers
+  pub answer : Answers query stations p.0 papers
   pub contents : IsContents answer.held
   pub texts : p.1 ≡ (papers.report.items, papers.certificate.items)
 
 -- what is ranked in parts and merged is ranked: the report is, byte for byte, the one that is answered to all files, and
 -- the certificate is right for all files
 abbrev pub MergedIsRanked : Type 0
-MergedIsRanked = (guess : Option ℤ) (query stations : List ℕ) (parts : List Filed) (whole merged : Papers)
-    (answer : Answers guess query stations (all_files parts) whole) → IsContents answer.held
+MergedIsRanked = (query stations : List ℕ) (parts : List Filed) (whole merged : Papers)
+    (answer : Answers query stations (all_files parts) whole) → IsContents answer.held
     → AllByRecursion (IsRankedPart query stations) parts → AreMerged query (all_texts parts) merged
     → (merged.report.items ≡ whole.report.items)
     × IsCertificate answer.asked answer.held merged.certificate.items

@@ -1,49 +1,46 @@
 -- What a run answers for what it was given, and for the files that are named.
-use Rattle.std.specs.Prelude.{◌≡◌, ℕ, ◌<◌, ◌≤◌, Bool, true, false, List, Option, None, Result, Ok, Err, ℤ}
+use Rattle.std.specs.Prelude.{◌≡◌, ℕ, ◌≤◌, Bool, true, false, List, map, Option, Result, Ok, Err, ℤ}
+use Rattle.std.specs.Prelude.{String, string_bytes}
 use Rattle.ghcn_fields.specs.Refusals.{IsRefusal}
 use Rattle.rank_input.specs.declared.fault.Fault.{Fault}
 use Rattle.rank_input.specs.declared.intake.Intake.{Intake}
 use Rattle.rank_input.specs.Input.{read_input, read_run, is_memory}
-use Rattle.rank_input.specs.Taken.{HasTaken, Input, given_files}
+use Rattle.rank_input.specs.Taken.{IsTrueOf}
 use Rattle.rank_input.specs.Feeding.{AreAllOf, AreFilesOf}
 use Rattle.rank_check.specs.declared.verdict.Verdict.{Verdict}
 use Rattle.extremes.specs.declared.papers.Papers.{Papers}
-use Rattle.extremes.specs.Answer.{Answers, IsCrewed, IsSerial}
+use Rattle.extremes.specs.Answer.{Answers, IsCrewed}
 use Rattle.rank_parts.specs.declared.verdict.PartVerdict.{PartVerdict}
 use Rattle.extremes.specs.declared.judgement.Judgement.{Judgement}
 use Rattle.extremes.specs.declared.judgement.Judgement.TheVariants.{Whole, Part}
+use Rattle.rank_merge.specs.Merging.{Texts}
+use Rattle.extremes.specs.declared.files.Ranking.{Ranking}
+use Rattle.extremes.specs.declared.files.Judging.{Judging}
+use Rattle.extremes.specs.Merges.{Known, known_part, AreBothOf}
 use Rattle.extremes.specs.Judged.{IsJudged, IsJudgedByPart}
 
+-- the bytes of the file that is named, by those of files by their paths, where they are known
+abbrev pub named : {A : Type 0} → Known → String A → Option (List ℕ)
+named bytes_of path = bytes_of (string_bytes path)
+
 -- papers answer an intake's input
-pub record AnswersInput (t : Intake) (papers : Papers) : Type 0 where
-  pub is : (i : Input) → HasTaken t i → Answers i.guess i.query i.stations (given_files i) papers
+abbrev pub AnswersInput : Intake → Papers → Type 0
+AnswersInput t papers = IsTrueOf t (λ query stations files. Answers query stations files papers)
 
--- the papers are those of a crew for an intake's input: of the workers that were asked for, but of at most so many
-pub record CrewsInput (t : Intake) (most : ℕ) (papers : Papers) : Type 0 where
-  pub ran : ℕ
-  pub all : t.workers ≤ most → ran ≡ t.workers
-  pub fewer : most < t.workers → ran ≡ most
-  pub is : (i : Input) → HasTaken t i → IsCrewed ran i.guess i.query i.stations (given_files i) papers
-
--- the papers are those of one worker for an intake's input
-pub record SerialInput (t : Intake) (papers : Papers) : Type 0 where
-  pub is : (i : Input) → HasTaken t i → IsSerial i.guess i.query i.stations (given_files i) papers
+-- the papers are those of a crew of so many workers for an intake's input, under a guess or none
+abbrev pub CrewsInput : Intake → ℕ → Option ℤ → Papers → Type 0
+CrewsInput t workers guess papers =
+    IsTrueOf t (λ query stations files. IsCrewed workers guess query stations files papers)
 
 -- a verdict is that on these papers for an intake's input
-pub record JudgesInput (t : Intake) (report certificate : List ℕ) (v : Verdict) : Type 0 where
-  pub is : (i : Input) → HasTaken t i → IsJudged i.query i.stations (given_files i) report certificate v
+abbrev pub JudgesInput : Intake → List ℕ → List ℕ → Verdict → Type 0
+JudgesInput t report certificate v =
+    IsTrueOf t (λ query stations files. IsJudged query stations files report certificate v)
 
 -- a part's verdict is that on these papers for an intake's input
-pub record JudgesPart (t : Intake) (report certificate : List ℕ) (v : PartVerdict) : Type 0 where
-  pub is : (i : Input) → HasTaken t i → IsJudgedByPart i.query i.stations (given_files i) report certificate v
-
--- what is said is a part's verdict where the input is a part of the files that the papers are of, and a verdict where it
--- isn't
-abbrev pub JudgesInputAs : Bool → Intake → List ℕ → List ℕ → Judgement → Type 0
-JudgesInputAs false t report certificate (Whole v) = JudgesInput t report certificate v
-JudgesInputAs false t report certificate (Part v) = ⊥
-JudgesInputAs true t report certificate (Whole v) = ⊥
-JudgesInputAs true t report certificate (Part v) = JudgesPart t report certificate v
+abbrev pub JudgesPart : Intake → List ℕ → List ℕ → PartVerdict → Type 0
+JudgesPart t report certificate v =
+    IsTrueOf t (λ query stations files. IsJudgedByPart query stations files report certificate v)
 
 -- the papers are those of a crew of at most so many workers
 pub record IsCrewedBySome (workers : ℕ) (guess : Option ℤ) (query stations : List ℕ) (files : List (List ℕ))
@@ -55,20 +52,25 @@ pub record IsCrewedBySome (workers : ℕ) (guess : Option ℤ) (query stations :
 -- papers that answer these texts, of at most so many workers, or their first fault
 abbrev pub IsRanked : ℕ → Option ℤ → List ℕ → List ℕ → List (List ℕ) → Result Papers Fault → Type 0
 IsRanked workers guess query stations files (Ok papers) =
-    Answers guess query stations files papers × IsCrewedBySome workers guess query stations files papers
+    Answers query stations files papers × IsCrewedBySome workers guess query stations files papers
 IsRanked workers guess query stations files (Err fault) =
     IsRefusal is_memory fault (read_run workers guess query stations files)
 
--- the ranking of all bytes of the station list and of each daily file, in order
-pub record RanksFiles (workers : ℕ) (guess : Option ℤ) (query : List ℕ) (list : Option (List ℕ))
-    (known : List (Option (List ℕ))) (answer : Result Papers Fault) : Type 0 where
-  pub stations : List ℕ
-  pub whole : AreAllOf list stations
-  pub files : List (List ℕ)
-  pub all : AreFilesOf known files
-  pub ranked : IsRanked workers guess query stations files answer
+-- so is this an answer to an intake's input
+abbrev pub RanksInput : Intake → ℕ → Option ℤ → Result Papers Fault → Type 0
+RanksInput t workers guess answer =
+    IsTrueOf t (λ query stations files. IsRanked workers guess query stations files answer)
 
--- the same is said for these texts
+-- the ranking of all bytes of the station list and of each daily file that are named, in order
+pub record RanksFiles (bytes_of : Known) (r : Ranking) (answer : Result Papers Fault) : Type 0 where
+  pub stations : List ℕ
+  pub whole : AreAllOf (named bytes_of r.stations) stations
+  pub files : List (List ℕ)
+  pub all : AreFilesOf (map (named bytes_of) r.files.items) files
+  pub ranked : IsRanked r.workers r.guess (string_bytes r.query) stations files answer
+
+-- what is said for these texts is a part's verdict where they are a part of the files that the papers are of, and a
+-- verdict where they aren't
 abbrev pub IsJudgedAs : Bool → List ℕ → List ℕ → List (List ℕ) → List ℕ → List ℕ → Judgement → Type 0
 IsJudgedAs false query stations files report certificate (Whole v) =
     IsJudged query stations files report certificate v
@@ -77,22 +79,25 @@ IsJudgedAs true query stations files report certificate (Whole v) = ⊥
 IsJudgedAs true query stations files report certificate (Part v) =
     IsJudgedByPart query stations files report certificate v
 
+-- so it is said for an intake's input
+abbrev pub JudgesInputAs : Bool → Intake → List ℕ → List ℕ → Judgement → Type 0
+JudgesInputAs part t report certificate j =
+    IsTrueOf t (λ query stations files. IsJudgedAs part query stations files report certificate j)
+
 -- what is said of two papers for these texts, or the first fault of these
 abbrev pub IsJudgement : Bool → List ℕ → List ℕ → List (List ℕ) → List ℕ → List ℕ → Result Judgement Fault → Type 0
 IsJudgement part query stations files report certificate (Ok j) =
     IsJudgedAs part query stations files report certificate j
 IsJudgement part query stations files report certificate (Err fault) =
-    IsRefusal is_memory fault (read_input None query stations files)
+    IsRefusal is_memory fault (read_input query stations files)
 
--- the judgement of all bytes of two papers for those of the station list and of each daily file, in order
-pub record JudgesFiles (part : Bool) (query : List ℕ) (list first second : Option (List ℕ))
-    (known : List (Option (List ℕ))) (answer : Result Judgement Fault) : Type 0 where
+-- the judgement of all bytes of two papers for those of the station list and of each daily file, as they are named, in
+-- order
+pub record JudgesFiles (bytes_of : Known) (j : Judging) (answer : Result Judgement Fault) : Type 0 where
   pub stations : List ℕ
-  pub whole : AreAllOf list stations
-  pub report : List ℕ
-  pub report_whole : AreAllOf first report
-  pub certificate : List ℕ
-  pub certificate_whole : AreAllOf second certificate
+  pub whole : AreAllOf (named bytes_of j.stations) stations
+  pub papers : Texts
+  pub papers_whole : AreBothOf (known_part bytes_of j.papers) papers
   pub files : List (List ℕ)
-  pub all : AreFilesOf known files
-  pub judged : IsJudgement part query stations files report certificate answer
+  pub all : AreFilesOf (map (named bytes_of) j.files.items) files
+  pub judged : IsJudgement j.part (string_bytes j.query) stations files papers.0 papers.1 answer

@@ -1,8 +1,9 @@
 //! Ranking, merging and judging what the files of an archive hold.
 
-ghost use Rattle.std.specs.Prelude.{◌≡◌, [], IfOk, OnOk, map, string_bytes};
+ghost use Rattle.std.specs.Prelude.{◌≡◌, [], IfOk, OnOk, map};
 ghost use Rattle.std.specs.List.{AllZip};
-ghost use Rattle.extremes.specs.Runs.{RanksFiles, JudgesFiles};
+ghost use Rattle.rank_input.specs.Taken.{HasTakenSome};
+ghost use Rattle.extremes.specs.Runs.{RanksFiles, JudgesFiles, RanksInput};
 ghost use Rattle.extremes.specs.Merges.{AreBothOf, MergesFiles, known_part, texts_of};
 
 use crate::judge::judge_as;
@@ -13,37 +14,73 @@ use crate::rank::{self, Ranked, rank_intake};
 use command_line::Part;
 use ghcn_fields::Memory;
 use rank_crew::Open;
-use rank_input::{Archive, Fault, Intake, feed_files, piece_room, read_whole, worth_starting};
+use rank_input::{
+    Archive, Fault, Intake, check_words, feed_files, piece_room, read_whole, workers_for,
+};
 use rank_merge::MergeFault;
 use std::alloc::Global;
 use std::sync::Wait;
 use std::thread::Threads;
+
+/// What is ranked: files, named by their paths, for a query.
+#[derive(Drop)]
+pub(crate) struct Ranking {
+    pub(crate) stations: String,
+    pub(crate) files: Vec<String>,
+    pub(crate) query: String,
+    pub(crate) workers: u64,
+    pub(crate) guess: Option<i64>,
+}
+
+/// What is judged: two papers for a query, over files, all named by their paths.
+#[derive(Drop)]
+pub(crate) struct Judging {
+    pub(crate) stations: String,
+    pub(crate) files: Vec<String>,
+    pub(crate) query: String,
+    pub(crate) papers: Part,
+    /// Whether the files are a part of those that the papers are of.
+    pub(crate) part: bool,
+}
 
 /// Reads the station list and then the daily files in order, and ranks them, or answers the path of
 /// the first file that can't be read.
 pub(crate) fn rank_files<'p, R: Threads + Wait + AllocGlobal + Sync, A: Archive>(
     rt: &R,
     archive: &A,
-    stations: &'p str,
-    files: &'p [String],
-    query: &str,
-    workers: u64,
-    guess: Option<i64>,
+    ranking: &'p Ranking,
 ) -> Result<Ranked, &'p str>
-    ensures { IfOk result (λ ranked. RanksFiles workers guess query.now (A.bytes_of archive.now stations.now)
-        (map (λ path. A.bytes_of archive.now (string_bytes path)) files.now) ranked.answer) }
+    ensures { IfOk result (λ ranked. RanksFiles (A.bytes_of archive.now) ranking.now ranked.answer) }
 {
     let alloc = rt.alloc();
-    let Ok(stations_text) = read_whole(alloc, archive, stations) else {
-        return Err(stations);
+    let Ok(stations) = read_whole(alloc, archive, &ranking.stations) else {
+        return Err(&ranking.stations);
     };
     let Ok(mut room) = piece_room(alloc) else {
         return Ok(rank::refused(Fault::Memory(Memory)));
     };
-    let mut intake = Intake::new(alloc, workers, guess, query, &stations_text);
-    feed_files(archive, &mut intake, files, &mut room)?;
-    let most = worth_starting(intake.bytes);
-    Ok(rank_intake(rt, intake, most, &Open))
+    let mut intake = Intake::new(alloc, &ranking.query, &stations);
+    feed_files(archive, &mut intake, &ranking.files, &mut room)?;
+    Ok(rank_fed(rt, intake, ranking.workers, ranking.guess))
+}
+
+/// Ranks what was fed, by as many of the workers that are asked for as are worth starting.
+fn rank_fed<R: Threads + Wait + AllocGlobal + Sync>(
+    rt: &R,
+    intake: Intake,
+    workers: u64,
+    guess: Option<i64>,
+) -> Ranked
+    requires { HasTakenSome intake }
+    ensures { RanksInput intake workers guess result.answer }
+{
+    match check_words(workers, guess) {
+        Ok(()) => {
+            let started = workers_for(workers, intake.bytes);
+            rank_intake(rt, intake, started, guess, &Open)
+        }
+        Err(fault) => rank::refused(fault),
+    }
 }
 
 /// Reads the papers of the parts in order, and merges them, or answers the path of the first paper
@@ -111,30 +148,24 @@ fn read_part<'p, A: Archive>(
 pub(crate) fn judge_files<'p, A: Archive>(
     alloc: Global,
     archive: &A,
-    stations: &'p str,
-    query: &str,
-    report: &'p str,
-    certificate: &'p str,
-    part: bool,
-    files: &'p [String],
+    judging: &'p Judging,
 ) -> Result<Result<Judgement, Fault>, &'p str>
-    ensures { IfOk result (JudgesFiles part query.now (A.bytes_of archive.now stations.now)
-        (A.bytes_of archive.now report.now) (A.bytes_of archive.now certificate.now)
-        (map (λ path. A.bytes_of archive.now (string_bytes path)) files.now)) }
+    ensures { IfOk result (JudgesFiles (A.bytes_of archive.now) judging.now) }
 {
-    let Ok(stations_text) = read_whole(alloc, archive, stations) else {
-        return Err(stations);
+    let Ok(stations) = read_whole(alloc, archive, &judging.stations) else {
+        return Err(&judging.stations);
     };
-    let Ok(report_text) = read_whole(alloc, archive, report) else {
-        return Err(report);
-    };
-    let Ok(certificate_text) = read_whole(alloc, archive, certificate) else {
-        return Err(certificate);
-    };
+    let papers = read_part(alloc, archive, &judging.papers)?;
     let Ok(mut room) = piece_room(alloc) else {
         return Ok(Err(Fault::Memory(Memory)));
     };
-    let mut intake = Intake::new(alloc, 1, None, query, &stations_text);
-    feed_files(archive, &mut intake, files, &mut room)?;
-    Ok(judge_as(alloc, intake, part, &report_text, &certificate_text))
+    let mut intake = Intake::new(alloc, &judging.query, &stations);
+    feed_files(archive, &mut intake, &judging.files, &mut room)?;
+    Ok(judge_as(
+        alloc,
+        intake,
+        judging.part,
+        &papers.report,
+        &papers.certificate,
+    ))
 }

@@ -1,6 +1,6 @@
 //! The judgement of papers, from the bytes of the files to a verdict.
 
-ghost use Rattle.std.specs.Prelude.{◌≡◌, None, IfOk, IfErr, map};
+ghost use Rattle.std.specs.Prelude.{◌≡◌, IfOk, IfErr, map};
 ghost use Rattle.extremes.specs.Ending.{ending_of};
 ghost use Rattle.ghcn_fields.specs.Refusals.{IsRefusal};
 ghost use Rattle.rank_input.specs.Input.{read_input, is_memory};
@@ -34,9 +34,9 @@ pub fn judge(
     ensures ok { IfOk result (IsJudged
         query.now stations.now (map (λ file. file.now) files.now) report.now certificate.now) }
     ensures err { IfErr result (λ fault.
-        IsRefusal is_memory fault (read_input None query.now stations.now (map (λ file. file.now) files.now))) }
+        IsRefusal is_memory fault (read_input query.now stations.now (map (λ file. file.now) files.now))) }
 {
-    let intake = Intake::of_files(alloc, 1, None, query, stations, files);
+    let intake = Intake::of_files(alloc, query, stations, files);
     judge_intake(alloc, intake, report, certificate)
 }
 
@@ -57,11 +57,11 @@ pub fn judge_part(
     ensures ok { IfOk result (IsJudgedByPart
         query.now stations.now (map (λ file. file.now) files.now) report.now certificate.now) }
     ensures err { IfErr result (λ fault.
-        IsRefusal is_memory fault (read_input None query.now stations.now (map (λ file. file.now) files.now))) }
+        IsRefusal is_memory fault (read_input query.now stations.now (map (λ file. file.now) files.now))) }
     ensures whole { PartsJudgeTheWhole }
 {
     parts_judge_the_whole();
-    let intake = Intake::of_files(alloc, 1, None, query, stations, files);
+    let intake = Intake::of_files(alloc, query, stations, files);
     judge_part_intake(alloc, intake, report, certificate)
 }
 

@@ -6,7 +6,7 @@ ghost use Rattle.extremes.specs.Answer.{Answers, ArePapers, ArePapersOfPlan, IsC
 ghost use Rattle.extremes.specs.Answer.{IsOfOneWorker, IsSerial, SerialPapersAreOne};
 ghost use Rattle.rank_papers.specs.Certificate.{certificate_of_best};
 ghost use Rattle.ghcn_fields.specs.Refusals.{IsRefusal};
-ghost use Rattle.rank_input.specs.Input.{is_crew, is_guess, read_input, read_run, is_memory};
+ghost use Rattle.rank_input.specs.Input.{is_crew, is_guess, read_run, is_memory};
 ghost use Rattle.rank_input.specs.Taken.{HasTakenSome, RefusesInput};
 ghost use Rattle.extremes.specs.Runs.{AnswersInput, CrewsInput};
 ghost use Rattle.rank_sched.specs.Answers.{IsAnswerOfPlan};
@@ -16,7 +16,7 @@ use crate::papers::Papers;
 use ghcn_fields::Memory;
 use ghcn_series::Data;
 use rank_crew::{Gate, crew, survey};
-use rank_input::{Fault, Intake, MOST_WORKERS, at_most};
+use rank_input::{Fault, Intake, check_words};
 use rank_papers::{certificate, papers_of_one_element, report};
 use rank_query::Query;
 use rank_sched::{Answer, Plan, ends_are_sound, run_alone, runs_are_sound};
@@ -43,15 +43,16 @@ pub fn rank<R: Threads + Wait + AllocGlobal + Sync, G: Gate + Sync>(
     guess: Option<i64>,
     gate: &G,
 ) -> Result<Papers, Fault>
-    ensures ok { IfOk result (Answers guess query.now stations.now (map (λ file. file.now) files.now)) }
+    ensures ok { IfOk result (Answers query.now stations.now (map (λ file. file.now) files.now)) }
     ensures workers { IfOk result (λ papers. is_crew workers ≡ true) }
+    ensures guess { IfOk result (λ papers. is_guess guess ≡ true) }
     ensures crew { IfOk result (IsCrewed workers guess query.now stations.now (map (λ file. file.now) files.now)) }
     ensures err { IfErr result (λ fault.
         IsRefusal is_memory fault (read_run workers guess query.now stations.now (map (λ file. file.now) files.now))) }
 {
-    let alloc = rt.alloc();
-    let intake = Intake::of_files(alloc, workers, guess, query, stations, files);
-    rank_intake(rt, intake, MOST_WORKERS, gate).answer
+    check_words(workers, guess)?;
+    let intake = Intake::of_files(rt.alloc(), query, stations, files);
+    rank_intake(rt, intake, workers, guess, gate).answer
 }
 
 /// What a ranking answers, and the data that it ranked.
@@ -63,27 +64,25 @@ pub struct Ranked {
     pub held: Option<Data>,
 }
 
-/// Ranks the candidates of a query over what was given, as `rank` does, by the workers that were
-/// asked for, but at most by so many.
+/// Ranks the candidates of a query over what was given, as `rank` does.
 pub fn rank_intake<R: Threads + Wait + AllocGlobal + Sync, G: Gate + Sync>(
     rt: &R,
     intake: Intake,
-    most: u64,
+    workers: u64,
+    guess: Option<i64>,
     gate: &G,
 ) -> Ranked
     requires taken { HasTakenSome intake }
-    requires some { 0 < most }
+    requires workers { is_crew workers ≡ true }
+    requires guess { is_guess guess ≡ true }
     ensures ok { IfOk result.answer (AnswersInput intake) }
-    ensures workers { IfOk result.answer (λ papers. is_crew intake.workers ≡ true) }
-    ensures crew { IfOk result.answer (CrewsInput intake most) }
+    ensures crew { IfOk result.answer (CrewsInput intake workers guess) }
     ensures err { IfErr result.answer (RefusesInput intake) }
 {
-    let (workers, guess) = (intake.workers, intake.guess);
     match intake.finish() {
         Ok((query, held)) => {
             papers_of_one_element();
             one_element_is_enough();
-            let workers = at_most(workers, most);
             let answer = ranked_by_crew(rt, &held, &query, workers, guess, gate);
             Ranked {
                 answer,
@@ -118,12 +117,14 @@ pub fn rank_serial(
     query: &str,
     guess: Option<i64>,
 ) -> Result<Papers, Fault>
-    ensures ok { IfOk result (Answers guess query.now stations.now (map (λ file. file.now) files.now)) }
+    ensures ok { IfOk result (Answers query.now stations.now (map (λ file. file.now) files.now)) }
+    ensures guess { IfOk result (λ papers. is_guess guess ≡ true) }
     ensures serial { IfOk result (IsSerial guess query.now stations.now (map (λ file. file.now) files.now)) }
     ensures err { IfErr result (λ fault.
-        IsRefusal is_memory fault (read_input guess query.now stations.now (map (λ file. file.now) files.now))) }
+        IsRefusal is_memory fault (read_run 1 guess query.now stations.now (map (λ file. file.now) files.now))) }
 {
-    let intake = Intake::of_files(alloc, 1, guess, query, stations, files);
+    check_words(1, guess)?;
+    let intake = Intake::of_files(alloc, query, stations, files);
     let (query, held) = intake.finish()?;
     papers_of_one_element();
     one_element_is_enough();

@@ -1,15 +1,17 @@
 //! A run of the program: reads its words, and does what they ask for.
 
-ghost use Rattle.extremes.specs.Commands.{IsRun};
+ghost use Rattle.std.specs.Prelude.{map};
+ghost use Rattle.extremes.specs.Commands.{IsRun, RunsRanking, RunsMerge, RunsJudging};
+ghost use Rattle.extremes.specs.Merges.{known_part};
 
 use crate::ending::Ending;
-use crate::files::{judge_files, merge_files, rank_files};
+use crate::files::{Judging, Ranking, judge_files, merge_files, rank_files};
 use crate::papers::Papers;
 use crate::print::{not_read, not_written, print_answer, print_judgement, print_ranked, refused};
 use crate::rank::rank_serial;
 use crate::sample;
 use crate::target::{is_in_use, is_paper_or_output};
-use command_line::{Command, CommandFault, command};
+use command_line::{Command, CommandFault, Part, command};
 use ghcn_fields::Memory;
 use rank_input::{Archive, Fault, System};
 use std::alloc::Global;
@@ -62,33 +64,20 @@ fn run_command<R: Files + Eprint + Threads + Wait + AllocGlobal + Sync, A: Archi
             certificate,
             files,
         } => {
-            let certificate = certificate.as_ref().map(|path| path.as_str());
-            if let Some(path) = certificate {
-                if is_in_use(rt, path, &stations, &files) {
-                    return not_written(rt, path);
-                }
-            }
-            match rank_files(rt, archive, &stations, &files, &query, workers, guess) {
-                Ok(ranked) => print_ranked(rt, ranked, certificate, out),
-                Err(path) => not_read(rt, path),
-            }
+            let ranking = Ranking {
+                stations,
+                files,
+                query,
+                workers,
+                guess,
+            };
+            run_ranking(rt, archive, &ranking, &certificate, out)
         }
         Command::Merge {
             query,
             certificate,
             parts,
-        } => {
-            let certificate = certificate.as_ref().map(|path| path.as_str());
-            if let Some(path) = certificate {
-                if is_paper_or_output(rt, path, &parts) {
-                    return not_written(rt, path);
-                }
-            }
-            match merge_files(rt.alloc(), archive, &query, &parts) {
-                Ok(merged) => print_answer(rt, merged, certificate, out),
-                Err(path) => not_read(rt, path),
-            }
-        }
+        } => run_merge(rt, archive, &query, &parts, &certificate, out),
         Command::Check {
             stations,
             query,
@@ -97,21 +86,84 @@ fn run_command<R: Files + Eprint + Threads + Wait + AllocGlobal + Sync, A: Archi
             part,
             files,
         } => {
-            let alloc = rt.alloc();
-            match judge_files(
-                alloc,
-                archive,
-                &stations,
-                &query,
-                &report,
-                &certificate,
+            let papers = Part {
+                report,
+                certificate,
+            };
+            let judging = Judging {
+                stations,
+                files,
+                query,
+                papers,
                 part,
-                &files,
-            ) {
-                Ok(judged) => print_judgement(rt, judged, out),
-                Err(path) => not_read(rt, path),
-            }
+            };
+            run_judging(rt, archive, &judging, out)
         }
+    }
+}
+
+/// Ranks files that are named, and prints the report. The certificate goes to the file of a path,
+/// where one is named.
+fn run_ranking<R: Files + Eprint + Threads + Wait + AllocGlobal + Sync, A: Archive, W: Write>(
+    rt: &R,
+    archive: &A,
+    ranking: &Ranking,
+    certificate: &Option<String>,
+    out: &mut W,
+) -> Ending
+    ensures { RunsRanking (A.bytes_of archive.now) ranking.now
+        (W.contents out.old) (W.contents out.new) result }
+{
+    let certificate = certificate.as_ref().map(|path| path.as_str());
+    if let Some(path) = certificate {
+        if is_in_use(rt, path, &ranking.stations, &ranking.files) {
+            return not_written(rt, path);
+        }
+    }
+    match rank_files(rt, archive, ranking) {
+        Ok(ranked) => print_ranked(rt, ranked, certificate, out),
+        Err(path) => not_read(rt, path),
+    }
+}
+
+/// Merges the papers of parts that are named, and prints the report. The certificate goes to the
+/// file of a path, where one is named.
+fn run_merge<R: Files + Eprint + AllocGlobal, A: Archive, W: Write>(
+    rt: &R,
+    archive: &A,
+    query: &str,
+    parts: &[Part],
+    certificate: &Option<String>,
+    out: &mut W,
+) -> Ending
+    ensures { RunsMerge query.now (map (known_part (A.bytes_of archive.now)) parts.now)
+        (W.contents out.old) (W.contents out.new) result }
+{
+    let certificate = certificate.as_ref().map(|path| path.as_str());
+    if let Some(path) = certificate {
+        if is_paper_or_output(rt, path, parts) {
+            return not_written(rt, path);
+        }
+    }
+    match merge_files(rt.alloc(), archive, query, parts) {
+        Ok(merged) => print_answer(rt, merged, certificate, out),
+        Err(path) => not_read(rt, path),
+    }
+}
+
+/// Judges papers over files that are named, and prints the verdict.
+fn run_judging<R: Eprint + AllocGlobal, A: Archive, W: Write>(
+    rt: &R,
+    archive: &A,
+    judging: &Judging,
+    out: &mut W,
+) -> Ending
+    ensures { RunsJudging (A.bytes_of archive.now) judging.now
+        (W.contents out.old) (W.contents out.new) result }
+{
+    match judge_files(rt.alloc(), archive, judging) {
+        Ok(judged) => print_judgement(rt, judged, out),
+        Err(path) => not_read(rt, path),
     }
 }
 

@@ -1,18 +1,19 @@
 -- Two number fields of five columns each, tested by lanes.
 use Rattle.std.proofs.Common.{◌≡◌, ℕ, zero, suc, ◌+◌, ◌*◌, ◌-◌, ◌/◌, ◌%◌, ◌^◌, Bool, true, false, cond, List, [], ◌∷◌}
-use Rattle.std.proofs.Common.{◌++◌, map, length, get_or, refl, sym, ap, ap₂, ◌∙◌, arith, pos, eqb, leb}
-use Rattle.std.specs.Prelude.{◌&&◌, ◌||◌, ◌==◌, not, bit_or, bit_and}
+use Rattle.std.proofs.Common.{◌++◌, map, length, get_or, refl, sym, ap, ap₂, ◌∙◌, arith, pos, eqb, leb, w8}
+use Rattle.std.proofs.lemmas.List.{length-map}
+use Rattle.std.specs.Prelude.{◌&&◌, ◌||◌, ◌==◌, not, bit_or, bit_and, replicate}
 use Rattle.std.specs.Char.{is_ascii_digit}
 use Rattle.std.specs.List.{list_all, list_any, range_with_len}
 use Rattle.std.proofs.lemmas.Bool.Decides.{nat_tests}
 use Rattle.std.proofs.Math.Nat.{pow-suc}
 use Rattle.std.proofs.Math.Pow.{suc_ones}
-use Rattle.std.proofs.lemmas.Simd.{pick_l_whole, mask_l-mod}
-use lib.Lanes.{mask_l, top}
+use Rattle.std.proofs.lemmas.Simd.{pick_l_whole, mask_l-mod, tops_compared, zip2_splat_left}
+use lib.Lanes.{mask_l, top, zip2}
 use Rattle.ghcn_fields.specs.Bytes.{is_blank}
 use Rattle.ghcn_fields.specs.Numbers.{int_field, is_bad}
 use Rattle.ghcn_fields.specs.FieldForms.{digit_of, kind_of, may_precede, is_minus, is_number_form}
-use Rattle.ghcn_fields.specs.FieldForms.{form_of_kinds, is_malformed, IsSum}
+use Rattle.ghcn_fields.specs.FieldForms.{form_of_kinds, is_malformed, are_set, IsSum}
 use Rattle.ghcn_fields.proofs.FieldsByKind.{sum_of, form_field, form-cases, form}
 
 -- ---- a field whose bytes may stand where they do
@@ -97,72 +98,65 @@ and-mark true false = refl
 and-mark false true = refl
 and-mark false false = refl
 
-top-mark : (t : Bool) → top 7 (mark t) ≡ t
-top-mark true = refl
-top-mark false = refl
+-- a mask's lanes are taken as they are
+set-mark : (t : Bool) → cond (top 7 (mark t)) 255 0 ≡ mark t
+set-mark true = refl
+set-mark false = refl
 
--- a mask's lanes are those where 1 was taken by it, and 0 elsewhere
-one-mark : (t : Bool) → mark (eqb (cond (top 7 (mark t)) 1 0) 1) ≡ mark t
-one-mark true = refl
-one-mark false = refl
+-- a lane has all its bits where its mark is set
+whole-mark : (t : Bool) → leb 255 (mark t) ≡ t
+whole-mark true = refl
+whole-mark false = refl
 
--- what a byte's lane says, by the next byte, and whether its field goes on, ends, or was before
-abbrev lane : ℕ → ℕ → Bool → Bool → Bool → Bool
-lane b next front last behind =
-    let digits = λ (x : ℕ). bit_and (mark (leb 48 x)) (mark (leb x 57)) in
-    let before = mark (eqb (cond (top 7 (digits next)) 1 0) 1) in
-    let goes_on = bit_and (bit_or (digits b) (mark (eqb b 45))) before in
-    top 7 (bit_or (bit_or (bit_or (mark (eqb b 32)) (bit_and goes_on (mark front))) (bit_and (digits b) (mark last)))
-    (mark behind))
-
--- a byte before its field's last one goes on: a digit or a minus, before a digit
-abbrev goes_on : ℕ → ℕ → Bool
-goes_on b next = (is_ascii_digit b || (b == 45)) && is_ascii_digit next
+-- what a byte's lane says, by the next byte, what else may stand before a digit, and whether its field was before
+abbrev lane : ℕ → ℕ → ℕ → Bool → ℕ
+lane b next minus behind =
+    let digits = λ (x : ℕ). cond (top 7 (bit_and (mark (leb 48 x)) (mark (leb x 57)))) 255 0 in
+    bit_or (bit_or (cond (top 7 (mark (eqb b 32))) 255 0)
+    (bit_and (bit_or (digits b) (cond (top 7 (mark (eqb b minus))) 255 0)) (digits next))) (mark behind)
 
 -- that the byte may stand there
-lane-is : (b next : ℕ) (front last behind : Bool) → lane b next front last behind
-    ≡ ((((b == 32) || (goes_on b next && front)) || (is_ascii_digit b && last)) || behind)
-lane-is b next front last behind =
+lane-is : (b next minus : ℕ) (behind : Bool) → leb 255 (lane b next minus behind)
+    ≡ (((b == 32) || ((is_ascii_digit b || (b == minus)) && is_ascii_digit next)) || behind)
+lane-is b next minus behind =
     let d : Bool = is_ascii_digit b in
     let n : Bool = is_ascii_digit next in
-    let goes : Bool = (d || (b == 45)) && n in
+    let goes : Bool = (d || (b == minus)) && n in
     rw (
       and-mark (leb 48 b) (leb b 57),
       and-mark (leb 48 next) (leb next 57),
-      one-mark n,
-      or-mark d (b == 45),
-      and-mark (d || (b == 45)) n,
-      and-mark goes front,
-      and-mark d last,
-      or-mark (b == 32) (goes && front),
-      or-mark ((b == 32) || (goes && front)) (d && last),
-      or-mark (((b == 32) || (goes && front)) || (d && last)) behind,
-    ) (top-mark _)
+      set-mark (b == 32),
+      set-mark (b == minus),
+      set-mark d,
+      set-mark n,
+      or-mark d (b == minus),
+      and-mark (d || (b == minus)) n,
+      or-mark (b == 32) goes,
+      or-mark ((b == 32) || goes) behind,
+    ) (whole-mark _)
+
+-- nothing else
+or_nothing : (t : Bool) → (t || false) ≡ t
+or_nothing true = refl
+or_nothing false = refl
 
 -- a byte of a field before its last one
-lane-front : (b next : ℕ) → lane b next true false false ≡ may_precede b next
-lane-front b next = lane-is b next true false false ∙ by (b == 32) (goes_on b next) (is_ascii_digit b)
-  where
-    by : (blank goes digit : Bool) → (((blank || (goes && true)) || (digit && false)) || false) ≡ (blank || goes)
-    by true goes digit = refl
-    by false true digit = refl
-    by false false true = refl
-    by false false false = refl
+lane-front : (b next : ℕ) → leb 255 (lane b next 45 false) ≡ may_precede b next
+lane-front b next = lane-is b next 45 false ∙ or_nothing (may_precede b next)
 
 -- a field's last byte
-lane-last : (b next : ℕ) → lane b next false true false ≡ may_stand (b ∷ [])
-lane-last b next = lane-is b next false true false ∙ by (b == 32) (goes_on b next) (is_ascii_digit b)
+lane-last : (b : ℕ) → leb 255 (lane b b 48 false) ≡ may_stand (b ∷ [])
+lane-last b = lane-is b b 48 false ∙ by (b == 32) (is_ascii_digit b) (b == 48)
   where
-    by : (blank goes digit : Bool) → (((blank || (goes && false)) || (digit && true)) || false) ≡ (blank || digit)
-    by true goes digit = refl
-    by false true true = refl
-    by false true false = refl
+    by : (blank digit other : Bool) → ((blank || ((digit || other) && digit)) || false) ≡ (blank || digit)
+    by true digit other = refl
+    by false true other = refl
     by false false true = refl
     by false false false = refl
 
 -- a byte of no field
-lane-behind : (b next : ℕ) → lane b next false false true ≡ true
-lane-behind b next = lane-is b next false false true ∙ by _
+lane-behind : (b : ℕ) → leb 255 (lane b b 0 true) ≡ true
+lane-behind b = lane-is b b 0 true ∙ by _
   where
     by : (t : Bool) → (t || true) ≡ true
     by true = refl
@@ -176,7 +170,7 @@ twice true m k = grind (arith, nat_tests)
 twice false m k = grind (arith, nat_tests)
 
 -- a mask has all its bits where each lane is set
-all_set : (ts : List Bool) (k : ℕ) → k ≡ 2 ^ length ts - 1 → (mask_l ts == k) ≡ list_all (λ t. t) ts
+pub all_set : (ts : List Bool) (k : ℕ) → k ≡ 2 ^ length ts - 1 → (mask_l ts == k) ≡ list_all (λ t. t) ts
 all_set [] k e = ap (λ (n : ℕ). zero == n) e
 all_set (t ∷ ts) k e =
     let double : 2 ^ length (t ∷ ts) ≡ 2 ^ length ts * 2 = pow-suc 2 (length ts) in
@@ -194,22 +188,21 @@ all_of true true false d e rest = refl
 all_of true true true false e rest = refl
 all_of true true true true e rest = refl
 
--- one of two is bad where not both are good
-either : (s t : Bool) → not (s && (t && true)) ≡ (not s || not t)
-either true true = refl
-either true false = refl
-either false t = refl
+-- neither of two is bad where both are good
+neither_bad : (s t : Bool) → (s && (t && true)) ≡ not (not s || not t)
+neither_bad true true = refl
+neither_bad true false = refl
+neither_bad false t = refl
 
 -- two lists begin alike and go on alike
 both : {s t : Bool} {ss ts : List Bool} → s ≡ t → ss ≡ ts → s ∷ ss ≡ t ∷ ts
 both p q = ap₂ (λ (x : Bool) (xs : List Bool). x ∷ xs) p q
 
--- what the lanes of a field's five columns and the three behind them say, by the column that comes next
-abbrev eight : ℕ → ℕ → ℕ → ℕ → ℕ → ℕ → ℕ → ℕ → ℕ → List Bool
-eight a b c d e f g h next =
-    lane a b true false false ∷ lane b c true false false ∷ lane c d true false false ∷ lane d e true false false
-    ∷ lane e f false true false ∷ lane f g false false true ∷ lane g h false false true ∷ lane h next false false true
-    ∷ []
+-- what the lanes of a field's five columns and the three behind them say
+abbrev eight : ℕ → ℕ → ℕ → ℕ → ℕ → ℕ → ℕ → ℕ → List ℕ
+eight a b c d e f g h =
+    lane a b 45 false ∷ lane b c 45 false ∷ lane c d 45 false ∷ lane d e 45 false ∷ lane e e 48 false
+    ∷ lane f f 0 true ∷ lane g g 0 true ∷ lane h h 0 true ∷ []
 
 -- whether each of a field's columns may stand where it does, and that the three behind them may
 abbrev may_stand_each : ℕ → ℕ → ℕ → ℕ → ℕ → List Bool
@@ -217,10 +210,10 @@ may_stand_each a b c d e =
     may_precede a b ∷ may_precede b c ∷ may_precede c d ∷ may_precede d e ∷ may_stand (e ∷ []) ∷ true ∷ true ∷ true ∷ []
 
 -- that is what they say
-eight-are : (a b c d e f g h next : ℕ) → eight a b c d e f g h next ≡ may_stand_each a b c d e
-eight-are a b c d e f g h next =
-    both (lane-front a b) (both (lane-front b c) (both (lane-front c d) (both (lane-front d e) (both (lane-last e f)
-    (both (lane-behind f g) (both (lane-behind g h) (both (lane-behind h next) (refl {a = []}))))))))
+eight-are : (a b c d e f g h : ℕ) → map (leb 255) (eight a b c d e f g h) ≡ may_stand_each a b c d e
+eight-are a b c d e f g h =
+    both (lane-front a b) (both (lane-front b c) (both (lane-front c d) (both (lane-front d e) (both (lane-last e)
+    (both (lane-behind f) (both (lane-behind g) (both (lane-behind h) (refl {a = []}))))))))
 
 -- sixteen columns, one by one
 pub sixteen_are : (xs : List ℕ) → length xs ≡ 16 → xs ≡ map (λ j. get_or xs j 0) (range_with_len 0 16)
@@ -228,18 +221,30 @@ sixteen_are xs many = sym (pick_l_whole 0 xs 16 many)
 
 -- the lanes of sixteen columns say whether one of the two fields is bad
 pub two_fields : (a b c d e f g h i j k l m n o p : ℕ)
-    → not (mask_l (eight a b c d e f g h i ++ eight i j k l m n o p a) % 2 ^ 64 == 65535)
-    ≡ (is_bad (int_field (a ∷ b ∷ c ∷ d ∷ e ∷ [])) || is_bad (int_field (i ∷ j ∷ k ∷ l ∷ m ∷ [])))
+    → are_set (eight a b c d e f g h ++ eight i j k l m n o p)
+    ≡ not (is_bad (int_field (a ∷ b ∷ c ∷ d ∷ e ∷ [])) || is_bad (int_field (i ∷ j ∷ k ∷ l ∷ m ∷ [])))
 two_fields a b c d e f g h i j k l m n o p =
-    let tests : List Bool = may_stand_each a b c d e ++ may_stand_each i j k l m in
     let first : Bool = may_stand (a ∷ b ∷ c ∷ d ∷ e ∷ []) in
     let second : Bool = may_stand (i ∷ j ∷ k ∷ l ∷ m ∷ []) in
-    ap₂ (λ (ss ts : List Bool). not (mask_l (ss ++ ts) % 2 ^ 64 == 65535)) (eight-are a b c d e f g h i)
-    (eight-are i j k l m n o p a)
-    ∙ ap (λ (mask : ℕ). not (mask == 65535)) (mask_l-mod tests 64 (omega arith))
-    ∙ ap not (all_set tests 65535 refl
+    ap₂ (λ (ss ts : List Bool). list_all (λ t. t) (ss ++ ts)) (eight-are a b c d e f g h) (eight-are i j k l m n o p)
     ∙ all_of (may_precede a b) (may_precede b c) (may_precede c d) (may_precede d e) (may_stand (e ∷ [])) _
     ∙ ap (λ (t : Bool). first && t)
-    (all_of (may_precede i j) (may_precede j k) (may_precede k l) (may_precede l m) (may_stand (m ∷ [])) _))
-    ∙ either first second
-    ∙ ap₂ (λ (s t : Bool). s || t) (sym (bad_five a b c d e)) (sym (bad_five i j k l m))
+    (all_of (may_precede i j) (may_precede j k) (may_precede k l) (may_precede l m) (may_stand (m ∷ [])) _)
+    ∙ neither_bad first second
+    ∙ ap₂ (λ (s t : Bool). not (s || t)) (sym (bad_five a b c d e)) (sym (bad_five i j k l m))
+
+-- a test of each lane is one of what it says
+each_test : (xs : List ℕ) → list_all (λ t. t) (map (λ x. leb 255 x) xs) ≡ are_set xs
+each_test [] = refl
+each_test (x ∷ xs) = ap (λ (t : Bool). leb 255 x && t) (each_test xs)
+
+-- a mask of the lanes that have all their bits is full where each lane has
+pub set_mask : (xs : List ℕ) → length xs ≡ 16
+    → (mask_l (map (top 7) (zip2 (λ a b. cond (leb a b) 255 0) (replicate 16 255) xs)) % 2 ^ 64 == 65535) ≡ are_set xs
+set_mask xs many =
+    let tests : List Bool = map (λ x. leb 255 x) xs in
+    let long : length tests ≡ 16 = length-map xs (λ x. leb 255 x) ∙ many in
+    ap (λ (ms : List Bool). mask_l ms % 2 ^ 64 == 65535)
+    (tops_compared w8 leb (replicate 16 255) xs ∙ zip2_splat_left leb 255 16 xs many)
+    ∙ ap (λ (n : ℕ). n == 65535) (mask_l-mod tests 64 (omega (arith, long)))
+    ∙ all_set tests 65535 (ap (λ (n : ℕ). 2 ^ n - 1) (sym long)) ∙ each_test xs

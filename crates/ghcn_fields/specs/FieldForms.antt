@@ -1,8 +1,8 @@
 -- A number field by its columns: which bytes may stand side by side, and what each adds to the number.
 use Rattle.std.specs.Prelude.{◌≡◌, ℕ, ◌+◌, ◌*◌, ◌-◌, ◌/◌, ◌%◌, ◌<◌, Bool, true, false, ◌&&◌, ◌||◌, ◌==◌}
-use Rattle.std.specs.Prelude.{if◌then◌else◌, List, [], ◌∷◌, ℤ, pos, neg_ℤ}
+use Rattle.std.specs.Prelude.{if◌then◌else◌, nat_le, List, [], ◌∷◌, ℤ, pos, neg_ℤ}
 use Rattle.std.specs.Char.{is_ascii_digit}
-use Rattle.std.specs.List.{list_any}
+use Rattle.std.specs.List.{list_all, list_any}
 use Rattle.ghcn_fields.specs.declared.value.Form.{Form}
 use Rattle.ghcn_fields.specs.declared.value.Form.TheVariants.{Blanks, Plain, Negative, Malformed}
 use Rattle.ghcn_fields.specs.Bytes.{blank_byte, is_blank}
@@ -75,3 +75,7 @@ number_by Blanks n other = other
 number_by Plain n other = pos n
 number_by Negative n other = neg_ℤ (pos n)
 number_by Malformed n other = other
+
+-- each lane of a byte has all its bits
+abbrev pub are_set : List ℕ → Bool
+are_set lanes = list_all (λ lane. nat_le 255 lane) lanes

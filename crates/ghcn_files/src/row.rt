@@ -11,7 +11,8 @@ use crate::month::{
     COLUMNS, DAYS, UP_TO_ELEMENT, head_of, is_flagged, readings, two_groups, value_column,
 };
 use crate::{Element, LineWhy, StationId};
-use ghcn_fields::{days_in_month, has_bad_field, value_or};
+use ghcn_fields::{are_set, days_in_month, good_columns, value_or};
+use std::simd::prelude::*;
 
 /// The days of a month whose values count: those that the month has, whose value isn't missing,
 /// whose quality flag is a blank, and whose value the element can have. Only temperatures are negative.
@@ -124,12 +125,12 @@ fn has_bad_value(line: &[u8]) -> bool
 fn has_bad_value_in(line: &[u8; COLUMNS]) -> bool
     ensures { result ≡ false → months.days_why line.now ≡ None }
 {
-    let mut any_is_bad = false;
+    let mut good = u8x16::splat(255);
     for pair in 0..DAYS / 2 {
-        any_is_bad |= has_bad_field(two_groups(line, 2 * pair));
+        good &= good_columns(two_groups(line, 2 * pair));
     }
     let last_two = two_groups(line, DAYS - 2);
-    any_is_bad | has_bad_field(last_two)
+    !are_set(good & good_columns(last_two))
 }
 
 /// The values of a line that count, in a month with so many days, or which day's value, the first

@@ -19,7 +19,7 @@ use Rattle.ghcn_series.specs.Series.{DayValue, Usable, Contents, value_on, serie
 use Rattle.ghcn_series.specs.DailyFaults.{FileLine, file_lines, daily_lines, daily_fault}
 use Rattle.ghcn_series.specs.Says.{in_64_bits, contents, contents_unless, data_of}
 use Rattle.ghcn_series.specs.Kept.{kept}
-use Rattle.ghcn_series.specs.Fed.{Fed, nothing_fed, more, with_end, files_of}
+use Rattle.ghcn_series.specs.Fed.{Files, nothing_fed, more, with_end, files_of}
 
 -- ---- lines and stations
 
@@ -234,8 +234,8 @@ looked_up = (refl, refl, refl)
 -- ---- what was fed
 
 -- nothing yet
-abbrev begun : Fed
-begun = nothing_fed (Some Tmax) both
+abbrev begun : Files
+begun = (nothing_fed (Some Tmax) both).files
 
 -- no file as long as no byte came and none was ended; one file by pieces
 pieces : (files_of begun ≡ []) × (files_of (more begun []) ≡ [])

@@ -27,8 +27,9 @@ pub mod FactsOfMonths
 pub mod AllSeries
 pub mod ReadFiles
 pub mod FedLines
-pub mod ToldFaults
 pub mod FedPieces
+pub mod FedCounts
+pub mod KeptFaults
 pub mod FedFiles
 pub mod Examples
 pub mod JoinedLists

@@ -103,7 +103,7 @@ count_more stations before m b is =
     ∙ ap (λ (n : ℕ). unlisted_months stations before + n) (zero-add (cond (not b) 1 0))
 
 -- one more, where the number was capped before
-capped : (n : ℕ) → in_64_bits (in_64_bits n + 1) ≡ in_64_bits (n + 1)
+pub capped : (n : ℕ) → in_64_bits (in_64_bits n + 1) ≡ in_64_bits (n + 1)
 capped n = omega arith
 
 -- the gathering at a place is of the station there

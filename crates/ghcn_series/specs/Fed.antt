@@ -1,61 +1,49 @@
--- Daily files of which some bytes were read so far.
-use Rattle.std.specs.Prelude.{◌≡◌, ℕ, ◌^◌, ◌<◌, ◌≤◌, List, [], ◌∷◌, ◌++◌, length, Option, Err, ⊤}
+-- Daily files as they come, and what a reader of them was fed.
+use Rattle.std.specs.Prelude.{ℕ, List, [], ◌∷◌, ◌++◌, Option, ⊤}
 use Rattle.ghcn_files.specs.declared.station.Station.{Station}
 use Rattle.ghcn_files.specs.declared.element.Element.{Element}
 use Rattle.ghcn_series.specs.declared.fault.DataFault.{DataFault}
 use Rattle.ghcn_series.specs.declared.fault.DataFault.TheVariants.{DailyLine, TooManyFiles, Memory}
-use Rattle.ghcn_series.specs.Says.{data_of}
 
--- what was fed: of which element the series are kept, or of all where none is named; the stations; the files that were
--- ended; and the bytes of the current one
-pub record Fed : Type 0 where
-  pub element : Option Element
-  pub stations : List Station
+-- files as they come: those that were ended, and the bytes of the current one
+pub record Files : Type 0 where
   pub ended : List (List ℕ)
   pub current : List ℕ
 
--- nothing, for this element and these stations
-abbrev pub nothing_fed : Option Element → List Station → Fed
-nothing_fed element stations = record { element = element; stations = stations; ended = []; current = [] }
+-- these files, all of them ended
+abbrev pub ended_files : List (List ℕ) → Files
+ended_files files = record { ended = files; current = [] }
 
 -- with more bytes of the current file
-abbrev pub more : Fed → List ℕ → Fed
-more fed bytes = record {
-  element = fed.element;
-  stations = fed.stations;
-  ended = fed.ended;
-  current = fed.current ++ bytes;
-}
+abbrev pub more : Files → List ℕ → Files
+more files bytes = record { ended = files.ended; current = files.current ++ bytes }
 
 -- with the current file ended, even where it is empty
-abbrev pub with_end : Fed → Fed
-with_end fed = record {
-  element = fed.element;
-  stations = fed.stations;
-  ended = fed.ended ++ fed.current ∷ [];
-  current = [];
-}
+abbrev pub with_end : Files → Files
+with_end files = ended_files (files.ended ++ files.current ∷ [])
 
 -- the files, when these were ended: the current one counts where it has a byte
 abbrev pub and_current : List (List ℕ) → List ℕ → List (List ℕ)
 and_current ended [] = ended
 and_current ended (b ∷ bytes) = ended ++ (b ∷ bytes) ∷ []
 
--- the files that were fed
-abbrev pub files_of : Fed → List (List ℕ)
-files_of fed = and_current fed.ended fed.current
+-- the files that came
+abbrev pub files_of : Files → List (List ℕ)
+files_of files = and_current files.ended files.current
 
--- these files have this fault, and have it whatever files follow, so few that they can be read
-pub record HasFault (stations : List Station) (files : List (List ℕ)) (fault : DataFault) : Type 0 where
-  pub few : length files ≤ 2 ^ 20
-  pub whatever : (others : List (List ℕ)) → length (files ++ others) ≤ 2 ^ 20
-      → data_of stations (files ++ others) ≡ Err fault
+-- what was fed: of which element the series are kept, or of all where none is named; the stations; and the files
+pub record Fed : Type 0 where
+  pub element : Option Element
+  pub stations : List Station
+  pub files : Files
 
--- want of memory, or the fault that these files have, whatever files follow
-abbrev pub IsToldOf : List Station → List (List ℕ) → DataFault → Type 0
-IsToldOf stations files (Memory m) = ⊤
-IsToldOf stations files TooManyFiles = 2 ^ 20 < length files
-IsToldOf stations files (DailyLine file line why) = HasFault stations files (DailyLine file line why)
+-- nothing, for this element and these stations
+abbrev pub nothing_fed : Option Element → List Station → Fed
+nothing_fed element stations = record { element = element; stations = stations; files = ended_files [] }
+
+-- with these files in place of those that were fed
+abbrev pub with_files : Fed → Files → Fed
+with_files fed files = record { element = fed.element; stations = fed.stations; files = files }
 
 -- the fault is want of memory
 abbrev pub IsOfMemory : DataFault → Type 0

@@ -85,8 +85,8 @@ impl Data {
         }
         let mut reader = DataReader::of(alloc, stations, element)?;
         for file in files {
-            reader.piece(file)?;
-            reader.end_of_file()?;
+            reader.piece(file);
+            reader.end_of_file();
         }
         reader.finish()
     }

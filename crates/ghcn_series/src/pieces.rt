@@ -1,7 +1,6 @@
 //! Reads daily files that come in pieces.
 
-ghost use Rattle.std.specs.Prelude.{◌≡◌, ◌++◌, ◌^◌, ◌<◌, ◌||◌, [], nat_lt, length, None, Some};
-ghost use Rattle.std.specs.Prelude.{IfOk, IfErr, OnOk};
+ghost use Rattle.std.specs.Prelude.{◌≡◌, ◌++◌, ◌^◌, ◌<◌, length, None, Some, IfOk, IfErr, OnOk};
 ghost use Rattle.ghcn_series.specs.Fed.{IsOfMemory, nothing_fed};
 ghost use Rattle.ghcn_series.specs.Steps.{HasReadSome};
 ghost use Rattle.ghcn_series.specs.Pieces as pieces;
@@ -13,18 +12,22 @@ use ghcn_fields::{Memory, split_line};
 use ghcn_files::{Element, Stations};
 use std::alloc::Global;
 
-/// Reads daily files in their order, each in pieces that may end anywhere. After a fault there is
-/// nothing more to be fed.
+/// Reads daily files in their order, each in pieces that may end anywhere. The first fault is kept, and told at the
+/// end: lines that come behind it aren't looked at, but their files are counted.
 #[derive(Drop)]
 pub struct DataReader {
     alloc: Global,
     reader: Reader,
-    /// How many files were ended.
+    /// How many files were ended, or 2^64 - 1 where there are more.
     ended: u64,
+    /// Whether the current file has a byte.
+    begun: bool,
     /// How many lines of the current file were ended.
     line: u64,
     /// What has come of the line behind them.
     rest: Vec<u8>,
+    /// The fault of the first line that has one, or want of memory.
+    fault: Option<DataFault>,
 }
 
 impl DataReader {
@@ -65,26 +68,88 @@ impl DataReader {
                 alloc,
                 reader,
                 ended: 0,
+                begun: false,
                 line: 0,
                 rest: Vec::new(alloc),
+                fault: None,
             }),
             Err(memory) => Err(DataFault::Memory(memory)),
         }
     }
 
-    /// Takes more bytes of the current file. A fault is told with the bytes that end its line.
-    pub fn piece(&mut self, bytes: &[u8]) -> Result<(), DataFault>
+    /// Takes more bytes of the current file.
+    pub fn piece(&mut self, bytes: &[u8])
         requires { pieces.HasFedSome self.old }
-        ensures fed { OnOk result (pieces.TakesPiece self.old self.new bytes.now) }
-        ensures going { OnOk result (pieces.HasFedSome self.new) }
-        ensures fault { IfErr result (pieces.RefusesPiece self.old bytes.now) }
+        ensures fed { pieces.TakesPiece self.old self.new bytes.now }
+        ensures going { pieces.HasFedSome self.new }
     {
         if bytes.is_empty() {
-            return Ok(());
+            return;
         }
-        if self.ended >= MOST_FILES {
+        self.begun = true;
+        if self.is_reading() {
+            self.fault = self.read(bytes).err();
+        }
+    }
+
+    /// Ends the current file, even where it is empty.
+    pub fn end_of_file(&mut self)
+        requires { pieces.HasFedSome self.old }
+        ensures fed { pieces.EndsFile self.old self.new }
+        ensures going { pieces.HasFedSome self.new }
+    {
+        if self.is_reading() {
+            self.fault = self.read_end().err();
+        }
+        self.ended = self.ended.saturating_add(1);
+        self.begun = false;
+    }
+
+    /// The data of the files that were fed, or their first fault: too many files come before the fault of a line.
+    /// The current file is ended where it has a byte.
+    pub fn finish(mut self) -> Result<Data, DataFault>
+        requires { pieces.HasFedSome self }
+        ensures ok { IfOk result (pieces.HoldsFed self) }
+        ensures err { IfErr result (pieces.RefusesFed self) }
+    {
+        if self.begun {
+            self.end_of_file();
+        }
+        if !self.has_few_files() {
             return Err(DataFault::TooManyFiles);
         }
+        if let Some(fault) = self.fault {
+            return Err(fault);
+        }
+        match self.reader.finish(self.alloc) {
+            Ok(held) => Ok(held),
+            Err(memory) => Err(DataFault::Memory(memory)),
+        }
+    }
+
+    /// Whether lines are looked at: there is no fault so far.
+    fn is_reading(&self) -> bool
+        ensures { pieces.LooksAtLines self.now result }
+    {
+        self.fault.is_none() && self.has_few_files()
+    }
+
+    /// Whether there are no more files than are read.
+    fn has_few_files(&self) -> bool
+        ensures { pieces.CountsFew self.now result }
+    {
+        self.ended < MOST_FILES || self.ended == MOST_FILES && !self.begun
+    }
+
+    /// Reads more bytes of the current file.
+    fn read(&mut self, bytes: &[u8]) -> Result<(), DataFault>
+        requires few { self.old.ended < 2 ^ 20 }
+        requires read { HasReadSome self.old.reader }
+        ensures ended { self.new.ended ≡ self.old.ended }
+        ensures begun { self.new.begun ≡ self.old.begun }
+        ensures read { OnOk result (pieces.ReadsBytes self.old self.new bytes.now) }
+        ensures fault { IfErr result (pieces.RefusesBytes self.old bytes.now) }
+    {
         let mut left = bytes;
         while let Some((line, behind)) = split_line(left) {
             self.end_line(line)?;
@@ -93,50 +158,28 @@ impl DataReader {
         self.keep(left)
     }
 
-    /// Ends the current file, even where it is empty.
-    pub fn end_of_file(&mut self) -> Result<(), DataFault>
-        requires { pieces.HasFedSome self.old }
-        ensures fed { OnOk result (pieces.EndsFile self.old self.new) }
-        ensures going { OnOk result (pieces.HasFedSome self.new) }
-        ensures fault { IfErr result (pieces.RefusesFile self.old) }
+    /// Reads the current file to its end, which ends its last line too.
+    fn read_end(&mut self) -> Result<(), DataFault>
+        requires few { 0 < length self.old.rest.items → self.old.ended < 2 ^ 20 }
+        requires read { HasReadSome self.old.reader }
+        ensures ended { self.new.ended ≡ self.old.ended }
+        ensures begun { self.new.begun ≡ self.old.begun }
+        ensures read { OnOk result (pieces.ReadsEnd self.old self.new) }
+        ensures fault { IfErr result (pieces.RefusesEnd self.old) }
     {
-        if self.ended >= MOST_FILES {
-            return Err(DataFault::TooManyFiles);
-        }
         if !self.rest.is_empty() {
             self.end_line(&[])?;
         }
-        self.ended += 1;
         self.line = 0;
         Ok(())
-    }
-
-    /// The data of the files that were fed. The current one is ended where it has a byte.
-    pub fn finish(mut self) -> Result<Data, DataFault>
-        requires { pieces.HasFedSome self }
-        ensures ok { IfOk result (pieces.HoldsFed self) }
-        ensures err { IfErr result (pieces.RefusesFed self) }
-    {
-        if self.has_begun() {
-            self.end_of_file()?;
-        }
-        match self.reader.finish(self.alloc) {
-            Ok(held) => Ok(held),
-            Err(memory) => Err(DataFault::Memory(memory)),
-        }
-    }
-
-    /// Whether a byte of the current file has come.
-    fn has_begun(&self) -> bool
-        ensures { result ≡ (nat_lt 0 self.now.line || nat_lt 0 (length self.now.rest.items)) }
-    {
-        self.line > 0 || !self.rest.is_empty()
     }
 
     /// Ends the line of which these are the last bytes.
     fn end_line(&mut self, bytes: &[u8]) -> Result<(), DataFault>
         requires few { self.old.ended < 2 ^ 20 }
         requires read { HasReadSome self.old.reader }
+        ensures ended { self.new.ended ≡ self.old.ended }
+        ensures begun { self.new.begun ≡ self.old.begun }
         ensures added { OnOk result (pieces.AddsLine self.old self.new bytes.now) }
         ensures fault { IfErr result (pieces.RefusesLine self.old bytes.now) }
     {
@@ -158,6 +201,7 @@ impl DataReader {
         ensures kept { OnOk result (self.new.rest.items ≡ self.old.rest.items ++ bytes.now) }
         ensures reader { self.new.reader ≡ self.old.reader }
         ensures ended { self.new.ended ≡ self.old.ended }
+        ensures begun { self.new.begun ≡ self.old.begun }
         ensures line { self.new.line ≡ self.old.line }
         ensures fault { IfErr result IsOfMemory }
     {

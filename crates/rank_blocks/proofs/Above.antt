@@ -24,12 +24,10 @@ use Rattle.rank_scores.specs.Runs.{run_from, run_len, begins_run, calendar_len}
 use Rattle.rank_scores.specs.Morsels.{IsAbove}
 use Rattle.rank_blocks.specs.Blocks.{total, blocks_total, is_among, is_reached, days_reached}
 use Rattle.rank_blocks.specs.Bounds.{blocks_of_window, holds_such}
-use Rattle.rank_blocks.specs.Greatest.{IsGreatest, IsScore, IsRunLength, IsSumBound, IsBlocksBound, IsBoundFor}
-use Rattle.rank_blocks.specs.Greatest.{IsBound}
+use Rattle.rank_blocks.specs.Greatest.{IsGreatest, IsScore, IsRunLength, IsSumBound, IsBlocksBound, IsBoundFor, IsBound}
 use Rattle.rank_blocks.proofs.HotBlocks.{such-holds, days-greatest}
 use Rattle.rank_blocks.proofs.Members.{from_each, each, all-kept, all-passing, stands, total-least, total-wider}
-use Rattle.rank_blocks.proofs.Members.{filter-both}
-use Rattle.rank_blocks.proofs.Members.{total-cons, part-wider}
+use Rattle.rank_blocks.proofs.Members.{filter-both, total-cons, part-wider}
 use Rattle.rank_blocks.proofs.DayTests.{both_pass, int_le-true}
 use Rattle.rank_blocks.proofs.DayValues.{block-holds, block-rises}
 use Rattle.rank_blocks.proofs.WindowTotals.{among-from, among-parts, before-among}

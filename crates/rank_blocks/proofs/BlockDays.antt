@@ -1,9 +1,9 @@
 -- The summary that is made of a block's word and values is that of its days.
 use Rattle.std.proofs.Common.{◌≡◌, ◌≢◌, ℕ, zero, suc, ◌<◌, Bool, true, false, cond, List, [], ◌∷◌, map, length, get_or}
-use Rattle.std.proofs.Common.{set, Option, Some, None, refl, sym, ap, ◌∙◌, subst, arith, ℤ, pos, neg_ℤ, ◌≤ℤ◌, ◌+ℤ◌}
-use Rattle.std.specs.Prelude.{◌==◌, ◌&&◌, not}
+use Rattle.std.proofs.Common.{set, Option, Some, None, refl, sym, ap, ◌∙◌, subst, arith, ℤ, pos, ◌+ℤ◌}
+use Rattle.std.specs.Prelude.{◌==◌}
 use Rattle.std.specs.Int.{bit_at}
-use Rattle.std.specs.List.{AllByRecursion, Contains}
+use Rattle.std.specs.List.{AllByRecursion}
 use Rattle.std.specs.Option.{option_map_or, unwrap_or}
 use Rattle.std.specs.Ordering.{int_eq}
 use Rattle.std.proofs.lemmas.Bool.Decides.{Decides-int_eq}
@@ -14,37 +14,20 @@ use Rattle.std.proofs.lemmas.Nat.Bits.{bit_at-lt}
 use Rattle.ghcn_fields.specs.Days.{block_of}
 use Rattle.ghcn_series.specs.Packed.{if_so, AreRising, IsBlockOf}
 use Rattle.ghcn_series.specs.Series.{DayValue, value_on}
-use Rattle.rank_scores.specs.Candidates.{is_dry, is_wet}
+use Rattle.rank_scores.specs.Candidates.{is_such}
+use Rattle.rank_scores.specs.declared.spell.Spell.{Spell}
 use Rattle.rank_blocks.specs.declared.summary.Summary.{Summary}
 use Rattle.rank_blocks.specs.Blocks.{days_in, block_start, total}
-use Rattle.rank_blocks.specs.DayRuns.{has_bit}
-use Rattle.rank_blocks.specs.Greatest.{IsScore}
-use Rattle.rank_blocks.specs.Summaries.{HasBits, IsSummary, IsSummaryOf}
-use Rattle.rank_blocks.specs.Values.{IsValue, IsWordOf}
+use Rattle.rank_blocks.specs.DayRuns.{AreBitsOf}
+use Rattle.rank_blocks.specs.Greatest.{IsGreatest, IsScore}
+use Rattle.rank_blocks.specs.Reached.{counts}
+use Rattle.rank_blocks.specs.Summaries.{HasDay, HasDays}
+use Rattle.rank_blocks.specs.Values.{IsUsableScore, IsWordOf}
 use Rattle.rank_blocks.proofs.Members.{all-passing, pick, stands}
 use Rattle.rank_blocks.proofs.DayTests.{distance}
 use Rattle.rank_blocks.proofs.DayValues.{other-int_eq, value_on-between, value_on-behind, own-values, block-holds}
 use Rattle.rank_blocks.proofs.DayValues.{block-of_place}
 use Rattle.rank_blocks.proofs.ReachedDays.{value_on-among}
-
--- ---- words
-
--- a value that isn't dry is wet
-wet-not_dry : (v : ℤ) → not (is_dry v) ≡ is_wet v
-wet-not_dry v = grind (arith, ints)
-
--- of a day with a value, not dry is wet; of one without, nothing is
-wet-bit : (t : Bool) (v : ℤ) → (t && not (option_map_or is_dry (if_so t v) false)) ≡ option_map_or is_wet
-    (if_so t v) false
-wet-bit true v = wet-not_dry v
-wet-bit false v = refl
-
--- the wet days are the usable days that aren't dry
-pub wet-word : (word dry wet : ℕ) (values : List ℤ) → IsWordOf is_dry word values dry
-    → ((j : ℕ) → j < 32 → has_bit wet j ≡ (has_bit word j && not (has_bit dry j))) → IsWordOf is_wet word values wet
-wet-word word dry wet values of_dry is = λ j lt.
-    is j lt ∙ ap (λ (t : Bool). has_bit word j && not t) (of_dry j lt) ∙ wet-bit (has_bit word j)
-    (get_or values j (pos 0))
 
 -- ---- totals
 
@@ -129,6 +112,22 @@ block-total (x ∷ xs) b values rise size are =
               (value_on-behind x xs (block_start b +ℤ pos j) e)
         ] refl
 
+-- ---- a summary
+
+-- the summary of a block has the greatest score of its days
+pub has-day : (f : ℤ → ℤ) (days : List DayValue) (b z : ℤ) (m : Summary) → m.number ≡ b → m.day ≡ z
+    → IsGreatest (IsScore f (days_in days b)) z → HasDay f days m
+has-day f days b z m number day of_z =
+    subst (λ (n : ℤ). IsGreatest (IsScore f (days_in days n)) m.day) (sym number)
+    (subst (IsGreatest (IsScore f (days_in days b))) (sym day) of_z)
+
+-- and those of its days that count
+pub has-days : (k : Spell) (days : List DayValue) (b : ℤ) (word : ℕ) (m : Summary) → m.number ≡ b → m.days ≡ word
+    → AreBitsOf (counts k days) b word → HasDays k days m
+has-days k days b word m number is bits =
+    subst (λ (n : ℤ). AreBitsOf (counts k days) n m.days) (sym number)
+    (subst (AreBitsOf (counts k days) b) (sym is) bits)
+
 -- ---- a block of a series
 
 -- a choice that is something was made
@@ -150,22 +149,21 @@ value-or_zero (suc (suc k)) v lt zeros = absurd (omega arith)
 
 module _ (days : List DayValue) (rise : AreRising days) (b : ℤ) (word : ℕ) (values : List ℤ)
     (of_block : IsBlockOf days b word values) where
-  -- the value of a usable day is among those of the block's days
-  value-stands : (f : ℤ → ℤ) (z : ℤ) → IsValue word values z → IsScore f (days_in days b) (f z)
-  value-stands f z of_z =
+  -- the score of a usable day is among those of the block's days
+  score-stands : (f : ℤ → ℤ) (z : ℤ) → IsUsableScore f word values z → IsScore f (days_in days b) z
+  score-stands f z of_z =
       let j : ℕ = of_z.0 in
-      let is : value_on days (block_start b +ℤ pos j) ≡ Some z =
-      sym (of_block.holds j of_z.1) ∙ ap (λ (k : ℕ). if_so (k == 1) (get_or values j (pos 0))) of_z.2
-      ∙ ap (λ (v : ℤ). Some v) of_z.3 in
-      value_on-among (λ n v. int_eq (block_of n) b ≡ true → Contains (map (λ y. f y.1) (days_in days b)) (f v)) days
-      (block_start b +ℤ pos j) z
-      (stands (λ y. f y.1) (λ x. int_eq (block_of x.0) b) days) is
-      ((Decides-int_eq (block_of (block_start b +ℤ pos j)) b).1 (block-of_place b j of_z.1))
+      let v : ℤ = get_or values j (pos 0) in
+      let is : value_on days (block_start b +ℤ pos j) ≡ Some v =
+      sym (of_block.holds j of_z.1) ∙ ap (λ (k : ℕ). if_so (k == 1) v) of_z.2 in
+      subst (IsScore f (days_in days b)) of_z.3
+      (value_on-among (λ n v. int_eq (block_of n) b ≡ true → IsScore f (days_in days b) (f v)) days
+      (block_start b +ℤ pos j) v (stands (λ y. f y.1) (λ x. int_eq (block_of x.0) b) days) is
+      ((Decides-int_eq (block_of (block_start b +ℤ pos j)) b).1 (block-of_place b j of_z.1)))
 
   -- a score of the block's days is made of the value of a usable day
-  value-of : (f : ℤ → ℤ) (y : ℤ) → IsScore f (days_in days b) y → (j : ℕ) × (j < 32) × (bit_at word j ≡ 1)
-      × (f (get_or values j (pos 0)) ≡ y)
-  value-of f y h =
+  score-of : (f : ℤ → ℤ) (y : ℤ) → IsScore f (days_in days b) y → IsUsableScore f word values y
+  score-of f y h =
       let found = pick (λ x. f x.1) (λ x. (value_on days x.0 ≡ Some x.1) × (int_eq (block_of x.0) b ≡ true))
       (days_in days b) y
       (all-passing (λ x. value_on days x.0 ≡ Some x.1) (λ x. int_eq (block_of x.0) b) days (own-values days rise)) h in
@@ -176,46 +174,25 @@ module _ (days : List DayValue) (rise : AreRising days) (b : ℤ) (word : ℕ) (
       (of_block.holds j at.1 ∙ subst (λ (d : ℤ). value_on days d ≡ Some x.1) at.2 found.1.0) in
       (j, at.1, bit-one (bit_at word j) (bit_at-lt word j) is.0, ap f is.1 ∙ found.2)
 
-  -- the word of the usable days whose values pass is that of the block's days
-  block-bits : (test : ℤ → Bool) (passing : ℕ) → IsWordOf test word values passing → HasBits test days b passing
-  block-bits test passing is = λ j lt. is j lt ∙ ap (λ (o : Option ℤ). option_map_or test o false) (of_block.holds j lt)
+  -- the greatest score of the usable days is that of the block's days
+  pub block-score : (f : ℤ → ℤ) (z : ℤ) → IsGreatest (IsUsableScore f word values) z
+      → IsGreatest (IsScore f (days_in days b)) z
+  block-score f z of_z = record {
+    is_one = score-stands f z of_z.is_one;
+    is_most = λ y h. of_z.is_most y (score-of f y h);
+  }
 
-  -- the summary of the word and the values is that of the days
-  summary-of : (m : Summary) → IsSummaryOf b word values m → m.number ≡ b → (n : ℤ) → n ≡ b
-      → IsSummary days
-      (record { number = n; greatest = m.greatest; least = m.least; total = m.total; dry = m.dry; wet = m.wet })
-  summary-of m of_m number n is =
-      let Days : ℤ → Type 0 =
-      λ k. IsSummary days
-      (record { number = k; greatest = m.greatest; least = m.least; total = m.total; dry = m.dry; wet = m.wet }) in
-      let extremes = of_m.extremes in
-      let are = block-total days b values rise of_m.size
+  -- the total of the values is that of the block's days
+  pub block-sum : length values ≡ 32 → total (map (λ x. x.1) (days_in days b)) ≡ total values
+  block-sum size =
+      block-total days b values rise size
       (λ j lt. value-or_zero (bit_at word j) (get_or values j (pos 0)) (bit_at-lt word j) (of_block.zeros j lt)
-      ∙ ap (λ (o : Option ℤ). unwrap_or o (pos 0)) (of_block.holds j lt)) in
-      subst Days (sym is)
-      (record {
-        values = record {
-          greatest_value = record {
-            is_one = value-stands (λ v. v) m.greatest extremes.one_most;
-            is_most = λ y h. let of_y = value-of (λ v. v) y h in subst (λ (z : ℤ). z ≤ℤ m.greatest) of_y.3
-                (extremes.is_most of_y.0 of_y.1 of_y.2);
-          };
-          least_value = record {
-            is_one = value-stands neg_ℤ m.least extremes.one_least;
-            is_most = λ y h.
-                let of_y = value-of neg_ℤ y h in
-                let least = extremes.is_least of_y.0 of_y.1 of_y.2 in
-                omega (arith, ints);
-          };
-          total_value = are ∙ sym of_m.total_value;
-        };
-        dry = block-bits is_dry m.dry of_m.dry;
-        wet = block-bits is_wet m.wet of_m.wet;
-      })
+      ∙ ap (λ (o : Option ℤ). unwrap_or o (pos 0)) (of_block.holds j lt))
 
-  -- the summary of the word and the values is that of its days
-  pub summary-IsSummary : (m : Summary) → IsSummaryOf b word values m → IsSummary days m
-  summary-IsSummary m of_m = summary-of m of_m of_m.number m.number of_m.number
+  -- the word of the usable days whose values pass is that of the block's days
+  pub block-bits : (test : ℤ → Bool) (passing : ℕ) → IsWordOf test word values passing
+      → AreBitsOf (is_such test days) b passing
+  block-bits test passing is = λ j lt. is j lt ∙ ap (λ (o : Option ℤ). option_map_or test o false) (of_block.holds j lt)
 
   -- a usable day's bit is of a day that has a value
   pub block-day : (P : ℤ → ℤ → Type 0) → AllByRecursion (λ x. P x.0 x.1) days → (j : ℕ) → j < 32 → bit_at word j ≡ 1

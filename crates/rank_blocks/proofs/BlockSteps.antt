@@ -1,7 +1,7 @@
 -- One more summary of a list, as a loop comes to it.
 use Rattle.std.proofs.Common.{◌≡◌, ℕ, ◌+◌, ◌-◌, ◌*◌, ◌<◌, ◌≤◌, Bool, true, false, cond, List, [], ◌∷◌, ◌++◌, map}
-use Rattle.std.proofs.Common.{length, get_or, take, drop, Option, Some, None, sym, ap, ◌∙◌, subst, arith, ℤ, pos}
-use Rattle.std.proofs.Common.{neg_ℤ, ◌≤ℤ◌, ◌<ℤ◌, ◌+ℤ◌, to_z, of_z, w64}
+use Rattle.std.proofs.Common.{length, get_or, take, drop, Option, Some, None, sym, ap, ◌∙◌, subst, arith, ℤ, pos, neg_ℤ}
+use Rattle.std.proofs.Common.{◌≤ℤ◌, ◌<ℤ◌, ◌+ℤ◌, to_z, of_z, w64}
 use Rattle.std.specs.Int.{int_max}
 use Rattle.std.specs.Prelude.{int_le}
 use Rattle.rank_blocks.specs.Blocks.{is_among}
@@ -23,7 +23,7 @@ use Rattle.rank_blocks.proofs.WindowTotals.{so_far-out, so_far-end}
 
 -- what stands behind the end of a list of summaries
 abbrev pub no_block : Summary
-no_block = record { number = pos 0; greatest = pos 0; least = pos 0; total = pos 0; dry = 0; wet = 0 }
+no_block = record { number = pos 0; days = 0; day = pos 0; total = pos 0 }
 
 -- the summary at a place
 abbrev pub block_at : List Summary → ℕ → Summary
@@ -106,7 +106,7 @@ module _ (ms : List Summary) (possible : ArePossible ms) (w : ℕ) (first : ℤ)
   pub sum-bounds : (neg_ℤ (pos (68_719_476_736 * (i + 1))) ≤ℤ (sum +ℤ (block_at ms i).total))
       × ((sum +ℤ (block_at ms i).total) ≤ℤ pos (68_719_476_736 * (i + 1)))
   sum-bounds =
-      let is = possible-at ms i lt possible in
+      let is = (possible-at ms i lt possible).small in
       (omega (arith, ints), omega (arith, ints))
 
   -- a block of the window is added

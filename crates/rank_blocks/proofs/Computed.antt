@@ -1,7 +1,7 @@
 -- The bound as it is computed is the bound by what it is greatest of, and there is but one.
 use Rattle.std.proofs.Common.{◌≡◌, ℕ, zero, suc, ◌+◌, ◌<◌, ◌≤◌, Bool, true, false, cond, List, [], ◌∷◌, map, filter}
-use Rattle.std.proofs.Common.{length, ◌⊎◌, inl, inr, Option, refl, sym, ap, ◌∙◌, subst, arith, ℤ, pos, neg_ℤ}
-use Rattle.std.proofs.Common.{◌+ℤ◌, ◌-ℤ◌, ◌*ℤ◌, ◌≤ℤ◌}
+use Rattle.std.proofs.Common.{length, ◌⊎◌, inl, inr, Option, refl, sym, ap, ◌∙◌, subst, arith, ℤ, pos, neg_ℤ, ◌+ℤ◌}
+use Rattle.std.proofs.Common.{◌-ℤ◌, ◌*ℤ◌, ◌≤ℤ◌}
 use Rattle.std.specs.Prelude.{◌&&◌}
 use Rattle.std.specs.List.{AllByRecursion, Contains, flat_map, range_with_len, list_all}
 use Rattle.std.specs.Option.{unwrap_or}
@@ -24,8 +24,7 @@ use Rattle.rank_scores.specs.Candidates.{is_dry, is_wet, is_hot, is_such, admitt
 use Rattle.rank_scores.specs.Runs.{run_len, longest_run, calendar_len}
 use Rattle.rank_blocks.specs.Blocks.{days_reached, is_reached, total, blocks_total, is_among}
 use Rattle.rank_blocks.specs.Bounds.{greatest_by, blocks_of_window, first_blocks, greatest_total, spell_bound}
-use Rattle.rank_blocks.specs.Bounds.{blocks_bound}
-use Rattle.rank_blocks.specs.Bounds.{holds_such, bound_for, bound, IsAskedOf}
+use Rattle.rank_blocks.specs.Bounds.{blocks_bound, holds_such, bound_for, bound, IsAskedOf}
 use Rattle.rank_blocks.specs.Greatest.{IsGreatest, IsScore, IsBlocksTotal, IsRunLength, IsSumBound, IsBlocksBound}
 use Rattle.rank_blocks.specs.Greatest.{IsBoundFor, IsBound}
 use Rattle.rank_blocks.proofs.DayTests.{both_pass, between, distance}

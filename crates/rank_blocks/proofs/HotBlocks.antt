@@ -1,25 +1,22 @@
 -- Blocks that hold a day whose value passes, and how they and their days follow one another.
-use Rattle.std.proofs.Common.{◌≡◌, ℕ, zero, suc, ◌*◌, ◌/◌, ◌%◌, ◌<◌, ◌≤◌, Bool, true, false, cond, List, [], ◌∷◌}
-use Rattle.std.proofs.Common.{map, filter, ◌⊎◌, inl, inr, refl, sym, ap, ◌∙◌, subst, arith, ℤ, pos, ◌+ℤ◌}
-use Rattle.std.specs.Prelude.{◌&&◌, ◌||◌, ◌==◌, int_le}
+use Rattle.std.proofs.Common.{◌≡◌, ℕ, zero, suc, ◌*◌, ◌/◌, ◌%◌, ◌<◌, ◌≤◌, Bool, true, false, cond, List, [], ◌∷◌, map}
+use Rattle.std.proofs.Common.{filter, ◌⊎◌, inl, inr, refl, sym, ap, ◌∙◌, subst, arith, ℤ, pos, ◌+ℤ◌}
+use Rattle.std.specs.Prelude.{◌&&◌, ◌||◌, int_le}
 use Rattle.std.specs.List.{AllByRecursion, Contains}
 use Rattle.std.specs.Option.{option_map_or}
 use Rattle.std.specs.Ordering.{int_eq}
 use Rattle.std.proofs.lemmas.Bool.Decides.{Decides-int_eq}
 use Rattle.std.proofs.lemmas.Int.{ints}
-use Rattle.std.proofs.lemmas.Nat.Bits.{bit_at_ones, bit_at-zero}
 use Rattle.ghcn_fields.specs.Days.{block_of}
 use Rattle.ghcn_series.specs.Series.{DayValue, value_on}
 use Rattle.rank_scores.specs.Candidates.{is_dry, is_wet, is_hot, is_such}
 use Rattle.rank_scores.specs.declared.spell.Spell.{Spell}
 use Rattle.rank_scores.specs.declared.spell.Spell.TheVariants.{Dry, Wet, Hot}
-use Rattle.rank_blocks.specs.declared.summary.Summary.{Summary}
 use Rattle.rank_blocks.specs.Blocks.{block_start, days_in}
 use Rattle.rank_blocks.specs.Bounds.{holds_such}
-use Rattle.rank_blocks.specs.DayRuns.{has_bit}
+use Rattle.rank_blocks.specs.DayRuns.{AreBitsOf, has_bit}
 use Rattle.rank_blocks.specs.Greatest.{IsGreatest, IsScore, IsRunLength}
-use Rattle.rank_blocks.specs.Reached.{counts, word_of}
-use Rattle.rank_blocks.specs.Summaries.{IsSummary}
+use Rattle.rank_blocks.specs.Reached.{counts}
 use Rattle.rank_blocks.proofs.DayTests.{both_pass, pass_both, not_both, fails, int_le-true, le-int_le, distance}
 use Rattle.rank_blocks.proofs.DayValues.{int_eq-same, block-holds, block-of_place, block-rises}
 use Rattle.rank_blocks.proofs.Members.{from_each, each, all-passing, pick, stands}
@@ -152,20 +149,12 @@ counts-among (Hot t) Q days d all e =
     let found = holds-among (is_hot t) (λ x. Q (block_of x.0)) days (block_of d) all e in
     subst Q found.2 found.1
 
--- all bits of a word are set, or none
-all_or_none : (b : Bool) (i : ℕ) → i < 32 → has_bit (cond b 4_294_967_295 0) i ≡ b
-all_or_none true i lt = ap (λ (v : ℕ). v == 1) (bit_at_ones 32 i lt)
-all_or_none false i lt = ap (λ (v : ℕ). v == 1) (bit_at-zero i)
-
--- the word of a summary has the bits of its block's days that count
-pub counts-bits : (k : Spell) (days : List DayValue) (m : Summary) → IsSummary days m → (i : ℕ) → i < 32
-    → has_bit (word_of k m) i ≡ counts k days (block_start m.number +ℤ pos i)
-counts-bits Dry days m is i lt = is.dry i lt
-counts-bits Wet days m is i lt = is.wet i lt
-counts-bits (Hot t) days m is i lt =
-    all_or_none (int_le t m.greatest) i lt
-    ∙ sym (holds-greatest t days m.number m.greatest is.values.greatest_value)
-    ∙ sym (ap (holds_such (is_hot t) days) (block-of_place m.number i lt))
+-- where a block's greatest value is hot, all its days count, and else none
+pub hot-bits : (t : ℤ) (days : List DayValue) (b z : ℤ) (word : ℕ) → IsGreatest (IsScore (λ v. v) (days_in days b)) z
+    → ((j : ℕ) → j < 32 → has_bit word j ≡ int_le t z) → AreBitsOf (counts (Hot t) days) b word
+hot-bits t days b z word of_z all = λ i lt.
+    all i lt ∙ sym (holds-greatest t days b z of_z)
+    ∙ sym (ap (holds_such (is_hot t) days) (block-of_place b i lt))
 
 -- ---- blocks in a row, and their days
 

@@ -1,7 +1,6 @@
 -- The longest run of days in the blocks of a range, as a loop over the summaries finds it.
 use Rattle.std.proofs.Common.{◌≡◌, ℕ, zero, suc, ◌+◌, ◌*◌, ◌<◌, ◌≤◌, Bool, true, false, List, [], ◌∷◌, map, length}
-use Rattle.std.proofs.Common.{drop, ◌⊎◌, inl, inr}
-use Rattle.std.proofs.Common.{refl, sym, ap, ◌∙◌, subst, arith, ℤ, pos, ◌≤ℤ◌, ◌<ℤ◌, ◌+ℤ◌}
+use Rattle.std.proofs.Common.{drop, ◌⊎◌, inl, inr, refl, sym, ap, ◌∙◌, subst, arith, ℤ, pos, ◌≤ℤ◌, ◌<ℤ◌, ◌+ℤ◌}
 use Rattle.std.specs.List.{AllByRecursion, Contains}
 use Rattle.std.proofs.lemmas.Int.{ints}
 use Rattle.std.proofs.lemmas.List.{drop_all}
@@ -15,14 +14,14 @@ use Rattle.rank_blocks.specs.declared.range.BlockRange.{BlockRange}
 use Rattle.rank_blocks.specs.Blocks.{block_start}
 use Rattle.rank_blocks.specs.DayRuns.{AreRuns, runs_before, NoneBetween, AreBitsOf, AllFrom, Continues}
 use Rattle.rank_blocks.specs.Greatest.{IsGreatest, IsRunLength}
-use Rattle.rank_blocks.specs.Reached.{in_range, days_in_range, word_of, counts}
-use Rattle.rank_blocks.specs.Summaries.{IsSummary, AreSummaries, ArePossible}
+use Rattle.rank_blocks.specs.Reached.{in_range, days_in_range, counts}
+use Rattle.rank_blocks.specs.Summaries.{AreOfBlocks, ArePossible, HasDays}
 use Rattle.rank_blocks.proofs.BlockSteps.{block_at, no_block, left-at, behind-left}
 use Rattle.rank_blocks.proofs.DayTests.{not_both, between, fails}
 use Rattle.rank_blocks.proofs.DayValues.{block-holds, block-of_place}
 use Rattle.rank_blocks.proofs.LongestRuns.{runs-none}
 use Rattle.rank_blocks.proofs.Members.{contains-cases, contains-nothing, pick}
-use Rattle.rank_blocks.proofs.HotBlocks.{counts-kept, counts-filter, counts-among, counts-bits}
+use Rattle.rank_blocks.proofs.HotBlocks.{counts-kept, counts-filter, counts-among}
 use Rattle.rank_blocks.proofs.WindowTotals.{AreBehind}
 
 -- a day that counts for a spell among the usable days in the blocks of a range
@@ -62,7 +61,8 @@ module _ (r : BlockRange) (k : Spell) (s : Usable) where
   kind-range d e = (counts-kept k (in_range r) s.days d e).0
 
   -- before any block, each day of the kind is to come
-  pub so_far-start : (ms : List Summary) → AreSummaries s ms → AreRunsSoFar r k s ms (runs_before r.first)
+  pub so_far-start : (ms : List Summary) → AreOfBlocks (HasDays k s.days) s ms
+      → AreRunsSoFar r k s ms (runs_before r.first)
   so_far-start ms are = record {
     told = runs-none (kind r k s) r.first
         (λ d lt. fails (kind r k s d) (λ e.
@@ -108,11 +108,11 @@ module _ (r : BlockRange) (k : Spell) (s : Usable) where
         ])
 
     -- the days of a block of the range are of the kind as its word says
-    pub bits-of : IsSummary s.days m → in_range r m.number ≡ true → AreBitsOf (kind r k s) m.number (word_of k m)
+    pub bits-of : HasDays k s.days m → in_range r m.number ≡ true → AreBitsOf (kind r k s) m.number m.days
     bits-of is holds i lt =
         let d : ℤ = block_start m.number +ℤ pos i in
         let block : in_range r (block_of d) ≡ true = ap (in_range r) (block-of_place m.number i lt) ∙ holds in
-        counts-bits k s.days m is i lt ∙ sym (counts-filter k (in_range r) s.days d block)
+        is i lt ∙ sym (counts-filter k (in_range r) s.days d block)
 
     -- with a block of the range
     pub so_far-in : (new : Runs) → runs.next ≤ℤ m.number → new.next ≡ m.number +ℤ pos 1 → AreRuns (kind r k s) new
@@ -148,21 +148,21 @@ module _ (r : BlockRange) (k : Spell) (s : Usable) where
           ]
 
 -- the runs of the days before a place of the summaries of a series are told, whatever the series
-pub record IsTold (r : BlockRange) (k : Spell) (ms : List Summary) (i : ℕ) (runs : Runs) : Type 0 where
+pub record IsTold (r : BlockRange) (ms : List Summary) (i : ℕ) (runs : Runs) : Type 0 where
   pub room : runs.last ≤ 32 * i
   pub ahead : AreAhead r runs.next (drop i ms)
-  pub so_far : (s : Usable) → AreSummaries s ms → AreRunsSoFar r k s (drop i ms) runs
+  pub so_far : (k : Spell) (s : Usable) → AreOfBlocks (HasDays k s.days) s ms → AreRunsSoFar r k s (drop i ms) runs
 
 -- before any block
-pub told-start : (r : BlockRange) (k : Spell) (ms : List Summary) → IsTold r k ms 0 (runs_before r.first)
-told-start r k ms = record {
+pub told-start : (r : BlockRange) (ms : List Summary) → IsTold r ms 0 (runs_before r.first)
+told-start r ms = record {
   room = omega arith;
   ahead = ahead-start r ms;
-  so_far = λ s are. so_far-start r k s ms are;
+  so_far = λ k s are. so_far-start r k s ms are;
 }
 
-module _ (r : BlockRange) (k : Spell) (ms : List Summary) (possible : ArePossible ms) (i : ℕ) (lt : i < length ms)
-    (runs : Runs) (far : IsTold r k ms i runs) where
+module _ (r : BlockRange) (ms : List Summary) (possible : ArePossible ms) (i : ℕ) (lt : i < length ms)
+    (runs : Runs) (far : IsTold r ms i runs) where
   -- the summary at the place, and those behind it
   left : drop i ms ≡ block_at ms i ∷ drop (i + 1) ms
   left = left-at ms i lt
@@ -172,8 +172,9 @@ module _ (r : BlockRange) (k : Spell) (ms : List Summary) (possible : ArePossibl
   ahead-here = subst (AreAhead r runs.next) left far.ahead
 
   -- what is told before the place, where its summary comes next
-  so_far-here : (s : Usable) → AreSummaries s ms → AreRunsSoFar r k s (block_at ms i ∷ drop (i + 1) ms) runs
-  so_far-here s are = subst (λ (ks : List Summary). AreRunsSoFar r k s ks runs) left (far.so_far s are)
+  so_far-here : (k : Spell) (s : Usable) → AreOfBlocks (HasDays k s.days) s ms
+      → AreRunsSoFar r k s (block_at ms i ∷ drop (i + 1) ms) runs
+  so_far-here k s are = subst (λ (ks : List Summary). AreRunsSoFar r k s ks runs) left (far.so_far k s are)
 
   -- a block of the range stands at the next block or behind it
   pub told-order : in_range r (block_at ms i).number ≡ true → runs.next ≤ℤ (block_at ms i).number
@@ -181,14 +182,14 @@ module _ (r : BlockRange) (k : Spell) (ms : List Summary) (possible : ArePossibl
 
   -- with a block of the range
   pub told-in : (new : Runs) → in_range r (block_at ms i).number ≡ true
-      → Continues runs (block_at ms i).number (word_of k (block_at ms i)) new
-      → new.next ≡ (block_at ms i).number +ℤ pos 1 → new.last ≤ runs.last + 32 → IsTold r k ms (i + 1) new
+      → Continues runs (block_at ms i).number (block_at ms i).days new
+      → new.next ≡ (block_at ms i).number +ℤ pos 1 → new.last ≤ runs.last + 32 → IsTold r ms (i + 1) new
   told-in new holds continues next room = record {
     room = let before = far.room in omega arith;
     ahead = ahead-behind r (block_at ms i).number new.next (drop (i + 1) ms) next behind;
-    so_far = λ s are.
-        let here = so_far-here s are in
-        let is = All-get_or (IsSummary s.days) ms i no_block lt (All-from_recursion (IsSummary s.days) ms are.each) in
+    so_far = λ k s are.
+        let here = so_far-here k s are in
+        let is = All-get_or (HasDays k s.days) ms i no_block lt (All-from_recursion (HasDays k s.days) ms are.each) in
         let none = none-between r k s (block_at ms i) (drop (i + 1) ms) runs here behind in
         let bits = bits-of r k s (block_at ms i) (drop (i + 1) ms) runs here behind is holds in
         so_far-in r k s (block_at ms i) (drop (i + 1) ms) runs here behind new (told-order holds) next
@@ -200,20 +201,21 @@ module _ (r : BlockRange) (k : Spell) (ms : List Summary) (possible : ArePossibl
       behind = behind-left ms i lt possible
 
   -- a block that isn't in the range changes nothing
-  pub told-out : (new : Runs) → new ≡ runs → in_range r (block_at ms i).number ≡ false → IsTold r k ms (i + 1) new
+  pub told-out : (new : Runs) → new ≡ runs → in_range r (block_at ms i).number ≡ false → IsTold r ms (i + 1) new
   told-out new same out =
-      subst (IsTold r k ms (i + 1)) (sym same) (record {
+      subst (IsTold r ms (i + 1)) (sym same) (record {
         room = let before = far.room in omega arith;
         ahead = ahead-here.1;
-        so_far = λ s are.
-            so_far-out r k s (block_at ms i) (drop (i + 1) ms) runs (so_far-here s are)
+        so_far = λ k s are.
+            so_far-out r k s (block_at ms i) (drop (i + 1) ms) runs (so_far-here k s are)
             (behind-left ms i lt possible) out;
       })
 
 -- once no block is to come, the longest run is that of the range
-pub told-end : (r : BlockRange) (k : Spell) (ms : List Summary) (i : ℕ) (runs : Runs) → length ms ≤ i
-    → IsTold r k ms i runs
-    → (s : Usable) → AreSummaries s ms → IsGreatest (IsRunLength (kind r k s)) (pos runs.longest)
-told-end r k ms i runs end far s are =
+pub told-end : (r : BlockRange) (ms : List Summary) (i : ℕ) (runs : Runs) → length ms ≤ i
+    → IsTold r ms i runs
+    → (k : Spell) (s : Usable) → AreOfBlocks (HasDays k s.days) s ms
+    → IsGreatest (IsRunLength (kind r k s)) (pos runs.longest)
+told-end r ms i runs end far k s are =
     so_far-end r k s runs
-    (subst (λ (ks : List Summary). AreRunsSoFar r k s ks runs) (drop_all i ms end) (far.so_far s are))
+    (subst (λ (ks : List Summary). AreRunsSoFar r k s ks runs) (drop_all i ms end) (far.so_far k s are))

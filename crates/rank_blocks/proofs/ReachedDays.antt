@@ -16,7 +16,7 @@ use Rattle.rank_scores.specs.Candidates.{is_such}
 use Rattle.rank_blocks.specs.declared.summary.Summary.{Summary}
 use Rattle.rank_blocks.specs.Blocks.{days_in, is_reached}
 use Rattle.rank_blocks.specs.Greatest.{IsGreatest, IsScore}
-use Rattle.rank_blocks.specs.Summaries.{IsSummary, AreSummaries}
+use Rattle.rank_blocks.specs.Summaries.{AreOfBlocks, HasDay}
 use Rattle.rank_blocks.proofs.Members.{from_both, for_every, all-passing, pick, stands, stands-wider}
 use Rattle.rank_blocks.proofs.Members.{greatest-IsGreatest}
 use Rattle.rank_blocks.proofs.DayTests.{both_pass, pass_both, int_le-true, le-int_le}
@@ -121,8 +121,7 @@ admitted-reached q d e =
 
 -- ---- the greatest score of a day, from the summaries
 
-module _ (f : ℤ → ℤ) (g : Summary → ℤ) (P : ℤ → Bool) (s : Usable) (ms : List Summary) (are : AreSummaries s ms)
-    (told : (m : Summary) → IsSummary s.days m → IsGreatest (IsScore f (days_in s.days m.number)) (g m)) where
+module _ (f : ℤ → ℤ) (P : ℤ → Bool) (s : Usable) (ms : List Summary) (are : AreOfBlocks (HasDay f s.days) s ms) where
   -- each day's score is among those of its own block
   own_block : AllByRecursion
       (λ x. (b : ℤ) → int_eq (block_of x.0) b ≡ true → Contains (map (λ y. f y.1) (days_in s.days b)) (f x.1)) s.days
@@ -132,39 +131,34 @@ module _ (f : ℤ → ℤ) (g : Summary → ℤ) (P : ℤ → Bool) (s : Usable)
       (f x.1)) s.days (λ b. stands (λ y. f y.1) (λ x. int_eq (block_of x.0) b) s.days)
 
   -- the greatest score of the summaries of the blocks that pass is the greatest of their days
-  pub greatest-of_blocks : (z : ℤ) → greatest (map g (filter (λ m. P m.number) ms)) ≡ Some z
+  pub greatest-of_blocks : (z : ℤ) → greatest (map (λ m. m.day) (filter (λ m. P m.number) ms)) ≡ Some z
       → IsGreatest (IsScore f (filter (λ x. P (block_of x.0)) s.days)) z
   greatest-of_blocks z e =
-      let of_z = greatest-IsGreatest (map g (filter (λ m. P m.number) ms)) z e in
-      let found = pick g (λ m. IsSummary s.days m × (P m.number ≡ true)) (filter (λ m. P m.number) ms) z
-      (all-passing (IsSummary s.days) (λ m. P m.number) ms are.each) of_z.is_one in
-      let here = told found.0 found.1.0 in
+      let of_z = greatest-IsGreatest (map (λ m. m.day) (filter (λ m. P m.number) ms)) z e in
+      let found = pick (λ m. m.day) (λ m. HasDay f s.days m × (P m.number ≡ true)) (filter (λ m. P m.number) ms) z
+      (all-passing (HasDay f s.days) (λ m. P m.number) ms are.each) of_z.is_one in
       let Score : ℤ → Type 0 = λ n. Contains (map (λ x. f x.1) (days_in s.days found.0.number)) n in
       record {
         is_one = stands-wider (λ x. f x.1) (λ x. int_eq (block_of x.0) found.0.number) (λ x. P (block_of x.0)) s.days z
             (λ x in_block. ap P ((Decides-int_eq (block_of x.0) found.0.number).0 in_block) ∙ found.1.1)
-            (subst Score found.2 here.is_one);
+            (subst Score found.2 found.1.0.is_one);
         is_most = λ y h.
-            let Day : DayValue → Type 0 =
-            λ x. ((b : ℤ) → int_eq (block_of x.0) b ≡ true → Contains (map (λ y. f y.1) (days_in s.days b)) (f x.1))
-            × Contains (map (λ m. m.number) ms) (block_of x.0) in
-            let days =
-            from_both
-            (λ x. (b : ℤ) → int_eq (block_of x.0) b ≡ true → Contains (map (λ y. f y.1) (days_in s.days b)) (f x.1))
-            (λ x. Contains (map (λ m. m.number) ms) (block_of x.0)) Day s.days
-            (λ x own has. (own, has)) own_block are.all in
-            let day = pick (λ x. f x.1) (λ x. Day x × (P (block_of x.0) ≡ true))
-            (filter (λ x. P (block_of x.0)) s.days) y (all-passing Day (λ x. P (block_of x.0)) s.days days) h in
-            let Block : Summary → Type 0 = λ m. IsSummary s.days m × (P m.number ≡ true → g m ≤ℤ z) in
+            let Own : DayValue → Type 0 =
+            λ x. (b : ℤ) → int_eq (block_of x.0) b ≡ true → Contains (map (λ y. f y.1) (days_in s.days b)) (f x.1) in
+            let Has : DayValue → Type 0 = λ x. Contains (map (λ m. m.number) ms) (block_of x.0) in
+            let days = from_both Own Has (λ x. Own x × Has x) s.days (λ x own has. (own, has)) own_block are.all in
+            let day = pick (λ x. f x.1) (λ x. (Own x × Has x) × (P (block_of x.0) ≡ true))
+            (filter (λ x. P (block_of x.0)) s.days) y
+            (all-passing (λ x. Own x × Has x) (λ x. P (block_of x.0)) s.days days) h in
+            let Block : Summary → Type 0 = λ m. HasDay f s.days m × (P m.number ≡ true → m.day ≤ℤ z) in
             let blocks =
-            from_both (IsSummary s.days)
-            (λ m. P m.number ≡ true → Contains (map g (filter (λ m. P m.number) ms)) (g m)) Block ms
-            (λ m is stand. (is, λ passes. of_z.is_most (g m) (stand passes))) are.each
-            (stands g (λ m. P m.number) ms) in
+            from_both (HasDay f s.days)
+            (λ m. P m.number ≡ true → Contains (map (λ m. m.day) (filter (λ m. P m.number) ms)) m.day) Block ms
+            (λ m is stand. (is, λ passes. of_z.is_most m.day (stand passes))) are.each
+            (stands (λ m. m.day) (λ m. P m.number) ms) in
             let block = pick (λ m. m.number) Block ms (block_of day.0.0) blocks day.1.0.1 in
-            let of_block = told block.0 block.1.0 in
             let own = day.1.0.0 block.0.number ((Decides-int_eq (block_of day.0.0) block.0.number).1 (sym block.2)) in
-            let below_block = of_block.is_most (f day.0.1) own in
+            let below_block = block.1.0.is_most (f day.0.1) own in
             let below_z = block.1.1 (ap P block.2 ∙ day.1.1) in
             omega (arith, ints);
       }

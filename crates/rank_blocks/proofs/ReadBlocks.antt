@@ -14,6 +14,7 @@ use Rattle.std.proofs.lemmas.Nat.Bits.{bit_at-trailing_zeros}
 use Rattle.ghcn_fields.specs.Days.{block_of, is_day, first_day, last_day, IsBlock}
 use Rattle.ghcn_series.specs.Packed.{AreRising, IsBlockOf, HasNone, next_block}
 use Rattle.ghcn_series.specs.Series.{DayValue, Usable, IsSeries, value_on}
+use Rattle.rank_query.specs.declared.score.Score.{Score}
 use Rattle.rank_blocks.specs.declared.summary.Summary.{Summary}
 use Rattle.rank_blocks.specs.Blocks.{block_start}
 use Rattle.rank_blocks.specs.Summaries.{IsSummary, IsPossible, AreSummariesTo, AreSummariesUpTo, numbers_left}
@@ -37,9 +38,9 @@ in_calendar d e =
     (block-rises first_day d (int_le-true first_day d both.0), block-rises d last_day (int_le-true d last_day both.1))
 
 -- at first no block before that of the first day
-pub read-first : (s : Usable) (x : DayValue) (rest : List DayValue) → IsSeries s → s.days ≡ x ∷ rest
-    → AreSummariesTo s (block_of x.0) []
-read-first s x rest series split =
+pub read-first : (score : Score) (s : Usable) (x : DayValue) (rest : List DayValue) → IsSeries s → s.days ≡ x ∷ rest
+    → AreSummariesTo score s (block_of x.0) []
+read-first score s x rest series split =
     let rise : AreRising (x ∷ rest) = subst AreRising split (rise-from_by_day s.days series.by_day) in
     let valid : AllByRecursion (λ y. is_day y.0 ≡ true) (x ∷ rest) = subst (AllByRecursion (λ y. is_day y.0 ≡ true))
     split (days-valid s s.days series.values) in
@@ -77,15 +78,16 @@ block-IsBlock s b word values series fits of_block =
     record { low = omega (arith, ints); high = omega (arith, ints) }
 
 -- with the summary of the block that is looked at
-pub read-more : (s : Usable) (n : ℤ) (ms : List Summary) (m : Summary) → AreSummariesTo s n ms → m.number ≡ n
-    → IsBlock n → IsSummary s.days m → IsPossible m → AreSummariesTo s (n +ℤ pos 1) (ms ++ m ∷ [])
-read-more s n ms m so_far number block is possible =
+pub read-more : (score : Score) (s : Usable) (n : ℤ) (ms : List Summary) (m : Summary) → AreSummariesTo score s n ms
+    → m.number ≡ n → IsBlock n → IsSummary score s.days m → IsPossible m
+    → AreSummariesTo score s (n +ℤ pos 1) (ms ++ m ∷ [])
+read-more score s n ms m so_far number block is possible =
     let push = map-append (λ (k : Summary). k.number) ms (m ∷ []) in
     record {
       series = so_far.series;
       low = omega (arith, ints);
       high = omega (arith, ints);
-      each = all-append (IsSummary s.days) ms (m ∷ []) so_far.each (is, tt);
+      each = all-append (IsSummary score s.days) ms (m ∷ []) so_far.each (is, tt);
       possible = all-append IsPossible ms (m ∷ []) so_far.possible (possible, tt);
       before = all-append (λ k. k.number <ℤ (n +ℤ pos 1)) ms (m ∷ [])
           (from_each (λ k. k.number <ℤ n) (λ k. k.number <ℤ (n +ℤ pos 1)) ms
@@ -156,9 +158,10 @@ none-of_block days b x none own is =
     let missing = none at.0 at.1 in
     (let same : None ≡ Some x.1 = sym missing ∙ value in cc)
 
-module _ (s : Usable) (n : ℤ) (ms : List Summary) (so_far : AreSummariesTo s n ms) (none : HasNone s.days n) where
+module _ (score : Score) (s : Usable) (n : ℤ) (ms : List Summary) (so_far : AreSummariesTo score s n ms)
+    (none : HasNone s.days n) where
   -- a block without a day is passed over, and a later one is next
-  pub read-next : (next : Option ℤ) → next_block s.days n ≡ next → AreSummariesUpTo s ms next
+  pub read-next : (next : Option ℤ) → next_block s.days n ≡ next → AreSummariesUpTo score s ms next
       × (numbers_left next < numbers_left (Some n))
   read-next (Some k) e =
       let series = so_far.series in

@@ -12,7 +12,7 @@ use Rattle.ghcn_series.specs.Series.{DayValue, Usable}
 use Rattle.rank_blocks.specs.declared.summary.Summary.{Summary}
 use Rattle.rank_blocks.specs.Blocks.{days_in, total, blocks_total, is_among}
 use Rattle.rank_blocks.specs.Reached.{summaries_total}
-use Rattle.rank_blocks.specs.Summaries.{IsSummary, AreSummaries}
+use Rattle.rank_blocks.specs.Summaries.{AreOfBlocks, HasSum}
 use Rattle.rank_blocks.proofs.Members.{from_each, contains-cases, total-cons}
 use Rattle.rank_blocks.proofs.DayValues.{lt-int_eq}
 use Rattle.rank_blocks.proofs.Numbers.{int_cmp-less}
@@ -107,19 +107,19 @@ total-by_blocks P ns (x ∷ xs) sorted h =
     ∙ ap (λ (z : ℤ). cond (P (block_of x.0)) x.1 (pos 0) +ℤ z) rest ∙ sym added ∙ sym fronts
 
 -- the totals of summaries are those of their blocks
-totals-summaries : (P : ℤ → Bool) (days : List DayValue) (ms : List Summary) → AllByRecursion (IsSummary days) ms
+totals-summaries : (P : ℤ → Bool) (days : List DayValue) (ms : List Summary) → AllByRecursion (HasSum days) ms
     → total (map (λ m. m.total) (filter (λ m. P m.number) ms)) ≡ total
     (map (λ n. total (map (λ y. y.1) (days_in days n))) (filter P (map (λ m. m.number) ms)))
 totals-summaries P days [] h = refl
 totals-summaries P days (m ∷ ms) h =
     let g : ℤ → ℤ = λ n. total (map (λ y. y.1) (days_in days n)) in
-    let part = ap (λ (z : ℤ). cond (P m.number) z (pos 0)) h.0.values.total_value in
+    let part = ap (λ (z : ℤ). cond (P m.number) z (pos 0)) h.0.total_value in
     let of_ms = total-cons (λ (k : Summary). k.total) (λ k. P k.number) m ms in
     let of_ns = total-cons g P m.number (map (λ k. k.number) ms) in
     omega (arith, ints, totals-summaries P days ms h.1)
 
 -- the total of some blocks is that of their days
-pub summaries_total-is : (s : Usable) (ms : List Summary) → AreSummaries s ms → (w : ℕ) (first : ℤ)
+pub summaries_total-is : (s : Usable) (ms : List Summary) → AreOfBlocks (HasSum s.days) s ms → (w : ℕ) (first : ℤ)
     → summaries_total ms w first ≡ blocks_total s.days w first
 summaries_total-is s ms are w first =
     totals-summaries (is_among first w) s.days ms are.each

@@ -1,15 +1,17 @@
--- One more value of a block, as a loop comes to it.
-use Rattle.std.proofs.Common.{◌≡◌, ◌≢◌, ℕ, zero, suc, ◌+◌, ◌*◌, ◌%◌, ◌<◌, ◌≤◌, ◌^◌, Bool, true, false, cond, min, max}
-use Rattle.std.proofs.Common.{List, length, get_or, set, refl, sym, ap, ◌∙◌, subst, arith, ℤ, pos, ◌≤ℤ◌, below_more}
-use Rattle.std.proofs.Common.{w32}
-use Rattle.std.specs.Prelude.{◌==◌, int_lt, bit_or, bit_and}
-use Rattle.std.specs.Int.{bit_at, from_bool, int_max, int_min}
+-- What is made of the values of a block, step by step.
+use Rattle.std.proofs.Common.{◌≡◌, ◌≢◌, ℕ, zero, suc, ◌+◌, ◌-◌, ◌*◌, ◌%◌, ◌<◌, ◌≤◌, ◌^◌, Bool, true, false, cond, min}
+use Rattle.std.proofs.Common.{max, List, length, get_or, set, refl, sym, ap, ◌∙◌, subst, arith, ℤ, pos, below_more, w32}
+use Rattle.std.specs.Prelude.{◌==◌, int_lt, bit_and, bit_or, not}
+use Rattle.std.specs.Int.{bit_at, bit_not, from_bool, int_max, int_min}
 use Rattle.std.specs.Option.{option_map_or}
 use Rattle.std.proofs.lemmas.Grind.{get_or-set_at}
 use Rattle.std.proofs.lemmas.List.{get_or-set_other}
-use Rattle.std.proofs.lemmas.Nat.Bits.{bit_at-lt, bit_at-zero, bit_at_and, bit_at_or, bit_at_set_same, bit_at_set_other}
+use Rattle.std.proofs.lemmas.Nat.Bits.{bit_at-lt, bit_at-zero, bit_at_and, bit_at_not, bit_at_or, bit_at_set_same}
+use Rattle.std.proofs.lemmas.Nat.Bits.{bit_at_set_other}
 use Rattle.ghcn_series.specs.Packed.{if_so}
-use Rattle.rank_blocks.specs.Values.{IsMost, IsLeast, IsValue, StandsFor, HasUsableAlone, AreExtremes, IsWordOf}
+use Rattle.rank_blocks.specs.Greatest.{IsGreatest}
+use Rattle.rank_blocks.specs.Values.{HasZeros, IsScoreAmong, IsUsableScore, StandsFor, HasUsableAlone, IsPlacesOf}
+use Rattle.rank_blocks.specs.Values.{IsWordOf}
 
 -- what is true of two numbers is true of the greater
 pub max-one : (P : ℤ → Type 0) (a b r : ℤ) → r ≡ int_max a b → P a → P b → P r
@@ -21,32 +23,41 @@ pub min-one : (P : ℤ → Type 0) (a b r : ℤ) → r ≡ int_min a b → P a �
 min-one P a b r is of_a of_b =
     subst P (sym is) (elim (int_lt b a) as (λ t. P (cond t b a)) [ true ↦ of_b | false ↦ of_a ])
 
--- of a word with every bit, the greatest and the least of all values
-pub extremes-all : (word : ℕ) (values : List ℤ) (most least : ℤ) → ((j : ℕ) → j < 32 → bit_at word j ≡ 1)
-    → IsMost values most → IsLeast values least → AreExtremes word values most least
-extremes-all word values most least every of_most of_least = record {
-  one_most = (let one = of_most.is_one in (one.0, one.1, every one.0 one.1, one.2));
-  one_least = (let one = of_least.is_one in (one.0, one.1, every one.0 one.1, one.2));
-  is_most = λ j lt bit. of_most.is_most j lt;
-  is_least = λ j lt bit. of_least.is_least j lt;
+-- where each day is usable, the greatest of all numbers is that of the usable days
+pub greatest-all : (f : ℤ → ℤ) (word : ℕ) (values : List ℤ) (z : ℤ) → ((j : ℕ) → j < 32 → bit_at word j ≡ 1)
+    → IsGreatest (IsScoreAmong f values) z → IsGreatest (IsUsableScore f word values) z
+greatest-all f word values z every of_z = record {
+  is_one = (let one = of_z.is_one in (one.0, one.1, every one.0 one.1, one.2));
+  is_most = λ y h. of_z.is_most y (h.0, h.1, h.3);
 }
 
--- the greatest and the least of a row that has the values of the usable days alone
-pub extremes-alone : (word : ℕ) (values row : List ℤ) (most least : ℤ) → HasUsableAlone word values row
-    → IsMost row most → IsLeast row least → AreExtremes word values most least
-extremes-alone word values row most least alone of_most of_least = record {
-  one_most = subst (IsValue word values) of_most.is_one.2 (alone of_most.is_one.0 of_most.is_one.1).usable;
-  one_least = subst (IsValue word values) of_least.is_one.2 (alone of_least.is_one.0 of_least.is_one.1).usable;
-  is_most = λ j lt bit. subst (λ (z : ℤ). z ≤ℤ most) ((alone j lt).kept bit) (of_most.is_most j lt);
-  is_least = λ j lt bit. subst (λ (z : ℤ). least ≤ℤ z) ((alone j lt).kept bit) (of_least.is_least j lt);
+-- where the greatest of all numbers is not what is made of 0, it is that of the usable days
+pub greatest-nonzero : (f : ℤ → ℤ) (word : ℕ) (values : List ℤ) (z : ℤ) → HasZeros word values → (z ≡ f (pos 0) → ⊥)
+    → IsGreatest (IsScoreAmong f values) z → IsGreatest (IsUsableScore f word values) z
+greatest-nonzero f word values z zeros other of_z = record {
+  is_one = (let one = of_z.is_one in (one.0, one.1, usable one.0 one.1 one.2, one.2));
+  is_most = λ y h. of_z.is_most y (h.0, h.1, h.3);
 }
+  where
+    -- its day is usable
+    usable : (j : ℕ) → j < 32 → f (get_or values j (pos 0)) ≡ z → bit_at word j ≡ 1
+    usable j lt is = bit_is (bit_at word j) (bit_at-lt word j)
+        (λ unset. other (sym is ∙ ap f (zeros j lt unset)))
+      where
+        -- a bit that isn't 0 is 1
+        bit_is : (k : ℕ) → k < 2 → (k ≡ 0 → ⊥) → k ≡ 1
+        bit_is k lt set = omega (arith, set)
 
--- the same numbers by another name
-pub extremes-same : (word : ℕ) (values : List ℤ) (most least a b : ℤ) → a ≡ most → b ≡ least
-    → AreExtremes word values most least → AreExtremes word values a b
-extremes-same word values most least a b is_a is_b are =
-    subst (λ (z : ℤ). AreExtremes word values z b) (sym is_a)
-    (subst (λ (z : ℤ). AreExtremes word values most z) (sym is_b) are)
+-- the greatest of a row that has the values of the usable days alone
+pub greatest-alone : (f : ℤ → ℤ) (word : ℕ) (values row : List ℤ) (z : ℤ) → HasUsableAlone word values row
+    → IsGreatest (IsScoreAmong f row) z → IsGreatest (IsUsableScore f word values) z
+greatest-alone f word values row z alone of_z = record {
+  is_one =
+      let one = of_z.is_one in
+      let day = (alone one.0 one.1).usable in
+      (day.0, day.1, day.2, ap f day.3 ∙ one.2);
+  is_most = λ y h. of_z.is_most y (h.0, h.1, ap f ((alone h.0 h.1).kept h.2) ∙ h.3);
+}
 
 module _ (word : ℕ) (values : List ℤ) where
   -- the value of a usable day stands for itself
@@ -55,10 +66,10 @@ module _ (word : ℕ) (values : List ℤ) where
   stands-usable p z lt bit is = record { usable = (p, lt, bit, sym is); kept = λ bit. is }
 
   -- that of another usable day stands for an absent one
-  pub stands-absent : (p : ℕ) (first z : ℤ) → (bit_at word p ≡ 1 → ⊥) → IsValue word values first → z ≡ first
-      → StandsFor word values p z
+  pub stands-absent : (p : ℕ) (first z : ℤ) → (bit_at word p ≡ 1 → ⊥) → IsUsableScore (λ v. v) word values first
+      → z ≡ first → StandsFor word values p z
   stands-absent p first z absent value is =
-      record { usable = subst (IsValue word values) (sym is) value; kept = λ bit. absurd (absent bit) }
+      record { usable = subst (IsUsableScore (λ v. v) word values) (sym is) value; kept = λ bit. absurd (absent bit) }
 
   -- a row that is filled up to a place, with that place
   pub row-more : (row : List ℤ) (p : ℕ) (z : ℤ) → p < length row → StandsFor word values p z
@@ -126,9 +137,21 @@ both-bits test zero (suc (suc b)) v la lb is = absurd (omega arith)
 both-bits test (suc zero) (suc (suc b)) v la lb is = absurd (omega arith)
 
 -- the word of the usable days whose values pass
-pub usable-word : (test : ℤ → Bool) (word all : ℕ) (values : List ℤ)
-    → ((j : ℕ) → j < 32 → (bit_at all j == 1) ≡ test (get_or values j (pos 0)))
+pub usable-word : (test : ℤ → Bool) (word all : ℕ) (values : List ℤ) → IsPlacesOf test values all
     → IsWordOf test word values (bit_and all word)
 usable-word test word all values read = λ j lt.
     ap (λ (k : ℕ). k == 1) (bit_at_and all word j) ∙ both-bits test (bit_at all j) (bit_at word j)
     (get_or values j (pos 0)) (bit_at-lt all j) (bit_at-lt word j) (read j lt)
+
+-- the places whose numbers don't pass one test, where these pass another
+pub other-places : (test other : ℤ → Bool) (word : ℕ) (values : List ℤ) → word < 2 ^ 32
+    → ((v : ℤ) → not (test v) ≡ other v) → IsPlacesOf test values word → IsPlacesOf other values (bit_not w32 word)
+other-places test other word values fits are read = λ j lt.
+    ap (λ (k : ℕ). k == 1) (bit_at_not w32 word j fits lt) ∙ turned (bit_at word j) (bit_at-lt word j)
+    ∙ ap not (read j lt) ∙ are (get_or values j (pos 0))
+  where
+    -- a bit is turned
+    turned : (k : ℕ) → k < 2 → (1 - k == 1) ≡ not (k == 1)
+    turned zero lt = refl
+    turned (suc zero) lt = refl
+    turned (suc (suc k)) lt = absurd (omega arith)

@@ -1,5 +1,5 @@
 -- What the summaries of the blocks of a range tell.
-use Rattle.std.specs.Prelude.{◌≡◌, ℕ, Bool, true, ◌&&◌, if◌then◌else◌, List, map, filter, ℤ, pos, neg_ℤ, ◌≤ℤ◌, int_le}
+use Rattle.std.specs.Prelude.{◌≡◌, ℕ, Bool, true, ◌&&◌, List, map, filter, ℤ, pos, neg_ℤ, ◌≤ℤ◌, int_le}
 use Rattle.ghcn_fields.specs.Days.{block_of}
 use Rattle.ghcn_series.specs.Series.{DayValue}
 use Rattle.rank_query.specs.Asked.{Asked}
@@ -7,8 +7,6 @@ use Rattle.rank_scores.specs.Candidates.{is_dry, is_wet, is_hot, is_such}
 use Rattle.rank_scores.specs.declared.spell.Spell.{Spell}
 use Rattle.rank_scores.specs.declared.spell.Spell.TheVariants.{Dry, Wet, Hot}
 use Rattle.rank_blocks.specs.declared.range.BlockRange.{BlockRange}
-use Rattle.rank_blocks.specs.declared.extreme.Extreme.{Extreme}
-use Rattle.rank_blocks.specs.declared.extreme.Extreme.TheVariants.{Highest, Lowest}
 use Rattle.rank_blocks.specs.declared.summary.Summary.{Summary}
 use Rattle.rank_blocks.specs.Blocks.{period_of, total, is_among}
 use Rattle.rank_blocks.specs.Bounds.{holds_such}
@@ -17,6 +15,11 @@ use Rattle.rank_blocks.specs.Bounds.{holds_such}
 pub record IsNear (z : ℤ) : Type 0 where
   pub low : neg_ℤ (pos 2_147_483_648) ≤ℤ z
   pub high : z ≤ℤ pos 2_147_483_648
+
+-- a total that the days of a block can have
+pub record IsTotal (z : ℤ) : Type 0 where
+  pub low : neg_ℤ (pos 68_719_476_736) ≤ℤ z
+  pub high : z ≤ℤ pos 68_719_476_736
 
 -- the range of the blocks of the query's period, or of the calendar where it has none
 pub record IsRangeOf (r : BlockRange) (q : Asked) : Type 0 where
@@ -34,22 +37,6 @@ days_in_range r days = filter (λ x. in_range r (block_of x.0)) days
 -- those of some summaries whose blocks lie in the range
 abbrev pub summaries_in : BlockRange → List Summary → List Summary
 summaries_in r ms = filter (λ m. in_range r m.number) ms
-
--- what an extreme makes of a value
-abbrev pub score_of : Extreme → ℤ → ℤ
-score_of Highest v = v
-score_of Lowest v = neg_ℤ v
-
--- the greatest score of a usable day of a block
-abbrev pub extreme_of : Extreme → Summary → ℤ
-extreme_of Highest m = m.greatest
-extreme_of Lowest m = neg_ℤ m.least
-
--- the word of the days of a block that count for a spell
-abbrev pub word_of : Spell → Summary → ℕ
-word_of Dry m = m.dry
-word_of Wet m = m.wet
-word_of (Hot t) m = if int_le t m.greatest then 4_294_967_295 else 0
 
 -- the day counts for a spell: it is dry or wet, or its block holds a hot day, since no summary has which days are hot
 abbrev pub counts : Spell → List DayValue → ℤ → Bool

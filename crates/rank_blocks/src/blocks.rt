@@ -1,4 +1,4 @@
-//! The summaries of the blocks of a series, and the bounds that they give.
+//! What a query asks of the blocks of a series, and the bound that it gives.
 
 ghost use Rattle.std.specs.Prelude.{◌<◌, Some, IfOk};
 ghost use Rattle.ghcn_series.specs.Series.{Usable};
@@ -8,18 +8,16 @@ ghost use Rattle.rank_blocks.specs.Greatest.{IsBound, IsSeriesBound};
 ghost use Rattle.rank_blocks.specs.Summaries.{AreSummaries, AreSummariesTo, AreSummariesUpTo, ArePossible};
 ghost use Rattle.rank_blocks.specs.Summaries.{numbers_left};
 
-use crate::extreme::Extreme;
 use crate::range::BlockRange;
 use crate::reached::{greatest_day, greatest_total, longest_run, smaller, window_blocks};
 use crate::summary::Summary;
 use ghcn_fields::Memory;
 use ghcn_series::Series;
 use rank_query::{Query, Score};
-use rank_scores::Spell;
 use std::alloc::Global;
 use std::marker::Model;
 
-/// What is known of each block of 32 days in which a series has a usable day.
+/// What a query asks of each block of 32 days in which a series has a usable day.
 ///
 /// Block b has the days 32 b to 32 b + 31, of which day 0 is 1970-01-01.
 #[derive(Drop)]
@@ -41,18 +39,18 @@ impl Model for Blocks {
 }
 
 impl Blocks {
-    /// The summaries of the blocks of a series.
-    pub fn build(alloc: Global, series: &Series) -> Result<Self, Memory>
-        ensures { IfOk result (λ blocks. AreSummaries series.now blocks) }
+    /// What a query asks of the blocks of a series.
+    pub fn build(alloc: Global, series: &Series, query: &Query) -> Result<Self, Memory>
+        ensures { IfOk result (λ blocks. AreSummaries query.now.score series.now blocks) }
     {
         Ok(Blocks {
-            summaries: summaries_of(alloc, series)?,
+            summaries: summaries_of(alloc, series, query.score())?,
         })
     }
 
     /// The bound of the series under a query that asks about it, in the unit of the score.
     pub fn bound(&self, query: &Query) -> i64
-        ensures { (s : Usable) → AreSummaries s self.now → IsAskedOf query.now s →
+        ensures { (s : Usable) → AreSummaries query.now.score s self.now → IsAskedOf query.now s →
             IsSeriesBound query.now s result }
     {
         bound_of(self.summaries.as_slice(), query)
@@ -63,27 +61,24 @@ impl Blocks {
 fn bound_of(blocks: &[Summary], query: &Query) -> i64
     requires { ArePossible blocks.now }
     ensures asked { IsAsked query.now }
-    ensures bound { (s : Usable) → AreSummaries s blocks.now → IsAskedOf query.now s →
+    ensures bound { (s : Usable) → AreSummaries query.now.score s blocks.now → IsAskedOf query.now s →
         IsBound query.now s result }
 {
     let range = BlockRange::of(query);
     match query.score() {
-        Score::Highest(_) => greatest_day(blocks, range, Extreme::Highest),
-        Score::Lowest(_) => greatest_day(blocks, range, Extreme::Lowest),
+        Score::Highest(_) | Score::Lowest(_) => greatest_day(blocks, range),
         Score::Sum(n, _) => smaller(
             n,
-            greatest_day(blocks, range, Extreme::Highest),
+            greatest_day(blocks, range),
             greatest_total(blocks, range, window_blocks(n)),
         ),
-        Score::Dry => longest_run(blocks, range, Spell::Dry),
-        Score::Wet => longest_run(blocks, range, Spell::Wet),
-        Score::Hot(least) => longest_run(blocks, range, Spell::Hot(least)),
+        Score::Dry | Score::Wet | Score::Hot(_) => longest_run(blocks, range),
     }
 }
 
-/// The summaries of the blocks of a series, by block number.
-fn summaries_of(alloc: Global, series: &Series) -> Result<Vec<Summary>, Memory>
-    ensures summaries { IfOk result (λ blocks. AreSummaries series.now blocks.items) }
+/// What a score asks of the blocks of a series, by block number.
+fn summaries_of(alloc: Global, series: &Series, score: Score) -> Result<Vec<Summary>, Memory>
+    ensures summaries { IfOk result (λ blocks. AreSummaries score series.now blocks.items) }
     ensures possible { IfOk result (λ blocks. ArePossible blocks.items) }
 {
     let mut summaries = Vec::new(alloc);
@@ -93,7 +88,7 @@ fn summaries_of(alloc: Global, series: &Series) -> Result<Vec<Summary>, Memory>
     };
     let mut next = Some(first.0.block());
     while let Some(number) = next {
-        next = add_block(&mut summaries, series, number)?;
+        next = add_block(&mut summaries, series, score, number)?;
     }
     Ok(summaries)
 }
@@ -102,15 +97,16 @@ fn summaries_of(alloc: Global, series: &Series) -> Result<Vec<Summary>, Memory>
 fn add_block(
     summaries: &mut Vec<Summary>,
     series: &Series,
+    score: Score,
     number: i32,
 ) -> Result<Option<i32>, Memory>
-    requires { AreSummariesTo series.now number summaries.old.items }
-    ensures read { IfOk result (AreSummariesUpTo series.now summaries.new.items) }
+    requires { AreSummariesTo score series.now number summaries.old.items }
+    ensures read { IfOk result (AreSummariesUpTo score series.now summaries.new.items) }
     ensures later { IfOk result (λ next. numbers_left next < numbers_left (Some number)) }
 {
     match series.block_near(summaries.len(), number) {
         Some((word, values)) => {
-            summaries.push(Summary::of_block(number, word, values))?;
+            summaries.push(Summary::of_block(number, word, values, score))?;
             Ok(Some(number + 1))
         }
         None => Ok(series.next_block(number)),

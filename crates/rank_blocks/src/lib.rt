@@ -5,7 +5,6 @@
 #![tactic(auto)]
 
 mod blocks;
-mod extreme;
 mod range;
 mod reached;
 mod runs;

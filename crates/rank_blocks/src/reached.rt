@@ -9,26 +9,25 @@ ghost use Rattle.ghcn_series.specs.Series.{Usable};
 ghost use Rattle.rank_blocks.specs.Bounds.{blocks_of_window};
 ghost use Rattle.rank_blocks.specs.Greatest.{IsGreatest, IsRunLength};
 ghost use Rattle.rank_blocks.specs.Reached as told;
-ghost use Rattle.rank_blocks.specs.Summaries.{ArePossible, AreSummaries};
+ghost use Rattle.rank_blocks.specs.Summaries.{AreOfBlocks, ArePossible, HasDays};
+ghost use Rattle.rank_scores.specs.declared.spell.Spell.{Spell};
 
-use crate::extreme::Extreme;
 use crate::range::BlockRange;
 use crate::runs::Runs;
 use crate::summary::{Summary, sum_of};
 use crate::window::Window;
-use rank_scores::Spell;
 
 /// The greatest score of a usable day in the blocks of a range, or 0 where there is none.
-pub(crate) fn greatest_day(blocks: &[Summary], range: BlockRange, extreme: Extreme) -> i64
+pub(crate) fn greatest_day(blocks: &[Summary], range: BlockRange) -> i64
     requires { ArePossible blocks.now }
     ensures value { result ≡
-        unwrap_or (greatest (map (told.extreme_of extreme) (told.summaries_in range blocks.now))) (pos 0) }
+        unwrap_or (greatest (map (λ m. m.day) (told.summaries_in range blocks.now))) (pos 0) }
     ensures near { told.IsNear result }
 {
     let mut found = None;
     for block in blocks {
         if block.is_in(range) {
-            found = Some(greater(found, extreme.of(block)));
+            found = Some(greater(found, block.day));
         }
     }
     found.unwrap_or(0)
@@ -95,16 +94,16 @@ fn window_total(blocks: &[Summary], window: Window) -> i64
     total
 }
 
-/// How many days that count for a spell follow one another at most in the blocks of a range.
-pub(crate) fn longest_run(blocks: &[Summary], range: BlockRange, spell: Spell) -> i64
+/// How many days that count for the spell follow one another at most in the blocks of a range.
+pub(crate) fn longest_run(blocks: &[Summary], range: BlockRange) -> i64
     requires { ArePossible blocks.now }
-    ensures { (s : Usable) → AreSummaries s blocks.now →
+    ensures { (spell : Spell) (s : Usable) → AreOfBlocks (HasDays spell s.days) s blocks.now →
         IsGreatest (IsRunLength (told.counts spell (told.days_in_range range s.days))) result }
 {
     let mut runs = Runs::before(range);
     for block in blocks {
         if block.is_in(range) {
-            runs = runs.add(block, spell);
+            runs = runs.add(block);
         }
     }
     runs.longest as i64

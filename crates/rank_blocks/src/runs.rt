@@ -3,11 +3,9 @@
 ghost use Rattle.std.specs.Prelude.{◌≡◌, ◌+◌, ◌<◌, ◌≤◌, ◌^◌, pos, ◌+ℤ◌, ◌≤ℤ◌};
 ghost use Rattle.ghcn_fields.specs.Days.{IsBlock};
 ghost use Rattle.rank_blocks.specs.DayRuns.{has_bit, runs_before, Continues, FollowAtMost};
-ghost use Rattle.rank_blocks.specs.Reached.{word_of};
 
 use crate::range::BlockRange;
 use crate::summary::{BLOCK_DAYS, Summary};
-use rank_scores::Spell;
 
 /// How the days of one kind before a block follow one another.
 #[derive(Clone, Copy, Debug)]
@@ -33,11 +31,11 @@ impl Runs {
     }
 
     /// With the days of a later block. No day between is of the kind.
-    pub(crate) fn add(self, block: &Summary, spell: Spell) -> Self
+    pub(crate) fn add(self, block: &Summary) -> Self
         requires block { IsBlock block.now.number }
         requires order { self.next ≤ℤ block.now.number }
         requires room { self.last + 32 < 2 ^ 32 }
-        ensures runs { Continues self block.now.number (word_of spell block.now) result }
+        ensures runs { Continues self block.now.number block.now.days result }
         ensures next { result.next ≡ block.now.number +ℤ pos 1 }
         ensures room { result.last ≤ self.last + 32 }
     {
@@ -46,7 +44,7 @@ impl Runs {
         } else {
             0
         };
-        let word = block.days(spell);
+        let word = block.days;
         let first = word.trailing_ones();
         Runs {
             next: block.number + 1,

@@ -1,53 +1,58 @@
-//! What is known of the days of one block.
+//! What a query asks of the days of one block.
 
-ghost use Rattle.std.specs.Prelude.{◌≡◌, ◌<◌, ◌+ℤ◌, FitsSigned};
+ghost use Rattle.std.specs.Prelude.{◌≡◌, ◌<◌, ◌+ℤ◌, FitsSigned, List};
 ghost use Rattle.std.specs.Int.{w64};
 ghost use Rattle.ghcn_fields.specs.Days.{IsBlock};
-ghost use Rattle.rank_blocks.specs.Reached.{in_range, word_of};
-ghost use Rattle.rank_blocks.specs.Summaries.{IsPossible, IsSummaryOf};
+ghost use Rattle.ghcn_series.specs.Packed.{AreRising, IsBlockOf};
+ghost use Rattle.ghcn_series.specs.Series.{DayValue};
+ghost use Rattle.rank_blocks.specs.Reached.{in_range, IsNear, IsTotal};
+ghost use Rattle.rank_blocks.specs.Summaries.{IsPossible, IsSummary};
+ghost use Rattle.rank_blocks.specs.Values.{HasZeros};
 
 use crate::range::BlockRange;
-use crate::values::{dry_days, extremes, total, wet_days};
+use crate::values::{all_or_none, dry_days, greatest_value, least_value, total, wet_days};
 use crate::window::Window;
-use rank_scores::Spell;
+use rank_query::Score;
 
 /// How many days a block has.
 pub(crate) const BLOCK_DAYS: u32 = 32;
 
-/// What is known of the days of one block. In its words bit j is the block's day j.
+/// What a query asks of the days of one block. What it doesn't ask for is 0.
 #[derive(Clone, Copy, Debug)]
 pub(crate) struct Summary {
     /// The block's number: block 0 begins on 1970-01-01.
     pub(crate) number: i32,
-    /// The greatest value of a usable day.
-    pub(crate) greatest: i32,
-    /// The least value of a usable day.
-    pub(crate) least: i32,
+    /// The days that count for a spell: bit j is the block's day j.
+    pub(crate) days: u32,
+    /// The greatest score of a usable day: a value, or one negated for `lowest`.
+    pub(crate) day: i64,
     /// The total of the values of the usable days.
     pub(crate) total: i64,
-    /// The usable days with less than 1 mm (ETCCDI).
-    pub(crate) dry: u32,
-    /// The usable days with at least 1 mm (ETCCDI).
-    pub(crate) wet: u32,
 }
 
 impl Summary {
-    /// Of a block that holds a usable day, by the word of its usable days and its values.
-    pub(crate) fn of_block(number: i32, word: u32, values: &[i32; 32]) -> Self
+    /// What a score asks of a block that holds a usable day, by the word of its usable days and its
+    /// values.
+    pub(crate) fn of_block(number: i32, word: u32, values: &[i32; 32], score: Score) -> Self
         requires number { IsBlock number }
         requires present { 0 < word }
-        ensures summary { IsSummaryOf number word values.now result }
+        requires zeros { HasZeros word values.now }
+        ensures summary { (days : List DayValue) → AreRising days → IsBlockOf days number word values.now →
+            IsSummary score days result }
+        ensures number { result.number ≡ number }
         ensures possible { IsPossible result }
     {
-        let (greatest, least) = extremes(word, values);
-        let dry = dry_days(word, values);
-        Summary {
-            number,
-            greatest,
-            least,
-            total: total(values),
-            dry,
-            wet: wet_days(word, dry),
+        match score {
+            Score::Highest(_) => of_day(number, greatest_value(word, values) as i64),
+            Score::Lowest(_) => of_day(number, -(least_value(word, values) as i64)),
+            Score::Sum(..) => of_sum(number, greatest_value(word, values) as i64, total(values)),
+            Score::Dry => of_days(number, dry_days(word, values)),
+            Score::Wet => of_days(number, wet_days(word, values)),
+            // Which days are hot isn't kept: a block with a hot day has 32.
+            Score::Hot(least) => of_days(
+                number,
+                all_or_none(greatest_value(word, values) >= least),
+            ),
         }
     }
 
@@ -68,17 +73,49 @@ impl Summary {
             width,
         }
     }
+}
 
-    /// The word of the days of the block that count for a spell: of a hot one all, where one is hot.
-    pub(crate) fn days(&self, spell: Spell) -> u32
-        ensures { result ≡ word_of spell self.now }
-    {
-        match spell {
-            Spell::Dry => self.dry,
-            Spell::Wet => self.wet,
-            Spell::Hot(least) if self.greatest >= least => u32::MAX,
-            Spell::Hot(_) => 0,
-        }
+/// The summary of a block by the greatest score of its days.
+fn of_day(number: i32, day: i64) -> Summary
+    requires number { IsBlock number }
+    requires near { IsNear day }
+    ensures number { result.number ≡ number }
+    ensures day { result.day ≡ day }
+    ensures possible { IsPossible result }
+{
+    of_sum(number, day, 0)
+}
+
+/// The summary of a block by its greatest value and its total.
+fn of_sum(number: i32, day: i64, total: i64) -> Summary
+    requires number { IsBlock number }
+    requires near { IsNear day }
+    requires small { IsTotal total }
+    ensures number { result.number ≡ number }
+    ensures day { result.day ≡ day }
+    ensures total { result.total ≡ total }
+    ensures possible { IsPossible result }
+{
+    Summary {
+        number,
+        days: 0,
+        day,
+        total,
+    }
+}
+
+/// The summary of a block by its days that count for a spell.
+fn of_days(number: i32, days: u32) -> Summary
+    requires { IsBlock number }
+    ensures number { result.number ≡ number }
+    ensures days { result.days ≡ days }
+    ensures possible { IsPossible result }
+{
+    Summary {
+        number,
+        days,
+        day: 0,
+        total: 0,
     }
 }
 

@@ -1,24 +1,44 @@
 //! What is made of the values of one block. A word has a bit for each of its 32 days, set where the
 //! day is usable, and a day that isn't has the value 0.
 
-ghost use Rattle.std.specs.Prelude.{◌≡◌, ◌<◌, ℕ, ◌&&◌, not, pos, neg_ℤ, ◌≤ℤ◌};
+ghost use Rattle.std.specs.Prelude.{◌≡◌, ◌<◌, ℕ, neg_ℤ};
 ghost use Rattle.rank_scores.specs.Candidates.{is_dry, is_wet};
 ghost use Rattle.rank_blocks.specs.Blocks.{total};
 ghost use Rattle.rank_blocks.specs.DayRuns.{has_bit};
+ghost use Rattle.rank_blocks.specs.Greatest.{IsGreatest};
+ghost use Rattle.rank_blocks.specs.Reached.{IsTotal};
 ghost use Rattle.rank_blocks.specs.Values as of_block;
 
 use rank_scores::Spell;
 
-/// The greatest and the least value of the usable days.
-pub(crate) fn extremes(word: u32, values: &[i32; 32]) -> (i32, i32)
-    requires { 0 < word }
-    ensures { of_block.AreExtremes word values.now result.0 result.1 }
+/// The greatest value of the usable days.
+pub(crate) fn greatest_value(word: u32, values: &[i32; 32]) -> i32
+    requires present { 0 < word }
+    requires zeros { of_block.HasZeros word values.now }
+    ensures { IsGreatest (of_block.IsUsableScore (λ v. v) word values.now) result }
 {
-    if word == u32::MAX {
-        return (greatest(values), least(values));
+    // The 0 of a day that isn't usable hides no greater value.
+    let greatest = greatest_number(values);
+    if greatest > 0 || word == u32::MAX {
+        greatest
+    } else {
+        greatest_number(&usable_alone(word, values))
     }
-    let usable = usable_alone(word, values);
-    (greatest(&usable), least(&usable))
+}
+
+/// The least value of the usable days.
+pub(crate) fn least_value(word: u32, values: &[i32; 32]) -> i32
+    requires present { 0 < word }
+    requires zeros { of_block.HasZeros word values.now }
+    ensures { IsGreatest (of_block.IsUsableScore neg_ℤ word values.now) (neg_ℤ result) }
+{
+    // The 0 of a day that isn't usable hides no lesser value.
+    let least = least_number(values);
+    if least < 0 || word == u32::MAX {
+        least
+    } else {
+        least_number(&usable_alone(word, values))
+    }
 }
 
 /// The values with one of a usable day in place of each that is absent.
@@ -36,8 +56,8 @@ fn usable_alone(word: u32, values: &[i32; 32]) -> [i32; 32]
 }
 
 /// The greatest of 32 numbers.
-fn greatest(values: &[i32; 32]) -> i32
-    ensures { of_block.IsMost values.now result }
+fn greatest_number(values: &[i32; 32]) -> i32
+    ensures { IsGreatest (of_block.IsScoreAmong (λ v. v) values.now) result }
 {
     let mut greatest = values[0];
     for value in values {
@@ -47,8 +67,8 @@ fn greatest(values: &[i32; 32]) -> i32
 }
 
 /// The least of 32 numbers.
-fn least(values: &[i32; 32]) -> i32
-    ensures { of_block.IsLeast values.now result }
+fn least_number(values: &[i32; 32]) -> i32
+    ensures { IsGreatest (of_block.IsScoreAmong neg_ℤ values.now) (neg_ℤ result) }
 {
     let mut least = values[0];
     for value in values {
@@ -60,8 +80,7 @@ fn least(values: &[i32; 32]) -> i32
 /// The total of 32 numbers.
 pub(crate) fn total(values: &[i32; 32]) -> i64
     ensures value { result ≡ total values.now }
-    ensures low { neg_ℤ (pos 68_719_476_736) ≤ℤ result }
-    ensures high { result ≤ℤ pos 68_719_476_736 }
+    ensures small { IsTotal result }
 {
     let mut total: i64 = 0;
     for value in values {
@@ -74,16 +93,30 @@ pub(crate) fn total(values: &[i32; 32]) -> i64
 pub(crate) fn dry_days(word: u32, values: &[i32; 32]) -> u32
     ensures { of_block.IsWordOf is_dry word values.now result }
 {
+    dry_places(values) & word
+}
+
+/// The usable days with at least 1 mm (ETCCDI), as bits of a word.
+pub(crate) fn wet_days(word: u32, values: &[i32; 32]) -> u32
+    ensures { of_block.IsWordOf is_wet word values.now result }
+{
+    !dry_places(values) & word
+}
+
+/// The places of the numbers that are less than 1 mm, as bits of a word.
+fn dry_places(values: &[i32; 32]) -> u32
+    ensures { of_block.IsPlacesOf is_dry values.now result }
+{
     let mut dry: u32 = 0;
     for (place, value) in values.iter().enumerate() {
         dry |= u32::from(Spell::Dry.passes(Some(*value))) << place;
     }
-    dry & word
+    dry
 }
 
-/// The usable days with at least 1 mm (ETCCDI), from those with less.
-pub(crate) fn wet_days(word: u32, dry: u32) -> u32
-    ensures { (j : ℕ) → j < 32 → has_bit result j ≡ (has_bit word j && not (has_bit dry j)) }
+/// All days of a block, or none.
+pub(crate) fn all_or_none(all: bool) -> u32
+    ensures { (j : ℕ) → j < 32 → has_bit result j ≡ all }
 {
-    word & !dry
+    if all { u32::MAX } else { 0 }
 }

@@ -3,4 +3,3 @@ pub mod Words
 pub mod RuleKept
 pub mod StepsAllowed
 pub mod WholeSeat
-pub mod Drawn

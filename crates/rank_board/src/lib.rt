@@ -7,8 +7,6 @@ mod board;
 mod rule;
 mod seat;
 mod steps;
-#[cfg(test)]
-mod tests;
 mod word;
 
 pub use board::{Board, Closed};

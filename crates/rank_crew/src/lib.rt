@@ -8,12 +8,12 @@ mod both;
 mod crewed;
 mod cut;
 mod gate;
+#[cfg(test)]
+mod growths;
 mod job;
 mod part;
 mod places;
 mod surveyed;
-#[cfg(test)]
-mod tests;
 mod worker;
 
 pub use crewed::crew;

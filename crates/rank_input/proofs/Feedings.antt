@@ -1,7 +1,6 @@
 -- Bytes of a file that are fed one after the other.
 use Rattle.std.proofs.Common.{◌≡◌, ℕ, zero, suc, ◌+◌, ◌<◌, ◌≤◌, List, [], ◌∷◌, ◌++◌, length, map, take, get_or}
 use Rattle.std.proofs.Common.{Option, None, Some, refl, sym, ap, ◌∙◌, subst, append_assoc, add-one, arith}
-use Rattle.std.specs.Prelude.{ℤ}
 use Rattle.std.specs.Io.KnownBytes.{Consumes, Keeps, IsAtEnd}
 use Rattle.std.proofs.lemmas.List.{append-nil}
 use Rattle.rank_input.specs.declared.intake.Intake.{Intake}
@@ -47,17 +46,18 @@ all-read (Some xs) (Some ys) None bytes was is ends = absurd is
 all-read (Some xs) (Some ys) (Some zs) bytes was is ends =
     sym (was ∙ ap (λ (t : List ℕ). bytes ++ t) (is ∙ ends) ∙ append-nil bytes)
 
+-- with these bytes of the current file
+abbrev with_current : Input → List ℕ → Input
+with_current i current = record {
+  query = i.query;
+  stations = i.stations;
+  files = record { ended = i.files.ended; current = current };
+}
+
 -- with no bytes more
 with_bytes-nil : (t : Intake) (i : Input) → HasTaken t i → HasTaken t (with_bytes i [])
 with_bytes-nil t i is =
-    let P : List ℕ → Type 0 = λ current. HasTaken t (record {
-      workers = i.workers;
-      guess = i.guess;
-      query = i.query;
-      stations = i.stations;
-      ended = i.ended;
-      current = current;
-    }) in subst P (sym (append-nil i.current)) is
+    subst (λ (current : List ℕ). HasTaken t (with_current i current)) (sym (append-nil i.files.current)) is
 
 -- nothing is fed at first
 pub fed-nothing : (t : Intake) (all : Option (List ℕ)) → IsFedTo t t all all
@@ -70,15 +70,8 @@ fed-more old mid new all left next piece was is takes = record {
   bytes = was.bytes ++ piece;
   parts = consumes-more all left next was.bytes piece was.parts is;
   taken = λ i has.
-      let P : List ℕ → Type 0 = λ current. HasTaken new (record {
-        workers = i.workers;
-        guess = i.guess;
-        query = i.query;
-        stations = i.stations;
-        ended = i.ended;
-        current = current;
-      }) in
-      subst P (append_assoc i.current was.bytes piece) (takes.holds (with_bytes i was.bytes) (was.taken i has));
+      subst (λ (current : List ℕ). HasTaken new (with_current i current))
+      (append_assoc i.files.current was.bytes piece) (takes.holds (with_bytes i was.bytes) (was.taken i has));
 }
 
 -- a read that gave nothing
@@ -145,13 +138,11 @@ files-more old mid new known one was is = record {
 }
 
 -- files that are fed to an intake that was given whole files
-pub given-files : (workers : ℕ) (guess : Option ℤ) (query stations : List ℕ) (ended files : List (List ℕ))
-    → with_files (given workers guess query stations ended) files
-    ≡ given workers guess query stations (ended ++ files)
-given-files workers guess query stations ended [] = ap (given workers guess query stations) (sym (append-nil ended))
-given-files workers guess query stations ended (f ∷ fs) =
-    given-files workers guess query stations (ended ++ f ∷ []) fs
-    ∙ ap (given workers guess query stations) (append_assoc ended (f ∷ []) fs)
+pub given-files : (query stations : List ℕ) (ended files : List (List ℕ))
+    → with_files (given query stations ended) files ≡ given query stations (ended ++ files)
+given-files query stations ended [] = ap (given query stations) (sym (append-nil ended))
+given-files query stations ended (f ∷ fs) =
+    given-files query stations (ended ++ f ∷ []) fs ∙ ap (given query stations) (append_assoc ended (f ∷ []) fs)
 
 -- what is known of the first files, and of one more
 pub known-more : {X : Type 0} (f : X → Option (List ℕ)) (xs : List X) (i : ℕ) (d : X) → i < length xs

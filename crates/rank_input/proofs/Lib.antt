@@ -1,8 +1,5 @@
 pub mod Guesses
 pub mod Crews
 pub mod Texts
-pub mod GoingOn
-pub mod Courses
-pub mod Openings
-pub mod Finishes
+pub mod Reading
 pub mod Feedings

@@ -1,8 +1,9 @@
 -- What the input says, and the first fault in it.
-use Rattle.std.specs.Prelude.{ℕ, Bool, true, false, ◌&&◌, if◌then◌else◌, List, Option, None, Some, Result, Ok, Err}
-use Rattle.std.specs.Prelude.{ℤ, pos, neg_ℤ, int_le, nat_lt, nat_le}
+use Rattle.std.specs.Prelude.{◌≡◌, ℕ, Bool, true, false, ◌&&◌, if◌then◌else◌, List, Option, None, Some, Result, Ok}
+use Rattle.std.specs.Prelude.{Err, ℤ, pos, neg_ℤ, int_le, nat_lt, nat_le}
 use Rattle.ghcn_files.specs.declared.fault.StationsFault.{StationsFault}
 use Rattle.ghcn_files.specs.declared.fault.StationsFault.TheVariants as station
+use Rattle.ghcn_files.specs.declared.station.Station.{Station}
 use Rattle.ghcn_files.specs.Listed.{listed}
 use Rattle.ghcn_series.specs.declared.fault.DataFault.{DataFault}
 use Rattle.ghcn_series.specs.declared.fault.DataFault.TheVariants as daily
@@ -54,20 +55,35 @@ abbrev pub then_read : {A B E : Type 0} → (E → Fault) → Result A E → (A 
 then_read of (Ok a) next = next a
 then_read of (Err e) next = Err (of e)
 
--- the query and the data that the input holds, or the first fault: of the guess, the query, the stations, the daily
--- files
-abbrev pub read_input : Option ℤ → List ℕ → List ℕ → List (List ℕ) → Result (Asked × Contents) Fault
-read_input guess query stations files =
-    if is_guess guess
-    then then_read of_query (read_query query) (λ q.
+-- the query and the data that an input holds, or the first fault: of the query, the stations, the daily files
+abbrev pub read_input : List ℕ → List ℕ → List (List ℕ) → Result (Asked × Contents) Fault
+read_input query stations files =
+    then_read of_query (read_query query) (λ q.
     then_read of_stations (listed stations) (λ ss.
     then_read of_data (data_of ss files) (λ held. Ok (q, held))))
-    else Err BadGuess
 
--- the same for a run of so many workers, whose number is tested first
+-- an input has no fault, and this is what it asks and holds
+pub record IsReadOf (query stations : List ℕ) (files : List (List ℕ)) (asked : Asked) (held : Contents)
+    : Type 0 where
+  pub list : List Station
+  pub asks : read_query query ≡ Ok asked
+  pub lists : listed stations ≡ Ok list
+  pub holds : data_of list files ≡ Ok held
+
+-- the first fault of the words of a run: of the number of workers, of the guess
+abbrev pub words_fault : ℕ → Option ℤ → Option Fault
+words_fault workers guess =
+    if is_crew workers then if is_guess guess then None else Some BadGuess else Some BadWorkers
+
+-- what was read, unless there is a fault that comes before it
+abbrev pub read_unless : {A : Type 0} → Option Fault → Result A Fault → Result A Fault
+read_unless None read = read
+read_unless (Some fault) read = Err fault
+
+-- what the input of a run of so many workers holds, under a guess or none, or the first fault: the words come first
 abbrev pub read_run : ℕ → Option ℤ → List ℕ → List ℕ → List (List ℕ) → Result (Asked × Contents) Fault
 read_run workers guess query stations files =
-    if is_crew workers then read_input guess query stations files else Err BadWorkers
+    read_unless (words_fault workers guess) (read_input query stations files)
 
 -- memory ran out
 abbrev pub is_memory : Fault → Bool

@@ -11,4 +11,4 @@ mod limits;
 pub use archive::{Archive, System, feed, feed_files, piece_room, read_whole};
 pub use fault::Fault;
 pub use intake::Intake;
-pub use limits::{MOST_WORKERS, at_most, worth_starting};
+pub use limits::{check_words, workers_for};

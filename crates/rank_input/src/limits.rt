@@ -1,10 +1,12 @@
 //! What may be asked for.
 
-ghost use Rattle.std.specs.Prelude.{◌≡◌, ◌<◌, ◌≤◌, true};
-ghost use Rattle.rank_input.specs.Input.{is_crew, is_guess};
+ghost use Rattle.std.specs.Prelude.{◌≡◌, ◌≤◌, true, Some, IfOk, IfErr};
+ghost use Rattle.rank_input.specs.Input.{is_crew, is_guess, words_fault};
+
+use crate::fault::Fault;
 
 /// The greatest number of workers of a run.
-pub const MOST_WORKERS: u64 = 64;
+const MOST_WORKERS: u64 = 64;
 
 /// From so many bytes of daily files on, threads are worth starting. To read 16 MiB takes some 15 ms,
 /// and to start the threads of four workers half a millisecond.
@@ -13,18 +15,15 @@ const WORTH_THREADS: u64 = 1 << 24;
 /// The greatest magnitude of a guess, in the raw unit of a score.
 const GREATEST_GUESS: i64 = 1 << 31;
 
-/// How many daily files may be given.
-pub const MOST_FILES: u64 = 1 << 20;
-
 /// Whether so many workers may run, 1 to 64.
-pub fn may_be_crew(workers: u64) -> bool
+fn may_be_crew(workers: u64) -> bool
     ensures { result ≡ is_crew workers }
 {
     0 < workers && workers <= MOST_WORKERS
 }
 
 /// Whether there is no guess, or one from -2^31 to 2^31.
-pub fn may_be_guessed(guess: Option<i64>) -> bool
+fn may_be_guessed(guess: Option<i64>) -> bool
     ensures { result ≡ is_guess guess }
 {
     match guess {
@@ -33,25 +32,27 @@ pub fn may_be_guessed(guess: Option<i64>) -> bool
     }
 }
 
-/// How many workers are worth starting for so many bytes of daily files: one, where threads would
-/// take longer to start than they save.
-pub fn worth_starting(bytes: u64) -> u64
-    ensures { 0 < result }
+/// Tests the words of a run, the number of workers first.
+pub fn check_words(workers: u64, guess: Option<i64>) -> Result<(), Fault>
+    ensures workers { IfOk result (λ _. is_crew workers ≡ true) }
+    ensures guess { IfOk result (λ _. is_guess guess ≡ true) }
+    ensures err { IfErr result (λ fault. words_fault workers guess ≡ Some fault) }
 {
-    if bytes < WORTH_THREADS {
-        1
-    } else {
-        MOST_WORKERS
+    if !may_be_crew(workers) {
+        return Err(Fault::BadWorkers);
     }
+    if !may_be_guessed(guess) {
+        return Err(Fault::BadGuess);
+    }
+    Ok(())
 }
 
-/// So many workers, but no more than a greatest number.
-pub fn at_most(workers: u64, most: u64) -> u64
-    requires crew { is_crew workers ≡ true }
-    requires some { 0 < most }
+/// How many of the workers that are asked for are started over so many bytes of daily files: one,
+/// where threads would take longer to start than they save.
+pub fn workers_for(asked: u64, bytes: u64) -> u64
+    requires { is_crew asked ≡ true }
     ensures crew { is_crew result ≡ true }
-    ensures asked { workers ≤ most → result ≡ workers }
-    ensures most { most < workers → result ≡ most }
+    ensures few { result ≤ asked }
 {
-    workers.min(most)
+    if bytes < WORTH_THREADS { 1 } else { asked }
 }

@@ -45,7 +45,7 @@ fn bound_of(alloc: Global, series: &Series, query: &Query) -> Result<i64, Memory
     requires { IsAskedOf query.now series.now }
     ensures { IfOk result (λ found. found ≡ bound query.now series.now) }
 {
-    let blocks = Blocks::build(alloc, series)?;
+    let blocks = Blocks::build(alloc, series, query)?;
     Ok(blocks.bound(query))
 }
 

@@ -14,7 +14,7 @@ fn bound_of(alloc: Global, stretches: &[Stretch], query: &str) -> Option<i64> {
     let query = Query::parse(query).ok()?;
     let data = data_of(alloc, query.element(), stretches)?;
     let series = data.series(&A, query.element())?;
-    let blocks = Blocks::build(alloc, series).ok()?;
+    let blocks = Blocks::build(alloc, series, &query).ok()?;
     Some(blocks.bound(&query))
 }
 

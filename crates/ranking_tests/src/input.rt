@@ -5,7 +5,7 @@ ghost use Rattle.rank_input.specs.Taken.{HasTakenSome};
 use ghcn_fields::Memory;
 use ghcn_files::{LineWhy, StationWhy};
 use ghcn_series::DailyWhy;
-use rank_input::{Fault, Intake, worth_starting};
+use rank_input::{Fault, Intake, workers_for};
 use std::alloc::Global;
 use std::test::Fail;
 
@@ -23,20 +23,21 @@ fn end_files(intake: &mut Intake, count: u64)
 
 /// What is told of files of which the first begins so, so many end, and the last begins so.
 fn fault_of(alloc: Global, query: &str, first: &[u8], count: u64, last: &[u8]) -> Option<Fault> {
-    let mut intake = Intake::new(alloc, 1, None, query, STATIONS);
+    let mut intake = Intake::new(alloc, query, STATIONS);
     intake.piece(first);
     end_files(&mut intake, count);
     intake.piece(last);
     intake.finish().err()
 }
 
+/// The fault of a line of a file.
+fn daily_line(file: u64, line: u64, why: DailyWhy) -> Fault {
+    Fault::DailyLine { file, line, why }
+}
+
 #[test]
 fn files_behind_a_fault_are_counted(rt: HostRuntime) {
-    let fault = Fault::DailyLine {
-        file: 1,
-        line: 1,
-        why: DailyWhy::Line(LineWhy::Short),
-    };
+    let fault = daily_line(1, 1, DailyWhy::Line(LineWhy::Short));
     let bad_query = Fault::UnexpectedWord(3);
     let cases: [(&str, &[u8], u64, &[u8], Fault); 5] = [
         ("top 1 dry", b"x", 1 << 20, b"", fault),
@@ -64,19 +65,11 @@ fn texts_of_faults(rt: HostRuntime) -> Result<(), Fail> {
         (Fault::TooManyStations, "refused 2 TooManyStations"),
         (Fault::Memory(Memory), "refused 3 Memory"),
         (
-            Fault::DailyLine {
-                file: 2,
-                line: 7,
-                why: DailyWhy::Line(LineWhy::BadValue(31)),
-            },
+            daily_line(2, 7, DailyWhy::Line(LineWhy::BadValue(31))),
             "refused 5 DailyLine file 2 line 7 BadValue 31",
         ),
         (
-            Fault::DailyLine {
-                file: 1,
-                line: 2,
-                why: DailyWhy::DuplicateMonth,
-            },
+            daily_line(1, 2, DailyWhy::DuplicateMonth),
             "refused 5 DailyLine file 1 line 2 DuplicateMonth",
         ),
         (Fault::TooManyFiles, "refused 6 TooManyFiles"),
@@ -108,6 +101,7 @@ fn workers_that_are_worth_starting(rt: HostRuntime) {
         (u64::MAX, 64),
     ];
     for (bytes, workers) in cases {
-        assert_eq!(rt; worth_starting(bytes), workers, "{bytes} bytes");
+        assert_eq!(rt; workers_for(64, bytes), workers, "{bytes} bytes");
     }
+    assert_eq!(rt; workers_for(4, 16_777_216), 4);
 }

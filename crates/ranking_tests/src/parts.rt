@@ -137,7 +137,7 @@ end 2
 
 #[test]
 fn lines_of_two_parts(rt: HostRuntime) -> Result<(), Fail> {
-    let cases: [(&str, &str, &str, &str); 11] = [
+    let cases: [(&str, &str, &str, &str); 7] = [
         (REPORT, CERTIFICATE, "accepted 2 of 3", "accepted 1 of 3"),
         (REPORT, CERTIFICATE_1, "accepted 2 of 3", "accepted 1 of 3"),
         (REPORT, ONE_MORE, "accepted 2 of 4", "accepted 1 of 4"),
@@ -165,30 +165,6 @@ fn lines_of_two_parts(rt: HostRuntime) -> Result<(), Fail> {
             "refused certificate line 4 NotACandidate",
             "accepted 1 of 3",
         ),
-        (
-            OTHER_QUERY,
-            CERTIFICATE,
-            "refused report line 2 OtherQuery",
-            "refused report line 2 OtherQuery",
-        ),
-        (
-            REPORT,
-            OTHER_FLOOR,
-            "refused certificate line 3 OtherFloor",
-            "refused certificate line 3 OtherFloor",
-        ),
-        (
-            REPORT,
-            NOT_RISING,
-            "refused certificate line 5 OtherSeries",
-            "refused certificate line 5 OtherSeries",
-        ),
-        (
-            "",
-            CERTIFICATE,
-            "refused report line 1 Form",
-            "refused report line 1 Form",
-        ),
     ];
     let (first, second) = (part(rt.alloc(), true)?, part(rt.alloc(), false)?);
     for (report, certificate, expected, beside) in cases {
@@ -196,6 +172,24 @@ fn lines_of_two_parts(rt: HostRuntime) -> Result<(), Fail> {
         let other = line_of(rt.alloc(), &second, report, certificate)?;
         assert_eq!(rt; one.as_str(), expected, "of the first, at {certificate}");
         assert_eq!(rt; other.as_str(), beside, "of the second, at {certificate}");
+    }
+    Ok(())
+}
+
+#[test]
+fn faults_that_both_parts_find(rt: HostRuntime) -> Result<(), Fail> {
+    let cases = [
+        (OTHER_QUERY, CERTIFICATE, "refused report line 2 OtherQuery"),
+        (REPORT, OTHER_FLOOR, "refused certificate line 3 OtherFloor"),
+        (REPORT, NOT_RISING, "refused certificate line 5 OtherSeries"),
+        ("", CERTIFICATE, "refused report line 1 Form"),
+    ];
+    let parts = [part(rt.alloc(), true)?, part(rt.alloc(), false)?];
+    for (report, certificate, expected) in cases {
+        for held in &parts {
+            let found = line_of(rt.alloc(), held, report, certificate)?;
+            assert_eq!(rt; found.as_str(), expected, "at {certificate}");
+        }
     }
     Ok(())
 }

@@ -3,9 +3,9 @@
 //! A test prints `memory` where the reader met the refusal, and `answered` where it answered what it
 //! has to. It prints nothing where the station list met it.
 
-ghost use Rattle.std.specs.Prelude.{IfOk};
 ghost use Rattle.ghcn_series.specs.Pieces.{HasFedSome};
 
+use crate::lines::line_of;
 use ghcn_fields::{Day, Memory};
 use ghcn_files::{Element, StationId, Stations};
 use ghcn_series::{Data, DataFault, DataReader};
@@ -17,46 +17,40 @@ ZZA00000002  11.0000   21.0000  100.0    BRAVO
 ";
 
 /// A month whose first value is 311, and whose other days are missing.
-fn line_of(head: &[u8; 21]) -> [u8; 269] {
-    let mut line = [b' '; 269];
-    line[..21].copy_from_slice(head);
-    for day in 0..31 {
-        line[21 + 8 * day..26 + 8 * day].copy_from_slice(b"-9999");
-    }
-    line[21..26].copy_from_slice(b"  311");
-    line
+fn month_of(head: &[u8; 21]) -> [u8; 269] {
+    line_of(head, &[(1, b"  311   ")])
 }
 
 /// Feeds the bytes one by one.
-fn fed(mut reader: DataReader, bytes: &[u8]) -> Result<DataReader, DataFault>
+fn fed(mut reader: DataReader, bytes: &[u8]) -> DataReader
     requires { HasFedSome reader }
-    ensures { IfOk result HasFedSome }
+    ensures { HasFedSome result }
 {
     for byte in bytes {
-        reader.piece(&[*byte])?;
+        reader.piece(&[*byte]);
     }
-    Ok(reader)
+    reader
 }
 
 /// Feeds a month's line, which ends by a carriage return and a line feed.
-fn with_month(reader: DataReader, head: &[u8; 21]) -> Result<DataReader, DataFault>
+fn with_month(reader: DataReader, head: &[u8; 21]) -> DataReader
     requires { HasFedSome reader }
-    ensures { IfOk result HasFedSome }
+    ensures { HasFedSome result }
 {
-    fed(fed(reader, &line_of(head))?, b"\r\n")
+    fed(fed(reader, &month_of(head)), b"\r\n")
 }
 
 /// What two files hold: a month before the one that stands first, a month of another station and
 /// element, one of a station that isn't listed, and a last line without its line feed.
 fn read_pieces(alloc: Global, stations: Stations) -> Result<Data, DataFault> {
     let reader = DataReader::new(alloc, stations)?;
-    let reader = with_month(reader, b"ZZA00000001202007TMAX")?;
-    let reader = with_month(reader, b"ZZA00000001202006TMAX")?;
-    let reader = with_month(reader, b"ZZA00000002202007PRCP")?;
-    let reader = with_month(reader, b"ZZA00000009202007TMAX")?;
-    let mut reader = with_month(reader, b"ZZA00000001202008TMAX")?;
-    reader.end_of_file()?;
-    let reader = fed(reader, &line_of(b"ZZA00000001202009TMAX"))?;
+    let reader = with_month(reader, b"ZZA00000001202007TMAX");
+    let reader = with_month(reader, b"ZZA00000001202006TMAX");
+    let reader = with_month(reader, b"ZZA00000002202007PRCP");
+    let reader = with_month(reader, b"ZZA00000009202007TMAX");
+    let mut reader = with_month(reader, b"ZZA00000001202008TMAX");
+    reader.end_of_file();
+    let reader = fed(reader, &month_of(b"ZZA00000001202009TMAX"));
     reader.finish()
 }
 

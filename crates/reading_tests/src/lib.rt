@@ -10,6 +10,8 @@ mod files;
 #[cfg(test)]
 mod growths;
 #[cfg(test)]
+mod lines;
+#[cfg(test)]
 mod query;
 #[cfg(test)]
 mod series;

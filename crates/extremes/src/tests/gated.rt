@@ -4,6 +4,7 @@ use super::*;
 use rank_crew::Gate;
 use std::sync::Wait;
 use std::sync::atomic::{AtomicBool, AtomicU64, Ordering};
+use std::test::Fail;
 use std::thread::yield_now;
 
 /// How often a worker that is held looks again. Each time it yields.

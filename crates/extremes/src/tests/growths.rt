@@ -4,10 +4,14 @@
 //! answered what it has to.
 
 use super::*;
+use crate::judge::judge;
 use crate::merge::{MergingFault, PartTexts, merge_texts};
 use ghcn_fields::Memory;
+use rank_check::Verdict;
 use rank_merge::MergeFault;
+use std::alloc::{AllocError, Global};
 use std::process::Abort;
+use std::test::Fail;
 
 const BEST_CERTIFICATE: &[u8] = b"extremes certificate 2
 query top 1 highest TMAX

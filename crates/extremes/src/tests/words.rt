@@ -2,13 +2,24 @@
 
 use super::*;
 use command_line::{Command, CommandFault, command};
-use std::alloc::AllocError;
+use std::alloc::{AllocError, Global};
+use std::test::Fail;
 
 fn words_of(alloc: Global, words: &[&str]) -> Result<Vec<String>, AllocError> {
     words
         .iter()
         .map(|word| String::from_str(alloc, word))
         .try_collect(alloc)
+}
+
+/// Whether these are the words.
+fn are_words(found: &[String], words: &[&str]) -> bool {
+    for (found, word) in found.iter().zip(words) {
+        if found.as_str() != *word {
+            return false;
+        }
+    }
+    found.len() == words.len()
 }
 
 #[test]
@@ -49,13 +60,7 @@ fn commands_of_words(rt: HostRuntime) -> Result<(), Fail> {
     assert_eq!(rt; workers, 64);
     assert_eq!(rt; guess, Some(-3));
     assert_eq!(rt; certificate.as_ref().map(|path| path.as_str()), Some("c"));
-    let paths: [&str; 2] = ["a", "b"];
-    assert_eq!(rt; files.len(), paths.len());
-    for (file, path) in files.iter().zip(paths) {
-        assert_eq!(rt; file.as_str(), path);
-    }
-    let without = words_of(rt.alloc(), &["rank", "--query", "q"])?;
-    assert!(rt; matches!(command(rt.alloc(), without), Err(CommandFault::Words(_))));
+    assert!(rt; are_words(files.as_slice(), &["a", "b"]));
     Ok(())
 }
 
@@ -130,11 +135,13 @@ fn commands_to_check(rt: HostRuntime) -> Result<(), Fail> {
     for (text, expected) in texts.iter().zip(["s", "q", "r", "c"]) {
         assert_eq!(rt; text.as_str(), expected);
     }
-    assert_eq!(rt; files.len(), 2);
-    for (file, expected) in files.iter().zip(["a", "b"]) {
-        assert_eq!(rt; file.as_str(), expected);
-    }
+    assert!(rt; are_words(files.as_slice(), &["a", "b"]));
     assert!(rt; !part);
+    Ok(())
+}
+
+#[test]
+fn commands_to_check_a_part(rt: HostRuntime) -> Result<(), Fail> {
     let of_part = [
         "check",
         "--part",
@@ -150,19 +157,35 @@ fn commands_to_check(rt: HostRuntime) -> Result<(), Fail> {
             Ok(Command::Check { part: true, .. })
         )
     );
-    let without = words_of(
-        rt.alloc(),
-        &["check", "--stations=s", "--query=q", "--report=r"],
-    )?;
-    assert!(rt; matches!(command(rt.alloc(), without), Err(CommandFault::Words(_))));
     Ok(())
+}
+
+#[test]
+fn commands_that_lack_an_option(rt: HostRuntime) -> Result<(), Fail> {
+    let cases: [&[&str]; 2] = [
+        &["rank", "--query", "q"],
+        &["check", "--stations=s", "--query=q", "--report=r"],
+    ];
+    for words in cases {
+        let without = words_of(rt.alloc(), words)?;
+        assert!(rt; matches!(command(rt.alloc(), without), Err(CommandFault::Words(_))));
+    }
+    Ok(())
+}
+
+/// The text that words which ask for no run show.
+fn shown(alloc: Global, words: &[&str]) -> Result<String, Fail> {
+    let Err(CommandFault::Words(text)) = command(alloc, words_of(alloc, words)?) else {
+        return Err(Fail::from("no text to show"));
+    };
+    Ok(text)
 }
 
 #[test]
 fn texts_of_words(rt: HostRuntime) -> Result<(), Fail> {
     let odd =
         "error: the papers stand in pairs, a report and its certificate, and the last is alone\n";
-    let cases: [(&[&str], &str); 15] = [
+    let cases: [(&[&str], &str); 7] = [
         (&["merge", "--query=q", "r"], odd),
         (&["merge", "r", "c", "s", "--query=q"], odd),
         (
@@ -170,44 +193,46 @@ fn texts_of_words(rt: HostRuntime) -> Result<(), Fail> {
             "merge --query <QUERY> [--certificate <OUT>] [REPORT CERTIFICATE]...\n",
         ),
         (
-            &["merge", "--help"],
-            "\n  refused twice ID                                  the station has lines",
-        ),
-        (
-            &["check", "--help"],
-            "\n  NotBest          fewer or more candidates precede it",
-        ),
-        (
             &["check"],
             "check --stations <FILE> --query <QUERY> --report <FILE>",
         ),
-        (
-            &["rank", "--help"],
-            "\n  top K SCORE [REGION] [SEASON] [PERIOD]    K is from 1 to 1000\n",
-        ),
-        (&["rank", "--help"], "\n           sum N FALL "),
-        (
-            &["rank", "--help"],
-            "--query 'top 5 sum 3 PRCP country GM' GM*.dly\n",
-        ),
-        (
-            &["rank", "--help"],
-            "ghcnd-stations.txt \\\n      --query 'top 3 dry box",
-        ),
-        (
-            &["rank", "--help"],
-            "\n  SNWD     snow depth, whole millimetres\n",
-        ),
-        (&["rank", "--help"], "\n  refused 13 EmptyPeriod  "),
         (&["--help"], "'extremes rank --help' has the queries"),
         (&["--query", "top 1 dry"], "\n       extremes rank --help\n"),
         (&["top"], "\n       extremes rank --help\n"),
     ];
     for (words, part) in cases {
-        let Err(CommandFault::Words(text)) = command(rt.alloc(), words_of(rt.alloc(), words)?)
-        else {
-            return Err(Fail::from("no text to show"));
-        };
+        let text = shown(rt.alloc(), words)?;
+        assert!(rt; text.as_str().contains(part), "at {part:?}: {text}");
+    }
+    Ok(())
+}
+
+#[test]
+fn helps_of_commands(rt: HostRuntime) -> Result<(), Fail> {
+    let cases = [
+        (
+            "merge",
+            "\n  refused twice ID                                  the station has lines",
+        ),
+        (
+            "check",
+            "\n  NotBest          fewer or more candidates precede it",
+        ),
+        (
+            "rank",
+            "\n  top K SCORE [REGION] [SEASON] [PERIOD]    K is from 1 to 1000\n",
+        ),
+        ("rank", "\n           sum N FALL "),
+        ("rank", "--query 'top 5 sum 3 PRCP country GM' GM*.dly\n"),
+        (
+            "rank",
+            "ghcnd-stations.txt \\\n      --query 'top 3 dry box",
+        ),
+        ("rank", "\n  SNWD     snow depth, whole millimetres\n"),
+        ("rank", "\n  refused 13 EmptyPeriod  "),
+    ];
+    for (command, part) in cases {
+        let text = shown(rt.alloc(), &[command, "--help"])?;
         assert!(rt; text.as_str().contains(part), "at {part:?}: {text}");
     }
     Ok(())

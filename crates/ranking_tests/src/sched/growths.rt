@@ -7,6 +7,7 @@ ghost use Rattle.std.specs.Prelude.{◌<◌, ◌≤◌};
 
 use super::*;
 use ghcn_fields::Memory;
+use rank_sched::Machine;
 use std::test::Fail;
 
 /// What a run tells.

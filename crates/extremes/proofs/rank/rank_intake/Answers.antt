@@ -1,5 +1,5 @@
 use Rattle.std.proofs.lemmas.Result.{IfOk-weaker, IfErr-weaker}
-use Rattle.rank_input.proofs.Finishes.{memory_refuses}
+use Rattle.rank_input.proofs.Reading.{memory_refuses}
 use Rattle.extremes.proofs.rank.rank_intake.Goals as goal
 use Rattle.extremes.proofs.Answering.{answers_input, crews_input}
 
@@ -20,6 +20,6 @@ returns-in-Ok-clause-err g c =
 pub returns-in-Ok-clause-crew : goal.returns-in-Ok-clause-crew
 returns-in-Ok-clause-crew g c =
     IfOk-weaker c.ranked_by_crew-answer.result _ _ (λ papers are.
-    crews_input c.args.intake c.args.most _ _ _ papers c.one_element_is_enough.ensures.morsels c.in-Ok.ensures.ok
-    c.at_most-workers.ensures.asked c.at_most-workers.ensures.most are)
+    crews_input c.args.intake c.args.workers c.args.guess _ _ papers c.one_element_is_enough.ensures.morsels
+    c.in-Ok.ensures.ok are)
     c.ranked_by_crew-answer.ensures.crew

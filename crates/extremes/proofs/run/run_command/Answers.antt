@@ -1,38 +1,32 @@
-use Rattle.std.proofs.Common.{sym, subst, inr}
+use Rattle.std.proofs.Common.{List, map, sym, subst}
+use Rattle.std.specs.Prelude.{ℕ, string_bytes}
 use Rattle.command_line.specs.declared.asked.Command.{Command}
-use Rattle.extremes.specs.Commands.{IsRun}
-use Rattle.extremes.proofs.NamedFiles.{prints-ranking, prints-merge, prints-judgement}
+use Rattle.command_line.specs.declared.asked.Part.{Part}
+use Rattle.extremes.specs.Commands.{IsRun, RunsMerge}
+use Rattle.extremes.specs.Merges.{known_part}
 use Rattle.extremes.proofs.run.run_command.Goals as goal
 
 -- the files that are named are ranked
-pub returns-in-Ok : goal.returns-in-Ok
-returns-in-Ok g c =
-    let bytes_of = g.A.Archive.bytes_of c.args.archive.now in
-    let before = g.W.Write.contents c.args.out.now in
-    let after = g.W.Write.contents c.print_ranked.new.out in
-    subst (λ (a : Command). IsRun bytes_of a before after c.print_ranked.result) (sym c.in-Rank.is)
-    (inr (prints-ranking bytes_of _ _ _ c.in-Rank.query c.in-Rank.stations c.in-Rank.files.items
-    c.deref-in-Rank-3.ensures c.deref-in-Rank.ensures c.deref-in-Rank-2.ensures.value _ _ _ c.in-Rank.workers
-    c.in-Rank.guess _ c.in-Ok.ensures c.print_ranked.ensures))
+pub returns-in-Rank : goal.returns-in-Rank
+returns-in-Rank g c =
+    subst (λ (a : Command). IsRun (g.A.Archive.bytes_of c.args.archive.now) a (g.W.Write.contents c.args.out.now)
+    (g.W.Write.contents c.run_ranking.new.out) c.run_ranking.result) (sym c.in-Rank.is) c.run_ranking.ensures
 
 -- or the papers of the parts that are named are merged
-pub returns-in-Ok-merge_files : goal.returns-in-Ok-merge_files
-returns-in-Ok-merge_files g c =
+pub returns-in-Merge : goal.returns-in-Merge
+returns-in-Merge g c =
     let bytes_of = g.A.Archive.bytes_of c.args.archive.now in
     let before = g.W.Write.contents c.args.out.now in
-    let after = g.W.Write.contents c.print_answer-in-Ok-merge_files.new.out in
-    subst (λ (a : Command). IsRun bytes_of a before after c.print_answer-in-Ok-merge_files.result) (sym c.in-Merge.is)
-    (inr (prints-merge bytes_of _ _ c.in-Merge.query c.in-Merge.parts.items c.deref-in-Merge.ensures
-    c.deref-in-Merge-2.ensures.value _ _ _ _ c.in-Ok-merge_files.ensures c.print_answer-in-Ok-merge_files.ensures))
+    let after = g.W.Write.contents c.run_merge.new.out in
+    subst (λ (a : Command). IsRun bytes_of a before after c.run_merge.result) (sym c.in-Merge.is)
+    (subst (λ (ps : List Part). RunsMerge (string_bytes c.in-Merge.query) (map (known_part bytes_of) ps) before after
+    c.run_merge.result)
+    c.deref-in-Merge.ensures.value
+    (subst (λ (q : List ℕ). RunsMerge q (map (known_part bytes_of) c.deref-in-Merge.result.now) before after
+    c.run_merge.result) c.deref.ensures c.run_merge.ensures))
 
--- or judged
-pub returns-in-Ok-judge_files : goal.returns-in-Ok-judge_files
-returns-in-Ok-judge_files g c =
-    let bytes_of = g.A.Archive.bytes_of c.args.archive.now in
-    let before = g.W.Write.contents c.args.out.now in
-    let after = g.W.Write.contents c.print_judgement.new.out in
-    subst (λ (a : Command). IsRun bytes_of a before after c.print_judgement.result) (sym c.in-Check.is)
-    (inr (prints-judgement bytes_of _ _ _ c.in-Check.query c.in-Check.stations c.in-Check.files.items
-    c.deref-in-Check-2.ensures c.deref-in-Check.ensures c.deref-in-Check-5.ensures.value _ _ _ c.in-Check.part _ _ c.in-Check.report
-    c.in-Check.certificate _ c.deref-in-Check-3.ensures c.deref-in-Check-4.ensures c.in-Ok-judge_files.ensures
-    c.print_judgement.ensures))
+-- or papers that are named are judged
+pub returns-in-Check : goal.returns-in-Check
+returns-in-Check g c =
+    subst (λ (a : Command). IsRun (g.A.Archive.bytes_of c.args.archive.now) a (g.W.Write.contents c.args.out.now)
+    (g.W.Write.contents c.run_judging.new.out) c.run_judging.result) (sym c.in-Check.is) c.run_judging.ensures

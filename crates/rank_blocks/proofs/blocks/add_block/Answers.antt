@@ -2,8 +2,7 @@ use Rattle.std.proofs.Common.{◌≡◌, ℤ, pos, ◌+ℤ◌, List, ◌<◌, �
 use Rattle.std.proofs.lemmas.Int.{ints, to_z-of_z}
 use Rattle.ghcn_series.specs.Packed.{IsBlockOf, HasNone, next_block}
 use Rattle.rank_blocks.specs.declared.summary.Summary.{Summary}
-use Rattle.rank_blocks.specs.Summaries.{IsSummaryOf, AreSummariesTo}
-use Rattle.rank_blocks.proofs.BlockDays.{summary-IsSummary}
+use Rattle.rank_blocks.specs.Summaries.{AreSummariesTo}
 use Rattle.rank_blocks.proofs.DayValues.{rise-from_by_day}
 use Rattle.rank_blocks.proofs.ReadBlocks.{block-IsBlock, read-more, read-next}
 use Rattle.rank_blocks.proofs.blocks.add_block.Goals as goal
@@ -23,14 +22,12 @@ returns-in_ok-push-in-Some-clause-read c =
     let of_block : IsBlockOf s.days c.args.number c.in-Some.word c.in-Some.values.now =
     subst (λ (b : ℤ). IsBlockOf s.days b c.in-Some.word c.in-Some.values.now) number c.in-Some.ensures.some in
     let block = block-IsBlock s c.args.number c.in-Some.word c.in-Some.values.now c.requires.series fits of_block in
-    let made : IsSummaryOf c.args.number c.in-Some.word c.in-Some.values.now c.of_block.result =
-    subst (λ (b : ℤ). IsSummaryOf b c.in-Some.word c.in-Some.values.now c.of_block.result) number
-    c.of_block.ensures.summary in
-    let is = summary-IsSummary s.days (rise-from_by_day s.days c.requires.series.by_day) c.args.number c.in-Some.word
-    c.in-Some.values.now of_block c.of_block.result made in
-    let more = read-more s c.args.number c.args.summaries.now.items c.of_block.result c.requires made.number block is
+    let is = c.of_block.ensures.summary s.days (rise-from_by_day s.days c.requires.series.by_day)
+    c.in-Some.ensures.some in
+    let more = read-more c.args.score s c.args.number c.args.summaries.now.items c.of_block.result c.requires
+    (c.of_block.ensures.number ∙ number) block is
     c.of_block.ensures.possible in
-    let To : ℤ → List Summary → Type 0 = λ n ms. AreSummariesTo s n ms in
+    let To : ℤ → List Summary → Type 0 = AreSummariesTo c.args.score s in
     subst (λ (n : ℤ). To n c.push.new.self.items) {x = c.args.number +ℤ pos 1} (omega (arith, ints))
     (subst (To (c.args.number +ℤ pos 1)) (sym c.in_ok-push-in-Some.ensures.items) more)
 
@@ -48,6 +45,6 @@ returns-in-None c =
     let s = c.args.series.now in
     let number : to_z w32 (of_z w32 c.args.number) ≡ c.args.number = to_z-of_z w32 _ c.ranges.number in
     let none : HasNone s.days c.args.number = subst (HasNone s.days) number c.in-None.ensures.none in
-    let next = read-next s c.args.number c.args.summaries.now.items c.requires none c.next_block.result
+    let next = read-next c.args.score s c.args.number c.args.summaries.now.items c.requires none c.next_block.result
     (sym (c.next_block.ensures ∙ ap (next_block s.days) number)) in
     record { read = next.0; later = next.1 }

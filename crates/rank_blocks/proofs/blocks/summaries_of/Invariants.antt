@@ -3,7 +3,7 @@ use Rattle.rank_blocks.proofs.blocks.summaries_of.Given as goal
 
 -- the summaries of the blocks before the next one
 abbrev pub invariant-loop-next : goal.invariant-loop-next
-invariant-loop-next l = AreSummariesUpTo l.series l.summaries.items l.next
+invariant-loop-next l = AreSummariesUpTo l.score l.series l.summaries.items l.next
 
 -- how many numbers are left
 abbrev pub decreases-loop-next : goal.decreases-loop-next

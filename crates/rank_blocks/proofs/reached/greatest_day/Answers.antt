@@ -1,7 +1,7 @@
 use Rattle.std.proofs.Common.{◌≡◌, ℤ, Option, Some, sym, ap, ◌∙◌, subst}
 use Rattle.std.specs.Option.{IfSome}
-use Rattle.rank_blocks.specs.Reached.{IsNear, extreme_of}
-use Rattle.rank_blocks.proofs.BlockSteps.{greatest-in, greatest-out, near-read}
+use Rattle.rank_blocks.specs.Reached.{IsNear}
+use Rattle.rank_blocks.proofs.BlockSteps.{greatest-in, greatest-out, near-read, possible-at}
 use Rattle.rank_blocks.proofs.reached.greatest_day.Goals as goal
 use Rattle.rank_blocks.proofs.reached.greatest_day.Goals.{then-is_in, else-is_in}
 
@@ -16,17 +16,18 @@ loop-block-preserved c =
           ∙ ap (λ (z : ℤ). Some z) (near-read _ w.greater.ensures.near) in
           record {
             found =
-                greatest-in (extreme_of c.args.extreme) c.args.range c.args.blocks.now c.loop-block.block-index lt _ _
+                greatest-in (λ m. m.day) c.args.range c.args.blocks.now c.loop-block.block-index lt _ _
                 w.greater.result
                 (sym c.is_in.ensures ∙ w.if-is_in.true) so_far
-                (sym (near-read _ w.of.ensures.near ∙ w.of.ensures.value)) w.greater.ensures.greatest
+                (sym (near-read _ (possible-at c.args.blocks.now c.loop-block.block-index lt c.requires).near))
+                w.greater.ensures.greatest
                 ∙ sym found;
             near = subst (λ (o : Option ℤ). IfSome o IsNear) (sym found) w.greater.ensures.near;
           }
       | else-is_in w ↦
           record {
             found =
-                greatest-out (extreme_of c.args.extreme) c.args.range c.args.blocks.now c.loop-block.block-index lt
+                greatest-out (λ m. m.day) c.args.range c.args.blocks.now c.loop-block.block-index lt
                 (sym c.is_in.ensures ∙ w.if-is_in.false) ∙ so_far ∙ sym w.found-is;
             near = subst (λ (o : Option ℤ). IfSome o IsNear) (sym w.found-is) c.loop-block.invariant.near;
           }

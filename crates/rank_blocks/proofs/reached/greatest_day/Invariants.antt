@@ -1,13 +1,13 @@
 use Rattle.std.proofs.Common.{◌≡◌}
 use Rattle.std.specs.Option.{IfSome}
 use Rattle.ghcn_fields.specs.Sorting.{greatest}
-use Rattle.rank_blocks.specs.Reached.{IsNear, extreme_of}
+use Rattle.rank_blocks.specs.Reached.{IsNear}
 use Rattle.rank_blocks.proofs.BlockSteps.{made}
 use Rattle.rank_blocks.proofs.reached.greatest_day.Given as goal
 
 -- the greatest score of the blocks so far
 abbrev pub invariant-loop-block : goal.invariant-loop-block
 invariant-loop-block l = record {
-  found : greatest (made (extreme_of l.extreme) l.range l.blocks l.block-index) ≡ l.found;
+  found : greatest (made (λ m. m.day) l.range l.blocks l.block-index) ≡ l.found;
   near : IfSome l.found IsNear;
 }

@@ -9,8 +9,8 @@ use Rattle.rank_blocks.proofs.reached.longest_run.Goals.{then-is_in, else-is_in}
 -- before any block
 pub loop-block-init : goal.loop-block-init
 loop-block-init c =
-    subst (IsTold c.args.range c.args.spell c.args.blocks.now 0) (sym c.before-runs.ensures)
-    (told-start c.args.range c.args.spell c.args.blocks.now)
+    subst (IsTold c.args.range c.args.blocks.now 0) (sym c.before-runs.ensures)
+    (told-start c.args.range c.args.blocks.now)
 
 -- there are few blocks
 pub add-runs-requires-clause-room : goal.add-runs-requires-clause-room
@@ -21,13 +21,13 @@ add-runs-requires-clause-room c =
 -- with one more block
 pub loop-block-preserved : goal.loop-block-preserved
 loop-block-preserved c =
-    let far = told-in c.args.range c.args.spell c.args.blocks.now c.requires c.loop-block.block-index
+    let far = told-in c.args.range c.args.blocks.now c.requires c.loop-block.block-index
     c.loop-block-test.true c.loop-block.runs c.loop-block.invariant in
-    let same = told-out c.args.range c.args.spell c.args.blocks.now c.requires c.loop-block.block-index
+    let same = told-out c.args.range c.args.blocks.now c.requires c.loop-block.block-index
     c.loop-block-test.true c.loop-block.runs c.loop-block.invariant in
     elim c.if-is_in.branch [
       | then-is_in w ↦
-          subst (IsTold _ _ _ _) (sym w.runs-is)
+          subst (IsTold _ _ _) (sym w.runs-is)
           (far w.add-runs.result (sym c.is_in.ensures ∙ w.if-is_in.true) w.add-runs.ensures.runs w.add-runs.ensures.next
           w.add-runs.ensures.room)
       | else-is_in w ↦ same c.if-is_in.runs w.runs-is (sym c.is_in.ensures ∙ w.if-is_in.false)
@@ -35,9 +35,9 @@ loop-block-preserved c =
 
 -- behind the last block
 pub returns : goal.returns
-returns c = λ s are.
+returns c = λ k s are.
     let is : pos c.loop-block.runs.longest ≡ to_z w64 c.loop-block.runs.longest = omega (arith, ints) in
     subst (IsGreatest _) is
-    (told-end c.args.range c.args.spell c.args.blocks.now c.loop-block.block-index c.loop-block.runs
+    (told-end c.args.range c.args.blocks.now c.loop-block.block-index c.loop-block.runs
     c.loop-block-test.false
-    c.loop-block.invariant s are)
+    c.loop-block.invariant k s are)

@@ -1,11 +1,11 @@
 use Rattle.std.proofs.Common.{◌≡◌, ℕ, ◌<◌, length, get_or, pos}
-use Rattle.rank_blocks.specs.Values.{IsValue, StandsFor}
+use Rattle.rank_blocks.specs.Values.{IsUsableScore, StandsFor}
 use Rattle.rank_blocks.proofs.values.usable_alone.Given as goal
 
 -- each place so far has a value that stands for its own
 abbrev pub invariant-loop-place : goal.invariant-loop-place
 invariant-loop-place l = record {
   size : length l.row ≡ 32;
-  first : IsValue l.word l.values l.first;
+  first : IsUsableScore (λ v. v) l.word l.values l.first;
   filled : (j : ℕ) → j < l.place → StandsFor l.word l.values j (get_or l.row j (pos 0));
 }

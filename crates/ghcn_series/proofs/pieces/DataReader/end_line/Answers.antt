@@ -20,7 +20,6 @@ returns-clause-added c =
           record {
             element = ap (λ (r : Reader). r.element) (sym new) ∙ w.add.ensures.element;
             stations = ap (λ (r : Reader). r.stations) (sym new) ∙ w.add.ensures.stations;
-            ended = ap (λ (r : DataReader). r.ended) w.self-is;
             counted = line;
             rest = ap (λ (r : DataReader). r.rest.items) w.self-is ∙ none;
             read = rw (← new, none, ← line) w.in_ok-add.ensures.read;
@@ -35,7 +34,6 @@ returns-clause-added c =
                 ∙ ap (λ (r : Reader). r.element) w.in_ok-keep.ensures.reader;
             stations = ap (λ (r : Reader). r.stations) (sym new) ∙ w.add-else-is_empty.ensures.stations
                 ∙ ap (λ (r : Reader). r.stations) w.in_ok-keep.ensures.reader;
-            ended = ap (λ (r : DataReader). r.ended) w.self-is ∙ w.in_ok-keep.ensures.ended;
             counted = line;
             rest = ap (λ (r : DataReader). r.rest.items) w.self-is ∙ search rules;
             read = rw (← new, ← line, ← bytes, ← w.in_ok-keep.ensures.reader) w.in_ok-add-2.ensures.read;

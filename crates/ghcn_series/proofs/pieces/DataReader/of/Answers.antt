@@ -1,4 +1,4 @@
-use Rattle.std.proofs.Common.{[], refl, sym, subst, inl, arith}
+use Rattle.std.proofs.Common.{[], refl, sym, subst, inl}
 use Rattle.ghcn_fields.specs.Lines.{HasNoLineFeed}
 use Rattle.ghcn_fields.specs.FaultLaws.{no_fault-nil}
 use Rattle.ghcn_series.specs.DailyFaults.{daily_fault}
@@ -8,16 +8,16 @@ use Rattle.ghcn_series.proofs.pieces.DataReader.of.Goals as goal
 -- nothing is fed
 pub returns-in-Ok-clause-fed : goal.returns-in-Ok-clause-fed
 returns-in-Ok-clause-fed c = record {
-  element = c.in-Ok.ensures.element;
-  stations = c.in-Ok.ensures.stations;
-  ended = refl;
-  few = omega arith;
-  whole = [];
-  parts = sym c.new-in-Ok.ensures.items;
-  ends = inl refl;
-  unended = subst HasNoLineFeed (sym c.new-in-Ok.ensures.items) tt;
-  counted = refl;
-  read = record { months = c.in-Ok.ensures.read; right = no_fault-nil (daily_fault c.in-Ok.reader.stations) };
+  counted = record { ended = refl; begun = refl };
+  fault = λ few. record {
+    element = c.in-Ok.ensures.element;
+    stations = c.in-Ok.ensures.stations;
+    whole = [];
+    cut = record { parts = sym c.new-in-Ok.ensures.items; ends = inl refl };
+    unended = subst HasNoLineFeed (sym c.new-in-Ok.ensures.items) tt;
+    counted = refl;
+    read = record { months = c.in-Ok.ensures.read; right = no_fault-nil (daily_fault c.in-Ok.reader.stations) };
+  };
 }
 
 -- and that is something to begin with

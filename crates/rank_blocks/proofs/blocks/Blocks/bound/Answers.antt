@@ -11,7 +11,8 @@ use Rattle.rank_blocks.proofs.blocks.Blocks.bound.Goals as goal
 pub returns : goal.returns
 returns c = λ s are of.
     let same : c.as_slice.result.now ≡ c.args.self.now = c.as_slice.ensures.value ∙ c.self.view_is in
-    let of_result = c.bound_of.ensures.bound s (subst (λ (ms : List Summary). AreSummaries s ms) (sym same) are) of in
+    let asked : List Summary → Type 0 = AreSummaries c.args.query.now.score s in
+    let of_result = c.bound_of.ensures.bound s (subst asked (sym same) are) of in
     let fits : to_z w64 (of_z w64 c.bound_of.result) ≡ c.bound_of.result = omega (arith, ints) in
     record {
       equals = fits ∙ bound-computed c.args.query.now s c.bound_of.result c.bound_of.ensures.asked of of_result;

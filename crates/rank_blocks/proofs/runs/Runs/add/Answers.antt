@@ -1,7 +1,6 @@
-use Rattle.std.proofs.Common.{◌≡◌, ℤ, ap, sym, ◌∙◌, subst, arith, rules, SFits, to_z, of_z, w32, refl}
+use Rattle.std.proofs.Common.{◌≡◌, ℤ, ap, sym, ◌∙◌, arith, rules, SFits, to_z, of_z, w32, refl}
 use Rattle.std.proofs.lemmas.Int.{ints, to_z-of_z}
 use Rattle.rank_blocks.specs.declared.runs.Runs.{Runs}
-use Rattle.rank_blocks.specs.DayRuns.{AreBitsOf}
 use Rattle.rank_blocks.proofs.LongestRuns.{runs-up_to, runs-more}
 use Rattle.rank_blocks.proofs.WordRuns.{first-ones, last-ones}
 use Rattle.rank_blocks.proofs.runs.Runs.add.Goals as goal
@@ -30,10 +29,8 @@ returns-clause-runs c = λ such are none bits.
       | else-block-self w ↦ w.before-is
     ] in
     let told = runs-up_to such c.args.self up_to are c.requires.order none same other refl in
-    let word : AreBitsOf such c.args.block.now.number c.days-word.result = subst
-    (AreBitsOf such c.args.block.now.number) (sym c.days-word.ensures) bits in
-    runs-more such up_to told c.days-word.result _ _ _ word (first-ones c.days-word.result (search rules))
-    (last-ones c.days-word.result (search rules)) c.longest_ones.ensures _ (omega (arith, ints))
+    runs-more such up_to told c.args.block.now.days _ _ _ bits (first-ones c.args.block.now.days (search rules))
+    (last-ones c.args.block.now.days (search rules)) c.longest_ones.ensures _ (omega (arith, ints))
     (λ all.
     elim c.if-first-eq-BLOCK_DAYS.branch [
       | then-first-eq-BLOCK_DAYS w ↦ omega arith

@@ -1,22 +1,57 @@
-use Rattle.std.proofs.Common.{rules, ◌∙◌, w32, w64}
-use Rattle.std.proofs.lemmas.Int.{to_z-of_z}
-use Rattle.rank_blocks.proofs.BlockDays.{wet-word}
-use Rattle.rank_blocks.proofs.ValueSteps.{extremes-same}
+use Rattle.std.proofs.Common.{◌≡◌, map, ℤ, neg_ℤ, to_z, of_z, SFits, w32, sym, ap, ◌∙◌, subst, arith, rules}
+use Rattle.std.proofs.lemmas.Int.{ints, to_z-of_z}
+use Rattle.std.specs.Prelude.{int_le}
+use Rattle.rank_query.specs.declared.score.Score.{Score}
+use Rattle.rank_scores.specs.declared.spell.Spell.TheVariants as kinds
+use Rattle.rank_blocks.specs.Blocks.{days_in, total}
+use Rattle.rank_blocks.specs.Summaries.{IsSummary}
+use Rattle.rank_blocks.proofs.BlockDays.{block-score, block-sum, has-day, has-days}
+use Rattle.rank_blocks.proofs.HotBlocks.{hot-bits}
 use Rattle.rank_blocks.proofs.summary.Summary.of_block.Goals as goal
 
--- each part of the summary is read as it was made
-pub returns-clause-summary : goal.returns-clause-summary
-returns-clause-summary c =
-    let most = c.extremes-greatest.result.0 in
-    let least = c.extremes-greatest.result.1 in
-    record {
-      number = to_z-of_z w32 c.args.number c.ranges.number;
-      size = c.told-values;
-      extremes = extremes-same c.args.word c.args.values.now most least _ _
-          (to_z-of_z w32 c.extremes-greatest.result.0 (search rules))
-          (to_z-of_z w32 c.extremes-greatest.result.1 (search rules)) c.extremes-greatest.ensures;
-      total_value = to_z-of_z w64 c.total.result (search rules) ∙ c.total.ensures.value;
-      dry = c.dry_days-dry.ensures;
-      wet = wet-word c.args.word c.dry_days-dry.result c.wet_days.result c.args.values.now c.dry_days-dry.ensures
-          c.wet_days.ensures;
-    }
+-- the greatest value
+pub returns-in-Highest-clause-summary : goal.returns-in-Highest-clause-summary
+returns-in-Highest-clause-summary c = λ days rise of_block.
+    subst (λ (k : Score). IsSummary k days c.of_day.result) (sym c.in-Highest.is)
+    (has-day (λ v. v) days c.args.number c.greatest_value.result c.of_day.result (omega (arith, ints))
+    (omega (arith, ints))
+    (block-score days rise c.args.number c.args.word c.args.values.now of_block (λ v. v) _ c.greatest_value.ensures))
+
+-- the greatest of the values negated
+pub returns-in-Lowest-clause-summary : goal.returns-in-Lowest-clause-summary
+returns-in-Lowest-clause-summary c = λ days rise of_block.
+    subst (λ (k : Score). IsSummary k days c.of_day-in-Lowest.result) (sym c.in-Lowest.is)
+    (has-day neg_ℤ days c.args.number (neg_ℤ c.least_value.result) c.of_day-in-Lowest.result (omega (arith, ints))
+    (omega (arith, ints))
+    (block-score days rise c.args.number c.args.word c.args.values.now of_block neg_ℤ _ c.least_value.ensures))
+
+-- the greatest value and the total
+pub returns-in-Sum-clause-summary : goal.returns-in-Sum-clause-summary
+returns-in-Sum-clause-summary c = λ days rise of_block.
+    let number : c.of_sum.result.number ≡ c.args.number = omega (arith, ints) in
+    let whole : total c.args.values.now ≡ c.of_sum.result.total = omega (arith, ints) in
+    subst (λ (k : Score). IsSummary k days c.of_sum.result) (sym c.in-Sum.is)
+    (record {
+      greatest_value = has-day (λ v. v) days c.args.number c.greatest_value-in-Sum.result c.of_sum.result number
+          (omega (arith, ints))
+          (block-score days rise c.args.number c.args.word c.args.values.now of_block (λ v. v) _
+          c.greatest_value-in-Sum.ensures);
+      total_value = ap (λ (n : ℤ). total (map (λ x. x.1) (days_in days n))) number
+          ∙ block-sum days rise c.args.number c.args.word c.args.values.now of_block c.told-values ∙ whole;
+    })
+
+-- all days, or none
+pub returns-in-Hot-clause-summary : goal.returns-in-Hot-clause-summary
+returns-in-Hot-clause-summary c = λ days rise of_block.
+    let fits : SFits w32 c.in-Hot.least = search rules in
+    let degrees : to_z w32 (of_z w32 c.in-Hot.least) ≡ c.in-Hot.least = to_z-of_z w32 _ fits in
+    let z = c.greatest_value-in-Hot.result in
+    let value : to_z w32 (of_z w32 z) ≡ z = omega (arith, ints) in
+    subst (λ (k : Score). IsSummary k days c.of_days-in-Hot.result) (sym c.in-Hot.is)
+    (has-days (kinds.Hot c.in-Hot.least) days c.args.number c.all_or_none.result c.of_days-in-Hot.result
+    (omega (arith, ints)) (omega arith)
+    (hot-bits c.in-Hot.least days c.args.number c.greatest_value-in-Hot.result c.all_or_none.result
+    (block-score days rise c.args.number c.args.word c.args.values.now of_block (λ v. v) _
+    c.greatest_value-in-Hot.ensures)
+    (λ j lt. c.all_or_none.ensures j lt ∙ ap (λ (v : ℤ). int_le v (to_z w32 (of_z w32 z))) degrees
+    ∙ ap (int_le c.in-Hot.least) value)))

@@ -1,13 +1,14 @@
-use Rattle.std.proofs.Common.{refl}
 use Rattle.rank_input.specs.Taken.{with_file_end}
-use Rattle.rank_input.proofs.Courses.{takes-end}
+use Rattle.rank_input.proofs.Reading.{reader_ends}
 use Rattle.rank_input.proofs.intake.Intake.end_of_file.Goals as goal
 
--- the end is taken
-pub returns-clause-taken : goal.returns-clause-taken
-returns-clause-taken c = takes-end c.args.self.now _ refl refl c.one_more-self.ensures refl c.end_of_file.ensures
+-- the reader ends the file
+pub returns-in-Ok-clause-taken : goal.returns-in-Ok-clause-taken
+returns-in-Ok-clause-taken c =
+    reader_ends c.args.self.now c.in-Ok.field-0-0 c.in-Ok.reader c.end_of_file.new.self _ c.in-Ok.is
+    c.end_of_file.ensures.fed
 
 -- and more can follow
-pub returns-clause-going : goal.returns-clause-going
-returns-clause-going c =
-    (with_file_end c.requires.0, (returns-clause-taken c).holds c.requires.0 c.requires.1)
+pub returns-in-Ok-clause-going : goal.returns-in-Ok-clause-going
+returns-in-Ok-clause-going c =
+    (with_file_end c.requires.0, (returns-in-Ok-clause-taken c).holds c.requires.0 c.requires.1)

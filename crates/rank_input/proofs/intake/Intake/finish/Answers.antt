@@ -1,30 +1,16 @@
-use Rattle.std.proofs.Common.{subst}
-use Rattle.std.proofs.lemmas.Result.{IfOk-weaker, IfErr-weaker}
-use Rattle.rank_input.specs.Taken.{HasCourseSome}
-use Rattle.rank_input.proofs.Courses.{fed_some}
-use Rattle.rank_input.proofs.Finishes.{holds_input, refuses_input, kept_refuses}
+use Rattle.std.proofs.lemmas.Result.{err_from_is_err_and}
+use Rattle.rank_input.proofs.Reading.{holds_input, refuses_input}
 use Rattle.rank_input.proofs.intake.Intake.finish.Goals as goal
 
--- the reader was fed something
-pub finish-requires : goal.finish-requires
-finish-requires c =
-    rw c.in-Reading.opened-is (fed_some c.in-Reading.opened
-    (subst HasCourseSome c.in-Reading.is (c.requires.0, c.requires.1.course)))
+-- a reader's fault is that of the input
+pub returns-in_err-held-clause-err : goal.returns-in_err-held-clause-err
+returns-in_err-held-clause-err c =
+    let p = err_from_is_err_and c.from_residual-in_err-held.result c.from_residual-in_err-held.ensures.1 in
+    rw (p.1, p.2) (refuses_input c.args.self c.in_ok-query.query c.in_ok-query.reader c.in_err-held.field-0.0
+    c.in_ok-query.was c.in_err-held.ensures.err)
 
--- the data of a reader
-pub returns-in-Reading-clause-ok : goal.returns-in-Reading-clause-ok
-returns-in-Reading-clause-ok c =
-    IfOk-weaker c.finish.result _ _ (λ read is. holds_input c.args.self c.in-Reading.opened _ read.0 read.1
-    c.in-Reading.is c.in-Reading.opened-is is.0 is.1) c.finish.ensures.ok
-
--- the fault of a reader
-pub returns-in-Reading-clause-err : goal.returns-in-Reading-clause-err
-returns-in-Reading-clause-err c =
-    IfErr-weaker c.finish.result _ _ (λ fault is. refuses_input c.args.self c.in-Reading.opened _ fault
-    c.in-Reading.is c.in-Reading.opened-is is) c.finish.ensures.err
-
--- the fault that was kept
-pub returns-in-Refused-clause-err : goal.returns-in-Refused-clause-err
-returns-in-Refused-clause-err c =
-    kept_refuses c.args.self c.has_many_files-many.result c.in-Refused.fault _ c.told.result c.in-Refused.is
-    c.in-Refused.fault-is c.told.ensures c.has_many_files-many.ensures
+-- a reader's data are what the input holds
+pub returns-clause-ok : goal.returns-clause-ok
+returns-clause-ok c =
+    holds_input c.args.self c.in_ok-query.query c.in_ok-query.reader c.in_ok-held.held c.in_ok-query.was
+    c.in_ok-held.ensures.ok

@@ -10,8 +10,7 @@ nothing = record { ref_ptr = (0, 0); now = [] }
 -- some files were given
 pub piece-requires : goal.piece-requires
 piece-requires c =
-    let taken = given c.args.workers c.args.guess c.args.query.now c.args.stations.now
-    (take c.loop-file.file-index (texts c.args.files.now)) in
+    let taken = given c.args.query.now c.args.stations.now (take c.loop-file.file-index (texts c.args.files.now)) in
     (taken, c.loop-file.invariant)
 
 -- one file more is given
@@ -19,7 +18,7 @@ pub loop-file-preserved : goal.loop-file-preserved
 unfolding nothing
 loop-file-preserved c =
     let files = c.args.files.now in
-    let given_of = given c.args.workers c.args.guess c.args.query.now c.args.stations.now in
+    let given_of = given c.args.query.now c.args.stations.now in
     let taken = given_of (take c.loop-file.file-index (texts files)) in
     let text = (get_or files c.loop-file.file-index nothing).now in
     subst (λ (fs : List (List ℕ)). HasTaken c.end_of_file.new.self (given_of fs))
@@ -30,6 +29,6 @@ loop-file-preserved c =
 -- all files were given
 pub returns : goal.returns
 returns c =
-    let given_of = given c.args.workers c.args.guess c.args.query.now c.args.stations.now in
+    let given_of = given c.args.query.now c.args.stations.now in
     subst (λ (fs : List (List ℕ)). HasTaken c.loop-file.intake (given_of fs))
     (all_texts c.args.files.now c.loop-file.file-index (omega (arith, c.loop-file-test.false))) c.loop-file.invariant

@@ -5,5 +5,4 @@ use Rattle.rank_input.proofs.intake.Intake.of_files.Given as goal
 
 -- the files so far were given
 abbrev pub invariant-loop-file : goal.invariant-loop-file
-invariant-loop-file l = HasTaken l.intake
-    (given l.fn.workers l.fn.guess l.fn.query l.fn.stations (take l.file-index (texts l.files)))
+invariant-loop-file l = HasTaken l.intake (given l.fn.query l.fn.stations (take l.file-index (texts l.files)))

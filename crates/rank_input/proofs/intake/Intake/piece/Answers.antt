@@ -1,14 +1,14 @@
-use Rattle.std.proofs.Common.{refl}
 use Rattle.rank_input.specs.Taken.{with_bytes}
-use Rattle.rank_input.proofs.Courses.{takes-bytes}
+use Rattle.rank_input.proofs.Reading.{reader_takes}
 use Rattle.rank_input.proofs.intake.Intake.piece.Goals as goal
 
--- the bytes are taken
-pub returns-clause-taken : goal.returns-clause-taken
-returns-clause-taken c =
-    takes-bytes c.args.self.now _ c.args.bytes.now refl refl refl c.has_byte-self.ensures c.piece.ensures
+-- the reader takes the bytes
+pub returns-in-Ok-clause-taken : goal.returns-in-Ok-clause-taken
+returns-in-Ok-clause-taken c =
+    reader_takes c.args.self.now c.in-Ok.field-0-0 c.in-Ok.reader c.piece.new.self _ c.args.bytes.now c.in-Ok.is
+    c.piece.ensures.fed
 
 -- and more can follow
-pub returns-clause-going : goal.returns-clause-going
-returns-clause-going c =
-    (with_bytes c.requires.0 c.args.bytes.now, (returns-clause-taken c).holds c.requires.0 c.requires.1)
+pub returns-in-Ok-clause-going : goal.returns-in-Ok-clause-going
+returns-in-Ok-clause-going c =
+    (with_bytes c.requires.0 c.args.bytes.now, (returns-in-Ok-clause-taken c).holds c.requires.0 c.requires.1)

@@ -1,0 +1,76 @@
+-- A reader that counts files, and what it keeps of them.
+use Rattle.std.proofs.Common.{◌≡◌, ℕ, true, false, ◌+◌, ◌<◌, ◌≤◌, ◌^◌, List, [], ◌∷◌, ◌++◌, length}
+use Rattle.std.proofs.Common.{sym, ap, ◌∙◌, refl, length-append, arith}
+use Rattle.std.proofs.lemmas.Bool.Decides.{nat_tests}
+use Rattle.ghcn_series.specs.declared.pieces.DataReader.{DataReader}
+use Rattle.ghcn_series.specs.Says.{in_64_bits}
+use Rattle.ghcn_series.specs.Fed.{Files, more, with_end, and_current, files_of}
+use Rattle.ghcn_series.specs.Pieces.{HasCounted}
+use Rattle.ghcn_series.proofs.ReadMonths.{capped}
+
+-- a current file with a byte counts
+pub and_current-some : (ended : List (List ℕ)) (current : List ℕ) → 0 < length current
+    → and_current ended current ≡ ended ++ current ∷ []
+and_current-some ended [] lt = absurd (omega arith)
+and_current-some ended (b ∷ bs) lt = refl
+
+-- there are no fewer files than were ended
+ended_first : (ended : List (List ℕ)) (current : List ℕ) → length ended ≤ length (and_current ended current)
+ended_first ended [] = omega arith
+ended_first ended (b ∷ bs) = omega (arith, length-append ended ((b ∷ bs) ∷ []))
+
+-- more bytes of the current file are counted
+pub counted-more : (old new : DataReader) (files : Files) (bytes : List ℕ) → 0 < length bytes
+    → new.ended ≡ old.ended → new.begun ≡ true → HasCounted old files → HasCounted new (more files bytes)
+counted-more old new files bytes some ended begun is = record {
+  ended = ended ∙ is.ended;
+  begun = begun ∙ grind (arith, nat_tests, some, length-append files.current bytes);
+}
+
+-- the end of the current file is counted
+pub counted-end : (old new : DataReader) (files : Files) → new.ended ≡ in_64_bits (old.ended + 1)
+    → new.begun ≡ false → HasCounted old files → HasCounted new (with_end files)
+counted-end old new files ended begun is = record {
+  ended = ended ∙ ap (λ n. in_64_bits (n + 1)) is.ended ∙ capped (length files.ended)
+      ∙ ap in_64_bits (sym (length-append files.ended (files.current ∷ [])));
+  begun = begun;
+}
+
+-- where the files are few, the reader is at the one behind those that were ended
+pub at_file : (r : DataReader) (files : Files) → length (files_of files) ≤ 2 ^ 20 → HasCounted r files
+    → r.ended ≡ length files.ended
+at_file r files few is = omega (arith, is.ended, few, ended_first files.ended files.current)
+
+-- and there is a number for that one, where it has a byte
+pub may_be_read : (r : DataReader) (files : Files) → length (files_of files) ≤ 2 ^ 20 → 0 < length files.current
+    → HasCounted r files → r.ended < 2 ^ 20
+may_be_read r files few some is =
+    omega (
+      arith,
+      at_file r files few is,
+      few,
+      ap length (and_current-some files.ended files.current some),
+      length-append files.ended (files.current ∷ []),
+    )
+
+-- there were no more files before the last bytes of the current one
+few_in : (ended : List (List ℕ)) (current bytes : List ℕ) → length (and_current ended (current ++ bytes)) ≤ 2 ^ 20
+    → length (and_current ended current) ≤ 2 ^ 20
+few_in ended [] bytes few = omega (arith, few, ended_first ended bytes)
+few_in ended (b ∷ bs) bytes few =
+    omega (arith, few, length-append ended ((b ∷ bs) ∷ []), length-append ended ((b ∷ bs ++ bytes) ∷ []))
+
+-- and so it is with files as they come
+pub few_before : (files : Files) (bytes : List ℕ) → length (files_of (more files bytes)) ≤ 2 ^ 20
+    → length (files_of files) ≤ 2 ^ 20
+few_before files bytes few = few_in files.ended files.current bytes few
+
+-- nor before the end of the current one
+few_in_end : (ended : List (List ℕ)) (current : List ℕ) → length (ended ++ current ∷ []) ≤ 2 ^ 20
+    → length (and_current ended current) ≤ 2 ^ 20
+few_in_end ended [] few = omega (arith, few, length-append ended ([] ∷ []))
+few_in_end ended (b ∷ bs) few = few
+
+-- so it is with files as they come
+pub few_at_end : (files : Files) → length (files_of (with_end files)) ≤ 2 ^ 20 → length (files_of files) ≤ 2 ^ 20
+few_at_end files few = few_in_end files.ended files.current few

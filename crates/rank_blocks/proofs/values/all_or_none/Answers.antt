@@ -1,0 +1,8 @@
+use Rattle.std.proofs.Common.{ℕ, sym, ap, ◌∙◌}
+use Rattle.std.specs.Prelude.{◌==◌}
+use Rattle.std.proofs.lemmas.Nat.Bits.{bit_at_ones}
+use Rattle.rank_blocks.proofs.values.all_or_none.Goals as goal
+
+-- each bit is set
+pub returns-then-all : goal.returns-then-all
+returns-then-all c = λ j lt. ap (λ (v : ℕ). v == 1) (bit_at_ones 32 j lt) ∙ sym c.if-all.true

@@ -1,0 +1,31 @@
+use Rattle.std.proofs.Common.{◌≡◌, ◌*◌, ◌%◌, ◌^◌, get_or, pos, SFits, w32, ℕ, ap, ◌∙◌, arith, rules}
+use Rattle.std.specs.Prelude.{◌==◌, bit_or}
+use Rattle.std.specs.Int.{bit_at}
+use Rattle.std.proofs.lemmas.Int.{to_z-of_z}
+use Rattle.rank_scores.specs.Candidates.{is_dry}
+use Rattle.rank_blocks.proofs.ValueSteps.{word-more, word-unread}
+use Rattle.rank_blocks.proofs.values.dry_places.Goals as goal
+
+-- with one more place
+pub loop-place-preserved : goal.loop-place-preserved
+loop-place-preserved c =
+    let values = c.args.values.now in
+    let p = c.loop-place.place in
+    let lt = c.loop-place-test.true in
+    let dry = c.loop-place.dry in
+    let fits : SFits w32 (get_or values p (pos 0)) = search rules in
+    let is : c.passes.result ≡ is_dry (get_or values p (pos 0)) = c.passes.ensures ∙ ap is_dry (to_z-of_z w32 _ fits) in
+    let word : c.from.result * 2 ^ p % 2 ^ 32 ≡ _ = ap (λ (k : ℕ). k * 2 ^ p % 2 ^ 32) c.from.ensures in
+    record {
+      read = λ j below.
+          ap (λ (k : ℕ). bit_at (bit_or dry k) j == 1) word
+          ∙ word-more is_dry values dry p c.passes.result lt is c.loop-place.invariant.unread
+          c.loop-place.invariant.read j below;
+      unread = λ j le.
+          ap (λ (k : ℕ). bit_at (bit_or dry k) j) word
+          ∙ word-unread is_dry values dry p c.passes.result lt is c.loop-place.invariant.unread j le;
+    }
+
+-- behind the last place
+pub returns : goal.returns
+returns c = λ j lt. c.loop-place.invariant.read j (let end = c.loop-place-test.false in omega arith)

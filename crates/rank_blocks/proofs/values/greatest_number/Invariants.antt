@@ -1,0 +1,10 @@
+use Rattle.std.proofs.Common.{ℕ, ◌<◌, get_or, pos, ◌≤ℤ◌}
+use Rattle.rank_blocks.specs.Values.{IsScoreAmong}
+use Rattle.rank_blocks.proofs.values.greatest_number.Given as goal
+
+-- the greatest so far
+abbrev pub invariant-loop-value : goal.invariant-loop-value
+invariant-loop-value l = record {
+  one : IsScoreAmong (λ v. v) l.values l.greatest;
+  most : (j : ℕ) → j < l.value-index → get_or l.values j (pos 0) ≤ℤ l.greatest;
+}

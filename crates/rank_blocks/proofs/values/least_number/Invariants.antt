@@ -1,0 +1,10 @@
+use Rattle.std.proofs.Common.{ℕ, ◌<◌, get_or, pos, ◌≤ℤ◌}
+use Rattle.rank_blocks.specs.Values.{IsScoreAmong}
+use Rattle.rank_blocks.proofs.values.least_number.Given as goal
+
+-- the least so far
+abbrev pub invariant-loop-value : goal.invariant-loop-value
+invariant-loop-value l = record {
+  one : IsScoreAmong (λ v. v) l.values l.least;
+  least : (j : ℕ) → j < l.value-index → l.least ≤ℤ get_or l.values j (pos 0);
+}

@@ -1,0 +1,183 @@
+//! Worked examples of station lists.
+
+use ghcn_files::StationWhy::{BadElevation, BadId, BadLatitude, BadLongitude, Duplicate, Short};
+use ghcn_files::{StationId, StationWhy, Stations, StationsFault};
+use std::alloc::{AllocError, Global};
+
+const ALPHA: &[u8] = b"ZZA00000001  10.0000   20.0000  100.0    ALPHA";
+
+/// Three listed stations, with Windows line ends, a blank line and no end of the last line.
+const THREE: &[u8] = b"ZZA00000001  10.0000   20.0000  100.0    ALPHA\r\n   \r\n\
+ZZA00000002 -90.0000  180.0000 -999.9 NY BRAVO\r\nZZA00000003  12.0000   22.0000";
+
+/// How many stations a list has, or why it is refused.
+fn count_of(alloc: Global, text: &[u8]) -> Result<u64, StationsFault> {
+    let stations = Stations::read(alloc, text)?;
+    Ok(stations.len())
+}
+
+fn refused(line: u64, why: StationWhy) -> Result<u64, StationsFault> {
+    Err(StationsFault::StationLine { line, why })
+}
+
+#[test]
+fn station_lists(rt: HostRuntime) {
+    let cases: [(&[u8], Result<u64, StationsFault>); 13] = [
+        (b"", Ok(0)),
+        (b"\n  \n", Ok(0)),
+        (THREE, Ok(3)),
+        (b"ZZA00000001  10.0000   20.0000", Ok(1)),
+        (b"ZZA00000001  10.0000   20.000", refused(1, Short)),
+        (b"\n\nZZA0000 001  10.0000   20.0000\n", refused(3, BadId)),
+        (b"ZZA00000001  91.0000   20.0000", refused(1, BadLatitude)),
+        (b"ZZA00000001            20.0000", refused(1, BadLatitude)),
+        (b"ZZA00000001  10.0000 -180.0001", refused(1, BadLongitude)),
+        (
+            b"ZZA00000001  10.0000   20.0000  10..0",
+            refused(1, BadElevation),
+        ),
+        (
+            b"ZZA00000001  10.0000   20.0000\nZZA00000001  11.0000   21.0000",
+            refused(2, Duplicate),
+        ),
+        (
+            b"ZZA00000001  10.0000   20.0000\nZZA00000001  11.0000   21.0000\nshort",
+            refused(2, Duplicate),
+        ),
+        (
+            b"ZZA00000001  10.0000   20.0000\nZZA00000001  11.0000   21.0000 x",
+            refused(2, BadElevation),
+        ),
+    ];
+    for (text, expected) in cases {
+        assert_eq!(rt; count_of(rt.alloc(), text), expected, "at {text:?}");
+    }
+}
+
+#[test]
+fn a_station_line_cut_to_each_length(rt: HostRuntime) {
+    for columns in 1..=46 {
+        let expected = match columns {
+            1..=29 => refused(1, Short),
+            33..=36 => refused(1, BadElevation),
+            _ => Ok(1),
+        };
+        let found = count_of(rt.alloc(), &ALPHA[..columns]);
+        assert_eq!(rt; found, expected, "at {columns} columns");
+    }
+}
+
+/// A station's latitude, longitude, elevation and state.
+type Facts = (i32, i32, Option<i32>, [u8; 2]);
+
+fn facts_of(stations: &Stations, id: &StationId) -> Option<Facts> {
+    let found = stations.get(id)?;
+    Some((
+        found.latitude,
+        found.longitude,
+        found.elevation,
+        found.state,
+    ))
+}
+
+/// The place and the facts of an ID among the three.
+fn found_of_three(alloc: Global, id: &StationId) -> Option<(Option<u64>, Option<Facts>)> {
+    let stations = Stations::read(alloc, THREE).ok()?;
+    Some((stations.place(id), facts_of(&stations, id)))
+}
+
+/// The ID at a place among the three, where there is one.
+fn id_of_three(alloc: Global, place: u64) -> Option<Option<[u8; 11]>> {
+    let stations = Stations::read(alloc, THREE).ok()?;
+    match stations.at(place) {
+        Some(station) => Some(Some(station.id.0)),
+        None => Some(None),
+    }
+}
+
+#[test]
+fn stations_by_id_and_by_place(rt: HostRuntime) {
+    let cases: [(&[u8; 11], Option<u64>, Option<Facts>); 4] = [
+        (
+            b"ZZA00000001",
+            Some(0),
+            Some((100_000, 200_000, Some(1_000), *b"  ")),
+        ),
+        (
+            b"ZZA00000002",
+            Some(1),
+            Some((-900_000, 1_800_000, None, *b"NY")),
+        ),
+        (
+            b"ZZA00000003",
+            Some(2),
+            Some((120_000, 220_000, None, *b"  ")),
+        ),
+        (b"ZZA00000004", None, None),
+    ];
+    for (id, place, facts) in cases {
+        let found = found_of_three(rt.alloc(), &StationId(*id));
+        assert_eq!(rt; found, Some((place, facts)), "{id:?}");
+    }
+    let second = id_of_three(rt.alloc(), 1);
+    assert_eq!(rt; second, Some(Some(*b"ZZA00000002")));
+    assert_eq!(rt; id_of_three(rt.alloc(), 3), Some(None));
+}
+
+#[test]
+fn ids_that_are_the_same(rt: HostRuntime) {
+    let id = StationId(*b"ZZA00000001");
+    let cases: [(&[u8; 11], bool); 5] = [
+        (b"ZZA00000001", true),
+        (b"ZZA00000002", false),
+        (b"ZZA00001001", false),
+        (b"ZZA0000A001", false),
+        (b"YZA00000001", false),
+    ];
+    for (other, same) in cases {
+        assert_eq!(rt; id.is_same(&StationId(*other)), same, "{other:?}");
+    }
+}
+
+/// The state and the name of a list's first station.
+fn names_of(alloc: Global, text: &[u8]) -> Option<([u8; 2], [u8; 30])> {
+    let stations = Stations::read(alloc, text).ok()?;
+    let station = stations.at(0)?;
+    Some((station.state, station.name))
+}
+
+#[test]
+fn names_are_made_printable(rt: HostRuntime) {
+    let text = b"ZZA00000001  10.0000   20.0000        \xe9Y S\xc3\xa3o Paulo\t";
+    let expected = (*b"?Y", *b"S??o Paulo?                   ");
+    assert_eq!(rt; names_of(rt.alloc(), text), Some(expected));
+}
+
+/// A station list of so many lines, whose IDs count up from 0.
+fn many_stations(alloc: Global, lines: u32) -> Result<Vec<u8>, AllocError> {
+    let mut text = Vec::new(alloc);
+    for number in 0..lines {
+        let mut line = *b"ZZ000000000  10.0000   20.0000\n";
+        let mut rest = number;
+        for column in (2..11).rev() {
+            line[column] = b'0' + (rest % 10) as u8;
+            rest /= 10;
+        }
+        text.extend_from_slice(&line)?;
+    }
+    Ok(text)
+}
+
+/// How many stations a list of so many lines has, or why it is refused.
+fn count_of_many(alloc: Global, lines: u32) -> Option<Result<u64, StationsFault>> {
+    let text = many_stations(alloc, lines).ok()?;
+    Some(count_of(alloc, &text))
+}
+
+#[test]
+fn as_many_stations_as_a_list_may_have(rt: HostRuntime) {
+    let full = count_of_many(rt.alloc(), 1_048_576);
+    assert_eq!(rt; full, Some(Ok(1_048_576)));
+    let past = count_of_many(rt.alloc(), 1_048_577);
+    assert_eq!(rt; past, Some(Err(StationsFault::TooManyStations)));
+}

@@ -1,0 +1,235 @@
+//! Worked examples of the lines of daily files.
+
+use crate::lines::line_of;
+use ghcn_files::{Element, LineWhy, Reading, StationId, read_days, read_month};
+
+/// The station, the element, the year and the month of a line.
+type Head = (StationId, Element, u16, u8);
+
+/// The readings of a line's 1st, 2nd and 31st day.
+type Three = (Reading, Reading, Reading);
+
+fn month_of(line: &[u8]) -> Result<Option<(Head, Three)>, LineWhy> {
+    let Some(it) = read_month(line)? else {
+        return Ok(None);
+    };
+    let head = (it.id, it.element, it.year, it.month);
+    Ok(Some((head, (it.days[0], it.days[1], it.days[30]))))
+}
+
+/// The row of a line's days: the word, and the values of the 1st, 2nd, 3rd, 29th and 31st day.
+type Days = (u32, [i32; 5]);
+
+fn row_of(line: &[u8], asked: Option<Element>) -> Result<Option<(Head, Days)>, LineWhy> {
+    let Some(it) = read_days(line, asked)? else {
+        return Ok(None);
+    };
+    let values = [
+        it.values[0],
+        it.values[1],
+        it.values[2],
+        it.values[28],
+        it.values[30],
+    ];
+    let head = (it.id, it.element, it.year, it.month);
+    Ok(Some((head, (it.word, values))))
+}
+
+const ID: StationId = StationId(*b"ZZA00000001");
+
+#[test]
+fn months(rt: HostRuntime) {
+    let july = line_of(
+        b"ZZA00000001202007TMAX",
+        &[(1, b"  311   "), (31, b"  -15MQS")],
+    );
+    let head = (ID, Element::Tmax, 2020, 7);
+    let first = Reading {
+        value: Some(311),
+        flagged: false,
+    };
+    let missing = Reading {
+        value: None,
+        flagged: false,
+    };
+    for (columns, flagged) in [(269, true), (268, true), (267, false), (266, false)] {
+        let last = Reading {
+            value: Some(-15),
+            flagged,
+        };
+        let expected = Ok(Some((head, (first, missing, last))));
+        assert_eq!(rt;
+            month_of(&july[..columns]),
+            expected,
+            "at {columns} columns"
+        );
+        let days = if flagged {
+            (0x00000001, [311, 0, 0, 0, 0])
+        } else {
+            (0x40000001, [311, 0, 0, 0, -15])
+        };
+        let found = row_of(&july[..columns], None);
+        assert_eq!(rt;
+            found,
+            Ok(Some((head, days))),
+            "the row at {columns} columns"
+        );
+    }
+}
+
+/// Why a line is refused as a month, and as a row where nothing, its own element and another one is
+/// asked for.
+fn faults_of(line: &[u8]) -> [Option<LineWhy>; 4] {
+    [
+        read_month(line).err(),
+        read_days(line, None).err(),
+        read_days(line, Some(Element::Tmax)).err(),
+        read_days(line, Some(Element::Snow)).err(),
+    ]
+}
+
+#[test]
+fn lines_of_a_wrong_length(rt: HostRuntime) {
+    let good = line_of(b"ZZA00000001202007TMAX", &[]);
+    let mut long = [b' '; 270];
+    long[..269].copy_from_slice(&good);
+    assert_eq!(rt; faults_of(&long)[0], None, "a blank in column 270");
+    long[269] = b'x';
+    let lines: [(&[u8], LineWhy); 3] = [
+        (&good[..20], LineWhy::Short),
+        (&good[..265], LineWhy::Short),
+        (&long, LineWhy::TooLong),
+    ];
+    for (line, why) in lines {
+        assert_eq!(rt; faults_of(line), [Some(why); 4], "at {line:?}");
+    }
+}
+
+/// A line's beginning, some groups of its days, and why it is refused.
+type Refusal = (
+    &'static [u8; 21],
+    &'static [(usize, &'static [u8; 8])],
+    LineWhy,
+);
+
+#[test]
+fn first_fault_of_a_line(rt: HostRuntime) {
+    const ROWS: [Refusal; 9] = [
+        (b"ZZA0000 001202007TMAX", &[], LineWhy::BadId),
+        (b"ZZA00000001000007TMAX", &[], LineWhy::BadYear),
+        (b"ZZA00000001    07TMAX", &[], LineWhy::BadYear),
+        (b"ZZA00000001202000TMAX", &[], LineWhy::BadMonth),
+        (b"ZZA00000001202013TMAX", &[], LineWhy::BadMonth),
+        (
+            b"ZZA00000001202007TMAX",
+            &[(3, b"12 34   ")],
+            LineWhy::BadValue(3),
+        ),
+        (
+            b"ZZA00000001202002TMAX",
+            &[(31, b"   +1   "), (30, b"311     ")],
+            LineWhy::BadValue(30),
+        ),
+        (
+            b"ZZA0000 001202013TMAX",
+            &[(1, b"    x   ")],
+            LineWhy::BadId,
+        ),
+        (
+            b"ZZA00000001202013TMAX",
+            &[(1, b"    x   ")],
+            LineWhy::BadMonth,
+        ),
+    ];
+    for (head, groups, why) in ROWS {
+        let faults = faults_of(&line_of(head, groups));
+        assert_eq!(rt; faults, [Some(why); 4], "of {head:?}");
+    }
+}
+
+/// The groups of some days of a month.
+const GROUPS: [(usize, &[u8; 8]); 7] = [
+    (1, b"  311   "),
+    (2, b"  -15   "),
+    (3, b"   70 Q "),
+    (4, b"        "),
+    (28, b"    0M S"),
+    (29, b"   29   "),
+    (31, b"   31   "),
+];
+
+#[test]
+fn rows_of_months(rt: HostRuntime) {
+    let cases: [(&[u8; 21], Head, Days); 6] = [
+        (
+            b"ZZA00000001202007TMAX",
+            (ID, Element::Tmax, 2020, 7),
+            (0x58000003, [311, -15, 0, 29, 31]),
+        ),
+        (
+            b"ZZA00000001202007PRCP",
+            (ID, Element::Prcp, 2020, 7),
+            (0x58000001, [311, 0, 0, 29, 31]),
+        ),
+        (
+            b"ZZA00000001202006TMIN",
+            (ID, Element::Tmin, 2020, 6),
+            (0x18000003, [311, -15, 0, 29, 0]),
+        ),
+        (
+            b"ZZA00000001202002TMIN",
+            (ID, Element::Tmin, 2020, 2),
+            (0x18000003, [311, -15, 0, 29, 0]),
+        ),
+        (
+            b"ZZA00000001202102SNOW",
+            (ID, Element::Snow, 2021, 2),
+            (0x08000001, [311, 0, 0, 0, 0]),
+        ),
+        (
+            b"ZZA00000001190002SNWD",
+            (ID, Element::Snwd, 1900, 2),
+            (0x08000001, [311, 0, 0, 0, 0]),
+        ),
+    ];
+    for (text, head, days) in cases {
+        let found = row_of(&line_of(text, &GROUPS), None);
+        assert_eq!(rt; found, Ok(Some((head, days))), "at {text:?}");
+    }
+}
+
+#[test]
+fn rows_of_the_element_that_is_asked_for(rt: HostRuntime) {
+    let july = line_of(
+        b"ZZA00000001202007TMAX",
+        &[(1, b"  311   "), (31, b"  -15   ")],
+    );
+    let cut = &july[..266];
+    let head = (ID, Element::Tmax, 2020, 7);
+    let kept = (0x40000001, [311, 0, 0, 0, -15]);
+    let none = (0, [0; 5]);
+    let cases = [
+        (None, true, kept),
+        (Some(Element::Tmax), true, kept),
+        (Some(Element::Tmin), false, none),
+        (Some(Element::Prcp), false, none),
+    ];
+    for (asked, is_kept, days) in cases {
+        assert_eq!(rt; Element::Tmax.is_kept(asked), is_kept, "for {asked:?}");
+        let rows = [row_of(&july, asked), row_of(cut, asked)];
+        assert_eq!(rt; rows, [Ok(Some((head, days))); 2], "at {asked:?}");
+    }
+}
+
+#[test]
+fn lines_of_other_elements(rt: HostRuntime) {
+    let lines: [&[u8]; 3] = [
+        b"ZZA00000001202007WSFG",
+        b"not a line of any kind",
+        b"ZZA00000001202007tmax",
+    ];
+    for line in lines {
+        assert_eq!(rt; month_of(line), Ok(None), "at {line:?}");
+        assert_eq!(rt; row_of(line, None), Ok(None), "the row at {line:?}");
+    }
+}

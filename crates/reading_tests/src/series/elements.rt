@@ -1,0 +1,114 @@
+//! Readers that keep one element.
+
+ghost use Rattle.std.specs.Prelude.{IfOk};
+ghost use Rattle.ghcn_series.specs.Pieces.{HasFedSome};
+
+use super::pieces::read_by_bytes;
+use super::{A, B, JULY, STATIONS, refused};
+use crate::lines::{line_of, text_of};
+use ghcn_fields::{Day, Memory};
+use ghcn_files::{Element, LineWhy, StationId, Stations};
+use ghcn_series::{DailyWhy, Data, DataFault, DataReader};
+use std::alloc::Global;
+
+/// A reader of the two stations' files that keeps one element.
+fn reader_of(alloc: Global, element: Element) -> Result<DataReader, DataFault>
+    ensures { IfOk result HasFedSome }
+{
+    match Stations::read(alloc, STATIONS) {
+        Ok(stations) => DataReader::of_element(alloc, stations, element),
+        Err(_) => Err(DataFault::Memory(Memory)),
+    }
+}
+
+/// What the files say of the two stations and one element.
+fn read_element(alloc: Global, files: &[&[u8]], element: Element) -> Result<Data, DataFault> {
+    match Stations::read(alloc, STATIONS) {
+        Ok(stations) => Data::read_element(alloc, stations, files, element),
+        Err(_) => Err(DataFault::Memory(Memory)),
+    }
+}
+
+/// The value of a station and an element on the first of July.
+fn value(data: &Data, id: &StationId, element: Element) -> Option<i32> {
+    let july = Day::with_number(JULY)?;
+    data.series(id, element)?.value(july)
+}
+
+/// The values of the first station and each element, the second's greatest temperature, and how many
+/// lines were passed over.
+type Values = ([Option<i32>; 5], Option<i32>, u64);
+
+fn values(data: &Data) -> Values {
+    let first = [
+        value(data, &A, Element::Prcp),
+        value(data, &A, Element::Snow),
+        value(data, &A, Element::Snwd),
+        value(data, &A, Element::Tmax),
+        value(data, &A, Element::Tmin),
+    ];
+    (first, value(data, &B, Element::Tmax), data.unlisted())
+}
+
+/// What is kept of one element of a whole text.
+fn kept(alloc: Global, lines: &[&[u8]], element: Element) -> Result<Values, DataFault> {
+    let text = text_of(alloc, lines, b"\n").map_err(DataFault::Memory)?;
+    Ok(values(&read_element(alloc, &[&text], element)?))
+}
+
+/// The same of a text whose bytes come one by one.
+fn kept_by_bytes(alloc: Global, lines: &[&[u8]], element: Element) -> Result<Values, DataFault> {
+    let text = text_of(alloc, lines, b"\n").map_err(DataFault::Memory)?;
+    Ok(values(&read_by_bytes(reader_of(alloc, element)?, &text)?))
+}
+
+#[test]
+fn series_of_one_element(rt: HostRuntime) {
+    let lines: [&[u8]; 6] = [
+        &line_of(b"ZZA00000001202007TMAX", &[(1, b"  311   ")]),
+        &line_of(b"ZZA00000001202007TMIN", &[(1, b"  -12   ")]),
+        &line_of(b"ZZA00000002202007TMAX", &[(1, b"  250   ")]),
+        &line_of(b"ZZA00000001202007PRCP", &[(1, b"   25   ")]),
+        &line_of(b"ZZA00000001202007SNOW", &[(1, b"    0   ")]),
+        &line_of(b"ZZA00000001202007SNWD", &[(1, b"  120   ")]),
+    ];
+    let cases: [(Element, [Option<i32>; 5], Option<i32>); 5] = [
+        (Element::Prcp, [Some(25), None, None, None, None], None),
+        (Element::Snow, [None, Some(0), None, None, None], None),
+        (Element::Snwd, [None, None, Some(120), None, None], None),
+        (
+            Element::Tmax,
+            [None, None, None, Some(311), None],
+            Some(250),
+        ),
+        (Element::Tmin, [None, None, None, None, Some(-12)], None),
+    ];
+    for (element, first, second) in cases {
+        let expected = Ok((first, second, 0));
+        assert_eq!(rt; kept(rt.alloc(), &lines, element), expected, "{element:?}");
+        let found = kept_by_bytes(rt.alloc(), &lines, element);
+        assert_eq!(rt; found, expected, "{element:?} by bytes");
+    }
+}
+
+#[test]
+fn faults_of_elements_that_are_not_kept(rt: HostRuntime) {
+    let july = line_of(b"ZZA00000001202007TMIN", &[(1, b"  150   ")]);
+    let asked = line_of(b"ZZA00000001202007TMAX", &[(1, b"  311   ")]);
+    let letters = line_of(b"ZZA00000001202008TMIN", &[(3, b"12 34   ")]);
+    let unlisted = line_of(b"ZZA00000009202007TMIN", &[(1, b"  150   ")]);
+    let bad = DailyWhy::Line(LineWhy::BadValue(3));
+    let again = DailyWhy::DuplicateMonth;
+    let cases: [(&str, [&[u8]; 2], Result<u64, DataFault>); 4] = [
+        ("no fault", [&july, &asked], Ok(0)),
+        ("a repeated month", [&july, &july], refused(1, 2, again)),
+        ("a bad value", [&july, &letters], refused(1, 2, bad)),
+        ("an unlisted station", [&unlisted, &asked], Ok(1)),
+    ];
+    for (name, lines, expected) in cases {
+        let found = kept(rt.alloc(), &lines, Element::Tmax);
+        assert_eq!(rt; found.map(|it| it.2), expected, "{name}");
+        let found = kept_by_bytes(rt.alloc(), &lines, Element::Tmax);
+        assert_eq!(rt; found.map(|it| it.2), expected, "{name}");
+    }
+}

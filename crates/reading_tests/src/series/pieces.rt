@@ -1,0 +1,162 @@
+//! Files that come in pieces.
+
+ghost use Rattle.std.specs.Prelude.{IfOk};
+ghost use Rattle.ghcn_series.specs.Pieces.{HasFedSome};
+
+use super::{A, JULY, STATIONS, has_series};
+use crate::lines::line_of;
+use ghcn_fields::Memory;
+use ghcn_files::{Element, Stations};
+use ghcn_series::{DailyWhy, Data, DataFault, DataReader};
+use std::alloc::Global;
+
+/// A reader of the two stations' files.
+fn reader(alloc: Global) -> Result<DataReader, DataFault>
+    ensures { IfOk result HasFedSome }
+{
+    match Stations::read(alloc, STATIONS) {
+        Ok(stations) => DataReader::new(alloc, stations),
+        Err(_) => Err(DataFault::Memory(Memory)),
+    }
+}
+
+/// A reader that has taken this piece.
+fn fed(alloc: Global, piece: &[u8]) -> Result<DataReader, DataFault>
+    ensures { IfOk result HasFedSome }
+{
+    let mut reader = reader(alloc)?;
+    reader.piece(piece);
+    Ok(reader)
+}
+
+/// What a file says whose bytes come in two pieces.
+fn read_cut(alloc: Global, front: &[u8], behind: &[u8]) -> Result<Data, DataFault> {
+    let mut reader = fed(alloc, front)?;
+    reader.piece(behind);
+    reader.finish()
+}
+
+/// What a file says whose bytes come one by one.
+pub(crate) fn read_by_bytes(mut reader: DataReader, text: &[u8]) -> Result<Data, DataFault>
+    requires { HasFedSome reader }
+{
+    for byte in text {
+        reader.piece(&[*byte]);
+    }
+    reader.finish()
+}
+
+/// Three lines with carriage returns: July, an empty line, and another one.
+fn three_lines(last: &[u8; 21]) -> [u8; 544] {
+    let mut text = [b'\r'; 544];
+    text[..269].copy_from_slice(&line_of(b"ZZA00000001202007TMAX", &[(1, b"  311   ")]));
+    text[270] = b'\n';
+    text[272] = b'\n';
+    text[273..542].copy_from_slice(&line_of(last, &[(1, b"  322   ")]));
+    text[543] = b'\n';
+    text
+}
+
+/// The days of July and August, with their values.
+const SUMMER: [(i32, i32); 2] = [(JULY, 311), (JULY + 31, 322)];
+
+/// A month that the third line repeats.
+const REPEATED: DataFault = DataFault::DailyLine {
+    file: 1,
+    line: 3,
+    why: DailyWhy::DuplicateMonth,
+};
+
+/// Whether a text that is cut gives the days of July and August.
+fn gives_cut(alloc: Global, front: &[u8], behind: &[u8]) -> Result<bool, DataFault> {
+    let data = read_cut(alloc, front, behind)?;
+    Ok(has_series(&data, &A, Element::Tmax, &SUMMER))
+}
+
+/// Whether it does where its bytes come one by one.
+fn gives_by_bytes(alloc: Global, text: &[u8]) -> Result<bool, DataFault> {
+    let data = read_by_bytes(reader(alloc)?, text)?;
+    Ok(has_series(&data, &A, Element::Tmax, &SUMMER))
+}
+
+/// The first place at which a text is cut and then doesn't give this.
+fn first_wrong_cut(alloc: Global, text: &[u8], expected: Result<bool, DataFault>) -> Option<usize> {
+    for end in 0..=text.len() {
+        if gives_cut(alloc, &text[..end], &text[end..]) != expected {
+            return Some(end);
+        }
+    }
+    None
+}
+
+#[test]
+fn cut_anywhere(rt: HostRuntime) {
+    let text = three_lines(b"ZZA00000001202008TMAX");
+    assert_eq!(rt; first_wrong_cut(rt.alloc(), &text, Ok(true)), None);
+    assert_eq!(rt; gives_by_bytes(rt.alloc(), &text), Ok(true));
+    let again = three_lines(b"ZZA00000001202007TMAX");
+    assert_eq!(rt; first_wrong_cut(rt.alloc(), &again, Err(REPEATED)), None);
+    assert_eq!(rt; gives_by_bytes(rt.alloc(), &again), Err(REPEATED));
+}
+
+/// A reader with so many files more, all of them empty.
+fn with_files(mut reader: DataReader, count: u32) -> DataReader
+    requires { HasFedSome reader }
+    ensures { HasFedSome result }
+{
+    for _ in 0..count {
+        reader.end_of_file();
+    }
+    reader
+}
+
+/// The fault of a text behind which these bytes and so many files come.
+fn fault_before(alloc: Global, text: &[u8], behind: &[u8], files: u32) -> Option<DataFault> {
+    match fed(alloc, text) {
+        Ok(mut reader) => {
+            reader.piece(behind);
+            with_files(reader, files).finish().err()
+        }
+        Err(fault) => Some(fault),
+    }
+}
+
+#[test]
+fn first_fault_is_kept(rt: HostRuntime) {
+    let text = three_lines(b"ZZA00000001202007TMAX");
+    let most = 1 << 20;
+    let cases: [(&[u8], u32, DataFault); 5] = [
+        (b"", 0, REPEATED),
+        (b"ZZ\n", 0, REPEATED),
+        (b"", most, REPEATED),
+        (b"ZZ\n", most, REPEATED),
+        (b"", most + 1, DataFault::TooManyFiles),
+    ];
+    for (behind, files, fault) in cases {
+        let found = fault_before(rt.alloc(), &text, behind, files);
+        assert_eq!(rt; found, Some(fault), "behind {behind:?} and {files} files");
+    }
+}
+
+/// The fault of a month that the second file has, and the third again behind two lines.
+fn fault_of_files(alloc: Global, month: &[u8]) -> Result<Option<DataFault>, DataFault> {
+    let mut reader = reader(alloc)?;
+    reader.end_of_file();
+    reader.piece(month);
+    reader.end_of_file();
+    reader.piece(b"\n \r");
+    reader.piece(b"\n");
+    reader.piece(month);
+    Ok(reader.finish().err())
+}
+
+#[test]
+fn files_end_where_they_are_ended(rt: HostRuntime) {
+    let july = line_of(b"ZZA00000001202007TMAX", &[(1, b"  311   ")]);
+    let fault = DataFault::DailyLine {
+        file: 3,
+        line: 3,
+        why: DailyWhy::DuplicateMonth,
+    };
+    assert_eq!(rt; fault_of_files(rt.alloc(), &july), Ok(Some(fault)));
+}
