@@ -1,7 +1,7 @@
 -- The meaning of words that are written out.
 use Rattle.std.proofs.Common.{◌≡◌, List, [], ◌∷◌, Some, None, option_map, codes, refl}
 use Rattle.clap.specs.Words.{Text, fault_of, subcommand_of, first_of, one_of, all_of}
-use Rattle.clap.specs.declared.error.ErrorKind.TheVariants.{MissingRequiredArgument, ValueValidation}
+use Rattle.clap.specs.declared.error.ErrorKind.TheVariants.{DisplayVersion, MissingRequiredArgument, ValueValidation}
 use Rattle.clap.proofs.OnLiterals.{clap_on_literals}
 use Rattle.command_line.specs.CommandLine.{extremes_app, papers_of}
 
@@ -140,3 +140,14 @@ odd_read = refl
 odd_papers : option_map (λ p. papers_of p.1) (subcommand_of extremes_app odd) ≡ Some (codes "r" ∷ [])
 unfolding clap_on_literals
 odd_papers = refl
+
+-- the version can be asked for
+version : fault_of extremes_app (codes "extremes" ∷ codes "--version" ∷ []) ≡ DisplayVersion ∷ []
+unfolding clap_on_literals
+version = refl
+
+-- a file of that name can be ranked
+no_version : fault_of extremes_app (codes "extremes" ∷ codes "rank" ∷ codes "--query=q" ∷ codes "--stations=s"
+    ∷ codes "--" ∷ codes "--version" ∷ []) ≡ []
+unfolding clap_on_literals
+no_version = refl

@@ -10,7 +10,10 @@ use Rattle.std.specs.Str.Parse.{ParsesSigned, ParsesUnsigned}
 use Rattle.clap.specs.declared.builder.ValueParser.{ValueParser}
 use Rattle.clap.specs.Words.{Row, Rule, Text, Shape, Kinds, IsAmong, ReadsOne, fault_of, subcommand_of, subcommand_rows}
 use Rattle.clap.specs.declared.error.ErrorKind.{ErrorKind}
-use Rattle.clap.specs.declared.error.ErrorKind.TheVariants.{OutOfMemory}
+use Rattle.clap.specs.declared.error.ErrorKind.TheVariants.{OutOfMemory, DisplayVersion}
+use Rattle.command_line.specs.declared.asked.CommandFault.{CommandFault}
+use Rattle.command_line.specs.declared.asked.CommandFault.TheVariants as fault
+use Rattle.command_line.specs.CommandLine.{TellsVersion, OnVersion}
 use Rattle.clap.specs.Walk.{answers_to, stop_after}
 use Rattle.clap.specs.Simple.{argument_words, built, entered, names_of, rows_at}
 use Rattle.clap.specs.declared.parser.matches.SubCommand.{SubCommand}
@@ -50,6 +53,35 @@ pub only_memory : (k : ErrorKind) (kinds : Kinds) → kinds ≡ [] → (k ≡ Ou
 only_memory k [] none (inl memory) = memory
 only_memory k [] none (inr among) = absurd among
 only_memory k (x ∷ xs) none has = absurd cc
+
+-- where the version alone is to be told, a fault tells it, or it is want of memory
+pub only_version : (k : ErrorKind) (kinds : Kinds) (f : CommandFault) → kinds ≡ DisplayVersion ∷ []
+    → (k ≡ OutOfMemory) ⊎ IsAmong k kinds → (k ≡ OutOfMemory → f ≡ fault.Memory)
+    → (k ≡ DisplayVersion → TellsVersion f) → TellsVersion f
+only_version k kinds f alone (inl memory) refuses tells = subst TellsVersion (sym (refuses memory)) tt
+only_version k kinds f alone (inr among) refuses tells = elim (subst (λ ks. IsAmong k ks) alone among) [
+  | inl is ↦ tells is
+  | inr none ↦ absurd none
+]
+
+-- where the version is told, it is among what may be told
+pub version_among : (k : ErrorKind) (kinds : Kinds) (f : CommandFault) → OnVersion (k ≡ DisplayVersion) f
+    → (k ≡ OutOfMemory) ⊎ IsAmong k kinds → OnVersion (IsAmong DisplayVersion kinds) f
+version_among k kinds (fault.Words text) told has = tt
+version_among k kinds (fault.Version text) told (inl memory) = absurd cc
+version_among k kinds (fault.Version text) told (inr among) = subst (λ x. IsAmong x kinds) told among
+version_among k kinds fault.Memory told has = tt
+
+-- where the version is never told, anything is true of where it is
+pub never_told : (P : Type 0) (f : CommandFault) → OnVersion ⊥ f → OnVersion P f
+never_told P (fault.Words text) none = tt
+never_told P (fault.Version text) none = absurd none
+never_told P fault.Memory none = tt
+
+-- words of which nothing is told don't ask for the version
+pub not_asked : (kinds : Kinds) → kinds ≡ [] → kinds ≡ DisplayVersion ∷ [] → ⊥
+not_asked [] none asks = cc
+not_asked (k ∷ ks) none asks = cc
 
 -- of three subcommands only their names can be met
 one_of_three : (s t u : Shape) (p : Text × List Text) (r : Text × List Row) (first second third : Bool)
@@ -126,8 +158,10 @@ first_code a more bs e = ap (λ (t : List ℕ). get_or t 0 a) e
 -- so the papers of a command that merges stand in pairs
 merges-pairs : (name : Text) (rows : List Row) (c : Command) → IsCommand name rows c → name ≡ codes "merge"
     → AreInPairs rows
-merges-pairs name rows c (inl is) e = let bad : 109 ≡ 114 = first_code _ _ _ (sym e ∙ is.0) in absurd (omega (arith, bad))
-merges-pairs name rows c (inr (inr is)) e = let bad : 109 ≡ 99 = first_code _ _ _ (sym e ∙ is.0) in absurd (omega (arith, bad))
+merges-pairs name rows c (inl is) e = let bad : 109 ≡ 114 = first_code _ _ _ (sym e ∙ is.0) in absurd
+    (omega (arith, bad))
+merges-pairs name rows c (inr (inr is)) e = let bad : 109 ≡ 99 = first_code _ _ _ (sym e ∙ is.0) in absurd
+    (omega (arith, bad))
 merges-pairs name rows Sample (inr (inl is)) e = absurd is.1
 merges-pairs name rows (Rank stations query workers guess certificate files) (inr (inl is)) e = absurd is.1
 merges-pairs name rows (Check stations query report certificate part files) (inr (inl is)) e = absurd is.1
@@ -141,7 +175,8 @@ pub command-met : {Z : Type 0} (words : List Text) (o : Option (Box SubCommand Z
     → name_met o ≡ Some name → option_map (λ p. p.1) (subcommand_rows o) ≡ Some rows → IsCommand name rows c
     → IsCommandOf words c
 command-met words o name rows c read rows_are met behind is =
-    let entered : subcommand_of extremes_app words ≡ Some (name, rows) = sym rows_are ∙ met_rows o name rows met behind in
+    let entered : subcommand_of extremes_app words ≡ Some (name, rows) = sym rows_are ∙ met_rows o name rows met
+    behind in
     record {
       name = name;
       rows = rows;
@@ -158,7 +193,8 @@ command-met words o name rows c read rows_are met behind is =
 pub lent-pairs : (papers : List (Bor Text)) (rows : List Row) → map (λ s. s.now) papers ≡ papers_of rows
     → AreInPairs rows → length papers % 2 ≡ 0
 lent-pairs papers rows same pairs =
-    ap (λ (n : ℕ). n % 2) (sym (length-map papers (λ (s : Bor Text). s.now)) ∙ ap (λ (ts : List Text). length ts) same) ∙ pairs
+    ap (λ (n : ℕ). n % 2) (sym (length-map papers (λ (s : Bor Text). s.now)) ∙ ap (λ (ts : List Text). length ts) same)
+    ∙ pairs
 
 -- what is read of the text of a guess is the number that it writes
 pub guess_read : {E : Type 0} (gives : List ℕ → Result ℤ E → Type 0)

@@ -1,6 +1,6 @@
 -- What the words of a command line ask for, in `clap`'s words.
 use Rattle.std.specs.Prelude.{◌≡◌, ◌⊎◌, List, [], ◌∷◌, map, codes, Option, Some, None, unwrap_or, Bool, true, false}
-use Rattle.std.specs.Prelude.{String, string_bytes}
+use Rattle.std.specs.Prelude.{String, string_bytes, ⊤}
 use Rattle.std.specs.Prelude.{length, ◌%◌, ℕ, ◌<◌, ◌^◌, ℤ, pos, negsuc, FitsSigned}
 use Rattle.std.specs.Option.{option_map}
 use Rattle.std.specs.List.{flat_map}
@@ -9,12 +9,15 @@ use Rattle.std.specs.Int.{w64}
 use Rattle.std.specs.Str.Parse.{IsNumeral, without_leading_sign, without_leading_plus, signed_digits_value}
 use Rattle.std.specs.Str.Parse.{digits_value}
 use Rattle.clap.specs.Words.{App, Row, Rule, Text, all_of, first_of, one_of, new_app, new_rule, subcommand_of}
-use Rattle.clap.specs.Words.{with_rule, with_subcommand, fault_of}
+use Rattle.clap.specs.Words.{with_rule, with_subcommand, fault_of, IsAmong}
+use Rattle.clap.specs.declared.error.ErrorKind.TheVariants.{DisplayVersion}
 use Rattle.clap.specs.Lexer.{usize_max}
 use Rattle.clap.specs.declared.builder.ArgAction.TheVariants.{Set, SetTrue, Append}
 use Rattle.clap.specs.declared.builder.ValueParser.{ValueParser}
 use Rattle.clap.specs.declared.builder.ValueParser.TheVariants.{Signed, Unsigned}
 use Rattle.command_line.specs.declared.asked.Part.{Part}
+use Rattle.command_line.specs.declared.asked.CommandFault.{CommandFault}
+use Rattle.command_line.specs.declared.asked.CommandFault.TheVariants as fault
 use Rattle.command_line.specs.declared.asked.Command.{Command}
 use Rattle.command_line.specs.declared.asked.Command.TheVariants.{Sample, Rank, Merge, Check}
 
@@ -78,10 +81,14 @@ check_app = with_rule (with_rule (with_rule (with_rule (with_rule (with_rule (ne
     (required (option_of (codes "certificate"))))
     (flag_of (codes "part"))) (many_of (codes "files"))
 
--- the program's command line: it has the subcommands `rank`, `merge` and `check`, and needs one
+-- the program's command line: it has a version and the subcommands `rank`, `merge` and `check`, and needs one of these
 abbrev pub extremes_app : App
 extremes_app = with_subcommand (with_subcommand (with_subcommand (record (new_app (codes "extremes")) {
-  top = record (new_app (codes "extremes")).top { subcommand_required = true; disable_help_subcommand = true };
+  top = record (new_app (codes "extremes")).top {
+    has_version = true;
+    subcommand_required = true;
+    disable_help_subcommand = true;
+  };
 }) rank_app.top) merge_app.top) check_app.top
 
 -- all words, the program's name first
@@ -176,3 +183,22 @@ pub record IsCommandOf (words : List Text) (c : Command) : Type 0 where
   pub right : AreRight words
   pub entered : subcommand_of extremes_app words ≡ Some (name, rows)
   pub named : IsCommand name rows c
+
+-- the words ask for the version: that is all that `clap` has to tell of them
+abbrev pub AskVersion : List Text → Type 0
+AskVersion words = fault_of extremes_app words ≡ DisplayVersion ∷ []
+
+-- the version is among what `clap` may have to tell of the words
+abbrev pub MayAskVersion : List Text → Type 0
+MayAskVersion words = IsAmong DisplayVersion (fault_of extremes_app words)
+
+-- the version is told, or memory was refused
+abbrev pub TellsVersion : CommandFault → Type 0
+TellsVersion (fault.Words text) = ⊥
+TellsVersion (fault.Version text) = ⊤
+TellsVersion fault.Memory = ⊤
+
+-- a fact about where the version is told
+abbrev pub OnVersion : Type 0 → CommandFault → Type 0
+OnVersion P (fault.Version text) = P
+OnVersion P f = ⊤

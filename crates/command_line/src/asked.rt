@@ -50,6 +50,8 @@ pub struct Part {
 pub enum CommandFault {
     /// The words are no command, or ask for help: the text to show.
     Words(String),
+    /// The words ask for the version: the text to show.
+    Version(String),
     /// Memory was refused.
     Memory,
 }

@@ -1,5 +1,8 @@
 //! What the program says of itself where it is asked for help.
 
+/// Behind the program's name where its version is asked for.
+pub const VERSION: &str = "1.0";
+
 /// Behind `--stations`.
 pub const STATIONS_HELP: &str = "The station list, ghcnd-stations.txt";
 
@@ -38,6 +41,7 @@ pub const PAPERS_HELP: &str = "The report and the certificate of a part, then th
 pub const USAGE: &str = "extremes rank --stations <FILE> --query <QUERY> [FILE]...
        extremes merge --query <QUERY> [--certificate <OUT>] [REPORT CERTIFICATE]...
        extremes check [--part] --stations <FILE> --query <QUERY> --report <FILE> --certificate <FILE> [FILE]...
+       extremes --version
        extremes rank --help
        extremes merge --help
        extremes check --help";

@@ -6,6 +6,7 @@ ghost use Rattle.clap.specs.declared.builder.Command.TheViews.{out-Command as fi
 ghost use Rattle.command_line.specs.CommandLine.{extremes_app, rank_app, merge_app, check_app};
 ghost use Rattle.command_line.specs.CommandLine.{option_of, flag_of, required, many_of, is_global, paths_of};
 ghost use Rattle.command_line.specs.CommandLine.{words_of, AreRight, AreInPairs, IsCommandOf, IsRank, IsMerge, IsCheck};
+ghost use Rattle.command_line.specs.CommandLine.{AskVersion, MayAskVersion, TellsVersion, OnVersion};
 ghost use Rattle.command_line.specs.declared.asked.Command.TheVariants as commands;
 ghost use Rattle.command_line.specs.declared.asked.CommandFault.TheVariants as faults;
 
@@ -13,7 +14,7 @@ use crate::asked::{Command, CommandFault, Part};
 use crate::help::{
     CERTIFICATE_HELP, CHECK_HELP, FILES_HELP, GUESS_HELP, HELP, MERGE_HELP, MERGE_USAGE,
     MERGED_CERTIFICATE_HELP, ODD_PAPERS, PAPERS_HELP, PART_HELP, QUERY_HELP, RANK_HELP,
-    STATIONS_HELP, USAGE, WORKERS_HELP,
+    STATIONS_HELP, USAGE, VERSION, WORKERS_HELP,
 };
 use clap::error::ErrorKind;
 use clap::{Arg, ArgAction, ArgMatches, Error, value_parser};
@@ -30,6 +31,10 @@ pub fn command(alloc: Global, words: Vec<String>) -> Result<Command, CommandFaul
     ensures named { words.items ≢ [] → IfOk result (IsCommandOf (words_of words.items)) }
     // Right words are refused for want of memory alone.
     ensures right { AreRight (words_of words.items) → IfErr result (λ f. f ≡ faults.Memory) }
+    // Words that ask for the version are told it, unless memory is refused.
+    ensures version { words.items ≢ [] → AskVersion (words_of words.items) → IfErr result TellsVersion }
+    // No others are.
+    ensures asked { IfErr result (OnVersion (MayAskVersion (words_of words.items))) }
 {
     if words.is_empty() {
         return Ok(Command::Sample);
@@ -39,14 +44,20 @@ pub fn command(alloc: Global, words: Vec<String>) -> Result<Command, CommandFaul
 
 /// What a refused command line leads to: the text to show, or want of memory.
 fn fault_of(alloc: Global, error: &Error) -> CommandFault
-    ensures { kind_of error.now ≡ ErrorKind.OutOfMemory → result ≡ faults.Memory }
+    ensures memory { kind_of error.now ≡ ErrorKind.OutOfMemory → result ≡ faults.Memory }
+    ensures version { kind_of error.now ≡ ErrorKind.DisplayVersion → TellsVersion result }
+    ensures asked { OnVersion (kind_of error.now ≡ ErrorKind.DisplayVersion) result }
 {
     if error.kind() == ErrorKind::OutOfMemory {
         return CommandFault::Memory;
     }
-    match error.to_string(alloc) {
-        Ok(text) => CommandFault::Words(text),
-        Err(_) => CommandFault::Memory,
+    let Ok(text) = error.to_string(alloc) else {
+        return CommandFault::Memory;
+    };
+    if error.kind() == ErrorKind::DisplayVersion {
+        CommandFault::Version(text)
+    } else {
+        CommandFault::Words(text)
     }
 }
 
@@ -54,6 +65,8 @@ fn fault_of(alloc: Global, error: &Error) -> CommandFault
 fn named_command(alloc: Global, words: &[String]) -> Result<Command, CommandFault>
     ensures ok { IfOk result (IsCommandOf (words_of words.now)) }
     ensures right { AreRight (words_of words.now) → IfErr result (λ f. f ≡ faults.Memory) }
+    ensures version { AskVersion (words_of words.now) → IfErr result TellsVersion }
+    ensures asked { IfErr result (OnVersion (MayAskVersion (words_of words.now))) }
 {
     let all = with_name(alloc, words)?;
     let matches = match program(alloc)?.try_get_matches_from(all.as_slice()) {
@@ -91,6 +104,7 @@ fn program<'a>(alloc: Global) -> Result<clap::Command<'a>, AllocError>
 {
     clap::Command::new(alloc, "extremes")
         .about("The k best records of GHCN-Daily files; without words, of a sample")
+        .version(VERSION)
         .override_usage(USAGE)
         .after_help(HELP)
         .subcommand_required(true)
@@ -209,6 +223,7 @@ fn rank_of(alloc: Global, matches: &ArgMatches) -> Result<Command, AllocError>
 fn merge_of(alloc: Global, matches: &ArgMatches) -> Result<Command, CommandFault>
     ensures ok { IfOk result (IsMerge (rows_of (found_of matches.now))) }
     ensures paired { AreInPairs (rows_of (found_of matches.now)) → IfErr result (λ f. f ≡ faults.Memory) }
+    ensures asked { IfErr result (OnVersion ⊥) }
 {
     let papers = matches.get_strs("papers").unwrap_or(&[]);
     if papers.len() % 2 != 0 {

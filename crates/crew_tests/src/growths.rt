@@ -3,11 +3,16 @@
 //! A test prints `memory` where the call that it is about met the refusal, and `answered` where it
 //! answered what it has to. It prints nothing where what is made beforehand met it.
 
+ghost use Rattle.std.specs.Prelude.{◌+◌, ◌≤◌, length};
+ghost use Rattle.rank_board.specs.Seats.{rights_of, IsSeatOf};
+ghost use Rattle.rank_crew.specs.Workers.{IsKept};
+
 use crate::data::{USUAL, data_of, plan_of};
 use ghcn_fields::Memory;
-use rank_board::Board;
-use rank_crew::{Open, crew, survey};
+use rank_board::{Board, Seat};
+use rank_crew::{Open, crew, survey, work};
 use rank_query::Query;
+use rank_sched::Plan;
 use std::alloc::Global;
 use std::process::Abort;
 use std::sync::Wait;
@@ -64,4 +69,81 @@ fn answered<R: Threads + Wait + Sync>(rt: &R, alloc: Global) -> Option<Result<bo
 #[test]
 fn a_crew_of_four_workers(rt: HostRuntime) -> Result<(), Fail> {
     tell(&rt, answered(&rt, rt.alloc()))
+}
+
+/// One worker of a plan: its seat, and how many records it has, where it found memory.
+fn home_of<R: Wait>(
+    rt: &R,
+    alloc: Global,
+    plan: &Plan<'_>,
+    board: &Board,
+    seat: Seat,
+    worker: u64,
+) -> (Seat, Option<usize>)
+    requires seat { IsSeatOf board.now seat }
+    requires rights { length plan.now.morsels + 1 ≤ rights_of seat }
+    ensures { IsKept board.now seat result.0 }
+{
+    match work(rt, alloc, plan, board, seat, worker, &Open) {
+        Ok((seat, haul)) => (seat, Some(haul.records.len())),
+        Err((seat, Memory)) => (seat, None),
+    }
+}
+
+/// What two workers of one board leave of a plan of three morsels.
+#[derive(Drop)]
+struct Left {
+    /// The number of the next claim.
+    next: u64,
+    /// How many rights to a claim aren't used.
+    rights: u64,
+    /// Of each worker how many records it has, where it found memory.
+    records: (Option<usize>, Option<usize>),
+}
+
+/// What two workers leave, of which the second comes when the first is home.
+fn left_by_two<R: Wait>(rt: &R, alloc: Global, plan: &Plan<'_>) -> Option<Left> {
+    if plan.len() != 3 {
+        return None;
+    }
+    let (board, mut one) = Board::open(alloc, 8, None).ok()?;
+    let two = board.split(&mut one, 4);
+    let (mut one, first) = home_of(rt, alloc, plan, &board, one, 0);
+    let (two, second) = home_of(rt, alloc, plan, &board, two, 1);
+    board.join(&mut one, two);
+    let rights = one.rights();
+    Some(Left {
+        next: board.close(one).next,
+        rights,
+        records: (first, second),
+    })
+}
+
+/// The same over the usual values.
+fn left_of_usual<R: Wait>(rt: &R, alloc: Global) -> Option<Left> {
+    let data = data_of(alloc, &USUAL)?;
+    left_by_two(rt, alloc, &plan_of(alloc, &data)?)
+}
+
+#[test]
+fn two_workers_of_one_board(rt: HostRuntime) -> Result<(), Fail> {
+    let Some(left) = left_of_usual(&rt, rt.alloc()) else {
+        return Ok(());
+    };
+    let used_up = left.next.checked_add(left.rights);
+    assert_eq!(rt; used_up, Some(8), "each claim took one right");
+    match left.records {
+        (Some(3), Some(0)) => {
+            assert_eq!(rt; left.next, 5, "each worker claimed past the last morsel");
+            println!(rt; "answered")?;
+        }
+        (None, Some(_)) | (Some(_), None) => {
+            assert!(rt; left.next >= 4, "the other claimed past the last morsel");
+            println!(rt; "memory")?;
+        }
+        records => {
+            assert!(rt; false, "{records:?}");
+        }
+    }
+    Ok(())
 }

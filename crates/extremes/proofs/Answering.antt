@@ -10,6 +10,7 @@ use Rattle.rank_sched.specs.Plan.{Planned, planned, measured, is_drawn_first}
 use Rattle.rank_papers.specs.OneElement.{ReportStays, CertificateStays, MeasuredStays}
 use Rattle.rank_papers.specs.Report.{IsReport}
 use Rattle.rank_papers.specs.Certificate.{IsCertificate}
+use Rattle.rank_papers.specs.PlanPapers.{IsMeasuredCertificate}
 use Rattle.rank_check.specs.declared.verdict.Verdict.{Verdict}
 use Rattle.rank_check.specs.declared.verdict.Verdict.TheVariants.{Accepted}
 use Rattle.rank_check.specs.Tests.{verdict}
@@ -20,7 +21,7 @@ use Rattle.rank_parts.specs.Laws.{PartVerdictStays}
 use Rattle.rank_input.specs.declared.intake.Intake.{Intake}
 use Rattle.rank_input.specs.Taken.{HoldsInput, IsTrueOf}
 use Rattle.extremes.specs.declared.papers.Papers.{Papers}
-use Rattle.extremes.specs.Answer.{ArePapers, IsOfCrew, IsOfOneWorker, IsSerial}
+use Rattle.extremes.specs.Answer.{ArePapers, AreRight, IsOfCrew, IsOfOneWorker, IsSerial}
 use Rattle.extremes.specs.Runs.{AnswersInput, CrewsInput, JudgesInput, JudgesPart}
 
 -- papers that are right for what a query needs of some data are right for these data, and the other way round
@@ -83,6 +84,22 @@ papers_for query held whole papers reports certificates needed are =
       unlisted = of.unlisted;
     }
 
+-- the papers of a query and data are right for them
+right_papers : (query : Asked) (held : Contents) (papers : Papers) → ArePapers query held papers
+    → AreRight query held papers
+right_papers query held papers are = record {
+  report = are.report;
+  certificate = are.certificate.certificate;
+  version = are.certificate.version;
+  unlisted = are.unlisted;
+}
+
+-- a certificate with the bounds of what a query needs of some data has those of these data
+measured_for : (query : Asked) (held whole : Contents) (bytes : List ℕ) → MeasuredStays → held ≡ data_for query whole
+    → IsMeasuredCertificate query held bytes → IsMeasuredCertificate query whole bytes
+measured_for query held whole bytes certificates needed is =
+    (certificates query whole bytes).0 (subst (λ (h : Contents). IsMeasuredCertificate query h bytes) needed is)
+
 -- the papers for the query and the data of an intake answer its input
 pub answers_input : (t : Intake) (query : Asked) (held : Contents) (papers : Papers) → ReportStays → MeasuredStays
     → HoldsInput t query held → ArePapers query held papers → AnswersInput t papers
@@ -93,7 +110,8 @@ answers_input t query held papers reports certificates holds are = record {
         asked = query;
         held = input.whole;
         read = input.read;
-        right = papers_for query held input.whole papers reports certificates input.needed are;
+        right = right_papers query input.whole papers
+            (papers_for query held input.whole papers reports certificates input.needed are);
       };
 }
 
@@ -113,15 +131,17 @@ plan_for q held whole stay needed =
 
 -- papers that are a crew's for the query and the data of an intake are so for its input
 pub crews_input : (t : Intake) (workers : ℕ) (guess : Option ℤ) (query : Asked) (held : Contents) (papers : Papers)
-    → MorselsStay → HoldsInput t query held
+    → MorselsStay → MeasuredStays → HoldsInput t query held
+    → IsMeasuredCertificate query held papers.certificate.items
     → IsOfCrew (planned query held) guess workers papers.certificate.items → CrewsInput t workers guess papers
-crews_input t workers guess query held papers stay holds are = record {
+crews_input t workers guess query held papers stay certificates holds measures are = record {
   is = λ i taken.
       let input = holds.is i taken in
       record {
         asked = query;
         held = input.whole;
         read = input.read;
+        bounds = measured_for query held input.whole papers.certificate.items certificates input.needed measures;
         crew = subst (λ (p : Planned). IsOfCrew p guess workers papers.certificate.items)
             (plan_for query held input.whole stay input.needed) are;
       };
@@ -129,16 +149,18 @@ crews_input t workers guess query held papers stay holds are = record {
 
 -- papers that are one worker's for the query and the data of an intake are so for its input
 pub serial_input : (t : Intake) (guess : Option ℤ) (query : Asked) (held : Contents) (papers : Papers)
-    → MorselsStay → HoldsInput t query held
+    → MorselsStay → MeasuredStays → HoldsInput t query held
+    → IsMeasuredCertificate query held papers.certificate.items
     → IsOfOneWorker (planned query held) guess papers.certificate.items
     → IsTrueOf t (λ words stations files. IsSerial guess words stations files papers)
-serial_input t guess query held papers stay holds are = record {
+serial_input t guess query held papers stay certificates holds measures are = record {
   is = λ i taken.
       let input = holds.is i taken in
       record {
         asked = query;
         held = input.whole;
         read = input.read;
+        bounds = measured_for query held input.whole papers.certificate.items certificates input.needed measures;
         alone = subst (λ (p : Planned). IsOfOneWorker p guess papers.certificate.items)
             (plan_for query held input.whole stay input.needed) are;
       };

@@ -6,8 +6,9 @@ use Rattle.ghcn_files.specs.declared.station.Station.{Station}
 use Rattle.ghcn_files.specs.Listed.{listed}
 use Rattle.ghcn_series.specs.Says.{data_of}
 use Rattle.rank_query.specs.Asked.{Asked}
-use Rattle.rank_query.specs.Laws.{ReadCanBeAsked}
+use Rattle.rank_query.specs.Laws.{ReadAsAsked}
 use Rattle.rank_query.specs.Reading.{read_query}
+use Rattle.rank_query.proofs.Asks.{asks_read}
 use Rattle.rank_parts.specs.declared.verdict.PartVerdict.TheVariants.{Accepted}
 use Rattle.rank_parts.specs.Parts.{part_verdict}
 use Rattle.rank_parts.specs.Laws as parts
@@ -44,7 +45,7 @@ module _ (query stations report certificate : List ℕ) (lines : ℕ) (q : Asked
   each-accepts (p ∷ ps) accept =
       let r = accept.0.read in (
         subst (λ (a : Asked). part_verdict a accept.0.held report certificate ≡ Accepted p.1 lines)
-            (one_value _ _ _ r.asks asked) (sym accept.0.verdict),
+            (one_value _ _ _ (asks_read query accept.0.asked r.asks) asked) (sym accept.0.verdict),
         each-accepts ps accept.1,
       )
 
@@ -55,19 +56,20 @@ module _ (query stations report certificate : List ℕ) (lines : ℕ) (q : Asked
   some-held (p ∷ ps) accept some = omega arith
 
 -- so the papers are right for all files
-pub parts-judge-the-whole : ReadCanBeAsked → FilesMakeTheWhole → PartsJudgeTheWhole
-parts-judge-the-whole can whole query stations report certificate ps q c r contents all =
+pub parts-judge-the-whole : ReadAsAsked → FilesMakeTheWhole → PartsJudgeTheWhole
+parts-judge-the-whole reading whole query stations report certificate ps q c r contents all =
+    let asked = (reading query q).1 r.asks in
     (whole q r.list (map (λ p. p.0) ps) (held_by query stations report certificate all.lines ps all.accept) c report
-    certificate (can query q r.asks) contents
+    certificate r.asks.can contents
     (record {
-      each = each-holds query stations report certificate all.lines q r.list r.asks r.lists ps all.accept;
+      each = each-holds query stations report certificate all.lines q r.list asked r.lists ps all.accept;
       all = ap (data_of r.list) (files-in-order ps) ∙ r.holds;
       apart = all.apart;
     })
-    (some-held query stations report certificate all.lines q r.list r.asks r.lists ps all.accept all.nonempty)).0
+    (some-held query stations report certificate all.lines q r.list asked r.lists ps all.accept all.nonempty)).0
     (record {
       lines = all.lines;
       series = map (λ p. p.1) ps;
-      accepted = each-accepts query stations report certificate all.lines q r.list r.asks r.lists ps all.accept;
+      accepted = each-accepts query stations report certificate all.lines q r.list asked r.lists ps all.accept;
       sum = all.sum;
     })

@@ -1,6 +1,6 @@
 -- What one worker answers to an input under a guess is one pair of papers.
 use Rattle.std.proofs.Common.{◌≡◌, ℕ, List, [], ◌∷◌, Option, refl, sym, ap, ◌∙◌, subst, map, ℤ}
-use Rattle.std.specs.Prelude.{Ok, Some, find}
+use Rattle.std.specs.Prelude.{Some, find}
 use Rattle.std.specs.List.{AllByRecursion}
 use Rattle.ghcn_files.specs.declared.station.Station.{Station}
 use Rattle.ghcn_files.specs.Listed.{is_station_of}
@@ -12,7 +12,7 @@ use Rattle.rank_sched.specs.Task.{task_of}
 use Rattle.rank_sched.specs.Laws.{RecordsAloneAreOne}
 use Rattle.rank_papers.specs.Report.{WithStation, IsReport, named, report_text}
 use Rattle.extremes.proofs.Readings.{one_reading}
-use Rattle.extremes.specs.Answer.{ArePapers, IsOfOneWorker, certificate_of_run, SerialPapersAreOne}
+use Rattle.extremes.specs.Answer.{AreRight, IsOfOneWorker, certificate_of_run, SerialPapersAreOne}
 
 -- candidates, each with its listed station, are one list
 one_rows : (stations : List Station) (xs ys : List WithStation) → map (λ row. row.0) xs ≡ map (λ row. row.0) ys
@@ -56,8 +56,8 @@ serial_one one guess query stations files a b right-a serial-a right-b serial-b 
     subst (λ (x : Asked × Contents). IsOfOneWorker (planned x.0 x.1) guess b.certificate.items)
     (one_reading query stations files (serial-b.asked, serial-b.held) (q, c) serial-b.read right-a.read)
     serial-b.alone in
-    let right : ArePapers q c b =
-    subst (λ (x : Asked × Contents). ArePapers x.0 x.1 b)
+    let right : AreRight q c b =
+    subst (λ (x : Asked × Contents). AreRight x.0 x.1 b)
     (one_reading query stations files (right-b.asked, right-b.held) (q, c) right-b.read right-a.read) right-b.right in
     record {
       report = one_report q c a.report.items b.report.items right-a.right.report right.report;

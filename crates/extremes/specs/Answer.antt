@@ -7,11 +7,19 @@ use Rattle.rank_sched.specs.Plan.{Planned, planned}
 use Rattle.rank_sched.specs.Task.{task_of}
 use Rattle.rank_sched.specs.Hauls.{AreSoundRecords}
 use Rattle.rank_sched.specs.Answers.{best_of_plan, lines_of, AreRecordsAlone}
-use Rattle.rank_papers.specs.Certificate.{certificate_of_best}
+use Rattle.rank_papers.specs.Certificate.{IsCertificate, certificate_of_best}
 use Rattle.rank_papers.specs.Report.{IsReport}
 use Rattle.rank_papers.specs.PlanPapers.{IsMeasuredCertificate, IsReportOfPlan, IsCertificateOfPlan}
 use Rattle.extremes.specs.declared.papers.Papers.{Papers}
 use Rattle.rank_input.specs.Input.{IsReadOf}
+
+-- papers are right for a query and data: the report is the right one, the certificate is a right one of version 2, and
+-- the lines of unlisted stations are counted
+pub record AreRight (q : Asked) (c : Contents) (papers : Papers) : Type 0 where
+  pub report : IsReport q c papers.report.items
+  pub certificate : IsCertificate q c papers.certificate.items
+  pub version : certificate.version ≡ 2
+  pub unlisted : papers.unlisted ≡ c.unlisted
 
 -- the papers of a query and data: the right report, a right certificate whose bounds are those of the series, and how
 -- many lines are of unlisted stations
@@ -26,12 +34,12 @@ pub record ArePapersOfPlan (p : Planned) (passed_over : ℕ) (papers : Papers) :
   pub certificate : IsCertificateOfPlan p papers.certificate.items
   pub unlisted : papers.unlisted ≡ passed_over
 
--- the papers answer the input: it has no fault, and they are those of what it asks and holds
+-- the papers answer the input: it has no fault, and they are right for what it asks and holds
 pub record Answers (query stations : List ℕ) (files : List (List ℕ)) (papers : Papers) : Type 0 where
   pub asked : Asked
   pub held : Contents
   pub read : IsReadOf query stations files asked held
-  pub right : ArePapers asked held papers
+  pub right : AreRight asked held papers
 
 -- the certificate of a run over a plan with these records: it is about the plan's best, and has the run's lines
 abbrev pub certificate_of_run : Planned → List Record → List ℕ
@@ -49,20 +57,24 @@ pub record IsOfOneWorker (p : Planned) (guess : Option ℤ) (bytes : List ℕ) :
   pub alone : AreRecordsAlone (task_of p) guess records
   pub printed : bytes ≡ certificate_of_run p records
 
--- the certificate is that of a sound run of so many workers over the plan of what the input asks and holds
+-- the certificate is that of a sound run of so many workers over the plan of what the input asks and holds, and its
+-- bounds are those of the series
 pub record IsCrewed (workers : ℕ) (guess : Option ℤ) (query stations : List ℕ) (files : List (List ℕ))
     (papers : Papers) : Type 0 where
   pub asked : Asked
   pub held : Contents
   pub read : IsReadOf query stations files asked held
+  pub bounds : IsMeasuredCertificate asked held papers.certificate.items
   pub crew : IsOfCrew (planned asked held) guess workers papers.certificate.items
 
--- the certificate is that of the run that one worker makes over the plan of what the input asks and holds
+-- the certificate is that of the run that one worker makes over the plan of what the input asks and holds, and its
+-- bounds are those of the series
 pub record IsSerial (guess : Option ℤ) (query stations : List ℕ) (files : List (List ℕ)) (papers : Papers)
     : Type 0 where
   pub asked : Asked
   pub held : Contents
   pub read : IsReadOf query stations files asked held
+  pub bounds : IsMeasuredCertificate asked held papers.certificate.items
   pub alone : IsOfOneWorker (planned asked held) guess papers.certificate.items
 
 -- these papers are the same, byte for byte

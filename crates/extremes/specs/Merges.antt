@@ -39,9 +39,9 @@ abbrev pub is_memory : MergingFault → Bool
 is_memory (Query cause) = false
 is_memory (Parts why) = merging.is_memory why
 
--- papers are those that are merged of these texts for the query of a text; wherever each part's are right for its files,
--- they are right for all files, with the bounds of the series if no station has series in two parts, and no station has
--- morsels in two; they tell of no line that was passed over
+-- papers are those that are merged of these texts for the query of a text; wherever each part's are right for its
+-- files, they are right for all files, with the bounds of the series if no station has series in two parts, and no
+-- station has morsels in two; they tell of no line that was passed over
 pub record AreMerged (query : List ℕ) (texts : List Texts) (papers : Papers) : Type 0 where
   pub asked : Asked
   pub read : read_query query ≡ Ok asked

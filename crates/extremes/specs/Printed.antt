@@ -30,17 +30,20 @@ IsReported papers before after delivery.Done = Appends before after papers.repor
 IsReported papers before after delivery.CertificateFailed = after ≡ before
 IsReported papers before after delivery.ReportFailed = HasBeginning papers.report.items before after
 
--- papers end done with the whole report written, or as a file that couldn't be written with a beginning of it; a fault
--- writes nothing
+-- a text ends done where it was written whole, or as a file that couldn't be written with a beginning of it
+abbrev pub IsShown : List ℕ → Option (List ℕ) → Option (List ℕ) → Ending → Type 0
+IsShown text before after Done = Appends before after text
+IsShown text before after Refused = ⊥
+IsShown text before after Words = ⊥
+IsShown text before after File = HasBeginning text before after
+
+-- of papers the report is shown; a fault writes nothing
 abbrev pub IsPrinted : {F : Type 0} → Result Papers F → Option (List ℕ) → Option (List ℕ) → Ending → Type 0
-IsPrinted (Ok papers) before after Done = Appends before after papers.report.items
-IsPrinted (Ok papers) before after Refused = ⊥
-IsPrinted (Ok papers) before after Words = ⊥
-IsPrinted (Ok papers) before after File = HasBeginning papers.report.items before after
+IsPrinted (Ok papers) before after ending = IsShown papers.report.items before after ending
 IsPrinted (Err fault) before after ending = (ending ≡ Refused) × (after ≡ before)
 
--- what is said of papers is printed as its line and ends the run as it says, or it ends as a file that couldn't be written; a fault
--- prints nothing and is refused
+-- what is said of papers is printed as its line and ends the run as it says, or it ends as a file that couldn't be
+-- written; a fault prints nothing and is refused
 abbrev pub IsTold : Result Judgement Fault → Option (List ℕ) → Option (List ℕ) → Ending → Type 0
 IsTold (Ok j) before after ending =
     ((ending ≡ ending_of j) × Appends before after (line_of j)) ⊎ (ending ≡ File)

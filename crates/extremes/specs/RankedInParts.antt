@@ -17,8 +17,8 @@ pub record IsRankedPart (query stations : List ℕ) (p : Filed) : Type 0 where
   pub contents : IsContents answer.held
   pub texts : p.1 ≡ (papers.report.items, papers.certificate.items)
 
--- what is ranked in parts and merged is ranked: the report is, byte for byte, the one that is answered to all files, and
--- the certificate is right for all files
+-- what is ranked in parts and merged is ranked: the report is, byte for byte, the one that is answered to all files,
+-- and the certificate is right for all files
 abbrev pub MergedIsRanked : Type 0
 MergedIsRanked = (query stations : List ℕ) (parts : List Filed) (whole merged : Papers)
     (answer : Answers query stations (all_files parts) whole) → IsContents answer.held

@@ -1,5 +1,5 @@
 -- What a run answers for what it was given, and for the files that are named.
-use Rattle.std.specs.Prelude.{◌≡◌, ℕ, ◌≤◌, Bool, true, false, List, map, Option, Result, Ok, Err, ℤ}
+use Rattle.std.specs.Prelude.{ℕ, ◌≤◌, Bool, true, false, List, map, Option, Result, Ok, Err, ℤ}
 use Rattle.std.specs.Prelude.{String, string_bytes}
 use Rattle.ghcn_fields.specs.Refusals.{IsRefusal}
 use Rattle.rank_input.specs.declared.fault.Fault.{Fault}

@@ -41,7 +41,7 @@ pub fn deliver<C: Write, R: Write>(
 }
 
 /// Writes a paper to its end and flushes it. Whether that was done.
-fn write_whole<W: Write>(paper: &[u8], out: &mut W) -> bool
+pub(crate) fn write_whole<W: Write>(paper: &[u8], out: &mut W) -> bool
     ensures { IsWritten paper.now (W.contents out.old) (W.contents out.new) result }
 {
     let mut rest = paper;

@@ -6,7 +6,7 @@ ghost use Rattle.extremes.specs.Ending.{status_of};
 /// The end of a run.
 #[derive(Clone, Copy, Debug, PartialEq, Eq)]
 pub enum Ending {
-    /// The report was written, or the papers were accepted.
+    /// The report or the version was written, or the papers were accepted.
     Done,
     /// The input was refused, or the papers were.
     Refused,

@@ -2,9 +2,9 @@
 
 ghost use Rattle.std.specs.Prelude.{◌≡◌};
 ghost use Rattle.extremes.specs.declared.ending.Ending.TheVariants as endings;
-ghost use Rattle.extremes.specs.Printed.{IsPrinted, IsReported, IsTold};
+ghost use Rattle.extremes.specs.Printed.{IsPrinted, IsReported, IsShown, IsTold};
 
-use crate::delivery::{Delivery, deliver};
+use crate::delivery::{Delivery, deliver, write_whole};
 use crate::ending::Ending;
 use crate::judge::ending;
 use crate::judgement::Judgement;
@@ -51,6 +51,17 @@ pub(crate) fn not_written<R: Eprint>(rt: &R, path: &str) -> Ending
 {
     let _ = eprintln!(rt; "file not written {path}");
     Ending::File
+}
+
+/// Prints a text that was asked for.
+pub(crate) fn print_text<R: Eprint, W: Write>(rt: &R, text: &str, out: &mut W) -> Ending
+    ensures { IsShown text.now (W.contents out.old) (W.contents out.new) result }
+{
+    if write_whole(text.as_bytes(), out) {
+        Ending::Done
+    } else {
+        not_written(rt, "-")
+    }
 }
 
 /// Prints the papers behind a word on what was passed over, or tells the fault. The certificate

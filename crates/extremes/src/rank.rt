@@ -5,6 +5,7 @@ ghost use Rattle.ghcn_series.specs.Held.{IsContents};
 ghost use Rattle.extremes.specs.Answer.{Answers, ArePapers, ArePapersOfPlan, IsCrewed, IsOfCrew};
 ghost use Rattle.extremes.specs.Answer.{IsOfOneWorker, IsSerial, SerialPapersAreOne};
 ghost use Rattle.rank_papers.specs.Certificate.{certificate_of_best};
+ghost use Rattle.rank_papers.specs.PlanPapers.{IsMeasuredCertificate};
 ghost use Rattle.ghcn_fields.specs.Refusals.{IsRefusal};
 ghost use Rattle.rank_input.specs.Input.{is_crew, is_guess, read_run, is_memory};
 ghost use Rattle.rank_input.specs.Taken.{HasTakenSome, RefusesInput};
@@ -170,8 +171,8 @@ fn ranked_by_crew<R: Threads + Wait + AllocGlobal + Sync, G: Gate + Sync>(
     requires guess { is_guess guess ≡ true }
     requires contents { IsContents held.now }
     ensures ok { IfOk result (ArePapers query.now held.now) }
-    ensures crew { IfOk result (λ papers.
-        IsOfCrew (planned query.now held.now) guess workers papers.certificate.items) }
+    ensures crew { IfOk result (λ papers. IsMeasuredCertificate query.now held.now papers.certificate.items
+        × IsOfCrew (planned query.now held.now) guess workers papers.certificate.items) }
     ensures err { IfErr result (λ fault. is_memory fault ≡ true) }
 {
     ends_are_sound();

@@ -7,7 +7,9 @@ ghost use Rattle.extremes.specs.Merges.{known_part};
 use crate::ending::Ending;
 use crate::files::{Judging, Ranking, judge_files, merge_files, rank_files};
 use crate::papers::Papers;
-use crate::print::{not_read, not_written, print_answer, print_judgement, print_ranked, refused};
+use crate::print::{
+    not_read, not_written, print_answer, print_judgement, print_ranked, print_text, refused,
+};
 use crate::rank::rank_serial;
 use crate::sample;
 use crate::target::{is_in_use, is_paper_or_output};
@@ -41,6 +43,7 @@ pub fn run<R: Files + Env + Print + Eprint + Threads + Wait + AllocGlobal + Sync
             let _ = eprint!(rt; "{text}");
             Ending::Words
         }
+        Err(CommandFault::Version(text)) => print_text(rt, &text, &mut io::writer(rt)),
         Err(CommandFault::Memory) => refused(rt, Fault::Memory(Memory)),
     }
 }

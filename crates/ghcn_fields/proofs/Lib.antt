@@ -14,3 +14,4 @@ pub mod FieldsByForm
 pub mod FieldsByKind
 pub mod Ordered
 pub mod FieldLanes
+pub mod GroupLanes

@@ -55,7 +55,8 @@ module _ {L W : Type 0} (fault : List L → L → Option W) where
   one_more earlier [] l all none = (ap (λ (ls : List L). fault ls l) (sym (append-nil earlier)) ∙ none, tt)
   one_more earlier (x ∷ xs) l all none = (
     all.0,
-    one_more (earlier ++ x ∷ []) xs l all.1 (ap (λ (ls : List L). fault ls l) (append_assoc earlier (x ∷ []) xs) ∙ none),
+    one_more (earlier ++ x ∷ []) xs l all.1
+        (ap (λ (ls : List L). fault ls l) (append_assoc earlier (x ∷ []) xs) ∙ none),
   )
 
   -- lines without a fault, and one more
@@ -66,7 +67,8 @@ module _ {L W : Type 0} (fault : List L → L → Option W) where
   nothing_found : (earlier ls : List L) → NoneAfter earlier ls → first_fault_after fault earlier ls ≡ None
   nothing_found earlier [] none = refl
   nothing_found earlier (x ∷ xs) none =
-      ap (λ (o : Option W). option_or (option_map (λ w. (x, w)) o) (first_fault_after fault (earlier ++ x ∷ []) xs)) none.0
+      ap (λ (o : Option W). option_or (option_map (λ w. (x, w)) o) (first_fault_after fault (earlier ++ x ∷ []) xs))
+      none.0
       ∙ nothing_found (earlier ++ x ∷ []) xs none.1
 
   -- among lines without a fault none is found

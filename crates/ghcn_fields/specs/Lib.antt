@@ -15,3 +15,4 @@ pub mod Sorting
 pub mod Counting
 pub mod CountingLaws
 pub mod Floor
+pub mod Groups

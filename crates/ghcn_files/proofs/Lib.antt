@@ -9,5 +9,7 @@ pub mod StationTests
 pub mod PrintedText
 pub mod Adding
 pub mod ReadLines
+pub mod GroupValues
 pub mod Rows
+pub mod FlaggedDays
 pub mod WholeLines

@@ -6,3 +6,4 @@ pub mod KeptStations
 pub mod IdLaws
 pub mod Months
 pub mod Rows
+pub mod Flags

@@ -46,7 +46,7 @@ impl Element {
     }
 
     /// The four letters that name the element.
-    fn code(self) -> &'static str
+    pub fn code(self) -> &'static str
         ensures { result.now ≡ code_of self }
     {
         match self {

@@ -7,6 +7,7 @@
 mod columns;
 mod element;
 mod fault;
+mod flags;
 mod missing;
 mod month;
 mod row;
@@ -15,6 +16,7 @@ mod stations;
 
 pub use element::Element;
 pub use fault::{LineWhy, StationWhy, StationsFault};
+pub use flags::flagged_values;
 pub use month::{Month, Reading, read_month};
 pub use row::{MonthRow, read_days};
 pub use station::{Station, StationId, are_visible};

@@ -228,6 +228,18 @@ pub(crate) fn two_groups(line: &[u8], day: usize) -> &[u8; 16]
     }
 }
 
+/// The groups of four days, a day from 0 and the next three.
+pub(crate) fn four_groups(line: &[u8], day: usize) -> &[u8; 32]
+    requires long { 269 ≤ length line.now }
+    requires day { day < 28 }
+    ensures { result.now ≡ take 32 (drop (21 + 8 * day) line.now) }
+{
+    match line[FIRST_GROUP + GROUP * day..].first_chunk() {
+        Some(groups) => groups,
+        None => unreachable!(),
+    }
+}
+
 /// Whether the quality flag of a day, from 0, isn't a blank.
 pub(crate) fn is_flagged(line: &[u8], day: usize) -> bool
     requires { day < 31 }

@@ -7,11 +7,9 @@ ghost use Rattle.ghcn_files.specs.Months as months;
 ghost use Rattle.ghcn_files.specs.Rows as rows;
 
 use crate::missing::MISSING;
-use crate::month::{
-    COLUMNS, DAYS, UP_TO_ELEMENT, head_of, is_flagged, readings, two_groups, value_column,
-};
+use crate::month::{COLUMNS, DAYS, UP_TO_ELEMENT, four_groups, head_of, readings, two_groups};
 use crate::{Element, LineWhy, StationId};
-use ghcn_fields::{are_set, days_in_month, good_columns, value_or};
+use ghcn_fields::{are_set, days_in_month, four_numbers, good_columns};
 use std::simd::prelude::*;
 
 /// The days of a month whose values count: those that the month has, whose value isn't missing,
@@ -141,38 +139,39 @@ fn days_of(element: Element, count: u8, line: &[u8]) -> Result<(u32, [i32; 32]),
     ensures fine { IfOk result (λ _. months.days_why line.now ≡ None) }
     ensures days { IfOk result (λ row. rows.AreDays (rows.line_value element count line.now) row.0 row.1) }
 {
-    let mut values = [MISSING; 32];
-    if read_values(line, &mut values) {
+    if has_bad_value(line) {
         test_values(line)?;
     }
-    Ok(values_from(least_of(element), count, &values))
+    Ok(values_from(least_of(element), count, &values_of(line)))
 }
 
-/// Reads the values of a line, and answers whether one is bad. `MISSING` stands for those that are missing
-/// or flagged.
-fn read_values(line: &[u8], values: &mut [i32; 32]) -> bool
-    requires { 266 ≤ length line.now }
-    ensures fine { result ≡ false → months.days_why line.now ≡ None }
-    ensures values { rows.AreValues line.now values.new }
+/// The values of a line whose values are numbers. `MISSING` stands for those that are missing or flagged.
+fn values_of(line: &[u8]) -> [i32; 32]
+    requires long { 266 ≤ length line.now }
+    requires fine { months.days_why line.now ≡ None }
+    ensures { rows.AreValues line.now result }
 {
     match line.first_chunk() {
-        Some(whole) => read_whole(whole, values),
-        None => read_whole(&with_blanks(line), values),
+        Some(whole) => values_in(whole),
+        None => values_in(&with_blanks(line)),
     }
 }
 
-/// The same of a line with all its columns: no branch depends on a value, and no place on its length.
-fn read_whole(line: &[u8; COLUMNS], values: &mut [i32; 32]) -> bool
-    ensures fine { result ≡ false → months.days_why line.now ≡ None }
-    ensures values { rows.AreValues line.now values.new }
+/// The same of a line with all its columns, four days at a time: the last four come with the one before them.
+fn values_in(line: &[u8; COLUMNS]) -> [i32; 32]
+    requires { months.days_why line.now ≡ None }
+    ensures { rows.AreValues line.now result }
 {
-    let mut any_is_bad = false;
-    for day in 0..DAYS {
-        let (is_bad, value) = value_or(value_column(line, day), MISSING);
-        any_is_bad |= is_bad;
-        values[day] = value_if(!is_flagged(line, day), value, MISSING);
+    let mut values = [MISSING; 32];
+    for part in 0..8_usize {
+        let day = (4 * part).min(DAYS - 4);
+        let four = four_numbers(four_groups(line, day), MISSING);
+        values[day] = four[0];
+        values[day + 1] = four[1];
+        values[day + 2] = four[2];
+        values[day + 3] = four[3];
     }
-    any_is_bad
+    values
 }
 
 /// A line with the blanks that its end leaves out.

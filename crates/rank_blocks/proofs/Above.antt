@@ -1,9 +1,9 @@
 -- No candidate has a score above the bound.
-use Rattle.std.proofs.Common.{◌≡◌, ℕ, zero, suc, ◌+◌, ◌*◌, ◌<◌, ◌≤◌, Bool, true, false, cond, List, [], ◌∷◌, map}
-use Rattle.std.proofs.Common.{filter, Option, Some, None, refl, sym, ap, ◌∙◌, subst, arith, ℤ, pos, negsuc, neg_ℤ, ◌≤ℤ◌}
+use Rattle.std.proofs.Common.{◌≡◌, ℕ, zero, suc, ◌*◌, ◌<◌, ◌≤◌, Bool, true, false, cond, List, [], ◌∷◌, map}
+use Rattle.std.proofs.Common.{filter, Option, Some, None, refl, sym, ap, ◌∙◌, subst, arith, ℤ, pos, neg_ℤ, ◌≤ℤ◌}
 use Rattle.std.proofs.Common.{◌+ℤ◌, ◌*ℤ◌}
 use Rattle.std.specs.Prelude.{◌&&◌, ◌||◌, int_le, ◌-ℤ◌}
-use Rattle.std.specs.List.{AllByRecursion, Contains, filter_map, cons_option, list_all, find}
+use Rattle.std.specs.List.{AllByRecursion, Contains, filter_map, list_all, find}
 use Rattle.std.specs.Option.{option_map}
 use Rattle.std.specs.Ordering.{int_eq}
 use Rattle.std.proofs.lemmas.Bool.Decides.{Decides-int_eq}
@@ -11,7 +11,6 @@ use Rattle.std.proofs.lemmas.Int.{ints, clamps}
 use Rattle.ghcn_fields.specs.Days.{block_of, is_day}
 use Rattle.ghcn_files.specs.declared.station.StationId.{StationId}
 use Rattle.ghcn_files.specs.declared.element.Element.{Element}
-use Rattle.ghcn_files.specs.declared.element.Element.TheVariants.{Prcp, Snow, Snwd, Tmax, Tmin}
 use Rattle.ghcn_files.specs.Elements.{may_be_negative}
 use Rattle.ghcn_series.specs.Series.{DayValue, Usable, IsSeries, value_on, is_value}
 use Rattle.rank_query.specs.declared.score.Score.{Score}
@@ -40,13 +39,7 @@ module _ (id : StationId) (f : DayValue → Option (ℤ × ℤ)) (bound : ℤ) w
   pub candidates-below : (days : List DayValue) → AllByRecursion (λ x. (e : ℤ × ℤ) → f x ≡ Some e → e.1 ≤ℤ bound) days
       → AllByRecursion (λ c. c.score ≤ℤ bound) (filter_map (λ x. option_map (candidate id x.0) (f x)) days)
   candidates-below [] h = tt
-  candidates-below (x ∷ xs) h =
-      elim (f x) as (λ o. f x ≡ o
-      → AllByRecursion (λ c. c.score ≤ℤ bound)
-      (cons_option (option_map (candidate id x.0) o) (filter_map (λ x. option_map (candidate id x.0) (f x)) xs))) [
-        | None ↦ λ e. candidates-below xs h.1
-        | Some b ↦ λ e. (h.0 b e, candidates-below xs h.1)
-      ] refl
+  candidates-below (x ∷ xs) h = grind (arith, ints, candidates-below xs h.1)
 
 -- ---- single days
 
@@ -109,9 +102,7 @@ module _ (such : ℤ → Bool) where
 -- the score of a spell that begins is its length
 spell-score : (b : Bool) (first : ℤ) (len : ℕ) (e : ℤ × ℤ) → cond {A = Option (ℤ × ℤ)} b
     (Some (first +ℤ pos len -ℤ pos 1, pos len)) None ≡ Some e → pos len ≡ e.1
-spell-score true first len e is = let pair : (first +ℤ pos len -ℤ pos 1, pos len) ≡ e = cc in
-    ap (λ (p : ℤ × ℤ). p.1) pair
-spell-score false first len e is = absurd cc
+spell-score x first len e is = grind (arith, ints)
 
 -- such an admitted day is such a day of those reached
 reached-such : (test : ℤ → Bool) (q : Asked) (s : Usable) (d : ℤ) → is_such test (admitted q s) d ≡ true
@@ -165,27 +156,20 @@ AreFallen days = AllByRecursion (λ x. pos 0 ≤ℤ x.1) days
 -- a sum that there is has both its parts
 plus-parts : (a b : Option ℤ) (t : ℤ) → plus a b ≡ Some t → (v : ℤ) × (w : ℤ) × (a ≡ Some v) × (b ≡ Some w)
     × (t ≡ v +ℤ w)
-plus-parts None b t e = absurd cc
-plus-parts (Some v) None t e = absurd cc
-plus-parts (Some v) (Some w) t e = (v, w, refl, refl, cc)
+plus-parts x k t e = grind (arith, ints)
 
 -- n times a number, and once more
 times-suc : (n : ℕ) (z : ℤ) → pos (suc n) *ℤ z ≡ z +ℤ (pos n *ℤ z)
-times-suc n (pos a) = let more : suc n * a ≡ a + n * a = grind arith in omega (arith, ints)
-times-suc n (negsuc a) = let more : suc n * suc a ≡ suc a + n * suc a = grind arith in omega (arith, ints)
+times-suc n k = grind (arith, ints)
 
 -- no times a number is nothing
 no-times : (z : ℤ) → pos 0 *ℤ z ≡ pos 0
-no-times (pos a) = let none : 0 * a ≡ 0 = grind arith in omega (arith, ints)
-no-times (negsuc a) = let none : 0 * suc a ≡ 0 = grind arith in omega (arith, ints)
+no-times x = grind (arith, ints)
 
 -- a window of n days has at most n times the greatest value
 window-times : (days : List DayValue) (z : ℤ) → AllByRecursion (λ x. x.1 ≤ℤ z) days → (n : ℕ) (a t : ℤ)
     → window_total days n a ≡ Some t → t ≤ℤ (pos n *ℤ z)
-window-times days z most zero a t e =
-    let is : pos 0 ≡ t = cc in
-    let none = no-times z in
-    omega (arith, ints)
+window-times days z most zero a t e = grind (arith, ints, no-times)
 window-times days z most (suc n) a t e =
     let parts = plus-parts (value_on days a) (window_total days n (a +ℤ pos 1)) t e in
     let rest = window-times days z most n (a +ℤ pos 1) parts.1 parts.3 in
@@ -197,18 +181,13 @@ window-times days z most (suc n) a t e =
 total-of_both : (p u w : DayValue → Bool) (days : List DayValue) → AreFallen days
     → ((x : DayValue) → p x ≡ true → w x ≡ true)
     → total (map (λ x. x.1) (filter p (filter u days))) ≤ℤ total (map (λ x. x.1) (filter w days))
-total-of_both p u w days falls wider =
-    subst (λ (ys : List DayValue). total (map (λ x. x.1) ys) ≤ℤ total (map (λ x. x.1) (filter w days)))
-    (sym (filter-both p u days))
-    (total-wider (λ x. x.1) (λ x. u x && p x) w days falls
-    (each (λ x. (u x && p x) ≡ true → w x ≡ true) days (λ x e. wider x (both_pass (u x) (p x) e).1)))
+total-of_both p u w days falls wider = grind (arith, ints, filter-both, total-wider, each, both_pass)
 
 -- those of some days that pass a test have at most the total of those that pass a wider one
 total-wide : (p w : DayValue → Bool) (days : List DayValue) → AreFallen days
     → ((x : DayValue) → p x ≡ true → w x ≡ true)
     → total (map (λ x. x.1) (filter p days)) ≤ℤ total (map (λ x. x.1) (filter w days))
-total-wide p w days falls wider =
-    total-wider (λ x. x.1) p w days falls (each (λ x. p x ≡ true → w x ≡ true) days wider)
+total-wide p w days falls wider = grind (arith, ints, total-wider, each)
 
 -- no total of such days is below zero
 pub total-fallen : (p : DayValue → Bool) (days : List DayValue) → AreFallen days
@@ -244,10 +223,7 @@ in_window a n x = is_among a n x.0
 -- the sum of a window is at most the total of its days
 window-total : (days : List DayValue) → AreFallen days → (n : ℕ) (a t : ℤ) → window_total days n a ≡ Some t
     → t ≤ℤ total (map (λ x. x.1) (filter (in_window a n) days))
-window-total days falls zero a t e =
-    let is : pos 0 ≡ t = cc in
-    let none = total-fallen (in_window a 0) days falls in
-    omega (arith, ints)
+window-total days falls zero a t e = grind (arith, ints, total-fallen)
 window-total days falls (suc n) a t e =
     let parts = plus-parts (value_on days a) (window_total days n (a +ℤ pos 1)) t e in
     let rest = window-total days falls n (a +ℤ pos 1) parts.1 parts.3 in
@@ -262,17 +238,11 @@ window-total days falls (suc n) a t e =
 -- the days of a window lie in so many blocks from that of its first day on
 window-blocks : (a : ℤ) (n : ℕ) (x : DayValue) → in_window a n x ≡ true → is_among (block_of a) (blocks_of_window n)
     (block_of x.0) ≡ true
-window-blocks a n x e =
-    let parts = among-parts a n x.0 e in
-    let low = parts.0 in
-    let first = block-holds a in
-    let day = block-holds x.0 in
-    among-from (block_of a) (blocks_of_window n) (block_of x.0) (block-rises a x.0 low) (omega (arith, ints))
+window-blocks a n x e = grind (arith, ints, among-parts, block-holds, among-from, block-rises)
 
 -- the score of a window is its sum
 window-score : (o : Option ℤ) (d : ℤ) (e : ℤ × ℤ) → option_map (λ (t : ℤ). (d, t)) o ≡ Some e → o ≡ Some e.1
-window-score None d e is = absurd cc
-window-score (Some t) d e is = let pair : (d, t) ≡ e = cc in ap (λ (p : ℤ × ℤ). Some p.1) pair
+window-score x d e is = grind (arith, ints)
 
 -- those of some days that pass a test have no value above one that none of them has
 most-admitted : (q : Asked) (s : Usable) (z : ℤ) → IsGreatest (IsScore (λ v. v) (days_reached q s)) z
@@ -310,11 +280,7 @@ windows-below n q s z falls of_z =
 
 -- rain and snow are never negative
 fall-is : (e : Element) → is_fall e ≡ true → may_be_negative e ≡ false
-fall-is Prcp h = refl
-fall-is Snow h = refl
-fall-is Snwd h = absurd cc
-fall-is Tmax h = absurd cc
-fall-is Tmin h = absurd cc
+fall-is x h = grind (arith, ints)
 
 -- where an element isn't negative, its values are at least zero
 values-fall : (e : Element) (days : List DayValue) → may_be_negative e ≡ false
@@ -351,5 +317,4 @@ above-for (Hot t) q s z falls of_z = spells-in_blocks (is_hot t) q s z of_z
 -- no candidate of the series has a score above the bound
 pub bound-IsAbove : (q : Asked) (s : Usable) (z : ℤ) → IsAsked q → IsSeries s → s.element ≡ score_element q.score
     → IsBound q s z → IsAbove q s z
-bound-IsAbove q s z asked series element of_z =
-    above-for q.score q s z (λ n e is. sums-fall q s n e asked series element is) of_z
+bound-IsAbove q s z asked series element of_z = grind (arith, ints, above-for, sums-fall)

@@ -4,7 +4,7 @@ use Rattle.std.proofs.Common.{set, Option, Some, None, refl, sym, ap, ◌∙◌,
 use Rattle.std.specs.Prelude.{◌==◌}
 use Rattle.std.specs.Int.{bit_at}
 use Rattle.std.specs.List.{AllByRecursion}
-use Rattle.std.specs.Option.{option_map_or, unwrap_or}
+use Rattle.std.specs.Option.{unwrap_or}
 use Rattle.std.specs.Ordering.{int_eq}
 use Rattle.std.proofs.lemmas.Bool.Decides.{Decides-int_eq}
 use Rattle.std.proofs.lemmas.Grind.{get_or-set_at}
@@ -14,7 +14,6 @@ use Rattle.std.proofs.lemmas.Nat.Bits.{bit_at-lt}
 use Rattle.ghcn_fields.specs.Days.{block_of}
 use Rattle.ghcn_series.specs.Packed.{if_so, AreRising, IsBlockOf}
 use Rattle.ghcn_series.specs.Series.{DayValue, value_on}
-use Rattle.rank_scores.specs.Candidates.{is_such}
 use Rattle.rank_scores.specs.declared.spell.Spell.{Spell}
 use Rattle.rank_blocks.specs.declared.summary.Summary.{Summary}
 use Rattle.rank_blocks.specs.Blocks.{days_in, block_start, total}
@@ -22,7 +21,7 @@ use Rattle.rank_blocks.specs.DayRuns.{AreBitsOf}
 use Rattle.rank_blocks.specs.Greatest.{IsGreatest, IsScore}
 use Rattle.rank_blocks.specs.Reached.{counts}
 use Rattle.rank_blocks.specs.Summaries.{HasDay, HasDays}
-use Rattle.rank_blocks.specs.Values.{IsUsableScore, IsWordOf}
+use Rattle.rank_blocks.specs.Values.{IsUsableScore}
 use Rattle.rank_blocks.proofs.Members.{all-passing, pick, stands}
 use Rattle.rank_blocks.proofs.DayTests.{distance}
 use Rattle.rank_blocks.proofs.DayValues.{other-int_eq, value_on-between, value_on-behind, own-values, block-holds}
@@ -117,35 +116,26 @@ block-total (x ∷ xs) b values rise size are =
 -- the summary of a block has the greatest score of its days
 pub has-day : (f : ℤ → ℤ) (days : List DayValue) (b z : ℤ) (m : Summary) → m.number ≡ b → m.day ≡ z
     → IsGreatest (IsScore f (days_in days b)) z → HasDay f days m
-has-day f days b z m number day of_z =
-    subst (λ (n : ℤ). IsGreatest (IsScore f (days_in days n)) m.day) (sym number)
-    (subst (IsGreatest (IsScore f (days_in days b))) (sym day) of_z)
+has-day f days b z m number day of_z = grind (arith, ints)
 
 -- and those of its days that count
 pub has-days : (k : Spell) (days : List DayValue) (b : ℤ) (word : ℕ) (m : Summary) → m.number ≡ b → m.days ≡ word
     → AreBitsOf (counts k days) b word → HasDays k days m
-has-days k days b word m number is bits =
-    subst (λ (n : ℤ). AreBitsOf (counts k days) n m.days) (sym number)
-    (subst (AreBitsOf (counts k days) b) (sym is) bits)
+has-days k days b word m number is bits = grind (arith, ints)
 
 -- ---- a block of a series
 
 -- a choice that is something was made
 made : (t : Bool) (v z : ℤ) → if_so t v ≡ Some z → (t ≡ true) × (v ≡ z)
-made true v z e = (refl, cc)
-made false v z e = absurd cc
+made x v z e = grind (arith, ints)
 
 -- a set bit is 1
 bit-one : (k : ℕ) → k < 2 → (k == 1) ≡ true → k ≡ 1
-bit-one zero lt e = absurd cc
-bit-one (suc zero) lt e = refl
-bit-one (suc (suc k)) lt e = absurd (omega arith)
+bit-one x lt e = grind (arith, ints)
 
 -- a bit is 0 or 1
 value-or_zero : (k : ℕ) (v : ℤ) → k < 2 → (k ≡ 0 → v ≡ pos 0) → v ≡ unwrap_or (if_so (k == 1) v) (pos 0)
-value-or_zero zero v lt zeros = zeros refl
-value-or_zero (suc zero) v lt zeros = refl
-value-or_zero (suc (suc k)) v lt zeros = absurd (omega arith)
+value-or_zero x v lt zeros = grind (arith, ints)
 
 module _ (days : List DayValue) (rise : AreRising days) (b : ℤ) (word : ℕ) (values : List ℤ)
     (of_block : IsBlockOf days b word values) where
@@ -177,26 +167,13 @@ module _ (days : List DayValue) (rise : AreRising days) (b : ℤ) (word : ℕ) (
   -- the greatest score of the usable days is that of the block's days
   pub block-score : (f : ℤ → ℤ) (z : ℤ) → IsGreatest (IsUsableScore f word values) z
       → IsGreatest (IsScore f (days_in days b)) z
-  block-score f z of_z = record {
-    is_one = score-stands f z of_z.is_one;
-    is_most = λ y h. of_z.is_most y (score-of f y h);
-  }
+  block-score f z of_z = grind (arith, ints, score-stands, score-of)
 
   -- the total of the values is that of the block's days
   pub block-sum : length values ≡ 32 → total (map (λ x. x.1) (days_in days b)) ≡ total values
-  block-sum size =
-      block-total days b values rise size
-      (λ j lt. value-or_zero (bit_at word j) (get_or values j (pos 0)) (bit_at-lt word j) (of_block.zeros j lt)
-      ∙ ap (λ (o : Option ℤ). unwrap_or o (pos 0)) (of_block.holds j lt))
-
-  -- the word of the usable days whose values pass is that of the block's days
-  pub block-bits : (test : ℤ → Bool) (passing : ℕ) → IsWordOf test word values passing
-      → AreBitsOf (is_such test days) b passing
-  block-bits test passing is = λ j lt. is j lt ∙ ap (λ (o : Option ℤ). option_map_or test o false) (of_block.holds j lt)
+  block-sum size = grind (arith, ints, block-total, value-or_zero, get_or, bit_at-lt)
 
   -- a usable day's bit is of a day that has a value
   pub block-day : (P : ℤ → ℤ → Type 0) → AllByRecursion (λ x. P x.0 x.1) days → (j : ℕ) → j < 32 → bit_at word j ≡ 1
       → P (block_start b +ℤ pos j) (get_or values j (pos 0))
-  block-day P all j lt bit =
-      value_on-among P days (block_start b +ℤ pos j) (get_or values j (pos 0)) all
-      (sym (of_block.holds j lt) ∙ ap (λ (k : ℕ). if_so (k == 1) (get_or values j (pos 0))) bit)
+  block-day P all j lt bit = grind (arith, ints, value_on-among, get_or)

@@ -1,12 +1,11 @@
 -- One more summary of a list, as a loop comes to it.
 use Rattle.std.proofs.Common.{◌≡◌, ℕ, ◌+◌, ◌-◌, ◌*◌, ◌<◌, ◌≤◌, Bool, true, false, cond, List, [], ◌∷◌, ◌++◌, map}
-use Rattle.std.proofs.Common.{length, get_or, take, drop, Option, Some, None, sym, ap, ◌∙◌, subst, arith, ℤ, pos, neg_ℤ}
+use Rattle.std.proofs.Common.{length, get_or, take, drop, Option, Some, sym, ap, ◌∙◌, subst, arith, ℤ, pos, neg_ℤ}
 use Rattle.std.proofs.Common.{◌≤ℤ◌, ◌<ℤ◌, ◌+ℤ◌, to_z, of_z, w64}
 use Rattle.std.specs.Int.{int_max}
 use Rattle.std.specs.Prelude.{int_le}
 use Rattle.rank_blocks.specs.Blocks.{is_among}
 use Rattle.rank_blocks.specs.Greatest.{IsGreatest}
-use Rattle.std.specs.Option.{IfSome, unwrap_or}
 use Rattle.std.proofs.lemmas.Int.{ints}
 use Rattle.std.proofs.lemmas.List.{append-nil, map-append, drop_all, drop_more, take_all, length-drop}
 use Rattle.std.proofs.lemmas.List.Elements.{All-from_recursion, All-get_or, filter_more}
@@ -20,6 +19,7 @@ use Rattle.rank_blocks.proofs.DayTests.{int_le-true}
 use Rattle.rank_blocks.proofs.PossibleBlocks.{sorted-behind, possible-drop}
 use Rattle.rank_blocks.proofs.WindowTotals.{AreBehind, AreFalls, IsSoFar, total-in, total-out, total-behind, so_far-in}
 use Rattle.rank_blocks.proofs.WindowTotals.{so_far-out, so_far-end}
+use Rattle.std.proofs.Common.{rules}
 
 -- what stands behind the end of a list of summaries
 abbrev pub no_block : Summary
@@ -44,10 +44,7 @@ possible-at ms i lt h = All-get_or IsPossible ms i no_block lt (All-from_recursi
 -- what is left behind a summary has greater numbers
 pub behind-left : (ms : List Summary) (i : ℕ) → i < length ms → ArePossible ms
     → AreBehind (block_at ms i).number (drop (i + 1) ms)
-behind-left ms i lt h =
-    let here : ArePossible (block_at ms i ∷ drop (i + 1) ms) = subst ArePossible (left-at ms i lt)
-    (possible-drop ms i h) in
-    sorted-behind (block_at ms i) (drop (i + 1) ms) here.by_number
+behind-left ms i lt h = grind (arith, ints, left-at ms i lt, possible-drop ms i h, sorted-behind)
 
 -- ---- the greatest day
 
@@ -69,9 +66,7 @@ module _ (f : Summary → ℤ) (r : BlockRange) (ms : List Summary) (i : ℕ) (l
       → f (block_at ms i) ≡ z → ((zs : List ℤ) → greatest zs ≡ found → greatest (zs ++ z ∷ []) ≡ Some next)
       → greatest (made f r ms (i + 1)) ≡ Some next
   greatest-in found z next holds so_far is greater =
-      ap greatest (made-next true holds ∙ map-append f (summaries_in r (take i ms)) (block_at ms i ∷ [])
-      ∙ ap (λ (y : ℤ). made f r ms i ++ y ∷ []) is)
-      ∙ greater (made f r ms i) so_far
+      grind (arith, ints, made-next true holds, map-append f (summaries_in r (take i ms)) (block_at ms i ∷ []))
 
   -- with another one
   pub greatest-out : in_range r (block_at ms i).number ≡ false → greatest (made f r ms (i + 1)) ≡ greatest
@@ -80,13 +75,7 @@ module _ (f : Summary → ℤ) (r : BlockRange) (ms : List Summary) (i : ℕ) (l
 
 -- a score that days can have is read as it was written
 pub near-read : (z : ℤ) → IsNear z → to_z w64 (of_z w64 z) ≡ z
-near-read z near =
-    omega (arith, ints)
-
--- a score that was found is one that days can have, and so is none
-pub near-or_none : (o : Option ℤ) → IfSome o IsNear → IsNear (unwrap_or o (pos 0))
-near-or_none None h = record { low = omega (arith, ints); high = omega (arith, ints) }
-near-or_none (Some z) h = h
+near-read z near = grind (arith, ints)
 
 -- ---- totals
 
@@ -105,32 +94,17 @@ module _ (ms : List Summary) (possible : ArePossible ms) (w : ℕ) (first : ℤ)
   -- with the summary at the place the sum stays in bounds
   pub sum-bounds : (neg_ℤ (pos (68_719_476_736 * (i + 1))) ≤ℤ (sum +ℤ (block_at ms i).total))
       × ((sum +ℤ (block_at ms i).total) ≤ℤ pos (68_719_476_736 * (i + 1)))
-  sum-bounds =
-      let is = (possible-at ms i lt possible).small in
-      (omega (arith, ints), omega (arith, ints))
+  sum-bounds = grind (arith, ints, possible-at ms i lt possible)
 
   -- a block of the window is added
   pub sum-in : (next : ℤ) → next ≡ sum +ℤ (block_at ms i).total → is_among first w (block_at ms i).number ≡ true
       → IsSumTo ms w first (i + 1) next
-  sum-in next is among =
-      let bounds = sum-bounds in
-      let low = bounds.0 in
-      let high = bounds.1 in
-      let left = left-total in
-      let added = total-in (block_at ms i) (drop (i + 1) ms) w first among in
-      let whole = far.whole in
-      record { low = omega (arith, ints); high = omega (arith, ints); whole = omega (arith, ints) }
+  sum-in next is among = search (rules, arith, sum-bounds, left-total, total-in)
 
   -- another block isn't
   pub sum-out : (next : ℤ) → next ≡ sum → is_among first w (block_at ms i).number ≡ false
       → IsSumTo ms w first (i + 1) next
-  sum-out next is out =
-      let low = far.low in
-      let high = far.high in
-      let left = left-total in
-      let same = total-out (block_at ms i) (drop (i + 1) ms) w first out in
-      let whole = far.whole in
-      record { low = omega (arith, ints); high = omega (arith, ints); whole = omega (arith, ints) }
+  sum-out next is out = grind (arith, ints, left-total, total-out)
 
   -- behind the window nothing is left to add up
   pub sum-past : int_le (first +ℤ pos w) (block_at ms i).number ≡ true → sum ≡ summaries_total ms w first
@@ -174,14 +148,10 @@ module _ (r : BlockRange) (w : ℕ) (ms : List Summary) (possible : ArePossible 
 
   -- another block changes nothing
   pub most-out : (next : ℤ) → next ≡ found → in_range r (block_at ms i).number ≡ false → IsMostTo r w ms (i + 1) next
-  most-out next is out falls le =
-      subst (IsSoFar r w ms (drop (i + 1) ms)) (sym is)
-      (so_far-out r w ms (block_at ms i) (drop (i + 1) ms) found (most-here falls le) (falls-here falls)
-      (behind-left ms i lt possible) out)
+  most-out next is out falls le = grind (arith, ints, IsSoFar, so_far-out, most-here, falls-here, behind-left)
 
 -- behind the last block
 pub most-end : (r : BlockRange) (w : ℕ) (ms : List Summary) (i : ℕ) (found : ℤ) → length ms ≤ i
     → IsMostTo r w ms i found
     → AreFalls ms → r.first ≤ℤ r.last → IsGreatest (IsTotalFrom r ms w) found
-most-end r w ms i found end far falls le =
-    so_far-end r w ms found falls (subst (λ ks. IsSoFar r w ms ks found) (drop_all i ms end) (far falls le))
+most-end r w ms i found end far falls le = grind (arith, ints, so_far-end, IsSoFar, drop_all)

@@ -1,13 +1,12 @@
 -- The bound of a series is found from its summaries.
 use Rattle.std.proofs.Common.{◌≡◌, ℕ, Bool, true, List, map, filter, Option, Some, None, refl, sym, ap, ◌∙◌, subst}
 use Rattle.std.proofs.Common.{arith, ℤ, pos, ◌≤ℤ◌, ◌*ℤ◌, ◌*◌}
-use Rattle.std.specs.Prelude.{◌&&◌, ⊤, int_le}
+use Rattle.std.specs.Prelude.{⊤}
 use Rattle.std.specs.List.{AllByRecursion, Contains}
 use Rattle.std.specs.Option.{unwrap_or}
-use Rattle.std.specs.Ordering.{int_eq}
 use Rattle.std.specs.Int.{int_min}
 use Rattle.std.proofs.lemmas.Int.{ints}
-use Rattle.ghcn_fields.specs.Days.{block_of, first_day, last_day, is_day}
+use Rattle.ghcn_fields.specs.Days.{block_of, first_day, last_day}
 use Rattle.ghcn_fields.specs.Sorting.{greatest}
 use Rattle.ghcn_series.specs.Series.{Usable}
 use Rattle.ghcn_files.specs.declared.element.Element.{Element}
@@ -38,23 +37,16 @@ use Rattle.rank_blocks.proofs.HotBlocks.{days-greatest}
 
 -- its blocks are those of the period
 pub range-is : (r : BlockRange) (q : Asked) → IsRangeOf r q → in_range r ≡ is_reached q.period
-range-is r q of =
-    let by_first : ℤ → ℤ → Bool = λ z b. int_le z b && int_le b r.last in
-    let by_last : ℤ → ℤ → Bool = λ z b. int_le (block_of (period_of q.period).0) b && int_le b z in
-    ap by_first of.first ∙ ap by_last of.last
+range-is r q of = grind (arith, ints)
 
 -- the first block of a period isn't behind its last
 period-rises : (p : Option (ℤ × ℤ)) → is_period p ≡ true → block_of (period_of p).0 ≤ℤ block_of (period_of p).1
 period-rises None h = block-rises first_day last_day (omega (arith, ints))
-period-rises (Some p) h =
-    let both = both_pass (is_day p.0 && is_day p.1) (int_le p.0 p.1) h in
-    block-rises p.0 p.1 (int_le-true p.0 p.1 both.1)
+period-rises (Some p) h = grind (arith, ints, both_pass, block-rises, int_le-true)
 
 -- nor that of its range
 pub range-rises : (r : BlockRange) (q : Asked) → IsRangeOf r q → IsAsked q → r.first ≤ℤ r.last
-range-rises r q of asked =
-    let le = period-rises q.period asked.period in
-    omega (arith, ints)
+range-rises r q of asked = grind (arith, ints, period-rises)
 
 -- a bound for the query's score is the bound
 pub bound-for : (q : Asked) (s : Usable) (score : Score) (z : ℤ) → q.score ≡ score → IsBoundFor score q s z
@@ -102,10 +94,7 @@ module _ (r : BlockRange) (q : Asked) (s : Usable) (ms : List Summary) (of : IsR
   pub run-met : (test : ℤ → Bool) (z : ℤ)
       → IsGreatest (IsRunLength (is_such test (filter (λ x. in_range r (block_of x.0)) s.days))) z
       → IsGreatest (IsRunLength (is_such test (days_reached q s))) z
-  run-met test z longest =
-      let P : (ℤ → Bool) → Type 0 = λ p. IsGreatest (IsRunLength (is_such test (filter (λ x. p (block_of x.0)) s.days)))
-      z in
-      subst P (range-is r q of) longest
+  run-met test z longest = grind (arith, ints, range-is)
 
   -- the days in a row in blocks that hold one which passes, from the summaries
   pub blocks-met : (test : ℤ → Bool) (z : ℤ)
@@ -142,27 +131,11 @@ module _ (r : BlockRange) (q : Asked) (s : Usable) (ms : List Summary) (of : IsR
   module _ (are : AreOfBlocks (HasSum s.days) s ms) where
     -- no total of a block is below zero, where no value is
     totals-fall : AreFallen s.days → AreFalls ms
-    totals-fall falls =
-        from_each (HasSum s.days) (λ m. pos 0 ≤ℤ m.total) ms
-        (λ m is.
-        let fall = total-fallen (λ x. int_eq (block_of x.0) m.number) s.days falls in
-        omega (arith, ints, is.total_value)) are.each
+    totals-fall falls = grind (arith, ints, from_each, total-fallen)
 
     -- the greatest total, from the summaries
     total-met : (w : ℕ) (z : ℤ) → IsGreatest (IsTotalFrom r ms w) z → IsGreatest (IsBlocksTotal q.period s.days w) z
-    total-met w z of_z =
-        let same = range-is r q of in
-        let one = of_z.is_one in
-        record {
-          is_one = (
-            one.0,
-            sym (ap (λ (P : ℤ → Bool). P one.0) same) ∙ one.1,
-            sym (summaries_total-is s ms are w one.0) ∙ one.2,
-          );
-          is_most =
-              λ y h. of_z.is_most y
-              (h.0, ap (λ (P : ℤ → Bool). P h.0) same ∙ h.1, summaries_total-is s ms are w h.0 ∙ h.2);
-        }
+    total-met w z of_z = grind (arith, ints, range-is, summaries_total-is)
 
     -- the bound of sums, from the summaries
     pub sum-met : (n : ℕ) (e : Element) (value most z : ℤ) → IsAsked q → q.score ≡ Sum n e

@@ -1,5 +1,5 @@
 -- The bound as it is computed is the bound by what it is greatest of, and there is but one.
-use Rattle.std.proofs.Common.{◌≡◌, ℕ, zero, suc, ◌+◌, ◌<◌, ◌≤◌, Bool, true, false, cond, List, [], ◌∷◌, map, filter}
+use Rattle.std.proofs.Common.{◌≡◌, ℕ, zero, suc, ◌+◌, ◌<◌, ◌≤◌, Bool, true, List, [], ◌∷◌, map}
 use Rattle.std.proofs.Common.{length, ◌⊎◌, inl, inr, Option, refl, sym, ap, ◌∙◌, subst, arith, ℤ, pos, neg_ℤ, ◌+ℤ◌}
 use Rattle.std.proofs.Common.{◌-ℤ◌, ◌*ℤ◌, ◌≤ℤ◌}
 use Rattle.std.specs.Prelude.{◌&&◌}
@@ -22,7 +22,7 @@ use Rattle.rank_query.specs.Asked.{Asked, IsAsked}
 use Rattle.rank_query.specs.Admits.{admits_day}
 use Rattle.rank_scores.specs.Candidates.{is_dry, is_wet, is_hot, is_such, admitted}
 use Rattle.rank_scores.specs.Runs.{run_len, longest_run, calendar_len}
-use Rattle.rank_blocks.specs.Blocks.{days_reached, is_reached, total, blocks_total, is_among}
+use Rattle.rank_blocks.specs.Blocks.{days_reached, is_reached, blocks_total, is_among}
 use Rattle.rank_blocks.specs.Bounds.{greatest_by, blocks_of_window, first_blocks, greatest_total, spell_bound}
 use Rattle.rank_blocks.specs.Bounds.{blocks_bound, holds_such, bound_for, bound, IsAskedOf}
 use Rattle.rank_blocks.specs.Greatest.{IsGreatest, IsScore, IsBlocksTotal, IsRunLength, IsSumBound, IsBlocksBound}
@@ -79,10 +79,7 @@ some_of R (x ∷ xs) some h = (x, h.0)
 -- an admitted day, of which all is true that is true of each day
 pub some_admitted : (q : Asked) (s : Usable) (Q : DayValue → Type 0) → 0 < length (admitted q s)
     → AllByRecursion Q s.days → (x : DayValue) × Q x × (admits_day q x.0 ≡ true)
-some_admitted q s Q some all =
-    let found = some_of (λ x. Q x × (admits_day q x.0 ≡ true)) (admitted q s) some
-    (all-passing Q (λ x. admits_day q x.0) s.days all) in
-    (found.0, found.1.0, found.1.1)
+some_admitted q s Q some all = grind (arith, ints, some_of, all-passing)
 
 -- the greatest score of the days reached, where there is one
 day-greatest : (f : ℤ → ℤ) (q : Asked) (s : Usable) → 0 < length (admitted q s)
@@ -100,8 +97,7 @@ day-greatest f q s some =
 
 -- a number from a on, before n more, stands among those n
 contains-range : (a n i : ℕ) → i < n → Contains (range_with_len a n) (a + i)
-contains-range a n i lt =
-    (i, omega (arith, length-range_with_len a n), get_or-range_with_len a n i (a + i) lt)
+contains-range a n i lt = grind (arith, ints, length-range_with_len a n, get_or-range_with_len a n i (a + i) lt)
 
 -- what a measure makes of an element stands in what it makes of all
 contains-map : {X Y : Type 0} (f : X → Y) (xs : List X) (x : X) → Contains xs x → Contains (map f xs) (f x)
@@ -144,15 +140,7 @@ window-seen : (q : Asked) (w : ℕ) (first : ℤ) (all : List ℤ) (days : List 
     → AllByRecursion (λ x. (y : ℤ) → Contains (starts w x) y → Contains all y) days
     → Contains all first ⊎ (blocks_total days w first ≡ pos 0)
 window-seen q w first all [] h = inr refl
-window-seen q w first all (x ∷ xs) h =
-    elim (is_among first w (block_of x.0)) as (λ b. is_among first w (block_of x.0) ≡ b
-    → Contains all first ⊎
-    (total (map (λ y. y.1)
-    (cond b (x ∷ filter (λ x. is_among first w (block_of x.0)) xs)
-    (filter (λ x. is_among first w (block_of x.0)) xs))) ≡ pos 0)) [
-      | true ↦ λ e. inl (h.0 first (start-of w x first e))
-      | false ↦ λ e. window-seen q w first all xs h.1
-    ] refl
+window-seen q w first all (x ∷ xs) h = grind (arith, ints, start-of, window-seen q w first all xs h.1)
 
 -- the greatest total of windows that begin in the period
 pub total-greatest : (q : Asked) (s : Usable) (w : ℕ) → 0 < w → 0 < length (admitted q s) → AreFallen s.days
@@ -213,12 +201,7 @@ longest-somewhere such (a ∷ ns) = max-one (Somewhere such) (run_len such a) (l
 longest-most : (such : ℤ → Bool) (f : DayValue → ℤ) (days : List DayValue)
     → AllByRecursion (λ x. run_len such (f x) ≤ longest_run such (map f days)) days
 longest-most such f [] = tt
-longest-most such f (x ∷ xs) =
-    let rest : ℕ = longest_run such (map f xs) in (
-      le-max_left (run_len such (f x)) rest,
-      from_each (λ y. run_len such (f y) ≤ rest) (λ y. run_len such (f y) ≤ longest_run such (map f (x ∷ xs))) xs
-          (λ y le. let more = le-max_right (run_len such (f x)) rest in omega arith) (longest-most such f xs),
-    )
+longest-most such f (x ∷ xs) = grind (arith, ints, le-max_left, from_each, le-max_right, longest-most such f xs)
 
 -- each day of a series is one of the calendar
 pub days-valid : (s : Usable) (days : List DayValue) → list_all (λ x. is_day x.0 && is_value s.element x.1) days ≡ true
@@ -275,9 +258,7 @@ run-greatest test q s series =
 
 -- a block that holds a day is one of the calendar's
 day-block : (d : ℤ) → is_day d ≡ true → (block_of first_day ≤ℤ block_of d) × (block_of d ≤ℤ block_of last_day)
-day-block d e =
-    let both = between first_day d last_day e in
-    (block-rises first_day d both.0, block-rises d last_day both.1)
+day-block d e = grind (arith, ints, between, block-rises)
 
 -- no more blocks in a row hold a day which passes than were found
 blocks-most : (test : ℤ → Bool) (days : List DayValue) (found : ℕ)
@@ -321,11 +302,7 @@ blocks-greatest test q s series =
 -- 32 times as many is the bound of hot spells
 pub blocks-computed : (test : ℤ → Bool) (q : Asked) (s : Usable) → IsSeries s
     → IsBlocksBound (holds_such test (days_reached q s)) (blocks_bound test (days_reached q s))
-blocks-computed test q s series = record {
-  blocks = longest_run (holds_such test (days_reached q s)) (map (λ x. block_of x.0) (days_reached q s));
-  greatest = blocks-greatest test q s series;
-  times = refl;
-}
+blocks-computed test q s series = grind (arith, ints, blocks-greatest test q s series)
 
 -- ---- the bound
 
@@ -347,5 +324,4 @@ computed-for (Hot t) q s series some falls = blocks-computed (is_hot t) q s seri
 
 -- the bound as it is computed is the bound by what it is greatest of
 pub computed-IsBound : (q : Asked) (s : Usable) → IsAsked q → IsAskedOf q s → IsBound q s (bound q s)
-computed-IsBound q s asked of = computed-for q.score q s of.series of.admitted_day
-    (λ n e is. sums-fall q s n e asked of.series of.element is)
+computed-IsBound q s asked of = grind (arith, ints, computed-for, sums-fall)

@@ -7,13 +7,11 @@ use Rattle.std.proofs.lemmas.Int.{ints, by_lt_z}
 
 -- two tests that both pass
 pub both_pass : (a b : Bool) → (a && b) ≡ true → (a ≡ true) × (b ≡ true)
-both_pass true b e = (refl, e)
-both_pass false b e = absurd cc
+both_pass x b e = grind (arith, ints)
 
 -- of two tests that pass both pass
 pub pass_both : (a b : Bool) → a ≡ true → b ≡ true → (a && b) ≡ true
-pass_both true b p q = q
-pass_both false b p q = absurd cc
+pass_both x b p q = grind (arith, ints)
 
 -- a test that passes doesn't fail
 pub not_both : (b : Bool) → b ≡ true → b ≡ false → ⊥
@@ -21,8 +19,7 @@ not_both b p q = cc
 
 -- a test that can't pass fails
 pub fails : (b : Bool) → (b ≡ true → ⊥) → b ≡ false
-fails true never = absurd (never refl)
-fails false never = refl
+fails x never = grind (arith, ints)
 
 -- a number that is tested to be less is less
 pub int_lt-true : (a b : ℤ) → int_lt a b ≡ true → a <ℤ b
@@ -46,9 +43,7 @@ le-int_le a b h = grind (arith, ints)
 
 -- a whole number between two others, by its tests
 pub between : (a b c : ℤ) → (int_le a b && int_le b c) ≡ true → (a ≤ℤ b) × (b ≤ℤ c)
-between a b c e =
-    let both = both_pass (int_le a b) (int_le b c) e in
-    (int_le-true a b both.0, int_le-true b c both.1)
+between a b c e = grind (arith, ints, both_pass, int_le-true)
 
 -- one of two numbers is at most the other, or above it
 pub at_most_or_more : (a b : ℕ) → (a ≤ b) ⊎ (b < a)

@@ -1,9 +1,8 @@
 -- Days in their order and the values that they have.
-use Rattle.std.proofs.Common.{◌≡◌, ℕ, ◌<◌, Bool, true, false, cond, List, [], ◌∷◌, ◌++◌, Some, None, refl, ap, ◌∙◌}
-use Rattle.std.proofs.Common.{arith, ℤ, pos, negsuc, ◌≤ℤ◌, ◌<ℤ◌, ◌+ℤ◌}
+use Rattle.std.proofs.Common.{◌≡◌, ℕ, ◌<◌, true, false, List, [], ◌∷◌, ◌++◌, Some, None, refl, ◌∙◌}
+use Rattle.std.proofs.Common.{arith, ℤ, pos, ◌≤ℤ◌, ◌<ℤ◌, ◌+ℤ◌}
 use Rattle.std.specs.Prelude.{int_lt}
-use Rattle.std.specs.List.{AllByRecursion, find}
-use Rattle.std.specs.Option.{option_map}
+use Rattle.std.specs.List.{AllByRecursion}
 use Rattle.std.specs.Ordering.{int_eq}
 use Rattle.std.proofs.lemmas.Bool.{false_from_ne_true}
 use Rattle.std.proofs.lemmas.Bool.Decides.{Decides-int_eq}
@@ -40,8 +39,7 @@ rise-from_by_day (x ∷ y ∷ ys) e =
 -- a day with no pair of its own at the front is looked up behind it
 pub value_on-behind : (x : DayValue) (xs : List DayValue) (day : ℤ) → int_eq x.0 day ≡ false
     → value_on (x ∷ xs) day ≡ value_on xs day
-value_on-behind x xs day other =
-    ap (λ (b : Bool). option_map (λ (y : DayValue). y.1) (cond b (Some x) (find (λ y. int_eq y.0 day) xs))) other
+value_on-behind x xs day other = grind (arith, ints)
 
 -- a day that is later than some days and earlier than the others has no value
 pub value_on-between : (read rest : List DayValue) (day : ℤ) → AllByRecursion (λ y. y.0 <ℤ day) read
@@ -56,28 +54,17 @@ value_on-between (y ∷ ys) rest day earlier later = value_on-behind y (ys ++ re
 -- each of some days that rise has its value
 pub own-values : (days : List DayValue) → AreRising days → AllByRecursion (λ x. value_on days x.0 ≡ Some x.1) days
 own-values [] rise = tt
-own-values (x ∷ xs) rise = (
-  ap (λ (b : Bool). option_map (λ (y : DayValue). y.1) (cond b (Some x) (find (λ y. int_eq y.0 x.0) xs)))
-      (int_eq-same x.0),
-  from_both (λ y. x.0 <ℤ y.0) (λ y. value_on xs y.0 ≡ Some y.1) (λ y. value_on (x ∷ xs) y.0 ≡ Some y.1) xs
-      (λ y later own. value_on-behind x xs y.0 (lt-int_eq x.0 y.0 later) ∙ own) rise.0 (own-values xs rise.1),
-)
+own-values (x ∷ xs) rise =
+    grind (arith, ints, int_eq-same x.0, from_both, value_on-behind, lt-int_eq, own-values xs rise.1)
 
 -- a day lies in its block
 pub block-holds : (day : ℤ) → (block_start (block_of day) ≤ℤ day) × (day <ℤ (block_start (block_of day) +ℤ pos 32))
-block-holds (pos a) = (omega (arith, ints), omega (arith, ints))
-block-holds (negsuc a) = (omega (arith, ints), omega (arith, ints))
+block-holds x = grind (arith, ints)
 
 -- the day at a place of a block is in that block
 pub block-of_place : (b : ℤ) (k : ℕ) → k < 32 → block_of (block_start b +ℤ pos k) ≡ b
-block-of_place b k lt =
-    let day : ℤ = block_start b +ℤ pos k in
-    let holds = block-holds day in
-    omega (arith, ints)
+block-of_place b k lt = grind (arith, ints, block-holds)
 
 -- a later day is in no earlier block
 pub block-rises : (a b : ℤ) → a ≤ℤ b → block_of a ≤ℤ block_of b
-block-rises a b le =
-    let of_a = block-holds a in
-    let of_b = block-holds b in
-    omega (arith, ints)
+block-rises a b le = grind (arith, ints, block-holds)

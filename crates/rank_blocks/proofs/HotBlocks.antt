@@ -1,6 +1,6 @@
 -- Blocks that hold a day whose value passes, and how they and their days follow one another.
-use Rattle.std.proofs.Common.{◌≡◌, ℕ, zero, suc, ◌*◌, ◌/◌, ◌%◌, ◌<◌, ◌≤◌, Bool, true, false, cond, List, [], ◌∷◌, map}
-use Rattle.std.proofs.Common.{filter, ◌⊎◌, inl, inr, refl, sym, ap, ◌∙◌, subst, arith, ℤ, pos, ◌+ℤ◌}
+use Rattle.std.proofs.Common.{◌≡◌, ℕ, zero, suc, ◌*◌, ◌/◌, ◌%◌, ◌<◌, ◌≤◌, Bool, true, false, List, [], ◌∷◌, map}
+use Rattle.std.proofs.Common.{filter, ◌⊎◌, inl, inr, refl, sym, ap, ◌∙◌, arith, ℤ, pos, ◌+ℤ◌}
 use Rattle.std.specs.Prelude.{◌&&◌, ◌||◌, int_le}
 use Rattle.std.specs.List.{AllByRecursion, Contains}
 use Rattle.std.specs.Option.{option_map_or}
@@ -30,13 +30,11 @@ or_first a b e = ap (λ t. t || b) e
 
 -- the second
 or_later : (a b : Bool) → b ≡ true → (a || b) ≡ true
-or_later true b e = refl
-or_later false b e = e
+or_later x b e = grind (arith, ints)
 
 -- either of them
 or_either : (a b : Bool) → (a || b) ≡ true → (a ≡ true) ⊎ (b ≡ true)
-or_either true b e = inl refl
-or_either false b e = inr e
+or_either x b e = grind (arith, ints)
 
 -- ---- blocks that hold a day which passes
 
@@ -45,13 +43,8 @@ module _ (test : ℤ → Bool) where
   holds-each : (days : List DayValue)
       → AllByRecursion (λ x. test x.1 ≡ true → holds_such test days (block_of x.0) ≡ true) days
   holds-each [] = tt
-  holds-each (x ∷ xs) = (
-    λ passes. or_first _ _
-        (pass_both (int_eq (block_of x.0) (block_of x.0)) (test x.1) (int_eq-same (block_of x.0)) passes),
-    from_each (λ y. test y.1 ≡ true → holds_such test xs (block_of y.0) ≡ true)
-        (λ y. test y.1 ≡ true → holds_such test (x ∷ xs) (block_of y.0) ≡ true) xs
-        (λ y h passes. or_later (int_eq (block_of x.0) (block_of y.0) && test x.1) _ (h passes)) (holds-each xs),
-  )
+  holds-each (x ∷ xs) =
+      grind (arith, ints, or_first, pass_both, int_eq-same (block_of x.0), from_each, or_later, holds-each xs)
 
   -- a block that holds one holds one of the days, of which all is true that is true of each
   pub holds-among : (Q : DayValue → Type 0) (days : List DayValue) (b : ℤ) → AllByRecursion Q days
@@ -79,15 +72,7 @@ module _ (test : ℤ → Bool) where
       → holds_such test (filter (λ x. p (block_of x.0)) days) b ≡ holds_such test days b
   holds-filter p [] b inside = refl
   holds-filter p (x ∷ xs) b inside =
-      elim (p (block_of x.0)) as (λ t. p (block_of x.0) ≡ t
-      → holds_such test (cond t (x ∷ filter (λ y. p (block_of y.0)) xs) (filter (λ y. p (block_of y.0)) xs)) b
-      ≡ holds_such test (x ∷ xs) b) [
-        | true ↦ λ e. ap (λ t. (int_eq (block_of x.0) b && test x.1) || t) (holds-filter p xs b inside)
-        | false ↦ λ e.
-            let other : int_eq (block_of x.0) b ≡ false = fails (int_eq (block_of x.0) b)
-            (λ same. not_both _ (ap p ((Decides-int_eq (block_of x.0) b).0 same) ∙ inside) e) in
-            holds-filter p xs b inside ∙ sym (ap (λ t. (t && test x.1) || holds_such test xs b) other)
-      ] refl
+      grind (arith, ints, holds-filter p xs b inside, fails, not_both, Decides-int_eq (block_of x.0) b)
 
   -- a block that holds one of the days of some blocks is one of these, and holds it
   pub holds-kept : (p : ℤ → Bool) (days : List DayValue) (b : ℤ)
@@ -145,16 +130,12 @@ counts-among Dry Q days d all e =
 counts-among Wet Q days d all e =
     let has = such-has is_wet (value_on days d) e in
     value_on-among (λ (n v : ℤ). Q (block_of n)) days d has.0 all has.1
-counts-among (Hot t) Q days d all e =
-    let found = holds-among (is_hot t) (λ x. Q (block_of x.0)) days (block_of d) all e in
-    subst Q found.2 found.1
+counts-among (Hot t) Q days d all e = grind (arith, ints, holds-among)
 
 -- where a block's greatest value is hot, all its days count, and else none
 pub hot-bits : (t : ℤ) (days : List DayValue) (b z : ℤ) (word : ℕ) → IsGreatest (IsScore (λ v. v) (days_in days b)) z
     → ((j : ℕ) → j < 32 → has_bit word j ≡ int_le t z) → AreBitsOf (counts (Hot t) days) b word
-hot-bits t days b z word of_z all = λ i lt.
-    all i lt ∙ sym (holds-greatest t days b z of_z)
-    ∙ sym (ap (holds_such (is_hot t) days) (block-of_place b i lt))
+hot-bits t days b z word of_z all = grind (arith, ints, holds-greatest, block-of_place)
 
 -- ---- blocks in a row, and their days
 

@@ -1,6 +1,6 @@
 -- The longest run of days, block by block.
 use Rattle.std.proofs.Common.{◌≡◌, ℕ, zero, suc, ◌+◌, ◌-◌, ◌<◌, ◌≤◌, Bool, true, false, max, inl, inr, sym, ap, ◌∙◌}
-use Rattle.std.proofs.Common.{subst, arith, ℤ, pos, ◌≤ℤ◌, ◌<ℤ◌, ◌+ℤ◌, ◌-ℤ◌}
+use Rattle.std.proofs.Common.{arith, ℤ, pos, ◌≤ℤ◌, ◌<ℤ◌, ◌+ℤ◌, ◌-ℤ◌}
 use Rattle.std.proofs.lemmas.Int.{ints}
 use Rattle.std.proofs.Math.Nat.{max-eq_left, max-eq_right}
 use Rattle.rank_blocks.specs.declared.runs.Runs.{Runs}
@@ -11,30 +11,20 @@ use Rattle.rank_blocks.proofs.DayTests.{not_both, at_most_or_more, int_le_or_lt,
 
 -- of two numbers that something is true of, it is true of the greater
 pub max-one : (P : ℕ → Type 0) (m n : ℕ) → P m → P n → P (max m n)
-max-one P m n hm hn =
-    elim (at_most_or_more m n) [
-      | inl le ↦ subst P (sym (max-eq_right le)) hn
-      | inr lt ↦ subst P (sym (max-eq_left {n = m} {m = n} (omega arith))) hm
-    ]
+max-one P m n hm hn = grind (arith, ints, at_most_or_more, max-eq_right, max-eq_left)
 
 module _ (such : ℤ → Bool) where
   -- a run that ends before a block, behind days of which none is of the kind, ends before these days
   ends-earlier : (b next : ℤ) → NoneBetween such b next → (first : ℤ) (n : ℕ)
       → (first +ℤ pos (suc n)) ≤ℤ block_start next
       → AllFrom such first (suc n) → (first +ℤ pos (suc n)) ≤ℤ block_start b
-  ends-earlier b next none first n within pass =
-      elim (int_le_or_lt (block_start b) (first +ℤ pos n)) [
-        | inl past ↦
-            absurd (not_both _ (pass n (omega arith)) (none (first +ℤ pos n) past (omega (arith, ints))))
-        | inr before ↦ omega (arith, ints)
-      ]
+  ends-earlier b next none first n within pass = grind (arith, ints, int_le_or_lt, not_both)
 
   -- a run that ends before a block, behind days of which none is of the kind, is among those that are told of
   earlier : (r : Runs) (next : ℤ) → AreRuns such r → NoneBetween such r.next next → (len : ℕ) (first : ℤ)
       → (first +ℤ pos len) ≤ℤ block_start next → AllFrom such first len → len ≤ r.longest
   earlier r next are none zero first within pass = omega arith
-  earlier r next are none (suc n) first within pass =
-      are.nowhere_more first (suc n) (ends-earlier r.next next none first n within pass) pass
+  earlier r next are none (suc n) first within pass = grind (arith, ints, ends-earlier)
 
   -- where no day before a block is of the kind
   pub runs-none : (b : ℤ) → ((d : ℤ) → d <ℤ block_start b → such d ≡ false) → AreRuns such (runs_before b)

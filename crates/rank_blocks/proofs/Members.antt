@@ -1,12 +1,12 @@
 -- Elements of lists that are filtered and measured.
 use Rattle.std.proofs.Common.{◌≡◌, ℕ, zero, suc, drop, ◌<◌, Bool, true, false, cond, List, [], ◌∷◌, ◌++◌, map, filter}
-use Rattle.std.proofs.Common.{◌⊎◌, inl, inr, refl, sym, ap, pos, ◌+ℤ◌, subst, arith, ℤ, ◌≤ℤ◌, Some}
+use Rattle.std.proofs.Common.{◌⊎◌, inl, inr, refl, sym, pos, ◌+ℤ◌, subst, arith, ℤ, ◌≤ℤ◌, Some}
 use Rattle.std.specs.List.{AllByRecursion, Contains, fold}
 use Rattle.std.specs.Prelude.{◌&&◌}
 use Rattle.std.specs.Int.{int_max}
 use Rattle.std.proofs.lemmas.Int.{ints, fold-int_max_bounds, fold-int_max_reached}
-use Rattle.std.proofs.lemmas.List.Elements.{Contains-append_cases, Contains-append_left, Contains-append_right}
-use Rattle.std.proofs.lemmas.List.Elements.{Contains-push_cases, All-contains, All-filter, All-from_recursion}
+use Rattle.std.proofs.lemmas.List.Elements.{Contains-append_right}
+use Rattle.std.proofs.lemmas.List.Elements.{All-contains, All-filter, All-from_recursion}
 use Rattle.std.proofs.lemmas.List.Elements.{recursion_from_All}
 use Rattle.ghcn_fields.specs.Sorting.{greatest}
 use Rattle.rank_blocks.specs.Blocks.{total}
@@ -18,17 +18,11 @@ contains-nothing x h = let lt : h.0 < 0 = h.1 in omega arith
 
 -- an element of a list is its first one, or stands behind it
 pub contains-cases : {X : Type 0} (x y : X) (xs : List X) → Contains (x ∷ xs) y → (x ≡ y) ⊎ Contains xs y
-contains-cases x y xs h =
-    elim (Contains-append_cases (x ∷ []) xs y h) [
-      | inl here ↦
-          elim (Contains-push_cases [] x y here) [ inl none ↦ absurd (contains-nothing y none) | inr is ↦ inl is ]
-      | inr there ↦ inr there
-    ]
+contains-cases x y xs h = grind (arith, ints, contains-nothing)
 
 -- the first element stands in the list
 pub contains-first : {X : Type 0} (x y : X) (xs : List X) → x ≡ y → Contains (x ∷ xs) y
-contains-first x y xs is = let P : _ → Type 0 = Contains (x ∷ xs) in subst P is
-    (Contains-append_left (x ∷ []) xs x (0, omega arith, refl))
+contains-first x y xs is = grind (arith, ints)
 
 -- what stands behind the first element stands in the list
 pub contains-behind : {X : Type 0} (x y : X) (xs : List X) → Contains xs y → Contains (x ∷ xs) y
@@ -71,11 +65,7 @@ for_every P (x ∷ xs) h = (λ b. (h b).0, for_every P xs (λ b. (h b).1))
 pub all-passing : {X : Type 0} (P : X → Type 0) (t : X → Bool) (xs : List X) → AllByRecursion P xs
     → AllByRecursion (λ x. P x × (t x ≡ true)) (filter t xs)
 all-passing P t [] h = tt
-all-passing P t (x ∷ xs) h =
-    elim (t x) as (λ b. t x ≡ b → AllByRecursion (λ x. P x × (t x ≡ true)) (cond b (x ∷ filter t xs) (filter t xs))) [
-      | true ↦ λ e. ((h.0, e), all-passing P t xs h.1)
-      | false ↦ λ e. all-passing P t xs h.1
-    ] refl
+all-passing P t (x ∷ xs) h = grind (arith, ints, all-passing P t xs h.1)
 
 -- what is true of every element is true of all
 pub each : {X : Type 0} (P : X → Type 0) (xs : List X) → ((x : X) → P x) → AllByRecursion P xs
@@ -109,13 +99,8 @@ stands-more f false x xs y h = h
 pub stands : {X Y : Type 0} (f : X → Y) (t : X → Bool) (xs : List X) → AllByRecursion
     (λ x. t x ≡ true → Contains (map f (filter t xs)) (f x)) xs
 stands f t [] = tt
-stands f t (x ∷ xs) = (
-  λ passes. let P : Bool → Type 0 = λ b. Contains (map f (cond b (x ∷ filter t xs) (filter t xs))) (f x) in
-      subst P (sym passes) (contains-first (f x) (f x) (map f (filter t xs)) refl),
-  from_each (λ z. t z ≡ true → Contains (map f (filter t xs)) (f z))
-      (λ z. t z ≡ true → Contains (map f (filter t (x ∷ xs))) (f z)) xs
-      (λ z stand passes. stands-more f (t x) x (filter t xs) (f z) (stand passes)) (stands f t xs),
-)
+stands f t (x ∷ xs) =
+    grind (arith, ints, contains-first (f x) (f x) (map f (filter t xs)), from_each, stands-more, stands f t xs)
 
 -- where each that passes one test passes another, what is made of the first stands among what is made of the others
 pub stands-wider : {X Y : Type 0} (f : X → Y) (t u : X → Bool) (xs : List X) (y : Y)
@@ -129,14 +114,11 @@ stands-wider f t u xs y wider h =
 -- one element more adds to a total what it is, if it passes
 pub total-cons : {X : Type 0} (f : X → ℤ) (p : X → Bool) (x : X) (xs : List X)
     → total (map f (filter p (x ∷ xs))) ≡ cond (p x) (f x) (pos 0) +ℤ total (map f (filter p xs))
-total-cons f p x xs =
-    elim (p x) as (λ t. total (map f (cond t (x ∷ filter p xs) (filter p xs)))
-    ≡ cond t (f x) (pos 0) +ℤ total (map f (filter p xs))) [ true ↦ refl | false ↦ omega (arith, ints) ]
+total-cons f p x xs = grind (arith, ints)
 
 -- what is added isn't below zero where the number isn't
 pub part-least : (t : Bool) (v : ℤ) → pos 0 ≤ℤ v → pos 0 ≤ℤ cond t v (pos 0)
-part-least true v h = h
-part-least false v h = omega (arith, ints)
+part-least x v h = grind (arith, ints)
 
 -- a wider test adds no less
 pub part-wider : (t u : Bool) (v : ℤ) → pos 0 ≤ℤ v → (t ≡ true → u ≡ true) → cond t v (pos 0) ≤ℤ cond u v (pos 0)
@@ -163,12 +145,7 @@ total-wider f p w (x ∷ xs) falls wider =
 -- those that pass one test of those that pass another pass both
 pub filter-both : {X : Type 0} (p u : X → Bool) (xs : List X) → filter p (filter u xs) ≡ filter (λ x. u x && p x) xs
 filter-both p u [] = refl
-filter-both p u (x ∷ xs) =
-    elim (u x) as (λ t. filter p (cond t (x ∷ filter u xs) (filter u xs))
-    ≡ cond (t && p x) (x ∷ filter (λ x. u x && p x) xs) (filter (λ x. u x && p x) xs)) [
-      | true ↦ ap (λ ys. cond (p x) (x ∷ ys) ys) (filter-both p u xs)
-      | false ↦ filter-both p u xs
-    ]
+filter-both p u (x ∷ xs) = grind (arith, ints, filter-both p u xs)
 
 -- the greatest of some numbers is one of them, and none is greater
 pub greatest-IsGreatest : (zs : List ℤ) (z : ℤ) → greatest zs ≡ Some z → IsGreatest (Contains zs) z
@@ -196,7 +173,4 @@ greatest-exists (x ∷ xs) y h = (fold int_max x xs, refl)
 
 -- there is but one greatest number
 pub greatest-unique : (P : ℤ → Type 0) (y z : ℤ) → IsGreatest P y → IsGreatest P z → y ≡ z
-greatest-unique P y z of_y of_z =
-    let below = of_z.is_most y of_y.is_one in
-    let above = of_y.is_most z of_z.is_one in
-    omega (arith, ints)
+greatest-unique P y z of_y of_z = grind (arith, ints)

@@ -1,5 +1,5 @@
 -- Numbers in their order.
-use Rattle.std.proofs.Common.{◌≡◌, Bool, true, false, cond, List, [], ◌∷◌, ◌++◌, refl, ap, ℤ, ◌<ℤ◌}
+use Rattle.std.proofs.Common.{◌≡◌, Bool, cond, List, [], ◌∷◌, ◌++◌, ap, ℤ, ◌<ℤ◌}
 use Rattle.std.specs.Prelude.{int_lt}
 use Rattle.std.specs.List.{AllByRecursion}
 use Rattle.std.specs.List.Sorted.{IsStrictlySortedBy}
@@ -7,6 +7,8 @@ use Rattle.std.specs.Ordering.{int_cmp}
 use Rattle.std.specs.declared.cmp.Ordering.TheVariants.{Less, Equal, Greater}
 use Rattle.rank_blocks.proofs.Members.{all-append}
 use Rattle.rank_blocks.proofs.DayTests.{lt-int_lt, int_lt-true}
+use Rattle.std.proofs.Common.{arith}
+use Rattle.std.proofs.lemmas.Int.{ints}
 
 -- a number below another compares as less
 pub less-int_cmp : (a b : ℤ) → a <ℤ b → int_cmp a b ≡ Less
@@ -14,16 +16,7 @@ less-int_cmp a b lt = ap (λ (t : Bool). cond t Less (cond (int_lt b a) Greater 
 
 -- what compares as less is below
 pub int_cmp-less : (a b : ℤ) → int_cmp a b ≡ Less → a <ℤ b
-int_cmp-less a b e =
-    elim (int_lt a b) as (λ t. int_lt a b ≡ t → cond t Less (cond (int_lt b a) Greater Equal) ≡ Less → a <ℤ b) [
-      | true ↦ λ lt h. int_lt-true a b lt
-      | false ↦
-          λ lt h. elim (int_lt b a) as (λ u. cond u Greater Equal ≡ Less → a <ℤ b) [
-            | true ↦ λ k. absurd cc
-            | false ↦
-                λ k. absurd cc
-          ] h
-    ] refl e
+int_cmp-less a b e = grind (arith, ints, int_lt-true)
 
 -- no numbers are in order
 pub sorted-none : IsStrictlySortedBy int_cmp []
@@ -35,5 +28,4 @@ pub sorted-push : (xs : List ℤ) (v : ℤ) → IsStrictlySortedBy int_cmp xs �
     → IsStrictlySortedBy int_cmp (xs ++ v ∷ [])
 unfolding IsStrictlySortedBy
 sorted-push [] v h less = (tt, tt)
-sorted-push (x ∷ xs) v h less =
-    (all-append (λ y. int_cmp x y ≡ Less) xs (v ∷ []) h.0 (less-int_cmp x v less.0, tt), sorted-push xs v h.1 less.1)
+sorted-push (x ∷ xs) v h less = grind (arith, ints, all-append, less-int_cmp x v less.0, sorted-push xs v h.1 less.1)

@@ -23,6 +23,7 @@ use Rattle.rank_blocks.proofs.LongestRuns.{runs-none}
 use Rattle.rank_blocks.proofs.Members.{contains-cases, contains-nothing, pick}
 use Rattle.rank_blocks.proofs.HotBlocks.{counts-kept, counts-filter, counts-among}
 use Rattle.rank_blocks.proofs.WindowTotals.{AreBehind}
+use Rattle.std.proofs.Common.{rules}
 
 -- a day that counts for a spell among the usable days in the blocks of a range
 abbrev pub kind : BlockRange → Spell → Usable → ℤ → Bool
@@ -155,11 +156,7 @@ pub record IsTold (r : BlockRange) (ms : List Summary) (i : ℕ) (runs : Runs) :
 
 -- before any block
 pub told-start : (r : BlockRange) (ms : List Summary) → IsTold r ms 0 (runs_before r.first)
-told-start r ms = record {
-  room = omega arith;
-  ahead = ahead-start r ms;
-  so_far = λ k s are. so_far-start r k s ms are;
-}
+told-start r ms = search (rules, arith, ahead-start, so_far-start)
 
 module _ (r : BlockRange) (ms : List Summary) (possible : ArePossible ms) (i : ℕ) (lt : i < length ms)
     (runs : Runs) (far : IsTold r ms i runs) where

@@ -11,7 +11,7 @@ use Rattle.ghcn_fields.specs.Days.{block_of, is_day, first_day, last_day}
 use Rattle.ghcn_fields.specs.Sorting.{greatest}
 use Rattle.ghcn_series.specs.Series.{DayValue, Usable, value_on}
 use Rattle.rank_query.specs.Asked.{Asked}
-use Rattle.rank_query.specs.Admits.{admits_day, period_holds, season_holds}
+use Rattle.rank_query.specs.Admits.{admits_day, period_holds}
 use Rattle.rank_scores.specs.Candidates.{is_such}
 use Rattle.rank_blocks.specs.declared.summary.Summary.{Summary}
 use Rattle.rank_blocks.specs.Blocks.{days_in, is_reached}
@@ -21,11 +21,11 @@ use Rattle.rank_blocks.proofs.Members.{from_both, for_every, all-passing, pick, 
 use Rattle.rank_blocks.proofs.Members.{greatest-IsGreatest}
 use Rattle.rank_blocks.proofs.DayTests.{both_pass, pass_both, int_le-true, le-int_le}
 use Rattle.rank_blocks.proofs.DayValues.{block-rises}
+use Rattle.std.proofs.Common.{rules}
 
 -- a day that isn't kept has no value
 nowhere : (b : Bool) → cond b (option_map {T = DayValue} (λ x. x.1) None) None ≡ None
-nowhere true = refl
-nowhere false = refl
+nowhere x = grind (arith, ints)
 
 module _ (p : ℤ → Bool) (d : ℤ) where
   -- the pairs whose day passes
@@ -37,12 +37,7 @@ module _ (p : ℤ → Bool) (d : ℤ) where
       → value_on (kept xs) d ≡ cond (p d) (value_on xs d) None
       → value_on (cond b (x ∷ kept xs) (kept xs)) d ≡ cond (p d)
       (option_map (λ y. y.1) (cond e (Some x) (find (λ y. int_eq y.0 d) xs))) None
-  at x xs true true hb he ih =
-      let same : p d ≡ true = ap p (sym ((Decides-int_eq x.0 d).0 he)) ∙ hb in rw (he, same)
-  at x xs true false hb he ih = rw he ih
-  at x xs false true hb he ih =
-      let same : p d ≡ false = ap p (sym ((Decides-int_eq x.0 d).0 he)) ∙ hb in ih ∙ rw same
-  at x xs false false hb he ih = ih
+  at x xs t o hb he ih = grind (arith, ints, Decides-int_eq)
 
   -- of the days that pass a test, a day has the value that it had
   pub value_on-filter : (days : List DayValue) → value_on (kept days) d ≡ cond (p d) (value_on days d) None
@@ -65,13 +60,11 @@ value_on-among Q (x ∷ xs) d v all e =
 
 -- a day that passes has a value
 pub such-has : (test : ℤ → Bool) (o : Option ℤ) → option_map_or test o false ≡ true → (v : ℤ) × (o ≡ Some v)
-such-has test None e = absurd cc
-such-has test (Some v) e = (v, refl)
+such-has test k e = grind (arith, ints)
 
 -- a choice that is something was made
 chosen : (b : Bool) (o : Option ℤ) (v : ℤ) → cond b o None ≡ Some v → (b ≡ true) × (o ≡ Some v)
-chosen true o v e = (refl, e)
-chosen false o v e = absurd cc
+chosen x o v e = grind (arith, ints)
 
 -- a value among the days that pass a test is the day's own, and the day passes
 pub kept-value : (p : ℤ → Bool) (days : List DayValue) (d v : ℤ) → value_on (filter (λ x. p x.0) days) d ≡ Some v
@@ -81,33 +74,22 @@ kept-value p days d v e = chosen (p d) (value_on days d) v (sym (value_on-filter
 -- of days that pass a test that d passes too, d is such a day or isn't, as before
 pub such-filter : (test : ℤ → Bool) (p : ℤ → Bool) (days : List DayValue) (d : ℤ) → p d ≡ true
     → is_such test (filter (λ x. p x.0) days) d ≡ is_such test days d
-such-filter test p days d passes = ap (λ (o : Option ℤ). option_map_or test o false)
-    (value_on-filter p d days ∙ ap (λ (t : Bool). cond t (value_on days d) None) passes)
+such-filter test p days d passes = grind (arith, ints, value_on-filter)
 
 -- such a day among those that pass a test passes it, and is such a day among all
 pub such-kept : (test : ℤ → Bool) (p : ℤ → Bool) (days : List DayValue) (d : ℤ)
     → is_such test (filter (λ x. p x.0) days) d ≡ true → (p d ≡ true) × (is_such test days d ≡ true)
-such-kept test p days d e =
-    let has = such-has test (value_on (filter (λ x. p x.0) days) d) e in
-    let kept = kept-value p days d has.0 has.1 in
-    (kept.0, sym (such-filter test p days d kept.0) ∙ e)
+such-kept test p days d e = grind (arith, ints, such-has, kept-value, such-filter)
 
 -- such a day among those that pass one test is such a day among those that pass a wider one
 pub such-wider : (test : ℤ → Bool) (p q : ℤ → Bool) (days : List DayValue) (d : ℤ) → ((n : ℤ) → p n ≡ true → q n ≡ true)
     → is_such test (filter (λ x. p x.0) days) d ≡ true → is_such test (filter (λ x. q x.0) days) d ≡ true
-such-wider test p q days d wider e =
-    let kept = such-kept test p days d e in
-    such-filter test q days d (wider d kept.0) ∙ kept.1
+such-wider test p q days d wider e = grind (arith, ints, such-kept, such-filter)
 
 -- of two tests that a number passes both pass
 within_blocks : (low high d : ℤ) → (int_le low d && int_le d high) ≡ true
     → (int_le (block_of low) (block_of d) && int_le (block_of d) (block_of high)) ≡ true
-within_blocks low high d e =
-    let both = both_pass (int_le low d) (int_le d high) e in
-    let first = block-rises low d (int_le-true low d both.0) in
-    let last = block-rises d high (int_le-true d high both.1) in
-    pass_both (int_le (block_of low) (block_of d)) (int_le (block_of d) (block_of high))
-    (le-int_le (block_of low) (block_of d) first) (le-int_le (block_of d) (block_of high) last)
+within_blocks low high d e = grind (arith, ints, both_pass, block-rises, int_le-true, pass_both, le-int_le)
 
 -- a day of the calendar and of a period lies in a block of the period
 reached_in : (p : Option (ℤ × ℤ)) (d : ℤ) → (is_day d && period_holds p d) ≡ true → is_reached p (block_of d) ≡ true
@@ -116,8 +98,7 @@ reached_in (Some p) d e = within_blocks p.0 p.1 d (both_pass (is_day d) (period_
 
 -- an admitted day lies in a block of the period
 pub admitted-reached : (q : Asked) (d : ℤ) → admits_day q d ≡ true → is_reached q.period (block_of d) ≡ true
-admitted-reached q d e =
-    reached_in q.period d (both_pass (is_day d && period_holds q.period d) (season_holds q.season d) e).0
+admitted-reached q d e = grind (arith, ints, reached_in, both_pass)
 
 -- ---- the greatest score of a day, from the summaries
 
@@ -125,10 +106,7 @@ module _ (f : ℤ → ℤ) (P : ℤ → Bool) (s : Usable) (ms : List Summary) (
   -- each day's score is among those of its own block
   own_block : AllByRecursion
       (λ x. (b : ℤ) → int_eq (block_of x.0) b ≡ true → Contains (map (λ y. f y.1) (days_in s.days b)) (f x.1)) s.days
-  own_block =
-      for_every
-      (λ (b : ℤ) (x : DayValue). int_eq (block_of x.0) b ≡ true → Contains (map (λ y. f y.1) (days_in s.days b))
-      (f x.1)) s.days (λ b. stands (λ y. f y.1) (λ x. int_eq (block_of x.0) b) s.days)
+  own_block = search (rules, arith, for_every, stands)
 
   -- the greatest score of the summaries of the blocks that pass is the greatest of their days
   pub greatest-of_blocks : (z : ℤ) → greatest (map (λ m. m.day) (filter (λ m. P m.number) ms)) ≡ Some z

@@ -33,9 +33,7 @@ of_numbers P (m ∷ ms) h = (h.0, of_numbers P ms h.1)
 
 -- a day of the calendar is in one of its blocks
 in_calendar : (d : ℤ) → is_day d ≡ true → (block_of first_day ≤ℤ block_of d) × (block_of d ≤ℤ block_of last_day)
-in_calendar d e =
-    let both = both_pass (int_le first_day d) (int_le d last_day) e in
-    (block-rises first_day d (int_le-true first_day d both.0), block-rises d last_day (int_le-true d last_day both.1))
+in_calendar d e = grind (arith, ints, both_pass, block-rises, int_le-true)
 
 -- at first no block before that of the first day
 pub read-first : (score : Score) (s : Usable) (x : DayValue) (rest : List DayValue) → IsSeries s → s.days ≡ x ∷ rest
@@ -151,12 +149,7 @@ next-none (x ∷ xs) b e =
 -- a day of a block that has none has no value
 none-of_block : (days : List DayValue) (b : ℤ) (x : DayValue) → HasNone days b → value_on days x.0 ≡ Some x.1
     → block_of x.0 ≡ b → ⊥
-none-of_block days b x none own is =
-    let at = place-in b x.0 is in
-    let value : value_on days (block_start b +ℤ pos at.0) ≡ Some x.1 = subst
-    (λ (d : ℤ). value_on days d ≡ Some x.1) at.2 own in
-    let missing = none at.0 at.1 in
-    (let same : None ≡ Some x.1 = sym missing ∙ value in cc)
+none-of_block days b x none own is = grind (arith, ints, place-in b x.0 is)
 
 module _ (score : Score) (s : Usable) (n : ℤ) (ms : List Summary) (so_far : AreSummariesTo score s n ms)
     (none : HasNone s.days n) where
@@ -193,18 +186,4 @@ module _ (score : Score) (s : Usable) (n : ℤ) (ms : List Summary) (so_far : Ar
         },
         omega (arith, ints),
       )
-  read-next None e =
-      let high = so_far.high in (
-        (
-          record {
-            each = so_far.each;
-            all = from_both (λ x. block_of x.0 <ℤ n)
-                (λ x. block_of x.0 <ℤ n → Contains (map (λ m. m.number) ms) (block_of x.0))
-                (λ x. Contains (map (λ m. m.number) ms) (block_of x.0)) s.days (λ x before has. has before)
-                (next-none s.days n e) so_far.all;
-            by_number = so_far.by_number;
-          },
-          record { each = so_far.possible; by_number = so_far.by_number },
-        ),
-        omega (arith, ints),
-      )
+  read-next None e = grind (arith, ints, from_both, next-none s.days n e)

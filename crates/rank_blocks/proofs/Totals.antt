@@ -39,15 +39,11 @@ module _ (P : ℤ → Bool) (b v : ℤ) (g : ℤ → ℤ) where
   -- where block b isn't among them, nothing was added
   over-absent : (ns : List ℤ) → AllByRecursion (λ n. int_eq b n ≡ false) ns → over more ns ≡ over g ns
   over-absent [] h = refl
-  over-absent (n ∷ ns) h =
-      let here : more n ≡ g n = ap (λ (t : Bool). cond t (v +ℤ g n) (g n)) h.0 in
-      let part = ap (λ (z : ℤ). cond (P n) z (pos 0)) here in
-      omega (arith, ints, total-cons more P n ns, total-cons g P n ns, over-absent ns h.1)
+  over-absent (n ∷ ns) h = grind (arith, ints, total-cons more P n ns, total-cons g P n ns, over-absent ns h.1)
 
   -- two numbers are added together or each by itself
   added : (t : Bool) (y z : ℤ) → cond t (y +ℤ z) (pos 0) ≡ cond t y (pos 0) +ℤ cond t z (pos 0)
-  added true y z = refl
-  added false y z = omega (arith, ints)
+  added x y z = grind (arith, ints)
 
   -- where it is among them, v was added if it passes
   over-added : (ns : List ℤ) → IsStrictlySortedBy int_cmp ns → Contains ns b
@@ -82,12 +78,7 @@ module _ (P : ℤ → Bool) (b v : ℤ) (g : ℤ → ℤ) where
 -- the total of a block's days, with one more day in front
 total-front : (x : DayValue) (xs : List DayValue) (n : ℤ) → total (map (λ y. y.1) (days_in (x ∷ xs) n)) ≡ cond
     (int_eq (block_of x.0) n) (x.1 +ℤ total (map (λ y. y.1) (days_in xs n))) (total (map (λ y. y.1) (days_in xs n)))
-total-front x xs n =
-    elim (int_eq (block_of x.0) n) as (λ t. total (map (λ y. y.1) (cond t (x ∷ days_in xs n) (days_in xs n))) ≡ cond t
-    (x.1 +ℤ total (map (λ y. y.1) (days_in xs n))) (total (map (λ y. y.1) (days_in xs n)))) [
-      | true ↦ refl
-      | false ↦ refl
-    ]
+total-front x xs n = grind (arith, ints)
 
 -- the total of the days in blocks that pass is found block by block
 total-by_blocks : (P : ℤ → Bool) (ns : List ℤ) (days : List DayValue) → IsStrictlySortedBy int_cmp ns
@@ -111,16 +102,10 @@ totals-summaries : (P : ℤ → Bool) (days : List DayValue) (ms : List Summary)
     → total (map (λ m. m.total) (filter (λ m. P m.number) ms)) ≡ total
     (map (λ n. total (map (λ y. y.1) (days_in days n))) (filter P (map (λ m. m.number) ms)))
 totals-summaries P days [] h = refl
-totals-summaries P days (m ∷ ms) h =
-    let g : ℤ → ℤ = λ n. total (map (λ y. y.1) (days_in days n)) in
-    let part = ap (λ (z : ℤ). cond (P m.number) z (pos 0)) h.0.total_value in
-    let of_ms = total-cons (λ (k : Summary). k.total) (λ k. P k.number) m ms in
-    let of_ns = total-cons g P m.number (map (λ k. k.number) ms) in
-    omega (arith, ints, totals-summaries P days ms h.1)
+totals-summaries P days (m ∷ ms) h = grind (arith, ints, total-cons, totals-summaries P days ms h.1)
 
 -- the total of some blocks is that of their days
 pub summaries_total-is : (s : Usable) (ms : List Summary) → AreOfBlocks (HasSum s.days) s ms → (w : ℕ) (first : ℤ)
     → summaries_total ms w first ≡ blocks_total s.days w first
 summaries_total-is s ms are w first =
-    totals-summaries (is_among first w) s.days ms are.each
-    ∙ sym (total-by_blocks (is_among first w) (map (λ m. m.number) ms) s.days are.by_number are.all)
+    grind (arith, ints, totals-summaries (is_among first w) s.days ms are.each, total-by_blocks)

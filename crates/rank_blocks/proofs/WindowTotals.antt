@@ -1,5 +1,5 @@
 -- The greatest total of so many blocks in a row, as a loop over the summaries finds it.
-use Rattle.std.proofs.Common.{◌≡◌, ℕ, Bool, true, false, cond, List, [], ◌∷◌, ◌⊎◌, inl, inr, refl, ap, ◌∙◌, subst}
+use Rattle.std.proofs.Common.{◌≡◌, ℕ, true, false, cond, List, [], ◌∷◌, ◌⊎◌, inl, inr, refl, ◌∙◌, subst}
 use Rattle.std.proofs.Common.{arith, ℤ, pos, ◌≤ℤ◌, ◌<ℤ◌, ◌+ℤ◌}
 use Rattle.std.specs.Prelude.{int_le, int_lt}
 use Rattle.std.specs.List.{AllByRecursion}
@@ -13,6 +13,7 @@ use Rattle.rank_blocks.specs.Reached.{in_range, summaries_total, IsTotalFrom}
 use Rattle.rank_blocks.proofs.DayTests.{not_both, both_pass, pass_both, int_le-true, int_lt-true, le-int_le, lt-int_lt}
 use Rattle.rank_blocks.proofs.DayTests.{int_le_or_lt, fails}
 use Rattle.rank_blocks.proofs.Members.{from_each, total-cons, part-least, total-least, total-wider}
+use Rattle.std.proofs.Common.{rules}
 
 -- no total of a block is below zero
 abbrev pub AreFalls : List Summary → Type 0
@@ -24,14 +25,11 @@ AreBehind b ms = AllByRecursion (λ m. b <ℤ m.number) ms
 
 -- what the test on a window tells
 pub among-parts : (first : ℤ) (w : ℕ) (b : ℤ) → is_among first w b ≡ true → (first ≤ℤ b) × (b <ℤ (first +ℤ pos w))
-among-parts first w b e =
-    let both = both_pass (int_le first b) (int_lt b (first +ℤ pos w)) e in
-    (int_le-true first b both.0, int_lt-true b (first +ℤ pos w) both.1)
+among-parts first w b e = grind (arith, ints, both_pass, int_le-true, int_lt-true)
 
 -- and what makes it pass
 pub among-from : (first : ℤ) (w : ℕ) (b : ℤ) → first ≤ℤ b → b <ℤ (first +ℤ pos w) → is_among first w b ≡ true
-among-from first w b low high = pass_both (int_le first b) (int_lt b (first +ℤ pos w)) (le-int_le first b low)
-    (lt-int_lt b (first +ℤ pos w) high)
+among-from first w b low high = grind (arith, ints, pass_both, le-int_le, lt-int_lt)
 
 -- a number before a window isn't among it
 pub before-among : (first : ℤ) (w : ℕ) (b : ℤ) → b <ℤ first → is_among first w b ≡ false
@@ -44,16 +42,12 @@ behind-among first w b le = fails (is_among first w b) (λ e. omega (arith, ints
 -- the total with a block in front that is among the window
 pub total-in : (m : Summary) (ms : List Summary) (w : ℕ) (first : ℤ) → is_among first w m.number ≡ true
     → summaries_total (m ∷ ms) w first ≡ m.total +ℤ summaries_total ms w first
-total-in m ms w first e =
-    let own = ap (λ (t : Bool). cond t m.total (pos 0)) e in
-    omega (arith, ints, total-cons (λ (k : Summary). k.total) (λ k. is_among first w k.number) m ms)
+total-in m ms w first e = grind (arith, ints, total-cons)
 
 -- the total with a block in front that isn't
 pub total-out : (m : Summary) (ms : List Summary) (w : ℕ) (first : ℤ) → is_among first w m.number ≡ false
     → summaries_total (m ∷ ms) w first ≡ summaries_total ms w first
-total-out m ms w first e =
-    let none = ap (λ (t : Bool). cond t m.total (pos 0)) e in
-    omega (arith, ints, total-cons (λ (k : Summary). k.total) (λ k. is_among first w k.number) m ms)
+total-out m ms w first e = grind (arith, ints, total-cons)
 
 -- where all blocks stand behind a window, its total is zero
 pub total-behind : (ms : List Summary) (w : ℕ) (first : ℤ) → AllByRecursion (λ m. (first +ℤ pos w) ≤ℤ m.number) ms
@@ -69,18 +63,12 @@ total-fall ms w first falls = total-least (λ m. m.total) (λ m. is_among first 
 -- with a block in front, a window has at least the total that it had
 total-more : (m : Summary) (ms : List Summary) (w : ℕ) (first : ℤ) → AreFalls (m ∷ ms)
     → summaries_total ms w first ≤ℤ summaries_total (m ∷ ms) w first
-total-more m ms w first falls =
-    let whole = total-cons (λ (k : Summary). k.total) (λ k. is_among first w k.number) m ms in
-    omega (arith, ints, part-least (is_among first w m.number) m.total falls.0)
+total-more m ms w first falls = grind (arith, ints, total-cons, part-least)
 
 -- where no block stands before the later of two windows, that one has at least the total of the other
 total-later : (ms : List Summary) (w : ℕ) (first other : ℤ) → AreFalls ms → first ≤ℤ other
     → AllByRecursion (λ m. other ≤ℤ m.number) ms → summaries_total ms w first ≤ℤ summaries_total ms w other
-total-later ms w first other falls le h =
-    total-wider (λ m. m.total) (λ m. is_among first w m.number) (λ m. is_among other w m.number) ms falls
-    (from_each (λ m. other ≤ℤ m.number) (λ m. is_among first w m.number ≡ true → is_among other w m.number ≡ true) ms
-    (λ m low e. let parts = among-parts first w m.number e in among-from other w m.number low
-    (let high = parts.1 in omega (arith, ints))) h)
+total-later ms w first other falls le h = grind (arith, ints, total-wider, from_each, among-parts, among-from)
 
 -- what is known of the greatest total so far, where some blocks are still to come: it is a total of a window of the
 -- range; the window from the range's last block has no more; of any window of the range it has the total, or all of the
@@ -99,43 +87,21 @@ le-same a = omega (arith, ints)
 module _ (r : BlockRange) (w : ℕ) (ms : List Summary) where
   -- the total of the window from the last block of the range
   pub so_far-start : r.first ≤ℤ r.last → IsSoFar r w ms ms (summaries_total ms w r.last)
-  so_far-start le = record {
-    one = (
-      r.last,
-      pass_both (int_le r.first r.last) (int_le r.last r.last) (le-int_le r.first r.last le)
-          (le-int_le r.last r.last (le-same r.last)),
-      refl,
-    );
-    last = le-same (summaries_total ms w r.last);
-    part = λ b. le-same (summaries_total ms w b);
-    each = λ b e. inr refl;
-  }
+  so_far-start le = grind (arith, ints, pass_both, le-int_le, le-same)
 
   -- once no block is still to come, it is the greatest
   pub so_far-end : (found : ℤ) → AreFalls ms → IsSoFar r w ms [] found → IsGreatest (IsTotalFrom r ms w) found
-  so_far-end found falls far = record {
-    is_one = far.one;
-    is_most = λ y h.
-        let fall = total-fall ms w far.one.0 falls in
-        elim (far.each h.0 h.1) [
-          | inl le ↦ omega (arith, ints)
-          | inr none ↦ omega (arith, ints)
-        ];
-  }
+  so_far-end found falls far = grind (arith, ints, total-fall)
 
   module _ (m : Summary) (later : List Summary) (found : ℤ) (far : IsSoFar r w ms (m ∷ later) found)
       (falls : AreFalls (m ∷ later)) (behind : AreBehind m.number later) where
     -- what is still to come is part of what was
     part-later : (b : ℤ) → summaries_total later w b ≤ℤ summaries_total ms w b
-    part-later b =
-        let whole = far.part b in
-        let more = total-more m later w b falls in
-        omega (arith, ints)
+    part-later b = search (rules, arith, total-more)
 
     -- the blocks to come stand at or behind the first of them
     at_or_behind : (b : ℤ) → b ≤ℤ m.number → AllByRecursion (λ k. b ≤ℤ k.number) (m ∷ later)
-    at_or_behind b le =
-        (le, from_each (λ k. m.number <ℤ k.number) (λ k. b ≤ℤ k.number) later (λ k lt. omega (arith, ints)) behind)
+    at_or_behind b le = grind (arith, ints, from_each)
 
     -- a block that isn't in the range changes nothing
     pub so_far-out : in_range r m.number ≡ false → IsSoFar r w ms later found

@@ -11,6 +11,7 @@ use Rattle.std.proofs.Math.Nat.{pow-succ'}
 use Rattle.ghcn_series.proofs.LastDays.{highest-bit}
 use Rattle.rank_blocks.specs.DayRuns.{has_bit, AllPass, ComeFirst, ComeLast}
 use Rattle.rank_blocks.proofs.DayTests.{at_most_or_more}
+use Rattle.std.proofs.lemmas.Int.{ints}
 
 -- a bit that is set passes, and one that isn't fails
 set-is : (word j b : ℕ) → bit_at word j ≡ b → has_bit word j ≡ (b == 1)
@@ -27,12 +28,7 @@ moved-up w k lt =
 
 -- a word that is moved up has no lowest bit
 lowest-empty : (w : ℕ) → bit_at (w * 2 ^ 1 % 2 ^ 32) 0 ≡ 0
-lowest-empty w =
-    let whole : (w * 2 ^ 1 / 2 ^ 32) * 2 ^ 32 + w * 2 ^ 1 % 2 ^ 32 ≡ w * 2 ^ 1 + 0 = omega arith in
-    sym (bit_at_cat_low (w * 2 ^ 1 / 2 ^ 32) 32 (w * 2 ^ 1 % 2 ^ 32) 0 (omega arith))
-    ∙ ap (λ (n : ℕ). bit_at n 0) whole
-    ∙ bit_at_cat_low w 1 0 0 (omega arith)
-    ∙ bit_at-zero 0
+lowest-empty w = grind (arith, ints, bit_at_cat_low, bit_at-zero)
 
 -- what remains of a word: a bit is set where more than n bits of the word that are set end; and n set bits follow one
 -- another somewhere
@@ -53,21 +49,12 @@ module _ (word n ends : ℕ) (are : AreEnds word n ends) (fits : ends < 2 ^ 32) 
 
   -- the lowest bit is not
   next-lowest : bit_at next 0 ≡ 0
-  next-lowest = bit_at_and ends (ends * 2 ^ 1 % 2 ^ 32) 0 ∙ ap (min (bit_at ends 0)) (lowest-empty ends)
-      ∙ least-of (bit_at ends 0)
-    where
-      -- no number is below 0
-      least-of : (k : ℕ) → min k 0 ≡ 0
-      least-of k = omega arith
+  next-lowest = grind (arith, ints, bit_at_and ends (ends * 2 ^ 1 % 2 ^ 32) 0, lowest-empty ends)
 
   -- nor is one of the first n + 1
   next-none : (k : ℕ) → k < n + 1 → k < 32 → bit_at next k ≡ 0
   next-none zero lt within = next-lowest
-  next-none (suc k) lt within =
-      let bit = next-bit k (omega arith) in
-      let same : k + 1 ≡ suc k = omega arith in
-      let before = are.none k (omega arith) in
-      ap (bit_at next) (sym same) ∙ bit ∙ (omega arith)
+  next-none (suc k) lt within = grind (arith, ints, next-bit k (omega arith))
 
   -- n more than none end where a bit remains
   module _ (some_end : ends ≡ 0 → ⊥) where

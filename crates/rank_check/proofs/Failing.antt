@@ -190,7 +190,8 @@ pub fault-placed : (q : Asked) (kth : Option ℤ) (rows : List Candidate) (count
     (line : Entry) (count : Option ℕ) (s : Option Usable) (o : Option Verdict)
     → o ≡ first_failing (line_tests q kth rows (i + 4) line count s) → count ≡ slice_get counts i
     → slice_get lines i ≡ Some line
-    → option_map (λ l. first_failing (line_tests q kth rows (i + 4) l (slice_get counts i) s)) (slice_get lines i) ≡ Some o
+    → option_map (λ l. first_failing (line_tests q kth rows (i + 4) l (slice_get counts i) s)) (slice_get lines i) ≡
+    Some o
 fault-placed q kth rows counts lines i line count s o said own there =
     ap (option_map (λ (l : Entry). first_failing (line_tests q kth rows (i + 4) l (slice_get counts i) s))) there
     ∙ ap (λ (n : Option ℕ). Some (first_failing (line_tests q kth rows (i + 4) line n s))) (sym own)
@@ -313,7 +314,8 @@ pub line_there : (q : Asked) (c : Contents) (kth : Option ℤ) (rows : List Cand
     → (e : Entry) × (slice_get es i ≡ Some e) × (o ≡ first_failing (entry_tests q c kth rows counts (i + 1, e)))
 line_there q c kth rows counts es i o h = by (slice_get es i) refl h
   where
-    by : (found : Option Entry) → slice_get es i ≡ found → option_map (λ e. fault_at q c kth rows counts e (i + 4) i) found ≡ Some o
+    by : (found : Option Entry) → slice_get es i ≡ found → option_map (λ e. fault_at q c kth rows counts e (i + 4) i)
+        found ≡ Some o
         → (e : Entry) × (slice_get es i ≡ Some e) × (o ≡ first_failing (entry_tests q c kth rows counts (i + 1, e)))
     by None f g = absurd cc
     by (Some e) f g =

@@ -90,7 +90,8 @@ report_decided q c r fault few same rows number =
 -- ---- a certificate
 
 -- the fault of the lines, or else of their number, is that of the certificate
-pub certificate_decided : (q : Asked) (c : Contents) (rows : List Candidate) (z : Certified) (fault few : Option Verdict)
+pub certificate_decided : (q : Asked) (c : Contents) (rows : List Candidate) (z : Certified)
+    (fault few : Option Verdict)
     → same_query z.query q ≡ true → same_score z.kth (kth_of_query q c) ≡ true
     → fault ≡ first_failing (tests_of_lines q c z.kth rows z.counts z.entries)
     → few ≡ first_failing (length_test (length (morsels q c)) (length z.entries) ∷ [])

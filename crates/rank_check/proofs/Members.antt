@@ -146,7 +146,8 @@ in_all f (z ∷ zs) x y (inl e) k = in_left (f z) (flat_map f zs) y (subst (λ w
 in_all f (z ∷ zs) x y (inr h) k = in_right (f z) (flat_map f zs) y (in_all f zs x y h k)
 
 -- and back
-pub all_in : {X Y : Type 0} (f : X → List Y) (xs : List X) (y : Y) → In (flat_map f xs) y → (x : X) × In xs x × In (f x) y
+pub all_in : {X Y : Type 0} (f : X → List Y) (xs : List X) (y : Y) → In (flat_map f xs) y → (x : X) × In xs x × In (f x)
+    y
 all_in f [] y h = absurd h
 all_in f (x ∷ xs) y h = elim (in_either (f x) (flat_map f xs) y h) [
   | inl k ↦ (x, inl refl, k)

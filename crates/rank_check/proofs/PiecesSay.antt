@@ -91,9 +91,11 @@ module _ (q : Asked) (c : Contents) (right : IsContents c) (rows : List Named) w
       let st : Station = h.0 in
       let listed = found_in (is_station_of e.id) c.stations h.0 h.1 in
       let id : h.0.id ≡ e.id = same_id-is h.0.id e.id listed.1 in
-      let tests = passing (piece_tests q h.0 (series_of c h.0.id (score_element q.score)) e n (rows_with e.id rows) worst)
+      let tests = passing (piece_tests q h.0 (series_of c h.0.id (score_element q.score)) e n (rows_with e.id rows)
+      worst)
       h.2 in
-      let own = and_parts (same_id h.0.id e.id) (is_morsel q h.0 (series_of c h.0.id (score_element q.score))) tests.0 in
+      let own = and_parts (same_id h.0.id e.id) (is_morsel q h.0 (series_of c h.0.id (score_element q.score)))
+      tests.0 in
       let found = morsel_of q c h.0 listed.0 own.1 in
       let u : Usable = found.0 in
       let there = subst (λ (o : Option Usable).
@@ -225,7 +227,8 @@ module _ (q : Asked) (c : Contents) (right : IsContents c) (rows : List Named) w
           (IsPermutation-sym (all_candidates q c) xs (ordered-permutation (all_candidates q c))) d kept.0) kept.1)
 
       -- so they are the first k
-      first_are : (o : Option Candidate) → slice_get (of_rows rows) (q.k - 1) ≡ o → filter (is_within o) xs ≡ of_rows rows
+      first_are : (o : Option Candidate) → slice_get (of_rows rows) (q.k - 1) ≡ o → filter (is_within o) xs ≡ of_rows
+          rows
           → of_rows rows ≡ take q.k xs
       first_are None e f =
           let whole : filter (is_within None) xs ≡ xs = all_kept xs in
@@ -345,7 +348,8 @@ pieces_say q c r z asked right apart can is version h =
       record {
         asked = h.head.certificate;
         kth = h.head.kth ∙ ap score_of (slice_get-map (λ (row : Named). row.0) r.rows (q.k - 1)) ∙ kth;
-        entries = entries_right q c right r.rows z.entries pieces h.head.scanned h.absent (kth_of_query q c) kth z.entries
+        entries = entries_right q c right r.rows z.entries pieces h.head.scanned h.absent (kth_of_query q c) kth
+            z.entries
             (morsels q c) (ids_right q c right r.rows z.entries pieces h.head.scanned h.absent h.head.rise) is.entries
             pieces (for_each (In (morsels q c)) (morsels q c) (λ u k. k));
         counts = counts ∙ ap (λ (l : List Candidate). map (count_of l) z.entries) best

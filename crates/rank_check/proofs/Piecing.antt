@@ -187,7 +187,8 @@ module _ (q : Asked) (st : Station) (e : Entry) (printed : ℕ) (rows : List Nam
             of_held (λ d. is_within worst d ≡ true) (of_rows rows) c within.within k,
           ),
           λ k. among_held (of_rows rows) c (or_rest (is_within worst c) (is_among (of_rows rows) c)
-              (of_held (λ d. (not (is_within worst d) || is_among (of_rows rows) d) ≡ true) (candidates q u) c all k.0) k.1),
+              (of_held (λ d. (not (is_within worst d) || is_among (of_rows rows) d) ≡ true) (candidates q u) c all k.0)
+              k.1),
         );
         names = rows_named q st u rows each;
         above = above_from e.bound (candidates q u) h.1.1.1.1.0;

@@ -135,7 +135,8 @@ pub morsel_ids : (q : Asked) (c : Contents) → IsContents c → RiseAll (map (�
 morsel_ids q c right =
     let all : List Top = map (top q) (filter (has_admitted q) (admitted_series q c)) in
     let apart : IsDistinct of_one (map (top q) (filter (has_admitted q) (admitted_series q c))) =
-    subst (λ (ss : List Usable). IsDistinct of_one (map (top q) (filter (has_admitted q) ss))) (by_station q c c.stations)
+    subst (λ (ss : List Usable). IsDistinct of_one (map (top q) (filter (has_admitted q) ss)))
+    (by_station q c c.stations)
     (distinct_tops q c c.stations right.listed.distinct) in
     let sorted : List Top = sorted_by comes_first all in
     let still : IsDistinct of_one (sorted_by comes_first all) =

@@ -337,7 +337,8 @@ right_in_pieces apart q c r z asked right can is version = (
 -- the verdict on texts, by what is known of texts that are read
 pub accepted_in_pieces : CertificatesAreRead → RightCertificatesSayRight → ReportsAreRead → RightReportsSayRight
     → AcceptedWhereRight → RightInPieces → AcceptedInPieces
-accepted_in_pieces certificates right_certificates reports right_reports accepted pieces q c report certificate r z asked
+accepted_in_pieces certificates right_certificates reports right_reports accepted pieces q c report certificate r z
+    asked
     right is_report is_certificate version =
     let law = pieces q c r z asked right is_report.can_be is_certificate.can_be version in
     let own_r : read_report report ≡ Ok r = (reports report r).1 is_report in

@@ -30,8 +30,8 @@ use Rattle.rank_check.specs.Tests.{is_among, is_above}
 abbrev pub is_morsel : Asked → Station → Option Usable → Bool
 is_morsel q st s = admits_station q st && option_map_or (has_admitted q) s false
 
--- a candidate is the worst row or precedes it; where there are fewer rows than were asked for, there is no worst row, and
--- each is within
+-- a candidate is the worst row or precedes it; where there are fewer rows than were asked for, there is no worst row,
+-- and each is within
 abbrev pub is_within : Option Candidate → Candidate → Bool
 is_within None c = true
 is_within (Some worst) c = precedes c worst || is_eq (full_cmp c worst)
@@ -69,7 +69,8 @@ last_tests q s e rows worst =
     ∷ (not e.skipped || is_below (score_of worst) e.bound, NotBelow)
     ∷ []
 
--- the tests of a line with its count, of its station and series, and of the report's rows of the station, in their order
+-- the tests of a line with its count, of its station and series, and of the report's rows of the station, in their
+-- order
 abbrev pub piece_tests : Asked → Station → Option Usable → Entry → ℕ → List Named → Option Candidate → List (Bool × Why)
 piece_tests q st s e printed rows worst =
     (same_id st.id e.id && is_morsel q st s, OtherSeries)
@@ -82,9 +83,9 @@ piece_tests q st s e printed rows worst =
 
 -- ---- a right line
 
--- the line names a morsel of this station; the rows are exactly its candidates that are the worst row or precede it, each
--- with the station's name, and the count is theirs; no candidate scores above the bound; and it is passed over only where
--- the bound is strictly below the k-th score
+-- the line names a morsel of this station; the rows are exactly its candidates that are the worst row or precede it,
+-- each with the station's name, and the count is theirs; no candidate scores above the bound; and it is passed over
+-- only where the bound is strictly below the k-th score
 pub record IsRightPiece (q : Asked) (st : Station) (s : Option Usable) (e : Entry) (printed : ℕ) (rows : List Named)
     (worst : Option Candidate) : Type 0 where
   pub series : Usable

@@ -8,8 +8,6 @@ mod both;
 mod crewed;
 mod cut;
 mod gate;
-#[cfg(test)]
-mod growths;
 mod job;
 mod part;
 mod places;

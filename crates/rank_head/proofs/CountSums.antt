@@ -67,7 +67,13 @@ hit_once i (e ∷ es) up s = by (hits i e) refl s (λ k. hit_once i es (rise-beh
         → (is_scanned es i ≡ true → sum (map (hit i) es) ≡ 1) → sum (map (hit i) (e ∷ es)) ≡ 1
     by true h k again =
         let here : hit i e ≡ 1 = ap (λ (b : Bool). cond b 1 0) h in
-        omega (arith, sum-cons (hit i e) (map (hit i) es), here, no_hits i es (all_miss i e es (behind_first e es up) h))
+        omega (
+          arith,
+          sum-cons (hit i e) (map (hit i) es),
+          here,
+          no_hits i es
+              (all_miss i e es (behind_first e es up) h),
+        )
     by false h k again =
         let here : hit i e ≡ 0 = ap (λ (b : Bool). cond b 1 0) h in
         omega (arith, sum-cons (hit i e) (map (hit i) es), here, again k)

@@ -97,7 +97,8 @@ module _ (q : Asked) (rows : List Named) (kth : Option ℤ) (es : List Entry) (o
   -- the first of the early tests
   early_is : t ≡ first_failing (order_tests rows ++ floor_test q rows kth ∷ rising_tests es)
   early_is =
-      let made : t ≡ option_or (option_or (first_failing (order_tests rows)) (first_failing (floor_test q rows kth ∷ [])))
+      let made : t ≡ option_or (option_or (first_failing (order_tests rows))
+      (first_failing (floor_test q rows kth ∷ [])))
       (first_failing (rising_tests es)) = cc in
       made ∙ early_tests q rows kth es
 
@@ -107,7 +108,8 @@ module _ (q : Asked) (rows : List Named) (kth : Option ℤ) (es : List Entry) (o
       some_decides (order_tests rows ++ floor_test q rows kth ∷ rising_tests es) (scanned_tests es rows) t early_is e
 
   -- where none does, the series of rows decide
-  pub late_decides : is_some t ≡ false → first_failing (scanned_tests es rows) ≡ first_failing (place_tests q rows kth es)
+  pub late_decides : is_some t ≡ false → first_failing (scanned_tests es rows) ≡ first_failing
+      (place_tests q rows kth es)
   late_decides e =
       none_decides (order_tests rows ++ floor_test q rows kth ∷ rising_tests es) (scanned_tests es rows) t early_is e
 

@@ -68,7 +68,8 @@ unfolding digits
 queries = (refl, refl)
 
 -- rows that are not in order, the second and the third; a row twice isn't in order
-order : (head_fault (ask 2) (report (row b (pos 305) ∷ row a (pos 311) ∷ [])) (certificate None [] []) ≡ Some (OutOfOrder 4))
+order : (head_fault (ask 2) (report (row b (pos 305) ∷ row a (pos 311) ∷ [])) (certificate None [] []) ≡ Some
+    (OutOfOrder 4))
     × (head_fault (ask 2) (report (row a (pos 311) ∷ row a (pos 311) ∷ [])) (certificate None [] [])
     ≡ Some (OutOfOrder 4))
     × (head_fault (ask 2) (report (row a (pos 311) ∷ row b (pos 311) ∷ row b (pos 312) ∷ [])) (certificate None [] [])
@@ -89,7 +90,8 @@ rise : (head_fault (ask 2) (report []) (certificate None (line false b (pos 1) �
     × (head_fault (ask 2) (report []) (certificate None (line false a (pos 1) ∷ line true a (pos 1) ∷ []) [])
     ≡ Some (NotRising 5))
     × (head_fault (ask 2) (report [])
-    (certificate None (line false a (pos 1) ∷ line false c (pos 1) ∷ line false b (pos 1) ∷ []) []) ≡ Some (NotRising 6))
+    (certificate None (line false a (pos 1) ∷ line false c (pos 1) ∷ line false b (pos 1) ∷ []) []) ≡ Some
+    (NotRising 6))
 unfolding digits
 rise = (refl, refl, refl)
 

@@ -125,7 +125,8 @@ module _ (rows : List Named) (z : Certified) where
       k.1 ∙ sym (ap (λ (v : ℕ). counts_of v (of_rows rows) z.entries) k.0)
   counts_from (inr k) e =
       same_numbers z.entries z.counts (count_of (of_rows rows)) k.1
-      (all_pass (λ (two : ℕ × ℕ). two.0 == two.1) NotCounted 4 (zip z.counts (map (count_of (of_rows rows)) z.entries)) e)
+      (all_pass (λ (two : ℕ × ℕ). two.0 == two.1) NotCounted 4 (zip z.counts (map (count_of (of_rows rows)) z.entries))
+      e)
       ∙ sym (ap (λ (v : ℕ). counts_of v (of_rows rows) z.entries) k.0)
 
   -- and the tests of those of the rows pass
@@ -171,7 +172,8 @@ module _ (certificates : CertificatesAreRead) (q : Asked) (r : Reported) (z : Ce
         certificate = one_query certificates z.query q can_z.asked asked two.0;
         order = all_pass (λ (two : Named × Named). precedes two.0.0 two.1.0) OutOfOrder 4 (neighbours r.rows) order.0;
         kth = score_from z.kth (kth_of_best q.k (of_rows r.rows)) floor.0;
-        rise = all_pass (λ (two : Entry × Entry). stands_before two.0.id two.1.id) NotRising 5 (neighbours z.entries) floor.1;
+        rise = all_pass (λ (two : Entry × Entry). stands_before two.0.id two.1.id) NotRising 5 (neighbours z.entries)
+            floor.1;
         scanned = all_pass (λ (row : Named). is_scanned z.entries row.0.id) NotScanned 3 r.rows places.1;
         counts = counts_from r.rows z can_z.counts body.1;
       }

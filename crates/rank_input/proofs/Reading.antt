@@ -1,6 +1,6 @@
 -- What an intake takes, and what it answers at its end.
 use Rattle.std.proofs.Common.{◌≡◌, List, ℕ, true, refl, subst}
-use Rattle.std.specs.Prelude.{Result, Ok, Err}
+use Rattle.std.specs.Prelude.{Result, Ok}
 use Rattle.ghcn_files.specs.declared.station.Station.{Station}
 use Rattle.ghcn_files.specs.Listed.{listed}
 use Rattle.ghcn_series.specs.declared.fault.DataFault.{DataFault}
@@ -13,12 +13,13 @@ use Rattle.ghcn_series.specs.Fed.{files_of}
 use Rattle.ghcn_series.specs.Pieces.{TakesPiece, EndsFile, HoldsFed, RefusesFed}
 use Rattle.rank_query.specs.Asked.{Asked}
 use Rattle.rank_query.specs.Reading.{read_query}
+use Rattle.rank_query.proofs.Asks.{read_asks}
 use Rattle.ghcn_fields.specs.Refusals.{IsRefusal}
 use Rattle.rank_input.specs.declared.fault.Fault.{Fault}
 use Rattle.rank_input.specs.declared.intake.Intake.{Intake}
 use Rattle.rank_input.specs.Input.{of_data, is_memory, read_input}
 use Rattle.rank_input.specs.Taken.{HasTaken, IsReading, IsRead, Input, fed_for}
-use Rattle.rank_input.specs.Taken.{with_bytes, with_file_end, TakesBytes, TakesFileEnd, HoldsInput, RefusesInput}
+use Rattle.rank_input.specs.Taken.{TakesBytes, TakesFileEnd, HoldsInput, RefusesInput}
 
 -- an intake with a reader reads what it was given
 reading_of : (t : Intake) (q : Asked) (r : DataReader) (i : Input) → t.read ≡ Ok (q, r) → HasTaken t i
@@ -74,7 +75,7 @@ holds_input t q r held is holds = record {
         whole = are.whole;
         read = record {
           list = reading.stations;
-          asks = reading.asks;
+          asks = read_asks i.query q reading.asks;
           lists = reading.lists;
           holds = are.read;
         };

@@ -13,6 +13,7 @@ use Rattle.rank_query.specs.declared.fault.QueryFault.{QueryFault}
 use Rattle.rank_query.specs.declared.fault.QueryFault.TheVariants as query
 use Rattle.rank_query.specs.Asked.{Asked}
 use Rattle.rank_query.specs.Reading.{read_query}
+use Rattle.rank_query.specs.Asks.{Asks}
 use Rattle.rank_input.specs.declared.fault.Fault.{Fault}
 use Rattle.rank_input.specs.declared.fault.Fault.TheVariants.{StationLine, TooManyStations, Memory, DailyLine}
 use Rattle.rank_input.specs.declared.fault.Fault.TheVariants.{TooManyFiles, QueryTooLong, UnexpectedWord, QueryEnds}
@@ -66,7 +67,7 @@ read_input query stations files =
 pub record IsReadOf (query stations : List ℕ) (files : List (List ℕ)) (asked : Asked) (held : Contents)
     : Type 0 where
   pub list : List Station
-  pub asks : read_query query ≡ Ok asked
+  pub asks : Asks query asked
   pub lists : listed stations ≡ Ok list
   pub holds : data_of list files ≡ Ok held
 

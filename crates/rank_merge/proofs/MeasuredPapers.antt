@@ -1,7 +1,7 @@
 -- The bounds of merged papers are those of the series, where the parts' are, and no station has series in two parts.
 use Rattle.std.proofs.Common.{◌≡◌, inr, ◌≤◌, List, [], ◌∷◌, length, map, take, Option, Ok, sym, ap, ◌∙◌, subst, arith}
 use Rattle.std.proofs.Common.{ℕ, ℤ}
-use Rattle.std.specs.Prelude.{nat_le, IfSome, IsTrue, FitsSigned}
+use Rattle.std.specs.Prelude.{nat_le, IfSome, FitsSigned}
 use Rattle.std.specs.Int.{w64}
 use Rattle.std.specs.List.{flat_map, AllByRecursion, AllZip}
 use Rattle.std.proofs.lemmas.Bool.{leb-true, and_parts}
@@ -9,8 +9,6 @@ use Rattle.std.proofs.lemmas.List.{length-take}
 use Rattle.std.proofs.lemmas.List.Sums.{count_by-le-length}
 use Rattle.ghcn_fields.specs.Sorting.{sorted_by}
 use Rattle.ghcn_files.specs.declared.station.Station.{Station}
-use Rattle.ghcn_files.specs.declared.station.StationId.{StationId}
-use Rattle.ghcn_files.specs.Ids.{is_id, same_id}
 use Rattle.ghcn_series.specs.Series.{Usable, Contents}
 use Rattle.ghcn_series.specs.Held.{IsContents}
 use Rattle.rank_query.specs.Asked.{Asked, IsAsked}
@@ -30,6 +28,7 @@ use Rattle.rank_merge.proofs.Lists.{zip-append, zip-weaker, zip-same}
 use Rattle.rank_merge.proofs.MergedPapers.{WithData, IsRightPart, data_of_parts, parts_alone}
 use Rattle.rank_merge.proofs.RightHeads.{best_are}
 use Rattle.rank_merge.proofs.MergedTexts.{Known, IsMerged, all, is_certificate, same_data}
+use Rattle.std.proofs.lemmas.Int.{ints}
 
 module _ (q : Asked) where
   -- a line has the ID and the bound of a series
@@ -50,10 +49,7 @@ module _ (q : Asked) where
   -- in order they stay so
   sorted_measured : (es : List Entry) (us : List Usable) → AllZip IsMeasuredEntry es us
       → AllZip IsMeasuredEntry (sorted_by (λ a b. id_comes_first a.id b.id) es) (sorted_by series_first us)
-  sorted_measured es us h =
-      sorted-zip IsMeasuredEntry (λ (a b : Entry). id_comes_first a.id b.id) series_first
-      (λ a x b y r t. ap (λ (i : StationId). id_comes_first i x.id) r.0
-      ∙ ap (λ (i : StationId). id_comes_first b.id i) t.0) es us h
+  sorted_measured es us h = grind (arith, ints, sorted-zip)
 
   -- ---- what is read of a measured certificate
 
@@ -63,19 +59,11 @@ module _ (q : Asked) where
   each_can kth [] fs us h k can = tt
   each_can kth (x ∷ es) fs [] h k can = absurd h
   each_can kth (x ∷ es) [] (u ∷ us) h k can = absurd k
-  each_can kth (x ∷ es) (y ∷ fs) (u ∷ us) h k can = (
-    record {
-      id = subst (λ (i : StationId). IsTrue (is_id i.0)) (k.0.named ∙ sym h.0.named) can.0.id;
-      bound = h.0.fits;
-    },
-    each_can kth es fs us h.1 k.1 can.1,
-  )
+  each_can kth (x ∷ es) (y ∷ fs) (u ∷ us) h k can = grind (arith, ints, each_can kth es fs us h.1 k.1 can.1)
 
   -- of few candidates few are of one station, and none is counted where it was passed over
   one_count : (best : List Candidate) (x : Entry) → length best ≤ 1000 → IsCount x (count_of best x)
-  one_count best x few =
-      let counted = count_by-le-length (λ (c : Candidate). same_id c.id x.id) best in
-      record { few = grind arith; none = λ t. grind arith }
+  one_count best x few = grind (arith, ints, count_by-le-length)
 
   -- so it is with all counts
   all_counts : (best : List Candidate) (es : List Entry) → length best ≤ 1000

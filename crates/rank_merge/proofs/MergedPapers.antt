@@ -1,9 +1,8 @@
 -- The merged papers of parts say what is right of the whole, where the whole is cut into the parts.
 use Rattle.std.proofs.Common.{◌≡◌, ℕ, ◌≤◌, ◌<◌, true, cond, List, [], ◌∷◌, ◌++◌, map, take, Option, Some, refl, sym, ap}
-use Rattle.std.proofs.Common.{◌∙◌, subst, arith, ℤ, ◌≤ℤ◌}
+use Rattle.std.proofs.Common.{◌∙◌, subst, arith, ℤ}
 use Rattle.std.specs.Prelude.{int_lt}
 use Rattle.std.specs.List.{flat_map, AllByRecursion, AllZip}
-use Rattle.std.specs.Ordering.{is_le}
 use Rattle.std.proofs.lemmas.List.{map-append, take-map}
 use Rattle.std.proofs.lemmas.List.Sorted.{sum_by-IsPermutation}
 use Rattle.ghcn_fields.proofs.Ordered.{each-weaker}
@@ -15,7 +14,7 @@ use Rattle.ghcn_series.specs.Held.{IsContents}
 use Rattle.ghcn_series.proofs.ListFacts.{both_all}
 use Rattle.rank_query.specs.Asked.{Asked, IsAsked}
 use Rattle.rank_scores.specs.declared.candidate.Candidate.{Candidate}
-use Rattle.rank_scores.specs.Order.{full_cmp, is_below}
+use Rattle.rank_scores.specs.Order.{is_below}
 use Rattle.rank_scores.specs.Cut.{IsSameFor, IsCut, series_first}
 use Rattle.rank_scores.specs.Morsels.{all_candidates, morsels, id_comes_first, best_of_query, kth_of_query}
 use Rattle.rank_scores.proofs.QueryCandidates.{all_apart}
@@ -35,6 +34,7 @@ use Rattle.rank_merge.specs.Merged.{merged_report, merged_certificate}
 use Rattle.rank_pool.proofs.Orders.{take-all, sorted-all}
 use Rattle.rank_merge.proofs.Lists.{zip-append, zip-weaker}
 use Rattle.rank_merge.proofs.StableSorts.{sorted-map}
+use Rattle.std.proofs.lemmas.Int.{ints}
 
 -- ---- parts and their data
 
@@ -79,15 +79,7 @@ zip_moved q kth [] [] (v ∷ vs) h k = absurd k
 zip_moved q kth [] (u ∷ us) vs h k = absurd h
 zip_moved q kth (e ∷ es) [] vs h k = absurd h
 zip_moved q kth (e ∷ es) (u ∷ us) [] h k = absurd k
-zip_moved q kth (e ∷ es) (u ∷ us) (v ∷ vs) h k = (
-  record {
-    named = h.0.named ∙ k.0.id;
-    above = subst (λ (ds : List Candidate). AllByRecursion (λ d. d.score ≤ℤ e.bound) ds) k.0.candidates h.0.above;
-    fits = h.0.fits;
-    passed_over = h.0.passed_over;
-  },
-  zip_moved q kth es us vs h.1 k.1,
-)
+zip_moved q kth (e ∷ es) (u ∷ us) (v ∷ vs) h k = grind (arith, ints, zip_moved q kth es us vs h.1 k.1)
 
 -- no part has more candidates above a number than all parts
 fewer_above : (q : Asked) (ds : List Contents) → AllByRecursion (λ d. (b : ℤ)
@@ -195,10 +187,7 @@ module _ (q : Asked) where
 
     -- and the merged rows
     names_merged : AllByRecursion IsNamed (merged_rows q.k (parts_alone ps))
-    names_merged =
-        take-all IsNamed q.k (rows_in_order (rows_of (parts_alone ps)))
-        (sorted-all (λ (a b : Named). is_le (full_cmp a.0 b.0)) IsNamed (rows_of (parts_alone ps))
-        (names_of_parts ps cut.stations parts))
+    names_merged = grind (arith, ints, take-all, sorted-all, names_of_parts ps cut.stations parts)
 
     -- ---- both papers
 

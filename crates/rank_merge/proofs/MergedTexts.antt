@@ -1,7 +1,7 @@
 -- What is merged of right papers is right for all files.
-use Rattle.std.proofs.Common.{◌≡◌, ◌≤◌, inr, ℕ, suc, Bool, false, cond, List, [], ◌∷◌, ◌++◌, length, map, Option, Some}
+use Rattle.std.proofs.Common.{◌≡◌, inr, ℕ, suc, Bool, false, cond, List, [], ◌∷◌, map, Option, Some}
 use Rattle.std.proofs.Common.{None, Result, Ok, Err, refl, sym, ap, ◌∙◌, subst, arith}
-use Rattle.std.specs.List.{flat_map, list_any, AllByRecursion, AllZip, IsDistinct, find}
+use Rattle.std.specs.List.{list_any, AllByRecursion, AllZip, IsDistinct, find}
 use Rattle.std.proofs.lemmas.Bool.{le-leb}
 use Rattle.std.proofs.lemmas.List.{length-take, map-append}
 use Rattle.std.proofs.lemmas.Map.Keys.{IsDistinct-IsPermutation}
@@ -12,25 +12,23 @@ use Rattle.ghcn_files.specs.declared.station.Station.{Station}
 use Rattle.ghcn_files.specs.declared.station.StationId.{StationId}
 use Rattle.ghcn_files.specs.Ids.{same_id}
 use Rattle.ghcn_files.specs.IdLaws.{same_id-turned}
-use Rattle.ghcn_series.specs.Series.{Usable, Contents}
+use Rattle.ghcn_series.specs.Series.{Contents}
 use Rattle.ghcn_series.specs.Held.{IsContents}
 use Rattle.ghcn_series.specs.Says.{data_of}
 use Rattle.ghcn_series.proofs.ListFacts.{both_all}
 use Rattle.ghcn_fields.proofs.Ordered as ordered
 use Rattle.rank_query.specs.Asked.{Asked, IsAsked}
 use Rattle.rank_scores.specs.Cut.{Filed, IsDataOf, morsel_ids, CutByFiles}
-use Rattle.rank_scores.specs.Morsels.{morsels, id_comes_first, kth_of_query}
-use Rattle.rank_pool.specs.First.{comes_first}
-use Rattle.rank_papers.specs.Report.{Named, IsReport, report_text, WithStation, named}
-use Rattle.rank_papers.specs.ReportLines.{Reported, IsReported, IsReportOf, IsRow, SaysRightReport, read_report}
-use Rattle.rank_papers.specs.Certificate.{Entry, Certified, IsCertified, IsCertificate, IsRightEntry, SaysRight}
+use Rattle.rank_scores.specs.Morsels.{id_comes_first}
+use Rattle.rank_papers.specs.Report.{IsReport, report_text, WithStation}
+use Rattle.rank_papers.specs.ReportLines.{IsReported, IsReportOf, IsRow, SaysRightReport, read_report}
+use Rattle.rank_papers.specs.Certificate.{Entry, IsCertified, IsCertificate, SaysRight}
 use Rattle.rank_papers.specs.Certificate.{certificate_text}
 use Rattle.rank_papers.specs.CertificateLines.{read_certificate}
 use Rattle.rank_papers.specs.Laws.{CertificatesAreRead, RightCertificatesSayRight, ReportsAreRead, RightReportsSayRight}
-use Rattle.rank_head.specs.HeadTests.{head_fault}
 use Rattle.rank_head.specs.RightHead.{HeadsAreRight}
 use Rattle.rank_merge.specs.declared.fault.MergeFault.{MergeFault}
-use Rattle.rank_merge.specs.Merged.{Part, rows_of, entries_of, rows_in_order, merged_rows, merged_entries}
+use Rattle.rank_merge.specs.Merged.{Part, rows_of, entries_of, rows_in_order, merged_entries}
 use Rattle.rank_merge.specs.Merged.{merged_report, merged_certificate}
 use Rattle.rank_merge.specs.Merging.{Texts, part_of, and_parts, parts_from, twice, papers_unless, papers_of, merge}
 use Rattle.rank_merge.specs.Merging.{is_memory}
@@ -43,6 +41,7 @@ use Rattle.rank_merge.proofs.RightHeads.{right_head}
 use Rattle.rank_merge.proofs.MergedPapers.{WithData, IsRightPart, data_of_parts, parts_alone, merged_say}
 use Rattle.ghcn_files.specs.Listed.{is_station_of}
 use Rattle.rank_scores.specs.declared.candidate.Candidate.{Candidate}
+use Rattle.std.proofs.lemmas.Int.{ints}
 
 -- ---- the parts that are read
 
@@ -84,13 +83,7 @@ module _ (known : Known) (q : Asked) (asked : IsAsked q) (stations : List Statio
   -- it passes
   passes : (n : ℕ) (files : List (List ℕ)) (texts : Texts) (one : ReadPart q stations files texts)
       → part_of q n texts ≡ Ok one.part.1
-  passes n files texts one =
-      let r : Reported = one.part.1.report in
-      let z : Certified = one.part.1.certificate in
-      let none : head_fault q one.part.1.report one.part.1.certificate ≡ None =
-      (known.heads q r z asked one.can_report one.can_certificate).1
-      (right_head q one.part.0 asked one.right.contents r z one.right.report one.right.certificate) in
-      rw (one.report, one.certificate, none)
+  passes n files texts one = grind (arith, ints, right_head)
 
   -- all parts pass
   pub record AllRead (n : ℕ) (parts : List Filed) : Type 0 where
@@ -151,20 +144,13 @@ distinct_from (e ∷ es) h =
 distinct_to : (es : List Entry) → IsDistinct same_id (ids_of es) → twice es ≡ None
 unfolding IsDistinct
 distinct_to [] d = refl
-distinct_to (e ∷ es) d =
-    ap (λ b. cond b (Some e.id) (twice es)) (none_behind_from e.id es d.0) ∙ distinct_to es d.1
+distinct_to (e ∷ es) d = grind (arith, ints, none_behind_from e.id es d.0, distinct_to es d.1)
 
 -- the IDs of the lines of all parts are those of their morsels
 part_ids : (q : Asked) (ws : List WithData) → AllByRecursion (IsRightPart q) ws
     → ids_of (entries_of (parts_alone ws)) ≡ morsel_ids q (data_of_parts ws)
 part_ids q [] h = refl
-part_ids q (w ∷ ws) h =
-    map-append (λ (x : Entry). x.id) w.1.certificate.entries (entries_of (parts_alone ws))
-    ∙ ap (λ (l : List StationId). l ++ ids_of (entries_of (parts_alone ws)))
-    (zip-same (IsRightEntry q (kth_of_query q w.0)) (λ e. e.id) (λ s. s.id) (λ e s r. r.named)
-    w.1.certificate.entries (morsels q w.0) h.0.certificate.entries)
-    ∙ ap (λ (l : List StationId). map (λ (s : Usable). s.id) (morsels q w.0) ++ l) (part_ids q ws h.1)
-    ∙ sym (map-append (λ (s : Usable). s.id) (morsels q w.0) (flat_map (morsels q) (data_of_parts ws)))
+part_ids q (w ∷ ws) h = grind (arith, ints, map-append, parts_alone ws, zip-same, part_ids q ws h.1, data_of_parts ws)
 
 module _ (q : Asked) (ws : List WithData) (right : AllByRecursion (IsRightPart q) ws) where
   -- the IDs of the merged lines are these in another order
@@ -207,11 +193,7 @@ same_rows stations (x ∷ xs) (y ∷ ys) e h k =
 
 -- so two right reports are the same
 pub one_report : (q : Asked) (c : Contents) (a b : List ℕ) → IsReport q c a → IsReport q c b → a ≡ b
-one_report q c a b h k =
-    h.text
-    ∙ ap (λ (rows : List WithStation). report_text q (map named rows))
-    (same_rows c.stations h.rows k.rows (h.best ∙ sym k.best) h.listed k.listed)
-    ∙ sym k.text
+one_report q c a b h k = grind (arith, ints, same_rows c.stations h.rows k.rows (h.best ∙ sym k.best) h.listed k.listed)
 
 -- ---- the theorem
 
@@ -253,17 +235,7 @@ module _ (known : Known) (cut : CutByFiles) {q : Asked} {stations : List Station
   -- the report can be
   is_text : IsReportOf (merged_report q whole) papers.0
   is_text =
-      let few : length (merged_rows q.k whole) ≤ q.k =
-      omega (arith, length-take q.k (rows_in_order (rows_of whole))) in
-      record {
-        can_be = record {
-          asked = m.asked;
-          few = le-leb (length (merged_rows q.k whole)) q.k few;
-          rows = take-all IsRow q.k (rows_in_order (rows_of whole))
-              (sorted-all (λ (a b : Named). comes_first a.0 b.0) IsRow (rows_of whole) all.rows);
-        };
-        text = ap (λ (t : Texts). t.0) (sym told.1);
-      }
+      grind (arith, ints, length-take q.k (rows_in_order (rows_of whole)), le-leb, take-all, sorted-all, all, told)
 
   -- the report is right
   pub is_report : IsReport q held papers.0
@@ -308,11 +280,7 @@ same_data stations [] [] (e ∷ es) h k = absurd k
 same_data stations [] (d ∷ ds) es h k = absurd h
 same_data stations (p ∷ parts) [] es h k = absurd h
 same_data stations (p ∷ parts) (d ∷ ds) [] h k = absurd k
-same_data stations (p ∷ parts) (d ∷ ds) (e ∷ es) h k =
-    let here : Ok d ≡ Ok e = sym h.0 ∙ k.0 in
-    let same : d ≡ e = cc in
-    let rest = same_data stations parts ds es h.1 k.1 in
-    λ i. same i ∷ rest i
+same_data stations (p ∷ parts) (d ∷ ds) (e ∷ es) h k = grind (arith, ints, same_data stations parts ds es h.1 k.1)
 
 -- right parts are merged exactly where no station has morsels in two of them
 pub right_merged : Known → RightAreMerged
@@ -334,12 +302,10 @@ right_merged known q stations parts ds asked are held =
 -- so it is said of the outcome that there is
 pub outcome_told : RightAreMerged → (q : Asked) (texts : List Texts) (outcome : Result Texts MergeFault) → IsAsked q
     → merge q texts ≡ outcome → IsOutcomeWhereRight q texts outcome
-outcome_told law q texts outcome asked is stations parts ds same are held =
-    subst (IsRightOutcome q ds) (ap (merge q) same ∙ is) (law q stations parts ds asked are held)
+outcome_told law q texts outcome asked is stations parts ds same are held = grind (arith, ints)
 
 -- and of a refusal, unless memory ran out
 pub refusal_told : RightAreMerged → (q : Asked) (texts : List Texts) (why : MergeFault) → IsAsked q
     → IsRefusal is_memory why (merge q texts)
     → OrMemory is_memory (λ (w : MergeFault). IsOutcomeWhereRight q texts (Err w)) why
-refusal_told law q texts why asked h =
-    unless_memory (is_memory why) (λ (e : merge q texts ≡ Err why). outcome_told law q texts (Err why) asked e) h
+refusal_told law q texts why asked h = grind (arith, ints, unless_memory, outcome_told)

@@ -16,6 +16,7 @@ use Rattle.rank_merge.specs.declared.part.Papers.{Papers}
 use Rattle.rank_merge.specs.Merged.{Part, rows_of, entries_of}
 use Rattle.rank_merge.specs.Merging.{Texts, part_of, and_parts, parts_from, is_memory}
 use Rattle.rank_merge.specs.Found.{AreOfParts, part_in}
+use Rattle.std.proofs.lemmas.Int.{ints}
 
 -- ---- what was read before
 
@@ -41,19 +42,13 @@ and_prefixed : (o : Result Part MergeFault) (r all more : Result (List Part) Mer
     → and_parts o all ≡ prefixed ps more
 and_prefixed (Err why) r all more ps e h = absurd cc
 and_prefixed (Ok p) (Err why) all more ps e h = absurd cc
-and_prefixed (Ok p) (Ok qs) all more ps e h =
-    let same : p ∷ qs ≡ ps = cc in
-    ap (and_parts (Ok p)) (h qs refl) ∙ prefixed-one p qs more ∙ ap (λ (l : List Part). prefixed l more) same
+and_prefixed (Ok p) (Ok qs) all more ps e h = grind (arith, ints, prefixed-one p qs more)
 
 module _ (q : Asked) where
   -- what is read behind parts that were read
   parts_from-append : (n : ℕ) (ts us : List Texts) (ps : List Part) → parts_from q n ts ≡ Ok ps
       → parts_from q n (ts ++ us) ≡ prefixed ps (parts_from q (n + length ts) us)
-  parts_from-append n [] us ps e =
-      let none : [] ≡ ps = cc in
-      let same : n ≡ n + 0 = omega arith in
-      ap (λ (m : ℕ). parts_from q m us) same ∙ prefixed-none (parts_from q (n + 0) us)
-      ∙ ap (λ (l : List Part). prefixed l (parts_from q (n + 0) us)) none
+  parts_from-append n [] us ps e = grind (arith, ints, prefixed-none (parts_from q (n + 0) us))
   parts_from-append n (t ∷ ts) us ps e =
       let same : suc n + length ts ≡ n + length (t ∷ ts) = omega arith in
       and_prefixed (part_of q n t) (parts_from q (suc n) ts) (parts_from q (suc n) (ts ++ us)) _ ps e
@@ -64,10 +59,7 @@ module _ (q : Asked) where
   part_behind : (ts us : List Texts) (t : Texts) (ps : List Part) (n : ℕ) (o : Result Part MergeFault)
       → parts_from q 1 ts ≡ Ok ps → 1 + length ts ≡ n → part_of q n t ≡ o
       → parts_from q 1 (ts ++ t ∷ us) ≡ prefixed ps (and_parts o (parts_from q (suc n) us))
-  part_behind ts us t ps n o e at is =
-      parts_from-append 1 ts (t ∷ us) ps e
-      ∙ ap (λ (m : ℕ). prefixed ps (and_parts (part_of q m t) (parts_from q (suc m) us))) at
-      ∙ ap (λ (r : Result Part MergeFault). prefixed ps (and_parts r (parts_from q (suc n) us))) is
+  part_behind ts us t ps n o e at is = grind (arith, ints, parts_from-append 1 ts (t ∷ us) ps e)
 
   -- what was gathered with what one more part has
   pub gathered-more : (ts : List Texts) (t : Texts) (n : ℕ) (papers : Papers) (old new : Gathered)
@@ -110,10 +102,7 @@ module _ {X : Type 0} (q : Asked) (f : X → Texts) (xs : List X) (i : ℕ) (d :
 
   -- all are those before a place, the one at it and those behind it
   all_around : map f xs ≡ map f (take i xs) ++ f (get_or xs i d) ∷ map f (drop (i + 1) xs)
-  all_around =
-      ap (map f) (sym (take-append-drop i xs))
-      ∙ map-append f (take i xs) (drop i xs)
-      ∙ ap (λ (ys : List X). map f (take i xs) ++ map f ys) (drop_more xs i d below)
+  all_around = grind (arith, ints, take-append-drop i xs, map-append f (take i xs) (drop i xs), drop_more xs i d below)
 
   -- one more part was read
   pub gathered_next : (papers : Papers) (old new : Gathered) → AreOfParts q (map f (take i xs)) old

@@ -40,7 +40,7 @@ use Rattle.rank_head.specs.RightHead.{AreInOrder, IsRightHead}
 use Rattle.rank_pool.proofs.Orders.{take-all, sorted-all}
 use Rattle.rank_scores.specs.Candidates.{admitted, shape, candidates_among, candidates}
 use Rattle.rank_scores.proofs.QueryCandidates.{all_apart, candidates-own}
-use Rattle.rank_pool.specs.First.{in_order, kth, comes_first}
+use Rattle.rank_pool.specs.First.{in_order, kth}
 use Rattle.rank_pool.proofs.Ranked.{in_order-descends, best-first, kth_score-kth}
 use Rattle.rank_papers.specs.ReportLines.{Reported, SaysRightReport}
 use Rattle.rank_papers.proofs.PlanPapers.{kth-best, some_asked}
@@ -211,11 +211,8 @@ Scans all e = e.skipped ≡ false → is_scanned all e.id ≡ true
 -- each of a list does
 each_scans : (front es : List Entry) → AllByRecursion (Scans (front ++ es)) es
 each_scans front [] = tt
-each_scans front (e ∷ es) = (
-  λ h. scanned-behind front (e ∷ es) e.id (scanned_own e es h),
-  subst (λ (l : List Entry). AllByRecursion (Scans l) es) (append_assoc front (e ∷ []) es)
-      (each_scans (front ++ e ∷ []) es),
-)
+each_scans front (e ∷ es) =
+    grind (arith, ints, scanned-behind, scanned_own, append_assoc front (e ∷ []) es, each_scans (front ++ e ∷ []) es)
 
 -- ---- candidates of lines
 
@@ -282,11 +279,7 @@ module _ (q : Asked) (k : Option ℤ) (all : List Entry) where
       → AllByRecursion (λ d. is_below k d.score ≡ false) (of_rows rows)
       → AllByRecursion (λ row. is_scanned all row.0.id ≡ true) rows
   scanned_unless_below [] h n = tt
-  scanned_unless_below (row ∷ rows) h n = (by h.0, scanned_unless_below rows h.1 n.1)
-    where
-      by : IsSeen row.0 → is_scanned all row.0.id ≡ true
-      by (inl s) = s
-      by (inr b) = absurd (let no : true ≡ false = sym b ∙ n.0 in cc)
+  scanned_unless_below (row ∷ rows) h n = grind (arith, ints, scanned_unless_below rows h.1 n.1)
 
 -- ---- the head
 
@@ -323,10 +316,7 @@ module _ (q : Asked) (c : Contents) (asked : IsAsked q) (right : IsContents c) w
   -- so are the best
   best_seen : (es : List Entry) → AllZip (IsRightEntry q (kth_of_query q c)) es (morsels q c)
       → AllByRecursion (IsSeen q (kth_of_query q c) es) (best_of_query q c)
-  best_seen es h =
-      let P : Candidate → Type 0 = IsSeen q (kth_of_query q c) es in
-      subst (AllByRecursion P) (sym best_are) (take-all P q.k (in_order (all_candidates q c))
-      (sorted-all comes_first P (all_candidates q c) (all_seen es h)))
+  best_seen es h = grind (arith, ints, best_are, take-all, sorted-all, all_seen es h)
 
   -- the head of papers that say what is right
   pub right_head : (r : Reported) (z : Certified) → SaysRightReport q c r → SaysRight q c z → IsRightHead q r z

@@ -12,6 +12,7 @@ use Rattle.std.proofs.lemmas.List.Sorted.{length_permutation}
 use Rattle.ghcn_fields.specs.Sorting.{placed, sorted_by}
 use Rattle.ghcn_fields.proofs.Ordered as ordered
 use Rattle.rank_pool.proofs.Orders.{sorted-fixed}
+use Rattle.std.proofs.lemmas.Int.{ints}
 
 -- ---- what is filtered
 
@@ -63,26 +64,17 @@ module _ {X : Type 0} (cmp : X → X → Ordering) (total : IsTotalOrder cmp) wh
 
   -- what ties with one thing ties with each other
   never_both : (x y a : X) → first a y ≡ false → ties before x y ≡ true → ties before x a ≡ false
-  never_both x y a e f = false_from_ne_true _ (λ g.
-      let no : before y a ≡ false = before_ranks.chain y x a (neither _ _ f).1 (neither _ _ g).0 in
-      let turned = total.antisymm y a in
-      grind arith)
+  never_both x y a e f = grind (arith, ints, false_from_ne_true, before_ranks, neither _ _ f, neither)
 
   -- one more that is placed leaves those that tie as they came
   placed-stable : (x a : X) (ys : List X) → filter (ties before x) (placed first a ys) ≡ filter (ties before x) (a ∷ ys)
   placed-stable x a [] = refl
-  placed-stable x a (y ∷ ys) =
-      let behind = placed-stable x a ys in
-      let apart = never_both x y a in
-      grind arith
+  placed-stable x a (y ∷ ys) = grind (arith, ints, placed-stable x a ys, never_both x y a)
 
   -- so does putting all in order
   sorted-stable : (x : X) (xs : List X) → filter (ties before x) (sorted_by first xs) ≡ filter (ties before x) xs
   sorted-stable x [] = refl
-  sorted-stable x (a ∷ xs) =
-      let here = placed-stable x a (sorted_by first xs) in
-      let behind = sorted-stable x xs in
-      grind arith
+  sorted-stable x (a ∷ xs) = grind (arith, ints, placed-stable x a (sorted_by first xs), sorted-stable x xs)
 
   -- two lists in turn with the same elements that tie have the same first element
   same_first : (y z : X) (ys zs : List X) → InTurn (z ∷ zs)
@@ -139,5 +131,4 @@ placed-map g f x (y ∷ ys) = let behind = placed-map g f x ys in grind arith
 pub sorted-map : {X Y : Type 0} (g : X → Y) (f : Y → Y → Bool) (xs : List X)
     → map g (sorted_by (λ a b. f (g a) (g b)) xs) ≡ sorted_by f (map g xs)
 sorted-map g f [] = refl
-sorted-map g f (x ∷ xs) =
-    placed-map g f x (sorted_by (λ a b. f (g a) (g b)) xs) ∙ ap (placed f (g x)) (sorted-map g f xs)
+sorted-map g f (x ∷ xs) = grind (arith, ints, placed-map, sorted-map g f xs)

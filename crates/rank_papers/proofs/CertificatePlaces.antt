@@ -245,7 +245,8 @@ module _ (w : ℕ) (known : IsVersion w) (q : Asked) (asked : IsAsked q) (k : Op
           again e count (each-append (IsCounted w) es (e ∷ []) h (own.0, tt))
           (rest_bad e (entries_in w (suc n) ls) g) in
           let there : head (es ++ e ∷ []) ++ ls ≡ head es ++ l ∷ ls =
-          ap (λ (x : Lines). (title_line w ∷ query_line q ∷ kth_line k ∷ x) ++ ls) (map-append (entry_line w) es (e ∷ []))
+          ap (λ (x : Lines). (title_line w ∷ query_line q ∷ kth_line k ∷ x) ++ ls)
+          (map-append (entry_line w) es (e ∷ []))
           ∙ append_assoc (head es) (entry_line w e ∷ []) ls
           ∙ ap (λ (x : List ℕ). head es ++ x ∷ ls) (sym own.1) in
           subst (λ (x : Lines). IsBadAt x m) there bad

@@ -212,7 +212,8 @@ bound_first false n word plain = all_one_word word plain
 count_read : (has : Bool) (n : ℕ) (word : List ℕ) → n ≤ 1000 → (has ≡ false → n ≡ 0)
     → count_in has (drop (length word + 1) (word ++ count_text has n)) ≡ Some n
 count_read true n word few none =
-    let parts : word ++ 32 ∷ decimal n ≡ (word ++ 32 ∷ []) ++ decimal n = sym (append_assoc word (32 ∷ []) (decimal n)) in
+    let parts : word ++ 32 ∷ decimal n ≡ (word ++ 32 ∷ []) ++ decimal n = sym
+    (append_assoc word (32 ∷ []) (decimal n)) in
     let long : length word + 1 ≡ length (word ++ 32 ∷ []) = omega (arith, length-append word (32 ∷ [])) in
     ap (λ (l : List ℕ). up_to 1000 (natural (drop (length word + 1) l))) parts
     ∙ ap (λ (l : List ℕ). up_to 1000 (natural l)) (drop-past (length word + 1) (word ++ 32 ∷ []) (decimal n) long)

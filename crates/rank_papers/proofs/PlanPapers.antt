@@ -86,7 +86,8 @@ kth_is q c cs asked right e =
 -- the parts of a certificate, one after the other, make its text
 pub certificate-made : (q : Asked) (best : List Candidate) (es : List Entry) (t u v w x : List ℕ)
     → t ≡ codes "extremes certificate 2\n" → u ≡ t ++ query_line q → v ≡ u ++ kth_line (kth_of_best q.k best)
-    → w ≡ v ++ flat_map (entry_line 2) (counted es (counts_of 2 best es)) → x ≡ w ++ end_line (length es) → x ≡ certificate_of_best q best es
+    → w ≡ v ++ flat_map (entry_line 2) (counted es (counts_of 2 best es)) → x ≡ w ++ end_line (length es) → x ≡
+    certificate_of_best q best es
 certificate-made q best es t u v w x title query score lines end =
     let after_title : List ℕ → List ℕ = λ b. b ++ query_line q in
     let after_query : List ℕ → List ℕ = λ b. b ++ kth_line (kth_of_best q.k best) in

@@ -28,7 +28,8 @@ pub visible_no_blank : (b : ℕ) → is_visible b ≡ true → no_blank b ≡ tr
 visible_no_blank b h = grind (arith, nat_tests)
 
 -- bytes without a blank are the first word where a blank follows
-pub word_first : (word behind : List ℕ) → list_all no_blank word ≡ true → take_while no_blank (word ++ 32 ∷ behind) ≡ word
+pub word_first : (word behind : List ℕ) → list_all no_blank word ≡ true → take_while no_blank (word ++ 32 ∷ behind) ≡
+    word
 word_first [] behind h = take_while-cons no_blank 32 behind
 word_first (b ∷ word) behind h =
     let both = and_parts (no_blank b) (list_all no_blank word) h in

@@ -38,7 +38,8 @@ module _ {X : Type 0} (q : X → Bool) (xs : List X) (k : ℕ) (d : X) (within :
   -- behind it none does
   counted-behind : (m : ℕ) → k + m ≤ length xs → count_by q (take (k + m) xs) ≡ k
   counted-behind zero le =
-      subst (λ (n : ℕ). count_by q (take n xs) ≡ k) {x = k} {y = k + zero} (omega arith) (counted-before k (omega arith))
+      subst (λ (n : ℕ). count_by q (take n xs) ≡ k) {x = k} {y = k + zero} (omega arith)
+      (counted-before k (omega arith))
   counted-behind (suc m) le =
       subst (λ (n : ℕ). count_by q (take n xs) ≡ k) {x = k + m + 1} {y = k + suc m} (omega arith)
       (count_by_more_no q xs (k + m) d (omega arith) (here.1 (k + m) d (omega arith) (omega arith))
@@ -146,7 +147,8 @@ module _ (id : StationId) (ids : List StationId) (up : AreInOrder ids) (place : 
     (higher : place < length ids → is_le (beside id (get_or ids place id)) ≡ false) where
   -- those in front of the place are before the ID
   front : (k : ℕ) → k < place → is_lt (beside id (get_or ids k id)) ≡ true
-  front k lt = less_first id ids up k (place - 1) id (omega (arith, lt)) (omega (arith, lt, within)) (lower (omega (arith, lt)))
+  front k lt = less_first id ids up k (place - 1) id (omega (arith, lt)) (omega (arith, lt, within))
+      (lower (omega (arith, lt)))
 
   -- those behind it aren't
   back : (k : ℕ) → place ≤ k → k < length ids → is_le (beside id (get_or ids k id)) ≡ false
@@ -159,7 +161,8 @@ module _ (id : StationId) (ids : List StationId) (up : AreInOrder ids) (place : 
       omega (
         arith,
         counted-between id ids place place within within (
-          λ k d low lt. subst (λ x. is_lt (beside id x) ≡ true) (get_or_default ids k id d (omega (arith, lt, within))) (front k lt),
+          λ k d low lt. subst (λ x. is_lt (beside id x) ≡ true) (get_or_default ids k id d (omega (arith, lt, within)))
+              (front k lt),
           λ k d low lt. subst (λ x. is_lt (beside id x) ≡ false) (get_or_default ids k id d lt)
               (false_from_ne_true _ (λ e. let so = at_most _ e in let no = back k low lt in absurd cc)),
         ) (
@@ -173,7 +176,8 @@ module _ (id : StationId) (ids : List StationId) (p : StationId → Bool) where
   -- what a look at a place says is so of the ID there
   at_place : (b : Bool) (place : ℕ) → place < length ids → option_map_or p (slice_get ids place) b ≡ true
       → p (get_or ids place id) ≡ true
-  at_place b place lt h = subst (λ (o : Option StationId). option_map_or p o b ≡ true) (slice_get-get_or ids place id lt) h
+  at_place b place lt h = subst (λ (o : Option StationId). option_map_or p o b ≡ true)
+      (slice_get-get_or ids place id lt) h
 
   -- a look that finds one is at a place inside the list
   is_inside : (place : ℕ) → option_map_or p (slice_get ids place) false ≡ true → place < length ids

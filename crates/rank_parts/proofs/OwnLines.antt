@@ -90,7 +90,8 @@ same_tests q st u v e n rows worst same morsel h =
               list_all (λ (row : Named). is_among cs row.0 && same_bytes (trimmed st.name) row.1) rows) same) ∙ t.1.1.0,
           (
             sym (ap (λ (cs : List Candidate).
-                list_all (λ (c : Candidate). not (is_within worst c) || is_among (of_rows rows) c) cs) same) ∙ t.1.1.1.0,
+                list_all (λ (c : Candidate). not (is_within worst c) || is_among (of_rows rows) c) cs) same) ∙
+                t.1.1.1.0,
             (
               sym (ap (λ (cs : List Candidate). list_all (λ (c : Candidate). int_le c.score e.bound) cs) same)
                   ∙ t.1.1.1.1.0,

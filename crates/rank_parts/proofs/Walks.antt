@@ -104,7 +104,8 @@ module _ (q : Asked) (d : Contents) where
       by true (Some u) s e =
           ap (λ (o : Option Usable). length (filter (has_admitted q) (cons_option o
           (filter_map (λ s. series_of d s.id (score_element q.score)) (filter (admits_station q) sts))))) s
-          ∙ one u (has_admitted q u) (filter (has_admitted q) (filter_map (λ s. series_of d s.id (score_element q.score))
+          ∙ one u (has_admitted q u) (filter (has_admitted q)
+          (filter_map (λ s. series_of d s.id (score_element q.score))
           (filter (admits_station q) sts))) (count_by (is_own q d) sts) e
 
   -- so it is with all morsels

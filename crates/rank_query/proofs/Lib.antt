@@ -24,4 +24,5 @@ pub mod FaultPlaces
 pub mod Places
 pub mod FaultKinds
 pub mod ReadAsked
+pub mod Asks
 pub mod Examples

@@ -1,14 +1,15 @@
 -- Laws of queries and their texts: what the definitions of this crate mean together.
-use Rattle.std.specs.Prelude.{◌≡◌, ℕ, ◌≤◌, true, List, length, Ok}
+use Rattle.std.specs.Prelude.{◌≡◌, ◌↔◌, ℕ, ◌≤◌, true, List, length, Ok}
 use Rattle.std.specs.List.{list_all}
 use Rattle.ghcn_files.specs.StationLines.{is_printable}
 use Rattle.rank_query.specs.Asked.{Asked, IsAsked}
 use Rattle.rank_query.specs.QueryTexts.{query_text}
 use Rattle.rank_query.specs.Reading.{read_query}
+use Rattle.rank_query.specs.Asks.{Asks}
 
--- what is read as a query can be asked
-abbrev pub ReadCanBeAsked : Type 0
-ReadCanBeAsked = (text : List ℕ) (q : Asked) → read_query text ≡ Ok q → IsAsked q
+-- a text is read as a query exactly where it asks it
+abbrev pub ReadAsAsked : Type 0
+ReadAsAsked = (text : List ℕ) (q : Asked) → (read_query text ≡ Ok q) ↔ Asks text q
 
 -- a text has 1 to 256 bytes, each of which is printable
 pub record IsShortLine (text : List ℕ) : Type 0 where

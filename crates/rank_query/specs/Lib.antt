@@ -7,6 +7,7 @@ pub mod Readers
 pub mod WordValues
 pub mod Reading
 pub mod Spelling
+pub mod Asks
 pub mod FaultPlaces
 pub mod FaultKinds
 pub mod Laws

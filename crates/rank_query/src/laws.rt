@@ -2,8 +2,9 @@
 
 ghost use Rattle.rank_query.specs.Laws as laws;
 
-/// What is read as a query can be asked, and the canonical text of one is short and shows in print.
+/// A text is read as a query exactly where it asks it. The canonical text of a query that can be asked
+/// is short and shows in print.
 pub fn queries_have_texts()
-    ensures asked { laws.ReadCanBeAsked }
+    ensures asked { laws.ReadAsAsked }
     ensures printed { laws.TextsArePrintable }
 {}

@@ -139,14 +139,7 @@ plan_falls p is m n le lt = grind (arith, falls, sorted-in_turn)
 -- each candidate's score can be a floor
 pub plan_scores : (p : Planned) → IsPlan p → (m : ℕ)
     → AllByRecursion (λ c. IsScore c.score) ((task_of p).candidates m)
-plan_scores p is m = by_morsel (slice_get p.morsels m) refl
-  where
-    by_morsel : (o : Option Morsel) → slice_get p.morsels m ≡ o
-        → AllByRecursion (λ c. IsScore c.score) (option_map_or (λ x. candidates p.query x.series) o [])
-    by_morsel None e = tt
-    by_morsel (Some x) e =
-        let own : IsMeasured p.query x = at_place (IsMeasured p.query) p.morsels m x (measured_of p is) e in
-        candidates_ranged p.query x.series is.asked own.asked.series
+plan_scores p is m = grind (arith, ints, at_place, measured_of p is, candidates_ranged)
 
 -- what a plan asks is fair
 pub plans_fair : PlansAreFair

@@ -27,6 +27,7 @@ use Rattle.rank_sched.specs.Finish.{mark, AreMarks, marked_line, marked_lines}
 use Rattle.ghcn_fields.proofs.Ordered as ordered
 use Rattle.rank_sched.proofs.PlanOrder.{of_one_station}
 use Rattle.rank_sched.proofs.PlanMade.{plan_distinct}
+use Rattle.std.proofs.lemmas.Int.{ints}
 
 -- ---- lines by their IDs
 
@@ -113,10 +114,7 @@ lines_push : (F : ℕ × Morsel → Line) (ms : List Morsel) (i n : ℕ) (l : Li
     → map F (enumerate_from n (take (suc i) ms)) ≡ map F (enumerate_from n (take i ms)) ++ l ∷ []
 lines_push F [] i n l e = absurd cc
 lines_push F (m ∷ ms) zero n l e = search rules
-lines_push F (m ∷ ms) (suc i) n l e =
-    let next : (n + 1) + i ≡ n + suc i = omega arith in
-    ap (λ r. F (n, m) ∷ r) (lines_push F ms i (n + 1) l
-    (search rules))
+lines_push F (m ∷ ms) (suc i) n l e = grind (arith, ints, lines_push F ms i (n + 1) l (search rules))
 
 -- the line of the next morsel, with its mark
 pub lines_more : (marks : List Bool) (ms : List Morsel) (i : ℕ) (skipped : Bool) (xs ys : List Line) (l : Line)

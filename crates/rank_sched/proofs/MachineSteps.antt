@@ -18,7 +18,7 @@ use Rattle.rank_sched.specs.declared.turn.Turn.TheVariants.{Idle, Claimed, Looke
 use Rattle.rank_sched.specs.Plan.{Planned, IsPlan}
 use Rattle.rank_sched.specs.Task.{Task, task_of}
 use Rattle.rank_sched.specs.Exchanges.{morsels_of}
-use Rattle.rank_sched.specs.Machine.{Worker, State, new_worker, started, worker_of, is_awaited, is_now, refusal, drawn}
+use Rattle.rank_sched.specs.Machine.{Worker, State, new_worker, started, worker_of, is_awaited, refusal, drawn}
 use Rattle.rank_sched.specs.Machine.{record_of, greater_floor, floor_after, IsStep, all_stopped}
 use Rattle.rank_sched.specs.SoundRun.{unsettled, Rise, AreSoundFrom, IsSoundState, IsSoundEnd}
 use Rattle.rank_sched.specs.Hauls.{records_of, AreHaulsOf, AreSound, AreUnderFloor}
@@ -28,6 +28,7 @@ use Rattle.rank_sched.proofs.Lists.{morsels-push}
 use Rattle.rank_sched.proofs.SoundSteps.{runs_sound}
 use Rattle.rank_sched.proofs.Ends.{rise_front, ends_sound}
 use Rattle.rank_sched.proofs.PlanMade.{few_morsels}
+use Rattle.std.proofs.lemmas.Int.{ints}
 
 -- ---- workers by their turns and hauls
 
@@ -104,26 +105,14 @@ pub not_now : (next : ℕ) (floor : Option ℤ) (turns : List Turn) (hs : List H
     → length turns ≡ length hs → slice_get turns (worker_of e) ≡ Some turn → is_awaited turn e ≡ false
     → refusal (state_of next floor turns hs) e ≡ Some (NotNow (worker_of e))
 not_now next floor turns hs e turn same here other =
-    let at : IsThere turns hs (worker_of e) turn = there turns hs (worker_of e) turn same here in
-    let now : is_now (state_of next floor turns hs) e ≡ false =
-    cc in
-    ap (λ (b : Bool). cond b (cond (is_now (state_of next floor turns hs) e) None (Some (NotNow (worker_of e))))
-    (Some (NoWorker (worker_of e))))
-    (below (worker_of e) (length (workers_with turns hs)) (omega (arith, at.within, workers-length turns hs same)))
-    ∙ ap (λ (b : Bool). cond b None (Some (NotNow (worker_of e)))) now
+    grind (arith, ints, there turns hs (worker_of e) turn same here, below, workers-length turns hs same)
 
 -- an event that its worker waits for isn't refused
 pub is_now_by : (next : ℕ) (floor : Option ℤ) (turns : List Turn) (hs : List Haul) (e : Event) (turn : Turn)
     → length turns ≡ length hs → slice_get turns (worker_of e) ≡ Some turn → is_awaited turn e ≡ true
     → refusal (state_of next floor turns hs) e ≡ None
 is_now_by next floor turns hs e turn same here awaited =
-    let at : IsThere turns hs (worker_of e) turn = there turns hs (worker_of e) turn same here in
-    let now : is_now (state_of next floor turns hs) e ≡ true =
-    cc in
-    ap (λ (b : Bool). cond b (cond (is_now (state_of next floor turns hs) e) None (Some (NotNow (worker_of e))))
-    (Some (NoWorker (worker_of e))))
-    (below (worker_of e) (length (workers_with turns hs)) (omega (arith, at.within, workers-length turns hs same)))
-    ∙ ap (λ (b : Bool). cond b None (Some (NotNow (worker_of e)))) now
+    grind (arith, ints, there turns hs (worker_of e) turn same here, below, workers-length turns hs same)
 
 -- ---- what the steps that are made lead to
 

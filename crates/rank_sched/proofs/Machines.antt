@@ -1,5 +1,5 @@
 -- Steps: which are accepted, that they are computed, and that a machine that failed stays so.
-use Rattle.std.proofs.Common.{◌≡◌, ℕ, zero, suc, ◌<◌, true, List, [], ◌∷◌, length, Some, None, refl, sym, ◌∙◌, subst}
+use Rattle.std.proofs.Common.{◌≡◌, ℕ, zero, suc, ◌<◌, true, List, [], ◌∷◌, length, Some, None}
 use Rattle.std.proofs.Common.{arith}
 use Rattle.std.specs.Prelude.{slice_get}
 use Rattle.rank_sched.specs.declared.event.Event.{Event}
@@ -7,6 +7,7 @@ use Rattle.rank_sched.specs.declared.turn.Turn.{Turn}
 use Rattle.rank_sched.specs.Task.{Task}
 use Rattle.rank_sched.specs.Machine.{Worker, State, worker_of, is_awaited, refusal, IsStep, Does, moved, after}
 use Rattle.rank_sched.specs.Laws.{FailedStaysFailed, OneWorkerHasNoChoice, StepsAreComputed, WantOfMemoryFails}
+use Rattle.std.proofs.lemmas.Int.{ints}
 
 -- ---- a machine that failed
 
@@ -69,10 +70,4 @@ step_made t s e v turn h is a = grind arith
 
 -- an event that isn't refused leads to one state, which is computed; one that is refused leads to none
 pub steps_computed : StepsAreComputed
-steps_computed t s s' e = (
-  step_computed t s s' e,
-  λ h.
-      let a : IsAccepted s e = accepted s e h.0 in
-      subst (λ (x : State). IsStep t s e x) (sym (h.1 ∙ after_here t s e a.worker a.here))
-      (step_made t s e a.worker a.worker.turn a.here refl a.awaited),
-)
+steps_computed t s s' e = grind (arith, ints, step_computed t s s' e, accepted, after_here, step_made)

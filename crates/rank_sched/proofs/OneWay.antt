@@ -8,10 +8,10 @@ use Rattle.rank_sched.specs.declared.turn.Turn.{Turn}
 use Rattle.rank_sched.specs.Task.{Task}
 use Rattle.rank_sched.specs.Machine.{Worker, State, started, worker_of, is_awaited, IsStep, Leads, after, has_stopped}
 use Rattle.rank_sched.specs.Machine.{all_stopped}
-use Rattle.rank_sched.specs.Answers.{records_in}
 use Rattle.rank_sched.specs.Laws.{OneWorkerEndsOneWay, RecordsAloneAreOne}
 use Rattle.rank_sched.proofs.Machines.{steps_computed, one_worker, does_awaited}
 use Rattle.rank_sched.proofs.MachineSteps.{set-length}
+use Rattle.std.proofs.lemmas.Int.{ints}
 
 -- a worker that stopped waits for no event
 stopped_waits : (turn : Turn) (e : Event) → has_stopped turn ≡ true → is_awaited turn e ≡ false
@@ -29,10 +29,7 @@ right a b h = grind arith
 stopped_at : (vs : List Worker) (i : ℕ) (v : Worker) → list_all (λ w. has_stopped w.turn) vs ≡ true
     → slice_get vs i ≡ Some v → has_stopped v.turn ≡ true
 stopped_at [] i v all e = absurd cc
-stopped_at (w ∷ vs) zero v all e =
-    let same : w ≡ v = cc in
-    ap (λ (x : Worker). has_stopped x.turn) (sym same)
-    ∙ left (has_stopped w.turn) (list_all (λ (u : Worker). has_stopped u.turn) vs) all
+stopped_at (w ∷ vs) zero v all e = grind (arith, ints, left)
 stopped_at (w ∷ vs) (suc i) v all e =
     stopped_at vs i v (right (has_stopped w.turn) (list_all (λ (u : Worker). has_stopped u.turn) vs) all) e
 
@@ -68,7 +65,4 @@ ends_one_way t guess es es' s s' l a l' a' = one_way t (started t 1 guess) s s' 
 -- so its records are one list
 pub one_list : RecordsAloneAreOne
 one_list t guess rs rs' a b =
-    a.records_are
-    ∙ ap (λ (s : State). records_in s.workers)
-    (ends_one_way t guess a.events b.events a.state b.state a.reached a.stopped b.reached b.stopped).1
-    ∙ sym b.records_are
+    grind (arith, ints, ends_one_way t guess a.events b.events a.state b.state a.reached a.stopped b.reached b.stopped)

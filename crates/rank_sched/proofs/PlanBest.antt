@@ -26,6 +26,7 @@ use Rattle.rank_sched.specs.Answers.{IsAnswer, AreBestOfQuery, best_of_plan}
 use Rattle.rank_sched.specs.Plan.{Planned, Morsel, measured, is_drawn_first, planned}
 use Rattle.rank_sched.specs.Task.{task_of, all_of_task}
 use Rattle.rank_sched.specs.Laws.{PlanHasTheBest}
+use Rattle.std.proofs.lemmas.Int.{ints}
 
 -- ---- the same candidates in another order
 
@@ -128,8 +129,7 @@ plan_has_best q c asked right =
         (slice_get l j)) e
 
     kth_same : (k : ℕ) (xs ys : List Candidate) → Alike xs ys → AreApart xs → kth_score k xs ≡ kth_score k ys
-    kth_same k xs ys e b = kth_score-kth k xs b ∙ kth_of_order k xs ys e
-        ∙ sym (grind (arith, kth_score-kth, apart_alike))
+    kth_same k xs ys e b = grind (arith, ints, kth_score-kth k xs b, kth_score-kth, apart_alike)
 
 -- so the best of an answer are those of the query
 pub best_of_answer : {E : Type 0} (p : Planned) (rs : List Record) (r : Result Answer E) → IfOk r (IsAnswer p rs)

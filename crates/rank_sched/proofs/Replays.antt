@@ -1,12 +1,13 @@
 -- A run from a list of events, event by event.
-use Rattle.std.proofs.Common.{rules, arith, ℕ, ◌+◌, ◌<◌, List, [], ◌∷◌, ◌++◌, length, take, get_or, Option, ap, ◌∙◌}
-use Rattle.std.proofs.Common.{subst, ℤ}
+use Rattle.std.proofs.Common.{rules, arith, ℕ, ◌+◌, ◌<◌, List, [], ◌∷◌, ◌++◌, length, take, get_or, Option}
+use Rattle.std.proofs.Common.{ℤ}
 use Rattle.std.proofs.lemmas.Grind.{common_steps}
 use Rattle.rank_sched.specs.declared.event.Event.{Event}
 use Rattle.rank_sched.specs.Plan.{Planned}
-use Rattle.rank_sched.specs.Task.{Task, task_of}
-use Rattle.rank_sched.specs.Machine.{State, started, IsStep, Leads}
+use Rattle.rank_sched.specs.Task.{Task}
+use Rattle.rank_sched.specs.Machine.{State, IsStep, Leads}
 use Rattle.rank_sched.specs.Run.{Running, Steps, IsReplayed}
+use Rattle.std.proofs.lemmas.Int.{ints}
 
 -- a run goes on by one step at its end
 leads-push : (t : Task) (s mid s' : State) (es : List Event) (e : Event) → Leads t s es mid → IsStep t mid e s'
@@ -17,13 +18,7 @@ leads-push t s mid s' (d ∷ es) e l step = (l.0, l.1, leads-push t l.0 mid s' e
 -- one event more
 pub replayed-push : (p : Planned) (workers : ℕ) (guess : Option ℤ) (es : List Event) (e : Event) (m m' : Running)
     → IsReplayed p workers guess es m → Steps m e m' → IsReplayed p workers guess (es ++ e ∷ []) m'
-replayed-push p workers guess es e m m' r s = record {
-  running = cc;
-  reached = leads-push (task_of p) (started (task_of p) workers guess) m.state m'.state es e r.reached
-      (subst (λ (x : Planned). IsStep (task_of x) m.state e m'.state) r.plan s.step);
-  plan = ap (λ (x : Running). x.plan) s.kept ∙ r.plan;
-  guessed = cc;
-}
+replayed-push p workers guess es e m m' r s = grind (arith, ints, leads-push)
 
 -- the event at the next place is accepted
 pub replayed-more : (p : Planned) (workers : ℕ) (guess : Option ℤ) (es : List Event) (i : ℕ) (d : Event)

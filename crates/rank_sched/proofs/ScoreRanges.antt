@@ -15,10 +15,9 @@ use Rattle.ghcn_series.specs.Series.{DayValue, Usable, IsSeries, value_on, is_va
 use Rattle.rank_query.specs.declared.score.Score.{Score}
 use Rattle.rank_query.specs.declared.score.Score.TheVariants.{Highest, Lowest, Sum, Dry, Wet, Hot}
 use Rattle.rank_query.specs.Asked.{Asked, IsAsked, is_score}
-use Rattle.rank_query.specs.Admits.{admits_day}
 use Rattle.rank_scores.specs.Runs.{run_from, run_len}
 use Rattle.rank_scores.specs.Candidates.{Shape, Windows, Spells, shape, plus, window_total, is_dry, is_wet, is_hot}
-use Rattle.rank_scores.specs.Candidates.{begun, candidate, candidates_among, candidates, admitted}
+use Rattle.rank_scores.specs.Candidates.{begun, candidate, candidates_among, candidates}
 
 -- ---- values
 
@@ -153,6 +152,4 @@ module _ (days : List DayValue) (valued : AllByRecursion IsValued days) where
 -- the score of each candidate of a series can be a floor
 pub candidates_ranged : (q : Asked) (s : Usable) → IsAsked q → IsSeries s
     → AllByRecursion (λ c. IsScore c.score) (candidates q s)
-candidates_ranged q s asked right =
-    by_score (admitted q s) (each-filter IsValued (λ x. admits_day q x.0) s.days
-    (all_valued s.element s.days right.values)) s.id q.score asked.score
+candidates_ranged q s asked right = grind (arith, ints, by_score, each-filter, all_valued s.element s.days right.values)

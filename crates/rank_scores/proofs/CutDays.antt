@@ -1,5 +1,5 @@
 -- Of days in their order those that pass a test are those that pass, in their order: so are the admitted days of facts.
-use Rattle.std.proofs.Common.{◌≡◌, Bool, true, false, cond, not, List, [], ◌∷◌, ◌++◌, length, filter, refl, sym, ap}
+use Rattle.std.proofs.Common.{◌≡◌, Bool, true, false, cond, not, List, [], ◌∷◌, ◌++◌, length, filter, refl, ap}
 use Rattle.std.proofs.Common.{◌∙◌, arith, ℤ}
 use Rattle.std.specs.Prelude.{◌==◌, int_le}
 use Rattle.std.specs.List.{AllByRecursion}
@@ -20,6 +20,7 @@ use Rattle.ghcn_series.proofs.ListFacts.{all_filter}
 use Rattle.rank_query.specs.Asked.{Asked}
 use Rattle.rank_query.specs.Admits.{admits_day}
 use Rattle.rank_scores.specs.Candidates.{admitted_among}
+use Rattle.std.proofs.Common.{rules}
 
 -- ---- a test of what is put in order
 
@@ -33,11 +34,7 @@ module _ {X : Type 0} (first : X → X → Bool) where
   filter-placed_failing : (p : X → Bool) (x : X) (ys : List X) → p x ≡ false
       → filter p (placed first x ys) ≡ filter p ys
   filter-placed_failing p x [] failing = ap (λ (b : Bool). cond b (x ∷ []) []) failing
-  filter-placed_failing p x (y ∷ ys) failing =
-      elim (first x y) as (λ b. filter p (cond b (x ∷ y ∷ ys) (y ∷ placed first x ys)) ≡ filter p (y ∷ ys)) [
-        | true ↦ ap (λ (b : Bool). cond b (x ∷ filter p (y ∷ ys)) (filter p (y ∷ ys))) failing
-        | false ↦ ap (λ (l : List X). cond (p y) (y ∷ l) l) (filter-placed_failing p x ys failing)
-      ]
+  filter-placed_failing p x (y ∷ ys) failing = grind (arith, ints, filter-placed_failing p x ys failing)
 
 module _ {X : Type 0} (cmp : X → X → Ordering) (total : IsTotalOrder cmp) (first : X → X → Bool)
     (first-is : (a b : X) → first a b ≡ is_le (cmp a b)) (p : X → Bool) where
@@ -53,21 +50,7 @@ module _ {X : Type 0} (cmp : X → X → Ordering) (total : IsTotalOrder cmp) (f
       → filter p (placed first x ys) ≡ placed first x (filter p ys)
   filter-placed x [] passing turn = ap (λ (b : Bool). cond b (x ∷ []) []) passing
   filter-placed x (y ∷ ys) passing turn =
-      elim (first x y) as (λ b. first x y ≡ b
-      → filter p (cond b (x ∷ y ∷ ys) (y ∷ placed first x ys)) ≡ placed first x (filter p (y ∷ ys))) [
-        | true ↦ λ e.
-            ap (λ (b : Bool). cond b (x ∷ filter p (y ∷ ys)) (filter p (y ∷ ys))) passing
-            ∙ sym (placed-front first x (filter p (y ∷ ys)) (all_filter (λ z. first x z ≡ true) p (y ∷ ys)
-            (e, before_all x y ys e turn.0)))
-        | false ↦ λ e.
-            elim (p y) as (λ b. cond b (y ∷ filter p (placed first x ys)) (filter p (placed first x ys))
-            ≡ placed first x (cond b (y ∷ filter p ys) (filter p ys))) [
-              | true ↦
-                  ap (λ (l : List X). y ∷ l) (filter-placed x ys passing turn.1)
-                  ∙ sym (ap (λ (b : Bool). cond b (x ∷ y ∷ filter p ys) (y ∷ placed first x (filter p ys))) e)
-              | false ↦ filter-placed x ys passing turn.1
-            ]
-      ] refl
+      grind (arith, ints, placed-front, all_filter, before_all, filter-placed x ys passing turn.1)
 
   -- the test may be made before the elements are put in order or after
   pub filter-sorted : (xs : List X) → filter p (sorted_by first xs) ≡ sorted_by first (filter p xs)
@@ -106,14 +89,11 @@ module _ (q : Asked) (id : StationId) (e : Element) where
 
   -- the first are the second by day
   admitted-sorted : (facts : List Fact) → admitted_in facts ≡ sorted_by by_day (admitted_said facts)
-  admitted-sorted facts =
-      filter-sorted day_cmp day_total by_day (λ a b. le-is a.0 b.0) (λ x. admits_day q x.0) (days_said facts id e)
+  admitted-sorted facts = grind (arith, ints, filter-sorted, day_total, le-is, days_said facts id e)
 
   -- those of facts, and of others behind them
   admitted_said-append : (f g : List Fact) → admitted_said (f ++ g) ≡ admitted_said f ++ admitted_said g
-  admitted_said-append f g =
-      ap (filter (λ x. admits_day q x.0)) (days_said-append f g id e)
-      ∙ filter-append (λ x. admits_day q x.0) (days_said f id e) (days_said g id e)
+  admitted_said-append f g = search (rules, arith, days_said-append, filter-append, days_said)
 
   -- both in their order
   admitted_in-append : (f g : List Fact) → admitted_in (f ++ g) ≡ sorted_by by_day (admitted_said f ++ admitted_said g)
@@ -122,21 +102,14 @@ module _ (q : Asked) (id : StationId) (e : Element) where
   -- where none is among these admitted days, none is among them in their order
   none_sorted : (facts : List Fact) → not (length (admitted_in facts) == 0) ≡ false
       → not (length (sorted_by by_day (admitted_said facts)) == 0) ≡ false
-  none_sorted facts none =
-      ap (λ (days : List DayValue). not (length days == 0)) (sym (admitted-sorted facts)) ∙ none
+  none_sorted facts none = grind (arith, ints, admitted-sorted facts)
 
   -- where the first facts have no admitted day, those of all are those of the others
   pub admitted-left : (f g : List Fact) → not (length (admitted_in f) == 0) ≡ false
       → admitted_in (f ++ g) ≡ admitted_in g
-  admitted-left f g none =
-      admitted_in-append f g
-      ∙ joined-left (admitted_said f) (admitted_said g) (none_sorted f none)
-      ∙ sym (admitted-sorted g)
+  admitted-left f g none = search (rules, arith, admitted_in-append, joined-left, none_sorted, admitted-sorted)
 
   -- and where the others have none, those of the first
   pub admitted-right : (f g : List Fact) → not (length (admitted_in g) == 0) ≡ false
       → admitted_in (f ++ g) ≡ admitted_in f
-  admitted-right f g none =
-      admitted_in-append f g
-      ∙ joined-right (admitted_said f) (admitted_said g) (none_sorted g none)
-      ∙ sym (admitted-sorted f)
+  admitted-right f g none = search (rules, arith, admitted_in-append, joined-right, none_sorted, admitted-sorted)

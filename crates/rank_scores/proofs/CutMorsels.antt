@@ -1,5 +1,5 @@
 -- The morsels of files that are cut into parts are those of the parts, where no station has a series in two of them.
-use Rattle.std.proofs.Common.{◌≡◌, ℕ, Bool, true, false, cond, not, List, [], ◌∷◌, ◌++◌, length, map, filter, refl, sym}
+use Rattle.std.proofs.Common.{◌≡◌, ℕ, Bool, true, false, cond, not, List, [], ◌∷◌, length, map, filter, refl, sym}
 use Rattle.std.proofs.Common.{ap, ◌∙◌, subst, None, Some}
 use Rattle.std.specs.Prelude.{◌==◌}
 use Rattle.std.specs.List.{flat_map, cons_option, AllByRecursion, IsDistinct}
@@ -24,10 +24,13 @@ use Rattle.ghcn_series.proofs.JoinedSeries.{usable_of-left, usable_of-right}
 use Rattle.ghcn_series.proofs.JoinedLists as lists
 use Rattle.ghcn_series.proofs.ListFacts.{distinct_filter}
 use Rattle.ghcn_series.proofs.Places.{same_id-refl}
-use Rattle.rank_query.specs.Asked.{Asked, score_element}
+use Rattle.rank_query.specs.Asked.{Asked}
 use Rattle.rank_scores.specs.Morsels.{admitted_series, has_admitted, morsels}
 use Rattle.rank_scores.specs.Cut.{series_first, series_ids, Filed, MorselsOfParts}
 use Rattle.rank_scores.proofs.CutSeries.{admitted_stations, given, all_given, admitted_series-given}
+use Rattle.std.proofs.Common.{arith}
+use Rattle.std.proofs.lemmas.Int.{ints}
+use Rattle.std.proofs.Common.{rules}
 
 -- ---- series by their IDs
 
@@ -79,13 +82,7 @@ module _ (q : Asked) (stations : List Station) where
 
   -- what facts give joins where they do
   given_join : lists.Joins (given q stations) has_days same_station
-  given_join = record {
-    turned = same_station-turned;
-    none = λ st. refl;
-    left = λ st. usable_of-left st (score_element q.score);
-    right = λ st. usable_of-right st (score_element q.score);
-    same = λ st f g. same_id-refl st.id;
-  }
+  given_join = grind (arith, ints, same_station-turned, usable_of-left, usable_of-right, same_id-refl)
 
   -- the series that have a day are given
   given-kept : (facts : List Fact) (sts : List Station)
@@ -102,9 +99,7 @@ module _ (q : Asked) (stations : List Station) where
 
   -- the series that the query is about, in what files hold
   own_held : (files : List (List ℕ)) → admitted_series q (contents_in stations files) ≡ own (facts_in stations files)
-  own_held files =
-      admitted_series-given q stations files
-      ∙ given-kept (facts_in stations files) (admitted_stations q stations)
+  own_held files = search (rules, arith, admitted_series-given, given-kept, admitted_stations)
 
   -- the morsels in what files hold
   ready_held : (files : List (List ℕ)) → morsels q (contents_in stations files) ≡ by_id (facts_in stations files)
@@ -124,16 +119,12 @@ module _ (q : Asked) (stations : List Station) where
     -- the series of all parts that the query is about
     all_own : (ps : List P) → flat_map (admitted_series q) (map data_in ps) ≡ flat_map own (map facts_of_part ps)
     all_own [] = refl
-    all_own (p ∷ ps) =
-        ap (λ (l : List Usable). l ++ flat_map (admitted_series q) (map data_in ps)) (own_held (files p))
-        ∙ ap (λ (l : List Usable). own (facts_of_part p) ++ l) (all_own ps)
+    all_own (p ∷ ps) = grind (arith, ints, own_held (files p), all_own ps)
 
     -- the morsels of all parts
     all_ready : (ps : List P) → flat_map (morsels q) (map data_in ps) ≡ flat_map by_id (map facts_of_part ps)
     all_ready [] = refl
-    all_ready (p ∷ ps) =
-        ap (λ (l : List Usable). l ++ flat_map (morsels q) (map data_in ps)) (ready_held (files p))
-        ∙ ap (λ (l : List Usable). by_id (facts_of_part p) ++ l) (all_ready ps)
+    all_ready (p ∷ ps) = grind (arith, ints, ready_held (files p), all_ready ps)
 
     module _ (parts : List P) where
       -- the files of all parts

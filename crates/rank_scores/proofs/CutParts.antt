@@ -9,7 +9,7 @@ use Rattle.ghcn_fields.specs.Sorting.{sorted_by}
 use Rattle.ghcn_fields.proofs.Ordered as ordered
 use Rattle.ghcn_files.specs.declared.station.Station.{Station}
 use Rattle.ghcn_files.specs.Ids.{same_id}
-use Rattle.ghcn_series.specs.Series.{DayValue, Contents}
+use Rattle.ghcn_series.specs.Series.{Contents}
 use Rattle.ghcn_series.specs.Says.{Fact}
 use Rattle.ghcn_series.specs.JoinedFiles.{facts_in, HaveData}
 use Rattle.ghcn_series.proofs.JoinedFiles.{contents_in, facts_of_parts, data-held, all_data-held}
@@ -18,12 +18,15 @@ use Rattle.ghcn_series.proofs.Places.{same_id-refl}
 use Rattle.rank_query.specs.Asked.{Asked, score_element}
 use Rattle.rank_scores.specs.declared.candidate.Candidate.{Candidate}
 use Rattle.rank_scores.specs.Morsels.{all_candidates, morsels}
-use Rattle.rank_scores.specs.Cut.{IsSameFor, series_first, IsCut, morsel_ids, Filed, CutByFiles}
+use Rattle.rank_scores.specs.Cut.{IsSameFor, series_first, IsCut, morsel_ids, CutByFiles}
 use Rattle.rank_scores.proofs.CutDays.{admitted-left, admitted-right}
 use Rattle.rank_scores.proofs.CutSeries.{Seen, has_any, of_one, of_one-turned, comes_first, seen_cmp, seen_total}
 use Rattle.rank_scores.proofs.CutSeries.{seen_tied, seen, candidates_seen, seen_in, same_seen}
 use Rattle.rank_scores.proofs.CutSeries.{distinct_seen, sorted-seen, admitted_stations, held_in, candidates_held}
 use Rattle.rank_scores.proofs.CutSeries.{morsels_held}
+use Rattle.std.proofs.Common.{arith}
+use Rattle.std.proofs.lemmas.Int.{ints}
+use Rattle.std.proofs.Common.{rules}
 
 module _ {P : Type 0} (q : Asked) (stations : List Station) (files : P → List (List ℕ)) where
   -- the data of a part
@@ -66,24 +69,16 @@ module _ {P : Type 0} (q : Asked) (stations : List Station) (files : P → List 
   -- where nothing is seen in the first facts, what is seen in all is seen in the others
   seen-left : (st : Station) (f g : List Fact) → has_any (seen_in q f st) ≡ false
       → seen_in q (f ++ g) st ≡ seen_in q g st
-  seen-left st f g none =
-      ap (λ (days : List DayValue). (st.id, days)) (admitted-left q st.id (score_element q.score) f g none)
+  seen-left st f g none = grind (arith, ints, admitted-left q st.id (score_element q.score) f g none)
 
   -- and where nothing is seen in the others, in the first
   seen-right : (st : Station) (f g : List Fact) → has_any (seen_in q g st) ≡ false
       → seen_in q (f ++ g) st ≡ seen_in q f st
-  seen-right st f g none =
-      ap (λ (days : List DayValue). (st.id, days)) (admitted-right q st.id (score_element q.score) f g none)
+  seen-right st f g none = grind (arith, ints, admitted-right q st.id (score_element q.score) f g none)
 
   -- so what is seen joins where facts do
   seen_join : lists.Joins (seen_in q) has_any of_one
-  seen_join = record {
-    turned = of_one-turned;
-    none = λ st. refl;
-    left = seen-left;
-    right = seen-right;
-    same = λ st f g. same_id-refl st.id;
-  }
+  seen_join = grind (arith, ints, of_one-turned, seen-left, seen-right, same_id-refl)
 
   module _ (parts : List P) where
     -- the files of all parts
@@ -182,5 +177,4 @@ cut_by_parts q stations files parts ds held are all distinct =
 
 -- so are files of parts that have papers
 pub cut_by_files : CutByFiles
-cut_by_files q stations parts ds held are all distinct =
-    cut_by_parts q stations (λ (p : Filed). p.0) parts ds held are all distinct
+cut_by_files q stations parts ds held are all distinct = search (rules, arith, cut_by_parts)

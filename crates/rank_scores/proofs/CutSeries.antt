@@ -30,6 +30,9 @@ use Rattle.rank_scores.specs.declared.candidate.Candidate.{Candidate}
 use Rattle.rank_scores.specs.Candidates.{shape, admitted, admitted_among, candidates, candidates_among}
 use Rattle.rank_scores.specs.Morsels.{admitted_series, all_candidates, has_admitted, id_comes_first, morsels}
 use Rattle.rank_scores.specs.Cut.{IsSameFor, series_first}
+use Rattle.std.proofs.Common.{arith}
+use Rattle.std.proofs.lemmas.Int.{ints}
+use Rattle.std.proofs.Common.{rules}
 
 -- ---- lists in an order
 
@@ -41,12 +44,7 @@ module _ {A B : Type 0} (f : A → B) (first : B → B → Bool) where
   -- one more is placed alike
   placed-map : (a : A) (ys : List A) → map f (placed made_first a ys) ≡ placed first (f a) (map f ys)
   placed-map a [] = refl
-  placed-map a (y ∷ ys) =
-      elim (first (f a) (f y)) as (λ b. map f (cond b (a ∷ y ∷ ys) (y ∷ placed made_first a ys))
-      ≡ cond b (f a ∷ f y ∷ map f ys) (f y ∷ placed first (f a) (map f ys))) [
-        | true ↦ refl
-        | false ↦ ap (λ (l : List B). f y ∷ l) (placed-map a ys)
-      ]
+  placed-map a (y ∷ ys) = grind (arith, ints, placed-map a ys)
 
   -- what is made of things in that order is in order
   sorted-map : (xs : List A) → map f (sorted_by made_first xs) ≡ sorted_by first (map f xs)
@@ -102,8 +100,7 @@ module _ (q : Asked) where
 
   -- nothing seen has no candidate
   pub nothing_seen : (x : Seen) → has_any x ≡ false → candidates_seen x ≡ []
-  nothing_seen x none =
-      ap (candidates_among x.0 (shape q.score)) (none_in x.1 (not-false (length x.1 == 0) none))
+  nothing_seen x none = search (rules, arith, none_in, not-false)
 
   -- all candidates of series are those of what is seen where there is an admitted day
   candidates-seen : (ss : List Usable)
@@ -181,9 +178,7 @@ module _ (q : Asked) where
     -- so are the series that the query is about
     pub admitted_series-given : (files : List (List ℕ)) → admitted_series q (contents_in stations files)
         ≡ all_given (facts_in stations files) admitted_stations
-    admitted_series-given files =
-        series_given files admitted_stations
-        (all_filter (λ s. is_listed stations s.id ≡ true) (admits_station q) stations (all_listed stations))
+    admitted_series-given files = search (rules, arith, series_given, all_filter, all_listed)
 
     -- without a day there is no admitted one
     no_day : (s : Usable) → (length s.days == 0) ≡ true → has_admitted q s ≡ false
@@ -214,20 +209,14 @@ module _ (q : Asked) where
     seen_held : (files : List (List ℕ))
         → map seen (filter (has_admitted q) (admitted_series q (contents_in stations files)))
         ≡ held_in (facts_in stations files)
-    seen_held files =
-        ap (λ (us : List Usable). map seen (filter (has_admitted q) us)) (admitted_series-given files)
-        ∙ seen-given (facts_in stations files) admitted_stations
+    seen_held files = search (rules, arith, admitted_series-given, seen-given)
 
     -- all candidates of files
     pub candidates_held : (files : List (List ℕ)) → all_candidates q (contents_in stations files)
         ≡ flat_map candidates_seen (held_in (facts_in stations files))
-    candidates_held files =
-        candidates-seen (admitted_series q (contents_in stations files))
-        ∙ ap (flat_map candidates_seen) (seen_held files)
+    candidates_held files = search (rules, arith, candidates-seen, contents_in, seen_held)
 
     -- the morsels of files
     pub morsels_held : (files : List (List ℕ)) → map seen (morsels q (contents_in stations files))
         ≡ sorted_by comes_first (held_in (facts_in stations files))
-    morsels_held files =
-        sorted-seen (filter (has_admitted q) (admitted_series q (contents_in stations files)))
-        ∙ ap (sorted_by comes_first) (seen_held files)
+    morsels_held files = search (rules, arith, sorted-seen, contents_in, seen_held)

@@ -13,14 +13,13 @@ use Rattle.std.proofs.lemmas.Option.{cond_some}
 use Rattle.std.proofs.lemmas.Map.Keys.{IsDistinct-from_apart, IsDistinct-from_sorted, apart_from_distinct}
 use Rattle.std.proofs.lemmas.List.Elements.{All-from_recursion, All-contains, Contains-append_right}
 use Rattle.std.proofs.lemmas.List.Elements.{Contains-append_left}
-use Rattle.ghcn_fields.specs.Days.{is_within}
 use Rattle.ghcn_series.specs.Series.{DayValue, value_on, Usable, IsSeries}
 use Rattle.rank_query.specs.declared.score.Score.{Score}
 use Rattle.rank_query.specs.declared.score.Score.TheVariants.{Highest, Lowest, Sum, Dry, Wet, Hot}
-use Rattle.rank_query.specs.Asked.{is_score, is_fall, Asked, IsAsked}
+use Rattle.rank_query.specs.Asked.{is_score, Asked, IsAsked}
 use Rattle.ghcn_files.specs.declared.station.StationId.{StationId}
 use Rattle.rank_scores.specs.Runs.{run_from, run_len, begins_run, calendar_len, IsRun}
-use Rattle.rank_scores.specs.Candidates.{Shape, Days, Windows, Spells, shape, is_dry, is_wet, is_hot, IsCandidate}
+use Rattle.rank_scores.specs.Candidates.{Shape, Days, Windows, Spells, shape, IsCandidate}
 use Rattle.rank_scores.specs.Candidates.{begun, plus, window_total, is_such, candidate, candidates, admitted}
 use Rattle.rank_scores.specs.Candidates.{IsCandidateOf, AreTheCandidates, RiseByFirstDay}
 use Rattle.rank_scores.proofs.Totals.{days-total, total-days}
@@ -30,6 +29,7 @@ use Rattle.rank_scores.proofs.Runs.{day-bounds, days-few, admitted-days}
 use Rattle.rank_scores.specs.Order.{begin_alike, AreApart}
 use Rattle.rank_scores.specs.declared.candidate.Candidate.{Candidate}
 use Rattle.rank_scores.specs.Morsels.{IsAbove, NoneIsAbove}
+use Rattle.std.proofs.Common.{rules}
 
 -- ---- what begins on a day is what is a candidate from that day on
 
@@ -92,10 +92,7 @@ first_part (Some v) b t e = (v, refl)
 window-begins : (days : List DayValue) (n : ℕ) (first last score : ℤ) → 0 < n → last +ℤ pos 1 ≡ first +ℤ pos n
     → window_total days n first ≡ Some score → Begins (Windows n) days first last score
 window-begins days zero first last score some ends total = absurd (omega arith)
-window-begins days (suc n) first last score some ends total =
-    let here = first_part (value_on days first) (window_total days n (first +ℤ pos 1)) score total in
-    let on : first +ℤ pos (suc n) -ℤ pos 1 ≡ last = omega (arith, ints, ends) in
-    (here.0, here.1, rw (total, on))
+window-begins days (suc n) first last score some ends total = search (rules, arith, first_part)
 
 -- ---- both ways
 
@@ -110,15 +107,10 @@ pub begins-from_IsCandidate : (days : List DayValue) → Rise days → AreDays d
 begins-from_IsCandidate days rise cal (Highest e) first last score h is = day-begins days (λ v. v) first last score is
 begins-from_IsCandidate days rise cal (Lowest e) first last score h is = day-begins days neg_ℤ first last score is
 begins-from_IsCandidate days rise cal (Sum n e) first last score h is =
-    let some = leb-true 1 n (and_parts _ _ (and_parts (is_within 1 366 n) (is_fall e) h).0).0 in
-    window-begins days n first last score (omega (arith, some)) is.ends
-    (days-total days rise n first last is.ends is.whole ∙ ap (λ (z : ℤ). Some z) (sym is.sum))
-begins-from_IsCandidate days rise cal Dry first last score h is =
-    spell-begins days cal is_dry first last score is.0 is.1 is.2
-begins-from_IsCandidate days rise cal Wet first last score h is =
-    spell-begins days cal is_wet first last score is.0 is.1 is.2
-begins-from_IsCandidate days rise cal (Hot t) first last score h is =
-    spell-begins days cal (is_hot t) first last score is.0 is.1 is.2
+    search (rules, arith, leb-true, and_parts, window-begins, days-total)
+begins-from_IsCandidate days rise cal Dry first last score h is = search (rules, arith, spell-begins)
+begins-from_IsCandidate days rise cal Wet first last score h is = search (rules, arith, spell-begins)
+begins-from_IsCandidate days rise cal (Hot t) first last score h is = search (rules, arith, spell-begins)
 
 -- what a window that begins on a day is made of
 window-made : (o : Option ℤ) (last : ℤ) (p : ℤ × ℤ) → option_map (λ (total : ℤ). (last, total)) o ≡ Some p
@@ -128,19 +120,13 @@ window-made o last p e = (grind arith, grind arith)
 -- what begins on a day that has its value is a candidate
 pub begun-IsCandidate : (days : List DayValue) → Rise days → AreDays days → (sh : Shape) (x : DayValue) (p : ℤ × ℤ)
     → value_on days x.0 ≡ Some x.1 → begun sh days x ≡ Some p → IsCandidate sh days x.0 p.0 p.1
-begun-IsCandidate days rise cal (Days f) x p has e =
-    let same : (x.0, f x.1) ≡ p = cc in
-    subst (λ (r : ℤ × ℤ). IsCandidate (Days f) days x.0 r.0 r.1) same (refl, x.1, has, refl)
+begun-IsCandidate days rise cal (Days f) x p has e = grind (arith, ints)
 begun-IsCandidate days rise cal (Windows n) x p has e =
     let parts = window-made (window_total days n x.0) (x.0 +ℤ pos n -ℤ pos 1) p e in
     let ends : p.0 +ℤ pos 1 ≡ x.0 +ℤ pos n = omega (arith, ints, parts.1) in
     let are = total-days days rise n x.0 p.0 p.1 ends parts.0 in
     record { ends = ends; whole = are.0; sum = are.1 }
-begun-IsCandidate days rise cal (Spells test) x p has e =
-    let len : ℕ = run_len (is_such test days) x.0 in
-    let both = cond_some (begins_run (is_such test days) x.0) (x.0 +ℤ pos len -ℤ pos 1, pos len) p e in
-    subst (λ (r : ℤ × ℤ). IsCandidate (Spells test) days x.0 r.0 r.1) both.1
-    (len, refl, run-is days cal test x.0 both.0)
+begun-IsCandidate days rise cal (Spells test) x p has e = grind (arith, ints, cond_some, run-is)
 
 -- ---- the candidates of a series
 
@@ -191,9 +177,7 @@ of_all P cs c h = All-contains P cs c (All-from_recursion P cs h)
 module _ (q : Asked) (s : Usable) (series : IsSeries s) where
   -- the candidates rise by first day
   pub rise : RiseByFirstDay (candidates q s)
-  rise =
-      firsts_rise (begun_on q s) (λ x c e. (made s.id x.0 (begun (shape q.score) (admitted q s) x) c e).1)
-      (admitted q s) (admitted-rise q s series)
+  rise = grind (arith, ints, firsts_rise, made, admitted-rise q s series)
 
   -- no two of them begin on one day
   pub apart : AreApart (candidates q s)

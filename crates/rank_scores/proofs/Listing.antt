@@ -1,11 +1,10 @@
 -- Candidates that are apart, once they are put in order: each precedes all behind it.
-use Rattle.std.proofs.Common.{◌≡◌, ℕ, suc, ◌<◌, Bool, true, false, List, [], ◌∷◌, sym, ap, ◌∙◌, arith, length}
+use Rattle.std.proofs.Common.{◌≡◌, ℕ, suc, ◌<◌, Bool, true, false, List, [], ◌∷◌, arith, length}
 use Rattle.std.proofs.Common.{get_or}
 use Rattle.std.specs.Prelude.{◌&&◌}
 use Rattle.std.specs.List.Sorted.{IsPermutation, IsSorted}
 use Rattle.std.specs.Cmp.{IsTotalOrder}
-use Rattle.std.specs.Ordering.{is_lt, is_eq, int_cmp, nat_cmp, ordering_then, ordering_reverse, int_eq}
-use Rattle.std.specs.Cmp.Lexicographic.{slice_cmp}
+use Rattle.std.specs.Ordering.{is_lt, is_eq, int_cmp, ordering_then, ordering_reverse}
 use Rattle.std.specs.declared.cmp.Ordering.{Ordering}
 use Rattle.std.specs.declared.cmp.Ordering.TheVariants.{Equal}
 use Rattle.std.proofs.lemmas.Cmp.{int_cmp_total, int_eq_equiv, nat_list_eq_equiv, on_total, then_total}
@@ -13,10 +12,11 @@ use Rattle.std.proofs.lemmas.List.Elements.{recursion_from_All}
 use Rattle.std.proofs.lemmas.List.Sorted.{ranks_by, sorted_far}
 use Rattle.std.proofs.lemmas.Map.Keys.{IsDistinct-IsPermutation, apart_from_distinct}
 use Rattle.std.proofs.lemmas.Map.Text.{is_eq-slice_cmp}
-use Rattle.ghcn_files.specs.Ids.{same_id}
 use Rattle.rank_scores.specs.declared.candidate.Candidate.{Candidate}
 use Rattle.rank_scores.specs.Order.{precedes, rank_cmp, full_cmp, begin_alike, AreApart}
 use Rattle.rank_scores.proofs.Ranks.{rank_cmp_total, Descends}
+use Rattle.std.proofs.lemmas.Int.{ints}
+use Rattle.std.proofs.Common.{rules}
 
 -- the order of listing is total
 pub full_cmp_total : IsTotalOrder full_cmp
@@ -28,9 +28,7 @@ tied s i f e = grind arith
 
 -- candidates that tie in rank begin alike
 tied_alike : (a b : Candidate) → rank_cmp a b ≡ Equal → begin_alike a b ≡ true
-tied_alike a b e =
-    ap (λ (t : Bool). t && int_eq a.first b.first) (sym (is_eq-slice_cmp (a.id.0) (b.id.0)))
-    ∙ tied (int_cmp b.score a.score) (slice_cmp nat_cmp a.id.0 b.id.0) (int_cmp a.first b.first) e
+tied_alike a b e = search (rules, arith, Bool, is_eq-slice_cmp, tied)
 
 -- of two that don't tie, the one that isn't listed later comes first
 ahead : (o p l : Ordering) → p ≡ ordering_reverse o → (o ≡ Equal → ⊥) → is_lt (ordering_then p l) ≡ false
@@ -55,9 +53,7 @@ by_place (x ∷ xs) h = (
 
 -- beginning alike is the same both ways
 alike-symm : (a b : Candidate) → begin_alike a b ≡ begin_alike b a
-alike-symm a b =
-    ap (λ (t : Bool). t && int_eq a.first b.first) (nat_list_eq_equiv.symm (a.id.0) (b.id.0))
-    ∙ ap (λ (t : Bool). same_id b.id a.id && t) (int_eq_equiv.symm a.first b.first)
+alike-symm a b = grind (arith, ints, nat_list_eq_equiv, int_eq_equiv)
 
 -- where candidates that are apart are put in order, each precedes all behind it
 pub descends : (all xs : List Candidate) → IsPermutation all xs → IsSorted full_cmp xs → AreApart all → Descends xs

@@ -1,11 +1,10 @@
 -- The candidates of a query: that no two begin alike, and that they and the best of them are of listed stations.
 use Rattle.std.proofs.Common.{◌≡◌, ℕ, Bool, true, false, cond, List, [], ◌∷◌, ◌++◌, map, filter, Option, Some, None}
-use Rattle.std.proofs.Common.{refl, sym, ap, ◌∙◌, subst, arith}
-use Rattle.std.specs.Prelude.{◌&&◌, ◌==◌, IsTrue}
-use Rattle.std.specs.List.{flat_map, filter_map, find, cons_option, range_with_len, AllByRecursion, IsDistinct}
+use Rattle.std.proofs.Common.{refl, ap, ◌∙◌, subst, arith}
+use Rattle.std.specs.Prelude.{IsTrue}
+use Rattle.std.specs.List.{flat_map, filter_map, find, cons_option, AllByRecursion, IsDistinct}
 use Rattle.std.specs.List.{list_any}
 use Rattle.std.specs.Option.{is_some}
-use Rattle.std.specs.Ordering.{int_eq}
 use Rattle.std.specs.Cmp.Lexicographic.{bytes_decides}
 use Rattle.std.proofs.lemmas.Bool.{and_parts, cond_both}
 use Rattle.ghcn_files.specs.declared.station.Station.{Station}
@@ -17,12 +16,12 @@ use Rattle.ghcn_series.specs.DailyFaults.{is_listed}
 use Rattle.rank_query.specs.Asked.{Asked, score_element}
 use Rattle.rank_query.specs.Admits.{admits_station}
 use Rattle.rank_scores.specs.declared.candidate.Candidate.{Candidate}
-use Rattle.rank_scores.specs.Candidates.{candidates, admitted}
-use Rattle.rank_scores.specs.Order.{of_rank, rank_in, best, begin_alike, AreApart}
-use Rattle.rank_scores.specs.Morsels.{all_candidates}
+use Rattle.rank_scores.specs.Candidates.{candidates}
+use Rattle.rank_scores.specs.Order.{best, AreApart}
 use Rattle.rank_scores.specs.QueryCandidates.{CandidatesAreApart, CandidatesAreOfListed, BestAreOfListed}
 use Rattle.rank_scores.proofs.Exactly.{apart, begun_on, made}
 use Rattle.rank_scores.proofs.Rising.{from_each, each, all-filter, all-made, all-mapped}
+use Rattle.std.proofs.lemmas.Int.{ints}
 
 -- ---- what holds of each element of a list
 
@@ -44,8 +43,7 @@ found-holds P test xs x h e = (found P test xs x h e).1
 -- one is found where one passes
 any_found : {X : Type 0} (test : X → Bool) (xs : List X) → is_some (find test xs) ≡ list_any test xs
 any_found test [] = refl
-any_found test (x ∷ xs) =
-    grind (arith, any_found test xs)
+any_found test (x ∷ xs) = grind (arith, ints, any_found test xs)
 
 -- each element of two lists, one after the other
 each-append : {X : Type 0} (P : X → Type 0) (xs ys : List X) →
@@ -62,24 +60,20 @@ id_from_same a b e = ap (λ (x : List ℕ). record { 0 = x }) ((bytes_decides (a
 -- what holds of all candidates holds of the best
 pub best-holds : (P : Candidate → Type 0) (k : ℕ) (all : List Candidate) →
     AllByRecursion P all → AllByRecursion P (best k all)
-best-holds P k all h = all-made P (of_rank all) (range_with_len 0 k) (each (λ r. (c : Candidate) →
-    of_rank all r ≡ Some c → P c) (range_with_len 0 k) (λ r c e. found-holds P (λ d. rank_in all d == r) all c h e))
+best-holds P k all h = grind (arith, ints, all-made, each, found-holds)
 
 -- ---- the candidates of one series
 
 -- the candidates of a series have its ID
 pub candidates-own : (q : Asked) (s : Usable) → AllByRecursion (λ d. d.id ≡ s.id) (candidates q s)
-candidates-own q s = all-made (λ d. d.id ≡ s.id) (begun_on q s) (admitted q s) (each (λ x. (c : Candidate) →
-    begun_on q s x ≡ Some c → c.id ≡ s.id) (admitted q s) (λ x c e. (made s.id x.0 _ c e).0))
+candidates-own q s = grind (arith, ints, all-made, begun_on q s, each, begun_on, made)
 
 -- what holds of an ID holds of the candidates of the series that have it
 each_candidate : (P : StationId → Type 0) (q : Asked) (ss : List Usable) →
     AllByRecursion (λ s. P s.id) ss → AllByRecursion (λ d. P d.id) (flat_map (candidates q) ss)
 each_candidate P q [] h = tt
 each_candidate P q (s ∷ ss) h =
-    each-append (λ d. P d.id) (candidates q s) (flat_map (candidates q) ss)
-    (from_each (λ d. d.id ≡ s.id) (λ d. P d.id) (candidates q s) (λ d e. subst P (sym e) h.0) (candidates-own q s))
-    (each_candidate P q ss h.1)
+    grind (arith, ints, each-append, from_each, candidates-own q s, each_candidate P q ss h.1)
 
 -- candidates of one ID are apart from those of others
 apart-append : (id : StationId) (xs ys : List Candidate) →
@@ -88,11 +82,7 @@ apart-append : (id : StationId) (xs ys : List Candidate) →
 unfolding IsDistinct
 apart-append id [] ys own other a b = b
 apart-append id (x ∷ xs) ys own other a b =
-    let apart_here : AllByRecursion (λ y. begin_alike x y ≡ false) ys =
-    from_each (λ y. same_id id y.id ≡ false) (λ y. begin_alike x y ≡ false) ys (λ y e.
-    ap (λ (i : StationId). same_id i y.id && int_eq x.first y.first) own.0
-    ∙ ap (λ (t : Bool). t && int_eq x.first y.first) e) other in
-    (each-append (λ y. begin_alike x y ≡ false) xs ys a.0 apart_here, apart-append id xs ys own.1 other a.1 b)
+    grind (arith, ints, from_each, each-append, apart-append id xs ys own.1 other a.1 b)
 
 -- ---- the series of some stations
 
@@ -115,18 +105,13 @@ module _ (q : Asked) (c : Contents) where
   -- what holds of the series of each of some stations holds of all these
   each_among : (P : Usable → Type 0) (sts : List Station) →
       AllByRecursion (λ st. (u : Usable) → of_station st ≡ Some u → P u) sts → AllByRecursion P (series_among sts)
-  each_among P sts h = all-made P of_station (filter (admits_station q) sts)
-      (all-filter (λ st. (u : Usable) → of_station st ≡ Some u → P u) (admits_station q) sts h)
+  each_among P sts h = grind (arith, ints, all-made, all-filter)
 
   -- stations without an ID have no series of it
   others_among : (id : StationId) (sts : List Station) →
       AllByRecursion (λ i. same_id id i ≡ false) (map (λ (x : Station). x.id) sts) →
       AllByRecursion (λ u. same_id id u.id ≡ false) (series_among sts)
-  others_among id sts h = each_among (λ u. same_id id u.id ≡ false) sts
-      (from_each (λ st. same_id id st.id ≡ false)
-      (λ st. (u : Usable) → of_station st ≡ Some u → same_id id u.id ≡ false) sts
-      (λ st other u e. ap (same_id id) (of_station-own st u e) ∙ other)
-      (all-mapped (λ i. same_id id i ≡ false) (λ (x : Station). x.id) sts h))
+  others_among id sts h = grind (arith, ints, each_among, from_each, of_station-own, all-mapped)
 
   -- no two candidates of stations with different IDs begin alike
   apart_among : AllByRecursion IsSeries c.series → (sts : List Station) →
@@ -164,6 +149,4 @@ all_listed q c right =
 
 -- and so are the best
 pub best_listed : BestAreOfListed
-best_listed q c right =
-    let IsListed : Candidate → Type 0 = λ x. IsTrue (is_some (find (is_station_of x.id) c.stations)) in
-    best-holds IsListed q.k (all_candidates q c) (all_listed q c right)
+best_listed q c right = grind (arith, ints, best-holds, all_listed q c right)

@@ -18,11 +18,12 @@ use Rattle.std.proofs.lemmas.Map.Keys.{any_passes_from_place}
 use Rattle.rank_scores.specs.declared.candidate.Candidate.{Candidate}
 use Rattle.rank_scores.specs.Order.{precedes, rank_cmp, rank_in, of_rank, best}
 use Rattle.rank_scores.proofs.Rising.{from_each}
+use Rattle.std.proofs.lemmas.Int.{ints}
+use Rattle.std.proofs.Common.{rules}
 
 -- ranking is a total order
 pub rank_cmp_total : IsTotalOrder rank_cmp
-rank_cmp_total = then_total (on_total (λ c. c.score) (back_total int_cmp_total))
-    (then_total (on_total (λ c. c.id.0) nat_list_cmp_total) (on_total (λ c. c.first) int_cmp_total))
+rank_cmp_total = search (rules, arith, then_total, on_total, back_total, int_cmp_total, nat_list_cmp_total)
 
 -- of two candidates at most one precedes the other
 asym : (a b : Candidate) → precedes a b ≡ true → precedes b a ≡ false
@@ -44,18 +45,12 @@ rank-cons c x xs = sum_by-cons (λ d. one_if (precedes d c)) x xs
 -- what precedes all others has rank 0
 first_rank : (x : Candidate) (xs : List Candidate) → AllByRecursion (λ y. precedes x y ≡ true) xs → rank_in xs x ≡ 0
 first_rank x [] h = refl
-first_rank x (y ∷ ys) h =
-    let here : one_if (precedes y x) ≡ 0 = ap one_if (asym x y h.0) in
-    omega (arith, rank-cons x y ys, here, first_rank x ys h.1)
+first_rank x (y ∷ ys) h = grind (arith, ints, asym x y h.0, rank-cons x y ys, first_rank x ys h.1)
 
 -- the rank is the place
 rank_at : (xs : List Candidate) (r : ℕ) (c : Candidate) → Descends xs → slice_get xs r ≡ Some c → rank_in xs c ≡ r
 rank_at [] r c h e = absurd cc
-rank_at (x ∷ xs) zero c h e =
-    let same : x ≡ c = cc in
-    let none = false_from_ne_true (precedes x x) (λ e. let no = asym x x e in cc) in
-    subst (λ (d : Candidate). rank_in (x ∷ xs) d ≡ 0) same
-    (omega (arith, rank-cons x x xs, ap one_if none, first_rank x xs h.0))
+rank_at (x ∷ xs) zero c h e = grind (arith, ints, false_from_ne_true, asym, rank-cons x x xs, first_rank x xs h.0)
 rank_at (x ∷ xs) (suc r) c h e =
     let before : precedes x c ≡ true = subst (λ (d : Candidate). precedes x d ≡ true) (get_or_from_slice_get xs r c c e)
     (All-from_recursion (λ d. precedes x d ≡ true) xs h.0 r c (slice_get_within xs r c e)) in
@@ -69,10 +64,7 @@ rank-permuted all xs c p = sym (sum_by-IsPermutation (λ d. one_if (precedes d c
 finds : (p : Candidate → Bool) (c : Candidate) (ys : List Candidate)
     → AllByRecursion (λ d. p d ≡ true → d ≡ c) ys → list_any p ys ≡ true → find p ys ≡ Some c
 finds p c [] h e = absurd cc
-finds p c (y ∷ ys) h e =
-    let own = h.0 in
-    let rest = finds p c ys h.1 in
-    grind arith
+finds p c (y ∷ ys) h e = grind (arith, ints, finds p c ys h.1)
 
 -- a test that none passes finds none
 finds_none : (p : Candidate → Bool) (ys : List Candidate) → AllByRecursion (λ d. p d ≡ false) ys → find p ys ≡ None

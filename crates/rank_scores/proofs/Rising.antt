@@ -1,5 +1,5 @@
 -- Days that rise, look-ups among them, and what begins on them.
-use Rattle.std.proofs.Common.{◌≡◌, Bool, true, List, [], ◌∷◌, map, Option, Some, None, refl, sym, ◌∙◌}
+use Rattle.std.proofs.Common.{◌≡◌, Bool, true, List, [], ◌∷◌, map, Option, Some, None, refl, sym}
 use Rattle.std.proofs.Common.{filter, ℤ, ◌<ℤ◌, arith}
 use Rattle.std.specs.Prelude.{int_lt}
 use Rattle.std.specs.List.{AllByRecursion, filter_map, find, cons_option}
@@ -59,11 +59,7 @@ all-mapped P f (x ∷ xs) h = (h.0, all-mapped P f xs h.1)
 pub all-made : {X Y : Type 0} (P : Y → Type 0) (f : X → Option Y) (xs : List X)
     → AllByRecursion (λ x. (y : Y) → f x ≡ Some y → P y) xs → AllByRecursion P (filter_map f xs)
 all-made P f [] h = tt
-all-made P f (x ∷ xs) h =
-    elim (f x) as (λ o. f x ≡ o → AllByRecursion P (cons_option o (filter_map f xs))) [
-      | None ↦ λ e. all-made P f xs h.1
-      | Some y ↦ λ e. (h.0 y e, all-made P f xs h.1)
-    ] refl
+all-made P f (x ∷ xs) h = grind (arith, ints, all-made P f xs h.1)
 
 -- ---- days that rise
 
@@ -81,9 +77,7 @@ rise-from_by_day (x ∷ y ∷ ys) e =
 -- days that pass a test rise as before
 pub rise-filter : (t : DayValue → Bool) (days : List DayValue) → Rise days → Rise (filter t days)
 rise-filter t [] h = tt
-rise-filter t (x ∷ xs) h =
-    cond_both (t x) (x ∷ filter t xs) (filter t xs) Rise
-    (λ _. (all-filter (λ y. x.0 <ℤ y.0) t xs h.0, rise-filter t xs h.1)) (λ _. rise-filter t xs h.1)
+rise-filter t (x ∷ xs) h = grind (arith, ints, cond_both, all-filter, rise-filter t xs h.1)
 
 -- the admitted days of a series rise
 pub admitted-rise : (q : Asked) (s : Usable) → IsSeries s → Rise (admitted q s)
@@ -114,23 +108,17 @@ value_on-here x xs a e = grind (arith, ints)
 -- a day has no value among later ones
 pub value_on-later : (xs : List DayValue) (a : ℤ) → AllByRecursion (λ y. a <ℤ y.0) xs → value_on xs a ≡ None
 value_on-later [] a h = refl
-value_on-later (y ∷ ys) a h =
-    value_on-other y ys a (λ e. omega (arith, ints, e, h.0)) ∙ value_on-later ys a h.1
+value_on-later (y ∷ ys) a h = grind (arith, ints, value_on-other, value_on-later ys a h.1)
 
 -- nor has one before the first of days that rise
 pub value_on-before : (x : DayValue) (xs : List DayValue) (a : ℤ) → Rise (x ∷ xs) → a <ℤ x.0
     → value_on (x ∷ xs) a ≡ None
-value_on-before x xs a rise h = value_on-later (x ∷ xs) a
-    (h, from_each (λ y. x.0 <ℤ y.0) (λ y. a <ℤ y.0) xs (λ y l. omega (arith, ints, h, l)) rise.0)
+value_on-before x xs a rise h = grind (arith, ints, value_on-later, from_each)
 
 -- where days rise, each has the value that stands beside it
 pub values_stand : (days : List DayValue) → Rise days → AllByRecursion (λ x. value_on days x.0 ≡ Some x.1) days
 values_stand [] h = tt
-values_stand (x ∷ xs) h = (
-  value_on-here x xs x.0 refl,
-  from_both (λ y. x.0 <ℤ y.0) (λ y. value_on xs y.0 ≡ Some y.1) (λ y. value_on (x ∷ xs) y.0 ≡ Some y.1) xs
-      (λ y l stands. value_on-other x xs y.0 (λ e. omega (arith, ints, l, e)) ∙ stands) h.0 (values_stand xs h.1),
-)
+values_stand (x ∷ xs) h = grind (arith, ints, value_on-here x xs x.0, from_both, value_on-other, values_stand xs h.1)
 
 -- ---- what begins on days that rise
 
@@ -138,8 +126,7 @@ values_stand (x ∷ xs) h = (
 pub same_made : (f g : DayValue → Option Candidate) (xs : List DayValue) → AllByRecursion (λ x. f x ≡ g x) xs
     → filter_map f xs ≡ filter_map g xs
 same_made f g [] h = refl
-same_made f g (x ∷ xs) h =
-    rw (h.0, same_made f g xs h.1)
+same_made f g (x ∷ xs) h = grind (arith, ints, same_made f g xs h.1)
 
 module _ (f : DayValue → Option Candidate)
     (begins : (x : DayValue) (c : Candidate) → f x ≡ Some c → c.first ≡ x.0) where

@@ -1,7 +1,6 @@
 -- Runs of numbers that pass, and of days of the calendar.
-use Rattle.std.proofs.Common.{◌≡◌, ℕ, zero, suc, ◌-◌, ◌<◌, ◌≤◌, Bool, true, false, List, [], ◌∷◌, Option, Some, None}
-use Rattle.std.proofs.Common.{refl, sym, ap, ◌∙◌, arith, inl, inr, ℤ, pos, ◌+ℤ◌, ◌<ℤ◌, ◌≤ℤ◌}
-use Rattle.std.specs.Prelude.{◌&&◌}
+use Rattle.std.proofs.Common.{◌≡◌, ℕ, zero, suc, ◌<◌, ◌≤◌, Bool, true, false, List, [], ◌∷◌, Option, Some, None}
+use Rattle.std.proofs.Common.{refl, ap, ◌∙◌, arith, inl, inr, ℤ, pos, ◌+ℤ◌, ◌<ℤ◌, ◌≤ℤ◌}
 use Rattle.std.specs.List.{AllByRecursion}
 use Rattle.std.specs.Option.{option_map_or}
 use Rattle.std.proofs.lemmas.Bool.{cases_Bool, cases_order, and_parts, false_from_ne_true, true_from_ne_false}
@@ -10,10 +9,10 @@ use Rattle.std.proofs.lemmas.Int.{ints}
 use Rattle.ghcn_fields.specs.Days.{first_day, last_day, is_day}
 use Rattle.ghcn_series.specs.Series.{DayValue, value_on}
 use Rattle.rank_query.specs.Asked.{Asked}
-use Rattle.rank_query.specs.Admits.{admits_day, period_holds, season_holds}
 use Rattle.rank_scores.specs.Runs.{run_from, calendar_len}
 use Rattle.rank_scores.specs.Candidates.{admitted_among, is_such}
 use Rattle.rank_scores.proofs.Rising.{from_each, value_on-other}
+use Rattle.std.proofs.Common.{rules}
 
 -- so many numbers from a on pass, counted up to n
 pub record IsCounted (such : ℤ → Bool) (n : ℕ) (a : ℤ) (len : ℕ) : Type 0 where
@@ -52,13 +51,7 @@ module _ (such : ℤ → Bool) where
   -- numbers that pass one after another, up to one that doesn't, are a run of that length
   pub run-found : (n len : ℕ) (a : ℤ) → len ≤ n → ((i : ℕ) → i < len → such (a +ℤ pos i) ≡ true)
       → such (a +ℤ pos len) ≡ false → run_from such n a ≡ len
-  run-found n len a le inside ends =
-      let is = counted n a in
-      elim (cases_order (run_from such n a) len) [
-        | inl same ↦ same
-        | inr (inl lt) ↦ let yes = inside (run_from such n a) lt in let no = is.stops (omega arith) in absurd cc
-        | inr (inr lt) ↦ let yes = is.inside len lt in absurd cc
-      ]
+  run-found n len a le inside ends = grind (arith, ints, counted n a, cases_order (run_from such n a) len)
 
 -- ---- days of the kind
 
@@ -72,23 +65,16 @@ day-bounds d e = (grind (arith, ints), grind (arith, ints))
 
 -- admitted days are days of the calendar
 pub admitted-days : (q : Asked) (days : List DayValue) → AreDays (admitted_among q days)
-admitted-days q days = from_each (λ x. admits_day q x.0 ≡ true) (λ x. is_day x.0 ≡ true) (admitted_among q days)
-    (λ x e. (and_parts (is_day x.0) (period_holds q.period x.0)
-    (and_parts (is_day x.0 && period_holds q.period x.0) (season_holds q.season x.0) e).0).0)
-    (recursion_from_All (λ x. admits_day q x.0 ≡ true) (admitted_among q days)
-    (filter_passes (λ x. admits_day q x.0) days))
+admitted-days q days = grind (arith, ints, from_each, and_parts, recursion_from_All, filter_passes)
 
 -- a day that isn't in the calendar has no value
 none_outside : (days : List DayValue) (d : ℤ) → AreDays days → is_day d ≡ false → value_on days d ≡ None
 none_outside [] d h e = refl
-none_outside (x ∷ xs) d h e =
-    value_on-other x xs d (λ on. let inside : is_day d ≡ true = ap is_day (sym on) ∙ h.0 in cc)
-    ∙ none_outside xs d h.1 e
+none_outside (x ∷ xs) d h e = grind (arith, ints, value_on-other, none_outside xs d h.1 e)
 
 -- nor has one behind it
 pub none_past : (days : List DayValue) (d : ℤ) → AreDays days → last_day <ℤ d → value_on days d ≡ None
-none_past days d h lt =
-    none_outside days d h (false_from_ne_true (is_day d) (λ e. omega (arith, ints, lt, (day-bounds d e).1)))
+none_past days d h lt = grind (arith, ints, none_outside, false_from_ne_true, day-bounds)
 
 -- a day without a value isn't of the kind
 pub such-none : (days : List DayValue) (test : ℤ → Bool) (d : ℤ) → value_on days d ≡ None
@@ -103,14 +89,9 @@ such-has test (Some v) e = (v, refl)
 -- and is a day of the calendar
 pub such-is_day : (days : List DayValue) (test : ℤ → Bool) (d : ℤ) → AreDays days → is_such test days d ≡ true
     → is_day d ≡ true
-such-is_day days test d h e = true_from_ne_false (is_day d)
-    (λ out. let no = such-none days test d (none_outside days d h out) in absurd cc)
+such-is_day days test d h e = grind (arith, ints, true_from_ne_false, such-none, none_outside)
 
 -- days of the kind, one after another, are no more than the calendar has
 pub days-few : (days : List DayValue) (test : ℤ → Bool) (first : ℤ) (len : ℕ) → AreDays days → 0 < len
     → ((i : ℕ) → i < len → is_such test days (first +ℤ pos i) ≡ true) → len ≤ calendar_len
-days-few days test first len h some passes =
-    let begins = day-bounds (first +ℤ pos 0) (such-is_day days test (first +ℤ pos 0) h (passes 0 some)) in
-    let end : ℤ = first +ℤ pos (len - 1) in
-    let ends = day-bounds end (such-is_day days test end h (passes (len - 1) (omega (arith, some)))) in
-    omega (arith, ints, begins.0, ends.1, some)
+days-few days test first len h some passes = search (rules, arith, day-bounds, such-is_day)

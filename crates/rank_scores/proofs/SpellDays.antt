@@ -14,13 +14,14 @@ use Rattle.ghcn_files.specs.declared.station.StationId.{StationId}
 use Rattle.ghcn_series.specs.Series.{DayValue, Usable, IsSeries}
 use Rattle.rank_query.specs.Asked.{Asked}
 use Rattle.rank_scores.specs.declared.candidate.Candidate.{Candidate}
-use Rattle.rank_scores.specs.Runs.{begins_run, IsRun}
+use Rattle.rank_scores.specs.Runs.{begins_run}
 use Rattle.rank_scores.specs.Candidates.{Spells, begun, candidate, candidates_among, admitted, is_such}
 use Rattle.rank_scores.specs.Spells.{goes_on, spell_from, spell_list}
 use Rattle.rank_scores.proofs.Rising.{Rise, admitted-rise, from_each, value_on-other, value_on-here, value_on-later}
 use Rattle.rank_scores.proofs.Rising.{value_on-before}
 use Rattle.rank_scores.proofs.Runs.{AreDays, admitted-days, day-bounds}
 use Rattle.rank_scores.proofs.Exactly.{spell-begins}
+use Rattle.std.proofs.Common.{rules}
 
 -- what is offered while some days come, where a spell may be open before them
 abbrev pub offered : StationId → (ℤ → Bool) → Option (ℤ × ℤ) → List DayValue → List Candidate
@@ -54,17 +55,7 @@ module _ (id : StationId) (test : ℤ → Bool) (days : List DayValue) (cal : Ar
   -- an open spell ends where the next day isn't of the kind
   ends_here : (first last : ℤ) → IsOpen such first last → such (last +ℤ pos 1) ≡ false
       → spell_on first ≡ Some (spell_from id first last)
-  ends_here first last o after =
-      let run : IsRun such first last o.len = record {
-        nonempty = o.some;
-        ends = o.ends;
-        inside = o.inside;
-        before = o.before;
-        after = after;
-      } in
-      let days_are : pos o.len ≡ last +ℤ pos 1 -ℤ first = omega (arith, ints, o.ends) in
-      ap (option_map (candidate id first)) (spell-begins days cal test first last (pos o.len) o.len refl run).2
-      ∙ ap (λ (z : ℤ). Some (candidate id first (last, z))) days_are
+  ends_here first last o after = grind (arith, ints, spell-begins days cal test first last (pos o.len) o.len)
 
   -- what is to be offered: the open spell, and those that begin on the days to come
   abbrev left : Option (ℤ × ℤ) → List DayValue → List Candidate
@@ -85,39 +76,20 @@ module _ (id : StationId) (test : ℤ → Bool) (days : List DayValue) (cal : Ar
 
     -- no day before it is of the kind
     quiet : (d : ℤ) → last <ℤ d → d <ℤ y.0 → such d ≡ false
-    quiet d low high =
-        agree d low ∙ ap (λ (o : Option ℤ). option_map_or test o false) (value_on-before y ys d rise high)
+    quiet d low high = grind (arith, ints, value_on-before y ys d rise high)
 
     -- nor is the one just before it, if the last one isn't where that is it
     quiet_before : (y.0 ≡ last +ℤ pos 1 → such last ≡ false) → such (y.0 -ℤ pos 1) ≡ false
-    quiet_before h = by_lt_z last (y.0 -ℤ pos 1) (λ lt. quiet (y.0 -ℤ pos 1) lt (omega (arith, ints)))
-        (λ le. let on : y.0 -ℤ pos 1 ≡ last = omega (arith, ints, le, later) in
-        ap such on ∙ h (omega (arith, ints, on)))
+    quiet_before h = grind (arith, ints, by_lt_z, quiet)
 
     -- nor is the one behind the last, if the next one isn't where that is it
     quiet_behind : (y.0 ≡ last +ℤ pos 1 → test y.1 ≡ false) → such (last +ℤ pos 1) ≡ false
-    quiet_behind h = by_lt_z (last +ℤ pos 1) y.0 (quiet (last +ℤ pos 1) (omega (arith, ints)))
-        (λ le. let on : y.0 ≡ last +ℤ pos 1 = omega (arith, ints, le, later) in ap such (sym on) ∙ here ∙ h on)
+    quiet_behind h = grind (arith, ints, by_lt_z, quiet (last +ℤ pos 1) (omega (arith, ints)), here)
 
     -- where no spell goes on, one begins on the next day, if that is of the kind
     anew : (test y.1 ≡ true → such (y.0 -ℤ pos 1) ≡ false)
         → offered id test (cond (test y.1) (Some (y.0, y.0)) None) ys ≡ left None (y ∷ ys)
-    anew before =
-        elim (cases_Bool (test y.1)) [
-          | inl e ↦ rw e (rest (Some (y.0, y.0)) (
-            refl,
-            record {
-              len = 1;
-              some = omega arith;
-              ends = refl;
-              inside = λ i lt. let same : y.0 +ℤ pos i ≡ y.0 = omega (arith, ints, lt) in ap such same ∙ here ∙ e;
-              before = before e;
-            },
-          ))
-          | inr e ↦
-              let quiet_here = and_left (such y.0) (not (such (y.0 -ℤ pos 1))) (here ∙ e) in
-              rw (e, none_on y.0 quiet_here) (rest None (here ∙ e))
-        ]
+    anew before = grind (arith, ints, cases_Bool, here, and_left, none_on)
 
     -- where an open spell goes on, the next day is of it, and none begins there
     longer : (s : ℤ × ℤ) → s.1 ≡ last → IsOpen such s.0 s.1 → test y.1 ≡ true → y.0 ≡ s.1 +ℤ pos 1
@@ -163,8 +135,7 @@ module _ (id : StationId) (test : ℤ → Bool) (days : List DayValue) (cal : Ar
       → AllByRecursion (λ y. last <ℤ y.0) rest → ((d : ℤ) → last <ℤ d → such d ≡ is_such test rest d)
       → offered id test run rest ≡ left run rest
   offered-is None last [] state rise later agree = refl
-  offered-is (Some s) last [] state rise later agree =
-      rw (ends_here s.0 s.1 state.1 (agree (s.1 +ℤ pos 1) (omega (arith, ints, state.0))))
+  offered-is (Some s) last [] state rise later agree = search (rules, arith, ends_here)
   offered-is run last (y ∷ ys) state rise later agree =
       next last y ys rise later.0 agree
       (λ after here. offered-is after y.0 ys here rise.1 rise.0
@@ -182,11 +153,3 @@ offered-all id test q s series =
     offered-is id test days cal None (first_day -ℤ pos 1) days
     (ap (λ (o : Option ℤ). option_map_or test o false) (value_on-later days (first_day -ℤ pos 1) later))
     (admitted-rise q s series) later (λ d lt. refl)
-
-module _ (id : StationId) (test : ℤ → Bool) (run : Option (ℤ × ℤ)) (rest ys : List DayValue) (y : DayValue) (b : Bool)
-    (step : rest ≡ y ∷ ys) (is : b ≡ test y.1) where
-  -- what is offered from a day on that is in the open spell
-  pub goes_with : (first : ℤ) → goes_on run y.0 b ≡ Some first
-      → offered id test run rest ≡ offered id test (Some (first, y.0)) ys
-  goes_with first e =
-      let here : goes_on run y.0 (test y.1) ≡ Some first = sym (ap (goes_on run y.0) is) ∙ e in rw (step, here, offered)

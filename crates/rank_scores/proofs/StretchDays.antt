@@ -1,6 +1,6 @@
 -- Days of a stretch, as one after another comes.
 use Rattle.std.proofs.Common.{◌≡◌, Bool, true, false, cond, List, [], ◌∷◌, ◌++◌, Some, None, refl, sym, ap, ◌∙◌, subst}
-use Rattle.std.proofs.Common.{ℕ, ◌+◌, ◌<◌, length, length-append, arith, ℤ, ◌≤ℤ◌, ◌<ℤ◌}
+use Rattle.std.proofs.Common.{arith, ℤ, ◌≤ℤ◌, ◌<ℤ◌}
 use Rattle.std.specs.Prelude.{◌&&◌, IsTrue, slice_get}
 use Rattle.std.specs.Option.{option_map}
 use Rattle.std.specs.List.{AllByRecursion, list_all}
@@ -8,7 +8,6 @@ use Rattle.std.proofs.lemmas.Bool.{and_parts}
 use Rattle.std.proofs.lemmas.Int.{ints}
 use Rattle.ghcn_fields.specs.Days.{is_day, first_day}
 use Rattle.ghcn_series.specs.Series.{DayValue, Usable, IsSeries, is_by_day, is_value}
-use Rattle.ghcn_series.specs.Packed.{BeginsBy}
 use Rattle.rank_query.specs.Asked.{Asked}
 use Rattle.rank_query.specs.Admits.{admits_day}
 use Rattle.rank_scores.specs.declared.admitted.Stretch.{Stretch}
@@ -25,8 +24,7 @@ by_day-rest x (y ∷ ys) e = (and_parts _ (is_by_day (y ∷ ys)) e).1
 -- what is known of days is known of those behind the first
 pub stretch-rest : (q : Asked) (x : DayValue) (xs : List DayValue) (s : Stretch) → IsStretch q (x ∷ xs) s
     → IsStretch q xs s
-stretch-rest q x xs s is =
-    record { by_day = by_day-rest x xs is.by_day; calendar = is.calendar.1; alike = is.alike.1 }
+stretch-rest q x xs s is = grind (arith, ints, by_day-rest x xs is.by_day)
 
 -- the days of a series are days
 series_days : (s : Usable) (days : List DayValue) → list_all (λ x. is_day x.0 && is_value s.element x.1) days ≡ true
@@ -39,36 +37,18 @@ series_days s (x ∷ xs) e =
 
 -- at first nothing is known of the days of a series
 pub stretch-first : (q : Asked) (u : Usable) (s : Stretch) → IsSeries u → s.last <ℤ first_day → IsStretch q u.days s
-stretch-first q u s series none =
-    let days = series_days u u.days series.values in
-    record {
-      by_day = series.by_day;
-      calendar = days;
-      alike = from_each (λ x. IsTrue (is_day x.0)) (λ x. x.0 ≤ℤ s.last → admits_day q x.0 ≡ s.admitted) u.days
-          (λ x is le. absurd (omega (arith, ints, none, le, (day-bounds x.0 is).0))) days;
-    }
+stretch-first q u s series none = grind (arith, ints, series_days u u.days series.values, from_each, day-bounds)
 
 -- a stretch that begins with the first of some days
 pub stretch-anew : (q : Asked) (x : DayValue) (xs : List DayValue) (old s : Stretch) → IsStretch q (x ∷ xs) old
     → ((d : ℤ) → IsTrue (is_day d) → x.0 ≤ℤ d → d ≤ℤ s.last → admits_day q d ≡ s.admitted) → IsStretch q (x ∷ xs) s
-stretch-anew q x xs old s is alike =
-    let rise = rise-from_by_day (x ∷ xs) is.by_day in
-    record {
-      by_day = is.by_day;
-      calendar = is.calendar;
-      alike = (
-        λ le. alike x.0 is.calendar.0 (omega (arith, ints)) le,
-        from_both (λ y. IsTrue (is_day y.0)) (λ y. x.0 <ℤ y.0) (λ y. y.0 ≤ℤ s.last → admits_day q y.0 ≡ s.admitted) xs
-            (λ y is later le. alike y.0 is (omega (arith, ints, later)) le) is.calendar.1 rise.0,
-      );
-    }
+stretch-anew q x xs old s is alike = grind (arith, ints, rise-from_by_day (x ∷ xs) is.by_day, from_both)
 
 -- by the stretch of the first of some days: it is admitted, or isn't
 pub stretch-first_of : (b : Bool) (q : Asked) (x : DayValue) (xs : List DayValue) (s : Stretch)
     → IsStretch q (x ∷ xs) s → x.0 ≤ℤ s.last → s.admitted ≡ b
     → admitted_among q (x ∷ xs) ≡ cond b (x ∷ admitted_among q xs) (admitted_among q xs)
-stretch-first_of b q x xs s is on e =
-    ap (λ t. cond t (x ∷ admitted_among q xs) (admitted_among q xs)) (is.alike.0 on ∙ e)
+stretch-first_of b q x xs s is on e = grind (arith, ints)
 
 -- what is known of days is known of those behind some of them
 pub stretch-behind : (q : Asked) (part days : List DayValue) (s : Stretch) → IsStretch q (part ++ days) s
@@ -112,15 +92,3 @@ pub stretch-on : (q : Asked) (days : List DayValue) (day : ℤ) (old new : Stret
     → IsStretch q days new
 stretch-on q days day old new first is on =
     with-first (λ (them : List DayValue). IsStretch q them old → IsStretch q them new) days day (sym first) on is
-
--- the first of some days comes no later than one that it comes no later than
-pub begins-by : (days : List DayValue) (day last : ℤ)
-    → Some day ≡ option_map (λ (x : DayValue). x.0) (slice_get days 0) → day ≤ℤ last → BeginsBy last days
-begins-by days day last first le = with-first (BeginsBy last) days day (sym first) (λ value rest. le)
-
--- days without some of the first are fewer
-pub part-fewer : (all part rest : List DayValue) → all ≡ part ++ rest → 0 < length part → length rest < length all
-part-fewer all part rest is some =
-    let long : length all ≡ length part + length rest =
-    ap (λ (days : List DayValue). length days) is ∙ length-append part rest in
-    omega (arith, long, some)

@@ -1,6 +1,6 @@
 -- Totals of windows: as sums of the first of some days, and of the days from a first to a last one.
 use Rattle.std.proofs.Common.{◌≡◌, ℕ, zero, suc, ◌+◌, ◌*◌, Bool, true, false, cond, List, [], ◌∷◌, drop, Option, Some}
-use Rattle.std.proofs.Common.{None, refl, sym, ap, ◌∙◌, arith, ℤ, pos, neg_ℤ, ◌+ℤ◌, ◌-ℤ◌, ◌≤ℤ◌, ◌<ℤ◌, ◌⊎◌, inl, inr}
+use Rattle.std.proofs.Common.{None, refl, sym, ◌∙◌, arith, ℤ, pos, neg_ℤ, ◌+ℤ◌, ◌-ℤ◌, ◌≤ℤ◌, ◌<ℤ◌, ◌⊎◌, inl, inr}
 use Rattle.std.proofs.Common.{◌<◌, ◌≤◌, length, subst}
 use Rattle.std.specs.Prelude.{◌&&◌, int_le}
 use Rattle.std.specs.List.{AllByRecursion, list_all}
@@ -13,10 +13,10 @@ use Rattle.ghcn_fields.specs.Days.{is_day}
 use Rattle.ghcn_files.specs.declared.element.Element.{Element}
 use Rattle.ghcn_series.specs.Series.{DayValue, Usable, IsSeries, is_value}
 use Rattle.rank_query.specs.Asked.{Asked}
-use Rattle.rank_query.specs.Admits.{admits_day}
 use Rattle.rank_scores.specs.Candidates.{plus, window_total, admitted, days_within, sum_of_values}
 use Rattle.rank_scores.proofs.Rising.{Rise, rise-filter, all-filter, from_each, from_both, find-filter}
 use Rattle.rank_scores.proofs.Rising.{value_on-other, value_on-later}
+use Rattle.std.proofs.Common.{rules}
 
 -- ---- sums that there may be
 
@@ -34,8 +34,7 @@ plus-cond : (b : Bool) (v : ℤ) (o p : Option ℤ) → cond b (plus (Some v) (p
 plus-cond false v o p = refl
 plus-cond true v None p = refl
 plus-cond true v (Some t) None = refl
-plus-cond true v (Some t) (Some u) =
-    let same : v +ℤ (t +ℤ u) ≡ (v +ℤ t) +ℤ u = omega (arith, ints) in rw same
+plus-cond true v (Some t) (Some u) = search (rules, arith)
 
 -- ---- the first of some days
 
@@ -48,11 +47,7 @@ leading (suc n) a (x ∷ xs) = cond (int_eq x.0 a) (plus (Some x.1) (leading n (
 -- the sum of the first days is that of some of them, and of those behind these
 pub leading-split : (n len m : ℕ) (a : ℤ) (xs : List DayValue) → n ≡ len + m
     → leading n a xs ≡ plus (leading len a xs) (leading m (a +ℤ pos len) (drop len xs))
-leading-split n zero m a xs e =
-    let same : a ≡ a +ℤ pos 0 = omega (arith, ints) in
-    let all : n ≡ m = omega arith in
-    ap (λ (k : ℕ). leading k a xs) all ∙ sym (plus-zero (leading m a xs))
-    ∙ ap (λ (d : ℤ). plus (Some (pos 0)) (leading m d xs)) same
+leading-split n zero m a xs e = grind (arith, ints, plus-zero (leading m a xs))
 leading-split zero (suc len) m a xs e = absurd (omega arith)
 leading-split (suc n) (suc len) m a [] e = refl
 leading-split (suc n) (suc len) m a (x ∷ xs) e =
@@ -63,9 +58,7 @@ leading-split (suc n) (suc len) m a (x ∷ xs) e =
 -- where days are summed, the first of them is the day a, and those behind it have the rest of the sum
 pub leading-first : (n : ℕ) (a t : ℤ) (x : DayValue) (xs : List DayValue) → leading (suc n) a (x ∷ xs) ≡ Some t
     → (x.0 ≡ a) × (leading n (a +ℤ pos 1) xs ≡ Some (t -ℤ x.1))
-leading-first n a t x xs e =
-    let on : x.0 ≡ a = grind (arith, ints) in
-    (on, plus-rest x.1 (leading n (a +ℤ pos 1) xs) t (rw ((Decides-int_eq x.0 a).1 on) at e))
+leading-first n a t x xs e = search (rules, arith, plus-rest, Decides-int_eq)
 
 -- ---- windows
 
@@ -74,8 +67,7 @@ pub total-behind : (x : DayValue) (xs : List DayValue) (n : ℕ) (a : ℤ) → x
     → window_total (x ∷ xs) n a ≡ window_total xs n a
 total-behind x xs zero a lt = refl
 total-behind x xs (suc n) a lt =
-    let rest = total-behind x xs n (a +ℤ pos 1) (omega (arith, ints, lt)) in
-    rw (value_on-other x xs a (λ e. omega (arith, ints, e, lt)), rest)
+    grind (arith, ints, total-behind x xs n (a +ℤ pos 1) (omega (arith, ints, lt)), value_on-other)
 
 -- among days that rise from a on, the total of a window is the sum of the first days
 pub total-leading : (n : ℕ) (a : ℤ) (xs : List DayValue) → Rise xs → AllByRecursion (λ y. a ≤ℤ y.0) xs
@@ -209,5 +201,4 @@ series-small e (x ∷ xs) h =
 
 -- and so are those of its admitted days
 pub admitted-small : (q : Asked) (s : Usable) → IsSeries s → AllByRecursion (λ x. IsSmall x.1) (admitted q s)
-admitted-small q s series = all-filter (λ x. IsSmall x.1) (λ x. admits_day q x.0) s.days
-    (series-small s.element s.days series.values)
+admitted-small q s series = grind (arith, ints, all-filter, series-small s.element s.days series.values)

@@ -5,7 +5,6 @@ use Rattle.std.proofs.Common.{◌+ℤ◌, ◌-ℤ◌, ◌≤ℤ◌, ◌<ℤ◌, 
 use Rattle.std.specs.Prelude.{IsTrue}
 use Rattle.std.specs.List.{AllByRecursion, cons_option, filter_map}
 use Rattle.std.specs.Option.{option_map}
-use Rattle.std.specs.Ordering.{int_eq}
 use Rattle.std.proofs.lemmas.Bool.{cases_lt, false_from_ne_true}
 use Rattle.std.proofs.lemmas.Bool.Decides.{Decides-int_eq}
 use Rattle.std.proofs.lemmas.Int.{ints}
@@ -22,6 +21,7 @@ use Rattle.rank_scores.proofs.Runs.{AreDays, admitted-days}
 use Rattle.rank_scores.proofs.Rising.{Rise, from_each, same_made, admitted-rise}
 use Rattle.rank_scores.proofs.Totals.{leading, leading-split, leading-first, total-behind, total-leading, leading-small}
 use Rattle.rank_scores.proofs.Totals.{IsSmall, admitted-small}
+use Rattle.std.proofs.Common.{rules}
 
 -- ---- the windows of days that rise
 
@@ -115,8 +115,7 @@ at_first q s ring left series places same = record {
 pub fits : {ring : List ℤ} {w : Window} {days rest : List DayValue} {next : ℤ} → IsAt ring w days next rest
     → w.len ≤ 65_535 → FitsSigned w64 w.total
 fits {ring} {w} {days} {rest} {next} at few =
-    let both = leading-small w.len at.first w.total days at.good.small at.sum in
-    grind (arith, ints, both.0, both.1)
+    grind (arith, ints, leading-small w.len at.first w.total days at.good.small at.sum)
 
 -- the days from the window's first one on, or those behind it where it is begun anew
 abbrev days_of : Bool → Window → List DayValue → List DayValue
@@ -157,17 +156,12 @@ none_lost : (id : StationId) (n : ℕ) (ring : List ℤ) (w : Window) (days : Li
     (ys : List DayValue) (b : Bool) → IsAt ring w days next (y ∷ ys) → w.len < n → (IsTrue b ↔ (y.0 ≡ next))
     → windows id n (days_of b w days) ≡ windows id n days
 none_lost id n ring w days next y ys true at few is = refl
-none_lost id n ring w days next y ys false at few is =
-    let gap = false_from_ne_true (int_eq y.0 (at.first +ℤ pos w.len)) (λ on.
-    let goes : false ≡ true = is.1 ((Decides-int_eq y.0 (at.first +ℤ pos w.len)).0 on ∙ sym at.ends) in cc) in
-    sym (passed id n w.len at.first w.total days few at.good.rise at.sum (λ m some. rw (at.behind, gap)))
+none_lost id n ring w days next y ys false at few is = search (rules, arith, false_from_ne_true, Decides-int_eq, passed)
 
 -- where no day is to come, no window begins on the days that are left
 pub none_left : {ring : List ℤ} {w : Window} {days rest : List DayValue} {next : ℤ} (id : StationId) (n : ℕ)
     → IsAt ring w days next rest → rest ≡ [] → w.len < n → windows id n days ≡ []
-none_left {ring} {w} {days} {rest} {next} id n at none few =
-    let end = at.behind ∙ none in
-    passed id n w.len at.first w.total days few at.good.rise at.sum (λ m some. rw end) ∙ ap (windows id n) end
+none_left {ring} {w} {days} {rest} {next} id n at none few = grind (arith, ints, passed)
 
 -- the day that comes next is taken in
 taken : (ring : List ℤ) (w : Window) (days : List DayValue) (y : DayValue) (ys : List DayValue)

@@ -1,7 +1,7 @@
 //! Worked examples of the lines of daily files.
 
 use crate::lines::line_of;
-use ghcn_files::{Element, LineWhy, Reading, StationId, read_days, read_month};
+use ghcn_files::{Element, LineWhy, Reading, StationId, flagged_values, read_days, read_month};
 
 /// The station, the element, the year and the month of a line.
 type Head = (StationId, Element, u16, u8);
@@ -231,5 +231,41 @@ fn lines_of_other_elements(rt: HostRuntime) {
     for line in lines {
         assert_eq!(rt; month_of(line), Ok(None), "at {line:?}");
         assert_eq!(rt; row_of(line, None), Ok(None), "the row at {line:?}");
+    }
+}
+
+/// How many values of a line are flagged, where it is a month.
+fn flagged_of(line: &[u8]) -> Result<Option<u32>, LineWhy> {
+    match read_days(line, None)? {
+        Some(row) => Ok(Some(flagged_values(line, &row))),
+        None => Ok(None),
+    }
+}
+
+#[test]
+fn values_that_are_flagged(rt: HostRuntime) {
+    let none = line_of(b"ZZA00000001202002TMAX", &[(1, b"  311   ")]);
+    let first_and_last = line_of(
+        b"ZZA00000001202002TMAX",
+        &[(1, b"  311 I "), (29, b"  -15MQS")],
+    );
+    let lacking = line_of(
+        b"ZZA00000001202102TMAX",
+        &[(28, b"  311 I "), (29, b"  -15MQS")],
+    );
+    let missing = line_of(
+        b"ZZA00000001202007PRCP",
+        &[(1, b"-9999 I "), (2, b"      I "), (31, b"   -1 I ")],
+    );
+    let other = line_of(b"ZZA00000001202007WESD", &[(1, b"  311 I ")]);
+    let cases = [
+        (none, Some(0)),
+        (first_and_last, Some(2)),
+        (lacking, Some(1)),
+        (missing, Some(1)),
+        (other, None),
+    ];
+    for (row, (line, expected)) in cases.iter().enumerate() {
+        assert_eq!(rt; flagged_of(line), Ok(*expected), "row {row}");
     }
 }

@@ -1,12 +1,14 @@
 use Rattle.std.proofs.Common.{◌≡◌, ◌∙◌, inl, inr, map, true, false, refl, ap, ap₂, subst, sym}
 use Rattle.std.proofs.Common.{codes, IsSome}
-use Rattle.std.proofs.lemmas.Result.{IfOk-weaker}
+use Rattle.std.proofs.lemmas.Result.{IfOk-weaker, IfErr-weaker}
 use Rattle.clap.specs.Words.{App, app_of, is_simple, fault_of, is_simple_and_free, subcommand_of}
-use Rattle.clap.specs.Words.{found_of, rows_of, subcommand_rows_of, has_subcommand}
+use Rattle.clap.specs.Words.{found_of, rows_of, subcommand_rows_of, has_subcommand, IsAmong}
+use Rattle.clap.specs.declared.error.ErrorKind.TheVariants.{DisplayVersion}
 use Rattle.clap.proofs.CallerLemmas.{subcommand_required}
 use Rattle.clap.proofs.OnLiterals.{clap_on_literals}
-use Rattle.command_line.specs.CommandLine.{extremes_app, words_of}
-use Rattle.command_line.proofs.CommandLines.{only_memory, only_three, met_one, met_rows, command-met}
+use Rattle.command_line.specs.CommandLine.{extremes_app, words_of, MayAskVersion, OnVersion}
+use Rattle.command_line.proofs.CommandLines.{only_memory, only_version, version_among, never_told, not_asked, only_three}
+use Rattle.command_line.proofs.CommandLines.{met_one, met_rows, command-met}
 use Rattle.command_line.proofs.words.named_command.Goals as goal
 
 -- the program's command line is simple
@@ -25,7 +27,27 @@ returns-in-Err-clause-right c =
     let words_are : map (λ s. s.now) c.as_slice.result.now ≡ words_of c.args.words.now
     = ap (map (λ s. s.now)) c.as_slice.ensures.value ∙ c.in_ok-all.ensures in
     let app_is : app_of c.in_ok-program.field-0 ≡ extremes_app = c.in_ok-program.ensures.app in
-    λ right. c.fault_of.ensures (only_memory _ _ (ap₂ fault_of app_is words_are ∙ right.read)
+    λ right. c.fault_of.ensures.memory (only_memory _ _ (ap₂ fault_of app_is words_are ∙ right.read)
+    (c.in-Err.ensures.kinds (ap is_simple_and_free app_is ∙ is_free_app)))
+
+-- words that ask for the version are told it
+pub returns-in-Err-clause-version : goal.returns-in-Err-clause-version
+returns-in-Err-clause-version c =
+    let words_are : map (λ s. s.now) c.as_slice.result.now ≡ words_of c.args.words.now
+    = ap (map (λ s. s.now)) c.as_slice.ensures.value ∙ c.in_ok-all.ensures in
+    let app_is : app_of c.in_ok-program.field-0 ≡ extremes_app = c.in_ok-program.ensures.app in
+    λ asks. only_version _ _ _ (ap₂ fault_of app_is words_are ∙ asks)
+    (c.in-Err.ensures.kinds (ap is_simple_and_free app_is ∙ is_free_app)) c.fault_of.ensures.memory
+    c.fault_of.ensures.version
+
+-- and no others are
+pub returns-in-Err-clause-asked : goal.returns-in-Err-clause-asked
+returns-in-Err-clause-asked c =
+    let words_are : map (λ s. s.now) c.as_slice.result.now ≡ words_of c.args.words.now
+    = ap (map (λ s. s.now)) c.as_slice.ensures.value ∙ c.in_ok-all.ensures in
+    let app_is : app_of c.in_ok-program.field-0 ≡ extremes_app = c.in_ok-program.ensures.app in
+    subst (λ kinds. OnVersion (IsAmong DisplayVersion kinds) c.fault_of.result) (ap₂ fault_of app_is words_are)
+    (version_among _ _ c.fault_of.result c.fault_of.ensures.asked
     (c.in-Err.ensures.kinds (ap is_simple_and_free app_is ∙ is_free_app)))
 
 -- a command line without a fault has met `rank`, `merge` or `check`
@@ -94,6 +116,20 @@ returns-in-Some-subcommand_matches-clause-right c =
     (sym rows_are ∙ met_rows _ (codes "merge") (rows_of (found_of c.in-Some-subcommand_matches.merge.now))
     (c.subcommand_matches-2.ensures.found.0 (subst (λ o. IsSome o) (sym c.in-Some-subcommand_matches.is) refl))
     c.in-Some-subcommand_matches.ensures.rows))
+
+-- words that are read don't ask for the version
+pub returns-in-Some-subcommand_matches-clause-version : goal.returns-in-Some-subcommand_matches-clause-version
+returns-in-Some-subcommand_matches-clause-version c =
+    let words_are : map (λ s. s.now) c.as_slice.result.now ≡ words_of c.args.words.now
+    = ap (map (λ s. s.now)) c.as_slice.ensures.value ∙ c.in_ok-all.ensures in
+    let app_is : app_of c.in_ok-program.field-0 ≡ extremes_app = c.in_ok-program.ensures.app in
+    λ asks. absurd (not_asked _ (ap₂ fault_of (sym app_is) (sym words_are)
+    ∙ c.in-Ok.ensures.kinds (ap is_simple_and_free app_is ∙ is_free_app)) asks)
+
+-- and aren't told it
+pub returns-in-Some-subcommand_matches-clause-asked : goal.returns-in-Some-subcommand_matches-clause-asked
+returns-in-Some-subcommand_matches-clause-asked c =
+    IfErr-weaker c.merge_of.result _ _ (never_told (MayAskVersion (words_of c.args.words.now))) c.merge_of.ensures.asked
 
 -- and what is read behind `check` is its command
 pub returns-clause-ok : goal.returns-clause-ok

@@ -14,17 +14,21 @@ needing a = record a { top = record a.top { subcommand_required = true } }
 abbrev helpless : App → App
 helpless a = record a { top = record a.top { disable_help_subcommand = true } }
 
+-- one with a version
+abbrev versioned : App → App
+versioned a = record a { top = record a.top { has_version = true } }
+
 -- the command line as it is made is the one of the definition
 pub returns : goal.returns
 returns c =
-    let made : app_of c.disable_help_subcommand.result ≡ helpless (needing (new_app (codes "extremes")))
+    let made : app_of c.disable_help_subcommand.result ≡ helpless (needing (versioned (new_app (codes "extremes"))))
     = ap app_of_fields c.disable_help_subcommand.ensures ∙ ap helpless (ap app_of_fields c.subcommand_required.ensures
     ∙ ap needing (ap app_of_fields c.after_help.ensures ∙ ap app_of_fields c.override_usage.ensures
-    ∙ ap app_of_fields c.about.ensures ∙ c.new.ensures.app)) in
+    ∙ ap app_of_fields c.version.ensures ∙ ap versioned (ap app_of_fields c.about.ensures ∙ c.new.ensures.app))) in
     let plain : (fields_of c.disable_help_subcommand.result).has_globals ≡ false
     = ap (λ f. f.has_globals) c.disable_help_subcommand.ensures ∙ ap (λ f. f.has_globals) c.subcommand_required.ensures
     ∙ ap (λ f. f.has_globals) c.after_help.ensures ∙ ap (λ f. f.has_globals) c.override_usage.ensures
-    ∙ ap (λ f. f.has_globals) c.about.ensures ∙ c.new.ensures.local in
+    ∙ ap (λ f. f.has_globals) c.version.ensures ∙ ap (λ f. f.has_globals) c.about.ensures ∙ c.new.ensures.local in
     let rank_local = c.in_ok-rank_words.ensures.local in
     let merge_local = c.in_ok-merge_words.ensures.local in
     let check_local = c.in_ok-check_words.ensures.local in
@@ -37,7 +41,8 @@ returns c =
     record {
       app = IfOk-weaker c.subcommand-3.result _ _
           (λ r h. h.shape check_local
-          ∙ ap₂ with_subcommand merges (ap (λ (a : App). a.top) c.in_ok-check_words.ensures.app)) c.subcommand-3.ensures;
+          ∙ ap₂ with_subcommand merges (ap (λ (a : App). a.top) c.in_ok-check_words.ensures.app))
+          c.subcommand-3.ensures;
       local = IfOk-weaker c.subcommand-3.result _ _
           (λ r h. h.globals ∙ ap₂ either without check_local) c.subcommand-3.ensures;
     }

@@ -21,5 +21,5 @@ pub returns-in-Ok-clause-crew : goal.returns-in-Ok-clause-crew
 returns-in-Ok-clause-crew g c =
     IfOk-weaker c.ranked_by_crew-answer.result _ _ (λ papers are.
     crews_input c.args.intake c.args.workers c.args.guess _ _ papers c.one_element_is_enough.ensures.morsels
-    c.in-Ok.ensures.ok are)
+    c.papers_of_one_element.ensures.measured c.in-Ok.ensures.ok are.0 are.1)
     c.ranked_by_crew-answer.ensures.crew

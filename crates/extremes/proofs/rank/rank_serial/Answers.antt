@@ -17,6 +17,7 @@ pub returns-clause-serial : goal.returns-clause-serial
 returns-clause-serial c =
     (serial_input c.of_files-intake.result c.args.guess c.in_ok-query.query c.in_ok-query.held
     c.in_ok-ranked_alone.field-0
-    c.one_element_is_enough.ensures.morsels c.in_ok-query.ensures.ok c.in_ok-ranked_alone.ensures.alone).is
+    c.one_element_is_enough.ensures.morsels c.papers_of_one_element.ensures.measured c.in_ok-query.ensures.ok
+    c.in_ok-ranked_alone.ensures.papers.certificate c.in_ok-ranked_alone.ensures.alone).is
     (given c.args.query.now c.args.stations.now (map (λ file. file.now) c.args.files.now))
     c.of_files-intake.ensures

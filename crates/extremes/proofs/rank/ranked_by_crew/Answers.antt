@@ -38,9 +38,14 @@ returns-clause-ok g c =
     papers_are _ _ _ _ c.in_ok-papers_of.field-0 asked c.requires.contents c.in_ok-plan.ensures c.unlisted.ensures
     c.in_ok-papers_of.ensures.plan
 
--- and they are printed from the crew's answer
+-- and they are printed from the crew's answer, with the bounds of the series
 pub returns-clause-crew : goal.returns-clause-crew
 returns-clause-crew g c =
-    of_crew_is _ c.args.query.now c.args.held.now _ _ _ c.in_ok-papers_of.field-0.certificate.items
-    c.ends_are_sound.ensures.records c.in_ok-plan.ensures c.in_ok-answer.ensures.answer
-    c.in_ok-papers_of.ensures.printed
+    let asked = subst IsAsked (ap (λ (p : Planned). p.query) (c.plan.view_is ∙ c.in_ok-plan.ensures))
+    c.plan.invariant.asked in (
+      (papers_are _ _ _ _ c.in_ok-papers_of.field-0 asked c.requires.contents c.in_ok-plan.ensures c.unlisted.ensures
+          c.in_ok-papers_of.ensures.plan).certificate,
+      of_crew_is _ c.args.query.now c.args.held.now _ _ _ c.in_ok-papers_of.field-0.certificate.items
+          c.ends_are_sound.ensures.records c.in_ok-plan.ensures c.in_ok-answer.ensures.answer
+          c.in_ok-papers_of.ensures.printed,
+    )

@@ -47,7 +47,8 @@ returns-in_default-clause-value c =
     c.signed_field-in_default.ensures
     ∙ ap (λ (o : Option ℕ). field_of (option_map (with_sign false) o)) c.small_decimal-in_default.ensures
     ∙ sym (field_by-plain
-    (decimal_number c.args.places) c.args.field.now c.after_blanks.result.now c.after_blanks.ensures c.in_default.len_at_least (search rules))
+    (decimal_number c.args.places) c.args.field.now c.after_blanks.result.now c.after_blanks.ensures
+    c.in_default.len_at_least (search rules))
 
 -- it has the number that its text spells
 pub returns-in_default-clause-number : goal.returns-in_default-clause-number

@@ -8,7 +8,8 @@ use Rattle.ghcn_fields.proofs.field.small_natural.Goals as goal
 pub returns-then-value-gt-GREATEST : goal.returns-then-value-gt-GREATEST
 returns-then-value-gt-GREATEST c =
     let more =
-    one_more c.args.digits.now c.loop-digit.digit-index c.loop-digit.value c.loop-digit-test.true c.loop-digit.invariant.value (sym c.is_ascii_digit.ensures.value ∙ c.if-not-is_ascii_digit.false) in
+    one_more c.args.digits.now c.loop-digit.digit-index c.loop-digit.value c.loop-digit-test.true
+    c.loop-digit.invariant.value (sym c.is_ascii_digit.ensures.value ∙ c.if-not-is_ascii_digit.false) in
     sym (too_great (c.loop-digit.digit-index + 1) _ (2 ^ 31) c.args.digits.now more c.if-value-gt-GREATEST.true)
 
 -- one digit more
@@ -19,6 +20,7 @@ loop-digit-preserved c =
     record {
       digits = grind (arith, common_steps);
       value =
-          one_more c.args.digits.now c.loop-digit.digit-index c.loop-digit.value c.loop-digit-test.true c.loop-digit.invariant.value digit;
+          one_more c.args.digits.now c.loop-digit.digit-index c.loop-digit.value c.loop-digit-test.true
+          c.loop-digit.invariant.value digit;
       small = c.if-value-gt-GREATEST.false;
     }

@@ -1,9 +1,7 @@
-use Rattle.std.proofs.Common.{◌≡◌, [], ◌∷◌, List, Option, Some, ℤ, to_z, of_z, w32, sym, ◌∙◌, subst, arith}
+use Rattle.std.proofs.Common.{◌≡◌, [], ◌∷◌, List, ℤ, to_z, of_z, w32, sym, ◌∙◌, subst, arith}
 use Rattle.std.proofs.lemmas.Int.{ints}
-use Rattle.ghcn_series.specs.Series.{Usable}
-use Rattle.rank_query.specs.declared.score.Score.{Score}
 use Rattle.rank_blocks.specs.declared.summary.Summary.{Summary}
-use Rattle.rank_blocks.specs.Summaries.{AreSummariesTo, AreSummariesUpTo}
+use Rattle.rank_blocks.specs.Summaries.{AreSummariesTo}
 use Rattle.rank_blocks.proofs.ReadBlocks.{read-first}
 use Rattle.rank_blocks.proofs.blocks.summaries_of.Goals as goal
 
@@ -17,10 +15,3 @@ loop-next-init c =
     let To : ℤ → List Summary → Type 0 = AreSummariesTo c.args.score s in
     subst (To (to_z w32 (of_z w32 c.block.result))) (sym c.new-summaries.ensures.items)
     (subst (λ (n : ℤ). To n []) (sym c.block.ensures.value ∙ same) first)
-
--- the number that is looked at next is read as it was written
-number-read : (score : Score) (s : Usable) (ms : List Summary) (next : Option ℤ) (n : ℤ) → next ≡ Some n
-    → AreSummariesUpTo score s ms next → (AreSummariesTo score s n ms) × (n ≡ to_z w32 (of_z w32 n))
-number-read score s ms next n is so_far =
-    let to : AreSummariesTo score s n ms = subst (AreSummariesUpTo score s ms) is so_far in
-    (to, omega (arith, ints))

@@ -1,25 +1,22 @@
-use Rattle.std.proofs.Common.{◌≡◌, ℕ, List, ℤ, sym, ap, ◌∙◌, subst, arith}
+use Rattle.std.proofs.Common.{◌≡◌, ℕ, List, ℤ, sym, ap, ◌∙◌, arith}
 use Rattle.std.proofs.lemmas.Int.{ints, clamps}
 use Rattle.rank_blocks.specs.declared.window.Window.{Window}
 use Rattle.rank_blocks.specs.declared.summary.Summary.{Summary}
 use Rattle.rank_blocks.specs.Reached.{summaries_total}
-use Rattle.rank_blocks.specs.Summaries.{ArePossible}
 use Rattle.rank_blocks.proofs.PossibleBlocks.{possible-drop}
 use Rattle.rank_blocks.proofs.BlockSteps.{block_at, left-whole, most-in, most-out, most-end}
 use Rattle.rank_blocks.proofs.reached.greatest_total.Goals as goal
 use Rattle.rank_blocks.proofs.reached.greatest_total.Goals.{then-is_in, else-is_in}
+use Rattle.std.proofs.Common.{rules}
 
 -- the total of a window by its first block and its width
 of_window : (ks : List Summary) (w : Window) (first : ℤ) (width : ℕ) → w.first ≡ first → w.width ≡ width
     → summaries_total ks w.width w.first ≡ summaries_total ks width first
-of_window ks w first width is_first is_width =
-    ap (λ (n : ℕ). summaries_total ks n w.first) is_width ∙ ap (summaries_total ks width) is_first
+of_window ks w first width is_first is_width = grind (arith, ints)
 
 -- the blocks from a place on are possible
 pub window_total-requires : goal.window_total-requires
-window_total-requires c =
-    subst ArePossible (sym (left-whole c.args.blocks.now c.loop-index.index))
-    (possible-drop c.args.blocks.now c.loop-index.index c.requires)
+window_total-requires c = search (rules, arith, left-whole, possible-drop)
 
 -- with one more block
 pub loop-index-preserved : goal.loop-index-preserved
@@ -40,5 +37,4 @@ loop-index-preserved c =
 
 -- behind the last block
 pub returns : goal.returns
-returns c = most-end c.args.range c.args.width c.args.blocks.now c.loop-index.index _ c.loop-index-test.false
-    c.loop-index.invariant
+returns c = search (rules, arith, most-end)

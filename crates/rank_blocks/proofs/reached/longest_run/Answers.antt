@@ -8,15 +8,11 @@ use Rattle.rank_blocks.proofs.reached.longest_run.Goals.{then-is_in, else-is_in}
 
 -- before any block
 pub loop-block-init : goal.loop-block-init
-loop-block-init c =
-    subst (IsTold c.args.range c.args.blocks.now 0) (sym c.before-runs.ensures)
-    (told-start c.args.range c.args.blocks.now)
+loop-block-init c = grind (arith, ints, told-start c.args.range c.args.blocks.now)
 
 -- there are few blocks
 pub add-runs-requires-clause-room : goal.add-runs-requires-clause-room
-add-runs-requires-clause-room c =
-    let few = possible-few c.args.blocks.now c.requires in
-    omega arith
+add-runs-requires-clause-room c = grind (arith, ints, possible-few c.args.blocks.now c.requires)
 
 -- with one more block
 pub loop-block-preserved : goal.loop-block-preserved

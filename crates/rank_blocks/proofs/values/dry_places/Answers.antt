@@ -1,4 +1,4 @@
-use Rattle.std.proofs.Common.{◌≡◌, ◌*◌, ◌%◌, ◌^◌, get_or, pos, SFits, w32, ℕ, ap, ◌∙◌, arith, rules}
+use Rattle.std.proofs.Common.{◌≡◌, ◌*◌, ◌%◌, ◌^◌, get_or, pos, SFits, w32, ℕ, ap, ◌∙◌, rules}
 use Rattle.std.specs.Prelude.{◌==◌, bit_or}
 use Rattle.std.specs.Int.{bit_at}
 use Rattle.std.proofs.lemmas.Int.{to_z-of_z}
@@ -25,7 +25,3 @@ loop-place-preserved c =
           ap (λ (k : ℕ). bit_at (bit_or dry k) j) word
           ∙ word-unread is_dry values dry p c.passes.result lt is c.loop-place.invariant.unread j le;
     }
-
--- behind the last place
-pub returns : goal.returns
-returns c = λ j lt. c.loop-place.invariant.read j (let end = c.loop-place-test.false in omega arith)

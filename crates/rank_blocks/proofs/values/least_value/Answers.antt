@@ -7,6 +7,7 @@ use Rattle.rank_blocks.specs.Values.{IsUsableScore}
 use Rattle.rank_blocks.proofs.DayTests.{int_lt-true}
 use Rattle.rank_blocks.proofs.ValueSteps.{greatest-all, greatest-nonzero, greatest-alone}
 use Rattle.rank_blocks.proofs.values.least_value.Goals as goal
+use Rattle.std.proofs.Common.{rules}
 
 -- no 0 is the least, or each day is usable
 pub returns-then-word-eq4294967295 : goal.returns-then-word-eq4294967295
@@ -27,9 +28,4 @@ returns-then-word-eq4294967295 c =
 
 -- the usable days stand for the others
 pub returns-else-word-eq4294967295 : goal.returns-else-word-eq4294967295
-returns-else-word-eq4294967295 c =
-    let read : neg_ℤ c.least_number.result ≡ neg_ℤ (to_z w32 (of_z w32 c.least_number.result)) =
-    ap neg_ℤ (omega (arith, ints)) in
-    subst (IsGreatest (IsUsableScore neg_ℤ c.args.word c.args.values.now)) read
-    (greatest-alone neg_ℤ c.args.word c.args.values.now c.usable_alone.result _ c.usable_alone.ensures
-    c.least_number.ensures)
+returns-else-word-eq4294967295 c = search (rules, arith, to_z, w32, of_z, greatest-alone)

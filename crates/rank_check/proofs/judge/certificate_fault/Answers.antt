@@ -29,7 +29,8 @@ returns c = λ held kth tops.
     ∙ ap (λ (n : ℕ). first_failing (length_test n (length c.as_slice-lines.result.now) ∷ [])) long
     ∙ ap (λ (es : List Entry). first_failing (length_test (length (morsels q held)) (length es) ∷ []))
     c.as_slice-lines.ensures.value in
-    c.or.ensures ∙ certificate_decided q held rows (certified_in z) c.lines_fault.result c.length_fault-few.result same score
+    c.or.ensures ∙ certificate_decided q held rows (certified_in z) c.lines_fault.result c.length_fault-few.result same
+    score
     (c.lines_fault.ensures rows counted q held found
     ∙ ap (λ (ns : List ℕ). first_failing (tests_of_lines q held z.kth rows ns c.as_slice-lines.result.now))
     c.as_slice-counts.ensures.value

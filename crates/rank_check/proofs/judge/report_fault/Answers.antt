@@ -13,7 +13,8 @@ returns c =
     let lent = c.as_slice-rows.ensures.value in
     let rows = c.as_slice-rows.result.now in
     let are = c.requires.found in
-    c.or.ensures ∙ report_decided q held (reported_in report) c.rows_fault.result c.number_fault-few.result c.requires.same
+    c.or.ensures ∙ report_decided q held (reported_in report) c.rows_fault.result c.number_fault-few.result
+    c.requires.same
     (rows_decided q held own rows lent c.args.found.now are c.stations.result.now c.rows_fault.result
     c.stations.ensures.stations c.rows_fault.ensures)
     (number_decided q held own rows lent c.args.found.now are c.number_fault-few.result

@@ -31,7 +31,8 @@ returns-then-not-is_counted c = λ rows wanted q s e.
     c.refused-then-not-is_counted.ensures
     ∙ not_counted q c.args.kth rows c.args.number c.args.line.now c.args.count
     c.in-Some.top.now s made named (sym c.is_at_most.ensures ∙ c.if-not-is_at_most.false)
-    (sym c.may_stand.ensures ∙ c.if-not-may_stand.false) (counted_there rows c.args.line.now c.args.wanted c.args.count wanted
+    (sym c.may_stand.ensures ∙ c.if-not-may_stand.false)
+    (counted_there rows c.args.line.now c.args.wanted c.args.count wanted
     ∙ sym c.is_counted.ensures ∙ c.if-not-is_counted.true)
 
 -- no test fails

@@ -14,7 +14,8 @@ returns-then-is_some c = λ rows wanted q held tops.
     let place = c.loop-place.place in
     let said = c.fault_at-fault.ensures rows wanted q (slice_get (morsels q held) place)
     (c.top_at.ensures ∙ ap (λ (l : List Top). slice_get l place) tops ∙ slice_get-map (top q) (morsels q held) place) in
-    let there = line_there q held c.args.kth rows c.args.counts.now c.args.lines.now place c.fault_at-fault.result said in
+    let there = line_there q held c.args.kth rows c.args.counts.now c.args.lines.now place c.fault_at-fault.result
+    said in
     let some : is_some c.fault_at-fault.result ≡ true = sym c.is_some.ensures ∙ c.if-is_some.true in
     fault_here (entry_tests q held c.args.kth rows c.args.counts.now) 1 c.args.lines.now place (place + 1) there.0
     c.fault_at-fault.result (omega arith) some there.1 (c.loop-place.invariant rows wanted q held tops) there.2
@@ -25,7 +26,8 @@ loop-place-preserved c = λ rows wanted q held tops.
     let place = c.loop-place.place in
     let said = c.fault_at-fault.ensures rows wanted q (slice_get (morsels q held) place)
     (c.top_at.ensures ∙ ap (λ (l : List Top). slice_get l place) tops ∙ slice_get-map (top q) (morsels q held) place) in
-    let there = line_there q held c.args.kth rows c.args.counts.now c.args.lines.now place c.fault_at-fault.result said in
+    let there = line_there q held c.args.kth rows c.args.counts.now c.args.lines.now place c.fault_at-fault.result
+    said in
     let none : is_some c.fault_at-fault.result ≡ false = sym c.is_some.ensures ∙ c.if-is_some.false in
     none_here (entry_tests q held c.args.kth rows c.args.counts.now) 1 c.args.lines.now place (place + 1) there.0
     c.fault_at-fault.result (omega arith) none there.1 (c.loop-place.invariant rows wanted q held tops) there.2

@@ -33,7 +33,8 @@ loop-series-preserved c =
           c.loop-series.invariant.tops
           ∙ ap (λ (i : StationId). map (top q) (filter (has_admitted q) before)
           ++ record { id = i; highest = c.scan-highest.result } ∷ []) w.id.ensures.id
-          ∙ top-kept q before s c.scan-highest.result (sym c.has_admitted_day.ensures.asked ∙ w.if-has_admitted_day.true)
+          ∙ top-kept q before s c.scan-highest.result
+          (sym c.has_admitted_day.ensures.asked ∙ w.if-has_admitted_day.true)
           (c.scan-highest.ensures.highest ∙ ap (λ (t : Tallied). t.highest) new)
       | else-has_admitted_day w ↦
           ap (λ v. v.items) w.tops-is ∙ c.loop-series.invariant.tops

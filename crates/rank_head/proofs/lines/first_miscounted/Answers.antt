@@ -12,5 +12,6 @@ returns-clause-place c =
     (YieldsList-at c.zip-pairs.ensures.first (YieldsList-from_slice c.args.counts.now c.iter.ensures.rest))
     (YieldsList-at c.zip-pairs.ensures.second (YieldsList-from_slice c.args.wanted.now c.iter-2.ensures.rest)) in
     first_place (λ (two : ℕ × ℕ). two.0 == two.1) (zip c.args.counts.now c.args.wanted.now) c.position.result
-    (IsFirst-from_position c.position.new.self _ c.position.result (λ two. (two.0 == two.1) ≡ false) (λ two. (two.0 == two.1) ≡ true)
+    (IsFirst-from_position c.position.new.self _ c.position.result (λ two. (two.0 == two.1) ≡ false)
+    (λ two. (two.0 == two.1) ≡ true)
     c.position.ensures.ran road (λ x q k. search (rules, tests)) (λ x q k. search (rules, tests)))

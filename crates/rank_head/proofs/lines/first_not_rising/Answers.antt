@@ -14,7 +14,8 @@ returns-clause-place c =
     let lines = c.args.lines.now in
     let road = YieldsList-from_zip
     (YieldsList-at c.zip-pairs.ensures.first (YieldsList-from_slice c.args.lines.now c.iter.ensures.rest))
-    (YieldsList-at c.zip-pairs.ensures.second (YieldsList-from_slice (drop 1 c.args.lines.now) (c.iter-2.ensures.rest ∙ behind_first c.args.lines.now))) in
+    (YieldsList-at c.zip-pairs.ensures.second
+    (YieldsList-from_slice (drop 1 c.args.lines.now) (c.iter-2.ensures.rest ∙ behind_first c.args.lines.now))) in
     subst (λ l. IsFirstPlace (λ two. stands_before two.0.id two.1.id) l c.position.result) (sym (neighbours-zip lines))
     (first_place (λ (two : Entry × Entry). stands_before two.0.id two.1.id) (zip lines (drop 1 lines)) c.position.result
     (IsFirst-from_position c.position.new.self _ c.position.result (λ two. stands_before two.0.id two.1.id ≡ false)

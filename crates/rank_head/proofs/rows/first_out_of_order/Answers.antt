@@ -16,7 +16,8 @@ returns-clause-place c =
     let rows = c.args.rows.now in
     let road = YieldsList-from_zip
     (YieldsList-at c.zip-pairs.ensures.first (YieldsList-from_slice c.args.rows.now c.iter.ensures.rest))
-    (YieldsList-at c.zip-pairs.ensures.second (YieldsList-from_slice (drop 1 c.args.rows.now) (c.iter-2.ensures.rest ∙ behind_first c.args.rows.now))) in
+    (YieldsList-at c.zip-pairs.ensures.second
+    (YieldsList-from_slice (drop 1 c.args.rows.now) (c.iter-2.ensures.rest ∙ behind_first c.args.rows.now))) in
     subst (λ l. IsFirstPlace (λ (two : Named × Named). precedes two.0.0 two.1.0) l c.position.result)
     (sym (neighbours-map named_in rows ∙ ap (map (λ (two : Row × Row). (named_in two.0, named_in two.1)))
     (neighbours-zip rows)))
@@ -24,6 +25,7 @@ returns-clause-place c =
     (zip rows (drop 1 rows)) c.position.result
     (first_place (λ (two : Row × Row). precedes two.0.candidate two.1.candidate) (zip rows (drop 1 rows))
     c.position.result
-    (IsFirst-from_position c.position.new.self _ c.position.result (λ two. precedes two.0.candidate two.1.candidate ≡ false)
+    (IsFirst-from_position c.position.new.self _ c.position.result
+    (λ two. precedes two.0.candidate two.1.candidate ≡ false)
     (λ two. precedes two.0.candidate two.1.candidate ≡ true)
     c.position.ensures.ran road (λ x q k. search (rules, tests)) (λ x q k. search (rules, tests)))))

@@ -1,23 +1,20 @@
-use Rattle.std.proofs.Common.{◌≡◌, Ok, Err}
+use Rattle.std.proofs.Common.{◌≡◌, Ok}
 use Rattle.std.specs.Prelude.{IfOk}
 use Rattle.std.proofs.lemmas.Result.{IfOk-weaker, IfErr-weaker}
-use Rattle.ghcn_fields.specs.Refusals.{IsRefusal, OrMemory}
-use Rattle.rank_merge.specs.declared.fault.MergeFault.{MergeFault}
 use Rattle.rank_merge.specs.declared.merging.Merged.{Merged}
 use Rattle.rank_merge.specs.Found.{texts_in, papers_in}
-use Rattle.rank_merge.specs.Laws.{IsOutcomeWhereRight}
-use Rattle.rank_merge.specs.Merging.{merge, is_memory}
+use Rattle.rank_merge.specs.Merging.{merge}
 use Rattle.rank_merge.proofs.MergedTexts.{outcome_told, refusal_told}
 use Rattle.rank_merge.proofs.merging.merge.Goals.{After-merge_texts}
 use Rattle.rank_merge.proofs.merging.merge.Goals as goal
+use Rattle.std.proofs.Common.{arith}
+use Rattle.std.proofs.lemmas.Int.{ints}
 
 -- what is told of the papers that are merged follows for the answer
 of_merged : (c : After-merge_texts) (P : Merged → Type 0)
     → ((m : Merged) → merge c.args.query.now (texts_in c.args.parts.now) ≡ Ok (papers_in m) → P m)
     → IfOk c.merge_texts.result P
-of_merged c P told = IfOk-weaker c.merge_texts.result
-    (λ (m : Merged). merge c.args.query.now (texts_in c.args.parts.now) ≡ Ok (papers_in m)) P told
-    c.merge_texts.ensures.ok
+of_merged c P told = grind (arith, ints, IfOk-weaker)
 
 -- what is merged is right for all files
 pub returns-clause-right : goal.returns-clause-right
@@ -36,10 +33,4 @@ returns-clause-apart c = of_merged (goal.at.returns-clause-apart c).After-merge_
 
 -- and refused only where one has
 pub returns-clause-twice : goal.returns-clause-twice
-returns-clause-twice c =
-    let q = c.args.query.now in
-    let ts = texts_in c.args.parts.now in
-    IfErr-weaker c.merge_texts.result (λ (why : MergeFault). IsRefusal is_memory why (merge q ts))
-    (OrMemory is_memory (λ (why : MergeFault). IsOutcomeWhereRight q ts (Err why)))
-    (λ why e. refusal_told c.merged_are_right.ensures.merged q ts why c.k-k.ensures.asked e)
-    c.merge_texts.ensures.err
+returns-clause-twice c = grind (arith, ints, IfErr-weaker, refusal_told)

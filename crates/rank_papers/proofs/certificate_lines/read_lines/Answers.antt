@@ -14,5 +14,6 @@ loop-line-preserved c =
     let cut : IsCut c.loop-line.rest.now (Some (line, behind)) = search rules in
     let is : Some e ≡ entry_in c.args.version line = search rules in
     let push : c.add.new.lines.items ≡ c.loop-line.found.items ++ e ∷ [] = search rules in
-    HasRead-more c.args.version c.args.text.now c.loop-line.rest.now line behind c.loop-line.found.items c.add.new.lines.items e
+    HasRead-more c.args.version c.args.text.now c.loop-line.rest.now line behind c.loop-line.found.items
+    c.add.new.lines.items e
     c.loop-line.invariant cut is push

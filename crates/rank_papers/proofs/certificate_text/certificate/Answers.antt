@@ -11,7 +11,8 @@ pub returns-clause-text : goal.returns-clause-text
 returns-clause-text c =
     if_ok _ _ c.certificate_of_best.result (λ paper text. text
     ∙ ap (λ (q : Asked). certificate_of_best q c.deref.result.now c.deref-2.result.now) c.query.ensures.query
-    ∙ ap (λ (b : List Candidate). certificate_of_best c.args.plan.now.query b c.deref-2.result.now) c.deref.ensures.value
+    ∙ ap (λ (b : List Candidate). certificate_of_best c.args.plan.now.query b c.deref-2.result.now)
+    c.deref.ensures.value
     ∙ ap (certificate_of_best c.args.plan.now.query c.args.answer.now.best.items) c.deref-2.ensures.value)
     c.certificate_of_best.ensures.text
 

@@ -1,12 +1,14 @@
-use Rattle.std.proofs.Common.{◌≡◌, ◌++◌, ◌<◌, List, true, false, [], sym, ap, ◌∙◌, subst, ℤ, ◌≤ℤ◌, length, rules, w32}
+use Rattle.std.proofs.Common.{◌≡◌, ◌++◌, List, true, false, sym, ap, ◌∙◌, subst, ◌≤ℤ◌, rules, w32}
 use Rattle.std.proofs.Common.{FitsSigned, to_z-of_z}
 use Rattle.std.specs.List.{AllByRecursion}
 use Rattle.ghcn_series.specs.Series.{DayValue}
 use Rattle.rank_query.specs.Asked.{Asked}
 use Rattle.rank_scores.specs.Candidates.{admitted_among}
 use Rattle.rank_scores.specs.Stretches.{IsStretch}
-use Rattle.rank_scores.proofs.StretchDays.{stretch-behind, stretch-part, stretch-on, begins-by, part-fewer, no-first}
+use Rattle.rank_scores.proofs.StretchDays.{stretch-behind, stretch-part, stretch-on, no-first}
 use Rattle.rank_scores.proofs.admitted.next_part.Goals as goal
+use Rattle.std.proofs.Common.{arith}
+use Rattle.std.proofs.lemmas.Int.{ints}
 
 -- an admitted part is the first of the admitted days
 pub returns-then-stretch-clause-parts : goal.returns-then-stretch-clause-parts
@@ -53,5 +55,4 @@ loop-day-preserved c =
 
 -- behind the last day there is none
 pub returns-clause-end : goal.returns-clause-end
-returns-clause-end c = λ none. ap (admitted_among c.args.query.now)
-    (c.in_default.ensures.same ∙ no-first c.loop-day.days c.in_default.ensures.first)
+returns-clause-end c = grind (arith, ints, no-first c.loop-day.days c.in_default.ensures.first)

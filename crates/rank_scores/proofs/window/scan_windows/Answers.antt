@@ -1,25 +1,16 @@
-use Rattle.std.proofs.Common.{refl, sym, ap, ◌∙◌, FitsSigned, to_z-of_z, w32, arith, rules, ℤ, pos, ◌+ℤ◌, set}
+use Rattle.std.proofs.Common.{sym, ap, ◌∙◌, FitsSigned, to_z-of_z, w32, arith, rules, ℤ, pos, ◌+ℤ◌, set}
 use Rattle.std.specs.List.{fold}
 use Rattle.std.proofs.lemmas.Bool.Decides.{Decides-int_eq}
-use Rattle.rank_scores.specs.Candidates.{candidate, admitted}
+use Rattle.rank_scores.specs.Candidates.{candidate}
 use Rattle.rank_scores.specs.Windows.{next_place, with_value}
 use Rattle.rank_scores.proofs.WindowSums.{windows, at_first, fits, anew-place, anew-room, Step, takes, leaves, none_left}
 use Rattle.rank_scores.proofs.window.scan_windows.Goals.{After-go_on, After-take_in}
 use Rattle.rank_scores.proofs.window.scan_windows.Goals as goal
+use Rattle.std.proofs.lemmas.Int.{ints}
 
 -- at first nothing is summed
 pub loop-day-init : goal.loop-day-init
-loop-day-init g c =
-    let query = c.args.query.now in
-    let series = c.args.series.now in
-    record {
-      days = admitted query series;
-      at = rw c.empty-window.ensures (at_first query series _ c.into_iter-day-iterator.result
-          c.of-day-items.ensures.series (refl {a = 512})
-          (c.into_iter-day-iterator.ensures.into_iter_gives ∙ c.of-day-items.ensures.days));
-      few = rw c.empty-window.ensures c.requires.some;
-      so_far = refl;
-    }
+loop-day-init g c = grind (arith, ints, at_first)
 
 -- the day that comes can be taken in
 comes : (g : _) (c : After-go_on g) → Step c.args.id c.args.n c.loop-day.invariant.days
@@ -31,12 +22,10 @@ comes g c =
 
 -- it finds a place, and room
 pub take_in-requires-clause-first : goal.take_in-requires-clause-first
-take_in-requires-clause-first g c =
-    anew-place c.loop-day.window c.go_on.new.self _ c.go_on.ensures c.loop-day.invariant.at.place
+take_in-requires-clause-first g c = search (rules, arith, anew-place)
 
 pub take_in-requires-clause-len : goal.take_in-requires-clause-len
-take_in-requires-clause-len g c =
-    anew-room c.loop-day.window c.go_on.new.self _ c.args.n c.go_on.ensures c.loop-day.invariant.few c.requires.few
+take_in-requires-clause-len g c = search (rules, arith, anew-room)
 
 -- its value fits the sum
 pub take_in-requires-clause-total : goal.take_in-requires-clause-total
@@ -51,9 +40,7 @@ came : (g : _) (c : After-take_in g) → Step c.args.id c.args.n c.loop-day.inva
     c.in-Some.day c.next.new.self
     → Step c.args.id c.args.n c.loop-day.invariant.days c.take_in.new.ring c.take_in.new.self c.in-Some.day
     c.next.new.self
-came g c takes =
-    let small : FitsSigned w32 c.in-Some.value = search rules in
-    rw (c.take_in.ensures.window, c.take_in.ensures.ring, to_z-of_z small) takes
+came g c takes = search (rules, arith, FitsSigned, w32, to_z-of_z)
 
 -- a whole window begins on a day
 pub first_of-first-requires : goal.first_of-first-requires

@@ -57,7 +57,8 @@ returns-in_err-add-clause-err c =
     YieldsList-turn given c.loop-number.yielded _ c.loop-number.yielded_by _ _ _ c.in-Some.is c.next.ensures.steps in
     let ends = ends_by text _ _ (c.in-Some.number, c.in-Some.line.now) c.in_err-add.field-0.0 turn.0 turn.1
     (sym c.is_blank.ensures ∙ c.if-not-is_blank.true) c.in_err-add.ensures.err c.loop-number.invariant.read in
-    subst (λ r. IfErr r (λ fault. IsRefusal is_memory fault (listed text))) (sym (err_given _ _ c.from_residual.ensures.1)) ends.0
+    subst (λ r. IfErr r (λ fault. IsRefusal is_memory fault (listed text)))
+    (sym (err_given _ _ c.from_residual.ensures.1)) ends.0
 
 -- and the first of them
 pub returns-in_err-add-clause-first : goal.returns-in_err-add-clause-first

@@ -18,12 +18,17 @@ returns-clause-first c =
     let both : (c.args.self.now ≡ cur ++ rest) × (0 < length cur) = elim c.if-is_empty.branch [
       | then-is_empty+in_ok-self-inside w ↦
           rw w.self-inside-is (
-            begun-next c.args.self.now c.self.inside.current c.self.inside.behind w.in_ok-self-inside.field-0 w.next.new.self
+            begun-next c.args.self.now c.self.inside.current c.self.inside.behind w.in_ok-self-inside.field-0
+                w.next.new.self
                 c.self.view_is (w.if-is_empty.ensures.0 refl) w.in_ok-self-inside.ensures.some,
             w.in_ok-self-inside.ensures.day,
           )
       | else-is_empty w ↦
-          rw w.self-inside-is (sym c.self.view_is, some-day _ (λ none. let no : false ≡ true = w.if-is_empty.ensures.1 none in absurd cc))
+          rw w.self-inside-is (
+            sym c.self.view_is,
+            some-day _
+                (λ none. let no : false ≡ true = w.if-is_empty.ensures.1 none in absurd cc),
+          )
     ] in
     c.first.ensures ∙ ap (option_map (λ (x : DayValue). x.0)) (sym (first-of_parts cur rest both.1))
     ∙ ap first_of (sym both.0)

@@ -26,7 +26,11 @@ returns-clause-some c begins =
             w.in-Some.ensures.day,
           )
       | else-is_empty w ↦
-          rw w.self-inside-is (sym c.self.view_is, some-day _ (λ none. let no : false ≡ true = w.if-is_empty.ensures.1 none in absurd cc))
+          rw w.self-inside-is (
+            sym c.self.view_is,
+            some-day _
+                (λ none. let no : false ≡ true = w.if-is_empty.ensures.1 none in absurd cc),
+          )
     ] in
     begins-taken c.args.last cur rest c.take_to.result c.take_to.new.self both.1
     (subst (BeginsBy c.args.last) both.0 begins) c.take_to.ensures.parts

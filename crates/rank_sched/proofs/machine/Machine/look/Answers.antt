@@ -9,6 +9,7 @@ use Rattle.rank_sched.proofs.Machines.{within}
 use Rattle.rank_sched.proofs.MachineSteps.{set-length, err_is, not_claimed, no_worker_refused, not_now_refused}
 use Rattle.rank_sched.proofs.MachineSteps.{look_step, still_running}
 use Rattle.rank_sched.proofs.machine.Machine.look.Goals as goal
+use Rattle.std.proofs.lemmas.Int.{ints}
 
 -- there is no such worker
 pub returns-in_err-morsel : goal.returns-in_err-morsel
@@ -24,8 +25,7 @@ returns-in_err-morsel c =
 -- the worker has a turn to change
 pub index_mut-requires : goal.index_mut-requires
 index_mut-requires c =
-    let low = within c.as_slice.result.now c.args.worker c.in_ok-morsel.field-0 c.in_ok-morsel.ensures.ok in
-    omega (arith, low, c.as_slice.ensures.len, ap length c.as_slice.ensures.value)
+    grind (arith, ints, within c.as_slice.result.now c.args.worker c.in_ok-morsel.field-0 c.in_ok-morsel.ensures.ok)
 
 -- what is true of every machine is true after the look
 pub invariant_of-self : goal.invariant_of-self

@@ -5,6 +5,8 @@ use Rattle.rank_sched.specs.Plan.{planned_morsel}
 use Rattle.rank_sched.proofs.PlanOrder.{strictly, strictly_ranks}
 use Rattle.rank_sched.proofs.PlanMade.{sort-planned}
 use Rattle.rank_sched.proofs.plan.Plan.of_bounds.Goals as goal
+use Rattle.std.proofs.Common.{arith}
+use Rattle.std.proofs.lemmas.Int.{ints}
 
 -- a plan with the sorted morsels is the plan of its query over the data
 pub invariant_of-result : goal.invariant_of-result
@@ -25,12 +27,4 @@ invariant_of-result c =
 
 -- the sorted morsels are the plan's
 pub returns : goal.returns
-returns c =
-    let up = c.sort_unstable_by.ensures.sorted (strictly planned_morsel) (strictly_ranks planned_morsel)
-    (answers_always _ _ _ (λ f a r g called. search rules)) in
-    let same : map planned_morsel c.sort_unstable_by.new.self.items ≡
-    (plan.planned c.args.query.now c.args.held.now).morsels =
-    sort-planned c.args.query.now c.args.held.now planned_morsel c.in_ok-morsels.morsels.items
-    c.sort_unstable_by.new.self.items
-    c.morsels_of.ensures.contents c.in_ok-morsels.ensures.morsels c.sort_unstable_by.ensures.permutation up in
-    cc
+returns c = grind (arith, ints, strictly planned_morsel, strictly_ranks planned_morsel, answers_always, sort-planned)

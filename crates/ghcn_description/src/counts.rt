@@ -1,0 +1,53 @@
+//! What is counted in daily files.
+
+use ghcn_fields::Day;
+use ghcn_files::Element;
+
+/// What daily files hold. The lines of the elements, of other codes, of unlisted stations and of
+/// blanks are all lines.
+#[derive(Debug, Drop)]
+pub struct Description {
+    /// How many stations are listed.
+    pub stations: u64,
+    pub files: u64,
+    pub lines: u64,
+    /// Of the five elements, in their order.
+    pub elements: [ElementCounts; 5],
+    /// The least codes that are none of the five elements', by increasing bytes.
+    pub others: Vec<CodeCount>,
+    /// How many lines have a code behind those.
+    pub further: u64,
+    /// How many lines of the five elements are of stations that aren't listed.
+    pub unlisted: u64,
+    pub blank: u64,
+}
+
+/// What listed stations have of an element.
+#[derive(Clone, Copy, Debug)]
+pub struct ElementCounts {
+    pub element: Element,
+    pub lines: u64,
+    /// How many stations have a usable day of it.
+    pub series: u64,
+    /// How many usable days these have.
+    pub days: u64,
+    /// How many values a quality check flagged.
+    pub flagged: u64,
+    /// The first and the last usable day, where there is one.
+    pub span: Option<Span>,
+}
+
+/// The first and the last of some days.
+#[derive(Clone, Copy, Debug)]
+pub struct Span {
+    pub first: Day,
+    pub last: Day,
+}
+
+/// A code of columns 18 to 21 that is none of the five elements', and how many lines have it.
+#[derive(Clone, Copy, Debug)]
+pub struct CodeCount {
+    /// With `?` for each byte that can't be seen.
+    pub code: [u8; 4],
+    pub lines: u64,
+}

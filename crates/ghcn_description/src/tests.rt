@@ -1,0 +1,100 @@
+//! Worked texts of descriptions.
+
+use crate::{CodeCount, Description, ElementCounts, Span};
+use ghcn_fields::{Day, Memory};
+use ghcn_files::Element;
+use std::alloc::Global;
+
+const TEXT: &[u8] = b"extremes description 1
+stations 129658
+files 2
+lines 319
+element PRCP lines 300 series 20 days 9105 flagged 3 from 1889-12-01 to 2020-07-31
+element SNOW lines 0 series 0 days 0 flagged 0
+element SNWD lines 0 series 0 days 0 flagged 0
+element TMAX lines 1 series 0 days 0 flagged 31
+element TMIN lines 0 series 0 days 0 flagged 0
+other WESD lines 12
+unlisted lines 5
+blank lines 1
+end
+";
+
+const WITH_FURTHER: &[u8] = b"extremes description 1
+stations 129658
+files 2
+lines 327
+element PRCP lines 300 series 20 days 9105 flagged 3 from 1889-12-01 to 2020-07-31
+element SNOW lines 0 series 0 days 0 flagged 0
+element SNWD lines 0 series 0 days 0 flagged 0
+element TMAX lines 1 series 0 days 0 flagged 31
+element TMIN lines 0 series 0 days 0 flagged 0
+other WESD lines 12
+others lines 8
+unlisted lines 5
+blank lines 1
+end
+";
+
+/// So many lines and flagged values of an element, and no usable day.
+fn without_days(element: Element, lines: u64, flagged: u64) -> ElementCounts {
+    ElementCounts {
+        element,
+        lines,
+        series: 0,
+        days: 0,
+        flagged,
+        span: None,
+    }
+}
+
+/// Files with so many lines of further codes.
+fn described(alloc: Global, further: u64) -> Result<Description, Memory> {
+    let mut others = Vec::new(alloc);
+    others.push(CodeCount {
+        code: *b"WESD",
+        lines: 12,
+    })?;
+    Ok(Description {
+        stations: 129_658,
+        files: 2,
+        lines: further.saturating_add(319),
+        elements: [
+            ElementCounts {
+                element: Element::Prcp,
+                lines: 300,
+                series: 20,
+                days: 9105,
+                flagged: 3,
+                span: span_of(),
+            },
+            without_days(Element::Snow, 0, 0),
+            without_days(Element::Snwd, 0, 0),
+            without_days(Element::Tmax, 1, 31),
+            without_days(Element::Tmin, 0, 0),
+        ],
+        others,
+        further,
+        unlisted: 5,
+        blank: 1,
+    })
+}
+
+fn span_of() -> Option<Span> {
+    Some(Span {
+        first: Day::of(1889, 12, 1)?,
+        last: Day::of(2020, 7, 31)?,
+    })
+}
+
+/// Whether files with so many lines of further codes have this text, where memory is there.
+fn has_text(alloc: Global, further: u64, text: &[u8]) -> Result<bool, Memory> {
+    let written = described(alloc, further)?.text(alloc)?;
+    Ok(written.as_slice() == text)
+}
+
+#[test]
+fn texts_of_descriptions(rt: HostRuntime) {
+    assert_eq!(rt; has_text(rt.alloc(), 0, TEXT), Ok(true));
+    assert_eq!(rt; has_text(rt.alloc(), 8, WITH_FURTHER), Ok(true));
+}

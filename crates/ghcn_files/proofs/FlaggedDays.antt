@@ -1,0 +1,66 @@
+-- The flagged values of the first days of a line.
+use Rattle.std.proofs.Common.{◌≡◌, ℕ, ◌+◌, ◌≤◌, Bool, true, false, cond, List, [], ◌∷◌, length, map, sym, ap, ◌∙◌}
+use Rattle.std.proofs.Common.{arith, Option, None, Some, Ok, Err}
+use Rattle.std.specs.List.{count_by, enumerate_from, range_with_len}
+use Rattle.std.proofs.lemmas.List.FromFn.{map-range_with_len_more, length-map-range_with_len}
+use Rattle.std.proofs.lemmas.List.FromFn.{length-enumerate_from}
+use Rattle.std.proofs.Math.Nat.{zero-add}
+use Rattle.std.proofs.lemmas.List.Sums.{sum_by-append, count_by-le-length}
+use Rattle.ghcn_fields.specs.LineLaws.{enumerate_from-append}
+use Rattle.ghcn_files.specs.declared.month.Reading.{Reading}
+use Rattle.ghcn_files.specs.declared.element.Element.{Element}
+use Rattle.ghcn_files.specs.declared.month.Month.{Month}
+use Rattle.ghcn_files.specs.declared.fault.LineWhy.{LineWhy}
+use Rattle.ghcn_files.specs.declared.fault.LineWhy.TheVariants.{Short}
+use Rattle.ghcn_files.specs.Months.{reading, days_of_group, month_of, month_if, month_why, unless}
+use Rattle.ghcn_files.specs.Flags.{is_flagged_value}
+
+-- how many of the first n days of a line, in a month with so many, have a flagged value
+abbrev pub flagged_within : ℕ → List ℕ → ℕ → ℕ
+flagged_within days line n =
+    count_by (is_flagged_value days) (enumerate_from 1 (map (reading line) (range_with_len 1 n)))
+
+-- one day more counts where its value is flagged
+pub flagged_within-more : (days : ℕ) (line : List ℕ) (n : ℕ) → flagged_within days line (n + 1)
+    ≡ flagged_within days line n + cond (is_flagged_value days (n + 1, reading line (n + 1))) 1 0
+flagged_within-more days line n =
+    let rs : List Reading = map (reading line) (range_with_len 1 n) in
+    let r : Reading = reading line (n + 1) in
+    let bit : ℕ × Reading → ℕ = λ x. cond (is_flagged_value days x) 1 0 in
+    let place : 1 + length rs ≡ n + 1 = omega (arith, length-map-range_with_len (reading line) 1 n) in
+    ap (λ (all : List Reading). count_by (is_flagged_value days) (enumerate_from 1 all))
+    (map-range_with_len_more (reading line) 1 n (n + 1) (omega arith))
+    ∙ ap (count_by (is_flagged_value days)) (enumerate_from-append 1 rs (r ∷ []))
+    ∙ sum_by-append bit (enumerate_from 1 rs) (enumerate_from (1 + length rs) (r ∷ []))
+    ∙ ap (λ (k : ℕ). flagged_within days line n + k) (zero-add (bit (1 + length rs, r)))
+    ∙ ap (λ (k : ℕ). flagged_within days line n + cond (is_flagged_value days (k, r)) 1 0) place
+
+-- what a day adds is at most 1
+pub one_if-le : (b : Bool) (n : ℕ) → n ≡ cond b 1 0 → n ≤ 1
+one_if-le true n is = omega (arith, is)
+one_if-le false n is = omega (arith, is)
+
+-- they are no more than the days
+pub flagged_within-le : (days : ℕ) (line : List ℕ) (n : ℕ) → flagged_within days line n ≤ n
+flagged_within-le days line n =
+    let rs : List Reading = map (reading line) (range_with_len 1 n) in
+    omega (
+      arith,
+      count_by-le-length (is_flagged_value days) (enumerate_from 1 rs),
+      length-enumerate_from 1 rs,
+      length-map-range_with_len (reading line) 1 n,
+    )
+
+-- the days of a month that was read are those of its line
+pub days-read : (line : List ℕ) (short : Bool) (e : Option Element) (m : Month)
+    → cond short (Err Short) (month_if e line) ≡ Ok (Some m) → m.days ≡ map (reading line) days_of_group
+days-read line true e m is = absurd cc
+days-read line false None m is = absurd cc
+days-read line false (Some e) m is =
+    elim (month_why line) as (λ (w : Option LineWhy). unless w (Some (month_of e line)) ≡ Ok (Some m)
+    → m.days ≡ map (reading line) days_of_group) [
+      | None ↦ λ is.
+          let same : month_of e line ≡ m = cc in
+          sym (ap (λ (x : Month). x.days) same)
+      | Some why ↦ λ is. absurd cc
+    ] is
