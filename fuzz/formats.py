@@ -1,17 +1,19 @@
-"""What `extremes rank` and `extremes check` answer to some texts, by docs/FORMATS.md and
-docs/DEFINITIONS.md alone. Plain and slow: all candidates are listed and put in order.
+"""What `extremes rank`, `extremes check` and `extremes describe` answer to some texts, by docs/FORMATS.md and
+docs/DEFINITIONS.md alone. Plain and slow: all candidates are listed and put in order. The daily files are named
+`1.dly`, `2.dly` and so on.
 
 An answer is what the program leaves: (status, standard output, standard error), for the command
 line words, the station list, the papers and the daily files as bytes.
 """
 import re
-from collections import namedtuple
+from collections import Counter, namedtuple
 from datetime import date
 
 ELEMENTS = (b"PRCP", b"SNOW", b"SNWD", b"TMAX", b"TMIN")
 TEMPERATURES = (b"TMAX", b"TMIN")
 FALLS = (b"PRCP", b"SNOW")
 MOST = 2**20
+MOST_CODES = 200
 BLANK, BAD = "blank", "bad"
 
 Station = namedtuple("Station", "id latitude longitude state name")
@@ -155,6 +157,60 @@ def read_daily(texts, listed):
                 if day and not missing and flag == b" ":
                     series.setdefault((station, element), {})[day] = value
     return series, unlisted
+
+
+def foreign(texts):
+    """The word on files with a line that isn't blank and none of the five elements."""
+    found = []
+    for file, text in enumerate(texts, 1):
+        codes = [field(line, 18, 21) for _, line in lines(text)]
+        if codes and not any(it in ELEMENTS for it in codes):
+            found.append(file)
+    return b"foreign %d %d.dly\n" % (len(found), found[0]) if found else b""
+
+
+# ---- descriptions ----
+
+def shown(code):
+    return bytes(it if 33 <= it <= 126 else ord("?") for it in code)
+
+
+def element_line(element, its, days, flagged):
+    """The line of an element, whose lines of listed stations these are, and whose usable days by station."""
+    every = sorted(day for each in days for day in each)
+    line = b"element %s lines %d series %d days %d flagged %d" % (element, its, len(days), len(every), flagged)
+    return line + (b" from %s to %s" % (date_text(every[0]), date_text(every[-1])) if every else b"")
+
+
+def flags(line):
+    """How many days of a line that its month has bear a value and a quality flag."""
+    year, month = number_of(field(line, 12, 15), 0), number_of(field(line, 16, 17), 0)
+    return sum(number_of(value_field(line, j), 0) not in (BLANK, -9999) and field(line, 20 + 8 * j, 20 + 8 * j) != b" "
+               for j in range(1, 32) if day_of(b"%04d-%02d-%02d" % (year, month, j)))
+
+
+def describe(stations, daily):
+    """The answer of `extremes describe`."""
+    try:
+        listed = read_stations(stations)
+        series, unlisted = read_daily(daily, listed)
+    except Refused as refusal:
+        return 1, b"", f"{refusal}\n".encode()
+    every = [it for text in daily for it in (text.split(b"\n") if text.split(b"\n")[-1] else text.split(b"\n")[:-1])]
+    full = [line for text in daily for _, line in lines(text)]
+    others = Counter(shown(line[17:21]) for line in full if line[17:21] not in ELEMENTS)
+    named = sorted(others)[:MOST_CODES]
+    found = [b"extremes description 1", b"stations %d" % len(listed)]
+    found += [b"files %d" % len(daily), b"lines %d" % len(every)]
+    for element in ELEMENTS:
+        its = [line for line in full if line[17:21] == element and line[:11] in listed]
+        days = [days for (_, code), days in series.items() if code == element]
+        found.append(element_line(element, len(its), days, sum(flags(line) for line in its)))
+    found += [b"other %s lines %d" % (code, others[code]) for code in named]
+    further = sum(others.values()) - sum(others[code] for code in named)
+    found += [b"others lines %d" % further] if further else []
+    found += [b"unlisted lines %d" % unlisted, b"blank lines %d" % (len(every) - len(full)), b"end", b""]
+    return 0, b"\n".join(found), foreign(daily)
 
 
 # ---- queries ----
@@ -380,4 +436,5 @@ def rank(query_text, stations, daily, workers=4, guess=None):
     except Refused as refusal:
         return 1, b"", f"{refusal}\n".encode()
     everyone = sorted((it for its in found.values() for it in its), key=in_order)
-    return 0, report(query, everyone), b"unlisted %d\n" % unlisted if unlisted else b""
+    told = foreign(daily) + (b"unlisted %d\n" % unlisted if unlisted else b"")
+    return 0, report(query, everyone), told

@@ -33,8 +33,8 @@ SHAPES = ((-300, 400, True), (0, 30, True), (0, 30, False), (0, 12, False), (-5,
 
 
 def padding():
-    """Lines of an element that isn't ranked, so many that a run which has them too starts its threads."""
-    line = b"ZZA00000001202007WSFG".ljust(269) + b"\n"
+    """Blank lines, so many that a run which has them too starts its threads."""
+    line = b" " * 269 + b"\n"
     return line * (WORTH_THREADS // len(line) + 1)
 
 
@@ -63,7 +63,7 @@ def daily_lines(rng, names, element):
     found = []
     for _ in range(rng.choice((0, 2, 3, 4, 5, 6, 8))):
         name = rng.choice(names) if names and rng.random() < 0.93 else rng.choice(IDS)
-        element = element if rng.random() < 0.7 else rng.choice(ELEMENTS + (b"TAVG", b"WT01", b"    "))
+        element = element if rng.random() < 0.7 else rng.choice(ELEMENTS + (b"TAVG", b"WT01", b"    ", b"W\x80\xff "))
         any_month = rng.randint(12, 12 * 9998)
         month = rng.choice((12 * 2020 + 1, 12 * 2019 + 10, 12, 12 * 10000 - 3, 12 * 1969 + 10, any_month))
         shape = rng.choice(SHAPES)

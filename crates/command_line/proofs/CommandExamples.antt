@@ -151,3 +151,24 @@ no_version : fault_of extremes_app (codes "extremes" ∷ codes "rank" ∷ codes 
     ∷ codes "--" ∷ codes "--version" ∷ []) ≡ []
 unfolding clap_on_literals
 no_version = refl
+
+-- a command line to describe files
+abbrev to_describe : List Text
+to_describe = codes "extremes" ∷ codes "describe" ∷ codes "a" ∷ codes "--stations=s" ∷ codes "b" ∷ []
+
+-- `clap` has no fault to tell
+describe_right : fault_of extremes_app to_describe ≡ []
+unfolding clap_on_literals
+describe_right = refl
+
+-- its files are a and b
+describe_files : option_map (λ p. all_of (codes "files") p.1) (subcommand_of extremes_app to_describe)
+    ≡ Some (Some (codes "a" ∷ codes "b" ∷ []))
+unfolding clap_on_literals
+describe_files = refl
+
+-- files can't be described without stations
+describe_without : fault_of extremes_app (codes "extremes" ∷ codes "describe" ∷ codes "a" ∷ [])
+    ≡ MissingRequiredArgument ∷ []
+unfolding clap_on_literals
+describe_without = refl

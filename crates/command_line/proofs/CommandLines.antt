@@ -20,7 +20,7 @@ use Rattle.clap.specs.declared.parser.matches.SubCommand.{SubCommand}
 use Rattle.clap.specs.declared.parser.matches.ArgMatches.TheViews.{out-SubCommand}
 use Rattle.command_line.specs.declared.asked.Part.{Part}
 use Rattle.command_line.specs.declared.asked.Command.{Command}
-use Rattle.command_line.specs.declared.asked.Command.TheVariants.{Sample, Rank, Merge, Check}
+use Rattle.command_line.specs.declared.asked.Command.TheVariants.{Sample, Rank, Merge, Check, Describe}
 use Rattle.command_line.specs.CommandLine.{extremes_app, paths_of, papers_of, AreInPairs, IsGuess, IsCount, IsFlag}
 use Rattle.command_line.specs.CommandLine.{IsCommand, IsCommandOf}
 
@@ -83,33 +83,39 @@ pub not_asked : (kinds : Kinds) → kinds ≡ [] → kinds ≡ DisplayVersion �
 not_asked [] none asks = cc
 not_asked (k ∷ ks) none asks = cc
 
--- of three subcommands only their names can be met
-one_of_three : (s t u : Shape) (p : Text × List Text) (r : Text × List Row) (first second third : Bool)
-    → option_map (λ (v : Shape). rows_at v p.1)
-    (if first then Some s else (if second then Some t else (if third then Some u else None))) ≡ Some r
-    → (r.0 ≡ s.name) ⊎ ((r.0 ≡ t.name) ⊎ (r.0 ≡ u.name))
-one_of_three s t u p r true second third e = inl (ap (λ (q : Option (Text × List Row)). (unwrap_or q r).0) (sym e))
-one_of_three s t u p r false true third e =
-    inr (inl (ap (λ (q : Option (Text × List Row)). (unwrap_or q r).0) (sym e)))
-one_of_three s t u p r false false true e =
-    inr (inr (ap (λ (q : Option (Text × List Row)). (unwrap_or q r).0) (sym e)))
-one_of_three s t u p r false false false e = absurd cc
+-- the name of what was met, where that is known
+met_is : (name : Text) (rows : List Row) (r : Text × List Row) → Some (name, rows) ≡ Some r → r.0 ≡ name
+met_is name rows r e = ap (λ (q : Option (Text × List Row)). (unwrap_or q r).0) (sym e)
 
--- it is one of the three names
-abbrev pub IsOneOf : Text → Text → Text → Text → Type 0
-IsOneOf a b c name = (name ≡ a) ⊎ ((name ≡ b) ⊎ (name ≡ c))
+-- of four subcommands only their names can be met
+one_of_four : (s t u v : Shape) (p : Text × List Text) (r : Text × List Row) (first second third fourth : Bool)
+    → option_map (λ (x : Shape). rows_at x p.1) (if first then Some s else (if second then Some t
+    else (if third then Some u else (if fourth then Some v else None)))) ≡ Some r
+    → (r.0 ≡ s.name) ⊎ ((r.0 ≡ t.name) ⊎ ((r.0 ≡ u.name) ⊎ (r.0 ≡ v.name)))
+one_of_four s t u v p r true second third fourth e = inl (met_is _ _ r e)
+one_of_four s t u v p r false true third fourth e = inr (inl (met_is _ _ r e))
+one_of_four s t u v p r false false true fourth e = inr (inr (inl (met_is _ _ r e)))
+one_of_four s t u v p r false false false true e = inr (inr (inr (met_is _ _ r e)))
+one_of_four s t u v p r false false false false e = absurd cc
 
--- a subcommand that the program's words meet is `rank`, `merge` or `check`
+-- it is one of the four names
+abbrev pub IsOneOf : Text → Text → Text → Text → Text → Type 0
+IsOneOf a b c d name = (name ≡ a) ⊎ ((name ≡ b) ⊎ ((name ≡ c) ⊎ (name ≡ d)))
+
+-- it is the name of a subcommand of the program
+abbrev pub IsName : Text → Type 0
+IsName name = IsOneOf (codes "rank") (codes "merge") (codes "check") (codes "describe") name
+
+-- a subcommand that the program's words meet is one of these
 met_name : (stop : Option (Text × List Text)) (r : Text × List Row) → entered (built extremes_app) stop ≡ Some r
-    → IsOneOf (codes "rank") (codes "merge") (codes "check") r.0
+    → IsName r.0
 met_name None r e = absurd cc
-met_name (Some p) r e = one_of_three _ _ _ p r (answers_to p.0 (codes "rank", []))
-    (answers_to p.0 (codes "merge", [])) (answers_to p.0 (codes "check", [])) e
+met_name (Some p) r e = one_of_four _ _ _ _ p r (answers_to p.0 (codes "rank", []))
+    (answers_to p.0 (codes "merge", [])) (answers_to p.0 (codes "check", [])) (answers_to p.0 (codes "describe", [])) e
 
 -- so is one that is met anywhere in them
-pub only_three : (words : List Text) (r : Text × List Row) → subcommand_of extremes_app words ≡ Some r
-    → IsOneOf (codes "rank") (codes "merge") (codes "check") r.0
-only_three words r e =
+pub only_four : (words : List Text) (r : Text × List Row) → subcommand_of extremes_app words ≡ Some r → IsName r.0
+only_four words r e =
     met_name (stop_after (built extremes_app).top.rules (names_of (built extremes_app))
     (argument_words extremes_app words)) r e
 
@@ -117,18 +123,12 @@ only_three words r e =
 abbrev pub name_met : {Z : Type 0} → Option (Box SubCommand Z) → Option Text
 name_met o = option_map (λ b. (out-SubCommand (box_value b)).name.now) o
 
--- where one was met that can only be of three names, it has one of them
-pub met_one : {Z : Type 0} (o : Option (Box SubCommand Z)) (t : Option (Text × List Row)) (a b c : Text)
-    → is_some o ≡ true → subcommand_rows o ≡ t → ((r : Text × List Row) → t ≡ Some r → IsOneOf a b c r.0)
-    → (name_met o ≡ Some a) ⊎ ((name_met o ≡ Some b) ⊎ (name_met o ≡ Some c))
-met_one None t a b c some e only = absurd cc
-met_one (Some s) t a b c some e only = elim (only _ (sym e)) [
-  | inl is ↦ inl (ap (λ (n : Text). Some n) is)
-  | inr others ↦ elim others [
-    | inl is ↦ inr (inl (ap (λ (n : Text). Some n) is))
-    | inr is ↦ inr (inr (ap (λ (n : Text). Some n) is))
-  ]
-]
+-- where one was met, and none but some names can be, it has one of them
+pub met_one : {Z : Type 0} (P : Text → Type 0) (o : Option (Box SubCommand Z)) (t : Option (Text × List Row))
+    → is_some o ≡ true → subcommand_rows o ≡ t → ((r : Text × List Row) → t ≡ Some r → P r.0)
+    → (name : Text) × (name_met o ≡ Some name) × P name
+met_one P None t some e only = absurd cc
+met_one P (Some s) t some e only = (_, refl, only _ (sym e))
 
 -- one that was met by a name, and the rows behind it
 pub met_rows : {Z : Type 0} (o : Option (Box SubCommand Z)) (name : Text) (rows : List Row) → name_met o ≡ Some name
@@ -160,11 +160,14 @@ merges-pairs : (name : Text) (rows : List Row) (c : Command) → IsCommand name 
     → AreInPairs rows
 merges-pairs name rows c (inl is) e = let bad : 109 ≡ 114 = first_code _ _ _ (sym e ∙ is.0) in absurd
     (omega (arith, bad))
-merges-pairs name rows c (inr (inr is)) e = let bad : 109 ≡ 99 = first_code _ _ _ (sym e ∙ is.0) in absurd
+merges-pairs name rows c (inr (inr (inl is))) e = let bad : 109 ≡ 99 = first_code _ _ _ (sym e ∙ is.0) in absurd
+    (omega (arith, bad))
+merges-pairs name rows c (inr (inr (inr is))) e = let bad : 109 ≡ 100 = first_code _ _ _ (sym e ∙ is.0) in absurd
     (omega (arith, bad))
 merges-pairs name rows Sample (inr (inl is)) e = absurd is.1
 merges-pairs name rows (Rank stations query workers guess certificate files) (inr (inl is)) e = absurd is.1
 merges-pairs name rows (Check stations query report certificate part files) (inr (inl is)) e = absurd is.1
+merges-pairs name rows (Describe stations files) (inr (inl is)) e = absurd is.1
 merges-pairs name rows (Merge query certificate parts) (inr (inl is)) e =
     ap (λ (ps : List Text). length ps % 2) (sym is.1.2) ∙ paths-even parts.items
 

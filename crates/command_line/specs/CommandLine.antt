@@ -19,7 +19,7 @@ use Rattle.command_line.specs.declared.asked.Part.{Part}
 use Rattle.command_line.specs.declared.asked.CommandFault.{CommandFault}
 use Rattle.command_line.specs.declared.asked.CommandFault.TheVariants as fault
 use Rattle.command_line.specs.declared.asked.Command.{Command}
-use Rattle.command_line.specs.declared.asked.Command.TheVariants.{Sample, Rank, Merge, Check}
+use Rattle.command_line.specs.declared.asked.Command.TheVariants.{Sample, Rank, Merge, Check, Describe}
 
 -- `--NAME VALUE`: an option with one value, which may be given once
 abbrev pub option_of : Text → Rule
@@ -81,15 +81,21 @@ check_app = with_rule (with_rule (with_rule (with_rule (with_rule (with_rule (ne
     (required (option_of (codes "certificate"))))
     (flag_of (codes "part"))) (many_of (codes "files"))
 
--- the program's command line: it has a version and the subcommands `rank`, `merge` and `check`, and needs one of these
+-- `describe` with its option, which must be given, and files
+abbrev pub describe_app : App
+describe_app = with_rule (with_rule (new_app (codes "describe"))
+    (required (option_of (codes "stations")))) (many_of (codes "files"))
+
+-- the program's command line: it has a version and the subcommands `rank`, `merge`, `check` and `describe`, and needs
+-- one of these
 abbrev pub extremes_app : App
-extremes_app = with_subcommand (with_subcommand (with_subcommand (record (new_app (codes "extremes")) {
+extremes_app = with_subcommand (with_subcommand (with_subcommand (with_subcommand (record (new_app (codes "extremes")) {
   top = record (new_app (codes "extremes")).top {
     has_version = true;
     subcommand_required = true;
     disable_help_subcommand = true;
   };
-}) rank_app.top) merge_app.top) check_app.top
+}) rank_app.top) merge_app.top) check_app.top) describe_app.top
 
 -- all words, the program's name first
 abbrev pub words_of : {A : Type 0} → List (String A) → List Text
@@ -136,6 +142,7 @@ abbrev pub IsRank : List Row → Command → Type 0
 IsRank rows Sample = ⊥
 IsRank rows (Merge query certificate parts) = ⊥
 IsRank rows (Check stations query report certificate part files) = ⊥
+IsRank rows (Describe stations files) = ⊥
 IsRank rows (Rank stations query workers guess certificate files) =
     (string_bytes stations ≡ unwrap_or (first_of (codes "stations") rows) [])
     × (string_bytes query ≡ unwrap_or (first_of (codes "query") rows) [])
@@ -153,6 +160,7 @@ abbrev pub IsMerge : List Row → Command → Type 0
 IsMerge rows Sample = ⊥
 IsMerge rows (Rank stations query workers guess certificate files) = ⊥
 IsMerge rows (Check stations query report certificate part files) = ⊥
+IsMerge rows (Describe stations files) = ⊥
 IsMerge rows (Merge query certificate parts) =
     (string_bytes query ≡ unwrap_or (first_of (codes "query") rows) [])
     × (option_map (λ s. string_bytes s) certificate ≡ first_of (codes "certificate") rows)
@@ -163,6 +171,7 @@ abbrev pub IsCheck : List Row → Command → Type 0
 IsCheck rows Sample = ⊥
 IsCheck rows (Merge query certificate parts) = ⊥
 IsCheck rows (Rank stations query workers guess certificate files) = ⊥
+IsCheck rows (Describe stations files) = ⊥
 IsCheck rows (Check stations query report certificate part files) =
     (string_bytes stations ≡ unwrap_or (first_of (codes "stations") rows) [])
     × (string_bytes query ≡ unwrap_or (first_of (codes "query") rows) [])
@@ -171,10 +180,21 @@ IsCheck rows (Check stations query report certificate part files) =
     × IsFlag (one_of (codes "part") rows) part
     × (map (λ s. string_bytes s) files.items ≡ unwrap_or (all_of (codes "files") rows) [])
 
--- the command is that of the subcommand of this name, `rank`, `merge` or `check`
+-- the same for a subcommand that describes files
+abbrev pub IsDescribe : List Row → Command → Type 0
+IsDescribe rows Sample = ⊥
+IsDescribe rows (Rank stations query workers guess certificate files) = ⊥
+IsDescribe rows (Merge query certificate parts) = ⊥
+IsDescribe rows (Check stations query report certificate part files) = ⊥
+IsDescribe rows (Describe stations files) =
+    (string_bytes stations ≡ unwrap_or (first_of (codes "stations") rows) [])
+    × (map (λ s. string_bytes s) files.items ≡ unwrap_or (all_of (codes "files") rows) [])
+
+-- the command is that of the subcommand of this name, `rank`, `merge`, `check` or `describe`
 abbrev pub IsCommand : Text → List Row → Command → Type 0
 IsCommand name rows c = ((name ≡ codes "rank") × IsRank rows c)
-    ⊎ (((name ≡ codes "merge") × IsMerge rows c) ⊎ ((name ≡ codes "check") × IsCheck rows c))
+    ⊎ (((name ≡ codes "merge") × IsMerge rows c)
+    ⊎ (((name ≡ codes "check") × IsCheck rows c) ⊎ ((name ≡ codes "describe") × IsDescribe rows c)))
 
 -- the words are right and name a subcommand, and the command has what `clap` reads behind it
 pub record IsCommandOf (words : List Text) (c : Command) : Type 0 where

@@ -36,6 +36,11 @@ pub enum Command {
         part: bool,
         files: Vec<String>,
     },
+    /// Describe what files hold, named by their paths.
+    Describe {
+        stations: String,
+        files: Vec<String>,
+    },
 }
 
 /// The papers of a part, named by their paths.

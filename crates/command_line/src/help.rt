@@ -41,10 +41,12 @@ pub const PAPERS_HELP: &str = "The report and the certificate of a part, then th
 pub const USAGE: &str = "extremes rank --stations <FILE> --query <QUERY> [FILE]...
        extremes merge --query <QUERY> [--certificate <OUT>] [REPORT CERTIFICATE]...
        extremes check [--part] --stations <FILE> --query <QUERY> --report <FILE> --certificate <FILE> [FILE]...
+       extremes describe --stations <FILE> [FILE]...
        extremes --version
        extremes rank --help
        extremes merge --help
-       extremes check --help";
+       extremes check --help
+       extremes describe --help";
 
 /// The form of a command line of `merge`.
 pub const MERGE_USAGE: &str =
@@ -63,7 +65,8 @@ For more information, try '--help'.
 pub const HELP: &str =
     "'extremes rank --help' has the queries, their elements and units, the exit statuses
 and what each refusal means; 'extremes merge --help' has how an archive is ranked in parts;
-'extremes check --help' has the verdicts on papers.";
+'extremes check --help' has the verdicts on papers; 'extremes describe --help' has what is
+counted in daily files.";
 
 /// Below the options of `rank`: queries, units, statuses and refusals.
 pub const RANK_HELP: &str = "Queries:
@@ -206,3 +209,33 @@ Exit statuses:
   3        a file can't be read, or the verdict can't be written
 
 'extremes rank --help' has the queries and what each refusal of the input means.";
+
+/// Below the options of `describe`: what is counted, and statuses.
+pub const DESCRIBE_HELP: &str =
+    "Counts what stands on the lines of daily files, and prints that on standard output:
+
+  stations N               listed stations
+  files N, lines N         what was given
+  element CODE lines N series N days N flagged N from DAY to DAY
+                           of each of the five elements, and of listed stations alone: the lines, the
+                           stations that have a usable day, the usable days, the values that a quality
+                           check flagged, and the first and last usable day where there is one
+  other CODE lines N       lines with another code in columns 18 to 21; ? stands for a byte that can't
+                           be seen. The first 200 codes by their bytes are named
+  others lines N           lines with further codes, where there are any
+  unlisted lines N         lines of the five elements whose station isn't listed
+  blank lines N            lines without a byte but blanks
+
+The lines of elements, of other codes, of unlisted stations and of blanks are all lines. Lines with
+another code are left out by a ranking, whatever else they hold.
+
+Example:
+  extremes describe --stations ghcnd-stations.txt *.dly
+
+Exit statuses:
+  0        done: the description is on standard output
+  1        refused: one line on standard error says why
+  2        the words are no command, or ask for help
+  3        a file can't be read, or the description can't be written
+
+'extremes rank --help' has what each refusal means.";

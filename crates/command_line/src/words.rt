@@ -3,18 +3,19 @@
 ghost use Rattle.std.specs.Prelude.{◌≡◌, ◌≢◌, IfOk, IfErr, [], Ok, map, option_map, unwrap_or, false, string_bytes, length, ◌%◌};
 ghost use Rattle.clap.specs.Words.{app_of, first_of, kind_of, found_of, rows_of, rule_of};
 ghost use Rattle.clap.specs.declared.builder.Command.TheViews.{out-Command as fields_of};
-ghost use Rattle.command_line.specs.CommandLine.{extremes_app, rank_app, merge_app, check_app};
+ghost use Rattle.command_line.specs.CommandLine.{extremes_app, rank_app, merge_app, check_app, describe_app};
 ghost use Rattle.command_line.specs.CommandLine.{option_of, flag_of, required, many_of, is_global, paths_of};
-ghost use Rattle.command_line.specs.CommandLine.{words_of, AreRight, AreInPairs, IsCommandOf, IsRank, IsMerge, IsCheck};
+ghost use Rattle.command_line.specs.CommandLine.{words_of, AreRight, AreInPairs, IsCommandOf};
+ghost use Rattle.command_line.specs.CommandLine.{IsRank, IsMerge, IsCheck, IsDescribe};
 ghost use Rattle.command_line.specs.CommandLine.{AskVersion, MayAskVersion, TellsVersion, OnVersion};
 ghost use Rattle.command_line.specs.declared.asked.Command.TheVariants as commands;
 ghost use Rattle.command_line.specs.declared.asked.CommandFault.TheVariants as faults;
 
 use crate::asked::{Command, CommandFault, Part};
 use crate::help::{
-    CERTIFICATE_HELP, CHECK_HELP, FILES_HELP, GUESS_HELP, HELP, MERGE_HELP, MERGE_USAGE,
-    MERGED_CERTIFICATE_HELP, ODD_PAPERS, PAPERS_HELP, PART_HELP, QUERY_HELP, RANK_HELP,
-    STATIONS_HELP, USAGE, VERSION, WORKERS_HELP,
+    CERTIFICATE_HELP, CHECK_HELP, DESCRIBE_HELP, FILES_HELP, GUESS_HELP, HELP, MERGE_HELP,
+    MERGE_USAGE, MERGED_CERTIFICATE_HELP, ODD_PAPERS, PAPERS_HELP, PART_HELP, QUERY_HELP,
+    RANK_HELP, STATIONS_HELP, USAGE, VERSION, WORKERS_HELP,
 };
 use clap::error::ErrorKind;
 use clap::{Arg, ArgAction, ArgMatches, Error, value_parser};
@@ -61,7 +62,7 @@ fn fault_of(alloc: Global, error: &Error) -> CommandFault
     }
 }
 
-/// The words as one of the commands that they can name, `rank`, `merge` and `check`.
+/// The words as one of the commands that they can name, `rank`, `merge`, `check` and `describe`.
 fn named_command(alloc: Global, words: &[String]) -> Result<Command, CommandFault>
     ensures ok { IfOk result (IsCommandOf (words_of words.now)) }
     ensures right { AreRight (words_of words.now) → IfErr result (λ f. f ≡ faults.Memory) }
@@ -79,10 +80,13 @@ fn named_command(alloc: Global, words: &[String]) -> Result<Command, CommandFaul
     if let Some(merge) = matches.subcommand_matches("merge") {
         return merge_of(alloc, merge);
     }
-    let Some(check) = matches.subcommand_matches("check") else {
+    if let Some(check) = matches.subcommand_matches("check") {
+        return Ok(check_of(alloc, check)?);
+    }
+    let Some(describe) = matches.subcommand_matches("describe") else {
         unreachable!();
     };
-    Ok(check_of(alloc, check)?)
+    Ok(describe_of(alloc, describe)?)
 }
 
 /// All words, the program's name first.
@@ -111,7 +115,8 @@ fn program<'a>(alloc: Global) -> Result<clap::Command<'a>, AllocError>
         .disable_help_subcommand(true)
         .subcommand(rank_words(alloc)?)?
         .subcommand(merge_words(alloc)?)?
-        .subcommand(check_words(alloc)?)
+        .subcommand(check_words(alloc)?)?
+        .subcommand(describe_words(alloc)?)
 }
 
 /// The words of `rank`.
@@ -159,6 +164,18 @@ fn check_words<'a>(alloc: Global) -> Result<clap::Command<'a>, AllocError>
         .arg(needed(alloc, "report", "FILE", "The report"))?
         .arg(needed(alloc, "certificate", "FILE", "The certificate"))?
         .arg(flag(alloc, "part", PART_HELP))?
+        .arg(many(alloc, "files", "FILE", FILES_HELP))
+}
+
+/// The words of `describe`.
+fn describe_words<'a>(alloc: Global) -> Result<clap::Command<'a>, AllocError>
+    ensures app { IfOk result (λ c. app_of c ≡ describe_app) }
+    ensures local { IfOk result (λ c. (fields_of c).has_globals ≡ false) }
+{
+    clap::Command::new(alloc, "describe")
+        .about("Prints what daily files hold, in numbers")
+        .after_help(DESCRIBE_HELP)
+        .arg(needed(alloc, "stations", "FILE", STATIONS_HELP))?
         .arg(many(alloc, "files", "FILE", FILES_HELP))
 }
 
@@ -246,6 +263,16 @@ fn check_of(alloc: Global, matches: &ArgMatches) -> Result<Command, AllocError>
         report: text(alloc, matches, "report")?,
         certificate: text(alloc, matches, "certificate")?,
         part: matches.get_flag("part"),
+        files: copies(alloc, matches.get_strs("files").unwrap_or(&[]))?,
+    })
+}
+
+/// The command that the matches of `describe` name.
+fn describe_of(alloc: Global, matches: &ArgMatches) -> Result<Command, AllocError>
+    ensures { IfOk result (IsDescribe (rows_of (found_of matches.now))) }
+{
+    Ok(Command::Describe {
+        stations: text(alloc, matches, "stations")?,
         files: copies(alloc, matches.get_strs("files").unwrap_or(&[]))?,
     })
 }

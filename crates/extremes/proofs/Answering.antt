@@ -18,11 +18,17 @@ use Rattle.rank_check.specs.Laws.{VerdictStays}
 use Rattle.rank_parts.specs.declared.verdict.PartVerdict.{PartVerdict}
 use Rattle.rank_parts.specs.Parts.{part_verdict}
 use Rattle.rank_parts.specs.Laws.{PartVerdictStays}
+use Rattle.ghcn_description.specs.declared.counts.Description.{Description}
+use Rattle.ghcn_description.specs.Texts.{description_text}
+use Rattle.rank_input.specs.declared.description.DescriptionIntake.{DescriptionIntake}
 use Rattle.rank_input.specs.declared.intake.Intake.{Intake}
+use Rattle.rank_input.specs.Described.{DescribesInput}
 use Rattle.rank_input.specs.Taken.{HoldsInput, IsTrueOf}
 use Rattle.extremes.specs.declared.papers.Papers.{Papers}
 use Rattle.extremes.specs.Answer.{ArePapers, AreRight, IsOfCrew, IsOfOneWorker, IsSerial}
 use Rattle.extremes.specs.Runs.{AnswersInput, CrewsInput, JudgesInput, JudgesPart}
+use Rattle.extremes.specs.declared.describe.DescriptionText.{DescriptionText}
+use Rattle.extremes.specs.Describes.{DescribesIntake}
 
 -- papers that are right for what a query needs of some data are right for these data, and the other way round
 right_for : (query : Asked) (held whole : Contents) (report certificate : List ℕ) → ReportStays → CertificateStays
@@ -164,4 +170,11 @@ serial_input t guess query held papers stay certificates holds measures are = re
         alone = subst (λ (p : Planned). IsOfOneWorker p guess papers.certificate.items)
             (plan_for query held input.whole stay input.needed) are;
       };
+}
+
+-- the text of the description of an intake says what its files hold
+pub text_of_intake : (t : DescriptionIntake) (d : Description) (text : DescriptionText) → DescribesInput t d
+    → text.bytes.items ≡ description_text d → DescribesIntake t text
+text_of_intake t d text describes is = record {
+  is = λ i taken. record { description = d; described = describes.is i taken; written = is };
 }

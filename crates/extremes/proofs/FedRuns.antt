@@ -1,8 +1,9 @@
 -- A run over files that were fed whole.
 use Rattle.std.proofs.Common.{◌≡◌, ℕ, ◌≤◌, Bool, true, List, [], ◌∷◌, map, refl, subst}
-use Rattle.std.specs.Prelude.{Option, None, Some, Result, Ok, Err, IfOk, IfErr, ℤ, string_bytes}
+use Rattle.std.specs.Prelude.{Option, None, Some, Result, Ok, Err, IfOk, IfErr, IfSome, ℤ, string_bytes}
 use Rattle.std.proofs.lemmas.Bool.{OnFalse_from}
 use Rattle.ghcn_fields.specs.declared.memory.Memory.{Memory as WantOfMemory}
+use Rattle.ghcn_series.specs.declared.counts.Foreign.{Foreign}
 use Rattle.ghcn_series.specs.Fed.{files_of}
 use Rattle.rank_input.specs.declared.fault.Fault.{Fault}
 use Rattle.rank_input.specs.declared.fault.Fault.TheVariants.{Memory}
@@ -10,23 +11,35 @@ use Rattle.rank_input.specs.declared.intake.Intake.{Intake}
 use Rattle.extremes.specs.declared.papers.Papers.{Papers}
 use Rattle.extremes.specs.declared.judgement.Judgement.{Judgement}
 use Rattle.rank_input.specs.Input.{is_crew, is_guess, words_fault, read_unless, read_input, is_memory}
-use Rattle.rank_input.specs.Taken.{given, HasTaken, RefusesInput}
+use Rattle.rank_input.specs.declared.description.DescriptionIntake.{DescriptionIntake}
+use Rattle.rank_input.specs.Takes.{Taking, given}
+use Rattle.rank_input.specs.Taken.{HasTaken, AreForeignOf, RefusesInput}
+use Rattle.rank_input.specs.Described as described
 use Rattle.rank_input.specs.Feeding.{AreAllOf, AreFilesOf, FeedsFiles}
 use Rattle.ghcn_fields.specs.Refusals.{IsRefusal}
 use Rattle.rank_input.proofs.Feedings.{given-files}
 use Rattle.extremes.specs.Runs.{AnswersInput, CrewsInput, RanksInput, JudgesInputAs}
-use Rattle.extremes.specs.Runs.{named, IsRanked, RanksFiles, IsJudgement, JudgesFiles}
+use Rattle.extremes.specs.Runs.{named, AreForeign, IsRanked, RanksFiles, IsJudgement, JudgesFiles}
+use Rattle.extremes.specs.Describes.{IsDescriptionOf, DescribesIntake, DescribesFiles}
+use Rattle.extremes.specs.declared.describe.DescriptionText.{DescriptionText}
+use Rattle.extremes.specs.declared.files.Describing.{Describing}
 use Rattle.extremes.specs.Merges.{Known, known_part, AreBothOf}
 use Rattle.extremes.specs.declared.files.Ranking.{Ranking}
 use Rattle.extremes.specs.declared.files.Judging.{Judging}
 use Rattle.rank_merge.specs.Merging.{Texts}
 
 -- what was fed behind the station list is the whole input
-taken-all : (old new : Intake) (known : List (Option (List ℕ))) (query stations : List ℕ)
-    (fed : FeedsFiles old new known) → HasTaken old (given query stations [])
-    → HasTaken new (given query stations fed.files)
-taken-all old new known query stations fed is =
-    subst (HasTaken new) (given-files query stations [] fed.files) (fed.taken (given query stations []) is)
+taken-all : {T : Type 0} (has_taken : Taking T) (old new : T) (known : List (Option (List ℕ))) (query stations : List ℕ)
+    (fed : FeedsFiles has_taken old new known) → has_taken old (given query stations [])
+    → has_taken new (given query stations fed.files)
+taken-all has_taken old new known query stations fed is =
+    subst (has_taken new) (given-files query stations [] fed.files) (fed.taken (given query stations []) is)
+
+-- the foreign files of an intake are those of all files that it was given
+told-all : (t : Intake) (query stations : List ℕ) (files : List (List ℕ)) (foreign : Option Foreign)
+    → HasTaken t (given query stations files) → IfSome foreign (AreForeignOf t) → AreForeign files foreign
+told-all t query stations files None taken told = tt
+told-all t query stations files (Some f) taken told = told.is (given query stations files) taken
 
 -- a fault of the words of a run is its first
 pub words_refuse : (workers : ℕ) (guess : Option ℤ) (query stations : List ℕ) (files : List (List ℕ)) (fault : Fault)
@@ -61,18 +74,21 @@ words-input t workers guess fault is = record {
 
 -- the ranking of an intake that was fed all files that are named
 pub ranks-files : (bytes_of : Known) (r : Ranking) (old new : Intake) (query list stations : List ℕ)
-    (answer : Result Papers Fault) → query ≡ string_bytes r.query → list ≡ string_bytes r.stations
-    → AreAllOf (bytes_of list) stations → HasTaken old (given query stations [])
-    → FeedsFiles old new (map (named bytes_of) r.files.items) → RanksInput new r.workers r.guess answer
-    → RanksFiles bytes_of r answer
-ranks-files bytes_of r old new query list stations answer same_query same_list whole taken fed ranks = record {
-  stations = stations;
-  whole = subst (λ (l : List ℕ). AreAllOf (bytes_of l) stations) same_list whole;
-  files = fed.files;
-  all = fed.all;
-  ranked = subst (λ (q : List ℕ). IsRanked r.workers r.guess q stations fed.files answer) same_query
-      (ranks.is (given query stations fed.files) (taken-all old new _ query stations fed taken));
-}
+    (answer : Result Papers Fault) (foreign : Option Foreign) → query ≡ string_bytes r.query
+    → list ≡ string_bytes r.stations → AreAllOf (bytes_of list) stations → HasTaken old (given query stations [])
+    → FeedsFiles HasTaken old new (map (named bytes_of) r.files.items) → RanksInput new r.workers r.guess answer
+    → IfSome foreign (AreForeignOf new) → RanksFiles bytes_of r answer foreign
+ranks-files bytes_of r old new query list stations answer foreign same_query same_list whole taken fed ranks told =
+    let all = taken-all HasTaken old new _ query stations fed taken in
+    record {
+      stations = stations;
+      whole = subst (λ (l : List ℕ). AreAllOf (bytes_of l) stations) same_list whole;
+      files = fed.files;
+      all = fed.all;
+      ranked = subst (λ (q : List ℕ). IsRanked r.workers r.guess q stations fed.files answer) same_query
+          (ranks.is (given query stations fed.files) all);
+      told = told-all new query stations fed.files foreign all told;
+    }
 
 -- what is said for an intake, or its fault, is said for its texts
 judged-is : (part : Bool) (t : Intake) (query stations : List ℕ) (files : List (List ℕ)) (report certificate : List ℕ)
@@ -86,13 +102,16 @@ judged-is part t query stations files report certificate (Err fault) taken ok er
 
 -- the judgement of papers by an intake that was fed all files that are named
 pub judges-files : (bytes_of : Known) (j : Judging) (old new : Intake) (query list stations report certificate : List ℕ)
-    (answer : Result Judgement Fault) → query ≡ string_bytes j.query → list ≡ string_bytes j.stations
-    → AreAllOf (bytes_of list) stations → AreBothOf (known_part bytes_of j.papers) (report, certificate)
-    → HasTaken old (given query stations []) → FeedsFiles old new (map (named bytes_of) j.files.items)
+    (answer : Result Judgement Fault) (foreign : Option Foreign) → query ≡ string_bytes j.query
+    → list ≡ string_bytes j.stations → AreAllOf (bytes_of list) stations
+    → AreBothOf (known_part bytes_of j.papers) (report, certificate)
+    → HasTaken old (given query stations []) → FeedsFiles HasTaken old new (map (named bytes_of) j.files.items)
     → IfOk answer (JudgesInputAs j.part new report certificate) → IfErr answer (RefusesInput new)
-    → JudgesFiles bytes_of j answer
-judges-files bytes_of j old new query list stations report certificate answer same_query same_list whole papers taken
-    fed ok err = record {
+    → IfSome foreign (AreForeignOf new) → JudgesFiles bytes_of j answer foreign
+judges-files bytes_of j old new query list stations report certificate answer foreign same_query same_list whole papers
+    taken fed ok err told =
+    let given_all = taken-all HasTaken old new _ query stations fed taken in
+    record {
       stations = stations;
       whole = subst (λ (l : List ℕ). AreAllOf (bytes_of l) stations) same_list whole;
       papers = (report, certificate);
@@ -100,8 +119,41 @@ judges-files bytes_of j old new query list stations report certificate answer sa
       files = fed.files;
       all = fed.all;
       judged = subst (λ (q : List ℕ). IsJudgement j.part q stations fed.files report certificate answer) same_query
-          (judged-is j.part new query stations fed.files report certificate answer
-          (taken-all old new _ query stations fed taken) ok err);
+          (judged-is j.part new query stations fed.files report certificate answer given_all ok err);
+      told = told-all new query stations fed.files foreign given_all told;
+    }
+
+-- what a describer answers, or its fault, is that of its files
+described-is : (t : DescriptionIntake) (query stations : List ℕ) (files : List (List ℕ))
+    (answer : Result DescriptionText Fault) → described.HasTaken t (given query stations files)
+    → IfOk answer (DescribesIntake t) → IfErr answer (described.RefusesInput t)
+    → IsDescriptionOf stations files answer
+described-is t query stations files (Ok text) taken ok err = ok.is (given query stations files) taken
+described-is t query stations files (Err fault) taken ok err = err.is (given query stations files) taken
+
+-- and so are its foreign files
+described-told : (t : DescriptionIntake) (query stations : List ℕ) (files : List (List ℕ)) (foreign : Option Foreign)
+    → described.HasTaken t (given query stations files) → IfSome foreign (described.AreForeignOf t)
+    → AreForeign files foreign
+described-told t query stations files None taken told = tt
+described-told t query stations files (Some f) taken told = told.is (given query stations files) taken
+
+-- the description by an intake that was fed all files that are named
+pub describes-files : (bytes_of : Known) (d : Describing) (old new : DescriptionIntake) (list stations : List ℕ)
+    (answer : Result DescriptionText Fault) (foreign : Option Foreign) → list ≡ string_bytes d.stations
+    → AreAllOf (bytes_of list) stations → ((query : List ℕ) → described.HasTaken old (given query stations []))
+    → FeedsFiles described.HasTaken old new (map (named bytes_of) d.files.items)
+    → IfOk answer (DescribesIntake new) → IfErr answer (described.RefusesInput new)
+    → IfSome foreign (described.AreForeignOf new) → DescribesFiles bytes_of d answer foreign
+describes-files bytes_of d old new list stations answer foreign same_list whole taken fed ok err told =
+    let all = taken-all described.HasTaken old new _ [] stations fed (taken []) in
+    record {
+      stations = stations;
+      whole = subst (λ (l : List ℕ). AreAllOf (bytes_of l) stations) same_list whole;
+      files = fed.files;
+      all = fed.all;
+      described = described-is new [] stations fed.files answer all ok err;
+      told = described-told new [] stations fed.files foreign all told;
     }
 
 -- there are files whose bytes are all of those that are known
@@ -112,7 +164,7 @@ some_files (Some bytes ∷ ks) = let rest = some_files ks in (bytes ∷ rest.0, 
 
 -- want of memory may be answered to any files
 pub ranks-memory : (bytes_of : Known) (r : Ranking) (list stations : List ℕ) (m : WantOfMemory)
-    → list ≡ string_bytes r.stations → AreAllOf (bytes_of list) stations → RanksFiles bytes_of r (Err (Memory m))
+    → list ≡ string_bytes r.stations → AreAllOf (bytes_of list) stations → RanksFiles bytes_of r (Err (Memory m)) None
 ranks-memory bytes_of r list stations m same whole =
     let some = some_files (map (named bytes_of) r.files.items) in record {
       stations = stations;
@@ -120,12 +172,13 @@ ranks-memory bytes_of r list stations m same whole =
       files = some.0;
       all = some.1;
       ranked = tt;
+      told = tt;
     }
 
 -- and to papers
 pub judges-memory : (bytes_of : Known) (j : Judging) (list stations : List ℕ) (papers : Texts) (m : WantOfMemory)
     → list ≡ string_bytes j.stations → AreAllOf (bytes_of list) stations
-    → AreBothOf (known_part bytes_of j.papers) papers → JudgesFiles bytes_of j (Err (Memory m))
+    → AreBothOf (known_part bytes_of j.papers) papers → JudgesFiles bytes_of j (Err (Memory m)) None
 judges-memory bytes_of j list stations papers m same whole both =
     let some = some_files (map (named bytes_of) j.files.items) in record {
       stations = stations;
@@ -135,4 +188,19 @@ judges-memory bytes_of j list stations papers m same whole both =
       files = some.0;
       all = some.1;
       judged = tt;
+      told = tt;
+    }
+
+-- and for a description
+pub describes-memory : (bytes_of : Known) (d : Describing) (list stations : List ℕ) (m : WantOfMemory)
+    → list ≡ string_bytes d.stations → AreAllOf (bytes_of list) stations
+    → DescribesFiles bytes_of d (Err (Memory m)) None
+describes-memory bytes_of d list stations m same whole =
+    let some = some_files (map (named bytes_of) d.files.items) in record {
+      stations = stations;
+      whole = subst (λ (l : List ℕ). AreAllOf (bytes_of l) stations) same whole;
+      files = some.0;
+      all = some.1;
+      described = tt;
+      told = tt;
     }

@@ -1,15 +1,19 @@
 -- What a run answers to a command, by the bytes that files have, where those are known.
 use Rattle.std.specs.Prelude.{◌≡◌, ◌⊎◌, ℕ, List, map, Option, Result, string_bytes}
 use Rattle.command_line.specs.declared.asked.Command.{Command}
-use Rattle.command_line.specs.declared.asked.Command.TheVariants.{Sample, Rank, Merge, Check}
+use Rattle.command_line.specs.declared.asked.Command.TheVariants.{Sample, Rank, Merge, Check, Describe}
+use Rattle.ghcn_series.specs.declared.counts.Foreign.{Foreign}
 use Rattle.rank_input.specs.declared.fault.Fault.{Fault}
 use Rattle.extremes.specs.declared.papers.Papers.{Papers}
 use Rattle.extremes.specs.declared.judgement.Judgement.{Judgement}
 use Rattle.extremes.specs.declared.merge.MergingFault.{MergingFault}
 use Rattle.extremes.specs.declared.ending.Ending.{Ending}
 use Rattle.extremes.specs.declared.ending.Ending.TheVariants.{File}
-use Rattle.extremes.specs.Printed.{IsPrinted, IsTold}
+use Rattle.extremes.specs.Printed.{IsPrinted, IsTold, IsTextShown}
 use Rattle.extremes.specs.Runs.{RanksFiles, JudgesFiles}
+use Rattle.extremes.specs.Describes.{DescribesFiles}
+use Rattle.extremes.specs.declared.describe.DescriptionText.{DescriptionText}
+use Rattle.extremes.specs.declared.files.Describing.{Describing}
 use Rattle.extremes.specs.declared.files.Ranking.{Ranking}
 use Rattle.extremes.specs.declared.files.Judging.{Judging}
 use Rattle.extremes.specs.Merges.{Known, KnownPart, known_part, MergesFiles}
@@ -28,7 +32,8 @@ pub record PrintsAnswer (before after : Option (List ℕ)) (ending : Ending) : T
 pub record PrintsRanking (bytes_of : Known) (r : Ranking) (before after : Option (List ℕ)) (ending : Ending)
     : Type 0 where
   pub answer : Result Papers Fault
-  pub ranked : RanksFiles bytes_of r answer
+  pub foreign : Option Foreign
+  pub ranked : RanksFiles bytes_of r answer foreign
   pub printed : IsPrinted answer before after ending
 
 -- the merge of the papers of parts, of which these bytes are known, is printed
@@ -42,8 +47,17 @@ pub record PrintsMerge (query : List ℕ) (parts : List KnownPart) (before after
 pub record PrintsJudgement (bytes_of : Known) (j : Judging) (before after : Option (List ℕ)) (ending : Ending)
     : Type 0 where
   pub answer : Result Judgement Fault
-  pub judged : JudgesFiles bytes_of j answer
+  pub foreign : Option Foreign
+  pub judged : JudgesFiles bytes_of j answer foreign
   pub told : IsTold answer before after ending
+
+-- the description of files that are named is printed
+pub record PrintsDescription (bytes_of : Known) (d : Describing) (before after : Option (List ℕ)) (ending : Ending)
+    : Type 0 where
+  pub answer : Result DescriptionText Fault
+  pub foreign : Option Foreign
+  pub described : DescribesFiles bytes_of d answer foreign
+  pub shown : IsTextShown answer before after ending
 
 -- a ranking ends at a file, or is printed
 abbrev pub RunsRanking : Known → Ranking → Option (List ℕ) → Option (List ℕ) → Ending → Type 0
@@ -59,6 +73,11 @@ RunsMerge query parts before after ending =
 abbrev pub RunsJudging : Known → Judging → Option (List ℕ) → Option (List ℕ) → Ending → Type 0
 RunsJudging bytes_of j before after ending =
     EndsAtAFile before after ending ⊎ PrintsJudgement bytes_of j before after ending
+
+-- and with a description
+abbrev pub RunsDescribing : Known → Describing → Option (List ℕ) → Option (List ℕ) → Ending → Type 0
+RunsDescribing bytes_of d before after ending =
+    EndsAtAFile before after ending ⊎ PrintsDescription bytes_of d before after ending
 
 -- what a run of a command prints, and how it ends: the files are those that it names, in its order
 abbrev pub IsRun : Known → Command → Option (List ℕ) → Option (List ℕ) → Ending → Type 0
@@ -81,3 +100,5 @@ IsRun bytes_of (Check stations query report certificate part files) before after
       papers = record { report = report; certificate = certificate };
       part = part;
     }) before after ending
+IsRun bytes_of (Describe stations files) before after ending =
+    RunsDescribing bytes_of (record { stations = stations; files = files }) before after ending

@@ -6,5 +6,6 @@ pub mod Judged
 pub mod JudgedInParts
 pub mod Merges
 pub mod Runs
+pub mod Describes
 pub mod RankedInParts
 pub mod Commands

@@ -2,6 +2,7 @@
 use Rattle.std.specs.Prelude.{◌≡◌, ◌⊎◌, ℕ, List, ◌++◌, codes, Option, Result, Ok, Err}
 use Rattle.std.specs.Io.KnownBytes.{Appends}
 use Rattle.extremes.specs.declared.papers.Papers.{Papers}
+use Rattle.extremes.specs.declared.describe.DescriptionText.{DescriptionText}
 use Rattle.rank_input.specs.declared.fault.Fault.{Fault}
 use Rattle.extremes.specs.declared.ending.Ending.{Ending}
 use Rattle.extremes.specs.declared.ending.Ending.TheVariants.{Done, Refused, Words, File}
@@ -41,6 +42,11 @@ IsShown text before after File = HasBeginning text before after
 abbrev pub IsPrinted : {F : Type 0} → Result Papers F → Option (List ℕ) → Option (List ℕ) → Ending → Type 0
 IsPrinted (Ok papers) before after ending = IsShown papers.report.items before after ending
 IsPrinted (Err fault) before after ending = (ending ≡ Refused) × (after ≡ before)
+
+-- of a description the text is shown; a fault writes nothing
+abbrev pub IsTextShown : Result DescriptionText Fault → Option (List ℕ) → Option (List ℕ) → Ending → Type 0
+IsTextShown (Ok text) before after ending = IsShown text.bytes.items before after ending
+IsTextShown (Err fault) before after ending = (ending ≡ Refused) × (after ≡ before)
 
 -- what is said of papers is printed as its line and ends the run as it says, or it ends as a file that couldn't be
 -- written; a fault prints nothing and is refused

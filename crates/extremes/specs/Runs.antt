@@ -1,7 +1,9 @@
 -- What a run answers for what it was given, and for the files that are named.
-use Rattle.std.specs.Prelude.{ℕ, ◌≤◌, Bool, true, false, List, map, Option, Result, Ok, Err, ℤ}
+use Rattle.std.specs.Prelude.{◌≡◌, ℕ, ◌≤◌, Bool, true, false, List, map, Option, Result, Ok, Err, ℤ, IfSome}
 use Rattle.std.specs.Prelude.{String, string_bytes}
 use Rattle.ghcn_fields.specs.Refusals.{IsRefusal}
+use Rattle.ghcn_series.specs.declared.counts.Foreign.{Foreign}
+use Rattle.ghcn_series.specs.LineKinds.{foreign_of}
 use Rattle.rank_input.specs.declared.fault.Fault.{Fault}
 use Rattle.rank_input.specs.declared.intake.Intake.{Intake}
 use Rattle.rank_input.specs.Input.{read_input, read_run, is_memory}
@@ -18,6 +20,10 @@ use Rattle.extremes.specs.declared.files.Ranking.{Ranking}
 use Rattle.extremes.specs.declared.files.Judging.{Judging}
 use Rattle.extremes.specs.Merges.{Known, known_part, AreBothOf}
 use Rattle.extremes.specs.Judged.{IsJudged, IsJudgedByPart}
+
+-- these are the foreign files among all of these, where any word is said of them
+abbrev pub AreForeign : List (List ℕ) → Option Foreign → Type 0
+AreForeign files foreign = IfSome foreign (λ f. f ≡ foreign_of files)
 
 -- the bytes of the file that is named, by those of files by their paths, where they are known
 abbrev pub named : {A : Type 0} → Known → String A → Option (List ℕ)
@@ -61,13 +67,16 @@ abbrev pub RanksInput : Intake → ℕ → Option ℤ → Result Papers Fault �
 RanksInput t workers guess answer =
     IsTrueOf t (λ query stations files. IsRanked workers guess query stations files answer)
 
--- the ranking of all bytes of the station list and of each daily file that are named, in order
-pub record RanksFiles (bytes_of : Known) (r : Ranking) (answer : Result Papers Fault) : Type 0 where
+-- the ranking of all bytes of the station list and of each daily file that are named, in order, and which of these
+-- files are foreign
+pub record RanksFiles (bytes_of : Known) (r : Ranking) (answer : Result Papers Fault) (foreign : Option Foreign)
+    : Type 0 where
   pub stations : List ℕ
   pub whole : AreAllOf (named bytes_of r.stations) stations
   pub files : List (List ℕ)
   pub all : AreFilesOf (map (named bytes_of) r.files.items) files
   pub ranked : IsRanked r.workers r.guess (string_bytes r.query) stations files answer
+  pub told : AreForeign files foreign
 
 -- what is said for these texts is a part's verdict where they are a part of the files that the papers are of, and a
 -- verdict where they aren't
@@ -92,8 +101,9 @@ IsJudgement part query stations files report certificate (Err fault) =
     IsRefusal is_memory fault (read_input query stations files)
 
 -- the judgement of all bytes of two papers for those of the station list and of each daily file, as they are named, in
--- order
-pub record JudgesFiles (bytes_of : Known) (j : Judging) (answer : Result Judgement Fault) : Type 0 where
+-- order, and which of these files are foreign
+pub record JudgesFiles (bytes_of : Known) (j : Judging) (answer : Result Judgement Fault) (foreign : Option Foreign)
+    : Type 0 where
   pub stations : List ℕ
   pub whole : AreAllOf (named bytes_of j.stations) stations
   pub papers : Texts
@@ -101,3 +111,4 @@ pub record JudgesFiles (bytes_of : Known) (j : Judging) (answer : Result Judgeme
   pub files : List (List ℕ)
   pub all : AreFilesOf (map (named bytes_of) j.files.items) files
   pub judged : IsJudgement j.part (string_bytes j.query) stations files papers.0 papers.1 answer
+  pub told : AreForeign files foreign

@@ -1,11 +1,13 @@
-//! Ranking, merging and judging what the files of an archive hold.
+//! Ranking, merging, judging and describing what the files of an archive hold.
 
 ghost use Rattle.std.specs.Prelude.{◌≡◌, [], IfOk, OnOk, map};
 ghost use Rattle.std.specs.List.{AllZip};
 ghost use Rattle.rank_input.specs.Taken.{HasTakenSome};
 ghost use Rattle.extremes.specs.Runs.{RanksFiles, JudgesFiles, RanksInput};
+ghost use Rattle.extremes.specs.Describes.{DescribesFiles};
 ghost use Rattle.extremes.specs.Merges.{AreBothOf, MergesFiles, known_part, texts_of};
 
+use crate::describe::{DescriptionText, describe_intake};
 use crate::judge::judge_as;
 use crate::judgement::Judgement;
 use crate::merge::{MergingFault, PartTexts, merge_texts};
@@ -13,9 +15,11 @@ use crate::papers::Papers;
 use crate::rank::{self, Ranked, rank_intake};
 use command_line::Part;
 use ghcn_fields::Memory;
+use ghcn_series::Foreign;
 use rank_crew::Open;
 use rank_input::{
-    Archive, Fault, Intake, check_words, feed_files, piece_room, read_whole, workers_for,
+    Archive, DescriptionIntake, Fault, Intake, check_words, feed_files, piece_room, read_whole,
+    workers_for,
 };
 use rank_merge::MergeFault;
 use std::alloc::Global;
@@ -43,25 +47,34 @@ pub(crate) struct Judging {
     pub(crate) part: bool,
 }
 
+/// What is described: files, named by their paths.
+#[derive(Drop)]
+pub(crate) struct Describing {
+    pub(crate) stations: String,
+    pub(crate) files: Vec<String>,
+}
+
 /// Reads the station list and then the daily files in order, and ranks them, or answers the path of
-/// the first file that can't be read.
+/// the first file that can't be read. Beside it stand the foreign files, unless a fault was found.
 pub(crate) fn rank_files<'p, R: Threads + Wait + AllocGlobal + Sync, A: Archive>(
     rt: &R,
     archive: &A,
     ranking: &'p Ranking,
-) -> Result<Ranked, &'p str>
-    ensures { IfOk result (λ ranked. RanksFiles (A.bytes_of archive.now) ranking.now ranked.answer) }
+) -> Result<(Ranked, Option<Foreign>), &'p str>
+    ensures { IfOk result (λ read. RanksFiles (A.bytes_of archive.now) ranking.now read.0.answer read.1) }
 {
     let alloc = rt.alloc();
     let Ok(stations) = read_whole(alloc, archive, &ranking.stations) else {
         return Err(&ranking.stations);
     };
     let Ok(mut room) = piece_room(alloc) else {
-        return Ok(rank::refused(Fault::Memory(Memory)));
+        return Ok((rank::refused(Fault::Memory(Memory)), None));
     };
     let mut intake = Intake::new(alloc, &ranking.query, &stations);
     feed_files(archive, &mut intake, &ranking.files, &mut room)?;
-    Ok(rank_fed(rt, intake, ranking.workers, ranking.guess))
+    let foreign = intake.foreign();
+    let ranked = rank_fed(rt, intake, ranking.workers, ranking.guess);
+    Ok((ranked, foreign))
 }
 
 /// Ranks what was fed, by as many of the workers that are asked for as are worth starting.
@@ -144,28 +157,52 @@ fn read_part<'p, A: Archive>(
 
 /// Reads the station list, the report, the certificate and then the daily files in order, and judges
 /// the papers, as those of a whole of which the files are a part where that is so. Or answers the path
-/// of the first file that can't be read.
+/// of the first file that can't be read. Beside it stand the foreign files, unless a fault was found.
 pub(crate) fn judge_files<'p, A: Archive>(
     alloc: Global,
     archive: &A,
     judging: &'p Judging,
-) -> Result<Result<Judgement, Fault>, &'p str>
-    ensures { IfOk result (JudgesFiles (A.bytes_of archive.now) judging.now) }
+) -> Result<(Result<Judgement, Fault>, Option<Foreign>), &'p str>
+    ensures { IfOk result (λ read. JudgesFiles (A.bytes_of archive.now) judging.now read.0 read.1) }
 {
     let Ok(stations) = read_whole(alloc, archive, &judging.stations) else {
         return Err(&judging.stations);
     };
     let papers = read_part(alloc, archive, &judging.papers)?;
     let Ok(mut room) = piece_room(alloc) else {
-        return Ok(Err(Fault::Memory(Memory)));
+        return Ok((Err(Fault::Memory(Memory)), None));
     };
     let mut intake = Intake::new(alloc, &judging.query, &stations);
     feed_files(archive, &mut intake, &judging.files, &mut room)?;
-    Ok(judge_as(
+    let foreign = intake.foreign();
+    let judged = judge_as(
         alloc,
         intake,
         judging.part,
         &papers.report,
         &papers.certificate,
-    ))
+    );
+    Ok((judged, foreign))
+}
+
+/// Reads the station list and then the daily files in order, and describes them, or answers the path
+/// of the first file that can't be read. Beside it stand the foreign files, unless a fault was found.
+pub(crate) fn describe_files<'p, A: Archive>(
+    alloc: Global,
+    archive: &A,
+    describing: &'p Describing,
+) -> Result<(Result<DescriptionText, Fault>, Option<Foreign>), &'p str>
+    ensures { IfOk result (λ read. DescribesFiles (A.bytes_of archive.now) describing.now read.0 read.1) }
+{
+    let Ok(stations) = read_whole(alloc, archive, &describing.stations) else {
+        return Err(&describing.stations);
+    };
+    let Ok(mut room) = piece_room(alloc) else {
+        return Ok((Err(Fault::Memory(Memory)), None));
+    };
+    let mut intake = DescriptionIntake::new(alloc, &stations);
+    feed_files(archive, &mut intake, &describing.files, &mut room)?;
+    let foreign = intake.foreign();
+    let described = describe_intake(alloc, intake);
+    Ok((described, foreign))
 }

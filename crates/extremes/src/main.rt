@@ -2,6 +2,7 @@
 #![tactic(auto)]
 
 mod delivery;
+mod describe;
 mod ending;
 mod files;
 mod judge;

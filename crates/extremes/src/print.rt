@@ -2,14 +2,16 @@
 
 ghost use Rattle.std.specs.Prelude.{◌≡◌};
 ghost use Rattle.extremes.specs.declared.ending.Ending.TheVariants as endings;
-ghost use Rattle.extremes.specs.Printed.{IsPrinted, IsReported, IsShown, IsTold};
+ghost use Rattle.extremes.specs.Printed.{IsPrinted, IsReported, IsShown, IsTextShown, IsTold};
 
 use crate::delivery::{Delivery, deliver, write_whole};
+use crate::describe::DescriptionText;
 use crate::ending::Ending;
 use crate::judge::ending;
 use crate::judgement::Judgement;
 use crate::papers::Papers;
 use crate::rank::Ranked;
+use ghcn_series::Foreign;
 use rank_input::Fault;
 use std::fmt::Display;
 use std::fs::File;
@@ -54,13 +56,37 @@ pub(crate) fn not_written<R: Eprint>(rt: &R, path: &str) -> Ending
 }
 
 /// Prints a text that was asked for.
-pub(crate) fn print_text<R: Eprint, W: Write>(rt: &R, text: &str, out: &mut W) -> Ending
+pub(crate) fn print_text<R: Eprint, W: Write>(rt: &R, text: &[u8], out: &mut W) -> Ending
     ensures { IsShown text.now (W.contents out.old) (W.contents out.new) result }
 {
-    if write_whole(text.as_bytes(), out) {
+    if write_whole(text, out) {
         Ending::Done
     } else {
         not_written(rt, "-")
+    }
+}
+
+/// Says how many of the files are foreign, and names the first of them by its path, where there is
+/// one and no fault is told.
+pub(crate) fn tell_foreign<R: Eprint, T>(
+    rt: &R,
+    answer: &Result<T, Fault>,
+    foreign: Option<Foreign>,
+    files: &[String],
+) {
+    if answer.is_err() {
+        return;
+    }
+    if let Some(
+        Foreign {
+            count,
+            first: Some(place),
+        },
+    ) = foreign
+    {
+        if let Some(path) = files.get(place as usize) {
+            let _ = eprintln!(rt; "foreign {count} {path}");
+        }
     }
 }
 
@@ -104,6 +130,20 @@ fn write_papers<R: Files, W: Write>(
     match File::create(rt, path) {
         Ok(mut file) => deliver(papers, true, &mut file, out),
         Err(_) => Delivery::CertificateFailed,
+    }
+}
+
+/// Prints the text of a description, or tells the fault.
+pub(crate) fn print_description<R: Eprint, W: Write>(
+    rt: &R,
+    described: Result<DescriptionText, Fault>,
+    out: &mut W,
+) -> Ending
+    ensures { IsTextShown described (W.contents out.old) (W.contents out.new) result }
+{
+    match described {
+        Ok(text) => print_text(rt, &text.bytes, out),
+        Err(fault) => refused(rt, fault),
     }
 }
 

@@ -1,14 +1,17 @@
 //! A run of the program: reads its words, and does what they ask for.
 
 ghost use Rattle.std.specs.Prelude.{map};
-ghost use Rattle.extremes.specs.Commands.{IsRun, RunsRanking, RunsMerge, RunsJudging};
+ghost use Rattle.extremes.specs.Commands.{IsRun, RunsRanking, RunsMerge, RunsJudging, RunsDescribing};
 ghost use Rattle.extremes.specs.Merges.{known_part};
 
 use crate::ending::Ending;
-use crate::files::{Judging, Ranking, judge_files, merge_files, rank_files};
+use crate::files::{
+    Describing, Judging, Ranking, describe_files, judge_files, merge_files, rank_files,
+};
 use crate::papers::Papers;
 use crate::print::{
-    not_read, not_written, print_answer, print_judgement, print_ranked, print_text, refused,
+    not_read, not_written, print_answer, print_description, print_judgement, print_ranked,
+    print_text, refused, tell_foreign,
 };
 use crate::rank::rank_serial;
 use crate::sample;
@@ -43,7 +46,7 @@ pub fn run<R: Files + Env + Print + Eprint + Threads + Wait + AllocGlobal + Sync
             let _ = eprint!(rt; "{text}");
             Ending::Words
         }
-        Err(CommandFault::Version(text)) => print_text(rt, &text, &mut io::writer(rt)),
+        Err(CommandFault::Version(text)) => print_text(rt, text.as_bytes(), &mut io::writer(rt)),
         Err(CommandFault::Memory) => refused(rt, Fault::Memory(Memory)),
     }
 }
@@ -102,6 +105,10 @@ fn run_command<R: Files + Eprint + Threads + Wait + AllocGlobal + Sync, A: Archi
             };
             run_judging(rt, archive, &judging, out)
         }
+        Command::Describe { stations, files } => {
+            let describing = Describing { stations, files };
+            run_describing(rt, archive, &describing, out)
+        }
     }
 }
 
@@ -124,7 +131,10 @@ fn run_ranking<R: Files + Eprint + Threads + Wait + AllocGlobal + Sync, A: Archi
         }
     }
     match rank_files(rt, archive, ranking) {
-        Ok(ranked) => print_ranked(rt, ranked, certificate, out),
+        Ok((ranked, foreign)) => {
+            tell_foreign(rt, &ranked.answer, foreign, &ranking.files);
+            print_ranked(rt, ranked, certificate, out)
+        }
         Err(path) => not_read(rt, path),
     }
 }
@@ -165,7 +175,29 @@ fn run_judging<R: Eprint + AllocGlobal, A: Archive, W: Write>(
         (W.contents out.old) (W.contents out.new) result }
 {
     match judge_files(rt.alloc(), archive, judging) {
-        Ok(judged) => print_judgement(rt, judged, out),
+        Ok((judged, foreign)) => {
+            tell_foreign(rt, &judged, foreign, &judging.files);
+            print_judgement(rt, judged, out)
+        }
+        Err(path) => not_read(rt, path),
+    }
+}
+
+/// Describes files that are named, and prints the description.
+fn run_describing<R: Eprint + AllocGlobal, A: Archive, W: Write>(
+    rt: &R,
+    archive: &A,
+    describing: &Describing,
+    out: &mut W,
+) -> Ending
+    ensures { RunsDescribing (A.bytes_of archive.now) describing.now
+        (W.contents out.old) (W.contents out.new) result }
+{
+    match describe_files(rt.alloc(), archive, describing) {
+        Ok((described, foreign)) => {
+            tell_foreign(rt, &described, foreign, &describing.files);
+            print_description(rt, described, out)
+        }
         Err(path) => not_read(rt, path),
     }
 }

@@ -7,7 +7,7 @@ use Rattle.std.specs.Option.{is_some, option_map}
 use Rattle.std.proofs.lemmas.List.{length-map, length-append}
 use Rattle.std.proofs.lemmas.List.Sums.{sum_by-cons, sum_by-append}
 use Rattle.ghcn_fields.specs.Bytes.{is_blank}
-use Rattle.ghcn_fields.specs.Lines.{columns, numbered_lines}
+use Rattle.ghcn_fields.specs.Lines.{columns, lines, numbered_lines}
 use Rattle.ghcn_files.specs.declared.element.Element.{Element}
 use Rattle.ghcn_files.specs.declared.element.Element.TheVariants.{Prcp, Snow, Snwd, Tmax, Tmin}
 use Rattle.ghcn_files.specs.declared.fault.LineWhy.TheVariants.{Short}
@@ -19,7 +19,8 @@ use Rattle.ghcn_series.specs.declared.fault.DailyWhy.{DailyWhy}
 use Rattle.ghcn_series.specs.declared.fault.DataFault.TheVariants.{DailyLine}
 use Rattle.ghcn_series.specs.DailyFaults.{FileLine, month_on, month_if_ok, is_listed, daily_fault, daily_lines}
 use Rattle.ghcn_series.specs.DailyFaults.{daily_why, file_lines, line_of}
-use Rattle.ghcn_description.specs.Lines.{all_lines, blank_lines, other_lines}
+use Rattle.ghcn_series.specs.LineKinds.{all_lines, blank_lines}
+use Rattle.ghcn_description.specs.Lines.{other_lines}
 use Rattle.ghcn_description.specs.Lines.{is_other, is_listed_of}
 use Rattle.ghcn_description.specs.Laws.{LinesAddUp}
 
@@ -32,17 +33,17 @@ blank_or_added true l ls n = omega arith
 blank_or_added false l ls n = omega arith
 
 -- of some lines, those that are blank and the others are all
-blank_or_not : (ls : List (ℕ × List ℕ)) →
-    length (filter (λ l. not (is_blank l.1)) ls) + count_by (λ l. is_blank l.1) ls ≡ length ls
-blank_or_not [] = refl
-blank_or_not (l ∷ ls) =
-    let others : List (ℕ × List ℕ) = filter (λ l. not (is_blank l.1)) ls in
-    let blanks : ℕ = count_by (λ l. is_blank l.1) ls in
+blank_or_not : (n : ℕ) (ls : List (List ℕ)) →
+    length (filter (λ l. not (is_blank l.1)) (enumerate_from n ls)) + count_by is_blank ls ≡ length ls
+blank_or_not n [] = refl
+blank_or_not n (l ∷ ls) =
+    let others : List (ℕ × List ℕ) = filter (λ l. not (is_blank l.1)) (enumerate_from (n + 1) ls) in
+    let blanks : ℕ = count_by is_blank ls in
     omega (
       arith,
-      sum_by-cons (λ x. cond (is_blank x.1) 1 0) l ls,
-      blank_or_added (is_blank l.1) l others blanks,
-      blank_or_not ls,
+      sum_by-cons (λ x. cond (is_blank x) 1 0) l ls,
+      blank_or_added (is_blank l) (n, l) others blanks,
+      blank_or_not (n + 1) ls,
     )
 
 -- so are those of all files
@@ -54,12 +55,11 @@ all_of_files n (f ∷ files) =
     let more : List FileLine = flat_map file_lines (enumerate_from (n + 1) files) in
     let others : length (file_lines (n, f) ++ more) ≡ length here + length more =
     length-append (file_lines (n, f)) more ∙ ap (λ k. k + length more) (length-map here (line_of n)) in
-    let blanks : count_by (λ l. is_blank l.1) (numbered_lines f ++ all_lines files)
-    ≡ count_by (λ l. is_blank l.1) (numbered_lines f) + blank_lines files =
-    sum_by-append (λ l. cond (is_blank l.1) 1 0) (numbered_lines f) (all_lines files) in
-    let all : length (numbered_lines f ++ all_lines files) ≡ length (numbered_lines f) + length (all_lines files) =
-    length-append (numbered_lines f) (all_lines files) in
-    omega (arith, others, blanks, all, blank_or_not (numbered_lines f), all_of_files (n + 1) files)
+    let blanks : count_by is_blank (lines f ++ all_lines files) ≡ count_by is_blank (lines f) + blank_lines files =
+    sum_by-append (λ l. cond (is_blank l) 1 0) (lines f) (all_lines files) in
+    let all : length (lines f ++ all_lines files) ≡ length (lines f) + length (all_lines files) =
+    length-append (lines f) (all_lines files) in
+    omega (arith, others, blanks, all, blank_or_not 1 (lines f), all_of_files (n + 1) files)
 
 -- ---- lines that aren't blank
 

@@ -2,7 +2,8 @@
 use Rattle.std.proofs.Common.{◌≡◌, refl, length, [], ◌∷◌, List, ℕ, true, false, map}
 use Rattle.std.specs.Prelude.{codes}
 use Rattle.ghcn_series.specs.DailyFaults.{FileLine, daily_lines, line_of}
-use Rattle.ghcn_description.specs.Lines.{all_lines, blank_lines, is_other, other_lines, code_on, lines_with}
+use Rattle.ghcn_series.specs.LineKinds.{all_lines, blank_lines}
+use Rattle.ghcn_description.specs.Lines.{is_other, other_lines, code_on, lines_with}
 use Rattle.ghcn_description.specs.Texts.{further_line}
 
 -- two files: a line of another code and one whose code has bytes that can't be seen; and a blank line, with its feed

@@ -1,2 +1,7 @@
 pub mod AddedLines
 pub mod Examples
+pub mod OtherCodes
+pub mod ShownText
+pub mod MonthFigures
+pub mod MoreLines
+pub mod DescribedLines

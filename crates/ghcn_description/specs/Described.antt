@@ -1,23 +1,25 @@
 -- The right description of listed stations and daily files.
 use Rattle.std.specs.Prelude.{◌≡◌, ℕ, ◌<◌, ◌≤◌, Bool, ◌&&◌, not, List, [], length, map, filter, Option}
-use Rattle.std.specs.Prelude.{None, Some, ℤ, get_or, int_le, IsTrue}
+use Rattle.std.specs.Prelude.{None, Some, ℤ, int_le, IsTrue}
 use Rattle.std.specs.List.{filter_map, list_all, list_any, count_by, sum_by, AllZip}
 use Rattle.std.specs.List.{AllByRecursion}
 use Rattle.std.specs.declared.cmp.Ordering.TheVariants.{Less}
 use Rattle.std.specs.Ordering.{nat_cmp, int_eq}
 use Rattle.std.specs.Cmp.Lexicographic.{slice_cmp}
+use Rattle.std.specs.List.Sorted.{IsStrictlySortedBy}
 use Rattle.ghcn_fields.specs.Bytes.{same_bytes}
 use Rattle.ghcn_files.specs.declared.element.Element.{Element}
 use Rattle.ghcn_files.specs.declared.station.Station.{Station}
 use Rattle.ghcn_files.specs.Flags.{flagged_values}
 use Rattle.ghcn_files.specs.Elements.{elements, same_element}
 use Rattle.ghcn_series.specs.DailyFaults.{FileLine, daily_lines, month_on}
+use Rattle.ghcn_series.specs.LineKinds.{all_lines, blank_lines}
 use Rattle.ghcn_series.specs.Says.{usable_facts, all_series}
 use Rattle.ghcn_description.specs.declared.counts.Description.{Description}
 use Rattle.ghcn_description.specs.declared.counts.ElementCounts.{ElementCounts}
 use Rattle.ghcn_description.specs.declared.counts.CodeCount.{CodeCount}
 use Rattle.ghcn_description.specs.declared.counts.Span.{Span}
-use Rattle.ghcn_description.specs.Lines.{all_lines, blank_lines, is_listed_of, lines_of_element, unlisted_lines}
+use Rattle.ghcn_description.specs.Lines.{is_listed_of, lines_of_element, unlisted_lines}
 use Rattle.ghcn_description.specs.Lines.{is_other, code_on, lines_with}
 
 -- ---- an element
@@ -58,27 +60,34 @@ pub record AreCounts (stations : List Station) (ls : List FileLine) (c : Element
 abbrev pub most_codes : ℕ
 most_codes = 200
 
+-- the codes of these counts
+abbrev pub codes_of : List CodeCount → List (List ℕ)
+codes_of counts = map (λ c. c.code) counts
+
 -- the code of a line is one of these
-abbrev pub is_among : List CodeCount → FileLine → Bool
-is_among counts l = list_any (λ c. same_bytes c.code (code_on l)) counts
+abbrev pub is_among : List (List ℕ) → FileLine → Bool
+is_among codes l = list_any (λ c. same_bytes c (code_on l)) codes
 
 -- a code comes before another one by its bytes
 abbrev pub Precedes : List ℕ → List ℕ → Type 0
 Precedes a b = slice_cmp nat_cmp a b ≡ Less
 
 -- a line of another code, unless that is among these: there are as many as are named, and all come before it
-abbrev pub IsBehind : List CodeCount → FileLine → Type 0
-IsBehind counts l = IsTrue (is_other l && not (is_among counts l))
-    → (length counts ≡ most_codes) × AllByRecursion (λ c. Precedes c.code (code_on l)) counts
+abbrev pub IsBehind : List (List ℕ) → FileLine → Type 0
+IsBehind codes l = IsTrue (is_other l && not (is_among codes l))
+    → (length codes ≡ most_codes) × AllByRecursion (λ c. Precedes c (code_on l)) codes
+
+-- as many lines have a code as are counted, and some do
+abbrev pub IsCounted : List FileLine → CodeCount → Type 0
+IsCounted ls c = (0 < c.lines) × (c.lines ≡ lines_with ls c.code)
 
 -- the least codes that are none of the five elements' are counted so, and so many lines have further ones
 pub record AreOthers (ls : List FileLine) (counts : List CodeCount) (further : ℕ) : Type 0 where
   pub few : length counts ≤ most_codes
-  pub rising : (i j : ℕ) (c : CodeCount) → i < j → j < length counts
-      → Precedes (get_or counts i c).code (get_or counts j c).code
-  pub lines : AllByRecursion (λ c. (0 < c.lines) × (c.lines ≡ lines_with ls c.code)) counts
-  pub behind : AllByRecursion (IsBehind counts) ls
-  pub further_lines : further ≡ count_by (λ l. is_other l && not (is_among counts l)) ls
+  pub rising : IsStrictlySortedBy (slice_cmp nat_cmp) (codes_of counts)
+  pub lines : AllByRecursion (IsCounted ls) counts
+  pub behind : AllByRecursion (IsBehind (codes_of counts)) ls
+  pub further_lines : further ≡ count_by (λ l. is_other l && not (is_among (codes_of counts) l)) ls
 
 -- ---- the files
 

@@ -5,7 +5,8 @@ use Rattle.ghcn_fields.specs.Faults.{HaveNoFault}
 use Rattle.ghcn_files.specs.declared.station.Station.{Station}
 use Rattle.ghcn_files.specs.Elements.{elements}
 use Rattle.ghcn_series.specs.DailyFaults.{daily_lines, daily_fault}
-use Rattle.ghcn_description.specs.Lines.{all_lines, blank_lines, lines_of_element, unlisted_lines, other_lines}
+use Rattle.ghcn_series.specs.LineKinds.{all_lines, blank_lines}
+use Rattle.ghcn_description.specs.Lines.{lines_of_element, unlisted_lines, other_lines}
 
 -- where no line has a fault, the lines of the elements, of other codes, of unlisted stations and of blanks are all
 -- lines

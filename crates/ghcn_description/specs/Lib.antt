@@ -2,3 +2,5 @@ pub mod Texts
 pub mod Lines
 pub mod Described
 pub mod Laws
+pub mod Steps
+pub mod Describing

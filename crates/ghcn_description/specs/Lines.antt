@@ -1,23 +1,15 @@
 -- The lines of daily files by what stands on them.
 use Rattle.std.specs.Prelude.{ℕ, Bool, ◌&&◌, not, if◌then◌else◌, List, map}
-use Rattle.std.specs.List.{flat_map, filter_map, count_by}
-use Rattle.std.specs.Option.{is_some}
-use Rattle.ghcn_fields.specs.Bytes.{is_blank, same_bytes}
-use Rattle.ghcn_fields.specs.Lines.{columns, numbered_lines}
+use Rattle.std.specs.List.{filter_map, count_by}
+use Rattle.ghcn_fields.specs.Bytes.{same_bytes}
+use Rattle.ghcn_fields.specs.Lines.{columns}
 use Rattle.ghcn_files.specs.declared.element.Element.{Element}
 use Rattle.ghcn_files.specs.declared.station.Station.{Station}
 use Rattle.ghcn_files.specs.declared.month.Month.{Month}
 use Rattle.ghcn_files.specs.Ids.{is_visible}
-use Rattle.ghcn_files.specs.Elements.{element_of, same_element}
+use Rattle.ghcn_files.specs.Elements.{same_element}
 use Rattle.ghcn_series.specs.DailyFaults.{FileLine, month_on, is_listed}
-
--- the lines of all files, blank ones too
-abbrev pub all_lines : List (List ℕ) → List (ℕ × List ℕ)
-all_lines files = flat_map numbered_lines files
-
--- how many lines are blank
-abbrev pub blank_lines : List (List ℕ) → ℕ
-blank_lines files = count_by (λ l. is_blank l.1) (all_lines files)
+use Rattle.ghcn_series.specs.LineKinds.{is_of_element}
 
 -- the month is of a listed station and of this element
 abbrev pub is_listed_of : List Station → Element → Month → Bool
@@ -33,7 +25,7 @@ unlisted_lines stations ls = count_by (λ m. not (is_listed stations m.id)) (fil
 
 -- the line has a code that is none of the five elements'
 abbrev pub is_other : FileLine → Bool
-is_other l = not (is_some (element_of (columns 18 21 l.bytes)))
+is_other l = not (is_of_element l.bytes)
 
 -- how many lines have such a code
 abbrev pub other_lines : List FileLine → ℕ

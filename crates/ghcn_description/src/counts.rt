@@ -1,6 +1,8 @@
 //! What is counted in daily files.
 
-use ghcn_fields::Day;
+ghost use Rattle.std.specs.Prelude.{◌≡◌, ◌+◌, IfOk};
+
+use ghcn_fields::{Day, Memory};
 use ghcn_files::Element;
 
 /// What daily files hold. The lines of the elements, of other codes, of unlisted stations and of
@@ -50,4 +52,11 @@ pub struct CodeCount {
     /// With `?` for each byte that can't be seen.
     pub code: [u8; 4],
     pub lines: u64,
+}
+
+/// A number and so many more. A count that 64 bits can't hold is want of memory.
+pub(crate) fn sum(number: u64, more: u64) -> Result<u64, Memory>
+    ensures { IfOk result (λ all. all ≡ number + more) }
+{
+    number.checked_add(more).ok_or(Memory)
 }

@@ -1,14 +1,19 @@
 //! What daily files hold: how many lines, series and usable days of each element, and what else
 //! stands in them.
 //!
-//! It stands on the definitions of lines and usable days. Nothing makes a description of files yet.
+//! It stands on the lines that are cut of files, and on the reader that notes which months were seen.
 #![tactic(auto)]
 
 mod counts;
+mod describer;
+mod elements;
+mod files;
 mod laws;
+mod others;
 #[cfg(test)]
 mod tests;
 mod text;
 
 pub use counts::{CodeCount, Description, ElementCounts, Span};
+pub use files::FileDescriber;
 pub use laws::lines_add_up;

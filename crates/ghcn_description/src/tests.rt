@@ -1,8 +1,9 @@
-//! Worked texts of descriptions.
+//! Worked descriptions and their texts.
 
-use crate::{CodeCount, Description, ElementCounts, Span};
+use crate::{CodeCount, Description, ElementCounts, FileDescriber, Span};
 use ghcn_fields::{Day, Memory};
-use ghcn_files::Element;
+use ghcn_files::{Element, Stations};
+use ghcn_series::DataFault;
 use std::alloc::Global;
 
 const TEXT: &[u8] = b"extremes description 1
@@ -97,4 +98,58 @@ fn has_text(alloc: Global, further: u64, text: &[u8]) -> Result<bool, Memory> {
 fn texts_of_descriptions(rt: HostRuntime) {
     assert_eq!(rt; has_text(rt.alloc(), 0, TEXT), Ok(true));
     assert_eq!(rt; has_text(rt.alloc(), 8, WITH_FURTHER), Ok(true));
+}
+
+const STATIONS: &[u8] = b"ZZA00000001  40.0000  -75.0000
+ZZA00000002  41.0000  -76.0000
+";
+
+const OF_FILES: &[u8] = b"extremes description 1
+stations 2
+files 2
+lines 4
+element PRCP lines 0 series 0 days 0 flagged 0
+element SNOW lines 0 series 0 days 0 flagged 0
+element SNWD lines 0 series 0 days 0 flagged 0
+element TMAX lines 1 series 1 days 2 flagged 1 from 2020-07-01 to 2020-07-03
+element TMIN lines 0 series 0 days 0 flagged 0
+other WESD lines 1
+unlisted lines 1
+blank lines 1
+end
+";
+
+/// A line whose days are missing, but for the first three.
+fn line_of(head: &[u8; 21], three: &[u8; 24]) -> [u8; 270] {
+    let mut line = [b' '; 270];
+    line[..21].copy_from_slice(head);
+    for day in 0..31 {
+        line[21 + 8 * day..26 + 8 * day].copy_from_slice(b"-9999");
+    }
+    line[21..45].copy_from_slice(three);
+    line[269] = b'\n';
+    line
+}
+
+/// The text of two files: a month and another code, and a blank line before a month of an unlisted station.
+fn text_of_two(alloc: Global) -> Result<Vec<u8>, DataFault> {
+    let Ok(stations) = Stations::read(alloc, STATIONS) else {
+        return Err(DataFault::Memory(Memory));
+    };
+    let three = b"  311     400 I   322   ";
+    let mut files = FileDescriber::new(alloc, stations)?;
+    files.piece(&line_of(b"ZZA00000001202007TMAX", three));
+    files.piece(&line_of(b"ZZA00000001202007WESD", three));
+    files.end_of_file();
+    files.piece(b"\n");
+    files.piece(&line_of(b"ZZX00000001202007SNWD", three));
+    Ok(files.finish()?.text(alloc)?)
+}
+
+#[test]
+fn descriptions_of_two_files(rt: HostRuntime) {
+    match text_of_two(rt.alloc()) {
+        Ok(text) => assert_eq!(rt; text.as_slice(), OF_FILES),
+        Err(fault) => assert_eq!(rt; Some(fault), None),
+    }
 }

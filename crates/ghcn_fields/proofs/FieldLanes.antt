@@ -1,19 +1,21 @@
 -- Two number fields of five columns each, tested by lanes.
 use Rattle.std.proofs.Common.{◌≡◌, ℕ, zero, suc, ◌+◌, ◌*◌, ◌-◌, ◌/◌, ◌%◌, ◌^◌, Bool, true, false, cond, List, [], ◌∷◌}
-use Rattle.std.proofs.Common.{◌++◌, map, length, get_or, refl, sym, ap, ap₂, ◌∙◌, arith, pos, eqb, leb, w8}
+use Rattle.std.proofs.Common.{◌++◌, map, length, get_or, refl, sym, ap, ap₂, ◌∙◌, arith, pos, eqb, leb, ltb, w8}
 use Rattle.std.proofs.lemmas.List.{length-map}
+use Rattle.std.proofs.lemmas.Nat.{le_or_r}
+use Rattle.std.specs.Int.Bits.{or_zero_r}
 use Rattle.std.specs.Prelude.{◌&&◌, ◌||◌, ◌==◌, not, bit_or, bit_and, replicate}
 use Rattle.std.specs.Char.{is_ascii_digit}
 use Rattle.std.specs.List.{list_all, list_any, range_with_len}
 use Rattle.std.proofs.lemmas.Bool.Decides.{nat_tests}
 use Rattle.std.proofs.Math.Nat.{pow-suc}
 use Rattle.std.proofs.Math.Pow.{suc_ones}
-use Rattle.std.proofs.lemmas.Simd.{pick_l_whole, mask_l-mod, tops_compared, zip2_splat_left}
+use Rattle.std.proofs.lemmas.Simd.{pick_l_whole, mask_l-mod, tops_compared, zip2_splat_left, length-zip2}
 use lib.Lanes.{mask_l, top, zip2}
 use Rattle.ghcn_fields.specs.Bytes.{is_blank}
 use Rattle.ghcn_fields.specs.Numbers.{int_field, is_bad}
 use Rattle.ghcn_fields.specs.FieldForms.{digit_of, kind_of, may_precede, is_minus, is_number_form}
-use Rattle.ghcn_fields.specs.FieldForms.{form_of_kinds, is_malformed, are_set, IsSum}
+use Rattle.ghcn_fields.specs.FieldForms.{form_of_kinds, is_malformed, are_set, are_set_but, five_of_eight, IsSum}
 use Rattle.ghcn_fields.proofs.FieldsByKind.{sum_of, form_field, form-cases, form}
 
 -- ---- a field whose bytes may stand where they do
@@ -83,7 +85,7 @@ bad_five a b c d e =
 -- ---- lanes
 
 -- a lane of a mask
-abbrev mark : Bool → ℕ
+abbrev pub mark : Bool → ℕ
 mark t = cond t 255 0
 
 or-mark : (s t : Bool) → bit_or (mark s) (mark t) ≡ mark (s || t)
@@ -99,68 +101,71 @@ and-mark false true = refl
 and-mark false false = refl
 
 -- a mask's lanes are taken as they are
-set-mark : (t : Bool) → cond (top 7 (mark t)) 255 0 ≡ mark t
+pub set-mark : (t : Bool) → cond (top 7 (mark t)) 255 0 ≡ mark t
 set-mark true = refl
 set-mark false = refl
 
 -- a lane has all its bits where its mark is set
-whole-mark : (t : Bool) → leb 255 (mark t) ≡ t
+pub whole-mark : (t : Bool) → leb 255 (mark t) ≡ t
 whole-mark true = refl
 whole-mark false = refl
 
--- what a byte's lane says, by the next byte, what else may stand before a digit, and whether its field was before
-abbrev lane : ℕ → ℕ → ℕ → Bool → ℕ
-lane b next minus behind =
-    let digits = λ (x : ℕ). cond (top 7 (bit_and (mark (leb 48 x)) (mark (leb x 57)))) 255 0 in
-    bit_or (bit_or (cond (top 7 (mark (eqb b 32))) 255 0)
-    (bit_and (bit_or (digits b) (cond (top 7 (mark (eqb b minus))) 255 0)) (digits next))) (mark behind)
+-- a mask's lanes are taken as they are
+pub taken : (t : Bool) (x y : ℕ) → cond (top 7 (mark t)) x y ≡ cond t x y
+taken true x y = refl
+taken false x y = refl
+
+-- the digit nearest to a byte
+abbrev nearest : ℕ → ℕ
+nearest b =
+    let least = cond (top 7 (mark (ltb b 48))) 48 b in
+    cond (top 7 (mark (ltb least 57))) least 57
+
+-- a byte is a digit where none is nearer
+near-digit : (b : ℕ) → eqb b (nearest b) ≡ is_ascii_digit b
+near-digit b =
+    let least : ℕ = cond (ltb b 48) 48 b in
+    ap (λ (n : ℕ). eqb b (cond (top 7 (mark (ltb n 57))) n 57)) (taken (ltb b 48) 48 b)
+    ∙ ap (eqb b) (taken (ltb least 57) least 57) ∙ grind (arith, nat_tests)
+
+-- what a byte's lane says, by the next byte, and what else may stand before a digit
+abbrev lane : ℕ → ℕ → ℕ → ℕ
+lane b next minus =
+    let digits = λ (x : ℕ). cond (top 7 (mark (eqb x (nearest x)))) 255 0 in
+    bit_or (cond (top 7 (mark (eqb b 32))) 255 0)
+    (bit_and (bit_or (digits b) (cond (top 7 (mark (eqb b minus))) 255 0)) (digits next))
 
 -- that the byte may stand there
-lane-is : (b next minus : ℕ) (behind : Bool) → leb 255 (lane b next minus behind)
-    ≡ (((b == 32) || ((is_ascii_digit b || (b == minus)) && is_ascii_digit next)) || behind)
-lane-is b next minus behind =
+lane-is : (b next minus : ℕ) → leb 255 (lane b next minus)
+    ≡ ((b == 32) || ((is_ascii_digit b || (b == minus)) && is_ascii_digit next))
+lane-is b next minus =
     let d : Bool = is_ascii_digit b in
     let n : Bool = is_ascii_digit next in
-    let goes : Bool = (d || (b == minus)) && n in
     rw (
-      and-mark (leb 48 b) (leb b 57),
-      and-mark (leb 48 next) (leb next 57),
+      near-digit b,
+      near-digit next,
       set-mark (b == 32),
       set-mark (b == minus),
       set-mark d,
       set-mark n,
       or-mark d (b == minus),
       and-mark (d || (b == minus)) n,
-      or-mark (b == 32) goes,
-      or-mark ((b == 32) || goes) behind,
+      or-mark (b == 32) ((d || (b == minus)) && n),
     ) (whole-mark _)
 
--- nothing else
-or_nothing : (t : Bool) → (t || false) ≡ t
-or_nothing true = refl
-or_nothing false = refl
-
 -- a byte of a field before its last one
-lane-front : (b next : ℕ) → leb 255 (lane b next 45 false) ≡ may_precede b next
-lane-front b next = lane-is b next 45 false ∙ or_nothing (may_precede b next)
+lane-front : (b next : ℕ) → leb 255 (lane b next 45) ≡ may_precede b next
+lane-front b next = lane-is b next 45
 
 -- a field's last byte
-lane-last : (b : ℕ) → leb 255 (lane b b 48 false) ≡ may_stand (b ∷ [])
-lane-last b = lane-is b b 48 false ∙ by (b == 32) (is_ascii_digit b) (b == 48)
+lane-last : (b : ℕ) → leb 255 (lane b b 48) ≡ may_stand (b ∷ [])
+lane-last b = lane-is b b 48 ∙ by (b == 32) (is_ascii_digit b) (b == 48)
   where
-    by : (blank digit other : Bool) → ((blank || ((digit || other) && digit)) || false) ≡ (blank || digit)
+    by : (blank digit other : Bool) → (blank || ((digit || other) && digit)) ≡ (blank || digit)
     by true digit other = refl
     by false true other = refl
     by false false true = refl
     by false false false = refl
-
--- a byte of no field
-lane-behind : (b : ℕ) → leb 255 (lane b b 0 true) ≡ true
-lane-behind b = lane-is b b 0 true ∙ by _
-  where
-    by : (t : Bool) → (t || true) ≡ true
-    by true = refl
-    by false = refl
 
 -- ---- two fields
 
@@ -194,26 +199,18 @@ neither_bad true true = refl
 neither_bad true false = refl
 neither_bad false t = refl
 
--- two lists begin alike and go on alike
-both : {s t : Bool} {ss ts : List Bool} → s ≡ t → ss ≡ ts → s ∷ ss ≡ t ∷ ts
-both p q = ap₂ (λ (x : Bool) (xs : List Bool). x ∷ xs) p q
-
 -- what the lanes of a field's five columns and the three behind them say
 abbrev eight : ℕ → ℕ → ℕ → ℕ → ℕ → ℕ → ℕ → ℕ → List ℕ
 eight a b c d e f g h =
-    lane a b 45 false ∷ lane b c 45 false ∷ lane c d 45 false ∷ lane d e 45 false ∷ lane e e 48 false
-    ∷ lane f f 0 true ∷ lane g g 0 true ∷ lane h h 0 true ∷ []
+    lane a b 45 ∷ lane b c 45 ∷ lane c d 45 ∷ lane d e 45 ∷ lane e e 48 ∷ lane f f 0 ∷ lane g g 0 ∷ lane h h 0 ∷ []
 
--- whether each of a field's columns may stand where it does, and that the three behind them may
-abbrev may_stand_each : ℕ → ℕ → ℕ → ℕ → ℕ → List Bool
-may_stand_each a b c d e =
-    may_precede a b ∷ may_precede b c ∷ may_precede c d ∷ may_precede d e ∷ may_stand (e ∷ []) ∷ true ∷ true ∷ true ∷ []
-
--- that is what they say
-eight-are : (a b c d e f g h : ℕ) → map (leb 255) (eight a b c d e f g h) ≡ may_stand_each a b c d e
-eight-are a b c d e f g h =
-    both (lane-front a b) (both (lane-front b c) (both (lane-front c d) (both (lane-front d e) (both (lane-last e)
-    (both (lane-behind f) (both (lane-behind g) (both (lane-behind h) (refl {a = []}))))))))
+-- whether the lanes of a field's five columns have all their bits, and others
+five-are : (a b c d e : ℕ) (rest : Bool)
+    → (leb 255 (lane a b 45) && (leb 255 (lane b c 45) && (leb 255 (lane c d 45) && (leb 255 (lane d e 45)
+    && (leb 255 (lane e e 48) && rest))))) ≡ (may_stand (a ∷ b ∷ c ∷ d ∷ e ∷ []) && rest)
+five-are a b c d e rest =
+    rw (lane-front a b, lane-front b c, lane-front c d, lane-front d e, lane-last e)
+    (all_of (may_precede a b) (may_precede b c) (may_precede c d) (may_precede d e) (may_stand (e ∷ [])) rest)
 
 -- sixteen columns, one by one
 pub sixteen_are : (xs : List ℕ) → length xs ≡ 16 → xs ≡ map (λ j. get_or xs j 0) (range_with_len 0 16)
@@ -226,25 +223,42 @@ pub two_fields : (a b c d e f g h i j k l m n o p : ℕ)
 two_fields a b c d e f g h i j k l m n o p =
     let first : Bool = may_stand (a ∷ b ∷ c ∷ d ∷ e ∷ []) in
     let second : Bool = may_stand (i ∷ j ∷ k ∷ l ∷ m ∷ []) in
-    ap₂ (λ (ss ts : List Bool). list_all (λ t. t) (ss ++ ts)) (eight-are a b c d e f g h) (eight-are i j k l m n o p)
-    ∙ all_of (may_precede a b) (may_precede b c) (may_precede c d) (may_precede d e) (may_stand (e ∷ [])) _
-    ∙ ap (λ (t : Bool). first && t)
-    (all_of (may_precede i j) (may_precede j k) (may_precede k l) (may_precede l m) (may_stand (m ∷ [])) _)
+    five-are a b c d e _
+    ∙ ap (λ (t : Bool). first && t) (five-are i j k l m true)
     ∙ neither_bad first second
     ∙ ap₂ (λ (s t : Bool). not (s || t)) (sym (bad_five a b c d e)) (sym (bad_five i j k l m))
 
--- a test of each lane is one of what it says
-each_test : (xs : List ℕ) → list_all (λ t. t) (map (λ x. leb 255 x) xs) ≡ are_set xs
-each_test [] = refl
-each_test (x ∷ xs) = ap (λ (t : Bool). leb 255 x && t) (each_test xs)
+-- a lane behind a field is set, and any other as it was
+or-behind : (behind : Bool) (lane : ℕ) → leb 255 (bit_or lane (mark behind)) ≡ (behind || leb 255 lane)
+or-behind true lane = let more = le_or_r lane 255 in grind (arith, nat_tests, more)
+or-behind false lane = ap (leb 255) (or_zero_r lane)
 
--- a mask of the lanes that have all their bits is full where each lane has
-pub set_mask : (xs : List ℕ) → length xs ≡ 16
-    → (mask_l (map (top 7) (zip2 (λ a b. cond (leb a b) 255 0) (replicate 16 255) xs)) % 2 ^ 64 == 65535) ≡ are_set xs
-set_mask xs many =
-    let tests : List Bool = map (λ x. leb 255 x) xs in
-    let long : length tests ≡ 16 = length-map xs (λ x. leb 255 x) ∙ many in
+-- a test of each lane is one of what it says
+each_test : (bs : List Bool) (xs : List ℕ) → length xs ≡ length bs
+    → list_all (λ t. t) (map (λ x. leb 255 x) (zip2 bit_or xs (map mark bs))) ≡ are_set_but bs xs
+each_test [] [] e = refl
+each_test [] (x ∷ xs) e = absurd (omega arith)
+each_test (b ∷ bs) [] e = absurd (omega arith)
+each_test (b ∷ bs) (x ∷ xs) e = ap₂ (λ (s t : Bool). s && t) (or-behind b x) (each_test bs xs (omega arith))
+
+-- a mask of the lanes that have all their bits is full where each lane has but for some
+pub set_mask_but : (bs : List Bool) (xs : List ℕ) → length bs ≡ 16 → length xs ≡ 16
+    → (mask_l (map (top 7) (zip2 (λ a b. cond (leb a b) 255 0) (replicate 16 255) (zip2 bit_or xs (map mark bs))))
+    % 2 ^ 64 == 65535) ≡ are_set_but bs xs
+set_mask_but bs xs flags many =
+    let ys : List ℕ = zip2 bit_or xs (map mark bs) in
+    let tests : List Bool = map (λ x. leb 255 x) ys in
+    let even : length xs ≡ length (map mark bs) = many ∙ sym flags ∙ sym (length-map bs mark) in
+    let all : length ys ≡ 16 = length-zip2 bit_or xs (map mark bs) even ∙ many in
+    let long : length tests ≡ 16 = length-map ys (λ x. leb 255 x) ∙ all in
     ap (λ (ms : List Bool). mask_l ms % 2 ^ 64 == 65535)
-    (tops_compared w8 leb (replicate 16 255) xs ∙ zip2_splat_left leb 255 16 xs many)
+    (tops_compared w8 leb (replicate 16 255) ys ∙ zip2_splat_left leb 255 16 ys all)
     ∙ ap (λ (n : ℕ). n == 65535) (mask_l-mod tests 64 (omega (arith, long)))
-    ∙ all_set tests 65535 (ap (λ (n : ℕ). 2 ^ n - 1) (sym long)) ∙ each_test xs
+    ∙ all_set tests 65535 (ap (λ (n : ℕ). 2 ^ n - 1) (sym long))
+    ∙ each_test bs xs (many ∙ sym flags)
+
+-- it is full where each lane of two fields has
+pub set_mask : (xs : List ℕ) → length xs ≡ 16
+    → (mask_l (map (top 7) (zip2 (λ a b. cond (leb a b) 255 0) (replicate 16 255)
+    (zip2 bit_or xs (map mark (five_of_eight ++ five_of_eight))))) % 2 ^ 64 == 65535) ≡ are_set xs
+set_mask xs many = set_mask_but (five_of_eight ++ five_of_eight) xs refl many

@@ -15,3 +15,5 @@ pub mod FieldsByKind
 pub mod Ordered
 pub mod FieldLanes
 pub mod GroupLanes
+pub mod LineFeeds
+pub mod VisibleLanes

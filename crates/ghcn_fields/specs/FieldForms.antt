@@ -1,8 +1,8 @@
 -- A number field by its columns: which bytes may stand side by side, and what each adds to the number.
 use Rattle.std.specs.Prelude.{◌≡◌, ℕ, ◌+◌, ◌*◌, ◌-◌, ◌/◌, ◌%◌, ◌<◌, Bool, true, false, ◌&&◌, ◌||◌, ◌==◌}
-use Rattle.std.specs.Prelude.{if◌then◌else◌, nat_le, List, [], ◌∷◌, ℤ, pos, neg_ℤ}
+use Rattle.std.specs.Prelude.{if◌then◌else◌, nat_le, List, [], ◌∷◌, ◌++◌, ℤ, pos, neg_ℤ}
 use Rattle.std.specs.Char.{is_ascii_digit}
-use Rattle.std.specs.List.{list_all, list_any}
+use Rattle.std.specs.List.{list_any}
 use Rattle.ghcn_fields.specs.declared.value.Form.{Form}
 use Rattle.ghcn_fields.specs.declared.value.Form.TheVariants.{Blanks, Plain, Negative, Malformed}
 use Rattle.ghcn_fields.specs.Bytes.{blank_byte, is_blank}
@@ -76,6 +76,16 @@ number_by Plain n other = pos n
 number_by Negative n other = neg_ℤ (pos n)
 number_by Malformed n other = other
 
--- each lane of a byte has all its bits
+-- each lane of a byte has all its bits, but for those behind a field
+abbrev pub are_set_but : List Bool → List ℕ → Bool
+are_set_but [] lanes = true
+are_set_but (behind ∷ more) [] = true
+are_set_but (behind ∷ more) (lane ∷ lanes) = (behind || nat_le 255 lane) && are_set_but more lanes
+
+-- five of eight columns are those of a field, and three are behind it
+abbrev pub five_of_eight : List Bool
+five_of_eight = false ∷ false ∷ false ∷ false ∷ false ∷ true ∷ true ∷ true ∷ []
+
+-- each lane of two fields has all its bits
 abbrev pub are_set : List ℕ → Bool
-are_set lanes = list_all (λ lane. nat_le 255 lane) lanes
+are_set lanes = are_set_but (five_of_eight ++ five_of_eight) lanes

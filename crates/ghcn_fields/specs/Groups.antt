@@ -13,7 +13,8 @@ abbrev pub AreNumbers : ℤ → List ℕ → List ℤ → Type 0
 AreNumbers other columns numbers = (k : ℕ) → k < 4 → is_bad (int_field (take 5 (drop (8 * k) columns))) ≡ false
     → get_or numbers k (pos 0) ≡ number_of_group other (drop (8 * k) columns)
 
--- the number of a magnitude, below zero where there are minuses, if both of two facts hold, or another one
+-- the number of a magnitude, below zero where there are minuses, if what blanks count says that the second flag
+-- is one and the field's last column isn't, or another number
 abbrev pub number_if : ℕ → ℕ → ℕ → ℤ → ℤ
-number_if facts minuses size other =
-    if facts == 2 then (if minuses == 0 then pos size else neg_ℤ (pos size)) else other
+number_if blanks minuses size other =
+    if blanks == 65536 then (if minuses == 0 then pos size else neg_ℤ (pos size)) else other

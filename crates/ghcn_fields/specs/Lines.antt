@@ -1,7 +1,7 @@
 -- The lines of a text and the columns of a line.
-use Rattle.std.specs.Prelude.{◌≡◌, ℕ, suc, ◌-◌, ◌==◌, false, ◌⊎◌, if◌then◌else◌, List, [], ◌∷◌, ◌++◌, length, take}
-use Rattle.std.specs.Prelude.{drop, map, replicate}
-use Rattle.std.specs.List.{slice_split, enumerate_from, AllByRecursion}
+use Rattle.std.specs.Prelude.{◌≡◌, ℕ, suc, ◌-◌, ◌==◌, Bool, false, ◌⊎◌, if◌then◌else◌, nat_lt, List, [], ◌∷◌, ◌++◌}
+use Rattle.std.specs.Prelude.{length, take, drop, map, replicate}
+use Rattle.std.specs.List.{slice_split, enumerate_from, list_all, AllByRecursion}
 use Rattle.std.specs.Str.Lines.{strip_carriage_return}
 use Rattle.ghcn_fields.specs.Bytes.{blank_byte}
 
@@ -19,6 +19,10 @@ lines text = map strip_carriage_return (without_empty_last (slice_split (λ b. b
 -- no byte of a text is a line feed
 abbrev pub HasNoLineFeed : List ℕ → Type 0
 HasNoLineFeed text = AllByRecursion (λ b. (b == 10) ≡ false) text
+
+-- each byte is above a line feed
+abbrev pub are_above : List ℕ → Bool
+are_above bytes = list_all (λ b. nat_lt 10 b) bytes
 
 -- the last byte of a text, if it has one, is a line feed
 abbrev pub EndsLine : List ℕ → Type 0

@@ -28,8 +28,8 @@ pub fn has_bad_field(columns: &[u8; 16]) -> bool
     !are_set(good_columns(columns))
 }
 
-/// Tests the columns of two such fields: a lane has all its bits where its column may stand where it does.
-/// Lanes of several columns are joined by `&`, and tested together by `are_set`.
+/// Tests the columns of two such fields: a lane of a field has all its bits where its column may stand where it
+/// does. Lanes of several columns are joined by `&`, and tested together by `are_set`.
 #[inline(always)]
 pub fn good_columns(columns: &[u8; 16]) -> u8x16
     ensures many { length result ≡ 16 }
@@ -40,10 +40,12 @@ pub fn good_columns(columns: &[u8; 16]) -> u8x16
     let bytes = u8x16::from_array(*columns);
     let blanks = bytes.simd_eq(u8x16::splat(b' ')).select(all, none);
     let minuses = bytes.simd_eq(u8x16::from_array(MINUS)).select(all, none);
-    let are_digits = bytes.simd_ge(u8x16::splat(b'0')) & bytes.simd_le(u8x16::splat(b'9'));
-    let digits = are_digits.select(all, none);
+    let nearest = bytes
+        .simd_max(u8x16::splat(b'0'))
+        .simd_min(u8x16::splat(b'9'));
+    let digits = bytes.simd_eq(nearest).select(all, none);
     let before_digits = digits.swizzle(NEXT);
-    blanks | (digits | minuses) & before_digits | u8x16::from_array(BEHIND)
+    blanks | (digits | minuses) & before_digits
 }
 
 /// The weights of the first two of four columns, and those of the other two.
@@ -51,10 +53,14 @@ const HUNDREDS: [u8; 16] = [10, 1, 0, 0, 10, 1, 0, 0, 10, 1, 0, 0, 10, 1, 0, 0];
 
 const TENS: [u8; 16] = [0, 0, 10, 1, 0, 0, 10, 1, 0, 0, 10, 1, 0, 0, 10, 1];
 
-/// Of the four columns behind these, the one of the field, and that of the second flag.
-const LAST: [u8; 16] = [1, 0, 0, 0, 1, 0, 0, 0, 1, 0, 0, 0, 1, 0, 0, 0];
+/// Of the four columns behind these, what a digit writes in the one of the field.
+const LAST: [u8; 16] = [15, 0, 0, 0, 15, 0, 0, 0, 15, 0, 0, 0, 15, 0, 0, 0];
 
-const FLAG: [u8; 16] = [0, 0, 1, 0, 0, 0, 1, 0, 0, 0, 1, 0, 0, 0, 1, 0];
+/// What a blank counts in that one, and in that of the second flag.
+const BLANK: [u8; 16] = [1, 0, 1, 0, 1, 0, 1, 0, 1, 0, 1, 0, 1, 0, 1, 0];
+
+/// What four such columns count where the one of the second flag alone is a blank.
+const FLAG_ALONE: u32 = 1 << 16;
 
 /// The places of the first four columns of four groups.
 const FRONTS: [usize; 16] = [0, 1, 2, 3, 8, 9, 10, 11, 16, 17, 18, 19, 24, 25, 26, 27];
@@ -68,51 +74,46 @@ const BACKS: [usize; 16] = [4, 5, 6, 7, 12, 13, 14, 15, 20, 21, 22, 23, 28, 29, 
 pub fn four_numbers(columns: &[u8; 32], other: i32) -> [i32; 4]
     ensures { groups.AreNumbers other columns.now result }
 {
-    let (none, one) = (u8x16::splat(0), u8x16::splat(1));
-    let bytes = u8x32::from_array(*columns);
+    let none = u8x16::splat(0);
+    let bytes = u8x32::from_slice(columns);
     let (fronts, backs) = (bytes.swizzle(FRONTS), bytes.swizzle(BACKS));
-    let digits = fronts - u8x16::splat(b'0');
-    let digits = digits.simd_lt(u8x16::splat(10)).select(digits, none);
-    let lasts = backs - u8x16::splat(b'0');
-    let are_digits = lasts.simd_lt(u8x16::splat(10));
-    let lasts = are_digits.select(lasts, none).dot4(u8x16::from_array(LAST));
+    // A blank has none of a digit's lowest four bits; a minus has some.
+    let are_minuses = fronts.simd_eq(u8x16::splat(b'-'));
+    let digits = are_minuses.select(none, fronts & u8x16::splat(15));
     let hundreds = digits.dot4(u8x16::from_array(HUNDREDS));
     let tens = digits.dot4(u8x16::from_array(TENS));
+    let lasts = u32x4::from_le_bytes(backs & u8x16::from_array(LAST));
     let sizes = (hundreds * u32x4::splat(100) + tens) * u32x4::splat(10) + lasts;
-    let minuses = fronts
-        .simd_eq(u8x16::splat(b'-'))
-        .select(one, none)
-        .dot4(one);
-    let numbers = are_digits.select(one, none).dot4(u8x16::from_array(LAST));
-    let unflagged = backs
-        .simd_eq(u8x16::splat(b' '))
-        .select(one, none)
-        .dot4(u8x16::from_array(FLAG));
+    let minuses = u32x4::from_le_bytes(are_minuses.select(u8x16::splat(1), none));
+    let are_blanks = backs.simd_eq(u8x16::splat(b' '));
+    let blanks = u32x4::from_le_bytes(are_blanks.select(u8x16::from_array(BLANK), none));
     let (sizes, minuses) = (sizes.to_array(), minuses.to_array());
-    let counts = (numbers + unflagged).to_array();
+    let blanks = blanks.to_array();
     [
-        number_if(counts[0], minuses[0], sizes[0], other),
-        number_if(counts[1], minuses[1], sizes[1], other),
-        number_if(counts[2], minuses[2], sizes[2], other),
-        number_if(counts[3], minuses[3], sizes[3], other),
+        number_if(blanks[0], minuses[0], sizes[0], other),
+        number_if(blanks[1], minuses[1], sizes[1], other),
+        number_if(blanks[2], minuses[2], sizes[2], other),
+        number_if(blanks[3], minuses[3], sizes[3], other),
     ]
 }
 
-/// The number of this magnitude, below zero where there is a minus, if both of two facts hold, or another one.
-fn number_if(facts: u32, minuses: u32, size: u32, other: i32) -> i32
-    requires { size < 131072 }
-    ensures { result ≡ groups.number_if facts minuses size other }
+/// The number of this magnitude, below zero where there is a minus, if the last column isn't a blank and the
+/// second flag is one, or another number.
+fn number_if(blanks: u32, minuses: u32, size: u32, other: i32) -> i32
+    requires { size < 262144 }
+    ensures { result ≡ groups.number_if blanks minuses size other }
 {
     let positive = size as i32;
     let number = if minuses == 0 { positive } else { -positive };
-    if facts == 2 { number } else { other }
+    if blanks == FLAG_ALONE { number } else { other }
 }
 
-/// Whether each lane has all its bits.
+/// Whether each lane of a field has all its bits.
 #[inline(always)]
 pub fn are_set(lanes: u8x16) -> bool
     requires { length lanes ≡ 16 }
     ensures { result ≡ forms.are_set lanes }
 {
-    lanes.simd_ge(u8x16::splat(255)).all()
+    let behind = u8x16::from_array(BEHIND);
+    (lanes | behind).simd_ge(u8x16::splat(255)).all()
 }

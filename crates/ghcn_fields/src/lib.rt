@@ -12,6 +12,7 @@ mod line;
 mod memory;
 mod text;
 mod value;
+mod visible;
 
 pub use date::{read_date, write_date};
 pub use day::{Day, days_in_month};
@@ -22,3 +23,4 @@ pub use line::{Lines, is_blank, split_line, without_return};
 pub use memory::Memory;
 pub use text::lines;
 pub use value::{value_field, value_or};
+pub use visible::eleven_are_visible;

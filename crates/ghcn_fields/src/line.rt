@@ -1,12 +1,18 @@
 //! The lines of a text. A line feed ends a line, and a carriage return before it belongs to the end.
 
-ghost use Rattle.std.specs.Prelude.{◌≡◌, ◌++◌, ◌∷◌, IfSome, IsNone};
+ghost use Rattle.std.specs.Prelude.{◌≡◌, ◌++◌, ◌∷◌, IfSome, IsNone, Some, true, length};
 ghost use Rattle.std.specs.Str.Lines.{strip_carriage_return};
 ghost use Rattle.ghcn_fields.specs.Bytes as bytes;
 ghost use Rattle.ghcn_fields.specs.Lines.{numbered_lines, HasNoLineFeed};
+ghost use Rattle.ghcn_fields.specs.Lines as feeds;
+ghost use Rattle.memchr.specs.Find.{IsFirstByte, is_byte};
 
 use memchr::memchr;
 use std::marker::Model;
+use std::simd::prelude::*;
+
+/// The columns of a whole line of a daily file.
+const COLUMNS: usize = 269;
 
 /// The lines of a text that are still to come, each with its number, from 1, and without its end.
 #[derive(Drop)]
@@ -87,6 +93,38 @@ pub fn split_line(text: &[u8]) -> Option<(&[u8], &[u8])>
     ensures first { IfSome result (λ parts. HasNoLineFeed parts.0.now) }
     ensures none { IsNone result → HasNoLineFeed text.now }
 {
-    let end = memchr(b'\n', text)?;
+    let end = line_feed(text)?;
     Some((&text[..end], &text[end + 1..]))
+}
+
+/// The place of the first line feed of a text. Most lines of daily files have 269 columns, so that the place
+/// behind so many is looked at first.
+fn line_feed(text: &[u8]) -> Option<usize>
+    ensures { IsFirstByte (is_byte 10) text.now result }
+{
+    match text.first_chunk() {
+        Some(front) if ends_whole(front) => Some(COLUMNS),
+        _ => memchr(b'\n', text),
+    }
+}
+
+/// Whether the last byte is a line feed, and each other one is above it. Lanes of sixteen bytes are joined by
+/// their least, and the last ones overlap those before.
+fn ends_whole(bytes: &[u8; COLUMNS + 1]) -> bool
+    ensures { result ≡ true → IsFirstByte (is_byte 10) bytes.now (Some 269) }
+{
+    let mut least = u8x16::from_slice(&bytes[COLUMNS - 16..]);
+    for part in 0..COLUMNS / 16 {
+        least = least.simd_min(u8x16::from_slice(&bytes[16 * part..]));
+    }
+    are_above(least) & (bytes[COLUMNS] == b'\n')
+}
+
+/// Whether each lane is above a line feed.
+#[inline(always)]
+fn are_above(lanes: u8x16) -> bool
+    requires { length lanes ≡ 16 }
+    ensures { result ≡ feeds.are_above lanes }
+{
+    lanes.simd_gt(u8x16::splat(b'\n')).all()
 }

@@ -5,6 +5,8 @@ use Rattle.std.specs.List.{find}
 use Rattle.ghcn_fields.specs.Bytes.{same_bytes}
 use Rattle.ghcn_files.specs.declared.element.Element.{Element}
 use Rattle.ghcn_files.specs.declared.element.Element.TheVariants.{Prcp, Snow, Snwd, Tmax, Tmin}
+use Rattle.ghcn_files.specs.declared.element.Keep.{Keep}
+use Rattle.ghcn_files.specs.declared.element.Keep.TheVariants.{All, One, Nothing}
 
 -- the four bytes that name an element
 abbrev pub code_of : Element → List ℕ
@@ -30,10 +32,11 @@ element_index Tmin = 4
 abbrev pub same_element : Element → Element → Bool
 same_element a b = element_index a == element_index b
 
--- the values of an element are kept: it is the one that is asked for, or none is
-abbrev pub is_kept : Option Element → Element → Bool
-is_kept None e = true
-is_kept (Some only) e = same_element e only
+-- the values of an element are kept
+abbrev pub is_kept : Keep → Element → Bool
+is_kept All e = true
+is_kept (One only) e = same_element e only
+is_kept Nothing e = false
 
 -- the element that bytes name
 abbrev pub element_of : List ℕ → Option Element

@@ -6,6 +6,7 @@ use Rattle.std.specs.Option.{option_and_then}
 use Rattle.jiff_core.specs.Calendar.{days_in_month}
 use Rattle.ghcn_fields.specs.Numbers.{number_or}
 use Rattle.ghcn_files.specs.declared.element.Element.{Element}
+use Rattle.ghcn_files.specs.declared.element.Keep.{Keep}
 use Rattle.ghcn_files.specs.declared.month.Month.{Month}
 use Rattle.ghcn_files.specs.declared.month.Reading.{Reading}
 use Rattle.ghcn_files.specs.declared.row.MonthRow.{MonthRow}
@@ -59,15 +60,15 @@ pub record IsRowOf (kept : Bool) (m : Month) (row : MonthRow) : Type 0 where
   pub month : row.month ≡ m.month
   pub days : AreDays (λ j. if_kept kept (day_value m j)) row.word row.values
 
--- a row is of the month that a line says, with the days of the element that is asked for, or of any
-pub record IsOfLine (asked : Option Element) (line : List ℕ) (found : MonthRow) : Type 0 where
+-- a row is of the month that a line says, with its days where those of its element are kept
+pub record IsOfLine (asked : Keep) (line : List ℕ) (found : MonthRow) : Type 0 where
   pub month : Month
   pub read : read_month line ≡ Ok (Some month)
   pub right : IsMonth month
   pub row : IsRowOf (is_kept asked found.element) month found
 
 -- what is read of a line as a row: that of its month, or nothing, or a refusal, as the month is read
-abbrev pub IsRead : Option Element → List ℕ → Result (Option MonthRow) LineWhy → Type 0
+abbrev pub IsRead : Keep → List ℕ → Result (Option MonthRow) LineWhy → Type 0
 IsRead asked line (Ok (Some row)) = IsOfLine asked line row
 IsRead asked line (Ok None) = read_month line ≡ Ok None
 IsRead asked line (Err why) = read_month line ≡ Err why

@@ -20,6 +20,14 @@ pub enum Element {
     Tmin,
 }
 
+/// Of which elements the daily values are kept. The lines of all five are tested.
+#[derive(Clone, Copy, Debug, PartialEq, Eq)]
+pub enum Keep {
+    All,
+    One(Element),
+    Nothing,
+}
+
 impl Element {
     /// The element that a code of the readme names, byte for byte.
     pub fn of_code(code: &[u8]) -> Option<Self>
@@ -35,13 +43,14 @@ impl Element {
         }
     }
 
-    /// Whether its values are kept: it is the element that is asked for, or none is.
-    pub fn is_kept(self, asked: Option<Element>) -> bool
+    /// Whether its values are kept.
+    pub fn is_kept(self, asked: Keep) -> bool
         ensures { result ≡ is_kept asked self }
     {
         match asked {
-            Some(only) => self == only,
-            None => true,
+            Keep::All => true,
+            Keep::One(only) => self == only,
+            Keep::Nothing => false,
         }
     }
 

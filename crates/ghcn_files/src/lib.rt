@@ -14,7 +14,7 @@ mod row;
 mod station;
 mod stations;
 
-pub use element::Element;
+pub use element::{Element, Keep};
 pub use fault::{LineWhy, StationWhy, StationsFault};
 pub use flags::flagged_values;
 pub use month::{Month, Reading, read_month};

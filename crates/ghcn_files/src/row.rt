@@ -1,20 +1,21 @@
 //! Months of daily values as rows: what one line of a daily file says, without what doesn't count.
 
 ghost use Rattle.std.specs.Prelude.{◌≡◌, ◌≤◌, ◌<◌, ◌+◌, ◌^◌, length, Some, None, IfOk, IfErr, false, ◌&&◌, not, nat_lt};
-ghost use Rattle.std.specs.Prelude.{if◌then◌else◌, ◌++◌, ◌-◌, replicate, OnOk};
+ghost use Rattle.std.specs.Prelude.{if◌then◌else◌, ◌++◌, ◌-◌, replicate, OnOk, true};
+ghost use Rattle.ghcn_files.specs.declared.month.Month.{Month};
 ghost use Rattle.ghcn_files.specs.Elements.{least_of, is_kept};
 ghost use Rattle.ghcn_files.specs.Months as months;
 ghost use Rattle.ghcn_files.specs.Rows as rows;
 
 use crate::missing::MISSING;
 use crate::month::{COLUMNS, DAYS, UP_TO_ELEMENT, four_groups, head_of, readings, two_groups};
-use crate::{Element, LineWhy, StationId};
+use crate::{Element, Keep, LineWhy, StationId};
 use ghcn_fields::{are_set, days_in_month, four_numbers, good_columns};
 use std::simd::prelude::*;
 
 /// The days of a month whose values count: those that the month has, whose value isn't missing,
 /// whose quality flag is a blank, and whose value the element can have. Only temperatures are negative.
-/// It has no days where those of another element were asked for.
+/// It has no days where those of its element aren't kept.
 #[derive(Clone, Copy)]
 pub struct MonthRow {
     pub id: StationId,
@@ -29,9 +30,22 @@ pub struct MonthRow {
     pub values: [i32; 32],
 }
 
-/// Reads a line as `read_month` does, and keeps the values that count alone. Where an element is asked
-/// for, a line of another one is tested in the same way, and its row has no days.
-pub fn read_days(line: &[u8], asked: Option<Element>) -> Result<Option<MonthRow>, LineWhy>
+impl MonthRow {
+    /// The same month with its days not kept.
+    pub fn without_days(&self) -> Self
+        ensures { (m : Month) → rows.IsRowOf true m self.now → rows.IsRowOf false m result }
+    {
+        MonthRow {
+            word: 0,
+            values: [0; 32],
+            ..*self
+        }
+    }
+}
+
+/// Reads a line as `read_month` does, and keeps the values that count alone. A line of an element whose
+/// values aren't kept is tested in the same way, and its row has no days.
+pub fn read_days(line: &[u8], asked: Keep) -> Result<Option<MonthRow>, LineWhy>
     ensures { rows.IsRead asked line.now result }
 {
     if line.len() < UP_TO_ELEMENT {
@@ -44,7 +58,7 @@ pub fn read_days(line: &[u8], asked: Option<Element>) -> Result<Option<MonthRow>
 }
 
 /// The row of a line of this element.
-fn row_of(asked: Option<Element>, element: Element, line: &[u8]) -> Result<MonthRow, LineWhy>
+fn row_of(asked: Keep, element: Element, line: &[u8]) -> Result<MonthRow, LineWhy>
     ensures err { IfErr result (λ why. months.month_why line.now ≡ Some why) }
     ensures fine { IfOk result (λ _. months.month_why line.now ≡ None) }
     ensures row { IfOk result (rows.IsRowOf (is_kept asked element) (months.month_of element line.now)) }

@@ -7,7 +7,7 @@
 //! ```
 
 ghost use Rattle.std.specs.Prelude.{◌≡◌, ◌≤◌, ◌+◌, ◌-◌, ◌≤ℤ◌, pos, neg_ℤ, int_le, ◌&&◌, Some, None, length};
-ghost use Rattle.std.specs.Prelude.{map, if◌then◌else◌, IfOk, OnOk, IfErr};
+ghost use Rattle.std.specs.Prelude.{map, if◌then◌else◌, take, IfOk, OnOk, IfErr};
 ghost use Rattle.std.specs.List.{list_all};
 ghost use Rattle.ghcn_fields.specs.Lines as lines;
 ghost use Rattle.ghcn_fields.specs.Numbers as numbers;
@@ -18,7 +18,7 @@ use crate::StationWhy;
 use crate::columns::columns;
 use crate::missing::{is_bad, unless_missing};
 use crate::stations::key;
-use ghcn_fields::{Field, scaled_field};
+use ghcn_fields::{Field, eleven_are_visible, scaled_field};
 
 /// The columns up to the longitude's last: what follows may be left out.
 const LEAST_COLUMNS: usize = 30;
@@ -48,12 +48,23 @@ impl StationId {
         requires { 11 ≤ length line.now }
         ensures { result ≡ (if is_id (lines.columns 1 11 line.now) then Some (stations.id_of line.now) else None) }
     {
-        let id = line.first_chunk::<11>()?;
-        if are_visible(id) {
+        let id = line.first_chunk()?;
+        if begins_visibly(line) {
             Some(StationId(*id))
         } else {
             None
         }
+    }
+}
+
+/// Whether the eleven bytes that a line begins with show in print. They are tested with the five behind them.
+fn begins_visibly(line: &[u8]) -> bool
+    requires { 11 ≤ length line.now }
+    ensures { result ≡ list_all is_visible (take 11 line.now) }
+{
+    match line.first_chunk() {
+        Some(front) => eleven_are_visible(front),
+        None => are_visible(&line[..11]),
     }
 }
 

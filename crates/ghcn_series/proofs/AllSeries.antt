@@ -1,6 +1,6 @@
 -- The series of all stations, from what was gathered of each.
 use Rattle.std.proofs.Common.{◌≡◌, ℕ, Bool, true, false, cond, not, List, [], ◌∷◌, ◌++◌, length, map, filter}
-use Rattle.std.proofs.Common.{Option, None, Some, refl, sym, ap, ◌∙◌, subst}
+use Rattle.std.proofs.Common.{None, Some, refl, sym, ap, ◌∙◌, subst}
 use Rattle.std.specs.Prelude.{◌==◌, ◌&&◌}
 use Rattle.std.specs.List.{filter_map, flat_map, cons_option, list_any, AllZip, AllByRecursion, IsDistinct, slice_get}
 use Rattle.std.proofs.lemmas.List.Elements.{filter-append}
@@ -10,6 +10,8 @@ use Rattle.ghcn_fields.specs.Sorting.{sorted_by}
 use Rattle.ghcn_files.specs.declared.station.StationId.{StationId}
 use Rattle.ghcn_files.specs.declared.station.Station.{Station}
 use Rattle.ghcn_files.specs.declared.element.Element.{Element}
+use Rattle.ghcn_files.specs.declared.element.Keep.{Keep}
+use Rattle.ghcn_files.specs.declared.element.Keep.TheVariants.{All, One, Nothing}
 use Rattle.ghcn_files.specs.declared.element.Element.TheVariants.{Prcp, Snow, Snwd, Tmax, Tmin}
 use Rattle.ghcn_files.specs.declared.month.Month.{Month}
 use Rattle.ghcn_files.specs.Ids.{same_id}
@@ -56,7 +58,7 @@ right_of id e f (m ∷ ms) same all =
     ] refl
 
 -- gatherings by element can become series
-ready_zip : (asked : Option Element) (ms : List Month) (id : StationId) (gs : List Gathering) (es : List Element)
+ready_zip : (asked : Keep) (ms : List Month) (id : StationId) (gs : List Gathering) (es : List Element)
     → AllByRecursion IsMonth ms → AllZip (IsGatheringOf asked ms id) gs es → AllByRecursion IsReady gs
 ready_zip asked ms id [] [] right all = tt
 ready_zip asked ms id [] (e ∷ es) right all = absurd all
@@ -72,13 +74,13 @@ ready_zip asked ms id (g ∷ gs) (e ∷ es) right all = (
 )
 
 -- so can those of a station, if it has any
-ready_station : (asked : Option Element) (ms : List Month) (id : StationId) (gs : List Gathering)
+ready_station : (asked : Keep) (ms : List Month) (id : StationId) (gs : List Gathering)
     → AllByRecursion IsMonth ms → AreByElement asked ms id gs → AllByRecursion IsReady gs
 ready_station asked ms id [] right all = tt
 ready_station asked ms id (g ∷ gs) right all = ready_zip asked ms id (g ∷ gs) elements right all
 
 -- each gathering of all stations can become a series
-pub all_ready : (asked : Option Element) (ms : List Month) (ss : List Station) (gs : List StationGathering)
+pub all_ready : (asked : Keep) (ms : List Month) (ss : List Station) (gs : List StationGathering)
     → AllByRecursion IsMonth ms → AllZip (IsStationOf asked ms) ss gs
     → AllByRecursion (λ s. AllByRecursion IsReady s.by_element.items) gs
 all_ready asked ms [] [] right all = tt
@@ -173,11 +175,11 @@ has_days : Usable → Bool
 has_days s = not (length s.days == 0)
 
 -- the series of an element that is kept
-pub is_kept_series : Option Element → Usable → Bool
+pub is_kept_series : Keep → Usable → Bool
 is_kept_series asked u = is_kept asked u.element
 
 -- of an element that is kept a series stands where it has a day
-one_kept : (asked : Option Element) (b c : Bool) (x u : Usable) (xs us : List Usable) → b ≡ c → x ≡ u
+one_kept : (asked : Keep) (b c : Bool) (x u : Usable) (xs us : List Usable) → b ≡ c → x ≡ u
     → is_kept_series asked u ≡ true → xs ≡ filter (is_kept_series asked) us
     → cons_option (cond b None (Some x)) xs ≡ filter (is_kept_series asked) (cond (not c) (u ∷ us) us)
 one_kept asked true true x u xs us same this kept rest = rest
@@ -187,7 +189,7 @@ one_kept asked false false x u xs us same this kept rest =
     rw (this, rest, kept)
 
 -- of any other none stands
-none_kept : (asked : Option Element) (b c : Bool) (x u : Usable) (xs us : List Usable) → b ≡ true
+none_kept : (asked : Keep) (b c : Bool) (x u : Usable) (xs us : List Usable) → b ≡ true
     → is_kept_series asked u ≡ false → xs ≡ filter (is_kept_series asked) us
     → cons_option (cond b None (Some x)) xs ≡ filter (is_kept_series asked) (cond (not c) (u ∷ us) us)
 none_kept asked false c x u xs us none kept rest = absurd cc
@@ -195,7 +197,7 @@ none_kept asked true true x u xs us none kept rest = rest
 none_kept asked true false x u xs us none kept rest =
     rw kept rest
 
-module _ (asked : Option Element) (stations : List Station) (ms : List Month) where
+module _ (asked : Keep) (stations : List Station) (ms : List Month) where
   -- what all months say
   abbrev facts : List Fact
   facts = filter (is_usable stations) (flat_map facts_of ms)
@@ -314,7 +316,7 @@ own_listed stations (s ∷ ss) (us ∷ lists) listed own =
     (λ u e. ap (is_listed stations) e ∙ listed.0) own.0) (own_listed stations ss lists listed.1 own.1)
 
 -- the series of a station have its ID
-own_ids : (asked : Option Element) (ms : List Month) (ss : List Station) (gs : List StationGathering)
+own_ids : (asked : Keep) (ms : List Month) (ss : List Station) (gs : List StationGathering)
     → AllZip (IsStationOf asked ms) ss gs
     → AllZip (λ s series. AllByRecursion (λ u. u.id ≡ s.id) series) ss (map station_series gs)
 own_ids asked ms [] [] all = tt
@@ -332,7 +334,7 @@ all_of-are [] = refl
 all_of-are (g ∷ gs) = ap (λ (us : List Usable). station_series g ++ us) (all_of-are gs)
 
 -- the series of all stations, in one list for each, are its own and right
-pub are_by_station : (asked : Option Element) (ms : List Month) (ss : List Station) (gs : List StationGathering)
+pub are_by_station : (asked : Keep) (ms : List Month) (ss : List Station) (gs : List StationGathering)
     → AreListed ss → AllByRecursion IsMonth ms → AllZip (IsStationOf asked ms) ss gs
     → AreByStation ss (map station_series gs)
 unfolding has_days
@@ -360,15 +362,24 @@ all_passed : (us : List Usable) → filter (λ u. true) us ≡ us
 all_passed [] = refl
 all_passed (u ∷ us) = ap (λ (vs : List Usable). u ∷ vs) (all_passed us)
 
+-- a test that none passes leaves none
+none_passed : (us : List Usable) → filter (λ u. false) us ≡ []
+none_passed [] = refl
+none_passed (u ∷ us) = none_passed us
+
 -- what is kept of data are the series of the elements that are
-pub kept-is : (asked : Option Element) (held : Contents) → kept asked held ≡ record {
+pub kept-is : (asked : Keep) (held : Contents) → kept asked held ≡ record {
   stations = held.stations;
   series = filter (is_kept_series asked) held.series;
   unlisted = held.unlisted;
 }
 unfolding is_kept_series
-kept-is None held =
+kept-is All held =
     let of : List Usable → Contents = λ us.
     record { stations = held.stations; series = us; unlisted = held.unlisted } in
     ap of (sym (all_passed held.series))
-kept-is (Some e) held = refl
+kept-is (One e) held = refl
+kept-is Nothing held =
+    let of : List Usable → Contents = λ us.
+    record { stations = held.stations; series = us; unlisted = held.unlisted } in
+    ap of (sym (none_passed held.series))

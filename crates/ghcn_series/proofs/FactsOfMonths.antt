@@ -22,11 +22,11 @@ use Rattle.ghcn_series.specs.Gathered.{counted, usable_day, usable_days, months_
 use Rattle.ghcn_files.specs.IdLaws.{same_id-is}
 
 -- a fact is of its month's station and element
-abbrev OfMonth : Month → Fact → Type 0
+abbrev pub OfMonth : Month → Fact → Type 0
 OfMonth m f = (f.id ≡ m.id) × (f.element ≡ m.element)
 
 -- a fact of a month has its station, element, day and value
-of_month : (m : Month) (b : Bool) (o v : Option ℤ) (f : Fact) → fact_if m b o v ≡ Some f → OfMonth m f
+pub of_month : (m : Month) (b : Bool) (o v : Option ℤ) (f : Fact) → fact_if m b o v ≡ Some f → OfMonth m f
 of_month m true o v f e = absurd cc
 of_month m false None v f e = absurd cc
 of_month m false (Some n) None f e = absurd cc

@@ -1,11 +1,11 @@
--- A reader that counts files, and what it keeps of them.
+-- A cutter that counts files.
 use Rattle.std.proofs.Common.{◌≡◌, ℕ, true, false, ◌+◌, ◌<◌, ◌≤◌, ◌^◌, List, [], ◌∷◌, ◌++◌, length}
 use Rattle.std.proofs.Common.{sym, ap, ◌∙◌, refl, length-append, arith}
 use Rattle.std.proofs.lemmas.Bool.Decides.{nat_tests}
-use Rattle.ghcn_series.specs.declared.pieces.DataReader.{DataReader}
+use Rattle.ghcn_series.specs.declared.cutter.Cutter.{Cutter}
 use Rattle.ghcn_series.specs.Says.{in_64_bits}
 use Rattle.ghcn_series.specs.Fed.{Files, more, with_end, and_current, files_of}
-use Rattle.ghcn_series.specs.Pieces.{HasCounted}
+use Rattle.ghcn_series.specs.Cut.{HasCounted}
 use Rattle.ghcn_series.proofs.ReadMonths.{capped}
 
 -- a current file with a byte counts
@@ -20,7 +20,7 @@ ended_first ended [] = omega arith
 ended_first ended (b ∷ bs) = omega (arith, length-append ended ((b ∷ bs) ∷ []))
 
 -- more bytes of the current file are counted
-pub counted-more : (old new : DataReader) (files : Files) (bytes : List ℕ) → 0 < length bytes
+pub counted-more : {L : Type 0} (old new : Cutter L) (files : Files) (bytes : List ℕ) → 0 < length bytes
     → new.ended ≡ old.ended → new.begun ≡ true → HasCounted old files → HasCounted new (more files bytes)
 counted-more old new files bytes some ended begun is = record {
   ended = ended ∙ is.ended;
@@ -28,7 +28,7 @@ counted-more old new files bytes some ended begun is = record {
 }
 
 -- the end of the current file is counted
-pub counted-end : (old new : DataReader) (files : Files) → new.ended ≡ in_64_bits (old.ended + 1)
+pub counted-end : {L : Type 0} (old new : Cutter L) (files : Files) → new.ended ≡ in_64_bits (old.ended + 1)
     → new.begun ≡ false → HasCounted old files → HasCounted new (with_end files)
 counted-end old new files ended begun is = record {
   ended = ended ∙ ap (λ n. in_64_bits (n + 1)) is.ended ∙ capped (length files.ended)
@@ -36,18 +36,24 @@ counted-end old new files ended begun is = record {
   begun = begun;
 }
 
--- where the files are few, the reader is at the one behind those that were ended
-pub at_file : (r : DataReader) (files : Files) → length (files_of files) ≤ 2 ^ 20 → HasCounted r files
-    → r.ended ≡ length files.ended
-at_file r files few is = omega (arith, is.ended, few, ended_first files.ended files.current)
+-- where the files are few, the cutter is at the one behind those that were ended
+pub at_file : {L : Type 0} (c : Cutter L) (files : Files) → length (files_of files) ≤ 2 ^ 20 → HasCounted c files
+    → c.ended ≡ length files.ended
+at_file c files few is = omega (arith, is.ended, few, ended_first files.ended files.current)
+
+-- whose place is one of the first
+pub at_place : {L : Type 0} (c : Cutter L) (files : Files) → length (files_of files) ≤ 2 ^ 20 → HasCounted c files
+    → c.ended ≤ 2 ^ 20
+at_place c files few is =
+    omega (arith, at_file c files few is, few, ended_first files.ended files.current)
 
 -- and there is a number for that one, where it has a byte
-pub may_be_read : (r : DataReader) (files : Files) → length (files_of files) ≤ 2 ^ 20 → 0 < length files.current
-    → HasCounted r files → r.ended < 2 ^ 20
-may_be_read r files few some is =
+pub may_be_read : {L : Type 0} (c : Cutter L) (files : Files) → length (files_of files) ≤ 2 ^ 20 → 0 < length files.current
+    → HasCounted c files → c.ended < 2 ^ 20
+may_be_read c files few some is =
     omega (
       arith,
-      at_file r files few is,
+      at_file c files few is,
       few,
       ap length (and_current-some files.ended files.current some),
       length-append files.ended (files.current ∷ []),

@@ -1,17 +1,17 @@
 -- Whole files that are fed, one after the other.
-use Rattle.std.proofs.Common.{◌≡◌, ℕ, ◌+◌, ◌<◌, List, [], ◌∷◌, ◌++◌, length, Option}
+use Rattle.std.proofs.Common.{◌≡◌, ℕ, ◌+◌, ◌<◌, List, [], ◌∷◌, ◌++◌, length}
 use Rattle.std.proofs.Common.{take, get_or, Bor}
 use Rattle.std.proofs.Common.{ap, ◌∙◌, arith}
 use Rattle.std.proofs.lemmas.List.{take_more, get_or-map}
 use Rattle.ghcn_files.specs.declared.station.Station.{Station}
-use Rattle.ghcn_files.specs.declared.element.Element.{Element}
+use Rattle.ghcn_files.specs.declared.element.Keep.{Keep}
 use Rattle.ghcn_series.specs.Fed.{Fed, ended_files}
 use Rattle.ghcn_series.proofs.ReadFiles.{texts, length-texts}
 
 -- the first of these files, all of them ended
-abbrev pub fed_files : Option Element → List Station → List (Bor (List ℕ)) → ℕ → Fed
-fed_files element stations files n = record {
-  element = element;
+abbrev pub fed_files : Keep → List Station → List (Bor (List ℕ)) → ℕ → Fed
+fed_files keep stations files n = record {
+  keep = keep;
   stations = stations;
   files = ended_files (take n (texts files));
 }

@@ -1,4 +1,4 @@
--- A reader that has read one line more, one file's end more, or part of a line.
+-- A cutter that has read one line more, one file's end more, or part of a line.
 use Rattle.std.proofs.Common.{◌≡◌, ℕ, ◌+◌, ◌<◌, List, [], ◌∷◌, ◌++◌, length}
 use Rattle.std.proofs.Common.{inl, inr, refl}
 use Rattle.std.proofs.Common.{sym, ap, ◌∙◌, subst, append_assoc, length-append, arith}
@@ -10,27 +10,20 @@ use Rattle.std.proofs.lemmas.List.{append-nil}
 use Rattle.ghcn_fields.specs.Lines.{lines, HasNoLineFeed}
 use Rattle.ghcn_fields.specs.LineLaws.{lines-append, lines-one, lines-unended}
 use Rattle.ghcn_fields.specs.LineLaws.{no_line_feed-append}
-use Rattle.ghcn_series.specs.declared.reader.Reader.{Reader}
-use Rattle.ghcn_series.specs.declared.pieces.DataReader.{DataReader}
+use Rattle.ghcn_series.specs.declared.cutter.Cutter.{Cutter}
 use Rattle.ghcn_series.specs.declared.fault.DataFault.{DataFault}
-use Rattle.ghcn_series.specs.DailyFaults.{FileLine, not_blank, one_line, file_lines, daily_lines}
 use Rattle.ghcn_series.specs.declared.fault.DataFault.TheVariants.{DailyLine, TooManyFiles, Memory}
-use Rattle.ghcn_series.specs.Gathered.{HasReadLines, IsLineRefusal}
+use Rattle.ghcn_series.specs.Counted.{HaveCounted}
+use Rattle.ghcn_series.specs.Cut.{IsCut, lines_to, HasReadFed, HasLineFault, HasFault, AddsLine, RefusesLine}
+use Rattle.ghcn_series.specs.DailyFaults.{FileLine, not_blank, one_line, file_lines, daily_lines}
 use Rattle.ghcn_series.specs.Fed.{Files, Fed, IsOfMemory, more, with_end, with_files}
-use Rattle.ghcn_series.specs.Pieces.{IsCut, lines_to, HasReadFed, HasLineFault, HasFault, AddsLine, RefusesLine}
+use Rattle.ghcn_series.specs.Gathered.{IsLineRefusal}
+use Rattle.ghcn_series.specs.LinesRead.{Reading}
+use Rattle.ghcn_series.proofs.CountedLines.{counted-line}
 use Rattle.ghcn_series.proofs.ReadLines.{refused_among}
 use Rattle.ghcn_series.proofs.FedLines.{file_lines-append, file_lines-one, daily_lines-one}
 
--- the reader's own number of a line is that in the files
-numbered : (r : DataReader) (fed : Fed) (tail line : List ℕ) (read : HasReadFed r fed)
-    → r.ended ≡ length fed.files.ended → lines tail ≡ strip_carriage_return (r.rest.items ++ line) ∷ []
-    → lines_to fed.files read.whole ++ one_line (r.ended + 1) (r.line + 1) (r.rest.items ++ line)
-    ≡ lines_to fed.files (read.whole ++ tail)
-numbered r fed tail line is at one =
-    let file = length fed.files.ended + 1 in
-    let this = strip_carriage_return (r.rest.items ++ line) in
-    rw (at, is.counted, file_lines-one file is.whole tail this is.cut.ends one)
-    (append_assoc (daily_lines fed.files.ended) (file_lines (file, is.whole)) _)
+-- ---- files that are cut
 
 -- the current file with a line and its line feed
 joined : (whole rest line behind : List ℕ) → (whole ++ rest) ++ (line ++ 10 ∷ behind)
@@ -45,118 +38,10 @@ cut_behind files whole rest line behind cut = record {
   ends = inr (whole ++ (rest ++ line), sym (append_assoc whole (rest ++ line) (10 ∷ [])));
 }
 
--- a line and its line feed are read
-pub line-read : (old new : DataReader) (line : List ℕ) (fed : Fed) → HasNoLineFeed line
-    → old.ended ≡ length fed.files.ended → AddsLine old new line → HasReadFed old fed
-    → HasReadFed new (with_files fed (more fed.files (line ++ 10 ∷ [])))
-line-read old new line fed none at adds is =
-    let tail = (old.rest.items ++ line) ++ 10 ∷ [] in
-    let one : lines tail ≡ strip_carriage_return (old.rest.items ++ line) ∷ [] =
-    lines-one (old.rest.items ++ line) (no_line_feed-append old.rest.items line is.unended none) in
-    record {
-      element = adds.element ∙ is.element;
-      stations = adds.stations ∙ is.stations;
-      whole = is.whole ++ tail;
-      cut = rw adds.rest (cut_behind fed.files is.whole old.rest.items line [] is.cut);
-      unended = rw adds.rest tt;
-      counted = rw (lines-append is.whole tail is.cut.ends, one)
-          (omega (arith, adds.counted, is.counted, length-append {A = List ℕ}));
-      read = subst (HasReadLines new.reader) (numbered old fed tail line is at one)
-          (adds.read.holds (lines_to fed.files is.whole) is.read);
-    }
-
--- the fault of a line is found with its line feed
-pub line-found : (old : DataReader) (line later : List ℕ) (fed : Fed) (f : DataFault) → HasNoLineFeed line
-    → old.ended ≡ length fed.files.ended → RefusesLine old line f → HasReadFed old fed
-    → HasLineFault (with_files fed (more fed.files (line ++ 10 ∷ later))) f
-line-found old line later fed f none at refuses is =
-    let tail = (old.rest.items ++ line) ++ 10 ∷ [] in
-    let one : lines tail ≡ strip_carriage_return (old.rest.items ++ line) ∷ [] =
-    lines-one (old.rest.items ++ line) (no_line_feed-append old.rest.items line is.unended none) in
-    record {
-      whole = is.whole ++ tail;
-      rest = later;
-      cut = cut_behind fed.files is.whole old.rest.items line later is.cut;
-      first = rw (← is.stations, ← numbered old fed tail line is at one)
-          (refuses.first (lines_to fed.files is.whole) is.read);
-    }
-
 -- bytes that are fed in two parts
 more-more : (fed : Fed) (a b c : List ℕ) → a ++ b ≡ c
     → with_files fed (more (more fed.files a) b) ≡ with_files fed (more fed.files c)
 more-more fed a b c is = rw (← is, append_assoc) refl
-
--- how far a piece is read: some of its lines are done
-pub record IsWithinPiece (now : DataReader) (before : Fed) (left bytes : List ℕ) : Type 0 where
-  pub done : List ℕ
-  pub parts : done ++ left ≡ bytes
-  pub read : HasReadFed now (with_files before (more before.files done))
-
--- a line more of a piece
-pub piece-line : (old new : DataReader) (line behind left bytes : List ℕ) (fed : Fed) → left ≡ line ++ 10 ∷ behind
-    → HasNoLineFeed line → old.ended ≡ length fed.files.ended → AddsLine old new line
-    → IsWithinPiece old fed left bytes → IsWithinPiece new fed behind bytes
-piece-line old new line behind left bytes fed is none at adds within =
-    record {
-      done = within.done ++ (line ++ 10 ∷ []);
-      parts = simp append_assoc (rw is at within.parts);
-      read = subst (HasReadFed new)
-          (more-more fed within.done (line ++ 10 ∷ []) (within.done ++ (line ++ 10 ∷ [])) refl)
-          (line-read old new line (with_files fed (more fed.files within.done)) none at adds within.read);
-    }
-
--- the fault of a line of a piece
-pub piece-found : (old : DataReader) (line behind left bytes : List ℕ) (fed : Fed) (f : DataFault)
-    → left ≡ line ++ 10 ∷ behind → HasNoLineFeed line → old.ended ≡ length fed.files.ended → RefusesLine old line f
-    → IsWithinPiece old fed left bytes → HasLineFault (with_files fed (more fed.files bytes)) f
-piece-found old line behind left bytes fed f is none at refuses within =
-    let all : within.done ++ (line ++ 10 ∷ behind) ≡ bytes = rw (← within.parts, is) refl in
-    subst (λ x. HasLineFault x f) (more-more fed within.done (line ++ 10 ∷ behind) bytes all)
-    (line-found old line behind (with_files fed (more fed.files within.done)) f none at refuses within.read)
-
--- the last bytes of a piece, which no line feed ends
-pub piece-part : (old new : DataReader) (left bytes : List ℕ) (fed : Fed) → HasNoLineFeed left
-    → new.reader ≡ old.reader → new.line ≡ old.line → new.rest.items ≡ old.rest.items ++ left
-    → IsWithinPiece old fed left bytes → HasReadFed new (with_files fed (more fed.files bytes))
-piece-part old new left bytes fed none reader line kept within =
-    let is = within.read in
-    record {
-      element = rw reader is.element;
-      stations = rw reader is.stations;
-      whole = is.whole;
-      cut = record {
-        parts = rw (kept, ← within.parts, ← append_assoc, is.cut.parts) (simp append_assoc);
-        ends = is.cut.ends;
-      };
-      unended = rw kept (no_line_feed-append old.rest.items left is.unended none);
-      counted = line ∙ is.counted;
-      read = rw reader is.read;
-    }
-
--- the current file is ended, and its lines were read
-file-read : (old new : DataReader) (fed : Fed) (ls : List FileLine) → new.reader.element ≡ old.reader.element
-    → new.reader.stations ≡ old.reader.stations → new.line ≡ 0 → new.rest.items ≡ []
-    → ls ≡ daily_lines (fed.files.ended ++ fed.files.current ∷ []) → HasReadLines new.reader ls → HasReadFed old fed
-    → HasReadFed new (with_files fed (with_end fed.files))
-file-read old new fed ls element stations line empty all read is = record {
-  element = element ∙ is.element;
-  stations = stations ∙ is.stations;
-  whole = [];
-  cut = record { parts = sym empty; ends = inl refl };
-  unended = rw empty tt;
-  counted = line;
-  read = rw (append-nil (daily_lines (fed.files.ended ++ fed.files.current ∷ [])), ← all) read;
-}
-
--- the current file is ended, behind its last line feed
-pub end-read : (old new : DataReader) (fed : Fed) → old.rest.items ≡ [] → new.reader ≡ old.reader → new.line ≡ 0
-    → new.rest.items ≡ [] → HasReadFed old fed → HasReadFed new (with_files fed (with_end fed.files))
-end-read old new fed none reader line empty is =
-    let all : fed.files.current ≡ is.whole =
-    is.cut.parts ∙ ap (λ (xs : List ℕ). is.whole ++ xs) none ∙ append-nil is.whole in
-    file-read old new fed (lines_to fed.files is.whole) (ap (λ (r : Reader). r.element) reader)
-    (ap (λ (r : Reader). r.stations) reader)
-    line empty (rw (daily_lines-one fed.files.ended fed.files.current, all) refl) (rw reader is.read) is
 
 -- what is left of a file is its last line
 lines-rest : (rest : List ℕ) → 0 < length rest → HasNoLineFeed rest
@@ -164,25 +49,6 @@ lines-rest : (rest : List ℕ) → 0 < length rest → HasNoLineFeed rest
 lines-rest [] some none = absurd (omega arith)
 lines-rest (b ∷ bs) some none = lines-unended b bs none
     ∙ ap (λ (l : List ℕ). strip_carriage_return l ∷ []) (sym (append-nil (b ∷ bs)))
-
--- the lines of the files, with the last line of the current one
-with_last : (r : DataReader) (fed : Fed) (is : HasReadFed r fed) → r.ended ≡ length fed.files.ended
-    → 0 < length r.rest.items
-    → lines_to fed.files is.whole ++ one_line (r.ended + 1) (r.line + 1) (r.rest.items ++ [])
-    ≡ daily_lines (fed.files.ended ++ fed.files.current ∷ [])
-with_last r fed is at some =
-    rw (daily_lines-one fed.files.ended fed.files.current, is.cut.parts)
-    (numbered r fed r.rest.items [] is at (lines-rest r.rest.items some is.unended))
-
--- the current file is ended in its last line
-pub last-read : (old mid new : DataReader) (fed : Fed) → old.ended ≡ length fed.files.ended
-    → 0 < length old.rest.items → AddsLine old mid [] → new.reader ≡ mid.reader → new.line ≡ 0
-    → new.rest.items ≡ [] → HasReadFed old fed → HasReadFed new (with_files fed (with_end fed.files))
-last-read old mid new fed at some adds reader line empty is =
-    let read = adds.read.holds (lines_to fed.files is.whole) is.read in
-    file-read old new fed _ (ap (λ (r : Reader). r.element) reader ∙ adds.element)
-    (ap (λ (r : Reader). r.stations) reader ∙ adds.stations) line empty
-    (with_last old fed is at some) (rw reader read) is
 
 -- a fault of the lines of the files, when the current one is ended
 found_at_end : (fed : Fed) (f : DataFault)
@@ -194,14 +60,6 @@ found_at_end fed f first = record {
   cut = record { parts = refl; ends = inl refl };
   first = rw (append-nil (daily_lines (fed.files.ended ++ fed.files.current ∷ []))) first;
 }
-
--- the fault of a file's last line is found at the file's end
-pub last-found : (old : DataReader) (fed : Fed) (f : DataFault) → old.ended ≡ length fed.files.ended
-    → 0 < length old.rest.items → RefusesLine old [] f → HasReadFed old fed
-    → HasLineFault (with_files fed (with_end fed.files)) f
-last-found old fed f at some refuses is =
-    found_at_end fed f (rw (← is.stations, ← with_last old fed is at some)
-    (refuses.first (lines_to fed.files is.whole) is.read))
 
 -- more bytes behind change no fault
 pub fault-more : (fed : Fed) (f : DataFault) (bytes : List ℕ) → HasLineFault fed f
@@ -238,37 +96,213 @@ memory-found fed (Memory m) is = record {
 memory-found fed TooManyFiles is = absurd is
 memory-found fed (DailyLine file line why) is = absurd is
 
--- what a reader has read is told by its lines alone
-pub same_read : (old new : DataReader) (fed : Fed) → new.reader ≡ old.reader → new.line ≡ old.line
-    → new.rest ≡ old.rest → HasReadFed old fed → HasReadFed new fed
-same_read old new fed reader line rest is = record {
-  element = ap (λ (r : Reader). r.element) reader ∙ is.element;
-  stations = ap (λ (r : Reader). r.stations) reader ∙ is.stations;
-  whole = is.whole;
-  cut = rw rest is.cut;
-  unended = rw rest is.unended;
-  counted = line ∙ is.counted;
-  read = rw reader is.read;
-}
+-- how far a piece is read: some of its lines are done
+pub record IsWithinPiece {L : Type 0} (has_read : Reading L) (now : Cutter L) (before : Fed) (left bytes : List ℕ)
+    : Type 0 where
+  pub done : List ℕ
+  pub parts : done ++ left ≡ bytes
+  pub read : HasReadFed has_read now (with_files before (more before.files done))
 
--- what a reader keeps that has read on: the fault that was found, or none
-pub kept_fault : (after new : DataReader) (fed : Fed) (result : Result (Unit {0}) DataFault) → new.reader ≡ after.reader
-    → new.line ≡ after.line → new.rest ≡ after.rest → OnOk result (HasReadFed after fed)
-    → IfErr result (HasLineFault fed) → HasFault new fed (result_err result)
-kept_fault after new fed (Ok x) reader line rest read found = same_read after new fed reader line rest read
-kept_fault after new fed (Err f) reader line rest read found = found
+module _ {L : Type 0} {has_read : Reading L} where
+  -- ---- a line
 
--- no fault is kept
-pub without_fault : (r : DataReader) (fed : Fed) → is_none r.fault ≡ true → HasFault r fed r.fault → HasReadFed r fed
-without_fault r fed none has =
-    elim r.fault as (λ f. is_none f ≡ true → HasFault r fed f → HasReadFed r fed) [
-      | None ↦ λ e is. is
-      | Some f ↦ λ e is. absurd cc
-    ] none has
+  -- the cutter's own number of a line is that in the files
+  numbered : (c : Cutter L) (fed : Fed) (tail line : List ℕ) (read : HasReadFed has_read c fed)
+      → c.ended ≡ length fed.files.ended → lines tail ≡ strip_carriage_return (c.rest.items ++ line) ∷ []
+      → lines_to fed.files read.whole ++ one_line (c.ended + 1) (c.line + 1) (c.rest.items ++ line)
+      ≡ lines_to fed.files (read.whole ++ tail)
+  numbered c fed tail line is at one =
+      let file = length fed.files.ended + 1 in
+      let this = strip_carriage_return (c.rest.items ++ line) in
+      rw (at, is.numbered, file_lines-one file is.whole tail this is.cut.ends one)
+      (append_assoc (daily_lines fed.files.ended) (file_lines (file, is.whole)) _)
 
--- a fault that is kept stays, with more bytes or with the file's end
-pub with_fault : (old new : DataReader) (fed after : Fed) (kept : Option DataFault)
-    → ((f : DataFault) → HasLineFault fed f → HasLineFault after f) → is_none kept ≡ false → HasFault old fed kept
-    → HasFault new after kept
-with_fault old new fed after None stays e has = absurd cc
-with_fault old new fed after (Some f) stays e has = stays f has
+  -- and its counts are those of the files
+  counted : (old new : Cutter L) (fed : Fed) (tail line : List ℕ) (read : HasReadFed has_read old fed)
+      → lines tail ≡ strip_carriage_return (old.rest.items ++ line) ∷ [] → AddsLine has_read old new line
+      → HaveCounted new.counts fed.files.ended (read.whole ++ tail)
+  counted old new fed tail line is one adds =
+      counted-line old.counts new.counts fed.files.ended is.whole (is.whole ++ tail)
+      (strip_carriage_return (old.rest.items ++ line))
+      (lines-append is.whole tail is.cut.ends ∙ ap (λ (ls : List (List ℕ)). lines is.whole ++ ls) one)
+      adds.counted is.counted
+
+  -- a line and its line feed are read
+  pub line-read : (old new : Cutter L) (line : List ℕ) (fed : Fed) → HasNoLineFeed line
+      → old.ended ≡ length fed.files.ended → AddsLine has_read old new line → HasReadFed has_read old fed
+      → HasReadFed has_read new (with_files fed (more fed.files (line ++ 10 ∷ [])))
+  line-read old new line fed none at adds is =
+      let tail = (old.rest.items ++ line) ++ 10 ∷ [] in
+      let one : lines tail ≡ strip_carriage_return (old.rest.items ++ line) ∷ [] =
+      lines-one (old.rest.items ++ line) (no_line_feed-append old.rest.items line is.unended none) in
+      record {
+        whole = is.whole ++ tail;
+        cut = rw adds.rest (cut_behind fed.files is.whole old.rest.items line [] is.cut);
+        unended = rw adds.rest tt;
+        numbered = rw (lines-append is.whole tail is.cut.ends, one)
+            (omega (arith, adds.numbered, is.numbered, length-append {A = List ℕ}));
+        counted = counted old new fed tail line is one adds;
+        read = subst (has_read new.reader fed.stations fed.keep) (numbered old fed tail line is at one)
+            (adds.read.holds fed.stations fed.keep (lines_to fed.files is.whole) is.read);
+      }
+
+  -- the fault of a line is found with its line feed
+  pub line-found : (old : Cutter L) (line later : List ℕ) (fed : Fed) (f : DataFault) → HasNoLineFeed line
+      → old.ended ≡ length fed.files.ended → RefusesLine has_read old line f → HasReadFed has_read old fed
+      → HasLineFault (with_files fed (more fed.files (line ++ 10 ∷ later))) f
+  line-found old line later fed f none at refuses is =
+      let tail = (old.rest.items ++ line) ++ 10 ∷ [] in
+      let one : lines tail ≡ strip_carriage_return (old.rest.items ++ line) ∷ [] =
+      lines-one (old.rest.items ++ line) (no_line_feed-append old.rest.items line is.unended none) in
+      record {
+        whole = is.whole ++ tail;
+        rest = later;
+        cut = cut_behind fed.files is.whole old.rest.items line later is.cut;
+        first = rw (← numbered old fed tail line is at one)
+            (refuses.first fed.stations fed.keep (lines_to fed.files is.whole) is.read);
+      }
+
+  -- ---- a piece
+
+  -- a line more of a piece
+  pub piece-line : (old new : Cutter L) (line behind left bytes : List ℕ) (fed : Fed) → left ≡ line ++ 10 ∷ behind
+      → HasNoLineFeed line → old.ended ≡ length fed.files.ended → AddsLine has_read old new line
+      → IsWithinPiece has_read old fed left bytes → IsWithinPiece has_read new fed behind bytes
+  piece-line old new line behind left bytes fed is none at adds within =
+      record {
+        done = within.done ++ (line ++ 10 ∷ []);
+        parts = simp append_assoc (rw is at within.parts);
+        read = subst (HasReadFed has_read new)
+            (more-more fed within.done (line ++ 10 ∷ []) (within.done ++ (line ++ 10 ∷ [])) refl)
+            (line-read old new line (with_files fed (more fed.files within.done)) none at adds within.read);
+      }
+
+  -- the fault of a line of a piece
+  pub piece-found : (old : Cutter L) (line behind left bytes : List ℕ) (fed : Fed) (f : DataFault)
+      → left ≡ line ++ 10 ∷ behind → HasNoLineFeed line → old.ended ≡ length fed.files.ended
+      → RefusesLine has_read old line f → IsWithinPiece has_read old fed left bytes
+      → HasLineFault (with_files fed (more fed.files bytes)) f
+  piece-found old line behind left bytes fed f is none at refuses within =
+      let all : within.done ++ (line ++ 10 ∷ behind) ≡ bytes = rw (← within.parts, is) refl in
+      subst (λ x. HasLineFault x f) (more-more fed within.done (line ++ 10 ∷ behind) bytes all)
+      (line-found old line behind (with_files fed (more fed.files within.done)) f none at refuses within.read)
+
+  -- the last bytes of a piece, which no line feed ends
+  pub piece-part : (old new : Cutter L) (left bytes : List ℕ) (fed : Fed) → HasNoLineFeed left
+      → new.reader ≡ old.reader → new.counts ≡ old.counts → new.line ≡ old.line
+      → new.rest.items ≡ old.rest.items ++ left → IsWithinPiece has_read old fed left bytes
+      → HasReadFed has_read new (with_files fed (more fed.files bytes))
+  piece-part old new left bytes fed none reader counts line kept within =
+      let is = within.read in
+      record {
+        whole = is.whole;
+        cut = record {
+          parts = rw (kept, ← within.parts, ← append_assoc, is.cut.parts) (simp append_assoc);
+          ends = is.cut.ends;
+        };
+        unended = rw kept (no_line_feed-append old.rest.items left is.unended none);
+        numbered = line ∙ is.numbered;
+        counted = rw counts is.counted;
+        read = rw reader is.read;
+      }
+
+  -- ---- the end of a file
+
+  -- the current file is ended, and its lines were read
+  file-read : (old new : Cutter L) (fed : Fed) (ls : List FileLine) → new.line ≡ 0 → new.rest.items ≡ []
+      → ls ≡ daily_lines (fed.files.ended ++ fed.files.current ∷ [])
+      → HaveCounted new.counts (fed.files.ended ++ fed.files.current ∷ []) []
+      → has_read new.reader fed.stations fed.keep ls → HasReadFed has_read new (with_files fed (with_end fed.files))
+  file-read old new fed ls line empty all counts read = record {
+    whole = [];
+    cut = record { parts = sym empty; ends = inl refl };
+    unended = rw empty tt;
+    numbered = line;
+    counted = counts;
+    read = rw (append-nil (daily_lines (fed.files.ended ++ fed.files.current ∷ [])), ← all) read;
+  }
+
+  -- the current file is ended, behind its last line feed
+  pub end-read : (old new : Cutter L) (fed : Fed) → old.ended ≡ length fed.files.ended → old.rest.items ≡ []
+      → new.reader ≡ old.reader
+      → ((ended : List (List ℕ)) (whole : List ℕ) → old.ended ≡ length ended
+      → HaveCounted old.counts ended whole → HaveCounted new.counts (ended ++ whole ∷ []) [])
+      → new.line ≡ 0 → new.rest.items ≡ [] → HasReadFed has_read old fed
+      → HasReadFed has_read new (with_files fed (with_end fed.files))
+  end-read old new fed at none reader counts line empty is =
+      let all : fed.files.current ≡ is.whole =
+      is.cut.parts ∙ ap (λ (xs : List ℕ). is.whole ++ xs) none ∙ append-nil is.whole in
+      file-read old new fed (lines_to fed.files is.whole) line empty
+      (rw (daily_lines-one fed.files.ended fed.files.current, all) refl)
+      (rw all (counts fed.files.ended is.whole at is.counted)) (rw reader is.read)
+
+  -- the lines of the files, with the last line of the current one
+  with_last : (c : Cutter L) (fed : Fed) (is : HasReadFed has_read c fed) → c.ended ≡ length fed.files.ended
+      → 0 < length c.rest.items
+      → lines_to fed.files is.whole ++ one_line (c.ended + 1) (c.line + 1) (c.rest.items ++ [])
+      ≡ daily_lines (fed.files.ended ++ fed.files.current ∷ [])
+  with_last c fed is at some =
+      rw (daily_lines-one fed.files.ended fed.files.current, is.cut.parts)
+      (numbered c fed c.rest.items [] is at (lines-rest c.rest.items some is.unended))
+
+  -- the current file is ended in its last line
+  pub last-read : (old mid new : Cutter L) (fed : Fed) → old.ended ≡ length fed.files.ended
+      → 0 < length old.rest.items → AddsLine has_read old mid [] → mid.ended ≡ old.ended → new.reader ≡ mid.reader
+      → ((ended : List (List ℕ)) (whole : List ℕ) → mid.ended ≡ length ended
+      → HaveCounted mid.counts ended whole → HaveCounted new.counts (ended ++ whole ∷ []) [])
+      → new.line ≡ 0 → new.rest.items ≡ [] → HasReadFed has_read old fed
+      → HasReadFed has_read new (with_files fed (with_end fed.files))
+  last-read old mid new fed at some adds same reader counts line empty is =
+      let last = counted old mid fed old.rest.items [] is (lines-rest old.rest.items some is.unended) adds in
+      let all : HaveCounted new.counts (fed.files.ended ++ fed.files.current ∷ []) [] =
+      rw is.cut.parts (counts fed.files.ended (is.whole ++ old.rest.items) (same ∙ at) last) in
+      let read = adds.read.holds fed.stations fed.keep (lines_to fed.files is.whole) is.read in
+      file-read old new fed _ line empty (with_last old fed is at some) all (rw reader read)
+
+  -- the fault of a file's last line is found at the file's end
+  pub last-found : (old : Cutter L) (fed : Fed) (f : DataFault) → old.ended ≡ length fed.files.ended
+      → 0 < length old.rest.items → RefusesLine has_read old [] f → HasReadFed has_read old fed
+      → HasLineFault (with_files fed (with_end fed.files)) f
+  last-found old fed f at some refuses is =
+      found_at_end fed f (rw (← with_last old fed is at some)
+      (refuses.first fed.stations fed.keep (lines_to fed.files is.whole) is.read))
+
+  -- ---- faults that are kept
+
+  -- what was read is told by the lines alone
+  pub same_read : (old new : Cutter L) (fed : Fed) → new.reader ≡ old.reader → new.counts ≡ old.counts
+      → new.line ≡ old.line → new.rest ≡ old.rest → HasReadFed has_read old fed → HasReadFed has_read new fed
+  same_read old new fed reader counts line rest is = record {
+    whole = is.whole;
+    cut = rw rest is.cut;
+    unended = rw rest is.unended;
+    numbered = line ∙ is.numbered;
+    counted = rw counts is.counted;
+    read = rw reader is.read;
+  }
+
+  -- no fault is kept
+  pub without_fault : (c : Cutter L) (fed : Fed) → is_none c.fault ≡ true → HasFault has_read c fed c.fault
+      → HasReadFed has_read c fed
+  without_fault c fed none has =
+      elim c.fault as (λ f. is_none f ≡ true → HasFault has_read c fed f → HasReadFed has_read c fed) [
+        | None ↦ λ e is. is
+        | Some f ↦ λ e is. absurd cc
+      ] none has
+
+module _ {L : Type 0} (has_read : Reading L) where
+  -- what a cutter keeps that has read on: the fault that was found, or none
+  pub kept_fault : (after new : Cutter L) (fed : Fed) (result : Result (Unit {0}) DataFault)
+      → new.reader ≡ after.reader → new.counts ≡ after.counts → new.line ≡ after.line → new.rest ≡ after.rest
+      → OnOk result (HasReadFed has_read after fed) → IfErr result (HasLineFault fed)
+      → HasFault has_read new fed (result_err result)
+  kept_fault after new fed (Ok x) reader counts line rest read found =
+      same_read after new fed reader counts line rest read
+  kept_fault after new fed (Err f) reader counts line rest read found = found
+
+  -- a fault that is kept stays, with more bytes or with the file's end
+  pub with_fault : (old new : Cutter L) (fed after : Fed) (kept : Option DataFault)
+      → ((f : DataFault) → HasLineFault fed f → HasLineFault after f) → is_none kept ≡ false
+      → HasFault has_read old fed kept → HasFault has_read new after kept
+  with_fault old new fed after None stays e has = absurd cc
+  with_fault old new fed after (Some f) stays e has = stays f has

@@ -27,6 +27,7 @@ pub mod FactsOfMonths
 pub mod AllSeries
 pub mod ReadFiles
 pub mod FedLines
+pub mod CountedLines
 pub mod FedPieces
 pub mod FedCounts
 pub mod KeptFaults

@@ -56,7 +56,7 @@ no_number y m d past =
     ] refl
 
 -- the usable value of a day is that of its month's row
-usable_is : (m : Month) (j : ℕ) → IsMonth m → usable_value m j ≡ day_value m j
+pub usable_is : (m : Month) (j : ℕ) → IsMonth m → usable_value m j ≡ day_value m j
 usable_is m j right =
     let r : Reading = get_or m.days j no_reading in
     let days : ℕ = days_in_month (pos m.year) m.month in
@@ -72,7 +72,7 @@ usable_is m j right =
     ]
 
 -- a reading of nothing isn't usable
-unread : (m : Month) (j : ℕ) → usable_day m (j, no_reading) ≡ None
+pub unread : (m : Month) (j : ℕ) → usable_day m (j, no_reading) ≡ None
 unread m j = elim (day_number m.year m.month j) as (λ o. option_and_then counted (fact_if m false o None) ≡ None) [
   | None ↦ refl
   | Some n ↦ refl

@@ -1,24 +1,32 @@
 -- A reader that has read one line more.
-use Rattle.std.proofs.Common.{◌≡◌, true, false, List, [], ◌∷◌, ◌++◌, Option, None}
-use Rattle.std.proofs.Common.{Some, Ok, refl, sym, ap, ◌∙◌, append_assoc}
-use Rattle.std.specs.Prelude.{◌&&◌}
+use Rattle.std.proofs.Common.{◌≡◌, ℕ, true, false, Bool, cond, List, [], ◌∷◌, ◌++◌, length, Option, None}
+use Rattle.std.proofs.Common.{Some, Ok, Err, refl, sym, ap, ◌∙◌, append_assoc}
+use Rattle.std.specs.Prelude.{◌&&◌, nat_lt}
 use Rattle.std.specs.List.{filter_map}
-use Rattle.std.specs.Option.{option_to_list}
+use Rattle.std.specs.Option.{option_to_list, is_some}
 use Rattle.std.proofs.lemmas.List.{append-nil}
 use Rattle.std.proofs.lemmas.List.Elements.{filter_map-append}
 use Rattle.std.proofs.lemmas.Bool.{not-true, not-false}
+use Rattle.ghcn_fields.specs.Bytes.{is_blank}
+use Rattle.ghcn_fields.specs.Lines.{columns}
 use Rattle.ghcn_fields.specs.Faults.{IsFirstFault}
 use Rattle.ghcn_fields.specs.FaultLaws.{no_fault-more}
 use Rattle.ghcn_files.specs.declared.station.Station.{Station}
 use Rattle.ghcn_files.specs.declared.month.Month.{Month}
-use Rattle.ghcn_files.specs.Months.{read_month}
+use Rattle.ghcn_files.specs.declared.element.Element.{Element}
+use Rattle.ghcn_files.specs.declared.element.Keep.{Keep}
+use Rattle.ghcn_files.specs.declared.fault.LineWhy.TheVariants.{Short}
+use Rattle.ghcn_files.specs.Elements.{element_of}
+use Rattle.ghcn_files.specs.Months.{read_month, month_if, month_why, month_of, unless}
 use Rattle.ghcn_series.specs.declared.fault.DailyWhy.TheVariants.{DuplicateMonth}
 use Rattle.ghcn_series.specs.declared.fault.DataFault.{DataFault}
 use Rattle.ghcn_series.specs.declared.fault.DataFault.TheVariants.{DailyLine, TooManyFiles, Memory}
 use Rattle.ghcn_series.specs.declared.reader.Reader.{Reader}
 use Rattle.ghcn_series.specs.DailyFaults.{FileLine, month_on, month_if_ok, repeats, is_listed}
 use Rattle.ghcn_series.specs.DailyFaults.{daily_fault}
-use Rattle.ghcn_series.specs.Gathered.{HasReadLines, IsLineRefusal}
+use Rattle.ghcn_series.specs.declared.counts.LineKind.TheVariants.{OfElement, Other}
+use Rattle.ghcn_series.specs.Gathered.{HasReadFor, IsLineRefusal}
+use Rattle.ghcn_series.specs.LineKinds.{kind_of}
 use Rattle.ghcn_series.specs.Steps.{ReadsMonth}
 
 module _ {L W : Type 0} (fault : List L → L → Option W) where
@@ -38,44 +46,91 @@ months-more : (before : List FileLine) (l : FileLine) (o : Option Month) → mon
 months-more before l None is = rw (filter_map-append month_on before (l ∷ []), is) refl
 months-more before l (Some m) is = rw (filter_map-append month_on before (l ∷ []), is) refl
 
+-- ---- one line more
+
 -- a line of none of the elements is passed over
-pub read-passed : (r : Reader) (l : FileLine) → read_month l.bytes ≡ Ok None → (before : List FileLine)
-    → HasReadLines r before → HasReadLines r (before ++ l ∷ [])
-read-passed r l is before read =
+pub read-passed : (r : Reader) (l : FileLine) → read_month l.bytes ≡ Ok None → (stations : List Station) (keep : Keep)
+    (before : List FileLine) → HasReadFor r stations keep before → HasReadFor r stations keep (before ++ l ∷ [])
+read-passed r l is stations keep before for =
+    let read = for.read in
     record {
-      months = rw (months-more before l None (ap month_if_ok is), append-nil (filter_map month_on before)) read.months;
-      right = no_fault-more (daily_fault r.stations) before l read.right (rw is refl);
+      listed = for.listed;
+      kept = for.kept;
+      read = record {
+        months = rw (months-more before l None (ap month_if_ok is), append-nil (filter_map month_on before)) read.months;
+        right = no_fault-more (daily_fault r.stations) before l read.right (rw is refl);
+      };
     }
 
 -- a line that is a new month is read
 pub read-month : (old new : Reader) (l : FileLine) (m : Month) → read_month l.bytes ≡ Ok (Some m)
-    → new.stations ≡ old.stations
-    → ReadsMonth old new m true → (before : List FileLine) → HasReadLines old before
-    → HasReadLines new (before ++ l ∷ [])
-read-month old new l m is stations adds before read =
+    → new.stations ≡ old.stations → new.keep ≡ old.keep → ReadsMonth old new m true → (stations : List Station)
+    (keep : Keep) (before : List FileLine) → HasReadFor old stations keep before
+    → HasReadFor new stations keep (before ++ l ∷ [])
+read-month old new l m is same kept adds stations keep before for =
+    let read = for.read in
     let months = filter_map month_on before in
     let none : daily_fault old.stations before l ≡ None =
     rw (is, not-true (is_listed old.stations m.id && repeats before m) (sym (adds.is_new months read.months))) refl in
     record {
-      months = rw (months-more before l (Some m) (ap month_if_ok is)) (adds.holds months read.months);
-      right = rw stations (no_fault-more (daily_fault old.stations) before l read.right none);
+      listed = same ∙ for.listed;
+      kept = kept ∙ for.kept;
+      read = record {
+        months = rw (months-more before l (Some m) (ap month_if_ok is)) (adds.holds months read.months);
+        right = rw same (no_fault-more (daily_fault old.stations) before l read.right none);
+      };
     }
 
 -- a line that is a month of an earlier line is the first with a fault
 pub refused-month : (old new : Reader) (l : FileLine) (m : Month) → read_month l.bytes ≡ Ok (Some m)
-    → ReadsMonth old new m false → (before : List FileLine) → HasReadLines old before
-    → IsLineRefusal old.stations (before ++ l ∷ []) (DailyLine l.file l.line DuplicateMonth)
-refused-month old new l m is adds before read =
-    let again = sym (adds.is_new (filter_map month_on before) read.months) in (
+    → ReadsMonth old new m false → (stations : List Station) (keep : Keep) (before : List FileLine)
+    → HasReadFor old stations keep before
+    → IsLineRefusal stations (before ++ l ∷ []) (DailyLine l.file l.line DuplicateMonth)
+refused-month old new l m is adds stations keep before for =
+    let again = sym (adds.is_new (filter_map month_on before) for.read.months) in
+    rw (← for.listed) (
       l,
       record {
         before = before;
         behind = [];
         place = refl;
         here = rw (is, not-false (is_listed old.stations m.id && repeats before m) again) refl;
-        none_before = read.right;
+        none_before = for.read.right;
       },
     )
+
+-- ---- what stands on a line
+
+-- a line that is passed over has none of the elements
+none_read : (short : Bool) (e : Option Element) (line : List ℕ) → cond short (Err Short) (month_if e line) ≡ Ok None
+    → is_some e ≡ false
+none_read true e line is = absurd cc
+none_read false None line is = refl
+none_read false (Some x) line is =
+    elim (month_why line) as (λ w. unless w (Some (month_of x line)) ≡ Ok None → true ≡ false) [
+      | None ↦ λ is. absurd cc
+      | Some why ↦ λ is. absurd cc
+    ] is
+
+-- a line of a month has one
+some_read : (short : Bool) (e : Option Element) (line : List ℕ) (m : Month)
+    → cond short (Err Short) (month_if e line) ≡ Ok (Some m) → is_some e ≡ true
+some_read true e line m is = absurd cc
+some_read false None line m is = absurd cc
+some_read false (Some x) line m is = refl
+
+-- a line that is passed over is of another code
+pub other_kind : (line : List ℕ) → read_month line ≡ Ok None → is_blank line ≡ false → Other ≡ kind_of line
+other_kind line is some =
+    rw (some, none_read (nat_lt (length line) 21) (element_of (columns 18 21 line)) line is) refl
+
+-- a line of a month is one of the elements
+pub element_kind : (line : List ℕ) (m : Month) → read_month line ≡ Ok (Some m) → is_blank line ≡ false
+    → OfElement ≡ kind_of line
+element_kind line m is some =
+    rw (some, some_read (nat_lt (length line) 21) (element_of (columns 18 21 line)) line m is) refl
+
+-- ---- lines behind
 
 -- more lines behind change no fault
 pub refused_among : (stations : List Station) (ls more : List FileLine) (f : DataFault) → IsLineRefusal stations ls f

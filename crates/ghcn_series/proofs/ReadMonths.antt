@@ -1,6 +1,6 @@
 -- A reader that has read one month more.
 use Rattle.std.proofs.Common.{◌≡◌, ℕ, zero, suc, ◌+◌, ◌<◌, Bool, true, false, cond, not, List, [], ◌∷◌, ◌++◌, length}
-use Rattle.std.proofs.Common.{take, get_or, Result, Ok, Err, Option, None, Some, refl, sym, ap, ◌∙◌, arith, subst}
+use Rattle.std.proofs.Common.{take, get_or, Result, Ok, Err, None, Some, refl, sym, ap, ◌∙◌, arith, subst}
 use Rattle.std.proofs.Common.{add-zero, zero-add}
 use Rattle.std.specs.Prelude.{◌&&◌, OnOk}
 use Rattle.std.specs.Bool.{OnTrue}
@@ -16,6 +16,7 @@ use Rattle.ghcn_fields.specs.declared.memory.Memory.{Memory}
 use Rattle.ghcn_files.specs.declared.station.StationId.{StationId}
 use Rattle.ghcn_files.specs.declared.station.Station.{Station}
 use Rattle.ghcn_files.specs.declared.element.Element.{Element}
+use Rattle.ghcn_files.specs.declared.element.Keep.{Keep}
 use Rattle.ghcn_files.specs.declared.month.Month.{Month}
 use Rattle.ghcn_files.specs.Ids.{same_id}
 use Rattle.ghcn_files.specs.Elements.{elements, same_element}
@@ -39,7 +40,7 @@ none_more : (before : List Month) (m : Month) (id : StationId) → same_id m.id 
 none_more before m id other none = rw (list_any-append (λ x. same_id x.id id) before (m ∷ []), none, other)
 
 -- a month of another station changes no gathering of a station
-station-other : (asked : Option Element) (before : List Month) (m : Month) (s : Station) (g : StationGathering)
+station-other : (asked : Keep) (before : List Month) (m : Month) (s : Station) (g : StationGathering)
     → same_id m.id s.id ≡ false → IsStationOf asked before s g → IsStationOf asked (before ++ m ∷ []) s g
 station-other asked before m s g other is =
     let apart : same_id m.id g.id ≡ false = ap (same_id m.id) is.id ∙ other in
@@ -54,7 +55,7 @@ station-other asked before m s g other is =
         (none Prcp, (none Snow, (none Snwd, (none Tmax, (none Tmin, tt))))) holds
 
 -- a month of none of these stations changes none of them
-stations-other : (asked : Option Element) (before : List Month) (m : Month) (ss : List Station)
+stations-other : (asked : Keep) (before : List Month) (m : Month) (ss : List Station)
     (gs : List StationGathering) → AllByRecursion (λ i. same_id m.id i ≡ false) (ids ss)
     → AllZip (IsStationOf asked before) ss gs
     → AllZip (IsStationOf asked (before ++ m ∷ [])) ss gs
@@ -67,7 +68,7 @@ stations-other asked before m (s ∷ ss) (g ∷ gs) other is = (
 )
 
 -- a month more of the station at a place
-pub put_station : (asked : Option Element) (before : List Month) (m : Month) (ss : List Station)
+pub put_station : (asked : Keep) (before : List Month) (m : Month) (ss : List Station)
     (gs : List StationGathering) (k : ℕ) (s : Station) (g new : StationGathering) → IsDistinct same_id (ids ss)
     → slice_get ss k ≡ Some s → s.id ≡ m.id
     → AllZip (IsStationOf asked before) ss gs → g ≡ get_or gs k g → new.id ≡ g.id
@@ -107,7 +108,7 @@ pub capped : (n : ℕ) → in_64_bits (in_64_bits n + 1) ≡ in_64_bits (n + 1)
 capped n = omega arith
 
 -- the gathering at a place is of the station there
-station_at : (asked : Option Element) (before : List Month) (ss : List Station) (gs : List StationGathering) (k : ℕ)
+station_at : (asked : Keep) (before : List Month) (ss : List Station) (gs : List StationGathering) (k : ℕ)
     (s : Station) (g : StationGathering) → AllZip (IsStationOf asked before) ss gs → slice_get ss k ≡ Some s
     → g ≡ get_or gs k g
     → IsStationOf asked before s g
@@ -122,35 +123,35 @@ pub own_id : (before : List Month) (r : Reader) (id : StationId) (k : ℕ) (g : 
     → place_of r.stations id ≡ Some k → g ≡ get_or r.gathered.items k g → id ≡ g.id
 own_id before r id k g is place here =
     let at = listed-is r.stations id k place in
-    let station = station_at r.element before r.stations r.gathered.items k at.0.0 g is.gathered at.0.1 here in
+    let station = station_at r.keep before r.stations r.gathered.items k at.0.0 g is.gathered at.0.1 here in
     sym (station.id ∙ at.0.2)
 
 -- and what these months say of that station
 pub own_months : (before : List Month) (r : Reader) (id : StationId) (k : ℕ) (g : StationGathering) → HasRead r before
     → place_of r.stations id ≡ Some k → g ≡ get_or r.gathered.items k g
-    → AreByElement r.element before g.id g.by_element.items
+    → AreByElement r.keep before g.id g.by_element.items
 own_months before r id k g is place here =
     let at = listed-is r.stations id k place in
-    (station_at r.element before r.stations r.gathered.items k at.0.0 g is.gathered at.0.1 here).holds
+    (station_at r.keep before r.stations r.gathered.items k at.0.0 g is.gathered at.0.1 here).holds
 
 -- a month of a listed station is read
 pub read-listed : (old new : Reader) (m : Month) (k : ℕ) (g now : StationGathering) (added : Bool)
     → place_of old.stations m.id ≡ Some k → g ≡ get_or old.gathered.items k g → now.id ≡ g.id
-    → GathersAt old.element g now m added
-    → new.element ≡ old.element → new.stations ≡ old.stations → new.unlisted ≡ old.unlisted
+    → GathersAt old.keep g now m added
+    → new.keep ≡ old.keep → new.stations ≡ old.stations → new.unlisted ≡ old.unlisted
     → new.gathered.items ≡ set old.gathered.items k now → AllByRecursion AreEmpty new.spare.items
     → (before : List Month) → IsMonth m → HasRead old before
     → (added ≡ not (is_listed old.stations m.id && list_any (same_month m) before))
     × OnTrue added (HasRead new (before ++ m ∷ []))
 read-listed old new m k g now added place here same adds element stations unlisted gathered spare before right is =
     let at = listed-is old.stations m.id k place in
-    let station = station_at old.element before old.stations old.gathered.items k at.0.0 g is.gathered at.0.1 here in (
+    let station = station_at old.keep before old.stations old.gathered.items k at.0.0 g is.gathered at.0.1 here in (
       adds.is_new before station.holds ∙ ap (λ (b : Bool). not (b && list_any (same_month m) before)) (sym at.1),
       OnTrue_from added _ (λ yes. record {
         listed = rw stations is.listed;
         right = both_all IsMonth before (m ∷ []) is.right (right, tt);
         unlisted = rw (stations, count_more old.stations before m true at.1, add-zero) (unlisted ∙ is.unlisted);
-        gathered = rw (element, stations, gathered) (put_station old.element before m old.stations old.gathered.items k
+        gathered = rw (element, stations, gathered) (put_station old.keep before m old.stations old.gathered.items k
             at.0.0 g now is.listed.distinct at.0.1 at.0.2 is.gathered here same
             (λ _. OnTrue_at yes (adds.holds before station.holds)));
         spare = spare;
@@ -159,13 +160,13 @@ read-listed old new m k g now added place here same adds element stations unlist
 
 -- a month of a station that isn't listed is passed over and counted
 pub read-unlisted : (old new : Reader) (m : Month) → is_listed old.stations m.id ≡ false
-    → new.element ≡ old.element → new.stations ≡ old.stations → new.gathered.items ≡ old.gathered.items
+    → new.keep ≡ old.keep → new.stations ≡ old.stations → new.gathered.items ≡ old.gathered.items
     → new.spare.items ≡ old.spare.items → new.unlisted ≡ in_64_bits (old.unlisted + 1)
     → (before : List Month) → IsMonth m → HasRead old before
     → (true ≡ not (is_listed old.stations m.id && list_any (same_month m) before)) × HasRead new (before ++ m ∷ [])
 read-unlisted old new m none element stations gathered spare unlisted before right is =
     let others = apart old.stations none in
-    let kept = stations-other old.element before m old.stations old.gathered.items others is.gathered in (
+    let kept = stations-other old.keep before m old.stations old.gathered.items others is.gathered in (
       ap (λ (b : Bool). not (b && list_any (same_month m) before)) (sym none),
       record {
         listed = rw stations is.listed;
@@ -185,7 +186,7 @@ read-unlisted old new m none element stations gathered spare unlisted before rig
         (same_id-turned m.id x.id ∙ both.0, apart xs both.1)
 
 -- one station more, of which nothing was read
-pub station-new : (asked : Option Element) (ss : List Station) (gs : List StationGathering) (k : ℕ) (s : Station)
+pub station-new : (asked : Keep) (ss : List Station) (gs : List StationGathering) (k : ℕ) (s : Station)
     (g : StationGathering)
     → slice_get ss k ≡ Some s → g.id ≡ s.id → g.by_element.items ≡ [] → AllZip (IsStationOf asked []) (take k ss) gs
     → AllZip (IsStationOf asked []) (take (suc k) ss) (gs ++ g ∷ [])
@@ -218,7 +219,7 @@ within_gathered months r id k is place = omega (
 -- the days of one station stand in memory of their own, where that was given
 pub read-settled : (old new : Reader) (k : ℕ) (g now : StationGathering) (result : Result (Unit {0}) Memory)
     → g ≡ get_or old.gathered.items k g → now.id ≡ g.id → OnOk result (StationKeepsMonths g now)
-    → new.element ≡ old.element → new.stations ≡ old.stations → new.unlisted ≡ old.unlisted
+    → new.keep ≡ old.keep → new.stations ≡ old.stations → new.unlisted ≡ old.unlisted
     → new.gathered.items ≡ set old.gathered.items k now → AllByRecursion AreEmpty new.spare.items
     → OnOk result (KeepsRead old new)
 read-settled old new k g now (Err memory) here same keeps element stations unlisted gathered spare = tt
@@ -227,9 +228,9 @@ read-settled old new k g now (Ok done) here same keeps element stations unlisted
     listed = rw stations is.listed;
     right = is.right;
     unlisted = rw stations (unlisted ∙ is.unlisted);
-    gathered = rw (element, stations, gathered) (set_second (IsStationOf old.element before) old.stations
+    gathered = rw (element, stations, gathered) (set_second (IsStationOf old.keep before) old.stations
         old.gathered.items k g now is.gathered here (λ s of.
-        record { id = same ∙ of.id; holds = keeps.holds old.element before of.holds }));
+        record { id = same ∙ of.id; holds = keeps.holds old.keep before of.holds }));
     spare = spare;
   };
 }

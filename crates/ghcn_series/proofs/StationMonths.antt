@@ -1,6 +1,6 @@
 -- The months of one station, by element.
 use Rattle.std.proofs.Common.{◌≡◌, ℕ, zero, suc, Bool, true, false, cond, not, List, [], ◌∷◌, ◌++◌, length, map, get_or}
-use Rattle.std.proofs.Common.{Option, Some, refl, sym, ap, ◌∙◌}
+use Rattle.std.proofs.Common.{Some, refl, sym, ap, ◌∙◌}
 use Rattle.std.specs.Prelude.{◌==◌, ◌&&◌, ◌||◌}
 use Rattle.std.specs.List.{list_any, slice_get, AllZip, AllByRecursion, IsDistinct}
 use Rattle.std.specs.Cmp.{nat_eq_equiv}
@@ -16,6 +16,7 @@ use Rattle.ghcn_series.specs.declared.station.StationGathering.{StationGathering
 use Rattle.ghcn_series.proofs.ListFacts.{from_all, weaken, set_first}
 use Rattle.ghcn_files.specs.declared.station.StationId.{StationId}
 use Rattle.ghcn_files.specs.declared.element.Element.{Element}
+use Rattle.ghcn_files.specs.declared.element.Keep.{Keep}
 use Rattle.ghcn_files.specs.declared.element.Element.TheVariants.{Prcp, Snow, Snwd, Tmax, Tmin}
 use Rattle.ghcn_files.specs.declared.month.Month.{Month}
 use Rattle.ghcn_files.specs.Ids.{same_id}
@@ -35,7 +36,7 @@ months_of-none (m ∷ ms) id e none =
     rw both.0 (months_of-none ms id e both.1)
 
 -- gatherings of nothing fit a station without a month
-empty_zip : (asked : Option Element) (months : List Month) (id : StationId) (gs : List Gathering) (es : List Element)
+empty_zip : (asked : Keep) (months : List Month) (id : StationId) (gs : List Gathering) (es : List Element)
     → list_any (λ m. same_id m.id id) months ≡ false → map (λ g. g.element) gs ≡ es
     → AllByRecursion GathersNothing gs → AllZip (IsGatheringOf asked months id) gs es
 empty_zip asked months id [] [] none is all = tt
@@ -49,7 +50,7 @@ empty_zip asked months id (g ∷ gs) (e ∷ es) none is all =
     )
 
 -- gatherings of nothing, where there were none
-pub by_element-new : (asked : Option Element) (months : List Month) (id : StationId) (before after : List Gathering)
+pub by_element-new : (asked : Keep) (months : List Month) (id : StationId) (before after : List Gathering)
     → (length before ≡ 5 → ⊥) → AreByElement asked months id before
     → map (λ g. g.element) after ≡ elements → AllByRecursion GathersNothing after
     → AllZip (IsGatheringOf asked months id) after elements
@@ -77,14 +78,14 @@ months_of-this before m id e this =
     rw (filter-append (λ x. same_id x.id id && same_element x.element e) before (m ∷ []), this)
 
 -- a month of another station or element changes no gathering
-pub gathering-other : (asked : Option Element) (before : List Month) (m : Month) (id : StationId) (g : Gathering)
+pub gathering-other : (asked : Keep) (before : List Month) (m : Month) (id : StationId) (g : Gathering)
     (e : Element) → (same_id m.id id && same_element m.element e) ≡ false → IsGatheringOf asked before id g e
     → IsGatheringOf asked (before ++ m ∷ []) id g e
 gathering-other asked before m id g e other is =
     record { element = is.element; holds = rw (months_of-other before m id e other) is.holds }
 
 -- a month of another station or of other elements changes none of these gatherings
-pub other_elements : (asked : Option Element) (before : List Month) (m : Month) (id : StationId) (gs : List Gathering)
+pub other_elements : (asked : Keep) (before : List Month) (m : Month) (id : StationId) (gs : List Gathering)
     (es : List Element) → AllByRecursion (λ e. (same_id m.id id && same_element m.element e) ≡ false) es
     → AllZip (IsGatheringOf asked before id) gs es → AllZip (IsGatheringOf asked (before ++ m ∷ []) id) gs es
 other_elements asked before m id [] [] other is = tt
@@ -102,7 +103,7 @@ same_here m id e of at =
     rw (← of, at, nat_list_eq_equiv.refl m.id.0) (nat_eq_equiv.refl (element_index m.element))
 
 -- a gathering with one month more, among those of other elements
-put_gathering : (asked : Option Element) (before : List Month) (m : Month) (id : StationId) (gs : List Gathering)
+put_gathering : (asked : Keep) (before : List Month) (m : Month) (id : StationId) (gs : List Gathering)
     (es : List Element) (k : ℕ) (g new : Gathering) → m.id ≡ id → IsDistinct same_element es
     → AllZip (IsGatheringOf asked before id) gs es → slice_get es k ≡ Some m.element → g ≡ get_or gs k g
     → new.element ≡ g.element
@@ -147,7 +148,7 @@ element_at Tmax = refl
 element_at Tmin = refl
 
 -- the gathering of an element has its months
-pub found_at : (asked : Option Element) (gs : List Gathering) (es : List Element) (months : List Month)
+pub found_at : (asked : Keep) (gs : List Gathering) (es : List Element) (months : List Month)
     (id : StationId) (k : ℕ) (e : Element) (g : Gathering) → AllZip (IsGatheringOf asked months id) gs es
     → slice_get es k ≡ Some e → g ≡ get_or gs k g → IsGathering (is_kept asked e) g (months_of months id e)
 found_at asked [] [] months id k e g is at here = absurd cc
@@ -158,7 +159,7 @@ found_at asked (x ∷ xs) (d ∷ ds) months id zero e g is at here =
 found_at asked (x ∷ xs) (d ∷ ds) months id (suc k) e g is at here = found_at asked xs ds months id k e g is.1 at here
 
 -- the gathering of an element has some months, with their days or without
-pub some_at : (asked : Option Element) (kept : Bool) (five : List Gathering) (before : List Month) (id : StationId)
+pub some_at : (asked : Keep) (kept : Bool) (five : List Gathering) (before : List Month) (id : StationId)
     (e : Element) (g : Gathering) → is_kept asked e ≡ kept → AllZip (IsGatheringOf asked before id) five elements
     → g ≡ get_or five (element_index e) g → GathersSome kept g
 some_at asked kept five before id e g is all here =
@@ -184,13 +185,13 @@ repeats-is (x ∷ xs) m = rw (
 ) (any_if (same_time m) (same_id x.id m.id) (same_element x.element m.element) x (months_of xs m.id m.element))
 
 -- five gatherings are gatherings by element
-kept_by_element : (asked : Option Element) (months : List Month) (id : StationId) (gs : List Gathering)
+kept_by_element : (asked : Keep) (months : List Month) (id : StationId) (gs : List Gathering)
     → AllZip (IsGatheringOf asked months id) gs elements → AreByElement asked months id gs
 kept_by_element asked months id [] is = absurd is
 kept_by_element asked months id (g ∷ gs) is = is
 
 -- gatherings by element, of which one has the months that it had
-pub settled_at : (asked : Option Element) (before : List Month) (id : StationId) (gs : List Gathering) (k : ℕ)
+pub settled_at : (asked : Keep) (before : List Month) (id : StationId) (gs : List Gathering) (k : ℕ)
     (g new : Gathering) → g ≡ get_or gs k g → new.element ≡ g.element → KeepsMonths g new
     → AreByElement asked before id gs → AreByElement asked before id (set gs k new)
 settled_at asked before id [] k g new here same keeps is = is
@@ -200,7 +201,7 @@ settled_at asked before id (x ∷ xs) k g new here same keeps is =
     record { element = same ∙ of.element; holds = keeps.holds (is_kept asked e) (months_of before id e) of.holds }))
 
 -- one month more of a station, unless it was read before, where the gathering of its element adds it
-pub station-more : (asked : Option Element) (m : Month) (old mid : StationGathering) (k : ℕ) (g now : Gathering)
+pub station-more : (asked : Keep) (m : Month) (old mid : StationGathering) (k : ℕ) (g now : Gathering)
     (added : Bool) → m.id ≡ old.id → Opens old mid → k ≡ element_index m.element → g ≡ get_or mid.by_element.items k g
     → now.element ≡ g.element → Gathers (is_kept asked m.element) g now m added
     → (before : List Month) → AreByElement asked before old.id old.by_element.items

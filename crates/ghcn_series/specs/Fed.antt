@@ -1,7 +1,7 @@
 -- Daily files as they come, and what a reader of them was fed.
-use Rattle.std.specs.Prelude.{ℕ, List, [], ◌∷◌, ◌++◌, Option, ⊤}
+use Rattle.std.specs.Prelude.{ℕ, List, [], ◌∷◌, ◌++◌, ⊤}
 use Rattle.ghcn_files.specs.declared.station.Station.{Station}
-use Rattle.ghcn_files.specs.declared.element.Element.{Element}
+use Rattle.ghcn_files.specs.declared.element.Keep.{Keep}
 use Rattle.ghcn_series.specs.declared.fault.DataFault.{DataFault}
 use Rattle.ghcn_series.specs.declared.fault.DataFault.TheVariants.{DailyLine, TooManyFiles, Memory}
 
@@ -31,19 +31,19 @@ and_current ended (b ∷ bytes) = ended ++ (b ∷ bytes) ∷ []
 abbrev pub files_of : Files → List (List ℕ)
 files_of files = and_current files.ended files.current
 
--- what was fed: of which element the series are kept, or of all where none is named; the stations; and the files
+-- what was fed: of which elements the series are kept, the stations, and the files
 pub record Fed : Type 0 where
-  pub element : Option Element
+  pub keep : Keep
   pub stations : List Station
   pub files : Files
 
--- nothing, for this element and these stations
-abbrev pub nothing_fed : Option Element → List Station → Fed
-nothing_fed element stations = record { element = element; stations = stations; files = ended_files [] }
+-- nothing, for these elements and stations
+abbrev pub nothing_fed : Keep → List Station → Fed
+nothing_fed keep stations = record { keep = keep; stations = stations; files = ended_files [] }
 
 -- with these files in place of those that were fed
 abbrev pub with_files : Fed → Files → Fed
-with_files fed files = record { element = fed.element; stations = fed.stations; files = files }
+with_files fed files = record { keep = fed.keep; stations = fed.stations; files = files }
 
 -- the fault is want of memory
 abbrev pub IsOfMemory : DataFault → Type 0

@@ -7,6 +7,7 @@ use Rattle.ghcn_fields.specs.Sorting.{sorted_by}
 use Rattle.ghcn_fields.specs.Faults.{HaveNoFault}
 use Rattle.ghcn_files.specs.declared.station.StationId.{StationId}
 use Rattle.ghcn_files.specs.declared.element.Element.{Element}
+use Rattle.ghcn_files.specs.declared.element.Keep.{Keep}
 use Rattle.ghcn_files.specs.declared.month.Month.{Month}
 use Rattle.ghcn_files.specs.declared.month.Reading.{Reading}
 use Rattle.ghcn_files.specs.Ids.{same_id}
@@ -77,18 +78,18 @@ abbrev pub months_of : List Month → StationId → Element → List Month
 months_of months id e = filter (λ m. same_id m.id id && same_element m.element e) months
 
 -- the gathering has what these months say of a station and element, where the days of one element are kept, or of all
-pub record IsGatheringOf (asked : Option Element) (months : List Month) (id : StationId) (g : Gathering) (e : Element)
+pub record IsGatheringOf (asked : Keep) (months : List Month) (id : StationId) (g : Gathering) (e : Element)
     : Type 0 where
   pub element : g.element ≡ e
   pub holds : IsGathering (is_kept asked e) g (months_of months id e)
 
 -- gatherings by element have what these months say of a station; where there are none, the station has no month
-abbrev pub AreByElement : Option Element → List Month → StationId → List Gathering → Type 0
+abbrev pub AreByElement : Keep → List Month → StationId → List Gathering → Type 0
 AreByElement asked months id [] = list_any (λ m. same_id m.id id) months ≡ false
 AreByElement asked months id (g ∷ gs) = AllZip (IsGatheringOf asked months id) (g ∷ gs) elements
 
 -- a station's gathering has what these months say of it
-pub record IsStationOf (asked : Option Element) (months : List Month) (s : Station) (g : StationGathering) : Type 0
+pub record IsStationOf (asked : Keep) (months : List Month) (s : Station) (g : StationGathering) : Type 0
   where
     pub id : g.id ≡ s.id
     pub holds : AreByElement asked months g.id g.by_element.items
@@ -115,13 +116,19 @@ pub record HasRead (r : Reader) (months : List Month) : Type 0 where
   pub listed : AreListed r.stations
   pub right : AllByRecursion IsMonth months
   pub unlisted : r.unlisted ≡ in_64_bits (count_by (λ m. not (is_listed r.stations m.id)) months)
-  pub gathered : AllZip (IsStationOf r.element months) r.stations r.gathered.items
+  pub gathered : AllZip (IsStationOf r.keep months) r.stations r.gathered.items
   pub spare : AllByRecursion AreEmpty r.spare.items
 
 -- a reader has read these lines, none of which has a fault
 pub record HasReadLines (r : Reader) (ls : List FileLine) : Type 0 where
   pub months : HasRead r (filter_map month_on ls)
   pub right : HaveNoFault (daily_fault r.stations) ls
+
+-- a reader has read these lines for these stations, and keeps the values of these elements
+pub record HasReadFor (r : Reader) (stations : List Station) (keep : Keep) (ls : List FileLine) : Type 0 where
+  pub listed : r.stations ≡ stations
+  pub kept : r.keep ≡ keep
+  pub read : HasReadLines r ls
 
 -- want of memory, or the fault of the first line that has one
 abbrev pub IsLineRefusal : List Station → List FileLine → DataFault → Type 0

@@ -7,6 +7,10 @@ pub mod SeenMonths
 pub mod Gathered
 pub mod Steps
 pub mod Fed
+pub mod LineKinds
+pub mod Counted
+pub mod LinesRead
+pub mod Cut
 pub mod Pieces
 pub mod Packed
 pub mod Parts

@@ -1,23 +1,21 @@
 -- What each step of the reading adds to what was read before it.
-use Rattle.std.specs.Prelude.{◌≡◌, ◌++◌, ◌∷◌, [], ◌&&◌, not, Bool, List, Option}
+use Rattle.std.specs.Prelude.{◌≡◌, ◌++◌, ◌∷◌, [], ◌&&◌, not, Bool, List}
 use Rattle.std.specs.Bool.{OnTrue}
 use Rattle.std.specs.List.{list_any, AllZip}
 use Rattle.ghcn_files.specs.declared.month.Month.{Month}
 use Rattle.ghcn_files.specs.declared.row.MonthRow.{MonthRow}
-use Rattle.ghcn_files.specs.declared.element.Element.{Element}
+use Rattle.ghcn_files.specs.declared.element.Keep.{Keep}
 use Rattle.ghcn_files.specs.Elements.{elements}
 use Rattle.ghcn_files.specs.Months.{IsMonth}
 use Rattle.ghcn_files.specs.Rows.{IsRowOf}
 use Rattle.ghcn_series.specs.declared.gathering.Gathering.{Gathering}
 use Rattle.ghcn_series.specs.declared.station.StationGathering.{StationGathering}
 use Rattle.ghcn_series.specs.declared.reader.Reader.{Reader}
-use Rattle.ghcn_series.specs.declared.fault.DataFault.{DataFault}
 use Rattle.ghcn_series.specs.Series.{Contents}
 use Rattle.ghcn_series.specs.DailyFaults.{FileLine, same_month, is_listed}
 use Rattle.ghcn_series.specs.Says.{contents}
 use Rattle.ghcn_series.specs.Kept.{kept}
 use Rattle.ghcn_series.specs.Gathered.{same_time, IsGathering, IsGatheringOf, AreByElement, HasRead, HasReadLines}
-use Rattle.ghcn_series.specs.Gathered.{IsLineRefusal}
 
 -- the row is that of some month, whose days are kept or aren't
 abbrev pub IsOfMonth : Bool → MonthRow → Type 0
@@ -47,20 +45,20 @@ pub record KeepsMonths (old new : Gathering) : Type 0 where
 
 -- a station has its five gatherings, with what it had before
 pub record Opens (old new : StationGathering) : Type 0 where
-  pub holds : (asked : Option Element) (before : List Month) → AreByElement asked before old.id old.by_element.items
+  pub holds : (asked : Keep) (before : List Month) → AreByElement asked before old.id old.by_element.items
       → AllZip (IsGatheringOf asked before old.id) new.by_element.items elements
 
 -- what a station has: some months
-abbrev pub StationGathersSome : Option Element → StationGathering → Type 0
+abbrev pub StationGathersSome : Keep → StationGathering → Type 0
 StationGathersSome asked s = (months : List Month) × AreByElement asked months s.id s.by_element.items
 
 -- a station has the months that it had
 pub record StationKeepsMonths (old new : StationGathering) : Type 0 where
-  pub holds : (asked : Option Element) (before : List Month) → AreByElement asked before old.id old.by_element.items
+  pub holds : (asked : Keep) (before : List Month) → AreByElement asked before old.id old.by_element.items
       → AreByElement asked before new.id new.by_element.items
 
 -- a station adds a month, unless it has that month
-pub record GathersAt (asked : Option Element) (old new : StationGathering) (m : Month) (added : Bool) : Type 0 where
+pub record GathersAt (asked : Keep) (old new : StationGathering) (m : Month) (added : Bool) : Type 0 where
   pub is_new : (before : List Month) → AreByElement asked before old.id old.by_element.items
       → added ≡ not (list_any (same_month m) before)
   pub holds : (before : List Month) → AreByElement asked before old.id old.by_element.items
@@ -77,17 +75,9 @@ pub record KeepsRead (old new : Reader) : Type 0 where
   pub holds : (before : List Month) → HasRead old before → HasRead new before
 
 -- what a reader has read: some lines
-abbrev pub HasReadSome : Reader → Type 0
-HasReadSome r = (ls : List FileLine) × HasReadLines r ls
-
--- a reader reads more lines behind those that it read
-pub record Reads (old new : Reader) (more : List FileLine) : Type 0 where
-  pub holds : (before : List FileLine) → HasReadLines old before → HasReadLines new (before ++ more)
-
--- a reader refuses more lines, for want of memory or for the first fault among all its lines
-pub record Refuses (old : Reader) (more : List FileLine) (fault : DataFault) : Type 0 where
-  pub first : (before : List FileLine) → HasReadLines old before → IsLineRefusal old.stations (before ++ more) fault
+abbrev pub HasSomeLines : Reader → Type 0
+HasSomeLines r = (ls : List FileLine) × HasReadLines r ls
 
 -- what is kept of all that a reader has read is held
 pub record HoldsAll (r : Reader) (held : Contents) : Type 0 where
-  pub is : (ls : List FileLine) → HasReadLines r ls → held ≡ kept r.element (contents r.stations ls)
+  pub is : (ls : List FileLine) → HasReadLines r ls → held ≡ kept r.keep (contents r.stations ls)

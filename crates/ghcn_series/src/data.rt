@@ -3,6 +3,7 @@
 ghost use Rattle.std.specs.Prelude.{◌≡◌, ◌<◌, ◌^◌, map, length, slice_get, Some, Ok, Err, IfOk, IfErr};
 ghost use Rattle.std.specs.List.{find};
 ghost use Rattle.std.specs.Option.{option_and_then, option_copied};
+ghost use Rattle.ghcn_files.specs.declared.element.Keep.TheVariants.{All, One};
 ghost use Rattle.ghcn_series.specs.Series.{series_of};
 ghost use Rattle.ghcn_fields.specs.Refusals.{IsRefusal};
 ghost use Rattle.ghcn_series.specs.DailyFaults.{is_memory, IsFirstRefusal};
@@ -11,7 +12,7 @@ ghost use Rattle.ghcn_series.specs.Held.{IsContents, AreByStation, contents, is_
 ghost use Rattle.ghcn_series.specs.Kept.{AreKept};
 
 use crate::{DataFault, DataReader, Series};
-use ghcn_files::{Element, StationId, Stations};
+use ghcn_files::{Element, Keep, StationId, Stations};
 use std::alloc::Global;
 use std::marker::Model;
 
@@ -48,7 +49,7 @@ impl Data {
         ensures first { IfErr result (λ fault. IsFirstRefusal fault stations (map (λ f. f.now) files.now)) }
         ensures many { 2 ^ 20 < length files.now → result ≡ Err DataFault.TooManyFiles }
     {
-        Data::read_kept(alloc, stations, files, None)
+        Data::read_kept(alloc, stations, files, Keep::All)
     }
 
     /// Reads daily files as `read` does, with the same faults, and keeps the series of one element.
@@ -58,23 +59,23 @@ impl Data {
         files: &[&[u8]],
         element: Element,
     ) -> Result<Self, DataFault>
-        ensures ok { IfOk result (AreKept (Some element) stations (map (λ f. f.now) files.now)) }
+        ensures ok { IfOk result (AreKept (One element) stations (map (λ f. f.now) files.now)) }
         ensures err { IfErr result (λ fault.
             IsRefusal is_memory fault (data_of stations (map (λ f. f.now) files.now))) }
         ensures first { IfErr result (λ fault. IsFirstRefusal fault stations (map (λ f. f.now) files.now)) }
         ensures many { 2 ^ 20 < length files.now → result ≡ Err DataFault.TooManyFiles }
     {
-        Data::read_kept(alloc, stations, files, Some(element))
+        Data::read_kept(alloc, stations, files, Keep::One(element))
     }
 
-    /// Reads daily files, and keeps the series of one element, or of all where none is named.
+    /// Reads daily files.
     fn read_kept(
         alloc: Global,
         stations: Stations,
         files: &[&[u8]],
-        element: Option<Element>,
+        keep: Keep,
     ) -> Result<Self, DataFault>
-        ensures ok { IfOk result (AreKept element stations (map (λ f. f.now) files.now)) }
+        ensures ok { IfOk result (AreKept keep stations (map (λ f. f.now) files.now)) }
         ensures err { IfErr result (λ fault.
             IsRefusal is_memory fault (data_of stations (map (λ f. f.now) files.now))) }
         ensures first { IfErr result (λ fault. IsFirstRefusal fault stations (map (λ f. f.now) files.now)) }
@@ -83,7 +84,7 @@ impl Data {
         if files.len() as u64 > MOST_FILES {
             return Err(DataFault::TooManyFiles);
         }
-        let mut reader = DataReader::of(alloc, stations, element)?;
+        let mut reader = DataReader::of(alloc, stations, keep)?;
         for file in files {
             reader.piece(file);
             reader.end_of_file();

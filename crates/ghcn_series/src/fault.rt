@@ -25,5 +25,5 @@ pub enum DataFault {
     #[error("refused 5 DailyLine file {file} line {line} {why}")]
     DailyLine { file: u64, line: u64, why: DailyWhy },
     #[error(transparent)]
-    Memory(Memory),
+    Memory(#[from] Memory),
 }

@@ -5,6 +5,8 @@
 #![tactic(auto)]
 
 mod columns;
+mod counts;
+mod cutter;
 mod data;
 mod days;
 mod fault;
@@ -16,8 +18,11 @@ mod reader;
 mod series;
 mod station;
 
+pub use counts::{Foreign, LineCounts, LineKind};
+pub use cutter::{Cut, Cutter, LineReader};
 pub use data::Data;
 pub use days::{BlockDays, Days};
 pub use fault::{DailyWhy, DataFault};
 pub use pieces::DataReader;
+pub use reader::Reader;
 pub use series::Series;

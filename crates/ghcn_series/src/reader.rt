@@ -1,26 +1,30 @@
 //! Reads the lines of daily files one after another.
 
-ghost use Rattle.std.specs.Prelude.{◌≡◌, ◌∷◌, [], IfOk, IfErr, OnOk};
+ghost use Rattle.std.specs.Prelude.{◌≡◌, ◌∷◌, [], false, IfOk, IfErr, OnOk};
+ghost use Rattle.ghcn_fields.specs.Bytes.{is_blank};
 ghost use Rattle.ghcn_files.specs.Elements.{is_kept};
 ghost use Rattle.ghcn_files.specs.Listed.{AreListed, place_of};
-ghost use Rattle.ghcn_series.specs.DailyFaults.{line_of, one_line};
-ghost use Rattle.ghcn_series.specs.Gathered.{HasRead};
-ghost use Rattle.ghcn_series.specs.Steps.{HasReadSome, Reads, Refuses, ReadsMonth, KeepsRead, HoldsAll};
-ghost use Rattle.ghcn_series.specs.Steps.{IsOfMonth, OfMonth};
+ghost use Rattle.ghcn_series.specs.DailyFaults.{line_of};
+ghost use Rattle.ghcn_series.specs.Gathered.{HasReadFor};
+ghost use Rattle.ghcn_series.specs.LineKinds.{kind_of};
+ghost use Rattle.ghcn_series.specs.LinesRead.{HasReadSome, Reads, Refuses};
+ghost use Rattle.ghcn_series.specs.Steps.{HasSomeLines, ReadsMonth, KeepsRead, HoldsAll, IsOfMonth, OfMonth};
 
+use crate::counts::LineKind;
+use crate::cutter::LineReader;
 use crate::parts::Parts;
 use crate::station::StationGathering;
 use crate::{DailyWhy, Data, DataFault};
 use ghcn_fields::{Memory, is_blank, without_return};
-use ghcn_files::{Element, MonthRow, StationId, Stations, read_days};
+use ghcn_files::{Keep, MonthRow, StationId, Stations, read_days};
 use std::alloc::Global;
 use std::mem;
 
 /// What was read so far.
 #[derive(Drop)]
-pub(crate) struct Reader {
-    /// The element whose series are kept; where there is none, those of all are.
-    element: Option<Element>,
+pub struct Reader {
+    /// Of which elements the days are kept.
+    keep: Keep,
     stations: Stations,
     /// Of each listed station, in their order.
     gathered: Vec<StationGathering>,
@@ -32,16 +36,30 @@ pub(crate) struct Reader {
     unlisted: u64,
 }
 
+impl LineReader for Reader {
+    ghost use Rattle.ghcn_series.specs.Gathered.{HasReadFor};
+
+    ghost has_read = { HasReadFor };
+
+    fn add(
+        &mut self,
+        alloc: Global,
+        file: u64,
+        line: u64,
+        bytes: &[u8],
+    ) -> Result<LineKind, DataFault> {
+        let bytes = without_return(bytes);
+        if is_blank(bytes) {
+            return Ok(LineKind::Blank);
+        }
+        self.add_line(alloc, file, line, bytes)
+    }
+}
+
 impl Reader {
     /// Nothing read yet.
-    pub(crate) fn new(
-        alloc: Global,
-        stations: Stations,
-        element: Option<Element>,
-    ) -> Result<Self, Memory>
-        ensures element { IfOk result (λ reader. reader.element ≡ element) }
-        ensures stations { IfOk result (λ reader. reader.stations ≡ stations) }
-        ensures read { IfOk result (λ reader. HasRead reader []) }
+    pub fn new(alloc: Global, stations: Stations, keep: Keep) -> Result<Self, Memory>
+        ensures { IfOk result (λ reader. HasReadFor reader stations keep []) }
     {
         let mut gathered = Vec::with_capacity(alloc, stations.len() as usize)?;
         let mut place = 0;
@@ -50,7 +68,7 @@ impl Reader {
             place += 1;
         }
         Ok(Reader {
-            element,
+            keep,
             stations,
             gathered,
             last: 0,
@@ -59,30 +77,9 @@ impl Reader {
         })
     }
 
-    /// Adds a line as it stands before its line feed, unless it is blank.
-    pub(crate) fn add(
-        &mut self,
-        alloc: Global,
-        file: u64,
-        line: u64,
-        bytes: &[u8],
-    ) -> Result<(), DataFault>
-        requires { HasReadSome self.old }
-        ensures element { self.new.element ≡ self.old.element }
-        ensures stations { self.new.stations ≡ self.old.stations }
-        ensures read { OnOk result (Reads self.old self.new (one_line file line bytes.now)) }
-        ensures fault { IfErr result (Refuses self.old (one_line file line bytes.now)) }
-    {
-        let bytes = without_return(bytes);
-        if is_blank(bytes) {
-            return Ok(());
-        }
-        self.add_line(alloc, file, line, bytes)
-    }
-
     /// The data of all lines that were read.
     pub(crate) fn finish(self, alloc: Global) -> Result<Data, Memory>
-        requires { HasReadSome self }
+        requires { HasSomeLines self }
         ensures { IfOk result (HoldsAll self) }
     {
         let Reader {
@@ -105,38 +102,37 @@ impl Reader {
         file: u64,
         line: u64,
         bytes: &[u8],
-    ) -> Result<(), DataFault>
-        requires { HasReadSome self.old }
-        ensures element { self.new.element ≡ self.old.element }
-        ensures stations { self.new.stations ≡ self.old.stations }
-        ensures read { OnOk result (Reads self.old self.new (line_of file (line, bytes.now) ∷ [])) }
-        ensures fault { IfErr result (Refuses self.old (line_of file (line, bytes.now) ∷ [])) }
+    ) -> Result<LineKind, DataFault>
+        requires { HasReadSome HasReadFor self.old }
+        ensures kind { IfOk result (λ kind. is_blank bytes.now ≡ false → kind ≡ kind_of bytes.now) }
+        ensures read { OnOk result (Reads HasReadFor self.old self.new (line_of file (line, bytes.now) ∷ [])) }
+        ensures fault { IfErr result (Refuses HasReadFor self.old (line_of file (line, bytes.now) ∷ [])) }
     {
-        let row = match read_days(bytes, self.element) {
+        let row = match read_days(bytes, self.keep) {
             Ok(Some(row)) => row,
-            Ok(None) => return Ok(()),
+            Ok(None) => return Ok(LineKind::Other),
             Err(why) => return Err(refused(file, line, DailyWhy::Line(why))),
         };
         match self.add_month(alloc, &row) {
-            Ok(true) => Ok(()),
+            Ok(true) => Ok(LineKind::OfElement),
             Ok(false) => Err(refused(file, line, DailyWhy::DuplicateMonth)),
             Err(memory) => Err(DataFault::Memory(memory)),
         }
     }
 
     /// Adds a month, or answers false where its station is listed and has that month already.
-    fn add_month(&mut self, alloc: Global, row: &MonthRow) -> Result<bool, Memory>
-        requires right { IsOfMonth (is_kept self.old.element row.now.element) row.now }
-        requires read { HasReadSome self.old }
-        ensures element { self.new.element ≡ self.old.element }
+    pub fn add_month(&mut self, alloc: Global, row: &MonthRow) -> Result<bool, Memory>
+        requires right { IsOfMonth (is_kept self.old.keep row.now.element) row.now }
+        requires read { HasSomeLines self.old }
+        ensures keep { self.new.keep ≡ self.old.keep }
         ensures stations { self.new.stations ≡ self.old.stations }
-        ensures added { IfOk result (λ added. OfMonth (is_kept self.old.element row.now.element) row.now
+        ensures added { IfOk result (λ added. OfMonth (is_kept self.old.keep row.now.element) row.now
             (λ m. ReadsMonth self.old self.new m added)) }
     {
         match self.place(&row.id) {
             Some(place) => {
                 self.turn_to(alloc, place)?;
-                self.gathered[place].add(alloc, row, self.element, &mut self.spare)
+                self.gathered[place].add(alloc, row, self.keep, &mut self.spare)
             }
             None => {
                 self.unlisted = self.unlisted.saturating_add(1);
@@ -148,8 +144,8 @@ impl Reader {
     /// Notes whose lines come now. The days of the station before stay behind in memory of exactly
     /// their size.
     fn turn_to(&mut self, alloc: Global, place: usize) -> Result<(), Memory>
-        requires { HasReadSome self.old }
-        ensures element { self.new.element ≡ self.old.element }
+        requires { HasSomeLines self.old }
+        ensures keep { self.new.keep ≡ self.old.keep }
         ensures stations { self.new.stations ≡ self.old.stations }
         ensures same { OnOk result (KeepsRead self.old self.new) }
     {
@@ -164,7 +160,7 @@ impl Reader {
     }
 
     /// The place of a station in the list.
-    fn place(&self, id: &StationId) -> Option<usize>
+    pub fn place(&self, id: &StationId) -> Option<usize>
         requires { AreListed self.now.stations }
         ensures { result ≡ place_of self.now.stations id.now }
     {

@@ -13,7 +13,7 @@ use crate::Series;
 use crate::gathering::Gathering;
 use crate::parts::Parts;
 use ghcn_fields::Memory;
-use ghcn_files::{Element, MonthRow, StationId};
+use ghcn_files::{Element, Keep, MonthRow, StationId};
 use std::alloc::Global;
 
 /// The elements in the order in which a station's series are kept.
@@ -48,13 +48,12 @@ impl StationGathering {
         }
     }
 
-    /// Adds a month of the station, or answers false where that month was added before. The days of
-    /// one element are kept, or of all where none is asked for.
+    /// Adds a month of the station, or answers false where that month was added before.
     pub(crate) fn add(
         &mut self,
         alloc: Global,
         row: &MonthRow,
-        asked: Option<Element>,
+        asked: Keep,
         spare: &mut Vec<Parts>,
     ) -> Result<bool, Memory>
         requires own { row.now.id ≡ self.old.id }

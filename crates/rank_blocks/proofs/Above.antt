@@ -1,13 +1,12 @@
 -- No candidate has a score above the bound.
-use Rattle.std.proofs.Common.{◌≡◌, ℕ, zero, suc, ◌*◌, ◌<◌, ◌≤◌, Bool, true, false, cond, List, [], ◌∷◌, map}
-use Rattle.std.proofs.Common.{filter, Option, Some, None, refl, sym, ap, ◌∙◌, subst, arith, ℤ, pos, neg_ℤ, ◌≤ℤ◌}
-use Rattle.std.proofs.Common.{◌+ℤ◌, ◌*ℤ◌}
-use Rattle.std.specs.Prelude.{◌&&◌, ◌||◌, int_le, ◌-ℤ◌}
-use Rattle.std.specs.List.{AllByRecursion, Contains, filter_map, list_all, find}
-use Rattle.std.specs.Option.{option_map}
-use Rattle.std.specs.Ordering.{int_eq}
+use Rattle.std.proofs.Common.{◌≡◌, ℕ, zero, suc, ◌*◌, ◌<◌, ◌≤◌, Bool, true, false, cond, List, [], ◌∷◌, map, filter}
+use Rattle.std.proofs.Common.{inl, inr, Option, Some, None, refl, sym, ap, ◌∙◌, subst, arith, ℤ, pos, neg_ℤ, ◌≤ℤ◌, ◌+ℤ◌}
+use Rattle.std.proofs.Common.{◌*ℤ◌, ◌&&◌, ◌-ℤ◌, Contains, filter_map, find, option_map, int_eq}
+use Rattle.std.specs.List.{AllByRecursion}
 use Rattle.std.proofs.lemmas.Bool.Decides.{Decides-int_eq}
 use Rattle.std.proofs.lemmas.Int.{ints, clamps}
+use Rattle.std.proofs.lemmas.List.Elements.{All-contains}
+use Rattle.std.proofs.lemmas.List.Sums.{AllPass-from_list_all}
 use Rattle.ghcn_fields.specs.Days.{block_of, is_day}
 use Rattle.ghcn_files.specs.declared.station.StationId.{StationId}
 use Rattle.ghcn_files.specs.declared.element.Element.{Element}
@@ -20,84 +19,56 @@ use Rattle.rank_query.specs.Admits.{admits_day}
 use Rattle.rank_scores.specs.Candidates.{Days, Windows, Spells, shape, is_dry, is_wet, is_hot, is_such, plus}
 use Rattle.rank_scores.specs.Candidates.{window_total, begun, candidate, candidates_among, admitted}
 use Rattle.rank_scores.specs.Runs.{run_from, run_len, begins_run, calendar_len}
-use Rattle.rank_scores.specs.Morsels.{IsAbove}
+use Rattle.rank_scores.proofs.Runs.{counted}
 use Rattle.rank_blocks.specs.Blocks.{total, blocks_total, is_among, is_reached, days_reached}
 use Rattle.rank_blocks.specs.Bounds.{blocks_of_window, holds_such}
-use Rattle.rank_blocks.specs.Greatest.{IsGreatest, IsScore, IsRunLength, IsSumBound, IsBlocksBound, IsBoundFor, IsBound}
+use Rattle.rank_blocks.specs.Greatest.{IsGreatest, IsScore, IsRunLength, IsSumBound, IsBlocksBound, IsBoundFor}
 use Rattle.rank_blocks.proofs.HotBlocks.{such-holds, days-greatest}
-use Rattle.rank_blocks.proofs.Members.{from_each, each, all-kept, all-passing, stands, total-least, total-wider}
-use Rattle.rank_blocks.proofs.Members.{filter-both, total-cons, part-wider}
-use Rattle.rank_blocks.proofs.DayTests.{both_pass, int_le-true}
-use Rattle.rank_blocks.proofs.DayValues.{block-holds, block-rises}
+use Rattle.rank_blocks.proofs.Members.{contains-first, contains-behind, for_each, of_each, of_kept, in_kept}
+use Rattle.rank_blocks.proofs.Members.{total-least, total-wider, filter-both, total-cons, part-wider}
+use Rattle.rank_blocks.proofs.DayValues.{both_pass, not_both, at_most_or_more, int_le-true, block-holds, block-rises}
 use Rattle.rank_blocks.proofs.WindowTotals.{among-from, among-parts, before-among}
-use Rattle.rank_blocks.proofs.ReachedDays.{admitted-reached, such-wider, value_on-among}
+use Rattle.rank_blocks.proofs.ReachedDays.{admitted-reached, such-wider, value_on-in}
 
 -- ---- what begins on a day
 
-module _ (id : StationId) (f : DayValue → Option (ℤ × ℤ)) (bound : ℤ) where
-  -- where nothing that begins on a day scores more, no candidate does
-  pub candidates-below : (days : List DayValue) → AllByRecursion (λ x. (e : ℤ × ℤ) → f x ≡ Some e → e.1 ≤ℤ bound) days
-      → AllByRecursion (λ c. c.score ≤ℤ bound) (filter_map (λ x. option_map (candidate id x.0) (f x)) days)
-  candidates-below [] h = tt
-  candidates-below (x ∷ xs) h = grind (arith, ints, candidates-below xs h.1)
+-- where nothing that begins on a day scores more, no candidate does
+candidates-below : (id : StationId) (f : DayValue → Option (ℤ × ℤ)) (bound : ℤ) (days : List DayValue)
+    → ((x : DayValue) → Contains days x → (e : ℤ × ℤ) → f x ≡ Some e → e.1 ≤ℤ bound)
+    → AllByRecursion (λ c. c.score ≤ℤ bound) (filter_map (λ x. option_map (candidate id x.0) (f x)) days)
+candidates-below id f bound [] below = tt
+candidates-below id f bound (x ∷ xs) below =
+    let here = below x (contains-first x x xs refl) in
+    let rest = candidates-below id f bound xs (λ y has. below y (contains-behind x y xs has)) in
+    grind (arith, ints, here, rest)
 
 -- ---- single days
+
+-- what is made of the value of an admitted day is at most the greatest of the days reached
+below-greatest : (f : ℤ → ℤ) (q : Asked) (s : Usable) (z : ℤ) → IsGreatest (IsScore f (days_reached q s)) z
+    → (x : DayValue) → Contains (admitted q s) x → f x.1 ≤ℤ z
+below-greatest f q s z of_z x has =
+    let day = of_kept (λ x. admits_day q x.0) s.days x has in
+    of_z.is_most (f x.1) (in_kept (λ y. f y.1) (λ y. is_reached q.period (block_of y.0)) s.days x day.0
+    (admitted-reached q x.0 day.1))
 
 -- a day's own score is at most the greatest
 pub days-below : (f : ℤ → ℤ) (q : Asked) (s : Usable) (z : ℤ) → IsGreatest (IsScore f (days_reached q s)) z
     → AllByRecursion (λ c. c.score ≤ℤ z) (candidates_among s.id (Days f) (admitted q s))
-days-below f q s z of_z =
-    let Stands : DayValue → Type 0 = λ x. is_reached q.period (block_of x.0) ≡ true
-    → Contains (map (λ y. f y.1) (days_reached q s)) (f x.1) in
-    candidates-below s.id (λ x. Some (x.0, f x.1)) z (admitted q s)
-    (from_each (λ x. Stands x × (admits_day q x.0 ≡ true)) (λ x. (e : ℤ × ℤ) → Some (x.0, f x.1) ≡ Some e → e.1 ≤ℤ z)
-    (admitted q s)
-    (λ x h e is.
-    let below = of_z.is_most (f x.1) (h.0 (admitted-reached q x.0 h.1)) in
+days-below f q s z of_z = candidates-below s.id (λ x. Some (x.0, f x.1)) z (admitted q s) (λ x has e is.
     let pair : (x.0, f x.1) ≡ e = cc in
     let score : f x.1 ≡ e.1 = ap (λ (p : ℤ × ℤ). p.1) pair in
-    let P : ℤ → Type 0 = λ n. n ≤ℤ z in
-    subst P score below)
-    (all-passing Stands (λ x. admits_day q x.0) s.days
-    (stands (λ y. f y.1) (λ x. is_reached q.period (block_of x.0)) s.days)))
+    omega (arith, ints, below-greatest f q s z of_z x has))
 
 -- ---- spells
 
-module _ (such : ℤ → Bool) where
-  -- a number that passes makes the run behind it longer by one
-  run-more : (n : ℕ) (a : ℤ) → such a ≡ true → run_from such (suc n) a ≡ suc (run_from such n (a +ℤ pos 1))
-  unfolding run_from
-  run-more n a e = ap (λ (b : Bool). elim b as (λ _. ℕ) [ true ↦ suc (run_from such n (a +ℤ pos 1)) | false ↦ 0 ]) e
-
-  -- the numbers of a run pass
-  pub run-inside : (n i : ℕ) (a : ℤ) → i < run_from such n a → such (a +ℤ pos i) ≡ true
-  unfolding run_from
-  run-inside zero i a lt = absurd (omega arith)
-  run-inside (suc n) i a lt =
-      elim (such a) as (λ b. such a ≡ b
-      → i < elim b as (λ _. ℕ) [ true ↦ suc (run_from such n (a +ℤ pos 1)) | false ↦ 0 ] → such (a +ℤ pos i) ≡ true) [
-        | false ↦ λ e lt. absurd (omega arith)
-        | true ↦ λ e. elim i as (λ i. i < suc (run_from such n (a +ℤ pos 1)) → such (a +ℤ pos i) ≡ true) [
-          | zero ↦ λ lt. let same : a +ℤ pos 0 ≡ a = omega (arith, ints) in ap such same ∙ e
-          | suc j ↦ λ lt. let same : a +ℤ pos (suc j) ≡ (a +ℤ pos 1) +ℤ pos j = omega (arith, ints) in
-              ap such same ∙ run-inside n j (a +ℤ pos 1) (omega arith)
-        ]
-      ] refl lt
-
-  -- a run is at least as long as so many numbers that pass one after another
-  pub run-at_least : (len n : ℕ) (a : ℤ) → len ≤ n → ((i : ℕ) → i < len → such (a +ℤ pos i) ≡ true)
-      → len ≤ run_from such n a
-  run-at_least zero n a le pass = omega arith
-  run-at_least (suc len) zero a le pass = absurd (omega arith)
-  run-at_least (suc len) (suc n) a le pass =
-      let same : a +ℤ pos 0 ≡ a = omega (arith, ints) in
-      let first : such a ≡ true = ap such (sym same) ∙ pass 0 (omega arith) in
-      let more = run-more n a first in
-      let rest = run-at_least len n (a +ℤ pos 1) (omega arith)
-      (λ i lt.
-      let later : (a +ℤ pos 1) +ℤ pos i ≡ a +ℤ pos (suc i) = omega (arith, ints) in
-      ap such later ∙ pass (suc i) (omega arith)) in
-      omega arith
+-- a run is at least as long as so many numbers that pass one after another
+pub run-at_least : (such : ℤ → Bool) (len n : ℕ) (a : ℤ) → len ≤ n → ((i : ℕ) → i < len → such (a +ℤ pos i) ≡ true)
+    → len ≤ run_from such n a
+run-at_least such len n a le pass = elim (at_most_or_more len (run_from such n a)) [
+  | inl fits ↦ fits
+  | inr lt ↦ absurd (not_both _ (pass (run_from such n a) lt) ((counted such n a).stops (omega arith)))
+]
 
 -- the score of a spell that begins is its length
 spell-score : (b : Bool) (first : ℤ) (len : ℕ) (e : ℤ × ℤ) → cond {A = Option (ℤ × ℤ)} b
@@ -116,18 +87,15 @@ spells-under : (test wide : ℤ → Bool) (q : Asked) (s : Usable) (z : ℤ)
     → AllByRecursion (λ c. c.score ≤ℤ z) (candidates_among s.id (Spells test) (admitted q s))
 spells-under test wide q s z wider of_z =
     let such : ℤ → Bool = is_such test (admitted q s) in
-    candidates-below s.id (begun (Spells test) (admitted q s)) z (admitted q s)
-    (each (λ x. (e : ℤ × ℤ) → begun (Spells test) (admitted q s) x ≡ Some e → e.1 ≤ℤ z) (admitted q s)
-    (λ x e is.
+    candidates-below s.id (begun (Spells test) (admitted q s)) z (admitted q s) (λ x has e is.
     let score = spell-score (begins_run such x.0) x.0 (run_len such x.0) e is in
     let below = of_z.is_most (pos (run_len such x.0)) (
       run_len such x.0,
       x.0,
       refl,
-      λ i lt. wider (x.0 +ℤ pos i) (run-inside such calendar_len i x.0 lt),
+      λ i lt. wider (x.0 +ℤ pos i) ((counted such calendar_len x.0).inside i lt),
     ) in
-    let P : ℤ → Type 0 = λ n. n ≤ℤ z in
-    subst P score below))
+    omega (arith, ints))
 
 -- or than the longest run of its own
 pub spells-below : (test : ℤ → Bool) (q : Asked) (s : Usable) (z : ℤ) → IsGreatest
@@ -162,37 +130,16 @@ plus-parts x k t e = grind (arith, ints)
 times-suc : (n : ℕ) (z : ℤ) → pos (suc n) *ℤ z ≡ z +ℤ (pos n *ℤ z)
 times-suc n k = grind (arith, ints)
 
--- no times a number is nothing
-no-times : (z : ℤ) → pos 0 *ℤ z ≡ pos 0
-no-times x = grind (arith, ints)
-
 -- a window of n days has at most n times the greatest value
-window-times : (days : List DayValue) (z : ℤ) → AllByRecursion (λ x. x.1 ≤ℤ z) days → (n : ℕ) (a t : ℤ)
+window-times : (days : List DayValue) (z : ℤ) → ((x : DayValue) → Contains days x → x.1 ≤ℤ z) → (n : ℕ) (a t : ℤ)
     → window_total days n a ≡ Some t → t ≤ℤ (pos n *ℤ z)
-window-times days z most zero a t e = grind (arith, ints, no-times)
+window-times days z most zero a t e = grind (arith, ints)
 window-times days z most (suc n) a t e =
     let parts = plus-parts (value_on days a) (window_total days n (a +ℤ pos 1)) t e in
     let rest = window-times days z most n (a +ℤ pos 1) parts.1 parts.3 in
-    let here : parts.0 ≤ℤ z = value_on-among (λ (d v : ℤ). v ≤ℤ z) days a parts.0 most parts.2 in
+    let here = most (a, parts.0) (value_on-in days a parts.0 parts.2) in
     let times = times-suc n z in
     omega (arith, ints)
-
--- those of some days that pass two tests have at most the total of those that pass a wider one
-total-of_both : (p u w : DayValue → Bool) (days : List DayValue) → AreFallen days
-    → ((x : DayValue) → p x ≡ true → w x ≡ true)
-    → total (map (λ x. x.1) (filter p (filter u days))) ≤ℤ total (map (λ x. x.1) (filter w days))
-total-of_both p u w days falls wider = grind (arith, ints, filter-both, total-wider, each, both_pass)
-
--- those of some days that pass a test have at most the total of those that pass a wider one
-total-wide : (p w : DayValue → Bool) (days : List DayValue) → AreFallen days
-    → ((x : DayValue) → p x ≡ true → w x ≡ true)
-    → total (map (λ x. x.1) (filter p days)) ≤ℤ total (map (λ x. x.1) (filter w days))
-total-wide p w days falls wider = grind (arith, ints, total-wider, each)
-
--- no total of such days is below zero
-pub total-fallen : (p : DayValue → Bool) (days : List DayValue) → AreFallen days
-    → pos 0 ≤ℤ total (map (λ x. x.1) (filter p days))
-total-fallen p days falls = total-least (λ x. x.1) p days falls
 
 module _ (p w : DayValue → Bool) (a : ℤ) (wider : (x : DayValue) → p x ≡ true → w x ≡ true)
     (not_p : (x : DayValue) → x.0 ≡ a → p x ≡ false) (is_w : (x : DayValue) → x.0 ≡ a → w x ≡ true) where
@@ -211,7 +158,7 @@ module _ (p w : DayValue → Bool) (a : ℤ) (wider : (x : DayValue) → p x ≡
             let value : x.1 ≡ v = cc in
             let without = ap (λ (t : Bool). cond t x.1 (pos 0)) (not_p x day) in
             let with_day = ap (λ (t : Bool). cond t x.1 (pos 0)) (is_w x day) in
-            omega (arith, ints, total-wide p w xs falls.1 wider)
+            omega (arith, ints, total-wider (λ y. y.1) p w xs falls.1 (λ y has. wider y))
         | false ↦ λ is found.
             omega (arith, ints, part-wider (p x) (w x) x.1 falls.0 (wider x), day-added xs v falls.1 found)
       ] refl e
@@ -223,7 +170,7 @@ in_window a n x = is_among a n x.0
 -- the sum of a window is at most the total of its days
 window-total : (days : List DayValue) → AreFallen days → (n : ℕ) (a t : ℤ) → window_total days n a ≡ Some t
     → t ≤ℤ total (map (λ x. x.1) (filter (in_window a n) days))
-window-total days falls zero a t e = grind (arith, ints, total-fallen)
+window-total days falls zero a t e = grind (arith, ints, total-least)
 window-total days falls (suc n) a t e =
     let parts = plus-parts (value_on days a) (window_total days n (a +ℤ pos 1)) t e in
     let rest = window-total days falls n (a +ℤ pos 1) parts.1 parts.3 in
@@ -244,67 +191,49 @@ window-blocks a n x e = grind (arith, ints, among-parts, block-holds, among-from
 window-score : (o : Option ℤ) (d : ℤ) (e : ℤ × ℤ) → option_map (λ (t : ℤ). (d, t)) o ≡ Some e → o ≡ Some e.1
 window-score x d e is = grind (arith, ints)
 
--- those of some days that pass a test have no value above one that none of them has
-most-admitted : (q : Asked) (s : Usable) (z : ℤ) → IsGreatest (IsScore (λ v. v) (days_reached q s)) z
-    → AllByRecursion (λ x. x.1 ≤ℤ z) (admitted q s)
-most-admitted q s z of_z =
-    let Stands : DayValue → Type 0 = λ x. is_reached q.period (block_of x.0) ≡ true
-    → Contains (map (λ y. y.1) (days_reached q s)) x.1 in
-    from_each (λ x. Stands x × (admits_day q x.0 ≡ true)) (λ x. x.1 ≤ℤ z) (admitted q s)
-    (λ x h. of_z.is_most x.1 (h.0 (admitted-reached q x.0 h.1)))
-    (all-passing Stands (λ x. admits_day q x.0) s.days
-    (stands (λ y. y.1) (λ x. is_reached q.period (block_of x.0)) s.days))
-
 -- the sum of a window is at most the bound of sums
 pub windows-below : (n : ℕ) (q : Asked) (s : Usable) (z : ℤ) → AreFallen s.days → IsSumBound q s n z
     → AllByRecursion (λ c. c.score ≤ℤ z) (candidates_among s.id (Windows n) (admitted q s))
 windows-below n q s z falls of_z =
-    let All : DayValue → Type 0 = λ x. pos 0 ≤ℤ x.1 in
-    let days = all-kept All (λ x. admits_day q x.0) s.days falls in
-    let most = most-admitted q s of_z.value of_z.greatest_value in
-    candidates-below s.id (begun (Windows n) (admitted q s)) z (admitted q s)
-    (from_each (λ x. (pos 0 ≤ℤ x.1) × (admits_day q x.0 ≡ true))
-    (λ x. (e : ℤ × ℤ) → begun (Windows n) (admitted q s) x ≡ Some e → e.1 ≤ℤ z) (admitted q s)
-    (λ x h e is.
+    let days = for_each (λ x. pos 0 ≤ℤ x.1) (admitted q s) (λ x has. of_each (λ x. pos 0 ≤ℤ x.1) s.days falls x
+    (of_kept (λ x. admits_day q x.0) s.days x has).0) in
+    candidates-below s.id (begun (Windows n) (admitted q s)) z (admitted q s) (λ x has e is.
     let sum = window-score (window_total (admitted q s) n x.0) (x.0 +ℤ pos n -ℤ pos 1) e is in
+    let most = below-greatest (λ v. v) q s of_z.value of_z.greatest_value in
     let by_value = window-times (admitted q s) of_z.value most n x.0 e.1 sum in
     let by_days = window-total (admitted q s) days n x.0 e.1 sum in
-    let by_blocks = total-of_both (in_window x.0 n) (λ y. admits_day q y.0)
-    (λ y. is_among (block_of x.0) (blocks_of_window n) (block_of y.0)) s.days falls (window-blocks x.0 n) in
+    let Wide : DayValue → Bool = λ y. is_among (block_of x.0) (blocks_of_window n) (block_of y.0) in
+    let both = filter-both (in_window x.0 n) (λ y. admits_day q y.0) s.days in
+    let by_blocks = total-wider (λ y. y.1) (λ y. admits_day q y.0 && in_window x.0 n y) Wide s.days falls
+    (λ y has e. window-blocks x.0 n y (both_pass (admits_day q y.0) (in_window x.0 n y) e).1) in
+    let same = ap (λ (ys : List DayValue). total (map (λ y. y.1) ys)) both in
     let greatest = of_z.greatest_total.is_most (blocks_total s.days (blocks_of_window n) (block_of x.0))
-    (block_of x.0, admitted-reached q x.0 h.1, refl) in
+    (block_of x.0, admitted-reached q x.0 (of_kept (λ x. admits_day q x.0) s.days x has).1, refl) in
     omega (arith, ints, clamps))
-    (all-passing All (λ x. admits_day q x.0) s.days falls))
 
 -- ---- falls
 
--- rain and snow are never negative
-fall-is : (e : Element) → is_fall e ≡ true → may_be_negative e ≡ false
-fall-is x h = grind (arith, ints)
+-- each day of a series is one of the calendar, and its value one of the element
+pub days-valid : (s : Usable) → IsSeries s → (x : DayValue) → Contains s.days x
+    → (is_day x.0 ≡ true) × (is_value s.element x.1 ≡ true)
+days-valid s series x has = both_pass (is_day x.0) (is_value s.element x.1)
+    (All-contains (λ x. (is_day x.0 && is_value s.element x.1) ≡ true) s.days x
+    (AllPass-from_list_all (λ x. is_day x.0 && is_value s.element x.1) s.days series.values) has)
 
--- where an element isn't negative, its values are at least zero
-values-fall : (e : Element) (days : List DayValue) → may_be_negative e ≡ false
-    → list_all (λ x. is_day x.0 && is_value e x.1) days ≡ true → AreFallen days
-values-fall e [] fall h = tt
-values-fall e (x ∷ xs) fall h =
-    let parts = both_pass (is_day x.0 && is_value e x.1) (list_all (λ x. is_day x.0 && is_value e x.1) xs) h in
-    let value = both_pass (is_day x.0) (is_value e x.1) parts.0 in
-    let sign = both_pass (int_le (neg_ℤ (pos 9998)) x.1 && int_le x.1 (pos 99_999))
-    (may_be_negative e || int_le (pos 0) x.1) value.1 in
-    let positive : int_le (pos 0) x.1 ≡ true = sym (ap (λ (b : Bool). b || int_le (pos 0) x.1) fall) ∙ sign.1 in
-    (int_le-true (pos 0) x.1 positive, values-fall e xs fall parts.1)
+-- rain and snow are never negative
+value-falls : (e : Element) (v : ℤ) → is_fall e ≡ true → is_value e v ≡ true → pos 0 ≤ℤ v
+value-falls e v fall h = grind (arith, ints, both_pass, int_le-true)
 
 -- the values of a series that a query sums up are at least zero
 pub sums-fall : (q : Asked) (s : Usable) (n : ℕ) (e : Element) → IsAsked q → IsSeries s
     → s.element ≡ score_element q.score → q.score ≡ Sum n e → AreFallen s.days
 sums-fall q s n e asked series element is =
     let score : is_score (Sum n e) ≡ true = ap is_score (sym is) ∙ asked.score in
-    let fall = fall-is e (both_pass _ (is_fall e) score).1 in
-    let same : s.element ≡ e = element ∙ ap score_element is in
-    values-fall s.element s.days (ap may_be_negative same ∙ fall) series.values
+    let fall = ap is_fall (element ∙ ap score_element is) ∙ (both_pass _ (is_fall e) score).1 in
+    for_each (λ x. pos 0 ≤ℤ x.1) s.days (λ x has. value-falls s.element x.1 fall (days-valid s series x has).1)
 
 -- no candidate has a score above the bound for a score
-above-for : (score : Score) (q : Asked) (s : Usable) (z : ℤ)
+pub above-for : (score : Score) (q : Asked) (s : Usable) (z : ℤ)
     → ((n : ℕ) (e : Element) → score ≡ Sum n e → AreFallen s.days) → IsBoundFor score q s z
     → AllByRecursion (λ c. c.score ≤ℤ z) (candidates_among s.id (shape score) (admitted q s))
 above-for (Highest e) q s z falls of_z = days-below (λ v. v) q s z of_z
@@ -313,8 +242,3 @@ above-for (Sum n e) q s z falls of_z = windows-below n q s z (falls n e refl) of
 above-for Dry q s z falls of_z = spells-below is_dry q s z of_z
 above-for Wet q s z falls of_z = spells-below is_wet q s z of_z
 above-for (Hot t) q s z falls of_z = spells-in_blocks (is_hot t) q s z of_z
-
--- no candidate of the series has a score above the bound
-pub bound-IsAbove : (q : Asked) (s : Usable) (z : ℤ) → IsAsked q → IsSeries s → s.element ≡ score_element q.score
-    → IsBound q s z → IsAbove q s z
-bound-IsAbove q s z asked series element of_z = grind (arith, ints, above-for, sums-fall)

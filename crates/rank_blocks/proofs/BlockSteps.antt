@@ -1,33 +1,29 @@
 -- One more summary of a list, as a loop comes to it.
-use Rattle.std.proofs.Common.{◌≡◌, ℕ, ◌+◌, ◌-◌, ◌*◌, ◌<◌, ◌≤◌, Bool, true, false, cond, List, [], ◌∷◌, ◌++◌, map}
-use Rattle.std.proofs.Common.{length, get_or, take, drop, Option, Some, sym, ap, ◌∙◌, subst, arith, ℤ, pos, neg_ℤ}
-use Rattle.std.proofs.Common.{◌≤ℤ◌, ◌<ℤ◌, ◌+ℤ◌, to_z, of_z, w64}
+use Rattle.std.proofs.Common.{◌≡◌, ℕ, zero, suc, ◌+◌, ◌-◌, ◌*◌, ◌<◌, ◌≤◌, Bool, true, false, cond, List, [], ◌∷◌, ◌++◌}
+use Rattle.std.proofs.Common.{map, length, take, drop, Option, Some, refl, sym, ap, ◌∙◌, subst, arith, rules, ℤ, pos}
+use Rattle.std.proofs.Common.{neg_ℤ, ◌≤ℤ◌, ◌<ℤ◌, ◌+ℤ◌, to_z, of_z, w64, int_le, All, int_cmp, int_eq, append-nil}
 use Rattle.std.specs.Int.{int_max}
-use Rattle.std.specs.Prelude.{int_le}
-use Rattle.rank_blocks.specs.Blocks.{is_among}
-use Rattle.rank_blocks.specs.Greatest.{IsGreatest}
-use Rattle.std.proofs.lemmas.Int.{ints}
-use Rattle.std.proofs.lemmas.List.{append-nil, map-append, drop_all, drop_more, take_all, length-drop}
-use Rattle.std.proofs.lemmas.List.Elements.{All-from_recursion, All-get_or, filter_more}
+use Rattle.std.specs.List.{list_any}
+use Rattle.std.specs.List.Sorted.{IsStrictlySortedBy}
+use Rattle.std.proofs.lemmas.Bool.Decides.{Decides-int_eq}
+use Rattle.std.proofs.lemmas.Int.{ints, clamps, by_lt_z}
+use Rattle.std.proofs.lemmas.List.{map-append, drop_more, take_all, length-drop}
+use Rattle.std.proofs.lemmas.List.Elements.{All-from_recursion, All-get_or, All-more, All-weaker, All-contains}
+use Rattle.std.proofs.lemmas.List.Elements.{filter_more}
 use Rattle.ghcn_fields.specs.Sorting.{greatest}
 use Rattle.rank_blocks.specs.declared.range.BlockRange.{BlockRange}
 use Rattle.rank_blocks.specs.declared.summary.Summary.{Summary}
+use Rattle.rank_blocks.specs.Blocks.{is_among}
+use Rattle.rank_blocks.specs.Greatest.{IsGreatest}
 use Rattle.rank_blocks.specs.Reached.{IsNear, IsTotalFrom, in_range, summaries_in, summaries_total}
-use Rattle.rank_blocks.specs.Summaries.{IsPossible, ArePossible}
-use Rattle.rank_blocks.proofs.Members.{from_each, all-drop}
-use Rattle.rank_blocks.proofs.DayTests.{int_le-true}
-use Rattle.rank_blocks.proofs.PossibleBlocks.{sorted-behind, possible-drop}
-use Rattle.rank_blocks.proofs.WindowTotals.{AreBehind, AreFalls, IsSoFar, total-in, total-out, total-behind, so_far-in}
-use Rattle.rank_blocks.proofs.WindowTotals.{so_far-out, so_far-end}
-use Rattle.std.proofs.Common.{rules}
-
--- what stands behind the end of a list of summaries
-abbrev pub no_block : Summary
-no_block = record { number = pos 0; days = 0; day = pos 0; total = pos 0 }
-
--- the summary at a place
-abbrev pub block_at : List Summary → ℕ → Summary
-block_at ms i = get_or ms i no_block
+use Rattle.rank_blocks.specs.Summaries.{ArePossible}
+use Rattle.rank_blocks.proofs.Members.{from_each, any_in, any_of, total-wider, total-cons}
+use Rattle.rank_blocks.proofs.DayValues.{not_both, between, pass_both, int_le-true, le-int_le, distance}
+use Rattle.rank_blocks.proofs.PossibleBlocks.{no_block, block_at, sorted-behind, sorted-tail, possible-at}
+use Rattle.rank_blocks.proofs.PossibleBlocks.{possible-drop}
+use Rattle.rank_blocks.proofs.ValueSteps.{max-one}
+use Rattle.rank_blocks.proofs.WindowTotals.{AreBehind, AreFalls, among-parts, among-from, before-among, total-out}
+use Rattle.rank_blocks.proofs.WindowTotals.{total-behind}
 
 -- what is left from a place on is the summary there and what is left behind it
 pub left-at : (ms : List Summary) (i : ℕ) → i < length ms → drop i ms ≡ block_at ms i ∷ drop (i + 1) ms
@@ -36,10 +32,6 @@ left-at ms i lt = drop_more ms i no_block lt
 -- what is left is taken whole
 pub left-whole : (ms : List Summary) (i : ℕ) → take (length ms - i) (drop i ms) ≡ drop i ms
 left-whole ms i = take_all (length ms - i) (drop i ms) (let len = length-drop i ms in omega arith)
-
--- the summary at a place is possible
-pub possible-at : (ms : List Summary) (i : ℕ) → i < length ms → ArePossible ms → IsPossible (block_at ms i)
-possible-at ms i lt h = All-get_or IsPossible ms i no_block lt (All-from_recursion IsPossible ms h.each)
 
 -- what is left behind a summary has greater numbers
 pub behind-left : (ms : List Summary) (i : ℕ) → i < length ms → ArePossible ms
@@ -99,7 +91,7 @@ module _ (ms : List Summary) (possible : ArePossible ms) (w : ℕ) (first : ℤ)
   -- a block of the window is added
   pub sum-in : (next : ℤ) → next ≡ sum +ℤ (block_at ms i).total → is_among first w (block_at ms i).number ≡ true
       → IsSumTo ms w first (i + 1) next
-  sum-in next is among = search (rules, arith, sum-bounds, left-total, total-in)
+  sum-in next is among = search (rules, arith, sum-bounds, left-total, total-cons)
 
   -- another block isn't
   pub sum-out : (next : ℤ) → next ≡ sum → is_among first w (block_at ms i).number ≡ false
@@ -122,36 +114,95 @@ module _ (ms : List Summary) (possible : ArePossible ms) (w : ℕ) (first : ℤ)
 
 -- ---- the greatest total
 
--- where no total is below zero and the range has a block, the greatest total is known up to a place
-abbrev pub IsMostTo : BlockRange → ℕ → List Summary → ℕ → ℤ → Type 0
-IsMostTo r w ms i found = AreFalls ms → r.first ≤ℤ r.last → IsSoFar r w ms (drop i ms) found
+-- the window from a block of the range on has no more than a number
+abbrev pub HasNoMore : BlockRange → ℕ → List Summary → ℤ → Summary → Type 0
+HasNoMore r w ms z m = in_range r m.number ≡ true → summaries_total ms w m.number ≤ℤ z
 
-module _ (r : BlockRange) (w : ℕ) (ms : List Summary) (possible : ArePossible ms) (i : ℕ) (lt : i < length ms)
-    (found : ℤ)
-    (far : IsMostTo r w ms i found) where
-  -- what is known at the summary at the place
-  most-here : AreFalls ms → r.first ≤ℤ r.last → IsSoFar r w ms (block_at ms i ∷ drop (i + 1) ms) found
-  most-here falls le = subst (λ ks. IsSoFar r w ms ks found) (left-at ms i lt) (far falls le)
+-- what is known of the greatest total, once the summaries before a place were looked at: it is the total of a window of
+-- the range, and neither the window from the range's last block nor one from these summaries' blocks has more
+pub record IsMostTo (r : BlockRange) (w : ℕ) (ms : List Summary) (i : ℕ) (found : ℤ) : Type 0 where
+  pub one : IsTotalFrom r ms w found
+  pub last : summaries_total ms w r.last ≤ℤ found
+  pub each : All (HasNoMore r w ms found) (take i ms)
 
-  -- no total from there on is below zero
-  falls-here : AreFalls ms → AreFalls (block_at ms i ∷ drop (i + 1) ms)
-  falls-here falls = subst AreFalls (left-at ms i lt) (all-drop (λ m. pos 0 ≤ℤ m.total) ms i falls)
+-- the window from a block on has what it has of the summaries from that block's on
+total-from : (ms : List Summary) (w i : ℕ) → i < length ms → IsStrictlySortedBy int_cmp (map (λ m. m.number) ms)
+    → summaries_total (drop i ms) w (block_at ms i).number ≡ summaries_total ms w (block_at ms i).number
+total-from [] w i lt sorted = absurd (omega arith)
+total-from (m ∷ ms) w zero lt sorted = refl
+total-from (m ∷ ms) w (suc i) lt sorted =
+    let behind = All-get_or (λ k. m.number <ℤ k.number) ms i no_block (omega arith)
+    (All-from_recursion (λ k. m.number <ℤ k.number) ms (sorted-behind m ms sorted)) in
+    total-from ms w i (omega arith) (sorted-tail m ms sorted)
+    ∙ sym (total-out m ms w (block_at ms i).number (before-among (block_at ms i).number w m.number behind))
 
+module _ (r : BlockRange) (w : ℕ) (ms : List Summary) (i : ℕ) (found : ℤ) (far : IsMostTo r w ms i found) where
   -- the window from a block of the range on is looked at
-  pub most-in : (next : ℤ) → next ≡ int_max found (summaries_total (drop i ms) w (block_at ms i).number)
+  pub most-in : ArePossible ms → i < length ms → (next : ℤ)
+      → next ≡ int_max found (summaries_total (drop i ms) w (block_at ms i).number)
       → in_range r (block_at ms i).number ≡ true → IsMostTo r w ms (i + 1) next
-  most-in next is holds falls le =
-      let total = ap (λ ks. int_max found (summaries_total ks w (block_at ms i).number)) (left-at ms i lt) in
-      subst (IsSoFar r w ms (drop (i + 1) ms)) (sym (is ∙ total))
-      (so_far-in r w ms (block_at ms i) (drop (i + 1) ms) found (most-here falls le) (falls-here falls)
-      (behind-left ms i lt possible) holds)
+  most-in possible lt next is holds =
+      let whole = total-from ms w i lt possible.by_number in
+      let last = far.last in
+      record {
+        one = max-one (IsTotalFrom r ms w) _ _ next is far.one ((block_at ms i).number, holds, sym whole);
+        last = omega (arith, ints, clamps);
+        each = All-more (HasNoMore r w ms next) ms i no_block lt
+            (All-weaker (HasNoMore r w ms found) (HasNoMore r w ms next)
+            (λ m most holds. let le = most holds in omega (arith, ints, clamps)) (take i ms) far.each)
+            (λ holds. omega (arith, ints, clamps));
+      }
 
   -- another block changes nothing
-  pub most-out : (next : ℤ) → next ≡ found → in_range r (block_at ms i).number ≡ false → IsMostTo r w ms (i + 1) next
-  most-out next is out falls le = grind (arith, ints, IsSoFar, so_far-out, most-here, falls-here, behind-left)
+  pub most-out : i < length ms → in_range r (block_at ms i).number ≡ false → IsMostTo r w ms (i + 1) found
+  most-out lt out = record {
+    one = far.one;
+    last = far.last;
+    each = All-more (HasNoMore r w ms found) ms i no_block lt far.each
+        (λ holds. absurd (not_both _ holds out));
+  }
 
--- behind the last block
-pub most-end : (r : BlockRange) (w : ℕ) (ms : List Summary) (i : ℕ) (found : ℤ) → length ms ≤ i
-    → IsMostTo r w ms i found
-    → AreFalls ms → r.first ≤ℤ r.last → IsGreatest (IsTotalFrom r ms w) found
-most-end r w ms i found end far falls le = grind (arith, ints, so_far-end, IsSoFar, drop_all)
+  module _ (falls : AreFalls ms) (end : length ms ≤ i) where
+    -- no window that begins in the range has more: one that begins at no summary's block has no more than the next one
+    no_more : (n : ℕ) (first : ℤ) → first +ℤ pos n ≡ r.last → r.first ≤ℤ first → summaries_total ms w first ≤ℤ found
+    no_more zero first is low =
+        let last = far.last in
+        let same = ap (summaries_total ms w) {x = first} {y = r.last} (omega (arith, ints)) in
+        omega (arith, ints)
+    no_more (suc n) first is low =
+        elim (list_any (λ m. int_eq m.number first) ms) as (λ t. list_any (λ m. int_eq m.number first) ms ≡ t
+        → summaries_total ms w first ≤ℤ found) [
+          | true ↦ λ e.
+              let m = any_in (λ m. int_eq m.number first) ms e in
+              let at = (Decides-int_eq m.0.number first).0 m.2 in
+              let each = subst (All (HasNoMore r w ms found)) (take_all i ms end) far.each in
+              let most = All-contains (HasNoMore r w ms found) ms m.0 each m.1
+              (pass_both _ _ (le-int_le r.first m.0.number (omega (arith, ints)))
+              (le-int_le m.0.number r.last (omega (arith, ints)))) in
+              subst (λ (b : ℤ). summaries_total ms w b ≤ℤ found) at most
+          | false ↦ λ e.
+              let rest = no_more n (first +ℤ pos 1) (omega (arith, ints)) (omega (arith, ints)) in
+              let wider = total-wider (λ m. m.total) (λ m. is_among first w m.number)
+              (λ m. is_among (first +ℤ pos 1) w m.number) ms falls
+              (λ m has among.
+              let parts = among-parts first w m.number among in
+              let low = parts.0 in
+              let high = parts.1 in
+              let other : m.number ≡ first → ⊥ = λ at. not_both _ (any_of (λ m. int_eq m.number first) ms m has
+              ((Decides-int_eq m.number first).1 at)) e in
+              among-from (first +ℤ pos 1) w m.number (by_lt_z first m.number (λ lt. omega (arith, ints))
+              (λ ge. absurd (other (omega (arith, ints))))) (omega (arith, ints))) in
+              omega (arith, ints)
+        ] refl
+
+    -- behind the last block it is the greatest
+    pub most-end : IsGreatest (IsTotalFrom r ms w) found
+    most-end = record {
+      is_one = far.one;
+      is_most = λ y total.
+          let parts = between r.first total.0 r.last total.1 in
+          let is = total.2 in
+          let far_on = distance total.0 r.last parts.1 in
+          let most = no_more far_on.0 total.0 (sym far_on.1) parts.0 in
+          omega (arith, ints);
+    }

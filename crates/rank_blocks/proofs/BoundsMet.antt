@@ -1,9 +1,6 @@
 -- The bound of a series is found from its summaries.
-use Rattle.std.proofs.Common.{◌≡◌, ℕ, Bool, true, List, map, filter, Option, Some, None, refl, sym, ap, ◌∙◌, subst}
-use Rattle.std.proofs.Common.{arith, ℤ, pos, ◌≤ℤ◌, ◌*ℤ◌, ◌*◌}
-use Rattle.std.specs.Prelude.{⊤}
-use Rattle.std.specs.List.{AllByRecursion, Contains}
-use Rattle.std.specs.Option.{unwrap_or}
+use Rattle.std.proofs.Common.{◌≡◌, ℕ, Bool, true, List, map, filter, Option, Some, None, sym, ap, ◌∙◌, subst, arith, ℤ}
+use Rattle.std.proofs.Common.{pos, ◌≤ℤ◌, ◌*ℤ◌, ◌*◌, Contains, unwrap_or}
 use Rattle.std.specs.Int.{int_min}
 use Rattle.std.proofs.lemmas.Int.{ints}
 use Rattle.ghcn_fields.specs.Days.{block_of, first_day, last_day}
@@ -11,9 +8,9 @@ use Rattle.ghcn_fields.specs.Sorting.{greatest}
 use Rattle.ghcn_series.specs.Series.{Usable}
 use Rattle.ghcn_files.specs.declared.element.Element.{Element}
 use Rattle.rank_query.specs.declared.score.Score.{Score}
-use Rattle.rank_query.specs.declared.score.Score.TheVariants.{Highest, Lowest, Sum, Dry, Wet, Hot}
+use Rattle.rank_query.specs.declared.score.Score.TheVariants.{Sum, Dry, Wet, Hot}
 use Rattle.rank_query.specs.Asked.{Asked, IsAsked, is_period}
-use Rattle.rank_scores.specs.Candidates.{is_dry, is_wet, is_hot, is_such}
+use Rattle.rank_scores.specs.Candidates.{is_hot}
 use Rattle.rank_scores.specs.declared.spell.Spell.{Spell}
 use Rattle.rank_scores.specs.declared.spell.Spell.TheVariants as kinds
 use Rattle.rank_scores.specs.Morsels.{IsAbove}
@@ -21,18 +18,17 @@ use Rattle.rank_blocks.specs.declared.range.BlockRange.{BlockRange}
 use Rattle.rank_blocks.specs.declared.summary.Summary.{Summary}
 use Rattle.rank_blocks.specs.Blocks.{days_reached, is_reached, period_of}
 use Rattle.rank_blocks.specs.Bounds.{blocks_of_window, holds_such, bound, IsAskedOf}
-use Rattle.rank_blocks.specs.Greatest.{IsGreatest, IsScore, IsBlocksTotal, IsRunLength, IsBlocksBound, IsBoundFor}
+use Rattle.rank_blocks.specs.Greatest.{IsGreatest, IsScore, IsBlocksTotal, IsRunLength, IsBoundFor}
 use Rattle.rank_blocks.specs.Greatest.{IsBound}
 use Rattle.rank_blocks.specs.Reached.{IsRangeOf, in_range, summaries_in, IsTotalFrom, counts, days_in_range}
 use Rattle.rank_blocks.specs.Summaries.{AreOfBlocks, AreSummaries, HasDay, HasDays, HasSum}
-use Rattle.rank_blocks.proofs.Members.{from_each, pick, stands, greatest-exists, greatest-unique}
-use Rattle.rank_blocks.proofs.DayTests.{both_pass, int_le-true}
-use Rattle.rank_blocks.proofs.DayValues.{block-rises}
+use Rattle.rank_blocks.proofs.Members.{from_each, in_kept, greatest-some, greatest-unique, total-least}
+use Rattle.rank_blocks.proofs.DayValues.{both_pass, int_le-true, block-rises}
 use Rattle.rank_blocks.proofs.WindowTotals.{AreFalls}
 use Rattle.rank_blocks.proofs.Totals.{summaries_total-is}
-use Rattle.rank_blocks.proofs.ReachedDays.{admitted-reached, greatest-of_blocks}
-use Rattle.rank_blocks.proofs.Above.{AreFallen, total-fallen, sums-fall, bound-IsAbove}
-use Rattle.rank_blocks.proofs.Computed.{some_admitted, bound-unique, blocks-computed, computed-IsBound}
+use Rattle.rank_blocks.proofs.ReachedDays.{admitted-reached, summary-of, greatest-of_blocks}
+use Rattle.rank_blocks.proofs.Above.{AreFallen, sums-fall, above-for}
+use Rattle.rank_blocks.proofs.Computed.{some_admitted, unique-for, blocks-computed, computed-IsBound}
 use Rattle.rank_blocks.proofs.HotBlocks.{days-greatest}
 
 -- its blocks are those of the period
@@ -53,14 +49,11 @@ pub bound-for : (q : Asked) (s : Usable) (score : Score) (z : ℤ) → q.score �
     → IsBound q s z
 bound-for q s score z is of_z = subst (λ (k : Score). IsBoundFor k q s z) (sym is) of_z
 
--- days in a row are ranked
-abbrev pub IsSpells : Score → Type 0
-IsSpells Dry = ⊤
-IsSpells Wet = ⊤
-IsSpells (Hot t) = ⊤
-IsSpells (Highest e) = ⊥
-IsSpells (Lowest e) = ⊥
-IsSpells (Sum n e) = ⊥
+-- the score of the spells of days that count
+abbrev pub score_of : Spell → Score
+score_of kinds.Dry = Dry
+score_of kinds.Wet = Wet
+score_of (kinds.Hot t) = Hot t
 
 module _ (r : BlockRange) (q : Asked) (s : Usable) (ms : List Summary) (of : IsRangeOf r q)
     (asked_of : IsAskedOf q s) where
@@ -69,69 +62,49 @@ module _ (r : BlockRange) (q : Asked) (s : Usable) (ms : List Summary) (of : IsR
       → z ≡ unwrap_or (greatest (map (λ m. m.day) (summaries_in r ms))) (pos 0)
       → IsGreatest (IsScore f (days_reached q s)) z
   day-met f z are is =
-      let some = some_block are.all in
-      let same : some.0 ≡ z = sym (is ∙ ap (λ (o : Option ℤ). unwrap_or o (pos 0)) some.1) in
-      let P : (ℤ → Bool) → Type 0 = λ p. IsGreatest (IsScore f (filter (λ x. p (block_of x.0)) s.days)) some.0 in
-      let Q : ℤ → Type 0 = IsGreatest (IsScore f (days_reached q s)) in
-      subst Q same (subst P (range-is r q of) (greatest-of_blocks f (in_range r) s ms are some.0 some.1))
-    where
-      -- a summary of a block of the range
-      some_block : AllByRecursion (λ x. Contains (map (λ m. m.number) ms) (block_of x.0)) s.days
-          → (z : ℤ) × (greatest (map (λ m. m.day) (summaries_in r ms)) ≡ Some z)
-      some_block all =
-          let day = some_admitted q s (λ x. Contains (map (λ m. m.number) ms) (block_of x.0)) asked_of.admitted_day
-          all in
-          let Stands : Summary → Type 0 =
-          λ m. in_range r m.number ≡ true → Contains (map (λ m. m.day) (summaries_in r ms)) m.day in
-          let block = pick (λ m. m.number) Stands ms (block_of day.0.0)
-          (stands (λ m. m.day) (λ m. in_range r m.number) ms) day.1 in
-          let holds : in_range r (block_of day.0.0) ≡ true =
-          ap (λ (P : ℤ → Bool). P (block_of day.0.0)) (range-is r q of) ∙ admitted-reached q day.0.0 day.2 in
-          greatest-exists (map (λ m. m.day) (summaries_in r ms)) block.0.day
-          (block.1 (ap (in_range r) block.2 ∙ holds))
+      let day = some_admitted q s asked_of.admitted_day in
+      let block = summary-of (HasDay f s.days) s ms are day.0 day.1.0 in
+      let holds = ap (in_range r) block.2 ∙ ap (λ (P : ℤ → Bool). P (block_of day.0.0)) (range-is r q of)
+      ∙ admitted-reached q day.0.0 day.1.1 in
+      let most = greatest-some (map (λ m. m.day) (summaries_in r ms)) block.0.day
+      (in_kept (λ m. m.day) (λ m. in_range r m.number) ms block.0 block.1 holds) in
+      let of_z = subst (IsGreatest (Contains (map (λ m. m.day) (summaries_in r ms)))) (sym is) most in
+      subst (λ (P : ℤ → Bool). IsGreatest (IsScore f (filter (λ x. P (block_of x.0)) s.days)) z) (range-is r q of)
+      (greatest-of_blocks f (in_range r) s ms z are of_z)
 
-  -- the longest run, from the summaries
-  pub run-met : (test : ℤ → Bool) (z : ℤ)
-      → IsGreatest (IsRunLength (is_such test (filter (λ x. in_range r (block_of x.0)) s.days))) z
-      → IsGreatest (IsRunLength (is_such test (days_reached q s))) z
-  run-met test z longest = grind (arith, ints, range-is)
-
-  -- the days in a row in blocks that hold one which passes, from the summaries
-  pub blocks-met : (test : ℤ → Bool) (z : ℤ)
-      → IsGreatest (IsRunLength (λ d. holds_such test (filter (λ x. in_range r (block_of x.0)) s.days) (block_of d))) z
-      → IsBlocksBound (holds_such test (days_reached q s)) z
-  blocks-met test z longest =
-      let P : (ℤ → Bool) → Type 0 =
-      λ p. IsGreatest (IsRunLength (λ d. holds_such test (filter (λ x. p (block_of x.0)) s.days) (block_of d))) z in
-      let here = subst P (range-is r q of) longest in
-      let such : ℤ → Bool = holds_such test (days_reached q s) in
-      let found = blocks-computed test q s asked_of.series in
+  -- the longest run of the days that count is what the bound of spells asks for
+  run-met : (k : Spell) (z : ℤ) → IsGreatest (IsRunLength (counts k (days_reached q s))) z
+      → IsBoundFor (score_of k) q s z
+  run-met kinds.Dry z longest = longest
+  run-met kinds.Wet z longest = longest
+  run-met (kinds.Hot t) z longest =
+      let such : ℤ → Bool = holds_such (is_hot t) (days_reached q s) in
+      let found = blocks-computed (is_hot t) q s asked_of.series in
       record {
         blocks = found.blocks;
         greatest = found.greatest;
         times = greatest-unique (IsRunLength (λ d. such (block_of d))) (pos (32 * found.blocks)) z
-            (days-greatest such found.blocks found.greatest) here;
+            (days-greatest such found.blocks found.greatest) longest;
       }
 
   -- the bound of spells, from the summaries
-  pub spell-met : (z : ℤ) → ((k : Spell) → AreOfBlocks (HasDays k s.days) s ms
-      → IsGreatest (IsRunLength (counts k (days_in_range r s.days))) z) → AreSummaries q.score s ms
-      → IsSpells q.score → IsBound q s z
-  spell-met z longest are spells = met q.score refl are spells
+  pub spell-met : (k : Spell) (z : ℤ) → q.score ≡ score_of k → AreSummaries q.score s ms
+      → (AreOfBlocks (HasDays k s.days) s ms → IsGreatest (IsRunLength (counts k (days_in_range r s.days))) z)
+      → IsBound q s z
+  spell-met k z is are longest = bound-for q s (score_of k) z is (run-met k z
+      (subst (λ (P : ℤ → Bool). IsGreatest (IsRunLength (counts k (filter (λ x. P (block_of x.0)) s.days))) z)
+      (range-is r q of) (longest (has-days k (subst (λ (score : Score). AreSummaries score s ms) is are)))))
     where
-      -- by the kind of days
-      met : (score : Score) → q.score ≡ score → AreSummaries score s ms → IsSpells score → IsBound q s z
-      met Dry is are tt = bound-for q s Dry z is (run-met is_dry z (longest kinds.Dry are))
-      met Wet is are tt = bound-for q s Wet z is (run-met is_wet z (longest kinds.Wet are))
-      met (Hot t) is are tt = bound-for q s (Hot t) z is (blocks-met (is_hot t) z (longest (kinds.Hot t) are))
-      met (Highest e) is are none = absurd none
-      met (Lowest e) is are none = absurd none
-      met (Sum n e) is are none = absurd none
+      -- the summaries have the days that count
+      has-days : (k : Spell) → AreSummaries (score_of k) s ms → AreOfBlocks (HasDays k s.days) s ms
+      has-days kinds.Dry are = are
+      has-days kinds.Wet are = are
+      has-days (kinds.Hot t) are = are
 
   module _ (are : AreOfBlocks (HasSum s.days) s ms) where
     -- no total of a block is below zero, where no value is
     totals-fall : AreFallen s.days → AreFalls ms
-    totals-fall falls = grind (arith, ints, from_each, total-fallen)
+    totals-fall falls = grind (arith, ints, from_each, total-least)
 
     -- the greatest total, from the summaries
     total-met : (w : ℕ) (z : ℤ) → IsGreatest (IsTotalFrom r ms w) z → IsGreatest (IsBlocksTotal q.period s.days w) z
@@ -159,8 +132,9 @@ module _ (r : BlockRange) (q : Asked) (s : Usable) (ms : List Summary) (of : IsR
 
 -- the bound by what it is greatest of is the one that is computed
 pub bound-computed : (q : Asked) (s : Usable) (z : ℤ) → IsAsked q → IsAskedOf q s → IsBound q s z → z ≡ bound q s
-bound-computed q s z asked of of_z = bound-unique q s z (bound q s) of_z (computed-IsBound q s asked of)
+bound-computed q s z asked of of_z = unique-for q.score q s z (bound q s) of_z (computed-IsBound q s asked of)
 
 -- and no candidate's score is above it
 pub bound-above : (q : Asked) (s : Usable) (z : ℤ) → IsAsked q → IsAskedOf q s → IsBound q s z → IsAbove q s z
-bound-above q s z asked of of_z = bound-IsAbove q s z asked of.series of.element of_z
+bound-above q s z asked of of_z = above-for q.score q s z
+    (λ n e is. sums-fall q s n e asked of.series of.element is) of_z

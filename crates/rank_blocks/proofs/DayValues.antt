@@ -1,18 +1,71 @@
--- Days in their order and the values that they have.
-use Rattle.std.proofs.Common.{◌≡◌, ℕ, ◌<◌, true, false, List, [], ◌∷◌, ◌++◌, Some, None, refl, ◌∙◌}
-use Rattle.std.proofs.Common.{arith, ℤ, pos, ◌≤ℤ◌, ◌<ℤ◌, ◌+ℤ◌}
-use Rattle.std.specs.Prelude.{int_lt}
+-- Tests on numbers, and days in their order with the values that they have.
+use Rattle.std.proofs.Common.{◌≡◌, ℕ, ◌<◌, ◌≤◌, Bool, true, false, ◌⊎◌, inl, inr, refl, arith, ℤ, pos, negsuc, ◌≤ℤ◌}
+use Rattle.std.proofs.Common.{◌<ℤ◌, ◌+ℤ◌, ◌-ℤ◌, ◌&&◌, int_lt, int_le, List, [], ◌∷◌, ◌++◌, Some, None, ◌∙◌, int_eq}
+use Rattle.std.proofs.lemmas.Bool.Decides.{leb_tells, Decides-int_eq}
+use Rattle.std.proofs.lemmas.Int.{ints, by_lt_z}
 use Rattle.std.specs.List.{AllByRecursion}
-use Rattle.std.specs.Ordering.{int_eq}
 use Rattle.std.proofs.lemmas.Bool.{false_from_ne_true}
-use Rattle.std.proofs.lemmas.Bool.Decides.{Decides-int_eq}
-use Rattle.std.proofs.lemmas.Int.{ints}
 use Rattle.ghcn_fields.specs.Days.{block_of}
 use Rattle.ghcn_series.specs.Series.{DayValue, value_on, is_by_day}
 use Rattle.rank_blocks.specs.Blocks.{block_start}
 use Rattle.ghcn_series.specs.Packed.{AreRising}
-use Rattle.rank_blocks.proofs.DayTests.{both_pass, int_lt-true}
 use Rattle.rank_blocks.proofs.Members.{from_each, from_both}
+
+-- two tests that both pass
+pub both_pass : (a b : Bool) → (a && b) ≡ true → (a ≡ true) × (b ≡ true)
+both_pass x b e = grind (arith, ints)
+
+-- of two tests that pass both pass
+pub pass_both : (a b : Bool) → a ≡ true → b ≡ true → (a && b) ≡ true
+pass_both x b p q = grind (arith, ints)
+
+-- a test that passes doesn't fail
+pub not_both : (b : Bool) → b ≡ true → b ≡ false → ⊥
+not_both b p q = cc
+
+-- a test that can't pass fails
+pub fails : (b : Bool) → (b ≡ true → ⊥) → b ≡ false
+fails x never = grind (arith, ints)
+
+-- a number that is tested to be less is less
+pub int_lt-true : (a b : ℤ) → int_lt a b ≡ true → a <ℤ b
+int_lt-true a b e = grind (arith, ints)
+
+-- a number that is tested to be at most another is at most that
+pub int_le-true : (a b : ℤ) → int_le a b ≡ true → a ≤ℤ b
+int_le-true a b e = grind (arith, ints)
+
+-- a number that isn't at most another is above it
+pub int_le-false : (a b : ℤ) → int_le a b ≡ false → b <ℤ a
+int_le-false a b e = grind (arith, ints)
+
+-- the test passes at a number that is less
+pub lt-int_lt : (a b : ℤ) → a <ℤ b → int_lt a b ≡ true
+lt-int_lt a b h = grind (arith, ints)
+
+-- the test passes at a number that is at most the other
+pub le-int_le : (a b : ℤ) → a ≤ℤ b → int_le a b ≡ true
+le-int_le a b h = grind (arith, ints)
+
+-- a whole number between two others, by its tests
+pub between : (a b c : ℤ) → (int_le a b && int_le b c) ≡ true → (a ≤ℤ b) × (b ≤ℤ c)
+between a b c e = grind (arith, ints, both_pass, int_le-true)
+
+-- one of two numbers is at most the other, or above it
+pub at_most_or_more : (a b : ℕ) → (a ≤ b) ⊎ (b < a)
+at_most_or_more a b = elim (leb_tells a b) [ inl h ↦ inl h.1 | inr h ↦ inr h.1 ]
+
+-- the same of whole numbers
+pub int_le_or_lt : (a b : ℤ) → (a ≤ℤ b) ⊎ (b <ℤ a)
+int_le_or_lt a b = by_lt_z b a (λ lt. inr lt) (λ le. inl le)
+
+-- how far a number lies behind another
+pub distance : (x y : ℤ) → x ≤ℤ y → (n : ℕ) × (y ≡ x +ℤ pos n)
+distance x y le =
+    elim (y -ℤ x) as (λ z. y -ℤ x ≡ z → (n : ℕ) × (y ≡ x +ℤ pos n)) [
+      | pos n ↦ λ e. (n, omega (arith, ints))
+      | negsuc n ↦ λ e. absurd (omega (arith, ints))
+    ] refl
 
 -- different numbers are told apart
 pub other-int_eq : (a b : ℤ) → (a ≡ b → ⊥) → int_eq a b ≡ false
@@ -40,16 +93,6 @@ rise-from_by_day (x ∷ y ∷ ys) e =
 pub value_on-behind : (x : DayValue) (xs : List DayValue) (day : ℤ) → int_eq x.0 day ≡ false
     → value_on (x ∷ xs) day ≡ value_on xs day
 value_on-behind x xs day other = grind (arith, ints)
-
--- a day that is later than some days and earlier than the others has no value
-pub value_on-between : (read rest : List DayValue) (day : ℤ) → AllByRecursion (λ y. y.0 <ℤ day) read
-    → AllByRecursion (λ z. day <ℤ z.0) rest → value_on (read ++ rest) day ≡ None
-value_on-between [] [] day earlier later = refl
-value_on-between [] (z ∷ zs) day earlier later =
-    value_on-behind z zs day (other-int_eq z.0 day (λ e. omega (arith, ints, e, later.0)))
-    ∙ value_on-between [] zs day tt later.1
-value_on-between (y ∷ ys) rest day earlier later = value_on-behind y (ys ++ rest) day (lt-int_eq y.0 day earlier.0)
-    ∙ value_on-between ys rest day earlier.1 later
 
 -- each of some days that rise has its value
 pub own-values : (days : List DayValue) → AreRising days → AllByRecursion (λ x. value_on days x.0 ≡ Some x.1) days

@@ -1,6 +1,5 @@
 -- Worked bounds, by computation.
-use Rattle.std.proofs.Common.{◌≡◌, ℕ, zero, suc, List, [], ◌∷◌, refl, Some, None, Option}
-use Rattle.std.specs.Prelude.{codes, ℤ, pos, neg_ℤ, ◌+ℤ◌}
+use Rattle.std.proofs.Common.{◌≡◌, ℕ, zero, suc, List, [], ◌∷◌, refl, Some, None, Option, codes, ℤ, pos, neg_ℤ, ◌+ℤ◌}
 use Rattle.ghcn_files.specs.declared.element.Element.{Element}
 use Rattle.ghcn_files.specs.declared.element.Element.TheVariants.{Tmax, Tmin, Prcp}
 use Rattle.ghcn_series.specs.Series.{DayValue, Usable}

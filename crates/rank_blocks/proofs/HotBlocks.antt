@@ -1,14 +1,12 @@
 -- Blocks that hold a day whose value passes, and how they and their days follow one another.
-use Rattle.std.proofs.Common.{◌≡◌, ℕ, zero, suc, ◌*◌, ◌/◌, ◌%◌, ◌<◌, ◌≤◌, Bool, true, false, List, [], ◌∷◌, map}
-use Rattle.std.proofs.Common.{filter, ◌⊎◌, inl, inr, refl, sym, ap, ◌∙◌, arith, ℤ, pos, ◌+ℤ◌}
-use Rattle.std.specs.Prelude.{◌&&◌, ◌||◌, int_le}
-use Rattle.std.specs.List.{AllByRecursion, Contains}
-use Rattle.std.specs.Option.{option_map_or}
-use Rattle.std.specs.Ordering.{int_eq}
+use Rattle.std.proofs.Common.{◌≡◌, ℕ, zero, suc, ◌*◌, ◌/◌, ◌%◌, ◌<◌, ◌≤◌, Bool, true, false, List, [], ◌∷◌, filter}
+use Rattle.std.proofs.Common.{refl, sym, ap, ◌∙◌, subst, arith, ℤ, pos, ◌+ℤ◌, ◌&&◌, int_le, Contains, int_eq}
+use Rattle.std.specs.Int.{int_max}
+use Rattle.std.specs.List.{AllByRecursion}
 use Rattle.std.proofs.lemmas.Bool.Decides.{Decides-int_eq}
-use Rattle.std.proofs.lemmas.Int.{ints}
+use Rattle.std.proofs.lemmas.Int.{ints, clamps}
 use Rattle.ghcn_fields.specs.Days.{block_of}
-use Rattle.ghcn_series.specs.Series.{DayValue, value_on}
+use Rattle.ghcn_series.specs.Series.{DayValue}
 use Rattle.rank_scores.specs.Candidates.{is_dry, is_wet, is_hot, is_such}
 use Rattle.rank_scores.specs.declared.spell.Spell.{Spell}
 use Rattle.rank_scores.specs.declared.spell.Spell.TheVariants.{Dry, Wet, Hot}
@@ -17,55 +15,32 @@ use Rattle.rank_blocks.specs.Bounds.{holds_such}
 use Rattle.rank_blocks.specs.DayRuns.{AreBitsOf, has_bit}
 use Rattle.rank_blocks.specs.Greatest.{IsGreatest, IsScore, IsRunLength}
 use Rattle.rank_blocks.specs.Reached.{counts}
-use Rattle.rank_blocks.proofs.DayTests.{both_pass, pass_both, not_both, fails, int_le-true, le-int_le, distance}
+use Rattle.rank_blocks.proofs.DayValues.{both_pass, pass_both, not_both, fails, int_le-true, int_le-false, distance}
 use Rattle.rank_blocks.proofs.DayValues.{int_eq-same, block-holds, block-of_place, block-rises}
-use Rattle.rank_blocks.proofs.Members.{from_each, each, all-passing, pick, stands}
-use Rattle.rank_blocks.proofs.ReachedDays.{such-filter, such-kept, such-has, value_on-among}
-
--- ---- two tests of which one passes
-
--- the first
-or_first : (a b : Bool) → a ≡ true → (a || b) ≡ true
-or_first a b e = ap (λ t. t || b) e
-
--- the second
-or_later : (a b : Bool) → b ≡ true → (a || b) ≡ true
-or_later x b e = grind (arith, ints)
-
--- either of them
-or_either : (a b : Bool) → (a || b) ≡ true → (a ≡ true) ⊎ (b ≡ true)
-or_either x b e = grind (arith, ints)
+use Rattle.rank_blocks.proofs.Members.{of_each, any_in, any_of, of_kept, in_kept, from_kept}
+use Rattle.rank_blocks.proofs.ReachedDays.{such-filter, such-kept, such-in}
 
 -- ---- blocks that hold a day which passes
 
 module _ (test : ℤ → Bool) where
-  -- the block of each day that passes holds one
-  holds-each : (days : List DayValue)
-      → AllByRecursion (λ x. test x.1 ≡ true → holds_such test days (block_of x.0) ≡ true) days
-  holds-each [] = tt
-  holds-each (x ∷ xs) =
-      grind (arith, ints, or_first, pass_both, int_eq-same (block_of x.0), from_each, or_later, holds-each xs)
+  -- a block that holds one holds one of the days
+  pub holds-in : (days : List DayValue) (b : ℤ) → holds_such test days b ≡ true
+      → (x : DayValue) × Contains days x × (block_of x.0 ≡ b) × (test x.1 ≡ true)
+  holds-in days b e =
+      let found = any_in (λ x. int_eq (block_of x.0) b && test x.1) days e in
+      let both = both_pass (int_eq (block_of found.0.0) b) (test found.0.1) found.2 in
+      (found.0, found.1, (Decides-int_eq (block_of found.0.0) b).0 both.0, both.1)
 
-  -- a block that holds one holds one of the days, of which all is true that is true of each
-  pub holds-among : (Q : DayValue → Type 0) (days : List DayValue) (b : ℤ) → AllByRecursion Q days
-      → holds_such test days b ≡ true → (x : DayValue) × Q x × (block_of x.0 ≡ b) × (test x.1 ≡ true)
-  holds-among Q [] b all e = absurd cc
-  holds-among Q (x ∷ xs) b all e =
-      elim (or_either (int_eq (block_of x.0) b && test x.1) (holds_such test xs b) e) [
-        | inl here ↦
-            let both = both_pass (int_eq (block_of x.0) b) (test x.1) here in
-            (x, all.0, (Decides-int_eq (block_of x.0) b).0 both.0, both.1)
-        | inr later ↦ holds-among Q xs b all.1 later
-      ]
+  -- the block of each day that passes holds one
+  pub holds-of : (days : List DayValue) (x : DayValue) → Contains days x → test x.1 ≡ true
+      → holds_such test days (block_of x.0) ≡ true
+  holds-of days x has passes = any_of (λ y. int_eq (block_of y.0) (block_of x.0) && test y.1) days x has
+      (pass_both (int_eq (block_of x.0) (block_of x.0)) (test x.1) (int_eq-same (block_of x.0)) passes)
 
   -- such a day lies in a block that holds one
   pub such-holds : (days : List DayValue) (d : ℤ) → is_such test days d ≡ true
       → holds_such test days (block_of d) ≡ true
-  such-holds days d e =
-      let has = such-has test (value_on days d) e in
-      let passes : test has.0 ≡ true = sym (ap (λ o. option_map_or test o false) has.1) ∙ e in
-      value_on-among (λ n v. test v ≡ true → holds_such test days (block_of n) ≡ true) days d has.0 (holds-each days)
-      has.1 passes
+  such-holds days d e = let has = such-in test days d e in holds-of days (d, has.0) has.1 has.2
 
   -- of the days of some blocks, one of these holds what it held
   pub holds-filter : (p : ℤ → Bool) (days : List DayValue) (b : ℤ) → p b ≡ true
@@ -78,9 +53,8 @@ module _ (test : ℤ → Bool) where
   pub holds-kept : (p : ℤ → Bool) (days : List DayValue) (b : ℤ)
       → holds_such test (filter (λ x. p (block_of x.0)) days) b ≡ true → (p b ≡ true) × (holds_such test days b ≡ true)
   holds-kept p days b e =
-      let found = holds-among (λ x. Unit {0} × (p (block_of x.0) ≡ true)) (filter (λ x. p (block_of x.0)) days) b
-      (all-passing (λ _. Unit {0}) (λ x. p (block_of x.0)) days (each (λ _. Unit {0}) days (λ _. tt))) e in
-      let inside : p b ≡ true = ap p (sym found.2) ∙ found.1.1 in
+      let found = holds-in (filter (λ x. p (block_of x.0)) days) b e in
+      let inside = ap p (sym found.2) ∙ (of_kept (λ x. p (block_of x.0)) days found.0 found.1).1 in
       (inside, sym (holds-filter p days b inside) ∙ e)
 
 -- a block holds a hot day where its greatest value is hot
@@ -88,20 +62,14 @@ holds-greatest : (t : ℤ) (days : List DayValue) (b z : ℤ) → IsGreatest (Is
     → holds_such (is_hot t) days b ≡ int_le t z
 holds-greatest t days b z of_z = elim (int_le t z) as (λ r. int_le t z ≡ r → holds_such (is_hot t) days b ≡ r) [
   | true ↦ λ e.
-      let found = pick (λ x. x.1)
-      (λ x. (is_hot t x.1 ≡ true → holds_such (is_hot t) days (block_of x.0) ≡ true)
-      × (int_eq (block_of x.0) b ≡ true)) (days_in days b) z
-      (all-passing (λ x. is_hot t x.1 ≡ true → holds_such (is_hot t) days (block_of x.0) ≡ true)
-      (λ x. int_eq (block_of x.0) b) days (holds-each (is_hot t) days)) of_z.is_one in
-      ap (holds_such (is_hot t) days) (sym ((Decides-int_eq (block_of found.0.0) b).0 found.1.1))
-      ∙ found.1.0 (ap (int_le t) found.2 ∙ e)
+      let day = from_kept (λ x. x.1) (λ x. int_eq (block_of x.0) b) days z of_z.is_one in
+      ap (holds_such (is_hot t) days) (sym ((Decides-int_eq (block_of day.0.0) b).0 day.1.1))
+      ∙ holds-of (is_hot t) days day.0 day.1.0 (ap (int_le t) day.2 ∙ e)
   | false ↦ λ e. fails (holds_such (is_hot t) days b) (λ holds.
-      let found = holds-among (is_hot t)
-      (λ x. int_eq (block_of x.0) b ≡ true → Contains (map (λ y. y.1) (days_in days b)) x.1) days b
-      (stands (λ x. x.1) (λ x. int_eq (block_of x.0) b) days) holds in
-      let most = of_z.is_most found.0.1 (found.1 ((Decides-int_eq (block_of found.0.0) b).1 found.2)) in
-      let hot = int_le-true t found.0.1 found.3 in
-      not_both _ (le-int_le t z (omega (arith, ints, most, hot))) e)
+      let day = holds-in (is_hot t) days b holds in
+      let most = of_z.is_most day.0.1 (in_kept (λ x. x.1) (λ x. int_eq (block_of x.0) b) days day.0 day.1
+      ((Decides-int_eq (block_of day.0.0) b).1 day.2)) in
+      absurd (omega (arith, ints, most, int_le-true t day.0.1 day.3, int_le-false t z e)))
 ] refl
 
 -- ---- days that count for a spell
@@ -125,12 +93,12 @@ counts-kept (Hot t) p days d e = holds-kept (is_hot t) p days (block_of d) e
 pub counts-among : (k : Spell) (Q : ℤ → Type 0) (days : List DayValue) (d : ℤ)
     → AllByRecursion (λ x. Q (block_of x.0)) days → counts k days d ≡ true → Q (block_of d)
 counts-among Dry Q days d all e =
-    let has = such-has is_dry (value_on days d) e in
-    value_on-among (λ (n v : ℤ). Q (block_of n)) days d has.0 all has.1
+    let day = such-in is_dry days d e in of_each (λ x. Q (block_of x.0)) days all (d, day.0) day.1
 counts-among Wet Q days d all e =
-    let has = such-has is_wet (value_on days d) e in
-    value_on-among (λ (n v : ℤ). Q (block_of n)) days d has.0 all has.1
-counts-among (Hot t) Q days d all e = grind (arith, ints, holds-among)
+    let day = such-in is_wet days d e in of_each (λ x. Q (block_of x.0)) days all (d, day.0) day.1
+counts-among (Hot t) Q days d all e =
+    let day = holds-in (is_hot t) days (block_of d) e in
+    subst Q day.2 (of_each (λ x. Q (block_of x.0)) days all day.0 day.1)
 
 -- where a block's greatest value is hot, all its days count, and else none
 pub hot-bits : (t : ℤ) (days : List DayValue) (b z : ℤ) (word : ℕ) → IsGreatest (IsScore (λ v. v) (days_in days b)) z
@@ -148,22 +116,18 @@ module _ (such : ℤ → Bool) (k : ℕ) (of_k : IsGreatest (IsRunLength such) (
       let high = block-holds (first +ℤ pos n) in
       let far = distance (block_of first) (block_of (first +ℤ pos n))
       (block-rises first (first +ℤ pos n) (omega (arith, ints))) in
-      let here : (j : ℕ) → j < suc far.0 → such (block_of first +ℤ pos j) ≡ true = λ j. elim j as
-      (λ j. j < suc far.0 → such (block_of first +ℤ pos j) ≡ true) [
-        | zero ↦ λ lt.
-            let same : first +ℤ pos 0 ≡ first = omega (arith, ints) in
-            let own : block_of first +ℤ pos 0 ≡ block_of first = omega (arith, ints) in
-            ap such (own ∙ ap block_of (sym same)) ∙ pass 0 (omega arith)
-        | suc j ↦ λ lt.
-            let day : ℤ = block_start (block_of first +ℤ pos (suc j)) in
-            let at = distance first day (omega (arith, ints, low.1)) in
-            let within : at.0 < suc n = omega (arith, ints, at.1, far.1, high.0, lt) in
-            let start : day ≡ block_start (block_of first +ℤ pos (suc j)) +ℤ pos 0 = omega (arith, ints) in
-            let block : block_of (first +ℤ pos at.0) ≡ block_of first +ℤ pos (suc j) =
-            ap block_of (sym at.1 ∙ start) ∙ block-of_place (block_of first +ℤ pos (suc j)) 0 (omega arith) in
-            ap such (sym block) ∙ pass at.0 within
-      ] in
-      let most = of_k.is_most (pos (suc far.0)) (suc far.0, block_of first, refl, here) in
+      let most = of_k.is_most (pos (suc far.0)) (
+        suc far.0,
+        block_of first,
+        refl,
+        λ j lt.
+            let day : ℤ = int_max first (block_start (block_of first +ℤ pos j)) in
+            let at = distance first day (omega (arith, ints, clamps)) in
+            let holds = block-holds (first +ℤ pos at.0) in
+            let block : block_of (first +ℤ pos at.0) ≡ block_of first +ℤ pos j =
+            omega (arith, ints, clamps, at.1, low.0, low.1, holds.0, holds.1) in
+            ap such (sym block) ∙ pass at.0 (omega (arith, ints, clamps, at.1, far.1, low.0, high.0, lt)),
+      ) in
       omega (arith, ints, most, far.1, low.0, high.1)
 
   -- the days of the most such blocks in a row are the most days in a row in such blocks

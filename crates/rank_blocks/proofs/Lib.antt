@@ -1,9 +1,7 @@
-pub mod DayTests
 pub mod WordRuns
 pub mod ValueSteps
 pub mod Members
 pub mod DayValues
-pub mod Numbers
 pub mod Totals
 pub mod WindowTotals
 pub mod PossibleBlocks

@@ -1,13 +1,13 @@
 -- The longest run of days, block by block.
-use Rattle.std.proofs.Common.{◌≡◌, ℕ, zero, suc, ◌+◌, ◌-◌, ◌<◌, ◌≤◌, Bool, true, false, max, inl, inr, sym, ap, ◌∙◌}
-use Rattle.std.proofs.Common.{arith, ℤ, pos, ◌≤ℤ◌, ◌<ℤ◌, ◌+ℤ◌, ◌-ℤ◌}
+use Rattle.std.proofs.Common.{◌≡◌, ℕ, zero, suc, ◌+◌, ◌-◌, ◌<◌, ◌≤◌, Bool, true, false, max, ◌⊎◌, inl, inr, sym, ap}
+use Rattle.std.proofs.Common.{◌∙◌, arith, ℤ, pos, ◌≤ℤ◌, ◌<ℤ◌, ◌+ℤ◌, ◌-ℤ◌}
 use Rattle.std.proofs.lemmas.Int.{ints}
 use Rattle.std.proofs.Math.Nat.{max-eq_left, max-eq_right}
 use Rattle.rank_blocks.specs.declared.runs.Runs.{Runs}
 use Rattle.rank_blocks.specs.Blocks.{block_start}
 use Rattle.rank_blocks.specs.DayRuns.{has_bit, ComeFirst, ComeLast, FollowAtMost, AllFrom, AreRuns, runs_before}
 use Rattle.rank_blocks.specs.DayRuns.{NoneBetween, AreBitsOf}
-use Rattle.rank_blocks.proofs.DayTests.{not_both, at_most_or_more, int_le_or_lt, distance}
+use Rattle.rank_blocks.proofs.DayValues.{not_both, at_most_or_more, int_le_or_lt, distance}
 
 -- of two numbers that something is true of, it is true of the greater
 pub max-one : (P : ℕ → Type 0) (m n : ℕ) → P m → P n → P (max m n)
@@ -43,36 +43,31 @@ module _ (such : ℤ → Bool) where
       most first (suc n) within pass =
           absurd (not_both _ (pass n (omega arith)) (none (first +ℤ pos n) (omega (arith, ints))))
 
-  -- up to a later block, where no day between is of the kind: the open run goes on at the block behind it alone
-  pub runs-up_to : (r new : Runs) → AreRuns such r → r.next ≤ℤ new.next → NoneBetween such r.next new.next
-      → (new.next ≡ r.next → new.last ≡ r.last) → ((new.next ≡ r.next → ⊥) → new.last ≡ 0)
-      → new.longest ≡ r.longest → AreRuns such new
-  runs-up_to r new are order none same other longest =
-      elim (int_le_or_lt new.next r.next) [
+  -- up to a later block, where no day between is of the kind: no run is open
+  pub runs-later : (r : Runs) (n : ℤ) → AreRuns such r → r.next <ℤ n → NoneBetween such r.next n
+      → AreRuns such (record { next = n; last = 0; longest = r.longest })
+  runs-later r n are later none = record {
+    from = block_start n;
+    ends = omega (arith, ints);
+    last = λ i lt. absurd (omega arith);
+    begins = none (block_start n -ℤ pos 1) (omega (arith, ints)) (omega (arith, ints));
+    somewhere = are.somewhere;
+    nowhere_more = λ first len within pass. earlier r n are none len first within pass;
+  }
+
+  -- a day that isn't of the kind lies before a run or behind it
+  outside : (first d : ℤ) (len : ℕ) → AllFrom such first len → such d ≡ false → (d <ℤ first) ⊎ ((first +ℤ pos len) ≤ℤ d)
+  outside first d len pass fails =
+      elim (int_le_or_lt first d) [
+        | inr lt ↦ inl lt
         | inl le ↦
-            let here : new.next ≡ r.next = omega (arith, ints) in
-            let last = same here in
-            let ends = are.ends in
-            record {
-              from = are.from;
-              ends = omega (arith, ints);
-              last = λ i lt. are.last i (omega arith);
-              begins = are.begins;
-              somewhere = (are.somewhere.0, λ i lt. are.somewhere.1 i (omega arith));
-              nowhere_more = λ first len within pass.
-                  let most = are.nowhere_more first len (omega (arith, ints)) pass in omega arith;
-            }
-        | inr later ↦
-            let last = other (λ here. omega (arith, ints)) in
-            record {
-              from = block_start new.next;
-              ends = omega (arith, ints);
-              last = λ i lt. absurd (omega arith);
-              begins = none (block_start new.next -ℤ pos 1) (omega (arith, ints)) (omega (arith, ints));
-              somewhere = (are.somewhere.0, λ i lt. are.somewhere.1 i (omega arith));
-              nowhere_more = λ first len within pass.
-                  let most = earlier r new.next are none len first within pass in omega arith;
-            }
+            elim (int_le_or_lt (first +ℤ pos len) d) [
+              | inl behind ↦ inr behind
+              | inr lt ↦
+                  let far = distance first d le in
+                  let at = far.1 in
+                  absurd (not_both _ (ap such at ∙ pass far.0 (omega (arith, ints))) fails)
+            ]
       ]
 
   module _ (r : Runs) (are : AreRuns such r) (word f l m : ℕ) (bits : AreBitsOf such r.next word)
@@ -96,31 +91,22 @@ module _ (such : ℤ → Bool) where
           | inr before ↦ are.last i before
         ]
 
-    -- a run over the border begins no earlier than the open run
-    before_border : (first : ℤ) (len : ℕ) → first <ℤ block_start r.next → block_start r.next <ℤ (first +ℤ pos len)
-        → AllFrom such first len → are.from ≤ℤ first
-    before_border first len low high pass =
-        elim (int_le_or_lt are.from first) [
-          | inl le ↦ le
-          | inr lt ↦
-              let far = distance first (are.from -ℤ pos 1) (omega (arith, ints)) in
-              let is = far.1 in
-              absurd (not_both _ (ap such is ∙ pass far.0 (omega (arith, ints))) are.begins)
-        ]
-
-    -- it ends no later than the days that come first in the block
-    after_border : (first : ℤ) (len : ℕ) → first <ℤ block_start r.next
-        → (first +ℤ pos len) ≤ℤ (block_start r.next +ℤ pos 32) → AllFrom such first len
-        → (first +ℤ pos len) ≤ℤ (block_start r.next +ℤ pos f)
-    after_border first len low within pass =
-        elim (int_le_or_lt (first +ℤ pos len) (block_start r.next +ℤ pos f)) [
-          | inl le ↦ le
-          | inr more ↦
-              let lt : f < 32 = omega (arith, ints) in
-              let far = distance first (block_start r.next +ℤ pos f) (omega (arith, ints)) in
-              let is = far.1 in
-              let passes = ap such is ∙ pass far.0 (omega (arith, ints)) in
-              absurd (not_both _ (bits f lt ∙ passes) (firsts.ends lt))
+    -- a run over the border begins no earlier than the open run, and ends no later than the days that come first
+    over-most : (first : ℤ) (len : ℕ) → first <ℤ block_start r.next → block_start r.next <ℤ (first +ℤ pos len)
+        → (first +ℤ pos len) ≤ℤ (block_start r.next +ℤ pos 32) → AllFrom such first len → len ≤ r.last + f
+    over-most first len low high within pass =
+        let ends = are.ends in
+        elim (outside first (are.from -ℤ pos 1) len pass are.begins) [
+          | inr far ↦ absurd (omega (arith, ints))
+          | inl begins ↦
+              elim (at_most_or_more 32 f) [
+                | inl all ↦ omega (arith, ints)
+                | inr lt ↦
+                    elim (outside first (block_start r.next +ℤ pos f) len pass (sym (bits f lt) ∙ firsts.ends lt)) [
+                      | inl before ↦ absurd (omega (arith, ints))
+                      | inr ending ↦ omega (arith, ints)
+                    ]
+              ]
         ]
 
     -- no run that ends in the block or before it is longer than those that are told of
@@ -139,10 +125,7 @@ module _ (such : ℤ → Bool) where
                     to_bit k (first +ℤ pos (k - far.0)) (omega (arith, ints)) (omega (arith, ints))
                     (pass (k - far.0) (omega arith))) in
                     omega arith
-                | inr cross ↦
-                    let low = before_border first len cross over pass in
-                    let high = after_border first len cross within pass in
-                    omega (arith, ints)
+                | inr cross ↦ let most = over-most first len cross over within pass in omega arith
               ]
         ]
 

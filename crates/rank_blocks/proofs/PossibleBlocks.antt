@@ -1,27 +1,39 @@
--- What is true of the summaries of every series.
-use Rattle.std.proofs.Common.{◌≡◌, ℕ, zero, suc, drop, ◌≤◌, List, [], ◌∷◌, map, length, arith, ℤ, pos, neg_ℤ, ◌≤ℤ◌}
-use Rattle.std.proofs.Common.{◌+ℤ◌}
+-- Numbers in their order, and what is true of the summaries of every series.
+use Rattle.std.proofs.Common.{◌≡◌, ℕ, zero, suc, drop, ◌-◌, ◌<◌, ◌≤◌, List, [], ◌∷◌, ◌++◌, map, length, get_or, arith}
+use Rattle.std.proofs.Common.{ℤ, pos, ◌≤ℤ◌, ◌<ℤ◌, ◌+ℤ◌, int_cmp, Less}
 use Rattle.std.specs.List.{AllByRecursion}
 use Rattle.std.specs.List.Sorted.{IsStrictlySortedBy}
-use Rattle.std.specs.Ordering.{int_cmp}
-use Rattle.std.specs.declared.cmp.Ordering.TheVariants.{Less}
 use Rattle.std.proofs.lemmas.Int.{ints}
+use Rattle.std.proofs.lemmas.List.Elements.{All-from_recursion, All-get_or}
 use Rattle.rank_blocks.specs.declared.summary.Summary.{Summary}
 use Rattle.rank_blocks.specs.Summaries.{IsPossible, ArePossible}
-use Rattle.rank_blocks.proofs.Numbers.{int_cmp-less}
+use Rattle.rank_scores.proofs.Rising.{all-mapped}
+use Rattle.rank_blocks.proofs.DayValues.{int_lt-true}
+use Rattle.rank_blocks.proofs.Members.{from_each, all-append}
 use Rattle.rank_blocks.proofs.WindowTotals.{AreBehind}
 
--- numbers that stand behind another in order are greater
-numbers-behind : (b : ℤ) (ms : List Summary) → AllByRecursion (λ n. int_cmp b n ≡ Less) (map (λ m. m.number) ms)
-    → AreBehind b ms
-numbers-behind b [] h = tt
-numbers-behind b (m ∷ ms) h = (int_cmp-less b m.number h.0, numbers-behind b ms h.1)
+-- what compares as less is below
+pub int_cmp-less : (a b : ℤ) → int_cmp a b ≡ Less → a <ℤ b
+int_cmp-less a b e = grind (arith, ints, int_lt-true)
+
+-- no numbers are in order
+pub sorted-none : IsStrictlySortedBy int_cmp []
+unfolding IsStrictlySortedBy
+sorted-none = tt
+
+-- numbers in order, and one behind them that is greater than each
+pub sorted-push : (xs : List ℤ) (v : ℤ) → IsStrictlySortedBy int_cmp xs → AllByRecursion (λ x. x <ℤ v) xs
+    → IsStrictlySortedBy int_cmp (xs ++ v ∷ [])
+unfolding IsStrictlySortedBy
+sorted-push [] v h less = (tt, tt)
+sorted-push (x ∷ xs) v h less = grind (arith, ints, all-append, sorted-push xs v h.1 less.1)
 
 -- blocks by number: those behind the first have greater numbers
 pub sorted-behind : (m : Summary) (ms : List Summary) → IsStrictlySortedBy int_cmp (map (λ k. k.number) (m ∷ ms))
     → AreBehind m.number ms
 unfolding IsStrictlySortedBy
-sorted-behind m ms h = numbers-behind m.number ms h.0
+sorted-behind m ms h = from_each (λ k. int_cmp m.number k.number ≡ Less) (λ k. m.number <ℤ k.number) ms
+    (λ k. int_cmp-less m.number k.number) (all-mapped (λ n. int_cmp m.number n ≡ Less) (λ k. k.number) ms h.0)
 
 -- and are by number themselves
 pub sorted-tail : (m : Summary) (ms : List Summary) → IsStrictlySortedBy int_cmp (map (λ k. k.number) (m ∷ ms))
@@ -39,22 +51,38 @@ possible-drop ms zero h = h
 possible-drop [] (suc i) h = h
 possible-drop (m ∷ ms) (suc i) h = possible-drop ms i (possible-tail m ms h)
 
--- blocks behind a number are no more than there are numbers
-few-behind : (b : ℤ) (ms : List Summary) → b ≤ℤ pos 91_653 → AllByRecursion IsPossible ms
-    → IsStrictlySortedBy int_cmp (map (λ m. m.number) ms) → AreBehind b ms → (b +ℤ pos (length ms)) ≤ℤ pos 91_653
-few-behind b [] low possible sorted behind = omega (arith, ints)
-few-behind b (m ∷ ms) low possible sorted behind =
-    let high = possible.0.high in
-    let rest = few-behind m.number ms high possible.1 (sorted-tail m ms sorted) (sorted-behind m ms sorted) in
+-- what stands behind the end of a list of summaries
+abbrev pub no_block : Summary
+no_block = record { number = pos 0; days = 0; day = pos 0; total = pos 0 }
+
+-- the summary at a place
+abbrev pub block_at : List Summary → ℕ → Summary
+block_at ms i = get_or ms i no_block
+
+-- the numbers rise from place to place
+pub rises : (ms : List Summary) → IsStrictlySortedBy int_cmp (map (λ m. m.number) ms) → (i j : ℕ) → i ≤ j
+    → j < length ms → ((block_at ms i).number +ℤ pos (j - i)) ≤ℤ (block_at ms j).number
+rises [] sorted i j le lt = absurd (omega arith)
+rises (m ∷ ms) sorted zero zero le lt = omega (arith, ints)
+rises (m ∷ ms) sorted zero (suc j) le lt =
+    let next = All-get_or (λ k. m.number <ℤ k.number) ms 0 no_block (omega arith)
+    (All-from_recursion (λ k. m.number <ℤ k.number) ms (sorted-behind m ms sorted)) in
+    let rest = rises ms (sorted-tail m ms sorted) 0 j (omega arith) (omega arith) in
+    omega (arith, ints)
+rises (m ∷ ms) sorted (suc i) zero le lt = absurd (omega arith)
+rises (m ∷ ms) sorted (suc i) (suc j) le lt =
+    let rest = rises ms (sorted-tail m ms sorted) i j (omega arith) (omega arith) in
     omega (arith, ints)
 
--- each possible block stands behind the number before the first
-all-behind : (ms : List Summary) → AllByRecursion IsPossible ms → AreBehind (neg_ℤ (pos 22_475)) ms
-all-behind [] h = tt
-all-behind (m ∷ ms) h = (let low = h.0.low in omega (arith, ints), all-behind ms h.1)
+-- the summary at a place is possible
+pub possible-at : (ms : List Summary) (i : ℕ) → i < length ms → ArePossible ms → IsPossible (block_at ms i)
+possible-at ms i lt h = All-get_or IsPossible ms i no_block lt (All-from_recursion IsPossible ms h.each)
 
 -- there are no more summaries than blocks
 pub possible-few : (ms : List Summary) → ArePossible ms → length ms ≤ 114_128
-possible-few ms h =
-    let few = few-behind (neg_ℤ (pos 22_475)) ms (omega (arith, ints)) h.each h.by_number (all-behind ms h.each) in
+possible-few [] h = omega arith
+possible-few (m ∷ ms) h =
+    let rise = rises (m ∷ ms) h.by_number 0 (length ms) (omega arith) (omega arith) in
+    let low = h.each.0.low in
+    let high = (possible-at (m ∷ ms) (length ms) (omega arith) h).high in
     omega (arith, ints)

@@ -1,31 +1,21 @@
 -- The days of the blocks of a range.
 use Rattle.std.proofs.Common.{◌≡◌, Bool, true, false, cond, List, [], ◌∷◌, map, filter, Option, Some, None, refl, sym}
-use Rattle.std.proofs.Common.{ap, ◌∙◌, subst, arith, ℤ, ◌≤ℤ◌}
-use Rattle.std.specs.Prelude.{◌&&◌, int_le}
-use Rattle.std.specs.List.{AllByRecursion, Contains, find}
-use Rattle.std.specs.Option.{option_map, option_map_or}
-use Rattle.std.specs.Ordering.{int_eq}
+use Rattle.std.proofs.Common.{ap, ◌∙◌, subst, arith, ℤ, ◌&&◌, int_le, Contains, find, option_map, int_eq}
+use Rattle.std.specs.List.{AllByRecursion}
+use Rattle.std.specs.Option.{option_map_or}
 use Rattle.std.proofs.lemmas.Bool.Decides.{Decides-int_eq}
 use Rattle.std.proofs.lemmas.Int.{ints}
 use Rattle.ghcn_fields.specs.Days.{block_of, is_day, first_day, last_day}
-use Rattle.ghcn_fields.specs.Sorting.{greatest}
 use Rattle.ghcn_series.specs.Series.{DayValue, Usable, value_on}
 use Rattle.rank_query.specs.Asked.{Asked}
 use Rattle.rank_query.specs.Admits.{admits_day, period_holds}
 use Rattle.rank_scores.specs.Candidates.{is_such}
 use Rattle.rank_blocks.specs.declared.summary.Summary.{Summary}
-use Rattle.rank_blocks.specs.Blocks.{days_in, is_reached}
+use Rattle.rank_blocks.specs.Blocks.{is_reached}
 use Rattle.rank_blocks.specs.Greatest.{IsGreatest, IsScore}
 use Rattle.rank_blocks.specs.Summaries.{AreOfBlocks, HasDay}
-use Rattle.rank_blocks.proofs.Members.{from_both, for_every, all-passing, pick, stands, stands-wider}
-use Rattle.rank_blocks.proofs.Members.{greatest-IsGreatest}
-use Rattle.rank_blocks.proofs.DayTests.{both_pass, pass_both, int_le-true, le-int_le}
-use Rattle.rank_blocks.proofs.DayValues.{block-rises}
-use Rattle.std.proofs.Common.{rules}
-
--- a day that isn't kept has no value
-nowhere : (b : Bool) → cond b (option_map {T = DayValue} (λ x. x.1) None) None ≡ None
-nowhere x = grind (arith, ints)
+use Rattle.rank_blocks.proofs.Members.{itself, of_each, of_kept, pick, in_kept, from_kept}
+use Rattle.rank_blocks.proofs.DayValues.{both_pass, pass_both, int_le-true, le-int_le, block-rises}
 
 module _ (p : ℤ → Bool) (d : ℤ) where
   -- the pairs whose day passes
@@ -41,7 +31,7 @@ module _ (p : ℤ → Bool) (d : ℤ) where
 
   -- of the days that pass a test, a day has the value that it had
   pub value_on-filter : (days : List DayValue) → value_on (kept days) d ≡ cond (p d) (value_on days d) None
-  value_on-filter [] = sym (nowhere (p d))
+  value_on-filter [] = grind (arith, ints)
   value_on-filter (x ∷ xs) = at x xs (p x.0) (int_eq x.0 d) refl refl (value_on-filter xs)
 
 -- a day that has a value is one of the days, and all that is true of each of them is true of it
@@ -58,18 +48,20 @@ value_on-among Q (x ∷ xs) d v all e =
       | false ↦ λ is h. value_on-among Q xs d v all.1 h
     ] refl e
 
--- a day that passes has a value
+-- a day that has a value is one of the days, with that value
+pub value_on-in : (days : List DayValue) (d v : ℤ) → value_on days d ≡ Some v → Contains days (d, v)
+value_on-in days d v e = value_on-among (λ n w. Contains days (n, w)) days d v (itself days) e
+
+-- a day that passes has a value, which passes
 pub such-has : (test : ℤ → Bool) (o : Option ℤ) → option_map_or test o false ≡ true → (v : ℤ) × (o ≡ Some v)
+    × (test v ≡ true)
 such-has test k e = grind (arith, ints)
 
--- a choice that is something was made
-chosen : (b : Bool) (o : Option ℤ) (v : ℤ) → cond b o None ≡ Some v → (b ≡ true) × (o ≡ Some v)
-chosen x o v e = grind (arith, ints)
-
--- a value among the days that pass a test is the day's own, and the day passes
-pub kept-value : (p : ℤ → Bool) (days : List DayValue) (d v : ℤ) → value_on (filter (λ x. p x.0) days) d ≡ Some v
-    → (p d ≡ true) × (value_on days d ≡ Some v)
-kept-value p days d v e = chosen (p d) (value_on days d) v (sym (value_on-filter p d days) ∙ e)
+-- such a day is one of the days, with a value that passes
+pub such-in : (test : ℤ → Bool) (days : List DayValue) (d : ℤ) → is_such test days d ≡ true
+    → (v : ℤ) × Contains days (d, v) × (test v ≡ true)
+such-in test days d e =
+    let has = such-has test (value_on days d) e in (has.0, value_on-in days d has.0 has.1, has.2)
 
 -- of days that pass a test that d passes too, d is such a day or isn't, as before
 pub such-filter : (test : ℤ → Bool) (p : ℤ → Bool) (days : List DayValue) (d : ℤ) → p d ≡ true
@@ -79,7 +71,10 @@ such-filter test p days d passes = grind (arith, ints, value_on-filter)
 -- such a day among those that pass a test passes it, and is such a day among all
 pub such-kept : (test : ℤ → Bool) (p : ℤ → Bool) (days : List DayValue) (d : ℤ)
     → is_such test (filter (λ x. p x.0) days) d ≡ true → (p d ≡ true) × (is_such test days d ≡ true)
-such-kept test p days d e = grind (arith, ints, such-has, kept-value, such-filter)
+such-kept test p days d e =
+    let day = such-in test (filter (λ x. p x.0) days) d e in
+    let passes = (of_kept (λ x. p x.0) days (d, day.0) day.1).1 in
+    (passes, sym (such-filter test p days d passes) ∙ e)
 
 -- such a day among those that pass one test is such a day among those that pass a wider one
 pub such-wider : (test : ℤ → Bool) (p q : ℤ → Bool) (days : List DayValue) (d : ℤ) → ((n : ℤ) → p n ≡ true → q n ≡ true)
@@ -102,41 +97,33 @@ admitted-reached q d e = grind (arith, ints, reached_in, both_pass)
 
 -- ---- the greatest score of a day, from the summaries
 
-module _ (f : ℤ → ℤ) (P : ℤ → Bool) (s : Usable) (ms : List Summary) (are : AreOfBlocks (HasDay f s.days) s ms) where
-  -- each day's score is among those of its own block
-  own_block : AllByRecursion
-      (λ x. (b : ℤ) → int_eq (block_of x.0) b ≡ true → Contains (map (λ y. f y.1) (days_in s.days b)) (f x.1)) s.days
-  own_block = search (rules, arith, for_every, stands)
+-- the block of a day has a summary
+pub summary-of : (P : Summary → Type 0) (s : Usable) (ms : List Summary) → AreOfBlocks P s ms → (x : DayValue)
+    → Contains s.days x → (m : Summary) × Contains ms m × (m.number ≡ block_of x.0)
+summary-of P s ms are x has =
+    pick (λ m. m.number) (Contains ms) ms (block_of x.0) (itself ms)
+    (of_each (λ x. Contains (map (λ m. m.number) ms) (block_of x.0)) s.days are.all x has)
 
-  -- the greatest score of the summaries of the blocks that pass is the greatest of their days
-  pub greatest-of_blocks : (z : ℤ) → greatest (map (λ m. m.day) (filter (λ m. P m.number) ms)) ≡ Some z
-      → IsGreatest (IsScore f (filter (λ x. P (block_of x.0)) s.days)) z
-  greatest-of_blocks z e =
-      let of_z = greatest-IsGreatest (map (λ m. m.day) (filter (λ m. P m.number) ms)) z e in
-      let found = pick (λ m. m.day) (λ m. HasDay f s.days m × (P m.number ≡ true)) (filter (λ m. P m.number) ms) z
-      (all-passing (HasDay f s.days) (λ m. P m.number) ms are.each) of_z.is_one in
-      let Score : ℤ → Type 0 = λ n. Contains (map (λ x. f x.1) (days_in s.days found.0.number)) n in
-      record {
-        is_one = stands-wider (λ x. f x.1) (λ x. int_eq (block_of x.0) found.0.number) (λ x. P (block_of x.0)) s.days z
-            (λ x in_block. ap P ((Decides-int_eq (block_of x.0) found.0.number).0 in_block) ∙ found.1.1)
-            (subst Score found.2 found.1.0.is_one);
-        is_most = λ y h.
-            let Own : DayValue → Type 0 =
-            λ x. (b : ℤ) → int_eq (block_of x.0) b ≡ true → Contains (map (λ y. f y.1) (days_in s.days b)) (f x.1) in
-            let Has : DayValue → Type 0 = λ x. Contains (map (λ m. m.number) ms) (block_of x.0) in
-            let days = from_both Own Has (λ x. Own x × Has x) s.days (λ x own has. (own, has)) own_block are.all in
-            let day = pick (λ x. f x.1) (λ x. (Own x × Has x) × (P (block_of x.0) ≡ true))
-            (filter (λ x. P (block_of x.0)) s.days) y
-            (all-passing (λ x. Own x × Has x) (λ x. P (block_of x.0)) s.days days) h in
-            let Block : Summary → Type 0 = λ m. HasDay f s.days m × (P m.number ≡ true → m.day ≤ℤ z) in
-            let blocks =
-            from_both (HasDay f s.days)
-            (λ m. P m.number ≡ true → Contains (map (λ m. m.day) (filter (λ m. P m.number) ms)) m.day) Block ms
-            (λ m is stand. (is, λ passes. of_z.is_most m.day (stand passes))) are.each
-            (stands (λ m. m.day) (λ m. P m.number) ms) in
-            let block = pick (λ m. m.number) Block ms (block_of day.0.0) blocks day.1.0.1 in
-            let own = day.1.0.0 block.0.number ((Decides-int_eq (block_of day.0.0) block.0.number).1 (sym block.2)) in
-            let below_block = block.1.0.is_most (f day.0.1) own in
-            let below_z = block.1.1 (ap P block.2 ∙ day.1.1) in
-            omega (arith, ints);
-      }
+-- the greatest score of the summaries of the blocks that pass is the greatest of their days
+pub greatest-of_blocks : (f : ℤ → ℤ) (P : ℤ → Bool) (s : Usable) (ms : List Summary) (z : ℤ)
+    → AreOfBlocks (HasDay f s.days) s ms → IsGreatest (Contains (map (λ m. m.day) (filter (λ m. P m.number) ms))) z
+    → IsGreatest (IsScore f (filter (λ x. P (block_of x.0)) s.days)) z
+greatest-of_blocks f P s ms z are of_z =
+    let block = from_kept (λ m. m.day) (λ m. P m.number) ms z of_z.is_one in
+    let day = from_kept (λ x. f x.1) (λ x. int_eq (block_of x.0) block.0.number) s.days block.0.day
+    (of_each (HasDay f s.days) ms are.each block.0 block.1.0).is_one in
+    let passes = ap P ((Decides-int_eq (block_of day.0.0) block.0.number).0 day.1.1) ∙ block.1.1 in
+    record {
+      is_one = subst (IsScore f (filter (λ x. P (block_of x.0)) s.days)) (day.2 ∙ block.2)
+          (in_kept (λ x. f x.1) (λ x. P (block_of x.0)) s.days day.0 day.1.0 passes);
+      is_most = λ y h.
+          let x = from_kept (λ x. f x.1) (λ x. P (block_of x.0)) s.days y h in
+          let m = summary-of (HasDay f s.days) s ms are x.0 x.1.0 in
+          let own = (of_each (HasDay f s.days) ms are.each m.0 m.1).is_most (f x.0.1)
+          (in_kept (λ x. f x.1) (λ x. int_eq (block_of x.0) m.0.number) s.days x.0 x.1.0
+          ((Decides-int_eq (block_of x.0.0) m.0.number).1 (sym m.2))) in
+          let most = of_z.is_most m.0.day
+          (in_kept (λ m. m.day) (λ m. P m.number) ms m.0 m.1 (ap P m.2 ∙ x.1.1)) in
+          let is = x.2 in
+          omega (arith, ints);
+    }

@@ -1,15 +1,13 @@
 -- The summaries of a series, block by block.
 use Rattle.std.proofs.Common.{◌≡◌, ℕ, ◌<◌, ◌^◌, true, false, cond, List, [], ◌∷◌, ◌++◌, map, ◌⊎◌, inl, inr, Option}
-use Rattle.std.proofs.Common.{Some, None, refl, sym, ◌∙◌, subst, arith, ℤ, pos, ◌≤ℤ◌, ◌<ℤ◌, ◌+ℤ◌, w32}
-use Rattle.std.specs.Prelude.{int_le}
+use Rattle.std.proofs.Common.{Some, None, refl, sym, ◌∙◌, subst, arith, ℤ, pos, ◌≤ℤ◌, ◌<ℤ◌, ◌+ℤ◌, w32, int_le, Contains}
+use Rattle.std.proofs.Common.{find, option_map, int_cmp}
 use Rattle.std.specs.Int.{trailing_zeros}
-use Rattle.std.specs.List.{AllByRecursion, Contains, find}
+use Rattle.std.specs.List.{AllByRecursion}
 use Rattle.std.specs.List.Sorted.{IsStrictlySortedBy}
-use Rattle.std.specs.Option.{option_map}
-use Rattle.std.specs.Ordering.{int_cmp}
 use Rattle.std.proofs.lemmas.Int.{ints, by_lt_z}
 use Rattle.std.proofs.lemmas.List.{map-append}
-use Rattle.std.proofs.lemmas.List.Elements.{Contains-append_left}
+use Rattle.std.proofs.lemmas.List.Elements.{Contains-append_left, Contains-push}
 use Rattle.std.proofs.lemmas.Nat.Bits.{bit_at-trailing_zeros}
 use Rattle.ghcn_fields.specs.Days.{block_of, is_day, first_day, last_day, IsBlock}
 use Rattle.ghcn_series.specs.Packed.{AreRising, IsBlockOf, HasNone, next_block}
@@ -18,11 +16,12 @@ use Rattle.rank_query.specs.declared.score.Score.{Score}
 use Rattle.rank_blocks.specs.declared.summary.Summary.{Summary}
 use Rattle.rank_blocks.specs.Blocks.{block_start}
 use Rattle.rank_blocks.specs.Summaries.{IsSummary, IsPossible, AreSummariesTo, AreSummariesUpTo, numbers_left}
-use Rattle.rank_blocks.proofs.Members.{from_each, from_both, all-append, contains-pushed}
-use Rattle.rank_blocks.proofs.DayTests.{both_pass, int_le-true, int_le-false, int_le_or_lt}
-use Rattle.rank_blocks.proofs.DayValues.{rise-from_by_day, own-values, block-of_place, block-rises}
-use Rattle.rank_blocks.proofs.Numbers.{sorted-none, sorted-push}
-use Rattle.rank_blocks.proofs.Computed.{days-valid}
+use Rattle.rank_blocks.proofs.Members.{from_each, from_both, all-append, contains-first}
+use Rattle.rank_blocks.proofs.Members.{itself, of_each, for_each}
+use Rattle.rank_blocks.proofs.DayValues.{both_pass, int_le-true, int_le-false, int_le_or_lt, rise-from_by_day}
+use Rattle.rank_blocks.proofs.DayValues.{own-values, block-of_place, block-rises}
+use Rattle.rank_blocks.proofs.PossibleBlocks.{sorted-none, sorted-push}
+use Rattle.rank_blocks.proofs.Above.{days-valid}
 use Rattle.rank_blocks.proofs.BlockDays.{place-in, block-day}
 
 -- what is true of the blocks' numbers
@@ -40,9 +39,8 @@ pub read-first : (score : Score) (s : Usable) (x : DayValue) (rest : List DayVal
     → AreSummariesTo score s (block_of x.0) []
 read-first score s x rest series split =
     let rise : AreRising (x ∷ rest) = subst AreRising split (rise-from_by_day s.days series.by_day) in
-    let valid : AllByRecursion (λ y. is_day y.0 ≡ true) (x ∷ rest) = subst (AllByRecursion (λ y. is_day y.0 ≡ true))
-    split (days-valid s s.days series.values) in
-    let within = in_calendar x.0 valid.0 in
+    let has : Contains s.days x = subst (λ xs. Contains xs x) (sym split) (contains-first x x rest refl) in
+    let within = in_calendar x.0 (days-valid s series x has).0 in
     let low = within.0 in
     let high = within.1 in
     let All : List DayValue → Type 0 =
@@ -68,7 +66,8 @@ pub block-IsBlock : (s : Usable) (b : ℤ) (word : ℕ) (values : List ℤ) → 
 block-IsBlock s b word values series fits of_block =
     let lowest = bit_at-trailing_zeros w32 word of_block.present fits in
     let day = block-day s.days (rise-from_by_day s.days series.by_day) b word values of_block (λ n v. is_day n ≡ true)
-    (days-valid s s.days series.values) (trailing_zeros w32 word) lowest.0 lowest.1 in
+    (for_each (λ x. is_day x.0 ≡ true) s.days (λ x has. (days-valid s series x has).0))
+    (trailing_zeros w32 word) lowest.0 lowest.1 in
     let within = in_calendar (block_start b +ℤ pos (trailing_zeros w32 word)) day in
     let same = block-of_place b (trailing_zeros w32 word) lowest.0 in
     let low = within.0 in
@@ -92,14 +91,13 @@ read-more score s n ms m so_far number block is possible =
           (λ k lt. omega (arith, ints)) so_far.before) (omega (arith, ints), tt);
       all = from_each (λ x. block_of x.0 <ℤ n → Contains (map (λ k. k.number) ms) (block_of x.0))
           (λ x. block_of x.0 <ℤ (n +ℤ pos 1) → Contains (map (λ k. k.number) (ms ++ m ∷ [])) (block_of x.0)) s.days
-          (λ x has lt.
-          elim (int_le_or_lt n (block_of x.0)) [
+          (λ x has lt. subst (λ (ns : List ℤ). Contains ns (block_of x.0)) (sym push)
+          (elim (int_le_or_lt n (block_of x.0)) [
             | inl le ↦
-                let same : m.number ≡ block_of x.0 = omega (arith, ints) in
-                subst (Contains (map (λ k. k.number) (ms ++ m ∷ []))) same (contains-pushed (λ k. k.number) ms m)
-            | inr less ↦ subst (λ (ns : List ℤ). Contains ns (block_of x.0)) (sym push)
-                (Contains-append_left (map (λ k. k.number) ms) (m.number ∷ []) (block_of x.0) (has less))
-          ])
+                subst (Contains (map (λ k. k.number) ms ++ m.number ∷ [])) {x = m.number} (omega (arith, ints))
+                (Contains-push (map (λ k. k.number) ms) m.number)
+            | inr less ↦ Contains-append_left (map (λ k. k.number) ms) (m.number ∷ []) (block_of x.0) (has less)
+          ]))
           so_far.all;
       by_number = subst (IsStrictlySortedBy int_cmp) (sym push)
           (sorted-push (map (λ k. k.number) ms) m.number so_far.by_number
@@ -157,19 +155,16 @@ module _ (score : Score) (s : Usable) (n : ℤ) (ms : List Summary) (so_far : Ar
   pub read-next : (next : Option ℤ) → next_block s.days n ≡ next → AreSummariesUpTo score s ms next
       × (numbers_left next < numbers_left (Some n))
   read-next (Some k) e =
-      let series = so_far.series in
-      let rise = rise-from_by_day s.days series.by_day in
-      let P : DayValue → Type 0 = λ x. (value_on s.days x.0 ≡ Some x.1) × (is_day x.0 ≡ true) in
-      let each = from_both (λ x. value_on s.days x.0 ≡ Some x.1) (λ x. is_day x.0 ≡ true) P s.days
-      (λ x own valid. (own, valid)) (own-values s.days rise) (days-valid s s.days series.values) in
-      let found = next-some P s.days n k rise each e in
+      let rise = rise-from_by_day s.days so_far.series.by_day in
+      let found = next-some (Contains s.days) s.days n k rise (itself s.days) e in
       let x : DayValue = found.0.0 in
       let is = found.0.2 in
-      let within = in_calendar x.0 found.0.1.1 in
+      let own = of_each (λ x. value_on s.days x.0 ≡ Some x.1) s.days (own-values s.days rise) x found.0.1 in
+      let within = in_calendar x.0 (days-valid s so_far.series x found.0.1).0 in
       let low = so_far.low in
       let high = so_far.high in
       let later : n <ℤ k = by_lt_z n k (λ lt. lt)
-      (λ ge. absurd (none-of_block s.days n x none found.0.1.0 (is ∙ omega (arith, ints, ge, found.0.3)))) in (
+      (λ ge. absurd (none-of_block s.days n x none own (is ∙ omega (arith, ints, ge, found.0.3)))) in (
         record {
           series = so_far.series;
           low = omega (arith, ints);

@@ -1,10 +1,8 @@
 -- Totals of days, block by block.
-use Rattle.std.proofs.Common.{◌≡◌, ℕ, Bool, true, false, cond, List, [], ◌∷◌, map, filter, inl, inr, refl, sym, ap, ◌∙◌}
-use Rattle.std.proofs.Common.{arith, ℤ, pos, ◌+ℤ◌}
-use Rattle.std.specs.List.{AllByRecursion, Contains}
+use Rattle.std.proofs.Common.{◌≡◌, ℕ, Bool, false, cond, List, [], ◌∷◌, map, filter, inl, inr, refl, sym, ap, ◌∙◌}
+use Rattle.std.proofs.Common.{arith, ℤ, pos, ◌+ℤ◌, Contains, int_cmp, int_eq, Less}
+use Rattle.std.specs.List.{AllByRecursion}
 use Rattle.std.specs.List.Sorted.{IsStrictlySortedBy}
-use Rattle.std.specs.Ordering.{int_cmp, int_eq}
-use Rattle.std.specs.declared.cmp.Ordering.TheVariants.{Less}
 use Rattle.std.proofs.lemmas.Bool.Decides.{Decides-int_eq}
 use Rattle.std.proofs.lemmas.Int.{ints}
 use Rattle.ghcn_fields.specs.Days.{block_of}
@@ -13,9 +11,9 @@ use Rattle.rank_blocks.specs.declared.summary.Summary.{Summary}
 use Rattle.rank_blocks.specs.Blocks.{days_in, total, blocks_total, is_among}
 use Rattle.rank_blocks.specs.Reached.{summaries_total}
 use Rattle.rank_blocks.specs.Summaries.{AreOfBlocks, HasSum}
-use Rattle.rank_blocks.proofs.Members.{from_each, contains-cases, total-cons}
-use Rattle.rank_blocks.proofs.DayValues.{lt-int_eq}
-use Rattle.rank_blocks.proofs.Numbers.{int_cmp-less}
+use Rattle.rank_blocks.proofs.Members.{from_each, of_each, contains-cases, total-cons}
+use Rattle.rank_blocks.proofs.DayValues.{lt-int_eq, other-int_eq}
+use Rattle.rank_blocks.proofs.PossibleBlocks.{int_cmp-less}
 
 -- measures that agree everywhere make the same of a list
 map-same : {X Y : Type 0} (f g : X → Y) (xs : List X) → ((x : X) → f x ≡ g x) → map f xs ≡ map g xs
@@ -51,29 +49,21 @@ module _ (P : ℤ → Bool) (b v : ℤ) (g : ℤ → ℤ) where
   unfolding IsStrictlySortedBy
   over-added [] sorted h = absurd (let lt = h.1 in omega arith)
   over-added (n ∷ ns) sorted h =
-      elim (int_eq b n) as (λ t. int_eq b n ≡ t → over more (n ∷ ns) ≡ cond (P b) v (pos 0) +ℤ over g (n ∷ ns)) [
-        | true ↦ λ e.
-            let same : b ≡ n = (Decides-int_eq b n).0 e in
+      elim (contains-cases n b ns h) [
+        | inl is ↦
             let absent =
-            over-absent ns
-            (from_each (λ y. int_cmp n y ≡ Less) (λ y. int_eq b y ≡ false) ns
+            over-absent ns (from_each (λ y. int_cmp n y ≡ Less) (λ y. int_eq b y ≡ false) ns
             (λ y less. lt-int_eq b y (let lt = int_cmp-less n y less in omega (arith, ints))) sorted.0) in
-            let here : more n ≡ v +ℤ g n = ap (λ (t : Bool). cond t (v +ℤ g n) (g n)) e in
+            let here = ap (λ (t : Bool). cond t (v +ℤ g n) (g n)) ((Decides-int_eq b n).1 (sym is)) in
             let part = ap (λ (z : ℤ). cond (P n) z (pos 0)) here ∙ added (P n) v (g n) in
-            let own = ap (λ (k : ℤ). cond (P k) v (pos 0)) same in
+            let own = ap (λ (k : ℤ). cond (P k) v (pos 0)) is in
             omega (arith, ints, total-cons more P n ns, total-cons g P n ns, absent)
-        | false ↦ λ e.
-            let there : Contains ns b =
-            elim (contains-cases n b ns h) [
-              | inl is ↦
-                  absurd (let yes : int_eq b n ≡ true = (Decides-int_eq b n).1 (sym is) in let P : Bool → Type 0 =
-                  λ t. int_eq b n ≡ t in cc)
-              | inr there ↦ there
-            ] in
-            let here : more n ≡ g n = ap (λ (t : Bool). cond t (v +ℤ g n) (g n)) e in
-            let part = ap (λ (z : ℤ). cond (P n) z (pos 0)) here in
+        | inr there ↦
+            let lt = int_cmp-less n b (of_each (λ y. int_cmp n y ≡ Less) ns sorted.0 b there) in
+            let other = other-int_eq b n (λ e. omega (arith, ints, e)) in
+            let part = ap (λ (t : Bool). cond (P n) (cond t (v +ℤ g n) (g n)) (pos 0)) other in
             omega (arith, ints, total-cons more P n ns, total-cons g P n ns, over-added ns sorted.1 there)
-      ] refl
+      ]
 
 -- the total of a block's days, with one more day in front
 total-front : (x : DayValue) (xs : List DayValue) (n : ℤ) → total (map (λ y. y.1) (days_in (x ∷ xs) n)) ≡ cond

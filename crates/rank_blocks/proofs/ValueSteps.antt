@@ -1,19 +1,18 @@
 -- What is made of the values of a block, step by step.
-use Rattle.std.proofs.Common.{◌≡◌, ◌≢◌, ℕ, zero, suc, ◌+◌, ◌-◌, ◌*◌, ◌%◌, ◌<◌, ◌≤◌, ◌^◌, Bool, true, false, min}
-use Rattle.std.proofs.Common.{List, length, get_or, set, refl, sym, ap, ◌∙◌, arith, ℤ, pos, below_more, w32}
-use Rattle.std.specs.Prelude.{◌==◌, bit_and, bit_or, not}
+use Rattle.std.proofs.Common.{◌≡◌, ◌≢◌, ℕ, zero, suc, ◌+◌, ◌-◌, ◌*◌, ◌%◌, ◌<◌, ◌≤◌, ◌^◌, Bool, true, false, min, ◌⊎◌}
+use Rattle.std.proofs.Common.{inl, inr, List, length, get_or, set, refl, sym, ap, ◌∙◌, arith, ℤ, pos, below_more, w32}
+use Rattle.std.proofs.Common.{◌==◌, bit_and, bit_or, not, rules}
 use Rattle.std.specs.Int.{bit_at, bit_not, from_bool, int_max, int_min}
 use Rattle.std.specs.Option.{option_map_or}
 use Rattle.std.proofs.lemmas.Grind.{get_or-set_at}
 use Rattle.std.proofs.lemmas.List.{get_or-set_other}
 use Rattle.std.proofs.lemmas.Nat.Bits.{bit_at-lt, bit_at-zero, bit_at_and, bit_at_not, bit_at_or, bit_at_set_same}
-use Rattle.std.proofs.lemmas.Nat.Bits.{bit_at_set_other}
+use Rattle.std.proofs.lemmas.Nat.Bits.{bit_at_set_other, bit_at_ones}
 use Rattle.ghcn_series.specs.Packed.{if_so}
 use Rattle.rank_blocks.specs.Greatest.{IsGreatest}
 use Rattle.rank_blocks.specs.Values.{HasZeros, IsScoreAmong, IsUsableScore, StandsFor, HasUsableAlone, IsPlacesOf}
 use Rattle.rank_blocks.specs.Values.{IsWordOf}
 use Rattle.std.proofs.lemmas.Int.{ints}
-use Rattle.std.proofs.Common.{rules}
 
 -- what is true of two numbers is true of the greater
 pub max-one : (P : ℤ → Type 0) (a b r : ℤ) → r ≡ int_max a b → P a → P b → P r
@@ -23,15 +22,14 @@ max-one P a b r is of_a of_b = grind (arith, ints)
 pub min-one : (P : ℤ → Type 0) (a b r : ℤ) → r ≡ int_min a b → P a → P b → P r
 min-one P a b r is of_a of_b = grind (arith, ints)
 
--- where each day is usable, the greatest of all numbers is that of the usable days
-pub greatest-all : (f : ℤ → ℤ) (word : ℕ) (values : List ℤ) (z : ℤ) → ((j : ℕ) → j < 32 → bit_at word j ≡ 1)
-    → IsGreatest (IsScoreAmong f values) z → IsGreatest (IsUsableScore f word values) z
-greatest-all f word values z every of_z = grind (arith, ints)
-
--- where the greatest of all numbers is not what is made of 0, it is that of the usable days
-pub greatest-nonzero : (f : ℤ → ℤ) (word : ℕ) (values : List ℤ) (z : ℤ) → HasZeros word values → (z ≡ f (pos 0) → ⊥)
-    → IsGreatest (IsScoreAmong f values) z → IsGreatest (IsUsableScore f word values) z
-greatest-nonzero f word values z zeros other of_z = grind (arith, ints, get_or, bit_at-lt, set)
+-- where what is made of 0 isn't the greatest of all numbers, or each day is usable, it is that of the usable days
+pub greatest-shown : (f : ℤ → ℤ) (word : ℕ) (values : List ℤ) (z : ℤ) → HasZeros word values
+    → ((z ≡ f (pos 0) → ⊥) ⊎ (word ≡ 2 ^ 32 - 1)) → IsGreatest (IsScoreAmong f values) z
+    → IsGreatest (IsUsableScore f word values) z
+greatest-shown f word values z zeros (inl other) of_z = grind (arith, ints, get_or, bit_at-lt, set)
+greatest-shown f word values z zeros (inr whole) of_z =
+    let every : (j : ℕ) → j < 32 → bit_at word j ≡ 1 = λ j lt. ap (λ w. bit_at w j) whole ∙ bit_at_ones 32 j lt in
+    grind (arith, ints)
 
 -- the greatest of a row that has the values of the usable days alone
 pub greatest-alone : (f : ℤ → ℤ) (word : ℕ) (values row : List ℤ) (z : ℤ) → HasUsableAlone word values row
@@ -55,25 +53,17 @@ module _ (word : ℕ) (values : List ℤ) where
       → (j : ℕ) → j < p + 1 → StandsFor word values j (get_or (set row p z) j (pos 0))
   row-more row p z lt here filled = search (rules, arith, below_more, get_or-set_other, get_or-set_at)
 
--- no bit is moved up
-no-bit : (x : ℕ) → 0 * x % 2 ^ 32 ≡ 0
-no-bit x = omega arith
-
 -- a bit is added where a word has none yet
 added-bit : (word p : ℕ) (b : Bool) → p < 32 → bit_at word p ≡ 0 → bit_at (bit_or word (from_bool b * 2 ^ p % 2 ^ 32)) p
     ≡ from_bool b
 added-bit word p true lt unset = bit_at_set_same w32 word p lt
-added-bit word p false lt unset = grind (arith, ints, no-bit, bit_at_or, bit_at-zero)
+added-bit word p false lt unset = grind (arith, ints, bit_at_or, bit_at-zero)
 
 -- and the others stay
 other-bit : (word p j : ℕ) (b : Bool) → p < 32 → j ≢ p → bit_at (bit_or word (from_bool b * 2 ^ p % 2 ^ 32)) j
     ≡ bit_at word j
 other-bit word p j true lt other = bit_at_set_other w32 word p lt j other
-other-bit word p j false lt other = grind (arith, ints, no-bit, bit_at_or, bit_at-zero)
-
--- a test is read off its bit
-read-bit : (b : Bool) → (from_bool b == 1) ≡ b
-read-bit x = grind (arith, ints)
+other-bit word p j false lt other = grind (arith, ints, bit_at_or, bit_at-zero)
 
 module _ (test : ℤ → Bool) (values : List ℤ) (word p : ℕ) (b : Bool) (lt : p < 32)
     (is : b ≡ test (get_or values p (pos 0))) where
@@ -82,22 +72,17 @@ module _ (test : ℤ → Bool) (values : List ℤ) (word p : ℕ) (b : Bool) (lt
       → ((j : ℕ) → j < p → (bit_at word j == 1) ≡ test (get_or values j (pos 0)))
       → (j : ℕ) → j < p + 1 → (bit_at (bit_or word (from_bool b * 2 ^ p % 2 ^ 32)) j == 1) ≡ test
       (get_or values j (pos 0))
-  word-more unread read = grind (arith, ints, below_more, other-bit, added-bit, read-bit)
+  word-more unread read = grind (arith, ints, below_more, other-bit, added-bit)
 
   -- it has no bit behind that place
   pub word-unread : ((j : ℕ) → p ≤ j → bit_at word j ≡ 0) → (j : ℕ) → p + 1 ≤ j
       → bit_at (bit_or word (from_bool b * 2 ^ p % 2 ^ 32)) j ≡ 0
   word-unread unread j le = let other : j ≢ p = omega arith in other-bit word p j b lt other ∙ unread j (omega arith)
 
--- of two bits both
-both-bits : (test : ℤ → Bool) (a b : ℕ) (v : ℤ) → a < 2 → b < 2 → (a == 1) ≡ test v
-    → (min a b == 1) ≡ option_map_or test (if_so (b == 1) v) false
-both-bits test k t v la lb is = grind (arith, ints)
-
 -- the word of the usable days whose values pass
 pub usable-word : (test : ℤ → Bool) (word all : ℕ) (values : List ℤ) → IsPlacesOf test values all
     → IsWordOf test word values (bit_and all word)
-usable-word test word all values read = grind (arith, ints, bit_at_and, both-bits, get_or, bit_at-lt)
+usable-word test word all values read = grind (arith, ints, bit_at_and, get_or, bit_at-lt)
 
 -- the places whose numbers don't pass one test, where these pass another
 pub other-places : (test other : ℤ → Bool) (word : ℕ) (values : List ℤ) → word < 2 ^ 32

@@ -1,7 +1,6 @@
 -- The runs of the bits of a word.
 use Rattle.std.proofs.Common.{◌≡◌, ℕ, zero, suc, ◌+◌, ◌-◌, ◌*◌, ◌/◌, ◌%◌, ◌<◌, ◌≤◌, ◌^◌, true, min, ◌⊎◌, inl, inr, refl}
-use Rattle.std.proofs.Common.{sym, ap, ◌∙◌, arith, w32}
-use Rattle.std.specs.Prelude.{◌==◌, bit_and}
+use Rattle.std.proofs.Common.{sym, ap, ◌∙◌, arith, w32, ◌==◌, bit_and}
 use Rattle.std.specs.Int.{bit_at, bit_not, leading_ones, trailing_ones, trailing_zeros}
 use Rattle.std.proofs.lemmas.Nat.{leading_top}
 use Rattle.std.proofs.lemmas.Nat.Bits.{bit_at-lt, bit_at-zero, bit_at_and, bit_at_above, bit_at_cat_low}
@@ -10,7 +9,7 @@ use Rattle.std.proofs.lemmas.Nat.Bits.{bit_at-trailing_zeros}
 use Rattle.std.proofs.Math.Nat.{pow-succ'}
 use Rattle.ghcn_series.proofs.LastDays.{highest-bit}
 use Rattle.rank_blocks.specs.DayRuns.{has_bit, AllPass, ComeFirst, ComeLast}
-use Rattle.rank_blocks.proofs.DayTests.{at_most_or_more}
+use Rattle.rank_blocks.proofs.DayValues.{at_most_or_more}
 use Rattle.std.proofs.lemmas.Int.{ints}
 
 -- a bit that is set passes, and one that isn't fails
@@ -33,9 +32,8 @@ lowest-empty w = grind (arith, ints, bit_at_cat_low, bit_at-zero)
 -- what remains of a word: a bit is set where more than n bits of the word that are set end; and n set bits follow one
 -- another somewhere
 pub record AreEnds (word n ends : ℕ) : Type 0 where
-  pub some : (from : ℕ) → from + n < 32 → bit_at ends (from + n) ≡ 1 → AllPass (has_bit word) from (from + n + 1)
-  pub every : (from : ℕ) → from + n < 32 → AllPass (has_bit word) from (from + n + 1) → bit_at ends (from + n) ≡ 1
-  pub none : (k : ℕ) → k < n → bit_at ends k ≡ 0
+  pub some : (k : ℕ) → k < 32 → bit_at ends k ≡ 1 → (n ≤ k) × AllPass (has_bit word) (k - n) (k + 1)
+  pub every : (k : ℕ) → k < 32 → n ≤ k → AllPass (has_bit word) (k - n) (k + 1) → bit_at ends k ≡ 1
   pub somewhere : (from : ℕ) × (from + n ≤ 32) × AllPass (has_bit word) from (from + n)
 
 module _ (word n ends : ℕ) (are : AreEnds word n ends) (fits : ends < 2 ^ 32) where
@@ -44,62 +42,46 @@ module _ (word n ends : ℕ) (are : AreEnds word n ends) (fits : ends < 2 ^ 32) 
   next = bit_and ends (ends * 2 ^ 1 % 2 ^ 32)
 
   -- a bit is set where it was and where the one before it was
-  next-bit : (k : ℕ) → k + 1 < 32 → bit_at next (k + 1) ≡ min (bit_at ends (k + 1)) (bit_at ends k)
-  next-bit k lt = bit_at_and ends (ends * 2 ^ 1 % 2 ^ 32) (k + 1) ∙ ap (min (bit_at ends (k + 1))) (moved-up ends k lt)
+  next-bit : (j k : ℕ) → j ≡ k + 1 → j < 32 → bit_at next j ≡ min (bit_at ends j) (bit_at ends k)
+  next-bit j k is lt = bit_at_and ends (ends * 2 ^ 1 % 2 ^ 32) j
+      ∙ ap (min (bit_at ends j)) (ap (bit_at (ends * 2 ^ 1 % 2 ^ 32)) is ∙ moved-up ends k (omega arith))
 
-  -- the lowest bit is not
-  next-lowest : bit_at next 0 ≡ 0
-  next-lowest = grind (arith, ints, bit_at_and ends (ends * 2 ^ 1 % 2 ^ 32) 0, lowest-empty ends)
+  -- one bit more ends where a bit remains
+  next-some : (k : ℕ) → k < 32 → bit_at next k ≡ 1 → (n + 1 ≤ k) × AllPass (has_bit word) (k - (n + 1)) (k + 1)
+  next-some zero lt bit =
+      absurd (omega (arith, bit_at_and ends (ends * 2 ^ 1 % 2 ^ 32) 0, lowest-empty ends))
+  next-some (suc k) lt bit =
+      let both = next-bit (suc k) k (omega arith) lt in
+      let here = bit_at-lt ends (suc k) in
+      let before = bit_at-lt ends k in
+      let first = are.some k (omega arith) (omega arith) in
+      let second = are.some (suc k) lt (omega arith) in (
+        omega (arith, first.0),
+        λ i low high. elim (at_most_or_more i k) [
+          | inl le ↦ first.1 i (omega arith) (omega arith)
+          | inr more ↦ second.1 i (omega arith) high
+        ],
+      )
 
-  -- nor is one of the first n + 1
-  next-none : (k : ℕ) → k < n + 1 → k < 32 → bit_at next k ≡ 0
-  next-none zero lt within = next-lowest
-  next-none (suc k) lt within = grind (arith, ints, next-bit k (omega arith))
+  -- more than n follow one another where a bit remains
+  longer : (ends ≡ 0 → ⊥) → (from : ℕ) × (from + (n + 1) ≤ 32) × AllPass (has_bit word) from (from + (n + 1))
+  longer some_end =
+      let lowest = bit_at-trailing_zeros w32 ends (omega (arith, some_end)) fits in
+      let end : ℕ = trailing_zeros w32 ends in
+      let run = are.some end lowest.0 lowest.1 in
+      (end - n, omega (arith, run.0, lowest.0), λ i low high. run.1 i low (omega (arith, run.0)))
 
-  -- n more than none end where a bit remains
-  module _ (some_end : ends ≡ 0 → ⊥) where
-    -- more than n follow one another where a bit remains
-    longer : (from : ℕ) × (from + (n + 1) ≤ 32) × AllPass (has_bit word) from (from + (n + 1))
-    longer =
-        let lowest = bit_at-trailing_zeros w32 ends (omega (arith, some_end)) fits in
-        let k : ℕ = trailing_zeros w32 ends in
-        elim (at_most_or_more n k) [
-          | inl le ↦
-              let at : (k - n) + n ≡ k = omega arith in (
-                k - n,
-                omega (arith, lowest.0),
-                λ i low high. are.some (k - n) (omega (arith, lowest.0)) (ap (bit_at ends) at ∙ lowest.1) i low
-                    (omega arith),
-              )
-          | inr less ↦ absurd (let none = are.none k less in let bit = lowest.1 in omega arith)
-        ]
-
-    -- one bit more
-    pub ends-next : n < 32 → AreEnds word (n + 1) (bit_and ends (ends * 2 ^ 1 % 2 ^ 32))
-    ends-next within = record {
-      some = λ from lt bit k low high.
-          let at : from + n + 1 ≡ from + (n + 1) = omega arith in
-          let one = next-bit (from + n) (omega arith) in
-          let is : bit_at next (from + n + 1) ≡ 1 = ap (bit_at next) at ∙ bit in
-          let here = bit_at-lt ends (from + n + 1) in
-          let before = bit_at-lt ends (from + n) in
-          let first = are.some from (omega arith) (omega arith) in
-          let behind : from + n + 1 ≡ (from + 1) + n = omega arith in
-          let second = are.some (from + 1) (omega arith) (ap (bit_at ends) (sym behind) ∙ omega arith) in
-          elim (at_most_or_more k (from + n)) [
-            | inl le ↦ first k low (omega arith)
-            | inr more ↦ second k (omega arith) (omega arith)
-          ];
-      every = λ from lt pass.
-          let at : from + n + 1 ≡ from + (n + 1) = omega arith in
-          let behind : (from + 1) + n ≡ from + n + 1 = omega arith in
-          let first = are.every from (omega arith) (λ k low high. pass k low (omega arith)) in
-          let second = are.every (from + 1) (omega arith) (λ k low high. pass k (omega arith) (omega arith)) in
-          let here : bit_at ends (from + n + 1) ≡ 1 = ap (bit_at ends) (sym behind) ∙ second in
-          ap (bit_at next) (sym at) ∙ next-bit (from + n) (omega arith) ∙ omega arith;
-      none = λ k lt. next-none k lt (omega arith);
-      somewhere = longer;
-    }
+  -- one bit more
+  pub ends-next : (ends ≡ 0 → ⊥) → n < 32 → AreEnds word (n + 1) (bit_and ends (ends * 2 ^ 1 % 2 ^ 32))
+  ends-next some_end within = record {
+    some = next-some;
+    every = λ k lt low pass.
+        let here = are.every k lt (omega arith) (λ i above below. pass i (omega arith) below) in
+        let before = are.every (k - 1) (omega arith) (omega arith)
+        (λ i above below. pass i (omega arith) (omega arith)) in
+        next-bit k (k - 1) (omega arith) lt ∙ omega arith;
+    somewhere = longer some_end;
+  }
 
 -- a word is full, or it isn't
 full-or_not : (word : ℕ) → word < 2 ^ 32 → (word ≡ 2 ^ 32 - 1) ⊎ (word + 1 < 2 ^ 32)

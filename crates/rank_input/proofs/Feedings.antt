@@ -3,16 +3,14 @@ use Rattle.std.proofs.Common.{◌≡◌, ℕ, zero, suc, ◌+◌, ◌<◌, ◌�
 use Rattle.std.proofs.Common.{Option, None, Some, refl, sym, ap, ◌∙◌, subst, append_assoc, add-one, arith}
 use Rattle.std.specs.Io.KnownBytes.{Consumes, Keeps, IsAtEnd}
 use Rattle.std.proofs.lemmas.List.{append-nil}
-use Rattle.rank_input.specs.declared.intake.Intake.{Intake}
-use Rattle.rank_input.specs.Taken.{Input, given, with_bytes, HasTaken, HasTakenSome, TakesBytes}
-use Rattle.rank_input.specs.Taken.{TakesFileEnd}
+use Rattle.rank_input.specs.Takes.{Input, Taking, given, with_bytes, HasTakenSome, TakesBytes, TakesFileEnd}
 use Rattle.rank_input.specs.Feeding.{AreAllOf, AreFilesOf, with_file, with_files, FeedsFile, FeedsFiles}
 
 -- of all bytes that a source had, some were fed, and these are left
-pub record IsFedTo (old new : Intake) (all left : Option (List ℕ)) : Type 0 where
+pub record IsFedTo {T : Type 0} (has_taken : Taking T) (old new : T) (all left : Option (List ℕ)) : Type 0 where
   pub bytes : List ℕ
   pub parts : Consumes all left bytes
-  pub taken : (i : Input) → HasTaken old i → HasTaken new (with_bytes i bytes)
+  pub taken : (i : Input) → has_taken old i → has_taken new (with_bytes i bytes)
 
 -- nothing is read at first
 consumes-nil : (all : Option (List ℕ)) → Consumes all all []
@@ -54,59 +52,6 @@ with_current i current = record {
   files = record { ended = i.files.ended; current = current };
 }
 
--- with no bytes more
-with_bytes-nil : (t : Intake) (i : Input) → HasTaken t i → HasTaken t (with_bytes i [])
-with_bytes-nil t i is =
-    subst (λ (current : List ℕ). HasTaken t (with_current i current)) (sym (append-nil i.files.current)) is
-
--- nothing is fed at first
-pub fed-nothing : (t : Intake) (all : Option (List ℕ)) → IsFedTo t t all all
-fed-nothing t all = record { bytes = []; parts = consumes-nil all; taken = λ i is. with_bytes-nil t i is }
-
--- a piece more is fed
-pub fed-more : (old mid new : Intake) (all left next : Option (List ℕ)) (piece : List ℕ) → IsFedTo old mid all left
-    → Consumes left next piece → TakesBytes mid new piece → IsFedTo old new all next
-fed-more old mid new all left next piece was is takes = record {
-  bytes = was.bytes ++ piece;
-  parts = consumes-more all left next was.bytes piece was.parts is;
-  taken = λ i has.
-      subst (λ (current : List ℕ). HasTaken new (with_current i current))
-      (append_assoc i.files.current was.bytes piece) (takes.holds (with_bytes i was.bytes) (was.taken i has));
-}
-
--- a read that gave nothing
-pub fed-kept : (old new : Intake) (all left next : Option (List ℕ)) → IsFedTo old new all left → Keeps left next
-    → IsFedTo old new all next
-fed-kept old new all left next was is = record {
-  bytes = was.bytes;
-  parts = consumes-kept all left next was.bytes was.parts is;
-  taken = was.taken;
-}
-
--- the end of a file is fed
-pub fed-whole : (old mid new : Intake) (all left next : Option (List ℕ)) → IsFedTo old mid all left
-    → Consumes left next [] → IsAtEnd next → TakesFileEnd mid new → FeedsFile old new all
-fed-whole old mid new all left next was is ends takes = record {
-  bytes = was.bytes;
-  all = all-read all left next was.bytes was.parts is ends;
-  taken = λ i has. takes.holds (with_bytes i was.bytes) (was.taken i has);
-}
-
--- the same where a read gave nothing
-pub fed-end : (old mid new : Intake) (all left next : Option (List ℕ)) (n : ℕ) (buffer : List ℕ)
-    → IsFedTo old mid all left
-    → n ≡ 0 → Consumes left next (take n buffer) × (n ≡ 0 → 0 < length buffer → IsAtEnd next) → 0 < length buffer
-    → TakesFileEnd mid new → FeedsFile old new all
-fed-end old mid new all left next n buffer was none is some takes =
-    fed-whole old mid new all left next was (subst (λ k. Consumes left next (take k buffer)) none is.0)
-    (is.1 none some)
-    takes
-
--- something was given where something was before
-pub fed-some : (old new : Intake) (all left : Option (List ℕ)) → HasTakenSome old → IsFedTo old new all left
-    → HasTakenSome new
-fed-some old new all left some was = (with_bytes some.0 was.bytes, was.taken some.0 some.1)
-
 -- one file behind some others
 with_files-one : (i : Input) (files : List (List ℕ)) (bytes : List ℕ)
     → with_files i (files ++ bytes ∷ []) ≡ with_file (with_files i files) bytes
@@ -120,22 +65,6 @@ files_of-one [] [] one bytes all is = (is, tt)
 files_of-one [] (f ∷ fs) one bytes all is = absurd all
 files_of-one (k ∷ ks) [] one bytes all is = absurd all
 files_of-one (k ∷ ks) (f ∷ fs) one bytes all is = (all.0, files_of-one ks fs one bytes all.1 is)
-
--- no file is fed
-pub files-none : (t : Intake) → FeedsFiles t t []
-files-none t = record { files = []; all = tt; taken = λ i is. is }
-
--- one file more is fed
-pub files-more : (old mid new : Intake) (known : List (Option (List ℕ))) (one : Option (List ℕ))
-    → FeedsFiles old mid known
-    → FeedsFile mid new one → FeedsFiles old new (known ++ one ∷ [])
-files-more old mid new known one was is = record {
-  files = was.files ++ is.bytes ∷ [];
-  all = files_of-one known was.files one is.bytes was.all is.all;
-  taken = λ i has.
-      subst (HasTaken new) (sym (with_files-one i was.files is.bytes))
-      (is.taken (with_files i was.files) (was.taken i has));
-}
 
 -- files that are fed to an intake that was given whole files
 pub given-files : (query stations : List ℕ) (ended files : List (List ℕ))
@@ -163,11 +92,82 @@ known-all f [] (suc i) le = refl
 known-all f (x ∷ xs) zero le = absurd (omega arith)
 known-all f (x ∷ xs) (suc i) le = ap (λ (ks : List (Option (List ℕ))). f x ∷ ks) (known-all f xs i (omega arith))
 
--- one file more of a list is fed
-pub files-next : {X : Type 0} (old mid new : Intake) (f : X → Option (List ℕ)) (xs : List X) (i : ℕ) (x : X)
-    (known : Option (List ℕ)) → i < length xs → get_or xs i x ≡ x → known ≡ f x
-    → FeedsFiles old mid (map f (take i xs))
-    → FeedsFile mid new known → FeedsFiles old new (map f (take (i + 1) xs))
-files-next old mid new f xs i x known lt at same was is =
-    subst (FeedsFiles old new) (sym (known-more f xs i x lt ∙ ap (λ y. map f (take i xs) ++ f y ∷ []) at))
-    (files-more old mid new (map f (take i xs)) (f x) was (subst (FeedsFile mid new) same is))
+module _ {T : Type 0} (has_taken : Taking T) where
+  -- with no bytes more
+  with_bytes-nil : (t : T) (i : Input) → has_taken t i → has_taken t (with_bytes i [])
+  with_bytes-nil t i is =
+      subst (λ (current : List ℕ). has_taken t (with_current i current)) (sym (append-nil i.files.current)) is
+
+  -- nothing is fed at first
+  pub fed-nothing : (t : T) (all : Option (List ℕ)) → IsFedTo has_taken t t all all
+  fed-nothing t all = record { bytes = []; parts = consumes-nil all; taken = λ i is. with_bytes-nil t i is }
+
+  -- a piece more is fed
+  pub fed-more : (old mid new : T) (all left next : Option (List ℕ)) (piece : List ℕ)
+      → IsFedTo has_taken old mid all left → Consumes left next piece → TakesBytes has_taken mid new piece
+      → IsFedTo has_taken old new all next
+  fed-more old mid new all left next piece was is takes = record {
+    bytes = was.bytes ++ piece;
+    parts = consumes-more all left next was.bytes piece was.parts is;
+    taken = λ i has.
+        subst (λ (current : List ℕ). has_taken new (with_current i current))
+        (append_assoc i.files.current was.bytes piece) (takes.holds (with_bytes i was.bytes) (was.taken i has));
+  }
+
+  -- a read that gave nothing
+  pub fed-kept : (old new : T) (all left next : Option (List ℕ)) → IsFedTo has_taken old new all left
+      → Keeps left next → IsFedTo has_taken old new all next
+  fed-kept old new all left next was is = record {
+    bytes = was.bytes;
+    parts = consumes-kept all left next was.bytes was.parts is;
+    taken = was.taken;
+  }
+
+  -- the end of a file is fed
+  pub fed-whole : (old mid new : T) (all left next : Option (List ℕ)) → IsFedTo has_taken old mid all left
+      → Consumes left next [] → IsAtEnd next → TakesFileEnd has_taken mid new → FeedsFile has_taken old new all
+  fed-whole old mid new all left next was is ends takes = record {
+    bytes = was.bytes;
+    all = all-read all left next was.bytes was.parts is ends;
+    taken = λ i has. takes.holds (with_bytes i was.bytes) (was.taken i has);
+  }
+
+  -- the same where a read gave nothing
+  pub fed-end : (old mid new : T) (all left next : Option (List ℕ)) (n : ℕ) (buffer : List ℕ)
+      → IsFedTo has_taken old mid all left
+      → n ≡ 0 → Consumes left next (take n buffer) × (n ≡ 0 → 0 < length buffer → IsAtEnd next) → 0 < length buffer
+      → TakesFileEnd has_taken mid new → FeedsFile has_taken old new all
+  fed-end old mid new all left next n buffer was none is some takes =
+      fed-whole old mid new all left next was (subst (λ k. Consumes left next (take k buffer)) none is.0)
+      (is.1 none some)
+      takes
+
+  -- something was given where something was before
+  pub fed-some : (old new : T) (all left : Option (List ℕ)) → HasTakenSome has_taken old
+      → IsFedTo has_taken old new all left → HasTakenSome has_taken new
+  fed-some old new all left some was = (with_bytes some.0 was.bytes, was.taken some.0 some.1)
+
+  -- no file is fed
+  pub files-none : (t : T) → FeedsFiles has_taken t t []
+  files-none t = record { files = []; all = tt; taken = λ i is. is }
+
+  -- one file more is fed
+  pub files-more : (old mid new : T) (known : List (Option (List ℕ))) (one : Option (List ℕ))
+      → FeedsFiles has_taken old mid known
+      → FeedsFile has_taken mid new one → FeedsFiles has_taken old new (known ++ one ∷ [])
+  files-more old mid new known one was is = record {
+    files = was.files ++ is.bytes ∷ [];
+    all = files_of-one known was.files one is.bytes was.all is.all;
+    taken = λ i has.
+        subst (has_taken new) (sym (with_files-one i was.files is.bytes))
+        (is.taken (with_files i was.files) (was.taken i has));
+  }
+
+  -- one file more of a list is fed
+  pub files-next : {X : Type 0} (old mid new : T) (f : X → Option (List ℕ)) (xs : List X) (i : ℕ) (x : X)
+      (known : Option (List ℕ)) → i < length xs → get_or xs i x ≡ x → known ≡ f x
+      → FeedsFiles has_taken old mid (map f (take i xs))
+      → FeedsFile has_taken mid new known → FeedsFiles has_taken old new (map f (take (i + 1) xs))
+  files-next old mid new f xs i x known lt at same was is =
+      subst (FeedsFiles has_taken old new) (sym (known-more f xs i x lt ∙ ap (λ y. map f (take i xs) ++ f y ∷ []) at))
+      (files-more old mid new (map f (take i xs)) (f x) was (subst (FeedsFile has_taken mid new) same is))

@@ -3,3 +3,4 @@ pub mod Crews
 pub mod Texts
 pub mod Reading
 pub mod Feedings
+pub mod Descriptions

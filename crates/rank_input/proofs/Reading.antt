@@ -1,6 +1,6 @@
 -- What an intake takes, and what it answers at its end.
 use Rattle.std.proofs.Common.{◌≡◌, List, ℕ, true, refl, subst}
-use Rattle.std.specs.Prelude.{Result, Ok}
+use Rattle.std.specs.Prelude.{Result, Ok, Option, Some, None, IfSome}
 use Rattle.ghcn_files.specs.declared.station.Station.{Station}
 use Rattle.ghcn_files.specs.Listed.{listed}
 use Rattle.ghcn_series.specs.declared.fault.DataFault.{DataFault}
@@ -10,6 +10,8 @@ use Rattle.ghcn_series.specs.Series.{Contents}
 use Rattle.ghcn_series.specs.DailyFaults.{is_memory as is_data_memory}
 use Rattle.ghcn_series.specs.Says.{data_of}
 use Rattle.ghcn_series.specs.Fed.{files_of}
+use Rattle.ghcn_series.specs.declared.counts.Foreign.{Foreign}
+use Rattle.ghcn_series.specs.Pieces as pieces
 use Rattle.ghcn_series.specs.Pieces.{TakesPiece, EndsFile, HoldsFed, RefusesFed}
 use Rattle.rank_query.specs.Asked.{Asked}
 use Rattle.rank_query.specs.Reading.{read_query}
@@ -18,8 +20,8 @@ use Rattle.ghcn_fields.specs.Refusals.{IsRefusal}
 use Rattle.rank_input.specs.declared.fault.Fault.{Fault}
 use Rattle.rank_input.specs.declared.intake.Intake.{Intake}
 use Rattle.rank_input.specs.Input.{of_data, is_memory, read_input}
-use Rattle.rank_input.specs.Taken.{HasTaken, IsReading, IsRead, Input, fed_for}
-use Rattle.rank_input.specs.Taken.{TakesBytes, TakesFileEnd, HoldsInput, RefusesInput}
+use Rattle.rank_input.specs.Takes.{Input, TakesBytes, TakesFileEnd}
+use Rattle.rank_input.specs.Taken.{HasTaken, IsReading, IsRead, fed_for, AreForeignOf, HoldsInput, RefusesInput}
 
 -- an intake with a reader reads what it was given
 reading_of : (t : Intake) (q : Asked) (r : DataReader) (i : Input) → t.read ≡ Ok (q, r) → HasTaken t i
@@ -28,7 +30,7 @@ reading_of t q r i is taken = subst (λ (read : Result (Asked × DataReader) Fau
 
 -- an intake takes the bytes that its reader takes
 pub reader_takes : (old : Intake) (q : Asked) (r r' : DataReader) (count : ℕ) (bytes : List ℕ) → old.read ≡ Ok (q, r)
-    → TakesPiece r r' bytes → TakesBytes old (record { bytes = count; read = Ok (q, r') }) bytes
+    → TakesPiece r r' bytes → TakesBytes HasTaken old (record { bytes = count; read = Ok (q, r') }) bytes
 reader_takes old q r r' count bytes is takes = record {
   holds = λ i taken.
       let reading = reading_of old q r i is taken in
@@ -42,7 +44,7 @@ reader_takes old q r r' count bytes is takes = record {
 
 -- an intake ends the file that its reader ends
 pub reader_ends : (old : Intake) (q : Asked) (r r' : DataReader) (count : ℕ) → old.read ≡ Ok (q, r)
-    → EndsFile r r' → TakesFileEnd old (record { bytes = count; read = Ok (q, r') })
+    → EndsFile r r' → TakesFileEnd HasTaken old (record { bytes = count; read = Ok (q, r') })
 reader_ends old q r r' count is ends = record {
   holds = λ i taken.
       let reading = reading_of old q r i is taken in
@@ -52,6 +54,16 @@ reader_ends old q r r' count is ends = record {
         lists = reading.lists;
         fed = ends.holds (fed_for q reading.stations i.files) reading.fed;
       };
+}
+
+-- the foreign files of a reader are those of the intake
+pub reader_foreign : (t : Intake) (q : Asked) (r : DataReader) (foreign : Option Foreign) → t.read ≡ Ok (q, r)
+    → IfSome foreign (pieces.AreForeignOf r) → IfSome foreign (AreForeignOf t)
+reader_foreign t q r None is are = tt
+reader_foreign t q r (Some foreign) is are = record {
+  is = λ i taken.
+      let reading = reading_of t q r i is taken in
+      are.is (fed_for q reading.stations i.files) reading.fed;
 }
 
 -- the refusal of the daily files is that of the input

@@ -1,8 +1,7 @@
--- What is read of files, and fed to an intake.
+-- What is read of files, and fed to a taker.
 use Rattle.std.specs.Prelude.{◌≡◌, ℕ, List, [], ◌∷◌, Option, None, Some, ⊤}
 use Rattle.std.specs.List.{AllZip}
-use Rattle.rank_input.specs.declared.intake.Intake.{Intake}
-use Rattle.rank_input.specs.Taken.{Input, with_bytes, with_file_end, HasTaken}
+use Rattle.rank_input.specs.Takes.{Input, Taking, with_bytes, with_file_end}
 
 -- these are all the bytes of a file, where those are known
 abbrev pub AreAllOf : Option (List ℕ) → List ℕ → Type 0
@@ -22,14 +21,14 @@ abbrev pub with_files : Input → List (List ℕ) → Input
 with_files i [] = i
 with_files i (bytes ∷ files) = with_files (with_file i bytes) files
 
--- an intake is fed all bytes of a file as one
-pub record FeedsFile (old new : Intake) (known : Option (List ℕ)) : Type 0 where
+-- a taker is fed all bytes of a file as one
+pub record FeedsFile {T : Type 0} (has_taken : Taking T) (old new : T) (known : Option (List ℕ)) : Type 0 where
   pub bytes : List ℕ
   pub all : AreAllOf known bytes
-  pub taken : (i : Input) → HasTaken old i → HasTaken new (with_file i bytes)
+  pub taken : (i : Input) → has_taken old i → has_taken new (with_file i bytes)
 
--- an intake is fed all bytes of each of these files, in order
-pub record FeedsFiles (old new : Intake) (known : List (Option (List ℕ))) : Type 0 where
+-- a taker is fed all bytes of each of these files, in order
+pub record FeedsFiles {T : Type 0} (has_taken : Taking T) (old new : T) (known : List (Option (List ℕ))) : Type 0 where
   pub files : List (List ℕ)
   pub all : AreFilesOf known files
-  pub taken : (i : Input) → HasTaken old i → HasTaken new (with_files i files)
+  pub taken : (i : Input) → has_taken old i → has_taken new (with_files i files)

@@ -56,6 +56,11 @@ abbrev pub then_read : {A B E : Type 0} → (E → Fault) → Result A E → (A 
 then_read of (Ok a) next = next a
 then_read of (Err e) next = Err (of e)
 
+-- the data that a station list and daily files hold, or the first fault of these
+abbrev pub read_files : List ℕ → List (List ℕ) → Result Contents Fault
+read_files stations files = then_read of_stations (listed stations) (λ ss.
+    then_read of_data (data_of ss files) (λ held. Ok held))
+
 -- the query and the data that an input holds, or the first fault: of the query, the stations, the daily files
 abbrev pub read_input : List ℕ → List ℕ → List (List ℕ) → Result (Asked × Contents) Fault
 read_input query stations files =

@@ -1,3 +1,5 @@
 pub mod Input
+pub mod Takes
 pub mod Taken
 pub mod Feeding
+pub mod Described

@@ -1,10 +1,13 @@
 -- What an intake was given so far.
-use Rattle.std.specs.Prelude.{◌≡◌, ℕ, List, Some, Result, Ok, Err}
+use Rattle.std.specs.Prelude.{◌≡◌, ℕ, List, Result, Ok, Err}
+use Rattle.ghcn_files.specs.declared.element.Keep.TheVariants.{One}
 use Rattle.ghcn_files.specs.declared.station.Station.{Station}
 use Rattle.ghcn_files.specs.Listed.{listed}
+use Rattle.ghcn_series.specs.declared.counts.Foreign.{Foreign}
 use Rattle.ghcn_series.specs.declared.pieces.DataReader.{DataReader}
 use Rattle.ghcn_series.specs.Series.{Contents}
-use Rattle.ghcn_series.specs.Fed.{Files, Fed, ended_files, more, with_end, files_of}
+use Rattle.ghcn_series.specs.Fed.{Files, Fed}
+use Rattle.ghcn_series.specs.LineKinds.{foreign_of}
 use Rattle.ghcn_series.specs.Pieces.{HasFed}
 use Rattle.rank_query.specs.Asked.{Asked, score_element}
 use Rattle.rank_query.specs.Reading.{read_query}
@@ -13,29 +16,13 @@ use Rattle.ghcn_fields.specs.Refusals.{IsRefusal}
 use Rattle.rank_input.specs.declared.fault.Fault.{Fault}
 use Rattle.rank_input.specs.declared.intake.Intake.{Intake}
 use Rattle.rank_input.specs.Input.{IsReadOf, read_input, is_memory}
-
--- what was given: a query, the station list, and the daily files as they came
-pub record Input : Type 0 where
-  pub query : List ℕ
-  pub stations : List ℕ
-  pub files : Files
-
--- a query, the station list, and these daily files
-abbrev pub given : List ℕ → List ℕ → List (List ℕ) → Input
-given query stations files = record { query = query; stations = stations; files = ended_files files }
-
--- with more bytes of the current file
-abbrev pub with_bytes : Input → List ℕ → Input
-with_bytes i bytes = record { query = i.query; stations = i.stations; files = more i.files bytes }
-
--- with the current file ended, even where it is empty
-abbrev pub with_file_end : Input → Input
-with_file_end i = record { query = i.query; stations = i.stations; files = with_end i.files }
+use Rattle.rank_input.specs.Takes as takes
+use Rattle.rank_input.specs.Takes.{Input}
 
 -- what a reader is fed for a query and some stations: it keeps the series of the query's element
 abbrev pub fed_for : Asked → List Station → Files → Fed
 fed_for q stations files = record {
-  element = Some (score_element q.score);
+  keep = One (score_element q.score);
   stations = stations;
   files = files;
 }
@@ -62,19 +49,15 @@ HasTaken t i = IsRead t.read i
 
 -- an intake was given something
 abbrev pub HasTakenSome : Intake → Type 0
-HasTakenSome t = (i : Input) × HasTaken t i
-
--- an intake takes more bytes of the current file
-pub record TakesBytes (old new : Intake) (bytes : List ℕ) : Type 0 where
-  pub holds : (i : Input) → HasTaken old i → HasTaken new (with_bytes i bytes)
-
--- an intake takes the end of the current file
-pub record TakesFileEnd (old new : Intake) : Type 0 where
-  pub holds : (i : Input) → HasTaken old i → HasTaken new (with_file_end i)
+HasTakenSome t = takes.HasTakenSome HasTaken t
 
 -- this is true of the query, the station list and the daily files that an intake was given
-pub record IsTrueOf (t : Intake) (P : List ℕ → List ℕ → List (List ℕ) → Type 0) : Type 0 where
-  pub is : (i : Input) → HasTaken t i → P i.query i.stations (files_of i.files)
+abbrev pub IsTrueOf : Intake → (List ℕ → List ℕ → List (List ℕ) → Type 0) → Type 0
+IsTrueOf t P = takes.IsTrueOf HasTaken t P
+
+-- these are the foreign files among those that an intake was given, and that were ended
+pub record AreForeignOf (t : Intake) (foreign : Foreign) : Type 0 where
+  pub is : (i : Input) → HasTaken t i → foreign ≡ foreign_of i.files.ended
 
 -- an input has no fault and asks this, and these are what the query needs of the data that it holds
 pub record Needs (query stations : List ℕ) (files : List (List ℕ)) (asked : Asked) (held : Contents) : Type 0 where

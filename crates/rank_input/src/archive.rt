@@ -2,9 +2,9 @@
 
 ghost use Rattle.std.specs.Prelude.{◌≡◌, IfOk, OnOk, map, string_bytes};
 ghost use Rattle.rank_input.specs.Feeding.{AreAllOf, FeedsFile, FeedsFiles};
-ghost use Rattle.rank_input.specs.Taken.{HasTakenSome};
+ghost use Rattle.rank_input.specs.Takes.{HasTakenSome};
 
-use crate::intake::Intake;
+use crate::taker::Taker;
 use std::alloc::{AllocError, Global};
 use std::fs::{File, OpenFile};
 use std::io;
@@ -76,22 +76,22 @@ pub fn read_whole<A: Archive>(alloc: Global, archive: &A, path: &str) -> io::Res
 
 /// Feeds daily files in their order, each by pieces of the buffer's length, or answers the path of
 /// the first that can't be read.
-pub fn feed_files<'p, A: Archive>(
+pub fn feed_files<'p, A: Archive, T: Taker>(
     archive: &A,
-    intake: &mut Intake,
+    taker: &mut T,
     paths: &'p [String],
     buffer: &mut [u8],
 ) -> Result<(), &'p str>
-    requires { HasTakenSome intake.old }
-    ensures fed { OnOk result (FeedsFiles intake.old intake.new
+    requires { HasTakenSome T.has_taken taker.old }
+    ensures fed { OnOk result (FeedsFiles T.has_taken taker.old taker.new
         (map (λ path. A.bytes_of archive.now (string_bytes path)) paths.now)) }
-    ensures going { OnOk result (HasTakenSome intake.new) }
+    ensures going { OnOk result (HasTakenSome T.has_taken taker.new) }
 {
     for path in paths {
         let Ok(mut file) = archive.open(path) else {
             return Err(path);
         };
-        let Ok(()) = feed(intake, &mut file, buffer) else {
+        let Ok(()) = feed(taker, &mut file, buffer) else {
             return Err(path);
         };
     }
@@ -100,10 +100,10 @@ pub fn feed_files<'p, A: Archive>(
 
 /// Feeds all bytes that a source has left as one daily file. A read that was interrupted is tried
 /// again.
-pub fn feed<S: Read>(intake: &mut Intake, source: &mut S, buffer: &mut [u8]) -> io::Result<()>
-    requires { HasTakenSome intake.old }
-    ensures fed { OnOk result (FeedsFile intake.old intake.new (S.remaining source.old)) }
-    ensures going { OnOk result (HasTakenSome intake.new) }
+pub fn feed<T: Taker, S: Read>(taker: &mut T, source: &mut S, buffer: &mut [u8]) -> io::Result<()>
+    requires { HasTakenSome T.has_taken taker.old }
+    ensures fed { OnOk result (FeedsFile T.has_taken taker.old taker.new (S.remaining source.old)) }
+    ensures going { OnOk result (HasTakenSome T.has_taken taker.new) }
 {
     if buffer.is_empty() {
         return Err(io::Error::from(io::ErrorKind::InvalidInput));
@@ -111,10 +111,10 @@ pub fn feed<S: Read>(intake: &mut Intake, source: &mut S, buffer: &mut [u8]) -> 
     for _ in 0..u64::MAX {
         match source.read(buffer) {
             Ok(0) => {
-                intake.end_of_file();
+                taker.end_of_file();
                 return Ok(());
             }
-            Ok(count) => intake.piece(&buffer[..count]),
+            Ok(count) => taker.piece(&buffer[..count]),
             Err(error) => {
                 if error.kind() != io::ErrorKind::Interrupted {
                     return Err(error);

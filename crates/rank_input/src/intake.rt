@@ -1,12 +1,14 @@
 //! What a run is asked and the texts that it is given, taken piece by piece.
 
-ghost use Rattle.std.specs.Prelude.{[], IfOk, IfErr, map};
-ghost use Rattle.rank_input.specs.Taken.{given, HasTaken, HasTakenSome, IsRead};
-ghost use Rattle.rank_input.specs.Taken.{TakesBytes, TakesFileEnd, HoldsInput, RefusesInput};
+ghost use Rattle.std.specs.Prelude.{[], IfOk, IfErr, IfSome, map};
+ghost use Rattle.rank_input.specs.Takes.{given};
+ghost use Rattle.rank_input.specs.Taken.{HasTaken, HasTakenSome, IsRead};
+ghost use Rattle.rank_input.specs.Taken.{AreForeignOf, HoldsInput, RefusesInput};
 
 use crate::fault::Fault;
+use crate::taker::Taker;
 use ghcn_files::Stations;
-use ghcn_series::{Data, DataReader};
+use ghcn_series::{Data, DataReader, Foreign};
 use rank_query::Query;
 use std::alloc::Global;
 
@@ -44,26 +46,14 @@ impl Intake {
         intake
     }
 
-    /// Takes more bytes of the current daily file.
-    pub fn piece(&mut self, bytes: &[u8])
-        requires { HasTakenSome self.old }
-        ensures taken { TakesBytes self.old self.new bytes.now }
-        ensures going { HasTakenSome self.new }
+    /// The foreign files among the daily files that were ended, unless a fault was found.
+    pub fn foreign(&self) -> Option<Foreign>
+        requires { HasTakenSome self.now }
+        ensures { IfSome result (AreForeignOf self.now) }
     {
-        self.bytes = self.bytes.saturating_add(bytes.len() as u64);
-        if let Ok((_, reader)) = &mut self.read {
-            reader.piece(bytes);
-        }
-    }
-
-    /// Ends the current daily file, even where it is empty.
-    pub fn end_of_file(&mut self)
-        requires { HasTakenSome self.old }
-        ensures taken { TakesFileEnd self.old self.new }
-        ensures going { HasTakenSome self.new }
-    {
-        if let Ok((_, reader)) = &mut self.read {
-            reader.end_of_file();
+        match &self.read {
+            Ok((_, reader)) => reader.foreign(),
+            Err(_) => None,
         }
     }
 
@@ -78,6 +68,25 @@ impl Intake {
         let (query, reader) = self.read?;
         let held = reader.finish()?;
         Ok((query, held))
+    }
+}
+
+impl Taker for Intake {
+    ghost use Rattle.rank_input.specs.Taken.{HasTaken};
+
+    ghost has_taken = { HasTaken };
+
+    fn piece(&mut self, bytes: &[u8]) {
+        self.bytes = self.bytes.saturating_add(bytes.len() as u64);
+        if let Ok((_, reader)) = &mut self.read {
+            reader.piece(bytes);
+        }
+    }
+
+    fn end_of_file(&mut self) {
+        if let Ok((_, reader)) = &mut self.read {
+            reader.end_of_file();
+        }
     }
 }
 

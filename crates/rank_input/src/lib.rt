@@ -4,11 +4,15 @@
 #![tactic(auto)]
 
 mod archive;
+mod description;
 mod fault;
 mod intake;
 mod limits;
+mod taker;
 
 pub use archive::{Archive, System, feed, feed_files, piece_room, read_whole};
+pub use description::DescriptionIntake;
 pub use fault::Fault;
 pub use intake::Intake;
 pub use limits::{check_words, workers_for};
+pub use taker::Taker;

@@ -17,8 +17,9 @@ use Rattle.rank_query.specs.Laws.{IsShortLine}
 use Rattle.rank_query.specs.QueryTexts.{score_words, region_words, season_words, period_words, query_words, query_text}
 use Rattle.rank_query.specs.QueryTexts.{months_text}
 use Rattle.rank_query.specs.Spelling.{SpellsScore, SpellsRegion, SpellsSeason, SpellsPeriod, IsSpelling}
-use Rattle.rank_query.proofs.OneWords.{words_of-join}
-use Rattle.rank_query.proofs.PrintedWords.{IsShortWord, short_words, length-join, printable-join, all_both}
+use Rattle.rank_query.proofs.OneWords.{IsOneWord, words_of-join}
+use Rattle.ghcn_fields.proofs.Ordered.{each-weaker}
+use Rattle.rank_query.proofs.PrintedWords.{IsShortWord, length-join, printable-join, all_both}
 use Rattle.rank_query.proofs.PrintedWords.{known_word, decimal_numeral, decimal_word, code_word, visible_word}
 use Rattle.rank_query.proofs.PrintedWords.{date_word, four_places_spelt, four_places_word, tenths_spelt, tenths_word}
 use Rattle.rank_query.proofs.PrintedWords.{months_word, months_text_joins}
@@ -193,7 +194,7 @@ canonical q is =
         region = region_words q.region;
         season = season_words q.season;
         period = period_words q.period;
-        words = words_of-join (query_words q) (short_words (query_words q) all);
+        words = words_of-join (query_words q) (each-weaker IsShortWord IsOneWord (query_words q) (λ w it. it.one) all);
         spells_k = decimal_numeral q.k rows.1;
         spells_score = score_spelt q.score is.score;
         spells_region = region_spelt q.region is.region;

@@ -28,9 +28,13 @@ use Rattle.rank_query.specs.Reading.{sum_at, no_score_at, score_at, box_at, regi
 use Rattle.rank_query.specs.Reading.{read_words, read_query}
 use Rattle.rank_query.proofs.FaultPlaces.{fault_stands, one_place}
 
+-- a query of a region and all days
+abbrev asked_in : Region → ℕ → Score → Asked
+asked_in r k s = record { k = k; score = s; region = r; season = None; period = None }
+
 -- a query of all stations and days
 abbrev asked : ℕ → Score → Asked
-asked k s = record { k = k; score = s; region = Everywhere; season = None; period = None }
+asked k s = asked_in Everywhere k s
 
 -- the words of a text, whatever the blanks
 words : words_of (codes "  top 007  highest TMAX ") ≡ codes "top" ∷ codes "007" ∷ codes "highest" ∷ codes "TMAX" ∷ []
@@ -101,28 +105,13 @@ boxes_refused = (refl, refl, refl, refl, refl)
 
 -- wet spells in a box
 abbrev in_box_of : ℤ → ℤ → ℤ → ℤ → Asked
-in_box_of south west north east =
-    record { k = 1; score = Wet; region = Inside south west north east; season = None; period = None }
+in_box_of south west north east = asked_in (Inside south west north east) 1 Wet
 
 -- a box over the date line, and one at the edges of the world
 boxes_read : (read_query (codes "top 3 highest TMAX box -10 170 10.0000 -170") ≡ Ok
-    (record {
-      k = 3;
-      score = Highest Tmax;
-      region = Inside (neg_ℤ (pos 100_000)) (pos 1_700_000) (pos 100_000)
-          (neg_ℤ (pos 1_700_000));
-      season = None;
-      period = None;
-    }))
+    (asked_in (Inside (neg_ℤ (pos 100_000)) (pos 1_700_000) (pos 100_000) (neg_ℤ (pos 1_700_000))) 3 (Highest Tmax)))
     × (read_query (codes "top 3 highest TMAX box -90 -180.0 0090 180.0000") ≡ Ok
-    (record {
-      k = 3;
-      score = Highest Tmax;
-      region = Inside (neg_ℤ (pos 900_000)) (neg_ℤ (pos 1_800_000)) (pos 900_000)
-          (pos 1_800_000);
-      season = None;
-      period = None;
-    }))
+    (asked_in (Inside (neg_ℤ (pos 900_000)) (neg_ℤ (pos 1_800_000)) (pos 900_000) (pos 1_800_000)) 3 (Highest Tmax)))
 unfolding read_query read_words keyword says number element score_at no_score_at region_at season_at period_at box_at
     degrees
 boxes_read = (refl, refl)
@@ -171,24 +160,18 @@ no_codes : (read_query (codes "top 1 wet country " ++ 195 ∷ 169 ∷ []) ≡ Er
     × (read_query (codes "top 1 wet state N" ++ 128 ∷ []) ≡ Err (UnexpectedWord 5))
     × (read_query (codes "top 1 wet station ZZA0000000" ++ 127 ∷ []) ≡ Err (UnexpectedWord 5))
     × (read_query (codes "top 1 wet state !~") ≡ Ok
-    (record { k = 1; score = Wet; region = State (codes "!~"); season = None; period = None }))
+    (asked_in (State (codes "!~")) 1 Wet))
 unfolding read_query read_words keyword says number element score_at no_score_at region_at season_at period_at code
 no_codes = (refl, refl, refl, refl, refl)
 
 -- codes that are read
 codes_read : (read_query (codes "top 1 highest TMAX state NY") ≡ Ok
-    (record { k = 1; score = Highest Tmax; region = State (codes "NY"); season = None; period = None }))
+    (asked_in (State (codes "NY")) 1 (Highest Tmax)))
     × (read_query (codes "top 1 highest TMAX country from") ≡ Err (UnexpectedWord 6))
     × (read_query (codes "top 1 highest TMAX country ZZ") ≡ Ok
-    (record { k = 1; score = Highest Tmax; region = Country (codes "ZZ"); season = None; period = None }))
+    (asked_in (Country (codes "ZZ")) 1 (Highest Tmax)))
     × (read_query (codes "top 1 highest TMAX station ZZA00000003") ≡ Ok
-    (record {
-      k = 1;
-      score = Highest Tmax;
-      region = Only (record { 0 = codes "ZZA00000003" });
-      season = None;
-      period = None;
-    }))
+    (asked_in (Only (record { 0 = codes "ZZA00000003" })) 1 (Highest Tmax)))
 unfolding read_query read_words keyword says number element score_at no_score_at region_at season_at period_at code
 codes_read = (refl, refl, refl, refl)
 

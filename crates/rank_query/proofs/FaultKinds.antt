@@ -18,27 +18,27 @@ use Rattle.rank_query.specs.declared.score.Score.TheVariants.{Highest, Lowest, S
 use Rattle.rank_query.specs.declared.region.Region.{Region}
 use Rattle.rank_query.specs.declared.region.Region.TheVariants.{Everywhere, Inside, Country, State, Only}
 use Rattle.rank_query.specs.declared.fault.QueryFault.{QueryFault}
-use Rattle.rank_query.specs.declared.fault.QueryFault.TheVariants.{QueryTooLong, UnexpectedWord, QueryEnds}
-use Rattle.rank_query.specs.declared.fault.QueryFault.TheVariants.{OutOfLimits, BadDate, BadBox, EmptyPeriod}
+use Rattle.rank_query.specs.declared.fault.QueryFault.TheVariants.{QueryTooLong, UnexpectedWord, QueryEnds, OutOfLimits}
+use Rattle.rank_query.specs.declared.fault.QueryFault.TheVariants.{BadDate, BadBox, EmptyPeriod}
 use Rattle.rank_query.specs.Asked.{Asked, is_temperature, is_fall, is_heat, is_month, is_code}
 use Rattle.rank_query.specs.Words.{Word, says, words_of, numbered_words}
-use Rattle.rank_query.specs.Readers.{◌>>=◌, Read, or_fault, keyword, one_word, made_into, by_word}
+use Rattle.rank_query.specs.Readers.{◌>>=◌, Read, keyword, one_word, made_into, by_word}
 use Rattle.rank_query.specs.WordValues.{number, element, heat, months, degrees, code, date, tenths_of, two_numbers}
 use Rattle.rank_query.specs.Reading.{no_score_at, highest_at, lowest_at, sum_at, dry_at, wet_at, hot_at, score_at}
-use Rattle.rank_query.specs.Reading.{latitude_from, longitude, box_at, country_at, state_at, station_at}
-use Rattle.rank_query.specs.Reading.{everywhere_at, region_at, months_at, all_year_at, season_at}
-use Rattle.rank_query.specs.Reading.{days_at, between_at, always_at, period_at}
-use Rattle.rank_query.specs.Reading.{nothing_more, read_words, read_query}
-use Rattle.rank_query.specs.FaultKinds.{place_behind, number as a_number, edge, date as a_date, other}
-use Rattle.rank_query.specs.FaultKinds.{has_form, is_date, is_behind_box, is_behind_first_day, IsFaultOf, IsFaultAmong}
-use Rattle.rank_query.proofs.ReadingSteps.{said, unnumbered, unnumbered-enumerate_from}
+use Rattle.rank_query.specs.Reading.{box_at, country_at, state_at, station_at, everywhere_at, region_at, months_at}
+use Rattle.rank_query.specs.Reading.{all_year_at, season_at, days_at, between_at, always_at, period_at, nothing_more}
+use Rattle.rank_query.specs.Reading.{read_words, read_query}
+use Rattle.rank_query.specs.FaultKinds.{place_behind, number as a_number, edge, date as a_date, other, has_form}
+use Rattle.rank_query.specs.FaultKinds.{is_date, is_decimal, is_behind_box, is_behind_first_day, IsFaultAmong}
+use Rattle.rank_query.proofs.ReadingSteps.{said, unnumbered, unnumbered-enumerate_from, tested, tested_err, test_err}
+use Rattle.rank_query.proofs.ReadingSteps.{test_ok, or_fault_err}
 use Rattle.rank_query.proofs.Spellings.{asked}
+use Rattle.rank_query.proofs.Stops.{bind_err}
 use Rattle.rank_query.proofs.FaultPlaces.{place_of}
 use Rattle.rank_query.proofs.Places.{IsSettled, IsNoKeyword, HaveOtherLengths, not_both, settled_word, edge_more}
 use Rattle.rank_query.proofs.Places.{edge_less, edge_place, number_no_keyword, heat_no_keyword, months_no_keyword}
 use Rattle.rank_query.proofs.Places.{degrees_no_keyword, code_no_keyword, date_no_keyword, element_settled}
 use Rattle.rank_query.proofs.Places.{degrees_decimal, day_date}
-use Rattle.rank_query.proofs.WordStops.{limited}
 
 -- the fault of a word that is wrong behind these, told by the word's number
 abbrev IsKind : QueryFault → ℕ → List (List ℕ) → List ℕ → Type 0
@@ -159,18 +159,16 @@ Row A text read =
 row_step : {A : Type 0} (text : List ℕ) (read : List Word → Read A) (table : List (List ℕ × (List Word → Read A)))
     (otherwise : List Word → Read A)
     → Row A text read → Part A (by_word table otherwise) → Part A (by_word ((text, read) ∷ table) otherwise)
-row_step {A} text read table otherwise row others =
-    λ past ws g fault settled e next. by_words past ws g fault settled e next where
-      by_words : Part A (by_word ((text, read) ∷ table) otherwise)
-      by_words past [] g fault settled e next = others past [] g fault settled e next
-      by_words past (w ∷ rest) g fault settled e next = by_says (says text w.1) refl e where
-        by_says : (b : Bool) → says text w.1 ≡ b
-            → (elim (cond b (Some rest) None) [ Some left ↦ read left | None ↦ by_word table otherwise (w ∷ rest) ] >>=
-            g) ≡ Err fault → IsFaultBehind past (w ∷ rest) fault
-        by_says true is e =
-            further past w rest fault (subst (λ (t : List ℕ). IsFaultBehind (t ∷ past) rest fault)
-            (sym (said text w.1 is)) (row past rest g fault e next))
-        by_says false is e = others past (w ∷ rest) g fault settled e next
+row_step text read table otherwise row others past [] g fault settled e next =
+    others past [] g fault settled e next
+row_step {A} text read table otherwise row others past (w ∷ rest) g fault settled e next =
+    by_says (says text w.1) refl e where
+      by_says : (b : Bool) → says text w.1 ≡ b
+          → (elim (cond b (Some rest) None) [ Some left ↦ read left | None ↦ by_word table otherwise (w ∷ rest) ] >>=
+          g) ≡ Err fault → IsFaultBehind past (w ∷ rest) fault
+      by_says true is e = further past w rest fault (subst (λ (t : List ℕ). IsFaultBehind (t ∷ past) rest fault)
+          (sym (said text w.1 is)) (row past rest g fault e next))
+      by_says false is e = others past (w ∷ rest) g fault settled e next
 
 -- so with all rows
 rows_part : {A : Type 0} (table : List (List ℕ × (List Word → Read A))) (otherwise : List Word → Read A)
@@ -185,21 +183,12 @@ ReadByForm read past = (word : List ℕ) → has_form (place_behind past) word �
 
 -- the kind of a fault of a value with limits
 limited_kind : {A : Type 0} (read : List ℕ → Option A) (within : A → Bool) (past : List (List ℕ))
-    → ReadByForm read past → (w : Word) (f : QueryFault) → limited read within w ≡ Err f → IsKind f w.0 past w.1
-limited_kind {A} read within past form w f e = by_value (read w.1) refl e where
-  by_test : (b : Bool) (x : A) → has_form (place_behind past) w.1 ≡ Some true → ◌≡◌ {A = Result A QueryFault}
-      (cond b (Ok x) (Err (OutOfLimits w.0))) (Err f) → IsKind f w.0 past w.1
-  by_test true x is e = absurd cc
-  by_test false x is e =
-      let same : OutOfLimits w.0 ≡ f = cc in subst (λ f. IsKind f w.0 past w.1) same (refl, is)
-
-  by_value : (o : Option A) → read w.1 ≡ o
-      → (or_fault (UnexpectedWord w.0) o >>= λ x. cond (within x) (Ok x) (Err (OutOfLimits w.0))) ≡ Err f
-      → IsKind f w.0 past w.1
-  by_value None is e =
-      let same : UnexpectedWord w.0 ≡ f = cc in subst (λ f. IsKind f w.0 past w.1) same
-      (refl, inr (form w.1 ∙ ap (λ o. Some (is_some o)) is))
-  by_value (Some x) is e = by_test (within x) x (form w.1 ∙ ap (λ o. Some (is_some o)) is) e
+    → ReadByForm read past → (w : Word) (f : QueryFault) → tested read within OutOfLimits w ≡ Err f
+    → IsKind f w.0 past w.1
+limited_kind read within past form w f e = elim (tested_err read within OutOfLimits w f e) [
+  | inl none ↦ subst (λ f. IsKind f w.0 past w.1) none.1 (refl, inr (form w.1 ∙ ap (λ o. Some (is_some o)) none.0))
+  | inr far ↦ subst (λ f. IsKind f w.0 past w.1) far.2 (refl, form w.1 ∙ ap (λ o. Some (is_some o)) far.1)
+]
 
 -- of a number
 number_kind : (low high : ℕ) (past : List (List ℕ)) → place_behind past ≡ a_number → (w : Word) (f : QueryFault)
@@ -224,60 +213,50 @@ months_kind past form w f e = limited_kind two_numbers (λ s. is_month s.0 && is
 element_kind : (allows : Element → Bool) (past : List (List ℕ)) → IsSettled past → (w : Word) (f : QueryFault)
     → element allows w ≡ Err f → IsKind f w.0 past w.1
 unfolding element
-element_kind allows past settled w f e = by_element (element_of w.1) e where
-  wrong : UnexpectedWord w.0 ≡ f → IsKind f w.0 past w.1
-  wrong same = subst (λ f. IsKind f w.0 past w.1) same (refl, inl settled)
-
-  by_test : (b : Bool) (x : Element) → ◌≡◌ {A = Result Element QueryFault} (cond b (Ok x) (Err (UnexpectedWord w.0)))
-      (Err f) → IsKind f w.0 past w.1
-  by_test true x e = absurd cc
-  by_test false x e = wrong cc
-
-  by_element : (o : Option Element)
-      → (or_fault (UnexpectedWord w.0) o >>= λ x. cond (allows x) (Ok x) (Err (UnexpectedWord w.0))) ≡ Err f
-      → IsKind f w.0 past w.1
-  by_element None e = wrong cc
-  by_element (Some x) e = by_test (allows x) x e
+element_kind allows past settled w f e = elim (tested_err element_of allows UnexpectedWord w f e) [
+  | inl none ↦ subst (λ f. IsKind f w.0 past w.1) none.1 (refl, inl settled)
+  | inr wrong ↦ subst (λ f. IsKind f w.0 past w.1) wrong.2 (refl, inl settled)
+]
 
 -- of degrees
 degrees_kind : (low high : ℤ) (past : List (List ℕ)) → place_behind past ≡ edge → (w : Word) (f : QueryFault)
     → degrees low high w ≡ Err f → IsKind f w.0 past w.1
 unfolding degrees
-degrees_kind low high past place w f e = by_test (is_number_within low high (scaled_field 4 w.1)) e where
-  by_test : (b : Bool) → cond b (Ok (number_of (scaled_field 4 w.1))) (Err (BadBox w.0)) ≡ Err f → IsKind f w.0 past w.1
-  by_test true e = absurd cc
-  by_test false e = let same : BadBox w.0 ≡ f = cc in subst (λ f. IsKind f w.0 past w.1) same (refl, place)
+degrees_kind low high past place w f e = subst (λ f. IsKind f w.0 past w.1)
+    (test_err (is_number_within low high (scaled_field 4 w.1)) (number_of (scaled_field 4 w.1)) (BadBox w.0) f e).1
+    (refl, place)
 
 -- of a code
 code_kind : (len : ℕ) (past : List (List ℕ)) → IsSettled past → (w : Word) (f : QueryFault) → code len w ≡ Err f
     → IsKind f w.0 past w.1
 unfolding code
-code_kind len past settled w f e = by_test (is_code len w.1) e where
-  by_test : (b : Bool) → cond b (Ok w.1) (Err (UnexpectedWord w.0)) ≡ Err f → IsKind f w.0 past w.1
-  by_test true e = absurd cc
-  by_test false e =
-      let same : UnexpectedWord w.0 ≡ f = cc in subst (λ f. IsKind f w.0 past w.1) same (refl, inl settled)
+code_kind len past settled w f e = subst (λ f. IsKind f w.0 past w.1)
+    (test_err (is_code len w.1) w.1 (UnexpectedWord w.0) f e).1 (refl, inl settled)
 
 -- and of a date
 date_kind : (past : List (List ℕ)) → place_behind past ≡ a_date → (w : Word) (f : QueryFault) → date w ≡ Err f
     → IsKind f w.0 past w.1
 unfolding date
-date_kind past place w f e = by_date (read_date w.1) refl e where
-  by_date : (o : Option ℤ) → read_date w.1 ≡ o → or_fault (BadDate w.0) o ≡ Err f → IsKind f w.0 past w.1
-  by_date None is e =
-      let same : BadDate w.0 ≡ f = cc in subst (λ f. IsKind f w.0 past w.1) same (refl, place, ap is_some is)
-  by_date (Some day) is e = absurd cc
+date_kind past place w f e =
+    let none = or_fault_err (BadDate w.0) f (read_date w.1) e in
+    subst (λ f. IsKind f w.0 past w.1) none.1 (refl, place, ap is_some none.0)
+
+-- behind a word, what is made of the value of another
+made_row : {A B : Type 0} (text : List ℕ) (value : Word → Result A QueryFault) (make : A → B)
+    → ((past : List (List ℕ)) (w : Word) (f : QueryFault) → value w ≡ Err f → IsKind f w.0 (text ∷ past) w.1)
+    → ((past : List (List ℕ)) (w : Word) (x : A) → value w ≡ Ok x → IsSettled (w.1 ∷ text ∷ past))
+    → Row B text (λ ws. made_into make (one_word value ws))
+made_row text value make kind settled past ws g fault e next =
+    one_step value (λ p. g (make p.0, p.1)) (text ∷ past) ws fault (sym (made_then make (one_word value ws) g) ∙ e)
+    (kind past) (λ w x rest is e. further (text ∷ past) w rest fault
+    (next (w.1 ∷ text ∷ past) (make x) rest (settled past w x is) e))
 
 -- behind a word, an element that a test allows
 element_row : (text : List ℕ) (allows : Element → Bool) (make : Element → Score)
     → ((past : List (List ℕ)) → IsSettled (text ∷ past))
     → Row Score text (λ ws. made_into make (one_word (element allows) ws))
-element_row text allows make settled = λ past ws g fault e next.
-    one_step (element allows) (λ p. g (make p.0, p.1)) (text ∷ past) ws fault
-    (sym (made_then make (one_word (element allows) ws) g) ∙ e)
-    (element_kind allows (text ∷ past) (settled past))
-    (λ w x rest is e. further (text ∷ past) w rest fault
-    (next (w.1 ∷ text ∷ past) (make x) rest (element_settled allows w x (text ∷ past) is) e))
+element_row text allows make settled = made_row text (element allows) make
+    (λ past. element_kind allows (text ∷ past) (settled past)) (λ past w x. element_settled allows w x (text ∷ past))
 
 -- a number of days and what is added up
 sum_row : Row Score (codes "sum") sum_at
@@ -294,12 +273,8 @@ sum_row = λ past ws g fault e next.
 
 -- degrees from which on a day is hot
 hot_row : Row Score (codes "hot") hot_at
-hot_row = λ past ws g fault e next.
-    let hot : List (List ℕ) = codes "hot" ∷ past in
-    one_step heat (λ p. g (Hot p.0, p.1)) hot ws fault (sym (made_then Hot (one_word heat ws) g) ∙ e)
-    (heat_kind hot (λ word. refl))
-    (λ w t rest is e. further hot w rest fault (next (w.1 ∷ hot) (Hot t) rest
-    (settled_word w.1 hot (heat_no_keyword w t is) refl refl) e))
+hot_row = made_row (codes "hot") heat Hot (λ past. heat_kind (codes "hot" ∷ past) (λ word. refl))
+    (λ past w t is. settled_word w.1 (codes "hot" ∷ past) (heat_no_keyword w t is) refl refl)
 
 -- a word alone
 word_row : {A : Type 0} (text : List ℕ) (y : A) → ((past : List (List ℕ)) → IsSettled (text ∷ past))
@@ -309,13 +284,10 @@ word_row text y settled = λ past ws g fault e next. next (text ∷ past) y ws (
 -- no score
 no_score : Part Score no_score_at
 unfolding no_score_at
-no_score = λ past ws g fault settled e next. by_words past ws g fault settled e where
-  by_words : (past : List (List ℕ)) (ws : List Word) (g : Score × List Word → Result Asked QueryFault)
-      (fault : QueryFault) → IsSettled past → (no_score_at ws >>= g) ≡ Err fault → IsFaultBehind past ws fault
-  by_words past [] g fault settled e = let same : QueryEnds ≡ fault = cc in inl (sym same)
-  by_words past (w ∷ rest) g fault settled e =
-      let same : UnexpectedWord w.0 ≡ fault = cc in
-      here past w rest fault (subst (λ f. IsKind f w.0 past w.1) same (refl, inl settled))
+no_score past [] g fault settled e next = let same : QueryEnds ≡ fault = cc in inl (sym same)
+no_score past (w ∷ rest) g fault settled e next =
+    let same : UnexpectedWord w.0 ≡ fault = cc in
+    here past w rest fault (subst (λ f. IsKind f w.0 past w.1) same (refl, inl settled))
 
 -- a score
 score_part : Part Score score_at
@@ -341,42 +313,32 @@ edges_settled e n w s box no_e no_n no_w no_s =
     (edge_less 1 n (w ∷ s ∷ box) no_n.box (edge_less 0 w (s ∷ box) no_w.box no_s.box))
     (not_both (is_date n) (same_bytes w (codes "from")) no_w.from)
 
+-- a fault at an edge of a box, or behind it
+edge_step : {B C : Type 0} (low high : ℤ) (f : ℤ × List Word → Result B QueryFault) (g : B → Result C QueryFault)
+    (past : List (List ℕ)) (ws : List Word) (fault : QueryFault)
+    → ((one_word (degrees low high) ws >>= f) >>= g) ≡ Err fault → is_behind_box 3 past ≡ true
+    → ((w : Word) (z : ℤ) (rest : List Word) → IsNoKeyword w.1 → is_decimal w.1 ≡ true
+    → (f (z, rest) >>= g) ≡ Err fault → IsFaultBehind (w.1 ∷ past) rest fault)
+    → IsFaultBehind past ws fault
+edge_step low high f g past ws fault e behind next = inner_step (degrees low high) f g past ws fault e
+    (degrees_kind low high past (edge_place past behind))
+    (λ w z rest is e. further past w rest fault
+    (next w z rest (degrees_no_keyword low high w z is) (degrees_decimal low high w z is) e))
+
 -- the four edges of a box
 box_row : Row Region (codes "box") box_at
 unfolding box_at
-box_row = λ past ws g fault e next.
+box_row past ws g fault e next =
     let box : List (List ℕ) = codes "box" ∷ past in
-    inner_step (latitude_from (neg_ℤ (pos 900_000))) _ g box ws fault e
-    (degrees_kind (neg_ℤ (pos 900_000)) (pos 900_000) box refl) (λ s z rest is e.
-    let no_s = degrees_no_keyword (neg_ℤ (pos 900_000)) (pos 900_000) s z is in
-    let one : is_behind_box 1 (s.1 ∷ box) ≡ true = edge_more 0 s.1 box
-    (degrees_decimal (neg_ℤ (pos 900_000)) (pos 900_000) s z is) refl in
-    let first : is_behind_box 3 (s.1 ∷ box) ≡ true = edge_more 2 s.1 box
-    (degrees_decimal (neg_ℤ (pos 900_000)) (pos 900_000) s z is) refl in
-    let second : is_behind_box 2 (s.1 ∷ box) ≡ true = edge_more 1 s.1 box
-    (degrees_decimal (neg_ℤ (pos 900_000)) (pos 900_000) s z is) refl in
-    further box s rest fault (
-    inner_step longitude _ g (s.1 ∷ box) rest fault e
-    (degrees_kind (neg_ℤ (pos 1_800_000)) (pos 1_800_000) (s.1 ∷ box) (edge_place (s.1 ∷ box) first))
-    (λ w x rest is e.
-    let no_w = degrees_no_keyword (neg_ℤ (pos 1_800_000)) (pos 1_800_000) w x is in
-    let two : is_behind_box 2 (w.1 ∷ s.1 ∷ box) ≡ true = edge_more 1 w.1 (s.1 ∷ box)
-    (degrees_decimal (neg_ℤ (pos 1_800_000)) (pos 1_800_000) w x is) one in
-    let three : is_behind_box 3 (w.1 ∷ s.1 ∷ box) ≡ true = edge_more 2 w.1 (s.1 ∷ box)
-    (degrees_decimal (neg_ℤ (pos 1_800_000)) (pos 1_800_000) w x is) second in
-    further (s.1 ∷ box) w rest fault (
-    inner_step (latitude_from z) _ g (w.1 ∷ s.1 ∷ box) rest fault e
-    (degrees_kind z (pos 900_000) (w.1 ∷ s.1 ∷ box) (edge_place (w.1 ∷ s.1 ∷ box) three)) (λ n y rest is e.
-    let no_n = degrees_no_keyword z (pos 900_000) n y is in
-    let last : is_behind_box 3 (n.1 ∷ w.1 ∷ s.1 ∷ box) ≡ true = edge_more 2 n.1 (w.1 ∷ s.1 ∷ box)
-    (degrees_decimal z (pos 900_000) n y is) two in
-    further (w.1 ∷ s.1 ∷ box) n rest fault (
-    inner_step longitude (λ o. Ok (Inside z x y o.0, o.1)) g (n.1 ∷ w.1 ∷ s.1 ∷ box) rest fault e
-    (degrees_kind (neg_ℤ (pos 1_800_000)) (pos 1_800_000) (n.1 ∷ w.1 ∷ s.1 ∷ box)
-    (edge_place (n.1 ∷ w.1 ∷ s.1 ∷ box) last)) (λ o v rest is e.
-    further (n.1 ∷ w.1 ∷ s.1 ∷ box) o rest fault (next (o.1 ∷ n.1 ∷ w.1 ∷ s.1 ∷ box) (Inside z x y v) rest
-    (edges_settled o.1 n.1 w.1 s.1 box (degrees_no_keyword (neg_ℤ (pos 1_800_000)) (pos 1_800_000) o v is) no_n no_w
-    no_s) e))))))))
+    edge_step (neg_ℤ (pos 900_000)) (pos 900_000) _ g box ws fault e refl (λ s z rest no_s is_s e.
+    edge_step (neg_ℤ (pos 1_800_000)) (pos 1_800_000) _ g (s.1 ∷ box) rest fault e (edge_more 2 s.1 box is_s refl)
+    (λ w x rest no_w is_w e.
+    edge_step z (pos 900_000) _ g (w.1 ∷ s.1 ∷ box) rest fault e
+    (edge_more 2 w.1 (s.1 ∷ box) is_w (edge_more 1 s.1 box is_s refl)) (λ n y rest no_n is_n e.
+    edge_step (neg_ℤ (pos 1_800_000)) (pos 1_800_000) (λ o. Ok (Inside z x y o.0, o.1)) g (n.1 ∷ w.1 ∷ s.1 ∷ box) rest
+    fault e (edge_more 2 n.1 (w.1 ∷ s.1 ∷ box) is_n (edge_more 1 w.1 (s.1 ∷ box) is_w (edge_more 0 s.1 box is_s refl)))
+    (λ o v rest no_o is_o e. next (o.1 ∷ n.1 ∷ w.1 ∷ s.1 ∷ box) (Inside z x y v) rest
+    (edges_settled o.1 n.1 w.1 s.1 box no_o no_n no_w no_s) e))))
 
 -- behind a word, a code of so many bytes
 code_row : (text : List ℕ) (len : ℕ) (make : List ℕ → Region) → HaveOtherLengths len
@@ -384,13 +346,9 @@ code_row : (text : List ℕ) (len : ℕ) (make : List ℕ → Region) → HaveOt
     → ((past : List (List ℕ)) → is_behind_box 2 (text ∷ past) ≡ false)
     → ((past : List (List ℕ)) → is_behind_first_day (text ∷ past) ≡ false)
     → Row Region text (λ ws. made_into make (one_word (code len) ws))
-code_row text len make lengths settled box day = λ past ws g fault e next.
-    one_step (code len) (λ p. g (make p.0, p.1)) (text ∷ past) ws fault
-    (sym (made_then make (one_word (code len) ws) g) ∙ e)
-    (code_kind len (text ∷ past) (settled past))
-    (λ w c rest is e. further (text ∷ past) w rest fault
-    (next (w.1 ∷ text ∷ past) (make c) rest
-    (settled_word w.1 (text ∷ past) (code_no_keyword len w c lengths is) (box past) (day past)) e))
+code_row text len make lengths settled box day = made_row text (code len) make
+    (λ past. code_kind len (text ∷ past) (settled past))
+    (λ past w c is. settled_word w.1 (text ∷ past) (code_no_keyword len w c lengths is) (box past) (day past))
 
 -- a part that needs no word
 always_part : {A : Type 0} (y : A) → Part A (λ ws. Ok (y, ws))
@@ -424,12 +382,8 @@ region_part =
 
 -- two months behind "months"
 months_row : Row (Option (ℕ × ℕ)) (codes "months") months_at
-months_row = λ past ws g fault e next.
-    let front : List (List ℕ) = codes "months" ∷ past in
-    one_step months (λ p. g (Some p.0, p.1)) front ws fault (sym (made_then Some (one_word months ws) g) ∙ e)
-    (months_kind front (λ word. refl))
-    (λ w s rest is e. further front w rest fault (next (w.1 ∷ front) (Some s) rest
-    (settled_word w.1 front (months_no_keyword w s is) refl refl) e))
+months_row = made_row (codes "months") months Some (λ past. months_kind (codes "months" ∷ past) (λ word. refl))
+    (λ past w s is. settled_word w.1 (codes "months" ∷ past) (months_no_keyword w s is) refl refl)
 
 -- a season
 season_part : Part (Option (ℕ × ℕ)) season_at
@@ -452,22 +406,17 @@ days_row = λ past ws g fault e next.
     (settled_word w.1 from (date_no_keyword w first is) refl refl) (λ rest e.
     inner_step date (λ last. cond (int_le first last.0) (Ok ((first, last.0), last.1)) (Err EmptyPeriod))
     (λ p. g (Some p.0, p.1)) to rest fault e (date_kind to place) (λ v last rest is e.
-    by_order past g fault next w.1 first v last rest place is (int_le first last) e))))
-  where
-    by_order : (past : List (List ℕ)) (g : Option (ℤ × ℤ) × List Word → Result Asked QueryFault) (fault : QueryFault)
-        → Next (Option (ℤ × ℤ)) g fault
-        → (d : List ℕ) (first : ℤ) (v : Word) (last : ℤ) (rest : List Word)
-        → place_behind (codes "to" ∷ d ∷ codes "from" ∷ past) ≡ a_date → date v ≡ Ok last
-        → (b : Bool) → ◌>>=◌ {A = (ℤ × ℤ) × List Word} (cond b (Ok ((first, last), rest)) (Err EmptyPeriod))
-        (λ p. g (Some p.0, p.1)) ≡ Err fault → IsFaultBehind (codes "to" ∷ d ∷ codes "from" ∷ past) (v ∷ rest) fault
-    by_order past g fault next d first v last rest place is true e =
-        let to : List (List ℕ) = codes "to" ∷ d ∷ codes "from" ∷ past in
-        further to v rest fault (next (v.1 ∷ to) (Some (first, last)) rest
-        (settled_word v.1 to (date_no_keyword v last is) refl refl) e)
-    by_order past g fault next d first v last rest place is false e =
-        let to : List (List ℕ) = codes "to" ∷ d ∷ codes "from" ∷ past in
-        let same : EmptyPeriod ≡ fault = cc in
-        here to v rest fault (subst (λ f. IsKind f v.0 to v.1) same (place, day_date v last is))
+    elim (bind_err (cond (int_le first last) (Ok ((first, last), rest)) (Err EmptyPeriod)) (λ p. g (Some p.0, p.1))
+    fault e) [
+      | inl early ↦
+          let order = test_err (int_le first last) ((first, last), rest) EmptyPeriod fault early in
+          here to v rest fault (subst (λ f. IsKind f v.0 to v.1) order.1 (place, day_date v last is))
+      | inr later ↦
+          let order = test_ok (int_le first last) ((first, last), rest) later.0 EmptyPeriod later.1 in
+          further to v rest fault (next (v.1 ∷ to) (Some (first, last)) rest
+          (settled_word v.1 to (date_no_keyword v last is) refl refl)
+          (subst (λ (p : (ℤ × ℤ) × List Word). g (Some p.0, p.1) ≡ Err fault) (sym order.1) later.2))
+    ]))))
 
 -- a period
 period_part : Part (Option (ℤ × ℤ)) period_at
@@ -497,27 +446,16 @@ words_kind ws fault e =
     period_part past rest (λ p. nothing_more p.1 (asked k s r t p.0)) fault settled e (λ past p rest settled e.
     nothing_kind past rest (asked k s r t p) fault settled e)))))))
 
--- the number of the fault's word is one more than there are words before it
-numbered : (fault : QueryFault) (n : ℕ) (past : List (List ℕ)) (word : List ℕ) → n ≡ length past + 1
-    → IsKind fault n past word → IsFaultOf fault past word
-numbered QueryTooLong n past word at is = absurd is
-numbered (UnexpectedWord m) n past word at is = (is.0 ∙ at, is.1)
-numbered QueryEnds n past word at is = absurd is
-numbered (OutOfLimits m) n past word at is = (is.0 ∙ at, is.1)
-numbered (BadDate m) n past word at is = (is.0 ∙ at, is.1, is.2)
-numbered (BadBox m) n past word at is = (is.0 ∙ at, is.1)
-numbered EmptyPeriod n past word at is = is
-
--- a fault of a word is among those of the words
-is_among : (fault : QueryFault) (ws past : List (List ℕ)) (word : List ℕ) (behind : List (List ℕ))
-    → ws ≡ reverse past ++ word ∷ behind → IsFaultOf fault past word → IsFaultAmong fault ws
-is_among QueryTooLong ws past word behind parts is = tt
-is_among (UnexpectedWord m) ws past word behind parts is = (past, word, behind, parts, is)
-is_among QueryEnds ws past word behind parts is = tt
-is_among (OutOfLimits m) ws past word behind parts is = (past, word, behind, parts, is)
-is_among (BadDate m) ws past word behind parts is = (past, word, behind, parts, is)
-is_among (BadBox m) ws past word behind parts is = (past, word, behind, parts, is)
-is_among EmptyPeriod ws past word behind parts is = (past, word, behind, parts, is)
+-- a fault of a word, whose number is one more than there are words before it, is among those of the words
+is_among : (fault : QueryFault) (n : ℕ) (ws past : List (List ℕ)) (word : List ℕ) (behind : List (List ℕ))
+    → ws ≡ reverse past ++ word ∷ behind → n ≡ length past + 1 → IsKind fault n past word → IsFaultAmong fault ws
+is_among QueryTooLong n ws past word behind parts at is = tt
+is_among (UnexpectedWord m) n ws past word behind parts at is = (past, word, behind, parts, (is.0 ∙ at, is.1))
+is_among QueryEnds n ws past word behind parts at is = tt
+is_among (OutOfLimits m) n ws past word behind parts at is = (past, word, behind, parts, (is.0 ∙ at, is.1))
+is_among (BadDate m) n ws past word behind parts at is = (past, word, behind, parts, (is.0 ∙ at, is.1, is.2))
+is_among (BadBox m) n ws past word behind parts at is = (past, word, behind, parts, (is.0 ∙ at, is.1))
+is_among EmptyPeriod n ws past word behind parts at is = (past, word, behind, parts, is)
 
 -- the fault of the words of a text is that of one of them
 text_kind : (text : List ℕ) (fault : QueryFault) → IsFaultBehind [] (numbered_words text) fault
@@ -533,8 +471,7 @@ text_kind text fault (inr is) =
     sym (unnumbered-enumerate_from 1 (words_of text)) ∙ ap unnumbered is.parts
     ∙ map-append (λ (w : Word). w.1) is.before (is.word ∷ is.behind)
     ∙ ap (λ words. words ++ is.word.1 ∷ unnumbered is.behind) (sym (reverse-reverse (unnumbered is.before))) in
-    is_among fault (words_of text) past is.word.1 (unnumbered is.behind) parts
-    (numbered fault is.word.0 past is.word.1 at is.kind)
+    is_among fault is.word.0 (words_of text) past is.word.1 (unnumbered is.behind) parts at is.kind
 
 -- so it is with a text of any length
 within_kind : (b : Bool) (text : List ℕ) (fault : QueryFault)

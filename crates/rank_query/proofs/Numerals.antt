@@ -1,7 +1,6 @@
 -- The number that digits write, up to a limit.
-use Rattle.std.proofs.Common.{◌≡◌, ℕ, ◌+◌, ◌-◌, ◌*◌, ◌<◌, ◌≤◌, ◌^◌, Bool, true, false, cond, min, List, [], ◌∷◌}
-use Rattle.std.proofs.Common.{length, take, drop, get_or, Option, Some, None, Ok, Err, refl, sym, ap, ◌∙◌, arith, inl}
-use Rattle.std.proofs.Common.{inr}
+use Rattle.std.proofs.Common.{◌≡◌, ℕ, ◌+◌, ◌-◌, ◌*◌, ◌<◌, ◌≤◌, ◌^◌, Bool, true, false, cond, min, List, [], ◌∷◌, length}
+use Rattle.std.proofs.Common.{take, drop, get_or, Option, Some, None, Ok, Err, refl, sym, ap, ◌∙◌, arith, inl, inr}
 use Rattle.std.specs.Prelude.{◌==◌, ℤ, pos, neg_ℤ}
 use Rattle.std.specs.List.{list_all, before_first, after_first, position_or_len}
 use Rattle.std.specs.Option.{option_map}
@@ -20,6 +19,7 @@ use Rattle.rank_query.specs.declared.fault.QueryFault.TheVariants.{UnexpectedWor
 use Rattle.rank_query.specs.Asked.{is_heat}
 use Rattle.rank_query.specs.Readers.{◌>>=◌, or_fault}
 use Rattle.rank_query.specs.WordValues.{heat, tenths_of, is_point, two_numbers, both_numbers, natural_behind}
+use Rattle.rank_query.proofs.ReadingSteps.{tested_again}
 
 -- a digit's value
 pub digit_is : (c : ℕ) → is_ascii_digit c ≡ true → digit_value c ≡ c - 48
@@ -97,9 +97,7 @@ pub heat-kept : (at : ℕ) (word : List ℕ) (t : ℤ)
 unfolding heat
 heat-kept at word t e inside =
     let kept = signed-kept word t e in
-    ap (λ o. or_fault (UnexpectedWord at) o >>= λ z. cond (is_heat z) (Ok z) (Err (OutOfLimits at)))
-    (kept.is ∙ ap (λ (z : ℤ). Some z) (kept.same inside))
-    ∙ ap (λ b. cond b (Ok t) (Err (OutOfLimits at))) inside
+    tested_again tenths_of is_heat OutOfLimits at word t (kept.is ∙ ap (λ (z : ℤ). Some z) (kept.same inside)) inside
 
 -- and is out of them where it isn't
 pub heat-past : (at : ℕ) (word : List ℕ) (t : ℤ)

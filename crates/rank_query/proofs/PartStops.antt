@@ -1,5 +1,5 @@
 -- Where the reading of one word stops, and that of a part that its first word tells.
-use Rattle.std.proofs.Common.{◌≡◌, ℕ, zero, Bool, true, false, cond, ◌⊎◌, inl, inr, List, [], ◌∷◌, ◌++◌, Option, Some}
+use Rattle.std.proofs.Common.{◌≡◌, ℕ, zero, Bool, true, false, cond, ◌⊎◌, inl, inr, List, [], ◌∷◌, Option, Some}
 use Rattle.std.proofs.Common.{None, Result, Ok, Err, refl, sym, ap, ◌∙◌, subst}
 use Rattle.std.specs.List.{AllByRecursion}
 use Rattle.rank_query.specs.declared.fault.QueryFault.{QueryFault}
@@ -7,9 +7,10 @@ use Rattle.rank_query.specs.declared.fault.QueryFault.TheVariants.{UnexpectedWor
 use Rattle.rank_query.specs.Words.{Word, says}
 use Rattle.rank_query.specs.Readers.{◌>>=◌, Read, keyword, one_word, made_into, by_word}
 use Rattle.rank_query.proofs.OneWords.{HasNoBlank}
-use Rattle.rank_query.proofs.ReadingSteps.{bind_ok}
-use Rattle.rank_query.proofs.Stops.{Reading, then, GoesOn, IsWordOf, StopsAt, Stops, StopsFirst, TakesAll, Ended}
-use Rattle.rank_query.proofs.Stops.{ReadsPart, bind_err}
+use Rattle.rank_query.proofs.ReadingSteps.{bind_ok, test_err, made_into_took}
+use Rattle.rank_query.proofs.Stops.{Reading, then, GoesOn, IsWordOf, Stops, StopsFirst, TakesAll, Ended}
+use Rattle.rank_query.proofs.Stops.{ReadsPart, bind_err, Follows, same_follows, on_follows, stops_follows, stops_behind}
+use Rattle.rank_query.proofs.Stops.{stops_word, stops_end, takes_behind}
 
 -- a word's value is good, a word without one is told by its number, and some word has a value
 pub record ReadsWord (A : Type 0) (Good : A → Type 0) (value : Word → Result A QueryFault) : Type 0 where
@@ -36,22 +37,10 @@ word_stops : {A : Type 0} (Good : A → Type 0) (value : Word → Result A Query
     → (ws : List Word) (fault : QueryFault) → one_word value ws ≡ Err fault
     → Stops (A × List Word) (Ended Good) (one_word value) fault ws
 word_stops Good value word [] fault e =
-    record {
-      before = [];
-      left = [];
-      parts = refl;
-      on = word_on Good value word;
-      at = let same : fault ≡
-          QueryEnds = cc in same;
-    }
+    stops_end [] (word_on Good value word) (let same : fault ≡ QueryEnds = cc in same)
 word_stops {A} Good value word (w ∷ ws) fault e = elim (bind_err (value w) (λ x. Ok (x, ws)) fault e) [
-  | inl here ↦ record {
-    before = [];
-    left = w ∷ ws;
-    parts = refl;
-    on = word_on Good value word;
-    at = (word.told w fault here, λ more. ap (λ (r : Result A QueryFault). r >>= λ x. Ok (x, more)) here);
-  }
+  | inl here ↦ stops_word [] w ws (word_on Good value word) (word.told w fault here)
+      (λ more. ap (λ (r : Result A QueryFault). r >>= λ x. Ok (x, more)) here)
   | inr later ↦ absurd (ok_is_no_fault (later.0, ws) fault later.2)
 ] where
   ok_is_no_fault : (r : A × List Word) (fault : QueryFault) → ◌≡◌ {A = Read A} (Ok r) (Err fault) → ⊥
@@ -86,52 +75,24 @@ made_err : {A B : Type 0} (make : A → B) (r : Read A) (fault : QueryFault) →
 made_err make (Ok p) fault e = absurd cc
 made_err make (Err d) fault e = let same : d ≡ fault = cc in ap Err same
 
--- and a value is made of a value
-made_ok : {A B : Type 0} (make : A → B) (r : Read A) (y : B × List Word) → made_into make r ≡ Ok y → (x : A)
-    × (r ≡ Ok (x, y.1)) × (make x ≡ y.0)
-made_ok {A} {B} make (Ok p) y e =
-    let pair : (make p.0, p.1) ≡ y = cc in
-    (p.0, ap (λ (q : B × List Word). Ok (p.0, q.1)) pair, ap (λ (q : B × List Word). q.0) pair)
-made_ok make (Err fault) y e = absurd cc
-
--- what is made stops where the part does
-made_at : {A B : Type 0} (make : A → B) (read : Reading (A × List Word)) (fault : QueryFault)
-    (before left : List Word) → StopsAt read fault before left
-    → StopsAt (λ ws. made_into make (read ws)) fault before left
-made_at make read fault before [] at = at
-made_at make read fault before (w ∷ behind) at = (at.0, λ more. ap (made_into make) (at.1 more))
-
--- and goes on where it does
-made_on : {A B : Type 0} (GoodA : A → Type 0) (Good : B → Type 0) (make : A → B) (read : Reading (A × List Word))
-    → ((x : A) → GoodA x → Good (make x))
-    → GoesOn (A × List Word) (Ended GoodA) read → GoesOn (B × List Word) (Ended Good) (λ ws. made_into make (read ws))
-made_on GoodA Good make read good on = record {
-  tail = on.tail;
-  clean = on.clean;
-  value = (make on.value.0, on.value.1);
-  good = (good on.value.0 on.good.0, on.good.1);
-  reads = ap (made_into make) on.reads;
-}
-
 -- what is made of a part is one
 pub part_made : {A B : Type 0} (GoodA : A → Type 0) (Good : B → Type 0) (make : A → B)
     (read : Reading (A × List Word)) → ((x : A) → GoodA x → Good (make x))
     → ReadsPart A GoodA read → ReadsPart B Good (λ ws. made_into make (read ws))
 part_made {A} {B} GoodA Good make read good part = record {
-  first = record {
-    on = made_on GoodA Good make read good part.first.on;
-    stops = λ ws fault e.
-        let stops = part.first.stops ws fault (made_err make (read ws) fault e) in
-        record {
-          before = stops.before;
-          left = stops.left;
-          parts = stops.parts;
-          on = made_on GoodA Good make (λ tail. read (stops.before ++ tail)) good stops.on;
-          at = made_at make read fault stops.before stops.left stops.at;
-        };
-  };
+  first =
+      let follows : Follows (λ r. (make r.0, r.1)) (λ ws. made_into make (read ws)) [] read = record {
+        ok = λ more x e. ap (made_into make) e;
+        err = λ more fault e. ap (made_into make) e;
+      } in
+      let ended : (r : A × List Word) → Ended GoodA r → Ended Good (make r.0, r.1) = λ r is. (good r.0 is.0, is.1) in
+      record {
+        on = on_follows (Ended GoodA) (Ended Good) _ _ read [] [] ended follows part.first.on;
+        stops = λ ws fault e. stops_follows (Ended GoodA) (Ended Good) _ _ read [] ws fault ended follows
+            (part.first.stops ws fault (made_err make (read ws) fault e));
+      };
   takes = λ ws r e.
-      let made = made_ok make (read ws) r e in
+      let made = made_into_took make (read ws) r.1 r.0 e in
       let took = part.takes ws (made.0, r.1) made.1 in
       record {
         good = subst Good made.2 (good made.0 took.good);
@@ -166,18 +127,13 @@ the_word text w = cond (says text w.1) (Ok zero) (Err (UnexpectedWord w.0))
 abbrev pub Any : {A : Type 0} → A → Type 0
 Any x = Unit {0}
 
--- where it is another word, that word is wrong
-test_err : (b : Bool) (w : Word) (fault : QueryFault) → ◌≡◌ {A = Result ℕ QueryFault}
-    (cond b (Ok zero) (Err (UnexpectedWord w.0))) (Err fault) → IsWordOf fault [] w
-test_err true w fault e = absurd cc
-test_err false w fault e = let same : UnexpectedWord w.0 ≡ fault = cc in subst (λ f. IsWordOf f [] w) same refl
-
 -- so is a keyword
 pub part_the_word : (text : List ℕ) → HasNoBlank text → says text text ≡ true
     → ReadsPart ℕ Any (one_word (the_word text))
 part_the_word text clean same = part_word Any (the_word text) (record {
   good = λ w x e. tt;
-  told = λ w fault e. test_err (says text w.1) w fault e;
+  told = λ w fault e. subst (λ f. IsWordOf f [] w)
+      (test_err (says text w.1) zero (UnexpectedWord w.0) fault e).1 refl;
   sample = text;
   clean = clean;
   it = zero;
@@ -202,52 +158,19 @@ unfolding keyword
 keyword-then text onward [] = refl
 keyword-then text onward (w ∷ ws) = by_test (says text w.1) w ws onward
 
--- where one reading stops an equal one does
-same_at : {C : Type 0} (read other : Reading C) → ((ws : List Word) → other ws ≡ read ws)
-    → (fault : QueryFault) (before left : List Word) → StopsAt read fault before left → StopsAt other fault before left
-same_at read other same fault before [] at = at
-same_at read other same fault before (w ∷ behind) at = (at.0, λ more. same (before ++ w ∷ more) ∙ at.1 more)
-
 -- a reading that always answers as another one stops as it does
 pub first_same : {C : Type 0} (Good : C → Type 0) (read other : Reading C) → ((ws : List Word) → other ws ≡ read ws)
     → StopsFirst C Good read → StopsFirst C Good other
 first_same Good read other same first = record {
-  on = record {
-    tail = first.on.tail;
-    clean = first.on.clean;
-    value = first.on.value;
-    good = first.on.good;
-    reads = same first.on.tail ∙ first.on.reads;
-  };
-  stops = λ ws fault e.
-      let stops = first.stops ws fault (sym (same ws) ∙ e) in
-      record {
-        before = stops.before;
-        left = stops.left;
-        parts = stops.parts;
-        on = record {
-          tail = stops.on.tail;
-          clean = stops.on.clean;
-          value = stops.on.value;
-          good = stops.on.good;
-          reads = same (stops.before ++ stops.on.tail) ∙ stops.on.reads;
-        };
-        at = same_at read other same fault stops.before stops.left stops.at;
-      };
+  on = on_follows Good Good (λ x. x) other read [] [] (λ x good. good) (same_follows other read [] same) first.on;
+  stops = λ ws fault e. stops_behind Good other read [] ws fault same (first.stops ws fault (sym (same ws) ∙ e));
 }
 
 -- and takes what it takes
 pub takes_same : {A : Type 0} (Good : A → Type 0) (read other : Reading (A × List Word))
     → ((ws : List Word) → other ws ≡ read ws) → TakesAll A Good read → TakesAll A Good other
-takes_same Good read other same takes = λ ws r e.
-    let took = takes ws r (sym (same ws) ∙ e) in
-    record {
-      good = took.good;
-      taken = took.taken;
-      parts = took.parts;
-      again = λ more. same (took.taken ++ more)
-          ∙ took.again more;
-    }
+takes_same Good read other same takes =
+    λ ws r e. takes_behind Good other read [] ws r same (takes ws r (sym (same ws) ∙ e))
 
 -- how the reading goes on where a word may come next
 abbrev reads_or : {A : Type 0} → Option (List Word) → (List Word → Read A) → Read A → Read A
@@ -269,21 +192,13 @@ by_first {A} Good (row ∷ table) otherwise w all =
           × ((rest : List Word) → by_word rows otherwise (w ∷ rest) ≡ read rest))
           ⊎ ((rest : List Word) → by_word rows otherwise (w ∷ rest) ≡ otherwise (w ∷ rest))
 
+      after : (b : Bool) → says row.0 w.1 ≡ b → (rest : List Word) → by_word (row ∷ table) otherwise (w ∷ rest) ≡
+          reads_or (cond b (Some rest) None) row.1 (by_word table otherwise (w ∷ rest))
+      after b is rest = ap (λ b. reads_or (cond b (Some rest) None) row.1 (by_word table otherwise (w ∷ rest))) is
+
       by_says : (b : Bool) → says row.0 w.1 ≡ b → Found table → Found (row ∷ table)
-      by_says true is later =
-          inl (
-            row.1,
-            all.0,
-            λ rest. ap (λ b. reads_or (cond b (Some rest) None) row.1
-                (by_word table otherwise (w ∷ rest))) is,
-          )
+      by_says true is later = inl (row.1, all.0, after true is)
       by_says false is later = elim later [
-        | inl found ↦ inl (
-          found.0,
-          found.1,
-          λ rest. ap
-              (λ b. reads_or (cond b (Some rest) None) row.1 (by_word table otherwise (w ∷ rest))) is ∙ found.2 rest,
-        )
-        | inr none ↦ inr (λ rest. ap
-            (λ b. reads_or (cond b (Some rest) None) row.1 (by_word table otherwise (w ∷ rest))) is ∙ none rest)
+        | inl found ↦ inl (found.0, found.1, λ rest. after false is rest ∙ found.2 rest)
+        | inr none ↦ inr (λ rest. after false is rest ∙ none rest)
       ]

@@ -14,12 +14,12 @@ use Rattle.rank_query.specs.Readers.{◌>>=◌, Read, keyword, one_word}
 use Rattle.rank_query.specs.WordValues.{date}
 use Rattle.rank_query.specs.Reading.{days_at, between_at}
 use Rattle.rank_query.specs.FaultPlaces.{EndsTooEarly}
-use Rattle.rank_query.proofs.ReadingSteps.{said, one_word_again}
+use Rattle.rank_query.proofs.ReadingSteps.{said, test_ok, one_word_again}
 use Rattle.rank_query.proofs.WordValues.{date_written, date_day, written_date}
 use Rattle.rank_query.proofs.RegionWords.{and_true}
 use Rattle.rank_query.proofs.PrintedWords.{date_word}
 use Rattle.rank_query.proofs.Stops.{Reading, then, GoesOn, IsWordOf, Stops, Takes, TakesAll, Ended, ReadsPart}
-use Rattle.rank_query.proofs.Stops.{word_behind, takes_then}
+use Rattle.rank_query.proofs.Stops.{word_behind, stops_word, stops_end, takes_then}
 use Rattle.rank_query.proofs.PartStops.{beside, part_word, part_made, part_the_word, the_word, Any, keyword-then}
 use Rattle.rank_query.proofs.PartStops.{takes_same}
 use Rattle.rank_query.proofs.WordStops.{reads_date}
@@ -89,14 +89,7 @@ before_from_test first last e = grind (arith, ints)
 last_stops : (first : ℤ) (w t : Word) (ws : List Word) (fault : QueryFault) → Behind first w t
     → last_from first ws ≡ Err fault → Stops Days (Ended GoodDays) days_at fault (w ∷ t ∷ ws)
 last_stops first w t [] fault behind e =
-    record {
-      before = w ∷ t ∷ [];
-      left = [];
-      parts = refl;
-      on = last_on first w t behind;
-      at = let same : fault ≡
-          QueryEnds = cc in same;
-    }
+    stops_end (w ∷ t ∷ []) (last_on first w t behind) (let same : fault ≡ QueryEnds = cc in same)
 last_stops first w t (l ∷ ws) fault behind e = by_date (date l) refl e where
   test : List Word → Result ℤ QueryFault → Read (ℤ × ℤ)
   test more r = beside more r >>= λ last. cond (int_le first last.0) (Ok ((first, last.0), last.1)) (Err EmptyPeriod)
@@ -117,17 +110,9 @@ last_stops first w t (l ∷ ws) fault behind e = by_date (date l) refl e where
         date = date_written l last is;
         order = before_from_test first last order;
       } in
-      record {
-        before = w ∷ t ∷ [];
-        left = l ∷ ws;
-        parts = refl;
-        on = last_on first w t behind;
-        at = (
-          subst (λ f. IsWordOf f (w ∷ t ∷ []) l) same early,
-          λ more. behind.same (l ∷ more) ∙ ap (test more) is
-              ∙ ap (λ b. cond b (Ok ((first, last), more)) (Err EmptyPeriod)) order ∙ ap Err same,
-        );
-      }
+      stops_word (w ∷ t ∷ []) l ws (last_on first w t behind) (subst (λ f. IsWordOf f (w ∷ t ∷ []) l) same early)
+      (λ more. behind.same (l ∷ more) ∙ ap (test more) is
+      ∙ ap (λ b. cond b (Ok ((first, last), more)) (Err EmptyPeriod)) order ∙ ap Err same)
 
   by_date : (r : Result ℤ QueryFault) → date l ≡ r → test ws r ≡ Err fault
       → Stops Days (Ended GoodDays) days_at fault (w ∷ t ∷ l ∷ ws)
@@ -135,17 +120,9 @@ last_stops first w t (l ∷ ws) fault behind e = by_date (date l) refl e where
   by_date (Err named) is e =
       let same : named ≡ fault = cc in
       let here : date l ≡ Err fault = is ∙ ap Err same in
-      record {
-        before = w ∷ t ∷ [];
-        left = l ∷ ws;
-        parts = refl;
-        on = last_on first w t behind;
-        at = (
-          word_behind fault (w ∷ t ∷ []) [] l ((reads_date first behind.is).told l fault here),
-          λ more.
-              behind.same (l ∷ more) ∙ ap (test more) here,
-        );
-      }
+      stops_word (w ∷ t ∷ []) l ws (last_on first w t behind)
+      (word_behind fault (w ∷ t ∷ []) [] l ((reads_date first behind.is).told l fault here))
+      (λ more. behind.same (l ∷ more) ∙ ap (test more) here)
 
 -- behind the date of a first day
 to_on : (first : ℤ) (w : Word) → is_day first ≡ true → ((more : List Word) → days_at (w ∷ more) ≡ to_last first more)
@@ -164,14 +141,7 @@ to_stops : (first : ℤ) (w : Word) (ws : List Word) (fault : QueryFault) → is
     → to_last first ws ≡ Err fault → Stops Days (Ended GoodDays) days_at fault (w ∷ ws)
 unfolding keyword
 to_stops first w [] fault is date same e =
-    record {
-      before = w ∷ [];
-      left = [];
-      parts = refl;
-      on = to_on first w is same;
-      at = let ends : fault ≡
-          QueryEnds = cc in ends;
-    }
+    stops_end (w ∷ []) (to_on first w is same) (let ends : fault ≡ QueryEnds = cc in ends)
 to_stops first w (t ∷ ws) fault is date same e = by_says (says (codes "to") t.1) refl e where
   by_says : (b : Bool) → says (codes "to") t.1 ≡ b → (cond b (Ok ws) (Err (UnexpectedWord t.0)) >>= last_from first) ≡
       Err fault → Stops Days (Ended GoodDays) days_at fault (w ∷ t ∷ ws)
@@ -184,17 +154,10 @@ to_stops first w (t ∷ ws) fault is date same e = by_says (says (codes "to") t.
       }) e
   by_says false other e =
       let here : UnexpectedWord t.0 ≡ fault = cc in
-      record {
-        before = w ∷ [];
-        left = t ∷ ws;
-        parts = refl;
-        on = to_on first w is same;
-        at = (
-          word_behind fault (w ∷ []) [] t (subst (λ f. IsWordOf f [] t) here refl),
-          λ more. same (t ∷ more) ∙ ap (λ b. cond b (Ok more) (Err (UnexpectedWord t.0)) >>= last_from first) other
-              ∙ ap Err here,
-        );
-      }
+      stops_word (w ∷ []) t ws (to_on first w is same)
+      (word_behind fault (w ∷ []) [] t (subst (λ f. IsWordOf f [] t) here refl))
+      (λ more. same (t ∷ more) ∙ ap (λ b. cond b (Ok more) (Err (UnexpectedWord t.0)) >>= last_from first) other
+      ∙ ap Err here)
 
 -- some day
 abbrev some_day : ℤ
@@ -216,8 +179,7 @@ days_on = record {
 days_stops : (ws : List Word) (fault : QueryFault) → days_at ws ≡ Err fault
     → Stops Days (Ended GoodDays) days_at fault ws
 unfolding days_at
-days_stops [] fault e =
-    record { before = []; left = []; parts = refl; on = days_on; at = let ends : fault ≡ QueryEnds = cc in ends }
+days_stops [] fault e = stops_end [] days_on (let ends : fault ≡ QueryEnds = cc in ends)
 days_stops (w ∷ ws) fault e = by_date (date w) refl e where
   first_of_two : List Word → Result ℤ QueryFault → Read (ℤ × ℤ)
   first_of_two more r = beside more r >>= λ first. to_last first.0 first.1
@@ -229,32 +191,21 @@ days_stops (w ∷ ws) fault e = by_date (date w) refl e where
   by_date (Err named) is e =
       let same : named ≡ fault = cc in
       let here : date w ≡ Err fault = is ∙ ap Err same in
-      record {
-        before = [];
-        left = w ∷ ws;
-        parts = refl;
-        on = days_on;
-        at = ((reads_date some_day refl).told w fault here, λ more. ap (first_of_two more) here);
-      }
+      stops_word [] w ws days_on ((reads_date some_day refl).told w fault here) (λ more. ap (first_of_two more) here)
 
 -- the days in their order are taken
 order_takes : (first last : ℤ) → is_day first ≡ true → is_day last ≡ true
     → TakesAll (ℤ × ℤ) GoodDays (λ ws. cond (int_le first last) (Ok ((first, last), ws)) (Err EmptyPeriod))
-order_takes first last one two ws r e = by_order (int_le first last) refl e where
-  by_order : (b : Bool) → int_le first last ≡ b → cond b (Ok ((first, last), ws)) (Err EmptyPeriod) ≡ Ok r
-      → Takes (ℤ × ℤ) GoodDays (λ ws. cond (int_le first last) (Ok ((first, last), ws)) (Err EmptyPeriod)) ws r
-  by_order true order e =
-      let pair : ((first, last), ws) ≡ r = cc in
-      record {
-        good = subst GoodDays (ap (λ (p : Days). p.0) pair)
-            (and_true (is_day first && is_day last) (int_le first last)
-            (and_true (is_day first) (is_day last) one two) order);
-        taken = [];
-        parts = ap (λ (p : Days). p.1) pair;
-        again = λ more. ap (λ b. cond b (Ok ((first, last), more)) (Err EmptyPeriod)) order
-            ∙ ap (λ (p : Days). Ok (p.0, more)) pair;
-      }
-  by_order false order e = absurd cc
+order_takes first last one two ws r e =
+    let test = test_ok (int_le first last) ((first, last), ws) r EmptyPeriod e in
+    record {
+      good = subst GoodDays (ap (λ (p : Days). p.0) test.1) (and_true (is_day first && is_day last)
+          (int_le first last) (and_true (is_day first) (is_day last) one two) test.0);
+      taken = [];
+      parts = ap (λ (p : Days). p.1) test.1;
+      again = λ more. ap (λ b. cond b (Ok ((first, last), more)) (Err EmptyPeriod)) test.0
+          ∙ ap (λ (p : Days). Ok (p.0, more)) test.1;
+    }
 
 -- a date is taken
 date_takes : TakesAll ℤ (λ day. is_day day ≡ true) (one_word date)

@@ -1,5 +1,5 @@
 -- The words of a period: those that are read as a period spell it, and those that spell it are read as it.
-use Rattle.std.proofs.Common.{◌≡◌, ℕ, ◌+◌, true, cond, ◌&&◌, List, [], ◌∷◌, Option, Some, None, Ok, Err, inl, inr}
+use Rattle.std.proofs.Common.{◌≡◌, ℕ, ◌+◌, true, cond, ◌&&◌, List, [], ◌∷◌, Option, Some, None, Ok, Err}
 use Rattle.std.proofs.Common.{codes, refl, sym, ap, ◌∙◌, subst}
 use Rattle.std.specs.Prelude.{ℤ, int_le}
 use Rattle.std.specs.List.{enumerate_from}
@@ -15,7 +15,7 @@ use Rattle.rank_query.specs.WordValues.{date}
 use Rattle.rank_query.specs.Reading.{region_at, season_at, days_at, between_at, always_at, period_at}
 use Rattle.rank_query.specs.Spelling.{SpellsPeriod}
 use Rattle.rank_query.proofs.ReadingSteps.{bind_ok, test_ok, keyword_took, one_word_took, made_into_took}
-use Rattle.rank_query.proofs.ReadingSteps.{by_word_took, Took, behind_took, words_took, one_word_again}
+use Rattle.rank_query.proofs.ReadingSteps.{rows_took, Took, words_took, one_word_again}
 use Rattle.rank_query.proofs.RegionWords.{BeginsNoRegion}
 use Rattle.rank_query.proofs.SeasonWords.{BeginsNoSeason}
 use Rattle.rank_query.proofs.WordValues.{date_written, written_date}
@@ -44,14 +44,14 @@ days_took ws rest p e =
 pub period_took : (ws rest : List Word) (p : Option (ℤ × ℤ)) → period_at ws ≡ Ok (p, rest)
     → Took (λ words. SpellsPeriod words p) ws rest
 unfolding period_at
-period_took ws rest p e = elim (by_word_took (codes "from") between_at [] always_at ws (p, rest) e) [
-  | inl given ↦
-      let made = made_into_took Some (days_at given.0) rest p given.2 in
-      behind_took (λ words. SpellsPeriod words p) (codes "from") ws given.0 rest given.1 (
-      subst (λ (q : Option (ℤ × ℤ)). Took (λ words. SpellsPeriod (codes "from" ∷ words) q) given.0 rest) made.2
-      (days_took given.0 rest made.0 made.1))
-  | inr none ↦ words_took (λ words v. SpellsPeriod words v) ws ws rest [] None p refl refl none
-]
+period_took ws rest p e =
+    rows_took (λ words v. SpellsPeriod words v) ((codes "from", between_at) ∷ []) always_at ws rest p (
+      λ left at read.
+          let made = made_into_took Some (days_at left) rest p read in
+          subst (λ (q : Option (ℤ × ℤ)). Took (λ words. SpellsPeriod (codes "from" ∷ words) q) left rest) made.2
+          (days_took left rest made.0 made.1),
+      tt,
+    ) (λ none. words_took (λ words v. SpellsPeriod words v) ws ws rest [] None p refl refl none) e
 
 -- the words of two days, the second not before the first, are read as these
 days_again : (first last : ℤ) (n : ℕ) → is_period (Some (first, last)) ≡ true

@@ -1,6 +1,6 @@
 -- What the grammar has behind the words that were read.
-use Rattle.std.proofs.Common.{◌≡◌, ℕ, suc, Bool, true, false, cond, ◌&&◌, ◌||◌, List, ◌∷◌}
-use Rattle.std.proofs.Common.{Result, Ok, Err, codes, refl, sym, ap, ◌∙◌, subst, is_some}
+use Rattle.std.proofs.Common.{◌≡◌, ℕ, suc, Bool, true, false, cond, ◌&&◌, ◌||◌, List, ◌∷◌, Result, Ok, Err, codes, refl}
+use Rattle.std.proofs.Common.{sym, ap, ◌∙◌, subst, is_some}
 use Rattle.std.specs.Prelude.{ℤ}
 use Rattle.std.specs.Cmp.Lexicographic.{bytes_decides}
 use Rattle.ghcn_fields.specs.declared.field.Field.{Field}
@@ -17,10 +17,9 @@ use Rattle.rank_query.specs.declared.fault.QueryFault.TheVariants.{UnexpectedWor
 use Rattle.rank_query.specs.Asked.{is_code}
 use Rattle.rank_query.specs.Words.{Word}
 use Rattle.rank_query.specs.WordValues.{number, element, heat, months, degrees, code, date}
-use Rattle.rank_query.specs.FaultKinds.{number as a_number, heat as a_heat, season as a_season, edge}
-use Rattle.rank_query.specs.FaultKinds.{date as a_date, other, is_number, is_decimal}
-use Rattle.rank_query.specs.FaultKinds.{is_date, is_behind_box, is_behind_first_day, is_behind_from, is_behind}
-use Rattle.rank_query.specs.FaultKinds.{place_behind}
+use Rattle.rank_query.specs.FaultKinds.{number as a_number, heat as a_heat, season as a_season, edge, date as a_date}
+use Rattle.rank_query.specs.FaultKinds.{other, is_number, is_decimal, is_date, is_behind_box, is_behind_first_day}
+use Rattle.rank_query.specs.FaultKinds.{is_behind_from, is_behind, place_behind}
 use Rattle.rank_query.proofs.ReadingSteps.{or_fault_ok}
 use Rattle.rank_query.proofs.WordValues.{element_code}
 
@@ -105,53 +104,40 @@ not_same {A} value w x text fault ok err = by_test (same_bytes w.1 text) refl wh
       absurd cc
   by_test false is = refl
 
+-- a word with a value is no keyword, where no keyword has one
+no_keyword : {A : Type 0} (value : Word → Result A QueryFault) (w : Word) (x : A) (fault : QueryFault) → value w ≡ Ok x
+    → value (w.0, codes "box") ≡ Err fault → value (w.0, codes "top") ≡ Err fault
+    → value (w.0, codes "sum") ≡ Err fault → value (w.0, codes "hot") ≡ Err fault
+    → value (w.0, codes "months") ≡ Err fault → value (w.0, codes "from") ≡ Err fault → IsNoKeyword w.1
+no_keyword value w x fault e box top sum hot months from = record {
+  box = not_same value w x (codes "box") fault e box;
+  top = not_same value w x (codes "top") fault e top;
+  sum = not_same value w x (codes "sum") fault e sum;
+  hot = not_same value w x (codes "hot") fault e hot;
+  months = not_same value w x (codes "months") fault e months;
+  from = not_same value w x (codes "from") fault e from;
+}
+
 -- a number is no keyword
 pub number_no_keyword : (low high : ℕ) (w : Word) (n : ℕ) → number low high w ≡ Ok n → IsNoKeyword w.1
 unfolding number
-number_no_keyword low high w n e = record {
-  box = not_same (number low high) w n (codes "box") (UnexpectedWord w.0) e refl;
-  top = not_same (number low high) w n (codes "top") (UnexpectedWord w.0) e refl;
-  sum = not_same (number low high) w n (codes "sum") (UnexpectedWord w.0) e refl;
-  hot = not_same (number low high) w n (codes "hot") (UnexpectedWord w.0) e refl;
-  months = not_same (number low high) w n (codes "months") (UnexpectedWord w.0) e refl;
-  from = not_same (number low high) w n (codes "from") (UnexpectedWord w.0) e refl;
-}
+number_no_keyword low high w n e =
+    no_keyword (number low high) w n (UnexpectedWord w.0) e refl refl refl refl refl refl
 
 -- nor are degrees from which on a day is hot
 pub heat_no_keyword : (w : Word) (t : ℤ) → heat w ≡ Ok t → IsNoKeyword w.1
 unfolding heat
-heat_no_keyword w t e = record {
-  box = not_same heat w t (codes "box") (UnexpectedWord w.0) e refl;
-  top = not_same heat w t (codes "top") (UnexpectedWord w.0) e refl;
-  sum = not_same heat w t (codes "sum") (UnexpectedWord w.0) e refl;
-  hot = not_same heat w t (codes "hot") (UnexpectedWord w.0) e refl;
-  months = not_same heat w t (codes "months") (UnexpectedWord w.0) e refl;
-  from = not_same heat w t (codes "from") (UnexpectedWord w.0) e refl;
-}
+heat_no_keyword w t e = no_keyword heat w t (UnexpectedWord w.0) e refl refl refl refl refl refl
 
 -- nor are the months of a season
 pub months_no_keyword : (w : Word) (s : ℕ × ℕ) → months w ≡ Ok s → IsNoKeyword w.1
 unfolding months
-months_no_keyword w s e = record {
-  box = not_same months w s (codes "box") (UnexpectedWord w.0) e refl;
-  top = not_same months w s (codes "top") (UnexpectedWord w.0) e refl;
-  sum = not_same months w s (codes "sum") (UnexpectedWord w.0) e refl;
-  hot = not_same months w s (codes "hot") (UnexpectedWord w.0) e refl;
-  months = not_same months w s (codes "months") (UnexpectedWord w.0) e refl;
-  from = not_same months w s (codes "from") (UnexpectedWord w.0) e refl;
-}
+months_no_keyword w s e = no_keyword months w s (UnexpectedWord w.0) e refl refl refl refl refl refl
 
 -- nor are degrees of a box
 pub degrees_no_keyword : (low high : ℤ) (w : Word) (z : ℤ) → degrees low high w ≡ Ok z → IsNoKeyword w.1
 unfolding degrees
-degrees_no_keyword low high w z e = record {
-  box = not_same (degrees low high) w z (codes "box") (BadBox w.0) e refl;
-  top = not_same (degrees low high) w z (codes "top") (BadBox w.0) e refl;
-  sum = not_same (degrees low high) w z (codes "sum") (BadBox w.0) e refl;
-  hot = not_same (degrees low high) w z (codes "hot") (BadBox w.0) e refl;
-  months = not_same (degrees low high) w z (codes "months") (BadBox w.0) e refl;
-  from = not_same (degrees low high) w z (codes "from") (BadBox w.0) e refl;
-}
+degrees_no_keyword low high w z e = no_keyword (degrees low high) w z (BadBox w.0) e refl refl refl refl refl refl
 
 -- no keyword has the length of a code
 pub record HaveOtherLengths (len : ℕ) : Type 0 where
@@ -165,32 +151,17 @@ pub record HaveOtherLengths (len : ℕ) : Type 0 where
 -- so no code is a keyword
 pub code_no_keyword : (len : ℕ) (w : Word) (c : List ℕ) → HaveOtherLengths len → code len w ≡ Ok c → IsNoKeyword w.1
 unfolding code
-code_no_keyword len w c lengths e = record {
-  box = not_same (code len) w c (codes "box") (UnexpectedWord w.0) e
-      (ap (λ b. cond b (Ok (codes "box")) (Err (UnexpectedWord w.0))) lengths.box);
-  top = not_same (code len) w c (codes "top") (UnexpectedWord w.0) e
-      (ap (λ b. cond b (Ok (codes "top")) (Err (UnexpectedWord w.0))) lengths.top);
-  sum = not_same (code len) w c (codes "sum") (UnexpectedWord w.0) e
-      (ap (λ b. cond b (Ok (codes "sum")) (Err (UnexpectedWord w.0))) lengths.sum);
-  hot = not_same (code len) w c (codes "hot") (UnexpectedWord w.0) e
-      (ap (λ b. cond b (Ok (codes "hot")) (Err (UnexpectedWord w.0))) lengths.hot);
-  months = not_same (code len) w c (codes "months") (UnexpectedWord w.0) e
-      (ap (λ b. cond b (Ok (codes "months")) (Err (UnexpectedWord w.0))) lengths.months);
-  from = not_same (code len) w c (codes "from") (UnexpectedWord w.0) e
-      (ap (λ b. cond b (Ok (codes "from")) (Err (UnexpectedWord w.0))) lengths.from);
-}
+code_no_keyword len w c lengths e =
+    let wrong : (text : List ℕ) → is_code len text ≡ false → code len (w.0, text) ≡ Err (UnexpectedWord w.0) =
+    λ text is. ap (λ b. cond b (Ok text) (Err (UnexpectedWord w.0))) is in
+    no_keyword (code len) w c (UnexpectedWord w.0) e (wrong (codes "box") lengths.box) (wrong (codes "top") lengths.top)
+    (wrong (codes "sum") lengths.sum) (wrong (codes "hot") lengths.hot) (wrong (codes "months") lengths.months)
+    (wrong (codes "from") lengths.from)
 
 -- nor is a date
 pub date_no_keyword : (w : Word) (day : ℤ) → date w ≡ Ok day → IsNoKeyword w.1
 unfolding date
-date_no_keyword w day e = record {
-  box = not_same date w day (codes "box") (BadDate w.0) e refl;
-  top = not_same date w day (codes "top") (BadDate w.0) e refl;
-  sum = not_same date w day (codes "sum") (BadDate w.0) e refl;
-  hot = not_same date w day (codes "hot") (BadDate w.0) e refl;
-  months = not_same date w day (codes "months") (BadDate w.0) e refl;
-  from = not_same date w day (codes "from") (BadDate w.0) e refl;
-}
+date_no_keyword w day e = no_keyword date w day (BadDate w.0) e refl refl refl refl refl refl
 
 -- behind the code of an element another word stands
 code_settled : (e : Element) (past : List (List ℕ)) → IsSettled (code_of e ∷ past)

@@ -1,6 +1,7 @@
 -- The words of a canonical text: each is one word, and short.
 use Rattle.std.proofs.Common.{◌≡◌, ℕ, zero, suc, ◌+◌, ◌*◌, ◌/◌, ◌%◌, ◌<◌, ◌≤◌, ◌^◌, Bool, true, ◌&&◌, List, [], ◌∷◌}
-use Rattle.std.proofs.Common.{◌++◌, length, decimal, codes, refl, sym, ap, ◌∙◌, length-append, false, arith}
+use Rattle.std.proofs.Common.{◌++◌, length, decimal, codes, refl, sym, ap, ◌∙◌, length-append, append_assoc, false}
+use Rattle.std.proofs.Common.{arith}
 use Rattle.std.specs.Prelude.{nat_le, ℤ, pos, negsuc, neg_ℤ, ◌≤ℤ◌}
 use Rattle.std.specs.List.{list_all, AllByRecursion, join_with_byte}
 use Rattle.std.specs.Char.{is_ascii_digit, digit_value}
@@ -12,7 +13,8 @@ use Rattle.std.proofs.lemmas.Int.{ints}
 use Rattle.std.proofs.lemmas.List.Folds.{list_all-append}
 use Rattle.std.proofs.lemmas.Str.Parse.{digit_from_value}
 use Rattle.ghcn_fields.specs.Dates.{civil, date_text}
-use Rattle.ghcn_fields.specs.Fields.{Spells}
+use Rattle.ghcn_fields.specs.Fields.{Spells, sign_text}
+use Rattle.ghcn_fields.specs.Numbers.{with_sign}
 use Rattle.ghcn_fields.specs.NumberTexts.{last_digits, four_places, four_places_of, tenths, tenths_of}
 use Rattle.ghcn_files.specs.declared.element.Element.{Element}
 use Rattle.ghcn_files.specs.declared.element.Element.TheVariants.{Prcp, Snow, Snwd, Tmax, Tmin}
@@ -29,11 +31,6 @@ pub record IsShortWord (word : List ℕ) : Type 0 where
   pub one : IsOneWord word
   pub short : length word ≤ 11
   pub visible : list_all is_visible word ≡ true
-
--- short words are words
-pub short_words : (words : List (List ℕ)) → AllByRecursion IsShortWord words → AllByRecursion IsOneWord words
-short_words [] all = tt
-short_words (w ∷ words) all = (all.0.one, short_words words all.1)
 
 -- some short words, joined by blanks, are a short text
 pub length-join : (words : List (List ℕ)) → AllByRecursion IsShortWord words
@@ -204,46 +201,42 @@ joined_digits n few =
     list_all-append is_ascii_digit (decimal (n / 10000)) (last_digits 4 n)
     ∙ ap (λ t. t && list_all is_ascii_digit (last_digits 4 n)) numeral.digits_alone ∙ digits-last_digits 4 n
 
+-- a numeral of few digits and some visible bytes behind it are one word
+numeral_then : (digits n : ℕ) (rest : List ℕ) → 0 < digits → n < 10 ^ digits → n < 2 ^ 64
+    → list_all is_visible rest ≡ true → digits + length rest ≤ 11
+    → IsShortWord (decimal n ++ rest) × (length (decimal n ++ rest) ≤ digits + length rest)
+numeral_then digits n rest some few fits visible short =
+    let numeral = decimal_numeral n fits in
+    let whole : length (decimal n) ≤ digits = length-decimal-le digits n some few fits in
+    let all = length-append (decimal n) rest in (
+      word_from (decimal n ++ rest) (omega (arith, all, numeral.some_digit)) (omega (arith, all, whole))
+          (visible-append (decimal n) rest (digits_visible (decimal n) numeral.digits_alone) visible),
+      omega (arith, all, whole),
+    )
+
+-- the text of so many ten-thousandths, behind a minus or without one, spells them
+four_of_spelt : (negative : Bool) (n : ℕ) → n < 10 ^ 7
+    → Spells 4 (sign_text negative ++ four_places_of n) (with_sign negative n)
+four_of_spelt negative n few = record {
+  negative = negative;
+  whole = decimal (n / 10000);
+  part = last_digits 4 n;
+  parts = sym (append_assoc (sign_text negative) (decimal (n / 10000)) (46 ∷ last_digits 4 n));
+  some_digit = (decimal_numeral (n / 10000) (omega arith)).some_digit;
+  digits = joined_digits n few;
+  few = omega arith;
+  value = ap (with_sign negative) (joined_value n few);
+}
+
 -- the text of a number with four decimals spells it
 pub four_places_spelt : (z : ℤ) → neg_ℤ (pos 1_800_000) ≤ℤ z → z ≤ℤ pos 1_800_000 → Spells 4 (four_places z) z
-four_places_spelt (pos n) low high =
-    let few : n < 10 ^ 7 = omega (arith, ints) in
-    record {
-      negative = false;
-      whole = decimal (n / 10000);
-      part = last_digits 4 n;
-      parts = refl;
-      some_digit = (decimal_numeral (n / 10000) (omega arith)).some_digit;
-      digits = joined_digits n few;
-      few = omega arith;
-      value = ap pos (joined_value n few);
-    }
-four_places_spelt (negsuc n) low high =
-    let few : suc n < 10 ^ 7 = omega (arith, ints) in
-    record {
-      negative = true;
-      whole = decimal (suc n / 10000);
-      part = last_digits 4 (suc n);
-      parts = refl;
-      some_digit = (decimal_numeral (suc n / 10000) (omega arith)).some_digit;
-      digits = joined_digits (suc n) few;
-      few = omega arith;
-      value = ap (λ m. neg_ℤ (pos m)) (joined_value (suc n) few);
-    }
+four_places_spelt (pos n) low high = four_of_spelt false n (omega (arith, ints))
+four_places_spelt (negsuc n) low high = four_of_spelt true (suc n) (omega (arith, ints))
 
 -- it is one word
 four_places_of_word : (n : ℕ) → n < 10 ^ 7 → IsShortWord (four_places_of n) × (length (four_places_of n) ≤ 8)
-four_places_of_word n few =
-    let numeral = decimal_numeral (n / 10000) (omega arith) in
-    let whole : length (decimal (n / 10000)) ≤ 3 = length-decimal-le 3 (n / 10000) (omega arith) (omega arith)
-    (omega arith) in
-    let short : length (four_places_of n) ≤ 8 = omega
-    (arith, whole, length-append (decimal (n / 10000)) (46 ∷ last_digits 4 n)) in
-    let visible = visible-append (decimal (n / 10000)) (46 ∷ last_digits 4 n)
-    (digits_visible (decimal (n / 10000)) numeral.digits_alone) (last_visible 4 n) in
-    let some : 1 ≤ length (four_places_of n) = omega
-    (arith, length-append (decimal (n / 10000)) (46 ∷ last_digits 4 n)) in
-    (word_from (four_places_of n) some (omega arith) visible, short)
+four_places_of_word n few = numeral_then 3 (n / 10000) (46 ∷ last_digits 4 n) (omega arith) (omega arith) (omega arith)
+    (last_visible 4 n) (omega arith)
 
 -- with a minus below zero, or without one
 pub four_places_word : (z : ℤ) → neg_ℤ (pos 1_800_000) ≤ℤ z → z ≤ℤ pos 1_800_000 → IsShortWord (four_places z)
@@ -274,45 +267,34 @@ tenths_digits n few =
     list_all-append is_ascii_digit (decimal (n / 10)) ((48 + n % 10) ∷ [])
     ∙ ap (λ t. t && list_all is_ascii_digit ((48 + n % 10) ∷ [])) numeral.digits_alone ∙ digits-last_digits 1 n
 
--- the text of so many tenths spells them
+-- the text of so many tenths, behind a minus or without one, spells them
+tenths_of_spelt : (negative : Bool) (n : ℕ) → n < 10 ^ 4
+    → Spells 1 (sign_text negative ++ tenths_of n) (with_sign negative n)
+tenths_of_spelt negative n few = record {
+  negative = negative;
+  whole = decimal (n / 10);
+  part = (48 + n % 10) ∷ [];
+  parts = ap (λ (text : List ℕ). sign_text negative ++ text) (tenths_of-is n)
+      ∙ sym (append_assoc (sign_text negative) (decimal (n / 10)) (46 ∷ (48 + n % 10) ∷ []));
+  some_digit = (decimal_numeral (n / 10) (omega arith)).some_digit;
+  digits = tenths_digits n few;
+  few = omega arith;
+  value = ap (with_sign negative) (tenths_value n few);
+}
+
+-- the text of a number of tenths spells it
 pub tenths_spelt : (t : ℤ) → neg_ℤ (pos 1_000) ≤ℤ t → t ≤ℤ pos 1_000 → Spells 1 (tenths t) t
-tenths_spelt (pos n) low high =
-    let few : n < 10 ^ 4 = omega (arith, ints) in
-    record {
-      negative = false;
-      whole = decimal (n / 10);
-      part = (48 + n % 10) ∷ [];
-      parts = tenths_of-is n;
-      some_digit = (decimal_numeral (n / 10) (omega arith)).some_digit;
-      digits = tenths_digits n few;
-      few = omega arith;
-      value = ap pos (tenths_value n few);
-    }
-tenths_spelt (negsuc n) low high =
-    let few : suc n < 10 ^ 4 = omega (arith, ints) in
-    record {
-      negative = true;
-      whole = decimal (suc n / 10);
-      part = (48 + suc n % 10) ∷ [];
-      parts = ap (λ (text : List ℕ). 45 ∷ text) (tenths_of-is (suc n));
-      some_digit = (decimal_numeral (suc n / 10) (omega arith)).some_digit;
-      digits = tenths_digits (suc n) few;
-      few = omega arith;
-      value = ap (λ m. neg_ℤ (pos m)) (tenths_value (suc n) few);
-    }
+tenths_spelt (pos n) low high = tenths_of_spelt false n (omega (arith, ints))
+tenths_spelt (negsuc n) low high = tenths_of_spelt true (suc n) (omega (arith, ints))
 
 -- it is one word
 tenths_of_word : (n : ℕ) → n < 10 ^ 4 → IsShortWord (tenths_of n) × (length (tenths_of n) ≤ 6)
 tenths_of_word n few =
-    let whole = decimal_numeral (n / 10) (omega arith) in
     let tenth = decimal_numeral (n % 10) (omega arith) in
-    let long : length (decimal (n / 10)) ≤ 4 = length-decimal-le 4 (n / 10) (omega arith) (omega arith) (omega arith) in
     let one : length (decimal (n % 10)) ≤ 1 = length-decimal-le 1 (n % 10) (omega arith) (omega arith) (omega arith) in
-    let all = length-append (decimal (n / 10)) (46 ∷ decimal (n % 10)) in
-    let short : length (tenths_of n) ≤ 6 = omega (arith, long, one, all) in
-    let visible = visible-append (decimal (n / 10)) (46 ∷ decimal (n % 10))
-    (digits_visible (decimal (n / 10)) whole.digits_alone) (digits_visible (decimal (n % 10)) tenth.digits_alone) in
-    (word_from (tenths_of n) (omega (arith, all)) (omega arith) visible, short)
+    let it = numeral_then 4 (n / 10) (46 ∷ decimal (n % 10)) (omega arith) (omega arith) (omega arith)
+    (digits_visible (decimal (n % 10)) tenth.digits_alone) (omega (arith, one)) in
+    (it.0, omega (arith, one, it.1))
 
 -- with a minus below zero, or without one
 pub tenths_word : (t : ℤ) → neg_ℤ (pos 1_000) ≤ℤ t → t ≤ℤ pos 1_000 → IsShortWord (tenths t)
@@ -324,14 +306,10 @@ tenths_word (negsuc n) low high =
 -- two months joined by two points are one word
 pub months_word : (s : ℕ × ℕ) → s.0 ≤ 12 → s.1 ≤ 12 → IsShortWord (months_text s)
 months_word s first last =
-    let one = decimal_numeral s.0 (omega arith) in
     let two = decimal_numeral s.1 (omega arith) in
-    let long : length (decimal s.0) ≤ 2 = length-decimal-le 2 s.0 (omega arith) (omega arith) (omega arith) in
     let wide : length (decimal s.1) ≤ 2 = length-decimal-le 2 s.1 (omega arith) (omega arith) (omega arith) in
-    let all = length-append (decimal s.0) (46 ∷ 46 ∷ decimal s.1) in
-    let visible = visible-append (decimal s.0) (46 ∷ 46 ∷ decimal s.1) (digits_visible (decimal s.0) one.digits_alone)
-    (digits_visible (decimal s.1) two.digits_alone) in
-    word_from (months_text s) (omega (arith, all)) (omega (arith, all, long, wide)) visible
+    (numeral_then 2 s.0 (46 ∷ 46 ∷ decimal s.1) (omega arith) (omega arith) (omega arith)
+    (digits_visible (decimal s.1) two.digits_alone) (omega (arith, wide))).0
 
 -- and join them
 pub months_text_joins : (s : ℕ × ℕ) → s.0 ≤ 12 → s.1 ≤ 12 → JoinsTwo (months_text s) s.0 s.1

@@ -1,7 +1,6 @@
 -- The pieces of a canonical text, as they are printed one after another.
 use Rattle.std.proofs.Common.{◌≡◌, ℕ, ◌+◌, ◌<◌, ◌/◌, ◌%◌, true, List, [], ◌∷◌, ◌++◌, Option, Result, Ok, Err, IsOk}
-use Rattle.std.proofs.Common.{MatchResult, IsUtf8, codes, decimal, refl, sym, ap, ◌∙◌, append_assoc, append-nil}
-use Rattle.std.proofs.Common.{arith}
+use Rattle.std.proofs.Common.{MatchResult, IsUtf8, codes, decimal, refl, sym, ap, ◌∙◌, append_assoc, append-nil, arith}
 use Rattle.std.specs.Prelude.{ℤ}
 use Rattle.std.specs.List.{join_with_byte, list_all}
 use Rattle.std.proofs.lemmas.Bool.Decides.{nat_tests}
@@ -74,17 +73,9 @@ pub box-is : (s w n e south west north east : ℤ) → s ≡ south → w ≡ wes
     ((32 ∷ four_places w) ++ ((32 ∷ four_places n) ++ (32 ∷ four_places e)))) ≡ spaced
     (region_words (Inside south west north east))
 box-is s w n e south west north east es ew en ee =
-    ap (λ z. codes " box" ++ ((32 ∷ four_places z) ++
-    ((32 ∷ four_places w) ++ ((32 ∷ four_places n) ++ (32 ∷ four_places e))))) es
-    ∙ ap (λ z. codes " box" ++ ((32 ∷ four_places south) ++
-    ((32 ∷ four_places z) ++ ((32 ∷ four_places n) ++ (32 ∷ four_places e))))) ew
-    ∙ ap (λ z. codes " box" ++ ((32 ∷ four_places south) ++
-    ((32 ∷ four_places west) ++ ((32 ∷ four_places z) ++ (32 ∷ four_places e))))) en
-    ∙ ap (λ z. codes " box" ++ ((32 ∷ four_places south) ++
-    ((32 ∷ four_places west) ++ ((32 ∷ four_places north) ++ (32 ∷ four_places z))))) ee
-    ∙ ap (λ (text : List ℕ). codes " box" ++
+    rw (es, ew, en, ee) (ap (λ (text : List ℕ). codes " box" ++
     ((32 ∷ four_places south) ++ ((32 ∷ four_places west) ++ ((32 ∷ four_places north) ++ (32 ∷ text)))))
-    (sym (append-nil (four_places east)))
+    (sym (append-nil (four_places east))))
 
 -- a visible byte is ASCII
 visible_ascii : (b : ℕ) → is_visible b ≡ true → b < 128

@@ -15,7 +15,8 @@ use Rattle.rank_query.specs.Readers.{◌>>=◌, Read, one_word, by_word}
 use Rattle.rank_query.specs.WordValues.{number}
 use Rattle.rank_query.specs.Reading.{score_at, region_at, season_at, period_at, nothing_more, read_words}
 use Rattle.rank_query.proofs.Spellings.{asked}
-use Rattle.rank_query.proofs.Stops.{Reading, then, GoesOn, Stops, StopsFirst, ReadsPart, stops_behind, first_then}
+use Rattle.rank_query.proofs.Stops.{Reading, then, GoesOn, Stops, StopsFirst, ReadsPart, stops_behind, stops_word}
+use Rattle.rank_query.proofs.Stops.{first_then}
 use Rattle.rank_query.proofs.PartStops.{the_word, Any, part_word, part_the_word, keyword-then, first_same, by_first}
 use Rattle.rank_query.proofs.WordStops.{reads_number, told}
 use Rattle.rank_query.proofs.ScoreStops.{GoodScore, score_part}
@@ -57,13 +58,7 @@ StopsAhead next =
 nothing_ahead : (q : Asked) → StopsAhead (λ ws. nothing_more ws q)
 nothing_ahead q whole w ws fault same on e =
     let here : ◌≡◌ {A = Result Asked QueryFault} (Err (UnexpectedWord w.0)) (Err fault) = sym (same ws) ∙ e in
-    record {
-      before = [];
-      left = w ∷ ws;
-      parts = refl;
-      on = on;
-      at = (told (UnexpectedWord w.0) fault w refl here, λ more. same more ∙ here);
-    }
+    stops_word [] w ws on (told (UnexpectedWord w.0) fault w refl here) (λ more. same more ∙ here)
 
 -- a part that may be missing, and what is read behind it
 optional_ahead : {A : Type 0} (Good : A → Type 0) (rows : List (List ℕ × (List Word → Read A))) (none : A)
@@ -154,7 +149,7 @@ region_first k s begun =
     (whole_is k s Everywhere None None begun refl refl refl) (no_region k s) (region_ahead k s begun)
 
 -- 1 is a number of rows
-one_row : number 1 1000 (0, codes "1") ≡ Ok 1
+pub one_row : number 1 1000 (0, codes "1") ≡ Ok 1
 unfolding number
 one_row = refl
 

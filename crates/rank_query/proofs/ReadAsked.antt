@@ -1,6 +1,6 @@
 -- What is read as a query can be asked.
-use Rattle.std.proofs.Common.{◌≡◌, ℕ, Bool, true, false, cond, List, [], ◌∷◌, None, Result, Ok, Err}
-use Rattle.std.proofs.Common.{codes, inl, inr, refl, sym, ap, ◌∙◌, subst, length, IfOk}
+use Rattle.std.proofs.Common.{◌≡◌, ℕ, true, List, [], ◌∷◌, None, Result, Ok, Err, codes, inl, inr}
+use Rattle.std.proofs.Common.{refl, sym, ap, ◌∙◌, subst, length, IfOk}
 use Rattle.std.specs.Prelude.{nat_lt}
 use Rattle.std.specs.List.{AllByRecursion}
 use Rattle.ghcn_fields.specs.Days.{is_within}
@@ -11,14 +11,14 @@ use Rattle.rank_query.specs.Asked.{Asked, IsAsked}
 use Rattle.rank_query.specs.Words.{Word, numbered_words}
 use Rattle.rank_query.specs.Readers.{Read, keyword, one_word, by_word}
 use Rattle.rank_query.specs.WordValues.{number}
-use Rattle.rank_query.specs.Reading.{score_at, region_at, season_at, period_at}
-use Rattle.rank_query.specs.Reading.{nothing_more, read_words, read_query}
+use Rattle.rank_query.specs.Reading.{score_at, region_at, season_at, period_at, nothing_more, read_words, read_query}
 use Rattle.rank_query.specs.Spelling.{IsSpelling}
 use Rattle.rank_query.proofs.Spellings.{asked, read_spells}
-use Rattle.rank_query.proofs.ReadingSteps.{bind_ok}
+use Rattle.rank_query.proofs.ReadingSteps.{bind_ok, else_ok, by_word_took}
 use Rattle.rank_query.proofs.Stops.{ReadsPart}
-use Rattle.rank_query.proofs.PartStops.{by_first, part_word}
+use Rattle.rank_query.proofs.PartStops.{part_word}
 use Rattle.rank_query.proofs.WordStops.{reads_number}
+use Rattle.rank_query.proofs.QueryStops.{one_row}
 use Rattle.rank_query.proofs.ScoreStops.{score_part}
 use Rattle.rank_query.proofs.RegionStops.{GoodRegion, region_rows, region_parts}
 use Rattle.rank_query.proofs.SeasonStops.{GoodSeason, season_rows, season_parts}
@@ -28,27 +28,19 @@ use Rattle.rank_query.proofs.PeriodStops.{GoodPeriod, period_rows, period_parts}
 by_word_good : {A : Type 0} (Good : A → Type 0) (table : List (List ℕ × (List Word → Read A))) (other : A)
     (ws rest : List Word) (x : A) → AllByRecursion (λ row. ReadsPart A Good row.1) table → Good other
     → by_word table (λ w. Ok (other, w)) ws ≡ Ok (x, rest) → Good x
-by_word_good {A} Good table other [] rest x parts is e = without table e where
-  without : (t : List (List ℕ × (List Word → Read A))) → by_word t (λ w. Ok (other, w)) [] ≡ Ok (x, rest) → Good x
-  without [] f =
-      let pair : ◌≡◌ {A = A × List Word} (other, []) (x, rest) = cc in subst Good
-      (ap (λ (p : A × List Word). p.0) pair) is
-  without (row ∷ t) f = without t f
-by_word_good {A} Good table other (w ∷ ws) rest x parts is e = elim (by_first Good table (λ w. Ok (other, w)) w parts) [
-  | inl found ↦ (found.1.takes ws (x, rest) (sym (found.2 ws) ∙ e)).good
-  | inr none ↦ let both : ◌≡◌ {A = Read A} (Ok (other, w ∷ ws)) (Ok (x, rest)) = sym (none ws)
-      ∙ e in let pair : (other, w ∷ ws) ≡ (x, rest) = cc in subst Good (ap (λ (p : A × List Word). p.0) pair) is
-]
+by_word_good {A} Good [] other ws rest x parts is e =
+    let pair : ◌≡◌ {A = A × List Word} (other, ws) (x, rest) = cc in
+    subst Good (ap (λ (p : A × List Word). p.0) pair) is
+by_word_good Good (row ∷ table) other ws rest x parts is e =
+    elim (by_word_took row.0 row.1 table (λ w. Ok (other, w)) ws (x, rest) e) [
+      | inl found ↦ (parts.0.takes found.0 (x, rest) found.2).good
+      | inr later ↦ by_word_good Good table other ws rest x parts.1 is later
+    ]
 
 -- where nothing more comes, the query is that of the parts
 left_is : (ws : List Word) (q r : Asked) → nothing_more ws q ≡ Ok r → q ≡ r
 left_is [] q r e = cc
 left_is (w ∷ ws) q r e = absurd cc
-
--- 1 is a number of rows
-one_row : number 1 1000 (0, codes "1") ≡ Ok 1
-unfolding number
-one_row = refl
 
 -- the query of some words can be asked
 words_asked : (ws : List Word) (q : Asked) → read_words ws ≡ Ok q → IsAsked q
@@ -69,16 +61,10 @@ words_asked ws q e =
     subst IsAsked (left_is p.0.1 (asked k.0.0 s.0.0 r.0.0 t.0.0 p.0.0) q p.2)
     (record { k = rows; score = score; region = region; season = season; period = period })
 
--- so can that of a text of any length
-within_asked : (b : Bool) (text : List ℕ) (q : Asked) → cond b (Err QueryTooLong)
-    (read_words (numbered_words text)) ≡ Ok q → IsAsked q
-within_asked true text q e = cc
-within_asked false text q e = words_asked (numbered_words text) q e
-
 -- what is read as a query can be asked
 pub read_asked : (text : List ℕ) (q : Asked) → read_query text ≡ Ok q → IsAsked q
 unfolding read_query
-read_asked text q e = within_asked (nat_lt 256 (length text)) text q e
+read_asked text q e = words_asked (numbered_words text) q (else_ok (nat_lt 256 (length text)) QueryTooLong _ q e)
 
 -- where the reading succeeds, the query can be asked and the text spells it
 pub if_read : (text : List ℕ) (r : Result Asked QueryFault) → r ≡ read_query text

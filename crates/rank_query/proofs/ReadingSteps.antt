@@ -1,7 +1,7 @@
 -- What follows when a step of the reading succeeds.
 use Rattle.std.proofs.Common.{◌≡◌, ℕ, ◌+◌, Bool, true, false, cond, ◌⊎◌, inl, inr, List, [], ◌∷◌, ◌++◌, map, Option}
 use Rattle.std.proofs.Common.{Some, None, Result, Ok, Err, refl, ap, subst, ◌∙◌}
-use Rattle.std.specs.List.{enumerate_from}
+use Rattle.std.specs.List.{enumerate_from, AllByRecursion}
 use Rattle.std.specs.Cmp.Lexicographic.{bytes_decides}
 use Rattle.rank_query.specs.declared.fault.QueryFault.{QueryFault}
 use Rattle.rank_query.specs.declared.fault.QueryFault.TheVariants.{UnexpectedWord}
@@ -20,10 +20,61 @@ pub test_ok : {A : Type 0} (b : Bool) (x y : A) (fault : QueryFault) → cond b 
 test_ok true x y fault e = (refl, cc)
 test_ok false x y fault e = cc
 
+-- what succeeds where a test fails, and else has a fault, succeeds
+pub else_ok : {A : Type 0} (b : Bool) (fault : QueryFault) (r : Result A QueryFault) (x : A)
+    → cond b (Err fault) r ≡ Ok x → r ≡ Ok x
+else_ok true fault r x e = cc
+else_ok false fault r x e = e
+
 -- a value that is needed is there
 pub or_fault_ok : {A : Type 0} (fault : QueryFault) (o : Option A) (x : A) → or_fault fault o ≡ Ok x → o ≡ Some x
 or_fault_ok fault None x e = cc
 or_fault_ok fault (Some v) x e = cc
+
+-- a test that fails has its fault
+pub test_err : {A : Type 0} (b : Bool) (x : A) (named fault : QueryFault) → cond b (Ok x) (Err named) ≡ Err fault
+    → (b ≡ false) × (named ≡ fault)
+test_err true x named fault e = absurd cc
+test_err false x named fault e = (refl, cc)
+
+-- and so has a value that isn't there
+pub or_fault_err : {A : Type 0} (named fault : QueryFault) (o : Option A) → or_fault named o ≡ Err fault
+    → (o ≡ None) × (named ≡ fault)
+or_fault_err named fault None e = (refl, cc)
+or_fault_err named fault (Some x) e = absurd cc
+
+-- the value of a word that has one and passes a test, which has a fault of its own
+abbrev pub tested : {A : Type 0} → (List ℕ → Option A) → (A → Bool) → (ℕ → QueryFault) → Word → Result A QueryFault
+tested read passes bad w =
+    or_fault (UnexpectedWord w.0) (read w.1) >>= λ x. cond (passes x) (Ok x) (Err (bad w.0))
+
+module _ {A : Type 0} (read : List ℕ → Option A) (passes : A → Bool) (bad : ℕ → QueryFault) where
+  -- a word that is read so has the value, and the value passes
+  pub tested_ok : (w : Word) (x : A) → tested read passes bad w ≡ Ok x → (read w.1 ≡ Some x) × (passes x ≡ true)
+  tested_ok w x e =
+      let value = bind_ok (or_fault (UnexpectedWord w.0) (read w.1))
+      (λ y. cond (passes y) (Ok y) (Err (bad w.0))) x e in
+      let test = test_ok (passes value.0) value.0 x (bad w.0) value.2 in (
+        or_fault_ok (UnexpectedWord w.0) (read w.1) value.0 value.1 ∙ ap Some test.1,
+        subst (λ y. passes y ≡ true) test.1 test.0,
+      )
+
+  -- a word whose value passes is read so
+  pub tested_again : (at : ℕ) (word : List ℕ) (x : A) → read word ≡ Some x → passes x ≡ true
+      → tested read passes bad (at, word) ≡ Ok x
+  tested_again at word x is passed =
+      ap (λ o. or_fault (UnexpectedWord at) o >>= λ y. cond (passes y) (Ok y) (Err (bad at))) is
+      ∙ ap (λ b. cond b (Ok x) (Err (bad at))) passed
+
+  -- another has no value, or one that fails
+  pub tested_err : (w : Word) (fault : QueryFault) → tested read passes bad w ≡ Err fault
+      → ((read w.1 ≡ None) × (UnexpectedWord w.0 ≡ fault)) ⊎ ((x : A) × (read w.1 ≡ Some x) × (bad w.0 ≡ fault))
+  tested_err w fault e = by_value (read w.1) refl e where
+    by_value : (o : Option A) → read w.1 ≡ o
+        → (or_fault (UnexpectedWord w.0) o >>= λ x. cond (passes x) (Ok x) (Err (bad w.0))) ≡ Err fault
+        → ((read w.1 ≡ None) × (UnexpectedWord w.0 ≡ fault)) ⊎ ((x : A) × (read w.1 ≡ Some x) × (bad w.0 ≡ fault))
+    by_value None is e = inl (is, cc)
+    by_value (Some x) is e = inr (x, is, (test_err (passes x) x (bad w.0) fault e).1)
 
 -- the words without their numbers
 abbrev pub unnumbered : List Word → List (List ℕ)
@@ -113,6 +164,20 @@ words_took {B} Spelt ws left rest words x y spelt taken e =
       taken = taken ∙ ap (λ (p : B × List Word). words ++ unnumbered p.1) pair;
     }
 
+-- what is read behind one of some words, or without one, was taken, if each row takes what stands behind its word
+pub rows_took : {A : Type 0} (Spelt : List (List ℕ) → A → Type 0) (table : List (List ℕ × (List Word → Read A)))
+    (otherwise : List Word → Read A) (ws rest : List Word) (y : A)
+    → AllByRecursion (λ row. (left : List Word) → unnumbered ws ≡ row.0 ∷ unnumbered left → row.1 left ≡ Ok (y, rest)
+    → Took (λ words. Spelt (row.0 ∷ words) y) left rest) table
+    → (otherwise ws ≡ Ok (y, rest) → Took (λ words. Spelt words y) ws rest)
+    → by_word table otherwise ws ≡ Ok (y, rest) → Took (λ words. Spelt words y) ws rest
+rows_took Spelt [] otherwise ws rest y rows none e = none e
+rows_took Spelt (row ∷ table) otherwise ws rest y rows none e =
+    elim (by_word_took row.0 row.1 table otherwise ws (y, rest) e) [
+      | inl here ↦ behind_took (λ words. Spelt words y) row.0 ws here.0 rest here.1 (rows.0 here.0 here.1 here.2)
+      | inr later ↦ rows_took Spelt table otherwise ws rest y rows.1 none later
+    ]
+
 -- a value made of one word was taken with that word
 pub made_took : {A B : Type 0} (Spelt : List (List ℕ) → B → Type 0) (value : Word → Result A QueryFault)
     (make : A → B) (ws rest : List Word) (y : B)
@@ -142,3 +207,9 @@ pub made_again : {A B : Type 0} (value : Word → Result A QueryFault) (make : A
     (make x, enumerate_from (n + 1) more)
 made_again {A} value make n word more x e =
     ap (λ (r : Result A QueryFault). made_into make (r >>= λ y. Ok (y, enumerate_from (n + 1) more))) e
+
+-- what words are read as is read of those that they are
+pub spelt_again : {A : Type 0} (read : List Word → Read A) (words spelt more : List (List ℕ)) (n m : ℕ) (x : A)
+    → words ≡ spelt → read (enumerate_from n (spelt ++ more)) ≡ Ok (x, enumerate_from m more)
+    → (m : ℕ) × (read (enumerate_from n (words ++ more)) ≡ Ok (x, enumerate_from m more))
+spelt_again read words spelt more n m x e again = (m, ap (λ ws. read (enumerate_from n (ws ++ more))) e ∙ again)

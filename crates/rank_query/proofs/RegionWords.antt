@@ -1,5 +1,5 @@
 -- The words of a region: those that are read as a region spell it, and those that spell it are read as it.
-use Rattle.std.proofs.Common.{◌≡◌, ℕ, ◌+◌, Bool, true, ◌&&◌, List, [], ◌∷◌, ◌++◌, Ok, inl, inr, codes, refl, sym, ap}
+use Rattle.std.proofs.Common.{◌≡◌, ℕ, ◌+◌, Bool, true, ◌&&◌, List, [], ◌∷◌, ◌++◌, Ok, codes, refl, sym, ap}
 use Rattle.std.proofs.Common.{◌∙◌, subst, arith}
 use Rattle.std.specs.Prelude.{ℤ, pos, neg_ℤ, int_le, ◌≤ℤ◌}
 use Rattle.std.specs.List.{enumerate_from, AllByRecursion}
@@ -10,14 +10,14 @@ use Rattle.rank_query.specs.declared.region.Region.{Region}
 use Rattle.rank_query.specs.declared.region.Region.TheVariants.{Everywhere, Inside, Country, State, Only}
 use Rattle.rank_query.specs.Asked.{is_longitude, is_region}
 use Rattle.rank_query.specs.Words.{Word, says}
-use Rattle.rank_query.specs.Readers.{Read, one_word, made_into}
+use Rattle.rank_query.specs.Readers.{one_word, made_into}
 use Rattle.rank_query.specs.WordValues.{code}
 use Rattle.rank_query.specs.Reading.{latitude_from, longitude, box_at, country_at, state_at, station_at}
 use Rattle.rank_query.specs.Reading.{everywhere_at, region_at}
 use Rattle.rank_query.specs.Spelling.{SpellsBox, SpellsRegion}
 use Rattle.rank_query.proofs.OneWords.{HasNoBlank}
-use Rattle.rank_query.proofs.ReadingSteps.{bind_ok, unnumbered, one_word_took, by_word_took, Took, behind_took}
-use Rattle.rank_query.proofs.ReadingSteps.{made_took, words_took, one_word_again, made_again}
+use Rattle.rank_query.proofs.ReadingSteps.{bind_ok, unnumbered, one_word_took, rows_took, Took}
+use Rattle.rank_query.proofs.ReadingSteps.{made_took, words_took, one_word_again, made_again, spelt_again}
 use Rattle.rank_query.proofs.WordValues.{degrees_spelt, spelt_degrees, code_word, word_code}
 
 -- the box that was read is spelt there
@@ -63,27 +63,22 @@ code_took len make text ws rest r spells e =
 pub region_took : (ws rest : List Word) (r : Region) → AllByRecursion HasNoBlank (unnumbered ws)
     → region_at ws ≡ Ok (r, rest) → Took (λ words. SpellsRegion words r) ws rest
 unfolding region_at
-region_took ws rest r clean e =
-    let Spelt : List (List ℕ) → Type 0 = λ words. SpellsRegion words r in
-    let last : List (List ℕ × (List Word → Read Region)) = (codes "station", station_at) ∷ [] in
-    let later : List (List ℕ × (List Word → Read Region)) = (codes "state", state_at) ∷ last in
-    elim (by_word_took (codes "box") box_at ((codes "country", country_at) ∷ later) everywhere_at ws (r, rest) e) [
-      | inl box ↦ behind_took Spelt (codes "box") ws box.0 rest box.1
-          (box_took box.0 rest r (subst (AllByRecursion HasNoBlank) box.1 clean).1 box.2)
-      | inr no_box ↦ elim (by_word_took (codes "country") country_at later everywhere_at ws (r, rest) no_box) [
-        | inl country ↦ behind_took Spelt (codes "country") ws country.0 rest country.1
-            (code_took 2 Country (codes "country") country.0 rest r (λ c. refl) country.2)
-        | inr no_country ↦ elim (by_word_took (codes "state") state_at last everywhere_at ws (r, rest) no_country) [
-          | inl state ↦ behind_took Spelt (codes "state") ws state.0 rest state.1
-              (code_took 2 State (codes "state") state.0 rest r (λ c. refl) state.2)
-          | inr no_state ↦ elim (by_word_took (codes "station") station_at [] everywhere_at ws (r, rest) no_state) [
-            | inl station ↦ behind_took Spelt (codes "station") ws station.0 rest station.1 (
-                code_took 11 (λ id. Only (record { 0 = id })) (codes "station") station.0 rest r (λ c. refl) station.2)
-            | inr none ↦ words_took (λ words v. SpellsRegion words v) ws ws rest [] Everywhere r refl refl none
-          ]
-        ]
-      ]
-    ]
+region_took ws rest r clean e = rows_took (λ words v. SpellsRegion words v) ((codes "box", box_at) ∷
+    (codes "country", country_at) ∷ (codes "state", state_at) ∷ (codes "station", station_at) ∷ []) everywhere_at ws
+    rest r (
+      λ left at read. box_took left rest r (subst (AllByRecursion HasNoBlank) at clean).1 read,
+      (
+        λ left at read. code_took 2 Country (codes "country") left rest r (λ c. refl) read,
+        (
+          λ left at read. code_took 2 State (codes "state") left rest r (λ c. refl) read,
+          (
+            λ left at read. code_took 11 (λ id. Only (record { 0 = id })) (codes "station") left rest r (λ c. refl)
+                read,
+            tt,
+          ),
+        ),
+      ),
+    ) (λ none. words_took (λ words v. SpellsRegion words v) ws ws rest [] Everywhere r refl refl none) e
 
 -- no region stands at the front of these words
 abbrev pub BeginsNoRegion : List (List ℕ) → Type 0
@@ -174,24 +169,13 @@ pub region_again : (r : Region) (words more : List (List ℕ)) (n : ℕ) → is_
 unfolding region_at says
 region_again Everywhere words more n is spelt none =
     (n, ap (λ ws. region_at (enumerate_from n (ws ++ more))) spelt ∙ none n)
-region_again (Inside south west north east) words more n is spelt none = (
-  n + 1 + 1 + 1 + 1 + 1,
-  ap (λ ws. region_at (enumerate_from n (ws ++ more))) spelt.words
-      ∙ box_again south west north east words more (n + 1) (edges_of south west north east is) spelt,
-)
-region_again (Country c) words more n is spelt none = (
-  n + 1 + 1,
-  ap (λ ws. region_at (enumerate_from n (ws ++ more))) spelt
-      ∙ made_again (code 2) Country (n + 1) c more c (word_code 2 (n + 1) c is),
-)
-region_again (State c) words more n is spelt none = (
-  n + 1 + 1,
-  ap (λ ws. region_at (enumerate_from n (ws ++ more))) spelt
-      ∙ made_again (code 2) State (n + 1) c more c (word_code 2 (n + 1) c is),
-)
-region_again (Only id) words more n is spelt none = (
-  n + 1 + 1,
-  ap (λ ws. region_at (enumerate_from n (ws ++ more))) spelt
-      ∙ made_again (code 11) (λ bytes. Only (record { 0 = bytes })) (n + 1) id.0 more id.0
-      (word_code 11 (n + 1) id.0 is),
-)
+region_again (Inside south west north east) words more n is spelt none =
+    spelt_again region_at words _ more n (n + 1 + 1 + 1 + 1 + 1) _ spelt.words
+    (box_again south west north east words more (n + 1) (edges_of south west north east is) spelt)
+region_again (Country c) words more n is spelt none = spelt_again region_at words _ more n (n + 1 + 1) _ spelt
+    (made_again (code 2) Country (n + 1) c more c (word_code 2 (n + 1) c is))
+region_again (State c) words more n is spelt none = spelt_again region_at words _ more n (n + 1 + 1) _ spelt
+    (made_again (code 2) State (n + 1) c more c (word_code 2 (n + 1) c is))
+region_again (Only id) words more n is spelt none = spelt_again region_at words _ more n (n + 1 + 1) _ spelt
+    (made_again (code 11) (λ bytes. Only (record { 0 = bytes })) (n + 1) id.0 more id.0
+    (word_code 11 (n + 1) id.0 is))

@@ -13,7 +13,8 @@ use Rattle.rank_query.specs.Readers.{Read, one_word}
 use Rattle.rank_query.specs.WordValues.{number, element, heat}
 use Rattle.rank_query.specs.Reading.{highest_at, lowest_at, sum_at, dry_at, wet_at, hot_at, no_score_at, score_at}
 use Rattle.rank_query.proofs.RegionWords.{and_true}
-use Rattle.rank_query.proofs.Stops.{GoesOn, Stops, TakesAll, Ended, ReadsPart, stops_behind, takes_behind, part_then}
+use Rattle.rank_query.proofs.Stops.{GoesOn, Stops, TakesAll, Ended, ReadsPart, stops_behind, stops_word, stops_end}
+use Rattle.rank_query.proofs.Stops.{takes_behind, part_then}
 use Rattle.rank_query.proofs.PartStops.{part_word, part_made, part_always, by_first}
 use Rattle.rank_query.proofs.WordStops.{reads_number, reads_element, reads_heat, told}
 
@@ -65,20 +66,13 @@ score_on =
 score_stops : (ws : List Word) (fault : QueryFault) → score_at ws ≡ Err fault
     → Stops (Score × List Word) (Ended GoodScore) score_at fault ws
 unfolding score_at no_score_at
-score_stops [] fault e =
-    record { before = []; left = []; parts = refl; on = score_on; at = let same : fault ≡ QueryEnds = cc in same }
+score_stops [] fault e = stops_end [] score_on (let same : fault ≡ QueryEnds = cc in same)
 score_stops (w ∷ ws) fault e = elim (by_first GoodScore rows no_score_at w parts) [
   | inl found ↦ stops_behind (Ended GoodScore) score_at found.0 (w ∷ []) ws fault found.2
       (found.1.first.stops ws fault (sym (found.2 ws) ∙ e))
   | inr none ↦
       let here : ◌≡◌ {A = Read Score} (Err (UnexpectedWord w.0)) (Err fault) = sym (none ws) ∙ e in
-      record {
-        before = [];
-        left = w ∷ ws;
-        parts = refl;
-        on = score_on;
-        at = (told (UnexpectedWord w.0) fault w refl here, λ more. none more ∙ here);
-      }
+      stops_word [] w ws score_on (told (UnexpectedWord w.0) fault w refl here) (λ more. none more ∙ here)
 ]
 
 -- a score is taken with its first word

@@ -1,6 +1,5 @@
 -- The words of a score: those that are read as a score spell it, and those that spell it are read as it.
-use Rattle.std.proofs.Common.{◌≡◌, ℕ, ◌+◌, Bool, true, List, [], ◌∷◌, ◌++◌, Ok, inl, inr, codes, refl, sym, ap, ◌∙◌}
-use Rattle.std.proofs.Common.{subst}
+use Rattle.std.proofs.Common.{◌≡◌, ℕ, ◌+◌, Bool, true, List, [], ◌∷◌, ◌++◌, Ok, codes, refl, sym, ap, ◌∙◌, subst}
 use Rattle.std.specs.List.{enumerate_from}
 use Rattle.std.proofs.lemmas.Bool.{and_parts}
 use Rattle.ghcn_fields.specs.Days.{is_within}
@@ -10,12 +9,12 @@ use Rattle.rank_query.specs.declared.score.Score.{Score}
 use Rattle.rank_query.specs.declared.score.Score.TheVariants.{Highest, Lowest, Sum, Dry, Wet, Hot}
 use Rattle.rank_query.specs.Asked.{is_temperature, is_fall, is_score}
 use Rattle.rank_query.specs.Words.{Word, says}
-use Rattle.rank_query.specs.Readers.{Read, one_word, made_into}
+use Rattle.rank_query.specs.Readers.{one_word, made_into}
 use Rattle.rank_query.specs.WordValues.{number, element, heat}
 use Rattle.rank_query.specs.Reading.{highest_at, lowest_at, sum_at, dry_at, wet_at, hot_at, no_score_at, score_at}
 use Rattle.rank_query.specs.Spelling.{IsNumeralOf, SpellsScore}
-use Rattle.rank_query.proofs.ReadingSteps.{bind_ok, one_word_took, by_word_took, Took, behind_took, made_took}
-use Rattle.rank_query.proofs.ReadingSteps.{words_took, one_word_again, made_again}
+use Rattle.rank_query.proofs.ReadingSteps.{bind_ok, one_word_took, rows_took, Took, made_took, words_took}
+use Rattle.rank_query.proofs.ReadingSteps.{one_word_again, made_again, spelt_again}
 use Rattle.rank_query.proofs.WordValues.{number_numeral, numeral_number, element_code, code_element, heat_spelt}
 use Rattle.rank_query.proofs.WordValues.{spelt_heat}
 
@@ -64,37 +63,26 @@ heat_took ws rest s e =
 pub score_took : (ws rest : List Word) (s : Score) → score_at ws ≡ Ok (s, rest)
     → Took (λ words. SpellsScore words s) ws rest
 unfolding score_at
-score_took ws rest s e =
-    let Spelt : List (List ℕ) → Type 0 = λ words. SpellsScore words s in
-    let Table : Type 0 = List (List ℕ × (List Word → Read Score)) in
-    let last : Table = (codes "hot", hot_at) ∷ [] in
-    let wets : Table = (codes "wet", wet_at) ∷ last in
-    let spells : Table = (codes "dry", dry_at) ∷ wets in
-    let sums : Table = (codes "sum", sum_at) ∷ spells in
-    elim (by_word_took (codes "highest") highest_at ((codes "lowest", lowest_at) ∷ sums) no_score_at ws (s, rest) e) [
-      | inl highest ↦ behind_took Spelt (codes "highest") ws highest.0 rest highest.1
-          (element_took (λ e. true) Highest (codes "highest") highest.0 rest s (λ e. refl) highest.2)
-      | inr no_highest ↦ elim (by_word_took (codes "lowest") lowest_at sums no_score_at ws (s, rest) no_highest) [
-        | inl lowest ↦ behind_took Spelt (codes "lowest") ws lowest.0 rest lowest.1
-            (element_took is_temperature Lowest (codes "lowest") lowest.0 rest s (λ e. refl) lowest.2)
-        | inr no_lowest ↦ elim (by_word_took (codes "sum") sum_at spells no_score_at ws (s, rest) no_lowest) [
-          | inl sum ↦ behind_took Spelt (codes "sum") ws sum.0 rest sum.1 (sum_took sum.0 rest s sum.2)
-          | inr no_sum ↦ elim (by_word_took (codes "dry") dry_at wets no_score_at ws (s, rest) no_sum) [
-            | inl dry ↦ behind_took Spelt (codes "dry") ws dry.0 rest dry.1
-                (words_took (λ words v. SpellsScore (codes "dry" ∷ words) v) dry.0 dry.0 rest [] Dry s refl refl dry.2)
-            | inr no_dry ↦ elim (by_word_took (codes "wet") wet_at last no_score_at ws (s, rest) no_dry) [
-              | inl wet ↦ behind_took Spelt (codes "wet") ws wet.0 rest wet.1
-                  (words_took (λ words v. SpellsScore (codes "wet" ∷ words) v) wet.0 wet.0 rest [] Wet s refl refl
-                  wet.2)
-              | inr no_wet ↦ elim (by_word_took (codes "hot") hot_at [] no_score_at ws (s, rest) no_wet) [
-                | inl hot ↦ behind_took Spelt (codes "hot") ws hot.0 rest hot.1 (heat_took hot.0 rest s hot.2)
-                | inr none ↦ absurd (no_score ws (s, rest) none)
-              ]
-            ]
-          ]
-        ]
-      ]
-    ]
+score_took ws rest s e = rows_took (λ words v. SpellsScore words v) ((codes "highest", highest_at) ∷
+    (codes "lowest", lowest_at) ∷ (codes "sum", sum_at) ∷ (codes "dry", dry_at) ∷ (codes "wet", wet_at) ∷
+    (codes "hot", hot_at) ∷ []) no_score_at ws rest s (
+      λ left at read. element_took (λ e. true) Highest (codes "highest") left rest s (λ e. refl) read,
+      (
+        λ left at read. element_took is_temperature Lowest (codes "lowest") left rest s (λ e. refl) read,
+        (
+          λ left at read. sum_took left rest s read,
+          (
+            λ left at read. words_took (λ words v. SpellsScore (codes "dry" ∷ words) v) left left rest [] Dry s refl
+                refl read,
+            (
+              λ left at read. words_took (λ words v. SpellsScore (codes "wet" ∷ words) v) left left rest [] Wet s refl
+                  refl read,
+              (λ left at read. heat_took left rest s read, tt),
+            ),
+          ),
+        ),
+      ),
+    ) (λ none. absurd (no_score ws (s, rest) none)) e
 
 -- the two words of a sum that can be asked for are read as it
 sum_again : (k : ℕ) (e : Element) (digits : List ℕ) (more : List (List ℕ)) (n : ℕ) → is_score (Sum k e) ≡ true
@@ -110,26 +98,13 @@ sum_again k e digits more n is numeral =
 pub score_again : (s : Score) (words more : List (List ℕ)) (n : ℕ) → is_score s ≡ true → SpellsScore words s → (m : ℕ)
     × (score_at (enumerate_from n (words ++ more)) ≡ Ok (s, enumerate_from m more))
 unfolding score_at says
-score_again (Highest e) words more n is spelt = (
-  n + 1 + 1,
-  ap (λ ws. score_at (enumerate_from n (ws ++ more))) spelt
-      ∙ made_again (element (λ x. true)) Highest (n + 1) (code_of e) more e (code_element (λ x. true) e (n + 1) refl),
-)
-score_again (Lowest e) words more n is spelt = (
-  n + 1 + 1,
-  ap (λ ws. score_at (enumerate_from n (ws ++ more))) spelt
-      ∙ made_again (element is_temperature) Lowest (n + 1) (code_of e) more e
-      (code_element is_temperature e (n + 1) is),
-)
-score_again (Sum k e) words more n is spelt = (
-  n + 1 + 1 + 1,
-  ap (λ ws. score_at (enumerate_from n (ws ++ more))) spelt.2
-      ∙ sum_again k e spelt.0 more (n + 1) is spelt.1,
-)
-score_again Dry words more n is spelt = (n + 1, ap (λ ws. score_at (enumerate_from n (ws ++ more))) spelt)
-score_again Wet words more n is spelt = (n + 1, ap (λ ws. score_at (enumerate_from n (ws ++ more))) spelt)
-score_again (Hot t) words more n is spelt = (
-  n + 1 + 1,
-  ap (λ ws. score_at (enumerate_from n (ws ++ more))) spelt.2
-      ∙ made_again heat Hot (n + 1) spelt.0 more t (spelt_heat t (n + 1) spelt.0 is spelt.1),
-)
+score_again (Highest e) words more n is spelt = spelt_again score_at words _ more n (n + 1 + 1) _ spelt
+    (made_again (element (λ x. true)) Highest (n + 1) (code_of e) more e (code_element (λ x. true) e (n + 1) refl))
+score_again (Lowest e) words more n is spelt = spelt_again score_at words _ more n (n + 1 + 1) _ spelt
+    (made_again (element is_temperature) Lowest (n + 1) (code_of e) more e (code_element is_temperature e (n + 1) is))
+score_again (Sum k e) words more n is spelt = spelt_again score_at words _ more n (n + 1 + 1 + 1) _ spelt.2
+    (sum_again k e spelt.0 more (n + 1) is spelt.1)
+score_again Dry words more n is spelt = spelt_again score_at words _ more n (n + 1) _ spelt refl
+score_again Wet words more n is spelt = spelt_again score_at words _ more n (n + 1) _ spelt refl
+score_again (Hot t) words more n is spelt = spelt_again score_at words _ more n (n + 1 + 1) _ spelt.2
+    (made_again heat Hot (n + 1) spelt.0 more t (spelt_heat t (n + 1) spelt.0 is spelt.1))

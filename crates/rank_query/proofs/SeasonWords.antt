@@ -1,7 +1,6 @@
 -- The words of a season: those that are read as a season spell it, and those that spell it are read as it.
-use Rattle.std.proofs.Common.{◌≡◌, ℕ, ◌+◌, true, List, [], ◌∷◌, ◌++◌, Option, Some, None, Ok, inl, inr, codes, refl}
-use Rattle.std.proofs.Common.{sym}
-use Rattle.std.proofs.Common.{ap, ◌∙◌, subst}
+use Rattle.std.proofs.Common.{◌≡◌, ℕ, ◌+◌, true, List, [], ◌∷◌, ◌++◌, Option, Some, None, Ok, codes, refl}
+use Rattle.std.proofs.Common.{sym, ap, ◌∙◌, subst}
 use Rattle.std.specs.List.{enumerate_from}
 use Rattle.rank_query.specs.declared.region.Region.TheVariants.{Everywhere}
 use Rattle.rank_query.specs.Asked.{is_season}
@@ -9,7 +8,7 @@ use Rattle.rank_query.specs.Words.{Word, says}
 use Rattle.rank_query.specs.WordValues.{months}
 use Rattle.rank_query.specs.Reading.{region_at, months_at, all_year_at, season_at}
 use Rattle.rank_query.specs.Spelling.{SpellsSeason}
-use Rattle.rank_query.proofs.ReadingSteps.{by_word_took, Took, behind_took, made_took, words_took, made_again}
+use Rattle.rank_query.proofs.ReadingSteps.{rows_took, Took, made_took, words_took, made_again, spelt_again}
 use Rattle.rank_query.proofs.RegionWords.{BeginsNoRegion}
 use Rattle.rank_query.proofs.WordValues.{months_joined, joined_months}
 
@@ -17,12 +16,12 @@ use Rattle.rank_query.proofs.WordValues.{months_joined, joined_months}
 pub season_took : (ws rest : List Word) (s : Option (ℕ × ℕ)) → season_at ws ≡ Ok (s, rest)
     → Took (λ words. SpellsSeason words s) ws rest
 unfolding season_at
-season_took ws rest s e = elim (by_word_took (codes "months") months_at [] all_year_at ws (s, rest) e) [
-  | inl given ↦ behind_took (λ words. SpellsSeason words s) (codes "months") ws given.0 rest given.1
-      (made_took (λ words v. SpellsSeason (codes "months" ∷ words) v) months Some given.0 rest s
-      (λ w v read. (w.1, months_joined w v read, refl)) given.2)
-  | inr none ↦ words_took (λ words v. SpellsSeason words v) ws ws rest [] None s refl refl none
-]
+season_took ws rest s e =
+    rows_took (λ words v. SpellsSeason words v) ((codes "months", months_at) ∷ []) all_year_at ws rest s (
+      λ left at read. made_took (λ words v. SpellsSeason (codes "months" ∷ words) v) months Some left rest s
+          (λ w v is. (w.1, months_joined w v is, refl)) read,
+      tt,
+    ) (λ none. words_took (λ words v. SpellsSeason words v) ws ws rest [] None s refl refl none) e
 
 -- no season stands at the front of these words
 abbrev pub BeginsNoSeason : List (List ℕ) → Type 0
@@ -35,11 +34,8 @@ pub season_again : (s : Option (ℕ × ℕ)) (words more : List (List ℕ)) (n :
 unfolding season_at says
 season_again None words more n is spelt none =
     (n, ap (λ ws. season_at (enumerate_from n (ws ++ more))) spelt ∙ none n)
-season_again (Some s) words more n is spelt none = (
-  n + 1 + 1,
-  ap (λ ws. season_at (enumerate_from n (ws ++ more))) spelt.2
-      ∙ made_again months Some (n + 1) spelt.0 more s (joined_months s (n + 1) spelt.0 is spelt.1),
-)
+season_again (Some s) words more n is spelt none = spelt_again season_at words _ more n (n + 1 + 1) _ spelt.2
+    (made_again months Some (n + 1) spelt.0 more s (joined_months s (n + 1) spelt.0 is spelt.1))
 
 -- a season begins no region, where what stands behind it doesn't
 pub season_no_region : (s : Option (ℕ × ℕ)) (words more : List (List ℕ)) → SpellsSeason words s → BeginsNoRegion more

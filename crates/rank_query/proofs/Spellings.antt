@@ -1,5 +1,5 @@
 -- What is read as a query spells it, and what spells a query is read as it.
-use Rattle.std.proofs.Common.{◌≡◌, ℕ, ◌≤◌, Bool, true, false, cond, List, [], ◌∷◌, ◌++◌, length, Option, Ok}
+use Rattle.std.proofs.Common.{◌≡◌, ℕ, ◌≤◌, false, cond, List, [], ◌∷◌, ◌++◌, length, Option, Ok}
 use Rattle.std.proofs.Common.{Err, codes, refl, sym, ap, ◌∙◌, subst, append_assoc, append-nil, arith}
 use Rattle.std.specs.Prelude.{nat_lt, ℤ}
 use Rattle.std.specs.List.{enumerate_from, AllByRecursion}
@@ -15,7 +15,7 @@ use Rattle.rank_query.specs.Reading.{score_at, region_at, season_at, period_at, 
 use Rattle.rank_query.specs.Spelling.{IsNumeralOf, SpellsScore, SpellsRegion, SpellsSeason, SpellsPeriod}
 use Rattle.rank_query.specs.Spelling.{SpellsQuery, IsSpelling}
 use Rattle.rank_query.proofs.OneWords.{HasNoBlank, words_no_blank, all_behind}
-use Rattle.rank_query.proofs.ReadingSteps.{bind_ok, unnumbered, unnumbered-enumerate_from, keyword_took}
+use Rattle.rank_query.proofs.ReadingSteps.{bind_ok, else_ok, unnumbered, unnumbered-enumerate_from, keyword_took}
 use Rattle.rank_query.proofs.ReadingSteps.{one_word_took, one_word_again}
 use Rattle.rank_query.proofs.WordValues.{number_numeral, numeral_number}
 use Rattle.rank_query.proofs.ScoreWords.{score_took, score_again}
@@ -86,16 +86,10 @@ text_spells text q e =
     subst (λ ws. SpellsQuery ws q) same
     (words_spell (numbered_words text) q (subst (AllByRecursion HasNoBlank) (sym same) (words_no_blank text)) e)
 
--- the same for a text of at most 256 bytes
-within_spells : (b : Bool) (text : List ℕ) (q : Asked)
-    → cond b (Err QueryTooLong) (read_words (numbered_words text)) ≡ Ok q → IsSpelling text q
-within_spells true text q e = cc
-within_spells false text q e = text_spells text q e
-
 -- what is read as a query spells it
 pub read_spells : (text : List ℕ) (q : Asked) → read_query text ≡ Ok q → IsSpelling text q
 unfolding read_query
-read_spells text q e = within_spells (nat_lt 256 (length text)) text q e
+read_spells text q e = text_spells text q (else_ok (nat_lt 256 (length text)) QueryTooLong _ q e)
 
 -- the words of a query that can be asked are read as it
 words_again : (q : Asked) (k : List ℕ) (score region season period : List (List ℕ)) → IsAsked q

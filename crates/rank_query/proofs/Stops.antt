@@ -114,36 +114,72 @@ word_behind EmptyPeriod front before w is = record {
   order = is.order;
 }
 
--- where a reading behind some words is another one, it stops where that does
-stops_at_behind : {C : Type 0} (whole part : Reading C) (front : List Word) (fault : QueryFault)
+-- a whole reading ends behind some words as a part does, with what is made of its value or with its fault
+pub record Follows {A C : Type 0} (make : A → C) (whole : Reading C) (front : List Word)
+    (part : Reading A) : Type 0 where
+  pub ok : (more : List Word) (x : A) → part more ≡ Ok x → whole (front ++ more) ≡ Ok (make x)
+  pub err : (more : List Word) (fault : QueryFault) → part more ≡ Err fault → whole (front ++ more) ≡ Err fault
+
+-- so it does where it is the same there
+pub same_follows : {C : Type 0} (whole part : Reading C) (front : List Word)
+    → ((more : List Word) → whole (front ++ more) ≡ part more) → Follows (λ x. x) whole front part
+same_follows whole part front same = record { ok = λ more x e. same more ∙ e; err = λ more fault e. same more ∙ e }
+
+-- it stops where the part does
+at_follows : {A C : Type 0} (whole : Reading C) (part : Reading A) (front : List Word) (fault : QueryFault)
     (before left : List Word)
-    → ((more : List Word) → whole (front ++ more) ≡ part more) → StopsAt part fault before left
-    → StopsAt whole fault (front ++ before) left
-stops_at_behind whole part front fault before [] same at = at
-stops_at_behind whole part front fault before (w ∷ behind) same at = (
+    → ((more : List Word) → part more ≡ Err fault → whole (front ++ more) ≡ Err fault)
+    → StopsAt part fault before left → StopsAt whole fault (front ++ before) left
+at_follows whole part front fault before [] err at = at
+at_follows whole part front fault before (w ∷ behind) err at = (
   word_behind fault front before w at.0,
-  λ more. ap whole (append_assoc front before (w ∷ more))
-      ∙ same (before ++ w ∷ more) ∙ at.1 more,
+  λ more. ap whole (append_assoc front before (w ∷ more)) ∙ err (before ++ w ∷ more) (at.1 more),
 )
 
--- and can go on behind them where it can
-pub stops_behind : {C : Type 0} (Good : C → Type 0) (whole part : Reading C) (front ws : List Word) (fault : QueryFault)
-    → ((more : List Word) → whole (front ++ more) ≡ part more) → Stops C Good part fault ws
-    → Stops C Good whole fault (front ++ ws)
-stops_behind Good whole part front ws fault same stops = record {
+-- goes on where it does
+pub on_follows : {A C : Type 0} (GoodA : A → Type 0) (Good : C → Type 0) (make : A → C) (whole : Reading C)
+    (part : Reading A) (front before : List Word)
+    → ((x : A) → GoodA x → Good (make x)) → Follows make whole front part
+    → GoesOn A GoodA (λ tail. part (before ++ tail)) → GoesOn C Good (λ tail. whole ((front ++ before) ++ tail))
+on_follows GoodA Good make whole part front before good follows on = record {
+  tail = on.tail;
+  clean = on.clean;
+  value = make on.value;
+  good = good on.value on.good;
+  reads = ap whole (append_assoc front before on.tail) ∙ follows.ok (before ++ on.tail) on.value on.reads;
+}
+
+-- and has its faults where it has them
+pub stops_follows : {A C : Type 0} (GoodA : A → Type 0) (Good : C → Type 0) (make : A → C) (whole : Reading C)
+    (part : Reading A) (front ws : List Word) (fault : QueryFault)
+    → ((x : A) → GoodA x → Good (make x)) → Follows make whole front part
+    → Stops A GoodA part fault ws → Stops C Good whole fault (front ++ ws)
+stops_follows GoodA Good make whole part front ws fault good follows stops = record {
   before = front ++ stops.before;
   left = stops.left;
   parts = ap (λ words. front ++ words) stops.parts ∙ sym (append_assoc front stops.before stops.left);
-  on = record {
-    tail = stops.on.tail;
-    clean = stops.on.clean;
-    value = stops.on.value;
-    good = stops.on.good;
-    reads = ap whole (append_assoc front stops.before stops.on.tail) ∙ same (stops.before ++ stops.on.tail)
-        ∙ stops.on.reads;
-  };
-  at = stops_at_behind whole part front fault stops.before stops.left same stops.at;
+  on = on_follows GoodA Good make whole part front stops.before good follows stops.on;
+  at = at_follows whole part front fault stops.before stops.left (λ more e. follows.err more fault e) stops.at;
 }
+
+-- as where it is the same behind some words
+pub stops_behind : {C : Type 0} (Good : C → Type 0) (whole part : Reading C) (front ws : List Word) (fault : QueryFault)
+    → ((more : List Word) → whole (front ++ more) ≡ part more) → Stops C Good part fault ws
+    → Stops C Good whole fault (front ++ ws)
+stops_behind Good whole part front ws fault same stops = stops_follows Good Good (λ x. x) whole part front ws fault
+    (λ x good. good) (same_follows whole part front same) stops
+
+-- the reading stops at the word behind some that were read
+pub stops_word : {C : Type 0} {Good : C → Type 0} {read : Reading C} {fault : QueryFault} (before : List Word)
+    (w : Word) (ws : List Word) → GoesOn C Good (λ tail. read (before ++ tail)) → IsWordOf fault before w
+    → ((more : List Word) → read (before ++ w ∷ more) ≡ Err fault) → Stops C Good read fault (before ++ w ∷ ws)
+stops_word before w ws on is again =
+    record { before = before; left = w ∷ ws; parts = refl; on = on; at = (is, again) }
+
+-- or no word is left there
+pub stops_end : {C : Type 0} {Good : C → Type 0} {read : Reading C} {fault : QueryFault} (before : List Word)
+    → GoesOn C Good (λ tail. read (before ++ tail)) → fault ≡ QueryEnds → Stops C Good read fault (before ++ [])
+stops_end before on ends = record { before = before; left = []; parts = refl; on = on; at = ends }
 
 -- where a part can go on, and the next one as well, both can
 pub goes_on_then : {A C : Type 0} (GoodA : A → Type 0) (Good : C → Type 0) (read : Reading (A × List Word))
@@ -166,12 +202,6 @@ goes_on_then GoodA Good read onward before takes on next =
           ∙ more.reads;
     }
 
--- where a part stops, both stop
-stops_at_then : {A C : Type 0} (read : Reading (A × List Word)) (onward : A → Reading C) (fault : QueryFault)
-    (before left : List Word) → StopsAt read fault before left → StopsAt (then read onward) fault before left
-stops_at_then read onward fault before [] at = at
-stops_at_then read onward fault before (w ∷ behind) at = (at.0, λ more. ap (λ r. r >>= λ r. onward r.0 r.1) (at.1 more))
-
 -- the same of two parts
 pub first_then : {A C : Type 0} (GoodA : A → Type 0) (Good : C → Type 0) (read : Reading (A × List Word))
     (onward : A → Reading C)
@@ -186,7 +216,8 @@ first_then {A} {C} GoodA Good read onward part next = record {
           left = stops.left;
           parts = stops.parts;
           on = goes_on_then GoodA Good read onward stops.before part.takes stops.on (λ x good. (next x good).on);
-          at = stops_at_then read onward fault stops.before stops.left stops.at;
+          at = at_follows (then read onward) read [] fault stops.before stops.left
+              (λ more e. ap (λ r. r >>= λ r. onward r.0 r.1) e) stops.at;
         }
     | inr later ↦
         let took = part.takes ws later.0 later.1 in

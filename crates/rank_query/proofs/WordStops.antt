@@ -1,6 +1,6 @@
 -- Which words have no value, and some that have one.
-use Rattle.std.proofs.Common.{◌≡◌, ℕ, Bool, true, false, cond, ◌&&◌, List, [], Option, Some, None, Result, Ok, Err}
-use Rattle.std.proofs.Common.{codes, refl, ap, subst}
+use Rattle.std.proofs.Common.{inl, inr, ◌≡◌, ℕ, Bool, true, cond, ◌&&◌, List, [], Option, Result, Ok}
+use Rattle.std.proofs.Common.{Err, codes, refl, ap, subst}
 use Rattle.std.specs.Prelude.{ℤ, pos, neg_ℤ, int_le}
 use Rattle.ghcn_fields.specs.declared.field.Field.{Field}
 use Rattle.ghcn_fields.specs.declared.field.Field.TheVariants.{Blank, Number, Bad}
@@ -14,11 +14,10 @@ use Rattle.rank_query.specs.declared.fault.QueryFault.{QueryFault}
 use Rattle.rank_query.specs.declared.fault.QueryFault.TheVariants.{UnexpectedWord, OutOfLimits, BadDate, BadBox}
 use Rattle.rank_query.specs.Asked.{is_code, is_longitude, is_heat, is_month}
 use Rattle.rank_query.specs.Words.{Word}
-use Rattle.rank_query.specs.Readers.{◌>>=◌, or_fault}
 use Rattle.rank_query.specs.WordValues.{number, element, heat, months, degrees, code, date, tenths_of, two_numbers}
 use Rattle.rank_query.specs.Reading.{latitude_from, longitude}
 use Rattle.rank_query.proofs.OneWords.{HasNoBlank}
-use Rattle.rank_query.proofs.ReadingSteps.{bind_ok, test_ok}
+use Rattle.rank_query.proofs.ReadingSteps.{test_ok, test_err, or_fault_err, tested, tested_ok, tested_err}
 use Rattle.rank_query.proofs.WordValues.{code_element, date_day, written_date}
 use Rattle.rank_query.proofs.PrintedWords.{date_word}
 use Rattle.rank_query.proofs.Stops.{IsWordOf}
@@ -32,32 +31,18 @@ told named fault w is e = let same : named ≡ fault = cc in subst (λ f. IsWord
 -- also where a test fails
 test_told : {A : Type 0} (b : Bool) (x : A) (named fault : QueryFault) (w : Word) → IsWordOf named [] w
     → cond b (Ok x) (Err named) ≡ Err fault → IsWordOf fault [] w
-test_told true x named fault w is e = absurd cc
-test_told false x named fault w is e = told named fault w is e
+test_told b x named fault w is e = subst (λ f. IsWordOf f [] w) (test_err b x named fault e).1 is
 
--- a word with a value that lies within limits
-abbrev pub limited : {A : Type 0} → (List ℕ → Option A) → (A → Bool) → Word → Result A QueryFault
-limited read within w =
-    or_fault (UnexpectedWord w.0) (read w.1) >>= λ x. cond (within x) (Ok x) (Err (OutOfLimits w.0))
-
--- a word without a value, or with one past the limits
-limited_told : {A : Type 0} (within : A → Bool) (o : Option A) (w : Word) (fault : QueryFault)
-    → (or_fault (UnexpectedWord w.0) o >>= λ x. cond (within x) (Ok x) (Err (OutOfLimits w.0))) ≡ Err fault
-    → IsWordOf fault [] w
-limited_told within None w fault e = told (UnexpectedWord w.0) fault w refl e
-limited_told within (Some x) w fault e = test_told (within x) x (OutOfLimits w.0) fault w refl e
-
--- values within limits, of which some word writes one
-reads_limited : {A : Type 0} (read : List ℕ → Option A) (within : A → Bool) (sample : List ℕ) (it : A)
-    → HasNoBlank sample → limited read within (0, sample) ≡ Ok it
-    → ReadsWord A (λ x. within x ≡ true) (limited read within)
-reads_limited read within sample it clean reads = record {
-  good = λ w x e.
-      let value = bind_ok (or_fault (UnexpectedWord w.0) (read w.1))
-      (λ y. cond (within y) (Ok y) (Err (OutOfLimits w.0))) x e in
-      let test = test_ok (within value.0) value.0 x (OutOfLimits w.0) value.2 in
-      subst (λ y. within y ≡ true) test.1 test.0;
-  told = λ w fault e. limited_told within (read w.1) w fault e;
+-- values that pass a test, of which some word writes one
+reads_tested : {A : Type 0} (read : List ℕ → Option A) (passes : A → Bool) (bad : ℕ → QueryFault) (sample : List ℕ)
+    (it : A) → HasNoBlank sample → ((w : Word) → IsWordOf (bad w.0) [] w) → tested read passes bad (0, sample) ≡ Ok it
+    → ReadsWord A (λ x. passes x ≡ true) (tested read passes bad)
+reads_tested read passes bad sample it clean named reads = record {
+  good = λ w x e. (tested_ok read passes bad w x e).1;
+  told = λ w fault e. elim (tested_err read passes bad w fault e) [
+    | inl none ↦ subst (λ f. IsWordOf f [] w) none.1 refl
+    | inr wrong ↦ subst (λ f. IsWordOf f [] w) wrong.2 (named w)
+  ];
   sample = sample;
   clean = clean;
   it = it;
@@ -68,41 +53,25 @@ reads_limited read within sample it clean reads = record {
 pub reads_number : (low high : ℕ) → number low high (0, codes "1") ≡ Ok 1
     → ReadsWord ℕ (λ n. is_within low high n ≡ true) (number low high)
 unfolding number
-reads_number low high one = reads_limited natural (is_within low high) (codes "1") 1 refl one
+reads_number low high one = reads_tested natural (is_within low high) OutOfLimits (codes "1") 1 refl (λ w. refl) one
 
 -- degrees from which on a day is hot
 pub reads_heat : ReadsWord ℤ (λ t. is_heat t ≡ true) heat
 unfolding heat
-reads_heat = reads_limited tenths_of is_heat (codes "0") (pos 0) refl refl
+reads_heat = reads_tested tenths_of is_heat OutOfLimits (codes "0") (pos 0) refl (λ w. refl) refl
 
 -- the months of a season
 pub reads_months : ReadsWord (ℕ × ℕ) (λ s. (is_month s.0 && is_month s.1) ≡ true) months
 unfolding months
-reads_months = reads_limited two_numbers (λ s. is_month s.0 && is_month s.1) (codes "1..1") (1, 1) refl refl
-
--- a word that is no element, or none that is allowed
-element_told : (allows : Element → Bool) (o : Option Element) (w : Word) (fault : QueryFault)
-    → (or_fault (UnexpectedWord w.0) o >>= λ x. cond (allows x) (Ok x) (Err (UnexpectedWord w.0))) ≡ Err fault
-    → IsWordOf fault [] w
-element_told allows None w fault e = told (UnexpectedWord w.0) fault w refl e
-element_told allows (Some x) w fault e = test_told (allows x) x (UnexpectedWord w.0) fault w refl e
+reads_months = reads_tested two_numbers (λ s. is_month s.0 && is_month s.1) OutOfLimits (codes "1..1") (1, 1) refl
+    (λ w. refl) refl
 
 -- elements that a test allows, of which there is one
 pub reads_element : (allows : Element → Bool) (one : Element) → allows one ≡ true → HasNoBlank (code_of one)
     → ReadsWord Element (λ e. allows e ≡ true) (element allows)
 unfolding element
-reads_element allows one allowed clean = record {
-  good = λ w x e.
-      let value = bind_ok (or_fault (UnexpectedWord w.0) (element_of w.1))
-      (λ x. cond (allows x) (Ok x) (Err (UnexpectedWord w.0))) x e in
-      let test = test_ok (allows value.0) value.0 x (UnexpectedWord w.0) value.2 in
-      subst (λ x. allows x ≡ true) test.1 test.0;
-  told = λ w fault e. element_told allows (element_of w.1) w fault e;
-  sample = code_of one;
-  clean = clean;
-  it = one;
-  reads = code_element allows one 0 allowed;
-}
+reads_element allows one allowed clean = reads_tested element_of allows UnexpectedWord (code_of one) one clean
+    (λ w. refl) (code_element allows one 0 allowed)
 
 -- a field that is a number within limits lies within them
 field_within : (low high z : ℤ) (f : Field) (at : ℕ) → cond (is_number_within low high f) (Ok (number_of f))
@@ -156,17 +125,12 @@ reads_code len one is clean = record {
   reads = ap (λ b. cond b (Ok one) (Err (UnexpectedWord 0))) is;
 }
 
--- a word that is no date
-date_told : (o : Option ℤ) (w : Word) (fault : QueryFault) → or_fault (BadDate w.0) o ≡ Err fault → IsWordOf fault [] w
-date_told None w fault e = told (BadDate w.0) fault w refl e
-date_told (Some day) w fault e = absurd cc
-
 -- dates of days, of which there is one
 pub reads_date : (one : ℤ) → is_day one ≡ true → ReadsWord ℤ (λ day. is_day day ≡ true) date
 unfolding date
 reads_date one is = record {
   good = date_day;
-  told = λ w fault e. date_told (read_date w.1) w fault e;
+  told = λ w fault e. subst (λ f. IsWordOf f [] w) (or_fault_err (BadDate w.0) fault (read_date w.1) e).1 refl;
   sample = date_text one;
   clean = (date_word one).one.no_blank;
   it = one;

@@ -1,7 +1,7 @@
 -- What a single word is read as spells it, and what spells a value is read as it.
 use Rattle.std.proofs.Common.{◌≡◌, ℕ, zero, suc, ◌+◌, ◌<◌, Bool, true, false, cond, ◌&&◌, List, [], ◌∷◌, ◌++◌, length}
-use Rattle.std.proofs.Common.{take, drop, get_or, replicate, Option, Some, None, Ok, Err, refl, sym, ap, ◌∙◌, subst}
-use Rattle.std.proofs.Common.{FitsSigned, w32, arith, length-drop}
+use Rattle.std.proofs.Common.{rules, take, drop, get_or, replicate, Option, Some, None, Ok, Err, refl, sym, ap, ◌∙◌}
+use Rattle.std.proofs.Common.{subst, FitsSigned, w32, arith, length-drop}
 use Rattle.std.specs.Prelude.{ℤ, int_le}
 use Rattle.std.specs.List.{find, list_all, before_first, after_first, position_or_len}
 use Rattle.std.specs.Char.{is_ascii_digit}
@@ -29,12 +29,12 @@ use Rattle.ghcn_files.specs.StationLines.{is_number_within, number_of}
 use Rattle.rank_query.specs.declared.fault.QueryFault.TheVariants.{UnexpectedWord, OutOfLimits, BadDate, BadBox}
 use Rattle.rank_query.specs.Asked.{is_code, is_heat, is_month}
 use Rattle.rank_query.specs.Words.{Word}
-use Rattle.rank_query.specs.Readers.{◌>>=◌, or_fault}
+use Rattle.rank_query.specs.Readers.{or_fault}
 use Rattle.rank_query.specs.WordValues.{number, element, heat, months, degrees, code, date, tenths_of, two_numbers}
 use Rattle.rank_query.specs.WordValues.{is_point, natural_behind, both_numbers}
 use Rattle.rank_query.specs.Spelling.{IsNumeralOf, JoinsTwo}
 use Rattle.rank_query.proofs.OneWords.{stands_in_word, HasNoBlank}
-use Rattle.rank_query.proofs.ReadingSteps.{bind_ok, test_ok, or_fault_ok}
+use Rattle.rank_query.proofs.ReadingSteps.{test_ok, or_fault_ok, tested_ok, tested_again}
 
 -- digits alone write the number that is read of them
 natural_numeral : (digits : List ℕ) (n : ℕ) → natural digits ≡ Some n → IsNumeralOf digits n
@@ -52,37 +52,25 @@ numeral_natural (d ∷ ds) n numeral =
 -- a word that is read as a number is a numeral of it
 pub number_numeral : (low high : ℕ) (w : Word) (n : ℕ) → number low high w ≡ Ok n → IsNumeralOf w.1 n
 unfolding number
-number_numeral low high w n e =
-    let value = bind_ok (or_fault (UnexpectedWord w.0) (natural w.1))
-    (λ m. cond (is_within low high m) (Ok m) (Err (OutOfLimits w.0))) n e in
-    let test = test_ok (is_within low high value.0) value.0 n (OutOfLimits w.0) value.2 in
-    natural_numeral w.1 n (or_fault_ok (UnexpectedWord w.0) (natural w.1) value.0 value.1 ∙ ap Some test.1)
+number_numeral low high w n e = natural_numeral w.1 n (tested_ok natural (is_within low high) OutOfLimits w n e).0
 
 -- a numeral of a number within the limits is read as it
 pub numeral_number : (low high n at : ℕ) (digits : List ℕ) → is_within low high n ≡ true → IsNumeralOf digits n
     → number low high (at, digits) ≡ Ok n
 unfolding number
 numeral_number low high n at digits inside numeral =
-    ap (λ o. or_fault (UnexpectedWord at) o >>= λ m. cond (is_within low high m) (Ok m) (Err (OutOfLimits at)))
-    (numeral_natural digits n numeral)
-    ∙ ap (λ b. cond b (Ok n) (Err (OutOfLimits at))) inside
+    tested_again natural (is_within low high) OutOfLimits at digits n (numeral_natural digits n numeral) inside
 
 -- a word that is read as a number of degrees spells its tenths
 pub heat_spelt : (w : Word) (t : ℤ) → heat w ≡ Ok t → Spells 1 w.1 t
 unfolding heat
-heat_spelt w t e =
-    let value = bind_ok (or_fault (UnexpectedWord w.0) (tenths_of w.1))
-    (λ z. cond (is_heat z) (Ok z) (Err (OutOfLimits w.0))) t e in
-    let test = test_ok (is_heat value.0) value.0 t (OutOfLimits w.0) value.2 in
-    spells-from_signed 1 w.1 t (or_fault_ok (UnexpectedWord w.0) (tenths_of w.1) value.0 value.1 ∙ ap Some test.1)
+heat_spelt w t e = spells-from_signed 1 w.1 t (tested_ok tenths_of is_heat OutOfLimits w t e).0
 
 -- what spells tenths within the limits is read as them
 pub spelt_heat : (t : ℤ) (at : ℕ) (text : List ℕ) → is_heat t ≡ true → Spells 1 text t → heat (at, text) ≡ Ok t
 unfolding heat
 spelt_heat t at text inside spells =
-    ap (λ o. or_fault (UnexpectedWord at) o >>= λ z. cond (is_heat z) (Ok z) (Err (OutOfLimits at)))
-    (signed-from_spells 1 text t spells)
-    ∙ ap (λ b. cond b (Ok t) (Err (OutOfLimits at))) inside
+    tested_again tenths_of is_heat OutOfLimits at text t (signed-from_spells 1 text t spells) inside
 
 -- a point is the byte 46
 point_is : (b : ℕ) → is_point b ≡ true → b ≡ 46
@@ -154,40 +142,28 @@ joined_two word a b j =
 pub months_joined : (w : Word) (s : ℕ × ℕ) → months w ≡ Ok s → JoinsTwo w.1 s.0 s.1
 unfolding months
 months_joined w s e =
-    let value = bind_ok (or_fault (UnexpectedWord w.0) (two_numbers w.1))
-    (λ v. cond (is_month v.0 && is_month v.1) (Ok v) (Err (OutOfLimits w.0))) s e in
-    let test = test_ok (is_month value.0.0 && is_month value.0.1) value.0 s (OutOfLimits w.0) value.2 in
-    two_joined w.1 s (or_fault_ok (UnexpectedWord w.0) (two_numbers w.1) value.0 value.1 ∙ ap Some test.1)
+    two_joined w.1 s (tested_ok two_numbers (λ v. is_month v.0 && is_month v.1) OutOfLimits w s e).0
 
 -- what joins two months is read as them
 pub joined_months : (s : ℕ × ℕ) (at : ℕ) (word : List ℕ) → (is_month s.0 && is_month s.1) ≡ true
     → JoinsTwo word s.0 s.1 → months (at, word) ≡ Ok s
 unfolding months
-joined_months s at word inside joins =
-    ap (λ o. or_fault (UnexpectedWord at) o >>= λ v. cond (is_month v.0 && is_month v.1) (Ok v)
-    (Err (OutOfLimits at))) (joined_two word s.0 s.1 joins)
-    ∙ ap (λ b. cond b (Ok s) (Err (OutOfLimits at))) inside
-
--- the first of two elements passes, or what is found among the others does
-first_passes : {A : Type 0} (b : Bool) (p : A → Bool) (ys : List A) (x y : A) → p y ≡ b
-    → cond b (Some y) (find p ys) ≡ Some x → (find p ys ≡ Some x → p x ≡ true) → p x ≡ true
-first_passes true p ys x y e found more = let same : y ≡ x = cc in ap p (sym same) ∙ e
-first_passes false p ys x y e found more = more found
+joined_months s at word inside joins = tested_again two_numbers (λ v. is_month v.0 && is_month v.1) OutOfLimits at word
+    s (joined_two word s.0 s.1 joins) inside
 
 -- what is found passes the test
 found_passes : {A : Type 0} (p : A → Bool) (xs : List A) (x : A) → find p xs ≡ Some x → p x ≡ true
-found_passes p [] x e = cc
-found_passes p (y ∷ ys) x e = first_passes (p y) p ys x y refl e (λ more. found_passes p ys x more)
+found_passes p [] x e = absurd cc
+found_passes p (y ∷ ys) x e = elim (p y) as (λ b. p y ≡ b → cond b (Some y) (find p ys) ≡ Some x → p x ≡ true) [
+  | true ↦ search rules
+  | false ↦ λ fails later. found_passes p ys x later
+] refl e
 
 -- a word that is read as an element is its code
 pub element_code : (allows : Element → Bool) (w : Word) (e : Element) → element allows w ≡ Ok e → w.1 ≡ code_of e
 unfolding element
 element_code allows w e read =
-    let value = bind_ok (or_fault (UnexpectedWord w.0) (element_of w.1))
-    (λ x. cond (allows x) (Ok x) (Err (UnexpectedWord w.0))) e read in
-    let test = test_ok (allows value.0) value.0 e (UnexpectedWord w.0) value.2 in
-    let found : element_of w.1 ≡ Some e = or_fault_ok (UnexpectedWord w.0) (element_of w.1) value.0 value.1
-    ∙ ap Some test.1 in
+    let found : element_of w.1 ≡ Some e = (tested_ok element_of allows UnexpectedWord w e read).0 in
     sym ((bytes_decides (code_of e) w.1).0 (found_passes (λ e. same_bytes (code_of e) w.1) elements e found))
 
 -- an element is found by its code
@@ -203,8 +179,7 @@ pub code_element : (allows : Element → Bool) (e : Element) (at : ℕ) → allo
     → element allows (at, code_of e) ≡ Ok e
 unfolding element
 code_element allows e at allowed =
-    ap (λ o. or_fault (UnexpectedWord at) o >>= λ x. cond (allows x) (Ok x) (Err (UnexpectedWord at))) (code_found e)
-    ∙ ap (λ b. cond b (Ok e) (Err (UnexpectedWord at))) allowed
+    tested_again element_of allows UnexpectedWord at (code_of e) e (code_found e) allowed
 
 -- a text that begins with no blank is no longer than what stands behind its blanks
 no_blanks : (n : ℕ) (word text : List ℕ) → word ≡ replicate n 32 ++ text → HasNoBlank word → text ≡ word

@@ -1,7 +1,7 @@
 -- How many events a run has.
 use Rattle.std.proofs.Common.{rules, ◌≡◌, ℕ, zero, suc, ◌+◌, ◌<◌, Bool, true, cond, List, [], ◌∷◌, ◌++◌, length}
 use Rattle.std.proofs.Common.{length-append, replicate, Option, refl, ◌∙◌, arith, ℤ}
-use Rattle.std.specs.Prelude.{◌&&◌, count_by, sum_by}
+use Rattle.std.specs.Prelude.{count_by, sum_by}
 use Rattle.std.specs.List.{flat_map, list_all}
 use Rattle.std.proofs.lemmas.List.{length-map}
 use Rattle.std.proofs.lemmas.List.Sums.{sum_by-cons, sum_by-append}
@@ -13,7 +13,7 @@ use Rattle.rank_sched.specs.Exchanges.{morsels_of}
 use Rattle.rank_sched.specs.Machine.{Worker, State, new_worker, started, worker_of, Does, IsStep, Leads, has_stopped}
 use Rattle.rank_sched.specs.SoundRun.{open_exchange, IsSoundState, IsSoundEnd}
 use Rattle.rank_sched.specs.Laws.{is_claim, is_look, is_settle, EventsAreCounted}
-use Rattle.rank_sched.proofs.Lists.{At, at}
+use Rattle.rank_sched.proofs.Lists.{At, at, both_true}
 use Rattle.rank_sched.proofs.SoundSteps.{runs_sound}
 use Rattle.rank_sched.proofs.Ends.{end_sound}
 
@@ -29,10 +29,6 @@ opened vs = sum_by (λ v. length (open_exchange v.turn)) vs
 by_parts : (f : Worker → ℕ) (front : List Worker) (v : Worker) (behind : List Worker)
     → sum_by f (front ++ v ∷ behind) ≡ sum_by f front + (f v + sum_by f behind)
 by_parts f front v behind = simp (sum_by-append, sum_by-cons)
-
--- one for an event of the kind, none for any other
-one_if : Bool → ℕ
-one_if b = cond b 1 0
 
 -- what a step counts
 pub record Counts (s : State) (e : Event) (s' : State) : Type 0 where
@@ -91,10 +87,6 @@ new_made : (k n : ℕ) → (made (replicate n (new_worker k)) ≡ 0) × (opened 
     (length (replicate n (new_worker k)) ≡ n)
 new_made k zero = (refl, refl, refl)
 new_made k (suc n) = grind (arith, new_made k n)
-
--- of two tests that pass together each passes
-both_true : (a b : Bool) → (a && b) ≡ true → (a ≡ true) × (b ≡ true)
-both_true a b h = grind arith
 
 -- a worker that has stopped has no look open
 closed : (turn : Turn) → has_stopped turn ≡ true → length (open_exchange turn) ≡ 0

@@ -110,22 +110,6 @@ pub step_back : (t : Task) (rs : List Record) (i n : ℕ) (marks marks' : List B
 step_back t rs i n marks marks' pool pool' low skipped unjust e len took h = search
     (rules, get_or-set_other, get_or-set_same, best_more, append_assoc)
 
--- the pool says whether a skip stays
-pub pool_tells : (t : Task) (rs : List Record) (i : ℕ) (pool : Pooled) → IsFair t → HasEachBelow t.len (morsels_of rs)
-    → HasBackBelow t rs i pool → is_below (last_score pool) (t.bound i) ≡ is_justified t rs i
-pool_tells t rs i pool fair once h = grind (arith, last_is_kth, decides)
-
--- a morsel that wasn't skipped
-pub step_scanned : (t : Task) (rs : List Record) (i n : ℕ) (marks : List Bool) (pool : Pooled) → i < n
-    → mark marks i ≡ false → IsBefore t rs i n marks pool → IsBefore t rs (i + 1) n marks pool
-step_scanned t rs i n marks pool low unmarked_here h = grind (arith, step_kept)
-
--- a skip that stays
-pub step_stays : (t : Task) (rs : List Record) (i n : ℕ) (marks : List Bool) (pool : Pooled) → i < n
-    → mark marks i ≡ true → is_justified t rs i ≡ true → IsBefore t rs i n marks pool
-    → IsBefore t rs (i + 1) n marks pool
-step_stays t rs i n marks pool low marked_here just h = grind (arith, step_kept)
-
 -- ---- the answer
 
 -- a test, as a number that counts
@@ -168,17 +152,17 @@ read_there t rs i n marks pool read marked low at is h = grind (arith, get_or_re
 pub told : (t : Task) (rs : List Record) (i n : ℕ) (marks : List Bool) (pool : Pooled) (marked just : Bool) → IsFair t
     → HasEachBelow t.len (morsels_of rs) → IsRead t rs i n marks pool marked
     → just ≡ is_below (last_score pool) (t.bound i) → just ≡ is_justified t rs i
-told t rs i n marks pool marked just fair once h e = grind (arith, pool_tells)
+told t rs i n marks pool marked just fair once h e = grind (arith, last_is_kth, decides)
 
 -- the morsel wasn't skipped
 pub read_scanned : (t : Task) (rs : List Record) (i n : ℕ) (marks : List Bool) (pool : Pooled)
     → IsRead t rs i n marks pool false → IsBefore t rs (i + 1) n marks pool
-read_scanned t rs i n marks pool h = grind (arith, step_scanned)
+read_scanned t rs i n marks pool h = grind (arith, step_kept)
 
 -- its skip stays
 pub read_stays : (t : Task) (rs : List Record) (i n : ℕ) (marks : List Bool) (pool : Pooled)
     → IsRead t rs i n marks pool true → true ≡ is_justified t rs i → IsBefore t rs (i + 1) n marks pool
-read_stays t rs i n marks pool h just = grind (arith, step_stays)
+read_stays t rs i n marks pool h just = grind (arith, step_kept)
 
 -- its skip is taken back
 pub read_back : (t : Task) (rs : List Record) (i n : ℕ) (marks marks' : List Bool) (pool pool' : Pooled)

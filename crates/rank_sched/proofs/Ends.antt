@@ -1,8 +1,8 @@
 -- A run in which all workers have stopped: its records, its hauls, and how many events it had.
-use Rattle.std.proofs.Common.{◌≡◌, ℕ, ◌+◌, ◌<◌, ◌≤◌, Bool, true, false, List, [], ◌∷◌, ◌++◌, length, length-append}
+use Rattle.std.proofs.Common.{◌≡◌, ℕ, ◌+◌, ◌<◌, ◌≤◌, true, false, List, [], ◌∷◌, ◌++◌, length, length-append}
 use Rattle.std.proofs.Common.{Option, refl, sym, ap, ◌∙◌, append-nil, arith, ℤ, option_to_list, All}
 use Rattle.std.proofs.lemmas.Grind.{common_steps}
-use Rattle.std.specs.Prelude.{◌&&◌, nat_lt}
+use Rattle.std.specs.Prelude.{nat_lt}
 use Rattle.std.specs.List.{flat_map, list_all, AllByRecursion, AllZip}
 use Rattle.std.proofs.lemmas.List.{map-append}
 use Rattle.std.proofs.lemmas.List.Elements.{All-from_recursion, All-append, All-nil}
@@ -18,7 +18,7 @@ use Rattle.rank_sched.specs.SoundRun.{Rise, unsettled, IsTurnOf, open_exchange, 
 use Rattle.rank_sched.specs.SoundRun.{AreSoundFrom, IsSoundState, IsSoundEnd}
 use Rattle.rank_sched.specs.Hauls.{records_of, all_records, exchanges_in, turns_of, AreHaulsFrom}
 use Rattle.rank_sched.specs.Laws.{EndsAreSound}
-use Rattle.rank_sched.proofs.Lists.{each-append, All-left, All-right}
+use Rattle.rank_sched.proofs.Lists.{each-append, All-left, All-right, both_true}
 
 -- the morsels of all records of some workers
 abbrev all_morsels : List Worker → List ℕ
@@ -42,7 +42,7 @@ module _ (t : Task) (guess : Option ℤ) where
   lengths_split w (v ∷ vs) h = grind (arith, length-append, lengths_split (w + 1) vs h.1)
 
   -- what is recorded of a plan's morsels gives no number past the last of them
-  morsels_within : (rs : List Record) → AllByRecursion (λ r. r.morsel < t.len) rs
+  pub morsels_within : (rs : List Record) → AllByRecursion (λ r. r.morsel < t.len) rs
       → AllByRecursion (λ x. x < t.len) (morsels_of rs)
   morsels_within [] h = tt
   morsels_within (r ∷ rs) h = (h.0, morsels_within rs h.1)
@@ -52,10 +52,6 @@ module _ (t : Task) (guess : Option ℤ) where
       → AllByRecursion (λ x. x < t.len) (all_morsels vs)
   all_within w [] h = tt
   all_within w (v ∷ vs) h = grind (arith, each-append, morsels_within, all_within (w + 1) vs h.1)
-
-  -- of two tests that pass together each passes
-  both_true : (a b : Bool) → (a && b) ≡ true → (a ≡ true) × (b ≡ true)
-  both_true a b h = grind arith
 
   -- what a stopped worker hasn't settled is one number past the last morsel, and no floor is open
   pub record HasEnded (turn : Turn) : Type 0 where

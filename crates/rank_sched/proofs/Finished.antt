@@ -8,7 +8,7 @@ use Rattle.std.proofs.lemmas.Bool.{cases_eq, eq-eqb, ne_eqb}
 use Rattle.std.proofs.lemmas.List.Elements.{All-head, All-tail}
 use Rattle.ghcn_fields.specs.Counting.{times, times_below, HasEachBelow}
 use Rattle.ghcn_fields.specs.CountingLaws.{one_if_equal-equal, one_if_equal-apart, times_below-suc, times_below-yes}
-use Rattle.ghcn_fields.specs.CountingLaws.{all_below, length-each_below}
+use Rattle.ghcn_fields.specs.CountingLaws.{all_below, length-each_below, times-append}
 use Rattle.rank_scores.specs.declared.candidate.Candidate.{Candidate}
 use Rattle.rank_scores.specs.Order.{is_below}
 use Rattle.rank_pool.specs.First.{first, kth, above}
@@ -21,7 +21,7 @@ use Rattle.rank_sched.specs.Exchanges.{morsels_of, scanned}
 use Rattle.rank_sched.specs.Hauls.{all_records}
 use Rattle.rank_sched.specs.TakingBack.{known_before, is_justified, was_skipped, back_below}
 use Rattle.rank_sched.specs.Laws.{BestAreThere, PoolDecides}
-use Rattle.rank_sched.proofs.Lists.{times-append, last_is_kth}
+use Rattle.rank_sched.proofs.Lists.{last_is_kth}
 use Rattle.rank_sched.proofs.Totals.{range-push, times-cons}
 
 -- ---- morsels that have one record each

@@ -11,7 +11,7 @@ use Rattle.std.specs.Ordering.{is_lt, nat_cmp, on}
 use Rattle.std.specs.declared.cmp.Ordering.{Ordering}
 use Rattle.std.specs.declared.cmp.Ordering.TheVariants.{Equal}
 use Rattle.std.proofs.lemmas.Cmp.{nat_list_cmp_total, on_total, nat_list_eq_equiv}
-use Rattle.std.proofs.lemmas.List.{take_all}
+use Rattle.std.proofs.lemmas.List.{take_all, map-id}
 use Rattle.std.proofs.lemmas.Map.Keys.{IsDistinct-head, IsDistinct-tail, IsDistinct-cons}
 use Rattle.std.proofs.lemmas.Map.Text.{is_eq-slice_cmp}
 use Rattle.ghcn_fields.specs.Sorting.{sorted_by}
@@ -63,18 +63,13 @@ strictly a b = is_lt (id_cmp a b)
 pub strictly_ranks : IsStrictWeakOrder strictly
 strictly_ranks = grind (arith, id_total)
 
--- lines seen as they are
-map_same : (ls : List Line) → map (λ l. l) ls ≡ ls
-map_same [] = refl
-map_same (l ∷ ls) = ap (λ r. l ∷ r) (map_same ls)
-
 -- of lines of different stations there is one list by increasing ID
 sorted_lines : (xs ys : List Line) → IsDistinct same_line xs → IsPermutation xs ys → IsSortedBy strictly ys
     → ys ≡ sorted_by comes_first xs
 sorted_lines xs ys d p up =
     let turn = ordered.sort-in_turn id_cmp id_total comes_first (λ a b. refl) (λ l. l) ys up in
     ordered.one_order id_cmp id_total comes_first (λ a b. refl) same_line same_line-symm line_tied xs ys d p
-    (rw (← map_same ys) turn)
+    (rw (← map-id ys) turn)
 
 -- ---- the lines of morsels
 

@@ -1,14 +1,13 @@
 -- What is true of lists and of their elements, and the lists that records give.
-use Rattle.std.proofs.Common.{rules, ◌≡◌, ℕ, zero, suc, ◌+◌, ◌-◌, ◌<◌, List, [], ◌∷◌, ◌++◌, length, take, Option, Some}
-use Rattle.std.proofs.Common.{refl, ap, ◌∙◌, append-nil, append_assoc, arith, ℤ, ◌≤ℤ◌, option_to_list, All, Contains}
-use Rattle.std.specs.Prelude.{slice_get, slice_set, IfSome, IsSomeAnd}
+use Rattle.std.proofs.Common.{Bool, true, rules, ◌≡◌, ℕ, zero, suc, ◌-◌, ◌<◌, List, [], ◌∷◌, ◌++◌, length, take, Option}
+use Rattle.std.proofs.Common.{Some, refl, ap, ◌∙◌, append-nil, append_assoc, arith, ℤ, ◌≤ℤ◌, option_to_list, All}
+use Rattle.std.proofs.Common.{Contains}
+use Rattle.std.specs.Prelude.{◌&&◌, slice_get, slice_set, IfSome, IsSomeAnd}
 use Rattle.std.specs.List.{AllByRecursion}
 use Rattle.std.specs.Option.{option_map}
 use Rattle.std.proofs.lemmas.Grind.{flat_map-append}
 use Rattle.std.proofs.lemmas.List.{map-append}
-use Rattle.std.proofs.lemmas.List.Sums.{sum_by-append}
 use Rattle.std.proofs.lemmas.List.Elements.{All-append, All-contains, Contains-append_left, Contains-append_right}
-use Rattle.ghcn_fields.specs.Counting.{times}
 use Rattle.ghcn_fields.specs.Floor.{IsAtLeast}
 use Rattle.rank_scores.specs.declared.candidate.Candidate.{Candidate}
 use Rattle.rank_pool.specs.First.{first, kth, in_order}
@@ -33,6 +32,25 @@ All-left P xs ys h = all_from P xs (λ x c. All-contains P (xs ++ ys) x h (Conta
 pub All-right : {X : Type 0} (P : X → Type 0) (xs ys : List X) → All P (xs ++ ys) → All P ys
 All-right P xs ys h = all_from P ys (λ x c. All-contains P (xs ++ ys) x h (Contains-append_right xs ys x c))
 
+module _ {X : Type 0} (P : X → Type 0) where
+  -- what is true of all of three lists is true of all of the second
+  pub All-middle : (F V B : List X) → All P (F ++ (V ++ B)) → All P V
+  All-middle F V B h = All-left P V B (All-right P F (V ++ B) h)
+
+  -- what is true of all of three lists and of another is true of all, where that stands behind the second
+  pub All-between : (F V Z B : List X) → All P (F ++ (V ++ B)) → All P Z → All P (F ++ ((V ++ Z) ++ B))
+  All-between F V Z B h new = All-append P F ((V ++ Z) ++ B) (All-left P F (V ++ B) h) (All-append P (V ++ Z) B
+      (All-append P V Z (All-middle F V B h) new) (All-right P V B (All-right P F (V ++ B) h)))
+
+  -- and without that list it is true of all, and of all of it
+  pub All-without : (F V Z B : List X) → All P (F ++ ((V ++ Z) ++ B)) → All P (F ++ (V ++ B)) × All P Z
+  All-without F V Z B h =
+      let both : All P (V ++ Z) = All-middle F (V ++ Z) B h in (
+        All-append P F (V ++ B) (All-left P F ((V ++ Z) ++ B) h) (All-append P V B (All-left P V Z both)
+            (All-right P (V ++ Z) B (All-right P F ((V ++ Z) ++ B) h))),
+        All-right P V Z both,
+      )
+
 -- what is true of each element of two lists is true of each of both together
 pub each-append : {X : Type 0} (P : X → Type 0) (xs ys : List X) → AllByRecursion P xs → AllByRecursion P ys
     → AllByRecursion P (xs ++ ys)
@@ -51,19 +69,13 @@ pub each_both : {X : Type 0} (P Q R : X → Type 0) (xs : List X) → ((x : X) �
 each_both P Q R [] f h k = tt
 each_both P Q R (x ∷ xs) f h k = (f x h.0 k.0, each_both P Q R xs f h.1 k.1)
 
--- an element of one
-pub only_one : {X : Type 0} (o : Option X) (x : X) → Contains (option_to_list o) x → o ≡ Some x
-only_one o x c = grind arith
-
 -- what is true of a value, if there is one, is true of the list of it
 pub one_there : {X : Type 0} (P : X → Type 0) (o : Option X) → IfSome o P → All P (option_to_list o)
 one_there P o h = grind arith
 
--- ---- counts
-
--- a number stands in two lists together as often as in each
-pub times-append : (x : ℕ) (xs ys : List ℕ) → times x (xs ++ ys) ≡ times x xs + times x ys
-times-append x xs ys = sum_by-append _ xs ys
+-- of two tests that pass together each passes
+pub both_true : (a b : Bool) → (a && b) ≡ true → (a ≡ true) × (b ≡ true)
+both_true a b h = grind arith
 
 -- ---- lists that rise
 

@@ -1,8 +1,8 @@
 -- A run with one worker: of each morsel a claim, a look and a settle, and then a last claim.
-use Rattle.std.proofs.Common.{rules, ◌≡◌, ℕ, suc, ◌+◌, ◌<◌, ◌≤◌, Bool, true, false, List, [], ◌∷◌, ◌++◌, length, Option}
+use Rattle.std.proofs.Common.{rules, ◌≡◌, ℕ, ◌+◌, ◌<◌, ◌≤◌, Bool, true, false, List, [], ◌∷◌, ◌++◌, length, Option}
 use Rattle.std.proofs.Common.{Some, None, Result, Ok, Err, IfOk, refl, ap, ◌∙◌, arith, ℤ}
 use Rattle.std.specs.Prelude.{◌&&◌, slice_get, slice_set}
-use Rattle.std.specs.List.{list_all, AllZip}
+use Rattle.std.specs.List.{list_all}
 use Rattle.rank_sched.specs.declared.haul.Haul.{Haul}
 use Rattle.rank_sched.specs.declared.answer.Answer.{Answer}
 use Rattle.rank_sched.specs.declared.event.Event.{Event}
@@ -10,12 +10,13 @@ use Rattle.rank_sched.specs.declared.event.Event.TheVariants.{Claim, Look, Settl
 use Rattle.rank_sched.specs.Plan.{Planned}
 use Rattle.rank_sched.specs.Task.{task_of}
 use Rattle.rank_sched.specs.Machine.{Worker, worker_of, is_awaited, refusal, has_stopped, all_stopped}
-use Rattle.rank_sched.specs.Hauls.{records_of, all_records, AreSound, AreUnderFloor, AreHaulsOf}
+use Rattle.rank_sched.specs.Hauls.{all_records, AreSound, AreUnderFloor, AreHaulsOf}
 use Rattle.rank_sched.specs.Run.{Running, new_run, is_stopped, Steps, IsReplayed}
 use Rattle.rank_sched.proofs.Replays.{replayed-push}
 use Rattle.rank_sched.specs.Answers.{IsAnswer, IsAnswerOfCrew, AreRecordsAlone, records_in}
 use Rattle.rank_sched.proofs.Machines.{not_refused}
-use Rattle.rank_sched.proofs.MachineSteps.{set-length}
+use Rattle.std.proofs.lemmas.List.{length-set}
+use Rattle.std.proofs.lemmas.Slice.Zip.{AllZip-long}
 
 -- a machine of one worker that runs a plan under a guess, drew n numbers, and doesn't refuse this event
 pub record Awaits (p : Planned) (guess : Option ℤ) (n : ℕ) (e : Event) (m : Running) : Type 0 where
@@ -50,7 +51,7 @@ awaits_next p guess n n' e e' m m' v own own' a s set turn next =
       running = cc;
       plan = ap (λ (x : Running). x.plan) s.kept ∙ a.plan;
       guessed = cc;
-      one = grind (arith, set-length);
+      one = grind (arith, length-set);
       next = next;
       accepted = grind (arith, not_refused);
       events = a.events ++ e ∷ [];
@@ -88,13 +89,6 @@ pub last_claim : (p : Planned) (guess : Option ℤ) (n : ℕ) (m m' : Running) �
     → Awaits p guess n (Claim 0) m → Steps m (Claim 0) m' → is_stopped m' ≡ true
 last_claim p guess n m m' le a s = cc (last_stops p guess n m m' le a s)
 
--- as many hauls as workers
-hauls_number : (hs : List Haul) (vs : List Worker)
-    → AllZip (λ h v. (records_of h ≡ v.records) × (h.pool ≡ v.pool)) hs vs → length hs ≡ length vs
-hauls_number [] [] z = refl
-hauls_number (h ∷ hs) (v ∷ vs) z = ap suc (hauls_number hs vs z.1)
-hauls_number hs vs z = absurd z
-
 -- the hauls are sound hauls of the plan
 pub lone_sound : (p : Planned) (guess : Option ℤ) (n : ℕ) (m m' : Running) (hs : List Haul)
     → Awaits p guess n (Claim 0) m → Steps m (Claim 0) m' → AreSound (task_of m'.plan) hs → AreSound (task_of p) hs
@@ -105,7 +99,7 @@ pub lone_answer : (p : Planned) (guess : Option ℤ) (n : ℕ) (m m' : Running) 
     → Awaits p guess n (Claim 0) m → Steps m (Claim 0) m' → AreHaulsOf m'.state.workers hs
     → AreSound (task_of m'.plan) hs → AreUnderFloor (task_of m'.plan) m'.guess hs m'.state.floor
     → IsAnswer p (all_records hs) answer → IsAnswerOfCrew p guess 1 answer
-lone_answer p guess n m m' hs answer a s hauls sound under is = grind (arith, hauls_number, set-length)
+lone_answer p guess n m m' hs answer a s hauls sound under is = grind (arith, AllZip-long, length-set)
 
 -- the same of a result
 pub lone_result : {E : Type 0} (p : Planned) (guess : Option ℤ) (n : ℕ) (m m' : Running) (hs : List Haul)

@@ -1,9 +1,11 @@
 -- Steps of a machine by its turns and hauls: which are refused, and what those that are made lead to.
 use Rattle.std.proofs.lemmas.Grind.{common_steps}
+use Rattle.std.proofs.lemmas.List.{length-set, length-replicate}
+use Rattle.std.proofs.lemmas.Option.{slice_get_read}
 use Rattle.std.proofs.Common.{◌≡◌, ℕ, zero, suc, ◌+◌, ◌-◌, ◌*◌, ◌<◌, ◌≤◌, Bool, true, false, cond, List, [], ◌∷◌}
 use Rattle.std.proofs.Common.{length, length-append, get_or, replicate, Option, Some, None, Result, Err, IsErr}
 use Rattle.std.proofs.Common.{IsErrAnd, ◌≢◌, refl, sym, ap, ◌∙◌, arith, append-nil, ℤ, IfSome, rules}
-use Rattle.std.specs.Prelude.{◌&&◌, not, nat_lt, map, zip, slice_get, slice_set}
+use Rattle.std.specs.Prelude.{not, nat_lt, map, zip, slice_get, slice_set}
 use Rattle.std.specs.List.{AllByRecursion, flat_map}
 use Rattle.ghcn_fields.specs.Floor.{IsScore}
 use Rattle.ghcn_fields.specs.CountingLaws.{length-each_below}
@@ -12,6 +14,7 @@ use Rattle.rank_sched.specs.declared.record.Record.{Record}
 use Rattle.rank_sched.specs.declared.haul.Haul.{Haul}
 use Rattle.rank_sched.specs.declared.event.Event.{Event}
 use Rattle.rank_sched.specs.declared.event.Event.TheVariants.{Claim, Look, Settle}
+use Rattle.rank_sched.specs.declared.event.StepFault.{StepFault}
 use Rattle.rank_sched.specs.declared.event.StepFault.TheVariants.{NoWorker, NotNow}
 use Rattle.rank_sched.specs.declared.turn.Turn.{Turn}
 use Rattle.rank_sched.specs.declared.turn.Turn.TheVariants.{Idle, Claimed, Looked}
@@ -22,11 +25,11 @@ use Rattle.rank_sched.specs.Machine.{Worker, State, new_worker, started, worker_
 use Rattle.rank_sched.specs.Machine.{record_of, greater_floor, floor_after, IsStep, all_stopped}
 use Rattle.rank_sched.specs.SoundRun.{unsettled, Rise, AreSoundFrom, IsSoundState, IsSoundEnd}
 use Rattle.rank_sched.specs.Hauls.{records_of, AreHaulsOf, AreSound, AreUnderFloor}
-use Rattle.rank_sched.specs.Run.{new_run, is_stopped, Running, worker_with, state_of, IsRunning, Refuses, HasSettled}
-use Rattle.rank_sched.specs.Run.{IsEmptyHaul, IsSameHaul}
-use Rattle.rank_sched.proofs.Lists.{morsels-push}
+use Rattle.rank_sched.specs.Run.{new_run, is_stopped, Running, worker_with, state_of, IsRunning, IsAnswered, Refuses}
+use Rattle.rank_sched.specs.Run.{HasSettled, IsEmptyHaul, IsSameHaul}
+use Rattle.rank_sched.proofs.Lists.{morsels-push, both_true}
 use Rattle.rank_sched.proofs.SoundSteps.{runs_sound}
-use Rattle.rank_sched.proofs.Ends.{rise_front, ends_sound}
+use Rattle.rank_sched.proofs.Ends.{morsels_within, rise_front, ends_sound}
 use Rattle.rank_sched.proofs.PlanMade.{few_morsels}
 use Rattle.std.proofs.lemmas.Int.{ints}
 
@@ -78,41 +81,27 @@ other_both (x ∷ xs) [] w turn h e = absurd (omega (arith, e))
 other_both (x ∷ xs) (y ∷ hs) zero turn h e = refl
 other_both (x ∷ xs) (y ∷ hs) (suc w) turn h e = cc (other_both xs hs w turn h (omega (arith, e)))
 
--- as many workers are there after one has changed
-pub set-length : {X : Type 0} (xs : List X) (i : ℕ) (x : X) → length (slice_set xs i x) ≡ length xs
-set-length [] i x = refl
-set-length (y ∷ ys) zero x = refl
-set-length (y ∷ ys) (suc i) x = ap suc (set-length ys i x)
-
 -- ---- which events are refused
-
--- a number that is n or more isn't below n
-not_below : (i n : ℕ) → n ≤ i → nat_lt i n ≡ false
-not_below i n h = grind arith
-
--- a smaller number is below n
-below : (i n : ℕ) → i < n → nat_lt i n ≡ true
-below i n h = grind arith
 
 -- an event of a worker that isn't there is refused for that
 pub no_worker : (next : ℕ) (floor : Option ℤ) (turns : List Turn) (hs : List Haul) (e : Event)
     → length turns ≡ length hs → length turns ≤ worker_of e
     → refusal (state_of next floor turns hs) e ≡ Some (NoWorker (worker_of e))
-no_worker next floor turns hs e same far = simp (not_below, workers-length, e)
+no_worker next floor turns hs e same far = grind (arith, ints, workers-length turns hs same)
 
 -- an event that its worker doesn't wait for is refused for that
 pub not_now : (next : ℕ) (floor : Option ℤ) (turns : List Turn) (hs : List Haul) (e : Event) (turn : Turn)
     → length turns ≡ length hs → slice_get turns (worker_of e) ≡ Some turn → is_awaited turn e ≡ false
     → refusal (state_of next floor turns hs) e ≡ Some (NotNow (worker_of e))
 not_now next floor turns hs e turn same here other =
-    grind (arith, ints, there turns hs (worker_of e) turn same here, below, workers-length turns hs same)
+    grind (arith, ints, there turns hs (worker_of e) turn same here, workers-length turns hs same)
 
 -- an event that its worker waits for isn't refused
 pub is_now_by : (next : ℕ) (floor : Option ℤ) (turns : List Turn) (hs : List Haul) (e : Event) (turn : Turn)
     → length turns ≡ length hs → slice_get turns (worker_of e) ≡ Some turn → is_awaited turn e ≡ true
     → refusal (state_of next floor turns hs) e ≡ None
 is_now_by next floor turns hs e turn same here awaited =
-    grind (arith, ints, there turns hs (worker_of e) turn same here, below, workers-length turns hs same)
+    grind (arith, ints, there turns hs (worker_of e) turn same here, workers-length turns hs same)
 
 -- ---- what the steps that are made lead to
 
@@ -181,7 +170,7 @@ pub still_running : (m : Running) (e : Event) (s' : State) (failed : Bool) → I
     → IsStep (task_of m.plan) m.state e s' → IsRunning
     (record { plan = m.plan; guess = m.guess; state = s'; failed = failed })
 still_running m e s' failed r step =
-    let len : length s'.workers ≡ length m.state.workers = grind (arith, set-length) in
+    let len : length s'.workers ≡ length m.state.workers = grind (arith, length-set) in
     record {
       plan = r.plan;
       guess = r.guess;
@@ -198,21 +187,24 @@ running_failed m failed r = search rules
 -- ---- the answers of a machine
 
 -- a machine refuses an event of a worker that isn't there, and stays as it is
-pub no_worker_refused : (m : Running) (next : ℕ) (floor : Option ℤ) (turns : List Turn) (hs : List Haul) (e : Event)
-    → m.state ≡ state_of next floor turns hs → m.failed ≡ false → length turns ≡ length hs
-    → length turns ≤ worker_of e → Refuses m e (NoWorker (worker_of e)) m
-no_worker_refused m next floor turns hs e is running same far = grind (arith, no_worker next floor turns hs e same far)
+pub no_worker_refused : {A : Type 0} (m : Running) (next : ℕ) (floor : Option ℤ) (turns read : List Turn)
+    (hs : List Haul) (e : Event) (f : StepFault) (r : Result A StepFault) → state_of next floor turns hs ≡ m.state
+    → m.failed ≡ false → length turns ≡ length hs → read ≡ turns
+    → (f ≡ NoWorker (worker_of e)) × (length read ≤ worker_of e) → IsErr r × IsErrAnd r (λ x. x ≡ f)
+    → IsAnswered m e r m
+no_worker_refused m next floor turns read hs e f r is running same e' why err =
+    let far : length turns ≤ worker_of e = omega (arith, ap length e') in
+    let answer : r ≡ Err (NoWorker (worker_of e)) = grind arith in
+    rw answer (grind (arith, no_worker next floor turns hs e same far))
 
 -- a machine refuses an event that the worker doesn't wait for, and stays as it is
-pub not_now_refused : (m : Running) (next : ℕ) (floor : Option ℤ) (turns : List Turn) (hs : List Haul) (e : Event)
-    (turn : Turn) → m.state ≡ state_of next floor turns hs → m.failed ≡ false → length turns ≡ length hs
-    → slice_get turns (worker_of e) ≡ Some turn → is_awaited turn e ≡ false → Refuses m e (NotNow (worker_of e)) m
-not_now_refused m next floor turns hs e turn is running same here other = grind
-    (arith, not_now next floor turns hs e turn same here other)
-
--- an answer that is known to be an error
-pub err_is : {A E : Type 0} (r : Result A E) (e : E) → IsErr r × IsErrAnd r (λ x. x ≡ e) → r ≡ Err e
-err_is r e h = grind arith
+pub not_now_refused : (m : Running) (next : ℕ) (floor : Option ℤ) (turns read : List Turn) (hs : List Haul) (e : Event)
+    (turn : Turn) → state_of next floor turns hs ≡ m.state → m.failed ≡ false → length turns ≡ length hs
+    → read ≡ turns → slice_get read (worker_of e) ≡ Some turn → is_awaited turn e ≡ false
+    → Refuses m e (NotNow (worker_of e)) m
+not_now_refused m next floor turns read hs e turn is running same e' here other =
+    let there : slice_get turns (worker_of e) ≡ Some turn = rw e' at here in
+    grind (arith, not_now next floor turns hs e turn same there other)
 
 -- ---- turns that wait for other events
 
@@ -236,12 +228,6 @@ raised_floor floor raised r p e = search rules
 
 -- ---- a haul that settles, or finds no memory
 
--- what was read at a place of a list stands there
-pub got : {X : Type 0} (xs : List X) (i : ℕ) (x : X) → i < length xs → x ≡ get_or xs i x → slice_get xs i ≡ Some x
-got [] i x lt e = absurd (omega arith)
-got (y ∷ ys) zero x lt e = ap (λ z. Some z) (sym e)
-got (y ∷ ys) (suc i) x lt e = got ys i x (omega arith) e
-
 -- the record that is written is the worker's
 pub settle_made : (t : Task) (next : ℕ) (floor floor' raised : Option ℤ) (turns : List Turn) (hs : List Haul)
     (w m : ℕ) (seen : Option ℤ) (h h' : Haul) (r : Record) → length turns ≡ length hs
@@ -251,7 +237,8 @@ pub settle_made : (t : Task) (next : ℕ) (floor floor' raised : Option ℤ) (tu
     (state_of next floor' (slice_set turns w Idle) (slice_set hs w h'))
 settle_made t next floor floor' raised turns hs w m seen h h' r same here own made did up new =
     let at : IsThere turns hs w (Looked m seen) = there turns hs w (Looked m seen) same here in
-    settle_step t next floor floor' turns hs w m seen h h' same here (got hs w h (omega (arith, at.within, same)) own)
+    settle_step t next floor floor' turns hs w m seen h h' same here
+    (slice_get_read hs (length hs) w h refl (omega (arith, at.within, same)) own)
     (rw made at did)
     (new ∙ raised_floor floor raised r h'.pool up ∙ ap (λ (q : Record). floor_after floor q h'.pool) made)
 
@@ -267,7 +254,8 @@ same_workers (x ∷ xs) (y ∷ hs) (suc w) h h' e s = cc (same_workers xs hs w h
 pub same_state_of : (next : ℕ) (floor : Option ℤ) (turns : List Turn) (hs : List Haul) (w : ℕ) (turn : Turn)
     (h h' : Haul) → length turns ≡ length hs → slice_get turns w ≡ Some turn → h ≡ get_or hs w h → IsSameHaul h h'
     → state_of next floor turns (slice_set hs w h') ≡ state_of next floor turns hs
-same_state_of next floor turns hs w turn h h' same here own s = grind (arith, common_steps, there, same_workers, got)
+same_state_of next floor turns hs w turn h h' same here own s =
+    grind (arith, common_steps, there, same_workers, slice_get_read)
 
 -- ---- the next number is small
 
@@ -287,12 +275,6 @@ one_open : (turn : Turn) → length (unsettled turn) ≤ 1
 one_open turn = grind arith
 
 module _ (t : Task) (guess : Option ℤ) where
-  -- what is recorded of a plan's morsels gives no number past the last of them
-  morsels_below : (rs : List Record) → AllByRecursion (λ r. r.morsel < t.len) rs
-      → AllByRecursion (λ x. x < t.len) (morsels_of rs)
-  morsels_below [] h = tt
-  morsels_below (r ∷ rs) h = (h.0, morsels_below rs h.1)
-
   -- each worker has drawn at most one number more than there are morsels
   claims_few : (w : ℕ) (vs : List Worker) → t.len ≤ 1_048_576 → AreSoundFrom t guess w vs
       → length (flat_map (λ (v : Worker). v.claims) vs) ≤ 1_048_577 * length vs
@@ -301,7 +283,7 @@ module _ (t : Task) (guess : Option ℤ) where
       let ms : List ℕ = morsels_of v.records in
       let short : length ms ≤ t.len - 0 = rise_short t.len 0 ms
       (rise_front t guess ms (unsettled v.turn) (rw h.0.settled at h.0.rise))
-      (morsels_below v.records h.0.within) (from_zero ms) in
+      (morsels_within t guess v.records h.0.within) (from_zero ms) in
       omega (
         arith,
         few,
@@ -340,21 +322,16 @@ pub start_state : (p : Planned) (guess : Option ℤ) (k workers : ℕ) (turns : 
     → state_of 0 guess turns hs ≡ started (task_of p) workers guess
 start_state p guess k workers turns hs same idle len empty = grind (arith, zipped)
 
--- so many workers that have done nothing are so many
-replicate-length : {X : Type 0} (n : ℕ) (x : X) → length (replicate n x) ≡ n
-replicate-length zero x = refl
-replicate-length (suc n) x = ap suc (replicate-length n x)
-
 -- at the start there is a turn for each worker
 pub start_turns : (n : ℕ) (turns : List Turn) → turns ≡ replicate n Idle → length turns ≡ n
-start_turns n turns e = ap length e ∙ replicate-length n Idle
+start_turns n turns e = ap length e ∙ length-replicate n Idle
 
 -- what is true of every machine is true of one at the start
 pub start_running : (p : Planned) (guess : Option ℤ) (workers : ℕ) → IsPlan p → IfSome guess IsScore → 0 < workers
     → workers ≤ 64 → IsRunning (new_run p workers guess)
 start_running p guess workers is ok some few =
     let len : length (replicate workers (new_worker p.query.k)) ≡ workers =
-    grind (arith, replicate-length) in
+    grind (arith, length-replicate) in
     record {
       plan = is;
       guess = ok;
@@ -374,13 +351,9 @@ hauls_of next floor [] (h ∷ hs) e = absurd (omega (arith, e))
 hauls_of next floor (x ∷ xs) [] e = absurd (omega (arith, e))
 hauls_of next floor (x ∷ xs) (h ∷ hs) e = grind (arith, hauls_of next floor xs hs (omega (arith, e)))
 
--- a machine that counts as stopped has all its workers stopped
-both_left : (a b : Bool) → (not a && b) ≡ true → b ≡ true
-both_left a b e = grind arith
-
 -- what the workers of a stopped machine bring home is sound
 pub stopped_sound : (m : Running) (hs : List Haul) → IsRunning m → is_stopped m ≡ true → AreHaulsOf m.state.workers hs
     → IsSoundEnd (task_of m.plan) m.state × AreSound (task_of m.plan) hs × AreUnderFloor
     (task_of m.plan) m.guess hs m.state.floor
 stopped_sound m hs r e a = ends_sound (task_of m.plan) m.guess m.state hs r.some r.sound
-    (both_left m.failed (all_stopped m.state.workers) e) a
+    (both_true (not m.failed) (all_stopped m.state.workers) e).1 a

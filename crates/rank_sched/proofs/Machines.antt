@@ -1,6 +1,5 @@
 -- Steps: which are accepted, that they are computed, and that a machine that failed stays so.
-use Rattle.std.proofs.Common.{◌≡◌, ℕ, zero, suc, ◌<◌, true, List, [], ◌∷◌, length, Some, None}
-use Rattle.std.proofs.Common.{arith}
+use Rattle.std.proofs.Common.{◌≡◌, true, Some, None, arith}
 use Rattle.std.specs.Prelude.{slice_get}
 use Rattle.rank_sched.specs.declared.event.Event.{Event}
 use Rattle.rank_sched.specs.declared.turn.Turn.{Turn}
@@ -8,6 +7,7 @@ use Rattle.rank_sched.specs.Task.{Task}
 use Rattle.rank_sched.specs.Machine.{Worker, State, worker_of, is_awaited, refusal, IsStep, Does, moved, after}
 use Rattle.rank_sched.specs.Laws.{FailedStaysFailed, OneWorkerHasNoChoice, StepsAreComputed, WantOfMemoryFails}
 use Rattle.std.proofs.lemmas.Int.{ints}
+use Rattle.std.proofs.lemmas.Option.{slice_get_within}
 
 -- ---- a machine that failed
 
@@ -31,15 +31,9 @@ pub record IsAccepted (s : State) (e : Event) : Type 0 where
 pub accepted : (s : State) (e : Event) → refusal s e ≡ None → IsAccepted s e
 accepted s e h = grind arith
 
--- a place where something stands is inside the list
-pub within : {X : Type 0} (xs : List X) (i : ℕ) (x : X) → slice_get xs i ≡ Some x → i < length xs
-within [] i x h = absurd cc
-within (y ∷ ys) zero x h = omega arith
-within (y ∷ ys) (suc i) x h = omega (arith, within ys i x h)
-
 -- an event that is accepted isn't refused
 pub not_refused : (s : State) (e : Event) → IsAccepted s e → refusal s e ≡ None
-not_refused s e a = grind (arith, within)
+not_refused s e a = grind (arith, slice_get_within)
 
 -- ---- with one worker
 

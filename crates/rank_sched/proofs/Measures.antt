@@ -1,8 +1,8 @@
 -- The series that a query asks about, and the bound of each station.
-use Rattle.std.proofs.Common.{◌≡◌, ℕ, zero, suc, Bool, true, false, cond, List, [], ◌∷◌, map, Option, Some, Result}
+use Rattle.std.proofs.Common.{◌≡◌, ℕ, Bool, true, false, cond, List, [], ◌∷◌, Option, Some, Result}
 use Rattle.std.proofs.Common.{IfOk, refl, arith, ℤ, rules}
 use Rattle.std.specs.Prelude.{slice_get}
-use Rattle.std.specs.Option.{option_map}
+use Rattle.std.proofs.lemmas.Option.{slice_get-map}
 use Rattle.std.specs.List.{find}
 use Rattle.ghcn_files.specs.declared.station.Station.{Station}
 use Rattle.ghcn_files.specs.declared.station.StationId.{StationId}
@@ -28,15 +28,8 @@ asked_of q c id u e right asked = grind (arith, passes)
 
 -- ---- the bounds of all stations
 
--- what stands at a place of a list that was made of another
-pub made_there : {A B : Type 0} (f : A → B) (xs : List A) (i : ℕ)
-    → slice_get (map f xs) i ≡ option_map f (slice_get xs i)
-made_there f [] i = refl
-made_there f (x ∷ xs) zero = refl
-made_there f (x ∷ xs) (suc i) = made_there f xs i
-
 -- the bound of the station at a place stands at that place
 pub measured_there : {E : Type 0} (q : Asked) (c : Contents) (place : ℕ) (st : Station) (r : Result (Option ℤ) E)
     → slice_get c.stations place ≡ Some st
     → IfOk r (λ b. b ≡ measure_of q c st) → IfOk r (λ b. slice_get (measures q c) place ≡ Some b)
-measured_there q c place st r e h = search (rules, made_there)
+measured_there q c place st r e h = search (rules, slice_get-map)

@@ -1,7 +1,7 @@
 -- With one worker a run that ends stopped has one list of events and one end.
-use Rattle.std.proofs.Common.{◌≡◌, ℕ, zero, suc, Bool, true, false, List, [], ◌∷◌, length, Some, refl, sym, ap, ◌∙◌}
+use Rattle.std.proofs.Common.{◌≡◌, ℕ, zero, suc, true, false, List, [], ◌∷◌, length, Some, refl, sym, ap, ◌∙◌}
 use Rattle.std.proofs.Common.{subst, arith}
-use Rattle.std.specs.Prelude.{◌&&◌, slice_get}
+use Rattle.std.specs.Prelude.{slice_get}
 use Rattle.std.specs.List.{list_all}
 use Rattle.rank_sched.specs.declared.event.Event.{Event}
 use Rattle.rank_sched.specs.declared.turn.Turn.{Turn}
@@ -10,28 +10,21 @@ use Rattle.rank_sched.specs.Machine.{Worker, State, started, worker_of, is_await
 use Rattle.rank_sched.specs.Machine.{all_stopped}
 use Rattle.rank_sched.specs.Laws.{OneWorkerEndsOneWay, RecordsAloneAreOne}
 use Rattle.rank_sched.proofs.Machines.{steps_computed, one_worker, does_awaited}
-use Rattle.rank_sched.proofs.MachineSteps.{set-length}
+use Rattle.std.proofs.lemmas.List.{length-set}
+use Rattle.rank_sched.proofs.Lists.{both_true}
 use Rattle.std.proofs.lemmas.Int.{ints}
 
 -- a worker that stopped waits for no event
 stopped_waits : (turn : Turn) (e : Event) → has_stopped turn ≡ true → is_awaited turn e ≡ false
 stopped_waits turn e h = grind arith
 
--- of two tests that pass together the first passes
-left : (a b : Bool) → (a && b) ≡ true → a ≡ true
-left a b h = grind arith
-
--- and so does the second
-right : (a b : Bool) → (a && b) ≡ true → b ≡ true
-right a b h = grind arith
-
 -- each of some workers has stopped, where all have
 stopped_at : (vs : List Worker) (i : ℕ) (v : Worker) → list_all (λ w. has_stopped w.turn) vs ≡ true
     → slice_get vs i ≡ Some v → has_stopped v.turn ≡ true
 stopped_at [] i v all e = absurd cc
-stopped_at (w ∷ vs) zero v all e = grind (arith, ints, left)
+stopped_at (w ∷ vs) zero v all e = grind (arith, ints, both_true)
 stopped_at (w ∷ vs) (suc i) v all e =
-    stopped_at vs i v (right (has_stopped w.turn) (list_all (λ (u : Worker). has_stopped u.turn) vs) all) e
+    stopped_at vs i v (both_true (has_stopped w.turn) (list_all (λ (u : Worker). has_stopped u.turn) vs) all).1 e
 
 -- where all have stopped no step is made
 none_after : (t : Task) (s s' : State) (e : Event) → all_stopped s.workers ≡ true → IsStep t s e s' → ⊥
@@ -54,7 +47,7 @@ one_way t z s s' (e ∷ es) (e' ∷ es') one l a l' a' =
     let c' = (steps_computed t z l'.0 e').0 l'.1 in
     let same : e ≡ e' = one_worker z e e' one c.0 c'.0 in
     let mid : l.0 ≡ l'.0 = c.1 ∙ ap (after t z) same ∙ sym c'.1 in
-    let still : length l.0.workers ≡ 1 = ap length l.1.others ∙ set-length z.workers (worker_of e) l.1.after ∙ one in
+    let still : length l.0.workers ≡ 1 = ap length l.1.others ∙ length-set z.workers (worker_of e) l.1.after ∙ one in
     let rest = one_way t l.0 s s' es es' still l.2 a (subst (λ (x : State). Leads t x es' s') (sym mid) l'.2) a' in
     (ap (λ (x : Event). x ∷ es) same ∙ ap (λ (xs : List Event). e' ∷ xs) rest.0, rest.1)
 

@@ -1,5 +1,6 @@
 -- The candidates of a plan are those of the query in another order, so they have the same best.
 use Rattle.std.proofs.lemmas.Grind.{common_steps}
+use Rattle.std.proofs.lemmas.List.Folds.{flat_map-map}
 use Rattle.std.proofs.Common.{◌≡◌, ℕ, zero, suc, Bool, true, false, cond, not, List, [], ◌∷◌, ◌++◌, length}
 use Rattle.std.proofs.Common.{length-append, take, map, filter, Option, Some, refl, sym, ap, ◌∙◌, append_assoc, arith}
 use Rattle.std.proofs.Common.{rules}
@@ -58,12 +59,6 @@ by_place : {A : Type 0} (f : A → List Candidate) (front ms : List A)
 by_place f front [] = refl
 by_place {A} f front (x ∷ ms) = grind (arith, get_behind, length-append, append_assoc, by_place f (front ++ x ∷ []) ms)
 
--- the candidates of elements that were changed first, taken in one pass
-flat-map-map : {A B : Type 0} (g : A → B) (f : B → List Candidate) (xs : List A)
-    → flat_map f (map g xs) ≡ flat_map (λ x. f (g x)) xs
-flat-map-map g f [] = refl
-flat-map-map g f (x ∷ xs) = cc (flat-map-map g f xs)
-
 -- where there is no day, there is no candidate
 none_from : (f : DayValue → Option Candidate) (xs : List DayValue) → not (length xs == 0) ≡ false
     → filter_map f xs ≡ []
@@ -82,7 +77,7 @@ plan_alike q c =
     let ms : List Morsel = map (measured q) (morsels q c) in
     ap in_order (by_place f [] (sorted_by is_drawn_first ms))
     ∙ alike_sorted is_drawn_first f ms
-    ∙ ap in_order (flat-map-map (measured q) f (morsels q c))
+    ∙ ap in_order (flat_map-map f (measured q) (morsels q c))
     ∙ alike_sorted _ (candidates q) (filter (λ s. not (length (admitted q s) == 0)) (admitted_series q c))
     ∙ ap in_order (asked_alone q (admitted_series q c))
 

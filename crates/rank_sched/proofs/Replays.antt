@@ -1,6 +1,5 @@
 -- A run from a list of events, event by event.
-use Rattle.std.proofs.Common.{rules, arith, ℕ, ◌+◌, ◌<◌, List, [], ◌∷◌, ◌++◌, length, take, get_or, Option}
-use Rattle.std.proofs.Common.{ℤ}
+use Rattle.std.proofs.Common.{rules, arith, ℕ, ◌+◌, ◌<◌, List, [], ◌∷◌, ◌++◌, length, take, get_or, Option, ℤ}
 use Rattle.std.proofs.lemmas.Grind.{common_steps}
 use Rattle.rank_sched.specs.declared.event.Event.{Event}
 use Rattle.rank_sched.specs.Plan.{Planned}

@@ -18,16 +18,13 @@ use Rattle.rank_query.specs.Asked.{Asked, IsAsked, is_score}
 use Rattle.rank_scores.specs.Runs.{run_from, run_len}
 use Rattle.rank_scores.specs.Candidates.{Shape, Windows, Spells, shape, plus, window_total, is_dry, is_wet, is_hot}
 use Rattle.rank_scores.specs.Candidates.{begun, candidate, candidates_among, candidates}
+use Rattle.rank_sched.proofs.Lists.{both_true, each-weaker}
 
 -- ---- values
 
 -- a value that a series can have
 abbrev IsValued : DayValue → Type 0
 IsValued x = (neg_ℤ (pos 9998) ≤ℤ x.1) × (x.1 ≤ℤ pos 99_999)
-
--- of two tests that both pass, each passes
-both : (a b : Bool) → (a && b) ≡ true → (a ≡ true) × (b ≡ true)
-both a b e = grind arith
 
 -- what a test of two numbers says
 at_most : (a b : ℤ) → int_le a b ≡ true → a ≤ℤ b
@@ -38,11 +35,11 @@ all_valued : (e : Element) (days : List DayValue) → list_all (λ x. is_day x.0
     → AllByRecursion IsValued days
 all_valued e [] h = tt
 all_valued e (x ∷ xs) h =
-    let parts = both (is_day x.0 && is_value e x.1) (list_all (λ y. is_day y.0 && is_value e y.1) xs) h in
-    let value = both (is_day x.0) (is_value e x.1) parts.0 in
-    let limits = both (int_le (neg_ℤ (pos 9998)) x.1 && int_le x.1 (pos 99_999))
+    let parts = both_true (is_day x.0 && is_value e x.1) (list_all (λ y. is_day y.0 && is_value e y.1) xs) h in
+    let value = both_true (is_day x.0) (is_value e x.1) parts.0 in
+    let limits = both_true (int_le (neg_ℤ (pos 9998)) x.1 && int_le x.1 (pos 99_999))
     (may_be_negative e || int_le (pos 0) x.1) value.1 in
-    let ends = both (int_le (neg_ℤ (pos 9998)) x.1) (int_le x.1 (pos 99_999)) limits.0 in
+    let ends = both_true (int_le (neg_ℤ (pos 9998)) x.1) (int_le x.1 (pos 99_999)) limits.0 in
     ((at_most (neg_ℤ (pos 9998)) x.1 ends.0, at_most x.1 (pos 99_999) ends.1), all_valued e xs parts.1)
 
 -- what is true of each element is true of each that passes a test
@@ -109,12 +106,6 @@ each_begun id sh days (x ∷ xs) h =
       | Some found ↦ grind (arith, each_begun id sh days xs h.1)
     ] refl
 
--- a fact of each element that follows from another
-each_so : {X : Type 0} (P Q : X → Type 0) (xs : List X) → ((x : X) → P x → Q x) → AllByRecursion P xs
-    → AllByRecursion Q xs
-each_so P Q [] f h = tt
-each_so P Q (x ∷ xs) f h = (f x h.0, each_so P Q xs f h.1)
-
 module _ (days : List DayValue) (valued : AllByRecursion IsValued days) where
   -- a window's
   window_right : (n : ℕ) → n ≤ 366 → (x : DayValue) → IsValued x → BeginsRight (Windows n) days x
@@ -135,19 +126,19 @@ module _ (days : List DayValue) (valued : AllByRecursion IsValued days) where
   -- the candidates among these days, whatever the query asks for
   by_score : (id : StationId) (sc : Score) → is_score sc ≡ true
       → AllByRecursion (λ c. IsScore c.score) (candidates_among id (shape sc) days)
-  by_score id (Highest e) right = grind (arith, each_begun, each_so)
-  by_score id (Lowest e) right = grind (arith, each_begun, each_so)
+  by_score id (Highest e) right = grind (arith, each_begun, each-weaker)
+  by_score id (Lowest e) right = grind (arith, each_begun, each-weaker)
   by_score id (Sum n e) right =
       let within : is_within 1 366 n ≡ true = grind arith in
       let few : n ≤ 366 = grind arith in
-      each_begun id (Windows n) days days (each_so IsValued (BeginsRight (Windows n) days) days
+      each_begun id (Windows n) days days (each-weaker IsValued (BeginsRight (Windows n) days) days
       (window_right n few) valued)
   by_score id Dry right = each_begun id (Spells is_dry) days days
-      (each_so IsValued (BeginsRight (Spells is_dry) days) days (spell_right is_dry) valued)
+      (each-weaker IsValued (BeginsRight (Spells is_dry) days) days (spell_right is_dry) valued)
   by_score id Wet right = each_begun id (Spells is_wet) days days
-      (each_so IsValued (BeginsRight (Spells is_wet) days) days (spell_right is_wet) valued)
+      (each-weaker IsValued (BeginsRight (Spells is_wet) days) days (spell_right is_wet) valued)
   by_score id (Hot t) right = each_begun id (Spells (is_hot t)) days days
-      (each_so IsValued (BeginsRight (Spells (is_hot t)) days) days (spell_right (is_hot t)) valued)
+      (each-weaker IsValued (BeginsRight (Spells (is_hot t)) days) days (spell_right (is_hot t)) valued)
 
 -- the score of each candidate of a series can be a floor
 pub candidates_ranged : (q : Asked) (s : Usable) → IsAsked q → IsSeries s

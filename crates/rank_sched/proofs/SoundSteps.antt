@@ -1,85 +1,93 @@
 -- The state of a run is sound at the start, and each step keeps it so.
-use Rattle.std.proofs.Common.{rules, ◌≡◌, ℕ, zero, suc, ◌+◌, ◌<◌, ◌⊎◌, ⊎_elim, inl, inr, true, List, [], ◌∷◌, ◌++◌}
-use Rattle.std.proofs.Common.{length, replicate, Option, Some, None, refl, sym, ◌∙◌, subst, append-nil, arith, ℤ, ◌≤ℤ◌}
+use Rattle.std.proofs.Common.{rules, ◌≡◌, ℕ, zero, suc, ◌+◌, ◌<◌, ⊎_elim, inl, inr, List, [], ◌∷◌, ◌++◌, length}
+use Rattle.std.proofs.Common.{replicate, Option, Some, None, refl, sym, ap, ◌∙◌, subst, append-nil, arith, ℤ, ◌≤ℤ◌}
 use Rattle.std.proofs.Common.{option_to_list, All, Contains}
-use Rattle.std.proofs.lemmas.Grind.{common_steps, flat_map-append}
-use Rattle.std.specs.Prelude.{IfSome, IsSomeAnd, fold, take}
+use Rattle.std.proofs.lemmas.Grind.{flat_map-append}
+use Rattle.std.specs.Prelude.{IfSome, IsSomeAnd, fold, take, slice_set}
 use Rattle.std.specs.List.{flat_map, AllByRecursion}
 use Rattle.std.proofs.lemmas.Int.{ints}
-use Rattle.std.proofs.lemmas.List.Sums.{sum_by-cons}
-use Rattle.std.proofs.lemmas.List.Elements.{All-nil, All-append, All-weaker, All-contains, Contains-append_left}
-use Rattle.std.proofs.lemmas.List.Elements.{Contains-append_right, Contains-append_cases, recursion_from_All}
-use Rattle.ghcn_fields.specs.Counting.{times, times_below, one_if_equal}
+use Rattle.std.proofs.lemmas.List.Elements.{All-nil, All-head, All-same, All-weaker, All-contains, All-contains_itself}
+use Rattle.std.proofs.lemmas.List.Elements.{recursion_from_All}
+use Rattle.ghcn_fields.specs.Counting.{times, times_below}
 use Rattle.ghcn_fields.specs.Floor.{IsAtLeast, IsGuessOrRaised, IsFloorOf}
-use Rattle.ghcn_fields.specs.CountingLaws.{times_below-suc, all_below}
+use Rattle.ghcn_fields.specs.CountingLaws.{times_below-suc, all_below, times-append}
 use Rattle.rank_scores.specs.declared.candidate.Candidate.{Candidate}
 use Rattle.rank_pool.specs.Pools.{taken}
 use Rattle.rank_pool.proofs.Places.{holds-fold, size-fold}
 use Rattle.rank_sched.specs.declared.record.Record.{Record}
 use Rattle.rank_sched.specs.declared.event.Event.{Event}
 use Rattle.rank_sched.specs.declared.event.Event.TheVariants.{Claim, Look, Settle}
-use Rattle.rank_sched.specs.declared.turn.Turn.{Turn}
-use Rattle.rank_sched.specs.declared.turn.Turn.TheVariants.{Idle, Claimed, Looked}
+use Rattle.rank_sched.specs.declared.turn.Turn.TheVariants.{Idle, Looked}
 use Rattle.rank_sched.specs.Task.{Task}
 use Rattle.rank_sched.specs.Exchanges.{Exchange, pool_of, scanned_for, scanned, exchange, exchanges, seen_in, raised_in}
+use Rattle.rank_sched.specs.Exchanges.{SeeUpward}
 use Rattle.rank_sched.specs.Machine.{Worker, State, new_worker, started, drawn, record_of, greater_floor, floor_after}
-use Rattle.rank_sched.specs.Machine.{worker_of, is_awaited, moved, IsStep}
+use Rattle.rank_sched.specs.Machine.{worker_of, IsClaim, IsLook, IsSettle, Does, IsStep}
 use Rattle.rank_sched.specs.SoundRun.{unsettled, IsTurnOf, open_exchange, exchanges_of, all_exchanges, IsSoundWorker}
-use Rattle.rank_sched.specs.SoundRun.{AreSoundFrom, IsSoundState}
+use Rattle.rank_sched.specs.SoundRun.{AreSoundFrom, claims_in, IsSoundState}
 use Rattle.rank_sched.specs.Laws.{RunsAreSound}
-use Rattle.rank_sched.proofs.Machines.{IsAccepted, accepted, steps_computed, after_here}
-use Rattle.rank_sched.proofs.Lists.{all_from, All-left, All-right, each-append, only_one, one_there, times-append}
-use Rattle.rank_sched.proofs.Lists.{rise-push, morsels-push, scanned-push, exchanges-push, seen_in-append}
-use Rattle.rank_sched.proofs.Lists.{raised_in-append, upward-push, upward-last, At, at, last_is_kth, one_in}
+use Rattle.rank_sched.proofs.Lists.{All-middle, All-between, All-without, each-append, one_there, rise-push}
+use Rattle.rank_sched.proofs.Lists.{morsels-push, scanned-push, exchanges-push, seen_in-append, raised_in-append}
+use Rattle.rank_sched.proofs.Lists.{upward-push, upward-last, At, at, last_is_kth, one_in}
+use Rattle.rank_sched.proofs.Totals.{times-cons}
 
 -- ---- floors
 
--- the floor is the same over lists with the same elements
-at_least_in : (floor : Option ℤ) (old new : List ℤ) → ((x : ℤ) → Contains new x → Contains old x)
-    → IsAtLeast floor old → IsAtLeast floor new
-at_least_in floor old new sub h = all_from (λ s. IsSomeAnd floor (λ f. s ≤ℤ f)) new
-    (λ x c. All-contains (λ s. IsSomeAnd floor (λ f. s ≤ℤ f)) old x h (sub x c))
+-- a score is at most a floor
+abbrev Under : Option ℤ → ℤ → Type 0
+Under floor s = IsSomeAnd floor (λ f. s ≤ℤ f)
 
--- a known score among more
-known_in : (guess : Option ℤ) (old new : List ℤ) → ((x : ℤ) → Contains old x → Contains new x) → (x : ℤ)
-    → IsGuessOrRaised guess old x → IsGuessOrRaised guess new x
-known_in guess old new sub x = ⊎_elim (λ g. inl g) (λ c. inr (sub x c))
+-- a floor without another score is itself
+greater_none : (a : Option ℤ) → greater_floor a None ≡ a
+greater_none None = refl
+greater_none (Some x) = refl
+
+-- what is true of the second of two floors, and follows from what is true of the first, is true of the greater
+greater_of : (P Q : ℤ → Type 0) (a b : Option ℤ) → ((x : ℤ) → P x → Q x) → IfSome a P → All Q (option_to_list b)
+    → IfSome (greater_floor a b) Q
+greater_of P Q None None f h k = tt
+greater_of P Q None (Some y) f h k = All-head Q y [] k
+greater_of P Q (Some x) None f h k = f x h
+greater_of P Q (Some x) (Some y) f h k =
+    let there : Q y = All-head Q y [] k in
+    let here : Q x = f x h in
+    grind arith
 
 -- the greater of two floors is at least what the first is at least
-greater_left : (a b : Option ℤ) (s : ℤ) → IsSomeAnd a (λ f. s ≤ℤ f) → IsSomeAnd (greater_floor a b) (λ f. s ≤ℤ f)
+greater_left : (a b : Option ℤ) (s : ℤ) → Under a s → Under (greater_floor a b) s
 greater_left None b s h = absurd h
 greater_left (Some x) None s h = h
 greater_left (Some x) (Some y) s h = search (rules, ints)
 
--- and at least what the second is at least
-greater_right : (a b : Option ℤ) (s : ℤ) → IsSomeAnd b (λ f. s ≤ℤ f) → IsSomeAnd (greater_floor a b) (λ f. s ≤ℤ f)
-greater_right None b s h = h
-greater_right (Some x) None s h = absurd h
-greater_right (Some x) (Some y) s h = search (rules, ints)
+-- and at least the second
+greater_own : (a b : Option ℤ) → IsAtLeast (greater_floor a b) (option_to_list b)
+greater_own a None = All-nil (Under (greater_floor a None))
+greater_own None (Some y) = grind (arith, ints, one_there)
+greater_own (Some x) (Some y) = grind (arith, ints, one_there)
 
--- a floor is at least its own score
-own_at_least : (z : Option ℤ) (x : ℤ) → z ≡ Some x → IsSomeAnd z (λ f. x ≤ℤ f)
-own_at_least None x e = absurd cc
-own_at_least (Some y) x e = search (rules, ints)
+-- a known score is known among more
+known-more : (guess : Option ℤ) (F V Z B : List ℤ) (x : ℤ) → IsGuessOrRaised guess (F ++ (V ++ B)) x
+    → IsGuessOrRaised guess (F ++ ((V ++ Z) ++ B)) x
+known-more guess F V Z B x = ⊎_elim (λ g. inl g) (λ c. let New : List ℤ = F ++ ((V ++ Z) ++ B) in
+    inr (All-contains (Contains New) (F ++ (V ++ B)) x
+    (All-without (Contains New) F V Z B (All-contains_itself New)).0 c))
 
 -- one more score is raised, or none
-floor-more : (guess : Option ℤ) (old new : List ℤ) (floor z : Option ℤ) → IsFloorOf guess old floor
-    → ((x : ℤ) → Contains old x → Contains new x) → ((x : ℤ) → Contains (option_to_list z) x → Contains new x)
-    → ((x : ℤ) → Contains new x → Contains old x ⊎ Contains (option_to_list z) x)
-    → IsFloorOf guess new (greater_floor floor z)
-floor-more guess old new floor z f sub one cases = record {
-  one_of_them = grind (arith, known_in);
-  guess_below = grind (arith, greater_left);
-  raised_below = all_from (λ s. IsSomeAnd (greater_floor floor z) (λ y. s ≤ℤ y)) new (λ x c. ⊎_elim
-      (λ there. greater_left floor z x (All-contains (λ s. IsSomeAnd floor (λ y. s ≤ℤ y)) old x f.raised_below there))
-      (λ here. greater_right floor z x (own_at_least z x (only_one z x here)))
-      (cases x c));
-}
-  where
-    raised_one : (o : Option ℤ) → ((x : ℤ) → Contains (option_to_list o) x → Contains new x)
-        → IfSome o (IsGuessOrRaised guess new)
-    raised_one None g = tt
-    raised_one (Some y) g = inr (g y (one_in y))
+floor-more : (guess floor up : Option ℤ) (F V B : List ℤ) → IsFloorOf guess (F ++ (V ++ B)) floor
+    → IsFloorOf guess (F ++ ((V ++ option_to_list up) ++ B)) (greater_floor floor up)
+floor-more guess floor up F V B f =
+    let New : List ℤ = F ++ ((V ++ option_to_list up) ++ B) in
+    let own = (All-without (Contains New) F V (option_to_list up) B (All-contains_itself New)).1 in
+    record {
+      one_of_them = greater_of (IsGuessOrRaised guess (F ++ (V ++ B))) (IsGuessOrRaised guess New) floor up
+          (known-more guess F V (option_to_list up) B) f.one_of_them (All-weaker (Contains New)
+          (IsGuessOrRaised guess New) (λ x c. inr c) (option_to_list up) own);
+      guess_below = All-weaker (Under floor) (Under (greater_floor floor up)) (greater_left floor up)
+          (option_to_list guess) f.guess_below;
+      raised_below = All-between (Under (greater_floor floor up)) F V (option_to_list up) B
+          (All-weaker (Under floor) (Under (greater_floor floor up)) (greater_left floor up) (F ++ (V ++ B))
+          f.raised_below) (greater_own floor up);
+    }
 
 -- ---- a worker among others
 
@@ -95,33 +103,68 @@ module _ (t : Task) (guess : Option ℤ) where
         replaced (w + 1) us v v' behind (λ k. rw same at (f (subst (λ n. IsSoundWorker t guess n v) (sym same) k))) h.1,
       )
 
-  -- the parts of a state's turns
-  turns_parts : (front : List Worker) (v : Worker) (behind : List Worker)
-      → all_exchanges t (front ++ v ∷ behind) ≡ all_exchanges t front ++ (exchanges_of t v ++ all_exchanges t behind)
-  turns_parts front v behind = simp (flat_map-append, front)
-
   -- the scores that a state's workers raised, by parts
-  raised_parts : (front : List Worker) (v : Worker) (behind : List Worker)
-      → raised_in (all_exchanges t (front ++ v ∷ behind)) ≡ raised_in (all_exchanges t front) ++
+  raised_parts : (vs front : List Worker) (v : Worker) (behind : List Worker) → vs ≡ front ++ v ∷ behind
+      → raised_in (all_exchanges t vs) ≡ raised_in (all_exchanges t front) ++
       (raised_in (exchanges_of t v) ++ raised_in (all_exchanges t behind))
-  raised_parts front v behind = simp (turns_parts, raised_in-append)
+  raised_parts vs front v behind e = simp (e, flat_map-append)
 
   -- the floors that a state's workers saw, by parts
-  seen_parts : (front : List Worker) (v : Worker) (behind : List Worker)
-      → seen_in (all_exchanges t (front ++ v ∷ behind)) ≡ seen_in (all_exchanges t front) ++
+  seen_parts : (vs front : List Worker) (v : Worker) (behind : List Worker) → vs ≡ front ++ v ∷ behind
+      → seen_in (all_exchanges t vs) ≡ seen_in (all_exchanges t front) ++
       (seen_in (exchanges_of t v) ++ seen_in (all_exchanges t behind))
-  seen_parts front v behind = simp (turns_parts, seen_in-append)
+  seen_parts vs front v behind e = simp (e, flat_map-append)
 
   -- how often a number was claimed, by parts
-  claims_parts : (x : ℕ) (front : List Worker) (v : Worker) (behind : List Worker)
-      → times x (flat_map (λ (u : Worker). u.claims) (front ++ v ∷ behind)) ≡ times x
-      (flat_map (λ (u : Worker). u.claims) front) +
-      (times x v.claims + times x (flat_map (λ (u : Worker). u.claims) behind))
-  claims_parts x front v behind = grind (arith, common_steps, flat_map-append, times-append)
+  claims_parts : (x : ℕ) (vs front : List Worker) (v : Worker) (behind : List Worker) → vs ≡ front ++ v ∷ behind
+      → times x (claims_in vs) ≡ times x (claims_in front) + (times x v.claims + times x (claims_in behind))
+  claims_parts x vs front v behind e = simp (e, flat_map-append, times-append)
 
-  -- a state of these words and workers
-  words : ℕ → Option ℤ → List Worker → State
-  words next floor vs = record { next = next; floor = floor; workers = vs }
+  -- what a step of a worker adds: it draws the numbers from next on, sees known scores, and may raise one
+  record Grows (s s' : State) (v v' : Worker) : Type 0 where
+    saw : List ℤ
+    up : Option ℤ
+    claims : (x : ℕ) → times x v'.claims + times_below x s.next ≡ times x v.claims + times_below x s'.next
+    seen : seen_in (exchanges_of t v') ≡ seen_in (exchanges_of t v) ++ saw
+    raised : raised_in (exchanges_of t v') ≡ raised_in (exchanges_of t v) ++ option_to_list up
+    floor : s'.floor ≡ greater_floor s.floor up
+    known : All (IsGuessOrRaised guess (raised_in (all_exchanges t s.workers))) saw
+
+  -- a worker that grows and stays sound keeps the state sound
+  grows_keeps : (s s' : State) (front behind : List Worker) (v v' : Worker) → s.workers ≡ front ++ v ∷ behind
+      → s'.workers ≡ front ++ v' ∷ behind → Grows s s' v v' → IsSoundState t guess s
+      → ((w : ℕ) → w ≡ length front → IsSoundWorker t guess w v → IsSoundWorker t guess w v')
+      → IsSoundState t guess s'
+  grows_keeps s s' front behind v v' old new g h keeps =
+      let F : List ℤ = raised_in (all_exchanges t front) in
+      let V : List ℤ = raised_in (exchanges_of t v) in
+      let B : List ℤ = raised_in (all_exchanges t behind) in
+      let S : List ℤ = seen_in (all_exchanges t front) in
+      let X : List ℤ = seen_in (exchanges_of t v) in
+      let E : List ℤ = seen_in (all_exchanges t behind) in
+      let raised_old = raised_parts s.workers front v behind old in
+      let seen_old = seen_parts s.workers front v behind old in
+      let raised_new : raised_in (all_exchanges t s'.workers) ≡ F ++ ((V ++ option_to_list g.up) ++ B) =
+      raised_parts s'.workers front v' behind new ∙ ap (λ (l : List ℤ). F ++ (l ++ B)) g.raised in
+      let seen_new : seen_in (all_exchanges t s'.workers) ≡ S ++ ((X ++ g.saw) ++ E) =
+      seen_parts s'.workers front v' behind new ∙ ap (λ (l : List ℤ). S ++ (l ++ E)) g.seen in
+      let K : ℤ → Type 0 = IsGuessOrRaised guess (raised_in (all_exchanges t s.workers)) in
+      let K' : ℤ → Type 0 = IsGuessOrRaised guess (raised_in (all_exchanges t s'.workers)) in
+      let all : All K (seen_in (all_exchanges t s'.workers)) = All-same K _ _ seen_new
+      (All-between K S X g.saw E (All-same K _ _ (sym seen_old) h.seen) g.known) in
+      record {
+        claims = λ x. omega (
+          arith,
+          claims_parts x s.workers front v behind old,
+          claims_parts x s'.workers front v' behind new,
+          g.claims x,
+          h.claims x,
+        );
+        each = rw new (replaced 0 front v v' behind (keeps (0 + length front) (omega arith)) (rw old at h.each));
+        floor = rw (raised_new, g.floor) (floor-more guess s.floor g.up F V B (rw raised_old at h.floor));
+        seen = All-weaker K K' (λ z. rw (raised_old, raised_new) (known-more guess F V (option_to_list g.up) B z))
+            (seen_in (all_exchanges t s'.workers)) all;
+      }
 
   -- ---- a claim
 
@@ -137,141 +180,76 @@ module _ (t : Task) (guess : Option ℤ) where
   turn_drawn : (n : ℕ) → IsTurnOf t.len (drawn t n)
   turn_drawn n = search rules
 
-  -- a worker after it drew a number
-  drew : Worker → ℕ → Worker
-  drew v n = record { turn = drawn t n; claims = v.claims ++ n ∷ []; records = v.records; pool = v.pool }
-
   -- drawing a number adds no turn
-  turns_drew : (v : Worker) (n : ℕ) → v.turn ≡ Idle → exchanges_of t (drew v n) ≡ exchanges_of t v
-  unfolding drew
-  turns_drew v n e = cc (open_drawn n)
+  turns_drew : (s s' : State) (v v' : Worker) → IsClaim t s s' v v' → exchanges_of t v' ≡ exchanges_of t v
+  turns_drew s s' v v' c = cc (open_drawn s.next)
 
   -- a sound worker that draws a number above all its others stays sound
-  worker_drew : (w : ℕ) (v : Worker) (n : ℕ) → v.turn ≡ Idle → AllByRecursion (λ y. y < n) v.claims
-      → IsSoundWorker t guess w v → IsSoundWorker t guess w (drew v n)
-  unfolding drew
-  worker_drew w v n e below h = grind (arith, rise-push, append-nil, unsettled_drawn, turn_drawn, turns_drew)
+  claim_sound : (w : ℕ) (s s' : State) (v v' : Worker) → IsClaim t s s' v v'
+      → AllByRecursion (λ y. y < s.next) v.claims → IsSoundWorker t guess w v → IsSoundWorker t guess w v'
+  claim_sound w s s' v v' c below h = grind (arith, rise-push, append-nil, unsettled_drawn, turn_drawn, turns_drew)
 
-  -- a worker whose turns are the same leaves all turns as they are
-  same_turns : (front : List Worker) (v v' : Worker) (behind : List Worker) → exchanges_of t v' ≡ exchanges_of t v
-      → all_exchanges t (front ++ v' ∷ behind) ≡ all_exchanges t (front ++ v ∷ behind)
-  same_turns front v v' behind e = simp (turns_parts, e)
-
-  -- a claim keeps the state sound
-  claim_keeps : (n : ℕ) (floor : Option ℤ) (front : List Worker) (v : Worker) (behind : List Worker) → v.turn ≡ Idle
-      → IsSoundState t guess (words n floor (front ++ v ∷ behind))
-      → IsSoundState t guess (words (n + 1) floor (front ++ drew v n ∷ behind))
-  unfolding words drew
-  claim_keeps n floor front v behind e h =
-      let claims : List ℕ = flat_map (λ (u : Worker). u.claims) (front ++ v ∷ behind) in
-      let parts : claims ≡ flat_map (λ (u : Worker). u.claims) front ++
-      (v.claims ++ flat_map (λ (u : Worker). u.claims) behind) =
-      grind (arith, flat_map-append) in
-      let all : All (λ y. y < n) claims = all_below n claims h.claims in
-      let own : All (λ y. y < n) v.claims = All-left (λ y. y < n) v.claims _
-      (All-right (λ y. y < n) (flat_map (λ (u : Worker). u.claims) front) _
-      (rw parts at all)) in
-      let turns = same_turns front v (drew v n) behind (turns_drew v n e) in
+  -- a claim draws the next number
+  claim_grows : (s s' : State) (v v' : Worker) → IsClaim t s s' v v' → Grows s s' v v'
+  claim_grows s s' v v' c =
+      let turns = turns_drew s s' v v' c in
       record {
-        claims = λ x.
-            let one : times x (n ∷ []) ≡ one_if_equal n x = grind (arith, sum_by-cons) in
-            omega (
-              arith,
-              claims_parts x front (drew v n) behind,
-              claims_parts x front v behind,
-              times-append x
-                  v.claims (n ∷ []),
-              one,
-              h.claims x,
-              times_below-suc x n (n + 1) refl,
-            );
-        each = search (rules, replaced, worker_drew, recursion_from_All);
-        floor = search rules;
-        seen = rw turns h.seen;
+        saw = [];
+        up = None;
+        claims = λ x. omega (
+          arith,
+          ap (times x) c.claims,
+          times-append x v.claims (s.next ∷ []),
+          times-cons x s.next [],
+          times_below-suc x s.next s'.next c.next,
+        );
+        seen = ap seen_in turns ∙ sym (append-nil (seen_in (exchanges_of t v)));
+        raised = ap raised_in turns ∙ sym (append-nil (raised_in (exchanges_of t v)));
+        floor = c.floor ∙ sym (greater_none s.floor);
+        known = All-nil _;
       }
 
   -- ---- a look
-
-  -- a worker after it saw the floor
-  saw : Worker → ℕ → Option ℤ → Worker
-  saw v m floor = record { turn = Looked m floor; claims = v.claims; records = v.records; pool = v.pool }
 
   -- the open turn
   looking : Option ℤ → Exchange
   looking floor = record { seen = floor; raised = None }
 
-  -- a worker that only claimed has no open turn
-  turns_claimed : (v : Worker) (m : ℕ) → v.turn ≡ Claimed m → exchanges_of t v ≡ exchanges t [] v.records
-  turns_claimed v m e = grind (arith, append-nil)
-
   -- seeing the floor opens a turn
-  turns_saw : (v : Worker) (m : ℕ) (floor : Option ℤ) → v.turn ≡ Claimed m
-      → exchanges_of t (saw v m floor) ≡ exchanges_of t v ++ looking floor ∷ []
-  unfolding saw looking
-  turns_saw v m floor e = cc (turns_claimed v m e)
+  turns_saw : (s s' : State) (v v' : Worker) → IsLook s s' v v'
+      → exchanges_of t v' ≡ exchanges_of t v ++ looking s.floor ∷ []
+  unfolding looking
+  turns_saw s s' v v' l = cc (append-nil (exchanges t [] v.records))
 
   -- a sound worker that sees a floor of at least the guess, and of all that it saw and raised, stays sound
-  worker_saw : (w : ℕ) (v : Worker) (m : ℕ) (floor : Option ℤ) → v.turn ≡ Claimed m
-      → IsAtLeast floor (option_to_list guess) → IsAtLeast floor (seen_in (exchanges_of t v))
-      → IsAtLeast floor (raised_in (exchanges_of t v)) → IsSoundWorker t guess w v
-      → IsSoundWorker t guess w (saw v m floor)
-  unfolding saw looking
-  worker_saw w v m floor e g s r h = grind (arith, turns_saw, upward-push)
+  look_sound : (w : ℕ) (s s' : State) (v v' : Worker) → IsLook s s' v v'
+      → IsAtLeast s.floor (option_to_list guess) → IsAtLeast s.floor (seen_in (exchanges_of t v))
+      → IsAtLeast s.floor (raised_in (exchanges_of t v)) → IsSoundWorker t guess w v → IsSoundWorker t guess w v'
+  unfolding looking
+  look_sound w s s' v v' l g seen up h =
+      let upward : SeeUpward (option_to_list guess) (exchanges_of t v') = rw (turns_saw s s' v v' l)
+      (upward-push (option_to_list guess) (exchanges_of t v) (looking s.floor) h.upward g seen up) in
+      grind arith
+
+  -- a look sees the floor
+  look_grows : (s s' : State) (v v' : Worker) → IsLook s s' v v' → IsSoundState t guess s → Grows s s' v v'
+  unfolding looking
+  look_grows s s' v v' l h = record {
+    saw = option_to_list s.floor;
+    up = None;
+    claims = grind arith;
+    seen = simp (turns_saw s s' v v' l, seen_in-append, append-nil);
+    raised = simp (turns_saw s s' v v' l, raised_in-append, append-nil);
+    floor = l.floor ∙ sym (greater_none s.floor);
+    known = one_there _ s.floor h.floor.one_of_them;
+  }
 
   -- a known score is at most the floor
   pub known_below : (raised : List ℤ) (floor : Option ℤ) → IsFloorOf guess raised floor → (x : ℤ)
-      → IsGuessOrRaised guess raised x → IsSomeAnd floor (λ f. x ≤ℤ f)
+      → IsGuessOrRaised guess raised x → Under floor x
   known_below raised floor f x = grind (arith, one_in)
 
-  -- a look keeps the state sound
-  look_keeps : (n : ℕ) (floor : Option ℤ) (front : List Worker) (v : Worker) (behind : List Worker) (m : ℕ)
-      → v.turn ≡ Claimed m → IsSoundState t guess (words n floor (front ++ v ∷ behind))
-      → IsSoundState t guess (words n floor (front ++ saw v m floor ∷ behind))
-  unfolding words saw looking
-  look_keeps n floor front v behind m e h =
-      let before : List Exchange = all_exchanges t (front ++ v ∷ behind) in
-      let after : List Exchange = all_exchanges t (front ++ saw v m floor ∷ behind) in
-      let F : List Exchange = all_exchanges t front in
-      let B : List Exchange = all_exchanges t behind in
-      let V : List Exchange = exchanges_of t v in
-      let raised_own : raised_in (exchanges_of t (saw v m floor)) ≡ raised_in V = simp
-      (turns_saw, raised_in-append, append-nil) in
-      let raised : raised_in after ≡ raised_in before = grind (arith, raised_parts) in
-      let seen_own : seen_in (exchanges_of t (saw v m floor)) ≡ seen_in V ++ option_to_list floor =
-      simp (turns_saw, seen_in-append, append-nil) in
-      let seen : seen_in after ≡ seen_in F ++ ((seen_in V ++ option_to_list floor) ++ seen_in B) =
-      grind (arith, seen_parts) in
-      let K : ℤ → Type 0 = IsGuessOrRaised guess (raised_in before) in
-      let old : All K (seen_in F ++ (seen_in V ++ seen_in B)) = grind (arith, seen_parts) in
-      let rest : All K (seen_in V ++ seen_in B) = All-right K (seen_in F) (seen_in V ++ seen_in B) old in
-      let own : All K (seen_in V) = All-left K (seen_in V) (seen_in B) rest in
-      let low : IsAtLeast floor (seen_in V) = grind (arith, known_below) in
-      let up : IsAtLeast floor (raised_in V) = at_least_in floor (raised_in before) (raised_in V)
-      (λ x c. rw (raised_parts front v behind)
-      (Contains-append_right (raised_in F) _ x (Contains-append_left (raised_in V) (raised_in B) x c)))
-      h.floor.raised_below in
-      record {
-        claims = grind (arith, common_steps, claims_parts);
-        each = search (rules, replaced, worker_saw);
-        floor = search rules;
-        seen = rw raised (subst (All K) (sym seen)
-            (All-append K (seen_in F) _ (All-left K (seen_in F) _ old)
-            (All-append K (seen_in V ++ option_to_list floor) (seen_in B)
-            (All-append K (seen_in V) (option_to_list floor) own (one_there K floor h.floor.one_of_them))
-            (All-right K (seen_in V) (seen_in B) rest))));
-      }
-
   -- ---- a settle
-
-  -- a worker after it settled with this record
-  did : Worker → Record → Worker
-  did v r = record {
-    turn = Idle;
-    claims = v.claims;
-    records = v.records ++ r ∷ [];
-    pool =
-        fold taken v.pool (scanned_for t r);
-  }
 
   -- its pool has the best of all that it scanned, the record's candidates among them
   pool_did : (v : Worker) (r : Record) → v.pool ≡ pool_of t v.records
@@ -289,9 +267,10 @@ module _ (t : Task) (guess : Option ℤ) where
   turns_looked v m seen e = cc
 
   -- settling closes the open turn
-  turns_did : (v : Worker) (r : Record) → exchanges_of t (did v r) ≡ exchanges t [] v.records ++ done v r ∷ []
-  unfolding did done
-  turns_did v r = grind (arith, append-nil, exchanges-push)
+  turns_did : (v v' : Worker) (r : Record) → v'.turn ≡ Idle → v'.records ≡ v.records ++ r ∷ []
+      → exchanges_of t v' ≡ exchanges t [] v.records ++ done v r ∷ []
+  unfolding done
+  turns_did v v' r e f = grind (arith, append-nil, exchanges-push)
 
   -- the floor becomes the greater of itself and the score that was raised
   floor_did : (v : Worker) (r : Record) (floor : Option ℤ) → 0 < t.k → v.pool ≡ pool_of t v.records
@@ -300,79 +279,42 @@ module _ (t : Task) (guess : Option ℤ) where
   floor_did v r floor some e = grind (arith, pool_did, last_is_kth, scanned-push)
 
   -- a sound worker that settles stays sound
-  worker_did : (w : ℕ) (v : Worker) (m : ℕ) (seen : Option ℤ) → v.turn ≡ Looked m seen → IsSoundWorker t guess w v
-      → IsSoundWorker t guess w (did v (record_of t w m seen))
-  unfolding did done looking
-  worker_did w v m seen e h =
-      let r : Record = record_of t w m seen in
+  settle_sound : (w : ℕ) (s s' : State) (v v' : Worker) → IsSettle t w s s' v v' → IsSoundWorker t guess w v
+      → IsSoundWorker t guess w v'
+  unfolding done looking
+  settle_sound w s s' v v' d h =
+      let r : Record = record_of t w d.morsel d.seen in
       record {
-        rise = h.rise;
+        rise = rw d.claims h.rise;
         named = grind (arith, each-append);
         settled = grind (arith, append-nil, morsels-push);
         within = grind (arith, each-append);
-        turn = tt;
-        pool = pool_did v r h.pool;
+        turn = rw d.turn tt;
+        pool = d.pool ∙ pool_did v r h.pool ∙ ap (pool_of t) (sym d.records);
         skips = grind (arith, each-append);
-        upward = grind (arith, turns_did, upward-last, turns_looked);
+        upward = rw (turns_did v v' r d.turn d.records) (upward-last (option_to_list guess) (exchanges t [] v.records)
+            (looking d.seen) (done v r) refl (rw (turns_looked v d.morsel d.seen d.looked) at h.upward));
       }
 
-  -- a settle keeps the state sound
-  settle_keeps : (n : ℕ) (floor : Option ℤ) (front : List Worker) (v : Worker) (behind : List Worker) (m : ℕ)
-      (seen : Option ℤ) → 0 < t.k → v.turn ≡ Looked m seen → IsSoundWorker t guess (length front) v
-      → IsSoundState t guess (words n floor (front ++ v ∷ behind))
-      → IsSoundState t guess (words n (floor_after floor (record_of t (length front) m seen)
-      (fold taken v.pool (scanned_for t (record_of t (length front) m seen))))
-      (front ++ did v (record_of t (length front) m seen) ∷ behind))
-  unfolding words did done looking
-  settle_keeps n floor front v behind m seen some e own h =
-      let r : Record = record_of t (length front) m seen in
-      let v' : Worker = did v r in
-      let before : List Exchange = all_exchanges t (front ++ v ∷ behind) in
-      let after : List Exchange = all_exchanges t (front ++ v' ∷ behind) in
-      let F : List ℤ = raised_in (all_exchanges t front) in
-      let B : List ℤ = raised_in (all_exchanges t behind) in
-      let X : List Exchange = exchanges t [] v.records in
-      let z : List ℤ = option_to_list (done v r).raised in
-      let S : List ℤ = seen_in X ++ option_to_list seen in
-      let raised_old : raised_in before ≡ F ++ (raised_in X ++ B) = grind
-      (arith, raised_parts, turns_looked, raised_in-append, append-nil) in
-      let raised_new : raised_in after ≡ F ++ ((raised_in X ++ z) ++ B) = simp
-      (raised_parts, turns_did, raised_in-append, append-nil) in
-      let seen_old : seen_in before ≡ seen_in (all_exchanges t front) ++ (S ++ seen_in (all_exchanges t behind)) =
-      grind (arith, seen_parts, turns_looked, seen_in-append, append-nil) in
-      let seen_new : seen_in after ≡ seen_in (all_exchanges t front) ++ (S ++ seen_in (all_exchanges t behind)) =
-      simp (seen_parts, turns_did, seen_in-append, append-nil) in
-      let Old : List ℤ = F ++ (raised_in X ++ B) in
-      let New : List ℤ = F ++ ((raised_in X ++ z) ++ B) in
-      let sub : (x : ℤ) → Contains Old x → Contains New x = λ x c.
-      ⊎_elim (λ f. Contains-append_left F _ x f)
-      (λ d. ⊎_elim (λ y. Contains-append_right F _ x
-      (Contains-append_left (raised_in X ++ z) B x (Contains-append_left (raised_in X) z x y)))
-      (λ b. Contains-append_right F _ x (Contains-append_right (raised_in X ++ z) B x b))
-      (Contains-append_cases (raised_in X) B x d))
-      (Contains-append_cases F (raised_in X ++ B) x c) in
-      let one : (x : ℤ) → Contains z x → Contains New x =
-      λ x c. Contains-append_right F _ x (Contains-append_left (raised_in X ++ z) B x
-      (Contains-append_right (raised_in X) z x c)) in
-      let cases : (x : ℤ) → Contains New x → Contains Old x ⊎ Contains z x = λ x c.
-      ⊎_elim (λ f. inl (Contains-append_left F _ x f))
-      (λ d. ⊎_elim (λ y. ⊎_elim (λ a. inl (Contains-append_right F _ x (Contains-append_left (raised_in X) B x a)))
-      (λ b. inr b) (Contains-append_cases (raised_in X) z x y))
-      (λ b. inl (Contains-append_right F _ x (Contains-append_right (raised_in X) B x b)))
-      (Contains-append_cases (raised_in X ++ z) B x d))
-      (Contains-append_cases F ((raised_in X ++ z) ++ B) x c) in
-      let grown : IsFloorOf guess New (greater_floor floor (done v r).raised) =
-      floor-more guess Old New floor (done v r).raised
-      (rw raised_old at h.floor) sub one cases in
+  -- a settle raises the score of its turn, if there is one
+  settle_grows : (w : ℕ) (s s' : State) (v v' : Worker) → 0 < t.k → IsSettle t w s s' v v'
+      → v.pool ≡ pool_of t v.records → Grows s s' v v'
+  unfolding done looking
+  settle_grows w s s' v v' some d own =
+      let r : Record = record_of t w d.morsel d.seen in
+      let turns = turns_did v v' r d.turn d.records in
+      let before = turns_looked v d.morsel d.seen d.looked in
       record {
-        claims = grind (arith, common_steps, claims_parts);
-        each = grind (arith, replaced, worker_did);
-        floor = grind (arith, floor_did v r floor some own.pool);
-        seen = rw raised_new (subst (All (IsGuessOrRaised guess New)) (seen_old ∙ sym seen_new)
-            (All-weaker (IsGuessOrRaised guess Old) (IsGuessOrRaised guess New) (known_in guess Old New sub)
-            (seen_in before) (subst (λ (l : List ℤ). All (IsGuessOrRaised guess l) (seen_in before)) raised_old
-            h.seen)));
+        saw = [];
+        up = (done v r).raised;
+        claims = grind arith;
+        seen = simp (turns, before, seen_in-append, append-nil);
+        raised = simp (turns, before, raised_in-append, append-nil);
+        floor = d.floor ∙ ap (floor_after s.floor r) d.pool ∙ floor_did v r s.floor some own;
+        known = All-nil _;
       }
+
+  -- ---- a step
 
   -- the worker at a place is sound
   worker_at : (w : ℕ) (front : List Worker) (v : Worker) (behind : List Worker)
@@ -380,48 +322,48 @@ module _ (t : Task) (guess : Option ℤ) where
   worker_at w [] v behind h = search rules
   worker_at w (u ∷ us) v behind h = grind (arith, worker_at (w + 1) us v behind h.1)
 
-  -- what an event that is awaited does keeps the state sound
-  moved_keeps : (s : State) (e : Event) (v : Worker) (turn : Turn) → 0 < t.k → At s.workers (worker_of e) v
-      → v.turn ≡ turn → is_awaited turn e ≡ true → IsSoundState t guess s → IsSoundState t guess (moved t s e v turn)
-  unfolding words drew saw did
-  moved_keeps s (Claim w) v Idle some a is ok h = grind (
-    arith,
-    claim_keeps s.next s.floor a.front v a.behind is
-        (subst (λ (l : List Worker). IsSoundState t guess (record { next = s.next; floor = s.floor; workers = l }))
-        a.parts h),
-  )
-  moved_keeps s (Look w) v (Claimed m) some a is ok h = grind (
-    arith,
-    look_keeps s.next s.floor a.front v a.behind m is
-        (subst (λ (l : List Worker). IsSoundState t guess (record { next = s.next; floor = s.floor; workers = l }))
-        a.parts h),
-  )
-  moved_keeps s (Settle w) v (Looked m seen) some a is ok h =
-      let here : IsSoundState t guess (record { next = s.next; floor = s.floor; workers = a.front ++ v ∷ a.behind }) =
-      search rules in
-      let zero_more : 0 + length a.front ≡ length a.front = omega arith in
-      let own : IsSoundWorker t guess (length a.front) v =
-      grind (arith, worker_at) in
-      let out : (n : ℕ) → length a.front ≡ n → IsSoundState t guess
-      (record {
-        next = s.next;
-        floor = floor_after s.floor (record_of t n m seen)
-            (fold taken v.pool (scanned_for t (record_of t n m seen)));
-        workers =
-            a.front ++ did v (record_of t n m seen) ∷ a.behind;
-      })
-      = grind (arith, settle_keeps s.next s.floor a.front v a.behind m seen some is own here) in
-      rw (a.put (did v (record_of t w m seen))) (out w a.place)
-  moved_keeps s e v turn some a is ok h = absurd cc
+  -- a sound worker among those of a sound state claimed less than next, and its floors are at most the state's
+  record IsBelow (s : State) (v : Worker) : Type 0 where
+    claims : AllByRecursion (λ y. y < s.next) v.claims
+    seen : IsAtLeast s.floor (seen_in (exchanges_of t v))
+    raised : IsAtLeast s.floor (raised_in (exchanges_of t v))
+
+  -- each worker of a sound state is such
+  is_below : (s : State) (front : List Worker) (v : Worker) (behind : List Worker) → s.workers ≡ front ++ v ∷ behind
+      → IsSoundState t guess s → IsBelow s v
+  is_below s front v behind e h = record {
+    claims = recursion_from_All (λ y. y < s.next) v.claims (All-middle (λ y. y < s.next) (claims_in front) v.claims
+        (claims_in behind) (All-same (λ y. y < s.next) _ _ (sym (grind (arith, flat_map-append)))
+        (all_below s.next (claims_in s.workers) h.claims)));
+    seen = All-middle (Under s.floor) (seen_in (all_exchanges t front)) (seen_in (exchanges_of t v))
+        (seen_in (all_exchanges t behind)) (All-same (Under s.floor) _ _ (sym (seen_parts s.workers front v behind e))
+        (All-weaker _ (Under s.floor) (known_below _ s.floor h.floor) _ h.seen));
+    raised = All-middle (Under s.floor) (raised_in (all_exchanges t front)) (raised_in (exchanges_of t v))
+        (raised_in (all_exchanges t behind)) (All-same (Under s.floor) _ _
+        (sym (raised_parts s.workers front v behind e)) h.floor.raised_below);
+  }
+
+  -- what an event does keeps the state sound
+  does_keeps : (s s' : State) (e : Event) (v v' : Worker) → 0 < t.k → At s.workers (worker_of e) v
+      → s'.workers ≡ slice_set s.workers (worker_of e) v' → Does t e s s' v v' → IsSoundState t guess s
+      → IsSoundState t guess s'
+  does_keeps s s' (Claim w) v v' some a put d h = grows_keeps s s' a.front a.behind v v' a.parts (put ∙ a.put v')
+      (claim_grows s s' v v' d) h
+      (λ n at. claim_sound n s s' v v' d (is_below s a.front v a.behind a.parts h).claims)
+  does_keeps s s' (Look w) v v' some a put d h =
+      let low = is_below s a.front v a.behind a.parts h in
+      grows_keeps s s' a.front a.behind v v' a.parts (put ∙ a.put v') (look_grows s s' v v' d h) h
+      (λ n at. look_sound n s s' v v' d h.floor.guess_below low.seen low.raised)
+  does_keeps s s' (Settle w) v v' some a put d h =
+      let own = worker_at 0 a.front v a.behind (rw a.parts at h.each) in
+      grows_keeps s s' a.front a.behind v v' a.parts (put ∙ a.put v') (settle_grows w s s' v v' some d own.pool) h
+      (λ n at. settle_sound n s s' v v' (subst (λ m. IsSettle t m s s' v v') (sym (at ∙ a.place)) d))
 
   -- each step keeps the state sound
   step_keeps : (s s' : State) (e : Event) → 0 < t.k → IsSoundState t guess s → IsStep t s e s'
       → IsSoundState t guess s'
-  step_keeps s s' e some h step =
-      let done_so = (steps_computed t s s' e).0 step in
-      let a : IsAccepted s e = accepted s e done_so.0 in
-      rw (← sym (done_so.1 ∙ after_here t s e a.worker a.here))
-      (moved_keeps s e a.worker a.worker.turn some (at s.workers (worker_of e) a.worker a.here) refl a.awaited h)
+  step_keeps s s' e some h step = does_keeps s s' e step.before step.after some
+      (at s.workers (worker_of e) step.before step.here) step.others step.does h
 
   -- ---- the start
 
@@ -450,18 +392,13 @@ module _ (t : Task) (guess : Option ℤ) where
   itself None = tt
   itself (Some x) = inl refl
 
-  -- a floor that is the guess is at least the guess
-  above_itself : (o : Option ℤ) → IsAtLeast o (option_to_list o)
-  above_itself None = All-nil _
-  above_itself (Some x) = grind (arith, ints, one_there)
-
   -- where the next number is the first, none was drawn
   none_times : (x : ℕ) → times x [] ≡ times_below x 0
   none_times x = search rules
 
   -- the start is sound
   start_sound : (workers : ℕ) → IsSoundState t guess (started t workers guess)
-  start_sound workers = grind (arith, no_claims, none_times, new_from, no_turns, itself, above_itself)
+  start_sound workers = grind (arith, no_claims, none_times, new_from, no_turns, itself, greater_own None guess)
 
 -- the start is sound, and a step keeps it so
 pub runs_sound : RunsAreSound

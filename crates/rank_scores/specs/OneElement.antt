@@ -1,5 +1,6 @@
 -- What a query needs of all data, the series of its element, as statements for the contract of a public function.
-use Rattle.std.specs.Prelude.{◌≡◌, Some}
+use Rattle.std.specs.Prelude.{◌≡◌}
+use Rattle.ghcn_files.specs.declared.element.Keep.TheVariants.{One}
 use Rattle.ghcn_series.specs.Series.{Contents}
 use Rattle.ghcn_series.specs.Kept.{kept}
 use Rattle.rank_query.specs.Asked.{Asked, score_element}
@@ -7,7 +8,7 @@ use Rattle.rank_scores.specs.Morsels.{admitted_series, all_candidates, morsels, 
 
 -- what a query needs of these data: of all series, those of its element
 abbrev pub data_for : Asked → Contents → Contents
-data_for q c = kept (Some (score_element q.score)) c
+data_for q c = kept (One (score_element q.score)) c
 
 -- in what a query needs of any data, it is about the same series as in all of them
 abbrev pub SeriesStay : Type 0

@@ -5,7 +5,7 @@ ghost use Rattle.rank_input.specs.Taken.{HasTakenSome};
 use ghcn_fields::Memory;
 use ghcn_files::{LineWhy, StationWhy};
 use ghcn_series::DailyWhy;
-use rank_input::{Fault, Intake, workers_for};
+use rank_input::{Fault, Intake, Taker, workers_for};
 use std::alloc::Global;
 use std::test::Fail;
 

@@ -4,7 +4,7 @@ use super::*;
 use crate::rank::rank_intake;
 use ghcn_files::LineWhy;
 use ghcn_series::DailyWhy;
-use rank_input::{Intake, feed};
+use rank_input::{Intake, Taker, feed};
 use std::alloc::{AllocError, Global};
 use std::process::Abort;
 use std::sync::Wait;
@@ -84,7 +84,7 @@ fn sources_are_fed_whole(rt: HostRuntime) {
         let mut buffer = [0; 4096];
         let mut intake = Intake::new(rt.alloc(), "top 3 highest TMAX", STATIONS);
         let mut source: &[u8] = DAILY;
-        assert!(rt; feed(&mut intake, &mut source, &mut buffer[..length]).is_ok());
+        assert!(rt; feed(&mut intake, &mut source, &mut buffer[..length.min(4096)]).is_ok());
         let bytes = intake.bytes;
         let found = rank_intake(&rt, intake, 1, None, &Open).answer;
         let report = found.as_ref().map(|papers| papers.report.as_slice()).ok();

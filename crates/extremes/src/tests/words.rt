@@ -161,9 +161,21 @@ fn commands_to_check_a_part(rt: HostRuntime) -> Result<(), Fail> {
 }
 
 #[test]
+fn commands_to_describe(rt: HostRuntime) -> Result<(), Fail> {
+    let describe = words_of(rt.alloc(), &["describe", "a", "--stations=s", "b"])?;
+    let Ok(Command::Describe { stations, files }) = command(rt.alloc(), describe) else {
+        return Err(Fail::from("no command to describe"));
+    };
+    assert_eq!(rt; stations.as_str(), "s");
+    assert!(rt; are_words(files.as_slice(), &["a", "b"]));
+    Ok(())
+}
+
+#[test]
 fn commands_that_lack_an_option(rt: HostRuntime) -> Result<(), Fail> {
-    let cases: [&[&str]; 2] = [
+    let cases: [&[&str]; 3] = [
         &["rank", "--query", "q"],
+        &["describe", "a"],
         &["check", "--stations=s", "--query=q", "--report=r"],
     ];
     for words in cases {
@@ -217,6 +229,10 @@ fn helps_of_commands(rt: HostRuntime) -> Result<(), Fail> {
         (
             "check",
             "\n  NotBest          fewer or more candidates precede it",
+        ),
+        (
+            "describe",
+            "\n  others lines N           lines with further codes",
         ),
         (
             "rank",

@@ -1,7 +1,9 @@
 //! Worked examples of the lines of daily files.
 
 use crate::lines::line_of;
-use ghcn_files::{Element, LineWhy, Reading, StationId, flagged_values, read_days, read_month};
+use ghcn_files::{
+    Element, Keep, LineWhy, Reading, StationId, flagged_values, read_days, read_month,
+};
 
 /// The station, the element, the year and the month of a line.
 type Head = (StationId, Element, u16, u8);
@@ -20,8 +22,8 @@ fn month_of(line: &[u8]) -> Result<Option<(Head, Three)>, LineWhy> {
 /// The row of a line's days: the word, and the values of the 1st, 2nd, 3rd, 29th and 31st day.
 type Days = (u32, [i32; 5]);
 
-fn row_of(line: &[u8], asked: Option<Element>) -> Result<Option<(Head, Days)>, LineWhy> {
-    let Some(it) = read_days(line, asked)? else {
+fn row_of(line: &[u8], keep: Keep) -> Result<Option<(Head, Days)>, LineWhy> {
+    let Some(it) = read_days(line, keep)? else {
         return Ok(None);
     };
     let values = [
@@ -68,7 +70,7 @@ fn months(rt: HostRuntime) {
         } else {
             (0x40000001, [311, 0, 0, 0, -15])
         };
-        let found = row_of(&july[..columns], None);
+        let found = row_of(&july[..columns], Keep::All);
         assert_eq!(rt;
             found,
             Ok(Some((head, days))),
@@ -82,9 +84,9 @@ fn months(rt: HostRuntime) {
 fn faults_of(line: &[u8]) -> [Option<LineWhy>; 4] {
     [
         read_month(line).err(),
-        read_days(line, None).err(),
-        read_days(line, Some(Element::Tmax)).err(),
-        read_days(line, Some(Element::Snow)).err(),
+        read_days(line, Keep::All).err(),
+        read_days(line, Keep::One(Element::Tmax)).err(),
+        read_days(line, Keep::Nothing).err(),
     ]
 }
 
@@ -193,13 +195,13 @@ fn rows_of_months(rt: HostRuntime) {
         ),
     ];
     for (text, head, days) in cases {
-        let found = row_of(&line_of(text, &GROUPS), None);
+        let found = row_of(&line_of(text, &GROUPS), Keep::All);
         assert_eq!(rt; found, Ok(Some((head, days))), "at {text:?}");
     }
 }
 
 #[test]
-fn rows_of_the_element_that_is_asked_for(rt: HostRuntime) {
+fn rows_of_elements_that_are_kept(rt: HostRuntime) {
     let july = line_of(
         b"ZZA00000001202007TMAX",
         &[(1, b"  311   "), (31, b"  -15   ")],
@@ -209,15 +211,15 @@ fn rows_of_the_element_that_is_asked_for(rt: HostRuntime) {
     let kept = (0x40000001, [311, 0, 0, 0, -15]);
     let none = (0, [0; 5]);
     let cases = [
-        (None, true, kept),
-        (Some(Element::Tmax), true, kept),
-        (Some(Element::Tmin), false, none),
-        (Some(Element::Prcp), false, none),
+        (Keep::All, true, kept),
+        (Keep::One(Element::Tmax), true, kept),
+        (Keep::One(Element::Tmin), false, none),
+        (Keep::Nothing, false, none),
     ];
-    for (asked, is_kept, days) in cases {
-        assert_eq!(rt; Element::Tmax.is_kept(asked), is_kept, "for {asked:?}");
-        let rows = [row_of(&july, asked), row_of(cut, asked)];
-        assert_eq!(rt; rows, [Ok(Some((head, days))); 2], "at {asked:?}");
+    for (keep, is_kept, days) in cases {
+        assert_eq!(rt; Element::Tmax.is_kept(keep), is_kept, "for {keep:?}");
+        let rows = [row_of(&july, keep), row_of(cut, keep)];
+        assert_eq!(rt; rows, [Ok(Some((head, days))); 2], "at {keep:?}");
     }
 }
 
@@ -230,13 +232,13 @@ fn lines_of_other_elements(rt: HostRuntime) {
     ];
     for line in lines {
         assert_eq!(rt; month_of(line), Ok(None), "at {line:?}");
-        assert_eq!(rt; row_of(line, None), Ok(None), "the row at {line:?}");
+        assert_eq!(rt; row_of(line, Keep::All), Ok(None), "the row at {line:?}");
     }
 }
 
 /// How many values of a line are flagged, where it is a month.
 fn flagged_of(line: &[u8]) -> Result<Option<u32>, LineWhy> {
-    match read_days(line, None)? {
+    match read_days(line, Keep::All)? {
         Some(row) => Ok(Some(flagged_values(line, &row))),
         None => Ok(None),
     }

@@ -7,7 +7,7 @@ use super::{A, JULY, STATIONS, has_series};
 use crate::lines::line_of;
 use ghcn_fields::Memory;
 use ghcn_files::{Element, Stations};
-use ghcn_series::{DailyWhy, Data, DataFault, DataReader};
+use ghcn_series::{DailyWhy, Data, DataFault, DataReader, Foreign};
 use std::alloc::Global;
 
 /// A reader of the two stations' files.
@@ -159,4 +159,47 @@ fn files_end_where_they_are_ended(rt: HostRuntime) {
         why: DailyWhy::DuplicateMonth,
     };
     assert_eq!(rt; fault_of_files(rt.alloc(), &july), Ok(Some(fault)));
+}
+
+/// The foreign files among some, each of which comes in halves.
+fn foreign_of(alloc: Global, files: &[&[u8]]) -> Result<Option<Foreign>, DataFault> {
+    let mut reader = reader(alloc)?;
+    for file in files {
+        let (front, behind) = file.split_at(file.len() / 2);
+        reader.piece(front);
+        reader.piece(behind);
+        reader.end_of_file();
+    }
+    Ok(reader.foreign())
+}
+
+/// So many foreign files, of which this is the first.
+fn told(count: u64, first: Option<u64>) -> Result<Option<Foreign>, DataFault> {
+    Ok(Some(Foreign { count, first }))
+}
+
+#[test]
+fn files_without_one_of_the_elements(rt: HostRuntime) {
+    let july = line_of(b"ZZA00000001202007TMAX", &[(1, b"  311   ")]);
+    let other = line_of(b"ZZA00000001202007WESD", &[(1, b"  311   ")]);
+    let unlisted = line_of(b"ZZX00000001202007SNWD", &[(1, b"  311   ")]);
+    let both = three_lines(b"ZZA00000001202007WESD");
+    let table = *b"STATION,DATE,ELEMENT,VALUE\n";
+    let alloc = rt.alloc();
+    assert_eq!(rt; foreign_of(alloc, &[&july, b"", b" \r\n\n"]), told(0, None));
+    assert_eq!(rt;
+        foreign_of(alloc, &[&july, &other, &table]),
+        told(2, Some(1))
+    );
+    assert_eq!(rt;
+        foreign_of(alloc, &[&table, &other, &table]),
+        told(3, Some(0))
+    );
+    assert_eq!(rt; foreign_of(alloc, &[&both, &unlisted]), told(0, None));
+    assert_eq!(rt; foreign_of(alloc, &[b"", b"", &other]), told(1, Some(2)));
+    assert_eq!(rt;
+        foreign_of(alloc, &[b"\n", &table, &unlisted]),
+        told(1, Some(1))
+    );
+    assert_eq!(rt; foreign_of(alloc, &[&other, b"short"]), Ok(None));
 }

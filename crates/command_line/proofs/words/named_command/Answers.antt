@@ -1,14 +1,14 @@
 use Rattle.std.proofs.Common.{◌≡◌, ◌∙◌, inl, inr, map, true, false, refl, ap, ap₂, subst, sym}
-use Rattle.std.proofs.Common.{codes, IsSome}
+use Rattle.std.proofs.Common.{codes, IsSome, Some}
 use Rattle.std.proofs.lemmas.Result.{IfOk-weaker, IfErr-weaker}
-use Rattle.clap.specs.Words.{App, app_of, is_simple, fault_of, is_simple_and_free, subcommand_of}
+use Rattle.clap.specs.Words.{App, Text, app_of, is_simple, fault_of, is_simple_and_free, subcommand_of}
 use Rattle.clap.specs.Words.{found_of, rows_of, subcommand_rows_of, has_subcommand, IsAmong}
 use Rattle.clap.specs.declared.error.ErrorKind.TheVariants.{DisplayVersion}
 use Rattle.clap.proofs.CallerLemmas.{subcommand_required}
 use Rattle.clap.proofs.OnLiterals.{clap_on_literals}
 use Rattle.command_line.specs.CommandLine.{extremes_app, words_of, MayAskVersion, OnVersion}
-use Rattle.command_line.proofs.CommandLines.{only_memory, only_version, version_among, never_told, not_asked, only_three}
-use Rattle.command_line.proofs.CommandLines.{met_one, met_rows, command-met}
+use Rattle.command_line.proofs.CommandLines.{only_memory, only_version, version_among, never_told, not_asked, only_four}
+use Rattle.command_line.proofs.CommandLines.{IsName, met_one, met_rows, command-met}
 use Rattle.command_line.proofs.words.named_command.Goals as goal
 
 -- the program's command line is simple
@@ -50,7 +50,7 @@ returns-in-Err-clause-asked c =
     (version_among _ _ c.fault_of.result c.fault_of.ensures.asked
     (c.in-Err.ensures.kinds (ap is_simple_and_free app_is ∙ is_free_app)))
 
--- a command line without a fault has met `rank`, `merge` or `check`
+-- a command line without a fault has met `rank`, `merge`, `check` or `describe`
 pub unreachable-requires : goal.unreachable-requires
 unreachable-requires c =
     let words_are : map (λ s. s.now) c.as_slice.result.now ≡ words_of c.args.words.now
@@ -63,16 +63,19 @@ unreachable-requires c =
     c.in_ok-program.ensures.local needs in
     let rows_are : subcommand_rows_of m ≡ subcommand_of extremes_app (words_of c.args.words.now)
     = (c.in-Ok.ensures.matches (ap is_simple app_is ∙ is_simple_app)).1 ∙ ap₂ subcommand_of app_is words_are in
-    let named = met_one _ _ (codes "rank") (codes "merge") (codes "check") has rows_are
-    (only_three (words_of c.args.words.now)) in
-    elim named [
-      | inl is ↦ let bad : false ≡ true =
-          subst (λ o. IsSome o) c.in_default.is (c.subcommand_matches.ensures.found.1 is) in cc
+    let named = met_one IsName _ _ has rows_are (only_four (words_of c.args.words.now)) in
+    elim named.2 [
+      | inl is ↦ let bad : false ≡ true = subst (λ o. IsSome o) c.in_default.is
+          (c.subcommand_matches.ensures.found.1 (named.1 ∙ ap (λ (n : Text). Some n) is)) in cc
       | inr others ↦ elim others [
-        | inl is ↦ let bad : false ≡ true =
-            subst (λ o. IsSome o) c.in_default-subcommand_matches.is (c.subcommand_matches-2.ensures.found.1 is) in cc
-        | inr is ↦ let bad : false ≡ true =
-            subst (λ o. IsSome o) c.in_default-subcommand_matches-2.is (c.subcommand_matches-3.ensures.found.1 is) in cc
+        | inl is ↦ let bad : false ≡ true = subst (λ o. IsSome o) c.in_default-subcommand_matches.is
+            (c.subcommand_matches-2.ensures.found.1 (named.1 ∙ ap (λ (n : Text). Some n) is)) in cc
+        | inr last ↦ elim last [
+          | inl is ↦ let bad : false ≡ true = subst (λ o. IsSome o) c.in_default-subcommand_matches-2.is
+              (c.subcommand_matches-3.ensures.found.1 (named.1 ∙ ap (λ (n : Text). Some n) is)) in cc
+          | inr is ↦ let bad : false ≡ true = subst (λ o. IsSome o) c.in_default-subcommand_matches-3.is
+              (c.subcommand_matches-4.ensures.found.1 (named.1 ∙ ap (λ (n : Text). Some n) is)) in cc
+        ]
       ]
     ]
 
@@ -131,9 +134,9 @@ pub returns-in-Some-subcommand_matches-clause-asked : goal.returns-in-Some-subco
 returns-in-Some-subcommand_matches-clause-asked c =
     IfErr-weaker c.merge_of.result _ _ (never_told (MayAskVersion (words_of c.args.words.now))) c.merge_of.ensures.asked
 
--- and what is read behind `check` is its command
-pub returns-clause-ok : goal.returns-clause-ok
-returns-clause-ok c =
+-- what is read behind `check` is its command
+pub returns-in-Some-subcommand_matches-2-clause-ok : goal.returns-in-Some-subcommand_matches-2-clause-ok
+returns-in-Some-subcommand_matches-2-clause-ok c =
     let words_are : map (λ s. s.now) c.as_slice.result.now ≡ words_of c.args.words.now
     = ap (map (λ s. s.now)) c.as_slice.ensures.value ∙ c.in_ok-all.ensures in
     let app_is : app_of c.in_ok-program.field-0 ≡ extremes_app = c.in_ok-program.ensures.app in
@@ -143,4 +146,18 @@ returns-clause-ok c =
     (ap₂ fault_of (sym app_is) (sym words_are)
     ∙ c.in-Ok.ensures.kinds (ap is_simple_and_free app_is ∙ is_free_app)) rows_are
     (c.subcommand_matches-3.ensures.found.0 (subst (λ o. IsSome o) (sym c.in-Some-subcommand_matches-2.is) refl))
-    c.in-Some-subcommand_matches-2.ensures.rows (inr (inr (refl, c.in_ok-check_of.ensures)))
+    c.in-Some-subcommand_matches-2.ensures.rows (inr (inr (inl (refl, c.in_ok-check_of.ensures))))
+
+-- and what is read behind `describe` is its command
+pub returns-clause-ok : goal.returns-clause-ok
+returns-clause-ok c =
+    let words_are : map (λ s. s.now) c.as_slice.result.now ≡ words_of c.args.words.now
+    = ap (map (λ s. s.now)) c.as_slice.ensures.value ∙ c.in_ok-all.ensures in
+    let app_is : app_of c.in_ok-program.field-0 ≡ extremes_app = c.in_ok-program.ensures.app in
+    let rows_are : subcommand_rows_of c.in-Ok.matches ≡ subcommand_of extremes_app (words_of c.args.words.now)
+    = (c.in-Ok.ensures.matches (ap is_simple app_is ∙ is_simple_app)).1 ∙ ap₂ subcommand_of app_is words_are in
+    command-met _ _ (codes "describe") (rows_of (found_of c.in-Some-subcommand_matches-3.describe.now)) _
+    (ap₂ fault_of (sym app_is) (sym words_are)
+    ∙ c.in-Ok.ensures.kinds (ap is_simple_and_free app_is ∙ is_free_app)) rows_are
+    (c.subcommand_matches-4.ensures.found.0 (subst (λ o. IsSome o) (sym c.in-Some-subcommand_matches-3.is) refl))
+    c.in-Some-subcommand_matches-3.ensures.rows (inr (inr (inr (refl, c.in_ok-describe_of.ensures))))

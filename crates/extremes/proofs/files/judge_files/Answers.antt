@@ -1,6 +1,7 @@
 use Rattle.std.proofs.Common.{List, Global, String, map, sym, subst}
 use Rattle.std.specs.Prelude.{string_bytes}
 use Rattle.rank_input.specs.Feeding.{AreAllOf, FeedsFiles}
+use Rattle.rank_input.specs.Taken.{HasTaken}
 use Rattle.extremes.proofs.FedRuns.{judges-files, judges-memory}
 use Rattle.extremes.proofs.files.judge_files.Goals as goal
 
@@ -10,19 +11,24 @@ returns-in_default-piece_room g c =
     judges-memory (g.A.Archive.bytes_of c.args.archive.now) c.args.judging.now c.deref.result.now
     c.in-Ok.stations.items _ _ c.deref.ensures c.in-Ok.ensures c.in_ok-papers.ensures
 
+-- the intake was given something
+pub feed_files-requires : goal.feed_files-requires
+feed_files-requires g c = (_, c.new-intake.ensures)
+
 -- what was fed is judged
 pub returns : goal.returns
 returns g c =
     let bytes_of = g.A.Archive.bytes_of c.args.archive.now in
-    judges-files bytes_of c.args.judging.now c.new-intake.result c.feed_files.new.intake c.deref-2.result.now
-    c.deref.result.now c.deref-3.result.now c.deref-5.result.now c.deref-6.result.now c.judge_as.result
-    c.deref-2.ensures c.deref.ensures
+    judges-files bytes_of c.args.judging.now c.new-intake.result c.feed_files.new.taker c.deref-2.result.now
+    c.deref.result.now c.deref-3.result.now c.deref-5.result.now c.deref-6.result.now c.judge_as-judged.result
+    c.foreign-foreign.result c.deref-2.ensures c.deref.ensures
     (subst (AreAllOf (bytes_of c.deref.result.now)) (sym c.deref-3.ensures.value) c.in-Ok.ensures) (
       subst (AreAllOf (bytes_of (string_bytes c.args.judging.now.papers.report))) (sym c.deref-5.ensures.value)
           c.in_ok-papers.ensures.0,
       subst (AreAllOf (bytes_of (string_bytes c.args.judging.now.papers.certificate))) (sym c.deref-6.ensures.value)
           c.in_ok-papers.ensures.1,
     )
-    c.new-intake.ensures (subst (λ (fs : List (String Global)). FeedsFiles c.new-intake.result c.feed_files.new.intake
+    c.new-intake.ensures (subst (λ (fs : List (String Global)).
+    FeedsFiles HasTaken c.new-intake.result c.feed_files.new.taker
     (map (λ f. bytes_of (string_bytes f)) fs)) c.deref-4.ensures.value c.in_ok-feed_files.ensures.fed)
-    c.judge_as.ensures.ok c.judge_as.ensures.err
+    c.judge_as-judged.ensures.ok c.judge_as-judged.ensures.err c.foreign-foreign.ensures

@@ -1,6 +1,6 @@
 use Rattle.std.specs.Prelude.{map}
 use Rattle.std.proofs.lemmas.Result.{IfOk-weaker, IfErr-weaker}
-use Rattle.rank_input.specs.Taken.{given}
+use Rattle.rank_input.specs.Takes.{given}
 use Rattle.extremes.proofs.judge.judge.Goals as goal
 
 -- the verdict is that on the texts

@@ -1,6 +1,6 @@
 use Rattle.std.specs.Prelude.{map}
 use Rattle.std.proofs.lemmas.Result.{IfOk-weaker, IfErr-weaker}
-use Rattle.rank_input.specs.Taken.{given}
+use Rattle.rank_input.specs.Takes.{given}
 use Rattle.extremes.proofs.FedRuns.{input_refuses}
 use Rattle.extremes.proofs.rank.rank.Goals as goal
 

@@ -1,5 +1,5 @@
 use Rattle.std.specs.Prelude.{map}
-use Rattle.rank_input.specs.Taken.{given}
+use Rattle.rank_input.specs.Takes.{given}
 use Rattle.extremes.proofs.rank.rank_serial.Goals as goal
 use Rattle.extremes.proofs.Answering.{answers_input, serial_input}
 

@@ -30,3 +30,10 @@ pub returns-in-Check : goal.returns-in-Check
 returns-in-Check g c =
     subst (λ (a : Command). IsRun (g.A.Archive.bytes_of c.args.archive.now) a (g.W.Write.contents c.args.out.now)
     (g.W.Write.contents c.run_judging.new.out) c.run_judging.result) (sym c.in-Check.is) c.run_judging.ensures
+
+-- or the files that are named are described
+pub returns-in-Describe : goal.returns-in-Describe
+returns-in-Describe g c =
+    subst (λ (a : Command). IsRun (g.A.Archive.bytes_of c.args.archive.now) a (g.W.Write.contents c.args.out.now)
+    (g.W.Write.contents c.run_describing.new.out) c.run_describing.result) (sym c.in-Describe.is)
+    c.run_describing.ensures

@@ -4,4 +4,9 @@ use Rattle.extremes.proofs.run.run_ranking.Goals as goal
 -- the ranking is printed
 pub returns-in-Ok : goal.returns-in-Ok
 returns-in-Ok g c =
-    inr (record { answer = c.in-Ok.ranked.answer; ranked = c.in-Ok.ensures; printed = c.print_ranked.ensures })
+    inr (record {
+      answer = c.in-Ok.ranked.answer;
+      foreign = c.in-Ok.foreign;
+      ranked = c.in-Ok.ensures;
+      printed = c.print_ranked.ensures;
+    })

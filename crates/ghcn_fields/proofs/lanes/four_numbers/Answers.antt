@@ -1,24 +1,17 @@
-use Rattle.std.proofs.Common.{rules, ◌≡◌, ℕ, [], ◌∷◌, ◌++◌, map, get_or, subst, ◌∙◌}
+use Rattle.std.proofs.Common.{rules, ◌≡◌, ℕ, [], ◌∷◌, ◌++◌, map, get_or, subst, ◌∙◌, arith}
 use Rattle.std.proofs.Common.{ℤ, w32, to_z, of_z}
 use Rattle.std.proofs.lemmas.Int.{to_z-of_z}
 use Rattle.std.proofs.lemmas.Simd.{dot4_Fits}
+use lib.Lanes.{chunk}
 use Rattle.ghcn_fields.specs.Groups.{AreNumbers}
-use Rattle.ghcn_fields.proofs.GroupLanes.{digit_lane, one, ten, digits_fit, ones_fit, size-small, groups-read, by_fours}
-use Rattle.ghcn_fields.proofs.GroupLanes.{fronts, backs}
+use Rattle.ghcn_fields.proofs.GroupLanes.{front_lane, digits_fit, size-small, last-small, groups-read, by_fours}
+use Rattle.ghcn_fields.proofs.GroupLanes.{fronts}
 use Rattle.ghcn_fields.proofs.lanes.four_numbers.Goals as goal
 
--- the last digits are bytes
-pub dot4-lasts : goal.dot4-lasts
-dot4-lasts c = (
-  dot4_Fits (map digit_lane (backs c.args.columns.now)) (by_fours 1 0 0 0)
-      (digits_fit (backs c.args.columns.now)) tt,
-  tt,
-)
-
--- so are the others
+-- the digits are bytes
 pub dot4-hundreds : goal.dot4-hundreds
 dot4-hundreds c = (
-  dot4_Fits (map digit_lane (fronts c.args.columns.now)) (by_fours 10 1 0 0)
+  dot4_Fits (map front_lane (fronts c.args.columns.now)) (by_fours 10 1 0 0)
       (digits_fit (fronts c.args.columns.now)) tt,
   tt,
 )
@@ -26,22 +19,42 @@ dot4-hundreds c = (
 -- for either weights
 pub dot4-tens : goal.dot4-tens
 dot4-tens c = (
-  dot4_Fits (map digit_lane (fronts c.args.columns.now)) (by_fours 0 0 10 1)
+  dot4_Fits (map front_lane (fronts c.args.columns.now)) (by_fours 0 0 10 1)
       (digits_fit (fronts c.args.columns.now)) tt,
   tt,
 )
 
--- and the lanes of 1
-pub dot4-numbers : goal.dot4-numbers
-dot4-numbers c =
-    let tests = map ten (backs c.args.columns.now) in
-    (dot4_Fits (map one tests) (by_fours 1 0 0 0) (ones_fit tests) tt, tt)
-
 -- five digits write no more
+pub number_if-requires : goal.number_if-requires
+number_if-requires c =
+    let xs = c.args.columns.now in
+    let ys = chunk 0 32 xs in
+    let at = λ (j : ℕ). get_or (ys ++ ys) j 0 in
+    size-small (at 0) (at 1) (at 2) (at 3) _ (last-small xs 0 (omega arith))
+
+-- nor in the second group
+pub number_if-requires-2 : goal.number_if-requires-2
+number_if-requires-2 c =
+    let xs = c.args.columns.now in
+    let ys = chunk 0 32 xs in
+    let at = λ (j : ℕ). get_or (ys ++ ys) j 0 in
+    size-small (at 8) (at 9) (at 10) (at 11) _ (last-small xs 1 (omega arith))
+
+-- nor in the third
+pub number_if-requires-3 : goal.number_if-requires-3
+number_if-requires-3 c =
+    let xs = c.args.columns.now in
+    let ys = chunk 0 32 xs in
+    let at = λ (j : ℕ). get_or (ys ++ ys) j 0 in
+    size-small (at 16) (at 17) (at 18) (at 19) _ (last-small xs 2 (omega arith))
+
+-- nor in the last
 pub number_if-requires-4 : goal.number_if-requires-4
 number_if-requires-4 c =
-    let at = λ (j : ℕ). get_or (c.args.columns.now ++ c.args.columns.now) j 0 in
-    size-small (at 24) (at 25) (at 26) (at 27) (at 28) (at 29) (at 30) (at 31)
+    let xs = c.args.columns.now in
+    let ys = chunk 0 32 xs in
+    let at = λ (j : ℕ). get_or (ys ++ ys) j 0 in
+    size-small (at 24) (at 25) (at 26) (at 27) _ (last-small xs 3 (omega arith))
 
 -- each group has the number that its lanes say
 pub returns : goal.returns
@@ -52,7 +65,7 @@ returns c =
     subst (λ (z : ℤ). AreNumbers z c.args.columns.now (at c.number_if.result ∷ at c.number_if-2.result
     ∷ at c.number_if-3.result ∷ at c.number_if-4.result ∷ [])) near
     (groups-read other c.args.columns.now (at c.number_if.result) (at c.number_if-2.result) (at c.number_if-3.result)
-    (at c.number_if-4.result) c.told-columns c.fits-columns
+    (at c.number_if-4.result) c.told-columns
     (to_z-of_z w32 c.number_if.result (search rules) ∙ c.number_if.ensures)
     (to_z-of_z w32 c.number_if-2.result (search rules) ∙ c.number_if-2.ensures)
     (to_z-of_z w32 c.number_if-3.result (search rules) ∙ c.number_if-3.ensures)

@@ -3,11 +3,13 @@ use Rattle.std.specs.Int.{int_min}
 use Rattle.std.proofs.lemmas.Int.{ints}
 use Rattle.rank_query.specs.declared.score.Score.{Score}
 use Rattle.rank_query.specs.declared.score.Score.TheVariants.{Highest, Lowest}
+use Rattle.rank_scores.specs.declared.spell.Spell.{Spell}
+use Rattle.rank_scores.specs.declared.spell.Spell.TheVariants as kinds
 use Rattle.rank_blocks.specs.Greatest.{IsBound, IsGreatest}
 use Rattle.rank_blocks.specs.Reached.{IsTotalFrom}
 use Rattle.rank_blocks.specs.Summaries.{AreSummaries}
 use Rattle.rank_blocks.proofs.BlockSteps.{near-read}
-use Rattle.rank_blocks.proofs.BoundsMet.{IsSpells, day-met, spell-met, sum-met, bound-for}
+use Rattle.rank_blocks.proofs.BoundsMet.{score_of, day-met, spell-met, sum-met, bound-for}
 use Rattle.rank_blocks.proofs.blocks.bound_of.Goals as goal
 
 -- the greatest score of a day
@@ -47,13 +49,13 @@ pub returns-in-Dry-clause-bound : goal.returns-in-Dry-clause-bound
 returns-in-Dry-clause-bound c = λ s are of.
     let read : c.longest_run.result ≡ to_z w64 (of_z w64 c.longest_run.result) = omega (arith, ints) in
     let score = sym c.score.ensures.score in
-    let spells : IsSpells c.args.query.now.score = elim c.in-Dry.is [
-      | inl dry ↦ subst IsSpells (sym (score ∙ dry)) tt
+    let met = λ (k : Spell) (is : c.args.query.now.score ≡ score_of k). spell-met _ _ s _ c.of-range.ensures.range of k
+    c.longest_run.result is are (c.longest_run.ensures k s) in
+    subst (IsBound c.args.query.now s) read (elim c.in-Dry.is [
+      | inl dry ↦ met kinds.Dry (score ∙ dry)
       | inr others ↦
           elim others [
-            | inl wet ↦ subst IsSpells (sym (score ∙ wet)) tt
-            | inr hot ↦ subst IsSpells (sym (score ∙ hot.1)) tt
+            | inl wet ↦ met kinds.Wet (score ∙ wet)
+            | inr hot ↦ met (kinds.Hot hot.0) (score ∙ hot.1)
           ]
-    ] in
-    subst (IsBound c.args.query.now s) read
-    (spell-met _ _ s _ c.of-range.ensures.range of _ (λ k. c.longest_run.ensures k s) are spells)
+    ])

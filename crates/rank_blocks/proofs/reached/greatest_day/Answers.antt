@@ -1,7 +1,7 @@
-use Rattle.std.proofs.Common.{◌≡◌, ℤ, Option, Some, sym, ap, ◌∙◌, subst}
-use Rattle.std.specs.Option.{IfSome}
+use Rattle.std.proofs.Common.{◌≡◌, ℤ, Option, Some, sym, ap, ◌∙◌, subst, IfSome}
 use Rattle.rank_blocks.specs.Reached.{IsNear}
-use Rattle.rank_blocks.proofs.BlockSteps.{greatest-in, greatest-out, near-read, possible-at}
+use Rattle.rank_blocks.proofs.BlockSteps.{greatest-in, greatest-out, near-read}
+use Rattle.rank_blocks.proofs.PossibleBlocks.{possible-at}
 use Rattle.rank_blocks.proofs.reached.greatest_day.Goals as goal
 use Rattle.rank_blocks.proofs.reached.greatest_day.Goals.{then-is_in, else-is_in}
 

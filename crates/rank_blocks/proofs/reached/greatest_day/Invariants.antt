@@ -1,5 +1,4 @@
-use Rattle.std.proofs.Common.{◌≡◌}
-use Rattle.std.specs.Option.{IfSome}
+use Rattle.std.proofs.Common.{◌≡◌, IfSome}
 use Rattle.ghcn_fields.specs.Sorting.{greatest}
 use Rattle.rank_blocks.specs.Reached.{IsNear}
 use Rattle.rank_blocks.proofs.BlockSteps.{made}

@@ -1,13 +1,12 @@
-use Rattle.std.proofs.Common.{◌≡◌, ℕ, List, ℤ, sym, ap, ◌∙◌, arith}
+use Rattle.std.proofs.Common.{◌≡◌, ℕ, ◌+◌, List, ℤ, sym, ap, ◌∙◌, subst, arith, rules}
 use Rattle.std.proofs.lemmas.Int.{ints, clamps}
 use Rattle.rank_blocks.specs.declared.window.Window.{Window}
 use Rattle.rank_blocks.specs.declared.summary.Summary.{Summary}
 use Rattle.rank_blocks.specs.Reached.{summaries_total}
-use Rattle.rank_blocks.proofs.PossibleBlocks.{possible-drop}
-use Rattle.rank_blocks.proofs.BlockSteps.{block_at, left-whole, most-in, most-out, most-end}
+use Rattle.rank_blocks.proofs.PossibleBlocks.{block_at, possible-drop}
+use Rattle.rank_blocks.proofs.BlockSteps.{IsMostTo, left-whole, most-in, most-out, most-end}
 use Rattle.rank_blocks.proofs.reached.greatest_total.Goals as goal
 use Rattle.rank_blocks.proofs.reached.greatest_total.Goals.{then-is_in, else-is_in}
-use Rattle.std.proofs.Common.{rules}
 
 -- the total of a window by its first block and its width
 of_window : (ks : List Summary) (w : Window) (first : ℤ) (width : ℕ) → w.first ≡ first → w.width ≡ width
@@ -20,21 +19,25 @@ window_total-requires c = search (rules, arith, left-whole, possible-drop)
 
 -- with one more block
 pub loop-index-preserved : goal.loop-index-preserved
-loop-index-preserved c =
-    let far = most-in c.args.range c.args.width c.args.blocks.now c.requires c.loop-index.index c.loop-index-test.true _
-    c.loop-index.invariant in
-    let same = most-out c.args.range c.args.width c.args.blocks.now c.requires c.loop-index.index c.loop-index-test.true
-    _ c.loop-index.invariant in
+loop-index-preserved c = λ rises.
+    let ms = c.args.blocks.now in
+    let i = c.loop-index.index in
+    let far = c.loop-index.invariant rises in
     elim c.if-is_in.branch [
       | then-is_in w ↦
           let total = w.window_total.ensures ∙ of_window _ w.window.result _ _ w.window.ensures.first
           w.window.ensures.width
-          ∙ ap (λ ks. summaries_total ks c.args.width (block_at c.args.blocks.now c.loop-index.index).number)
-          (left-whole c.args.blocks.now c.loop-index.index) in
-          far _ (w.greatest-is ∙ omega (arith, ints, clamps)) (sym c.is_in.ensures ∙ w.if-is_in.true)
-      | else-is_in w ↦ same _ (w.greatest-is ∙ omega (arith, ints)) (sym c.is_in.ensures ∙ w.if-is_in.false)
+          ∙ ap (λ ks. summaries_total ks c.args.width (block_at ms i).number) (left-whole ms i) in
+          most-in c.args.range c.args.width ms i _ far c.requires c.loop-index-test.true _
+          (w.greatest-is ∙ omega (arith, ints, clamps)) (sym c.is_in.ensures ∙ w.if-is_in.true)
+      | else-is_in w ↦
+          subst (IsMostTo c.args.range c.args.width ms (i + 1)) (sym (w.greatest-is ∙ omega (arith, ints)))
+          (most-out c.args.range c.args.width ms i _ far c.loop-index-test.true
+          (sym c.is_in.ensures ∙ w.if-is_in.false))
     ]
 
 -- behind the last block
 pub returns : goal.returns
-returns c = search (rules, arith, most-end)
+returns c = λ falls rises.
+    most-end c.args.range c.args.width c.args.blocks.now c.loop-index.index _ (c.loop-index.invariant rises) falls
+    c.loop-index-test.false

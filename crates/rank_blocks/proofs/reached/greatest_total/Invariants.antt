@@ -1,6 +1,7 @@
+use Rattle.std.proofs.Common.{◌≤ℤ◌}
 use Rattle.rank_blocks.proofs.BlockSteps.{IsMostTo}
 use Rattle.rank_blocks.proofs.reached.greatest_total.Given as goal
 
--- the greatest total is known up to a place
+-- where the range has a block, the greatest total is known up to a place
 abbrev pub invariant-loop-index : goal.invariant-loop-index
-invariant-loop-index l = IsMostTo l.range l.width l.blocks l.index l.greatest
+invariant-loop-index l = l.range.first ≤ℤ l.range.last → IsMostTo l.range l.width l.blocks l.index l.greatest

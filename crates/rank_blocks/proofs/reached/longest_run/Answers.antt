@@ -1,4 +1,4 @@
-use Rattle.std.proofs.Common.{◌≡◌, pos, to_z, w64, sym, ◌∙◌, subst, arith}
+use Rattle.std.proofs.Common.{◌≡◌, ◌+◌, pos, to_z, w64, sym, ◌∙◌, subst, arith}
 use Rattle.std.proofs.lemmas.Int.{ints}
 use Rattle.rank_blocks.specs.Greatest.{IsGreatest}
 use Rattle.rank_blocks.proofs.PossibleBlocks.{possible-few}
@@ -17,16 +17,17 @@ add-runs-requires-clause-room c = grind (arith, ints, possible-few c.args.blocks
 -- with one more block
 pub loop-block-preserved : goal.loop-block-preserved
 loop-block-preserved c =
-    let far = told-in c.args.range c.args.blocks.now c.requires c.loop-block.block-index
-    c.loop-block-test.true c.loop-block.runs c.loop-block.invariant in
-    let same = told-out c.args.range c.args.blocks.now c.requires c.loop-block.block-index
-    c.loop-block-test.true c.loop-block.runs c.loop-block.invariant in
+    let i = c.loop-block.block-index in
+    let far = c.loop-block.invariant in
     elim c.if-is_in.branch [
       | then-is_in w ↦
-          subst (IsTold _ _ _) (sym w.runs-is)
-          (far w.add-runs.result (sym c.is_in.ensures ∙ w.if-is_in.true) w.add-runs.ensures.runs w.add-runs.ensures.next
+          subst (IsTold c.args.range c.args.blocks.now (i + 1)) (sym w.runs-is)
+          (told-in c.args.range c.args.blocks.now i _ far c.requires c.loop-block-test.true w.add-runs.result
+          (sym c.is_in.ensures ∙ w.if-is_in.true) w.add-runs.ensures.runs w.add-runs.ensures.next
           w.add-runs.ensures.room)
-      | else-is_in w ↦ same c.if-is_in.runs w.runs-is (sym c.is_in.ensures ∙ w.if-is_in.false)
+      | else-is_in w ↦
+          subst (IsTold c.args.range c.args.blocks.now (i + 1)) (sym w.runs-is)
+          (told-out c.args.range c.args.blocks.now i _ far (sym c.is_in.ensures ∙ w.if-is_in.false))
     ]
 
 -- behind the last block
@@ -34,6 +35,5 @@ pub returns : goal.returns
 returns c = λ k s are.
     let is : pos c.loop-block.runs.longest ≡ to_z w64 c.loop-block.runs.longest = omega (arith, ints) in
     subst (IsGreatest _) is
-    (told-end c.args.range c.args.blocks.now c.loop-block.block-index c.loop-block.runs
-    c.loop-block-test.false
-    c.loop-block.invariant k s are)
+    (told-end c.args.range c.args.blocks.now c.loop-block.block-index c.loop-block.runs c.loop-block.invariant
+    c.loop-block-test.false k s are)

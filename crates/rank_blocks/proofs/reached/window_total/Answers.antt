@@ -1,10 +1,9 @@
-use Rattle.std.proofs.Common.{sym, ◌∙◌, arith}
+use Rattle.std.proofs.Common.{sym, ◌∙◌, arith, rules}
 use Rattle.std.proofs.lemmas.Int.{ints}
 use Rattle.rank_blocks.proofs.BlockSteps.{sum-bounds, sum-in, sum-out, sum-past}
 use Rattle.rank_blocks.proofs.PossibleBlocks.{possible-few}
 use Rattle.rank_blocks.proofs.reached.window_total.Goals as goal
 use Rattle.rank_blocks.proofs.reached.window_total.Goals.{then-holds, else-holds}
-use Rattle.std.proofs.Common.{rules}
 
 -- behind the window
 pub returns-then-is_before : goal.returns-then-is_before

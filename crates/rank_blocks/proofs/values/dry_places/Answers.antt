@@ -1,5 +1,4 @@
-use Rattle.std.proofs.Common.{◌≡◌, ◌*◌, ◌%◌, ◌^◌, get_or, pos, SFits, w32, ℕ, ap, ◌∙◌, rules}
-use Rattle.std.specs.Prelude.{◌==◌, bit_or}
+use Rattle.std.proofs.Common.{◌≡◌, ◌*◌, ◌%◌, ◌^◌, get_or, pos, SFits, w32, ℕ, ap, ◌∙◌, rules, ◌==◌, bit_or}
 use Rattle.std.specs.Int.{bit_at}
 use Rattle.std.proofs.lemmas.Int.{to_z-of_z}
 use Rattle.rank_scores.specs.Candidates.{is_dry}

@@ -1,5 +1,4 @@
-use Rattle.std.proofs.Common.{◌≡◌, ℕ, ◌<◌, ◌≤◌, get_or, pos}
-use Rattle.std.specs.Prelude.{◌==◌}
+use Rattle.std.proofs.Common.{◌≡◌, ℕ, ◌<◌, ◌≤◌, get_or, pos, ◌==◌}
 use Rattle.std.specs.Int.{bit_at}
 use Rattle.rank_scores.specs.Candidates.{is_dry}
 use Rattle.rank_blocks.proofs.values.dry_places.Given as goal

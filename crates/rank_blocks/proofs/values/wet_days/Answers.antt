@@ -1,5 +1,4 @@
-use Rattle.std.proofs.Common.{◌≡◌, ℤ, arith, rules, w32}
-use Rattle.std.specs.Prelude.{not}
+use Rattle.std.proofs.Common.{◌≡◌, ℤ, arith, rules, w32, not}
 use Rattle.std.proofs.lemmas.Int.{ints}
 use Rattle.rank_scores.specs.Candidates.{is_dry, is_wet}
 use Rattle.rank_blocks.proofs.ValueSteps.{usable-word, other-places}

@@ -14,41 +14,29 @@ use Rattle.rank_sched.proofs.plan.morsels_of.Goals.{in-Some+in_ok-push, in_defau
 -- one station more may give a morsel
 pub loop-place-preserved : goal.loop-place-preserved
 loop-place-preserved c =
-    let next : suc c.loop-place.place ≡ c.loop-place.place + 1 = omega arith in
-    let within : c.loop-place.place < length c.args.held.now.stations =
-    omega (
-      arith,
-      c.len-place-end.ensures.number,
-      ap length c.stations.ensures.stations,
-      c.loop-place-test.true,
-    ) in
-    let measured : option_map (plan.measure_of c.args.query.now c.args.held.now)
-    (slice_get c.args.held.now.stations c.loop-place.place) ≡
-    Some (get_or c.args.bounds.now c.loop-place.place None) =
-    made_at (plan.measure_of c.args.query.now c.args.held.now) c.args.held.now.stations c.loop-place.place None within
-    ∙ ap (λ (l : List (Option ℤ)). Some (get_or l c.loop-place.place None)) (sym c.requires) in
+    let made = plan.morsel_at c.args.query.now c.args.held.now in
+    let bound = plan.measure_of c.args.query.now c.args.held.now in
+    let stations = c.args.held.now.stations in
+    let place = c.loop-place.place in
+    let next : suc place ≡ place + 1 = omega arith in
+    let within : place < length stations =
+    omega (arith, c.len-place-end.ensures.number, ap length c.stations.ensures.stations, c.loop-place-test.true) in
+    let measured : option_map bound (slice_get stations place) ≡ Some (get_or c.args.bounds.now place None) =
+    made_at bound stations place None within
+    ∙ ap (λ (l : List (Option ℤ)). Some (get_or l place None)) (sym c.requires) in
     let there = c.morsel_at.ensures c.args.query.now c.element-element.ensures.element measured in
-    let more = kept-more (plan.morsel_at c.args.query.now c.args.held.now) c.args.held.now.stations c.loop-place.place
-    (option_map planned_morsel c.morsel_at.result) there in
-    let at : filter_map (plan.morsel_at c.args.query.now c.args.held.now)
-    (take c.loop-place.place c.args.held.now.stations) ++ option_to_list
-    (option_map planned_morsel c.morsel_at.result) ≡ filter_map (plan.morsel_at c.args.query.now c.args.held.now)
-    (take (c.loop-place.place + 1) c.args.held.now.stations) =
-    sym more ∙ ap (λ (n : ℕ). filter_map (plan.morsel_at c.args.query.now c.args.held.now)
-    (take n c.args.held.now.stations)) next in
+    let with : Option code.Morsel → List plan.Morsel =
+    λ o. filter_map made (take place stations) ++ option_to_list (option_map planned_morsel o) in
+    let at : with c.morsel_at.result ≡ filter_map made (take (place + 1) stations) =
+    sym (kept-more made stations place (option_map planned_morsel c.morsel_at.result) there)
+    ∙ ap (λ (n : ℕ). filter_map made (take n stations)) next in
     elim c.match-morsel_at.branch [
       | in-Some+in_ok-push w ↦
           ap (λ v. map planned_morsel v.items) w.morsels-is ∙ ap (map planned_morsel) w.in_ok-push.ensures.items
           ∙ map-append planned_morsel c.loop-place.morsels.items (w.in-Some.morsel ∷ [])
           ∙ ap (λ (l : List plan.Morsel). l ++ planned_morsel w.in-Some.morsel ∷ []) c.loop-place.invariant
-          ∙ ap (λ (o : Option code.Morsel). filter_map (plan.morsel_at c.args.query.now c.args.held.now)
-          (take c.loop-place.place c.args.held.now.stations) ++ option_to_list (option_map planned_morsel o))
-          (sym w.in-Some.is)
-          ∙ at
+          ∙ ap with (sym w.in-Some.is) ∙ at
       | in_default w ↦
           ap (λ v. map planned_morsel v.items) w.morsels-is ∙ c.loop-place.invariant ∙ sym (append-nil _)
-          ∙ ap (λ (o : Option code.Morsel). filter_map (plan.morsel_at c.args.query.now c.args.held.now)
-          (take c.loop-place.place c.args.held.now.stations) ++ option_to_list (option_map planned_morsel o))
-          (sym w.in_default.is)
-          ∙ at
+          ∙ ap with (sym w.in_default.is) ∙ at
     ]

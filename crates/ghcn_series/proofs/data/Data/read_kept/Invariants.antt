@@ -4,4 +4,4 @@ use Rattle.ghcn_series.proofs.data.Data.read_kept.Given as goal
 
 -- the files so far were fed
 abbrev pub invariant-loop-file : goal.invariant-loop-file
-invariant-loop-file l = HasFed l.reader (fed_files l.fn.element l.fn.stations l.files l.file-index)
+invariant-loop-file l = HasFed l.reader (fed_files l.fn.keep l.fn.stations l.files l.file-index)

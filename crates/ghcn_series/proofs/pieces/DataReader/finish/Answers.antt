@@ -1,32 +1,18 @@
-use Rattle.std.proofs.Common.{arith, sym, subst, ◌≡◌, true}
-use Rattle.std.proofs.lemmas.Bool.Decides.{nat_tests}
-use Rattle.ghcn_series.specs.Pieces.{CountsFew}
-use Rattle.ghcn_series.proofs.KeptFaults.{HasEnded, ended-begun, ended-unbegun, holds_fed, refuses_kept}
+use Rattle.ghcn_series.specs.DailyFaults.{daily_lines}
+use Rattle.ghcn_series.specs.Fed.{files_of}
+use Rattle.ghcn_series.specs.Says.{contents}
+use Rattle.ghcn_series.proofs.ReadFiles.{data_of-right}
 use Rattle.ghcn_series.proofs.pieces.DataReader.finish.Goals as goal
-use Rattle.ghcn_series.proofs.pieces.DataReader.finish.Goals.{then-self, else-self}
 
--- the fault that was kept is told
-pub returns-in-Some-clause-err : goal.returns-in-Some-clause-err
-returns-in-Some-clause-err c =
-    let ended : HasEnded c.args.self c.if-self.self = elim c.if-self.branch [
-      | then-self w ↦ subst (HasEnded c.args.self) (sym w.self-is)
-          (ended-begun c.args.self w.end_of_file.new.self w.if-self.true w.end_of_file.ensures.fed)
-      | else-self w ↦ subst (HasEnded c.args.self) (sym w.self-is) (ended-unbegun c.args.self w.if-self.false)
-    ] in
-    let few : c.has_few_files.result ≡ true = grind
-    (arith, nat_tests, c.if-not-has_few_files.false) in
-    refuses_kept c.args.self c.if-self.self c.in-Some.fault ended
-    (subst (CountsFew c.if-self.self) few c.has_few_files.ensures) c.in-Some.is
-
--- or the data are what was read
+-- the data of all that was fed
 pub returns-in-Ok-clause-ok : goal.returns-in-Ok-clause-ok
-returns-in-Ok-clause-ok c =
-    let ended : HasEnded c.args.self c.if-self.self = elim c.if-self.branch [
-      | then-self w ↦ subst (HasEnded c.args.self) (sym w.self-is)
-          (ended-begun c.args.self w.end_of_file.new.self w.if-self.true w.end_of_file.ensures.fed)
-      | else-self w ↦ subst (HasEnded c.args.self) (sym w.self-is) (ended-unbegun c.args.self w.if-self.false)
-    ] in
-    let few : c.has_few_files.result ≡ true = grind
-    (arith, nat_tests, c.if-not-has_few_files.false) in
-    holds_fed c.args.self c.if-self.self c.in-Ok.held ended
-    (subst (CountsFew c.if-self.self) few c.has_few_files.ensures) c.in_default.is c.in-Ok.ensures
+returns-in-Ok-clause-ok c = record {
+  is = λ fed is.
+      let all = c.in_ok-all.ensures.ok.is fed is in
+      let files = files_of fed.files in
+      record {
+        whole = contents fed.stations (daily_lines files);
+        read = data_of-right fed.stations files all.few (rw (← all.read.listed) all.read.read.right);
+        is = rw (← all.read.listed, ← all.read.kept) (c.in-Ok.ensures.is (daily_lines files) all.read.read);
+      };
+}

@@ -1,33 +1,46 @@
 use Rattle.std.proofs.Common.{◌≡◌, Ok, None}
 use Rattle.ghcn_files.specs.Months.{read_month}
 use Rattle.ghcn_files.specs.Rows.{IsOfLine}
-use Rattle.ghcn_series.proofs.ReadLines.{read-passed, read-month, refused-month}
+use Rattle.ghcn_series.proofs.ReadLines.{read-passed, read-month, refused-month, other_kind, element_kind}
 use Rattle.ghcn_series.proofs.reader.Reader.add_line.Goals as goal
 
 -- a line of none of the elements is passed over
 pub returns-in-Ok-None-clause-read : goal.returns-in-Ok-None-clause-read
 returns-in-Ok-None-clause-read c =
     let is : read_month c.args.bytes.now ≡ Ok None = rw c.in-Ok-None.field-0-is at c.in-Ok-None.ensures in
-    record { holds = λ before read. read-passed c.args.self.now _ is before read }
+    record { holds = λ stations keep before read. read-passed c.args.self.now _ is stations keep before read }
+
+-- which has another code
+pub returns-in-Ok-None-clause-kind : goal.returns-in-Ok-None-clause-kind
+returns-in-Ok-None-clause-kind c = λ some.
+    other_kind c.args.bytes.now (rw c.in-Ok-None.field-0-is at c.in-Ok-None.ensures) some
 
 -- a new month is read
 pub returns-in-Ok-true-clause-read : goal.returns-in-Ok-true-clause-read
 returns-in-Ok-true-clause-read c =
-    let is : IsOfLine c.args.self.now.element c.args.bytes.now c.in-Ok-Some.row =
+    let is : IsOfLine c.args.self.now.keep c.args.bytes.now c.in-Ok-Some.row =
     rw c.in-Ok-Some.field-0-is at c.in-Ok-Some.ensures in
     let adds = rw c.in-Ok-true.field-0-test at c.in-Ok-true.ensures.added in
     record {
-      holds = λ before read. read-month c.args.self.now c.add_month.new.self _ is.month is.read
-          c.add_month.ensures.stations (adds is.month is.right is.row) before read;
+      holds = λ stations keep before read. read-month c.args.self.now c.add_month.new.self _ is.month is.read
+          c.add_month.ensures.stations c.add_month.ensures.keep (adds is.month is.right is.row)
+          stations keep before read;
     }
+
+-- of one of the elements
+pub returns-in-Ok-true-clause-kind : goal.returns-in-Ok-true-clause-kind
+returns-in-Ok-true-clause-kind c =
+    let is : IsOfLine c.args.self.now.keep c.args.bytes.now c.in-Ok-Some.row =
+    rw c.in-Ok-Some.field-0-is at c.in-Ok-Some.ensures in
+    λ some. element_kind c.args.bytes.now is.month is.read some
 
 -- a month of an earlier line is refused
 pub returns-in-Ok-false-clause-fault : goal.returns-in-Ok-false-clause-fault
 returns-in-Ok-false-clause-fault c =
-    let is : IsOfLine c.args.self.now.element c.args.bytes.now c.in-Ok-Some.row =
+    let is : IsOfLine c.args.self.now.keep c.args.bytes.now c.in-Ok-Some.row =
     rw c.in-Ok-Some.field-0-is at c.in-Ok-Some.ensures in
     let adds = rw c.in-Ok-false.field-0-test at c.in-Ok-false.ensures.added in
     rw c.refused-in-Ok-false.ensures (record {
-      first = λ before read. refused-month c.args.self.now
-          c.add_month.new.self _ is.month is.read (adds is.month is.right is.row) before read;
+      first = λ stations keep before read. refused-month c.args.self.now
+          c.add_month.new.self _ is.month is.read (adds is.month is.right is.row) stations keep before read;
     })

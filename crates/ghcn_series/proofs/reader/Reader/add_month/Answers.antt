@@ -39,8 +39,8 @@ returns-in_ok-turn_to-in-Some-clause-added c =
     IfOk-weaker c.add.result _ _ (λ added adds m right of.
     let place = ap (λ ss. place_of ss m.id) c.turn_to.ensures.stations
     ∙ ap (place_of c.args.self.now.stations) (sym of.id) ∙ sym c.place.ensures ∙ c.in-Some.is in
-    let of_there : IsRowOf (is_kept c.turn_to.new.self.element c.args.row.now.element) m c.args.row.now =
-    rw c.turn_to.ensures.element of in
+    let of_there : IsRowOf (is_kept c.turn_to.new.self.keep c.args.row.now.element) m c.args.row.now =
+    rw c.turn_to.ensures.keep of in
     let more = read-listed c.turn_to.new.self _ m c.in-Some.place c.index_mut.result.now c.add.new.self added
     place c.index_mut.ensures.value c.add.ensures.id (adds m right of_there) refl refl refl refl c.add.ensures.spare in
     read-behind c.args.self.now c.turn_to.new.self _ m added c.in_ok-turn_to-in-Some.ensures.same

@@ -17,7 +17,7 @@ loop-station-init c =
     let read = c.requires.1.months in
     let all = c.into_iter-station-iterator.ensures.into_iter_gives.0 in
     record {
-      ready = rw all (all_ready c.args.self.element (filter_map month_on c.requires.0) c.args.self.stations
+      ready = rw all (all_ready c.args.self.keep (filter_map month_on c.requires.0) c.args.self.stations
           c.args.self.gathered.items read.right read.gathered);
       whole = ap (λ vs. map (λ s. s.items) vs
           ++ map station_series (into_iter_items c.into_iter-station-iterator.result)) c.in_ok-series.ensures.items
@@ -47,7 +47,7 @@ of-requires c =
     let none = nil_from_length _ (sym c.loop-station.station-iterator.rest.ok.0 ∙ c.in-None.ensures.steps.0) in
     let all = all_added _ _ _ none c.loop-station.invariant.whole in
     subst (AreByStation c.args.self.stations) (sym all)
-    (are_by_station c.args.self.element (filter_map month_on c.requires.0) c.args.self.stations
+    (are_by_station c.args.self.keep (filter_map month_on c.requires.0) c.args.self.stations
     c.args.self.gathered.items read.listed read.right read.gathered)
 
 -- all that was read is held
@@ -60,9 +60,9 @@ returns c =
           let none = nil_from_length _ (sym c.loop-station.station-iterator.rest.ok.0 ∙ c.in-None.ensures.steps.0) in
           let all = all_added _ _ _ none c.loop-station.invariant.whole in
           let series = ap all_of all ∙ all_of-are gathered
-          ∙ series_are c.args.self.element stations (filter_map month_on ls) stations gathered (all_listed stations)
+          ∙ series_are c.args.self.keep stations (filter_map month_on ls) stations gathered (all_listed stations)
           read.months.gathered in
           let of : List Usable → ℕ → Contents = λ us n. record { stations = stations; series = us; unlisted = n } in
           c.of.ensures ∙ ap (λ us. of us c.args.self.unlisted) series ∙ ap (of _) read.months.unlisted
-          ∙ sym (kept-is c.args.self.element (contents stations ls));
+          ∙ sym (kept-is c.args.self.keep (contents stations ls));
     }

@@ -7,7 +7,7 @@ use Rattle.ghcn_series.proofs.reader.Reader.new.Given as goal
 abbrev pub invariant-loop-station : goal.invariant-loop-station
 invariant-loop-station l = record {
   within : l.place ≤ length l.fn.stations;
-  gathered : AllZip (IsStationOf l.fn.element []) (take l.place l.fn.stations) l.gathered.items;
+  gathered : AllZip (IsStationOf l.fn.keep []) (take l.place l.fn.stations) l.gathered.items;
 }
 
 -- fewer stations are left

@@ -1,7 +1,6 @@
-use Rattle.std.proofs.Common.{to_z, of_z, w64, arith}
+use Rattle.std.proofs.Common.{to_z, of_z, w64, arith, rules}
 use Rattle.rank_blocks.proofs.BoundsMet.{bound-computed, bound-above}
 use Rattle.rank_blocks.proofs.blocks.Blocks.bound.Goals as goal
-use Rattle.std.proofs.Common.{rules}
 
 -- the bound by what it is greatest of is the one that is computed, and no candidate is above it
 pub returns : goal.returns

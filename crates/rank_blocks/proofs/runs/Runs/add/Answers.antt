@@ -1,7 +1,7 @@
-use Rattle.std.proofs.Common.{◌≡◌, ℤ, ap, sym, ◌∙◌, arith, rules, SFits, to_z, of_z, w32, refl}
-use Rattle.std.proofs.lemmas.Int.{ints, to_z-of_z}
-use Rattle.rank_blocks.specs.declared.runs.Runs.{Runs}
-use Rattle.rank_blocks.proofs.LongestRuns.{runs-up_to, runs-more}
+use Rattle.std.proofs.Common.{◌≡◌, ℕ, ℤ, ◌<ℤ◌, ap, sym, ◌∙◌, subst, arith, rules, SFits, to_z, of_z, w32}
+use Rattle.std.proofs.lemmas.Int.{ints, to_z-of_z, by_lt_z}
+use Rattle.rank_blocks.specs.DayRuns.{AreRuns}
+use Rattle.rank_blocks.proofs.LongestRuns.{runs-later, runs-more}
 use Rattle.rank_blocks.proofs.WordRuns.{first-ones, last-ones}
 use Rattle.rank_blocks.proofs.runs.Runs.add.Goals as goal
 use Rattle.rank_blocks.proofs.runs.Runs.add.Goals.{then-block-self, else-block-self, then-first-eq-BLOCK_DAYS}
@@ -14,23 +14,26 @@ same-read a b fits_a fits_b e = sym (to_z-of_z w32 a fits_a) ∙ ap (to_z w32) e
 -- up to the block, and with it
 pub returns-clause-runs : goal.returns-clause-runs
 returns-clause-runs c = λ such are none bits.
-    let fits : SFits w32 c.args.self.next = search rules in
-    let fits_number : SFits w32 c.args.block.now.number = search rules in
-    let up_to : Runs =
-    record { next = c.args.block.now.number; last = c.if-block-self.before; longest = c.args.self.longest } in
-    let same : c.args.block.now.number ≡ c.args.self.next → c.if-block-self.before ≡ c.args.self.last = λ is.
+    let self = c.args.self in
+    let n = c.args.block.now.number in
+    let word = c.args.block.now.days in
+    let told : AreRuns such (record { next = n; last = c.if-block-self.before; longest = self.longest }) =
     elim c.if-block-self.branch [
-      | then-block-self w ↦ w.before-is
-      | else-block-self w ↦ absurd (w.if-block-self.false (ap (of_z w32) is))
+      | then-block-self w ↦
+          let same : n ≡ self.next = same-read n self.next (search rules) (search rules) w.if-block-self.true in
+          subst (λ (b : ℤ). AreRuns such (record { next = b; last = c.if-block-self.before; longest = self.longest }))
+          (sym same)
+          (subst (λ (k : ℕ). AreRuns such (record { next = self.next; last = k; longest = self.longest }))
+          (sym w.before-is) are)
+      | else-block-self w ↦
+          let later : self.next <ℤ n = by_lt_z self.next n (λ lt. lt)
+          (λ ge. let same : n ≡ self.next = omega (arith, ints) in
+          absurd (w.if-block-self.false (ap (of_z w32) same))) in
+          subst (λ (k : ℕ). AreRuns such (record { next = n; last = k; longest = self.longest })) (sym w.before-is)
+          (runs-later such self n are later none)
     ] in
-    let other : (c.args.block.now.number ≡ c.args.self.next → ⊥) → c.if-block-self.before ≡ 0 = λ differ.
-    elim c.if-block-self.branch [
-      | then-block-self w ↦ absurd (differ (same-read _ _ fits_number fits w.if-block-self.true))
-      | else-block-self w ↦ w.before-is
-    ] in
-    let told = runs-up_to such c.args.self up_to are c.requires.order none same other refl in
-    runs-more such up_to told c.args.block.now.days _ _ _ bits (first-ones c.args.block.now.days (search rules))
-    (last-ones c.args.block.now.days (search rules)) c.longest_ones.ensures _ (omega (arith, ints))
+    runs-more such _ told word _ _ _ bits (first-ones word (search rules)) (last-ones word (search rules))
+    c.longest_ones.ensures _ (omega (arith, ints))
     (λ all.
     elim c.if-first-eq-BLOCK_DAYS.branch [
       | then-first-eq-BLOCK_DAYS w ↦ omega arith

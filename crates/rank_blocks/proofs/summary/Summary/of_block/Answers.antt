@@ -1,6 +1,5 @@
-use Rattle.std.proofs.Common.{◌≡◌, map, ℤ, neg_ℤ, to_z, of_z, SFits, w32, sym, ap, ◌∙◌, subst, arith, rules}
+use Rattle.std.proofs.Common.{◌≡◌, map, ℤ, neg_ℤ, to_z, of_z, SFits, w32, sym, ap, ◌∙◌, subst, arith, rules, int_le}
 use Rattle.std.proofs.lemmas.Int.{ints, to_z-of_z}
-use Rattle.std.specs.Prelude.{int_le}
 use Rattle.rank_query.specs.declared.score.Score.{Score}
 use Rattle.rank_scores.specs.declared.spell.Spell.TheVariants as kinds
 use Rattle.rank_blocks.specs.Blocks.{days_in, total}

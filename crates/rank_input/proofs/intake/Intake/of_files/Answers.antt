@@ -1,5 +1,6 @@
 use Rattle.std.proofs.Common.{ℕ, [], Bor, List, take, get_or, sym, subst, arith}
-use Rattle.rank_input.specs.Taken.{given, with_bytes, HasTaken}
+use Rattle.rank_input.specs.Takes.{given, with_bytes}
+use Rattle.rank_input.specs.Taken.{HasTaken}
 use Rattle.rank_input.proofs.Texts.{texts, texts-more, all_texts}
 use Rattle.rank_input.proofs.intake.Intake.of_files.Goals as goal
 

@@ -1,5 +1,6 @@
 use Rattle.std.proofs.Common.{take}
-use Rattle.rank_input.specs.Taken.{given, HasTaken}
+use Rattle.rank_input.specs.Takes.{given}
+use Rattle.rank_input.specs.Taken.{HasTaken}
 use Rattle.rank_input.proofs.Texts.{texts}
 use Rattle.rank_input.proofs.intake.Intake.of_files.Given as goal
 

@@ -5,23 +5,21 @@ use Rattle.rank_sched.specs.declared.event.StepFault.{StepFault}
 use Rattle.rank_sched.specs.Task.{task_of}
 use Rattle.rank_sched.specs.Run.{Running}
 use Rattle.rank_sched.specs.declared.event.Event.TheVariants.{Claim}
-use Rattle.rank_sched.proofs.Machines.{within}
-use Rattle.rank_sched.proofs.MachineSteps.{set-length, err_is, not_idle, no_worker_refused, not_now_refused, claim_step}
+use Rattle.std.proofs.lemmas.List.{length-set}
+use Rattle.std.proofs.lemmas.Option.{slice_get_within}
+use Rattle.rank_sched.proofs.MachineSteps.{not_idle, no_worker_refused, not_now_refused, claim_step}
 use Rattle.rank_sched.proofs.MachineSteps.{still_running, next_small}
 use Rattle.rank_sched.proofs.machine.Machine.claim.Goals as goal
 
 -- there is no such worker
 pub returns-in_err-turn_of : goal.returns-in_err-turn_of
-returns-in_err-turn_of c =
-    let far : length c.self.inside.turns.items ≤ c.args.worker = search rules in
-    let why = err_is c.from_residual.result c.in_err-turn_of.field-0.0 c.from_residual.ensures
-    ∙ ap (λ (f : StepFault). Err f) c.in_err-turn_of.ensures.err.0 in
-    rw why (no_worker_refused c.args.self.now c.self.inside.next c.self.inside.floor c.self.inside.turns.items
-    c.self.inside.hauls.items (Claim c.args.worker) (cc) c.requires c.self.invariant.0 far)
+returns-in_err-turn_of c = no_worker_refused c.args.self.now _ _ _ _ _ (Claim c.args.worker) _ _
+    (ap (λ (m : Running). m.state) c.self.view_is) c.requires c.self.invariant.0 c.as_slice.ensures.value
+    c.in_err-turn_of.ensures.err c.from_residual.ensures
 
 -- the worker has a turn to change
 pub index_mut-requires : goal.index_mut-requires
-index_mut-requires c = grind (arith, within)
+index_mut-requires c = grind (arith, slice_get_within)
 
 -- the next number is small
 pub overflow_add-self : goal.overflow_add-self
@@ -29,14 +27,10 @@ overflow_add-self c = let small = next_small _ c.self.invariant.1 in omega (arit
 
 -- what is true of every machine is true after the claim
 pub invariant_of-self : goal.invariant_of-self
-invariant_of-self c =
-    let here : slice_get c.self.inside.turns.items c.args.worker ≡ Some Idle = search rules in
-    let step = claim_step (task_of c.self.inside.plan.now) c.self.inside.next c.self.inside.floor
-    c.self.inside.turns.items c.self.inside.hauls.items c.args.worker c.drawn.result c.self.invariant.0 here
-    c.drawn.ensures in (
-      set-length c.self.inside.turns.items c.args.worker _ ∙ c.self.invariant.0,
-      still_running _ (Claim c.args.worker) _ c.self.inside.failed c.self.invariant.1 step,
-    )
+invariant_of-self c = (
+  length-set c.self.inside.turns.items c.args.worker _ ∙ c.self.invariant.0,
+  still_running _ (Claim c.args.worker) _ c.self.inside.failed c.self.invariant.1 (grind (arith, claim_step)),
+)
 
 -- the worker draws the number
 pub returns-in-Idle : goal.returns-in-Idle
@@ -44,10 +38,6 @@ returns-in-Idle c = grind (arith, claim_step)
 
 -- it isn't the worker's turn
 pub returns-in_default : goal.returns-in_default
-returns-in_default c =
-    let here : slice_get c.self.inside.turns.items c.args.worker ≡ Some c.in_ok-turn_of.field-0 =
-    search rules in
-    not_now_refused c.args.self.now c.self.inside.next c.self.inside.floor c.self.inside.turns.items
-    c.self.inside.hauls.items (Claim c.args.worker) c.in_ok-turn_of.field-0
-    (sym (ap (λ (m : Running). m.state) c.self.view_is)) c.requires c.self.invariant.0 here
-    (not_idle c.args.worker c.in_ok-turn_of.field-0 c.in_default.not-Idle)
+returns-in_default c = not_now_refused c.args.self.now _ _ _ _ _ (Claim c.args.worker) _
+    (ap (λ (m : Running). m.state) c.self.view_is) c.requires c.self.invariant.0 c.as_slice.ensures.value
+    c.in_ok-turn_of.ensures.ok (not_idle c.args.worker c.in_ok-turn_of.field-0 c.in_default.not-Idle)

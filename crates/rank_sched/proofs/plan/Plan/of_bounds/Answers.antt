@@ -1,11 +1,10 @@
-use Rattle.std.proofs.Common.{rules, ◌≡◌, map}
+use Rattle.std.proofs.Common.{rules, ◌≡◌, map, arith}
 use Rattle.std.proofs.lemmas.List.Sorted.{answers_always}
 use Rattle.rank_sched.specs.Plan as plan
 use Rattle.rank_sched.specs.Plan.{planned_morsel}
 use Rattle.rank_sched.proofs.PlanOrder.{strictly, strictly_ranks}
 use Rattle.rank_sched.proofs.PlanMade.{sort-planned}
 use Rattle.rank_sched.proofs.plan.Plan.of_bounds.Goals as goal
-use Rattle.std.proofs.Common.{arith}
 use Rattle.std.proofs.lemmas.Int.{ints}
 
 -- a plan with the sorted morsels is the plan of its query over the data

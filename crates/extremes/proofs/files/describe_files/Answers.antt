@@ -1,0 +1,28 @@
+use Rattle.std.proofs.Common.{List, [], Global, String, map, sym, subst}
+use Rattle.std.specs.Prelude.{string_bytes}
+use Rattle.rank_input.specs.Feeding.{AreAllOf, FeedsFiles}
+use Rattle.rank_input.specs.Described.{HasTaken}
+use Rattle.extremes.proofs.FedRuns.{describes-files, describes-memory}
+use Rattle.extremes.proofs.files.describe_files.Goals as goal
+
+-- there is no room for a piece
+pub returns-in_default-piece_room : goal.returns-in_default-piece_room
+returns-in_default-piece_room g c =
+    describes-memory (g.A.Archive.bytes_of c.args.archive.now) c.args.describing.now c.deref.result.now
+    c.in-Ok.stations.items _ c.deref.ensures c.in-Ok.ensures
+
+-- the intake was given something
+pub feed_files-requires : goal.feed_files-requires
+feed_files-requires g c = (_, c.new-intake.ensures [])
+
+-- what was fed is described
+pub returns : goal.returns
+returns g c =
+    let bytes_of = g.A.Archive.bytes_of c.args.archive.now in
+    describes-files bytes_of c.args.describing.now c.new-intake.result c.feed_files.new.taker c.deref.result.now
+    c.deref-2.result.now c.describe_intake-described.result c.foreign-foreign.result c.deref.ensures
+    (subst (AreAllOf (bytes_of c.deref.result.now)) (sym c.deref-2.ensures.value) c.in-Ok.ensures)
+    c.new-intake.ensures
+    (subst (λ (fs : List (String Global)). FeedsFiles HasTaken c.new-intake.result c.feed_files.new.taker
+    (map (λ f. bytes_of (string_bytes f)) fs)) c.deref-3.ensures.value c.in_ok-feed_files.ensures.fed)
+    c.describe_intake-described.ensures.ok c.describe_intake-described.ensures.err c.foreign-foreign.ensures

@@ -1,0 +1,42 @@
+-- What is answered where files are described, and which of them are foreign.
+use Rattle.std.specs.Prelude.{◌≡◌, ℕ, List, map, Option, Result, Ok, Err}
+use Rattle.ghcn_fields.specs.Refusals.{IsRefusal}
+use Rattle.ghcn_series.specs.declared.counts.Foreign.{Foreign}
+use Rattle.ghcn_description.specs.declared.counts.Description.{Description}
+use Rattle.ghcn_description.specs.Texts.{description_text}
+use Rattle.rank_input.specs.declared.description.DescriptionIntake.{DescriptionIntake}
+use Rattle.rank_input.specs.declared.fault.Fault.{Fault}
+use Rattle.rank_input.specs.Described.{HasTaken, IsDescribed}
+use Rattle.rank_input.specs.Feeding.{AreAllOf, AreFilesOf}
+use Rattle.rank_input.specs.Input.{read_files, is_memory}
+use Rattle.rank_input.specs.Takes.{IsTrueOf}
+use Rattle.extremes.specs.declared.describe.DescriptionText.{DescriptionText}
+use Rattle.extremes.specs.declared.files.Describing.{Describing}
+use Rattle.extremes.specs.Merges.{Known}
+use Rattle.extremes.specs.Runs.{named, AreForeign}
+
+-- a text says what a station list and daily files without a fault hold
+pub record IsTextOf (stations : List ℕ) (files : List (List ℕ)) (text : DescriptionText) : Type 0 where
+  pub description : Description
+  pub described : IsDescribed stations files description
+  pub written : text.bytes.items ≡ description_text description
+
+-- so it does of the files that an intake was given
+abbrev pub DescribesIntake : DescriptionIntake → DescriptionText → Type 0
+DescribesIntake t text = IsTrueOf HasTaken t (λ query stations files. IsTextOf stations files text)
+
+-- the text of what these hold, or their first fault
+abbrev pub IsDescriptionOf : List ℕ → List (List ℕ) → Result DescriptionText Fault → Type 0
+IsDescriptionOf stations files (Ok text) = IsTextOf stations files text
+IsDescriptionOf stations files (Err fault) = IsRefusal is_memory fault (read_files stations files)
+
+-- the description of all bytes of the station list and of each daily file that are named, in order, and which of these
+-- files are foreign
+pub record DescribesFiles (bytes_of : Known) (d : Describing) (answer : Result DescriptionText Fault)
+    (foreign : Option Foreign) : Type 0 where
+  pub stations : List ℕ
+  pub whole : AreAllOf (named bytes_of d.stations) stations
+  pub files : List (List ℕ)
+  pub all : AreFilesOf (map (named bytes_of) d.files.items) files
+  pub described : IsDescriptionOf stations files answer
+  pub told : AreForeign files foreign

@@ -1,0 +1,30 @@
+//! The description of files, as a text.
+
+ghost use Rattle.std.specs.Prelude.{IfOk, IfErr};
+ghost use Rattle.rank_input.specs.Described.{HasTakenSome, RefusesInput};
+ghost use Rattle.extremes.specs.Describes.{DescribesIntake};
+
+use rank_input::{DescriptionIntake, Fault};
+use std::alloc::Global;
+
+/// A description of files as it is printed.
+#[derive(Debug, Drop)]
+pub struct DescriptionText {
+    pub bytes: Vec<u8>,
+}
+
+/// The text of what the files hold that were given, or the first fault in the order: stations, number
+/// of files, files and lines in order.
+pub(crate) fn describe_intake(
+    alloc: Global,
+    intake: DescriptionIntake,
+) -> Result<DescriptionText, Fault>
+    requires { HasTakenSome intake }
+    ensures ok { IfOk result (DescribesIntake intake) }
+    ensures err { IfErr result (RefusesInput intake) }
+{
+    let description = intake.finish()?;
+    Ok(DescriptionText {
+        bytes: description.text(alloc)?,
+    })
+}

@@ -1,0 +1,35 @@
+use Rattle.std.proofs.Common.{◌≡◌, Ok, None, refl, subst}
+use Rattle.ghcn_files.specs.declared.element.Keep.TheVariants.{Nothing}
+use Rattle.ghcn_files.specs.Months.{read_month}
+use Rattle.ghcn_series.specs.DailyFaults.{line_of}
+use Rattle.ghcn_series.proofs.ReadLines.{read-passed, other_kind}
+use Rattle.ghcn_description.specs.Steps.{CountsCode}
+use Rattle.ghcn_description.proofs.DescribedLines.{counted-other}
+use Rattle.ghcn_description.proofs.describer.Describer.add_line.Goals as goal
+
+-- a line of another code
+pub returns-in-Ok-clause-kind : goal.returns-in-Ok-clause-kind
+returns-in-Ok-clause-kind c some =
+    other_kind c.args.bytes.now (rw c.in-Ok-None.field-0-is at c.in-Ok-None.ensures) some
+
+-- it is counted
+pub returns-in-Ok-clause-read : goal.returns-in-Ok-clause-read
+returns-in-Ok-clause-read c =
+    let is : read_month c.args.bytes.now ≡ Ok None = rw c.in-Ok-None.field-0-is at c.in-Ok-None.ensures in
+    let adds = subst (CountsCode c.args.self.now.others c.add.new.self) c.shown_code.ensures c.in-Ok.ensures in
+    record {
+      holds = λ stations keep before of.
+          counted-other stations keep before (line_of c.args.file (c.args.line, c.args.bytes.now)) is c.args.self.now
+          c.args.self.now.reader c.add.new.self
+          (read-passed c.args.self.now.reader (line_of c.args.file (c.args.line, c.args.bytes.now)) is stations Nothing
+          before of.read) adds of;
+    }
+
+-- a month of an earlier line is refused
+pub returns-in-Ok-false-clause-fault : goal.returns-in-Ok-false-clause-fault
+returns-in-Ok-false-clause-fault c =
+    rw c.refused-in-Ok-false.ensures (record {
+      first = λ stations keep before of.
+          c.in-Ok-false.ensures.refused stations keep before
+          (line_of c.args.file (c.args.line, c.args.bytes.now)) refl of c.in-Ok-false.field-0-test;
+    })

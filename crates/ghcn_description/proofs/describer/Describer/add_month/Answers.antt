@@ -1,0 +1,92 @@
+use Rattle.std.proofs.Common.{◌≡◌, Some, None, sym, ap, ◌∙◌, subst}
+use Rattle.ghcn_files.specs.declared.element.Keep.TheVariants.{Nothing}
+use Rattle.ghcn_files.specs.declared.month.Month.{Month}
+use Rattle.ghcn_files.specs.Elements.{is_kept}
+use Rattle.ghcn_files.specs.Listed.{AreListed, place_of}
+use Rattle.ghcn_files.specs.Months.{read_month}
+use Rattle.ghcn_files.specs.Rows.{IsRowOf}
+use Rattle.ghcn_series.specs.Steps.{ReadsMonth}
+use Rattle.ghcn_series.proofs.ReadLines.{read-month, refused-month}
+use Rattle.ghcn_description.proofs.DescribedLines.{counted-month, counted-unlisted}
+use Rattle.ghcn_description.proofs.describer.Describer.add_month.Goals as goal
+
+-- the list is one of stations
+pub place-place-requires : goal.place-place-requires
+place-place-requires c = c.requires.read.1.1.1.read.read.months.listed
+
+-- no days are kept
+pub add_month-requires-clause-right : goal.add_month-requires-clause-right
+add_month-requires-clause-right c =
+    let m : Month = c.requires.row.month in
+    let kept = c.requires.read.1.1.1.read.kept in (
+      m,
+      (
+        c.requires.row.right,
+        subst (λ k. IsRowOf (is_kept k c.without_days.result.element) m c.without_days.result)
+            (sym kept) (c.without_days.ensures m c.requires.row.row),
+      ),
+    )
+
+-- an earlier line has the month
+pub returns-then-not-branch : goal.returns-then-not-branch
+returns-then-not-branch c =
+    let m : Month = c.requires.row.month in
+    let kept = c.requires.read.1.1.1.read.kept in
+    let adds = c.in_ok-add_month.ensures.added m c.requires.row.right
+    (subst (λ k. IsRowOf (is_kept k c.without_days.result.element) m c.without_days.result) (sym kept)
+    (c.without_days.ensures m c.requires.row.row)) in
+    record {
+      read = λ stations keep before l same of. tt;
+      refused = λ stations keep before l same of failed.
+          refused-month c.args.self.now.reader c.add_month.new.self l m (ap read_month same ∙ c.requires.row.read)
+          (subst (ReadsMonth c.args.self.now.reader c.add_month.new.self m) c.if-not-branch.true adds)
+          stations Nothing before of.read;
+    }
+
+-- the month is counted for its station and element
+pub returns-in_ok-count-in-Some : goal.returns-in_ok-count-in-Some
+returns-in_ok-count-in-Some c =
+    let m : Month = c.requires.row.month in
+    let kept = c.requires.read.1.1.1.read.kept in
+    let adds = c.in_ok-add_month.ensures.added m c.requires.row.right
+    (subst (λ k. IsRowOf (is_kept k c.without_days.result.element) m c.without_days.result) (sym kept)
+    (c.without_days.ensures m c.requires.row.row)) in
+    let added = subst (ReadsMonth c.args.self.now.reader c.add_month.new.self m) c.if-not-branch.false adds in
+    let there : place_of c.args.self.now.reader.stations c.args.row.now.id ≡ Some c.in-Some.place =
+    sym c.place-place.ensures ∙ c.in-Some.is in
+    let counted = c.in_ok-count-in-Some.ensures m c.requires.row.right c.requires.row.row
+    (c.flagged_values.ensures m c.requires.row.read) in
+    record {
+      read = λ stations keep before l same of.
+          let is = ap read_month same ∙ c.requires.row.read in
+          counted-month stations keep before l m is c.args.self.now c.count.new.self c.add_month.new.self
+          c.in-Some.place
+          (subst AreListed of.read.listed of.read.read.months.listed)
+          (subst (λ i. place_of stations i ≡ Some c.in-Some.place) c.requires.row.row.id
+          (subst (λ ss. place_of ss c.args.row.now.id ≡ Some c.in-Some.place) of.read.listed there))
+          (read-month c.args.self.now.reader c.add_month.new.self l m is c.in_ok-add_month.ensures.stations
+          c.in_ok-add_month.ensures.keep added stations Nothing before of.read) counted of;
+      refused = λ stations keep before l same of failed. absurd cc;
+    }
+
+-- its station isn't listed
+pub returns-in_ok-self-in-None : goal.returns-in_ok-self-in-None
+returns-in_ok-self-in-None c =
+    let m : Month = c.requires.row.month in
+    let kept = c.requires.read.1.1.1.read.kept in
+    let adds = c.in_ok-add_month.ensures.added m c.requires.row.right
+    (subst (λ k. IsRowOf (is_kept k c.without_days.result.element) m c.without_days.result) (sym kept)
+    (c.without_days.ensures m c.requires.row.row)) in
+    let added = subst (ReadsMonth c.args.self.now.reader c.add_month.new.self m) c.if-not-branch.false adds in
+    let nowhere : place_of c.args.self.now.reader.stations c.args.row.now.id ≡ None =
+    sym c.place-place.ensures ∙ c.in-None.is in
+    record {
+      read = λ stations keep before l same of.
+          let is = ap read_month same ∙ c.requires.row.read in
+          counted-unlisted stations keep before l m is c.args.self.now c.add_month.new.self c.in_ok-self-in-None.field-0
+          (subst (λ i. place_of stations i ≡ None) c.requires.row.row.id
+          (subst (λ ss. place_of ss c.args.row.now.id ≡ None) of.read.listed nowhere))
+          (read-month c.args.self.now.reader c.add_month.new.self l m is c.in_ok-add_month.ensures.stations
+          c.in_ok-add_month.ensures.keep added stations Nothing before of.read) c.in_ok-self-in-None.ensures of;
+      refused = λ stations keep before l same of failed. absurd cc;
+    }

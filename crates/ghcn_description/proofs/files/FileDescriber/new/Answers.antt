@@ -1,0 +1,12 @@
+use Rattle.ghcn_files.specs.declared.element.Keep.TheVariants.{Nothing}
+use Rattle.ghcn_series.specs.Fed.{nothing_fed}
+use Rattle.ghcn_description.proofs.files.FileDescriber.new.Goals as goal
+
+-- nothing is fed
+pub returns-in-Ok-clause-fed : goal.returns-in-Ok-clause-fed
+returns-in-Ok-clause-fed c = c.new-in-Ok.ensures.fed c.args.stations Nothing (c.in-Ok.ensures Nothing)
+
+-- that is something
+pub returns-in-Ok-clause-going : goal.returns-in-Ok-clause-going
+returns-in-Ok-clause-going c =
+    (nothing_fed Nothing c.args.stations, c.new-in-Ok.ensures.fed c.args.stations Nothing (c.in-Ok.ensures Nothing))

@@ -1,0 +1,48 @@
+use Rattle.std.proofs.Common.{rules, ◌≡◌, ◌<◌, ℕ, ◌+◌, List, length, get_or, refl, sym, ap, ◌∙◌, subst, arith}
+use Rattle.std.specs.Cmp.Lexicographic.{slice_cmp}
+use Rattle.std.specs.List.Sorted.{IsPartitionPoint, IsNonDecreasingBy}
+use Rattle.std.specs.Ordering.{nat_cmp, ordering_index}
+use Rattle.std.specs.declared.cmp.Ordering.TheVariants.{Less, Equal, Greater}
+use Rattle.std.proofs.lemmas.Fn.{always_returns_same}
+use Rattle.std.proofs.lemmas.List.{get_or_default}
+use Rattle.ghcn_description.specs.declared.counts.CodeCount.{CodeCount}
+use Rattle.ghcn_description.proofs.OtherCodes.{searchable, place-is, found-at}
+use Rattle.ghcn_description.proofs.others.Others.add.Goals as goal
+
+-- the code belongs where the search ends
+pub add_new-requires : goal.add_new-requires
+add_new-requires c =
+    let cs : List CodeCount = c.args.self.now.counts.items in
+    let value = c.deref.ensures.value in
+    let parted = c.in-Err.ensures.position (λ e. slice_cmp nat_cmp e.code c.args.code)
+    (always_returns_same _ _ _ (λ a r g called. search rules))
+    (subst (λ (ds : List CodeCount). IsNonDecreasingBy (λ e. ordering_index (slice_cmp nat_cmp e.code c.args.code)) ds)
+    (sym value) (searchable c.args.code cs c.requires.1.rising)) in
+    place-is c.args.code cs c.in-Err.place (omega (arith, c.in-Err.ensures.bound, ap length value))
+    (subst (λ ds. IsPartitionPoint (λ (e : CodeCount). slice_cmp nat_cmp e.code c.args.code ≡ Less)
+    (λ (e : CodeCount). slice_cmp nat_cmp e.code c.args.code ≡ Greater) ds c.in-Err.place) value parted)
+
+-- a line more is counted where the code was found
+pub returns-in_ok-self-in-Ok : goal.returns-in_ok-self-in-Ok
+returns-in_ok-self-in-Ok c =
+    let cs : List CodeCount = c.args.self.now.counts.items in
+    let place : ℕ = c.in-Ok.place in
+    let there : CodeCount = c.index_mut.result.now in
+    let value = c.deref.ensures.value in
+    let at = c.index_mut.ensures.value in
+    let lt : place < length cs = omega (arith, c.in-Ok.ensures.bound, ap length value) in
+    let ties = c.in-Ok.ensures.position (λ e. slice_cmp nat_cmp e.code c.args.code)
+    (always_returns_same _ _ _ (λ a r g called. search rules)) there in
+    let found = subst (λ (ds : List CodeCount). slice_cmp nat_cmp (get_or ds place there).code c.args.code ≡ Equal)
+    value ties in
+    let more : c.in_ok-self-in-Ok.field-0 ≡ there.lines + 1 =
+    c.in_ok-self-in-Ok.ensures
+    ∙ ap (λ (e : CodeCount). e.lines + 1)
+    (c.index.ensures ∙ get_or_default cs place c.index.result.now there lt ∙ sym at) in
+    record {
+      holds = λ ls l other is of.
+          found-at ls l cs place c.args.self.now.further there
+          (record { code = there.code; lines = c.in_ok-self-in-Ok.field-0 }) other lt at
+          (subst (λ k. slice_cmp nat_cmp there.code k ≡ Equal) is
+          (ap (λ (e : CodeCount). slice_cmp nat_cmp e.code c.args.code) at ∙ found)) refl more of;
+    }

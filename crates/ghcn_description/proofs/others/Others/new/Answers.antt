@@ -1,0 +1,6 @@
+use Rattle.ghcn_description.proofs.OtherCodes.{nothing-counted}
+use Rattle.ghcn_description.proofs.others.Others.new.Goals as goal
+
+-- no line has another code
+pub returns : goal.returns
+returns c = rw c.new.ensures.items nothing-counted

@@ -1,0 +1,117 @@
+-- When lines are described so, what a describer of files stands for, and what each of its steps adds.
+use Rattle.std.specs.Prelude.{◌≡◌, ℕ, ◌^◌, ◌≤◌, Bool, false, not, ◌&&◌, ◌||◌, List, [], ◌∷◌, ◌++◌, length, map}
+use Rattle.std.specs.Bool.{OnTrue}
+use Rattle.std.specs.List.{list_any, AllZip, slice_index_or, slice_set}
+use Rattle.ghcn_fields.specs.Faults.{HaveNoFault}
+use Rattle.ghcn_fields.specs.Refusals.{IsRefusal}
+use Rattle.ghcn_files.specs.declared.element.Element.{Element}
+use Rattle.ghcn_files.specs.declared.element.Keep.{Keep}
+use Rattle.ghcn_files.specs.declared.element.Keep.TheVariants.{Nothing}
+use Rattle.ghcn_files.specs.declared.station.Station.{Station}
+use Rattle.ghcn_files.specs.declared.station.StationId.{StationId}
+use Rattle.ghcn_files.specs.declared.month.Month.{Month}
+use Rattle.ghcn_files.specs.Ids.{same_id}
+use Rattle.ghcn_files.specs.Elements.{elements, same_element, element_index}
+use Rattle.ghcn_series.specs.declared.counts.Foreign.{Foreign}
+use Rattle.ghcn_series.specs.declared.counts.LineCounts.{LineCounts}
+use Rattle.ghcn_series.specs.declared.fault.DailyWhy.TheVariants.{DuplicateMonth}
+use Rattle.ghcn_series.specs.declared.fault.DataFault.{DataFault}
+use Rattle.ghcn_series.specs.declared.fault.DataFault.TheVariants.{DailyLine}
+use Rattle.ghcn_series.specs.Counted.{HaveCounted}
+use Rattle.ghcn_series.specs.Cut as cut
+use Rattle.ghcn_series.specs.DailyFaults.{FileLine, daily_fault, daily_lines, is_memory, IsFirstRefusal}
+use Rattle.ghcn_series.specs.Fed.{Fed, more, with_end, with_files, files_of}
+use Rattle.ghcn_series.specs.Gathered.{HasReadFor, IsLineRefusal}
+use Rattle.ghcn_series.specs.LineKinds.{foreign_of}
+use Rattle.ghcn_series.specs.Says.{Fact, usable_facts, data_of}
+use Rattle.ghcn_description.specs.declared.counts.Description.{Description}
+use Rattle.ghcn_description.specs.declared.counts.ElementCounts.{ElementCounts}
+use Rattle.ghcn_description.specs.declared.describer.Describer.{Describer}
+use Rattle.ghcn_description.specs.declared.files.FileDescriber.{FileDescriber}
+use Rattle.ghcn_description.specs.Described.{AreCounts, AreOthers, IsDescription}
+use Rattle.ghcn_description.specs.Lines.{unlisted_lines}
+use Rattle.ghcn_description.specs.Steps.{CountsMonth, has_day}
+
+-- ---- lines
+
+-- some fact is of this station and element
+abbrev pub has_fact : List Fact → StationId → Element → Bool
+has_fact facts id e = list_any (λ f. same_id f.id id && same_element f.element e) facts
+
+-- of which elements a station has a fact
+abbrev pub elements_with : List Fact → Station → List Bool
+elements_with facts s = map (has_fact facts s.id) elements
+
+-- a describer has read these lines for these stations, and counted what stands on them
+pub record HasDescribed (d : Describer) (stations : List Station) (keep : Keep) (ls : List FileLine) : Type 0 where
+  pub read : HasReadFor d.reader stations Nothing ls
+  pub counts : AllZip (AreCounts stations ls) d.elements elements
+  pub with_days : d.with_days.items ≡ map (elements_with (usable_facts stations ls)) stations
+  pub others : AreOthers ls d.others.counts.items d.others.further
+  pub unlisted : d.unlisted ≡ unlisted_lines stations ls
+
+-- a describer counts a month of the station at this place of the list
+pub record CountsAt (old new : Describer) (place : ℕ) (m : Month) : Type 0 where
+  pub reader : new.reader ≡ old.reader
+  pub others : new.others ≡ old.others
+  pub unlisted : new.unlisted ≡ old.unlisted
+  pub had : Bool
+  pub had_day : had ≡ slice_index_or (slice_index_or old.with_days.items place []) (element_index m.element) false
+  pub with_days : new.with_days.items ≡ slice_set old.with_days.items place
+      (slice_set (slice_index_or old.with_days.items place []) (element_index m.element) (had || has_day m))
+  pub before : ElementCounts
+  pub after : ElementCounts
+  pub there : before ≡ slice_index_or old.elements (element_index m.element) before
+  pub elements : new.elements ≡ slice_set old.elements (element_index m.element) after
+  pub counted : CountsMonth before after m (has_day m && not had)
+
+-- a describer adds the month of a line, unless its station is listed and has that month
+pub record AddsMonth (old new : Describer) (line : List ℕ) (added : Bool) : Type 0 where
+  pub read : (stations : List Station) (keep : Keep) (before : List FileLine) (l : FileLine) → l.bytes ≡ line
+      → HasDescribed old stations keep before → OnTrue added (HasDescribed new stations keep (before ++ l ∷ []))
+  pub refused : (stations : List Station) (keep : Keep) (before : List FileLine) (l : FileLine) → l.bytes ≡ line
+      → HasDescribed old stations keep before → added ≡ false
+      → IsLineRefusal stations (before ++ l ∷ []) (DailyLine l.file l.line DuplicateMonth)
+
+-- this is the description of the files that a describer has read
+pub record Finishes (d : Describer) (number : ℕ) (counts : LineCounts) (made : Description) : Type 0 where
+  pub is : (stations : List Station) (keep : Keep) (files : List (List ℕ))
+      → HasDescribed d stations keep (daily_lines files) → number ≡ length files → HaveCounted counts files []
+      → IsDescription stations files made
+
+-- ---- files
+
+-- these files, which are few enough and have no line with a fault, are described so
+pub record Describes (stations : List Station) (files : List (List ℕ)) (d : Description) : Type 0 where
+  pub few : length files ≤ 2 ^ 20
+  pub right : HaveNoFault (daily_fault stations) (daily_lines files)
+  pub is : IsDescription stations files d
+
+-- a describer was fed this
+abbrev pub HasFed : FileDescriber → Fed → Type 0
+HasFed r fed = cut.HasFed HasDescribed r.cutter fed
+
+-- what a describer was fed: some bytes of some files
+abbrev pub HasFedSome : FileDescriber → Type 0
+HasFedSome r = (fed : Fed) × HasFed r fed
+
+-- a describer takes more bytes of the current file
+pub record TakesPiece (old new : FileDescriber) (bytes : List ℕ) : Type 0 where
+  pub holds : (fed : Fed) → HasFed old fed → HasFed new (with_files fed (more fed.files bytes))
+
+-- a describer ends the current file
+pub record EndsFile (old new : FileDescriber) : Type 0 where
+  pub holds : (fed : Fed) → HasFed old fed → HasFed new (with_files fed (with_end fed.files))
+
+-- these are the foreign files among those that a describer was fed, and that were ended
+pub record AreForeignOf (r : FileDescriber) (foreign : Foreign) : Type 0 where
+  pub is : (fed : Fed) → HasFed r fed → foreign ≡ foreign_of fed.files.ended
+
+-- the files that a describer was fed are described so
+pub record HoldsFed (r : FileDescriber) (d : Description) : Type 0 where
+  pub is : (fed : Fed) → HasFed r fed → Describes fed.stations (files_of fed.files) d
+
+-- want of memory, or the first fault of the files that a describer was fed
+pub record RefusesFed (r : FileDescriber) (fault : DataFault) : Type 0 where
+  pub is : (fed : Fed) → HasFed r fed → IsRefusal is_memory fault (data_of fed.stations (files_of fed.files))
+  pub first : (fed : Fed) → HasFed r fed → IsFirstRefusal fault fed.stations (files_of fed.files)

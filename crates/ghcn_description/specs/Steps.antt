@@ -1,0 +1,71 @@
+-- What each step of the counting adds to what was counted before it.
+use Rattle.std.specs.Prelude.{◌≡◌, ℕ, ◌+◌, ◌≤◌, ◌<◌, true, Bool, not, ◌==◌, if◌then◌else◌, List, [], ◌∷◌, ◌++◌}
+use Rattle.std.specs.Prelude.{length, map, take, drop, ℤ}
+use Rattle.std.specs.Prelude.{None}
+use Rattle.std.specs.List.{AllByRecursion}
+use Rattle.ghcn_files.specs.declared.element.Element.{Element}
+use Rattle.ghcn_files.specs.declared.month.Month.{Month}
+use Rattle.ghcn_files.specs.Flags.{flagged_values}
+use Rattle.ghcn_series.specs.DailyFaults.{FileLine}
+use Rattle.ghcn_series.specs.Gathered.{usable_days}
+use Rattle.ghcn_description.specs.declared.counts.CodeCount.{CodeCount}
+use Rattle.ghcn_description.specs.declared.counts.ElementCounts.{ElementCounts}
+use Rattle.ghcn_description.specs.declared.others.Others.{Others}
+use Rattle.ghcn_description.specs.Lines.{is_other, code_on}
+use Rattle.ghcn_description.specs.Described.{AreOthers, Precedes, IsSpan, most_codes}
+
+-- ---- other codes
+
+-- what was counted of other codes is that of some lines
+abbrev pub HasCountedSome : Others → Type 0
+HasCountedSome o = (ls : List FileLine) × AreOthers ls o.counts.items o.further
+
+-- a line of this code is counted
+pub record CountsCode (old new : Others) (code : List ℕ) : Type 0 where
+  pub holds : (ls : List FileLine) (l : FileLine) → is_other l ≡ true → code ≡ code_on l
+      → AreOthers ls old.counts.items old.further → AreOthers (ls ++ l ∷ []) new.counts.items new.further
+
+-- a code that isn't among these belongs at this place
+pub record IsPlaceOf (code : List ℕ) (counts : List CodeCount) (place : ℕ) : Type 0 where
+  pub within : place ≤ length counts
+  pub before : AllByRecursion (λ c. Precedes c.code code) (take place counts)
+  pub behind : AllByRecursion (λ c. Precedes code c.code) (drop place counts)
+
+-- the last code leaves
+pub record LosesLast (old new : Others) : Type 0 where
+  pub last : CodeCount
+  pub counts : old.counts.items ≡ new.counts.items ++ last ∷ []
+  pub further : new.further ≡ old.further + last.lines
+
+-- the last code leaves, where as many are named as may be
+pub record MakesRoom (old new : Others) : Type 0 where
+  pub few : length old.counts.items < most_codes → new ≡ old
+  pub many : most_codes ≤ length old.counts.items → LosesLast old new
+
+-- ---- an element
+
+-- nothing of this element is counted
+pub record IsEmpty (c : ElementCounts) (e : Element) : Type 0 where
+  pub element : c.element ≡ e
+  pub lines : c.lines ≡ 0
+  pub series : c.series ≡ 0
+  pub days : c.days ≡ 0
+  pub flagged : c.flagged ≡ 0
+  pub span : c.span ≡ None
+
+-- the days of a month that are usable
+abbrev pub days_of_month : Month → List ℤ
+days_of_month m = map (λ x. x.0) (usable_days m)
+
+-- some day of a month is usable
+abbrev pub has_day : Month → Bool
+has_day m = not (length (days_of_month m) == 0)
+
+-- a month of a listed station is counted, which has the first usable day of its series or hasn't
+pub record CountsMonth (old new : ElementCounts) (m : Month) (is_new : Bool) : Type 0 where
+  pub element : new.element ≡ old.element
+  pub lines : new.lines ≡ old.lines + 1
+  pub series : new.series ≡ old.series + (if is_new then 1 else 0)
+  pub days : new.days ≡ old.days + length (days_of_month m)
+  pub flagged : new.flagged ≡ old.flagged + flagged_values m
+  pub span : (days : List ℤ) → IsSpan days old.span → IsSpan (days ++ days_of_month m) new.span

@@ -1,0 +1,162 @@
+//! Counts what stands on the lines of daily files.
+
+ghost use Rattle.std.specs.Prelude.{◌≡◌, ◌<◌, ◌∷◌, [], false, true, length, IfOk, IfErr, OnOk};
+ghost use Rattle.ghcn_fields.specs.Bytes.{is_blank};
+ghost use Rattle.ghcn_files.specs.declared.element.Keep.{Keep};
+ghost use Rattle.ghcn_files.specs.declared.element.Keep.TheVariants.{All};
+ghost use Rattle.ghcn_files.specs.Flags.{flagged_values};
+ghost use Rattle.ghcn_files.specs.Rows.{IsOfLine};
+ghost use Rattle.ghcn_series.specs.DailyFaults.{line_of};
+ghost use Rattle.ghcn_series.specs.LineKinds.{kind_of};
+ghost use Rattle.ghcn_series.specs.LinesRead.{HasReadSome, Reads, Refuses};
+ghost use Rattle.ghcn_series.specs.Steps.{IsOfMonth, OfMonth};
+ghost use Rattle.ghcn_description.specs.Describing.{HasDescribed, AddsMonth, CountsAt, Finishes};
+
+use crate::counts::sum;
+use crate::elements::{no_counts, place_of};
+use crate::others::{Others, shown_code};
+use crate::{Description, ElementCounts};
+use ghcn_fields::{Memory, is_blank, without_return};
+use ghcn_files::{Keep, MonthRow, Stations, flagged_values, read_days};
+use ghcn_series::{DailyWhy, DataFault, LineCounts, LineKind, LineReader, Reader};
+use std::alloc::Global;
+
+/// What was counted on the lines that were read so far.
+#[derive(Drop)]
+pub struct Describer {
+    /// Notes the months that were read, and keeps no days.
+    reader: Reader,
+    /// Of each listed station, in their order, of which elements it has a usable day.
+    with_days: Vec<[bool; 5]>,
+    /// Of the five elements, in their order.
+    elements: [ElementCounts; 5],
+    others: Others,
+    /// How many lines of the five elements are of stations that aren't listed.
+    unlisted: u64,
+}
+
+impl LineReader for Describer {
+    ghost use Rattle.ghcn_description.specs.Describing.{HasDescribed};
+
+    ghost has_read = { HasDescribed };
+
+    fn add(
+        &mut self,
+        alloc: Global,
+        file: u64,
+        line: u64,
+        bytes: &[u8],
+    ) -> Result<LineKind, DataFault> {
+        let bytes = without_return(bytes);
+        if is_blank(bytes) {
+            return Ok(LineKind::Blank);
+        }
+        self.add_line(alloc, file, line, bytes)
+    }
+}
+
+impl Describer {
+    /// Nothing read yet.
+    pub(crate) fn new(alloc: Global, stations: Stations) -> Result<Self, Memory>
+        ensures { IfOk result (λ d. (keep : Keep) → HasDescribed d stations keep []) }
+    {
+        let count = stations.len() as usize;
+        let mut with_days = Vec::with_capacity(alloc, count)?;
+        for _ in 0..count {
+            with_days.push([false; 5])?;
+        }
+        Ok(Describer {
+            reader: Reader::new(alloc, stations, Keep::Nothing)?,
+            with_days,
+            elements: no_counts(),
+            others: Others::new(alloc),
+            unlisted: 0,
+        })
+    }
+
+    /// What so many files hold, of whose lines these are the counts.
+    pub(crate) fn finish(self, files: u64, counts: &LineCounts) -> Description
+        ensures { Finishes self files counts.now result }
+    {
+        let (others, further) = self.others.finish();
+        Description {
+            stations: self.with_days.len() as u64,
+            files,
+            lines: counts.lines,
+            elements: self.elements,
+            others,
+            further,
+            unlisted: self.unlisted,
+            blank: counts.blank,
+        }
+    }
+
+    /// Adds a line that isn't blank.
+    fn add_line(
+        &mut self,
+        alloc: Global,
+        file: u64,
+        line: u64,
+        bytes: &[u8],
+    ) -> Result<LineKind, DataFault>
+        requires { HasReadSome HasDescribed self.old }
+        ensures kind { IfOk result (λ kind. is_blank bytes.now ≡ false → kind ≡ kind_of bytes.now) }
+        ensures read { OnOk result (Reads HasDescribed self.old self.new (line_of file (line, bytes.now) ∷ [])) }
+        ensures fault { IfErr result (Refuses HasDescribed self.old (line_of file (line, bytes.now) ∷ [])) }
+    {
+        let row = match read_days(bytes, Keep::All) {
+            Ok(Some(row)) => row,
+            Ok(None) => {
+                return match self.others.add(shown_code(bytes)) {
+                    Ok(()) => Ok(LineKind::Other),
+                    Err(memory) => Err(DataFault::Memory(memory)),
+                };
+            }
+            Err(why) => return Err(refused(file, line, DailyWhy::Line(why))),
+        };
+        match self.add_month(alloc, bytes, &row) {
+            Ok(true) => Ok(LineKind::OfElement),
+            Ok(false) => Err(refused(file, line, DailyWhy::DuplicateMonth)),
+            Err(memory) => Err(DataFault::Memory(memory)),
+        }
+    }
+
+    /// Adds the month of a line, or answers false where its station is listed and has that month already.
+    fn add_month(&mut self, alloc: Global, line: &[u8], row: &MonthRow) -> Result<bool, Memory>
+        requires row { IsOfLine All line.now row.now }
+        requires read { HasReadSome HasDescribed self.old }
+        ensures { IfOk result (AddsMonth self.old self.new line.now) }
+    {
+        let place = self.reader.place(&row.id);
+        if !self.reader.add_month(alloc, &row.without_days())? {
+            return Ok(false);
+        }
+        match place {
+            Some(place) => self.count(place, row, flagged_values(line, row))?,
+            None => self.unlisted = sum(self.unlisted, 1)?,
+        }
+        Ok(true)
+    }
+
+    /// Counts a month of the station at a place of the list, with so many flagged values.
+    fn count(&mut self, place: usize, row: &MonthRow, flagged: u32) -> Result<(), Memory>
+        requires place { place < length self.old.with_days.items }
+        requires right { IsOfMonth true row.now }
+        ensures { OnOk result (OfMonth true row.now
+            (λ m. flagged ≡ flagged_values m → CountsAt self.old self.new place m)) }
+    {
+        let at = place_of(row.element);
+        let has_day = row.word != 0;
+        let had_day = self.with_days[place][at];
+        self.with_days[place][at] = had_day | has_day;
+        self.elements[at].add(row, flagged, has_day & !had_day)?;
+        Ok(())
+    }
+}
+
+/// The fault of a line.
+fn refused(file: u64, line: u64, why: DailyWhy) -> DataFault
+    ensures { result ≡ DataFault.DailyLine file line why }
+{
+    DataFault::DailyLine { file, line, why }
+}

@@ -1,0 +1,137 @@
+//! Counts what listed stations have of an element, month by month.
+
+ghost use Rattle.std.specs.Prelude.{◌≡◌, ◌<◌, ◌+◌, [], ◌++◌, true, IfOk, OnOk, List, ℤ, Some, if◌then◌else◌};
+ghost use Rattle.std.specs.Int.{int_min, int_max};
+ghost use Rattle.std.specs.List.{AllZip};
+ghost use Rattle.ghcn_fields.specs.Days.{day_number};
+ghost use Rattle.ghcn_files.specs.Elements.{elements, element_index};
+ghost use Rattle.ghcn_files.specs.Flags.{flagged_values};
+ghost use Rattle.ghcn_series.specs.Steps.{IsOfMonth, OfMonth};
+ghost use Rattle.ghcn_description.specs.Described.{IsSpan};
+ghost use Rattle.ghcn_description.specs.Steps.{CountsMonth, IsEmpty, days_of_month};
+
+use crate::counts::sum;
+use crate::{ElementCounts, Span};
+use ghcn_fields::{Day, Memory};
+use ghcn_files::{Element, MonthRow};
+
+impl ElementCounts {
+    /// Of no line.
+    fn new(element: Element) -> Self
+        ensures { IsEmpty result element }
+    {
+        ElementCounts {
+            element,
+            lines: 0,
+            series: 0,
+            days: 0,
+            flagged: 0,
+            span: None,
+        }
+    }
+
+    /// Counts a month of a listed station with so many flagged values, and whether it has the first usable day of its
+    /// series.
+    pub(crate) fn add(&mut self, row: &MonthRow, flagged: u32, is_new: bool) -> Result<(), Memory>
+        requires { IsOfMonth true row.now }
+        ensures { OnOk result (OfMonth true row.now
+            (λ m. flagged ≡ flagged_values m → CountsMonth self.old self.new m is_new)) }
+    {
+        self.lines = sum(self.lines, 1)?;
+        self.series = sum(self.series, one_if(is_new))?;
+        self.days = sum(self.days, row.word.count_ones() as u64)?;
+        self.flagged = sum(self.flagged, flagged as u64)?;
+        self.span = joined(self.span, span_of(row));
+        Ok(())
+    }
+}
+
+/// Nothing counted yet, by element.
+pub(crate) fn no_counts() -> [ElementCounts; 5]
+    ensures { AllZip IsEmpty result elements }
+{
+    [
+        ElementCounts::new(Element::Prcp),
+        ElementCounts::new(Element::Snow),
+        ElementCounts::new(Element::Snwd),
+        ElementCounts::new(Element::Tmax),
+        ElementCounts::new(Element::Tmin),
+    ]
+}
+
+/// An element's place among the five.
+pub(crate) fn place_of(element: Element) -> usize
+    ensures { result ≡ element_index element }
+{
+    match element {
+        Element::Prcp => 0,
+        Element::Snow => 1,
+        Element::Snwd => 2,
+        Element::Tmax => 3,
+        Element::Tmin => 4,
+    }
+}
+
+/// One where it is so, and else nothing.
+fn one_if(so: bool) -> u64
+    ensures { result ≡ (if so then 1 else 0) }
+{
+    so as u64
+}
+
+/// The first and the last usable day of a month, where it has one.
+fn span_of(row: &MonthRow) -> Option<Span>
+    requires { IsOfMonth true row.now }
+    ensures { OfMonth true row.now (λ m. IsSpan (days_of_month m) result) }
+{
+    let last = row.word.checked_ilog2()?;
+    let first = row.word.trailing_zeros();
+    Some(Span {
+        first: day_at(row, first)?,
+        last: day_at(row, last)?,
+    })
+}
+
+/// The day of a month at a place, from 0.
+fn day_at(row: &MonthRow, place: u32) -> Option<Day>
+    requires { place < 32 }
+    ensures { result ≡ day_number row.now.year row.now.month (place + 1) }
+{
+    Day::of(row.year, row.month, place as u8 + 1)
+}
+
+/// The first and the last of the days of both.
+fn joined(one: Option<Span>, other: Option<Span>) -> Option<Span>
+    ensures { (days more : List ℤ) → IsSpan days one → IsSpan more other → IsSpan (days ++ more) result }
+{
+    match (one, other) {
+        (Some(one), Some(other)) => Some(Span {
+            first: earlier(one.first, other.first),
+            last: later(one.last, other.last),
+        }),
+        (one, None) => one,
+        (None, other) => other,
+    }
+}
+
+/// The earlier of two days.
+fn earlier(one: Day, other: Day) -> Day
+    ensures { result ≡ int_min one other }
+{
+    if other.number() < one.number() {
+        other
+    } else {
+        one
+    }
+}
+
+/// The later of two days.
+fn later(one: Day, other: Day) -> Day
+    ensures { result ≡ int_max one other }
+{
+    if other.number() < one.number() {
+        one
+    } else {
+        other
+    }
+}

@@ -1,0 +1,72 @@
+//! Describes daily files that come in pieces.
+
+ghost use Rattle.std.specs.Prelude.{IfOk, IfErr, IfSome};
+ghost use Rattle.ghcn_files.specs.declared.element.Keep.TheVariants.{Nothing};
+ghost use Rattle.ghcn_series.specs.Fed.{IsOfMemory, nothing_fed};
+ghost use Rattle.ghcn_description.specs.Describing as describing;
+
+use crate::Description;
+use crate::describer::Describer;
+use ghcn_files::Stations;
+use ghcn_series::{Cutter, DataFault, Foreign};
+use std::alloc::Global;
+
+/// Describes daily files in their order, each in pieces that may end anywhere. The first fault is kept, and told at
+/// the end: lines that come behind it aren't looked at, but their files are counted.
+#[derive(Drop)]
+pub struct FileDescriber {
+    cutter: Cutter<Describer>,
+}
+
+impl FileDescriber {
+    /// Nothing fed yet.
+    pub fn new(alloc: Global, stations: Stations) -> Result<Self, DataFault>
+        ensures fed { IfOk result (λ d. describing.HasFed d (nothing_fed Nothing stations)) }
+        ensures going { IfOk result describing.HasFedSome }
+        ensures fault { IfErr result IsOfMemory }
+    {
+        match Describer::new(alloc, stations) {
+            Ok(reader) => Ok(FileDescriber {
+                cutter: Cutter::new(alloc, reader),
+            }),
+            Err(memory) => Err(DataFault::Memory(memory)),
+        }
+    }
+
+    /// Takes more bytes of the current file.
+    pub fn piece(&mut self, bytes: &[u8])
+        requires { describing.HasFedSome self.old }
+        ensures fed { describing.TakesPiece self.old self.new bytes.now }
+        ensures going { describing.HasFedSome self.new }
+    {
+        self.cutter.piece(bytes);
+    }
+
+    /// Ends the current file, even where it is empty.
+    pub fn end_of_file(&mut self)
+        requires { describing.HasFedSome self.old }
+        ensures fed { describing.EndsFile self.old self.new }
+        ensures going { describing.HasFedSome self.new }
+    {
+        self.cutter.end_of_file();
+    }
+
+    /// The foreign files among those that were ended, unless a fault was found.
+    pub fn foreign(&self) -> Option<Foreign>
+        requires { describing.HasFedSome self.now }
+        ensures { IfSome result (describing.AreForeignOf self.now) }
+    {
+        self.cutter.foreign()
+    }
+
+    /// What the files hold that were fed, or their first fault: too many files come before the fault of a line. The
+    /// current file is ended where it has a byte.
+    pub fn finish(self) -> Result<Description, DataFault>
+        requires { describing.HasFedSome self }
+        ensures ok { IfOk result (describing.HoldsFed self) }
+        ensures err { IfErr result (describing.RefusesFed self) }
+    {
+        let all = self.cutter.finish()?;
+        Ok(all.reader.finish(all.files, &all.counts))
+    }
+}

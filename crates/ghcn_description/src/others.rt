@@ -1,0 +1,123 @@
+//! Counts lines of codes that are none of the five elements'.
+
+ghost use Rattle.std.specs.Prelude.{◌≡◌, ◌≤◌, ◌+◌, length, map, [], OnOk};
+ghost use Rattle.ghcn_fields.specs.Lines.{columns};
+ghost use Rattle.ghcn_description.specs.Described.{AreOthers};
+ghost use Rattle.ghcn_description.specs.Lines.{shown};
+ghost use Rattle.ghcn_description.specs.Steps.{HasCountedSome, CountsCode, IsPlaceOf, MakesRoom};
+
+use crate::CodeCount;
+use crate::counts::sum;
+use ghcn_fields::Memory;
+use std::alloc::Global;
+
+/// How many codes are named at most.
+const MOST_CODES: usize = 200;
+
+/// The columns, from 0, of a line's code.
+const CODE: usize = 17;
+
+/// The least codes that were found, with their numbers of lines.
+#[derive(Drop)]
+pub(crate) struct Others {
+    /// By increasing bytes.
+    counts: Vec<CodeCount>,
+    /// How many lines have a code behind those.
+    further: u64,
+}
+
+impl Others {
+    /// No line yet.
+    pub(crate) fn new(alloc: Global) -> Self
+        ensures { AreOthers [] result.counts.items result.further }
+    {
+        Others {
+            counts: Vec::new(alloc),
+            further: 0,
+        }
+    }
+
+    /// Adds a line of a code.
+    pub(crate) fn add(&mut self, code: [u8; 4]) -> Result<(), Memory>
+        requires { HasCountedSome self.old }
+        ensures { OnOk result (CountsCode self.old self.new code) }
+    {
+        match self.counts.binary_search_by(|count| count.code.cmp(&code)) {
+            Ok(place) => {
+                self.counts[place].lines = sum(self.counts[place].lines, 1)?;
+                Ok(())
+            }
+            Err(place) => self.add_new(place, code),
+        }
+    }
+
+    /// Adds a line of a code that isn't among the others, and belongs at a place.
+    fn add_new(&mut self, place: usize, code: [u8; 4]) -> Result<(), Memory>
+        requires { IsPlaceOf code self.old.counts.items place }
+        ensures { OnOk result (CountsCode self.old self.new code) }
+    {
+        if place >= MOST_CODES {
+            return self.pass_over(1);
+        }
+        self.make_room()?;
+        self.counts.insert(place, CodeCount { code, lines: 1 })?;
+        Ok(())
+    }
+
+    /// Lets the last code leave, where as many are named as may be.
+    fn make_room(&mut self) -> Result<(), Memory>
+        ensures { OnOk result (MakesRoom self.old self.new) }
+    {
+        if self.counts.len() < MOST_CODES {
+            return Ok(());
+        }
+        match self.counts.pop() {
+            Some(last) => self.pass_over(last.lines),
+            None => Ok(()),
+        }
+    }
+
+    /// Counts so many lines whose code isn't named.
+    fn pass_over(&mut self, lines: u64) -> Result<(), Memory>
+        ensures further { OnOk result (self.new.further ≡ self.old.further + lines) }
+        ensures counts { self.new.counts ≡ self.old.counts }
+    {
+        self.further = sum(self.further, lines)?;
+        Ok(())
+    }
+
+    /// The codes with their numbers of lines, and how many lines have a code behind those.
+    pub(crate) fn finish(self) -> (Vec<CodeCount>, u64)
+        ensures counts { result.0 ≡ self.counts }
+        ensures further { result.1 ≡ self.further }
+    {
+        (self.counts, self.further)
+    }
+}
+
+/// The code of a line of at least 21 columns, with `?` for each byte that can't be seen.
+pub(crate) fn shown_code(line: &[u8]) -> [u8; 4]
+    requires { 21 ≤ length line.now }
+    ensures { result ≡ map shown (columns 18 21 line.now) }
+{
+    let mut code = [b' '; 4];
+    code.copy_from_slice(&line[CODE..CODE + 4]);
+    make_visible(&mut code);
+    code
+}
+
+/// Puts a question mark for each byte that can't be seen.
+fn make_visible(text: &mut [u8])
+    ensures { text.new ≡ map shown text.old }
+{
+    for byte in text {
+        *byte = visible(*byte);
+    }
+}
+
+/// The byte, or a question mark where it can't be seen.
+fn visible(byte: u8) -> u8
+    ensures { result ≡ shown byte }
+{
+    if byte.is_ascii_graphic() { byte } else { b'?' }
+}

@@ -1,0 +1,163 @@
+-- What is counted of one line more, or of one file more.
+use Rattle.std.proofs.Common.{◌≡◌, ℕ, ◌+◌, ◌≤◌, true, false, Bool, cond, List, [], ◌∷◌, ◌++◌, length, map}
+use Rattle.std.proofs.Common.{Some, refl, sym, ap, ◌∙◌, length-append, arith}
+use Rattle.std.specs.Prelude.{◌^◌, ◌&&◌, ◌||◌, ◌==◌, not, if◌then◌else◌, take, drop, replicate}
+use Rattle.std.proofs.Math.Bool.{or-false}
+use Rattle.std.specs.List.{list_any, count_by, slice_get}
+use Rattle.std.specs.Option.{is_some, option_or}
+use Rattle.std.proofs.lemmas.Bool.{eqb-true}
+use Rattle.std.proofs.lemmas.List.{append-nil, map-append, take-append-drop}
+use Rattle.std.proofs.lemmas.List.Elements.{filter-append}
+use Rattle.std.proofs.lemmas.List.Folds.{list_any-append, list_all-append}
+use Rattle.std.proofs.lemmas.List.Sums.{sum_by-append, count_by-le-length}
+use Rattle.std.proofs.lemmas.Grind.{flat_map-append}
+use Rattle.ghcn_fields.specs.Bytes.{is_blank}
+use Rattle.ghcn_fields.specs.Lines.{columns, lines}
+use Rattle.ghcn_fields.specs.LineLaws.{enumerate_from-append}
+use Rattle.ghcn_files.specs.Elements.{element_of}
+use Rattle.ghcn_series.specs.declared.counts.Foreign.{Foreign}
+use Rattle.ghcn_series.specs.declared.counts.LineCounts.{LineCounts}
+use Rattle.ghcn_series.specs.declared.counts.LineKind.TheVariants.{Blank, OfElement, Other}
+use Rattle.ghcn_series.specs.Counted.{HaveCounted, CountsLine, AddsForeign}
+use Rattle.ghcn_series.specs.LineKinds.{all_lines, is_of_element, is_foreign, kind_of, foreign_places}
+use Rattle.ghcn_series.specs.LineKinds.{foreign_of}
+
+-- ---- a line
+
+-- a test that some of these lines pass, or one line more
+any-more : (p : List ℕ → Bool) (ls : List (List ℕ)) (more line : List ℕ) {so_far : Bool}
+    → lines more ≡ ls ++ line ∷ [] → so_far ≡ list_any p ls → (so_far || p line) ≡ list_any p (lines more)
+any-more p ls more line all is =
+    rw (is, all, list_any-append p ls (line ∷ []), or-false (p line)) refl
+
+-- a line more of the current file is counted
+pub counted-line : (old new : LineCounts) (ended : List (List ℕ)) (whole more line : List ℕ)
+    → lines more ≡ lines whole ++ line ∷ [] → CountsLine old new line → HaveCounted old ended whole
+    → HaveCounted new ended more
+counted-line old new ended whole more line all adds is = record {
+  number = omega (arith, adds.number, is.number, ap length all, length-append (lines whole) (line ∷ []));
+  blank = omega (
+    arith,
+    adds.blank,
+    is.blank,
+    ap (count_by is_blank) all,
+    sum_by-append (λ l. cond (is_blank l) 1 0) (lines whole) (line ∷ []),
+  );
+  foreign = adds.foreign ∙ is.foreign;
+  has_line = adds.has_line ∙ any-more (λ l. not (is_blank l)) (lines whole) more line all is.has_line;
+  has_element = adds.has_element ∙ any-more is_of_element (lines whole) more line all is.has_element;
+}
+
+-- ---- what stands on a line
+
+-- two tests that hold
+pub both_of : (a b : Bool) → (a && b) ≡ true → (a ≡ true) × (b ≡ true)
+both_of true true e = (refl, refl)
+both_of true false e = absurd cc
+both_of false true e = absurd cc
+both_of false false e = absurd cc
+
+-- blanks name no element
+no_element : (bytes : List ℕ) → is_blank bytes ≡ true → is_some (element_of bytes) ≡ false
+no_element [] blank = refl
+no_element (b ∷ bytes) blank =
+    let first : b ≡ 32 = eqb-true b 32 (both_of (b == 32) (is_blank bytes) blank).0 in
+    rw first refl
+
+-- of blanks the first ones and the others are blanks
+blank_parts : (n : ℕ) (bytes : List ℕ) → is_blank bytes ≡ true
+    → (is_blank (take n bytes) ≡ true) × (is_blank (drop n bytes) ≡ true)
+blank_parts n bytes blank =
+    both_of (is_blank (take n bytes)) (is_blank (drop n bytes))
+    (sym (list_all-append (λ b. b == 32) (take n bytes) (drop n bytes))
+    ∙ ap is_blank (take-append-drop n bytes) ∙ blank)
+
+-- a blank line has no element
+blank_line : (line : List ℕ) → is_blank line ≡ true → is_of_element line ≡ false
+blank_line line blank =
+    let whole = line ++ replicate 21 32 in
+    let all : is_blank whole ≡ true = list_all-append (λ b. b == 32) line (replicate 21 32) ∙ rw blank refl in
+    no_element (columns 18 21 line) (blank_parts 4 (drop 17 whole) (blank_parts 17 whole all).1).0
+
+-- what is blank has no element
+blank_alone : (b e : Bool) → Blank ≡ (if b then Blank else if e then OfElement else Other) → (b ≡ true → e ≡ false)
+    → (b ≡ true) × (e ≡ false)
+blank_alone true e is none = (refl, none refl)
+blank_alone false true is none = absurd cc
+blank_alone false false is none = absurd cc
+
+-- so it is of a line of this kind
+pub blank_kind : (line : List ℕ) → Blank ≡ kind_of line → (is_blank line ≡ true) × (is_of_element line ≡ false)
+blank_kind line is = blank_alone (is_blank line) (is_of_element line) is (blank_line line)
+
+-- ---- the end of a file
+
+-- the place of a file, where it is foreign
+place_if : (foreign : Bool) (n : ℕ) (file : List ℕ)
+    → map (λ (f : ℕ × List ℕ). f.0) (cond foreign ((0 + n, file) ∷ []) []) ≡ (if foreign then n ∷ [] else [])
+place_if true n file = ap (λ k. k ∷ []) (omega arith)
+place_if false n file = refl
+
+-- the places of the foreign files, with one file more
+places-more : (ended : List (List ℕ)) (whole : List ℕ) → foreign_places (ended ++ whole ∷ [])
+    ≡ foreign_places ended ++ (if is_foreign whole then length ended ∷ [] else [])
+places-more ended whole =
+    simp (enumerate_from-append, filter-append, map-append)
+    (ap (λ (ps : List ℕ). foreign_places ended ++ ps) (place_if (is_foreign whole) (length ended) whole))
+
+-- the first of some places, with one more
+first-more : (places : List ℕ) (place : ℕ)
+    → slice_get (places ++ place ∷ []) 0 ≡ option_or (slice_get places 0) (Some place)
+first-more [] place = refl
+first-more (p ∷ places) place = refl
+
+-- a foreign file is added
+pub foreign-added : (old new : Foreign) (ended : List (List ℕ)) (whole : List ℕ) (place : ℕ) → place ≡ length ended
+    → place ≤ 2 ^ 20 → is_foreign whole ≡ true → old ≡ foreign_of ended → AddsForeign old new place
+    → new ≡ foreign_of (ended ++ whole ∷ [])
+foreign-added old new ended whole place at few foreign is adds =
+    let one : count_by is_foreign (ended ++ whole ∷ []) ≡ count_by is_foreign ended + 1 =
+    sum_by-append (λ f. cond (is_foreign f) 1 0) ended (whole ∷ []) ∙ rw foreign refl in
+    let count : new.count ≡ count_by is_foreign (ended ++ whole ∷ []) =
+    omega (arith, adds.count, one, ap (λ (f : Foreign). f.count) is, count_by-le-length is_foreign ended, at, few) in
+    let first : new.first ≡ slice_get (foreign_places (ended ++ whole ∷ [])) 0 =
+    adds.first ∙ rw (is, at, places-more ended whole, foreign) (sym (first-more (foreign_places ended) (length ended))) in
+    rw (← count, ← first) refl
+
+-- any other file adds nothing
+pub foreign-same : (ended : List (List ℕ)) (whole : List ℕ) → is_foreign whole ≡ false
+    → foreign_of ended ≡ foreign_of (ended ++ whole ∷ [])
+foreign-same ended whole none =
+    let count : count_by is_foreign (ended ++ whole ∷ []) ≡ count_by is_foreign ended =
+    sum_by-append (λ f. cond (is_foreign f) 1 0) ended (whole ∷ []) ∙ rw none (omega arith) in
+    rw (count, places-more ended whole, none, append-nil (foreign_places ended)) refl
+
+-- what was noted of a file tells whether it is foreign
+pub same_test : (c : LineCounts) (ended : List (List ℕ)) (whole : List ℕ) → HaveCounted c ended whole
+    → is_foreign whole ≡ (c.has_line && not c.has_element)
+same_test c ended whole is = rw (is.has_line, is.has_element) refl
+
+-- the counts of the lines of one file more
+pub counted-end : (old : LineCounts) (foreign : Foreign) (ended : List (List ℕ)) (whole : List ℕ)
+    → foreign ≡ foreign_of (ended ++ whole ∷ []) → HaveCounted old ended whole → HaveCounted (record {
+      lines = old.lines;
+      blank = old.blank;
+      foreign = foreign;
+      has_line = false;
+      has_element = false;
+    }) (ended ++ whole ∷ []) []
+counted-end old foreign ended whole same is =
+    let all : all_lines (ended ++ whole ∷ []) ≡ all_lines ended ++ lines whole =
+    flat_map-append lines ended (whole ∷ []) ∙ ap (λ (ls : List (List ℕ)). all_lines ended ++ ls) (append-nil (lines whole)) in
+    record {
+      number = omega (arith, is.number, ap length all, length-append (all_lines ended) (lines whole));
+      blank = omega (
+        arith,
+        is.blank,
+        ap (count_by is_blank) all,
+        sum_by-append (λ l. cond (is_blank l) 1 0) (all_lines ended) (lines whole),
+      );
+      foreign = same;
+      has_line = refl;
+      has_element = refl;
+    }

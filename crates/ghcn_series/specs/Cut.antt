@@ -1,0 +1,132 @@
+-- What a cutter of daily files stands for, and what each of its steps adds.
+use Rattle.std.specs.Prelude.{◌≡◌, ℕ, ◌+◌, ◌^◌, ◌≤◌, Bool, ◌&&◌, nat_lt, nat_le, List, [], ◌++◌, length, Option}
+use Rattle.std.specs.Prelude.{None, Some, is_none}
+use Rattle.std.specs.Str.Lines.{strip_carriage_return}
+use Rattle.ghcn_fields.specs.Lines.{lines, HasNoLineFeed, EndsLine}
+use Rattle.ghcn_fields.specs.Refusals.{IsRefusal}
+use Rattle.ghcn_series.specs.declared.counts.Foreign.{Foreign}
+use Rattle.ghcn_series.specs.declared.cutter.Cut.{Cut}
+use Rattle.ghcn_series.specs.declared.cutter.Cutter.{Cutter}
+use Rattle.ghcn_series.specs.declared.fault.DataFault.{DataFault}
+use Rattle.ghcn_series.specs.Counted.{HaveCounted, CountsLine}
+use Rattle.ghcn_series.specs.DailyFaults.{FileLine, one_line, file_lines, daily_lines, is_memory, IsFirstRefusal}
+use Rattle.ghcn_series.specs.Fed.{Files, Fed, more, with_end, with_files, files_of}
+use Rattle.ghcn_series.specs.Gathered.{IsLineRefusal}
+use Rattle.ghcn_series.specs.LineKinds.{foreign_of}
+use Rattle.ghcn_series.specs.LinesRead.{Reading, Reads, Refuses}
+use Rattle.ghcn_series.specs.Says.{in_64_bits, data_of}
+
+-- the lines of files up to here: those of the ended files, and these whole ones of the current file
+abbrev pub lines_to : Files → List ℕ → List FileLine
+lines_to files whole = daily_lines files.ended ++ file_lines (length files.ended + 1, whole)
+
+-- the current file is these whole lines, and this of the line behind them
+pub record IsCut (files : Files) (whole rest : List ℕ) : Type 0 where
+  pub parts : files.current ≡ whole ++ rest
+  pub ends : EndsLine whole
+
+-- memory ran out, or the first line with a fault that has its line feed or its file's end has this one
+pub record HasLineFault (fed : Fed) (fault : DataFault) : Type 0 where
+  pub whole : List ℕ
+  pub rest : List ℕ
+  pub cut : IsCut fed.files whole rest
+  pub first : IsLineRefusal fed.stations (lines_to fed.files whole) fault
+
+-- a cutter has counted these files
+pub record HasCounted {L : Type 0} (c : Cutter L) (files : Files) : Type 0 where
+  pub ended : c.ended ≡ in_64_bits (length files.ended)
+  pub begun : c.begun ≡ nat_lt 0 (length files.current)
+
+-- the files that a cutter has counted are so few that they can be read, or they aren't
+pub record CountsFew {L : Type 0} (c : Cutter L) (few : Bool) : Type 0 where
+  pub is : (files : Files) → HasCounted c files → few ≡ nat_le (length (files_of files)) (2 ^ 20)
+
+-- a cutter looks at lines: it has no fault, and has counted so few files
+pub record LooksAtLines {L : Type 0} (c : Cutter L) (looks : Bool) : Type 0 where
+  pub is : (files : Files) → HasCounted c files
+      → looks ≡ (is_none c.fault && nat_le (length (files_of files)) (2 ^ 20))
+
+-- a cutter's reader has read what was fed: no line that has its line feed or its file's end has a fault
+pub record HasReadFed {L : Type 0} (has_read : Reading L) (c : Cutter L) (fed : Fed) : Type 0 where
+  pub whole : List ℕ
+  pub cut : IsCut fed.files whole c.rest.items
+  pub unended : HasNoLineFeed c.rest.items
+  pub numbered : c.line ≡ length (lines whole)
+  pub counted : HaveCounted c.counts fed.files.ended whole
+  pub read : has_read c.reader fed.stations fed.keep (lines_to fed.files whole)
+
+-- a cutter keeps this fault of the lines that it was fed, or it keeps none and they are read
+abbrev pub HasFault : {L : Type 0} → Reading L → Cutter L → Fed → Option DataFault → Type 0
+HasFault has_read c fed None = HasReadFed has_read c fed
+HasFault has_read c fed (Some fault) = HasLineFault fed fault
+
+-- a cutter was fed this: it has counted the files, and knows the first fault where there aren't too many of them
+pub record HasFed {L : Type 0} (has_read : Reading L) (c : Cutter L) (fed : Fed) : Type 0 where
+  pub counted : HasCounted c fed.files
+  pub fault : length (files_of fed.files) ≤ 2 ^ 20 → HasFault has_read c fed c.fault
+
+-- what a cutter was fed: some bytes of some files
+abbrev pub HasFedSome : {L : Type 0} → Reading L → Cutter L → Type 0
+HasFedSome has_read c = (fed : Fed) × HasFed has_read c fed
+
+-- a cutter takes more bytes of the current file
+pub record TakesPiece {L : Type 0} (has_read : Reading L) (old new : Cutter L) (bytes : List ℕ) : Type 0 where
+  pub holds : (fed : Fed) → HasFed has_read old fed → HasFed has_read new (with_files fed (more fed.files bytes))
+
+-- a cutter ends the current file
+pub record EndsFile {L : Type 0} (has_read : Reading L) (old new : Cutter L) : Type 0 where
+  pub holds : (fed : Fed) → HasFed has_read old fed → HasFed has_read new (with_files fed (with_end fed.files))
+
+-- these are the foreign files among those that a cutter was fed, and that were ended
+pub record AreForeignOf {L : Type 0} (has_read : Reading L) (c : Cutter L) (foreign : Foreign) : Type 0 where
+  pub is : (fed : Fed) → HasFed has_read c fed → foreign ≡ foreign_of fed.files.ended
+
+-- these files, which are few enough, are read to the end, and counted
+pub record AreRead {L : Type 0} (has_read : Reading L) (fed : Fed) (files : List (List ℕ)) (all : Cut L) : Type 0 where
+  pub few : length files ≤ 2 ^ 20
+  pub read : has_read all.reader fed.stations fed.keep (daily_lines files)
+  pub number : all.files ≡ length files
+  pub counted : HaveCounted all.counts files []
+
+-- all files that a cutter was fed are read to the end
+pub record HoldsFed {L : Type 0} (has_read : Reading L) (c : Cutter L) (all : Cut L) : Type 0 where
+  pub is : (fed : Fed) → HasFed has_read c fed → AreRead has_read fed (files_of fed.files) all
+
+-- want of memory, or the first fault of the files that a cutter was fed
+pub record RefusesFed {L : Type 0} (has_read : Reading L) (c : Cutter L) (fault : DataFault) : Type 0 where
+  pub is : (fed : Fed) → HasFed has_read c fed → IsRefusal is_memory fault (data_of fed.stations (files_of fed.files))
+  pub first : (fed : Fed) → HasFed has_read c fed → IsFirstRefusal fault fed.stations (files_of fed.files)
+
+-- a cutter that is at the file behind the ended ones reads more bytes of it
+pub record ReadsBytes {L : Type 0} (has_read : Reading L) (old new : Cutter L) (bytes : List ℕ) : Type 0 where
+  pub holds : (fed : Fed) → old.ended ≡ length fed.files.ended → HasReadFed has_read old fed
+      → HasReadFed has_read new (with_files fed (more fed.files bytes))
+
+-- a cutter that is at that file finds this fault among more bytes of it
+pub record RefusesBytes {L : Type 0} (has_read : Reading L) (old : Cutter L) (bytes : List ℕ) (fault : DataFault)
+    : Type 0 where
+  pub found : (fed : Fed) → old.ended ≡ length fed.files.ended → HasReadFed has_read old fed
+      → HasLineFault (with_files fed (more fed.files bytes)) fault
+
+-- a cutter that is at that file reads it to its end
+pub record ReadsEnd {L : Type 0} (has_read : Reading L) (old new : Cutter L) : Type 0 where
+  pub holds : (fed : Fed) → old.ended ≡ length fed.files.ended → HasReadFed has_read old fed
+      → HasReadFed has_read new (with_files fed (with_end fed.files))
+
+-- a cutter that is at that file finds this fault at its end
+pub record RefusesEnd {L : Type 0} (has_read : Reading L) (old : Cutter L) (fault : DataFault) : Type 0 where
+  pub found : (fed : Fed) → old.ended ≡ length fed.files.ended → HasReadFed has_read old fed
+      → HasLineFault (with_files fed (with_end fed.files)) fault
+
+-- a cutter adds the line of the current file of which these are the last bytes
+pub record AddsLine {L : Type 0} (has_read : Reading L) (old new : Cutter L) (bytes : List ℕ) : Type 0 where
+  pub numbered : new.line ≡ old.line + 1
+  pub rest : new.rest.items ≡ []
+  pub counted : CountsLine old.counts new.counts (strip_carriage_return (old.rest.items ++ bytes))
+  pub read : Reads has_read old.reader new.reader
+      (one_line (old.ended + 1) (old.line + 1) (old.rest.items ++ bytes))
+
+-- a cutter refuses that line
+abbrev pub RefusesLine : {L : Type 0} → Reading L → Cutter L → List ℕ → DataFault → Type 0
+RefusesLine has_read old bytes fault =
+    Refuses has_read old.reader (one_line (old.ended + 1) (old.line + 1) (old.rest.items ++ bytes)) fault

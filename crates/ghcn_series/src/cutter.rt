@@ -1,0 +1,242 @@
+//! Cuts daily files that come in pieces into lines, for a reader of lines.
+
+ghost use Rattle.std.specs.Prelude.{◌≡◌, [], ◌++◌, ◌^◌, ◌<◌, ◌≤◌, length, List, IfOk, IfErr, IfSome, OnOk};
+ghost use Rattle.std.specs.Option.{is_some};
+ghost use Rattle.ghcn_files.specs.declared.element.Keep.{Keep};
+ghost use Rattle.ghcn_files.specs.declared.station.Station.{Station};
+ghost use Rattle.ghcn_series.specs.Cut as cut;
+ghost use Rattle.ghcn_series.specs.Fed.{IsOfMemory, nothing_fed};
+ghost use Rattle.ghcn_series.specs.LinesRead.{HasReadSome};
+
+use crate::counts::{Foreign, LineCounts, LineKind};
+use crate::data::MOST_FILES;
+use crate::fault::DataFault;
+use ghcn_fields::{Memory, split_line};
+use std::alloc::Global;
+
+/// Reads the lines of daily files one after another.
+pub trait LineReader {
+    ghost use Rattle.std.specs.Prelude.{◌≡◌, List, IfOk, IfErr, OnOk};
+    ghost use Rattle.std.specs.Str.Lines.{strip_carriage_return};
+    ghost use Rattle.ghcn_files.specs.declared.element.Keep.{Keep};
+    ghost use Rattle.ghcn_files.specs.declared.station.Station.{Station};
+    ghost use Rattle.ghcn_series.specs.DailyFaults.{FileLine, one_line};
+    ghost use Rattle.ghcn_series.specs.LineKinds.{kind_of};
+    ghost use Rattle.ghcn_series.specs.LinesRead.{HasReadSome, Reads, Refuses};
+
+    /// A reader of lines for some stations, which keeps the values of some elements, has read lines none of which has
+    /// a fault.
+    ghost has_read: { Self → List Station → Keep → List FileLine → Type 0 };
+
+    /// Adds a line as it stands before its line feed, and answers what stands on it. A blank line adds nothing.
+    fn add(
+        &mut self,
+        alloc: Global,
+        file: u64,
+        line: u64,
+        bytes: &[u8],
+    ) -> Result<LineKind, DataFault>
+        requires { HasReadSome has_read self.old }
+        ensures kind { IfOk result (λ kind. kind ≡ kind_of (strip_carriage_return bytes.now)) }
+        ensures read { OnOk result (Reads has_read self.old self.new (one_line file line bytes.now)) }
+        ensures fault { IfErr result (Refuses has_read self.old (one_line file line bytes.now)) };
+}
+
+/// Cuts daily files into lines, in their order, each file in pieces that may end anywhere. The first fault is kept,
+/// and told at the end: lines that come behind it aren't looked at, but their files are counted.
+#[derive(Drop)]
+pub struct Cutter<L> {
+    alloc: Global,
+    reader: L,
+    counts: LineCounts,
+    /// How many files were ended, or 2^64 - 1 where there are more.
+    ended: u64,
+    /// Whether the current file has a byte.
+    begun: bool,
+    /// How many lines of the current file were ended.
+    line: u64,
+    /// What has come of the line behind them.
+    rest: Vec<u8>,
+    /// The fault of the first line that has one, or want of memory.
+    fault: Option<DataFault>,
+}
+
+/// What was read of daily files that are all ended.
+#[derive(Drop)]
+pub struct Cut<L> {
+    pub reader: L,
+    /// How many files there were.
+    pub files: u64,
+    pub counts: LineCounts,
+}
+
+impl<L: LineReader + Drop> Cutter<L> {
+    /// Nothing fed yet, for a reader that has read nothing.
+    pub fn new(alloc: Global, reader: L) -> Self
+        ensures fed { (stations : List Station) (keep : Keep) → L.has_read reader stations keep []
+            → cut.HasFed L.has_read result (nothing_fed keep stations) }
+    {
+        Cutter {
+            alloc,
+            reader,
+            counts: LineCounts::new(),
+            ended: 0,
+            begun: false,
+            line: 0,
+            rest: Vec::new(alloc),
+            fault: None,
+        }
+    }
+
+    /// Takes more bytes of the current file.
+    pub fn piece(&mut self, bytes: &[u8])
+        requires { cut.HasFedSome L.has_read self.old }
+        ensures fed { cut.TakesPiece L.has_read self.old self.new bytes.now }
+        ensures going { cut.HasFedSome L.has_read self.new }
+    {
+        if bytes.is_empty() {
+            return;
+        }
+        self.begun = true;
+        if self.is_reading() {
+            self.fault = self.read(bytes).err();
+        }
+    }
+
+    /// Ends the current file, even where it is empty.
+    pub fn end_of_file(&mut self)
+        requires { cut.HasFedSome L.has_read self.old }
+        ensures fed { cut.EndsFile L.has_read self.old self.new }
+        ensures going { cut.HasFedSome L.has_read self.new }
+    {
+        if self.is_reading() {
+            self.fault = self.read_end().err();
+        }
+        self.ended = self.ended.saturating_add(1);
+        self.begun = false;
+    }
+
+    /// The foreign files among those that were ended, unless a fault was found.
+    pub fn foreign(&self) -> Option<Foreign>
+        requires { cut.HasFedSome L.has_read self.now }
+        ensures looks { cut.LooksAtLines self.now (is_some result) }
+        ensures foreign { IfSome result (cut.AreForeignOf L.has_read self.now) }
+    {
+        self.is_reading().then_some(self.counts.foreign)
+    }
+
+    /// What was read of the files that were fed, or their first fault: too many files come before the fault of a
+    /// line. The current file is ended where it has a byte.
+    pub fn finish(mut self) -> Result<Cut<L>, DataFault>
+        requires { cut.HasFedSome L.has_read self }
+        ensures some { IfOk result (λ all. HasReadSome L.has_read all.reader) }
+        ensures ok { IfOk result (cut.HoldsFed L.has_read self) }
+        ensures err { IfErr result (cut.RefusesFed L.has_read self) }
+    {
+        if self.begun {
+            self.end_of_file();
+        }
+        if !self.has_few_files() {
+            return Err(DataFault::TooManyFiles);
+        }
+        if let Some(fault) = self.fault {
+            return Err(fault);
+        }
+        Ok(Cut {
+            reader: self.reader,
+            files: self.ended,
+            counts: self.counts,
+        })
+    }
+
+    /// Whether lines are looked at: there is no fault so far.
+    fn is_reading(&self) -> bool
+        ensures { cut.LooksAtLines self.now result }
+    {
+        self.fault.is_none() && self.has_few_files()
+    }
+
+    /// Whether there are no more files than are read.
+    fn has_few_files(&self) -> bool
+        ensures { cut.CountsFew self.now result }
+    {
+        self.ended < MOST_FILES || self.ended == MOST_FILES && !self.begun
+    }
+
+    /// Reads more bytes of the current file.
+    fn read(&mut self, bytes: &[u8]) -> Result<(), DataFault>
+        requires few { self.old.ended < 2 ^ 20 }
+        requires read { HasReadSome L.has_read self.old.reader }
+        ensures ended { self.new.ended ≡ self.old.ended }
+        ensures begun { self.new.begun ≡ self.old.begun }
+        ensures read { OnOk result (cut.ReadsBytes L.has_read self.old self.new bytes.now) }
+        ensures fault { IfErr result (cut.RefusesBytes L.has_read self.old bytes.now) }
+    {
+        let mut left = bytes;
+        while let Some((line, behind)) = split_line(left) {
+            self.end_line(line)?;
+            left = behind;
+        }
+        self.keep(left)
+    }
+
+    /// Reads the current file to its end, which ends its last line too.
+    fn read_end(&mut self) -> Result<(), DataFault>
+        requires few { 0 < length self.old.rest.items → self.old.ended < 2 ^ 20 }
+        requires place { self.old.ended ≤ 2 ^ 20 }
+        requires read { HasReadSome L.has_read self.old.reader }
+        ensures ended { self.new.ended ≡ self.old.ended }
+        ensures begun { self.new.begun ≡ self.old.begun }
+        ensures read { OnOk result (cut.ReadsEnd L.has_read self.old self.new) }
+        ensures fault { IfErr result (cut.RefusesEnd L.has_read self.old) }
+    {
+        if !self.rest.is_empty() {
+            self.end_line(&[])?;
+        }
+        self.counts.end_file(self.ended);
+        self.line = 0;
+        Ok(())
+    }
+
+    /// Ends the line of which these are the last bytes.
+    fn end_line(&mut self, bytes: &[u8]) -> Result<(), DataFault>
+        requires few { self.old.ended < 2 ^ 20 }
+        requires read { HasReadSome L.has_read self.old.reader }
+        ensures ended { self.new.ended ≡ self.old.ended }
+        ensures begun { self.new.begun ≡ self.old.begun }
+        ensures added { OnOk result (cut.AddsLine L.has_read self.old self.new bytes.now) }
+        ensures fault { IfErr result (cut.RefusesLine L.has_read self.old bytes.now) }
+    {
+        let line = self.line.checked_add(1).ok_or(DataFault::Memory(Memory))?;
+        let file = self.ended + 1;
+        let kind = if self.rest.is_empty() {
+            self.reader.add(self.alloc, file, line, bytes)?
+        } else {
+            self.keep(bytes)?;
+            let kind = self.reader.add(self.alloc, file, line, &self.rest)?;
+            self.rest.clear();
+            kind
+        };
+        self.line = line;
+        match self.counts.add(kind) {
+            Some(()) => Ok(()),
+            None => Err(DataFault::Memory(Memory)),
+        }
+    }
+
+    /// Keeps what has come of a line that isn't ended.
+    fn keep(&mut self, bytes: &[u8]) -> Result<(), DataFault>
+        ensures kept { OnOk result (self.new.rest.items ≡ self.old.rest.items ++ bytes.now) }
+        ensures reader { self.new.reader ≡ self.old.reader }
+        ensures counts { self.new.counts ≡ self.old.counts }
+        ensures ended { self.new.ended ≡ self.old.ended }
+        ensures begun { self.new.begun ≡ self.old.begun }
+        ensures line { self.new.line ≡ self.old.line }
+        ensures fault { IfErr result IsOfMemory }
+    {
+        match self.rest.extend_from_slice(bytes) {
+            Ok(()) => Ok(()),
+            Err(_) => Err(DataFault::Memory(Memory)),
+        }
+    }
+}
