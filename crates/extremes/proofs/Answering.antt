@@ -1,15 +1,18 @@
 -- What is answered for the query and the data of an intake, as an answer to its input.
-use Rattle.std.proofs.Common.{◌≡◌, ℕ, List, sym, ap, ◌∙◌, subst, map, Option, ℤ}
+use Rattle.std.proofs.Common.{◌≡◌, ℕ, List, refl, sym, ap, ◌∙◌, subst, map, Option, ℤ}
 use Rattle.std.specs.Prelude.{◌↔◌}
 use Rattle.ghcn_fields.specs.Sorting.{sorted_by}
 use Rattle.ghcn_files.specs.declared.station.Station.{Station}
 use Rattle.ghcn_series.specs.Series.{Contents, Usable}
-use Rattle.rank_query.specs.Asked.{Asked}
+use Rattle.ghcn_series.specs.Held.{IsContents}
+use Rattle.rank_query.specs.Asked.{Asked, IsAsked}
 use Rattle.rank_scores.specs.OneElement.{data_for, MorselsStay}
 use Rattle.rank_sched.specs.Plan.{Planned, planned, measured, is_drawn_first}
-use Rattle.rank_papers.specs.OneElement.{ReportStays, CertificateStays, MeasuredStays}
+use Rattle.rank_papers.specs.OneElement.{MeasuredStays}
 use Rattle.rank_papers.specs.Report.{IsReport}
 use Rattle.rank_papers.specs.Certificate.{IsCertificate}
+use Rattle.rank_papers.specs.Right.{IsRightReport, IsRightCertificate}
+use Rattle.rank_papers.specs.RightLaws.{ReportsAreFound, CertificatesAreFound, RightReportStays, RightCertificateStays}
 use Rattle.rank_papers.specs.PlanPapers.{IsMeasuredCertificate}
 use Rattle.rank_check.specs.declared.verdict.Verdict.{Verdict}
 use Rattle.rank_check.specs.declared.verdict.Verdict.TheVariants.{Accepted}
@@ -24,29 +27,61 @@ use Rattle.rank_input.specs.declared.description.DescriptionIntake.{DescriptionI
 use Rattle.rank_input.specs.declared.intake.Intake.{Intake}
 use Rattle.rank_input.specs.Described.{DescribesInput}
 use Rattle.rank_input.specs.Taken.{HoldsInput, IsTrueOf}
+use Rattle.ghcn_series.specs.Fed.{files_of}
 use Rattle.extremes.specs.declared.papers.Papers.{Papers}
+use Rattle.extremes.proofs.Readings.{held_is_said}
 use Rattle.extremes.specs.Answer.{ArePapers, AreRight, IsOfCrew, IsOfOneWorker, IsSerial}
-use Rattle.extremes.specs.Runs.{AnswersInput, CrewsInput, JudgesInput, JudgesPart}
+use Rattle.extremes.specs.Runs.{AnswersInput, FaultlessInput, CrewsInput, JudgesInput, JudgesPart}
 use Rattle.extremes.specs.declared.describe.DescriptionText.{DescriptionText}
 use Rattle.extremes.specs.Describes.{DescribesIntake}
 
+-- two texts are the right report and a right certificate
+abbrev AreRightTexts : Asked → Contents → List ℕ → List ℕ → Type 0
+AreRightTexts q c report certificate =
+    IsRightReport q c report × (version : ℕ) × IsRightCertificate version q c certificate
+
+-- where papers with what is found are accepted, the right ones are
+pub accepted_right : (q : Asked) (c : Contents) (report certificate : List ℕ) (v : Verdict) → ReportsAreFound
+    → CertificatesAreFound → IsAsked q → IsContents c
+    → (v ≡ Accepted) ↔ (IsReport q c report × IsCertificate q c certificate)
+    → (v ≡ Accepted) ↔ AreRightTexts q c report certificate
+accepted_right q c report certificate v reports certificates asked right accepted = (
+  λ is.
+      let are = accepted.0 is in (
+        (reports q c report asked right).0 are.0,
+        are.1.version,
+        (certificates are.1.version q c certificate asked right).0 (are.1, refl),
+      ),
+  λ are. accepted.1 (
+    (reports q c report asked right).1 are.0,
+    ((certificates are.1 q c certificate asked right).1 are.2).0,
+  ),
+)
+
 -- papers that are right for what a query needs of some data are right for these data, and the other way round
-right_for : (query : Asked) (held whole : Contents) (report certificate : List ℕ) → ReportStays → CertificateStays
-    → held ≡ data_for query whole
-    → (IsReport query held report × IsCertificate query held certificate)
-    ↔ (IsReport query whole report × IsCertificate query whole certificate)
+right_for : (query : Asked) (held whole : Contents) (report certificate : List ℕ) → RightReportStays
+    → RightCertificateStays → held ≡ data_for query whole
+    → AreRightTexts query held report certificate ↔ AreRightTexts query whole report certificate
 right_for query held whole report certificate reports certificates needed =
-    subst (λ (h : Contents). (IsReport query h report × IsCertificate query h certificate)
-    ↔ (IsReport query whole report × IsCertificate query whole certificate)) (sym needed) (
-      λ are. ((reports query whole report).0 are.0, (certificates query whole certificate).0 are.1),
-      λ are. ((reports query whole report).1 are.0, (certificates query whole certificate).1 are.1),
+    subst (λ (h : Contents). AreRightTexts query h report certificate ↔ AreRightTexts query whole report certificate)
+    (sym needed) (
+      λ are. (
+        (reports query whole report).0 are.0,
+        are.1,
+        (certificates are.1 query whole certificate).0 are.2,
+      ),
+      λ are. (
+        (reports query whole report).1 are.0,
+        are.1,
+        (certificates are.1 query whole certificate).1 are.2,
+      ),
     )
 
 -- the verdict for the query and the data of an intake is that for its input
 pub judges_input : (t : Intake) (query : Asked) (held : Contents) (report certificate : List ℕ) (v : Verdict)
-    → ReportStays → CertificateStays → VerdictStays
+    → RightReportStays → RightCertificateStays → VerdictStays
     → HoldsInput t query held → v ≡ verdict query held report certificate
-    → (v ≡ Accepted) ↔ (IsReport query held report × IsCertificate query held certificate)
+    → (v ≡ Accepted) ↔ AreRightTexts query held report certificate
     → JudgesInput t report certificate v
 judges_input t query held report certificate v reports certificates verdicts holds is accepted = record {
   is = λ i taken.
@@ -78,25 +113,25 @@ judges_part t query held report certificate v verdicts holds is = record {
       };
 }
 
--- the papers of what a query needs of some data are those of these data
-papers_for : (query : Asked) (held whole : Contents) (papers : Papers) → ReportStays → MeasuredStays
-    → held ≡ data_for query whole → ArePapers query held papers → ArePapers query whole papers
+-- papers that are right for what a query needs of some data are right for these data
+papers_for : (query : Asked) (held whole : Contents) (papers : Papers) → RightReportStays → RightCertificateStays
+    → held ≡ data_for query whole → AreRight query held papers → AreRight query whole papers
 papers_for query held whole papers reports certificates needed are =
-    let of : ArePapers query (data_for query whole) papers =
-    subst (λ (h : Contents). ArePapers query h papers) needed are in
+    let of : AreRight query (data_for query whole) papers =
+    subst (λ (h : Contents). AreRight query h papers) needed are in
     record {
       report = (reports query whole papers.report.items).0 of.report;
-      certificate = (certificates query whole papers.certificate.items).0 of.certificate;
+      certificate = (certificates 2 query whole papers.certificate.items).0 of.certificate;
       unlisted = of.unlisted;
     }
 
 -- the papers of a query and data are right for them
-right_papers : (query : Asked) (held : Contents) (papers : Papers) → ArePapers query held papers
-    → AreRight query held papers
-right_papers query held papers are = record {
-  report = are.report;
-  certificate = are.certificate.certificate;
-  version = are.certificate.version;
+pub right_papers : (query : Asked) (held : Contents) (papers : Papers) → ReportsAreFound → CertificatesAreFound
+    → IsAsked query → IsContents held → ArePapers query held papers → AreRight query held papers
+right_papers query held papers reports certificates asked right are = record {
+  report = (reports query held papers.report.items asked right).0 are.report;
+  certificate = (certificates 2 query held papers.certificate.items asked right).0
+      (are.certificate.certificate, are.certificate.version);
   unlisted = are.unlisted;
 }
 
@@ -106,19 +141,27 @@ measured_for : (query : Asked) (held whole : Contents) (bytes : List ℕ) → Me
 measured_for query held whole bytes certificates needed is =
     (certificates query whole bytes).0 (subst (λ (h : Contents). IsMeasuredCertificate query h bytes) needed is)
 
--- the papers for the query and the data of an intake answer its input
-pub answers_input : (t : Intake) (query : Asked) (held : Contents) (papers : Papers) → ReportStays → MeasuredStays
-    → HoldsInput t query held → ArePapers query held papers → AnswersInput t papers
+-- papers that are right for the query and the data of an intake answer its input
+pub answers_input : (t : Intake) (query : Asked) (held : Contents) (papers : Papers) → RightReportStays
+    → RightCertificateStays → HoldsInput t query held → AreRight query held papers → AnswersInput t papers
 answers_input t query held papers reports certificates holds are = record {
   is = λ i taken.
       let input = holds.is i taken in
       record {
         asked = query;
-        held = input.whole;
-        read = input.read;
-        right = right_papers query input.whole papers
+        asks = input.read.asks;
+        right = subst (λ (c : Contents). AreRight query c papers)
+            (held_is_said i.query i.stations (files_of i.files) query input.whole input.read)
             (papers_for query held input.whole papers reports certificates input.needed are);
       };
+}
+
+-- what an intake read has no fault
+pub faultless_input : (t : Intake) (query : Asked) (held : Contents) → HoldsInput t query held → FaultlessInput t
+faultless_input t query held holds = record {
+  is = λ i taken.
+      let input = holds.is i taken in
+      record { asked = query; held = input.whole; read = input.read };
 }
 
 -- a plan of these series
@@ -174,7 +217,9 @@ serial_input t guess query held papers stay certificates holds measures are = re
 
 -- the text of the description of an intake says what its files hold
 pub text_of_intake : (t : DescriptionIntake) (d : Description) (text : DescriptionText) → DescribesInput t d
-    → text.bytes.items ≡ description_text d → DescribesIntake t text
-text_of_intake t d text describes is = record {
-  is = λ i taken. record { description = d; described = describes.is i taken; written = is };
+    → text.bytes.items ≡ description_text d → text.foreign ≡ d.foreign → DescribesIntake t text
+text_of_intake t d text describes is foreign = record {
+  is = λ i taken.
+      let of = describes.is i taken in
+      record { description = d; described = of; written = is; foreign = foreign ∙ of.describes.is.foreign };
 }

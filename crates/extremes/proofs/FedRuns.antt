@@ -1,7 +1,8 @@
 -- A run over files that were fed whole.
 use Rattle.std.proofs.Common.{◌≡◌, ℕ, ◌≤◌, Bool, true, List, [], ◌∷◌, map, refl, subst}
-use Rattle.std.specs.Prelude.{Option, None, Some, Result, Ok, Err, IfOk, IfErr, IfSome, ℤ, string_bytes}
+use Rattle.std.specs.Prelude.{Option, None, Some, Result, Ok, Err, IfOk, IfErr, ℤ, string_bytes}
 use Rattle.std.proofs.lemmas.Bool.{OnFalse_from}
+use Rattle.std.proofs.lemmas.Result.{IfOk-weaker}
 use Rattle.ghcn_fields.specs.declared.memory.Memory.{Memory as WantOfMemory}
 use Rattle.ghcn_series.specs.declared.counts.Foreign.{Foreign}
 use Rattle.ghcn_series.specs.Fed.{files_of}
@@ -19,7 +20,7 @@ use Rattle.rank_input.specs.Feeding.{AreAllOf, AreFilesOf, FeedsFiles}
 use Rattle.ghcn_fields.specs.Refusals.{IsRefusal}
 use Rattle.rank_input.proofs.Feedings.{given-files}
 use Rattle.extremes.specs.Runs.{AnswersInput, CrewsInput, RanksInput, JudgesInputAs}
-use Rattle.extremes.specs.Runs.{named, AreForeign, IsRanked, RanksFiles, IsJudgement, JudgesFiles}
+use Rattle.extremes.specs.Runs.{named, IsRanked, RanksFiles, IsJudgement, JudgesFiles}
 use Rattle.extremes.specs.Describes.{IsDescriptionOf, DescribesIntake, DescribesFiles}
 use Rattle.extremes.specs.declared.describe.DescriptionText.{DescriptionText}
 use Rattle.extremes.specs.declared.files.Describing.{Describing}
@@ -34,12 +35,6 @@ taken-all : {T : Type 0} (has_taken : Taking T) (old new : T) (known : List (Opt
     → has_taken new (given query stations fed.files)
 taken-all has_taken old new known query stations fed is =
     subst (has_taken new) (given-files query stations [] fed.files) (fed.taken (given query stations []) is)
-
--- the foreign files of an intake are those of all files that it was given
-told-all : (t : Intake) (query stations : List ℕ) (files : List (List ℕ)) (foreign : Option Foreign)
-    → HasTaken t (given query stations files) → IfSome foreign (AreForeignOf t) → AreForeign files foreign
-told-all t query stations files None taken told = tt
-told-all t query stations files (Some f) taken told = told.is (given query stations files) taken
 
 -- a fault of the words of a run is its first
 pub words_refuse : (workers : ℕ) (guess : Option ℤ) (query stations : List ℕ) (files : List (List ℕ)) (fault : Fault)
@@ -74,10 +69,10 @@ words-input t workers guess fault is = record {
 
 -- the ranking of an intake that was fed all files that are named
 pub ranks-files : (bytes_of : Known) (r : Ranking) (old new : Intake) (query list stations : List ℕ)
-    (answer : Result Papers Fault) (foreign : Option Foreign) → query ≡ string_bytes r.query
+    (answer : Result Papers Fault) (foreign : Foreign) → query ≡ string_bytes r.query
     → list ≡ string_bytes r.stations → AreAllOf (bytes_of list) stations → HasTaken old (given query stations [])
     → FeedsFiles HasTaken old new (map (named bytes_of) r.files.items) → RanksInput new r.workers r.guess answer
-    → IfSome foreign (AreForeignOf new) → RanksFiles bytes_of r answer foreign
+    → IfOk answer (λ papers. AreForeignOf new foreign) → RanksFiles bytes_of r answer foreign
 ranks-files bytes_of r old new query list stations answer foreign same_query same_list whole taken fed ranks told =
     let all = taken-all HasTaken old new _ query stations fed taken in
     record {
@@ -87,29 +82,31 @@ ranks-files bytes_of r old new query list stations answer foreign same_query sam
       all = fed.all;
       ranked = subst (λ (q : List ℕ). IsRanked r.workers r.guess q stations fed.files answer) same_query
           (ranks.is (given query stations fed.files) all);
-      told = told-all new query stations fed.files foreign all told;
+      told = IfOk-weaker answer _ _ (λ papers are. are.is (given query stations fed.files) all) told;
     }
 
 -- what is said for an intake, or its fault, is said for its texts
 judged-is : (part : Bool) (t : Intake) (query stations : List ℕ) (files : List (List ℕ)) (report certificate : List ℕ)
-    (answer : Result Judgement Fault) → HasTaken t (given query stations files)
-    → IfOk answer (JudgesInputAs part t report certificate) → IfErr answer (RefusesInput t)
+    (answer : Result (Judgement × Foreign) Fault) → HasTaken t (given query stations files)
+    → IfOk answer (λ judged. JudgesInputAs part t report certificate judged.0)
+    → IfOk answer (λ judged. AreForeignOf t judged.1) → IfErr answer (RefusesInput t)
     → IsJudgement part query stations files report certificate answer
-judged-is part t query stations files report certificate (Ok j) taken ok err =
-    ok.is (given query stations files) taken
-judged-is part t query stations files report certificate (Err fault) taken ok err =
+judged-is part t query stations files report certificate (Ok judged) taken ok told err =
+    (ok.is (given query stations files) taken, told.is (given query stations files) taken)
+judged-is part t query stations files report certificate (Err fault) taken ok told err =
     err.is (given query stations files) taken
 
 -- the judgement of papers by an intake that was fed all files that are named
 pub judges-files : (bytes_of : Known) (j : Judging) (old new : Intake) (query list stations report certificate : List ℕ)
-    (answer : Result Judgement Fault) (foreign : Option Foreign) → query ≡ string_bytes j.query
+    (answer : Result (Judgement × Foreign) Fault) → query ≡ string_bytes j.query
     → list ≡ string_bytes j.stations → AreAllOf (bytes_of list) stations
     → AreBothOf (known_part bytes_of j.papers) (report, certificate)
     → HasTaken old (given query stations []) → FeedsFiles HasTaken old new (map (named bytes_of) j.files.items)
-    → IfOk answer (JudgesInputAs j.part new report certificate) → IfErr answer (RefusesInput new)
-    → IfSome foreign (AreForeignOf new) → JudgesFiles bytes_of j answer foreign
-judges-files bytes_of j old new query list stations report certificate answer foreign same_query same_list whole papers
-    taken fed ok err told =
+    → IfOk answer (λ judged. JudgesInputAs j.part new report certificate judged.0)
+    → IfOk answer (λ judged. AreForeignOf new judged.1) → IfErr answer (RefusesInput new)
+    → JudgesFiles bytes_of j answer
+judges-files bytes_of j old new query list stations report certificate answer same_query same_list whole papers taken
+    fed ok told err =
     let given_all = taken-all HasTaken old new _ query stations fed taken in
     record {
       stations = stations;
@@ -119,8 +116,7 @@ judges-files bytes_of j old new query list stations report certificate answer fo
       files = fed.files;
       all = fed.all;
       judged = subst (λ (q : List ℕ). IsJudgement j.part q stations fed.files report certificate answer) same_query
-          (judged-is j.part new query stations fed.files report certificate answer given_all ok err);
-      told = told-all new query stations fed.files foreign given_all told;
+          (judged-is j.part new query stations fed.files report certificate answer given_all ok told err);
     }
 
 -- what a describer answers, or its fault, is that of its files
@@ -131,21 +127,14 @@ described-is : (t : DescriptionIntake) (query stations : List ℕ) (files : List
 described-is t query stations files (Ok text) taken ok err = ok.is (given query stations files) taken
 described-is t query stations files (Err fault) taken ok err = err.is (given query stations files) taken
 
--- and so are its foreign files
-described-told : (t : DescriptionIntake) (query stations : List ℕ) (files : List (List ℕ)) (foreign : Option Foreign)
-    → described.HasTaken t (given query stations files) → IfSome foreign (described.AreForeignOf t)
-    → AreForeign files foreign
-described-told t query stations files None taken told = tt
-described-told t query stations files (Some f) taken told = told.is (given query stations files) taken
-
 -- the description by an intake that was fed all files that are named
 pub describes-files : (bytes_of : Known) (d : Describing) (old new : DescriptionIntake) (list stations : List ℕ)
-    (answer : Result DescriptionText Fault) (foreign : Option Foreign) → list ≡ string_bytes d.stations
+    (answer : Result DescriptionText Fault) → list ≡ string_bytes d.stations
     → AreAllOf (bytes_of list) stations → ((query : List ℕ) → described.HasTaken old (given query stations []))
     → FeedsFiles described.HasTaken old new (map (named bytes_of) d.files.items)
     → IfOk answer (DescribesIntake new) → IfErr answer (described.RefusesInput new)
-    → IfSome foreign (described.AreForeignOf new) → DescribesFiles bytes_of d answer foreign
-describes-files bytes_of d old new list stations answer foreign same_list whole taken fed ok err told =
+    → DescribesFiles bytes_of d answer
+describes-files bytes_of d old new list stations answer same_list whole taken fed ok err =
     let all = taken-all described.HasTaken old new _ [] stations fed (taken []) in
     record {
       stations = stations;
@@ -153,7 +142,6 @@ describes-files bytes_of d old new list stations answer foreign same_list whole 
       files = fed.files;
       all = fed.all;
       described = described-is new [] stations fed.files answer all ok err;
-      told = described-told new [] stations fed.files foreign all told;
     }
 
 -- there are files whose bytes are all of those that are known
@@ -164,8 +152,9 @@ some_files (Some bytes ∷ ks) = let rest = some_files ks in (bytes ∷ rest.0, 
 
 -- want of memory may be answered to any files
 pub ranks-memory : (bytes_of : Known) (r : Ranking) (list stations : List ℕ) (m : WantOfMemory)
-    → list ≡ string_bytes r.stations → AreAllOf (bytes_of list) stations → RanksFiles bytes_of r (Err (Memory m)) None
-ranks-memory bytes_of r list stations m same whole =
+    → list ≡ string_bytes r.stations → AreAllOf (bytes_of list) stations
+    → (foreign : Foreign) → RanksFiles bytes_of r (Err (Memory m)) foreign
+ranks-memory bytes_of r list stations m same whole foreign =
     let some = some_files (map (named bytes_of) r.files.items) in record {
       stations = stations;
       whole = subst (λ (l : List ℕ). AreAllOf (bytes_of l) stations) same whole;
@@ -178,7 +167,7 @@ ranks-memory bytes_of r list stations m same whole =
 -- and to papers
 pub judges-memory : (bytes_of : Known) (j : Judging) (list stations : List ℕ) (papers : Texts) (m : WantOfMemory)
     → list ≡ string_bytes j.stations → AreAllOf (bytes_of list) stations
-    → AreBothOf (known_part bytes_of j.papers) papers → JudgesFiles bytes_of j (Err (Memory m)) None
+    → AreBothOf (known_part bytes_of j.papers) papers → JudgesFiles bytes_of j (Err (Memory m))
 judges-memory bytes_of j list stations papers m same whole both =
     let some = some_files (map (named bytes_of) j.files.items) in record {
       stations = stations;
@@ -188,13 +177,12 @@ judges-memory bytes_of j list stations papers m same whole both =
       files = some.0;
       all = some.1;
       judged = tt;
-      told = tt;
     }
 
 -- and for a description
 pub describes-memory : (bytes_of : Known) (d : Describing) (list stations : List ℕ) (m : WantOfMemory)
     → list ≡ string_bytes d.stations → AreAllOf (bytes_of list) stations
-    → DescribesFiles bytes_of d (Err (Memory m)) None
+    → DescribesFiles bytes_of d (Err (Memory m))
 describes-memory bytes_of d list stations m same whole =
     let some = some_files (map (named bytes_of) d.files.items) in record {
       stations = stations;
@@ -202,5 +190,4 @@ describes-memory bytes_of d list stations m same whole =
       files = some.0;
       all = some.1;
       described = tt;
-      told = tt;
     }

@@ -3,11 +3,13 @@ use Rattle.std.proofs.Common.{◌≡◌, ℕ, List, sym, ap, ◌∙◌, subst}
 use Rattle.std.specs.Prelude.{Result, Ok, Err}
 use Rattle.ghcn_files.specs.declared.station.Station.{Station}
 use Rattle.ghcn_series.specs.Series.{Contents}
+use Rattle.ghcn_series.specs.Said.{said_by, stations_said}
 use Rattle.ghcn_series.specs.Says.{data_of}
+use Rattle.ghcn_series.proofs.SaidLines.{held-said, listed-said}
 use Rattle.rank_query.specs.Asked.{Asked}
+use Rattle.rank_query.specs.Asks.{Asks}
 use Rattle.rank_query.proofs.Asks.{asks_read}
-use Rattle.rank_papers.specs.Report.{IsReport}
-use Rattle.rank_papers.specs.Certificate.{IsCertificate}
+use Rattle.rank_papers.specs.Right.{IsRightReport, IsRightCertificate}
 use Rattle.rank_input.specs.Input.{IsReadOf}
 use Rattle.extremes.specs.Judged.{AnswersAreAccepted}
 
@@ -30,10 +32,29 @@ one_reading query stations files x y a b =
     one_value _ _ _ (subst (λ (l : List Station). data_of l files ≡ Ok x.1) list a.holds) b.holds in
     λ i. (asked i, held i)
 
--- so the papers that answer it are the right ones of what the verdict is about
+-- a text asks one query
+pub one_query : (query : List ℕ) (a b : Asked) → Asks query a → Asks query b → a ≡ b
+one_query query a b x y = one_value _ _ _ (asks_read query a x) (asks_read query b y)
+
+-- an input without a fault holds what its lines say
+pub held_is_said : (query stations : List ℕ) (files : List (List ℕ)) (q : Asked) (held : Contents)
+    → IsReadOf query stations files q held → held ≡ said_by (stations_said stations) files
+held_is_said query stations files q held read =
+    held-said read.list files held read.holds
+    ∙ ap (λ (list : List Station). said_by list files) (listed-said stations read.list read.lists)
+
+-- it asks what its text asks, and holds that
+pub one_saying : (query stations : List ℕ) (files : List (List ℕ)) (x : Asked × Contents) (q : Asked)
+    → IsReadOf query stations files x.0 x.1 → Asks query q → x ≡ (q, said_by (stations_said stations) files)
+one_saying query stations files x q read asks =
+    let asked : x.0 ≡ q = one_query query x.0 q read.asks asks in
+    let held = held_is_said query stations files x.0 x.1 read in
+    λ i. (asked i, held i)
+
+-- so the papers that answer an input are the right ones of what a verdict is about
 pub answers_accepted : AnswersAreAccepted
 answers_accepted query stations files papers v a j =
-    j.accepted.1 (subst (λ (x : Asked × Contents). IsReport x.0 x.1 papers.report.items
-    × IsCertificate x.0 x.1 papers.certificate.items)
-    (one_reading query stations files (a.asked, a.held) (j.asked, j.held) a.read j.read)
-    (a.right.report, a.right.certificate))
+    j.accepted.1 (subst (λ (x : Asked × Contents). IsRightReport x.0 x.1 papers.report.items
+    × (version : ℕ) × IsRightCertificate version x.0 x.1 papers.certificate.items)
+    (sym (one_saying query stations files (j.asked, j.held) a.asked j.read a.asks))
+    (a.right.report, 2, a.right.certificate))

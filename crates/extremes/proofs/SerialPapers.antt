@@ -4,18 +4,22 @@ use Rattle.std.specs.Prelude.{Some, find}
 use Rattle.std.specs.List.{AllByRecursion}
 use Rattle.ghcn_files.specs.declared.station.Station.{Station}
 use Rattle.ghcn_files.specs.Listed.{is_station_of}
+use Rattle.ghcn_series.specs.Said.{said_by, stations_said}
 use Rattle.ghcn_series.specs.Series.{Contents}
 use Rattle.rank_query.specs.Asked.{Asked}
 use Rattle.rank_scores.specs.declared.candidate.Candidate.{Candidate}
 use Rattle.rank_sched.specs.Plan.{Planned, planned}
 use Rattle.rank_sched.specs.Task.{task_of}
 use Rattle.rank_sched.specs.Laws.{RecordsAloneAreOne}
-use Rattle.rank_papers.specs.Report.{WithStation, IsReport, named, report_text}
-use Rattle.extremes.proofs.Readings.{one_reading}
+use Rattle.rank_papers.specs.Report.{named, report_text}
+use Rattle.rank_papers.specs.Right.{IsRightReport}
+use Rattle.rank_papers.specs.RightLaws.{BestAreOne}
+use Rattle.extremes.proofs.Readings.{one_query, one_saying}
 use Rattle.extremes.specs.Answer.{AreRight, IsOfOneWorker, certificate_of_run, SerialPapersAreOne}
 
 -- candidates, each with its listed station, are one list
-one_rows : (stations : List Station) (xs ys : List WithStation) → map (λ row. row.0) xs ≡ map (λ row. row.0) ys
+one_rows : (stations : List Station) (xs ys : List (Candidate × Station))
+    → map (λ row. row.0) xs ≡ map (λ row. row.0) ys
     → AllByRecursion (λ row. find (is_station_of row.0.id) stations ≡ Some row.1) xs
     → AllByRecursion (λ row. find (is_station_of row.0.id) stations ≡ Some row.1) ys → xs ≡ ys
 one_rows stations [] [] e f g = refl
@@ -23,18 +27,18 @@ one_rows stations [] (y ∷ ys) e f g = absurd cc
 one_rows stations (x ∷ xs) [] e f g = absurd cc
 one_rows stations (x ∷ xs) (y ∷ ys) e f g =
     let candidate : x.0 ≡ y.0 = cc in
-    let rest : map (λ (row : WithStation). row.0) xs ≡ map (λ (row : WithStation). row.0) ys = cc in
+    let rest : map (λ (row : Candidate × Station). row.0) xs ≡ map (λ (row : Candidate × Station). row.0) ys = cc in
     let station : Some x.1 ≡ Some y.1 = sym f.0
     ∙ ap (λ (c : Candidate). find (is_station_of c.id) stations) candidate ∙ g.0 in
     let other : x.1 ≡ y.1 = cc in
     λ i. (candidate i, other i) ∷ one_rows stations xs ys rest f.1 g.1 i
 
 -- the right report is one text
-one_report : (q : Asked) (c : Contents) (bytes bytes' : List ℕ) → IsReport q c bytes → IsReport q c bytes'
-    → bytes ≡ bytes'
-one_report q c bytes bytes' a b =
-    a.text ∙ ap (λ (rows : List WithStation). report_text q (map named rows))
-    (one_rows c.stations a.rows b.rows (a.best ∙ sym b.best) a.listed b.listed) ∙ sym b.text
+one_report : (q : Asked) (c : Contents) (bytes bytes' : List ℕ) → BestAreOne → IsRightReport q c bytes
+    → IsRightReport q c bytes' → bytes ≡ bytes'
+one_report q c bytes bytes' best a b =
+    a.text ∙ ap (λ (rows : List (Candidate × Station)). report_text q (map named rows))
+    (one_rows c.stations a.rows b.rows (best q c _ _ a.best b.best) a.listed b.listed) ∙ sym b.text
 
 -- the certificate of one worker's run is one text
 one_certificate : (p : Planned) (guess : Option ℤ) (bytes bytes' : List ℕ) → RecordsAloneAreOne
@@ -44,23 +48,20 @@ one_certificate p guess bytes bytes' one a b =
     ∙ sym b.printed
 
 -- so the papers are one pair
-pub serial_one : RecordsAloneAreOne → SerialPapersAreOne
-serial_one one guess query stations files a b right-a serial-a right-b serial-b =
+pub serial_one : BestAreOne → RecordsAloneAreOne → SerialPapersAreOne
+serial_one best one guess query stations files a b right-a serial-a right-b serial-b =
     let q : Asked = right-a.asked in
-    let c : Contents = right-a.held in
+    let c : Contents = said_by (stations_said stations) files in
     let mine : IsOfOneWorker (planned q c) guess a.certificate.items =
     subst (λ (x : Asked × Contents). IsOfOneWorker (planned x.0 x.1) guess a.certificate.items)
-    (one_reading query stations files (serial-a.asked, serial-a.held) (q, c) serial-a.read right-a.read)
-    serial-a.alone in
+    (one_saying query stations files (serial-a.asked, serial-a.held) q serial-a.read right-a.asks) serial-a.alone in
     let other : IsOfOneWorker (planned q c) guess b.certificate.items =
     subst (λ (x : Asked × Contents). IsOfOneWorker (planned x.0 x.1) guess b.certificate.items)
-    (one_reading query stations files (serial-b.asked, serial-b.held) (q, c) serial-b.read right-a.read)
-    serial-b.alone in
+    (one_saying query stations files (serial-b.asked, serial-b.held) q serial-b.read right-a.asks) serial-b.alone in
     let right : AreRight q c b =
-    subst (λ (x : Asked × Contents). AreRight x.0 x.1 b)
-    (one_reading query stations files (right-b.asked, right-b.held) (q, c) right-b.read right-a.read) right-b.right in
+    subst (λ (x : Asked). AreRight x c b) (one_query query right-b.asked q right-b.asks right-a.asks) right-b.right in
     record {
-      report = one_report q c a.report.items b.report.items right-a.right.report right.report;
+      report = one_report q c a.report.items b.report.items best right-a.right.report right.report;
       certificate = one_certificate (planned q c) guess a.certificate.items b.certificate.items one mine other;
       unlisted = right-a.right.unlisted ∙ sym right.unlisted;
     }

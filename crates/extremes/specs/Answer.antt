@@ -1,14 +1,17 @@
 -- What is answered to an input without a fault.
 use Rattle.std.specs.Prelude.{◌≡◌, ℕ, List, Option, ℤ}
+use Rattle.ghcn_series.specs.Said.{said_by, stations_said}
 use Rattle.ghcn_series.specs.Series.{Contents}
 use Rattle.rank_query.specs.Asked.{Asked}
+use Rattle.rank_query.specs.Asks.{Asks}
 use Rattle.rank_sched.specs.declared.record.Record.{Record}
 use Rattle.rank_sched.specs.Plan.{Planned, planned}
 use Rattle.rank_sched.specs.Task.{task_of}
 use Rattle.rank_sched.specs.Hauls.{AreSoundRecords}
 use Rattle.rank_sched.specs.Answers.{best_of_plan, lines_of, AreRecordsAlone}
-use Rattle.rank_papers.specs.Certificate.{IsCertificate, certificate_of_best}
+use Rattle.rank_papers.specs.Certificate.{certificate_of_best}
 use Rattle.rank_papers.specs.Report.{IsReport}
+use Rattle.rank_papers.specs.Right.{IsRightReport, IsRightCertificate}
 use Rattle.rank_papers.specs.PlanPapers.{IsMeasuredCertificate, IsReportOfPlan, IsCertificateOfPlan}
 use Rattle.extremes.specs.declared.papers.Papers.{Papers}
 use Rattle.rank_input.specs.Input.{IsReadOf}
@@ -16,9 +19,8 @@ use Rattle.rank_input.specs.Input.{IsReadOf}
 -- papers are right for a query and data: the report is the right one, the certificate is a right one of version 2, and
 -- the lines of unlisted stations are counted
 pub record AreRight (q : Asked) (c : Contents) (papers : Papers) : Type 0 where
-  pub report : IsReport q c papers.report.items
-  pub certificate : IsCertificate q c papers.certificate.items
-  pub version : certificate.version ≡ 2
+  pub report : IsRightReport q c papers.report.items
+  pub certificate : IsRightCertificate 2 q c papers.certificate.items
   pub unlisted : papers.unlisted ≡ c.unlisted
 
 -- the papers of a query and data: the right report, a right certificate whose bounds are those of the series, and how
@@ -34,12 +36,17 @@ pub record ArePapersOfPlan (p : Planned) (passed_over : ℕ) (papers : Papers) :
   pub certificate : IsCertificateOfPlan p papers.certificate.items
   pub unlisted : papers.unlisted ≡ passed_over
 
--- the papers answer the input: it has no fault, and they are right for what it asks and holds
+-- the papers answer the input: they are right for what its query asks, and its station list and daily files say
 pub record Answers (query stations : List ℕ) (files : List (List ℕ)) (papers : Papers) : Type 0 where
+  pub asked : Asked
+  pub asks : Asks query asked
+  pub right : AreRight asked (said_by (stations_said stations) files) papers
+
+-- the input has no fault
+pub record IsFaultless (query stations : List ℕ) (files : List (List ℕ)) : Type 0 where
   pub asked : Asked
   pub held : Contents
   pub read : IsReadOf query stations files asked held
-  pub right : AreRight asked held papers
 
 -- the certificate of a run over a plan with these records: it is about the plan's best, and has the run's lines
 abbrev pub certificate_of_run : Planned → List Record → List ℕ

@@ -32,7 +32,7 @@ pub record PrintsAnswer (before after : Option (List ℕ)) (ending : Ending) : T
 pub record PrintsRanking (bytes_of : Known) (r : Ranking) (before after : Option (List ℕ)) (ending : Ending)
     : Type 0 where
   pub answer : Result Papers Fault
-  pub foreign : Option Foreign
+  pub foreign : Foreign
   pub ranked : RanksFiles bytes_of r answer foreign
   pub printed : IsPrinted answer before after ending
 
@@ -46,17 +46,15 @@ pub record PrintsMerge (query : List ℕ) (parts : List KnownPart) (before after
 -- what is said of papers that are named is printed
 pub record PrintsJudgement (bytes_of : Known) (j : Judging) (before after : Option (List ℕ)) (ending : Ending)
     : Type 0 where
-  pub answer : Result Judgement Fault
-  pub foreign : Option Foreign
-  pub judged : JudgesFiles bytes_of j answer foreign
+  pub answer : Result (Judgement × Foreign) Fault
+  pub judged : JudgesFiles bytes_of j answer
   pub told : IsTold answer before after ending
 
 -- the description of files that are named is printed
 pub record PrintsDescription (bytes_of : Known) (d : Describing) (before after : Option (List ℕ)) (ending : Ending)
     : Type 0 where
   pub answer : Result DescriptionText Fault
-  pub foreign : Option Foreign
-  pub described : DescribesFiles bytes_of d answer foreign
+  pub described : DescribesFiles bytes_of d answer
   pub shown : IsTextShown answer before after ending
 
 -- a ranking ends at a file, or is printed

@@ -1,7 +1,7 @@
--- What is answered where files are described, and which of them are foreign.
-use Rattle.std.specs.Prelude.{◌≡◌, ℕ, List, map, Option, Result, Ok, Err}
+-- What is answered where files are described.
+use Rattle.std.specs.Prelude.{◌≡◌, ℕ, List, map, Result, Ok, Err}
 use Rattle.ghcn_fields.specs.Refusals.{IsRefusal}
-use Rattle.ghcn_series.specs.declared.counts.Foreign.{Foreign}
+use Rattle.ghcn_series.specs.LineKinds.{foreign_of}
 use Rattle.ghcn_description.specs.declared.counts.Description.{Description}
 use Rattle.ghcn_description.specs.Texts.{description_text}
 use Rattle.rank_input.specs.declared.description.DescriptionIntake.{DescriptionIntake}
@@ -13,13 +13,14 @@ use Rattle.rank_input.specs.Takes.{IsTrueOf}
 use Rattle.extremes.specs.declared.describe.DescriptionText.{DescriptionText}
 use Rattle.extremes.specs.declared.files.Describing.{Describing}
 use Rattle.extremes.specs.Merges.{Known}
-use Rattle.extremes.specs.Runs.{named, AreForeign}
+use Rattle.extremes.specs.Runs.{named}
 
--- a text says what a station list and daily files without a fault hold
+-- a text says what a station list and daily files without a fault hold, and beside it stand the foreign files
 pub record IsTextOf (stations : List ℕ) (files : List (List ℕ)) (text : DescriptionText) : Type 0 where
   pub description : Description
   pub described : IsDescribed stations files description
   pub written : text.bytes.items ≡ description_text description
+  pub foreign : text.foreign ≡ foreign_of files
 
 -- so it does of the files that an intake was given
 abbrev pub DescribesIntake : DescriptionIntake → DescriptionText → Type 0
@@ -30,13 +31,10 @@ abbrev pub IsDescriptionOf : List ℕ → List (List ℕ) → Result Description
 IsDescriptionOf stations files (Ok text) = IsTextOf stations files text
 IsDescriptionOf stations files (Err fault) = IsRefusal is_memory fault (read_files stations files)
 
--- the description of all bytes of the station list and of each daily file that are named, in order, and which of these
--- files are foreign
-pub record DescribesFiles (bytes_of : Known) (d : Describing) (answer : Result DescriptionText Fault)
-    (foreign : Option Foreign) : Type 0 where
+-- the description of all bytes of the station list and of each daily file that are named, in order
+pub record DescribesFiles (bytes_of : Known) (d : Describing) (answer : Result DescriptionText Fault) : Type 0 where
   pub stations : List ℕ
   pub whole : AreAllOf (named bytes_of d.stations) stations
   pub files : List (List ℕ)
   pub all : AreFilesOf (map (named bytes_of) d.files.items) files
   pub described : IsDescriptionOf stations files answer
-  pub told : AreForeign files foreign

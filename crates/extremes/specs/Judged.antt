@@ -2,8 +2,7 @@
 use Rattle.std.specs.Prelude.{◌≡◌, ◌↔◌, ℕ, List}
 use Rattle.ghcn_series.specs.Series.{Contents}
 use Rattle.rank_query.specs.Asked.{Asked}
-use Rattle.rank_papers.specs.Report.{IsReport}
-use Rattle.rank_papers.specs.Certificate.{IsCertificate}
+use Rattle.rank_papers.specs.Right.{IsRightReport, IsRightCertificate}
 use Rattle.rank_check.specs.declared.verdict.Verdict.{Verdict}
 use Rattle.rank_check.specs.declared.verdict.Verdict.TheVariants.{Accepted}
 use Rattle.rank_check.specs.Tests.{verdict}
@@ -21,7 +20,8 @@ pub record IsJudged (query stations : List ℕ) (files : List (List ℕ)) (repor
   pub held : Contents
   pub read : IsReadOf query stations files asked held
   pub verdict : v ≡ verdict asked held report certificate
-  pub accepted : (v ≡ Accepted) ↔ (IsReport asked held report × IsCertificate asked held certificate)
+  pub accepted : (v ≡ Accepted)
+      ↔ (IsRightReport asked held report × (version : ℕ) × IsRightCertificate version asked held certificate)
 
 -- the verdict is that of a part on the papers, for what the input asks and holds
 pub record IsJudgedByPart (query stations : List ℕ) (files : List (List ℕ)) (report certificate : List ℕ)

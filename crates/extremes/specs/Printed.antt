@@ -3,6 +3,7 @@ use Rattle.std.specs.Prelude.{◌≡◌, ◌⊎◌, ℕ, List, ◌++◌, codes, 
 use Rattle.std.specs.Io.KnownBytes.{Appends}
 use Rattle.extremes.specs.declared.papers.Papers.{Papers}
 use Rattle.extremes.specs.declared.describe.DescriptionText.{DescriptionText}
+use Rattle.ghcn_series.specs.declared.counts.Foreign.{Foreign}
 use Rattle.rank_input.specs.declared.fault.Fault.{Fault}
 use Rattle.extremes.specs.declared.ending.Ending.{Ending}
 use Rattle.extremes.specs.declared.ending.Ending.TheVariants.{Done, Refused, Words, File}
@@ -50,7 +51,7 @@ IsTextShown (Err fault) before after ending = (ending ≡ Refused) × (after ≡
 
 -- what is said of papers is printed as its line and ends the run as it says, or it ends as a file that couldn't be
 -- written; a fault prints nothing and is refused
-abbrev pub IsTold : Result Judgement Fault → Option (List ℕ) → Option (List ℕ) → Ending → Type 0
-IsTold (Ok j) before after ending =
-    ((ending ≡ ending_of j) × Appends before after (line_of j)) ⊎ (ending ≡ File)
+abbrev pub IsTold : Result (Judgement × Foreign) Fault → Option (List ℕ) → Option (List ℕ) → Ending → Type 0
+IsTold (Ok judged) before after ending =
+    ((ending ≡ ending_of judged.0) × Appends before after (line_of judged.0)) ⊎ (ending ≡ File)
 IsTold (Err fault) before after ending = (ending ≡ Refused) × (after ≡ before)

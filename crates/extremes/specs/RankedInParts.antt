@@ -2,11 +2,12 @@
 use Rattle.std.specs.Prelude.{◌≡◌, ℕ, List}
 use Rattle.std.specs.List.{AllByRecursion}
 use Rattle.ghcn_series.specs.Held.{IsContents}
+use Rattle.ghcn_series.specs.Said.{said_by, stations_said}
 use Rattle.rank_scores.specs.Cut.{Filed}
 use Rattle.rank_papers.specs.Certificate.{IsCertificate}
 use Rattle.rank_merge.specs.Laws.{all_files, all_texts}
 use Rattle.extremes.specs.declared.papers.Papers.{Papers}
-use Rattle.extremes.specs.Answer.{Answers}
+use Rattle.extremes.specs.Answer.{Answers, IsFaultless}
 use Rattle.extremes.specs.Merges.{AreMerged}
 
 -- the papers of a part are those that a ranking answers to its files; what the files hold is as all data that were
@@ -14,14 +15,16 @@ use Rattle.extremes.specs.Merges.{AreMerged}
 pub record IsRankedPart (query stations : List ℕ) (p : Filed) : Type 0 where
   pub papers : Papers
   pub answer : Answers query stations p.0 papers
-  pub contents : IsContents answer.held
+  pub faultless : IsFaultless query stations p.0
+  pub contents : IsContents (said_by (stations_said stations) p.0)
   pub texts : p.1 ≡ (papers.report.items, papers.certificate.items)
 
 -- what is ranked in parts and merged is ranked: the report is, byte for byte, the one that is answered to all files,
 -- and the certificate is right for all files
 abbrev pub MergedIsRanked : Type 0
 MergedIsRanked = (query stations : List ℕ) (parts : List Filed) (whole merged : Papers)
-    (answer : Answers query stations (all_files parts) whole) → IsContents answer.held
+    (answer : Answers query stations (all_files parts) whole) → IsFaultless query stations (all_files parts)
+    → IsContents (said_by (stations_said stations) (all_files parts))
     → AllByRecursion (IsRankedPart query stations) parts → AreMerged query (all_texts parts) merged
     → (merged.report.items ≡ whole.report.items)
-    × IsCertificate answer.asked answer.held merged.certificate.items
+    × IsCertificate answer.asked (said_by (stations_said stations) (all_files parts)) merged.certificate.items

@@ -1,5 +1,5 @@
 -- What a run answers for what it was given, and for the files that are named.
-use Rattle.std.specs.Prelude.{◌≡◌, ℕ, ◌≤◌, Bool, true, false, List, map, Option, Result, Ok, Err, ℤ, IfSome}
+use Rattle.std.specs.Prelude.{◌≡◌, ℕ, ◌≤◌, Bool, true, false, List, map, Option, Result, Ok, Err, ℤ, IfOk}
 use Rattle.std.specs.Prelude.{String, string_bytes}
 use Rattle.ghcn_fields.specs.Refusals.{IsRefusal}
 use Rattle.ghcn_series.specs.declared.counts.Foreign.{Foreign}
@@ -11,7 +11,7 @@ use Rattle.rank_input.specs.Taken.{IsTrueOf}
 use Rattle.rank_input.specs.Feeding.{AreAllOf, AreFilesOf}
 use Rattle.rank_check.specs.declared.verdict.Verdict.{Verdict}
 use Rattle.extremes.specs.declared.papers.Papers.{Papers}
-use Rattle.extremes.specs.Answer.{Answers, IsCrewed}
+use Rattle.extremes.specs.Answer.{Answers, IsFaultless, IsCrewed}
 use Rattle.rank_parts.specs.declared.verdict.PartVerdict.{PartVerdict}
 use Rattle.extremes.specs.declared.judgement.Judgement.{Judgement}
 use Rattle.extremes.specs.declared.judgement.Judgement.TheVariants.{Whole, Part}
@@ -21,10 +21,6 @@ use Rattle.extremes.specs.declared.files.Judging.{Judging}
 use Rattle.extremes.specs.Merges.{Known, known_part, AreBothOf}
 use Rattle.extremes.specs.Judged.{IsJudged, IsJudgedByPart}
 
--- these are the foreign files among all of these, where any word is said of them
-abbrev pub AreForeign : List (List ℕ) → Option Foreign → Type 0
-AreForeign files foreign = IfSome foreign (λ f. f ≡ foreign_of files)
-
 -- the bytes of the file that is named, by those of files by their paths, where they are known
 abbrev pub named : {A : Type 0} → Known → String A → Option (List ℕ)
 named bytes_of path = bytes_of (string_bytes path)
@@ -32,6 +28,10 @@ named bytes_of path = bytes_of (string_bytes path)
 -- papers answer an intake's input
 abbrev pub AnswersInput : Intake → Papers → Type 0
 AnswersInput t papers = IsTrueOf t (λ query stations files. Answers query stations files papers)
+
+-- an intake's input has no fault
+abbrev pub FaultlessInput : Intake → Type 0
+FaultlessInput t = IsTrueOf t IsFaultless
 
 -- the papers are those of a crew of so many workers for an intake's input, under a guess or none
 abbrev pub CrewsInput : Intake → ℕ → Option ℤ → Papers → Type 0
@@ -69,14 +69,14 @@ RanksInput t workers guess answer =
 
 -- the ranking of all bytes of the station list and of each daily file that are named, in order, and which of these
 -- files are foreign
-pub record RanksFiles (bytes_of : Known) (r : Ranking) (answer : Result Papers Fault) (foreign : Option Foreign)
+pub record RanksFiles (bytes_of : Known) (r : Ranking) (answer : Result Papers Fault) (foreign : Foreign)
     : Type 0 where
   pub stations : List ℕ
   pub whole : AreAllOf (named bytes_of r.stations) stations
   pub files : List (List ℕ)
   pub all : AreFilesOf (map (named bytes_of) r.files.items) files
   pub ranked : IsRanked r.workers r.guess (string_bytes r.query) stations files answer
-  pub told : AreForeign files foreign
+  pub told : IfOk answer (λ papers. foreign ≡ foreign_of files)
 
 -- what is said for these texts is a part's verdict where they are a part of the files that the papers are of, and a
 -- verdict where they aren't
@@ -93,17 +93,17 @@ abbrev pub JudgesInputAs : Bool → Intake → List ℕ → List ℕ → Judgeme
 JudgesInputAs part t report certificate j =
     IsTrueOf t (λ query stations files. IsJudgedAs part query stations files report certificate j)
 
--- what is said of two papers for these texts, or the first fault of these
-abbrev pub IsJudgement : Bool → List ℕ → List ℕ → List (List ℕ) → List ℕ → List ℕ → Result Judgement Fault → Type 0
-IsJudgement part query stations files report certificate (Ok j) =
-    IsJudgedAs part query stations files report certificate j
+-- what is said of two papers for these texts and which of the files are foreign, or the first fault of these
+abbrev pub IsJudgement : Bool → List ℕ → List ℕ → List (List ℕ) → List ℕ → List ℕ
+    → Result (Judgement × Foreign) Fault → Type 0
+IsJudgement part query stations files report certificate (Ok judged) =
+    IsJudgedAs part query stations files report certificate judged.0 × (judged.1 ≡ foreign_of files)
 IsJudgement part query stations files report certificate (Err fault) =
     IsRefusal is_memory fault (read_input query stations files)
 
 -- the judgement of all bytes of two papers for those of the station list and of each daily file, as they are named, in
--- order, and which of these files are foreign
-pub record JudgesFiles (bytes_of : Known) (j : Judging) (answer : Result Judgement Fault) (foreign : Option Foreign)
-    : Type 0 where
+-- order
+pub record JudgesFiles (bytes_of : Known) (j : Judging) (answer : Result (Judgement × Foreign) Fault) : Type 0 where
   pub stations : List ℕ
   pub whole : AreAllOf (named bytes_of j.stations) stations
   pub papers : Texts
@@ -111,4 +111,3 @@ pub record JudgesFiles (bytes_of : Known) (j : Judging) (answer : Result Judgeme
   pub files : List (List ℕ)
   pub all : AreFilesOf (map (named bytes_of) j.files.items) files
   pub judged : IsJudgement j.part (string_bytes j.query) stations files papers.0 papers.1 answer
-  pub told : AreForeign files foreign

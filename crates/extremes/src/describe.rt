@@ -4,6 +4,7 @@ ghost use Rattle.std.specs.Prelude.{IfOk, IfErr};
 ghost use Rattle.rank_input.specs.Described.{HasTakenSome, RefusesInput};
 ghost use Rattle.extremes.specs.Describes.{DescribesIntake};
 
+use ghcn_series::Foreign;
 use rank_input::{DescriptionIntake, Fault};
 use std::alloc::Global;
 
@@ -11,6 +12,8 @@ use std::alloc::Global;
 #[derive(Debug, Drop)]
 pub struct DescriptionText {
     pub bytes: Vec<u8>,
+    /// Which of the files are foreign.
+    pub foreign: Foreign,
 }
 
 /// The text of what the files hold that were given, or the first fault in the order: stations, number
@@ -26,5 +29,6 @@ pub(crate) fn describe_intake(
     let description = intake.finish()?;
     Ok(DescriptionText {
         bytes: description.text(alloc)?,
+        foreign: description.foreign,
     })
 }

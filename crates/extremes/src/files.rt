@@ -2,7 +2,7 @@
 
 ghost use Rattle.std.specs.Prelude.{◌≡◌, [], IfOk, OnOk, map};
 ghost use Rattle.std.specs.List.{AllZip};
-ghost use Rattle.rank_input.specs.Taken.{HasTakenSome};
+ghost use Rattle.rank_input.specs.Taken.{HasTakenSome, AreForeignOf};
 ghost use Rattle.extremes.specs.Runs.{RanksFiles, JudgesFiles, RanksInput};
 ghost use Rattle.extremes.specs.Describes.{DescribesFiles};
 ghost use Rattle.extremes.specs.Merges.{AreBothOf, MergesFiles, known_part, texts_of};
@@ -55,26 +55,24 @@ pub(crate) struct Describing {
 }
 
 /// Reads the station list and then the daily files in order, and ranks them, or answers the path of
-/// the first file that can't be read. Beside it stand the foreign files, unless a fault was found.
+/// the first file that can't be read.
 pub(crate) fn rank_files<'p, R: Threads + Wait + AllocGlobal + Sync, A: Archive>(
     rt: &R,
     archive: &A,
     ranking: &'p Ranking,
-) -> Result<(Ranked, Option<Foreign>), &'p str>
-    ensures { IfOk result (λ read. RanksFiles (A.bytes_of archive.now) ranking.now read.0.answer read.1) }
+) -> Result<Ranked, &'p str>
+    ensures { IfOk result (λ ranked. RanksFiles (A.bytes_of archive.now) ranking.now ranked.answer ranked.foreign) }
 {
     let alloc = rt.alloc();
     let Ok(stations) = read_whole(alloc, archive, &ranking.stations) else {
         return Err(&ranking.stations);
     };
     let Ok(mut room) = piece_room(alloc) else {
-        return Ok((rank::refused(Fault::Memory(Memory)), None));
+        return Ok(rank::refused(Fault::Memory(Memory)));
     };
     let mut intake = Intake::new(alloc, &ranking.query, &stations);
     feed_files(archive, &mut intake, &ranking.files, &mut room)?;
-    let foreign = intake.foreign();
-    let ranked = rank_fed(rt, intake, ranking.workers, ranking.guess);
-    Ok((ranked, foreign))
+    Ok(rank_fed(rt, intake, ranking.workers, ranking.guess))
 }
 
 /// Ranks what was fed, by as many of the workers that are asked for as are worth starting.
@@ -85,7 +83,8 @@ fn rank_fed<R: Threads + Wait + AllocGlobal + Sync>(
     guess: Option<i64>,
 ) -> Ranked
     requires { HasTakenSome intake }
-    ensures { RanksInput intake workers guess result.answer }
+    ensures ranks { RanksInput intake workers guess result.answer }
+    ensures foreign { IfOk result.answer (λ papers. AreForeignOf intake result.foreign) }
 {
     match check_words(workers, guess) {
         Ok(()) => {
@@ -156,53 +155,49 @@ fn read_part<'p, A: Archive>(
 }
 
 /// Reads the station list, the report, the certificate and then the daily files in order, and judges
-/// the papers, as those of a whole of which the files are a part where that is so. Or answers the path
-/// of the first file that can't be read. Beside it stand the foreign files, unless a fault was found.
+/// the papers, as those of a whole of which the files are a part where that is so; beside it stand the
+/// foreign files. Or answers the path of the first file that can't be read.
 pub(crate) fn judge_files<'p, A: Archive>(
     alloc: Global,
     archive: &A,
     judging: &'p Judging,
-) -> Result<(Result<Judgement, Fault>, Option<Foreign>), &'p str>
-    ensures { IfOk result (λ read. JudgesFiles (A.bytes_of archive.now) judging.now read.0 read.1) }
+) -> Result<Result<(Judgement, Foreign), Fault>, &'p str>
+    ensures { IfOk result (JudgesFiles (A.bytes_of archive.now) judging.now) }
 {
     let Ok(stations) = read_whole(alloc, archive, &judging.stations) else {
         return Err(&judging.stations);
     };
     let papers = read_part(alloc, archive, &judging.papers)?;
     let Ok(mut room) = piece_room(alloc) else {
-        return Ok((Err(Fault::Memory(Memory)), None));
+        return Ok(Err(Fault::Memory(Memory)));
     };
     let mut intake = Intake::new(alloc, &judging.query, &stations);
     feed_files(archive, &mut intake, &judging.files, &mut room)?;
-    let foreign = intake.foreign();
-    let judged = judge_as(
+    Ok(judge_as(
         alloc,
         intake,
         judging.part,
         &papers.report,
         &papers.certificate,
-    );
-    Ok((judged, foreign))
+    ))
 }
 
 /// Reads the station list and then the daily files in order, and describes them, or answers the path
-/// of the first file that can't be read. Beside it stand the foreign files, unless a fault was found.
+/// of the first file that can't be read.
 pub(crate) fn describe_files<'p, A: Archive>(
     alloc: Global,
     archive: &A,
     describing: &'p Describing,
-) -> Result<(Result<DescriptionText, Fault>, Option<Foreign>), &'p str>
-    ensures { IfOk result (λ read. DescribesFiles (A.bytes_of archive.now) describing.now read.0 read.1) }
+) -> Result<Result<DescriptionText, Fault>, &'p str>
+    ensures { IfOk result (DescribesFiles (A.bytes_of archive.now) describing.now) }
 {
     let Ok(stations) = read_whole(alloc, archive, &describing.stations) else {
         return Err(&describing.stations);
     };
     let Ok(mut room) = piece_room(alloc) else {
-        return Ok((Err(Fault::Memory(Memory)), None));
+        return Ok(Err(Fault::Memory(Memory)));
     };
     let mut intake = DescriptionIntake::new(alloc, &stations);
     feed_files(archive, &mut intake, &describing.files, &mut room)?;
-    let foreign = intake.foreign();
-    let described = describe_intake(alloc, intake);
-    Ok((described, foreign))
+    Ok(describe_intake(alloc, intake))
 }

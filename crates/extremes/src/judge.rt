@@ -1,21 +1,26 @@
 //! The judgement of papers, from the bytes of the files to a verdict.
 
-ghost use Rattle.std.specs.Prelude.{◌≡◌, IfOk, IfErr, map};
+ghost use Rattle.std.specs.Prelude.{◌≡◌, ◌↔◌, ℕ, IfOk, IfErr, map};
 ghost use Rattle.extremes.specs.Ending.{ending_of};
 ghost use Rattle.ghcn_fields.specs.Refusals.{IsRefusal};
+ghost use Rattle.rank_check.specs.Tests as tests;
+ghost use Rattle.rank_papers.specs.Right.{IsRightReport, IsRightCertificate};
 ghost use Rattle.rank_input.specs.Input.{read_input, is_memory};
 ghost use Rattle.extremes.specs.Judged.{IsJudged, IsJudgedByPart};
 ghost use Rattle.extremes.specs.JudgedInParts.{PartsJudgeTheWhole};
-ghost use Rattle.rank_input.specs.Taken.{HasTakenSome, RefusesInput};
+ghost use Rattle.rank_input.specs.Taken.{HasTakenSome, AreForeignOf, RefusesInput};
 ghost use Rattle.extremes.specs.Runs.{JudgesInput, JudgesPart, JudgesInputAs};
 
 use crate::ending::Ending;
 use crate::judgement::Judgement;
 use crate::laws::parts_judge_the_whole;
+use ghcn_fields::Memory;
+use ghcn_series::{Data, Foreign};
 use rank_check::{Verdict, check, verdict_of_one_element};
 use rank_input::{Fault, Intake};
-use rank_papers::papers_of_one_element;
+use rank_papers::{papers_are_found, papers_of_one_element};
 use rank_parts::{PartVerdict, check_part, part_verdict_of_one_element};
+use rank_query::Query;
 use std::alloc::Global;
 
 /// Judges a report and a certificate of a query over a station list and daily files, whoever made
@@ -37,7 +42,8 @@ pub fn judge(
         IsRefusal is_memory fault (read_input query.now stations.now (map (λ file. file.now) files.now))) }
 {
     let intake = Intake::of_files(alloc, query, stations, files);
-    judge_intake(alloc, intake, report, certificate)
+    let (verdict, _foreign) = judge_intake(alloc, intake, report, certificate)?;
+    Ok(verdict)
 }
 
 /// Judges a report and a certificate of a whole archive over the station list and the daily files of
@@ -62,61 +68,86 @@ pub fn judge_part(
 {
     parts_judge_the_whole();
     let intake = Intake::of_files(alloc, query, stations, files);
-    judge_part_intake(alloc, intake, report, certificate)
+    let (verdict, _foreign) = judge_part_intake(alloc, intake, report, certificate)?;
+    Ok(verdict)
 }
 
 /// Judges papers over what was given: as `judge_part` does where that is a part of their files, and
-/// as `judge` does where it isn't.
+/// as `judge` does where it isn't. Beside it stand the foreign files.
 pub fn judge_as(
     alloc: Global,
     intake: Intake,
     part: bool,
     report: &[u8],
     certificate: &[u8],
-) -> Result<Judgement, Fault>
+) -> Result<(Judgement, Foreign), Fault>
     requires { HasTakenSome intake }
-    ensures ok { IfOk result (JudgesInputAs part intake report.now certificate.now) }
+    ensures ok { IfOk result (λ judged. JudgesInputAs part intake report.now certificate.now judged.0) }
+    ensures foreign { IfOk result (λ judged. AreForeignOf intake judged.1) }
     ensures err { IfErr result (RefusesInput intake) }
 {
     if part {
-        let verdict = judge_part_intake(alloc, intake, report, certificate)?;
-        return Ok(Judgement::Part(verdict));
+        let (verdict, foreign) = judge_part_intake(alloc, intake, report, certificate)?;
+        return Ok((Judgement::Part(verdict), foreign));
     }
-    let verdict = judge_intake(alloc, intake, report, certificate)?;
-    Ok(Judgement::Whole(verdict))
+    let (verdict, foreign) = judge_intake(alloc, intake, report, certificate)?;
+    Ok((Judgement::Whole(verdict), foreign))
 }
 
-/// Judges papers over what was given, as `judge` does.
+/// Judges papers over what was given, as `judge` does. Beside it stand the foreign files.
 pub fn judge_intake(
     alloc: Global,
     intake: Intake,
     report: &[u8],
     certificate: &[u8],
-) -> Result<Verdict, Fault>
+) -> Result<(Verdict, Foreign), Fault>
     requires { HasTakenSome intake }
-    ensures ok { IfOk result (JudgesInput intake report.now certificate.now) }
+    ensures ok { IfOk result (λ judged. JudgesInput intake report.now certificate.now judged.0) }
+    ensures foreign { IfOk result (λ judged. AreForeignOf intake judged.1) }
     ensures err { IfErr result (RefusesInput intake) }
 {
-    let (query, held) = intake.finish()?;
+    let taken = intake.finish()?;
     papers_of_one_element();
     verdict_of_one_element();
-    Ok(check(alloc, &held, &query, report, certificate)?)
+    let verdict = judge_held(alloc, &taken.held, &taken.query, report, certificate)?;
+    Ok((verdict, taken.foreign))
 }
 
-/// Judges papers over what was given, as `judge_part` does.
+/// Judges papers of a query over some data.
+fn judge_held(
+    alloc: Global,
+    held: &Data,
+    query: &Query,
+    report: &[u8],
+    certificate: &[u8],
+) -> Result<Verdict, Memory>
+    ensures verdict { IfOk result (λ found.
+        found ≡ tests.verdict query.now held.now report.now certificate.now) }
+    ensures accepted { IfOk result (λ found. (found ≡ Verdict.Accepted)
+        ↔ (IsRightReport query.now held.now report.now
+        × (version : ℕ) × IsRightCertificate version query.now held.now certificate.now)) }
+{
+    papers_are_found();
+    let (_stations, _k) = (held.stations(), query.k());
+    check(alloc, held, query, report, certificate)
+}
+
+/// Judges papers over what was given, as `judge_part` does. Beside it stand the foreign files.
 pub fn judge_part_intake(
     alloc: Global,
     intake: Intake,
     report: &[u8],
     certificate: &[u8],
-) -> Result<PartVerdict, Fault>
+) -> Result<(PartVerdict, Foreign), Fault>
     requires { HasTakenSome intake }
-    ensures ok { IfOk result (JudgesPart intake report.now certificate.now) }
+    ensures ok { IfOk result (λ judged. JudgesPart intake report.now certificate.now judged.0) }
+    ensures foreign { IfOk result (λ judged. AreForeignOf intake judged.1) }
     ensures err { IfErr result (RefusesInput intake) }
 {
-    let (query, held) = intake.finish()?;
+    let taken = intake.finish()?;
     part_verdict_of_one_element();
-    Ok(check_part(alloc, &held, &query, report, certificate)?)
+    let verdict = check_part(alloc, &taken.held, &taken.query, report, certificate)?;
+    Ok((verdict, taken.foreign))
 }
 
 /// How a run ends that answers this judgement.

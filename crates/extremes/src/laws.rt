@@ -4,6 +4,7 @@ ghost use Rattle.extremes.specs.Judged.{AnswersAreAccepted};
 ghost use Rattle.extremes.specs.JudgedInParts.{PartsJudgeTheWhole};
 ghost use Rattle.extremes.specs.RankedInParts.{MergedIsRanked};
 
+use rank_papers::papers_are_found;
 use rank_parts::parts_make_the_whole;
 use rank_query::queries_have_texts;
 
@@ -17,7 +18,9 @@ pub fn answers_are_accepted()
 /// and a certificate that is right for all files.
 pub fn merged_is_ranked()
     ensures { MergedIsRanked }
-{}
+{
+    papers_are_found();
+}
 
 /// Papers that the files of each part accept are right for the files of all parts, one part after the
 /// other, where these have no fault together, no station has an admitted day in two parts, and the

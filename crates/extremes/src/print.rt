@@ -19,16 +19,24 @@ use std::io;
 use std::io::Write;
 use std::rt::Files;
 
-/// Prints what a ranking answers, and then frees its data.
+/// Prints what a ranking of files answers, and then frees its data.
 pub(crate) fn print_ranked<R: Files + Eprint, W: Write>(
     rt: &R,
     ranked: Ranked,
+    files: &[String],
     certificate: Option<&str>,
     out: &mut W,
 ) -> Ending
     ensures { IsPrinted ranked.answer (W.contents out.old) (W.contents out.new) result }
 {
-    let Ranked { answer, held } = ranked;
+    let Ranked {
+        answer,
+        foreign,
+        held,
+    } = ranked;
+    if answer.is_ok() {
+        tell_foreign(rt, foreign, files);
+    }
     let ending = print_answer(rt, answer, certificate, out);
     drop(held);
     ending
@@ -67,23 +75,10 @@ pub(crate) fn print_text<R: Eprint, W: Write>(rt: &R, text: &[u8], out: &mut W) 
 }
 
 /// Says how many of the files are foreign, and names the first of them by its path, where there is
-/// one and no fault is told.
-pub(crate) fn tell_foreign<R: Eprint, T>(
-    rt: &R,
-    answer: &Result<T, Fault>,
-    foreign: Option<Foreign>,
-    files: &[String],
-) {
-    if answer.is_err() {
-        return;
-    }
-    if let Some(
-        Foreign {
-            count,
-            first: Some(place),
-        },
-    ) = foreign
-    {
+/// one.
+fn tell_foreign<R: Eprint>(rt: &R, foreign: Foreign, files: &[String]) {
+    let Foreign { count, first } = foreign;
+    if let Some(place) = first {
         if let Some(path) = files.get(place as usize) {
             let _ = eprintln!(rt; "foreign {count} {path}");
         }
@@ -133,32 +128,38 @@ fn write_papers<R: Files, W: Write>(
     }
 }
 
-/// Prints the text of a description, or tells the fault.
+/// Prints the text of a description of files, or tells the fault.
 pub(crate) fn print_description<R: Eprint, W: Write>(
     rt: &R,
     described: Result<DescriptionText, Fault>,
+    files: &[String],
     out: &mut W,
 ) -> Ending
     ensures { IsTextShown described (W.contents out.old) (W.contents out.new) result }
 {
     match described {
-        Ok(text) => print_text(rt, &text.bytes, out),
+        Ok(text) => {
+            tell_foreign(rt, text.foreign, files);
+            print_text(rt, &text.bytes, out)
+        }
         Err(fault) => refused(rt, fault),
     }
 }
 
-/// Prints what is said of papers, or tells the fault.
+/// Prints what is said of papers over files, or tells the fault.
 pub(crate) fn print_judgement<R: Eprint, W: Write>(
     rt: &R,
-    judged: Result<Judgement, Fault>,
+    judged: Result<(Judgement, Foreign), Fault>,
+    files: &[String],
     out: &mut W,
 ) -> Ending
     ensures { IsTold judged (W.contents out.old) (W.contents out.new) result }
 {
-    let judgement = match judged {
-        Ok(judgement) => judgement,
+    let (judgement, foreign) = match judged {
+        Ok(judged) => judged,
         Err(fault) => return refused(rt, fault),
     };
+    tell_foreign(rt, foreign, files);
     match writeln!(out, "{judgement}") {
         Ok(()) => ending(&judgement),
         Err(_) => not_written(rt, "-"),

@@ -2,23 +2,23 @@
 
 ghost use Rattle.std.specs.Prelude.{◌≡◌, ◌<◌, true, Err, IfOk, IfErr, map};
 ghost use Rattle.ghcn_series.specs.Held.{IsContents};
-ghost use Rattle.extremes.specs.Answer.{Answers, ArePapers, ArePapersOfPlan, IsCrewed, IsOfCrew};
-ghost use Rattle.extremes.specs.Answer.{IsOfOneWorker, IsSerial, SerialPapersAreOne};
+ghost use Rattle.extremes.specs.Answer.{Answers, ArePapersOfPlan, AreRight, IsCrewed, IsFaultless};
+ghost use Rattle.extremes.specs.Answer.{IsOfCrew, IsOfOneWorker, IsSerial, SerialPapersAreOne};
 ghost use Rattle.rank_papers.specs.Certificate.{certificate_of_best};
 ghost use Rattle.rank_papers.specs.PlanPapers.{IsMeasuredCertificate};
 ghost use Rattle.ghcn_fields.specs.Refusals.{IsRefusal};
 ghost use Rattle.rank_input.specs.Input.{is_crew, is_guess, read_run, is_memory};
-ghost use Rattle.rank_input.specs.Taken.{HasTakenSome, RefusesInput};
-ghost use Rattle.extremes.specs.Runs.{AnswersInput, CrewsInput};
+ghost use Rattle.rank_input.specs.Taken.{HasTakenSome, AreForeignOf, RefusesInput};
+ghost use Rattle.extremes.specs.Runs.{AnswersInput, CrewsInput, FaultlessInput};
 ghost use Rattle.rank_sched.specs.Answers.{IsAnswerOfPlan};
 ghost use Rattle.rank_sched.specs.Plan.{planned};
 
 use crate::papers::Papers;
 use ghcn_fields::Memory;
-use ghcn_series::Data;
+use ghcn_series::{Data, Foreign};
 use rank_crew::{Gate, crew, survey};
-use rank_input::{Fault, Intake, check_words};
-use rank_papers::{certificate, papers_of_one_element, report};
+use rank_input::{Fault, Intake, TakenInput, check_words};
+use rank_papers::{certificate, papers_are_found, papers_of_one_element, report};
 use rank_query::Query;
 use rank_sched::{Answer, Plan, ends_are_sound, run_alone, runs_are_sound};
 use rank_scores::one_element_is_enough;
@@ -45,6 +45,8 @@ pub fn rank<R: Threads + Wait + AllocGlobal + Sync, G: Gate + Sync>(
     gate: &G,
 ) -> Result<Papers, Fault>
     ensures ok { IfOk result (Answers query.now stations.now (map (λ file. file.now) files.now)) }
+    ensures faultless { IfOk result (λ papers.
+        IsFaultless query.now stations.now (map (λ file. file.now) files.now)) }
     ensures workers { IfOk result (λ papers. is_crew workers ≡ true) }
     ensures guess { IfOk result (λ papers. is_guess guess ≡ true) }
     ensures crew { IfOk result (IsCrewed workers guess query.now stations.now (map (λ file. file.now) files.now)) }
@@ -60,6 +62,8 @@ pub fn rank<R: Threads + Wait + AllocGlobal + Sync, G: Gate + Sync>(
 #[derive(Drop)]
 pub struct Ranked {
     pub answer: Result<Papers, Fault>,
+    /// Which of the files are foreign. None is where there was a fault.
+    pub foreign: Foreign,
     /// Nothing where there was a fault in what was given. To free many series takes a while, so a
     /// caller may use the answer first.
     pub held: Option<Data>,
@@ -77,16 +81,25 @@ pub fn rank_intake<R: Threads + Wait + AllocGlobal + Sync, G: Gate + Sync>(
     requires workers { is_crew workers ≡ true }
     requires guess { is_guess guess ≡ true }
     ensures ok { IfOk result.answer (AnswersInput intake) }
+    ensures faultless { IfOk result.answer (λ papers. FaultlessInput intake) }
     ensures crew { IfOk result.answer (CrewsInput intake workers guess) }
+    ensures foreign { IfOk result.answer (λ papers. AreForeignOf intake result.foreign) }
     ensures err { IfErr result.answer (RefusesInput intake) }
 {
     match intake.finish() {
-        Ok((query, held)) => {
+        Ok(
+            TakenInput {
+                query,
+                held,
+                foreign,
+            },
+        ) => {
             papers_of_one_element();
             one_element_is_enough();
             let answer = ranked_by_crew(rt, &held, &query, workers, guess, gate);
             Ranked {
                 answer,
+                foreign,
                 held: Some(held),
             }
         }
@@ -100,6 +113,7 @@ pub(crate) fn refused(fault: Fault) -> Ranked
 {
     Ranked {
         answer: Err(fault),
+        foreign: Foreign::none(),
         held: None,
     }
 }
@@ -119,6 +133,8 @@ pub fn rank_serial(
     guess: Option<i64>,
 ) -> Result<Papers, Fault>
     ensures ok { IfOk result (Answers query.now stations.now (map (λ file. file.now) files.now)) }
+    ensures faultless { IfOk result (λ papers.
+        IsFaultless query.now stations.now (map (λ file. file.now) files.now)) }
     ensures guess { IfOk result (λ papers. is_guess guess ≡ true) }
     ensures serial { IfOk result (IsSerial guess query.now stations.now (map (λ file. file.now) files.now)) }
     ensures err { IfErr result (λ fault.
@@ -126,10 +142,10 @@ pub fn rank_serial(
 {
     check_words(1, guess)?;
     let intake = Intake::of_files(alloc, query, stations, files);
-    let (query, held) = intake.finish()?;
+    let taken = intake.finish()?;
     papers_of_one_element();
     one_element_is_enough();
-    Ok(ranked_alone(alloc, &held, &query, guess)?)
+    Ok(ranked_alone(alloc, &taken.held, &taken.query, guess)?)
 }
 
 /// What `rank_serial` answers is an exact function of the input: two reports, two certificates and
@@ -137,6 +153,7 @@ pub fn rank_serial(
 pub fn serial_papers_are_one()
     ensures { SerialPapersAreOne }
 {
+    papers_are_found();
     runs_are_sound();
 }
 
@@ -149,10 +166,12 @@ fn ranked_alone(
 ) -> Result<Papers, Memory>
     requires guess { is_guess guess ≡ true }
     requires contents { IsContents held.now }
-    ensures papers { IfOk result (ArePapers query.now held.now) }
+    ensures right { IfOk result (AreRight query.now held.now) }
+    ensures bounds { IfOk result (λ papers. IsMeasuredCertificate query.now held.now papers.certificate.items) }
     ensures alone { IfOk result (λ papers.
         IsOfOneWorker (planned query.now held.now) guess papers.certificate.items) }
 {
+    papers_are_found();
     let plan = Plan::new(alloc, held, query)?;
     let answer = run_alone(alloc, &plan, guess)?;
     papers_of(alloc, &plan, &answer, held.unlisted())
@@ -170,12 +189,13 @@ fn ranked_by_crew<R: Threads + Wait + AllocGlobal + Sync, G: Gate + Sync>(
     requires crew { is_crew workers ≡ true }
     requires guess { is_guess guess ≡ true }
     requires contents { IsContents held.now }
-    ensures ok { IfOk result (ArePapers query.now held.now) }
+    ensures ok { IfOk result (AreRight query.now held.now) }
     ensures crew { IfOk result (λ papers. IsMeasuredCertificate query.now held.now papers.certificate.items
         × IsOfCrew (planned query.now held.now) guess workers papers.certificate.items) }
     ensures err { IfErr result (λ fault. is_memory fault ≡ true) }
 {
     ends_are_sound();
+    papers_are_found();
     let plan = survey(rt, rt.alloc(), held, query, workers, gate)?;
     let answer = crew(rt, rt.alloc(), &plan, workers, guess, gate)?;
     Ok(papers_of(rt.alloc(), &plan, &answer, held.unlisted())?)

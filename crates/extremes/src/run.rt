@@ -11,7 +11,7 @@ use crate::files::{
 use crate::papers::Papers;
 use crate::print::{
     not_read, not_written, print_answer, print_description, print_judgement, print_ranked,
-    print_text, refused, tell_foreign,
+    print_text, refused,
 };
 use crate::rank::rank_serial;
 use crate::sample;
@@ -131,10 +131,7 @@ fn run_ranking<R: Files + Eprint + Threads + Wait + AllocGlobal + Sync, A: Archi
         }
     }
     match rank_files(rt, archive, ranking) {
-        Ok((ranked, foreign)) => {
-            tell_foreign(rt, &ranked.answer, foreign, &ranking.files);
-            print_ranked(rt, ranked, certificate, out)
-        }
+        Ok(ranked) => print_ranked(rt, ranked, &ranking.files, certificate, out),
         Err(path) => not_read(rt, path),
     }
 }
@@ -175,10 +172,7 @@ fn run_judging<R: Eprint + AllocGlobal, A: Archive, W: Write>(
         (W.contents out.old) (W.contents out.new) result }
 {
     match judge_files(rt.alloc(), archive, judging) {
-        Ok((judged, foreign)) => {
-            tell_foreign(rt, &judged, foreign, &judging.files);
-            print_judgement(rt, judged, out)
-        }
+        Ok(judged) => print_judgement(rt, judged, &judging.files, out),
         Err(path) => not_read(rt, path),
     }
 }
@@ -194,10 +188,7 @@ fn run_describing<R: Eprint + AllocGlobal, A: Archive, W: Write>(
         (W.contents out.old) (W.contents out.new) result }
 {
     match describe_files(rt.alloc(), archive, describing) {
-        Ok((described, foreign)) => {
-            tell_foreign(rt, &described, foreign, &describing.files);
-            print_description(rt, described, out)
-        }
+        Ok(described) => print_description(rt, described, &describing.files, out),
         Err(path) => not_read(rt, path),
     }
 }

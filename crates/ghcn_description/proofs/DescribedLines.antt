@@ -131,6 +131,7 @@ elements-more stations ls l m is listed apart cs was new of there adds = go (fiv
     same_itself Tmax = refl
     same_itself Tmin = refl
 
+    -- one of five counts is set
     go : (a : ElementCounts) × (b : ElementCounts) × (c : ElementCounts) × (d : ElementCounts) × (e : ElementCounts)
         × (cs ≡ a ∷ b ∷ c ∷ d ∷ e ∷ [])
         → AllZip (AreCounts stations (ls ++ l ∷ [])) (set cs (element_index m.element) new) elements

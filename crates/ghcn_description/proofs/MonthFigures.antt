@@ -177,6 +177,7 @@ any-at m (r ∷ rs) s w zero d marks set at = go (usable_day m (s + 1, r)) refl
     rest : List DayValue
     rest = filter_map (usable_day m) (enumerate_from (s + 1 + 1) rs)
 
+    -- where the first day counts, it is the one
     go : (o : Option DayValue) → usable_day m (s + 1, r) ≡ o
         → list_any (int_eq d) (map (λ (x : DayValue). x.0) (cons_option o rest)) ≡ true
     go None is =
@@ -215,11 +216,13 @@ all-at_bits p m (r ∷ rs) s w marks all =
     rest : List DayValue
     rest = filter_map (usable_day m) (enumerate_from (s + 1 + 1) rs)
 
+    -- a bit that is set is one
     set-first : (b : ℕ) → b < 2 → true ≡ (b == 1) → b ≡ 1
     set-first zero lt e = absurd cc
     set-first (suc zero) lt e = refl
     set-first (suc (suc b)) lt e = absurd (omega arith)
 
+    -- where the first day counts, it passes too
     go : (o : Option DayValue) → usable_day m (s + 1, r) ≡ o → list_all p (map (λ (x : DayValue). x.0) rest) ≡ true
         → list_all p (map (λ (x : DayValue). x.0) (cons_option o rest)) ≡ true
     go None is h = h
@@ -258,10 +261,12 @@ row-span m row low high span right of low_set below high_set above at_first at_l
     from_zero : (j : ℕ) → j + 1 ≡ 0 + j + 1
     from_zero j = omega arith
 
+    -- no day comes before the first
     not_below : (j : ℕ) → bit_at row.word j ≡ 1 → (j < low) ⊎ (low ≤ j) → low ≤ j
     not_below j set (inl lt) = absurd (let clear = below j lt in omega (arith, set, clear))
     not_below j set (inr le) = le
 
+    -- and none behind the last
     not_above : (j : ℕ) → bit_at row.word j ≡ 1 → (high < j) ⊎ (j ≤ high) → j ≤ high
     not_above j set (inl lt) = absurd (let clear = above j lt in omega (arith, set, clear))
     not_above j set (inr le) = le

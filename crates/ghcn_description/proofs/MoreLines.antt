@@ -266,6 +266,7 @@ counts-once f b id (s ∷ ss) apart =
     head false true = refl
     head false false = refl
 
+    -- the first station is this one, or another
     go : (t : Bool) → same_id s.id id ≡ t
         → cond {A = ℕ} (f s.id || (same_id id s.id && b)) 1 0 + cond (is_listed ss id && (b && not (f id))) 1 0
         ≡ cond (f s.id) 1 0 + cond ((same_id s.id id || is_listed ss id) && (b && not (f id))) 1 0
@@ -299,6 +300,7 @@ changed-at f g h d id (s ∷ ss) k apart at lt others this = go (same_id s.id id
         ≡ false) same (same_id-turned t.id s.id ∙ all.0) in
         rw (others t other, none-changed ts all.1 is) refl
 
+    -- the place is that of the first station, or of one behind it
     go : (t : Bool) (k : ℕ) → same_id s.id id ≡ t
         → cond (not t) (1 + position_or_len (is_station_of id) ss) 0 ≡ k → k < length (s ∷ ss)
         → ((k : ℕ) → IsDistinct same_id (ids ss) → position_or_len (is_station_of id) ss ≡ k → k < length ss
@@ -337,9 +339,11 @@ module _ (stations : List Station) (ls : List FileLine) (l : FileLine) (m : Mont
   abbrev after : List FileLine
   after = ls ++ l ∷ []
 
+  -- the months of the lines
   abbrev months : List Month
   months = filter_map month_on ls
 
+  -- the facts of this month that count
   abbrev own : List Fact
   own = usable_among stations m (enumerate_from 1 m.days)
 

@@ -380,6 +380,7 @@ module _ (ls : List FileLine) (l : FileLine) (other : is_other l ≡ true) where
     abbrev old : List (List ℕ)
     old = (xs ++ ys) ++ z ∷ []
 
+    -- the codes with the new one
     abbrev new : List (List ℕ)
     new = xs ++ code ∷ ys
 

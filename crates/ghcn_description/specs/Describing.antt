@@ -12,7 +12,6 @@ use Rattle.ghcn_files.specs.declared.station.StationId.{StationId}
 use Rattle.ghcn_files.specs.declared.month.Month.{Month}
 use Rattle.ghcn_files.specs.Ids.{same_id}
 use Rattle.ghcn_files.specs.Elements.{elements, same_element, element_index}
-use Rattle.ghcn_series.specs.declared.counts.Foreign.{Foreign}
 use Rattle.ghcn_series.specs.declared.counts.LineCounts.{LineCounts}
 use Rattle.ghcn_series.specs.declared.fault.DailyWhy.TheVariants.{DuplicateMonth}
 use Rattle.ghcn_series.specs.declared.fault.DataFault.{DataFault}
@@ -22,7 +21,6 @@ use Rattle.ghcn_series.specs.Cut as cut
 use Rattle.ghcn_series.specs.DailyFaults.{FileLine, daily_fault, daily_lines, is_memory, IsFirstRefusal}
 use Rattle.ghcn_series.specs.Fed.{Fed, more, with_end, with_files, files_of}
 use Rattle.ghcn_series.specs.Gathered.{HasReadFor, IsLineRefusal}
-use Rattle.ghcn_series.specs.LineKinds.{foreign_of}
 use Rattle.ghcn_series.specs.Says.{Fact, usable_facts, data_of}
 use Rattle.ghcn_description.specs.declared.counts.Description.{Description}
 use Rattle.ghcn_description.specs.declared.counts.ElementCounts.{ElementCounts}
@@ -102,10 +100,6 @@ pub record TakesPiece (old new : FileDescriber) (bytes : List ℕ) : Type 0 wher
 -- a describer ends the current file
 pub record EndsFile (old new : FileDescriber) : Type 0 where
   pub holds : (fed : Fed) → HasFed old fed → HasFed new (with_files fed (with_end fed.files))
-
--- these are the foreign files among those that a describer was fed, and that were ended
-pub record AreForeignOf (r : FileDescriber) (foreign : Foreign) : Type 0 where
-  pub is : (fed : Fed) → HasFed r fed → foreign ≡ foreign_of fed.files.ended
 
 -- the files that a describer was fed are described so
 pub record HoldsFed (r : FileDescriber) (d : Description) : Type 0 where

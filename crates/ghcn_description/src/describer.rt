@@ -1,14 +1,11 @@
 //! Counts what stands on the lines of daily files.
 
-ghost use Rattle.std.specs.Prelude.{◌≡◌, ◌<◌, ◌∷◌, [], false, true, length, IfOk, IfErr, OnOk};
-ghost use Rattle.ghcn_fields.specs.Bytes.{is_blank};
+ghost use Rattle.std.specs.Prelude.{◌≡◌, ◌<◌, [], true, length, IfOk, OnOk};
 ghost use Rattle.ghcn_files.specs.declared.element.Keep.{Keep};
 ghost use Rattle.ghcn_files.specs.declared.element.Keep.TheVariants.{All};
 ghost use Rattle.ghcn_files.specs.Flags.{flagged_values};
 ghost use Rattle.ghcn_files.specs.Rows.{IsOfLine};
-ghost use Rattle.ghcn_series.specs.DailyFaults.{line_of};
-ghost use Rattle.ghcn_series.specs.LineKinds.{kind_of};
-ghost use Rattle.ghcn_series.specs.LinesRead.{HasReadSome, Reads, Refuses};
+ghost use Rattle.ghcn_series.specs.LinesRead.{HasReadSome};
 ghost use Rattle.ghcn_series.specs.Steps.{IsOfMonth, OfMonth};
 ghost use Rattle.ghcn_description.specs.Describing.{HasDescribed, AddsMonth, CountsAt, Finishes};
 
@@ -16,7 +13,7 @@ use crate::counts::sum;
 use crate::elements::{no_counts, place_of};
 use crate::others::{Others, shown_code};
 use crate::{Description, ElementCounts};
-use ghcn_fields::{Memory, is_blank, without_return};
+use ghcn_fields::Memory;
 use ghcn_files::{Keep, MonthRow, Stations, flagged_values, read_days};
 use ghcn_series::{DailyWhy, DataFault, LineCounts, LineKind, LineReader, Reader};
 use std::alloc::Global;
@@ -47,11 +44,21 @@ impl LineReader for Describer {
         line: u64,
         bytes: &[u8],
     ) -> Result<LineKind, DataFault> {
-        let bytes = without_return(bytes);
-        if is_blank(bytes) {
-            return Ok(LineKind::Blank);
+        let row = match read_days(bytes, Keep::All) {
+            Ok(Some(row)) => row,
+            Ok(None) => {
+                return match self.others.add(shown_code(bytes)) {
+                    Ok(()) => Ok(LineKind::Other),
+                    Err(memory) => Err(DataFault::Memory(memory)),
+                };
+            }
+            Err(why) => return Err(refused(file, line, DailyWhy::Line(why))),
+        };
+        match self.add_month(alloc, bytes, &row) {
+            Ok(true) => Ok(LineKind::OfElement),
+            Ok(false) => Err(refused(file, line, DailyWhy::DuplicateMonth)),
+            Err(memory) => Err(DataFault::Memory(memory)),
         }
-        self.add_line(alloc, file, line, bytes)
     }
 }
 
@@ -88,36 +95,7 @@ impl Describer {
             further,
             unlisted: self.unlisted,
             blank: counts.blank,
-        }
-    }
-
-    /// Adds a line that isn't blank.
-    fn add_line(
-        &mut self,
-        alloc: Global,
-        file: u64,
-        line: u64,
-        bytes: &[u8],
-    ) -> Result<LineKind, DataFault>
-        requires { HasReadSome HasDescribed self.old }
-        ensures kind { IfOk result (λ kind. is_blank bytes.now ≡ false → kind ≡ kind_of bytes.now) }
-        ensures read { OnOk result (Reads HasDescribed self.old self.new (line_of file (line, bytes.now) ∷ [])) }
-        ensures fault { IfErr result (Refuses HasDescribed self.old (line_of file (line, bytes.now) ∷ [])) }
-    {
-        let row = match read_days(bytes, Keep::All) {
-            Ok(Some(row)) => row,
-            Ok(None) => {
-                return match self.others.add(shown_code(bytes)) {
-                    Ok(()) => Ok(LineKind::Other),
-                    Err(memory) => Err(DataFault::Memory(memory)),
-                };
-            }
-            Err(why) => return Err(refused(file, line, DailyWhy::Line(why))),
-        };
-        match self.add_month(alloc, bytes, &row) {
-            Ok(true) => Ok(LineKind::OfElement),
-            Ok(false) => Err(refused(file, line, DailyWhy::DuplicateMonth)),
-            Err(memory) => Err(DataFault::Memory(memory)),
+            foreign: counts.foreign,
         }
     }
 

@@ -1,6 +1,6 @@
 //! Describes daily files that come in pieces.
 
-ghost use Rattle.std.specs.Prelude.{IfOk, IfErr, IfSome};
+ghost use Rattle.std.specs.Prelude.{IfOk, IfErr};
 ghost use Rattle.ghcn_files.specs.declared.element.Keep.TheVariants.{Nothing};
 ghost use Rattle.ghcn_series.specs.Fed.{IsOfMemory, nothing_fed};
 ghost use Rattle.ghcn_description.specs.Describing as describing;
@@ -8,7 +8,7 @@ ghost use Rattle.ghcn_description.specs.Describing as describing;
 use crate::Description;
 use crate::describer::Describer;
 use ghcn_files::Stations;
-use ghcn_series::{Cutter, DataFault, Foreign};
+use ghcn_series::{Cutter, DataFault};
 use std::alloc::Global;
 
 /// Describes daily files in their order, each in pieces that may end anywhere. The first fault is kept, and told at
@@ -49,14 +49,6 @@ impl FileDescriber {
         ensures going { describing.HasFedSome self.new }
     {
         self.cutter.end_of_file();
-    }
-
-    /// The foreign files among those that were ended, unless a fault was found.
-    pub fn foreign(&self) -> Option<Foreign>
-        requires { describing.HasFedSome self.now }
-        ensures { IfSome result (describing.AreForeignOf self.now) }
-    {
-        self.cutter.foreign()
     }
 
     /// What the files hold that were fed, or their first fault: too many files come before the fault of a line. The

@@ -3,7 +3,7 @@
 use crate::{CodeCount, Description, ElementCounts, FileDescriber, Span};
 use ghcn_fields::{Day, Memory};
 use ghcn_files::{Element, Stations};
-use ghcn_series::DataFault;
+use ghcn_series::{DataFault, Foreign};
 use std::alloc::Global;
 
 const TEXT: &[u8] = b"extremes description 1
@@ -78,6 +78,7 @@ fn described(alloc: Global, further: u64) -> Result<Description, Memory> {
         further,
         unlisted: 5,
         blank: 1,
+        foreign: Foreign::none(),
     })
 }
 

@@ -15,11 +15,8 @@ use Rattle.std.proofs.lemmas.List.Folds.{list_all-append}
 use Rattle.std.proofs.lemmas.List.Sums.{split_at_first, passes_at_first}
 use Rattle.ghcn_fields.specs.Numbers.{natural, joined, decimal_number, with_sign, signed_by}
 use Rattle.ghcn_fields.specs.Fields.{part_text, sign_text, Spells}
+use Rattle.ghcn_fields.proofs.Decimals.{is_point, decimal_number-by}
 use Rattle.ghcn_fields.proofs.Digits.{natural-some, natural-from}
-
--- a point
-abbrev is_point : ℕ → Bool
-is_point b = b == 46
 
 -- a digit is no point
 no_point_digit : (d : ℕ) → is_ascii_digit d ≡ true → is_point d ≡ false
@@ -159,9 +156,7 @@ read_parts places whole (d ∷ ds) some digits more few =
     let text : List ℕ = whole ++ 46 ∷ d ∷ ds in
     let front : take (length whole) text ≡ whole = take-append_seam whole (46 ∷ d ∷ ds) in
     let behind : drop (length whole + 1) text ≡ d ∷ ds = drop-append-add whole (46 ∷ d ∷ ds) 1 in
-    ap (λ (b : Bool). if b then joined places (natural (before_first is_point text))
-    (natural (after_first is_point text)) (length (after_first is_point text)) else option_map
-    (λ n. n * 10 ^ places) (natural text)) (has_point whole (d ∷ ds))
+    decimal_number-by places text (has_point whole (d ∷ ds))
     ∙ ap (λ (k : ℕ). joined places (natural (take k text)) (natural (drop (k + 1) text))
     (length (drop (k + 1) text))) (point_at whole (d ∷ ds) digits)
     ∙ ap (λ (xs : List ℕ). joined places (natural xs) (natural (drop (length whole + 1) text))

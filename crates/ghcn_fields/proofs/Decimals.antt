@@ -2,7 +2,7 @@
 use Rattle.std.proofs.Common.{◌≡◌, ℕ, zero, suc, ◌+◌, ◌-◌, ◌*◌, ◌^◌, ◌<◌, ◌≤◌, Bool, true, false, List, [], ◌∷◌, length}
 use Rattle.std.proofs.Common.{take, drop, get_or, All, Option, Some, None, refl, ap, ◌∙◌, lit<, arith}
 use Rattle.std.specs.Prelude.{◌≢◌, nat_le, ◌==◌, if◌then◌else◌}
-use Rattle.std.specs.List.{before_first, after_first, position_or_len}
+use Rattle.std.specs.List.{list_any, before_first, after_first, position_or_len}
 use Rattle.std.specs.Option.{option_map}
 use Rattle.std.proofs.Math.Nat.{one-le-pow, pow-le-pow_right, le-mul_of_pos_right}
 use Rattle.std.proofs.lemmas.Bool.Decides.{nat_tests}
@@ -17,8 +17,18 @@ use Rattle.ghcn_fields.specs.Numbers.{natural, joined, decimal_number, up_to, wi
 use Rattle.ghcn_fields.specs.Numbers.{after_blanks}
 
 -- a point
-abbrev is_point : ℕ → Bool
+abbrev pub is_point : ℕ → Bool
 is_point b = b == 46
+
+-- a decimal number, by whether it has a point
+pub decimal_number-by : (places : ℕ) (text : List ℕ) {has : Bool} → list_any is_point text ≡ has
+    → decimal_number places text ≡ (if has then joined places (natural (before_first is_point text))
+    (natural (after_first is_point text)) (length (after_first is_point text)) else option_map
+    (λ n. n * 10 ^ places) (natural text))
+decimal_number-by places text is =
+    ap (λ (has : Bool). if has then joined places (natural (before_first is_point text))
+    (natural (after_first is_point text)) (length (after_first is_point text)) else option_map
+    (λ n. n * 10 ^ places) (natural text)) is
 
 -- without a point the digits are whole units
 pub decimal_number-whole : (places : ℕ) (text : List ℕ) → IsFirstByte (is_byte 46) text None
@@ -26,9 +36,7 @@ pub decimal_number-whole : (places : ℕ) (text : List ℕ) → IsFirstByte (is_
 decimal_number-whole places text nowhere =
     let none : All (λ b. is_point b ≡ false) text =
     λ k d lt. rw (get_or_default text k d 0 lt) (false_from_ne_true _ (nowhere k (omega arith) lt)) in
-    ap (λ (any : Bool). if any then joined places (natural (before_first is_point text))
-    (natural (after_first is_point text)) (length (after_first is_point text)) else option_map
-    (λ n. n * 10 ^ places) (natural text)) (list_any_none is_point text none)
+    decimal_number-by places text (list_any_none is_point text none)
 
 -- the first point stands between the whole part and the part behind it
 pub decimal_number-point : (places : ℕ) (text : List ℕ) (point : ℕ) → IsFirstByte (is_byte 46) text (Some point)
@@ -39,9 +47,7 @@ decimal_number-point places text point first =
     let at : position_or_len is_point text ≡ point =
     position_or_len_is is_point text point 0 (omega arith)
     (λ k lt. false_from_ne_true _ (first.0.before k (omega arith) lt)) (λ _. first.1) in
-    ap (λ (any : Bool). if any then joined places (natural (before_first is_point text))
-    (natural (after_first is_point text)) (length (after_first is_point text)) else option_map
-    (λ n. n * 10 ^ places) (natural text)) (list_any_at is_point text point 0 high first.1)
+    decimal_number-by places text (list_any_at is_point text point 0 high first.1)
     ∙ ap (λ (n : ℕ). joined places (natural (take n text)) (natural (drop (n + 1) text))
     (length (drop (n + 1) text))) at
 

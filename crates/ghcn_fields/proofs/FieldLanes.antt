@@ -88,12 +88,14 @@ bad_five a b c d e =
 abbrev pub mark : Bool → ℕ
 mark t = cond t 255 0
 
+-- marks joined by a bitwise or are that of either
 or-mark : (s t : Bool) → bit_or (mark s) (mark t) ≡ mark (s || t)
 or-mark true true = refl
 or-mark true false = refl
 or-mark false true = refl
 or-mark false false = refl
 
+-- and by a bitwise and that of both
 and-mark : (s t : Bool) → bit_and (mark s) (mark t) ≡ mark (s && t)
 and-mark true true = refl
 and-mark true false = refl
@@ -175,7 +177,7 @@ twice true m k = grind (arith, nat_tests)
 twice false m k = grind (arith, nat_tests)
 
 -- a mask has all its bits where each lane is set
-pub all_set : (ts : List Bool) (k : ℕ) → k ≡ 2 ^ length ts - 1 → (mask_l ts == k) ≡ list_all (λ t. t) ts
+all_set : (ts : List Bool) (k : ℕ) → k ≡ 2 ^ length ts - 1 → (mask_l ts == k) ≡ list_all (λ t. t) ts
 all_set [] k e = ap (λ (n : ℕ). zero == n) e
 all_set (t ∷ ts) k e =
     let double : 2 ^ length (t ∷ ts) ≡ 2 ^ length ts * 2 = pow-suc 2 (length ts) in
@@ -183,6 +185,12 @@ all_set (t ∷ ts) k e =
     let half : k ≡ 1 + 2 * (2 ^ length ts - 1) = omega arith in
     ap (λ (n : ℕ). cond t 1 0 + 2 * mask_l ts == n) half ∙ twice t (mask_l ts) (2 ^ length ts - 1)
     ∙ ap (λ (b : Bool). t && b) (all_set ts (2 ^ length ts - 1) refl)
+
+-- so has that of sixteen lanes
+pub sixteen_set : (ts : List Bool) → length ts ≡ 16 → (mask_l ts % 2 ^ 64 == 65535) ≡ list_all (λ t. t) ts
+sixteen_set ts many =
+    ap (λ (n : ℕ). n == 65535) (mask_l-mod ts 64 (omega (arith, many)))
+    ∙ all_set ts 65535 (ap (λ (n : ℕ). 2 ^ n - 1) (sym many))
 
 -- that all of some tests are passed and all of others
 all_of : (a b c d e rest : Bool)
@@ -253,8 +261,7 @@ set_mask_but bs xs flags many =
     let long : length tests ≡ 16 = length-map ys (λ x. leb 255 x) ∙ all in
     ap (λ (ms : List Bool). mask_l ms % 2 ^ 64 == 65535)
     (tops_compared w8 leb (replicate 16 255) ys ∙ zip2_splat_left leb 255 16 ys all)
-    ∙ ap (λ (n : ℕ). n == 65535) (mask_l-mod tests 64 (omega (arith, long)))
-    ∙ all_set tests 65535 (ap (λ (n : ℕ). 2 ^ n - 1) (sym long))
+    ∙ sixteen_set tests long
     ∙ each_test bs xs (many ∙ sym flags)
 
 -- it is full where each lane of two fields has

@@ -95,7 +95,7 @@ of_number (Some z) v = elim (cases_Bool (is_i32 z)) [
   other e = absurd cc
 
 -- a text with a first byte isn't empty
-not_empty : (b : ℕ) (bytes : List ℕ) → (length (b ∷ bytes) == 0) ≡ false
+pub not_empty : (b : ℕ) (bytes : List ℕ) → (length (b ∷ bytes) == 0) ≡ false
 not_empty b bytes = grind (arith, nat_tests)
 
 -- a field is blank where it has no text, whatever is read

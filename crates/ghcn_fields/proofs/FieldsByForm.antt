@@ -1,5 +1,5 @@
 -- A number field is what its columns say side by side.
-use Rattle.std.proofs.Common.{◌≡◌, ℕ, ◌+◌, ◌*◌, Bool, true, false, List, [], ◌∷◌, length, Some, None, refl, sym, ap}
+use Rattle.std.proofs.Common.{◌≡◌, ℕ, ◌+◌, ◌*◌, Bool, true, false, List, [], ◌∷◌, Some, None, refl, sym, ap}
 use Rattle.std.proofs.Common.{subst, ◌∙◌, inl, inr, arith}
 use Rattle.std.specs.Prelude.{◌==◌, ◌&&◌, ◌||◌, if◌then◌else◌}
 use Rattle.std.specs.Char.{is_ascii_digit, digit_value}
@@ -14,6 +14,7 @@ use Rattle.ghcn_fields.specs.Bytes.{is_blank}
 use Rattle.ghcn_fields.specs.Numbers.{natural, with_sign, signed_by, field_of, int_field}
 use Rattle.ghcn_fields.specs.FieldForms.{digit_of, may_precede, is_minus, is_number_form, digits_behind}
 use Rattle.ghcn_fields.proofs.Digits.{digit_is}
+use Rattle.ghcn_fields.proofs.FieldNumbers.{not_empty}
 
 -- a field, by its form
 abbrev pub field_by_form : Bool → Bool → ℕ → Bool → Field
@@ -66,10 +67,6 @@ digits_no_minus [] all = refl
 digits_no_minus (b ∷ bytes) all =
     let parts = and_parts (is_ascii_digit b) (list_all is_ascii_digit bytes) all in
     ap (λ (p : Bool). p || list_any is_minus bytes) (digit_no_minus b parts.0) ∙ digits_no_minus bytes parts.1
-
--- one byte and more are not none
-not_empty : (b : ℕ) (bytes : List ℕ) → (length (b ∷ bytes) == 0) ≡ false
-not_empty b bytes = grind (arith, nat_tests)
 
 -- digits alone, or a text that is none
 by_digits : (negative : Bool) (digits : Bool) (n m : ℕ) → (digits ≡ true → n ≡ m)

@@ -165,6 +165,12 @@ form_field s f bytes said is =
     ∙ ap (λ (n : ℕ). field_by_form (is_number_form bytes) (list_any is_minus bytes) n (is_blank bytes)) said.magnitude
     ∙ sym (int_field-form bytes)
 
+-- also of the form that was found
+pub field-found : (s : ℕ) {f : Form} (found : Form) (bytes : List ℕ) → IsSum s bytes → f ≡ form_of_kinds (s / 131072)
+    → f ≡ found → field_of_form found (s % 131072) ≡ int_field bytes
+field-found s found bytes said is here =
+    ap (λ (g : Form). field_of_form g (s % 131072)) (sym here) ∙ form_field s _ bytes said is
+
 -- five digits and more fit
 fits : (n : ℕ) → n < 131072 → nat_lt n (2 ^ 31) ≡ true
 fits n small = lt-ltb n (2 ^ 31) (omega (arith, small))

@@ -156,6 +156,7 @@ blanks-are s t u v = rw (nothing t, nothing v) (by s u)
 abbrev minus-count : Bool → Bool → Bool → Bool → ℕ
 minus-count p q r s = number_l 256 (lane_if p 1 ∷ lane_if q 1 ∷ lane_if r 1 ∷ lane_if s 1 ∷ [])
 
+-- they count 0 where none of the columns is one
 none-are : (p q r s : Bool) → (minus-count p q r s == 0) ≡ not (p || (q || (r || (s || (false || false)))))
 none-are true true true true = refl
 none-are true true true false = refl

@@ -7,12 +7,12 @@ use Rattle.std.specs.List.{list_all}
 use Rattle.std.proofs.lemmas.Bool.{and_parts, cases_lt}
 use Rattle.std.proofs.lemmas.Bool.Decides.{nat_tests}
 use Rattle.std.proofs.lemmas.List.{length-map, take-take}
-use Rattle.std.proofs.lemmas.Simd.{mask_l-mod, tops_compared, zip2_splat_left, length-zip2, length-sel_l, get_or-chunk}
+use Rattle.std.proofs.lemmas.Simd.{tops_compared, zip2_splat_left, length-zip2, length-sel_l, get_or-chunk}
 use Rattle.std.proofs.lemmas.Simd.{length-chunk}
 use lib.Lanes.{mask_l, top, zip2, sel_l, chunk}
 use Rattle.memchr.specs.Find.{IsFirstByte, is_byte}
 use Rattle.ghcn_fields.specs.Lines.{are_above}
-use Rattle.ghcn_fields.proofs.FieldLanes.{all_set, taken}
+use Rattle.ghcn_fields.proofs.FieldLanes.{sixteen_set, taken}
 
 -- the lesser of each two lanes
 abbrev pub lesser : List ℕ → List ℕ → List ℕ
@@ -74,8 +74,7 @@ above_mask xs many =
     let long : length tests ≡ 16 = length-map xs (λ x. ltb 10 x) ∙ many in
     ap (λ (ms : List Bool). mask_l ms % 2 ^ 64 == 65535)
     (tops_compared w8 ltb (replicate 16 10) xs ∙ zip2_splat_left ltb 10 16 xs many)
-    ∙ ap (λ (n : ℕ). n == 65535) (mask_l-mod tests 64 (omega (arith, long)))
-    ∙ all_set tests 65535 (ap (λ (n : ℕ). 2 ^ n - 1) (sym long)) ∙ each_test xs
+    ∙ sixteen_set tests long ∙ each_test xs
 
 -- sixteen bytes of a part that begins at a place are those from there on
 pub sixteen_from : (from n : ℕ) (bytes : List ℕ) → 16 ≤ n → chunk 0 16 (take n (drop from bytes)) ≡ chunk from 16 bytes

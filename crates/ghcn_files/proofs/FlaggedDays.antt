@@ -1,6 +1,8 @@
 -- The flagged values of the first days of a line.
-use Rattle.std.proofs.Common.{◌≡◌, ℕ, ◌+◌, ◌≤◌, Bool, true, false, cond, List, [], ◌∷◌, length, map, sym, ap, ◌∙◌}
-use Rattle.std.proofs.Common.{arith, Option, None, Some, Ok, Err}
+use Rattle.std.proofs.Common.{◌≡◌, ℕ, zero, suc, ◌+◌, ◌≤◌, Bool, true, false, cond, List, [], ◌∷◌, length, map}
+use Rattle.std.proofs.Common.{refl, sym, ap, ap₂, ◌∙◌, arith, Option, None, Some, Ok, Err}
+use Rattle.std.specs.Prelude.{◌&&◌, nat_le}
+use Rattle.std.specs.Option.{is_some}
 use Rattle.std.specs.List.{count_by, enumerate_from, range_with_len}
 use Rattle.std.proofs.lemmas.List.FromFn.{map-range_with_len_more, length-map-range_with_len}
 use Rattle.std.proofs.lemmas.List.FromFn.{length-enumerate_from}
@@ -13,7 +15,7 @@ use Rattle.ghcn_files.specs.declared.month.Month.{Month}
 use Rattle.ghcn_files.specs.declared.fault.LineWhy.{LineWhy}
 use Rattle.ghcn_files.specs.declared.fault.LineWhy.TheVariants.{Short}
 use Rattle.ghcn_files.specs.Months.{reading, days_of_group, month_of, month_if, month_why, unless}
-use Rattle.ghcn_files.specs.Flags.{is_flagged_value}
+use Rattle.ghcn_files.specs.Flags.{is_flagged_value, HasNoFlag}
 
 -- how many of the first n days of a line, in a month with so many, have a flagged value
 abbrev pub flagged_within : ℕ → List ℕ → ℕ → ℕ
@@ -50,6 +52,24 @@ flagged_within-le days line n =
       length-enumerate_from 1 rs,
       length-map-range_with_len (reading line) 1 n,
     )
+
+-- a day with no flag doesn't count
+unflagged : (within flagged there : Bool) → flagged ≡ false
+    → ◌≡◌ {A = ℕ} (cond ((within && flagged) && there) 1 0) 0
+unflagged true flagged there none = rw none refl
+unflagged false flagged there none = refl
+
+-- nor do the first days where none has a flag
+pub flagged_within-none : (days : ℕ) (line : List ℕ) (n : ℕ) → HasNoFlag line n → flagged_within days line n ≡ 0
+flagged_within-none days line zero none = refl
+flagged_within-none days line (suc n) none =
+    let more : suc n ≡ n + 1 = omega arith in
+    ap (flagged_within days line) more
+    ∙ flagged_within-more days line n
+    ∙ ap₂ (λ (a b : ℕ). a + b)
+    (flagged_within-none days line n (λ j lt. none j (omega (arith, lt))))
+    (unflagged (nat_le (n + 1) days) (reading line (n + 1)).flagged (is_some (reading line (n + 1)).value)
+    (none n (omega arith)))
 
 -- the days of a month that was read are those of its line
 pub days-read : (line : List ℕ) (short : Bool) (e : Option Element) (m : Month)

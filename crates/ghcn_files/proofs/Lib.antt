@@ -11,5 +11,6 @@ pub mod Adding
 pub mod ReadLines
 pub mod GroupValues
 pub mod Rows
+pub mod FlagLanes
 pub mod FlaggedDays
 pub mod WholeLines

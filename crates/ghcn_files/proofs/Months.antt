@@ -1,6 +1,6 @@
 -- The tests of a line of a daily file, one after the other.
 use Rattle.std.proofs.Common.{◌≡◌, ℕ, ◌≤◌, Bool, true, false, cond, List, length, take, drop, map, Option, Some, None}
-use Rattle.std.proofs.Common.{Ok, Err, refl, sym, ap, ◌∙◌, arith}
+use Rattle.std.proofs.Common.{Result, Ok, Err, refl, sym, ap, ◌∙◌, arith}
 use Rattle.std.specs.Prelude.{pos, unsigned_abs, nat_le, ◌∷◌}
 use Rattle.std.specs.List.{range_with_len}
 use Rattle.std.proofs.lemmas.Simd.{pick_l-range_with_len}
@@ -75,10 +75,12 @@ why_parts true true true true false days = refl
 why_parts true true true true true days = refl
 
 -- the tests of a line's days count where none before them fails
-pub month_why-parts : (line : List ℕ) → month_why line ≡ option_or (head_why line) (days_why line)
-month_why-parts line = why_parts (nat_le 266 (length line)) (is_blank (drop 269 line)) (is_id (columns 1 11 line))
+pub month_why-parts : (line : List ℕ) {why : Option LineWhy} → head_why line ≡ why
+    → month_why line ≡ option_or why (days_why line)
+month_why-parts line is = why_parts (nat_le 266 (length line)) (is_blank (drop 269 line)) (is_id (columns 1 11 line))
     (is_number_within (pos 1) (pos 9999) (year_field line)) (is_number_within (pos 1) (pos 12) (month_field line))
     (days_why line)
+    ∙ ap (λ (o : Option LineWhy). option_or o (days_why line)) is
 
 -- the head of a line, by its parts
 pub head_of-parts : (line : List ℕ) (id : StationId) (year month : ℕ) → id ≡ id_of line
@@ -86,25 +88,34 @@ pub head_of-parts : (line : List ℕ) (id : StationId) (year month : ℕ) → id
     → record { id = id; year = year; month = month } ≡ head_of line
 head_of-parts line id year month i y m = cc
 
--- a value that a test let through
-pub test_held : {T : Type 0} (b : Bool) (x y : T) → cond b (Some x) None ≡ Some y → (b ≡ true) × (y ≡ x)
-test_held true x y e = (refl, cc)
-test_held false x y e = absurd cc
+-- a value that a test let through, where it was found
+pub test_held : {T : Type 0} (b : Bool) (x y : T) {found : Option T} → found ≡ cond b (Some x) None → found ≡ Some y
+    → (b ≡ true) × (y ≡ x)
+test_held true x y is some = (refl, cc)
+test_held false x y is some = absurd cc
 
 -- a test that let none through
-pub test_failed : {T : Type 0} (b : Bool) (x : T) → cond b (Some x) None ≡ None → b ≡ false
-test_failed true x e = absurd cc
-test_failed false x e = refl
+pub test_failed : {T : Type 0} (b : Bool) (x : T) {found : Option T} → found ≡ cond b (Some x) None → found ≡ None
+    → b ≡ false
+test_failed true x is none = absurd cc
+test_failed false x is none = refl
 
 -- a value that stands, since nothing failed
-pub unless_ok : {T : Type 0} (w : Option LineWhy) (x y : T) → unless w x ≡ Ok y → (w ≡ None) × (y ≡ x)
-unless_ok None x y e = (refl, cc)
-unless_ok (Some why) x y e = absurd cc
+pub unless_ok : {T : Type 0} (w : Option LineWhy) (x y : T) {found : Result T LineWhy} → found ≡ unless w x
+    → found ≡ Ok y → (w ≡ None) × (y ≡ x)
+unless_ok None x y is ok = (refl, cc)
+unless_ok (Some why) x y is ok = absurd cc
 
 -- what failed
-pub unless_err : {T : Type 0} (w : Option LineWhy) (x : T) (why : LineWhy) → unless w x ≡ Err why → w ≡ Some why
-unless_err None x why e = absurd cc
-unless_err (Some v) x why e = cc
+pub unless_err : {T : Type 0} (w : Option LineWhy) (x : T) (why : LineWhy) {found : Result T LineWhy}
+    → found ≡ unless w x → found ≡ Err why → w ≡ Some why
+unless_err None x why is err = absurd cc
+unless_err (Some v) x why is err = cc
+
+-- what stands unless a line of an element fails a test, by the first that it fails
+pub unless_by : {T : Type 0} (line : List ℕ) (x : T) {why : Option LineWhy} → month_why line ≡ why
+    → unless why x ≡ unless (month_why line) x
+unless_by line x is = sym (ap (λ (o : Option LineWhy). unless o x) is)
 
 -- the month of a line, by its parts
 pub month_of-parts : (element : Element) (line : List ℕ) (id : StationId) (year month : ℕ) (days : List Reading)
@@ -113,21 +124,14 @@ pub month_of-parts : (element : Element) (line : List ℕ) (id : StationId) (yea
     → record { id = id; element = element; year = year; month = month; days = days } ≡ month_of element line
 month_of-parts element line id year month days i y m d = cc
 
--- a line of one of the elements is read by its tests
-pub read_month-element : (line : List ℕ) (element : Element) → 21 ≤ length line
-    → element_of (take 4 (drop 17 line)) ≡ Some element
-    → read_month line ≡ unless (month_why line) (Some (month_of element line))
-read_month-element line element long is =
+-- a line of an element is read by the first test that it fails
+pub read_month-by : (line : List ℕ) (element : Element) {found : Option Element} {why : Option LineWhy}
+    → 21 ≤ length line → found ≡ element_of (take 4 (drop 17 line)) → found ≡ Some element → month_why line ≡ why
+    → read_month line ≡ unless why (Some (month_of element line))
+read_month-by line element long code is first =
     ap (λ (b : Bool). cond b (Err Short) (month_if (element_of (columns 18 21 line)) line))
     (le-ltb (length line) 21 long)
     ∙ ap (λ (o : Option Element). month_if o line)
-    (ap element_of (columns-slice 18 21 17 21 line (omega arith) (omega arith) (omega arith) (omega arith)) ∙ is)
-
--- a line of another element is passed over
-pub read_month-passed : (line : List ℕ) → 21 ≤ length line → element_of (take 4 (drop 17 line)) ≡ None
-    → read_month line ≡ Ok None
-read_month-passed line long is =
-    ap (λ (b : Bool). cond b (Err Short) (month_if (element_of (columns 18 21 line)) line))
-    (le-ltb (length line) 21 long)
-    ∙ ap (λ (o : Option Element). month_if o line)
-    (ap element_of (columns-slice 18 21 17 21 line (omega arith) (omega arith) (omega arith) (omega arith)) ∙ is)
+    (ap element_of (columns-slice 18 21 17 21 line (omega arith) (omega arith) (omega arith) (omega arith))
+    ∙ sym code ∙ is)
+    ∙ sym (unless_by line (Some (month_of element line)) first)

@@ -7,16 +7,14 @@ use Rattle.ghcn_fields.specs.Bytes.{is_blank}
 use Rattle.ghcn_fields.specs.Lines.{numbered_lines}
 use Rattle.ghcn_fields.specs.Faults.{first_fault, HaveNoFault, IsFirstFault}
 use Rattle.ghcn_fields.specs.FaultLaws.{no_fault-nil, no_fault-more, first_fault-none, first_fault-from}
+use Rattle.ghcn_fields.specs.Refusals.{IsRefusal}
 use Rattle.ghcn_files.specs.declared.station.Station.{Station}
 use Rattle.ghcn_files.specs.declared.fault.StationsFault.{StationsFault}
 use Rattle.ghcn_files.specs.declared.fault.StationsFault.TheVariants.{StationLine, TooManyStations, Memory}
 use Rattle.ghcn_files.specs.StationLines.{station_of}
-use Rattle.ghcn_fields.specs.Refusals.{IsRefusal}
 use Rattle.ghcn_files.specs.Listed.{Numbered, stations_of, station_fault, station_lines, listed, listed_unless}
-use Rattle.ghcn_files.specs.KeptStations.{Adds}
-use Rattle.ghcn_fields.specs.Refusals.{IsRefusal}
 use Rattle.ghcn_files.specs.Listed.{is_memory, IsFirstRefusal}
-use Rattle.ghcn_files.specs.KeptStations.{IsFaultAfter, IsRefusedFor}
+use Rattle.ghcn_files.specs.KeptStations.{Adds, IsFaultAfter, IsRefusedFor}
 
 -- the lines that aren't blank
 abbrev pub not_blank : List Numbered → List Numbered

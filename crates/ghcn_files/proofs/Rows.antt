@@ -228,6 +228,12 @@ within_month e value = by (int_le (least_of e) value)
     by true = refl
     by false = refl
 
+-- a value that stands for a missing one doesn't count
+none_there : (e : Element) (value : ℤ) → value ≡ neg_ℤ (pos 9999)
+    → if_so (int_le (least_of e) value && true) value ≡ None
+none_there e value is =
+    within_month e value ∙ ap (λ (x : ℤ). if_so (int_le (least_of e) x) x) is ∙ below_least e
+
 -- so is the field of a day that counts, and no other
 by_parts : (e : Element) (within flagged : Bool) (f : Field) (value : ℤ)
     → option_map_or is_readable (unless_missing f) true ≡ true
@@ -235,12 +241,9 @@ by_parts : (e : Element) (within flagged : Bool) (f : Field) (value : ℤ)
     → if_so (int_le (least_of e) value && within) value
     ≡ cond within (cond flagged None (option_and_then (if_possible e) (unless_missing f))) None
 by_parts e false flagged f value fine is = ap (λ (t : Bool). if_so t value) (and_false (int_le (least_of e) value))
-by_parts e true true f value fine is =
-    within_month e value ∙ ap (λ (x : ℤ). if_so (int_le (least_of e) x) x) is ∙ below_least e
-by_parts e true false Blank value fine is =
-    within_month e value ∙ ap (λ (x : ℤ). if_so (int_le (least_of e) x) x) is ∙ below_least e
-by_parts e true false Bad value fine is =
-    within_month e value ∙ ap (λ (x : ℤ). if_so (int_le (least_of e) x) x) is ∙ below_least e
+by_parts e true true f value fine is = none_there e value is
+by_parts e true false Blank value fine is = none_there e value is
+by_parts e true false Bad value fine is = none_there e value is
 by_parts e true false (Number z) value fine is =
     within_month e value ∙ ap (λ (x : ℤ). if_so (int_le (least_of e) x) x) is
     ∙ from_least e z (int_eq z (neg_ℤ (pos 9999))) refl fine

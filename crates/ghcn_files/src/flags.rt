@@ -1,7 +1,7 @@
 //! The values of a month that a quality check flagged. A record leaves them out, and a description
 //! counts them.
 
-ghost use Rattle.std.specs.Prelude.{◌≡◌, ◌≤◌, ◌<◌, ◌+◌, length, None, Some, Ok, map, if◌then◌else◌};
+ghost use Rattle.std.specs.Prelude.{◌≡◌, ◌≤◌, ◌<◌, ◌+◌, length, None, Some, Ok, map, if◌then◌else◌, false};
 ghost use Rattle.std.specs.Option.{is_some};
 ghost use Rattle.std.specs.List.{count_by, enumerate_from};
 ghost use Rattle.ghcn_files.specs.declared.month.Month.{Month};
@@ -12,8 +12,9 @@ ghost use Rattle.ghcn_files.specs.Rows.{IsOfLine};
 
 use crate::MonthRow;
 use crate::missing::unless_missing;
-use crate::month::{DAYS, is_flagged, value_column};
+use crate::month::{COLUMNS, DAYS, four_groups, is_flagged, value_column};
 use ghcn_fields::{days_in_month, value_field};
+use std::simd::prelude::*;
 
 /// How many values of the line of a row a quality check flagged, on the days that its month has.
 pub fn flagged_values(line: &[u8], row: &MonthRow) -> u32
@@ -25,6 +26,44 @@ pub fn flagged_values(line: &[u8], row: &MonthRow) -> u32
 
 /// The same in a month with so many days.
 fn flagged_among(days: u8, line: &[u8]) -> u32
+    requires { 266 ≤ length line.now }
+    ensures { result ≡ count_by (flags.is_flagged_value days)
+        (enumerate_from 1 (map (months.reading line.now) months.days_of_group)) }
+{
+    if may_have_flag(line) {
+        flagged_by_day(days, line)
+    } else {
+        0
+    }
+}
+
+/// Whether a line has a quality flag, or may have one, since its end leaves out columns.
+fn may_have_flag(line: &[u8]) -> bool
+    ensures { result ≡ false → flags.HasNoFlag line.now 31 }
+{
+    match line.first_chunk() {
+        Some(whole) => has_flag(whole),
+        None => true,
+    }
+}
+
+/// Whether a line with all its columns has a quality flag, four days at a time: the last four come with
+/// the one before them.
+fn has_flag(line: &[u8; COLUMNS]) -> bool
+    ensures { result ≡ false → flags.HasNoFlag line.now 31 }
+{
+    let blanks = u8x32::splat(b' ');
+    let mut others = u8x32::splat(0);
+    for part in 0..8_usize {
+        let day = (4 * part).min(DAYS - 4);
+        others |= u8x32::from_slice(four_groups(line, day)) - blanks;
+    }
+    let others = others.to_array();
+    others[6] | others[14] | others[22] | others[30] != 0
+}
+
+/// The same as `flagged_among`, day by day.
+fn flagged_by_day(days: u8, line: &[u8]) -> u32
     requires { 266 ≤ length line.now }
     ensures { result ≡ count_by (flags.is_flagged_value days)
         (enumerate_from 1 (map (months.reading line.now) months.days_of_group)) }

@@ -73,7 +73,7 @@ blank_parts n bytes blank =
     ∙ ap is_blank (take-append-drop n bytes) ∙ blank)
 
 -- a blank line has no element
-blank_line : (line : List ℕ) → is_blank line ≡ true → is_of_element line ≡ false
+pub blank_line : (line : List ℕ) → is_blank line ≡ true → is_of_element line ≡ false
 blank_line line blank =
     let whole = line ++ replicate 21 32 in
     let all : is_blank whole ≡ true = list_all-append (λ b. b == 32) line (replicate 21 32) ∙ rw blank refl in
@@ -121,7 +121,8 @@ foreign-added old new ended whole place at few foreign is adds =
     let count : new.count ≡ count_by is_foreign (ended ++ whole ∷ []) =
     omega (arith, adds.count, one, ap (λ (f : Foreign). f.count) is, count_by-le-length is_foreign ended, at, few) in
     let first : new.first ≡ slice_get (foreign_places (ended ++ whole ∷ [])) 0 =
-    adds.first ∙ rw (is, at, places-more ended whole, foreign) (sym (first-more (foreign_places ended) (length ended))) in
+    adds.first
+    ∙ rw (is, at, places-more ended whole, foreign) (sym (first-more (foreign_places ended) (length ended))) in
     rw (← count, ← first) refl
 
 -- any other file adds nothing
@@ -148,7 +149,8 @@ pub counted-end : (old : LineCounts) (foreign : Foreign) (ended : List (List ℕ
     }) (ended ++ whole ∷ []) []
 counted-end old foreign ended whole same is =
     let all : all_lines (ended ++ whole ∷ []) ≡ all_lines ended ++ lines whole =
-    flat_map-append lines ended (whole ∷ []) ∙ ap (λ (ls : List (List ℕ)). all_lines ended ++ ls) (append-nil (lines whole)) in
+    flat_map-append lines ended (whole ∷ [])
+    ∙ ap (λ (ls : List (List ℕ)). all_lines ended ++ ls) (append-nil (lines whole)) in
     record {
       number = omega (arith, is.number, ap length all, length-append (all_lines ended) (lines whole));
       blank = omega (

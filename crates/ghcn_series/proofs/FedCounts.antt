@@ -48,8 +48,8 @@ at_place c files few is =
     omega (arith, at_file c files few is, few, ended_first files.ended files.current)
 
 -- and there is a number for that one, where it has a byte
-pub may_be_read : {L : Type 0} (c : Cutter L) (files : Files) → length (files_of files) ≤ 2 ^ 20 → 0 < length files.current
-    → HasCounted c files → c.ended < 2 ^ 20
+pub may_be_read : {L : Type 0} (c : Cutter L) (files : Files) → length (files_of files) ≤ 2 ^ 20
+    → 0 < length files.current → HasCounted c files → c.ended < 2 ^ 20
 may_be_read c files few some is =
     omega (
       arith,

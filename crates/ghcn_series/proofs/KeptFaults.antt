@@ -12,7 +12,7 @@ use Rattle.ghcn_series.specs.declared.cutter.Cutter.{Cutter}
 use Rattle.ghcn_series.specs.declared.fault.DataFault.{DataFault}
 use Rattle.ghcn_series.specs.Counted.{HaveCounted}
 use Rattle.ghcn_series.specs.Cut.{IsCut, lines_to, HasReadFed, HasLineFault, HasFault, HasCounted, HasFed, HasFedSome}
-use Rattle.ghcn_series.specs.Cut.{TakesPiece, EndsFile, HoldsFed, RefusesFed, AreForeignOf, CountsFew, LooksAtLines}
+use Rattle.ghcn_series.specs.Cut.{TakesPiece, EndsFile, HoldsFed, RefusesFed, CountsFew, LooksAtLines}
 use Rattle.ghcn_series.specs.Cut.{ReadsBytes, RefusesBytes, ReadsEnd, RefusesEnd}
 use Rattle.ghcn_series.specs.DailyFaults.{daily_lines, is_memory}
 use Rattle.ghcn_series.specs.Fed.{Files, Fed, ended_files, more, with_end, with_files, files_of}
@@ -162,7 +162,8 @@ module _ {L : Type 0} {has_read : Reading L} where
           counted = counted-more old (keeping after fault) fed.files bytes some ended begun is.counted;
           fault = λ few.
               let at : old.ended ≡ length fed.files.ended = at_file (with_byte old) files few counted in
-              let before : HasReadFed has_read (with_byte old) fed = same_read old (with_byte old) fed refl refl refl refl
+              let before : HasReadFed has_read (with_byte old) fed =
+              same_read old (with_byte old) fed refl refl refl refl
               (read_so_far old fed none (few_before fed.files bytes few) is) in
               rw kept (kept_fault has_read after (keeping after fault) (with_files fed files) result refl refl refl refl
               (IfOk-weaker result _ _ (λ _ step. step.holds fed at before) reads)
@@ -180,7 +181,8 @@ module _ {L : Type 0} {has_read : Reading L} where
         record {
           counted = counted;
           fault = λ few.
-              with_fault has_read old (with_byte old) fed (with_files fed files) old.fault (λ f has. fault-more fed f bytes has)
+              with_fault has_read old (with_byte old) fed (with_files fed files) old.fault
+              (λ f has. fault-more fed f bytes has)
               (passing (with_byte old) files looks counted few) (is.fault (few_before fed.files bytes few));
         };
   }
@@ -190,13 +192,15 @@ module _ {L : Type 0} {has_read : Reading L} where
   takes-nothing c bytes none = record { holds = λ fed is. rw (none, append-nil fed.files.current) is }
 
   -- what was fed goes on with a piece
-  pub going-piece : (old new : Cutter L) (bytes : List ℕ) → TakesPiece has_read old new bytes → HasFedSome has_read old → HasFedSome has_read new
+  pub going-piece : (old new : Cutter L) (bytes : List ℕ) → TakesPiece has_read old new bytes
+      → HasFedSome has_read old → HasFedSome has_read new
   going-piece old new bytes takes fed = (with_files fed.0 (more fed.0.files bytes), takes.holds fed.0 fed.1)
 
   -- ---- the end of a file
 
   -- a last line without its feed is of a file with a number
-  pub end-few : (c : Cutter L) → LooksAtLines c true → HasFedSome has_read c → 0 < length c.rest.items → c.ended < 2 ^ 20
+  pub end-few : (c : Cutter L) → LooksAtLines c true → HasFedSome has_read c → 0 < length c.rest.items
+      → c.ended < 2 ^ 20
   end-few c looks fed some =
       let at = looking c fed.0.files looks fed.1.counted in
       let read = read_so_far c fed.0 at.0 at.1 fed.1 in
@@ -318,11 +322,3 @@ module _ {L : Type 0} {has_read : Reading L} where
         is = refuses;
         first = λ fed is. first_refusal fed.stations (files_of fed.files) f (few fed is) (refuses fed is);
       }
-
-  -- the foreign files, where lines are looked at
-  pub foreign_fed : (c : Cutter L) → LooksAtLines c true → AreForeignOf has_read c c.counts.foreign
-  foreign_fed c looks = record {
-    is = λ fed is.
-        let at = looking c fed.files looks is.counted in
-        (read_so_far c fed at.0 at.1 is).counted.foreign;
-  }

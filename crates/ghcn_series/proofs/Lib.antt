@@ -35,5 +35,6 @@ pub mod FedFiles
 pub mod Examples
 pub mod JoinedLists
 pub mod JoinedFiles
+pub mod SaidLines
 pub mod FoundSeries
 pub mod JoinedSeries

@@ -32,6 +32,7 @@ places-cut s (suc k) m =
 least-one : (a b : ℕ) → a < 2 → b ≡ 1 → min a b ≡ a
 least-one a b less e = omega (arith, e)
 
+-- the least of a number and nothing is nothing
 least-none : (a b : ℕ) → b ≡ 0 → min a b ≡ 0
 least-none a b e = omega (arith, e)
 
@@ -79,18 +80,22 @@ module _ (n : ℤ) (vs : List ℤ) (w k : ℕ) (le : k ≤ 32) where
   abbrev later_bits : ℕ
   later_bits = bit_and w (2 ^ 32 - 2 ^ k)
 
+  -- the first places have their bits of the word
   first-in : (j : ℕ) → j < k → bit_at first_bits j ≡ bit_at w j
   first-in j lt = bit_at_and w (2 ^ k - 1) j
       ∙ least-one (bit_at w j) (bit_at (2 ^ k - 1) j) (bit_at-lt w j) (bit_at_ones k j lt)
 
+  -- and no others
   first-out : (j : ℕ) → k ≤ j → bit_at first_bits j ≡ 0
   first-out j more = bit_at_and w (2 ^ k - 1) j
       ∙ least-none (bit_at w j) (bit_at (2 ^ k - 1) j) (bit_at_ones_above k j more)
 
+  -- so it is with the places behind them
   later-in : (j : ℕ) → k ≤ j → j < 32 → bit_at later_bits j ≡ bit_at w j
   later-in j more lt = bit_at_and w (2 ^ 32 - 2 ^ k) j
       ∙ least-one (bit_at w j) (bit_at (2 ^ 32 - 2 ^ k) j) (bit_at-lt w j) (bit_at_mask_inside k 32 j more lt)
 
+  -- which have no others either
   later-out : (j : ℕ) → j < k → bit_at later_bits j ≡ 0
   later-out j lt = bit_at_and w (2 ^ 32 - 2 ^ k) j
       ∙ least-none (bit_at w j) (bit_at (2 ^ 32 - 2 ^ k) j) (bit_at_mask_below k 32 j lt)
@@ -119,6 +124,7 @@ module _ (n : ℤ) (vs : List ℤ) (w k : ℕ) (le : k ≤ 32) where
       (none-set n vs first_bits k (32 - k) (λ i more lt. first-out i more))
       ∙ append-nil (at w 0 k)
 
+  -- the days of these places are the word's
   later-days : block_days (n, (later_bits, vs)) ≡ at w k (32 - k)
   later-days =
       cut-days later_bits
@@ -136,6 +142,7 @@ cons-each P zero x xs less holds rest = rest
 cons-each P (suc zero) x xs less holds rest = (holds refl, rest)
 cons-each P (suc (suc b)) x xs less holds rest = absurd (omega (arith, less))
 
+-- what is true of the days of some places is true of each day there
 each-place : (P : ℤ → Type 0) (n : ℤ) (vs : List ℤ) (w s m : ℕ)
     → ((j : ℕ) → s ≤ j → j < s + m → bit_at w j ≡ 1 → P (block_start n +ℤ pos j))
     → AllByRecursion (λ x. P x.0) (filter_map (day_at (n, (w, vs))) (range_with_len s m))
@@ -145,6 +152,7 @@ each-place P n vs w s (suc m) holds =
     (filter_map (day_at (n, (w, vs))) (range_with_len (s + 1) m)) (bit_at-lt w s) (holds s (omega arith) (omega arith))
     (each-place P n vs w (s + 1) m (λ j more lt. holds j (omega arith) (omega arith)))
 
+-- so it is with all places of a block
 pub each-day : (P : ℤ → Type 0) (n : ℤ) (vs : List ℤ) (w : ℕ)
     → ((j : ℕ) → j < 32 → bit_at w j ≡ 1 → P (block_start n +ℤ pos j))
     → AllByRecursion (λ x. P x.0) (block_days (n, (w, vs)))

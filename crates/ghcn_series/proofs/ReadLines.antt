@@ -57,7 +57,8 @@ read-passed r l is stations keep before for =
       listed = for.listed;
       kept = for.kept;
       read = record {
-        months = rw (months-more before l None (ap month_if_ok is), append-nil (filter_map month_on before)) read.months;
+        months = rw (months-more before l None (ap month_if_ok is), append-nil (filter_map month_on before))
+            read.months;
         right = no_fault-more (daily_fault r.stations) before l read.right (rw is refl);
       };
     }

@@ -4,7 +4,6 @@ use Rattle.std.specs.Prelude.{None, Some, is_none}
 use Rattle.std.specs.Str.Lines.{strip_carriage_return}
 use Rattle.ghcn_fields.specs.Lines.{lines, HasNoLineFeed, EndsLine}
 use Rattle.ghcn_fields.specs.Refusals.{IsRefusal}
-use Rattle.ghcn_series.specs.declared.counts.Foreign.{Foreign}
 use Rattle.ghcn_series.specs.declared.cutter.Cut.{Cut}
 use Rattle.ghcn_series.specs.declared.cutter.Cutter.{Cutter}
 use Rattle.ghcn_series.specs.declared.fault.DataFault.{DataFault}
@@ -12,7 +11,6 @@ use Rattle.ghcn_series.specs.Counted.{HaveCounted, CountsLine}
 use Rattle.ghcn_series.specs.DailyFaults.{FileLine, one_line, file_lines, daily_lines, is_memory, IsFirstRefusal}
 use Rattle.ghcn_series.specs.Fed.{Files, Fed, more, with_end, with_files, files_of}
 use Rattle.ghcn_series.specs.Gathered.{IsLineRefusal}
-use Rattle.ghcn_series.specs.LineKinds.{foreign_of}
 use Rattle.ghcn_series.specs.LinesRead.{Reading, Reads, Refuses}
 use Rattle.ghcn_series.specs.Says.{in_64_bits, data_of}
 
@@ -76,10 +74,6 @@ pub record TakesPiece {L : Type 0} (has_read : Reading L) (old new : Cutter L) (
 -- a cutter ends the current file
 pub record EndsFile {L : Type 0} (has_read : Reading L) (old new : Cutter L) : Type 0 where
   pub holds : (fed : Fed) → HasFed has_read old fed → HasFed has_read new (with_files fed (with_end fed.files))
-
--- these are the foreign files among those that a cutter was fed, and that were ended
-pub record AreForeignOf {L : Type 0} (has_read : Reading L) (c : Cutter L) (foreign : Foreign) : Type 0 where
-  pub is : (fed : Fed) → HasFed has_read c fed → foreign ≡ foreign_of fed.files.ended
 
 -- these files, which are few enough, are read to the end, and counted
 pub record AreRead {L : Type 0} (has_read : Reading L) (fed : Fed) (files : List (List ℕ)) (all : Cut L) : Type 0 where

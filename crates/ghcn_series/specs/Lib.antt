@@ -15,3 +15,4 @@ pub mod Pieces
 pub mod Packed
 pub mod Parts
 pub mod JoinedFiles
+pub mod Said

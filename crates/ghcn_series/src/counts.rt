@@ -1,7 +1,7 @@
 //! What is counted on the lines of daily files.
 
 ghost use Rattle.std.specs.Prelude.{◌≡◌, ℕ, ◌≤◌, ◌^◌, ◌&&◌, not, List, [], ◌∷◌, ◌++◌, length, IfSome};
-ghost use Rattle.ghcn_series.specs.LineKinds.{kind_of};
+ghost use Rattle.ghcn_series.specs.LineKinds.{kind_of, foreign_of};
 ghost use Rattle.ghcn_series.specs.Counted.{HaveCounted, CountsLine, AddsForeign};
 
 /// What stands on a line of daily files.
@@ -24,6 +24,16 @@ pub struct Foreign {
 }
 
 impl Foreign {
+    /// No file.
+    pub fn none() -> Self
+        ensures { result ≡ foreign_of [] }
+    {
+        Foreign {
+            count: 0,
+            first: None,
+        }
+    }
+
     /// One file more, at a place behind the others.
     fn add(&mut self, place: u64)
         ensures { AddsForeign self.old self.new place }
@@ -55,10 +65,7 @@ impl LineCounts {
         LineCounts {
             lines: 0,
             blank: 0,
-            foreign: Foreign {
-                count: 0,
-                first: None,
-            },
+            foreign: Foreign::none(),
             has_line: false,
             has_element: false,
         }

@@ -1,26 +1,28 @@
 //! Cuts daily files that come in pieces into lines, for a reader of lines.
 
-ghost use Rattle.std.specs.Prelude.{◌≡◌, [], ◌++◌, ◌^◌, ◌<◌, ◌≤◌, length, List, IfOk, IfErr, IfSome, OnOk};
-ghost use Rattle.std.specs.Option.{is_some};
+ghost use Rattle.std.specs.Prelude.{◌≡◌, [], ◌++◌, ◌^◌, ◌<◌, ◌≤◌, length, List, IfOk, IfErr, OnOk};
+ghost use Rattle.std.specs.Str.Lines.{strip_carriage_return};
 ghost use Rattle.ghcn_files.specs.declared.element.Keep.{Keep};
 ghost use Rattle.ghcn_files.specs.declared.station.Station.{Station};
 ghost use Rattle.ghcn_series.specs.Cut as cut;
+ghost use Rattle.ghcn_series.specs.DailyFaults.{one_line};
 ghost use Rattle.ghcn_series.specs.Fed.{IsOfMemory, nothing_fed};
-ghost use Rattle.ghcn_series.specs.LinesRead.{HasReadSome};
+ghost use Rattle.ghcn_series.specs.LineKinds.{kind_of};
+ghost use Rattle.ghcn_series.specs.LinesRead.{HasReadSome, Reads, Refuses};
 
-use crate::counts::{Foreign, LineCounts, LineKind};
+use crate::counts::{LineCounts, LineKind};
 use crate::data::MOST_FILES;
 use crate::fault::DataFault;
-use ghcn_fields::{Memory, split_line};
+use ghcn_fields::{Memory, is_blank, split_line, without_return};
 use std::alloc::Global;
 
 /// Reads the lines of daily files one after another.
 pub trait LineReader {
-    ghost use Rattle.std.specs.Prelude.{◌≡◌, List, IfOk, IfErr, OnOk};
-    ghost use Rattle.std.specs.Str.Lines.{strip_carriage_return};
+    ghost use Rattle.std.specs.Prelude.{◌≡◌, ◌∷◌, [], false, List, IfOk, IfErr, OnOk};
+    ghost use Rattle.ghcn_fields.specs.Bytes.{is_blank};
     ghost use Rattle.ghcn_files.specs.declared.element.Keep.{Keep};
     ghost use Rattle.ghcn_files.specs.declared.station.Station.{Station};
-    ghost use Rattle.ghcn_series.specs.DailyFaults.{FileLine, one_line};
+    ghost use Rattle.ghcn_series.specs.DailyFaults.{FileLine, line_of};
     ghost use Rattle.ghcn_series.specs.LineKinds.{kind_of};
     ghost use Rattle.ghcn_series.specs.LinesRead.{HasReadSome, Reads, Refuses};
 
@@ -28,7 +30,7 @@ pub trait LineReader {
     /// a fault.
     ghost has_read: { Self → List Station → Keep → List FileLine → Type 0 };
 
-    /// Adds a line as it stands before its line feed, and answers what stands on it. A blank line adds nothing.
+    /// Adds a line that isn't blank, without its line end, and answers what stands on it.
     fn add(
         &mut self,
         alloc: Global,
@@ -36,10 +38,11 @@ pub trait LineReader {
         line: u64,
         bytes: &[u8],
     ) -> Result<LineKind, DataFault>
-        requires { HasReadSome has_read self.old }
-        ensures kind { IfOk result (λ kind. kind ≡ kind_of (strip_carriage_return bytes.now)) }
-        ensures read { OnOk result (Reads has_read self.old self.new (one_line file line bytes.now)) }
-        ensures fault { IfErr result (Refuses has_read self.old (one_line file line bytes.now)) };
+        requires some { is_blank bytes.now ≡ false }
+        requires read { HasReadSome has_read self.old }
+        ensures kind { IfOk result (λ kind. kind ≡ kind_of bytes.now) }
+        ensures read { OnOk result (Reads has_read self.old self.new (line_of file (line, bytes.now) ∷ [])) }
+        ensures fault { IfErr result (Refuses has_read self.old (line_of file (line, bytes.now) ∷ [])) };
 }
 
 /// Cuts daily files into lines, in their order, each file in pieces that may end anywhere. The first fault is kept,
@@ -116,15 +119,6 @@ impl<L: LineReader + Drop> Cutter<L> {
         self.begun = false;
     }
 
-    /// The foreign files among those that were ended, unless a fault was found.
-    pub fn foreign(&self) -> Option<Foreign>
-        requires { cut.HasFedSome L.has_read self.now }
-        ensures looks { cut.LooksAtLines self.now (is_some result) }
-        ensures foreign { IfSome result (cut.AreForeignOf L.has_read self.now) }
-    {
-        self.is_reading().then_some(self.counts.foreign)
-    }
-
     /// What was read of the files that were fed, or their first fault: too many files come before the fault of a
     /// line. The current file is ended where it has a byte.
     pub fn finish(mut self) -> Result<Cut<L>, DataFault>
@@ -198,7 +192,9 @@ impl<L: LineReader + Drop> Cutter<L> {
         Ok(())
     }
 
-    /// Ends the line of which these are the last bytes.
+    /// Ends the line of which these are the last bytes. It is built into its callers, which else would clear
+    /// the room for its results at each line.
+    #[inline(always)]
     fn end_line(&mut self, bytes: &[u8]) -> Result<(), DataFault>
         requires few { self.old.ended < 2 ^ 20 }
         requires read { HasReadSome L.has_read self.old.reader }
@@ -210,10 +206,10 @@ impl<L: LineReader + Drop> Cutter<L> {
         let line = self.line.checked_add(1).ok_or(DataFault::Memory(Memory))?;
         let file = self.ended + 1;
         let kind = if self.rest.is_empty() {
-            self.reader.add(self.alloc, file, line, bytes)?
+            read_line(self.alloc, &mut self.reader, file, line, bytes)?
         } else {
             self.keep(bytes)?;
-            let kind = self.reader.add(self.alloc, file, line, &self.rest)?;
+            let kind = read_line(self.alloc, &mut self.reader, file, line, &self.rest)?;
             self.rest.clear();
             kind
         };
@@ -224,7 +220,8 @@ impl<L: LineReader + Drop> Cutter<L> {
         }
     }
 
-    /// Keeps what has come of a line that isn't ended.
+    /// Keeps what has come of a line that isn't ended, which few are. It isn't built into its callers.
+    #[inline(never)]
     fn keep(&mut self, bytes: &[u8]) -> Result<(), DataFault>
         ensures kept { OnOk result (self.new.rest.items ≡ self.old.rest.items ++ bytes.now) }
         ensures reader { self.new.reader ≡ self.old.reader }
@@ -239,4 +236,24 @@ impl<L: LineReader + Drop> Cutter<L> {
             Err(_) => Err(DataFault::Memory(Memory)),
         }
     }
+}
+
+/// Reads a line as it stands before its line feed, and answers what stands on it. A blank line adds nothing.
+fn read_line<L: LineReader>(
+    alloc: Global,
+    reader: &mut L,
+    file: u64,
+    line: u64,
+    bytes: &[u8],
+) -> Result<LineKind, DataFault>
+    requires { HasReadSome L.has_read reader.old }
+    ensures kind { IfOk result (λ kind. kind ≡ kind_of (strip_carriage_return bytes.now)) }
+    ensures read { OnOk result (Reads L.has_read reader.old reader.new (one_line file line bytes.now)) }
+    ensures fault { IfErr result (Refuses L.has_read reader.old (one_line file line bytes.now)) }
+{
+    let bytes = without_return(bytes);
+    if is_blank(bytes) {
+        return Ok(LineKind::Blank);
+    }
+    reader.add(alloc, file, line, bytes)
 }

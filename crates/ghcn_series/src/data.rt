@@ -89,7 +89,8 @@ impl Data {
             reader.piece(file);
             reader.end_of_file();
         }
-        reader.finish()
+        let (held, _foreign) = reader.finish()?;
+        Ok(held)
     }
 
     /// These series of the stations, which have one list each.

@@ -66,7 +66,8 @@ fn is_after(rising: &[u32], month: u32) -> bool
     }
 }
 
-/// The set of some months.
+/// The set of some months. It isn't built into its caller, where few months come out of order.
+#[inline(never)]
 fn set_of(alloc: Global, months: &[u32]) -> Result<BTreeSet<u32>, Memory>
     ensures { IfOk result (λ all. (t : ℕ) → seen.has_month all.keys t ≡ seen.has_month months.now t) }
 {

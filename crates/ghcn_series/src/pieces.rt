@@ -1,6 +1,6 @@
 //! Reads the series of daily files that come in pieces.
 
-ghost use Rattle.std.specs.Prelude.{IfOk, IfErr, IfSome};
+ghost use Rattle.std.specs.Prelude.{IfOk, IfErr};
 ghost use Rattle.ghcn_files.specs.declared.element.Keep.TheVariants.{All, One};
 ghost use Rattle.ghcn_series.specs.Fed.{IsOfMemory, nothing_fed};
 ghost use Rattle.ghcn_series.specs.Pieces as pieces;
@@ -76,24 +76,17 @@ impl DataReader {
         self.cutter.end_of_file();
     }
 
-    /// The foreign files among those that were ended, unless a fault was found.
-    pub fn foreign(&self) -> Option<Foreign>
-        requires { pieces.HasFedSome self.now }
-        ensures { IfSome result (pieces.AreForeignOf self.now) }
-    {
-        self.cutter.foreign()
-    }
-
-    /// The data of the files that were fed, or their first fault: too many files come before the fault of a line.
-    /// The current file is ended where it has a byte.
-    pub fn finish(self) -> Result<Data, DataFault>
+    /// The data of the files that were fed and which of these are foreign, or their first fault: too many files come
+    /// before the fault of a line. The current file is ended where it has a byte.
+    pub fn finish(self) -> Result<(Data, Foreign), DataFault>
         requires { pieces.HasFedSome self }
-        ensures ok { IfOk result (pieces.HoldsFed self) }
+        ensures ok { IfOk result (λ read. pieces.HoldsFed self read.0) }
+        ensures foreign { IfOk result (λ read. pieces.AreForeignOf self read.1) }
         ensures err { IfErr result (pieces.RefusesFed self) }
     {
         let all = self.cutter.finish()?;
         match all.reader.finish(self.alloc) {
-            Ok(held) => Ok(held),
+            Ok(held) => Ok((held, all.counts.foreign)),
             Err(memory) => Err(DataFault::Memory(memory)),
         }
     }

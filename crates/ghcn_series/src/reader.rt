@@ -1,13 +1,9 @@
 //! Reads the lines of daily files one after another.
 
-ghost use Rattle.std.specs.Prelude.{◌≡◌, ◌∷◌, [], false, IfOk, IfErr, OnOk};
-ghost use Rattle.ghcn_fields.specs.Bytes.{is_blank};
+ghost use Rattle.std.specs.Prelude.{◌≡◌, [], IfOk, OnOk};
 ghost use Rattle.ghcn_files.specs.Elements.{is_kept};
 ghost use Rattle.ghcn_files.specs.Listed.{AreListed, place_of};
-ghost use Rattle.ghcn_series.specs.DailyFaults.{line_of};
 ghost use Rattle.ghcn_series.specs.Gathered.{HasReadFor};
-ghost use Rattle.ghcn_series.specs.LineKinds.{kind_of};
-ghost use Rattle.ghcn_series.specs.LinesRead.{HasReadSome, Reads, Refuses};
 ghost use Rattle.ghcn_series.specs.Steps.{HasSomeLines, ReadsMonth, KeepsRead, HoldsAll, IsOfMonth, OfMonth};
 
 use crate::counts::LineKind;
@@ -15,7 +11,7 @@ use crate::cutter::LineReader;
 use crate::parts::Parts;
 use crate::station::StationGathering;
 use crate::{DailyWhy, Data, DataFault};
-use ghcn_fields::{Memory, is_blank, without_return};
+use ghcn_fields::Memory;
 use ghcn_files::{Keep, MonthRow, StationId, Stations, read_days};
 use std::alloc::Global;
 use std::mem;
@@ -48,11 +44,16 @@ impl LineReader for Reader {
         line: u64,
         bytes: &[u8],
     ) -> Result<LineKind, DataFault> {
-        let bytes = without_return(bytes);
-        if is_blank(bytes) {
-            return Ok(LineKind::Blank);
+        let row = match read_days(bytes, self.keep) {
+            Ok(Some(row)) => row,
+            Ok(None) => return Ok(LineKind::Other),
+            Err(why) => return Err(refused(file, line, DailyWhy::Line(why))),
+        };
+        match self.add_month(alloc, &row) {
+            Ok(true) => Ok(LineKind::OfElement),
+            Ok(false) => Err(refused(file, line, DailyWhy::DuplicateMonth)),
+            Err(memory) => Err(DataFault::Memory(memory)),
         }
-        self.add_line(alloc, file, line, bytes)
     }
 }
 
@@ -93,31 +94,6 @@ impl Reader {
             series.push(station.into_series(alloc)?)?;
         }
         Ok(Data::of(stations, series, unlisted))
-    }
-
-    /// Adds a line that isn't blank.
-    fn add_line(
-        &mut self,
-        alloc: Global,
-        file: u64,
-        line: u64,
-        bytes: &[u8],
-    ) -> Result<LineKind, DataFault>
-        requires { HasReadSome HasReadFor self.old }
-        ensures kind { IfOk result (λ kind. is_blank bytes.now ≡ false → kind ≡ kind_of bytes.now) }
-        ensures read { OnOk result (Reads HasReadFor self.old self.new (line_of file (line, bytes.now) ∷ [])) }
-        ensures fault { IfErr result (Refuses HasReadFor self.old (line_of file (line, bytes.now) ∷ [])) }
-    {
-        let row = match read_days(bytes, self.keep) {
-            Ok(Some(row)) => row,
-            Ok(None) => return Ok(LineKind::Other),
-            Err(why) => return Err(refused(file, line, DailyWhy::Line(why))),
-        };
-        match self.add_month(alloc, &row) {
-            Ok(true) => Ok(LineKind::OfElement),
-            Ok(false) => Err(refused(file, line, DailyWhy::DuplicateMonth)),
-            Err(memory) => Err(DataFault::Memory(memory)),
-        }
     }
 
     /// Adds a month, or answers false where its station is listed and has that month already.

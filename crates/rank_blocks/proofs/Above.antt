@@ -1,34 +1,24 @@
 -- No candidate has a score above the bound.
-use Rattle.std.proofs.Common.{◌≡◌, ℕ, zero, suc, ◌*◌, ◌<◌, ◌≤◌, Bool, true, false, cond, List, [], ◌∷◌, map, filter}
-use Rattle.std.proofs.Common.{inl, inr, Option, Some, None, refl, sym, ap, ◌∙◌, subst, arith, ℤ, pos, neg_ℤ, ◌≤ℤ◌, ◌+ℤ◌}
-use Rattle.std.proofs.Common.{◌*ℤ◌, ◌&&◌, ◌-ℤ◌, Contains, filter_map, find, option_map, int_eq}
-use Rattle.std.specs.List.{AllByRecursion}
-use Rattle.std.proofs.lemmas.Bool.Decides.{Decides-int_eq}
-use Rattle.std.proofs.lemmas.Int.{ints, clamps}
-use Rattle.std.proofs.lemmas.List.Elements.{All-contains}
+use Rattle.rank_blocks.proofs.Cited.{rules, ◌≡◌, ℕ, zero, suc, ◌*◌, ◌<◌, ◌≤◌, Bool, true, false, cond, List, [], ◌∷◌}
+use Rattle.rank_blocks.proofs.Cited.{map, filter, inl, inr, Option, Some, None, refl, sym, ap, ◌∙◌, subst, arith, ℤ}
+use Rattle.rank_blocks.proofs.Cited.{pos, neg_ℤ, ◌≤ℤ◌, ◌+ℤ◌, ◌*ℤ◌, ◌&&◌, ◌-ℤ◌, Contains, filter_map, find, option_map}
+use Rattle.rank_blocks.proofs.Cited.{int_eq, AllByRecursion, Decides-int_eq, ints, clamps, All-contains, block_of}
+use Rattle.rank_blocks.proofs.Cited.{is_day, Element, DayValue, Usable, IsSeries, value_on, is_value, Score, Highest}
+use Rattle.rank_blocks.proofs.Cited.{Lowest, Sum, Dry, Wet, Hot, Asked, score_element, is_score, is_fall, IsAsked}
+use Rattle.rank_blocks.proofs.Cited.{admits_day, Days, Windows, Spells, shape, test_of, is_such, plus}
+use Rattle.rank_blocks.proofs.Cited.{window_total, begun, candidate, candidates_among, admitted, run_from, run_len}
+use Rattle.rank_blocks.proofs.Cited.{begins_run, calendar_len, counted, total, blocks_total, is_among, is_reached}
+use Rattle.rank_blocks.proofs.Cited.{days_reached, blocks_of_window, holds_such, IsGreatest, IsScore, IsRunLength}
+use Rattle.rank_blocks.proofs.Cited.{IsSumBound, IsBlocksBound, IsBoundFor}
 use Rattle.std.proofs.lemmas.List.Sums.{AllPass-from_list_all}
-use Rattle.ghcn_fields.specs.Days.{block_of, is_day}
 use Rattle.ghcn_files.specs.declared.station.StationId.{StationId}
-use Rattle.ghcn_files.specs.declared.element.Element.{Element}
-use Rattle.ghcn_files.specs.Elements.{may_be_negative}
-use Rattle.ghcn_series.specs.Series.{DayValue, Usable, IsSeries, value_on, is_value}
-use Rattle.rank_query.specs.declared.score.Score.{Score}
-use Rattle.rank_query.specs.declared.score.Score.TheVariants.{Highest, Lowest, Sum, Dry, Wet, Hot}
-use Rattle.rank_query.specs.Asked.{Asked, score_element, is_score, is_fall, IsAsked}
-use Rattle.rank_query.specs.Admits.{admits_day}
-use Rattle.rank_scores.specs.Candidates.{Days, Windows, Spells, shape, is_dry, is_wet, is_hot, is_such, plus}
-use Rattle.rank_scores.specs.Candidates.{window_total, begun, candidate, candidates_among, admitted}
-use Rattle.rank_scores.specs.Runs.{run_from, run_len, begins_run, calendar_len}
-use Rattle.rank_scores.proofs.Runs.{counted}
-use Rattle.rank_blocks.specs.Blocks.{total, blocks_total, is_among, is_reached, days_reached}
-use Rattle.rank_blocks.specs.Bounds.{blocks_of_window, holds_such}
-use Rattle.rank_blocks.specs.Greatest.{IsGreatest, IsScore, IsRunLength, IsSumBound, IsBlocksBound, IsBoundFor}
 use Rattle.rank_blocks.proofs.HotBlocks.{such-holds, days-greatest}
 use Rattle.rank_blocks.proofs.Members.{contains-first, contains-behind, for_each, of_each, of_kept, in_kept}
 use Rattle.rank_blocks.proofs.Members.{total-least, total-wider, filter-both, total-cons, part-wider}
 use Rattle.rank_blocks.proofs.DayValues.{both_pass, not_both, at_most_or_more, int_le-true, block-holds, block-rises}
 use Rattle.rank_blocks.proofs.WindowTotals.{among-from, among-parts, before-among}
 use Rattle.rank_blocks.proofs.ReachedDays.{admitted-reached, such-wider, value_on-in}
+use Rattle.rank_scores.specs.declared.spell.Spell.TheVariants as spells
 
 -- ---- what begins on a day
 
@@ -101,8 +91,7 @@ spells-under test wide q s z wider of_z =
 pub spells-below : (test : ℤ → Bool) (q : Asked) (s : Usable) (z : ℤ) → IsGreatest
     (IsRunLength (is_such test (days_reached q s))) z → AllByRecursion (λ c. c.score ≤ℤ z)
     (candidates_among s.id (Spells test) (admitted q s))
-spells-below test q s z of_z =
-    spells-under test (is_such test (days_reached q s)) q s z (reached-such test q s) of_z
+spells-below test q s z of_z = spells-under test (is_such test (days_reached q s)) q s z (reached-such test q s) of_z
 
 -- or than the days of the most blocks in a row that hold such a day
 spells-in_blocks : (test : ℤ → Bool) (q : Asked) (s : Usable) (z : ℤ)
@@ -138,7 +127,6 @@ window-times days z most (suc n) a t e =
     let parts = plus-parts (value_on days a) (window_total days n (a +ℤ pos 1)) t e in
     let rest = window-times days z most n (a +ℤ pos 1) parts.1 parts.3 in
     let here = most (a, parts.0) (value_on-in days a parts.0 parts.2) in
-    let times = times-suc n z in
     omega (arith, ints)
 
 module _ (p w : DayValue → Bool) (a : ℤ) (wider : (x : DayValue) → p x ≡ true → w x ≡ true)
@@ -175,8 +163,7 @@ window-total days falls (suc n) a t e =
     let parts = plus-parts (value_on days a) (window_total days n (a +ℤ pos 1)) t e in
     let rest = window-total days falls n (a +ℤ pos 1) parts.1 parts.3 in
     let added = day-added (in_window (a +ℤ pos 1) n) (in_window a (suc n)) a
-    (λ x inside. let both = among-parts (a +ℤ pos 1) n x.0 inside in let low = both.0 in let high = both.1 in
-    among-from a (suc n) x.0 (omega (arith, ints)) (omega (arith, ints)))
+    (λ x inside. search (rules, arith, ints, among-parts, among-from))
     (λ x on. before-among (a +ℤ pos 1) n x.0 (omega (arith, ints)))
     (λ x on. among-from a (suc n) x.0 (omega (arith, ints)) (omega (arith, ints)))
     days parts.0 falls parts.2 in
@@ -239,6 +226,6 @@ pub above-for : (score : Score) (q : Asked) (s : Usable) (z : ℤ)
 above-for (Highest e) q s z falls of_z = days-below (λ v. v) q s z of_z
 above-for (Lowest e) q s z falls of_z = days-below neg_ℤ q s z of_z
 above-for (Sum n e) q s z falls of_z = windows-below n q s z (falls n e refl) of_z
-above-for Dry q s z falls of_z = spells-below is_dry q s z of_z
-above-for Wet q s z falls of_z = spells-below is_wet q s z of_z
-above-for (Hot t) q s z falls of_z = spells-in_blocks (is_hot t) q s z of_z
+above-for Dry q s z falls of_z = spells-below (test_of spells.Dry) q s z of_z
+above-for Wet q s z falls of_z = spells-below (test_of spells.Wet) q s z of_z
+above-for (Hot t) q s z falls of_z = spells-in_blocks (test_of (spells.Hot t)) q s z of_z

@@ -1,28 +1,13 @@
 -- The summary that is made of a block's word and values is that of its days.
-use Rattle.std.proofs.Common.{◌≡◌, ℕ, zero, suc, ◌+◌, ◌<◌, Bool, true, false, cond, List, [], ◌∷◌, map, filter, length}
-use Rattle.std.proofs.Common.{get_or, drop, None, Some, inl, inr, refl, sym, ap, ◌∙◌, subst, arith, ℤ, pos, ◌+ℤ◌, ◌==◌}
-use Rattle.std.proofs.Common.{filter_map, int_eq}
-use Rattle.std.specs.Int.{bit_at}
-use Rattle.std.specs.List.{AllByRecursion, cons_option, range_with_len}
-use Rattle.std.proofs.lemmas.Bool.{cases_Bool, cond_both}
-use Rattle.std.proofs.lemmas.Bool.Decides.{Decides-int_eq}
-use Rattle.std.proofs.lemmas.Int.{ints}
-use Rattle.std.proofs.lemmas.List.{drop_all, drop_more}
-use Rattle.std.proofs.lemmas.Nat.Bits.{bit_at-lt}
-use Rattle.ghcn_fields.specs.Days.{block_of}
-use Rattle.ghcn_series.specs.Packed.{if_so, AreRising, IsBlockOf, day_from, days_from, block_days}
-use Rattle.ghcn_series.specs.Series.{DayValue, value_on}
+use Rattle.rank_blocks.proofs.Cited.{◌≡◌, ℕ, zero, suc, ◌+◌, ◌<◌, Bool, true, false, cond, List, [], ◌∷◌, map, filter}
+use Rattle.rank_blocks.proofs.Cited.{length, get_or, drop, None, Some, inl, inr, refl, sym, ap, ◌∙◌, subst, arith, ℤ}
+use Rattle.rank_blocks.proofs.Cited.{pos, ◌+ℤ◌, ◌==◌, filter_map, int_eq, bit_at, AllByRecursion, cons_option}
+use Rattle.rank_blocks.proofs.Cited.{range_with_len, cases_Bool, cond_both, Decides-int_eq, ints, drop_all, drop_more}
+use Rattle.rank_blocks.proofs.Cited.{bit_at-lt, block_of, if_so, AreRising, IsBlockOf, day_from, days_from, block_days}
+use Rattle.rank_blocks.proofs.Cited.{DayValue, value_on, Spell, all-filter, Summary, days_in, block_start, total}
+use Rattle.rank_blocks.proofs.Cited.{AreBitsOf, IsGreatest, IsScore, counts, HasDay, HasDays, HasZeros, IsUsableScore}
 use Rattle.ghcn_series.proofs.Lookups.{block-value, block-other}
 use Rattle.ghcn_series.proofs.RisingDays.{block-rises, same-from_values}
-use Rattle.rank_scores.specs.declared.spell.Spell.{Spell}
-use Rattle.rank_scores.proofs.Rising.{all-filter}
-use Rattle.rank_blocks.specs.declared.summary.Summary.{Summary}
-use Rattle.rank_blocks.specs.Blocks.{days_in, block_start, total}
-use Rattle.rank_blocks.specs.DayRuns.{AreBitsOf}
-use Rattle.rank_blocks.specs.Greatest.{IsGreatest, IsScore}
-use Rattle.rank_blocks.specs.Reached.{counts}
-use Rattle.rank_blocks.specs.Summaries.{HasDay, HasDays}
-use Rattle.rank_blocks.specs.Values.{HasZeros, IsUsableScore}
 use Rattle.rank_blocks.proofs.Members.{of_each, in_kept, from_kept}
 use Rattle.rank_blocks.proofs.DayValues.{not_both, distance, own-values, block-holds, block-of_place}
 use Rattle.rank_blocks.proofs.ReachedDays.{value_on-among, value_on-in, value_on-filter}
@@ -36,8 +21,7 @@ bit-zero x lt e = grind (arith, ints)
 -- a day at a place adds its value, which is 0 where the day is absent
 one-more : (t : Bool) (d v : ℤ) (xs : List DayValue) → (t ≡ false → v ≡ pos 0)
     → total (map (λ x. x.1) (cons_option (if_so t (d, v)) xs)) ≡ v +ℤ total (map (λ x. x.1) xs)
-one-more true d v xs absent = refl
-one-more false d v xs absent = let none = absent refl in omega (arith, ints)
+one-more x d v xs absent = grind (arith, ints)
 
 -- the total of the days at the places from one on is that of their values
 places-total : (first : ℤ) (word : ℕ) (values : List ℤ) → length values ≡ 32 → HasZeros word values → (s n : ℕ)
@@ -50,7 +34,7 @@ places-total first word values size zeros s (suc n) at =
     let here = one-more (bit_at word s == 1) (first +ℤ pos s) (get_or values s (pos 0))
     (filter_map (day_from first word values) (range_with_len (s + 1) n))
     (λ unset. zeros s (omega arith) (bit-zero (bit_at word s) (bit_at-lt word s) unset)) in
-    omega (arith, ints)
+    cc
 
 -- days that pass a test rise as before
 rise-kept : (p : DayValue → Bool) (days : List DayValue) → AreRising days → AreRising (filter p days)
@@ -95,8 +79,7 @@ module _ (days : List DayValue) (rise : AreRising days) (b : ℤ) (word : ℕ) (
       let j : ℕ = of_z.0 in
       let d : ℤ = block_start b +ℤ pos j in
       let v : ℤ = get_or values j (pos 0) in
-      let is : value_on days d ≡ Some v =
-      sym (of_block.holds j of_z.1) ∙ ap (λ (k : ℕ). if_so (k == 1) v) of_z.2 in
+      let is : value_on days d ≡ Some v = grind (arith, ints) in
       subst (IsScore f (days_in days b)) of_z.3
       (in_kept (λ y. f y.1) (λ x. int_eq (block_of x.0) b) days (d, v) (value_on-in days d v is)
       ((Decides-int_eq (block_of d) b).1 (block-of_place b j of_z.1)))
@@ -129,8 +112,7 @@ module _ (days : List DayValue) (rise : AreRising days) (b : ℤ) (word : ℕ) (
             ∙ subst (λ (n : ℤ). value_on days n ≡ value_on (block_days (b, (word, values))) n) (sym at.2)
             (sym (of_block.holds at.0 at.1) ∙ sym (block-value (b, (word, values)) at.0 at.1))
         | inr other ↦
-            ap (λ (t : Bool). cond t (value_on days d) None) other
-            ∙ sym (block-other (b, (word, values)) d
+            ap (λ (t : Bool). cond t (value_on days d) None) other ∙ sym (block-other (b, (word, values)) d
             (λ is. not_both _ ((Decides-int_eq (block_of d) b).1 (sym is)) other))
       ])
 

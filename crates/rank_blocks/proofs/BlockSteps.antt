@@ -1,22 +1,12 @@
 -- One more summary of a list, as a loop comes to it.
-use Rattle.std.proofs.Common.{◌≡◌, ℕ, zero, suc, ◌+◌, ◌-◌, ◌*◌, ◌<◌, ◌≤◌, Bool, true, false, cond, List, [], ◌∷◌, ◌++◌}
-use Rattle.std.proofs.Common.{map, length, take, drop, Option, Some, refl, sym, ap, ◌∙◌, subst, arith, rules, ℤ, pos}
-use Rattle.std.proofs.Common.{neg_ℤ, ◌≤ℤ◌, ◌<ℤ◌, ◌+ℤ◌, to_z, of_z, w64, int_le, All, int_cmp, int_eq, append-nil}
-use Rattle.std.specs.Int.{int_max}
-use Rattle.std.specs.List.{list_any}
-use Rattle.std.specs.List.Sorted.{IsStrictlySortedBy}
-use Rattle.std.proofs.lemmas.Bool.Decides.{Decides-int_eq}
-use Rattle.std.proofs.lemmas.Int.{ints, clamps, by_lt_z}
-use Rattle.std.proofs.lemmas.List.{map-append, drop_more, take_all, length-drop}
-use Rattle.std.proofs.lemmas.List.Elements.{All-from_recursion, All-get_or, All-more, All-weaker, All-contains}
-use Rattle.std.proofs.lemmas.List.Elements.{filter_more}
-use Rattle.ghcn_fields.specs.Sorting.{greatest}
-use Rattle.rank_blocks.specs.declared.range.BlockRange.{BlockRange}
-use Rattle.rank_blocks.specs.declared.summary.Summary.{Summary}
-use Rattle.rank_blocks.specs.Blocks.{is_among}
-use Rattle.rank_blocks.specs.Greatest.{IsGreatest}
-use Rattle.rank_blocks.specs.Reached.{IsNear, IsTotalFrom, in_range, summaries_in, summaries_total}
-use Rattle.rank_blocks.specs.Summaries.{ArePossible}
+use Rattle.rank_blocks.proofs.Cited.{◌≡◌, ℕ, zero, suc, ◌+◌, ◌-◌, ◌*◌, ◌<◌, ◌≤◌, Bool, true, false, cond, List, [], ◌∷◌}
+use Rattle.rank_blocks.proofs.Cited.{◌++◌, map, length, take, drop, Option, Some, refl, sym, ap, ◌∙◌, subst, arith}
+use Rattle.rank_blocks.proofs.Cited.{rules, ℤ, pos, neg_ℤ, ◌≤ℤ◌, ◌<ℤ◌, ◌+ℤ◌, to_z, of_z, w64, int_le, All, int_cmp}
+use Rattle.rank_blocks.proofs.Cited.{int_eq, append-nil, int_max, list_any, IsStrictlySortedBy, Decides-int_eq, ints}
+use Rattle.rank_blocks.proofs.Cited.{clamps, map-append, drop_more, take_all, length-drop, All-from_recursion}
+use Rattle.rank_blocks.proofs.Cited.{All-get_or, All-more, All-weaker, All-contains, filter_more, greatest, BlockRange}
+use Rattle.rank_blocks.proofs.Cited.{Summary, is_among, IsGreatest, IsNear, IsTotalFrom, in_range, summaries_in}
+use Rattle.rank_blocks.proofs.Cited.{summaries_total, ArePossible}
 use Rattle.rank_blocks.proofs.Members.{from_each, any_in, any_of, total-wider, total-cons}
 use Rattle.rank_blocks.proofs.DayValues.{not_both, between, pass_both, int_le-true, le-int_le, distance}
 use Rattle.rank_blocks.proofs.PossibleBlocks.{no_block, block_at, sorted-behind, sorted-tail, possible-at}
@@ -104,11 +94,7 @@ module _ (ms : List Summary) (possible : ArePossible ms) (w : ℕ) (first : ℤ)
       let past = int_le-true (first +ℤ pos w) (block_at ms i).number test in
       let behind = behind-left ms i lt possible in
       let none =
-      total-behind (block_at ms i ∷ drop (i + 1) ms) w first (
-        past,
-        from_each (λ m. (block_at ms i).number <ℤ m.number) (λ m. (first +ℤ pos w) ≤ℤ m.number) (drop (i + 1) ms)
-            (λ m lt. omega (arith, ints)) behind,
-      ) in
+      total-behind (block_at ms i ∷ drop (i + 1) ms) w first (search (rules, arith, ints, from_each, first)) in
       let left = left-total in
       omega (arith, ints)
 
@@ -143,14 +129,12 @@ module _ (r : BlockRange) (w : ℕ) (ms : List Summary) (i : ℕ) (found : ℤ) 
       → in_range r (block_at ms i).number ≡ true → IsMostTo r w ms (i + 1) next
   most-in possible lt next is holds =
       let whole = total-from ms w i lt possible.by_number in
-      let last = far.last in
       record {
         one = max-one (IsTotalFrom r ms w) _ _ next is far.one ((block_at ms i).number, holds, sym whole);
         last = omega (arith, ints, clamps);
         each = All-more (HasNoMore r w ms next) ms i no_block lt
             (All-weaker (HasNoMore r w ms found) (HasNoMore r w ms next)
-            (λ m most holds. let le = most holds in omega (arith, ints, clamps)) (take i ms) far.each)
-            (λ holds. omega (arith, ints, clamps));
+            (λ m most holds. omega (arith, ints, clamps)) (take i ms) far.each) (λ holds. omega (arith, ints, clamps));
       }
 
   -- another block changes nothing
@@ -158,15 +142,13 @@ module _ (r : BlockRange) (w : ℕ) (ms : List Summary) (i : ℕ) (found : ℤ) 
   most-out lt out = record {
     one = far.one;
     last = far.last;
-    each = All-more (HasNoMore r w ms found) ms i no_block lt far.each
-        (λ holds. absurd (not_both _ holds out));
+    each = All-more (HasNoMore r w ms found) ms i no_block lt far.each (λ holds. absurd (not_both _ holds out));
   }
 
   module _ (falls : AreFalls ms) (end : length ms ≤ i) where
     -- no window that begins in the range has more: one that begins at no summary's block has no more than the next one
     no_more : (n : ℕ) (first : ℤ) → first +ℤ pos n ≡ r.last → r.first ≤ℤ first → summaries_total ms w first ≤ℤ found
     no_more zero first is low =
-        let last = far.last in
         let same = ap (summaries_total ms w) {x = first} {y = r.last} (omega (arith, ints)) in
         omega (arith, ints)
     no_more (suc n) first is low =
@@ -183,15 +165,11 @@ module _ (r : BlockRange) (w : ℕ) (ms : List Summary) (i : ℕ) (found : ℤ) 
           | false ↦ λ e.
               let rest = no_more n (first +ℤ pos 1) (omega (arith, ints)) (omega (arith, ints)) in
               let wider = total-wider (λ m. m.total) (λ m. is_among first w m.number)
-              (λ m. is_among (first +ℤ pos 1) w m.number) ms falls
-              (λ m has among.
+              (λ m. is_among (first +ℤ pos 1) w m.number) ms falls (λ m has among.
               let parts = among-parts first w m.number among in
-              let low = parts.0 in
-              let high = parts.1 in
               let other : m.number ≡ first → ⊥ = λ at. not_both _ (any_of (λ m. int_eq m.number first) ms m has
               ((Decides-int_eq m.number first).1 at)) e in
-              among-from (first +ℤ pos 1) w m.number (by_lt_z first m.number (λ lt. omega (arith, ints))
-              (λ ge. absurd (other (omega (arith, ints))))) (omega (arith, ints))) in
+              among-from (first +ℤ pos 1) w m.number (search (rules, arith, ints, first)) (omega (arith, ints))) in
               omega (arith, ints)
         ] refl
 
@@ -201,7 +179,6 @@ module _ (r : BlockRange) (w : ℕ) (ms : List Summary) (i : ℕ) (found : ℤ) 
       is_one = far.one;
       is_most = λ y total.
           let parts = between r.first total.0 r.last total.1 in
-          let is = total.2 in
           let far_on = distance total.0 r.last parts.1 in
           let most = no_more far_on.0 total.0 (sym far_on.1) parts.0 in
           omega (arith, ints);

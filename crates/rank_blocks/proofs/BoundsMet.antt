@@ -1,27 +1,12 @@
 -- The bound of a series is found from its summaries.
-use Rattle.std.proofs.Common.{◌≡◌, ℕ, Bool, true, List, map, filter, Option, Some, None, sym, ap, ◌∙◌, subst, arith, ℤ}
-use Rattle.std.proofs.Common.{pos, ◌≤ℤ◌, ◌*ℤ◌, ◌*◌, Contains, unwrap_or}
-use Rattle.std.specs.Int.{int_min}
-use Rattle.std.proofs.lemmas.Int.{ints}
-use Rattle.ghcn_fields.specs.Days.{block_of, first_day, last_day}
-use Rattle.ghcn_fields.specs.Sorting.{greatest}
-use Rattle.ghcn_series.specs.Series.{Usable}
-use Rattle.ghcn_files.specs.declared.element.Element.{Element}
-use Rattle.rank_query.specs.declared.score.Score.{Score}
-use Rattle.rank_query.specs.declared.score.Score.TheVariants.{Sum, Dry, Wet, Hot}
-use Rattle.rank_query.specs.Asked.{Asked, IsAsked, is_period}
-use Rattle.rank_scores.specs.Candidates.{is_hot}
-use Rattle.rank_scores.specs.declared.spell.Spell.{Spell}
-use Rattle.rank_scores.specs.declared.spell.Spell.TheVariants as kinds
+use Rattle.rank_blocks.proofs.Cited.{rules, ◌≡◌, ℕ, Bool, true, List, map, filter, Option, sym, ap, ◌∙◌, subst, arith}
+use Rattle.rank_blocks.proofs.Cited.{ℤ, pos, ◌≤ℤ◌, ◌*ℤ◌, Contains, unwrap_or, int_min, ints, block_of, greatest, Usable}
+use Rattle.rank_blocks.proofs.Cited.{Element, Score, Sum, Dry, Wet, Hot, Asked, IsAsked, is_period, test_of, Spell}
+use Rattle.rank_blocks.proofs.Cited.{BlockRange, Summary, days_reached, is_reached, period_of, blocks_of_window}
+use Rattle.rank_blocks.proofs.Cited.{holds_such, bound, IsAskedOf, IsGreatest, IsScore, IsBlocksTotal, IsRunLength}
+use Rattle.rank_blocks.proofs.Cited.{IsBoundFor, IsBound, IsRangeOf, in_range, summaries_in, IsTotalFrom, counts}
+use Rattle.rank_blocks.proofs.Cited.{days_in_range, AreOfBlocks, AreSummaries, HasDay, HasDays, HasSum}
 use Rattle.rank_scores.specs.Morsels.{IsAbove}
-use Rattle.rank_blocks.specs.declared.range.BlockRange.{BlockRange}
-use Rattle.rank_blocks.specs.declared.summary.Summary.{Summary}
-use Rattle.rank_blocks.specs.Blocks.{days_reached, is_reached, period_of}
-use Rattle.rank_blocks.specs.Bounds.{blocks_of_window, holds_such, bound, IsAskedOf}
-use Rattle.rank_blocks.specs.Greatest.{IsGreatest, IsScore, IsBlocksTotal, IsRunLength, IsBoundFor}
-use Rattle.rank_blocks.specs.Greatest.{IsBound}
-use Rattle.rank_blocks.specs.Reached.{IsRangeOf, in_range, summaries_in, IsTotalFrom, counts, days_in_range}
-use Rattle.rank_blocks.specs.Summaries.{AreOfBlocks, AreSummaries, HasDay, HasDays, HasSum}
 use Rattle.rank_blocks.proofs.Members.{from_each, in_kept, greatest-some, greatest-unique, total-least}
 use Rattle.rank_blocks.proofs.DayValues.{both_pass, int_le-true, block-rises}
 use Rattle.rank_blocks.proofs.WindowTotals.{AreFalls}
@@ -30,6 +15,7 @@ use Rattle.rank_blocks.proofs.ReachedDays.{admitted-reached, summary-of, greates
 use Rattle.rank_blocks.proofs.Above.{AreFallen, sums-fall, above-for}
 use Rattle.rank_blocks.proofs.Computed.{some_admitted, unique-for, blocks-computed, computed-IsBound}
 use Rattle.rank_blocks.proofs.HotBlocks.{days-greatest}
+use Rattle.rank_scores.specs.declared.spell.Spell.TheVariants as kinds
 
 -- its blocks are those of the period
 pub range-is : (r : BlockRange) (q : Asked) → IsRangeOf r q → in_range r ≡ is_reached q.period
@@ -37,8 +23,7 @@ range-is r q of = grind (arith, ints)
 
 -- the first block of a period isn't behind its last
 period-rises : (p : Option (ℤ × ℤ)) → is_period p ≡ true → block_of (period_of p).0 ≤ℤ block_of (period_of p).1
-period-rises None h = block-rises first_day last_day (omega (arith, ints))
-period-rises (Some p) h = grind (arith, ints, both_pass, block-rises, int_le-true)
+period-rises x h = grind (arith, ints, block-rises, both_pass, int_le-true)
 
 -- nor that of its range
 pub range-rises : (r : BlockRange) (q : Asked) → IsRangeOf r q → IsAsked q → r.first ≤ℤ r.last
@@ -78,14 +63,9 @@ module _ (r : BlockRange) (q : Asked) (s : Usable) (ms : List Summary) (of : IsR
   run-met kinds.Dry z longest = longest
   run-met kinds.Wet z longest = longest
   run-met (kinds.Hot t) z longest =
-      let such : ℤ → Bool = holds_such (is_hot t) (days_reached q s) in
-      let found = blocks-computed (is_hot t) q s asked_of.series in
-      record {
-        blocks = found.blocks;
-        greatest = found.greatest;
-        times = greatest-unique (IsRunLength (λ d. such (block_of d))) (pos (32 * found.blocks)) z
-            (days-greatest such found.blocks found.greatest) longest;
-      }
+      let such : ℤ → Bool = holds_such (test_of (kinds.Hot t)) (days_reached q s) in
+      let found = blocks-computed (test_of (kinds.Hot t)) q s asked_of.series in
+      search (rules, arith, ints, found, greatest-unique, days-greatest)
 
   -- the bound of spells, from the summaries
   pub spell-met : (k : Spell) (z : ℤ) → q.score ≡ score_of k → AreSummaries q.score s ms
@@ -136,5 +116,4 @@ bound-computed q s z asked of of_z = unique-for q.score q s z (bound q s) of_z (
 
 -- and no candidate's score is above it
 pub bound-above : (q : Asked) (s : Usable) (z : ℤ) → IsAsked q → IsAskedOf q s → IsBound q s z → IsAbove q s z
-bound-above q s z asked of of_z = above-for q.score q s z
-    (λ n e is. sums-fall q s n e asked of.series of.element is) of_z
+bound-above q s z asked of of_z = grind (arith, ints, above-for, sums-fall)

@@ -1,29 +1,17 @@
 -- The bound as it is computed is the bound by what it is greatest of, and there is but one.
-use Rattle.std.proofs.Common.{◌≡◌, ℕ, zero, suc, ◌+◌, ◌<◌, ◌≤◌, Bool, true, List, [], ◌∷◌, map, length, ◌⊎◌, inl, inr}
-use Rattle.std.proofs.Common.{refl, sym, ap, ◌∙◌, subst, arith, ℤ, pos, neg_ℤ, ◌+ℤ◌, ◌-ℤ◌, ◌≤ℤ◌, ◌<ℤ◌, Contains}
-use Rattle.std.proofs.Common.{flat_map}
-use Rattle.std.specs.List.{AllByRecursion, range_with_len}
-use Rattle.std.proofs.lemmas.Int.{ints}
-use Rattle.std.proofs.lemmas.List.{length-map}
-use Rattle.std.proofs.lemmas.List.Elements.{Contains-append_left, Contains-append_right}
+use Rattle.rank_blocks.proofs.Cited.{rules, ◌≡◌, ℕ, zero, suc, ◌+◌, ◌<◌, ◌≤◌, Bool, true, List, [], ◌∷◌, map, length}
+use Rattle.rank_blocks.proofs.Cited.{◌⊎◌, inl, inr, refl, sym, ap, ◌∙◌, subst, arith, ℤ, pos, neg_ℤ, ◌+ℤ◌, ◌-ℤ◌, ◌≤ℤ◌}
+use Rattle.rank_blocks.proofs.Cited.{◌<ℤ◌, Contains, flat_map, AllByRecursion, range_with_len, ints, length-map}
+use Rattle.rank_blocks.proofs.Cited.{Contains-append_left, Contains-append_right, le-max_left, le-max_right, block_of}
+use Rattle.rank_blocks.proofs.Cited.{first_day, last_day, Element, DayValue, Usable, IsSeries, Score, Highest, Lowest}
+use Rattle.rank_blocks.proofs.Cited.{Sum, Dry, Wet, Hot, Asked, IsAsked, admits_day, test_of, is_such}
+use Rattle.rank_blocks.proofs.Cited.{admitted, run_len, longest_run, calendar_len, counted, days_reached, is_reached}
+use Rattle.rank_blocks.proofs.Cited.{blocks_total, is_among, greatest_by, blocks_of_window, first_blocks}
+use Rattle.rank_blocks.proofs.Cited.{greatest_total, spell_bound, blocks_bound, holds_such, bound_for, bound, IsAskedOf}
+use Rattle.rank_blocks.proofs.Cited.{IsGreatest, IsScore, IsBlocksTotal, IsRunLength, IsSumBound, IsBlocksBound}
+use Rattle.rank_blocks.proofs.Cited.{IsBoundFor, IsBound}
 use Rattle.std.proofs.lemmas.List.FromFn.{length-range_with_len, get_or-range_with_len}
 use Rattle.std.proofs.Math.ListN.{get_or-map}
-use Rattle.std.proofs.Math.Nat.{le-max_left, le-max_right}
-use Rattle.ghcn_fields.specs.Days.{block_of, first_day, last_day}
-use Rattle.ghcn_files.specs.declared.element.Element.{Element}
-use Rattle.ghcn_series.specs.Series.{DayValue, Usable, IsSeries}
-use Rattle.rank_query.specs.declared.score.Score.{Score}
-use Rattle.rank_query.specs.declared.score.Score.TheVariants.{Highest, Lowest, Sum, Dry, Wet, Hot}
-use Rattle.rank_query.specs.Asked.{Asked, IsAsked}
-use Rattle.rank_query.specs.Admits.{admits_day}
-use Rattle.rank_scores.specs.Candidates.{is_dry, is_wet, is_hot, is_such, admitted}
-use Rattle.rank_scores.specs.Runs.{run_len, longest_run, calendar_len}
-use Rattle.rank_scores.proofs.Runs.{counted}
-use Rattle.rank_blocks.specs.Blocks.{days_reached, is_reached, blocks_total, is_among}
-use Rattle.rank_blocks.specs.Bounds.{greatest_by, blocks_of_window, first_blocks, greatest_total, spell_bound}
-use Rattle.rank_blocks.specs.Bounds.{blocks_bound, holds_such, bound_for, bound, IsAskedOf}
-use Rattle.rank_blocks.specs.Greatest.{IsGreatest, IsScore, IsBlocksTotal, IsRunLength, IsSumBound, IsBlocksBound}
-use Rattle.rank_blocks.specs.Greatest.{IsBoundFor, IsBound}
 use Rattle.rank_blocks.proofs.DayValues.{between, distance, block-rises}
 use Rattle.rank_blocks.proofs.HotBlocks.{holds-in}
 use Rattle.rank_blocks.proofs.Members.{contains-nothing, contains-cases, contains-first, of_each, for_each, from_each}
@@ -32,6 +20,7 @@ use Rattle.rank_blocks.proofs.WindowTotals.{among-parts, among-from}
 use Rattle.rank_blocks.proofs.LongestRuns.{max-one}
 use Rattle.rank_blocks.proofs.ReachedDays.{admitted-reached, such-in}
 use Rattle.rank_blocks.proofs.Above.{AreFallen, run-at_least, days-valid, sums-fall}
+use Rattle.rank_scores.specs.declared.spell.Spell.TheVariants as spells
 
 -- ---- there is but one
 
@@ -56,9 +45,12 @@ pub unique-for : (score : Score) (q : Asked) (s : Usable) (y z : ℤ) → IsBoun
 unique-for (Highest e) q s y z of_y of_z = greatest-unique (IsScore (λ v. v) (days_reached q s)) y z of_y of_z
 unique-for (Lowest e) q s y z of_y of_z = greatest-unique (IsScore neg_ℤ (days_reached q s)) y z of_y of_z
 unique-for (Sum n e) q s y z of_y of_z = sum-unique q s n y z of_y of_z
-unique-for Dry q s y z of_y of_z = greatest-unique (IsRunLength (is_such is_dry (days_reached q s))) y z of_y of_z
-unique-for Wet q s y z of_y of_z = greatest-unique (IsRunLength (is_such is_wet (days_reached q s))) y z of_y of_z
-unique-for (Hot t) q s y z of_y of_z = blocks-unique (holds_such (is_hot t) (days_reached q s)) y z of_y of_z
+unique-for Dry q s y z of_y of_z =
+    greatest-unique (IsRunLength (is_such (test_of spells.Dry) (days_reached q s))) y z of_y of_z
+unique-for Wet q s y z of_y of_z =
+    greatest-unique (IsRunLength (is_such (test_of spells.Wet) (days_reached q s))) y z of_y of_z
+unique-for (Hot t) q s y z of_y of_z =
+    blocks-unique (holds_such (test_of (spells.Hot t)) (days_reached q s)) y z of_y of_z
 
 -- ---- days
 
@@ -112,7 +104,6 @@ start-of : (w : ℕ) (days : List DayValue) (first : ℤ) (x : DayValue) → Con
 start-of w days first x has e =
     let parts = among-parts first w (block_of x.0) e in
     let far = distance first (block_of x.0) parts.0 in
-    let is = far.1 in
     let there = contains-map (λ i. block_of x.0 -ℤ pos i) (range_with_len 0 w) (0 + far.0)
     (contains-range 0 w far.0 (omega (arith, ints, parts.1))) in
     let same : block_of x.0 -ℤ pos (0 + far.0) ≡ first = omega (arith, ints) in
@@ -133,24 +124,18 @@ total-greatest q s w some_blocks some falls =
     let all : List ℤ = flat_map (starts w) s.days in
     let seen : (b : ℤ) → Contains all b → is_reached q.period b ≡ true
     → Contains (map (blocks_total s.days w) (first_blocks q s.days w)) (blocks_total s.days w b) =
-    in_kept (blocks_total s.days w) (is_reached q.period) all in
+    search (rules, arith, ints, in_kept) in
     let own = start-of w s.days (block_of day.0.0) day.0 day.1.0
     (among-from (block_of day.0.0) w (block_of day.0.0) (omega (arith, ints)) (omega (arith, ints))) in
     let of_z = greatest-some (map (blocks_total s.days w) (first_blocks q s.days w))
-    (blocks_total s.days w (block_of day.0.0))
-    (seen (block_of day.0.0) own (admitted-reached q day.0.0 day.1.1)) in
+    (blocks_total s.days w (block_of day.0.0)) (seen (block_of day.0.0) own (admitted-reached q day.0.0 day.1.1)) in
     let found = from_kept (blocks_total s.days w) (is_reached q.period) all (greatest_total q s.days w) of_z.is_one in
     record {
       is_one = (found.0, found.1.1, found.2);
       is_most = λ y h.
-          let is = h.2 in
-          elim (window-seen w h.0 all s.days
-          (for_each (λ x. is_among h.0 w (block_of x.0) ≡ true → Contains all h.0) s.days (start-of w s.days h.0))) [
+          elim (window-seen w h.0 all s.days (search (rules, arith, ints, for_each, start-of))) [
             | inl has ↦ let most = of_z.is_most (blocks_total s.days w h.0) (seen h.0 has h.1) in omega (arith, ints)
-            | inr none ↦
-                let fall = total-least (λ x. x.1) (λ x. is_among found.0 w (block_of x.0)) s.days falls in
-                let one = found.2 in
-                omega (arith, ints)
+            | inr none ↦ grind (arith, ints, total-least, found)
           ];
     }
 
@@ -195,10 +180,7 @@ module _ (such : ℤ → Bool) (f : DayValue → ℤ) (days : List DayValue) (lo
   runs-greatest : IsGreatest (IsRunLength such) (pos (longest_run such (map f days)))
   runs-greatest =
       let somewhere = longest-somewhere such (map f days) in
-      record {
-        is_one = (longest_run such (map f days), somewhere.0, refl, somewhere.1);
-        is_most = λ y run. omega (arith, ints, run.2, no_longer run.0 run.1 run.3);
-      }
+      search (rules, arith, ints, somewhere, no_longer)
 
 -- a day that is reached is one of the calendar
 reached-valid : (q : Asked) (s : Usable) → IsSeries s → (x : DayValue) → Contains (days_reached q s) x
@@ -220,8 +202,7 @@ blocks-greatest : (test : ℤ → Bool) (q : Asked) (s : Usable) → IsSeries s 
     (pos (longest_run (holds_such test (days_reached q s)) (map (λ x. block_of x.0) (days_reached q s))))
 blocks-greatest test q s series =
     runs-greatest (holds_such test (days_reached q s)) (λ x. block_of x.0) (days_reached q s) (block_of first_day)
-    (λ a e. let day = holds-in test (days_reached q s) a e in (day.0, day.1, day.2))
-    (λ x has.
+    (λ a e. let day = holds-in test (days_reached q s) a e in (day.0, day.1, day.2)) (λ x has.
     let day = reached-valid q s series x has in
     let high = block-rises x.0 last_day day.1 in
     (block-rises first_day x.0 day.0, omega (arith, ints)))
@@ -245,9 +226,9 @@ computed-for (Sum n e) q s series some falls = record {
   greatest_total = total-greatest q s (blocks_of_window n) (omega arith) some (falls n e refl);
   smaller = refl;
 }
-computed-for Dry q s series some falls = run-greatest is_dry q s series
-computed-for Wet q s series some falls = run-greatest is_wet q s series
-computed-for (Hot t) q s series some falls = blocks-computed (is_hot t) q s series
+computed-for Dry q s series some falls = run-greatest (test_of spells.Dry) q s series
+computed-for Wet q s series some falls = run-greatest (test_of spells.Wet) q s series
+computed-for (Hot t) q s series some falls = blocks-computed (test_of (spells.Hot t)) q s series
 
 -- the bound as it is computed is the bound by what it is greatest of
 pub computed-IsBound : (q : Asked) (s : Usable) → IsAsked q → IsAskedOf q s → IsBound q s (bound q s)

@@ -1,14 +1,8 @@
 -- Tests on numbers, and days in their order with the values that they have.
-use Rattle.std.proofs.Common.{◌≡◌, ℕ, ◌<◌, ◌≤◌, Bool, true, false, ◌⊎◌, inl, inr, refl, arith, ℤ, pos, negsuc, ◌≤ℤ◌}
-use Rattle.std.proofs.Common.{◌<ℤ◌, ◌+ℤ◌, ◌-ℤ◌, ◌&&◌, int_lt, int_le, List, [], ◌∷◌, ◌++◌, Some, None, ◌∙◌, int_eq}
-use Rattle.std.proofs.lemmas.Bool.Decides.{leb_tells, Decides-int_eq}
-use Rattle.std.proofs.lemmas.Int.{ints, by_lt_z}
-use Rattle.std.specs.List.{AllByRecursion}
-use Rattle.std.proofs.lemmas.Bool.{false_from_ne_true}
-use Rattle.ghcn_fields.specs.Days.{block_of}
-use Rattle.ghcn_series.specs.Series.{DayValue, value_on, is_by_day}
-use Rattle.rank_blocks.specs.Blocks.{block_start}
-use Rattle.ghcn_series.specs.Packed.{AreRising}
+use Rattle.rank_blocks.proofs.Cited.{◌≡◌, ℕ, ◌<◌, ◌≤◌, Bool, true, false, ◌⊎◌, inl, inr, refl, arith, ℤ, pos, negsuc}
+use Rattle.rank_blocks.proofs.Cited.{◌≤ℤ◌, ◌<ℤ◌, ◌+ℤ◌, ◌-ℤ◌, ◌&&◌, int_lt, int_le, List, [], ◌∷◌, Some, int_eq}
+use Rattle.rank_blocks.proofs.Cited.{leb_tells, Decides-int_eq, ints, by_lt_z, AllByRecursion, false_from_ne_true}
+use Rattle.rank_blocks.proofs.Cited.{block_of, DayValue, value_on, is_by_day, block_start, AreRising}
 use Rattle.rank_blocks.proofs.Members.{from_each, from_both}
 
 -- two tests that both pass
@@ -83,11 +77,7 @@ int_eq-same a = (Decides-int_eq a a).1 refl
 pub rise-from_by_day : (days : List DayValue) → is_by_day days ≡ true → AreRising days
 rise-from_by_day [] e = tt
 rise-from_by_day (x ∷ []) e = (tt, tt)
-rise-from_by_day (x ∷ y ∷ ys) e =
-    let both = both_pass (int_lt x.0 y.0) (is_by_day (y ∷ ys)) e in
-    let rest : AreRising (y ∷ ys) = rise-from_by_day (y ∷ ys) both.1 in
-    let less : x.0 <ℤ y.0 = int_lt-true x.0 y.0 both.0 in
-    ((less, from_each (λ z. y.0 <ℤ z.0) (λ z. x.0 <ℤ z.0) ys (λ z later. omega (arith, ints)) rest.0), rest)
+rise-from_by_day (x ∷ y ∷ ys) e = grind (arith, ints, rise-from_by_day (y ∷ ys), both_pass, int_lt-true, from_each)
 
 -- a day with no pair of its own at the front is looked up behind it
 pub value_on-behind : (x : DayValue) (xs : List DayValue) (day : ℤ) → int_eq x.0 day ≡ false

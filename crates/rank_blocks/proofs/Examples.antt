@@ -1,14 +1,9 @@
 -- Worked bounds, by computation.
-use Rattle.std.proofs.Common.{◌≡◌, ℕ, zero, suc, List, [], ◌∷◌, refl, Some, None, Option, codes, ℤ, pos, neg_ℤ, ◌+ℤ◌}
-use Rattle.ghcn_files.specs.declared.element.Element.{Element}
+use Rattle.rank_blocks.proofs.Cited.{◌≡◌, ℕ, zero, suc, List, [], ◌∷◌, refl, Some, None, Option, codes, ℤ, pos, neg_ℤ}
+use Rattle.rank_blocks.proofs.Cited.{◌+ℤ◌, Element, DayValue, Usable, Score, Highest, Lowest, Sum, Dry, Wet, Hot, Asked}
+use Rattle.rank_blocks.proofs.Cited.{run_from, bound}
 use Rattle.ghcn_files.specs.declared.element.Element.TheVariants.{Tmax, Tmin, Prcp}
-use Rattle.ghcn_series.specs.Series.{DayValue, Usable}
-use Rattle.rank_query.specs.declared.score.Score.{Score}
-use Rattle.rank_query.specs.declared.score.Score.TheVariants.{Highest, Lowest, Sum, Dry, Wet, Hot}
 use Rattle.rank_query.specs.declared.region.Region.TheVariants.{Everywhere}
-use Rattle.rank_query.specs.Asked.{Asked}
-use Rattle.rank_scores.specs.Runs.{run_from}
-use Rattle.rank_blocks.specs.Bounds.{bound}
 
 -- a series of a station
 abbrev pub series : Element → List DayValue → Usable

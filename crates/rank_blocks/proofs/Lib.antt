@@ -1,3 +1,4 @@
+mod Cited
 pub mod WordRuns
 pub mod ValueSteps
 pub mod Members

@@ -1,12 +1,8 @@
 -- The longest run of days, block by block.
-use Rattle.std.proofs.Common.{◌≡◌, ℕ, zero, suc, ◌+◌, ◌-◌, ◌<◌, ◌≤◌, Bool, true, false, max, ◌⊎◌, inl, inr, sym, ap}
-use Rattle.std.proofs.Common.{◌∙◌, arith, ℤ, pos, ◌≤ℤ◌, ◌<ℤ◌, ◌+ℤ◌, ◌-ℤ◌}
-use Rattle.std.proofs.lemmas.Int.{ints}
-use Rattle.std.proofs.Math.Nat.{max-eq_left, max-eq_right}
-use Rattle.rank_blocks.specs.declared.runs.Runs.{Runs}
-use Rattle.rank_blocks.specs.Blocks.{block_start}
-use Rattle.rank_blocks.specs.DayRuns.{has_bit, ComeFirst, ComeLast, FollowAtMost, AllFrom, AreRuns, runs_before}
-use Rattle.rank_blocks.specs.DayRuns.{NoneBetween, AreBitsOf}
+use Rattle.rank_blocks.proofs.Cited.{◌≡◌, ℕ, zero, suc, ◌+◌, ◌-◌, ◌<◌, ◌≤◌, Bool, true, false, max, ◌⊎◌, inl, inr, sym}
+use Rattle.rank_blocks.proofs.Cited.{ap, ◌∙◌, arith, ℤ, pos, ◌≤ℤ◌, ◌<ℤ◌, ◌+ℤ◌, ◌-ℤ◌, ints, max-eq_left, max-eq_right}
+use Rattle.rank_blocks.proofs.Cited.{Runs, block_start, has_bit, ComeFirst, ComeLast, FollowAtMost, AllFrom, AreRuns}
+use Rattle.rank_blocks.proofs.Cited.{runs_before, NoneBetween, AreBitsOf}
 use Rattle.rank_blocks.proofs.DayValues.{not_both, at_most_or_more, int_le_or_lt, distance}
 
 -- of two numbers that something is true of, it is true of the greater
@@ -95,7 +91,6 @@ module _ (such : ℤ → Bool) where
     over-most : (first : ℤ) (len : ℕ) → first <ℤ block_start r.next → block_start r.next <ℤ (first +ℤ pos len)
         → (first +ℤ pos len) ≤ℤ (block_start r.next +ℤ pos 32) → AllFrom such first len → len ≤ r.last + f
     over-most first len low high within pass =
-        let ends = are.ends in
         elim (outside first (are.from -ℤ pos 1) len pass are.begins) [
           | inr far ↦ absurd (omega (arith, ints))
           | inl begins ↦
@@ -120,8 +115,7 @@ module _ (such : ℤ → Bool) where
                 | inl behind ↦
                     let far = distance (block_start r.next) first behind in
                     let here =
-                    most.nowhere_more far.0 len (omega (arith, ints))
-                    (λ k low high.
+                    most.nowhere_more far.0 len (omega (arith, ints)) (λ k low high.
                     to_bit k (first +ℤ pos (k - far.0)) (omega (arith, ints)) (omega (arith, ints))
                     (pass (k - far.0) (omega arith))) in
                     omega arith
@@ -134,21 +128,18 @@ module _ (such : ℤ → Bool) where
     somewhere-so_far =
         let P : ℕ → Type 0 = λ n. (first : ℤ) × AllFrom such first n in
         let place = most.somewhere in
-        max-one P _ _
-        (max-one P _ _ are.somewhere (
+        max-one P _ _ (max-one P _ _ are.somewhere (
           block_start r.next +ℤ pos place.0,
           λ i lt.
               of_bit (place.0 + i) _ true (omega arith) (omega (arith, ints))
               (place.2 (place.0 + i) (omega arith) (omega arith)),
-        ))
-        (are.from, over_border)
+        )) (are.from, over_border)
 
     -- where not all days come first, not all come last
     few-last : f < 32 → l < 32
     few-last lt =
         elim (at_most_or_more 32 l) [
-          | inl all ↦
-              absurd (not_both _ (lasts.pass 0 (omega arith) f (omega arith) lt) (firsts.ends lt))
+          | inl all ↦ absurd (not_both _ (lasts.pass 0 (omega arith) f (omega arith) lt) (firsts.ends lt))
           | inr less ↦ less
         ]
 
@@ -163,8 +154,6 @@ module _ (such : ℤ → Bool) where
         (λ first len within pass. let le = most-so_far first len (omega (arith, ints)) pass in omega arith) in
         elim (at_most_or_more 32 f) [
           | inl all ↦
-              let is = full (omega arith) in
-              let ends = are.ends in
               record {
                 from = are.from;
                 ends = omega (arith, ints);

@@ -1,16 +1,10 @@
 -- Elements of lists that are filtered and measured.
-use Rattle.std.proofs.Common.{◌≡◌, ◌<◌, Bool, true, false, cond, List, [], ◌∷◌, ◌++◌, map, filter, ◌⊎◌, inl, inr, refl}
-use Rattle.std.proofs.Common.{sym, pos, ◌+ℤ◌, subst, arith, ℤ, ◌≤ℤ◌, Contains, fold, unwrap_or, ◌&&◌}
-use Rattle.std.specs.List.{AllByRecursion, list_any}
-use Rattle.std.specs.Int.{int_max}
-use Rattle.std.proofs.lemmas.Int.{ints, fold-int_max_bounds, fold-int_max_reached}
-use Rattle.std.proofs.lemmas.List.Elements.{Contains-append_right}
-use Rattle.std.proofs.lemmas.List.Elements.{All-contains, All-contains_itself, All-from_recursion, All-weaker}
-use Rattle.std.proofs.lemmas.List.Elements.{recursion_from_All}
+use Rattle.rank_blocks.proofs.Cited.{◌≡◌, ◌<◌, Bool, true, false, cond, List, [], ◌∷◌, ◌++◌, map, filter, ◌⊎◌, inl, inr}
+use Rattle.rank_blocks.proofs.Cited.{refl, sym, pos, ◌+ℤ◌, subst, arith, ℤ, ◌≤ℤ◌, Contains, fold, unwrap_or, ◌&&◌}
+use Rattle.rank_blocks.proofs.Cited.{AllByRecursion, list_any, int_max, ints, fold-int_max_bounds, fold-int_max_reached}
+use Rattle.rank_blocks.proofs.Cited.{Contains-append_right, All-contains, All-contains_itself, All-from_recursion}
+use Rattle.rank_blocks.proofs.Cited.{All-weaker, recursion_from_All, greatest, total, IsGreatest}
 use Rattle.std.proofs.lemmas.List.Folds.{Any-from_list_any, list_any-from_Any}
-use Rattle.ghcn_fields.specs.Sorting.{greatest}
-use Rattle.rank_blocks.specs.Blocks.{total}
-use Rattle.rank_blocks.specs.Greatest.{IsGreatest}
 
 -- nothing stands in an empty list
 pub contains-nothing : {X : Type 0} (x : X) → Contains [] x → ⊥
@@ -44,11 +38,7 @@ for_each P xs each = recursion_from_All P xs (All-weaker (Contains xs) P each xs
 pub pick : {X Y : Type 0} (f : X → Y) (Q : X → Type 0) (xs : List X) (y : Y) → AllByRecursion Q xs
     → Contains (map f xs) y → (x : X) × Q x × (f x ≡ y)
 pick f Q [] y all h = absurd (contains-nothing y h)
-pick f Q (x ∷ xs) y all h =
-    elim (contains-cases (f x) y (map f xs) h) [
-      | inl is ↦ (x, all.0, is)
-      | inr there ↦ pick f Q xs y all.1 there
-    ]
+pick f Q (x ∷ xs) y all h = grind (arith, ints, pick f Q xs y all.1, contains-cases)
 
 -- where an element passes a test, one that does stands in the list
 pub any_in : {X : Type 0} (p : X → Bool) (xs : List X) → list_any p xs ≡ true → (x : X) × Contains xs x × (p x ≡ true)
@@ -122,9 +112,7 @@ part-least x v h = grind (arith, ints)
 
 -- a wider test adds no less
 pub part-wider : (t u : Bool) (v : ℤ) → pos 0 ≤ℤ v → (t ≡ true → u ≡ true) → cond t v (pos 0) ≤ℤ cond u v (pos 0)
-part-wider true true v h wider = omega (arith, ints)
-part-wider true false v h wider = absurd (let no = wider refl in cc)
-part-wider false u v h wider = part-least u v h
+part-wider x k v h wider = grind (arith, ints, part-least)
 
 -- no total is below zero where no number is
 pub total-least : {X : Type 0} (f : X → ℤ) (p : X → Bool) (xs : List X) → AllByRecursion (λ x. pos 0 ≤ℤ f x) xs

@@ -1,13 +1,7 @@
 -- Numbers in their order, and what is true of the summaries of every series.
-use Rattle.std.proofs.Common.{◌≡◌, ℕ, zero, suc, drop, ◌-◌, ◌<◌, ◌≤◌, List, [], ◌∷◌, ◌++◌, map, length, get_or, arith}
-use Rattle.std.proofs.Common.{ℤ, pos, ◌≤ℤ◌, ◌<ℤ◌, ◌+ℤ◌, int_cmp, Less}
-use Rattle.std.specs.List.{AllByRecursion}
-use Rattle.std.specs.List.Sorted.{IsStrictlySortedBy}
-use Rattle.std.proofs.lemmas.Int.{ints}
-use Rattle.std.proofs.lemmas.List.Elements.{All-from_recursion, All-get_or}
-use Rattle.rank_blocks.specs.declared.summary.Summary.{Summary}
-use Rattle.rank_blocks.specs.Summaries.{IsPossible, ArePossible}
-use Rattle.rank_scores.proofs.Rising.{all-mapped}
+use Rattle.rank_blocks.proofs.Cited.{◌≡◌, ℕ, zero, suc, drop, ◌-◌, ◌<◌, ◌≤◌, List, [], ◌∷◌, ◌++◌, map, length, get_or}
+use Rattle.rank_blocks.proofs.Cited.{arith, ℤ, pos, ◌≤ℤ◌, ◌<ℤ◌, ◌+ℤ◌, int_cmp, Less, AllByRecursion, IsStrictlySortedBy}
+use Rattle.rank_blocks.proofs.Cited.{ints, All-from_recursion, All-get_or, Summary, IsPossible, ArePossible, all-mapped}
 use Rattle.rank_blocks.proofs.DayValues.{int_lt-true}
 use Rattle.rank_blocks.proofs.Members.{from_each, all-append}
 use Rattle.rank_blocks.proofs.WindowTotals.{AreBehind}
@@ -83,6 +77,5 @@ pub possible-few : (ms : List Summary) → ArePossible ms → length ms ≤ 114_
 possible-few [] h = omega arith
 possible-few (m ∷ ms) h =
     let rise = rises (m ∷ ms) h.by_number 0 (length ms) (omega arith) (omega arith) in
-    let low = h.each.0.low in
     let high = (possible-at (m ∷ ms) (length ms) (omega arith) h).high in
     omega (arith, ints)

@@ -1,19 +1,10 @@
 -- The longest run of days in the blocks of a range, as a loop over the summaries finds it.
-use Rattle.std.proofs.Common.{◌≡◌, ℕ, zero, suc, ◌+◌, ◌*◌, ◌<◌, ◌≤◌, Bool, true, false, List, map, length, inl, inr}
-use Rattle.std.proofs.Common.{refl, sym, ap, ◌∙◌, arith, ℤ, pos, ◌≤ℤ◌, ◌<ℤ◌, ◌+ℤ◌, below_more, Contains}
-use Rattle.std.proofs.lemmas.Int.{ints}
-use Rattle.std.proofs.lemmas.List.Elements.{All-from_recursion, All-get_or, All-from_get_or, recursion_from_All}
-use Rattle.ghcn_fields.specs.Days.{block_of}
-use Rattle.ghcn_series.specs.Series.{Usable}
-use Rattle.rank_scores.specs.declared.spell.Spell.{Spell}
-use Rattle.rank_blocks.specs.declared.runs.Runs.{Runs}
-use Rattle.rank_blocks.specs.declared.summary.Summary.{Summary}
-use Rattle.rank_blocks.specs.declared.range.BlockRange.{BlockRange}
-use Rattle.rank_blocks.specs.Blocks.{block_start}
-use Rattle.rank_blocks.specs.DayRuns.{AreRuns, runs_before, NoneBetween, AllFrom, Continues}
-use Rattle.rank_blocks.specs.Greatest.{IsGreatest, IsRunLength}
-use Rattle.rank_blocks.specs.Reached.{in_range, days_in_range, counts}
-use Rattle.rank_blocks.specs.Summaries.{AreOfBlocks, ArePossible, HasDays}
+use Rattle.rank_blocks.proofs.Cited.{◌≡◌, ℕ, zero, suc, ◌+◌, ◌*◌, ◌<◌, ◌≤◌, Bool, true, false, List, map, length, inl}
+use Rattle.rank_blocks.proofs.Cited.{inr, refl, sym, ap, ◌∙◌, arith, ℤ, pos, ◌≤ℤ◌, ◌<ℤ◌, ◌+ℤ◌, below_more, Contains}
+use Rattle.rank_blocks.proofs.Cited.{ints, All-from_recursion, All-get_or, All-from_get_or, recursion_from_All}
+use Rattle.rank_blocks.proofs.Cited.{block_of, Usable, Spell, Runs, Summary, BlockRange, block_start, AreRuns}
+use Rattle.rank_blocks.proofs.Cited.{runs_before, NoneBetween, AllFrom, Continues, IsGreatest, IsRunLength, in_range}
+use Rattle.rank_blocks.proofs.Cited.{days_in_range, counts, AreOfBlocks, ArePossible, HasDays}
 use Rattle.rank_blocks.proofs.PossibleBlocks.{block_at, no_block, rises}
 use Rattle.rank_blocks.proofs.DayValues.{not_both, between, fails, at_most_or_more, block-holds, block-of_place}
 use Rattle.rank_blocks.proofs.LongestRuns.{runs-none}
@@ -65,7 +56,6 @@ module _ (r : BlockRange) (ms : List Summary) (i : ℕ) (runs : Runs) (far : IsT
         → NoneBetween (kind r k s) runs.next (block_at ms i).number
     none-between k s are d low high = fails (kind r k s d) (λ e.
         let at = block-of_kind r k s ms are d e in
-        let is = at.2 in
         let block = block-holds d in
         elim (at_most_or_more i at.0) [
           | inl later ↦ let rise = rises ms possible.by_number i at.0 later at.1 in absurd (omega (arith, ints))
@@ -79,7 +69,7 @@ module _ (r : BlockRange) (ms : List Summary) (i : ℕ) (runs : Runs) (far : IsT
     told-in new holds continues next room =
         let order = far.ahead i (omega arith) lt holds in
         record {
-          room = let before = far.room in omega arith;
+          room = omega arith;
           before = below_more (λ j. in_range r (block_at ms j).number ≡ true → (block_at ms j).number <ℤ new.next) i
               (λ j earlier in_it. let less = far.before j earlier in_it in omega (arith, ints))
               (λ in_it. omega (arith, ints));
@@ -95,7 +85,7 @@ module _ (r : BlockRange) (ms : List Summary) (i : ℕ) (runs : Runs) (far : IsT
   -- a block that isn't in the range changes nothing
   pub told-out : in_range r (block_at ms i).number ≡ false → IsTold r ms (i + 1) runs
   told-out out = record {
-    room = let before = far.room in omega arith;
+    room = omega arith;
     before = below_more (λ j. in_range r (block_at ms j).number ≡ true → (block_at ms j).number <ℤ runs.next) i
         far.before (λ holds. absurd (not_both _ holds out));
     ahead = λ j later. far.ahead j (omega arith);
@@ -113,11 +103,10 @@ module _ (r : BlockRange) (ms : List Summary) (i : ℕ) (runs : Runs) (far : IsT
         | suc n ↦ λ pass.
             let at = block-of_kind r k s ms are (first +ℤ pos n) (pass n (omega arith)) in
             let less = far.before at.0 (omega (arith, at.1)) at.3 in
-            let is = at.2 in
             let block = block-holds (first +ℤ pos n) in
             told.nowhere_more first (suc n) (omega (arith, ints)) pass
       ] pass in
       record {
         is_one = (runs.longest, told.somewhere.0, refl, told.somewhere.1);
-        is_most = λ y run. let le = most run.0 run.1 run.3 in let is = run.2 in omega (arith, ints);
+        is_most = λ y run. let le = most run.0 run.1 run.3 in omega (arith, ints);
       }

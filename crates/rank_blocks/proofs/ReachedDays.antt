@@ -1,19 +1,9 @@
 -- The days of the blocks of a range.
-use Rattle.std.proofs.Common.{◌≡◌, Bool, true, false, cond, List, [], ◌∷◌, map, filter, Option, Some, None, refl, sym}
-use Rattle.std.proofs.Common.{ap, ◌∙◌, subst, arith, ℤ, ◌&&◌, int_le, Contains, find, option_map, int_eq}
-use Rattle.std.specs.List.{AllByRecursion}
-use Rattle.std.specs.Option.{option_map_or}
-use Rattle.std.proofs.lemmas.Bool.Decides.{Decides-int_eq}
-use Rattle.std.proofs.lemmas.Int.{ints}
-use Rattle.ghcn_fields.specs.Days.{block_of, is_day, first_day, last_day}
-use Rattle.ghcn_series.specs.Series.{DayValue, Usable, value_on}
-use Rattle.rank_query.specs.Asked.{Asked}
-use Rattle.rank_query.specs.Admits.{admits_day, period_holds}
-use Rattle.rank_scores.specs.Candidates.{is_such}
-use Rattle.rank_blocks.specs.declared.summary.Summary.{Summary}
-use Rattle.rank_blocks.specs.Blocks.{is_reached}
-use Rattle.rank_blocks.specs.Greatest.{IsGreatest, IsScore}
-use Rattle.rank_blocks.specs.Summaries.{AreOfBlocks, HasDay}
+use Rattle.rank_blocks.proofs.Cited.{◌≡◌, Bool, true, false, cond, List, [], ◌∷◌, map, filter, Option, Some, None, refl}
+use Rattle.rank_blocks.proofs.Cited.{sym, ap, ◌∙◌, subst, arith, ℤ, ◌&&◌, int_le, Contains, find, option_map, int_eq}
+use Rattle.rank_blocks.proofs.Cited.{AllByRecursion, option_map_or, Decides-int_eq, ints, block_of, is_day}
+use Rattle.rank_blocks.proofs.Cited.{DayValue, Usable, value_on, Asked, admits_day, period_holds, is_such}
+use Rattle.rank_blocks.proofs.Cited.{Summary, is_reached, IsGreatest, IsScore, AreOfBlocks, HasDay}
 use Rattle.rank_blocks.proofs.Members.{itself, of_each, of_kept, pick, in_kept, from_kept}
 use Rattle.rank_blocks.proofs.DayValues.{both_pass, pass_both, int_le-true, le-int_le, block-rises}
 
@@ -38,15 +28,7 @@ module _ (p : ℤ → Bool) (d : ℤ) where
 pub value_on-among : (Q : ℤ → ℤ → Type 0) (days : List DayValue) (d v : ℤ) → AllByRecursion (λ x. Q x.0 x.1) days
     → value_on days d ≡ Some v → Q d v
 value_on-among Q [] d v all e = absurd cc
-value_on-among Q (x ∷ xs) d v all e =
-    elim (int_eq x.0 d) as (λ t. int_eq x.0 d ≡ t → option_map (λ (y : DayValue). y.1)
-    (cond t (Some x) (find (λ y. int_eq y.0 d) xs)) ≡ Some v → Q d v) [
-      | true ↦ λ is h.
-          let day : x.0 ≡ d = (Decides-int_eq x.0 d).0 is in
-          let value : x.1 ≡ v = cc in
-          subst (λ (n : ℤ). Q d n) value (subst (λ (n : ℤ). Q n x.1) day all.0)
-      | false ↦ λ is h. value_on-among Q xs d v all.1 h
-    ] refl e
+value_on-among Q (x ∷ xs) d v all e = grind (arith, ints, value_on-among Q xs d v all.1)
 
 -- a day that has a value is one of the days, with that value
 pub value_on-in : (days : List DayValue) (d v : ℤ) → value_on days d ≡ Some v → Contains days (d, v)
@@ -88,8 +70,7 @@ within_blocks low high d e = grind (arith, ints, both_pass, block-rises, int_le-
 
 -- a day of the calendar and of a period lies in a block of the period
 reached_in : (p : Option (ℤ × ℤ)) (d : ℤ) → (is_day d && period_holds p d) ≡ true → is_reached p (block_of d) ≡ true
-reached_in None d e = within_blocks first_day last_day d (both_pass (is_day d) true e).0
-reached_in (Some p) d e = within_blocks p.0 p.1 d (both_pass (is_day d) (period_holds (Some p) d) e).1
+reached_in x d e = grind (arith, ints, within_blocks, both_pass)
 
 -- an admitted day lies in a block of the period
 pub admitted-reached : (q : Asked) (d : ℤ) → admits_day q d ≡ true → is_reached q.period (block_of d) ≡ true
@@ -122,8 +103,6 @@ greatest-of_blocks f P s ms z are of_z =
           let own = (of_each (HasDay f s.days) ms are.each m.0 m.1).is_most (f x.0.1)
           (in_kept (λ x. f x.1) (λ x. int_eq (block_of x.0) m.0.number) s.days x.0 x.1.0
           ((Decides-int_eq (block_of x.0.0) m.0.number).1 (sym m.2))) in
-          let most = of_z.is_most m.0.day
-          (in_kept (λ m. m.day) (λ m. P m.number) ms m.0 m.1 (ap P m.2 ∙ x.1.1)) in
-          let is = x.2 in
+          let most = of_z.is_most m.0.day (in_kept (λ m. m.day) (λ m. P m.number) ms m.0 m.1 (ap P m.2 ∙ x.1.1)) in
           omega (arith, ints);
     }

@@ -1,23 +1,13 @@
 -- The summaries of a series, block by block.
-use Rattle.std.proofs.Common.{◌≡◌, ℕ, ◌<◌, ◌^◌, true, false, cond, List, [], ◌∷◌, ◌++◌, map, ◌⊎◌, inl, inr, Option}
-use Rattle.std.proofs.Common.{Some, None, refl, sym, ◌∙◌, subst, arith, ℤ, pos, ◌≤ℤ◌, ◌<ℤ◌, ◌+ℤ◌, w32, int_le, Contains}
-use Rattle.std.proofs.Common.{find, option_map, int_cmp}
-use Rattle.std.specs.Int.{trailing_zeros}
-use Rattle.std.specs.List.{AllByRecursion}
-use Rattle.std.specs.List.Sorted.{IsStrictlySortedBy}
-use Rattle.std.proofs.lemmas.Int.{ints, by_lt_z}
-use Rattle.std.proofs.lemmas.List.{map-append}
-use Rattle.std.proofs.lemmas.List.Elements.{Contains-append_left, Contains-push}
-use Rattle.std.proofs.lemmas.Nat.Bits.{bit_at-trailing_zeros}
-use Rattle.ghcn_fields.specs.Days.{block_of, is_day, first_day, last_day, IsBlock}
-use Rattle.ghcn_series.specs.Packed.{AreRising, IsBlockOf, HasNone, next_block}
-use Rattle.ghcn_series.specs.Series.{DayValue, Usable, IsSeries, value_on}
-use Rattle.rank_query.specs.declared.score.Score.{Score}
-use Rattle.rank_blocks.specs.declared.summary.Summary.{Summary}
-use Rattle.rank_blocks.specs.Blocks.{block_start}
-use Rattle.rank_blocks.specs.Summaries.{IsSummary, IsPossible, AreSummariesTo, AreSummariesUpTo, numbers_left}
-use Rattle.rank_blocks.proofs.Members.{from_each, from_both, all-append, contains-first}
-use Rattle.rank_blocks.proofs.Members.{itself, of_each, for_each}
+use Rattle.rank_blocks.proofs.Cited.{◌≡◌, ℕ, ◌<◌, ◌^◌, true, false, cond, List, [], ◌∷◌, ◌++◌, map, ◌⊎◌, inl, inr}
+use Rattle.rank_blocks.proofs.Cited.{Option, Some, None, refl, sym, ◌∙◌, subst, arith, ℤ, pos, ◌≤ℤ◌, ◌<ℤ◌, ◌+ℤ◌, w32}
+use Rattle.rank_blocks.proofs.Cited.{int_le, Contains, find, option_map, int_cmp, trailing_zeros, AllByRecursion}
+use Rattle.rank_blocks.proofs.Cited.{IsStrictlySortedBy, ints, by_lt_z, map-append, Contains-append_left, Contains-push}
+use Rattle.rank_blocks.proofs.Cited.{bit_at-trailing_zeros, block_of, is_day, first_day, last_day, IsBlock, AreRising}
+use Rattle.rank_blocks.proofs.Cited.{IsBlockOf, HasNone, next_block, DayValue, Usable, IsSeries, value_on, Score}
+use Rattle.rank_blocks.proofs.Cited.{Summary, block_start, IsSummary, IsPossible, AreSummariesTo, AreSummariesUpTo}
+use Rattle.rank_blocks.proofs.Cited.{numbers_left}
+use Rattle.rank_blocks.proofs.Members.{from_each, from_both, all-append, contains-first, itself, of_each, for_each}
 use Rattle.rank_blocks.proofs.DayValues.{both_pass, int_le-true, int_le-false, int_le_or_lt, rise-from_by_day}
 use Rattle.rank_blocks.proofs.DayValues.{own-values, block-of_place, block-rises}
 use Rattle.rank_blocks.proofs.PossibleBlocks.{sorted-none, sorted-push}
@@ -42,7 +32,6 @@ read-first score s x rest series split =
     let has : Contains s.days x = subst (λ xs. Contains xs x) (sym split) (contains-first x x rest refl) in
     let within = in_calendar x.0 (days-valid s series x has).0 in
     let low = within.0 in
-    let high = within.1 in
     let All : List DayValue → Type 0 =
     AllByRecursion (λ y. block_of y.0 <ℤ block_of x.0 → Contains [] (block_of y.0)) in
     record {
@@ -52,11 +41,7 @@ read-first score s x rest series split =
       each = tt;
       possible = tt;
       before = tt;
-      all = subst All (sym split) (
-        λ lt. absurd (omega (arith, ints)),
-        from_each (λ y. x.0 <ℤ y.0) (λ y. block_of y.0 <ℤ block_of x.0 → Contains [] (block_of y.0)) rest
-            (λ y later lt. let le = block-rises x.0 y.0 (omega (arith, ints)) in absurd (omega (arith, ints))) rise.0,
-      );
+      all = grind (arith, ints, from_each, block-rises);
       by_number = sorted-none;
     }
 
@@ -70,8 +55,6 @@ block-IsBlock s b word values series fits of_block =
     (trailing_zeros w32 word) lowest.0 lowest.1 in
     let within = in_calendar (block_start b +ℤ pos (trailing_zeros w32 word)) day in
     let same = block-of_place b (trailing_zeros w32 word) lowest.0 in
-    let low = within.0 in
-    let high = within.1 in
     record { low = omega (arith, ints); high = omega (arith, ints) }
 
 -- with the summary of the block that is looked at
@@ -100,16 +83,13 @@ read-more score s n ms m so_far number block is possible =
           ]))
           so_far.all;
       by_number = subst (IsStrictlySortedBy int_cmp) (sym push)
-          (sorted-push (map (λ k. k.number) ms) m.number so_far.by_number
-          (of_numbers (λ k. k <ℤ m.number) ms
-          (from_each (λ k. k.number <ℤ n) (λ k. k.number <ℤ m.number) ms
-          (λ k lt. omega (arith, ints)) so_far.before)));
+          (sorted-push (map (λ k. k.number) ms) m.number so_far.by_number (of_numbers (λ k. k <ℤ m.number) ms
+          (from_each (λ k. k.number <ℤ n) (λ k. k.number <ℤ m.number) ms (λ k lt. omega (arith, ints)) so_far.before)));
     }
 
 -- the next block is that of one of the days, and no day is in a block between
 next-some : (P : DayValue → Type 0) (days : List DayValue) (b k : ℤ) → AreRising days → AllByRecursion P days
-    → next_block days b ≡ Some k
-    → ((x : DayValue) × P x × (block_of x.0 ≡ k) × (b ≤ℤ k)) × AllByRecursion
+    → next_block days b ≡ Some k → ((x : DayValue) × P x × (block_of x.0 ≡ k) × (b ≤ℤ k)) × AllByRecursion
     (λ x. (block_of x.0 <ℤ b) ⊎ (k ≤ℤ block_of x.0)) days
 next-some P [] b k rise all e = absurd cc
 next-some P (x ∷ xs) b k rise all e =
@@ -119,8 +99,7 @@ next-some P (x ∷ xs) b k rise all e =
     × (((block_of x.0 <ℤ b) ⊎ (k ≤ℤ block_of x.0)) × AllByRecursion (λ x. (block_of x.0 <ℤ b) ⊎ (k ≤ℤ block_of x.0))
     xs)) [
       | true ↦ λ h found.
-          let is : block_of x.0 ≡ k = cc in
-          let le = int_le-true b (block_of x.0) h in (
+          let is : block_of x.0 ≡ k = cc in (
             (x, all.0, is, omega (arith, ints)),
             (
               inr (omega (arith, ints)),
@@ -161,9 +140,7 @@ module _ (score : Score) (s : Usable) (n : ℤ) (ms : List Summary) (so_far : Ar
       let is = found.0.2 in
       let own = of_each (λ x. value_on s.days x.0 ≡ Some x.1) s.days (own-values s.days rise) x found.0.1 in
       let within = in_calendar x.0 (days-valid s so_far.series x found.0.1).0 in
-      let low = so_far.low in
-      let high = so_far.high in
-      let later : n <ℤ k = by_lt_z n k (λ lt. lt)
+      let later = by_lt_z n k (λ lt. lt)
       (λ ge. absurd (none-of_block s.days n x none own (is ∙ omega (arith, ints, ge, found.0.3)))) in (
         record {
           series = so_far.series;

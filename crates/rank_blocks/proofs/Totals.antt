@@ -1,16 +1,8 @@
 -- Totals of days, block by block.
-use Rattle.std.proofs.Common.{◌≡◌, ℕ, Bool, false, cond, List, [], ◌∷◌, map, filter, inl, inr, refl, sym, ap, ◌∙◌}
-use Rattle.std.proofs.Common.{arith, ℤ, pos, ◌+ℤ◌, Contains, int_cmp, int_eq, Less}
-use Rattle.std.specs.List.{AllByRecursion}
-use Rattle.std.specs.List.Sorted.{IsStrictlySortedBy}
-use Rattle.std.proofs.lemmas.Bool.Decides.{Decides-int_eq}
-use Rattle.std.proofs.lemmas.Int.{ints}
-use Rattle.ghcn_fields.specs.Days.{block_of}
-use Rattle.ghcn_series.specs.Series.{DayValue, Usable}
-use Rattle.rank_blocks.specs.declared.summary.Summary.{Summary}
-use Rattle.rank_blocks.specs.Blocks.{days_in, total, blocks_total, is_among}
-use Rattle.rank_blocks.specs.Reached.{summaries_total}
-use Rattle.rank_blocks.specs.Summaries.{AreOfBlocks, HasSum}
+use Rattle.rank_blocks.proofs.Cited.{rules, ◌≡◌, ℕ, Bool, false, cond, List, [], ◌∷◌, map, filter, inl, inr, refl, sym}
+use Rattle.rank_blocks.proofs.Cited.{ap, ◌∙◌, arith, ℤ, pos, ◌+ℤ◌, Contains, int_cmp, int_eq, Less, AllByRecursion}
+use Rattle.rank_blocks.proofs.Cited.{IsStrictlySortedBy, ints, block_of, DayValue, Usable, Summary, days_in, total}
+use Rattle.rank_blocks.proofs.Cited.{blocks_total, is_among, summaries_total, AreOfBlocks, HasSum}
 use Rattle.rank_blocks.proofs.Members.{from_each, of_each, contains-cases, total-cons}
 use Rattle.rank_blocks.proofs.DayValues.{lt-int_eq, other-int_eq}
 use Rattle.rank_blocks.proofs.PossibleBlocks.{int_cmp-less}
@@ -50,14 +42,7 @@ module _ (P : ℤ → Bool) (b v : ℤ) (g : ℤ → ℤ) where
   over-added [] sorted h = absurd (let lt = h.1 in omega arith)
   over-added (n ∷ ns) sorted h =
       elim (contains-cases n b ns h) [
-        | inl is ↦
-            let absent =
-            over-absent ns (from_each (λ y. int_cmp n y ≡ Less) (λ y. int_eq b y ≡ false) ns
-            (λ y less. lt-int_eq b y (let lt = int_cmp-less n y less in omega (arith, ints))) sorted.0) in
-            let here = ap (λ (t : Bool). cond t (v +ℤ g n) (g n)) ((Decides-int_eq b n).1 (sym is)) in
-            let part = ap (λ (z : ℤ). cond (P n) z (pos 0)) here ∙ added (P n) v (g n) in
-            let own = ap (λ (k : ℤ). cond (P k) v (pos 0)) is in
-            omega (arith, ints, total-cons more P n ns, total-cons g P n ns, absent)
+        | inl is ↦ search (rules, arith, ints, over-absent, from_each, lt-int_eq, int_cmp-less, added, total-cons)
         | inr there ↦
             let lt = int_cmp-less n b (of_each (λ y. int_cmp n y ≡ Less) ns sorted.0 b there) in
             let other = other-int_eq b n (λ e. omega (arith, ints, e)) in
@@ -78,8 +63,7 @@ total-by_blocks : (P : ℤ → Bool) (ns : List ℤ) (days : List DayValue) → 
 total-by_blocks P ns [] sorted h = sym (total-zeros (filter P ns))
 total-by_blocks P ns (x ∷ xs) sorted h =
     let g : ℤ → ℤ = λ n. total (map (λ y. y.1) (days_in xs n)) in
-    let rest : total (map (λ y. y.1) (filter (λ x. P (block_of x.0)) xs)) ≡ total (map g (filter P ns)) =
-    total-by_blocks P ns xs sorted h.1 in
+    let rest = total-by_blocks P ns xs sorted h.1 in
     let added = over-added P (block_of x.0) x.1 g ns sorted h.0 in
     let fronts =
     ap total (map-same (λ n. total (map (λ y. y.1) (days_in (x ∷ xs) n))) (more P (block_of x.0) x.1 g)

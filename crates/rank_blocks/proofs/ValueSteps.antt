@@ -1,18 +1,11 @@
 -- What is made of the values of a block, step by step.
-use Rattle.std.proofs.Common.{◌≡◌, ◌≢◌, ℕ, zero, suc, ◌+◌, ◌-◌, ◌*◌, ◌%◌, ◌<◌, ◌≤◌, ◌^◌, Bool, true, false, min, ◌⊎◌}
-use Rattle.std.proofs.Common.{inl, inr, List, length, get_or, set, refl, sym, ap, ◌∙◌, arith, ℤ, pos, below_more, w32}
-use Rattle.std.proofs.Common.{◌==◌, bit_and, bit_or, not, rules}
-use Rattle.std.specs.Int.{bit_at, bit_not, from_bool, int_max, int_min}
-use Rattle.std.specs.Option.{option_map_or}
+use Rattle.rank_blocks.proofs.Cited.{◌≡◌, ◌≢◌, ℕ, zero, suc, ◌+◌, ◌-◌, ◌*◌, ◌%◌, ◌<◌, ◌≤◌, ◌^◌, Bool, true, false, ◌⊎◌}
+use Rattle.rank_blocks.proofs.Cited.{inl, inr, List, length, get_or, set, refl, sym, ap, ◌∙◌, arith, ℤ, pos, below_more}
+use Rattle.rank_blocks.proofs.Cited.{w32, ◌==◌, bit_and, bit_or, not, rules, bit_at, bit_not, from_bool, int_max}
+use Rattle.rank_blocks.proofs.Cited.{int_min, get_or-set_other, bit_at-lt, bit_at-zero, bit_at_and, bit_at_not}
+use Rattle.rank_blocks.proofs.Cited.{bit_at_or, bit_at_set_same, bit_at_set_other, bit_at_ones, IsGreatest, HasZeros}
+use Rattle.rank_blocks.proofs.Cited.{IsScoreAmong, IsUsableScore, StandsFor, HasUsableAlone, IsPlacesOf, IsWordOf, ints}
 use Rattle.std.proofs.lemmas.Grind.{get_or-set_at}
-use Rattle.std.proofs.lemmas.List.{get_or-set_other}
-use Rattle.std.proofs.lemmas.Nat.Bits.{bit_at-lt, bit_at-zero, bit_at_and, bit_at_not, bit_at_or, bit_at_set_same}
-use Rattle.std.proofs.lemmas.Nat.Bits.{bit_at_set_other, bit_at_ones}
-use Rattle.ghcn_series.specs.Packed.{if_so}
-use Rattle.rank_blocks.specs.Greatest.{IsGreatest}
-use Rattle.rank_blocks.specs.Values.{HasZeros, IsScoreAmong, IsUsableScore, StandsFor, HasUsableAlone, IsPlacesOf}
-use Rattle.rank_blocks.specs.Values.{IsWordOf}
-use Rattle.std.proofs.lemmas.Int.{ints}
 
 -- what is true of two numbers is true of the greater
 pub max-one : (P : ℤ → Type 0) (a b r : ℤ) → r ≡ int_max a b → P a → P b → P r

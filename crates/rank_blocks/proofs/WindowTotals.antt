@@ -1,10 +1,6 @@
 -- The totals of so many blocks in a row.
-use Rattle.std.proofs.Common.{◌≡◌, ℕ, true, false, List, [], ◌∷◌, refl, ◌∙◌, arith, ℤ, pos, ◌≤ℤ◌, ◌<ℤ◌, ◌+ℤ◌}
-use Rattle.std.specs.List.{AllByRecursion}
-use Rattle.std.proofs.lemmas.Int.{ints}
-use Rattle.rank_blocks.specs.declared.summary.Summary.{Summary}
-use Rattle.rank_blocks.specs.Blocks.{is_among}
-use Rattle.rank_blocks.specs.Reached.{summaries_total}
+use Rattle.rank_blocks.proofs.Cited.{◌≡◌, ℕ, true, false, List, [], ◌∷◌, refl, arith, ℤ, pos, ◌≤ℤ◌, ◌<ℤ◌, ◌+ℤ◌}
+use Rattle.rank_blocks.proofs.Cited.{AllByRecursion, ints, Summary, is_among, summaries_total}
 use Rattle.rank_blocks.proofs.DayValues.{both_pass, pass_both, int_le-true, int_lt-true, le-int_le, lt-int_lt, fails}
 use Rattle.rank_blocks.proofs.Members.{total-cons}
 
@@ -41,5 +37,4 @@ total-out m ms w first e = grind (arith, ints, total-cons)
 pub total-behind : (ms : List Summary) (w : ℕ) (first : ℤ) → AllByRecursion (λ m. (first +ℤ pos w) ≤ℤ m.number) ms
     → summaries_total ms w first ≡ pos 0
 total-behind [] w first h = refl
-total-behind (m ∷ ms) w first h = total-out m ms w first (behind-among first w m.number h.0)
-    ∙ total-behind ms w first h.1
+total-behind (m ∷ ms) w first h = grind (arith, ints, total-behind ms w first h.1, total-out, behind-among)

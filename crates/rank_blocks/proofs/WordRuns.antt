@@ -1,16 +1,12 @@
 -- The runs of the bits of a word.
-use Rattle.std.proofs.Common.{◌≡◌, ℕ, zero, suc, ◌+◌, ◌-◌, ◌*◌, ◌/◌, ◌%◌, ◌<◌, ◌≤◌, ◌^◌, true, min, ◌⊎◌, inl, inr, refl}
-use Rattle.std.proofs.Common.{sym, ap, ◌∙◌, arith, w32, ◌==◌, bit_and}
-use Rattle.std.specs.Int.{bit_at, bit_not, leading_ones, trailing_ones, trailing_zeros}
+use Rattle.rank_blocks.proofs.Cited.{◌≡◌, ℕ, zero, suc, ◌+◌, ◌-◌, ◌*◌, ◌/◌, ◌%◌, ◌<◌, ◌≤◌, ◌^◌, true, min, ◌⊎◌, inl}
+use Rattle.rank_blocks.proofs.Cited.{inr, refl, sym, ap, ◌∙◌, arith, w32, ◌==◌, bit_and, bit_at, bit_not, leading_ones}
+use Rattle.rank_blocks.proofs.Cited.{trailing_ones, trailing_zeros, bit_at-zero, bit_at_and, bit_at_above}
+use Rattle.rank_blocks.proofs.Cited.{bit_at_cat_low, bit_at_cat_high, bit_at_not, bit_at_ones, bit_at-trailing_ones}
+use Rattle.rank_blocks.proofs.Cited.{bit_at-trailing_zeros, pow-succ', has_bit, AllPass, ComeFirst, ComeLast, ints}
 use Rattle.std.proofs.lemmas.Nat.{leading_top}
-use Rattle.std.proofs.lemmas.Nat.Bits.{bit_at-lt, bit_at-zero, bit_at_and, bit_at_above, bit_at_cat_low}
-use Rattle.std.proofs.lemmas.Nat.Bits.{bit_at_cat_high, bit_at_not, bit_at_ones, bit_at-trailing_ones}
-use Rattle.std.proofs.lemmas.Nat.Bits.{bit_at-trailing_zeros}
-use Rattle.std.proofs.Math.Nat.{pow-succ'}
 use Rattle.ghcn_series.proofs.LastDays.{highest-bit}
-use Rattle.rank_blocks.specs.DayRuns.{has_bit, AllPass, ComeFirst, ComeLast}
 use Rattle.rank_blocks.proofs.DayValues.{at_most_or_more}
-use Rattle.std.proofs.lemmas.Int.{ints}
 
 -- a bit that is set passes, and one that isn't fails
 set-is : (word j b : ℕ) → bit_at word j ≡ b → has_bit word j ≡ (b == 1)
@@ -21,8 +17,7 @@ moved-up : (w k : ℕ) → k + 1 < 32 → bit_at (w * 2 ^ 1 % 2 ^ 32) (k + 1) �
 moved-up w k lt =
     let whole : (w * 2 ^ 1 / 2 ^ 32) * 2 ^ 32 + w * 2 ^ 1 % 2 ^ 32 ≡ w * 2 ^ 1 + 0 = omega arith in
     sym (bit_at_cat_low (w * 2 ^ 1 / 2 ^ 32) 32 (w * 2 ^ 1 % 2 ^ 32) (k + 1) lt)
-    ∙ ap (λ (n : ℕ). bit_at n (k + 1)) whole
-    ∙ bit_at_cat_high w 1 0 (k + 1) (omega arith) (omega arith)
+    ∙ ap (λ (n : ℕ). bit_at n (k + 1)) whole ∙ bit_at_cat_high w 1 0 (k + 1) (omega arith) (omega arith)
     ∙ ap (bit_at w) {x = k + 1 - 1} {y = k} (omega arith)
 
 -- a word that is moved up has no lowest bit
@@ -48,12 +43,9 @@ module _ (word n ends : ℕ) (are : AreEnds word n ends) (fits : ends < 2 ^ 32) 
 
   -- one bit more ends where a bit remains
   next-some : (k : ℕ) → k < 32 → bit_at next k ≡ 1 → (n + 1 ≤ k) × AllPass (has_bit word) (k - (n + 1)) (k + 1)
-  next-some zero lt bit =
-      absurd (omega (arith, bit_at_and ends (ends * 2 ^ 1 % 2 ^ 32) 0, lowest-empty ends))
+  next-some zero lt bit = absurd (omega (arith, bit_at_and ends (ends * 2 ^ 1 % 2 ^ 32) 0, lowest-empty ends))
   next-some (suc k) lt bit =
       let both = next-bit (suc k) k (omega arith) lt in
-      let here = bit_at-lt ends (suc k) in
-      let before = bit_at-lt ends k in
       let first = are.some k (omega arith) (omega arith) in
       let second = are.some (suc k) lt (omega arith) in (
         omega (arith, first.0),
@@ -105,18 +97,11 @@ full-last = refl
 pub first-ones : (word : ℕ) → word < 2 ^ 32 → ComeFirst (has_bit word) 32 (trailing_ones w32 word)
 first-ones word fits =
     elim (full-or_not word fits) [
-      | inl full ↦
-          let is : trailing_ones w32 word ≡ 32 = ap (trailing_ones w32) full ∙ full-first in
-          record {
-            within = omega arith;
-            pass = λ k low high. full-set word k full (omega arith);
-            ends =
-                λ some. absurd (omega arith);
-          }
+      | inl full ↦ grind (arith, ints, full-first, full-set)
       | inr other ↦
           let lowest = bit_at-trailing_ones w32 word other in
           record {
-            within = (let lt = lowest.0 in omega arith);
+            within = (omega arith);
             pass = λ k low high. set-is word k 1 (lowest.2 k high);
             ends = λ some. set-is word (trailing_ones w32 word) 0 lowest.1;
           }
@@ -144,12 +129,10 @@ last-ones word fits =
             pass = λ from at k low high.
                 let above = bit_at_above unset (suc j) k top.3 (omega arith) in
                 let of_not = bit_at_not w32 word k fits high in
-                let bit = bit_at-lt word k in
                 set-is word k 1 (omega arith);
             begins = λ k at.
                 let here : k ≡ j = omega arith in
                 let of_not = bit_at_not w32 word k fits (omega arith) in
-                let bit = bit_at-lt word k in
                 let set = ap (bit_at unset) here ∙ highest in
                 set-is word k 0 (omega arith);
           }

@@ -11,7 +11,8 @@ use Rattle.ghcn_series.specs.Series.{DayValue, Usable, IsSeries}
 use Rattle.rank_query.specs.declared.score.Score.{Score}
 use Rattle.rank_query.specs.declared.score.Score.TheVariants.{Highest, Lowest, Sum, Dry, Wet, Hot}
 use Rattle.rank_query.specs.Asked.{Asked, score_element}
-use Rattle.rank_scores.specs.Candidates.{is_dry, is_wet, is_hot, is_such, admitted}
+use Rattle.rank_scores.specs.Candidates.{is_such, admitted, test_of}
+use Rattle.rank_scores.specs.declared.spell.Spell.TheVariants as spells
 use Rattle.rank_scores.specs.Runs.{longest_run}
 use Rattle.rank_blocks.specs.Blocks.{is_reached, days_reached, blocks_total}
 
@@ -54,9 +55,9 @@ abbrev pub bound_for : Score → Asked → Usable → ℤ
 bound_for (Highest e) q s = greatest_by (λ v. v) (days_reached q s)
 bound_for (Lowest e) q s = greatest_by neg_ℤ (days_reached q s)
 bound_for (Sum n e) q s = sum_bound q s n
-bound_for Dry q s = spell_bound is_dry (days_reached q s)
-bound_for Wet q s = spell_bound is_wet (days_reached q s)
-bound_for (Hot t) q s = blocks_bound (is_hot t) (days_reached q s)
+bound_for Dry q s = spell_bound (test_of spells.Dry) (days_reached q s)
+bound_for Wet q s = spell_bound (test_of spells.Wet) (days_reached q s)
+bound_for (Hot t) q s = blocks_bound (test_of (spells.Hot t)) (days_reached q s)
 
 -- the bound of a series under a query
 abbrev pub bound : Asked → Usable → ℤ

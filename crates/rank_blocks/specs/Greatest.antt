@@ -6,7 +6,8 @@ use Rattle.ghcn_series.specs.Series.{DayValue, Usable}
 use Rattle.rank_query.specs.declared.score.Score.{Score}
 use Rattle.rank_query.specs.declared.score.Score.TheVariants.{Highest, Lowest, Sum, Dry, Wet, Hot}
 use Rattle.rank_query.specs.Asked.{Asked}
-use Rattle.rank_scores.specs.Candidates.{is_dry, is_wet, is_hot, is_such}
+use Rattle.rank_scores.specs.Candidates.{is_such, test_of}
+use Rattle.rank_scores.specs.declared.spell.Spell.TheVariants as spells
 use Rattle.rank_scores.specs.Morsels.{IsAbove}
 use Rattle.rank_blocks.specs.Blocks.{is_reached, days_reached, blocks_total}
 use Rattle.rank_blocks.specs.Bounds.{blocks_of_window, holds_such, bound}
@@ -47,9 +48,9 @@ abbrev pub IsBoundFor : Score → Asked → Usable → ℤ → Type 0
 IsBoundFor (Highest e) q s z = IsGreatest (IsScore (λ v. v) (days_reached q s)) z
 IsBoundFor (Lowest e) q s z = IsGreatest (IsScore neg_ℤ (days_reached q s)) z
 IsBoundFor (Sum n e) q s z = IsSumBound q s n z
-IsBoundFor Dry q s z = IsGreatest (IsRunLength (is_such is_dry (days_reached q s))) z
-IsBoundFor Wet q s z = IsGreatest (IsRunLength (is_such is_wet (days_reached q s))) z
-IsBoundFor (Hot t) q s z = IsBlocksBound (holds_such (is_hot t) (days_reached q s)) z
+IsBoundFor Dry q s z = IsGreatest (IsRunLength (is_such (test_of spells.Dry) (days_reached q s))) z
+IsBoundFor Wet q s z = IsGreatest (IsRunLength (is_such (test_of spells.Wet) (days_reached q s))) z
+IsBoundFor (Hot t) q s z = IsBlocksBound (holds_such (test_of (spells.Hot t)) (days_reached q s)) z
 
 -- z is the bound of the series under the query
 abbrev pub IsBound : Asked → Usable → ℤ → Type 0

@@ -3,7 +3,7 @@ use Rattle.std.specs.Prelude.{◌≡◌, ℕ, Bool, true, ◌&&◌, List, map, f
 use Rattle.ghcn_fields.specs.Days.{block_of}
 use Rattle.ghcn_series.specs.Series.{DayValue}
 use Rattle.rank_query.specs.Asked.{Asked}
-use Rattle.rank_scores.specs.Candidates.{is_dry, is_wet, is_hot, is_such}
+use Rattle.rank_scores.specs.Candidates.{is_such, test_of}
 use Rattle.rank_scores.specs.declared.spell.Spell.{Spell}
 use Rattle.rank_scores.specs.declared.spell.Spell.TheVariants.{Dry, Wet, Hot}
 use Rattle.rank_blocks.specs.declared.range.BlockRange.{BlockRange}
@@ -40,9 +40,9 @@ summaries_in r ms = filter (λ m. in_range r m.number) ms
 
 -- the day counts for a spell: it is dry or wet, or its block holds a hot day, since no summary has which days are hot
 abbrev pub counts : Spell → List DayValue → ℤ → Bool
-counts Dry days d = is_such is_dry days d
-counts Wet days d = is_such is_wet days d
-counts (Hot t) days d = holds_such (is_hot t) days (block_of d)
+counts Dry days d = is_such (test_of Dry) days d
+counts Wet days d = is_such (test_of Wet) days d
+counts (Hot t) days d = holds_such (test_of (Hot t)) days (block_of d)
 
 -- the total of w blocks from one on
 abbrev pub summaries_total : List Summary → ℕ → ℤ → ℤ

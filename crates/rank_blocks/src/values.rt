@@ -2,7 +2,8 @@
 //! day is usable, and a day that isn't has the value 0.
 
 ghost use Rattle.std.specs.Prelude.{◌≡◌, ◌<◌, ℕ, neg_ℤ};
-ghost use Rattle.rank_scores.specs.Candidates.{is_dry, is_wet};
+ghost use Rattle.rank_scores.specs.Candidates.{test_of};
+ghost use Rattle.rank_scores.specs.declared.spell.Spell.TheVariants as spells;
 ghost use Rattle.rank_blocks.specs.Blocks.{total};
 ghost use Rattle.rank_blocks.specs.DayRuns.{has_bit};
 ghost use Rattle.rank_blocks.specs.Greatest.{IsGreatest};
@@ -91,21 +92,21 @@ pub(crate) fn total(values: &[i32; 32]) -> i64
 
 /// The usable days with less than 1 mm (ETCCDI), as bits of a word.
 pub(crate) fn dry_days(word: u32, values: &[i32; 32]) -> u32
-    ensures { of_block.IsWordOf is_dry word values.now result }
+    ensures { of_block.IsWordOf (test_of spells.Dry) word values.now result }
 {
     dry_places(values) & word
 }
 
 /// The usable days with at least 1 mm (ETCCDI), as bits of a word.
 pub(crate) fn wet_days(word: u32, values: &[i32; 32]) -> u32
-    ensures { of_block.IsWordOf is_wet word values.now result }
+    ensures { of_block.IsWordOf (test_of spells.Wet) word values.now result }
 {
     !dry_places(values) & word
 }
 
 /// The places of the numbers that are less than 1 mm, as bits of a word.
 fn dry_places(values: &[i32; 32]) -> u32
-    ensures { of_block.IsPlacesOf is_dry values.now result }
+    ensures { of_block.IsPlacesOf (test_of spells.Dry) values.now result }
 {
     let mut dry: u32 = 0;
     for (place, value) in values.iter().enumerate() {

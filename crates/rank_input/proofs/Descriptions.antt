@@ -1,9 +1,8 @@
 -- What an intake of files to describe takes, and what it answers at its end.
 use Rattle.std.proofs.Common.{◌≡◌, List, ℕ, refl, subst}
-use Rattle.std.specs.Prelude.{Result, Ok, Option, Some, None, IfSome}
+use Rattle.std.specs.Prelude.{Result, Ok}
 use Rattle.ghcn_files.specs.declared.station.Station.{Station}
 use Rattle.ghcn_files.specs.Listed.{listed}
-use Rattle.ghcn_series.specs.declared.counts.Foreign.{Foreign}
 use Rattle.ghcn_series.specs.declared.fault.DataFault.{DataFault}
 use Rattle.ghcn_series.specs.declared.fault.DataFault.TheVariants as daily
 use Rattle.ghcn_series.specs.DailyFaults.{is_memory as is_data_memory}
@@ -18,7 +17,7 @@ use Rattle.rank_input.specs.declared.description.DescriptionIntake.{DescriptionI
 use Rattle.rank_input.specs.Input.{of_data, is_memory, read_files}
 use Rattle.rank_input.specs.Takes.{Input, TakesBytes, TakesFileEnd}
 use Rattle.rank_input.specs.Described.{HasTaken, HasDescriber, IsDescribing, fed_for}
-use Rattle.rank_input.specs.Described.{AreForeignOf, DescribesInput, RefusesInput}
+use Rattle.rank_input.specs.Described.{DescribesInput, RefusesInput}
 
 -- an intake with a describer describes what it was given
 describer_of : (t : DescriptionIntake) (d : FileDescriber) (i : Input) → t.read ≡ Ok d → HasTaken t i → HasDescriber i d
@@ -48,14 +47,6 @@ describer_ends old d d' is ends = record {
         lists = has.lists;
         fed = ends.holds (fed_for has.stations i.files) has.fed;
       };
-}
-
--- the foreign files of a describer are those of the intake
-pub describer_foreign : (t : DescriptionIntake) (d : FileDescriber) (foreign : Option Foreign) → t.read ≡ Ok d
-    → IfSome foreign (describing.AreForeignOf d) → IfSome foreign (AreForeignOf t)
-describer_foreign t d None is are = tt
-describer_foreign t d (Some foreign) is are = record {
-  is = λ i taken. let has = describer_of t d i is taken in are.is (fed_for has.stations i.files) has.fed;
 }
 
 -- the refusal of the daily files is that of all files

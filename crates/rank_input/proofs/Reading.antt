@@ -1,6 +1,6 @@
 -- What an intake takes, and what it answers at its end.
 use Rattle.std.proofs.Common.{◌≡◌, List, ℕ, true, refl, subst}
-use Rattle.std.specs.Prelude.{Result, Ok, Option, Some, None, IfSome}
+use Rattle.std.specs.Prelude.{Result, Ok}
 use Rattle.ghcn_files.specs.declared.station.Station.{Station}
 use Rattle.ghcn_files.specs.Listed.{listed}
 use Rattle.ghcn_series.specs.declared.fault.DataFault.{DataFault}
@@ -57,10 +57,9 @@ reader_ends old q r r' count is ends = record {
 }
 
 -- the foreign files of a reader are those of the intake
-pub reader_foreign : (t : Intake) (q : Asked) (r : DataReader) (foreign : Option Foreign) → t.read ≡ Ok (q, r)
-    → IfSome foreign (pieces.AreForeignOf r) → IfSome foreign (AreForeignOf t)
-reader_foreign t q r None is are = tt
-reader_foreign t q r (Some foreign) is are = record {
+pub reader_foreign : (t : Intake) (q : Asked) (r : DataReader) (foreign : Foreign) → t.read ≡ Ok (q, r)
+    → pieces.AreForeignOf r foreign → AreForeignOf t foreign
+reader_foreign t q r foreign is are = record {
   is = λ i taken.
       let reading = reading_of t q r i is taken in
       are.is (fed_for q reading.stations i.files) reading.fed;

@@ -3,9 +3,7 @@ use Rattle.std.specs.Prelude.{◌≡◌, ℕ, List, Result, Ok, Err}
 use Rattle.ghcn_files.specs.declared.element.Keep.TheVariants.{Nothing}
 use Rattle.ghcn_files.specs.declared.station.Station.{Station}
 use Rattle.ghcn_files.specs.Listed.{listed}
-use Rattle.ghcn_series.specs.declared.counts.Foreign.{Foreign}
 use Rattle.ghcn_series.specs.Fed.{Files, Fed}
-use Rattle.ghcn_series.specs.LineKinds.{foreign_of}
 use Rattle.ghcn_description.specs.declared.counts.Description.{Description}
 use Rattle.ghcn_description.specs.declared.files.FileDescriber.{FileDescriber}
 use Rattle.ghcn_description.specs.Describing.{Describes, HasFed}
@@ -42,10 +40,6 @@ HasTaken t i = IsDescribing t.read i
 -- an intake was given something
 abbrev pub HasTakenSome : DescriptionIntake → Type 0
 HasTakenSome t = takes.HasTakenSome HasTaken t
-
--- these are the foreign files among those that an intake was given, and that were ended
-pub record AreForeignOf (t : DescriptionIntake) (foreign : Foreign) : Type 0 where
-  pub is : (i : Input) → HasTaken t i → foreign ≡ foreign_of i.files.ended
 
 -- a station list and daily files have no fault, and are described so
 pub record IsDescribed (stations : List ℕ) (files : List (List ℕ)) (d : Description) : Type 0 where

@@ -55,9 +55,9 @@ HasTakenSome t = takes.HasTakenSome HasTaken t
 abbrev pub IsTrueOf : Intake → (List ℕ → List ℕ → List (List ℕ) → Type 0) → Type 0
 IsTrueOf t P = takes.IsTrueOf HasTaken t P
 
--- these are the foreign files among those that an intake was given, and that were ended
-pub record AreForeignOf (t : Intake) (foreign : Foreign) : Type 0 where
-  pub is : (i : Input) → HasTaken t i → foreign ≡ foreign_of i.files.ended
+-- these are the foreign files among the daily files that an intake was given
+abbrev pub AreForeignOf : Intake → Foreign → Type 0
+AreForeignOf t foreign = IsTrueOf t (λ query stations files. foreign ≡ foreign_of files)
 
 -- an input has no fault and asks this, and these are what the query needs of the data that it holds
 pub record Needs (query stations : List ℕ) (files : List (List ℕ)) (asked : Asked) (held : Contents) : Type 0 where

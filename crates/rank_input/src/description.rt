@@ -1,15 +1,14 @@
 //! The station list and the daily files that are described, taken piece by piece.
 
-ghost use Rattle.std.specs.Prelude.{ℕ, List, [], IfOk, IfErr, IfSome};
+ghost use Rattle.std.specs.Prelude.{ℕ, List, [], IfOk, IfErr};
 ghost use Rattle.rank_input.specs.Takes.{given};
 ghost use Rattle.rank_input.specs.Described.{HasTaken, HasTakenSome, IsDescribing};
-ghost use Rattle.rank_input.specs.Described.{AreForeignOf, DescribesInput, RefusesInput};
+ghost use Rattle.rank_input.specs.Described.{DescribesInput, RefusesInput};
 
 use crate::fault::Fault;
 use crate::taker::Taker;
 use ghcn_description::{Description, FileDescriber};
 use ghcn_files::Stations;
-use ghcn_series::Foreign;
 use std::alloc::Global;
 
 /// What was given so far of files that are to be described. The first fault is kept, what comes
@@ -27,17 +26,6 @@ impl DescriptionIntake {
     {
         DescriptionIntake {
             read: open(alloc, stations),
-        }
-    }
-
-    /// The foreign files among the daily files that were ended, unless a fault was found.
-    pub fn foreign(&self) -> Option<Foreign>
-        requires { HasTakenSome self.now }
-        ensures { IfSome result (AreForeignOf self.now) }
-    {
-        match &self.read {
-            Ok(describer) => describer.foreign(),
-            Err(_) => None,
         }
     }
 

@@ -1,6 +1,6 @@
 //! What a run is asked and the texts that it is given, taken piece by piece.
 
-ghost use Rattle.std.specs.Prelude.{[], IfOk, IfErr, IfSome, map};
+ghost use Rattle.std.specs.Prelude.{[], IfOk, IfErr, map};
 ghost use Rattle.rank_input.specs.Takes.{given};
 ghost use Rattle.rank_input.specs.Taken.{HasTaken, HasTakenSome, IsRead};
 ghost use Rattle.rank_input.specs.Taken.{AreForeignOf, HoldsInput, RefusesInput};
@@ -11,6 +11,16 @@ use ghcn_files::Stations;
 use ghcn_series::{Data, DataReader, Foreign};
 use rank_query::Query;
 use std::alloc::Global;
+
+/// What a run is asked, and what was read of all that it was given.
+#[derive(Drop)]
+pub struct TakenInput {
+    pub query: Query,
+    /// What the query needs of the data.
+    pub held: Data,
+    /// Which of the daily files are foreign.
+    pub foreign: Foreign,
+}
 
 /// What a run was given so far. It never answers a fault while it is given more: the first one is
 /// kept, what comes behind it is taken and passed over, and the end tells it.
@@ -46,28 +56,22 @@ impl Intake {
         intake
     }
 
-    /// The foreign files among the daily files that were ended, unless a fault was found.
-    pub fn foreign(&self) -> Option<Foreign>
-        requires { HasTakenSome self.now }
-        ensures { IfSome result (AreForeignOf self.now) }
-    {
-        match &self.read {
-            Ok((_, reader)) => reader.foreign(),
-            Err(_) => None,
-        }
-    }
-
-    /// The query and what it needs of the data of all that was given, or the first fault in the order:
-    /// query, stations, number of daily files, files and lines in order. The current file is ended
-    /// where it has a byte.
-    pub fn finish(self) -> Result<(Query, Data), Fault>
+    /// The query, what it needs of the data of all that was given, and the foreign files; or the first
+    /// fault in the order: query, stations, number of daily files, files and lines in order. The
+    /// current file is ended where it has a byte.
+    pub fn finish(self) -> Result<TakenInput, Fault>
         requires { HasTakenSome self }
-        ensures ok { IfOk result (λ read. HoldsInput self read.0 read.1) }
+        ensures ok { IfOk result (λ taken. HoldsInput self taken.query taken.held) }
+        ensures foreign { IfOk result (λ taken. AreForeignOf self taken.foreign) }
         ensures err { IfErr result (RefusesInput self) }
     {
         let (query, reader) = self.read?;
-        let held = reader.finish()?;
-        Ok((query, held))
+        let (held, foreign) = reader.finish()?;
+        Ok(TakenInput {
+            query,
+            held,
+            foreign,
+        })
     }
 }
 

@@ -13,6 +13,6 @@ mod taker;
 pub use archive::{Archive, System, feed, feed_files, piece_room, read_whole};
 pub use description::DescriptionIntake;
 pub use fault::Fault;
-pub use intake::Intake;
+pub use intake::{Intake, TakenInput};
 pub use limits::{check_words, workers_for};
 pub use taker::Taker;

@@ -20,7 +20,7 @@ use Rattle.ghcn_fields.proofs.Ordered as ordered
 use Rattle.rank_query.specs.Asked.{Asked, IsAsked}
 use Rattle.rank_scores.specs.Cut.{Filed, IsDataOf, morsel_ids, CutByFiles}
 use Rattle.rank_scores.specs.Morsels.{id_comes_first}
-use Rattle.rank_papers.specs.Report.{IsReport, report_text, WithStation}
+use Rattle.rank_papers.specs.Report.{IsReport, report_text}
 use Rattle.rank_papers.specs.ReportLines.{IsReported, IsReportOf, IsRow, SaysRightReport, read_report}
 use Rattle.rank_papers.specs.Certificate.{Entry, IsCertified, IsCertificate, SaysRight}
 use Rattle.rank_papers.specs.Certificate.{certificate_text}
@@ -175,7 +175,8 @@ module _ (q : Asked) (ws : List WithData) (right : AllByRecursion (IsRightPart q
 -- ---- one report
 
 -- rows of the same candidates with their listed stations are the same
-same_rows : (stations : List Station) (xs ys : List WithStation) → map (λ row. row.0) xs ≡ map (λ row. row.0) ys
+same_rows : (stations : List Station) (xs ys : List (Candidate × Station))
+    → map (λ row. row.0) xs ≡ map (λ row. row.0) ys
     → AllByRecursion (λ row. find (is_station_of row.0.id) stations ≡ Some row.1) xs
     → AllByRecursion (λ row. find (is_station_of row.0.id) stations ≡ Some row.1) ys → xs ≡ ys
 same_rows stations [] [] e h k = refl
@@ -183,12 +184,12 @@ same_rows stations [] (y ∷ ys) e h k = absurd cc
 same_rows stations (x ∷ xs) [] e h k = absurd cc
 same_rows stations (x ∷ xs) (y ∷ ys) e h k =
     let first : x.0 ≡ y.0 = cc in
-    let rest : map (λ (row : WithStation). row.0) xs ≡ map (λ (row : WithStation). row.0) ys = cc in
+    let rest : map (λ (row : Candidate × Station). row.0) xs ≡ map (λ (row : Candidate × Station). row.0) ys = cc in
     let own : find (is_station_of x.0.id) stations ≡ Some x.1 = h.0 in
     let other : find (is_station_of x.0.id) stations ≡ Some y.1 =
     ap (λ (c : Candidate). find (is_station_of c.id) stations) first ∙ k.0 in
     let second : x.1 ≡ y.1 = cc in
-    ap (λ (l : List WithStation). x ∷ l) (same_rows stations xs ys rest h.1 k.1)
+    ap (λ (l : List (Candidate × Station)). x ∷ l) (same_rows stations xs ys rest h.1 k.1)
     ∙ (λ i. (first i, second i) ∷ ys)
 
 -- so two right reports are the same

@@ -16,7 +16,9 @@ use Rattle.rank_query.specs.Asked.{Asked, IsAsked, is_score, is_fall}
 use Rattle.rank_query.specs.Admits.{admits_day, period_holds, season_holds}
 use Rattle.rank_scores.specs.declared.candidate.Candidate.{Candidate}
 use Rattle.rank_scores.specs.Runs.{run_from, run_len, begins_run}
-use Rattle.rank_scores.specs.Candidates.{Shape, Days, Windows, Spells, shape, plus, window_total, admitted_among, is_dry, is_wet, is_hot, is_such, begun, candidate, candidates}
+use Rattle.rank_scores.specs.Candidates.{Shape, Days, Windows, Spells, shape, plus, window_total, is_such, begun, candidate, candidates, test_of}
+use Rattle.rank_scores.specs.Stretches.{admitted_among}
+use Rattle.rank_scores.specs.declared.spell.Spell.TheVariants as spells
 
 -- a candidate begins and ends on a day
 abbrev pub IsOfDays : Candidate → Type 0
@@ -173,9 +175,9 @@ module _ (q : Asked) (days : List DayValue) where
   asked_ends (Highest e) right x day = day_ends (λ v. v) x day
   asked_ends (Lowest e) right x day = day_ends neg_ℤ x day
   asked_ends (Sum n e) right x day = sum_ends n (and_parts (is_within 1 366 n) (is_fall e) right).0 x
-  asked_ends Dry right x day = spell_ends is_dry x
-  asked_ends Wet right x day = spell_ends is_wet x
-  asked_ends (Hot t) right x day = spell_ends (is_hot t) x
+  asked_ends Dry right x day = spell_ends (test_of spells.Dry) x
+  asked_ends Wet right x day = spell_ends (test_of spells.Wet) x
+  asked_ends (Hot t) right x day = spell_ends (test_of (spells.Hot t)) x
 
   -- what begins on some days is of days
   each_begun : (id : StationId) (sh : Shape) (xs : List DayValue) → AllByRecursion (λ x. is_day x.0 ≡ true) xs

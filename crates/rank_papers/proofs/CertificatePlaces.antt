@@ -11,7 +11,7 @@ use Rattle.rank_query.specs.Asked.{Asked, IsAsked}
 use Rattle.rank_sched.proofs.Lists.{each-append}
 use Rattle.rank_papers.specs.declared.counted.Counted.{Counted}
 use Rattle.rank_papers.specs.Report.{query_line}
-use Rattle.rank_papers.specs.Certificate.{Certified, title_line, kth_line, counted, entry_line, end_line, certificate_text, IsVersion, IsCertified}
+use Rattle.rank_papers.specs.Certificate.{Certified, title_line, kth_line, counted, entry_line, end_line, certificate_text, IsCertified}
 use Rattle.rank_papers.specs.Lines.{paper_lines, query_in}
 use Rattle.rank_papers.specs.Places.{IsCertificateText}
 use Rattle.rank_papers.specs.CertificateLines.{kth_in, entry_in, and_then_entries, nothing_behind, entry_or_end, entries_in, entries_of, with_entries, behind_query, behind_title, version_in, certified_lines, read_certificate}
@@ -38,7 +38,7 @@ abbrev empty : ℕ → Asked → Certified
 empty w q = record { version = w; query = q; kth = None; entries = []; counts = [] }
 
 -- it can be, where its query can be asked
-empty_can_be : (w : ℕ) (q : Asked) → IsVersion w → IsAsked q → IsCertified (empty w q)
+empty_can_be : (w : ℕ) (q : Asked) → ((w ≡ 1) ⊎ (w ≡ 2)) → IsAsked q → IsCertified (empty w q)
 empty_can_be w q (inl e) asked = record { asked = asked; kth = tt; entries = tt; counts = inl (e, refl) }
 empty_can_be w q (inr e) asked = record { asked = asked; kth = tt; entries = tt; counts = inr (e, tt) }
 
@@ -49,14 +49,14 @@ other_title e =
     absurd (omega (arith, bytes))
 
 -- so a first line tells the version
-same_title : (v w : ℕ) → IsVersion v → IsVersion w → title_line v ≡ title_line w → v ≡ w
+same_title : (v w : ℕ) → ((v ≡ 1) ⊎ (v ≡ 2)) → ((w ≡ 1) ⊎ (w ≡ 2)) → title_line v ≡ title_line w → v ≡ w
 same_title v w (inl a) (inl b) e = a ∙ sym b
 same_title v w (inl a) (inr b) e = absurd (other_title (ap title_line (sym a) ∙ e ∙ ap title_line b))
 same_title v w (inr a) (inl b) e = absurd (other_title (sym (ap title_line (sym a) ∙ e ∙ ap title_line b)))
 same_title v w (inr a) (inr b) e = a ∙ sym b
 
 -- the version of a certificate that can be
-version_of : (s : Certified) → IsCertified s → IsVersion s.version
+version_of : (s : Certified) → IsCertified s → ((s.version ≡ 1) ⊎ (s.version ≡ 2))
 version_of s is = has_version s.version s.entries s.counts is.counts
 
 -- ---- entries
@@ -96,7 +96,7 @@ nothing_after w N n (x ∷ es) (v ∷ vs) l more e =
     nothing_after w N n es vs l more (tails (entry_line w v) (entry_line w x)
     (map (entry_line w) vs ++ end_line N ∷ []) (map (entry_line w) es ++ end_line n ∷ l ∷ more) e)
 
-module _ (w : ℕ) (known : IsVersion w) (q : Asked) (asked : IsAsked q) (k : Option ℤ)
+module _ (w : ℕ) (known : ((w ≡ 1) ⊎ (w ≡ 2))) (q : Asked) (asked : IsAsked q) (k : Option ℤ)
     (fits : IfSome k (FitsSigned w64)) where
   -- the lines before an end line
   abbrev head : List Counted → Lines
@@ -253,7 +253,7 @@ module _ (w : ℕ) (known : IsVersion w) (q : Asked) (asked : IsAsked q) (k : Op
 
 -- ---- the lines before them
 
-module _ (w : ℕ) (known : IsVersion w) (q : Asked) (asked : IsAsked q) where
+module _ (w : ℕ) (known : ((w ≡ 1) ⊎ (w ≡ 2))) (q : Asked) (asked : IsAsked q) where
   -- what stands behind the query's line
   behind_query_bad : (ls : Lines) (m : ℕ) → behind_query w q ls ≡ Err m
       → IsBadAt (title_line w ∷ query_line q ∷ ls) m
@@ -301,7 +301,7 @@ module _ (w : ℕ) (known : IsVersion w) (q : Asked) (asked : IsAsked q) where
           subst (λ (x : List ℕ). IsBadAt (title_line w ∷ query_line q ∷ x ∷ ls) m) (sym own.1)
           (entries_bad w known q asked k own.0 ls [] 0 m refl tt (entries_from k (entries_in w 0 ls) g))
 
-module _ (w : ℕ) (known : IsVersion w) where
+module _ (w : ℕ) (known : ((w ≡ 1) ⊎ (w ≡ 2))) where
   -- a title begins a certificate
   title_starts : Starts (title_line w ∷ [])
   title_starts = record {

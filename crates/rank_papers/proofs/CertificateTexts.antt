@@ -9,7 +9,7 @@ use Rattle.std.proofs.lemmas.Int.{ints}
 use Rattle.std.proofs.lemmas.List.Sums.{take_while-cons}
 use Rattle.ghcn_fields.specs.Bytes.{same_bytes}
 use Rattle.ghcn_fields.specs.Numbers.{natural, up_to}
-use Rattle.ghcn_fields.specs.NumberTexts.{whole}
+use Rattle.std.specs.Fmt.{signed_decimal}
 use Rattle.ghcn_fields.proofs.Decimals.{up_to-fits}
 use Rattle.ghcn_files.specs.Ids.{is_visible}
 use Rattle.ghcn_files.specs.StationLines.{is_printable}
@@ -19,7 +19,7 @@ use Rattle.rank_query.proofs.CanonicalTexts.{canonical}
 use Rattle.rank_papers.specs.declared.counted.Counted.{Counted}
 use Rattle.rank_papers.specs.Report.{text_line, query_line}
 use Rattle.rank_papers.specs.ReportLines.{first_word}
-use Rattle.rank_papers.specs.Certificate.{Entry, Certified, title_line, kth_text, kth_line, counted, has_count, count_text, entry_line, end_line, certificate_text, AreCounts, IsCertified, IsCertificateOf}
+use Rattle.rank_papers.specs.Certificate.{Entry, Certified, title_line, kth_line, counted, has_count, entry_line, end_line, certificate_text, AreCounts, IsCertified, IsCertificateOf}
 use Rattle.rank_papers.specs.Lines.{paper_lines, number_in}
 use Rattle.rank_papers.specs.CertificateLines.{kth_in, kth_word, entry_with, behind_id, entry_in_columns, behind_word, count_in, with_count, counted_in_columns, entry_in, and_then_entries, nothing_behind, entry_or_end, entries_in, entries_of, counts_in, with_entries, behind_query, behind_title, version_in, certified_lines, read_certificate}
 use Rattle.rank_papers.specs.Laws.{CertificatesAreRead}
@@ -40,6 +40,14 @@ written v =
     title_line v.version ∷ query_line v.query ∷ kth_line v.kth
     ∷ (map (entry_line v.version) (counted v.entries v.counts) ++ end_line (length v.entries) ∷ [])
 
+-- the word of a k-th score, or of none
+abbrev kth_text : Option ℤ → List ℕ
+kth_text kth = option_map_or signed_decimal kth (codes "none")
+
+-- a count behind its blank, where there is one
+abbrev count_text : Bool → ℕ → List ℕ
+count_text has n = cond has (32 ∷ decimal n) []
+
 -- the word of an entry
 abbrev word_of : Bool → List ℕ
 word_of skipped = cond skipped (codes "skip") (codes "scan")
@@ -56,15 +64,15 @@ count_printable false n = refl
 
 -- what stands in an entry's line can be printed
 entry_printable : (w : ℕ) (l : Counted) → IsCounted w l → list_all is_printable (join_with_byte 32
-    (word_of l.entry.skipped ∷ l.entry.id.0 ∷ (whole l.entry.bound ++ count_text (has_count w l.entry) l.count) ∷ []))
-    ≡ true
+    (word_of l.entry.skipped ∷ l.entry.id.0
+    ∷ (signed_decimal l.entry.bound ++ count_text (has_count w l.entry) l.count) ∷ [])) ≡ true
 entry_printable w l is =
     let e : Entry = l.entry in
     let id = and_parts _ (list_all is_visible e.id.0) is.entry.id in
-    let tail : List ℕ = whole e.bound ++ count_text (has_count w e) l.count in
+    let tail : List ℕ = signed_decimal e.bound ++ count_text (has_count w e) l.count in
     printable-append (word_of e.skipped) (32 ∷ (e.id.0 ++ 32 ∷ tail)) (word_printable e.skipped)
     (printable-append e.id.0 (32 ∷ tail) (visible_text e.id.0 id.1)
-    (printable-append (whole e.bound) (count_text (has_count w e) l.count) (whole_printable e.bound)
+    (printable-append (signed_decimal e.bound) (count_text (has_count w e) l.count) (whole_printable e.bound)
     (count_printable (has_count w e) l.count)))
 
 -- entries and an end line are cut into their lines
@@ -76,7 +84,7 @@ lines-entries w [] n h =
 lines-entries w (l ∷ ls) n h =
     ap paper_lines (append_assoc (entry_line w l) (flat_map (entry_line w) ls) (end_line n))
     ∙ lines-of_fields (word_of l.entry.skipped ∷ l.entry.id.0
-    ∷ (whole l.entry.bound ++ count_text (has_count w l.entry) l.count) ∷ [])
+    ∷ (signed_decimal l.entry.bound ++ count_text (has_count w l.entry) l.count) ∷ [])
     (flat_map (entry_line w) ls ++ end_line n) (entry_printable w l h.0)
     ∙ ap (λ (xs : List (List ℕ)). entry_line w l ∷ xs) (lines-entries w ls n h.1)
 
@@ -119,11 +127,11 @@ lines-written v is =
 kth_word-text : (k : Option ℤ) → IfSome k (FitsSigned w64) → kth_word (kth_text k) ≡ Some k
 kth_word-text None h = refl
 kth_word-text (Some z) h =
-    let number : number_in (whole z) ≡ Some z = number_in-whole z (is_i64-fits z h) in
-    elim (same_bytes (whole z) (codes "none")) as (λ b. same_bytes (whole z) (codes "none") ≡ b
-    → cond b (Some None) (option_map (λ y. Some y) (number_in (whole z))) ≡ Some (Some z)) [
+    let number : number_in (signed_decimal z) ≡ Some z = number_in-whole z (is_i64-fits z h) in
+    elim (same_bytes (signed_decimal z) (codes "none")) as (λ b. same_bytes (signed_decimal z) (codes "none") ≡ b
+    → cond b (Some None) (option_map (λ y. Some y) (number_in (signed_decimal z))) ≡ Some (Some z)) [
       | true ↦ λ e. absurd (let none : number_in (codes "none") ≡ Some z =
-          ap number_in (sym ((bytes_decides (whole z) (codes "none")).0 e)) ∙ number in cc)
+          ap number_in (sym ((bytes_decides (signed_decimal z) (codes "none")).0 e)) ∙ number in cc)
       | false ↦ λ e. ap (option_map (λ y. Some y)) number
     ] refl
 
@@ -189,7 +197,7 @@ low_below : (n : ℕ) → FitsSigned w64 (negsuc n) → suc n < 2 ^ 64
 low_below n h = grind (arith, ints)
 
 -- so a whole number has no blank
-whole_plain : (z : ℤ) → FitsSigned w64 z → list_all no_blank (whole z) ≡ true
+whole_plain : (z : ℤ) → FitsSigned w64 z → list_all no_blank (signed_decimal z) ≡ true
 whole_plain (pos n) h = decimal_plain n (low n h)
 whole_plain (negsuc n) h = decimal_plain (suc n) (low_below n h)
 
@@ -229,14 +237,14 @@ entry_in-line w l is =
     let four : length (word_of e.skipped) ≡ 4 = word_long e.skipped in
     let eleven : length e.id.0 ≡ 11 = id_long e.id.0 is.entry.id in
     let has : Bool = has_count w e in
-    let field : List ℕ = whole e.bound ++ count_text has l.count in
+    let field : List ℕ = signed_decimal e.bound ++ count_text has l.count in
     let read : List ℕ → List ℕ → List ℕ → Option Entry =
     λ x i n. option_map_or (entry_with x i) (number_in n) None in
-    let plain : list_all no_blank (whole e.bound) ≡ true = whole_plain e.bound is.entry.bound in
+    let plain : list_all no_blank (signed_decimal e.bound) ≡ true = whole_plain e.bound is.entry.bound in
     let behind : behind_id (entry_line w l) ≡ field = third_word (word_of e.skipped) e.id.0 field four eleven in
-    let bound : first_word (behind_id (entry_line w l)) ≡ whole e.bound =
-    ap first_word behind ∙ bound_first has l.count (whole e.bound) plain in
-    let number : number_in (whole e.bound) ≡ Some e.bound =
+    let bound : first_word (behind_id (entry_line w l)) ≡ signed_decimal e.bound =
+    ap first_word behind ∙ bound_first has l.count (signed_decimal e.bound) plain in
+    let number : number_in (signed_decimal e.bound) ≡ Some e.bound =
     number_in-whole e.bound (is_i64-fits e.bound is.entry.bound) in
     let number_at : List ℕ = first_word (behind_id (entry_line w l)) in
     let id_at : List ℕ = slice_range (entry_line w l) 5 16 in
@@ -257,7 +265,7 @@ entry_in-line w l is =
     let count : count_in has (behind_word (behind_id (entry_line w l))) ≡ Some l.count =
     ap (λ (f : List ℕ). count_in has (drop (length (first_word (behind_id (entry_line w l))) + 1) f)) behind
     ∙ ap (λ (x : List ℕ). count_in has (drop (length x + 1) field)) bound
-    ∙ count_read has l.count (whole e.bound) is.few is.none in
+    ∙ count_read has l.count (signed_decimal e.bound) is.few is.none in
     exactly-from (entry_line w) (counted_in_columns w (entry_line w l)) l (
     ap (λ (o : Option Entry). option_map_or (with_count w rest) o None) entry
     ∙ ap (option_map (λ (n : ℕ). record { entry = e; count = n })) count)
@@ -267,7 +275,7 @@ first_byte : (w : ℕ) (l : Counted) → slice_index_or (entry_line w l) 0 0 ≡
 first_byte w l = by l.entry.skipped
   where
     by : (b : Bool) → slice_index_or (text_line (cond b (codes "skip") (codes "scan") ∷ l.entry.id.0
-        ∷ (whole l.entry.bound ++ count_text (has_count w l.entry) l.count) ∷ [])) 0 0 ≡ 115
+        ∷ (signed_decimal l.entry.bound ++ count_text (has_count w l.entry) l.count) ∷ [])) 0 0 ≡ 115
     by true = refl
     by false = refl
 

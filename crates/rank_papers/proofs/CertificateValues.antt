@@ -1,5 +1,5 @@
 -- What is read as a certificate is the text of what it says.
-use Rattle.std.proofs.Common.{◌≡◌, inl, inr, ℕ, suc, ◌+◌, ◌-◌, ◌≤◌, Bool, true, false, cond, List, [], ◌∷◌, ◌++◌, length, take, Option, Some, None, Result, Ok, Err, refl, sym, ap, ◌∙◌, subst, append_assoc, append-nil, arith, FitsSigned, w64}
+use Rattle.std.proofs.Common.{◌≡◌, ◌⊎◌, inl, inr, ℕ, suc, ◌+◌, ◌-◌, ◌≤◌, Bool, true, false, cond, List, [], ◌∷◌, ◌++◌, length, take, Option, Some, None, Result, Ok, Err, refl, sym, ap, ◌∙◌, subst, append_assoc, append-nil, arith, FitsSigned, w64}
 use Rattle.std.specs.Prelude.{ℤ, codes, slice_range, nat_le, IfSome, IfOk}
 use Rattle.std.specs.List.{flat_map, AllByRecursion}
 use Rattle.std.specs.Option.{option_map_or, option_map}
@@ -8,13 +8,13 @@ use Rattle.std.proofs.lemmas.Bool.{leb-true}
 use Rattle.std.proofs.lemmas.List.{length-map}
 use Rattle.ghcn_fields.specs.Bytes.{same_bytes}
 use Rattle.ghcn_fields.specs.Numbers.{natural, signed_by, up_to}
-use Rattle.ghcn_fields.specs.NumberTexts.{whole}
+use Rattle.std.specs.Fmt.{signed_decimal}
 use Rattle.ghcn_files.specs.Ids.{is_id}
 use Rattle.rank_query.specs.Asked.{Asked, IsAsked}
 use Rattle.rank_papers.specs.declared.counted.Counted.{Counted}
 use Rattle.rank_papers.specs.Report.{query_line}
 use Rattle.rank_papers.specs.ReportLines.{first_word}
-use Rattle.rank_papers.specs.Certificate.{Entry, Certified, title_line, kth_line, counted, has_count, entry_line, end_line, certificate_text, IsEntry, AreCounts, IsVersion, IsCertificateOf}
+use Rattle.rank_papers.specs.Certificate.{Entry, Certified, title_line, kth_line, counted, has_count, entry_line, end_line, certificate_text, IsEntry, AreCounts, IsCertificateOf}
 use Rattle.rank_papers.specs.Lines.{paper_lines, exactly, number_in, query_in, query_of_text}
 use Rattle.rank_papers.specs.CertificateLines.{kth_in, kth_word, entry_with, behind_id, entry_in_columns, behind_word, count_in, with_count, counted_in_columns, entry_in, and_then_entries, nothing_behind, entry_or_end, entries_in, entries_of, counts_in, with_entries, behind_query, behind_title, version_in, certified_lines, read_certificate}
 use Rattle.rank_papers.proofs.LineValues.{joined, joined-lines, exactly-some, in_i64-some, option-ok, query_in-is}
@@ -24,7 +24,7 @@ use Rattle.rank_papers.proofs.Counts.{IsCounted, lines_back, each_entry_of, coun
 
 -- a number that was read is inside 64 bits
 pub number_in-fits : (field : List ℕ) (z : ℤ) → number_in field ≡ Some z → FitsSigned w64 z
-number_in-fits field z e = in_i64-some (exactly whole field (signed_by natural field)) z e
+number_in-fits field z e = in_i64-some (exactly signed_decimal field (signed_by natural field)) z e
 
 -- a score that was read
 option_some : (o : Option ℤ) (k : Option ℤ) → option_map (λ z. Some z) o ≡ Some k → ((z : ℤ) → o ≡ Some z
@@ -177,15 +177,15 @@ with-some w q s (Ok ls) v h = (ls, refl, cc)
 with-some w q s (Err n) v h = absurd cc
 
 -- a version that is read is one, and its first line is the one it was read of
-pub version_in-is : (line : List ℕ) (w : ℕ) → version_in line ≡ Some w → IsVersion w × (line ≡ title_line w)
+pub version_in-is : (line : List ℕ) (w : ℕ) → version_in line ≡ Some w → ((w ≡ 1) ⊎ (w ≡ 2)) × (line ≡ title_line w)
 version_in-is line w h = elim (same_bytes line (title_line 1)) as (λ b. same_bytes line (title_line 1) ≡ b
     → cond b (Some 1) (cond (same_bytes line (title_line 2)) (Some 2) None) ≡ Some w
-    → IsVersion w × (line ≡ title_line w)) [
+    → ((w ≡ 1) ⊎ (w ≡ 2)) × (line ≡ title_line w)) [
       | true ↦ λ s f.
           let same : 1 ≡ w = cc in
           (inl (sym same), (bytes_decides line (title_line 1)).0 s ∙ ap title_line same)
       | false ↦ λ s f. elim (same_bytes line (title_line 2)) as (λ b. same_bytes line (title_line 2) ≡ b
-          → cond b (Some 2) None ≡ Some w → IsVersion w × (line ≡ title_line w)) [
+          → cond b (Some 2) None ≡ Some w → ((w ≡ 1) ⊎ (w ≡ 2)) × (line ≡ title_line w)) [
             | true ↦ λ t g.
                 let same : 2 ≡ w = cc in
                 (inr (sym same), (bytes_decides line (title_line 2)).0 t ∙ ap title_line same)

@@ -1,10 +1,10 @@
 -- Entries with their counts, taken together and apart.
-use Rattle.std.proofs.Common.{◌≡◌, inl, inr, ℕ, ◌≤◌, Bool, true, false, cond, not, List, [], ◌∷◌, ◌++◌, length, map, refl, sym, ap, ◌∙◌, subst, arith, suc}
+use Rattle.std.proofs.Common.{◌≡◌, ◌⊎◌, inl, inr, ℕ, ◌≤◌, Bool, true, false, cond, not, List, [], ◌∷◌, ◌++◌, length, map, refl, sym, ap, ◌∙◌, subst, arith, suc}
 use Rattle.std.specs.Prelude.{◌==◌, ◌&&◌}
 use Rattle.std.specs.List.{AllByRecursion, AllZip}
 use Rattle.rank_scores.specs.declared.candidate.Candidate.{Candidate}
 use Rattle.rank_papers.specs.declared.counted.Counted.{Counted}
-use Rattle.rank_papers.specs.Certificate.{Entry, counted, has_count, count_of, IsEntry, IsCount, AreCounts, IsVersion}
+use Rattle.rank_papers.specs.Certificate.{Entry, counted, has_count, count_of, IsEntry, IsCount, AreCounts}
 use Rattle.rank_papers.specs.CertificateLines.{entries_of, counts_in}
 
 -- what a line of a version can say: an entry and a count that can be, and 0 where the line has no count
@@ -140,7 +140,7 @@ zip_counts (l ∷ ls) h = (
 )
 
 -- the counts of lines that can be are those of their version
-pub counts_can : (w : ℕ) (ls : List Counted) → IsVersion w → AllByRecursion (IsCounted w) ls
+pub counts_can : (w : ℕ) (ls : List Counted) → ((w ≡ 1) ⊎ (w ≡ 2)) → AllByRecursion (IsCounted w) ls
     → AreCounts w (entries_of ls) (counts_in w ls)
 counts_can w ls (inl e) h = inl (e, ap (λ (v : ℕ). counts_in v ls) e)
 counts_can w ls (inr e) h = inr (
@@ -150,6 +150,6 @@ counts_can w ls (inr e) h = inr (
 )
 
 -- counts are those of a version
-pub has_version : (w : ℕ) (es : List Entry) (ns : List ℕ) → AreCounts w es ns → IsVersion w
+pub has_version : (w : ℕ) (es : List Entry) (ns : List ℕ) → AreCounts w es ns → ((w ≡ 1) ⊎ (w ≡ 2))
 has_version w es ns (inl h) = inl h.0
 has_version w es ns (inr h) = inr h.0

@@ -6,7 +6,8 @@ use Rattle.std.specs.List.{enumerate_from}
 use Rattle.std.proofs.lemmas.List.{take_more, length-map, map-append, length-take}
 use Rattle.rank_query.specs.Asked.{Asked}
 use Rattle.rank_papers.specs.declared.paper.Row.{Row}
-use Rattle.rank_papers.specs.Report.{Named, rows_text, text_line, row_fields, end_fields, query_line, report_text}
+use Rattle.rank_papers.specs.Report.{Named, text_line, row_fields, end_fields, query_line, report_text}
+use Rattle.rank_papers.proofs.RowText.{rows_text}
 use Rattle.rank_papers.specs.ReportLines.{named_in}
 use Rattle.rank_papers.proofs.ReportRows.{rows_text-push}
 

@@ -31,3 +31,6 @@ pub mod ReportFields
 pub mod OneElement
 pub mod Answered
 pub mod GivenRows
+pub mod BestOfQuery
+pub mod FoundPapers
+pub mod SeriesOfQuery

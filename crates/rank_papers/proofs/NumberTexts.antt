@@ -8,7 +8,7 @@ use Rattle.std.proofs.lemmas.Bool.{and_parts}
 use Rattle.std.proofs.lemmas.Bool.Decides.{nat_tests}
 use Rattle.std.proofs.lemmas.Int.{ints}
 use Rattle.ghcn_fields.specs.Numbers.{natural, signed_by, with_sign}
-use Rattle.ghcn_fields.specs.NumberTexts.{whole}
+use Rattle.std.specs.Fmt.{signed_decimal}
 use Rattle.ghcn_fields.proofs.Digits.{natural-from}
 use Rattle.rank_query.proofs.PrintedWords.{decimal_numeral}
 use Rattle.rank_papers.specs.Lines.{is_i64, in_i64, number_in}
@@ -39,7 +39,7 @@ magnitude-below : (n : ℕ) → is_i64 (negsuc n) ≡ true → suc n < 2 ^ 64
 magnitude-below n h = grind (arith, ints)
 
 -- a number is read of its text, with or without a minus
-signed-whole : (z : ℤ) → is_i64 z ≡ true → signed_by natural (whole z) ≡ Some z
+signed-whole : (z : ℤ) → is_i64 z ≡ true → signed_by natural (signed_decimal z) ≡ Some z
 signed-whole (pos n) h =
     let fits = magnitude n h in
     let numeral = decimal_numeral n fits in
@@ -48,7 +48,7 @@ signed-whole (pos n) h =
 signed-whole (negsuc n) h = ap (option_map (with_sign true)) (natural-decimal (suc n) (magnitude-below n h))
 
 -- the text of a number inside 64 bits is read as it
-pub number_in-whole : (z : ℤ) → is_i64 z ≡ true → number_in (whole z) ≡ Some z
+pub number_in-whole : (z : ℤ) → is_i64 z ≡ true → number_in (signed_decimal z) ≡ Some z
 number_in-whole z h =
-    ap in_i64 (exactly-from whole (signed_by natural (whole z)) z (signed-whole z h))
+    ap in_i64 (exactly-from signed_decimal (signed_by natural (signed_decimal z)) z (signed-whole z h))
     ∙ ap (λ (b : Bool). cond b (Some z) None) h

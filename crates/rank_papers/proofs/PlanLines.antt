@@ -67,7 +67,7 @@ module _ {A B : Type 0} (R : A → B → Type 0) (f : A → A → Bool) (g : B �
 -- ---- series by their IDs
 
 -- the order of series by ID
-abbrev id_cmp : Usable → Usable → Ordering
+abbrev pub id_cmp : Usable → Usable → Ordering
 id_cmp = on (λ s. s.id.0) (slice_cmp nat_cmp)
 
 -- a series whose ID stands before another's, or is the same
@@ -79,15 +79,15 @@ abbrev pub same_station : Usable → Usable → Bool
 same_station a b = same_id a.id b.id
 
 -- which of two series is named first makes no difference
-same_station-symm : (a b : Usable) → same_station a b ≡ same_station b a
+pub same_station-symm : (a b : Usable) → same_station a b ≡ same_station b a
 same_station-symm a b = nat_list_eq_equiv.symm (a.id.0) (b.id.0)
 
 -- the order by ID is total
-id_total : IsTotalOrder id_cmp
+pub id_total : IsTotalOrder id_cmp
 id_total = on_total (λ (s : Usable). s.id.0) nat_list_cmp_total
 
 -- series that tie are of one station
-series_tied : (a b : Usable) → id_cmp a b ≡ Equal → same_station a b ≡ true
+pub series_tied : (a b : Usable) → id_cmp a b ≡ Equal → same_station a b ≡ true
 series_tied a b e = sym (is_eq-slice_cmp (a.id.0) (b.id.0)) ∙ ap is_eq e
 
 -- the series of a morsel
@@ -106,7 +106,8 @@ unfolding IsDistinct
 no_series = tt
 
 -- morsels of different stations have series of different stations
-distinct_series : (ms : List Morsel) → IsDistinct of_one_station ms → IsDistinct same_station (map series_of_morsel ms)
+pub distinct_series : (ms : List Morsel) → IsDistinct of_one_station ms
+    → IsDistinct same_station (map series_of_morsel ms)
 distinct_series [] d = no_series
 distinct_series (m ∷ ms) d =
     IsDistinct-cons same_station m.series (map series_of_morsel ms)
@@ -114,7 +115,7 @@ distinct_series (m ∷ ms) d =
     (distinct_series ms (IsDistinct-tail of_one_station m ms d))
 
 -- measured series are the series
-series-measured : (q : Asked) (ss : List Usable) → map series_of_morsel (map (measured q) ss) ≡ ss
+pub series-measured : (q : Asked) (ss : List Usable) → map series_of_morsel (map (measured q) ss) ≡ ss
 series-measured q [] = refl
 series-measured q (s ∷ ss) = ap (λ (l : List Usable). s ∷ l) (series-measured q ss)
 

@@ -11,7 +11,8 @@ use Rattle.ghcn_files.specs.Listed.{is_station_of}
 use Rattle.rank_query.specs.Asked.{Asked}
 use Rattle.rank_scores.specs.declared.candidate.Candidate.{Candidate}
 use Rattle.rank_scores.specs.QueryCandidates.{AreOfListed}
-use Rattle.rank_papers.specs.Report.{WithStation, Named, named, trimmed, with_stations, with_station, rows_of_best, rows_text, text_line, row_fields, end_fields, query_line, text_of_best, IsReportOfBest}
+use Rattle.rank_papers.specs.Report.{Named, named, trimmed, with_stations, with_station, rows_of_best, text_line, row_fields, end_fields, query_line, text_of_best, IsReportOfBest}
+use Rattle.rank_papers.proofs.RowText.{rows_text}
 
 -- a number before each of two lists
 enumerate_from-append : {X : Type 0} (n : ℕ) (xs ys : List X) →
@@ -36,7 +37,7 @@ rows_of_best-push : (stations : List Station) (cs : List Candidate) (c : Candida
     find (is_station_of c.id) stations ≡ Some s →
     rows_of_best stations (cs ++ c ∷ []) ≡ rows_of_best stations cs ++ (c, trimmed s.name) ∷ []
 rows_of_best-push stations cs c s e =
-    let front : List WithStation = with_stations stations cs in
+    let front : List (Candidate × Station) = with_stations stations cs in
     ap (map named) (filter_map-append (with_station stations) cs (c ∷ []))
     ∙ ap (λ (o : Option Station). map named (front ++ cons_option (option_map (λ station. (c, station)) o) [])) e
     ∙ map-append named front ((c, s) ∷ [])
@@ -106,8 +107,9 @@ module _ (stations : List Station) where
   pub length-rows_of_best : (cs : List Candidate) → AreOfListed stations cs →
       length (rows_of_best stations cs) ≡ length cs
   length-rows_of_best cs h =
-      let rows : List WithStation = with_stations stations cs in
-      length-map rows named ∙ sym (length-map rows (λ (row : WithStation). row.0)) ∙ ap length (candidates_are cs h)
+      let rows : List (Candidate × Station) = with_stations stations cs in
+      length-map rows named ∙ sym (length-map rows (λ (row : Candidate × Station). row.0))
+      ∙ ap length (candidates_are cs h)
 
 -- ---- the report
 

@@ -19,7 +19,8 @@ use Rattle.rank_query.proofs.PrintedWords.{date_word}
 use Rattle.rank_papers.specs.declared.measure.Measure.{Measure}
 use Rattle.rank_papers.specs.declared.measure.Measure.TheVariants.{Degrees, Millimetres, WholeMillimetres, Days}
 use Rattle.rank_papers.specs.Values.{measure_of, unit_text, value_text, value_of}
-use Rattle.rank_papers.specs.Report.{Named, field_unless_empty, row_fields, end_fields, query_line, rows_text, report_text}
+use Rattle.rank_papers.specs.Report.{field_unless_empty, Named, row_fields, end_fields, query_line, report_text}
+use Rattle.rank_papers.proofs.RowText.{rows_text}
 use Rattle.rank_papers.specs.Lines.{paper_lines}
 use Rattle.rank_papers.specs.ReportLines.{Reported, IsReported, IsReportOf, IsRow, ends_in_print, row_line, row_in, report_end, row_behind, and_then_rows, no_more_lines, row_or_end, rows_in, with_rows, reported_lines, read_report}
 use Rattle.rank_papers.specs.Laws.{ReportsAreRead}

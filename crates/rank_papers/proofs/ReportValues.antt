@@ -14,7 +14,8 @@ use Rattle.ghcn_fields.proofs.DateTexts.{read_date-law}
 use Rattle.ghcn_files.specs.Ids.{is_id}
 use Rattle.rank_query.specs.Asked.{Asked, IsAsked}
 use Rattle.rank_papers.specs.Values.{measure_of, unit_text, value_of}
-use Rattle.rank_papers.specs.Report.{Named, text_line, query_line, rows_text}
+use Rattle.rank_papers.specs.Report.{Named, text_line, query_line}
+use Rattle.rank_papers.proofs.RowText.{rows_text}
 use Rattle.rank_papers.specs.Lines.{paper_lines, query_in}
 use Rattle.rank_papers.specs.ReportLines.{Reported, IsReportOf, IsRow, is_name, row_line, score_in, row_with, first_word, row_in_columns, row_in, report_end, row_behind, and_then_rows, no_more_lines, row_or_end, rows_in, with_rows, behind_report_title, reported_lines, read_report}
 use Rattle.rank_papers.proofs.LineValues.{joined, joined-lines, exactly-some, in_i64-some, option-ok, cond-ok, query_in-is}

@@ -1,5 +1,5 @@
 -- A right certificate is a text of the form that says what is right.
-use Rattle.std.proofs.Common.{◌≡◌, inl, inr, ℕ, zero, suc, ◌≤◌, min, take, map, subst, Bool, true, false, cond, not, List, [], ◌∷◌, length, Option, Some, None, refl, sym, ap, ◌∙◌, arith, ℤ, FitsSigned, w64}
+use Rattle.std.proofs.Common.{◌≡◌, ◌⊎◌, inl, inr, ℕ, zero, suc, ◌≤◌, min, take, map, subst, Bool, true, false, cond, not, List, [], ◌∷◌, length, Option, Some, None, refl, sym, ap, ◌∙◌, arith, ℤ, FitsSigned, w64}
 use Rattle.std.specs.Prelude.{◌==◌, ◌||◌, nat_le, IfSome, filter}
 use Rattle.std.specs.List.{flat_map, filter_map, cons_option, count_by, list_all, AllByRecursion, AllZip}
 use Rattle.std.specs.Option.{option_map}
@@ -30,7 +30,7 @@ use Rattle.rank_pool.specs.First.{in_order}
 use Rattle.rank_pool.proofs.Ranked.{best-first}
 use Rattle.rank_sched.proofs.Lists.{each-append, each-weaker}
 use Rattle.rank_sched.proofs.ScoreRanges.{candidates_ranged}
-use Rattle.rank_papers.specs.Certificate.{Entry, Certified, certificate_text, IsEntry, IsCount, AreCounts, IsVersion, IsCertificateOf, IsRightEntry, count_of, counts_of, IsCertificate, SaysRight}
+use Rattle.rank_papers.specs.Certificate.{Entry, Certified, certificate_text, IsEntry, IsCount, AreCounts, IsCertificateOf, IsRightEntry, count_of, counts_of, IsCertificate, SaysRight}
 use Rattle.rank_papers.specs.Laws.{RightCertificatesSayRight}
 use Rattle.rank_papers.proofs.Counts.{has_version}
 use Rattle.rank_papers.proofs.ListedStations.{station_fields}
@@ -172,7 +172,7 @@ each_count best [] few = tt
 each_count best (e ∷ es) few = (count_few best e few, each_count best es few)
 
 -- in a version that has them, and in one that has none
-right_counts : (w : ℕ) (best : List Candidate) (es : List Entry) → IsVersion w → length best ≤ 1000
+right_counts : (w : ℕ) (best : List Candidate) (es : List Entry) → ((w ≡ 1) ⊎ (w ≡ 2)) → length best ≤ 1000
     → AreCounts w es (counts_of w best es)
 right_counts w best es (inl e) few = inl (e, ap (λ (v : ℕ). counts_of v best es) e)
 right_counts w best es (inr e) few = inr (

@@ -23,7 +23,7 @@ use Rattle.rank_scores.specs.Morsels.{admitted_series, all_candidates, best_of_q
 use Rattle.rank_scores.specs.QueryCandidates.{AreOfListed}
 use Rattle.rank_scores.proofs.QueryCandidates.{best-holds}
 use Rattle.rank_sched.proofs.Lists.{each-append}
-use Rattle.rank_papers.specs.Report.{WithStation, Named, named, trimmed, with_stations, report_text, IsReport}
+use Rattle.rank_papers.specs.Report.{Named, named, trimmed, with_stations, report_text, IsReport}
 use Rattle.rank_papers.specs.ReportLines.{Reported, IsReported, IsReportOf, IsRow, name_of, SaysRightReport}
 use Rattle.rank_papers.specs.Laws.{RightReportsSayRight}
 use Rattle.rank_papers.proofs.CandidateDays.{IsOfDays, candidates_of_days}
@@ -65,7 +65,7 @@ at_most n m h = grind (arith, nat_tests)
 -- ---- the rows of a right report
 
 -- each row is of a listed station
-abbrev AreListedRows : List Station → List WithStation → Type 0
+abbrev AreListedRows : List Station → List (Candidate × Station) → Type 0
 AreListedRows stations rows = AllByRecursion (λ row. find (is_station_of row.0.id) stations ≡ Some row.1) rows
 
 -- a row of a listed station can be, where its candidate is of days and has a score
@@ -84,7 +84,7 @@ row_can_be stations c s right found days score =
 
 module _ (stations : List Station) where
   -- so can all of them
-  rows_can_be : (rows : List WithStation) → list_all is_station stations ≡ true → AreListedRows stations rows
+  rows_can_be : (rows : List (Candidate × Station)) → list_all is_station stations ≡ true → AreListedRows stations rows
       → AllByRecursion (λ row. IsOfDays row.0) rows → AllByRecursion (λ row. IsScore row.0.score) rows
       → AllByRecursion IsRow (map named rows)
   rows_can_be [] right listed days scores = tt
@@ -94,7 +94,7 @@ module _ (stations : List Station) where
   )
 
   -- each has its listed station's name
-  rows_named : (rows : List WithStation) → AreListedRows stations rows
+  rows_named : (rows : List (Candidate × Station)) → AreListedRows stations rows
       → AllByRecursion (λ row. name_of stations row.0.id ≡ Some row.1) (map named rows)
   rows_named [] h = tt
   rows_named (row ∷ rows) h =
@@ -133,18 +133,18 @@ module _ (stations : List Station) where
 
 module _ (q : Asked) (c : Contents) (bytes : List ℕ) (asked : IsAsked q) (right : IsContents c) where
   -- what holds of all candidates holds of those of the rows
-  rows_hold : (P : Candidate → Type 0) (rows : List WithStation) → map (λ row. row.0) rows ≡ best_of_query q c
+  rows_hold : (P : Candidate → Type 0) (rows : List (Candidate × Station)) → map (λ row. row.0) rows ≡ best_of_query q c
       → AllByRecursion P (all_candidates q c) → AllByRecursion (λ row. P row.0) rows
   rows_hold P rows is all =
       each-of_map P (λ row. row.0) rows
       (subst (AllByRecursion P) (sym is) (best-holds P q.k (all_candidates q c) all))
 
   -- what a right report says can be
-  can_be : (rows : List WithStation) → map (λ row. row.0) rows ≡ best_of_query q c → AreListedRows c.stations rows
-      → IsReported (record { query = q; rows = map named rows })
+  can_be : (rows : List (Candidate × Station)) → map (λ row. row.0) rows ≡ best_of_query q c
+      → AreListedRows c.stations rows → IsReported (record { query = q; rows = map named rows })
   can_be rows is listed =
       let count : length (map named rows) ≡ length (best_of_query q c) =
-      length-map rows named ∙ sym (length-map rows (λ (row : WithStation). row.0)) ∙ ap length is in
+      length-map rows named ∙ sym (length-map rows (λ (row : Candidate × Station). row.0)) ∙ ap length is in
       record {
         asked = asked;
         few = at_most (length (map named rows)) q.k (omega (arith, count, best_few q.k (all_candidates q c)));

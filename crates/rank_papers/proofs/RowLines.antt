@@ -10,7 +10,7 @@ use Rattle.ghcn_fields.proofs.DateTexts.{read_date-law}
 use Rattle.ghcn_files.specs.Ids.{is_visible}
 use Rattle.rank_query.specs.Asked.{Asked}
 use Rattle.rank_papers.specs.Values.{measure_of, unit_text, value_text, value_of}
-use Rattle.rank_papers.specs.Report.{Named, field_unless_empty, text_line}
+use Rattle.rank_papers.specs.Report.{field_unless_empty, Named, text_line}
 use Rattle.rank_papers.specs.ReportLines.{IsRow, is_name, row_line, score_in, row_with, first_word, row_in_columns, row_in, row_behind}
 use Rattle.rank_papers.proofs.LineValues.{exactly-from}
 use Rattle.rank_papers.proofs.ReadLines.{id_long}

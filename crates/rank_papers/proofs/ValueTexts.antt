@@ -1,6 +1,7 @@
 -- A printed value is read as the score that it stands for.
 use Rattle.std.proofs.Common.{◌≡◌, ℕ, suc, ◌+◌, ◌*◌, ◌/◌, ◌%◌, ◌<◌, ◌^◌, Bool, true, false, cond, not, List, [], ◌∷◌, ◌++◌, Option, Some, None, refl, sym, ap, ◌∙◌, subst, arith, length-append, decimal, FitsSigned, w64}
 use Rattle.std.specs.Prelude.{◌==◌, ◌&&◌, ℤ, pos, negsuc, neg_ℤ, filter, int_lt, unsigned_abs}
+use Rattle.std.specs.Fmt.{sign_text}
 use Rattle.std.specs.List.{list_all}
 use Rattle.std.specs.Option.{option_map}
 use Rattle.std.specs.Char.{is_ascii_digit, digit_value}
@@ -12,7 +13,6 @@ use Rattle.std.proofs.lemmas.Int.{ints}
 use Rattle.std.proofs.lemmas.Int.Digits.{digits_value_push}
 use Rattle.std.proofs.lemmas.List.Elements.{filter-append}
 use Rattle.std.proofs.lemmas.List.Folds.{list_all-append}
-use Rattle.ghcn_fields.specs.Fields.{sign_text}
 use Rattle.ghcn_fields.specs.Numbers.{natural, signed_by, with_sign}
 use Rattle.ghcn_fields.specs.NumberTexts.{tenths_of}
 use Rattle.ghcn_fields.proofs.Digits.{natural-from}
@@ -24,7 +24,7 @@ use Rattle.rank_query.specs.Spelling.{IsNumeralOf}
 use Rattle.rank_query.proofs.PrintedWords.{decimal_numeral}
 use Rattle.rank_papers.specs.declared.measure.Measure.{Measure}
 use Rattle.rank_papers.specs.declared.measure.Measure.TheVariants.{Degrees, Millimetres, WholeMillimetres, Days}
-use Rattle.rank_papers.specs.Values.{measure_of, magnitude_text, value_text, value_of}
+use Rattle.rank_papers.specs.Values.{measure_of, value_text, value_of}
 use Rattle.rank_papers.specs.Lines.{in_i64}
 use Rattle.rank_papers.specs.ReportLines.{score_in}
 use Rattle.rank_papers.proofs.NumberTexts.{unsigned}
@@ -93,7 +93,7 @@ whole_left n fits =
     subst (λ (ds : List ℕ). IsNumeralOf ds n) (sym (digits_stay (decimal n) numeral.digits_alone)) numeral
 
 -- what is left of a magnitude is a numeral of it
-magnitude_left : (m : Measure) (n : ℕ) → n < 2 ^ 64 → IsNumeralOf (filter no_point (magnitude_text m n)) n
+magnitude_left : (m : Measure) (n : ℕ) → n < 2 ^ 64 → IsNumeralOf (filter no_point (value_text m (pos n))) n
 magnitude_left Degrees n fits = tenths_left n fits
 magnitude_left Millimetres n fits = tenths_left n fits
 magnitude_left WholeMillimetres n fits = whole_left n fits
@@ -105,21 +105,34 @@ magnitude_left Days n fits = whole_left n fits
 numeral_read : (ds : List ℕ) (n : ℕ) → IsNumeralOf ds n → natural ds ≡ Some n
 numeral_read ds n is = natural-from ds is.some_digit is.digits_alone ∙ ap (λ (m : ℕ). Some m) (sym is.value)
 
+-- a value below zero is printed behind a minus
+below_zero : (m : Measure) (n : ℕ) → value_text m (negsuc n) ≡ 45 ∷ value_text m (pos (suc n))
+below_zero Degrees n = refl
+below_zero Millimetres n = refl
+below_zero WholeMillimetres n = refl
+below_zero Days n = refl
+
 -- a number of no sign isn't below zero
 not_below : (n : ℕ) → int_lt (pos n) (pos 0) ≡ false
 not_below n = grind (arith, ints)
+
+-- a value is printed as a sign and its magnitude
+pub value_signed : (m : Measure) (z : ℤ)
+    → sign_text (int_lt z (pos 0)) ++ value_text m (pos (unsigned_abs z)) ≡ value_text m z
+value_signed m (pos n) = ap (λ (b : Bool). sign_text b ++ value_text m (pos n)) (not_below n)
+value_signed m (negsuc n) = sym (below_zero m n)
 
 -- a printed value is read without its point
 pub value_read : (m : Measure) (z : ℤ) → unsigned_abs z < 2 ^ 64
     → signed_by natural (filter (λ b. not (b == 46)) (value_text m z)) ≡ Some z
 value_read m (pos n) fits =
     let left = magnitude_left m n fits in
-    ap (λ (b : Bool). signed_by natural (filter no_point (sign_text b ++ magnitude_text m n))) (not_below n)
-    ∙ unsigned (filter no_point (magnitude_text m n)) left.some_digit left.digits_alone
-    ∙ ap (option_map (with_sign false)) (numeral_read (filter no_point (magnitude_text m n)) n left)
+    unsigned (filter no_point (value_text m (pos n))) left.some_digit left.digits_alone
+    ∙ ap (option_map (with_sign false)) (numeral_read (filter no_point (value_text m (pos n))) n left)
 value_read m (negsuc n) fits =
-    ap (option_map (with_sign true))
-    (numeral_read (filter no_point (magnitude_text m (suc n))) (suc n) (magnitude_left m (suc n) fits))
+    ap (λ (text : List ℕ). signed_by natural (filter no_point text)) (below_zero m n)
+    ∙ ap (option_map (with_sign true))
+    (numeral_read (filter no_point (value_text m (pos (suc n)))) (suc n) (magnitude_left m (suc n) fits))
 
 -- ---- scores
 
@@ -181,19 +194,13 @@ tenths_visible n fits =
     ∙ decimal_visible (n % 10) (omega arith)
 
 -- so is a magnitude
-magnitude_visible : (m : Measure) (n : ℕ) → n < 2 ^ 64 → list_all is_visible (magnitude_text m n) ≡ true
+magnitude_visible : (m : Measure) (n : ℕ) → n < 2 ^ 64 → list_all is_visible (value_text m (pos n)) ≡ true
 magnitude_visible Degrees n fits = tenths_visible n fits
 magnitude_visible Millimetres n fits = tenths_visible n fits
 magnitude_visible WholeMillimetres n fits = decimal_visible n fits
 magnitude_visible Days n fits = decimal_visible n fits
 
--- and with its sign
-signed_visible : (b : Bool) (text : List ℕ) → list_all is_visible text ≡ true
-    → list_all is_visible (sign_text b ++ text) ≡ true
-signed_visible true text h = h
-signed_visible false text h = h
-
 -- a printed value is visible
 pub value_visible : (m : Measure) (z : ℤ) → unsigned_abs z < 2 ^ 64 → list_all is_visible (value_text m z) ≡ true
-value_visible m z fits =
-    signed_visible (int_lt z (pos 0)) (magnitude_text m (unsigned_abs z)) (magnitude_visible m (unsigned_abs z) fits)
+value_visible m (pos n) fits = magnitude_visible m n fits
+value_visible m (negsuc n) fits = ap (list_all is_visible) (below_zero m n) ∙ magnitude_visible m (suc n) fits

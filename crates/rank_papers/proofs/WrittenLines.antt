@@ -5,7 +5,7 @@ use Rattle.std.specs.Fmt.{digits, digits_onto, digit_glyph}
 use Rattle.std.specs.List.{list_all, join_with_byte}
 use Rattle.std.proofs.lemmas.Bool.{and_parts}
 use Rattle.std.proofs.lemmas.Bool.Decides.{nat_tests}
-use Rattle.ghcn_fields.specs.NumberTexts.{whole}
+use Rattle.std.specs.Fmt.{signed_decimal}
 use Rattle.ghcn_files.specs.Ids.{is_visible}
 use Rattle.ghcn_files.specs.StationLines.{is_printable}
 use Rattle.rank_papers.specs.Report.{text_line}
@@ -85,7 +85,7 @@ unfolding digits
 decimal_printable n = digits_printable 64 n [] refl
 
 -- with or without a minus
-pub whole_printable : (z : ℤ) → list_all is_printable (whole z) ≡ true
+pub whole_printable : (z : ℤ) → list_all is_printable (signed_decimal z) ≡ true
 whole_printable (pos n) = decimal_printable n
 whole_printable (negsuc n) = decimal_printable (suc n)
 

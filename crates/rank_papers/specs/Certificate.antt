@@ -1,10 +1,10 @@
 -- The text of a certificate, and when it is right.
-use Rattle.std.specs.Prelude.{◌≡◌, ◌⊎◌, ◌≤◌, ℕ, ◌-◌, ◌==◌, Bool, true, ◌&&◌, not, if◌then◌else◌, List, [], ◌∷◌, ◌++◌, length, map, codes, Option, None, Some, ℤ, FitsSigned, IfSome, IsTrue, slice_get}
+use Rattle.std.specs.Prelude.{◌≡◌, ◌⊎◌, ◌≤◌, ℕ, ◌-◌, ◌==◌, Bool, true, ◌&&◌, not, if◌then◌else◌, List, [], ◌∷◌, ◌++◌, length, map, codes, Option, ℤ, FitsSigned, IfSome, IsTrue, slice_get}
 use Rattle.std.specs.List.{flat_map, count_by, AllByRecursion, AllZip}
-use Rattle.std.specs.Option.{option_map}
+use Rattle.std.specs.Option.{option_map, option_map_or}
 use Rattle.std.specs.Int.{w64}
 use Rattle.std.specs.Fmt.{decimal}
-use Rattle.ghcn_fields.specs.NumberTexts.{whole}
+use Rattle.std.specs.Fmt.{signed_decimal}
 use Rattle.ghcn_files.specs.Ids.{is_id, same_id}
 use Rattle.ghcn_series.specs.Series.{Usable, Contents}
 use Rattle.rank_query.specs.Asked.{Asked, IsAsked}
@@ -13,7 +13,7 @@ use Rattle.rank_scores.specs.Order.{is_below}
 use Rattle.rank_scores.specs.Morsels.{morsels, best_of_query, kth_of_query, IsAbove}
 use Rattle.rank_sched.specs.declared.line.Line.{Line}
 use Rattle.rank_papers.specs.declared.counted.Counted.{Counted}
-use Rattle.rank_papers.specs.Report.{text_line, query_line, after_blank}
+use Rattle.rank_papers.specs.Report.{text_line, query_line}
 
 -- ---- the text
 
@@ -35,14 +35,9 @@ abbrev pub title_line : ℕ → List ℕ
 title_line version =
     text_line ((if version == 1 then codes "extremes certificate 1" else codes "extremes certificate 2") ∷ [])
 
--- the word of a k-th score, or of none
-abbrev pub kth_text : Option ℤ → List ℕ
-kth_text None = codes "none"
-kth_text (Some score) = whole score
-
 -- the line of a k-th score, or of none
 abbrev pub kth_line : Option ℤ → List ℕ
-kth_line kth = text_line (codes "kth" ∷ kth_text kth ∷ [])
+kth_line kth = text_line (codes "kth" ∷ option_map_or signed_decimal kth (codes "none") ∷ [])
 
 -- entries with their counts, 0 where there are no more of these
 abbrev pub counted : List Entry → List ℕ → List Counted
@@ -51,19 +46,15 @@ counted (e ∷ es) [] = record { entry = e; count = 0 } ∷ counted es []
 counted (e ∷ es) (n ∷ counts) = record { entry = e; count = n } ∷ counted es counts
 
 -- the line of an entry ends by a count: in version 2, where the series wasn't passed over
-abbrev pub has_count : ℕ → Entry → Bool
+abbrev pub has_count : ℕ → Line → Bool
 has_count version e = version == 2 && not e.skipped
 
--- a count behind its blank, where there is one
-abbrev pub count_text : Bool → ℕ → List ℕ
-count_text has n = if has then after_blank (decimal n) else []
-
--- the line of an entry, with its count where it has one
+-- the line of an entry, with its count behind a blank where it has one
 abbrev pub entry_line : ℕ → Counted → List ℕ
 entry_line version l = text_line (
     (if l.entry.skipped then codes "skip" else codes "scan")
     ∷ l.entry.id.0
-    ∷ (whole l.entry.bound ++ count_text (has_count version l.entry) l.count)
+    ∷ (signed_decimal l.entry.bound ++ (if has_count version l.entry then 32 ∷ decimal l.count else []))
     ∷ [])
 
 -- the last line, of so many entries
@@ -134,15 +125,11 @@ count_of best e = if e.skipped then 0 else count_by (λ c. same_id c.id e.id) be
 abbrev pub counts_of : ℕ → List Candidate → List Entry → List ℕ
 counts_of version best es = if version == 2 then map (count_of best) es else []
 
--- there is such a version
-abbrev pub IsVersion : ℕ → Type 0
-IsVersion version = (version ≡ 1) ⊎ (version ≡ 2)
-
 -- a right certificate of a query and data, whatever its version, its bounds and skips: it has the query, the k-th
 -- score, a right entry for each series, and in version 2 how many of the best candidates are of each
 pub record IsCertificate (q : Asked) (c : Contents) (bytes : List ℕ) : Type 0 where
   pub version : ℕ
-  pub known : IsVersion version
+  pub known : (version ≡ 1) ⊎ (version ≡ 2)
   pub entries : List Entry
   pub right : AreRightEntries q c entries
   pub text : bytes ≡ certificate_text (record {

@@ -9,3 +9,5 @@ pub mod Places
 pub mod PlanPapers
 pub mod Laws
 pub mod OneElement
+pub mod Right
+pub mod RightLaws

@@ -3,7 +3,7 @@ use Rattle.std.specs.Prelude.{◌≡◌, ◌<◌, ℕ, ◌-◌, ◌==◌, Bool, 
 use Rattle.std.specs.List.{list_all}
 use Rattle.ghcn_fields.specs.Bytes.{same_bytes}
 use Rattle.ghcn_fields.specs.Numbers.{natural, signed_by}
-use Rattle.ghcn_fields.specs.NumberTexts.{whole}
+use Rattle.std.specs.Fmt.{signed_decimal}
 use Rattle.ghcn_files.specs.StationLines.{is_printable}
 use Rattle.rank_query.specs.Asked.{Asked}
 use Rattle.rank_query.specs.Reading.{read_query}
@@ -48,7 +48,7 @@ in_i64 (Some z) = if is_i64 z then Some z else None
 
 -- the number inside 64 bits that a field writes
 abbrev pub number_in : List ℕ → Option ℤ
-number_in field = in_i64 (exactly whole field (signed_by natural field))
+number_in field = in_i64 (exactly signed_decimal field (signed_by natural field))
 
 -- a query that was read
 abbrev pub ok_query : {E : Type 0} → Result Asked E → Option Asked

@@ -11,7 +11,7 @@ use Rattle.rank_query.specs.Asked.{Asked}
 use Rattle.rank_query.specs.QueryTexts.{query_text}
 use Rattle.rank_scores.specs.declared.candidate.Candidate.{Candidate}
 use Rattle.rank_scores.specs.Morsels.{best_of_query}
-use Rattle.rank_papers.specs.Values.{value_fields}
+use Rattle.rank_papers.specs.Values.{measure_of, value_of, value_text, unit_text}
 
 -- ---- lines
 
@@ -36,12 +36,13 @@ field_unless_empty (b ∷ bytes) = (b ∷ bytes) ∷ []
 abbrev pub Named : Type 0
 Named = Candidate × List ℕ
 
--- the fields of a row with its rank, from 1
-abbrev pub row_fields : Asked → ℕ × Named → List (List ℕ)
+-- the fields of a row: its rank, from 1, its candidate, with the value behind the score and the unit, and a name
+abbrev pub row_fields : Asked → ℕ × (Candidate × List ℕ) → List (List ℕ)
 row_fields q row =
     let candidate = row.1.0 in
+    let measure = measure_of q.score in
     decimal row.0 ∷ candidate.id.0 ∷ date_text candidate.first ∷ date_text candidate.last
-    ∷ (value_fields q.score candidate.score ++ field_unless_empty row.1.1)
+    ∷ value_text measure (value_of q.score candidate.score) ∷ unit_text measure ∷ field_unless_empty row.1.1
 
 -- the fields of the last line: how many rows there are, and whether these are all that there could be
 abbrev pub end_fields : ℕ → ℕ → List (List ℕ)
@@ -53,39 +54,31 @@ end_fields k n = codes "end" ∷ decimal n ∷ (if nat_lt n k then codes "all" �
 abbrev pub query_line : Asked → List ℕ
 query_line q = text_line (codes "query" ∷ query_text q ∷ [])
 
--- the lines of some rows with their ranks
-abbrev pub rows_text : Asked → List (ℕ × Named) → List ℕ
-rows_text q rows = flat_map (λ row. text_line (row_fields q row)) rows
-
--- the text of a report with these rows
-abbrev pub report_text : Asked → List Named → List ℕ
+-- the text of a report with these rows, ranked from 1
+abbrev pub report_text : Asked → List (Candidate × List ℕ) → List ℕ
 report_text q rows =
     text_line (codes "extremes report 1" ∷ [])
     ++ query_line q
-    ++ rows_text q (enumerate_from 1 rows)
+    ++ flat_map (λ row. text_line (row_fields q row)) (enumerate_from 1 rows)
     ++ text_line (end_fields q.k (length rows))
 
 -- ---- whose rows are right
 
--- a candidate with its station
-abbrev pub WithStation : Type 0
-WithStation = Candidate × Station
-
 -- the row of a candidate and its station: the name without the blanks at its end
-abbrev pub named : WithStation → Named
+abbrev pub named : Candidate × Station → Named
 named row = (row.0, trimmed row.1.name)
 
 -- a candidate with its listed station
-abbrev pub with_station : List Station → Candidate → Option WithStation
+abbrev pub with_station : List Station → Candidate → Option (Candidate × Station)
 with_station stations c = option_map (λ station. (c, station)) (find (is_station_of c.id) stations)
 
 -- candidates with their listed stations
-abbrev pub with_stations : List Station → List Candidate → List WithStation
+abbrev pub with_stations : List Station → List Candidate → List (Candidate × Station)
 with_stations stations cs = filter_map (with_station stations) cs
 
 -- the right report: its rows are the best candidates of the query, each with its listed station
 pub record IsReport (q : Asked) (c : Contents) (bytes : List ℕ) : Type 0 where
-  pub rows : List WithStation
+  pub rows : List (Candidate × Station)
   pub best : map (λ row. row.0) rows ≡ best_of_query q c
   pub listed : AllByRecursion (λ row. find (is_station_of row.0.id) c.stations ≡ Some row.1) rows
   pub text : bytes ≡ report_text q (map named rows)

@@ -1,8 +1,7 @@
 -- How the values behind scores are printed.
-use Rattle.std.specs.Prelude.{ℕ, List, [], ◌∷◌, ◌++◌, codes, ℤ, pos, neg_ℤ, int_lt, unsigned_abs}
-use Rattle.std.specs.Fmt.{decimal}
-use Rattle.ghcn_fields.specs.NumberTexts.{tenths_of}
-use Rattle.ghcn_fields.specs.Fields.{sign_text}
+use Rattle.std.specs.Prelude.{ℕ, List, [], ◌∷◌, codes, ℤ, neg_ℤ}
+use Rattle.std.specs.Fmt.{signed_decimal}
+use Rattle.ghcn_fields.specs.NumberTexts.{tenths}
 use Rattle.ghcn_files.specs.declared.element.Element.{Element}
 use Rattle.ghcn_files.specs.declared.element.Element.TheVariants.{Prcp, Snow, Snwd, Tmax, Tmin}
 use Rattle.rank_query.specs.declared.score.Score.{Score}
@@ -28,15 +27,11 @@ measure_of Wet = Days
 measure_of (Hot t) = Days
 
 -- so many raw units, in the unit that is printed: tenths have one decimal
-abbrev pub magnitude_text : Measure → ℕ → List ℕ
-magnitude_text Degrees n = tenths_of n
-magnitude_text Millimetres n = tenths_of n
-magnitude_text WholeMillimetres n = decimal n
-magnitude_text Days n = decimal n
-
--- a value as it is printed: a minus where it is below zero, and its absolute value
 abbrev pub value_text : Measure → ℤ → List ℕ
-value_text measure v = sign_text (int_lt v (pos 0)) ++ magnitude_text measure (unsigned_abs v)
+value_text Degrees v = tenths v
+value_text Millimetres v = tenths v
+value_text WholeMillimetres v = signed_decimal v
+value_text Days v = signed_decimal v
 
 -- the unit that is printed
 abbrev pub unit_text : Measure → List ℕ
@@ -53,8 +48,3 @@ value_of (Sum n e) score = score
 value_of Dry score = score
 value_of Wet score = score
 value_of (Hot t) score = score
-
--- the fields of a score: the value behind it as it is printed, and its unit
-abbrev pub value_fields : Score → ℤ → List (List ℕ)
-value_fields score number =
-    let measure = measure_of score in value_text measure (value_of score number) ∷ unit_text measure ∷ []

@@ -12,10 +12,10 @@
 //!
 //! In version 1, which is read alone, no line has a number of rows.
 
-ghost use Rattle.std.specs.Prelude.{◌≡◌, ◌<◌, ◌++◌, FitsSigned, length, OnOk, IfOk};
+ghost use Rattle.std.specs.Prelude.{◌≡◌, ◌<◌, ◌++◌, [], ◌∷◌, decimal, if◌then◌else◌, FitsSigned, length, OnOk, IfOk};
 ghost use Rattle.std.specs.Int.{w64};
 ghost use Rattle.std.specs.List.{flat_map};
-ghost use Rattle.ghcn_fields.specs.NumberTexts.{whole};
+ghost use Rattle.std.specs.Fmt.{signed_decimal};
 ghost use Rattle.rank_sched.specs.Answers.{IsAnswerOfPlan};
 ghost use Rattle.rank_papers.specs.Certificate as certificate;
 ghost use Rattle.rank_papers.specs.PlanPapers.{IsCertificateOfPlan};
@@ -125,7 +125,7 @@ pub(crate) fn push_line(paper: &mut Vec<u8>, version: u64, line: &Counted) -> Re
 /// Adds a bound, and a count behind it where there is one.
 fn push_bound(paper: &mut Vec<u8>, bound: i64, has: bool, count: u64) -> Result<(), Memory>
     ensures text { OnOk result (paper.new.items
-        ≡ paper.old.items ++ (whole bound ++ certificate.count_text has count)) }
+        ≡ paper.old.items ++ (signed_decimal bound ++ (if has then 32 ∷ decimal count else []))) }
     ensures fits { OnOk result (FitsSigned w64 bound) }
 {
     push_whole(paper, bound)?;
@@ -134,7 +134,7 @@ fn push_bound(paper: &mut Vec<u8>, bound: i64, has: bool, count: u64) -> Result<
 
 /// Adds a blank and a count, where there is one.
 fn push_count(paper: &mut Vec<u8>, has: bool, count: u64) -> Result<(), Memory>
-    ensures { OnOk result (paper.new.items ≡ paper.old.items ++ certificate.count_text has count) }
+    ensures { OnOk result (paper.new.items ≡ paper.old.items ++ (if has then 32 ∷ decimal count else [])) }
 {
     if has {
         paper.push(b' ')?;

@@ -2,6 +2,7 @@
 
 ghost use Rattle.rank_papers.specs.Laws as laws;
 ghost use Rattle.rank_papers.specs.OneElement as one_element;
+ghost use Rattle.rank_papers.specs.RightLaws as right;
 
 use rank_scores::one_element_is_enough;
 
@@ -21,12 +22,23 @@ pub fn reports_are_read()
     ensures right { laws.RightReportsSayRight }
 {}
 
+/// What is found by rank is right by what it is: the best candidates, of which there is one list, the
+/// report with them, and the certificates.
+pub fn papers_are_found()
+    ensures best { right.BestAreFound }
+    ensures one { right.BestAreOne }
+    ensures report { right.ReportsAreFound }
+    ensures certificate { right.CertificatesAreFound }
+{}
+
 /// The papers of a query say nothing of the series of other elements: where these are left out of
 /// the data, the same report and the same certificates are right.
 pub fn papers_of_one_element()
     ensures report { one_element.ReportStays }
     ensures certificate { one_element.CertificateStays }
     ensures measured { one_element.MeasuredStays }
+    ensures right_report { right.RightReportStays }
+    ensures right_certificate { right.RightCertificateStays }
 {
     one_element_is_enough();
 }

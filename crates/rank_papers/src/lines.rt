@@ -4,7 +4,7 @@ ghost use Rattle.std.specs.Prelude.{◌≡◌, ◌≤◌, ◌-◌, ◌^◌, leng
 ghost use Rattle.std.specs.List.{list_all};
 ghost use Rattle.std.specs.Option.{option_map};
 ghost use Rattle.ghcn_fields.specs.Numbers as numbers;
-ghost use Rattle.ghcn_fields.specs.NumberTexts.{whole};
+ghost use Rattle.std.specs.Fmt.{signed_decimal};
 ghost use Rattle.ghcn_fields.specs.Bytes.{same_bytes};
 ghost use Rattle.ghcn_files.specs.StationLines.{is_printable};
 ghost use Rattle.rank_papers.specs.Lines as lines;
@@ -100,7 +100,7 @@ fn positive(magnitude: u64) -> Option<i64>
 
 /// Whether a field is the text of a number.
 fn is_text_of(number: i64, field: &[u8]) -> bool
-    ensures { result ≡ same_bytes (whole number) field.now }
+    ensures { result ≡ same_bytes (signed_decimal number) field.now }
 {
     let mut buffer = Buffer::new();
     buffer.format(number).as_bytes() == field

@@ -1,7 +1,8 @@
 //! Numbers that are added to the end of a paper.
 
 ghost use Rattle.std.specs.Prelude.{◌≡◌, ◌++◌, OnOk, decimal, int_lt, pos};
-ghost use Rattle.ghcn_fields.specs.NumberTexts.{tenths_of, whole};
+ghost use Rattle.std.specs.Fmt.{signed_decimal};
+ghost use Rattle.ghcn_fields.specs.NumberTexts.{tenths_of};
 ghost use Rattle.rank_papers.specs.Values as values;
 
 use crate::measure::{Measure, measure_of};
@@ -10,6 +11,7 @@ use itoa::Buffer;
 use rank_query::Score;
 
 /// Adds the value behind a score as it is printed, without its unit.
+#[tactic(auto, using(crate::proofs::ValueTexts::value_signed))]
 pub fn push_value(paper: &mut Vec<u8>, score: Score, number: i64) -> Result<(), Memory>
     ensures { OnOk result (paper.new.items ≡ paper.old.items
         ++ values.value_text (values.measure_of score) (values.value_of score number)) }
@@ -31,7 +33,7 @@ fn is_negative(score: Score, number: i64) -> bool
 }
 
 fn push_magnitude(paper: &mut Vec<u8>, measure: Measure, magnitude: u64) -> Result<(), Memory>
-    ensures { OnOk result (paper.new.items ≡ paper.old.items ++ values.magnitude_text measure magnitude) }
+    ensures { OnOk result (paper.new.items ≡ paper.old.items ++ values.value_text measure (pos magnitude)) }
 {
     match measure {
         Measure::Degrees => push_tenths(paper, magnitude),
@@ -52,7 +54,7 @@ fn push_tenths(paper: &mut Vec<u8>, tenths: u64) -> Result<(), Memory>
 
 /// Adds a whole number, with a minus below zero.
 pub fn push_whole(paper: &mut Vec<u8>, number: i64) -> Result<(), Memory>
-    ensures { OnOk result (paper.new.items ≡ paper.old.items ++ whole number) }
+    ensures { OnOk result (paper.new.items ≡ paper.old.items ++ signed_decimal number) }
 {
     if number < 0 {
         paper.push(b'-')?;

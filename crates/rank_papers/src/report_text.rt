@@ -8,7 +8,7 @@
 //! ```
 
 ghost use Rattle.std.specs.Prelude.{◌≡◌, ◌++◌, codes, map, OnOk, IfOk};
-ghost use Rattle.std.specs.List.{enumerate_from};
+ghost use Rattle.std.specs.List.{enumerate_from, flat_map};
 ghost use Rattle.rank_scores.specs.QueryCandidates.{AreOfListed};
 ghost use Rattle.rank_sched.specs.Answers.{IsAnswerOfPlan};
 ghost use Rattle.rank_papers.specs.PlanPapers.{IsReportOfPlan};
@@ -89,7 +89,8 @@ fn push_rows(
 ) -> Result<(), Memory>
     requires { AreOfListed stations.now best.now }
     ensures { OnOk result (paper.new.items ≡ paper.old.items
-        ++ report.rows_text query.now (enumerate_from 1 (report.rows_of_best stations.now best.now))) }
+        ++ flat_map (λ row. report.text_line (report.row_fields query.now row))
+        (enumerate_from 1 (report.rows_of_best stations.now best.now))) }
 {
     for (place, candidate) in best.iter().enumerate() {
         let Some(station) = stations.get(&candidate.id) else {
@@ -103,7 +104,8 @@ fn push_rows(
 /// Adds each row, ranked from 1.
 fn push_named_rows(paper: &mut Vec<u8>, query: &Query, rows: &[Row]) -> Result<(), Memory>
     ensures { OnOk result (paper.new.items ≡ paper.old.items
-        ++ report.rows_text query.now (enumerate_from 1 (map named_in rows.now))) }
+        ++ flat_map (λ row. report.text_line (report.row_fields query.now row))
+        (enumerate_from 1 (map named_in rows.now))) }
 {
     for (place, row) in rows.iter().enumerate() {
         push_named(paper, query, place as u64 + 1, &row.candidate, &row.name)?;

@@ -1,9 +1,9 @@
 //! One row of a report: `RANK ID FIRST LAST VALUE UNIT NAME`. A row without a name ends after UNIT.
 
-ghost use Rattle.std.specs.Prelude.{◌≡◌, ◌++◌, OnOk};
+ghost use Rattle.std.specs.Prelude.{◌≡◌, [], ◌∷◌, ◌++◌, OnOk};
 ghost use Rattle.std.specs.List.{flat_map};
 ghost use Rattle.ghcn_fields.specs.Dates.{date_text};
-ghost use Rattle.rank_papers.specs.Values.{value_fields};
+ghost use Rattle.rank_papers.specs.Values as values;
 ghost use Rattle.rank_papers.specs.Report as report;
 
 use crate::measure::measure_of;
@@ -67,7 +67,8 @@ fn push_day(paper: &mut Vec<u8>, day: Day) -> Result<(), Memory>
 /// Adds a blank and the value behind a score, and a blank and its unit.
 fn push_value_and_unit(paper: &mut Vec<u8>, score: Score, number: i64) -> Result<(), Memory>
     ensures { OnOk result (paper.new.items ≡ paper.old.items
-        ++ flat_map report.after_blank (value_fields score number)) }
+        ++ flat_map report.after_blank (values.value_text (values.measure_of score) (values.value_of score number)
+        ∷ values.unit_text (values.measure_of score) ∷ [])) }
 {
     paper.push(b' ')?;
     push_value(paper, score, number)?;

@@ -1,11 +1,6 @@
 -- A text is read as the query that it asks, and as no other.
-use Rattle.std.proofs.Common.{◌≡◌, ℕ, ◌≤◌, Bool, true, false, cond, List, length, Ok, Err, refl, arith}
-use Rattle.std.specs.Prelude.{nat_lt}
-use Rattle.std.proofs.lemmas.Bool.Decides.{nat_tests}
-use Rattle.rank_query.specs.declared.fault.QueryFault.TheVariants.{QueryTooLong}
-use Rattle.rank_query.specs.Asked.{Asked}
-use Rattle.rank_query.specs.Words.{numbered_words}
-use Rattle.rank_query.specs.Reading.{read_words, read_query}
+use Rattle.rank_query.proofs.Cited.{◌≡◌, ℕ, ◌≤◌, Bool, true, false, cond, List, length, Ok, Err, refl, arith, nat_lt}
+use Rattle.rank_query.proofs.Cited.{nat_tests, QueryTooLong, Asked, numbered_words, read_words, read_query}
 use Rattle.rank_query.specs.Asks.{Asks}
 use Rattle.rank_query.proofs.Spellings.{read_spells, spelling_read}
 use Rattle.rank_query.proofs.ReadAsked.{read_asked}

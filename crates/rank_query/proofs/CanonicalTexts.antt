@@ -1,28 +1,18 @@
 -- The canonical text of a query spells it.
-use Rattle.std.proofs.Common.{◌≡◌, ℕ, ◌<◌, ◌≤◌, ◌^◌, true, ◌++◌, length, decimal, codes, IsTrue, refl, length-append}
-use Rattle.std.proofs.Common.{arith}
-use Rattle.std.specs.Prelude.{Some, None, ℤ, pos, neg_ℤ, ◌≤ℤ◌, Option}
-use Rattle.std.specs.List.{AllByRecursion}
-use Rattle.std.proofs.lemmas.Bool.{and_parts}
-use Rattle.std.proofs.lemmas.Bool.Decides.{nat_tests}
-use Rattle.std.proofs.lemmas.Int.{ints}
-use Rattle.ghcn_fields.specs.Days.{is_within}
-use Rattle.ghcn_fields.specs.NumberTexts.{four_places, tenths}
-use Rattle.rank_query.specs.declared.score.Score.{Score}
-use Rattle.rank_query.specs.declared.score.Score.TheVariants.{Highest, Lowest, Sum, Dry, Wet, Hot}
-use Rattle.rank_query.specs.declared.region.Region.{Region}
-use Rattle.rank_query.specs.declared.region.Region.TheVariants.{Everywhere, Inside, Country, State, Only}
-use Rattle.rank_query.specs.Asked.{Asked, IsAsked, is_score, is_fall, is_heat, is_month, is_season, is_region}
+use Rattle.rank_query.proofs.Cited.{rules, ◌≡◌, ℕ, ◌<◌, ◌≤◌, ◌^◌, true, ◌++◌, length, decimal, codes, IsTrue, refl}
+use Rattle.rank_query.proofs.Cited.{length-append, arith, Some, None, ℤ, pos, neg_ℤ, ◌≤ℤ◌, Option, AllByRecursion}
+use Rattle.rank_query.proofs.Cited.{and_parts, nat_tests, ints, is_within, four_places, tenths, Score, Highest, Lowest}
+use Rattle.rank_query.proofs.Cited.{Sum, Dry, Wet, Hot, Region, Everywhere, Inside, Country, State, Only, Asked}
+use Rattle.rank_query.proofs.Cited.{IsAsked, is_score, is_fall, is_heat, is_month, is_season, is_region, score_words}
+use Rattle.rank_query.proofs.Cited.{region_words, season_words, period_words, query_words, query_text}
+use Rattle.rank_query.proofs.Cited.{SpellsScore, SpellsRegion, SpellsSeason, SpellsPeriod, IsSpelling}
 use Rattle.rank_query.specs.Laws.{IsShortLine}
-use Rattle.rank_query.specs.QueryTexts.{score_words, region_words, season_words, period_words, query_words, query_text}
-use Rattle.rank_query.specs.QueryTexts.{months_text}
-use Rattle.rank_query.specs.Spelling.{SpellsScore, SpellsRegion, SpellsSeason, SpellsPeriod, IsSpelling}
 use Rattle.rank_query.proofs.OneWords.{IsOneWord, words_of-join}
 use Rattle.ghcn_fields.proofs.Ordered.{each-weaker}
-use Rattle.rank_query.proofs.PrintedWords.{IsShortWord, length-join, printable-join, all_both}
-use Rattle.rank_query.proofs.PrintedWords.{known_word, decimal_numeral, decimal_word, code_word, visible_word}
-use Rattle.rank_query.proofs.PrintedWords.{date_word, four_places_spelt, four_places_word, tenths_spelt, tenths_word}
-use Rattle.rank_query.proofs.PrintedWords.{months_word, months_text_joins}
+use Rattle.rank_query.proofs.PrintedWords.{IsShortWord, length-join, printable-join, all_both, known_word}
+use Rattle.rank_query.proofs.PrintedWords.{decimal_numeral, decimal_word, code_word, visible_word, date_word}
+use Rattle.rank_query.proofs.PrintedWords.{four_places_spelt, four_places_word, tenths_spelt, tenths_word, months_word}
+use Rattle.rank_query.proofs.PrintedWords.{months_text_joins}
 use Rattle.rank_query.proofs.RegionWords.{edges_of, longitude-range}
 
 -- a number within limits is small
@@ -146,18 +136,12 @@ season_printed (Some s) is =
 -- and spell it
 season_spelt : (s : Option (ℕ × ℕ)) → is_season s ≡ true → SpellsSeason (season_words s) s
 season_spelt None is = refl
-season_spelt (Some s) is =
-    let both = and_parts (is_month s.0) (is_month s.1) is in
-    (months_text s, months_text_joins s (twelve s.0 both.0) (twelve s.1 both.1), refl)
+season_spelt (Some s) is = grind (arith, ints, months_text_joins, twelve)
 
 -- the words of a period are words, and few
 period_printed : (p : Option (ℤ × ℤ)) → AllByRecursion IsShortWord (period_words p) × (length (period_words p) ≤ 4)
 period_printed None = (tt, omega arith)
-period_printed (Some p) = (
-  (known_word (codes "from") refl, (date_word p.0, (known_word (codes "to") refl, (date_word p.1, tt)))),
-  omega
-      arith,
-)
+period_printed (Some p) = search (rules, arith, known_word, date_word)
 
 -- and spell it
 period_spelt : (p : Option (ℤ × ℤ)) → SpellsPeriod (period_words p) p
@@ -212,8 +196,7 @@ canonical q is =
           period.1,
           length-append (score_words q.score) (region_words q.region),
           length-append (score_words q.score ++ region_words q.region) (season_words q.season),
-          length-append (score_words q.score ++ region_words q.region ++ season_words q.season)
-              (period_words q.period),
+          length-append (score_words q.score ++ region_words q.region ++ season_words q.season) (period_words q.period),
         );
         printable = printable-join (query_words q) all;
       };

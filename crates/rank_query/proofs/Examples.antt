@@ -1,31 +1,18 @@
 -- Worked examples, by computation.
-use Rattle.std.proofs.Common.{◌≡◌, ℕ, true, false, [], ◌∷◌, ◌++◌, refl, inl, inr, Some, None, Ok, Err, replicate}
-use Rattle.std.proofs.Common.{codes, arith}
-use Rattle.std.specs.Prelude.{pos, neg_ℤ, ℤ, map}
+use Rattle.rank_query.proofs.Cited.{◌≡◌, ℕ, true, false, [], ◌∷◌, ◌++◌, refl, inl, inr, Some, None, Ok, Err, replicate}
+use Rattle.rank_query.proofs.Cited.{codes, arith, pos, neg_ℤ, ℤ, map, repeat, ints, days_from_civil, day_count}
+use Rattle.rank_query.proofs.Cited.{days_of_years, days_of_months, year_and_rest, month_and_day, Tmax, Tmin, Prcp}
+use Rattle.rank_query.proofs.Cited.{Score, Highest, Lowest, Sum, Dry, Wet, Hot, Region, Everywhere, Inside, Country}
+use Rattle.rank_query.proofs.Cited.{State, Only, QueryTooLong, UnexpectedWord, QueryEnds, OutOfLimits, BadDate, BadBox}
+use Rattle.rank_query.proofs.Cited.{EmptyPeriod, Asked, query_text, words_of, says, keyword, number, element, heat}
+use Rattle.rank_query.proofs.Cited.{months, degrees, code, date, edge, place_behind, BeginQuery, EndsTooEarly, StandsIn}
+use Rattle.rank_query.proofs.Cited.{sum_at, no_score_at, score_at, box_at, region_at, season_at, days_at, period_at}
+use Rattle.rank_query.proofs.Cited.{read_words, read_query}
 use Rattle.std.specs.Fmt.{digits}
-use Rattle.std.specs.List.{repeat}
-use Rattle.std.proofs.lemmas.Int.{ints}
-use Rattle.jiff_core.specs.Calendar.{days_from_civil, day_count, days_of_years, days_of_months}
-use Rattle.ghcn_fields.specs.Dates.{year_and_rest, month_and_day}
-use Rattle.ghcn_files.specs.declared.element.Element.TheVariants.{Tmax, Tmin, Prcp}
 use Rattle.ghcn_files.specs.declared.station.Station.{Station}
-use Rattle.rank_query.specs.declared.score.Score.{Score}
-use Rattle.rank_query.specs.declared.score.Score.TheVariants.{Highest, Lowest, Sum, Dry, Wet, Hot}
-use Rattle.rank_query.specs.declared.region.Region.{Region}
-use Rattle.rank_query.specs.declared.region.Region.TheVariants.{Everywhere, Inside, Country, State, Only}
-use Rattle.rank_query.specs.declared.fault.QueryFault.TheVariants.{QueryTooLong, UnexpectedWord, QueryEnds}
-use Rattle.rank_query.specs.declared.fault.QueryFault.TheVariants.{OutOfLimits, BadDate, BadBox, EmptyPeriod}
-use Rattle.rank_query.specs.Asked.{Asked}
 use Rattle.rank_query.specs.Admits.{region_holds, admits_day}
-use Rattle.rank_query.specs.QueryTexts.{query_text}
-use Rattle.rank_query.specs.Words.{words_of, says}
-use Rattle.rank_query.specs.Readers.{keyword}
-use Rattle.rank_query.specs.WordValues.{number, element, heat, months, degrees, code, date}
-use Rattle.rank_query.specs.FaultKinds.{number as a_number, heat as a_heat, season as a_season, edge}
-use Rattle.rank_query.specs.FaultKinds.{date as a_date, other as another, place_behind}
-use Rattle.rank_query.specs.FaultPlaces.{BeginQuery, EndsTooEarly, StandsIn}
-use Rattle.rank_query.specs.Reading.{sum_at, no_score_at, score_at, box_at, region_at, season_at, days_at, period_at}
-use Rattle.rank_query.specs.Reading.{read_words, read_query}
+use Rattle.rank_query.specs.FaultKinds.{number as a_number, heat as a_heat, season as a_season, date as a_date}
+use Rattle.rank_query.specs.FaultKinds.{other as another}
 use Rattle.rank_query.proofs.FaultPlaces.{fault_stands, one_place}
 
 -- a query of a region and all days

@@ -1,35 +1,21 @@
 -- Each fault of a word is the one that the words before it call for.
-use Rattle.std.proofs.Common.{◌≡◌, ℕ, ◌+◌, Bool, true, false, cond, ◌&&◌, ◌⊎◌, inl, inr, List, [], ◌∷◌, ◌++◌, length}
-use Rattle.std.proofs.Common.{reverse, Option, Some, None, Result, Ok, Err, IfErr, codes, refl, sym, ap, ◌∙◌, subst}
-use Rattle.std.proofs.Common.{is_some, arith}
-use Rattle.std.specs.Prelude.{nat_lt, ℤ, pos, neg_ℤ, int_le}
-use Rattle.std.specs.List.{AllByRecursion}
-use Rattle.std.proofs.lemmas.List.{map-append, length-map, length-reverse, reverse-reverse}
+use Rattle.rank_query.proofs.Cited.{ints, ◌≡◌, ℕ, ◌+◌, Bool, true, false, cond, ◌&&◌, ◌⊎◌, inl, inr, List, [], ◌∷◌}
+use Rattle.rank_query.proofs.Cited.{◌++◌, length, reverse, Option, Some, None, Result, Ok, Err, IfErr, codes, refl, sym}
+use Rattle.rank_query.proofs.Cited.{ap, ◌∙◌, subst, is_some, arith, nat_lt, ℤ, pos, neg_ℤ, int_le, AllByRecursion}
+use Rattle.rank_query.proofs.Cited.{map-append, length-map, length-reverse, reverse-reverse, read_date}
+use Rattle.rank_query.proofs.Cited.{is_within, natural, scaled_field, Element, element_of, is_number_within, number_of}
+use Rattle.rank_query.proofs.Cited.{Score, Highest, Lowest, Sum, Dry, Wet, Hot, Region, Everywhere, Inside, Country}
+use Rattle.rank_query.proofs.Cited.{State, Only, QueryFault, QueryTooLong, UnexpectedWord, QueryEnds, OutOfLimits}
+use Rattle.rank_query.proofs.Cited.{BadDate, BadBox, EmptyPeriod, Asked, is_temperature, is_fall, is_heat, is_month}
+use Rattle.rank_query.proofs.Cited.{is_code, Word, says, words_of, numbered_words, ◌>>=◌, Read, keyword, one_word}
+use Rattle.rank_query.proofs.Cited.{made_into, by_word, number, element, heat, months, degrees, code, date, tenths_of}
+use Rattle.rank_query.proofs.Cited.{two_numbers, no_score_at, highest_at, lowest_at, sum_at, dry_at, wet_at, hot_at}
+use Rattle.rank_query.proofs.Cited.{score_at, box_at, country_at, state_at, station_at, everywhere_at, region_at}
+use Rattle.rank_query.proofs.Cited.{months_at, all_year_at, season_at, days_at, between_at, always_at, period_at}
+use Rattle.rank_query.proofs.Cited.{nothing_more, read_words, read_query, place_behind, edge, other, has_form, is_date}
+use Rattle.rank_query.proofs.Cited.{is_decimal, is_behind_box, is_behind_first_day, IsFaultAmong}
 use mathlib.Core.List.{reverse_aux}
-use Rattle.ghcn_fields.specs.Bytes.{same_bytes}
-use Rattle.ghcn_fields.specs.Dates.{read_date}
-use Rattle.ghcn_fields.specs.Days.{is_within}
-use Rattle.ghcn_fields.specs.Numbers.{natural, scaled_field}
-use Rattle.ghcn_files.specs.declared.element.Element.{Element}
-use Rattle.ghcn_files.specs.Elements.{element_of}
-use Rattle.ghcn_files.specs.StationLines.{is_number_within, number_of}
-use Rattle.rank_query.specs.declared.score.Score.{Score}
-use Rattle.rank_query.specs.declared.score.Score.TheVariants.{Highest, Lowest, Sum, Dry, Wet, Hot}
-use Rattle.rank_query.specs.declared.region.Region.{Region}
-use Rattle.rank_query.specs.declared.region.Region.TheVariants.{Everywhere, Inside, Country, State, Only}
-use Rattle.rank_query.specs.declared.fault.QueryFault.{QueryFault}
-use Rattle.rank_query.specs.declared.fault.QueryFault.TheVariants.{QueryTooLong, UnexpectedWord, QueryEnds, OutOfLimits}
-use Rattle.rank_query.specs.declared.fault.QueryFault.TheVariants.{BadDate, BadBox, EmptyPeriod}
-use Rattle.rank_query.specs.Asked.{Asked, is_temperature, is_fall, is_heat, is_month, is_code}
-use Rattle.rank_query.specs.Words.{Word, says, words_of, numbered_words}
-use Rattle.rank_query.specs.Readers.{◌>>=◌, Read, keyword, one_word, made_into, by_word}
-use Rattle.rank_query.specs.WordValues.{number, element, heat, months, degrees, code, date, tenths_of, two_numbers}
-use Rattle.rank_query.specs.Reading.{no_score_at, highest_at, lowest_at, sum_at, dry_at, wet_at, hot_at, score_at}
-use Rattle.rank_query.specs.Reading.{box_at, country_at, state_at, station_at, everywhere_at, region_at, months_at}
-use Rattle.rank_query.specs.Reading.{all_year_at, season_at, days_at, between_at, always_at, period_at, nothing_more}
-use Rattle.rank_query.specs.Reading.{read_words, read_query}
-use Rattle.rank_query.specs.FaultKinds.{place_behind, number as a_number, edge, date as a_date, other, has_form}
-use Rattle.rank_query.specs.FaultKinds.{is_date, is_decimal, is_behind_box, is_behind_first_day, IsFaultAmong}
+use Rattle.rank_query.specs.FaultKinds.{number as a_number, date as a_date}
 use Rattle.rank_query.proofs.ReadingSteps.{said, unnumbered, unnumbered-enumerate_from, tested, tested_err, test_err}
 use Rattle.rank_query.proofs.ReadingSteps.{test_ok, or_fault_err}
 use Rattle.rank_query.proofs.Spellings.{asked}
@@ -68,6 +54,12 @@ here : (past : List (List ℕ)) (w : Word) (rest : List Word) (fault : QueryFaul
     → IsFaultBehind past (w ∷ rest) fault
 here past w rest fault is = inr (record { before = []; word = w; behind = rest; parts = refl; kind = is })
 
+-- a word that no place calls for is unexpected
+unexpected : (past : List (List ℕ)) (w : Word) (rest : List Word) (fault : QueryFault) → IsSettled past
+    → UnexpectedWord w.0 ≡ fault → IsFaultBehind past (w ∷ rest) fault
+unexpected past w rest fault settled is =
+    here past w rest fault (subst (λ f. IsKind f w.0 past w.1) is (refl, inl settled))
+
 -- or one behind it
 further : (past : List (List ℕ)) (w : Word) (rest : List Word) (fault : QueryFault)
     → IsFaultBehind (w.1 ∷ past) rest fault → IsFaultBehind past (w ∷ rest) fault
@@ -77,8 +69,7 @@ further past w rest fault (inr is) =
       before = w ∷ is.before;
       word = is.word;
       behind = is.behind;
-      parts = ap
-          (λ ws. w ∷ ws) is.parts;
+      parts = ap (λ ws. w ∷ ws) is.parts;
       kind = is.kind;
     })
 
@@ -96,12 +87,10 @@ made_then make (Err d) g = refl
 
 -- a fault at one word, or behind it
 one_step : {A C : Type 0} (value : Word → Result A QueryFault) (g : A × List Word → Result C QueryFault)
-    (past : List (List ℕ)) (ws : List Word) (fault : QueryFault)
-    → (one_word value ws >>= g) ≡ Err fault
+    (past : List (List ℕ)) (ws : List Word) (fault : QueryFault) → (one_word value ws >>= g) ≡ Err fault
     → ((w : Word) (f : QueryFault) → value w ≡ Err f → IsKind f w.0 past w.1)
     → ((w : Word) (x : A) (rest : List Word) → value w ≡ Ok x → g (x, rest) ≡ Err fault
-    → IsFaultBehind past (w ∷ rest) fault)
-    → IsFaultBehind past ws fault
+    → IsFaultBehind past (w ∷ rest) fault) → IsFaultBehind past ws fault
 one_step value g past [] fault e wrong next = let same : QueryEnds ≡ fault = cc in inl (sym same)
 one_step {A} {C} value g past (w ∷ rest) fault e wrong next = by_value (value w) refl e where
   by_value : (r : Result A QueryFault) → value w ≡ r → ((r >>= λ x. Ok (x, rest)) >>= g) ≡ Err fault
@@ -115,17 +104,14 @@ inner_step : {A B C : Type 0} (value : Word → Result A QueryFault) (f : A × L
     → ((one_word value ws >>= f) >>= g) ≡ Err fault
     → ((w : Word) (d : QueryFault) → value w ≡ Err d → IsKind d w.0 past w.1)
     → ((w : Word) (x : A) (rest : List Word) → value w ≡ Ok x → (f (x, rest) >>= g) ≡ Err fault
-    → IsFaultBehind past (w ∷ rest) fault)
-    → IsFaultBehind past ws fault
+    → IsFaultBehind past (w ∷ rest) fault) → IsFaultBehind past ws fault
 inner_step value f g past ws fault e wrong next =
     one_step value (λ x. f x >>= g) past ws fault (sym (assoc (one_word value ws) f g) ∙ e) wrong next
 
 -- a fault at a keyword, or behind it
 keyword_step : {C : Type 0} (text : List ℕ) (g : List Word → Result C QueryFault) (past : List (List ℕ))
-    (ws : List Word) (fault : QueryFault)
-    → (keyword text ws >>= g) ≡ Err fault → IsSettled past
-    → ((rest : List Word) → g rest ≡ Err fault → IsFaultBehind (text ∷ past) rest fault)
-    → IsFaultBehind past ws fault
+    (ws : List Word) (fault : QueryFault) → (keyword text ws >>= g) ≡ Err fault → IsSettled past
+    → ((rest : List Word) → g rest ≡ Err fault → IsFaultBehind (text ∷ past) rest fault) → IsFaultBehind past ws fault
 unfolding keyword
 keyword_step text g past [] fault e settled next = let same : QueryEnds ≡ fault = cc in inl (sym same)
 keyword_step text g past (w ∷ rest) fault e settled next = by_says (says text w.1) refl e where
@@ -134,9 +120,7 @@ keyword_step text g past (w ∷ rest) fault e settled next = by_says (says text 
   by_says true is e =
       further past w rest fault (subst (λ (t : List ℕ). IsFaultBehind (t ∷ past) rest fault) (sym (said text w.1 is))
       (next rest e))
-  by_says false is e =
-      let same : UnexpectedWord w.0 ≡ fault = cc in here past w rest fault
-      (subst (λ f. IsKind f w.0 past w.1) same (refl, inl settled))
+  by_says false is e = unexpected past w rest fault settled (let same : UnexpectedWord w.0 ≡ fault = cc in same)
 
 -- how it goes on behind a part
 abbrev Next : (A : Type 0) → (A × List Word → Result Asked QueryFault) → QueryFault → Type 0
@@ -159,8 +143,7 @@ Row A text read =
 row_step : {A : Type 0} (text : List ℕ) (read : List Word → Read A) (table : List (List ℕ × (List Word → Read A)))
     (otherwise : List Word → Read A)
     → Row A text read → Part A (by_word table otherwise) → Part A (by_word ((text, read) ∷ table) otherwise)
-row_step text read table otherwise row others past [] g fault settled e next =
-    others past [] g fault settled e next
+row_step text read table otherwise row others past [] g fault settled e next = others past [] g fault settled e next
 row_step {A} text read table otherwise row others past (w ∷ rest) g fault settled e next =
     by_says (says text w.1) refl e where
       by_says : (b : Bool) → says text w.1 ≡ b
@@ -185,10 +168,7 @@ ReadByForm read past = (word : List ℕ) → has_form (place_behind past) word �
 limited_kind : {A : Type 0} (read : List ℕ → Option A) (within : A → Bool) (past : List (List ℕ))
     → ReadByForm read past → (w : Word) (f : QueryFault) → tested read within OutOfLimits w ≡ Err f
     → IsKind f w.0 past w.1
-limited_kind read within past form w f e = elim (tested_err read within OutOfLimits w f e) [
-  | inl none ↦ subst (λ f. IsKind f w.0 past w.1) none.1 (refl, inr (form w.1 ∙ ap (λ o. Some (is_some o)) none.0))
-  | inr far ↦ subst (λ f. IsKind f w.0 past w.1) far.2 (refl, form w.1 ∙ ap (λ o. Some (is_some o)) far.1)
-]
+limited_kind read within past form w f e = grind (arith, ints, tested_err)
 
 -- of a number
 number_kind : (low high : ℕ) (past : List (List ℕ)) → place_behind past ≡ a_number → (w : Word) (f : QueryFault)
@@ -196,18 +176,6 @@ number_kind : (low high : ℕ) (past : List (List ℕ)) → place_behind past �
 unfolding number
 number_kind low high past place w f e = limited_kind natural (is_within low high) past
     (λ word. ap (λ p. has_form p word) place) w f e
-
--- of degrees from which on a day is hot
-heat_kind : (past : List (List ℕ)) → ReadByForm tenths_of past → (w : Word) (f : QueryFault) → heat w ≡ Err f
-    → IsKind f w.0 past w.1
-unfolding heat
-heat_kind past form w f e = limited_kind tenths_of is_heat past form w f e
-
--- of the months of a season
-months_kind : (past : List (List ℕ)) → ReadByForm two_numbers past → (w : Word) (f : QueryFault) → months w ≡ Err f
-    → IsKind f w.0 past w.1
-unfolding months
-months_kind past form w f e = limited_kind two_numbers (λ s. is_month s.0 && is_month s.1) past form w f e
 
 -- of an element
 element_kind : (allows : Element → Bool) (past : List (List ℕ)) → IsSettled past → (w : Word) (f : QueryFault)
@@ -273,7 +241,8 @@ sum_row = λ past ws g fault e next.
 
 -- degrees from which on a day is hot
 hot_row : Row Score (codes "hot") hot_at
-hot_row = made_row (codes "hot") heat Hot (λ past. heat_kind (codes "hot" ∷ past) (λ word. refl))
+unfolding heat
+hot_row = made_row (codes "hot") heat Hot (λ past. limited_kind tenths_of is_heat (codes "hot" ∷ past) (λ word. refl))
     (λ past w t is. settled_word w.1 (codes "hot" ∷ past) (heat_no_keyword w t is) refl refl)
 
 -- a word alone
@@ -286,8 +255,7 @@ no_score : Part Score no_score_at
 unfolding no_score_at
 no_score past [] g fault settled e next = let same : QueryEnds ≡ fault = cc in inl (sym same)
 no_score past (w ∷ rest) g fault settled e next =
-    let same : UnexpectedWord w.0 ≡ fault = cc in
-    here past w rest fault (subst (λ f. IsKind f w.0 past w.1) same (refl, inl settled))
+    unexpected past w rest fault settled (let same : UnexpectedWord w.0 ≡ fault = cc in same)
 
 -- a score
 score_part : Part Score score_at
@@ -308,21 +276,16 @@ score_part =
 -- behind four edges another word stands
 edges_settled : (e n w s : List ℕ) (box : List (List ℕ)) → IsNoKeyword e → IsNoKeyword n → IsNoKeyword w
     → IsNoKeyword s → IsSettled (e ∷ n ∷ w ∷ s ∷ box)
-edges_settled e n w s box no_e no_n no_w no_s =
-    settled_word e (n ∷ w ∷ s ∷ box) no_e
-    (edge_less 1 n (w ∷ s ∷ box) no_n.box (edge_less 0 w (s ∷ box) no_w.box no_s.box))
-    (not_both (is_date n) (same_bytes w (codes "from")) no_w.from)
+edges_settled e n w s box no_e no_n no_w no_s = grind (arith, ints, settled_word, edge_less, not_both)
 
 -- a fault at an edge of a box, or behind it
 edge_step : {B C : Type 0} (low high : ℤ) (f : ℤ × List Word → Result B QueryFault) (g : B → Result C QueryFault)
     (past : List (List ℕ)) (ws : List Word) (fault : QueryFault)
     → ((one_word (degrees low high) ws >>= f) >>= g) ≡ Err fault → is_behind_box 3 past ≡ true
     → ((w : Word) (z : ℤ) (rest : List Word) → IsNoKeyword w.1 → is_decimal w.1 ≡ true
-    → (f (z, rest) >>= g) ≡ Err fault → IsFaultBehind (w.1 ∷ past) rest fault)
-    → IsFaultBehind past ws fault
+    → (f (z, rest) >>= g) ≡ Err fault → IsFaultBehind (w.1 ∷ past) rest fault) → IsFaultBehind past ws fault
 edge_step low high f g past ws fault e behind next = inner_step (degrees low high) f g past ws fault e
-    (degrees_kind low high past (edge_place past behind))
-    (λ w z rest is e. further past w rest fault
+    (degrees_kind low high past (edge_place past behind)) (λ w z rest is e. further past w rest fault
     (next w z rest (degrees_no_keyword low high w z is) (degrees_decimal low high w z is) e))
 
 -- the four edges of a box
@@ -375,14 +338,16 @@ region_part =
     ) (always_part Everywhere)
   where
     two : HaveOtherLengths 2
-    two = record { box = refl; top = refl; sum = refl; hot = refl; months = refl; from = refl }
+    two = (refl, (refl, (refl, (refl, (refl, (refl, tt))))))
 
     eleven : HaveOtherLengths 11
-    eleven = record { box = refl; top = refl; sum = refl; hot = refl; months = refl; from = refl }
+    eleven = (refl, (refl, (refl, (refl, (refl, (refl, tt))))))
 
 -- two months behind "months"
 months_row : Row (Option (ℕ × ℕ)) (codes "months") months_at
-months_row = made_row (codes "months") months Some (λ past. months_kind (codes "months" ∷ past) (λ word. refl))
+unfolding months
+months_row = made_row (codes "months") months Some
+    (λ past. limited_kind two_numbers (λ s. is_month s.0 && is_month s.1) (codes "months" ∷ past) (λ word. refl))
     (λ past w s is. settled_word w.1 (codes "months" ∷ past) (months_no_keyword w s is) refl refl)
 
 -- a season
@@ -401,8 +366,7 @@ days_row = λ past ws g fault e next.
     let to : List (List ℕ) = codes "to" ∷ day in
     let place : place_behind to ≡ a_date = ap (λ b. cond (b && true) a_date other) (day_date w first is) in
     further from w rest fault (
-    keyword_step (codes "to") _ day rest fault
-    (sym (assoc (keyword (codes "to") rest) _ (λ p. g (Some p.0, p.1))) ∙ e)
+    keyword_step (codes "to") _ day rest fault (sym (assoc (keyword (codes "to") rest) _ (λ p. g (Some p.0, p.1))) ∙ e)
     (settled_word w.1 from (date_no_keyword w first is) refl refl) (λ rest e.
     inner_step date (λ last. cond (int_le first last.0) (Ok ((first, last.0), last.1)) (Err EmptyPeriod))
     (λ p. g (Some p.0, p.1)) to rest fault e (date_kind to place) (λ v last rest is e.
@@ -428,8 +392,7 @@ nothing_kind : (past : List (List ℕ)) (ws : List Word) (q : Asked) (fault : Qu
     → nothing_more ws q ≡ Err fault → IsFaultBehind past ws fault
 nothing_kind past [] q fault settled e = absurd cc
 nothing_kind past (w ∷ rest) q fault settled e =
-    let same : UnexpectedWord w.0 ≡ fault = cc in
-    here past w rest fault (subst (λ f. IsKind f w.0 past w.1) same (refl, inl settled))
+    unexpected past w rest fault settled (let same : UnexpectedWord w.0 ≡ fault = cc in same)
 
 -- the fault of the words of a query
 words_kind : (ws : List Word) (fault : QueryFault) → read_words ws ≡ Err fault → IsFaultBehind [] ws fault

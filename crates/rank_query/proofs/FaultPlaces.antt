@@ -1,19 +1,11 @@
 -- The fault that is told stands at the first word with which no query goes on.
-use Rattle.std.proofs.Common.{◌≡◌, ℕ, ◌+◌, ◌<◌, ◌≤◌, Bool, true, false, cond, ◌⊎◌, inl, inr, List, [], ◌∷◌, ◌++◌}
-use Rattle.std.proofs.Common.{length, Result, Ok, Err, refl, sym, ap, ◌∙◌, subst, append_assoc, append-nil, IfErr}
-use Rattle.std.proofs.Common.{arith}
-use Rattle.std.specs.Prelude.{nat_lt}
-use Rattle.std.specs.List.{enumerate_from, AllByRecursion}
-use Rattle.std.proofs.lemmas.List.{map-append, length-map}
-use Rattle.std.proofs.lemmas.Bool.Decides.{nat_tests}
-use Rattle.rank_query.specs.declared.fault.QueryFault.{QueryFault}
-use Rattle.rank_query.specs.declared.fault.QueryFault.TheVariants.{QueryTooLong, UnexpectedWord, QueryEnds}
-use Rattle.rank_query.specs.declared.fault.QueryFault.TheVariants.{OutOfLimits, BadDate, BadBox, EmptyPeriod}
-use Rattle.rank_query.specs.Asked.{Asked, IsAsked}
-use Rattle.rank_query.specs.Words.{Word, words_of, numbered_words}
-use Rattle.rank_query.specs.Spelling.{SpellsQuery}
-use Rattle.rank_query.specs.Reading.{read_words, read_query}
-use Rattle.rank_query.specs.FaultPlaces.{BeginQuery, IsFirstWrong, IsFirstWrongAt, SpellNone, StandsAmong, StandsIn}
+use Rattle.rank_query.proofs.Cited.{◌≡◌, ℕ, ◌+◌, ◌<◌, ◌≤◌, Bool, true, false, cond, ◌⊎◌, inl, inr, List, [], ◌∷◌, ◌++◌}
+use Rattle.rank_query.proofs.Cited.{length, Result, Ok, Err, refl, sym, ap, ◌∙◌, subst, append_assoc, append-nil, IfErr}
+use Rattle.rank_query.proofs.Cited.{arith, nat_lt, enumerate_from, AllByRecursion, map-append, length-map, nat_tests}
+use Rattle.rank_query.proofs.Cited.{QueryFault, QueryTooLong, UnexpectedWord, QueryEnds, OutOfLimits, BadDate, BadBox}
+use Rattle.rank_query.proofs.Cited.{EmptyPeriod, Asked, IsAsked, Word, words_of, numbered_words, SpellsQuery}
+use Rattle.rank_query.proofs.Cited.{read_words, read_query, BeginQuery, IsFirstWrong, IsFirstWrongAt, SpellNone}
+use Rattle.rank_query.proofs.Cited.{StandsAmong, StandsIn}
 use Rattle.rank_query.proofs.OneWords.{HasNoBlank, words_no_blank}
 use Rattle.rank_query.proofs.ReadingSteps.{unnumbered, unnumbered-enumerate_from}
 use Rattle.rank_query.proofs.Spellings.{words_spell, spelt_read}
@@ -45,8 +37,7 @@ place_of n (v ∷ words) [] w behind e =
     let at : n ≡ w.0 = ap (λ (w : Word). w.0) first in
     record {
       number = omega (arith, at);
-      again = λ more.
-          (enumerate_from (n + 1) more, ap (λ (m : ℕ). (m, w.1) ∷ enumerate_from (n + 1) more) at);
+      again = λ more. (enumerate_from (n + 1) more, ap (λ (m : ℕ). (m, w.1) ∷ enumerate_from (n + 1) more) at);
     }
 place_of n [] (b ∷ before) w behind e = absurd cc
 place_of n (v ∷ words) (b ∷ before) w behind e =

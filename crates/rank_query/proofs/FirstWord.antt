@@ -1,17 +1,10 @@
 -- The first word of a text, and the words after it.
-use Rattle.std.proofs.Common.{◌≡◌, ℕ, ◌+◌, ◌<◌, ◌≤◌, Bool, true, false, not, cond, List, [], ◌∷◌, length, take, drop}
-use Rattle.std.proofs.Common.{get_or, All, filter, refl, sym, ap, ◌∙◌, inl, inr, Some, None, arith}
-use Rattle.std.specs.Prelude.{nat_lt}
-use Rattle.std.specs.Option.{unwrap_or}
-use Rattle.std.specs.List.{slice_split, position, position_or_len, enumerate_from}
-use Rattle.std.proofs.lemmas.Bool.Decides.{nat_tests}
-use Rattle.std.proofs.lemmas.Grind.{common_steps}
-use Rattle.std.proofs.lemmas.List.{take_all, drop_all, drop_more}
-use Rattle.std.proofs.lemmas.List.Sums.{fails_before_first, passes_at_first, prefix_len-le-length}
-use Rattle.std.proofs.lemmas.List.Splits.{slice_split_none, slice_split_first, slice_split-cons_yes}
-use Rattle.std.proofs.lemmas.Bool.{cases_lt}
-use Rattle.ghcn_fields.specs.Numbers.{after_blanks}
-use Rattle.rank_query.specs.Words.{is_separator, is_word, words_of}
+use Rattle.rank_query.proofs.Cited.{ints, ◌≡◌, ℕ, ◌+◌, ◌<◌, ◌≤◌, Bool, true, false, not, cond, List, [], ◌∷◌, length}
+use Rattle.rank_query.proofs.Cited.{take, drop, get_or, All, filter, refl, sym, ap, ◌∙◌, inl, inr, Some, None, arith}
+use Rattle.rank_query.proofs.Cited.{nat_lt, unwrap_or, slice_split, position, position_or_len, enumerate_from}
+use Rattle.rank_query.proofs.Cited.{nat_tests, take_all, drop_all, drop_more, fails_before_first}
+use Rattle.rank_query.proofs.Cited.{passes_at_first, prefix_len-le-length, slice_split_none, slice_split_first}
+use Rattle.rank_query.proofs.Cited.{slice_split-cons_yes, cases_lt, after_blanks, is_separator, is_word, words_of}
 
 -- a blank before a text adds no word
 pub words_of-blank : (b : ℕ) (bytes : List ℕ) → is_separator b ≡ true → words_of (b ∷ bytes) ≡ words_of bytes
@@ -31,9 +24,7 @@ words_of-after_blanks (b ∷ bytes) = by_first (is_separator b) b bytes refl (wo
 -- a part that isn't empty is a word
 first_kept : (part : List ℕ) (parts : List (List ℕ)) → 0 < length part
     → filter is_word (part ∷ parts) ≡ part ∷ filter is_word parts
-first_kept part parts some =
-    let e : is_word part ≡ true = grind (arith, nat_tests) in ap
-    (λ b. cond b (part ∷ filter is_word parts) (filter is_word parts)) e
+first_kept part parts some = grind (arith, ints)
 
 -- the first word ends where a blank stands
 ends_at_blank : (text : List ℕ) (n : ℕ) → n ≡ position_or_len is_separator text → 0 < n → n < length text
@@ -47,9 +38,7 @@ ends_at_blank text n e some inside =
     ∙ passes_at_first is_separator text 0 at in
     let rest : words_of (drop n text) ≡ words_of (drop (n + 1) text) = ap words_of (drop_more text n 0 inside)
     ∙ words_of-blank (get_or text n 0) (drop (n + 1) text) blank in
-    let long : 0 < length (take n text) = grind (arith, common_steps) in
-    ap (filter is_word) parts ∙ first_kept (take n text) (slice_split is_separator (drop (n + 1) text)) long
-    ∙ ap (λ ws. take n text ∷ ws) (sym rest)
+    grind (arith, ints, first_kept)
 
 -- the only word ends with the text
 ends_with_text : (text : List ℕ) (n : ℕ) → n ≡ position_or_len is_separator text → 0 < n → length text ≤ n
@@ -59,10 +48,9 @@ ends_with_text text n e some outside =
     (λ b. not (is_separator b)) text in
     let none : All (λ b. is_separator b ≡ false) text = λ k d lt. fails_before_first is_separator text k d
     (omega arith) in
-    let long : 0 < length text = omega arith in
-    ap (filter is_word) (slice_split_none is_separator text none) ∙ first_kept text [] long
-    ∙ ap (λ w. w ∷ []) (sym (take_all n text outside))
-    ∙ ap (λ rest. take n text ∷ words_of rest) (sym (drop_all n text outside))
+    let split = slice_split_none is_separator text none in
+    let kept = first_kept text [] (omega arith) in
+    rw (split, kept, take_all n text outside, drop_all n text outside)
 
 -- a text that begins with no blank is its first word, and the words after it
 pub words_of-first : (text : List ℕ) (n : ℕ) → n ≡ position_or_len is_separator text → 0 < n
@@ -97,7 +85,7 @@ first_word text rest n e some at =
     let same : position_or_len is_separator rest ≡ position_or_len is_separator (after_blanks text) = ap
     (position_or_len is_separator) e in
     let here : 0 < n = omega (arith, same, at, after_blanks-first text (omega (arith, ap length e, some))) in
-    (sym (words_of-after_blanks text) ∙ ap words_of (sym e) ∙ words_of-first rest n at here, here)
+    grind (arith, ints, words_of-after_blanks, words_of-first)
 
 -- the empty text has no word
 of_empty : (rest : List ℕ) → length rest ≡ 0 → words_of rest ≡ []
@@ -132,13 +120,8 @@ after_blanks-le (b ∷ bytes) = past_le (is_separator b) b bytes (after_blanks-l
 -- the numbered words of a text are its first word, and those of what is left
 pub words_left : (given : ℕ) (all : List (ℕ × List ℕ)) (text word rest shown left : List ℕ)
     → enumerate_from (given + 1) (words_of text) ≡ all → words_of text ≡ word ∷ words_of rest → word ≡ shown
-    → rest ≡ left
-    → all ≡ (given + 1, shown) ∷ enumerate_from (given + 1 + 1) (words_of left)
-words_left given all text word rest shown left view first same over =
-    sym view
-    ∙ ap (enumerate_from (given + 1)) first
-    ∙ ap (λ (w : List ℕ). (given + 1, w) ∷ enumerate_from (given + 1 + 1) (words_of rest)) same
-    ∙ ap (λ (r : List ℕ). (given + 1, shown) ∷ enumerate_from (given + 1 + 1) (words_of r)) over
+    → rest ≡ left → all ≡ (given + 1, shown) ∷ enumerate_from (given + 1 + 1) (words_of left)
+words_left given all text word rest shown left view first same over = cc
 
 -- a list that is one item and then others is longer than those
 pub longer : {A : Type 0} (all : List A) (x : A) (others : List A) → all ≡ x ∷ others → length others < length all

@@ -1,3 +1,4 @@
+mod Cited
 pub mod FirstWord
 pub mod Numerals
 pub mod OneWords

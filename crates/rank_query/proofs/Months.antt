@@ -1,15 +1,10 @@
 -- Days one after another in one month.
-use Rattle.std.proofs.Common.{◌≡◌, ℕ, ◌+◌, ◌-◌, ◌≤◌, true, ◌&&◌, Some, ap, ◌∙◌, arith}
-use Rattle.std.specs.Prelude.{ℤ, pos, ◌+ℤ◌, ◌-ℤ◌, ◌≤ℤ◌, unsigned_abs}
-use Rattle.std.proofs.lemmas.Bool.{and_parts}
-use Rattle.std.proofs.lemmas.Bool.Decides.{nat_tests}
-use Rattle.std.proofs.lemmas.Int.{ints}
-use Rattle.std.proofs.lemmas.Option.{cond_some}
-use Rattle.jiff_core.specs.Calendar.{days_from_civil, days_in_month}
+use Rattle.rank_query.proofs.Cited.{◌≡◌, ℕ, ◌+◌, ◌-◌, ◌≤◌, true, ◌&&◌, Some, ap, ◌∙◌, arith, ℤ, pos, ◌+ℤ◌, ◌-ℤ◌, ◌≤ℤ◌}
+use Rattle.rank_query.proofs.Cited.{unsigned_abs, and_parts, nat_tests, ints, cond_some, days_from_civil, days_in_month}
+use Rattle.rank_query.proofs.Cited.{civil, is_within, day_number}
 use Rattle.jiff_core.proofs.SignedLemmas.{signed_arith}
 use Rattle.jiff_core.proofs.CalendarLemmas.{days_from_civil-day_count, day_count-day_of_year}
-use Rattle.ghcn_fields.specs.Dates.{civil}
-use Rattle.ghcn_fields.specs.Days.{is_within, is_date, day_number}
+use Rattle.ghcn_fields.specs.Days.{is_date}
 use Rattle.ghcn_fields.proofs.WholeDays.{day_number-law}
 
 -- a day of a month that the calendar has
@@ -25,7 +20,6 @@ pub placed : (y m d : ℕ) (n : ℤ) → day_number y m d ≡ Some n → IsPlace
 placed y m d n e =
     let both = cond_some (is_date y m d) (days_from_civil (pos y) m d) n e in
     let parts = and_parts (is_within 1 9999 y && is_within 1 12 m) (is_within 1 (days_in_month (pos y) m) d) both.0 in
-    let year = (and_parts (is_within 1 9999 y) (is_within 1 12 m) parts.0).0 in
     record {
       low = grind (arith, nat_tests);
       high = grind (arith, nat_tests);
@@ -51,7 +45,7 @@ later y m d i n is within =
     let date : is_date y m (d + i) ≡ true =
     ap (λ b. b && is_within 1 (days_in_month (pos y) m) (d + i)) is.before
     ∙ within_month y m (d + i) (omega (arith, is.low)) within in
-    rw date (ap (λ (z : ℤ). Some z) number)
+    cc
 
 -- the days up to the month's last one are of that month
 pub same_month : (y m d : ℕ) (n e : ℤ) → day_number y m d ≡ Some n → n ≤ℤ e

@@ -1,24 +1,13 @@
 -- The number that digits write, up to a limit.
-use Rattle.std.proofs.Common.{◌≡◌, ℕ, ◌+◌, ◌-◌, ◌*◌, ◌<◌, ◌≤◌, ◌^◌, Bool, true, false, cond, min, List, [], ◌∷◌, length}
-use Rattle.std.proofs.Common.{take, drop, get_or, Option, Some, None, Ok, Err, refl, sym, ap, ◌∙◌, arith, inl, inr}
-use Rattle.std.specs.Prelude.{◌==◌, ℤ, pos, neg_ℤ}
-use Rattle.std.specs.List.{list_all, before_first, after_first, position_or_len}
-use Rattle.std.specs.Option.{option_map}
-use Rattle.std.specs.Char.{is_ascii_digit, digit_value}
-use Rattle.std.specs.Str.Parse.{digits_value}
-use Rattle.std.proofs.lemmas.Bool.Decides.{nat_tests}
-use Rattle.std.proofs.lemmas.Bool.{false_from_ne_true, cases_Bool}
-use Rattle.std.proofs.lemmas.Int.{ints}
+use Rattle.rank_query.proofs.Cited.{◌≡◌, ℕ, ◌+◌, ◌-◌, ◌*◌, ◌<◌, ◌≤◌, ◌^◌, Bool, true, false, min, List, [], ◌∷◌}
+use Rattle.rank_query.proofs.Cited.{length, take, drop, get_or, Option, Some, None, Ok, Err, refl, sym, ap, ◌∙◌, arith}
+use Rattle.rank_query.proofs.Cited.{inl, inr, ◌==◌, ℤ, pos, neg_ℤ, list_all, before_first, after_first, position_or_len}
+use Rattle.rank_query.proofs.Cited.{option_map, is_ascii_digit, digit_value, digits_value, nat_tests}
+use Rattle.rank_query.proofs.Cited.{false_from_ne_true, cases_Bool, ints, drop_all, position_or_len_is, cond_some}
+use Rattle.rank_query.proofs.Cited.{IsFirstByte, is_byte, natural, joined, decimal_number, with_sign, signed_by}
+use Rattle.rank_query.proofs.Cited.{OutOfLimits, is_heat, heat, tenths_of, is_point}
+use Rattle.rank_query.proofs.Cited.{two_numbers, both_numbers, natural_behind}
 use Rattle.std.proofs.lemmas.Int.Digits.{digits_value_more}
-use Rattle.std.proofs.lemmas.List.{drop_all}
-use Rattle.std.proofs.lemmas.List.Sums.{position_or_len_is}
-use Rattle.std.proofs.lemmas.Option.{cond_some}
-use Rattle.memchr.specs.Find.{IsFirstByte, is_byte}
-use Rattle.ghcn_fields.specs.Numbers.{natural, joined, decimal_number, with_sign, signed_by}
-use Rattle.rank_query.specs.declared.fault.QueryFault.TheVariants.{UnexpectedWord, OutOfLimits}
-use Rattle.rank_query.specs.Asked.{is_heat}
-use Rattle.rank_query.specs.Readers.{◌>>=◌, or_fault}
-use Rattle.rank_query.specs.WordValues.{heat, tenths_of, is_point, two_numbers, both_numbers, natural_behind}
 use Rattle.rank_query.proofs.ReadingSteps.{tested_again}
 
 -- a digit's value
@@ -43,8 +32,6 @@ one_digit : (part : List ℕ) (p : ℕ) → natural part ≡ Some p → length p
 one_digit [] p e le = cc
 one_digit (d ∷ []) p e le =
     let both = cond_some (list_all is_ascii_digit (d ∷ [])) (digits_value 10 (d ∷ [])) p e in
-    let digit = both.0 in
-    let value = both.1 in
     (refl, grind (arith, nat_tests))
 one_digit (d ∷ c ∷ ds) p e le = absurd (omega arith)
 
@@ -75,10 +62,8 @@ sign-kept : (negative : Bool) (o : Option ℕ) (t : ℤ)
     → option_map (with_sign negative) (option_map (min 1001) o) ≡ Some t → IsKept (option_map (with_sign negative) o) t
 sign-kept negative None t e = cc
 sign-kept true (Some n) t e =
-    let same : neg_ℤ (pos (min 1001 n)) ≡ t = cc in
     record { it = neg_ℤ (pos n); is = refl; within = grind (arith, ints); same = λ is. grind (arith, ints) }
 sign-kept false (Some n) t e =
-    let same : pos (min 1001 n) ≡ t = cc in
     record { it = pos n; is = refl; within = grind (arith, ints); same = λ is. grind (arith, ints) }
 
 -- and with a minus or without one
@@ -106,8 +91,7 @@ pub heat-past : (at : ℕ) (word : List ℕ) (t : ℤ)
 unfolding heat
 heat-past at word t e outside =
     let kept = signed-kept word t e in
-    ap (λ o. or_fault (UnexpectedWord at) o >>= λ z. cond (is_heat z) (Ok z) (Err (OutOfLimits at))) kept.is
-    ∙ ap (λ b. cond b (Ok kept.it) (Err (OutOfLimits at))) (kept.within ∙ outside)
+    cc
 
 -- without a point there are no two numbers
 pub two-whole : (word : List ℕ) → IsFirstByte (is_byte 46) word None → two_numbers word ≡ None
@@ -129,4 +113,4 @@ two-point word point first =
     let at : position_or_len is_point word ≡ point =
     position_or_len_is is_point word point 0 (omega (arith, first.0.high))
     (λ k lt. false_from_ne_true _ (first.0.before k (omega arith) lt)) (λ _. first.1) in
-    ap (λ (n : ℕ). both_numbers (natural (take n word)) (natural_behind (drop (n + 1) word))) at
+    cc

@@ -1,11 +1,9 @@
 -- Words of a text: no blank stands in them, and those that are joined by blanks are the words of the text.
-use Rattle.std.proofs.Common.{◌≡◌, ℕ, Bool, true, false, not, cond, ◌&&◌, List, [], ◌∷◌, ◌++◌, All, filter, refl, ap}
-use Rattle.std.proofs.Common.{◌∙◌}
-use Rattle.std.specs.List.{slice_split, onto_first, join_with_byte, list_all, AllByRecursion}
+use Rattle.rank_query.proofs.Cited.{◌≡◌, ℕ, Bool, true, false, not, cond, ◌&&◌, List, [], ◌∷◌, ◌++◌, All, filter, refl}
+use Rattle.rank_query.proofs.Cited.{ap, ◌∙◌, slice_split, onto_first, join_with_byte, list_all, AllByRecursion}
+use Rattle.rank_query.proofs.Cited.{slice_split_none, slice_split_at, AllPass-from_list_all, is_separator, is_word}
+use Rattle.rank_query.proofs.Cited.{words_of}
 use Rattle.std.proofs.lemmas.List.Elements.{All-filter, recursion_from_All}
-use Rattle.std.proofs.lemmas.List.Splits.{slice_split_none, slice_split_at}
-use Rattle.std.proofs.lemmas.List.Sums.{AllPass-from_list_all}
-use Rattle.rank_query.specs.Words.{is_separator, is_word, words_of}
 
 -- a byte that stands in a word
 abbrev pub stands_in_word : ℕ → Bool
@@ -67,8 +65,7 @@ parts_no_blank (b ∷ bytes) = first_part (is_separator b) b (slice_split is_sep
 -- no word of a text has a blank
 pub words_no_blank : (text : List ℕ) → AllByRecursion HasNoBlank (words_of text)
 words_no_blank text =
-    recursion_from_All HasNoBlank (words_of text)
-    (All-filter is_word HasNoBlank (slice_split is_separator text)
+    recursion_from_All HasNoBlank (words_of text) (All-filter is_word HasNoBlank (slice_split is_separator text)
     (AllPass-from_list_all (list_all stands_in_word) (slice_split is_separator text) (parts_no_blank text)))
 
 -- what is true of all words is true of those behind some of them

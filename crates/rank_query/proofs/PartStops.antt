@@ -1,15 +1,12 @@
 -- Where the reading of one word stops, and that of a part that its first word tells.
-use Rattle.std.proofs.Common.{◌≡◌, ℕ, zero, Bool, true, false, cond, ◌⊎◌, inl, inr, List, [], ◌∷◌, Option, Some}
-use Rattle.std.proofs.Common.{None, Result, Ok, Err, refl, sym, ap, ◌∙◌, subst}
-use Rattle.std.specs.List.{AllByRecursion}
-use Rattle.rank_query.specs.declared.fault.QueryFault.{QueryFault}
-use Rattle.rank_query.specs.declared.fault.QueryFault.TheVariants.{UnexpectedWord, QueryEnds}
-use Rattle.rank_query.specs.Words.{Word, says}
-use Rattle.rank_query.specs.Readers.{◌>>=◌, Read, keyword, one_word, made_into, by_word}
+use Rattle.rank_query.proofs.Cited.{◌≡◌, ℕ, zero, Bool, true, false, cond, ◌⊎◌, inl, inr, List, [], ◌∷◌, Option, Some}
+use Rattle.rank_query.proofs.Cited.{None, Result, Ok, Err, refl, sym, ap, ◌∙◌, subst, AllByRecursion, QueryFault}
+use Rattle.rank_query.proofs.Cited.{UnexpectedWord, QueryEnds, Word, says, ◌>>=◌, Read, keyword, one_word, made_into}
+use Rattle.rank_query.proofs.Cited.{by_word}
 use Rattle.rank_query.proofs.OneWords.{HasNoBlank}
 use Rattle.rank_query.proofs.ReadingSteps.{bind_ok, test_err, made_into_took}
-use Rattle.rank_query.proofs.Stops.{Reading, then, GoesOn, IsWordOf, Stops, StopsFirst, TakesAll, Ended}
-use Rattle.rank_query.proofs.Stops.{ReadsPart, bind_err, Follows, same_follows, on_follows, stops_follows, stops_behind}
+use Rattle.rank_query.proofs.Stops.{Reading, then, GoesOn, IsWordOf, Stops, StopsFirst, TakesAll, Ended, ReadsPart}
+use Rattle.rank_query.proofs.Stops.{bind_err, Follows, same_follows, on_follows, stops_follows, stops_behind}
 use Rattle.rank_query.proofs.Stops.{stops_word, stops_end, takes_behind}
 
 -- a word's value is good, a word without one is told by its number, and some word has a value
@@ -132,8 +129,7 @@ pub part_the_word : (text : List ℕ) → HasNoBlank text → says text text ≡
     → ReadsPart ℕ Any (one_word (the_word text))
 part_the_word text clean same = part_word Any (the_word text) (record {
   good = λ w x e. tt;
-  told = λ w fault e. subst (λ f. IsWordOf f [] w)
-      (test_err (says text w.1) zero (UnexpectedWord w.0) fault e).1 refl;
+  told = λ w fault e. subst (λ f. IsWordOf f [] w) (test_err (says text w.1) zero (UnexpectedWord w.0) fault e).1 refl;
   sample = text;
   clean = clean;
   it = zero;
@@ -178,8 +174,7 @@ reads_or o read others = elim o [ Some rest ↦ read rest | None ↦ others ]
 
 -- the first word tells by which row all is read that begins with it, or that no row is
 pub by_first : {A : Type 0} (Good : A → Type 0) (table : List (List ℕ × (List Word → Read A)))
-    (otherwise : List Word → Read A) (w : Word)
-    → AllByRecursion (λ row. ReadsPart A Good row.1) table
+    (otherwise : List Word → Read A) (w : Word) → AllByRecursion (λ row. ReadsPart A Good row.1) table
     → ((read : List Word → Read A) × ReadsPart A Good read
     × ((rest : List Word) → by_word table otherwise (w ∷ rest) ≡ read rest))
     ⊎ ((rest : List Word) → by_word table otherwise (w ∷ rest) ≡ otherwise (w ∷ rest))

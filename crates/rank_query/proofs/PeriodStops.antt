@@ -1,24 +1,14 @@
 -- Where the reading of a period stops.
-use Rattle.std.proofs.Common.{◌≡◌, ℕ, Bool, true, false, cond, ◌&&◌, List, [], ◌∷◌, ◌++◌, Option, Some, Result, Ok}
-use Rattle.std.proofs.Common.{Err, codes, refl, ap, ◌∙◌, subst, arith}
-use Rattle.std.specs.Prelude.{ℤ, pos, int_le, ◌<ℤ◌}
-use Rattle.std.specs.List.{AllByRecursion}
-use Rattle.std.proofs.lemmas.Int.{ints}
-use Rattle.ghcn_fields.specs.Days.{is_day}
-use Rattle.ghcn_fields.specs.Dates.{date_text}
-use Rattle.rank_query.specs.declared.fault.QueryFault.{QueryFault}
-use Rattle.rank_query.specs.declared.fault.QueryFault.TheVariants.{UnexpectedWord, QueryEnds, EmptyPeriod}
-use Rattle.rank_query.specs.Asked.{is_period}
-use Rattle.rank_query.specs.Words.{Word, says}
-use Rattle.rank_query.specs.Readers.{◌>>=◌, Read, keyword, one_word}
-use Rattle.rank_query.specs.WordValues.{date}
-use Rattle.rank_query.specs.Reading.{days_at, between_at}
-use Rattle.rank_query.specs.FaultPlaces.{EndsTooEarly}
+use Rattle.rank_query.proofs.Cited.{◌≡◌, ℕ, Bool, true, false, cond, ◌&&◌, List, [], ◌∷◌, ◌++◌, Option, Some, Result}
+use Rattle.rank_query.proofs.Cited.{Ok, Err, codes, refl, ap, ◌∙◌, subst, arith, ℤ, pos, int_le, ◌<ℤ◌, AllByRecursion}
+use Rattle.rank_query.proofs.Cited.{ints, is_day, date_text, QueryFault, UnexpectedWord, QueryEnds, EmptyPeriod}
+use Rattle.rank_query.proofs.Cited.{is_period, Word, says, ◌>>=◌, Read, keyword, one_word, date, days_at, between_at}
+use Rattle.rank_query.proofs.Cited.{EndsTooEarly}
 use Rattle.rank_query.proofs.ReadingSteps.{said, test_ok, one_word_again}
 use Rattle.rank_query.proofs.WordValues.{date_written, date_day, written_date}
 use Rattle.rank_query.proofs.RegionWords.{and_true}
 use Rattle.rank_query.proofs.PrintedWords.{date_word}
-use Rattle.rank_query.proofs.Stops.{Reading, then, GoesOn, IsWordOf, Stops, Takes, TakesAll, Ended, ReadsPart}
+use Rattle.rank_query.proofs.Stops.{Reading, then, GoesOn, IsWordOf, Stops, TakesAll, Ended, ReadsPart}
 use Rattle.rank_query.proofs.Stops.{word_behind, stops_word, stops_end, takes_then}
 use Rattle.rank_query.proofs.PartStops.{beside, part_word, part_made, part_the_word, the_word, Any, keyword-then}
 use Rattle.rank_query.proofs.PartStops.{takes_same}
@@ -54,8 +44,7 @@ last_again : (first : ℤ) → is_day first ≡ true → last_from first ((0, da
 last_again first is =
     one_word_again date 0 (date_text first) [] first
     (λ (last : ℤ × List Word). cond (int_le first last.0) (Ok ((first, last.0), last.1)) (Err EmptyPeriod))
-    (written_date 0 first is)
-    ∙ ap (λ b. cond b (Ok ((first, first), [])) (Err EmptyPeriod)) (same_day first)
+    (written_date 0 first is) ∙ ap (λ b. cond b (Ok ((first, first), [])) (Err EmptyPeriod)) (same_day first)
 
 -- behind "to"
 to_again : (first : ℤ) → is_day first ≡ true → to_last first ((0, codes "to") ∷ (0, date_text first) ∷ []) ≡ Ok

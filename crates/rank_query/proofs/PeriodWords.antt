@@ -1,21 +1,11 @@
 -- The words of a period: those that are read as a period spell it, and those that spell it are read as it.
-use Rattle.std.proofs.Common.{◌≡◌, ℕ, ◌+◌, true, cond, ◌&&◌, List, [], ◌∷◌, Option, Some, None, Ok, Err}
-use Rattle.std.proofs.Common.{codes, refl, sym, ap, ◌∙◌, subst}
-use Rattle.std.specs.Prelude.{ℤ, int_le}
-use Rattle.std.specs.List.{enumerate_from}
-use Rattle.std.proofs.lemmas.Bool.{and_parts}
-use Rattle.ghcn_fields.specs.Days.{is_day}
-use Rattle.ghcn_fields.specs.Dates.{date_text}
-use Rattle.rank_query.specs.declared.region.Region.TheVariants.{Everywhere}
-use Rattle.rank_query.specs.declared.fault.QueryFault.TheVariants.{EmptyPeriod}
-use Rattle.rank_query.specs.Asked.{is_period}
-use Rattle.rank_query.specs.Words.{Word, says}
-use Rattle.rank_query.specs.Readers.{keyword, one_word, made_into}
-use Rattle.rank_query.specs.WordValues.{date}
-use Rattle.rank_query.specs.Reading.{region_at, season_at, days_at, between_at, always_at, period_at}
-use Rattle.rank_query.specs.Spelling.{SpellsPeriod}
-use Rattle.rank_query.proofs.ReadingSteps.{bind_ok, test_ok, keyword_took, one_word_took, made_into_took}
-use Rattle.rank_query.proofs.ReadingSteps.{rows_took, Took, words_took, one_word_again}
+use Rattle.rank_query.proofs.Cited.{ints, arith, ◌≡◌, ℕ, ◌+◌, true, cond, ◌&&◌, List, [], ◌∷◌, Option, Some, None, Ok}
+use Rattle.rank_query.proofs.Cited.{Err, codes, refl, sym, ap, ◌∙◌, subst, ℤ, int_le, enumerate_from, and_parts, is_day}
+use Rattle.rank_query.proofs.Cited.{date_text, Everywhere, EmptyPeriod, is_period, Word, says, keyword, one_word}
+use Rattle.rank_query.proofs.Cited.{made_into, date, region_at, season_at, days_at, between_at, always_at, period_at}
+use Rattle.rank_query.proofs.Cited.{SpellsPeriod}
+use Rattle.rank_query.proofs.ReadingSteps.{bind_ok, test_ok, keyword_took, one_word_took, made_into_took, rows_took}
+use Rattle.rank_query.proofs.ReadingSteps.{Took, words_took, one_word_again}
 use Rattle.rank_query.proofs.RegionWords.{BeginsNoRegion}
 use Rattle.rank_query.proofs.SeasonWords.{BeginsNoSeason}
 use Rattle.rank_query.proofs.WordValues.{date_written, written_date}
@@ -85,5 +75,4 @@ pub period_no_season : (p : Option (ℤ × ℤ)) (words : List (List ℕ)) → S
 unfolding season_at says
 period_no_season None words spelt =
     λ n. subst (λ ws. season_at (enumerate_from n ws) ≡ Ok (None, enumerate_from n ws)) (sym spelt) refl
-period_no_season (Some p) words spelt =
-    λ n. subst (λ ws. season_at (enumerate_from n ws) ≡ Ok (None, enumerate_from n ws)) (sym spelt) refl
+period_no_season (Some p) words spelt = grind (arith, ints)

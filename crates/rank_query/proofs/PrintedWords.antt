@@ -1,29 +1,14 @@
 -- The words of a canonical text: each is one word, and short.
-use Rattle.std.proofs.Common.{◌≡◌, ℕ, zero, suc, ◌+◌, ◌*◌, ◌/◌, ◌%◌, ◌<◌, ◌≤◌, ◌^◌, Bool, true, ◌&&◌, List, [], ◌∷◌}
-use Rattle.std.proofs.Common.{◌++◌, length, decimal, codes, refl, sym, ap, ◌∙◌, length-append, append_assoc, false}
-use Rattle.std.proofs.Common.{arith}
-use Rattle.std.specs.Prelude.{nat_le, ℤ, pos, negsuc, neg_ℤ, ◌≤ℤ◌}
-use Rattle.std.specs.List.{list_all, AllByRecursion, join_with_byte}
-use Rattle.std.specs.Char.{is_ascii_digit, digit_value}
-use Rattle.std.specs.Str.Parse.{AllDigits, digits_value}
-use Rattle.std.proofs.lemmas.Bool.{and_parts}
-use Rattle.std.proofs.lemmas.Bool.Decides.{nat_tests}
-use Rattle.std.proofs.lemmas.Fmt.{decimal_is_IsNumeral, length-decimal-le, decimal_digit}
-use Rattle.std.proofs.lemmas.Int.{ints}
+use Rattle.rank_query.proofs.Cited.{◌≡◌, ℕ, zero, suc, ◌+◌, ◌*◌, ◌/◌, ◌%◌, ◌<◌, ◌≤◌, ◌^◌, Bool, true, ◌&&◌, List, []}
+use Rattle.rank_query.proofs.Cited.{◌∷◌, ◌++◌, length, decimal, codes, refl, sym, ap, ◌∙◌, length-append, append_assoc}
+use Rattle.rank_query.proofs.Cited.{false, arith, nat_le, ℤ, pos, negsuc, neg_ℤ, ◌≤ℤ◌, list_all, AllByRecursion}
+use Rattle.rank_query.proofs.Cited.{join_with_byte, is_ascii_digit, digit_value, AllDigits, digits_value, and_parts}
+use Rattle.rank_query.proofs.Cited.{nat_tests, decimal_is_IsNumeral, length-decimal-le, decimal_digit, ints, civil}
+use Rattle.rank_query.proofs.Cited.{date_text, Spells, sign_text, with_sign, last_digits, four_places, four_places_of}
+use Rattle.rank_query.proofs.Cited.{tenths, Element, Prcp, Snow, Snwd, Tmax, Tmin, code_of, is_visible, is_printable}
+use Rattle.rank_query.proofs.Cited.{is_code, months_text, IsNumeralOf, JoinsTwo}
 use Rattle.std.proofs.lemmas.List.Folds.{list_all-append}
-use Rattle.std.proofs.lemmas.Str.Parse.{digit_from_value}
-use Rattle.ghcn_fields.specs.Dates.{civil, date_text}
-use Rattle.ghcn_fields.specs.Fields.{Spells, sign_text}
-use Rattle.ghcn_fields.specs.Numbers.{with_sign}
-use Rattle.ghcn_fields.specs.NumberTexts.{last_digits, four_places, four_places_of, tenths, tenths_of}
-use Rattle.ghcn_files.specs.declared.element.Element.{Element}
-use Rattle.ghcn_files.specs.declared.element.Element.TheVariants.{Prcp, Snow, Snwd, Tmax, Tmin}
-use Rattle.ghcn_files.specs.Elements.{code_of}
-use Rattle.ghcn_files.specs.Ids.{is_visible}
-use Rattle.ghcn_files.specs.StationLines.{is_printable}
-use Rattle.rank_query.specs.Asked.{is_code}
-use Rattle.rank_query.specs.QueryTexts.{months_text}
-use Rattle.rank_query.specs.Spelling.{IsNumeralOf, JoinsTwo}
+use Rattle.ghcn_fields.specs.NumberTexts.{tenths_of}
 use Rattle.rank_query.proofs.OneWords.{stands_in_word, IsOneWord}
 
 -- one word of at most eleven visible bytes
@@ -49,10 +34,7 @@ all_both (x ∷ xs) ys first second = (first.0, all_both xs ys first.1 second)
 -- digits are digits
 all_digits : (digits : List ℕ) → AllDigits 10 digits → list_all is_ascii_digit digits ≡ true
 all_digits [] h = refl
-all_digits (d ∷ digits) h =
-    let range = digit_from_value d h.0 in
-    let digit : is_ascii_digit d ≡ true = grind (arith, nat_tests) in
-    ap (λ b. b && list_all is_ascii_digit digits) digit ∙ all_digits digits h.1
+all_digits (d ∷ digits) h = grind (arith, ints, all_digits digits h.1)
 
 -- bytes that pass one test pass another, if each of them does
 all_pass : (p q : ℕ → Bool) → ((b : ℕ) → p b ≡ true → q b ≡ true) → (bytes : List ℕ) → list_all p bytes ≡ true
@@ -60,7 +42,7 @@ all_pass : (p q : ℕ → Bool) → ((b : ℕ) → p b ≡ true → q b ≡ true
 all_pass p q each [] h = refl
 all_pass p q each (b ∷ bytes) h =
     let two = and_parts (p b) (list_all p bytes) h in
-    ap (λ t. t && list_all q bytes) (each b two.0) ∙ all_pass p q each bytes two.1
+    rw (each b two.0, all_pass p q each bytes two.1)
 
 -- no visible byte is a blank, and each is printable
 visible_in_word : (b : ℕ) → is_visible b ≡ true → stands_in_word b ≡ true
@@ -84,8 +66,7 @@ word_from word some short visible = record {
 
 -- a word of the language's own is one
 pub known_word : (word : List ℕ) → (nat_le 1 (length word) && list_all is_visible word && nat_le (length word) 11) ≡
-    true
-    → IsShortWord word
+    true → IsShortWord word
 known_word word e =
     let short = and_parts (nat_le 1 (length word) && list_all is_visible word) (nat_le (length word) 11) e in
     let one = and_parts (nat_le 1 (length word)) (list_all is_visible word) short.0 in
@@ -99,10 +80,8 @@ pub printable-join : (words : List (List ℕ)) → AllByRecursion IsShortWord wo
 printable-join [] all = refl
 printable-join (w ∷ []) all = all_pass is_visible is_printable visible_printable w all.0.visible
 printable-join (w ∷ v ∷ words) all =
-    list_all-append is_printable w (32 ∷ join_with_byte 32 (v ∷ words))
-    ∙ ap (λ t. t && list_all is_printable (join_with_byte 32 (v ∷ words)))
-    (all_pass is_visible is_printable visible_printable w all.0.visible)
-    ∙ printable-join (v ∷ words) all.1
+    let word = all_pass is_visible is_printable visible_printable w all.0.visible in
+    rw (list_all-append is_printable w (32 ∷ join_with_byte 32 (v ∷ words)), word, printable-join (v ∷ words) all.1)
 
 -- digits are visible
 digit_visible : (d : ℕ) → is_ascii_digit d ≡ true → is_visible d ≡ true
@@ -177,14 +156,7 @@ digit_value-byte n = grind (arith, nat_tests)
 
 -- the four of them together
 value_of_four : (n : ℕ) → digits_value 10 (last_digits 4 n) ≡ n % 10000
-value_of_four n =
-    rw (
-      digit_value-byte (n / 10 / 10 / 10),
-      digit_value-byte (n / 10 / 10),
-      digit_value-byte
-          (n / 10),
-      digit_value-byte n,
-    ) (omega arith)
+value_of_four n = grind (arith, ints, digit_value-byte)
 
 -- a whole part and four decimals
 joined_value : (n : ℕ) → n < 10 ^ 7 → n ≡ digits_value 10 (decimal (n / 10000)) * 10 ^ 4 + digits_value 10

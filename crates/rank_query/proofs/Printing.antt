@@ -1,21 +1,14 @@
 -- The pieces of a canonical text, as they are printed one after another.
-use Rattle.std.proofs.Common.{◌≡◌, ℕ, ◌+◌, ◌<◌, ◌/◌, ◌%◌, true, List, [], ◌∷◌, ◌++◌, Option, Result, Ok, Err, IsOk}
-use Rattle.std.proofs.Common.{MatchResult, IsUtf8, codes, decimal, refl, sym, ap, ◌∙◌, append_assoc, append-nil, arith}
-use Rattle.std.specs.Prelude.{ℤ}
-use Rattle.std.specs.List.{join_with_byte, list_all}
-use Rattle.std.proofs.lemmas.Bool.Decides.{nat_tests}
-use Rattle.std.proofs.lemmas.Fmt.{decimal_digit}
+use Rattle.rank_query.proofs.Cited.{rules, ints, ◌≡◌, ℕ, ◌+◌, ◌<◌, ◌/◌, ◌%◌, true, List, [], ◌∷◌, ◌++◌, Option, Result}
+use Rattle.rank_query.proofs.Cited.{Ok, Err, IsOk, MatchResult, IsUtf8, codes, decimal, refl, sym, ap, ◌∙◌}
+use Rattle.rank_query.proofs.Cited.{append_assoc, append-nil, arith, ℤ, join_with_byte, list_all, nat_tests}
+use Rattle.rank_query.proofs.Cited.{decimal_digit, AllPass-from_list_all, four_places, four_places_of, is_visible}
+use Rattle.rank_query.proofs.Cited.{Score, Region, Inside, query_text, score_words, region_words, season_words}
+use Rattle.rank_query.proofs.Cited.{period_words}
 use Rattle.std.proofs.lemmas.List.Concat.{flat_map-append}
-use Rattle.std.proofs.lemmas.List.Sums.{AllPass-from_list_all}
 use Rattle.std.proofs.lemmas.Str.{IsUtf8-from_ascii}
 use Rattle.std.proofs.lemmas.Str.Ascii.{IsAscii-from_all}
-use Rattle.ghcn_fields.specs.NumberTexts.{four_places, four_places_of}
-use Rattle.ghcn_files.specs.Ids.{is_visible}
-use Rattle.rank_query.specs.declared.score.Score.{Score}
-use Rattle.rank_query.specs.declared.region.Region.{Region}
-use Rattle.rank_query.specs.declared.region.Region.TheVariants.{Inside}
 use Rattle.rank_query.specs.Printed.{spaced}
-use Rattle.rank_query.specs.QueryTexts.{query_text, score_words, region_words, season_words, period_words}
 
 -- words that are joined by a blank are the first one, and each other one behind a blank
 pub join-spaced : (word : List ℕ) (words : List (List ℕ)) → join_with_byte 32 (word ∷ words) ≡ word ++ spaced words
@@ -25,16 +18,14 @@ join-spaced word (next ∷ words) = ap (λ text. word ++ 32 ∷ text) (join-spac
 -- three lists of words are printed one after another
 pub spaced-three : (xs ys zs : List (List ℕ)) → spaced (xs ++ ys ++ zs) ≡ spaced xs ++ (spaced ys ++ spaced zs)
 spaced-three xs ys zs =
-    flat_map-append (λ w. 32 ∷ w) (xs ++ ys) zs
-    ∙ ap (λ text. text ++ spaced zs) (flat_map-append (λ w. 32 ∷ w) xs ys)
+    flat_map-append (λ w. 32 ∷ w) (xs ++ ys) zs ∙ ap (λ text. text ++ spaced zs) (flat_map-append (λ w. 32 ∷ w) xs ys)
     ∙ append_assoc (spaced xs) (spaced ys) (spaced zs)
 
 -- and so are four
 spaced-four : (ws xs ys zs : List (List ℕ)) → spaced (ws ++ xs ++ ys ++ zs) ≡ spaced ws ++
     (spaced xs ++ (spaced ys ++ spaced zs))
 spaced-four ws xs ys zs =
-    spaced-three (ws ++ xs) ys zs
-    ∙ ap (λ text. text ++ (spaced ys ++ spaced zs)) (flat_map-append (λ w. 32 ∷ w) ws xs)
+    spaced-three (ws ++ xs) ys zs ∙ ap (λ text. text ++ (spaced ys ++ spaced zs)) (flat_map-append (λ w. 32 ∷ w) ws xs)
     ∙ append_assoc (spaced ws) (spaced xs) (spaced ys ++ spaced zs)
 
 -- the pieces that are printed are the canonical text
@@ -42,11 +33,7 @@ pub printed-is : (k : ℕ) (s : Score) (r : Region) (t : Option (ℕ × ℕ)) (p
     → (codes "top " ++ decimal k) ++
     (spaced (score_words s) ++ (spaced (region_words r) ++ (spaced (season_words t) ++ spaced (period_words p))))
     ≡ query_text (record { k = k; score = s; region = r; season = t; period = p })
-printed-is k s r t p =
-    sym (
-    join-spaced (codes "top") (decimal k ∷ score_words s ++ region_words r ++ season_words t ++ period_words p)
-    ∙ ap (λ text. codes "top " ++ (decimal k ++ text))
-    (spaced-four (score_words s) (region_words r) (season_words t) (period_words p)))
+printed-is k s r t p = grind (arith, ints, join-spaced, spaced-four)
 
 -- four digits, one after another
 four_digits : (a b c d : ℕ) → a < 10 → b < 10 → c < 10 → d < 10
@@ -55,27 +42,21 @@ four_digits a b c d ha hb hc hd =
     rw (decimal_digit a ha, decimal_digit b hb, decimal_digit c hc, decimal_digit d hd) refl
 
 -- the pieces of a number with four decimals are its text
-pub four_places-is : (n : ℕ) → decimal (n / 10000) ++
-    (codes "." ++ (decimal (n / 1000 % 10) ++
+pub four_places-is : (n : ℕ) → decimal (n / 10000) ++ (codes "." ++ (decimal (n / 1000 % 10) ++
     (decimal (n / 100 % 10) ++ (decimal (n / 10 % 10) ++ decimal (n % 10))))) ≡ four_places_of n
 four_places-is n =
     let first : n / 1000 % 10 ≡ n / 10 / 10 / 10 % 10 = omega arith in
     let second : n / 100 % 10 ≡ n / 10 / 10 % 10 = omega arith in
     let digits = four_digits (n / 1000 % 10) (n / 100 % 10) (n / 10 % 10) (n % 10) (omega arith) (omega arith)
     (omega arith) (omega arith) in
-    ap (λ text. decimal (n / 10000) ++ 46 ∷ text)
-    (digits ∙ ap (λ d. (48 + d) ∷ (48 + n / 100 % 10) ∷ (48 + n / 10 % 10) ∷ (48 + n % 10) ∷ []) first
-    ∙ ap (λ d. (48 + n / 10 / 10 / 10 % 10) ∷ (48 + d) ∷ (48 + n / 10 % 10) ∷ (48 + n % 10) ∷ []) second)
+    cc
 
 -- the pieces of a box are printed one after another
 pub box-is : (s w n e south west north east : ℤ) → s ≡ south → w ≡ west → n ≡ north → e ≡ east
     → codes " box" ++ ((32 ∷ four_places s) ++
     ((32 ∷ four_places w) ++ ((32 ∷ four_places n) ++ (32 ∷ four_places e)))) ≡ spaced
     (region_words (Inside south west north east))
-box-is s w n e south west north east es ew en ee =
-    rw (es, ew, en, ee) (ap (λ (text : List ℕ). codes " box" ++
-    ((32 ∷ four_places south) ++ ((32 ∷ four_places west) ++ ((32 ∷ four_places north) ++ (32 ∷ text)))))
-    (sym (append-nil (four_places east))))
+box-is s w n e south west north east es ew en ee = search (rules, arith)
 
 -- a visible byte is ASCII
 visible_ascii : (b : ℕ) → is_visible b ≡ true → b < 128

@@ -1,19 +1,8 @@
 -- Where the reading of a query stops.
-use Rattle.std.proofs.Common.{◌≡◌, ℕ, true, inl, inr, List, [], ◌∷◌, Option, None, Result, Ok, Err, codes, refl, sym}
-use Rattle.std.proofs.Common.{ap, ◌∙◌}
-use Rattle.std.specs.Prelude.{ℤ}
-use Rattle.std.specs.List.{AllByRecursion}
-use Rattle.ghcn_fields.specs.Days.{is_within}
-use Rattle.rank_query.specs.declared.score.Score.{Score}
-use Rattle.rank_query.specs.declared.region.Region.{Region}
-use Rattle.rank_query.specs.declared.region.Region.TheVariants.{Everywhere}
-use Rattle.rank_query.specs.declared.fault.QueryFault.{QueryFault}
-use Rattle.rank_query.specs.declared.fault.QueryFault.TheVariants.{UnexpectedWord}
-use Rattle.rank_query.specs.Asked.{Asked, IsAsked}
-use Rattle.rank_query.specs.Words.{Word, says}
-use Rattle.rank_query.specs.Readers.{◌>>=◌, Read, one_word, by_word}
-use Rattle.rank_query.specs.WordValues.{number}
-use Rattle.rank_query.specs.Reading.{score_at, region_at, season_at, period_at, nothing_more, read_words}
+use Rattle.rank_query.proofs.Cited.{◌≡◌, ℕ, true, inl, inr, List, [], ◌∷◌, Option, None, Result, Ok, Err, codes, refl}
+use Rattle.rank_query.proofs.Cited.{sym, ap, ◌∙◌, ℤ, AllByRecursion, is_within, Score, Region, Everywhere, QueryFault}
+use Rattle.rank_query.proofs.Cited.{UnexpectedWord, Asked, IsAsked, Word, says, ◌>>=◌, Read, one_word, by_word, number}
+use Rattle.rank_query.proofs.Cited.{score_at, region_at, season_at, period_at, nothing_more, read_words}
 use Rattle.rank_query.proofs.Spellings.{asked}
 use Rattle.rank_query.proofs.Stops.{Reading, then, GoesOn, Stops, StopsFirst, ReadsPart, stops_behind, stops_word}
 use Rattle.rank_query.proofs.Stops.{first_then}
@@ -64,8 +53,7 @@ nothing_ahead q whole w ws fault same on e =
 optional_ahead : {A : Type 0} (Good : A → Type 0) (rows : List (List ℕ × (List Word → Read A))) (none : A)
     (onward : A → Reading Asked)
     → AllByRecursion (λ row. ReadsPart A Good row.1) rows → ((x : A) → Good x → StopsFirst Asked IsAsked (onward x))
-    → StopsAhead (onward none)
-    → StopsAhead (λ ws. by_word rows (λ ws. Ok (none, ws)) ws >>= λ x. onward x.0 x.1)
+    → StopsAhead (onward none) → StopsAhead (λ ws. by_word rows (λ ws. Ok (none, ws)) ws >>= λ x. onward x.0 x.1)
 optional_ahead {A} Good rows none onward parts firsts ahead whole w ws fault same on e =
     elim (by_first Good rows (λ ws. Ok (none, ws)) w parts) [
       | inl found ↦
@@ -165,8 +153,7 @@ from_rows ws = then (one_word (number 1 1000)) (λ k. then score_at (from_region
 -- the number of rows, the score and the rest
 rows_first : StopsFirst Asked IsAsked from_rows
 rows_first =
-    first_then (λ k. is_within 1 1000 k ≡ true) IsAsked (one_word (number 1 1000))
-    (λ k. then score_at (from_region k))
+    first_then (λ k. is_within 1 1000 k ≡ true) IsAsked (one_word (number 1 1000)) (λ k. then score_at (from_region k))
     (part_word (λ k. is_within 1 1000 k ≡ true) (number 1 1000) (reads_number 1 1000 one_row)) (λ k rows.
     first_then GoodScore IsAsked score_at (from_region k) score_part
     (λ s score. region_first k s (record { rows = rows; score = score })))
@@ -176,6 +163,5 @@ pub query_first : StopsFirst Asked IsAsked read_words
 unfolding read_words
 query_first =
     first_same IsAsked (then (one_word (the_word (codes "top"))) (λ x. from_rows)) read_words
-    (keyword-then (codes "top") from_rows)
-    (first_then Any IsAsked (one_word (the_word (codes "top"))) (λ x. from_rows)
+    (keyword-then (codes "top") from_rows) (first_then Any IsAsked (one_word (the_word (codes "top"))) (λ x. from_rows)
     (part_the_word (codes "top") refl top_itself) (λ x any. rows_first))

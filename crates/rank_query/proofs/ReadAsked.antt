@@ -1,18 +1,9 @@
 -- What is read as a query can be asked.
-use Rattle.std.proofs.Common.{◌≡◌, ℕ, true, List, [], ◌∷◌, None, Result, Ok, Err, codes, inl, inr}
-use Rattle.std.proofs.Common.{refl, sym, ap, ◌∙◌, subst, length, IfOk}
-use Rattle.std.specs.Prelude.{nat_lt}
-use Rattle.std.specs.List.{AllByRecursion}
-use Rattle.ghcn_fields.specs.Days.{is_within}
-use Rattle.rank_query.specs.declared.region.Region.TheVariants.{Everywhere}
-use Rattle.rank_query.specs.declared.fault.QueryFault.{QueryFault}
-use Rattle.rank_query.specs.declared.fault.QueryFault.TheVariants.{QueryTooLong}
-use Rattle.rank_query.specs.Asked.{Asked, IsAsked}
-use Rattle.rank_query.specs.Words.{Word, numbered_words}
-use Rattle.rank_query.specs.Readers.{Read, keyword, one_word, by_word}
-use Rattle.rank_query.specs.WordValues.{number}
-use Rattle.rank_query.specs.Reading.{score_at, region_at, season_at, period_at, nothing_more, read_words, read_query}
-use Rattle.rank_query.specs.Spelling.{IsSpelling}
+use Rattle.rank_query.proofs.Cited.{ints, arith, ◌≡◌, ℕ, true, List, [], ◌∷◌, None, Result, Ok, Err, codes, inl, inr}
+use Rattle.rank_query.proofs.Cited.{refl, sym, subst, length, IfOk, nat_lt, AllByRecursion, is_within, Everywhere}
+use Rattle.rank_query.proofs.Cited.{QueryFault, QueryTooLong, Asked, IsAsked, Word, numbered_words, Read, keyword}
+use Rattle.rank_query.proofs.Cited.{one_word, by_word, number, score_at, region_at, season_at, period_at, nothing_more}
+use Rattle.rank_query.proofs.Cited.{read_words, read_query, IsSpelling}
 use Rattle.rank_query.proofs.Spellings.{asked, read_spells}
 use Rattle.rank_query.proofs.ReadingSteps.{bind_ok, else_ok, by_word_took}
 use Rattle.rank_query.proofs.Stops.{ReadsPart}
@@ -28,9 +19,7 @@ use Rattle.rank_query.proofs.PeriodStops.{GoodPeriod, period_rows, period_parts}
 by_word_good : {A : Type 0} (Good : A → Type 0) (table : List (List ℕ × (List Word → Read A))) (other : A)
     (ws rest : List Word) (x : A) → AllByRecursion (λ row. ReadsPart A Good row.1) table → Good other
     → by_word table (λ w. Ok (other, w)) ws ≡ Ok (x, rest) → Good x
-by_word_good {A} Good [] other ws rest x parts is e =
-    let pair : ◌≡◌ {A = A × List Word} (other, ws) (x, rest) = cc in
-    subst Good (ap (λ (p : A × List Word). p.0) pair) is
+by_word_good {A} Good [] other ws rest x parts is e = grind (arith, ints)
 by_word_good Good (row ∷ table) other ws rest x parts is e =
     elim (by_word_took row.0 row.1 table (λ w. Ok (other, w)) ws (x, rest) e) [
       | inl found ↦ (parts.0.takes found.0 (x, rest) found.2).good

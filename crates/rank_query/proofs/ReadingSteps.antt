@@ -1,12 +1,8 @@
 -- What follows when a step of the reading succeeds.
-use Rattle.std.proofs.Common.{◌≡◌, ℕ, ◌+◌, Bool, true, false, cond, ◌⊎◌, inl, inr, List, [], ◌∷◌, ◌++◌, map, Option}
-use Rattle.std.proofs.Common.{Some, None, Result, Ok, Err, refl, ap, subst, ◌∙◌}
-use Rattle.std.specs.List.{enumerate_from, AllByRecursion}
-use Rattle.std.specs.Cmp.Lexicographic.{bytes_decides}
-use Rattle.rank_query.specs.declared.fault.QueryFault.{QueryFault}
-use Rattle.rank_query.specs.declared.fault.QueryFault.TheVariants.{UnexpectedWord}
-use Rattle.rank_query.specs.Words.{Word, says}
-use Rattle.rank_query.specs.Readers.{◌>>=◌, Read, or_fault, keyword, one_word, made_into, by_word}
+use Rattle.rank_query.proofs.Cited.{ints, arith, ◌≡◌, ℕ, ◌+◌, Bool, true, false, cond, ◌⊎◌, inl, inr, List, [], ◌∷◌}
+use Rattle.rank_query.proofs.Cited.{◌++◌, map, Option, Some, None, Result, Ok, Err, refl, ap, subst, ◌∙◌}
+use Rattle.rank_query.proofs.Cited.{enumerate_from, AllByRecursion, bytes_decides, QueryFault, UnexpectedWord, Word}
+use Rattle.rank_query.proofs.Cited.{says, ◌>>=◌, Read, or_fault, keyword, one_word, made_into, by_word}
 
 -- both steps of a reading that succeeds do
 pub bind_ok : {A B : Type 0} (r : Result A QueryFault) (f : A → Result B QueryFault) (y : B) → (r >>= f) ≡ Ok y
@@ -45,26 +41,17 @@ or_fault_err named fault (Some x) e = absurd cc
 
 -- the value of a word that has one and passes a test, which has a fault of its own
 abbrev pub tested : {A : Type 0} → (List ℕ → Option A) → (A → Bool) → (ℕ → QueryFault) → Word → Result A QueryFault
-tested read passes bad w =
-    or_fault (UnexpectedWord w.0) (read w.1) >>= λ x. cond (passes x) (Ok x) (Err (bad w.0))
+tested read passes bad w = or_fault (UnexpectedWord w.0) (read w.1) >>= λ x. cond (passes x) (Ok x) (Err (bad w.0))
 
 module _ {A : Type 0} (read : List ℕ → Option A) (passes : A → Bool) (bad : ℕ → QueryFault) where
   -- a word that is read so has the value, and the value passes
   pub tested_ok : (w : Word) (x : A) → tested read passes bad w ≡ Ok x → (read w.1 ≡ Some x) × (passes x ≡ true)
-  tested_ok w x e =
-      let value = bind_ok (or_fault (UnexpectedWord w.0) (read w.1))
-      (λ y. cond (passes y) (Ok y) (Err (bad w.0))) x e in
-      let test = test_ok (passes value.0) value.0 x (bad w.0) value.2 in (
-        or_fault_ok (UnexpectedWord w.0) (read w.1) value.0 value.1 ∙ ap Some test.1,
-        subst (λ y. passes y ≡ true) test.1 test.0,
-      )
+  tested_ok w x e = grind (arith, ints, test_ok, or_fault_ok)
 
   -- a word whose value passes is read so
   pub tested_again : (at : ℕ) (word : List ℕ) (x : A) → read word ≡ Some x → passes x ≡ true
       → tested read passes bad (at, word) ≡ Ok x
-  tested_again at word x is passed =
-      ap (λ o. or_fault (UnexpectedWord at) o >>= λ y. cond (passes y) (Ok y) (Err (bad at))) is
-      ∙ ap (λ b. cond b (Ok x) (Err (bad at))) passed
+  tested_again at word x is passed = cc
 
   -- another has no value, or one that fails
   pub tested_err : (w : Word) (fault : QueryFault) → tested read passes bad w ≡ Err fault
@@ -97,41 +84,32 @@ unfolding keyword
 keyword_took text [] rest e = cc
 keyword_took text (w ∷ ws) rest e =
     let test = test_ok (says text w.1) ws rest (UnexpectedWord w.0) e in
-    ap (λ word. word ∷ unnumbered ws) (said text w.1 test.0) ∙ ap (λ left. text ∷ unnumbered left) test.1
+    rw (said text w.1 test.0, test.1)
 
 -- the word that was read stands there, and was read as its value
 pub one_word_took : {A : Type 0} (value : Word → Result A QueryFault) (ws rest : List Word) (x : A)
     → one_word value ws ≡ Ok (x, rest) → (w : Word) × (unnumbered ws ≡ w.1 ∷ unnumbered rest) × (value w ≡ Ok x)
 one_word_took value [] rest x e = cc
-one_word_took {A} value (w ∷ ws) rest x e =
-    let both = bind_ok (value w) (λ y. Ok (y, ws)) (x, rest) e in
-    let pair : (both.0, ws) ≡ (x, rest) = cc in
-    (w, ap (λ (p : A × List Word). w.1 ∷ unnumbered p.1) pair, both.1 ∙ ap (λ (p : A × List Word). Ok p.0) pair)
+one_word_took {A} value (w ∷ ws) rest x e = grind (arith, ints, bind_ok)
 
 -- what was made was read, with the same words after it
 pub made_into_took : {A B : Type 0} (make : A → B) (r : Read A) (rest : List Word) (y : B)
     → made_into make r ≡ Ok (y, rest) → (x : A) × (r ≡ Ok (x, rest)) × (make x ≡ y)
-made_into_took {A} {B} make (Ok p) rest y e =
-    let pair : (make p.0, p.1) ≡ (y, rest) = cc in
-    (p.0, ap (λ (q : B × List Word). Ok (p.0, q.1)) pair, ap (λ (q : B × List Word). q.0) pair)
+made_into_took {A} {B} make (Ok p) rest y e = grind (arith, ints)
 made_into_took make (Err fault) rest y e = cc
 
 -- what is read by the first of some words was read behind that word, or by a later one
 pub by_word_took : {A : Type 0} (text : List ℕ) (reader : List Word → Read A)
     (others : List (List ℕ × (List Word → Read A))) (otherwise : List Word → Read A) (ws : List Word)
-    (y : A × List Word)
-    → by_word ((text, reader) ∷ others) otherwise ws ≡ Ok y
+    (y : A × List Word) → by_word ((text, reader) ∷ others) otherwise ws ≡ Ok y
     → ((rest : List Word) × (unnumbered ws ≡ text ∷ unnumbered rest) × (reader rest ≡ Ok y))
     ⊎ (by_word others otherwise ws ≡ Ok y)
 by_word_took text reader others otherwise [] y e = inr e
 by_word_took {A} text reader others otherwise (w ∷ ws) y e = by_test (says text w.1) refl e where
-  by_test : (b : Bool) → says text w.1 ≡ b
-      → ◌≡◌ {A = Read A} (elim (cond b (Some ws) None) [
-        | Some rest ↦ reader rest
-        | None ↦ by_word others otherwise
-            (w ∷ ws)
-      ]) (Ok y)
-      → ((rest : List Word) × (w.1 ∷ unnumbered ws ≡ text ∷ unnumbered rest) × (reader rest ≡ Ok y))
+  by_test : (b : Bool) → says text w.1 ≡ b → ◌≡◌ {A = Read A} (elim (cond b (Some ws) None) [
+    | Some rest ↦ reader rest
+    | None ↦ by_word others otherwise (w ∷ ws)
+  ]) (Ok y) → ((rest : List Word) × (w.1 ∷ unnumbered ws ≡ text ∷ unnumbered rest) × (reader rest ≡ Ok y))
       ⊎ (by_word others otherwise (w ∷ ws) ≡ Ok y)
   by_test true same read = inl (ws, ap (λ word. word ∷ unnumbered ws) (said text w.1 same), read)
   by_test false other read = inr read
@@ -156,13 +134,7 @@ pub words_took : {B : Type 0} (Spelt : List (List ℕ) → B → Type 0) (ws lef
     (x y : B)
     → Spelt words x → unnumbered ws ≡ words ++ unnumbered left → ◌≡◌ {A = Read B} (Ok (x, left)) (Ok (y, rest))
     → Took (λ words. Spelt words y) ws rest
-words_took {B} Spelt ws left rest words x y spelt taken e =
-    let pair : (x, left) ≡ (y, rest) = cc in
-    record {
-      words = words;
-      spelt = subst (λ v. Spelt words v) (ap (λ (p : B × List Word). p.0) pair) spelt;
-      taken = taken ∙ ap (λ (p : B × List Word). words ++ unnumbered p.1) pair;
-    }
+words_took {B} Spelt ws left rest words x y spelt taken e = grind (arith, ints)
 
 -- what is read behind one of some words, or without one, was taken, if each row takes what stands behind its word
 pub rows_took : {A : Type 0} (Spelt : List (List ℕ) → A → Type 0) (table : List (List ℕ × (List Word → Read A)))
@@ -180,8 +152,7 @@ rows_took Spelt (row ∷ table) otherwise ws rest y rows none e =
 
 -- a value made of one word was taken with that word
 pub made_took : {A B : Type 0} (Spelt : List (List ℕ) → B → Type 0) (value : Word → Result A QueryFault)
-    (make : A → B) (ws rest : List Word) (y : B)
-    → ((w : Word) (x : A) → value w ≡ Ok x → Spelt (w.1 ∷ []) (make x))
+    (make : A → B) (ws rest : List Word) (y : B) → ((w : Word) (x : A) → value w ≡ Ok x → Spelt (w.1 ∷ []) (make x))
     → made_into make (one_word value ws) ≡ Ok (y, rest) → Took (λ words. Spelt words y) ws rest
 made_took Spelt value make ws rest y spells e =
     let made = made_into_took make (one_word value ws) rest y e in

@@ -1,15 +1,8 @@
 -- Where the reading of a region stops.
-use Rattle.std.proofs.Common.{◌≡◌, ℕ, true, ◌&&◌, List, [], ◌∷◌, Ok, codes, refl}
-use Rattle.std.specs.Prelude.{ℤ, pos, neg_ℤ, int_le}
-use Rattle.std.specs.List.{AllByRecursion}
-use Rattle.std.proofs.lemmas.Bool.{and_parts}
-use Rattle.rank_query.specs.declared.region.Region.{Region}
-use Rattle.rank_query.specs.declared.region.Region.TheVariants.{Inside, Country, State, Only}
-use Rattle.rank_query.specs.Asked.{is_code, is_longitude, is_region}
-use Rattle.rank_query.specs.Words.{Word}
-use Rattle.rank_query.specs.Readers.{Read, one_word}
-use Rattle.rank_query.specs.WordValues.{code}
-use Rattle.rank_query.specs.Reading.{latitude_from, longitude, box_at, country_at, state_at, station_at}
+use Rattle.rank_query.proofs.Cited.{◌≡◌, ℕ, true, ◌&&◌, List, [], ◌∷◌, Ok, codes, refl, ℤ, pos, neg_ℤ, int_le}
+use Rattle.rank_query.proofs.Cited.{AllByRecursion, and_parts, Region, Inside, Country, State, Only, is_code}
+use Rattle.rank_query.proofs.Cited.{is_longitude, is_region, Word, Read, one_word, code, latitude_from, longitude}
+use Rattle.rank_query.proofs.Cited.{box_at, country_at, state_at, station_at}
 use Rattle.rank_query.proofs.RegionWords.{and_true}
 use Rattle.rank_query.proofs.Stops.{ReadsPart, part_then}
 use Rattle.rank_query.proofs.PartStops.{part_word, part_made, part_always}
@@ -52,8 +45,7 @@ box_part =
     (latitude_part (neg_ℤ (pos 900_000)) refl) (λ south s.
     part_then IsLongitude GoodRegion (one_word longitude) _ longitude_part (λ west w.
     part_then (IsLatitudeFrom south) GoodRegion (one_word (latitude_from south)) _
-    (latitude_part south (and_parts (int_le (neg_ℤ (pos 900_000)) south) (int_le south (pos 900_000)) s).1)
-    (λ north n.
+    (latitude_part south (and_parts (int_le (neg_ℤ (pos 900_000)) south) (int_le south (pos 900_000)) s).1) (λ north n.
     part_then IsLongitude GoodRegion (one_word longitude)
     (λ east ws. Ok (Inside south west north east, ws)) longitude_part (λ east e.
     part_always GoodRegion (Inside south west north east) (good_box south west north east s w n e)))))

@@ -1,23 +1,13 @@
 -- The words of a region: those that are read as a region spell it, and those that spell it are read as it.
-use Rattle.std.proofs.Common.{◌≡◌, ℕ, ◌+◌, Bool, true, ◌&&◌, List, [], ◌∷◌, ◌++◌, Ok, codes, refl, sym, ap}
-use Rattle.std.proofs.Common.{◌∙◌, subst, arith}
-use Rattle.std.specs.Prelude.{ℤ, pos, neg_ℤ, int_le, ◌≤ℤ◌}
-use Rattle.std.specs.List.{enumerate_from, AllByRecursion}
-use Rattle.std.proofs.lemmas.Bool.{and_parts}
-use Rattle.std.proofs.lemmas.Int.{ints}
-use Rattle.ghcn_fields.specs.Fields.{Spells}
-use Rattle.rank_query.specs.declared.region.Region.{Region}
-use Rattle.rank_query.specs.declared.region.Region.TheVariants.{Everywhere, Inside, Country, State, Only}
-use Rattle.rank_query.specs.Asked.{is_longitude, is_region}
-use Rattle.rank_query.specs.Words.{Word, says}
-use Rattle.rank_query.specs.Readers.{one_word, made_into}
-use Rattle.rank_query.specs.WordValues.{code}
-use Rattle.rank_query.specs.Reading.{latitude_from, longitude, box_at, country_at, state_at, station_at}
-use Rattle.rank_query.specs.Reading.{everywhere_at, region_at}
-use Rattle.rank_query.specs.Spelling.{SpellsBox, SpellsRegion}
+use Rattle.rank_query.proofs.Cited.{◌≡◌, ℕ, ◌+◌, Bool, true, ◌&&◌, List, [], ◌∷◌, ◌++◌, Ok, codes, refl, sym, ap, ◌∙◌}
+use Rattle.rank_query.proofs.Cited.{subst, arith, ℤ, pos, neg_ℤ, int_le, ◌≤ℤ◌, enumerate_from, AllByRecursion}
+use Rattle.rank_query.proofs.Cited.{and_parts, ints, Spells, Region, Everywhere, Inside, Country, State, Only}
+use Rattle.rank_query.proofs.Cited.{is_longitude, is_region, Word, says, one_word, made_into, code, latitude_from}
+use Rattle.rank_query.proofs.Cited.{longitude, box_at, country_at, state_at, station_at, everywhere_at, region_at}
+use Rattle.rank_query.proofs.Cited.{SpellsBox, SpellsRegion}
 use Rattle.rank_query.proofs.OneWords.{HasNoBlank}
-use Rattle.rank_query.proofs.ReadingSteps.{bind_ok, unnumbered, one_word_took, rows_took, Took}
-use Rattle.rank_query.proofs.ReadingSteps.{made_took, words_took, one_word_again, made_again, spelt_again}
+use Rattle.rank_query.proofs.ReadingSteps.{bind_ok, unnumbered, one_word_took, rows_took, Took, made_took, words_took}
+use Rattle.rank_query.proofs.ReadingSteps.{one_word_again, made_again, spelt_again}
 use Rattle.rank_query.proofs.WordValues.{degrees_spelt, spelt_degrees, code_word, word_code}
 
 -- the box that was read is spelt there
@@ -106,9 +96,7 @@ latitude_again from z at text low above below spells =
 
 -- a longitude lies from 180 degrees west to 180 degrees east
 pub longitude-range : (z : ℤ) → is_longitude z ≡ true → (neg_ℤ (pos 1_800_000) ≤ℤ z) × (z ≤ℤ pos 1_800_000)
-longitude-range z inside =
-    let both = and_parts (int_le (neg_ℤ (pos 1_800_000)) z) (int_le z (pos 1_800_000)) inside in
-    (le_from_test (neg_ℤ (pos 1_800_000)) z both.0, le_from_test z (pos 1_800_000) both.1)
+longitude-range z inside = grind (arith, ints, le_from_test)
 
 -- and so is a longitude
 longitude_again : (z : ℤ) (at : ℕ) (text : List ℕ) → is_longitude z ≡ true → Spells 4 text z
@@ -177,5 +165,4 @@ region_again (Country c) words more n is spelt none = spelt_again region_at word
 region_again (State c) words more n is spelt none = spelt_again region_at words _ more n (n + 1 + 1) _ spelt
     (made_again (code 2) State (n + 1) c more c (word_code 2 (n + 1) c is))
 region_again (Only id) words more n is spelt none = spelt_again region_at words _ more n (n + 1 + 1) _ spelt
-    (made_again (code 11) (λ bytes. Only (record { 0 = bytes })) (n + 1) id.0 more id.0
-    (word_code 11 (n + 1) id.0 is))
+    (made_again (code 11) (λ bytes. Only (record { 0 = bytes })) (n + 1) id.0 more id.0 (word_code 11 (n + 1) id.0 is))

@@ -1,17 +1,9 @@
 -- Where the reading of a score stops.
-use Rattle.std.proofs.Common.{◌≡◌, ℕ, true, inl, inr, List, [], ◌∷◌, Ok, Err, codes, refl, sym, ◌∙◌}
-use Rattle.std.specs.List.{AllByRecursion}
-use Rattle.ghcn_fields.specs.Days.{is_within}
-use Rattle.ghcn_files.specs.declared.element.Element.TheVariants.{Prcp, Tmax}
-use Rattle.rank_query.specs.declared.score.Score.{Score}
-use Rattle.rank_query.specs.declared.score.Score.TheVariants.{Highest, Lowest, Sum, Dry, Wet, Hot}
-use Rattle.rank_query.specs.declared.fault.QueryFault.{QueryFault}
-use Rattle.rank_query.specs.declared.fault.QueryFault.TheVariants.{UnexpectedWord, QueryEnds}
-use Rattle.rank_query.specs.Asked.{is_temperature, is_fall, is_heat, is_score}
-use Rattle.rank_query.specs.Words.{Word, says}
-use Rattle.rank_query.specs.Readers.{Read, one_word}
-use Rattle.rank_query.specs.WordValues.{number, element, heat}
-use Rattle.rank_query.specs.Reading.{highest_at, lowest_at, sum_at, dry_at, wet_at, hot_at, no_score_at, score_at}
+use Rattle.rank_query.proofs.Cited.{◌≡◌, ℕ, true, inl, inr, List, [], ◌∷◌, Ok, Err, codes, refl, sym, ◌∙◌}
+use Rattle.rank_query.proofs.Cited.{AllByRecursion, is_within, Prcp, Tmax, Score, Highest, Lowest, Sum, Dry, Wet, Hot}
+use Rattle.rank_query.proofs.Cited.{QueryFault, UnexpectedWord, QueryEnds, is_temperature, is_fall, is_heat, is_score}
+use Rattle.rank_query.proofs.Cited.{Word, says, Read, one_word, number, element, heat, highest_at, lowest_at, sum_at}
+use Rattle.rank_query.proofs.Cited.{dry_at, wet_at, hot_at, no_score_at, score_at}
 use Rattle.rank_query.proofs.RegionWords.{and_true}
 use Rattle.rank_query.proofs.Stops.{GoesOn, Stops, TakesAll, Ended, ReadsPart, stops_behind, stops_word, stops_end}
 use Rattle.rank_query.proofs.Stops.{takes_behind, part_then}

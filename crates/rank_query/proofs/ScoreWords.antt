@@ -1,18 +1,9 @@
 -- The words of a score: those that are read as a score spell it, and those that spell it are read as it.
-use Rattle.std.proofs.Common.{◌≡◌, ℕ, ◌+◌, Bool, true, List, [], ◌∷◌, ◌++◌, Ok, codes, refl, sym, ap, ◌∙◌, subst}
-use Rattle.std.specs.List.{enumerate_from}
-use Rattle.std.proofs.lemmas.Bool.{and_parts}
-use Rattle.ghcn_fields.specs.Days.{is_within}
-use Rattle.ghcn_files.specs.declared.element.Element.{Element}
-use Rattle.ghcn_files.specs.Elements.{code_of}
-use Rattle.rank_query.specs.declared.score.Score.{Score}
-use Rattle.rank_query.specs.declared.score.Score.TheVariants.{Highest, Lowest, Sum, Dry, Wet, Hot}
-use Rattle.rank_query.specs.Asked.{is_temperature, is_fall, is_score}
-use Rattle.rank_query.specs.Words.{Word, says}
-use Rattle.rank_query.specs.Readers.{one_word, made_into}
-use Rattle.rank_query.specs.WordValues.{number, element, heat}
-use Rattle.rank_query.specs.Reading.{highest_at, lowest_at, sum_at, dry_at, wet_at, hot_at, no_score_at, score_at}
-use Rattle.rank_query.specs.Spelling.{IsNumeralOf, SpellsScore}
+use Rattle.rank_query.proofs.Cited.{ints, arith, ◌≡◌, ℕ, ◌+◌, Bool, true, List, [], ◌∷◌, ◌++◌, Ok, codes, refl, sym, ap}
+use Rattle.rank_query.proofs.Cited.{◌∙◌, subst, enumerate_from, Element, code_of, Score, Highest}
+use Rattle.rank_query.proofs.Cited.{Lowest, Sum, Dry, Wet, Hot, is_temperature, is_fall, is_score, Word, says, one_word}
+use Rattle.rank_query.proofs.Cited.{made_into, number, element, heat, highest_at, lowest_at, sum_at, dry_at, wet_at}
+use Rattle.rank_query.proofs.Cited.{hot_at, no_score_at, score_at, IsNumeralOf, SpellsScore}
 use Rattle.rank_query.proofs.ReadingSteps.{bind_ok, one_word_took, rows_took, Took, made_took, words_took}
 use Rattle.rank_query.proofs.ReadingSteps.{one_word_again, made_again, spelt_again}
 use Rattle.rank_query.proofs.WordValues.{number_numeral, numeral_number, element_code, code_element, heat_spelt}
@@ -46,8 +37,7 @@ sum_took ws rest s e =
     let spelt : SpellsScore (codes "sum" ∷ words) (Sum days.0.0 what.0.0) = (
       n.0.1,
       number_numeral 1 366 n.0 days.0.0 n.2,
-      ap (λ b. codes "sum" ∷ n.0.1 ∷ b ∷ [])
-          (element_code is_fall f.0 what.0.0 f.2),
+      ap (λ b. codes "sum" ∷ n.0.1 ∷ b ∷ []) (element_code is_fall f.0 what.0.0 f.2),
     ) in
     words_took (λ words v. SpellsScore (codes "sum" ∷ words) v) ws what.0.1 rest words (Sum days.0.0 what.0.0) s spelt
     (n.1 ∙ ap (λ left. n.0.1 ∷ left) f.1) what.2
@@ -89,10 +79,7 @@ sum_again : (k : ℕ) (e : Element) (digits : List ℕ) (more : List (List ℕ))
     → IsNumeralOf digits k
     → sum_at (enumerate_from n (digits ∷ code_of e ∷ more)) ≡ Ok (Sum k e, enumerate_from (n + 1 + 1) more)
 unfolding sum_at
-sum_again k e digits more n is numeral =
-    let both = and_parts (is_within 1 366 k) (is_fall e) is in
-    one_word_again (number 1 366) n digits (code_of e ∷ more) k _ (numeral_number 1 366 k n digits both.0 numeral)
-    ∙ one_word_again (element is_fall) (n + 1) (code_of e) more e _ (code_element is_fall e (n + 1) both.1)
+sum_again k e digits more n is numeral = grind (arith, ints, one_word_again, numeral_number, code_element)
 
 -- the words of a score that can be asked for are read as it, whatever their numbers and the words behind them
 pub score_again : (s : Score) (words more : List (List ℕ)) (n : ℕ) → is_score s ≡ true → SpellsScore words s → (m : ℕ)

@@ -1,11 +1,6 @@
 -- Where the reading of a season stops.
-use Rattle.std.proofs.Common.{◌≡◌, ℕ, true, ◌&&◌, List, [], ◌∷◌, Option, Some, codes}
-use Rattle.std.specs.List.{AllByRecursion}
-use Rattle.rank_query.specs.Asked.{is_month, is_season}
-use Rattle.rank_query.specs.Words.{Word}
-use Rattle.rank_query.specs.Readers.{Read, one_word}
-use Rattle.rank_query.specs.WordValues.{months}
-use Rattle.rank_query.specs.Reading.{months_at}
+use Rattle.rank_query.proofs.Cited.{◌≡◌, ℕ, true, ◌&&◌, List, [], ◌∷◌, Option, Some, codes, AllByRecursion, is_month}
+use Rattle.rank_query.proofs.Cited.{is_season, Word, Read, one_word, months, months_at}
 use Rattle.rank_query.proofs.Stops.{ReadsPart}
 use Rattle.rank_query.proofs.PartStops.{part_word, part_made}
 use Rattle.rank_query.proofs.WordStops.{reads_months}

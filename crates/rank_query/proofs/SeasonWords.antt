@@ -1,13 +1,7 @@
 -- The words of a season: those that are read as a season spell it, and those that spell it are read as it.
-use Rattle.std.proofs.Common.{◌≡◌, ℕ, ◌+◌, true, List, [], ◌∷◌, ◌++◌, Option, Some, None, Ok, codes, refl}
-use Rattle.std.proofs.Common.{sym, ap, ◌∙◌, subst}
-use Rattle.std.specs.List.{enumerate_from}
-use Rattle.rank_query.specs.declared.region.Region.TheVariants.{Everywhere}
-use Rattle.rank_query.specs.Asked.{is_season}
-use Rattle.rank_query.specs.Words.{Word, says}
-use Rattle.rank_query.specs.WordValues.{months}
-use Rattle.rank_query.specs.Reading.{region_at, months_at, all_year_at, season_at}
-use Rattle.rank_query.specs.Spelling.{SpellsSeason}
+use Rattle.rank_query.proofs.Cited.{ints, arith, ◌≡◌, ℕ, ◌+◌, true, List, [], ◌∷◌, ◌++◌, Option, Some, None, Ok, codes}
+use Rattle.rank_query.proofs.Cited.{refl, sym, ap, ◌∙◌, subst, enumerate_from, is_season, Word, says}
+use Rattle.rank_query.proofs.Cited.{months, region_at, months_at, all_year_at, season_at, SpellsSeason}
 use Rattle.rank_query.proofs.ReadingSteps.{rows_took, Took, made_took, words_took, made_again, spelt_again}
 use Rattle.rank_query.proofs.RegionWords.{BeginsNoRegion}
 use Rattle.rank_query.proofs.WordValues.{months_joined, joined_months}
@@ -32,8 +26,7 @@ pub season_again : (s : Option (ℕ × ℕ)) (words more : List (List ℕ)) (n :
     → SpellsSeason words s → BeginsNoSeason more
     → (m : ℕ) × (season_at (enumerate_from n (words ++ more)) ≡ Ok (s, enumerate_from m more))
 unfolding season_at says
-season_again None words more n is spelt none =
-    (n, ap (λ ws. season_at (enumerate_from n (ws ++ more))) spelt ∙ none n)
+season_again None words more n is spelt none = (n, ap (λ ws. season_at (enumerate_from n (ws ++ more))) spelt ∙ none n)
 season_again (Some s) words more n is spelt none = spelt_again season_at words _ more n (n + 1 + 1) _ spelt.2
     (made_again months Some (n + 1) spelt.0 more s (joined_months s (n + 1) spelt.0 is spelt.1))
 
@@ -42,6 +35,4 @@ pub season_no_region : (s : Option (ℕ × ℕ)) (words more : List (List ℕ)) 
     → BeginsNoRegion (words ++ more)
 unfolding region_at says
 season_no_region None words more spelt none = subst (λ ws. BeginsNoRegion (ws ++ more)) (sym spelt) none
-season_no_region (Some s) words more spelt none =
-    λ n. subst (λ ws. region_at (enumerate_from n (ws ++ more)) ≡ Ok (Everywhere, enumerate_from n (ws ++ more)))
-    (sym spelt.2) refl
+season_no_region (Some s) words more spelt none = grind (arith, ints)

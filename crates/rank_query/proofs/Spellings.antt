@@ -1,19 +1,10 @@
 -- What is read as a query spells it, and what spells a query is read as it.
-use Rattle.std.proofs.Common.{◌≡◌, ℕ, ◌≤◌, false, cond, List, [], ◌∷◌, ◌++◌, length, Option, Ok}
-use Rattle.std.proofs.Common.{Err, codes, refl, sym, ap, ◌∙◌, subst, append_assoc, append-nil, arith}
-use Rattle.std.specs.Prelude.{nat_lt, ℤ}
-use Rattle.std.specs.List.{enumerate_from, AllByRecursion}
-use Rattle.std.proofs.lemmas.Bool.Decides.{nat_tests}
-use Rattle.rank_query.specs.declared.score.Score.{Score}
-use Rattle.rank_query.specs.declared.region.Region.{Region}
-use Rattle.rank_query.specs.declared.fault.QueryFault.TheVariants.{QueryTooLong}
-use Rattle.rank_query.specs.Asked.{Asked, IsAsked}
-use Rattle.rank_query.specs.Words.{Word, words_of, numbered_words, says}
-use Rattle.rank_query.specs.Readers.{◌>>=◌, Read, keyword, one_word}
-use Rattle.rank_query.specs.WordValues.{number}
-use Rattle.rank_query.specs.Reading.{score_at, region_at, season_at, period_at, nothing_more, read_words, read_query}
-use Rattle.rank_query.specs.Spelling.{IsNumeralOf, SpellsScore, SpellsRegion, SpellsSeason, SpellsPeriod}
-use Rattle.rank_query.specs.Spelling.{SpellsQuery, IsSpelling}
+use Rattle.rank_query.proofs.Cited.{ints, ◌≡◌, ℕ, ◌≤◌, false, List, [], ◌∷◌, ◌++◌, length, Option, Ok, codes, refl, sym}
+use Rattle.rank_query.proofs.Cited.{ap, ◌∙◌, subst, append_assoc, append-nil, arith, nat_lt, ℤ, enumerate_from}
+use Rattle.rank_query.proofs.Cited.{AllByRecursion, nat_tests, Score, Region, QueryTooLong, Asked, IsAsked, Word}
+use Rattle.rank_query.proofs.Cited.{words_of, numbered_words, says, keyword, one_word, number, score_at, region_at}
+use Rattle.rank_query.proofs.Cited.{season_at, period_at, nothing_more, read_words, read_query, IsNumeralOf}
+use Rattle.rank_query.proofs.Cited.{SpellsScore, SpellsRegion, SpellsSeason, SpellsPeriod, SpellsQuery, IsSpelling}
 use Rattle.rank_query.proofs.OneWords.{HasNoBlank, words_no_blank, all_behind}
 use Rattle.rank_query.proofs.ReadingSteps.{bind_ok, else_ok, unnumbered, unnumbered-enumerate_from, keyword_took}
 use Rattle.rank_query.proofs.ReadingSteps.{one_word_took, one_word_again}
@@ -104,16 +95,7 @@ words_again q k score region season period is numeral spells_score spells_region
     let t = season_again q.season season period r.0 is.season spells_season
     (period_no_season q.period period spells_period) in
     let p = period_again q.period period t.0 is.period spells_period in
-    ap (λ ws. read_words (enumerate_from 1 (codes "top" ∷ k ∷ ws))) (four_joined score region season period)
-    ∙ one_word_again (number 1 1000) 2 k (score ++ (region ++ (season ++ period))) q.k _
-    (numeral_number 1 1000 q.k 2 k is.k numeral)
-    ∙ ap (λ (x : Read Score). x >>= λ s. region_at s.1 >>= λ r. season_at r.1 >>= λ t. period_at t.1 >>= λ p.
-    nothing_more p.1 (asked q.k s.0 r.0 t.0 p.0)) s.1
-    ∙ ap (λ (x : Read Region). x >>= λ r. season_at r.1 >>= λ t. period_at t.1 >>= λ p. nothing_more p.1
-    (asked q.k q.score r.0 t.0 p.0)) r.1
-    ∙ ap (λ (x : Read (Option (ℕ × ℕ))). x >>= λ t. period_at t.1 >>= λ p. nothing_more p.1
-    (asked q.k q.score q.region t.0 p.0)) t.1
-    ∙ ap (λ (x : Read (Option (ℤ × ℤ))). x >>= λ p. nothing_more p.1 (asked q.k q.score q.region q.season p.0)) p
+    grind (arith, ints, four_joined, one_word_again, numeral_number)
 
 -- words that spell a query that may be asked are read as it
 pub spelt_read : (ws : List (List ℕ)) (q : Asked) → IsAsked q → SpellsQuery ws q
@@ -129,5 +111,4 @@ pub spelling_read : (text : List ℕ) (q : Asked) → IsAsked q → IsSpelling t
 unfolding read_query
 spelling_read text q is spelling short =
     let test : nat_lt 256 (length text) ≡ false = grind (arith, nat_tests) in
-    ap (λ b. cond b (Err QueryTooLong) (read_words (numbered_words text))) test
-    ∙ spelt_read (words_of text) q is spelling
+    rw (test, spelt_read (words_of text) q is spelling)

@@ -1,14 +1,8 @@
 -- Where a reading stops at a fault, and what it could go on with there.
-use Rattle.std.proofs.Common.{◌≡◌, ◌⊎◌, inl, inr, List, [], ◌∷◌, ◌++◌, Result, Ok, Err, refl, sym, ap, ◌∙◌, subst}
-use Rattle.std.proofs.Common.{append_assoc, append-nil}
-use Rattle.std.specs.List.{AllByRecursion}
-use Rattle.std.proofs.lemmas.List.{map-append}
-use Rattle.rank_query.specs.declared.fault.QueryFault.{QueryFault}
-use Rattle.rank_query.specs.declared.fault.QueryFault.TheVariants.{QueryTooLong, UnexpectedWord, QueryEnds}
-use Rattle.rank_query.specs.declared.fault.QueryFault.TheVariants.{OutOfLimits, BadDate, BadBox, EmptyPeriod}
-use Rattle.rank_query.specs.Words.{Word}
-use Rattle.rank_query.specs.Readers.{◌>>=◌}
-use Rattle.rank_query.specs.FaultPlaces.{EndsTooEarly}
+use Rattle.rank_query.proofs.Cited.{◌≡◌, ◌⊎◌, inl, inr, List, [], ◌∷◌, ◌++◌, Result, Ok, Err, refl, sym, ap, ◌∙◌, subst}
+use Rattle.rank_query.proofs.Cited.{append_assoc, append-nil, AllByRecursion, map-append, QueryFault, QueryTooLong}
+use Rattle.rank_query.proofs.Cited.{UnexpectedWord, QueryEnds, OutOfLimits, BadDate, BadBox, EmptyPeriod, Word, ◌>>=◌}
+use Rattle.rank_query.proofs.Cited.{EndsTooEarly}
 use Rattle.rank_query.proofs.OneWords.{HasNoBlank}
 use Rattle.rank_query.proofs.ReadingSteps.{bind_ok, unnumbered}
 
@@ -127,8 +121,7 @@ same_follows whole part front same = record { ok = λ more x e. same more ∙ e;
 
 -- it stops where the part does
 at_follows : {A C : Type 0} (whole : Reading C) (part : Reading A) (front : List Word) (fault : QueryFault)
-    (before left : List Word)
-    → ((more : List Word) → part more ≡ Err fault → whole (front ++ more) ≡ Err fault)
+    (before left : List Word) → ((more : List Word) → part more ≡ Err fault → whole (front ++ more) ≡ Err fault)
     → StopsAt part fault before left → StopsAt whole fault (front ++ before) left
 at_follows whole part front fault before [] err at = at
 at_follows whole part front fault before (w ∷ behind) err at = (
@@ -138,8 +131,7 @@ at_follows whole part front fault before (w ∷ behind) err at = (
 
 -- goes on where it does
 pub on_follows : {A C : Type 0} (GoodA : A → Type 0) (Good : C → Type 0) (make : A → C) (whole : Reading C)
-    (part : Reading A) (front before : List Word)
-    → ((x : A) → GoodA x → Good (make x)) → Follows make whole front part
+    (part : Reading A) (front before : List Word) → ((x : A) → GoodA x → Good (make x)) → Follows make whole front part
     → GoesOn A GoodA (λ tail. part (before ++ tail)) → GoesOn C Good (λ tail. whole ((front ++ before) ++ tail))
 on_follows GoodA Good make whole part front before good follows on = record {
   tail = on.tail;
@@ -198,8 +190,7 @@ goes_on_then GoodA Good read onward before takes on next =
       good = more.good;
       reads = ap (then read onward) (sym (append_assoc before on.tail more.tail))
           ∙ ap (λ front. then read onward (front ++ more.tail)) same
-          ∙ ap (λ r. r >>= λ r. onward r.0 r.1) (took.again more.tail)
-          ∙ more.reads;
+          ∙ ap (λ r. r >>= λ r. onward r.0 r.1) (took.again more.tail) ∙ more.reads;
     }
 
 -- the same of two parts
@@ -230,8 +221,7 @@ first_then {A} {C} GoodA Good read onward part next = record {
 
 -- and takes what that takes, behind them
 pub takes_behind : {A : Type 0} (Good : A → Type 0) (whole part : Reading (A × List Word)) (front ws : List Word)
-    (r : A × List Word)
-    → ((more : List Word) → whole (front ++ more) ≡ part more) → Takes A Good part ws r
+    (r : A × List Word) → ((more : List Word) → whole (front ++ more) ≡ part more) → Takes A Good part ws r
     → Takes A Good whole (front ++ ws) r
 takes_behind Good whole part front ws r same took = record {
   good = took.good;

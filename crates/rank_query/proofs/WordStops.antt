@@ -1,21 +1,10 @@
 -- Which words have no value, and some that have one.
-use Rattle.std.proofs.Common.{inl, inr, ◌≡◌, ℕ, Bool, true, cond, ◌&&◌, List, [], Option, Result, Ok}
-use Rattle.std.proofs.Common.{Err, codes, refl, ap, subst}
-use Rattle.std.specs.Prelude.{ℤ, pos, neg_ℤ, int_le}
-use Rattle.ghcn_fields.specs.declared.field.Field.{Field}
-use Rattle.ghcn_fields.specs.declared.field.Field.TheVariants.{Blank, Number, Bad}
-use Rattle.ghcn_fields.specs.Days.{is_within, is_day}
-use Rattle.ghcn_fields.specs.Dates.{date_text, read_date}
-use Rattle.ghcn_fields.specs.Numbers.{natural, scaled_field}
-use Rattle.ghcn_files.specs.declared.element.Element.{Element}
-use Rattle.ghcn_files.specs.Elements.{code_of, element_of}
-use Rattle.ghcn_files.specs.StationLines.{is_number_within, number_of}
-use Rattle.rank_query.specs.declared.fault.QueryFault.{QueryFault}
-use Rattle.rank_query.specs.declared.fault.QueryFault.TheVariants.{UnexpectedWord, OutOfLimits, BadDate, BadBox}
-use Rattle.rank_query.specs.Asked.{is_code, is_longitude, is_heat, is_month}
-use Rattle.rank_query.specs.Words.{Word}
-use Rattle.rank_query.specs.WordValues.{number, element, heat, months, degrees, code, date, tenths_of, two_numbers}
-use Rattle.rank_query.specs.Reading.{latitude_from, longitude}
+use Rattle.rank_query.proofs.Cited.{inl, inr, ◌≡◌, ℕ, Bool, true, cond, ◌&&◌, List, [], Option, Result, Ok, Err, codes}
+use Rattle.rank_query.proofs.Cited.{refl, ap, subst, ℤ, pos, neg_ℤ, int_le, Field, Blank, Number, Bad, is_within}
+use Rattle.rank_query.proofs.Cited.{is_day, date_text, read_date, natural, scaled_field, Element, code_of, element_of}
+use Rattle.rank_query.proofs.Cited.{is_number_within, number_of, QueryFault, UnexpectedWord, OutOfLimits, BadDate}
+use Rattle.rank_query.proofs.Cited.{BadBox, is_code, is_longitude, is_heat, is_month, Word, number, element, heat}
+use Rattle.rank_query.proofs.Cited.{months, degrees, code, date, tenths_of, two_numbers, latitude_from, longitude}
 use Rattle.rank_query.proofs.OneWords.{HasNoBlank}
 use Rattle.rank_query.proofs.ReadingSteps.{test_ok, test_err, or_fault_err, tested, tested_ok, tested_err}
 use Rattle.rank_query.proofs.WordValues.{code_element, date_day, written_date}
@@ -79,7 +68,7 @@ field_within : (low high z : ℤ) (f : Field) (at : ℕ) → cond (is_number_wit
 field_within low high z Blank at e = absurd cc
 field_within low high z (Number n) at e =
     let test = test_ok (int_le low n && int_le n high) n z (BadBox at) e in
-    subst (λ z. (int_le low z && int_le z high) ≡ true) test.1 test.0
+    cc
 field_within low high z Bad at e = absurd cc
 
 -- degrees within limits, of which some word writes one

@@ -1,38 +1,19 @@
 -- What a single word is read as spells it, and what spells a value is read as it.
-use Rattle.std.proofs.Common.{◌≡◌, ℕ, zero, suc, ◌+◌, ◌<◌, Bool, true, false, cond, ◌&&◌, List, [], ◌∷◌, ◌++◌, length}
-use Rattle.std.proofs.Common.{rules, take, drop, get_or, replicate, Option, Some, None, Ok, Err, refl, sym, ap, ◌∙◌}
-use Rattle.std.proofs.Common.{subst, FitsSigned, w32, arith, length-drop}
-use Rattle.std.specs.Prelude.{ℤ, int_le}
-use Rattle.std.specs.List.{find, list_all, before_first, after_first, position_or_len}
-use Rattle.std.specs.Char.{is_ascii_digit}
-use Rattle.std.specs.Str.Parse.{digits_value}
-use Rattle.std.specs.Cmp.Lexicographic.{bytes_decides}
+use Rattle.rank_query.proofs.Cited.{◌≡◌, ℕ, zero, suc, ◌+◌, ◌<◌, Bool, true, false, cond, ◌&&◌, List, [], ◌∷◌, ◌++◌}
+use Rattle.rank_query.proofs.Cited.{length, rules, take, drop, get_or, replicate, Option, Some, None, Ok, Err, refl}
+use Rattle.rank_query.proofs.Cited.{sym, ap, ◌∙◌, subst, FitsSigned, w32, arith, length-drop, ℤ, int_le, find, list_all}
+use Rattle.rank_query.proofs.Cited.{before_first, after_first, position_or_len, is_ascii_digit, digits_value}
+use Rattle.rank_query.proofs.Cited.{bytes_decides, and_parts, nat_tests, split_at_first, passes_at_first, cond_some}
+use Rattle.rank_query.proofs.Cited.{Field, Blank, Number, Bad, same_bytes, is_within, is_day, date_text, read_date}
+use Rattle.rank_query.proofs.Cited.{Spells, natural, scaled_field, Element, Prcp, Snow, Snwd, Tmax, Tmin, code_of}
+use Rattle.rank_query.proofs.Cited.{element_of, elements, is_number_within, number_of, UnexpectedWord, OutOfLimits}
+use Rattle.rank_query.proofs.Cited.{BadDate, BadBox, is_code, is_heat, is_month, Word, or_fault, number, element, heat}
+use Rattle.rank_query.proofs.Cited.{months, degrees, code, date, tenths_of, two_numbers, is_point, natural_behind}
+use Rattle.rank_query.proofs.Cited.{both_numbers, IsNumeralOf, JoinsTwo}
 use Rattle.std.proofs.Math.Seq.{take-append_seam, drop-append-add}
-use Rattle.std.proofs.lemmas.Bool.{and_parts}
-use Rattle.std.proofs.lemmas.Bool.Decides.{nat_tests}
-use Rattle.std.proofs.lemmas.List.Sums.{split_at_first, passes_at_first}
-use Rattle.std.proofs.lemmas.Option.{cond_some}
-use Rattle.ghcn_fields.specs.declared.field.Field.{Field}
-use Rattle.ghcn_fields.specs.declared.field.Field.TheVariants.{Blank, Number, Bad}
-use Rattle.ghcn_fields.specs.Bytes.{same_bytes}
-use Rattle.ghcn_fields.specs.Days.{is_within, is_day}
-use Rattle.ghcn_fields.specs.Dates.{date_text, read_date}
-use Rattle.ghcn_fields.specs.Fields.{Spells}
-use Rattle.ghcn_fields.specs.Numbers.{natural, scaled_field}
 use Rattle.ghcn_fields.proofs.DateTexts.{read_date-law}
 use Rattle.ghcn_fields.proofs.DecimalTexts.{spells-from_signed, signed-from_spells}
 use Rattle.ghcn_fields.proofs.FieldNumbers.{scaled_field-number}
-use Rattle.ghcn_files.specs.declared.element.Element.{Element}
-use Rattle.ghcn_files.specs.declared.element.Element.TheVariants.{Prcp, Snow, Snwd, Tmax, Tmin}
-use Rattle.ghcn_files.specs.Elements.{code_of, element_of, elements}
-use Rattle.ghcn_files.specs.StationLines.{is_number_within, number_of}
-use Rattle.rank_query.specs.declared.fault.QueryFault.TheVariants.{UnexpectedWord, OutOfLimits, BadDate, BadBox}
-use Rattle.rank_query.specs.Asked.{is_code, is_heat, is_month}
-use Rattle.rank_query.specs.Words.{Word}
-use Rattle.rank_query.specs.Readers.{or_fault}
-use Rattle.rank_query.specs.WordValues.{number, element, heat, months, degrees, code, date, tenths_of, two_numbers}
-use Rattle.rank_query.specs.WordValues.{is_point, natural_behind, both_numbers}
-use Rattle.rank_query.specs.Spelling.{IsNumeralOf, JoinsTwo}
 use Rattle.rank_query.proofs.OneWords.{stands_in_word, HasNoBlank}
 use Rattle.rank_query.proofs.ReadingSteps.{test_ok, or_fault_ok, tested_ok, tested_again}
 
@@ -130,19 +111,15 @@ joined_two word a b j =
     let text : List ℕ = j.first ++ 46 ∷ rest in
     let front : take (length j.first) text ≡ j.first = take-append_seam j.first (46 ∷ rest) in
     let behind : drop (length j.first + 1) text ≡ rest = drop-append-add j.first (46 ∷ rest) 1 in
-    ap two_numbers j.parts
-    ∙ ap (λ (n : ℕ). both_numbers (natural (take n text)) (natural_behind (drop (n + 1) text)))
-    (point_at j.first rest j.spells_first.digits_alone)
-    ∙ ap (λ (xs : List ℕ). both_numbers (natural xs) (natural_behind (drop (length j.first + 1) text))) front
-    ∙ ap (λ (xs : List ℕ). both_numbers (natural j.first) (natural_behind xs)) behind
-    ∙ ap (λ (o : Option ℕ). both_numbers o (natural j.last)) (numeral_natural j.first a j.spells_first)
-    ∙ ap (both_numbers (Some a)) (numeral_natural j.last b j.spells_last)
+    let at = point_at j.first rest j.spells_first.digits_alone in
+    let one = numeral_natural j.first a j.spells_first in
+    let two = numeral_natural j.last b j.spells_last in
+    rw (j.parts, at, front, behind, one, two)
 
 -- a word that is read as months joins them
 pub months_joined : (w : Word) (s : ℕ × ℕ) → months w ≡ Ok s → JoinsTwo w.1 s.0 s.1
 unfolding months
-months_joined w s e =
-    two_joined w.1 s (tested_ok two_numbers (λ v. is_month v.0 && is_month v.1) OutOfLimits w s e).0
+months_joined w s e = two_joined w.1 s (tested_ok two_numbers (λ v. is_month v.0 && is_month v.1) OutOfLimits w s e).0
 
 -- what joins two months is read as them
 pub joined_months : (s : ℕ × ℕ) (at : ℕ) (word : List ℕ) → (is_month s.0 && is_month s.1) ≡ true
@@ -178,8 +155,7 @@ code_found Tmin = refl
 pub code_element : (allows : Element → Bool) (e : Element) (at : ℕ) → allows e ≡ true
     → element allows (at, code_of e) ≡ Ok e
 unfolding element
-code_element allows e at allowed =
-    tested_again element_of allows UnexpectedWord at (code_of e) e (code_found e) allowed
+code_element allows e at allowed = tested_again element_of allows UnexpectedWord at (code_of e) e (code_found e) allowed
 
 -- a text that begins with no blank is no longer than what stands behind its blanks
 no_blanks : (n : ℕ) (word text : List ℕ) → word ≡ replicate n 32 ++ text → HasNoBlank word → text ≡ word
@@ -208,8 +184,7 @@ unfolding degrees
 spelt_degrees low high z at text inside fits spells =
     let field : scaled_field 4 text ≡ Number z = (scaled_field-number 4 text z).1
     (record { blanks = 0; text = text; parts = refl; spells = spells }, fits) in
-    ap (λ (f : Field). cond (is_number_within low high f) (Ok (number_of f)) (Err (BadBox at))) field
-    ∙ ap (λ b. cond b (Ok z) (Err (BadBox at))) inside
+    cc
 
 -- a word that is read as a code is that code
 pub code_word : (len : ℕ) (w : Word) (c : List ℕ) → code len w ≡ Ok c → w.1 ≡ c

@@ -16,7 +16,8 @@ use Rattle.rank_query.specs.declared.score.Score.{Score}
 use Rattle.rank_query.specs.declared.score.Score.TheVariants.{Highest, Lowest, Sum, Dry, Wet, Hot}
 use Rattle.rank_query.specs.Asked.{Asked, IsAsked, is_score}
 use Rattle.rank_scores.specs.Runs.{run_from, run_len}
-use Rattle.rank_scores.specs.Candidates.{Shape, Windows, Spells, shape, plus, window_total, is_dry, is_wet, is_hot}
+use Rattle.rank_scores.specs.Candidates.{Shape, Windows, Spells, shape, plus, window_total, test_of}
+use Rattle.rank_scores.specs.declared.spell.Spell.TheVariants as spells
 use Rattle.rank_scores.specs.Candidates.{begun, candidate, candidates_among, candidates}
 use Rattle.rank_sched.proofs.Lists.{both_true, each-weaker}
 
@@ -133,12 +134,15 @@ module _ (days : List DayValue) (valued : AllByRecursion IsValued days) where
       let few : n ≤ 366 = grind arith in
       each_begun id (Windows n) days days (each-weaker IsValued (BeginsRight (Windows n) days) days
       (window_right n few) valued)
-  by_score id Dry right = each_begun id (Spells is_dry) days days
-      (each-weaker IsValued (BeginsRight (Spells is_dry) days) days (spell_right is_dry) valued)
-  by_score id Wet right = each_begun id (Spells is_wet) days days
-      (each-weaker IsValued (BeginsRight (Spells is_wet) days) days (spell_right is_wet) valued)
-  by_score id (Hot t) right = each_begun id (Spells (is_hot t)) days days
-      (each-weaker IsValued (BeginsRight (Spells (is_hot t)) days) days (spell_right (is_hot t)) valued)
+  by_score id Dry right = each_begun id (Spells (test_of spells.Dry)) days days
+      (each-weaker IsValued (BeginsRight (Spells (test_of spells.Dry)) days) days (spell_right (test_of spells.Dry))
+      valued)
+  by_score id Wet right = each_begun id (Spells (test_of spells.Wet)) days days
+      (each-weaker IsValued (BeginsRight (Spells (test_of spells.Wet)) days) days (spell_right (test_of spells.Wet))
+      valued)
+  by_score id (Hot t) right = each_begun id (Spells (test_of (spells.Hot t))) days days
+      (each-weaker IsValued (BeginsRight (Spells (test_of (spells.Hot t))) days) days
+      (spell_right (test_of (spells.Hot t))) valued)
 
 -- the score of each candidate of a series can be a floor
 pub candidates_ranged : (q : Asked) (s : Usable) → IsAsked q → IsSeries s

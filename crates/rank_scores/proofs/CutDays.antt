@@ -19,7 +19,7 @@ use Rattle.ghcn_series.proofs.JoinedFiles.{days_said, days_said-append, joined-l
 use Rattle.ghcn_series.proofs.ListFacts.{all_filter}
 use Rattle.rank_query.specs.Asked.{Asked}
 use Rattle.rank_query.specs.Admits.{admits_day}
-use Rattle.rank_scores.specs.Candidates.{admitted_among}
+use Rattle.rank_scores.specs.Stretches.{admitted_among}
 use Rattle.std.proofs.Common.{rules}
 
 -- ---- a test of what is put in order

@@ -27,7 +27,8 @@ use Rattle.ghcn_series.proofs.ListFacts.{all_filter}
 use Rattle.rank_query.specs.Asked.{Asked, score_element}
 use Rattle.rank_query.specs.Admits.{admits_station}
 use Rattle.rank_scores.specs.declared.candidate.Candidate.{Candidate}
-use Rattle.rank_scores.specs.Candidates.{shape, admitted, admitted_among, candidates, candidates_among}
+use Rattle.rank_scores.specs.Candidates.{shape, admitted, candidates, candidates_among}
+use Rattle.rank_scores.specs.Stretches.{admitted_among}
 use Rattle.rank_scores.specs.Morsels.{admitted_series, all_candidates, has_admitted, id_comes_first, morsels}
 use Rattle.rank_scores.specs.Cut.{IsSameFor, series_first}
 use Rattle.std.proofs.Common.{arith}

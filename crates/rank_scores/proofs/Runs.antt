@@ -10,7 +10,8 @@ use Rattle.ghcn_fields.specs.Days.{first_day, last_day, is_day}
 use Rattle.ghcn_series.specs.Series.{DayValue, value_on}
 use Rattle.rank_query.specs.Asked.{Asked}
 use Rattle.rank_scores.specs.Runs.{run_from, calendar_len}
-use Rattle.rank_scores.specs.Candidates.{admitted_among, is_such}
+use Rattle.rank_scores.specs.Candidates.{is_such}
+use Rattle.rank_scores.specs.Stretches.{admitted_among}
 use Rattle.rank_scores.proofs.Rising.{from_each, value_on-other}
 use Rattle.std.proofs.Common.{rules}
 

@@ -11,7 +11,7 @@ use Rattle.ghcn_series.specs.Series.{DayValue, Usable, IsSeries, is_by_day, is_v
 use Rattle.rank_query.specs.Asked.{Asked}
 use Rattle.rank_query.specs.Admits.{admits_day}
 use Rattle.rank_scores.specs.declared.admitted.Stretch.{Stretch}
-use Rattle.rank_scores.specs.Candidates.{admitted_among}
+use Rattle.rank_scores.specs.Stretches.{admitted_among}
 use Rattle.rank_scores.specs.Stretches.{IsStretch}
 use Rattle.rank_scores.proofs.Rising.{rise-from_by_day, from_each, from_both}
 use Rattle.rank_scores.proofs.Runs.{day-bounds}

@@ -12,19 +12,16 @@ use Rattle.rank_query.specs.declared.score.Score.TheVariants.{Highest, Lowest, S
 use Rattle.rank_query.specs.Asked.{Asked}
 use Rattle.rank_query.specs.Admits.{admits_day}
 use Rattle.rank_scores.specs.declared.candidate.Candidate.{Candidate}
+use Rattle.rank_scores.specs.declared.spell.Spell.{Spell}
+use Rattle.rank_scores.specs.declared.spell.Spell.TheVariants as spells
 use Rattle.rank_scores.specs.Runs.{run_len, begins_run, IsRun}
 
--- less than one millimetre
-abbrev pub is_dry : ℤ → Bool
-is_dry v = int_lt v (pos 10)
-
--- at least one millimetre
-abbrev pub is_wet : ℤ → Bool
-is_wet v = int_le (pos 10) v
-
--- at least so many tenths of a degree
-abbrev pub is_hot : ℤ → ℤ → Bool
-is_hot t v = int_le t v
+-- the test that the values of a spell's days pass: less than one millimetre, at least one, at least so many tenths of a
+-- degree
+abbrev pub test_of : Spell → ℤ → Bool
+test_of spells.Dry v = int_lt v (pos 10)
+test_of spells.Wet v = int_le (pos 10) v
+test_of (spells.Hot t) v = int_le t v
 
 -- what a score ranks: days by a number made of their value, windows of n days by their total, or spells by a test
 pub data Shape : Type 0 where
@@ -37,17 +34,13 @@ abbrev pub shape : Score → Shape
 shape (Highest e) = Days (λ v. v)
 shape (Lowest e) = Days neg_ℤ
 shape (Sum n e) = Windows n
-shape Dry = Spells is_dry
-shape Wet = Spells is_wet
-shape (Hot t) = Spells (is_hot t)
-
--- those of some days that a query admits
-abbrev pub admitted_among : Asked → List DayValue → List DayValue
-admitted_among q days = filter (λ x. admits_day q x.0) days
+shape Dry = Spells (test_of spells.Dry)
+shape Wet = Spells (test_of spells.Wet)
+shape (Hot t) = Spells (test_of (spells.Hot t))
 
 -- the admitted usable days of a series, with their values
 abbrev pub admitted : Asked → Usable → List DayValue
-admitted q s = admitted_among q s.days
+admitted q s = filter (λ x. admits_day q x.0) s.days
 
 -- the sum of two numbers, if there are both
 abbrev pub plus : Option ℤ → Option ℤ → Option ℤ

@@ -1,17 +1,9 @@
--- The kinds of spell, and a spell that days may still be added to.
+-- A spell that days may still be added to.
 use Rattle.std.specs.Prelude.{Bool, ◌&&◌, if◌then◌else◌, ℤ, pos, ◌+ℤ◌, ◌-ℤ◌, Option, None, Some, List, [], ◌∷◌}
 use Rattle.std.specs.Ordering.{int_eq}
 use Rattle.ghcn_files.specs.declared.station.StationId.{StationId}
 use Rattle.rank_scores.specs.declared.candidate.Candidate.{Candidate}
-use Rattle.rank_scores.specs.declared.spell.Spell.{Spell}
-use Rattle.rank_scores.specs.declared.spell.Spell.TheVariants.{Dry, Wet, Hot}
-use Rattle.rank_scores.specs.Candidates.{is_dry, is_wet, is_hot, candidate}
-
--- the test that the values of a spell's days pass
-abbrev pub test_of : Spell → ℤ → Bool
-test_of Dry v = is_dry v
-test_of Wet v = is_wet v
-test_of (Hot t) v = is_hot t v
+use Rattle.rank_scores.specs.Candidates.{candidate}
 
 -- the first day of a spell, where a day passes and comes behind the spell's last one
 abbrev pub goes_on : Option (ℤ × ℤ) → ℤ → Bool → Option ℤ

@@ -1,11 +1,15 @@
 -- Days that are admitted alike, as one after another comes.
-use Rattle.std.specs.Prelude.{◌≡◌, List, ◌≤ℤ◌, IsTrue}
+use Rattle.std.specs.Prelude.{◌≡◌, List, filter, ◌≤ℤ◌, IsTrue}
 use Rattle.std.specs.List.{AllByRecursion}
 use Rattle.ghcn_fields.specs.Days.{is_day}
 use Rattle.ghcn_series.specs.Series.{DayValue, is_by_day}
 use Rattle.rank_query.specs.Asked.{Asked}
 use Rattle.rank_query.specs.Admits.{admits_day}
 use Rattle.rank_scores.specs.declared.admitted.Stretch.{Stretch}
+
+-- those of some days that a query admits
+abbrev pub admitted_among : Asked → List DayValue → List DayValue
+admitted_among q days = filter (λ x. admits_day q x.0) days
 
 -- the days to come rise, and those up to the stretch's last one are admitted, or aren't, as it has it
 pub record IsStretch (q : Asked) (days : List DayValue) (s : Stretch) : Type 0 where

@@ -7,7 +7,7 @@ ghost use Rattle.ghcn_series.specs.Series.{DayValue, IsSeries};
 ghost use Rattle.rank_query.specs.Admits.{admits_day};
 ghost use Rattle.rank_scores.specs.Candidates as meaning;
 ghost use Rattle.rank_scores.specs.Morsels.{has_admitted};
-ghost use Rattle.rank_scores.specs.Stretches.{IsStretch};
+ghost use Rattle.rank_scores.specs.Stretches.{admitted_among, IsStretch};
 
 use ghcn_fields::Day;
 use ghcn_series::{BlockDays, Days, Series};
@@ -28,8 +28,7 @@ pub(crate) struct Admitted<'s, 'q> {
 impl<'s, 'q> Model for Admitted<'s, 'q> {
     ghost use Rattle.std.specs.Prelude.{List, ◌++◌};
     ghost use Rattle.ghcn_series.specs.Series.{DayValue};
-    ghost use Rattle.rank_scores.specs.Candidates.{admitted_among};
-    ghost use Rattle.rank_scores.specs.Stretches.{IsStretch};
+    ghost use Rattle.rank_scores.specs.Stretches.{admitted_among, IsStretch};
 
     ghost Value = { List DayValue };
 
@@ -88,9 +87,9 @@ pub fn has_admitted_day(series: &Series, query: &Query) -> bool
 /// The first of some days that are admitted, as many as lie in one block and one stretch.
 fn next_part<'s>(days: &mut Days<'s>, query: &Query, stretch: &mut Stretch) -> BlockDays<'s>
     requires { IsStretch query.now days.old stretch.old }
-    ensures parts { meaning.admitted_among query.now days.old
-        ≡ result ++ meaning.admitted_among query.now days.new }
-    ensures end { result ≡ [] → meaning.admitted_among query.now days.new ≡ [] }
+    ensures parts { admitted_among query.now days.old
+        ≡ result ++ admitted_among query.now days.new }
+    ensures end { result ≡ [] → admitted_among query.now days.new ≡ [] }
     ensures stretch { IsStretch query.now days.new stretch.new }
 {
     while let Some(day) = days.first() {

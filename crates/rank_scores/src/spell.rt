@@ -3,7 +3,8 @@
 ghost use Rattle.std.specs.Prelude.{◌≡◌, false, if◌then◌else◌};
 ghost use Rattle.std.specs.List.{fold};
 ghost use Rattle.std.specs.Option.{option_map_or};
-ghost use Rattle.rank_scores.specs.Spells.{test_of, goes_on, spell_list};
+ghost use Rattle.rank_scores.specs.Spells.{goes_on, spell_list};
+ghost use Rattle.rank_scores.specs.Candidates.{test_of};
 ghost use Rattle.rank_scores.specs.Candidates as meaning;
 
 use crate::admitted::{Admitted, comes_next};

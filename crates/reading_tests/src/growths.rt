@@ -51,7 +51,8 @@ fn read_pieces(alloc: Global, stations: Stations) -> Result<Data, DataFault> {
     let mut reader = with_month(reader, b"ZZA00000001202008TMAX");
     reader.end_of_file();
     let reader = fed(reader, &month_of(b"ZZA00000001202009TMAX"));
-    reader.finish()
+    let (data, _foreign) = reader.finish()?;
+    Ok(data)
 }
 
 /// Whether the data have a first value of each month from June to September, and one line was passed

@@ -6,7 +6,7 @@ ghost use Rattle.ghcn_series.specs.Pieces.{HasFedSome};
 use super::{A, JULY, STATIONS, has_series};
 use crate::lines::line_of;
 use ghcn_fields::Memory;
-use ghcn_files::{Element, Stations};
+use ghcn_files::{Element, LineWhy, Stations};
 use ghcn_series::{DailyWhy, Data, DataFault, DataReader, Foreign};
 use std::alloc::Global;
 
@@ -33,7 +33,15 @@ fn fed(alloc: Global, piece: &[u8]) -> Result<DataReader, DataFault>
 fn read_cut(alloc: Global, front: &[u8], behind: &[u8]) -> Result<Data, DataFault> {
     let mut reader = fed(alloc, front)?;
     reader.piece(behind);
-    reader.finish()
+    data_of(reader)
+}
+
+/// The data of what a reader was fed.
+pub(crate) fn data_of(reader: DataReader) -> Result<Data, DataFault>
+    requires { HasFedSome reader }
+{
+    let (data, _foreign) = reader.finish()?;
+    Ok(data)
 }
 
 /// What a file says whose bytes come one by one.
@@ -43,7 +51,7 @@ pub(crate) fn read_by_bytes(mut reader: DataReader, text: &[u8]) -> Result<Data,
     for byte in text {
         reader.piece(&[*byte]);
     }
-    reader.finish()
+    data_of(reader)
 }
 
 /// Three lines with carriage returns: July, an empty line, and another one.
@@ -162,7 +170,7 @@ fn files_end_where_they_are_ended(rt: HostRuntime) {
 }
 
 /// The foreign files among some, each of which comes in halves.
-fn foreign_of(alloc: Global, files: &[&[u8]]) -> Result<Option<Foreign>, DataFault> {
+fn foreign_of(alloc: Global, files: &[&[u8]]) -> Result<Foreign, DataFault> {
     let mut reader = reader(alloc)?;
     for file in files {
         let (front, behind) = file.split_at(file.len() / 2);
@@ -170,12 +178,13 @@ fn foreign_of(alloc: Global, files: &[&[u8]]) -> Result<Option<Foreign>, DataFau
         reader.piece(behind);
         reader.end_of_file();
     }
-    Ok(reader.foreign())
+    let (_data, foreign) = reader.finish()?;
+    Ok(foreign)
 }
 
 /// So many foreign files, of which this is the first.
-fn told(count: u64, first: Option<u64>) -> Result<Option<Foreign>, DataFault> {
-    Ok(Some(Foreign { count, first }))
+fn told(count: u64, first: Option<u64>) -> Result<Foreign, DataFault> {
+    Ok(Foreign { count, first })
 }
 
 #[test]
@@ -201,5 +210,10 @@ fn files_without_one_of_the_elements(rt: HostRuntime) {
         foreign_of(alloc, &[b"\n", &table, &unlisted]),
         told(1, Some(1))
     );
-    assert_eq!(rt; foreign_of(alloc, &[&other, b"short"]), Ok(None));
+    let fault = DataFault::DailyLine {
+        file: 2,
+        line: 1,
+        why: DailyWhy::Line(LineWhy::Short),
+    };
+    assert_eq!(rt; foreign_of(alloc, &[&other, b"short"]), Err(fault));
 }

@@ -20,9 +20,9 @@ pub returns : goal.returns
 returns g c =
     let bytes_of = g.A.Archive.bytes_of c.args.archive.now in
     describes-files bytes_of c.args.describing.now c.new-intake.result c.feed_files.new.taker c.deref.result.now
-    c.deref-2.result.now c.describe_intake-described.result c.foreign-foreign.result c.deref.ensures
+    c.deref-2.result.now c.describe_intake.result c.deref.ensures
     (subst (AreAllOf (bytes_of c.deref.result.now)) (sym c.deref-2.ensures.value) c.in-Ok.ensures)
     c.new-intake.ensures
     (subst (λ (fs : List (String Global)). FeedsFiles HasTaken c.new-intake.result c.feed_files.new.taker
     (map (λ f. bytes_of (string_bytes f)) fs)) c.deref-3.ensures.value c.in_ok-feed_files.ensures.fed)
-    c.describe_intake-described.ensures.ok c.describe_intake-described.ensures.err c.foreign-foreign.ensures
+    c.describe_intake.ensures.ok c.describe_intake.ensures.err

@@ -20,8 +20,8 @@ pub returns : goal.returns
 returns g c =
     let bytes_of = g.A.Archive.bytes_of c.args.archive.now in
     judges-files bytes_of c.args.judging.now c.new-intake.result c.feed_files.new.taker c.deref-2.result.now
-    c.deref.result.now c.deref-3.result.now c.deref-5.result.now c.deref-6.result.now c.judge_as-judged.result
-    c.foreign-foreign.result c.deref-2.ensures c.deref.ensures
+    c.deref.result.now c.deref-3.result.now c.deref-5.result.now c.deref-6.result.now c.judge_as.result
+    c.deref-2.ensures c.deref.ensures
     (subst (AreAllOf (bytes_of c.deref.result.now)) (sym c.deref-3.ensures.value) c.in-Ok.ensures) (
       subst (AreAllOf (bytes_of (string_bytes c.args.judging.now.papers.report))) (sym c.deref-5.ensures.value)
           c.in_ok-papers.ensures.0,
@@ -31,4 +31,4 @@ returns g c =
     c.new-intake.ensures (subst (λ (fs : List (String Global)).
     FeedsFiles HasTaken c.new-intake.result c.feed_files.new.taker
     (map (λ f. bytes_of (string_bytes f)) fs)) c.deref-4.ensures.value c.in_ok-feed_files.ensures.fed)
-    c.judge_as-judged.ensures.ok c.judge_as-judged.ensures.err c.foreign-foreign.ensures
+    c.judge_as.ensures.ok c.judge_as.ensures.foreign c.judge_as.ensures.err

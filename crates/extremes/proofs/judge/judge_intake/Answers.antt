@@ -4,7 +4,8 @@ use Rattle.extremes.proofs.Answering.{judges_input}
 -- the verdict is that on what was given
 pub returns-clause-ok : goal.returns-clause-ok
 returns-clause-ok c =
-    judges_input c.args.intake c.in_ok-query.query c.in_ok-query.held c.args.report.now c.args.certificate.now
-    c.in_ok-check.field-0 c.papers_of_one_element.ensures.report c.papers_of_one_element.ensures.certificate
-    c.verdict_of_one_element.ensures c.in_ok-query.ensures.ok
-    c.in_ok-check.ensures.verdict c.in_ok-check.ensures.accepted
+    judges_input c.args.intake c.in_ok-taken.taken.query c.in_ok-taken.taken.held c.args.report.now
+    c.args.certificate.now c.in_ok-verdict.verdict c.papers_of_one_element.ensures.right_report
+    c.papers_of_one_element.ensures.right_certificate
+    c.verdict_of_one_element.ensures c.in_ok-taken.ensures.ok
+    c.in_ok-verdict.ensures.verdict c.in_ok-verdict.ensures.accepted

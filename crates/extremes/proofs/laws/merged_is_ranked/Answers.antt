@@ -3,4 +3,5 @@ use Rattle.extremes.proofs.laws.merged_is_ranked.Goals as goal
 
 -- the law
 pub returns : goal.returns
-returns c = merged-is-ranked
+returns c =
+    merged-is-ranked c.papers_are_found.ensures.report c.papers_are_found.ensures.certificate

@@ -11,6 +11,13 @@ returns-clause-ok g c =
     are.is (given c.args.query.now c.args.stations.now (map (λ file. file.now) c.args.files.now))
     c.of_files-intake.ensures) c.rank_intake.ensures.ok
 
+-- which had no fault
+pub returns-clause-faultless : goal.returns-clause-faultless
+returns-clause-faultless g c =
+    IfOk-weaker c.rank_intake.result.answer _ _ (λ papers are.
+    are.is (given c.args.query.now c.args.stations.now (map (λ file. file.now) c.args.files.now))
+    c.of_files-intake.ensures) c.rank_intake.ensures.faultless
+
 -- they are those of the crew that was asked for
 pub returns-clause-crew : goal.returns-clause-crew
 returns-clause-crew g c =

@@ -1,14 +1,14 @@
 use Rattle.std.proofs.lemmas.Result.{IfOk-weaker, IfErr-weaker}
 use Rattle.rank_input.proofs.Reading.{memory_refuses}
 use Rattle.extremes.proofs.rank.rank_intake.Goals as goal
-use Rattle.extremes.proofs.Answering.{answers_input, crews_input}
+use Rattle.extremes.proofs.Answering.{answers_input, crews_input, faultless_input}
 
 -- the papers of what the query needs answer all that was given
 pub returns-in-Ok-clause-ok : goal.returns-in-Ok-clause-ok
 returns-in-Ok-clause-ok g c =
     IfOk-weaker c.ranked_by_crew-answer.result _ _ (λ papers are.
-    answers_input c.args.intake _ _ papers
-    c.papers_of_one_element.ensures.report c.papers_of_one_element.ensures.measured c.in-Ok.ensures.ok are)
+    answers_input c.args.intake _ _ papers c.papers_of_one_element.ensures.right_report
+    c.papers_of_one_element.ensures.right_certificate c.in-Ok.ensures.ok are)
     c.ranked_by_crew-answer.ensures.ok
 
 -- want of memory is a refusal of any input
@@ -23,3 +23,15 @@ returns-in-Ok-clause-crew g c =
     crews_input c.args.intake c.args.workers c.args.guess _ _ papers c.one_element_is_enough.ensures.morsels
     c.papers_of_one_element.ensures.measured c.in-Ok.ensures.ok are.0 are.1)
     c.ranked_by_crew-answer.ensures.crew
+
+-- which had no fault
+pub returns-in-Ok-clause-faultless : goal.returns-in-Ok-clause-faultless
+returns-in-Ok-clause-faultless g c =
+    IfOk-weaker c.ranked_by_crew-answer.result _ _ (λ papers are.
+    faultless_input c.args.intake _ _ c.in-Ok.ensures.ok) c.ranked_by_crew-answer.ensures.ok
+
+-- and these are its foreign files
+pub returns-in-Ok-clause-foreign : goal.returns-in-Ok-clause-foreign
+returns-in-Ok-clause-foreign g c =
+    IfOk-weaker c.ranked_by_crew-answer.result _ _ (λ papers are. c.in-Ok.ensures.foreign)
+    c.ranked_by_crew-answer.ensures.ok

@@ -3,6 +3,7 @@ use Rattle.rank_query.specs.Asked.{IsAsked}
 use Rattle.rank_sched.specs.Plan.{Planned}
 use Rattle.rank_input.proofs.Crews.{some_workers, few_workers}
 use Rattle.rank_input.proofs.Guesses.{guess_is_score}
+use Rattle.extremes.proofs.Answering.{right_papers}
 use Rattle.extremes.proofs.PlanAnswers.{crew_is_plan, papers_are, of_crew_is}
 use Rattle.extremes.proofs.rank.ranked_by_crew.Goals as goal
 
@@ -30,13 +31,15 @@ crew-requires-clause-guess g c κs within = guess_is_score c.args.guess c.requir
 pub papers_of-requires : goal.papers_of-requires
 papers_of-requires g c = crew_is_plan _ _ _ _ c.in_ok-answer.ensures.answer
 
--- the papers of the plan are those of the query and the data
+-- the papers of the plan are those of the query and the data, and right for them
 pub returns-clause-ok : goal.returns-clause-ok
 returns-clause-ok g c =
     let asked = subst IsAsked (ap (λ (p : Planned). p.query) (c.plan.view_is ∙ c.in_ok-plan.ensures))
     c.plan.invariant.asked in
-    papers_are _ _ _ _ c.in_ok-papers_of.field-0 asked c.requires.contents c.in_ok-plan.ensures c.unlisted.ensures
-    c.in_ok-papers_of.ensures.plan
+    right_papers _ _ c.in_ok-papers_of.field-0 c.papers_are_found.ensures.report
+    c.papers_are_found.ensures.certificate asked c.requires.contents
+    (papers_are _ _ _ _ c.in_ok-papers_of.field-0 asked c.requires.contents c.in_ok-plan.ensures c.unlisted.ensures
+    c.in_ok-papers_of.ensures.plan)
 
 -- and they are printed from the crew's answer, with the bounds of the series
 pub returns-clause-crew : goal.returns-clause-crew

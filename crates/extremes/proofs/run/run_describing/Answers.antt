@@ -5,7 +5,6 @@ use Rattle.extremes.proofs.run.run_describing.Goals as goal
 pub returns-in-Ok : goal.returns-in-Ok
 returns-in-Ok g c = inr (record {
   answer = c.in-Ok.described;
-  foreign = c.in-Ok.foreign;
   described = c.in-Ok.ensures;
   shown = c.print_description.ensures;
 })

@@ -6,7 +6,6 @@ pub returns-in-Ok : goal.returns-in-Ok
 returns-in-Ok g c =
     inr (record {
       answer = c.in-Ok.judged;
-      foreign = c.in-Ok.foreign;
       judged = c.in-Ok.ensures;
       told = c.print_judgement.ensures;
     })

@@ -12,8 +12,8 @@ returns-in_default-year_of-clause-value c =
     let tested : Tested c.args.line.now true true false _ = record {
       long = c.if-line-lt-LEAST_COLUMNS.false;
       ends_is = sym c.only_blanks_follow.ensures ∙ c.if-not-only_blanks_follow.false;
-      id_is = (test_held _ _ _ (sym c.of_line.ensures ∙ c.in-Some.is)).0;
-      year_is = test_failed _ _ (sym c.year_of.ensures.value ∙ c.in_default-year_of.is);
+      id_is = (test_held _ _ _ c.of_line.ensures c.in-Some.is).0;
+      year_is = test_failed _ _ c.year_of.ensures.value c.in_default-year_of.is;
       month_is = refl;
     } in
     sym (ap (λ (o : Option LineWhy). unless o (head_of c.args.line.now)) (head_why-tested tested))
@@ -24,9 +24,9 @@ returns-in_default-month_number-clause-value c =
     let tested : Tested c.args.line.now true true true false = record {
       long = c.if-line-lt-LEAST_COLUMNS.false;
       ends_is = sym c.only_blanks_follow.ensures ∙ c.if-not-only_blanks_follow.false;
-      id_is = (test_held _ _ _ (sym c.of_line.ensures ∙ c.in-Some.is)).0;
-      year_is = (test_held _ _ _ (sym c.year_of.ensures.value ∙ c.in-Some-year_of.is)).0;
-      month_is = test_failed _ _ (sym c.month_number.ensures.value ∙ c.in_default-month_number.is);
+      id_is = (test_held _ _ _ c.of_line.ensures c.in-Some.is).0;
+      year_is = (test_held _ _ _ c.year_of.ensures.value c.in-Some-year_of.is).0;
+      month_is = test_failed _ _ c.month_number.ensures.value c.in_default-month_number.is;
     } in
     sym (ap (λ (o : Option LineWhy). unless o (head_of c.args.line.now)) (head_why-tested tested))
 
@@ -35,9 +35,9 @@ pub returns-clause-value : goal.returns-clause-value
 returns-clause-value c =
     let line = c.args.line.now in
     let long = c.if-line-lt-LEAST_COLUMNS.false in
-    let id = test_held _ _ _ (sym c.of_line.ensures ∙ c.in-Some.is) in
-    let year = test_held _ _ _ (sym c.year_of.ensures.value ∙ c.in-Some-year_of.is) in
-    let month = test_held _ _ _ (sym c.month_number.ensures.value ∙ c.in-Some-month_number.is) in
+    let id = test_held _ _ _ c.of_line.ensures c.in-Some.is in
+    let year = test_held _ _ _ c.year_of.ensures.value c.in-Some-year_of.is in
+    let month = test_held _ _ _ c.month_number.ensures.value c.in-Some-month_number.is in
     let tested : Tested line true true true true = record {
       long = long;
       ends_is = sym c.only_blanks_follow.ensures ∙ c.if-not-only_blanks_follow.false;

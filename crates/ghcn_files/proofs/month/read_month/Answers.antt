@@ -1,9 +1,8 @@
-use Rattle.std.proofs.Common.{Option, Ok, Some, sym, subst, ap, ◌∙◌}
+use Rattle.std.proofs.Common.{Ok, Some, sym, subst, ap, ◌∙◌}
 use Rattle.ghcn_files.specs.declared.month.Month.{Month}
-use Rattle.ghcn_files.specs.declared.fault.LineWhy.{LineWhy}
-use Rattle.ghcn_files.specs.Months.{unless, month_of, IsMonth}
+use Rattle.ghcn_files.specs.Months.{IsMonth}
 use Rattle.ghcn_files.proofs.Errors.{err_given}
-use Rattle.ghcn_files.proofs.Months.{unless_ok, unless_err, read_month-element}
+use Rattle.ghcn_files.proofs.Months.{unless_ok, unless_err, read_month-by}
 use Rattle.ghcn_files.proofs.Ranges.{month_of-right}
 use Rattle.ghcn_files.proofs.month.read_month.Goals as goal
 
@@ -12,25 +11,21 @@ pub returns-in_err-month_of-in-Some-clause-value :
     goal.returns-in_err-month_of-in-Some-clause-value
 returns-in_err-month_of-in-Some-clause-value c =
     let line = c.args.line.now in
-    let element = c.in-Some.element in
-    let why = unless_err _ _ _ (sym c.month_of.ensures ∙ c.in_err-month_of-in-Some.was) in
+    let why = unless_err _ _ _ c.month_of.ensures c.in_err-month_of-in-Some.was in
     err_given _ _ c.from_residual.ensures.1
-    ∙ sym (read_month-element line element c.if-line-lt-UP_TO_ELEMENT.false (sym c.of_code.ensures ∙ c.in-Some.is)
-    ∙ ap (λ (o : Option LineWhy). unless o (Some (month_of element line))) why)
+    ∙ sym (read_month-by line c.in-Some.element c.if-line-lt-UP_TO_ELEMENT.false c.of_code.ensures c.in-Some.is why)
 
 -- and one that fails none
 pub returns-in_ok-month_of-in-Some-clause-value : goal.returns-in_ok-month_of-in-Some-clause-value
 returns-in_ok-month_of-in-Some-clause-value c =
     let line = c.args.line.now in
-    let element = c.in-Some.element in
-    let read = unless_ok _ _ _ (sym c.month_of.ensures ∙ c.in_ok-month_of-in-Some.was) in
+    let read = unless_ok _ _ _ c.month_of.ensures c.in_ok-month_of-in-Some.was in
     ap (λ (m : Month). Ok (Some m)) read.1
-    ∙ sym (read_month-element line element c.if-line-lt-UP_TO_ELEMENT.false (sym c.of_code.ensures ∙ c.in-Some.is)
-    ∙ ap (λ (o : Option LineWhy). unless o (Some (month_of element line))) read.0)
+    ∙ sym (read_month-by line c.in-Some.element c.if-line-lt-UP_TO_ELEMENT.false c.of_code.ensures c.in-Some.is read.0)
 
 -- whose month has its fields in range
 pub returns-in_ok-month_of-in-Some-clause-ranges :
     goal.returns-in_ok-month_of-in-Some-clause-ranges
 returns-in_ok-month_of-in-Some-clause-ranges c =
-    let read = unless_ok _ _ _ (sym c.month_of.ensures ∙ c.in_ok-month_of-in-Some.was) in
+    let read = unless_ok _ _ _ c.month_of.ensures c.in_ok-month_of-in-Some.was in
     subst IsMonth (sym read.1) (month_of-right c.in-Some.element c.args.line.now read.0)

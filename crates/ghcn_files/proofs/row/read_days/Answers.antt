@@ -1,11 +1,10 @@
-use Rattle.std.proofs.Common.{Option, Some, sym, ap, subst, ◌∙◌}
+use Rattle.std.proofs.Common.{sym, subst}
 use Rattle.ghcn_files.specs.declared.element.Element.{Element}
-use Rattle.ghcn_files.specs.declared.fault.LineWhy.{LineWhy}
-use Rattle.ghcn_files.specs.Months.{unless, month_of}
+use Rattle.ghcn_files.specs.Months.{month_of}
 use Rattle.ghcn_files.specs.Elements.{is_kept}
 use Rattle.ghcn_files.specs.Rows.{IsRead, IsRowOf}
 use Rattle.ghcn_files.proofs.Errors.{err_given}
-use Rattle.ghcn_files.proofs.Months.{read_month-element}
+use Rattle.ghcn_files.proofs.Months.{read_month-by}
 use Rattle.ghcn_files.proofs.Ranges.{month_of-right}
 use Rattle.ghcn_files.proofs.row.read_days.Goals as goal
 
@@ -13,10 +12,9 @@ use Rattle.ghcn_files.proofs.row.read_days.Goals as goal
 pub returns-in_err-row_of-in-Some : goal.returns-in_err-row_of-in-Some
 returns-in_err-row_of-in-Some c =
     let line = c.args.line.now in
-    let element = c.in-Some.element in
     subst (IsRead c.args.asked line) (sym (err_given _ _ c.from_residual.ensures.1))
-    (read_month-element line element c.if-line-lt-UP_TO_ELEMENT.false (sym c.of_code.ensures ∙ c.in-Some.is)
-    ∙ ap (λ (o : Option LineWhy). unless o (Some (month_of element line))) c.in_err-row_of-in-Some.ensures.err)
+    (read_month-by line c.in-Some.element c.if-line-lt-UP_TO_ELEMENT.false c.of_code.ensures c.in-Some.is
+    c.in_err-row_of-in-Some.ensures.err)
 
 -- and one that fails none
 pub returns-in_ok-row_of-in-Some : goal.returns-in_ok-row_of-in-Some
@@ -29,8 +27,7 @@ returns-in_ok-row_of-in-Some c =
     record {
       month = month_of element line;
       read =
-          read_month-element line element c.if-line-lt-UP_TO_ELEMENT.false (sym c.of_code.ensures ∙ c.in-Some.is)
-          ∙ ap (λ (o : Option LineWhy). unless o (Some (month_of element line))) fine;
+          read_month-by line element c.if-line-lt-UP_TO_ELEMENT.false c.of_code.ensures c.in-Some.is fine;
       right = month_of-right element line fine;
       row =
           subst (λ (e : Element). IsRowOf (is_kept c.args.asked e) (month_of element line) found) (sym of.element) of;

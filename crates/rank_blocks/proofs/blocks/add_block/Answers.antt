@@ -1,6 +1,5 @@
-use Rattle.std.proofs.Common.{◌≡◌, ◌<◌, ◌^◌, to_z, of_z, w32, sym, ap, ◌∙◌, subst, arith, rules}
-use Rattle.std.proofs.lemmas.Int.{to_z-of_z}
-use Rattle.ghcn_series.specs.Packed.{HasNone, next_block}
+use Rattle.rank_blocks.proofs.Cited.{◌≡◌, ◌<◌, ◌^◌, to_z, of_z, w32, sym, ap, ◌∙◌, subst, arith, rules, to_z-of_z}
+use Rattle.rank_blocks.proofs.Cited.{HasNone, next_block}
 use Rattle.rank_blocks.proofs.DayValues.{rise-from_by_day}
 use Rattle.rank_blocks.proofs.ReadBlocks.{block-IsBlock, read-more, read-next}
 use Rattle.rank_blocks.proofs.blocks.add_block.Goals as goal

@@ -1,15 +1,9 @@
-use Rattle.std.proofs.Common.{◌≡◌, inl, inr, ℕ, ℤ, pos, neg_ℤ, ◌*ℤ◌, to_z, of_z, w64, sym, ap, ◌∙◌, subst, arith}
-use Rattle.std.specs.Int.{int_min}
-use Rattle.std.proofs.lemmas.Int.{ints}
-use Rattle.rank_query.specs.declared.score.Score.{Score}
-use Rattle.rank_query.specs.declared.score.Score.TheVariants.{Highest, Lowest}
-use Rattle.rank_scores.specs.declared.spell.Spell.{Spell}
-use Rattle.rank_scores.specs.declared.spell.Spell.TheVariants as kinds
-use Rattle.rank_blocks.specs.Greatest.{IsBound, IsGreatest}
-use Rattle.rank_blocks.specs.Reached.{IsTotalFrom}
-use Rattle.rank_blocks.specs.Summaries.{AreSummaries}
+use Rattle.rank_blocks.proofs.Cited.{◌≡◌, inl, inr, ℕ, ℤ, pos, neg_ℤ, ◌*ℤ◌, to_z, of_z, w64, sym, ap, ◌∙◌, subst, arith}
+use Rattle.rank_blocks.proofs.Cited.{int_min, ints, Score, Highest, Lowest, Spell, IsBound, IsGreatest, IsTotalFrom}
+use Rattle.rank_blocks.proofs.Cited.{AreSummaries}
 use Rattle.rank_blocks.proofs.BlockSteps.{near-read}
 use Rattle.rank_blocks.proofs.BoundsMet.{score_of, day-met, spell-met, sum-met, bound-for}
+use Rattle.rank_scores.specs.declared.spell.Spell.TheVariants as kinds
 use Rattle.rank_blocks.proofs.blocks.bound_of.Goals as goal
 
 -- the greatest score of a day

@@ -1,7 +1,5 @@
-use Rattle.std.proofs.Common.{◌≡◌, [], ◌∷◌, List, ℤ, to_z, of_z, w32, sym, ◌∙◌, subst, arith}
-use Rattle.std.proofs.lemmas.Int.{ints}
-use Rattle.rank_blocks.specs.declared.summary.Summary.{Summary}
-use Rattle.rank_blocks.specs.Summaries.{AreSummariesTo}
+use Rattle.rank_blocks.proofs.Cited.{◌≡◌, [], ◌∷◌, List, ℤ, to_z, of_z, w32, sym, ◌∙◌, subst, arith, ints, Summary}
+use Rattle.rank_blocks.proofs.Cited.{AreSummariesTo}
 use Rattle.rank_blocks.proofs.ReadBlocks.{read-first}
 use Rattle.rank_blocks.proofs.blocks.summaries_of.Goals as goal
 

@@ -1,4 +1,4 @@
-use Rattle.rank_blocks.specs.Summaries.{AreSummariesUpTo, numbers_left}
+use Rattle.rank_blocks.proofs.Cited.{AreSummariesUpTo, numbers_left}
 use Rattle.rank_blocks.proofs.blocks.summaries_of.Given as goal
 
 -- the summaries of the blocks before the next one

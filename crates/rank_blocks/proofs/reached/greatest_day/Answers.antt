@@ -1,9 +1,8 @@
-use Rattle.std.proofs.Common.{◌≡◌, ℤ, Option, Some, sym, ap, ◌∙◌, subst, IfSome}
-use Rattle.rank_blocks.specs.Reached.{IsNear}
+use Rattle.rank_blocks.proofs.Cited.{ints, arith, ℤ, Option, Some, sym, ap, ◌∙◌, subst, IfSome, IsNear}
 use Rattle.rank_blocks.proofs.BlockSteps.{greatest-in, greatest-out, near-read}
 use Rattle.rank_blocks.proofs.PossibleBlocks.{possible-at}
-use Rattle.rank_blocks.proofs.reached.greatest_day.Goals as goal
 use Rattle.rank_blocks.proofs.reached.greatest_day.Goals.{then-is_in, else-is_in}
+use Rattle.rank_blocks.proofs.reached.greatest_day.Goals as goal
 
 -- with one more block
 pub loop-block-preserved : goal.loop-block-preserved
@@ -12,23 +11,18 @@ loop-block-preserved c =
     let so_far = c.loop-block.invariant.found in
     elim c.if-is_in.branch [
       | then-is_in w ↦
-          let found : c.if-is_in.found ≡ Some w.greater.result = w.found-is
-          ∙ ap (λ (z : ℤ). Some z) (near-read _ w.greater.ensures.near) in
+          let found = w.found-is ∙ ap (λ (z : ℤ). Some z) (near-read _ w.greater.ensures.near) in
           record {
             found =
                 greatest-in (λ m. m.day) c.args.range c.args.blocks.now c.loop-block.block-index lt _ _
-                w.greater.result
-                (sym c.is_in.ensures ∙ w.if-is_in.true) so_far
+                w.greater.result (sym c.is_in.ensures ∙ w.if-is_in.true) so_far
                 (sym (near-read _ (possible-at c.args.blocks.now c.loop-block.block-index lt c.requires).near))
-                w.greater.ensures.greatest
-                ∙ sym found;
+                w.greater.ensures.greatest ∙ sym found;
             near = subst (λ (o : Option ℤ). IfSome o IsNear) (sym found) w.greater.ensures.near;
           }
       | else-is_in w ↦
           record {
-            found =
-                greatest-out (λ m. m.day) c.args.range c.args.blocks.now c.loop-block.block-index lt
-                (sym c.is_in.ensures ∙ w.if-is_in.false) ∙ so_far ∙ sym w.found-is;
+            found = grind (arith, ints, greatest-out);
             near = subst (λ (o : Option ℤ). IfSome o IsNear) (sym w.found-is) c.loop-block.invariant.near;
           }
     ]

@@ -1,6 +1,4 @@
-use Rattle.std.proofs.Common.{◌≡◌, IfSome}
-use Rattle.ghcn_fields.specs.Sorting.{greatest}
-use Rattle.rank_blocks.specs.Reached.{IsNear}
+use Rattle.rank_blocks.proofs.Cited.{◌≡◌, IfSome, greatest, IsNear}
 use Rattle.rank_blocks.proofs.BlockSteps.{made}
 use Rattle.rank_blocks.proofs.reached.greatest_day.Given as goal
 

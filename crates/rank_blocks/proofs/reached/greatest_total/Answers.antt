@@ -1,12 +1,10 @@
-use Rattle.std.proofs.Common.{◌≡◌, ℕ, ◌+◌, List, ℤ, sym, ap, ◌∙◌, subst, arith, rules}
-use Rattle.std.proofs.lemmas.Int.{ints, clamps}
+use Rattle.rank_blocks.proofs.Cited.{◌≡◌, ℕ, List, ℤ, sym, ap, ◌∙◌, arith, rules, ints, clamps, Summary}
+use Rattle.rank_blocks.proofs.Cited.{summaries_total}
 use Rattle.rank_blocks.specs.declared.window.Window.{Window}
-use Rattle.rank_blocks.specs.declared.summary.Summary.{Summary}
-use Rattle.rank_blocks.specs.Reached.{summaries_total}
 use Rattle.rank_blocks.proofs.PossibleBlocks.{block_at, possible-drop}
-use Rattle.rank_blocks.proofs.BlockSteps.{IsMostTo, left-whole, most-in, most-out, most-end}
-use Rattle.rank_blocks.proofs.reached.greatest_total.Goals as goal
+use Rattle.rank_blocks.proofs.BlockSteps.{left-whole, most-in, most-out, most-end}
 use Rattle.rank_blocks.proofs.reached.greatest_total.Goals.{then-is_in, else-is_in}
+use Rattle.rank_blocks.proofs.reached.greatest_total.Goals as goal
 
 -- the total of a window by its first block and its width
 of_window : (ks : List Summary) (w : Window) (first : ℤ) (width : ℕ) → w.first ≡ first → w.width ≡ width
@@ -30,10 +28,7 @@ loop-index-preserved c = λ rises.
           ∙ ap (λ ks. summaries_total ks c.args.width (block_at ms i).number) (left-whole ms i) in
           most-in c.args.range c.args.width ms i _ far c.requires c.loop-index-test.true _
           (w.greatest-is ∙ omega (arith, ints, clamps)) (sym c.is_in.ensures ∙ w.if-is_in.true)
-      | else-is_in w ↦
-          subst (IsMostTo c.args.range c.args.width ms (i + 1)) (sym (w.greatest-is ∙ omega (arith, ints)))
-          (most-out c.args.range c.args.width ms i _ far c.loop-index-test.true
-          (sym c.is_in.ensures ∙ w.if-is_in.false))
+      | else-is_in w ↦ grind (arith, ints, most-out)
     ]
 
 -- behind the last block

@@ -1,4 +1,4 @@
-use Rattle.std.proofs.Common.{◌≤ℤ◌}
+use Rattle.rank_blocks.proofs.Cited.{◌≤ℤ◌}
 use Rattle.rank_blocks.proofs.BlockSteps.{IsMostTo}
 use Rattle.rank_blocks.proofs.reached.greatest_total.Given as goal
 

@@ -1,10 +1,8 @@
-use Rattle.std.proofs.Common.{◌≡◌, ◌+◌, pos, to_z, w64, sym, ◌∙◌, subst, arith}
-use Rattle.std.proofs.lemmas.Int.{ints}
-use Rattle.rank_blocks.specs.Greatest.{IsGreatest}
+use Rattle.rank_blocks.proofs.Cited.{rules, ◌≡◌, ◌+◌, pos, to_z, w64, sym, ◌∙◌, subst, arith, ints, IsGreatest}
 use Rattle.rank_blocks.proofs.PossibleBlocks.{possible-few}
 use Rattle.rank_blocks.proofs.RangeRuns.{IsTold, told-start, told-in, told-out, told-end}
-use Rattle.rank_blocks.proofs.reached.longest_run.Goals as goal
 use Rattle.rank_blocks.proofs.reached.longest_run.Goals.{then-is_in, else-is_in}
+use Rattle.rank_blocks.proofs.reached.longest_run.Goals as goal
 
 -- before any block
 pub loop-block-init : goal.loop-block-init
@@ -34,6 +32,4 @@ loop-block-preserved c =
 pub returns : goal.returns
 returns c = λ k s are.
     let is : pos c.loop-block.runs.longest ≡ to_z w64 c.loop-block.runs.longest = omega (arith, ints) in
-    subst (IsGreatest _) is
-    (told-end c.args.range c.args.blocks.now c.loop-block.block-index c.loop-block.runs c.loop-block.invariant
-    c.loop-block-test.false k s are)
+    subst (IsGreatest _) is (search (rules, arith, ints, told-end))

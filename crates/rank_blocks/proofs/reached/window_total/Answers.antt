@@ -1,9 +1,8 @@
-use Rattle.std.proofs.Common.{sym, ◌∙◌, arith, rules}
-use Rattle.std.proofs.lemmas.Int.{ints}
+use Rattle.rank_blocks.proofs.Cited.{arith, rules, ints}
 use Rattle.rank_blocks.proofs.BlockSteps.{sum-bounds, sum-in, sum-out, sum-past}
 use Rattle.rank_blocks.proofs.PossibleBlocks.{possible-few}
-use Rattle.rank_blocks.proofs.reached.window_total.Goals as goal
 use Rattle.rank_blocks.proofs.reached.window_total.Goals.{then-holds, else-holds}
+use Rattle.rank_blocks.proofs.reached.window_total.Goals as goal
 
 -- behind the window
 pub returns-then-is_before : goal.returns-then-is_before
@@ -20,8 +19,4 @@ loop-block-preserved c =
     c.loop-block-test.true _ c.loop-block.invariant in
     let same = sum-out c.args.blocks.now c.requires c.args.window.width c.args.window.first c.loop-block.block-index
     c.loop-block-test.true _ c.loop-block.invariant in
-    elim c.if-holds.branch [
-      | then-holds w ↦
-          far _ (w.total-is ∙ omega (arith, ints)) (sym c.holds.ensures ∙ w.if-holds.true)
-      | else-holds w ↦ same _ w.total-is (sym c.holds.ensures ∙ w.if-holds.false)
-    ]
+    search (rules, arith, ints)

@@ -1,6 +1,6 @@
+use Rattle.rank_blocks.proofs.Cited.{arith, rules}
 use Rattle.rank_blocks.proofs.WordRuns.{ends-next}
 use Rattle.rank_blocks.proofs.runs.longest_ones.Goals as goal
-use Rattle.std.proofs.Common.{arith, rules}
 
 -- with runs that are longer by one
 pub loop-length-preserved : goal.loop-length-preserved

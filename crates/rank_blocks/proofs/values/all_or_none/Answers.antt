@@ -1,5 +1,4 @@
-use Rattle.std.proofs.Common.{ℕ, sym, ap, ◌∙◌, ◌==◌}
-use Rattle.std.proofs.lemmas.Nat.Bits.{bit_at_ones}
+use Rattle.rank_blocks.proofs.Cited.{ℕ, sym, ap, ◌∙◌, ◌==◌, bit_at_ones}
 use Rattle.rank_blocks.proofs.values.all_or_none.Goals as goal
 
 -- each bit is set

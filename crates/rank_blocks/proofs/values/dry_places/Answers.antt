@@ -1,8 +1,7 @@
-use Rattle.std.proofs.Common.{◌≡◌, ◌*◌, ◌%◌, ◌^◌, get_or, pos, SFits, w32, ℕ, ap, ◌∙◌, rules, ◌==◌, bit_or}
-use Rattle.std.specs.Int.{bit_at}
-use Rattle.std.proofs.lemmas.Int.{to_z-of_z}
-use Rattle.rank_scores.specs.Candidates.{is_dry}
+use Rattle.rank_blocks.proofs.Cited.{◌≡◌, ◌*◌, ◌%◌, ◌^◌, get_or, pos, SFits, w32, ℕ, ap, ◌∙◌, rules, ◌==◌, bit_or}
+use Rattle.rank_blocks.proofs.Cited.{bit_at, to_z-of_z, test_of}
 use Rattle.rank_blocks.proofs.ValueSteps.{word-more, word-unread}
+use Rattle.rank_scores.specs.declared.spell.Spell.TheVariants as spells
 use Rattle.rank_blocks.proofs.values.dry_places.Goals as goal
 
 -- with one more place
@@ -13,14 +12,15 @@ loop-place-preserved c =
     let lt = c.loop-place-test.true in
     let dry = c.loop-place.dry in
     let fits : SFits w32 (get_or values p (pos 0)) = search rules in
-    let is : c.passes.result ≡ is_dry (get_or values p (pos 0)) = c.passes.ensures ∙ ap is_dry (to_z-of_z w32 _ fits) in
+    let is : c.passes.result ≡ test_of spells.Dry (get_or values p (pos 0)) =
+    c.passes.ensures ∙ ap (test_of spells.Dry) (to_z-of_z w32 _ fits) in
     let word : c.from.result * 2 ^ p % 2 ^ 32 ≡ _ = ap (λ (k : ℕ). k * 2 ^ p % 2 ^ 32) c.from.ensures in
     record {
       read = λ j below.
           ap (λ (k : ℕ). bit_at (bit_or dry k) j == 1) word
-          ∙ word-more is_dry values dry p c.passes.result lt is c.loop-place.invariant.unread
+          ∙ word-more (test_of spells.Dry) values dry p c.passes.result lt is c.loop-place.invariant.unread
           c.loop-place.invariant.read j below;
       unread = λ j le.
           ap (λ (k : ℕ). bit_at (bit_or dry k) j) word
-          ∙ word-unread is_dry values dry p c.passes.result lt is c.loop-place.invariant.unread j le;
+          ∙ word-unread (test_of spells.Dry) values dry p c.passes.result lt is c.loop-place.invariant.unread j le;
     }

@@ -1,5 +1,4 @@
-use Rattle.std.proofs.Common.{get_or, to_z, of_z, SFits, w32, arith, rules, below_more}
-use Rattle.std.proofs.lemmas.Int.{to_z-of_z}
+use Rattle.rank_blocks.proofs.Cited.{get_or, to_z, of_z, SFits, w32, arith, rules, below_more, to_z-of_z}
 use Rattle.rank_blocks.proofs.ValueSteps.{max-one}
 use Rattle.rank_blocks.proofs.values.greatest_number.Goals as goal
 

@@ -1,7 +1,5 @@
-use Rattle.std.proofs.Common.{◌≡◌, inl, inr, pos, arith, rules, to_z, of_z, w32, subst}
-use Rattle.std.proofs.lemmas.Int.{ints}
-use Rattle.rank_blocks.specs.Greatest.{IsGreatest}
-use Rattle.rank_blocks.specs.Values.{IsUsableScore}
+use Rattle.rank_blocks.proofs.Cited.{◌≡◌, inl, inr, pos, arith, rules, to_z, of_z, w32, subst, ints, IsGreatest}
+use Rattle.rank_blocks.proofs.Cited.{IsUsableScore}
 use Rattle.rank_blocks.proofs.DayValues.{int_lt-true}
 use Rattle.rank_blocks.proofs.ValueSteps.{greatest-shown, greatest-alone}
 use Rattle.rank_blocks.proofs.values.greatest_value.Goals as goal

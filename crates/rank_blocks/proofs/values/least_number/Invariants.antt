@@ -1,5 +1,4 @@
-use Rattle.std.proofs.Common.{ℕ, ◌<◌, get_or, pos, ◌≤ℤ◌}
-use Rattle.rank_blocks.specs.Values.{IsScoreAmong}
+use Rattle.rank_blocks.proofs.Cited.{ℕ, ◌<◌, get_or, pos, ◌≤ℤ◌, IsScoreAmong}
 use Rattle.rank_blocks.proofs.values.least_number.Given as goal
 
 -- the least so far

@@ -1,7 +1,5 @@
-use Rattle.std.proofs.Common.{◌≡◌, inl, inr, pos, neg_ℤ, ap, arith, rules, to_z, of_z, w32, subst}
-use Rattle.std.proofs.lemmas.Int.{ints}
-use Rattle.rank_blocks.specs.Greatest.{IsGreatest}
-use Rattle.rank_blocks.specs.Values.{IsUsableScore}
+use Rattle.rank_blocks.proofs.Cited.{◌≡◌, inl, inr, pos, neg_ℤ, ap, arith, rules, to_z, of_z, w32, subst, ints}
+use Rattle.rank_blocks.proofs.Cited.{IsGreatest, IsUsableScore}
 use Rattle.rank_blocks.proofs.DayValues.{int_lt-true}
 use Rattle.rank_blocks.proofs.ValueSteps.{greatest-shown, greatest-alone}
 use Rattle.rank_blocks.proofs.values.least_value.Goals as goal

@@ -1,7 +1,4 @@
-use Rattle.std.proofs.Common.{◌<◌, length, get_or, pos, SFits, w32, ap, arith, rules}
-use Rattle.std.proofs.lemmas.Int.{ints}
-use Rattle.std.proofs.lemmas.List.{drop_more}
-use Rattle.rank_blocks.specs.Blocks.{total}
+use Rattle.rank_blocks.proofs.Cited.{◌<◌, length, get_or, pos, SFits, w32, ap, arith, rules, ints, drop_more, total}
 use Rattle.rank_blocks.proofs.values.total.Goals as goal
 
 -- with one more value

@@ -1,5 +1,4 @@
-use Rattle.std.proofs.Common.{◌≡◌, ◌*◌, drop, pos, neg_ℤ, ◌≤ℤ◌, ◌+ℤ◌}
-use Rattle.rank_blocks.specs.Blocks.{total}
+use Rattle.rank_blocks.proofs.Cited.{◌≡◌, ◌*◌, drop, pos, neg_ℤ, ◌≤ℤ◌, ◌+ℤ◌, total}
 use Rattle.rank_blocks.proofs.values.total.Given as goal
 
 -- the sum so far and the total of what is left make the whole

@@ -1,12 +1,8 @@
-use Rattle.std.proofs.Common.{get_or, pos, to_z, SFits, w32, sym, ◌∙◌, arith, rules}
-use Rattle.std.specs.Int.{trailing_zeros}
-use Rattle.std.proofs.lemmas.Int.{to_z-of_z}
-use Rattle.std.proofs.lemmas.List.{length-set}
-use Rattle.std.proofs.lemmas.Nat.Bits.{bit_at-trailing_zeros, shr_and_one}
-use Rattle.rank_blocks.specs.Values.{StandsFor}
+use Rattle.rank_blocks.proofs.Cited.{ints, get_or, pos, to_z, SFits, w32, sym, ◌∙◌, arith, rules, trailing_zeros}
+use Rattle.rank_blocks.proofs.Cited.{to_z-of_z, length-set, bit_at-trailing_zeros, shr_and_one, StandsFor}
 use Rattle.rank_blocks.proofs.ValueSteps.{stands-usable, stands-absent, row-more}
-use Rattle.rank_blocks.proofs.values.usable_alone.Goals as goal
 use Rattle.rank_blocks.proofs.values.usable_alone.Goals.{then-word-place-eq1, else-word-place-eq1}
+use Rattle.rank_blocks.proofs.values.usable_alone.Goals as goal
 
 -- the value of the first usable day
 pub loop-place-init : goal.loop-place-init
@@ -30,9 +26,7 @@ loop-place-preserved c =
     let read = shr_and_one c.args.word p in
     let here : StandsFor c.args.word c.args.values.now c.loop-place.place (to_z w32 c.if-word-place-eq1.row-bits) =
     elim c.if-word-place-eq1.branch [
-      | then-word-place-eq1 w ↦
-          stands-usable c.args.word c.args.values.now p _ lt (sym read ∙ w.if-word-place-eq1.true)
-          (w.row-is ∙ to_z-of_z w32 _ fits)
+      | then-word-place-eq1 w ↦ grind (arith, ints, stands-usable, read)
       | else-word-place-eq1 w ↦
           stands-absent c.args.word c.args.values.now p _ _ (λ bit. w.if-word-place-eq1.false (read ∙ bit))
           c.loop-place.invariant.first w.row-is

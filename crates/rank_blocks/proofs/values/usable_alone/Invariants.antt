@@ -1,5 +1,4 @@
-use Rattle.std.proofs.Common.{◌≡◌, ℕ, ◌<◌, length, get_or, pos}
-use Rattle.rank_blocks.specs.Values.{IsUsableScore, StandsFor}
+use Rattle.rank_blocks.proofs.Cited.{◌≡◌, ℕ, ◌<◌, length, get_or, pos, IsUsableScore, StandsFor}
 use Rattle.rank_blocks.proofs.values.usable_alone.Given as goal
 
 -- each place so far has a value that stands for its own

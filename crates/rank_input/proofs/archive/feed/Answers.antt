@@ -42,5 +42,6 @@ returns-in-Ok-eq0-clause-fed g c =
     (arith, nat_tests, c.if-is_empty.false, c.is_empty.ensures, c.loop.auto.buffer, c.read.auto.buf) in
     let none : c.in-Ok-eq0.field-0 ≡ 0 = omega arith in
     fed-end g.T.Taker.has_taken c.args.taker.now c.loop.taker c.end_of_file.new.self
-    (g.S.Read.remaining c.args.source.now) (g.S.Read.remaining c.loop.source) (g.S.Read.remaining c.read.new.self) c.in-Ok-eq0.field-0 c.read.new.buf
+    (g.S.Read.remaining c.args.source.now) (g.S.Read.remaining c.loop.source) (g.S.Read.remaining c.read.new.self)
+    c.in-Ok-eq0.field-0 c.read.new.buf
     c.loop.invariant none c.in-Ok-eq0.ensures.bytes some c.end_of_file.ensures.taken

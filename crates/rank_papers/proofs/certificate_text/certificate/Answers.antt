@@ -1,7 +1,7 @@
-use Rattle.std.proofs.Common.{◌≡◌, List, ℕ, subst, ◌∙◌, ap}
+use Rattle.std.proofs.Common.{List, subst, ◌∙◌, ap}
 use Rattle.rank_query.specs.Asked.{Asked}
 use Rattle.rank_scores.specs.declared.candidate.Candidate.{Candidate}
-use Rattle.rank_papers.specs.Certificate.{Entry, AreInRange, certificate_of_best}
+use Rattle.rank_papers.specs.Certificate.{AreInRange, certificate_of_best}
 use Rattle.rank_papers.proofs.PlanPapers.{certificate-of_plan}
 use Rattle.rank_papers.proofs.Answered.{if_ok, if_both}
 use Rattle.rank_papers.proofs.certificate_text.certificate.Goals as goal

@@ -2,9 +2,8 @@ use Rattle.std.proofs.Common.{List, ℕ, ◌++◌, ℤ, ap, ◌∙◌, decimal, 
 use Rattle.std.specs.List.{flat_map}
 use Rattle.ghcn_fields.specs.Dates.{date_text}
 use Rattle.rank_query.specs.declared.score.Score.{Score}
-use Rattle.rank_papers.specs.Report.{after_blank, field_unless_empty}
-use Rattle.rank_papers.specs.Values.{value_fields}
-use Rattle.rank_papers.proofs.RowText.{added, row-pieces}
+use Rattle.rank_papers.specs.Report.{field_unless_empty, after_blank}
+use Rattle.rank_papers.proofs.RowText.{value_fields, added, row-pieces}
 use Rattle.rank_papers.proofs.row.push_named.Goals as goal
 
 -- the pieces were added in the order of the fields

@@ -1,8 +1,5 @@
-use Rattle.std.proofs.Common.{◌≡◌, ◌-◌, ◌+ℤ◌, ◌≤ℤ◌, pos, arith, rules, FitsSigned, to_z, of_z, to_z-of_z, w32, subst}
-use Rattle.std.proofs.Common.{refl}
-use Rattle.std.specs.Prelude.{ℕ, ℤ}
-use Rattle.std.proofs.lemmas.Int.{to_z_pos}
-use Rattle.jiff_core.specs.Calendar.{days_in_month}
+use Rattle.rank_query.proofs.Cited.{◌≡◌, ◌-◌, ◌+ℤ◌, ◌≤ℤ◌, pos, arith, rules, FitsSigned, to_z, of_z, to_z-of_z, w32}
+use Rattle.rank_query.proofs.Cited.{subst, refl, ℕ, ℤ, to_z_pos, days_in_month}
 use Rattle.rank_query.proofs.Months.{same_month}
 use Rattle.rank_query.proofs.query.month_of.Goals as goal
 

@@ -1,5 +1,4 @@
-use Rattle.std.proofs.Common.{w32, refl}
-use Rattle.std.proofs.lemmas.Grind.{put_five}
+use Rattle.rank_query.proofs.Cited.{w32, refl, put_five}
 use Rattle.std.proofs.lemmas.Int.{to_z-of_z}
 use Rattle.rank_query.proofs.Printing.{box-is}
 use Rattle.rank_query.proofs.text.write_box.Goals as goal

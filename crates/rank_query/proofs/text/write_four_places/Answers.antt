@@ -1,4 +1,4 @@
-use Rattle.std.proofs.Output.{has_written_of_eq}
+use Rattle.rank_query.proofs.Cited.{has_written_of_eq}
 use Rattle.rank_query.proofs.Printing.{four_places-is}
 use Rattle.rank_query.proofs.text.write_four_places.Goals as goal
 

@@ -1,9 +1,5 @@
-use Rattle.std.proofs.Common.{◌≡◌, List, ℕ, ◌+◌, ◌-◌, min, length, take, drop, Option, Some, None, sym, ap, subst, ◌∙◌}
-use Rattle.std.proofs.Common.{arith}
-use Rattle.std.specs.Option.{option_map}
-use Rattle.std.proofs.lemmas.Grind.{common_steps}
-use Rattle.memchr.specs.Find.{IsFirstByte, is_byte}
-use Rattle.ghcn_fields.specs.Numbers.{natural, joined}
+use Rattle.rank_query.proofs.Cited.{◌≡◌, List, ℕ, ◌+◌, ◌-◌, min, length, take, drop, Option, Some, None, sym, ap, subst}
+use Rattle.rank_query.proofs.Cited.{◌∙◌, arith, option_map, common_steps, IsFirstByte, is_byte, natural, joined}
 use Rattle.ghcn_fields.proofs.Decimals.{decimal_number-whole, decimal_number-point}
 use Rattle.rank_query.proofs.Numerals.{joined-zero}
 use Rattle.rank_query.proofs.values.decimal_up_to_most.Goals as goal
@@ -28,5 +24,4 @@ returns-in-Some c =
     grind (arith, common_steps) in
     c.joined_up_to_most-in-Some.ensures
     ∙ ap (λ (part : List ℕ). option_map (min 1001) (joined 1 (natural (take point text)) (natural part) (length part)))
-    rest
-    ∙ sym (ap (option_map (min 1001)) (decimal_number-point 1 text point first))
+    rest ∙ sym (ap (option_map (min 1001)) (decimal_number-point 1 text point first))

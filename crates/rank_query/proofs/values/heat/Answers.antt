@@ -1,6 +1,5 @@
-use Rattle.std.proofs.Common.{◌≡◌, true, false, sym, ap, ◌∙◌, arith, rules, FitsSigned, to_z-of_z, w32}
-use Rattle.std.proofs.lemmas.Grind.{common_steps}
-use Rattle.rank_query.specs.Asked.{is_heat}
+use Rattle.rank_query.proofs.Cited.{◌≡◌, true, false, sym, ap, ◌∙◌, arith, rules, FitsSigned, to_z-of_z, w32}
+use Rattle.rank_query.proofs.Cited.{common_steps, is_heat}
 use Rattle.rank_query.proofs.Numerals.{heat-kept, heat-past}
 use Rattle.rank_query.proofs.values.heat.Goals as goal
 

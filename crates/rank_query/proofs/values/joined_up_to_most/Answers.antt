@@ -1,4 +1,4 @@
-use Rattle.std.proofs.Common.{Some, sym, ap, ◌∙◌, arith, ℕ}
+use Rattle.rank_query.proofs.Cited.{Some, sym, ap, ◌∙◌, arith, ℕ}
 use Rattle.rank_query.proofs.Numerals.{joined-kept}
 use Rattle.rank_query.proofs.values.joined_up_to_most.Goals as goal
 

@@ -1,6 +1,4 @@
-use Rattle.std.proofs.Common.{◌≡◌, ◌+◌, get_or, true, sym, ◌∙◌, arith}
-use Rattle.std.specs.Char.{is_ascii_digit}
-use Rattle.std.proofs.lemmas.Grind.{common_steps}
+use Rattle.rank_query.proofs.Cited.{◌≡◌, ◌+◌, get_or, true, sym, ◌∙◌, arith, is_ascii_digit, common_steps}
 use Rattle.rank_query.proofs.Numerals.{one_more_up_to}
 use Rattle.rank_query.proofs.values.number_up_to.Goals as goal
 

@@ -1,7 +1,4 @@
-use Rattle.std.proofs.Common.{◌≡◌, ◌+◌, min, take, true}
-use Rattle.std.specs.List.{list_all}
-use Rattle.std.specs.Char.{is_ascii_digit}
-use Rattle.std.specs.Str.Parse.{digits_value}
+use Rattle.rank_query.proofs.Cited.{◌≡◌, ◌+◌, min, take, true, list_all, is_ascii_digit, digits_value}
 use Rattle.rank_query.proofs.values.number_up_to.Given as goal
 
 -- the bytes so far are digits, and their value, or one past the greatest, is read

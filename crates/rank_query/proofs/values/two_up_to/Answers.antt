@@ -1,10 +1,6 @@
-use Rattle.std.proofs.Common.{◌≡◌, List, ℕ, ◌+◌, ◌-◌, min, length, take, drop, Option, Some, None, sym, ap, subst, ◌∙◌}
-use Rattle.std.proofs.Common.{arith}
-use Rattle.std.specs.Option.{option_map}
-use Rattle.std.proofs.lemmas.Grind.{common_steps}
-use Rattle.memchr.specs.Find.{IsFirstByte, is_byte}
-use Rattle.ghcn_fields.specs.Numbers.{natural}
-use Rattle.rank_query.specs.WordValues.{both_numbers, natural_behind}
+use Rattle.rank_query.proofs.Cited.{◌≡◌, List, ℕ, ◌+◌, ◌-◌, min, length, take, drop, Option, Some, None, sym, ap, subst}
+use Rattle.rank_query.proofs.Cited.{◌∙◌, arith, option_map, common_steps, IsFirstByte, is_byte, natural, both_numbers}
+use Rattle.rank_query.proofs.Cited.{natural_behind}
 use Rattle.rank_query.proofs.Numerals.{two-whole, two-point}
 use Rattle.rank_query.proofs.values.two_up_to.Goals as goal
 

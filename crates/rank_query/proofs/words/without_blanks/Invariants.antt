@@ -1,5 +1,4 @@
-use Rattle.std.proofs.Common.{◌≡◌, length}
-use Rattle.ghcn_fields.specs.Numbers.{after_blanks}
+use Rattle.rank_query.proofs.Cited.{◌≡◌, length, after_blanks}
 use Rattle.rank_query.proofs.words.without_blanks.Given as goal
 
 -- what is left has the same bytes behind its blanks

@@ -3,7 +3,7 @@ use Rattle.std.proofs.Common.{FitsSigned, to_z-of_z}
 use Rattle.std.specs.List.{AllByRecursion}
 use Rattle.ghcn_series.specs.Series.{DayValue}
 use Rattle.rank_query.specs.Asked.{Asked}
-use Rattle.rank_scores.specs.Candidates.{admitted_among}
+use Rattle.rank_scores.specs.Stretches.{admitted_among}
 use Rattle.rank_scores.specs.Stretches.{IsStretch}
 use Rattle.rank_scores.proofs.StretchDays.{stretch-behind, stretch-part, stretch-on, no-first}
 use Rattle.rank_scores.proofs.admitted.next_part.Goals as goal

@@ -1,5 +1,5 @@
 use Rattle.std.proofs.Common.{◌≡◌, length}
-use Rattle.rank_scores.specs.Candidates.{admitted_among}
+use Rattle.rank_scores.specs.Stretches.{admitted_among}
 use Rattle.rank_scores.specs.Stretches.{IsStretch}
 use Rattle.rank_scores.proofs.admitted.next_part.Given as goal
 

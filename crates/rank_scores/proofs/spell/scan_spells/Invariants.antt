@@ -1,7 +1,7 @@
 use Rattle.std.proofs.Common.{◌≡◌}
 use Rattle.std.specs.List.{fold}
 use Rattle.rank_scores.specs.Candidates.{Spells, admitted, candidates_among}
-use Rattle.rank_scores.specs.Spells.{test_of}
+use Rattle.rank_scores.specs.Candidates.{test_of}
 use Rattle.rank_scores.proofs.SpellDays.{offered}
 use Rattle.rank_scores.proofs.spell.scan_spells.Given as goal
 

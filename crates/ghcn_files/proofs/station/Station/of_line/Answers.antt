@@ -10,8 +10,8 @@ pub returns-in_default-degrees-clause-err : goal.returns-in_default-degrees-clau
 returns-in_default-degrees-clause-err c =
     let tested : Tested c.args.line.now true false _ _ = record {
       long = c.if-line-lt-LEAST_COLUMNS.false;
-      id_is = (test_held _ _ _ (sym c.of_line.ensures ∙ c.in-Some.is)).0;
-      north_is = test_failed _ _ (sym c.degrees.ensures ∙ c.in_default-degrees.is);
+      id_is = (test_held _ _ _ c.of_line.ensures c.in-Some.is).0;
+      north_is = test_failed _ _ c.degrees.ensures c.in_default-degrees.is;
       east_is = refl;
       bad_is = refl;
     } in
@@ -22,9 +22,9 @@ pub returns-in_default-degrees-2-clause-err : goal.returns-in_default-degrees-2-
 returns-in_default-degrees-2-clause-err c =
     let tested : Tested c.args.line.now true true false _ = record {
       long = c.if-line-lt-LEAST_COLUMNS.false;
-      id_is = (test_held _ _ _ (sym c.of_line.ensures ∙ c.in-Some.is)).0;
-      north_is = (test_held _ _ _ (sym c.degrees.ensures ∙ c.in-Some-degrees.is)).0;
-      east_is = test_failed _ _ (sym c.degrees-2.ensures ∙ c.in_default-degrees-2.is);
+      id_is = (test_held _ _ _ c.of_line.ensures c.in-Some.is).0;
+      north_is = (test_held _ _ _ c.degrees.ensures c.in-Some-degrees.is).0;
+      east_is = test_failed _ _ c.degrees-2.ensures c.in_default-degrees-2.is;
       bad_is = refl;
     } in
     line_why-tested tested
@@ -34,9 +34,9 @@ pub returns-then-is_bad-clause-err : goal.returns-then-is_bad-clause-err
 returns-then-is_bad-clause-err c =
     let tested : Tested c.args.line.now true true true true = record {
       long = c.if-line-lt-LEAST_COLUMNS.false;
-      id_is = (test_held _ _ _ (sym c.of_line.ensures ∙ c.in-Some.is)).0;
-      north_is = (test_held _ _ _ (sym c.degrees.ensures ∙ c.in-Some-degrees.is)).0;
-      east_is = (test_held _ _ _ (sym c.degrees-2.ensures ∙ c.in-Some-degrees-2.is)).0;
+      id_is = (test_held _ _ _ c.of_line.ensures c.in-Some.is).0;
+      north_is = (test_held _ _ _ c.degrees.ensures c.in-Some-degrees.is).0;
+      east_is = (test_held _ _ _ c.degrees-2.ensures c.in-Some-degrees-2.is).0;
       bad_is = ap is_bad (ap (scaled_field 1) (sym c.columns.ensures) ∙ sym c.scaled_field-elevation.ensures.value)
           ∙ sym c.is_bad.ensures ∙ c.if-is_bad.true;
     } in
@@ -47,9 +47,9 @@ pub returns-clause-ok : goal.returns-clause-ok
 returns-clause-ok c =
     let tested : Tested c.args.line.now true true true false = record {
       long = c.if-line-lt-LEAST_COLUMNS.false;
-      id_is = (test_held _ _ _ (sym c.of_line.ensures ∙ c.in-Some.is)).0;
-      north_is = (test_held _ _ _ (sym c.degrees.ensures ∙ c.in-Some-degrees.is)).0;
-      east_is = (test_held _ _ _ (sym c.degrees-2.ensures ∙ c.in-Some-degrees-2.is)).0;
+      id_is = (test_held _ _ _ c.of_line.ensures c.in-Some.is).0;
+      north_is = (test_held _ _ _ c.degrees.ensures c.in-Some-degrees.is).0;
+      east_is = (test_held _ _ _ c.degrees-2.ensures c.in-Some-degrees-2.is).0;
       bad_is = ap is_bad (ap (scaled_field 1) (sym c.columns.ensures) ∙ sym c.scaled_field-elevation.ensures.value)
           ∙ sym c.is_bad.ensures ∙ c.if-is_bad.false;
     } in
@@ -60,9 +60,9 @@ pub returns-clause-right : goal.returns-clause-right
 returns-clause-right c =
     let line = c.args.line.now in
     let long = c.if-line-lt-LEAST_COLUMNS.false in
-    let id = test_held _ _ _ (sym c.of_line.ensures ∙ c.in-Some.is) in
-    let north = test_held _ _ _ (sym c.degrees.ensures ∙ c.in-Some-degrees.is) in
-    let east = test_held _ _ _ (sym c.degrees-2.ensures ∙ c.in-Some-degrees-2.is) in
+    let id = test_held _ _ _ c.of_line.ensures c.in-Some.is in
+    let north = test_held _ _ _ c.degrees.ensures c.in-Some-degrees.is in
+    let east = test_held _ _ _ c.degrees-2.ensures c.in-Some-degrees-2.is in
     let north_fits : FitsSigned w32 c.in-Some-degrees.latitude = search rules in
     let east_fits : FitsSigned w32 c.in-Some-degrees-2.longitude = search rules in
     station_of-parts line _ _ _ _ _ _ id.1

@@ -17,7 +17,7 @@ returns-in-Some-clause-added g c =
       | then-is_empty+in_ok-kind w ↦
           let none : old.rest.items ≡ [] = nil_from_length old.rest.items
           (grind (arith, nat_tests, w.if-is_empty.true, c.is_empty.ensures, old.rest.ok.0)) in
-          let new : w.add.new.self ≡ c.if-is_empty.self.reader =
+          let new : w.read_line.new.reader ≡ c.if-is_empty.self.reader =
           ap (λ (r : Cutter g.row.L.Denot). r.reader) (sym w.self-is) in
           let same : c.if-is_empty.self.counts ≡ old.counts =
           ap (λ (r : Cutter g.row.L.Denot). r.counts) w.self-is in
@@ -32,7 +32,7 @@ returns-in-Some-clause-added g c =
       | else-is_empty+in_ok-keep+in_ok-kind-2 w ↦
           let bytes : w.deref.result.now ≡ old.rest.items ++ c.args.bytes.now =
           w.deref.ensures.value ∙ w.in_ok-keep.ensures.kept in
-          let after = w.add-else-is_empty.new.self in
+          let after = w.read_line-else-is_empty.new.reader in
           let new : after ≡ c.if-is_empty.self.reader =
           ap (λ (r : Cutter g.row.L.Denot). r.reader) (sym w.self-is) in
           let same : c.if-is_empty.self.counts ≡ old.counts =

@@ -11,7 +11,8 @@ invariant-loop-line g l = record {
   ended : l.self.ended ≡ l.initial.self.ended;
   begun : l.self.begun ≡ l.initial.self.begun;
   some : HasReadSome g.L.LineReader.has_read l.self.reader;
-  read : (fed : Fed) → l.initial.self.ended ≡ length fed.files.ended → HasReadFed g.L.LineReader.has_read l.initial.self fed
+  read : (fed : Fed) → l.initial.self.ended ≡ length fed.files.ended
+      → HasReadFed g.L.LineReader.has_read l.initial.self fed
       → IsWithinPiece g.L.LineReader.has_read l.self fed l.left l.bytes;
 }
 

@@ -1,5 +1,5 @@
 use Rattle.std.proofs.Common.{[], ℕ, Bor, List, get_or, arith, subst}
-use Rattle.std.proofs.lemmas.Result.{IfOk-weaker, IfErr-weaker}
+use Rattle.std.proofs.lemmas.Result.{err_from_is_err_and}
 use Rattle.ghcn_fields.specs.Refusals.{IsRefusal}
 use Rattle.ghcn_series.specs.DailyFaults.{is_memory, IsFirstRefusal}
 use Rattle.ghcn_series.specs.Says.{data_of}
@@ -28,24 +28,24 @@ pub returns-clause-ok : goal.returns-clause-ok
 returns-clause-ok c =
     let fed = fed_files c.args.keep c.args.stations c.args.files.now c.loop-file.file-index in
     let all = all_texts c.args.files.now c.loop-file.file-index (omega (arith, c.loop-file-test.false)) in
-    IfOk-weaker c.finish.result _ _
-    (λ held holds. subst (λ (files : List (List ℕ)). AreKept c.args.keep c.args.stations files held) all
-    (holds.is fed c.loop-file.invariant)) c.finish.ensures.ok
+    subst (λ (files : List (List ℕ)). AreKept c.args.keep c.args.stations files c.in_ok-held.held) all
+    (c.in_ok-held.ensures.ok.is fed c.loop-file.invariant)
 
 -- the refusal of all files that were fed
-pub returns-clause-err : goal.returns-clause-err
-returns-clause-err c =
+pub returns-in_err-held-clause-err : goal.returns-in_err-held-clause-err
+returns-in_err-held-clause-err c =
     let fed = fed_files c.args.keep c.args.stations c.args.files.now c.loop-file.file-index in
     let all = all_texts c.args.files.now c.loop-file.file-index (omega (arith, c.loop-file-test.false)) in
-    IfErr-weaker c.finish.result _ _
-    (λ fault refuses. subst (λ (files : List (List ℕ)). IsRefusal is_memory fault (data_of c.args.stations files)) all
-    (refuses.is fed c.loop-file.invariant)) c.finish.ensures.err
+    let p = err_from_is_err_and c.from_residual-in_err-held.result c.from_residual-in_err-held.ensures.1 in
+    rw (p.1, p.2) (subst (λ (files : List (List ℕ)).
+    IsRefusal is_memory c.in_err-held.field-0.0 (data_of c.args.stations files)) all
+    (c.in_err-held.ensures.err.is fed c.loop-file.invariant))
 
 -- and of their first line with a fault
-pub returns-clause-first : goal.returns-clause-first
-returns-clause-first c =
+pub returns-in_err-held-clause-first : goal.returns-in_err-held-clause-first
+returns-in_err-held-clause-first c =
     let fed = fed_files c.args.keep c.args.stations c.args.files.now c.loop-file.file-index in
     let all = all_texts c.args.files.now c.loop-file.file-index (omega (arith, c.loop-file-test.false)) in
-    IfErr-weaker c.finish.result _ _
-    (λ fault refuses. subst (λ (files : List (List ℕ)). IsFirstRefusal fault c.args.stations files) all
-    (refuses.first fed c.loop-file.invariant)) c.finish.ensures.err
+    let p = err_from_is_err_and c.from_residual-in_err-held.result c.from_residual-in_err-held.ensures.1 in
+    rw (p.1, p.2) (subst (λ (files : List (List ℕ)). IsFirstRefusal c.in_err-held.field-0.0 c.args.stations files) all
+    (c.in_err-held.ensures.err.first fed c.loop-file.invariant))

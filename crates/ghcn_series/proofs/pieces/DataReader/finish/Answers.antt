@@ -16,3 +16,7 @@ returns-in-Ok-clause-ok c = record {
         is = rw (← all.read.listed, ← all.read.kept) (c.in-Ok.ensures.is (daily_lines files) all.read.read);
       };
 }
+
+-- and its foreign files
+pub returns-in-Ok-clause-foreign : goal.returns-in-Ok-clause-foreign
+returns-in-Ok-clause-foreign c = record { is = λ fed is. (c.in_ok-all.ensures.ok.is fed is).counted.foreign }

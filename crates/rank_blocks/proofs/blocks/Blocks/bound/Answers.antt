@@ -1,4 +1,4 @@
-use Rattle.std.proofs.Common.{to_z, of_z, w64, arith, rules}
+use Rattle.rank_blocks.proofs.Cited.{to_z, of_z, w64, arith, rules}
 use Rattle.rank_blocks.proofs.BoundsMet.{bound-computed, bound-above}
 use Rattle.rank_blocks.proofs.blocks.Blocks.bound.Goals as goal
 

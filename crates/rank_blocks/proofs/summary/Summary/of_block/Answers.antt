@@ -1,11 +1,8 @@
-use Rattle.std.proofs.Common.{◌≡◌, map, ℤ, neg_ℤ, to_z, of_z, SFits, w32, sym, ap, ◌∙◌, subst, arith, rules, int_le}
-use Rattle.std.proofs.lemmas.Int.{ints, to_z-of_z}
-use Rattle.rank_query.specs.declared.score.Score.{Score}
-use Rattle.rank_scores.specs.declared.spell.Spell.TheVariants as kinds
-use Rattle.rank_blocks.specs.Blocks.{days_in, total}
-use Rattle.rank_blocks.specs.Summaries.{IsSummary}
+use Rattle.rank_blocks.proofs.Cited.{◌≡◌, map, ℤ, neg_ℤ, to_z, of_z, SFits, w32, sym, ap, ◌∙◌, subst, arith, rules}
+use Rattle.rank_blocks.proofs.Cited.{int_le, ints, to_z-of_z, Score, days_in, total, IsSummary}
 use Rattle.rank_blocks.proofs.BlockDays.{block-score, block-sum, has-day, has-days}
 use Rattle.rank_blocks.proofs.HotBlocks.{hot-bits}
+use Rattle.rank_scores.specs.declared.spell.Spell.TheVariants as kinds
 use Rattle.rank_blocks.proofs.summary.Summary.of_block.Goals as goal
 
 -- the greatest value
@@ -13,28 +10,23 @@ pub returns-in-Highest-clause-summary : goal.returns-in-Highest-clause-summary
 returns-in-Highest-clause-summary c = λ days rise of_block.
     subst (λ (k : Score). IsSummary k days c.of_day.result) (sym c.in-Highest.is)
     (has-day (λ v. v) days c.args.number c.greatest_value.result c.of_day.result (omega (arith, ints))
-    (omega (arith, ints))
-    (block-score days rise c.args.number c.args.word c.args.values.now of_block (λ v. v) _ c.greatest_value.ensures))
+    (omega (arith, ints)) (search (rules, arith, ints, block-score)))
 
 -- the greatest of the values negated
 pub returns-in-Lowest-clause-summary : goal.returns-in-Lowest-clause-summary
 returns-in-Lowest-clause-summary c = λ days rise of_block.
     subst (λ (k : Score). IsSummary k days c.of_day-in-Lowest.result) (sym c.in-Lowest.is)
     (has-day neg_ℤ days c.args.number (neg_ℤ c.least_value.result) c.of_day-in-Lowest.result (omega (arith, ints))
-    (omega (arith, ints))
-    (block-score days rise c.args.number c.args.word c.args.values.now of_block neg_ℤ _ c.least_value.ensures))
+    (omega (arith, ints)) (search (rules, arith, ints, block-score)))
 
 -- the greatest value and the total
 pub returns-in-Sum-clause-summary : goal.returns-in-Sum-clause-summary
 returns-in-Sum-clause-summary c = λ days rise of_block.
     let number : c.of_sum.result.number ≡ c.args.number = omega (arith, ints) in
     let whole : total c.args.values.now ≡ c.of_sum.result.total = omega (arith, ints) in
-    subst (λ (k : Score). IsSummary k days c.of_sum.result) (sym c.in-Sum.is)
-    (record {
+    subst (λ (k : Score). IsSummary k days c.of_sum.result) (sym c.in-Sum.is) (record {
       greatest_value = has-day (λ v. v) days c.args.number c.greatest_value-in-Sum.result c.of_sum.result number
-          (omega (arith, ints))
-          (block-score days rise c.args.number c.args.word c.args.values.now of_block (λ v. v) _
-          c.greatest_value-in-Sum.ensures);
+          (omega (arith, ints)) (search (rules, arith, ints, block-score));
       total_value = ap (λ (n : ℤ). total (map (λ x. x.1) (days_in days n))) number
           ∙ block-sum days rise c.args.number c.args.word c.args.values.now of_block c.told-values ∙ whole;
     })
@@ -50,7 +42,6 @@ returns-in-Hot-clause-summary c = λ days rise of_block.
     (has-days (kinds.Hot c.in-Hot.least) days c.args.number c.all_or_none.result c.of_days-in-Hot.result
     (omega (arith, ints)) (omega arith)
     (hot-bits c.in-Hot.least days c.args.number c.greatest_value-in-Hot.result c.all_or_none.result
-    (block-score days rise c.args.number c.args.word c.args.values.now of_block (λ v. v) _
-    c.greatest_value-in-Hot.ensures)
+    (search (rules, arith, ints, block-score))
     (λ j lt. c.all_or_none.ensures j lt ∙ ap (λ (v : ℤ). int_le v (to_z w32 (of_z w32 z))) degrees
     ∙ ap (int_le c.in-Hot.least) value)))

@@ -1,5 +1,5 @@
 use Rattle.std.proofs.lemmas.Result.{err_from_is_err_and}
-use Rattle.rank_input.proofs.Reading.{holds_input, refuses_input}
+use Rattle.rank_input.proofs.Reading.{holds_input, reader_foreign, refuses_input}
 use Rattle.rank_input.proofs.intake.Intake.finish.Goals as goal
 
 -- a reader's fault is that of the input
@@ -14,3 +14,9 @@ pub returns-clause-ok : goal.returns-clause-ok
 returns-clause-ok c =
     holds_input c.args.self c.in_ok-query.query c.in_ok-query.reader c.in_ok-held.held c.in_ok-query.was
     c.in_ok-held.ensures.ok
+
+-- and its foreign files are the input's
+pub returns-clause-foreign : goal.returns-clause-foreign
+returns-clause-foreign c =
+    reader_foreign c.args.self c.in_ok-query.query c.in_ok-query.reader c.in_ok-held.foreign c.in_ok-query.was
+    c.in_ok-held.ensures.foreign

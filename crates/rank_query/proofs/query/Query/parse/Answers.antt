@@ -1,6 +1,4 @@
-use Rattle.std.proofs.Common.{ap, ◌∙◌}
-use Rattle.rank_query.specs.QueryTexts.{query_text}
-use Rattle.rank_query.specs.Reading.{read_query}
+use Rattle.rank_query.proofs.Cited.{ap, ◌∙◌, query_text, read_query}
 use Rattle.rank_query.proofs.Spellings.{spelling_read}
 use Rattle.rank_query.proofs.CanonicalTexts.{canonical}
 use Rattle.rank_query.proofs.FaultPlaces.{if_fault_stands}

@@ -1,6 +1,4 @@
-use Rattle.std.proofs.Common.{arith}
-use Rattle.std.proofs.Output.{has_written_of_eq}
-use Rattle.std.proofs.lemmas.Grind.{common_steps}
+use Rattle.rank_query.proofs.Cited.{arith, has_written_of_eq, common_steps}
 use Rattle.rank_query.proofs.Printing.{printed-is}
 use Rattle.rank_query.proofs.text.QueryDisplay.fmt.Goals as goal
 

@@ -1,8 +1,5 @@
-use Rattle.std.proofs.Common.{◌≡◌, ℕ, ◌+◌, ◌<◌, not, List, [], length, take, drop, sym, ap, ◌∙◌, arith}
-use Rattle.std.specs.List.{enumerate_from}
-use Rattle.std.proofs.lemmas.Bool.Decides.{nat_tests}
-use Rattle.std.proofs.lemmas.List.Sums.{prefix_len-le-length}
-use Rattle.rank_query.specs.Words.{is_separator}
+use Rattle.rank_query.proofs.Cited.{◌≡◌, ℕ, ◌+◌, ◌<◌, not, List, [], length, take, drop, sym, ap, ◌∙◌, arith}
+use Rattle.rank_query.proofs.Cited.{enumerate_from, nat_tests, prefix_len-le-length, is_separator}
 use Rattle.rank_query.proofs.FirstWord.{first_word, no_word, after_blanks-le, words_left, longer}
 use Rattle.rank_query.proofs.words.WordsIterator.next.Goals as goal
 

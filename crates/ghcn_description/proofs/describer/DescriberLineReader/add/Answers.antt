@@ -5,12 +5,12 @@ use Rattle.ghcn_series.specs.DailyFaults.{line_of}
 use Rattle.ghcn_series.proofs.ReadLines.{read-passed, other_kind}
 use Rattle.ghcn_description.specs.Steps.{CountsCode}
 use Rattle.ghcn_description.proofs.DescribedLines.{counted-other}
-use Rattle.ghcn_description.proofs.describer.Describer.add_line.Goals as goal
+use Rattle.ghcn_description.proofs.describer.DescriberLineReader.add.Goals as goal
 
 -- a line of another code
 pub returns-in-Ok-clause-kind : goal.returns-in-Ok-clause-kind
-returns-in-Ok-clause-kind c some =
-    other_kind c.args.bytes.now (rw c.in-Ok-None.field-0-is at c.in-Ok-None.ensures) some
+returns-in-Ok-clause-kind c =
+    other_kind c.args.bytes.now (rw c.in-Ok-None.field-0-is at c.in-Ok-None.ensures) c.requires.some
 
 -- it is counted
 pub returns-in-Ok-clause-read : goal.returns-in-Ok-clause-read

@@ -2,7 +2,7 @@ use Rattle.std.proofs.Common.{◌≡◌, Ok, None}
 use Rattle.ghcn_files.specs.Months.{read_month}
 use Rattle.ghcn_files.specs.Rows.{IsOfLine}
 use Rattle.ghcn_series.proofs.ReadLines.{read-passed, read-month, refused-month, other_kind, element_kind}
-use Rattle.ghcn_series.proofs.reader.Reader.add_line.Goals as goal
+use Rattle.ghcn_series.proofs.reader.ReaderLineReader.add.Goals as goal
 
 -- a line of none of the elements is passed over
 pub returns-in-Ok-None-clause-read : goal.returns-in-Ok-None-clause-read
@@ -12,8 +12,8 @@ returns-in-Ok-None-clause-read c =
 
 -- which has another code
 pub returns-in-Ok-None-clause-kind : goal.returns-in-Ok-None-clause-kind
-returns-in-Ok-None-clause-kind c = λ some.
-    other_kind c.args.bytes.now (rw c.in-Ok-None.field-0-is at c.in-Ok-None.ensures) some
+returns-in-Ok-None-clause-kind c =
+    other_kind c.args.bytes.now (rw c.in-Ok-None.field-0-is at c.in-Ok-None.ensures) c.requires.some
 
 -- a new month is read
 pub returns-in-Ok-true-clause-read : goal.returns-in-Ok-true-clause-read
@@ -32,7 +32,7 @@ pub returns-in-Ok-true-clause-kind : goal.returns-in-Ok-true-clause-kind
 returns-in-Ok-true-clause-kind c =
     let is : IsOfLine c.args.self.now.keep c.args.bytes.now c.in-Ok-Some.row =
     rw c.in-Ok-Some.field-0-is at c.in-Ok-Some.ensures in
-    λ some. element_kind c.args.bytes.now is.month is.read some
+    element_kind c.args.bytes.now is.month is.read c.requires.some
 
 -- a month of an earlier line is refused
 pub returns-in-Ok-false-clause-fault : goal.returns-in-Ok-false-clause-fault

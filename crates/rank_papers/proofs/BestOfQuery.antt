@@ -1,0 +1,322 @@
+-- The best of a query, by what they are: there is one list of them, and it is what is found by rank.
+use Rattle.std.proofs.Common.{◌≡◌, ◌⊎◌, inl, inr, ℕ, zero, suc, ◌≤◌, List, [], ◌∷◌, ◌++◌}
+use Rattle.std.proofs.Common.{length, take, refl, sym, ap, ◌∙◌, subst, arith, true}
+use Rattle.std.specs.List.{flat_map, AllByRecursion, Contains}
+use Rattle.std.specs.List.Sorted.{IsStrictlySortedBy, IsPermutation}
+use Rattle.std.specs.Ordering.{is_lt, is_le, ordering_then, ordering_reverse}
+use Rattle.std.specs.declared.cmp.Ordering.{Ordering}
+use Rattle.std.specs.declared.cmp.Ordering.TheVariants.{Less, Equal, Greater}
+use Rattle.std.proofs.lemmas.List.{length-take}
+use Rattle.std.proofs.lemmas.List.Sorted.{IsPermutation-sym, All-permutation}
+use Rattle.std.proofs.lemmas.List.Elements.{recursion_from_All, All-from_recursion}
+use Rattle.ghcn_fields.proofs.Ordered.{Descend}
+use Rattle.ghcn_series.specs.Series.{Usable, Contents, IsSeries}
+use Rattle.ghcn_series.specs.Held.{IsContents}
+use Rattle.rank_query.specs.Asked.{Asked, IsAsked}
+use Rattle.rank_scores.specs.declared.candidate.Candidate.{Candidate}
+use Rattle.rank_scores.specs.Candidates.{candidates}
+use Rattle.rank_scores.specs.Order.{precedes, rank_cmp, full_cmp}
+use Rattle.rank_scores.specs.Morsels.{admitted_series, all_candidates, best_of_query}
+use Rattle.rank_scores.proofs.Exactly.{exactly}
+use Rattle.rank_scores.proofs.Listing.{full_cmp_total}
+use Rattle.rank_scores.proofs.Ranks.{Descends}
+use Rattle.rank_scores.proofs.Rising.{from_each, from_both}
+use Rattle.rank_scores.proofs.QueryCandidates.{all_apart}
+use Rattle.rank_pool.specs.First.{in_order}
+use Rattle.rank_pool.proofs.Orders.{same_place, take-all}
+use Rattle.rank_pool.proofs.Ranked.{in_order-permutation, in_order-descends, best-first}
+use Rattle.rank_papers.specs.Right.{IsOfQuery, AreBest}
+use Rattle.rank_papers.specs.RightLaws.{BestAreFound, BestAreOne}
+use Rattle.rank_papers.proofs.RightCertificates.{series_hold}
+
+-- ---- what stands in a list
+
+-- the element is in the list
+abbrev pub In : {X : Type 0} → List X → X → Type 0
+In [] x = ⊥
+In (y ∷ ys) x = (y ≡ x) ⊎ In ys x
+
+-- what is in a list by its place is in it by recursion
+pub contains-in : {X : Type 0} (xs : List X) (x : X) → Contains xs x → In xs x
+contains-in [] x (k, lt, at) = absurd (omega (arith, lt))
+contains-in (y ∷ ys) x (zero, lt, at) = inl at
+contains-in (y ∷ ys) x (suc k, lt, at) = inr (contains-in ys x (k, omega (arith, lt), at))
+
+-- and the other way round
+pub in-contains : {X : Type 0} (xs : List X) (x : X) → In xs x → Contains xs x
+in-contains [] x h = absurd h
+in-contains (y ∷ ys) x (inl at) = (0, omega arith, at)
+in-contains (y ∷ ys) x (inr h) = let there = in-contains ys x h in (suc there.0, omega (arith, there.1), there.2)
+
+-- what is true of all is true of what is in the list
+pub held : {X : Type 0} (P : X → Type 0) (xs : List X) (x : X) → AllByRecursion P xs → In xs x → P x
+held P [] x all h = absurd h
+held P (y ∷ ys) x all (inl e) = subst P e all.0
+held P (y ∷ ys) x all (inr h) = held P ys x all.1 h
+
+-- each of a list is in it
+pub each_in : {X : Type 0} (xs : List X) → AllByRecursion (In xs) xs
+each_in [] = tt
+each_in (x ∷ xs) = (inl refl, from_each (In xs) (In (x ∷ xs)) xs (λ y h. inr h) (each_in xs))
+
+-- the elements of a list are in each permutation
+pub in_permuted : {X : Type 0} (xs ys : List X) → IsPermutation xs ys → AllByRecursion (In ys) xs
+in_permuted xs ys p = recursion_from_All (In ys) xs
+    (All-permutation (In ys) ys xs (IsPermutation-sym xs ys p) (All-from_recursion (In ys) ys (each_in ys)))
+
+-- what is in the second of two lists is in both, one after the other
+in_behind : {X : Type 0} (xs ys : List X) (x : X) → In ys x → In (xs ++ ys) x
+in_behind [] ys x h = h
+in_behind (z ∷ zs) ys x h = inr (in_behind zs ys x h)
+
+-- so is what is in the first
+in_front : {X : Type 0} (xs ys : List X) (x : X) → In xs x → In (xs ++ ys) x
+in_front [] ys x h = absurd h
+in_front (z ∷ zs) ys x (inl e) = inl e
+in_front (z ∷ zs) ys x (inr h) = inr (in_front zs ys x h)
+
+-- what is made of an element is among what is made of all
+in_made : {X Y : Type 0} (f : X → List Y) (xs : List X) (x : X) (y : Y) → In xs x → In (f x) y → In (flat_map f xs) y
+in_made f [] x y h k = absurd h
+in_made f (z ∷ zs) x y (inl e) k = in_front (f z) (flat_map f zs) y (subst (λ w. In (f w) y) (sym e) k)
+in_made f (z ∷ zs) x y (inr h) k = in_behind (f z) (flat_map f zs) y (in_made f zs x y h k)
+
+-- what is true of all of two lists
+each_joined : {X : Type 0} (P : X → Type 0) (xs ys : List X) → AllByRecursion P xs → AllByRecursion P ys
+    → AllByRecursion P (xs ++ ys)
+each_joined P [] ys h k = k
+each_joined P (x ∷ xs) ys h k = (h.0, each_joined P xs ys h.1 k)
+
+-- ---- the order of listing
+
+-- a is listed before b
+abbrev Before : Candidate → Candidate → Type 0
+Before a b = full_cmp a b ≡ Less
+
+-- two answers that are each Less can't be the reverse of each other
+both_less : (o p : Ordering) → o ≡ ordering_reverse p → o ≡ Less → p ≡ Less → ⊥
+both_less o p e f g = absurd (let other : Less ≡ ordering_reverse Less = sym f ∙ e ∙ ap ordering_reverse g in cc)
+
+-- of two candidates at most one is listed before the other
+asym : (a b : Candidate) → Before a b → Before b a → ⊥
+asym a b f g = both_less (full_cmp a b) (full_cmp b a) (full_cmp_total.antisymm a b) f g
+
+-- of two candidates one is listed before the other, or they are the same
+one_before : (a b : Candidate) → (a ≡ b) ⊎ Before a b ⊎ Before b a
+one_before a b = by (full_cmp a b) (full_cmp b a) refl refl (full_cmp_total.antisymm a b)
+  where
+    by : (o p : Ordering) → full_cmp a b ≡ o → full_cmp b a ≡ p → full_cmp a b ≡ ordering_reverse (full_cmp b a)
+        → (a ≡ b) ⊎ Before a b ⊎ Before b a
+    by Less p e f t = inr (inl e)
+    by o Less e f t = inr (inr f)
+    by Equal p e f t = inl (same_place a b (ap is_le e)
+        (let back : ordering_reverse (full_cmp b a) ≡ Equal = sym t ∙ e in grind arith))
+    by Greater Equal e f t = absurd (let back : Greater ≡ Equal = sym e ∙ t ∙ ap ordering_reverse f in cc)
+    by Greater Greater e f t = absurd (let back : Greater ≡ Less = sym e ∙ t ∙ ap ordering_reverse f in cc)
+
+-- the first answer stands
+first_stands : (o l : Ordering) → is_lt o ≡ true → ordering_then o l ≡ Less
+first_stands Less l e = refl
+first_stands Equal l e = absurd cc
+first_stands Greater l e = absurd cc
+
+-- a candidate that precedes another is listed before it
+precedes_before : (a b : Candidate) → precedes a b ≡ true → Before a b
+precedes_before a b e = first_stands (rank_cmp a b) _ e
+
+-- so candidates that descend by rank do so by listing
+descends-before : (xs : List Candidate) → Descends xs → Descend Before xs
+descends-before [] h = tt
+descends-before (x ∷ xs) h = (
+  from_each (λ y. precedes x y ≡ true) (Before x) xs (λ y e. precedes_before x y e) h.0,
+  descends-before xs h.1,
+)
+
+-- a list in order descends
+sorted-descends : (xs : List Candidate) → IsStrictlySortedBy full_cmp xs → Descend Before xs
+unfolding IsStrictlySortedBy
+sorted-descends [] h = tt
+sorted-descends (x ∷ xs) h = (h.0, sorted-descends xs h.1)
+
+-- and the other way round
+descends-sorted : (xs : List Candidate) → Descend Before xs → IsStrictlySortedBy full_cmp xs
+unfolding IsStrictlySortedBy
+descends-sorted [] h = tt
+descends-sorted (x ∷ xs) h = (h.0, descends-sorted xs h.1)
+
+-- ---- the first k of what has a property
+
+-- these are the first k of what has a property
+record AreTop (P : Candidate → Type 0) (k : ℕ) (top : List Candidate) : Type 0 where
+  few : length top ≤ k
+  have : AllByRecursion P top
+  order : Descend Before top
+  others : (x : Candidate) → P x → In top x ⊎ ((length top ≡ k) × AllByRecursion (λ b. Before b x) top)
+
+-- nothing that has the property is listed before the first
+none_before : (P : Candidate → Type 0) (k : ℕ) (y x : Candidate) (ys : List Candidate) → AreTop P k (y ∷ ys) → P x
+    → Before x y → ⊥
+none_before P k y x ys t p b = by (t.others x p)
+  where
+    by : In (y ∷ ys) x ⊎ ((length (y ∷ ys) ≡ k) × AllByRecursion (λ z. Before z x) (y ∷ ys)) → ⊥
+    by (inl (inl e)) = let own : Before x x = subst (Before x) e b in asym x x own own
+    by (inl (inr h)) = asym x y b (held (Before y) ys x t.order.0 h)
+    by (inr all) = asym x y b all.1.0
+
+-- where there are none, nothing has the property or none is wanted
+none_first : (P : Candidate → Type 0) (k : ℕ) (y : Candidate) (ys : List Candidate) → AreTop P k []
+    → AreTop P k (y ∷ ys) → ⊥
+none_first P k y ys s t =
+    elim (s.others y t.have.0) [
+      | inl h ↦ h
+      | inr all ↦ let few : length (y ∷ ys) ≤ k = t.few in absurd (omega (arith, all.0, few))
+    ]
+
+-- what stands behind the first are the first of what is listed behind it
+tail_top : (P : Candidate → Type 0) (k : ℕ) (x : Candidate) (xs : List Candidate) → AreTop P (suc k) (x ∷ xs)
+    → AreTop (λ z. P z × Before x z) k xs
+tail_top P k x xs t = record {
+  few = omega (arith, t.few);
+  have = from_both P (Before x) (λ z. P z × Before x z) xs (λ z p b. (p, b)) t.have.1 t.order.0;
+  order = t.order.1;
+  others = λ z h. by z h.1 (t.others z h.0);
+}
+  where
+    by : (z : Candidate) → Before x z
+        → In (x ∷ xs) z ⊎ ((length (x ∷ xs) ≡ suc k) × AllByRecursion (λ b. Before b z) (x ∷ xs))
+        → In xs z ⊎ ((length xs ≡ k) × AllByRecursion (λ b. Before b z) xs)
+    by z b (inl (inl e)) = absurd (let own : Before z z = subst (λ w. Before w z) e b in asym z z own own)
+    by z b (inl (inr h)) = inl h
+    by z b (inr all) = inr (omega (arith, all.0), all.1.1)
+
+-- there is one list of the first k
+one_top : (P : Candidate → Type 0) (k : ℕ) (xs ys : List Candidate) → AreTop P k xs → AreTop P k ys → xs ≡ ys
+one_top P k [] [] s t = refl
+one_top P k [] (y ∷ ys) s t = absurd (none_first P k y ys s t)
+one_top P k (x ∷ xs) [] s t = absurd (none_first P k x xs t s)
+one_top P zero (x ∷ xs) (y ∷ ys) s t = absurd (omega (arith, s.few))
+one_top P (suc k) (x ∷ xs) (y ∷ ys) s t =
+    let same : x ≡ y = by (one_before x y) in
+    let rest : xs ≡ ys = one_top (λ z. P z × Before x z) k xs ys (tail_top P k x xs s)
+    (subst (λ (w : Candidate). AreTop (λ z. P z × Before w z) k ys) (sym same) (tail_top P k y ys t)) in
+    λ i. same i ∷ rest i
+  where
+    by : (x ≡ y) ⊎ Before x y ⊎ Before y x → x ≡ y
+    by (inl e) = e
+    by (inr (inl b)) = absurd (none_before P (suc k) y x ys t s.have.0 b)
+    by (inr (inr b)) = absurd (none_before P (suc k) x y xs s t.have.0 b)
+
+-- the first k of a list that descends descend
+take-descends : (k : ℕ) (xs : List Candidate) → Descend Before xs → Descend Before (take k xs)
+take-descends zero xs h = tt
+take-descends (suc k) [] h = tt
+take-descends (suc k) (x ∷ xs) h = (take-all (Before x) k xs h.0, take-descends k xs h.1)
+
+-- another of the list stands behind k
+out_of_take : (k : ℕ) (xs : List Candidate) → Descend Before xs → (z : Candidate) → In xs z
+    → In (take k xs) z ⊎ ((length (take k xs) ≡ k) × AllByRecursion (λ b. Before b z) (take k xs))
+out_of_take zero xs h z i = inr (refl, tt)
+out_of_take (suc k) [] h z i = absurd i
+out_of_take (suc k) (x ∷ xs) h z (inl e) = inl (inl e)
+out_of_take (suc k) (x ∷ xs) h z (inr i) = by (out_of_take k xs h.1 z i)
+  where
+    by : In (take k xs) z ⊎ ((length (take k xs) ≡ k) × AllByRecursion (λ b. Before b z) (take k xs))
+        → In (x ∷ take k xs) z
+        ⊎ ((length (x ∷ take k xs) ≡ suc k) × AllByRecursion (λ b. Before b z) (x ∷ take k xs))
+    by (inl j) = inl (inr j)
+    by (inr all) = inr (ap suc all.0, (held (Before x) xs z h.0 i, all.1))
+
+-- so they are the first k of what is in the list
+take_top : (P : Candidate → Type 0) (k : ℕ) (xs : List Candidate) → Descend Before xs → AllByRecursion P xs
+    → ((x : Candidate) → P x → In xs x) → AreTop P k (take k xs)
+take_top P k xs h all inside = record {
+  few = omega (arith, length-take k xs);
+  have = take-all P k xs all;
+  order = take-descends k xs h;
+  others = λ x p. out_of_take k xs h x (inside x p);
+}
+
+-- ---- the best of a query
+
+-- the first k of its candidates are the best
+top_best : (q : Asked) (c : Contents) (best : List Candidate) → AreTop (IsOfQuery q c) q.k best → AreBest q c best
+top_best q c best t = record {
+  few = t.few;
+  of_query = t.have;
+  order = descends-sorted best t.order;
+  others = λ x p. by x (t.others x p);
+}
+  where
+    by : (x : Candidate) → In best x ⊎ ((length best ≡ q.k) × AllByRecursion (λ b. Before b x) best)
+        → Contains best x ⊎ ((length best ≡ q.k) × AllByRecursion (λ b. Before b x) best)
+    by x (inl h) = inl (in-contains best x h)
+    by x (inr all) = inr all
+
+-- and the other way round
+best_top : (q : Asked) (c : Contents) (best : List Candidate) → AreBest q c best → AreTop (IsOfQuery q c) q.k best
+best_top q c best b = record {
+  few = b.few;
+  have = b.of_query;
+  order = sorted-descends best b.order;
+  others = λ x p. by x (b.others x p);
+}
+  where
+    by : (x : Candidate) → Contains best x ⊎ ((length best ≡ q.k) × AllByRecursion (λ b. Before b x) best)
+        → In best x ⊎ ((length best ≡ q.k) × AllByRecursion (λ b. Before b x) best)
+    by x (inl h) = inl (contains-in best x h)
+    by x (inr all) = inr all
+
+-- so there is one list of the best
+pub best_are_one : BestAreOne
+best_are_one q c a b s t = one_top (IsOfQuery q c) q.k a b (best_top q c a s) (best_top q c b t)
+
+module _ (q : Asked) (c : Contents) (asked : IsAsked q) (right : IsContents c) where
+  -- the series of the query are right
+  series_right : AllByRecursion IsSeries (admitted_series q c)
+  series_right = series_hold IsSeries q c right.series.right
+
+  -- a candidate of the query is listed
+  is_listed : (x : Candidate) → IsOfQuery q c x → In (all_candidates q c) x
+  is_listed x (s, there, is) =
+      let in_series = contains-in (admitted_series q c) s there in
+      let series = held IsSeries (admitted_series q c) s series_right in_series in
+      in_made (candidates q) (admitted_series q c) s x in_series
+      (contains-in (candidates q s) x ((exactly q s series asked x).1 is))
+
+  -- the candidates of some of the query's series are of the query
+  each_of_query : (ss : List Usable) → AllByRecursion (In (admitted_series q c)) ss → AllByRecursion IsSeries ss
+      → AllByRecursion (IsOfQuery q c) (flat_map (candidates q) ss)
+  each_of_query [] are series = tt
+  each_of_query (s ∷ ss) are series =
+      each_joined (IsOfQuery q c) (candidates q s) (flat_map (candidates q) ss)
+      (from_each (In (candidates q s)) (IsOfQuery q c) (candidates q s)
+      (λ x h. (
+        s,
+        in-contains (admitted_series q c) s are.0,
+        (exactly q s series.0 asked x).0 (in-contains (candidates q s) x h),
+      ))
+      (each_in (candidates q s)))
+      (each_of_query ss are.1 series.1)
+
+  -- what is found by rank are the best
+  found_best : AreBest q c (best_of_query q c)
+  found_best =
+      let all : List Candidate = all_candidates q c in
+      let xs : List Candidate = in_order all in
+      let moved : AllByRecursion (In xs) all = in_permuted all xs (in_order-permutation all) in
+      let of_query : AllByRecursion (IsOfQuery q c) all =
+      each_of_query (admitted_series q c) (each_in (admitted_series q c)) series_right in
+      let back : AllByRecursion (In all) xs =
+      in_permuted xs all (IsPermutation-sym all xs (in_order-permutation all)) in
+      subst (AreBest q c) (sym (best-first q.k all (all_apart q c right)))
+      (top_best q c (take q.k xs) (take_top (IsOfQuery q c) q.k xs
+      (descends-before xs (in_order-descends all (all_apart q c right)))
+      (from_each (In all) (IsOfQuery q c) xs (λ x h. held (IsOfQuery q c) all x of_query h) back)
+      (λ x p. held (In xs) all x moved (is_listed x p))))
+
+-- the best by rank are the best by what they are, and no other list is
+pub best_found : BestAreFound
+best_found q c best asked right = (
+  λ e. subst (AreBest q c) (sym e) (found_best q c asked right),
+  λ b. best_are_one q c best (best_of_query q c) b (found_best q c asked right),
+)

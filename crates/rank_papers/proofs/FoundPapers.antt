@@ -1,0 +1,272 @@
+-- Papers with what is found by rank are right by what they have, and those of what a query needs are those of all data.
+use Rattle.std.proofs.Common.{◌≡◌, ◌⊎◌, inl, inr, ℕ, Bool, true, false, List, [], ◌∷◌, ◌++◌, map, filter, refl}
+use Rattle.std.proofs.Common.{sym, ap, ◌∙◌, arith, subst, Option, Some, None, ℤ, ◌<ℤ◌, not}
+use Rattle.std.specs.Prelude.{◌↔◌, ◌<◌, ◌==◌, if◌then◌else◌, length, int_lt}
+use Rattle.std.specs.List.{AllByRecursion, AllZip, Contains, flat_map, count_by}
+use Rattle.std.proofs.lemmas.Int.{ints}
+use Rattle.ghcn_files.specs.Ids.{same_id}
+use Rattle.ghcn_series.specs.Series.{Usable, Contents, IsSeries}
+use Rattle.ghcn_series.specs.Held.{IsContents}
+use Rattle.rank_query.specs.Asked.{Asked, IsAsked}
+use Rattle.rank_scores.specs.declared.candidate.Candidate.{Candidate}
+use Rattle.rank_scores.specs.Candidates.{admitted, IsCandidateOf}
+use Rattle.rank_scores.specs.Morsels.{admitted_series, all_candidates, best_of_query, kth_of_query, morsels}
+use Rattle.rank_scores.specs.Morsels.{id_comes_first}
+use Rattle.rank_scores.specs.Order.{is_below}
+use Rattle.rank_scores.specs.OneElement.{data_for, SeriesStay}
+use Rattle.rank_scores.proofs.Exactly.{bounds}
+use Rattle.rank_scores.proofs.Rising.{all-filter}
+use Rattle.rank_scores.proofs.QueryCandidates.{all_apart}
+use Rattle.rank_pool.proofs.Orders.{sorted-all}
+use Rattle.rank_papers.specs.Report.{query_line}
+use Rattle.rank_papers.specs.Certificate.{Entry, IsCertificate, IsRightEntry, certificate_text, counted, count_of}
+use Rattle.rank_papers.specs.Certificate.{counts_of, kth_of_best, title_line, kth_line, entry_line, end_line}
+use Rattle.rank_papers.specs.Right.{AreSeriesOf, AreBest, IsRightReport, IsTrueEntry, IsRightCertificate}
+use Rattle.rank_papers.specs.RightLaws.{ReportsAreFound, CertificatesAreFound, RightReportStays, RightCertificateStays}
+use Rattle.rank_papers.proofs.PlanPapers.{kth-best, some_asked}
+use Rattle.rank_papers.proofs.RightCertificates.{series_hold}
+use Rattle.rank_papers.proofs.BestOfQuery.{best_found}
+use Rattle.rank_papers.proofs.SeriesOfQuery.{morsels_are, one_series}
+
+-- ---- what is found is right
+
+-- a number below a score that there may be is below one that there is
+below_some : (kth : Option ℤ) (b : ℤ) → is_below kth b ≡ true → (score : ℤ) × (kth ≡ Some score) × (b <ℤ score)
+below_some None b e = absurd cc
+below_some (Some score) b e = (score, refl, grind (arith, ints))
+
+-- and the other way round
+some_below : (kth : Option ℤ) (b : ℤ) → (score : ℤ) × (kth ≡ Some score) × (b <ℤ score) → is_below kth b ≡ true
+some_below kth b (score, is, low) =
+    let yes : int_lt b score ≡ true = grind (arith, ints) in ap (λ (k : Option ℤ). is_below k b) is ∙ yes
+
+-- the lines of entries, with how many of the best are of each
+abbrev lines_with : ℕ → List Candidate → List Entry → List ℕ
+lines_with version best es =
+    flat_map (λ e. entry_line version (record { entry = e; count = count_by (λ x. same_id x.id e.id) best })) es
+
+-- a line whose series was passed over has no count, so it doesn't matter which
+count_unseen : (best : List Candidate) (e : Entry)
+    → entry_line 2 (record { entry = e; count = count_of best e })
+    ≡ entry_line 2 (record { entry = e; count = count_by (λ x. same_id x.id e.id) best })
+count_unseen best e = by e.skipped
+  where
+    by : (b : Bool) → entry_line 2 (record {
+      entry = record { id = e.id; bound = e.bound; skipped = b };
+      count = if b then 0 else count_by (λ x. same_id x.id e.id) best;
+    })
+        ≡ entry_line 2 (record {
+          entry = record { id = e.id; bound = e.bound; skipped = b };
+          count = count_by (λ x. same_id x.id e.id) best;
+        })
+    by true = refl
+    by false = refl
+
+-- in version 2 the lines have these counts
+lines_counted : (best : List Candidate) (es : List Entry)
+    → flat_map (entry_line 2) (counted es (map (count_of best) es)) ≡ lines_with 2 best es
+lines_counted best [] = refl
+lines_counted best (e ∷ es) =
+    ap (λ (l : List ℕ). l ++ flat_map (entry_line 2) (counted es (map (count_of best) es))) (count_unseen best e)
+    ∙ ap (λ (t : List ℕ). entry_line 2 (record { entry = e; count = count_by (λ x. same_id x.id e.id) best }) ++ t)
+    (lines_counted best es)
+
+-- and in version 1 none
+lines_plain : (best : List Candidate) (es : List Entry) → flat_map (entry_line 1) (counted es []) ≡ lines_with 1 best es
+lines_plain best [] = refl
+lines_plain best (e ∷ es) =
+    ap (λ (t : List ℕ). entry_line 1 (record { entry = e; count = 0 }) ++ t) (lines_plain best es)
+
+-- so it is in both
+lines_are : (version : ℕ) (best : List Candidate) (es : List Entry) → (version ≡ 1) ⊎ (version ≡ 2)
+    → flat_map (entry_line version) (counted es (counts_of version best es)) ≡ lines_with version best es
+lines_are version best es (inl one) =
+    subst (λ (v : ℕ). flat_map (entry_line v) (counted es (counts_of v best es)) ≡ lines_with v best es) (sym one)
+    (lines_plain best es)
+lines_are version best es (inr two) =
+    subst (λ (v : ℕ). flat_map (entry_line v) (counted es (counts_of v best es)) ≡ lines_with v best es) (sym two)
+    (lines_counted best es)
+
+-- what a certificate is, with the lines of its entries
+abbrev text_with : ℕ → Asked → Option ℤ → List Entry → List ℕ → List ℕ
+text_with version q kth es lines =
+    title_line version ++ query_line q ++ kth_line kth ++ lines ++ end_line (length es)
+
+-- the right report has the best, however these are said to be the best
+pub reports_found : ReportsAreFound
+reports_found q c bytes asked right = (
+  λ h. record {
+    rows = h.rows;
+    best = (best_found q c (map (λ row. row.0) h.rows) asked right).0 h.best;
+    listed = h.listed;
+    text = h.text;
+  },
+  λ h. record {
+    rows = h.rows;
+    best = (best_found q c (map (λ row. row.0) h.rows) asked right).1 h.best;
+    listed = h.listed;
+    text = h.text;
+  },
+)
+
+module _ (q : Asked) (c : Contents) (asked : IsAsked q) (right : IsContents c) where
+  -- the series of the certificate are right
+  morsels_right : AllByRecursion IsSeries (morsels q c)
+  morsels_right =
+      sorted-all (λ a b. id_comes_first a.id b.id) IsSeries
+      (filter (λ s. not (length (admitted q s) == 0)) (admitted_series q c))
+      (all-filter IsSeries (λ s. not (length (admitted q s) == 0)) (admitted_series q c)
+      (series_hold IsSeries q c right.series.right))
+
+  -- the score of the k-th of the best is the k-th score
+  kth_found : kth_of_best q.k (best_of_query q c) ≡ kth_of_query q c
+  kth_found = kth-best q.k (all_candidates q c) (some_asked q asked) (all_apart q c right)
+
+  -- right entries are true
+  entries_true : (kth : Option ℤ) (es : List Entry) (ss : List Usable) → AllByRecursion IsSeries ss
+      → AllZip (IsRightEntry q kth) es ss → AllZip (IsTrueEntry q kth) es ss
+  entries_true kth [] [] series h = tt
+  entries_true kth [] (s ∷ ss) series h = absurd h
+  entries_true kth (e ∷ es) [] series h = absurd h
+  entries_true kth (e ∷ es) (s ∷ ss) series h = (
+    record {
+      named = h.0.named;
+      above = (bounds q s series.0 asked e.bound).0 h.0.above;
+      fits = h.0.fits;
+      passed_over = λ t. below_some kth e.bound (h.0.passed_over t);
+    },
+    entries_true kth es ss series.1 h.1,
+  )
+
+  -- and true ones are right
+  entries_right : (kth : Option ℤ) (es : List Entry) (ss : List Usable) → AllByRecursion IsSeries ss
+      → AllZip (IsTrueEntry q kth) es ss → AllZip (IsRightEntry q kth) es ss
+  entries_right kth [] [] series h = tt
+  entries_right kth [] (s ∷ ss) series h = absurd h
+  entries_right kth (e ∷ es) [] series h = absurd h
+  entries_right kth (e ∷ es) (s ∷ ss) series h = (
+    record {
+      named = h.0.named;
+      above = (bounds q s series.0 asked e.bound).1 h.0.above;
+      fits = h.0.fits;
+      passed_over = λ t. some_below kth e.bound (h.0.passed_over t);
+    },
+    entries_right kth es ss series.1 h.1,
+  )
+
+  -- a certificate with what is found is right
+  certificate_true : (version : ℕ) (bytes : List ℕ) (h : IsCertificate q c bytes) → h.version ≡ version
+      → IsRightCertificate version q c bytes
+  certificate_true version bytes h e =
+      subst (λ (v : ℕ). IsRightCertificate v q c bytes) e (record {
+        known = h.known;
+        best = best_of_query q c;
+        are = (best_found q c (best_of_query q c) asked right).0 refl;
+        kth = kth_of_query q c;
+        of_last = sym kth_found;
+        series = morsels q c;
+        all = morsels_are q c asked right;
+        entries = h.entries;
+        right = entries_true (kth_of_query q c) h.entries (morsels q c) morsels_right h.right;
+        text = h.text ∙ ap (text_with h.version q (kth_of_query q c) h.entries)
+            (lines_are h.version (best_of_query q c) h.entries h.known);
+      })
+
+  -- and a right one has what is found
+  certificate_found : (version : ℕ) (bytes : List ℕ) → IsRightCertificate version q c bytes
+      → (h : IsCertificate q c bytes) × (h.version ≡ version)
+  certificate_found version bytes h =
+      let best : h.best ≡ best_of_query q c = (best_found q c h.best asked right).1 h.are in
+      let series : h.series ≡ morsels q c = one_series q c h.series (morsels q c) h.all (morsels_are q c asked right) in
+      let kth : h.kth ≡ kth_of_query q c = h.of_last ∙ ap (kth_of_best q.k) best ∙ kth_found in (
+        record {
+          version = version;
+          known = h.known;
+          entries = h.entries;
+          right = entries_right (kth_of_query q c) h.entries (morsels q c) morsels_right
+              (subst (λ (k : Option ℤ). AllZip (IsTrueEntry q k) h.entries (morsels q c)) kth
+              (subst (λ (ss : List Usable). AllZip (IsTrueEntry q h.kth) h.entries ss) series h.right));
+          text = h.text ∙ ap (text_with version q h.kth h.entries) (sym (lines_are version h.best h.entries h.known))
+              ∙ λ i. certificate_text (record {
+                version = version;
+                query = q;
+                kth = kth i;
+                entries = h.entries;
+                counts = counts_of version (best i) h.entries;
+              });
+        },
+        refl,
+      )
+
+-- both ways
+pub certificates_found : CertificatesAreFound
+certificates_found version q c bytes asked right = (
+  λ h. certificate_true q c asked right version bytes h.0 h.1,
+  λ h. certificate_found q c asked right version bytes h,
+)
+
+-- ---- what a query needs
+
+-- x is a candidate of one of these series
+abbrev IsOfOne : Asked → List Usable → Candidate → Type 0
+IsOfOne q ss x = (s : Usable) × Contains ss s × IsCandidateOf q s x
+
+-- the best of data with the same series
+best-moved : (q : Asked) (a b : Contents) (best : List Candidate) → admitted_series q a ≡ admitted_series q b
+    → AreBest q a best → AreBest q b best
+best-moved q a b best same is = record {
+  few = is.few;
+  of_query = subst (λ (ss : List Usable). AllByRecursion (IsOfOne q ss) best) same is.of_query;
+  order = is.order;
+  others = λ x h. is.others x (subst (λ (ss : List Usable). IsOfOne q ss x) (sym same) h);
+}
+
+-- the series of data with the same series
+series-moved : (q : Asked) (a b : Contents) (series : List Usable) → admitted_series q a ≡ admitted_series q b
+    → AreSeriesOf q a series → AreSeriesOf q b series
+series-moved q a b series same is = record {
+  are = subst (λ (ss : List Usable).
+      (s : Usable) → Contains series s ↔ (Contains ss s × (0 < length (admitted q s)))) same is.are;
+  by_id = is.by_id;
+}
+
+-- a right report
+report-moved : (q : Asked) (a b : Contents) (bytes : List ℕ) → a.stations ≡ b.stations
+    → admitted_series q a ≡ admitted_series q b → IsRightReport q a bytes → IsRightReport q b bytes
+report-moved q a b bytes listed same h = record {
+  rows = h.rows;
+  best = best-moved q a b (map (λ row. row.0) h.rows) same h.best;
+  listed = rw (sym listed) h.listed;
+  text = h.text;
+}
+
+-- and a right certificate
+certificate-moved : (version : ℕ) (q : Asked) (a b : Contents) (bytes : List ℕ)
+    → admitted_series q a ≡ admitted_series q b → IsRightCertificate version q a bytes
+    → IsRightCertificate version q b bytes
+certificate-moved version q a b bytes same h = record {
+  known = h.known;
+  best = h.best;
+  are = best-moved q a b h.best same h.are;
+  kth = h.kth;
+  of_last = h.of_last;
+  series = h.series;
+  all = series-moved q a b h.series same h.all;
+  entries = h.entries;
+  right = h.right;
+  text = h.text;
+}
+
+-- so a report of what a query needs is that of all data
+pub report_stays : SeriesStay → RightReportStays
+report_stays series q c bytes = (
+  report-moved q (data_for q c) c bytes refl (series q c),
+  report-moved q c (data_for q c) bytes refl (sym (series q c)),
+)
+
+-- and a certificate
+pub certificate_stays : SeriesStay → RightCertificateStays
+certificate_stays series version q c bytes = (
+  certificate-moved version q (data_for q c) c bytes (series q c),
+  certificate-moved version q c (data_for q c) bytes (sym (series q c)),
+)

@@ -1,0 +1,73 @@
+-- The right papers of a query and data, by what a candidate is and what is best, and not by how these are found.
+use Rattle.std.specs.Prelude.{◌≡◌, ◌⊎◌, ◌↔◌, ◌≤◌, ◌<◌, ◌<ℤ◌, ℕ, ◌-◌, true, List, ◌++◌, length, map, Option, Some, ℤ}
+use Rattle.std.specs.Prelude.{FitsSigned, slice_get}
+use Rattle.std.specs.List.{Contains, AllByRecursion, AllZip, find, flat_map, count_by}
+use Rattle.std.specs.Option.{option_map}
+use Rattle.std.specs.List.Sorted.{IsStrictlySortedBy}
+use Rattle.std.specs.Int.{w64}
+use Rattle.std.specs.Ordering.{nat_cmp, on}
+use Rattle.std.specs.Cmp.Lexicographic.{slice_cmp}
+use Rattle.std.specs.declared.cmp.Ordering.TheVariants.{Less}
+use Rattle.ghcn_files.specs.declared.station.Station.{Station}
+use Rattle.ghcn_files.specs.Ids.{same_id}
+use Rattle.ghcn_files.specs.Listed.{is_station_of}
+use Rattle.ghcn_series.specs.Series.{Usable, Contents}
+use Rattle.rank_query.specs.Asked.{Asked}
+use Rattle.rank_scores.specs.declared.candidate.Candidate.{Candidate}
+use Rattle.rank_scores.specs.Candidates.{admitted, IsCandidateOf}
+use Rattle.rank_scores.specs.Order.{full_cmp}
+use Rattle.rank_scores.specs.Morsels.{admitted_series, NoneIsAbove}
+use Rattle.rank_sched.specs.declared.line.Line.{Line}
+use Rattle.rank_papers.specs.Report.{trimmed, report_text, query_line}
+use Rattle.rank_papers.specs.Certificate.{title_line, kth_line, entry_line, end_line}
+
+-- x is a candidate of the query: one of a series of its element, of an admitted station
+abbrev pub IsOfQuery : Asked → Contents → Candidate → Type 0
+IsOfQuery q c x = (s : Usable) × Contains (admitted_series q c) s × IsCandidateOf q s x
+
+-- the best of a query: k of its candidates at most, each listed before those behind it; any other candidate is listed
+-- behind k of them
+pub record AreBest (q : Asked) (c : Contents) (best : List Candidate) : Type 0 where
+  pub few : length best ≤ q.k
+  pub of_query : AllByRecursion (IsOfQuery q c) best
+  pub order : IsStrictlySortedBy full_cmp best
+  pub others : (x : Candidate) → IsOfQuery q c x
+      → Contains best x ⊎ ((length best ≡ q.k) × AllByRecursion (λ b. full_cmp b x ≡ Less) best)
+
+-- the right report: its rows are the best candidates of the query, each with its listed station
+pub record IsRightReport (q : Asked) (c : Contents) (bytes : List ℕ) : Type 0 where
+  pub rows : List (Candidate × Station)
+  pub best : AreBest q c (map (λ row. row.0) rows)
+  pub listed : AllByRecursion (λ row. find (is_station_of row.0.id) c.stations ≡ Some row.1) rows
+  pub text : bytes ≡ report_text q (map (λ row. (row.0, trimmed row.1.name)) rows)
+
+-- the series of a query: all those of its element, of admitted stations, that have an admitted day, by increasing ID
+pub record AreSeriesOf (q : Asked) (c : Contents) (series : List Usable) : Type 0 where
+  pub are : (s : Usable) → Contains series s ↔ (Contains (admitted_series q c) s × (0 < length (admitted q s)))
+  pub by_id : IsStrictlySortedBy (on (λ s. s.id.0) (slice_cmp nat_cmp)) series
+
+-- an entry is true of a series: it names it, no candidate of the series has a score above the bound, and it is passed
+-- over only where there is a k-th score and the bound is strictly below it
+pub record IsTrueEntry (q : Asked) (kth : Option ℤ) (e : Line) (s : Usable) : Type 0 where
+  pub named : e.id ≡ s.id
+  pub above : NoneIsAbove q s e.bound
+  pub fits : FitsSigned w64 e.bound
+  pub passed_over : e.skipped ≡ true → (score : ℤ) × (kth ≡ Some score) × (e.bound <ℤ score)
+
+-- a right certificate of a version, whatever its bounds and skips: it has the query, the score of the k-th of the best
+-- or none, a true entry for each series of the query, and in version 2 how many of the best are of each
+pub record IsRightCertificate (version : ℕ) (q : Asked) (c : Contents) (bytes : List ℕ) : Type 0 where
+  pub known : (version ≡ 1) ⊎ (version ≡ 2)
+  pub best : List Candidate
+  pub are : AreBest q c best
+  pub kth : Option ℤ
+  pub of_last : kth ≡ option_map (λ x. x.score) (slice_get best (q.k - 1))
+  pub series : List Usable
+  pub all : AreSeriesOf q c series
+  pub entries : List Line
+  pub right : AllZip (IsTrueEntry q kth) entries series
+  pub text : bytes
+      ≡ title_line version ++ query_line q ++ kth_line kth
+      ++ flat_map (λ e. entry_line version (record { entry = e; count = count_by (λ b. same_id b.id e.id) best }))
+      entries
+      ++ end_line (length entries)
