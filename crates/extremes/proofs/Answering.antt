@@ -1,18 +1,21 @@
 -- What is answered for the query and the data of an intake, as an answer to its input.
 use Rattle.std.proofs.Common.{◌≡◌, ℕ, List, refl, sym, ap, ◌∙◌, subst, map, Option, ℤ}
-use Rattle.std.specs.Prelude.{◌↔◌}
+use Rattle.std.specs.Prelude.{◌↔◌, Ok}
 use Rattle.ghcn_fields.specs.Sorting.{sorted_by}
 use Rattle.ghcn_files.specs.declared.station.Station.{Station}
 use Rattle.ghcn_series.specs.Series.{Contents, Usable}
 use Rattle.ghcn_series.specs.Held.{IsContents}
+use Rattle.ghcn_series.specs.Said.{stations_said}
+use Rattle.ghcn_series.specs.Says.{data_of}
+use Rattle.ghcn_series.proofs.SaidLines.{held-said}
 use Rattle.rank_query.specs.Asked.{Asked, IsAsked}
 use Rattle.rank_scores.specs.OneElement.{data_for, MorselsStay}
 use Rattle.rank_sched.specs.Plan.{Planned, planned, measured, is_drawn_first}
 use Rattle.rank_papers.specs.OneElement.{MeasuredStays}
 use Rattle.rank_papers.specs.Report.{IsReport}
 use Rattle.rank_papers.specs.Certificate.{IsCertificate}
-use Rattle.rank_papers.specs.Right.{IsRightReport, IsRightCertificate}
-use Rattle.rank_papers.specs.RightLaws.{ReportsAreFound, CertificatesAreFound, RightReportStays, RightCertificateStays}
+use Rattle.rank_papers.specs.RightLaws.{IsRightReportFor, IsRightCertificateFor, ReportsAreFound, CertificatesAreFound}
+use Rattle.rank_papers.specs.RightLaws.{ReportsAreSaid, CertificatesAreSaid, RightReportStays, RightCertificateStays}
 use Rattle.rank_papers.specs.PlanPapers.{IsMeasuredCertificate}
 use Rattle.rank_check.specs.declared.verdict.Verdict.{Verdict}
 use Rattle.rank_check.specs.declared.verdict.Verdict.TheVariants.{Accepted}
@@ -29,22 +32,23 @@ use Rattle.rank_input.specs.Described.{DescribesInput}
 use Rattle.rank_input.specs.Taken.{HoldsInput, IsTrueOf}
 use Rattle.ghcn_series.specs.Fed.{files_of}
 use Rattle.extremes.specs.declared.papers.Papers.{Papers}
-use Rattle.extremes.proofs.Readings.{held_is_said}
-use Rattle.extremes.specs.Answer.{ArePapers, AreRight, IsOfCrew, IsOfOneWorker, IsSerial}
+use Rattle.extremes.proofs.Readings.{data_is_said}
+use Rattle.extremes.specs.Answer.{ArePapers, AreRight, AreRightFor, IsOfCrew, IsOfOneWorker, IsSerial}
+use Rattle.extremes.specs.Judged.{AreRightTexts}
 use Rattle.extremes.specs.Runs.{AnswersInput, FaultlessInput, CrewsInput, JudgesInput, JudgesPart}
 use Rattle.extremes.specs.declared.describe.DescriptionText.{DescriptionText}
 use Rattle.extremes.specs.Describes.{DescribesIntake}
 
 -- two texts are the right report and a right certificate
-abbrev AreRightTexts : Asked → Contents → List ℕ → List ℕ → Type 0
-AreRightTexts q c report certificate =
-    IsRightReport q c report × (version : ℕ) × IsRightCertificate version q c certificate
+abbrev AreRightTextsFor : Asked → Contents → List ℕ → List ℕ → Type 0
+AreRightTextsFor q c report certificate =
+    IsRightReportFor q c report × (version : ℕ) × IsRightCertificateFor version q c certificate
 
 -- where papers with what is found are accepted, the right ones are
 pub accepted_right : (q : Asked) (c : Contents) (report certificate : List ℕ) (v : Verdict) → ReportsAreFound
     → CertificatesAreFound → IsAsked q → IsContents c
     → (v ≡ Accepted) ↔ (IsReport q c report × IsCertificate q c certificate)
-    → (v ≡ Accepted) ↔ AreRightTexts q c report certificate
+    → (v ≡ Accepted) ↔ AreRightTextsFor q c report certificate
 accepted_right q c report certificate v reports certificates asked right accepted = (
   λ is.
       let are = accepted.0 is in (
@@ -61,9 +65,10 @@ accepted_right q c report certificate v reports certificates asked right accepte
 -- papers that are right for what a query needs of some data are right for these data, and the other way round
 right_for : (query : Asked) (held whole : Contents) (report certificate : List ℕ) → RightReportStays
     → RightCertificateStays → held ≡ data_for query whole
-    → AreRightTexts query held report certificate ↔ AreRightTexts query whole report certificate
+    → AreRightTextsFor query held report certificate ↔ AreRightTextsFor query whole report certificate
 right_for query held whole report certificate reports certificates needed =
-    subst (λ (h : Contents). AreRightTexts query h report certificate ↔ AreRightTexts query whole report certificate)
+    subst (λ (h : Contents).
+    AreRightTextsFor query h report certificate ↔ AreRightTextsFor query whole report certificate)
     (sym needed) (
       λ are. (
         (reports query whole report).0 are.0,
@@ -77,25 +82,46 @@ right_for query held whole report certificate reports certificates needed =
       ),
     )
 
+-- papers that are right for the data of files are right for what the files say, and the other way round
+texts_said : ReportsAreSaid → CertificatesAreSaid → (query : Asked) (stations : List Station) (files : List (List ℕ))
+    (held : Contents) (report certificate : List ℕ) → data_of stations files ≡ Ok held
+    → AreRightTextsFor query held report certificate ↔ AreRightTexts query stations files report certificate
+texts_said reports certificates query stations files held report certificate is = (
+  λ are. (
+    (reports query stations files held report is).0 are.0,
+    are.1,
+    (certificates are.1 query stations files held certificate is).0 are.2,
+  ),
+  λ are. (
+    (reports query stations files held report is).1 are.0,
+    are.1,
+    (certificates are.1 query stations files held certificate is).1 are.2,
+  ),
+)
+
 -- the verdict for the query and the data of an intake is that for its input
 pub judges_input : (t : Intake) (query : Asked) (held : Contents) (report certificate : List ℕ) (v : Verdict)
-    → RightReportStays → RightCertificateStays → VerdictStays
+    → RightReportStays → RightCertificateStays → ReportsAreSaid → CertificatesAreSaid → VerdictStays
     → HoldsInput t query held → v ≡ verdict query held report certificate
-    → (v ≡ Accepted) ↔ AreRightTexts query held report certificate
+    → (v ≡ Accepted) ↔ AreRightTextsFor query held report certificate
     → JudgesInput t report certificate v
-judges_input t query held report certificate v reports certificates verdicts holds is accepted = record {
-  is = λ i taken.
-      let input = holds.is i taken in
-      let right = right_for query held input.whole report certificate reports certificates input.needed in
-      record {
-        asked = query;
-        held = input.whole;
-        read = input.read;
-        verdict = is ∙ ap (λ (h : Contents). verdict query h report certificate) input.needed
-            ∙ verdicts query input.whole report certificate;
-        accepted = (λ a. right.0 (accepted.0 a), λ r. accepted.1 (right.1 r));
-      };
-}
+judges_input t query held report certificate v reports certificates reports_said certificates_said verdicts holds is
+    accepted = record {
+      is = λ i taken.
+          let input = holds.is i taken in
+          let right = right_for query held input.whole report certificate reports certificates input.needed in
+          let said = texts_said reports_said certificates_said query (stations_said i.stations) (files_of i.files)
+          input.whole report certificate
+          (data_is_said i.query i.stations (files_of i.files) query input.whole input.read) in
+          record {
+            asked = query;
+            held = input.whole;
+            read = input.read;
+            verdict = is ∙ ap (λ (h : Contents). verdict query h report certificate) input.needed
+                ∙ verdicts query input.whole report certificate;
+            accepted = (λ a. said.0 (right.0 (accepted.0 a)), λ r. accepted.1 (right.1 (said.1 r)));
+          };
+    }
 
 -- the same for a part's verdict
 pub judges_part : (t : Intake) (query : Asked) (held : Contents) (report certificate : List ℕ) (v : PartVerdict)
@@ -115,10 +141,10 @@ judges_part t query held report certificate v verdicts holds is = record {
 
 -- papers that are right for what a query needs of some data are right for these data
 papers_for : (query : Asked) (held whole : Contents) (papers : Papers) → RightReportStays → RightCertificateStays
-    → held ≡ data_for query whole → AreRight query held papers → AreRight query whole papers
+    → held ≡ data_for query whole → AreRightFor query held papers → AreRightFor query whole papers
 papers_for query held whole papers reports certificates needed are =
-    let of : AreRight query (data_for query whole) papers =
-    subst (λ (h : Contents). AreRight query h papers) needed are in
+    let of : AreRightFor query (data_for query whole) papers =
+    subst (λ (h : Contents). AreRightFor query h papers) needed are in
     record {
       report = (reports query whole papers.report.items).0 of.report;
       certificate = (certificates 2 query whole papers.certificate.items).0 of.certificate;
@@ -127,7 +153,7 @@ papers_for query held whole papers reports certificates needed are =
 
 -- the papers of a query and data are right for them
 pub right_papers : (query : Asked) (held : Contents) (papers : Papers) → ReportsAreFound → CertificatesAreFound
-    → IsAsked query → IsContents held → ArePapers query held papers → AreRight query held papers
+    → IsAsked query → IsContents held → ArePapers query held papers → AreRightFor query held papers
 right_papers query held papers reports certificates asked right are = record {
   report = (reports query held papers.report.items asked right).0 are.report;
   certificate = (certificates 2 query held papers.certificate.items asked right).0
@@ -141,17 +167,28 @@ measured_for : (query : Asked) (held whole : Contents) (bytes : List ℕ) → Me
 measured_for query held whole bytes certificates needed is =
     (certificates query whole bytes).0 (subst (λ (h : Contents). IsMeasuredCertificate query h bytes) needed is)
 
+-- papers that are right for a query and the data of files are right for what the files say
+right_said : ReportsAreSaid → CertificatesAreSaid → (query : Asked) (stations : List Station) (files : List (List ℕ))
+    (held : Contents) (papers : Papers) → data_of stations files ≡ Ok held → AreRightFor query held papers
+    → AreRight query stations files papers
+right_said reports certificates query stations files held papers is are = record {
+  report = (reports query stations files held papers.report.items is).0 are.report;
+  certificate = (certificates 2 query stations files held papers.certificate.items is).0 are.certificate;
+  unlisted = are.unlisted ∙ ap (λ (c : Contents). c.unlisted) (held-said stations files held is);
+}
+
 -- papers that are right for the query and the data of an intake answer its input
 pub answers_input : (t : Intake) (query : Asked) (held : Contents) (papers : Papers) → RightReportStays
-    → RightCertificateStays → HoldsInput t query held → AreRight query held papers → AnswersInput t papers
-answers_input t query held papers reports certificates holds are = record {
+    → RightCertificateStays → ReportsAreSaid → CertificatesAreSaid → HoldsInput t query held
+    → AreRightFor query held papers → AnswersInput t papers
+answers_input t query held papers reports certificates reports_said certificates_said holds are = record {
   is = λ i taken.
       let input = holds.is i taken in
       record {
         asked = query;
         asks = input.read.asks;
-        right = subst (λ (c : Contents). AreRight query c papers)
-            (held_is_said i.query i.stations (files_of i.files) query input.whole input.read)
+        right = right_said reports_said certificates_said query (stations_said i.stations) (files_of i.files)
+            input.whole papers (data_is_said i.query i.stations (files_of i.files) query input.whole input.read)
             (papers_for query held input.whole papers reports certificates input.needed are);
       };
 }

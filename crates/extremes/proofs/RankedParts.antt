@@ -1,7 +1,9 @@
 -- What is ranked in parts and merged is ranked.
-use Rattle.std.proofs.Common.{◌≡◌, ℕ, List, [], ◌∷◌, refl, sym, ap, subst}
-use Rattle.std.specs.Prelude.{Ok}
-use Rattle.std.specs.List.{AllByRecursion}
+use Rattle.std.proofs.Common.{◌≡◌, ◌⊎◌, inl, inr, ℕ, List, [], ◌∷◌, ◌++◌, length, Option, None, Some, refl, sym, ap}
+use Rattle.std.proofs.Common.{◌∙◌, subst, arith}
+use Rattle.std.specs.Prelude.{Result, Ok, Err, slice_index_or}
+use Rattle.std.specs.List.{AllByRecursion, flat_map}
+use Rattle.ghcn_files.specs.declared.station.StationId.{StationId}
 use Rattle.ghcn_files.specs.declared.station.Station.{Station}
 use Rattle.ghcn_files.specs.Listed.{listed}
 use Rattle.ghcn_series.specs.Said.{said_by, stations_said}
@@ -11,11 +13,16 @@ use Rattle.rank_query.specs.Asked.{Asked}
 use Rattle.rank_query.specs.Reading.{read_query}
 use Rattle.rank_query.proofs.Asks.{asks_read}
 use Rattle.rank_scores.specs.Cut.{Filed}
-use Rattle.rank_papers.specs.Report.{IsReport}
-use Rattle.rank_papers.specs.Certificate.{IsCertificate}
-use Rattle.rank_papers.specs.RightLaws.{ReportsAreFound, CertificatesAreFound}
-use Rattle.rank_merge.specs.Laws.{ArePapersOf, all_files}
-use Rattle.extremes.proofs.Readings.{one_value, held_is_said}
+use Rattle.rank_scores.specs.Morsels.{best_of_query, kth_of_query}
+use Rattle.rank_papers.specs.Report.{IsReport, query_line, report_text}
+use Rattle.rank_papers.specs.Certificate.{IsCertificate, certificate_text, counted, title_line, kth_line, entry_line}
+use Rattle.rank_papers.specs.Certificate.{counts_of, end_line}
+use Rattle.rank_papers.specs.RightLaws.{ReportsAreFound, CertificatesAreFound, ReportsAreSaid, CertificatesAreSaid}
+use Rattle.rank_merge.specs.declared.fault.MergeFault.{MergeFault}
+use Rattle.rank_merge.specs.Laws.{ArePapersOf, all_files, all_texts}
+use Rattle.rank_merge.specs.Merged.{Part, merged_certificate, merged_entries, merged_rows}
+use Rattle.rank_merge.specs.Merging.{Texts, papers_of, papers_unless, parts_from, twice}
+use Rattle.extremes.proofs.Readings.{one_value, data_is_said, held_is_said}
 use Rattle.extremes.specs.Answer.{IsFaultless}
 use Rattle.extremes.specs.RankedInParts.{IsRankedPart, MergedIsRanked}
 
@@ -26,48 +33,116 @@ said_read query stations files list lists f =
     subst (λ (c : Contents). data_of list files ≡ Ok c) (held_is_said query stations files f.asked f.held f.read)
     (subst (λ (l : List Station). data_of l files ≡ Ok f.held) (one_value _ _ _ f.read.lists lists) f.read.holds)
 
--- papers that a ranking answers to a part's files are right for them
-ranked-right : ReportsAreFound → CertificatesAreFound → (query stations : List ℕ) (q : Asked) (list : List Station)
-    (p : Filed) → read_query query ≡ Ok q → listed stations ≡ Ok list → IsRankedPart query stations p
-    → ArePapersOf q list p.0 p.1
-ranked-right reports certificates query stations q list p asked lists is =
-    let a = is.answer in
-    let held = said_by (stations_said stations) p.0 in
-    let same : a.asked ≡ q = one_value _ _ _ (asks_read query a.asked a.asks) asked in
-    let report = (reports a.asked held is.papers.report.items a.asks.can is.contents).1 a.right.report in
-    let certificate = (certificates 2 a.asked held is.papers.certificate.items a.asks.can is.contents).1
-    a.right.certificate in
-    record {
-      held = held;
-      contents = is.contents;
-      read = said_read query stations p.0 list lists is.faultless;
-      report = subst (λ (x : Asked). IsReport x held p.1.0) same
-          (subst (IsReport a.asked held) (sym (ap (λ (t : List ℕ × List ℕ). t.0) is.texts)) report);
-      certificate = subst (λ (x : Asked). IsCertificate x held p.1.1) same
-          (subst (IsCertificate a.asked held) (sym (ap (λ (t : List ℕ × List ℕ). t.1) is.texts)) certificate.0);
-    }
+-- so it is of the stations that the list says
+said_held : (query stations : List ℕ) (files : List (List ℕ)) → IsFaultless query stations files
+    → data_of (stations_said stations) files ≡ Ok (said_by (stations_said stations) files)
+said_held query stations files f =
+    subst (λ (c : Contents). data_of (stations_said stations) files ≡ Ok c)
+    (held_is_said query stations files f.asked f.held f.read)
+    (data_is_said query stations files f.asked f.held f.read)
 
--- so are those of all parts
-all-ranked-right : ReportsAreFound → CertificatesAreFound → (query stations : List ℕ) (q : Asked) (list : List Station)
-    (parts : List Filed) → read_query query ≡ Ok q → listed stations ≡ Ok list
-    → AllByRecursion (IsRankedPart query stations) parts → AllByRecursion (λ p. ArePapersOf q list p.0 p.1) parts
-all-ranked-right reports certificates query stations q list [] asked lists are = tt
-all-ranked-right reports certificates query stations q list (p ∷ ps) asked lists are = (
-  ranked-right reports certificates query stations q list p asked lists are.0,
-  all-ranked-right reports certificates query stations q list ps asked lists are.1,
-)
+-- ---- the version of what is merged
 
--- what is ranked in parts and merged is ranked
-pub merged-is-ranked : ReportsAreFound → CertificatesAreFound → MergedIsRanked
-merged-is-ranked reports certificates query stations parts whole merged answer faultless contents ranked is =
-    let held = said_by (stations_said stations) (all_files parts) in
-    let r = faultless.read in
-    let report = (reports answer.asked held whole.report.items answer.asks.can contents).1 answer.right.report in
-    let same : is.asked ≡ answer.asked = one_value _ _ _ is.read (asks_read query answer.asked answer.asks) in
-    let right = is.right r.list parts held refl
-    (all-ranked-right reports certificates query stations is.asked r.list parts is.read r.lists ranked) contents
-    (said_read query stations (all_files parts) r.list r.lists faultless) in (
-      sym (right.0.1 whole.report.items
-          (subst (λ (q : Asked). IsReport q held whole.report.items) (sym same) report)),
-      subst (λ (q : Asked). IsCertificate q held merged.certificate.items) same right.1,
-    )
+-- the certificate that is merged begins as one of version 2
+begins_as_two : (q : Asked) (parts : Result (List Part) MergeFault) (papers : Texts) → papers_of q parts ≡ Ok papers
+    → (rest : List ℕ) × (papers.1 ≡ title_line 2 ++ rest)
+begins_as_two q (Err why) papers e = absurd cc
+begins_as_two q (Ok ps) papers e = by (twice (merged_entries ps)) e
+  where
+    by : (o : Option StationId) → papers_unless o q ps ≡ Ok papers
+        → (rest : List ℕ) × (papers.1 ≡ title_line 2 ++ rest)
+    by (Some id) e = absurd cc
+    by None e =
+        let v = merged_certificate q ps in
+        let same : papers ≡ (report_text q (merged_rows q.k ps), certificate_text v) = cc in (
+          query_line q ++ kth_line v.kth ++ flat_map (entry_line 2) (counted v.entries v.counts)
+              ++ end_line (length v.entries),
+          ap (λ (t : Texts). t.1) same,
+        )
+
+-- so a certificate that begins so is of version 2
+of_version_two : (q : Asked) (c : Contents) (bytes other : List ℕ) (h : IsCertificate q c bytes)
+    → bytes ≡ title_line 2 ++ other → h.version ≡ 2
+of_version_two q c bytes other h begins = by h.known
+  where
+    -- the text of such a certificate of a version
+    text : ℕ → List ℕ
+    text version = certificate_text (record {
+      version = version;
+      query = q;
+      kth = kth_of_query q c;
+      entries = h.entries;
+      counts = counts_of version (best_of_query q c) h.entries;
+    })
+
+    by : (h.version ≡ 1) ⊎ (h.version ≡ 2) → h.version ≡ 2
+    by (inr two) = two
+    by (inl one) =
+        let first : text 1 ≡ title_line 2 ++ other =
+        subst (λ (v : ℕ). text v ≡ title_line 2 ++ other) one (sym h.text ∙ begins) in
+        let byte : 49 ≡ 50 = ap (λ (t : List ℕ). slice_index_or t 21 0) first in
+        absurd (omega (arith, byte))
+
+-- ---- what is ranked in parts
+
+module _ (reports : ReportsAreFound) (certificates : CertificatesAreFound) (reports_said : ReportsAreSaid)
+    (certificates_said : CertificatesAreSaid) where
+  -- papers that a ranking answers to a part's files are right for them
+  ranked-right : (query stations : List ℕ) (q : Asked) (list : List Station) (p : Filed) → read_query query ≡ Ok q
+      → listed stations ≡ Ok list → IsRankedPart query stations p → ArePapersOf q list p.0 p.1
+  ranked-right query stations q list p asked lists is =
+      let a = is.answer in
+      let said = stations_said stations in
+      let held = said_by said p.0 in
+      let read = said_held query stations p.0 is.faultless in
+      let same : a.asked ≡ q = one_value _ _ _ (asks_read query a.asked a.asks) asked in
+      let report = (reports a.asked held is.papers.report.items a.asks.can is.contents).1
+      ((reports_said a.asked said p.0 held is.papers.report.items read).1 a.right.report) in
+      let certificate = (certificates 2 a.asked held is.papers.certificate.items a.asks.can is.contents).1
+      ((certificates_said 2 a.asked said p.0 held is.papers.certificate.items read).1 a.right.certificate) in
+      record {
+        held = held;
+        contents = is.contents;
+        read = said_read query stations p.0 list lists is.faultless;
+        report = subst (λ (x : Asked). IsReport x held p.1.0) same
+            (subst (IsReport a.asked held) (sym (ap (λ (t : List ℕ × List ℕ). t.0) is.texts)) report);
+        certificate = subst (λ (x : Asked). IsCertificate x held p.1.1) same
+            (subst (IsCertificate a.asked held) (sym (ap (λ (t : List ℕ × List ℕ). t.1) is.texts)) certificate.0);
+      }
+
+  -- so are those of all parts
+  all-ranked-right : (query stations : List ℕ) (q : Asked) (list : List Station) (parts : List Filed)
+      → read_query query ≡ Ok q → listed stations ≡ Ok list → AllByRecursion (IsRankedPart query stations) parts
+      → AllByRecursion (λ p. ArePapersOf q list p.0 p.1) parts
+  all-ranked-right query stations q list [] asked lists are = tt
+  all-ranked-right query stations q list (p ∷ ps) asked lists are = (
+    ranked-right query stations q list p asked lists are.0,
+    all-ranked-right query stations q list ps asked lists are.1,
+  )
+
+  -- what is ranked in parts and merged is ranked
+  pub merged-is-ranked : MergedIsRanked
+  merged-is-ranked query stations parts whole merged answer faultless contents ranked is =
+      let said = stations_said stations in
+      let files = all_files parts in
+      let held = said_by said files in
+      let r = faultless.read in
+      let read = said_held query stations files faultless in
+      let bytes : List ℕ = merged.certificate.items in
+      let report = (reports answer.asked held whole.report.items answer.asks.can contents).1
+      ((reports_said answer.asked said files held whole.report.items read).1 answer.right.report) in
+      let same : is.asked ≡ answer.asked =
+      one_value _ _ _ is.read (asks_read query answer.asked answer.asks) in
+      let right = is.right r.list parts held refl
+      (all-ranked-right query stations is.asked r.list parts is.read r.lists ranked) contents
+      (said_read query stations files r.list r.lists faultless) in
+      let begins = begins_as_two is.asked (parts_from is.asked 1 (all_texts parts)) (merged.report.items, bytes)
+      is.merged in
+      let of_two : (h : IsCertificate is.asked held bytes) × (h.version ≡ 2) =
+      (right.1, of_version_two is.asked held bytes begins.0 right.1 begins.1) in
+      let found = subst (λ (q : Asked). (h : IsCertificate q held bytes) × (h.version ≡ 2)) same of_two in (
+        sym (right.0.1 whole.report.items
+            (subst (λ (q : Asked). IsReport q held whole.report.items) (sym same) report)),
+        (certificates_said 2 answer.asked said files held bytes read).0
+            ((certificates 2 answer.asked held bytes answer.asks.can contents).0 found),
+      )

@@ -9,9 +9,8 @@ use Rattle.ghcn_series.proofs.SaidLines.{held-said, listed-said}
 use Rattle.rank_query.specs.Asked.{Asked}
 use Rattle.rank_query.specs.Asks.{Asks}
 use Rattle.rank_query.proofs.Asks.{asks_read}
-use Rattle.rank_papers.specs.Right.{IsRightReport, IsRightCertificate}
 use Rattle.rank_input.specs.Input.{IsReadOf}
-use Rattle.extremes.specs.Judged.{AnswersAreAccepted}
+use Rattle.extremes.specs.Judged.{AreRightTexts, AnswersAreAccepted}
 
 -- a value where there is one
 abbrev value_or : {A E : Type 0} → Result A E → A → A
@@ -36,12 +35,17 @@ one_reading query stations files x y a b =
 pub one_query : (query : List ℕ) (a b : Asked) → Asks query a → Asks query b → a ≡ b
 one_query query a b x y = one_value _ _ _ (asks_read query a x) (asks_read query b y)
 
+-- the data of an input without a fault are those of the stations that its list says
+pub data_is_said : (query stations : List ℕ) (files : List (List ℕ)) (q : Asked) (held : Contents)
+    → IsReadOf query stations files q held → data_of (stations_said stations) files ≡ Ok held
+data_is_said query stations files q held read =
+    subst (λ (list : List Station). data_of list files ≡ Ok held) (listed-said stations read.list read.lists) read.holds
+
 -- an input without a fault holds what its lines say
 pub held_is_said : (query stations : List ℕ) (files : List (List ℕ)) (q : Asked) (held : Contents)
     → IsReadOf query stations files q held → held ≡ said_by (stations_said stations) files
 held_is_said query stations files q held read =
-    held-said read.list files held read.holds
-    ∙ ap (λ (list : List Station). said_by list files) (listed-said stations read.list read.lists)
+    held-said (stations_said stations) files held (data_is_said query stations files q held read)
 
 -- it asks what its text asks, and holds that
 pub one_saying : (query stations : List ℕ) (files : List (List ℕ)) (x : Asked × Contents) (q : Asked)
@@ -54,7 +58,6 @@ one_saying query stations files x q read asks =
 -- so the papers that answer an input are the right ones of what a verdict is about
 pub answers_accepted : AnswersAreAccepted
 answers_accepted query stations files papers v a j =
-    j.accepted.1 (subst (λ (x : Asked × Contents). IsRightReport x.0 x.1 papers.report.items
-    × (version : ℕ) × IsRightCertificate version x.0 x.1 papers.certificate.items)
-    (sym (one_saying query stations files (j.asked, j.held) a.asked j.read a.asks))
+    j.accepted.1 (subst (λ (q : Asked). AreRightTexts q (stations_said stations) files papers.report.items
+    papers.certificate.items) (one_query query a.asked j.asked a.asks j.read.asks)
     (a.right.report, 2, a.right.certificate))

@@ -12,7 +12,7 @@ use Rattle.rank_sched.specs.Plan.{Planned, planned}
 use Rattle.rank_sched.specs.Task.{task_of}
 use Rattle.rank_sched.specs.Laws.{RecordsAloneAreOne}
 use Rattle.rank_papers.specs.Report.{named, report_text}
-use Rattle.rank_papers.specs.Right.{IsRightReport}
+use Rattle.rank_papers.specs.Right.{IsAdmittedSeries, IsRightReport}
 use Rattle.rank_papers.specs.RightLaws.{BestAreOne}
 use Rattle.extremes.proofs.Readings.{one_query, one_saying}
 use Rattle.extremes.specs.Answer.{AreRight, IsOfOneWorker, certificate_of_run, SerialPapersAreOne}
@@ -34,11 +34,12 @@ one_rows stations (x ∷ xs) (y ∷ ys) e f g =
     λ i. (candidate i, other i) ∷ one_rows stations xs ys rest f.1 g.1 i
 
 -- the right report is one text
-one_report : (q : Asked) (c : Contents) (bytes bytes' : List ℕ) → BestAreOne → IsRightReport q c bytes
-    → IsRightReport q c bytes' → bytes ≡ bytes'
-one_report q c bytes bytes' best a b =
+one_report : (q : Asked) (stations : List Station) (files : List (List ℕ)) (bytes bytes' : List ℕ) → BestAreOne
+    → IsRightReport q stations (IsAdmittedSeries q stations files) bytes
+    → IsRightReport q stations (IsAdmittedSeries q stations files) bytes' → bytes ≡ bytes'
+one_report q stations files bytes bytes' best a b =
     a.text ∙ ap (λ (rows : List (Candidate × Station)). report_text q (map named rows))
-    (one_rows c.stations a.rows b.rows (best q c _ _ a.best b.best) a.listed b.listed) ∙ sym b.text
+    (one_rows stations a.rows b.rows ((best q).1 stations files _ _ a.best b.best) a.listed b.listed) ∙ sym b.text
 
 -- the certificate of one worker's run is one text
 one_certificate : (p : Planned) (guess : Option ℤ) (bytes bytes' : List ℕ) → RecordsAloneAreOne
@@ -58,10 +59,11 @@ serial_one best one guess query stations files a b right-a serial-a right-b seri
     let other : IsOfOneWorker (planned q c) guess b.certificate.items =
     subst (λ (x : Asked × Contents). IsOfOneWorker (planned x.0 x.1) guess b.certificate.items)
     (one_saying query stations files (serial-b.asked, serial-b.held) q serial-b.read right-a.asks) serial-b.alone in
-    let right : AreRight q c b =
-    subst (λ (x : Asked). AreRight x c b) (one_query query right-b.asked q right-b.asks right-a.asks) right-b.right in
+    let list : List Station = stations_said stations in
+    let right : AreRight q list files b = subst (λ (x : Asked). AreRight x list files b)
+    (one_query query right-b.asked q right-b.asks right-a.asks) right-b.right in
     record {
-      report = one_report q c a.report.items b.report.items best right-a.right.report right.report;
+      report = one_report q list files a.report.items b.report.items best right-a.right.report right.report;
       certificate = one_certificate (planned q c) guess a.certificate.items b.certificate.items one mine other;
       unlisted = right-a.right.unlisted ∙ sym right.unlisted;
     }

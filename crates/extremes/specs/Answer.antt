@@ -1,6 +1,7 @@
 -- What is answered to an input without a fault.
 use Rattle.std.specs.Prelude.{◌≡◌, ℕ, List, Option, ℤ}
-use Rattle.ghcn_series.specs.Said.{said_by, stations_said}
+use Rattle.ghcn_files.specs.declared.station.Station.{Station}
+use Rattle.ghcn_series.specs.Said.{stations_said, unlisted_said}
 use Rattle.ghcn_series.specs.Series.{Contents}
 use Rattle.rank_query.specs.Asked.{Asked}
 use Rattle.rank_query.specs.Asks.{Asks}
@@ -11,16 +12,23 @@ use Rattle.rank_sched.specs.Hauls.{AreSoundRecords}
 use Rattle.rank_sched.specs.Answers.{best_of_plan, lines_of, AreRecordsAlone}
 use Rattle.rank_papers.specs.Certificate.{certificate_of_best}
 use Rattle.rank_papers.specs.Report.{IsReport}
-use Rattle.rank_papers.specs.Right.{IsRightReport, IsRightCertificate}
+use Rattle.rank_papers.specs.Right.{IsAdmittedSeries, IsRightReport, IsRightCertificate}
+use Rattle.rank_papers.specs.RightLaws.{IsRightReportFor, IsRightCertificateFor}
 use Rattle.rank_papers.specs.PlanPapers.{IsMeasuredCertificate, IsReportOfPlan, IsCertificateOfPlan}
 use Rattle.extremes.specs.declared.papers.Papers.{Papers}
 use Rattle.rank_input.specs.Input.{IsReadOf}
 
--- papers are right for a query and data: the report is the right one, the certificate is a right one of version 2, and
--- the lines of unlisted stations are counted
-pub record AreRight (q : Asked) (c : Contents) (papers : Papers) : Type 0 where
-  pub report : IsRightReport q c papers.report.items
-  pub certificate : IsRightCertificate 2 q c papers.certificate.items
+-- papers are right for a query, a station list and what daily files say: the report is the right one, the certificate is
+-- a right one of version 2, and the lines of unlisted stations are counted
+pub record AreRight (q : Asked) (stations : List Station) (files : List (List ℕ)) (papers : Papers) : Type 0 where
+  pub report : IsRightReport q stations (IsAdmittedSeries q stations files) papers.report.items
+  pub certificate : IsRightCertificate 2 q (IsAdmittedSeries q stations files) papers.certificate.items
+  pub unlisted : papers.unlisted ≡ unlisted_said stations files
+
+-- so they are for a query and data
+pub record AreRightFor (q : Asked) (c : Contents) (papers : Papers) : Type 0 where
+  pub report : IsRightReportFor q c papers.report.items
+  pub certificate : IsRightCertificateFor 2 q c papers.certificate.items
   pub unlisted : papers.unlisted ≡ c.unlisted
 
 -- the papers of a query and data: the right report, a right certificate whose bounds are those of the series, and how
@@ -40,7 +48,7 @@ pub record ArePapersOfPlan (p : Planned) (passed_over : ℕ) (papers : Papers) :
 pub record Answers (query stations : List ℕ) (files : List (List ℕ)) (papers : Papers) : Type 0 where
   pub asked : Asked
   pub asks : Asks query asked
-  pub right : AreRight asked (said_by (stations_said stations) files) papers
+  pub right : AreRight asked (stations_said stations) files papers
 
 -- the input has no fault
 pub record IsFaultless (query stations : List ℕ) (files : List (List ℕ)) : Type 0 where

@@ -1,8 +1,10 @@
 -- What is answered to papers on an input without a fault.
 use Rattle.std.specs.Prelude.{◌≡◌, ◌↔◌, ℕ, List}
+use Rattle.ghcn_files.specs.declared.station.Station.{Station}
+use Rattle.ghcn_series.specs.Said.{stations_said}
 use Rattle.ghcn_series.specs.Series.{Contents}
 use Rattle.rank_query.specs.Asked.{Asked}
-use Rattle.rank_papers.specs.Right.{IsRightReport, IsRightCertificate}
+use Rattle.rank_papers.specs.Right.{IsAdmittedSeries, IsRightReport, IsRightCertificate}
 use Rattle.rank_check.specs.declared.verdict.Verdict.{Verdict}
 use Rattle.rank_check.specs.declared.verdict.Verdict.TheVariants.{Accepted}
 use Rattle.rank_check.specs.Tests.{verdict}
@@ -12,6 +14,13 @@ use Rattle.extremes.specs.declared.papers.Papers.{Papers}
 use Rattle.rank_input.specs.Input.{IsReadOf}
 use Rattle.extremes.specs.Answer.{Answers}
 
+-- a report is the right one, and a certificate a right one of some version, for a query, a station list and what daily
+-- files say
+abbrev pub AreRightTexts : Asked → List Station → List (List ℕ) → List ℕ → List ℕ → Type 0
+AreRightTexts q stations files report certificate =
+    IsRightReport q stations (IsAdmittedSeries q stations files) report
+    × (version : ℕ) × IsRightCertificate version q (IsAdmittedSeries q stations files) certificate
+
 -- the verdict is that on the papers for what the input asks and holds: accepted exactly where the report is the right
 -- one and the certificate a right one
 pub record IsJudged (query stations : List ℕ) (files : List (List ℕ)) (report certificate : List ℕ)
@@ -20,8 +29,7 @@ pub record IsJudged (query stations : List ℕ) (files : List (List ℕ)) (repor
   pub held : Contents
   pub read : IsReadOf query stations files asked held
   pub verdict : v ≡ verdict asked held report certificate
-  pub accepted : (v ≡ Accepted)
-      ↔ (IsRightReport asked held report × (version : ℕ) × IsRightCertificate version asked held certificate)
+  pub accepted : (v ≡ Accepted) ↔ AreRightTexts asked (stations_said stations) files report certificate
 
 -- the verdict is that of a part on the papers, for what the input asks and holds
 pub record IsJudgedByPart (query stations : List ℕ) (files : List (List ℕ)) (report certificate : List ℕ)

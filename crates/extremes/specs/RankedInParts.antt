@@ -4,14 +4,14 @@ use Rattle.std.specs.List.{AllByRecursion}
 use Rattle.ghcn_series.specs.Held.{IsContents}
 use Rattle.ghcn_series.specs.Said.{said_by, stations_said}
 use Rattle.rank_scores.specs.Cut.{Filed}
-use Rattle.rank_papers.specs.Certificate.{IsCertificate}
+use Rattle.rank_papers.specs.Right.{IsAdmittedSeries, IsRightCertificate}
 use Rattle.rank_merge.specs.Laws.{all_files, all_texts}
 use Rattle.extremes.specs.declared.papers.Papers.{Papers}
 use Rattle.extremes.specs.Answer.{Answers, IsFaultless}
 use Rattle.extremes.specs.Merges.{AreMerged}
 
--- the papers of a part are those that a ranking answers to its files; what the files hold is as all data that were
--- read
+-- the papers of a part are those that a ranking answers to its files, and the data that these hold are such as reading
+-- answers
 pub record IsRankedPart (query stations : List ℕ) (p : Filed) : Type 0 where
   pub papers : Papers
   pub answer : Answers query stations p.0 papers
@@ -27,4 +27,5 @@ MergedIsRanked = (query stations : List ℕ) (parts : List Filed) (whole merged 
     → IsContents (said_by (stations_said stations) (all_files parts))
     → AllByRecursion (IsRankedPart query stations) parts → AreMerged query (all_texts parts) merged
     → (merged.report.items ≡ whole.report.items)
-    × IsCertificate answer.asked (said_by (stations_said stations) (all_files parts)) merged.certificate.items
+    × IsRightCertificate 2 answer.asked (IsAdmittedSeries answer.asked (stations_said stations) (all_files parts))
+    merged.certificate.items

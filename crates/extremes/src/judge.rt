@@ -4,7 +4,7 @@ ghost use Rattle.std.specs.Prelude.{◌≡◌, ◌↔◌, ℕ, IfOk, IfErr, map}
 ghost use Rattle.extremes.specs.Ending.{ending_of};
 ghost use Rattle.ghcn_fields.specs.Refusals.{IsRefusal};
 ghost use Rattle.rank_check.specs.Tests as tests;
-ghost use Rattle.rank_papers.specs.Right.{IsRightReport, IsRightCertificate};
+ghost use Rattle.rank_papers.specs.RightLaws.{IsRightReportFor, IsRightCertificateFor};
 ghost use Rattle.rank_input.specs.Input.{read_input, is_memory};
 ghost use Rattle.extremes.specs.Judged.{IsJudged, IsJudgedByPart};
 ghost use Rattle.extremes.specs.JudgedInParts.{PartsJudgeTheWhole};
@@ -18,7 +18,7 @@ use ghcn_fields::Memory;
 use ghcn_series::{Data, Foreign};
 use rank_check::{Verdict, check, verdict_of_one_element};
 use rank_input::{Fault, Intake};
-use rank_papers::{papers_are_found, papers_of_one_element};
+use rank_papers::{papers_are_found, papers_are_said, papers_of_one_element};
 use rank_parts::{PartVerdict, check_part, part_verdict_of_one_element};
 use rank_query::Query;
 use std::alloc::Global;
@@ -108,6 +108,7 @@ pub fn judge_intake(
 {
     let taken = intake.finish()?;
     papers_of_one_element();
+    papers_are_said();
     verdict_of_one_element();
     let verdict = judge_held(alloc, &taken.held, &taken.query, report, certificate)?;
     Ok((verdict, taken.foreign))
@@ -124,8 +125,8 @@ fn judge_held(
     ensures verdict { IfOk result (λ found.
         found ≡ tests.verdict query.now held.now report.now certificate.now) }
     ensures accepted { IfOk result (λ found. (found ≡ Verdict.Accepted)
-        ↔ (IsRightReport query.now held.now report.now
-        × (version : ℕ) × IsRightCertificate version query.now held.now certificate.now)) }
+        ↔ (IsRightReportFor query.now held.now report.now
+        × (version : ℕ) × IsRightCertificateFor version query.now held.now certificate.now)) }
 {
     papers_are_found();
     let (_stations, _k) = (held.stations(), query.k());

@@ -4,7 +4,7 @@ ghost use Rattle.extremes.specs.Judged.{AnswersAreAccepted};
 ghost use Rattle.extremes.specs.JudgedInParts.{PartsJudgeTheWhole};
 ghost use Rattle.extremes.specs.RankedInParts.{MergedIsRanked};
 
-use rank_papers::papers_are_found;
+use rank_papers::{papers_are_found, papers_are_said};
 use rank_parts::parts_make_the_whole;
 use rank_query::queries_have_texts;
 
@@ -20,6 +20,7 @@ pub fn merged_is_ranked()
     ensures { MergedIsRanked }
 {
     papers_are_found();
+    papers_are_said();
 }
 
 /// Papers that the files of each part accept are right for the files of all parts, one part after the

@@ -2,7 +2,7 @@
 
 ghost use Rattle.std.specs.Prelude.{◌≡◌, ◌<◌, true, Err, IfOk, IfErr, map};
 ghost use Rattle.ghcn_series.specs.Held.{IsContents};
-ghost use Rattle.extremes.specs.Answer.{Answers, ArePapersOfPlan, AreRight, IsCrewed, IsFaultless};
+ghost use Rattle.extremes.specs.Answer.{Answers, ArePapersOfPlan, AreRightFor, IsCrewed, IsFaultless};
 ghost use Rattle.extremes.specs.Answer.{IsOfCrew, IsOfOneWorker, IsSerial, SerialPapersAreOne};
 ghost use Rattle.rank_papers.specs.Certificate.{certificate_of_best};
 ghost use Rattle.rank_papers.specs.PlanPapers.{IsMeasuredCertificate};
@@ -18,7 +18,7 @@ use ghcn_fields::Memory;
 use ghcn_series::{Data, Foreign};
 use rank_crew::{Gate, crew, survey};
 use rank_input::{Fault, Intake, TakenInput, check_words};
-use rank_papers::{certificate, papers_are_found, papers_of_one_element, report};
+use rank_papers::{certificate, papers_are_found, papers_are_said, papers_of_one_element, report};
 use rank_query::Query;
 use rank_sched::{Answer, Plan, ends_are_sound, run_alone, runs_are_sound};
 use rank_scores::one_element_is_enough;
@@ -62,7 +62,7 @@ pub fn rank<R: Threads + Wait + AllocGlobal + Sync, G: Gate + Sync>(
 #[derive(Drop)]
 pub struct Ranked {
     pub answer: Result<Papers, Fault>,
-    /// Which of the files are foreign. None is where there was a fault.
+    /// Which of the files are foreign: none where there was a fault.
     pub foreign: Foreign,
     /// Nothing where there was a fault in what was given. To free many series takes a while, so a
     /// caller may use the answer first.
@@ -95,6 +95,7 @@ pub fn rank_intake<R: Threads + Wait + AllocGlobal + Sync, G: Gate + Sync>(
             },
         ) => {
             papers_of_one_element();
+            papers_are_said();
             one_element_is_enough();
             let answer = ranked_by_crew(rt, &held, &query, workers, guess, gate);
             Ranked {
@@ -144,6 +145,7 @@ pub fn rank_serial(
     let intake = Intake::of_files(alloc, query, stations, files);
     let taken = intake.finish()?;
     papers_of_one_element();
+    papers_are_said();
     one_element_is_enough();
     Ok(ranked_alone(alloc, &taken.held, &taken.query, guess)?)
 }
@@ -166,7 +168,7 @@ fn ranked_alone(
 ) -> Result<Papers, Memory>
     requires guess { is_guess guess ≡ true }
     requires contents { IsContents held.now }
-    ensures right { IfOk result (AreRight query.now held.now) }
+    ensures right { IfOk result (AreRightFor query.now held.now) }
     ensures bounds { IfOk result (λ papers. IsMeasuredCertificate query.now held.now papers.certificate.items) }
     ensures alone { IfOk result (λ papers.
         IsOfOneWorker (planned query.now held.now) guess papers.certificate.items) }
@@ -189,7 +191,7 @@ fn ranked_by_crew<R: Threads + Wait + AllocGlobal + Sync, G: Gate + Sync>(
     requires crew { is_crew workers ≡ true }
     requires guess { is_guess guess ≡ true }
     requires contents { IsContents held.now }
-    ensures ok { IfOk result (AreRight query.now held.now) }
+    ensures ok { IfOk result (AreRightFor query.now held.now) }
     ensures crew { IfOk result (λ papers. IsMeasuredCertificate query.now held.now papers.certificate.items
         × IsOfCrew (planned query.now held.now) guess workers papers.certificate.items) }
     ensures err { IfErr result (λ fault. is_memory fault ≡ true) }

@@ -166,6 +166,7 @@ other-line false (Some x) line is =
     ] is
 
 module _ (stations : List Station) (keep : Keep) (ls : List FileLine) (l : FileLine) where
+  -- the lines and one more
   abbrev after : List FileLine
   after = ls ++ l ∷ []
 

@@ -336,6 +336,7 @@ some-is [] = refl
 some-is (x ∷ xs) = sym (ap not (not_zero (length xs)))
 
 module _ (stations : List Station) (ls : List FileLine) (l : FileLine) (m : Month) (is : month_on l ≡ Some m) where
+  -- the lines and one more
   abbrev after : List FileLine
   after = ls ++ l ∷ []
 

@@ -161,9 +161,11 @@ further-more ks ls l =
 -- ---- one more line
 
 module _ (ls : List FileLine) (l : FileLine) (other : is_other l ≡ true) where
+  -- the code of the one more
   abbrev code : List ℕ
   code = code_on l
 
+  -- the lines and one more
   abbrev after : List FileLine
   after = ls ++ l ∷ []
 

@@ -104,10 +104,11 @@ sum_below-same f g zero each = refl
 sum_below-same f g (suc n) each =
     omega (arith, sum_below-same f g n (λ x below. each x (omega arith)), each n (omega arith))
 
--- once a number is that number, and no times is none
+-- once a number is that number
 once_of : (a m : ℕ) → a ≡ 1 → a * m ≡ m
 once_of a m e = ap (λ (x : ℕ). x * m) e ∙ omega arith
 
+-- and no times a number is none
 never_of : (a m : ℕ) → a ≡ 0 → a * m ≡ 0
 never_of a m e = ap (λ (x : ℕ). x * m) e ∙ omega arith
 

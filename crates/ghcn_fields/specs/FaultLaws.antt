@@ -50,6 +50,7 @@ module _ {L W : Type 0} (fault : List L → L → Option W) where
   pub no_fault-nil : HaveNoFault fault []
   no_fault-nil = at_all_splits [] tt
 
+  -- one more without a fault, after some without
   one_more : (earlier before : List L) (l : L) → NoneAfter earlier before → fault (earlier ++ before) l ≡ None
       → NoneAfter earlier (before ++ l ∷ [])
   one_more earlier [] l all none = (ap (λ (ls : List L). fault ls l) (sym (append-nil earlier)) ∙ none, tt)
@@ -64,6 +65,7 @@ module _ {L W : Type 0} (fault : List L → L → Option W) where
       → HaveNoFault fault (before ++ l ∷ [])
   no_fault-more before l all none = at_all_splits (before ++ l ∷ []) (one_more [] before l (in_turn before all) none)
 
+  -- nothing is found among lines without a fault, whatever is before them
   nothing_found : (earlier ls : List L) → NoneAfter earlier ls → first_fault_after fault earlier ls ≡ None
   nothing_found earlier [] none = refl
   nothing_found earlier (x ∷ xs) none =
@@ -75,6 +77,7 @@ module _ {L W : Type 0} (fault : List L → L → Option W) where
   pub first_fault-none : (ls : List L) → HaveNoFault fault ls → first_fault fault ls ≡ None
   first_fault-none ls none = nothing_found [] ls (in_turn ls none)
 
+  -- the line with this fault stands among these, and none before it has one
   abbrev Found : List L → List L → L → W → Type 0
   Found earlier ls l w = (before : List L) × (behind : List L) × (ls ≡ before ++ l ∷ behind)
       × (fault (earlier ++ before) l ≡ Some w) × NoneAfter earlier before

@@ -39,7 +39,7 @@ abbrev pub with_sign : Bool → ℕ → ℤ
 with_sign true n = neg_ℤ (pos n)
 with_sign false n = pos n
 
--- what such a reader reads behind an optional minus
+-- what a reader of digits reads behind an optional minus
 abbrev pub signed_by : (List ℕ → Option ℕ) → List ℕ → Option ℤ
 signed_by read [] = None
 signed_by read (b ∷ bytes) =

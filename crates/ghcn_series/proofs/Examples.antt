@@ -19,7 +19,9 @@ use Rattle.ghcn_series.specs.declared.fault.DataFault.{DataFault}
 use Rattle.ghcn_series.specs.Series.{DayValue, Usable, Contents, value_on, series_of}
 use Rattle.ghcn_series.specs.DailyFaults.{FileLine, file_lines, daily_lines, daily_fault}
 use Rattle.ghcn_series.specs.Says.{in_64_bits, contents, contents_unless, data_of}
+use Rattle.ghcn_series.specs.Said.{facts_said, unlisted_said, IsMadeOf}
 use Rattle.ghcn_series.specs.Kept.{kept}
+use Rattle.ghcn_series.proofs.SaidSeries.{series_said}
 use Rattle.ghcn_series.specs.Fed.{Files, nothing_fed, more, with_end, files_of}
 
 -- ---- lines and stations
@@ -130,6 +132,23 @@ unlisted_lines : data_of both (text (warm (codes "ZZA00000009202007TMAX") ∷ wa
     ≡ Ok (record { stations = both; series = series alpha Tmax ((pos 18444, pos 311) ∷ []) ∷ []; unlisted = 2 })
 unfolding days_of_group days_from_civil day_count days_of_years days_of_months
 unlisted_lines = refl
+
+-- a line of a listed station and one of another
+abbrev rainy : List (List ℕ)
+rainy = text (line (codes "ZZA00000001202007PRCP") (codes "   -5   " ++ codes "    5   ")
+    ∷ warm (codes "ZZA00000009202007TMAX") ∷ []) ∷ []
+
+-- the facts that count of what they say, and how many lines are of a station that isn't listed
+facts_that_count : (facts_said both rainy
+    ≡ record { id = alpha.id; element = Prcp; day = pos 18445; value = pos 5 } ∷ []) × (unlisted_said both rainy ≡ 1)
+unfolding days_of_group days_from_civil day_count days_of_years days_of_months
+facts_that_count = (refl, refl)
+
+-- the series that is made of the facts of two lines has their days in order
+made_of_two : IsMadeOf (facts_said both mixed) (series alpha Tmin ((pos 18444, neg_ℤ (pos 5)) ∷ (pos 18475, pos 3) ∷ []))
+made_of_two =
+    (series_said both mixed _ in_order (series alpha Tmin ((pos 18444, neg_ℤ (pos 5)) ∷ (pos 18475, pos 3) ∷ [])) refl).0
+    refl
 
 -- their number ends at the greatest one of 64 bits
 many_lines : (in_64_bits 2 ≡ 2) × (in_64_bits (2 ^ 64 - 1) ≡ 2 ^ 64 - 1) × (in_64_bits (2 ^ 64) ≡ 2 ^ 64 - 1)

@@ -118,7 +118,7 @@ module _ (facts : List Fact) where
         ∙ ap (λ (b : Bool). same_id s.id id || b) (listed_said ss)
 
     -- the series of a listed station and an element, if it has a day
-    series_found : (ss : List Station) → is_listed ss id ≡ true
+    pub series_found : (ss : List Station) → is_listed ss id ≡ true
         → find (is_series_of id e) (all_series ss facts) ≡ if_it_has_days series_made
     series_found ss listed =
         elim (length series_made.days == 0) as (λ b. (length series_made.days == 0) ≡ b

@@ -37,4 +37,7 @@ pub mod JoinedLists
 pub mod JoinedFiles
 pub mod SaidLines
 pub mod FoundSeries
+pub mod Members
 pub mod JoinedSeries
+pub mod SaidMonths
+pub mod SaidSeries

@@ -1,6 +1,6 @@
 -- Where no line has a fault, a station list and daily files hold what their lines say.
 use Rattle.std.proofs.Common.{◌≡◌, ℕ, ◌+◌, Bool, true, false, cond, not, List, [], ◌∷◌, ◌++◌, map, filter, length}
-use Rattle.std.proofs.Common.{Option, None, Some, Ok, Err, refl, sym, ap, ◌∙◌, subst}
+use Rattle.std.proofs.Common.{Option, None, Some, Ok, Err, refl, sym, ap, ◌∙◌}
 use Rattle.std.specs.Prelude.{nat_lt, nat_le, ◌^◌}
 use Rattle.std.specs.List.{filter_map, flat_map, cons_option, enumerate_from, count_by}
 use Rattle.std.specs.Option.{option_or, option_map, is_some}
@@ -21,8 +21,8 @@ use Rattle.ghcn_series.specs.declared.fault.DataFault.{DataFault}
 use Rattle.ghcn_series.specs.declared.fault.DataFault.TheVariants.{DailyLine, TooManyFiles}
 use Rattle.ghcn_series.specs.DailyFaults.{FileLine, line_of, not_blank, file_lines, daily_lines, month_on, month_if_ok}
 use Rattle.ghcn_series.specs.DailyFaults.{daily_fault, daily_why, is_listed}
-use Rattle.ghcn_series.specs.Said.{stations_said, month_said, months_said, facts_said, said_by}
-use Rattle.ghcn_series.specs.Says.{contents, contents_unless, data_of, all_series, in_64_bits}
+use Rattle.ghcn_series.specs.Said.{stations_said, month_said, months_said, said_by}
+use Rattle.ghcn_series.specs.Says.{contents, contents_unless, data_of, all_series, facts_of, in_64_bits, is_usable}
 use Rattle.ghcn_series.specs.Series.{Contents}
 use Rattle.ghcn_series.proofs.CountedLines.{blank_line}
 use Rattle.ghcn_series.proofs.JoinedFiles.{data-held}
@@ -63,12 +63,12 @@ blank_said line blank = no_month (element_of (columns 18 21 line)) line (blank_l
 -- ---- the lines of files
 
 -- neither this one nor the others
-neither : {A : Type 0} (a b : Option A) → option_or a b ≡ None → (a ≡ None) × (b ≡ None)
+pub neither : {A : Type 0} (a b : Option A) → option_or a b ≡ None → (a ≡ None) × (b ≡ None)
 neither None b e = (refl, e)
 neither (Some x) b e = absurd cc
 
 -- nothing comes of nothing
-nothing_of : {A B : Type 0} (f : A → B) (o : Option A) → option_map f o ≡ None → o ≡ None
+pub nothing_of : {A B : Type 0} (f : A → B) (o : Option A) → option_map f o ≡ None → o ≡ None
 nothing_of f None e = refl
 nothing_of f (Some x) e = absurd cc
 
@@ -111,7 +111,7 @@ files_said n (file ∷ files) =
 abbrev of_months : List Station → List Month → Contents
 of_months stations months = record {
   stations = stations;
-  series = all_series stations (facts_said stations months);
+  series = all_series stations (filter (is_usable stations) (flat_map facts_of months));
   unlisted = in_64_bits (count_by (λ m. not (is_listed stations m.id)) months);
 }
 
@@ -126,16 +126,25 @@ none_of_few : (b : Bool) (o : Option (FileLine × DataFault)) (c d : Contents)
 none_of_few true o c d e = no_fault_found o c d e
 none_of_few false o c d e = absurd cc
 
+-- files that hold something have no line with a fault
+pub no_fault : (stations : List Station) (files : List (List ℕ)) (held : Contents) → data_of stations files ≡ Ok held
+    → first_fault (daily_fault stations) (daily_lines files) ≡ None
+no_fault stations files held is =
+    none_of_few (nat_le (length files) (2 ^ 20)) (first_fault (daily_fault stations) (daily_lines files))
+    (contents stations (daily_lines files)) held is
+
+-- where no line has a fault, the months that are read are those that the files say
+pub months-are : (stations : List Station) (files : List (List ℕ))
+    → first_fault (daily_fault stations) (daily_lines files) ≡ None
+    → filter_map month_on (daily_lines files) ≡ months_said files
+months-are stations files none = lines_said stations [] (daily_lines files) none ∙ files_said 1 files
+
 -- files without a fault hold what they say
 pub held-said : (stations : List Station) (files : List (List ℕ)) (held : Contents)
     → data_of stations files ≡ Ok held → held ≡ said_by stations files
 held-said stations files held is =
-    let ls = daily_lines files in
-    let none : first_fault (daily_fault stations) ls ≡ None =
-    none_of_few (nat_le (length files) (2 ^ 20)) (first_fault (daily_fault stations) ls) (contents stations ls) held
-    is in
     sym (data-held stations files held is)
-    ∙ ap (of_months stations) (lines_said stations [] ls none ∙ files_said 1 files)
+    ∙ ap (of_months stations) (months-are stations files (no_fault stations files held is))
 
 -- ---- the stations
 

@@ -112,7 +112,7 @@ lookup-sorted q (x ∷ xs) distinct =
     ∙ ap (λ (o : Option ℤ). cond (int_eq q x.0) (Some x.1) o) (lookup-sorted q xs distinct.1)
 
 -- a day is looked up among pairs as it is in a map
-lookup-is : (q : ℤ) (xs : List DayValue) → lookup (int_eq q) xs ≡ value_on xs q
+pub lookup-is : (q : ℤ) (xs : List DayValue) → lookup (int_eq q) xs ≡ value_on xs q
 lookup-is q [] = refl
 lookup-is q (x ∷ xs) =
     elim (int_eq q x.0) as (λ b. cond b (Some x.1) (lookup (int_eq q) xs) ≡ option_map (λ (y : DayValue). y.1)

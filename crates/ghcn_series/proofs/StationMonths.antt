@@ -71,7 +71,7 @@ months_of-other before m id e other =
     (append-nil (months_of before id e))
 
 -- and one more of its own
-months_of-this : (before : List Month) (m : Month) (id : StationId) (e : Element)
+pub months_of-this : (before : List Month) (m : Month) (id : StationId) (e : Element)
     → (same_id m.id id && same_element m.element e) ≡ true → months_of (before ++ m ∷ []) id e ≡ months_of before id e
     ++ m ∷ []
 months_of-this before m id e this =

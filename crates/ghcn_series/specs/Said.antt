@@ -1,8 +1,10 @@
--- What a station list and daily files say. Where a line has a fault, it has no meaning, and its words are read as they
--- stand.
-use Rattle.std.specs.Prelude.{ℕ, not, List, map, filter, Option}
-use Rattle.std.specs.List.{filter_map, flat_map, count_by}
+-- What a station list and daily files say, defined for any lines. What they say of a line with a fault, where a bad
+-- number counts as 0 or as missing, matters to nobody: that no line has one is promised apart.
+use Rattle.std.specs.Prelude.{◌↔◌, ◌<◌, ℕ, not, List, length, map, filter, Option, ℤ}
+use Rattle.std.specs.List.{Contains, filter_map, flat_map, count_by}
+use Rattle.std.specs.List.Sorted.{IsStrictlySortedBy}
 use Rattle.std.specs.Option.{option_map}
+use Rattle.std.specs.Ordering.{int_cmp}
 use Rattle.ghcn_fields.specs.Bytes.{is_blank}
 use Rattle.ghcn_fields.specs.Lines.{columns, lines}
 use Rattle.ghcn_files.specs.declared.month.Month.{Month}
@@ -12,7 +14,7 @@ use Rattle.ghcn_files.specs.Months.{month_of}
 use Rattle.ghcn_files.specs.StationLines.{station_of}
 use Rattle.ghcn_series.specs.DailyFaults.{is_listed}
 use Rattle.ghcn_series.specs.Says.{Fact, facts_of, is_usable, all_series, in_64_bits}
-use Rattle.ghcn_series.specs.Series.{Contents}
+use Rattle.ghcn_series.specs.Series.{Usable, Contents}
 
 -- the stations that a list says, in its order: one on each line that isn't blank
 abbrev pub stations_said : List ℕ → List Station
@@ -26,14 +28,26 @@ month_said line = option_map (λ e. month_of e line) (element_of (columns 18 21 
 abbrev pub months_said : List (List ℕ) → List Month
 months_said files = filter_map month_said (flat_map lines files)
 
--- the facts that count of what months say
-abbrev pub facts_said : List Station → List Month → List Fact
-facts_said stations months = filter (is_usable stations) (flat_map facts_of months)
+-- the facts of daily files that count, where these stations are listed
+abbrev pub facts_said : List Station → List (List ℕ) → List Fact
+facts_said stations files = filter (is_usable stations) (flat_map facts_of (months_said files))
+
+-- how many lines of the five elements are of stations that aren't listed, up to 2^64 - 1
+abbrev pub unlisted_said : List Station → List (List ℕ) → ℕ
+unlisted_said stations files = in_64_bits (count_by (λ m. not (is_listed stations m.id)) (months_said files))
+
+-- a series is made of facts: it has a day, its days and values are those of the facts of its station and element, in
+-- order of day, each day once
+pub record IsMadeOf (facts : List Fact) (s : Usable) : Type 0 where
+  pub some : 0 < length s.days
+  pub are : (day value : ℤ) → Contains s.days (day, value)
+      ↔ Contains facts (record { id = s.id; element = s.element; day = day; value = value })
+  pub by_day : IsStrictlySortedBy int_cmp (map (λ x. x.0) s.days)
 
 -- what daily files say of stations, and how many months of other stations
 abbrev pub said_by : List Station → List (List ℕ) → Contents
 said_by stations files = record {
   stations = stations;
-  series = all_series stations (facts_said stations (months_said files));
-  unlisted = in_64_bits (count_by (λ m. not (is_listed stations m.id)) (months_said files));
+  series = all_series stations (facts_said stations files);
+  unlisted = unlisted_said stations files;
 }

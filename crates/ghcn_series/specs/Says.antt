@@ -24,7 +24,7 @@ pub record Fact : Type 0 where
   pub day : ℤ
   pub value : ℤ
 
--- what a month says on its day j
+-- what a month says on a day: nothing where the value is flagged, or where there is no such day or no value
 abbrev pub fact_if : Month → Bool → Option ℤ → Option ℤ → Option Fact
 fact_if m false (Some day) (Some v) = Some (record { id = m.id; element = m.element; day = day; value = v })
 fact_if m flagged day v = None

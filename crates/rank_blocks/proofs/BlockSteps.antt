@@ -1,19 +1,17 @@
 -- One more summary of a list, as a loop comes to it.
-use Rattle.rank_blocks.proofs.Cited.{◌≡◌, ℕ, zero, suc, ◌+◌, ◌-◌, ◌*◌, ◌<◌, ◌≤◌, Bool, true, false, cond, List, [], ◌∷◌}
-use Rattle.rank_blocks.proofs.Cited.{◌++◌, map, length, take, drop, Option, Some, refl, sym, ap, ◌∙◌, subst, arith}
-use Rattle.rank_blocks.proofs.Cited.{rules, ℤ, pos, neg_ℤ, ◌≤ℤ◌, ◌<ℤ◌, ◌+ℤ◌, to_z, of_z, w64, int_le, All, int_cmp}
-use Rattle.rank_blocks.proofs.Cited.{int_eq, append-nil, int_max, list_any, IsStrictlySortedBy, Decides-int_eq, ints}
-use Rattle.rank_blocks.proofs.Cited.{clamps, map-append, drop_more, take_all, length-drop, All-from_recursion}
-use Rattle.rank_blocks.proofs.Cited.{All-get_or, All-more, All-weaker, All-contains, filter_more, greatest, BlockRange}
-use Rattle.rank_blocks.proofs.Cited.{Summary, is_among, IsGreatest, IsNear, IsTotalFrom, in_range, summaries_in}
-use Rattle.rank_blocks.proofs.Cited.{summaries_total, ArePossible}
-use Rattle.rank_blocks.proofs.Members.{from_each, any_in, any_of, total-wider, total-cons}
-use Rattle.rank_blocks.proofs.DayValues.{not_both, between, pass_both, int_le-true, le-int_le, distance}
+use Rattle.rank_blocks.proofs.Cited.{◌≡◌, ℕ, zero, suc, ◌+◌, ◌-◌, ◌*◌, ◌<◌, ◌≤◌, true, false, List, [], ◌∷◌, ◌++◌, map}
+use Rattle.rank_blocks.proofs.Cited.{length, take, drop, Option, Some, refl, sym, ap, subst, arith, rules, ℤ, pos}
+use Rattle.rank_blocks.proofs.Cited.{neg_ℤ, ◌≤ℤ◌, ◌<ℤ◌, ◌+ℤ◌, to_z, of_z, w64, int_le, All, int_cmp, int_eq, append-nil}
+use Rattle.rank_blocks.proofs.Cited.{int_max, list_any, IsStrictlySortedBy, Decides-int_eq, ints, clamps, map-append}
+use Rattle.rank_blocks.proofs.Cited.{drop_more, take_all, length-drop, All-from_recursion, All-get_or, All-more}
+use Rattle.rank_blocks.proofs.Cited.{All-weaker, All-contains, filter_more, greatest, BlockRange, Summary, is_among}
+use Rattle.rank_blocks.proofs.Cited.{IsGreatest, IsNear, IsTotalFrom, in_range, summaries_in, summaries_total}
+use Rattle.rank_blocks.proofs.Cited.{ArePossible, from_each, cases_Bool, inl, inr, AllByRecursion}
+use Rattle.rank_blocks.proofs.Members.{any_in, any_of, total-wider, total-cons}
+use Rattle.rank_blocks.proofs.DaysInBlocks.{distance}
 use Rattle.rank_blocks.proofs.PossibleBlocks.{no_block, block_at, sorted-behind, sorted-tail, possible-at}
-use Rattle.rank_blocks.proofs.PossibleBlocks.{possible-drop}
+use Rattle.rank_blocks.proofs.PossibleBlocks.{possible-drop, AreBehind, AreFalls}
 use Rattle.rank_blocks.proofs.ValueSteps.{max-one}
-use Rattle.rank_blocks.proofs.WindowTotals.{AreBehind, AreFalls, among-parts, among-from, before-among, total-out}
-use Rattle.rank_blocks.proofs.WindowTotals.{total-behind}
 
 -- what is left from a place on is the summary there and what is left behind it
 pub left-at : (ms : List Summary) (i : ℕ) → i < length ms → drop i ms ≡ block_at ms i ∷ drop (i + 1) ms
@@ -35,31 +33,33 @@ abbrev pub made : (Summary → ℤ) → BlockRange → List Summary → ℕ → 
 made f r ms i = map f (summaries_in r (take i ms))
 
 module _ (f : Summary → ℤ) (r : BlockRange) (ms : List Summary) (i : ℕ) (lt : i < length ms) where
-  -- with the summary at the place, as its block lies in the range or doesn't
-  made-next : (b : Bool) → in_range r (block_at ms i).number ≡ b
-      → made f r ms (i + 1) ≡ map f (summaries_in r (take i ms) ++ cond b (block_at ms i ∷ []) [])
-  made-next b is =
-      ap (map f) (filter_more (λ m. in_range r m.number) ms i no_block lt
-      ∙ ap (λ (b : Bool). summaries_in r (take i ms) ++ cond b (block_at ms i ∷ []) []) is)
-
   -- the greatest with a summary of the range
   pub greatest-in : (found : Option ℤ) (z next : ℤ) → in_range r (block_at ms i).number ≡ true
       → greatest (made f r ms i) ≡ found
       → f (block_at ms i) ≡ z → ((zs : List ℤ) → greatest zs ≡ found → greatest (zs ++ z ∷ []) ≡ Some next)
       → greatest (made f r ms (i + 1)) ≡ Some next
   greatest-in found z next holds so_far is greater =
-      grind (arith, ints, made-next true holds, map-append f (summaries_in r (take i ms)) (block_at ms i ∷ []))
+      let more = filter_more (λ m. in_range r m.number) ms i no_block lt in
+      grind (arith, ints, more, map-append f (summaries_in r (take i ms)) (block_at ms i ∷ []))
 
   -- with another one
   pub greatest-out : in_range r (block_at ms i).number ≡ false → greatest (made f r ms (i + 1)) ≡ greatest
       (made f r ms i)
-  greatest-out out = ap greatest (made-next false out ∙ ap (map f) (append-nil (summaries_in r (take i ms))))
+  greatest-out out =
+      let more = filter_more (λ m. in_range r m.number) ms i no_block lt in
+      grind (arith, ints, more, append-nil (summaries_in r (take i ms)))
 
 -- a score that days can have is read as it was written
 pub near-read : (z : ℤ) → IsNear z → to_z w64 (of_z w64 z) ≡ z
 near-read z near = grind (arith, ints)
 
 -- ---- totals
+
+-- where all blocks stand behind a window, its total is zero
+total-behind : (ms : List Summary) (w : ℕ) (first : ℤ) → AllByRecursion (λ m. (first +ℤ pos w) ≤ℤ m.number) ms
+    → summaries_total ms w first ≡ pos 0
+total-behind [] w first h = refl
+total-behind (m ∷ ms) w first h = grind (arith, ints, total-behind ms w first h.1)
 
 -- a sum is that of the blocks of a window before a place of the summaries
 pub record IsSumTo (ms : List Summary) (w : ℕ) (first : ℤ) (i : ℕ) (sum : ℤ) : Type 0 where
@@ -86,17 +86,13 @@ module _ (ms : List Summary) (possible : ArePossible ms) (w : ℕ) (first : ℤ)
   -- another block isn't
   pub sum-out : (next : ℤ) → next ≡ sum → is_among first w (block_at ms i).number ≡ false
       → IsSumTo ms w first (i + 1) next
-  sum-out next is out = grind (arith, ints, left-total, total-out)
+  sum-out next is out = grind (arith, ints, left-total)
 
   -- behind the window nothing is left to add up
   pub sum-past : int_le (first +ℤ pos w) (block_at ms i).number ≡ true → sum ≡ summaries_total ms w first
   sum-past test =
-      let past = int_le-true (first +ℤ pos w) (block_at ms i).number test in
-      let behind = behind-left ms i lt possible in
-      let none =
-      total-behind (block_at ms i ∷ drop (i + 1) ms) w first (search (rules, arith, ints, from_each, first)) in
-      let left = left-total in
-      omega (arith, ints)
+      let none = total-behind (block_at ms i ∷ drop (i + 1) ms) w first in
+      grind (arith, ints, behind-left ms i lt possible, from_each, left-total, none)
 
 -- ---- the greatest total
 
@@ -119,8 +115,7 @@ total-from (m ∷ ms) w zero lt sorted = refl
 total-from (m ∷ ms) w (suc i) lt sorted =
     let behind = All-get_or (λ k. m.number <ℤ k.number) ms i no_block (omega arith)
     (All-from_recursion (λ k. m.number <ℤ k.number) ms (sorted-behind m ms sorted)) in
-    total-from ms w i (omega arith) (sorted-tail m ms sorted)
-    ∙ sym (total-out m ms w (block_at ms i).number (before-among (block_at ms i).number w m.number behind))
+    grind (arith, ints, behind, total-from ms w i, sorted-tail m ms sorted)
 
 module _ (r : BlockRange) (w : ℕ) (ms : List Summary) (i : ℕ) (found : ℤ) (far : IsMostTo r w ms i found) where
   -- the window from a block of the range on is looked at
@@ -139,47 +134,34 @@ module _ (r : BlockRange) (w : ℕ) (ms : List Summary) (i : ℕ) (found : ℤ) 
 
   -- another block changes nothing
   pub most-out : i < length ms → in_range r (block_at ms i).number ≡ false → IsMostTo r w ms (i + 1) found
-  most-out lt out = record {
-    one = far.one;
-    last = far.last;
-    each = All-more (HasNoMore r w ms found) ms i no_block lt far.each (λ holds. absurd (not_both _ holds out));
-  }
+  most-out lt out = grind (arith, ints, All-more (HasNoMore r w ms found) ms i no_block lt far.each)
 
   module _ (falls : AreFalls ms) (end : length ms ≤ i) where
     -- no window that begins in the range has more: one that begins at no summary's block has no more than the next one
-    no_more : (n : ℕ) (first : ℤ) → first +ℤ pos n ≡ r.last → r.first ≤ℤ first → summaries_total ms w first ≤ℤ found
+    no_more : (n : ℕ) (first : ℤ) → r.last ≡ first +ℤ pos n → r.first ≤ℤ first → summaries_total ms w first ≤ℤ found
     no_more zero first is low =
-        let same = ap (summaries_total ms w) {x = first} {y = r.last} (omega (arith, ints)) in
-        omega (arith, ints)
+        let same : first ≡ r.last = omega (arith, ints) in
+        grind (arith, ints)
     no_more (suc n) first is low =
-        elim (list_any (λ m. int_eq m.number first) ms) as (λ t. list_any (λ m. int_eq m.number first) ms ≡ t
-        → summaries_total ms w first ≤ℤ found) [
-          | true ↦ λ e.
+        elim (cases_Bool (list_any (λ m. int_eq m.number first) ms)) [
+          | inl e ↦
               let m = any_in (λ m. int_eq m.number first) ms e in
-              let at = (Decides-int_eq m.0.number first).0 m.2 in
               let each = subst (All (HasNoMore r w ms found)) (take_all i ms end) far.each in
-              let most = All-contains (HasNoMore r w ms found) ms m.0 each m.1
-              (pass_both _ _ (le-int_le r.first m.0.number (omega (arith, ints)))
-              (le-int_le m.0.number r.last (omega (arith, ints)))) in
-              subst (λ (b : ℤ). summaries_total ms w b ≤ℤ found) at most
-          | false ↦ λ e.
+              let most = All-contains (HasNoMore r w ms found) ms m.0 each m.1 in
+              grind (arith, ints, most, (Decides-int_eq m.0.number first).0 m.2)
+          | inr e ↦
               let rest = no_more n (first +ℤ pos 1) (omega (arith, ints)) (omega (arith, ints)) in
               let wider = total-wider (λ m. m.total) (λ m. is_among first w m.number)
               (λ m. is_among (first +ℤ pos 1) w m.number) ms falls (λ m has among.
-              let parts = among-parts first w m.number among in
-              let other : m.number ≡ first → ⊥ = λ at. not_both _ (any_of (λ m. int_eq m.number first) ms m has
-              ((Decides-int_eq m.number first).1 at)) e in
-              among-from (first +ℤ pos 1) w m.number (search (rules, arith, ints, first)) (omega (arith, ints))) in
+              grind (arith, ints, any_of (λ m. int_eq m.number first) ms m has, Decides-int_eq m.number first)) in
               omega (arith, ints)
-        ] refl
+        ]
 
     -- behind the last block it is the greatest
     pub most-end : IsGreatest (IsTotalFrom r ms w) found
     most-end = record {
       is_one = far.one;
       is_most = λ y total.
-          let parts = between r.first total.0 r.last total.1 in
-          let far_on = distance total.0 r.last parts.1 in
-          let most = no_more far_on.0 total.0 (sym far_on.1) parts.0 in
-          omega (arith, ints);
+          let far_on = distance total.0 r.last (grind (arith, ints, total.1)) in
+          grind (arith, ints, no_more far_on.0 total.0 far_on.1, total);
     }

@@ -1,15 +1,15 @@
 -- The bound of a series is found from its summaries.
-use Rattle.rank_blocks.proofs.Cited.{rules, ◌≡◌, ℕ, Bool, true, List, map, filter, Option, sym, ap, ◌∙◌, subst, arith}
-use Rattle.rank_blocks.proofs.Cited.{ℤ, pos, ◌≤ℤ◌, ◌*ℤ◌, Contains, unwrap_or, int_min, ints, block_of, greatest, Usable}
-use Rattle.rank_blocks.proofs.Cited.{Element, Score, Sum, Dry, Wet, Hot, Asked, IsAsked, is_period, test_of, Spell}
-use Rattle.rank_blocks.proofs.Cited.{BlockRange, Summary, days_reached, is_reached, period_of, blocks_of_window}
-use Rattle.rank_blocks.proofs.Cited.{holds_such, bound, IsAskedOf, IsGreatest, IsScore, IsBlocksTotal, IsRunLength}
-use Rattle.rank_blocks.proofs.Cited.{IsBoundFor, IsBound, IsRangeOf, in_range, summaries_in, IsTotalFrom, counts}
-use Rattle.rank_blocks.proofs.Cited.{days_in_range, AreOfBlocks, AreSummaries, HasDay, HasDays, HasSum}
+use Rattle.rank_blocks.proofs.Cited.{rules, ◌≡◌, ℕ, Bool, List, map, filter, sym, subst, arith, ℤ, pos, ◌≤ℤ◌, ◌*ℤ◌}
+use Rattle.rank_blocks.proofs.Cited.{unwrap_or, int_min, ints, block_of, greatest, Usable, Element, Score, Sum, Dry}
+use Rattle.rank_blocks.proofs.Cited.{Wet, Hot, Asked, IsAsked, test_of, Spell, BlockRange, Summary, days_reached}
+use Rattle.rank_blocks.proofs.Cited.{is_reached, blocks_of_window, holds_such, bound, IsAskedOf, IsGreatest, IsScore}
+use Rattle.rank_blocks.proofs.Cited.{IsBlocksTotal, IsRunLength, IsBoundFor, IsBound, IsRangeOf, in_range, summaries_in}
+use Rattle.rank_blocks.proofs.Cited.{IsTotalFrom, counts, days_in_range, AreOfBlocks, AreSummaries, HasDay, HasDays}
+use Rattle.rank_blocks.proofs.Cited.{HasSum, from_each, true}
 use Rattle.rank_scores.specs.Morsels.{IsAbove}
-use Rattle.rank_blocks.proofs.Members.{from_each, in_kept, greatest-some, greatest-unique, total-least}
-use Rattle.rank_blocks.proofs.DayValues.{both_pass, int_le-true, block-rises}
-use Rattle.rank_blocks.proofs.WindowTotals.{AreFalls}
+use Rattle.rank_blocks.proofs.Members.{in_kept, greatest-some, greatest-unique, total-least}
+use Rattle.rank_blocks.proofs.DaysInBlocks.{block-rises}
+use Rattle.rank_blocks.proofs.PossibleBlocks.{AreFalls}
 use Rattle.rank_blocks.proofs.Totals.{summaries_total-is}
 use Rattle.rank_blocks.proofs.ReachedDays.{admitted-reached, summary-of, greatest-of_blocks}
 use Rattle.rank_blocks.proofs.Above.{AreFallen, sums-fall, above-for}
@@ -21,13 +21,9 @@ use Rattle.rank_scores.specs.declared.spell.Spell.TheVariants as kinds
 pub range-is : (r : BlockRange) (q : Asked) → IsRangeOf r q → in_range r ≡ is_reached q.period
 range-is r q of = grind (arith, ints)
 
--- the first block of a period isn't behind its last
-period-rises : (p : Option (ℤ × ℤ)) → is_period p ≡ true → block_of (period_of p).0 ≤ℤ block_of (period_of p).1
-period-rises x h = grind (arith, ints, block-rises, both_pass, int_le-true)
-
--- nor that of its range
+-- the first block of its range isn't behind the last
 pub range-rises : (r : BlockRange) (q : Asked) → IsRangeOf r q → IsAsked q → r.first ≤ℤ r.last
-range-rises r q of asked = grind (arith, ints, period-rises)
+range-rises r q of asked = grind (arith, ints, block-rises)
 
 -- a bound for the query's score is the bound
 pub bound-for : (q : Asked) (s : Usable) (score : Score) (z : ℤ) → q.score ≡ score → IsBoundFor score q s z
@@ -49,13 +45,12 @@ module _ (r : BlockRange) (q : Asked) (s : Usable) (ms : List Summary) (of : IsR
   day-met f z are is =
       let day = some_admitted q s asked_of.admitted_day in
       let block = summary-of (HasDay f s.days) s ms are day.0 day.1.0 in
-      let holds = ap (in_range r) block.2 ∙ ap (λ (P : ℤ → Bool). P (block_of day.0.0)) (range-is r q of)
-      ∙ admitted-reached q day.0.0 day.1.1 in
+      let reached = admitted-reached q day.0.0 day.1.1 in
+      let holds : in_range r block.0.number ≡ true = grind (arith, ints, block.2, reached, of) in
       let most = greatest-some (map (λ m. m.day) (summaries_in r ms)) block.0.day
       (in_kept (λ m. m.day) (λ m. in_range r m.number) ms block.0 block.1 holds) in
-      let of_z = subst (IsGreatest (Contains (map (λ m. m.day) (summaries_in r ms)))) (sym is) most in
       subst (λ (P : ℤ → Bool). IsGreatest (IsScore f (filter (λ x. P (block_of x.0)) s.days)) z) (range-is r q of)
-      (greatest-of_blocks f (in_range r) s ms z are of_z)
+      (greatest-of_blocks f (in_range r) s ms z are (rw is most))
 
   -- the longest run of the days that count is what the bound of spells asks for
   run-met : (k : Spell) (z : ℤ) → IsGreatest (IsRunLength (counts k (days_reached q s))) z
@@ -88,7 +83,7 @@ module _ (r : BlockRange) (q : Asked) (s : Usable) (ms : List Summary) (of : IsR
 
     -- the greatest total, from the summaries
     total-met : (w : ℕ) (z : ℤ) → IsGreatest (IsTotalFrom r ms w) z → IsGreatest (IsBlocksTotal q.period s.days w) z
-    total-met w z of_z = grind (arith, ints, range-is, summaries_total-is)
+    total-met w z of_z = grind (arith, ints, of, summaries_total-is)
 
     -- the bound of sums, from the summaries
     pub sum-met : (n : ℕ) (e : Element) (value most z : ℤ) → IsAsked q → q.score ≡ Sum n e
@@ -97,11 +92,7 @@ module _ (r : BlockRange) (q : Asked) (s : Usable) (ms : List Summary) (of : IsR
         → z ≡ int_min (pos n *ℤ value) most → IsBound q s z
     sum-met n e value most z asked score value_is of_most smaller =
         let falls = totals-fall (sums-fall q s n e asked asked_of.series asked_of.element score) in
-        let days : AreOfBlocks (HasDay (λ v. v) s.days) s ms = record {
-          each = from_each (HasSum s.days) (HasDay (λ v. v) s.days) ms (λ m is. is.greatest_value) are.each;
-          all = are.all;
-          by_number = are.by_number;
-        } in
+        let days : AreOfBlocks (HasDay (λ v. v) s.days) s ms = grind (arith, ints, from_each, are) in
         bound-for q s (Sum n e) z score (record {
           value = value;
           most = most;

@@ -1,46 +1,50 @@
 -- The names that the proofs cite, passed on from one place.
 pub use Rattle.std.proofs.Common.{All, Bool, Contains, IfSome, Less, List, None, Option, SFits, Some, [], ap}
-pub use Rattle.std.proofs.Common.{append-nil, arith, below_more, bit_and, bit_or, codes, cond, drop, false, filter}
-pub use Rattle.std.proofs.Common.{filter_map, find, flat_map, fold, get_or, inl, inr, int_cmp, int_eq, int_le, int_lt}
-pub use Rattle.std.proofs.Common.{length, map, max, min, neg_ℤ, negsuc, not, of_z, option_map, pos, refl, rules, set}
-pub use Rattle.std.proofs.Common.{subst, suc, sym, take, to_z, true, unwrap_or, w32, w64, zero, ℕ, ℤ, ◌%◌, ◌&&◌, ◌*ℤ◌}
-pub use Rattle.std.proofs.Common.{◌*◌, ◌++◌, ◌+ℤ◌, ◌+◌, ◌-ℤ◌, ◌-◌, ◌/◌, ◌<ℤ◌, ◌<◌, ◌==◌, ◌^◌, ◌∙◌, ◌∷◌, ◌≡◌, ◌≢◌, ◌≤ℤ◌}
-pub use Rattle.std.proofs.Common.{◌≤◌, ◌⊎◌}
+pub use Rattle.std.proofs.Common.{append-nil, ap₂, arith, below_more, bit_and, bit_or, codes, cond, drop, false, filter}
+pub use Rattle.std.proofs.Common.{filter_map, flat_map, fold, get_or, inl, inr, int_cmp, int_eq, int_le, length, map}
+pub use Rattle.std.proofs.Common.{max, min, neg_ℤ, negsuc, not, of_z, option_map, pos, refl, rules, set, subst, suc}
+pub use Rattle.std.proofs.Common.{sym, take, to_z, true, unwrap_or, w32, w64, zero, ℕ, ℤ, ◌%◌, ◌&&◌, ◌*ℤ◌, ◌*◌, ◌++◌}
+pub use Rattle.std.proofs.Common.{◌+ℤ◌, ◌+◌, ◌-ℤ◌, ◌-◌, ◌/◌, ◌<ℤ◌, ◌<◌, ◌==◌, ◌^◌, ◌∙◌, ◌∷◌, ◌≡◌, ◌≢◌, ◌≤ℤ◌, ◌≤◌, ◌⊎◌}
 pub use Rattle.std.proofs.Math.Nat.{le-max_left, le-max_right, max-eq_left, max-eq_right, pow-succ'}
-pub use Rattle.std.proofs.lemmas.Bool.{cases_Bool, cond_both, false_from_ne_true}
-pub use Rattle.std.proofs.lemmas.Bool.Decides.{Decides-int_eq, leb_tells}
+pub use Rattle.std.proofs.lemmas.Bool.{and_from, and_parts, both_ways, cases_Bool, cases_lt, cond_both}
+pub use Rattle.std.proofs.lemmas.Bool.{false_from_ne_true}
+pub use Rattle.std.proofs.lemmas.Bool.Decides.{Decides-int_eq}
 pub use Rattle.std.proofs.lemmas.Int.{by_lt_z, clamps, fold-int_max_bounds, fold-int_max_reached, ints, to_z-of_z}
-pub use Rattle.std.proofs.lemmas.List.{drop_all, drop_more, get_or-set_other, length-drop, length-map, length-set}
-pub use Rattle.std.proofs.lemmas.List.{map-append, take_all}
+pub use Rattle.std.proofs.lemmas.List.{drop_all, drop_more, get_or-set_other, length-drop, length-set, map-append}
+pub use Rattle.std.proofs.lemmas.List.{take_all}
 pub use Rattle.std.proofs.lemmas.List.Elements.{All-contains, All-contains_itself, All-from_get_or, All-from_recursion}
 pub use Rattle.std.proofs.lemmas.List.Elements.{All-get_or, All-more, All-weaker, Contains-append_left}
-pub use Rattle.std.proofs.lemmas.List.Elements.{Contains-append_right, Contains-push, filter_more, recursion_from_All}
+pub use Rattle.std.proofs.lemmas.List.Elements.{Contains-append_right, Contains-get_or, Contains-push, filter_more}
+pub use Rattle.std.proofs.lemmas.List.Elements.{recursion_from_All}
 pub use Rattle.std.proofs.lemmas.Nat.Bits.{bit_at-lt, bit_at-trailing_ones, bit_at-trailing_zeros, bit_at-zero}
 pub use Rattle.std.proofs.lemmas.Nat.Bits.{bit_at_above, bit_at_and, bit_at_cat_high, bit_at_cat_low, bit_at_not}
 pub use Rattle.std.proofs.lemmas.Nat.Bits.{bit_at_ones, bit_at_or, bit_at_set_other, bit_at_set_same, shr_and_one}
 pub use Rattle.std.specs.Int.{bit_at, bit_not, from_bool, int_max, int_min, leading_ones, trailing_ones, trailing_zeros}
-pub use Rattle.std.specs.List.{AllByRecursion, cons_option, list_any, range_with_len}
+pub use Rattle.std.specs.List.{AllByRecursion, list_any, range_with_len}
 unfoldable pub use Rattle.std.specs.List.Sorted.{IsStrictlySortedBy}
 pub use Rattle.std.specs.Option.{option_map_or}
 pub use Rattle.ghcn_fields.specs.Days.{IsBlock, block_of, first_day, is_day, last_day}
 pub use Rattle.ghcn_fields.specs.Sorting.{greatest}
 pub use Rattle.ghcn_files.specs.declared.element.Element.{Element}
-pub use Rattle.ghcn_series.specs.Packed.{AreRising, HasNone, IsBlockOf, block_days, day_from, if_so, next_block}
+pub use Rattle.ghcn_series.proofs.ListFacts.{both_all}
+pub use Rattle.ghcn_series.proofs.Lookups.{block-holds, block-of_place, int_eq-no, int_eq-yes}
+pub use Rattle.ghcn_series.specs.Packed.{AreRising, HasNone, IsBlockOf, block_days, day_from, next_block}
 unfoldable pub use Rattle.ghcn_series.specs.Packed.{days_from}
-pub use Rattle.ghcn_series.specs.Series.{DayValue, IsSeries, Usable, is_by_day, is_value, value_on}
-pub use Rattle.rank_query.specs.Admits.{admits_day, period_holds}
-pub use Rattle.rank_query.specs.Asked.{Asked, IsAsked, is_fall, is_period, is_score, score_element}
+pub use Rattle.ghcn_series.specs.Series.{DayValue, IsSeries, Usable, is_value, value_on}
+pub use Rattle.rank_query.specs.Admits.{admits_day}
+pub use Rattle.rank_query.specs.Asked.{Asked, IsAsked, score_element}
 pub use Rattle.rank_query.specs.declared.score.Score.{Score}
 pub use Rattle.rank_query.specs.declared.score.Score.TheVariants.{Dry, Highest, Hot, Lowest, Sum, Wet}
-pub use Rattle.rank_scores.proofs.Rising.{all-filter, all-mapped}
+pub use Rattle.rank_scores.proofs.Rising.{admitted-rise, all-mapped, from_both, from_each, rise-filter}
+pub use Rattle.rank_scores.proofs.Rising.{rise-from_by_day, values_stand}
 pub use Rattle.rank_scores.proofs.Runs.{counted}
+pub use Rattle.rank_scores.proofs.Totals.{total-days}
 pub use Rattle.rank_scores.specs.Candidates.{Days, Spells, Windows, admitted, begun, candidate, candidates_among}
-pub use Rattle.rank_scores.specs.Candidates.{is_such, plus, shape, test_of, window_total}
-pub use Rattle.rank_scores.specs.Runs.{begins_run, calendar_len, longest_run, run_len}
+pub use Rattle.rank_scores.specs.Candidates.{is_such, shape, sum_of_values, test_of, window_total}
+pub use Rattle.rank_scores.specs.Runs.{calendar_len, longest_run, run_len}
 unfoldable pub use Rattle.rank_scores.specs.Runs.{run_from}
 pub use Rattle.rank_scores.specs.declared.spell.Spell.{Spell}
-pub use Rattle.rank_blocks.specs.Blocks.{block_start, blocks_total, days_in, days_reached, is_among, is_reached}
-pub use Rattle.rank_blocks.specs.Blocks.{period_of, total}
+pub use Rattle.rank_blocks.specs.Blocks.{block_start, blocks_total, days_in, days_reached, is_among, is_reached, total}
 pub use Rattle.rank_blocks.specs.Bounds.{IsAskedOf, blocks_bound, blocks_of_window, bound, bound_for, first_blocks}
 pub use Rattle.rank_blocks.specs.Bounds.{greatest_by, greatest_total, holds_such, spell_bound}
 pub use Rattle.rank_blocks.specs.DayRuns.{AllFrom, AllPass, AreBitsOf, AreRuns, ComeFirst, ComeLast, Continues}

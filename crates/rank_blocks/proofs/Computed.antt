@@ -1,22 +1,20 @@
 -- The bound as it is computed is the bound by what it is greatest of, and there is but one.
-use Rattle.rank_blocks.proofs.Cited.{rules, ◌≡◌, ℕ, zero, suc, ◌+◌, ◌<◌, ◌≤◌, Bool, true, List, [], ◌∷◌, map, length}
-use Rattle.rank_blocks.proofs.Cited.{◌⊎◌, inl, inr, refl, sym, ap, ◌∙◌, subst, arith, ℤ, pos, neg_ℤ, ◌+ℤ◌, ◌-ℤ◌, ◌≤ℤ◌}
-use Rattle.rank_blocks.proofs.Cited.{◌<ℤ◌, Contains, flat_map, AllByRecursion, range_with_len, ints, length-map}
-use Rattle.rank_blocks.proofs.Cited.{Contains-append_left, Contains-append_right, le-max_left, le-max_right, block_of}
-use Rattle.rank_blocks.proofs.Cited.{first_day, last_day, Element, DayValue, Usable, IsSeries, Score, Highest, Lowest}
-use Rattle.rank_blocks.proofs.Cited.{Sum, Dry, Wet, Hot, Asked, IsAsked, admits_day, test_of, is_such}
-use Rattle.rank_blocks.proofs.Cited.{admitted, run_len, longest_run, calendar_len, counted, days_reached, is_reached}
-use Rattle.rank_blocks.proofs.Cited.{blocks_total, is_among, greatest_by, blocks_of_window, first_blocks}
-use Rattle.rank_blocks.proofs.Cited.{greatest_total, spell_bound, blocks_bound, holds_such, bound_for, bound, IsAskedOf}
-use Rattle.rank_blocks.proofs.Cited.{IsGreatest, IsScore, IsBlocksTotal, IsRunLength, IsSumBound, IsBlocksBound}
-use Rattle.rank_blocks.proofs.Cited.{IsBoundFor, IsBound}
-use Rattle.std.proofs.lemmas.List.FromFn.{length-range_with_len, get_or-range_with_len}
-use Rattle.std.proofs.Math.ListN.{get_or-map}
-use Rattle.rank_blocks.proofs.DayValues.{between, distance, block-rises}
+use Rattle.rank_blocks.proofs.Cited.{rules, ◌≡◌, ℕ, zero, suc, ◌<◌, ◌≤◌, Bool, true, List, [], ◌∷◌, map, length, ◌⊎◌}
+use Rattle.rank_blocks.proofs.Cited.{inr, refl, ◌∙◌, arith, ℤ, pos, neg_ℤ, ◌+ℤ◌, ◌-ℤ◌, ◌≤ℤ◌, ◌<ℤ◌, Contains}
+use Rattle.rank_blocks.proofs.Cited.{flat_map, AllByRecursion, range_with_len, ints, Contains-append_left}
+use Rattle.rank_blocks.proofs.Cited.{Contains-append_right, le-max_left, le-max_right, block_of, first_day, last_day}
+use Rattle.rank_blocks.proofs.Cited.{Element, DayValue, Usable, IsSeries, Score, Highest, Lowest, Sum, Dry, Wet, Hot}
+use Rattle.rank_blocks.proofs.Cited.{Asked, IsAsked, admits_day, test_of, is_such, admitted, run_len, longest_run}
+use Rattle.rank_blocks.proofs.Cited.{calendar_len, counted, days_reached, is_reached, blocks_total, is_among}
+use Rattle.rank_blocks.proofs.Cited.{greatest_by, blocks_of_window, first_blocks, greatest_total, spell_bound}
+use Rattle.rank_blocks.proofs.Cited.{blocks_bound, holds_such, bound_for, bound, IsAskedOf, IsGreatest, IsScore}
+use Rattle.rank_blocks.proofs.Cited.{IsBlocksTotal, IsRunLength, IsSumBound, IsBlocksBound, IsBoundFor, IsBound}
+use Rattle.rank_blocks.proofs.Cited.{from_each, Contains-get_or, get_or}
+use Rattle.std.proofs.lemmas.List.FromFn.{length-map-range_with_len, get_or-map-range_with_len}
+use Rattle.rank_blocks.proofs.DaysInBlocks.{distance, block-rises}
 use Rattle.rank_blocks.proofs.HotBlocks.{holds-in}
-use Rattle.rank_blocks.proofs.Members.{contains-nothing, contains-cases, contains-first, of_each, for_each, from_each}
-use Rattle.rank_blocks.proofs.Members.{of_kept, in_kept, from_kept, greatest-some, greatest-unique, total-least}
-use Rattle.rank_blocks.proofs.WindowTotals.{among-parts, among-from}
+use Rattle.rank_blocks.proofs.Members.{contains-nothing, contains-cases, of_each, for_each, of_kept, in_kept, from_kept}
+use Rattle.rank_blocks.proofs.Members.{greatest-some, greatest-unique, total-least}
 use Rattle.rank_blocks.proofs.LongestRuns.{max-one}
 use Rattle.rank_blocks.proofs.ReachedDays.{admitted-reached, such-in}
 use Rattle.rank_blocks.proofs.Above.{AreFallen, run-at_least, days-valid, sums-fall}
@@ -27,43 +25,34 @@ use Rattle.rank_scores.specs.declared.spell.Spell.TheVariants as spells
 -- the same value and the same total make the same bound of sums
 sum-unique : (q : Asked) (s : Usable) (n : ℕ) (y z : ℤ) → IsSumBound q s n y → IsSumBound q s n z → y ≡ z
 sum-unique q s n y z of_y of_z =
-    let value = greatest-unique (IsScore (λ v. v) (days_reached q s)) of_y.value of_z.value of_y.greatest_value
-    of_z.greatest_value in
-    let most = greatest-unique (IsBlocksTotal q.period s.days (blocks_of_window n)) of_y.most of_z.most
-    of_y.greatest_total of_z.greatest_total in
+    let value = greatest-unique _ of_y.value of_z.value of_y.greatest_value of_z.greatest_value in
+    let most = greatest-unique _ of_y.most of_z.most of_y.greatest_total of_z.greatest_total in
     cc (of_y.smaller, of_z.smaller)
 
 -- as many blocks make the same bound
 blocks-unique : (such : ℤ → Bool) (y z : ℤ) → IsBlocksBound such y → IsBlocksBound such z → y ≡ z
 blocks-unique such y z of_y of_z =
-    let same = greatest-unique (IsRunLength such) (pos of_y.blocks) (pos of_z.blocks) of_y.greatest of_z.greatest in
+    let same = greatest-unique _ (pos of_y.blocks) (pos of_z.blocks) of_y.greatest of_z.greatest in
     omega (arith, ints, same, of_y.times, of_z.times)
 
 -- there is but one bound for a score
 pub unique-for : (score : Score) (q : Asked) (s : Usable) (y z : ℤ) → IsBoundFor score q s y → IsBoundFor score q s z
     → y ≡ z
-unique-for (Highest e) q s y z of_y of_z = greatest-unique (IsScore (λ v. v) (days_reached q s)) y z of_y of_z
-unique-for (Lowest e) q s y z of_y of_z = greatest-unique (IsScore neg_ℤ (days_reached q s)) y z of_y of_z
+unique-for (Highest e) q s y z of_y of_z = greatest-unique _ y z of_y of_z
+unique-for (Lowest e) q s y z of_y of_z = greatest-unique _ y z of_y of_z
 unique-for (Sum n e) q s y z of_y of_z = sum-unique q s n y z of_y of_z
-unique-for Dry q s y z of_y of_z =
-    greatest-unique (IsRunLength (is_such (test_of spells.Dry) (days_reached q s))) y z of_y of_z
-unique-for Wet q s y z of_y of_z =
-    greatest-unique (IsRunLength (is_such (test_of spells.Wet) (days_reached q s))) y z of_y of_z
-unique-for (Hot t) q s y z of_y of_z =
-    blocks-unique (holds_such (test_of (spells.Hot t)) (days_reached q s)) y z of_y of_z
+unique-for Dry q s y z of_y of_z = greatest-unique _ y z of_y of_z
+unique-for Wet q s y z of_y of_z = greatest-unique _ y z of_y of_z
+unique-for (Hot t) q s y z of_y of_z = blocks-unique _ y z of_y of_z
 
 -- ---- days
-
--- a list that isn't empty has an element
-some_of : {X : Type 0} (xs : List X) → 0 < length xs → (x : X) × Contains xs x
-some_of [] some = absurd (omega arith)
-some_of (x ∷ xs) some = (x, contains-first x x xs refl)
 
 -- where there is an admitted day, it is one of the days
 pub some_admitted : (q : Asked) (s : Usable) → 0 < length (admitted q s)
     → (x : DayValue) × (Contains s.days x × (admits_day q x.0 ≡ true))
-some_admitted q s some = let has = some_of (admitted q s) some in
-    (has.0, of_kept (λ x. admits_day q x.0) s.days has.0 has.1)
+some_admitted q s some =
+    let first = Contains-get_or (admitted q s) 0 (pos 0, pos 0) some in
+    (get_or (admitted q s) 0 (pos 0, pos 0), of_kept (λ x. admits_day q x.0) s.days _ first)
 
 -- the greatest score of the days reached, where there is one
 day-greatest : (f : ℤ → ℤ) (q : Asked) (s : Usable) → 0 < length (admitted q s)
@@ -76,23 +65,12 @@ day-greatest f q s some =
 
 -- ---- totals
 
--- a number from a on, before n more, stands among those n
-contains-range : (a n i : ℕ) → i < n → Contains (range_with_len a n) (a + i)
-contains-range a n i lt = grind (arith, ints, length-range_with_len a n, get_or-range_with_len a n i (a + i) lt)
-
--- what a measure makes of an element stands in what it makes of all
-contains-map : {X Y : Type 0} (f : X → Y) (xs : List X) (x : X) → Contains xs x → Contains (map f xs) (f x)
-contains-map f xs x h = (h.0, omega (arith, h.1, length-map xs f), get_or-map f xs h.0 x ∙ ap f h.2)
-
 -- what is in one of the lists that are made of elements is in all of them together
 contains-flat_map : (f : DayValue → List ℤ) (xs : List DayValue) (x : DayValue) (y : ℤ) → Contains xs x
     → Contains (f x) y → Contains (flat_map f xs) y
 contains-flat_map f [] x y h has = absurd (contains-nothing x h)
 contains-flat_map f (z ∷ zs) x y h has =
-    elim (contains-cases z x zs h) [
-      | inl is ↦ Contains-append_left (f z) (flat_map f zs) y (subst (λ k. Contains (f k) y) (sym is) has)
-      | inr there ↦ Contains-append_right (f z) (flat_map f zs) y (contains-flat_map f zs x y there has)
-    ]
+    grind (arith, ints, contains-cases, Contains-append_left, Contains-append_right, contains-flat_map f zs x y)
 
 -- the blocks from which w blocks hold a day
 abbrev starts : ℕ → DayValue → List ℤ
@@ -102,12 +80,11 @@ starts w x = map (λ i. block_of x.0 -ℤ pos i) (range_with_len 0 w)
 start-of : (w : ℕ) (days : List DayValue) (first : ℤ) (x : DayValue) → Contains days x
     → is_among first w (block_of x.0) ≡ true → Contains (flat_map (starts w) days) first
 start-of w days first x has e =
-    let parts = among-parts first w (block_of x.0) e in
-    let far = distance first (block_of x.0) parts.0 in
-    let there = contains-map (λ i. block_of x.0 -ℤ pos i) (range_with_len 0 w) (0 + far.0)
-    (contains-range 0 w far.0 (omega (arith, ints, parts.1))) in
-    let same : block_of x.0 -ℤ pos (0 + far.0) ≡ first = omega (arith, ints) in
-    contains-flat_map (starts w) days x first has (subst (Contains (starts w x)) same there)
+    let far = distance first (block_of x.0) (grind (arith, ints)) in
+    let lt : far.0 < w = grind (arith, ints, far.1) in
+    let at = get_or-map-range_with_len (λ i. block_of x.0 -ℤ pos i) 0 w far.0 far.0 first lt (omega arith) in
+    let size = length-map-range_with_len (λ i. block_of x.0 -ℤ pos i) 0 w in
+    contains-flat_map (starts w) days x first has (far.0, omega (arith, size), at ∙ omega (arith, ints, far.1))
 
 -- a window that holds a day has a total that is looked at, and one that holds none has nothing
 window-seen : (w : ℕ) (first : ℤ) (all : List ℤ) (days : List DayValue)
@@ -122,21 +99,17 @@ total-greatest : (q : Asked) (s : Usable) (w : ℕ) → 0 < w → 0 < length (ad
 total-greatest q s w some_blocks some falls =
     let day = some_admitted q s some in
     let all : List ℤ = flat_map (starts w) s.days in
-    let seen : (b : ℤ) → Contains all b → is_reached q.period b ≡ true
-    → Contains (map (blocks_total s.days w) (first_blocks q s.days w)) (blocks_total s.days w b) =
-    search (rules, arith, ints, in_kept) in
-    let own = start-of w s.days (block_of day.0.0) day.0 day.1.0
-    (among-from (block_of day.0.0) w (block_of day.0.0) (omega (arith, ints)) (omega (arith, ints))) in
+    let seen = in_kept (blocks_total s.days w) (is_reached q.period) all in
+    let own = start-of w s.days (block_of day.0.0) day.0 day.1.0 (grind (arith, ints)) in
     let of_z = greatest-some (map (blocks_total s.days w) (first_blocks q s.days w))
     (blocks_total s.days w (block_of day.0.0)) (seen (block_of day.0.0) own (admitted-reached q day.0.0 day.1.1)) in
     let found = from_kept (blocks_total s.days w) (is_reached q.period) all (greatest_total q s.days w) of_z.is_one in
     record {
       is_one = (found.0, found.1.1, found.2);
       is_most = λ y h.
-          elim (window-seen w h.0 all s.days (search (rules, arith, ints, for_each, start-of))) [
-            | inl has ↦ let most = of_z.is_most (blocks_total s.days w h.0) (seen h.0 has h.1) in omega (arith, ints)
-            | inr none ↦ grind (arith, ints, total-least, found)
-          ];
+          let side = window-seen w h.0 all s.days (search (rules, arith, ints, for_each, start-of)) in
+          let most = λ (has : Contains all h.0). of_z.is_most (blocks_total s.days w h.0) (seen h.0 has h.1) in
+          grind (arith, ints, side, most, total-least, found);
     }
 
 -- ---- runs
@@ -149,7 +122,7 @@ Somewhere such len = (first : ℤ) × ((i : ℕ) → i < len → such (first +�
 longest-somewhere : (such : ℤ → Bool) (ns : List ℤ) → Somewhere such (longest_run such ns)
 longest-somewhere such [] = (pos 0, λ i lt. absurd (omega arith))
 longest-somewhere such (a ∷ ns) = max-one (Somewhere such) (run_len such a) (longest_run such ns)
-    (a, λ i lt. (counted such calendar_len a).inside i lt) (longest-somewhere such ns)
+    (a, (counted such calendar_len a).inside) (longest-somewhere such ns)
 
 -- the run from a number of one of some days on is no longer
 longest-most : (such : ℤ → Bool) (f : DayValue → ℤ) (days : List DayValue)
@@ -166,15 +139,11 @@ module _ (such : ℤ → Bool) (f : DayValue → ℤ) (days : List DayValue) (lo
   no_longer (suc n) a pass =
       let first = among (a +ℤ pos 0) (pass 0 (omega arith)) in
       let last = among (a +ℤ pos n) (pass n (omega arith)) in
-      let begins = within first.0 first.1 in
-      let ends = within last.0 last.1 in
       let is : f first.0 ≡ a = omega (arith, ints, first.2) in
-      let short : suc n ≤ calendar_len = omega (arith, ints, begins.0, ends.1, last.2) in
-      let least = run-at_least such (suc n) calendar_len (f first.0) short
-      (λ i lt. ap (λ b. such (b +ℤ pos i)) is ∙ pass i lt) in
-      let most = of_each (λ x. run_len such (f x) ≤ longest_run such (map f days)) days (longest-most such f days)
-      first.0 first.1 in
-      omega (arith, least, most)
+      let short : suc n ≤ calendar_len =
+      omega (arith, ints, (within first.0 first.1).0, (within last.0 last.1).1, last.2) in
+      let least = run-at_least such (suc n) calendar_len (f first.0) short (λ i lt. rw is (pass i lt)) in
+      omega (arith, least, of_each _ days (longest-most such f days) first.0 first.1)
 
   -- the longest of these is the longest run
   runs-greatest : IsGreatest (IsRunLength such) (pos (longest_run such (map f days)))
@@ -185,8 +154,8 @@ module _ (such : ℤ → Bool) (f : DayValue → ℤ) (days : List DayValue) (lo
 -- a day that is reached is one of the calendar
 reached-valid : (q : Asked) (s : Usable) → IsSeries s → (x : DayValue) → Contains (days_reached q s) x
     → (first_day ≤ℤ x.0) × (x.0 ≤ℤ last_day)
-reached-valid q s series x has = between first_day x.0 last_day
-    (days-valid s series x (of_kept (λ x. is_reached q.period (block_of x.0)) s.days x has).0).0
+reached-valid q s series x has =
+    grind (arith, ints, days-valid s series x, of_kept (λ x. is_reached q.period (block_of x.0)) s.days x has)
 
 -- the longest run of days that pass, of those reached
 run-greatest : (test : ℤ → Bool) (q : Asked) (s : Usable) → IsSeries s → IsGreatest
@@ -202,10 +171,9 @@ blocks-greatest : (test : ℤ → Bool) (q : Asked) (s : Usable) → IsSeries s 
     (pos (longest_run (holds_such test (days_reached q s)) (map (λ x. block_of x.0) (days_reached q s))))
 blocks-greatest test q s series =
     runs-greatest (holds_such test (days_reached q s)) (λ x. block_of x.0) (days_reached q s) (block_of first_day)
-    (λ a e. let day = holds-in test (days_reached q s) a e in (day.0, day.1, day.2)) (λ x has.
-    let day = reached-valid q s series x has in
-    let high = block-rises x.0 last_day day.1 in
-    (block-rises first_day x.0 day.0, omega (arith, ints)))
+    (λ a e. let day = holds-in test (days_reached q s) a e in (day.0, day.1, day.2))
+    (λ x has. let day = reached-valid q s series x has in
+    (block-rises first_day x.0 day.0, omega (arith, ints, block-rises x.0 last_day day.1)))
 
 -- 32 times as many is the bound of hot spells
 pub blocks-computed : (test : ℤ → Bool) (q : Asked) (s : Usable) → IsSeries s

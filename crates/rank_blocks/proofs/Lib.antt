@@ -2,9 +2,8 @@ mod Cited
 pub mod WordRuns
 pub mod ValueSteps
 pub mod Members
-pub mod DayValues
+pub mod DaysInBlocks
 pub mod Totals
-pub mod WindowTotals
 pub mod PossibleBlocks
 pub mod ReachedDays
 pub mod LongestRuns

@@ -1,9 +1,9 @@
 -- Elements of lists that are filtered and measured.
-use Rattle.rank_blocks.proofs.Cited.{◌≡◌, ◌<◌, Bool, true, false, cond, List, [], ◌∷◌, ◌++◌, map, filter, ◌⊎◌, inl, inr}
-use Rattle.rank_blocks.proofs.Cited.{refl, sym, pos, ◌+ℤ◌, subst, arith, ℤ, ◌≤ℤ◌, Contains, fold, unwrap_or, ◌&&◌}
-use Rattle.rank_blocks.proofs.Cited.{AllByRecursion, list_any, int_max, ints, fold-int_max_bounds, fold-int_max_reached}
-use Rattle.rank_blocks.proofs.Cited.{Contains-append_right, All-contains, All-contains_itself, All-from_recursion}
-use Rattle.rank_blocks.proofs.Cited.{All-weaker, recursion_from_All, greatest, total, IsGreatest}
+use Rattle.rank_blocks.proofs.Cited.{◌≡◌, ◌<◌, Bool, true, cond, List, [], ◌∷◌, map, filter, ◌⊎◌, refl, pos, ◌+ℤ◌}
+use Rattle.rank_blocks.proofs.Cited.{arith, ℤ, ◌≤ℤ◌, Contains, fold, unwrap_or, ◌&&◌, AllByRecursion, list_any, int_max}
+use Rattle.rank_blocks.proofs.Cited.{ints, fold-int_max_bounds, fold-int_max_reached, Contains-append_right}
+use Rattle.rank_blocks.proofs.Cited.{All-contains, All-contains_itself, All-from_recursion, All-weaker}
+use Rattle.rank_blocks.proofs.Cited.{recursion_from_All, greatest, total, IsGreatest, inl, inr, ap, ◌∙◌, cond_both}
 use Rattle.std.proofs.lemmas.List.Folds.{Any-from_list_any, list_any-from_Any}
 
 -- nothing stands in an empty list
@@ -48,18 +48,6 @@ any_in p xs e = let any = Any-from_list_any p xs e in (any.1, (any.0, any.2, any
 pub any_of : {X : Type 0} (p : X → Bool) (xs : List X) (x : X) → Contains xs x → p x ≡ true → list_any p xs ≡ true
 any_of p xs x has e = list_any-from_Any p xs (has.0, x, has.1, has.2, e)
 
--- what follows for each follows for all
-pub from_each : {X : Type 0} (P R : X → Type 0) (xs : List X) → ((x : X) → P x → R x) → AllByRecursion P xs
-    → AllByRecursion R xs
-from_each P R [] f p = tt
-from_each P R (x ∷ xs) f p = (f x p.0, from_each P R xs f p.1)
-
--- what follows from two facts for each follows for all
-pub from_both : {X : Type 0} (P Q R : X → Type 0) (xs : List X) → ((x : X) → P x → Q x → R x) → AllByRecursion P xs
-    → AllByRecursion Q xs → AllByRecursion R xs
-from_both P Q R [] f p q = tt
-from_both P Q R (x ∷ xs) f p q = (f x p.0 q.0, from_both P Q R xs f p.1 q.1)
-
 -- what is true of all is true of those that pass a test, and they pass
 pub all-passing : {X : Type 0} (P : X → Type 0) (t : X → Bool) (xs : List X) → AllByRecursion P xs
     → AllByRecursion (λ x. P x × (t x ≡ true)) (filter t xs)
@@ -71,29 +59,18 @@ pub of_kept : {X : Type 0} (t : X → Bool) (xs : List X) (x : X) → Contains (
     → Contains xs x × (t x ≡ true)
 of_kept t xs = of_each (λ x. Contains xs x × (t x ≡ true)) (filter t xs) (all-passing (Contains xs) t xs (itself xs))
 
--- what is true of some and of others is true of both together
-pub all-append : {X : Type 0} (P : X → Type 0) (xs ys : List X) → AllByRecursion P xs → AllByRecursion P ys
-    → AllByRecursion P (xs ++ ys)
-all-append P [] ys h k = k
-all-append P (x ∷ xs) ys h k = (h.0, all-append P xs ys h.1 k)
-
--- what is made of an element stands among what is made of more
-stands-more : {X Y : Type 0} (f : X → Y) (b : Bool) (x : X) (xs : List X) (y : Y) → Contains (map f xs) y
-    → Contains (map f (cond b (x ∷ xs) xs)) y
-stands-more f true x xs y h = contains-behind (f x) y (map f xs) h
-stands-more f false x xs y h = h
-
--- what is made of an element that passes stands among what is made of those that pass
-pub stands : {X Y : Type 0} (f : X → Y) (t : X → Bool) (xs : List X) → AllByRecursion
-    (λ x. t x ≡ true → Contains (map f (filter t xs)) (f x)) xs
-stands f t [] = tt
-stands f t (x ∷ xs) =
-    grind (arith, ints, contains-first (f x) (f x) (map f (filter t xs)), from_each, stands-more, stands f t xs)
-
 -- what is made of an element that passes stands in what is made of those that are kept
 pub in_kept : {X Y : Type 0} (f : X → Y) (t : X → Bool) (xs : List X) (x : X) → Contains xs x → t x ≡ true
     → Contains (map f (filter t xs)) (f x)
-in_kept f t xs = of_each (λ x. t x ≡ true → Contains (map f (filter t xs)) (f x)) xs (stands f t xs)
+in_kept f t [] x has e = absurd (contains-nothing x has)
+in_kept f t (z ∷ xs) x has e =
+    elim (contains-cases z x xs has) [
+      | inl is ↦ rw (ap t is ∙ e) (contains-first (f z) (f x) (map f (filter t xs)) (ap f is))
+      | inr there ↦
+          let rest = in_kept f t xs x there e in
+          cond_both (t z) (z ∷ filter t xs) (filter t xs) (λ ys. Contains (map f ys) (f x))
+          (λ _. contains-behind (f z) (f x) (map f (filter t xs)) rest) (λ _. rest)
+    ]
 
 -- and it is made of an element that passes
 pub from_kept : {X Y : Type 0} (f : X → Y) (t : X → Bool) (xs : List X) (y : Y) → Contains (map f (filter t xs)) y
@@ -106,30 +83,19 @@ pub total-cons : {X : Type 0} (f : X → ℤ) (p : X → Bool) (x : X) (xs : Lis
     → total (map f (filter p (x ∷ xs))) ≡ cond (p x) (f x) (pos 0) +ℤ total (map f (filter p xs))
 total-cons f p x xs = grind (arith, ints)
 
--- what is added isn't below zero where the number isn't
-pub part-least : (t : Bool) (v : ℤ) → pos 0 ≤ℤ v → pos 0 ≤ℤ cond t v (pos 0)
-part-least x v h = grind (arith, ints)
-
--- a wider test adds no less
-pub part-wider : (t u : Bool) (v : ℤ) → pos 0 ≤ℤ v → (t ≡ true → u ≡ true) → cond t v (pos 0) ≤ℤ cond u v (pos 0)
-part-wider x k v h wider = grind (arith, ints, part-least)
-
 -- no total is below zero where no number is
 pub total-least : {X : Type 0} (f : X → ℤ) (p : X → Bool) (xs : List X) → AllByRecursion (λ x. pos 0 ≤ℤ f x) xs
     → pos 0 ≤ℤ total (map f (filter p xs))
 total-least f p [] falls = omega (arith, ints)
-total-least f p (x ∷ xs) falls =
-    omega (arith, ints, total-cons f p x xs, part-least (p x) (f x) falls.0, total-least f p xs falls.1)
+total-least f p (x ∷ xs) falls = grind (arith, ints, total-least f p xs falls.1)
 
 -- where each that passes one test passes another, the first have at most the total of the others
 pub total-wider : {X : Type 0} (f : X → ℤ) (p w : X → Bool) (xs : List X) → AllByRecursion (λ x. pos 0 ≤ℤ f x) xs
     → ((x : X) → Contains xs x → p x ≡ true → w x ≡ true) → total (map f (filter p xs)) ≤ℤ total (map f (filter w xs))
 total-wider f p w [] falls wider = omega (arith, ints)
 total-wider f p w (x ∷ xs) falls wider =
-    let of_w = total-cons f w x xs in
-    let part = part-wider (p x) (w x) (f x) falls.0 (wider x (contains-first x x xs refl)) in
     let rest = total-wider f p w xs falls.1 (λ y has. wider y (contains-behind x y xs has)) in
-    omega (arith, ints, total-cons f p x xs)
+    grind (arith, ints, rest, falls.0, wider x (contains-first x x xs refl))
 
 -- those that pass one test of those that pass another pass both
 pub filter-both : {X : Type 0} (p u : X → Bool) (xs : List X) → filter p (filter u xs) ≡ filter (λ x. u x && p x) xs
@@ -140,19 +106,9 @@ filter-both p u (x ∷ xs) = grind (arith, ints, filter-both p u xs)
 pub greatest-some : (zs : List ℤ) (y : ℤ) → Contains zs y → IsGreatest (Contains zs) (unwrap_or (greatest zs) (pos 0))
 greatest-some [] y h = absurd (contains-nothing y h)
 greatest-some (x ∷ xs) y h =
-    let z : ℤ = fold int_max x xs in
-    let bounds = fold-int_max_bounds x xs z refl in
-    record {
-      is_one = elim (fold-int_max_reached x xs z refl) [
-        | inl first ↦ contains-first x z xs (sym first)
-        | inr there ↦ contains-behind x z xs there
-      ];
-      is_most = λ y h.
-          elim (contains-cases x y xs h) [
-            | inl first ↦ subst (λ (n : ℤ). n ≤ℤ z) first bounds.0
-            | inr there ↦ All-contains (λ n. n ≤ℤ z) xs y bounds.1 there
-          ];
-    }
+    let bounds = fold-int_max_bounds x xs (fold int_max x xs) refl in
+    let reached = fold-int_max_reached x xs (fold int_max x xs) refl in
+    grind (arith, ints, contains-first, contains-behind, contains-cases, All-contains)
 
 -- there is but one greatest number
 pub greatest-unique : (P : ℤ → Type 0) (y z : ℤ) → IsGreatest P y → IsGreatest P z → y ≡ z

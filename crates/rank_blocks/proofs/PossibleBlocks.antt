@@ -2,25 +2,26 @@
 use Rattle.rank_blocks.proofs.Cited.{◌≡◌, ℕ, zero, suc, drop, ◌-◌, ◌<◌, ◌≤◌, List, [], ◌∷◌, ◌++◌, map, length, get_or}
 use Rattle.rank_blocks.proofs.Cited.{arith, ℤ, pos, ◌≤ℤ◌, ◌<ℤ◌, ◌+ℤ◌, int_cmp, Less, AllByRecursion, IsStrictlySortedBy}
 use Rattle.rank_blocks.proofs.Cited.{ints, All-from_recursion, All-get_or, Summary, IsPossible, ArePossible, all-mapped}
-use Rattle.rank_blocks.proofs.DayValues.{int_lt-true}
-use Rattle.rank_blocks.proofs.Members.{from_each, all-append}
-use Rattle.rank_blocks.proofs.WindowTotals.{AreBehind}
+use Rattle.rank_blocks.proofs.Cited.{both_all, from_each, map-append}
+
+-- each block stands behind a number
+abbrev pub AreBehind : ℤ → List Summary → Type 0
+AreBehind b ms = AllByRecursion (λ m. b <ℤ m.number) ms
+
+-- no total of a block is below zero
+abbrev pub AreFalls : List Summary → Type 0
+AreFalls ms = AllByRecursion (λ m. pos 0 ≤ℤ m.total) ms
 
 -- what compares as less is below
 pub int_cmp-less : (a b : ℤ) → int_cmp a b ≡ Less → a <ℤ b
-int_cmp-less a b e = grind (arith, ints, int_lt-true)
+int_cmp-less a b e = grind (arith, ints)
 
--- no numbers are in order
-pub sorted-none : IsStrictlySortedBy int_cmp []
+-- blocks by number, and one behind them whose number is greater than each
+pub sorted-push : (ms : List Summary) (m : Summary) → IsStrictlySortedBy int_cmp (map (λ k. k.number) ms)
+    → AllByRecursion (λ k. k.number <ℤ m.number) ms → IsStrictlySortedBy int_cmp (map (λ k. k.number) (ms ++ m ∷ []))
 unfolding IsStrictlySortedBy
-sorted-none = tt
-
--- numbers in order, and one behind them that is greater than each
-pub sorted-push : (xs : List ℤ) (v : ℤ) → IsStrictlySortedBy int_cmp xs → AllByRecursion (λ x. x <ℤ v) xs
-    → IsStrictlySortedBy int_cmp (xs ++ v ∷ [])
-unfolding IsStrictlySortedBy
-sorted-push [] v h less = (tt, tt)
-sorted-push (x ∷ xs) v h less = grind (arith, ints, all-append, sorted-push xs v h.1 less.1)
+sorted-push [] m h less = (tt, tt)
+sorted-push (k ∷ ks) m h less = grind (arith, ints, both_all, map-append, sorted-push ks m h.1 less.1)
 
 -- blocks by number: those behind the first have greater numbers
 pub sorted-behind : (m : Summary) (ms : List Summary) → IsStrictlySortedBy int_cmp (map (λ k. k.number) (m ∷ ms))
@@ -35,15 +36,11 @@ pub sorted-tail : (m : Summary) (ms : List Summary) → IsStrictlySortedBy int_c
 unfolding IsStrictlySortedBy
 sorted-tail m ms h = h.1
 
--- what is true of the summaries of every series is true of those behind the first
-pub possible-tail : (m : Summary) (ms : List Summary) → ArePossible (m ∷ ms) → ArePossible ms
-possible-tail m ms h = record { each = h.each.1; by_number = sorted-tail m ms h.by_number }
-
--- and of those from a place on
+-- what is true of the summaries of every series is true of those from a place on
 pub possible-drop : (ms : List Summary) (i : ℕ) → ArePossible ms → ArePossible (drop i ms)
 possible-drop ms zero h = h
 possible-drop [] (suc i) h = h
-possible-drop (m ∷ ms) (suc i) h = possible-drop ms i (possible-tail m ms h)
+possible-drop (m ∷ ms) (suc i) h = possible-drop ms i (grind (arith, sorted-tail m ms h.by_number, h.each))
 
 -- what stands behind the end of a list of summaries
 abbrev pub no_block : Summary
@@ -61,12 +58,10 @@ rises (m ∷ ms) sorted zero zero le lt = omega (arith, ints)
 rises (m ∷ ms) sorted zero (suc j) le lt =
     let next = All-get_or (λ k. m.number <ℤ k.number) ms 0 no_block (omega arith)
     (All-from_recursion (λ k. m.number <ℤ k.number) ms (sorted-behind m ms sorted)) in
-    let rest = rises ms (sorted-tail m ms sorted) 0 j (omega arith) (omega arith) in
-    omega (arith, ints)
+    omega (arith, ints, rises ms (sorted-tail m ms sorted) 0 j (omega arith) (omega arith))
 rises (m ∷ ms) sorted (suc i) zero le lt = absurd (omega arith)
 rises (m ∷ ms) sorted (suc i) (suc j) le lt =
-    let rest = rises ms (sorted-tail m ms sorted) i j (omega arith) (omega arith) in
-    omega (arith, ints)
+    omega (arith, ints, rises ms (sorted-tail m ms sorted) i j (omega arith) (omega arith))
 
 -- the summary at a place is possible
 pub possible-at : (ms : List Summary) (i : ℕ) → i < length ms → ArePossible ms → IsPossible (block_at ms i)
@@ -76,6 +71,5 @@ possible-at ms i lt h = All-get_or IsPossible ms i no_block lt (All-from_recursi
 pub possible-few : (ms : List Summary) → ArePossible ms → length ms ≤ 114_128
 possible-few [] h = omega arith
 possible-few (m ∷ ms) h =
-    let rise = rises (m ∷ ms) h.by_number 0 (length ms) (omega arith) (omega arith) in
-    let high = (possible-at (m ∷ ms) (length ms) (omega arith) h).high in
-    omega (arith, ints)
+    let rise = rises (m ∷ ms) h.by_number 0 (length ms) in
+    grind (arith, ints, rise, possible-at (m ∷ ms) (length ms), h)

@@ -1,12 +1,11 @@
 -- The longest run of days in the blocks of a range, as a loop over the summaries finds it.
-use Rattle.rank_blocks.proofs.Cited.{◌≡◌, ℕ, zero, suc, ◌+◌, ◌*◌, ◌<◌, ◌≤◌, Bool, true, false, List, map, length, inl}
-use Rattle.rank_blocks.proofs.Cited.{inr, refl, sym, ap, ◌∙◌, arith, ℤ, pos, ◌≤ℤ◌, ◌<ℤ◌, ◌+ℤ◌, below_more, Contains}
-use Rattle.rank_blocks.proofs.Cited.{ints, All-from_recursion, All-get_or, All-from_get_or, recursion_from_All}
-use Rattle.rank_blocks.proofs.Cited.{block_of, Usable, Spell, Runs, Summary, BlockRange, block_start, AreRuns}
-use Rattle.rank_blocks.proofs.Cited.{runs_before, NoneBetween, AllFrom, Continues, IsGreatest, IsRunLength, in_range}
-use Rattle.rank_blocks.proofs.Cited.{days_in_range, counts, AreOfBlocks, ArePossible, HasDays}
+use Rattle.rank_blocks.proofs.Cited.{◌≡◌, ℕ, zero, suc, ◌+◌, ◌*◌, ◌<◌, ◌≤◌, Bool, true, false, List, map, length, refl}
+use Rattle.rank_blocks.proofs.Cited.{sym, ap, ◌∙◌, arith, ℤ, pos, ◌≤ℤ◌, ◌<ℤ◌, ◌+ℤ◌, Contains, ints, All-from_recursion}
+use Rattle.rank_blocks.proofs.Cited.{All-get_or, All-from_get_or, recursion_from_All, block_of, Usable, Spell, Runs}
+use Rattle.rank_blocks.proofs.Cited.{Summary, BlockRange, block_start, AreRuns, runs_before, NoneBetween, AllFrom}
+use Rattle.rank_blocks.proofs.Cited.{Continues, IsGreatest, IsRunLength, in_range, days_in_range, counts, AreOfBlocks}
+use Rattle.rank_blocks.proofs.Cited.{ArePossible, HasDays, false_from_ne_true, block-holds, block-of_place}
 use Rattle.rank_blocks.proofs.PossibleBlocks.{block_at, no_block, rises}
-use Rattle.rank_blocks.proofs.DayValues.{not_both, between, fails, at_most_or_more, block-holds, block-of_place}
 use Rattle.rank_blocks.proofs.LongestRuns.{runs-none}
 use Rattle.rank_blocks.proofs.Members.{pick}
 use Rattle.rank_blocks.proofs.HotBlocks.{counts-kept, counts-filter, counts-among}
@@ -29,11 +28,9 @@ pub told-start : (r : BlockRange) (ms : List Summary) → IsTold r ms 0 (runs_be
 told-start r ms = record {
   room = omega arith;
   before = λ j lt. absurd (omega arith);
-  ahead = λ j le lt holds. (between r.first (block_at ms j).number r.last holds).0;
-  told = λ k s are. runs-none (kind r k s) r.first (λ d lt. fails (kind r k s d) (λ e.
-      let low = (between r.first (block_of d) r.last (counts-kept k (in_range r) s.days d e).0).0 in
-      let block = block-holds d in
-      absurd (omega (arith, ints))));
+  ahead = λ j le lt holds. grind (arith, ints);
+  told = λ k s are. runs-none (kind r k s) r.first
+      (λ d lt. grind (arith, ints, counts-kept k (in_range r) s.days d, block-holds d));
 }
 
 -- the block of a day of the kind is one of the range and has a summary
@@ -54,13 +51,10 @@ module _ (r : BlockRange) (ms : List Summary) (i : ℕ) (runs : Runs) (far : IsT
     -- no day of the kind lies between the block behind those told and that of the summary at the place
     none-between : (k : Spell) (s : Usable) → AreOfBlocks (HasDays k s.days) s ms
         → NoneBetween (kind r k s) runs.next (block_at ms i).number
-    none-between k s are d low high = fails (kind r k s d) (λ e.
+    none-between k s are d low high = false_from_ne_true (kind r k s d) (λ e.
         let at = block-of_kind r k s ms are d e in
-        let block = block-holds d in
-        elim (at_most_or_more i at.0) [
-          | inl later ↦ let rise = rises ms possible.by_number i at.0 later at.1 in absurd (omega (arith, ints))
-          | inr earlier ↦ let less = far.before at.0 earlier at.3 in absurd (omega (arith, ints))
-        ])
+        let rise = rises ms possible.by_number i at.0 in
+        grind (arith, ints, block-holds d, rise, far.before at.0))
 
     -- with a block of the range
     pub told-in : (new : Runs) → in_range r (block_at ms i).number ≡ true
@@ -70,12 +64,8 @@ module _ (r : BlockRange) (ms : List Summary) (i : ℕ) (runs : Runs) (far : IsT
         let order = far.ahead i (omega arith) lt holds in
         record {
           room = omega arith;
-          before = below_more (λ j. in_range r (block_at ms j).number ≡ true → (block_at ms j).number <ℤ new.next) i
-              (λ j earlier in_it. let less = far.before j earlier in_it in omega (arith, ints))
-              (λ in_it. omega (arith, ints));
-          ahead = λ j later within in_it.
-              let rise = rises ms possible.by_number i j (omega arith) within in
-              omega (arith, ints);
+          before = λ j earlier in_it. grind (arith, ints, far.before j);
+          ahead = λ j later within in_it. grind (arith, ints, rises ms possible.by_number i j);
           told = λ k s are. continues (kind r k s) (far.told k s are) (none-between k s are) (λ b bit.
               All-get_or (HasDays k s.days) ms i no_block lt (All-from_recursion (HasDays k s.days) ms are.each) b bit
               ∙ sym (counts-filter k (in_range r) s.days (block_start (block_at ms i).number +ℤ pos b)
@@ -84,13 +74,7 @@ module _ (r : BlockRange) (ms : List Summary) (i : ℕ) (runs : Runs) (far : IsT
 
   -- a block that isn't in the range changes nothing
   pub told-out : in_range r (block_at ms i).number ≡ false → IsTold r ms (i + 1) runs
-  told-out out = record {
-    room = omega arith;
-    before = below_more (λ j. in_range r (block_at ms j).number ≡ true → (block_at ms j).number <ℤ runs.next) i
-        far.before (λ holds. absurd (not_both _ holds out));
-    ahead = λ j later. far.ahead j (omega arith);
-    told = far.told;
-  }
+  told-out out = grind (arith, ints, far)
 
   -- behind the last block, the longest run is that of the range
   pub told-end : length ms ≤ i → (k : Spell) (s : Usable) → AreOfBlocks (HasDays k s.days) s ms
@@ -102,9 +86,7 @@ module _ (r : BlockRange) (ms : List Summary) (i : ℕ) (runs : Runs) (far : IsT
         | zero ↦ λ pass. omega arith
         | suc n ↦ λ pass.
             let at = block-of_kind r k s ms are (first +ℤ pos n) (pass n (omega arith)) in
-            let less = far.before at.0 (omega (arith, at.1)) at.3 in
-            let block = block-holds (first +ℤ pos n) in
-            told.nowhere_more first (suc n) (omega (arith, ints)) pass
+            grind (arith, ints, far.before at.0, block-holds (first +ℤ pos n), told.nowhere_more first (suc n))
       ] pass in
       record {
         is_one = (runs.longest, told.somewhere.0, refl, told.somewhere.1);

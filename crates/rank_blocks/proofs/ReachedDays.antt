@@ -1,28 +1,20 @@
 -- The days of the blocks of a range.
-use Rattle.rank_blocks.proofs.Cited.{◌≡◌, Bool, true, false, cond, List, [], ◌∷◌, map, filter, Option, Some, None, refl}
-use Rattle.rank_blocks.proofs.Cited.{sym, ap, ◌∙◌, subst, arith, ℤ, ◌&&◌, int_le, Contains, find, option_map, int_eq}
-use Rattle.rank_blocks.proofs.Cited.{AllByRecursion, option_map_or, Decides-int_eq, ints, block_of, is_day}
-use Rattle.rank_blocks.proofs.Cited.{DayValue, Usable, value_on, Asked, admits_day, period_holds, is_such}
-use Rattle.rank_blocks.proofs.Cited.{Summary, is_reached, IsGreatest, IsScore, AreOfBlocks, HasDay}
+use Rattle.rank_blocks.proofs.Cited.{◌≡◌, Bool, true, false, cond, List, [], ◌∷◌, map, filter, Option, Some, None, sym}
+use Rattle.rank_blocks.proofs.Cited.{ap, ◌∙◌, subst, arith, ℤ, Contains, int_eq, AllByRecursion, option_map_or}
+use Rattle.rank_blocks.proofs.Cited.{Decides-int_eq, ints, block_of, DayValue, Usable, value_on, Asked, admits_day}
+use Rattle.rank_blocks.proofs.Cited.{is_such, Summary, is_reached, IsGreatest, IsScore, AreOfBlocks, HasDay}
 use Rattle.rank_blocks.proofs.Members.{itself, of_each, of_kept, pick, in_kept, from_kept}
-use Rattle.rank_blocks.proofs.DayValues.{both_pass, pass_both, int_le-true, le-int_le, block-rises}
+use Rattle.rank_blocks.proofs.DaysInBlocks.{block-rises}
 
 module _ (p : ℤ → Bool) (d : ℤ) where
   -- the pairs whose day passes
   abbrev kept : List DayValue → List DayValue
   kept xs = filter (λ x. p x.0) xs
 
-  -- a day has its value after one more pair, kept or not
-  at : (x : DayValue) (xs : List DayValue) (b e : Bool) → p x.0 ≡ b → int_eq x.0 d ≡ e
-      → value_on (kept xs) d ≡ cond (p d) (value_on xs d) None
-      → value_on (cond b (x ∷ kept xs) (kept xs)) d ≡ cond (p d)
-      (option_map (λ y. y.1) (cond e (Some x) (find (λ y. int_eq y.0 d) xs))) None
-  at x xs t o hb he ih = grind (arith, ints, Decides-int_eq)
-
   -- of the days that pass a test, a day has the value that it had
   pub value_on-filter : (days : List DayValue) → value_on (kept days) d ≡ cond (p d) (value_on days d) None
   value_on-filter [] = grind (arith, ints)
-  value_on-filter (x ∷ xs) = at x xs (p x.0) (int_eq x.0 d) refl refl (value_on-filter xs)
+  value_on-filter (x ∷ xs) = grind (arith, ints, Decides-int_eq x.0 d, value_on-filter xs)
 
 -- a day that has a value is one of the days, and all that is true of each of them is true of it
 pub value_on-among : (Q : ℤ → ℤ → Type 0) (days : List DayValue) (d v : ℤ) → AllByRecursion (λ x. Q x.0 x.1) days
@@ -55,26 +47,16 @@ pub such-kept : (test : ℤ → Bool) (p : ℤ → Bool) (days : List DayValue) 
     → is_such test (filter (λ x. p x.0) days) d ≡ true → (p d ≡ true) × (is_such test days d ≡ true)
 such-kept test p days d e =
     let day = such-in test (filter (λ x. p x.0) days) d e in
-    let passes = (of_kept (λ x. p x.0) days (d, day.0) day.1).1 in
-    (passes, sym (such-filter test p days d passes) ∙ e)
+    grind (arith, ints, of_kept (λ x. p x.0) days (d, day.0) day.1, such-filter test p days d)
 
 -- such a day among those that pass one test is such a day among those that pass a wider one
 pub such-wider : (test : ℤ → Bool) (p q : ℤ → Bool) (days : List DayValue) (d : ℤ) → ((n : ℤ) → p n ≡ true → q n ≡ true)
     → is_such test (filter (λ x. p x.0) days) d ≡ true → is_such test (filter (λ x. q x.0) days) d ≡ true
 such-wider test p q days d wider e = grind (arith, ints, such-kept, such-filter)
 
--- of two tests that a number passes both pass
-within_blocks : (low high d : ℤ) → (int_le low d && int_le d high) ≡ true
-    → (int_le (block_of low) (block_of d) && int_le (block_of d) (block_of high)) ≡ true
-within_blocks low high d e = grind (arith, ints, both_pass, block-rises, int_le-true, pass_both, le-int_le)
-
--- a day of the calendar and of a period lies in a block of the period
-reached_in : (p : Option (ℤ × ℤ)) (d : ℤ) → (is_day d && period_holds p d) ≡ true → is_reached p (block_of d) ≡ true
-reached_in x d e = grind (arith, ints, within_blocks, both_pass)
-
 -- an admitted day lies in a block of the period
 pub admitted-reached : (q : Asked) (d : ℤ) → admits_day q d ≡ true → is_reached q.period (block_of d) ≡ true
-admitted-reached q d e = grind (arith, ints, reached_in, both_pass)
+admitted-reached q d e = grind (arith, ints, block-rises)
 
 -- ---- the greatest score of a day, from the summaries
 

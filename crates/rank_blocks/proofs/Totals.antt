@@ -1,21 +1,16 @@
 -- Totals of days, block by block.
 use Rattle.rank_blocks.proofs.Cited.{rules, ◌≡◌, ℕ, Bool, false, cond, List, [], ◌∷◌, map, filter, inl, inr, refl, sym}
-use Rattle.rank_blocks.proofs.Cited.{ap, ◌∙◌, arith, ℤ, pos, ◌+ℤ◌, Contains, int_cmp, int_eq, Less, AllByRecursion}
+use Rattle.rank_blocks.proofs.Cited.{ap, arith, ℤ, pos, ◌+ℤ◌, Contains, int_cmp, int_eq, Less, AllByRecursion}
 use Rattle.rank_blocks.proofs.Cited.{IsStrictlySortedBy, ints, block_of, DayValue, Usable, Summary, days_in, total}
-use Rattle.rank_blocks.proofs.Cited.{blocks_total, is_among, summaries_total, AreOfBlocks, HasSum}
-use Rattle.rank_blocks.proofs.Members.{from_each, of_each, contains-cases, total-cons}
-use Rattle.rank_blocks.proofs.DayValues.{lt-int_eq, other-int_eq}
+use Rattle.rank_blocks.proofs.Cited.{blocks_total, is_among, summaries_total, AreOfBlocks, HasSum, from_each, int_eq-no}
+use Rattle.rank_blocks.proofs.Members.{of_each, contains-cases, total-cons}
 use Rattle.rank_blocks.proofs.PossibleBlocks.{int_cmp-less}
-
--- measures that agree everywhere make the same of a list
-map-same : {X Y : Type 0} (f g : X → Y) (xs : List X) → ((x : X) → f x ≡ g x) → map f xs ≡ map g xs
-map-same f g [] same = refl
-map-same f g (x ∷ xs) same = ap (λ y. y ∷ map f xs) (same x) ∙ ap (λ ys. g x ∷ ys) (map-same f g xs same)
+use Rattle.std.proofs.Math.Path.{fun_ext}
 
 -- the total of zeros is zero
 total-zeros : (ns : List ℤ) → total (map (λ n. pos 0) ns) ≡ pos 0
 total-zeros [] = refl
-total-zeros (n ∷ ns) = let rest = total-zeros ns in omega (arith, ints)
+total-zeros (n ∷ ns) = omega (arith, ints, total-zeros ns)
 
 module _ (P : ℤ → Bool) (b v : ℤ) (g : ℤ → ℤ) where
   -- what each block has, once v was added to that of block b
@@ -29,7 +24,7 @@ module _ (P : ℤ → Bool) (b v : ℤ) (g : ℤ → ℤ) where
   -- where block b isn't among them, nothing was added
   over-absent : (ns : List ℤ) → AllByRecursion (λ n. int_eq b n ≡ false) ns → over more ns ≡ over g ns
   over-absent [] h = refl
-  over-absent (n ∷ ns) h = grind (arith, ints, total-cons more P n ns, total-cons g P n ns, over-absent ns h.1)
+  over-absent (n ∷ ns) h = grind (arith, ints, over-absent ns h.1)
 
   -- two numbers are added together or each by itself
   added : (t : Bool) (y z : ℤ) → cond t (y +ℤ z) (pos 0) ≡ cond t y (pos 0) +ℤ cond t z (pos 0)
@@ -42,10 +37,10 @@ module _ (P : ℤ → Bool) (b v : ℤ) (g : ℤ → ℤ) where
   over-added [] sorted h = absurd (let lt = h.1 in omega arith)
   over-added (n ∷ ns) sorted h =
       elim (contains-cases n b ns h) [
-        | inl is ↦ search (rules, arith, ints, over-absent, from_each, lt-int_eq, int_cmp-less, added, total-cons)
+        | inl is ↦ search (rules, arith, ints, over-absent, from_each, int_eq-no, int_cmp-less, added, total-cons)
         | inr there ↦
             let lt = int_cmp-less n b (of_each (λ y. int_cmp n y ≡ Less) ns sorted.0 b there) in
-            let other = other-int_eq b n (λ e. omega (arith, ints, e)) in
+            let other = int_eq-no b n (λ e. omega (arith, ints, e)) in
             let part = ap (λ (t : Bool). cond (P n) (cond t (v +ℤ g n) (g n)) (pos 0)) other in
             omega (arith, ints, total-cons more P n ns, total-cons g P n ns, over-added ns sorted.1 there)
       ]
@@ -65,18 +60,15 @@ total-by_blocks P ns (x ∷ xs) sorted h =
     let g : ℤ → ℤ = λ n. total (map (λ y. y.1) (days_in xs n)) in
     let rest = total-by_blocks P ns xs sorted h.1 in
     let added = over-added P (block_of x.0) x.1 g ns sorted h.0 in
-    let fronts =
-    ap total (map-same (λ n. total (map (λ y. y.1) (days_in (x ∷ xs) n))) (more P (block_of x.0) x.1 g)
-    (filter P ns) (total-front x xs)) in
-    total-cons (λ (y : DayValue). y.1) (λ y. P (block_of y.0)) x xs
-    ∙ ap (λ (z : ℤ). cond (P (block_of x.0)) x.1 (pos 0) +ℤ z) rest ∙ sym added ∙ sym fronts
+    let fronts = ap (λ (h : ℤ → ℤ). total (map h (filter P ns))) (fun_ext (total-front x xs)) in
+    grind (arith, ints, rest, added, fronts)
 
 -- the totals of summaries are those of their blocks
 totals-summaries : (P : ℤ → Bool) (days : List DayValue) (ms : List Summary) → AllByRecursion (HasSum days) ms
     → total (map (λ m. m.total) (filter (λ m. P m.number) ms)) ≡ total
     (map (λ n. total (map (λ y. y.1) (days_in days n))) (filter P (map (λ m. m.number) ms)))
 totals-summaries P days [] h = refl
-totals-summaries P days (m ∷ ms) h = grind (arith, ints, total-cons, totals-summaries P days ms h.1)
+totals-summaries P days (m ∷ ms) h = grind (arith, ints, totals-summaries P days ms h.1)
 
 -- the total of some blocks is that of their days
 pub summaries_total-is : (s : Usable) (ms : List Summary) → AreOfBlocks (HasSum s.days) s ms → (w : ℕ) (first : ℤ)

@@ -1,10 +1,10 @@
 -- What is made of the values of a block, step by step.
-use Rattle.rank_blocks.proofs.Cited.{◌≡◌, ◌≢◌, ℕ, zero, suc, ◌+◌, ◌-◌, ◌*◌, ◌%◌, ◌<◌, ◌≤◌, ◌^◌, Bool, true, false, ◌⊎◌}
-use Rattle.rank_blocks.proofs.Cited.{inl, inr, List, length, get_or, set, refl, sym, ap, ◌∙◌, arith, ℤ, pos, below_more}
-use Rattle.rank_blocks.proofs.Cited.{w32, ◌==◌, bit_and, bit_or, not, rules, bit_at, bit_not, from_bool, int_max}
-use Rattle.rank_blocks.proofs.Cited.{int_min, get_or-set_other, bit_at-lt, bit_at-zero, bit_at_and, bit_at_not}
-use Rattle.rank_blocks.proofs.Cited.{bit_at_or, bit_at_set_same, bit_at_set_other, bit_at_ones, IsGreatest, HasZeros}
-use Rattle.rank_blocks.proofs.Cited.{IsScoreAmong, IsUsableScore, StandsFor, HasUsableAlone, IsPlacesOf, IsWordOf, ints}
+use Rattle.rank_blocks.proofs.Cited.{◌≡◌, ◌≢◌, ℕ, ◌+◌, ◌-◌, ◌*◌, ◌%◌, ◌<◌, ◌≤◌, ◌^◌, Bool, true, false, ◌⊎◌, inl, inr}
+use Rattle.rank_blocks.proofs.Cited.{List, length, get_or, set, ap, ◌∙◌, arith, ℤ, pos, below_more, w32, ◌==◌, bit_and}
+use Rattle.rank_blocks.proofs.Cited.{bit_or, not, rules, bit_at, bit_not, from_bool, int_max, int_min, get_or-set_other}
+use Rattle.rank_blocks.proofs.Cited.{bit_at-lt, bit_at-zero, bit_at_and, bit_at_not, bit_at_or, bit_at_set_same}
+use Rattle.rank_blocks.proofs.Cited.{bit_at_set_other, bit_at_ones, IsGreatest, HasZeros, IsScoreAmong, IsUsableScore}
+use Rattle.rank_blocks.proofs.Cited.{StandsFor, HasUsableAlone, IsPlacesOf, IsWordOf, ints}
 use Rattle.std.proofs.lemmas.Grind.{get_or-set_at}
 
 -- what is true of two numbers is true of the greater
@@ -21,30 +21,18 @@ pub greatest-shown : (f : ℤ → ℤ) (word : ℕ) (values : List ℤ) (z : ℤ
     → IsGreatest (IsUsableScore f word values) z
 greatest-shown f word values z zeros (inl other) of_z = grind (arith, ints, get_or, bit_at-lt, set)
 greatest-shown f word values z zeros (inr whole) of_z =
-    let every : (j : ℕ) → j < 32 → bit_at word j ≡ 1 = λ j lt. ap (λ w. bit_at w j) whole ∙ bit_at_ones 32 j lt in
-    grind (arith, ints)
+    grind (arith, ints, λ (j : ℕ) (lt : j < 32). ap (λ (w : ℕ). bit_at w j) whole ∙ bit_at_ones 32 j lt)
 
 -- the greatest of a row that has the values of the usable days alone
 pub greatest-alone : (f : ℤ → ℤ) (word : ℕ) (values row : List ℤ) (z : ℤ) → HasUsableAlone word values row
     → IsGreatest (IsScoreAmong f row) z → IsGreatest (IsUsableScore f word values) z
 greatest-alone f word values row z alone of_z = search (rules, arith)
 
-module _ (word : ℕ) (values : List ℤ) where
-  -- the value of a usable day stands for itself
-  pub stands-usable : (p : ℕ) (z : ℤ) → p < 32 → bit_at word p ≡ 1 → z ≡ get_or values p (pos 0)
-      → StandsFor word values p z
-  stands-usable p z lt bit is = record { usable = (p, lt, bit, sym is); kept = λ bit. is }
-
-  -- that of another usable day stands for an absent one
-  pub stands-absent : (p : ℕ) (first z : ℤ) → (bit_at word p ≡ 1 → ⊥) → IsUsableScore (λ v. v) word values first
-      → z ≡ first → StandsFor word values p z
-  stands-absent p first z absent value is = grind (arith, ints)
-
-  -- a row that is filled up to a place, with that place
-  pub row-more : (row : List ℤ) (p : ℕ) (z : ℤ) → p < length row → StandsFor word values p z
-      → ((j : ℕ) → j < p → StandsFor word values j (get_or row j (pos 0)))
-      → (j : ℕ) → j < p + 1 → StandsFor word values j (get_or (set row p z) j (pos 0))
-  row-more row p z lt here filled = search (rules, arith, below_more, get_or-set_other, get_or-set_at)
+-- a row that is filled up to a place, with that place
+pub row-more : (word : ℕ) (values row : List ℤ) (p : ℕ) (z : ℤ) → p < length row → StandsFor word values p z
+    → ((j : ℕ) → j < p → StandsFor word values j (get_or row j (pos 0)))
+    → (j : ℕ) → j < p + 1 → StandsFor word values j (get_or (set row p z) j (pos 0))
+row-more word values row p z lt here filled = search (rules, arith, below_more, get_or-set_other, get_or-set_at)
 
 -- a bit is added where a word has none yet
 added-bit : (word p : ℕ) (b : Bool) → p < 32 → bit_at word p ≡ 0 → bit_at (bit_or word (from_bool b * 2 ^ p % 2 ^ 32)) p
@@ -70,7 +58,7 @@ module _ (test : ℤ → Bool) (values : List ℤ) (word p : ℕ) (b : Bool) (lt
   -- it has no bit behind that place
   pub word-unread : ((j : ℕ) → p ≤ j → bit_at word j ≡ 0) → (j : ℕ) → p + 1 ≤ j
       → bit_at (bit_or word (from_bool b * 2 ^ p % 2 ^ 32)) j ≡ 0
-  word-unread unread j le = let other : j ≢ p = omega arith in other-bit word p j b lt other ∙ unread j (omega arith)
+  word-unread unread j le = grind (arith, ints, other-bit word p j b lt, unread j)
 
 -- the word of the usable days whose values pass
 pub usable-word : (test : ℤ → Bool) (word all : ℕ) (values : List ℤ) → IsPlacesOf test values all
@@ -80,12 +68,4 @@ usable-word test word all values read = grind (arith, ints, bit_at_and, get_or, 
 -- the places whose numbers don't pass one test, where these pass another
 pub other-places : (test other : ℤ → Bool) (word : ℕ) (values : List ℤ) → word < 2 ^ 32
     → ((v : ℤ) → not (test v) ≡ other v) → IsPlacesOf test values word → IsPlacesOf other values (bit_not w32 word)
-other-places test other word values fits are read = λ j lt.
-    ap (λ (k : ℕ). k == 1) (bit_at_not w32 word j fits lt) ∙ turned (bit_at word j) (bit_at-lt word j)
-    ∙ ap not (read j lt) ∙ are (get_or values j (pos 0))
-  where
-    -- a bit is turned
-    turned : (k : ℕ) → k < 2 → (1 - k == 1) ≡ not (k == 1)
-    turned zero lt = refl
-    turned (suc zero) lt = refl
-    turned (suc (suc k)) lt = absurd (omega arith)
+other-places test other word values fits are read = grind (arith, ints, bit_at_not w32 word, bit_at-lt word)

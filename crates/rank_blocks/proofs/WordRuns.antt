@@ -1,24 +1,19 @@
 -- The runs of the bits of a word.
-use Rattle.rank_blocks.proofs.Cited.{◌≡◌, ℕ, zero, suc, ◌+◌, ◌-◌, ◌*◌, ◌/◌, ◌%◌, ◌<◌, ◌≤◌, ◌^◌, true, min, ◌⊎◌, inl}
-use Rattle.rank_blocks.proofs.Cited.{inr, refl, sym, ap, ◌∙◌, arith, w32, ◌==◌, bit_and, bit_at, bit_not, leading_ones}
-use Rattle.rank_blocks.proofs.Cited.{trailing_ones, trailing_zeros, bit_at-zero, bit_at_and, bit_at_above}
-use Rattle.rank_blocks.proofs.Cited.{bit_at_cat_low, bit_at_cat_high, bit_at_not, bit_at_ones, bit_at-trailing_ones}
+use Rattle.rank_blocks.proofs.Cited.{◌≡◌, ℕ, zero, suc, ◌+◌, ◌-◌, ◌*◌, ◌/◌, ◌%◌, ◌<◌, ◌≤◌, ◌^◌, true, min, inl, inr}
+use Rattle.rank_blocks.proofs.Cited.{refl, ap, ◌∙◌, arith, w32, bit_and, bit_at, bit_not, leading_ones, trailing_ones}
+use Rattle.rank_blocks.proofs.Cited.{trailing_zeros, bit_at-zero, bit_at_and, bit_at_above, bit_at_cat_low}
+use Rattle.rank_blocks.proofs.Cited.{bit_at_cat_high, bit_at_not, bit_at_ones, bit_at-trailing_ones}
 use Rattle.rank_blocks.proofs.Cited.{bit_at-trailing_zeros, pow-succ', has_bit, AllPass, ComeFirst, ComeLast, ints}
+use Rattle.rank_blocks.proofs.Cited.{cases_lt}
 use Rattle.std.proofs.lemmas.Nat.{leading_top}
 use Rattle.ghcn_series.proofs.LastDays.{highest-bit}
-use Rattle.rank_blocks.proofs.DayValues.{at_most_or_more}
-
--- a bit that is set passes, and one that isn't fails
-set-is : (word j b : ℕ) → bit_at word j ≡ b → has_bit word j ≡ (b == 1)
-set-is word j b e = ap (λ (k : ℕ). k == 1) e
 
 -- the bits of a word moved up by one place
 moved-up : (w k : ℕ) → k + 1 < 32 → bit_at (w * 2 ^ 1 % 2 ^ 32) (k + 1) ≡ bit_at w k
 moved-up w k lt =
     let whole : (w * 2 ^ 1 / 2 ^ 32) * 2 ^ 32 + w * 2 ^ 1 % 2 ^ 32 ≡ w * 2 ^ 1 + 0 = omega arith in
-    sym (bit_at_cat_low (w * 2 ^ 1 / 2 ^ 32) 32 (w * 2 ^ 1 % 2 ^ 32) (k + 1) lt)
-    ∙ ap (λ (n : ℕ). bit_at n (k + 1)) whole ∙ bit_at_cat_high w 1 0 (k + 1) (omega arith) (omega arith)
-    ∙ ap (bit_at w) {x = k + 1 - 1} {y = k} (omega arith)
+    let low = bit_at_cat_low (w * 2 ^ 1 / 2 ^ 32) 32 (w * 2 ^ 1 % 2 ^ 32) (k + 1) lt in
+    grind (arith, whole, low, bit_at_cat_high w 1 0 (k + 1))
 
 -- a word that is moved up has no lowest bit
 lowest-empty : (w : ℕ) → bit_at (w * 2 ^ 1 % 2 ^ 32) 0 ≡ 0
@@ -47,13 +42,8 @@ module _ (word n ends : ℕ) (are : AreEnds word n ends) (fits : ends < 2 ^ 32) 
   next-some (suc k) lt bit =
       let both = next-bit (suc k) k (omega arith) lt in
       let first = are.some k (omega arith) (omega arith) in
-      let second = are.some (suc k) lt (omega arith) in (
-        omega (arith, first.0),
-        λ i low high. elim (at_most_or_more i k) [
-          | inl le ↦ first.1 i (omega arith) (omega arith)
-          | inr more ↦ second.1 i (omega arith) high
-        ],
-      )
+      let second = are.some (suc k) lt (omega arith) in
+      (omega (arith, first.0), λ i low high. grind (arith, first.1 i, second.1 i))
 
   -- more than n follow one another where a bit remains
   longer : (ends ≡ 0 → ⊥) → (from : ℕ) × (from + (n + 1) ≤ 32) × AllPass (has_bit word) from (from + (n + 1))
@@ -68,20 +58,16 @@ module _ (word n ends : ℕ) (are : AreEnds word n ends) (fits : ends < 2 ^ 32) 
   ends-next some_end within = record {
     some = next-some;
     every = λ k lt low pass.
-        let here = are.every k lt (omega arith) (λ i above below. pass i (omega arith) below) in
+        let here = are.every k lt (omega arith) (λ i above. pass i (omega arith)) in
         let before = are.every (k - 1) (omega arith) (omega arith)
         (λ i above below. pass i (omega arith) (omega arith)) in
         next-bit k (k - 1) (omega arith) lt ∙ omega arith;
     somewhere = longer some_end;
   }
 
--- a word is full, or it isn't
-full-or_not : (word : ℕ) → word < 2 ^ 32 → (word ≡ 2 ^ 32 - 1) ⊎ (word + 1 < 2 ^ 32)
-full-or_not word fits = elim (at_most_or_more (2 ^ 32) (word + 1)) [ inl le ↦ inl (omega arith) | inr lt ↦ inr lt ]
-
 -- all bits of a full word are set
 full-set : (word j : ℕ) → word ≡ 2 ^ 32 - 1 → j < 32 → has_bit word j ≡ true
-full-set word j full lt = set-is word j 1 (ap (λ (w : ℕ). bit_at w j) full ∙ bit_at_ones 32 j lt)
+full-set word j full lt = grind (arith, ints, ap (λ (w : ℕ). bit_at w j) full ∙ bit_at_ones 32 j lt)
 
 -- all bits of a full word come first
 full-first : trailing_ones w32 4_294_967_295 ≡ 32
@@ -96,30 +82,17 @@ full-last = refl
 -- the bits that come first
 pub first-ones : (word : ℕ) → word < 2 ^ 32 → ComeFirst (has_bit word) 32 (trailing_ones w32 word)
 first-ones word fits =
-    elim (full-or_not word fits) [
-      | inl full ↦ grind (arith, ints, full-first, full-set)
-      | inr other ↦
-          let lowest = bit_at-trailing_ones w32 word other in
-          record {
-            within = (omega arith);
-            pass = λ k low high. set-is word k 1 (lowest.2 k high);
-            ends = λ some. set-is word (trailing_ones w32 word) 0 lowest.1;
-          }
+    elim (cases_lt (word + 1) (2 ^ 32)) [
+      | inl other ↦ let lowest = bit_at-trailing_ones w32 word other in grind (arith, ints, lowest)
+      | inr le ↦ let full : word ≡ 2 ^ 32 - 1 = omega arith in grind (arith, ints, full-first, full-set)
     ]
 
 -- the bits that come last
 pub last-ones : (word : ℕ) → word < 2 ^ 32 → ComeLast (has_bit word) 32 (leading_ones w32 word)
 last-ones word fits =
-    elim (full-or_not word fits) [
-      | inl full ↦
-          let is : leading_ones w32 word ≡ 32 = ap (leading_ones w32) full ∙ full-last in
-          record {
-            within = omega arith;
-            pass = λ from at k low high. full-set word k full high;
-            begins =
-                λ k at. absurd (omega arith);
-          }
-      | inr other ↦
+    elim (cases_lt (word + 1) (2 ^ 32)) [
+      | inr le ↦ let full : word ≡ 2 ^ 32 - 1 = omega arith in grind (arith, ints, full-last, full-set)
+      | inl other ↦
           let unset : ℕ = bit_not w32 word in
           let top = leading_top 32 unset (omega arith) (omega arith) in
           let j : ℕ = top.0 in
@@ -128,12 +101,9 @@ last-ones word fits =
             within = omega arith;
             pass = λ from at k low high.
                 let above = bit_at_above unset (suc j) k top.3 (omega arith) in
-                let of_not = bit_at_not w32 word k fits high in
-                set-is word k 1 (omega arith);
+                grind (arith, ints, bit_at_not w32 word k fits high, above);
             begins = λ k at.
                 let here : k ≡ j = omega arith in
-                let of_not = bit_at_not w32 word k fits (omega arith) in
-                let set = ap (bit_at unset) here ∙ highest in
-                set-is word k 0 (omega arith);
+                grind (arith, ints, bit_at_not w32 word k fits, ap (bit_at unset) here ∙ highest);
           }
     ]

@@ -30,6 +30,7 @@ none_fails (t ∷ ts) e = elim (t.0) as (λ b. t.0 ≡ b → cond b (first_faili
       | false ↦ λ p f. absurd cc
     ] refl e
 
+-- and where all pass, none fails
 pub all_pass : (ts : List Test) → AllByRecursion Passes ts → first_failing ts ≡ None
 all_pass [] h = refl
 all_pass (t ∷ ts) h = ap (λ (b : Bool). cond b (first_failing ts) (Some t.1)) h.0 ∙ all_pass ts h.1
@@ -44,15 +45,18 @@ accepted-none (t ∷ ts) h e = elim (t.0) as (λ b. or_accepted (cond b (first_f
       | false ↦ λ f. absurd (h.0 f)
     ] e
 
+-- tests of two lists refuse where those of each do
 both : (xs ys : List Test) → AllByRecursion Refuses xs → AllByRecursion Refuses ys → AllByRecursion Refuses (xs ++ ys)
 both [] ys h k = k
 both (x ∷ xs) ys h k = (h.0, both xs ys h.1 k)
 
+-- and so do those that are made of each element
 each : {A : Type 0} (f : A → List Test) (xs : List A) → ((x : A) → AllByRecursion Refuses (f x))
     → AllByRecursion Refuses (flat_map f xs)
 each f [] h = tt
 each f (x ∷ xs) h = both (f x) (flat_map f xs) (h x) (each f xs h)
 
+-- no test of a report accepts
 report-refuse : (q : Asked) (c : Contents) (r : Reported) → AllByRecursion Refuses (report_tests q c r)
 report-refuse q c r = (
   λ e. absurd cc,
@@ -69,6 +73,7 @@ report-refuse q c r = (
       ))) (λ e. absurd cc, tt),
 )
 
+-- and none of a certificate
 certificate-refuse : (q : Asked) (c : Contents) (rows : List Candidate) (z : Certified)
     → AllByRecursion Refuses (certificate_tests q c rows z)
 certificate-refuse q c rows z = (
@@ -94,6 +99,7 @@ pub record AllPass (q : Asked) (c : Contents) (r : Result Reported ℕ) (z : Res
   pub certificate_read : z ≡ Ok certificate
   pub tests : AllByRecursion Passes (report_tests q c report ++ certificate_tests q c (of_rows report.rows) certificate)
 
+-- so papers that are accepted pass all tests
 pub accepted-pass : (q : Asked) (c : Contents) (r : Result Reported ℕ) (z : Result Certified ℕ)
     → judged q c r z ≡ Accepted → AllPass q c r z
 accepted-pass q c (Err n) z e = absurd cc
@@ -109,6 +115,7 @@ accepted-pass q c (Ok r) (Ok z) e = record {
       (certificate-refuse q c (of_rows r.rows) z)) e);
 }
 
+-- and papers that pass all tests are accepted
 pub pass-accepted : (q : Asked) (c : Contents) (r : Result Reported ℕ) (z : Result Certified ℕ) → AllPass q c r z
     → judged q c r z ≡ Accepted
 pass-accepted q c r z h =

@@ -38,7 +38,7 @@ use Rattle.rank_check.specs.InPieces.{rows_with, worst_of, IsAccepted, IsAbsent,
 use Rattle.rank_check.proofs.Each.{all_taken}
 use Rattle.rank_check.proofs.Failing.{slice_get-map}
 use Rattle.rank_check.proofs.KthScores.{kth-best}
-use Rattle.rank_check.proofs.Members.{In, of_one, for_each, found_in, any_in, kept_in, in_kept, in_map, map_in}
+use Rattle.ghcn_series.proofs.Members.{In, of_one, for_each, found_in, any_in, kept_in, in_kept, in_map, map_in}
 use Rattle.rank_check.proofs.Members.{among_in}
 use Rattle.rank_check.proofs.Piecing.{passing, each_passes, or_rest}
 use Rattle.rank_check.proofs.QueryMembers.{permuted_in, own_id, station_of, morsel_of, one_morsel}

@@ -24,9 +24,9 @@ use Rattle.rank_scores.specs.Morsels.{has_admitted, admitted_series, all_candida
 use Rattle.rank_scores.proofs.QueryCandidates.{candidates-own}
 use Rattle.ghcn_fields.proofs.Ordered as ordered
 use Rattle.rank_check.specs.Pieces.{is_morsel}
-use Rattle.rank_check.proofs.Members.{In, of_one, for_each, found_in, kept_in, in_kept, made_in, in_made, in_all}
-use Rattle.rank_check.proofs.Members.{all_in}
-use Rattle.rank_check.proofs.Members.{in_found}
+use Rattle.ghcn_series.proofs.Members.{In, of_one, for_each, found_in, kept_in, in_kept, made_in, in_made, in_all}
+use Rattle.ghcn_series.proofs.Members.{all_in}
+use Rattle.ghcn_series.proofs.Members.{in_found}
 
 -- what is there is in each permutation
 pub permuted_in : {X : Type 0} (xs ys : List X) → IsPermutation xs ys → (x : X) → In xs x → In ys x

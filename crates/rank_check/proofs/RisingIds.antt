@@ -21,7 +21,7 @@ use Rattle.ghcn_fields.proofs.Ordered as ordered
 use Rattle.rank_head.specs.HeadTests.{Rise, stands_before}
 use Rattle.rank_check.specs.declared.survey.Top.{Top}
 use Rattle.rank_check.specs.Survey.{top}
-use Rattle.rank_check.proofs.Members.{In, for_each}
+use Rattle.ghcn_series.proofs.Members.{In, for_each}
 use Rattle.rank_check.proofs.SortedTops.{by_id, by_id_total, comes_first, of_one, of_one-turned, tied_one}
 use Rattle.rank_check.proofs.SortedTops.{distinct_tops}
 use Rattle.rank_check.proofs.SortedTops.{sorted-top}

@@ -17,7 +17,7 @@ use Rattle.rank_papers.specs.Report.{Named}
 use Rattle.rank_head.specs.HeadTests.{of_rows}
 use Rattle.rank_head.specs.RightHead as head
 use Rattle.rank_check.specs.Pieces.{is_within, AreInOrder}
-use Rattle.rank_check.proofs.Members.{In, of_one, for_each}
+use Rattle.ghcn_series.proofs.Members.{In, of_one, for_each}
 use Rattle.rank_check.proofs.SortedCandidates.{same_from_tie, own_tie}
 
 -- ---- precedence
@@ -47,10 +47,11 @@ not_itself a e = one_way a a e e
 
 -- ---- within
 
--- the worst is within, and so is what precedes it
+-- the worst is within
 pub own_within : (w : Candidate) → is_within (Some w) w ≡ true
 own_within w = elim (precedes w w) as (λ b. (b || is_eq (full_cmp w w)) ≡ true) [ true ↦ refl | false ↦ own_tie w ]
 
+-- and so is what precedes it
 pub before_within : (w d : Candidate) → precedes d w ≡ true → is_within (Some w) d ≡ true
 before_within w d e = ap (λ (b : Bool). b || is_eq (full_cmp d w)) e
 

@@ -38,7 +38,7 @@ use Rattle.rank_scores.specs.QueryCandidates.{CandidatesAreApart}
 use Rattle.rank_scores.proofs.Ranks.{Descends}
 use Rattle.rank_check.proofs.Failing.{slice_get-map}
 use Rattle.rank_check.proofs.KthScores.{kth-best, last_taken}
-use Rattle.rank_check.proofs.Members.{In, of_one, for_each, in_any, kept_in, in_kept, in_map}
+use Rattle.ghcn_series.proofs.Members.{In, of_one, for_each, in_any, kept_in, in_kept, in_map}
 use Rattle.rank_check.proofs.Members.{in_among}
 use Rattle.rank_check.proofs.Piecing.{none_failing, all_passes, or_made}
 use Rattle.rank_check.proofs.PiecesSay.{row_in, rows_counted, pieces_say}

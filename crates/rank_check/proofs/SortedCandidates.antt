@@ -1,8 +1,8 @@
 -- The candidates of a query in order, and the rank of each.
-use Rattle.std.proofs.Common.{◌≡◌, ℕ, zero, suc, Bool, true, false, cond, List, [], ◌∷◌, length, take, Some, refl, sym}
+use Rattle.std.proofs.Common.{◌≡◌, ℕ, zero, suc, Bool, true, false, List, [], ◌∷◌, length, take, Some, refl, sym}
 use Rattle.std.proofs.Common.{ap, ◌∙◌, subst, ◌||◌}
 use Rattle.std.specs.Prelude.{slice_get, ◌==◌, ◌&&◌}
-use Rattle.std.specs.List.{find, IsDistinct}
+use Rattle.std.specs.List.{IsDistinct}
 use Rattle.std.specs.List.Sorted.{IsPermutation}
 use Rattle.std.specs.Ordering.{is_lt, is_le, is_eq, int_cmp, nat_cmp, int_eq, ordering_then}
 use Rattle.std.specs.declared.cmp.Ordering.{Ordering}
@@ -18,6 +18,7 @@ use Rattle.std.proofs.lemmas.Map.Keys.{IsDistinct-IsPermutation}
 use Rattle.ghcn_fields.specs.Sorting.{sorted_by}
 use Rattle.ghcn_files.specs.Ids.{same_id}
 use Rattle.ghcn_files.specs.IdLaws.{same_id-is}
+use Rattle.ghcn_series.proofs.Members.{found_in}
 use Rattle.rank_scores.specs.declared.candidate.Candidate.{Candidate}
 use Rattle.rank_scores.specs.Order.{precedes, rank_cmp, full_cmp, rank_in, best, begin_alike, AreApart}
 use Rattle.rank_scores.proofs.Listing.{full_cmp_total}
@@ -87,15 +88,6 @@ ordered-descends all apart =
 
 -- ---- the one at a place
 
--- what is found passes
-found_passes : (test : Candidate → Bool) (xs : List Candidate) (x : Candidate) → find test xs ≡ Some x → test x ≡ true
-found_passes test [] x e = absurd cc
-found_passes test (y ∷ ys) x e =
-    elim (test y) as (λ b. test y ≡ b → cond b (Some y) (find test ys) ≡ Some x → test x ≡ true) [
-      | true ↦ λ t f. let same : y ≡ x = cc in ap test (sym same) ∙ t
-      | false ↦ λ t f. found_passes test ys x f
-    ] refl e
-
 -- candidates that tie in all four parts are the same
 pub same_from_tie : (a b : Candidate) → is_eq (full_cmp a b) ≡ true → a ≡ b
 same_from_tie a b e =
@@ -135,8 +127,8 @@ among_at (x ∷ xs) (suc i) c e =
 module _ (all : List Candidate) (apart : AreApart all) where
   -- the rank is the place in order
   pub rank_at : (i : ℕ) (c : Candidate) → slice_get (in_order all) i ≡ Some c → (rank_in all c == i) ≡ true
-  rank_at i c e = found_passes (λ d. rank_in all d == i) all c
-      (of_rank-is all (in_order all) (ordered-permutation all) (ordered-descends all apart) i ∙ e)
+  rank_at i c e = (found_in (λ d. rank_in all d == i) all c
+      (of_rank-is all (in_order all) (ordered-permutation all) (ordered-descends all apart) i ∙ e)).1
 
   -- a candidate of a rank stands at that place in order
   pub at_rank : (i : ℕ) (c : Candidate) → is_among all c ≡ true → (rank_in all c == i) ≡ true

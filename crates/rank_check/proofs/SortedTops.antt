@@ -2,7 +2,7 @@
 use Rattle.std.proofs.Common.{◌≡◌, Bool, true, false, cond, List, [], ◌∷◌, map, filter, Some, None, refl, sym, ap, ◌∙◌}
 use Rattle.std.proofs.Common.{subst}
 use Rattle.std.specs.Prelude.{◌&&◌}
-use Rattle.std.specs.List.{find, filter_map, cons_option, AllByRecursion, IsDistinct}
+use Rattle.std.specs.List.{filter_map, cons_option, AllByRecursion, IsDistinct}
 use Rattle.std.specs.List.Sorted.{IsPermutation, IsSortedBy}
 use Rattle.std.specs.Cmp.{IsTotalOrder, IsStrictWeakOrder}
 use Rattle.std.specs.Cmp.Lexicographic.{slice_cmp}
@@ -20,6 +20,7 @@ use Rattle.ghcn_files.specs.Ids.{same_id}
 use Rattle.ghcn_files.specs.IdLaws.{same_id-is}
 use Rattle.ghcn_series.specs.Series.{Usable, Contents, series_of, is_series_of}
 use Rattle.ghcn_series.specs.Held.{IsContents}
+use Rattle.ghcn_series.proofs.Members.{found_in}
 use Rattle.rank_query.specs.Asked.{Asked, score_element}
 use Rattle.rank_query.specs.Admits.{admits_station}
 use Rattle.rank_scores.specs.Morsels.{has_admitted, admitted_series, morsels, id_comes_first}
@@ -89,15 +90,6 @@ module _ (q : Asked) where
 
 -- ---- no two series are of one station
 
--- what is found passes
-found_passes : {X : Type 0} (test : X → Bool) (xs : List X) (x : X) → find test xs ≡ Some x → test x ≡ true
-found_passes test [] x e = absurd cc
-found_passes test (y ∷ ys) x e =
-    elim (test y) as (λ b. test y ≡ b → cond b (Some y) (find test ys) ≡ Some x → test x ≡ true) [
-      | true ↦ λ t f. let same : y ≡ x = cc in ap test (sym same) ∙ t
-      | false ↦ λ t f. found_passes test ys x f
-    ] refl e
-
 -- of none no two are
 no_tops : IsDistinct of_one []
 unfolding IsDistinct
@@ -112,7 +104,7 @@ module _ (q : Asked) (c : Contents) where
       by false f = absurd cc
       by true f =
           let passes : (same_id u.id st.id && _) ≡ true =
-          found_passes (is_series_of st.id (score_element q.score)) c.series u f in
+          (found_in (is_series_of st.id (score_element q.score)) c.series u f).1 in
           same_id-is u.id st.id (and_parts (same_id u.id st.id) _ passes).0
 
   -- those of some series that have an admitted day, with their greatest scores

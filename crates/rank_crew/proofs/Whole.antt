@@ -32,6 +32,7 @@ module _ (b : Board) (t : Task) (guess : Option ℤ) (workers rights : ℕ) (beg
     end_state : State
     end_state = record { next = closed.next; floor = closed.floor; workers = g.crew }
 
+    -- what stands raised in the end is what the workers raised
     all_raised : raised_of after ≡ raised_in (all_exchanges t g.crew)
     all_raised = g.raised ∙ ap (λ (l : List ℤ). l ++ raised_in (all_exchanges t g.crew)) open_.raised
 

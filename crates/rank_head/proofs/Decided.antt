@@ -65,10 +65,11 @@ module _ (q : Asked) (r : Reported) (z : Certified) where
   abbrev behind : List Test
   behind = place_tests q r.rows z.kth z.entries ++ count_tests r.rows z.entries z.counts
 
-  -- the test of the report's query, and that of the certificate's
+  -- the test of the report's query
   abbrev of_report : Test
   of_report = (same_query r.query q, OtherReportQuery)
 
+  -- and that of the certificate's
   abbrev of_certificate : Test
   of_certificate = (same_query z.query q, OtherCertificateQuery)
 

@@ -3,7 +3,7 @@ use Rattle.std.proofs.Common.{◌≡◌, ℕ, zero, suc, Bool, true, false, List
 use Rattle.std.proofs.Common.{None, cond, refl, sym, ap, ◌∙◌, ℤ, arith, ◌⊎◌, inl, inr, not, ◌++◌, length, subst, ◌≤ℤ◌}
 use Rattle.std.proofs.Common.{append_assoc}
 use Rattle.std.specs.Prelude.{slice_get, int_lt, ◌==◌}
-use Rattle.std.specs.List.{find, filter_map, cons_option, AllByRecursion, AllZip, IsDistinct, flat_map}
+use Rattle.std.specs.List.{filter_map, cons_option, AllByRecursion, AllZip, IsDistinct, flat_map}
 use Rattle.std.specs.Option.{option_map}
 use Rattle.std.specs.Cmp.{IsTotalOrder}
 use Rattle.std.specs.Cmp.Lexicographic.{slice_cmp}
@@ -24,6 +24,7 @@ use Rattle.ghcn_files.specs.IdLaws.{same_id-is, same_id-turned, same_id-laws}
 use Rattle.ghcn_series.specs.Series.{Usable, Contents, series_of, is_series_of}
 use Rattle.ghcn_series.specs.Held.{IsContents}
 use Rattle.ghcn_series.proofs.ListFacts.{distinct_filter, both_all}
+use Rattle.ghcn_series.proofs.Members.{found_in}
 use Rattle.rank_query.specs.Asked.{Asked, score_element, IsAsked}
 use Rattle.rank_query.specs.Admits.{admits_station}
 use Rattle.rank_scores.specs.declared.candidate.Candidate.{Candidate}
@@ -100,11 +101,6 @@ unfolding IsDistinct
 by_ids id [] d = tt
 by_ids id (x ∷ xs) d = (all-mapped (λ i. same_id (id x) i ≡ false) id xs d.0, by_ids id xs d.1)
 
--- what is found passes
-found_passes : {X : Type 0} (p : X → Bool) (xs : List X) (x : X) → find p xs ≡ Some x → p x ≡ true
-found_passes p [] x e = absurd cc
-found_passes p (y ∷ ys) x e = let behind = found_passes p ys x in grind arith
-
 module _ (q : Asked) (c : Contents) where
   -- the series of a station of the query's element
   abbrev of_station : Station → Option Usable
@@ -113,7 +109,7 @@ module _ (q : Asked) (c : Contents) where
   -- has its ID
   own_id : (st : Station) (u : Usable) → of_station st ≡ Some u → u.id ≡ st.id
   own_id st u e =
-      let passes = found_passes (is_series_of st.id (score_element q.score)) c.series u e in
+      let passes = (found_in (is_series_of st.id (score_element q.score)) c.series u e).1 in
       same_id-is u.id st.id (and_parts (same_id u.id st.id) _ passes).0
 
   -- so the series of different stations are different

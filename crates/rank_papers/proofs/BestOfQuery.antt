@@ -2,14 +2,14 @@
 use Rattle.std.proofs.Common.{◌≡◌, ◌⊎◌, inl, inr, ℕ, zero, suc, ◌≤◌, List, [], ◌∷◌, ◌++◌}
 use Rattle.std.proofs.Common.{length, take, refl, sym, ap, ◌∙◌, subst, arith, true}
 use Rattle.std.specs.List.{flat_map, AllByRecursion, Contains}
-use Rattle.std.specs.List.Sorted.{IsStrictlySortedBy, IsPermutation}
+use Rattle.std.specs.List.Sorted.{IsStrictlySortedBy}
 use Rattle.std.specs.Ordering.{is_lt, is_le, ordering_then, ordering_reverse}
 use Rattle.std.specs.declared.cmp.Ordering.{Ordering}
 use Rattle.std.specs.declared.cmp.Ordering.TheVariants.{Less, Equal, Greater}
 use Rattle.std.proofs.lemmas.List.{length-take}
-use Rattle.std.proofs.lemmas.List.Sorted.{IsPermutation-sym, All-permutation}
-use Rattle.std.proofs.lemmas.List.Elements.{recursion_from_All, All-from_recursion}
+use Rattle.std.proofs.lemmas.List.Sorted.{IsPermutation-sym}
 use Rattle.ghcn_fields.proofs.Ordered.{Descend}
+use Rattle.ghcn_series.proofs.Members.{In, contains-in, in-contains, of_one, for_each, in_all, in_permuted}
 use Rattle.ghcn_series.specs.Series.{Usable, Contents, IsSeries}
 use Rattle.ghcn_series.specs.Held.{IsContents}
 use Rattle.rank_query.specs.Asked.{Asked, IsAsked}
@@ -26,60 +26,10 @@ use Rattle.rank_pool.specs.First.{in_order}
 use Rattle.rank_pool.proofs.Orders.{same_place, take-all}
 use Rattle.rank_pool.proofs.Ranked.{in_order-permutation, in_order-descends, best-first}
 use Rattle.rank_papers.specs.Right.{IsOfQuery, AreBest}
-use Rattle.rank_papers.specs.RightLaws.{BestAreFound, BestAreOne}
+use Rattle.rank_papers.specs.RightLaws.{IsHeldSeries, HaveOneBest, BestAreFound}
 use Rattle.rank_papers.proofs.RightCertificates.{series_hold}
 
--- ---- what stands in a list
-
--- the element is in the list
-abbrev pub In : {X : Type 0} → List X → X → Type 0
-In [] x = ⊥
-In (y ∷ ys) x = (y ≡ x) ⊎ In ys x
-
--- what is in a list by its place is in it by recursion
-pub contains-in : {X : Type 0} (xs : List X) (x : X) → Contains xs x → In xs x
-contains-in [] x (k, lt, at) = absurd (omega (arith, lt))
-contains-in (y ∷ ys) x (zero, lt, at) = inl at
-contains-in (y ∷ ys) x (suc k, lt, at) = inr (contains-in ys x (k, omega (arith, lt), at))
-
--- and the other way round
-pub in-contains : {X : Type 0} (xs : List X) (x : X) → In xs x → Contains xs x
-in-contains [] x h = absurd h
-in-contains (y ∷ ys) x (inl at) = (0, omega arith, at)
-in-contains (y ∷ ys) x (inr h) = let there = in-contains ys x h in (suc there.0, omega (arith, there.1), there.2)
-
--- what is true of all is true of what is in the list
-pub held : {X : Type 0} (P : X → Type 0) (xs : List X) (x : X) → AllByRecursion P xs → In xs x → P x
-held P [] x all h = absurd h
-held P (y ∷ ys) x all (inl e) = subst P e all.0
-held P (y ∷ ys) x all (inr h) = held P ys x all.1 h
-
--- each of a list is in it
-pub each_in : {X : Type 0} (xs : List X) → AllByRecursion (In xs) xs
-each_in [] = tt
-each_in (x ∷ xs) = (inl refl, from_each (In xs) (In (x ∷ xs)) xs (λ y h. inr h) (each_in xs))
-
--- the elements of a list are in each permutation
-pub in_permuted : {X : Type 0} (xs ys : List X) → IsPermutation xs ys → AllByRecursion (In ys) xs
-in_permuted xs ys p = recursion_from_All (In ys) xs
-    (All-permutation (In ys) ys xs (IsPermutation-sym xs ys p) (All-from_recursion (In ys) ys (each_in ys)))
-
--- what is in the second of two lists is in both, one after the other
-in_behind : {X : Type 0} (xs ys : List X) (x : X) → In ys x → In (xs ++ ys) x
-in_behind [] ys x h = h
-in_behind (z ∷ zs) ys x h = inr (in_behind zs ys x h)
-
--- so is what is in the first
-in_front : {X : Type 0} (xs ys : List X) (x : X) → In xs x → In (xs ++ ys) x
-in_front [] ys x h = absurd h
-in_front (z ∷ zs) ys x (inl e) = inl e
-in_front (z ∷ zs) ys x (inr h) = inr (in_front zs ys x h)
-
--- what is made of an element is among what is made of all
-in_made : {X Y : Type 0} (f : X → List Y) (xs : List X) (x : X) (y : Y) → In xs x → In (f x) y → In (flat_map f xs) y
-in_made f [] x y h k = absurd h
-in_made f (z ∷ zs) x y (inl e) k = in_front (f z) (flat_map f zs) y (subst (λ w. In (f w) y) (sym e) k)
-in_made f (z ∷ zs) x y (inr h) k = in_behind (f z) (flat_map f zs) y (in_made f zs x y h k)
+-- ---- lists
 
 -- what is true of all of two lists
 each_joined : {X : Type 0} (P : X → Type 0) (xs ys : List X) → AllByRecursion P xs → AllByRecursion P ys
@@ -94,7 +44,7 @@ abbrev Before : Candidate → Candidate → Type 0
 Before a b = full_cmp a b ≡ Less
 
 -- two answers that are each Less can't be the reverse of each other
-both_less : (o p : Ordering) → o ≡ ordering_reverse p → o ≡ Less → p ≡ Less → ⊥
+pub both_less : (o p : Ordering) → o ≡ ordering_reverse p → o ≡ Less → p ≡ Less → ⊥
 both_less o p e f g = absurd (let other : Less ≡ ordering_reverse Less = sym f ∙ e ∙ ap ordering_reverse g in cc)
 
 -- of two candidates at most one is listed before the other
@@ -133,16 +83,18 @@ descends-before (x ∷ xs) h = (
 )
 
 -- a list in order descends
-sorted-descends : (xs : List Candidate) → IsStrictlySortedBy full_cmp xs → Descend Before xs
+pub sorted-descends : {X : Type 0} (order : X → X → Ordering) (xs : List X) → IsStrictlySortedBy order xs
+    → Descend (λ a b. order a b ≡ Less) xs
 unfolding IsStrictlySortedBy
-sorted-descends [] h = tt
-sorted-descends (x ∷ xs) h = (h.0, sorted-descends xs h.1)
+sorted-descends order [] h = tt
+sorted-descends order (x ∷ xs) h = (h.0, sorted-descends order xs h.1)
 
 -- and the other way round
-descends-sorted : (xs : List Candidate) → Descend Before xs → IsStrictlySortedBy full_cmp xs
+pub descends-sorted : {X : Type 0} (order : X → X → Ordering) (xs : List X) → Descend (λ a b. order a b ≡ Less) xs
+    → IsStrictlySortedBy order xs
 unfolding IsStrictlySortedBy
-descends-sorted [] h = tt
-descends-sorted (x ∷ xs) h = (h.0, descends-sorted xs h.1)
+descends-sorted order [] h = tt
+descends-sorted order (x ∷ xs) h = (h.0, descends-sorted order xs h.1)
 
 -- ---- the first k of what has a property
 
@@ -160,7 +112,7 @@ none_before P k y x ys t p b = by (t.others x p)
   where
     by : In (y ∷ ys) x ⊎ ((length (y ∷ ys) ≡ k) × AllByRecursion (λ z. Before z x) (y ∷ ys)) → ⊥
     by (inl (inl e)) = let own : Before x x = subst (Before x) e b in asym x x own own
-    by (inl (inr h)) = asym x y b (held (Before y) ys x t.order.0 h)
+    by (inl (inr h)) = asym x y b (of_one (Before y) ys x t.order.0 h)
     by (inr all) = asym x y b all.1.0
 
 -- where there are none, nothing has the property or none is wanted
@@ -224,7 +176,7 @@ out_of_take (suc k) (x ∷ xs) h z (inr i) = by (out_of_take k xs h.1 z i)
         → In (x ∷ take k xs) z
         ⊎ ((length (x ∷ take k xs) ≡ suc k) × AllByRecursion (λ b. Before b z) (x ∷ take k xs))
     by (inl j) = inl (inr j)
-    by (inr all) = inr (ap suc all.0, (held (Before x) xs z h.0 i, all.1))
+    by (inr all) = inr (ap suc all.0, (of_one (Before x) xs z h.0 i, all.1))
 
 -- so they are the first k of what is in the list
 take_top : (P : Candidate → Type 0) (k : ℕ) (xs : List Candidate) → Descend Before xs → AllByRecursion P xs
@@ -239,11 +191,12 @@ take_top P k xs h all inside = record {
 -- ---- the best of a query
 
 -- the first k of its candidates are the best
-top_best : (q : Asked) (c : Contents) (best : List Candidate) → AreTop (IsOfQuery q c) q.k best → AreBest q c best
-top_best q c best t = record {
+top_best : (q : Asked) (IsOne : Usable → Type 0) (best : List Candidate) → AreTop (IsOfQuery q IsOne) q.k best
+    → AreBest q IsOne best
+top_best q IsOne best t = record {
   few = t.few;
   of_query = t.have;
-  order = descends-sorted best t.order;
+  order = descends-sorted full_cmp best t.order;
   others = λ x p. by x (t.others x p);
 }
   where
@@ -253,11 +206,12 @@ top_best q c best t = record {
     by x (inr all) = inr all
 
 -- and the other way round
-best_top : (q : Asked) (c : Contents) (best : List Candidate) → AreBest q c best → AreTop (IsOfQuery q c) q.k best
-best_top q c best b = record {
+best_top : (q : Asked) (IsOne : Usable → Type 0) (best : List Candidate) → AreBest q IsOne best
+    → AreTop (IsOfQuery q IsOne) q.k best
+best_top q IsOne best b = record {
   few = b.few;
   have = b.of_query;
-  order = sorted-descends best b.order;
+  order = sorted-descends full_cmp best b.order;
   others = λ x p. by x (b.others x p);
 }
   where
@@ -267,8 +221,8 @@ best_top q c best b = record {
     by x (inr all) = inr all
 
 -- so there is one list of the best
-pub best_are_one : BestAreOne
-best_are_one q c a b s t = one_top (IsOfQuery q c) q.k a b (best_top q c a s) (best_top q c b t)
+pub best_are_one : (q : Asked) (IsOne : Usable → Type 0) → HaveOneBest q IsOne
+best_are_one q IsOne a b s t = one_top (IsOfQuery q IsOne) q.k a b (best_top q IsOne a s) (best_top q IsOne b t)
 
 module _ (q : Asked) (c : Contents) (asked : IsAsked q) (right : IsContents c) where
   -- the series of the query are right
@@ -276,47 +230,47 @@ module _ (q : Asked) (c : Contents) (asked : IsAsked q) (right : IsContents c) w
   series_right = series_hold IsSeries q c right.series.right
 
   -- a candidate of the query is listed
-  is_listed : (x : Candidate) → IsOfQuery q c x → In (all_candidates q c) x
+  is_listed : (x : Candidate) → IsOfQuery q (IsHeldSeries q c) x → In (all_candidates q c) x
   is_listed x (s, there, is) =
       let in_series = contains-in (admitted_series q c) s there in
-      let series = held IsSeries (admitted_series q c) s series_right in_series in
-      in_made (candidates q) (admitted_series q c) s x in_series
+      let series = of_one IsSeries (admitted_series q c) s series_right in_series in
+      in_all (candidates q) (admitted_series q c) s x in_series
       (contains-in (candidates q s) x ((exactly q s series asked x).1 is))
 
   -- the candidates of some of the query's series are of the query
   each_of_query : (ss : List Usable) → AllByRecursion (In (admitted_series q c)) ss → AllByRecursion IsSeries ss
-      → AllByRecursion (IsOfQuery q c) (flat_map (candidates q) ss)
+      → AllByRecursion (IsOfQuery q (IsHeldSeries q c)) (flat_map (candidates q) ss)
   each_of_query [] are series = tt
   each_of_query (s ∷ ss) are series =
-      each_joined (IsOfQuery q c) (candidates q s) (flat_map (candidates q) ss)
-      (from_each (In (candidates q s)) (IsOfQuery q c) (candidates q s)
+      each_joined (IsOfQuery q (IsHeldSeries q c)) (candidates q s) (flat_map (candidates q) ss)
+      (from_each (In (candidates q s)) (IsOfQuery q (IsHeldSeries q c)) (candidates q s)
       (λ x h. (
         s,
         in-contains (admitted_series q c) s are.0,
         (exactly q s series.0 asked x).0 (in-contains (candidates q s) x h),
       ))
-      (each_in (candidates q s)))
+      (for_each (In (candidates q s)) (candidates q s) (λ x h. h)))
       (each_of_query ss are.1 series.1)
 
   -- what is found by rank are the best
-  found_best : AreBest q c (best_of_query q c)
+  found_best : AreBest q (IsHeldSeries q c) (best_of_query q c)
   found_best =
       let all : List Candidate = all_candidates q c in
       let xs : List Candidate = in_order all in
       let moved : AllByRecursion (In xs) all = in_permuted all xs (in_order-permutation all) in
-      let of_query : AllByRecursion (IsOfQuery q c) all =
-      each_of_query (admitted_series q c) (each_in (admitted_series q c)) series_right in
+      let of_query : AllByRecursion (IsOfQuery q (IsHeldSeries q c)) all =
+      each_of_query (admitted_series q c) (for_each (In (admitted_series q c)) (admitted_series q c) (λ t h. h)) series_right in
       let back : AllByRecursion (In all) xs =
       in_permuted xs all (IsPermutation-sym all xs (in_order-permutation all)) in
-      subst (AreBest q c) (sym (best-first q.k all (all_apart q c right)))
-      (top_best q c (take q.k xs) (take_top (IsOfQuery q c) q.k xs
+      subst (AreBest q (IsHeldSeries q c)) (sym (best-first q.k all (all_apart q c right)))
+      (top_best q (IsHeldSeries q c) (take q.k xs) (take_top (IsOfQuery q (IsHeldSeries q c)) q.k xs
       (descends-before xs (in_order-descends all (all_apart q c right)))
-      (from_each (In all) (IsOfQuery q c) xs (λ x h. held (IsOfQuery q c) all x of_query h) back)
-      (λ x p. held (In xs) all x moved (is_listed x p))))
+      (from_each (In all) (IsOfQuery q (IsHeldSeries q c)) xs (λ x h. of_one (IsOfQuery q (IsHeldSeries q c)) all x of_query h) back)
+      (λ x p. of_one (In xs) all x moved (is_listed x p))))
 
 -- the best by rank are the best by what they are, and no other list is
 pub best_found : BestAreFound
 best_found q c best asked right = (
-  λ e. subst (AreBest q c) (sym e) (found_best q c asked right),
-  λ b. best_are_one q c best (best_of_query q c) b (found_best q c asked right),
+  λ e. subst (AreBest q (IsHeldSeries q c)) (sym e) (found_best q c asked right),
+  λ b. best_are_one q (IsHeldSeries q c) best (best_of_query q c) b (found_best q c asked right),
 )

@@ -105,6 +105,7 @@ entry_in-is w line l h =
 
 -- ---- the entries and the end line
 
+-- lines are those of these entries, and then the end line
 pub record AreEntries (w n : ℕ) (ls : List (List ℕ)) (es : List Counted) : Type 0 where
   pub text : joined ls ≡ flat_map (entry_line w) es ++ end_line (n + length es)
   pub each : AllByRecursion (IsCounted w) es

@@ -1,27 +1,29 @@
 -- Papers with what is found by rank are right by what they have, and those of what a query needs are those of all data.
 use Rattle.std.proofs.Common.{◌≡◌, ◌⊎◌, inl, inr, ℕ, Bool, true, false, List, [], ◌∷◌, ◌++◌, map, filter, refl}
 use Rattle.std.proofs.Common.{sym, ap, ◌∙◌, arith, subst, Option, Some, None, ℤ, ◌<ℤ◌, not}
-use Rattle.std.specs.Prelude.{◌↔◌, ◌<◌, ◌==◌, if◌then◌else◌, length, int_lt}
+use Rattle.std.specs.Prelude.{◌↔◌, ◌==◌, if◌then◌else◌, length, int_lt}
 use Rattle.std.specs.List.{AllByRecursion, AllZip, Contains, flat_map, count_by}
 use Rattle.std.proofs.lemmas.Int.{ints}
+use Rattle.ghcn_files.specs.declared.station.Station.{Station}
 use Rattle.ghcn_files.specs.Ids.{same_id}
 use Rattle.ghcn_series.specs.Series.{Usable, Contents, IsSeries}
 use Rattle.ghcn_series.specs.Held.{IsContents}
 use Rattle.rank_query.specs.Asked.{Asked, IsAsked}
 use Rattle.rank_scores.specs.declared.candidate.Candidate.{Candidate}
-use Rattle.rank_scores.specs.Candidates.{admitted, IsCandidateOf}
+use Rattle.rank_scores.specs.Candidates.{admitted}
 use Rattle.rank_scores.specs.Morsels.{admitted_series, all_candidates, best_of_query, kth_of_query, morsels}
 use Rattle.rank_scores.specs.Morsels.{id_comes_first}
 use Rattle.rank_scores.specs.Order.{is_below}
 use Rattle.rank_scores.specs.OneElement.{data_for, SeriesStay}
 use Rattle.rank_scores.proofs.Exactly.{bounds}
-use Rattle.rank_scores.proofs.Rising.{all-filter}
+use Rattle.rank_scores.proofs.Rising.{all-filter, from_each}
 use Rattle.rank_scores.proofs.QueryCandidates.{all_apart}
 use Rattle.rank_pool.proofs.Orders.{sorted-all}
 use Rattle.rank_papers.specs.Report.{query_line}
 use Rattle.rank_papers.specs.Certificate.{Entry, IsCertificate, IsRightEntry, certificate_text, counted, count_of}
 use Rattle.rank_papers.specs.Certificate.{counts_of, kth_of_best, title_line, kth_line, entry_line, end_line}
-use Rattle.rank_papers.specs.Right.{AreSeriesOf, AreBest, IsRightReport, IsTrueEntry, IsRightCertificate}
+use Rattle.rank_papers.specs.Right.{IsOfQuery, AreSeriesOf, AreBest, IsRightReport, IsTrueEntry, IsRightCertificate}
+use Rattle.rank_papers.specs.RightLaws.{IsHeldSeries, IsRightCertificateFor}
 use Rattle.rank_papers.specs.RightLaws.{ReportsAreFound, CertificatesAreFound, RightReportStays, RightCertificateStays}
 use Rattle.rank_papers.proofs.PlanPapers.{kth-best, some_asked}
 use Rattle.rank_papers.proofs.RightCertificates.{series_hold}
@@ -156,9 +158,9 @@ module _ (q : Asked) (c : Contents) (asked : IsAsked q) (right : IsContents c) w
 
   -- a certificate with what is found is right
   certificate_true : (version : ℕ) (bytes : List ℕ) (h : IsCertificate q c bytes) → h.version ≡ version
-      → IsRightCertificate version q c bytes
+      → IsRightCertificateFor version q c bytes
   certificate_true version bytes h e =
-      subst (λ (v : ℕ). IsRightCertificate v q c bytes) e (record {
+      subst (λ (v : ℕ). IsRightCertificateFor v q c bytes) e (record {
         known = h.known;
         best = best_of_query q c;
         are = (best_found q c (best_of_query q c) asked right).0 refl;
@@ -173,11 +175,11 @@ module _ (q : Asked) (c : Contents) (asked : IsAsked q) (right : IsContents c) w
       })
 
   -- and a right one has what is found
-  certificate_found : (version : ℕ) (bytes : List ℕ) → IsRightCertificate version q c bytes
+  certificate_found : (version : ℕ) (bytes : List ℕ) → IsRightCertificateFor version q c bytes
       → (h : IsCertificate q c bytes) × (h.version ≡ version)
   certificate_found version bytes h =
       let best : h.best ≡ best_of_query q c = (best_found q c h.best asked right).1 h.are in
-      let series : h.series ≡ morsels q c = one_series q c h.series (morsels q c) h.all (morsels_are q c asked right) in
+      let series : h.series ≡ morsels q c = one_series q (IsHeldSeries q c) h.series (morsels q c) h.all (morsels_are q c asked right) in
       let kth : h.kth ≡ kth_of_query q c = h.of_last ∙ ap (kth_of_best q.k) best ∙ kth_found in (
         record {
           version = version;
@@ -205,68 +207,82 @@ certificates_found version q c bytes asked right = (
   λ h. certificate_found q c asked right version bytes h,
 )
 
+-- ---- the same series
+
+module _ (q : Asked) (A B : Usable → Type 0) (same : (s : Usable) → A s ↔ B s) where
+  -- a candidate of a series of the one is that of a series of the other
+  candidate-moved : (x : Candidate) → IsOfQuery q A x → IsOfQuery q B x
+  candidate-moved x h = (h.0, (same h.0).0 h.1, h.2)
+
+  -- the best of the one are those of the other
+  best-moved : (best : List Candidate) → AreBest q A best → AreBest q B best
+  best-moved best is = record {
+    few = is.few;
+    of_query = from_each (IsOfQuery q A) (IsOfQuery q B) best candidate-moved is.of_query;
+    order = is.order;
+    others = λ x h. is.others x (h.0, (same h.0).1 h.1, h.2);
+  }
+
+  -- and so are the series with an admitted day
+  series-moved : (series : List Usable) → AreSeriesOf q A series → AreSeriesOf q B series
+  series-moved series is = record {
+    are = λ s. (
+      λ h. let there = (is.are s).0 h in ((same s).0 there.0, there.1),
+      λ h. (is.are s).1 ((same s).1 h.0, h.1),
+    );
+    by_id = is.by_id;
+  }
+
+  -- so a right report of the one is right for the other
+  pub report-moved : (stations : List Station) (bytes : List ℕ) → IsRightReport q stations A bytes
+      → IsRightReport q stations B bytes
+  report-moved stations bytes h = record {
+    rows = h.rows;
+    best = best-moved (map (λ row. row.0) h.rows) h.best;
+    listed = h.listed;
+    text = h.text;
+  }
+
+  -- and a right certificate
+  pub certificate-moved : (version : ℕ) (bytes : List ℕ) → IsRightCertificate version q A bytes
+      → IsRightCertificate version q B bytes
+  certificate-moved version bytes h = record {
+    known = h.known;
+    best = h.best;
+    are = best-moved h.best h.are;
+    kth = h.kth;
+    of_last = h.of_last;
+    series = h.series;
+    all = series-moved h.series h.all;
+    entries = h.entries;
+    right = h.right;
+    text = h.text;
+  }
+
+-- what holds both ways holds so the other way round
+pub turned : {A B : Type 0} → A ↔ B → B ↔ A
+turned e = (e.1, e.0)
+
 -- ---- what a query needs
 
--- x is a candidate of one of these series
-abbrev IsOfOne : Asked → List Usable → Candidate → Type 0
-IsOfOne q ss x = (s : Usable) × Contains ss s × IsCandidateOf q s x
-
--- the best of data with the same series
-best-moved : (q : Asked) (a b : Contents) (best : List Candidate) → admitted_series q a ≡ admitted_series q b
-    → AreBest q a best → AreBest q b best
-best-moved q a b best same is = record {
-  few = is.few;
-  of_query = subst (λ (ss : List Usable). AllByRecursion (IsOfOne q ss) best) same is.of_query;
-  order = is.order;
-  others = λ x h. is.others x (subst (λ (ss : List Usable). IsOfOne q ss x) (sym same) h);
-}
-
--- the series of data with the same series
-series-moved : (q : Asked) (a b : Contents) (series : List Usable) → admitted_series q a ≡ admitted_series q b
-    → AreSeriesOf q a series → AreSeriesOf q b series
-series-moved q a b series same is = record {
-  are = subst (λ (ss : List Usable).
-      (s : Usable) → Contains series s ↔ (Contains ss s × (0 < length (admitted q s)))) same is.are;
-  by_id = is.by_id;
-}
-
--- a right report
-report-moved : (q : Asked) (a b : Contents) (bytes : List ℕ) → a.stations ≡ b.stations
-    → admitted_series q a ≡ admitted_series q b → IsRightReport q a bytes → IsRightReport q b bytes
-report-moved q a b bytes listed same h = record {
-  rows = h.rows;
-  best = best-moved q a b (map (λ row. row.0) h.rows) same h.best;
-  listed = rw (sym listed) h.listed;
-  text = h.text;
-}
-
--- and a right certificate
-certificate-moved : (version : ℕ) (q : Asked) (a b : Contents) (bytes : List ℕ)
-    → admitted_series q a ≡ admitted_series q b → IsRightCertificate version q a bytes
-    → IsRightCertificate version q b bytes
-certificate-moved version q a b bytes same h = record {
-  known = h.known;
-  best = h.best;
-  are = best-moved q a b h.best same h.are;
-  kth = h.kth;
-  of_last = h.of_last;
-  series = h.series;
-  all = series-moved q a b h.series same h.all;
-  entries = h.entries;
-  right = h.right;
-  text = h.text;
-}
+module _ (series : SeriesStay) (q : Asked) (c : Contents) where
+  -- data of what a query needs hold the same series of it
+  needed : (s : Usable) → IsHeldSeries q (data_for q c) s ↔ IsHeldSeries q c s
+  needed s =
+      subst (λ (ss : List Usable). Contains (admitted_series q (data_for q c)) s ↔ Contains ss s) (series q c)
+      (λ h. h, λ h. h)
 
 -- so a report of what a query needs is that of all data
 pub report_stays : SeriesStay → RightReportStays
 report_stays series q c bytes = (
-  report-moved q (data_for q c) c bytes refl (series q c),
-  report-moved q c (data_for q c) bytes refl (sym (series q c)),
+  report-moved q (IsHeldSeries q (data_for q c)) (IsHeldSeries q c) (needed series q c) c.stations bytes,
+  report-moved q (IsHeldSeries q c) (IsHeldSeries q (data_for q c)) (λ s. turned (needed series q c s)) c.stations bytes,
 )
 
 -- and a certificate
 pub certificate_stays : SeriesStay → RightCertificateStays
 certificate_stays series version q c bytes = (
-  certificate-moved version q (data_for q c) c bytes (series q c),
-  certificate-moved version q c (data_for q c) bytes (sym (series q c)),
+  certificate-moved q (IsHeldSeries q (data_for q c)) (IsHeldSeries q c) (needed series q c) version bytes,
+  certificate-moved q (IsHeldSeries q c) (IsHeldSeries q (data_for q c)) (λ s. turned (needed series q c s)) version
+      bytes,
 )

@@ -33,4 +33,5 @@ pub mod Answered
 pub mod GivenRows
 pub mod BestOfQuery
 pub mod FoundPapers
+pub mod SaidPapers
 pub mod SeriesOfQuery

@@ -1,19 +1,19 @@
 -- The series of a query, by what they are: there is one list of them, and it is the morsels.
-use Rattle.std.proofs.Common.{◌≡◌, ◌⊎◌, inl, inr, ℕ, zero, suc, ◌<◌, Bool, true, false, cond, List, [], ◌∷◌}
-use Rattle.std.proofs.Common.{length, filter, refl, sym, ap, ◌∙◌, subst, arith, not}
-use Rattle.std.specs.Prelude.{◌↔◌, ◌==◌, map}
+use Rattle.std.proofs.Common.{◌≡◌, inl, inr, ℕ, ◌<◌, true, false, List, [], ◌∷◌}
+use Rattle.std.proofs.Common.{length, filter, refl, subst, arith, not}
+use Rattle.std.specs.Prelude.{◌==◌, map}
 use Rattle.std.specs.List.{AllByRecursion, Contains, IsDistinct}
 use Rattle.std.specs.List.Sorted.{IsStrictlySortedBy, IsPermutation}
-use Rattle.std.specs.Ordering.{is_le, is_eq, ordering_reverse}
+use Rattle.std.specs.Ordering.{is_le}
 use Rattle.std.specs.declared.cmp.Ordering.{Ordering}
 use Rattle.std.specs.declared.cmp.Ordering.TheVariants.{Less, Equal, Greater}
 use Rattle.std.proofs.lemmas.Bool.Decides.{nat_tests}
 use Rattle.std.proofs.lemmas.List.Sorted.{IsPermutation-sym, IsPermutation-map}
 use Rattle.std.proofs.lemmas.Map.Keys.{IsDistinct-IsPermutation}
 use Rattle.ghcn_fields.proofs.Ordered as ordered
-use Rattle.ghcn_files.specs.Ids.{same_id}
 use Rattle.ghcn_series.specs.Series.{Usable, Contents}
 use Rattle.ghcn_series.specs.Held.{IsContents}
+use Rattle.ghcn_series.proofs.Members.{In, contains-in, in-contains, of_one, for_each, kept_in, in_kept, in_permuted}
 use Rattle.rank_query.specs.Asked.{Asked, IsAsked}
 use Rattle.rank_scores.specs.Candidates.{admitted}
 use Rattle.rank_scores.specs.Morsels.{admitted_series, morsels, has_admitted}
@@ -23,19 +23,16 @@ use Rattle.rank_sched.specs.Plan.{Morsel, measured, planned}
 use Rattle.rank_sched.specs.Plan.{is_drawn_first}
 use Rattle.rank_sched.proofs.PlanMade.{plan_distinct}
 use Rattle.rank_papers.specs.Right.{AreSeriesOf}
+use Rattle.rank_papers.specs.RightLaws.{IsHeldSeries}
 use Rattle.rank_papers.proofs.PlanLines.{id_cmp, id_total, comes_first, same_station, same_station-symm, series_tied}
 use Rattle.rank_papers.proofs.PlanLines.{series_of_morsel, distinct_series, series-measured}
-use Rattle.rank_papers.proofs.BestOfQuery.{In, contains-in, in-contains, held, each_in, in_permuted}
+use Rattle.rank_papers.proofs.BestOfQuery.{both_less, sorted-descends}
 
 -- ---- by increasing ID
 
 -- a series stands before another by its ID
 abbrev Before : Usable → Usable → Type 0
 Before a b = id_cmp a b ≡ Less
-
--- two answers that are each Less can't be the reverse of each other
-both_less : (o p : Ordering) → o ≡ ordering_reverse p → o ≡ Less → p ≡ Less → ⊥
-both_less o p e f g = absurd (let other : Less ≡ ordering_reverse Less = sym f ∙ e ∙ ap ordering_reverse g in cc)
 
 -- of two at most one stands before the other
 asym : (a b : Usable) → Before a b → Before b a → ⊥
@@ -52,20 +49,14 @@ before : (a b : Usable) → (comes_first a b ≡ true) × (same_station a b ≡ 
 before a b h = strictly (id_cmp a b) h.0 (λ tie. let same = series_tied a b tie in let other = h.1 in cc)
 
 -- so series that descend so stand in order
-descends-sorted : (ss : List Usable) → ordered.Descend (λ a b. (comes_first a b ≡ true) × (same_station a b ≡ false)) ss
+rising : (ss : List Usable) → ordered.Descend (λ a b. (comes_first a b ≡ true) × (same_station a b ≡ false)) ss
     → IsStrictlySortedBy id_cmp ss
 unfolding IsStrictlySortedBy
-descends-sorted [] h = tt
-descends-sorted (s ∷ ss) h = (
+rising [] h = tt
+rising (s ∷ ss) h = (
   from_each (λ t. (comes_first s t ≡ true) × (same_station s t ≡ false)) (Before s) ss (λ t k. before s t k) h.0,
-  descends-sorted ss h.1,
+  rising ss h.1,
 )
-
--- what stands in order descends
-sorted-descends : (ss : List Usable) → IsStrictlySortedBy id_cmp ss → ordered.Descend Before ss
-unfolding IsStrictlySortedBy
-sorted-descends [] h = tt
-sorted-descends (s ∷ ss) h = (h.0, sorted-descends ss h.1)
 
 -- ---- with an admitted day
 
@@ -76,29 +67,6 @@ some_is n h = grind (arith, nat_tests)
 -- and what isn't 0 is above it
 is_some : (n : ℕ) → not (n == 0) ≡ true → 0 < n
 is_some n h = grind (arith, nat_tests)
-
--- those that pass were there, and pass
-each_kept : {X : Type 0} (P : X → Type 0) (test : X → Bool) (xs : List X) → AllByRecursion P xs
-    → AllByRecursion (λ x. P x × (test x ≡ true)) (filter test xs)
-each_kept P test [] h = tt
-each_kept P test (x ∷ xs) h =
-    elim (test x) as (λ b. test x ≡ b
-    → AllByRecursion (λ y. P y × (test y ≡ true)) (cond b (x ∷ filter test xs) (filter test xs))) [
-      | true ↦ λ e. ((h.0, e), each_kept P test xs h.1)
-      | false ↦ λ e. each_kept P test xs h.1
-    ] refl
-
--- what is there and passes is among those that pass
-in_kept : {X : Type 0} (test : X → Bool) (xs : List X) (x : X) → In xs x → test x ≡ true → In (filter test xs) x
-in_kept test [] x h e = absurd h
-in_kept test (y ∷ ys) x (inl same) e =
-    let passes : test y ≡ true = ap test same ∙ e in
-    subst (λ (b : Bool). In (cond b (y ∷ filter test ys) (filter test ys)) x) (sym passes) (inl same)
-in_kept test (y ∷ ys) x (inr h) e =
-    elim (test y) as (λ b. In (cond b (y ∷ filter test ys) (filter test ys)) x) [
-      | true ↦ inr (in_kept test ys x h e)
-      | false ↦ in_kept test ys x h e
-    ]
 
 -- ---- the morsels
 
@@ -126,7 +94,7 @@ module _ (q : Asked) (c : Contents) (asked : IsAsked q) (right : IsContents c) w
 
   -- so they stand in order
   in_order : IsStrictlySortedBy id_cmp (morsels q c)
-  in_order = descends-sorted (morsels q c)
+  in_order = rising (morsels q c)
       (ordered.descends id_cmp id_total comes_first (λ a b. refl) same_station same_station-symm series_tied
       (morsels q c) (ordered.sorted-in_turn id_cmp id_total comes_first (λ a b. refl) kept) apart)
 
@@ -134,23 +102,22 @@ module _ (q : Asked) (c : Contents) (asked : IsAsked q) (right : IsContents c) w
   each_is : AllByRecursion (λ s. Contains (admitted_series q c) s × (0 < length (admitted q s))) (morsels q c)
   each_is =
       sorted-all comes_first (λ s. Contains (admitted_series q c) s × (0 < length (admitted q s))) kept
-      (from_each (λ s. In (admitted_series q c) s × (has_admitted q s ≡ true))
-      (λ s. Contains (admitted_series q c) s × (0 < length (admitted q s))) kept
-      (λ s h. (in-contains (admitted_series q c) s h.0, is_some (length (admitted q s)) h.1))
-      (each_kept (In (admitted_series q c)) (has_admitted q) (admitted_series q c) (each_in (admitted_series q c))))
+      (for_each (λ s. Contains (admitted_series q c) s × (0 < length (admitted q s))) kept (λ s h.
+      let there = kept_in (has_admitted q) (admitted_series q c) s h in
+      (in-contains (admitted_series q c) s there.0, is_some (length (admitted q s)) there.1)))
 
   -- and each such series is one
   is_one : (s : Usable) → Contains (admitted_series q c) s → 0 < length (admitted q s) → Contains (morsels q c) s
   is_one s there some =
-      in-contains (morsels q c) s (held (In (morsels q c)) kept s (in_permuted kept (morsels q c) moved)
+      in-contains (morsels q c) s (of_one (In (morsels q c)) kept s (in_permuted kept (morsels q c) moved)
       (in_kept (has_admitted q) (admitted_series q c) s (contains-in (admitted_series q c) s there)
       (some_is (length (admitted q s)) some)))
 
   -- so they are the series of the query
-  pub morsels_are : AreSeriesOf q c (morsels q c)
+  pub morsels_are : AreSeriesOf q (IsHeldSeries q c) (morsels q c)
   morsels_are = record {
     are = λ s. (
-      λ h. held (λ t. Contains (admitted_series q c) t × (0 < length (admitted q t))) (morsels q c) s each_is
+      λ h. of_one (λ t. Contains (admitted_series q c) t × (0 < length (admitted q t))) (morsels q c) s each_is
           (contains-in (morsels q c) s h),
       λ h. is_one s h.0 h.1,
     );
@@ -164,14 +131,15 @@ in_ordered (y ∷ ys) x (inl e) = inl e
 in_ordered (y ∷ ys) x (inr h) = inr (in_ordered ys x h)
 
 -- the series of one list are in another with the same
-all_in : (q : Asked) (c : Contents) (xs ys : List Usable) → AreSeriesOf q c xs → AreSeriesOf q c ys
+all_in : (q : Asked) (IsOne : Usable → Type 0) (xs ys : List Usable) → AreSeriesOf q IsOne xs → AreSeriesOf q IsOne ys
     → AllByRecursion (ordered.In Before ys) xs
-all_in q c xs ys s t =
+all_in q IsOne xs ys s t =
     from_each (In xs) (ordered.In Before ys) xs
-    (λ x h. in_ordered ys x (contains-in ys x ((t.are x).1 ((s.are x).0 (in-contains xs x h))))) (each_in xs)
+    (λ x h. in_ordered ys x (contains-in ys x ((t.are x).1 ((s.are x).0 (in-contains xs x h)))))
+    (for_each (In xs) xs (λ x h. h))
 
 -- there is one list of the series of a query
-pub one_series : (q : Asked) (c : Contents) (xs ys : List Usable) → AreSeriesOf q c xs → AreSeriesOf q c ys → xs ≡ ys
-one_series q c xs ys s t =
-    ordered.one_list Before asym xs ys (sorted-descends xs s.by_id) (sorted-descends ys t.by_id)
-    (all_in q c xs ys s t) (all_in q c ys xs t s)
+pub one_series : (q : Asked) (IsOne : Usable → Type 0) (xs ys : List Usable) → AreSeriesOf q IsOne xs → AreSeriesOf q IsOne ys → xs ≡ ys
+one_series q IsOne xs ys s t =
+    ordered.one_list Before asym xs ys (sorted-descends id_cmp xs s.by_id) (sorted-descends id_cmp ys t.by_id)
+    (all_in q IsOne xs ys s t) (all_in q IsOne ys xs t s)

@@ -44,7 +44,7 @@ row_fields q row =
     decimal row.0 ∷ candidate.id.0 ∷ date_text candidate.first ∷ date_text candidate.last
     ∷ value_text measure (value_of q.score candidate.score) ∷ unit_text measure ∷ field_unless_empty row.1.1
 
--- the fields of the last line: how many rows there are, and whether these are all that there could be
+-- the fields of the last line: how many rows there are, and `all` where there are fewer than k
 abbrev pub end_fields : ℕ → ℕ → List (List ℕ)
 end_fields k n = codes "end" ∷ decimal n ∷ (if nat_lt n k then codes "all" ∷ [] else [])
 

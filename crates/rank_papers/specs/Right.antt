@@ -1,4 +1,4 @@
--- The right papers of a query and data, by what a candidate is and what is best, and not by how these are found.
+-- The right papers of a query and its series, by what a candidate is and what is best, and not by how these are found.
 use Rattle.std.specs.Prelude.{◌≡◌, ◌⊎◌, ◌↔◌, ◌≤◌, ◌<◌, ◌<ℤ◌, ℕ, ◌-◌, true, List, ◌++◌, length, map, Option, Some, ℤ}
 use Rattle.std.specs.Prelude.{FitsSigned, slice_get}
 use Rattle.std.specs.List.{Contains, AllByRecursion, AllZip, find, flat_map, count_by}
@@ -11,60 +11,71 @@ use Rattle.std.specs.declared.cmp.Ordering.TheVariants.{Less}
 use Rattle.ghcn_files.specs.declared.station.Station.{Station}
 use Rattle.ghcn_files.specs.Ids.{same_id}
 use Rattle.ghcn_files.specs.Listed.{is_station_of}
-use Rattle.ghcn_series.specs.Series.{Usable, Contents}
-use Rattle.rank_query.specs.Asked.{Asked}
+use Rattle.ghcn_series.specs.Series.{Usable}
+use Rattle.ghcn_series.specs.Said.{IsMadeOf, facts_said}
+use Rattle.rank_query.specs.Asked.{Asked, score_element}
+use Rattle.rank_query.specs.Admits.{admits_station}
 use Rattle.rank_scores.specs.declared.candidate.Candidate.{Candidate}
 use Rattle.rank_scores.specs.Candidates.{admitted, IsCandidateOf}
 use Rattle.rank_scores.specs.Order.{full_cmp}
-use Rattle.rank_scores.specs.Morsels.{admitted_series, NoneIsAbove}
-use Rattle.rank_sched.specs.declared.line.Line.{Line}
+use Rattle.rank_scores.specs.Morsels.{NoneIsAbove}
 use Rattle.rank_papers.specs.Report.{trimmed, report_text, query_line}
-use Rattle.rank_papers.specs.Certificate.{title_line, kth_line, entry_line, end_line}
+use Rattle.rank_papers.specs.Certificate.{Entry, title_line, kth_line, entry_line, end_line}
 
--- x is a candidate of the query: one of a series of its element, of an admitted station
-abbrev pub IsOfQuery : Asked → Contents → Candidate → Type 0
-IsOfQuery q c x = (s : Usable) × Contains (admitted_series q c) s × IsCandidateOf q s x
+-- s is a series of the query's element and of an admitted station of the list, and is made of what the daily files say
+-- of them; it may have no admitted day
+pub record IsAdmittedSeries (q : Asked) (stations : List Station) (files : List (List ℕ)) (s : Usable) : Type 0 where
+  pub station : (st : Station) × Contains stations st × (st.id ≡ s.id) × (admits_station q st ≡ true)
+  pub of_element : s.element ≡ score_element q.score
+  pub made : IsMadeOf (facts_said stations files) s
 
--- the best of a query: k of its candidates at most, each listed before those behind it; any other candidate is listed
--- behind k of them
-pub record AreBest (q : Asked) (c : Contents) (best : List Candidate) : Type 0 where
+-- x is a candidate of the query, in one of these series
+abbrev pub IsOfQuery : Asked → (Usable → Type 0) → Candidate → Type 0
+IsOfQuery q IsOne x = (s : Usable) × IsOne s × IsCandidateOf q s x
+
+-- the best of a query in these series: k of its candidates at most, in order, none twice; a candidate that isn't among
+-- them comes behind all of them, and then they are k. Candidates of one query never tie, so that the last day, which
+-- `full_cmp` adds, decides nothing.
+pub record AreBest (q : Asked) (IsOne : Usable → Type 0) (best : List Candidate) : Type 0 where
   pub few : length best ≤ q.k
-  pub of_query : AllByRecursion (IsOfQuery q c) best
+  pub of_query : AllByRecursion (IsOfQuery q IsOne) best
   pub order : IsStrictlySortedBy full_cmp best
-  pub others : (x : Candidate) → IsOfQuery q c x
+  pub others : (x : Candidate) → IsOfQuery q IsOne x
       → Contains best x ⊎ ((length best ≡ q.k) × AllByRecursion (λ b. full_cmp b x ≡ Less) best)
 
--- the right report: its rows are the best candidates of the query, each with its listed station
-pub record IsRightReport (q : Asked) (c : Contents) (bytes : List ℕ) : Type 0 where
+-- the right report of a query: its rows are the best in these series, each with its listed station
+pub record IsRightReport (q : Asked) (stations : List Station) (IsOne : Usable → Type 0) (bytes : List ℕ)
+    : Type 0 where
   pub rows : List (Candidate × Station)
-  pub best : AreBest q c (map (λ row. row.0) rows)
-  pub listed : AllByRecursion (λ row. find (is_station_of row.0.id) c.stations ≡ Some row.1) rows
+  pub best : AreBest q IsOne (map (λ row. row.0) rows)
+  pub listed : AllByRecursion (λ row. find (is_station_of row.0.id) stations ≡ Some row.1) rows
   pub text : bytes ≡ report_text q (map (λ row. (row.0, trimmed row.1.name)) rows)
 
--- the series of a query: all those of its element, of admitted stations, that have an admitted day, by increasing ID
-pub record AreSeriesOf (q : Asked) (c : Contents) (series : List Usable) : Type 0 where
-  pub are : (s : Usable) → Contains series s ↔ (Contains (admitted_series q c) s × (0 < length (admitted q s)))
+-- these are the series of the query: of these series those that have an admitted day, by increasing ID
+pub record AreSeriesOf (q : Asked) (IsOne : Usable → Type 0) (series : List Usable) : Type 0 where
+  pub are : (s : Usable) → Contains series s ↔ (IsOne s × (0 < length (admitted q s)))
   pub by_id : IsStrictlySortedBy (on (λ s. s.id.0) (slice_cmp nat_cmp)) series
 
 -- an entry is true of a series: it names it, no candidate of the series has a score above the bound, and it is passed
 -- over only where there is a k-th score and the bound is strictly below it
-pub record IsTrueEntry (q : Asked) (kth : Option ℤ) (e : Line) (s : Usable) : Type 0 where
+pub record IsTrueEntry (q : Asked) (kth : Option ℤ) (e : Entry) (s : Usable) : Type 0 where
   pub named : e.id ≡ s.id
   pub above : NoneIsAbove q s e.bound
   pub fits : FitsSigned w64 e.bound
   pub passed_over : e.skipped ≡ true → (score : ℤ) × (kth ≡ Some score) × (e.bound <ℤ score)
 
 -- a right certificate of a version, whatever its bounds and skips: it has the query, the score of the k-th of the best
--- or none, a true entry for each series of the query, and in version 2 how many of the best are of each
-pub record IsRightCertificate (version : ℕ) (q : Asked) (c : Contents) (bytes : List ℕ) : Type 0 where
+-- or none, a true entry for each series of the query, and in version 2, where a series wasn't passed over, how many of
+-- the best are of it
+pub record IsRightCertificate (version : ℕ) (q : Asked) (IsOne : Usable → Type 0) (bytes : List ℕ) : Type 0 where
   pub known : (version ≡ 1) ⊎ (version ≡ 2)
   pub best : List Candidate
-  pub are : AreBest q c best
+  pub are : AreBest q IsOne best
   pub kth : Option ℤ
   pub of_last : kth ≡ option_map (λ x. x.score) (slice_get best (q.k - 1))
   pub series : List Usable
-  pub all : AreSeriesOf q c series
-  pub entries : List Line
+  pub all : AreSeriesOf q IsOne series
+  pub entries : List Entry
   pub right : AllZip (IsTrueEntry q kth) entries series
   pub text : bytes
       ≡ title_line version ++ query_line q ++ kth_line kth

@@ -1,41 +1,73 @@
--- That papers are right by what candidates are where they are by how these are found, as statements for the contract of
--- a public function.
-use Rattle.std.specs.Prelude.{◌≡◌, ◌↔◌, ℕ, List}
-use Rattle.ghcn_series.specs.Series.{Contents}
+-- That papers are right by what candidates are where they are by how these are found, and for what files say where they
+-- are for the data of the files, as statements for the contracts of public functions.
+use Rattle.std.specs.Prelude.{◌≡◌, ◌↔◌, ℕ, List, Ok}
+use Rattle.std.specs.List.{Contains}
+use Rattle.ghcn_files.specs.declared.station.Station.{Station}
+use Rattle.ghcn_series.specs.Series.{Usable, Contents}
+use Rattle.ghcn_series.specs.Says.{data_of}
 use Rattle.ghcn_series.specs.Held.{IsContents}
 use Rattle.rank_query.specs.Asked.{Asked, IsAsked}
 use Rattle.rank_scores.specs.declared.candidate.Candidate.{Candidate}
-use Rattle.rank_scores.specs.Morsels.{best_of_query}
+use Rattle.rank_scores.specs.Morsels.{admitted_series, best_of_query}
 use Rattle.rank_scores.specs.OneElement.{data_for}
 use Rattle.rank_papers.specs.Report.{IsReport}
 use Rattle.rank_papers.specs.Certificate.{IsCertificate}
-use Rattle.rank_papers.specs.Right.{AreBest, IsRightReport, IsRightCertificate}
+use Rattle.rank_papers.specs.Right.{IsAdmittedSeries, AreBest, IsRightReport, IsRightCertificate}
+
+-- s is one of the series of a query that data hold
+abbrev pub IsHeldSeries : Asked → Contents → Usable → Type 0
+IsHeldSeries q c s = Contains (admitted_series q c) s
+
+-- the right report of a query and data
+abbrev pub IsRightReportFor : Asked → Contents → List ℕ → Type 0
+IsRightReportFor q c bytes = IsRightReport q c.stations (IsHeldSeries q c) bytes
+
+-- a right certificate of a query and data
+abbrev pub IsRightCertificateFor : ℕ → Asked → Contents → List ℕ → Type 0
+IsRightCertificateFor version q c bytes = IsRightCertificate version q (IsHeldSeries q c) bytes
 
 -- candidates are the best of a query exactly where they are what is found by rank
 abbrev pub BestAreFound : Type 0
 BestAreFound = (q : Asked) (c : Contents) (best : List Candidate) → IsAsked q → IsContents c
-    → (best ≡ best_of_query q c) ↔ AreBest q c best
+    → (best ≡ best_of_query q c) ↔ AreBest q (IsHeldSeries q c) best
 
--- whatever the data, there is one list of the best
+-- there is one list of the best in these series
+abbrev pub HaveOneBest : Asked → (Usable → Type 0) → Type 0
+HaveOneBest q IsOne = (a b : List Candidate) → AreBest q IsOne a → AreBest q IsOne b → a ≡ b
+
+-- so it is with any data, and with what any files say
 abbrev pub BestAreOne : Type 0
-BestAreOne = (q : Asked) (c : Contents) (a b : List Candidate) → AreBest q c a → AreBest q c b → a ≡ b
+BestAreOne = (q : Asked) → ((c : Contents) → HaveOneBest q (IsHeldSeries q c))
+    × ((stations : List Station) (files : List (List ℕ)) → HaveOneBest q (IsAdmittedSeries q stations files))
 
 -- a report is the right one exactly where it has what is found by rank
 abbrev pub ReportsAreFound : Type 0
 ReportsAreFound = (q : Asked) (c : Contents) (bytes : List ℕ) → IsAsked q → IsContents c
-    → IsReport q c bytes ↔ IsRightReport q c bytes
+    → IsReport q c bytes ↔ IsRightReportFor q c bytes
 
 -- a certificate of a version is a right one exactly where it is one by what is found
 abbrev pub CertificatesAreFound : Type 0
 CertificatesAreFound = (version : ℕ) (q : Asked) (c : Contents) (bytes : List ℕ) → IsAsked q → IsContents c
-    → ((h : IsCertificate q c bytes) × (h.version ≡ version)) ↔ IsRightCertificate version q c bytes
+    → ((h : IsCertificate q c bytes) × (h.version ≡ version)) ↔ IsRightCertificateFor version q c bytes
+
+-- the right report of the data of files is that of what the files say
+abbrev pub ReportsAreSaid : Type 0
+ReportsAreSaid = (q : Asked) (stations : List Station) (files : List (List ℕ)) (c : Contents) (bytes : List ℕ)
+    → data_of stations files ≡ Ok c
+    → IsRightReportFor q c bytes ↔ IsRightReport q stations (IsAdmittedSeries q stations files) bytes
+
+-- so it is with right certificates
+abbrev pub CertificatesAreSaid : Type 0
+CertificatesAreSaid = (version : ℕ) (q : Asked) (stations : List Station) (files : List (List ℕ)) (c : Contents)
+    (bytes : List ℕ) → data_of stations files ≡ Ok c
+    → IsRightCertificateFor version q c bytes ↔ IsRightCertificate version q (IsAdmittedSeries q stations files) bytes
 
 -- the right report of what a query needs of any data is that of all of them
 abbrev pub RightReportStays : Type 0
 RightReportStays = (q : Asked) (c : Contents) (bytes : List ℕ)
-    → IsRightReport q (data_for q c) bytes ↔ IsRightReport q c bytes
+    → IsRightReportFor q (data_for q c) bytes ↔ IsRightReportFor q c bytes
 
--- so it is with right certificates
+-- and so are right certificates
 abbrev pub RightCertificateStays : Type 0
 RightCertificateStays = (version : ℕ) (q : Asked) (c : Contents) (bytes : List ℕ)
-    → IsRightCertificate version q (data_for q c) bytes ↔ IsRightCertificate version q c bytes
+    → IsRightCertificateFor version q (data_for q c) bytes ↔ IsRightCertificateFor version q c bytes

@@ -1,5 +1,5 @@
 -- How the values behind scores are printed.
-use Rattle.std.specs.Prelude.{ℕ, List, [], ◌∷◌, codes, ℤ, neg_ℤ}
+use Rattle.std.specs.Prelude.{ℕ, List, codes, ℤ, neg_ℤ}
 use Rattle.std.specs.Fmt.{signed_decimal}
 use Rattle.ghcn_fields.specs.NumberTexts.{tenths}
 use Rattle.ghcn_files.specs.declared.element.Element.{Element}

@@ -31,6 +31,13 @@ pub fn papers_are_found()
     ensures certificate { right.CertificatesAreFound }
 {}
 
+/// What is right for the data of files without a fault is right for what their lines say, and the
+/// other way round.
+pub fn papers_are_said()
+    ensures report { right.ReportsAreSaid }
+    ensures certificate { right.CertificatesAreSaid }
+{}
+
 /// The papers of a query say nothing of the series of other elements: where these are left out of
 /// the data, the same report and the same certificates are right.
 pub fn papers_of_one_element()

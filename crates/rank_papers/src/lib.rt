@@ -24,7 +24,10 @@ mod station_rows;
 pub use certificate_lines::read_certificate;
 pub use certificate_text::{certificate, certificate_of_best};
 pub use fault::PaperFault;
-pub use laws::{certificates_are_read, papers_are_found, papers_of_one_element, reports_are_read};
+pub use laws::{
+    certificates_are_read, papers_are_found, papers_are_said, papers_of_one_element,
+    reports_are_read,
+};
 pub use paper::{Certificate, Report, Row};
 pub use rank_sched::Line;
 pub use report_lines::read_report;

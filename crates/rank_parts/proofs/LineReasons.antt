@@ -25,7 +25,7 @@ use Rattle.rank_check.specs.Pieces.{is_morsel, is_within, piece_tests, AreInOrde
 use Rattle.rank_check.specs.InPieces.{rows_with, worst_of, own_series}
 use Rattle.rank_check.proofs.Each.{all_taken}
 use Rattle.rank_check.proofs.Failing.{slice_get-map}
-use Rattle.rank_check.proofs.Members.{In, of_one, for_each, found_in, any_in, kept_in}
+use Rattle.ghcn_series.proofs.Members.{In, of_one, for_each, found_in, any_in, kept_in}
 use Rattle.rank_check.proofs.PiecesSay.{rows_counted}
 use Rattle.rank_check.proofs.RisingIds.{RiseAll, ids_of, rise_ids}
 use Rattle.rank_check.proofs.RowsWithin.{rows_in_order, order_descends, descends_order, kept_descends, first_within}

@@ -32,7 +32,7 @@ use Rattle.rank_head.specs.HeadTests.{of_rows}
 use Rattle.rank_check.specs.Tests.{is_among}
 use Rattle.rank_check.specs.Pieces.{is_morsel, is_within, piece_tests}
 use Rattle.rank_check.specs.InPieces.{rows_with, worst_of, own_series, IsAccepted, IsAbsent}
-use Rattle.rank_check.proofs.Members.{In, of_one, for_each, any_in, in_any, in_map, map_in, all_in}
+use Rattle.ghcn_series.proofs.Members.{In, of_one, for_each, any_in, in_any, in_map, map_in, all_in}
 use Rattle.rank_check.proofs.Piecing.{passing, none_failing, each_passes, or_rest}
 use Rattle.rank_check.proofs.QueryMembers.{permuted_in, own_id, listed_found, station_of, morsel_of, is_morsel_of}
 use Rattle.rank_check.proofs.RisingIds.{RiseAll, ids_of, morsel_ids}

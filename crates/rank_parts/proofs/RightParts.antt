@@ -28,7 +28,7 @@ use Rattle.rank_check.specs.declared.verdict.Why.TheVariants.{OtherSeries}
 use Rattle.rank_check.specs.declared.verdict.Paper.TheVariants.{Certificate}
 use Rattle.rank_check.specs.Pieces.{is_morsel, piece_tests}
 use Rattle.rank_check.specs.InPieces.{rows_with, worst_of, own_series, IsAccepted, IsAbsent, AreRightPieces}
-use Rattle.rank_check.proofs.Members.{In, of_one, for_each, found_in, in_all}
+use Rattle.ghcn_series.proofs.Members.{In, of_one, for_each, found_in, in_all}
 use Rattle.rank_check.proofs.Piecing.{all_passes, or_made}
 use Rattle.rank_check.proofs.QueryMembers.{permuted_in, own_id, station_of, morsel_of, is_morsel_of}
 use Rattle.rank_parts.specs.declared.verdict.PartVerdict.{PartVerdict}

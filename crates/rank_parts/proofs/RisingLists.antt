@@ -3,7 +3,7 @@ use Rattle.std.proofs.Common.{◌≡◌, inl, inr, ◌≤◌, List, [], ◌∷�
 use Rattle.std.specs.List.{AllByRecursion}
 use Rattle.ghcn_files.specs.declared.station.StationId.{StationId}
 use Rattle.rank_papers.specs.Certificate.{Entry}
-use Rattle.rank_check.proofs.Members.{In, of_one, in_map}
+use Rattle.ghcn_series.proofs.Members.{In, of_one, in_map}
 use Rattle.rank_check.proofs.RisingIds.{IsBefore, one_way, RiseAll, ids_of}
 
 -- an ID doesn't stand before itself

@@ -19,7 +19,7 @@ use Rattle.rank_papers.specs.Laws.{CertificatesAreRead, RightCertificatesSayRigh
 use Rattle.rank_head.specs.RightHead.{HeadsAreRight}
 use Rattle.rank_head.specs.RightHead as right
 use Rattle.rank_check.specs.InPieces.{RightInPieces, AreRightPieces}
-use Rattle.rank_check.proofs.Members.{In}
+use Rattle.ghcn_series.proofs.Members.{In}
 use Rattle.rank_check.proofs.RisingIds.{rise_ids}
 use Rattle.rank_parts.specs.declared.verdict.PartVerdict.TheVariants.{Accepted}
 use Rattle.rank_parts.specs.Parts.{or_accepted, part_judged}

@@ -20,8 +20,8 @@ pub use Rattle.std.proofs.lemmas.List.Sums.{position_or_len_is, prefix_len-le-le
 pub use Rattle.std.proofs.lemmas.Option.{cond_some}
 pub use Rattle.std.specs.Char.{digit_value, is_ascii_digit}
 pub use Rattle.std.specs.Cmp.Lexicographic.{bytes_decides}
-pub use Rattle.std.specs.List.{AllByRecursion, after_first, before_first, enumerate_from, join_with_byte, list_all}
-pub use Rattle.std.specs.List.{onto_first, position_or_len, repeat, slice_split}
+pub use Rattle.std.specs.List.{AllByRecursion, AllZip, after_first, before_first, enumerate_from, join_with_byte}
+pub use Rattle.std.specs.List.{list_all, onto_first, position_or_len, repeat, slice_split}
 pub use Rattle.std.specs.Str.Parse.{AllDigits, digits_value}
 pub use Rattle.ghcn_fields.specs.Bytes.{same_bytes}
 pub use Rattle.ghcn_fields.specs.Dates.{civil, date_text, read_date}
@@ -41,14 +41,15 @@ pub use Rattle.ghcn_files.specs.declared.element.Element.TheVariants.{Prcp, Snow
 pub use Rattle.jiff_core.specs.Calendar.{days_in_month}
 unfoldable pub use Rattle.jiff_core.specs.Calendar.{day_count, days_from_civil, days_of_months, days_of_years}
 pub use Rattle.memchr.specs.Find.{IsFirstByte, is_byte}
-pub use Rattle.rank_query.specs.Asked.{Asked, IsAsked, is_code, is_fall, is_heat, is_longitude, is_month, is_period}
+pub use Rattle.rank_query.specs.Asked.{Asked, IsAsked, is_code, is_fall, is_period}
 pub use Rattle.rank_query.specs.Asked.{is_region, is_score, is_season, is_temperature}
 pub use Rattle.rank_query.specs.FaultKinds.{IsFaultAmong, edge, has_form, is_behind_box, is_behind_first_day, is_date}
 pub use Rattle.rank_query.specs.FaultKinds.{is_decimal, is_number, other, place_behind}
 pub use Rattle.rank_query.specs.FaultPlaces.{BeginQuery, EndsTooEarly, IsFirstWrong, IsFirstWrongAt, SpellNone}
 pub use Rattle.rank_query.specs.FaultPlaces.{StandsAmong, StandsIn}
-pub use Rattle.rank_query.specs.QueryTexts.{months_text, period_words, query_text, query_words, region_words}
-pub use Rattle.rank_query.specs.QueryTexts.{score_words, season_words}
+pub use Rattle.rank_query.specs.QueryTexts.{Count, Edge, Exactly, Months, QueryWord, Tenths, period_words}
+pub use Rattle.rank_query.specs.QueryTexts.{query_text, query_words, region_words, score_words, season_words}
+pub use Rattle.rank_query.specs.QueryTexts.{word_text}
 pub use Rattle.rank_query.specs.Readers.{Read, by_word, made_into, one_word, or_fault, ◌>>=◌}
 unfoldable pub use Rattle.rank_query.specs.Readers.{keyword}
 pub use Rattle.rank_query.specs.Reading.{all_year_at, always_at, between_at, country_at, dry_at, everywhere_at}
@@ -56,11 +57,11 @@ pub use Rattle.rank_query.specs.Reading.{highest_at, hot_at, latitude_from, long
 pub use Rattle.rank_query.specs.Reading.{nothing_more, state_at, station_at, wet_at}
 unfoldable pub use Rattle.rank_query.specs.Reading.{box_at, days_at, no_score_at, period_at, read_query, read_words}
 unfoldable pub use Rattle.rank_query.specs.Reading.{region_at, score_at, season_at, sum_at}
-pub use Rattle.rank_query.specs.Spelling.{IsNumeralOf, IsSpelling, JoinsTwo, SpellsBox, SpellsPeriod, SpellsQuery}
-pub use Rattle.rank_query.specs.Spelling.{SpellsRegion, SpellsScore, SpellsSeason}
-pub use Rattle.rank_query.specs.WordValues.{both_numbers, is_point, natural_behind, tenths_of, two_numbers}
+pub use Rattle.rank_query.specs.Spelling.{IsNumeralOf, IsSpelling, SpellsQuery, SpellsWord}
+pub use Rattle.rank_query.specs.WordValues.{both_numbers, is_heat, is_month, is_point, natural_behind, tenths_of}
+pub use Rattle.rank_query.specs.WordValues.{two_numbers}
 unfoldable pub use Rattle.rank_query.specs.WordValues.{code, date, degrees, element, heat, months, number}
-pub use Rattle.rank_query.specs.Words.{Word, is_separator, is_word, numbered_words, words_of}
+pub use Rattle.rank_query.specs.Words.{Word, is_separator, numbered_words, words_of}
 unfoldable pub use Rattle.rank_query.specs.Words.{says}
 pub use Rattle.rank_query.specs.declared.fault.QueryFault.{QueryFault}
 pub use Rattle.rank_query.specs.declared.fault.QueryFault.TheVariants.{BadBox, BadDate, EmptyPeriod, OutOfLimits}

@@ -209,9 +209,12 @@ unfolding read_query read_words keyword says number element score_at no_score_at
     date
 dates_refused = (refl, refl, refl)
 
+-- dry days of a period
+abbrev dry_from : ℤ → ℤ → Asked
+dry_from first last = record { k = 1; score = Dry; region = Everywhere; season = None; period = Some (first, last) }
+
 -- a period from a day to itself, one that ends before it begins, told before a word too many, and a word too many
-periods : (read_query (codes "top 1 dry from 2020-07-01 to 2020-07-01") ≡ Ok
-    (record { k = 1; score = Dry; region = Everywhere; season = None; period = Some (pos 18444, pos 18444) }))
+periods : (read_query (codes "top 1 dry from 2020-07-01 to 2020-07-01") ≡ Ok (dry_from (pos 18444) (pos 18444)))
     × (read_query (codes "top 1 dry from 2020-07-02 to 2020-07-01 now") ≡ Err EmptyPeriod)
     × (read_query (codes "top 1 dry from 2020-07-01 to 2020-07-01 now") ≡ Err (UnexpectedWord 8))
 unfolding read_query read_words keyword says number score_at no_score_at region_at season_at period_at days_at date
@@ -292,19 +295,7 @@ begun = record {
   query = asked 7 (Lowest Tmax);
   can_be_asked = record { k = refl; score = refl; region = refl; season = refl; period = refl };
   more = codes "TMAX" ∷ [];
-  spelt = record {
-    k = codes "007";
-    score = codes "lowest" ∷ codes "TMAX" ∷ [];
-    region = [];
-    season = [];
-    period = [];
-    words = refl;
-    spells_k = record { some_digit = omega arith; digits_alone = refl; value = refl };
-    spells_score = refl;
-    spells_region = refl;
-    spells_season = refl;
-    spells_period = refl;
-  };
+  spelt = (refl, (record { some_digit = omega arith; digits_alone = refl; value = refl }, (refl, (refl, tt))));
 }
 
 -- a fault stands at no word before or after its own
@@ -348,48 +339,27 @@ unfolding digits
 season_text = refl
 
 -- with a region
-box_text : query_text (record {
-  k = 3;
-  score = Highest Tmax;
-  region = Inside (neg_ℤ (pos 100_000)) (pos 1_700_000)
-      (pos 100_000) (neg_ℤ (pos 1_700_000));
-  season = None;
-  period = None;
-}) ≡ codes
-    "top 3 highest TMAX box -10.0000 170.0000 10.0000 -170.0000"
+box_text : query_text
+    (asked_in (Inside (neg_ℤ (pos 100_000)) (pos 1_700_000) (pos 100_000) (neg_ℤ (pos 1_700_000))) 3 (Highest Tmax))
+    ≡ codes "top 3 highest TMAX box -10.0000 170.0000 10.0000 -170.0000"
 unfolding digits
 box_text = refl
 
 -- less than one degree, and no degree at all
-small_box_text : query_text (record {
-  k = 1;
-  score = Wet;
-  region = Inside (neg_ℤ (pos 5)) (pos 0) (pos 12_345) (pos 1_800_000);
-  season = None;
-  period = None;
-}) ≡ codes "top 1 wet box -0.0005 0.0000 1.2345 180.0000"
+small_box_text : query_text (in_box_of (neg_ℤ (pos 5)) (pos 0) (pos 12_345) (pos 1_800_000))
+    ≡ codes "top 1 wet box -0.0005 0.0000 1.2345 180.0000"
 unfolding digits
 small_box_text = refl
 
--- the longest dry spell of a region
-abbrev dry_of : Region → Asked
-dry_of region = record { k = 1; score = Dry; region = region; season = None; period = None }
-
 -- with a code
-region_texts : (query_text (dry_of (Country (codes "ZZ"))) ≡ codes "top 1 dry country ZZ")
-    × (query_text (dry_of (State (codes "NY"))) ≡ codes "top 1 dry state NY")
-    × (query_text (dry_of (Only (record { 0 = codes "ZZA00000003" }))) ≡ codes "top 1 dry station ZZA00000003")
+region_texts : (query_text (asked_in (Country (codes "ZZ")) 1 Dry) ≡ codes "top 1 dry country ZZ")
+    × (query_text (asked_in (State (codes "NY")) 1 Dry) ≡ codes "top 1 dry state NY")
+    × (query_text (asked_in (Only (record { 0 = codes "ZZA00000003" })) 1 Dry) ≡ codes "top 1 dry station ZZA00000003")
 unfolding digits
 region_texts = (refl, refl, refl)
 
 -- with a period
-period_text : query_text (record {
-  k = 1;
-  score = Dry;
-  region = Everywhere;
-  season = None;
-  period = Some (pos 18444, pos 18444);
-}) ≡ codes "top 1 dry from 2020-07-01 to 2020-07-01"
+period_text : query_text (dry_from (pos 18444) (pos 18444)) ≡ codes "top 1 dry from 2020-07-01 to 2020-07-01"
 unfolding digits year_and_rest month_and_day
 period_text = refl
 
@@ -453,8 +423,7 @@ by_code : (map (λ r. region_holds r (at (pos 0) (pos 0)))
 by_code = refl
 
 -- the first and the last day of a period belong to it
-days : map (λ day. admits_day (record
-    { k = 1; score = Dry; region = Everywhere; season = None; period = Some (pos 18444, pos 18445) }) day)
+days : map (λ day. admits_day (dry_from (pos 18444) (pos 18445)) day)
     (pos 18443 ∷ pos 18444 ∷ pos 18445 ∷ pos 18446 ∷ []) ≡ false ∷ true ∷ true ∷ false ∷ []
 days = refl
 

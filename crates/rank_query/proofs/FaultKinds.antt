@@ -1,4 +1,5 @@
 -- Each fault of a word is the one that the words before it call for.
+use Rattle.rank_query.proofs.ReadingSteps.{assoc}
 use Rattle.rank_query.proofs.Cited.{ints, ◌≡◌, ℕ, ◌+◌, Bool, true, false, cond, ◌&&◌, ◌⊎◌, inl, inr, List, [], ◌∷◌}
 use Rattle.rank_query.proofs.Cited.{◌++◌, length, reverse, Option, Some, None, Result, Ok, Err, IfErr, codes, refl, sym}
 use Rattle.rank_query.proofs.Cited.{ap, ◌∙◌, subst, is_some, arith, nat_lt, ℤ, pos, neg_ℤ, int_le, AllByRecursion}
@@ -9,16 +10,21 @@ use Rattle.rank_query.proofs.Cited.{State, Only, QueryFault, QueryTooLong, Unexp
 use Rattle.rank_query.proofs.Cited.{BadDate, BadBox, EmptyPeriod, Asked, is_temperature, is_fall, is_heat, is_month}
 use Rattle.rank_query.proofs.Cited.{is_code, Word, says, words_of, numbered_words, ◌>>=◌, Read, keyword, one_word}
 use Rattle.rank_query.proofs.Cited.{made_into, by_word, number, element, heat, months, degrees, code, date, tenths_of}
-use Rattle.rank_query.proofs.Cited.{two_numbers, no_score_at, highest_at, lowest_at, sum_at, dry_at, wet_at, hot_at}
-use Rattle.rank_query.proofs.Cited.{score_at, box_at, country_at, state_at, station_at, everywhere_at, region_at}
+use Rattle.rank_query.proofs.Cited.{two_numbers, no_score_at, sum_at, hot_at}
+use Rattle.rank_query.proofs.Cited.{score_at, box_at, everywhere_at, region_at}
 use Rattle.rank_query.proofs.Cited.{months_at, all_year_at, season_at, days_at, between_at, always_at, period_at}
-use Rattle.rank_query.proofs.Cited.{nothing_more, read_words, read_query, place_behind, edge, other, has_form, is_date}
+use Rattle.rank_query.proofs.Cited.{nothing_more, read_words, read_query, place_behind, edge, other, has_form}
 use Rattle.rank_query.proofs.Cited.{is_decimal, is_behind_box, is_behind_first_day, IsFaultAmong}
+use Rattle.rank_query.proofs.Cited.{cases_Bool}
 use mathlib.Core.List.{reverse_aux}
-use Rattle.rank_query.specs.FaultKinds.{number as a_number, date as a_date}
+use Rattle.rank_query.specs.FaultKinds.{number as a_number, date as a_date, IsFaultOf}
 use Rattle.rank_query.proofs.ReadingSteps.{said, unnumbered, unnumbered-enumerate_from, tested, tested_err, test_err}
 use Rattle.rank_query.proofs.ReadingSteps.{test_ok, or_fault_err}
 use Rattle.rank_query.proofs.Spellings.{asked}
+use Rattle.rank_query.proofs.ScoreWords.{score_rows}
+use Rattle.rank_query.proofs.RegionWords.{region_rows}
+use Rattle.rank_query.proofs.SeasonWords.{season_rows}
+use Rattle.rank_query.proofs.PeriodWords.{period_rows}
 use Rattle.rank_query.proofs.Stops.{bind_err}
 use Rattle.rank_query.proofs.FaultPlaces.{place_of}
 use Rattle.rank_query.proofs.Places.{IsSettled, IsNoKeyword, HaveOtherLengths, not_both, settled_word, edge_more}
@@ -26,16 +32,9 @@ use Rattle.rank_query.proofs.Places.{edge_less, edge_place, number_no_keyword, h
 use Rattle.rank_query.proofs.Places.{degrees_no_keyword, code_no_keyword, date_no_keyword, element_settled}
 use Rattle.rank_query.proofs.Places.{degrees_decimal, day_date}
 
--- the fault of a word that is wrong behind these, told by the word's number
+-- the fault of a word that is wrong behind these, if it has this number
 abbrev IsKind : QueryFault → ℕ → List (List ℕ) → List ℕ → Type 0
-IsKind QueryTooLong n past word = ⊥
-IsKind (UnexpectedWord m) n past word =
-    (m ≡ n) × ((place_behind past ≡ other) ⊎ (has_form (place_behind past) word ≡ Some false))
-IsKind QueryEnds n past word = ⊥
-IsKind (OutOfLimits m) n past word = (m ≡ n) × (has_form (place_behind past) word ≡ Some true)
-IsKind (BadDate m) n past word = (m ≡ n) × (place_behind past ≡ a_date) × (is_date word ≡ false)
-IsKind (BadBox m) n past word = (m ≡ n) × (place_behind past ≡ edge)
-IsKind EmptyPeriod n past word = (place_behind past ≡ a_date) × (is_date word ≡ true)
+IsKind fault n past word = n ≡ length past + 1 → IsFaultOf fault past word
 
 -- one of these words, which stand behind others, has the fault
 record IsWrong (past : List (List ℕ)) (ws : List Word) (fault : QueryFault) : Type 0 where
@@ -58,7 +57,7 @@ here past w rest fault is = inr (record { before = []; word = w; behind = rest; 
 unexpected : (past : List (List ℕ)) (w : Word) (rest : List Word) (fault : QueryFault) → IsSettled past
     → UnexpectedWord w.0 ≡ fault → IsFaultBehind past (w ∷ rest) fault
 unexpected past w rest fault settled is =
-    here past w rest fault (subst (λ f. IsKind f w.0 past w.1) is (refl, inl settled))
+    here past w rest fault (subst (λ f. IsKind f w.0 past w.1) is (λ at. (at, inl settled)))
 
 -- or one behind it
 further : (past : List (List ℕ)) (w : Word) (rest : List Word) (fault : QueryFault)
@@ -73,12 +72,6 @@ further past w rest fault (inr is) =
       kind = is.kind;
     })
 
--- three steps one behind another
-assoc : {A B C : Type 0} (r : Result A QueryFault) (f : A → Result B QueryFault) (g : B → Result C QueryFault)
-    → ((r >>= f) >>= g) ≡ (r >>= λ x. f x >>= g)
-assoc (Ok x) f g = refl
-assoc (Err d) f g = refl
-
 -- what is made goes on
 made_then : {A B C : Type 0} (make : A → B) (r : Read A) (g : B × List Word → Result C QueryFault)
     → (made_into make r >>= g) ≡ (r >>= λ p. g (make p.0, p.1))
@@ -92,11 +85,11 @@ one_step : {A C : Type 0} (value : Word → Result A QueryFault) (g : A × List 
     → ((w : Word) (x : A) (rest : List Word) → value w ≡ Ok x → g (x, rest) ≡ Err fault
     → IsFaultBehind past (w ∷ rest) fault) → IsFaultBehind past ws fault
 one_step value g past [] fault e wrong next = let same : QueryEnds ≡ fault = cc in inl (sym same)
-one_step {A} {C} value g past (w ∷ rest) fault e wrong next = by_value (value w) refl e where
-  by_value : (r : Result A QueryFault) → value w ≡ r → ((r >>= λ x. Ok (x, rest)) >>= g) ≡ Err fault
-      → IsFaultBehind past (w ∷ rest) fault
-  by_value (Ok x) is e = next w x rest is e
-  by_value (Err d) is e = let same : d ≡ fault = cc in here past w rest fault (wrong w fault (is ∙ ap Err same))
+one_step value g past (w ∷ rest) fault e wrong next =
+    elim (bind_err (value w) (λ x. g (x, rest)) fault (sym (assoc (value w) (λ x. Ok (x, rest)) g) ∙ e)) [
+      | inl none ↦ here past w rest fault (wrong w fault none)
+      | inr found ↦ next w found.0 rest found.1 found.2
+    ]
 
 -- the same inside a part
 inner_step : {A B C : Type 0} (value : Word → Result A QueryFault) (f : A × List Word → Result B QueryFault)
@@ -114,13 +107,15 @@ keyword_step : {C : Type 0} (text : List ℕ) (g : List Word → Result C QueryF
     → ((rest : List Word) → g rest ≡ Err fault → IsFaultBehind (text ∷ past) rest fault) → IsFaultBehind past ws fault
 unfolding keyword
 keyword_step text g past [] fault e settled next = let same : QueryEnds ≡ fault = cc in inl (sym same)
-keyword_step text g past (w ∷ rest) fault e settled next = by_says (says text w.1) refl e where
-  by_says : (b : Bool) → says text w.1 ≡ b → (cond b (Ok rest) (Err (UnexpectedWord w.0)) >>= g) ≡ Err fault
-      → IsFaultBehind past (w ∷ rest) fault
-  by_says true is e =
-      further past w rest fault (subst (λ (t : List ℕ). IsFaultBehind (t ∷ past) rest fault) (sym (said text w.1 is))
-      (next rest e))
-  by_says false is e = unexpected past w rest fault settled (let same : UnexpectedWord w.0 ≡ fault = cc in same)
+keyword_step text g past (w ∷ rest) fault e settled next = elim (cases_Bool (says text w.1)) [
+  | inl same ↦
+      let found = rw same at e in
+      further past w rest fault (subst (λ (t : List ℕ). IsFaultBehind (t ∷ past) rest fault) (sym (said text w.1 same))
+      (next rest found))
+  | inr differs ↦
+      let missing = rw differs at e in
+      unexpected past w rest fault settled (let same : UnexpectedWord w.0 ≡ fault = cc in same)
+]
 
 -- how it goes on behind a part
 abbrev Next : (A : Type 0) → (A × List Word → Result Asked QueryFault) → QueryFault → Type 0
@@ -144,14 +139,14 @@ row_step : {A : Type 0} (text : List ℕ) (read : List Word → Read A) (table :
     (otherwise : List Word → Read A)
     → Row A text read → Part A (by_word table otherwise) → Part A (by_word ((text, read) ∷ table) otherwise)
 row_step text read table otherwise row others past [] g fault settled e next = others past [] g fault settled e next
-row_step {A} text read table otherwise row others past (w ∷ rest) g fault settled e next =
-    by_says (says text w.1) refl e where
-      by_says : (b : Bool) → says text w.1 ≡ b
-          → (elim (cond b (Some rest) None) [ Some left ↦ read left | None ↦ by_word table otherwise (w ∷ rest) ] >>=
-          g) ≡ Err fault → IsFaultBehind past (w ∷ rest) fault
-      by_says true is e = further past w rest fault (subst (λ (t : List ℕ). IsFaultBehind (t ∷ past) rest fault)
-          (sym (said text w.1 is)) (row past rest g fault e next))
-      by_says false is e = others past (w ∷ rest) g fault settled e next
+row_step text read table otherwise row others past (w ∷ rest) g fault settled e next =
+    elim (cases_Bool (says text w.1)) [
+      | inl same ↦
+          let found = rw (same, by_word) at e in
+          further past w rest fault (subst (λ (t : List ℕ). IsFaultBehind (t ∷ past) rest fault)
+          (sym (said text w.1 same)) (row past rest g fault found next))
+      | inr differs ↦ let missing = rw (differs, by_word) at e in others past (w ∷ rest) g fault settled missing next
+    ]
 
 -- so with all rows
 rows_part : {A : Type 0} (table : List (List ℕ × (List Word → Read A))) (otherwise : List Word → Read A)
@@ -182,8 +177,8 @@ element_kind : (allows : Element → Bool) (past : List (List ℕ)) → IsSettle
     → element allows w ≡ Err f → IsKind f w.0 past w.1
 unfolding element
 element_kind allows past settled w f e = elim (tested_err element_of allows UnexpectedWord w f e) [
-  | inl none ↦ subst (λ f. IsKind f w.0 past w.1) none.1 (refl, inl settled)
-  | inr wrong ↦ subst (λ f. IsKind f w.0 past w.1) wrong.2 (refl, inl settled)
+  | inl none ↦ subst (λ f. IsKind f w.0 past w.1) none.1 (λ at. (at, inl settled))
+  | inr wrong ↦ subst (λ f. IsKind f w.0 past w.1) wrong.2 (λ at. (at, inl settled))
 ]
 
 -- of degrees
@@ -192,14 +187,14 @@ degrees_kind : (low high : ℤ) (past : List (List ℕ)) → place_behind past �
 unfolding degrees
 degrees_kind low high past place w f e = subst (λ f. IsKind f w.0 past w.1)
     (test_err (is_number_within low high (scaled_field 4 w.1)) (number_of (scaled_field 4 w.1)) (BadBox w.0) f e).1
-    (refl, place)
+    (λ at. (at, place))
 
 -- of a code
 code_kind : (len : ℕ) (past : List (List ℕ)) → IsSettled past → (w : Word) (f : QueryFault) → code len w ≡ Err f
     → IsKind f w.0 past w.1
 unfolding code
 code_kind len past settled w f e = subst (λ f. IsKind f w.0 past w.1)
-    (test_err (is_code len w.1) w.1 (UnexpectedWord w.0) f e).1 (refl, inl settled)
+    (test_err (is_code len w.1) w.1 (UnexpectedWord w.0) f e).1 (λ at. (at, inl settled))
 
 -- and of a date
 date_kind : (past : List (List ℕ)) → place_behind past ≡ a_date → (w : Word) (f : QueryFault) → date w ≡ Err f
@@ -207,7 +202,7 @@ date_kind : (past : List (List ℕ)) → place_behind past ≡ a_date → (w : W
 unfolding date
 date_kind past place w f e =
     let none = or_fault_err (BadDate w.0) f (read_date w.1) e in
-    subst (λ f. IsKind f w.0 past w.1) none.1 (refl, place, ap is_some none.0)
+    subst (λ f. IsKind f w.0 past w.1) none.1 (λ at. (at, place, ap is_some none.0))
 
 -- behind a word, what is made of the value of another
 made_row : {A B : Type 0} (text : List ℕ) (value : Word → Result A QueryFault) (make : A → B)
@@ -261,8 +256,7 @@ no_score past (w ∷ rest) g fault settled e next =
 score_part : Part Score score_at
 unfolding score_at
 score_part =
-    rows_part ((codes "highest", highest_at) ∷ (codes "lowest", lowest_at) ∷ (codes "sum", sum_at) ∷
-    (codes "dry", dry_at) ∷ (codes "wet", wet_at) ∷ (codes "hot", hot_at) ∷ []) no_score_at (
+    rows_part score_rows no_score_at (
       element_row (codes "highest") (λ e. true) Highest (λ past. refl),
       (
         element_row (codes "lowest") is_temperature Lowest (λ past. refl),
@@ -321,8 +315,7 @@ always_part y = λ past ws g fault settled e next. next past y ws settled e
 region_part : Part Region region_at
 unfolding region_at
 region_part =
-    rows_part ((codes "box", box_at) ∷ (codes "country", country_at) ∷ (codes "state", state_at) ∷
-    (codes "station", station_at) ∷ []) everywhere_at (
+    rows_part region_rows everywhere_at (
       box_row,
       (
         code_row (codes "country") 2 Country two (λ past. refl) (λ past. refl) (λ past. refl),
@@ -353,7 +346,7 @@ months_row = made_row (codes "months") months Some
 -- a season
 season_part : Part (Option (ℕ × ℕ)) season_at
 unfolding season_at
-season_part = rows_part ((codes "months", months_at) ∷ []) all_year_at (months_row, tt) (always_part None)
+season_part = rows_part season_rows all_year_at (months_row, tt) (always_part None)
 
 -- two days behind "from"
 days_row : Row (Option (ℤ × ℤ)) (codes "from") between_at
@@ -374,7 +367,7 @@ days_row = λ past ws g fault e next.
     fault e) [
       | inl early ↦
           let order = test_err (int_le first last) ((first, last), rest) EmptyPeriod fault early in
-          here to v rest fault (subst (λ f. IsKind f v.0 to v.1) order.1 (place, day_date v last is))
+          here to v rest fault (subst (λ f. IsKind f v.0 to v.1) order.1 (λ at. (place, day_date v last is)))
       | inr later ↦
           let order = test_ok (int_le first last) ((first, last), rest) later.0 EmptyPeriod later.1 in
           further to v rest fault (next (v.1 ∷ to) (Some (first, last)) rest
@@ -385,7 +378,7 @@ days_row = λ past ws g fault e next.
 -- a period
 period_part : Part (Option (ℤ × ℤ)) period_at
 unfolding period_at
-period_part = rows_part ((codes "from", between_at) ∷ []) always_at (days_row, tt) (always_part None)
+period_part = rows_part period_rows always_at (days_row, tt) (always_part None)
 
 -- no word may follow
 nothing_kind : (past : List (List ℕ)) (ws : List Word) (q : Asked) (fault : QueryFault) → IsSettled past
@@ -413,12 +406,12 @@ words_kind ws fault e =
 is_among : (fault : QueryFault) (n : ℕ) (ws past : List (List ℕ)) (word : List ℕ) (behind : List (List ℕ))
     → ws ≡ reverse past ++ word ∷ behind → n ≡ length past + 1 → IsKind fault n past word → IsFaultAmong fault ws
 is_among QueryTooLong n ws past word behind parts at is = tt
-is_among (UnexpectedWord m) n ws past word behind parts at is = (past, word, behind, parts, (is.0 ∙ at, is.1))
+is_among (UnexpectedWord m) n ws past word behind parts at is = (past, word, behind, parts, is at)
 is_among QueryEnds n ws past word behind parts at is = tt
-is_among (OutOfLimits m) n ws past word behind parts at is = (past, word, behind, parts, (is.0 ∙ at, is.1))
-is_among (BadDate m) n ws past word behind parts at is = (past, word, behind, parts, (is.0 ∙ at, is.1, is.2))
-is_among (BadBox m) n ws past word behind parts at is = (past, word, behind, parts, (is.0 ∙ at, is.1))
-is_among EmptyPeriod n ws past word behind parts at is = (past, word, behind, parts, is)
+is_among (OutOfLimits m) n ws past word behind parts at is = (past, word, behind, parts, is at)
+is_among (BadDate m) n ws past word behind parts at is = (past, word, behind, parts, is at)
+is_among (BadBox m) n ws past word behind parts at is = (past, word, behind, parts, is at)
+is_among EmptyPeriod n ws past word behind parts at is = (past, word, behind, parts, is at)
 
 -- the fault of the words of a text is that of one of them
 text_kind : (text : List ℕ) (fault : QueryFault) → IsFaultBehind [] (numbered_words text) fault
@@ -436,17 +429,16 @@ text_kind text fault (inr is) =
     ∙ ap (λ words. words ++ is.word.1 ∷ unnumbered is.behind) (sym (reverse-reverse (unnumbered is.before))) in
     is_among fault is.word.0 (words_of text) past is.word.1 (unnumbered is.behind) parts at is.kind
 
--- so it is with a text of any length
-within_kind : (b : Bool) (text : List ℕ) (fault : QueryFault)
-    → cond b (Err QueryTooLong) (read_words (numbered_words text)) ≡ Err fault → IsFaultAmong fault (words_of text)
-within_kind true text fault e =
-    let same : QueryTooLong ≡ fault = cc in subst (λ f. IsFaultAmong f (words_of text)) same tt
-within_kind false text fault e = text_kind text fault (words_kind (numbered_words text) fault e)
-
 -- a text's fault is that of one of its words
 pub fault_kind : (text : List ℕ) (fault : QueryFault) → read_query text ≡ Err fault → IsFaultAmong fault (words_of text)
 unfolding read_query
-fault_kind text fault e = within_kind (nat_lt 256 (length text)) text fault e
+fault_kind text fault e = elim (cases_Bool (nat_lt 256 (length text))) [
+  | inl long ↦
+      let told = rw long at e in
+      let same : QueryTooLong ≡ fault = cc in
+      subst (λ f. IsFaultAmong f (words_of text)) same tt
+  | inr short ↦ let read = rw short at e in text_kind text fault (words_kind (numbered_words text) fault read)
+]
 
 -- where the reading fails, the fault is that of one of the words
 pub if_fault_kind : (text : List ℕ) (r : Result Asked QueryFault) → r ≡ read_query text

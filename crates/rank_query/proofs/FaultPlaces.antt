@@ -1,21 +1,19 @@
 -- The fault that is told stands at the first word with which no query goes on.
-use Rattle.rank_query.proofs.Cited.{◌≡◌, ℕ, ◌+◌, ◌<◌, ◌≤◌, Bool, true, false, cond, ◌⊎◌, inl, inr, List, [], ◌∷◌, ◌++◌}
+use Rattle.rank_query.proofs.Cited.{cases_Bool}
+use Rattle.rank_query.proofs.Cited.{◌≡◌, ℕ, ◌+◌, ◌⊎◌, inl, inr, List, [], ◌∷◌, ◌++◌}
 use Rattle.rank_query.proofs.Cited.{length, Result, Ok, Err, refl, sym, ap, ◌∙◌, subst, append_assoc, append-nil, IfErr}
 use Rattle.rank_query.proofs.Cited.{arith, nat_lt, enumerate_from, AllByRecursion, map-append, length-map, nat_tests}
 use Rattle.rank_query.proofs.Cited.{QueryFault, QueryTooLong, UnexpectedWord, QueryEnds, OutOfLimits, BadDate, BadBox}
-use Rattle.rank_query.proofs.Cited.{EmptyPeriod, Asked, IsAsked, Word, words_of, numbered_words, SpellsQuery}
+use Rattle.rank_query.proofs.Cited.{EmptyPeriod, Asked, Word, words_of, numbered_words, SpellsQuery}
 use Rattle.rank_query.proofs.Cited.{read_words, read_query, BeginQuery, IsFirstWrong, IsFirstWrongAt, SpellNone}
 use Rattle.rank_query.proofs.Cited.{StandsAmong, StandsIn}
 use Rattle.rank_query.proofs.OneWords.{HasNoBlank, words_no_blank}
 use Rattle.rank_query.proofs.ReadingSteps.{unnumbered, unnumbered-enumerate_from}
 use Rattle.rank_query.proofs.Spellings.{words_spell, spelt_read}
 use Rattle.rank_query.proofs.Stops.{HaveNoBlank, blank_in_neither, GoesOn, IsWordOf, StopsAt}
+use Rattle.rank_query.proofs.PartStops.{Any}
 use Rattle.rank_query.proofs.QueryStops.{query_first}
-
--- words without blanks, with their numbers or without
-blank_in_none : (ws : List Word) → HaveNoBlank ws → AllByRecursion HasNoBlank (unnumbered ws)
-blank_in_none [] clean = tt
-blank_in_none (w ∷ ws) clean = (clean.0, blank_in_none ws clean.1)
+use Rattle.rank_query.proofs.ReadAsked.{words_asked}
 
 -- the words in front of others have no blank where none of all has
 blank_in_front : (front back : List Word) → AllByRecursion HasNoBlank (unnumbered (front ++ back)) → HaveNoBlank front
@@ -57,13 +55,12 @@ place_of n (v ∷ words) (b ∷ before) w behind e =
 
 -- words behind which a query is read begin one
 begun : (before left : List Word) → AllByRecursion HasNoBlank (unnumbered (before ++ left))
-    → GoesOn Asked IsAsked (λ tail. read_words (before ++ tail)) → BeginQuery (unnumbered before)
+    → GoesOn Asked Any (λ tail. read_words (before ++ tail)) → BeginQuery (unnumbered before)
 begun before left clean on =
-    let all = blank_in_none (before ++ on.tail)
-    (blank_in_neither before on.tail (blank_in_front before left clean) on.clean) in
+    let all = blank_in_neither before on.tail (blank_in_front before left clean) on.clean in
     record {
       query = on.value;
-      can_be_asked = on.good;
+      can_be_asked = words_asked (before ++ on.tail) on.value on.reads;
       more = unnumbered on.tail;
       spelt = subst (λ ws. SpellsQuery ws on.value) (map-append (λ (w : Word). w.1) before on.tail)
           (words_spell (before ++ on.tail) on.value all on.reads);
@@ -128,20 +125,13 @@ words_fault text fault e =
     by_left text fault stops.before stops.left e words stops.parts
     (begun stops.before stops.left clean stops.on) stops.at
 
--- the same by the text's length
-by_length : (b : Bool) (text : List ℕ) (fault : QueryFault) → nat_lt 256 (length text) ≡ b
-    → cond b (Err QueryTooLong) (read_words (numbered_words text)) ≡ Err fault → StandsIn text fault
-by_length true text fault long e =
-    let same : QueryTooLong ≡ fault = cc in
-    let more : 256 < length text = grind (arith, nat_tests) in
-    inl (more, sym same)
-by_length false text fault short e =
-    let few : length text ≤ 256 = grind (arith, nat_tests) in inr (few, words_fault text fault e)
-
 -- so does each fault of a text
 pub fault_stands : (text : List ℕ) (fault : QueryFault) → read_query text ≡ Err fault → StandsIn text fault
 unfolding read_query
-fault_stands text fault e = by_length (nat_lt 256 (length text)) text fault refl e
+fault_stands text fault e = elim (cases_Bool (nat_lt 256 (length text))) [
+  | inl long ↦ let told = rw long at e in let same : fault ≡ QueryTooLong = cc in inl (grind (arith, nat_tests), same)
+  | inr short ↦ let read = rw short at e in inr (grind (arith, nat_tests), words_fault text fault read)
+]
 
 -- where the reading fails, the fault stands where it is told
 pub if_fault_stands : (text : List ℕ) (r : Result Asked QueryFault) → r ≡ read_query text

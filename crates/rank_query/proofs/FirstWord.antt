@@ -1,25 +1,24 @@
 -- The first word of a text, and the words after it.
-use Rattle.rank_query.proofs.Cited.{ints, ◌≡◌, ℕ, ◌+◌, ◌<◌, ◌≤◌, Bool, true, false, not, cond, List, [], ◌∷◌, length}
+use Rattle.rank_query.proofs.Cited.{ints, ◌≡◌, ℕ, ◌+◌, ◌<◌, ◌≤◌, true, false, not, cond, List, [], ◌∷◌, length}
 use Rattle.rank_query.proofs.Cited.{take, drop, get_or, All, filter, refl, sym, ap, ◌∙◌, inl, inr, Some, None, arith}
 use Rattle.rank_query.proofs.Cited.{nat_lt, unwrap_or, slice_split, position, position_or_len, enumerate_from}
 use Rattle.rank_query.proofs.Cited.{nat_tests, take_all, drop_all, drop_more, fails_before_first}
 use Rattle.rank_query.proofs.Cited.{passes_at_first, prefix_len-le-length, slice_split_none, slice_split_first}
-use Rattle.rank_query.proofs.Cited.{slice_split-cons_yes, cases_lt, after_blanks, is_separator, is_word, words_of}
+use Rattle.rank_query.proofs.Cited.{slice_split-cons_yes, cases_lt, after_blanks, is_separator, words_of}
+use Rattle.rank_query.proofs.Cited.{cases_Bool}
+use Rattle.rank_query.proofs.OneWords.{is_word}
 
 -- a blank before a text adds no word
 pub words_of-blank : (b : ℕ) (bytes : List ℕ) → is_separator b ≡ true → words_of (b ∷ bytes) ≡ words_of bytes
 words_of-blank b bytes e = ap (filter is_word) (slice_split-cons_yes is_separator b bytes e)
 
--- the same, by what the first byte is
-by_first : (t : Bool) (b : ℕ) (bytes : List ℕ) → is_separator b ≡ t → words_of (after_blanks bytes) ≡ words_of bytes
-    → words_of (cond t (after_blanks bytes) (b ∷ bytes)) ≡ words_of (b ∷ bytes)
-by_first true b bytes e rest = rest ∙ sym (words_of-blank b bytes e)
-by_first false b bytes e rest = refl
-
 -- the blanks at the front of a text add no word
 pub words_of-after_blanks : (text : List ℕ) → words_of (after_blanks text) ≡ words_of text
 words_of-after_blanks [] = refl
-words_of-after_blanks (b ∷ bytes) = by_first (is_separator b) b bytes refl (words_of-after_blanks bytes)
+words_of-after_blanks (b ∷ bytes) = elim (cases_Bool (is_separator b)) [
+  | inl blank ↦ rw blank (words_of-after_blanks bytes)
+  | inr other ↦ ap (λ t. words_of (cond t (after_blanks bytes) (b ∷ bytes))) other
+]
 
 -- a part that isn't empty is a word
 first_kept : (part : List ℕ) (parts : List (List ℕ)) → 0 < length part
@@ -62,21 +61,14 @@ words_of-first text n e some =
           text n e some outside
     ]
 
--- by the first byte: the word goes on behind it, or it separates
-past_first : (t : Bool) (b : ℕ) (bytes : List ℕ) → is_separator b ≡ t
-    → (0 < length (after_blanks bytes) → 0 < position_or_len is_separator (after_blanks bytes))
-    → 0 < length (cond t (after_blanks bytes) (b ∷ bytes))
-    → 0 < position_or_len is_separator (cond t (after_blanks bytes) (b ∷ bytes))
-past_first true b bytes e rest some = rest some
-past_first false b bytes e rest some =
-    let one : position_or_len is_separator (b ∷ bytes) ≡ 1 + position_or_len is_separator bytes = ap
-    (λ v. cond (not v) (1 + position_or_len is_separator bytes) 0) e in omega (arith, one)
-
 -- the first byte past the blanks is none
 after_blanks-first : (text : List ℕ) → 0 < length (after_blanks text)
     → 0 < position_or_len is_separator (after_blanks text)
 after_blanks-first [] some = absurd (omega arith)
-after_blanks-first (b ∷ bytes) some = past_first (is_separator b) b bytes refl (after_blanks-first bytes) some
+after_blanks-first (b ∷ bytes) some = elim (cases_Bool (is_separator b)) [
+  | inl blank ↦ let left = rw blank at some in rw blank (after_blanks-first bytes left)
+  | inr other ↦ rw (other, other) (omega arith)
+]
 
 -- past the blanks stands the first word
 pub first_word : (text rest : List ℕ) (n : ℕ) → rest ≡ after_blanks text → 0 < length rest
@@ -106,16 +98,13 @@ pub position-or : (text : List ℕ) → unwrap_or (position is_separator text)
 position-or text =
     place_or (position_or_len is_separator text) (length text) (prefix_len-le-length (λ b. not (is_separator b)) text)
 
--- the same, by what the first byte is
-past_le : (t : Bool) (b : ℕ) (bytes : List ℕ) → length (after_blanks bytes) ≤ length bytes
-    → length (cond t (after_blanks bytes) (b ∷ bytes)) ≤ length (b ∷ bytes)
-past_le true b bytes h = omega arith
-past_le false b bytes h = omega arith
-
 -- no text has more bytes past its blanks
 pub after_blanks-le : (text : List ℕ) → length (after_blanks text) ≤ length text
 after_blanks-le [] = omega arith
-after_blanks-le (b ∷ bytes) = past_le (is_separator b) b bytes (after_blanks-le bytes)
+after_blanks-le (b ∷ bytes) = elim (cases_Bool (is_separator b)) [
+  | inl blank ↦ rw blank (omega (arith, after_blanks-le bytes))
+  | inr other ↦ rw other (omega arith)
+]
 
 -- the numbered words of a text are its first word, and those of what is left
 pub words_left : (given : ℕ) (all : List (ℕ × List ℕ)) (text word rest shown left : List ℕ)

@@ -2,6 +2,7 @@ mod Cited
 pub mod FirstWord
 pub mod Numerals
 pub mod OneWords
+pub mod SpeltWords
 pub mod ReadingSteps
 pub mod WordValues
 pub mod ScoreWords

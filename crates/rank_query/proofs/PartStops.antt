@@ -1,6 +1,7 @@
 -- Where the reading of one word stops, and that of a part that its first word tells.
-use Rattle.rank_query.proofs.Cited.{◌≡◌, ℕ, zero, Bool, true, false, cond, ◌⊎◌, inl, inr, List, [], ◌∷◌, Option, Some}
-use Rattle.rank_query.proofs.Cited.{None, Result, Ok, Err, refl, sym, ap, ◌∙◌, subst, AllByRecursion, QueryFault}
+use Rattle.rank_query.proofs.Cited.{cases_Bool}
+use Rattle.rank_query.proofs.Cited.{◌≡◌, ℕ, zero, Bool, true, false, cond, ◌⊎◌, inl, inr, List, [], ◌∷◌}
+use Rattle.rank_query.proofs.Cited.{Result, Ok, Err, refl, sym, ap, ◌∙◌, subst, AllByRecursion, QueryFault}
 use Rattle.rank_query.proofs.Cited.{UnexpectedWord, QueryEnds, Word, says, ◌>>=◌, Read, keyword, one_word, made_into}
 use Rattle.rank_query.proofs.Cited.{by_word}
 use Rattle.rank_query.proofs.OneWords.{HasNoBlank}
@@ -19,24 +20,24 @@ pub record ReadsWord (A : Type 0) (Good : A → Type 0) (value : Word → Result
   pub reads : value (0, sample) ≡ Ok it
 
 -- that word goes on alone
-word_on : {A : Type 0} (Good : A → Type 0) (value : Word → Result A QueryFault) → ReadsWord A Good value
-    → GoesOn (A × List Word) (Ended Good) (one_word value)
-word_on {A} Good value word = record {
+word_on : {A : Type 0} {Good : A → Type 0} {value : Word → Result A QueryFault} → ReadsWord A Good value
+    → GoesOn (A × List Word) Ended (one_word value)
+word_on {A} word = record {
   tail = (0, word.sample) ∷ [];
   clean = (word.clean, tt);
   value = (word.it, []);
-  good = (word.good (0, word.sample) word.it word.reads, refl);
+  good = refl;
   reads = ap (λ (r : Result A QueryFault). r >>= λ x. Ok (x, [])) word.reads;
 }
 
 -- a missing word and one without a value are faults
-word_stops : {A : Type 0} (Good : A → Type 0) (value : Word → Result A QueryFault) → ReadsWord A Good value
+word_stops : {A : Type 0} {Good : A → Type 0} {value : Word → Result A QueryFault} → ReadsWord A Good value
     → (ws : List Word) (fault : QueryFault) → one_word value ws ≡ Err fault
-    → Stops (A × List Word) (Ended Good) (one_word value) fault ws
-word_stops Good value word [] fault e =
-    stops_end [] (word_on Good value word) (let same : fault ≡ QueryEnds = cc in same)
-word_stops {A} Good value word (w ∷ ws) fault e = elim (bind_err (value w) (λ x. Ok (x, ws)) fault e) [
-  | inl here ↦ stops_word [] w ws (word_on Good value word) (word.told w fault here)
+    → Stops (A × List Word) Ended (one_word value) fault ws
+word_stops word [] fault e =
+    stops_end [] (word_on word) (let same : fault ≡ QueryEnds = cc in same)
+word_stops {A} {value = value} word (w ∷ ws) fault e = elim (bind_err (value w) (λ x. Ok (x, ws)) fault e) [
+  | inl here ↦ stops_word [] w ws (word_on word) (word.told w fault here)
       (λ more. ap (λ (r : Result A QueryFault). r >>= λ x. Ok (x, more)) here)
   | inr later ↦ absurd (ok_is_no_fault (later.0, ws) fault later.2)
 ] where
@@ -44,10 +45,10 @@ word_stops {A} Good value word (w ∷ ws) fault e = elim (bind_err (value w) (λ
   ok_is_no_fault r fault e = absurd cc
 
 -- a word with a value is taken
-word_takes : {A : Type 0} (Good : A → Type 0) (value : Word → Result A QueryFault) → ReadsWord A Good value
+word_takes : {A : Type 0} {Good : A → Type 0} {value : Word → Result A QueryFault} → ReadsWord A Good value
     → TakesAll A Good (one_word value)
-word_takes Good value word [] r e = absurd cc
-word_takes {A} Good value word (w ∷ ws) r e =
+word_takes word [] r e = absurd cc
+word_takes {A} {value = value} word (w ∷ ws) r e =
     let both = bind_ok (value w) (λ x. Ok (x, ws)) r e in
     let pair : (both.0, ws) ≡ r = cc in
     record {
@@ -59,12 +60,9 @@ word_takes {A} Good value word (w ∷ ws) r e =
     }
 
 -- one word is a part
-pub part_word : {A : Type 0} (Good : A → Type 0) (value : Word → Result A QueryFault) → ReadsWord A Good value
+pub part_word : {A : Type 0} {Good : A → Type 0} {value : Word → Result A QueryFault} → ReadsWord A Good value
     → ReadsPart A Good (one_word value)
-part_word Good value word = record {
-  first = record { on = word_on Good value word; stops = word_stops Good value word };
-  takes = word_takes Good value word;
-}
+part_word word = record { first = record { on = word_on word; stops = word_stops word }; takes = word_takes word }
 
 -- a fault of what was made is that of what it is made of
 made_err : {A B : Type 0} (make : A → B) (r : Read A) (fault : QueryFault) → made_into make r ≡ Err fault
@@ -73,19 +71,18 @@ made_err make (Ok p) fault e = absurd cc
 made_err make (Err d) fault e = let same : d ≡ fault = cc in ap Err same
 
 -- what is made of a part is one
-pub part_made : {A B : Type 0} (GoodA : A → Type 0) (Good : B → Type 0) (make : A → B)
-    (read : Reading (A × List Word)) → ((x : A) → GoodA x → Good (make x))
+pub part_made : {A B : Type 0} {GoodA : A → Type 0} {Good : B → Type 0} {read : Reading (A × List Word)} (make : A → B)
+    → ((x : A) → GoodA x → Good (make x))
     → ReadsPart A GoodA read → ReadsPart B Good (λ ws. made_into make (read ws))
-part_made {A} {B} GoodA Good make read good part = record {
+part_made {A} {B} {GoodA} {Good} {read} make good part = record {
   first =
       let follows : Follows (λ r. (make r.0, r.1)) (λ ws. made_into make (read ws)) [] read = record {
         ok = λ more x e. ap (made_into make) e;
         err = λ more fault e. ap (made_into make) e;
       } in
-      let ended : (r : A × List Word) → Ended GoodA r → Ended Good (make r.0, r.1) = λ r is. (good r.0 is.0, is.1) in
       record {
-        on = on_follows (Ended GoodA) (Ended Good) _ _ read [] [] ended follows part.first.on;
-        stops = λ ws fault e. stops_follows (Ended GoodA) (Ended Good) _ _ read [] ws fault ended follows
+        on = on_follows Ended Ended _ _ read [] [] (λ r is. is) follows part.first.on;
+        stops = λ ws fault e. stops_follows Ended Ended _ _ read [] ws fault (λ r is. is) follows
             (part.first.stops ws fault (made_err make (read ws) fault e));
       };
   takes = λ ws r e.
@@ -100,10 +97,10 @@ part_made {A} {B} GoodA Good make read good part = record {
 }
 
 -- a value without a word is a part
-pub part_always : {A : Type 0} (Good : A → Type 0) (y : A) → Good y → ReadsPart A Good (λ ws. Ok (y, ws))
-part_always {A} Good y good = record {
+pub part_always : {A : Type 0} {Good : A → Type 0} (y : A) → Good y → ReadsPart A Good (λ ws. Ok (y, ws))
+part_always {A} {Good} y good = record {
   first = record {
-    on = record { tail = []; clean = tt; value = (y, []); good = (good, refl); reads = refl };
+    on = record { tail = []; clean = tt; value = (y, []); good = refl; reads = refl };
     stops = λ ws fault e. absurd cc;
   };
   takes = λ ws r e.
@@ -127,7 +124,7 @@ Any x = Unit {0}
 -- so is a keyword
 pub part_the_word : (text : List ℕ) → HasNoBlank text → says text text ≡ true
     → ReadsPart ℕ Any (one_word (the_word text))
-part_the_word text clean same = part_word Any (the_word text) (record {
+part_the_word text clean same = part_word (record {
   good = λ w x e. tt;
   told = λ w fault e. subst (λ f. IsWordOf f [] w) (test_err (says text w.1) zero (UnexpectedWord w.0) fault e).1 refl;
   sample = text;
@@ -168,10 +165,6 @@ pub takes_same : {A : Type 0} (Good : A → Type 0) (read other : Reading (A × 
 takes_same Good read other same takes =
     λ ws r e. takes_behind Good other read [] ws r same (takes ws r (sym (same ws) ∙ e))
 
--- how the reading goes on where a word may come next
-abbrev reads_or : {A : Type 0} → Option (List Word) → (List Word → Read A) → Read A → Read A
-reads_or o read others = elim o [ Some rest ↦ read rest | None ↦ others ]
-
 -- the first word tells by which row all is read that begins with it, or that no row is
 pub by_first : {A : Type 0} (Good : A → Type 0) (table : List (List ℕ × (List Word → Read A)))
     (otherwise : List Word → Read A) (w : Word) → AllByRecursion (λ row. ReadsPart A Good row.1) table
@@ -179,21 +172,10 @@ pub by_first : {A : Type 0} (Good : A → Type 0) (table : List (List ℕ × (Li
     × ((rest : List Word) → by_word table otherwise (w ∷ rest) ≡ read rest))
     ⊎ ((rest : List Word) → by_word table otherwise (w ∷ rest) ≡ otherwise (w ∷ rest))
 by_first Good [] otherwise w all = inr (λ rest. refl)
-by_first {A} Good (row ∷ table) otherwise w all =
-    by_says (says row.0 w.1) refl (by_first Good table otherwise w all.1) where
-      Found : List (List ℕ × (List Word → Read A)) → Type 0
-      Found rows =
-          ((read : List Word → Read A) × ReadsPart A Good read
-          × ((rest : List Word) → by_word rows otherwise (w ∷ rest) ≡ read rest))
-          ⊎ ((rest : List Word) → by_word rows otherwise (w ∷ rest) ≡ otherwise (w ∷ rest))
-
-      after : (b : Bool) → says row.0 w.1 ≡ b → (rest : List Word) → by_word (row ∷ table) otherwise (w ∷ rest) ≡
-          reads_or (cond b (Some rest) None) row.1 (by_word table otherwise (w ∷ rest))
-      after b is rest = ap (λ b. reads_or (cond b (Some rest) None) row.1 (by_word table otherwise (w ∷ rest))) is
-
-      by_says : (b : Bool) → says row.0 w.1 ≡ b → Found table → Found (row ∷ table)
-      by_says true is later = inl (row.1, all.0, after true is)
-      by_says false is later = elim later [
-        | inl found ↦ inl (found.0, found.1, λ rest. after false is rest ∙ found.2 rest)
-        | inr none ↦ inr (λ rest. after false is rest ∙ none rest)
-      ]
+by_first Good (row ∷ table) otherwise w all = elim (cases_Bool (says row.0 w.1)) [
+  | inl same ↦ inl (row.1, all.0, λ rest. rw (same, by_word) refl)
+  | inr other ↦ elim (by_first Good table otherwise w all.1) [
+    | inl found ↦ inl (found.0, found.1, λ rest. rw (other, by_word) (found.2 rest))
+    | inr none ↦ inr (λ rest. rw (other, by_word) (none rest))
+  ]
+]

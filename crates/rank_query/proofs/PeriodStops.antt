@@ -1,12 +1,16 @@
 -- Where the reading of a period stops.
-use Rattle.rank_query.proofs.Cited.{◌≡◌, ℕ, Bool, true, false, cond, ◌&&◌, List, [], ◌∷◌, ◌++◌, Option, Some, Result}
+use Rattle.rank_query.proofs.Cited.{sym, inl, inr, cases_Bool}
+use Rattle.rank_query.proofs.ReadingSteps.{assoc, test_err}
+use Rattle.rank_query.proofs.Stops.{bind_err}
+use Rattle.rank_query.proofs.Cited.{◌≡◌, ℕ, true, false, cond, ◌&&◌, List, [], ◌∷◌, ◌++◌, Option, Some, Result}
 use Rattle.rank_query.proofs.Cited.{Ok, Err, codes, refl, ap, ◌∙◌, subst, arith, ℤ, pos, int_le, ◌<ℤ◌, AllByRecursion}
 use Rattle.rank_query.proofs.Cited.{ints, is_day, date_text, QueryFault, UnexpectedWord, QueryEnds, EmptyPeriod}
-use Rattle.rank_query.proofs.Cited.{is_period, Word, says, ◌>>=◌, Read, keyword, one_word, date, days_at, between_at}
+use Rattle.rank_query.proofs.Cited.{is_period, Word, says, ◌>>=◌, Read, keyword, one_word, date, days_at}
 use Rattle.rank_query.proofs.Cited.{EndsTooEarly}
 use Rattle.rank_query.proofs.ReadingSteps.{said, test_ok, one_word_again}
 use Rattle.rank_query.proofs.WordValues.{date_written, date_day, written_date}
 use Rattle.rank_query.proofs.RegionWords.{and_true}
+use Rattle.rank_query.proofs.PeriodWords.{period_rows}
 use Rattle.rank_query.proofs.PrintedWords.{date_word}
 use Rattle.rank_query.proofs.Stops.{Reading, then, GoesOn, IsWordOf, Stops, TakesAll, Ended, ReadsPart}
 use Rattle.rank_query.proofs.Stops.{word_behind, stops_word, stops_end, takes_then}
@@ -35,10 +39,6 @@ to_last first ws = keyword (codes "to") ws >>= last_from first
 same_day : (d : ℤ) → int_le d d ≡ true
 same_day d = grind (arith, ints)
 
--- and is a period
-one_day : (d : ℤ) → is_day d ≡ true → GoodDays (d, d)
-one_day d is = and_true (is_day d && is_day d) (int_le d d) (and_true (is_day d) (is_day d) is is) (same_day d)
-
 -- its date ends a period that it begins
 last_again : (first : ℤ) → is_day first ≡ true → last_from first ((0, date_text first) ∷ []) ≡ Ok ((first, first), [])
 last_again first is =
@@ -60,13 +60,13 @@ record Behind (first : ℤ) (w t : Word) : Type 0 where
   same : (more : List Word) → days_at (w ∷ t ∷ more) ≡ last_from first more
 
 -- the first day's own date
-last_on : (first : ℤ) (w t : Word) → Behind first w t → GoesOn Days (Ended GoodDays)
+last_on : (first : ℤ) (w t : Word) → Behind first w t → GoesOn Days Ended
     (λ tail. days_at ((w ∷ t ∷ []) ++ tail))
 last_on first w t behind = record {
   tail = (0, date_text first) ∷ [];
   clean = ((date_word first).one.no_blank, tt);
   value = ((first, first), []);
-  good = (one_day first behind.is, refl);
+  good = refl;
   reads = behind.same ((0, date_text first) ∷ []) ∙ last_again first behind.is;
 }
 
@@ -76,111 +76,102 @@ before_from_test first last e = grind (arith, ints)
 
 -- the second date is wrong where it is none, or that of an earlier day
 last_stops : (first : ℤ) (w t : Word) (ws : List Word) (fault : QueryFault) → Behind first w t
-    → last_from first ws ≡ Err fault → Stops Days (Ended GoodDays) days_at fault (w ∷ t ∷ ws)
+    → last_from first ws ≡ Err fault → Stops Days Ended days_at fault (w ∷ t ∷ ws)
 last_stops first w t [] fault behind e =
     stops_end (w ∷ t ∷ []) (last_on first w t behind) (let same : fault ≡ QueryEnds = cc in same)
-last_stops first w t (l ∷ ws) fault behind e = by_date (date l) refl e where
-  test : List Word → Result ℤ QueryFault → Read (ℤ × ℤ)
-  test more r = beside more r >>= λ last. cond (int_le first last.0) (Ok ((first, last.0), last.1)) (Err EmptyPeriod)
+last_stops first w t (l ∷ ws) fault behind e = elim (bind_err (date l) (in_order ws) fault
+    (sym (assoc (date l) (λ last. Ok (last, ws)) (λ last. in_order last.1 last.0)) ∙ e)) [
+      | inl none ↦ stops_word (w ∷ t ∷ []) l ws (last_on first w t behind)
+          (word_behind fault (w ∷ t ∷ []) [] l ((reads_date first behind.is).told l fault none))
+          (λ more. behind.same (l ∷ more) ∙ ap (test more) none)
+      | inr found ↦
+          let order = test_err (int_le first found.0) ((first, found.0), ws) EmptyPeriod fault found.2 in
+          let early : EndsTooEarly (w.1 ∷ t.1 ∷ []) l.1 = record {
+            earlier = [];
+            first = first;
+            last = found.0;
+            are_days = and_true (is_day first) (is_day found.0) behind.is (date_day l found.0 found.1);
+            period = ap (λ (word : List ℕ). word ∷ t.1 ∷ []) behind.date
+                ∙ ap (λ (word : List ℕ). date_text first ∷ word ∷ []) behind.to;
+            date = date_written l found.0 found.1;
+            order = before_from_test first found.0 order.0;
+          } in
+          stops_word (w ∷ t ∷ []) l ws (last_on first w t behind) (subst (λ f. IsWordOf f (w ∷ t ∷ []) l) order.1 early)
+          (λ more. behind.same (l ∷ more) ∙ ap (test more) found.1
+          ∙ ap (λ b. cond b (Ok ((first, found.0), more)) (Err EmptyPeriod)) order.0 ∙ ap Err order.1)
+    ] where
+      in_order : List Word → ℤ → Read (ℤ × ℤ)
+      in_order more last = cond (int_le first last) (Ok ((first, last), more)) (Err EmptyPeriod)
 
-  by_order : (last : ℤ) (b : Bool) → date l ≡ Ok last → int_le first last ≡ b
-      → ◌≡◌ {A = Read (ℤ × ℤ)} (cond b (Ok ((first, last), ws)) (Err EmptyPeriod)) (Err fault)
-      → Stops Days (Ended GoodDays) days_at fault (w ∷ t ∷ l ∷ ws)
-  by_order last true is order e = absurd cc
-  by_order last false is order e =
-      let same : EmptyPeriod ≡ fault = cc in
-      let early : EndsTooEarly (w.1 ∷ t.1 ∷ []) l.1 = record {
-        earlier = [];
-        first = first;
-        last = last;
-        are_days = and_true (is_day first) (is_day last) behind.is (date_day l last is);
-        period = ap (λ (word : List ℕ). word ∷ t.1 ∷ []) behind.date
-            ∙ ap (λ (word : List ℕ). date_text first ∷ word ∷ []) behind.to;
-        date = date_written l last is;
-        order = before_from_test first last order;
-      } in
-      stops_word (w ∷ t ∷ []) l ws (last_on first w t behind) (subst (λ f. IsWordOf f (w ∷ t ∷ []) l) same early)
-      (λ more. behind.same (l ∷ more) ∙ ap (test more) is
-      ∙ ap (λ b. cond b (Ok ((first, last), more)) (Err EmptyPeriod)) order ∙ ap Err same)
-
-  by_date : (r : Result ℤ QueryFault) → date l ≡ r → test ws r ≡ Err fault
-      → Stops Days (Ended GoodDays) days_at fault (w ∷ t ∷ l ∷ ws)
-  by_date (Ok last) is e = by_order last (int_le first last) is refl e
-  by_date (Err named) is e =
-      let same : named ≡ fault = cc in
-      let here : date l ≡ Err fault = is ∙ ap Err same in
-      stops_word (w ∷ t ∷ []) l ws (last_on first w t behind)
-      (word_behind fault (w ∷ t ∷ []) [] l ((reads_date first behind.is).told l fault here))
-      (λ more. behind.same (l ∷ more) ∙ ap (test more) here)
+      test : List Word → Result ℤ QueryFault → Read (ℤ × ℤ)
+      test more r = beside more r >>= λ last. in_order last.1 last.0
 
 -- behind the date of a first day
 to_on : (first : ℤ) (w : Word) → is_day first ≡ true → ((more : List Word) → days_at (w ∷ more) ≡ to_last first more)
-    → GoesOn Days (Ended GoodDays) (λ tail. days_at ((w ∷ []) ++ tail))
+    → GoesOn Days Ended (λ tail. days_at ((w ∷ []) ++ tail))
 to_on first w is same = record {
   tail = (0, codes "to") ∷ (0, date_text first) ∷ [];
   clean = (refl, ((date_word first).one.no_blank, tt));
   value = ((first, first), []);
-  good = (one_day first is, refl);
+  good = refl;
   reads = same ((0, codes "to") ∷ (0, date_text first) ∷ []) ∙ to_again first is;
 }
 
 -- another word than "to" is wrong
 to_stops : (first : ℤ) (w : Word) (ws : List Word) (fault : QueryFault) → is_day first ≡ true → w.1 ≡ date_text first
     → ((more : List Word) → days_at (w ∷ more) ≡ to_last first more)
-    → to_last first ws ≡ Err fault → Stops Days (Ended GoodDays) days_at fault (w ∷ ws)
+    → to_last first ws ≡ Err fault → Stops Days Ended days_at fault (w ∷ ws)
 unfolding keyword
 to_stops first w [] fault is date same e =
     stops_end (w ∷ []) (to_on first w is same) (let ends : fault ≡ QueryEnds = cc in ends)
-to_stops first w (t ∷ ws) fault is date same e = by_says (says (codes "to") t.1) refl e where
-  by_says : (b : Bool) → says (codes "to") t.1 ≡ b → (cond b (Ok ws) (Err (UnexpectedWord t.0)) >>= last_from first) ≡
-      Err fault → Stops Days (Ended GoodDays) days_at fault (w ∷ t ∷ ws)
-  by_says true to e =
+to_stops first w (t ∷ ws) fault is date same e = elim (cases_Bool (says (codes "to") t.1)) [
+  | inl to ↦
+      let found = rw to at e in
       last_stops first w t ws fault (record {
         is = is;
         date = date;
         to = said (codes "to") t.1 to;
         same = λ more. same (t ∷ more) ∙ ap (λ b. cond b (Ok more) (Err (UnexpectedWord t.0)) >>= last_from first) to;
-      }) e
-  by_says false other e =
+      }) found
+  | inr differs ↦
+      let missing = rw differs at e in
       let here : UnexpectedWord t.0 ≡ fault = cc in
       stops_word (w ∷ []) t ws (to_on first w is same)
       (word_behind fault (w ∷ []) [] t (subst (λ f. IsWordOf f [] t) here refl))
-      (λ more. same (t ∷ more) ∙ ap (λ b. cond b (Ok more) (Err (UnexpectedWord t.0)) >>= last_from first) other
+      (λ more. same (t ∷ more) ∙ ap (λ b. cond b (Ok more) (Err (UnexpectedWord t.0)) >>= last_from first) differs
       ∙ ap Err here)
+]
 
 -- some day
 abbrev some_day : ℤ
 some_day = pos 0
 
 -- a period of some day
-days_on : GoesOn Days (Ended GoodDays) days_at
+days_on : GoesOn Days Ended days_at
 unfolding days_at
 days_on = record {
   tail = (0, date_text some_day) ∷ (0, codes "to") ∷ (0, date_text some_day) ∷ [];
   clean = ((date_word some_day).one.no_blank, (refl, ((date_word some_day).one.no_blank, tt)));
   value = ((some_day, some_day), []);
-  good = (one_day some_day refl, refl);
+  good = refl;
   reads = ap (λ (r : Result ℤ QueryFault). beside ((0, codes "to") ∷ (0, date_text some_day) ∷ []) r >>= λ first.
       to_last first.0 first.1) (written_date 0 some_day refl) ∙ to_again some_day refl;
 }
 
 -- a first word that is no date is wrong
 days_stops : (ws : List Word) (fault : QueryFault) → days_at ws ≡ Err fault
-    → Stops Days (Ended GoodDays) days_at fault ws
+    → Stops Days Ended days_at fault ws
 unfolding days_at
 days_stops [] fault e = stops_end [] days_on (let ends : fault ≡ QueryEnds = cc in ends)
-days_stops (w ∷ ws) fault e = by_date (date w) refl e where
-  first_of_two : List Word → Result ℤ QueryFault → Read (ℤ × ℤ)
-  first_of_two more r = beside more r >>= λ first. to_last first.0 first.1
-
-  by_date : (r : Result ℤ QueryFault) → date w ≡ r → first_of_two ws r ≡ Err fault
-      → Stops Days (Ended GoodDays) days_at fault (w ∷ ws)
-  by_date (Ok first) is e =
-      to_stops first w ws fault (date_day w first is) (date_written w first is) (λ more. ap (first_of_two more) is) e
-  by_date (Err named) is e =
-      let same : named ≡ fault = cc in
-      let here : date w ≡ Err fault = is ∙ ap Err same in
-      stops_word [] w ws days_on ((reads_date some_day refl).told w fault here) (λ more. ap (first_of_two more) here)
+days_stops (w ∷ ws) fault e = elim (bind_err (date w) (λ first. to_last first ws) fault
+    (sym (assoc (date w) (λ first. Ok (first, ws)) (λ first. to_last first.0 first.1)) ∙ e)) [
+      | inl none ↦ stops_word [] w ws days_on ((reads_date some_day refl).told w fault none)
+          (λ more. ap (first_of_two more) none)
+      | inr found ↦ to_stops found.0 w ws fault (date_day w found.0 found.1) (date_written w found.0 found.1)
+          (λ more. ap (first_of_two more) found.1) found.2
+    ] where
+      first_of_two : List Word → Result ℤ QueryFault → Read (ℤ × ℤ)
+      first_of_two more r = beside more r >>= λ first. to_last first.0 first.1
 
 -- the days in their order are taken
 order_takes : (first last : ℤ) → is_day first ≡ true → is_day last ≡ true
@@ -198,7 +189,7 @@ order_takes first last one two ws r e =
 
 -- a date is taken
 date_takes : TakesAll ℤ (λ day. is_day day ≡ true) (one_word date)
-date_takes = (part_word (λ day. is_day day ≡ true) date (reads_date some_day refl)).takes
+date_takes = (part_word (reads_date some_day refl)).takes
 
 -- "to" is itself
 says_to : says (codes "to") (codes "to") ≡ true
@@ -222,14 +213,10 @@ days_take =
 abbrev pub GoodPeriod : Option (ℤ × ℤ) → Type 0
 GoodPeriod p = is_period p ≡ true
 
--- a period behind its word
-abbrev pub period_rows : List (List ℕ × (List Word → Read (Option (ℤ × ℤ))))
-period_rows = (codes "from", between_at) ∷ []
-
--- it is a part
+-- it is a part behind its word
 pub period_parts : AllByRecursion (λ row. ReadsPart (Option (ℤ × ℤ)) GoodPeriod row.1) period_rows
 period_parts = (
-  part_made GoodDays GoodPeriod Some days_at (λ p is. is)
+  part_made Some (λ p is. is)
       (record { first = record { on = days_on; stops = days_stops }; takes = days_take }),
   tt,
 )

@@ -1,13 +1,17 @@
 -- The words of a canonical text: each is one word, and short.
-use Rattle.rank_query.proofs.Cited.{◌≡◌, ℕ, zero, suc, ◌+◌, ◌*◌, ◌/◌, ◌%◌, ◌<◌, ◌≤◌, ◌^◌, Bool, true, ◌&&◌, List, []}
+use Rattle.rank_query.proofs.Cited.{◌≡◌, ℕ, suc, ◌+◌, ◌*◌, ◌/◌, ◌%◌, ◌<◌, ◌≤◌, ◌^◌, Bool, true, ◌&&◌, List, []}
 use Rattle.rank_query.proofs.Cited.{◌∷◌, ◌++◌, length, decimal, codes, refl, sym, ap, ◌∙◌, length-append, append_assoc}
 use Rattle.rank_query.proofs.Cited.{false, arith, nat_le, ℤ, pos, negsuc, neg_ℤ, ◌≤ℤ◌, list_all, AllByRecursion}
 use Rattle.rank_query.proofs.Cited.{join_with_byte, is_ascii_digit, digit_value, AllDigits, digits_value, and_parts}
 use Rattle.rank_query.proofs.Cited.{nat_tests, decimal_is_IsNumeral, length-decimal-le, decimal_digit, ints, civil}
-use Rattle.rank_query.proofs.Cited.{date_text, Spells, sign_text, with_sign, last_digits, four_places, four_places_of}
+use Rattle.rank_query.proofs.Cited.{date_text, Spells, sign_text, with_sign, last_digits, four_places}
 use Rattle.rank_query.proofs.Cited.{tenths, Element, Prcp, Snow, Snwd, Tmax, Tmin, code_of, is_visible, is_printable}
-use Rattle.rank_query.proofs.Cited.{is_code, months_text, IsNumeralOf, JoinsTwo}
+use Rattle.rank_query.proofs.Cited.{is_code, IsNumeralOf, Months, SpellsWord, word_text}
+use Rattle.rank_query.proofs.Cited.{◌-◌, get_or, subst, AllPass-from_list_all}
+use Rattle.std.proofs.lemmas.List.Sums.{list_all-from_AllPass}
 use Rattle.std.proofs.lemmas.List.Folds.{list_all-append}
+use Rattle.ghcn_fields.specs.Fields.{part_text}
+use Rattle.ghcn_fields.proofs.DateDigits.{digits-last_digits}
 use Rattle.ghcn_fields.specs.NumberTexts.{tenths_of}
 use Rattle.rank_query.proofs.OneWords.{stands_in_word, IsOneWord}
 
@@ -25,12 +29,6 @@ length-join (w ∷ []) all = omega (arith, all.0.short)
 length-join (w ∷ v ∷ words) all =
     omega (arith, length-append w (32 ∷ join_with_byte 32 (v ∷ words)), all.0.short, length-join (v ∷ words) all.1)
 
--- words before words are words
-pub all_both : (xs ys : List (List ℕ)) → AllByRecursion IsShortWord xs → AllByRecursion IsShortWord ys
-    → AllByRecursion IsShortWord (xs ++ ys)
-all_both [] ys first second = second
-all_both (x ∷ xs) ys first second = (first.0, all_both xs ys first.1 second)
-
 -- digits are digits
 all_digits : (digits : List ℕ) → AllDigits 10 digits → list_all is_ascii_digit digits ≡ true
 all_digits [] h = refl
@@ -39,12 +37,10 @@ all_digits (d ∷ digits) h = grind (arith, ints, all_digits digits h.1)
 -- bytes that pass one test pass another, if each of them does
 all_pass : (p q : ℕ → Bool) → ((b : ℕ) → p b ≡ true → q b ≡ true) → (bytes : List ℕ) → list_all p bytes ≡ true
     → list_all q bytes ≡ true
-all_pass p q each [] h = refl
-all_pass p q each (b ∷ bytes) h =
-    let two = and_parts (p b) (list_all p bytes) h in
-    rw (each b two.0, all_pass p q each bytes two.1)
+all_pass p q each bytes h =
+    list_all-from_AllPass q bytes (λ k d inside. each (get_or bytes k d) (AllPass-from_list_all p bytes h k d inside))
 
--- no visible byte is a blank, and each is printable
+-- no visible byte is a blank
 visible_in_word : (b : ℕ) → is_visible b ≡ true → stands_in_word b ≡ true
 visible_in_word b h = grind (arith, nat_tests)
 
@@ -57,8 +53,7 @@ word_from : (word : List ℕ) → 1 ≤ length word → length word ≤ 11 → l
 word_from word some short visible = record {
   one = record {
     some = grind (arith, nat_tests);
-    no_blank = all_pass is_visible stands_in_word visible_in_word word
-        visible;
+    no_blank = all_pass is_visible stands_in_word visible_in_word word visible;
   };
   short = short;
   visible = visible;
@@ -68,11 +63,7 @@ word_from word some short visible = record {
 pub known_word : (word : List ℕ) → (nat_le 1 (length word) && list_all is_visible word && nat_le (length word) 11) ≡
     true → IsShortWord word
 known_word word e =
-    let short = and_parts (nat_le 1 (length word) && list_all is_visible word) (nat_le (length word) 11) e in
-    let one = and_parts (nat_le 1 (length word)) (list_all is_visible word) short.0 in
-    let some : 1 ≤ length word = grind (arith, nat_tests) in
-    let few : length word ≤ 11 = grind (arith, nat_tests) in
-    word_from word some few one.1
+    word_from word (grind (arith, nat_tests)) (grind (arith, nat_tests)) (grind (arith, nat_tests))
 
 -- words joined by blanks are printable
 pub printable-join : (words : List (List ℕ)) → AllByRecursion IsShortWord words
@@ -125,17 +116,7 @@ visible-append : (xs ys : List ℕ) → list_all is_visible xs ≡ true → list
 visible-append xs ys first second =
     list_all-append is_visible xs ys ∙ ap (λ t. t && list_all is_visible ys) first ∙ second
 
--- the last digits of a number are digits
-digits-last_digits : (k n : ℕ) → list_all is_ascii_digit (last_digits k n) ≡ true
-digits-last_digits zero n = refl
-digits-last_digits (suc k) n =
-    list_all-append is_ascii_digit (last_digits k (n / 10)) ((48 + n % 10) ∷ [])
-    ∙ ap (λ t. t && list_all is_ascii_digit ((48 + n % 10) ∷ [])) (digits-last_digits k (n / 10)) ∙ digit_byte n
-  where
-    digit_byte : (n : ℕ) → (true && (is_ascii_digit (48 + n % 10) && true)) ≡ true
-    digit_byte n = grind (arith, nat_tests)
-
--- and visible
+-- the last digits of a number are visible
 last_visible : (k n : ℕ) → list_all is_visible (last_digits k n) ≡ true
 last_visible k n = digits_visible (last_digits k n) (digits-last_digits k n)
 
@@ -150,28 +131,17 @@ date_word day =
     (visible-append (last_digits 2 month) (45 ∷ last_digits 2 dom) (last_visible 2 month) (last_visible 2 dom)) in
     word_from (date_text day) (omega arith) (omega arith) visible
 
--- four decimals write what is left of the number by its whole part
+-- a digit behind a number's last one has its value
 digit_value-byte : (n : ℕ) → digit_value (48 + n % 10) ≡ n % 10
 digit_value-byte n = grind (arith, nat_tests)
 
--- the four of them together
+-- the last four digits write what is left of a number by its whole part
 value_of_four : (n : ℕ) → digits_value 10 (last_digits 4 n) ≡ n % 10000
 value_of_four n = grind (arith, ints, digit_value-byte)
 
--- a whole part and four decimals
-joined_value : (n : ℕ) → n < 10 ^ 7 → n ≡ digits_value 10 (decimal (n / 10000)) * 10 ^ 4 + digits_value 10
-    (last_digits 4 n) * 10 ^ 0
-joined_value n few =
-    let whole : digits_value 10 (decimal (n / 10000)) ≡ n /
-    10000 = (decimal_is_IsNumeral (n / 10000) (omega arith)).1 in
-    omega (arith, whole, value_of_four n)
-
--- its digits
-joined_digits : (n : ℕ) → n < 10 ^ 7 → list_all is_ascii_digit (decimal (n / 10000) ++ last_digits 4 n) ≡ true
-joined_digits n few =
-    let numeral = decimal_numeral (n / 10000) (omega arith) in
-    list_all-append is_ascii_digit (decimal (n / 10000)) (last_digits 4 n)
-    ∙ ap (λ t. t && list_all is_ascii_digit (last_digits 4 n)) numeral.digits_alone ∙ digits-last_digits 4 n
+-- and so does the last one
+value_of_one : (n : ℕ) → digits_value 10 (last_digits 1 n) ≡ n % 10
+value_of_one n = rw (digit_value-byte n) (omega arith)
 
 -- a numeral of few digits and some visible bytes behind it are one word
 numeral_then : (digits n : ℕ) (rest : List ℕ) → 0 < digits → n < 10 ^ digits → n < 2 ^ 64
@@ -186,109 +156,81 @@ numeral_then digits n rest some few fits visible short =
       omega (arith, all, whole),
     )
 
--- the text of so many ten-thousandths, behind a minus or without one, spells them
-four_of_spelt : (negative : Bool) (n : ℕ) → n < 10 ^ 7
-    → Spells 4 (sign_text negative ++ four_places_of n) (with_sign negative n)
-four_of_spelt negative n few = record {
-  negative = negative;
-  whole = decimal (n / 10000);
-  part = last_digits 4 n;
-  parts = sym (append_assoc (sign_text negative) (decimal (n / 10000)) (46 ∷ last_digits 4 n));
-  some_digit = (decimal_numeral (n / 10000) (omega arith)).some_digit;
-  digits = joined_digits n few;
-  few = omega arith;
-  value = ap (with_sign negative) (joined_value n few);
-}
+-- a number's text is one short word, and spells it
+pub record IsNumberText (places : ℕ) (text : List ℕ) (z : ℤ) : Type 0 where
+  pub short : IsShortWord text
+  pub spelt : Spells places text z
 
--- the text of a number with four decimals spells it
-pub four_places_spelt : (z : ℤ) → neg_ℤ (pos 1_800_000) ≤ℤ z → z ≤ℤ pos 1_800_000 → Spells 4 (four_places z) z
-four_places_spelt (pos n) low high = four_of_spelt false n (omega (arith, ints))
-four_places_spelt (negsuc n) low high = four_of_spelt true (suc n) (omega (arith, ints))
+-- so it is with a numeral and some decimals, behind a minus or without one
+decimals_text : (places width whole n : ℕ) (part : List ℕ) (negative : Bool) → 0 < width → whole < 10 ^ width
+    → whole < 2 ^ 64 → list_all is_ascii_digit part ≡ true → length part ≤ places
+    → width + length (part_text part) ≤ 10 → list_all is_visible (part_text part) ≡ true
+    → n ≡ whole * 10 ^ places + digits_value 10 part * 10 ^ (places - length part)
+    → IsNumberText places (sign_text negative ++ decimal whole ++ part_text part) (with_sign negative n)
+decimals_text places width whole n part negative some few fits digits at_most short visible value =
+    let numeral = decimal_numeral whole fits in
+    let it = numeral_then width whole (part_text part) some few fits visible (omega arith) in
+    let parts : sign_text negative ++ decimal whole ++ part_text part ≡ sign_text negative ++
+    (decimal whole ++ part_text part) = append_assoc (sign_text negative) (decimal whole) (part_text part) in
+    record {
+      short = subst IsShortWord (sym parts)
+          (signed_word negative (decimal whole ++ part_text part) it.0 (omega (arith, it.1)));
+      spelt = record {
+        negative = negative;
+        whole = decimal whole;
+        part = part;
+        parts = refl;
+        some_digit = numeral.some_digit;
+        digits = list_all-append is_ascii_digit (decimal whole) part
+            ∙ ap (λ t. t && list_all is_ascii_digit part) numeral.digits_alone ∙ digits;
+        few = at_most;
+        value = ap (with_sign negative) (value
+            ∙ ap (λ (w : ℕ). w * 10 ^ places + digits_value 10 part * 10 ^ (places - length part)) numeral.value);
+      };
+    }
+  where
+    signed_word : (negative : Bool) (text : List ℕ) → IsShortWord text → length text ≤ 10
+        → IsShortWord (sign_text negative ++ text)
+    signed_word true text it few = word_from (45 ∷ text) (omega arith) (omega arith) it.visible
+    signed_word false text it few = it
 
--- it is one word
-four_places_of_word : (n : ℕ) → n < 10 ^ 7 → IsShortWord (four_places_of n) × (length (four_places_of n) ≤ 8)
-four_places_of_word n few = numeral_then 3 (n / 10000) (46 ∷ last_digits 4 n) (omega arith) (omega arith) (omega arith)
-    (last_visible 4 n) (omega arith)
+-- so many ten-thousandths
+four_places_of_text : (negative : Bool) (n : ℕ) → n < 10 ^ 7
+    → IsNumberText 4 (sign_text negative ++ decimal (n / 10000) ++ 46 ∷ last_digits 4 n) (with_sign negative n)
+four_places_of_text negative n few =
+    decimals_text 4 3 (n / 10000) n (last_digits 4 n) negative (omega arith) (omega arith) (omega arith)
+    (digits-last_digits 4 n) (omega arith) (omega arith) (last_visible 4 n) (omega (arith, value_of_four n))
 
--- with a minus below zero, or without one
-pub four_places_word : (z : ℤ) → neg_ℤ (pos 1_800_000) ≤ℤ z → z ≤ℤ pos 1_800_000 → IsShortWord (four_places z)
-four_places_word (pos n) low high = (four_places_of_word n (omega (arith, ints))).0
-four_places_word (negsuc n) low high =
-    let it = four_places_of_word (suc n) (omega (arith, ints)) in
-    word_from (45 ∷ four_places_of (suc n)) (omega arith) (omega (arith, it.1)) it.0.visible
+-- at an edge of a box
+pub four_places_text : (z : ℤ) → neg_ℤ (pos 1_800_000) ≤ℤ z → z ≤ℤ pos 1_800_000 → IsNumberText 4 (four_places z) z
+four_places_text (pos n) low high = four_places_of_text false n (omega (arith, ints))
+four_places_text (negsuc n) low high = four_places_of_text true (suc n) (omega (arith, ints))
 
--- one decimal writes what is left of the number by its whole part
-tenth_value : (n : ℕ) → digits_value 10 ((48 + n % 10) ∷ []) ≡ n % 10
-tenth_value n = rw (digit_value-byte n) (omega arith)
+-- and so many tenths
+tenths_of_text : (negative : Bool) (n : ℕ) → n < 10 ^ 4
+    → IsNumberText 1 (sign_text negative ++ tenths_of n) (with_sign negative n)
+tenths_of_text negative n few =
+    subst (λ (text : List ℕ). IsNumberText 1 text (with_sign negative n))
+    (append_assoc (sign_text negative) (decimal (n / 10)) (46 ∷ last_digits 1 n)
+    ∙ ap (λ (d : List ℕ). sign_text negative ++ (decimal (n / 10) ++ 46 ∷ d))
+    (sym (decimal_digit (n % 10) (omega arith))))
+    (decimals_text 1 4 (n / 10) n (last_digits 1 n) negative (omega arith) (omega arith) (omega arith)
+    (digits-last_digits 1 n) (omega arith) (omega arith) (last_visible 1 n) (omega (arith, value_of_one n)))
 
--- a whole part and one decimal
-tenths_value : (n : ℕ) → n < 10 ^ 4 → n ≡ digits_value 10 (decimal (n / 10)) * 10 ^ 1 + digits_value 10
-    ((48 + n % 10) ∷ []) * 10 ^ 0
-tenths_value n few =
-    let whole : digits_value 10 (decimal (n / 10)) ≡ n / 10 = (decimal_is_IsNumeral (n / 10) (omega arith)).1 in
-    omega (arith, whole, tenth_value n)
-
--- its decimal is one digit
-tenths_of-is : (n : ℕ) → tenths_of n ≡ decimal (n / 10) ++ 46 ∷ (48 + n % 10) ∷ []
-tenths_of-is n = ap (λ (d : List ℕ). decimal (n / 10) ++ 46 ∷ d) (decimal_digit (n % 10) (omega arith))
-
--- its digits
-tenths_digits : (n : ℕ) → n < 10 ^ 4 → list_all is_ascii_digit (decimal (n / 10) ++ (48 + n % 10) ∷ []) ≡ true
-tenths_digits n few =
-    let numeral = decimal_numeral (n / 10) (omega arith) in
-    list_all-append is_ascii_digit (decimal (n / 10)) ((48 + n % 10) ∷ [])
-    ∙ ap (λ t. t && list_all is_ascii_digit ((48 + n % 10) ∷ [])) numeral.digits_alone ∙ digits-last_digits 1 n
-
--- the text of so many tenths, behind a minus or without one, spells them
-tenths_of_spelt : (negative : Bool) (n : ℕ) → n < 10 ^ 4
-    → Spells 1 (sign_text negative ++ tenths_of n) (with_sign negative n)
-tenths_of_spelt negative n few = record {
-  negative = negative;
-  whole = decimal (n / 10);
-  part = (48 + n % 10) ∷ [];
-  parts = ap (λ (text : List ℕ). sign_text negative ++ text) (tenths_of-is n)
-      ∙ sym (append_assoc (sign_text negative) (decimal (n / 10)) (46 ∷ (48 + n % 10) ∷ []));
-  some_digit = (decimal_numeral (n / 10) (omega arith)).some_digit;
-  digits = tenths_digits n few;
-  few = omega arith;
-  value = ap (with_sign negative) (tenths_value n few);
-}
-
--- the text of a number of tenths spells it
-pub tenths_spelt : (t : ℤ) → neg_ℤ (pos 1_000) ≤ℤ t → t ≤ℤ pos 1_000 → Spells 1 (tenths t) t
-tenths_spelt (pos n) low high = tenths_of_spelt false n (omega (arith, ints))
-tenths_spelt (negsuc n) low high = tenths_of_spelt true (suc n) (omega (arith, ints))
-
--- it is one word
-tenths_of_word : (n : ℕ) → n < 10 ^ 4 → IsShortWord (tenths_of n) × (length (tenths_of n) ≤ 6)
-tenths_of_word n few =
-    let tenth = decimal_numeral (n % 10) (omega arith) in
-    let one : length (decimal (n % 10)) ≤ 1 = length-decimal-le 1 (n % 10) (omega arith) (omega arith) (omega arith) in
-    let it = numeral_then 4 (n / 10) (46 ∷ decimal (n % 10)) (omega arith) (omega arith) (omega arith)
-    (digits_visible (decimal (n % 10)) tenth.digits_alone) (omega (arith, one)) in
-    (it.0, omega (arith, one, it.1))
-
--- with a minus below zero, or without one
-pub tenths_word : (t : ℤ) → neg_ℤ (pos 1_000) ≤ℤ t → t ≤ℤ pos 1_000 → IsShortWord (tenths t)
-tenths_word (pos n) low high = (tenths_of_word n (omega (arith, ints))).0
-tenths_word (negsuc n) low high =
-    let it = tenths_of_word (suc n) (omega (arith, ints)) in
-    word_from (45 ∷ tenths_of (suc n)) (omega arith) (omega (arith, it.1)) it.0.visible
+-- from which on a day is hot
+pub tenths_text : (t : ℤ) → neg_ℤ (pos 1_000) ≤ℤ t → t ≤ℤ pos 1_000 → IsNumberText 1 (tenths t) t
+tenths_text (pos n) low high = tenths_of_text false n (omega (arith, ints))
+tenths_text (negsuc n) low high = tenths_of_text true (suc n) (omega (arith, ints))
 
 -- two months joined by two points are one word
-pub months_word : (s : ℕ × ℕ) → s.0 ≤ 12 → s.1 ≤ 12 → IsShortWord (months_text s)
-months_word s first last =
-    let two = decimal_numeral s.1 (omega arith) in
-    let wide : length (decimal s.1) ≤ 2 = length-decimal-le 2 s.1 (omega arith) (omega arith) (omega arith) in
-    (numeral_then 2 s.0 (46 ∷ 46 ∷ decimal s.1) (omega arith) (omega arith) (omega arith)
-    (digits_visible (decimal s.1) two.digits_alone) (omega (arith, wide))).0
+pub months_word : (a b : ℕ) → a ≤ 12 → b ≤ 12 → IsShortWord (word_text (Months a b))
+months_word a b first last =
+    let two = decimal_numeral b (omega arith) in
+    let wide : length (decimal b) ≤ 2 = length-decimal-le 2 b (omega arith) (omega arith) (omega arith) in
+    (numeral_then 2 a (46 ∷ 46 ∷ decimal b) (omega arith) (omega arith) (omega arith)
+    (digits_visible (decimal b) two.digits_alone) (omega (arith, wide))).0
 
--- and join them
-pub months_text_joins : (s : ℕ × ℕ) → s.0 ≤ 12 → s.1 ≤ 12 → JoinsTwo (months_text s) s.0 s.1
-months_text_joins s first last = record {
-  first = decimal s.0;
-  last = decimal s.1;
-  parts = refl;
-  spells_first = decimal_numeral s.0 (omega arith);
-  spells_last = decimal_numeral s.1 (omega arith);
-}
+-- and spell them
+pub months_spelt : (a b : ℕ) → a ≤ 12 → b ≤ 12 → SpellsWord (word_text (Months a b)) (Months a b)
+months_spelt a b first last =
+    (decimal a, decimal b, refl, decimal_numeral a (omega arith), decimal_numeral b (omega arith))

@@ -1,31 +1,34 @@
 -- The pieces of a canonical text, as they are printed one after another.
-use Rattle.rank_query.proofs.Cited.{rules, ints, ◌≡◌, ℕ, ◌+◌, ◌<◌, ◌/◌, ◌%◌, true, List, [], ◌∷◌, ◌++◌, Option, Result}
+use Rattle.rank_query.proofs.Cited.{rules, ◌≡◌, ℕ, ◌+◌, ◌<◌, ◌/◌, ◌%◌, true, List, [], ◌∷◌, ◌++◌, Option, Result}
 use Rattle.rank_query.proofs.Cited.{Ok, Err, IsOk, MatchResult, IsUtf8, codes, decimal, refl, sym, ap, ◌∙◌}
 use Rattle.rank_query.proofs.Cited.{append_assoc, append-nil, arith, ℤ, join_with_byte, list_all, nat_tests}
 use Rattle.rank_query.proofs.Cited.{decimal_digit, AllPass-from_list_all, four_places, four_places_of, is_visible}
 use Rattle.rank_query.proofs.Cited.{Score, Region, Inside, query_text, score_words, region_words, season_words}
-use Rattle.rank_query.proofs.Cited.{period_words}
+use Rattle.rank_query.proofs.Cited.{period_words, map, QueryWord, Exactly, Count, word_text}
 use Rattle.std.proofs.lemmas.List.Concat.{flat_map-append}
 use Rattle.std.proofs.lemmas.Str.{IsUtf8-from_ascii}
 use Rattle.std.proofs.lemmas.Str.Ascii.{IsAscii-from_all}
 use Rattle.rank_query.specs.Printed.{spaced}
 
 -- words that are joined by a blank are the first one, and each other one behind a blank
-pub join-spaced : (word : List ℕ) (words : List (List ℕ)) → join_with_byte 32 (word ∷ words) ≡ word ++ spaced words
-join-spaced word [] = sym (append-nil word)
-join-spaced word (next ∷ words) = ap (λ text. word ++ 32 ∷ text) (join-spaced next words)
+pub join-spaced : (word : QueryWord) (words : List QueryWord)
+    → join_with_byte 32 (map word_text (word ∷ words)) ≡ word_text word ++ spaced words
+join-spaced word [] = sym (append-nil (word_text word))
+join-spaced word (next ∷ words) = ap (λ text. word_text word ++ 32 ∷ text) (join-spaced next words)
 
 -- three lists of words are printed one after another
-pub spaced-three : (xs ys zs : List (List ℕ)) → spaced (xs ++ ys ++ zs) ≡ spaced xs ++ (spaced ys ++ spaced zs)
+pub spaced-three : (xs ys zs : List QueryWord) → spaced (xs ++ ys ++ zs) ≡ spaced xs ++ (spaced ys ++ spaced zs)
 spaced-three xs ys zs =
-    flat_map-append (λ w. 32 ∷ w) (xs ++ ys) zs ∙ ap (λ text. text ++ spaced zs) (flat_map-append (λ w. 32 ∷ w) xs ys)
+    flat_map-append (λ w. 32 ∷ word_text w) (xs ++ ys) zs
+    ∙ ap (λ text. text ++ spaced zs) (flat_map-append (λ w. 32 ∷ word_text w) xs ys)
     ∙ append_assoc (spaced xs) (spaced ys) (spaced zs)
 
 -- and so are four
-spaced-four : (ws xs ys zs : List (List ℕ)) → spaced (ws ++ xs ++ ys ++ zs) ≡ spaced ws ++
+spaced-four : (ws xs ys zs : List QueryWord) → spaced (ws ++ xs ++ ys ++ zs) ≡ spaced ws ++
     (spaced xs ++ (spaced ys ++ spaced zs))
 spaced-four ws xs ys zs =
-    spaced-three (ws ++ xs) ys zs ∙ ap (λ text. text ++ (spaced ys ++ spaced zs)) (flat_map-append (λ w. 32 ∷ w) ws xs)
+    spaced-three (ws ++ xs) ys zs
+    ∙ ap (λ text. text ++ (spaced ys ++ spaced zs)) (flat_map-append (λ w. 32 ∷ word_text w) ws xs)
     ∙ append_assoc (spaced ws) (spaced xs) (spaced ys ++ spaced zs)
 
 -- the pieces that are printed are the canonical text
@@ -33,7 +36,11 @@ pub printed-is : (k : ℕ) (s : Score) (r : Region) (t : Option (ℕ × ℕ)) (p
     → (codes "top " ++ decimal k) ++
     (spaced (score_words s) ++ (spaced (region_words r) ++ (spaced (season_words t) ++ spaced (period_words p))))
     ≡ query_text (record { k = k; score = s; region = r; season = t; period = p })
-printed-is k s r t p = grind (arith, ints, join-spaced, spaced-four)
+printed-is k s r t p =
+    ap (λ text. (codes "top " ++ decimal k) ++ text)
+    (sym (spaced-four (score_words s) (region_words r) (season_words t) (period_words p)))
+    ∙ sym (join-spaced (Exactly (codes "top"))
+    (Count k ∷ score_words s ++ region_words r ++ season_words t ++ period_words p))
 
 -- four digits, one after another
 four_digits : (a b c d : ℕ) → a < 10 → b < 10 → c < 10 → d < 10

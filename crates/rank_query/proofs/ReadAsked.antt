@@ -1,19 +1,22 @@
 -- What is read as a query can be asked.
-use Rattle.rank_query.proofs.Cited.{ints, arith, ◌≡◌, ℕ, true, List, [], ◌∷◌, None, Result, Ok, Err, codes, inl, inr}
-use Rattle.rank_query.proofs.Cited.{refl, sym, subst, length, IfOk, nat_lt, AllByRecursion, is_within, Everywhere}
+use Rattle.rank_query.proofs.Cited.{ints, arith, ◌≡◌, ℕ, List, [], ◌∷◌, None, Result, Ok, Err, codes, inl, inr}
+use Rattle.rank_query.proofs.Cited.{refl, sym, subst, length, IfOk, nat_lt, AllByRecursion, Everywhere}
 use Rattle.rank_query.proofs.Cited.{QueryFault, QueryTooLong, Asked, IsAsked, Word, numbered_words, Read, keyword}
-use Rattle.rank_query.proofs.Cited.{one_word, by_word, number, score_at, region_at, season_at, period_at, nothing_more}
+use Rattle.rank_query.proofs.Cited.{one_word, by_word, number, score_at, region_at, season_at, period_at}
 use Rattle.rank_query.proofs.Cited.{read_words, read_query, IsSpelling}
-use Rattle.rank_query.proofs.Spellings.{asked, read_spells}
+use Rattle.rank_query.proofs.Spellings.{asked, nothing_left, read_spells}
 use Rattle.rank_query.proofs.ReadingSteps.{bind_ok, else_ok, by_word_took}
 use Rattle.rank_query.proofs.Stops.{ReadsPart}
 use Rattle.rank_query.proofs.PartStops.{part_word}
 use Rattle.rank_query.proofs.WordStops.{reads_number}
 use Rattle.rank_query.proofs.QueryStops.{one_row}
 use Rattle.rank_query.proofs.ScoreStops.{score_part}
-use Rattle.rank_query.proofs.RegionStops.{GoodRegion, region_rows, region_parts}
-use Rattle.rank_query.proofs.SeasonStops.{GoodSeason, season_rows, season_parts}
-use Rattle.rank_query.proofs.PeriodStops.{GoodPeriod, period_rows, period_parts}
+use Rattle.rank_query.proofs.RegionStops.{GoodRegion, region_parts}
+use Rattle.rank_query.proofs.RegionWords.{region_rows}
+use Rattle.rank_query.proofs.SeasonStops.{GoodSeason, season_parts}
+use Rattle.rank_query.proofs.SeasonWords.{season_rows}
+use Rattle.rank_query.proofs.PeriodStops.{GoodPeriod, period_parts}
+use Rattle.rank_query.proofs.PeriodWords.{period_rows}
 
 -- what is read by its first word, or without one, is good, if both are
 by_word_good : {A : Type 0} (Good : A → Type 0) (table : List (List ℕ × (List Word → Read A))) (other : A)
@@ -26,13 +29,8 @@ by_word_good Good (row ∷ table) other ws rest x parts is e =
       | inr later ↦ by_word_good Good table other ws rest x parts.1 is later
     ]
 
--- where nothing more comes, the query is that of the parts
-left_is : (ws : List Word) (q r : Asked) → nothing_more ws q ≡ Ok r → q ≡ r
-left_is [] q r e = cc
-left_is (w ∷ ws) q r e = absurd cc
-
 -- the query of some words can be asked
-words_asked : (ws : List Word) (q : Asked) → read_words ws ≡ Ok q → IsAsked q
+pub words_asked : (ws : List Word) (q : Asked) → read_words ws ≡ Ok q → IsAsked q
 unfolding read_words region_at season_at period_at
 words_asked ws q e =
     let top = bind_ok (keyword (codes "top") ws) _ q e in
@@ -41,13 +39,12 @@ words_asked ws q e =
     let r = bind_ok (region_at s.0.1) _ q s.2 in
     let t = bind_ok (season_at r.0.1) _ q r.2 in
     let p = bind_ok (period_at t.0.1) _ q t.2 in
-    let rows = ((part_word (λ k. is_within 1 1000 k ≡ true) (number 1 1000) (reads_number 1 1000 one_row)).takes top.0
-    k.0 k.1).good in
+    let rows = ((part_word (reads_number 1 1000 one_row)).takes top.0 k.0 k.1).good in
     let score = (score_part.takes k.0.1 s.0 s.1).good in
     let region = by_word_good GoodRegion region_rows Everywhere s.0.1 r.0.1 r.0.0 region_parts refl r.1 in
     let season = by_word_good GoodSeason season_rows None r.0.1 t.0.1 t.0.0 season_parts refl t.1 in
     let period = by_word_good GoodPeriod period_rows None t.0.1 p.0.1 p.0.0 period_parts refl p.1 in
-    subst IsAsked (left_is p.0.1 (asked k.0.0 s.0.0 r.0.0 t.0.0 p.0.0) q p.2)
+    subst IsAsked (nothing_left p.0.1 (asked k.0.0 s.0.0 r.0.0 t.0.0 p.0.0) q p.2).1
     (record { k = rows; score = score; region = region; season = season; period = period })
 
 -- what is read as a query can be asked

@@ -1,7 +1,8 @@
 -- What follows when a step of the reading succeeds.
+use Rattle.rank_query.proofs.Cited.{cases_Bool}
 use Rattle.rank_query.proofs.Cited.{ints, arith, ◌≡◌, ℕ, ◌+◌, Bool, true, false, cond, ◌⊎◌, inl, inr, List, [], ◌∷◌}
-use Rattle.rank_query.proofs.Cited.{◌++◌, map, Option, Some, None, Result, Ok, Err, refl, ap, subst, ◌∙◌}
-use Rattle.rank_query.proofs.Cited.{enumerate_from, AllByRecursion, bytes_decides, QueryFault, UnexpectedWord, Word}
+use Rattle.rank_query.proofs.Cited.{map, Option, Some, None, Result, Ok, Err, refl, ap}
+use Rattle.rank_query.proofs.Cited.{enumerate_from, bytes_decides, QueryFault, UnexpectedWord, Word}
 use Rattle.rank_query.proofs.Cited.{says, ◌>>=◌, Read, or_fault, keyword, one_word, made_into, by_word}
 
 -- both steps of a reading that succeeds do
@@ -9,6 +10,12 @@ pub bind_ok : {A B : Type 0} (r : Result A QueryFault) (f : A → Result B Query
     → (x : A) × (r ≡ Ok x) × (f x ≡ Ok y)
 bind_ok (Ok x) f y e = (x, refl, e)
 bind_ok (Err d) f y e = cc
+
+-- three steps one behind another
+pub assoc : {A B C : Type 0} (r : Result A QueryFault) (f : A → Result B QueryFault) (g : B → Result C QueryFault)
+    → ((r >>= f) >>= g) ≡ (r >>= λ x. f x >>= g)
+assoc (Ok x) f g = refl
+assoc (Err d) f g = refl
 
 -- a test that doesn't fail holds
 pub test_ok : {A : Type 0} (b : Bool) (x y : A) (fault : QueryFault) → cond b (Ok x) (Err fault) ≡ Ok y → (b ≡ true)
@@ -105,63 +112,11 @@ pub by_word_took : {A : Type 0} (text : List ℕ) (reader : List Word → Read A
     → ((rest : List Word) × (unnumbered ws ≡ text ∷ unnumbered rest) × (reader rest ≡ Ok y))
     ⊎ (by_word others otherwise ws ≡ Ok y)
 by_word_took text reader others otherwise [] y e = inr e
-by_word_took {A} text reader others otherwise (w ∷ ws) y e = by_test (says text w.1) refl e where
-  by_test : (b : Bool) → says text w.1 ≡ b → ◌≡◌ {A = Read A} (elim (cond b (Some ws) None) [
-    | Some rest ↦ reader rest
-    | None ↦ by_word others otherwise (w ∷ ws)
-  ]) (Ok y) → ((rest : List Word) × (w.1 ∷ unnumbered ws ≡ text ∷ unnumbered rest) × (reader rest ≡ Ok y))
-      ⊎ (by_word others otherwise (w ∷ ws) ≡ Ok y)
-  by_test true same read = inl (ws, ap (λ word. word ∷ unnumbered ws) (said text w.1 same), read)
-  by_test false other read = inr read
-
--- what a reader took: words that spell the value, before those that are left
-pub record Took (Spelt : List (List ℕ) → Type 0) (ws rest : List Word) : Type 0 where
-  pub words : List (List ℕ)
-  pub spelt : Spelt words
-  pub taken : unnumbered ws ≡ words ++ unnumbered rest
-
--- what was taken behind a word was taken with it
-pub behind_took : (Spelt : List (List ℕ) → Type 0) (text : List ℕ) (ws left rest : List Word)
-    → unnumbered ws ≡ text ∷ unnumbered left → Took (λ words. Spelt (text ∷ words)) left rest → Took Spelt ws rest
-behind_took Spelt text ws left rest e took = record {
-  words = text ∷ took.words;
-  spelt = took.spelt;
-  taken = e ∙ ap (λ words. text ∷ words) took.taken;
-}
-
--- what words spell was taken with them, and what is left is left
-pub words_took : {B : Type 0} (Spelt : List (List ℕ) → B → Type 0) (ws left rest : List Word) (words : List (List ℕ))
-    (x y : B)
-    → Spelt words x → unnumbered ws ≡ words ++ unnumbered left → ◌≡◌ {A = Read B} (Ok (x, left)) (Ok (y, rest))
-    → Took (λ words. Spelt words y) ws rest
-words_took {B} Spelt ws left rest words x y spelt taken e = grind (arith, ints)
-
--- what is read behind one of some words, or without one, was taken, if each row takes what stands behind its word
-pub rows_took : {A : Type 0} (Spelt : List (List ℕ) → A → Type 0) (table : List (List ℕ × (List Word → Read A)))
-    (otherwise : List Word → Read A) (ws rest : List Word) (y : A)
-    → AllByRecursion (λ row. (left : List Word) → unnumbered ws ≡ row.0 ∷ unnumbered left → row.1 left ≡ Ok (y, rest)
-    → Took (λ words. Spelt (row.0 ∷ words) y) left rest) table
-    → (otherwise ws ≡ Ok (y, rest) → Took (λ words. Spelt words y) ws rest)
-    → by_word table otherwise ws ≡ Ok (y, rest) → Took (λ words. Spelt words y) ws rest
-rows_took Spelt [] otherwise ws rest y rows none e = none e
-rows_took Spelt (row ∷ table) otherwise ws rest y rows none e =
-    elim (by_word_took row.0 row.1 table otherwise ws (y, rest) e) [
-      | inl here ↦ behind_took (λ words. Spelt words y) row.0 ws here.0 rest here.1 (rows.0 here.0 here.1 here.2)
-      | inr later ↦ rows_took Spelt table otherwise ws rest y rows.1 none later
-    ]
-
--- a value made of one word was taken with that word
-pub made_took : {A B : Type 0} (Spelt : List (List ℕ) → B → Type 0) (value : Word → Result A QueryFault)
-    (make : A → B) (ws rest : List Word) (y : B) → ((w : Word) (x : A) → value w ≡ Ok x → Spelt (w.1 ∷ []) (make x))
-    → made_into make (one_word value ws) ≡ Ok (y, rest) → Took (λ words. Spelt words y) ws rest
-made_took Spelt value make ws rest y spells e =
-    let made = made_into_took make (one_word value ws) rest y e in
-    let word = one_word_took value ws rest made.0 made.1 in
-    record {
-      words = word.0.1 ∷ [];
-      spelt = subst (λ v. Spelt (word.0.1 ∷ []) v) made.2 (spells word.0 made.0 word.2);
-      taken = word.1;
-    }
+by_word_took text reader others otherwise (w ∷ ws) y e = elim (cases_Bool (says text w.1)) [
+  | inl same ↦
+      let read = rw (same, by_word) at e in inl (ws, ap (λ word. word ∷ unnumbered ws) (said text w.1 same), read)
+  | inr other ↦ let read = rw (other, by_word) at e in inr read
+]
 
 -- a word that has a value is read as it, and the reading goes on behind it
 pub one_word_again : {A B : Type 0} (value : Word → Result A QueryFault) (n : ℕ) (word : List ℕ)
@@ -170,17 +125,3 @@ pub one_word_again : {A B : Type 0} (value : Word → Result A QueryFault) (n : 
     (x, enumerate_from (n + 1) more)
 one_word_again {A} value n word more x onward e =
     ap (λ (r : Result A QueryFault). (r >>= λ y. Ok (y, enumerate_from (n + 1) more)) >>= onward) e
-
--- and what is made of it is made
-pub made_again : {A B : Type 0} (value : Word → Result A QueryFault) (make : A → B) (n : ℕ) (word : List ℕ)
-    (more : List (List ℕ)) (x : A)
-    → value (n, word) ≡ Ok x → made_into make (one_word value (enumerate_from n (word ∷ more))) ≡ Ok
-    (make x, enumerate_from (n + 1) more)
-made_again {A} value make n word more x e =
-    ap (λ (r : Result A QueryFault). made_into make (r >>= λ y. Ok (y, enumerate_from (n + 1) more))) e
-
--- what words are read as is read of those that they are
-pub spelt_again : {A : Type 0} (read : List Word → Read A) (words spelt more : List (List ℕ)) (n m : ℕ) (x : A)
-    → words ≡ spelt → read (enumerate_from n (spelt ++ more)) ≡ Ok (x, enumerate_from m more)
-    → (m : ℕ) × (read (enumerate_from n (words ++ more)) ≡ Ok (x, enumerate_from m more))
-spelt_again read words spelt more n m x e again = (m, ap (λ ws. read (enumerate_from n (ws ++ more))) e ∙ again)

@@ -1,10 +1,11 @@
 -- Where the reading of a score stops.
-use Rattle.rank_query.proofs.Cited.{◌≡◌, ℕ, true, inl, inr, List, [], ◌∷◌, Ok, Err, codes, refl, sym, ◌∙◌}
+use Rattle.rank_query.proofs.Cited.{◌≡◌, true, inl, inr, List, [], ◌∷◌, Ok, Err, codes, refl, sym, ◌∙◌}
 use Rattle.rank_query.proofs.Cited.{AllByRecursion, is_within, Prcp, Tmax, Score, Highest, Lowest, Sum, Dry, Wet, Hot}
-use Rattle.rank_query.proofs.Cited.{QueryFault, UnexpectedWord, QueryEnds, is_temperature, is_fall, is_heat, is_score}
-use Rattle.rank_query.proofs.Cited.{Word, says, Read, one_word, number, element, heat, highest_at, lowest_at, sum_at}
-use Rattle.rank_query.proofs.Cited.{dry_at, wet_at, hot_at, no_score_at, score_at}
+use Rattle.rank_query.proofs.Cited.{QueryFault, UnexpectedWord, QueryEnds, is_temperature, is_fall, is_score}
+use Rattle.rank_query.proofs.Cited.{Word, says, Read, number, sum_at}
+use Rattle.rank_query.proofs.Cited.{hot_at, no_score_at, score_at}
 use Rattle.rank_query.proofs.RegionWords.{and_true}
+use Rattle.rank_query.proofs.ScoreWords.{score_rows}
 use Rattle.rank_query.proofs.Stops.{GoesOn, Stops, TakesAll, Ended, ReadsPart, stops_behind, stops_word, stops_end}
 use Rattle.rank_query.proofs.Stops.{takes_behind, part_then}
 use Rattle.rank_query.proofs.PartStops.{part_word, part_made, part_always, by_first}
@@ -18,49 +19,37 @@ GoodScore s = is_score s ≡ true
 sum_part : ReadsPart Score GoodScore sum_at
 unfolding sum_at number
 sum_part =
-    part_then (λ n. is_within 1 366 n ≡ true) GoodScore (one_word (number 1 366)) _
-    (part_word (λ n. is_within 1 366 n ≡ true) (number 1 366) (reads_number 1 366 refl)) (λ n few.
-    part_then (λ e. is_fall e ≡ true) GoodScore (one_word (element is_fall)) (λ e ws. Ok (Sum n e, ws))
-    (part_word (λ e. is_fall e ≡ true) (element is_fall) (reads_element is_fall Prcp refl refl)) (λ e fall.
-    part_always GoodScore (Sum n e) (and_true (is_within 1 366 n) (is_fall e) few fall)))
+    part_then _ (part_word (reads_number 1 366 refl)) (λ n few.
+    part_then (λ e ws. Ok (Sum n e, ws)) (part_word (reads_element is_fall Prcp refl refl)) (λ e fall.
+    part_always (Sum n e) (and_true (is_within 1 366 n) (is_fall e) few fall)))
 
 -- hot spells
 hot_part : ReadsPart Score GoodScore hot_at
-hot_part = part_made (λ t. is_heat t ≡ true) GoodScore Hot (one_word heat) (λ t is. is)
-    (part_word (λ t. is_heat t ≡ true) heat reads_heat)
-
--- each score behind its word
-abbrev rows : List (List ℕ × (List Word → Read Score))
-rows =
-    (codes "highest", highest_at) ∷ (codes "lowest", lowest_at) ∷ (codes "sum", sum_at) ∷ (codes "dry", dry_at) ∷
-    (codes "wet", wet_at) ∷ (codes "hot", hot_at) ∷ []
+hot_part = part_made Hot (λ t is. is) (part_word reads_heat)
 
 -- all of them are parts
-parts : AllByRecursion (λ row. ReadsPart Score GoodScore row.1) rows
+parts : AllByRecursion (λ row. ReadsPart Score GoodScore row.1) score_rows
 parts = (
-  part_made (λ e. true ≡ true) GoodScore Highest (one_word (element (λ e. true))) (λ e is. refl)
-      (part_word (λ e. true ≡ true) (element (λ e. true)) (reads_element (λ e. true) Prcp refl refl)),
+  part_made Highest (λ e is. refl) (part_word (reads_element (λ e. true) Prcp refl refl)),
   (
-    part_made (λ e. is_temperature e ≡ true) GoodScore Lowest (one_word (element is_temperature)) (λ e is. is)
-        (part_word (λ e. is_temperature e ≡ true) (element is_temperature)
-        (reads_element is_temperature Tmax refl refl)),
-    (sum_part, (part_always GoodScore Dry refl, (part_always GoodScore Wet refl, (hot_part, tt)))),
+    part_made Lowest (λ e is. is) (part_word (reads_element is_temperature Tmax refl refl)),
+    (sum_part, (part_always Dry refl, (part_always Wet refl, (hot_part, tt)))),
   ),
 )
 
 -- dry spells need one word
-score_on : GoesOn (Score × List Word) (Ended GoodScore) score_at
+score_on : GoesOn (Score × List Word) Ended score_at
 unfolding score_at says
 score_on =
-    record { tail = (0, codes "dry") ∷ []; clean = (refl, tt); value = (Dry, []); good = (refl, refl); reads = refl }
+    record { tail = (0, codes "dry") ∷ []; clean = (refl, tt); value = (Dry, []); good = refl; reads = refl }
 
 -- a first word that is none of a score is wrong, and what stands behind one is told by its row
 score_stops : (ws : List Word) (fault : QueryFault) → score_at ws ≡ Err fault
-    → Stops (Score × List Word) (Ended GoodScore) score_at fault ws
+    → Stops (Score × List Word) Ended score_at fault ws
 unfolding score_at no_score_at
 score_stops [] fault e = stops_end [] score_on (let same : fault ≡ QueryEnds = cc in same)
-score_stops (w ∷ ws) fault e = elim (by_first GoodScore rows no_score_at w parts) [
-  | inl found ↦ stops_behind (Ended GoodScore) score_at found.0 (w ∷ []) ws fault found.2
+score_stops (w ∷ ws) fault e = elim (by_first GoodScore score_rows no_score_at w parts) [
+  | inl found ↦ stops_behind Ended score_at found.0 (w ∷ []) ws fault found.2
       (found.1.first.stops ws fault (sym (found.2 ws) ∙ e))
   | inr none ↦
       let here : ◌≡◌ {A = Read Score} (Err (UnexpectedWord w.0)) (Err fault) = sym (none ws) ∙ e in
@@ -71,7 +60,7 @@ score_stops (w ∷ ws) fault e = elim (by_first GoodScore rows no_score_at w par
 score_takes : TakesAll Score GoodScore score_at
 unfolding score_at no_score_at
 score_takes [] r e = absurd cc
-score_takes (w ∷ ws) r e = elim (by_first GoodScore rows no_score_at w parts) [
+score_takes (w ∷ ws) r e = elim (by_first GoodScore score_rows no_score_at w parts) [
   | inl found ↦ takes_behind GoodScore score_at found.0 (w ∷ []) ws r found.2
       (found.1.takes ws r (sym (found.2 ws) ∙ e))
   | inr none ↦ let here : ◌≡◌ {A = Read Score} (Err (UnexpectedWord w.0)) (Ok r) = sym (none ws) ∙ e in absurd cc

@@ -1,13 +1,21 @@
 -- The words of a score: those that are read as a score spell it, and those that spell it are read as it.
-use Rattle.rank_query.proofs.Cited.{ints, arith, ◌≡◌, ℕ, ◌+◌, Bool, true, List, [], ◌∷◌, ◌++◌, Ok, codes, refl, sym, ap}
-use Rattle.rank_query.proofs.Cited.{◌∙◌, subst, enumerate_from, Element, code_of, Score, Highest}
-use Rattle.rank_query.proofs.Cited.{Lowest, Sum, Dry, Wet, Hot, is_temperature, is_fall, is_score, Word, says, one_word}
-use Rattle.rank_query.proofs.Cited.{made_into, number, element, heat, highest_at, lowest_at, sum_at, dry_at, wet_at}
-use Rattle.rank_query.proofs.Cited.{hot_at, no_score_at, score_at, IsNumeralOf, SpellsScore}
-use Rattle.rank_query.proofs.ReadingSteps.{bind_ok, one_word_took, rows_took, Took, made_took, words_took}
-use Rattle.rank_query.proofs.ReadingSteps.{one_word_again, made_again, spelt_again}
+use Rattle.rank_query.proofs.Cited.{◌++◌}
+use Rattle.rank_query.proofs.Cited.{◌≡◌, ℕ, true, List, [], ◌∷◌, Ok, codes, refl, and_parts, is_within, Element}
+use Rattle.rank_query.proofs.Cited.{code_of, Score, Highest, Lowest, Sum, Dry, Wet, Hot, is_temperature, is_fall}
+use Rattle.rank_query.proofs.Cited.{is_score, Word, says, Read, one_word, number, element, heat, highest_at, lowest_at}
+use Rattle.rank_query.proofs.Cited.{sum_at, dry_at, wet_at, hot_at, no_score_at, score_at, score_words, QueryWord}
+use Rattle.rank_query.proofs.Cited.{Count, Exactly, Tenths, Bool, sym, subst}
+use Rattle.rank_query.proofs.SpeltWords.{TakesBehind, took_same, word_took, made_took, rows_took, ReadsAs, word_read}
+use Rattle.rank_query.proofs.SpeltWords.{made_read, then_read, behind_read, always_read}
+use Rattle.rank_query.proofs.ReadingSteps.{bind_ok, unnumbered}
 use Rattle.rank_query.proofs.WordValues.{number_numeral, numeral_number, element_code, code_element, heat_spelt}
 use Rattle.rank_query.proofs.WordValues.{spelt_heat}
+
+-- each score behind its word
+abbrev pub score_rows : List (List ℕ × (List Word → Read Score))
+score_rows =
+    (codes "highest", highest_at) ∷ (codes "lowest", lowest_at) ∷ (codes "sum", sum_at) ∷ (codes "dry", dry_at) ∷
+    (codes "wet", wet_at) ∷ (codes "hot", hot_at) ∷ []
 
 -- where no score stands none is read
 no_score : (ws : List Word) (y : Score × List Word) → no_score_at ws ≡ Ok y → ⊥
@@ -15,83 +23,83 @@ unfolding no_score_at
 no_score [] y e = absurd cc
 no_score (w ∷ ws) y e = absurd cc
 
--- the element that was read is spelt there, behind the word of its score
-element_took : (allows : Element → Bool) (make : Element → Score) (text : List ℕ) (ws rest : List Word) (s : Score)
-    → ((e : Element) → SpellsScore (text ∷ code_of e ∷ []) (make e))
-    → made_into make (one_word (element allows) ws) ≡ Ok (s, rest)
-    → Took (λ words. SpellsScore (text ∷ words) s) ws rest
-element_took allows make text ws rest s spells e =
-    made_took (λ words v. SpellsScore (text ∷ words) v) (element allows) make ws rest s
-    (λ w x read. subst (λ b. SpellsScore (text ∷ b ∷ []) (make x)) (sym (element_code allows w x read)) (spells x)) e
+-- a number within limits is spelt by the word that it was read of
+pub count_took : (low high : ℕ) → TakesBehind [] (λ n. Count n ∷ []) (one_word (number low high))
+count_took low high = word_took (number low high) (λ n. Count n) (λ w n clean. number_numeral low high w n)
 
--- the sum that was read is spelt there, behind its word
-sum_took : (ws rest : List Word) (s : Score) → sum_at ws ≡ Ok (s, rest)
-    → Took (λ words. SpellsScore (codes "sum" ∷ words) s) ws rest
+-- and so is an element
+element_took : (allows : Element → Bool) → TakesBehind [] (λ e. Exactly (code_of e) ∷ []) (one_word (element allows))
+element_took allows = word_took (element allows) (λ e. Exactly (code_of e)) (λ w e clean. element_code allows w e)
+
+-- a sum
+sum_took : TakesBehind (codes "sum" ∷ []) score_words sum_at
 unfolding sum_at
-sum_took ws rest s e =
-    let days = bind_ok (one_word (number 1 366) ws) _ (s, rest) e in
-    let what = bind_ok (one_word (element is_fall) days.0.1) _ (s, rest) days.2 in
-    let n = one_word_took (number 1 366) ws days.0.1 days.0.0 days.1 in
-    let f = one_word_took (element is_fall) days.0.1 what.0.1 what.0.0 what.1 in
-    let words : List (List ℕ) = n.0.1 ∷ f.0.1 ∷ [] in
-    let spelt : SpellsScore (codes "sum" ∷ words) (Sum days.0.0 what.0.0) = (
-      n.0.1,
-      number_numeral 1 366 n.0 days.0.0 n.2,
-      ap (λ b. codes "sum" ∷ n.0.1 ∷ b ∷ []) (element_code is_fall f.0 what.0.0 f.2),
-    ) in
-    words_took (λ words v. SpellsScore (codes "sum" ∷ words) v) ws what.0.1 rest words (Sum days.0.0 what.0.0) s spelt
-    (n.1 ∙ ap (λ left. n.0.1 ∷ left) f.1) what.2
+sum_took = λ ws rest s e.
+    let n = bind_ok (one_word (number 1 366) ws) _ (s, rest) e in
+    let f = bind_ok (one_word (element is_fall) n.0.1) _ (s, rest) n.2 in
+    took_same score_words (codes "sum" ∷ unnumbered ws) (Sum n.0.0 f.0.0) s f.0.1 rest f.2 (λ others more clean. (
+      refl,
+      count_took 1 366 ws n.0.1 n.0.0 n.1 (Exactly (code_of f.0.0) ∷ others)
+          (element_took is_fall n.0.1 f.0.1 f.0.0 f.1 others more) clean.1,
+    ))
 
--- the degrees that were read are spelt there, behind "hot"
-heat_took : (ws rest : List Word) (s : Score) → hot_at ws ≡ Ok (s, rest)
-    → Took (λ words. SpellsScore (codes "hot" ∷ words) s) ws rest
-heat_took ws rest s e =
-    made_took (λ words v. SpellsScore (codes "hot" ∷ words) v) heat Hot ws rest s
-    (λ w t read. (w.1, heat_spelt w t read, refl)) e
-
--- the score that was read is spelt there
-pub score_took : (ws rest : List Word) (s : Score) → score_at ws ≡ Ok (s, rest)
-    → Took (λ words. SpellsScore words s) ws rest
+-- the words that are read as a score spell it
+pub score_took : TakesBehind [] score_words score_at
 unfolding score_at
-score_took ws rest s e = rows_took (λ words v. SpellsScore words v) ((codes "highest", highest_at) ∷
-    (codes "lowest", lowest_at) ∷ (codes "sum", sum_at) ∷ (codes "dry", dry_at) ∷ (codes "wet", wet_at) ∷
-    (codes "hot", hot_at) ∷ []) no_score_at ws rest s (
-      λ left at read. element_took (λ e. true) Highest (codes "highest") left rest s (λ e. refl) read,
+score_took = rows_took score_words score_rows no_score_at (
+  made_took (codes "highest") Highest _ score_words _ (λ e. refl) (element_took (λ e. true)),
+  (
+    made_took (codes "lowest") Lowest _ score_words _ (λ e. refl) (element_took is_temperature),
+    (
+      sum_took,
       (
-        λ left at read. element_took is_temperature Lowest (codes "lowest") left rest s (λ e. refl) read,
+        λ ws rest s e. took_same score_words (codes "dry" ∷ unnumbered ws) Dry s ws rest e
+            (λ others more clean. (refl, more clean.1)),
         (
-          λ left at read. sum_took left rest s read,
+          λ ws rest s e. took_same score_words (codes "wet" ∷ unnumbered ws) Wet s ws rest e
+              (λ others more clean. (refl, more clean.1)),
           (
-            λ left at read. words_took (λ words v. SpellsScore (codes "dry" ∷ words) v) left left rest [] Dry s refl
-                refl read,
-            (
-              λ left at read. words_took (λ words v. SpellsScore (codes "wet" ∷ words) v) left left rest [] Wet s refl
-                  refl read,
-              (λ left at read. heat_took left rest s read, tt),
-            ),
+            made_took (codes "hot") Hot _ score_words _ (λ t. refl)
+                (word_took heat (λ t. Tenths t) (λ w t clean. heat_spelt w t)),
+            tt,
           ),
         ),
       ),
-    ) (λ none. absurd (no_score ws (s, rest) none)) e
+    ),
+  ),
+) (λ ws rest s e. absurd (no_score ws (s, rest) e))
+
+-- a code is read as its element
+element_read : (allows : Element → Bool) (e : Element) {others : List QueryWord} → allows e ≡ true
+    → ReadsAs (one_word (element allows)) e (Exactly (code_of e) ∷ others) others
+element_read allows e allowed = word_read (element allows) (Exactly (code_of e)) e
+    (λ at word is. subst (λ (v : List ℕ). element allows (at, v) ≡ Ok e) (sym is) (code_element allows e at allowed))
+
+-- a numeral of a number within limits is read as it
+count_read : (low high n : ℕ) {others : List QueryWord} → is_within low high n ≡ true
+    → ReadsAs (one_word (number low high)) n (Count n ∷ others) others
+count_read low high n inside =
+    word_read (number low high) (Count n) n (λ at word. numeral_number low high n at word inside)
 
 -- the two words of a sum that can be asked for are read as it
-sum_again : (k : ℕ) (e : Element) (digits : List ℕ) (more : List (List ℕ)) (n : ℕ) → is_score (Sum k e) ≡ true
-    → IsNumeralOf digits k
-    → sum_at (enumerate_from n (digits ∷ code_of e ∷ more)) ≡ Ok (Sum k e, enumerate_from (n + 1 + 1) more)
+sum_read : (k : ℕ) (e : Element) (others : List QueryWord) → is_score (Sum k e) ≡ true
+    → ReadsAs sum_at (Sum k e) (Count k ∷ Exactly (code_of e) ∷ others) others
 unfolding sum_at
-sum_again k e digits more n is numeral = grind (arith, ints, one_word_again, numeral_number, code_element)
+sum_read k e others is =
+    let both = and_parts (is_within 1 366 k) (is_fall e) is in
+    then_read _ (count_read 1 366 k both.0) (then_read _ (element_read is_fall e both.1) (always_read (λ ws. refl)))
 
--- the words of a score that can be asked for are read as it, whatever their numbers and the words behind them
-pub score_again : (s : Score) (words more : List (List ℕ)) (n : ℕ) → is_score s ≡ true → SpellsScore words s → (m : ℕ)
-    × (score_at (enumerate_from n (words ++ more)) ≡ Ok (s, enumerate_from m more))
+-- what spells a score that can be asked for is read as it
+pub score_read : (s : Score) (others : List QueryWord) → is_score s ≡ true
+    → ReadsAs score_at s (score_words s ++ others) others
 unfolding score_at says
-score_again (Highest e) words more n is spelt = spelt_again score_at words _ more n (n + 1 + 1) _ spelt
-    (made_again (element (λ x. true)) Highest (n + 1) (code_of e) more e (code_element (λ x. true) e (n + 1) refl))
-score_again (Lowest e) words more n is spelt = spelt_again score_at words _ more n (n + 1 + 1) _ spelt
-    (made_again (element is_temperature) Lowest (n + 1) (code_of e) more e (code_element is_temperature e (n + 1) is))
-score_again (Sum k e) words more n is spelt = spelt_again score_at words _ more n (n + 1 + 1 + 1) _ spelt.2
-    (sum_again k e spelt.0 more (n + 1) is spelt.1)
-score_again Dry words more n is spelt = spelt_again score_at words _ more n (n + 1) _ spelt refl
-score_again Wet words more n is spelt = spelt_again score_at words _ more n (n + 1) _ spelt refl
-score_again (Hot t) words more n is spelt = spelt_again score_at words _ more n (n + 1 + 1) _ spelt.2
-    (made_again heat Hot (n + 1) spelt.0 more t (spelt_heat t (n + 1) spelt.0 is spelt.1))
+score_read (Highest e) others is = behind_read score_at highest_at (codes "highest") (λ at ws. refl)
+    (made_read Highest (element_read (λ e. true) e refl))
+score_read (Lowest e) others is = behind_read score_at lowest_at (codes "lowest") (λ at ws. refl)
+    (made_read Lowest (element_read is_temperature e is))
+score_read (Sum k e) others is =
+    behind_read score_at sum_at (codes "sum") (λ at ws. refl) (sum_read k e others is)
+score_read Dry others is = behind_read score_at dry_at (codes "dry") (λ at ws. refl) (always_read (λ ws. refl))
+score_read Wet others is = behind_read score_at wet_at (codes "wet") (λ at ws. refl) (always_read (λ ws. refl))
+score_read (Hot t) others is = behind_read score_at hot_at (codes "hot") (λ at ws. refl)
+    (made_read Hot (word_read heat (Tenths t) t (λ at word. spelt_heat t at word is)))

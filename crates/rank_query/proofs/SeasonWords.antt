@@ -1,38 +1,37 @@
 -- The words of a season: those that are read as a season spell it, and those that spell it are read as it.
-use Rattle.rank_query.proofs.Cited.{ints, arith, ◌≡◌, ℕ, ◌+◌, true, List, [], ◌∷◌, ◌++◌, Option, Some, None, Ok, codes}
-use Rattle.rank_query.proofs.Cited.{refl, sym, ap, ◌∙◌, subst, enumerate_from, is_season, Word, says}
-use Rattle.rank_query.proofs.Cited.{months, region_at, months_at, all_year_at, season_at, SpellsSeason}
-use Rattle.rank_query.proofs.ReadingSteps.{rows_took, Took, made_took, words_took, made_again, spelt_again}
-use Rattle.rank_query.proofs.RegionWords.{BeginsNoRegion}
+use Rattle.rank_query.proofs.Cited.{◌≡◌, ℕ, true, List, [], ◌∷◌, ◌++◌, Option, Some, None, codes, refl, is_season, Word}
+use Rattle.rank_query.proofs.Cited.{says, Read, Everywhere, months, region_at, months_at, all_year_at, season_at}
+use Rattle.rank_query.proofs.Cited.{QueryWord, Months, season_words, period_words, ℤ}
+use Rattle.rank_query.proofs.ReadingSteps.{unnumbered}
+use Rattle.rank_query.proofs.SpeltWords.{TakesBehind, took_same, word_took, made_took, rows_took, ReadsAs, word_read}
+use Rattle.rank_query.proofs.SpeltWords.{made_read, behind_read, PassesBy, passed_by}
 use Rattle.rank_query.proofs.WordValues.{months_joined, joined_months}
 
--- the season that was read is spelt there
-pub season_took : (ws rest : List Word) (s : Option (ℕ × ℕ)) → season_at ws ≡ Ok (s, rest)
-    → Took (λ words. SpellsSeason words s) ws rest
+-- a season behind its word
+abbrev pub season_rows : List (List ℕ × (List Word → Read (Option (ℕ × ℕ))))
+season_rows = (codes "months", months_at) ∷ []
+
+-- the words that are read as a season spell it
+pub season_took : TakesBehind [] season_words season_at
 unfolding season_at
-season_took ws rest s e =
-    rows_took (λ words v. SpellsSeason words v) ((codes "months", months_at) ∷ []) all_year_at ws rest s (
-      λ left at read. made_took (λ words v. SpellsSeason (codes "months" ∷ words) v) months Some left rest s
-          (λ w v is. (w.1, months_joined w v is, refl)) read,
-      tt,
-    ) (λ none. words_took (λ words v. SpellsSeason words v) ws ws rest [] None s refl refl none) e
+season_took = rows_took season_words season_rows all_year_at (
+  made_took (codes "months") Some _ season_words _ (λ s. refl)
+      (word_took months (λ s. Months s.0 s.1) (λ w s clean. months_joined w s)),
+  tt,
+) (λ ws rest s e. took_same season_words (unnumbered ws) None s ws rest e (λ others more. more))
 
--- no season stands at the front of these words
-abbrev pub BeginsNoSeason : List (List ℕ) → Type 0
-BeginsNoSeason words = (n : ℕ) → season_at (enumerate_from n words) ≡ Ok (None, enumerate_from n words)
-
--- the words of a season that can be asked for are read as it, whatever their numbers and the words behind them
-pub season_again : (s : Option (ℕ × ℕ)) (words more : List (List ℕ)) (n : ℕ) → is_season s ≡ true
-    → SpellsSeason words s → BeginsNoSeason more
-    → (m : ℕ) × (season_at (enumerate_from n (words ++ more)) ≡ Ok (s, enumerate_from m more))
+-- what spells a season that can be asked for is read as it, where none begins what stands behind all months
+pub season_read : (s : Option (ℕ × ℕ)) (others : List QueryWord) → is_season s ≡ true → PassesBy season_at None others
+    → ReadsAs season_at s (season_words s ++ others) others
 unfolding season_at says
-season_again None words more n is spelt none = (n, ap (λ ws. season_at (enumerate_from n (ws ++ more))) spelt ∙ none n)
-season_again (Some s) words more n is spelt none = spelt_again season_at words _ more n (n + 1 + 1) _ spelt.2
-    (made_again months Some (n + 1) spelt.0 more s (joined_months s (n + 1) spelt.0 is spelt.1))
+season_read None others is passes = passed_by season_at None others passes
+season_read (Some s) others is passes = behind_read season_at months_at (codes "months") (λ at ws. refl)
+    (made_read Some (word_read months (Months s.0 s.1) s (λ at word. joined_months s at word is)))
 
--- a season begins no region, where what stands behind it doesn't
-pub season_no_region : (s : Option (ℕ × ℕ)) (words more : List (List ℕ)) → SpellsSeason words s → BeginsNoRegion more
-    → BeginsNoRegion (words ++ more)
+-- neither a season nor a period begins a region
+pub no_region : (s : Option (ℕ × ℕ)) (p : Option (ℤ × ℤ)) → PassesBy region_at Everywhere
+    (season_words s ++ (period_words p ++ []))
 unfolding region_at says
-season_no_region None words more spelt none = subst (λ ws. BeginsNoRegion (ws ++ more)) (sym spelt) none
-season_no_region (Some s) words more spelt none = grind (arith, ints)
+no_region None None = refl
+no_region None (Some p) = (codes "from", refl, λ at ws. refl)
+no_region (Some s) p = (codes "months", refl, λ at ws. refl)

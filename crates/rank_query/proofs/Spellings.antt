@@ -3,29 +3,47 @@ use Rattle.rank_query.proofs.Cited.{ints, ◌≡◌, ℕ, ◌≤◌, false, List
 use Rattle.rank_query.proofs.Cited.{ap, ◌∙◌, subst, append_assoc, append-nil, arith, nat_lt, ℤ, enumerate_from}
 use Rattle.rank_query.proofs.Cited.{AllByRecursion, nat_tests, Score, Region, QueryTooLong, Asked, IsAsked, Word}
 use Rattle.rank_query.proofs.Cited.{words_of, numbered_words, says, keyword, one_word, number, score_at, region_at}
-use Rattle.rank_query.proofs.Cited.{season_at, period_at, nothing_more, read_words, read_query, IsNumeralOf}
-use Rattle.rank_query.proofs.Cited.{SpellsScore, SpellsRegion, SpellsSeason, SpellsPeriod, SpellsQuery, IsSpelling}
-use Rattle.rank_query.proofs.OneWords.{HasNoBlank, words_no_blank, all_behind}
+use Rattle.rank_query.proofs.Cited.{season_at, period_at, nothing_more, read_words, read_query, SpellsQuery, IsSpelling}
+use Rattle.rank_query.proofs.Cited.{Count, QueryWord, score_words, region_words, season_words, period_words}
+use Rattle.rank_query.proofs.OneWords.{HasNoBlank, words_no_blank}
 use Rattle.rank_query.proofs.ReadingSteps.{bind_ok, else_ok, unnumbered, unnumbered-enumerate_from, keyword_took}
-use Rattle.rank_query.proofs.ReadingSteps.{one_word_took, one_word_again}
-use Rattle.rank_query.proofs.WordValues.{number_numeral, numeral_number}
-use Rattle.rank_query.proofs.ScoreWords.{score_took, score_again}
-use Rattle.rank_query.proofs.RegionWords.{region_took, region_again}
-use Rattle.rank_query.proofs.SeasonWords.{season_took, season_again, season_no_region}
-use Rattle.rank_query.proofs.PeriodWords.{period_took, period_again, period_no_region, period_no_season}
+use Rattle.rank_query.proofs.SpeltWords.{SpellAll, Spell}
+use Rattle.rank_query.proofs.WordValues.{numeral_number}
+use Rattle.rank_query.proofs.ScoreWords.{count_took, score_took, score_read}
+use Rattle.rank_query.proofs.RegionWords.{region_took, region_read}
+use Rattle.rank_query.proofs.SeasonWords.{season_took, season_read, no_region}
+use Rattle.rank_query.proofs.PeriodWords.{period_took, period_read, no_season}
 
 -- where nothing more comes, nothing is left
-nothing_left : (ws : List Word) (q r : Asked) → nothing_more ws q ≡ Ok r → (ws ≡ []) × (q ≡ r)
+pub nothing_left : (ws : List Word) (q r : Asked) → nothing_more ws q ≡ Ok r → (ws ≡ []) × (q ≡ r)
 nothing_left [] q r e = (refl, cc)
 nothing_left (w ∷ ws) q r e = cc
+
+-- where no words are left none are spelt
+none_spelt : (words : List (List ℕ)) → SpellAll words [] → words ≡ []
+none_spelt [] all = refl
+none_spelt (w ∷ words) all = absurd all
 
 -- what is asked by its parts
 abbrev pub asked : ℕ → Score → Region → Option (ℕ × ℕ) → Option (ℤ × ℤ) → Asked
 asked k s r t p = record { k = k; score = s; region = r; season = t; period = p }
 
--- four lists one behind the other
-four_joined : (a b c d : List (List ℕ)) → a ++ b ++ c ++ d ≡ a ++ (b ++ (c ++ d))
-four_joined a b c d = append_assoc (a ++ b) c d ∙ append_assoc a b (c ++ d)
+-- the words of the parts of a query stand one behind another
+parts_order : (s r t p : List QueryWord) → s ++ r ++ t ++ p ≡ s ++ (r ++ (t ++ (p ++ [])))
+parts_order s r t p =
+    append_assoc (s ++ r) t p ∙ append_assoc s r (t ++ p) ∙ ap (λ p. s ++ (r ++ (t ++ p))) (sym (append-nil p))
+
+-- words spell a query, if those behind "top" spell the others
+query_spelt : (ws left : List Word) (k : ℕ) (s : Score) (r : Region) (t : Option (ℕ × ℕ)) (p : Option (ℤ × ℤ))
+    → unnumbered ws ≡ codes "top" ∷ unnumbered left → Spell (unnumbered left)
+    (Count k ∷ score_words s ++ (region_words r ++ (season_words t ++ (period_words p ++ []))))
+    → AllByRecursion HasNoBlank (unnumbered ws) → SpellsQuery (unnumbered ws) (asked k s r t p)
+query_spelt ws left k s r t p front spelt clean =
+    let all : AllByRecursion HasNoBlank (codes "top" ∷ unnumbered left) =
+    subst (AllByRecursion HasNoBlank) front clean in
+    let order = parts_order (score_words s) (region_words r) (season_words t) (period_words p) in
+    subst (λ words. SpellsQuery words (asked k s r t p)) (sym front)
+    (refl, subst (λ these. SpellAll (unnumbered left) (Count k ∷ these)) (sym order) (spelt all.1))
 
 -- the query that was read is spelt by the words
 pub words_spell : (ws : List Word) (q : Asked) → AllByRecursion HasNoBlank (unnumbered ws) → read_words ws ≡ Ok q
@@ -39,36 +57,14 @@ words_spell ws q no_blank e =
     let t = bind_ok (season_at r.0.1) _ q r.2 in
     let p = bind_ok (period_at t.0.1) _ q t.2 in
     let end = nothing_left p.0.1 (asked k.0.0 s.0.0 r.0.0 t.0.0 p.0.0) q p.2 in
-    let first = keyword_took (codes "top") ws top.0 top.1 in
-    let rows = one_word_took (number 1 1000) top.0 k.0.1 k.0.0 k.1 in
-    let score = score_took k.0.1 s.0.1 s.0.0 s.1 in
-    let front : unnumbered ws ≡ (codes "top" ∷ rows.0.1 ∷ score.words) ++ unnumbered s.0.1 =
-    first ∙ ap (λ left. codes "top" ∷ left) (rows.1 ∙ ap (λ left. rows.0.1 ∷ left) score.taken) in
-    let clean = all_behind HasNoBlank (codes "top" ∷ rows.0.1 ∷ score.words) (unnumbered s.0.1)
-    (subst (AllByRecursion HasNoBlank) front no_blank) in
-    let region = region_took s.0.1 r.0.1 r.0.0 clean r.1 in
-    let season = season_took r.0.1 t.0.1 t.0.0 t.1 in
-    let period = period_took t.0.1 p.0.1 p.0.0 p.1 in
-    let last : unnumbered t.0.1 ≡ period.words = period.taken ∙ ap (λ left. period.words ++ unnumbered left) end.0
-    ∙ append-nil period.words in
-    let spelling : SpellsQuery (unnumbered ws) (asked k.0.0 s.0.0 r.0.0 t.0.0 p.0.0) = record {
-      k = rows.0.1;
-      score = score.words;
-      region = region.words;
-      season = season.words;
-      period = period.words;
-      words =
-          front ∙ ap (λ left. codes "top" ∷ rows.0.1 ∷ score.words ++ left)
-          (region.taken ∙ ap (λ left. region.words ++ left) (season.taken ∙ ap (λ left. season.words ++ left) last))
-          ∙ ap (λ more. codes "top" ∷ rows.0.1 ∷ more)
-          (sym (four_joined score.words region.words season.words period.words));
-      spells_k = number_numeral 1 1000 rows.0 k.0.0 rows.2;
-      spells_score = score.spelt;
-      spells_region = region.spelt;
-      spells_season = season.spelt;
-      spells_period = period.spelt;
-    } in
-    subst (λ q. SpellsQuery (unnumbered ws) q) end.1 spelling
+    let none : Spell (unnumbered p.0.1) [] = subst (λ left. Spell (unnumbered left) []) (sym end.0) (λ clean. tt) in
+    let period = period_took t.0.1 p.0.1 p.0.0 p.1 [] none in
+    let season = season_took r.0.1 t.0.1 t.0.0 t.1 _ period in
+    let region = region_took s.0.1 r.0.1 r.0.0 r.1 _ season in
+    let score = score_took k.0.1 s.0.1 s.0.0 s.1 _ region in
+    let rows = count_took 1 1000 top.0 k.0.1 k.0.0 k.1 _ score in
+    subst (SpellsQuery (unnumbered ws)) end.1 (query_spelt ws top.0 k.0.0 s.0.0 r.0.0 t.0.0 p.0.0
+    (keyword_took (codes "top") ws top.0 top.1) rows no_blank)
 
 -- and the words of a text are words
 text_spells : (text : List ℕ) (q : Asked) → read_words (numbered_words text) ≡ Ok q → IsSpelling text q
@@ -82,28 +78,22 @@ pub read_spells : (text : List ℕ) (q : Asked) → read_query text ≡ Ok q →
 unfolding read_query
 read_spells text q e = text_spells text q (else_ok (nat_lt 256 (length text)) QueryTooLong _ q e)
 
--- the words of a query that can be asked are read as it
-words_again : (q : Asked) (k : List ℕ) (score region season period : List (List ℕ)) → IsAsked q
-    → IsNumeralOf k q.k → SpellsScore score q.score → SpellsRegion region q.region → SpellsSeason season q.season
-    → SpellsPeriod period q.period
-    → read_words (enumerate_from 1 (codes "top" ∷ k ∷ score ++ region ++ season ++ period)) ≡ Ok q
-unfolding read_words keyword says
-words_again q k score region season period is numeral spells_score spells_region spells_season spells_period =
-    let s = score_again q.score score (region ++ (season ++ period)) 3 is.score spells_score in
-    let r = region_again q.region region (season ++ period) s.0 is.region spells_region
-    (season_no_region q.season season period spells_season (period_no_region q.period period spells_period)) in
-    let t = season_again q.season season period r.0 is.season spells_season
-    (period_no_season q.period period spells_period) in
-    let p = period_again q.period period t.0 is.period spells_period in
-    grind (arith, ints, four_joined, one_word_again, numeral_number)
-
 -- words that spell a query that may be asked are read as it
 pub spelt_read : (ws : List (List ℕ)) (q : Asked) → IsAsked q → SpellsQuery ws q
     → read_words (enumerate_from 1 ws) ≡ Ok q
-spelt_read ws q is spelling =
-    ap (λ ws. read_words (enumerate_from 1 ws)) spelling.words
-    ∙ words_again q spelling.k spelling.score spelling.region spelling.season spelling.period is spelling.spells_k
-    spelling.spells_score spelling.spells_region spelling.spells_season spelling.spells_period
+unfolding read_words keyword says
+spelt_read [] q is spelling = absurd spelling
+spelt_read (w ∷ []) q is spelling = absurd spelling.1
+spelt_read (w ∷ k ∷ ws) q is spelling =
+    let all = subst (SpellAll ws) (parts_order (score_words q.score) (region_words q.region) (season_words q.season)
+    (period_words q.period)) spelling.1.1 in
+    let rows = numeral_number 1 1000 q.k 2 k is.k spelling.1.0 in
+    let s = score_read q.score _ is.score ws 3 all in
+    let r = region_read q.region _ is.region (no_region q.season q.period) s.rest s.at s.spells in
+    let t = season_read q.season _ is.season (no_season q.period) r.rest r.at r.spells in
+    let p = period_read q.period is.period t.rest t.at t.spells in
+    let none = none_spelt p.rest p.spells in
+    grind (arith, ints)
 
 -- and so is a text of at most 256 bytes
 pub spelling_read : (text : List ℕ) (q : Asked) → IsAsked q → IsSpelling text q → length text ≤ 256

@@ -16,7 +16,7 @@ then read onward ws = read ws >>= λ r. onward r.0 r.1
 
 -- no blank stands in these words
 abbrev pub HaveNoBlank : List Word → Type 0
-HaveNoBlank ws = AllByRecursion (λ w. HasNoBlank w.1) ws
+HaveNoBlank ws = AllByRecursion HasNoBlank (unnumbered ws)
 
 -- nor in others before them
 pub blank_in_neither : (front back : List Word) → HaveNoBlank front → HaveNoBlank back → HaveNoBlank (front ++ back)
@@ -73,13 +73,13 @@ pub record Takes (A : Type 0) (Good : A → Type 0) (read : Reading (A × List W
 abbrev pub TakesAll : (A : Type 0) → (A → Type 0) → Reading (A × List Word) → Type 0
 TakesAll A Good read = (ws : List Word) (r : A × List Word) → read ws ≡ Ok r → Takes A Good read ws r
 
--- a good value, and no word behind it
-abbrev pub Ended : {A : Type 0} → (A → Type 0) → A × List Word → Type 0
-Ended Good r = Good r.0 × (r.1 ≡ [])
+-- no word is left behind a value
+abbrev pub Ended : {A : Type 0} → A × List Word → Type 0
+Ended r = r.1 ≡ []
 
 -- a reading of one part of a query
 pub record ReadsPart (A : Type 0) (Good : A → Type 0) (read : Reading (A × List Word)) : Type 0 where
-  pub first : StopsFirst (A × List Word) (Ended Good) read
+  pub first : StopsFirst (A × List Word) Ended read
   pub takes : TakesAll A Good read
 
 -- a fault of two steps is that of the first or of the second
@@ -176,12 +176,12 @@ stops_end before on ends = record { before = before; left = []; parts = refl; on
 -- where a part can go on, and the next one as well, both can
 pub goes_on_then : {A C : Type 0} (GoodA : A → Type 0) (Good : C → Type 0) (read : Reading (A × List Word))
     (onward : A → Reading C) (before : List Word)
-    → TakesAll A GoodA read → GoesOn (A × List Word) (Ended GoodA) (λ tail. read (before ++ tail))
+    → TakesAll A GoodA read → GoesOn (A × List Word) Ended (λ tail. read (before ++ tail))
     → ((x : A) → GoodA x → GoesOn C Good (onward x)) → GoesOn C Good (λ tail. then read onward (before ++ tail))
 goes_on_then GoodA Good read onward before takes on next =
-    let more = next on.value.0 on.good.0 in
     let took = takes (before ++ on.tail) on.value on.reads in
-    let same : before ++ on.tail ≡ took.taken = took.parts ∙ ap (λ left. took.taken ++ left) on.good.1
+    let more = next on.value.0 took.good in
+    let same : before ++ on.tail ≡ took.taken = took.parts ∙ ap (λ left. took.taken ++ left) on.good
     ∙ append-nil took.taken in
     record {
       tail = on.tail ++ more.tail;
@@ -194,10 +194,10 @@ goes_on_then GoodA Good read onward before takes on next =
     }
 
 -- the same of two parts
-pub first_then : {A C : Type 0} (GoodA : A → Type 0) (Good : C → Type 0) (read : Reading (A × List Word))
+pub first_then : {A C : Type 0} {GoodA : A → Type 0} {Good : C → Type 0} {read : Reading (A × List Word)}
     (onward : A → Reading C)
     → ReadsPart A GoodA read → ((x : A) → GoodA x → StopsFirst C Good (onward x)) → StopsFirst C Good (then read onward)
-first_then {A} {C} GoodA Good read onward part next = record {
+first_then {A} {C} {GoodA} {Good} {read} onward part next = record {
   on = goes_on_then GoodA Good read onward [] part.takes part.first.on (λ x good. (next x good).on);
   stops = λ ws fault e. elim (bind_err (read ws) (λ r. onward r.0 r.1) fault e) [
     | inl here ↦
@@ -247,10 +247,10 @@ takes_then GoodA GoodB read onward takes next = λ ws r e.
     }
 
 -- two parts are a part
-pub part_then : {A B : Type 0} (GoodA : A → Type 0) (GoodB : B → Type 0) (read : Reading (A × List Word))
+pub part_then : {A B : Type 0} {GoodA : A → Type 0} {GoodB : B → Type 0} {read : Reading (A × List Word)}
     (onward : A → Reading (B × List Word))
     → ReadsPart A GoodA read → ((x : A) → GoodA x → ReadsPart B GoodB (onward x)) → ReadsPart B GoodB (then read onward)
-part_then GoodA GoodB read onward part next = record {
-  first = first_then GoodA (Ended GoodB) read onward part (λ x good. (next x good).first);
+part_then {GoodA = GoodA} {GoodB = GoodB} {read = read} onward part next = record {
+  first = first_then onward part (λ x good. (next x good).first);
   takes = takes_then GoodA GoodB read onward part.takes (λ x good. (next x good).takes);
 }

@@ -3,11 +3,11 @@ use Rattle.rank_query.proofs.Cited.{inl, inr, ◌≡◌, ℕ, Bool, true, cond, 
 use Rattle.rank_query.proofs.Cited.{refl, ap, subst, ℤ, pos, neg_ℤ, int_le, Field, Blank, Number, Bad, is_within}
 use Rattle.rank_query.proofs.Cited.{is_day, date_text, read_date, natural, scaled_field, Element, code_of, element_of}
 use Rattle.rank_query.proofs.Cited.{is_number_within, number_of, QueryFault, UnexpectedWord, OutOfLimits, BadDate}
-use Rattle.rank_query.proofs.Cited.{BadBox, is_code, is_longitude, is_heat, is_month, Word, number, element, heat}
+use Rattle.rank_query.proofs.Cited.{BadBox, is_code, is_heat, is_month, Word, number, element, heat}
 use Rattle.rank_query.proofs.Cited.{months, degrees, code, date, tenths_of, two_numbers, latitude_from, longitude}
 use Rattle.rank_query.proofs.OneWords.{HasNoBlank}
 use Rattle.rank_query.proofs.ReadingSteps.{test_ok, test_err, or_fault_err, tested, tested_ok, tested_err}
-use Rattle.rank_query.proofs.WordValues.{code_element, date_day, written_date}
+use Rattle.rank_query.proofs.WordValues.{is_longitude, code_element, date_day, written_date}
 use Rattle.rank_query.proofs.PrintedWords.{date_word}
 use Rattle.rank_query.proofs.Stops.{IsWordOf}
 use Rattle.rank_query.proofs.PartStops.{ReadsWord}

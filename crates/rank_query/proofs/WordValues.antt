@@ -1,7 +1,8 @@
 -- What a single word is read as spells it, and what spells a value is read as it.
 use Rattle.rank_query.proofs.Cited.{◌≡◌, ℕ, zero, suc, ◌+◌, ◌<◌, Bool, true, false, cond, ◌&&◌, List, [], ◌∷◌, ◌++◌}
 use Rattle.rank_query.proofs.Cited.{length, rules, take, drop, get_or, replicate, Option, Some, None, Ok, Err, refl}
-use Rattle.rank_query.proofs.Cited.{sym, ap, ◌∙◌, subst, FitsSigned, w32, arith, length-drop, ℤ, int_le, find, list_all}
+use Rattle.rank_query.proofs.Cited.{sym, ap, ◌∙◌, subst, FitsSigned, w32, arith, length-drop, ℤ, pos, neg_ℤ, int_le}
+use Rattle.rank_query.proofs.Cited.{find, list_all, cases_Bool, inl, inr}
 use Rattle.rank_query.proofs.Cited.{before_first, after_first, position_or_len, is_ascii_digit, digits_value}
 use Rattle.rank_query.proofs.Cited.{bytes_decides, and_parts, nat_tests, split_at_first, passes_at_first, cond_some}
 use Rattle.rank_query.proofs.Cited.{Field, Blank, Number, Bad, same_bytes, is_within, is_day, date_text, read_date}
@@ -9,7 +10,7 @@ use Rattle.rank_query.proofs.Cited.{Spells, natural, scaled_field, Element, Prcp
 use Rattle.rank_query.proofs.Cited.{element_of, elements, is_number_within, number_of, UnexpectedWord, OutOfLimits}
 use Rattle.rank_query.proofs.Cited.{BadDate, BadBox, is_code, is_heat, is_month, Word, or_fault, number, element, heat}
 use Rattle.rank_query.proofs.Cited.{months, degrees, code, date, tenths_of, two_numbers, is_point, natural_behind}
-use Rattle.rank_query.proofs.Cited.{both_numbers, IsNumeralOf, JoinsTwo}
+use Rattle.rank_query.proofs.Cited.{both_numbers, IsNumeralOf, Months, SpellsWord}
 use Rattle.std.proofs.Math.Seq.{take-append_seam, drop-append-add}
 use Rattle.ghcn_fields.proofs.DateTexts.{read_date-law}
 use Rattle.ghcn_fields.proofs.DecimalTexts.{spells-from_signed, signed-from_spells}
@@ -80,50 +81,51 @@ both-some (Some a) (Some b) s e =
 behind-some : (bytes : List ℕ) (n : ℕ) → natural_behind bytes ≡ Some n
     → (digits : List ℕ) × (bytes ≡ 46 ∷ digits) × (natural digits ≡ Some n)
 behind-some [] n e = cc
-behind-some (b ∷ bytes) n e = by_point (is_point b) refl e where
-  by_point : (t : Bool) → is_point b ≡ t → cond t (natural bytes) None ≡ Some n
-      → (digits : List ℕ) × (b ∷ bytes ≡ 46 ∷ digits) × (natural digits ≡ Some n)
-  by_point true is e = (bytes, ap (λ (c : ℕ). c ∷ bytes) (point_is b is), e)
-  by_point false is e = cc
+behind-some (b ∷ bytes) n e = elim (cases_Bool (is_point b)) [
+  | inl is ↦ let here = rw is at e in (bytes, ap (λ (c : ℕ). c ∷ bytes) (point_is b is), here)
+  | inr other ↦ let here = rw other at e in absurd cc
+]
 
 -- a word that is read as two numbers joins them
-two_joined : (word : List ℕ) (s : ℕ × ℕ) → two_numbers word ≡ Some s → JoinsTwo word s.0 s.1
+two_joined : (word : List ℕ) (s : ℕ × ℕ) → two_numbers word ≡ Some s
+    → SpellsWord word (Months s.0 s.1)
 two_joined word s e =
     let front : List ℕ = before_first is_point word in
     let place : ℕ = position_or_len is_point word in
     let both = both-some (natural front) (natural_behind (after_first is_point word)) s e in
     let behind = behind-some (after_first is_point word) s.1 both.1 in
     let inside : place < length word = omega (arith, ap length behind.1, length-drop (place + 1) word) in
-    let at : get_or word place 0 ≡ 46 = point_is _ (passes_at_first is_point word 0 inside) in
-    record {
-      first = front;
-      last = behind.0;
-      parts = split_at_first is_point word 0 inside ∙ ap (λ (b : ℕ). front ++ b ∷ after_first is_point word) at
-          ∙ ap (λ (rest : List ℕ). front ++ 46 ∷ rest) behind.1;
-      spells_first = natural_numeral front s.0 both.0;
-      spells_last = natural_numeral behind.0 s.1 behind.2;
-    }
+    let at : get_or word place 0 ≡ 46 = point_is _ (passes_at_first is_point word 0 inside) in (
+      front,
+      behind.0,
+      split_at_first is_point word 0 inside ∙ ap (λ (b : ℕ). front ++ b ∷ after_first is_point word) at
+          ∙ ap (λ (rest : List ℕ). front ++ 46 ∷ rest) behind.1,
+      natural_numeral front s.0 both.0,
+      natural_numeral behind.0 s.1 behind.2,
+    )
 
 -- and a word that joins two numbers is read as them
-joined_two : (word : List ℕ) (a b : ℕ) → JoinsTwo word a b → two_numbers word ≡ Some (a, b)
+joined_two : (word : List ℕ) (a b : ℕ) → SpellsWord word (Months a b) → two_numbers word ≡ Some (a, b)
 joined_two word a b j =
-    let rest : List ℕ = 46 ∷ j.last in
-    let text : List ℕ = j.first ++ 46 ∷ rest in
-    let front : take (length j.first) text ≡ j.first = take-append_seam j.first (46 ∷ rest) in
-    let behind : drop (length j.first + 1) text ≡ rest = drop-append-add j.first (46 ∷ rest) 1 in
-    let at = point_at j.first rest j.spells_first.digits_alone in
-    let one = numeral_natural j.first a j.spells_first in
-    let two = numeral_natural j.last b j.spells_last in
-    rw (j.parts, at, front, behind, one, two)
+    let first : List ℕ = j.0 in
+    let last : List ℕ = j.1 in
+    let rest : List ℕ = 46 ∷ last in
+    let text : List ℕ = first ++ 46 ∷ rest in
+    let front : take (length first) text ≡ first = take-append_seam first (46 ∷ rest) in
+    let behind : drop (length first + 1) text ≡ rest = drop-append-add first (46 ∷ rest) 1 in
+    let at = point_at first rest j.3.digits_alone in
+    let one = numeral_natural first a j.3 in
+    let two = numeral_natural last b j.4 in
+    rw (j.2, at, front, behind, one, two)
 
 -- a word that is read as months joins them
-pub months_joined : (w : Word) (s : ℕ × ℕ) → months w ≡ Ok s → JoinsTwo w.1 s.0 s.1
+pub months_joined : (w : Word) (s : ℕ × ℕ) → months w ≡ Ok s → SpellsWord w.1 (Months s.0 s.1)
 unfolding months
 months_joined w s e = two_joined w.1 s (tested_ok two_numbers (λ v. is_month v.0 && is_month v.1) OutOfLimits w s e).0
 
 -- what joins two months is read as them
 pub joined_months : (s : ℕ × ℕ) (at : ℕ) (word : List ℕ) → (is_month s.0 && is_month s.1) ≡ true
-    → JoinsTwo word s.0 s.1 → months (at, word) ≡ Ok s
+    → SpellsWord word (Months s.0 s.1) → months (at, word) ≡ Ok s
 unfolding months
 joined_months s at word inside joins = tested_again two_numbers (λ v. is_month v.0 && is_month v.1) OutOfLimits at word
     s (joined_two word s.0 s.1 joins) inside
@@ -176,6 +178,10 @@ unfolding degrees
 degrees_spelt low high w z clean e =
     let has = ((scaled_field-number 4 w.1 z).0 (field_number low high z (scaled_field 4 w.1) w.0 e)).0 in
     subst (λ (text : List ℕ). Spells 4 text z) (no_blanks has.blanks w.1 has.text has.parts clean) has.spells
+
+-- a longitude, in ten-thousandths of a degree
+abbrev pub is_longitude : ℤ → Bool
+is_longitude z = int_le (neg_ℤ (pos 1_800_000)) z && int_le z (pos 1_800_000)
 
 -- what spells degrees within the limits is read as them
 pub spelt_degrees : (low high z : ℤ) (at : ℕ) (text : List ℕ) → (int_le low z && int_le z high) ≡ true

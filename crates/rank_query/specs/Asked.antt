@@ -12,7 +12,7 @@ use Rattle.rank_query.specs.declared.region.Region.{Region}
 use Rattle.rank_query.specs.declared.region.Region.TheVariants.{Everywhere, Inside, Country, State, Only}
 
 -- the k best of a score, of the stations of a region, in a season from a first to a last month, within a period of a
--- first and a last day
+-- first and a last day; all months where there is no season, and all days where there is no period
 pub record Asked : Type 0 where
   pub k : ℕ
   pub score : Score
@@ -45,45 +45,37 @@ is_fall Snwd = false
 is_fall Tmax = false
 is_fall Tmin = false
 
--- a number of tenths of a degree from which on a day can be called hot: -100 to 100 degrees
-abbrev pub is_heat : ℤ → Bool
-is_heat t = int_le (neg_ℤ (pos 1_000)) t && int_le t (pos 1_000)
-
--- a score that can be asked for
+-- a score that can be asked for: sums are of 1 to 366 days, and hot days begin at -100 to 100 degrees, in tenths
 abbrev pub is_score : Score → Bool
 is_score (Highest e) = true
 is_score (Lowest e) = is_temperature e
 is_score (Sum n e) = is_within 1 366 n && is_fall e
 is_score Dry = true
 is_score Wet = true
-is_score (Hot t) = is_heat t
-
--- a longitude, in ten-thousandths of a degree
-abbrev pub is_longitude : ℤ → Bool
-is_longitude z = int_le (neg_ℤ (pos 1_800_000)) z && int_le z (pos 1_800_000)
+is_score (Hot t) = int_le (neg_ℤ (pos 1_000)) t && int_le t (pos 1_000)
 
 -- so many visible bytes
 abbrev pub is_code : ℕ → List ℕ → Bool
 is_code len bytes = (length bytes == len) && list_all is_visible bytes
 
--- a region that can be asked for
+-- a longitude, in ten-thousandths of a degree
+abbrev pub is_longitude : ℤ → Bool
+is_longitude z = int_le (neg_ℤ (pos 1_800_000)) z && int_le z (pos 1_800_000)
+
+-- a region that can be asked for: of a box the northern edge isn't below the southern one
 abbrev pub is_region : Region → Bool
 is_region Everywhere = true
 is_region (Inside south west north east) =
-    int_le (neg_ℤ (pos 900_000)) south && int_le south north && int_le north
-    (pos 900_000) && is_longitude west && is_longitude east
+    int_le (neg_ℤ (pos 900_000)) south && int_le south north && int_le north (pos 900_000)
+    && is_longitude west && is_longitude east
 is_region (Country code) = is_code 2 code
 is_region (State code) = is_code 2 code
 is_region (Only id) = is_id id.0
 
--- the number of a month
-abbrev pub is_month : ℕ → Bool
-is_month m = is_within 1 12 m
-
--- a season that can be asked for: none, or two months
+-- a season that can be asked for: none, or two months, by their numbers
 abbrev pub is_season : Option (ℕ × ℕ) → Bool
 is_season None = true
-is_season (Some s) = is_month s.0 && is_month s.1
+is_season (Some s) = is_within 1 12 s.0 && is_within 1 12 s.1
 
 -- a period that can be asked for: none, or two days, the second not before the first
 abbrev pub is_period : Option (ℤ × ℤ) → Bool

@@ -1,7 +1,8 @@
 -- Words as they are printed, each with a blank before it.
 use Rattle.std.specs.Prelude.{ℕ, List, ◌∷◌}
 use Rattle.std.specs.List.{flat_map}
+use Rattle.rank_query.specs.QueryTexts.{QueryWord, word_text}
 
 -- each word behind a blank
-abbrev pub spaced : List (List ℕ) → List ℕ
-spaced words = flat_map (λ w. 32 ∷ w) words
+abbrev pub spaced : List QueryWord → List ℕ
+spaced words = flat_map (λ w. 32 ∷ word_text w) words

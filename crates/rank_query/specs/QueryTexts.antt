@@ -1,5 +1,5 @@
--- The canonical text of a query: the words in the order of the grammar, one blank between them.
-use Rattle.std.specs.Prelude.{ℕ, List, [], ◌∷◌, ◌++◌, codes, Option, None, Some, ℤ}
+-- The words of a query in the order of the grammar, and its canonical text: these words, one blank between them.
+use Rattle.std.specs.Prelude.{ℕ, List, [], ◌∷◌, ◌++◌, map, codes, Option, None, Some, ℤ}
 use Rattle.std.specs.List.{join_with_byte}
 use Rattle.std.specs.Fmt.{decimal}
 use Rattle.ghcn_fields.specs.NumberTexts.{four_places, tenths}
@@ -11,44 +11,58 @@ use Rattle.rank_query.specs.declared.region.Region.{Region}
 use Rattle.rank_query.specs.declared.region.Region.TheVariants.{Everywhere, Inside, Country, State, Only}
 use Rattle.rank_query.specs.Asked.{Asked}
 
--- the words of a score
-abbrev pub score_words : Score → List (List ℕ)
-score_words (Highest e) = codes "highest" ∷ code_of e ∷ []
-score_words (Lowest e) = codes "lowest" ∷ code_of e ∷ []
-score_words (Sum n e) = codes "sum" ∷ decimal n ∷ code_of e ∷ []
-score_words Dry = codes "dry" ∷ []
-score_words Wet = codes "wet" ∷ []
-score_words (Hot t) = codes "hot" ∷ tenths t ∷ []
+-- a word of a query: bytes as they stand; or a number, which has more than one spelling: of rows or days, of tenths of a
+-- degree, of ten-thousandths of a degree at an edge of a box; or the numbers of a first and a last month
+pub data QueryWord : Type 0 where
+  Exactly : List ℕ → QueryWord
+  Count : ℕ → QueryWord
+  Tenths : ℤ → QueryWord
+  Edge : ℤ → QueryWord
+  Months : ℕ → ℕ → QueryWord
 
--- the words of a region
-abbrev pub region_words : Region → List (List ℕ)
+-- the words of a score
+abbrev pub score_words : Score → List QueryWord
+score_words (Highest e) = Exactly (codes "highest") ∷ Exactly (code_of e) ∷ []
+score_words (Lowest e) = Exactly (codes "lowest") ∷ Exactly (code_of e) ∷ []
+score_words (Sum n e) = Exactly (codes "sum") ∷ Count n ∷ Exactly (code_of e) ∷ []
+score_words Dry = Exactly (codes "dry") ∷ []
+score_words Wet = Exactly (codes "wet") ∷ []
+score_words (Hot t) = Exactly (codes "hot") ∷ Tenths t ∷ []
+
+-- the words of a region; none for all stations
+abbrev pub region_words : Region → List QueryWord
 region_words Everywhere = []
 region_words (Inside south west north east) =
-    codes "box" ∷ four_places south ∷ four_places west ∷ four_places north ∷ four_places east ∷ []
-region_words (Country code) = codes "country" ∷ code ∷ []
-region_words (State code) = codes "state" ∷ code ∷ []
-region_words (Only id) = codes "station" ∷ id.0 ∷ []
+    Exactly (codes "box") ∷ Edge south ∷ Edge west ∷ Edge north ∷ Edge east ∷ []
+region_words (Country code) = Exactly (codes "country") ∷ Exactly code ∷ []
+region_words (State code) = Exactly (codes "state") ∷ Exactly code ∷ []
+region_words (Only id) = Exactly (codes "station") ∷ Exactly id.0 ∷ []
 
--- two months with two points between them
-abbrev pub months_text : ℕ × ℕ → List ℕ
-months_text s = decimal s.0 ++ 46 ∷ 46 ∷ decimal s.1
-
--- the words of a season
-abbrev pub season_words : Option (ℕ × ℕ) → List (List ℕ)
+-- the words of a season; none for all months
+abbrev pub season_words : Option (ℕ × ℕ) → List QueryWord
 season_words None = []
-season_words (Some s) = codes "months" ∷ months_text s ∷ []
+season_words (Some s) = Exactly (codes "months") ∷ Months s.0 s.1 ∷ []
 
--- the words of a period
-abbrev pub period_words : Option (ℤ × ℤ) → List (List ℕ)
+-- the words of a period; none for all days
+abbrev pub period_words : Option (ℤ × ℤ) → List QueryWord
 period_words None = []
-period_words (Some p) = codes "from" ∷ date_text p.0 ∷ codes "to" ∷ date_text p.1 ∷ []
+period_words (Some p) =
+    Exactly (codes "from") ∷ Exactly (date_text p.0) ∷ Exactly (codes "to") ∷ Exactly (date_text p.1) ∷ []
 
--- the canonical words of a query
-abbrev pub query_words : Asked → List (List ℕ)
+-- the words of a query
+abbrev pub query_words : Asked → List QueryWord
 query_words q =
-    codes "top" ∷ decimal q.k ∷ score_words q.score ++ region_words q.region ++ season_words q.season ++
-    period_words q.period
+    Exactly (codes "top") ∷ Count q.k ∷ score_words q.score ++ region_words q.region ++ season_words q.season
+    ++ period_words q.period
+
+-- the canonical text of a word: numbers without leading zeros, all decimals, and two points between months
+abbrev pub word_text : QueryWord → List ℕ
+word_text (Exactly text) = text
+word_text (Count n) = decimal n
+word_text (Tenths t) = tenths t
+word_text (Edge z) = four_places z
+word_text (Months first last) = decimal first ++ 46 ∷ 46 ∷ decimal last
 
 -- the canonical text of a query
 abbrev pub query_text : Asked → List ℕ
-query_text q = join_with_byte 32 (query_words q)
+query_text q = join_with_byte 32 (map word_text (query_words q))

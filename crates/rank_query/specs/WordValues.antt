@@ -9,7 +9,8 @@ use Rattle.ghcn_files.specs.Elements.{element_of}
 use Rattle.ghcn_files.specs.StationLines.{is_number_within, number_of}
 use Rattle.rank_query.specs.declared.fault.QueryFault.{QueryFault}
 use Rattle.rank_query.specs.declared.fault.QueryFault.TheVariants.{UnexpectedWord, OutOfLimits, BadDate, BadBox}
-use Rattle.rank_query.specs.Asked.{is_code, is_heat, is_month}
+use Rattle.rank_query.specs.declared.score.Score.TheVariants.{Hot}
+use Rattle.rank_query.specs.Asked.{is_code, is_score}
 use Rattle.rank_query.specs.Words.{Word}
 use Rattle.rank_query.specs.Readers.{◌>>=◌, or_fault}
 
@@ -33,6 +34,10 @@ degrees low high w =
 -- so many tenths, as a number with one decimal at most writes them
 abbrev pub tenths_of : List ℕ → Option ℤ
 tenths_of word = signed_by (decimal_number 1) word
+
+-- a number of tenths of a degree from which on a day can be called hot
+abbrev pub is_heat : ℤ → Bool
+is_heat t = is_score (Hot t)
 
 -- a number of degrees from which on a day is hot, in tenths, within its limits
 unfoldable pub heat : Word → Result ℤ QueryFault
@@ -58,6 +63,10 @@ both_numbers (Some a) (Some b) = Some (a, b)
 -- the numbers before and behind two points
 abbrev pub two_numbers : List ℕ → Option (ℕ × ℕ)
 two_numbers word = both_numbers (natural (before_first is_point word)) (natural_behind (after_first is_point word))
+
+-- the number of a month
+abbrev pub is_month : ℕ → Bool
+is_month m = is_within 1 12 m
 
 -- a first and a last month
 unfoldable pub months : Word → Result (ℕ × ℕ) QueryFault

@@ -3,18 +3,14 @@ use Rattle.std.specs.Prelude.{ℕ, Bool, ◌==◌, not, if◌then◌else◌, Lis
 use Rattle.std.specs.List.{slice_split, enumerate_from}
 use Rattle.ghcn_fields.specs.Bytes.{blank_byte, same_bytes}
 
--- a byte that separates words
-abbrev pub is_separator : ℕ → Bool
-is_separator b = b == blank_byte
-
--- something stands in it
-abbrev pub is_word : List ℕ → Bool
-is_word part = not (length part == 0)
-
 -- the words of a text: the longest runs of bytes other than blanks,
 -- which are the parts between blanks that aren't empty
 abbrev pub words_of : List ℕ → List (List ℕ)
-words_of text = filter is_word (slice_split is_separator text)
+words_of text = filter (λ part. not (length part == 0)) (slice_split (λ b. b == blank_byte) text)
+
+-- a byte that separates words
+abbrev pub is_separator : ℕ → Bool
+is_separator b = b == blank_byte
 
 -- a word with its number
 abbrev pub Word : Type 0

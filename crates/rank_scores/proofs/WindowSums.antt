@@ -143,11 +143,12 @@ anew-len : (w : Window) (b : Bool) → (begun_anew_unless b w).len ≤ w.len
 anew-len w true = omega arith
 anew-len w false = omega arith
 
--- a window that begins anew, or doesn't, has its first day's place, and fewer days than a full one
+-- a window that begins anew, or doesn't, has its first day's place
 pub anew-place : (w u : Window) (b : Bool) → u ≡ begun_anew_unless b w → w.first < 512 → u.first < 512
 anew-place w u true is lt = rw is lt
 anew-place w u false is lt = rw is lt
 
+-- and fewer days than a full one
 pub anew-room : (w u : Window) (b : Bool) (n : ℕ) → u ≡ begun_anew_unless b w → w.len < n → n ≤ 366 → u.len < 512
 anew-room w u b n is lt few = let no_more = anew-len w b in rw is (omega (arith, lt, few, no_more))
 

@@ -45,6 +45,6 @@ kth_of_query q c = kth_score q.k (all_candidates q c)
 abbrev pub IsAbove : Asked → Usable → ℤ → Type 0
 IsAbove q s bound = AllByRecursion (λ c. c.score ≤ℤ bound) (candidates q s)
 
--- the same said over the property: whatever is a candidate of the series has no score above this number
+-- whatever is a candidate of the series has no score above this number
 abbrev pub NoneIsAbove : Asked → Usable → ℤ → Type 0
 NoneIsAbove q s bound = (c : Candidate) → IsCandidateOf q s c → c.score ≤ℤ bound

@@ -56,11 +56,6 @@ fn data_of(alloc: Global, values: &Values) -> Option<Data> {
     read(alloc, STATIONS, text.as_bytes())
 }
 
-/// The data of the usual values.
-pub(crate) fn usual_data(alloc: Global) -> Option<Data> {
-    data_of(alloc, &USUAL)
-}
-
 /// The plan of the best one.
 fn plan_of_one(alloc: Global, data: &Data) -> Option<Plan<'_>> {
     let query = Query::parse("top 1 highest TMAX").ok()?;

@@ -32,7 +32,7 @@ fn elements_and_their_codes(rt: HostRuntime) {
 }
 
 #[test]
-fn texts_of_refusals(rt: HostRuntime) {
+fn texts_of_refused_lists(rt: HostRuntime) {
     let duplicate = StationsFault::StationLine {
         line: 2,
         why: StationWhy::Duplicate,
@@ -55,7 +55,11 @@ fn texts_of_refusals(rt: HostRuntime) {
     for (why, text) in reasons {
         assert_eq!(rt; is_printed(rt.alloc(), &why, text), Some(true), "{text}");
     }
-    let lines = [
+}
+
+#[test]
+fn texts_of_refused_lines(rt: HostRuntime) {
+    let reasons = [
         (LineWhy::Short, "Short"),
         (LineWhy::TooLong, "TooLong"),
         (LineWhy::BadId, "BadId"),
@@ -63,7 +67,7 @@ fn texts_of_refusals(rt: HostRuntime) {
         (LineWhy::BadMonth, "BadMonth"),
         (LineWhy::BadValue(3), "BadValue 3"),
     ];
-    for (why, text) in lines {
+    for (why, text) in reasons {
         assert_eq!(rt; is_printed(rt.alloc(), &why, text), Some(true), "{text}");
     }
 }

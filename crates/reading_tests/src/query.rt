@@ -85,43 +85,43 @@ fn scores_and_their_elements(rt: HostRuntime) {
 }
 
 #[test]
-fn regions_and_periods_of_a_query(rt: HostRuntime) {
-    let days = Some((18_444, 18_445));
+fn regions_of_a_query(rt: HostRuntime) {
     let cases = [
         (
             "top 1 highest TMAX box 12 22 12 22",
             inside(120_000, 220_000, 120_000, 220_000),
-            None,
         ),
         (
             "top 1 highest TMAX box -10 170 10 -170",
             inside(-100_000, 1_700_000, 100_000, -1_700_000),
-            None,
         ),
-        (
-            "top 1 highest TMAX country ZZ",
-            Region::Country(*b"ZZ"),
-            None,
-        ),
-        ("top 1 highest TMAX state NY", Region::State(*b"NY"), None),
+        ("top 1 highest TMAX country ZZ", Region::Country(*b"ZZ")),
+        ("top 1 highest TMAX state NY", Region::State(*b"NY")),
         (
             "top 1 highest TMAX station ZZA00000003",
             Region::Only(StationId(*b"ZZA00000003")),
-            None,
         ),
+    ];
+    for (text, region) in cases {
+        assert_eq!(rt; region_of(text), Some((region, None)), "of {text}");
+    }
+}
+
+#[test]
+fn periods_of_a_query(rt: HostRuntime) {
+    let days = Some((18_444, 18_445));
+    let cases = [
         (
             "top 1 highest TMAX from 2020-07-01 to 2020-07-02",
             Region::Everywhere,
-            days,
         ),
         (
             "top 1 highest TMAX country to from 2020-07-01 to 2020-07-02",
             Region::Country(*b"to"),
-            days,
         ),
     ];
-    for (text, region, period) in cases {
-        assert_eq!(rt; region_of(text), Some((region, period)), "of {text}");
+    for (text, region) in cases {
+        assert_eq!(rt; region_of(text), Some((region, days)), "of {text}");
     }
 }
 

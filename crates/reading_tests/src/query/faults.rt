@@ -20,6 +20,26 @@ fn first_fault_of_a_query(rt: HostRuntime) {
         ("top 0 highest TMAX", Some(OutOfLimits(2))),
         ("top 1", Some(QueryEnds)),
         ("top 1 hotter 30", Some(UnexpectedWord(3))),
+        ("top 1 highest", Some(QueryEnds)),
+        ("top 1 highest TAVG", Some(UnexpectedWord(4))),
+        ("top 1 lowest PRCP", Some(UnexpectedWord(4))),
+        ("top 1 lowest SNOW", Some(UnexpectedWord(4))),
+        ("top 1 sum 366 PRCP", None),
+        ("top 1 sum 367 PRCP", Some(OutOfLimits(4))),
+        ("top 1 sum 0 PRCP", Some(OutOfLimits(4))),
+        ("top 1 sum PRCP", Some(UnexpectedWord(4))),
+        ("top 1 sum 3 SNWD", Some(UnexpectedWord(5))),
+        ("top 1 sum 3", Some(QueryEnds)),
+        ("top 1 highest TMAX TMAX", Some(UnexpectedWord(5))),
+    ];
+    for (text, fault) in cases {
+        assert_eq!(rt; Query::parse(text).err(), fault, "at {text}");
+    }
+}
+
+#[test]
+fn first_fault_of_a_least_temperature(rt: HostRuntime) {
+    let cases = [
         ("top 1 hot 30", None),
         ("top 1 hot 100.0", None),
         ("top 1 hot 100.1", Some(OutOfLimits(4))),
@@ -34,17 +54,6 @@ fn first_fault_of_a_query(rt: HostRuntime) {
         ("top 1 hot TMAX", Some(UnexpectedWord(4))),
         ("top 1 hot 30 TMAX", Some(UnexpectedWord(5))),
         ("top 1 hot", Some(QueryEnds)),
-        ("top 1 highest", Some(QueryEnds)),
-        ("top 1 highest TAVG", Some(UnexpectedWord(4))),
-        ("top 1 lowest PRCP", Some(UnexpectedWord(4))),
-        ("top 1 lowest SNOW", Some(UnexpectedWord(4))),
-        ("top 1 sum 366 PRCP", None),
-        ("top 1 sum 367 PRCP", Some(OutOfLimits(4))),
-        ("top 1 sum 0 PRCP", Some(OutOfLimits(4))),
-        ("top 1 sum PRCP", Some(UnexpectedWord(4))),
-        ("top 1 sum 3 SNWD", Some(UnexpectedWord(5))),
-        ("top 1 sum 3", Some(QueryEnds)),
-        ("top 1 highest TMAX TMAX", Some(UnexpectedWord(5))),
     ];
     for (text, fault) in cases {
         assert_eq!(rt; Query::parse(text).err(), fault, "at {text}");

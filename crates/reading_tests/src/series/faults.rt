@@ -60,35 +60,16 @@ fn lines_that_are_passed_over(rt: HostRuntime) {
 }
 
 #[test]
-fn first_fault_of_the_files(rt: HostRuntime) {
+fn lines_that_are_refused(rt: HostRuntime) {
     let first: &[u8] = &line_of(b"ZZA00000001202007TMAX", &[(1, b"  311   ")]);
-    let second: &[u8] = &line_of(b"ZZA00000002202007TMAX", &[(1, b"  311   ")]);
     let letters: &[u8] = &line_of(b"ZZA00000002202007TMAX", &[(3, b"12 34   ")]);
     let cut: &[u8] = b"ZZA00000009202007TMAX";
-    let cases: [(&str, [&[u8]; 3], [&[u8]; 3], Result<u64, DataFault>); 5] = [
+    let cases: [(&str, [&[u8]; 3], [&[u8]; 3], Result<u64, DataFault>); 2] = [
         (
             "a bad value",
             [first, b"  ", letters],
             [first, b"", b""],
             refused(1, 3, Line(LineWhy::BadValue(3))),
-        ),
-        (
-            "a month in two files",
-            [first, b"", b""],
-            [first, b"", b""],
-            refused(2, 1, DuplicateMonth),
-        ),
-        (
-            "a month in one file",
-            [second, second, b""],
-            [first, b"", b""],
-            refused(1, 2, DuplicateMonth),
-        ),
-        (
-            "the first of two faults",
-            [first, b"", b""],
-            [b"", first, b"x"],
-            refused(2, 2, DuplicateMonth),
         ),
         (
             "an unlisted station's line that is cut",
@@ -99,6 +80,37 @@ fn first_fault_of_the_files(rt: HostRuntime) {
     ];
     for (name, one, two, expected) in cases {
         let found = by_both_ends(rt.alloc(), &one, &two);
+        assert_eq!(rt; found, (expected, expected), "{name}");
+    }
+}
+
+#[test]
+fn months_that_stand_twice(rt: HostRuntime) {
+    let first: &[u8] = &line_of(b"ZZA00000001202007TMAX", &[(1, b"  311   ")]);
+    let second: &[u8] = &line_of(b"ZZA00000002202007TMAX", &[(1, b"  311   ")]);
+    let cases: [(&str, [&[u8]; 3], [&[u8]; 3], (u64, u64)); 3] = [
+        (
+            "a month in two files",
+            [first, b"", b""],
+            [first, b"", b""],
+            (2, 1),
+        ),
+        (
+            "a month in one file",
+            [second, second, b""],
+            [first, b"", b""],
+            (1, 2),
+        ),
+        (
+            "the first of two faults",
+            [first, b"", b""],
+            [b"", first, b"x"],
+            (2, 2),
+        ),
+    ];
+    for (name, one, two, (file, line)) in cases {
+        let found = by_both_ends(rt.alloc(), &one, &two);
+        let expected = refused(file, line, DuplicateMonth);
         assert_eq!(rt; found, (expected, expected), "{name}");
     }
 }

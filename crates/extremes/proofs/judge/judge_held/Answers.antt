@@ -1,6 +1,4 @@
-use Rattle.std.proofs.Common.{subst}
 use Rattle.std.proofs.lemmas.Result.{IfOk-weaker}
-use Rattle.rank_query.specs.Asked.{IsAsked}
 use Rattle.extremes.proofs.Answering.{accepted_right}
 use Rattle.extremes.proofs.judge.judge_held.Goals as goal
 

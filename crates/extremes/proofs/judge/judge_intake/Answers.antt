@@ -7,5 +7,6 @@ returns-clause-ok c =
     judges_input c.args.intake c.in_ok-taken.taken.query c.in_ok-taken.taken.held c.args.report.now
     c.args.certificate.now c.in_ok-verdict.verdict c.papers_of_one_element.ensures.right_report
     c.papers_of_one_element.ensures.right_certificate
+    c.papers_are_said.ensures.report c.papers_are_said.ensures.certificate
     c.verdict_of_one_element.ensures c.in_ok-taken.ensures.ok
     c.in_ok-verdict.ensures.verdict c.in_ok-verdict.ensures.accepted

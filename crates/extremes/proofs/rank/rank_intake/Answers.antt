@@ -8,7 +8,8 @@ pub returns-in-Ok-clause-ok : goal.returns-in-Ok-clause-ok
 returns-in-Ok-clause-ok g c =
     IfOk-weaker c.ranked_by_crew-answer.result _ _ (λ papers are.
     answers_input c.args.intake _ _ papers c.papers_of_one_element.ensures.right_report
-    c.papers_of_one_element.ensures.right_certificate c.in-Ok.ensures.ok are)
+    c.papers_of_one_element.ensures.right_certificate c.papers_are_said.ensures.report
+    c.papers_are_said.ensures.certificate c.in-Ok.ensures.ok are)
     c.ranked_by_crew-answer.ensures.ok
 
 -- want of memory is a refusal of any input

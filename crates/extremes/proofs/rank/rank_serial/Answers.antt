@@ -9,6 +9,7 @@ returns-clause-ok c =
     (answers_input c.of_files-intake.result c.in_ok-taken.taken.query c.in_ok-taken.taken.held
     c.in_ok-ranked_alone.field-0
     c.papers_of_one_element.ensures.right_report c.papers_of_one_element.ensures.right_certificate
+    c.papers_are_said.ensures.report c.papers_are_said.ensures.certificate
     c.in_ok-taken.ensures.ok c.in_ok-ranked_alone.ensures.right).is
     (given c.args.query.now c.args.stations.now (map (λ file. file.now) c.args.files.now))
     c.of_files-intake.ensures

@@ -1,6 +1,4 @@
-use Rattle.rank_blocks.proofs.Cited.{◌≡◌, ◌<◌, ◌^◌, to_z, of_z, w32, sym, ap, ◌∙◌, subst, arith, rules, to_z-of_z}
-use Rattle.rank_blocks.proofs.Cited.{HasNone, next_block}
-use Rattle.rank_blocks.proofs.DayValues.{rise-from_by_day}
+use Rattle.rank_blocks.proofs.Cited.{◌≡◌, ◌<◌, ◌^◌, to_z, of_z, w32, sym, arith, rules, to_z-of_z, rise-from_by_day}
 use Rattle.rank_blocks.proofs.ReadBlocks.{block-IsBlock, read-more, read-next}
 use Rattle.rank_blocks.proofs.blocks.add_block.Goals as goal
 
@@ -20,7 +18,6 @@ pub returns-in-None : goal.returns-in-None
 returns-in-None c =
     let s = c.args.series.now in
     let number : to_z w32 (of_z w32 c.args.number) ≡ c.args.number = to_z-of_z w32 _ c.ranges.number in
-    let none : HasNone s.days c.args.number = subst (HasNone s.days) number c.in-None.ensures.none in
-    let next = read-next c.args.score s c.args.number c.args.summaries.now.items c.requires none c.next_block.result
-    (sym (c.next_block.ensures ∙ ap (next_block s.days) number)) in
+    let next = read-next c.args.score s c.args.number c.args.summaries.now.items c.requires
+    (rw number at c.in-None.ensures.none) c.next_block.result (rw number at (sym c.next_block.ensures)) in
     record { read = next.0; later = next.1 }

@@ -1,6 +1,5 @@
-use Rattle.rank_blocks.proofs.Cited.{◌≡◌, inl, inr, ℕ, ℤ, pos, neg_ℤ, ◌*ℤ◌, to_z, of_z, w64, sym, ap, ◌∙◌, subst, arith}
-use Rattle.rank_blocks.proofs.Cited.{int_min, ints, Score, Highest, Lowest, Spell, IsBound, IsGreatest, IsTotalFrom}
-use Rattle.rank_blocks.proofs.Cited.{AreSummaries}
+use Rattle.rank_blocks.proofs.Cited.{◌≡◌, inl, inr, ℤ, pos, neg_ℤ, ◌*ℤ◌, to_z, of_z, w64, sym, ◌∙◌, arith, int_min}
+use Rattle.rank_blocks.proofs.Cited.{ints, Highest, Lowest, Spell, AreOfBlocks, HasDay, ap₂}
 use Rattle.rank_blocks.proofs.BlockSteps.{near-read}
 use Rattle.rank_blocks.proofs.BoundsMet.{score_of, day-met, spell-met, sum-met, bound-for}
 use Rattle.rank_scores.specs.declared.spell.Spell.TheVariants as kinds
@@ -9,17 +8,13 @@ use Rattle.rank_blocks.proofs.blocks.bound_of.Goals as goal
 -- the greatest score of a day
 pub returns-in-Highest-clause-bound : goal.returns-in-Highest-clause-bound
 returns-in-Highest-clause-bound c = λ s are of.
-    let read = near-read _ c.greatest_day.ensures.near in
-    let asked : Score → Type 0 = λ k. AreSummaries k s c.args.blocks.now in
-    subst (IsBound c.args.query.now s) (sym read) (elim c.in-Highest.is [
+    let met = λ (f : ℤ → ℤ) (have : AreOfBlocks (HasDay f s.days) s c.args.blocks.now).
+    day-met _ _ s _ c.of-range.ensures.range of f _ have c.greatest_day.ensures.value in
+    let score = sym c.score.ensures.score in
+    rw (near-read _ c.greatest_day.ensures.near) (elim c.in-Highest.is [
       | inl highest ↦
-          let is = sym c.score.ensures.score ∙ highest.1 in
-          bound-for _ s (Highest highest.0) _ is
-          (day-met _ _ s _ c.of-range.ensures.range of (λ v. v) _ (subst asked is are) c.greatest_day.ensures.value)
-      | inr lowest ↦
-          let is = sym c.score.ensures.score ∙ lowest.1 in
-          bound-for _ s (Lowest lowest.0) _ is
-          (day-met _ _ s _ c.of-range.ensures.range of neg_ℤ _ (subst asked is are) c.greatest_day.ensures.value)
+          let is = score ∙ highest.1 in bound-for _ s (Highest highest.0) _ is (met (λ v. v) (rw is at are))
+      | inr lowest ↦ let is = score ∙ lowest.1 in bound-for _ s (Lowest lowest.0) _ is (met neg_ℤ (rw is at are))
     ])
 
 -- the smaller of n times the greatest value and the greatest total
@@ -29,14 +24,11 @@ returns-in-Sum-clause-bound c = λ s are of.
     let day = near-read _ c.greatest_day-in-Sum.ensures.near in
     let total : to_z w64 (of_z w64 c.greatest_total.result) ≡ c.greatest_total.result = omega (arith, ints) in
     let fits : to_z w64 (of_z w64 c.smaller.result) ≡ c.smaller.result = omega (arith, ints) in
-    let Total : ℕ → Type 0 = λ w. IsGreatest (IsTotalFrom c.of-range.result c.args.blocks.now w)
-    c.greatest_total.result in
-    sum-met _ _ s _ c.of-range.ensures.range of (subst (λ (k : Score). AreSummaries k s c.args.blocks.now) is are)
-    c.in-Sum.n c.in-Sum.field-1 _ _ _ c.score.ensures.asked is c.greatest_day-in-Sum.ensures.value
-    (λ falls rises. subst Total c.window_blocks.ensures (c.greatest_total.ensures falls rises))
-    (fits ∙ c.smaller.ensures
-    ∙ ap (λ (z : ℤ). int_min (pos c.in-Sum.n *ℤ z) (to_z w64 (of_z w64 c.greatest_total.result))) day
-    ∙ ap (λ (z : ℤ). int_min (pos c.in-Sum.n *ℤ c.greatest_day-in-Sum.result) z) total)
+    sum-met _ _ s _ c.of-range.ensures.range of (rw is at are)
+    c.in-Sum.n c.in-Sum.field-1 _ c.greatest_total.result _ c.score.ensures.asked is
+    c.greatest_day-in-Sum.ensures.value
+    (λ falls rises. rw (← c.window_blocks.ensures) (c.greatest_total.ensures falls rises))
+    (fits ∙ c.smaller.ensures ∙ ap₂ (λ (y z : ℤ). int_min (pos c.in-Sum.n *ℤ y) z) day total)
 
 -- the longest run of days that count
 pub returns-in-Dry-clause-bound : goal.returns-in-Dry-clause-bound
@@ -45,11 +37,8 @@ returns-in-Dry-clause-bound c = λ s are of.
     let score = sym c.score.ensures.score in
     let met = λ (k : Spell) (is : c.args.query.now.score ≡ score_of k). spell-met _ _ s _ c.of-range.ensures.range of k
     c.longest_run.result is are (c.longest_run.ensures k s) in
-    subst (IsBound c.args.query.now s) read (elim c.in-Dry.is [
+    rw (← read) (elim c.in-Dry.is [
       | inl dry ↦ met kinds.Dry (score ∙ dry)
       | inr others ↦
-          elim others [
-            | inl wet ↦ met kinds.Wet (score ∙ wet)
-            | inr hot ↦ met (kinds.Hot hot.0) (score ∙ hot.1)
-          ]
+          elim others [ inl wet ↦ met kinds.Wet (score ∙ wet) | inr hot ↦ met (kinds.Hot hot.0) (score ∙ hot.1) ]
     ])

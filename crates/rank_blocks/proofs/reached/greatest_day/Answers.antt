@@ -1,4 +1,4 @@
-use Rattle.rank_blocks.proofs.Cited.{ints, arith, ℤ, Option, Some, sym, ap, ◌∙◌, subst, IfSome, IsNear}
+use Rattle.rank_blocks.proofs.Cited.{ints, arith, ℤ, Some, sym, ap, ◌∙◌}
 use Rattle.rank_blocks.proofs.BlockSteps.{greatest-in, greatest-out, near-read}
 use Rattle.rank_blocks.proofs.PossibleBlocks.{possible-at}
 use Rattle.rank_blocks.proofs.reached.greatest_day.Goals.{then-is_in, else-is_in}
@@ -12,17 +12,11 @@ loop-block-preserved c =
     elim c.if-is_in.branch [
       | then-is_in w ↦
           let found = w.found-is ∙ ap (λ (z : ℤ). Some z) (near-read _ w.greater.ensures.near) in
-          record {
-            found =
-                greatest-in (λ m. m.day) c.args.range c.args.blocks.now c.loop-block.block-index lt _ _
-                w.greater.result (sym c.is_in.ensures ∙ w.if-is_in.true) so_far
-                (sym (near-read _ (possible-at c.args.blocks.now c.loop-block.block-index lt c.requires).near))
-                w.greater.ensures.greatest ∙ sym found;
-            near = subst (λ (o : Option ℤ). IfSome o IsNear) (sym found) w.greater.ensures.near;
+          let day = near-read _ (possible-at c.args.blocks.now c.loop-block.block-index lt c.requires).near in
+          rw found record {
+            found = greatest-in (λ m. m.day) c.args.range c.args.blocks.now c.loop-block.block-index lt _ _
+                w.greater.result (sym c.is_in.ensures ∙ w.if-is_in.true) so_far (sym day) w.greater.ensures.greatest;
+            near = w.greater.ensures.near;
           }
-      | else-is_in w ↦
-          record {
-            found = grind (arith, ints, greatest-out);
-            near = subst (λ (o : Option ℤ). IfSome o IsNear) (sym w.found-is) c.loop-block.invariant.near;
-          }
+      | else-is_in w ↦ grind (arith, ints, greatest-out)
     ]

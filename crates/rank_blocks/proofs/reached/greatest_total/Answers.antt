@@ -1,5 +1,5 @@
 use Rattle.rank_blocks.proofs.Cited.{◌≡◌, ℕ, List, ℤ, sym, ap, ◌∙◌, arith, rules, ints, clamps, Summary}
-use Rattle.rank_blocks.proofs.Cited.{summaries_total}
+use Rattle.rank_blocks.proofs.Cited.{summaries_total, ap₂}
 use Rattle.rank_blocks.specs.declared.window.Window.{Window}
 use Rattle.rank_blocks.proofs.PossibleBlocks.{block_at, possible-drop}
 use Rattle.rank_blocks.proofs.BlockSteps.{left-whole, most-in, most-out, most-end}
@@ -23,8 +23,8 @@ loop-index-preserved c = λ rises.
     let far = c.loop-index.invariant rises in
     elim c.if-is_in.branch [
       | then-is_in w ↦
-          let total = w.window_total.ensures ∙ of_window _ w.window.result _ _ w.window.ensures.first
-          w.window.ensures.width
+          let total = w.window_total.ensures
+          ∙ ap₂ (summaries_total _) w.window.ensures.width w.window.ensures.first
           ∙ ap (λ ks. summaries_total ks c.args.width (block_at ms i).number) (left-whole ms i) in
           most-in c.args.range c.args.width ms i _ far c.requires c.loop-index-test.true _
           (w.greatest-is ∙ omega (arith, ints, clamps)) (sym c.is_in.ensures ∙ w.if-is_in.true)

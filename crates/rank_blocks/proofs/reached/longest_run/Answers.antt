@@ -1,6 +1,6 @@
-use Rattle.rank_blocks.proofs.Cited.{rules, ◌≡◌, ◌+◌, pos, to_z, w64, sym, ◌∙◌, subst, arith, ints, IsGreatest}
+use Rattle.rank_blocks.proofs.Cited.{rules, ◌≡◌, pos, to_z, w64, sym, ◌∙◌, subst, arith, ints, IsGreatest}
 use Rattle.rank_blocks.proofs.PossibleBlocks.{possible-few}
-use Rattle.rank_blocks.proofs.RangeRuns.{IsTold, told-start, told-in, told-out, told-end}
+use Rattle.rank_blocks.proofs.RangeRuns.{told-start, told-in, told-out, told-end}
 use Rattle.rank_blocks.proofs.reached.longest_run.Goals.{then-is_in, else-is_in}
 use Rattle.rank_blocks.proofs.reached.longest_run.Goals as goal
 
@@ -19,13 +19,11 @@ loop-block-preserved c =
     let far = c.loop-block.invariant in
     elim c.if-is_in.branch [
       | then-is_in w ↦
-          subst (IsTold c.args.range c.args.blocks.now (i + 1)) (sym w.runs-is)
-          (told-in c.args.range c.args.blocks.now i _ far c.requires c.loop-block-test.true w.add-runs.result
-          (sym c.is_in.ensures ∙ w.if-is_in.true) w.add-runs.ensures.runs w.add-runs.ensures.next
+          rw w.runs-is (told-in c.args.range c.args.blocks.now i _ far c.requires c.loop-block-test.true
+          w.add-runs.result (sym c.is_in.ensures ∙ w.if-is_in.true) w.add-runs.ensures.runs w.add-runs.ensures.next
           w.add-runs.ensures.room)
       | else-is_in w ↦
-          subst (IsTold c.args.range c.args.blocks.now (i + 1)) (sym w.runs-is)
-          (told-out c.args.range c.args.blocks.now i _ far (sym c.is_in.ensures ∙ w.if-is_in.false))
+          rw w.runs-is (told-out c.args.range c.args.blocks.now i _ far (sym c.is_in.ensures ∙ w.if-is_in.false))
     ]
 
 -- behind the last block

@@ -1,7 +1,6 @@
 use Rattle.rank_blocks.proofs.Cited.{arith, rules, ints}
 use Rattle.rank_blocks.proofs.BlockSteps.{sum-bounds, sum-in, sum-out, sum-past}
 use Rattle.rank_blocks.proofs.PossibleBlocks.{possible-few}
-use Rattle.rank_blocks.proofs.reached.window_total.Goals.{then-holds, else-holds}
 use Rattle.rank_blocks.proofs.reached.window_total.Goals as goal
 
 -- behind the window

@@ -1,5 +1,4 @@
-use Rattle.rank_blocks.proofs.Cited.{◌≡◌, ◌*◌, ◌%◌, ◌^◌, get_or, pos, SFits, w32, ℕ, ap, ◌∙◌, rules, ◌==◌, bit_or}
-use Rattle.rank_blocks.proofs.Cited.{bit_at, to_z-of_z, test_of}
+use Rattle.rank_blocks.proofs.Cited.{◌≡◌, get_or, pos, SFits, w32, ap, ◌∙◌, rules, to_z-of_z, test_of}
 use Rattle.rank_blocks.proofs.ValueSteps.{word-more, word-unread}
 use Rattle.rank_scores.specs.declared.spell.Spell.TheVariants as spells
 use Rattle.rank_blocks.proofs.values.dry_places.Goals as goal
@@ -14,13 +13,8 @@ loop-place-preserved c =
     let fits : SFits w32 (get_or values p (pos 0)) = search rules in
     let is : c.passes.result ≡ test_of spells.Dry (get_or values p (pos 0)) =
     c.passes.ensures ∙ ap (test_of spells.Dry) (to_z-of_z w32 _ fits) in
-    let word : c.from.result * 2 ^ p % 2 ^ 32 ≡ _ = ap (λ (k : ℕ). k * 2 ^ p % 2 ^ 32) c.from.ensures in
-    record {
-      read = λ j below.
-          ap (λ (k : ℕ). bit_at (bit_or dry k) j == 1) word
-          ∙ word-more (test_of spells.Dry) values dry p c.passes.result lt is c.loop-place.invariant.unread
-          c.loop-place.invariant.read j below;
-      unread = λ j le.
-          ap (λ (k : ℕ). bit_at (bit_or dry k) j) word
-          ∙ word-unread (test_of spells.Dry) values dry p c.passes.result lt is c.loop-place.invariant.unread j le;
+    rw c.from.ensures record {
+      read = word-more (test_of spells.Dry) values dry p c.passes.result lt is c.loop-place.invariant.unread
+          c.loop-place.invariant.read;
+      unread = word-unread (test_of spells.Dry) values dry p c.passes.result lt is c.loop-place.invariant.unread;
     }

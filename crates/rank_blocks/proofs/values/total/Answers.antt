@@ -8,8 +8,5 @@ loop-value-preserved c =
     let i = c.loop-value.value-index in
     let within : i < length values = (let size = c.told-values in let lt = c.loop-value-test.true in omega arith) in
     let fits : SFits w32 (get_or values i (pos 0)) = search rules in
-    let low = c.loop-value.invariant.low in
-    let high = c.loop-value.invariant.high in
-    let whole = c.loop-value.invariant.whole in
     let left = ap total (drop_more values i (pos 0) within) in
     record { low = omega (arith, ints); high = omega (arith, ints); whole = omega (arith, ints) }

@@ -1,5 +1,7 @@
 use Rattle.rank_papers.proofs.BestOfQuery.{best_found, best_are_one}
 use Rattle.rank_papers.proofs.FoundPapers.{reports_found, certificates_found}
+use Rattle.rank_papers.specs.Right.{IsAdmittedSeries}
+use Rattle.rank_papers.specs.RightLaws.{IsHeldSeries}
 use Rattle.rank_papers.proofs.laws.papers_are_found.Goals as goal
 
 -- the best candidates
@@ -8,7 +10,10 @@ returns-clause-best c = best_found
 
 -- of which there is one list
 pub returns-clause-one : goal.returns-clause-one
-returns-clause-one c = best_are_one
+returns-clause-one c = λ q. (
+  λ held. best_are_one q (IsHeldSeries q held),
+  λ stations files. best_are_one q (IsAdmittedSeries q stations files),
+)
 
 -- the report with them
 pub returns-clause-report : goal.returns-clause-report

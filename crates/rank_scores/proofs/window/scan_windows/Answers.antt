@@ -20,10 +20,11 @@ comes g c =
     takes c.args.id c.loop-day.invariant.at c.loop-day.invariant.few c.requires.few c.in-Some.ensures.steps
     (Decides-int_eq _ _) c.go_on.ensures
 
--- it finds a place, and room
+-- it finds a place
 pub take_in-requires-clause-first : goal.take_in-requires-clause-first
 take_in-requires-clause-first g c = search (rules, arith, anew-place)
 
+-- and room
 pub take_in-requires-clause-len : goal.take_in-requires-clause-len
 take_in-requires-clause-len g c = search (rules, arith, anew-room)
 

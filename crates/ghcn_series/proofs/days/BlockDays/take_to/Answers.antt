@@ -15,6 +15,7 @@ invariant_of-days c =
     subst (λ (z : ℤ). AreDays z (bit_and c.self.inside.left c.first_places-taken.result)) (sym (to_z-of_z w32 n near))
     (some-bits n c.self.inside.left c.first_places-taken.result c.self.invariant)
 
+-- so it is with those that stay
 pub invariant_of-self : goal.invariant_of-self
 invariant_of-self c = some-bits c.self.inside.number c.self.inside.left _ c.self.invariant
 

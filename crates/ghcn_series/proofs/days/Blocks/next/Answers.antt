@@ -18,6 +18,7 @@ returns-in_err-number-clause-none c =
     rw c.from_residual.ensures
     (sym c.self.view_is ∙ ap days_of (blocks-end _ _ _ c.self.inside.passed c.self.invariant past))
 
+-- so there is no other
 pub returns-in_err-number-clause-end : goal.returns-in_err-number-clause-end
 returns-in_err-number-clause-end c = returns-in_err-number-clause-none c
 

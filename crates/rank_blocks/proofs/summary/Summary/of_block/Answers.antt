@@ -1,5 +1,5 @@
-use Rattle.rank_blocks.proofs.Cited.{◌≡◌, map, ℤ, neg_ℤ, to_z, of_z, SFits, w32, sym, ap, ◌∙◌, subst, arith, rules}
-use Rattle.rank_blocks.proofs.Cited.{int_le, ints, to_z-of_z, Score, days_in, total, IsSummary}
+use Rattle.rank_blocks.proofs.Cited.{◌≡◌, map, to_z, of_z, SFits, w32, ap, ◌∙◌, arith, rules, int_le, ints, to_z-of_z}
+use Rattle.rank_blocks.proofs.Cited.{days_in, total, neg_ℤ, ap₂, ℤ}
 use Rattle.rank_blocks.proofs.BlockDays.{block-score, block-sum, has-day, has-days}
 use Rattle.rank_blocks.proofs.HotBlocks.{hot-bits}
 use Rattle.rank_scores.specs.declared.spell.Spell.TheVariants as kinds
@@ -8,27 +8,25 @@ use Rattle.rank_blocks.proofs.summary.Summary.of_block.Goals as goal
 -- the greatest value
 pub returns-in-Highest-clause-summary : goal.returns-in-Highest-clause-summary
 returns-in-Highest-clause-summary c = λ days rise of_block.
-    subst (λ (k : Score). IsSummary k days c.of_day.result) (sym c.in-Highest.is)
-    (has-day (λ v. v) days c.args.number c.greatest_value.result c.of_day.result (omega (arith, ints))
-    (omega (arith, ints)) (search (rules, arith, ints, block-score)))
+    rw c.in-Highest.is (has-day (λ v. v) days c.args.number c.greatest_value.result c.of_day.result
+    (omega (arith, ints)) (omega (arith, ints)) (search (rules, arith, ints, block-score)))
 
 -- the greatest of the values negated
 pub returns-in-Lowest-clause-summary : goal.returns-in-Lowest-clause-summary
 returns-in-Lowest-clause-summary c = λ days rise of_block.
-    subst (λ (k : Score). IsSummary k days c.of_day-in-Lowest.result) (sym c.in-Lowest.is)
-    (has-day neg_ℤ days c.args.number (neg_ℤ c.least_value.result) c.of_day-in-Lowest.result (omega (arith, ints))
-    (omega (arith, ints)) (search (rules, arith, ints, block-score)))
+    rw c.in-Lowest.is (has-day neg_ℤ days c.args.number (neg_ℤ c.least_value.result) c.of_day-in-Lowest.result
+    (omega (arith, ints)) (omega (arith, ints)) (search (rules, arith, ints, block-score)))
 
 -- the greatest value and the total
 pub returns-in-Sum-clause-summary : goal.returns-in-Sum-clause-summary
 returns-in-Sum-clause-summary c = λ days rise of_block.
     let number : c.of_sum.result.number ≡ c.args.number = omega (arith, ints) in
-    let whole : total c.args.values.now ≡ c.of_sum.result.total = omega (arith, ints) in
-    subst (λ (k : Score). IsSummary k days c.of_sum.result) (sym c.in-Sum.is) (record {
+    rw c.in-Sum.is (record {
       greatest_value = has-day (λ v. v) days c.args.number c.greatest_value-in-Sum.result c.of_sum.result number
           (omega (arith, ints)) (search (rules, arith, ints, block-score));
       total_value = ap (λ (n : ℤ). total (map (λ x. x.1) (days_in days n))) number
-          ∙ block-sum days rise c.args.number c.args.word c.args.values.now of_block c.told-values ∙ whole;
+          ∙ block-sum days rise c.args.number c.args.word c.args.values.now of_block c.told-values
+          ∙ omega (arith, ints);
     })
 
 -- all days, or none
@@ -38,10 +36,8 @@ returns-in-Hot-clause-summary c = λ days rise of_block.
     let degrees : to_z w32 (of_z w32 c.in-Hot.least) ≡ c.in-Hot.least = to_z-of_z w32 _ fits in
     let z = c.greatest_value-in-Hot.result in
     let value : to_z w32 (of_z w32 z) ≡ z = omega (arith, ints) in
-    subst (λ (k : Score). IsSummary k days c.of_days-in-Hot.result) (sym c.in-Hot.is)
-    (has-days (kinds.Hot c.in-Hot.least) days c.args.number c.all_or_none.result c.of_days-in-Hot.result
-    (omega (arith, ints)) (omega arith)
+    rw c.in-Hot.is (has-days (kinds.Hot c.in-Hot.least) days c.args.number c.all_or_none.result
+    c.of_days-in-Hot.result (omega (arith, ints)) (omega arith)
     (hot-bits c.in-Hot.least days c.args.number c.greatest_value-in-Hot.result c.all_or_none.result
     (search (rules, arith, ints, block-score))
-    (λ j lt. c.all_or_none.ensures j lt ∙ ap (λ (v : ℤ). int_le v (to_z w32 (of_z w32 z))) degrees
-    ∙ ap (int_le c.in-Hot.least) value)))
+    (λ j lt. c.all_or_none.ensures j lt ∙ ap₂ int_le degrees value)))

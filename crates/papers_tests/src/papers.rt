@@ -1,27 +1,24 @@
 //! Reports of one candidate, both papers of a run, and papers that are read.
 
+use crate::data::{A, B, CERTIFICATE, REPORT, usual_data};
 use ghcn_fields::Day;
 use ghcn_files::{StationId, Stations};
-use ghcn_series::Data;
 use rank_papers::{PaperFault, certificate, read_certificate, read_report, report, report_of_best};
 use rank_query::Query;
 use rank_sched::{Plan, run_alone};
 use rank_scores::Candidate;
-use std::alloc::{AllocError, Global};
+use std::alloc::Global;
 use std::fmt::Write;
 use std::test::Fail;
 
-const STATIONS: &[u8] =
+/// Two stations, of which the second has no name.
+const TWO_STATIONS: &[u8] =
     b"ZZA00000001  10.0000   20.0000  100.0    ALPHA\nZZA00000002  11.0000   21.0000\n";
-
-const ALPHA: StationId = StationId(*b"ZZA00000001");
-
-const NAMELESS: StationId = StationId(*b"ZZA00000002");
 
 /// The report of a query with one candidate of a station, of 2020-07-01 and 2020-07-02.
 fn report_of_one(alloc: Global, query: &str, id: StationId, score: i64) -> Result<Vec<u8>, Fail> {
     let query = Query::parse(query)?;
-    let stations = Stations::read(alloc, STATIONS)?;
+    let stations = Stations::read(alloc, TWO_STATIONS)?;
     if stations.get(&id).is_none() {
         return Err(Fail::from("the station isn't listed"));
     }
@@ -37,14 +34,14 @@ fn report_of_one(alloc: Global, query: &str, id: StationId, score: i64) -> Resul
 #[test]
 fn values_units_and_names(rt: HostRuntime) -> Result<(), Fail> {
     let cases: [(&str, StationId, i64, &str); 8] = [
-        ("top 1 highest TMAX", ALPHA, 311, "31.1 C ALPHA\nend 1\n"),
-        ("top 2 highest TMIN", ALPHA, -5, "-0.5 C ALPHA\nend 1 all\n"),
-        ("top 1 lowest TMIN", ALPHA, 103, "-10.3 C ALPHA\nend 1\n"),
-        ("top 1000 lowest TMAX", NAMELESS, -3, "0.3 C\nend 1 all\n"),
-        ("top 1 highest PRCP", ALPHA, 3, "0.3 mm ALPHA\nend 1\n"),
-        ("top 1 sum 2 SNOW", NAMELESS, 30, "30 mm\nend 1\n"),
-        ("top 1 highest SNWD", ALPHA, 1200, "1200 mm ALPHA\nend 1\n"),
-        ("top 1 dry", ALPHA, 14, "14 days ALPHA\nend 1\n"),
+        ("top 1 highest TMAX", A, 311, "31.1 C ALPHA\nend 1\n"),
+        ("top 2 highest TMIN", A, -5, "-0.5 C ALPHA\nend 1 all\n"),
+        ("top 1 lowest TMIN", A, 103, "-10.3 C ALPHA\nend 1\n"),
+        ("top 1000 lowest TMAX", B, -3, "0.3 C\nend 1 all\n"),
+        ("top 1 highest PRCP", A, 3, "0.3 mm ALPHA\nend 1\n"),
+        ("top 1 sum 2 SNOW", B, 30, "30 mm\nend 1\n"),
+        ("top 1 highest SNWD", A, 1200, "1200 mm ALPHA\nend 1\n"),
+        ("top 1 dry", A, 14, "14 days ALPHA\nend 1\n"),
     ];
     for (query, id, score, end) in cases {
         let report = report_of_one(rt.alloc(), query, id, score)?;
@@ -55,7 +52,7 @@ fn values_units_and_names(rt: HostRuntime) -> Result<(), Fail> {
 
 #[test]
 fn lines_of_a_report(rt: HostRuntime) -> Result<(), Fail> {
-    let report = report_of_one(rt.alloc(), " top 01  highest TMAX", ALPHA, 311)?;
+    let report = report_of_one(rt.alloc(), " top 01  highest TMAX", A, 311)?;
     let lines: &[u8] = b"extremes report 1
 query top 1 highest TMAX
 1 ZZA00000001 2020-07-01 2020-07-02 31.1 C ALPHA
@@ -65,30 +62,9 @@ end 1
     Ok(())
 }
 
-const THREE_STATIONS: &[u8] = b"\
-ZZA00000001  10.0000   20.0000  100.0    ALPHA
-ZZA00000002  11.0000   21.0000  100.0    BRAVO
-ZZA00000003  12.0000   22.0000  100.0    CHARLIE
-";
-
-/// Writes the line of a station's greatest temperatures of the first days of July 2020.
-fn push_month(text: &mut String, id: &str, values: &[i32]) -> Result<(), AllocError> {
-    write!(text, "{id}202007TMAX")?;
-    for day in 0..31 {
-        let value = values.get(day).copied().unwrap_or(-9999);
-        write!(text, "{value:>5}   ")?;
-    }
-    text.push_str("\n")
-}
-
 /// The report and the certificate of a query over three stations, of a run of one worker.
 fn papers_of(alloc: Global, query: &str) -> Result<(Vec<u8>, Vec<u8>), Fail> {
-    let mut text = String::new(alloc);
-    push_month(&mut text, "ZZA00000001", &[311, 305])?;
-    push_month(&mut text, "ZZA00000002", &[311])?;
-    push_month(&mut text, "ZZA00000003", &[250])?;
-    let stations = Stations::read(alloc, THREE_STATIONS)?;
-    let held = Data::read(alloc, stations, &[text.as_bytes()])?;
+    let held = usual_data(alloc).ok_or("no data")?;
     let query = Query::parse(query)?;
     let plan = Plan::new(alloc, &held, &query)?;
     let answer = run_alone(alloc, &plan, None)?;
@@ -101,32 +77,10 @@ fn papers_of(alloc: Global, query: &str) -> Result<(Vec<u8>, Vec<u8>), Fail> {
 #[test]
 fn papers_of_a_run(rt: HostRuntime) -> Result<(), Fail> {
     let (report, certificate) = papers_of(rt.alloc(), "top 1 highest TMAX")?;
-    let rows: &[u8] = b"extremes report 1
-query top 1 highest TMAX
-1 ZZA00000001 2020-07-01 2020-07-01 31.1 C ALPHA
-end 1
-";
-    let lines: &[u8] = b"extremes certificate 2
-query top 1 highest TMAX
-kth 311
-scan ZZA00000001 311 1
-scan ZZA00000002 311 0
-skip ZZA00000003 250
-end 3
-";
-    assert_eq!(rt; report.as_slice(), rows);
-    assert_eq!(rt; certificate.as_slice(), lines);
+    assert_eq!(rt; report.as_slice(), REPORT.as_bytes());
+    assert_eq!(rt; certificate.as_slice(), CERTIFICATE.as_bytes());
     Ok(())
 }
-
-const CERTIFICATE: &str = "extremes certificate 2
-query top 1 highest TMAX
-kth 311
-scan ZZA00000001 311 1
-scan ZZA00000002 311 0
-skip ZZA00000003 250
-end 3
-";
 
 const CERTIFICATE_1: &str = "extremes certificate 1
 query top 1 highest TMAX
@@ -227,7 +181,7 @@ fn first_bad_lines_of_certificates(rt: HostRuntime) -> Result<(), Fail> {
     Ok(())
 }
 
-const REPORT: &str = "extremes report 1
+const FOUR_ROWS: &str = "extremes report 1
 query top 10 highest TMAX
 1 ZZA00000001 2020-07-01 2020-07-01 31.1 C ALPHA
 2 ZZA00000002 2020-07-01 2020-07-01 31.1 C BRAVO
@@ -238,13 +192,13 @@ end 4 all
 
 #[test]
 fn report_read_back(rt: HostRuntime) -> Result<(), Fail> {
-    let Ok(read) = read_report(rt.alloc(), REPORT.as_bytes()) else {
+    let Ok(read) = read_report(rt.alloc(), FOUR_ROWS.as_bytes()) else {
         return Err(Fail::from("it isn't read"));
     };
     assert_eq!(rt; read.query.k(), 10);
     assert_eq!(rt; read.rows.len(), 4);
     assert!(rt; read.all);
-    assert_eq!(rt; read.rows[0].candidate.id, ALPHA);
+    assert_eq!(rt; read.rows[0].candidate.id, A);
     assert_eq!(rt; Some(read.rows[0].candidate.last), Day::of(2020, 7, 1));
     assert_eq!(rt; read.rows[0].candidate.score, 311);
     assert_eq!(rt; read.rows[2].candidate.score, -250);

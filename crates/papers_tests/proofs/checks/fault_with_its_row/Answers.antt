@@ -1,5 +1,5 @@
 use Rattle.rank_check.proofs.RowsWithin.{own_within}
-use Rattle.ranking_tests.proofs.checks.fault_with_its_row.Goals as goal
+use Rattle.papers_tests.proofs.checks.fault_with_its_row.Goals as goal
 
 -- the only row is the worst
 pub check_line-requires : goal.check_line-requires

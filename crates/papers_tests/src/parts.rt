@@ -1,30 +1,14 @@
 //! Papers of a whole archive, judged in parts.
 
-use ghcn_files::Stations;
+use crate::data::{CERTIFICATE, REPORT, STATIONS, push_month, read};
 use ghcn_series::Data;
 use rank_papers::{certificate, report};
 use rank_parts::{PartVerdict, check_part};
 use rank_query::Query;
 use rank_sched::{Plan, run_alone};
-use std::alloc::{AllocError, Global};
+use std::alloc::Global;
 use std::fmt::Write;
 use std::test::Fail;
-
-const STATIONS: &[u8] = b"\
-ZZA00000001  10.0000   20.0000  100.0    ALPHA
-ZZA00000002  11.0000   21.0000  100.0    BRAVO
-ZZA00000003  12.0000   22.0000  100.0    CHARLIE
-";
-
-/// Writes the line of a station's greatest temperatures of the first days of July 2020.
-fn push_month(text: &mut String, id: &str, values: &[i32]) -> Result<(), AllocError> {
-    write!(text, "{id}202007TMAX")?;
-    for day in 0..31 {
-        let value = values.get(day).copied().unwrap_or(-9999);
-        write!(text, "{value:>5}   ")?;
-    }
-    text.push_str("\n")
-}
 
 /// The data of one of two parts: of the first and the third station, or of the second.
 fn part(alloc: Global, first: bool) -> Result<Data, Fail> {
@@ -35,8 +19,7 @@ fn part(alloc: Global, first: bool) -> Result<Data, Fail> {
     } else {
         push_month(&mut text, "ZZA00000002", &[311])?;
     }
-    let stations = Stations::read(alloc, STATIONS)?;
-    Ok(Data::read(alloc, stations, &[text.as_bytes()])?)
+    Ok(read(alloc, STATIONS, text.as_bytes()).ok_or("no data")?)
 }
 
 /// What a part prints of two papers of the highest temperature.
@@ -51,12 +34,6 @@ fn line_of(alloc: Global, held: &Data, report: &str, certificate: &str) -> Resul
     )?;
     Ok(format!(in alloc; "{verdict}")?)
 }
-
-const REPORT: &str = "extremes report 1
-query top 1 highest TMAX
-1 ZZA00000001 2020-07-01 2020-07-01 31.1 C ALPHA
-end 1
-";
 
 const OTHER_NAME: &str = "extremes report 1
 query top 1 highest TMAX
@@ -73,15 +50,6 @@ end 1
 const OTHER_QUERY: &str = "extremes report 1
 query top 2 highest TMAX
 end 0 all
-";
-
-const CERTIFICATE: &str = "extremes certificate 2
-query top 1 highest TMAX
-kth 311
-scan ZZA00000001 311 1
-scan ZZA00000002 311 0
-skip ZZA00000003 250
-end 3
 ";
 
 const CERTIFICATE_1: &str = "extremes certificate 1
@@ -215,8 +183,7 @@ fn many_data(alloc: Global, list: &str, from: u64, to: u64) -> Result<Data, Fail
         write!(id, "ZZB{station:>08}")?;
         push_month(&mut text, id.as_str(), &[300, 200])?;
     }
-    let stations = Stations::read(alloc, list.as_bytes())?;
-    Ok(Data::read(alloc, stations, &[text.as_bytes()])?)
+    Ok(read(alloc, list.as_bytes(), text.as_bytes()).ok_or("no data")?)
 }
 
 #[test]

@@ -1,5 +1,5 @@
 use Rattle.rank_papers.proofs.PlanPapers.{answer_of_crew}
-use Rattle.ranking_tests.proofs.papers.papers_of.Goals as goal
+use Rattle.papers_tests.proofs.papers.papers_of.Goals as goal
 
 -- a run of one worker answers for its plan
 pub report-requires : goal.report-requires

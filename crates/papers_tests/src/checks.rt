@@ -1,7 +1,6 @@
 //! Lines of a certificate, and stations without one, judged by themselves.
 
-use crate::days::{A, B, C};
-use crate::sched::usual_data;
+use crate::data::{A, B, C, usual_data};
 use ghcn_fields::Day;
 use ghcn_files::StationId;
 use rank_check::{Why, check_absent, check_line};
