@@ -3,7 +3,7 @@ use Rattle.std.proofs.Common.{◌≡◌, List, [], ◌∷◌, Some, None, option
 use Rattle.clap.specs.Words.{Text, fault_of, subcommand_of, first_of, one_of, all_of}
 use Rattle.clap.specs.declared.error.ErrorKind.TheVariants.{DisplayVersion, MissingRequiredArgument, ValueValidation}
 use Rattle.clap.proofs.OnLiterals.{clap_on_literals}
-use Rattle.command_line.specs.CommandLine.{extremes_app, papers_of}
+use Rattle.command_line.specs.CommandLine.{extremes_app, papers_to_merge}
 
 -- a command line with both options, a guess and two files
 abbrev words : List Text
@@ -105,7 +105,7 @@ unfolding clap_on_literals
 merge_read = refl
 
 -- its papers are those four, in order
-merge_papers : option_map (λ p. papers_of p.1) (subcommand_of extremes_app to_merge)
+merge_papers : option_map (λ p. papers_to_merge p.1) (subcommand_of extremes_app to_merge)
     ≡ Some (codes "r" ∷ codes "c" ∷ codes "s" ∷ codes "d" ∷ [])
 unfolding clap_on_literals
 merge_papers = refl
@@ -116,7 +116,7 @@ unfolding clap_on_literals
 merge_writes = refl
 
 -- without papers there are none
-no_papers : option_map (λ p. papers_of p.1)
+no_papers : option_map (λ p. papers_to_merge p.1)
     (subcommand_of extremes_app (codes "extremes" ∷ codes "merge" ∷ codes "--query=q" ∷ [])) ≡ Some []
 unfolding clap_on_literals
 no_papers = refl
@@ -137,7 +137,7 @@ unfolding clap_on_literals
 odd_read = refl
 
 -- its subcommand has that one paper
-odd_papers : option_map (λ p. papers_of p.1) (subcommand_of extremes_app odd) ≡ Some (codes "r" ∷ [])
+odd_papers : option_map (λ p. papers_to_merge p.1) (subcommand_of extremes_app odd) ≡ Some (codes "r" ∷ [])
 unfolding clap_on_literals
 odd_papers = refl
 

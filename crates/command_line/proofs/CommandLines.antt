@@ -21,7 +21,7 @@ use Rattle.clap.specs.declared.parser.matches.ArgMatches.TheViews.{out-SubComman
 use Rattle.command_line.specs.declared.asked.Part.{Part}
 use Rattle.command_line.specs.declared.asked.Command.{Command}
 use Rattle.command_line.specs.declared.asked.Command.TheVariants.{Sample, Rank, Merge, Check, Describe}
-use Rattle.command_line.specs.CommandLine.{extremes_app, paths_of, papers_of, AreInPairs, IsGuess, IsCount, IsFlag}
+use Rattle.command_line.specs.CommandLine.{extremes_app, paths_of, papers_to_merge, AreInPairs, IsGuess, IsCount, IsFlag}
 use Rattle.command_line.specs.CommandLine.{IsCommand, IsCommandOf}
 
 -- what is some value is it
@@ -193,7 +193,7 @@ command-met words o name rows c read rows_are met behind is =
     }
 
 -- so do papers that are lent, where those of the rows do
-pub lent-pairs : (papers : List (Bor Text)) (rows : List Row) → map (λ s. s.now) papers ≡ papers_of rows
+pub lent-pairs : (papers : List (Bor Text)) (rows : List Row) → map (λ s. s.now) papers ≡ papers_to_merge rows
     → AreInPairs rows → length papers % 2 ≡ 0
 lent-pairs papers rows same pairs =
     ap (λ (n : ℕ). n % 2) (sym (length-map papers (λ (s : Bor Text). s.now)) ∙ ap (λ (ts : List Text). length ts) same)

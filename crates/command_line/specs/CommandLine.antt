@@ -98,19 +98,19 @@ extremes_app = with_subcommand (with_subcommand (with_subcommand (with_subcomman
 }) rank_app.top) merge_app.top) check_app.top) describe_app.top
 
 -- all words, the program's name first
-abbrev pub words_of : {A : Type 0} → List (String A) → List Text
-words_of words = codes "extremes" ∷ map (λ w. string_bytes w) words
+abbrev pub all_words : {A : Type 0} → List (String A) → List Text
+all_words words = codes "extremes" ∷ map (λ w. string_bytes w) words
 
 -- the papers that `merge` is given, in their order
-abbrev pub papers_of : List Row → List Text
-papers_of rows = unwrap_or (all_of (codes "papers") rows) []
+abbrev pub papers_to_merge : List Row → List Text
+papers_to_merge rows = unwrap_or (all_of (codes "papers") rows) []
 
 -- there are two of each part
 abbrev pub AreInPairs : List Row → Type 0
-AreInPairs rows = length (papers_of rows) % 2 ≡ 0
+AreInPairs rows = length (papers_to_merge rows) % 2 ≡ 0
 
 -- the words are a right command line: `clap` has no fault to tell, and papers to merge stand in pairs
-pub record AreRight (words : List Text) : Type 0 where
+pub record AreRightWords (words : List Text) : Type 0 where
   pub read : fault_of extremes_app words ≡ []
   pub paired : (rows : List Row) → subcommand_of extremes_app words ≡ Some (codes "merge", rows) → AreInPairs rows
 
@@ -164,7 +164,7 @@ IsMerge rows (Describe stations files) = ⊥
 IsMerge rows (Merge query certificate parts) =
     (string_bytes query ≡ unwrap_or (first_of (codes "query") rows) [])
     × (option_map (λ s. string_bytes s) certificate ≡ first_of (codes "certificate") rows)
-    × (paths_of parts.items ≡ papers_of rows)
+    × (paths_of parts.items ≡ papers_to_merge rows)
 
 -- the same for a subcommand that judges papers
 abbrev pub IsCheck : List Row → Command → Type 0
@@ -200,7 +200,7 @@ IsCommand name rows c = ((name ≡ codes "rank") × IsRank rows c)
 pub record IsCommandOf (words : List Text) (c : Command) : Type 0 where
   pub name : Text
   pub rows : List Row
-  pub right : AreRight words
+  pub right : AreRightWords words
   pub entered : subcommand_of extremes_app words ≡ Some (name, rows)
   pub named : IsCommand name rows c
 

@@ -5,7 +5,7 @@ ghost use Rattle.clap.specs.Words.{app_of, first_of, kind_of, found_of, rows_of,
 ghost use Rattle.clap.specs.declared.builder.Command.TheViews.{out-Command as fields_of};
 ghost use Rattle.command_line.specs.CommandLine.{extremes_app, rank_app, merge_app, check_app, describe_app};
 ghost use Rattle.command_line.specs.CommandLine.{option_of, flag_of, required, many_of, is_global, paths_of};
-ghost use Rattle.command_line.specs.CommandLine.{words_of, AreRight, AreInPairs, IsCommandOf};
+ghost use Rattle.command_line.specs.CommandLine.{all_words, AreRightWords, AreInPairs, IsCommandOf};
 ghost use Rattle.command_line.specs.CommandLine.{IsRank, IsMerge, IsCheck, IsDescribe};
 ghost use Rattle.command_line.specs.CommandLine.{AskVersion, MayAskVersion, TellsVersion, OnVersion};
 ghost use Rattle.command_line.specs.declared.asked.Command.TheVariants as commands;
@@ -29,13 +29,13 @@ pub fn command(alloc: Global, words: Vec<String>) -> Result<Command, CommandFaul
     // No words ask for the sample.
     ensures none { words.items ≡ [] → result ≡ Ok commands.Sample }
     // Other words are a command only where they are right, and it is the one that they name.
-    ensures named { words.items ≢ [] → IfOk result (IsCommandOf (words_of words.items)) }
+    ensures named { words.items ≢ [] → IfOk result (IsCommandOf (all_words words.items)) }
     // Right words are refused for want of memory alone.
-    ensures right { AreRight (words_of words.items) → IfErr result (λ f. f ≡ faults.Memory) }
+    ensures right { AreRightWords (all_words words.items) → IfErr result (λ f. f ≡ faults.Memory) }
     // Words that ask for the version are told it, unless memory is refused.
-    ensures version { words.items ≢ [] → AskVersion (words_of words.items) → IfErr result TellsVersion }
+    ensures version { words.items ≢ [] → AskVersion (all_words words.items) → IfErr result TellsVersion }
     // No others are.
-    ensures asked { IfErr result (OnVersion (MayAskVersion (words_of words.items))) }
+    ensures asked { IfErr result (OnVersion (MayAskVersion (all_words words.items))) }
 {
     if words.is_empty() {
         return Ok(Command::Sample);
@@ -64,10 +64,10 @@ fn fault_of(alloc: Global, error: &Error) -> CommandFault
 
 /// The words as one of the commands that they can name, `rank`, `merge`, `check` and `describe`.
 fn named_command(alloc: Global, words: &[String]) -> Result<Command, CommandFault>
-    ensures ok { IfOk result (IsCommandOf (words_of words.now)) }
-    ensures right { AreRight (words_of words.now) → IfErr result (λ f. f ≡ faults.Memory) }
-    ensures version { AskVersion (words_of words.now) → IfErr result TellsVersion }
-    ensures asked { IfErr result (OnVersion (MayAskVersion (words_of words.now))) }
+    ensures ok { IfOk result (IsCommandOf (all_words words.now)) }
+    ensures right { AreRightWords (all_words words.now) → IfErr result (λ f. f ≡ faults.Memory) }
+    ensures version { AskVersion (all_words words.now) → IfErr result TellsVersion }
+    ensures asked { IfErr result (OnVersion (MayAskVersion (all_words words.now))) }
 {
     let all = with_name(alloc, words)?;
     let matches = match program(alloc)?.try_get_matches_from(all.as_slice()) {
@@ -91,7 +91,7 @@ fn named_command(alloc: Global, words: &[String]) -> Result<Command, CommandFaul
 
 /// All words, the program's name first.
 fn with_name<'a>(alloc: Global, words: &'a [String]) -> Result<Vec<&'a str>, AllocError>
-    ensures { IfOk result (λ all. map (λ s. s.now) all.items ≡ words_of words.now) }
+    ensures { IfOk result (λ all. map (λ s. s.now) all.items ≡ all_words words.now) }
 {
     let mut all = Vec::with_capacity(alloc, words.len() + 1)?;
     all.push("extremes")?;

@@ -5,12 +5,12 @@ use Rattle.std.proofs.lemmas.Int.{ints}
 use Rattle.std.proofs.lemmas.List.Elements.{All-nil, All-cons, All-head, All-tail, All-weaker, All-contains}
 use Rattle.ghcn_fields.specs.Counting.{HasEachBelow}
 use Rattle.ghcn_fields.specs.Floor.{IsFloorOf}
-use Rattle.ghcn_fields.specs.CountingLaws.{all_below, has_each}
+use Rattle.ghcn_fields.proofs.CountingLaws.{all_below, has_each}
 use Rattle.rank_board.specs.declared.board.Board.{Board}
 use Rattle.rank_board.specs.declared.board.Closed.{Closed}
 use Rattle.rank_board.specs.declared.seat.Seat.{Seat}
 use Rattle.rank_board.specs.Seats.{claims_of, raised_of, rights_of, IsWhole}
-use Rattle.rank_board.specs.Calls.{Opens, Splits, Joins, AccountsForAll}
+use Rattle.rank_board.specs.Calls.{OpensBoard, Splits, Joins, AccountsForAll}
 
 -- what holds of all scores holds of each number whose score is among them
 All-map : (P : ℤ → Type 0) (xs : List ℕ) → All P (map pos xs) → All (λ x. P (pos x)) xs
@@ -66,7 +66,8 @@ DrewAll before after =
     (rights_of after ≡ 0) × (length (claims_of after) ≡ length (claims_of before) + rights_of before)
     × (raised_of after ≡ map pos (claims_of after))
 
-module _ (rights part : ℕ) (board : Board) (start left right one two seat : Seat) (o : Opens rights None board start)
+module _ (rights part : ℕ) (board : Board) (start left right one two seat : Seat)
+    (o : OpensBoard rights None board start)
     (s : Splits start part left right)
     (a : DrewAll left one) (b : DrewAll right two) (j : Joins one two seat) where
   -- all rights were spent

@@ -63,10 +63,10 @@ accepted_right q c report certificate v reports certificates asked right accepte
 )
 
 -- papers that are right for what a query needs of some data are right for these data, and the other way round
-right_for : (query : Asked) (held whole : Contents) (report certificate : List ℕ) → RightReportStays
-    → RightCertificateStays → held ≡ data_for query whole
-    → AreRightTextsFor query held report certificate ↔ AreRightTextsFor query whole report certificate
-right_for query held whole report certificate reports certificates needed =
+right_for : (query : Asked) (dataset whole : Contents) (report certificate : List ℕ) → RightReportStays
+    → RightCertificateStays → dataset ≡ data_for query whole
+    → AreRightTextsFor query dataset report certificate ↔ AreRightTextsFor query whole report certificate
+right_for query dataset whole report certificate reports certificates needed =
     subst (λ (h : Contents).
     AreRightTextsFor query h report certificate ↔ AreRightTextsFor query whole report certificate)
     (sym needed) (
@@ -84,38 +84,38 @@ right_for query held whole report certificate reports certificates needed =
 
 -- papers that are right for the data of files are right for what the files say, and the other way round
 texts_said : ReportsAreSaid → CertificatesAreSaid → (query : Asked) (stations : List Station) (files : List (List ℕ))
-    (held : Contents) (report certificate : List ℕ) → data_of stations files ≡ Ok held
-    → AreRightTextsFor query held report certificate ↔ AreRightTexts query stations files report certificate
-texts_said reports certificates query stations files held report certificate is = (
+    (dataset : Contents) (report certificate : List ℕ) → data_of stations files ≡ Ok dataset
+    → AreRightTextsFor query dataset report certificate ↔ AreRightTexts query stations files report certificate
+texts_said reports certificates query stations files dataset report certificate is = (
   λ are. (
-    (reports query stations files held report is).0 are.0,
+    (reports query stations files dataset report is).0 are.0,
     are.1,
-    (certificates are.1 query stations files held certificate is).0 are.2,
+    (certificates are.1 query stations files dataset certificate is).0 are.2,
   ),
   λ are. (
-    (reports query stations files held report is).1 are.0,
+    (reports query stations files dataset report is).1 are.0,
     are.1,
-    (certificates are.1 query stations files held certificate is).1 are.2,
+    (certificates are.1 query stations files dataset certificate is).1 are.2,
   ),
 )
 
 -- the verdict for the query and the data of an intake is that for its input
-pub judges_input : (t : Intake) (query : Asked) (held : Contents) (report certificate : List ℕ) (v : Verdict)
+pub judges_input : (t : Intake) (query : Asked) (dataset : Contents) (report certificate : List ℕ) (v : Verdict)
     → RightReportStays → RightCertificateStays → ReportsAreSaid → CertificatesAreSaid → VerdictStays
-    → HoldsInput t query held → v ≡ verdict query held report certificate
-    → (v ≡ Accepted) ↔ AreRightTextsFor query held report certificate
+    → HoldsInput t query dataset → v ≡ verdict query dataset report certificate
+    → (v ≡ Accepted) ↔ AreRightTextsFor query dataset report certificate
     → JudgesInput t report certificate v
-judges_input t query held report certificate v reports certificates reports_said certificates_said verdicts holds is
+judges_input t query dataset report certificate v reports certificates reports_said certificates_said verdicts holds is
     accepted = record {
       is = λ i taken.
           let input = holds.is i taken in
-          let right = right_for query held input.whole report certificate reports certificates input.needed in
+          let right = right_for query dataset input.whole report certificate reports certificates input.needed in
           let said = texts_said reports_said certificates_said query (stations_said i.stations) (files_of i.files)
           input.whole report certificate
           (data_is_said i.query i.stations (files_of i.files) query input.whole input.read) in
           record {
             asked = query;
-            held = input.whole;
+            dataset = input.whole;
             read = input.read;
             verdict = is ∙ ap (λ (h : Contents). verdict query h report certificate) input.needed
                 ∙ verdicts query input.whole report certificate;
@@ -124,15 +124,15 @@ judges_input t query held report certificate v reports certificates reports_said
     }
 
 -- the same for a part's verdict
-pub judges_part : (t : Intake) (query : Asked) (held : Contents) (report certificate : List ℕ) (v : PartVerdict)
-    → PartVerdictStays → HoldsInput t query held → v ≡ part_verdict query held report certificate
+pub judges_part : (t : Intake) (query : Asked) (dataset : Contents) (report certificate : List ℕ) (v : PartVerdict)
+    → PartVerdictStays → HoldsInput t query dataset → v ≡ part_verdict query dataset report certificate
     → JudgesPart t report certificate v
-judges_part t query held report certificate v verdicts holds is = record {
+judges_part t query dataset report certificate v verdicts holds is = record {
   is = λ i taken.
       let input = holds.is i taken in
       record {
         asked = query;
-        held = input.whole;
+        dataset = input.whole;
         read = input.read;
         verdict = is ∙ ap (λ (h : Contents). part_verdict query h report certificate) input.needed
             ∙ verdicts query input.whole report certificate;
@@ -140,9 +140,9 @@ judges_part t query held report certificate v verdicts holds is = record {
 }
 
 -- papers that are right for what a query needs of some data are right for these data
-papers_for : (query : Asked) (held whole : Contents) (papers : Papers) → RightReportStays → RightCertificateStays
-    → held ≡ data_for query whole → AreRightFor query held papers → AreRightFor query whole papers
-papers_for query held whole papers reports certificates needed are =
+papers_for : (query : Asked) (dataset whole : Contents) (papers : Papers) → RightReportStays → RightCertificateStays
+    → dataset ≡ data_for query whole → AreRightFor query dataset papers → AreRightFor query whole papers
+papers_for query dataset whole papers reports certificates needed are =
     let of : AreRightFor query (data_for query whole) papers =
     subst (λ (h : Contents). AreRightFor query h papers) needed are in
     record {
@@ -152,36 +152,37 @@ papers_for query held whole papers reports certificates needed are =
     }
 
 -- the papers of a query and data are right for them
-pub right_papers : (query : Asked) (held : Contents) (papers : Papers) → ReportsAreFound → CertificatesAreFound
-    → IsAsked query → IsContents held → ArePapers query held papers → AreRightFor query held papers
-right_papers query held papers reports certificates asked right are = record {
-  report = (reports query held papers.report.items asked right).0 are.report;
-  certificate = (certificates 2 query held papers.certificate.items asked right).0
+pub right_papers : (query : Asked) (dataset : Contents) (papers : Papers) → ReportsAreFound → CertificatesAreFound
+    → IsAsked query → IsContents dataset → ArePapers query dataset papers → AreRightFor query dataset papers
+right_papers query dataset papers reports certificates asked right are = record {
+  report = (reports query dataset papers.report.items asked right).0 are.report;
+  certificate = (certificates 2 query dataset papers.certificate.items asked right).0
       (are.certificate.certificate, are.certificate.version);
   unlisted = are.unlisted;
 }
 
 -- a certificate with the bounds of what a query needs of some data has those of these data
-measured_for : (query : Asked) (held whole : Contents) (bytes : List ℕ) → MeasuredStays → held ≡ data_for query whole
-    → IsMeasuredCertificate query held bytes → IsMeasuredCertificate query whole bytes
-measured_for query held whole bytes certificates needed is =
+measured_for : (query : Asked) (dataset whole : Contents) (bytes : List ℕ) → MeasuredStays
+    → dataset ≡ data_for query whole
+    → IsMeasuredCertificate query dataset bytes → IsMeasuredCertificate query whole bytes
+measured_for query dataset whole bytes certificates needed is =
     (certificates query whole bytes).0 (subst (λ (h : Contents). IsMeasuredCertificate query h bytes) needed is)
 
 -- papers that are right for a query and the data of files are right for what the files say
 right_said : ReportsAreSaid → CertificatesAreSaid → (query : Asked) (stations : List Station) (files : List (List ℕ))
-    (held : Contents) (papers : Papers) → data_of stations files ≡ Ok held → AreRightFor query held papers
+    (dataset : Contents) (papers : Papers) → data_of stations files ≡ Ok dataset → AreRightFor query dataset papers
     → AreRight query stations files papers
-right_said reports certificates query stations files held papers is are = record {
-  report = (reports query stations files held papers.report.items is).0 are.report;
-  certificate = (certificates 2 query stations files held papers.certificate.items is).0 are.certificate;
-  unlisted = are.unlisted ∙ ap (λ (c : Contents). c.unlisted) (held-said stations files held is);
+right_said reports certificates query stations files dataset papers is are = record {
+  report = (reports query stations files dataset papers.report.items is).0 are.report;
+  certificate = (certificates 2 query stations files dataset papers.certificate.items is).0 are.certificate;
+  unlisted = are.unlisted ∙ ap (λ (c : Contents). c.unlisted) (held-said stations files dataset is);
 }
 
 -- papers that are right for the query and the data of an intake answer its input
-pub answers_input : (t : Intake) (query : Asked) (held : Contents) (papers : Papers) → RightReportStays
-    → RightCertificateStays → ReportsAreSaid → CertificatesAreSaid → HoldsInput t query held
-    → AreRightFor query held papers → AnswersInput t papers
-answers_input t query held papers reports certificates reports_said certificates_said holds are = record {
+pub answers_input : (t : Intake) (query : Asked) (dataset : Contents) (papers : Papers) → RightReportStays
+    → RightCertificateStays → ReportsAreSaid → CertificatesAreSaid → HoldsInput t query dataset
+    → AreRightFor query dataset papers → AnswersInput t papers
+answers_input t query dataset papers reports certificates reports_said certificates_said holds are = record {
   is = λ i taken.
       let input = holds.is i taken in
       record {
@@ -189,16 +190,16 @@ answers_input t query held papers reports certificates reports_said certificates
         asks = input.read.asks;
         right = right_said reports_said certificates_said query (stations_said i.stations) (files_of i.files)
             input.whole papers (data_is_said i.query i.stations (files_of i.files) query input.whole input.read)
-            (papers_for query held input.whole papers reports certificates input.needed are);
+            (papers_for query dataset input.whole papers reports certificates input.needed are);
       };
 }
 
 -- what an intake read has no fault
-pub faultless_input : (t : Intake) (query : Asked) (held : Contents) → HoldsInput t query held → FaultlessInput t
-faultless_input t query held holds = record {
+pub faultless_input : (t : Intake) (query : Asked) (dataset : Contents) → HoldsInput t query dataset → FaultlessInput t
+faultless_input t query dataset holds = record {
   is = λ i taken.
       let input = holds.is i taken in
-      record { asked = query; held = input.whole; read = input.read };
+      record { asked = query; dataset = input.whole; read = input.read };
 }
 
 -- a plan of these series
@@ -210,45 +211,45 @@ plan_of q stations series = record {
 }
 
 -- the plan of what a query needs of some data is that of these data
-plan_for : (q : Asked) (held whole : Contents) → MorselsStay → held ≡ data_for q whole
-    → planned q held ≡ planned q whole
-plan_for q held whole stay needed =
+plan_for : (q : Asked) (dataset whole : Contents) → MorselsStay → dataset ≡ data_for q whole
+    → planned q dataset ≡ planned q whole
+plan_for q dataset whole stay needed =
     ap (planned q) needed ∙ ap (plan_of q whole.stations) (stay q whole)
 
 -- papers that are a crew's for the query and the data of an intake are so for its input
-pub crews_input : (t : Intake) (workers : ℕ) (guess : Option ℤ) (query : Asked) (held : Contents) (papers : Papers)
-    → MorselsStay → MeasuredStays → HoldsInput t query held
-    → IsMeasuredCertificate query held papers.certificate.items
-    → IsOfCrew (planned query held) guess workers papers.certificate.items → CrewsInput t workers guess papers
-crews_input t workers guess query held papers stay certificates holds measures are = record {
+pub crews_input : (t : Intake) (workers : ℕ) (guess : Option ℤ) (query : Asked) (dataset : Contents) (papers : Papers)
+    → MorselsStay → MeasuredStays → HoldsInput t query dataset
+    → IsMeasuredCertificate query dataset papers.certificate.items
+    → IsOfCrew (planned query dataset) guess workers papers.certificate.items → CrewsInput t workers guess papers
+crews_input t workers guess query dataset papers stay certificates holds measures are = record {
   is = λ i taken.
       let input = holds.is i taken in
       record {
         asked = query;
-        held = input.whole;
+        dataset = input.whole;
         read = input.read;
-        bounds = measured_for query held input.whole papers.certificate.items certificates input.needed measures;
+        bounds = measured_for query dataset input.whole papers.certificate.items certificates input.needed measures;
         crew = subst (λ (p : Planned). IsOfCrew p guess workers papers.certificate.items)
-            (plan_for query held input.whole stay input.needed) are;
+            (plan_for query dataset input.whole stay input.needed) are;
       };
 }
 
 -- papers that are one worker's for the query and the data of an intake are so for its input
-pub serial_input : (t : Intake) (guess : Option ℤ) (query : Asked) (held : Contents) (papers : Papers)
-    → MorselsStay → MeasuredStays → HoldsInput t query held
-    → IsMeasuredCertificate query held papers.certificate.items
-    → IsOfOneWorker (planned query held) guess papers.certificate.items
+pub serial_input : (t : Intake) (guess : Option ℤ) (query : Asked) (dataset : Contents) (papers : Papers)
+    → MorselsStay → MeasuredStays → HoldsInput t query dataset
+    → IsMeasuredCertificate query dataset papers.certificate.items
+    → IsOfOneWorker (planned query dataset) guess papers.certificate.items
     → IsTrueOf t (λ words stations files. IsSerial guess words stations files papers)
-serial_input t guess query held papers stay certificates holds measures are = record {
+serial_input t guess query dataset papers stay certificates holds measures are = record {
   is = λ i taken.
       let input = holds.is i taken in
       record {
         asked = query;
-        held = input.whole;
+        dataset = input.whole;
         read = input.read;
-        bounds = measured_for query held input.whole papers.certificate.items certificates input.needed measures;
+        bounds = measured_for query dataset input.whole papers.certificate.items certificates input.needed measures;
         alone = subst (λ (p : Planned). IsOfOneWorker p guess papers.certificate.items)
-            (plan_for query held input.whole stay input.needed) are;
+            (plan_for query dataset input.whole stay input.needed) are;
       };
 }
 

@@ -20,7 +20,7 @@ use Rattle.rank_input.specs.Feeding.{AreAllOf, AreFilesOf, FeedsFiles}
 use Rattle.ghcn_fields.specs.Refusals.{IsRefusal}
 use Rattle.rank_input.proofs.Feedings.{given-files}
 use Rattle.extremes.specs.Runs.{AnswersInput, CrewsInput, RanksInput, JudgesInputAs}
-use Rattle.extremes.specs.Runs.{named, IsRanked, RanksFiles, IsJudgement, JudgesFiles}
+use Rattle.extremes.specs.Runs.{bytes_named, IsRanked, RanksFiles, IsJudgement, JudgesFiles}
 use Rattle.extremes.specs.Describes.{IsDescriptionOf, DescribesIntake, DescribesFiles}
 use Rattle.extremes.specs.declared.describe.DescriptionText.{DescriptionText}
 use Rattle.extremes.specs.declared.files.Describing.{Describing}
@@ -71,7 +71,7 @@ words-input t workers guess fault is = record {
 pub ranks-files : (bytes_of : Known) (r : Ranking) (old new : Intake) (query list stations : List ℕ)
     (answer : Result Papers Fault) (foreign : Foreign) → query ≡ string_bytes r.query
     → list ≡ string_bytes r.stations → AreAllOf (bytes_of list) stations → HasTaken old (given query stations [])
-    → FeedsFiles HasTaken old new (map (named bytes_of) r.files.items) → RanksInput new r.workers r.guess answer
+    → FeedsFiles HasTaken old new (map (bytes_named bytes_of) r.files.items) → RanksInput new r.workers r.guess answer
     → IfOk answer (λ papers. AreForeignOf new foreign) → RanksFiles bytes_of r answer foreign
 ranks-files bytes_of r old new query list stations answer foreign same_query same_list whole taken fed ranks told =
     let all = taken-all HasTaken old new _ query stations fed taken in
@@ -101,7 +101,7 @@ pub judges-files : (bytes_of : Known) (j : Judging) (old new : Intake) (query li
     (answer : Result (Judgement × Foreign) Fault) → query ≡ string_bytes j.query
     → list ≡ string_bytes j.stations → AreAllOf (bytes_of list) stations
     → AreBothOf (known_part bytes_of j.papers) (report, certificate)
-    → HasTaken old (given query stations []) → FeedsFiles HasTaken old new (map (named bytes_of) j.files.items)
+    → HasTaken old (given query stations []) → FeedsFiles HasTaken old new (map (bytes_named bytes_of) j.files.items)
     → IfOk answer (λ judged. JudgesInputAs j.part new report certificate judged.0)
     → IfOk answer (λ judged. AreForeignOf new judged.1) → IfErr answer (RefusesInput new)
     → JudgesFiles bytes_of j answer
@@ -131,7 +131,7 @@ described-is t query stations files (Err fault) taken ok err = err.is (given que
 pub describes-files : (bytes_of : Known) (d : Describing) (old new : DescriptionIntake) (list stations : List ℕ)
     (answer : Result DescriptionText Fault) → list ≡ string_bytes d.stations
     → AreAllOf (bytes_of list) stations → ((query : List ℕ) → described.HasTaken old (given query stations []))
-    → FeedsFiles described.HasTaken old new (map (named bytes_of) d.files.items)
+    → FeedsFiles described.HasTaken old new (map (bytes_named bytes_of) d.files.items)
     → IfOk answer (DescribesIntake new) → IfErr answer (described.RefusesInput new)
     → DescribesFiles bytes_of d answer
 describes-files bytes_of d old new list stations answer same_list whole taken fed ok err =
@@ -155,7 +155,7 @@ pub ranks-memory : (bytes_of : Known) (r : Ranking) (list stations : List ℕ) (
     → list ≡ string_bytes r.stations → AreAllOf (bytes_of list) stations
     → (foreign : Foreign) → RanksFiles bytes_of r (Err (Memory m)) foreign
 ranks-memory bytes_of r list stations m same whole foreign =
-    let some = some_files (map (named bytes_of) r.files.items) in record {
+    let some = some_files (map (bytes_named bytes_of) r.files.items) in record {
       stations = stations;
       whole = subst (λ (l : List ℕ). AreAllOf (bytes_of l) stations) same whole;
       files = some.0;
@@ -169,7 +169,7 @@ pub judges-memory : (bytes_of : Known) (j : Judging) (list stations : List ℕ) 
     → list ≡ string_bytes j.stations → AreAllOf (bytes_of list) stations
     → AreBothOf (known_part bytes_of j.papers) papers → JudgesFiles bytes_of j (Err (Memory m))
 judges-memory bytes_of j list stations papers m same whole both =
-    let some = some_files (map (named bytes_of) j.files.items) in record {
+    let some = some_files (map (bytes_named bytes_of) j.files.items) in record {
       stations = stations;
       whole = subst (λ (l : List ℕ). AreAllOf (bytes_of l) stations) same whole;
       papers = papers;
@@ -184,7 +184,7 @@ pub describes-memory : (bytes_of : Known) (d : Describing) (list stations : List
     → list ≡ string_bytes d.stations → AreAllOf (bytes_of list) stations
     → DescribesFiles bytes_of d (Err (Memory m))
 describes-memory bytes_of d list stations m same whole =
-    let some = some_files (map (named bytes_of) d.files.items) in record {
+    let some = some_files (map (bytes_named bytes_of) d.files.items) in record {
       stations = stations;
       whole = subst (λ (l : List ℕ). AreAllOf (bytes_of l) stations) same whole;
       files = some.0;

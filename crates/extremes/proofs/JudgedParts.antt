@@ -33,7 +33,7 @@ module _ (query stations report certificate : List ℕ) (lines : ℕ) (q : Asked
   each-holds [] accept = tt
   each-holds (p ∷ ps) accept =
       let r = accept.0.read in (
-        subst (λ (l : List Station). data_of l p.0 ≡ Ok accept.0.held) (one_value _ _ _ r.lists lists) r.holds,
+        subst (λ (l : List Station). data_of l p.0 ≡ Ok accept.0.dataset) (one_value _ _ _ r.lists lists) r.holds,
         each-holds ps accept.1,
       )
 
@@ -44,7 +44,7 @@ module _ (query stations report certificate : List ℕ) (lines : ℕ) (q : Asked
   each-accepts [] accept = tt
   each-accepts (p ∷ ps) accept =
       let r = accept.0.read in (
-        subst (λ (a : Asked). part_verdict a accept.0.held report certificate ≡ Accepted p.1 lines)
+        subst (λ (a : Asked). part_verdict a accept.0.dataset report certificate ≡ Accepted p.1 lines)
             (one_value _ _ _ (asks_read query accept.0.asked r.asks) asked) (sym accept.0.verdict),
         each-accepts ps accept.1,
       )

@@ -30,9 +30,9 @@ crew_is_plan p guess workers a of = record {
 pub papers_are : (p : Planned) (q : Asked) (c : Contents) (passed_over : ℕ) (papers : Papers) → IsAsked q
     → IsContents c → p ≡ planned q c → passed_over ≡ c.unlisted
     → ArePapersOfPlan p passed_over papers → ArePapers q c papers
-papers_are p q c passed_over papers asked held made counted are = record {
-  report = are.report q c asked held made;
-  certificate = are.certificate q c asked held made;
+papers_are p q c passed_over papers asked dataset made counted are = record {
+  report = are.report q c asked dataset made;
+  certificate = are.certificate q c asked dataset made;
   unlisted = are.unlisted ∙ counted;
 }
 

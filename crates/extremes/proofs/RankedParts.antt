@@ -30,16 +30,16 @@ use Rattle.extremes.specs.RankedInParts.{IsRankedPart, MergedIsRanked}
 said_read : (query stations : List ℕ) (files : List (List ℕ)) (list : List Station) → listed stations ≡ Ok list
     → IsFaultless query stations files → data_of list files ≡ Ok (said_by (stations_said stations) files)
 said_read query stations files list lists f =
-    subst (λ (c : Contents). data_of list files ≡ Ok c) (held_is_said query stations files f.asked f.held f.read)
-    (subst (λ (l : List Station). data_of l files ≡ Ok f.held) (one_value _ _ _ f.read.lists lists) f.read.holds)
+    subst (λ (c : Contents). data_of list files ≡ Ok c) (held_is_said query stations files f.asked f.dataset f.read)
+    (subst (λ (l : List Station). data_of l files ≡ Ok f.dataset) (one_value _ _ _ f.read.lists lists) f.read.holds)
 
 -- so it is of the stations that the list says
 said_held : (query stations : List ℕ) (files : List (List ℕ)) → IsFaultless query stations files
     → data_of (stations_said stations) files ≡ Ok (said_by (stations_said stations) files)
 said_held query stations files f =
     subst (λ (c : Contents). data_of (stations_said stations) files ≡ Ok c)
-    (held_is_said query stations files f.asked f.held f.read)
-    (data_is_said query stations files f.asked f.held f.read)
+    (held_is_said query stations files f.asked f.dataset f.read)
+    (data_is_said query stations files f.asked f.dataset f.read)
 
 -- ---- the version of what is merged
 
@@ -93,21 +93,21 @@ module _ (reports : ReportsAreFound) (certificates : CertificatesAreFound) (repo
   ranked-right query stations q list p asked lists is =
       let a = is.answer in
       let said = stations_said stations in
-      let held = said_by said p.0 in
+      let dataset = said_by said p.0 in
       let read = said_held query stations p.0 is.faultless in
       let same : a.asked ≡ q = one_value _ _ _ (asks_read query a.asked a.asks) asked in
-      let report = (reports a.asked held is.papers.report.items a.asks.can is.contents).1
-      ((reports_said a.asked said p.0 held is.papers.report.items read).1 a.right.report) in
-      let certificate = (certificates 2 a.asked held is.papers.certificate.items a.asks.can is.contents).1
-      ((certificates_said 2 a.asked said p.0 held is.papers.certificate.items read).1 a.right.certificate) in
+      let report = (reports a.asked dataset is.papers.report.items a.asks.can is.contents).1
+      ((reports_said a.asked said p.0 dataset is.papers.report.items read).1 a.right.report) in
+      let certificate = (certificates 2 a.asked dataset is.papers.certificate.items a.asks.can is.contents).1
+      ((certificates_said 2 a.asked said p.0 dataset is.papers.certificate.items read).1 a.right.certificate) in
       record {
-        held = held;
+        dataset = dataset;
         contents = is.contents;
         read = said_read query stations p.0 list lists is.faultless;
-        report = subst (λ (x : Asked). IsReport x held p.1.0) same
-            (subst (IsReport a.asked held) (sym (ap (λ (t : List ℕ × List ℕ). t.0) is.texts)) report);
-        certificate = subst (λ (x : Asked). IsCertificate x held p.1.1) same
-            (subst (IsCertificate a.asked held) (sym (ap (λ (t : List ℕ × List ℕ). t.1) is.texts)) certificate.0);
+        report = subst (λ (x : Asked). IsReport x dataset p.1.0) same
+            (subst (IsReport a.asked dataset) (sym (ap (λ (t : List ℕ × List ℕ). t.0) is.texts)) report);
+        certificate = subst (λ (x : Asked). IsCertificate x dataset p.1.1) same
+            (subst (IsCertificate a.asked dataset) (sym (ap (λ (t : List ℕ × List ℕ). t.1) is.texts)) certificate.0);
       }
 
   -- so are those of all parts
@@ -125,24 +125,24 @@ module _ (reports : ReportsAreFound) (certificates : CertificatesAreFound) (repo
   merged-is-ranked query stations parts whole merged answer faultless contents ranked is =
       let said = stations_said stations in
       let files = all_files parts in
-      let held = said_by said files in
+      let dataset = said_by said files in
       let r = faultless.read in
       let read = said_held query stations files faultless in
       let bytes : List ℕ = merged.certificate.items in
-      let report = (reports answer.asked held whole.report.items answer.asks.can contents).1
-      ((reports_said answer.asked said files held whole.report.items read).1 answer.right.report) in
+      let report = (reports answer.asked dataset whole.report.items answer.asks.can contents).1
+      ((reports_said answer.asked said files dataset whole.report.items read).1 answer.right.report) in
       let same : is.asked ≡ answer.asked =
       one_value _ _ _ is.read (asks_read query answer.asked answer.asks) in
-      let right = is.right r.list parts held refl
+      let right = is.right r.list parts dataset refl
       (all-ranked-right query stations is.asked r.list parts is.read r.lists ranked) contents
       (said_read query stations files r.list r.lists faultless) in
       let begins = begins_as_two is.asked (parts_from is.asked 1 (all_texts parts)) (merged.report.items, bytes)
       is.merged in
-      let of_two : (h : IsCertificate is.asked held bytes) × (h.version ≡ 2) =
-      (right.1, of_version_two is.asked held bytes begins.0 right.1 begins.1) in
-      let found = subst (λ (q : Asked). (h : IsCertificate q held bytes) × (h.version ≡ 2)) same of_two in (
+      let of_two : (h : IsCertificate is.asked dataset bytes) × (h.version ≡ 2) =
+      (right.1, of_version_two is.asked dataset bytes begins.0 right.1 begins.1) in
+      let found = subst (λ (q : Asked). (h : IsCertificate q dataset bytes) × (h.version ≡ 2)) same of_two in (
         sym (right.0.1 whole.report.items
-            (subst (λ (q : Asked). IsReport q held whole.report.items) (sym same) report)),
-        (certificates_said 2 answer.asked said files held bytes read).0
-            ((certificates 2 answer.asked held bytes answer.asks.can contents).0 found),
+            (subst (λ (q : Asked). IsReport q dataset whole.report.items) (sym same) report)),
+        (certificates_said 2 answer.asked said files dataset bytes read).0
+            ((certificates 2 answer.asked dataset bytes answer.asks.can contents).0 found),
       )

@@ -27,33 +27,34 @@ pub one_reading : (query stations : List ℕ) (files : List (List ℕ)) (x y : A
 one_reading query stations files x y a b =
     let list : a.list ≡ b.list = one_value _ _ _ a.lists b.lists in
     let asked : x.0 ≡ y.0 = one_value _ _ _ (asks_read query x.0 a.asks) (asks_read query y.0 b.asks) in
-    let held : x.1 ≡ y.1 =
+    let dataset : x.1 ≡ y.1 =
     one_value _ _ _ (subst (λ (l : List Station). data_of l files ≡ Ok x.1) list a.holds) b.holds in
-    λ i. (asked i, held i)
+    λ i. (asked i, dataset i)
 
 -- a text asks one query
 pub one_query : (query : List ℕ) (a b : Asked) → Asks query a → Asks query b → a ≡ b
 one_query query a b x y = one_value _ _ _ (asks_read query a x) (asks_read query b y)
 
 -- the data of an input without a fault are those of the stations that its list says
-pub data_is_said : (query stations : List ℕ) (files : List (List ℕ)) (q : Asked) (held : Contents)
-    → IsReadOf query stations files q held → data_of (stations_said stations) files ≡ Ok held
-data_is_said query stations files q held read =
-    subst (λ (list : List Station). data_of list files ≡ Ok held) (listed-said stations read.list read.lists) read.holds
+pub data_is_said : (query stations : List ℕ) (files : List (List ℕ)) (q : Asked) (dataset : Contents)
+    → IsReadOf query stations files q dataset → data_of (stations_said stations) files ≡ Ok dataset
+data_is_said query stations files q dataset read =
+    subst (λ (list : List Station). data_of list files ≡ Ok dataset)
+    (listed-said stations read.list read.lists) read.holds
 
 -- an input without a fault holds what its lines say
-pub held_is_said : (query stations : List ℕ) (files : List (List ℕ)) (q : Asked) (held : Contents)
-    → IsReadOf query stations files q held → held ≡ said_by (stations_said stations) files
-held_is_said query stations files q held read =
-    held-said (stations_said stations) files held (data_is_said query stations files q held read)
+pub held_is_said : (query stations : List ℕ) (files : List (List ℕ)) (q : Asked) (dataset : Contents)
+    → IsReadOf query stations files q dataset → dataset ≡ said_by (stations_said stations) files
+held_is_said query stations files q dataset read =
+    held-said (stations_said stations) files dataset (data_is_said query stations files q dataset read)
 
 -- it asks what its text asks, and holds that
 pub one_saying : (query stations : List ℕ) (files : List (List ℕ)) (x : Asked × Contents) (q : Asked)
     → IsReadOf query stations files x.0 x.1 → Asks query q → x ≡ (q, said_by (stations_said stations) files)
 one_saying query stations files x q read asks =
     let asked : x.0 ≡ q = one_query query x.0 q read.asks asks in
-    let held = held_is_said query stations files x.0 x.1 read in
-    λ i. (asked i, held i)
+    let dataset = held_is_said query stations files x.0 x.1 read in
+    λ i. (asked i, dataset i)
 
 -- so the papers that answer an input are the right ones of what a verdict is about
 pub answers_accepted : AnswersAreAccepted

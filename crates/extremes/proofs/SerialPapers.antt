@@ -55,10 +55,10 @@ serial_one best one guess query stations files a b right-a serial-a right-b seri
     let c : Contents = said_by (stations_said stations) files in
     let mine : IsOfOneWorker (planned q c) guess a.certificate.items =
     subst (λ (x : Asked × Contents). IsOfOneWorker (planned x.0 x.1) guess a.certificate.items)
-    (one_saying query stations files (serial-a.asked, serial-a.held) q serial-a.read right-a.asks) serial-a.alone in
+    (one_saying query stations files (serial-a.asked, serial-a.dataset) q serial-a.read right-a.asks) serial-a.alone in
     let other : IsOfOneWorker (planned q c) guess b.certificate.items =
     subst (λ (x : Asked × Contents). IsOfOneWorker (planned x.0 x.1) guess b.certificate.items)
-    (one_saying query stations files (serial-b.asked, serial-b.held) q serial-b.read right-a.asks) serial-b.alone in
+    (one_saying query stations files (serial-b.asked, serial-b.dataset) q serial-b.read right-a.asks) serial-b.alone in
     let list : List Station = stations_said stations in
     let right : AreRight q list files b = subst (λ (x : Asked). AreRight x list files b)
     (one_query query right-b.asked q right-b.asks right-a.asks) right-b.right in

@@ -18,8 +18,8 @@ use Rattle.rank_papers.specs.PlanPapers.{IsMeasuredCertificate, IsReportOfPlan, 
 use Rattle.extremes.specs.declared.papers.Papers.{Papers}
 use Rattle.rank_input.specs.Input.{IsReadOf}
 
--- papers are right for a query, a station list and what daily files say: the report is the right one, the certificate is
--- a right one of version 2, and the lines of unlisted stations are counted
+-- papers are right for a query, a station list and what daily files say: the report is the right one, the certificate
+-- is a right one of version 2, and the lines of unlisted stations are counted
 pub record AreRight (q : Asked) (stations : List Station) (files : List (List ℕ)) (papers : Papers) : Type 0 where
   pub report : IsRightReport q stations (IsAdmittedSeries q stations files) papers.report.items
   pub certificate : IsRightCertificate 2 q (IsAdmittedSeries q stations files) papers.certificate.items
@@ -53,8 +53,8 @@ pub record Answers (query stations : List ℕ) (files : List (List ℕ)) (papers
 -- the input has no fault
 pub record IsFaultless (query stations : List ℕ) (files : List (List ℕ)) : Type 0 where
   pub asked : Asked
-  pub held : Contents
-  pub read : IsReadOf query stations files asked held
+  pub dataset : Contents
+  pub read : IsReadOf query stations files asked dataset
 
 -- the certificate of a run over a plan with these records: it is about the plan's best, and has the run's lines
 abbrev pub certificate_of_run : Planned → List Record → List ℕ
@@ -77,20 +77,20 @@ pub record IsOfOneWorker (p : Planned) (guess : Option ℤ) (bytes : List ℕ) :
 pub record IsCrewed (workers : ℕ) (guess : Option ℤ) (query stations : List ℕ) (files : List (List ℕ))
     (papers : Papers) : Type 0 where
   pub asked : Asked
-  pub held : Contents
-  pub read : IsReadOf query stations files asked held
-  pub bounds : IsMeasuredCertificate asked held papers.certificate.items
-  pub crew : IsOfCrew (planned asked held) guess workers papers.certificate.items
+  pub dataset : Contents
+  pub read : IsReadOf query stations files asked dataset
+  pub bounds : IsMeasuredCertificate asked dataset papers.certificate.items
+  pub crew : IsOfCrew (planned asked dataset) guess workers papers.certificate.items
 
 -- the certificate is that of the run that one worker makes over the plan of what the input asks and holds, and its
 -- bounds are those of the series
 pub record IsSerial (guess : Option ℤ) (query stations : List ℕ) (files : List (List ℕ)) (papers : Papers)
     : Type 0 where
   pub asked : Asked
-  pub held : Contents
-  pub read : IsReadOf query stations files asked held
-  pub bounds : IsMeasuredCertificate asked held papers.certificate.items
-  pub alone : IsOfOneWorker (planned asked held) guess papers.certificate.items
+  pub dataset : Contents
+  pub read : IsReadOf query stations files asked dataset
+  pub bounds : IsMeasuredCertificate asked dataset papers.certificate.items
+  pub alone : IsOfOneWorker (planned asked dataset) guess papers.certificate.items
 
 -- these papers are the same, byte for byte
 pub record AreSamePapers (a b : Papers) : Type 0 where

@@ -78,9 +78,9 @@ RunsDescribing bytes_of d before after ending =
     EndsAtAFile before after ending ⊎ PrintsDescription bytes_of d before after ending
 
 -- what a run of a command prints, and how it ends: the files are those that it names, in its order
-abbrev pub IsRun : Known → Command → Option (List ℕ) → Option (List ℕ) → Ending → Type 0
-IsRun bytes_of Sample before after ending = PrintsAnswer before after ending
-IsRun bytes_of (Rank stations query workers guess certificate files) before after ending =
+abbrev pub IsCommandRun : Known → Command → Option (List ℕ) → Option (List ℕ) → Ending → Type 0
+IsCommandRun bytes_of Sample before after ending = PrintsAnswer before after ending
+IsCommandRun bytes_of (Rank stations query workers guess certificate files) before after ending =
     RunsRanking bytes_of (record {
       stations = stations;
       files = files;
@@ -88,9 +88,9 @@ IsRun bytes_of (Rank stations query workers guess certificate files) before afte
       workers = workers;
       guess = guess;
     }) before after ending
-IsRun bytes_of (Merge query certificate parts) before after ending =
+IsCommandRun bytes_of (Merge query certificate parts) before after ending =
     RunsMerge (string_bytes query) (map (known_part bytes_of) parts.items) before after ending
-IsRun bytes_of (Check stations query report certificate part files) before after ending =
+IsCommandRun bytes_of (Check stations query report certificate part files) before after ending =
     RunsJudging bytes_of (record {
       stations = stations;
       files = files;
@@ -98,5 +98,5 @@ IsRun bytes_of (Check stations query report certificate part files) before after
       papers = record { report = report; certificate = certificate };
       part = part;
     }) before after ending
-IsRun bytes_of (Describe stations files) before after ending =
+IsCommandRun bytes_of (Describe stations files) before after ending =
     RunsDescribing bytes_of (record { stations = stations; files = files }) before after ending

@@ -13,7 +13,7 @@ use Rattle.rank_input.specs.Takes.{IsTrueOf}
 use Rattle.extremes.specs.declared.describe.DescriptionText.{DescriptionText}
 use Rattle.extremes.specs.declared.files.Describing.{Describing}
 use Rattle.extremes.specs.Merges.{Known}
-use Rattle.extremes.specs.Runs.{named}
+use Rattle.extremes.specs.Runs.{bytes_named}
 
 -- a text says what a station list and daily files without a fault hold, and beside it stand the foreign files
 pub record IsTextOf (stations : List ℕ) (files : List (List ℕ)) (text : DescriptionText) : Type 0 where
@@ -34,7 +34,7 @@ IsDescriptionOf stations files (Err fault) = IsRefusal is_memory fault (read_fil
 -- the description of all bytes of the station list and of each daily file that are named, in order
 pub record DescribesFiles (bytes_of : Known) (d : Describing) (answer : Result DescriptionText Fault) : Type 0 where
   pub stations : List ℕ
-  pub whole : AreAllOf (named bytes_of d.stations) stations
+  pub whole : AreAllOf (bytes_named bytes_of d.stations) stations
   pub files : List (List ℕ)
-  pub all : AreFilesOf (map (named bytes_of) d.files.items) files
+  pub all : AreFilesOf (map (bytes_named bytes_of) d.files.items) files
   pub described : IsDescriptionOf stations files answer

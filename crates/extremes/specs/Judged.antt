@@ -26,18 +26,18 @@ AreRightTexts q stations files report certificate =
 pub record IsJudged (query stations : List ℕ) (files : List (List ℕ)) (report certificate : List ℕ)
     (v : Verdict) : Type 0 where
   pub asked : Asked
-  pub held : Contents
-  pub read : IsReadOf query stations files asked held
-  pub verdict : v ≡ verdict asked held report certificate
+  pub dataset : Contents
+  pub read : IsReadOf query stations files asked dataset
+  pub verdict : v ≡ verdict asked dataset report certificate
   pub accepted : (v ≡ Accepted) ↔ AreRightTexts asked (stations_said stations) files report certificate
 
 -- the verdict is that of a part on the papers, for what the input asks and holds
 pub record IsJudgedByPart (query stations : List ℕ) (files : List (List ℕ)) (report certificate : List ℕ)
     (v : PartVerdict) : Type 0 where
   pub asked : Asked
-  pub held : Contents
-  pub read : IsReadOf query stations files asked held
-  pub verdict : v ≡ part_verdict asked held report certificate
+  pub dataset : Contents
+  pub read : IsReadOf query stations files asked dataset
+  pub verdict : v ≡ part_verdict asked dataset report certificate
 
 -- papers that answer an input are accepted on that input
 abbrev pub AnswersAreAccepted : Type 0

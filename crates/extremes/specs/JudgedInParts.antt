@@ -26,7 +26,7 @@ abbrev pub held_by : (query stations report certificate : List ℕ) (lines : ℕ
     → AllByRecursion (Accepts query stations report certificate lines) parts → List Contents
 held_by query stations report certificate lines [] accept = []
 held_by query stations report certificate lines (p ∷ ps) accept =
-    accept.0.held ∷ held_by query stations report certificate lines ps accept.1
+    accept.0.dataset ∷ held_by query stations report certificate lines ps accept.1
 
 -- there is a part, each accepts the papers, the numbers of their series add up to that of the lines, and no station has
 -- an admitted day in two parts
@@ -40,6 +40,6 @@ pub record AllAccept (query stations report certificate : List ℕ) (asked : Ask
 -- papers that all parts accept are right for all files one part after the other, where these have no fault together
 abbrev pub PartsJudgeTheWhole : Type 0
 PartsJudgeTheWhole = (query stations report certificate : List ℕ) (parts : List Counted) (asked : Asked)
-    (held : Contents) → IsReadOf query stations (flat_map (λ p. p.0) parts) asked held
-    → IsContents held → AllAccept query stations report certificate asked parts
-    → IsReport asked held report × IsCertificate asked held certificate
+    (dataset : Contents) → IsReadOf query stations (flat_map (λ p. p.0) parts) asked dataset
+    → IsContents dataset → AllAccept query stations report certificate asked parts
+    → IsReport asked dataset report × IsCertificate asked dataset certificate

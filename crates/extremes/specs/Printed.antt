@@ -22,8 +22,8 @@ text_of (Whole v) = verdict_text v
 text_of (Part v) = parts.verdict_text v
 
 -- the line of it
-abbrev pub line_of : Judgement → List ℕ
-line_of j = text_of j ++ codes "\n"
+abbrev pub judgement_line : Judgement → List ℕ
+judgement_line j = text_of j ++ codes "\n"
 
 -- what the report's writer was given: the whole report, nothing behind a certificate that couldn't be written, or a
 -- beginning
@@ -53,5 +53,5 @@ IsTextShown (Err fault) before after ending = (ending ≡ Refused) × (after ≡
 -- written; a fault prints nothing and is refused
 abbrev pub IsTold : Result (Judgement × Foreign) Fault → Option (List ℕ) → Option (List ℕ) → Ending → Type 0
 IsTold (Ok judged) before after ending =
-    ((ending ≡ ending_of judged.0) × Appends before after (line_of judged.0)) ⊎ (ending ≡ File)
+    ((ending ≡ ending_of judged.0) × Appends before after (judgement_line judged.0)) ⊎ (ending ≡ File)
 IsTold (Err fault) before after ending = (ending ≡ Refused) × (after ≡ before)

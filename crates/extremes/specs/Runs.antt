@@ -22,8 +22,8 @@ use Rattle.extremes.specs.Merges.{Known, known_part, AreBothOf}
 use Rattle.extremes.specs.Judged.{IsJudged, IsJudgedByPart}
 
 -- the bytes of the file that is named, by those of files by their paths, where they are known
-abbrev pub named : {A : Type 0} → Known → String A → Option (List ℕ)
-named bytes_of path = bytes_of (string_bytes path)
+abbrev pub bytes_named : {A : Type 0} → Known → String A → Option (List ℕ)
+bytes_named bytes_of path = bytes_of (string_bytes path)
 
 -- papers answer an intake's input
 abbrev pub AnswersInput : Intake → Papers → Type 0
@@ -72,9 +72,9 @@ RanksInput t workers guess answer =
 pub record RanksFiles (bytes_of : Known) (r : Ranking) (answer : Result Papers Fault) (foreign : Foreign)
     : Type 0 where
   pub stations : List ℕ
-  pub whole : AreAllOf (named bytes_of r.stations) stations
+  pub whole : AreAllOf (bytes_named bytes_of r.stations) stations
   pub files : List (List ℕ)
-  pub all : AreFilesOf (map (named bytes_of) r.files.items) files
+  pub all : AreFilesOf (map (bytes_named bytes_of) r.files.items) files
   pub ranked : IsRanked r.workers r.guess (string_bytes r.query) stations files answer
   pub told : IfOk answer (λ papers. foreign ≡ foreign_of files)
 
@@ -105,9 +105,9 @@ IsJudgement part query stations files report certificate (Err fault) =
 -- order
 pub record JudgesFiles (bytes_of : Known) (j : Judging) (answer : Result (Judgement × Foreign) Fault) : Type 0 where
   pub stations : List ℕ
-  pub whole : AreAllOf (named bytes_of j.stations) stations
+  pub whole : AreAllOf (bytes_named bytes_of j.stations) stations
   pub papers : Texts
   pub papers_whole : AreBothOf (known_part bytes_of j.papers) papers
   pub files : List (List ℕ)
-  pub all : AreFilesOf (map (named bytes_of) j.files.items) files
+  pub all : AreFilesOf (map (bytes_named bytes_of) j.files.items) files
   pub judged : IsJudgement j.part (string_bytes j.query) stations files papers.0 papers.1 answer

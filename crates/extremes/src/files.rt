@@ -68,7 +68,7 @@ pub(crate) fn rank_files<'p, R: Threads + Wait + AllocGlobal + Sync, A: Archive>
         return Err(&ranking.stations);
     };
     let Ok(mut room) = piece_room(alloc) else {
-        return Ok(rank::refused(Fault::Memory(Memory)));
+        return Ok(rank::without_data(Fault::Memory(Memory)));
     };
     let mut intake = Intake::new(alloc, &ranking.query, &stations);
     feed_files(archive, &mut intake, &ranking.files, &mut room)?;
@@ -91,7 +91,7 @@ fn rank_fed<R: Threads + Wait + AllocGlobal + Sync>(
             let started = workers_for(workers, intake.bytes);
             rank_intake(rt, intake, started, guess, &Open)
         }
-        Err(fault) => rank::refused(fault),
+        Err(fault) => rank::without_data(fault),
     }
 }
 

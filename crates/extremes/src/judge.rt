@@ -1,7 +1,6 @@
 //! The judgement of papers, from the bytes of the files to a verdict.
 
 ghost use Rattle.std.specs.Prelude.{◌≡◌, ◌↔◌, ℕ, IfOk, IfErr, map};
-ghost use Rattle.extremes.specs.Ending.{ending_of};
 ghost use Rattle.ghcn_fields.specs.Refusals.{IsRefusal};
 ghost use Rattle.rank_check.specs.Tests as tests;
 ghost use Rattle.rank_papers.specs.RightLaws.{IsRightReportFor, IsRightCertificateFor};
@@ -11,7 +10,6 @@ ghost use Rattle.extremes.specs.JudgedInParts.{PartsJudgeTheWhole};
 ghost use Rattle.rank_input.specs.Taken.{HasTakenSome, AreForeignOf, RefusesInput};
 ghost use Rattle.extremes.specs.Runs.{JudgesInput, JudgesPart, JudgesInputAs};
 
-use crate::ending::Ending;
 use crate::judgement::Judgement;
 use crate::laws::parts_judge_the_whole;
 use ghcn_fields::Memory;
@@ -66,6 +64,7 @@ pub fn judge_part(
         IsRefusal is_memory fault (read_input query.now stations.now (map (λ file. file.now) files.now))) }
     ensures whole { PartsJudgeTheWhole }
 {
+    // Clause `whole` is the law.
     parts_judge_the_whole();
     let intake = Intake::of_files(alloc, query, stations, files);
     let (verdict, _foreign) = judge_part_intake(alloc, intake, report, certificate)?;
@@ -107,30 +106,32 @@ pub fn judge_intake(
     ensures err { IfErr result (RefusesInput intake) }
 {
     let taken = intake.finish()?;
+    // The data hold the query's element alone: a verdict on them is one on all lines.
     papers_of_one_element();
     papers_are_said();
     verdict_of_one_element();
-    let verdict = judge_held(alloc, &taken.held, &taken.query, report, certificate)?;
+    let verdict = judge_dataset(alloc, &taken.dataset, &taken.query, report, certificate)?;
     Ok((verdict, taken.foreign))
 }
 
 /// Judges papers of a query over some data.
-fn judge_held(
+fn judge_dataset(
     alloc: Global,
-    held: &Data,
+    dataset: &Data,
     query: &Query,
     report: &[u8],
     certificate: &[u8],
 ) -> Result<Verdict, Memory>
     ensures verdict { IfOk result (λ found.
-        found ≡ tests.verdict query.now held.now report.now certificate.now) }
+        found ≡ tests.verdict query.now dataset.now report.now certificate.now) }
     ensures accepted { IfOk result (λ found. (found ≡ Verdict.Accepted)
-        ↔ (IsRightReportFor query.now held.now report.now
-        × (version : ℕ) × IsRightCertificateFor version query.now held.now certificate.now)) }
+        ↔ (IsRightReportFor query.now dataset.now report.now
+        × (version : ℕ) × IsRightCertificateFor version query.now dataset.now certificate.now)) }
 {
+    // `check` tells of papers over the data, and the law what these are by what is best.
     papers_are_found();
-    let (_stations, _k) = (held.stations(), query.k());
-    check(alloc, held, query, report, certificate)
+    let (_stations, _k) = (dataset.stations(), query.k());
+    check(alloc, dataset, query, report, certificate)
 }
 
 /// Judges papers over what was given, as `judge_part` does. Beside it stand the foreign files.
@@ -146,19 +147,8 @@ pub fn judge_part_intake(
     ensures err { IfErr result (RefusesInput intake) }
 {
     let taken = intake.finish()?;
+    // The data hold the query's element alone: a verdict on them is one on all lines.
     part_verdict_of_one_element();
-    let verdict = check_part(alloc, &taken.held, &taken.query, report, certificate)?;
+    let verdict = check_part(alloc, &taken.dataset, &taken.query, report, certificate)?;
     Ok((verdict, taken.foreign))
-}
-
-/// How a run ends that answers this judgement.
-pub fn ending(judgement: &Judgement) -> Ending
-    ensures { result ≡ ending_of judgement.now }
-{
-    match judgement {
-        Judgement::Whole(Verdict::Accepted) => Ending::Done,
-        Judgement::Whole(Verdict::Refused { .. }) => Ending::Refused,
-        Judgement::Part(PartVerdict::Accepted { .. }) => Ending::Done,
-        Judgement::Part(PartVerdict::Refused { .. }) => Ending::Refused,
-    }
 }

@@ -1,5 +1,9 @@
 //! What is said of papers: over the files that they are of, or over a part of these.
 
+ghost use Rattle.std.specs.Prelude.{◌≡◌};
+ghost use Rattle.extremes.specs.Ending.{ending_of};
+
+use crate::ending::Ending;
 use rank_check::Verdict;
 use rank_parts::PartVerdict;
 use std::fmt;
@@ -24,5 +28,17 @@ impl fmt::Display for Judgement {
             Judgement::Whole(verdict) => write!(f, "{verdict}"),
             Judgement::Part(verdict) => write!(f, "{verdict}"),
         }
+    }
+}
+
+/// How a run ends that answers this judgement.
+pub fn ending(judgement: &Judgement) -> Ending
+    ensures { result ≡ ending_of judgement.now }
+{
+    match judgement {
+        Judgement::Whole(Verdict::Accepted) => Ending::Done,
+        Judgement::Whole(Verdict::Refused { .. }) => Ending::Refused,
+        Judgement::Part(PartVerdict::Accepted { .. }) => Ending::Done,
+        Judgement::Part(PartVerdict::Refused { .. }) => Ending::Refused,
     }
 }

@@ -19,6 +19,7 @@ pub fn answers_are_accepted()
 pub fn merged_is_ranked()
     ensures { MergedIsRanked }
 {
+    // What is right for data is right for what lines say, as parts and their merging tell it.
     papers_are_found();
     papers_are_said();
 }
@@ -29,6 +30,7 @@ pub fn merged_is_ranked()
 pub fn parts_judge_the_whole()
     ensures { PartsJudgeTheWhole }
 {
+    // The law of data, and that a text is the query of every part.
     parts_make_the_whole();
     queries_have_texts();
 }

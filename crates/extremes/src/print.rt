@@ -7,8 +7,7 @@ ghost use Rattle.extremes.specs.Printed.{IsPrinted, IsReported, IsShown, IsTextS
 use crate::delivery::{Delivery, deliver, write_whole};
 use crate::describe::DescriptionText;
 use crate::ending::Ending;
-use crate::judge::ending;
-use crate::judgement::Judgement;
+use crate::judgement::{Judgement, ending};
 use crate::papers::Papers;
 use crate::rank::Ranked;
 use ghcn_series::Foreign;
@@ -32,13 +31,13 @@ pub(crate) fn print_ranked<R: Files + Eprint, W: Write>(
     let Ranked {
         answer,
         foreign,
-        held,
+        dataset,
     } = ranked;
     if answer.is_ok() {
         tell_foreign(rt, foreign, files);
     }
     let ending = print_answer(rt, answer, certificate, out);
-    drop(held);
+    drop(dataset);
     ending
 }
 

@@ -66,7 +66,7 @@ pub struct Ranked {
     pub foreign: Foreign,
     /// Nothing where there was a fault in what was given. To free many series takes a while, so a
     /// caller may use the answer first.
-    pub held: Option<Data>,
+    pub dataset: Option<Data>,
 }
 
 /// Ranks the candidates of a query over what was given, as `rank` does.
@@ -90,32 +90,33 @@ pub fn rank_intake<R: Threads + Wait + AllocGlobal + Sync, G: Gate + Sync>(
         Ok(
             TakenInput {
                 query,
-                held,
+                dataset,
                 foreign,
             },
         ) => {
+            // The data hold the query's element alone: what is right for them is so for all lines.
             papers_of_one_element();
             papers_are_said();
             one_element_is_enough();
-            let answer = ranked_by_crew(rt, &held, &query, workers, guess, gate);
+            let answer = ranked_by_crew(rt, &dataset, &query, workers, guess, gate);
             Ranked {
                 answer,
                 foreign,
-                held: Some(held),
+                dataset: Some(dataset),
             }
         }
-        Err(fault) => refused(fault),
+        Err(fault) => without_data(fault),
     }
 }
 
 /// What a ranking answers that has no data.
-pub(crate) fn refused(fault: Fault) -> Ranked
+pub(crate) fn without_data(fault: Fault) -> Ranked
     ensures { result.answer ≡ Err fault }
 {
     Ranked {
         answer: Err(fault),
         foreign: Foreign::none(),
-        held: None,
+        dataset: None,
     }
 }
 
@@ -144,10 +145,11 @@ pub fn rank_serial(
     check_words(1, guess)?;
     let intake = Intake::of_files(alloc, query, stations, files);
     let taken = intake.finish()?;
+    // The data hold the query's element alone: what is right for them is right for all lines.
     papers_of_one_element();
     papers_are_said();
     one_element_is_enough();
-    Ok(ranked_alone(alloc, &taken.held, &taken.query, guess)?)
+    Ok(ranked_alone(alloc, &taken.dataset, &taken.query, guess)?)
 }
 
 /// What `rank_serial` answers is an exact function of the input: two reports, two certificates and
@@ -155,6 +157,7 @@ pub fn rank_serial(
 pub fn serial_papers_are_one()
     ensures { SerialPapersAreOne }
 {
+    // The report is that of the best, and the one run of one worker tells the certificate.
     papers_are_found();
     runs_are_sound();
 }
@@ -162,27 +165,28 @@ pub fn serial_papers_are_one()
 /// The papers of a query, from a run of one worker that begins with a guess or none.
 fn ranked_alone(
     alloc: Global,
-    held: &Data,
+    dataset: &Data,
     query: &Query,
     guess: Option<i64>,
 ) -> Result<Papers, Memory>
     requires guess { is_guess guess ≡ true }
-    requires contents { IsContents held.now }
-    ensures right { IfOk result (AreRightFor query.now held.now) }
-    ensures bounds { IfOk result (λ papers. IsMeasuredCertificate query.now held.now papers.certificate.items) }
+    requires contents { IsContents dataset.now }
+    ensures right { IfOk result (AreRightFor query.now dataset.now) }
+    ensures bounds { IfOk result (λ papers. IsMeasuredCertificate query.now dataset.now papers.certificate.items) }
     ensures alone { IfOk result (λ papers.
-        IsOfOneWorker (planned query.now held.now) guess papers.certificate.items) }
+        IsOfOneWorker (planned query.now dataset.now) guess papers.certificate.items) }
 {
+    // Papers of the best by the plan are right by what is best.
     papers_are_found();
-    let plan = Plan::new(alloc, held, query)?;
+    let plan = Plan::new(alloc, dataset, query)?;
     let answer = run_alone(alloc, &plan, guess)?;
-    papers_of(alloc, &plan, &answer, held.unlisted())
+    papers_of(alloc, &plan, &answer, dataset.unlisted())
 }
 
 /// The papers of a query, from a run of some workers in threads.
 fn ranked_by_crew<R: Threads + Wait + AllocGlobal + Sync, G: Gate + Sync>(
     rt: &R,
-    held: &Data,
+    dataset: &Data,
     query: &Query,
     workers: u64,
     guess: Option<i64>,
@@ -190,17 +194,18 @@ fn ranked_by_crew<R: Threads + Wait + AllocGlobal + Sync, G: Gate + Sync>(
 ) -> Result<Papers, Fault>
     requires crew { is_crew workers ≡ true }
     requires guess { is_guess guess ≡ true }
-    requires contents { IsContents held.now }
-    ensures ok { IfOk result (AreRightFor query.now held.now) }
-    ensures crew { IfOk result (λ papers. IsMeasuredCertificate query.now held.now papers.certificate.items
-        × IsOfCrew (planned query.now held.now) guess workers papers.certificate.items) }
+    requires contents { IsContents dataset.now }
+    ensures ok { IfOk result (AreRightFor query.now dataset.now) }
+    ensures crew { IfOk result (λ papers. IsMeasuredCertificate query.now dataset.now papers.certificate.items
+        × IsOfCrew (planned query.now dataset.now) guess workers papers.certificate.items) }
     ensures err { IfErr result (λ fault. is_memory fault ≡ true) }
 {
+    // Every schedule ends soundly, and papers of the best by the plan are right by what is best.
     ends_are_sound();
     papers_are_found();
-    let plan = survey(rt, rt.alloc(), held, query, workers, gate)?;
+    let plan = survey(rt, rt.alloc(), dataset, query, workers, gate)?;
     let answer = crew(rt, rt.alloc(), &plan, workers, guess, gate)?;
-    Ok(papers_of(rt.alloc(), &plan, &answer, held.unlisted())?)
+    Ok(papers_of(rt.alloc(), &plan, &answer, dataset.unlisted())?)
 }
 
 /// The papers of a plan's answer, and how many lines were passed over.

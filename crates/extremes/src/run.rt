@@ -1,7 +1,7 @@
 //! A run of the program: reads its words, and does what they ask for.
 
 ghost use Rattle.std.specs.Prelude.{map};
-ghost use Rattle.extremes.specs.Commands.{IsRun, RunsRanking, RunsMerge, RunsJudging, RunsDescribing};
+ghost use Rattle.extremes.specs.Commands.{IsCommandRun, RunsRanking, RunsMerge, RunsJudging, RunsDescribing};
 ghost use Rattle.extremes.specs.Merges.{known_part};
 
 use crate::ending::Ending;
@@ -31,11 +31,7 @@ use std::{env, io};
 pub fn run<R: Files + Env + Print + Eprint + Threads + Wait + AllocGlobal + Sync>(
     rt: &R,
 ) -> Ending {
-    let (_input, _output, _errors) = (
-        hold_descriptor(rt),
-        hold_descriptor(rt),
-        hold_descriptor(rt),
-    );
+    let (_input, _output, _errors) = (placeholder(rt), placeholder(rt), placeholder(rt));
     let words = match words_after_name(rt) {
         Ok(words) => words,
         Err(error) => return no_words(rt, &error),
@@ -58,7 +54,7 @@ fn run_command<R: Files + Eprint + Threads + Wait + AllocGlobal + Sync, A: Archi
     asked: Command,
     out: &mut W,
 ) -> Ending
-    ensures { IsRun (A.bytes_of archive.now) asked (W.contents out.old) (W.contents out.new) result }
+    ensures { IsCommandRun (A.bytes_of archive.now) asked (W.contents out.old) (W.contents out.new) result }
 {
     match asked {
         Command::Sample => print_answer(rt, rank_sample(rt.alloc()), None, out),
@@ -196,7 +192,7 @@ fn run_describing<R: Eprint + AllocGlobal, A: Archive, W: Write>(
 /// A file that can't be written, opened before any other: the root folder, which is always there.
 /// Three of them take the places of standard descriptors that were closed before the program began,
 /// so that the certificate takes none.
-fn hold_descriptor<R: Files>(rt: &R) -> io::Result<R::File> {
+fn placeholder<R: Files>(rt: &R) -> io::Result<R::File> {
     File::open(rt, "/")
 }
 

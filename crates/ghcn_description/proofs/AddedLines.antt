@@ -18,7 +18,7 @@ use Rattle.ghcn_files.specs.Months.{month_of, month_if, month_why, unless}
 use Rattle.ghcn_series.specs.declared.fault.DailyWhy.{DailyWhy}
 use Rattle.ghcn_series.specs.declared.fault.DataFault.TheVariants.{DailyLine}
 use Rattle.ghcn_series.specs.DailyFaults.{FileLine, month_on, month_if_ok, is_listed, daily_fault, daily_lines}
-use Rattle.ghcn_series.specs.DailyFaults.{daily_why, file_lines, line_of}
+use Rattle.ghcn_series.specs.DailyFaults.{daily_why, file_lines, file_line}
 use Rattle.ghcn_series.specs.LineKinds.{all_lines, blank_lines}
 use Rattle.ghcn_description.specs.Lines.{other_lines}
 use Rattle.ghcn_description.specs.Lines.{is_other, is_listed_of}
@@ -54,7 +54,7 @@ all_of_files n (f ∷ files) =
     let here : List (ℕ × List ℕ) = filter (λ l. not (is_blank l.1)) (numbered_lines f) in
     let more : List FileLine = flat_map file_lines (enumerate_from (n + 1) files) in
     let others : length (file_lines (n, f) ++ more) ≡ length here + length more =
-    length-append (file_lines (n, f)) more ∙ ap (λ k. k + length more) (length-map here (line_of n)) in
+    length-append (file_lines (n, f)) more ∙ ap (λ k. k + length more) (length-map here (file_line n)) in
     let blanks : count_by is_blank (lines f ++ all_lines files) ≡ count_by is_blank (lines f) + blank_lines files =
     sum_by-append (λ l. cond (is_blank l) 1 0) (lines f) (all_lines files) in
     let all : length (lines f ++ all_lines files) ≡ length (lines f) + length (all_lines files) =

@@ -18,7 +18,7 @@ use Rattle.ghcn_files.specs.declared.station.StationId.{StationId}
 use Rattle.ghcn_files.specs.declared.station.Station.{Station}
 use Rattle.ghcn_files.specs.declared.month.Month.{Month}
 use Rattle.ghcn_files.specs.Ids.{same_id}
-use Rattle.ghcn_files.specs.IdLaws.{same_id-is, same_id-turned, place_is}
+use Rattle.ghcn_files.proofs.IdLaws.{same_id-is, same_id-turned, place_is}
 use Rattle.ghcn_files.specs.Elements.{elements, same_element, element_index, element_of}
 use Rattle.ghcn_files.specs.Listed.{AreListed, is_station_of, place_of}
 use Rattle.ghcn_files.specs.Months.{read_month, month_if, month_of, month_why, unless}

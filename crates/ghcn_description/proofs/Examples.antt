@@ -1,7 +1,7 @@
 -- Worked examples of the definitions, by computation.
 use Rattle.std.proofs.Common.{◌≡◌, refl, length, [], ◌∷◌, List, ℕ, true, false, map}
 use Rattle.std.specs.Prelude.{codes}
-use Rattle.ghcn_series.specs.DailyFaults.{FileLine, daily_lines, line_of}
+use Rattle.ghcn_series.specs.DailyFaults.{FileLine, daily_lines, file_line}
 use Rattle.ghcn_series.specs.LineKinds.{all_lines, blank_lines}
 use Rattle.ghcn_description.specs.Lines.{is_other, other_lines, code_on, lines_with}
 use Rattle.ghcn_description.specs.Texts.{further_line}
@@ -22,7 +22,7 @@ other_codes = (refl, refl, refl, refl, refl, refl, refl)
 
 -- a code of the five elements is no other one
 of_elements :
-    map is_other (line_of 1 (1, codes "ZZA00000001202007TMAX") ∷ line_of 1 (2, codes "ZZA00000001202007tmax") ∷ [])
+    map is_other (file_line 1 (1, codes "ZZA00000001202007TMAX") ∷ file_line 1 (2, codes "ZZA00000001202007tmax") ∷ [])
     ≡ false ∷ true ∷ []
 of_elements = refl
 

@@ -20,14 +20,14 @@ use Rattle.ghcn_files.specs.declared.element.Element.TheVariants.{Prcp, Snow, Sn
 use Rattle.ghcn_files.specs.declared.month.Month.{Month}
 use Rattle.ghcn_files.specs.declared.month.Reading.{Reading}
 use Rattle.ghcn_files.specs.Ids.{same_id}
-use Rattle.ghcn_files.specs.IdLaws.{same_id-is, same_id-turned}
+use Rattle.ghcn_files.proofs.IdLaws.{same_id-is, same_id-turned}
 use Rattle.ghcn_files.specs.Elements.{elements, same_element, element_index, may_be_negative}
 use Rattle.ghcn_files.specs.Flags.{flagged_values}
 use Rattle.ghcn_files.specs.Listed.{is_station_of}
 use Rattle.ghcn_series.specs.Series.{DayValue, Usable}
 use Rattle.ghcn_series.specs.DailyFaults.{FileLine, month_on, is_listed}
 use Rattle.ghcn_series.specs.Says.{Fact, fact_of, facts_of, is_usable, usable_facts, days_of, usable_of, all_series}
-use Rattle.ghcn_series.specs.Gathered.{counted, usable_day}
+use Rattle.ghcn_series.specs.Gathered.{counted_day, usable_day}
 use Rattle.ghcn_series.proofs.FactsOfMonths.{OfMonth, of_month}
 use Rattle.ghcn_series.proofs.Places.{ids}
 use Rattle.ghcn_series.proofs.ReadySeries.{length-sorted}
@@ -71,7 +71,7 @@ own-days stations m (x ∷ xs) listed =
     let more = own-days stations m xs listed in
     elim (fact_of m x) as (λ o. fact_of m x ≡ o
     → map (λ (g : Fact). g.day) (filter (is_usable stations) (cons_option o (filter_map (fact_of m) xs)))
-    ≡ map (λ (y : DayValue). y.0) (cons_option (option_and_then counted o) (filter_map (usable_day m) xs))) [
+    ≡ map (λ (y : DayValue). y.0) (cons_option (option_and_then counted_day o) (filter_map (usable_day m) xs))) [
       | None ↦ λ is. more
       | Some f ↦ λ is.
           let of = of_month m x.1.flagged _ x.1.value f is in

@@ -19,10 +19,10 @@ use Rattle.std.proofs.lemmas.List.Sums.{sum_by-append, sum_by-cons}
 use Rattle.std.proofs.lemmas.Map.Text.{is_eq-slice_cmp}
 use Rattle.ghcn_fields.specs.Bytes.{same_bytes}
 use Rattle.ghcn_series.specs.DailyFaults.{FileLine}
-use Rattle.ghcn_series.proofs.ListFacts.{both_all, weaken}
+use Rattle.ghcn_series.proofs.ListFacts.{each-append, each-weaker}
 use Rattle.ghcn_description.specs.declared.counts.CodeCount.{CodeCount}
 use Rattle.ghcn_description.specs.Lines.{is_other, code_on, lines_with}
-use Rattle.ghcn_description.specs.Described.{AreOthers, Precedes, IsBehind, IsCounted, is_among, codes_of, most_codes}
+use Rattle.ghcn_description.specs.Described.{AreOthers, Precedes, IsBehind, IsCounted, has_code_among, codes_of, most_codes}
 use Rattle.ghcn_description.specs.Steps.{IsPlaceOf}
 
 -- ---- tests
@@ -152,10 +152,10 @@ lines_with-more ls l code =
 
 -- further lines are counted so too
 further-more : (ks : List (List ℕ)) (ls : List FileLine) (l : FileLine)
-    → count_by (λ x. is_other x && not (is_among ks x)) (ls ++ l ∷ [])
-    ≡ count_by (λ x. is_other x && not (is_among ks x)) ls + cond (is_other l && not (is_among ks l)) 1 0
+    → count_by (λ x. is_other x && not (has_code_among ks x)) (ls ++ l ∷ [])
+    ≡ count_by (λ x. is_other x && not (has_code_among ks x)) ls + cond (is_other l && not (has_code_among ks l)) 1 0
 further-more ks ls l =
-    let sums = sum_by-append (λ x. cond (is_other x && not (is_among ks x)) 1 0) ls (l ∷ []) in
+    let sums = sum_by-append (λ x. cond (is_other x && not (has_code_among ks x)) 1 0) ls (l ∷ []) in
     omega (arith, sums)
 
 -- ---- one more line
@@ -187,16 +187,16 @@ module _ (ls : List FileLine) (l : FileLine) (other : is_other l ≡ true) where
   stay-behind (c ∷ cs) h all = (stays c (apart code c.code h.0) all.0, stay-behind cs h.1 all.1)
 
   -- a line is as far behind the codes as it was, and the new one is among them
-  behind-more : (ks : List (List ℕ)) → is_among ks l ≡ true → AllByRecursion (IsBehind ks) ls
+  behind-more : (ks : List (List ℕ)) → has_code_among ks l ≡ true → AllByRecursion (IsBehind ks) ls
       → AllByRecursion (IsBehind ks) after
   behind-more ks among all =
-      both_all (IsBehind ks) ls (l ∷ []) all ((λ t. let never = rw (other, among) at t in absurd cc), tt)
+      each-append (IsBehind ks) ls (l ∷ []) all ((λ t. let never = rw (other, among) at t in absurd cc), tt)
 
   -- a code that is among some, at its place
-  among-at : (xs ys : List (List ℕ)) (k : List ℕ) → k ≡ code → is_among (xs ++ k ∷ ys) l ≡ true
+  among-at : (xs ys : List (List ℕ)) (k : List ℕ) → k ≡ code → has_code_among (xs ++ k ∷ ys) l ≡ true
   among-at xs ys k is =
       list_any-append (λ c. same_bytes c code) xs (k ∷ ys)
-      ∙ rw (is, nat_list_eq_equiv.refl code) (or_true (is_among xs l))
+      ∙ rw (is, nat_list_eq_equiv.refl code) (or_true (has_code_among xs l))
     where
       or_true : (b : Bool) → (b || true) ≡ true
       or_true true = refl
@@ -212,15 +212,16 @@ module _ (ls : List FileLine) (l : FileLine) (other : is_other l ≡ true) where
       codes-append xs (new ∷ ys) ∙ ap (λ k. codes_of xs ++ k ∷ codes_of ys) same in
       let rising : Rise ks = subst Rise old_codes of.rising in
       let behind = subst (λ k. AllByRecursion (IsBehind k) ls) old_codes of.behind in
-      let among : is_among ks l ≡ true = among-at (codes_of xs) (codes_of ys) c.code is in
-      let further = subst (λ k. n ≡ count_by (λ x. is_other x && not (is_among k x)) ls) old_codes of.further_lines in
+      let among : has_code_among ks l ≡ true = among-at (codes_of xs) (codes_of ys) c.code is in
+      let further = subst (λ k. n ≡ count_by (λ x. is_other x && not (has_code_among k x)) ls) old_codes
+      of.further_lines in
       let old_lines = of.lines in
       let here : IsCounted ls c = (all-back (IsCounted ls) xs (c ∷ ys) old_lines).0 in
       let front = around_one (codes_of xs) (codes_of ys) c.code rising in
       record {
         few = omega (arith, of.few, length-append xs (c ∷ ys), length-append xs (new ∷ ys));
         rising = subst Rise (sym new_codes) rising;
-        lines = both_all (IsCounted after) xs (new ∷ ys)
+        lines = each-append (IsCounted after) xs (new ∷ ys)
             (stay-before xs (subst (AllBefore (codes_of xs)) is front.0) (all-front (IsCounted ls) xs
             (c ∷ ys) old_lines)) (
               counted here,
@@ -228,7 +229,7 @@ module _ (ls : List FileLine) (l : FileLine) (other : is_other l ≡ true) where
                   (all-back (IsCounted ls) xs (c ∷ ys) old_lines).1,
             );
         behind = subst (λ k. AllByRecursion (IsBehind k) after) (sym new_codes) (behind-more ks among behind);
-        further_lines = subst (λ k. n ≡ count_by (λ x. is_other x && not (is_among k x)) after) (sym new_codes)
+        further_lines = subst (λ k. n ≡ count_by (λ x. is_other x && not (has_code_among k x)) after) (sym new_codes)
             (further ∙ sym (rw (other, among) at (further-more ks ls l) ∙ omega arith));
       }
     where
@@ -244,13 +245,13 @@ module _ (ls : List FileLine) (l : FileLine) (other : is_other l ≡ true) where
       → AreOthers ls cs n → AreOthers after cs (n + 1)
   passed_over cs n full before of =
       let ks : List (List ℕ) = codes_of cs in
-      let none : is_among ks l ≡ false = none_before ks code before in
+      let none : has_code_among ks l ≡ false = none_before ks code before in
       let many : length ks ≡ most_codes = length-map cs (λ c. c.code) ∙ full in
       record {
         few = of.few;
         rising = of.rising;
         lines = stay-before cs before of.lines;
-        behind = both_all (IsBehind ks) ls (l ∷ []) of.behind ((λ t. (many, before)), tt);
+        behind = each-append (IsBehind ks) ls (l ∷ []) of.behind ((λ t. (many, before)), tt);
         further_lines = omega (arith, of.further_lines, rw (other, none) at (further-more ks ls l));
       }
 
@@ -261,7 +262,7 @@ module _ (ls : List FileLine) (l : FileLine) (other : is_other l ≡ true) where
   same_bytes-is a b e = (slice_eq-Decides Decides-eqb a b (same_bytes a b) refl).0 e
 
   -- no line has a code that isn't among these, unless as many as are named come before it
-  no_line : (ks : List (List ℕ)) (xs : List FileLine) → is_among ks l ≡ false
+  no_line : (ks : List (List ℕ)) (xs : List FileLine) → has_code_among ks l ≡ false
       → (length ks ≡ most_codes → AllBefore ks code → ⊥) → AllByRecursion (IsBehind ks) xs → lines_with xs code ≡ 0
   no_line ks [] none not_all all = refl
   no_line ks (x ∷ xs) none not_all all =
@@ -277,7 +278,7 @@ module _ (ls : List FileLine) (l : FileLine) (other : is_other l ≡ true) where
       not_this true false e f = rw (e, f) refl
       not_this true true e f =
           let same : code_on x ≡ code = same_bytes-is (code_on x) code f in
-          let test : (is_other x && not (is_among ks x)) ≡ true =
+          let test : (is_other x && not (has_code_among ks x)) ≡ true =
           rw (e, ap (λ k. list_any (λ c. same_bytes c k) ks) same ∙ none) refl in
           let far = all.0 test in
           absurd (not_all far.0 (subst (AllBefore ks) same far.1))
@@ -291,8 +292,8 @@ module _ (ls : List FileLine) (l : FileLine) (other : is_other l ≡ true) where
 
   module _ (xs ys : List (List ℕ)) where
     -- a line that isn't among codes with a new one isn't among those without it
-    without_new : (x : FileLine) → (is_other x && not (is_among (xs ++ code ∷ ys) x)) ≡ true
-        → (is_other x && not (is_among (xs ++ ys) x)) ≡ true
+    without_new : (x : FileLine) → (is_other x && not (has_code_among (xs ++ code ∷ ys) x)) ≡ true
+        → (is_other x && not (has_code_among (xs ++ ys) x)) ≡ true
     without_new x e =
         let same : List ℕ → Bool = λ c. same_bytes c (code_on x) in
         let test = rw (list_any-append same xs (code ∷ ys)) at e in
@@ -302,20 +303,20 @@ module _ (ls : List FileLine) (l : FileLine) (other : is_other l ≡ true) where
     -- where fewer codes are there than may be named, no line has a further one
     none_behind_few : (zs : List FileLine) → length (xs ++ ys) < most_codes
         → AllByRecursion (IsBehind (xs ++ ys)) zs → AllByRecursion (IsBehind (xs ++ code ∷ ys)) zs
-        × (count_by (λ x. is_other x && not (is_among (xs ++ code ∷ ys) x)) zs ≡ 0)
-        × (count_by (λ x. is_other x && not (is_among (xs ++ ys) x)) zs ≡ 0)
+        × (count_by (λ x. is_other x && not (has_code_among (xs ++ code ∷ ys) x)) zs ≡ 0)
+        × (count_by (λ x. is_other x && not (has_code_among (xs ++ ys) x)) zs ≡ 0)
     none_behind_few [] few all = (tt, refl, refl)
     none_behind_few (z ∷ zs) few all =
         let more = none_behind_few zs few all.1 in
-        let old : (is_other z && not (is_among (xs ++ ys) z))
+        let old : (is_other z && not (has_code_among (xs ++ ys) z))
         ≡ false = not_true _ (λ t. omega (arith, few, (all.0 t).0)) in
-        let new : (is_other z && not (is_among (xs ++ code ∷ ys) z)) ≡ false =
+        let new : (is_other z && not (has_code_among (xs ++ code ∷ ys) z)) ≡ false =
         not_true _ (λ t. omega (arith, few, (all.0 (without_new z t)).0)) in
-        let new_sum = sum_by-cons (λ x. cond (is_other x && not (is_among (xs ++ code ∷ ys) x)) 1 0) z zs in
-        let old_sum = sum_by-cons (λ x. cond (is_other x && not (is_among (xs ++ ys) x)) 1 0) z zs in
-        let new_one : cond {A = ℕ} (is_other z && not (is_among (xs ++ code ∷ ys) z)) 1 0
+        let new_sum = sum_by-cons (λ x. cond (is_other x && not (has_code_among (xs ++ code ∷ ys) x)) 1 0) z zs in
+        let old_sum = sum_by-cons (λ x. cond (is_other x && not (has_code_among (xs ++ ys) x)) 1 0) z zs in
+        let new_one : cond {A = ℕ} (is_other z && not (has_code_among (xs ++ code ∷ ys) z)) 1 0
         ≡ 0 = ap (λ b. cond {A = ℕ} b 1 0) new in
-        let old_one : cond {A = ℕ} (is_other z && not (is_among (xs ++ ys) z)) 1 0
+        let old_one : cond {A = ℕ} (is_other z && not (has_code_among (xs ++ ys) z)) 1 0
         ≡ 0 = ap (λ b. cond {A = ℕ} b 1 0) old in (
           ((λ t. absurd (omega (arith, few, (all.0 (without_new z t)).0))), more.0),
           omega (arith, new_sum, new_one, more.1),
@@ -338,11 +339,11 @@ module _ (ls : List FileLine) (l : FileLine) (other : is_other l ≡ true) where
       sym (ap length old_codes) ∙ length-map (xs ++ ys) (λ c. c.code) in
       let old_behind = subst (λ k. AllByRecursion (IsBehind k) ls) old_codes of.behind in
       let old_further = subst (λ k. n
-      ≡ count_by (λ x. is_other x && not (is_among k x)) ls) old_codes of.further_lines in
+      ≡ count_by (λ x. is_other x && not (has_code_among k x)) ls) old_codes of.further_lines in
       let few = none_behind_few (codes_of xs) (codes_of ys) ls (omega (arith, many, room)) old_behind in
-      let among : is_among (codes_of xs ++ code ∷ codes_of ys) l
+      let among : has_code_among (codes_of xs ++ code ∷ codes_of ys) l
       ≡ true = among-at (codes_of xs) (codes_of ys) code refl in
-      let none : is_among (codes_of xs ++ codes_of ys) l ≡ false =
+      let none : has_code_among (codes_of xs ++ codes_of ys) l ≡ false =
       list_any-append (λ c. same_bytes c code) (codes_of xs) (codes_of ys)
       ∙ rw (none_before (codes_of xs) code before) (none_behind (codes_of ys) code behind) in
       let nobody = no_line (codes_of xs
@@ -353,7 +354,7 @@ module _ (ls : List FileLine) (l : FileLine) (other : is_other l ≡ true) where
         few = omega (arith, room, length-append xs ys, length-append xs (new ∷ ys));
         rising = subst Rise (sym new_codes) (rise-between (codes_of xs) (codes_of ys) code
             (subst Rise old_codes of.rising) before behind);
-        lines = both_all (IsCounted after) xs (new ∷ ys) (stay-before xs before (all-front
+        lines = each-append (IsCounted after) xs (new ∷ ys) (stay-before xs before (all-front
             (IsCounted ls) xs ys of.lines)) (
               (
                 omega (arith, one),
@@ -364,7 +365,7 @@ module _ (ls : List FileLine) (l : FileLine) (other : is_other l ≡ true) where
             );
         behind = subst (λ k. AllByRecursion (IsBehind k) after) (sym new_codes)
             (behind-more (codes_of xs ++ code ∷ codes_of ys) among few.0);
-        further_lines = subst (λ k. n ≡ count_by (λ x. is_other x && not (is_among k x)) after) (sym new_codes)
+        further_lines = subst (λ k. n ≡ count_by (λ x. is_other x && not (has_code_among k x)) after) (sym new_codes)
             (omega (
               arith,
               old_further,
@@ -393,7 +394,7 @@ module _ (ls : List FileLine) (l : FileLine) (other : is_other l ≡ true) where
     -- the new codes come before what comes behind the last, or is it
     new-before : (k : List ℕ) → AllBefore (xs ++ ys) k → Precedes code k → AllBefore new k
     new-before k all first =
-        both_all (λ c. Precedes c k) xs (code ∷ ys) (all-front (λ c. Precedes c k) xs ys all)
+        each-append (λ c. Precedes c k) xs (code ∷ ys) (all-front (λ c. Precedes c k) xs ys all)
         (first, all-back (λ c. Precedes c k) xs ys all)
 
     -- as many as are named
@@ -402,19 +403,19 @@ module _ (ls : List FileLine) (l : FileLine) (other : is_other l ≡ true) where
 
     -- a line that isn't among the new codes has the last one, or one behind it
     new-behind : (x : FileLine) → IsBehind old x → IsBehind new x
-    new-behind x was test = by (is_among old x) refl
+    new-behind x was test = by (has_code_among old x) refl
       where
-        by : (b : Bool) → is_among old x ≡ b → (length new ≡ most_codes) × AllBefore new (code_on x)
+        by : (b : Bool) → has_code_among old x ≡ b → (length new ≡ most_codes) × AllBefore new (code_on x)
         by false none =
-            let far = was (rw none (and_first (is_other x) (not (is_among new x)) test)) in
+            let far = was (rw none (and_first (is_other x) (not (has_code_among new x)) test)) in
             let all = all-front (λ c. Precedes c (code_on x)) (xs ++ ys) (z ∷ []) far.1 in
             let at_last = (all-back (λ c. Precedes c (code_on x)) (xs ++ ys) (z ∷ []) far.1).0 in
             (new-full, new-before (code_on x) all (nat_list_cmp_total.trans code z (code_on x) last at_last))
         by true some =
-            let out : is_among (xs ++ ys) x ≡ false = not_true (is_among (xs ++ ys) x)
-            (and_second (is_other x) (not (is_among (xs ++ ys) x)) (without_new xs ys x test)) in
+            let out : has_code_among (xs ++ ys) x ≡ false = not_true (has_code_among (xs ++ ys) x)
+            (and_second (is_other x) (not (has_code_among (xs ++ ys) x)) (without_new xs ys x test)) in
             let is_last : same_bytes z (code_on x) ≡ true =
-            or_second (is_among (xs ++ ys) x) (same_bytes z (code_on x)) out
+            or_second (has_code_among (xs ++ ys) x) (same_bytes z (code_on x)) out
             (sym (list_any-append (λ c. same_bytes c (code_on x)) (xs ++ ys) (z ∷ [])) ∙ some) in
             let same : z ≡ code_on x = same_bytes-is z (code_on x) is_last in
             (new-full, subst (AllBefore new) same (new-before z before_last last))
@@ -427,7 +428,7 @@ module _ (ls : List FileLine) (l : FileLine) (other : is_other l ≡ true) where
         cc
 
     -- the new code isn't among the old ones
-    new-fresh : is_among old l ≡ false
+    new-fresh : has_code_among old l ≡ false
     new-fresh =
         list_any-append (λ c. same_bytes c code) (xs ++ ys) (z ∷ [])
         ∙ rw (
@@ -439,13 +440,13 @@ module _ (ls : List FileLine) (l : FileLine) (other : is_other l ≡ true) where
 
     -- what is further with the new codes was further, or has the last one
     further-split : (zs : List FileLine) → AllByRecursion (IsBehind old) zs
-        → count_by (λ x. is_other x && not (is_among new x)) zs
-        ≡ count_by (λ x. is_other x && not (is_among old x)) zs + lines_with zs z
+        → count_by (λ x. is_other x && not (has_code_among new x)) zs
+        ≡ count_by (λ x. is_other x && not (has_code_among old x)) zs + lines_with zs z
     further-split [] all = refl
     further-split (x ∷ more) all =
         let rest = further-split more all.1 in
-        let new_sum = sum_by-cons (λ y. cond (is_other y && not (is_among new y)) 1 0) x more in
-        let old_sum = sum_by-cons (λ y. cond (is_other y && not (is_among old y)) 1 0) x more in
+        let new_sum = sum_by-cons (λ y. cond (is_other y && not (has_code_among new y)) 1 0) x more in
+        let old_sum = sum_by-cons (λ y. cond (is_other y && not (has_code_among old y)) 1 0) x more in
         let z_sum = sum_by-cons (λ y. cond (is_other y && same_bytes (code_on y) z) 1 0) x more in
         omega (arith, rest, new_sum, old_sum, z_sum, here)
       where
@@ -463,8 +464,8 @@ module _ (ls : List FileLine) (l : FileLine) (other : is_other l ≡ true) where
         apart-last ks h is =
             subst (λ c. list_any (λ d. same_bytes d c) ks ≡ false) (same_bytes-is z (code_on x) is) (none_before ks z h)
 
-        here : cond {A = ℕ} (is_other x && not (is_among new x)) 1 0
-            ≡ cond (is_other x && not (is_among old x)) 1 0 + cond (is_other x && same_bytes (code_on x) z) 1 0
+        here : cond {A = ℕ} (is_other x && not (has_code_among new x)) 1 0
+            ≡ cond (is_other x && not (has_code_among old x)) 1 0 + cond (is_other x && same_bytes (code_on x) z) 1 0
         here =
             rw (
               list_any-append (λ c. same_bytes c (code_on x)) xs (code ∷ ys),
@@ -495,8 +496,8 @@ module _ (ls : List FileLine) (l : FileLine) (other : is_other l ≡ true) where
       let rising : Rise ((cs ++ ds) ++ z ∷ []) = subst Rise old_codes of.rising in
       let was = subst (λ k. AllByRecursion (IsBehind k) ls) old_codes of.behind in
       let old_further = subst (λ k. n
-      ≡ count_by (λ x. is_other x && not (is_among k x)) ls) old_codes of.further_lines in
-      let among : is_among (cs ++ code ∷ ds) l ≡ true = among-at cs ds code refl in
+      ≡ count_by (λ x. is_other x && not (has_code_among k x)) ls) old_codes of.further_lines in
+      let among : has_code_among (cs ++ code ∷ ds) l ≡ true = among-at cs ds code refl in
       let nobody = no_line ((cs ++ ds) ++ z ∷ []) ls (new-fresh cs ds z many rising before behind ahead)
       (λ all_full h. not-all cs ds z many rising before behind ahead h) was in
       let more = rw (other, nat_list_eq_equiv.refl code) at (lines_with-more ls l code) in
@@ -513,16 +514,16 @@ module _ (ls : List FileLine) (l : FileLine) (other : is_other l ≡ true) where
         );
         rising = subst Rise (sym new_codes) (rise-between cs ds code (rise-front (cs
             ++ ds) (z ∷ []) rising) before behind);
-        lines = both_all (IsCounted after) xs (new ∷ ys) (stay-before xs before (all-front
+        lines = each-append (IsCounted after) xs (new ∷ ys) (stay-before xs before (all-front
             (IsCounted ls) xs ys counted)) (
               (omega (arith, one), (omega (arith, one, nobody, more)) ∙ ap (lines_with after) (sym is)),
               stay-behind ys behind (all-back (IsCounted ls) xs ys counted),
             );
         behind = subst (λ k. AllByRecursion (IsBehind k) after) (sym new_codes)
             (behind-more (cs ++ code ∷ ds) among
-            (weaken (IsBehind ((cs ++ ds) ++ z ∷ [])) (IsBehind (cs ++ code ∷ ds)) ls
+            (each-weaker (IsBehind ((cs ++ ds) ++ z ∷ [])) (IsBehind (cs ++ code ∷ ds)) ls
             (new-behind cs ds z many rising before behind ahead) was));
-        further_lines = subst (λ k. n + last.lines ≡ count_by (λ x. is_other x && not (is_among k x)) after)
+        further_lines = subst (λ k. n + last.lines ≡ count_by (λ x. is_other x && not (has_code_among k x)) after)
             (sym new_codes)
             (omega (
               arith,
@@ -597,9 +598,10 @@ pub no-other : (ls : List FileLine) (l : FileLine) → is_other l ≡ false → 
 no-other ls l none cs n of = record {
   few = of.few;
   rising = of.rising;
-  lines = weaken (IsCounted ls) (IsCounted (ls ++ l ∷ [])) cs
+  lines = each-weaker (IsCounted ls) (IsCounted (ls ++ l ∷ [])) cs
       (λ c h. (h.0, h.1 ∙ sym (rw none at (lines_with-more ls l c.code) ∙ omega arith))) of.lines;
-  behind = both_all (IsBehind (codes_of cs)) ls (l ∷ []) of.behind ((λ t. let never = rw none at t in absurd cc), tt);
+  behind = each-append (IsBehind (codes_of cs)) ls (l ∷ []) of.behind
+      ((λ t. let never = rw none at t in absurd cc), tt);
   further_lines = of.further_lines ∙ sym (rw none at (further-more (codes_of cs) ls l) ∙ omega arith);
 }
 

@@ -65,8 +65,8 @@ abbrev pub codes_of : List CodeCount → List (List ℕ)
 codes_of counts = map (λ c. c.code) counts
 
 -- the code of a line is one of these
-abbrev pub is_among : List (List ℕ) → FileLine → Bool
-is_among codes l = list_any (λ c. same_bytes c (code_on l)) codes
+abbrev pub has_code_among : List (List ℕ) → FileLine → Bool
+has_code_among codes l = list_any (λ c. same_bytes c (code_on l)) codes
 
 -- a code comes before another one by its bytes
 abbrev pub Precedes : List ℕ → List ℕ → Type 0
@@ -74,7 +74,7 @@ Precedes a b = slice_cmp nat_cmp a b ≡ Less
 
 -- a line of another code, unless that is among these: there are as many as are named, and all come before it
 abbrev pub IsBehind : List (List ℕ) → FileLine → Type 0
-IsBehind codes l = IsTrue (is_other l && not (is_among codes l))
+IsBehind codes l = IsTrue (is_other l && not (has_code_among codes l))
     → (length codes ≡ most_codes) × AllByRecursion (λ c. Precedes c (code_on l)) codes
 
 -- as many lines have a code as are counted, and some do
@@ -87,7 +87,7 @@ pub record AreOthers (ls : List FileLine) (counts : List CodeCount) (further : �
   pub rising : IsStrictlySortedBy (slice_cmp nat_cmp) (codes_of counts)
   pub lines : AllByRecursion (IsCounted ls) counts
   pub behind : AllByRecursion (IsBehind (codes_of counts)) ls
-  pub further_lines : further ≡ count_by (λ l. is_other l && not (is_among (codes_of counts) l)) ls
+  pub further_lines : further ≡ count_by (λ l. is_other l && not (has_code_among (codes_of counts) l)) ls
 
 -- ---- the files
 

@@ -9,7 +9,7 @@ use Rattle.ghcn_files.specs.declared.month.Month.{Month}
 use Rattle.ghcn_files.specs.Ids.{is_visible}
 use Rattle.ghcn_files.specs.Elements.{same_element}
 use Rattle.ghcn_series.specs.DailyFaults.{FileLine, month_on, is_listed}
-use Rattle.ghcn_series.specs.LineKinds.{is_of_element}
+use Rattle.ghcn_series.specs.LineKinds.{has_element}
 
 -- the month is of a listed station and of this element
 abbrev pub is_listed_of : List Station → Element → Month → Bool
@@ -25,7 +25,7 @@ unlisted_lines stations ls = count_by (λ m. not (is_listed stations m.id)) (fil
 
 -- the line has a code that is none of the five elements'
 abbrev pub is_other : FileLine → Bool
-is_other l = not (is_of_element l.bytes)
+is_other l = not (has_element l.bytes)
 
 -- how many lines have such a code
 abbrev pub other_lines : List FileLine → ℕ

@@ -10,8 +10,8 @@ use Rattle.ghcn_description.specs.declared.counts.Span.{Span}
 use Rattle.ghcn_description.specs.declared.counts.CodeCount.{CodeCount}
 
 -- a word and a number behind it
-abbrev pub counted : List ℕ → ℕ → List ℕ
-counted word n = word ++ decimal n
+abbrev pub counted_text : List ℕ → ℕ → List ℕ
+counted_text word n = word ++ decimal n
 
 -- a word and a day behind it
 abbrev pub dated : List ℕ → ℤ → List ℕ
@@ -29,29 +29,29 @@ span_text (Some span) = days_text span
 -- the line of an element
 abbrev pub element_line : ElementCounts → List ℕ
 element_line c =
-    codes "\nelement " ++ code_of c.element ++ counted (codes " lines ") c.lines
-    ++ counted (codes " series ") c.series ++ counted (codes " days ") c.days
-    ++ counted (codes " flagged ") c.flagged ++ span_text c.span
+    codes "\nelement " ++ code_of c.element ++ counted_text (codes " lines ") c.lines
+    ++ counted_text (codes " series ") c.series ++ counted_text (codes " days ") c.days
+    ++ counted_text (codes " flagged ") c.flagged ++ span_text c.span
 
 -- the line of another code
 abbrev pub code_line : CodeCount → List ℕ
-code_line c = codes "\nother " ++ c.code ++ counted (codes " lines ") c.lines
+code_line c = codes "\nother " ++ c.code ++ counted_text (codes " lines ") c.lines
 
 -- the line of further codes, where a line has one
 abbrev pub further_line : ℕ → List ℕ
 further_line zero = []
-further_line (suc n) = counted (codes "\nothers lines ") (suc n)
+further_line (suc n) = counted_text (codes "\nothers lines ") (suc n)
 
 -- the text of a description
 abbrev pub description_text : Description → List ℕ
 description_text d =
     codes "extremes description 1"
-    ++ counted (codes "\nstations ") d.stations
-    ++ counted (codes "\nfiles ") d.files
-    ++ counted (codes "\nlines ") d.lines
+    ++ counted_text (codes "\nstations ") d.stations
+    ++ counted_text (codes "\nfiles ") d.files
+    ++ counted_text (codes "\nlines ") d.lines
     ++ flat_map element_line d.elements
     ++ flat_map code_line d.others.items
     ++ further_line d.further
-    ++ counted (codes "\nunlisted lines ") d.unlisted
-    ++ counted (codes "\nblank lines ") d.blank
+    ++ counted_text (codes "\nunlisted lines ") d.unlisted
+    ++ counted_text (codes "\nblank lines ") d.blank
     ++ codes "\nend\n"

@@ -120,7 +120,7 @@ fn push_further(text: &mut Vec<u8>, lines: u64) -> Result<(), Memory>
 
 /// Adds a word and a number behind it.
 fn push_count(text: &mut Vec<u8>, word: &[u8], number: u64) -> Result<(), Memory>
-    ensures { OnOk result (text.new.items ≡ text.old.items ++ texts.counted word.now number) }
+    ensures { OnOk result (text.new.items ≡ text.old.items ++ texts.counted_text word.now number) }
 {
     let mut buffer = Buffer::new();
     text.extend_from_slice(word)?;

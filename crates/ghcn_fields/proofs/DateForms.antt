@@ -1,8 +1,9 @@
 -- Which texts are no dates, by their form, and what the places of a date hold.
-use Rattle.std.proofs.Common.{◌≡◌, ℕ, ◌-◌, ◌<◌, ◌≤◌, List, length, take, drop, get_or, Some, None, sym, ap, ◌∙◌, arith}
+use Rattle.std.proofs.Common.{◌≡◌, ℕ, ◌-◌, ◌<◌, List, length, take, drop, get_or, Some, None, sym, ap, ◌∙◌, arith}
 use Rattle.std.specs.Prelude.{◌≢◌, ◌^◌}
 use Rattle.std.proofs.lemmas.Grind.{common_steps}
 use Rattle.std.proofs.lemmas.List.{length-take-le, length-drop}
+use Rattle.std.proofs.lemmas.Bool.Decides.{nat_tests}
 use Rattle.ghcn_fields.specs.Numbers.{natural, up_to}
 use Rattle.ghcn_fields.specs.Dates.{read_date}
 use Rattle.ghcn_fields.proofs.DateDigits.{natural-lt, short_natural, four_are_some, two_are_some}
@@ -39,26 +40,19 @@ no_day bytes none = read_date-none bytes (λ y m d e.
 pub year_digits : (text : List ℕ) → length text ≡ 10 → up_to (2 ^ 31) (natural (take 4 text)) ≡ natural (take 4 text)
 year_digits text len = short_natural (take 4 text) (omega (arith, length-take-le 4 text (omega arith)))
 
--- a month stands in two bytes
-month_length : (text : List ℕ) → length text ≡ 10 → length (take 2 (drop 5 text)) ≤ 2
-month_length text len = omega (arith, length-take-le 2 (drop 5 text) (omega (arith, length-drop 5 text)))
-
 -- the same of the month's two bytes
 pub month_digits : (text : List ℕ) → length text ≡ 10
     → up_to (2 ^ 31) (natural (take 2 (drop 5 text))) ≡ natural (take 2 (drop 5 text))
-month_digits text len = short_natural (take 2 (drop 5 text)) (omega (arith, month_length text len))
+month_digits text len = grind (arith, nat_tests)
 
 -- and of the day's two
 pub day_digits : (text : List ℕ) → length text ≡ 10
     → up_to (2 ^ 31) (natural (take (length text - 8) (drop 8 text))) ≡ natural (drop 8 text)
-day_digits text len =
-    let rest : take (length text - 8) (drop 8 text) ≡ drop 8 text = grind (arith, common_steps) in
-    ap (λ (ds : List ℕ). up_to (2 ^ 31) (natural ds)) rest
-    ∙ short_natural (drop 8 text) (omega (arith, length-drop 8 text))
+day_digits text len = grind (arith, nat_tests, common_steps)
 
 -- a month and a day have two digits
 pub month-lt : (text : List ℕ) (n : ℕ) → length text ≡ 10 → natural (take 2 (drop 5 text)) ≡ Some n → n < 100
-month-lt text n len is = natural-lt (take 2 (drop 5 text)) n 2 is (month_length text len)
+month-lt text n len is = grind (arith, nat_tests)
 
 -- the day too
 pub day-lt : (text : List ℕ) (n : ℕ) → length text ≡ 10 → natural (drop 8 text) ≡ Some n → n < 100

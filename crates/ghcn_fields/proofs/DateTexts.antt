@@ -1,48 +1,36 @@
 -- Dates as texts: what is written is read, and what is read was written.
-use Rattle.std.proofs.Common.{◌≡◌, ◌↔◌, ℕ, ◌<◌, Bool, true, List, [], ◌∷◌, ◌++◌, length, take, drop, get_or, Option}
-use Rattle.std.proofs.Common.{Some, None, refl, sym, ap, ◌∙◌, inl, inr, arith, ℤ, pos}
+use Rattle.std.proofs.Common.{◌≡◌, ◌↔◌, ℕ, ◌<◌, Bool, true, List, [], ◌∷◌, length, take, drop, get_or, Option}
+use Rattle.std.proofs.Common.{Some, None, sym, ap, ◌∙◌, inl, inr, arith, ℤ, pos}
 use Rattle.std.specs.Prelude.{IsTrue, if◌then◌else◌}
 use Rattle.std.specs.Char.{is_ascii_digit}
 use Rattle.std.specs.List.{list_all, slice_range}
 use Rattle.std.specs.Str.Parse.{digits_value}
 use Rattle.std.specs.Cmp.Lexicographic.{same_text}
 use Rattle.std.proofs.lemmas.Bool.{cases_Bool}
-use Rattle.std.proofs.lemmas.Cmp.{nat_list_eq_equiv}
+use Rattle.std.proofs.lemmas.Bool.Decides.{nat_tests}
 use Rattle.jiff_core.proofs.SignedLemmas.{signed_arith}
 use Rattle.jiff_core.proofs.CalendarLemmas.{days_in_month_bounds}
 use Rattle.ghcn_fields.specs.Bytes.{same_bytes}
 use Rattle.ghcn_fields.specs.Numbers.{natural}
-use Rattle.ghcn_fields.specs.NumberTexts.{last_digits}
 use Rattle.ghcn_fields.specs.Days.{is_day, day_number}
 use Rattle.ghcn_fields.specs.Dates.{civil, date_bytes, date_text, read_date}
 use Rattle.ghcn_fields.proofs.Digits.{natural-some}
-use Rattle.ghcn_fields.proofs.CivilDates.{civil-is}
+use Rattle.ghcn_fields.proofs.CivilDates.{civil-is, civil-date_of}
 use Rattle.ghcn_fields.proofs.DayNumbers.{is_day-date}
-use Rattle.ghcn_fields.proofs.WholeDays.{civil-date_of, day_number-civil, day_number-some, is_date-to_civil}
+use Rattle.ghcn_fields.proofs.WholeDays.{day_number-civil, day_number-some, is_date-to_civil}
 use Rattle.ghcn_fields.proofs.DateDigits.{value_of_two, value_of_four, two_again, four_again}
 
 -- what is read where the bytes are the text of this year, month and day
 abbrev read_as : List ℕ → ℕ → ℕ → ℕ → Option ℤ
 read_as bytes y m d = if same_bytes (date_bytes (y, m, d)) bytes then day_number y m d else None
 
--- bytes are the same as themselves
-same_bytes-refl : (bytes : List ℕ) → same_bytes bytes bytes ≡ true
-same_bytes-refl bytes = nat_list_eq_equiv.refl bytes
-
 -- bytes that are the text of what they hold are read as that
 read_as-same : (bytes : List ℕ) (y m d : ℕ) → date_bytes (y, m, d) ≡ bytes → read_as bytes y m d ≡ day_number y m d
-read_as-same bytes y m d is = ap (λ (b : Bool). if b then day_number y m d else None)
-    (ap (λ (xs : List ℕ). same_bytes xs bytes) is ∙ same_bytes-refl bytes)
+read_as-same bytes y m d is = grind (arith, nat_tests)
 
 -- a text that is written as a date is read as one
 read_written : (y m d : ℕ) → y < 10000 → m < 100 → d < 100 → read_date (date_bytes (y, m, d)) ≡ day_number y m d
-read_written y m d year month day =
-    let bytes : List ℕ = date_bytes (y, m, d) in
-    ap (λ (n : ℕ). read_as bytes n (digits_value 10 (last_digits 2 m)) (digits_value 10 (last_digits 2 d)))
-    (value_of_four y year)
-    ∙ ap (λ (n : ℕ). read_as bytes y n (digits_value 10 (last_digits 2 d))) (value_of_two m month)
-    ∙ ap (λ (n : ℕ). read_as bytes y m n) (value_of_two d day)
-    ∙ read_as-same bytes y m d refl
+read_written y m d year month day = grind (arith, nat_tests, read_as-same, value_of_two, value_of_four)
 
 -- digits in the places of a date are read as their numbers
 read_digits : (a b c e f g h i : ℕ) → list_all is_ascii_digit (a ∷ b ∷ c ∷ e ∷ []) ≡ true
@@ -50,14 +38,7 @@ read_digits : (a b c e f g h i : ℕ) → list_all is_ascii_digit (a ∷ b ∷ c
     → read_date (a ∷ b ∷ c ∷ e ∷ 45 ∷ f ∷ g ∷ 45 ∷ h ∷ i ∷ [])
     ≡ day_number (digits_value 10 (a ∷ b ∷ c ∷ e ∷ [])) (digits_value 10 (f ∷ g ∷ []))
     (digits_value 10 (h ∷ i ∷ []))
-read_digits a b c e f g h i year month day =
-    read_as-same (a ∷ b ∷ c ∷ e ∷ 45 ∷ f ∷ g ∷ 45 ∷ h ∷ i ∷ []) (digits_value 10 (a ∷ b ∷ c ∷ e ∷ []))
-    (digits_value 10 (f ∷ g ∷ [])) (digits_value 10 (h ∷ i ∷ []))
-    (ap (λ (xs : List ℕ). xs ++ 45 ∷ last_digits 2 (digits_value 10 (f ∷ g ∷ []))
-    ++ 45 ∷ last_digits 2 (digits_value 10 (h ∷ i ∷ []))) (four_again a b c e year)
-    ∙ ap (λ (xs : List ℕ). (a ∷ b ∷ c ∷ e ∷ []) ++ 45 ∷ xs ++ 45 ∷ last_digits 2 (digits_value 10 (h ∷ i ∷ [])))
-    (two_again f g month)
-    ∙ ap (λ (xs : List ℕ). (a ∷ b ∷ c ∷ e ∷ []) ++ 45 ∷ (f ∷ g ∷ []) ++ 45 ∷ xs) (two_again h i day))
+read_digits a b c e f g h i year month day = grind (arith, nat_tests, read_as-same, two_again, four_again)
 
 -- the same of a text by its parts
 pub read_date-parts : (bytes : List ℕ) (y m d : ℕ) → length bytes ≡ 10 → get_or bytes 4 0 ≡ 45 → get_or bytes 7 0 ≡ 45
@@ -125,4 +106,4 @@ read_date-law bytes day = (
 -- what reads as the definition does reads what is written for a day
 pub written_by : (bytes : List ℕ) (found : Option ℤ) → found ≡ read_date bytes → (day : ℤ)
     → (found ≡ Some day) ↔ (IsTrue (is_day day) × (bytes ≡ date_text day))
-written_by bytes found is day = let law = read_date-law bytes day in (λ e. law.0 (sym is ∙ e), λ h. is ∙ law.1 h)
+written_by bytes found is day = rw is (read_date-law bytes day)

@@ -1,8 +1,7 @@
 -- Which number a text spells, and how it is found.
 use Rattle.std.proofs.Common.{◌≡◌, ℕ, ◌+◌, ◌-◌, ◌*◌, ◌^◌, ◌<◌, ◌≤◌, Bool, true, false, List, [], ◌∷◌, ◌++◌, length}
-use Rattle.std.proofs.Common.{take, drop, get_or, Option, Some, None, refl, sym, ap, ◌∙◌, subst, inl, inr, append_assoc}
-use Rattle.std.proofs.Common.{arith, ℤ}
-use Rattle.std.specs.Prelude.{nat_le, ◌==◌, if◌then◌else◌}
+use Rattle.std.proofs.Common.{get_or, Option, Some, refl, sym, ap, ◌∙◌, inl, inr, arith, ℤ}
+use Rattle.std.specs.Prelude.{◌==◌}
 use Rattle.std.specs.List.{list_all, list_any, before_first, after_first, position_or_len}
 use Rattle.std.specs.Option.{option_map}
 use Rattle.std.specs.Char.{is_ascii_digit}
@@ -13,9 +12,10 @@ use Rattle.std.proofs.lemmas.Bool.Decides.{nat_tests}
 use Rattle.std.proofs.lemmas.List.{append-nil}
 use Rattle.std.proofs.lemmas.List.Folds.{list_all-append}
 use Rattle.std.proofs.lemmas.List.Sums.{split_at_first, passes_at_first}
+use Rattle.std.proofs.lemmas.Grind.{common_steps}
 use Rattle.ghcn_fields.specs.Numbers.{natural, joined, decimal_number, with_sign, signed_by}
 use Rattle.ghcn_fields.specs.Fields.{part_text, sign_text, Spells}
-use Rattle.ghcn_fields.proofs.Decimals.{is_point, decimal_number-by}
+use Rattle.ghcn_fields.proofs.Decimals.{is_point}
 use Rattle.ghcn_fields.proofs.Digits.{natural-some, natural-from}
 
 -- a digit is no point
@@ -39,11 +39,7 @@ point_at (d ∷ ds) rest digits =
 
 -- a text with a point has one
 has_point : (ds rest : List ℕ) → list_any is_point (ds ++ 46 ∷ rest) ≡ true
-has_point [] rest = refl
-has_point (d ∷ ds) rest = elim (cases_Bool (is_point d)) [
-  | inl is ↦ rw is refl
-  | inr other ↦ rw other (has_point ds rest)
-]
+has_point ds rest = grind (arith, nat_tests, common_steps)
 
 -- a text without a sign writes n units of the last of some places
 pub record Writes (places : ℕ) (text : List ℕ) (n : ℕ) : Type 0 where
@@ -67,40 +63,20 @@ record AreJoined (places : ℕ) (whole part : Option ℕ) (len n : ℕ) : Type 0
 -- a number that is joined has both parts
 joined-some : (places len n : ℕ) (whole part : Option ℕ) → joined places whole part len ≡ Some n
     → AreJoined places whole part len n
-joined-some places len n None part e = absurd cc
-joined-some places len n (Some w) None e = absurd cc
-joined-some places len n (Some w) (Some p) e = elim (cases_Bool (nat_le len places)) [
-  | inl few ↦ let is = rw few at e in record {
-    front = w;
-    behind = p;
-    whole_is = refl;
-    part_is = refl;
-    few = le_of few;
-    value = cc;
-  }
-  | inr many ↦ let is = rw many at e in absurd cc
-] where
-  -- an order from its test
-  le_of : {m n : ℕ} → nat_le m n ≡ true → m ≤ n
-  le_of {m = m} {n = n} e = grind (arith, nat_tests)
+joined-some places len n whole part e = grind arith
 
 -- digits behind a point are written with it
 part_text-some : (part : List ℕ) → 1 ≤ length part → part_text part ≡ 46 ∷ part
-part_text-some [] some = absurd (omega arith)
-part_text-some (d ∷ ds) some = refl
+part_text-some part some = grind arith
 
 -- what is mapped was there
 map-some : (f : ℕ → ℕ) (o : Option ℕ) (n : ℕ) → option_map f o ≡ Some n → (m : ℕ) × (o ≡ Some m) × (n ≡ f m)
-map-some f None n e = absurd cc
-map-some f (Some m) n e = (m, refl, cc)
+map-some f o n e = grind arith
 
 -- a point that is there stands before the end
 point_before_end : (text : List ℕ) → list_any is_point text ≡ true → position_or_len is_point text < length text
 point_before_end [] e = absurd cc
-point_before_end (b ∷ bytes) e = elim (cases_Bool (is_point b)) [
-  | inl here ↦ rw here (omega arith)
-  | inr later ↦ let rest = rw later at e in rw later (omega (arith, point_before_end bytes rest))
-]
+point_before_end (b ∷ bytes) e = grind (arith, nat_tests, point_before_end bytes)
 
 -- a point is the byte 46
 is_46 : (b : ℕ) → is_point b ≡ true → b ≡ 46
@@ -130,18 +106,9 @@ writes-from_decimal_number places text n e = elim (cases_Bool (list_any is_point
         value = j.value ∙ rw (w.2, p.2);
       }
   | inr plain ↦
-      let digits_alone = rw plain at e in
-      let m = map-some (λ n. n * 10 ^ places) (natural text) n digits_alone in
+      let m = map-some (λ n. n * 10 ^ places) (natural text) n (rw plain at e) in
       let w = natural-some text m.0 m.1 in
-      record {
-        whole = text;
-        part = [];
-        parts = sym (append-nil text);
-        some_digit = w.0;
-        digits = ap (list_all is_ascii_digit) (append-nil text) ∙ w.1;
-        few = omega arith;
-        value = m.2 ∙ ap (λ (k : ℕ). k * 10 ^ places) w.2 ∙ omega arith;
-      }
+      grind (arith, nat_tests, append-nil)
 ]
 
 -- a whole part and a part behind the point are read as their number
@@ -150,64 +117,33 @@ read_parts : (places : ℕ) (whole part : List ℕ) → 1 ≤ length whole → l
     → decimal_number places (whole ++ part_text part)
     ≡ Some (digits_value 10 whole * 10 ^ places + digits_value 10 part * 10 ^ (places - length part))
 read_parts places whole [] some digits more few =
-    ap (decimal_number places) (append-nil whole)
-    ∙ rw (no_point whole digits, natural-from whole some digits) (ap (λ (k : ℕ). Some k) (omega arith))
+    ap (decimal_number places) (append-nil whole) ∙ rw (no_point whole digits) (grind (arith, nat_tests))
 read_parts places whole (d ∷ ds) some digits more few =
-    let text : List ℕ = whole ++ 46 ∷ d ∷ ds in
-    let front : take (length whole) text ≡ whole = take-append_seam whole (46 ∷ d ∷ ds) in
-    let behind : drop (length whole + 1) text ≡ d ∷ ds = drop-append-add whole (46 ∷ d ∷ ds) 1 in
-    decimal_number-by places text (has_point whole (d ∷ ds))
-    ∙ ap (λ (k : ℕ). joined places (natural (take k text)) (natural (drop (k + 1) text))
-    (length (drop (k + 1) text))) (point_at whole (d ∷ ds) digits)
-    ∙ ap (λ (xs : List ℕ). joined places (natural xs) (natural (drop (length whole + 1) text))
-    (length (drop (length whole + 1) text))) front
-    ∙ ap (λ (xs : List ℕ). joined places (natural whole) (natural xs) (length xs)) behind
-    ∙ ap (λ (o : Option ℕ). joined places o (natural (d ∷ ds)) (length (d ∷ ds))) (natural-from whole some digits)
-    ∙ ap (λ (o : Option ℕ). joined places (Some (digits_value 10 whole)) o (length (d ∷ ds)))
-    (natural-from (d ∷ ds) (omega arith) more)
-    ∙ ap (λ (b : Bool). if b then Some (digits_value 10 whole * 10 ^ places + digits_value 10 (d ∷ ds) * 10 ^
-    (places - length (d ∷ ds))) else None) (few_enough few)
-  where
-    few_enough : {m n : ℕ} → m ≤ n → nat_le m n ≡ true
-    few_enough {m = m} {n = n} e = grind (arith, nat_tests)
+    rw (
+      has_point whole (d ∷ ds),
+      point_at whole (d ∷ ds) digits,
+      take-append_seam whole (46 ∷ d ∷ ds),
+      drop-append-add whole (46 ∷ d ∷ ds) 1,
+    ) (grind (arith, nat_tests, natural-from))
 
 -- what is written is found as a decimal number
 pub decimal_number-from_writes : (places : ℕ) (text : List ℕ) (n : ℕ) → Writes places text n
     → decimal_number places text ≡ Some n
-decimal_number-from_writes places text n w =
-    let digits = and_parts (list_all is_ascii_digit w.whole) (list_all is_ascii_digit w.part)
-    (sym (list_all-append is_ascii_digit w.whole w.part) ∙ w.digits) in
-    ap (decimal_number places) w.parts ∙ read_parts places w.whole w.part w.some_digit digits.0 digits.1 w.few
-    ∙ ap (λ (k : ℕ). Some k) (sym w.value)
+decimal_number-from_writes places text n w = grind (arith, nat_tests, read_parts, list_all-append)
 
 -- a number with a sign had a magnitude
 map_sign-some : (negative : Bool) (o : Option ℕ) (v : ℤ) → option_map (with_sign negative) o ≡ Some v
     → (n : ℕ) × (o ≡ Some n) × (v ≡ with_sign negative n)
-map_sign-some negative None v e = absurd cc
-map_sign-some negative (Some n) v e = (n, refl, cc)
+map_sign-some negative o v e = grind arith
 
 -- a text that writes n spells it with either sign
 spells_by : (places : ℕ) (negative : Bool) (text : List ℕ) (n : ℕ) (v : ℤ) → Writes places text n
     → v ≡ with_sign negative n → Spells places (sign_text negative ++ text) v
-spells_by places negative text n v w is = record {
-  negative = negative;
-  whole = w.whole;
-  part = w.part;
-  parts = ap (λ (xs : List ℕ). sign_text negative ++ xs) w.parts
-      ∙ sym (append_assoc (sign_text negative) w.whole (part_text w.part));
-  some_digit = w.some_digit;
-  digits = w.digits;
-  few = w.few;
-  value = is ∙ ap (with_sign negative) w.value;
-}
+spells_by places negative text n v w is = grind arith
 
 -- any other byte is no minus
 no_minus : (b : ℕ) → (b ≡ 45 → ⊥) → (b == 45) ≡ false
 no_minus b other = grind (arith, nat_tests)
-
--- a digit is no minus
-no_minus_digit : (b : ℕ) → is_ascii_digit b ≡ true → (b == 45) ≡ false
-no_minus_digit b is = grind (arith, nat_tests)
 
 -- what is found behind an optional minus is spelled
 pub spells-from_signed : (places : ℕ) (text : List ℕ) (v : ℤ) → signed_by (decimal_number places) text ≡ Some v
@@ -215,13 +151,10 @@ pub spells-from_signed : (places : ℕ) (text : List ℕ) (v : ℤ) → signed_b
 spells-from_signed places [] v e = absurd cc
 spells-from_signed places (b ∷ bytes) v e = elim (cases_eq b 45) [
   | inl minus ↦
-      let behind = rw minus at e in
-      let m = map_sign-some true (decimal_number places bytes) v behind in
-      let spelled = spells_by places true bytes m.0 v (writes-from_decimal_number places bytes m.0 m.1) m.2 in
-      subst (λ (first : ℕ). Spells places (first ∷ bytes) v) (sym minus) spelled
+      let m = map_sign-some true (decimal_number places bytes) v (rw minus at e) in
+      rw minus (spells_by places true bytes m.0 v (writes-from_decimal_number places bytes m.0 m.1) m.2)
   | inr plain ↦
-      let all = rw (no_minus b plain) at e in
-      let m = map_sign-some false (decimal_number places (b ∷ bytes)) v all in
+      let m = map_sign-some false (decimal_number places (b ∷ bytes)) v (rw (no_minus b plain) at e) in
       spells_by places false (b ∷ bytes) m.0 v (writes-from_decimal_number places (b ∷ bytes) m.0 m.1) m.2
 ]
 
@@ -229,63 +162,31 @@ spells-from_signed places (b ∷ bytes) v e = elim (cases_eq b 45) [
 signed_parts : (places : ℕ) (negative : Bool) (whole part : List ℕ) (n : ℕ)
     → Writes places (whole ++ part_text part) n → 1 ≤ length whole → list_all is_ascii_digit (whole ++ part) ≡ true
     → signed_by (decimal_number places) (sign_text negative ++ whole ++ part_text part) ≡ Some (with_sign negative n)
-signed_parts places true whole part n w some digits =
-    ap (option_map (with_sign true)) (decimal_number-from_writes places (whole ++ part_text part) n w)
-signed_parts places false [] part n w some digits = absurd (omega arith)
-signed_parts places false (b ∷ bytes) part n w some digits =
-    let first = and_parts (is_ascii_digit b) (list_all is_ascii_digit (bytes ++ part)) digits in
-    rw (no_minus_digit b first.0) (ap (option_map (with_sign false))
-    (decimal_number-from_writes places (b ∷ bytes ++ part_text part) n w))
+signed_parts places negative [] part n w some digits = absurd (omega arith)
+signed_parts places negative (b ∷ bytes) part n w some digits =
+    let is = decimal_number-from_writes places (b ∷ bytes ++ part_text part) n w in grind (arith, nat_tests)
 
 -- what is spelled is found
 pub signed-from_spells : (places : ℕ) (text : List ℕ) (v : ℤ) → Spells places text v
     → signed_by (decimal_number places) text ≡ Some v
-signed-from_spells places text v s =
-    let n : ℕ = digits_value 10 s.whole * 10 ^ places + digits_value 10 s.part * 10 ^ (places - length s.part) in
-    let writes : Writes places (s.whole ++ part_text s.part) n =
-    record {
-      whole = s.whole;
-      part = s.part;
-      parts = refl;
-      some_digit = s.some_digit;
-      digits = s.digits;
-      few = s.few;
-      value = refl;
-    } in
-    ap (signed_by (decimal_number places)) s.parts
-    ∙ signed_parts places s.negative s.whole s.part n writes s.some_digit s.digits
-    ∙ ap (λ (z : ℤ). Some z) (sym s.value)
+signed-from_spells places text v s = grind (arith, nat_tests, signed_parts)
 
 -- two answers are one where each number that the one has is the other's
 same_number : (o p : Option ℕ) → ((n : ℕ) → o ≡ Some n → p ≡ Some n) → ((n : ℕ) → p ≡ Some n → o ≡ Some n) → o ≡ p
-same_number None None to from = refl
-same_number None (Some n) to from = from n refl
-same_number (Some n) p to from = sym (to n refl)
+same_number o p to from = grind arith
 
 -- without places no digits stand behind a point
 natural-from_writes : (text : List ℕ) (n : ℕ) (whole part : List ℕ) → text ≡ whole ++ part_text part
     → 1 ≤ length whole → list_all is_ascii_digit (whole ++ part) ≡ true → length part ≤ 0
     → n ≡ digits_value 10 whole * 10 ^ 0 + digits_value 10 part * 10 ^ (0 - length part) → natural text ≡ Some n
-natural-from_writes text n whole [] parts some digits few value =
-    ap natural (parts ∙ append-nil whole)
-    ∙ natural-from whole some (ap (list_all is_ascii_digit) (sym (append-nil whole)) ∙ digits)
-    ∙ ap (λ (k : ℕ). Some k) (omega (arith, value))
-natural-from_writes text n whole (d ∷ ds) parts some digits few value = absurd (omega arith)
+natural-from_writes text n whole part parts some digits few value = grind (arith, nat_tests, append-nil)
 
 -- so the number is that of the digits
 pub decimal_number-zero : (text : List ℕ) → decimal_number 0 text ≡ natural text
 decimal_number-zero text = same_number (decimal_number 0 text) (natural text)
     (λ n e. let w = writes-from_decimal_number 0 text n e in
     natural-from_writes text n w.whole w.part w.parts w.some_digit w.digits w.few w.value)
-    (λ n e. let w = natural-some text n e in decimal_number-from_writes 0 text n (record {
-      whole = text;
-      part = [];
-      parts = sym (append-nil text);
-      some_digit = w.0;
-      digits = ap (list_all is_ascii_digit) (append-nil text) ∙ w.1;
-      few = omega arith;
-      value = omega (arith, w.2);
-    }))
+    (λ n e. let w = natural-some text n e in decimal_number-from_writes 0 text n (grind (arith, nat_tests, append-nil)))
 
 -- the same behind an optional minus
 pub signed_by-zero : (text : List ℕ) → signed_by (decimal_number 0) text ≡ signed_by natural text

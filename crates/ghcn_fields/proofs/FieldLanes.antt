@@ -1,22 +1,25 @@
 -- Two number fields of five columns each, tested by lanes.
-use Rattle.std.proofs.Common.{◌≡◌, ℕ, zero, suc, ◌+◌, ◌*◌, ◌-◌, ◌/◌, ◌%◌, ◌^◌, Bool, true, false, cond, List, [], ◌∷◌}
-use Rattle.std.proofs.Common.{◌++◌, map, length, get_or, refl, sym, ap, ap₂, ◌∙◌, arith, pos, eqb, leb, ltb, w8}
+use Rattle.std.proofs.Common.{◌≡◌, ℕ, zero, suc, ◌+◌, ◌*◌, ◌-◌, ◌%◌, ◌^◌, Bool, true, false, cond, List, [], ◌∷◌, ◌++◌}
+use Rattle.std.proofs.Common.{map, length, get_or, refl, sym, ap, ap₂, ◌∙◌, arith, pos, eqb, leb, ltb, w8, ℤ, ◌<◌}
+use Rattle.std.proofs.Common.{rules}
 use Rattle.std.proofs.lemmas.List.{length-map}
 use Rattle.std.proofs.lemmas.Nat.{le_or_r}
 use Rattle.std.specs.Int.Bits.{or_zero_r}
-use Rattle.std.specs.Prelude.{◌&&◌, ◌||◌, ◌==◌, not, bit_or, bit_and, replicate}
+use Rattle.std.specs.Prelude.{◌&&◌, ◌||◌, ◌==◌, not, bit_or, bit_and, replicate, if◌then◌else◌, neg_ℤ}
 use Rattle.std.specs.Char.{is_ascii_digit}
 use Rattle.std.specs.List.{list_all, list_any, range_with_len}
 use Rattle.std.proofs.lemmas.Bool.Decides.{nat_tests}
 use Rattle.std.proofs.Math.Nat.{pow-suc}
 use Rattle.std.proofs.Math.Pow.{suc_ones}
 use Rattle.std.proofs.lemmas.Simd.{pick_l_whole, mask_l-mod, tops_compared, zip2_splat_left, length-zip2}
+use Rattle.std.proofs.lemmas.Bool.{and_parts}
 use lib.Lanes.{mask_l, top, zip2}
 use Rattle.ghcn_fields.specs.Bytes.{is_blank}
-use Rattle.ghcn_fields.specs.Numbers.{int_field, is_bad}
-use Rattle.ghcn_fields.specs.FieldForms.{digit_of, kind_of, may_precede, is_minus, is_number_form}
-use Rattle.ghcn_fields.specs.FieldForms.{form_of_kinds, is_malformed, are_set, are_set_but, five_of_eight, IsSum}
-use Rattle.ghcn_fields.proofs.FieldsByKind.{sum_of, form_field, form-cases, form}
+use Rattle.ghcn_fields.specs.Numbers.{int_field, is_bad, number_or}
+use Rattle.ghcn_fields.specs.FieldForms.{may_precede, is_minus, is_number_form, digits_behind, are_set, are_set_but}
+use Rattle.ghcn_fields.specs.FieldForms.{five_of_eight}
+use Rattle.ghcn_fields.proofs.FieldsByForm.{field_by_form, int_field-form}
+use Rattle.ghcn_fields.proofs.FieldsByKind.{digit-small}
 
 -- ---- a field whose bytes may stand where they do
 
@@ -34,53 +37,37 @@ blank_digit b e = grind (arith, nat_tests)
 before_blanks : (blank other digit number blanks : Bool) → (blanks ≡ true → digit ≡ false)
     → ((blank || (other && digit)) && (number || blanks))
     ≡ (((blank || (other && digit)) && number) || (blank && blanks))
-before_blanks true other digit number blanks apart = refl
-before_blanks false false digit number blanks apart = refl
-before_blanks false true false number blanks apart = refl
-before_blanks false true true number false apart = refl
-before_blanks false true true number true apart = let none : true ≡ false = apart refl in absurd cc
+before_blanks blank other digit number blanks apart = grind arith
 
 -- such bytes are a number or blanks alone
 stands : (b : ℕ) (bytes : List ℕ) → may_stand (b ∷ bytes) ≡ (is_number_form (b ∷ bytes) || is_blank (b ∷ bytes))
-stands b [] = by (b == 32) (is_ascii_digit b)
-  where
-    by : (blank digit : Bool) → (blank || digit) ≡ (digit || (blank && true))
-    by true true = refl
-    by true false = refl
-    by false true = refl
-    by false false = refl
+stands b [] = grind (arith, nat_tests)
 stands b (c ∷ bytes) =
     ap (λ (t : Bool). may_precede b c && t) (stands c bytes)
     ∙ before_blanks (b == 32) (is_ascii_digit b || (b == 45)) (is_ascii_digit c) (is_number_form (c ∷ bytes))
-    (is_blank (c ∷ bytes)) (λ all. blank_digit c (first (c == 32) (is_blank bytes) all))
-  where
-    first : (s t : Bool) → (s && t) ≡ true → s ≡ true
-    first true t e = refl
-    first false t e = absurd cc
+    (is_blank (c ∷ bytes)) (λ all. blank_digit c (and_parts (c == 32) (is_blank bytes) all).0)
 
--- a form is malformed where the bytes are neither a number nor blanks
-malformed : (number negative blank : Bool) → is_malformed (form number negative blank) ≡ not (number || blank)
-malformed true true blank = refl
-malformed true false blank = refl
-malformed false negative true = refl
-malformed false negative false = refl
+-- a number by what is known of its field
+abbrev pub by_parts : Bool → Bool → ℕ → ℤ → ℤ
+by_parts number negative n other = if number then (if negative then neg_ℤ (pos n) else pos n) else other
+
+-- whether a field of such a form is bad, and its number
+by-form : (number negative blank : Bool) (n : ℕ) (other : ℤ) → n < 131072
+    → (is_bad (field_by_form number negative n blank) ≡ not (number || blank))
+    × (number_or other (field_by_form number negative n blank) ≡ by_parts number negative n other)
+by-form number negative blank n other small = grind arith
+
+-- the same of a field of five bytes
+pub five-form : (other : ℤ) (a b c d e : ℕ) → let bytes : List ℕ = a ∷ b ∷ c ∷ d ∷ e ∷ [] in
+    (is_bad (int_field bytes) ≡ not (is_number_form bytes || is_blank bytes)) × (number_or other (int_field bytes)
+    ≡ by_parts (is_number_form bytes) (list_any is_minus bytes) (digits_behind 0 bytes) other)
+five-form other a b c d e =
+    rw (int_field-form (a ∷ b ∷ c ∷ d ∷ e ∷ [])) (by-form _ _ _ (digits_behind 0 (a ∷ b ∷ c ∷ d ∷ e ∷ [])) other
+    (omega (arith, digit-small)))
 
 -- a field of five bytes is bad where one of them may not stand where it does
 pub bad_five : (a b c d e : ℕ) → is_bad (int_field (a ∷ b ∷ c ∷ d ∷ e ∷ [])) ≡ not (may_stand (a ∷ b ∷ c ∷ d ∷ e ∷ []))
-bad_five a b c d e =
-    let bytes : List ℕ = a ∷ b ∷ c ∷ d ∷ e ∷ [] in
-    let v : ℕ = 10000 * digit_of a + 131072 * kind_of a in
-    let w : ℕ = 1000 * digit_of b + 524288 * kind_of b in
-    let x : ℕ = 100 * digit_of c + 2097152 * kind_of c in
-    let y : ℕ = 10 * digit_of d + 8388608 * kind_of d in
-    let z : ℕ = 1 * digit_of e + 33554432 * kind_of e in
-    let s : ℕ = v + w + x + y + z in
-    let said : IsSum s bytes = sum_of a b c d e v w x y z refl refl refl refl refl in
-    ap is_bad (sym (form_field s (form_of_kinds (s / 131072)) bytes said refl))
-    ∙ sym (form-cases (form_of_kinds (s / 131072)) (s % 131072) (pos 0) (omega arith)).0
-    ∙ ap is_malformed said.form
-    ∙ malformed (is_number_form bytes) (list_any is_minus bytes) (is_blank bytes)
-    ∙ ap not (sym (stands a (b ∷ c ∷ d ∷ e ∷ [])))
+bad_five a b c d e = (five-form (pos 0) a b c d e).0 ∙ ap not (sym (stands a (b ∷ c ∷ d ∷ e ∷ [])))
 
 -- ---- lanes
 
@@ -88,47 +75,15 @@ bad_five a b c d e =
 abbrev pub mark : Bool → ℕ
 mark t = cond t 255 0
 
--- marks joined by a bitwise or are that of either
-or-mark : (s t : Bool) → bit_or (mark s) (mark t) ≡ mark (s || t)
-or-mark true true = refl
-or-mark true false = refl
-or-mark false true = refl
-or-mark false false = refl
-
--- and by a bitwise and that of both
-and-mark : (s t : Bool) → bit_and (mark s) (mark t) ≡ mark (s && t)
-and-mark true true = refl
-and-mark true false = refl
-and-mark false true = refl
-and-mark false false = refl
-
--- a mask's lanes are taken as they are
-pub set-mark : (t : Bool) → cond (top 7 (mark t)) 255 0 ≡ mark t
-set-mark true = refl
-set-mark false = refl
-
--- a lane has all its bits where its mark is set
-pub whole-mark : (t : Bool) → leb 255 (mark t) ≡ t
-whole-mark true = refl
-whole-mark false = refl
-
 -- a mask's lanes are taken as they are
 pub taken : (t : Bool) (x y : ℕ) → cond (top 7 (mark t)) x y ≡ cond t x y
-taken true x y = refl
-taken false x y = refl
+taken t x y = grind arith
 
 -- the digit nearest to a byte
 abbrev nearest : ℕ → ℕ
 nearest b =
     let least = cond (top 7 (mark (ltb b 48))) 48 b in
     cond (top 7 (mark (ltb least 57))) least 57
-
--- a byte is a digit where none is nearer
-near-digit : (b : ℕ) → eqb b (nearest b) ≡ is_ascii_digit b
-near-digit b =
-    let least : ℕ = cond (ltb b 48) 48 b in
-    ap (λ (n : ℕ). eqb b (cond (top 7 (mark (ltb n 57))) n 57)) (taken (ltb b 48) 48 b)
-    ∙ ap (eqb b) (taken (ltb least 57) least 57) ∙ grind (arith, nat_tests)
 
 -- what a byte's lane says, by the next byte, and what else may stand before a digit
 abbrev lane : ℕ → ℕ → ℕ → ℕ
@@ -137,44 +92,19 @@ lane b next minus =
     bit_or (cond (top 7 (mark (eqb b 32))) 255 0)
     (bit_and (bit_or (digits b) (cond (top 7 (mark (eqb b minus))) 255 0)) (digits next))
 
--- that the byte may stand there
-lane-is : (b next minus : ℕ) → leb 255 (lane b next minus)
-    ≡ ((b == 32) || ((is_ascii_digit b || (b == minus)) && is_ascii_digit next))
-lane-is b next minus =
-    let d : Bool = is_ascii_digit b in
-    let n : Bool = is_ascii_digit next in
-    rw (
-      near-digit b,
-      near-digit next,
-      set-mark (b == 32),
-      set-mark (b == minus),
-      set-mark d,
-      set-mark n,
-      or-mark d (b == minus),
-      and-mark (d || (b == minus)) n,
-      or-mark (b == 32) ((d || (b == minus)) && n),
-    ) (whole-mark _)
-
 -- a byte of a field before its last one
 lane-front : (b next : ℕ) → leb 255 (lane b next 45) ≡ may_precede b next
-lane-front b next = lane-is b next 45
+lane-front b next = search rules
 
 -- a field's last byte
 lane-last : (b : ℕ) → leb 255 (lane b b 48) ≡ may_stand (b ∷ [])
-lane-last b = lane-is b b 48 ∙ by (b == 32) (is_ascii_digit b) (b == 48)
-  where
-    by : (blank digit other : Bool) → (blank || ((digit || other) && digit)) ≡ (blank || digit)
-    by true digit other = refl
-    by false true other = refl
-    by false false true = refl
-    by false false false = refl
+lane-last b = grind arith
 
 -- ---- two fields
 
 -- twice a number and a bit is twice another and 1 where the bit is set and the numbers are the same
 twice : (t : Bool) (m k : ℕ) → (cond t 1 0 + 2 * m == 1 + 2 * k) ≡ (t && (m == k))
-twice true m k = grind (arith, nat_tests)
-twice false m k = grind (arith, nat_tests)
+twice t m k = grind arith
 
 -- a mask has all its bits where each lane is set
 all_set : (ts : List Bool) (k : ℕ) → k ≡ 2 ^ length ts - 1 → (mask_l ts == k) ≡ list_all (λ t. t) ts
@@ -195,17 +125,11 @@ sixteen_set ts many =
 -- that all of some tests are passed and all of others
 all_of : (a b c d e rest : Bool)
     → (a && (b && (c && (d && (e && rest))))) ≡ ((a && (b && (c && (d && e)))) && rest)
-all_of false b c d e rest = refl
-all_of true false c d e rest = refl
-all_of true true false d e rest = refl
-all_of true true true false e rest = refl
-all_of true true true true e rest = refl
+all_of a b c d e rest = grind arith
 
 -- neither of two is bad where both are good
 neither_bad : (s t : Bool) → (s && (t && true)) ≡ not (not s || not t)
-neither_bad true true = refl
-neither_bad true false = refl
-neither_bad false t = refl
+neither_bad s t = grind arith
 
 -- what the lanes of a field's five columns and the three behind them say
 abbrev eight : ℕ → ℕ → ℕ → ℕ → ℕ → ℕ → ℕ → ℕ → List ℕ
@@ -216,9 +140,7 @@ eight a b c d e f g h =
 five-are : (a b c d e : ℕ) (rest : Bool)
     → (leb 255 (lane a b 45) && (leb 255 (lane b c 45) && (leb 255 (lane c d 45) && (leb 255 (lane d e 45)
     && (leb 255 (lane e e 48) && rest))))) ≡ (may_stand (a ∷ b ∷ c ∷ d ∷ e ∷ []) && rest)
-five-are a b c d e rest =
-    rw (lane-front a b, lane-front b c, lane-front c d, lane-front d e, lane-last e)
-    (all_of (may_precede a b) (may_precede b c) (may_precede c d) (may_precede d e) (may_stand (e ∷ [])) rest)
+five-are a b c d e rest = grind (arith, nat_tests, lane-front, lane-last, all_of)
 
 -- sixteen columns, one by one
 pub sixteen_are : (xs : List ℕ) → length xs ≡ 16 → xs ≡ map (λ j. get_or xs j 0) (range_with_len 0 16)
@@ -228,13 +150,7 @@ sixteen_are xs many = sym (pick_l_whole 0 xs 16 many)
 pub two_fields : (a b c d e f g h i j k l m n o p : ℕ)
     → are_set (eight a b c d e f g h ++ eight i j k l m n o p)
     ≡ not (is_bad (int_field (a ∷ b ∷ c ∷ d ∷ e ∷ [])) || is_bad (int_field (i ∷ j ∷ k ∷ l ∷ m ∷ [])))
-two_fields a b c d e f g h i j k l m n o p =
-    let first : Bool = may_stand (a ∷ b ∷ c ∷ d ∷ e ∷ []) in
-    let second : Bool = may_stand (i ∷ j ∷ k ∷ l ∷ m ∷ []) in
-    five-are a b c d e _
-    ∙ ap (λ (t : Bool). first && t) (five-are i j k l m true)
-    ∙ neither_bad first second
-    ∙ ap₂ (λ (s t : Bool). not (s || t)) (sym (bad_five a b c d e)) (sym (bad_five i j k l m))
+two_fields a b c d e f g h i j k l m n o p = grind (arith, nat_tests, bad_five, neither_bad, five-are)
 
 -- a lane behind a field is set, and any other as it was
 or-behind : (behind : Bool) (lane : ℕ) → leb 255 (bit_or lane (mark behind)) ≡ (behind || leb 255 lane)

@@ -1,40 +1,28 @@
 -- The first line of a text, and the lines after it.
-use Rattle.std.proofs.Common.{◌≡◌, ℕ, ◌+◌, ◌<◌, Bool, false, List, [], ◌∷◌, length, take, drop, All, Some, None, refl}
-use Rattle.std.proofs.Common.{sym, ap, ◌∙◌, arith}
+use Rattle.std.proofs.Common.{◌≡◌, ℕ, ◌+◌, ◌<◌, Bool, false, List, [], ◌∷◌, length, take, drop, All, Some, None}
+use Rattle.std.proofs.Common.{ap, ◌∙◌, arith}
 use Rattle.std.specs.Prelude.{map, ◌==◌}
-use Rattle.std.specs.List.{slice_split, position_or_len, enumerate_from}
+use Rattle.std.specs.List.{position_or_len, enumerate_from}
 use Rattle.std.specs.Str.Lines.{strip_carriage_return}
 use Rattle.std.proofs.lemmas.List.Splits.{slice_split_none, slice_split_first, length-slice_split}
 use Rattle.std.proofs.lemmas.Bool.{false_from_ne_true}
+use Rattle.std.proofs.lemmas.Bool.Decides.{nat_tests}
 use Rattle.std.proofs.lemmas.List.Sums.{position_or_len_is, fails_before_first}
 use Rattle.memchr.specs.Find.{IsFirstByte, is_byte}
 use Rattle.ghcn_fields.specs.Lines.{lines, without_empty_last}
-use Rattle.ghcn_fields.specs.LineLaws.{last_stays}
 
 -- a line feed
 abbrev is_line_feed : ℕ → Bool
 is_line_feed b = b == 10
 
--- a part that others follow stays
-keeps : (x : List ℕ) (ys : List (List ℕ)) → 0 < length ys → without_empty_last (x ∷ ys) ≡ x ∷ without_empty_last ys
-keeps x [] h = absurd (omega arith)
-keeps x (y ∷ ys) h = refl
+-- a last part that isn't empty stays
+pub last_stays : (x : List ℕ) → 0 < length x → without_empty_last (x ∷ []) ≡ x ∷ []
+last_stays x h = grind (arith, nat_tests)
 
 -- where the first line feed is, the first line ends
 pub lines-first : (bytes : List ℕ) (end : ℕ) → IsFirstByte (is_byte 10) bytes (Some end)
     → lines bytes ≡ strip_carriage_return (take end bytes) ∷ lines (drop (end + 1) bytes)
-lines-first bytes end first =
-    let high : end < length bytes = first.0.high in
-    let at : position_or_len is_line_feed bytes ≡ end =
-    position_or_len_is is_line_feed bytes end 0 (omega arith)
-    (λ k lt. false_from_ne_true _ (first.0.before k (omega arith) lt)) (λ _. first.1) in
-    let parts : slice_split is_line_feed bytes ≡ take end bytes ∷ slice_split is_line_feed (drop (end + 1) bytes) =
-    slice_split_first is_line_feed bytes 0 (omega (arith, at, high))
-    ∙ ap (λ (n : ℕ). take n bytes ∷ slice_split is_line_feed (drop (n + 1) bytes)) at in
-    let more : 0 < length (slice_split is_line_feed (drop (end + 1) bytes)) =
-    omega (arith, length-slice_split is_line_feed (drop (end + 1) bytes)) in
-    ap (λ (ps : List (List ℕ)). map strip_carriage_return (without_empty_last ps)) parts
-    ∙ ap (map strip_carriage_return) (keeps (take end bytes) (slice_split is_line_feed (drop (end + 1) bytes)) more)
+lines-first bytes end first = grind (arith, nat_tests, slice_split_first, length-slice_split, position_or_len_is)
 
 -- where there is none, the text is one line
 pub lines-last : (bytes : List ℕ) → 0 < length bytes → IsFirstByte (is_byte 10) bytes None
@@ -53,11 +41,7 @@ lines-last bytes some nowhere =
 pub lines_left : (given : ℕ) (all : List (ℕ × List ℕ)) (text line rest shown left : List ℕ)
     → enumerate_from (given + 1) (lines text) ≡ all → lines text ≡ line ∷ lines rest → line ≡ shown → rest ≡ left
     → all ≡ (given + 1, shown) ∷ enumerate_from (given + 1 + 1) (lines left)
-lines_left given all text line rest shown left view first same over =
-    sym view
-    ∙ ap (enumerate_from (given + 1)) first
-    ∙ ap (λ (l : List ℕ). (given + 1, l) ∷ enumerate_from (given + 1 + 1) (lines rest)) same
-    ∙ ap (λ (r : List ℕ). (given + 1, shown) ∷ enumerate_from (given + 1 + 1) (lines r)) over
+lines_left given all text line rest shown left view first same over = grind arith
 
 -- a list that is one item and then others is longer than those
 pub longer : {A : Type 0} (all : List A) (x : A) (others : List A) → all ≡ x ∷ others → length others < length all

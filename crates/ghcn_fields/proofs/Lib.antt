@@ -12,7 +12,7 @@ pub mod FirstLine
 pub mod Examples
 pub mod FieldsByForm
 pub mod FieldsByKind
-pub mod Ordered
+pub mod CountingLaws
 pub mod FieldLanes
 pub mod GroupLanes
 pub mod LineFeeds

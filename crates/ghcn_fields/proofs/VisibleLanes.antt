@@ -1,12 +1,11 @@
 -- Bytes that show in print, by lanes.
-use Rattle.std.proofs.Common.{◌≡◌, ℕ, Bool, true, false, cond, List, [], ◌∷◌, map, refl, ap, ◌∙◌, arith}
-use Rattle.std.proofs.Common.{eqb, leb, ltb}
+use Rattle.std.proofs.Common.{◌≡◌, ℕ, Bool, true, false, cond, List, [], ◌∷◌, map, arith, eqb, leb, ltb}
 use Rattle.std.specs.Prelude.{◌&&◌, nat_le}
 use Rattle.std.specs.List.{list_all, range_with_len}
 use Rattle.std.proofs.lemmas.Bool.Decides.{nat_tests}
 use lib.Lanes.{top}
 use Rattle.ghcn_fields.specs.FieldForms.{are_set_but}
-use Rattle.ghcn_fields.proofs.FieldLanes.{mark, set-mark, whole-mark, taken}
+use Rattle.ghcn_fields.proofs.FieldLanes.{mark, taken}
 
 -- a byte that shows in print
 abbrev pub shows : ℕ → Bool
@@ -24,11 +23,7 @@ lane b = cond (top 7 (mark (eqb b (nearest b)))) 255 0
 
 -- that it shows
 lane-is : (b : ℕ) → leb 255 (lane b) ≡ shows b
-lane-is b =
-    let least : ℕ = cond (ltb b 33) 33 b in
-    ap (leb 255) (set-mark (eqb b (nearest b))) ∙ whole-mark (eqb b (nearest b))
-    ∙ ap (λ (n : ℕ). eqb b (cond (top 7 (mark (ltb n 126))) n 126)) (taken (ltb b 33) 33 b)
-    ∙ ap (eqb b) (taken (ltb least 126) least 126) ∙ grind (arith, nat_tests)
+lane-is b = simp taken (grind (arith, nat_tests))
 
 -- five lanes of sixteen stand behind eleven
 abbrev pub behind_eleven : List Bool
@@ -40,17 +35,4 @@ behind_eleven =
 pub eleven_show : (at : ℕ → ℕ)
     → are_set_but behind_eleven (map lane (map at (range_with_len 0 16)))
     ≡ list_all shows (map at (range_with_len 0 11))
-eleven_show at =
-    rw (
-      lane-is (at 0),
-      lane-is (at 1),
-      lane-is (at 2),
-      lane-is (at 3),
-      lane-is (at 4),
-      lane-is (at 5),
-      lane-is (at 6),
-      lane-is (at 7),
-      lane-is (at 8),
-      lane-is (at 9),
-      lane-is (at 10),
-    ) refl
+eleven_show at = simp lane-is

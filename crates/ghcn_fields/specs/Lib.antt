@@ -1,8 +1,6 @@
 pub mod Bytes
 pub mod Lines
-pub mod LineLaws
 pub mod Faults
-pub mod FaultLaws
 pub mod Refusals
 pub mod Numbers
 pub mod Fields
@@ -13,6 +11,5 @@ pub mod Dates
 pub mod Laws
 pub mod Sorting
 pub mod Counting
-pub mod CountingLaws
 pub mod Floor
 pub mod Groups

@@ -1,6 +1,6 @@
 //! Days of the years 1 to 9999, by their numbers.
 
-ghost use Rattle.std.specs.Prelude.{◌≡◌, ◌≤◌, ℤ, pos, ◌+ℤ◌, ◌-ℤ◌, Some, IfSome, IsTrue};
+ghost use Rattle.std.specs.Prelude.{◌≡◌, ◌≤◌, ℤ, pos, Some, IfSome, IsTrue};
 ghost use Rattle.jiff_core.specs.Calendar as calendar;
 ghost use Rattle.ghcn_fields.specs.Days.{is_day, day_if, day_number, block_of, IsBlock};
 ghost use Rattle.ghcn_fields.specs.Dates as dates;
@@ -94,31 +94,6 @@ impl Day {
         ensures range { IsBlock result }
     {
         self.number.div_euclid(32)
-    }
-
-    /// The day that comes so many days later, or `None` after 9999-12-31.
-    pub fn after(self, days: u32) -> Option<Self>
-        ensures { result ≡ day_if (self +ℤ pos days) }
-    {
-        let number = self.number as i64 + days as i64;
-        if number > LAST as i64 {
-            return None;
-        }
-        Some(Day {
-            number: number as i32,
-        })
-    }
-
-    /// The day before, or `None` before 0001-01-01.
-    pub fn previous(self) -> Option<Self>
-        ensures { result ≡ day_if (self -ℤ pos 1) }
-    {
-        if self.number <= FIRST {
-            return None;
-        }
-        Some(Day {
-            number: self.number - 1,
-        })
     }
 }
 

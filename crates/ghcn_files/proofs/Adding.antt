@@ -28,7 +28,7 @@ use Rattle.ghcn_files.specs.Listed.{Numbered, is_repeated, stations_of, station_
 use Rattle.ghcn_files.specs.KeptStations.{key_of}
 use Rattle.ghcn_files.specs.Listed.{AreListed}
 use Rattle.ghcn_files.specs.KeptStations.{key_cmp, AreEleven, kept_place, AreKept}
-use Rattle.ghcn_files.specs.IdLaws.{same_id-turned, same_id-laws}
+use Rattle.ghcn_files.proofs.IdLaws.{same_id-turned, same_id-laws}
 use Rattle.ghcn_files.proofs.ById.{kept_by_key, not_found, has_place, put_place, id_bytes}
 use Rattle.ghcn_files.proofs.StationTests.{why_by}
 

@@ -20,7 +20,7 @@ use Rattle.std.proofs.lemmas.Option.{slice_get_past}
 use Rattle.ghcn_files.specs.declared.station.StationId.{StationId}
 use Rattle.ghcn_files.specs.declared.station.Station.{Station}
 use Rattle.ghcn_files.specs.Ids.{same_id, is_id, is_visible}
-use Rattle.ghcn_files.specs.IdLaws.{same_id-laws, same_id-is, place_is, no_place}
+use Rattle.ghcn_files.proofs.IdLaws.{same_id-laws, same_id-is, place_is, no_place}
 use Rattle.ghcn_files.specs.Listed.{is_station_of, place_of}
 use Rattle.ghcn_files.specs.KeptStations.{key_of, key_cmp, kept_place, AreEleven}
 

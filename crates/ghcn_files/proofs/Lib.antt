@@ -1,4 +1,8 @@
 pub mod Examples
+pub mod LineLaws
+pub mod FaultLaws
+pub mod IdLaws
+pub mod Ordered
 pub mod ById
 pub mod ColumnSlices
 pub mod Errors
@@ -14,3 +18,4 @@ pub mod Rows
 pub mod FlagLanes
 pub mod FlaggedDays
 pub mod WholeLines
+pub mod IdOrder

@@ -6,7 +6,7 @@ use Rattle.std.proofs.lemmas.List.{take_more, take_all, append-nil, take-append-
 use Rattle.ghcn_fields.specs.Bytes.{is_blank}
 use Rattle.ghcn_fields.specs.Lines.{numbered_lines}
 use Rattle.ghcn_fields.specs.Faults.{first_fault, HaveNoFault, IsFirstFault}
-use Rattle.ghcn_fields.specs.FaultLaws.{no_fault-nil, no_fault-more, first_fault-none, first_fault-from}
+use Rattle.ghcn_files.proofs.FaultLaws.{no_fault-nil, no_fault-more, first_fault-none, first_fault-from}
 use Rattle.ghcn_fields.specs.Refusals.{IsRefusal}
 use Rattle.ghcn_files.specs.declared.station.Station.{Station}
 use Rattle.ghcn_files.specs.declared.fault.StationsFault.{StationsFault}

@@ -3,7 +3,6 @@ pub mod Elements
 pub mod StationLines
 pub mod Listed
 pub mod KeptStations
-pub mod IdLaws
 pub mod Months
 pub mod Rows
 pub mod Flags

@@ -66,8 +66,8 @@ abbrev pub value_test : List ℕ → ℕ → Bool × LineWhy
 value_test line j = (not (is_bad (value_field line j)), BadValue j)
 
 -- the tests of a line's length, its ID, its year and its month
-abbrev pub head_tests : List ℕ → List (Bool × LineWhy)
-head_tests line =
+abbrev pub month_head_tests : List ℕ → List (Bool × LineWhy)
+month_head_tests line =
     (nat_le 266 (length line), Short)
     ∷ (is_blank (drop 269 line), TooLong)
     ∷ (is_id (columns 1 11 line), BadId)
@@ -77,7 +77,7 @@ head_tests line =
 
 -- the first of these tests that a line fails
 abbrev pub head_why : List ℕ → Option LineWhy
-head_why line = first_failing (head_tests line)
+head_why line = first_failing (month_head_tests line)
 
 -- the first test that the days of a line fail
 abbrev pub days_why : List ℕ → Option LineWhy
@@ -85,7 +85,7 @@ days_why line = first_failing (map (value_test line) days_of_group)
 
 -- the first test that a line of one of the five elements fails
 abbrev pub month_why : List ℕ → Option LineWhy
-month_why line = first_failing (head_tests line ++ map (value_test line) days_of_group)
+month_why line = first_failing (month_head_tests line ++ map (value_test line) days_of_group)
 
 -- a value, unless a line fails a test
 abbrev pub unless : {T : Type 0} → Option LineWhy → T → Result T LineWhy

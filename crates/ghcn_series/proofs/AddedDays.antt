@@ -15,10 +15,10 @@ use Rattle.std.proofs.lemmas.Int.{ints}
 use Rattle.std.proofs.lemmas.Nat.{pow_pos}
 use Rattle.std.proofs.lemmas.Nat.Bits.{bit_at-zero, bit_at-pow_same, bit_at-pow_other}
 use Rattle.ghcn_series.proofs.JoinedDays.{same_block}
-use Rattle.ghcn_series.proofs.ListFacts.{both_all}
+use Rattle.ghcn_series.proofs.ListFacts.{each-append}
 use Rattle.ghcn_fields.specs.Days.{is_day, block_of}
 use Rattle.ghcn_series.specs.Series.{DayValue, value_on}
-use Rattle.ghcn_series.specs.Packed.{block_start, block_days, days_from, days_of, blocks_of, IsPacked, AreRising, Block}
+use Rattle.ghcn_series.specs.Packed.{block_start, block_days, days_from, days_of_blocks, blocks_of, IsPacked, AreRising, Block}
 use Rattle.ghcn_series.specs.Parts.{AreNew, AreJoined, AreBefore, AreOrdered, IsRowOf, days_held}
 use Rattle.ghcn_series.specs.declared.parts.Parts.{Parts}
 use Rattle.ghcn_series.proofs.Lookups.{value_on-append, block-holds, block-of_place}
@@ -87,7 +87,7 @@ single-new days more day v is all d some = elim (same_block day d) [
 rising-more : (days : List DayValue) (x : DayValue) → AreRising days → AreBefore x.0 days → AreRising (days ++ x ∷ [])
 rising-more [] x rise all = (tt, tt)
 rising-more (y ∷ ys) x rise all = (
-  both_all (λ z. y.0 <ℤ z.0) ys (x ∷ []) rise.0 (all.0, tt),
+  each-append (λ z. y.0 <ℤ z.0) ys (x ∷ []) rise.0 (all.0, tt),
   rising-more ys x rise.1 all.1,
 )
 
@@ -135,7 +135,7 @@ before-right day (x ∷ xs) ys all = before-right day xs ys all.1
 -- a block that holds a day before another comes no later than that day's
 pub numbers-before : (ns : List ℤ) (ws : List ℕ) (vs : List (List ℤ)) (i : ℕ) (day : ℤ) → length ws ≡ length ns
     → length vs ≡ length ns → i < length ns
-    → AllByRecursion IsPacked (blocks_of ns ws vs) → AreBefore day (days_of (blocks_of ns ws vs))
+    → AllByRecursion IsPacked (blocks_of ns ws vs) → AreBefore day (days_of_blocks (blocks_of ns ws vs))
     → get_or ns i (pos 0) ≤ℤ block_of day
 numbers-before [] ws vs i day lw lv lt packed all = absurd (omega arith)
 numbers-before (n ∷ ns) [] vs i day lw lv lt packed all = absurd (omega arith)
@@ -143,10 +143,10 @@ numbers-before (n ∷ ns) (w ∷ ws) [] i day lw lv lt packed all = absurd (omeg
 numbers-before (n ∷ ns) (w ∷ ws) (v ∷ vs) zero day lw lv lt packed all =
     first_before n (block_days (n, (w, v))) day (block-own (n, (w, v)))
     (block-nonempty (n, (w, v)) packed.0.present packed.0.fits)
-    (before-left day (block_days (n, (w, v))) (days_of (blocks_of ns ws vs)) all)
+    (before-left day (block_days (n, (w, v))) (days_of_blocks (blocks_of ns ws vs)) all)
 numbers-before (n ∷ ns) (w ∷ ws) (v ∷ vs) (suc i) day lw lv lt packed all =
     numbers-before ns ws vs i day (omega arith) (omega arith) (omega arith) packed.1
-    (before-right day (block_days (n, (w, v))) (days_of (blocks_of ns ws vs)) all)
+    (before-right day (block_days (n, (w, v))) (days_of_blocks (blocks_of ns ws vs)) all)
 
 -- ---- days of a map
 

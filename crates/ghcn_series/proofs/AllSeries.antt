@@ -32,7 +32,7 @@ use Rattle.ghcn_series.proofs.StationMonths.{months_of-none, elements_differ, el
 use Rattle.ghcn_series.proofs.SeriesPlaces.{AreOwn}
 use Rattle.ghcn_series.proofs.ReadySeries.{is_series, length-sorted, gathered-sorted}
 use Rattle.ghcn_series.proofs.FactsOfMonths.{selected-months}
-use Rattle.ghcn_series.proofs.ListFacts.{both_all, weaken, both_distinct, distinct_filter}
+use Rattle.ghcn_series.proofs.ListFacts.{each-append, each-weaker, both_distinct, distinct_filter}
 
 -- elements that are the same
 pub same_element-is : (a b : Element) → same_element a b ≡ true → a ≡ b
@@ -131,7 +131,7 @@ ids_apart : (facts : List Fact) (u : Usable) (ss : List Station) → AllByRecurs
 ids_apart facts u [] other = tt
 ids_apart facts u (s ∷ ss) other =
     let each = λ (e : Element). and_left (same_id u.id s.id) (same_element u.element e) other.0 in
-    both_all (λ v. same_series u v ≡ false) (map (usable_of facts s) elements) (all_said facts ss)
+    each-append (λ v. same_series u v ≡ false) (map (usable_of facts s) elements) (all_said facts ss)
     (each Prcp, (each Snow, (each Snwd, (each Tmax, (each Tmin, tt))))) (ids_apart facts u ss other.1)
 
 -- where no ID stands twice, no two of all series are of one station and element
@@ -291,7 +291,7 @@ pub all_listed : (ss : List Station) → AllByRecursion (λ s. is_listed ss s.id
 all_listed [] = tt
 all_listed (s ∷ ss) = (
   rw (same_id-refl s.id),
-  weaken (λ x. is_listed ss x.id ≡ true) (λ x. is_listed (s ∷ ss) x.id ≡ true) ss
+  each-weaker (λ x. is_listed ss x.id ≡ true) (λ x. is_listed (s ∷ ss) x.id ≡ true) ss
       (λ x. or_right (same_id s.id x.id) (is_listed ss x.id)) (all_listed ss),
 )
 
@@ -300,7 +300,7 @@ all_right : (gs : List StationGathering) → AllByRecursion (λ s. AllByRecursio
     → AllByRecursion IsSeries (all_gathered gs)
 all_right [] ready = tt
 all_right (g ∷ gs) ready =
-    both_all IsSeries (station_series g) (all_gathered gs) (from_gatherings g.id g.by_element.items ready.0)
+    each-append IsSeries (station_series g) (all_gathered gs) (from_gatherings g.id g.by_element.items ready.0)
     (all_right gs ready.1)
 
 -- the series of listed stations are of listed ones
@@ -311,8 +311,8 @@ own_listed stations [] [] listed own = tt
 own_listed stations [] (us ∷ lists) listed own = absurd own
 own_listed stations (s ∷ ss) [] listed own = absurd own
 own_listed stations (s ∷ ss) (us ∷ lists) listed own =
-    both_all (λ u. is_listed stations u.id ≡ true) us (all_of lists)
-    (weaken (λ u. u.id ≡ s.id) (λ u. is_listed stations u.id ≡ true) us
+    each-append (λ u. is_listed stations u.id ≡ true) us (all_of lists)
+    (each-weaker (λ u. u.id ≡ s.id) (λ u. is_listed stations u.id ≡ true) us
     (λ u e. ap (is_listed stations) e ∙ listed.0) own.0) (own_listed stations ss lists listed.1 own.1)
 
 -- the series of a station have its ID
@@ -323,7 +323,7 @@ own_ids asked ms [] [] all = tt
 own_ids asked ms [] (g ∷ gs) all = absurd all
 own_ids asked ms (s ∷ ss) [] all = absurd all
 own_ids asked ms (s ∷ ss) (g ∷ gs) all = (
-  weaken (λ u. u.id ≡ g.id) (λ u. u.id ≡ s.id) (station_series g) (λ u e. e ∙ all.0.id)
+  each-weaker (λ u. u.id ≡ g.id) (λ u. u.id ≡ s.id) (station_series g) (λ u e. e ∙ all.0.id)
       (ids_of_station g.id g.by_element.items),
   own_ids asked ms ss gs all.1,
 )

@@ -11,7 +11,7 @@ use Rattle.std.proofs.lemmas.Int.{ints}
 use Rattle.std.proofs.lemmas.Bool.{false≢true}
 use Rattle.std.proofs.lemmas.Option.{none-some}
 use Rattle.ghcn_series.specs.Series.{DayValue, value_on}
-use Rattle.ghcn_series.specs.Packed.{Block, block_days, days_of, blocks_of, AreBlocks, AreRising}
+use Rattle.ghcn_series.specs.Packed.{Block, block_days, days_of_blocks, blocks_of, AreBlocks, AreRising}
 use Rattle.ghcn_series.specs.Parts.{AreNew, AreDisjoint, AreJoined}
 use Rattle.ghcn_series.proofs.Lookups.{int_eq-no, value_on-append}
 use Rattle.ghcn_series.proofs.JoinedDays.{both-none, same_block, last-joined, pushed-blocks}
@@ -39,12 +39,13 @@ nothing-new : (days : List DayValue) → AreNew days []
 nothing-new days d some = absurd cc
 
 -- a part that is new beside others is apart from them
-pub push-apart : (bs : List Block) (b : Block) → AreDisjoint bs → AreNew (days_of bs) (block_days b)
+pub push-apart : (bs : List Block) (b : Block) → AreDisjoint bs → AreNew (days_of_blocks bs) (block_days b)
     → AreDisjoint (bs ++ b ∷ [])
 push-apart [] b apart fresh = (nothing-new (block_days b), tt)
 push-apart (x ∷ xs) b apart fresh =
-    let each = new-each (block_days x) (days_of xs) (block_days b) fresh in (
-      new-both (block_days x) (days_of xs) (block_days b) (days_of (xs ++ b ∷ [])) apart.0 each.0 (days-pushed xs b),
+    let each = new-each (block_days x) (days_of_blocks xs) (block_days b) fresh in (
+      new-both (block_days x) (days_of_blocks xs) (block_days b) (days_of_blocks (xs ++ b ∷ [])) apart.0 each.0
+          (days-pushed xs b),
       push-apart xs b apart.1 each.1,
     )
 
@@ -53,7 +54,7 @@ pub last-apart : (ns : List ℤ) (ws : List ℕ) (vs : List (List ℤ)) (i : ℕ
     → length ws ≡ length ns → length vs ≡ length ns → i + 1 ≡ length ns
     → AreJoined (block_days (get_or ns i (pos 0), (get_or ws i 0, get_or vs i []))) more
     (block_days (get_or ns i (pos 0), (p, r)))
-    → AreDisjoint (blocks_of ns ws vs) → AreNew (days_of (blocks_of ns ws vs)) more
+    → AreDisjoint (blocks_of ns ws vs) → AreNew (days_of_blocks (blocks_of ns ws vs)) more
     → AreDisjoint (blocks_of ns (set ws i p) (set vs i r))
 last-apart [] ws vs i p r more lw lv last is apart fresh = absurd (omega arith)
 last-apart (n ∷ ns) [] vs i p r more lw lv last is apart fresh = absurd (omega arith)
@@ -62,17 +63,17 @@ last-apart (n ∷ []) (w ∷ ws) (v ∷ vs) zero p r more lw lv last is apart
     fresh = (nothing-new (block_days (n, (p, r))), tt)
 last-apart (n ∷ m ∷ ns) (w ∷ ws) (v ∷ vs) zero p r more lw lv last is apart fresh = absurd (omega arith)
 last-apart (n ∷ ns) (w ∷ ws) (v ∷ vs) (suc i) p r more lw lv last is apart fresh =
-    let each = new-each (block_days (n, (w, v))) (days_of (blocks_of ns ws vs)) more fresh in
+    let each = new-each (block_days (n, (w, v))) (days_of_blocks (blocks_of ns ws vs)) more fresh in
     let joined = last-joined ns ws vs i p r more (omega arith) (omega arith) (omega arith) is in (
-      new-both (block_days (n, (w, v))) (days_of (blocks_of ns ws vs)) more
-          (days_of (blocks_of ns (set ws i p) (set vs i r))) apart.0 each.0 joined,
+      new-both (block_days (n, (w, v))) (days_of_blocks (blocks_of ns ws vs)) more
+          (days_of_blocks (blocks_of ns (set ws i p) (set vs i r))) apart.0 each.0 joined,
       last-apart ns ws vs i p r more (omega arith) (omega arith) (omega arith) is apart.1 each.1,
     )
 
 module _ (ns : List ℤ) (ws : List ℕ) (vs : List (List ℤ)) (bs : AreBlocks ns ws vs) where
   -- a part more
   pub pushed-apart : (n : ℤ) (w : ℕ) (v : List ℤ) → AreDisjoint (blocks_of ns ws vs)
-      → AreNew (days_of (blocks_of ns ws vs)) (block_days (n, (w, v)))
+      → AreNew (days_of_blocks (blocks_of ns ws vs)) (block_days (n, (w, v)))
       → AreDisjoint (blocks_of (ns ++ n ∷ []) (ws ++ w ∷ []) (vs ++ v ∷ []))
   pushed-apart n w v apart fresh =
       subst AreDisjoint (sym (pushed-blocks ns ws vs n w v bs.enough_words bs.enough_values))
@@ -149,9 +150,9 @@ rising-distinct (x ∷ xs) rise = (all_other x.0 xs rise.0, rising-distinct xs r
     )
 
 -- parts that are apart have no day twice
-pub apart-distinct : (bs : List Block) → AreDisjoint bs → IsDistinct int_eq (keys_of (days_of bs))
+pub apart-distinct : (bs : List Block) → AreDisjoint bs → IsDistinct int_eq (keys_of (days_of_blocks bs))
 unfolding IsDistinct
 apart-distinct [] apart = tt
 apart-distinct (b ∷ bs) apart =
-    new-distinct (block_days b) (days_of bs) apart.0 (rising-distinct (block_days b) (block-rises b))
+    new-distinct (block_days b) (days_of_blocks bs) apart.0 (rising-distinct (block_days b) (block-rises b))
     (apart-distinct bs apart.1)

@@ -13,13 +13,13 @@ use Rattle.std.proofs.lemmas.List.Sums.{sum_by-append, count_by-le-length}
 use Rattle.std.proofs.lemmas.Grind.{flat_map-append}
 use Rattle.ghcn_fields.specs.Bytes.{is_blank}
 use Rattle.ghcn_fields.specs.Lines.{columns, lines}
-use Rattle.ghcn_fields.specs.LineLaws.{enumerate_from-append}
+use Rattle.ghcn_files.proofs.LineLaws.{enumerate_from-append}
 use Rattle.ghcn_files.specs.Elements.{element_of}
 use Rattle.ghcn_series.specs.declared.counts.Foreign.{Foreign}
 use Rattle.ghcn_series.specs.declared.counts.LineCounts.{LineCounts}
 use Rattle.ghcn_series.specs.declared.counts.LineKind.TheVariants.{Blank, OfElement, Other}
 use Rattle.ghcn_series.specs.Counted.{HaveCounted, CountsLine, AddsForeign}
-use Rattle.ghcn_series.specs.LineKinds.{all_lines, is_of_element, is_foreign, kind_of, foreign_places}
+use Rattle.ghcn_series.specs.LineKinds.{all_lines, has_element, is_foreign, line_kind, foreign_places}
 use Rattle.ghcn_series.specs.LineKinds.{foreign_of}
 
 -- ---- a line
@@ -45,7 +45,7 @@ counted-line old new ended whole more line all adds is = record {
   );
   foreign = adds.foreign ∙ is.foreign;
   has_line = adds.has_line ∙ any-more (λ l. not (is_blank l)) (lines whole) more line all is.has_line;
-  has_element = adds.has_element ∙ any-more is_of_element (lines whole) more line all is.has_element;
+  has_element = adds.has_element ∙ any-more has_element (lines whole) more line all is.has_element;
 }
 
 -- ---- what stands on a line
@@ -73,7 +73,7 @@ blank_parts n bytes blank =
     ∙ ap is_blank (take-append-drop n bytes) ∙ blank)
 
 -- a blank line has no element
-pub blank_line : (line : List ℕ) → is_blank line ≡ true → is_of_element line ≡ false
+pub blank_line : (line : List ℕ) → is_blank line ≡ true → has_element line ≡ false
 blank_line line blank =
     let whole = line ++ replicate 21 32 in
     let all : is_blank whole ≡ true = list_all-append (λ b. b == 32) line (replicate 21 32) ∙ rw blank refl in
@@ -87,8 +87,8 @@ blank_alone false true is none = absurd cc
 blank_alone false false is none = absurd cc
 
 -- so it is of a line of this kind
-pub blank_kind : (line : List ℕ) → Blank ≡ kind_of line → (is_blank line ≡ true) × (is_of_element line ≡ false)
-blank_kind line is = blank_alone (is_blank line) (is_of_element line) is (blank_line line)
+pub blank_kind : (line : List ℕ) → Blank ≡ line_kind line → (is_blank line ≡ true) × (has_element line ≡ false)
+blank_kind line is = blank_alone (is_blank line) (has_element line) is (blank_line line)
 
 -- ---- the end of a file
 

@@ -16,9 +16,9 @@ use Rattle.ghcn_files.specs.declared.month.Reading.{Reading}
 use Rattle.ghcn_files.specs.Elements.{may_be_negative}
 use Rattle.ghcn_series.specs.Series.{DayValue}
 use Rattle.ghcn_series.specs.Says.{fact_if}
-use Rattle.ghcn_series.specs.Gathered.{counted, usable_day, usable_days, same_time}
+use Rattle.ghcn_series.specs.Gathered.{counted_day, usable_day, usable_days, same_time}
 use Rattle.ghcn_series.proofs.MonthDays.{has_number, civil_of}
-use Rattle.ghcn_series.proofs.ListFacts.{both_all, both_distinct, weaken}
+use Rattle.ghcn_series.proofs.ListFacts.{each-append, both_distinct, each-weaker}
 use Rattle.std.proofs.lemmas.Option.{same_Some}
 use Rattle.std.proofs.lemmas.List.{map-append}
 
@@ -49,7 +49,7 @@ Parts m day value d = (day ≡ Some d.0) × (value ≡ Some d.1) × ((may_be_neg
 
 -- a fact that counts has a day and a value that its element can have
 pub parts_of : (m : Month) (b : Bool) (o v : Option ℤ) (d : DayValue)
-    → option_and_then counted (fact_if m b o v) ≡ Some d → Parts m o v d
+    → option_and_then counted_day (fact_if m b o v) ≡ Some d → Parts m o v d
 parts_of m true o v d e = absurd cc
 parts_of m false None v d e = absurd cc
 parts_of m false (Some n) None d e = absurd cc
@@ -74,7 +74,8 @@ usable_from : (m : Month) (low : ℕ) (rs : List Reading)
 usable_from m low [] = tt
 usable_from m low (r ∷ rs) =
     let rest : List DayValue = filter_map (usable_day m) (enumerate_from (low + 1) rs) in
-    let later : AreFrom m low (keys_of rest) = weaken (λ n. (j : ℕ) × (low + 1 ≤ j) × IsDayOf m j n) _ (keys_of rest)
+    let later : AreFrom m low (keys_of rest) =
+    each-weaker (λ n. (j : ℕ) × (low + 1 ≤ j) × IsDayOf m j n) _ (keys_of rest)
     (λ n of. (of.0, omega (arith, of.1), of.2)) (usable_from m (low + 1) rs) in
     elim (usable_day m (low, r)) as (λ o. usable_day m (low, r) ≡ o → AreFrom m low (keys_of (cons_option o rest))) [
       | None ↦ λ is. later
@@ -86,7 +87,7 @@ apart_from : (a b : Month) (i low : ℕ) (n : ℤ) (days : List ℤ)
     → ((j : ℕ) → low ≤ j → a.year ≡ b.year → a.month ≡ b.month → i ≡ j → ⊥) → IsDayOf a i n → AreFrom b low days
     → AllByRecursion (λ k. int_eq n k ≡ false) days
 apart_from a b i low n days other is =
-    weaken (λ k. (j : ℕ) × (low ≤ j) × IsDayOf b j k) (λ k. int_eq n k ≡ false) days
+    each-weaker (λ k. (j : ℕ) × (low ≤ j) × IsDayOf b j k) (λ k. int_eq n k ≡ false) days
     (λ k of. apart_by_date a b i of.0 n k (other of.0 of.1) is of.2)
 
 -- the usable days of one month differ
@@ -115,7 +116,7 @@ apart_from_others : (a : Month) (i : ℕ) (n : ℤ) (ms : List Month) → AllByR
 apart_from_others a i n [] all is = tt
 apart_from_others a i n (b ∷ bs) all is =
     rw (keys_of-append (usable_days b) (flat_map usable_days bs))
-    (both_all (λ k. int_eq n k ≡ false) (keys_of (usable_days b)) (keys_of (flat_map usable_days bs))
+    (each-append (λ k. int_eq n k ≡ false) (keys_of (usable_days b)) (keys_of (flat_map usable_days bs))
     (apart_from a b i 1 n _ (λ j le year month _. both_ways (same_time a b) all.0
     (and_from _ _ (eq-eqb a.year b.year year) (eq-eqb a.month b.month month))) is (usable_from b 1 b.days))
     (apart_from_others a i n bs all.1 is))
@@ -127,5 +128,5 @@ distinct_days [] distinct = tt
 distinct_days (m ∷ ms) distinct =
     rw (keys_of-append (usable_days m) (flat_map usable_days ms))
     (both_distinct int_eq (keys_of (usable_days m)) (keys_of (flat_map usable_days ms)) (distinct_in_month m 1 m.days)
-    (distinct_days ms distinct.1) (weaken (λ n. (j : ℕ) × (1 ≤ j) × IsDayOf m j n)
+    (distinct_days ms distinct.1) (each-weaker (λ n. (j : ℕ) × (1 ≤ j) × IsDayOf m j n)
     _ (keys_of (usable_days m)) (λ x of. apart_from_others m of.0 x ms distinct.0 of.2) (usable_from m 1 m.days)))

@@ -145,10 +145,11 @@ unfolding days_of_group days_from_civil day_count days_of_years days_of_months
 facts_that_count = (refl, refl)
 
 -- the series that is made of the facts of two lines has their days in order
-made_of_two : IsMadeOf (facts_said both mixed) (series alpha Tmin ((pos 18444, neg_ℤ (pos 5)) ∷ (pos 18475, pos 3) ∷ []))
+made_of_two : IsMadeOf (facts_said both mixed)
+    (series alpha Tmin ((pos 18444, neg_ℤ (pos 5)) ∷ (pos 18475, pos 3) ∷ []))
 made_of_two =
-    (series_said both mixed _ in_order (series alpha Tmin ((pos 18444, neg_ℤ (pos 5)) ∷ (pos 18475, pos 3) ∷ [])) refl).0
-    refl
+    let made = series alpha Tmin ((pos 18444, neg_ℤ (pos 5)) ∷ (pos 18475, pos 3) ∷ []) in
+    (series_said both mixed _ in_order made refl).0 refl
 
 -- their number ends at the greatest one of 64 bits
 many_lines : (in_64_bits 2 ≡ 2) × (in_64_bits (2 ^ 64 - 1) ≡ 2 ^ 64 - 1) × (in_64_bits (2 ^ 64) ≡ 2 ^ 64 - 1)

@@ -18,8 +18,8 @@ use Rattle.ghcn_files.specs.Elements.{same_element, may_be_negative}
 use Rattle.ghcn_series.specs.Series.{DayValue}
 use Rattle.ghcn_series.specs.DailyFaults.{is_listed}
 use Rattle.ghcn_series.specs.Says.{Fact, fact_of, fact_if, facts_of, is_usable}
-use Rattle.ghcn_series.specs.Gathered.{counted, usable_day, usable_days, months_of}
-use Rattle.ghcn_files.specs.IdLaws.{same_id-is}
+use Rattle.ghcn_series.specs.Gathered.{counted_day, usable_day, usable_days, months_of}
+use Rattle.ghcn_files.proofs.IdLaws.{same_id-is}
 
 -- a fact is of its month's station and element
 abbrev pub OfMonth : Month → Fact → Type 0
@@ -75,7 +75,7 @@ module _ (stations : List Station) (id : StationId) (e : Element) where
   selected-this m [] listed this = refl
   selected-this m (x ∷ xs) listed this =
       elim (fact_of m x) as (λ o. fact_of m x ≡ o → selected (cons_option o (filter_map (fact_of m) xs))
-      ≡ cons_option (option_and_then counted o) (filter_map (usable_day m) xs)) [
+      ≡ cons_option (option_and_then counted_day o) (filter_map (usable_day m) xs)) [
         | None ↦ λ is. selected-this m xs listed this
         | Some f ↦ λ is.
             let of = of_month m x.1.flagged _ x.1.value f is in

@@ -1,14 +1,19 @@
 -- The lines of files, of which one more line or file has come.
 use Rattle.std.proofs.Common.{◌≡◌, ℕ, ◌+◌, List, [], ◌∷◌, ◌++◌, length}
-use Rattle.std.proofs.Common.{ap, arith}
+use Rattle.std.proofs.Common.{ap, ◌∙◌, arith}
 use Rattle.std.specs.List.{flat_map, enumerate_from}
 use Rattle.std.proofs.lemmas.List.{append-nil, map-append}
 use Rattle.std.proofs.lemmas.List.Elements.{filter-append}
 use Rattle.std.proofs.lemmas.Grind.{flat_map-append}
-use Rattle.ghcn_fields.specs.Lines.{lines, EndsLine}
-use Rattle.ghcn_fields.specs.LineLaws.{numbered_lines-append}
-use Rattle.ghcn_fields.specs.LineLaws.{enumerate_from-append}
+use Rattle.ghcn_fields.specs.Lines.{lines, numbered_lines, EndsLine}
+use Rattle.ghcn_files.proofs.LineLaws.{lines-append, enumerate_from-append}
 use Rattle.ghcn_series.specs.DailyFaults.{FileLine, not_blank, file_lines, daily_lines}
+
+-- the numbered lines of a text that ends a line, and then others, numbered on
+numbered_lines-append : (whole rest : List ℕ) → EndsLine whole
+    → numbered_lines (whole ++ rest) ≡ numbered_lines whole ++ enumerate_from (1 + length (lines whole)) (lines rest)
+numbered_lines-append whole rest ends =
+    ap (enumerate_from 1) (lines-append whole rest ends) ∙ enumerate_from-append 1 (lines whole) (lines rest)
 
 -- the lines of a file, of which the first part ends a line
 pub file_lines-append : (file : ℕ) (whole tail : List ℕ) → EndsLine whole

@@ -8,13 +8,12 @@ use Rattle.std.specs.Result.{result_err}
 use Rattle.std.specs.Str.Lines.{strip_carriage_return}
 use Rattle.std.proofs.lemmas.List.{append-nil}
 use Rattle.ghcn_fields.specs.Lines.{lines, HasNoLineFeed}
-use Rattle.ghcn_fields.specs.LineLaws.{lines-append, lines-one, lines-unended}
-use Rattle.ghcn_fields.specs.LineLaws.{no_line_feed-append}
+use Rattle.ghcn_files.proofs.LineLaws.{lines-append, lines-one, lines-unended}
 use Rattle.ghcn_series.specs.declared.cutter.Cutter.{Cutter}
 use Rattle.ghcn_series.specs.declared.fault.DataFault.{DataFault}
 use Rattle.ghcn_series.specs.declared.fault.DataFault.TheVariants.{DailyLine, TooManyFiles, Memory}
 use Rattle.ghcn_series.specs.Counted.{HaveCounted}
-use Rattle.ghcn_series.specs.Cut.{IsCut, lines_to, HasReadFed, HasLineFault, HasFault, AddsLine, RefusesLine}
+use Rattle.ghcn_series.specs.Cut.{IsCutFile, lines_to, HasReadFed, HasLineFault, HasFault, AddsLine, RefusesLine}
 use Rattle.ghcn_series.specs.DailyFaults.{FileLine, not_blank, one_line, file_lines, daily_lines}
 use Rattle.ghcn_series.specs.Fed.{Files, Fed, IsOfMemory, more, with_end, with_files}
 use Rattle.ghcn_series.specs.Gathered.{IsLineRefusal}
@@ -22,6 +21,11 @@ use Rattle.ghcn_series.specs.LinesRead.{Reading}
 use Rattle.ghcn_series.proofs.CountedLines.{counted-line}
 use Rattle.ghcn_series.proofs.ReadLines.{refused_among}
 use Rattle.ghcn_series.proofs.FedLines.{file_lines-append, file_lines-one, daily_lines-one}
+
+-- no line feed in two texts, one after the other
+no_line_feed-append : (xs ys : List ℕ) → HasNoLineFeed xs → HasNoLineFeed ys → HasNoLineFeed (xs ++ ys)
+no_line_feed-append [] ys p q = q
+no_line_feed-append (x ∷ xs) ys p q = (p.0, no_line_feed-append xs ys p.1 q)
 
 -- ---- files that are cut
 
@@ -31,8 +35,8 @@ joined : (whole rest line behind : List ℕ) → (whole ++ rest) ++ (line ++ 10 
 joined whole rest line behind = simp append_assoc
 
 -- the current file, cut behind one line more
-cut_behind : (files : Files) (whole rest line behind : List ℕ) → IsCut files whole rest
-    → IsCut (more files (line ++ 10 ∷ behind)) (whole ++ ((rest ++ line) ++ 10 ∷ [])) behind
+cut_behind : (files : Files) (whole rest line behind : List ℕ) → IsCutFile files whole rest
+    → IsCutFile (more files (line ++ 10 ∷ behind)) (whole ++ ((rest ++ line) ++ 10 ∷ [])) behind
 cut_behind files whole rest line behind cut = record {
   parts = rw cut.parts (joined whole rest line behind);
   ends = inr (whole ++ (rest ++ line), sym (append_assoc whole (rest ++ line) (10 ∷ [])));

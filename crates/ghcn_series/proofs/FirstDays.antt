@@ -13,7 +13,7 @@ use Rattle.std.specs.Iterator.{YieldsFirst, MakesProgress, item_count}
 use Rattle.std.specs.Prelude.{⊤}
 use Rattle.ghcn_fields.specs.Days.{is_day, IsBlock}
 use Rattle.ghcn_series.specs.Series.{DayValue}
-use Rattle.ghcn_series.specs.Packed.{block_start, day_at, block_days, days_from, AreDays}
+use Rattle.ghcn_series.specs.Packed.{block_start, day_at, block_days, days_from, AreCalendarDays}
 
 -- words with the same bits at some places have the same days there
 pub same-bits : (n : ℤ) (vs : List ℤ) (w v : ℕ) (s m : ℕ) → ((i : ℕ) → s ≤ i → i < s + m → bit_at w i ≡ bit_at v i)
@@ -83,7 +83,7 @@ block-of_day n j lt is =
     let range = day-range (block_start n +ℤ pos j) is in
     record { low = omega (arith, ints, range.0); high = omega (arith, ints, range.1) }
 
-module _ (n : ℤ) (w : ℕ) (are : AreDays n w) (some : 0 < w) (fits : w < 2 ^ 32) where
+module _ (n : ℤ) (w : ℕ) (are : AreCalendarDays n w) (some : 0 < w) (fits : w < 2 ^ 32) where
   -- the place of the lowest bit
   abbrev lowest : ℕ
   lowest = trailing_zeros w32 w
@@ -93,7 +93,7 @@ module _ (n : ℤ) (w : ℕ) (are : AreDays n w) (some : 0 < w) (fits : w < 2 ^ 
   lowest-day = let at = bit_at-trailing_zeros w32 w some fits in are.days lowest at.0 at.1
 
   -- the bits that stay are of days too
-  pub days-left : AreDays n (without_lowest w)
+  pub days-left : AreCalendarDays n (without_lowest w)
   days-left = record {
     days = λ j lt set.
         let at = bit_at-trailing_zeros w32 w some fits in

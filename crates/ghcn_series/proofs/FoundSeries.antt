@@ -11,13 +11,13 @@ use Rattle.ghcn_files.specs.declared.element.Element.{Element}
 use Rattle.ghcn_files.specs.declared.element.Element.TheVariants.{Prcp, Snow, Snwd, Tmax, Tmin}
 use Rattle.ghcn_files.specs.Ids.{same_id}
 use Rattle.ghcn_files.specs.Elements.{same_element, elements}
-use Rattle.ghcn_files.specs.IdLaws.{same_id-is}
+use Rattle.ghcn_files.proofs.IdLaws.{same_id-is}
 use Rattle.ghcn_series.specs.Series.{Usable, series_of, is_series_of}
 use Rattle.ghcn_series.specs.DailyFaults.{is_listed}
 use Rattle.ghcn_series.specs.Says.{Fact, days_of, usable_of, all_series}
 use Rattle.ghcn_series.specs.JoinedFiles.{facts_in}
 use Rattle.ghcn_series.proofs.AllSeries.{same_element-is}
-use Rattle.ghcn_series.proofs.ListFacts.{both_all}
+use Rattle.ghcn_series.proofs.ListFacts.{each-append}
 use Rattle.ghcn_series.proofs.JoinedFiles.{contents_in}
 
 -- the series, if it has a day
@@ -96,7 +96,7 @@ module _ (facts : List Fact) where
     stations_said : (ss : List Station) → AllByRecursion IsTheOne (flat_map station_said ss)
     stations_said [] = tt
     stations_said (s ∷ ss) =
-        both_all IsTheOne (station_said s) (flat_map station_said ss) (elements_said s elements) (stations_said ss)
+        each-append IsTheOne (station_said s) (flat_map station_said ss) (elements_said s elements) (stations_said ss)
 
     -- an element is one of the five
     among_five : (a : Bool) (f : Element) → ((a && same_element Prcp f) || ((a && same_element Snow f)

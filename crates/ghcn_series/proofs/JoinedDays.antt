@@ -17,7 +17,7 @@ use Rattle.std.proofs.lemmas.List.{get_or-set_same, get_or-set_other}
 use Rattle.std.proofs.lemmas.Int.{to_z-of_z}
 use Rattle.ghcn_fields.specs.Days.{block_of}
 use Rattle.ghcn_series.specs.Series.{DayValue, value_on}
-use Rattle.ghcn_series.specs.Packed.{Block, block_start, if_so, value_at, block_days, days_of, blocks_of, IsPacked}
+use Rattle.ghcn_series.specs.Packed.{Block, block_start, if_so, value_at, block_days, days_of_blocks, blocks_of, IsPacked}
 use Rattle.ghcn_series.specs.Parts.{AreJoined, JoinsAt, JoinsValues}
 use Rattle.ghcn_series.proofs.Lookups.{or_none, at_day, block-value, block-other, value_on-append}
 
@@ -113,7 +113,7 @@ pub last-joined : (ns : List ℤ) (ws : List ℕ) (vs : List (List ℤ)) (i : �
     → length ws ≡ length ns → length vs ≡ length ns → i + 1 ≡ length ns
     → AreJoined (block_days (get_or ns i (pos 0), (get_or ws i 0, get_or vs i []))) more
     (block_days (get_or ns i (pos 0), (p, r)))
-    → AreJoined (days_of (blocks_of ns ws vs)) more (days_of (blocks_of ns (set ws i p) (set vs i r)))
+    → AreJoined (days_of_blocks (blocks_of ns ws vs)) more (days_of_blocks (blocks_of ns (set ws i p) (set vs i r)))
 last-joined [] ws vs i p r more lw lv last is d = absurd (omega arith)
 last-joined (n ∷ ns) [] vs i p r more lw lv last is d = absurd (omega arith)
 last-joined (n ∷ ns) (w ∷ ws) [] i p r more lw lv last is d = absurd (omega arith)
@@ -148,18 +148,18 @@ pushed-blocks (n' ∷ ns) (w' ∷ ws) (v' ∷ vs) n w v lw lv = ap (λ (l : List
 -- a day that none of the blocks has isn't in the one at a place
 pub none-at : (ns : List ℤ) (ws : List ℕ) (vs : List (List ℤ)) (i : ℕ) (d : ℤ) → length ws ≡ length ns
     → length vs ≡ length ns → i < length ns
-    → value_on (days_of (blocks_of ns ws vs)) d ≡ None
+    → value_on (days_of_blocks (blocks_of ns ws vs)) d ≡ None
     → value_on (block_days (get_or ns i (pos 0), (get_or ws i 0, get_or vs i []))) d ≡ None
 none-at [] ws vs i d lw lv lt none = absurd (omega arith)
 none-at (n ∷ ns) [] vs i d lw lv lt none = absurd (omega arith)
 none-at (n ∷ ns) (w ∷ ws) [] i d lw lv lt none = absurd (omega arith)
 none-at (n ∷ ns) (w ∷ ws) (v ∷ vs) zero d lw lv lt none =
     (both-none (value_on (block_days (n, (w, v))) d) _
-    (sym (value_on-append (block_days (n, (w, v))) (days_of (blocks_of ns ws vs)) d) ∙ none)).0
+    (sym (value_on-append (block_days (n, (w, v))) (days_of_blocks (blocks_of ns ws vs)) d) ∙ none)).0
 none-at (n ∷ ns) (w ∷ ws) (v ∷ vs) (suc i) d lw lv lt none =
     none-at ns ws vs i d (omega arith) (omega arith) (omega arith)
     (both-none (value_on (block_days (n, (w, v))) d) _
-    (sym (value_on-append (block_days (n, (w, v))) (days_of (blocks_of ns ws vs)) d) ∙ none)).1
+    (sym (value_on-append (block_days (n, (w, v))) (days_of_blocks (blocks_of ns ws vs)) d) ∙ none)).1
 
 -- joined to 0 a value stays
 or-first : (a b : ℤ) → FitsSigned w32 b → a ≡ pos 0 → to_z w32 (bit_or (of_z w32 a) (of_z w32 b)) ≡ b

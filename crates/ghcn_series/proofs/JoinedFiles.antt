@@ -11,7 +11,7 @@ use Rattle.std.proofs.lemmas.List.Folds.{flat_map-map}
 use Rattle.ghcn_fields.specs.Bytes.{is_blank}
 use Rattle.ghcn_fields.specs.Faults.{first_fault}
 use Rattle.ghcn_fields.specs.Lines.{numbered_lines}
-use Rattle.ghcn_fields.specs.LineLaws.{enumerate_from-append}
+use Rattle.ghcn_files.proofs.LineLaws.{enumerate_from-append}
 use Rattle.ghcn_fields.specs.Sorting.{sorted_by}
 use Rattle.ghcn_files.specs.declared.station.StationId.{StationId}
 use Rattle.ghcn_files.specs.declared.station.Station.{Station}
@@ -22,7 +22,7 @@ use Rattle.ghcn_files.specs.Elements.{same_element}
 use Rattle.ghcn_series.specs.declared.fault.DataFault.{DataFault}
 use Rattle.ghcn_series.specs.declared.fault.DataFault.TheVariants.{TooManyFiles}
 use Rattle.ghcn_series.specs.Series.{DayValue, Contents, by_day}
-use Rattle.ghcn_series.specs.DailyFaults.{FileLine, daily_lines, daily_fault, file_lines, line_of, month_on}
+use Rattle.ghcn_series.specs.DailyFaults.{FileLine, daily_lines, daily_fault, file_lines, file_line, month_on}
 use Rattle.ghcn_series.specs.Says.{Fact, facts_of, is_usable, contents, contents_unless}
 use Rattle.ghcn_series.specs.JoinedFiles.{facts_in, HaveData, FactsOfParts}
 use Rattle.ghcn_series.proofs.ReadySeries.{length-sorted}
@@ -31,9 +31,9 @@ use Rattle.ghcn_series.proofs.ReadySeries.{length-sorted}
 
 -- the months on lines of a file don't depend on its number
 months-numbered : (a b : ℕ) (ls : List (ℕ × List ℕ))
-    → filter_map month_on (map (line_of a) ls) ≡ filter_map month_on (map (line_of b) ls)
+    → filter_map month_on (map (file_line a) ls) ≡ filter_map month_on (map (file_line b) ls)
 months-numbered a b [] = refl
-months-numbered a b (l ∷ ls) = ap (cons_option (month_on (line_of b l))) (months-numbered a b ls)
+months-numbered a b (l ∷ ls) = ap (cons_option (month_on (file_line b l))) (months-numbered a b ls)
 
 -- the lines of files, the first of this number
 abbrev lines_numbered : ℕ → List (List ℕ) → List FileLine

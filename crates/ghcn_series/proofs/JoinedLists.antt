@@ -17,7 +17,7 @@ use Rattle.std.proofs.lemmas.List.Sorted.{IsPermutation-append_left, IsPermutati
 use Rattle.std.proofs.lemmas.List.Sorted.{IsPermutation-append_comm, IsPermutation-sym}
 use Rattle.std.proofs.lemmas.Map.Keys.{IsDistinct-head, IsDistinct-tail, IsDistinct-IsPermutation}
 use Rattle.ghcn_fields.specs.Sorting.{sorted_by}
-use Rattle.ghcn_fields.proofs.Ordered as ordered
+use Rattle.ghcn_files.proofs.Ordered as ordered
 
 -- ---- lists that are made of pieces
 

@@ -11,7 +11,7 @@ use Rattle.ghcn_files.specs.declared.station.Station.{Station}
 use Rattle.ghcn_files.specs.declared.element.Element.{Element}
 use Rattle.ghcn_files.specs.Ids.{same_id}
 use Rattle.ghcn_files.specs.Elements.{same_element, elements, element_index}
-use Rattle.ghcn_files.specs.IdLaws.{same_id-turned}
+use Rattle.ghcn_files.proofs.IdLaws.{same_id-turned}
 use Rattle.ghcn_series.specs.Series.{DayValue, Usable, Contents, by_day}
 use Rattle.ghcn_series.specs.Says.{Fact, usable_of}
 use Rattle.ghcn_series.specs.Held.{same_series}

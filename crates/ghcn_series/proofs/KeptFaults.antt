@@ -11,7 +11,7 @@ use Rattle.ghcn_series.specs.declared.cutter.Cut.{Cut}
 use Rattle.ghcn_series.specs.declared.cutter.Cutter.{Cutter}
 use Rattle.ghcn_series.specs.declared.fault.DataFault.{DataFault}
 use Rattle.ghcn_series.specs.Counted.{HaveCounted}
-use Rattle.ghcn_series.specs.Cut.{IsCut, lines_to, HasReadFed, HasLineFault, HasFault, HasCounted, HasFed, HasFedSome}
+use Rattle.ghcn_series.specs.Cut.{IsCutFile, lines_to, HasReadFed, HasLineFault, HasFault, HasCounted, HasFed, HasFedSome}
 use Rattle.ghcn_series.specs.Cut.{TakesPiece, EndsFile, HoldsFed, RefusesFed, CountsFew, LooksAtLines}
 use Rattle.ghcn_series.specs.Cut.{ReadsBytes, RefusesBytes, ReadsEnd, RefusesEnd}
 use Rattle.ghcn_series.specs.DailyFaults.{daily_lines, is_memory}
@@ -99,12 +99,12 @@ none_counted [] e = refl
 none_counted (x ∷ xs) e = absurd (omega (arith, ltb-false 0 (length (x ∷ xs)) e))
 
 -- no byte of ended files is left
-none_left : (files : List (List ℕ)) (whole rest : List ℕ) → IsCut (ended_files files) whole rest → whole ≡ []
+none_left : (files : List (List ℕ)) (whole rest : List ℕ) → IsCutFile (ended_files files) whole rest → whole ≡ []
 none_left files whole rest cut =
     nil_from_length whole (omega (arith, ap length cut.parts, length-append whole rest))
 
 -- so their lines are all that was read
-lines-all : (files : List (List ℕ)) (whole rest : List ℕ) → IsCut (ended_files files) whole rest
+lines-all : (files : List (List ℕ)) (whole rest : List ℕ) → IsCutFile (ended_files files) whole rest
     → lines_to (ended_files files) whole ≡ daily_lines files
 lines-all files whole rest cut = rw (none_left files whole rest cut) (append-nil (daily_lines files))
 

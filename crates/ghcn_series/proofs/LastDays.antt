@@ -10,8 +10,8 @@ use Rattle.std.proofs.lemmas.List.{append-nil}
 use Rattle.std.proofs.lemmas.Option.{slice_get_within, get_or_from_slice_get}
 use Rattle.std.proofs.lemmas.Nat.Bits.{bit_at_cat_high, bit_at_above}
 use Rattle.ghcn_series.specs.Series.{DayValue}
-use Rattle.ghcn_series.specs.Packed.{Block, block_start, day_at, block_days, days_from, days_of, blocks_of}
-use Rattle.ghcn_series.specs.Packed.{AreBlocks, AreDays, IsLastOf, IsPacked}
+use Rattle.ghcn_series.specs.Packed.{Block, block_start, day_at, block_days, days_from, days_of_blocks, blocks_of}
+use Rattle.ghcn_series.specs.Packed.{AreBlocks, AreCalendarDays, IsLastOf, IsPacked}
 use Rattle.ghcn_series.proofs.FirstDays.{none-set}
 use Rattle.ghcn_series.proofs.PartsAdded.{packed-at}
 
@@ -68,7 +68,7 @@ last-of_block b day is = last-places b is.place 0 32 (omega arith) is.below is.s
 -- the last day of columns is that of their last block
 pub last-of_columns : (ns : List ℤ) (ws : List ℕ) (vs : List (List ℤ)) (i : ℕ) (day : Option ℤ) → length ws ≡ length ns
     → length vs ≡ length ns → i + 1 ≡ length ns
-    → IsLastOf (get_or ns i (pos 0)) (get_or ws i 0) day → last_of (days_of (blocks_of ns ws vs)) ≡ day
+    → IsLastOf (get_or ns i (pos 0)) (get_or ws i 0) day → last_of (days_of_blocks (blocks_of ns ws vs)) ≡ day
 last-of_columns [] ws vs i day lw lv at is = absurd (omega arith)
 last-of_columns (n ∷ ns) [] vs i day lw lv at is = absurd (omega arith)
 last-of_columns (n ∷ ns) (w ∷ ws) [] i day lw lv at is = absurd (omega arith)
@@ -78,7 +78,7 @@ last-of_columns (n ∷ []) (w ∷ []) (v ∷ vs) zero day lw lv at is =
     ap last_of (append-nil (block_days (n, (w, v)))) ∙ last-of_block (n, (w, v)) (Some (block_start n +ℤ pos is.place))
     (record { place = is.place; below = is.below; set = is.set; highest = is.highest; is = refl }) ∙ sym is.is
 last-of_columns (n ∷ ns) (w ∷ ws) (v ∷ vs) (suc i) day lw lv at is =
-    last_of-append (block_days (n, (w, v))) (days_of (blocks_of ns ws vs))
+    last_of-append (block_days (n, (w, v))) (days_of_blocks (blocks_of ns ws vs))
     (block_start (get_or ns i (pos 0)) +ℤ pos is.place)
     (last-of_columns ns ws vs i day (omega arith) (omega arith) (omega arith) is ∙ is.is) ∙ sym is.is
 
@@ -100,7 +100,7 @@ pub record IsLastBlock (ns : List ℤ) (ws : List ℕ) (n : ℤ) (w : ℕ) : Typ
   pub some_block : (length ns - 1) + 1 ≡ length ns
   pub number : get_or ns (length ns - 1) (pos 0) ≡ n
   pub word : get_or ws (length ns - 1) 0 ≡ w
-  pub days : AreDays n w
+  pub days : AreCalendarDays n w
   pub present : 0 < w
 
 -- the last number and the last word are those of one block

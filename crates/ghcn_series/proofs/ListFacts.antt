@@ -4,13 +4,14 @@ use Rattle.std.proofs.Common.{cond, filter}
 use Rattle.std.proofs.Common.{get_or, arith, sym}
 use Rattle.std.specs.List.{AllByRecursion, AllZip, slice_get, IsDistinct}
 use Rattle.std.proofs.Math.ListN.{set}
+pub use Rattle.ghcn_files.proofs.Ordered.{each-weaker}
 
 module _ {X : Type 0} where
   -- what is true of two lists is true of both together
-  pub both_all : (P : X → Type 0) (xs ys : List X) → AllByRecursion P xs → AllByRecursion P ys
+  pub each-append : (P : X → Type 0) (xs ys : List X) → AllByRecursion P xs → AllByRecursion P ys
       → AllByRecursion P (xs ++ ys)
-  both_all P [] ys p q = q
-  both_all P (x ∷ xs) ys p q = (p.0, both_all P xs ys p.1 q)
+  each-append P [] ys p q = q
+  each-append P (x ∷ xs) ys p q = (p.0, each-append P xs ys p.1 q)
 
   -- two lists of distinct elements, of which none is in both, are distinct together
   pub both_distinct : (eq : X → X → Bool) (xs ys : List X) → IsDistinct eq xs → IsDistinct eq ys
@@ -18,22 +19,17 @@ module _ {X : Type 0} where
   unfolding IsDistinct
   both_distinct eq [] ys p q all = q
   both_distinct eq (x ∷ xs) ys p q all = (
-    both_all (λ y. eq x y ≡ false) xs ys p.0 all.0,
+    each-append (λ y. eq x y ≡ false) xs ys p.0 all.0,
     both_distinct eq xs ys p.1 q all.1,
   )
 
-  -- what follows from a fact of each follows for all
-  pub weaken : (P Q : X → Type 0) (xs : List X) → ((x : X) → P x → Q x) → AllByRecursion P xs → AllByRecursion Q xs
-  weaken P Q [] f all = tt
-  weaken P Q (x ∷ xs) f all = (f x all.0, weaken P Q xs f all.1)
-
   -- what is true of all is true of those that pass a test
-  pub all_filter : (P : X → Type 0) (p : X → Bool) (xs : List X) → AllByRecursion P xs
+  pub all-filter : (P : X → Type 0) (p : X → Bool) (xs : List X) → AllByRecursion P xs
       → AllByRecursion P (filter p xs)
-  all_filter P p [] all = tt
-  all_filter P p (x ∷ xs) all = elim (p x) as (λ b. AllByRecursion P (cond b (x ∷ filter p xs) (filter p xs))) [
-    | true ↦ (all.0, all_filter P p xs all.1)
-    | false ↦ all_filter P p xs all.1
+  all-filter P p [] all = tt
+  all-filter P p (x ∷ xs) all = elim (p x) as (λ b. AllByRecursion P (cond b (x ∷ filter p xs) (filter p xs))) [
+    | true ↦ (all.0, all-filter P p xs all.1)
+    | false ↦ all-filter P p xs all.1
   ]
 
   -- distinct elements stay distinct
@@ -42,7 +38,7 @@ module _ {X : Type 0} where
   unfolding IsDistinct
   distinct_filter eq p [] apart = tt
   distinct_filter eq p (x ∷ xs) apart = elim (p x) as (λ b. IsDistinct eq (cond b (x ∷ filter p xs) (filter p xs))) [
-    | true ↦ (all_filter (λ y. eq x y ≡ false) p xs apart.0, distinct_filter eq p xs apart.1)
+    | true ↦ (all-filter (λ y. eq x y ≡ false) p xs apart.0, distinct_filter eq p xs apart.1)
     | false ↦ distinct_filter eq p xs apart.1
   ]
 

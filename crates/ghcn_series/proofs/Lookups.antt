@@ -14,8 +14,8 @@ use Rattle.std.proofs.lemmas.List.{drop_more}
 use Rattle.std.proofs.lemmas.Slice.Zip.{length-zip, get_or-zip}
 use Rattle.ghcn_fields.specs.Days.{block_of}
 use Rattle.ghcn_series.specs.Series.{DayValue, value_on}
-use Rattle.ghcn_series.specs.Packed.{Block, block_start, place_of, if_so, value_at, day_from, days_from, block_days}
-use Rattle.ghcn_series.specs.Packed.{days_of, blocks_of, AreBlocks}
+use Rattle.ghcn_series.specs.Packed.{Block, block_start, place_in_block, if_so, value_at, day_from, days_from, block_days}
+use Rattle.ghcn_series.specs.Packed.{days_of_blocks, blocks_of, AreBlocks}
 
 -- equal numbers pass the test
 pub int_eq-yes : (a b : ℤ) → a ≡ b → int_eq a b ≡ true
@@ -127,17 +127,17 @@ no_block = (pos 0, (0, []))
 
 -- where no block has the day's number, the day has no value
 pub days-without : (bs : List Block) (day : ℤ) → ((k : ℕ) → k < length bs → (get_or bs k no_block).0 ≡ block_of day → ⊥)
-    → value_on (days_of bs) day ≡ None
+    → value_on (days_of_blocks bs) day ≡ None
 days-without [] day h = refl
 days-without (b ∷ bs) day h =
-    rw (value_on-append (block_days b) (days_of bs) day, block-other b day (h 0 (omega arith)))
+    rw (value_on-append (block_days b) (days_of_blocks bs) day, block-other b day (h 0 (omega arith)))
     (days-without bs day (λ k lt. h (suc k) (omega arith)))
 
 -- where one block alone has the day's number, the day has the value of its place there
 pub days-at : (bs : List Block) (i : ℕ) (number : ℤ) (j : ℕ) → j < 32 → i < length bs
     → (get_or bs i no_block).0 ≡ number
     → ((k : ℕ) → k < length bs → (get_or bs k no_block).0 ≡ number → k ≡ i)
-    → value_on (days_of bs) (block_start number +ℤ pos j) ≡ value_at (get_or bs i no_block).1.0
+    → value_on (days_of_blocks bs) (block_start number +ℤ pos j) ≡ value_at (get_or bs i no_block).1.0
     (get_or bs i no_block).1.1 j
 days-at [] i number j below lt is alone = absurd (omega arith)
 days-at (b ∷ bs) zero number j below lt is alone =
@@ -146,16 +146,16 @@ days-at (b ∷ bs) zero number j below lt is alone =
     let here : value_on (block_days b) day ≡ value_at b.1.0 b.1.1 j = subst
     (λ (n : ℤ). value_on (block_days b) (block_start n +ℤ pos j) ≡ value_at b.1.0 b.1.1 j) is
     (block-value b j below) in
-    let behind : value_on (days_of bs) day ≡ None = days-without bs day
+    let behind : value_on (days_of_blocks bs) day ≡ None = days-without bs day
     (λ k less e. let same : suc k ≡ zero = alone (suc k) (omega arith) (e ∙ of) in absurd (omega arith)) in
-    rw (value_on-append (block_days b) (days_of bs) day, behind, or_none (value_on (block_days b) day)) here
+    rw (value_on-append (block_days b) (days_of_blocks bs) day, behind, or_none (value_on (block_days b) day)) here
 days-at (b ∷ bs) (suc i) number j below lt is alone =
     let day : ℤ = block_start number +ℤ pos j in
     let of : block_of day ≡ number = block-of_place number j below in
     let other : b.0 ≡ block_of day → ⊥ = λ e. let same : zero ≡ suc i = alone zero (omega arith) (e ∙ of) in absurd
     (omega arith) in
-    value_on-append (block_days b) (days_of bs) day
-    ∙ ap (λ (o : Option ℤ). option_or o (value_on (days_of bs) day)) (block-other b day other)
+    value_on-append (block_days b) (days_of_blocks bs) day
+    ∙ ap (λ (o : Option ℤ). option_or o (value_on (days_of_blocks bs) day)) (block-other b day other)
     ∙ days-at bs i number j below (omega arith) is (λ k less e. let same : suc k ≡ suc i = alone (suc k) (omega arith)
     e in omega arith)
 
@@ -176,12 +176,12 @@ pub blocks-length : (numbers : List ℤ) (words : List ℕ) (values : List (List
 blocks-length numbers words values w v = omega (arith, length-zip numbers (zip words values), length-zip words values)
 
 -- the place of a day in its block
-pub place_is : (day : ℤ) → block_start (block_of day) +ℤ place_of day ≡ day
+pub place_is : (day : ℤ) → block_start (block_of day) +ℤ place_in_block day ≡ day
 place_is (pos a) = omega (arith, ints)
 place_is (negsuc a) = omega (arith, ints)
 
 -- a day's place in its block is below 32
-pub place-below : (day : ℤ) → (pos 0 ≤ℤ place_of day) × (place_of day <ℤ pos 32)
+pub place-below : (day : ℤ) → (pos 0 ≤ℤ place_in_block day) × (place_in_block day <ℤ pos 32)
 place-below (pos a) = (omega (arith, ints), omega (arith, ints))
 place-below (negsuc a) = (omega (arith, ints), omega (arith, ints))
 
@@ -190,8 +190,8 @@ pub at_day : (P : ℤ → Type 0) (day : ℤ) → ((j : ℕ) → j < 32 → P (b
 at_day P day h =
     let range = place-below day in
     let is = place_is day in
-    subst P {x = block_start (block_of day) +ℤ pos (unsigned_abs (place_of day))} (omega (arith, ints))
-    (h (unsigned_abs (place_of day)) (omega (arith, ints)))
+    subst P {x = block_start (block_of day) +ℤ pos (unsigned_abs (place_in_block day))} (omega (arith, ints))
+    (h (unsigned_abs (place_in_block day)) (omega (arith, ints)))
 
 -- the blocks behind so many are the next one and those behind it
 pub blocks-behind : (ns : List ℤ) (ws : List ℕ) (vs : List (List ℤ)) (i : ℕ) → AreBlocks ns ws vs → i < length ns

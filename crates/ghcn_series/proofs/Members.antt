@@ -1,16 +1,8 @@
 -- Which elements a list has: of what was found, kept, put in order, or made of others.
 use Rattle.std.proofs.Common.{◌≡◌, ◌⊎◌, inl, inr, zero, suc, Bool, true, false, cond, List, [], ◌∷◌, ◌++◌, map}
 use Rattle.std.proofs.Common.{filter, Option, Some, None, refl, sym, ap, ◌∙◌, subst, ◌||◌, arith}
-use Rattle.std.specs.List.{Contains, find, list_any, flat_map, filter_map, cons_option, AllByRecursion, IsDistinct}
-use Rattle.std.specs.List.Sorted.{IsPermutation}
-use Rattle.std.proofs.lemmas.List.Elements.{recursion_from_All, All-from_recursion}
-use Rattle.std.proofs.lemmas.List.Sorted.{IsPermutation-sym, All-permutation}
-use Rattle.std.proofs.lemmas.Map.Keys.{IsDistinct-head, IsDistinct-tail}
-
--- the element is in the list
-abbrev pub In : {X : Type 0} → List X → X → Type 0
-In [] x = ⊥
-In (y ∷ ys) x = (y ≡ x) ⊎ In ys x
+use Rattle.std.specs.List.{Contains, list_any, flat_map, filter_map, cons_option, AllByRecursion}
+pub use Rattle.ghcn_files.proofs.Ordered.{In, of_one, for_each, in_permuted, found_in}
 
 -- what is in a list by its place is in it by recursion
 pub contains-in : {X : Type 0} (xs : List X) (x : X) → Contains xs x → In xs x
@@ -24,33 +16,15 @@ in-contains [] x h = absurd h
 in-contains (y ∷ ys) x (inl at) = (0, omega arith, at)
 in-contains (y ∷ ys) x (inr h) = let there = in-contains ys x h in (suc there.0, omega (arith, there.1), there.2)
 
--- what holds of each holds of one that is there
-pub of_one : {X : Type 0} (P : X → Type 0) (xs : List X) (x : X) → AllByRecursion P xs → In xs x → P x
-of_one P [] x h k = absurd k
-of_one P (y ∷ ys) x h (inl e) = subst P e h.0
-of_one P (y ∷ ys) x h (inr k) = of_one P ys x h.1 k
+-- what is true of each is true of one that stands there
+pub of_each : {X : Type 0} (P : X → Type 0) (xs : List X) → AllByRecursion P xs → (x : X) → Contains xs x → P x
+of_each P xs all x has = of_one P xs x all (contains-in xs x has)
 
--- what holds of one that is there, for each of them
-pub for_each : {X : Type 0} (P : X → Type 0) (xs : List X) → ((x : X) → In xs x → P x) → AllByRecursion P xs
-for_each P [] f = tt
-for_each P (x ∷ xs) f = (f x (inl refl), for_each P xs (λ y k. f y (inr k)))
-
--- the elements of a list are in each permutation
-pub in_permuted : {X : Type 0} (xs ys : List X) → IsPermutation xs ys → AllByRecursion (In ys) xs
-in_permuted xs ys p = recursion_from_All (In ys) xs
-    (All-permutation (In ys) ys xs (IsPermutation-sym xs ys p) (All-from_recursion (In ys) ys (for_each (In ys) ys (λ x h. h))))
+-- each stands there
+pub itself : {X : Type 0} (xs : List X) → AllByRecursion (Contains xs) xs
+itself xs = for_each (Contains xs) xs (in-contains xs)
 
 -- ---- what is found
-
--- what is found is there, and passes
-pub found_in : {X : Type 0} (test : X → Bool) (xs : List X) (x : X) → find test xs ≡ Some x
-    → In xs x × (test x ≡ true)
-found_in test [] x e = absurd cc
-found_in test (y ∷ ys) x e =
-    elim (test y) as (λ b. test y ≡ b → cond b (Some y) (find test ys) ≡ Some x → In (y ∷ ys) x × (test x ≡ true)) [
-      | true ↦ λ t f. let same : y ≡ x = cc in (inl same, ap test (sym same) ∙ t)
-      | false ↦ λ t f. let rest = found_in test ys x f in (inr rest.0, rest.1)
-    ] refl e
 
 -- one that passes is there where a test of any passes
 pub any_in : {X : Type 0} (test : X → Bool) (xs : List X) → list_any test xs ≡ true
@@ -169,20 +143,3 @@ all_in f (x ∷ xs) y h = elim (in_either (f x) (flat_map f xs) y h) [
   | inl k ↦ (x, inl refl, k)
   | inr k ↦ let rest = all_in f xs y k in (rest.0, inr rest.1, rest.2)
 ]
-
--- ---- the element with an ID
-
--- of elements of which no two are alike, the one that is there is found
-pub in_found : {X K : Type 0} (same : K → K → Bool) (key : X → K) (is_it : (a b : K) → same a b ≡ true → a ≡ b)
-    (own : (a : K) → same a a ≡ true) (xs : List X) (x : X) → IsDistinct same (map key xs) → In xs x
-    → find (λ y. same (key y) (key x)) xs ≡ Some x
-in_found same key is_it own [] x d h = absurd h
-in_found same key is_it own (y ∷ ys) x d (inl e) =
-    let yes : same (key y) (key x) ≡ true = ap (λ z. same (key z) (key x)) e ∙ own (key x) in
-    ap (λ (b : Bool). cond b (Some y) (find (λ z. same (key z) (key x)) ys)) yes ∙ ap (λ z. Some z) e
-in_found same key is_it own (y ∷ ys) x d (inr h) =
-    let apart = IsDistinct-head same (key y) (map key ys) d in
-    let no : same (key y) (key x) ≡ false = of_one (λ k. same (key y) k ≡ false) (map key ys) (key x) apart
-    (in_map key ys x h) in
-    ap (λ (b : Bool). cond b (Some y) (find (λ z. same (key z) (key x)) ys)) no
-    ∙ in_found same key is_it own ys x (IsDistinct-tail same (key y) (map key ys) d) h

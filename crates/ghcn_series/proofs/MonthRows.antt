@@ -22,7 +22,7 @@ use Rattle.ghcn_series.specs.Series.{DayValue, value_on}
 use Rattle.ghcn_series.specs.Says.{fact_if}
 use Rattle.ghcn_series.specs.Packed.{days_from}
 use Rattle.ghcn_series.specs.Parts.{IsRow, day_of, row_days}
-use Rattle.ghcn_series.specs.Gathered.{counted, usable_day, usable_days, usable_value}
+use Rattle.ghcn_series.specs.Gathered.{counted_day, usable_day, usable_days, usable_value}
 use Rattle.ghcn_series.proofs.Lookups.{from-value, from-other}
 use Rattle.ghcn_series.proofs.RisingDays.{behind, front}
 use Rattle.ghcn_series.proofs.MonthDays.{IsOfCalendar, has_number, day_number-is, day_number-after}
@@ -31,7 +31,7 @@ use Rattle.ghcn_series.proofs.ReadySeries.{is_day-numbered}
 
 -- a day of the calendar counts as its reading does
 counted_is : (m : Month) (flagged : Bool) (v : Option ℤ) (n : ℤ)
-    → option_map (λ (x : DayValue). x.1) (option_and_then counted (fact_if m flagged (Some n) v))
+    → option_map (λ (x : DayValue). x.1) (option_and_then counted_day (fact_if m flagged (Some n) v))
     ≡ cond flagged None (option_and_then (if_possible m.element) v)
 counted_is m true v n = refl
 counted_is m false None n = refl
@@ -43,7 +43,7 @@ counted_is m false (Some v) n = elim (may_be_negative m.element || int_le (pos 0
 
 -- a day that the calendar lacks doesn't count
 missing_is : (m : Month) (flagged : Bool) (v : Option ℤ)
-    → option_map (λ (x : DayValue). x.1) (option_and_then counted (fact_if m flagged None v)) ≡ None
+    → option_map (λ (x : DayValue). x.1) (option_and_then counted_day (fact_if m flagged None v)) ≡ None
 missing_is m true v = refl
 missing_is m false v = refl
 
@@ -73,7 +73,7 @@ usable_is m j right =
 
 -- a reading of nothing isn't usable
 pub unread : (m : Month) (j : ℕ) → usable_day m (j, no_reading) ≡ None
-unread m j = elim (day_number m.year m.month j) as (λ o. option_and_then counted (fact_if m false o None) ≡ None) [
+unread m j = elim (day_number m.year m.month j) as (λ o. option_and_then counted_day (fact_if m false o None) ≡ None) [
   | None ↦ refl
   | Some n ↦ refl
 ]

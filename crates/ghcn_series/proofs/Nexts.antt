@@ -13,7 +13,7 @@ use Rattle.std.proofs.lemmas.Int.{ints}
 use Rattle.std.proofs.lemmas.Nat.Bits.{bit_at-trailing_zeros}
 use Rattle.ghcn_fields.specs.Days.{block_of}
 use Rattle.ghcn_series.specs.Series.{DayValue, value_on}
-use Rattle.ghcn_series.specs.Packed.{Block, block_start, if_so, day_at, block_days, days_from, days_of, blocks_of}
+use Rattle.ghcn_series.specs.Packed.{Block, block_start, if_so, day_at, block_days, days_from, days_of_blocks, blocks_of}
 use Rattle.ghcn_series.specs.Packed.{AreBlocks, IsPacked, next_block}
 use Rattle.ghcn_series.proofs.Lookups.{block-of_place, block-value}
 
@@ -60,13 +60,13 @@ not_zero k some = grind (arith, nat_tests)
 
 -- blocks have no day where there is no block
 pub no-days : (ns : List ℤ) (ws : List ℕ) (vs : List (List ℤ)) → AreBlocks ns ws vs
-    → (length ns == 0) ≡ (length (days_of (blocks_of ns ws vs)) == 0)
+    → (length ns == 0) ≡ (length (days_of_blocks (blocks_of ns ws vs)) == 0)
 no-days [] ws vs bs = refl
 no-days (n ∷ ns) [] vs bs = absurd (omega (arith, bs.enough_words))
 no-days (n ∷ ns) (w ∷ ws) [] bs = absurd (omega (arith, bs.enough_values))
 no-days (n ∷ ns) (w ∷ ws) (v ∷ vs) bs =
     let some = block-nonempty (n, (w, v)) bs.packed.0.present bs.packed.0.fits in
-    let all = days_of (blocks_of ns ws vs) in
+    let all = days_of_blocks (blocks_of ns ws vs) in
     not_zero (length (n ∷ ns)) (omega arith)
     ∙ sym (not_zero (length (block_days (n, (w, v)) ++ all))
     (omega (arith, length-append (block_days (n, (w, v))) all, some)))
@@ -89,16 +89,16 @@ none-reached b n (x ∷ xs) ys all missed =
     rw (all.0, missed) (none-reached b n xs ys all.1 missed)
 
 -- the next block of some days is found among the numbers of their blocks
-pub next-of_numbers : (b : ℤ) (bs : List Block) → AllByRecursion IsPacked bs → next_block (days_of bs) b
+pub next-of_numbers : (b : ℤ) (bs : List Block) → AllByRecursion IsPacked bs → next_block (days_of_blocks bs) b
     ≡ find (int_le b) (map (λ x. x.0) bs)
 next-of_numbers b [] all = refl
 next-of_numbers b (x ∷ xs) all =
-    elim (int_le b x.0) as (λ t. int_le b x.0 ≡ t → next_block (block_days x ++ days_of xs) b
+    elim (int_le b x.0) as (λ t. int_le b x.0 ≡ t → next_block (block_days x ++ days_of_blocks xs) b
     ≡ cond t (Some x.0) (find (int_le b) (map (λ y. y.0) xs))) [
-      | true ↦ λ hit. first-reached b x.0 (block_days x) (days_of xs) (block-own x)
+      | true ↦ λ hit. first-reached b x.0 (block_days x) (days_of_blocks xs) (block-own x)
           (block-nonempty x all.0.present all.0.fits) hit
       | false ↦ λ missed. ap (option_map (λ (y : DayValue). block_of y.0))
-          (none-reached b x.0 (block_days x) (days_of xs) (block-own x) missed) ∙ next-of_numbers b xs all.1
+          (none-reached b x.0 (block_days x) (days_of_blocks xs) (block-own x) missed) ∙ next-of_numbers b xs all.1
     ] refl
 
 -- a partition point is the place of the first number that is found

@@ -13,7 +13,7 @@ use Rattle.std.proofs.lemmas.Nat.{pow_pos}
 use Rattle.std.proofs.lemmas.Nat.Bits.{bit_at_and, bit_at-lt, bit_at_ones, bit_at_ones_above, bit_at_mask_inside}
 use Rattle.std.proofs.lemmas.Nat.Bits.{bit_at_mask_below}
 use Rattle.ghcn_series.specs.Series.{DayValue}
-use Rattle.ghcn_series.specs.Packed.{block_start, day_at, if_so, block_days, days_from, AreDays, BeginsBy}
+use Rattle.ghcn_series.specs.Packed.{block_start, day_at, if_so, block_days, days_from, AreCalendarDays, BeginsBy}
 use Rattle.ghcn_series.proofs.FirstDays.{same-bits, none-set, block-first}
 
 -- so many places, and those behind them
@@ -41,7 +41,7 @@ first-set : (a b : ℕ) → a < 2 → min a b ≡ 1 → a ≡ 1
 first-set a b less e = omega (arith, e)
 
 -- the days that some of a word's bits leave are of the calendar
-pub some-bits : (n : ℤ) (w mask : ℕ) → AreDays n w → AreDays n (bit_and w mask)
+pub some-bits : (n : ℤ) (w mask : ℕ) → AreCalendarDays n w → AreCalendarDays n (bit_and w mask)
 some-bits n w mask are = record {
   days = λ j lt set.
       are.days j lt (first-set (bit_at w j) (bit_at mask j) (bit_at-lt w j) (sym (bit_at_and w mask j) ∙ set));

@@ -12,18 +12,18 @@ use Rattle.std.proofs.lemmas.Int.{ints}
 use Rattle.std.proofs.lemmas.Grind.{common_steps}
 use Rattle.std.proofs.lemmas.List.{get_or_append_left, get_or_push}
 use Rattle.ghcn_series.specs.Series.{DayValue, value_on}
-use Rattle.ghcn_series.specs.Packed.{Block, block_start, if_so, block_days, days_of, blocks_of, IsPacked, AreBlocks}
+use Rattle.ghcn_series.specs.Packed.{Block, block_start, if_so, block_days, days_of_blocks, blocks_of, IsPacked, AreBlocks}
 use Rattle.ghcn_series.specs.Packed.{Rise}
 use Rattle.ghcn_series.specs.Parts.{AreNew, AreJoined, JoinsValues}
-use Rattle.ghcn_series.proofs.ListFacts.{all-at, both_all}
+use Rattle.ghcn_series.proofs.ListFacts.{all-at, each-append}
 use Rattle.ghcn_series.proofs.Lookups.{no_block, or_none, block-value, value_on-append, blocks-at, blocks-length}
 use Rattle.ghcn_series.proofs.FirstDays.{block-empty}
 use Rattle.ghcn_series.proofs.JoinedDays.{AreApart, block-joined, packed-joined, last-joined, last-packed}
 use Rattle.ghcn_series.proofs.JoinedDays.{pushed-blocks, none-at, or_assoc}
 
 -- the days of a block more
-pub days-pushed : (bs : List Block) (b : Block) (d : ℤ) → value_on (days_of (bs ++ b ∷ [])) d
-    ≡ option_or (value_on (days_of bs) d) (value_on (block_days b) d)
+pub days-pushed : (bs : List Block) (b : Block) (d : ℤ) → value_on (days_of_blocks (bs ++ b ∷ [])) d
+    ≡ option_or (value_on (days_of_blocks bs) d) (value_on (block_days b) d)
 days-pushed [] b d = simp (value_on-append, or_none)
 days-pushed (x ∷ xs) b d = simp (value_on-append, days-pushed xs b d, or_assoc)
 
@@ -56,14 +56,16 @@ module _ (ns : List ℤ) (ws : List ℕ) (vs : List (List ℤ)) (bs : AreBlocks 
     enough_words = grind (arith, common_steps, bs.enough_words);
     enough_values = grind (arith, common_steps, bs.enough_values);
     packed = subst (AllByRecursion IsPacked) (sym (pushed-blocks ns ws vs n w v bs.enough_words bs.enough_values))
-        (both_all IsPacked (blocks_of ns ws vs) ((n, (w, v)) ∷ []) bs.packed (one, tt));
+        (each-append IsPacked (blocks_of ns ws vs) ((n, (w, v)) ∷ []) bs.packed (one, tt));
   }
 
   -- a block more adds its days
-  pub push-days : (n : ℤ) (w : ℕ) (v : List ℤ) → AreJoined (days_of (blocks_of ns ws vs)) (block_days (n, (w, v)))
-      (days_of (blocks_of (ns ++ n ∷ []) (ws ++ w ∷ []) (vs ++ v ∷ [])))
+  pub push-days : (n : ℤ) (w : ℕ) (v : List ℤ) → AreJoined (days_of_blocks (blocks_of ns ws vs))
+      (block_days (n, (w, v)))
+      (days_of_blocks (blocks_of (ns ++ n ∷ []) (ws ++ w ∷ []) (vs ++ v ∷ [])))
   push-days n w v d =
-      ap (λ (l : List Block). value_on (days_of l) d) (pushed-blocks ns ws vs n w v bs.enough_words bs.enough_values)
+      ap (λ (l : List Block). value_on (days_of_blocks l) d)
+      (pushed-blocks ns ws vs n w v bs.enough_words bs.enough_values)
       ∙ days-pushed (blocks_of ns ws vs) (n, (w, v)) d
 
 -- days of the last part's block that the parts don't have, and their values joined to those of the part
@@ -71,7 +73,7 @@ pub record IsJoin (ns : List ℤ) (ws : List ℕ) (vs : List (List ℤ)) (i p : 
   pub blocks : AreBlocks ns ws vs
   pub last : i + 1 ≡ length ns
   pub one : IsPacked (get_or ns i (pos 0), (p, u))
-  pub fresh : AreNew (days_of (blocks_of ns ws vs)) (block_days (get_or ns i (pos 0), (p, u)))
+  pub fresh : AreNew (days_of_blocks (blocks_of ns ws vs)) (block_days (get_or ns i (pos 0), (p, u)))
   pub row : JoinsValues (get_or vs i []) u r
 
 module _ (ns : List ℤ) (ws : List ℕ) (vs : List (List ℤ)) (i p : ℕ) (u r : List ℤ) (is : IsJoin ns ws vs i p u r) where
@@ -105,8 +107,8 @@ module _ (ns : List ℤ) (ws : List ℕ) (vs : List (List ℤ)) (i p : ℕ) (u r
   join-last = block-joined (get_or ns i (pos 0)) (get_or ws i 0) p (get_or vs i []) u r old_packed is.one apart is.row
 
   -- all parts, where the last is joined with them
-  pub join-days : AreJoined (days_of (blocks_of ns ws vs)) (block_days (get_or ns i (pos 0), (p, u)))
-      (days_of (blocks_of ns (set ws i (bit_or (get_or ws i 0) p)) (set vs i r)))
+  pub join-days : AreJoined (days_of_blocks (blocks_of ns ws vs)) (block_days (get_or ns i (pos 0), (p, u)))
+      (days_of_blocks (blocks_of ns (set ws i (bit_or (get_or ws i 0) p)) (set vs i r)))
   join-days =
       last-joined ns ws vs i (bit_or (get_or ws i 0) p) r (block_days (get_or ns i (pos 0), (p, u)))
       is.blocks.enough_words is.blocks.enough_values is.last join-last

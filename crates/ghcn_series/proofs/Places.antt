@@ -14,7 +14,7 @@ use Rattle.ghcn_files.specs.declared.station.Station.{Station}
 use Rattle.ghcn_files.specs.Ids.{same_id}
 use Rattle.ghcn_files.specs.Listed.{is_station_of, place_of}
 use Rattle.ghcn_series.specs.DailyFaults.{is_listed}
-use Rattle.ghcn_files.specs.IdLaws.{same_id-is, no_place}
+use Rattle.ghcn_files.proofs.IdLaws.{same_id-is, no_place}
 
 -- an ID is the same as itself
 pub same_id-refl : (a : StationId) → same_id a a ≡ true

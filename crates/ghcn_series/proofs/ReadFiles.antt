@@ -5,7 +5,7 @@ use Rattle.std.specs.Option.{option_map}
 use Rattle.std.proofs.lemmas.List.{take_all, length-map}
 use Rattle.std.proofs.lemmas.Bool.{le-leb, lt-leb}
 use Rattle.ghcn_fields.specs.Faults.{first_fault, HaveNoFault}
-use Rattle.ghcn_fields.specs.FaultLaws.{first_fault-none, first_fault-from, first_fault-is}
+use Rattle.ghcn_files.proofs.FaultLaws.{first_fault-none, first_fault-from, first_fault-is}
 use Rattle.ghcn_files.specs.declared.station.Station.{Station}
 use Rattle.ghcn_files.specs.Months.{read_month}
 use Rattle.ghcn_series.specs.declared.fault.DailyWhy.{DailyWhy}

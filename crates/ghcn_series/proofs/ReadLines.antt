@@ -10,7 +10,7 @@ use Rattle.std.proofs.lemmas.Bool.{not-true, not-false}
 use Rattle.ghcn_fields.specs.Bytes.{is_blank}
 use Rattle.ghcn_fields.specs.Lines.{columns}
 use Rattle.ghcn_fields.specs.Faults.{IsFirstFault}
-use Rattle.ghcn_fields.specs.FaultLaws.{no_fault-more}
+use Rattle.ghcn_files.proofs.FaultLaws.{no_fault-more}
 use Rattle.ghcn_files.specs.declared.station.Station.{Station}
 use Rattle.ghcn_files.specs.declared.month.Month.{Month}
 use Rattle.ghcn_files.specs.declared.element.Element.{Element}
@@ -26,7 +26,7 @@ use Rattle.ghcn_series.specs.DailyFaults.{FileLine, month_on, month_if_ok, repea
 use Rattle.ghcn_series.specs.DailyFaults.{daily_fault}
 use Rattle.ghcn_series.specs.declared.counts.LineKind.TheVariants.{OfElement, Other}
 use Rattle.ghcn_series.specs.Gathered.{HasReadFor, IsLineRefusal}
-use Rattle.ghcn_series.specs.LineKinds.{kind_of}
+use Rattle.ghcn_series.specs.LineKinds.{line_kind}
 use Rattle.ghcn_series.specs.Steps.{ReadsMonth}
 
 module _ {L W : Type 0} (fault : List L → L → Option W) where
@@ -121,13 +121,13 @@ some_read false None line m is = absurd cc
 some_read false (Some x) line m is = refl
 
 -- a line that is passed over is of another code
-pub other_kind : (line : List ℕ) → read_month line ≡ Ok None → is_blank line ≡ false → Other ≡ kind_of line
+pub other_kind : (line : List ℕ) → read_month line ≡ Ok None → is_blank line ≡ false → Other ≡ line_kind line
 other_kind line is some =
     rw (some, none_read (nat_lt (length line) 21) (element_of (columns 18 21 line)) line is) refl
 
 -- a line of a month is one of the elements
 pub element_kind : (line : List ℕ) (m : Month) → read_month line ≡ Ok (Some m) → is_blank line ≡ false
-    → OfElement ≡ kind_of line
+    → OfElement ≡ line_kind line
 element_kind line m is some =
     rw (some, some_read (nat_lt (length line) 21) (element_of (columns 18 21 line)) line m is) refl
 

@@ -11,7 +11,7 @@ use Rattle.std.proofs.lemmas.List.Sums.{sum_by-append}
 use Rattle.std.proofs.lemmas.Bool.{or_parts, OnTrue_from, OnTrue_at, and_left}
 use Rattle.std.proofs.lemmas.Slice.Zip.{AllZip-long}
 use Rattle.ghcn_files.specs.declared.element.Element.TheVariants.{Prcp, Snow, Snwd, Tmax, Tmin}
-use Rattle.ghcn_series.proofs.ListFacts.{both_all, set_second}
+use Rattle.ghcn_series.proofs.ListFacts.{each-append, set_second}
 use Rattle.ghcn_fields.specs.declared.memory.Memory.{Memory}
 use Rattle.ghcn_files.specs.declared.station.StationId.{StationId}
 use Rattle.ghcn_files.specs.declared.station.Station.{Station}
@@ -32,7 +32,7 @@ use Rattle.ghcn_series.specs.Parts.{AreEmpty}
 use Rattle.ghcn_series.specs.Steps.{GathersAt, StationKeepsMonths, KeepsRead, ReadsMonth}
 use Rattle.ghcn_series.proofs.StationMonths.{other_elements}
 use Rattle.ghcn_series.proofs.Places.{ids, from_ids, listed-is}
-use Rattle.ghcn_files.specs.IdLaws.{same_id-turned}
+use Rattle.ghcn_files.proofs.IdLaws.{same_id-turned}
 
 -- a station without a month has none after another's
 none_more : (before : List Month) (m : Month) (id : StationId) → same_id m.id id ≡ false
@@ -149,7 +149,7 @@ read-listed old new m k g now added place here same adds element stations unlist
       adds.is_new before station.holds ∙ ap (λ (b : Bool). not (b && list_any (same_month m) before)) (sym at.1),
       OnTrue_from added _ (λ yes. record {
         listed = rw stations is.listed;
-        right = both_all IsMonth before (m ∷ []) is.right (right, tt);
+        right = each-append IsMonth before (m ∷ []) is.right (right, tt);
         unlisted = rw (stations, count_more old.stations before m true at.1, add-zero) (unlisted ∙ is.unlisted);
         gathered = rw (element, stations, gathered) (put_station old.keep before m old.stations old.gathered.items k
             at.0.0 g now is.listed.distinct at.0.1 at.0.2 is.gathered here same
@@ -170,7 +170,7 @@ read-unlisted old new m none element stations gathered spare unlisted before rig
       ap (λ (b : Bool). not (b && list_any (same_month m) before)) (sym none),
       record {
         listed = rw stations is.listed;
-        right = both_all IsMonth before (m ∷ []) is.right (right, tt);
+        right = each-append IsMonth before (m ∷ []) is.right (right, tt);
         unlisted =
             rw (stations, count_more old.stations before m false none, unlisted, is.unlisted)
             (capped (unlisted_months old.stations before));

@@ -13,7 +13,7 @@ use Rattle.std.proofs.lemmas.List.Folds.{list_all-append}
 use Rattle.std.proofs.lemmas.Bool.{and_from, and_parts, eqb-false}
 use Rattle.std.proofs.lemmas.List.Sorted.{All-permutation, length_permutation}
 use Rattle.std.proofs.lemmas.List.Sums.{list_all-from_AllPass, AllPass-from_list_all}
-use Rattle.ghcn_fields.proofs.Ordered.{sorted-permutation}
+use Rattle.ghcn_files.proofs.Ordered.{sorted-permutation}
 use Rattle.ghcn_fields.specs.Days.{day_number, is_day}
 use Rattle.ghcn_fields.specs.Sorting.{sorted_by}
 use Rattle.ghcn_fields.proofs.DayNumbers.{is_day-from_civil}

@@ -7,11 +7,11 @@ use Rattle.std.specs.List.{cons_option, filter_map, range_with_len, AllByRecursi
 use Rattle.std.proofs.Common.{inl, inr}
 use Rattle.std.proofs.lemmas.Int.{ints, by_lt_z}
 use Rattle.std.proofs.lemmas.Option.{none-some, same_Some}
-use Rattle.ghcn_series.proofs.ListFacts.{weaken, both_all}
+use Rattle.ghcn_series.proofs.ListFacts.{each-weaker, each-append}
 use Rattle.ghcn_series.proofs.JoinedDays.{same_block}
 use Rattle.ghcn_fields.specs.Days.{block_of}
 use Rattle.ghcn_series.specs.Series.{DayValue, value_on}
-use Rattle.ghcn_series.specs.Packed.{Block, block_start, if_so, day_at, block_days, days_from, days_of, blocks_of}
+use Rattle.ghcn_series.specs.Packed.{Block, block_start, if_so, day_at, block_days, days_from, days_of_blocks, blocks_of}
 use Rattle.ghcn_series.specs.Packed.{AreRising, AreColumns}
 use Rattle.ghcn_series.proofs.Lookups.{no_block, int_eq-no, int_eq-yes, block-holds, blocks-at, blocks-length}
 use Rattle.ghcn_series.proofs.Nexts.{AreOf, block-own}
@@ -62,35 +62,35 @@ rising-append : (n : ℤ) (xs ys : List DayValue) → AreOf n xs → AllByRecurs
     → AreRising ys → AreRising (xs ++ ys)
 rising-append n [] ys own later a b = b
 rising-append n (x ∷ xs) ys own later a b = (
-  both_all (λ (y : DayValue). x.0 <ℤ y.0) xs ys a.0
-      (weaken (λ (y : DayValue). n <ℤ block_of y.0) (λ (y : DayValue). x.0 <ℤ y.0) ys
+  each-append (λ (y : DayValue). x.0 <ℤ y.0) xs ys a.0
+      (each-weaker (λ (y : DayValue). n <ℤ block_of y.0) (λ (y : DayValue). x.0 <ℤ y.0) ys
       (λ y lt. later_block x.0 y.0 (subst (λ (z : ℤ). z <ℤ block_of y.0) (sym own.0) lt)) later),
   rising-append n xs ys own.1 later a.1 b,
 )
 
 -- the blocks' numbers are greater than one
 all_later : (n : ℤ) (bs : List Block) → ((k : ℕ) → k < length bs → n <ℤ (get_or bs k no_block).0)
-    → AllByRecursion (λ y. n <ℤ block_of y.0) (days_of bs)
+    → AllByRecursion (λ y. n <ℤ block_of y.0) (days_of_blocks bs)
 all_later n [] h = tt
 all_later n (b ∷ bs) h =
     let first : n <ℤ b.0 = h 0 (omega arith) in
-    both_all (λ (y : DayValue). n <ℤ block_of y.0) (block_days b) (days_of bs)
-    (weaken (λ (x : DayValue). block_of x.0 ≡ b.0) (λ (y : DayValue). n <ℤ block_of y.0) (block_days b)
+    each-append (λ (y : DayValue). n <ℤ block_of y.0) (block_days b) (days_of_blocks bs)
+    (each-weaker (λ (x : DayValue). block_of x.0 ≡ b.0) (λ (y : DayValue). n <ℤ block_of y.0) (block_days b)
     (λ x e. subst (λ (z : ℤ). n <ℤ z) (sym e) first) (block-own b))
     (all_later n bs (λ k lt. h (suc k) (omega arith)))
 
 -- the days of rising blocks rise
 blocks-rise : (bs : List Block) → ((i j : ℕ) → i < j → j < length bs
-    → (get_or bs i no_block).0 <ℤ (get_or bs j no_block).0) → AreRising (days_of bs)
+    → (get_or bs i no_block).0 <ℤ (get_or bs j no_block).0) → AreRising (days_of_blocks bs)
 blocks-rise [] h = tt
 blocks-rise (b ∷ bs) h =
-    rising-append b.0 (block_days b) (days_of bs) (block-own b)
+    rising-append b.0 (block_days b) (days_of_blocks bs) (block-own b)
     (all_later b.0 bs (λ k lt. h 0 (suc k) (omega arith) (omega arith)))
     (block-rises b) (blocks-rise bs (λ i j lt in_range. h (suc i) (suc j) (omega arith) (omega arith)))
 
 -- the days of columns rise
 pub columns-rise : (ns : List ℤ) (ws : List ℕ) (vs : List (List ℤ)) → AreColumns ns ws vs
-    → AreRising (days_of (blocks_of ns ws vs))
+    → AreRising (days_of_blocks (blocks_of ns ws vs))
 columns-rise ns ws vs cols = blocks-rise (blocks_of ns ws vs) (λ i j lt in_range.
     let words = cols.blocks.enough_words in
     let values = cols.blocks.enough_values in
@@ -116,7 +116,7 @@ before_all (x ∷ xs) d all = behind x xs d (λ e. let lt = all.0 in omega (arit
 -- days behind a day are behind any earlier one
 earlier_all : (a b : ℤ) (xs : List DayValue) → a <ℤ b → AllByRecursion (λ y. b <ℤ y.0) xs
     → AllByRecursion (λ y. a <ℤ y.0) xs
-earlier_all a b xs lt all = weaken (λ (y : DayValue). b <ℤ y.0) (λ (y : DayValue). a <ℤ y.0) xs
+earlier_all a b xs lt all = each-weaker (λ (y : DayValue). b <ℤ y.0) (λ (y : DayValue). a <ℤ y.0) xs
     (λ y more. omega (arith, ints)) all
 
 -- days behind the same first day have the same values

@@ -19,7 +19,7 @@ use Rattle.ghcn_files.specs.Months.{read_month, month_if, month_of, month_why, u
 use Rattle.ghcn_files.specs.StationLines.{station_of}
 use Rattle.ghcn_series.specs.declared.fault.DataFault.{DataFault}
 use Rattle.ghcn_series.specs.declared.fault.DataFault.TheVariants.{DailyLine, TooManyFiles}
-use Rattle.ghcn_series.specs.DailyFaults.{FileLine, line_of, not_blank, file_lines, daily_lines, month_on, month_if_ok}
+use Rattle.ghcn_series.specs.DailyFaults.{FileLine, file_line, not_blank, file_lines, daily_lines, month_on, month_if_ok}
 use Rattle.ghcn_series.specs.DailyFaults.{daily_fault, daily_why, is_listed}
 use Rattle.ghcn_series.specs.Said.{stations_said, month_said, months_said, said_by}
 use Rattle.ghcn_series.specs.Says.{contents, contents_unless, data_of, all_series, facts_of, in_64_bits, is_usable}
@@ -88,7 +88,7 @@ file_said : (file n : ℕ) (ls : List (List ℕ))
 file_said file n [] = refl
 file_said file n (l ∷ ls) =
     elim (is_blank l) as (λ b. is_blank l ≡ b → filter_map (λ (x : FileLine). month_said x.bytes)
-    (map (line_of file) (cond (not b) ((n, l) ∷ filter (λ x. not (is_blank x.1)) (enumerate_from (n + 1) ls))
+    (map (file_line file) (cond (not b) ((n, l) ∷ filter (λ x. not (is_blank x.1)) (enumerate_from (n + 1) ls))
     (filter (λ x. not (is_blank x.1)) (enumerate_from (n + 1) ls))))
     ≡ cons_option (month_said l) (filter_map month_said ls)) [
       | true ↦ λ blank. rw (blank_said l blank) (file_said file (n + 1) ls)

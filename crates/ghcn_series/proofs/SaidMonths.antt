@@ -16,7 +16,7 @@ use Rattle.ghcn_files.specs.declared.element.Element.{Element}
 use Rattle.ghcn_files.specs.declared.fault.LineWhy.{LineWhy}
 use Rattle.ghcn_files.specs.declared.month.Month.{Month}
 use Rattle.ghcn_files.specs.Ids.{same_id}
-use Rattle.ghcn_files.specs.IdLaws.{same_id-is}
+use Rattle.ghcn_files.proofs.IdLaws.{same_id-is}
 use Rattle.ghcn_files.specs.Elements.{same_element}
 use Rattle.ghcn_files.specs.Months.{read_month}
 use Rattle.ghcn_series.specs.declared.fault.DailyWhy.TheVariants.{DuplicateMonth}

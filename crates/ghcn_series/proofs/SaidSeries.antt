@@ -12,13 +12,13 @@ use Rattle.std.proofs.lemmas.Cmp.{int_eq_equiv}
 use Rattle.std.proofs.lemmas.List.Sorted.{Contains-permutation, IsPermutation-sym}
 use Rattle.std.proofs.lemmas.Option.{same_Some}
 use Rattle.std.proofs.lemmas.Map.Views.{Contains-from_lookup, lookup-from_Contains}
-use Rattle.ghcn_fields.proofs.Ordered.{sorted-permutation}
+use Rattle.ghcn_files.proofs.Ordered.{sorted-permutation}
 use Rattle.ghcn_fields.specs.Sorting.{sorted_by}
 use Rattle.ghcn_files.specs.declared.station.StationId.{StationId}
 use Rattle.ghcn_files.specs.declared.station.Station.{Station}
 use Rattle.ghcn_files.specs.declared.element.Element.{Element}
 use Rattle.ghcn_files.specs.Ids.{same_id}
-use Rattle.ghcn_files.specs.IdLaws.{same_id-is}
+use Rattle.ghcn_files.proofs.IdLaws.{same_id-is}
 use Rattle.ghcn_files.specs.Elements.{same_element, element_index}
 use Rattle.ghcn_series.specs.DailyFaults.{is_listed}
 use Rattle.ghcn_series.specs.Said.{facts_said, IsMadeOf}

@@ -15,7 +15,7 @@ use Rattle.std.proofs.lemmas.Cmp.{int_cmp_total, int_ranked}
 use Rattle.std.proofs.lemmas.List.{get_or_default}
 use Rattle.std.proofs.lemmas.List.Sorted.{searchable_from_sorted}
 use Rattle.std.proofs.lemmas.Int.{ints}
-use Rattle.ghcn_series.specs.Packed.{Block, value_at, block_start, days_of, blocks_of, IsPacked, Rise, AreColumns}
+use Rattle.ghcn_series.specs.Packed.{Block, value_at, block_start, days_of_blocks, blocks_of, IsPacked, Rise, AreColumns}
 use Rattle.ghcn_series.specs.Packed.{next_block, IsAt, IsNowhere, IsBlockOf, HasNone}
 use Rattle.std.specs.List.{find, zip}
 use Rattle.std.proofs.lemmas.Slice.Zip.{firsts-zip, length-zip}
@@ -95,13 +95,13 @@ module _ (ns : List ℤ) (ws : List ℕ) (vs : List (List ℤ)) (cols : AreColum
   }
 
   -- a block whose number is nowhere has no day
-  pub block-absent : (n : ℤ) → IsNowhere ns n → HasNone (days_of (blocks_of ns ws vs)) n
+  pub block-absent : (n : ℤ) → IsNowhere ns n → HasNone (days_of_blocks (blocks_of ns ws vs)) n
   block-absent n nowhere j lt =
       days-without (blocks_of ns ws vs) (block_start n +ℤ pos j)
       (λ k less e. nowhere k (at-number k n less (e ∙ block-of_place n j lt)))
 
   -- the block at the place of a number
-  pub block-found : (n : ℤ) (i : ℕ) → IsAt ns n i → IsBlockOf (days_of (blocks_of ns ws vs)) n (get_or ws i 0)
+  pub block-found : (n : ℤ) (i : ℕ) → IsAt ns n i → IsBlockOf (days_of_blocks (blocks_of ns ws vs)) n (get_or ws i 0)
       (get_or vs i [])
   block-found n i at =
       let bs : List Block = blocks_of ns ws vs in
@@ -125,7 +125,7 @@ module _ (ns : List ℤ) (ws : List ℕ) (vs : List (List ℤ)) (cols : AreColum
 
 -- the next block of the columns' days
 pub next-of_columns : (ns : List ℤ) (ws : List ℕ) (vs : List (List ℤ)) → AreColumns ns ws vs → (b : ℤ)
-    → next_block (days_of (blocks_of ns ws vs)) b ≡ find (int_le b) ns
+    → next_block (days_of_blocks (blocks_of ns ws vs)) b ≡ find (int_le b) ns
 next-of_columns ns ws vs cols b =
     next-of_numbers b (blocks_of ns ws vs) cols.blocks.packed
     ∙ ap (find (int_le b)) (firsts-zip ns (zip ws vs)

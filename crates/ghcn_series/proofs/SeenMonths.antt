@@ -14,7 +14,7 @@ use Rattle.std.specs.Cmp.{IsEquivalence}
 use Rattle.std.proofs.lemmas.Map.Keys.{IsDistinct-push}
 use Rattle.std.proofs.lemmas.Bool.{not-true, OnTrue_from}
 use Rattle.std.proofs.Math.Bool.{or-false}
-use Rattle.ghcn_series.proofs.ListFacts.{both_all}
+use Rattle.ghcn_series.proofs.ListFacts.{each-append}
 use Rattle.ghcn_fields.specs.declared.memory.Memory.{Memory}
 use Rattle.ghcn_files.specs.declared.month.Month.{Month}
 use Rattle.ghcn_files.specs.declared.row.MonthRow.{MonthRow}
@@ -24,7 +24,7 @@ use Rattle.ghcn_series.specs.declared.gathering.Gathering.{Gathering}
 use Rattle.ghcn_series.specs.Series.{DayValue, value_on}
 use Rattle.ghcn_series.specs.Steps.{OfMonth, Gathers}
 use Rattle.ghcn_series.specs.Parts.{AreParts, AreNew, AreJoined}
-use Rattle.ghcn_series.specs.Gathered.{number_of, has_number, same_time, usable_days, gathered_days, kept_days}
+use Rattle.ghcn_series.specs.Gathered.{month_count, has_number, same_time, usable_days, gathered_days, kept_days}
 use Rattle.ghcn_series.specs.Gathered.{IsGathering}
 use Rattle.ghcn_series.specs.SeenMonths.{has_month, Adds}
 use Rattle.ghcn_series.proofs.Lookups.{value_on-append}
@@ -46,7 +46,7 @@ same_number a b c d low high low_d high_d = grind (arith, nat_tests)
 
 -- months have one number where they are of one time
 numbers-are : (m : Month) (ms : List Month) → IsMonth m → AllByRecursion IsMonth ms
-    → list_any (has_number (number_of m)) ms ≡ list_any (same_time m) ms
+    → list_any (has_number (month_count m)) ms ≡ list_any (same_time m) ms
 numbers-are m [] right all = refl
 numbers-are m (x ∷ xs) right all =
     rw (
@@ -56,8 +56,8 @@ numbers-are m (x ∷ xs) right all =
 
 -- whether a month was seen is whether one of its time was
 pub seen-is : (kept : Bool) (g : Gathering) (m : Month) (before : List Month) → IsMonth m → IsGathering kept g before
-    → has_month g.seen (number_of m) ≡ list_any (same_time m) before
-seen-is kept g m before right is = is.seen (number_of m) ∙ numbers-are m before right is.right
+    → has_month g.seen (month_count m) ≡ list_any (same_time m) before
+seen-is kept g m before right is = is.seen (month_count m) ∙ numbers-are m before right is.right
 
 -- one month more adds its usable days
 days-more : (before : List Month) (m : Month) → flat_map usable_days (before ++ m ∷ []) ≡ flat_map usable_days before
@@ -67,7 +67,7 @@ days-more before m =
 
 -- a month whose time wasn't seen has no day that was gathered
 pub month-new : (g : Gathering) (m : Month) (before : List Month) → IsMonth m → IsGathering true g before
-    → has_month g.seen (number_of m) ≡ false
+    → has_month g.seen (month_count m) ≡ false
     → AreNew (gathered_days g) (usable_days m)
 month-new g m before right is fresh d some =
     let apart : IsDistinct same_time (before ++ m ∷ []) = distinct-more m before is.distinct
@@ -79,19 +79,19 @@ month-new g m before right is fresh d some =
 
 -- the months that were seen, with one more
 seen-more : (kept : Bool) (old new : Gathering) (m : Month) (before : List Month) → IsGathering kept old before
-    → Adds old.seen new.seen (number_of m)
+    → Adds old.seen new.seen (month_count m)
     → (t : ℕ) → has_month new.seen t ≡ list_any (has_number t) (before ++ m ∷ [])
 seen-more kept old new m before is adds t =
-    adds t ∙ rw (is.seen t, list_any-append, or-false, nat_eq_equiv.symm (number_of m) t) refl
+    adds t ∙ rw (is.seen t, list_any-append, or-false, nat_eq_equiv.symm (month_count m) t) refl
 
 -- one month more is gathered, with its days where they are kept
 gathered_with : (kept : Bool) (old new : Gathering) (m : Month) (before : List Month) → IsMonth m
-    → IsGathering kept old before → has_month old.seen (number_of m) ≡ false → Adds old.seen new.seen (number_of m)
+    → IsGathering kept old before → has_month old.seen (month_count m) ≡ false → Adds old.seen new.seen (month_count m)
     → AreParts new.parts
     → ((d : ℤ) → value_on (gathered_days new) d ≡ value_on (kept_days kept (before ++ m ∷ [])) d)
     → IsGathering kept new (before ++ m ∷ [])
 gathered_with kept old new m before right is fresh adds parts values = record {
-  right = both_all IsMonth before (m ∷ []) is.right (right, tt);
+  right = each-append IsMonth before (m ∷ []) is.right (right, tt);
   seen = seen-more kept old new m before is adds;
   parts = parts;
   values = values;
@@ -100,8 +100,8 @@ gathered_with kept old new m before right is fresh adds parts values = record {
 
 -- one month more is gathered with its days
 pub gathering-more : (old new : Gathering) (m : Month) (before : List Month) → IsMonth m → IsGathering true old before
-    → has_month old.seen (number_of m) ≡ false
-    → Adds old.seen new.seen (number_of m)
+    → has_month old.seen (month_count m) ≡ false
+    → Adds old.seen new.seen (month_count m)
     → AreParts new.parts → AreJoined (gathered_days old) (usable_days m) (gathered_days new)
     → IsGathering true new (before ++ m ∷ [])
 gathering-more old new m before right is fresh adds parts joined =
@@ -114,7 +114,7 @@ gathering-more old new m before right is fresh adds parts joined =
 
 -- a month's number is that of its row
 pub number_is : (kept : Bool) (m : Month) (row : MonthRow) (n : ℕ) → IsRowOf kept m row
-    → n ≡ 12 * row.year + row.month → n ≡ number_of m
+    → n ≡ 12 * row.year + row.month → n ≡ month_count m
 number_is kept m row n of e =
     omega arith
 
@@ -125,9 +125,11 @@ pub noted : (row : MonthRow) (old new : Gathering) (result : Result Bool Memory)
     → IfOk result (λ added. OfMonth false row (λ m. Gathers false old new m added))
 noted row old new (Err memory) told adds same = tt
 noted row old new (Ok added) told adds same = λ m right of.
-    let number : 12 * row.year + row.month ≡ number_of m = number_is false m row (12 * row.year + row.month) of refl in
-    let is_new : added ≡ not (has_month old.seen (number_of m)) = told ∙ ap (λ n. not (has_month old.seen n)) number in
-    let more : Adds old.seen new.seen (number_of m) = subst (Adds old.seen new.seen) number adds in
+    let number : 12 * row.year + row.month ≡ month_count m = number_is false m row
+    (12 * row.year + row.month) of refl in
+    let is_new : added ≡ not (has_month old.seen (month_count m)) = told
+    ∙ ap (λ n. not (has_month old.seen n)) number in
+    let more : Adds old.seen new.seen (month_count m) = subst (Adds old.seen new.seen) number adds in
     record {
       is_new = λ before is. is_new ∙ ap not (seen-is false old m before right is);
       holds = λ before is. OnTrue_from added _ (λ yes.

@@ -18,8 +18,8 @@ use Rattle.ghcn_files.specs.Listed.{is_station_of, place_of}
 use Rattle.ghcn_series.specs.Series.{Usable, Contents, is_series_of, series_of}
 use Rattle.ghcn_series.specs.Held.{all_of, is_of_element}
 use Rattle.ghcn_series.proofs.Places.{ids, first_place, listed-is}
-use Rattle.ghcn_files.specs.IdLaws.{same_id-is, same_id-turned, no_place}
-use Rattle.ghcn_series.proofs.ListFacts.{both_all}
+use Rattle.ghcn_files.proofs.IdLaws.{same_id-is, same_id-turned, no_place}
+use Rattle.ghcn_series.proofs.ListFacts.{each-append}
 
 -- of the series of one station, an element's is the station's and the element's
 find_own : (id : StationId) (e : Element) (us : List Usable) → AllByRecursion (λ u. same_id u.id id ≡ true) us
@@ -51,7 +51,7 @@ all_other id [] [] other own = tt
 all_other id [] (us ∷ lists) other own = absurd own
 all_other id (s ∷ ss) [] other own = absurd own
 all_other id (s ∷ ss) (us ∷ lists) other own =
-    both_all (λ u. same_id u.id id ≡ false) us (all_of lists)
+    each-append (λ u. same_id u.id id ≡ false) us (all_of lists)
     (with_id id false s us (same_id-turned s.id id ∙ other.0) own.0)
     (all_other id ss lists other.1 own.1)
 

@@ -13,7 +13,7 @@ use Rattle.std.proofs.lemmas.Slice.Zip.{AllZip-long}
 use Rattle.std.proofs.Math.Bool.{and_assoc}
 use Rattle.std.specs.Bool.{OnTrue}
 use Rattle.ghcn_series.specs.declared.station.StationGathering.{StationGathering}
-use Rattle.ghcn_series.proofs.ListFacts.{from_all, weaken, set_first}
+use Rattle.ghcn_series.proofs.ListFacts.{from_all, each-weaker, set_first}
 use Rattle.ghcn_files.specs.declared.station.StationId.{StationId}
 use Rattle.ghcn_files.specs.declared.element.Element.{Element}
 use Rattle.ghcn_files.specs.declared.element.Keep.{Keep}
@@ -24,7 +24,7 @@ use Rattle.ghcn_files.specs.Elements.{elements, same_element, element_index, is_
 use Rattle.ghcn_series.specs.declared.gathering.Gathering.{Gathering}
 use Rattle.ghcn_series.specs.DailyFaults.{same_month}
 use Rattle.ghcn_series.specs.Gathered.{same_time, months_of, IsGathering, IsGatheringOf, AreByElement}
-use Rattle.ghcn_files.specs.IdLaws.{same_id-turned}
+use Rattle.ghcn_files.proofs.IdLaws.{same_id-turned}
 use Rattle.ghcn_series.specs.Steps.{Gathers, GathersSome, GathersNothing, KeepsMonths, Opens}
 
 -- a station without a month has none of any element
@@ -116,7 +116,7 @@ put_gathering asked before m id (x ∷ xs) [] k g new of apart is at here same h
 put_gathering asked before m id (x ∷ xs) (e ∷ es) zero g new of apart is at here same holds =
     let this : e ≡ m.element = cc in
     let others : AllByRecursion (λ d. same_element m.element d ≡ false) es = rw (← this) apart.0 in
-    let none = weaken _ (λ d. (same_id m.id id && same_element m.element d) ≡ false) es
+    let none = each-weaker _ (λ d. (same_id m.id id && same_element m.element d) ≡ false) es
     (λ d. and_right (same_id m.id id) (same_element m.element d)) others in (
       record {
         element = same ∙ ap (λ (h : Gathering). h.element) here ∙ is.0.element;

@@ -7,7 +7,7 @@ use Rattle.ghcn_fields.specs.Lines.{lines}
 use Rattle.ghcn_series.specs.declared.counts.Foreign.{Foreign}
 use Rattle.ghcn_series.specs.declared.counts.LineCounts.{LineCounts}
 use Rattle.ghcn_series.specs.Says.{in_64_bits}
-use Rattle.ghcn_series.specs.LineKinds.{all_lines, blank_lines, is_of_element, foreign_of}
+use Rattle.ghcn_series.specs.LineKinds.{all_lines, blank_lines, has_element, foreign_of}
 
 -- these are the counts of the files that were ended, and of these whole lines of the current one
 pub record HaveCounted (c : LineCounts) (ended : List (List ℕ)) (whole : List ℕ) : Type 0 where
@@ -15,7 +15,7 @@ pub record HaveCounted (c : LineCounts) (ended : List (List ℕ)) (whole : List 
   pub blank : c.blank ≡ blank_lines ended + count_by is_blank (lines whole)
   pub foreign : c.foreign ≡ foreign_of ended
   pub has_line : c.has_line ≡ list_any (λ l. not (is_blank l)) (lines whole)
-  pub has_element : c.has_element ≡ list_any is_of_element (lines whole)
+  pub has_element : c.has_element ≡ list_any has_element (lines whole)
 
 -- a line of the current file is counted
 pub record CountsLine (old new : LineCounts) (line : List ℕ) : Type 0 where
@@ -23,7 +23,7 @@ pub record CountsLine (old new : LineCounts) (line : List ℕ) : Type 0 where
   pub blank : new.blank ≡ old.blank + (if is_blank line then 1 else 0)
   pub foreign : new.foreign ≡ old.foreign
   pub has_line : new.has_line ≡ (old.has_line || not (is_blank line))
-  pub has_element : new.has_element ≡ (old.has_element || is_of_element line)
+  pub has_element : new.has_element ≡ (old.has_element || has_element line)
 
 -- a foreign file is added, at a place behind the others
 pub record AddsForeign (old new : Foreign) (place : ℕ) : Type 0 where

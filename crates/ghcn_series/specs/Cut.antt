@@ -19,7 +19,7 @@ abbrev pub lines_to : Files → List ℕ → List FileLine
 lines_to files whole = daily_lines files.ended ++ file_lines (length files.ended + 1, whole)
 
 -- the current file is these whole lines, and this of the line behind them
-pub record IsCut (files : Files) (whole rest : List ℕ) : Type 0 where
+pub record IsCutFile (files : Files) (whole rest : List ℕ) : Type 0 where
   pub parts : files.current ≡ whole ++ rest
   pub ends : EndsLine whole
 
@@ -27,7 +27,7 @@ pub record IsCut (files : Files) (whole rest : List ℕ) : Type 0 where
 pub record HasLineFault (fed : Fed) (fault : DataFault) : Type 0 where
   pub whole : List ℕ
   pub rest : List ℕ
-  pub cut : IsCut fed.files whole rest
+  pub cut : IsCutFile fed.files whole rest
   pub first : IsLineRefusal fed.stations (lines_to fed.files whole) fault
 
 -- a cutter has counted these files
@@ -47,7 +47,7 @@ pub record LooksAtLines {L : Type 0} (c : Cutter L) (looks : Bool) : Type 0 wher
 -- a cutter's reader has read what was fed: no line that has its line feed or its file's end has a fault
 pub record HasReadFed {L : Type 0} (has_read : Reading L) (c : Cutter L) (fed : Fed) : Type 0 where
   pub whole : List ℕ
-  pub cut : IsCut fed.files whole c.rest.items
+  pub cut : IsCutFile fed.files whole c.rest.items
   pub unended : HasNoLineFeed c.rest.items
   pub numbered : c.line ≡ length (lines whole)
   pub counted : HaveCounted c.counts fed.files.ended whole

@@ -27,12 +27,12 @@ pub record FileLine : Type 0 where
   pub bytes : List ℕ
 
 -- the line of this number of a file
-abbrev pub line_of : ℕ → ℕ × List ℕ → FileLine
-line_of file l = record { file = file; line = l.0; bytes = l.1 }
+abbrev pub file_line : ℕ → ℕ × List ℕ → FileLine
+file_line file l = record { file = file; line = l.0; bytes = l.1 }
 
 -- of these lines of a file, each with its number, those that aren't blank
 abbrev pub not_blank : ℕ → List (ℕ × List ℕ) → List FileLine
-not_blank file ls = map (line_of file) (filter (λ l. not (is_blank l.1)) ls)
+not_blank file ls = map (file_line file) (filter (λ l. not (is_blank l.1)) ls)
 
 -- a line of a file, given as it stands before its line feed, unless it is blank
 abbrev pub one_line : ℕ → ℕ → List ℕ → List FileLine

@@ -28,12 +28,12 @@ use Rattle.ghcn_series.specs.DailyFaults.{FileLine, month_on, is_listed, daily_f
 use Rattle.ghcn_series.specs.Says.{Fact, fact_of, in_64_bits}
 
 -- the day and the value of a fact, where its element can have the value
-abbrev pub counted : Fact → Option DayValue
-counted f = if may_be_negative f.element || int_le (pos 0) f.value then Some (f.day, f.value) else None
+abbrev pub counted_day : Fact → Option DayValue
+counted_day f = if may_be_negative f.element || int_le (pos 0) f.value then Some (f.day, f.value) else None
 
 -- a day of a month, by its place in the month and its reading, with its value, where that counts
 abbrev pub usable_day : Month → ℕ × Reading → Option DayValue
-usable_day m x = option_and_then counted (fact_of m x)
+usable_day m x = option_and_then counted_day (fact_of m x)
 
 -- the days of a month whose values count
 abbrev pub usable_days : Month → List DayValue
@@ -48,12 +48,12 @@ abbrev pub same_time : Month → Month → Bool
 same_time a b = (a.year == b.year) && (a.month == b.month)
 
 -- the months since the year 0, of a month
-abbrev pub number_of : Month → ℕ
-number_of m = 12 * m.year + m.month
+abbrev pub month_count : Month → ℕ
+month_count m = 12 * m.year + m.month
 
 -- the month has this number
 abbrev pub has_number : ℕ → Month → Bool
-has_number t m = t == number_of m
+has_number t m = t == month_count m
 
 -- the days that a gathering has
 abbrev pub gathered_days : Gathering → List DayValue

@@ -34,8 +34,8 @@ abbrev pub all_of : List (List Usable) → List Usable
 all_of lists = flat_map (λ series. series) lists
 
 -- the data of stations with one list of series each, where so many lines were passed over
-abbrev pub contents : List Station → List (List Usable) → ℕ → Contents
-contents stations lists unlisted = record { stations = stations; series = all_of lists; unlisted = unlisted }
+abbrev pub contents_of : List Station → List (List Usable) → ℕ → Contents
+contents_of stations lists unlisted = record { stations = stations; series = all_of lists; unlisted = unlisted }
 
 -- what is true of the series of listed stations that are kept in one list for each: those of a list are its station's,
 -- and all of them are right

@@ -18,16 +18,16 @@ abbrev pub blank_lines : List (List ℕ) → ℕ
 blank_lines files = count_by is_blank (all_lines files)
 
 -- the line has the code of one of the five elements
-abbrev pub is_of_element : List ℕ → Bool
-is_of_element line = is_some (element_of (columns 18 21 line))
+abbrev pub has_element : List ℕ → Bool
+has_element line = is_some (element_of (columns 18 21 line))
 
 -- what stands on a line
-abbrev pub kind_of : List ℕ → LineKind
-kind_of line = if is_blank line then Blank else if is_of_element line then OfElement else Other
+abbrev pub line_kind : List ℕ → LineKind
+line_kind line = if is_blank line then Blank else if has_element line then OfElement else Other
 
 -- a file is foreign: it has a line that isn't blank, and none of the five elements
 abbrev pub is_foreign : List ℕ → Bool
-is_foreign file = list_any (λ l. not (is_blank l)) (lines file) && not (list_any is_of_element (lines file))
+is_foreign file = list_any (λ l. not (is_blank l)) (lines file) && not (list_any has_element (lines file))
 
 -- the places of the foreign files among all files, from 0
 abbrev pub foreign_places : List (List ℕ) → List ℕ

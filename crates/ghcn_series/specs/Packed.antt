@@ -33,8 +33,8 @@ abbrev pub block_days : Block → List DayValue
 block_days b = days_from (block_start b.0) b.1.0 b.1.1
 
 -- the days of some blocks that are present
-abbrev pub days_of : List Block → List DayValue
-days_of bs = flat_map block_days bs
+abbrev pub days_of_blocks : List Block → List DayValue
+days_of_blocks bs = flat_map block_days bs
 
 -- the blocks of three columns
 abbrev pub blocks_of : List ℤ → List ℕ → List (List ℤ) → List Block
@@ -48,7 +48,7 @@ pub record IsPacked (b : Block) : Type 0 where
   pub days : (j : ℕ) → j < 32 → bit_at b.1.0 j ≡ 1 → is_day (block_start b.0 +ℤ pos j) ≡ true
 
 -- the days of a word's bits are days of the calendar
-pub record AreDays (number : ℤ) (word : ℕ) : Type 0 where
+pub record AreCalendarDays (number : ℤ) (word : ℕ) : Type 0 where
   pub days : (j : ℕ) → j < 32 → bit_at word j ≡ 1 → is_day (block_start number +ℤ pos j) ≡ true
 
 -- three columns of one length whose blocks are as they may be
@@ -67,8 +67,8 @@ pub record AreColumns (numbers : List ℤ) (words : List ℕ) (values : List (Li
   pub rise : Rise numbers
 
 -- the place of a day in its block
-abbrev pub place_of : ℤ → ℤ
-place_of day = int_rem_euclid day (pos 32)
+abbrev pub place_in_block : ℤ → ℤ
+place_in_block day = int_rem_euclid day (pos 32)
 
 -- this block of some days: its word isn't 0, and each place has its day's value, and 0 where that is absent
 pub record IsBlockOf (days : List DayValue) (number : ℤ) (word : ℕ) (values : List ℤ) : Type 0 where

@@ -6,12 +6,12 @@ use Rattle.std.specs.List.{AllByRecursion}
 use Rattle.std.specs.Option.{option_or}
 use Rattle.ghcn_series.specs.Series.{DayValue, value_on}
 use Rattle.ghcn_fields.specs.Days.{is_day}
-use Rattle.ghcn_series.specs.Packed.{Block, block_start, days_from, block_days, days_of, blocks_of, Rise, AreBlocks}
+use Rattle.ghcn_series.specs.Packed.{Block, block_start, days_from, block_days, days_of_blocks, blocks_of, Rise, AreBlocks}
 use Rattle.ghcn_series.specs.declared.parts.Parts.{Parts}
 
 -- the days of some parts
 abbrev pub days_held : Parts → List DayValue
-days_held p = days_of (blocks_of p.numbers.items p.words.items p.values.items)
+days_held p = days_of_blocks (blocks_of p.numbers.items p.words.items p.values.items)
 
 -- the number of the last part
 abbrev pub last_number : Parts → ℤ
@@ -24,7 +24,7 @@ AreNew old more = (d : ℤ) → IsSome (value_on more d) → value_on old d ≡ 
 -- no two of some parts have a day in common
 abbrev pub AreDisjoint : List Block → Type 0
 AreDisjoint [] = ⊤
-AreDisjoint (b ∷ bs) = AreNew (block_days b) (days_of bs) × AreDisjoint bs
+AreDisjoint (b ∷ bs) = AreNew (block_days b) (days_of_blocks bs) × AreDisjoint bs
 
 -- the parts are as they may be and have no day twice, and where they are told to be in order, their numbers rise
 pub record AreParts (p : Parts) : Type 0 where

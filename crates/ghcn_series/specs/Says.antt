@@ -38,8 +38,8 @@ abbrev pub facts_of : Month → List Fact
 facts_of m = filter_map (fact_of m) (enumerate_from 1 m.days)
 
 -- all that these lines say
-abbrev pub says : List FileLine → List Fact
-says ls = flat_map facts_of (filter_map month_on ls)
+abbrev pub facts_on : List FileLine → List Fact
+facts_on ls = flat_map facts_of (filter_map month_on ls)
 
 -- a fact that counts: of a listed station, and not negative where the element has no negative values
 abbrev pub is_usable : List Station → Fact → Bool
@@ -47,7 +47,7 @@ is_usable stations f = is_listed stations f.id && (may_be_negative f.element || 
 
 -- the facts of these lines that count
 abbrev pub usable_facts : List Station → List FileLine → List Fact
-usable_facts stations ls = filter (is_usable stations) (says ls)
+usable_facts stations ls = filter (is_usable stations) (facts_on ls)
 
 -- the usable days of a station and element, by day
 abbrev pub days_of : List Fact → StationId → Element → List DayValue

@@ -22,11 +22,11 @@ pub(crate) struct Columns {
 impl Model for Columns {
     ghost use Rattle.std.specs.Prelude.{List};
     ghost use Rattle.ghcn_series.specs.Series.{DayValue};
-    ghost use Rattle.ghcn_series.specs.Packed.{days_of, blocks_of, AreColumns};
+    ghost use Rattle.ghcn_series.specs.Packed.{days_of_blocks, blocks_of, AreColumns};
 
     ghost Value = { List DayValue };
 
-    ghost view = { λ c. days_of (blocks_of c.numbers.items c.words.items c.values.items) };
+    ghost view = { λ c. days_of_blocks (blocks_of c.numbers.items c.words.items c.values.items) };
 
     ghost invariant = { λ c. AreColumns c.numbers.items c.words.items c.values.items };
 }
@@ -35,7 +35,7 @@ impl Columns {
     /// The days of three columns.
     pub(crate) fn of(numbers: Vec<i32>, words: Vec<u32>, values: Vec<[i32; 32]>) -> Self
         requires { packed.AreColumns numbers.items words.items values.items }
-        ensures { result ≡ packed.days_of (packed.blocks_of numbers.items words.items values.items) }
+        ensures { result ≡ packed.days_of_blocks (packed.blocks_of numbers.items words.items values.items) }
     {
         Columns {
             numbers,
@@ -116,7 +116,7 @@ fn value_at(word: u32, values: &[i32; 32], place: u32) -> Option<i32>
 
 /// The last day of a word's bits.
 fn last_day(number: i32, word: u32) -> Option<Day>
-    requires days { packed.AreDays number word }
+    requires days { packed.AreCalendarDays number word }
     requires some { 0 < word }
     ensures { packed.IsLastOf number word result }
 {

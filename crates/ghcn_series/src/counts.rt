@@ -1,7 +1,7 @@
 //! What is counted on the lines of daily files.
 
 ghost use Rattle.std.specs.Prelude.{◌≡◌, ℕ, ◌≤◌, ◌^◌, ◌&&◌, not, List, [], ◌∷◌, ◌++◌, length, IfSome};
-ghost use Rattle.ghcn_series.specs.LineKinds.{kind_of, foreign_of};
+ghost use Rattle.ghcn_series.specs.LineKinds.{line_kind, foreign_of};
 ghost use Rattle.ghcn_series.specs.Counted.{HaveCounted, CountsLine, AddsForeign};
 
 /// What stands on a line of daily files.
@@ -73,7 +73,7 @@ impl LineCounts {
 
     /// Counts a line of the current file, unless a number gets too great.
     pub(crate) fn add(&mut self, kind: LineKind) -> Option<()>
-        ensures { IfSome result (λ _. (line : List ℕ) → kind ≡ kind_of line → CountsLine self.old self.new line) }
+        ensures { IfSome result (λ _. (line : List ℕ) → kind ≡ line_kind line → CountsLine self.old self.new line) }
     {
         self.lines = self.lines.checked_add(1)?;
         match kind {

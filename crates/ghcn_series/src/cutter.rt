@@ -7,7 +7,7 @@ ghost use Rattle.ghcn_files.specs.declared.station.Station.{Station};
 ghost use Rattle.ghcn_series.specs.Cut as cut;
 ghost use Rattle.ghcn_series.specs.DailyFaults.{one_line};
 ghost use Rattle.ghcn_series.specs.Fed.{IsOfMemory, nothing_fed};
-ghost use Rattle.ghcn_series.specs.LineKinds.{kind_of};
+ghost use Rattle.ghcn_series.specs.LineKinds.{line_kind};
 ghost use Rattle.ghcn_series.specs.LinesRead.{HasReadSome, Reads, Refuses};
 
 use crate::counts::{LineCounts, LineKind};
@@ -22,8 +22,8 @@ pub trait LineReader {
     ghost use Rattle.ghcn_fields.specs.Bytes.{is_blank};
     ghost use Rattle.ghcn_files.specs.declared.element.Keep.{Keep};
     ghost use Rattle.ghcn_files.specs.declared.station.Station.{Station};
-    ghost use Rattle.ghcn_series.specs.DailyFaults.{FileLine, line_of};
-    ghost use Rattle.ghcn_series.specs.LineKinds.{kind_of};
+    ghost use Rattle.ghcn_series.specs.DailyFaults.{FileLine, file_line};
+    ghost use Rattle.ghcn_series.specs.LineKinds.{line_kind};
     ghost use Rattle.ghcn_series.specs.LinesRead.{HasReadSome, Reads, Refuses};
 
     /// A reader of lines for some stations, which keeps the values of some elements, has read lines none of which has
@@ -40,9 +40,9 @@ pub trait LineReader {
     ) -> Result<LineKind, DataFault>
         requires some { is_blank bytes.now ≡ false }
         requires read { HasReadSome has_read self.old }
-        ensures kind { IfOk result (λ kind. kind ≡ kind_of bytes.now) }
-        ensures read { OnOk result (Reads has_read self.old self.new (line_of file (line, bytes.now) ∷ [])) }
-        ensures fault { IfErr result (Refuses has_read self.old (line_of file (line, bytes.now) ∷ [])) };
+        ensures kind { IfOk result (λ kind. kind ≡ line_kind bytes.now) }
+        ensures read { OnOk result (Reads has_read self.old self.new (file_line file (line, bytes.now) ∷ [])) }
+        ensures fault { IfErr result (Refuses has_read self.old (file_line file (line, bytes.now) ∷ [])) };
 }
 
 /// Cuts daily files into lines, in their order, each file in pieces that may end anywhere. The first fault is kept,
@@ -247,7 +247,7 @@ fn read_line<L: LineReader>(
     bytes: &[u8],
 ) -> Result<LineKind, DataFault>
     requires { HasReadSome L.has_read reader.old }
-    ensures kind { IfOk result (λ kind. kind ≡ kind_of (strip_carriage_return bytes.now)) }
+    ensures kind { IfOk result (λ kind. kind ≡ line_kind (strip_carriage_return bytes.now)) }
     ensures read { OnOk result (Reads L.has_read reader.old reader.new (one_line file line bytes.now)) }
     ensures fault { IfErr result (Refuses L.has_read reader.old (one_line file line bytes.now)) }
 {

@@ -3,16 +3,14 @@
 ghost use Rattle.std.specs.Prelude.{◌≡◌, ◌<◌, ◌^◌, map, length, slice_get, Some, Ok, Err, IfOk, IfErr};
 ghost use Rattle.std.specs.List.{find};
 ghost use Rattle.std.specs.Option.{option_and_then, option_copied};
-ghost use Rattle.ghcn_files.specs.declared.element.Keep.TheVariants.{All, One};
 ghost use Rattle.ghcn_series.specs.Series.{series_of};
 ghost use Rattle.ghcn_fields.specs.Refusals.{IsRefusal};
 ghost use Rattle.ghcn_series.specs.DailyFaults.{is_memory, IsFirstRefusal};
 ghost use Rattle.ghcn_series.specs.Says.{data_of};
-ghost use Rattle.ghcn_series.specs.Held.{IsContents, AreByStation, contents, is_of_element};
-ghost use Rattle.ghcn_series.specs.Kept.{AreKept};
+ghost use Rattle.ghcn_series.specs.Held.{IsContents, AreByStation, contents_of, is_of_element};
 
 use crate::{DataFault, DataReader, Series};
-use ghcn_files::{Element, Keep, StationId, Stations};
+use ghcn_files::{Element, StationId, Stations};
 use std::alloc::Global;
 use std::marker::Model;
 
@@ -31,11 +29,11 @@ pub struct Data {
 impl Model for Data {
     ghost use Rattle.std.specs.Prelude.{map};
     ghost use Rattle.ghcn_series.specs.Series.{Contents};
-    ghost use Rattle.ghcn_series.specs.Held.{AreByStation, contents};
+    ghost use Rattle.ghcn_series.specs.Held.{AreByStation, contents_of};
 
     ghost Value = { Contents };
 
-    ghost view = { λ d. contents d.stations (map (λ s. s.items) d.series.items) d.unlisted };
+    ghost view = { λ d. contents_of d.stations (map (λ s. s.items) d.series.items) d.unlisted };
 
     ghost invariant = { λ d. AreByStation d.stations (map (λ s. s.items) d.series.items) };
 }
@@ -43,39 +41,7 @@ impl Model for Data {
 impl Data {
     /// Reads daily files, in their order. A line of a station that isn't listed is passed over.
     pub fn read(alloc: Global, stations: Stations, files: &[&[u8]]) -> Result<Self, DataFault>
-        ensures ok { IfOk result (λ held. data_of stations (map (λ f. f.now) files.now) ≡ Ok held) }
-        ensures err { IfErr result (λ fault.
-            IsRefusal is_memory fault (data_of stations (map (λ f. f.now) files.now))) }
-        ensures first { IfErr result (λ fault. IsFirstRefusal fault stations (map (λ f. f.now) files.now)) }
-        ensures many { 2 ^ 20 < length files.now → result ≡ Err DataFault.TooManyFiles }
-    {
-        Data::read_kept(alloc, stations, files, Keep::All)
-    }
-
-    /// Reads daily files as `read` does, with the same faults, and keeps the series of one element.
-    pub fn read_element(
-        alloc: Global,
-        stations: Stations,
-        files: &[&[u8]],
-        element: Element,
-    ) -> Result<Self, DataFault>
-        ensures ok { IfOk result (AreKept (One element) stations (map (λ f. f.now) files.now)) }
-        ensures err { IfErr result (λ fault.
-            IsRefusal is_memory fault (data_of stations (map (λ f. f.now) files.now))) }
-        ensures first { IfErr result (λ fault. IsFirstRefusal fault stations (map (λ f. f.now) files.now)) }
-        ensures many { 2 ^ 20 < length files.now → result ≡ Err DataFault.TooManyFiles }
-    {
-        Data::read_kept(alloc, stations, files, Keep::One(element))
-    }
-
-    /// Reads daily files.
-    fn read_kept(
-        alloc: Global,
-        stations: Stations,
-        files: &[&[u8]],
-        keep: Keep,
-    ) -> Result<Self, DataFault>
-        ensures ok { IfOk result (AreKept keep stations (map (λ f. f.now) files.now)) }
+        ensures ok { IfOk result (λ dataset. data_of stations (map (λ f. f.now) files.now) ≡ Ok dataset) }
         ensures err { IfErr result (λ fault.
             IsRefusal is_memory fault (data_of stations (map (λ f. f.now) files.now))) }
         ensures first { IfErr result (λ fault. IsFirstRefusal fault stations (map (λ f. f.now) files.now)) }
@@ -84,19 +50,19 @@ impl Data {
         if files.len() as u64 > MOST_FILES {
             return Err(DataFault::TooManyFiles);
         }
-        let mut reader = DataReader::of(alloc, stations, keep)?;
+        let mut reader = DataReader::new(alloc, stations)?;
         for file in files {
             reader.piece(file);
             reader.end_of_file();
         }
-        let (held, _foreign) = reader.finish()?;
-        Ok(held)
+        let (dataset, _foreign) = reader.finish()?;
+        Ok(dataset)
     }
 
     /// These series of the stations, which have one list each.
     pub(crate) fn of(stations: Stations, series: Vec<Vec<Series>>, unlisted: u64) -> Self
         requires { AreByStation stations (map (λ s. s.items) series.items) }
-        ensures { result ≡ contents stations (map (λ s. s.items) series.items) unlisted }
+        ensures { result ≡ contents_of stations (map (λ s. s.items) series.items) unlisted }
     {
         Data {
             stations,

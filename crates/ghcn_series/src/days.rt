@@ -22,19 +22,19 @@ pub struct BlockDays<'a> {
 impl<'a> Model for BlockDays<'a> {
     ghost use Rattle.std.specs.Prelude.{List};
     ghost use Rattle.ghcn_series.specs.Series.{DayValue};
-    ghost use Rattle.ghcn_series.specs.Packed.{block_days, AreDays};
+    ghost use Rattle.ghcn_series.specs.Packed.{block_days, AreCalendarDays};
 
     ghost Value = { List DayValue };
 
     ghost view = { λ d. block_days (d.number, (d.left, d.values.now)) };
 
-    ghost invariant = { λ d. AreDays d.number d.left };
+    ghost invariant = { λ d. AreCalendarDays d.number d.left };
 }
 
 impl<'a> BlockDays<'a> {
     /// The days of a block that are present.
     pub(crate) fn of(number: i32, word: u32, values: &'a [i32; 32]) -> Self
-        requires { packed.AreDays number word }
+        requires { packed.AreCalendarDays number word }
         ensures { result ≡ packed.block_days (number, (word, values.now)) }
     {
         BlockDays {
@@ -165,11 +165,11 @@ struct Blocks<'a> {
 impl<'a> Model for Blocks<'a> {
     ghost use Rattle.std.specs.Prelude.{List, drop};
     ghost use Rattle.ghcn_series.specs.Series.{DayValue};
-    ghost use Rattle.ghcn_series.specs.Packed.{days_of, blocks_of, AreBlocks};
+    ghost use Rattle.ghcn_series.specs.Packed.{days_of_blocks, blocks_of, AreBlocks};
 
     ghost Value = { List DayValue };
 
-    ghost view = { λ b. days_of (drop b.passed (blocks_of b.numbers.now b.words.now b.values.now)) };
+    ghost view = { λ b. days_of_blocks (drop b.passed (blocks_of b.numbers.now b.words.now b.values.now)) };
 
     ghost invariant = { λ b. AreBlocks b.numbers.now b.words.now b.values.now };
 }
@@ -224,7 +224,7 @@ impl<'a> Days<'a> {
     /// The days of three columns.
     pub(crate) fn of(numbers: &'a [i32], words: &'a [u32], values: &'a [[i32; 32]]) -> Self
         requires { packed.AreBlocks numbers.now words.now values.now }
-        ensures { result ≡ packed.days_of (packed.blocks_of numbers.now words.now values.now) }
+        ensures { result ≡ packed.days_of_blocks (packed.blocks_of numbers.now words.now values.now) }
     {
         Days {
             current: BlockDays::none(),

@@ -61,12 +61,12 @@ impl Gathering {
     }
 
     /// Moves the days to memory of exactly their size, and hands back the memory where they grew.
-    pub(crate) fn settle(&mut self, alloc: Global) -> Result<Parts, Memory>
+    pub(crate) fn shrink_to_fit(&mut self, alloc: Global) -> Result<Parts, Memory>
         ensures element { self.new.element ≡ self.old.element }
         ensures same { OnOk result (KeepsMonths self.old self.new) }
         ensures empty { IfOk result parts.AreEmpty }
     {
-        self.parts.settle(alloc)
+        self.parts.shrink_to_fit(alloc)
     }
 
     /// What is gathered.

@@ -17,11 +17,11 @@ pub(crate) struct Months {
 
 impl Model for Months {
     ghost use Rattle.std.specs.Prelude.{ℕ, List};
-    ghost use Rattle.ghcn_series.specs.SeenMonths.{months_of, RiseUnless};
+    ghost use Rattle.ghcn_series.specs.SeenMonths.{seen_months, RiseUnless};
 
     ghost Value = { List ℕ };
 
-    ghost view = { λ m. months_of m.rising.items m.all };
+    ghost view = { λ m. seen_months m.rising.items m.all };
 
     ghost invariant = { λ m. RiseUnless m.rising.items m.all };
 }

@@ -121,7 +121,7 @@ impl Parts {
     }
 
     /// Moves the days to memory of exactly their size, and hands back the memory where they grew.
-    pub(crate) fn settle(&mut self, alloc: Global) -> Result<Self, Memory>
+    pub(crate) fn shrink_to_fit(&mut self, alloc: Global) -> Result<Self, Memory>
         ensures same { OnOk result (parts.AreSame self.old self.new) }
         ensures empty { IfOk result parts.AreEmpty }
     {

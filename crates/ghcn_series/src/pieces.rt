@@ -86,7 +86,7 @@ impl DataReader {
     {
         let all = self.cutter.finish()?;
         match all.reader.finish(self.alloc) {
-            Ok(held) => Ok((held, all.counts.foreign)),
+            Ok(dataset) => Ok((dataset, all.counts.foreign)),
             Err(memory) => Err(DataFault::Memory(memory)),
         }
     }

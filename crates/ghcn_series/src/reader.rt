@@ -130,7 +130,7 @@ impl Reader {
         }
         let last = mem::replace(&mut self.last, place);
         match self.gathered.get_mut(last) {
-            Some(station) => station.settle(alloc, &mut self.spare),
+            Some(station) => station.shrink_to_fit(alloc, &mut self.spare),
             None => Ok(()),
         }
     }

@@ -32,7 +32,7 @@ pub(crate) struct StationGathering {
     id: StationId,
     by_element: Vec<Gathering>,
     /// Whether its days stand in memory of their own, since lines of another station came behind.
-    is_settled: bool,
+    is_fitted: bool,
 }
 
 impl StationGathering {
@@ -44,7 +44,7 @@ impl StationGathering {
         StationGathering {
             id,
             by_element: Vec::new(alloc),
-            is_settled: false,
+            is_fitted: false,
         }
     }
 
@@ -76,18 +76,22 @@ impl StationGathering {
 
     /// Moves what was read to memory of exactly its size, the first time that it is called: the memory
     /// where it grew is spare for another station.
-    pub(crate) fn settle(&mut self, alloc: Global, spare: &mut Vec<Parts>) -> Result<(), Memory>
+    pub(crate) fn shrink_to_fit(
+        &mut self,
+        alloc: Global,
+        spare: &mut Vec<Parts>,
+    ) -> Result<(), Memory>
         requires spare { AllByRecursion AreEmpty spare.old.items }
         ensures id { self.new.id ≡ self.old.id }
         ensures same { OnOk result (StationKeepsMonths self.old self.new) }
         ensures spare { AllByRecursion AreEmpty spare.new.items }
     {
-        if self.is_settled {
+        if self.is_fitted {
             return Ok(());
         }
-        self.is_settled = !self.by_element.is_empty();
+        self.is_fitted = !self.by_element.is_empty();
         for place in 0..self.by_element.len() {
-            spare.push(self.by_element[place].settle(alloc)?)?;
+            spare.push(self.by_element[place].shrink_to_fit(alloc)?)?;
         }
         Ok(())
     }

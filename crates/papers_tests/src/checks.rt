@@ -28,11 +28,11 @@ fn fault_without_rows(
     alloc: Global,
     (id, skipped, bound, printed): Printed,
 ) -> Option<Option<Why>> {
-    let held = usual_data(alloc)?;
+    let dataset = usual_data(alloc)?;
     let query = Query::parse("top 1 highest TMAX").ok()?;
     let worst = best_record()?;
-    let station = held.stations().get(&id)?;
-    let series = held.series(&id, query.element());
+    let station = dataset.stations().get(&id)?;
+    let series = dataset.series(&id, query.element());
     let line = Line { id, bound, skipped };
     Some(check_line(&query, station, series, &line, printed, &[], Some(&worst)))
 }
@@ -56,15 +56,15 @@ fn lines_without_rows(rt: HostRuntime) {
 
 /// What the line of the best record's station is refused for, with its row.
 fn fault_with_its_row(alloc: Global) -> Option<Option<Why>> {
-    let held = usual_data(alloc)?;
+    let dataset = usual_data(alloc)?;
     let query = Query::parse("top 1 highest TMAX").ok()?;
     let worst = best_record()?;
     let rows = [Row {
         candidate: worst,
         name: Vec::from_slice(alloc, b"ALPHA").ok()?,
     }];
-    let station = held.stations().get(&A)?;
-    let series = held.series(&A, query.element());
+    let station = dataset.stations().get(&A)?;
+    let series = dataset.series(&A, query.element());
     let line = Line {
         id: A,
         bound: 311,
@@ -80,10 +80,10 @@ fn a_line_with_its_row(rt: HostRuntime) {
 
 /// Whether the third station may be without a line.
 fn is_absent(alloc: Global, query: &str) -> Option<bool> {
-    let held = usual_data(alloc)?;
+    let dataset = usual_data(alloc)?;
     let query = Query::parse(query).ok()?;
-    let station = held.stations().get(&C)?;
-    let series = held.series(&C, query.element());
+    let station = dataset.stations().get(&C)?;
+    let series = dataset.series(&C, query.element());
     Some(check_absent(&query, station, series))
 }
 

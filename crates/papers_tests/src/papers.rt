@@ -64,9 +64,9 @@ end 1
 
 /// The report and the certificate of a query over three stations, of a run of one worker.
 fn papers_of(alloc: Global, query: &str) -> Result<(Vec<u8>, Vec<u8>), Fail> {
-    let held = usual_data(alloc).ok_or("no data")?;
+    let dataset = usual_data(alloc).ok_or("no data")?;
     let query = Query::parse(query)?;
-    let plan = Plan::new(alloc, &held, &query)?;
+    let plan = Plan::new(alloc, &dataset, &query)?;
     let answer = run_alone(alloc, &plan, None)?;
     Ok((
         report(alloc, &plan, &answer)?,

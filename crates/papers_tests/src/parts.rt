@@ -23,11 +23,11 @@ fn part(alloc: Global, first: bool) -> Result<Data, Fail> {
 }
 
 /// What a part prints of two papers of the highest temperature.
-fn line_of(alloc: Global, held: &Data, report: &str, certificate: &str) -> Result<String, Fail> {
+fn line_of(alloc: Global, dataset: &Data, report: &str, certificate: &str) -> Result<String, Fail> {
     let query = Query::parse("top 1 highest TMAX")?;
     let verdict = check_part(
         alloc,
-        held,
+        dataset,
         &query,
         report.as_bytes(),
         certificate.as_bytes(),
@@ -154,8 +154,8 @@ fn faults_that_both_parts_find(rt: HostRuntime) -> Result<(), Fail> {
     ];
     let parts = [part(rt.alloc(), true)?, part(rt.alloc(), false)?];
     for (report, certificate, expected) in cases {
-        for held in &parts {
-            let found = line_of(rt.alloc(), held, report, certificate)?;
+        for dataset in &parts {
+            let found = line_of(rt.alloc(), dataset, report, certificate)?;
             assert_eq!(rt; found.as_str(), expected, "at {certificate}");
         }
     }
@@ -197,8 +197,8 @@ fn parts_of_a_large_archive(rt: HostRuntime) -> Result<(), Fail> {
     let rows = report(alloc, &plan, &answer)?;
     let lines = certificate(alloc, &plan, &answer)?;
     for (from, to) in [(0, 1000), (1000, 2000), (2000, MANY)] {
-        let held = many_data(alloc, list.as_str(), from, to)?;
-        let verdict = check_part(alloc, &held, &query, rows.as_slice(), lines.as_slice())?;
+        let dataset = many_data(alloc, list.as_str(), from, to)?;
+        let verdict = check_part(alloc, &dataset, &query, rows.as_slice(), lines.as_slice())?;
         let expected = PartVerdict::Accepted {
             series: 1000,
             lines: MANY,

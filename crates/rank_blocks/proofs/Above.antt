@@ -5,8 +5,8 @@ use Rattle.rank_blocks.proofs.Cited.{filter_map, option_map, AllByRecursion, int
 use Rattle.rank_blocks.proofs.Cited.{is_day, Element, DayValue, Usable, IsSeries, is_value, Score, Highest, Lowest, Sum}
 use Rattle.rank_blocks.proofs.Cited.{Dry, Wet, Hot, Asked, score_element, IsAsked, admits_day, Days, Windows, Spells}
 use Rattle.rank_blocks.proofs.Cited.{shape, test_of, is_such, window_total, begun, candidate, candidates_among}
-use Rattle.rank_blocks.proofs.Cited.{admitted, run_from, run_len, calendar_len, counted, total, blocks_total, is_among}
-use Rattle.rank_blocks.proofs.Cited.{is_reached, days_reached, blocks_of_window, holds_such, IsGreatest, IsScore}
+use Rattle.rank_blocks.proofs.Cited.{admitted, run_from, run_len, calendar_len, counted, total, blocks_total, is_among_blocks}
+use Rattle.rank_blocks.proofs.Cited.{is_reached, days_reached, blocks_of_window, holds_such, IsGreatest, IsDayScore}
 use Rattle.rank_blocks.proofs.Cited.{IsRunLength, IsSumBound, IsBlocksBound, IsBoundFor, block-holds, and_parts, length}
 use Rattle.rank_blocks.proofs.Cited.{sum_of_values, total-days, admitted-rise, int_le}
 use Rattle.std.proofs.lemmas.List.Sums.{AllPass-from_list_all}
@@ -33,14 +33,14 @@ candidates-below id f bound (x ∷ xs) below =
 -- ---- single days
 
 -- what is made of the value of an admitted day is at most the greatest of the days reached
-below-greatest : (f : ℤ → ℤ) (q : Asked) (s : Usable) (z : ℤ) → IsGreatest (IsScore f (days_reached q s)) z
+below-greatest : (f : ℤ → ℤ) (q : Asked) (s : Usable) (z : ℤ) → IsGreatest (IsDayScore f (days_reached q s)) z
     → (x : DayValue) → Contains (admitted q s) x → f x.1 ≤ℤ z
 below-greatest f q s z of_z x has =
     let day = of_kept (λ x. admits_day q x.0) s.days x has in
     of_z.is_most (f x.1) (in_kept (λ y. f y.1) _ s.days x day.0 (admitted-reached q x.0 day.1))
 
 -- a day's own score is at most the greatest
-pub days-below : (f : ℤ → ℤ) (q : Asked) (s : Usable) (z : ℤ) → IsGreatest (IsScore f (days_reached q s)) z
+pub days-below : (f : ℤ → ℤ) (q : Asked) (s : Usable) (z : ℤ) → IsGreatest (IsDayScore f (days_reached q s)) z
     → AllByRecursion (λ c. c.score ≤ℤ z) (candidates_among s.id (Days f) (admitted q s))
 days-below f q s z of_z = candidates-below s.id (λ x. Some (x.0, f x.1)) z (admitted q s) (λ x has e is.
     grind (arith, ints, same_Some (x.0, f x.1) e is, below-greatest f q s z of_z x has))
@@ -101,7 +101,8 @@ abbrev in_window : ℤ → ℕ → DayValue → Bool
 in_window a n x = int_le a x.0 && int_le x.0 (a +ℤ pos n -ℤ pos 1)
 
 -- the days of a window lie in so many blocks from that of its first day on
-window-blocks : (a : ℤ) (n : ℕ) (x : DayValue) → in_window a n x ≡ true → is_among (block_of a) (blocks_of_window n)
+window-blocks : (a : ℤ) (n : ℕ) (x : DayValue) → in_window a n x ≡ true
+    → is_among_blocks (block_of a) (blocks_of_window n)
     (block_of x.0) ≡ true
 window-blocks a n x e = grind (arith, ints, block-holds, block-rises)
 
@@ -120,7 +121,7 @@ windows-below n q s z series falls of_z =
     (of_kept (in_window x.0 n) (admitted q s) y in_it).0))) in
     let both = filter-both (in_window x.0 n) (λ y. admits_day q y.0) s.days in
     let by_blocks = total-wider (λ y. y.1) (λ y. admits_day q y.0 && in_window x.0 n y)
-    (λ y. is_among (block_of x.0) (blocks_of_window n) (block_of y.0)) s.days falls
+    (λ y. is_among_blocks (block_of x.0) (blocks_of_window n) (block_of y.0)) s.days falls
     (λ y has e. window-blocks x.0 n y (and_parts (admits_day q y.0) (in_window x.0 n y) e).1) in
     let same = sum-total days ∙ ap (λ (ys : List DayValue). total (map (λ y. y.1) ys)) both in
     let greatest = of_z.greatest_total.is_most (blocks_total s.days (blocks_of_window n) (block_of x.0))

@@ -3,7 +3,7 @@ use Rattle.rank_blocks.proofs.Cited.{◌≡◌, ℕ, zero, suc, ◌+◌, ◌<◌
 use Rattle.rank_blocks.proofs.Cited.{◌∙◌, arith, ℤ, pos, ◌+ℤ◌, filter_map, int_eq, bit_at, AllByRecursion}
 use Rattle.rank_blocks.proofs.Cited.{range_with_len, Decides-int_eq, ints, drop_all, drop_more, bit_at-lt, block_of}
 use Rattle.rank_blocks.proofs.Cited.{AreRising, IsBlockOf, day_from, days_from, block_days, DayValue, value_on, Spell}
-use Rattle.rank_blocks.proofs.Cited.{Summary, days_in, block_start, total, AreBitsOf, IsGreatest, IsScore, counts}
+use Rattle.rank_blocks.proofs.Cited.{Summary, days_in, block_start, total, AreBitsOf, IsGreatest, IsDayScore, counts}
 use Rattle.rank_blocks.proofs.Cited.{HasDay, HasDays, HasZeros, IsUsableScore, block-of_place, values_stand}
 use Rattle.rank_blocks.proofs.Cited.{rise-filter}
 use Rattle.ghcn_series.proofs.Lookups.{block-value, block-other}
@@ -27,7 +27,7 @@ places-total first word values size zeros s (suc n) at =
 
 -- the summary of a block has the greatest score of its days
 pub has-day : (f : ℤ → ℤ) (days : List DayValue) (b z : ℤ) (m : Summary) → m.number ≡ b → m.day ≡ z
-    → IsGreatest (IsScore f (days_in days b)) z → HasDay f days m
+    → IsGreatest (IsDayScore f (days_in days b)) z → HasDay f days m
 has-day f days b z m number day of_z = grind (arith, ints)
 
 -- and those of its days that count
@@ -40,7 +40,7 @@ has-days k days b word m number is bits = grind (arith, ints)
 module _ (days : List DayValue) (rise : AreRising days) (b : ℤ) (word : ℕ) (values : List ℤ)
     (of_block : IsBlockOf days b word values) where
   -- the score of a usable day is among those of the block's days
-  score-stands : (f : ℤ → ℤ) (z : ℤ) → IsUsableScore f word values z → IsScore f (days_in days b) z
+  score-stands : (f : ℤ → ℤ) (z : ℤ) → IsUsableScore f word values z → IsDayScore f (days_in days b) z
   score-stands f z of_z =
       let d : ℤ = block_start b +ℤ pos of_z.0 in
       let v : ℤ = get_or values of_z.0 (pos 0) in
@@ -49,7 +49,7 @@ module _ (days : List DayValue) (rise : AreRising days) (b : ℤ) (word : ℕ) (
       ((Decides-int_eq (block_of d) b).1 (block-of_place b of_z.0 of_z.1)))
 
   -- a score of the block's days is made of the value of a usable day
-  score-of : (f : ℤ → ℤ) (y : ℤ) → IsScore f (days_in days b) y → IsUsableScore f word values y
+  score-of : (f : ℤ → ℤ) (y : ℤ) → IsDayScore f (days_in days b) y → IsUsableScore f word values y
   score-of f y h =
       let found = from_kept (λ x. f x.1) (λ x. int_eq (block_of x.0) b) days y h in
       let x : DayValue = found.0 in
@@ -60,7 +60,7 @@ module _ (days : List DayValue) (rise : AreRising days) (b : ℤ) (word : ℕ) (
 
   -- the greatest score of the usable days is that of the block's days
   pub block-score : (f : ℤ → ℤ) (z : ℤ) → IsGreatest (IsUsableScore f word values) z
-      → IsGreatest (IsScore f (days_in days b)) z
+      → IsGreatest (IsDayScore f (days_in days b)) z
   block-score f z of_z = grind (arith, ints, score-stands, score-of)
 
   -- the days of the block are those of its word and values

@@ -4,7 +4,7 @@ use Rattle.rank_blocks.proofs.Cited.{length, take, drop, Option, Some, refl, sym
 use Rattle.rank_blocks.proofs.Cited.{neg_ℤ, ◌≤ℤ◌, ◌<ℤ◌, ◌+ℤ◌, to_z, of_z, w64, int_le, All, int_cmp, int_eq, append-nil}
 use Rattle.rank_blocks.proofs.Cited.{int_max, list_any, IsStrictlySortedBy, Decides-int_eq, ints, clamps, map-append}
 use Rattle.rank_blocks.proofs.Cited.{drop_more, take_all, length-drop, All-from_recursion, All-get_or, All-more}
-use Rattle.rank_blocks.proofs.Cited.{All-weaker, All-contains, filter_more, greatest, BlockRange, Summary, is_among}
+use Rattle.rank_blocks.proofs.Cited.{All-weaker, All-contains, filter_more, greatest, BlockRange, Summary, is_among_blocks}
 use Rattle.rank_blocks.proofs.Cited.{IsGreatest, IsNear, IsTotalFrom, in_range, summaries_in, summaries_total}
 use Rattle.rank_blocks.proofs.Cited.{ArePossible, from_each, cases_Bool, inl, inr, AllByRecursion}
 use Rattle.rank_blocks.proofs.Members.{any_in, any_of, total-wider, total-cons}
@@ -79,12 +79,12 @@ module _ (ms : List Summary) (possible : ArePossible ms) (w : ℕ) (first : ℤ)
   sum-bounds = grind (arith, ints, possible-at ms i lt possible)
 
   -- a block of the window is added
-  pub sum-in : (next : ℤ) → next ≡ sum +ℤ (block_at ms i).total → is_among first w (block_at ms i).number ≡ true
+  pub sum-in : (next : ℤ) → next ≡ sum +ℤ (block_at ms i).total → is_among_blocks first w (block_at ms i).number ≡ true
       → IsSumTo ms w first (i + 1) next
   sum-in next is among = search (rules, arith, sum-bounds, left-total, total-cons)
 
   -- another block isn't
-  pub sum-out : (next : ℤ) → next ≡ sum → is_among first w (block_at ms i).number ≡ false
+  pub sum-out : (next : ℤ) → next ≡ sum → is_among_blocks first w (block_at ms i).number ≡ false
       → IsSumTo ms w first (i + 1) next
   sum-out next is out = grind (arith, ints, left-total)
 
@@ -151,8 +151,8 @@ module _ (r : BlockRange) (w : ℕ) (ms : List Summary) (i : ℕ) (found : ℤ) 
               grind (arith, ints, most, (Decides-int_eq m.0.number first).0 m.2)
           | inr e ↦
               let rest = no_more n (first +ℤ pos 1) (omega (arith, ints)) (omega (arith, ints)) in
-              let wider = total-wider (λ m. m.total) (λ m. is_among first w m.number)
-              (λ m. is_among (first +ℤ pos 1) w m.number) ms falls (λ m has among.
+              let wider = total-wider (λ m. m.total) (λ m. is_among_blocks first w m.number)
+              (λ m. is_among_blocks (first +ℤ pos 1) w m.number) ms falls (λ m has among.
               grind (arith, ints, any_of (λ m. int_eq m.number first) ms m has, Decides-int_eq m.number first)) in
               omega (arith, ints)
         ]

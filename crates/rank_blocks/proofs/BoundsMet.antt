@@ -2,7 +2,7 @@
 use Rattle.rank_blocks.proofs.Cited.{rules, ◌≡◌, ℕ, Bool, List, map, filter, sym, subst, arith, ℤ, pos, ◌≤ℤ◌, ◌*ℤ◌}
 use Rattle.rank_blocks.proofs.Cited.{unwrap_or, int_min, ints, block_of, greatest, Usable, Element, Score, Sum, Dry}
 use Rattle.rank_blocks.proofs.Cited.{Wet, Hot, Asked, IsAsked, test_of, Spell, BlockRange, Summary, days_reached}
-use Rattle.rank_blocks.proofs.Cited.{is_reached, blocks_of_window, holds_such, bound, IsAskedOf, IsGreatest, IsScore}
+use Rattle.rank_blocks.proofs.Cited.{is_reached, blocks_of_window, holds_such, bound, IsAskedOf, IsGreatest, IsDayScore}
 use Rattle.rank_blocks.proofs.Cited.{IsBlocksTotal, IsRunLength, IsBoundFor, IsBound, IsRangeOf, in_range, summaries_in}
 use Rattle.rank_blocks.proofs.Cited.{IsTotalFrom, counts, days_in_range, AreOfBlocks, AreSummaries, HasDay, HasDays}
 use Rattle.rank_blocks.proofs.Cited.{HasSum, from_each, true}
@@ -41,7 +41,7 @@ module _ (r : BlockRange) (q : Asked) (s : Usable) (ms : List Summary) (of : IsR
   -- the greatest score of a day, from the summaries
   pub day-met : (f : ℤ → ℤ) (z : ℤ) → AreOfBlocks (HasDay f s.days) s ms
       → z ≡ unwrap_or (greatest (map (λ m. m.day) (summaries_in r ms))) (pos 0)
-      → IsGreatest (IsScore f (days_reached q s)) z
+      → IsGreatest (IsDayScore f (days_reached q s)) z
   day-met f z are is =
       let day = some_admitted q s asked_of.admitted_day in
       let block = summary-of (HasDay f s.days) s ms are day.0 day.1.0 in
@@ -49,7 +49,7 @@ module _ (r : BlockRange) (q : Asked) (s : Usable) (ms : List Summary) (of : IsR
       let holds : in_range r block.0.number ≡ true = grind (arith, ints, block.2, reached, of) in
       let most = greatest-some (map (λ m. m.day) (summaries_in r ms)) block.0.day
       (in_kept (λ m. m.day) (λ m. in_range r m.number) ms block.0 block.1 holds) in
-      subst (λ (P : ℤ → Bool). IsGreatest (IsScore f (filter (λ x. P (block_of x.0)) s.days)) z) (range-is r q of)
+      subst (λ (P : ℤ → Bool). IsGreatest (IsDayScore f (filter (λ x. P (block_of x.0)) s.days)) z) (range-is r q of)
       (greatest-of_blocks f (in_range r) s ms z are (rw is most))
 
   -- the longest run of the days that count is what the bound of spells asks for

@@ -26,7 +26,7 @@ pub use Rattle.std.specs.Option.{option_map_or}
 pub use Rattle.ghcn_fields.specs.Days.{IsBlock, block_of, first_day, is_day, last_day}
 pub use Rattle.ghcn_fields.specs.Sorting.{greatest}
 pub use Rattle.ghcn_files.specs.declared.element.Element.{Element}
-pub use Rattle.ghcn_series.proofs.ListFacts.{both_all}
+pub use Rattle.ghcn_series.proofs.ListFacts.{each-append}
 pub use Rattle.ghcn_series.proofs.Lookups.{block-holds, block-of_place, int_eq-no, int_eq-yes}
 pub use Rattle.ghcn_series.specs.Packed.{AreRising, HasNone, IsBlockOf, block_days, day_from, next_block}
 unfoldable pub use Rattle.ghcn_series.specs.Packed.{days_from}
@@ -35,22 +35,22 @@ pub use Rattle.rank_query.specs.Admits.{admits_day}
 pub use Rattle.rank_query.specs.Asked.{Asked, IsAsked, score_element}
 pub use Rattle.rank_query.specs.declared.score.Score.{Score}
 pub use Rattle.rank_query.specs.declared.score.Score.TheVariants.{Dry, Highest, Hot, Lowest, Sum, Wet}
-pub use Rattle.rank_scores.proofs.Rising.{admitted-rise, all-mapped, from_both, from_each, rise-filter}
-pub use Rattle.rank_scores.proofs.Rising.{rise-from_by_day, values_stand}
+pub use Rattle.rank_scores.proofs.Rising.{admitted-rise, from_both, from_each, rise-filter, rise-from_by_day, values_stand}
 pub use Rattle.rank_scores.proofs.Runs.{counted}
 pub use Rattle.rank_scores.proofs.Totals.{total-days}
 pub use Rattle.rank_scores.specs.Candidates.{Days, Spells, Windows, admitted, begun, candidate, candidates_among}
 pub use Rattle.rank_scores.specs.Candidates.{is_such, shape, sum_of_values, test_of, window_total}
+pub use Rattle.rank_scores.specs.Morsels.{IsAskedOf}
 pub use Rattle.rank_scores.specs.Runs.{calendar_len, longest_run, run_len}
 unfoldable pub use Rattle.rank_scores.specs.Runs.{run_from}
 pub use Rattle.rank_scores.specs.declared.spell.Spell.{Spell}
-pub use Rattle.rank_blocks.specs.Blocks.{block_start, blocks_total, days_in, days_reached, is_among, is_reached, total}
-pub use Rattle.rank_blocks.specs.Bounds.{IsAskedOf, blocks_bound, blocks_of_window, bound, bound_for, first_blocks}
+pub use Rattle.rank_blocks.specs.Blocks.{block_start, blocks_total, days_in, days_reached, is_among_blocks, is_reached, total}
+pub use Rattle.rank_blocks.specs.Bounds.{blocks_bound, blocks_of_window, bound, bound_for, first_blocks}
 pub use Rattle.rank_blocks.specs.Bounds.{greatest_by, greatest_total, holds_such, spell_bound}
 pub use Rattle.rank_blocks.specs.DayRuns.{AllFrom, AllPass, AreBitsOf, AreRuns, ComeFirst, ComeLast, Continues}
 pub use Rattle.rank_blocks.specs.DayRuns.{FollowAtMost, NoneBetween, has_bit, runs_before}
 pub use Rattle.rank_blocks.specs.Greatest.{IsBlocksBound, IsBlocksTotal, IsBound, IsBoundFor, IsGreatest, IsRunLength}
-pub use Rattle.rank_blocks.specs.Greatest.{IsScore, IsSumBound}
+pub use Rattle.rank_blocks.specs.Greatest.{IsDayScore, IsSumBound}
 pub use Rattle.rank_blocks.specs.Reached.{IsNear, IsRangeOf, IsTotalFrom, counts, days_in_range, in_range, summaries_in}
 pub use Rattle.rank_blocks.specs.Reached.{summaries_total}
 pub use Rattle.rank_blocks.specs.Summaries.{AreOfBlocks, ArePossible, AreSummaries, AreSummariesTo, AreSummariesUpTo}

@@ -5,9 +5,9 @@ use Rattle.rank_blocks.proofs.Cited.{flat_map, AllByRecursion, range_with_len, i
 use Rattle.rank_blocks.proofs.Cited.{Contains-append_right, le-max_left, le-max_right, block_of, first_day, last_day}
 use Rattle.rank_blocks.proofs.Cited.{Element, DayValue, Usable, IsSeries, Score, Highest, Lowest, Sum, Dry, Wet, Hot}
 use Rattle.rank_blocks.proofs.Cited.{Asked, IsAsked, admits_day, test_of, is_such, admitted, run_len, longest_run}
-use Rattle.rank_blocks.proofs.Cited.{calendar_len, counted, days_reached, is_reached, blocks_total, is_among}
+use Rattle.rank_blocks.proofs.Cited.{calendar_len, counted, days_reached, is_reached, blocks_total, is_among_blocks}
 use Rattle.rank_blocks.proofs.Cited.{greatest_by, blocks_of_window, first_blocks, greatest_total, spell_bound}
-use Rattle.rank_blocks.proofs.Cited.{blocks_bound, holds_such, bound_for, bound, IsAskedOf, IsGreatest, IsScore}
+use Rattle.rank_blocks.proofs.Cited.{blocks_bound, holds_such, bound_for, bound, IsAskedOf, IsGreatest, IsDayScore}
 use Rattle.rank_blocks.proofs.Cited.{IsBlocksTotal, IsRunLength, IsSumBound, IsBlocksBound, IsBoundFor, IsBound}
 use Rattle.rank_blocks.proofs.Cited.{from_each, Contains-get_or, get_or}
 use Rattle.std.proofs.lemmas.List.FromFn.{length-map-range_with_len, get_or-map-range_with_len}
@@ -56,7 +56,7 @@ some_admitted q s some =
 
 -- the greatest score of the days reached, where there is one
 day-greatest : (f : ℤ → ℤ) (q : Asked) (s : Usable) → 0 < length (admitted q s)
-    → IsGreatest (IsScore f (days_reached q s)) (greatest_by f (days_reached q s))
+    → IsGreatest (IsDayScore f (days_reached q s)) (greatest_by f (days_reached q s))
 day-greatest f q s some =
     let day = some_admitted q s some in
     greatest-some (map (λ y. f y.1) (days_reached q s)) (f day.0.1)
@@ -78,7 +78,7 @@ starts w x = map (λ i. block_of x.0 -ℤ pos i) (range_with_len 0 w)
 
 -- a block from which w blocks hold one of some days is among them
 start-of : (w : ℕ) (days : List DayValue) (first : ℤ) (x : DayValue) → Contains days x
-    → is_among first w (block_of x.0) ≡ true → Contains (flat_map (starts w) days) first
+    → is_among_blocks first w (block_of x.0) ≡ true → Contains (flat_map (starts w) days) first
 start-of w days first x has e =
     let far = distance first (block_of x.0) (grind (arith, ints)) in
     let lt : far.0 < w = grind (arith, ints, far.1) in
@@ -88,7 +88,7 @@ start-of w days first x has e =
 
 -- a window that holds a day has a total that is looked at, and one that holds none has nothing
 window-seen : (w : ℕ) (first : ℤ) (all : List ℤ) (days : List DayValue)
-    → AllByRecursion (λ x. is_among first w (block_of x.0) ≡ true → Contains all first) days
+    → AllByRecursion (λ x. is_among_blocks first w (block_of x.0) ≡ true → Contains all first) days
     → Contains all first ⊎ (blocks_total days w first ≡ pos 0)
 window-seen w first all [] h = inr refl
 window-seen w first all (x ∷ xs) h = grind (arith, ints, window-seen w first all xs h.1)

@@ -3,7 +3,7 @@ use Rattle.rank_blocks.proofs.Cited.{◌≡◌, ℕ, zero, suc, List, [], ◌∷
 use Rattle.rank_blocks.proofs.Cited.{◌+ℤ◌, Element, DayValue, Usable, Score, Highest, Lowest, Sum, Dry, Wet, Hot, Asked}
 use Rattle.rank_blocks.proofs.Cited.{run_from, bound}
 use Rattle.ghcn_files.specs.declared.element.Element.TheVariants.{Tmax, Tmin, Prcp}
-use Rattle.rank_query.specs.declared.region.Region.TheVariants.{Everywhere}
+use Rattle.rank_query.specs.Asked.{top}
 
 -- a series of a station
 abbrev pub series : Element → List DayValue → Usable
@@ -11,7 +11,7 @@ series e days = record { id = record { 0 = codes "ZZA00000001" }; element = e; d
 
 -- a query without a region
 abbrev pub ask : Score → Option (ℤ × ℤ) → Asked
-ask score period = record { k = 1; score = score; region = Everywhere; season = None; period = period }
+ask score period = record (top 1 score) { period = period }
 
 -- a value on each of n days from one on
 abbrev pub each_day : ℤ → ℕ → ℤ → List DayValue

@@ -3,7 +3,7 @@ use Rattle.rank_blocks.proofs.Cited.{◌≡◌, ℕ, zero, suc, ◌*◌, ◌/◌
 use Rattle.rank_blocks.proofs.Cited.{refl, sym, ap, ◌∙◌, subst, arith, ℤ, pos, ◌+ℤ◌, ◌&&◌, int_le, Contains, int_eq}
 use Rattle.rank_blocks.proofs.Cited.{int_max, AllByRecursion, Decides-int_eq, ints, clamps, block_of, DayValue, test_of}
 use Rattle.rank_blocks.proofs.Cited.{is_such, Spell, block_start, days_in, holds_such, AreBitsOf, has_bit, IsGreatest}
-use Rattle.rank_blocks.proofs.Cited.{IsScore, IsRunLength, counts, and_from, int_eq-yes, false_from_ne_true}
+use Rattle.rank_blocks.proofs.Cited.{IsDayScore, IsRunLength, counts, and_from, int_eq-yes, false_from_ne_true}
 use Rattle.rank_blocks.proofs.Cited.{block-of_place, block-holds, cases_Bool, inl, inr}
 use Rattle.rank_scores.specs.declared.spell.Spell.TheVariants.{Dry, Wet, Hot}
 use Rattle.rank_blocks.proofs.DaysInBlocks.{distance, block-rises}
@@ -41,7 +41,7 @@ module _ (test : ℤ → Bool) where
       grind (arith, ints, of_kept (λ x. p (block_of x.0)) days found.0 found.1, found.2, holds-filter p days b)
 
 -- a block holds a hot day where its greatest value is hot
-holds-greatest : (t : ℤ) (days : List DayValue) (b z : ℤ) → IsGreatest (IsScore (λ v. v) (days_in days b)) z
+holds-greatest : (t : ℤ) (days : List DayValue) (b z : ℤ) → IsGreatest (IsDayScore (λ v. v) (days_in days b)) z
     → holds_such (test_of (Hot t)) days b ≡ int_le t z
 holds-greatest t days b z of_z = elim (cases_Bool (int_le t z)) [
   | inl e ↦
@@ -82,7 +82,7 @@ counts-among (Hot t) Q days d all e =
     subst Q day.2 (of_each (λ x. Q (block_of x.0)) days all day.0 day.1)
 
 -- where a block's greatest value is hot, all its days count, and else none
-pub hot-bits : (t : ℤ) (days : List DayValue) (b z : ℤ) (word : ℕ) → IsGreatest (IsScore (λ v. v) (days_in days b)) z
+pub hot-bits : (t : ℤ) (days : List DayValue) (b z : ℤ) (word : ℕ) → IsGreatest (IsDayScore (λ v. v) (days_in days b)) z
     → ((j : ℕ) → j < 32 → has_bit word j ≡ int_le t z) → AreBitsOf (counts (Hot t) days) b word
 hot-bits t days b z word of_z all = grind (arith, ints, holds-greatest, block-of_place)
 

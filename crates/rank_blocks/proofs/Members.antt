@@ -2,9 +2,9 @@
 use Rattle.rank_blocks.proofs.Cited.{◌≡◌, ◌<◌, Bool, true, cond, List, [], ◌∷◌, map, filter, ◌⊎◌, refl, pos, ◌+ℤ◌}
 use Rattle.rank_blocks.proofs.Cited.{arith, ℤ, ◌≤ℤ◌, Contains, fold, unwrap_or, ◌&&◌, AllByRecursion, list_any, int_max}
 use Rattle.rank_blocks.proofs.Cited.{ints, fold-int_max_bounds, fold-int_max_reached, Contains-append_right}
-use Rattle.rank_blocks.proofs.Cited.{All-contains, All-contains_itself, All-from_recursion, All-weaker}
-use Rattle.rank_blocks.proofs.Cited.{recursion_from_All, greatest, total, IsGreatest, inl, inr, ap, ◌∙◌, cond_both}
-use Rattle.std.proofs.lemmas.List.Folds.{Any-from_list_any, list_any-from_Any}
+use Rattle.rank_blocks.proofs.Cited.{All-contains, greatest, total, IsGreatest}
+use Rattle.ghcn_series.proofs.Members.{contains-in, in-contains, in_any, kept_in, in_map, map_in, of_one, for_each as each_there, any_in as any_there, in_kept as kept_there}
+pub use Rattle.ghcn_series.proofs.Members.{of_each, itself}
 
 -- nothing stands in an empty list
 pub contains-nothing : {X : Type 0} (x : X) → Contains [] x → ⊥
@@ -22,61 +22,42 @@ contains-first x y xs is = grind (arith, ints)
 pub contains-behind : {X : Type 0} (x y : X) (xs : List X) → Contains xs y → Contains (x ∷ xs) y
 contains-behind x y xs h = Contains-append_right (x ∷ []) xs y h
 
--- each element of a list stands in it
-pub itself : {X : Type 0} (xs : List X) → AllByRecursion (Contains xs) xs
-itself xs = recursion_from_All (Contains xs) xs (All-contains_itself xs)
-
--- what is true of all is true of each element
-pub of_each : {X : Type 0} (P : X → Type 0) (xs : List X) → AllByRecursion P xs → (x : X) → Contains xs x → P x
-of_each P xs all x has = All-contains P xs x (All-from_recursion P xs all) has
-
--- and what is true of each element is true of all
+-- what is true of each element is true of all
 pub for_each : {X : Type 0} (P : X → Type 0) (xs : List X) → ((x : X) → Contains xs x → P x) → AllByRecursion P xs
-for_each P xs each = recursion_from_All P xs (All-weaker (Contains xs) P each xs (All-contains_itself xs))
+for_each P xs each = each_there P xs (λ x h. each x (in-contains xs x h))
 
 -- an element of what a measure makes is made of an element, of which all is true that is true of each
 pub pick : {X Y : Type 0} (f : X → Y) (Q : X → Type 0) (xs : List X) (y : Y) → AllByRecursion Q xs
     → Contains (map f xs) y → (x : X) × Q x × (f x ≡ y)
-pick f Q [] y all h = absurd (contains-nothing y h)
-pick f Q (x ∷ xs) y all h = grind (arith, ints, pick f Q xs y all.1, contains-cases)
+pick f Q xs y all h =
+    let made = map_in f xs y (contains-in (map f xs) y h) in (made.0, of_one Q xs made.0 all made.1, made.2)
 
 -- where an element passes a test, one that does stands in the list
 pub any_in : {X : Type 0} (p : X → Bool) (xs : List X) → list_any p xs ≡ true → (x : X) × Contains xs x × (p x ≡ true)
-any_in p xs e = let any = Any-from_list_any p xs e in (any.1, (any.0, any.2, any.3), any.4)
+any_in p xs e = let any = any_there p xs e in (any.0, in-contains xs any.0 any.1, any.2)
 
 -- and the other way round
 pub any_of : {X : Type 0} (p : X → Bool) (xs : List X) (x : X) → Contains xs x → p x ≡ true → list_any p xs ≡ true
-any_of p xs x has e = list_any-from_Any p xs (has.0, x, has.1, has.2, e)
-
--- what is true of all is true of those that pass a test, and they pass
-pub all-passing : {X : Type 0} (P : X → Type 0) (t : X → Bool) (xs : List X) → AllByRecursion P xs
-    → AllByRecursion (λ x. P x × (t x ≡ true)) (filter t xs)
-all-passing P t [] h = tt
-all-passing P t (x ∷ xs) h = grind (arith, ints, all-passing P t xs h.1)
+any_of p xs x has e = in_any p xs x (contains-in xs x has) e
 
 -- an element that is kept stands in the list, and passes the test
 pub of_kept : {X : Type 0} (t : X → Bool) (xs : List X) (x : X) → Contains (filter t xs) x
     → Contains xs x × (t x ≡ true)
-of_kept t xs = of_each (λ x. Contains xs x × (t x ≡ true)) (filter t xs) (all-passing (Contains xs) t xs (itself xs))
+of_kept t xs x h =
+    let kept = kept_in t xs x (contains-in (filter t xs) x h) in (in-contains xs x kept.0, kept.1)
 
 -- what is made of an element that passes stands in what is made of those that are kept
 pub in_kept : {X Y : Type 0} (f : X → Y) (t : X → Bool) (xs : List X) (x : X) → Contains xs x → t x ≡ true
     → Contains (map f (filter t xs)) (f x)
-in_kept f t [] x has e = absurd (contains-nothing x has)
-in_kept f t (z ∷ xs) x has e =
-    elim (contains-cases z x xs has) [
-      | inl is ↦ rw (ap t is ∙ e) (contains-first (f z) (f x) (map f (filter t xs)) (ap f is))
-      | inr there ↦
-          let rest = in_kept f t xs x there e in
-          cond_both (t z) (z ∷ filter t xs) (filter t xs) (λ ys. Contains (map f ys) (f x))
-          (λ _. contains-behind (f z) (f x) (map f (filter t xs)) rest) (λ _. rest)
-    ]
+in_kept f t xs x has e =
+    in-contains (map f (filter t xs)) (f x) (in_map f (filter t xs) x (kept_there t xs x (contains-in xs x has) e))
 
 -- and it is made of an element that passes
 pub from_kept : {X Y : Type 0} (f : X → Y) (t : X → Bool) (xs : List X) (y : Y) → Contains (map f (filter t xs)) y
     → (x : X) × (Contains xs x × (t x ≡ true)) × (f x ≡ y)
-from_kept f t xs y =
-    pick f (λ x. Contains xs x × (t x ≡ true)) (filter t xs) y (all-passing (Contains xs) t xs (itself xs))
+from_kept f t xs y h =
+    let made = map_in f (filter t xs) y (contains-in (map f (filter t xs)) y h) in
+    let kept = kept_in t xs made.0 made.1 in (made.0, (in-contains xs made.0 kept.0, kept.1), made.2)
 
 -- one element more adds to a total what it is, if it passes
 pub total-cons : {X : Type 0} (f : X → ℤ) (p : X → Bool) (x : X) (xs : List X)

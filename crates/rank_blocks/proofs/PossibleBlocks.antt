@@ -1,8 +1,9 @@
 -- Numbers in their order, and what is true of the summaries of every series.
 use Rattle.rank_blocks.proofs.Cited.{◌≡◌, ℕ, zero, suc, drop, ◌-◌, ◌<◌, ◌≤◌, List, [], ◌∷◌, ◌++◌, map, length, get_or}
 use Rattle.rank_blocks.proofs.Cited.{arith, ℤ, pos, ◌≤ℤ◌, ◌<ℤ◌, ◌+ℤ◌, int_cmp, Less, AllByRecursion, IsStrictlySortedBy}
-use Rattle.rank_blocks.proofs.Cited.{ints, All-from_recursion, All-get_or, Summary, IsPossible, ArePossible, all-mapped}
-use Rattle.rank_blocks.proofs.Cited.{both_all, from_each, map-append}
+use Rattle.rank_blocks.proofs.Cited.{ints, All-from_recursion, All-get_or, Summary, IsPossible, ArePossible}
+use Rattle.ghcn_files.proofs.Ordered.{each-mapped}
+use Rattle.rank_blocks.proofs.Cited.{each-append, from_each, map-append}
 
 -- each block stands behind a number
 abbrev pub AreBehind : ℤ → List Summary → Type 0
@@ -21,14 +22,14 @@ pub sorted-push : (ms : List Summary) (m : Summary) → IsStrictlySortedBy int_c
     → AllByRecursion (λ k. k.number <ℤ m.number) ms → IsStrictlySortedBy int_cmp (map (λ k. k.number) (ms ++ m ∷ []))
 unfolding IsStrictlySortedBy
 sorted-push [] m h less = (tt, tt)
-sorted-push (k ∷ ks) m h less = grind (arith, ints, both_all, map-append, sorted-push ks m h.1 less.1)
+sorted-push (k ∷ ks) m h less = grind (arith, ints, each-append, map-append, sorted-push ks m h.1 less.1)
 
 -- blocks by number: those behind the first have greater numbers
 pub sorted-behind : (m : Summary) (ms : List Summary) → IsStrictlySortedBy int_cmp (map (λ k. k.number) (m ∷ ms))
     → AreBehind m.number ms
 unfolding IsStrictlySortedBy
 sorted-behind m ms h = from_each (λ k. int_cmp m.number k.number ≡ Less) (λ k. m.number <ℤ k.number) ms
-    (λ k. int_cmp-less m.number k.number) (all-mapped (λ n. int_cmp m.number n ≡ Less) (λ k. k.number) ms h.0)
+    (λ k. int_cmp-less m.number k.number) (each-mapped (λ k. k.number) (λ n. int_cmp m.number n ≡ Less) ms h.0)
 
 -- and are by number themselves
 pub sorted-tail : (m : Summary) (ms : List Summary) → IsStrictlySortedBy int_cmp (map (λ k. k.number) (m ∷ ms))

@@ -2,7 +2,7 @@
 use Rattle.rank_blocks.proofs.Cited.{◌≡◌, Bool, true, false, cond, List, [], ◌∷◌, map, filter, Option, Some, None, sym}
 use Rattle.rank_blocks.proofs.Cited.{ap, ◌∙◌, subst, arith, ℤ, Contains, int_eq, AllByRecursion, option_map_or}
 use Rattle.rank_blocks.proofs.Cited.{Decides-int_eq, ints, block_of, DayValue, Usable, value_on, Asked, admits_day}
-use Rattle.rank_blocks.proofs.Cited.{is_such, Summary, is_reached, IsGreatest, IsScore, AreOfBlocks, HasDay}
+use Rattle.rank_blocks.proofs.Cited.{is_such, Summary, is_reached, IsGreatest, IsDayScore, AreOfBlocks, HasDay}
 use Rattle.rank_blocks.proofs.Members.{itself, of_each, of_kept, pick, in_kept, from_kept}
 use Rattle.rank_blocks.proofs.DaysInBlocks.{block-rises}
 
@@ -70,14 +70,14 @@ summary-of P s ms are x has =
 -- the greatest score of the summaries of the blocks that pass is the greatest of their days
 pub greatest-of_blocks : (f : ℤ → ℤ) (P : ℤ → Bool) (s : Usable) (ms : List Summary) (z : ℤ)
     → AreOfBlocks (HasDay f s.days) s ms → IsGreatest (Contains (map (λ m. m.day) (filter (λ m. P m.number) ms))) z
-    → IsGreatest (IsScore f (filter (λ x. P (block_of x.0)) s.days)) z
+    → IsGreatest (IsDayScore f (filter (λ x. P (block_of x.0)) s.days)) z
 greatest-of_blocks f P s ms z are of_z =
     let block = from_kept (λ m. m.day) (λ m. P m.number) ms z of_z.is_one in
     let day = from_kept (λ x. f x.1) (λ x. int_eq (block_of x.0) block.0.number) s.days block.0.day
     (of_each (HasDay f s.days) ms are.each block.0 block.1.0).is_one in
     let passes = ap P ((Decides-int_eq (block_of day.0.0) block.0.number).0 day.1.1) ∙ block.1.1 in
     record {
-      is_one = subst (IsScore f (filter (λ x. P (block_of x.0)) s.days)) (day.2 ∙ block.2)
+      is_one = subst (IsDayScore f (filter (λ x. P (block_of x.0)) s.days)) (day.2 ∙ block.2)
           (in_kept (λ x. f x.1) (λ x. P (block_of x.0)) s.days day.0 day.1.0 passes);
       is_most = λ y h.
           let x = from_kept (λ x. f x.1) (λ x. P (block_of x.0)) s.days y h in

@@ -5,7 +5,7 @@ use Rattle.rank_blocks.proofs.Cited.{AllByRecursion, ints, by_lt_z, map-append, 
 use Rattle.rank_blocks.proofs.Cited.{bit_at-trailing_zeros, block_of, is_day, IsBlock, AreRising, IsBlockOf, HasNone}
 use Rattle.rank_blocks.proofs.Cited.{next_block, DayValue, Usable, IsSeries, value_on, Score, Summary, IsSummary}
 use Rattle.rank_blocks.proofs.Cited.{IsPossible, AreSummariesTo, AreSummariesUpTo, numbers_left, rise-from_by_day}
-use Rattle.rank_blocks.proofs.Cited.{from_each, both_all, values_stand, from_both, IsStrictlySortedBy}
+use Rattle.rank_blocks.proofs.Cited.{from_each, each-append, values_stand, from_both, IsStrictlySortedBy}
 use Rattle.rank_blocks.proofs.Members.{contains-first, itself, of_each, for_each}
 use Rattle.rank_blocks.proofs.DaysInBlocks.{block-rises, place-in}
 use Rattle.rank_blocks.proofs.PossibleBlocks.{sorted-push}
@@ -41,9 +41,9 @@ read-more score s n ms m so_far number block is possible =
       series = so_far.series;
       low = omega (arith, ints);
       high = omega (arith, ints);
-      each = both_all (IsSummary score s.days) ms (m ∷ []) so_far.each (is, tt);
-      possible = both_all IsPossible ms (m ∷ []) so_far.possible (possible, tt);
-      before = both_all (λ k. k.number <ℤ (n +ℤ pos 1)) ms (m ∷ [])
+      each = each-append (IsSummary score s.days) ms (m ∷ []) so_far.each (is, tt);
+      possible = each-append IsPossible ms (m ∷ []) so_far.possible (possible, tt);
+      before = each-append (λ k. k.number <ℤ (n +ℤ pos 1)) ms (m ∷ [])
           (grind (arith, ints, from_each, so_far.before)) (omega (arith, ints), tt);
       all = from_each (λ x. block_of x.0 <ℤ n → Contains (map (λ k. k.number) ms) (block_of x.0))
           (λ x. block_of x.0 <ℤ (n +ℤ pos 1) → Contains (map (λ k. k.number) (ms ++ m ∷ [])) (block_of x.0)) s.days

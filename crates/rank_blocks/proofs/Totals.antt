@@ -2,7 +2,7 @@
 use Rattle.rank_blocks.proofs.Cited.{rules, ◌≡◌, ℕ, Bool, false, cond, List, [], ◌∷◌, map, filter, inl, inr, refl, sym}
 use Rattle.rank_blocks.proofs.Cited.{ap, arith, ℤ, pos, ◌+ℤ◌, Contains, int_cmp, int_eq, Less, AllByRecursion}
 use Rattle.rank_blocks.proofs.Cited.{IsStrictlySortedBy, ints, block_of, DayValue, Usable, Summary, days_in, total}
-use Rattle.rank_blocks.proofs.Cited.{blocks_total, is_among, summaries_total, AreOfBlocks, HasSum, from_each, int_eq-no}
+use Rattle.rank_blocks.proofs.Cited.{blocks_total, is_among_blocks, summaries_total, AreOfBlocks, HasSum, from_each, int_eq-no}
 use Rattle.rank_blocks.proofs.Members.{of_each, contains-cases, total-cons}
 use Rattle.rank_blocks.proofs.PossibleBlocks.{int_cmp-less}
 use Rattle.std.proofs.Math.Path.{fun_ext}
@@ -74,4 +74,4 @@ totals-summaries P days (m ∷ ms) h = grind (arith, ints, totals-summaries P da
 pub summaries_total-is : (s : Usable) (ms : List Summary) → AreOfBlocks (HasSum s.days) s ms → (w : ℕ) (first : ℤ)
     → summaries_total ms w first ≡ blocks_total s.days w first
 summaries_total-is s ms are w first =
-    grind (arith, ints, totals-summaries (is_among first w) s.days ms are.each, total-by_blocks)
+    grind (arith, ints, totals-summaries (is_among_blocks first w) s.days ms are.each, total-by_blocks)

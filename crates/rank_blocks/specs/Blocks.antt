@@ -1,8 +1,9 @@
 -- Blocks of 32 days: block b has the days from 32 b to 32 b + 31, and the bound of a period is found from whole blocks.
-use Rattle.std.specs.Prelude.{ℕ, Bool, ◌&&◌, List, [], ◌∷◌, map, filter, Option, ℤ, pos, ◌+ℤ◌, ◌*ℤ◌, int_le, int_lt}
+use Rattle.std.specs.Prelude.{ℕ, Bool, ◌&&◌, List, [], ◌∷◌, map, filter, Option, ℤ, pos, ◌+ℤ◌, int_le, int_lt}
 use Rattle.std.specs.Option.{unwrap_or}
 use Rattle.std.specs.Ordering.{int_eq}
 use Rattle.ghcn_fields.specs.Days.{block_of, first_day, last_day}
+pub use Rattle.ghcn_series.specs.Packed.{block_start}
 use Rattle.ghcn_series.specs.Series.{DayValue, Usable}
 use Rattle.rank_query.specs.Asked.{Asked}
 
@@ -22,13 +23,9 @@ days_reached q s = filter (λ x. is_reached q.period (block_of x.0)) s.days
 abbrev pub days_in : List DayValue → ℤ → List DayValue
 days_in days b = filter (λ x. int_eq (block_of x.0) b) days
 
--- the first day of a block
-abbrev pub block_start : ℤ → ℤ
-block_start b = b *ℤ pos 32
-
 -- b is one of the w blocks from another one on
-abbrev pub is_among : ℤ → ℕ → ℤ → Bool
-is_among first w b = int_le first b && int_lt b (first +ℤ pos w)
+abbrev pub is_among_blocks : ℤ → ℕ → ℤ → Bool
+is_among_blocks first w b = int_le first b && int_lt b (first +ℤ pos w)
 
 -- the sum of some numbers
 abbrev pub total : List ℤ → ℤ
@@ -37,4 +34,4 @@ total (z ∷ zs) = z +ℤ total zs
 
 -- the total of the usable values of w blocks from one on
 abbrev pub blocks_total : List DayValue → ℕ → ℤ → ℤ
-blocks_total days w first = total (map (λ x. x.1) (filter (λ x. is_among first w (block_of x.0)) days))
+blocks_total days w first = total (map (λ x. x.1) (filter (λ x. is_among_blocks first w (block_of x.0)) days))

@@ -1,5 +1,5 @@
 -- The bound of a series: a number that no candidate's score exceeds, found from whole blocks.
-use Rattle.std.specs.Prelude.{◌≡◌, ℕ, ◌+◌, ◌*◌, ◌/◌, ◌<◌, Bool, ◌&&◌, List, length, map, filter, ℤ, pos, neg_ℤ, ◌-ℤ◌}
+use Rattle.std.specs.Prelude.{ℕ, ◌+◌, ◌*◌, ◌/◌, Bool, ◌&&◌, List, map, filter, ℤ, pos, neg_ℤ, ◌-ℤ◌}
 use Rattle.std.specs.Prelude.{◌*ℤ◌}
 use Rattle.std.specs.List.{flat_map, range_with_len, list_any}
 use Rattle.std.specs.Option.{unwrap_or}
@@ -7,11 +7,11 @@ use Rattle.std.specs.Int.{int_min}
 use Rattle.std.specs.Ordering.{int_eq}
 use Rattle.ghcn_fields.specs.Days.{block_of}
 use Rattle.ghcn_fields.specs.Sorting.{greatest}
-use Rattle.ghcn_series.specs.Series.{DayValue, Usable, IsSeries}
+use Rattle.ghcn_series.specs.Series.{DayValue, Usable}
 use Rattle.rank_query.specs.declared.score.Score.{Score}
 use Rattle.rank_query.specs.declared.score.Score.TheVariants.{Highest, Lowest, Sum, Dry, Wet, Hot}
-use Rattle.rank_query.specs.Asked.{Asked, score_element}
-use Rattle.rank_scores.specs.Candidates.{is_such, admitted, test_of}
+use Rattle.rank_query.specs.Asked.{Asked}
+use Rattle.rank_scores.specs.Candidates.{is_such, test_of}
 use Rattle.rank_scores.specs.declared.spell.Spell.TheVariants as spells
 use Rattle.rank_scores.specs.Runs.{longest_run}
 use Rattle.rank_blocks.specs.Blocks.{is_reached, days_reached, blocks_total}
@@ -62,9 +62,3 @@ bound_for (Hot t) q s = blocks_bound (test_of (spells.Hot t)) (days_reached q s)
 -- the bound of a series under a query
 abbrev pub bound : Asked → Usable → ℤ
 bound q s = bound_for q.score q s
-
--- a series that a query asks about: of the query's element, with an admitted usable day
-pub record IsAskedOf (q : Asked) (s : Usable) : Type 0 where
-  pub series : IsSeries s
-  pub element : s.element ≡ score_element q.score
-  pub admitted_day : 0 < length (admitted q s)

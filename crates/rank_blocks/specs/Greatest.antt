@@ -18,8 +18,8 @@ pub record IsGreatest (P : ℤ → Type 0) (z : ℤ) : Type 0 where
   pub is_most : (y : ℤ) → P y → y ≤ℤ z
 
 -- a measure makes this number of the value of one of these days
-abbrev pub IsScore : (ℤ → ℤ) → List DayValue → ℤ → Type 0
-IsScore f days y = Contains (map (λ x. f x.1) days) y
+abbrev pub IsDayScore : (ℤ → ℤ) → List DayValue → ℤ → Type 0
+IsDayScore f days y = Contains (map (λ x. f x.1) days) y
 
 -- this is the total of w blocks in a row of which the first is a block of the period
 abbrev pub IsBlocksTotal : Option (ℤ × ℤ) → List DayValue → ℕ → ℤ → Type 0
@@ -33,7 +33,7 @@ IsRunLength such y = (len : ℕ) × (first : ℤ) × (pos len ≡ y) × ((i : �
 pub record IsSumBound (q : Asked) (s : Usable) (n : ℕ) (z : ℤ) : Type 0 where
   pub value : ℤ
   pub most : ℤ
-  pub greatest_value : IsGreatest (IsScore (λ v. v) (days_reached q s)) value
+  pub greatest_value : IsGreatest (IsDayScore (λ v. v) (days_reached q s)) value
   pub greatest_total : IsGreatest (IsBlocksTotal q.period s.days (blocks_of_window n)) most
   pub smaller : int_min (pos n *ℤ value) most ≡ z
 
@@ -45,8 +45,8 @@ pub record IsBlocksBound (such : ℤ → Bool) (z : ℤ) : Type 0 where
 
 -- z is the bound for a score
 abbrev pub IsBoundFor : Score → Asked → Usable → ℤ → Type 0
-IsBoundFor (Highest e) q s z = IsGreatest (IsScore (λ v. v) (days_reached q s)) z
-IsBoundFor (Lowest e) q s z = IsGreatest (IsScore neg_ℤ (days_reached q s)) z
+IsBoundFor (Highest e) q s z = IsGreatest (IsDayScore (λ v. v) (days_reached q s)) z
+IsBoundFor (Lowest e) q s z = IsGreatest (IsDayScore neg_ℤ (days_reached q s)) z
 IsBoundFor (Sum n e) q s z = IsSumBound q s n z
 IsBoundFor Dry q s z = IsGreatest (IsRunLength (is_such (test_of spells.Dry) (days_reached q s))) z
 IsBoundFor Wet q s z = IsGreatest (IsRunLength (is_such (test_of spells.Wet) (days_reached q s))) z

@@ -8,7 +8,7 @@ use Rattle.rank_scores.specs.declared.spell.Spell.{Spell}
 use Rattle.rank_scores.specs.declared.spell.Spell.TheVariants.{Dry, Wet, Hot}
 use Rattle.rank_blocks.specs.declared.range.BlockRange.{BlockRange}
 use Rattle.rank_blocks.specs.declared.summary.Summary.{Summary}
-use Rattle.rank_blocks.specs.Blocks.{period_of, total, is_among}
+use Rattle.rank_blocks.specs.Blocks.{period_of, total, is_among_blocks}
 use Rattle.rank_blocks.specs.Bounds.{holds_such}
 
 -- a score that single days can have
@@ -46,7 +46,7 @@ counts (Hot t) days d = holds_such (test_of (Hot t)) days (block_of d)
 
 -- the total of w blocks from one on
 abbrev pub summaries_total : List Summary → ℕ → ℤ → ℤ
-summaries_total ms w first = total (map (λ m. m.total) (filter (λ m. is_among first w m.number) ms))
+summaries_total ms w first = total (map (λ m. m.total) (filter (λ m. is_among_blocks first w m.number) ms))
 
 -- this is the total of w blocks of which the first lies in the range
 abbrev pub IsTotalFrom : BlockRange → List Summary → ℕ → ℤ → Type 0

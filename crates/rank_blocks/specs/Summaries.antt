@@ -12,12 +12,12 @@ use Rattle.rank_scores.specs.declared.spell.Spell.TheVariants as spells
 use Rattle.rank_blocks.specs.declared.summary.Summary.{Summary}
 use Rattle.rank_blocks.specs.Blocks.{days_in, total}
 use Rattle.rank_blocks.specs.DayRuns.{AreBitsOf}
-use Rattle.rank_blocks.specs.Greatest.{IsGreatest, IsScore}
+use Rattle.rank_blocks.specs.Greatest.{IsGreatest, IsDayScore}
 use Rattle.rank_blocks.specs.Reached.{IsNear, IsTotal, counts}
 
 -- the summary has the greatest that a measure makes of the values of its block's days
 abbrev pub HasDay : (ℤ → ℤ) → List DayValue → Summary → Type 0
-HasDay f days m = IsGreatest (IsScore f (days_in days m.number)) m.day
+HasDay f days m = IsGreatest (IsDayScore f (days_in days m.number)) m.day
 
 -- the summary has the greatest and the total of the values of its block's days
 pub record HasSum (days : List DayValue) (m : Summary) : Type 0 where

@@ -3,7 +3,7 @@
 ghost use Rattle.std.specs.Prelude.{◌<◌, Some, IfOk};
 ghost use Rattle.ghcn_series.specs.Series.{Usable};
 ghost use Rattle.rank_query.specs.Asked.{IsAsked};
-ghost use Rattle.rank_blocks.specs.Bounds.{IsAskedOf};
+ghost use Rattle.rank_scores.specs.Morsels.{IsAskedOf};
 ghost use Rattle.rank_blocks.specs.Greatest.{IsBound, IsSeriesBound};
 ghost use Rattle.rank_blocks.specs.Summaries.{AreSummaries, AreSummariesTo, AreSummariesUpTo, ArePossible};
 ghost use Rattle.rank_blocks.specs.Summaries.{numbers_left};

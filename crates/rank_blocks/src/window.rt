@@ -1,7 +1,7 @@
 //! Blocks in a row.
 
 ghost use Rattle.std.specs.Prelude.{◌≡◌, pos, ◌+ℤ◌, int_le};
-ghost use Rattle.rank_blocks.specs.Blocks.{is_among};
+ghost use Rattle.rank_blocks.specs.Blocks.{is_among_blocks};
 
 use crate::summary::Summary;
 
@@ -15,7 +15,7 @@ pub(crate) struct Window {
 impl Window {
     /// Whether the block of a summary is one of them.
     pub(crate) fn holds(self, block: &Summary) -> bool
-        ensures { result ≡ is_among self.first self.width block.now.number }
+        ensures { result ≡ is_among_blocks self.first self.width block.now.number }
     {
         self.first <= block.number && !self.is_before(block)
     }

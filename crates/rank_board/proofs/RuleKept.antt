@@ -10,10 +10,9 @@ use native.Mathlib.Decide.{dec_le}
 use lib.ListN.{get_elem?}
 use Rattle.atomic_table.proofs.Lists.{at_set, at_snoc, set_else}
 use Rattle.ghcn_fields.specs.Counting.{one_if_equal, times}
-use Rattle.ghcn_fields.specs.CountingLaws.{one_if_equal-equal, one_if_equal-apart, times_below-suc, below_if_one}
-use Rattle.ghcn_fields.specs.CountingLaws.{all_counted}
+use Rattle.ghcn_fields.proofs.CountingLaws.{one_if_equal-equal, one_if_equal-apart, times_below-suc, below_if_one, all_counted}
 use Rattle.rank_board.specs.declared.rule.View.{View}
-use Rattle.rank_board.specs.Word.{score_word, score_of, floor_of}
+use Rattle.rank_board.specs.Word.{score_word, score_of_word, floor_of}
 use Rattle.rank_board.specs.Rule.{view, spent_view, standing, times_raised, times_seen, times_known, IsRuled}
 use Rattle.rank_board.specs.Steps.{AreUnder, kept_view, handed_view, joined_view}
 use Rattle.rank_board.proofs.Sums.{sum_by-replaced, term_le, sum_by-cut, sum_by-joined}
@@ -135,13 +134,13 @@ module _ (rights : ℕ) (guess : Option ℤ) (next floor : ℕ) (views : List Vi
   -- the seat raises the score with the word x
   pub raise_kept : (x : ℕ) → 2 ^ 31 ≤ x → x ≤ 2 ^ 32 + 2 ^ 31 → 0 < length v.claims
       → IsRuled rights guess next (max floor x)
-      (set views id (view v.claims (v.raised ++ score_of x ∷ []) v.seen v.rights))
-  raise_kept x low high drew = let w : View = view v.claims (v.raised ++ score_of x ∷ []) v.seen v.rights in
+      (set views id (view v.claims (v.raised ++ score_of_word x ∷ []) v.seen v.rights))
+  raise_kept x low high drew = let w : View = view v.claims (v.raised ++ score_of_word x ∷ []) v.seen v.rights in
       let more_raised : (n : ℕ) → times_raised n (set views id w) ≡ times_raised n views + one_if_equal x n =
       λ n. omega (
         arith,
         changed (λ u. standing n u.raised) w,
-        standing-append n v.raised (score_of x ∷ []),
+        standing-append n v.raised (score_of_word x ∷ []),
         ap
             (λ (m : ℕ). one_if_equal m n) (score_word-score_of x),
       ) in

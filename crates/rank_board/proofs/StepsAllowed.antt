@@ -9,7 +9,7 @@ use Rattle.atomic_table.proofs.Lists.{set_again}
 use Rattle.ghcn_fields.specs.Floor.{IsScore}
 use Rattle.rank_board.specs.declared.rule.View.{View}
 use Rattle.rank_board.specs.declared.rule.Opening.{Opening}
-use Rattle.rank_board.specs.Word.{score_word, score_of, floor_of}
+use Rattle.rank_board.specs.Word.{score_word, score_of_word, floor_of}
 use Rattle.rank_board.specs.Rule.{view, spent_view, IsRuled, AreWordsOf, Keeps}
 use Rattle.rank_board.specs.Steps.{claim_step, look_step, raise_step, rights_step, kept_view, handed_view, joined_view}
 use Rattle.rank_board.proofs.Sums.{term_le}
@@ -87,7 +87,7 @@ module _ {S : Type 0} (o : Opening) (slots id : ℕ) (me : Me S View) where
   raises_at x low high drew homes views at (n ∷ []) k = absurd k
   raises_at x low high drew homes views at (n ∷ f ∷ m ∷ ms) k = absurd k
   raises_at x low high drew homes views at (n ∷ f ∷ []) k = (
-    view me.0.claims (me.0.raised ++ score_of x ∷ []) me.0.seen me.0.rights,
+    view me.0.claims (me.0.raised ++ score_of_word x ∷ []) me.0.seen me.0.rights,
     keeps,
     tt,
     raise_kept o.rights o.guess

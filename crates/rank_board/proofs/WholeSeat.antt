@@ -9,10 +9,10 @@ use lib.ListN.{get_elem?}
 use Rattle.atomic_table.specs.Table.{Final, Seen}
 use Rattle.ghcn_fields.specs.Counting.{one_if_equal, times, HasEachBelow}
 use Rattle.ghcn_fields.specs.Floor.{IsScore, IsGuessOrRaised, IsFloorOf}
-use Rattle.ghcn_fields.specs.CountingLaws.{one_if_equal-equal, equal_if_one, all_counted, some_counted}
+use Rattle.ghcn_fields.proofs.CountingLaws.{one_if_equal-equal, equal_if_one, all_counted, some_counted}
 use Rattle.rank_board.specs.declared.rule.View.{View}
 use Rattle.rank_board.specs.declared.rule.Opening.{Opening}
-use Rattle.rank_board.specs.Word.{score_word, floor_word, score_of, floor_of}
+use Rattle.rank_board.specs.Word.{score_word, floor_word, score_of_word, floor_of}
 use Rattle.rank_board.specs.Rule.{standing, times_raised, times_known, IsRuled, AreWordsOf, Keeps}
 use Rattle.rank_board.specs.Steps.{AreUnder}
 use Rattle.rank_board.proofs.Sums.{term_le, sum_by-plus, sum_by-alone}
@@ -71,7 +71,7 @@ module _ (rights : ℕ) (guess : Option ℤ) (next floor : ℕ) (views : List Vi
       | inl z ↦ subst (λ (o : Option ℤ). IfSome o (IsGuessOrRaised guess v.raised)) (sym (floor_of-none floor z)) tt
       | inr some_floor ↦ let e = score_word-score_of floor in
           subst (λ (o : Option ℤ). IfSome o (IsGuessOrRaised guess v.raised)) (sym (floor_of-some floor some_floor))
-          (known_here (score_of floor) (omega arith)
+          (known_here (score_of_word floor) (omega arith)
           (subst (λ (n : ℕ). 0 < times_known guess n views) (sym e) k.reached))
     ]
 

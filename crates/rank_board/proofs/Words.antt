@@ -5,8 +5,8 @@ use Rattle.std.proofs.lemmas.List.Elements.{All-weaker}
 use Rattle.std.proofs.lemmas.Int.{ints}
 use Rattle.std.proofs.lemmas.Bool.{cases_eq}
 use Rattle.ghcn_fields.specs.Floor.{IsScore, IsAtLeast}
-use Rattle.ghcn_fields.specs.CountingLaws.{equal_if_one}
-use Rattle.rank_board.specs.Word.{score_word, score_of, floor_of}
+use Rattle.ghcn_fields.proofs.CountingLaws.{equal_if_one}
+use Rattle.rank_board.specs.Word.{score_word, score_of_word, floor_of}
 use Rattle.rank_board.specs.Rule.{standing}
 use Rattle.rank_board.specs.Steps.{AreUnder}
 use Rattle.ghcn_fields.specs.Counting.{one_if_equal}
@@ -22,8 +22,8 @@ score_word-shifted (pos m) n e = omega (arith, ints)
 score_word-shifted (negsuc m) n e = omega (arith, ints)
 
 -- the word of the score that has the word n is n
-pub score_word-score_of : (n : ℕ) → score_word (score_of n) ≡ n
-score_word-score_of n = score_word-shifted (score_of n) n (omega (arith, ints))
+pub score_word-score_of : (n : ℕ) → score_word (score_of_word n) ≡ n
+score_word-score_of n = score_word-shifted (score_of_word n) n (omega (arith, ints))
 
 -- scores are ordered as their words are
 pub score_word-le : (s t : ℤ) → score_word s ≤ score_word t → 0 < score_word t → s ≤ℤ t
@@ -41,11 +41,11 @@ score_word-injective (negsuc m) (negsuc n) e real = omega (arith, ints)
 
 -- the word 0 stands for none
 pub floor_of-none : (f : ℕ) → f ≡ 0 → floor_of f ≡ None
-floor_of-none f z = ap (λ t. cond t None (Some (score_of f))) (eq-eqb f 0 z)
+floor_of-none f z = ap (λ t. cond t None (Some (score_of_word f))) (eq-eqb f 0 z)
 
 -- any other word stands for a score
-pub floor_of-some : (f : ℕ) → f ≢ 0 → floor_of f ≡ Some (score_of f)
-floor_of-some f ne = ap (λ t. cond t None (Some (score_of f))) (ne_eqb f 0 ne)
+pub floor_of-some : (f : ℕ) → f ≢ 0 → floor_of f ≡ Some (score_of_word f)
+floor_of-some f ne = ap (λ t. cond t None (Some (score_of_word f))) (ne_eqb f 0 ne)
 
 -- a look at the floor with the word f adds a score with the word f alone, and none where f is 0
 pub floor_seen : (f n : ℕ) → 0 < standing n (option_to_list (floor_of f)) → (f ≡ n) × (0 < f)
@@ -70,4 +70,4 @@ floor_above f scores all =
     under : (s : ℤ) → (score_word s ≤ f) × (0 < f) → IsSomeAnd (floor_of f) (λ g. s ≤ℤ g)
     under s h = let e = score_word-score_of f in let le = h.0 in let real = h.1 in
         subst (λ (o : Option ℤ). IsSomeAnd o (λ g. s ≤ℤ g)) (sym (floor_of-some f (λ z. absurd (omega arith))))
-        (score_word-le s (score_of f) (omega arith) (omega arith))
+        (score_word-le s (score_of_word f) (omega arith) (omega arith))

@@ -13,7 +13,7 @@ use Rattle.rank_board.specs.Rule.{IsRuled}
 use Rattle.rank_board.specs.Seats.{opened, guess_of, claims_of, raised_of, seen_of, rights_of}
 
 -- the board keeps the number of rights and the guess, and its first seat has all rights and has seen the guess
-pub record Opens (rights : ℕ) (guess : Option ℤ) (b : Board) (s : Seat) : Type 0 where
+pub record OpensBoard (rights : ℕ) (guess : Option ℤ) (b : Board) (s : Seat) : Type 0 where
   pub all_rights : opened b ≡ rights
   pub first_floor : guess_of b ≡ guess
   pub claims : claims_of s ≡ []

@@ -2,7 +2,7 @@
 use Rattle.std.specs.Prelude.{◌≡◌, ℕ, ◌+◌, ◌-◌, ◌^◌, ◌<◌, ◌≤◌, List, [], ◌∷◌, ◌++◌, option_to_list, All, ℤ}
 use Rattle.atomic_table.specs.Table.{Me, Step}
 use Rattle.rank_board.specs.declared.rule.View.{View}
-use Rattle.rank_board.specs.Word.{score_word, score_of, floor_of}
+use Rattle.rank_board.specs.Word.{score_word, score_of_word, floor_of}
 use Rattle.rank_board.specs.Rule.{view}
 
 -- the floor with the word n is at least each of these scores
@@ -24,7 +24,10 @@ module _ {S : Type 0} where
 
   -- the score whose word was passed is raised
   abbrev pub raise_step : Step S → Me S View → ℕ → Me S View → Type 0
-  raise_step st me n me' = me' ≡ (view me.0.claims (me.0.raised ++ score_of st.first ∷ []) me.0.seen me.0.rights, me.1)
+  raise_step st me n me' = me' ≡ (
+    view me.0.claims (me.0.raised ++ score_of_word st.first ∷ []) me.0.seen me.0.rights,
+    me.1,
+  )
 
   -- the seat has no more rights than a board may have
   abbrev pub rights_step : Step S → Me S View → ℕ → Me S View → Type 0

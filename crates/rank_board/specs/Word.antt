@@ -12,9 +12,9 @@ floor_word None = 0
 floor_word (Some s) = score_word s
 
 -- the score that this is the word of
-abbrev pub score_of : ℕ → ℤ
-score_of n = pos n -ℤ pos (2 ^ 32)
+abbrev pub score_of_word : ℕ → ℤ
+score_of_word n = pos n -ℤ pos (2 ^ 32)
 
 -- the floor that this is the word of
 abbrev pub floor_of : ℕ → Option ℤ
-floor_of n = if n == 0 then None else Some (score_of n)
+floor_of n = if n == 0 then None else Some (score_of_word n)

@@ -36,7 +36,7 @@ impl Board {
     ghost use Rattle.std.specs.Prelude.{◌≡◌, ◌^◌, ◌<◌, ◌≤◌, IfOk, IfSome, length};
     ghost use Rattle.ghcn_fields.specs.Floor.{IsScore};
     ghost use Rattle.rank_board.specs.Seats.{opened, claims_of, rights_of, IsSeatOf, IsWhole};
-    ghost use Rattle.rank_board.specs.Calls.{Opens, Claims, Looks, Raises, Splits, Joins};
+    ghost use Rattle.rank_board.specs.Calls.{OpensBoard, Claims, Looks, Raises, Splits, Joins};
     ghost use Rattle.rank_board.specs.Calls.{ClosesUnderRule, AccountsForAll};
 
     /// A new board for at most 2^40 claims, and its first seat, which has the rights to all of them.
@@ -46,7 +46,7 @@ impl Board {
         requires rights { rights ≤ 2 ^ 40 }
         requires guess { IfSome guess IsScore }
         ensures seat { IfOk result (λ r. IsSeatOf r.0 r.1) }
-        ensures opens { IfOk result (λ r. Opens rights guess r.0 r.1) }
+        ensures opens { IfOk result (λ r. OpensBoard rights guess r.0 r.1) }
     {
         let floor = match guess {
             None => 0,

@@ -1,39 +1,18 @@
 -- What holds of each element of a list.
 use Rattle.std.proofs.Common.{◌≡◌, ℕ, zero, suc, ◌+◌, ◌<◌, ◌≤◌, length, take, drop, map, set, get_or, sym, ◌∙◌, arith}
-use Rattle.std.proofs.Common.{List, [], ◌∷◌, ◌++◌, Some, refl, ap, subst}
+use Rattle.std.proofs.Common.{List, [], ◌∷◌, ◌++◌, Option, Some, refl, ap, subst, option_to_list}
 use Rattle.std.specs.Prelude.{slice_get}
+use Rattle.std.proofs.Math.Seq.{take-nil}
 use Rattle.std.proofs.lemmas.List.{take_more, take_more_set, drop_more, drop-set-lt, map-append}
-use Rattle.std.specs.List.{AllByRecursion}
+use Rattle.std.specs.List.{AllByRecursion, filter_map}
+use Rattle.std.specs.Option.{option_and_then}
+pub use Rattle.ghcn_series.proofs.ListFacts.{each-append}
 
--- of two lists, one behind the other
-pub each-append : {X : Type 0} (P : X → Type 0) (xs ys : List X) → AllByRecursion P xs → AllByRecursion P ys
-    → AllByRecursion P (xs ++ ys)
-each-append P [] ys h k = k
-each-append P (x ∷ xs) ys h k = (h.0, each-append P xs ys h.1 k)
-
--- and of both, what holds of all
+-- of two lists, one behind the other, what holds of all
 pub each-parts : {X : Type 0} (P : X → Type 0) (xs ys : List X) → AllByRecursion P (xs ++ ys)
     → AllByRecursion P xs × AllByRecursion P ys
 each-parts P [] ys h = (tt, h)
 each-parts P (x ∷ xs) ys h = let rest = each-parts P xs ys h.1 in ((h.0, rest.0), rest.1)
-
--- of the one at a place
-pub each-at : {X : Type 0} (P : X → Type 0) (xs : List X) (i : ℕ) (x : X) → AllByRecursion P xs
-    → slice_get xs i ≡ Some x → P x
-each-at P [] i x h e = absurd cc
-each-at P (y ∷ ys) zero x h e = let same : y ≡ x = cc in subst P same h.0
-each-at P (y ∷ ys) (suc i) x h e = each-at P ys i x h.1 e
-
--- nothing can be taken of nothing
-pub take-nil : {X : Type 0} (n : ℕ) → take {A = X} n [] ≡ []
-take-nil zero = refl
-take-nil (suc n) = refl
-
--- of a list that isn't longer all is taken
-pub all_taken : {X : Type 0} (n : ℕ) (xs : List X) → length xs ≤ n → take n xs ≡ xs
-all_taken n [] low = take-nil n
-all_taken zero (x ∷ xs) low = absurd (omega arith)
-all_taken (suc n) (x ∷ xs) low = ap (λ l. x ∷ l) (all_taken n xs (omega arith))
 
 -- what holds of each of the first, and of the next, holds of all these
 pub each-more : {X : Type 0} (P : X → Type 0) (xs : List X) (i : ℕ) (x : X) → i < length xs → x ≡ get_or xs i x
@@ -67,3 +46,10 @@ pub made-more : {X Y : Type 0} (f : X → Y) (xs : List X) (i : ℕ) (x : X) →
 made-more f xs i x lt is =
     ap (map f) (take_more xs i x lt) ∙ map-append f (take i xs) (get_or xs i x ∷ [])
     ∙ ap (λ y. map f (take i xs) ++ f y ∷ []) (sym is)
+
+-- what is made of one element more, where something is
+pub kept-more : {X Y : Type 0} (f : X → Option Y) (xs : List X) (i : ℕ) → filter_map f (take (suc i) xs)
+    ≡ filter_map f (take i xs) ++ option_to_list (option_and_then f (slice_get xs i))
+kept-more f [] i = ap (λ l. filter_map f l ++ []) (sym (take-nil i))
+kept-more f (x ∷ xs) zero = grind arith
+kept-more f (x ∷ xs) (suc i) = grind (arith, kept-more f xs i)

@@ -8,8 +8,7 @@ use Rattle.ghcn_files.specs.declared.element.Element.TheVariants.{Tmax}
 use Rattle.ghcn_files.specs.StationLines.{station_of}
 use Rattle.ghcn_series.specs.Series.{DayValue, Usable, Contents}
 use Rattle.rank_query.specs.declared.score.Score.TheVariants.{Highest}
-use Rattle.rank_query.specs.declared.region.Region.TheVariants.{Everywhere}
-use Rattle.rank_query.specs.Asked.{Asked}
+use Rattle.rank_query.specs.Asked.{Asked, top}
 use Rattle.rank_query.specs.Words.{says}
 use Rattle.rank_query.specs.Readers.{keyword}
 use Rattle.rank_query.specs.WordValues.{number, element}
@@ -35,8 +34,8 @@ abbrev warm : List ℕ → List DayValue → Usable
 warm id days = record { id = record { 0 = id }; element = Tmax; days = days }
 
 -- three stations: two with the same greatest value, of which the first has one more day, and one below them
-abbrev held : Contents
-held = record {
+abbrev dataset : Contents
+dataset = record {
   stations = station_of (codes "ZZA00000001  10.0000   20.0000  100.0    ALPHA")
       ∷ station_of (codes "ZZA00000002  11.0000   21.0000  100.0    BRAVO")
       ∷ station_of (codes "ZZA00000003  12.0000   22.0000  100.0    CHARLIE")
@@ -50,7 +49,7 @@ held = record {
 
 -- the k highest of all
 abbrev ask : ℕ → Asked
-ask k = record { k = k; score = Highest Tmax; region = Everywhere; season = None; period = None }
+ask k = top k (Highest Tmax)
 
 -- lines, each with a line feed
 abbrev text : List (List ℕ) → List ℕ
@@ -85,11 +84,11 @@ right_certificate = scanned (codes "skip ZZA00000003 250" ∷ codes "end 3" ∷ 
 
 -- the verdict on a report beside the right certificate
 abbrev of_report : List ℕ → Verdict
-of_report r = verdict (ask 1) held r right_certificate
+of_report r = verdict (ask 1) dataset r right_certificate
 
 -- and on a certificate beside the right report
 abbrev of_certificate : List ℕ → Verdict
-of_certificate z = verdict (ask 1) held right_report z
+of_certificate z = verdict (ask 1) dataset right_report z
 
 -- the line of a report is refused
 abbrev bad_row : ℕ → Why → Verdict
@@ -100,7 +99,7 @@ abbrev bad_entry : ℕ → Why → Verdict
 bad_entry line why = Refused Certificate line why
 
 -- the right papers are accepted
-accepted : verdict (ask 1) held right_report right_certificate ≡ Accepted
+accepted : verdict (ask 1) dataset right_report right_certificate ≡ Accepted
 unfolding digits year_and_rest month_and_day read_query read_words keyword says number element score_at no_score_at
     region_at season_at period_at days_from_civil day_count days_of_years days_of_months
 accepted = refl
@@ -147,7 +146,7 @@ reports : (of_one (codes "1 ZZA00000001 2020-07-01 2020-07-01 31.0 C ALPHA") ≡
     × (of_one (codes "1 ZZA00000001 2020-07-01 2020-07-01 31.1 C BRAVO") ≡ bad_row 3 NotACandidate)
     × (of_one (codes "1 ZZA00000002 2020-07-01 2020-07-01 31.1 C BRAVO") ≡ bad_row 3 NotBest)
     × (of_report (report (codes "end 0 all" ∷ [])) ≡ bad_row 3 TooFew)
-    × (verdict (ask 2) held right_report right_certificate ≡ bad_row 2 OtherQuery)
+    × (verdict (ask 2) dataset right_report right_certificate ≡ bad_row 2 OtherQuery)
 unfolding digits year_and_rest month_and_day read_query read_words keyword says number element score_at no_score_at
     region_at season_at period_at days_from_civil day_count days_of_years days_of_months
 reports = (refl, refl, refl, refl, refl)
@@ -156,7 +155,7 @@ reports = (refl, refl, refl, refl, refl)
 abbrev two_rows : List (List ℕ) → Verdict
 two_rows rows =
     let head : List (List ℕ) = codes "extremes report 1" ∷ codes "query top 2 highest TMAX" ∷ [] in
-    verdict (ask 2) held (text (head ++ rows ++ codes "end 2" ∷ [])) right_certificate
+    verdict (ask 2) dataset (text (head ++ rows ++ codes "end 2" ∷ [])) right_certificate
 
 -- the first one twice, and two in the wrong order; the right two, beside the certificate of another query
 of_two : (two_rows (row ∷ codes "2 ZZA00000001 2020-07-01 2020-07-01 31.1 C ALPHA" ∷ []) ≡ bad_row 4 OutOfOrder)
@@ -190,9 +189,10 @@ versions = (refl, refl, refl, refl, refl)
 -- ---- of two faults the one of the earlier test is told
 
 -- the report's query before its rows; the form of the certificate before the report's query
-early : (verdict (ask 2) held (report (codes "1 ZZA00000001 2020-07-01 2020-07-01 31.0 C ALPHA" ∷ codes "end 1" ∷ []))
+early : (verdict (ask 2) dataset
+    (report (codes "1 ZZA00000001 2020-07-01 2020-07-01 31.0 C ALPHA" ∷ codes "end 1" ∷ []))
     right_certificate ≡ bad_row 2 OtherQuery)
-    × (verdict (ask 2) held right_report (scanned (codes "end 3" ∷ [])) ≡ bad_entry 6 Form)
+    × (verdict (ask 2) dataset right_report (scanned (codes "end 3" ∷ [])) ≡ bad_entry 6 Form)
 unfolding digits year_and_rest month_and_day read_query read_words keyword says number element score_at no_score_at
     region_at season_at period_at days_from_civil day_count days_of_years days_of_months
 early = (refl, refl)
@@ -201,7 +201,8 @@ early = (refl, refl)
 -- certificate of another query
 abbrev one_of_two : List ℕ → Verdict
 one_of_two line =
-    verdict (ask 2) held (text (codes "extremes report 1" ∷ codes "query top 2 highest TMAX" ∷ line ∷ codes "end 1 all"
+    verdict (ask 2) dataset
+    (text (codes "extremes report 1" ∷ codes "query top 2 highest TMAX" ∷ line ∷ codes "end 1 all"
     ∷ [])) right_certificate
 
 -- a wrong name before the wrong order; a row before the next one; a row before the number of rows; the number of rows,
@@ -219,13 +220,13 @@ rows_in_turn = (refl, refl, refl, refl)
 -- the verdict on a certificate of these lines beside the right two rows
 abbrev beside_two : List (List ℕ) → Verdict
 beside_two ls =
-    verdict (ask 2) held (text (codes "extremes report 1" ∷ codes "query top 2 highest TMAX" ∷ row
+    verdict (ask 2) dataset (text (codes "extremes report 1" ∷ codes "query top 2 highest TMAX" ∷ row
     ∷ codes "2 ZZA00000002 2020-07-01 2020-07-01 31.1 C BRAVO" ∷ codes "end 2" ∷ [])) (certificate ls)
 
 -- the verdict on a certificate of these lines beside the right three rows, of which the last has 305
 abbrev beside_three : List (List ℕ) → Verdict
 beside_three ls =
-    verdict (ask 3) held (text (codes "extremes report 1" ∷ codes "query top 3 highest TMAX" ∷ row
+    verdict (ask 3) dataset (text (codes "extremes report 1" ∷ codes "query top 3 highest TMAX" ∷ row
     ∷ codes "2 ZZA00000002 2020-07-01 2020-07-01 31.1 C BRAVO"
     ∷ codes "3 ZZA00000001 2020-07-02 2020-07-02 30.5 C ALPHA" ∷ codes "end 3" ∷ []))
     (text (codes "extremes certificate 1" ∷ codes "query top 3 highest TMAX" ∷ ls))
@@ -251,7 +252,7 @@ unfolding digits year_and_rest month_and_day read_query read_words keyword says 
 lines_in_turn = (refl, refl, refl)
 
 -- the report's form before the certificate's; the k-th score before the lines; the series before the bound
-firsts : (verdict (ask 1) held [] [] ≡ bad_row 1 Form)
+firsts : (verdict (ask 1) dataset [] [] ≡ bad_row 1 Form)
     × (of_certificate (certificate (codes "kth 310" ∷ codes "scan ZZA00000001 310" ∷ codes "end 1" ∷ []))
     ≡ bad_entry 3 OtherFloor)
     × (of_certificate (certificate (codes "kth 311" ∷ codes "scan ZZA00000001 311" ∷ codes "skip ZZA00000003 250"
@@ -261,7 +262,7 @@ unfolding digits year_and_rest month_and_day read_query read_words keyword says 
 firsts = (refl, refl, refl)
 
 -- where there are fewer candidates than were asked for there is no k-th score, and no series may be passed over
-without_kth : verdict (ask 10) held (text (codes "extremes report 1" ∷ codes "query top 10 highest TMAX" ∷ row
+without_kth : verdict (ask 10) dataset (text (codes "extremes report 1" ∷ codes "query top 10 highest TMAX" ∷ row
     ∷ codes "2 ZZA00000002 2020-07-01 2020-07-01 31.1 C BRAVO"
     ∷ codes "3 ZZA00000001 2020-07-02 2020-07-02 30.5 C ALPHA"
     ∷ codes "4 ZZA00000003 2020-07-01 2020-07-01 25.0 C CHARLIE" ∷ codes "end 4 all" ∷ []))
@@ -335,13 +336,7 @@ lines = (refl, refl, refl, refl, refl, refl, refl, refl, refl)
 
 -- a station with a morsel, and none in a period without its days
 absent : (is_morsel (ask 1) at_charlie (Some of_charlie) ≡ true)
-    × (is_morsel (record {
-      k = 1;
-      score = Highest Tmax;
-      region = Everywhere;
-      season = None;
-      period = Some (pos 18628, pos 18629);
-    }) at_charlie (Some of_charlie) ≡ false)
+    × (is_morsel (record (ask 1) { period = Some (pos 18628, pos 18629) }) at_charlie (Some of_charlie) ≡ false)
 absent = (refl, refl)
 
 -- a row that no line of the files gives

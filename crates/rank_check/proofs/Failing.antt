@@ -19,7 +19,7 @@ use Rattle.rank_check.specs.declared.verdict.Paper.TheVariants.{Certificate}
 use Rattle.rank_check.specs.declared.verdict.Why.TheVariants.{OtherSeries, NoBound, NotBelow, NotCounted}
 use Rattle.rank_check.specs.declared.verdict.Verdict.TheVariants.{Refused}
 use Rattle.ghcn_files.specs.Ids.{same_id}
-use Rattle.ghcn_files.specs.IdLaws.{same_id-turned}
+use Rattle.ghcn_files.proofs.IdLaws.{same_id-turned}
 use Rattle.rank_scores.specs.Morsels.{morsels}
 use Rattle.ghcn_series.specs.Series.{Usable, Contents}
 use Rattle.rank_query.specs.Asked.{Asked}
@@ -29,6 +29,7 @@ use Rattle.rank_papers.specs.Certificate.{Entry, count_of}
 use Rattle.std.specs.Int.{int_max}
 use Rattle.std.proofs.lemmas.Int.{ints}
 use Rattle.std.proofs.Math.Bool.{and-true}
+use Rattle.std.proofs.lemmas.Option.{slice_get-map, slice_get-get_or}
 use Rattle.rank_check.specs.Tests.{Test, follows, is_counted, line_tests, entry_tests}
 
 -- where none of some tests fails, the first that fails is among those behind
@@ -137,16 +138,7 @@ said_there g F (x ∷ xs) (suc i) r e = said_there g F xs i r e
 
 -- an element stands at its place
 pub stands_at : {X : Type 0} (xs : List X) (i : ℕ) (x : X) → i < length xs → x ≡ get_or xs i x → slice_get xs i ≡ Some x
-stands_at [] i x lt e = absurd (omega arith)
-stands_at (y ∷ ys) zero x lt e = ap (λ z. Some z) (sym e)
-stands_at (y ∷ ys) (suc i) x lt e = stands_at ys i x (omega arith) e
-
--- what is made of what stands at a place
-pub slice_get-map : {X Y : Type 0} (f : X → Y) (xs : List X) (i : ℕ)
-    → slice_get (map f xs) i ≡ option_map f (slice_get xs i)
-slice_get-map f [] i = refl
-slice_get-map f (x ∷ xs) zero = refl
-slice_get-map f (x ∷ xs) (suc i) = slice_get-map f xs i
+stands_at xs i x lt e = slice_get-get_or xs i x lt ∙ ap (λ z. Some z) (sym e)
 
 -- the row before one, by place
 pub follows-behind : (rows : List Row) (i : ℕ) (before row : Row) (b : Bool) → (i ≡ 0 → ⊥) → i < length rows

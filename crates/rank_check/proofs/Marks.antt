@@ -12,7 +12,7 @@ use Rattle.std.proofs.lemmas.List.Folds.{list_any_at}
 use Rattle.std.proofs.lemmas.List.Sums.{sum_by-set, sum_by_more_le, sum_by-cons}
 use Rattle.std.proofs.lemmas.List.Elements.{recursion_from_All}
 use Rattle.std.proofs.lemmas.List.Sorted.{Contains-permutation}
-use Rattle.std.proofs.lemmas.Option.{slice_get-get_or}
+use Rattle.std.proofs.lemmas.Option.{slice_get-get_or, slice_get_past}
 use Rattle.std.proofs.Math.ListN.{get_or-map}
 use Rattle.ghcn_series.specs.Says.{in_64_bits}
 use Rattle.rank_scores.specs.declared.candidate.Candidate.{Candidate}
@@ -21,7 +21,7 @@ use Rattle.rank_check.specs.declared.tally.Mark.{Mark}
 use Rattle.rank_check.specs.declared.tally.Met.{Met}
 use Rattle.rank_check.specs.Survey.{met, met_by}
 use Rattle.rank_check.specs.Marks.{candidates_at, unmet, is_met_at, is_met, passed_at, passed, known, shown_by}
-use Rattle.rank_check.specs.Marks.{counted, counted_at, IsPlace, ties_before, AreInOrder, Meets}
+use Rattle.rank_check.specs.Marks.{counted_mark, counted_at, IsPlace, ties_before, AreInOrder, Meets}
 use Rattle.rank_check.specs.Marks.{AreUnmet}
 use Rattle.rank_check.proofs.SortedCandidates.{same_from_tie, own_tie}
 use Rattle.rank_check.proofs.Surveying.{or_false}
@@ -36,12 +36,6 @@ or_true false = refl
 and_none : (b : Bool) → (b && false) ≡ false
 and_none true = refl
 and_none false = refl
-
--- nothing stands beyond the end
-slice_get-beyond : {X : Type 0} (xs : List X) (i : ℕ) → length xs ≤ i → slice_get xs i ≡ None
-slice_get-beyond [] i low = refl
-slice_get-beyond (x ∷ xs) zero low = absurd (omega arith)
-slice_get-beyond (x ∷ xs) (suc i) low = slice_get-beyond xs i (omega arith)
 
 -- what is put at a place counts in the sum
 part-of : (marks : List Mark) (i : ℕ) (m : Mark) (c : Candidate) → i < length marks
@@ -58,12 +52,12 @@ pub counted-same : (p : ℕ) (marks : List Mark) → candidates_at (counted_at p
 counted-same p [] = refl
 counted-same zero (m ∷ marks) = refl
 counted-same (suc p) (m ∷ marks) = elim (slice_get marks p) as (λ o. slice_get marks p ≡ o
-    → candidates_at (option_map_or (λ x. set (m ∷ marks) (suc p) (counted x)) o (m ∷ marks))
+    → candidates_at (option_map_or (λ x. set (m ∷ marks) (suc p) (counted_mark x)) o (m ∷ marks))
     ≡ candidates_at (m ∷ marks)) [
       | None ↦ λ _. refl
       | Some x ↦ λ e.
-          let rest : candidates_at (set marks p (counted x)) ≡ candidates_at marks =
-          ap (λ (o : Option Mark). candidates_at (option_map_or (λ x. set marks p (counted x)) o marks)) (sym e)
+          let rest : candidates_at (set marks p (counted_mark x)) ≡ candidates_at marks =
+          ap (λ (o : Option Mark). candidates_at (option_map_or (λ x. set marks p (counted_mark x)) o marks)) (sym e)
           ∙ counted-same p marks in
           ap (λ (l : List Candidate). m.candidate ∷ l) rest
     ] refl
@@ -73,11 +67,11 @@ pub counted-met : (p : ℕ) (marks : List Mark) (c : Candidate) → is_met (coun
 counted-met p [] c = refl
 counted-met zero (m ∷ marks) c = refl
 counted-met (suc p) (m ∷ marks) c = elim (slice_get marks p) as (λ o. slice_get marks p ≡ o
-    → is_met (option_map_or (λ x. set (m ∷ marks) (suc p) (counted x)) o (m ∷ marks)) c ≡ is_met (m ∷ marks) c) [
+    → is_met (option_map_or (λ x. set (m ∷ marks) (suc p) (counted_mark x)) o (m ∷ marks)) c ≡ is_met (m ∷ marks) c) [
       | None ↦ λ _. refl
       | Some x ↦ λ e.
-          let rest : is_met (set marks p (counted x)) c ≡ is_met marks c =
-          ap (λ (o : Option Mark). is_met (option_map_or (λ x. set marks p (counted x)) o marks) c) (sym e)
+          let rest : is_met (set marks p (counted_mark x)) c ≡ is_met marks c =
+          ap (λ (o : Option Mark). is_met (option_map_or (λ x. set marks p (counted_mark x)) o marks) c) (sym e)
           ∙ counted-met p marks c in
           ap (λ (b : Bool). is_met_at c m || b) rest
     ] refl
@@ -120,9 +114,9 @@ counted-passed marks up d p here c there = elim (ltb p (length marks)) as (λ t.
 
     beyond : length marks ≤ p → the
     beyond low =
-        let none : slice_get marks p ≡ None = slice_get-beyond marks p low in
+        let none : slice_get marks p ≡ None = slice_get_past marks p low in
         let same : counted_at p marks ≡ marks =
-        ap (λ (o : Option Mark). option_map_or (λ m. set marks p (counted m)) o marks) none in
+        ap (λ (o : Option Mark). option_map_or (λ m. set marks p (counted_mark m)) o marks) none in
         let out : precedes d c ≡ false = precedes-none ks up d p here c there (omega (arith, many, low)) in
         ap (λ (l : List Mark). in_64_bits (passed l c)) same
         ∙ sym (ap (λ (b : Bool). one_more_if b (passed marks c)) out)
@@ -131,18 +125,21 @@ counted-passed marks up d p here c there = elim (ltb p (length marks)) as (λ t.
     within lt =
         let x : Mark = get_or marks p (unmet c) in
         let got : slice_get marks p ≡ Some x = slice_get-get_or marks p (unmet c) lt in
-        let now : counted_at p marks ≡ set marks p (counted x) =
-        ap (λ (o : Option Mark). option_map_or (λ m. set marks p (counted m)) o marks) got in
+        let now : counted_at p marks ≡ set marks p (counted_mark x) =
+        ap (λ (o : Option Mark). option_map_or (λ m. set marks p (counted_mark m)) o marks) got in
         let first : precedes d c ≡ not (precedes c x.candidate) =
         precedes-at ks up d p here c there (omega (arith, many, lt))
         ∙ ap (λ (y : Candidate). not (precedes c y)) (at-mark marks p c) in
-        let total : sum_by (passed_at c) (set marks p (counted x)) + passed_at c x
-        ≡ passed marks c + passed_at c (counted x) = sum_by-set (passed_at c) marks p (counted x) (unmet c) lt in
+        let total : sum_by (passed_at c) (set marks p (counted_mark x)) + passed_at c x
+        ≡ passed marks c + passed_at c (counted_mark x) = sum_by-set (passed_at c) marks p (counted_mark x)
+        (unmet c) lt in
         let low : passed_at c x ≤ passed marks c =
         omega (arith, sum_by_more_le (passed_at c) marks p (unmet c) lt) in
-        let high : passed_at c (counted x) ≤ passed (set marks p (counted x)) c = part-of marks p (counted x) c lt in
+        let high : passed_at c (counted_mark x) ≤ passed (set marks p (counted_mark x)) c = part-of marks p
+        (counted_mark x) c lt in
         ap (λ (l : List Mark). in_64_bits (passed l c)) now
-        ∙ counted-by (precedes c x.candidate) (passed marks c) (passed (set marks p (counted x)) c) x.fresh total low
+        ∙ counted-by (precedes c x.candidate) (passed marks c)
+        (passed (set marks p (counted_mark x)) c) x.fresh total low
         high
         ∙ sym (ap (λ (b : Bool). one_more_if b (passed marks c))
         first)

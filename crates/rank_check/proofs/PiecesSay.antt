@@ -16,7 +16,7 @@ use Rattle.ghcn_fields.specs.Bytes.{same_bytes}
 use Rattle.ghcn_files.specs.declared.station.Station.{Station}
 use Rattle.ghcn_files.specs.declared.station.StationId.{StationId}
 use Rattle.ghcn_files.specs.Ids.{same_id}
-use Rattle.ghcn_files.specs.IdLaws.{same_id-is, same_id-laws}
+use Rattle.ghcn_files.proofs.IdLaws.{same_id-is, same_id-laws}
 use Rattle.ghcn_files.specs.Listed.{is_station_of}
 use Rattle.ghcn_series.specs.Series.{Usable, Contents, series_of}
 use Rattle.ghcn_series.specs.Held.{IsContents}
@@ -30,13 +30,13 @@ use Rattle.rank_papers.specs.Report.{Named, trimmed}
 use Rattle.rank_papers.specs.ReportLines.{Reported, IsReported, SaysRightReport, name_of}
 use Rattle.rank_papers.specs.Certificate.{Entry, Certified, IsCertified, IsEntry, IsCount, IsRightEntry, SaysRight}
 use Rattle.rank_papers.specs.Certificate.{count_of, counts_of, kth_of_best}
-use Rattle.rank_head.specs.HeadTests.{of_rows, Rise, is_scanned}
-use Rattle.rank_check.specs.Tests.{is_among}
-use Rattle.rank_check.specs.Pieces.{is_morsel, is_within, score_of, is_row_of, piece_tests}
+use Rattle.rank_head.specs.HeadTests.{of_rows, IdsRise, is_scanned}
+use Rattle.rank_check.specs.Tests.{is_one_of}
+use Rattle.rank_check.specs.Pieces.{is_morsel, is_within_worst, score_of, is_row_of, piece_tests}
 use Rattle.rank_query.specs.Admits.{admits_station}
 use Rattle.rank_check.specs.InPieces.{rows_with, worst_of, IsAccepted, IsAbsent, AreRightPieces}
-use Rattle.rank_check.proofs.Each.{all_taken}
-use Rattle.rank_check.proofs.Failing.{slice_get-map}
+use Rattle.std.proofs.lemmas.List.{take_all}
+use Rattle.std.proofs.lemmas.Option.{slice_get-map}
 use Rattle.rank_check.proofs.KthScores.{kth-best}
 use Rattle.ghcn_series.proofs.Members.{In, of_one, for_each, found_in, any_in, kept_in, in_kept, in_map, map_in}
 use Rattle.rank_check.proofs.Members.{among_in}
@@ -80,7 +80,8 @@ module _ (q : Asked) (c : Contents) (right : IsContents c) (rows : List Named) w
     pub named : e.id ≡ series.id
     pub counted : n ≡ length (rows_with e.id rows)
     pub candidates_are : AllByRecursion (λ row. is_row_of q station series row ≡ true) (rows_with e.id rows)
-    pub none_left : AllByRecursion (λ d. (not (is_within worst d) || is_among (of_rows (rows_with e.id rows)) d) ≡ true)
+    pub none_left : AllByRecursion (λ d. (not (is_within_worst worst d) || is_one_of (of_rows (rows_with e.id rows)) d)
+        ≡ true)
         (candidates q series)
     pub above : AllByRecursion (λ d. d.score ≤ℤ e.bound) (candidates q series)
     pub low : e.skipped ≡ true → is_below (score_of worst) e.bound ≡ true
@@ -108,7 +109,7 @@ module _ (q : Asked) (c : Contents) (right : IsContents c) (rows : List Named) w
         named = sym id ∙ sym (own_id q c h.0 found.0 found.1);
         counted = eqb-true n (length (rows_with e.id rows)) there.1.0;
         candidates_are = each_passes (is_row_of q h.0 found.0) (rows_with e.id rows) there.1.1.0;
-        none_left = each_passes (λ d. not (is_within worst d) || is_among (of_rows (rows_with e.id rows)) d)
+        none_left = each_passes (λ d. not (is_within_worst worst d) || is_one_of (of_rows (rows_with e.id rows)) d)
             (candidates q found.0) there.1.1.1.0;
         above = above_from e.bound (candidates q found.0) there.1.1.1.1.0;
         low = below_from e.skipped (is_below (score_of worst) e.bound) there.1.1.1.1.1.0;
@@ -140,7 +141,7 @@ module _ (q : Asked) (c : Contents) (right : IsContents c) (rows : List Named) w
         let piece = (of_one (λ x. (n : ℕ) × Piece x n) es e.0 pieces e.1).1 in
         let own : same_id row.0.id e.0.id ≡ true =
         ap (λ (i : StationId). same_id row.0.id i) e.2 ∙ same_id-laws.refl row.0.id in
-        let is = and_parts (is_among (candidates q piece.series) row.0) (same_bytes (trimmed piece.station.name) row.1)
+        let is = and_parts (is_one_of (candidates q piece.series) row.0) (same_bytes (trimmed piece.station.name) row.1)
         (of_one (λ r. is_row_of q piece.station piece.series r ≡ true) (rows_with e.0.id rows) row piece.candidates_are
         (in_kept (λ r. same_id r.0.id e.0.id) rows row h own)) in
         let name : trimmed piece.station.name ≡ row.1 = (bytes_decides (trimmed piece.station.name) row.1).0 is.1 in (
@@ -168,7 +169,7 @@ module _ (q : Asked) (c : Contents) (right : IsContents c) (rows : List Named) w
             let no : false ≡ true = sym none ∙ some in absurd cc
 
     -- a candidate that is within is one of the rows
-    all_rows : (d : Candidate) → In (all_candidates q c) d → is_within worst d ≡ true → In (of_rows rows) d
+    all_rows : (d : Candidate) → In (all_candidates q c) d → is_within_worst worst d ≡ true → In (of_rows rows) d
     all_rows d h w =
         let u = candidate_in q c d h in
         let e = entry_for u.0 u.1 in
@@ -177,8 +178,8 @@ module _ (q : Asked) (c : Contents) (right : IsContents c) (rows : List Named) w
         let own : In (candidates q piece.series) d = subst (λ (s : Usable). In (candidates q s) d) (sym same) u.2 in
         let some = of_rows (rows_with e.0.id rows) in
         let row = row_in (rows_with e.0.id rows) d (among_in (of_rows (rows_with e.0.id rows)) d
-        (or_rest (is_within worst d) (is_among (of_rows (rows_with e.0.id rows)) d)
-        (of_one (λ x. (not (is_within worst x) || is_among (of_rows (rows_with e.0.id rows)) x) ≡ true)
+        (or_rest (is_within_worst worst d) (is_one_of (of_rows (rows_with e.0.id rows)) d)
+        (of_one (λ x. (not (is_within_worst worst x) || is_one_of (of_rows (rows_with e.0.id rows)) x) ≡ true)
         (candidates q piece.series) d piece.none_left own) w)) in
         subst (In (of_rows rows)) row.2
         (in_map (λ (r : Named). r.0) rows row.0 (kept_in (λ r. same_id r.0.id e.0.id) rows row.0 row.1).0)
@@ -202,46 +203,48 @@ module _ (q : Asked) (c : Contents) (right : IsContents c) (rows : List Named) w
       long = length-map rows (λ (r : Named). r.0)
 
       -- each row is within
-      rows_within : filter (is_within worst) (of_rows rows) ≡ of_rows rows
+      rows_within : filter (is_within_worst worst) (of_rows rows) ≡ of_rows rows
       rows_within =
           let first = first_within (of_rows rows) (q.k - 1) falls in
           let next : suc (q.k - 1) ≡ q.k = omega (arith, some) in
-          ap (λ (o : Option Candidate). filter (is_within o) (of_rows rows)) worst_at ∙ first
+          ap (λ (o : Option Candidate). filter (is_within_worst o) (of_rows rows)) worst_at ∙ first
           ∙ ap (λ (n : ℕ). take n (of_rows rows)) next
-          ∙ all_taken q.k (of_rows rows) (omega (arith, few, long))
+          ∙ take_all q.k (of_rows rows) (omega (arith, few, long))
 
       -- the rows are the candidates that are within
-      rows_are : of_rows rows ≡ filter (is_within worst) xs
-      rows_are = same_rows (of_rows rows) (filter (is_within worst) xs) falls
-          (kept_descends (is_within worst) xs (ordered-descends (all_candidates q c) apart))
+      rows_are : of_rows rows ≡ filter (is_within_worst worst) xs
+      rows_are = same_rows (of_rows rows) (filter (is_within_worst worst) xs) falls
+          (kept_descends (is_within_worst worst) xs (ordered-descends (all_candidates q c) apart))
           (λ d h.
           let row = row_in rows d h in
           let all : In (all_candidates q c) d =
           subst (In (all_candidates q c)) row.2 (row_right row.0 row.1).0 in
-          in_kept (is_within worst) xs d
+          in_kept (is_within_worst worst) xs d
           (permuted_in (all_candidates q c) xs (ordered-permutation (all_candidates q c)) d all)
-          (kept_in (is_within worst) (of_rows rows) d (subst (λ (l : List Candidate). In l d) (sym rows_within) h)).1)
+          (kept_in (is_within_worst worst) (of_rows rows) d (subst (λ (l : List Candidate). In l d)
+          (sym rows_within) h)).1)
           (λ d h.
-          let kept = kept_in (is_within worst) xs d h in
+          let kept = kept_in (is_within_worst worst) xs d h in
           all_rows d (permuted_in xs (all_candidates q c)
           (IsPermutation-sym (all_candidates q c) xs (ordered-permutation (all_candidates q c))) d kept.0) kept.1)
 
       -- so they are the first k
-      first_are : (o : Option Candidate) → slice_get (of_rows rows) (q.k - 1) ≡ o → filter (is_within o) xs ≡ of_rows
+      first_are : (o : Option Candidate) → slice_get (of_rows rows) (q.k - 1) ≡ o
+          → filter (is_within_worst o) xs ≡ of_rows
           rows
           → of_rows rows ≡ take q.k xs
       first_are None e f =
-          let whole : filter (is_within None) xs ≡ xs = all_kept xs in
+          let whole : filter (is_within_worst None) xs ≡ xs = all_kept xs in
           let same : of_rows rows ≡ xs = sym f ∙ whole in
-          same ∙ sym (all_taken q.k xs (omega (arith, few, long, ap (λ (l : List Candidate). length l) same)))
+          same ∙ sym (take_all q.k xs (omega (arith, few, long, ap (λ (l : List Candidate). length l) same)))
         where
-          all_kept : (cs : List Candidate) → filter (is_within None) cs ≡ cs
+          all_kept : (cs : List Candidate) → filter (is_within_worst None) cs ≡ cs
           all_kept [] = refl
           all_kept (d ∷ cs) = ap (λ (l : List Candidate). d ∷ l) (all_kept cs)
       first_are (Some w) e f =
           let front = within_front (Some w) xs (ordered-descends (all_candidates q c) apart) in
           let below : q.k - 1 < length (of_rows rows) = at_below (of_rows rows) (q.k - 1) w e in
-          let same : length (filter (is_within (Some w)) xs) ≡ q.k =
+          let same : length (filter (is_within_worst (Some w)) xs) ≡ q.k =
           ap (λ (l : List Candidate). length l) f ∙ omega (arith, few, long, below, some) in
           sym f ∙ front ∙ ap (λ (n : ℕ). take n xs) same
         where
@@ -254,7 +257,7 @@ module _ (q : Asked) (c : Contents) (right : IsContents c) (rows : List Named) w
       pub rows_best : of_rows rows ≡ best_of_query q c
       rows_best =
           first_are (slice_get (of_rows rows) (q.k - 1)) refl
-          (ap (λ (o : Option Candidate). filter (is_within o) xs) (sym worst_at) ∙ sym rows_are)
+          (ap (λ (o : Option Candidate). filter (is_within_worst o) xs) (sym worst_at) ∙ sym rows_are)
           ∙ sym (best_first (all_candidates q c) apart q.k)
 
       -- and the k-th score
@@ -286,7 +289,7 @@ module _ (q : Asked) (c : Contents) (right : IsContents c) (rows : List Named) w
         )
 
     -- the IDs of the entries are those of the morsels
-    pub ids_right : Rise es → ids_of es ≡ map (λ (s : Usable). s.id) (morsels q c)
+    pub ids_right : IdsRise es → ids_of es ≡ map (λ (s : Usable). s.id) (morsels q c)
     ids_right rise =
         same_ids (ids_of es) (map (λ (s : Usable). s.id) (morsels q c)) (rise_ids es rise) (morsel_ids q c right)
         (λ i h.

@@ -1,18 +1,19 @@
 -- No test of a line by itself fails exactly where the line is right.
-use Rattle.std.proofs.Common.{◌≡◌, ◌↔◌, ℕ, zero, suc, ◌<◌, Bool, true, false, cond, not, List, [], ◌∷◌, length}
-use Rattle.std.proofs.Common.{Option, Some, None, refl, sym, ap, ◌∙◌, subst, arith, get_or, ◌||◌, eq-eqb}
-use Rattle.std.specs.Prelude.{slice_get, ◌==◌, ◌&&◌}
+use Rattle.std.proofs.Common.{◌≡◌, ◌↔◌, ℕ, Bool, true, false, cond, not, List, [], ◌∷◌, length}
+use Rattle.std.proofs.Common.{Option, Some, None, refl, sym, ap, ◌∙◌, subst, ◌||◌, eq-eqb}
+use Rattle.std.specs.Prelude.{◌==◌, ◌&&◌}
 use Rattle.std.specs.List.{list_all, Contains, AllByRecursion}
 use Rattle.std.specs.Cmp.Lexicographic.{bytes_decides}
 use Rattle.std.proofs.lemmas.Bool.{and_parts, eqb-true}
-use Rattle.std.proofs.lemmas.List.Elements.{All-from_recursion, recursion_from_All, All-contains, All-contains_itself}
 use Rattle.ghcn_fields.specs.Bytes.{same_bytes}
 use Rattle.ghcn_fields.specs.Faults.{first_failing}
 use Rattle.ghcn_files.specs.declared.station.Station.{Station}
 use Rattle.ghcn_files.specs.declared.station.StationId.{StationId}
 use Rattle.ghcn_files.specs.Ids.{same_id}
-use Rattle.ghcn_files.specs.IdLaws.{same_id-is, same_id-laws}
+use Rattle.ghcn_files.proofs.IdLaws.{same_id-is, same_id-laws}
+use Rattle.ghcn_files.proofs.Ordered.{each-weaker}
 use Rattle.ghcn_series.specs.Series.{Usable}
+use Rattle.ghcn_series.proofs.Members.{contains-in, in-contains, of_each, itself}
 use Rattle.rank_query.specs.Asked.{Asked}
 use Rattle.rank_query.specs.Admits.{admits_station}
 use Rattle.rank_scores.specs.declared.candidate.Candidate.{Candidate}
@@ -24,12 +25,12 @@ use Rattle.rank_head.specs.HeadTests.{of_rows}
 use Rattle.rank_check.specs.declared.verdict.Why.{Why}
 use Rattle.rank_check.specs.declared.verdict.Why.TheVariants.{NotACandidate, OtherSeries, NotCounted, NotBest}
 use Rattle.rank_check.specs.declared.verdict.Why.TheVariants.{NoBound, NotBelow}
-use Rattle.rank_check.specs.Tests.{is_among}
-use Rattle.rank_check.specs.Pieces.{is_morsel, is_within, score_of, AreRowsWithin, is_row_of, has_all, last_tests}
+use Rattle.rank_check.specs.Tests.{is_one_of}
+use Rattle.rank_check.specs.Pieces.{is_morsel, is_within_worst, score_of, AreRowsWithin, is_row_of, has_all, last_tests}
 use Rattle.rank_check.specs.Pieces.{piece_tests, IsRightPiece}
 use Rattle.rank_check.specs.Survey.{top_score}
-use Rattle.rank_check.proofs.Failing.{stands_at, is_low, top-bounded}
-use Rattle.rank_check.proofs.SortedCandidates.{place_among, among_at}
+use Rattle.rank_check.proofs.Failing.{is_low, top-bounded}
+use Rattle.rank_check.proofs.Members.{among_in, in_among}
 use Rattle.rank_check.proofs.RightLines.{above_from, above_to, below_from, below_to}
 
 -- ---- tests of any kind
@@ -79,27 +80,13 @@ last-by q u e rows worst all above low f g h =
 
 -- ---- members
 
--- what stands at a place is in the list
-held_from : {X : Type 0} (xs : List X) (i : ℕ) (x : X) → slice_get xs i ≡ Some x → (i < length xs) × (get_or xs i x ≡ x)
-held_from [] i x e = absurd cc
-held_from (y ∷ ys) zero x e = let same : y ≡ x = cc in (omega arith, same)
-held_from (y ∷ ys) (suc i) x e = let rest = held_from ys i x e in (omega (arith, rest.0), rest.1)
-
 -- what is among candidates is one of the list
-pub among_held : (cs : List Candidate) (c : Candidate) → is_among cs c ≡ true → Contains cs c
-among_held cs c e = let there = place_among cs c e in let at = held_from cs there.0 c there.1 in (there.0, at.0, at.1)
+pub among_held : (cs : List Candidate) (c : Candidate) → is_one_of cs c ≡ true → Contains cs c
+among_held cs c e = in-contains cs c (among_in cs c e)
 
 -- and back
-pub held_among : (cs : List Candidate) (c : Candidate) → Contains cs c → is_among cs c ≡ true
-held_among cs c h = among_at cs h.0 c (stands_at cs h.0 c h.1 (sym h.2))
-
--- what holds of each holds of one of them
-pub of_held : {X : Type 0} (P : X → Type 0) (xs : List X) (x : X) → AllByRecursion P xs → Contains xs x → P x
-of_held P xs x h k = All-contains P xs x (All-from_recursion P xs h) k
-
--- each is one of the list
-pub each_held : {X : Type 0} (xs : List X) → AllByRecursion (Contains xs) xs
-each_held xs = recursion_from_All (Contains xs) xs (All-contains_itself xs)
+pub held_among : (cs : List Candidate) (c : Candidate) → Contains cs c → is_one_of cs c ≡ true
+held_among cs c h = in_among cs c (contains-in cs c h)
 
 -- what passes for all passes for each
 pub each_passes : {X : Type 0} (test : X → Bool) (xs : List X) → list_all test xs ≡ true
@@ -113,21 +100,15 @@ pub all_passes : {X : Type 0} (test : X → Bool) (xs : List X) → AllByRecursi
 all_passes test [] h = refl
 all_passes test (x ∷ xs) h = ap (λ (b : Bool). b && list_all test xs) h.0 ∙ all_passes test xs h.1
 
--- what follows for each
-pub each_weaker : {X : Type 0} (P Q : X → Type 0) → ((x : X) → P x → Q x) → (xs : List X) → AllByRecursion P xs
-    → AllByRecursion Q xs
-each_weaker P Q f [] h = tt
-each_weaker P Q f (x ∷ xs) h = (f x h.0, each_weaker P Q f xs h.1)
-
 -- ---- rows
 
 module _ (q : Asked) (st : Station) (u : Usable) where
   -- the candidates of rows that pass are the series'
   rows_among : (rows : List Named) → AllByRecursion (λ row. is_row_of q st u row ≡ true) rows
-      → AllByRecursion (λ c. is_among (candidates q u) c ≡ true) (of_rows rows)
+      → AllByRecursion (λ c. is_one_of (candidates q u) c ≡ true) (of_rows rows)
   rows_among [] h = tt
   rows_among (row ∷ rows) h =
-      ((and_parts (is_among (candidates q u) row.0) (same_bytes (trimmed st.name) row.1) h.0).0, rows_among rows h.1)
+      ((and_parts (is_one_of (candidates q u) row.0) (same_bytes (trimmed st.name) row.1) h.0).0, rows_among rows h.1)
 
   -- and their names are the station's
   rows_named : (rows : List Named) → AllByRecursion (λ row. is_row_of q st u row ≡ true) rows
@@ -135,12 +116,12 @@ module _ (q : Asked) (st : Station) (u : Usable) where
   rows_named [] h = tt
   rows_named (row ∷ rows) h = (
     (bytes_decides (trimmed st.name) row.1).0
-        (and_parts (is_among (candidates q u) row.0) (same_bytes (trimmed st.name) row.1) h.0).1,
+        (and_parts (is_one_of (candidates q u) row.0) (same_bytes (trimmed st.name) row.1) h.0).1,
     rows_named rows h.1,
   )
 
   -- and back
-  rows_pass : (rows : List Named) → AllByRecursion (λ c. is_among (candidates q u) c ≡ true) (of_rows rows)
+  rows_pass : (rows : List Named) → AllByRecursion (λ c. is_one_of (candidates q u) c ≡ true) (of_rows rows)
       → AllByRecursion (λ row. trimmed st.name ≡ row.1) rows
       → AllByRecursion (λ row. is_row_of q st u row ≡ true) rows
   rows_pass [] h k = tt
@@ -173,7 +154,8 @@ module _ (q : Asked) (st : Station) (e : Entry) (printed : ℕ) (rows : List Nam
   right_from (Some u) h =
       let own = and_parts (same_id st.id e.id) (is_morsel q st (Some u)) h.0 in
       let each = each_passes (is_row_of q st u) rows h.1.1.0 in
-      let all = each_passes (λ c. not (is_within worst c) || is_among (of_rows rows) c) (candidates q u) h.1.1.1.0 in
+      let all = each_passes (λ c. not (is_within_worst worst c) || is_one_of (of_rows rows) c)
+      (candidates q u) h.1.1.1.0 in
       record {
         series = u;
         there = refl;
@@ -183,11 +165,12 @@ module _ (q : Asked) (st : Station) (e : Entry) (printed : ℕ) (rows : List Nam
         rows_are = λ c. (
           λ k. (
             among_held (candidates q u) c
-                (of_held (λ d. is_among (candidates q u) d ≡ true) (of_rows rows) c (rows_among q st u rows each) k),
-            of_held (λ d. is_within worst d ≡ true) (of_rows rows) c within.within k,
+                (of_each (λ d. is_one_of (candidates q u) d ≡ true) (of_rows rows) (rows_among q st u rows each) c k),
+            of_each (λ d. is_within_worst worst d ≡ true) (of_rows rows) within.within c k,
           ),
-          λ k. among_held (of_rows rows) c (or_rest (is_within worst c) (is_among (of_rows rows) c)
-              (of_held (λ d. (not (is_within worst d) || is_among (of_rows rows) d) ≡ true) (candidates q u) c all k.0)
+          λ k. among_held (of_rows rows) c (or_rest (is_within_worst worst c) (is_one_of (of_rows rows) c)
+              (of_each (λ d. (not (is_within_worst worst d) || is_one_of (of_rows rows) d) ≡ true)
+              (candidates q u) all c k.0)
               k.1),
         );
         names = rows_named q st u rows each;
@@ -204,16 +187,15 @@ module _ (q : Asked) (st : Station) (e : Entry) (printed : ℕ) (rows : List Nam
       ap (is_morsel q st) (sym h.there) ∙ h.morsel in
       let own : same_id st.id e.id ≡ true = ap (λ (i : StationId). same_id st.id i) (sym h.named)
       ∙ same_id-laws.refl st.id in
-      let among : AllByRecursion (λ c. is_among (candidates q h.series) c ≡ true) (of_rows rows) =
-      each_weaker (Contains (of_rows rows)) (λ c. is_among (candidates q h.series) c ≡ true)
-      (λ c k. held_among (candidates q h.series) c ((h.rows_are c).0 k).0) (of_rows rows) (each_held (of_rows rows)) in
-      let all : AllByRecursion (λ c. (not (is_within worst c) || is_among (of_rows rows) c) ≡ true)
+      let among : AllByRecursion (λ c. is_one_of (candidates q h.series) c ≡ true) (of_rows rows) =
+      each-weaker (Contains (of_rows rows)) (λ c. is_one_of (candidates q h.series) c ≡ true) (of_rows rows)
+      (λ c k. held_among (candidates q h.series) c ((h.rows_are c).0 k).0) (itself (of_rows rows)) in
+      let all : AllByRecursion (λ c. (not (is_within_worst worst c) || is_one_of (of_rows rows) c) ≡ true)
       (candidates q h.series) =
-      each_weaker (Contains (candidates q h.series))
-      (λ c. (not (is_within worst c) || is_among (of_rows rows) c) ≡ true)
-      (λ c k. or_made (is_within worst c) (is_among (of_rows rows) c)
-      (λ w. held_among (of_rows rows) c ((h.rows_are c).1 (k, w)))) (candidates q h.series)
-      (each_held (candidates q h.series)) in
+      each-weaker (Contains (candidates q h.series))
+      (λ c. (not (is_within_worst worst c) || is_one_of (of_rows rows) c) ≡ true) (candidates q h.series)
+      (λ c k. or_made (is_within_worst worst c) (is_one_of (of_rows rows) c)
+      (λ w. held_among (of_rows rows) c ((h.rows_are c).1 (k, w)))) (itself (candidates q h.series)) in
       subst (λ (o : Option Usable). AllByRecursion (λ t. t.0 ≡ true) (piece_tests q st o e printed rows worst))
       (sym h.there) (
         ap (λ (b : Bool). b && is_morsel q st (Some h.series)) own ∙ morsel,
@@ -222,7 +204,7 @@ module _ (q : Asked) (st : Station) (e : Entry) (printed : ℕ) (rows : List Nam
           (
             all_passes (is_row_of q st h.series) rows (rows_pass q st h.series rows among h.names),
             (
-              all_passes (λ c. not (is_within worst c) || is_among (of_rows rows) c) (candidates q h.series) all,
+              all_passes (λ c. not (is_within_worst worst c) || is_one_of (of_rows rows) c) (candidates q h.series) all,
               (
                 above_to e.bound (candidates q h.series) h.above,
                 (below_to e.skipped (is_below (score_of worst) e.bound) h.passed_over, tt),

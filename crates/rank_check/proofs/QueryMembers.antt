@@ -1,18 +1,19 @@
 -- The candidates, series and stations of a query, one by one.
-use Rattle.std.proofs.Common.{◌≡◌, Bool, true, false, not, List, [], ◌∷◌, length, filter, Option}
-use Rattle.std.proofs.Common.{Some, None, refl, sym, ap, ◌∙◌, subst, arith}
+use Rattle.std.proofs.Common.{◌≡◌, Bool, true, false, cond, not, List, [], ◌∷◌, length, map, filter, inl, inr, Option}
+use Rattle.std.proofs.Common.{Some, None, refl, sym, ap, ◌∙◌, subst}
 use Rattle.std.specs.Prelude.{◌==◌, ◌&&◌}
-use Rattle.std.specs.List.{find, AllByRecursion}
+use Rattle.std.specs.List.{find, IsDistinct}
 use Rattle.std.specs.List.Sorted.{IsPermutation}
 use Rattle.std.specs.Option.{option_map_or}
 use Rattle.std.proofs.lemmas.Bool.{and_parts, eqb-true}
-use Rattle.std.proofs.lemmas.List.Elements.{recursion_from_All, All-from_recursion}
-use Rattle.std.proofs.lemmas.List.Sorted.{All-permutation, IsPermutation-sym}
+use Rattle.std.proofs.lemmas.List.Sorted.{IsPermutation-sym}
+use Rattle.std.proofs.lemmas.Map.Keys.{IsDistinct-head, IsDistinct-tail}
+use Rattle.std.proofs.lemmas.List.{nil_from_length}
 use Rattle.ghcn_files.specs.declared.station.Station.{Station}
 use Rattle.ghcn_files.specs.declared.station.StationId.{StationId}
 use Rattle.ghcn_files.specs.declared.element.Element.{Element}
 use Rattle.ghcn_files.specs.Ids.{same_id}
-use Rattle.ghcn_files.specs.IdLaws.{same_id-is, same_id-laws}
+use Rattle.ghcn_files.proofs.IdLaws.{same_id-is, same_id-laws}
 use Rattle.ghcn_files.specs.Listed.{is_station_of}
 use Rattle.ghcn_series.specs.Series.{Usable, Contents, series_of, is_series_of}
 use Rattle.ghcn_series.specs.Held.{IsContents}
@@ -22,23 +23,28 @@ use Rattle.rank_scores.specs.declared.candidate.Candidate.{Candidate}
 use Rattle.rank_scores.specs.Candidates.{admitted, shape, candidates_among, candidates}
 use Rattle.rank_scores.specs.Morsels.{has_admitted, admitted_series, all_candidates, morsels, id_comes_first}
 use Rattle.rank_scores.proofs.QueryCandidates.{candidates-own}
-use Rattle.ghcn_fields.proofs.Ordered as ordered
+use Rattle.ghcn_files.proofs.Ordered as ordered
 use Rattle.rank_check.specs.Pieces.{is_morsel}
-use Rattle.ghcn_series.proofs.Members.{In, of_one, for_each, found_in, kept_in, in_kept, made_in, in_made, in_all}
-use Rattle.ghcn_series.proofs.Members.{all_in}
-use Rattle.ghcn_series.proofs.Members.{in_found}
+use Rattle.ghcn_series.proofs.Members.{In, of_one, found_in, kept_in, in_kept, made_in, in_made, in_all, all_in, in_map, in_permuted}
 
 -- what is there is in each permutation
 pub permuted_in : {X : Type 0} (xs ys : List X) → IsPermutation xs ys → (x : X) → In xs x → In ys x
-permuted_in xs ys p x h =
-    let own : AllByRecursion (In ys) ys = for_each (In ys) ys (λ y k. k) in
-    of_one (In ys) xs x (recursion_from_All (In ys) xs
-    (All-permutation (In ys) ys xs (IsPermutation-sym xs ys p) (All-from_recursion (In ys) ys own))) h
+permuted_in xs ys p x h = of_one (In ys) xs x (in_permuted xs ys p) h
 
--- a list without elements
-nil_from : {X : Type 0} (xs : List X) → length xs ≡ 0 → xs ≡ []
-nil_from [] e = refl
-nil_from (x ∷ xs) e = absurd (omega (arith, e))
+-- of elements of which no two are alike, the one that is there is found
+in_found : {X K : Type 0} (same : K → K → Bool) (key : X → K) (own : (a : K) → same a a ≡ true)
+    (xs : List X) (x : X) → IsDistinct same (map key xs) → In xs x
+    → find (λ y. same (key y) (key x)) xs ≡ Some x
+in_found same key own [] x d h = absurd h
+in_found same key own (y ∷ ys) x d (inl e) =
+    let yes : same (key y) (key x) ≡ true = ap (λ z. same (key z) (key x)) e ∙ own (key x) in
+    ap (λ (b : Bool). cond b (Some y) (find (λ z. same (key z) (key x)) ys)) yes ∙ ap (λ z. Some z) e
+in_found same key own (y ∷ ys) x d (inr h) =
+    let apart = IsDistinct-head same (key y) (map key ys) d in
+    let no : same (key y) (key x) ≡ false = of_one (λ k. same (key y) k ≡ false) (map key ys) (key x) apart
+    (in_map key ys x h) in
+    ap (λ (b : Bool). cond b (Some y) (find (λ z. same (key z) (key x)) ys)) no
+    ∙ in_found same key own ys x (IsDistinct-tail same (key y) (map key ys) d) h
 
 -- what isn't not so is so
 pub so : (b : Bool) → not b ≡ false → b ≡ true
@@ -59,7 +65,7 @@ module _ (q : Asked) (c : Contents) where
   -- a listed station is found by its ID
   pub listed_found : IsContents c → (st : Station) → In c.stations st → find (is_station_of st.id) c.stations ≡ Some st
   listed_found right st h =
-      in_found same_id (λ (s : Station). s.id) same_id-is same_id-laws.refl c.stations st right.listed.distinct h
+      in_found same_id (λ (s : Station). s.id) same_id-laws.refl c.stations st right.listed.distinct h
 
   -- a series of the query is that of an admitted station
   series_in : (u : Usable) → In (admitted_series q c) u → (st : Station) × In c.stations st
@@ -143,7 +149,7 @@ module _ (q : Asked) (c : Contents) where
   -- a series without an admitted day has none
   none_of : (u : Usable) → has_admitted q u ≡ false → candidates q u ≡ []
   none_of u e =
-      let none : admitted q u ≡ [] = nil_from (admitted q u) (eqb-true (length (admitted q u)) 0
+      let none : admitted q u ≡ [] = nil_from_length (admitted q u) (eqb-true (length (admitted q u)) 0
       (so (length (admitted q u) == 0) e)) in
       ap (candidates_among u.id (shape q.score)) none
 

@@ -11,8 +11,8 @@ use Rattle.rank_papers.specs.declared.paper.Row.{Row}
 use Rattle.rank_check.specs.declared.pieces.Wanted.{Wanted}
 use Rattle.rank_check.specs.declared.pieces.Reached.{Reached}
 use Rattle.rank_check.specs.Survey.{top_score, candidates_of}
-use Rattle.rank_check.specs.Tests.{is_among}
-use Rattle.rank_check.specs.Pieces.{is_within}
+use Rattle.rank_check.specs.Tests.{is_one_of}
+use Rattle.rank_check.specs.Pieces.{is_within_worst}
 use Rattle.rank_check.specs.Reach.{wanted_by, is_printed, is_missing, reached_by}
 use Rattle.rank_check.proofs.Surveying.{or_false, top-more}
 
@@ -25,10 +25,10 @@ or_apart false b c = refl
 
 -- it is found where it is among those that were offered
 pub wanted-found : (w : Wanted) (cs : List Candidate)
-    → (fold wanted_by w cs).found ≡ (w.found || is_among cs w.candidate)
+    → (fold wanted_by w cs).found ≡ (w.found || is_one_of cs w.candidate)
 wanted-found w [] = sym (or_false w.found)
 wanted-found w (c ∷ cs) =
-    wanted-found (wanted_by w c) cs ∙ or_apart w.found (is_eq (full_cmp c w.candidate)) (is_among cs w.candidate)
+    wanted-found (wanted_by w c) cs ∙ or_apart w.found (is_eq (full_cmp c w.candidate)) (is_one_of cs w.candidate)
 
 -- ---- rows and candidates
 
@@ -61,7 +61,7 @@ module _ (start : Reached) where
       ∙ ap reached (append_assoc cs (d ∷ []) ds)
 
 -- a candidate of a row
-printed-among : (rows : List Row) (c : Candidate) → is_printed rows c ≡ is_among (candidates_of rows) c
+printed-among : (rows : List Row) (c : Candidate) → is_printed rows c ≡ is_one_of (candidates_of rows) c
 printed-among [] c = refl
 printed-among (r ∷ rows) c = ap (λ (b : Bool). is_eq (full_cmp r.candidate c) || b) (printed-among rows c)
 
@@ -74,11 +74,12 @@ missing_or false p m = refl
 -- none is missing where the rows have all
 pub missing-all : (rows : List Row) (worst : Option Candidate) (cs : List Candidate)
     → list_any (is_missing rows worst) cs
-    ≡ not (list_all (λ c. not (is_within worst c) || is_among (candidates_of rows) c) cs)
+    ≡ not (list_all (λ c. not (is_within_worst worst c) || is_one_of (candidates_of rows) c) cs)
 missing-all rows worst [] = refl
 missing-all rows worst (c ∷ cs) =
     ap (λ (b : Bool). is_missing rows worst c || b) (missing-all rows worst cs)
-    ∙ ap (λ (b : Bool). (is_within worst c && not b)
-    || not (list_all (λ d. not (is_within worst d) || is_among (candidates_of rows) d) cs)) (printed-among rows c)
-    ∙ missing_or (is_within worst c) (is_among (candidates_of rows) c)
-    (list_all (λ d. not (is_within worst d) || is_among (candidates_of rows) d) cs)
+    ∙ ap (λ (b : Bool). (is_within_worst worst c && not b)
+    || not (list_all (λ d. not (is_within_worst worst d) || is_one_of (candidates_of rows) d) cs))
+    (printed-among rows c)
+    ∙ missing_or (is_within_worst worst c) (is_one_of (candidates_of rows) c)
+    (list_all (λ d. not (is_within_worst worst d) || is_one_of (candidates_of rows) d) cs)

@@ -17,8 +17,9 @@ use Rattle.rank_scores.specs.Order.{precedes, rank_in, AreApart}
 use Rattle.rank_scores.specs.Morsels.{all_candidates, best_of_query}
 use Rattle.rank_papers.specs.Report.{Named, trimmed}
 use Rattle.rank_papers.specs.ReportLines.{name_of}
-use Rattle.rank_check.specs.Tests.{is_among, is_named, row_before, row_tests, are_enough}
-use Rattle.rank_check.proofs.Each.{all_taken}
+use Rattle.rank_check.specs.Tests.{is_one_of, is_named, row_before, row_tests, are_enough}
+use Rattle.std.proofs.lemmas.List.{take_all}
+use Rattle.std.proofs.lemmas.Option.{slice_get-map}
 use Rattle.rank_check.proofs.Accepted.{Passes}
 use Rattle.rank_check.proofs.SortedCandidates.{in_order, ordered-descends, ordered-length, at_rank, rank_at, among}
 use Rattle.rank_check.proofs.SortedCandidates.{best_first, one_precedes}
@@ -57,9 +58,7 @@ take-next (y ∷ ys) (suc n) m x e = take-next ys n m x e
 -- what a list was made of stands where what was made does
 made_from : {X Y : Type 0} (f : X → Y) (xs : List X) (i : ℕ) (x : X) → slice_get xs i ≡ Some x
     → slice_get (map f xs) i ≡ Some (f x)
-made_from f [] i x e = absurd cc
-made_from f (y ∷ ys) zero x e = let same : y ≡ x = cc in ap (λ z. Some (f z)) same
-made_from f (y ∷ ys) (suc i) x e = made_from f ys i x e
+made_from f xs i x e = slice_get-map f xs i ∙ ap (option_map f) e
 
 -- what stands among the first of a list stands in the list
 from_first : {X : Type 0} (k : ℕ) (xs : List X) (i : ℕ) (x : X) → slice_get (take k xs) i ≡ Some x
@@ -81,7 +80,7 @@ taken-enough k n xs low e = by (nat_le k n) refl e
         ap (λ (m : ℕ). take m xs) same
     by false f g =
         let short : length xs ≤ n = leb-true (length xs) n g in
-        all_taken n xs short ∙ sym (all_taken k xs (omega arith))
+        take_all n xs short ∙ sym (take_all k xs (omega arith))
 
 -- and so it is where some are those that are taken
 enough-taken : {X : Type 0} (k n : ℕ) (xs : List X) → n ≡ length (take k xs)
@@ -111,8 +110,8 @@ module _ (q : Asked) (c : Contents) (apart : AreApart (all_candidates q c)) (row
       → candidates_of some ≡ take (length some) (drop n (in_order all))
   rows_stand n [] h = refl
   rows_stand n (row ∷ some) h =
-      let two : (is_among all row.0 ≡ true) × (is_named c.stations row ≡ true) =
-      and_parts (is_among all row.0) (is_named c.stations row) h.0 in
+      let two : (is_one_of all row.0 ≡ true) × (is_named c.stations row ≡ true) =
+      and_parts (is_one_of all row.0) (is_named c.stations row) h.0 in
       let place : n + 1 - 1 ≡ n = omega arith in
       let rank : (rank_in all row.0 == n) ≡ true =
       ap (λ (m : ℕ). rank_in all row.0 == m) (sym place) ∙ h.1.1.0 in
@@ -130,7 +129,7 @@ module _ (q : Asked) (c : Contents) (apart : AreApart (all_candidates q c)) (row
       → AllByRecursion (λ row. name_of c.stations row.0.id ≡ Some row.1) some
   rows_named n [] h = tt
   rows_named n (row ∷ some) h =
-      let two = and_parts (is_among all row.0) (is_named c.stations row) h.0 in
+      let two = and_parts (is_one_of all row.0) (is_named c.stations row) h.0 in
       (named_as c.stations row two.1, rows_named (n + 1) some h.1.1.1)
 
   -- rows whose tests pass are the best, where there are enough
@@ -180,7 +179,7 @@ module _ (q : Asked) (c : Contents) (apart : AreApart (all_candidates q c)) (row
         let here : slice_get rows n ≡ Some row = ap (slice_get rows) (sym zero_more) ∙ sym (there 0) in
         let in_place : slice_get (in_order all) n ≡ Some row.0 = row_at n row here in
         let place : n + 1 - 1 ≡ n = omega arith in
-        let is_candidate : (is_among all row.0 && is_named c.stations row) ≡ true =
+        let is_candidate : (is_one_of all row.0 && is_named c.stations row) ≡ true =
         ap (λ (b : Bool). b && is_named c.stations row) (among all apart n row.0 in_place)
         ∙ has_name c.stations row names.0 in
         let rank : (rank_in all row.0 == n + 1 - 1) ≡ true =

@@ -3,43 +3,38 @@ use Rattle.std.proofs.Common.{◌≡◌, inl, inr, ℕ, zero, suc, Bool, true, f
 use Rattle.std.proofs.Common.{filter, Option, Some, None, refl, sym, ap, ◌∙◌, subst, arith, ◌||◌, ℤ, ◌≤ℤ◌, ◌<ℤ◌}
 use Rattle.std.specs.Prelude.{slice_get}
 use Rattle.std.specs.List.{AllByRecursion}
-use Rattle.std.specs.Ordering.{is_lt, is_eq, int_cmp, nat_cmp, ordering_then, ordering_reverse, MatchOrdering}
+use Rattle.std.specs.Ordering.{is_lt, is_eq, int_cmp, nat_cmp, ordering_then, MatchOrdering}
 use Rattle.std.specs.Cmp.Lexicographic.{slice_cmp}
 use Rattle.std.specs.declared.cmp.Ordering.{Ordering}
 use Rattle.std.specs.declared.cmp.Ordering.TheVariants.{Less, Equal, Greater}
+use Rattle.std.specs.Cmp.{IsStrictWeakOrder}
 use Rattle.std.proofs.lemmas.Cmp.{int_ranked}
+use Rattle.std.proofs.lemmas.List.MinMax.{ranks_by}
 use Rattle.std.proofs.lemmas.Int.{ints}
 use Rattle.rank_scores.specs.declared.candidate.Candidate.{Candidate}
-use Rattle.rank_scores.specs.Order.{precedes, rank_cmp, full_cmp}
+use Rattle.rank_scores.specs.Order.{precedes, full_cmp}
 use Rattle.rank_scores.proofs.Ranks.{rank_cmp_total, Descends}
-use Rattle.ghcn_fields.proofs.Ordered as ordered
+use Rattle.ghcn_files.proofs.Ordered as ordered
 use Rattle.rank_papers.specs.Report.{Named}
 use Rattle.rank_head.specs.HeadTests.{of_rows}
 use Rattle.rank_head.specs.RightHead as head
-use Rattle.rank_check.specs.Pieces.{is_within, AreInOrder}
+use Rattle.rank_check.specs.Pieces.{is_within_worst, AreInOrder}
 use Rattle.ghcn_series.proofs.Members.{In, of_one, for_each}
 use Rattle.rank_check.proofs.SortedCandidates.{same_from_tie, own_tie}
 
 -- ---- precedence
 
--- what stands before
-less : (o : Ordering) → is_lt o ≡ true → o ≡ Less
-less Less e = refl
-less Equal e = absurd cc
-less Greater e = absurd cc
+-- precedence is an order
+ranks : IsStrictWeakOrder precedes
+ranks = ranks_by rank_cmp_total (λ c. c)
 
 -- what precedes what precedes
 pub precedes_on : (a b c : Candidate) → precedes a b ≡ true → precedes b c ≡ true → precedes a c ≡ true
-precedes_on a b c e f =
-    ap is_lt (rank_cmp_total.trans a b c (less (rank_cmp a b) e) (less (rank_cmp b c) f))
+precedes_on = ordered.before_on precedes ranks
 
 -- of two at most one precedes the other
 pub one_way : (a b : Candidate) → precedes a b ≡ true → precedes b a ≡ true → ⊥
-one_way a b e f =
-    let back : rank_cmp b a ≡ Greater =
-    rank_cmp_total.antisymm b a ∙ ap ordering_reverse (less (rank_cmp a b) e) in
-    let here : rank_cmp b a ≡ Less = less (rank_cmp b a) f in
-    let no : Less ≡ Greater = sym here ∙ back in absurd cc
+one_way = ordered.one_way precedes ranks
 
 -- none precedes itself
 not_itself : (a : Candidate) → precedes a a ≡ true → ⊥
@@ -48,15 +43,15 @@ not_itself a e = one_way a a e e
 -- ---- within
 
 -- the worst is within
-pub own_within : (w : Candidate) → is_within (Some w) w ≡ true
+pub own_within : (w : Candidate) → is_within_worst (Some w) w ≡ true
 own_within w = elim (precedes w w) as (λ b. (b || is_eq (full_cmp w w)) ≡ true) [ true ↦ refl | false ↦ own_tie w ]
 
 -- and so is what precedes it
-pub before_within : (w d : Candidate) → precedes d w ≡ true → is_within (Some w) d ≡ true
+pub before_within : (w d : Candidate) → precedes d w ≡ true → is_within_worst (Some w) d ≡ true
 before_within w d e = ap (λ (b : Bool). b || is_eq (full_cmp d w)) e
 
 -- what the worst precedes isn't within
-pub behind_out : (w d : Candidate) → precedes w d ≡ true → is_within (Some w) d ≡ true → ⊥
+pub behind_out : (w d : Candidate) → precedes w d ≡ true → is_within_worst (Some w) d ≡ true → ⊥
 behind_out w d e f = elim (precedes d w) as (λ b. precedes d w ≡ b → (b || is_eq (full_cmp d w)) ≡ true → ⊥) [
   | true ↦ λ t g. one_way w d e t
   | false ↦ λ t g. let same : d ≡ w = same_from_tie d w g in
@@ -64,11 +59,12 @@ behind_out w d e f = elim (precedes d w) as (λ b. precedes d w ≡ b → (b || 
 ] refl f
 
 -- what precedes one that is within is within
-pub within_on : (worst : Option Candidate) (a b : Candidate) → precedes a b ≡ true → is_within worst b ≡ true
-    → is_within worst a ≡ true
+pub within_on : (worst : Option Candidate) (a b : Candidate) → precedes a b ≡ true → is_within_worst worst b ≡ true
+    → is_within_worst worst a ≡ true
 within_on None a b e f = refl
 within_on (Some w) a b e f =
-    elim (precedes b w) as (λ t. precedes b w ≡ t → (t || is_eq (full_cmp b w)) ≡ true → is_within (Some w) a ≡ true) [
+    elim (precedes b w) as (λ t. precedes b w ≡ t → (t || is_eq (full_cmp b w)) ≡ true
+    → is_within_worst (Some w) a ≡ true) [
       | true ↦ λ t g. before_within w a (precedes_on a b w e t)
       | false ↦ λ t g. let same : b ≡ w = same_from_tie b w g in
           before_within w a (subst (λ (x : Candidate). precedes a x ≡ true) same e)
@@ -139,33 +135,35 @@ not_so false f = refl
 
 -- what is within is a front of the list
 pub within_front : (worst : Option Candidate) (cs : List Candidate) → Descends cs
-    → filter (is_within worst) cs ≡ take (length (filter (is_within worst) cs)) cs
+    → filter (is_within_worst worst) cs ≡ take (length (filter (is_within_worst worst) cs)) cs
 within_front worst [] h = refl
-within_front worst (c ∷ cs) h = by (within_front worst cs h.1) (is_within worst c) refl
+within_front worst (c ∷ cs) h = by (within_front worst cs h.1) (is_within_worst worst c) refl
   where
-    by : filter (is_within worst) cs ≡ take (length (filter (is_within worst) cs)) cs
-        → (b : Bool) → is_within worst c ≡ b
-        → cond b (c ∷ filter (is_within worst) cs) (filter (is_within worst) cs)
-        ≡ take (length (cond b (c ∷ filter (is_within worst) cs) (filter (is_within worst) cs))) (c ∷ cs)
+    by : filter (is_within_worst worst) cs ≡ take (length (filter (is_within_worst worst) cs)) cs
+        → (b : Bool) → is_within_worst worst c ≡ b
+        → cond b (c ∷ filter (is_within_worst worst) cs) (filter (is_within_worst worst) cs)
+        ≡ take (length (cond b (c ∷ filter (is_within_worst worst) cs) (filter (is_within_worst worst) cs))) (c ∷ cs)
     by rest true e = ap (λ (l : List Candidate). c ∷ l) rest
     by rest false e =
-        let none : filter (is_within worst) cs ≡ [] = none_kept (is_within worst) cs
-        (for_each (λ y. is_within worst y ≡ false) cs (λ y k. not_so (is_within worst y) (λ f.
+        let none : filter (is_within_worst worst) cs ≡ [] = none_kept (is_within_worst worst) cs
+        (for_each (λ y. is_within_worst worst y ≡ false) cs (λ y k. not_so (is_within_worst worst y) (λ f.
         let own = within_on worst c y (of_one (λ z. precedes c z ≡ true) cs y h.0 k) f in
         let no : false ≡ true = sym e ∙ own in absurd cc))) in
         none ∙ ap (λ (l : List Candidate). take (length l) (c ∷ cs)) (sym none)
 
 -- what is within the k-th, or all where there are fewer than k, are the first k
 pub first_within : (cs : List Candidate) (n : ℕ) → Descends cs
-    → filter (is_within (slice_get cs n)) cs ≡ take (suc n) cs
+    → filter (is_within_worst (slice_get cs n)) cs ≡ take (suc n) cs
 first_within [] n h = refl
 first_within (c ∷ cs) zero h =
-    ap (λ (b : Bool). cond b (c ∷ filter (is_within (Some c)) cs) (filter (is_within (Some c)) cs)) (own_within c)
-    ∙ ap (λ (l : List Candidate). c ∷ l) (none_kept (is_within (Some c)) cs
-    (for_each (λ y. is_within (Some c) y ≡ false) cs (λ y k. not_so (is_within (Some c) y)
+    ap (λ (b : Bool). cond b (c ∷ filter (is_within_worst (Some c)) cs) (filter (is_within_worst (Some c)) cs))
+    (own_within c)
+    ∙ ap (λ (l : List Candidate). c ∷ l) (none_kept (is_within_worst (Some c)) cs
+    (for_each (λ y. is_within_worst (Some c) y ≡ false) cs (λ y k. not_so (is_within_worst (Some c) y)
     (behind_out c y (of_one (λ z. precedes c z ≡ true) cs y h.0 k)))))
 first_within (c ∷ cs) (suc n) h =
-    ap (λ (b : Bool). cond b (c ∷ filter (is_within (slice_get cs n)) cs) (filter (is_within (slice_get cs n)) cs))
+    ap (λ (b : Bool). cond b (c ∷ filter (is_within_worst (slice_get cs n)) cs)
+    (filter (is_within_worst (slice_get cs n)) cs))
     (by (slice_get cs n) refl) ∙ ap (λ (l : List Candidate). c ∷ l) (first_within cs n h.1)
   where
     at : (xs : List Candidate) (i : ℕ) (w : Candidate) → slice_get xs i ≡ Some w → In xs w
@@ -173,34 +171,16 @@ first_within (c ∷ cs) (suc n) h =
     at (x ∷ xs) zero w e = let same : x ≡ w = cc in inl same
     at (x ∷ xs) (suc i) w e = inr (at xs i w e)
 
-    by : (o : Option Candidate) → slice_get cs n ≡ o → is_within o c ≡ true
+    by : (o : Option Candidate) → slice_get cs n ≡ o → is_within_worst o c ≡ true
     by None e = refl
     by (Some w) e = before_within w c (of_one (λ z. precedes c z ≡ true) cs w h.0 (at cs n w e))
 
 -- ---- one list
 
--- one precedes another
-abbrev Before : Candidate → Candidate → Type 0
-Before a b = precedes a b ≡ true
-
--- the same, said of the list
-descend : (cs : List Candidate) → Descends cs → ordered.Descend Before cs
-descend [] h = tt
-descend (c ∷ cs) h = (h.0, descend cs h.1)
-
--- and of what is there
-there : (cs : List Candidate) (c : Candidate) → In cs c → ordered.In Before cs c
-there [] c h = absurd h
-there (d ∷ cs) c (inl e) = inl e
-there (d ∷ cs) c (inr h) = inr (there cs c h)
-
 -- two lists of the same candidates, in each of which each precedes all behind it, are equal
 pub same_rows : (xs ys : List Candidate) → Descends xs → Descends ys → ((c : Candidate) → In xs c → In ys c)
     → ((c : Candidate) → In ys c → In xs c) → xs ≡ ys
-same_rows xs ys h k f g =
-    ordered.one_list Before one_way xs ys (descend xs h) (descend ys k)
-    (for_each (ordered.In Before ys) xs (λ c i. there ys c (f c i)))
-    (for_each (ordered.In Before xs) ys (λ c i. there xs c (g c i)))
+same_rows = ordered.one_rising precedes ranks
 
 -- ---- scores
 
@@ -234,7 +214,7 @@ precedes_score d w e =
     (ordering_then (slice_cmp nat_cmp d.id.0 w.id.0) (int_cmp d.first w.first)) e)
 
 -- what is within scores at least the k-th score
-pub within_score : (w d : Candidate) → is_within (Some w) d ≡ true → w.score ≤ℤ d.score
+pub within_score : (w d : Candidate) → is_within_worst (Some w) d ≡ true → w.score ≤ℤ d.score
 within_score w d e =
     elim (precedes d w) as (λ b. precedes d w ≡ b → (b || is_eq (full_cmp d w)) ≡ true → w.score ≤ℤ d.score) [
       | true ↦ λ t f. precedes_score d w t

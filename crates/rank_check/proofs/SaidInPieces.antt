@@ -1,5 +1,5 @@
 -- Where papers say what is right, all their pieces are right.
-use Rattle.std.proofs.Common.{◌≡◌, inl, inr, ℕ, suc, ◌-◌, ◌≤◌, Bool, true, false, cond, not, List, []}
+use Rattle.std.proofs.Common.{◌≡◌, inl, ℕ, suc, ◌-◌, ◌≤◌, Bool, true, false, cond, not, List, []}
 use Rattle.std.proofs.Common.{◌∷◌, length, map, take, filter, Option, Some, None, refl, sym, ap, ◌∙◌, subst, arith}
 use Rattle.std.proofs.Common.{◌||◌}
 use Rattle.std.proofs.Common.{ℤ, ◌≤ℤ◌, eq-eqb, Ok}
@@ -10,11 +10,12 @@ use Rattle.std.specs.Cmp.Lexicographic.{bytes_decides}
 use Rattle.std.proofs.lemmas.Bool.{and_parts, leb-true}
 use Rattle.std.proofs.lemmas.Int.{ints}
 use Rattle.std.proofs.lemmas.List.Sorted.{IsPermutation-sym}
+use Rattle.std.proofs.lemmas.Option.{slice_get-map}
 use Rattle.ghcn_fields.specs.Bytes.{same_bytes}
 use Rattle.ghcn_files.specs.declared.station.Station.{Station}
 use Rattle.ghcn_files.specs.declared.station.StationId.{StationId}
 use Rattle.ghcn_files.specs.Ids.{same_id}
-use Rattle.ghcn_files.specs.IdLaws.{same_id-is, same_id-laws}
+use Rattle.ghcn_files.proofs.IdLaws.{same_id-is, same_id-laws}
 use Rattle.ghcn_files.specs.Listed.{is_station_of}
 use Rattle.ghcn_series.specs.Series.{Usable, Contents}
 use Rattle.ghcn_series.specs.Held.{IsContents}
@@ -30,16 +31,15 @@ use Rattle.rank_papers.specs.Laws.{CertificatesAreRead, RightCertificatesSayRigh
 use Rattle.rank_head.specs.HeadTests.{of_rows, is_scanned}
 use Rattle.rank_check.specs.Laws.{AcceptedWhereRight}
 use Rattle.rank_papers.specs.Certificate.{Entry, Certified, IsRightEntry, SaysRight, count_of, counts_of, kth_of_best}
-use Rattle.rank_check.specs.Tests.{is_among}
-use Rattle.rank_check.specs.Pieces.{is_morsel, is_within, score_of, is_row_of, piece_tests}
+use Rattle.rank_check.specs.Tests.{is_one_of}
+use Rattle.rank_check.specs.Pieces.{is_morsel, is_within_worst, score_of, is_row_of, piece_tests}
 use Rattle.rank_check.specs.InPieces.{rows_with, worst_of, own_series, IsAccepted, IsAbsent, AreRightPieces}
 use Rattle.rank_check.specs.InPieces.{RightInPieces, AcceptedInPieces}
 use Rattle.rank_scores.specs.QueryCandidates.{CandidatesAreApart}
 use Rattle.rank_scores.proofs.Ranks.{Descends}
-use Rattle.rank_check.proofs.Failing.{slice_get-map}
 use Rattle.rank_check.proofs.KthScores.{kth-best, last_taken}
 use Rattle.ghcn_series.proofs.Members.{In, of_one, for_each, in_any, kept_in, in_kept, in_map}
-use Rattle.rank_check.proofs.Members.{in_among}
+use Rattle.rank_check.proofs.Members.{in_among, zip_in}
 use Rattle.rank_check.proofs.Piecing.{none_failing, all_passes, or_made}
 use Rattle.rank_check.proofs.PiecesSay.{row_in, rows_counted, pieces_say}
 use Rattle.rank_check.proofs.QueryMembers.{permuted_in, own_id, listed_found, station_of, morsel_of, is_morsel_of}
@@ -50,17 +50,6 @@ use Rattle.rank_check.proofs.RowsWithin.{order_rows, kept_descends, descends_ord
 use Rattle.rank_check.proofs.SortedCandidates.{in_order, ordered-permutation, ordered-descends, best_first}
 
 -- ---- two lists, one by one
-
--- the element of the one that goes with one of the other
-zip_in : {X Y : Type 0} (R : X → Y → Type 0) (xs : List X) (ys : List Y) → AllZip R xs ys → (y : Y) → In ys y
-    → (x : X) × In xs x × R x y
-zip_in R [] [] h y k = absurd k
-zip_in R [] (z ∷ ys) h y k = absurd h
-zip_in R (x ∷ xs) [] h y k = absurd h
-zip_in {X = X} R (x ∷ xs) (z ∷ ys) h y k = elim k [
-  | inl e ↦ (x, inl refl, subst (R x) e h.0)
-  | inr l ↦ let rest = zip_in R xs ys h.1 y l in (rest.0, inr rest.1, rest.2)
-]
 
 -- the IDs of entries that name series are theirs
 named_ids : (q : Asked) (kth : Option ℤ) (es : List Entry) (ms : List Usable) → AllZip (IsRightEntry q kth) es ms
@@ -80,7 +69,7 @@ not_both a b c e f g = grind (arith, ints)
 
 -- nothing that is within has a score of at most a bound below the k-th score
 below_out : (worst : Option Candidate) (bound : ℤ) (d : Candidate) → is_below (score_of worst) bound ≡ true
-    → is_within worst d ≡ true → d.score ≤ℤ bound → ⊥
+    → is_within_worst worst d ≡ true → d.score ≤ℤ bound → ⊥
 below_out None bound d e w h = cc
 below_out (Some w) bound d e k h = not_both w.score bound d.score e (within_score w d k) h
 
@@ -108,27 +97,27 @@ module _ (q : Asked) (c : Contents) (right : IsContents c) (apart : AreApart (al
       ∙ last_taken (q.k - 1) xs
 
   -- so they are those that are within
-  pub rows_within : of_rows rows ≡ filter (is_within worst) xs
+  pub rows_within : of_rows rows ≡ filter (is_within_worst worst) xs
   rows_within =
       let next : suc (q.k - 1) ≡ q.k = omega (arith, some) in
       first_are ∙ ap (λ (n : ℕ). take n xs) (sym next)
       ∙ sym (first_within xs (q.k - 1) (ordered-descends (all_candidates q c) apart))
-      ∙ ap (λ (o : Option Candidate). filter (is_within o) xs) (sym worst_at)
+      ∙ ap (λ (o : Option Candidate). filter (is_within_worst o) xs) (sym worst_at)
 
   -- a row is a candidate that is within
-  row_candidate : (d : Candidate) → In (of_rows rows) d → In (all_candidates q c) d × (is_within worst d ≡ true)
+  row_candidate : (d : Candidate) → In (of_rows rows) d → In (all_candidates q c) d × (is_within_worst worst d ≡ true)
   row_candidate d h =
-      let kept = kept_in (is_within worst) xs d (subst (λ (l : List Candidate). In l d) rows_within h) in (
+      let kept = kept_in (is_within_worst worst) xs d (subst (λ (l : List Candidate). In l d) rows_within h) in (
         permuted_in xs (all_candidates q c)
             (IsPermutation-sym (all_candidates q c) xs (ordered-permutation (all_candidates q c))) d kept.0,
         kept.1,
       )
 
   -- and back
-  candidate_row : (d : Candidate) → In (all_candidates q c) d → is_within worst d ≡ true → In (of_rows rows) d
+  candidate_row : (d : Candidate) → In (all_candidates q c) d → is_within_worst worst d ≡ true → In (of_rows rows) d
   candidate_row d h w =
       subst (λ (l : List Candidate). In l d) (sym rows_within)
-      (in_kept (is_within worst) xs d
+      (in_kept (is_within_worst worst) xs d
       (permuted_in (all_candidates q c) xs (ordered-permutation (all_candidates q c)) d h) w)
 
   -- the k-th score is that of the worst
@@ -139,7 +128,7 @@ module _ (q : Asked) (c : Contents) (right : IsContents c) (apart : AreApart (al
 
   -- a row of a morsel's station is one of its candidates
   row_of_morsel : (u : Usable) → In (morsels q c) u → (row : Named) → In rows row → row.0.id ≡ u.id
-      → In (candidates q u) row.0 × (is_within worst row.0 ≡ true)
+      → In (candidates q u) row.0 × (is_within_worst worst row.0 ≡ true)
   row_of_morsel u h row k e =
       let is = row_candidate row.0 (in_map (λ (r : Named). r.0) rows row k) in
       let v = candidate_in q c row.0 is.0 in
@@ -199,10 +188,12 @@ module _ (q : Asked) (c : Contents) (right : IsContents c) (apart : AreApart (al
         let name : trimmed there.0.name ≡ row.1 = cc in
         ap (λ (b : Bool). b && same_bytes (trimmed there.0.name) row.1) (in_among (candidates q u) row.0 is.0)
         ∙ (bytes_decides (trimmed there.0.name) row.1).1 name) in
-        let all : AllByRecursion (λ d. (not (is_within worst d) || is_among (of_rows (rows_with e.id rows)) d) ≡ true)
+        let all : AllByRecursion (λ d. (not (is_within_worst worst d) || is_one_of (of_rows (rows_with e.id rows)) d)
+        ≡ true)
         (candidates q u) =
-        for_each (λ d. (not (is_within worst d) || is_among (of_rows (rows_with e.id rows)) d) ≡ true) (candidates q u)
-        (λ d k. or_made (is_within worst d) (is_among (of_rows (rows_with e.id rows)) d) (λ w.
+        for_each (λ d. (not (is_within_worst worst d) || is_one_of (of_rows (rows_with e.id rows)) d) ≡ true)
+        (candidates q u)
+        (λ d k. or_made (is_within_worst worst d) (is_one_of (of_rows (rows_with e.id rows)) d) (λ w.
         let row = row_in rows d (candidate_row d (in_candidates q c u d h k) w) in
         let own : row.0.0.id ≡ e.id =
         ap (λ (x : Candidate). x.id) row.2 ∙ candidate_id q c u d k ∙ sym r.named in
@@ -221,7 +212,8 @@ module _ (q : Asked) (c : Contents) (right : IsContents c) (apart : AreApart (al
             (
               all_passes (is_row_of q there.0 u) (rows_with e.id rows) each,
               (
-                all_passes (λ d. not (is_within worst d) || is_among (of_rows (rows_with e.id rows)) d) (candidates q u)
+                all_passes (λ d. not (is_within_worst worst d) || is_one_of (of_rows (rows_with e.id rows)) d)
+                    (candidates q u)
                     all,
                 (
                   above_to e.bound (candidates q u) r.above,
@@ -314,7 +306,7 @@ said_in_pieces q c r z asked right apart version h =
         certificate = h.1.asked;
         order = order_rows r.rows (descends_order (of_rows r.rows) (subst Descends
             (sym (rows_within q c right apart some r.rows h.0.best))
-            (kept_descends (is_within (worst_of q.k r.rows)) (in_order (all_candidates q c))
+            (kept_descends (is_within_worst (worst_of q.k r.rows)) (in_order (all_candidates q c))
             (ordered-descends (all_candidates q c) apart))));
         kth = kth ∙ sym (ap score_of (slice_get-map (λ (row : Named). row.0) r.rows (q.k - 1)));
         rise = ids_rise z.entries up;

@@ -1,73 +1,35 @@
 -- The candidates of a query in order, and the rank of each.
 use Rattle.std.proofs.Common.{◌≡◌, ℕ, zero, suc, Bool, true, false, List, [], ◌∷◌, length, take, Some, refl, sym}
 use Rattle.std.proofs.Common.{ap, ◌∙◌, subst, ◌||◌}
-use Rattle.std.specs.Prelude.{slice_get, ◌==◌, ◌&&◌}
-use Rattle.std.specs.List.{IsDistinct}
+use Rattle.std.specs.Prelude.{slice_get, ◌==◌}
 use Rattle.std.specs.List.Sorted.{IsPermutation}
-use Rattle.std.specs.Ordering.{is_lt, is_le, is_eq, int_cmp, nat_cmp, int_eq, ordering_then}
+use Rattle.std.specs.Ordering.{is_le, is_eq, int_cmp, nat_cmp, ordering_then}
 use Rattle.std.specs.declared.cmp.Ordering.{Ordering}
-use Rattle.std.specs.declared.cmp.Ordering.TheVariants.{Less, Equal, Greater}
 use Rattle.std.specs.Cmp.{tied_then}
 use Rattle.std.specs.Cmp.Lexicographic.{slice_cmp}
 use Rattle.std.proofs.lemmas.Bool.{eqb-true, and_parts}
 use Rattle.std.proofs.lemmas.Bool.Decides.{Decides-int_eq}
-use Rattle.std.proofs.lemmas.Cmp.{tied_itself, int_eq_equiv, nat_list_eq_equiv}
+use Rattle.std.proofs.lemmas.Cmp.{tied_itself}
 use Rattle.std.proofs.lemmas.Map.Text.{is_eq-slice_cmp}
 use Rattle.std.proofs.lemmas.List.Sorted.{list_any-IsPermutation, length_permutation}
-use Rattle.std.proofs.lemmas.Map.Keys.{IsDistinct-IsPermutation}
 use Rattle.ghcn_fields.specs.Sorting.{sorted_by}
-use Rattle.ghcn_files.specs.Ids.{same_id}
-use Rattle.ghcn_files.specs.IdLaws.{same_id-is}
+use Rattle.ghcn_files.proofs.IdLaws.{same_id-is}
 use Rattle.ghcn_series.proofs.Members.{found_in}
 use Rattle.rank_scores.specs.declared.candidate.Candidate.{Candidate}
 use Rattle.rank_scores.specs.Order.{precedes, rank_cmp, full_cmp, rank_in, best, begin_alike, AreApart}
-use Rattle.rank_scores.proofs.Listing.{full_cmp_total}
+use Rattle.rank_scores.proofs.Listing.{full_cmp_total, tied_alike, alike-symm}
 use Rattle.rank_scores.proofs.Ranks.{rank_cmp_total, Descends, of_rank-is, best-is}
-use Rattle.rank_check.specs.Tests.{is_among}
-use Rattle.ghcn_fields.proofs.Ordered.{each-weaker, sorted-permutation, sorted-in_turn, descends, IsBefore, Descend}
-use Rattle.rank_check.proofs.Each.{each-at}
+use Rattle.rank_check.specs.Tests.{is_one_of}
+use Rattle.ghcn_files.proofs.Ordered.{sorted-permutation, sorted-rise}
+use Rattle.ghcn_series.proofs.ListFacts.{from_all}
 
 -- the first of two in order, or they tie
 abbrev stands_first : Candidate → Candidate → Bool
 stands_first a b = is_le (rank_cmp a b)
 
--- which of two candidates is named first makes no difference
-alike-turned : (a b : Candidate) → begin_alike a b ≡ begin_alike b a
-alike-turned a b = ap (λ (t : Bool). t && int_eq a.first b.first) (nat_list_eq_equiv.symm (a.id.0) (b.id.0))
-    ∙ ap (λ (t : Bool). same_id b.id a.id && t) (int_eq_equiv.symm a.first b.first)
-
 -- comparisons one after the other that tie
 both_tie : (o p : Ordering) → is_eq (ordering_then o p) ≡ true → (is_eq o ≡ true) × (is_eq p ≡ true)
 both_tie o p e = and_parts (is_eq o) (is_eq p) (tied_then o p ∙ e)
-
--- candidates that tie begin alike
-tied_alike : (a b : Candidate) → rank_cmp a b ≡ Equal → begin_alike a b ≡ true
-tied_alike a b e =
-    let ids = slice_cmp nat_cmp a.id.0 b.id.0 in
-    let behind = both_tie (int_cmp b.score a.score) (ordering_then ids (int_cmp a.first b.first)) (ap is_eq e) in
-    let last = both_tie ids (int_cmp a.first b.first) behind.1 in
-    let one : same_id a.id b.id ≡ true = sym (is_eq-slice_cmp (a.id.0) (b.id.0)) ∙ last.0 in
-    ap (λ (t : Bool). t && int_eq a.first b.first) one ∙ last.1
-
--- one that isn't behind another and doesn't tie with it precedes it
-strictly_first : (o : Ordering) → is_le o ≡ true → (o ≡ Equal → ⊥) → is_lt o ≡ true
-strictly_first Less h n = refl
-strictly_first Equal h n = absurd (n refl)
-strictly_first Greater h n = absurd cc
-
--- of two that begin apart
-apart_precedes : (a b : Candidate) → stands_first a b ≡ true → begin_alike a b ≡ false → precedes a b ≡ true
-apart_precedes a b h n = strictly_first (rank_cmp a b) h (λ e. let yes = tied_alike a b e in absurd cc)
-
--- each precedes all that stand behind it
-all_precede : (xs : List Candidate)
-    → Descend (IsBefore rank_cmp rank_cmp_total stands_first (λ a b. refl) begin_alike alike-turned tied_alike) xs
-    → Descends xs
-all_precede [] h = tt
-all_precede (x ∷ xs) h = (
-  each-weaker _ (λ y. precedes x y ≡ true) xs (λ y k. apart_precedes x y k.0 k.1) h.0,
-  all_precede xs h.1,
-)
 
 -- candidates in order
 abbrev pub in_order : List Candidate → List Candidate
@@ -79,12 +41,8 @@ ordered-permutation all = sorted-permutation stands_first all
 
 -- where no two begin alike, each precedes all behind it
 pub ordered-descends : (all : List Candidate) → AreApart all → Descends (in_order all)
-ordered-descends all apart =
-    let sorted : List Candidate = in_order all in
-    let still : IsDistinct begin_alike sorted =
-    IsDistinct-IsPermutation begin_alike alike-turned all sorted (ordered-permutation all) apart in
-    all_precede sorted (descends rank_cmp rank_cmp_total stands_first (λ a b. refl) begin_alike alike-turned tied_alike
-    sorted (sorted-in_turn rank_cmp rank_cmp_total stands_first (λ a b. refl) all) still)
+ordered-descends =
+    sorted-rise rank_cmp rank_cmp_total stands_first (λ a b. refl) begin_alike alike-symm tied_alike
 
 -- ---- the one at a place
 
@@ -106,23 +64,23 @@ pub own_tie : (c : Candidate) → is_eq (full_cmp c c) ≡ true
 own_tie c = ap is_eq (tied_itself full_cmp_total c)
 
 -- what is among some has a place there
-pub place_among : (xs : List Candidate) (c : Candidate) → is_among xs c ≡ true → (i : ℕ) × (slice_get xs i ≡ Some c)
+pub place_among : (xs : List Candidate) (c : Candidate) → is_one_of xs c ≡ true → (i : ℕ) × (slice_get xs i ≡ Some c)
 place_among [] c e = absurd cc
 place_among (x ∷ xs) c e =
-    elim (is_eq (full_cmp x c)) as (λ b. is_eq (full_cmp x c) ≡ b → (b || is_among xs c) ≡ true
+    elim (is_eq (full_cmp x c)) as (λ b. is_eq (full_cmp x c) ≡ b → (b || is_one_of xs c) ≡ true
     → (i : ℕ) × (slice_get (x ∷ xs) i ≡ Some c)) [
       | true ↦ λ t f. (0, ap (λ (d : Candidate). Some d) (same_from_tie x c t))
       | false ↦ λ t f. let rest = place_among xs c f in (suc rest.0, rest.1)
     ] refl e
 
 -- what has a place is among them
-pub among_at : (xs : List Candidate) (i : ℕ) (c : Candidate) → slice_get xs i ≡ Some c → is_among xs c ≡ true
+pub among_at : (xs : List Candidate) (i : ℕ) (c : Candidate) → slice_get xs i ≡ Some c → is_one_of xs c ≡ true
 among_at [] i c e = absurd cc
 among_at (x ∷ xs) zero c e =
     let same : x ≡ c = cc in
-    ap (λ (b : Bool). b || is_among xs c) (ap (λ (d : Candidate). is_eq (full_cmp d c)) same ∙ own_tie c)
+    ap (λ (b : Bool). b || is_one_of xs c) (ap (λ (d : Candidate). is_eq (full_cmp d c)) same ∙ own_tie c)
 among_at (x ∷ xs) (suc i) c e =
-    elim (is_eq (full_cmp x c)) as (λ b. (b || is_among xs c) ≡ true) [ true ↦ refl | false ↦ among_at xs i c e ]
+    elim (is_eq (full_cmp x c)) as (λ b. (b || is_one_of xs c) ≡ true) [ true ↦ refl | false ↦ among_at xs i c e ]
 
 module _ (all : List Candidate) (apart : AreApart all) where
   -- the rank is the place in order
@@ -131,7 +89,7 @@ module _ (all : List Candidate) (apart : AreApart all) where
       (of_rank-is all (in_order all) (ordered-permutation all) (ordered-descends all apart) i ∙ e)).1
 
   -- a candidate of a rank stands at that place in order
-  pub at_rank : (i : ℕ) (c : Candidate) → is_among all c ≡ true → (rank_in all c == i) ≡ true
+  pub at_rank : (i : ℕ) (c : Candidate) → is_one_of all c ≡ true → (rank_in all c == i) ≡ true
       → slice_get (in_order all) i ≡ Some c
   at_rank i c among rank =
       let sorted : List Candidate = in_order all in
@@ -142,7 +100,7 @@ module _ (all : List Candidate) (apart : AreApart all) where
       ap (slice_get sorted) (sym asked ∙ own) ∙ there.1
 
   -- what stands at a place in order is a candidate
-  pub among : (i : ℕ) (c : Candidate) → slice_get (in_order all) i ≡ Some c → is_among all c ≡ true
+  pub among : (i : ℕ) (c : Candidate) → slice_get (in_order all) i ≡ Some c → is_one_of all c ≡ true
   among i c e =
       list_any-IsPermutation (λ d. is_eq (full_cmp d c)) all (in_order all) (ordered-permutation all)
       ∙ among_at (in_order all) i c e
@@ -161,5 +119,5 @@ pub one_precedes : (xs : List Candidate) (i : ℕ) (a b : Candidate) → Descend
 one_precedes [] i a b d e f = absurd cc
 one_precedes (x ∷ xs) zero a b d e f =
     let same : x ≡ a = cc in
-    subst (λ (y : Candidate). precedes y b ≡ true) same (each-at (λ y. precedes x y ≡ true) xs 0 b d.0 f)
+    subst (λ (y : Candidate). precedes y b ≡ true) same (from_all (λ y. precedes x y ≡ true) xs 0 b d.0 f)
 one_precedes (x ∷ xs) (suc i) a b d e f = one_precedes xs i a b d.1 e f

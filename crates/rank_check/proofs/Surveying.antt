@@ -1,10 +1,9 @@
--- What a pass over all data finds, candidate by candidate and station by station.
-use Rattle.std.proofs.Common.{◌≡◌, ℕ, zero, suc, ◌+◌, ◌<◌, Bool, true, false, cond, List, [], ◌∷◌, ◌++◌, length, take}
-use Rattle.std.proofs.Common.{map, filter, Option, Some, None, refl, sym, ap, ◌∙◌, subst, arith, append-nil}
+-- What a pass over all data finds, candidate by candidate and series by series.
+use Rattle.std.proofs.Common.{◌≡◌, ℕ, ◌+◌, ◌<◌, Bool, true, false, cond, List, [], ◌∷◌, ◌++◌, length, take}
+use Rattle.std.proofs.Common.{map, Option, Some, None, refl, sym, ap, ◌∙◌, subst, arith, append-nil}
 use Rattle.std.proofs.Common.{append_assoc}
-use Rattle.std.proofs.Common.{◌||◌, ℤ, option_to_list, get_or}
-use Rattle.std.specs.Prelude.{slice_get}
-use Rattle.std.specs.List.{fold, filter_map, flat_map, cons_option}
+use Rattle.std.proofs.Common.{◌||◌, ℤ, get_or}
+use Rattle.std.specs.List.{fold, flat_map}
 use Rattle.std.specs.Int.{int_max}
 use Rattle.std.specs.Ordering.{is_eq, is_lt, is_le, int_cmp, ordering_then}
 use Rattle.std.specs.declared.cmp.Ordering.{Ordering}
@@ -14,25 +13,22 @@ use Rattle.std.proofs.lemmas.List.{length-append, map-append}
 use Rattle.std.proofs.lemmas.List.Folds.{list_any-append}
 use Rattle.std.proofs.lemmas.List.Sums.{sum_by-append, sum_by-cons}
 use Rattle.std.proofs.lemmas.Grind.{flat_map-append}
-use Rattle.ghcn_files.specs.declared.station.Station.{Station}
-use Rattle.ghcn_series.specs.Series.{Usable, Contents, series_of}
+use Rattle.ghcn_series.specs.Series.{Usable}
 use Rattle.ghcn_series.specs.Says.{in_64_bits}
-use Rattle.rank_query.specs.Asked.{Asked, score_element}
-use Rattle.rank_query.specs.Admits.{admits_station}
+use Rattle.rank_query.specs.Asked.{Asked}
 use Rattle.rank_scores.specs.declared.candidate.Candidate.{Candidate}
 use Rattle.rank_scores.specs.Candidates.{candidates}
 use Rattle.rank_scores.specs.Order.{full_cmp, rank_cmp, precedes, rank_in}
 use Rattle.rank_scores.proofs.Listing.{full_cmp_total}
 use Rattle.rank_check.specs.declared.tally.Met.{Met}
-use Rattle.rank_check.specs.Tests.{is_among}
-use Rattle.ghcn_fields.proofs.Ordered.{each-weaker, first_trans, first_either}
+use Rattle.rank_check.specs.Tests.{is_one_of}
+use Rattle.ghcn_files.proofs.Ordered.{each-weaker, first_trans, first_either}
 use Rattle.rank_check.specs.Marks.{known}
-use Rattle.rank_check.proofs.Each.{take-nil, each-more}
-use Rattle.rank_scores.specs.Morsels.{has_admitted}
+use Rattle.rank_check.proofs.Each.{each-more}
 use Rattle.rank_check.specs.Survey.{IsLast, reaches, later, top, met, met_by, raised, top_score, Tallied}
 use Rattle.rank_check.specs.declared.tally.Mark.{Mark}
-use Rattle.rank_check.specs.Survey.{taken}
-use Rattle.rank_check.specs.Survey.{reset, series_at, series_there}
+use Rattle.rank_check.specs.Survey.{tally_with}
+use Rattle.rank_check.specs.Survey.{reset}
 
 -- ---- one candidate more
 
@@ -43,8 +39,8 @@ or_false false = refl
 
 -- it may be the row's
 among-more : (cs : List Candidate) (d c : Candidate)
-    → (is_among cs c || is_eq (full_cmp d c)) ≡ is_among (cs ++ d ∷ []) c
-among-more cs d c = ap (λ (b : Bool). is_among cs c || b) (sym (or_false (is_eq (full_cmp d c))))
+    → (is_one_of cs c || is_eq (full_cmp d c)) ≡ is_one_of (cs ++ d ∷ []) c
+among-more cs d c = ap (λ (b : Bool). is_one_of cs c || b) (sym (or_false (is_eq (full_cmp d c))))
     ∙ sym (list_any-append (λ x. is_eq (full_cmp x c)) cs (d ∷ []))
 
 -- a test, as a number that counts
@@ -109,7 +105,7 @@ tallied rows cs since = record {
 
 -- one more
 tallied-more : (rows cs since : List Candidate) (d : Candidate)
-    → taken (tallied rows cs since) d ≡ tallied rows (cs ++ d ∷ []) (since ++ d ∷ [])
+    → tally_with (tallied rows cs since) d ≡ tallied rows (cs ++ d ∷ []) (since ++ d ∷ [])
 tallied-more rows cs since d =
     let long : length (cs ++ d ∷ []) ≡ length cs + 1 = length-append cs (d ∷ []) in
     let many : in_64_bits (in_64_bits (length cs) + 1) ≡ in_64_bits (length (cs ++ d ∷ [])) =
@@ -118,12 +114,12 @@ tallied-more rows cs since d =
 
 -- and some more
 pub tallied-all : (rows cs since ds : List Candidate)
-    → fold taken (tallied rows cs since) ds ≡ tallied rows (cs ++ ds) (since ++ ds)
+    → fold tally_with (tallied rows cs since) ds ≡ tallied rows (cs ++ ds) (since ++ ds)
 tallied-all rows cs since [] =
     ap (λ (l : List Candidate). tallied rows l since) (sym (append-nil cs))
     ∙ ap (λ (l : List Candidate). tallied rows (cs ++ []) l) (sym (append-nil since))
 tallied-all rows cs since (d ∷ ds) =
-    ap (λ (t : Tallied). fold taken t ds) (tallied-more rows cs since d)
+    ap (λ (t : Tallied). fold tally_with t ds) (tallied-more rows cs since d)
     ∙ tallied-all rows (cs ++ d ∷ []) (since ++ d ∷ []) ds
     ∙ ap (λ (l : List Candidate). tallied rows l ((since ++ d ∷ []) ++ ds)) (append_assoc cs (d ∷ []) ds)
     ∙ ap (λ (l : List Candidate). tallied rows (cs ++ d ∷ ds) l) (append_assoc since (d ∷ []) ds)
@@ -132,7 +128,7 @@ tallied-all rows cs since (d ∷ ds) =
 pub scanned-more : (q : Asked) (rows : List Candidate) (ss : List Usable) (s : Usable) (t new : Tallied)
     → t.rows ≡ map (met (flat_map (candidates q) ss)) rows
     → t.count ≡ in_64_bits (length (flat_map (candidates q) ss))
-    → new ≡ fold taken (reset t) (candidates q s)
+    → new ≡ fold tally_with (reset t) (candidates q s)
     → new ≡ tallied rows (flat_map (candidates q) (ss ++ s ∷ [])) (candidates q s)
 scanned-more q rows ss s t new e f scan =
     let cs : List Candidate = flat_map (candidates q) ss in
@@ -140,40 +136,16 @@ scanned-more q rows ss s t new e f scan =
     let alone : flat_map (candidates q) (s ∷ []) ≡ candidates q s = append-nil (candidates q s) in
     let all : cs ++ candidates q s ≡ flat_map (candidates q) (ss ++ s ∷ []) =
     sym (flat_map-append (candidates q) ss (s ∷ []) ∙ ap (λ (l : List Candidate). cs ++ l) alone) in
-    scan ∙ ap (λ (x : Tallied). fold taken x (candidates q s)) begin
+    scan ∙ ap (λ (x : Tallied). fold tally_with x (candidates q s)) begin
     ∙ tallied-all rows cs [] (candidates q s)
     ∙ ap (λ (l : List Candidate). tallied rows l (candidates q s)) all
 
--- those that pass, of one more
-filter-more : {X : Type 0} (p : X → Bool) (xs : List X) (x : X)
-    → filter p (xs ++ x ∷ []) ≡ filter p xs ++ cond (p x) (x ∷ []) []
-filter-more p [] x = refl
-filter-more p (y ∷ ys) x =
-    elim (p y) as (λ b. cond b (y ∷ filter p (ys ++ x ∷ [])) (filter p (ys ++ x ∷ []))
-    ≡ cond b (y ∷ filter p ys) (filter p ys) ++ cond (p x) (x ∷ []) []) [
-      | true ↦ ap (λ l. y ∷ l) (filter-more p ys x)
-      | false ↦ filter-more p ys x
-    ]
-
--- a series with an admitted day has its greatest score put behind those before it
-pub top-kept : (q : Asked) (ss : List Usable) (s : Usable) (highest : Option ℤ) → has_admitted q s ≡ true
-    → highest ≡ top_score (candidates q s)
-    → map (top q) (filter (has_admitted q) ss) ++ record { id = s.id; highest = highest } ∷ []
-    ≡ map (top q) (filter (has_admitted q) (ss ++ s ∷ []))
-top-kept q ss s highest has e =
-    let kept : filter (has_admitted q) (ss ++ s ∷ []) ≡ filter (has_admitted q) ss ++ s ∷ [] =
-    filter-more (has_admitted q) ss s
-    ∙ ap (λ (b : Bool). filter (has_admitted q) ss ++ cond b (s ∷ []) []) has in
-    ap (λ (h : Option ℤ). map (top q) (filter (has_admitted q) ss) ++ record { id = s.id; highest = h } ∷ []) e
-    ∙ sym (ap (map (top q)) kept ∙ map-append (top q) (filter (has_admitted q) ss) (s ∷ []))
-
--- and one without is passed over
-pub top-left : (q : Asked) (ss : List Usable) (s : Usable) → has_admitted q s ≡ false
-    → map (top q) (filter (has_admitted q) ss) ≡ map (top q) (filter (has_admitted q) (ss ++ s ∷ []))
-top-left q ss s none =
-    sym (ap (map (top q)) (filter-more (has_admitted q) ss s
-    ∙ ap (λ (b : Bool). filter (has_admitted q) ss ++ cond b (s ∷ []) []) none
-    ∙ append-nil (filter (has_admitted q) ss)))
+-- its ID and greatest score stand behind those before it
+pub top-behind : (q : Asked) (ss : List Usable) (s : Usable) (highest : Option ℤ) → highest ≡ top_score (candidates q s)
+    → map (top q) ss ++ record { id = s.id; highest = highest } ∷ [] ≡ map (top q) (ss ++ s ∷ [])
+top-behind q ss s highest e =
+    ap (λ (h : Option ℤ). map (top q) ss ++ record { id = s.id; highest = h } ∷ []) e
+    ∙ sym (map-append (top q) ss (s ∷ []))
 
 -- ---- rows that a candidate can't be, nor stand before
 
@@ -253,37 +225,3 @@ rows-behind last d marks (c ∷ rows) h e =
     ap (λ (x : Met). x ∷ map (met_by d) (map (known marks) rows))
     (row-behind d (known marks c) (behind last d c h.0 e))
     ∙ ap (λ (l : List Met). known marks c ∷ l) (rows-behind last d marks rows h.1 e)
-
--- ---- station by station
-
--- an element in front of two lists is in front of the first
-cons-append : {B : Type 0} (a : Option B) (xs ys : List B) → cons_option a (xs ++ ys) ≡ cons_option a xs ++ ys
-cons-append None xs ys = refl
-cons-append (Some x) xs ys = refl
-
--- an element in front of nothing is alone
-cons-alone : {B : Type 0} (a : Option B) → cons_option a [] ≡ option_to_list a
-cons-alone None = refl
-cons-alone (Some x) = refl
-
-module _ (q : Asked) (c : Contents) where
-  -- one station more may have a series
-  pub series-more : (sts : List Station) (i : ℕ) → filter_map (series_at q c) (take (suc i) sts)
-      ≡ filter_map (series_at q c) (take i sts) ++ option_to_list (series_there q c (slice_get sts i))
-  series-more [] i = ap (λ (l : List Station). filter_map (series_at q c) l ++ []) (sym (take-nil i))
-  series-more (st ∷ sts) zero = cons-alone (series_at q c st)
-  series-more (st ∷ sts) (suc i) = ap (cons_option (series_at q c st)) (series-more sts i)
-      ∙ cons-append (series_at q c st) (filter_map (series_at q c) (take i sts)) _
-
-  -- the series station by station are those of the admitted stations
-  pub by_station : (sts : List Station) → filter_map (series_at q c) sts
-      ≡ filter_map (λ st. series_of c st.id (score_element q.score)) (filter (admits_station q) sts)
-  by_station [] = refl
-  by_station (st ∷ sts) =
-      elim (admits_station q st) as (λ b. cons_option (cond b (series_of c st.id (score_element q.score)) None)
-      (filter_map (series_at q c) sts)
-      ≡ filter_map (λ s. series_of c s.id (score_element q.score))
-      (cond b (st ∷ filter (admits_station q) sts) (filter (admits_station q) sts))) [
-        | true ↦ ap (cons_option (series_of c st.id (score_element q.score))) (by_station sts)
-        | false ↦ by_station sts
-      ]

@@ -65,12 +65,12 @@ shown_by c m = record {
 }
 
 -- a mark once a candidate was counted at it
-abbrev pub counted : Mark → Mark
-counted m = record { candidate = m.candidate; present = m.present; fresh = in_64_bits (m.fresh + 1) }
+abbrev pub counted_mark : Mark → Mark
+counted_mark m = record { candidate = m.candidate; present = m.present; fresh = in_64_bits (m.fresh + 1) }
 
 -- marks once a candidate was counted at a place, if there is a mark
 abbrev pub counted_at : ℕ → List Mark → List Mark
-counted_at place marks = option_map_or (λ m. slice_set marks place (counted m)) (slice_get marks place) marks
+counted_at place marks = option_map_or (λ m. slice_set marks place (counted_mark m)) (slice_get marks place) marks
 
 -- the candidate precedes those from the place on, and no other
 abbrev pub IsPlace : List Candidate → Candidate → ℕ → Type 0

@@ -22,7 +22,7 @@ use Rattle.rank_head.specs.HeadTests.{of_rows}
 use Rattle.rank_check.specs.declared.verdict.Why.{Why}
 use Rattle.rank_check.specs.declared.verdict.Why.TheVariants.{NotACandidate, NotBest, OtherSeries, NoBound, NotBelow}
 use Rattle.rank_check.specs.declared.verdict.Why.TheVariants.{NotCounted}
-use Rattle.rank_check.specs.Tests.{is_among, is_above}
+use Rattle.rank_check.specs.Tests.{is_one_of, is_above}
 
 -- ---- what a piece looks at
 
@@ -32,9 +32,9 @@ is_morsel q st s = admits_station q st && option_map_or (has_admitted q) s false
 
 -- a candidate is the worst row or precedes it; where there are fewer rows than were asked for, there is no worst row,
 -- and each is within
-abbrev pub is_within : Option Candidate → Candidate → Bool
-is_within None c = true
-is_within (Some worst) c = precedes c worst || is_eq (full_cmp c worst)
+abbrev pub is_within_worst : Option Candidate → Candidate → Bool
+is_within_worst None c = true
+is_within_worst (Some worst) c = precedes c worst || is_eq (full_cmp c worst)
 
 -- the k-th score: that of the worst row, if there is one
 abbrev pub score_of : Option Candidate → Option ℤ
@@ -49,17 +49,17 @@ AreInOrder (c ∷ d ∷ cs) = (precedes c d ≡ true) × AreInOrder (d ∷ cs)
 -- rows of one report: each precedes the next, and none comes after the worst
 pub record AreRowsWithin (worst : Option Candidate) (rows : List Candidate) : Type 0 where
   pub order : AreInOrder rows
-  pub within : AllByRecursion (λ c. is_within worst c ≡ true) rows
+  pub within : AllByRecursion (λ c. is_within_worst worst c ≡ true) rows
 
 -- ---- the tests of a line
 
 -- a row is a candidate of the series, with the name of the station
 abbrev pub is_row_of : Asked → Station → Usable → Named → Bool
-is_row_of q st s row = is_among (candidates q s) row.0 && same_bytes (trimmed st.name) row.1
+is_row_of q st s row = is_one_of (candidates q s) row.0 && same_bytes (trimmed st.name) row.1
 
 -- each candidate of the series that is the worst row or precedes it is a row
 abbrev pub has_all : Asked → Option Candidate → List Candidate → Usable → Bool
-has_all q worst rows s = list_all (λ c. not (is_within worst c) || is_among rows c) (candidates q s)
+has_all q worst rows s = list_all (λ c. not (is_within_worst worst c) || is_one_of rows c) (candidates q s)
 
 -- the tests of the candidates of a series against the rows, the bound and the k-th score
 abbrev pub last_tests : Asked → Usable → Entry → List Candidate → Option Candidate → List (Bool × Why)
@@ -94,7 +94,7 @@ pub record IsRightPiece (q : Asked) (st : Station) (s : Option Usable) (e : Entr
   pub morsel : is_morsel q st s ≡ true
   pub counted : printed ≡ length rows
   pub rows_are : (c : Candidate) →
-      Contains (of_rows rows) c ↔ (Contains (candidates q series) c × (is_within worst c ≡ true))
+      Contains (of_rows rows) c ↔ (Contains (candidates q series) c × (is_within_worst worst c ≡ true))
   pub names : AllByRecursion (λ row. trimmed st.name ≡ row.1) rows
   pub above : IsAbove q series e.bound
   pub passed_over : e.skipped ≡ true → is_below (score_of worst) e.bound ≡ true

@@ -8,7 +8,7 @@ use Rattle.rank_papers.specs.declared.paper.Row.{Row}
 use Rattle.rank_check.specs.declared.pieces.Wanted.{Wanted}
 use Rattle.rank_check.specs.declared.pieces.Reached.{Reached}
 use Rattle.rank_check.specs.Survey.{raised}
-use Rattle.rank_check.specs.Pieces.{is_within}
+use Rattle.rank_check.specs.Pieces.{is_within_worst}
 
 -- a candidate that is looked for, once one more was offered
 abbrev pub wanted_by : Wanted → Candidate → Wanted
@@ -20,7 +20,7 @@ is_printed rows c = list_any (λ row. is_eq (full_cmp row.candidate c)) rows
 
 -- a candidate that is within is no row
 abbrev pub is_missing : List Row → Option Candidate → Candidate → Bool
-is_missing rows worst c = is_within worst c && not (is_printed rows c)
+is_missing rows worst c = is_within_worst worst c && not (is_printed rows c)
 
 -- what is known of the rows, once one more candidate was offered
 abbrev pub reached_by : Reached → Candidate → Reached

@@ -5,11 +5,9 @@ use Rattle.std.specs.List.{AllByRecursion, flat_map}
 use Rattle.std.specs.Int.{int_max}
 use Rattle.std.specs.Ordering.{is_eq, is_le}
 use Rattle.ghcn_fields.specs.Sorting.{greatest}
-use Rattle.ghcn_files.specs.declared.station.Station.{Station}
-use Rattle.ghcn_series.specs.Series.{Usable, Contents, series_of}
+use Rattle.ghcn_series.specs.Series.{Usable, Contents}
 use Rattle.ghcn_series.specs.Says.{in_64_bits}
-use Rattle.rank_query.specs.Asked.{Asked, score_element}
-use Rattle.rank_query.specs.Admits.{admits_station}
+use Rattle.rank_query.specs.Asked.{Asked}
 use Rattle.rank_scores.specs.declared.candidate.Candidate.{Candidate}
 use Rattle.rank_scores.specs.Candidates.{candidates}
 use Rattle.rank_scores.specs.Order.{full_cmp, precedes, rank_in}
@@ -18,13 +16,13 @@ use Rattle.rank_papers.specs.declared.paper.Row.{Row}
 use Rattle.rank_check.specs.declared.tally.Met.{Met}
 use Rattle.rank_check.specs.declared.survey.Top.{Top}
 use Rattle.rank_check.specs.declared.survey.Findings.{Findings}
-use Rattle.rank_check.specs.Tests.{is_among}
+use Rattle.rank_check.specs.Tests.{is_one_of}
 
 -- ---- candidates against rows
 
 -- a row's candidate, whether it is among some candidates, and how many of these precede it
 abbrev pub met : List Candidate → Candidate → Met
-met cs c = record { candidate = c; present = is_among cs c; ahead = in_64_bits (rank_in cs c) }
+met cs c = record { candidate = c; present = is_one_of cs c; ahead = in_64_bits (rank_in cs c) }
 
 -- the same once one more candidate is among them
 abbrev pub met_by : Candidate → Met → Met
@@ -54,8 +52,8 @@ abbrev pub nothing_offered : List Candidate → Tallied
 nothing_offered rows = record { rows = map (met []) rows; count = 0; highest = None }
 
 -- a tally once one more candidate was offered
-abbrev pub taken : Tallied → Candidate → Tallied
-taken t c = record {
+abbrev pub tally_with : Tallied → Candidate → Tallied
+tally_with t c = record {
   rows = map (met_by c) t.rows;
   count = in_64_bits (t.count + 1);
   highest = Some (raised t.highest c.score);
@@ -84,15 +82,6 @@ abbrev pub candidates_of : List Row → List Candidate
 candidates_of rows = map (λ row. row.candidate) rows
 
 -- ---- series
-
--- the series that the query asks about at a station
-abbrev pub series_at : Asked → Contents → Station → Option Usable
-series_at q c st = if admits_station q st then series_of c st.id (score_element q.score) else None
-
--- the same at a station, where there is one
-abbrev pub series_there : Asked → Contents → Option Station → Option Usable
-series_there q c None = None
-series_there q c (Some st) = series_at q c st
 
 -- all candidates of some series
 abbrev pub candidates_in : Asked → List Usable → List Candidate

@@ -34,8 +34,8 @@ Test = Bool × Verdict
 -- ---- rows
 
 -- a candidate is one of these
-abbrev pub is_among : List Candidate → Candidate → Bool
-is_among all c = list_any (λ d. is_eq (full_cmp d c)) all
+abbrev pub is_one_of : List Candidate → Candidate → Bool
+is_one_of all c = list_any (λ d. is_eq (full_cmp d c)) all
 
 -- the name is that of the listed station with this ID
 abbrev pub is_named : List Station → Named → Bool
@@ -54,7 +54,7 @@ follows rows i row = option_map_or (λ r. precedes r.0 row.0) (row_before rows i
 abbrev pub row_tests : Asked → Contents → List Named → ℕ × Named → List Test
 row_tests q c rows row =
     let candidate = row.1.0 in
-    (is_among (all_candidates q c) candidate && is_named c.stations row.1, Refused Report (row.0 + 2) NotACandidate)
+    (is_one_of (all_candidates q c) candidate && is_named c.stations row.1, Refused Report (row.0 + 2) NotACandidate)
     ∷ (follows rows row.0 row.1, Refused Report (row.0 + 2) OutOfOrder)
     ∷ (rank_in (all_candidates q c) candidate == row.0 - 1, Refused Report (row.0 + 2) NotBest)
     ∷ []

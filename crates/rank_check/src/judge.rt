@@ -27,18 +27,19 @@ use std::alloc::Global;
 /// query.
 pub(crate) fn judge(
     alloc: Global,
-    held: &Data,
+    dataset: &Data,
     query: &Query,
     report: &Report,
     certificate: &Certificate,
 ) -> Result<Verdict, Memory>
     requires { IsReported (reported_in report.now) }
-    ensures { IfOk result (λ verdict. verdict ≡ tests.judged query.now held.now
+    ensures { IfOk result (λ verdict. verdict ≡ tests.judged query.now dataset.now
         (Ok (reported_in report.now)) (Ok (certified_in certificate.now))) }
 {
+    // The k-th row has the k-th score, as the candidates of right data stand apart.
     candidates_of_queries();
     certificates_are_read();
-    let _stations = held.stations();
+    let _stations = dataset.stations();
     if !is_same_query(alloc, &report.query, query)? {
         return Ok(Verdict::Refused {
             paper: Paper::Report,
@@ -46,8 +47,8 @@ pub(crate) fn judge(
             why: Why::OtherQuery,
         });
     }
-    let found = survey(alloc, held, query, report.rows.as_slice())?;
-    if let Some(fault) = report_fault(held, query, report, &found) {
+    let found = survey(alloc, dataset, query, report.rows.as_slice())?;
+    if let Some(fault) = report_fault(dataset, query, report, &found) {
         return Ok(fault);
     }
     let rows = report.rows.as_slice();
@@ -61,15 +62,15 @@ pub(crate) fn judge(
 }
 
 /// The first test that a report of this query fails.
-fn report_fault(held: &Data, query: &Query, report: &Report, found: &Findings) -> Option<Verdict>
+fn report_fault(dataset: &Data, query: &Query, report: &Report, found: &Findings) -> Option<Verdict>
     requires can_be { IsReported (reported_in report.now) }
     requires same { head.same_query report.now.query query.now ≡ true }
-    requires found { AreFindings query.now held.now (candidates_of report.now.rows.items) found.now }
-    ensures { result ≡ first_failing (tests.report_tests query.now held.now (reported_in report.now)) }
+    requires found { AreFindings query.now dataset.now (candidates_of report.now.rows.items) found.now }
+    ensures { result ≡ first_failing (tests.report_tests query.now dataset.now (reported_in report.now)) }
 {
     let rows = report.rows.as_slice();
     let few = number_fault(query, rows, found);
-    rows_fault(held.stations(), rows, found).or(few)
+    rows_fault(dataset.stations(), rows, found).or(few)
 }
 
 /// The refusal of a report with too few rows.

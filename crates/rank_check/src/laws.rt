@@ -10,6 +10,7 @@ use rank_scores::{candidates_of_queries, one_element_is_enough};
 pub fn accepted_where_right()
     ensures { laws.AcceptedWhereRight }
 {
+    // Right papers are read, and their rows are those of the candidates.
     candidates_of_queries();
     certificates_are_read();
     reports_are_read();
@@ -20,6 +21,7 @@ pub fn accepted_where_right()
 pub fn verdict_of_one_element()
     ensures { laws.VerdictStays }
 {
+    // Each definition that a verdict rests on stays.
     one_element_is_enough();
 }
 
@@ -30,6 +32,7 @@ pub fn right_in_pieces()
     ensures says { pieces.RightInPieces }
     ensures accepted { pieces.AcceptedInPieces }
 {
+    // What is accepted is right, and what is right can be cut into pieces.
     accepted_where_right();
     candidates_of_queries();
     certificates_are_read();

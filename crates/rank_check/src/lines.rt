@@ -8,6 +8,7 @@ ghost use Rattle.rank_check.specs.FoundFaults.{IsFaultOfLine, IsFaultOfLineAt, I
 use crate::survey::Top;
 use crate::verdict::{Paper, Verdict, Why};
 use rank_papers::Line;
+use rank_scores::is_below;
 
 /// The first test that a line fails, after the lines before it, where the certificate has this k-th
 /// score and these counts, and of the report's rows so many are of each line's station.
@@ -133,14 +134,4 @@ pub(crate) fn may_stand(kth: Option<i64>, line: &Line) -> bool
     ensures { result ≡ (not line.now.skipped || order.is_below kth line.now.bound) }
 {
     !line.skipped || is_below(kth, line.bound)
-}
-
-/// Whether there is a k-th score and the bound is strictly below it.
-fn is_below(kth: Option<i64>, bound: i64) -> bool
-    ensures { result ≡ order.is_below kth bound }
-{
-    match kth {
-        Some(score) => bound < score,
-        None => false,
-    }
 }

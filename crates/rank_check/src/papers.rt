@@ -24,39 +24,41 @@ use std::alloc::Global;
 /// score for each series.
 pub fn check(
     alloc: Global,
-    held: &Data,
+    dataset: &Data,
     query: &Query,
     report: &[u8],
     certificate: &[u8],
 ) -> Result<Verdict, Memory>
     ensures verdict { IfOk result (λ found.
-        found ≡ tests.verdict query.now held.now report.now certificate.now) }
+        found ≡ tests.verdict query.now dataset.now report.now certificate.now) }
     ensures accepted { IfOk result (λ found. (found ≡ Verdict.Accepted)
-        ↔ (IsReport query.now held.now report.now × IsCertificate query.now held.now certificate.now)) }
+        ↔ (IsReport query.now dataset.now report.now × IsCertificate query.now dataset.now certificate.now)) }
 {
+    // Clause `accepted` is the law, which asks for a right query and right data.
     accepted_where_right();
-    are_right(held, query);
-    judge_texts(alloc, held, query, report, certificate)
+    are_right(dataset, query);
+    judge_texts(alloc, dataset, query, report, certificate)
 }
 
 /// What holds of all queries and of all data.
-fn are_right(held: &Data, query: &Query)
+fn are_right(dataset: &Data, query: &Query)
     ensures asked { IsAsked query.now }
-    ensures contents { IsContents held.now }
+    ensures contents { IsContents dataset.now }
 {
-    let (_stations, _k) = (held.stations(), query.k());
+    // The contracts of these two say what is asked of each.
+    let (_stations, _k) = (dataset.stations(), query.k());
 }
 
 /// The verdict of the first test that fails.
 fn judge_texts(
     alloc: Global,
-    held: &Data,
+    dataset: &Data,
     query: &Query,
     report: &[u8],
     certificate: &[u8],
 ) -> Result<Verdict, Memory>
     ensures { IfOk result (λ found.
-        found ≡ tests.verdict query.now held.now report.now certificate.now) }
+        found ≡ tests.verdict query.now dataset.now report.now certificate.now) }
 {
     let report = match read_report(alloc, report) {
         Ok(report) => report,
@@ -70,7 +72,7 @@ fn judge_texts(
         Err(PaperFault::BadCertificate { line }) => return Ok(bad_form(Paper::Certificate, line)),
         Err(PaperFault::Memory(memory)) => return Err(memory),
     };
-    judge(alloc, held, query, &report, &certificate)
+    judge(alloc, dataset, query, &report, &certificate)
 }
 
 /// A refusal of a line that isn't of the form of its place.

@@ -147,7 +147,7 @@ fn is_row_of(query: &Query, station: &Station, series: &Series, row: &Row) -> bo
 
 /// Whether a candidate is one of the series.
 fn is_candidate(query: &Query, series: &Series, candidate: &Candidate) -> bool
-    ensures { result ≡ tests.is_among (candidates query.now series.now) candidate.now }
+    ensures { result ≡ tests.is_one_of (candidates query.now series.now) candidate.now }
 {
     let mut wanted = Wanted {
         candidate: *candidate,
@@ -227,7 +227,7 @@ fn is_missing(rows: &[Row], worst: Option<Candidate>, candidate: &Candidate) -> 
 
 /// Whether a candidate is the worst row or precedes it.
 fn is_within(worst: Option<Candidate>, candidate: &Candidate) -> bool
-    ensures { result ≡ pieces.is_within worst candidate.now }
+    ensures { result ≡ pieces.is_within_worst worst candidate.now }
 {
     match worst {
         Some(worst) => precedes(candidate, &worst) || candidate.cmp(&worst).is_eq(),

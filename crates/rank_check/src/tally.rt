@@ -47,7 +47,7 @@ impl Mark {
 
     /// Takes a candidate into account that precedes the mark, and no mark before it.
     fn count(&mut self)
-        ensures { self.new ≡ order.counted self.old }
+        ensures { self.new ≡ order.counted_mark self.old }
     {
         self.fresh = self.fresh.saturating_add(1);
     }
@@ -100,7 +100,7 @@ impl Tally {
 
     /// Offers the candidates of a series, and answers the greatest score of them.
     pub(crate) fn scan(&mut self, series: &Series, query: &Query) -> Option<i64>
-        ensures taken { self.new ≡ fold survey.taken (survey.reset self.old) (candidates query.now series.now) }
+        ensures taken { self.new ≡ fold survey.tally_with (survey.reset self.old) (candidates query.now series.now) }
         ensures highest { result ≡ self.new.highest }
     {
         self.highest = None;
@@ -124,9 +124,9 @@ impl Tally {
 }
 
 impl Sink for Tally {
-    ghost use Rattle.rank_check.specs.Survey.{taken};
+    ghost use Rattle.rank_check.specs.Survey.{tally_with};
 
-    ghost taken = { taken };
+    ghost taken = { tally_with };
 
     fn offer(&mut self, candidate: Candidate) {
         self.count = self.count.saturating_add(1);

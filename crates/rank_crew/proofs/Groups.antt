@@ -4,7 +4,7 @@ use Rattle.std.proofs.Common.{refl, sym, ap, ◌∙◌, subst, arith, length-app
 use Rattle.std.proofs.lemmas.List.Elements.{All-append, All-weaker, All-contains_itself, Contains-append_left}
 use Rattle.std.proofs.lemmas.List.Elements.{Contains-append_right}
 use Rattle.ghcn_fields.specs.Counting.{times}
-use Rattle.ghcn_fields.specs.CountingLaws.{times-append}
+use Rattle.ghcn_fields.proofs.CountingLaws.{times-append}
 use Rattle.rank_board.specs.declared.board.Board.{Board}
 use Rattle.rank_board.specs.declared.seat.Seat.{Seat}
 use Rattle.rank_board.specs.Seats.{claims_of, raised_of, seen_of, guess_of}
@@ -18,7 +18,7 @@ use Rattle.rank_sched.specs.SoundRun.{exchanges_of, all_exchanges}
 use Rattle.rank_sched.specs.Hauls.{exchanges_in}
 use Rattle.rank_sched.specs.Run.{worker_with}
 use Rattle.rank_sched.proofs.Growing.{workers_join, hauls_join, stops_join, turns_join}
-use Rattle.rank_crew.specs.Workers.{Works, Gathers}
+use Rattle.rank_crew.specs.Workers.{Works, BringHome}
 use Rattle.rank_crew.proofs.Turning.{grown}
 
 -- ---- seen scores
@@ -42,12 +42,12 @@ there_both mid other after xs ys all e r p q =
 
 -- a group of one
 pub gathers_one : (b : Board) (t : Task) (w : ℕ) (before after : Seat) (h : Haul) (hs : List Haul) → hs ≡ h ∷ []
-    → Works b t w before after h → Gathers b t w 1 before after hs
+    → Works b t w before after h → BringHome b t w 1 before after hs
 gathers_one b t w before after h hs e k =
     let v : Worker = worker_with (Stopped k.last, h) in
     let turns : all_exchanges t (v ∷ []) ≡ exchanges_in t h =
     append-nil (exchanges_of t v) ∙ append-nil (exchanges_in t h) in
-    subst (Gathers b t w 1 before after) (sym e) (record {
+    subst (BringHome b t w 1 before after) (sym e) (record {
       crew = v ∷ [];
       count = refl;
       sound = (k.sound, tt);
@@ -63,7 +63,7 @@ gathers_one b t w before after h hs e k =
 -- the same where there may have been want of memory
 pub gathers_if_one : {V E : Type 0} (items : V → List Haul) (b : Board) (t : Task) (w : ℕ) (before after : Seat)
     (h : Haul) (hauls : Result V E) → IfOk hauls (λ v. items v ≡ h ∷ []) → Works b t w before after h
-    → IfOk hauls (λ v. Gathers b t w 1 before after (items v))
+    → IfOk hauls (λ v. BringHome b t w 1 before after (items v))
 gathers_if_one items b t w before after h (Ok v) e k = gathers_one b t w before after h (items v) e k
 gathers_if_one items b t w before after h (Err x) e k = tt
 
@@ -71,13 +71,13 @@ module _ (b : Board) (t : Task) (from after_from m k workers part : ℕ) (seat k
     (w : workers ≡ m + k) (f : after_from ≡ from + m) (cut : Splits seat part kept other)
     (join : Joins mid end after) where
   -- the hauls of m workers, and behind them those of the next k
-  gathers_both : (xs ys hs : List Haul) → hs ≡ xs ++ ys → Gathers b t from m kept mid xs
-      → Gathers b t after_from k other end ys → Gathers b t from workers seat after hs
+  gathers_both : (xs ys hs : List Haul) → hs ≡ xs ++ ys → BringHome b t from m kept mid xs
+      → BringHome b t after_from k other end ys → BringHome b t from workers seat after hs
   gathers_both xs ys hs e p q =
       let both = turns_join t p.crew q.crew in
       let raised_end : raised_of end ≡ raised_in (all_exchanges t q.crew) =
       q.raised ∙ ap (λ (l : List ℤ). l ++ raised_in (all_exchanges t q.crew)) cut.new_raised in
-      subst (Gathers b t from workers seat after) (sym e) (record {
+      subst (BringHome b t from workers seat after) (sym e) (record {
         crew = p.crew ++ q.crew;
         count = omega (arith, length-append p.crew q.crew, p.count, q.count);
         sound = workers_join t (guess_of b) from after_from p.crew q.crew (omega (arith, p.count)) p.sound q.sound;
@@ -105,9 +105,9 @@ module _ (b : Board) (t : Task) (from after_from m k workers part : ℕ) (seat k
   -- the same where each may have met want of memory
   pub both_groups : {V E : Type 0} (items : V → List Haul) (first second all : Result V E)
       → IfOk all (λ v. IsOkAnd first (λ a. IsOkAnd second (λ c. items v ≡ items a ++ items c)))
-      → IfOk first (λ v. Gathers b t from m kept mid (items v))
-      → IfOk second (λ v. Gathers b t after_from k other end (items v))
-      → IfOk all (λ v. Gathers b t from workers seat after (items v))
+      → IfOk first (λ v. BringHome b t from m kept mid (items v))
+      → IfOk second (λ v. BringHome b t after_from k other end (items v))
+      → IfOk all (λ v. BringHome b t from workers seat after (items v))
   both_groups items first second (Err x) e p q = tt
   both_groups items (Err x) second (Ok v) e p q = absurd e
   both_groups items (Ok u) (Err x) (Ok v) e p q = absurd e

@@ -2,7 +2,7 @@
 use Rattle.std.proofs.Common.{◌≡◌, ℕ, zero, suc, ◌+◌, ◌-◌, ◌≤◌, List, [], ◌∷◌, ◌++◌, take, drop, Some, Result, Ok}
 use Rattle.std.proofs.Common.{Err, IfOk, IsOkAnd, refl, sym, ap, ◌∙◌, arith}
 use Rattle.std.specs.Prelude.{slice_get}
-use Rattle.rank_crew.specs.Places.{part_of}
+use Rattle.rank_crew.specs.Places.{elements_between}
 
 -- the first n and the next one are the first n + 1
 take_push : {A : Type 0} (xs : List A) (n : ℕ) (x : A) → slice_get xs n ≡ Some x → take (suc n) xs ≡ take n xs ++ x ∷ []
@@ -19,8 +19,8 @@ get_drop (x ∷ xs) (suc f) n (suc m) e = get_drop xs f n m (omega (arith, e))
 
 -- one place more
 pub part-push : {A : Type 0} (xs : List A) (from place next : ℕ) (x : A) (before after : List A) → next ≡ place + 1
-    → from ≤ place → slice_get xs place ≡ Some x → before ≡ part_of from place xs → after ≡ before ++ x ∷ []
-    → after ≡ part_of from next xs
+    → from ≤ place → slice_get xs place ≡ Some x → before ≡ elements_between from place xs → after ≡ before ++ x ∷ []
+    → after ≡ elements_between from next xs
 part-push xs from place next x before after one low e b a =
     let n : ℕ = place - from in
     let more : suc n ≡ next - from = omega (arith, one) in
@@ -49,19 +49,22 @@ drop_both (x ∷ xs) (suc f) a (suc g) e = drop_both xs f a g (omega (arith, e))
 
 -- two parts, one behind the other
 pub part-both : {A : Type 0} (xs : List A) (from middle to : ℕ) → from ≤ middle → middle ≤ to
-    → part_of from middle xs ++ part_of middle to xs ≡ part_of from to xs
+    → elements_between from middle xs ++ elements_between middle to xs ≡ elements_between from to xs
 part-both xs from middle to low high =
-    ap (λ l. part_of from middle xs ++ take (to - middle) l) (drop_both xs from (middle - from) middle (omega arith))
+    ap (λ l. elements_between from middle xs ++ take (to - middle) l)
+    (drop_both xs from (middle - from) middle (omega arith))
     ∙ take_both (drop from xs) (middle - from) (to - middle) (to - from) (omega arith)
 
 -- the same where each may have met want of memory
 pub both_parts : {A V E : Type 0} (items : V → List A) (xs : List A) (from middle to : ℕ)
     (first second all : Result V E) → from ≤ middle → middle ≤ to
     → IfOk all (λ v. IsOkAnd first (λ a. IsOkAnd second (λ b. items v ≡ items a ++ items b)))
-    → IfOk first (λ v. items v ≡ part_of from middle xs) → IfOk second (λ v. items v ≡ part_of middle to xs)
-    → IfOk all (λ v. items v ≡ part_of from to xs)
+    → IfOk first (λ v. items v ≡ elements_between from middle xs)
+    → IfOk second (λ v. items v ≡ elements_between middle to xs)
+    → IfOk all (λ v. items v ≡ elements_between from to xs)
 both_parts items xs from middle to first second (Err x) low high e p q = tt
 both_parts items xs from middle to (Err x) second (Ok v) low high e p q = absurd e
 both_parts items xs from middle to (Ok u) (Err x) (Ok v) low high e p q = absurd e
 both_parts items xs from middle to (Ok u) (Ok s) (Ok v) low high e p q =
-    e ∙ ap (λ l. l ++ items s) p ∙ ap (λ l. part_of from middle xs ++ l) q ∙ part-both xs from middle to low high
+    e ∙ ap (λ l. l ++ items s) p ∙ ap (λ l. elements_between from middle xs ++ l) q
+    ∙ part-both xs from middle to low high

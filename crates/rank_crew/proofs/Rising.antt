@@ -1,11 +1,12 @@
 -- Numbers that rise, below n, are at most n.
 use Rattle.std.proofs.Common.{ℕ, ◌+◌, ◌<◌, ◌≤◌, List, [], ◌∷◌, length, arith}
 use Rattle.std.specs.List.{AllByRecursion}
-use Rattle.rank_sched.specs.SoundRun.{Rise}
+use Rattle.rank_sched.specs.SoundRun.{NumbersRise}
 use Rattle.rank_sched.proofs.Lists.{each-weaker}
 
 -- numbers that rise from m on, below n, are at most n less m
-rise_from : (m n : ℕ) (xs : List ℕ) → m ≤ n → AllByRecursion (λ x. m ≤ x) xs → Rise xs → AllByRecursion (λ x. x < n) xs
+rise_from : (m n : ℕ) (xs : List ℕ) → m ≤ n → AllByRecursion (λ x. m ≤ x) xs → NumbersRise xs
+    → AllByRecursion (λ x. x < n) xs
     → m + length xs ≤ n
 rise_from m n [] le low up high = omega arith
 rise_from m n (x ∷ xs) le low up high =
@@ -18,7 +19,7 @@ rise_from m n (x ∷ xs) le low up high =
     )
 
 -- numbers that rise below n are at most n
-pub rise_few : (n : ℕ) (xs : List ℕ) → Rise xs → AllByRecursion (λ x. x < n) xs → length xs ≤ n
+pub rise_few : (n : ℕ) (xs : List ℕ) → NumbersRise xs → AllByRecursion (λ x. x < n) xs → length xs ≤ n
 rise_few n xs up high = omega (
   arith,
   rise_from 0 n xs (omega arith)

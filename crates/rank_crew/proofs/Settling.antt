@@ -13,11 +13,11 @@ use Rattle.rank_sched.specs.Exchanges.{scanned, exchange}
 use Rattle.rank_sched.specs.Machine.{record_of}
 use Rattle.rank_sched.specs.Hauls.{records_of}
 use Rattle.rank_sched.specs.Run.{HasSettled}
-use Rattle.rank_crew.specs.Workers.{IsAt, Settles}
+use Rattle.rank_crew.specs.Workers.{MaySettle, Settles}
 use Rattle.rank_crew.proofs.Scores.{raised_then, raised_is_score}
 
 module _ (b : Board) (t : Task) (w m : ℕ) (before looked : Seat) (old new : Haul) (floor raised : Option ℤ) (r : Record)
-    (at : IsAt b t before old) (made : r ≡ record_of t w m floor) (look : Looks b before floor looked)
+    (at : MaySettle b t before old) (made : r ≡ record_of t w m floor) (look : Looks b before floor looked)
     (settled : HasSettled t old r new) (is : raised ≡ cond r.skipped None (last_score new.pool)) where
   -- the morsel is settled, where the seat raised this
   pub settles : (after : Seat) → raised_of after ≡ raised_of looked ++ option_to_list raised

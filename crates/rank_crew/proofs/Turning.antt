@@ -17,7 +17,7 @@ use Rattle.rank_sched.specs.Task.{Task}
 use Rattle.rank_sched.specs.Exchanges.{Exchange, morsels_of, scanned, pool_of, exchange, exchanges, seen_in}
 use Rattle.rank_sched.specs.Exchanges.{raised_in, SeeUpward, IsRightSkip}
 use Rattle.rank_sched.specs.Machine.{record_of}
-use Rattle.rank_sched.specs.SoundRun.{Rise}
+use Rattle.rank_sched.specs.SoundRun.{NumbersRise}
 use Rattle.rank_sched.specs.Hauls.{records_of, exchanges_in, IsHaulOf}
 use Rattle.rank_sched.specs.Run.{IsEmptyHaul}
 use Rattle.rank_sched.proofs.Lists.{All-right, each-append, morsels-push, seen_in-append, raised_in-append, rise-push}
@@ -55,7 +55,7 @@ midway_start t guess w k s h asked e =
     record {
       haul = record {
         named = subst (AllByRecursion (λ r. r.worker ≡ w)) no tt;
-        rise = subst (λ (l : List Record). Rise (morsels_of l)) no tt;
+        rise = subst (λ (l : List Record). NumbersRise (morsels_of l)) no tt;
         skips = subst (AllByRecursion (IsRightSkip t)) no tt;
         pool = e.pool ∙ ap (λ (n : ℕ). record { size = n; held = [] }) asked
             ∙ ap (λ (l : List Candidate). record { size = t.k; held = l }) (sym (take_none t.k)) ∙ ap (pool_of t) no;

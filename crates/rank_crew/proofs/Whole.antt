@@ -8,7 +8,7 @@ use Rattle.rank_board.specs.declared.board.Board.{Board}
 use Rattle.rank_board.specs.declared.board.Closed.{Closed}
 use Rattle.rank_board.specs.declared.seat.Seat.{Seat}
 use Rattle.rank_board.specs.Seats.{raised_of, seen_of, guess_of}
-use Rattle.rank_board.specs.Calls.{Opens, AccountsForAll}
+use Rattle.rank_board.specs.Calls.{OpensBoard, AccountsForAll}
 use Rattle.rank_sched.specs.declared.haul.Haul.{Haul}
 use Rattle.rank_sched.specs.Task.{Task}
 use Rattle.rank_sched.specs.Exchanges.{raised_in, seen_in}
@@ -16,7 +16,7 @@ use Rattle.rank_sched.specs.Hauls.{AreHaulsOf}
 use Rattle.rank_sched.specs.Machine.{Worker, State}
 use Rattle.rank_sched.specs.SoundRun.{all_exchanges, IsSoundState}
 use Rattle.rank_sched.proofs.Ends.{ends_sound}
-use Rattle.rank_crew.specs.Workers.{Gathers, IsEnd}
+use Rattle.rank_crew.specs.Workers.{BringHome, IsEnd}
 
 -- there are as many hauls as workers
 hauls_count : (vs : List Worker) (hs : List Haul) → AreHaulsOf vs hs → length hs ≡ length vs
@@ -26,8 +26,8 @@ hauls_count [] (h ∷ hs) a = absurd a
 hauls_count (v ∷ vs) (h ∷ hs) a = omega (arith, hauls_count vs hs a.1)
 
 module _ (b : Board) (t : Task) (guess : Option ℤ) (workers rights : ℕ) (begin after : Seat) (closed : Closed)
-    (open_ : Opens rights guess b begin) (k : AccountsForAll b after closed) (some : 0 < workers) where
-  module _ (hs : List Haul) (g : Gathers b t 0 workers begin after hs) where
+    (open_ : OpensBoard rights guess b begin) (k : AccountsForAll b after closed) (some : 0 < workers) where
+  module _ (hs : List Haul) (g : BringHome b t 0 workers begin after hs) where
     -- the state that the board and the workers were left in
     end_state : State
     end_state = record { next = closed.next; floor = closed.floor; workers = g.crew }
@@ -63,6 +63,6 @@ module _ (b : Board) (t : Task) (guess : Option ℤ) (workers rights : ℕ) (beg
 
   -- the same where there may have been want of memory
   pub is_end_if : {V E : Type 0} (items : V → List Haul) (r : Result V E)
-      → IfOk r (λ v. Gathers b t 0 workers begin after (items v)) → IfOk r (λ v. IsEnd t guess workers (items v))
+      → IfOk r (λ v. BringHome b t 0 workers begin after (items v)) → IfOk r (λ v. IsEnd t guess workers (items v))
   is_end_if items (Ok v) g = is_end (items v) g
   is_end_if items (Err e) g = tt

@@ -20,7 +20,7 @@ use Rattle.rank_sched.specs.Run.{HasSettled, worker_with}
 -- ---- one morsel
 
 -- a worker may settle a morsel of a fair task: its seat has claimed a number, and its pool is that of its records
-pub record IsAt (b : Board) (t : Task) (s : Seat) (h : Haul) : Type 0 where
+pub record MaySettle (b : Board) (t : Task) (s : Seat) (h : Haul) : Type 0 where
   pub fair : IsFair t
   pub mine : IsSeatOf b s
   pub claimed : 0 < length (claims_of s)
@@ -98,7 +98,7 @@ pub record HasShare (b : Board) (t : Task) (workers : ℕ) (s : Seat) : Type 0 w
 
 -- sound workers, with these numbers and upwards, did their work between two moments of a seat,
 -- and these are their hauls
-pub record Gathers (b : Board) (t : Task) (from workers : ℕ) (before after : Seat) (hs : List Haul) : Type 0 where
+pub record BringHome (b : Board) (t : Task) (from workers : ℕ) (before after : Seat) (hs : List Haul) : Type 0 where
   pub crew : List Worker
   pub count : length crew ≡ workers
   pub sound : AreSoundFrom t (guess_of b) from crew

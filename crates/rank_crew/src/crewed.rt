@@ -35,12 +35,12 @@ pub fn crew<R: Threads + Wait + Sync, G: Gate + Sync>(
     ensures answer { IfOk result (IsAnswerOfCrew plan.now guess workers) }
     ensures best { IfOk result (λ answer. AreBestOfQuery plan.now answer.best.items) }
 {
-    let hauls = gather(rt, alloc, plan, workers, guess, gate)?;
+    let hauls = run_crew(rt, alloc, plan, workers, guess, gate)?;
     finish(alloc, plan, hauls)
 }
 
 /// What the workers bring home, in the order of their numbers.
-fn gather<R: Threads + Wait + Sync, G: Gate + Sync>(
+fn run_crew<R: Threads + Wait + Sync, G: Gate + Sync>(
     rt: &R,
     alloc: Global,
     plan: &Plan<'_>,
@@ -56,6 +56,7 @@ fn gather<R: Threads + Wait + Sync, G: Gate + Sync>(
     let (board, seat) = Board::open(alloc, workers * (plan.len() + 1), guess)?;
     let job = PlanJob { plan, gate };
     let (seat, hauls) = part(rt, alloc, &job, &board, seat, workers);
+    // The seat is whole again: closing the board accounts for all that was claimed and raised.
     board.close(seat);
     hauls
 }

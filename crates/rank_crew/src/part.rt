@@ -27,7 +27,7 @@ pub(crate) fn part<R: Threads + Wait + Sync, J: Job + Sync>(
     requires { crew.HasShare board.now (J.task job.now) workers seat }
     ensures kept { crew.IsKept board.now seat result.0 }
     ensures gathers { IfOk result.1
-        (λ hauls. crew.Gathers board.now (J.task job.now) 0 workers seat result.0 hauls.items) }
+        (λ hauls. crew.BringHome board.now (J.task job.now) 0 workers seat result.0 hauls.items) }
 {
     let last = workers - 1;
     if last == 0 {
@@ -40,13 +40,13 @@ pub(crate) fn part<R: Threads + Wait + Sync, J: Job + Sync>(
             requires { IsSync R.row × IsSync J.row
                 × crew.HasShare board.now (J.task job.now) 1 other }
             ensures { crew.IsKept board.entry.now other result.0 × IfOk result.1
-                (λ hauls. crew.Gathers board.entry.now (J.task job.entry.now) last 1 other result.0 hauls.items) }
+                (λ hauls. crew.BringHome board.entry.now (J.task job.entry.now) last 1 other result.0 hauls.items) }
         { alone(rt, alloc, job, board, other, last) },
         move ||
             requires { IsSync R.row × IsSync J.row
                 × crew.HasShare board.now (J.task job.now) last seat }
             ensures { crew.IsKept board.entry.now seat result.0 × IfOk result.1
-                (λ hauls. crew.Gathers board.entry.now (J.task job.entry.now) 0 last seat result.0 hauls.items) }
+                (λ hauls. crew.BringHome board.entry.now (J.task job.entry.now) 0 last seat result.0 hauls.items) }
         { part(rt, alloc, job, board, seat, last) },
     );
     board.join(&mut seat, other);
@@ -66,7 +66,7 @@ fn alone<R: Wait, J: Job>(
     requires rights { (J.task job.now).len + 1 ≤ rights_of seat }
     ensures kept { crew.IsKept board.now seat result.0 }
     ensures gathers { IfOk result.1
-        (λ hauls. crew.Gathers board.now (J.task job.now) worker 1 seat result.0 hauls.items) }
+        (λ hauls. crew.BringHome board.now (J.task job.now) worker 1 seat result.0 hauls.items) }
 {
     match job.work_of(rt, alloc, board, seat, worker) {
         Ok((seat, haul)) => (seat, list_of(alloc, haul)),

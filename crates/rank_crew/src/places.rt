@@ -8,9 +8,10 @@ use crate::Gate;
 use crate::both::both;
 use crate::cut::{LastPart, cut};
 use ghcn_fields::{Day, Memory};
-use ghcn_series::{Data, Series};
+use ghcn_series::Data;
 use rank_query::Query;
 use rank_sched::measure;
+use rank_scores::series_at;
 use std::alloc::Global;
 use std::sync::Wait;
 use std::thread::{Threads, join};
@@ -40,7 +41,7 @@ pub(crate) trait Places {
 /// The places of all listed stations.
 #[derive(Drop)]
 pub(crate) struct StationPlaces<'p, G> {
-    pub(crate) held: &'p Data,
+    pub(crate) dataset: &'p Data,
     pub(crate) query: &'p Query,
     pub(crate) gate: &'p G,
 }
@@ -48,7 +49,7 @@ pub(crate) struct StationPlaces<'p, G> {
 impl<'p, G: Gate> Places for StationPlaces<'p, G> {
     ghost use Rattle.rank_sched.specs.Plan.{measures};
 
-    ghost bounds = { λ places. measures places.query.now places.held.now };
+    ghost bounds = { λ places. measures places.query.now places.dataset.now };
 
     fn bound<R: Wait>(
         &self,
@@ -58,26 +59,16 @@ impl<'p, G: Gate> Places for StationPlaces<'p, G> {
         place: u64,
     ) -> Result<Option<i64>, Memory> {
         self.gate.measuring(rt, worker, place);
-        measure(alloc, self.held, self.query, place)
+        measure(alloc, self.dataset, self.query, place)
     }
 
     /// One for the place, and one for each block of 32 days from the first day of its series to the
     /// last.
     fn weight(&self, place: u64) -> u64 {
-        match admitted_series(self.held, self.query, place) {
+        match series_at(self.dataset, self.query, place) {
             Some(series) => 2 + blocks_between(series.span()) as u64,
             None => 1,
         }
-    }
-}
-
-/// The series at a place that the query's region admits.
-fn admitted_series<'a>(held: &'a Data, query: &Query, place: u64) -> Option<&'a Series> {
-    let series = held.series_at(place, query.element())?;
-    if query.admits_station(held.stations().at(place)?) {
-        Some(series)
-    } else {
-        None
     }
 }
 
@@ -99,7 +90,7 @@ pub(crate) fn measure_places<R: Threads + Wait + Sync, P: Places + Sync>(
 ) -> Result<Vec<Option<i64>>, Memory>
     requires some { 0 < workers }
     requires within { crew.IsPart 0 to (P.bounds places.now) }
-    ensures { IfOk result (λ bounds. bounds.items ≡ crew.part_of 0 to (P.bounds places.now)) }
+    ensures { IfOk result (λ bounds. bounds.items ≡ crew.elements_between 0 to (P.bounds places.now)) }
 {
     let last = workers - 1;
     if last == 0 {
@@ -114,11 +105,11 @@ pub(crate) fn measure_places<R: Threads + Wait + Sync, P: Places + Sync>(
         rt,
         move ||
             requires { IsSync R.row × IsSync P.row × crew.IsPart from to (P.bounds places.now) }
-            ensures { IfOk result (λ bounds. bounds.items ≡ crew.part_of from to (P.bounds places.entry.now)) }
+            ensures { IfOk result (λ bounds. bounds.items ≡ crew.elements_between from to (P.bounds places.entry.now)) }
         { measure_alone(rt, alloc, places, last, from, to) },
         move ||
             requires { IsSync R.row × IsSync P.row × (0 < last) × crew.IsPart 0 from (P.bounds places.now) }
-            ensures { IfOk result (λ bounds. bounds.items ≡ crew.part_of 0 from (P.bounds places.entry.now)) }
+            ensures { IfOk result (λ bounds. bounds.items ≡ crew.elements_between 0 from (P.bounds places.entry.now)) }
         { measure_places(rt, alloc, places, last, from, rest) },
     );
     both(first, second)
@@ -134,7 +125,7 @@ fn measure_alone<R: Wait, P: Places>(
     to: u64,
 ) -> Result<Vec<Option<i64>>, Memory>
     requires { crew.IsPart from to (P.bounds places.now) }
-    ensures { IfOk result (λ bounds. bounds.items ≡ crew.part_of from to (P.bounds places.now)) }
+    ensures { IfOk result (λ bounds. bounds.items ≡ crew.elements_between from to (P.bounds places.now)) }
 {
     let mut bounds = Vec::new(alloc);
     for place in from..to {

@@ -20,18 +20,22 @@ use std::thread::Threads;
 pub fn survey<'d, R: Threads + Wait + Sync, G: Gate + Sync>(
     rt: &R,
     alloc: Global,
-    held: &'d Data,
+    dataset: &'d Data,
     query: &Query,
     workers: u64,
     gate: &G,
 ) -> Result<Plan<'d>, Memory>
     requires some { 0 < workers }
     requires few { workers ≤ 64 }
-    ensures { IfOk result (λ plan. plan ≡ planned query.now held.now) }
+    ensures { IfOk result (λ plan. plan ≡ planned query.now dataset.now) }
 {
-    let places = StationPlaces { held, query, gate };
-    let all = held.stations().len();
+    let places = StationPlaces {
+        dataset,
+        query,
+        gate,
+    };
+    let all = dataset.stations().len();
     let weight = weight_of(&places, all);
     let bounds = measure_places(rt, alloc, &places, workers, all, weight)?;
-    Plan::of_bounds(alloc, held, query, bounds.as_slice())
+    Plan::of_bounds(alloc, dataset, query, bounds.as_slice())
 }

@@ -42,7 +42,7 @@ pub fn work<R: Wait, G: Gate>(
             return Ok((seat, haul));
         }
         gate.claimed(rt, worker, morsel);
-        if let Err(memory) = settle(plan, board, &mut seat, &mut haul, worker, morsel) {
+        if let Err(memory) = take_turn(plan, board, &mut seat, &mut haul, worker, morsel) {
             return Err((seat, memory));
         }
     }
@@ -50,7 +50,7 @@ pub fn work<R: Wait, G: Gate>(
 
 /// A worker's turn after its claim: it looks at the floor, writes its record, and raises the score
 /// that it reached.
-fn settle(
+fn take_turn(
     plan: &Plan<'_>,
     board: &Board,
     seat: &mut Seat,
@@ -58,7 +58,7 @@ fn settle(
     worker: u64,
     morsel: u64,
 ) -> Result<(), Memory>
-    requires { crew.IsAt board.now (task_of plan.now) seat.old haul.old }
+    requires { crew.MaySettle board.now (task_of plan.now) seat.old haul.old }
     ensures kept { crew.KeepsClaims board.now seat.old seat.new }
     ensures settles { OnOk result
         (crew.Settles board.now (task_of plan.now) worker morsel seat.old seat.new haul.old haul.new) }

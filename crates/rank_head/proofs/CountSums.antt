@@ -9,11 +9,11 @@ use Rattle.std.proofs.lemmas.Cmp.{tied_itself}
 use Rattle.std.proofs.lemmas.List.Sums.{sum_by-cons}
 use Rattle.ghcn_files.specs.declared.station.StationId.{StationId}
 use Rattle.ghcn_files.specs.Ids.{same_id}
-use Rattle.ghcn_files.specs.IdLaws.{same_id-is, same_id-turned}
+use Rattle.ghcn_files.proofs.IdLaws.{same_id-is, same_id-turned}
 use Rattle.rank_scores.specs.declared.candidate.Candidate.{Candidate}
 use Rattle.rank_papers.specs.Report.{Named}
 use Rattle.rank_papers.specs.Certificate.{Entry, count_of, counts_of}
-use Rattle.rank_head.specs.HeadTests.{of_rows, Rise, is_scanned}
+use Rattle.rank_head.specs.HeadTests.{of_rows, IdsRise, is_scanned}
 use Rattle.rank_head.specs.RightHead.{CountsAddUp}
 use Rattle.rank_head.proofs.Scanned.{by_bytes, bytes_total, behind_first, rise-behind, AreBehind}
 
@@ -59,7 +59,7 @@ all_miss i e [] a h = tt
 all_miss i e (f ∷ es) a h = (behind_misses i e f a.0 h, all_miss i e es a.1 h)
 
 -- so one line alone is counted
-hit_once : (i : StationId) (es : List Entry) → Rise es → is_scanned es i ≡ true → sum (map (hit i) es) ≡ 1
+hit_once : (i : StationId) (es : List Entry) → IdsRise es → is_scanned es i ≡ true → sum (map (hit i) es) ≡ 1
 hit_once i [] up s = absurd cc
 hit_once i (e ∷ es) up s = by (hits i e) refl s (λ k. hit_once i es (rise-behind e es up) k)
   where
@@ -121,7 +121,8 @@ no_rows (e ∷ es) =
     by false = refl
 
 -- the counts add up to the number of rows
-add_up : (es : List Entry) → Rise es → (rows : List Named) → AllByRecursion (λ row. is_scanned es row.0.id ≡ true) rows
+add_up : (es : List Entry) → IdsRise es → (rows : List Named)
+    → AllByRecursion (λ row. is_scanned es row.0.id ≡ true) rows
     → sum (map (count_of (of_rows rows)) es) ≡ length rows
 add_up es up [] h = no_rows es
 add_up es up (row ∷ rows) h =

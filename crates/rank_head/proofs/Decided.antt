@@ -9,19 +9,19 @@ use Rattle.rank_papers.specs.ReportLines.{Reported, named_in}
 use Rattle.rank_papers.specs.Certificate.{Entry, Certified}
 use Rattle.rank_head.specs.declared.fault.HeadFault.{HeadFault}
 use Rattle.rank_head.specs.declared.fault.HeadFault.TheVariants.{OtherReportQuery, OtherCertificateQuery, NotRising}
-use Rattle.rank_head.specs.HeadTests.{Test, same_query, floor_test, order_tests, rising_tests, scanned_tests}
-use Rattle.rank_head.specs.HeadTests.{neighbours, stands_before, Rise, place_tests, count_tests, head_fault}
+use Rattle.rank_head.specs.HeadTests.{HeadTest, same_query, floor_test, order_tests, rising_tests, scanned_tests}
+use Rattle.rank_head.specs.HeadTests.{neighbours, stands_before, IdsRise, place_tests, count_tests, head_fault}
 use Rattle.rank_head.proofs.FirstPlaces.{first_failing-append, all_pass}
 
 -- a fault that is found decides
-pub some_decides : (ts us : List Test) (seen : Option HeadFault) → seen ≡ first_failing ts → is_some seen ≡ true
+pub some_decides : (ts us : List HeadTest) (seen : Option HeadFault) → seen ≡ first_failing ts → is_some seen ≡ true
     → seen ≡ first_failing (ts ++ us)
 some_decides ts us None e some = absurd cc
 some_decides ts us (Some fault) e some =
     ap (λ o. option_or o (first_failing us)) e ∙ sym (first_failing-append ts us)
 
 -- where none is found, it is left to the tests behind
-pub none_decides : (ts us : List Test) (seen : Option HeadFault) → seen ≡ first_failing ts → is_some seen ≡ false
+pub none_decides : (ts us : List HeadTest) (seen : Option HeadFault) → seen ≡ first_failing ts → is_some seen ≡ false
     → first_failing us ≡ first_failing (ts ++ us)
 none_decides ts us (Some fault) e none = absurd cc
 none_decides ts us None e none =
@@ -51,26 +51,26 @@ early_tests q rows kth es =
     ∙ sym (first_failing-append (order_tests rows) (floor_test q rows kth ∷ rising_tests es))
 
 -- a test that fails is the first, whatever stands behind it
-first_fails : (t : Test) (ts : List Test) → t.0 ≡ false → Some t.1 ≡ first_failing (t ∷ ts)
+first_fails : (t : HeadTest) (ts : List HeadTest) → t.0 ≡ false → Some t.1 ≡ first_failing (t ∷ ts)
 first_fails (true, why) ts e = absurd cc
 first_fails (false, why) ts e = refl
 
 -- one that passes leaves it to those behind
-first_passes : (t : Test) (ts : List Test) → t.0 ≡ true → first_failing (t ∷ ts) ≡ first_failing ts
+first_passes : (t : HeadTest) (ts : List HeadTest) → t.0 ≡ true → first_failing (t ∷ ts) ≡ first_failing ts
 first_passes (true, why) ts e = refl
 first_passes (false, why) ts e = absurd cc
 
 module _ (q : Asked) (r : Reported) (z : Certified) where
   -- the tests behind those of the queries
-  abbrev behind : List Test
+  abbrev behind : List HeadTest
   behind = place_tests q r.rows z.kth z.entries ++ count_tests r.rows z.entries z.counts
 
   -- the test of the report's query
-  abbrev of_report : Test
+  abbrev of_report : HeadTest
   of_report = (same_query r.query q, OtherReportQuery)
 
   -- and that of the certificate's
-  abbrev of_certificate : Test
+  abbrev of_certificate : HeadTest
   of_certificate = (same_query z.query q, OtherCertificateQuery)
 
   -- a report of another query is refused first
@@ -115,7 +115,7 @@ module _ (q : Asked) (rows : List Named) (kth : Option ℤ) (es : List Entry) (o
       none_decides (order_tests rows ++ floor_test q rows kth ∷ rising_tests es) (scanned_tests es rows) t early_is e
 
   -- and the IDs of lines rise
-  pub lines_rise : is_some t ≡ false → Rise es
+  pub lines_rise : is_some t ≡ false → IdsRise es
   lines_rise e =
       let none : r ≡ None = none_behind s r (ap is_some (sym all) ∙ e) in
       all_pass (λ (two : Entry × Entry). stands_before two.0.id two.1.id) NotRising 5 (neighbours es) (sym rise ∙ none)

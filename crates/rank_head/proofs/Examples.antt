@@ -4,8 +4,7 @@ use Rattle.std.specs.Prelude.{codes}
 use Rattle.std.specs.Fmt.{digits}
 use Rattle.ghcn_files.specs.declared.element.Element.TheVariants.{Tmax}
 use Rattle.rank_query.specs.declared.score.Score.TheVariants.{Highest}
-use Rattle.rank_query.specs.declared.region.Region.TheVariants.{Everywhere}
-use Rattle.rank_query.specs.Asked.{Asked}
+use Rattle.rank_query.specs.Asked.{Asked, top}
 use Rattle.rank_papers.specs.Report.{Named}
 use Rattle.rank_papers.specs.ReportLines.{Reported}
 use Rattle.rank_papers.specs.Certificate.{Entry, Certified}
@@ -15,7 +14,7 @@ use Rattle.rank_head.specs.HeadTests.{head_fault}
 
 -- the k highest of all
 abbrev ask : ℕ → Asked
-ask k = record { k = k; score = Highest Tmax; region = Everywhere; season = None; period = None }
+ask k = top k (Highest Tmax)
 
 -- a row of the first of July 2020
 abbrev row : List ℕ → ℤ → Named

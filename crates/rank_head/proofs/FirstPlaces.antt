@@ -4,9 +4,10 @@ use Rattle.std.proofs.Common.{map, take, ◌-◌, Option, Some, None, refl, ap, 
 use Rattle.std.specs.Prelude.{MatchOption, drop}
 use Rattle.std.specs.Option.{option_or}
 use Rattle.std.specs.List.{zip, AllByRecursion, AllWithin, HoldsAt}
+use Rattle.std.proofs.lemmas.List.{take_all}
 use Rattle.ghcn_fields.specs.Faults.{first_failing}
 use Rattle.rank_head.specs.declared.fault.HeadFault.{HeadFault}
-use Rattle.rank_head.specs.HeadTests.{Test, on_lines, neighbours}
+use Rattle.rank_head.specs.HeadTests.{HeadTest, on_lines, neighbours}
 use Rattle.rank_head.specs.FirstPlaces.{IsFirstPlace}
 
 -- ---- places
@@ -54,7 +55,7 @@ on_lines-map : {A B : Type 0} (f : A → B) (passes : B → Bool) (why : ℕ →
     → on_lines passes why n (map f xs) ≡ on_lines (λ x. passes (f x)) why n xs
 on_lines-map f passes why n [] = refl
 on_lines-map f passes why n (x ∷ xs) =
-    ap (λ (ts : List Test). (passes (f x), why n) ∷ ts) (on_lines-map f passes why (suc n) xs)
+    ap (λ (ts : List HeadTest). (passes (f x), why n) ∷ ts) (on_lines-map f passes why (suc n) xs)
 
 -- so its first place is the same
 pub first_place-map : {A B : Type 0} (f : A → B) (passes : B → Bool) (xs : List A) (r : Option ℕ)
@@ -69,17 +70,12 @@ neighbours-zip [] = refl
 neighbours-zip (x ∷ []) = refl
 neighbours-zip (x ∷ y ∷ xs) = ap (λ l. (x, y) ∷ l) (neighbours-zip (y ∷ xs))
 
--- of a list all are taken
-take_all : {A : Type 0} (xs : List A) → take (length xs) xs ≡ xs
-take_all [] = refl
-take_all (x ∷ xs) = ap (λ l. x ∷ l) (take_all xs)
-
 -- those behind the first, as many as there are
 pub behind_first : {A : Type 0} (xs : List A) → take (length xs - 1) (drop 1 xs) ≡ drop 1 xs
 behind_first [] = refl
 behind_first (x ∷ xs) =
     let same : length (x ∷ xs) - 1 ≡ length xs = omega arith in
-    ap (λ n. take n xs) same ∙ take_all xs
+    ap (λ n. take n xs) same ∙ take_all (length xs) xs (omega arith)
 
 -- neighbours of what is made
 pub neighbours-map : {A B : Type 0} (f : A → B) (xs : List A)
@@ -91,7 +87,7 @@ neighbours-map f (x ∷ y ∷ xs) = ap (λ l. (f x, f y) ∷ l) (neighbours-map 
 -- ---- tests one after the other
 
 -- the first that fails of two lists
-pub first_failing-append : (ts us : List Test)
+pub first_failing-append : (ts us : List HeadTest)
     → first_failing (ts ++ us) ≡ option_or (first_failing ts) (first_failing us)
 first_failing-append [] us = refl
 first_failing-append (t ∷ ts) us = by t.0 (first_failing-append ts us)

@@ -20,7 +20,7 @@ use Rattle.rank_papers.specs.Laws.{CertificatesAreRead}
 use Rattle.rank_head.specs.declared.fault.HeadFault.{HeadFault}
 use Rattle.rank_head.specs.declared.fault.HeadFault.TheVariants.{OtherReportQuery, OtherCertificateQuery, OutOfOrder}
 use Rattle.rank_head.specs.declared.fault.HeadFault.TheVariants.{NotRising, NotScanned, NotCounted}
-use Rattle.rank_head.specs.HeadTests.{Test, neighbours, of_rows, same_query, same_score, floor_test, order_tests}
+use Rattle.rank_head.specs.HeadTests.{HeadTest, neighbours, of_rows, same_query, same_score, floor_test, order_tests}
 use Rattle.rank_head.specs.HeadTests.{stands_before, rising_tests, is_scanned, scanned_tests, matching_tests}
 use Rattle.rank_head.specs.HeadTests.{place_tests, count_tests, head_fault}
 use Rattle.rank_head.specs.RightHead.{IsRightHead, HeadsAreRight, OneQuery}
@@ -34,24 +34,25 @@ both_none None p e = (refl, e)
 both_none (Some w) p e = absurd cc
 
 -- none of the tests of two lists fails where none of either does
-pub none_of : (ts us : List Test) → first_failing (ts ++ us) ≡ None
+pub none_of : (ts us : List HeadTest) → first_failing (ts ++ us) ≡ None
     → (first_failing ts ≡ None) × (first_failing us ≡ None)
 none_of ts us e = both_none (first_failing ts) (first_failing us) (sym (first_failing-append ts us) ∙ e)
 
 -- and back
-pub none_of_both : (ts us : List Test) → first_failing ts ≡ None → first_failing us ≡ None
+pub none_of_both : (ts us : List HeadTest) → first_failing ts ≡ None → first_failing us ≡ None
     → first_failing (ts ++ us) ≡ None
 none_of_both ts us e f =
     first_failing-append ts us ∙ ap (λ o. option_or o (first_failing us)) e ∙ f
 
 -- a test in front that fails isn't none
-pub front_none : (t : Test) (ts : List Test) → first_failing (t ∷ ts) ≡ None
+pub front_none : (t : HeadTest) (ts : List HeadTest) → first_failing (t ∷ ts) ≡ None
     → (t.0 ≡ true) × (first_failing ts ≡ None)
 front_none (true, why) ts e = (refl, e)
 front_none (false, why) ts e = absurd cc
 
 -- one that passes leaves it to those behind
-pub front_passed : (t : Test) (ts : List Test) → t.0 ≡ true → first_failing ts ≡ None → first_failing (t ∷ ts) ≡ None
+pub front_passed : (t : HeadTest) (ts : List HeadTest) → t.0 ≡ true → first_failing ts ≡ None
+    → first_failing (t ∷ ts) ≡ None
 front_passed (true, why) ts e f = f
 front_passed (false, why) ts e f = absurd cc
 
@@ -145,17 +146,17 @@ module _ (rows : List Named) (z : Certified) where
 module _ (certificates : CertificatesAreRead) (q : Asked) (r : Reported) (z : Certified) (asked : IsAsked q)
     (can_r : IsReported r) (can_z : IsCertified z) where
   -- the tests of the queries, and those behind them
-  abbrev of_report : Test
+  abbrev of_report : HeadTest
   of_report = (same_query r.query q, OtherReportQuery)
 
-  abbrev of_certificate : Test
+  abbrev of_certificate : HeadTest
   of_certificate = (same_query z.query q, OtherCertificateQuery)
 
-  abbrev behind : List Test
+  abbrev behind : List HeadTest
   behind = place_tests q r.rows z.kth z.entries ++ count_tests r.rows z.entries z.counts
 
   -- the tests of the k-th score and the order of lines
-  abbrev of_lines : List Test
+  abbrev of_lines : List HeadTest
   of_lines = floor_test q r.rows z.kth ∷ rising_tests z.entries
 
   -- where no test fails the head is right

@@ -1,40 +1,37 @@
 -- A search by ID among lines that rise.
 use Rattle.std.proofs.Common.{◌≡◌, ℕ, zero, suc, ◌<◌, Bool, true, false, not, List, [], ◌∷◌, length}
-use Rattle.std.proofs.Common.{get_or, refl, sym, ap, ◌∙◌, subst, arith, ◌||◌}
+use Rattle.std.proofs.Common.{get_or, refl, ap, ◌∙◌, subst, arith, ◌||◌}
 use native.Mathlib.Numerals.{unary_clauses}
 use Rattle.std.specs.Prelude.{◌&&◌, nat_lt}
 use Rattle.std.specs.List.{AllByRecursion}
 use Rattle.std.specs.List.Sorted.{IsSortedBy, IsNonDecreasingBy, IsPartitionPoint}
 use Rattle.std.specs.Cmp.{IsTotalOrder}
-use Rattle.std.specs.Cmp.Lexicographic.{slice_cmp}
-use Rattle.std.specs.Ordering.{is_lt, is_eq, nat_cmp, ordering_reverse, ordering_index}
+use Rattle.std.specs.Ordering.{is_lt, is_eq, ordering_reverse, ordering_index}
 use Rattle.std.specs.declared.cmp.Ordering.{Ordering}
 use Rattle.std.specs.declared.cmp.Ordering.TheVariants.{Less, Equal, Greater}
 use Rattle.std.proofs.lemmas.Bool.{ltb-true, ltb-false}
-use Rattle.std.proofs.lemmas.Cmp.{nat_list_cmp_total, on_total}
 use Rattle.std.proofs.lemmas.List.Sorted.{searchable_from_sorted}
-use Rattle.std.proofs.lemmas.Map.Text.{is_eq-slice_cmp}
 use Rattle.ghcn_files.specs.declared.station.StationId.{StationId}
 use Rattle.ghcn_files.specs.Ids.{same_id}
-use Rattle.ghcn_files.specs.IdLaws.{same_id-is}
+use Rattle.ghcn_files.proofs.IdOrder as ids
+use Rattle.ghcn_files.proofs.Ordered.{less}
+use Rattle.ghcn_files.proofs.IdLaws.{same_id-is}
 use Rattle.rank_papers.specs.Certificate.{Entry}
-use Rattle.rank_head.specs.HeadTests.{Rise, is_scanned}
+use Rattle.rank_head.specs.HeadTests.{IdsRise, is_scanned}
 
 -- ---- the order of IDs
 
 -- IDs by their bytes
 abbrev pub by_bytes : StationId → StationId → Ordering
-by_bytes a b = slice_cmp nat_cmp a.0 b.0
+by_bytes = ids.id_cmp (λ i. i)
 
 -- a total order
 pub bytes_total : IsTotalOrder by_bytes
-bytes_total = on_total (λ (i : StationId). i.0) nat_list_cmp_total
+bytes_total = ids.id_total (λ i. i)
 
--- what stands before
-less : (o : Ordering) → is_lt o ≡ true → o ≡ Less
-less Less e = refl
-less Equal e = absurd cc
-less Greater e = absurd cc
+-- whether two are the same, by it
+pub same_by : (a b : StationId) (o : Ordering) → by_bytes a b ≡ o → same_id a b ≡ is_eq o
+same_by = ids.same_by (λ i. i)
 
 -- what isn't below what is below it
 not_less : (o p : Ordering) → o ≡ ordering_reverse p → is_lt p ≡ true → is_lt o ≡ false
@@ -42,22 +39,10 @@ not_less o Less e h = ap is_lt e
 not_less o Equal e h = absurd cc
 not_less o Greater e h = absurd cc
 
--- what stands before another isn't the same
-other_id : (a b : StationId) → by_bytes a b ≡ Less → same_id a b ≡ false
-other_id a b e = sym (is_eq-slice_cmp a.0 b.0) ∙ ap is_eq e
-
--- nor is what stands behind it
-other_behind : (a b : StationId) → by_bytes a b ≡ Greater → same_id a b ≡ false
-other_behind a b e = sym (is_eq-slice_cmp a.0 b.0) ∙ ap is_eq e
-
--- what ties is the same
-tied_id : (a b : StationId) → by_bytes a b ≡ Equal → same_id a b ≡ true
-tied_id a b e = sym (is_eq-slice_cmp a.0 b.0) ∙ ap is_eq e
-
 -- ---- lines that rise
 
 -- the lines behind the first rise too
-pub rise-behind : (e : Entry) (es : List Entry) → Rise (e ∷ es) → Rise es
+pub rise-behind : (e : Entry) (es : List Entry) → IdsRise (e ∷ es) → IdsRise es
 rise-behind e [] h = tt
 rise-behind e (f ∷ es) h = h.1
 
@@ -66,7 +51,7 @@ abbrev pub AreBehind : StationId → List Entry → Type 0
 AreBehind id es = AllByRecursion (λ f. by_bytes id f.id ≡ Less) es
 
 -- what stands before the first line of some that rise stands before all
-before_all : (id : StationId) (e : Entry) (es : List Entry) → by_bytes id e.id ≡ Less → Rise (e ∷ es)
+before_all : (id : StationId) (e : Entry) (es : List Entry) → by_bytes id e.id ≡ Less → IdsRise (e ∷ es)
     → AreBehind id (e ∷ es)
 before_all id e [] b h = (b, tt)
 before_all id e (f ∷ es) b h =
@@ -74,7 +59,7 @@ before_all id e (f ∷ es) b h =
     (b, before_all id f es next h.1)
 
 -- the lines behind the first have IDs behind its own
-pub behind_first : (e : Entry) (es : List Entry) → Rise (e ∷ es) → AreBehind e.id es
+pub behind_first : (e : Entry) (es : List Entry) → IdsRise (e ∷ es) → AreBehind e.id es
 behind_first e [] h = tt
 behind_first e (f ∷ es) h = before_all e.id f es (less (by_bytes e.id f.id) h.0) h.1
 
@@ -84,7 +69,7 @@ none_scanned id [] h = refl
 none_scanned id (e ∷ es) h =
     let other : by_bytes e.id id ≡ Greater =
     bytes_total.antisymm e.id id ∙ ap ordering_reverse h.0 in
-    by (not e.skipped) (other_behind e.id id other) (none_scanned id es h.1)
+    by (not e.skipped) (same_by e.id id Greater other) (none_scanned id es h.1)
   where
     by : (b : Bool) → same_id e.id id ≡ false → is_scanned es id ≡ false
         → ((b && same_id e.id id) || is_scanned es id) ≡ false
@@ -99,12 +84,12 @@ at_behind id (e ∷ es) zero d h below = h.0
 at_behind id (e ∷ es) (suc i) d h below = at_behind id es i d h.1 (omega arith)
 
 -- where the line at a place is of a station, it says whether the station was scanned
-pub scanned_at : (id : StationId) (es : List Entry) (i : ℕ) (d : Entry) → Rise es → i < length es
+pub scanned_at : (id : StationId) (es : List Entry) (i : ℕ) (d : Entry) → IdsRise es → i < length es
     → by_bytes (get_or es i d).id id ≡ Equal → is_scanned es id ≡ not (get_or es i d).skipped
 scanned_at id [] i d h below e = absurd (omega arith)
 scanned_at id (x ∷ es) zero d h below e =
-    let same : x.id ≡ id = same_id-is x.id id (tied_id x.id id e) in
-    by (not x.skipped) (tied_id x.id id e)
+    let same : x.id ≡ id = same_id-is x.id id (same_by x.id id Equal e) in
+    by (not x.skipped) (same_by x.id id Equal e)
     (none_scanned id es (subst (λ (i : StationId). AreBehind i es) same (behind_first x es h)))
   where
     by : (b : Bool) → same_id x.id id ≡ true → is_scanned es id ≡ false
@@ -112,11 +97,11 @@ scanned_at id (x ∷ es) zero d h below e =
     by true f g = ap (λ s. s || is_scanned es id) f
     by false f g = g
 scanned_at id (x ∷ es) (suc i) d h below e =
-    let d_id : (get_or es i d).id ≡ id = same_id-is (get_or es i d).id id (tied_id (get_or es i d).id id e) in
+    let d_id : (get_or es i d).id ≡ id = same_id-is (get_or es i d).id id (same_by (get_or es i d).id id Equal e) in
     let before : by_bytes x.id id ≡ Less =
     subst (λ (j : StationId). by_bytes x.id j ≡ Less) d_id
     (at_behind x.id es i d (behind_first x es h) (omega arith)) in
-    by (not x.skipped) (other_id x.id id before)
+    by (not x.skipped) (same_by x.id id Less before)
     (scanned_at id es i d (rise-behind x es h) (omega arith) e)
   where
     by : (b : Bool) → same_id x.id id ≡ false → is_scanned es id ≡ not (get_or es i d).skipped
@@ -149,13 +134,13 @@ pub not_scanned : (id : StationId) (es : List Entry) (i : ℕ)
 not_scanned id es i h = others_not_scanned id es (λ k d below. by k d below (nat_lt k i) refl)
   where
     by : (k : ℕ) (d : Entry) → k < length es → (b : Bool) → nat_lt k i ≡ b → same_id (get_or es k d).id id ≡ false
-    by k d below true t = other_id (get_or es k d).id id (h.0 k d (omega arith) (ltb-true k i t))
-    by k d below false t = other_behind (get_or es k d).id id (h.1 k d (ltb-false k i t) below)
+    by k d below true t = same_by (get_or es k d).id id Less (h.0 k d (omega arith) (ltb-true k i t))
+    by k d below false t = same_by (get_or es k d).id id Greater (h.1 k d (ltb-false k i t) below)
 
 -- ---- lines in order
 
 -- lines that rise are in order by ID
-pub rise-sorted : (es : List Entry) → Rise es → IsSortedBy (λ a b. is_lt (by_bytes a.id b.id)) es
+pub rise-sorted : (es : List Entry) → IdsRise es → IsSortedBy (λ a b. is_lt (by_bytes a.id b.id)) es
 rise-sorted [] h k d low high = absurd (omega arith)
 rise-sorted (e ∷ []) h k d low high = absurd (omega arith)
 rise-sorted (e ∷ f ∷ es) h zero d low high =
@@ -166,6 +151,6 @@ rise-sorted (e ∷ f ∷ es) h (suc k) d low high =
     simp unary_clauses turned
 
 -- so a search by ID finds its way
-pub searchable : (id : StationId) (es : List Entry) → Rise es
+pub searchable : (id : StationId) (es : List Entry) → IdsRise es
     → IsNonDecreasingBy (λ e. ordering_index (by_bytes e.id id)) es
 searchable id es h = searchable_from_sorted bytes_total (λ (e : Entry). e.id) es id (rise-sorted es h)

@@ -7,7 +7,7 @@ use Rattle.rank_papers.specs.Report.{Named}
 use Rattle.rank_papers.specs.ReportLines.{Reported, IsReported}
 use Rattle.rank_papers.specs.Certificate.{Certified, IsCertified, kth_of_best, counts_of}
 use Rattle.rank_head.specs.declared.fault.HeadFault.{HeadFault}
-use Rattle.rank_head.specs.HeadTests.{neighbours, of_rows, same_query, Rise, is_scanned, head_fault}
+use Rattle.rank_head.specs.HeadTests.{neighbours, of_rows, same_query, IdsRise, is_scanned, head_fault}
 
 -- each row precedes the next
 abbrev pub AreInOrder : List Named → Type 0
@@ -20,7 +20,7 @@ pub record IsRightHead (q : Asked) (r : Reported) (z : Certified) : Type 0 where
   pub certificate : z.query ≡ q
   pub order : AreInOrder r.rows
   pub kth : z.kth ≡ kth_of_best q.k (of_rows r.rows)
-  pub rise : Rise z.entries
+  pub rise : IdsRise z.entries
   pub scanned : AllByRecursion (λ row. is_scanned z.entries row.0.id ≡ true) r.rows
   pub counts : z.counts ≡ counts_of z.version (of_rows r.rows) z.entries
 

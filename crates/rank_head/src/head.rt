@@ -32,6 +32,7 @@ pub fn check_head(
     ensures right { IfOk result
         (right.IsNoneWhereRight query.now (reported_in report.now) (certified_in certificate.now)) }
 {
+    // Clause `right` is the law, for a query that can be asked: `k` says that.
     heads_are_right();
     let _k = query.k();
     head_fault(alloc, query, report, certificate)

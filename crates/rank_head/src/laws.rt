@@ -13,5 +13,6 @@ pub fn heads_are_right()
     ensures queries { right.OneQuery }
     ensures sums { right.CountsAddUp }
 {
+    // The k-th score of rows in order is that of the last.
     certificates_are_read();
 }

@@ -69,7 +69,7 @@ pub(crate) fn floor_fault(query: &Query, rows: &[Row], kth: Option<i64>) -> Opti
 
 /// The refusal of the first row that is of no series that was scanned. The first stands on line 3.
 pub(crate) fn scanned_fault(lines: &[Line], rows: &[Row]) -> Option<HeadFault>
-    requires { tests.Rise lines.now }
+    requires { tests.IdsRise lines.now }
     ensures { result ≡ first_failing (tests.scanned_tests lines.now (map named_in rows.now)) }
 {
     let place = first_not_scanned(lines, rows)?;
@@ -80,7 +80,7 @@ pub(crate) fn scanned_fault(lines: &[Line], rows: &[Row]) -> Option<HeadFault>
 
 /// The place of the first row that is of no series that was scanned.
 fn first_not_scanned(lines: &[Line], rows: &[Row]) -> Option<usize>
-    requires { tests.Rise lines.now }
+    requires { tests.IdsRise lines.now }
     ensures place { IsFirstPlace (λ row. tests.is_scanned lines.now row.0.id)
         (map named_in rows.now) result }
     ensures within { IfSome result (λ place. place < length rows.now) }
@@ -92,7 +92,7 @@ fn first_not_scanned(lines: &[Line], rows: &[Row]) -> Option<usize>
 /// Whether one of these lines, which rise by ID, is of the station and the series wasn't passed
 /// over.
 fn is_scanned(lines: &[Line], id: &StationId) -> bool
-    requires { tests.Rise lines.now }
+    requires { tests.IdsRise lines.now }
     ensures { result ≡ tests.is_scanned lines.now id.now }
 {
     match lines.binary_search_by(|line| line.id.cmp(id)) {

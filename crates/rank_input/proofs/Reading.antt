@@ -76,9 +76,9 @@ refused_data query stations files q list (daily.DailyLine file line why) asks li
     rw (asks, lists, is) refl
 
 -- a reader's data are what the input holds
-pub holds_input : (t : Intake) (q : Asked) (r : DataReader) (held : Contents) → t.read ≡ Ok (q, r)
-    → HoldsFed r held → HoldsInput t q held
-holds_input t q r held is holds = record {
+pub holds_input : (t : Intake) (q : Asked) (r : DataReader) (dataset : Contents) → t.read ≡ Ok (q, r)
+    → HoldsFed r dataset → HoldsInput t q dataset
+holds_input t q r dataset is holds = record {
   is = λ i taken.
       let reading = reading_of t q r i is taken in
       let are = holds.is (fed_for q reading.stations i.files) reading.fed in

@@ -59,22 +59,22 @@ then_read of (Err e) next = Err (of e)
 -- the data that a station list and daily files hold, or the first fault of these
 abbrev pub read_files : List ℕ → List (List ℕ) → Result Contents Fault
 read_files stations files = then_read of_stations (listed stations) (λ ss.
-    then_read of_data (data_of ss files) (λ held. Ok held))
+    then_read of_data (data_of ss files) (λ dataset. Ok dataset))
 
 -- the query and the data that an input holds, or the first fault: of the query, the stations, the daily files
 abbrev pub read_input : List ℕ → List ℕ → List (List ℕ) → Result (Asked × Contents) Fault
 read_input query stations files =
     then_read of_query (read_query query) (λ q.
     then_read of_stations (listed stations) (λ ss.
-    then_read of_data (data_of ss files) (λ held. Ok (q, held))))
+    then_read of_data (data_of ss files) (λ dataset. Ok (q, dataset))))
 
 -- an input has no fault, and this is what it asks and holds
-pub record IsReadOf (query stations : List ℕ) (files : List (List ℕ)) (asked : Asked) (held : Contents)
+pub record IsReadOf (query stations : List ℕ) (files : List (List ℕ)) (asked : Asked) (dataset : Contents)
     : Type 0 where
   pub list : List Station
   pub asks : Asks query asked
   pub lists : listed stations ≡ Ok list
-  pub holds : data_of list files ≡ Ok held
+  pub holds : data_of list files ≡ Ok dataset
 
 -- the first fault of the words of a run: of the number of workers, of the guess
 abbrev pub words_fault : ℕ → Option ℤ → Option Fault

@@ -60,14 +60,14 @@ abbrev pub AreForeignOf : Intake → Foreign → Type 0
 AreForeignOf t foreign = IsTrueOf t (λ query stations files. foreign ≡ foreign_of files)
 
 -- an input has no fault and asks this, and these are what the query needs of the data that it holds
-pub record Needs (query stations : List ℕ) (files : List (List ℕ)) (asked : Asked) (held : Contents) : Type 0 where
+pub record Needs (query stations : List ℕ) (files : List (List ℕ)) (asked : Asked) (dataset : Contents) : Type 0 where
   pub whole : Contents
   pub read : IsReadOf query stations files asked whole
-  pub needed : held ≡ data_for asked whole
+  pub needed : dataset ≡ data_for asked whole
 
 -- a query and data are what an intake's input asks and needs
 abbrev pub HoldsInput : Intake → Asked → Contents → Type 0
-HoldsInput t asked held = IsTrueOf t (λ query stations files. Needs query stations files asked held)
+HoldsInput t asked dataset = IsTrueOf t (λ query stations files. Needs query stations files asked dataset)
 
 -- want of memory, or the first fault of an intake's input
 abbrev pub RefusesInput : Intake → Fault → Type 0

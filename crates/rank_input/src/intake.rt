@@ -17,7 +17,7 @@ use std::alloc::Global;
 pub struct TakenInput {
     pub query: Query,
     /// What the query needs of the data.
-    pub held: Data,
+    pub dataset: Data,
     /// Which of the daily files are foreign.
     pub foreign: Foreign,
 }
@@ -61,15 +61,15 @@ impl Intake {
     /// current file is ended where it has a byte.
     pub fn finish(self) -> Result<TakenInput, Fault>
         requires { HasTakenSome self }
-        ensures ok { IfOk result (λ taken. HoldsInput self taken.query taken.held) }
+        ensures ok { IfOk result (λ taken. HoldsInput self taken.query taken.dataset) }
         ensures foreign { IfOk result (λ taken. AreForeignOf self taken.foreign) }
         ensures err { IfErr result (RefusesInput self) }
     {
         let (query, reader) = self.read?;
-        let (held, foreign) = reader.finish()?;
+        let (dataset, foreign) = reader.finish()?;
         Ok(TakenInput {
             query,
-            held,
+            dataset,
             foreign,
         })
     }

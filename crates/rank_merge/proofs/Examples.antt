@@ -1,13 +1,12 @@
 -- Worked merges, by computation.
-use Rattle.std.proofs.Common.{◌≡◌, ℕ, List, [], ◌∷◌, ◌++◌, refl, Ok, Err, None}
+use Rattle.std.proofs.Common.{◌≡◌, ℕ, List, [], ◌∷◌, ◌++◌, refl, Ok, Err}
 use Rattle.std.specs.Prelude.{codes}
 use Rattle.std.specs.Fmt.{digits}
 use Rattle.jiff_core.specs.Calendar.{days_from_civil, day_count, days_of_years, days_of_months}
 use Rattle.ghcn_fields.specs.Dates.{year_and_rest, month_and_day}
 use Rattle.ghcn_files.specs.declared.element.Element.TheVariants.{Tmax}
 use Rattle.rank_query.specs.declared.score.Score.TheVariants.{Highest}
-use Rattle.rank_query.specs.declared.region.Region.TheVariants.{Everywhere}
-use Rattle.rank_query.specs.Asked.{Asked}
+use Rattle.rank_query.specs.Asked.{Asked, top}
 use Rattle.rank_query.specs.Words.{says}
 use Rattle.rank_query.specs.Readers.{keyword}
 use Rattle.rank_query.specs.WordValues.{number, element}
@@ -23,19 +22,19 @@ text (l ∷ ls) = l ++ 10 ∷ text ls
 
 -- the k highest of all
 abbrev ask : ℕ → Asked
-ask k = record { k = k; score = Highest Tmax; region = Everywhere; season = None; period = None }
+ask k = top k (Highest Tmax)
 
 -- the line of a query for so many
-abbrev top : List ℕ → List ℕ
-top k = codes "query top " ++ k ++ codes " highest TMAX"
+abbrev asking : List ℕ → List ℕ
+asking k = codes "query top " ++ k ++ codes " highest TMAX"
 
 -- a report of so many
 abbrev report_with : List ℕ → List (List ℕ) → List ℕ
-report_with k rows = text (codes "extremes report 1" ∷ top k ∷ rows)
+report_with k rows = text (codes "extremes report 1" ∷ asking k ∷ rows)
 
 -- it, and a certificate of version 2
 abbrev papers : List ℕ → List (List ℕ) → List (List ℕ) → Texts
-papers k rows lines = (report_with k rows, text (codes "extremes certificate 2" ∷ top k ∷ lines))
+papers k rows lines = (report_with k rows, text (codes "extremes certificate 2" ∷ asking k ∷ lines))
 
 -- the row of the highest one
 abbrev alpha : List ℕ
@@ -52,7 +51,7 @@ two = papers (codes "1") (alpha ∷ codes "end 1" ∷ []) (codes "kth 311" ∷ c
 abbrev one : Texts
 one = (
   report_with (codes "1") (codes "1 ZZA00000003 2020-07-01 2020-07-01 25.0 C CHARLIE" ∷ codes "end 1" ∷ []),
-  text (codes "extremes certificate 1" ∷ top (codes "1") ∷ codes "kth 250" ∷ codes "scan ZZA00000003 250"
+  text (codes "extremes certificate 1" ∷ asking (codes "1") ∷ codes "kth 250" ∷ codes "scan ZZA00000003 250"
       ∷ codes "end 1" ∷ []),
 )
 

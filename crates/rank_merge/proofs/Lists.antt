@@ -4,7 +4,7 @@ use Rattle.std.specs.List.{AllByRecursion, AllZip}
 use Rattle.std.proofs.lemmas.List.Elements.{recursion_from_All, All-from_recursion}
 use Rattle.std.proofs.lemmas.List.Sorted.{All-permutation, IsPermutation-sym}
 use Rattle.ghcn_fields.specs.Sorting.{sorted_by}
-use Rattle.ghcn_fields.proofs.Ordered.{sorted-permutation}
+use Rattle.ghcn_files.proofs.Ordered.{sorted-permutation}
 
 -- ---- each of a list
 

@@ -21,7 +21,7 @@ use Rattle.rank_papers.specs.Certificate.{Entry, Certified, IsEntry, IsCount, Is
 use Rattle.rank_papers.specs.CertificateLines.{read_certificate}
 use Rattle.rank_papers.specs.PlanPapers.{IsMeasuredCertificate}
 use Rattle.rank_papers.proofs.PlanLines.{sorted-zip}
-use Rattle.rank_merge.specs.Merged.{entries_of, merged_entries}
+use Rattle.rank_merge.specs.Merged.{entries_of_parts, merged_entries}
 use Rattle.rank_merge.specs.Laws.{IsMeasuredPart, MergedAreMeasured}
 use Rattle.rank_merge.specs.Merging.{merge}
 use Rattle.rank_merge.proofs.Lists.{zip-append, zip-weaker, zip-same}
@@ -117,12 +117,12 @@ module _ (q : Asked) where
     measured_parts : (stations : List Station) (parts : List Filed) (ws : List WithData)
         → AllByRecursion (IsRightPart q) ws → AllZip (λ p w. read_certificate p.1.1 ≡ Ok w.1.certificate) parts ws
         → AllZip (IsMeasuredPart q stations) parts (data_of_parts ws)
-        → AllZip IsMeasuredEntry (entries_of (parts_alone ws)) (flat_map (morsels q) (data_of_parts ws))
+        → AllZip IsMeasuredEntry (entries_of_parts (parts_alone ws)) (flat_map (morsels q) (data_of_parts ws))
     measured_parts stations [] [] h r m = tt
     measured_parts stations [] (w ∷ ws) h r m = absurd r
     measured_parts stations (p ∷ parts) [] h r m = absurd r
     measured_parts stations (p ∷ parts) (w ∷ ws) h r m =
-        zip-append IsMeasuredEntry w.1.certificate.entries (entries_of (parts_alone ws)) (morsels q w.0)
+        zip-append IsMeasuredEntry w.1.certificate.entries (entries_of_parts (parts_alone ws)) (morsels q w.0)
         (flat_map (morsels q) (data_of_parts ws))
         (zip_measured (kth_of_query q w.0) w.1.certificate.entries (morsels q w.0) h.0.certificate.entries
         (measured_read w.0 p.1.1 h.0.contents m.0.1 w.1.certificate r.0))
@@ -130,9 +130,10 @@ module _ (q : Asked) where
 
 -- so the bounds of the merged lines are those of the series
 pub merged_measured : Known → CutByFiles → MorselsOfParts → MergedAreMeasured
-merged_measured known cut morsels_of q texts papers asked merged stations parts ds held same are measured contents read
+merged_measured known cut morsels_of q texts papers asked merged stations parts ds dataset same are measured contents
+    read
     apart =
-    let m : IsMerged q stations parts held papers =
+    let m : IsMerged q stations parts dataset papers =
     record { asked = asked; merged = ap (merge q) same ∙ merged; are = are; contents = contents; read = read } in
     let found = all known cut m in
     let z = is_certificate known cut m in
@@ -142,10 +143,10 @@ merged_measured known cut morsels_of q texts papers asked merged stations parts 
     let own : AllZip (IsMeasuredPart q stations) parts (data_of_parts found.read) =
     subst (AllZip (IsMeasuredPart q stations) parts) (sym one) measured in
     let us : List Usable = flat_map (morsels q) (data_of_parts found.read) in
-    let lines = sorted_measured q (entries_of (parts_alone found.read)) us
+    let lines = sorted_measured q (entries_of_parts (parts_alone found.read)) us
     (measured_parts q known asked stations parts found.read found.right found.certificates_are own) in
-    let series : morsels q held ≡ sorted_by series_first us =
-    morsels_of q stations parts ds held data_are read apart
+    let series : morsels q dataset ≡ sorted_by series_first us =
+    morsels_of q stations parts ds dataset data_are read apart
     ∙ ap (λ (l : List Contents). sorted_by series_first (flat_map (morsels q) l)) (sym one) in
     record {
       certificate = z.0;

@@ -5,13 +5,13 @@ use Rattle.std.specs.Prelude.{int_lt}
 use Rattle.std.specs.List.{flat_map, AllByRecursion, AllZip}
 use Rattle.std.proofs.lemmas.List.{map-append, take-map}
 use Rattle.std.proofs.lemmas.List.Sorted.{sum_by-IsPermutation}
-use Rattle.ghcn_fields.proofs.Ordered.{each-weaker}
+use Rattle.ghcn_files.proofs.Ordered.{each-weaker, sorted-map}
 use Rattle.ghcn_fields.specs.Sorting.{sorted_by}
 use Rattle.ghcn_files.specs.declared.station.Station.{Station}
 use Rattle.ghcn_files.specs.declared.station.StationId.{StationId}
 use Rattle.ghcn_series.specs.Series.{Usable, Contents}
 use Rattle.ghcn_series.specs.Held.{IsContents}
-use Rattle.ghcn_series.proofs.ListFacts.{both_all}
+use Rattle.ghcn_series.proofs.ListFacts.{each-append}
 use Rattle.rank_query.specs.Asked.{Asked, IsAsked}
 use Rattle.rank_scores.specs.declared.candidate.Candidate.{Candidate}
 use Rattle.rank_scores.specs.Order.{is_below}
@@ -29,11 +29,10 @@ use Rattle.rank_papers.specs.Certificate.{Entry, IsRightEntry, SaysRight, kth_of
 use Rattle.rank_papers.proofs.PlanLines.{sorted-zip}
 use Rattle.rank_papers.proofs.PlanPapers.{kth-best, some_asked}
 use Rattle.rank_head.specs.HeadTests.{of_rows}
-use Rattle.rank_merge.specs.Merged.{Part, rows_of, entries_of, rows_in_order, merged_rows, merged_entries}
+use Rattle.rank_merge.specs.Merged.{Part, rows_of, entries_of_parts, rows_in_order, merged_rows, merged_entries}
 use Rattle.rank_merge.specs.Merged.{merged_report, merged_certificate}
 use Rattle.rank_pool.proofs.Orders.{take-all, sorted-all}
 use Rattle.rank_merge.proofs.Lists.{zip-append, zip-weaker}
-use Rattle.rank_merge.proofs.StableSorts.{sorted-map}
 use Rattle.std.proofs.lemmas.Int.{ints}
 
 -- ---- parts and their data
@@ -144,10 +143,10 @@ module _ (q : Asked) where
     -- lines that are right in their parts are right in the whole
     entries_right : (ws : List WithData) → AllByRecursion (IsRightPart q) ws
         → AllByRecursion (λ d. (b : ℤ) → above b (all_candidates q d) ≤ above b of_parts) (data_of_parts ws)
-        → AllZip (IsRightEntry q kth_all) (entries_of (parts_alone ws)) (flat_map (morsels q) (data_of_parts ws))
+        → AllZip (IsRightEntry q kth_all) (entries_of_parts (parts_alone ws)) (flat_map (morsels q) (data_of_parts ws))
     entries_right [] h fewer = tt
     entries_right (w ∷ ws) h fewer =
-        zip-append (IsRightEntry q kth_all) w.1.certificate.entries (entries_of (parts_alone ws)) (morsels q w.0)
+        zip-append (IsRightEntry q kth_all) w.1.certificate.entries (entries_of_parts (parts_alone ws)) (morsels q w.0)
         (flat_map (morsels q) (data_of_parts ws))
         (zip-weaker (IsRightEntry q (kth_of_query q w.0)) (IsRightEntry q kth_all) (λ e u r. record {
           named = r.named;
@@ -160,7 +159,7 @@ module _ (q : Asked) where
     -- so the merged lines are right entries of the morsels
     pub merged_entries_right : AllZip (IsRightEntry q kth_all) (merged_entries (parts_alone ps)) (morsels q c)
     merged_entries_right =
-        let es : List Entry = entries_of (parts_alone ps) in
+        let es : List Entry = entries_of_parts (parts_alone ps) in
         let us : List Usable = flat_map (morsels q) (data_of_parts ps) in
         zip_moved q kth_all (merged_entries (parts_alone ps)) (sorted_by series_first us) (morsels q c)
         (sorted-zip (IsRightEntry q kth_all) (λ (a b : Entry). id_comes_first a.id b.id) series_first
@@ -180,7 +179,7 @@ module _ (q : Asked) where
         → AllByRecursion IsNamed (rows_of (parts_alone qs))
     names_of_parts [] k h = tt
     names_of_parts (p ∷ qs) k h =
-        both_all IsNamed p.1.report.rows (rows_of (parts_alone qs))
+        each-append IsNamed p.1.report.rows (rows_of (parts_alone qs))
         (subst (λ (sts : List Station). AllByRecursion (λ row. name_of sts row.0.id ≡ Some row.1) p.1.report.rows) k.0
         h.0.report.named)
         (names_of_parts qs k.1 h.1)

@@ -11,12 +11,12 @@ use Rattle.ghcn_fields.specs.Refusals.{IsRefusal, OrMemory}
 use Rattle.ghcn_files.specs.declared.station.Station.{Station}
 use Rattle.ghcn_files.specs.declared.station.StationId.{StationId}
 use Rattle.ghcn_files.specs.Ids.{same_id}
-use Rattle.ghcn_files.specs.IdLaws.{same_id-turned}
+use Rattle.ghcn_files.proofs.IdLaws.{same_id-turned}
 use Rattle.ghcn_series.specs.Series.{Contents}
 use Rattle.ghcn_series.specs.Held.{IsContents}
 use Rattle.ghcn_series.specs.Says.{data_of}
-use Rattle.ghcn_series.proofs.ListFacts.{both_all}
-use Rattle.ghcn_fields.proofs.Ordered as ordered
+use Rattle.ghcn_series.proofs.ListFacts.{each-append}
+use Rattle.ghcn_files.proofs.Ordered as ordered
 use Rattle.rank_query.specs.Asked.{Asked, IsAsked}
 use Rattle.rank_scores.specs.Cut.{Filed, IsDataOf, morsel_ids, CutByFiles}
 use Rattle.rank_scores.specs.Morsels.{id_comes_first}
@@ -28,7 +28,7 @@ use Rattle.rank_papers.specs.CertificateLines.{read_certificate}
 use Rattle.rank_papers.specs.Laws.{CertificatesAreRead, RightCertificatesSayRight, ReportsAreRead, RightReportsSayRight}
 use Rattle.rank_head.specs.RightHead.{HeadsAreRight}
 use Rattle.rank_merge.specs.declared.fault.MergeFault.{MergeFault}
-use Rattle.rank_merge.specs.Merged.{Part, rows_of, entries_of, rows_in_order, merged_entries}
+use Rattle.rank_merge.specs.Merged.{Part, rows_of, entries_of_parts, rows_in_order, merged_entries}
 use Rattle.rank_merge.specs.Merged.{merged_report, merged_certificate}
 use Rattle.rank_merge.specs.Merging.{Texts, part_of, and_parts, parts_from, twice, papers_unless, papers_of, merge}
 use Rattle.rank_merge.specs.Merging.{is_memory}
@@ -68,10 +68,10 @@ module _ (known : Known) (q : Asked) (asked : IsAsked q) (stations : List Statio
   read_part : (files : List (List ℕ)) (texts : Texts) → ArePapersOf q stations files texts
       → ReadPart q stations files texts
   read_part files texts h =
-      let r = (known.right_reports q h.held texts.0 asked h.contents).0 h.report in
-      let z = (known.right_certificates q h.held texts.1 asked h.contents).0 h.certificate in
+      let r = (known.right_reports q h.dataset texts.0 asked h.contents).0 h.report in
+      let z = (known.right_certificates q h.dataset texts.1 asked h.contents).0 h.certificate in
       record {
-        part = (h.held, record { report = r.0; certificate = z.0 });
+        part = (h.dataset, record { report = r.0; certificate = z.0 });
         right = record { contents = h.contents; report = r.2; certificate = z.2 };
         can_report = r.1.can_be;
         can_certificate = z.1.can_be;
@@ -103,7 +103,7 @@ module _ (known : Known) (q : Asked) (asked : IsAsked q) (stations : List Statio
       record {
         read = one.part ∷ rest.read;
         right = (one.right, rest.right);
-        rows = both_all IsRow one.part.1.report.rows (rows_of (parts_alone rest.read)) one.can_report.rows rest.rows;
+        rows = each-append IsRow one.part.1.report.rows (rows_of (parts_alone rest.read)) one.can_report.rows rest.rows;
         data_are = (one.data_is, rest.data_are);
         certificates_are = (one.certificate, rest.certificates_are);
         passed = ap (λ (o : Result Part MergeFault). and_parts o (parts_from q (suc n) (all_texts parts)))
@@ -148,7 +148,7 @@ distinct_to (e ∷ es) d = grind (arith, ints, none_behind_from e.id es d.0, dis
 
 -- the IDs of the lines of all parts are those of their morsels
 part_ids : (q : Asked) (ws : List WithData) → AllByRecursion (IsRightPart q) ws
-    → ids_of (entries_of (parts_alone ws)) ≡ morsel_ids q (data_of_parts ws)
+    → ids_of (entries_of_parts (parts_alone ws)) ≡ morsel_ids q (data_of_parts ws)
 part_ids q [] h = refl
 part_ids q (w ∷ ws) h = grind (arith, ints, map-append, parts_alone ws, zip-same, part_ids q ws h.1, data_of_parts ws)
 
@@ -156,7 +156,7 @@ module _ (q : Asked) (ws : List WithData) (right : AllByRecursion (IsRightPart q
   -- the IDs of the merged lines are these in another order
   ids_moved : IsPermutation (morsel_ids q (data_of_parts ws)) (ids_of (merged_entries (parts_alone ws)))
   ids_moved =
-      let lines : List Entry = entries_of (parts_alone ws) in
+      let lines : List Entry = entries_of_parts (parts_alone ws) in
       let moved = IsPermutation-map (λ (x : Entry). x.id) lines (merged_entries (parts_alone ws))
       (ordered.sorted-permutation (λ (a b : Entry). id_comes_first a.id b.id) lines) in
       subst (λ (l : List StationId). IsPermutation l (ids_of (merged_entries (parts_alone ws)))) (part_ids q ws right)
@@ -205,16 +205,16 @@ answered q ps t (Some id) h = absurd cc
 answered q ps t None h = (refl, cc)
 
 -- what is merged of right papers of parts of files without a fault
-pub record IsMerged (q : Asked) (stations : List Station) (parts : List Filed) (held : Contents) (papers : Texts)
+pub record IsMerged (q : Asked) (stations : List Station) (parts : List Filed) (dataset : Contents) (papers : Texts)
     : Type 0 where
   pub asked : IsAsked q
   pub merged : merge q (all_texts parts) ≡ Ok papers
   pub are : AreAllParts q stations parts
-  pub contents : IsContents held
-  pub read : data_of stations (all_files parts) ≡ Ok held
+  pub contents : IsContents dataset
+  pub read : data_of stations (all_files parts) ≡ Ok dataset
 
 module _ (known : Known) (cut : CutByFiles) {q : Asked} {stations : List Station} {parts : List Filed}
-    {held : Contents} {papers : Texts} (m : IsMerged q stations parts held papers) where
+    {dataset : Contents} {papers : Texts} (m : IsMerged q stations parts dataset papers) where
   -- all parts
   pub all : AllRead known q m.asked stations 1 parts
   all = read_all known q m.asked stations 1 parts m.are
@@ -229,8 +229,9 @@ module _ (known : Known) (cut : CutByFiles) {q : Asked} {stations : List Station
   told = answered q whole papers (twice (merged_entries whole)) (sym (ap (papers_of q) all.passed) ∙ m.merged)
 
   -- they say what is right
-  say : SaysRightReport q held (merged_report q whole) × SaysRight q held (merged_certificate q whole)
-  say = merged_say q held m.asked m.contents all.read (cut q stations parts (data_of_parts all.read) held all.data_are
+  say : SaysRightReport q dataset (merged_report q whole) × SaysRight q dataset (merged_certificate q whole)
+  say = merged_say q dataset m.asked m.contents all.read (cut q stations parts
+      (data_of_parts all.read) dataset all.data_are
       m.read (apart_from q all.read all.right told.0)) all.right
 
   -- the report can be
@@ -239,11 +240,11 @@ module _ (known : Known) (cut : CutByFiles) {q : Asked} {stations : List Station
       grind (arith, ints, length-take q.k (rows_in_order (rows_of whole)), le-leb, take-all, sorted-all, all, told)
 
   -- the report is right
-  pub is_report : IsReport q held papers.0
-  is_report = (known.right_reports q held papers.0 m.asked m.contents).1 (merged_report q whole, is_text, say.0)
+  pub is_report : IsReport q dataset papers.0
+  is_report = (known.right_reports q dataset papers.0 m.asked m.contents).1 (merged_report q whole, is_text, say.0)
 
   -- and the certificate is, which has the merged lines
-  pub is_certificate : (z : IsCertificate q held papers.1) × (z.version ≡ 2) × (z.entries ≡ merged_entries whole)
+  pub is_certificate : (z : IsCertificate q dataset papers.1) × (z.version ≡ 2) × (z.entries ≡ merged_entries whole)
   is_certificate = (
     record {
       version = 2;
@@ -265,11 +266,11 @@ module _ (known : Known) (cut : CutByFiles) {q : Asked} {stations : List Station
 
 -- by the laws of texts, and by that of files in parts
 pub merged_right : Known → CutByFiles → MergedAreRight
-merged_right known cut q texts papers asked merged stations parts held same are contents read =
-    let m : IsMerged q stations parts held papers =
+merged_right known cut q texts papers asked merged stations parts dataset same are contents read =
+    let m : IsMerged q stations parts dataset papers =
     record { asked = asked; merged = ap (merge q) same ∙ merged; are = are; contents = contents; read = read } in
     let report = is_report known cut m in
-    ((report, λ other h. one_report q held other papers.0 h report), (is_certificate known cut m).0)
+    ((report, λ other h. one_report q dataset other papers.0 h report), (is_certificate known cut m).0)
 
 -- ---- when right parts are refused
 
@@ -285,9 +286,10 @@ same_data stations (p ∷ parts) (d ∷ ds) (e ∷ es) h k = grind (arith, ints,
 
 -- right parts are merged exactly where no station has morsels in two of them
 pub right_merged : Known → RightAreMerged
-right_merged known q stations parts ds asked are held =
+right_merged known q stations parts ds asked are dataset =
     let all = read_all known q asked stations 1 parts are in
-    let same : data_of_parts all.read ≡ ds = same_data stations parts (data_of_parts all.read) ds all.data_are held in
+    let same : data_of_parts all.read ≡ ds = same_data stations parts
+    (data_of_parts all.read) ds all.data_are dataset in
     subst (λ (l : List Contents). IsRightOutcome q l (merge q (all_texts parts))) same
     (subst (IsRightOutcome q (data_of_parts all.read)) (sym (ap (papers_of q) all.passed))
     (by all.read all.right (twice (merged_entries (parts_alone all.read))) refl))
@@ -303,7 +305,7 @@ right_merged known q stations parts ds asked are held =
 -- so it is said of the outcome that there is
 pub outcome_told : RightAreMerged → (q : Asked) (texts : List Texts) (outcome : Result Texts MergeFault) → IsAsked q
     → merge q texts ≡ outcome → IsOutcomeWhereRight q texts outcome
-outcome_told law q texts outcome asked is stations parts ds same are held = grind (arith, ints)
+outcome_told law q texts outcome asked is stations parts ds same are dataset = grind (arith, ints)
 
 -- and of a refusal, unless memory ran out
 pub refusal_told : RightAreMerged → (q : Asked) (texts : List Texts) (why : MergeFault) → IsAsked q

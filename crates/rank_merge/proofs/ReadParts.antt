@@ -13,7 +13,7 @@ use Rattle.rank_papers.specs.Certificate.{Entry}
 use Rattle.rank_merge.specs.declared.fault.MergeFault.{MergeFault}
 use Rattle.rank_merge.specs.declared.gathering.Gathered.{Gathered}
 use Rattle.rank_merge.specs.declared.part.Papers.{Papers}
-use Rattle.rank_merge.specs.Merged.{Part, rows_of, entries_of}
+use Rattle.rank_merge.specs.Merged.{Part, rows_of, entries_of_parts}
 use Rattle.rank_merge.specs.Merging.{Texts, part_of, and_parts, parts_from, is_memory}
 use Rattle.rank_merge.specs.Found.{AreOfParts, part_in}
 use Rattle.std.proofs.lemmas.Int.{ints}
@@ -80,7 +80,7 @@ module _ (q : Asked) where
         lines =
             lines
             ∙ ap (λ (l : List Entry). l ++ p.certificate.entries) h.lines
-            ∙ ap (λ (l : List Entry). entries_of h.parts ++ l) (sym (append-nil p.certificate.entries))
+            ∙ ap (λ (l : List Entry). entries_of_parts h.parts ++ l) (sym (append-nil p.certificate.entries))
             ∙ sym (flat_map-append (λ (x : Part). x.certificate.entries) h.parts (p ∷ []));
       }
 

@@ -1,46 +1,33 @@
 -- Papers that say what is right have a right head.
-use Rattle.std.proofs.Common.{◌≡◌, ℕ, zero, suc, Bool, true, false, List, [], ◌∷◌, map, take, filter, Option, Some}
+use Rattle.std.proofs.Common.{◌≡◌, ℕ, zero, suc, Bool, true, false, List, [], ◌∷◌, take, filter, Option, Some}
 use Rattle.std.proofs.Common.{None, cond, refl, sym, ap, ◌∙◌, ℤ, arith, ◌⊎◌, inl, inr, not, ◌++◌, length, subst, ◌≤ℤ◌}
 use Rattle.std.proofs.Common.{append_assoc}
 use Rattle.std.specs.Prelude.{slice_get, int_lt, ◌==◌}
-use Rattle.std.specs.List.{filter_map, cons_option, AllByRecursion, AllZip, IsDistinct, flat_map}
+use Rattle.std.specs.List.{AllByRecursion, AllZip, flat_map}
 use Rattle.std.specs.Option.{option_map}
-use Rattle.std.specs.Cmp.{IsTotalOrder}
-use Rattle.std.specs.Cmp.Lexicographic.{slice_cmp}
-use Rattle.std.specs.Ordering.{is_lt, is_le, is_eq, nat_cmp, int_cmp, ordering_then}
+use Rattle.std.specs.Ordering.{is_lt, is_le, int_cmp, ordering_then}
 use Rattle.std.specs.declared.cmp.Ordering.{Ordering}
-use Rattle.std.specs.declared.cmp.Ordering.TheVariants.{Equal}
-use Rattle.std.proofs.lemmas.Bool.{and_parts}
-use Rattle.std.proofs.lemmas.Cmp.{nat_list_cmp_total, on_total}
 use Rattle.std.proofs.lemmas.Int.{ints}
-use Rattle.std.proofs.lemmas.Map.Keys.{IsDistinct-IsPermutation}
-use Rattle.std.proofs.lemmas.Map.Text.{is_eq-slice_cmp}
-use Rattle.ghcn_fields.specs.Sorting.{sorted_by}
-use Rattle.ghcn_fields.proofs.Ordered as ordered
-use Rattle.ghcn_files.specs.declared.station.Station.{Station}
+use Rattle.ghcn_files.proofs.Ordered.{Descend}
 use Rattle.ghcn_files.specs.declared.station.StationId.{StationId}
-use Rattle.ghcn_files.specs.Ids.{same_id}
-use Rattle.ghcn_files.specs.IdLaws.{same_id-is, same_id-turned, same_id-laws}
-use Rattle.ghcn_series.specs.Series.{Usable, Contents, series_of, is_series_of}
+use Rattle.ghcn_files.proofs.IdLaws.{same_id-laws}
+use Rattle.ghcn_series.specs.Series.{Usable, Contents}
 use Rattle.ghcn_series.specs.Held.{IsContents}
-use Rattle.ghcn_series.proofs.ListFacts.{distinct_filter, both_all}
-use Rattle.ghcn_series.proofs.Members.{found_in}
-use Rattle.rank_query.specs.Asked.{Asked, score_element, IsAsked}
-use Rattle.rank_query.specs.Admits.{admits_station}
+use Rattle.ghcn_series.proofs.ListFacts.{each-append}
+use Rattle.rank_query.specs.Asked.{Asked, IsAsked}
 use Rattle.rank_scores.specs.declared.candidate.Candidate.{Candidate}
 use Rattle.rank_scores.specs.Cut.{series_first}
 use Rattle.rank_scores.specs.Order.{precedes, is_below}
 use Rattle.rank_scores.specs.Morsels.{admitted_series, has_admitted, morsels, all_candidates, best_of_query}
 use Rattle.rank_scores.specs.Morsels.{kth_of_query}
 use Rattle.rank_scores.proofs.Ranks.{Descends}
-use Rattle.rank_scores.proofs.Rising.{all-made, all-mapped, from_each}
 use Rattle.rank_papers.specs.Report.{Named}
 use Rattle.rank_papers.specs.Certificate.{Entry, IsRightEntry, Certified, SaysRight, kth_of_best, counts_of}
-use Rattle.rank_head.specs.HeadTests.{of_rows, stands_before, Rise, is_scanned}
+use Rattle.rank_head.specs.HeadTests.{of_rows, stands_before, IdsRise, is_scanned}
 use Rattle.rank_head.specs.RightHead.{AreInOrder, IsRightHead}
 use Rattle.rank_pool.proofs.Orders.{take-all, sorted-all}
 use Rattle.rank_scores.specs.Candidates.{admitted, shape, candidates_among, candidates}
-use Rattle.rank_scores.proofs.QueryCandidates.{all_apart, candidates-own}
+use Rattle.rank_scores.proofs.QueryCandidates.{all_apart, candidates-own, morsels_rise}
 use Rattle.rank_pool.specs.First.{in_order, kth}
 use Rattle.rank_pool.proofs.Ranked.{in_order-descends, best-first, kth_score-kth}
 use Rattle.rank_papers.specs.ReportLines.{Reported, SaysRightReport}
@@ -88,105 +75,28 @@ rows_in_turn [] h = tt
 rows_in_turn (x ∷ []) h = tt
 rows_in_turn (x ∷ y ∷ rows) h = (h.0.0, rows_in_turn (y ∷ rows) h.1)
 
--- ---- series with different IDs
-
--- two series are of one station
-abbrev same_station : Usable → Usable → Bool
-same_station a b = same_id a.id b.id
-
--- what is different by ID is so by its ID
-by_ids : {X : Type 0} (id : X → StationId) (xs : List X) → IsDistinct same_id (map id xs)
-    → IsDistinct (λ a b. same_id (id a) (id b)) xs
-unfolding IsDistinct
-by_ids id [] d = tt
-by_ids id (x ∷ xs) d = (all-mapped (λ i. same_id (id x) i ≡ false) id xs d.0, by_ids id xs d.1)
-
-module _ (q : Asked) (c : Contents) where
-  -- the series of a station of the query's element
-  abbrev of_station : Station → Option Usable
-  of_station st = series_of c st.id (score_element q.score)
-
-  -- has its ID
-  own_id : (st : Station) (u : Usable) → of_station st ≡ Some u → u.id ≡ st.id
-  own_id st u e =
-      let passes = (found_in (is_series_of st.id (score_element q.score)) c.series u e).1 in
-      same_id-is u.id st.id (and_parts (same_id u.id st.id) _ passes).0
-
-  -- so the series of different stations are different
-  series_apart : (sts : List Station) → IsDistinct (λ a b. same_id a.id b.id) sts
-      → IsDistinct same_station (filter_map of_station sts)
-  unfolding IsDistinct
-  series_apart [] d = tt
-  series_apart (st ∷ sts) d =
-      elim (of_station st) as (λ o. of_station st ≡ o
-      → IsDistinct same_station (cons_option o (filter_map of_station sts))) [
-        | None ↦ λ e. series_apart sts d.1
-        | Some u ↦ λ e. (
-          all-made (λ v. same_id u.id v.id ≡ false) of_station sts
-              (from_each (λ s. same_id st.id s.id ≡ false)
-              (λ s. (v : Usable) → of_station s ≡ Some v → same_id u.id v.id ≡ false) sts
-              (λ s other v f. ap (λ (i : StationId). same_id i v.id) (own_id st u e)
-              ∙ ap (same_id st.id) (own_id s v f) ∙ other) d.0),
-          series_apart sts d.1,
-        )
-      ] refl
-
 -- ---- morsels by rising ID
 
--- the order by ID
-abbrev id_cmp : Usable → Usable → Ordering
-id_cmp a b = slice_cmp nat_cmp a.id.0 b.id.0
-
--- a total order
-id_total : IsTotalOrder id_cmp
-id_total = on_total (λ (s : Usable). s.id.0) nat_list_cmp_total
-
--- series that tie are of one station
-tied : (a b : Usable) → id_cmp a b ≡ Equal → same_id a.id b.id ≡ true
-tied a b e = sym (is_eq-slice_cmp a.id.0 b.id.0) ∙ ap is_eq e
-
--- what isn't behind another and doesn't tie stands before it
-strictly : (o : Ordering) → is_le o ≡ true → is_eq o ≡ false → is_lt o ≡ true
-strictly o h n = grind arith
-
--- each series comes before all behind it, which are of other stations
+-- each series has an ID before those of all behind it
 abbrev SeriesRise : List Usable → Type 0
-SeriesRise us = ordered.Descend (λ a b. (series_first a b ≡ true) × (same_id a.id b.id ≡ false)) us
-
--- the morsels of a query do
-morsels_rise : (q : Asked) (c : Contents) → IsContents c → SeriesRise (morsels q c)
-morsels_rise q c right =
-    let stations : IsDistinct (λ (a b : Station). same_id a.id b.id) (filter (admits_station q) c.stations) =
-    distinct_filter (λ (a b : Station). same_id a.id b.id) (admits_station q) c.stations
-    (by_ids (λ (st : Station). st.id) c.stations right.listed.distinct) in
-    let apart : IsDistinct same_station (filter (has_admitted q) (admitted_series q c)) =
-    distinct_filter same_station (has_admitted q) (admitted_series q c)
-    (series_apart q c (filter (admits_station q) c.stations) stations) in
-    let us : List Usable = filter (has_admitted q) (admitted_series q c) in
-    let turned : (a b : Usable) → same_id a.id b.id ≡ same_id b.id a.id = λ a b. same_id-turned a.id b.id in
-    let still : IsDistinct same_station (sorted_by series_first us) =
-    IsDistinct-IsPermutation same_station turned us (sorted_by series_first us)
-    (ordered.sorted-permutation series_first us) apart in
-    ordered.descends id_cmp id_total series_first (λ a b. refl) same_station turned tied (sorted_by series_first us)
-    (ordered.sorted-in_turn id_cmp id_total series_first (λ a b. refl) us) still
+SeriesRise us = Descend (λ a b. stands_before a.id b.id ≡ true) us
 
 -- entries that name series that rise do so too
 entries_rise : (q : Asked) (kth : Option ℤ) (es : List Entry) (us : List Usable) → AllZip (IsRightEntry q kth) es us
-    → SeriesRise us → Rise es
+    → SeriesRise us → IdsRise es
 entries_rise q kth [] us h k = tt
 entries_rise q kth (e ∷ []) us h k = tt
 entries_rise q kth (e ∷ f ∷ es) [] h k = absurd h
 entries_rise q kth (e ∷ f ∷ es) (u ∷ []) h k = absurd h.1
 entries_rise q kth (e ∷ f ∷ es) (u ∷ v ∷ us) h k = (
   ap (λ (i : StationId). stands_before i f.id) h.0.named
-      ∙ ap (λ (i : StationId). stands_before u.id i) h.1.0.named
-      ∙ strictly (id_cmp u v) k.0.0.0 (is_eq-slice_cmp u.id.0 v.id.0 ∙ k.0.0.1),
+      ∙ ap (λ (i : StationId). stands_before u.id i) h.1.0.named ∙ k.0.0,
   entries_rise q kth (f ∷ es) (v ∷ us) h.1 k.1,
 )
 
 -- so the lines of right entries rise
 pub right_rise : (q : Asked) (c : Contents) (kth : Option ℤ) (es : List Entry) → IsContents c
-    → AllZip (IsRightEntry q kth) es (morsels q c) → Rise es
+    → AllZip (IsRightEntry q kth) es (morsels q c) → IdsRise es
 right_rise q c kth es right h = entries_rise q kth es (morsels q c) h (morsels_rise q c right)
 
 -- ---- lines that were scanned
@@ -263,10 +173,10 @@ module _ (q : Asked) (k : Option ℤ) (all : List Entry) where
       elim (has_admitted q u) as (λ b. has_admitted q u ≡ b
       → AllByRecursion AllSeen (cond b (u ∷ filter (has_admitted q) us) (filter (has_admitted q) us))
       → AllByRecursion IsSeen (flat_map (candidates q) (u ∷ us))) [
-        | true ↦ λ e k. both_all IsSeen (candidates q u) (flat_map (candidates q) us) k.0 (seen_all us k.1)
+        | true ↦ λ e k. each-append IsSeen (candidates q u) (flat_map (candidates q) us) k.0 (seen_all us k.1)
         | false ↦ λ e k.
             let none : candidates q u ≡ [] = ap (candidates_among u.id (shape q.score)) (empty (admitted q u) e) in
-            both_all IsSeen (candidates q u) (flat_map (candidates q) us)
+            each-append IsSeen (candidates q u) (flat_map (candidates q) us)
             (subst (AllByRecursion IsSeen) (sym none) tt) (seen_all us k)
       ] refl h
 

@@ -1,5 +1,5 @@
 -- Stable sorts: of given elements there is one list in order in which those that tie stand as they came.
-use Rattle.std.proofs.Common.{◌≡◌, Bool, true, false, List, [], ◌∷◌, length, map, refl, sym, ap, ◌∙◌, subst, arith}
+use Rattle.std.proofs.Common.{◌≡◌, Bool, true, false, List, [], ◌∷◌, length, refl, sym, ap, ◌∙◌, subst, arith}
 use Rattle.std.specs.Prelude.{filter, not, ◌&&◌}
 use Rattle.std.specs.List.{AllByRecursion}
 use Rattle.std.specs.List.Sorted.{IsPermutation, IsSortedBy, IsStableBy, ties}
@@ -10,7 +10,7 @@ use Rattle.std.proofs.lemmas.Bool.{false_from_ne_true, true_from_ne_false}
 use Rattle.std.proofs.lemmas.List.{map-id}
 use Rattle.std.proofs.lemmas.List.Sorted.{length_permutation}
 use Rattle.ghcn_fields.specs.Sorting.{placed, sorted_by}
-use Rattle.ghcn_fields.proofs.Ordered as ordered
+use Rattle.ghcn_files.proofs.Ordered as ordered
 use Rattle.rank_pool.proofs.Orders.{sorted-fixed}
 use Rattle.std.proofs.lemmas.Int.{ints}
 
@@ -120,15 +120,3 @@ module _ {X : Type 0} (cmp : X → X → Ordering) (total : IsTotalOrder cmp) wh
       sorted-fixed first (sorted_by first xs) (ordered.sorted-in_turn cmp total first (λ a b. refl) xs)
 
 -- ---- what is made of elements
-
--- what is made of elements that are placed
-placed-map : {X Y : Type 0} (g : X → Y) (f : Y → Y → Bool) (x : X) (xs : List X)
-    → map g (placed (λ a b. f (g a) (g b)) x xs) ≡ placed f (g x) (map g xs)
-placed-map g f x [] = refl
-placed-map g f x (y ∷ ys) = let behind = placed-map g f x ys in grind arith
-
--- and of elements in order
-pub sorted-map : {X Y : Type 0} (g : X → Y) (f : Y → Y → Bool) (xs : List X)
-    → map g (sorted_by (λ a b. f (g a) (g b)) xs) ≡ sorted_by f (map g xs)
-sorted-map g f [] = refl
-sorted-map g f (x ∷ xs) = grind (arith, ints, placed-map, sorted-map g f xs)

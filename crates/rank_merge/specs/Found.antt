@@ -11,7 +11,7 @@ use Rattle.rank_merge.specs.declared.fault.MergeFault.TheVariants.{BadReport, Ba
 use Rattle.rank_merge.specs.declared.part.Papers.{Papers}
 use Rattle.rank_merge.specs.declared.gathering.Gathered.{Gathered}
 use Rattle.rank_merge.specs.declared.merging.Merged.{Merged}
-use Rattle.rank_merge.specs.Merged.{Part, rows_of, entries_of}
+use Rattle.rank_merge.specs.Merged.{Part, rows_of, entries_of_parts}
 use Rattle.rank_merge.specs.Merging.{Texts, parts_from}
 
 -- the texts of parts that are lent
@@ -37,4 +37,4 @@ pub record AreOfParts (q : Asked) (texts : List Texts) (all : Gathered) : Type 0
   pub parts : List Part
   pub read : parts_from q 1 texts ≡ Ok parts
   pub rows : map named_in all.rows.items ≡ rows_of parts
-  pub lines : all.lines.items ≡ entries_of parts
+  pub lines : all.lines.items ≡ entries_of_parts parts

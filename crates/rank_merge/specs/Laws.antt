@@ -30,11 +30,11 @@ all_texts parts = map (λ p. p.1) parts
 
 -- the texts are a right report and a right certificate of the data of some files, where these have no fault
 pub record ArePapersOf (q : Asked) (stations : List Station) (files : List (List ℕ)) (texts : Texts) : Type 0 where
-  pub held : Contents
-  pub contents : IsContents held
-  pub read : data_of stations files ≡ Ok held
-  pub report : IsReport q held texts.0
-  pub certificate : IsCertificate q held texts.1
+  pub dataset : Contents
+  pub contents : IsContents dataset
+  pub read : data_of stations files ≡ Ok dataset
+  pub report : IsReport q dataset texts.0
+  pub certificate : IsCertificate q dataset texts.1
 
 -- each part's papers are right for its files
 abbrev pub AreAllParts : Asked → List Station → List Filed → Type 0
@@ -47,10 +47,10 @@ IsOneReport q c text = IsReport q c text × ((other : List ℕ) → IsReport q c
 -- papers are right for all files of which these are the papers of the parts: wherever each part's papers are right for
 -- its files, with one station list, and all files together have no fault, both are right for all files
 abbrev pub AreRightForAll : Asked → List Texts → Texts → Type 0
-AreRightForAll q texts papers = (stations : List Station) (parts : List Filed) (held : Contents)
-    → all_texts parts ≡ texts → AreAllParts q stations parts → IsContents held
-    → data_of stations (all_files parts) ≡ Ok held
-    → IsOneReport q held papers.0 × IsCertificate q held papers.1
+AreRightForAll q texts papers = (stations : List Station) (parts : List Filed) (dataset : Contents)
+    → all_texts parts ≡ texts → AreAllParts q stations parts → IsContents dataset
+    → data_of stations (all_files parts) ≡ Ok dataset
+    → IsOneReport q dataset papers.0 × IsCertificate q dataset papers.1
 
 -- merged papers are right for all files
 abbrev pub MergedAreRight : Type 0
@@ -66,10 +66,10 @@ IsMeasuredPart q stations p d = IsDataOf stations p d × IsMeasuredCertificate q
 -- so is each bound of the papers of all, wherever the parts' are and no station has series of the query in two parts
 abbrev pub AreMeasuredForAll : Asked → List Texts → Texts → Type 0
 AreMeasuredForAll q texts papers =
-    (stations : List Station) (parts : List Filed) (ds : List Contents) (held : Contents)
+    (stations : List Station) (parts : List Filed) (ds : List Contents) (dataset : Contents)
     → all_texts parts ≡ texts → AreAllParts q stations parts → AllZip (IsMeasuredPart q stations) parts ds
-    → IsContents held → data_of stations (all_files parts) ≡ Ok held → IsDistinct same_id (series_ids q ds)
-    → IsMeasuredCertificate q held papers.1
+    → IsContents dataset → data_of stations (all_files parts) ≡ Ok dataset → IsDistinct same_id (series_ids q ds)
+    → IsMeasuredCertificate q dataset papers.1
 
 -- merged papers keep the bounds of the series
 abbrev pub MergedAreMeasured : Type 0

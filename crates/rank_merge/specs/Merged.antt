@@ -22,8 +22,8 @@ abbrev pub rows_of : List Part → List Named
 rows_of ps = flat_map (λ p. p.report.rows) ps
 
 -- the lines of all parts, one part after the other
-abbrev pub entries_of : List Part → List Entry
-entries_of ps = flat_map (λ p. p.certificate.entries) ps
+abbrev pub entries_of_parts : List Part → List Entry
+entries_of_parts ps = flat_map (λ p. p.certificate.entries) ps
 
 -- ---- in order
 
@@ -47,7 +47,7 @@ merged_rows k ps = first_rows k (rows_of ps)
 
 -- the lines of all parts by increasing ID, each with its own bound; what was passed over stays so
 abbrev pub merged_entries : List Part → List Entry
-merged_entries ps = by_id (entries_of ps)
+merged_entries ps = by_id (entries_of_parts ps)
 
 -- what the report of all says
 abbrev pub merged_report : Asked → List Part → Reported

@@ -20,7 +20,7 @@ pub(crate) struct Gathered {
 }
 
 /// Reads and tests the papers of each part, in their order.
-pub(crate) fn gather(
+pub(crate) fn read_parts(
     alloc: Global,
     query: &Query,
     parts: &[(&[u8], &[u8])],

@@ -15,6 +15,7 @@ pub fn merged_are_right()
     ensures measured { laws.MergedAreMeasured }
     ensures merged { laws.RightAreMerged }
 {
+    // The best of all files are the first of the parts' best, and texts are read as what they say.
     files_in_parts();
     heads_are_right();
     certificates_are_read();

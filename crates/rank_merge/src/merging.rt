@@ -11,7 +11,7 @@ ghost use Rattle.rank_merge.specs.Laws as laws;
 ghost use Rattle.rank_merge.specs.Merging as merging;
 
 use crate::MergeFault;
-use crate::gathering::gather;
+use crate::gathering::read_parts;
 use crate::laws::merged_are_right;
 use crate::lines::{by_id, twice};
 use crate::rows::first_rows;
@@ -48,6 +48,7 @@ pub fn merge(alloc: Global, query: &Query, parts: &[(&[u8], &[u8])]) -> Result<M
     ensures twice { IfErr result (OrMemory merging.is_memory (λ why.
         laws.IsOutcomeWhereRight query.now (found.texts_in parts.now) (Err why))) }
 {
+    // Clauses `right` to `twice` are the law, for a query that can be asked: `k` says that.
     merged_are_right();
     let _k = query.k();
     merge_texts(alloc, query, parts)
@@ -60,7 +61,7 @@ fn merge_texts(alloc: Global, query: &Query, parts: &[(&[u8], &[u8])]) -> Result
     ensures err { IfErr result (λ why.
         IsRefusal merging.is_memory why (merging.merge query.now (found.texts_in parts.now))) }
 {
-    let all = gather(alloc, query, parts)?;
+    let all = read_parts(alloc, query, parts)?;
     let lines = by_id(all.lines)?;
     if let Some(id) = twice(lines.as_slice()) {
         return Err(MergeFault::Twice { id });

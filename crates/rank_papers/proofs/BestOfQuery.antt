@@ -1,5 +1,5 @@
 -- The best of a query, by what they are: there is one list of them, and it is what is found by rank.
-use Rattle.std.proofs.Common.{◌≡◌, ◌⊎◌, inl, inr, ℕ, zero, suc, ◌≤◌, List, [], ◌∷◌, ◌++◌}
+use Rattle.std.proofs.Common.{◌≡◌, ◌⊎◌, inl, inr, ℕ, zero, suc, ◌≤◌, List, [], ◌∷◌}
 use Rattle.std.proofs.Common.{length, take, refl, sym, ap, ◌∙◌, subst, arith, true}
 use Rattle.std.specs.List.{flat_map, AllByRecursion, Contains}
 use Rattle.std.specs.List.Sorted.{IsStrictlySortedBy}
@@ -8,7 +8,8 @@ use Rattle.std.specs.declared.cmp.Ordering.{Ordering}
 use Rattle.std.specs.declared.cmp.Ordering.TheVariants.{Less, Equal, Greater}
 use Rattle.std.proofs.lemmas.List.{length-take}
 use Rattle.std.proofs.lemmas.List.Sorted.{IsPermutation-sym}
-use Rattle.ghcn_fields.proofs.Ordered.{Descend}
+use Rattle.ghcn_files.proofs.Ordered.{Descend, descend-weaker}
+use Rattle.ghcn_series.proofs.ListFacts.{each-append}
 use Rattle.ghcn_series.proofs.Members.{In, contains-in, in-contains, of_one, for_each, in_all, in_permuted}
 use Rattle.ghcn_series.specs.Series.{Usable, Contents, IsSeries}
 use Rattle.ghcn_series.specs.Held.{IsContents}
@@ -29,27 +30,16 @@ use Rattle.rank_papers.specs.Right.{IsOfQuery, AreBest}
 use Rattle.rank_papers.specs.RightLaws.{IsHeldSeries, HaveOneBest, BestAreFound}
 use Rattle.rank_papers.proofs.RightCertificates.{series_hold}
 
--- ---- lists
-
--- what is true of all of two lists
-each_joined : {X : Type 0} (P : X → Type 0) (xs ys : List X) → AllByRecursion P xs → AllByRecursion P ys
-    → AllByRecursion P (xs ++ ys)
-each_joined P [] ys h k = k
-each_joined P (x ∷ xs) ys h k = (h.0, each_joined P xs ys h.1 k)
-
 -- ---- the order of listing
 
 -- a is listed before b
 abbrev Before : Candidate → Candidate → Type 0
 Before a b = full_cmp a b ≡ Less
 
--- two answers that are each Less can't be the reverse of each other
-pub both_less : (o p : Ordering) → o ≡ ordering_reverse p → o ≡ Less → p ≡ Less → ⊥
-both_less o p e f g = absurd (let other : Less ≡ ordering_reverse Less = sym f ∙ e ∙ ap ordering_reverse g in cc)
-
 -- of two candidates at most one is listed before the other
 asym : (a b : Candidate) → Before a b → Before b a → ⊥
-asym a b f g = both_less (full_cmp a b) (full_cmp b a) (full_cmp_total.antisymm a b) f g
+asym a b f g = absurd
+    (let other : Less ≡ Greater = sym f ∙ full_cmp_total.antisymm a b ∙ ap ordering_reverse g in cc)
 
 -- of two candidates one is listed before the other, or they are the same
 one_before : (a b : Candidate) → (a ≡ b) ⊎ Before a b ⊎ Before b a
@@ -76,11 +66,7 @@ precedes_before a b e = first_stands (rank_cmp a b) _ e
 
 -- so candidates that descend by rank do so by listing
 descends-before : (xs : List Candidate) → Descends xs → Descend Before xs
-descends-before [] h = tt
-descends-before (x ∷ xs) h = (
-  from_each (λ y. precedes x y ≡ true) (Before x) xs (λ y e. precedes_before x y e) h.0,
-  descends-before xs h.1,
-)
+descends-before xs = descend-weaker (λ a b. precedes a b ≡ true) Before xs precedes_before
 
 -- a list in order descends
 pub sorted-descends : {X : Type 0} (order : X → X → Ordering) (xs : List X) → IsStrictlySortedBy order xs
@@ -242,7 +228,7 @@ module _ (q : Asked) (c : Contents) (asked : IsAsked q) (right : IsContents c) w
       → AllByRecursion (IsOfQuery q (IsHeldSeries q c)) (flat_map (candidates q) ss)
   each_of_query [] are series = tt
   each_of_query (s ∷ ss) are series =
-      each_joined (IsOfQuery q (IsHeldSeries q c)) (candidates q s) (flat_map (candidates q) ss)
+      each-append (IsOfQuery q (IsHeldSeries q c)) (candidates q s) (flat_map (candidates q) ss)
       (from_each (In (candidates q s)) (IsOfQuery q (IsHeldSeries q c)) (candidates q s)
       (λ x h. (
         s,
@@ -258,14 +244,17 @@ module _ (q : Asked) (c : Contents) (asked : IsAsked q) (right : IsContents c) w
       let all : List Candidate = all_candidates q c in
       let xs : List Candidate = in_order all in
       let moved : AllByRecursion (In xs) all = in_permuted all xs (in_order-permutation all) in
+      let listed : AllByRecursion (In (admitted_series q c)) (admitted_series q c) =
+      for_each (In (admitted_series q c)) (admitted_series q c) (λ t h. h) in
       let of_query : AllByRecursion (IsOfQuery q (IsHeldSeries q c)) all =
-      each_of_query (admitted_series q c) (for_each (In (admitted_series q c)) (admitted_series q c) (λ t h. h)) series_right in
+      each_of_query (admitted_series q c) listed series_right in
       let back : AllByRecursion (In all) xs =
       in_permuted xs all (IsPermutation-sym all xs (in_order-permutation all)) in
       subst (AreBest q (IsHeldSeries q c)) (sym (best-first q.k all (all_apart q c right)))
       (top_best q (IsHeldSeries q c) (take q.k xs) (take_top (IsOfQuery q (IsHeldSeries q c)) q.k xs
       (descends-before xs (in_order-descends all (all_apart q c right)))
-      (from_each (In all) (IsOfQuery q (IsHeldSeries q c)) xs (λ x h. of_one (IsOfQuery q (IsHeldSeries q c)) all x of_query h) back)
+      (from_each (In all) (IsOfQuery q (IsHeldSeries q c)) xs
+      (λ x h. of_one (IsOfQuery q (IsHeldSeries q c)) all x of_query h) back)
       (λ x p. of_one (In xs) all x moved (is_listed x p))))
 
 -- the best by rank are the best by what they are, and no other list is

@@ -1,6 +1,6 @@
 -- The text of a certificate is read as what it says.
-use Rattle.std.proofs.Common.{◌≡◌, inl, inr, ℕ, suc, ◌+◌, ◌-◌, Bool, true, false, cond, List, [], ◌∷◌, ◌++◌, length, take, map, Option, Some, None, Ok, Err, refl, sym, ap, ◌∙◌, append_assoc, append-nil, length-append, arith, decimal, FitsSigned, w64}
-use Rattle.std.specs.Prelude.{ℤ, pos, negsuc, ◌==◌, ◌≤◌, ◌<◌, ◌^◌, drop, codes, slice_range, slice_index_or, IfSome}
+use Rattle.std.proofs.Common.{◌≡◌, inl, inr, ℕ, suc, ◌+◌, ◌-◌, Bool, true, false, cond, List, [], ◌∷◌, ◌++◌, length, take, Option, Some, None, Result, Ok, Err, refl, sym, ap, ◌∙◌, append_assoc, append-nil, length-append, arith, decimal, FitsSigned, w64}
+use Rattle.std.specs.Prelude.{ℤ, pos, negsuc, ◌==◌, ◌≤◌, ◌<◌, ◌^◌, drop, codes, slice_range, slice_index_or, IfSome, IfOk}
 use Rattle.std.specs.List.{flat_map, list_all, take_while, join_with_byte, AllByRecursion}
 use Rattle.std.specs.Option.{option_map, option_map_or}
 use Rattle.std.specs.Cmp.Lexicographic.{bytes_decides}
@@ -21,10 +21,11 @@ use Rattle.rank_papers.specs.Report.{text_line, query_line}
 use Rattle.rank_papers.specs.ReportLines.{first_word}
 use Rattle.rank_papers.specs.Certificate.{Entry, Certified, title_line, kth_line, counted, has_count, entry_line, end_line, certificate_text, AreCounts, IsCertified, IsCertificateOf}
 use Rattle.rank_papers.specs.Lines.{paper_lines, number_in}
-use Rattle.rank_papers.specs.CertificateLines.{kth_in, kth_word, entry_with, behind_id, entry_in_columns, behind_word, count_in, with_count, counted_in_columns, entry_in, and_then_entries, nothing_behind, entry_or_end, entries_in, entries_of, counts_in, with_entries, behind_query, behind_title, version_in, certified_lines, read_certificate}
+use Rattle.rank_papers.specs.CertificateLines.{kth_in, kth_word, entry_with, behind_id, entry_in_columns, behind_word, count_field, with_count, counted_in_columns, entry_in, entries_in, entries_of, counts_in, with_entries, behind_query, behind_title, version_in, certified_lines, read_certificate}
 use Rattle.rank_papers.specs.Laws.{CertificatesAreRead}
-use Rattle.rank_papers.proofs.LineValues.{exactly-some, exactly-from}
-use Rattle.rank_papers.proofs.CertificateValues.{read-is, with_lines}
+use Rattle.rank_papers.proofs.LineValues.{same_text, exactly-some, exactly-from}
+use Rattle.rank_papers.proofs.OneKind.{lines_by, values-read}
+use Rattle.rank_papers.proofs.CertificateValues.{written, with_lines, lines-are}
 use Rattle.rank_papers.proofs.Counts.{IsCounted, entries-counted, length-counted, counts_back, each_counted}
 use Rattle.rank_papers.proofs.ReadLines.{query_in-line, is_i64-fits, id_long}
 use Rattle.rank_papers.proofs.NumberTexts.{natural-decimal, number_in-whole}
@@ -33,12 +34,6 @@ use Rattle.rank_papers.proofs.ValueTexts.{decimal_visible}
 use Rattle.rank_papers.proofs.WrittenLines.{lines-of_fields, printable-append, visible_text, decimal_printable, whole_printable, pass-weaker, take-past, drop-past, between, last_field}
 
 -- ---- the lines of a certificate
-
--- the lines in which a certificate is written
-abbrev pub written : Certified → List (List ℕ)
-written v =
-    title_line v.version ∷ query_line v.query ∷ kth_line v.kth
-    ∷ (map (entry_line v.version) (counted v.entries v.counts) ++ end_line (length v.entries) ∷ [])
 
 -- the word of a k-th score, or of none
 abbrev kth_text : Option ℤ → List ℕ
@@ -76,17 +71,17 @@ entry_printable w l is =
     (count_printable (has_count w e) l.count)))
 
 -- entries and an end line are cut into their lines
-lines-entries : (w : ℕ) (ls : List Counted) (n : ℕ) → AllByRecursion (IsCounted w) ls
-    → paper_lines (flat_map (entry_line w) ls ++ end_line n) ≡ map (entry_line w) ls ++ end_line n ∷ []
-lines-entries w [] n h =
+lines-entries : (w : ℕ) (ls : List Counted) (k n : ℕ) → AllByRecursion (IsCounted w) ls
+    → paper_lines (flat_map (entry_line w) ls ++ end_line n) ≡ lines_by (λ m. entry_line w) k ls ++ end_line n ∷ []
+lines-entries w [] k n h =
     ap paper_lines (sym (append-nil (end_line n)))
     ∙ lines-of_fields (codes "end" ∷ decimal n ∷ []) [] (decimal_printable n)
-lines-entries w (l ∷ ls) n h =
+lines-entries w (l ∷ ls) k n h =
     ap paper_lines (append_assoc (entry_line w l) (flat_map (entry_line w) ls) (end_line n))
     ∙ lines-of_fields (word_of l.entry.skipped ∷ l.entry.id.0
     ∷ (signed_decimal l.entry.bound ++ count_text (has_count w l.entry) l.count) ∷ [])
     (flat_map (entry_line w) ls ++ end_line n) (entry_printable w l h.0)
-    ∙ ap (λ (xs : List (List ℕ)). entry_line w l ∷ xs) (lines-entries w ls n h.1)
+    ∙ ap (λ (xs : List (List ℕ)). entry_line w l ∷ xs) (lines-entries w ls (suc k) n h.1)
 
 -- a title can be printed
 title_printable : (b : Bool)
@@ -119,7 +114,7 @@ lines-written v is =
     ∙ ap (λ (xs : List (List ℕ)). title ∷ query_line v.query ∷ xs)
     (lines-of_fields (codes "kth" ∷ kth_text v.kth ∷ []) entries (kth_printable v.kth))
     ∙ ap (λ (xs : List (List ℕ)). title ∷ query_line v.query ∷ kth_line v.kth ∷ xs)
-    (lines-entries v.version ls (length v.entries) (each_counted v.version v.entries v.counts is.entries is.counts))
+    (lines-entries v.version ls 0 (length v.entries) (each_counted v.version v.entries v.counts is.entries is.counts))
 
 -- ---- each line is read
 
@@ -218,7 +213,7 @@ bound_first false n word plain = all_one_word word plain
 
 -- a count is read of what stands behind the bound
 count_read : (has : Bool) (n : ℕ) (word : List ℕ) → n ≤ 1000 → (has ≡ false → n ≡ 0)
-    → count_in has (drop (length word + 1) (word ++ count_text has n)) ≡ Some n
+    → count_field has (drop (length word + 1) (word ++ count_text has n)) ≡ Some n
 count_read true n word few none =
     let parts : word ++ 32 ∷ decimal n ≡ (word ++ 32 ∷ []) ++ decimal n = sym
     (append_assoc word (32 ∷ []) (decimal n)) in
@@ -262,9 +257,9 @@ entry_in-line w l is =
     })) None) is.entry.id
     ∙ ap (λ (b : Bool). Some (record { id = e.id; bound = e.bound; skipped = b })) (word_says e.skipped) in
     let rest : List ℕ = behind_word (behind_id (entry_line w l)) in
-    let count : count_in has (behind_word (behind_id (entry_line w l))) ≡ Some l.count =
-    ap (λ (f : List ℕ). count_in has (drop (length (first_word (behind_id (entry_line w l))) + 1) f)) behind
-    ∙ ap (λ (x : List ℕ). count_in has (drop (length x + 1) field)) bound
+    let count : count_field has (behind_word (behind_id (entry_line w l))) ≡ Some l.count =
+    ap (λ (f : List ℕ). count_field has (drop (length (first_word (behind_id (entry_line w l))) + 1) f)) behind
+    ∙ ap (λ (x : List ℕ). count_field has (drop (length x + 1) field)) bound
     ∙ count_read has l.count (signed_decimal e.bound) is.few is.none in
     exactly-from (entry_line w) (counted_in_columns w (entry_line w l)) l (
     ap (λ (o : Option Entry). option_map_or (with_count w rest) o None) entry
@@ -296,21 +291,6 @@ entry_in-end n w = by (entry_in w (end_line n)) refl
 
 -- ---- the whole text
 
--- entries are read up to the end line with their number
-pub entries_in-lines : (w : ℕ) (es : List Counted) (n m : ℕ) → AllByRecursion (IsCounted w) es → m ≡ n + length es
-    → entries_in w n (map (entry_line w) es ++ end_line m ∷ []) ≡ Ok es
-entries_in-lines w [] n m h count =
-    let same : m ≡ n = omega (arith, count) in
-    ap (λ (o : Option Counted). entry_or_end n o (same_bytes (end_line m) (end_line n)) [] (entries_in w (suc n) []))
-    (entry_in-end m w)
-    ∙ ap (λ (b : Bool). cond b (nothing_behind n []) (Err (n + 4)))
-    ((bytes_decides (end_line m) (end_line n)).1 (ap end_line same))
-entries_in-lines w (e ∷ es) n m h count =
-    let rest : List (List ℕ) = map (entry_line w) es ++ end_line m ∷ [] in
-    ap (λ (o : Option Counted). entry_or_end n o (same_bytes (entry_line w e) (end_line n)) rest
-    (entries_in w (suc n) rest)) (entry_in-line w e h.0)
-    ∙ ap (and_then_entries e) (entries_in-lines w es (suc n) m h.1 (omega (arith, count)))
-
 -- a first line is read as that of its version
 pub version_in-title : (w : ℕ) (es : List Entry) (ns : List ℕ) → AreCounts w es ns
     → version_in (title_line w) ≡ Some w
@@ -334,7 +314,7 @@ written_read v is =
     let w : ℕ = v.version in
     let ls : List Counted = counted v.entries v.counts in
     let each = each_counted v.version v.entries v.counts is.entries is.counts in
-    let entries : List (List ℕ) = map (entry_line w) ls ++ end_line (length v.entries) ∷ [] in
+    let entries : List (List ℕ) = lines_by (λ n. entry_line w) 0 ls ++ end_line (length v.entries) ∷ [] in
     let count : length v.entries ≡ 0 + length (counted v.entries v.counts) =
     omega (arith, length-counted v.entries v.counts) in
     ap (λ (o : Option ℕ). option_map_or (λ x. behind_title x (query_line v.query ∷ kth_line v.kth ∷ entries)) o
@@ -343,13 +323,26 @@ written_read v is =
     (query_in-line v.query is.asked)
     ∙ ap (λ (o : Option (Option ℤ)). option_map_or (λ s. with_entries w v.query s (entries_in w 0 entries)) o (Err 3))
     (kth_in-line v.kth is.kth)
-    ∙ ap (with_entries w v.query v.kth) (entries_in-lines w ls 0 (length v.entries) each count)
+    ∙ ap (with_entries w v.query v.kth) (values-read 4 (λ n. entry_in w) end_line (λ n. entry_line w) (IsCounted w)
+    (length v.entries) (λ n. entry_in-end (length v.entries) w) (λ n l can lt. entry_in-line w l can) ls 0 each count)
     ∙ ap (λ (x : Certified). Ok x) (whole_again v is.counts)
 
 -- so a text is read as a value exactly where it is the text of the value
 pub text_read : (bytes : List ℕ) (v : Certified) → IsCertificateOf v bytes → read_certificate bytes ≡ Ok v
 text_read bytes v h =
     ap read_certificate h.text ∙ ap certified_lines (lines-written v h.can_be) ∙ written_read v h.can_be
+
+-- what was read is said, and its text is the very bytes
+read-is : (bytes : List ℕ) (v : Certified) → read_certificate bytes ≡ Ok v → IsCertificateOf v bytes
+read-is bytes v h =
+    let are = lines-are (paper_lines bytes) v h in
+    record { can_be = are.0; text = same_text bytes (certificate_text v) (are.1 ∙ sym (lines-written v are.0)) }
+
+-- so is what a call answered
+pub if_read-is : {X E : Type 0} (said : X → Certified) (bytes : List ℕ) (r : Result X E)
+    → IfOk r (λ c. read_certificate bytes ≡ Ok (said c)) → IfOk r (λ c. IsCertificateOf (said c) bytes)
+if_read-is said bytes (Ok c) h = read-is bytes (said c) h
+if_read-is said bytes (Err e) h = tt
 
 -- both directions
 pub certificates_read : CertificatesAreRead

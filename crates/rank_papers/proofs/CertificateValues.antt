@@ -1,7 +1,7 @@
 -- What is read as a certificate is the text of what it says.
-use Rattle.std.proofs.Common.{◌≡◌, ◌⊎◌, inl, inr, ℕ, suc, ◌+◌, ◌-◌, ◌≤◌, Bool, true, false, cond, List, [], ◌∷◌, ◌++◌, length, take, Option, Some, None, Result, Ok, Err, refl, sym, ap, ◌∙◌, subst, append_assoc, append-nil, arith, FitsSigned, w64}
-use Rattle.std.specs.Prelude.{ℤ, codes, slice_range, nat_le, IfSome, IfOk}
-use Rattle.std.specs.List.{flat_map, AllByRecursion}
+use Rattle.std.proofs.Common.{◌≡◌, ◌⊎◌, inl, inr, ℕ, ◌+◌, ◌-◌, ◌≤◌, Bool, true, false, cond, List, [], ◌∷◌, ◌++◌, length, take, Option, Some, None, Result, Ok, Err, refl, sym, ap, ◌∙◌, subst, arith, FitsSigned, w64}
+use Rattle.std.specs.Prelude.{⊤, ℤ, codes, slice_range, nat_le, IfSome}
+use Rattle.std.specs.List.{AllByRecursion}
 use Rattle.std.specs.Option.{option_map_or, option_map}
 use Rattle.std.specs.Cmp.Lexicographic.{bytes_decides}
 use Rattle.std.proofs.lemmas.Bool.{leb-true}
@@ -10,14 +10,15 @@ use Rattle.ghcn_fields.specs.Bytes.{same_bytes}
 use Rattle.ghcn_fields.specs.Numbers.{natural, signed_by, up_to}
 use Rattle.std.specs.Fmt.{signed_decimal}
 use Rattle.ghcn_files.specs.Ids.{is_id}
-use Rattle.rank_query.specs.Asked.{Asked, IsAsked}
+use Rattle.rank_query.specs.Asked.{Asked}
 use Rattle.rank_papers.specs.declared.counted.Counted.{Counted}
 use Rattle.rank_papers.specs.Report.{query_line}
 use Rattle.rank_papers.specs.ReportLines.{first_word}
-use Rattle.rank_papers.specs.Certificate.{Entry, Certified, title_line, kth_line, counted, has_count, entry_line, end_line, certificate_text, IsEntry, AreCounts, IsCertificateOf}
-use Rattle.rank_papers.specs.Lines.{paper_lines, exactly, number_in, query_in, query_of_text}
-use Rattle.rank_papers.specs.CertificateLines.{kth_in, kth_word, entry_with, behind_id, entry_in_columns, behind_word, count_in, with_count, counted_in_columns, entry_in, and_then_entries, nothing_behind, entry_or_end, entries_in, entries_of, counts_in, with_entries, behind_query, behind_title, version_in, certified_lines, read_certificate}
-use Rattle.rank_papers.proofs.LineValues.{joined, joined-lines, exactly-some, in_i64-some, option-ok, query_in-is}
+use Rattle.rank_papers.specs.Certificate.{Entry, Certified, title_line, kth_line, counted, has_count, entry_line, end_line, IsEntry, IsCertified}
+use Rattle.rank_papers.specs.Lines.{exactly, number_in, query_in}
+use Rattle.rank_papers.specs.CertificateLines.{kth_in, kth_word, entry_with, behind_id, entry_in_columns, behind_word, count_field, with_count, counted_in_columns, entry_in, entries_in, entries_of, counts_in, with_entries, behind_query, behind_title, version_in, certified_lines}
+use Rattle.rank_papers.proofs.LineValues.{exactly-some, in_i64-some, option-ok, query_in-is}
+use Rattle.rank_papers.proofs.OneKind.{lines_by, values-are}
 use Rattle.rank_papers.proofs.Counts.{IsCounted, lines_back, each_entry_of, counts_can}
 
 -- ---- scores and entries
@@ -75,7 +76,7 @@ up_to-low limit (Some m) n h = elim (nat_le m limit) as (λ b. nat_le m limit �
     ] refl h
 
 -- a count that was read is at most a thousand, and 0 where there was none to read
-count_in-is : (has : Bool) (field : List ℕ) (n : ℕ) → count_in has field ≡ Some n
+count_in-is : (has : Bool) (field : List ℕ) (n : ℕ) → count_field has field ≡ Some n
     → (n ≤ 1000) × (has ≡ false → n ≡ 0)
 count_in-is false field n h = let same : n ≡ 0 = cc in (omega (arith, same), λ e. same)
 count_in-is true field n h = (up_to-low 1000 (natural field) n h, λ e. absurd cc)
@@ -84,9 +85,9 @@ count_in-is true field n h = (up_to-low 1000 (natural field) n h, λ e. absurd c
 with_count-is : (w : ℕ) (field : List ℕ) (o : Option Entry) (l : Counted)
     → option_map_or (with_count w field) o None ≡ Some l → ((e : Entry) → o ≡ Some e → IsEntry e) → IsCounted w l
 with_count-is w field None l h f = absurd cc
-with_count-is w field (Some e) l h f = by (count_in (has_count w e) field) refl h
+with_count-is w field (Some e) l h f = by (count_field (has_count w e) field) refl h
   where
-    by : (o : Option ℕ) → count_in (has_count w e) field ≡ o
+    by : (o : Option ℕ) → count_field (has_count w e) field ≡ o
         → option_map (λ n. record { entry = e; count = n }) o ≡ Some l → IsCounted w l
     by None is g = absurd cc
     by (Some n) is g =
@@ -103,68 +104,13 @@ entry_in-is w line l h =
       parts.1,
     )
 
--- ---- the entries and the end line
-
--- lines are those of these entries, and then the end line
-pub record AreEntries (w n : ℕ) (ls : List (List ℕ)) (es : List Counted) : Type 0 where
-  pub text : joined ls ≡ flat_map (entry_line w) es ++ end_line (n + length es)
-  pub each : AllByRecursion (IsCounted w) es
-
--- an entry and others were read
-onto-some : (e : Counted) (r : Result (List Counted) ℕ) (es : List Counted) → and_then_entries e r ≡ Ok es
-    → (fs : List Counted) × (r ≡ Ok fs) × (es ≡ e ∷ fs)
-onto-some e (Ok fs) es h = (fs, refl, cc)
-onto-some e (Err n) es h = absurd cc
-
--- nothing was found behind the end line
-nothing-some : (n : ℕ) (ls : List (List ℕ)) (es : List Counted) → nothing_behind n ls ≡ Ok es
-    → (ls ≡ []) × (es ≡ [])
-nothing-some n [] es h = (refl, cc)
-nothing-some n (l ∷ ls) es h = absurd cc
-
--- entries that are read make the lines with their end line
-pub entries_in-are : (w n : ℕ) (ls : List (List ℕ)) (es : List Counted) → entries_in w n ls ≡ Ok es
-    → AreEntries w n ls es
-entries_in-are w n [] es h = absurd cc
-entries_in-are w n (l ∷ ls) es h = elim (entry_in w l) as (λ o. entry_in w l ≡ o
-    → entry_or_end n o (same_bytes l (end_line n)) ls (entries_in w (suc n) ls) ≡ Ok es → AreEntries w n (l ∷ ls) es) [
-      | Some e ↦ λ is f.
-          let more = onto-some e (entries_in w (suc n) ls) es f in
-          let rest = entries_in-are w (suc n) ls more.0 more.1 in
-          let it = entry_in-is w l e is in
-          let count : suc n + length more.0 ≡ n + length (e ∷ more.0) = omega arith in
-          let all : AreEntries w n (l ∷ ls) (e ∷ more.0) = record {
-            text = ap (λ (t : List ℕ). t ++ joined ls) it.1 ∙ ap (λ (t : List ℕ). entry_line w e ++ t) rest.text
-                ∙ ap (λ (m : ℕ). entry_line w e ++ (flat_map (entry_line w) more.0 ++ end_line m)) count
-                ∙ sym (append_assoc (entry_line w e) (flat_map (entry_line w) more.0)
-                (end_line (n + length (e ∷ more.0))));
-            each = (it.0, rest.each);
-          } in
-          subst (AreEntries w n (l ∷ ls)) (sym more.2) all
-      | None ↦ λ is f. elim (same_bytes l (end_line n)) as (λ b. same_bytes l (end_line n) ≡ b
-          → cond b (nothing_behind n ls) (Err (n + 4)) ≡ Ok es → AreEntries w n (l ∷ ls) es) [
-            | true ↦ λ s g.
-                let end = nothing-some n ls es g in
-                let count : n ≡ n + 0 = omega arith in
-                let all : AreEntries w n (l ∷ []) [] = record {
-                  text = append-nil l ∙ (bytes_decides l (end_line n)).0 s
-                      ∙ ap end_line count;
-                  each = tt;
-                } in
-                subst (λ (xs : List (List ℕ)). AreEntries w n (l ∷ xs) es) (sym end.0)
-                (subst (AreEntries w n (l ∷ [])) (sym end.1) all)
-            | false ↦ λ s g. absurd cc
-          ] refl f
-    ] refl h
-
 -- ---- a whole certificate
 
--- all that is said but that the query can be asked
-pub record Says (v : Certified) (bytes : List ℕ) : Type 0 where
-  pub kth : IfSome v.kth (FitsSigned w64)
-  pub entries : AllByRecursion IsEntry v.entries
-  pub counts : AreCounts v.version v.entries v.counts
-  pub text : bytes ≡ certificate_text v
+-- the lines in which a certificate is written
+abbrev pub written : Certified → List (List ℕ)
+written v =
+    title_line v.version ∷ query_line v.query ∷ kth_line v.kth
+    ∷ (lines_by (λ n. entry_line v.version) 0 (counted v.entries v.counts) ++ end_line (length v.entries) ∷ [])
 
 -- a certificate with these lines
 abbrev pub with_lines : ℕ → Asked → Option ℤ → List Counted → Certified
@@ -194,17 +140,32 @@ version_in-is line w h = elim (same_bytes line (title_line 1)) as (λ b. same_by
           ] refl f
     ] refl h
 
--- what is read of lines is what they say
-lines-say : (ls : List (List ℕ)) (v : Certified) → certified_lines ls ≡ Ok v → Says v (joined ls)
-lines-say [] v h = absurd cc
-lines-say (l1 ∷ []) v h =
+-- entries that are read can be, and the lines are those in which they are written with their counts
+entries-are : (w : ℕ) (ls : List (List ℕ)) (es : List Counted) → entries_in w 0 ls ≡ Ok es
+    → AllByRecursion (IsCounted w) es
+    × (ls ≡ lines_by (λ n. entry_line w) 0 (counted (entries_of es) (counts_in w es))
+    ++ end_line (length (entries_of es)) ∷ [])
+entries-are w ls es h =
+    let are = values-are 4 (λ n. entry_in w) end_line (λ n. entry_line w) (IsCounted w) (λ n. ⊤)
+    (λ n l x e. let it = entry_in-is w l x e in (tt, it.0, it.1)) ls 0 es tt h in
+    let count : 0 + length es ≡ length (entries_of es) = omega (arith, length-map es (λ (l : Counted). l.entry)) in (
+      are.each,
+      are.lines ∙ ap (λ (n : ℕ). lines_by (λ m. entry_line w) 0 es ++ end_line n ∷ []) count
+          ∙ ap (λ (x : List Counted). lines_by (λ m. entry_line w) 0 x ++ end_line (length (entries_of es)) ∷ [])
+          (sym (lines_back w es are.each)),
+    )
+
+-- what is read of lines can be, and they are the lines in which it is written
+pub lines-are : (ls : List (List ℕ)) (v : Certified) → certified_lines ls ≡ Ok v → IsCertified v × (ls ≡ written v)
+lines-are [] v h = absurd cc
+lines-are (l1 ∷ []) v h =
     let first = option-ok (λ w. behind_title w []) (version_in l1) 1 v h in
     let no = first.2 in absurd cc
-lines-say (l1 ∷ l2 ∷ []) v h =
+lines-are (l1 ∷ l2 ∷ []) v h =
     let first = option-ok (λ w. behind_title w (l2 ∷ [])) (version_in l1) 1 v h in
     let second = option-ok (λ q. behind_query first.0 q []) (query_in l2) 2 v first.2 in
     let no = second.2 in absurd cc
-lines-say (l1 ∷ l2 ∷ l3 ∷ ls) v h =
+lines-are (l1 ∷ l2 ∷ l3 ∷ ls) v h =
     let first = option-ok (λ w. behind_title w (l2 ∷ l3 ∷ ls)) (version_in l1) 1 v h in
     let w = first.0 in
     let second = option-ok (λ q. behind_query w q (l3 ∷ ls)) (query_in l2) 2 v first.2 in
@@ -213,72 +174,16 @@ lines-say (l1 ∷ l2 ∷ l3 ∷ ls) v h =
     let s = third.0 in
     let rest = with-some w q s (entries_in w 0 ls) v third.2 in
     let es = rest.0 in
-    let entries = entries_in-are w 0 ls es rest.1 in
-    let count : 0 + length es ≡ length (entries_of es) = omega (arith, length-map es (λ (l : Counted). l.entry)) in
-    let lines : List Counted = counted (entries_of es) (counts_in w es) in
-    let body : joined ls ≡ flat_map (entry_line w) lines ++ end_line (length (entries_of es)) = entries.text
-    ∙ ap (λ (n : ℕ). flat_map (entry_line w) es ++ end_line n) count
-    ∙ ap (λ (x : List Counted). flat_map (entry_line w) x ++ end_line (length (entries_of es)))
-    (sym (lines_back w es entries.each)) in
-    let t1 = version_in-is l1 w first.1 in
-    let t2 = exactly-some query_line l2 (query_of_text (slice_range l2 6 (length l2 - 1))) q second.1 in
-    let t3 = exactly-some kth_line l3 (kth_word (slice_range l3 4 (length l3 - 1))) s third.1 in
-    let title : List ℕ = title_line w in
-    let front : List ℕ = title ++ query_line q in
-    let end : List ℕ = end_line (length (entries_of es)) in
-    let all : Says (with_lines w q s es) (joined (l1 ∷ l2 ∷ l3 ∷ ls)) = record {
-      kth = kth_word-fits (slice_range l3 4 (length l3 - 1)) s t3.0;
-      entries = each_entry_of w es entries.each;
-      counts = counts_can w es t1.0 entries.each;
-      text =
-          ap (λ (t : List ℕ). t ++ (l2 ++ (l3 ++ joined ls))) t1.1
-          ∙ ap (λ (t : List ℕ). title ++ (t ++ (l3 ++ joined ls))) t2.1
-          ∙ ap (λ (t : List ℕ). title ++ (query_line q ++ (t ++ joined ls))) t3.1
-          ∙ ap (λ (t : List ℕ). title ++ (query_line q ++ (kth_line s ++ t))) body
-          ∙ sym (append_assoc title (query_line q) (kth_line s ++ (flat_map (entry_line w) lines ++ end)))
-          ∙ sym (append_assoc front (kth_line s) (flat_map (entry_line w) lines ++ end))
-          ∙ sym (append_assoc (front ++ kth_line s) (flat_map (entry_line w) lines) end);
+    let entries = entries-are w ls es rest.1 in
+    let title = version_in-is l1 w first.1 in
+    let query = query_in-is l2 q second.1 in
+    let kth = kth_in-is l3 s third.1 in
+    let can : IsCertified (with_lines w q s es) = record {
+      asked = query.0;
+      kth = kth.0;
+      entries = each_entry_of w es entries.0;
+      counts = counts_can w es title.0 entries.0;
     } in
-    subst (λ (x : Certified). Says x (joined (l1 ∷ l2 ∷ l3 ∷ ls))) (sym rest.2) all
-
--- the query of a certificate that is read can be asked
-query-asked : (ls : List (List ℕ)) (v : Certified) → certified_lines ls ≡ Ok v → IsAsked v.query
-query-asked [] v h = absurd cc
-query-asked (l1 ∷ []) v h =
-    let first = option-ok (λ w. behind_title w []) (version_in l1) 1 v h in
-    let no = first.2 in absurd cc
-query-asked (l1 ∷ l2 ∷ ls) v h =
-    let first = option-ok (λ w. behind_title w (l2 ∷ ls)) (version_in l1) 1 v h in
-    let second = option-ok (λ q. behind_query first.0 q ls) (query_in l2) 2 v first.2 in
-    subst IsAsked (asked-of first.0 second.0 ls second.2) (query_in-is l2 second.0 second.1).0
-  where
-    asked-of : (w : ℕ) (q : Asked) (ls : List (List ℕ)) → behind_query w q ls ≡ Ok v → q ≡ v.query
-    asked-of w q [] f = absurd cc
-    asked-of w q (l ∷ ls) f =
-        let third = option-ok (λ s. with_entries w q s (entries_in w 0 ls)) (kth_in l) 3 v f in
-        let rest = with-some w q third.0 (entries_in w 0 ls) v third.2 in
-        sym (ap (λ (x : Certified). x.query) rest.2)
-
--- what was read is said, and its text is the very bytes
-pub read-says : (bytes : List ℕ) (v : Certified) → read_certificate bytes ≡ Ok v → Says v bytes
-read-says bytes v h = subst (Says v) (joined-lines bytes) (lines-say (paper_lines bytes) v h)
-
--- so the text is that of what was read
-pub read-is : (bytes : List ℕ) (v : Certified) → read_certificate bytes ≡ Ok v → IsCertificateOf v bytes
-read-is bytes v h =
-    let s = read-says bytes v h in
-    record {
-      can_be = record {
-        asked = query-asked (paper_lines bytes) v h;
-        kth = s.kth;
-        entries = s.entries;
-        counts = s.counts;
-      };
-      text = s.text;
-    }
-
--- so is what a call answered
-pub if_read-is : {X E : Type 0} (said : X → Certified) (bytes : List ℕ) (r : Result X E)
-    → IfOk r (λ c. read_certificate bytes ≡ Ok (said c)) → IfOk r (λ c. IsCertificateOf (said c) bytes)
-if_read-is said bytes (Ok c) h = read-is bytes (said c) h
-if_read-is said bytes (Err e) h = tt
+    let lines : l1 ∷ l2 ∷ l3 ∷ ls ≡ written (with_lines w q s es) =
+    λ i. title.1 i ∷ query.1 i ∷ kth.1 i ∷ entries.1 i in
+    subst (λ (x : Certified). IsCertified x × (l1 ∷ l2 ∷ l3 ∷ ls ≡ written x)) (sym rest.2) (can, lines)

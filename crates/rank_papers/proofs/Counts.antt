@@ -2,9 +2,9 @@
 use Rattle.std.proofs.Common.{◌≡◌, ◌⊎◌, inl, inr, ℕ, ◌≤◌, Bool, true, false, cond, not, List, [], ◌∷◌, ◌++◌, length, map, refl, sym, ap, ◌∙◌, subst, arith, suc}
 use Rattle.std.specs.Prelude.{◌==◌, ◌&&◌}
 use Rattle.std.specs.List.{AllByRecursion, AllZip}
-use Rattle.rank_scores.specs.declared.candidate.Candidate.{Candidate}
+use Rattle.std.proofs.lemmas.Bool.{not-false}
 use Rattle.rank_papers.specs.declared.counted.Counted.{Counted}
-use Rattle.rank_papers.specs.Certificate.{Entry, counted, has_count, count_of, IsEntry, IsCount, AreCounts}
+use Rattle.rank_papers.specs.Certificate.{Entry, counted, has_count, IsEntry, IsCount, AreCounts}
 use Rattle.rank_papers.specs.CertificateLines.{entries_of, counts_in}
 
 -- what a line of a version can say: an entry and a count that can be, and 0 where the line has no count
@@ -35,16 +35,6 @@ counted-more [] (m ∷ ns) e n h = absurd (omega (arith, h))
 counted-more (x ∷ es) [] e n h = absurd (omega (arith, h))
 counted-more (x ∷ es) (m ∷ ns) e n h =
     ap (λ (l : List Counted). record { entry = x; count = m } ∷ l) (counted-more es ns e n (omega (arith, h)))
-
--- a count for each entry, made of it
-pub counted-map : (f : Entry → ℕ) (es : List Entry)
-    → counted es (map f es) ≡ map (λ e. record { entry = e; count = f e }) es
-counted-map f [] = refl
-counted-map f (e ∷ es) = ap (λ (l : List Counted). record { entry = e; count = f e } ∷ l) (counted-map f es)
-
--- an entry with the count of these best candidates
-abbrev pub with_count_of : List Candidate → Entry → Counted
-with_count_of best e = record { entry = e; count = count_of best e }
 
 -- the counts beside entries, one for each
 counts-beside : (es : List Entry) (ns : List ℕ) → AllZip IsCount es ns → map (λ l. l.count) (counted es ns) ≡ ns
@@ -91,11 +81,6 @@ lines_back w ls h = elim (w == 2) as (λ b. (w == 2) ≡ b
 
 -- ---- what can be
 
--- what isn't not so is so
-so : (b : Bool) → not b ≡ false → b ≡ true
-so true e = refl
-so false e = absurd cc
-
 -- entries alone can be lines of version 1
 each_alone : (es : List Entry) → AllByRecursion IsEntry es → AllByRecursion (IsCounted 1) (counted es [])
 each_alone [] h = tt
@@ -111,7 +96,7 @@ each_beside [] [] h k = tt
 each_beside [] (n ∷ ns) h k = absurd k
 each_beside (e ∷ es) [] h k = absurd k
 each_beside (e ∷ es) (n ∷ ns) h k = (
-  record { entry = h.0; few = k.0.few; none = λ f. k.0.none (so e.skipped f) },
+  record { entry = h.0; few = k.0.few; none = λ f. k.0.none (not-false e.skipped f) },
   each_beside es ns h.1 k.1,
 )
 

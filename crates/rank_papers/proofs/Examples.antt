@@ -4,10 +4,8 @@ use Rattle.std.specs.Prelude.{codes, ℤ, pos, negsuc}
 use Rattle.std.specs.Fmt.{digits}
 use Rattle.ghcn_files.specs.declared.station.StationId.{StationId}
 use Rattle.ghcn_files.specs.declared.element.Element.TheVariants.{Tmax, Tmin}
-use Rattle.rank_query.specs.declared.score.Score.{Score}
 use Rattle.rank_query.specs.declared.score.Score.TheVariants.{Highest, Lowest}
-use Rattle.rank_query.specs.declared.region.Region.TheVariants.{Everywhere}
-use Rattle.rank_query.specs.Asked.{Asked}
+use Rattle.rank_query.specs.Asked.{top}
 use Rattle.rank_papers.specs.Certificate.{Entry, certificate_text}
 
 -- the stations
@@ -19,10 +17,6 @@ bravo = record { 0 = codes "ZZA00000002" }
 
 abbrev charlie : StationId
 charlie = record { 0 = codes "ZZA00000003" }
-
--- the k best of a score, everywhere and at any time
-abbrev ask : ℕ → Score → Asked
-ask k s = record { k = k; score = s; region = Everywhere; season = None; period = None }
 
 -- lines, each with a line feed
 abbrev text : List (List ℕ) → List ℕ
@@ -36,7 +30,7 @@ entry skipped id bound = record { id = id; bound = bound; skipped = skipped }
 -- two series were scanned, and one was passed over
 three : certificate_text (record {
   version = 1;
-  query = ask 1 (Highest Tmax);
+  query = top 1 (Highest Tmax);
   kth = Some (pos 311);
   entries = entry false alpha (pos 311) ∷ entry false bravo (pos 311) ∷ entry true charlie (pos 250) ∷ [];
   counts = [];
@@ -55,7 +49,7 @@ three = refl
 -- the same in version 2, where one row is of the first series and none of the second
 counted : certificate_text (record {
   version = 2;
-  query = ask 1 (Highest Tmax);
+  query = top 1 (Highest Tmax);
   kth = Some (pos 311);
   entries = entry false alpha (pos 311) ∷ entry false bravo (pos 311) ∷ entry true charlie (pos 250) ∷ [];
   counts = 1 ∷ 0 ∷ 0 ∷ [];
@@ -74,7 +68,7 @@ counted = refl
 -- a k-th score below zero
 below_zero : certificate_text (record {
   version = 1;
-  query = ask 2 (Lowest Tmin);
+  query = top 2 (Lowest Tmin);
   kth = Some (negsuc 2);
   entries = entry false alpha (pos 5) ∷ [];
   counts = [];
@@ -91,7 +85,7 @@ below_zero = refl
 -- no series at all
 none : certificate_text (record {
   version = 2;
-  query = ask 1 (Highest Tmax);
+  query = top 1 (Highest Tmax);
   kth = None;
   entries = [];
   counts = [];

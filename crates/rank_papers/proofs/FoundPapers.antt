@@ -167,7 +167,7 @@ module _ (q : Asked) (c : Contents) (asked : IsAsked q) (right : IsContents c) w
         kth = kth_of_query q c;
         of_last = sym kth_found;
         series = morsels q c;
-        all = morsels_are q c asked right;
+        all = morsels_are q c right;
         entries = h.entries;
         right = entries_true (kth_of_query q c) h.entries (morsels q c) morsels_right h.right;
         text = h.text ∙ ap (text_with h.version q (kth_of_query q c) h.entries)
@@ -179,7 +179,8 @@ module _ (q : Asked) (c : Contents) (asked : IsAsked q) (right : IsContents c) w
       → (h : IsCertificate q c bytes) × (h.version ≡ version)
   certificate_found version bytes h =
       let best : h.best ≡ best_of_query q c = (best_found q c h.best asked right).1 h.are in
-      let series : h.series ≡ morsels q c = one_series q (IsHeldSeries q c) h.series (morsels q c) h.all (morsels_are q c asked right) in
+      let series : h.series ≡ morsels q c =
+      one_series q (IsHeldSeries q c) h.series (morsels q c) h.all (morsels_are q c right) in
       let kth : h.kth ≡ kth_of_query q c = h.of_last ∙ ap (kth_of_best q.k) best ∙ kth_found in (
         record {
           version = version;
@@ -276,7 +277,8 @@ module _ (series : SeriesStay) (q : Asked) (c : Contents) where
 pub report_stays : SeriesStay → RightReportStays
 report_stays series q c bytes = (
   report-moved q (IsHeldSeries q (data_for q c)) (IsHeldSeries q c) (needed series q c) c.stations bytes,
-  report-moved q (IsHeldSeries q c) (IsHeldSeries q (data_for q c)) (λ s. turned (needed series q c s)) c.stations bytes,
+  report-moved q (IsHeldSeries q c) (IsHeldSeries q (data_for q c)) (λ s. turned (needed series q c s))
+      c.stations bytes,
 )
 
 -- and a certificate

@@ -5,7 +5,8 @@ pub mod ReportRows
 pub mod PlanLines
 pub mod PlanPapers
 pub mod PaperLines
-pub mod CertificateReading
+pub mod LinesRead
+pub mod OneKind
 pub mod Counts
 pub mod StationRows
 pub mod LineValues
@@ -26,7 +27,6 @@ pub mod ListedStations
 pub mod CandidateDays
 pub mod RightCertificates
 pub mod RightReports
-pub mod ReportReading
 pub mod ReportFields
 pub mod OneElement
 pub mod Answered

@@ -16,7 +16,7 @@ use Rattle.rank_papers.specs.Lines.{paper_lines, onto_first, exactly, is_i64, in
 -- ---- lines, one after the other, are the text
 
 -- lines, one after the other
-abbrev pub joined : List (List ℕ) → List ℕ
+abbrev joined : List (List ℕ) → List ℕ
 joined ls = flat_map (λ l. l) ls
 
 -- a byte more at the front
@@ -25,13 +25,17 @@ joined-first b [] = refl
 joined-first b (l ∷ ls) = refl
 
 -- the lines of a text are the text
-pub joined-lines : (bytes : List ℕ) → joined (paper_lines bytes) ≡ bytes
+joined-lines : (bytes : List ℕ) → joined (paper_lines bytes) ≡ bytes
 joined-lines [] = refl
 joined-lines (b ∷ bytes) = elim (b == 10) as (λ t. joined (cond t ((b ∷ []) ∷ paper_lines bytes) (onto_first b
     (paper_lines bytes))) ≡ b ∷ bytes) [
       | true ↦ ap (λ (t : List ℕ). b ∷ t) (joined-lines bytes)
       | false ↦ joined-first b (paper_lines bytes) ∙ ap (λ (t : List ℕ). b ∷ t) (joined-lines bytes)
     ]
+
+-- so texts with the same lines are the same
+pub same_text : (a b : List ℕ) → paper_lines a ≡ paper_lines b → a ≡ b
+same_text a b e = sym (joined-lines a) ∙ ap joined e ∙ joined-lines b
 
 -- ---- a value that is read by its one text
 

@@ -1,10 +1,9 @@
 -- What is true of listed stations and of their names.
-use Rattle.std.proofs.Common.{◌≡◌, ℕ, zero, suc, ◌-◌, ◌<◌, ◌≤◌, Bool, true, false, cond, not, List, [], ◌∷◌, length, take, reverse, get_or, Option, Some, refl, sym, ap, ◌∙◌, subst, arith}
+use Rattle.std.proofs.Common.{◌≡◌, ℕ, zero, suc, ◌-◌, ◌<◌, Bool, true, false, cond, not, List, [], ◌∷◌, length, take, reverse, get_or, Option, Some, refl, sym, ap, ◌∙◌, subst, arith}
 use Rattle.std.specs.Prelude.{◌==◌, ◌&&◌, slice_get, nat_le}
 use Rattle.std.specs.List.{find, list_all, prefix_len, suffix_len}
 use Rattle.std.specs.Option.{option_map_or}
-use Rattle.std.proofs.lemmas.Bool.{and_parts}
-use Rattle.std.proofs.lemmas.Bool.Decides.{nat_tests}
+use Rattle.std.proofs.lemmas.Bool.{le-leb, eqb-true, and_parts}
 use Rattle.std.proofs.lemmas.List.{get_or-reverse, get_or-take, length-reverse, length-take-le}
 use Rattle.std.proofs.lemmas.List.Sums.{prefix_len_stops}
 use Rattle.std.proofs.lemmas.Option.{slice_get-get_or}
@@ -12,7 +11,7 @@ use Rattle.ghcn_fields.specs.declared.field.Field.TheVariants.{Number}
 use Rattle.ghcn_files.specs.declared.station.Station.{Station}
 use Rattle.ghcn_files.specs.declared.station.StationId.{StationId}
 use Rattle.ghcn_files.specs.Ids.{is_id}
-use Rattle.ghcn_files.specs.IdLaws.{same_id-is}
+use Rattle.ghcn_files.proofs.IdLaws.{same_id-is}
 use Rattle.ghcn_files.specs.Listed.{is_station_of}
 use Rattle.ghcn_files.specs.StationLines.{is_station, is_latitude, is_longitude, is_printable}
 use Rattle.rank_papers.specs.Report.{trimmed}
@@ -41,11 +40,8 @@ station_fields s h =
     record {
       id = (and_parts (is_id s.id.0) north three.0).0;
       name = five.1;
-      thirty = same (length s.name) 30 six.1;
+      thirty = eqb-true (length s.name) 30 six.1;
     }
-  where
-    same : (n m : ℕ) → (n == m) ≡ true → n ≡ m
-    same n m e = grind (arith, nat_tests)
 
 -- the station that is found by an ID has it, and is right where all are
 pub found_station : (id : StationId) (sts : List Station) (s : Station) → list_all is_station sts ≡ true
@@ -121,11 +117,8 @@ trimmed_ends bytes = by (left bytes) refl
 pub trimmed_name : (s : Station) → HasFields s → is_name (trimmed s.name) ≡ true
 trimmed_name s is =
     let few : nat_le (length (trimmed s.name)) 30 ≡ true =
-    at_most (length (trimmed s.name)) 30 (omega (arith, length-trimmed s.name, is.thirty)) in
+    le-leb (length (trimmed s.name)) 30 (omega (arith, length-trimmed s.name, is.thirty)) in
     ap (λ (t : Bool). t && list_all is_printable (trimmed s.name) && ends_in_print (trimmed s.name)) few
     ∙ ap (λ (t : Bool). t && ends_in_print (trimmed s.name))
     (passes-take is_printable (length s.name - suffix_len (λ b. b == 32) s.name) s.name is.name)
     ∙ trimmed_ends s.name
-  where
-    at_most : (n m : ℕ) → n ≤ m → nat_le n m ≡ true
-    at_most n m h = grind (arith, nat_tests)

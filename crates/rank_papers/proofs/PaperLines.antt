@@ -3,7 +3,7 @@ use Rattle.std.proofs.Common.{◌≡◌, ℕ, zero, suc, ◌+◌, ◌<◌, Bool,
 use Rattle.std.specs.Prelude.{◌==◌}
 use Rattle.std.proofs.lemmas.Bool.{false_from_ne_true}
 use Rattle.memchr.specs.Find.{IsFirstByte, is_byte}
-use Rattle.rank_papers.specs.Lines.{paper_lines, before_lines, onto_first, IsCut}
+use Rattle.rank_papers.specs.Lines.{paper_lines, before_lines, onto_first, IsFirstLineCut}
 
 -- a byte that is no line feed goes on with the first line
 other_byte : (b : ℕ) (ls : List (List ℕ)) → (b == 10) ≡ false → before_lines b ls ≡ onto_first b ls
@@ -34,7 +34,7 @@ lines-one (b ∷ c ∷ bytes) some none =
 
 -- a line is cut off at the first line feed
 pub cut-at : (text rest : List ℕ) (end : ℕ) → IsFirstByte (is_byte 10) text (Some end)
-    → rest ≡ drop (end + 1) text → IsCut text (Some (take (end + 1) text, rest))
+    → rest ≡ drop (end + 1) text → IsFirstLineCut text (Some (take (end + 1) text, rest))
 cut-at text rest end first e =
     let high : end < length text = first.0.high in
     let next : end + 1 ≡ suc end = omega arith in
@@ -47,7 +47,7 @@ cut-at text rest end first e =
 
 -- and the whole text where there is none
 pub cut-whole : (text rest : List ℕ) → 0 < length text → IsFirstByte (is_byte 10) text None → rest ≡ []
-    → IsCut text (Some (text, rest))
+    → IsFirstLineCut text (Some (text, rest))
 cut-whole text rest some nowhere e = (
   lines-one text some (λ k lt. false_from_ne_true _ (nowhere k (omega arith) lt))
       ∙ ap (λ (r : List ℕ). text ∷ paper_lines r) (sym e),

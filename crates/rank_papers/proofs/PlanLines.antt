@@ -1,27 +1,19 @@
 -- The lines of a plan's answer are right entries, with the bounds of their series.
-use Rattle.std.proofs.Common.{◌≡◌, ℕ, ◌+◌, Bool, true, false, cond, not, List, [], ◌∷◌, ◌++◌, length, map, Option, Some, refl, sym, ap, ◌∙◌, subst, arith, append_assoc, length-append, ℤ, pos, ◌≤ℤ◌}
-use Rattle.std.specs.Prelude.{◌==◌, filter, slice_get}
-use Rattle.std.specs.List.{enumerate_from, AllByRecursion, AllZip, IsDistinct}
+use Rattle.std.proofs.Common.{◌≡◌, ℕ, ◌+◌, Bool, true, false, cond, List, [], ◌∷◌, ◌++◌, length, map, Option, Some, refl, sym, ap, ◌∙◌, subst, arith, append_assoc, length-append, ℤ, pos, ◌≤ℤ◌}
+use Rattle.std.specs.Prelude.{filter, slice_get}
+use Rattle.std.specs.List.{enumerate_from, AllByRecursion, AllZip}
 use Rattle.std.specs.List.Sorted.{IsPermutation}
 use Rattle.std.specs.Option.{option_map_or}
-use Rattle.std.specs.Cmp.{IsTotalOrder}
-use Rattle.std.specs.Cmp.Lexicographic.{slice_cmp}
-use Rattle.std.specs.Ordering.{is_eq, nat_cmp, on}
-use Rattle.std.specs.declared.cmp.Ordering.{Ordering}
-use Rattle.std.specs.declared.cmp.Ordering.TheVariants.{Equal}
-use Rattle.std.proofs.lemmas.Cmp.{nat_list_cmp_total, on_total, nat_list_eq_equiv}
-use Rattle.std.proofs.lemmas.List.Sorted.{IsPermutation-map, IsPermutation-sym}
-use Rattle.std.proofs.lemmas.Map.Keys.{IsDistinct-head, IsDistinct-tail, IsDistinct-cons}
-use Rattle.std.proofs.lemmas.Map.Text.{is_eq-slice_cmp}
+use Rattle.std.proofs.lemmas.List.Sorted.{IsPermutation-map, IsPermutation-trans}
 use Rattle.ghcn_fields.specs.Sorting.{placed, sorted_by}
 use Rattle.ghcn_files.specs.declared.station.StationId.{StationId}
-use Rattle.ghcn_files.specs.Ids.{same_id}
 use Rattle.ghcn_series.specs.Series.{Usable, Contents}
 use Rattle.ghcn_series.specs.Held.{IsContents}
 use Rattle.rank_query.specs.Asked.{Asked, IsAsked}
-use Rattle.rank_scores.specs.Candidates.{admitted, candidates}
+use Rattle.rank_scores.specs.Candidates.{candidates}
 use Rattle.rank_scores.specs.Order.{is_below}
-use Rattle.rank_scores.specs.Morsels.{admitted_series, morsels, id_comes_first, kth_of_query, IsAbove}
+use Rattle.rank_scores.specs.Morsels.{admitted_series, has_admitted, morsels, id_comes_first, kth_of_query, IsAbove}
+use Rattle.rank_scores.proofs.QueryCandidates.{morsels_apart}
 use Rattle.rank_blocks.specs.Bounds.{bound}
 use Rattle.rank_pool.specs.First.{kth}
 use Rattle.rank_sched.specs.declared.haul.Haul.{Haul}
@@ -29,10 +21,9 @@ use Rattle.rank_sched.specs.Plan.{Morsel, Planned, IsPlan, measured, is_drawn_fi
 use Rattle.rank_sched.specs.Task.{task_of, all_of_task, IsFair}
 use Rattle.rank_sched.specs.Hauls.{all_records, AreSound}
 use Rattle.rank_sched.specs.Answers.{line_of, lines_of}
-use Rattle.ghcn_fields.proofs.Ordered as ordered
-use Rattle.rank_sched.proofs.PlanOrder.{of_one_station}
-use Rattle.rank_sched.proofs.PlanMade.{plan_distinct}
-use Rattle.rank_sched.proofs.PlanBest.{plan_has_best}
+use Rattle.ghcn_files.proofs.IdOrder.{same_sort}
+use Rattle.ghcn_files.proofs.Ordered.{sorted-permutation}
+use Rattle.rank_sched.proofs.PlanBest.{get_behind, plan_has_best}
 use Rattle.rank_sched.proofs.FairPlans.{IsMeasured, plan_measured, plans_fair}
 use Rattle.rank_sched.proofs.Totals.{skips_right}
 use Rattle.rank_papers.specs.Certificate.{Entry, AreInRange, IsRightEntry}
@@ -64,58 +55,18 @@ module _ {A B : Type 0} (R : A → B → Type 0) (f : A → A → Bool) (g : B �
   sorted-zip (x ∷ xs) (y ∷ ys) h =
       placed-zip x y (sorted_by f xs) (sorted_by g ys) h.0 (sorted-zip xs ys h.1)
 
--- ---- series by their IDs
-
--- the order of series by ID
-abbrev pub id_cmp : Usable → Usable → Ordering
-id_cmp = on (λ s. s.id.0) (slice_cmp nat_cmp)
+-- ---- the series of morsels
 
 -- a series whose ID stands before another's, or is the same
-abbrev pub comes_first : Usable → Usable → Bool
+abbrev comes_first : Usable → Usable → Bool
 comes_first a b = id_comes_first a.id b.id
 
--- two series are of one station
-abbrev pub same_station : Usable → Usable → Bool
-same_station a b = same_id a.id b.id
-
--- which of two series is named first makes no difference
-pub same_station-symm : (a b : Usable) → same_station a b ≡ same_station b a
-same_station-symm a b = nat_list_eq_equiv.symm (a.id.0) (b.id.0)
-
--- the order by ID is total
-pub id_total : IsTotalOrder id_cmp
-id_total = on_total (λ (s : Usable). s.id.0) nat_list_cmp_total
-
--- series that tie are of one station
-pub series_tied : (a b : Usable) → id_cmp a b ≡ Equal → same_station a b ≡ true
-series_tied a b e = sym (is_eq-slice_cmp (a.id.0) (b.id.0)) ∙ ap is_eq e
-
 -- the series of a morsel
-abbrev pub series_of_morsel : Morsel → Usable
+abbrev series_of_morsel : Morsel → Usable
 series_of_morsel m = m.series
 
--- no later series is of the station of a morsel of which no later morsel is
-other_series : (m : Morsel) (ms : List Morsel) → AllByRecursion (λ n. of_one_station m n ≡ false) ms
-    → AllByRecursion (λ s. same_station m.series s ≡ false) (map series_of_morsel ms)
-other_series m [] h = tt
-other_series m (n ∷ ms) h = (h.0, other_series m ms h.1)
-
--- no series are of different stations
-no_series : IsDistinct same_station []
-unfolding IsDistinct
-no_series = tt
-
--- morsels of different stations have series of different stations
-pub distinct_series : (ms : List Morsel) → IsDistinct of_one_station ms
-    → IsDistinct same_station (map series_of_morsel ms)
-distinct_series [] d = no_series
-distinct_series (m ∷ ms) d =
-    IsDistinct-cons same_station m.series (map series_of_morsel ms)
-    (other_series m ms (IsDistinct-head of_one_station m ms d))
-    (distinct_series ms (IsDistinct-tail of_one_station m ms d))
-
 -- measured series are the series
-pub series-measured : (q : Asked) (ss : List Usable) → map series_of_morsel (map (measured q) ss) ≡ ss
+series-measured : (q : Asked) (ss : List Usable) → map series_of_morsel (map (measured q) ss) ≡ ss
 series-measured q [] = refl
 series-measured q (s ∷ ss) = ap (λ (l : List Usable). s ∷ l) (series-measured q ss)
 
@@ -151,11 +102,6 @@ bounds_are q kth (l ∷ ls) (s ∷ ss) h =
     ap (λ (z : ℤ). z ∷ map (λ x. x.bound) ls) h.0.bounded
     ∙ ap (λ (zs : List ℤ). bound q s ∷ zs) (bounds_are q kth ls ss h.1)
 
--- what stands behind some others
-behind : {A : Type 0} (front : List A) (x : A) (rest : List A) → slice_get (front ++ x ∷ rest) (length front) ≡ Some x
-behind [] x rest = refl
-behind (y ∷ front) x rest = behind front x rest
-
 module _ (q : Asked) (c : Contents) (asked : IsAsked q) (right : IsContents c) (hs : List Haul)
     (sound : AreSound (task_of (planned q c)) hs) where
   -- the plan
@@ -164,7 +110,7 @@ module _ (q : Asked) (c : Contents) (asked : IsAsked q) (right : IsContents c) (
 
   -- it is one
   abbrev is_plan : IsPlan plan
-  is_plan = record { asked = asked; held = c; right = right; plan = refl }
+  is_plan = record { asked = asked; dataset = c; right = right; plan = refl }
 
   -- the line of a morsel with its number
   abbrev line : ℕ → Morsel → Entry
@@ -201,7 +147,7 @@ module _ (q : Asked) (c : Contents) (asked : IsAsked q) (right : IsContents c) (
   each_line front (m ∷ ms) n e len all =
       let at : slice_get plan.morsels n ≡ Some m =
       ap (λ (l : List Morsel). slice_get l n) e
-      ∙ ap (λ (k : ℕ). slice_get (front ++ m ∷ ms) k) len ∙ behind front m ms in
+      ∙ ap (λ (k : ℕ). slice_get (front ++ m ∷ ms) k) len ∙ get_behind front m ms in
       let more : plan.morsels ≡ (front ++ m ∷ []) ++ ms = e ∙ sym (append_assoc front (m ∷ []) ms) in
       let count : n + 1 ≡ length (front ++ m ∷ []) = omega (arith, length-append front (m ∷ []), len) in
       (one_line n m at all.0, each_line (front ++ m ∷ []) ms (n + 1) more count all.1)
@@ -209,17 +155,15 @@ module _ (q : Asked) (c : Contents) (asked : IsAsked q) (right : IsContents c) (
   -- the series of a plan's morsels, by increasing ID
   series_are : morsels q c ≡ sorted_by comes_first (map series_of_morsel plan.morsels)
   series_are =
-      let ss : List Usable = morsels q c in
-      let moved : IsPermutation (map series_of_morsel (map (measured q) ss)) (map series_of_morsel plan.morsels) =
-      IsPermutation-map series_of_morsel (map (measured q) ss) plan.morsels
-      (ordered.sorted-permutation is_drawn_first (map (measured q) ss)) in
-      let alike : IsPermutation ss (map series_of_morsel plan.morsels) =
-      subst (λ (l : List Usable). IsPermutation l (map series_of_morsel plan.morsels)) (series-measured q ss) moved in
-      ordered.one_order id_cmp id_total comes_first (λ a b. refl) same_station same_station-symm series_tied
-      (map series_of_morsel plan.morsels) ss (distinct_series plan.morsels (plan_distinct plan is_plan))
-      (IsPermutation-sym ss (map series_of_morsel plan.morsels) alike)
-      (ordered.sorted-in_turn id_cmp id_total comes_first (λ a b. refl)
-      (filter (λ s. not (length (admitted q s) == 0)) (admitted_series q c)))
+      let kept : List Usable = filter (has_admitted q) (admitted_series q c) in
+      let back : map series_of_morsel (map (measured q) kept) ≡ kept = series-measured q kept in
+      let drawn : IsPermutation (map (measured q) kept) plan.morsels = IsPermutation-trans (map (measured q) kept)
+      (map (measured q) (morsels q c)) plan.morsels
+      (IsPermutation-map (measured q) kept (morsels q c) (sorted-permutation comes_first kept))
+      (sorted-permutation is_drawn_first (map (measured q) (morsels q c))) in
+      sym (same_sort (λ s. s.id) kept (map series_of_morsel plan.morsels) (morsels_apart q c right)
+      (subst (λ (l : List Usable). IsPermutation l (map series_of_morsel plan.morsels)) back
+      (IsPermutation-map series_of_morsel (map (measured q) kept) plan.morsels drawn)))
 
   -- the lines of a plan's sound hauls are those of the query's series, one by one
   pub lines_right : AllZip (IsLineOf q (kth_of_query q c)) (lines_of plan (all_records hs)) (morsels q c)

@@ -1,6 +1,6 @@
 -- The papers of a plan's answer: its best candidates and lines are those of the query.
 use Rattle.std.proofs.Common.{◌≡◌, inr, ℕ, zero, suc, ◌-◌, ◌<◌, List, [], ◌∷◌, ◌++◌, length, take, Option, Result, Ok, Err, refl, sym, ap, ◌∙◌, subst, arith, ℤ}
-use Rattle.std.specs.Prelude.{slice_get, codes, IfOk}
+use Rattle.std.specs.Prelude.{slice_get, IfOk}
 use Rattle.std.specs.List.{flat_map, AllZip}
 use Rattle.std.specs.Option.{option_map}
 use Rattle.std.proofs.lemmas.Bool.Decides.{nat_tests}
@@ -20,7 +20,7 @@ use Rattle.rank_sched.specs.Plan.{Planned, IsPlan, planned}
 use Rattle.rank_sched.specs.Answers.{best_of_plan, IsAnswerOfPlan, IsAnswerOfCrew}
 use Rattle.rank_sched.proofs.PlanBest.{plan_has_best}
 use Rattle.rank_papers.specs.Report.{IsReportOfBest, query_line}
-use Rattle.rank_papers.specs.Certificate.{Entry, kth_line, counted, counts_of, entry_line, end_line, kth_of_best, certificate_text, AreInRange, certificate_of_best}
+use Rattle.rank_papers.specs.Certificate.{title_line, Entry, kth_line, counted, counts_of, entry_line, end_line, kth_of_best, certificate_text, AreInRange, certificate_of_best}
 use Rattle.rank_papers.specs.PlanPapers.{IsReportOfPlan, IsCertificateOfPlan}
 use Rattle.rank_papers.proofs.PlanLines.{IsLineOf, right_entries, bounds_are, lines_right}
 
@@ -34,10 +34,10 @@ best_is p a q c answer asked right is = answer.best_are ∙ ap best_of_plan is �
 -- they are of the plan's stations
 pub answer_listed : (p : Planned) (a : Answer) → IsPlan p → IsAnswerOfPlan p a → AreOfListed p.stations a.best.items
 answer_listed p a plan answer =
-    let same : a.best.items ≡ best_of_query p.query plan.held =
-    best_is p a p.query plan.held answer plan.asked plan.right plan.plan in
+    let same : a.best.items ≡ best_of_query p.query plan.dataset =
+    best_is p a p.query plan.dataset answer plan.asked plan.right plan.plan in
     subst (λ (sts : List Station). AreOfListed sts a.best.items) (sym (ap (λ (x : Planned). x.stations) plan.plan))
-    (subst (AreOfListed plan.held.stations) (sym same) (best_listed p.query plan.held plan.right))
+    (subst (AreOfListed plan.dataset.stations) (sym same) (best_listed p.query plan.dataset plan.right))
 
 -- so the report of these best is the plan's
 pub report-of_plan : {X E : Type 0} (items : X → List ℕ) (p : Planned) (a : Answer) (q : Asked) (stations : List
@@ -85,9 +85,9 @@ kth_is q c cs asked right e =
 
 -- the parts of a certificate, one after the other, make its text
 pub certificate-made : (q : Asked) (best : List Candidate) (es : List Entry) (t u v w x : List ℕ)
-    → t ≡ codes "extremes certificate 2\n" → u ≡ t ++ query_line q → v ≡ u ++ kth_line (kth_of_best q.k best)
-    → w ≡ v ++ flat_map (entry_line 2) (counted es (counts_of 2 best es)) → x ≡ w ++ end_line (length es) → x ≡
-    certificate_of_best q best es
+    → t ≡ title_line 2 → u ≡ t ++ query_line q → v ≡ u ++ kth_line (kth_of_best q.k best)
+    → w ≡ v ++ flat_map (entry_line 2) (counted es (counts_of 2 best es)) → x ≡ w ++ end_line (length es)
+    → x ≡ certificate_of_best q best es
 certificate-made q best es t u v w x title query score lines end =
     let after_title : List ℕ → List ℕ = λ b. b ++ query_line q in
     let after_query : List ℕ → List ℕ = λ b. b ++ kth_line (kth_of_best q.k best) in

@@ -6,6 +6,8 @@ use Rattle.std.proofs.lemmas.Bool.{and_parts}
 use Rattle.std.proofs.lemmas.Bool.Decides.{nat_tests}
 use Rattle.std.proofs.lemmas.Int.{ints}
 use Rattle.ghcn_files.specs.Ids.{is_id, is_visible}
+use Rattle.rank_query.specs.declared.score.Score.TheVariants.{Dry}
+use Rattle.rank_query.specs.declared.region.Region.TheVariants.{Everywhere}
 use Rattle.rank_query.specs.Asked.{Asked, IsAsked}
 use Rattle.rank_query.specs.QueryTexts.{query_text}
 use Rattle.rank_query.specs.Reading.{read_query}
@@ -26,6 +28,15 @@ query_in-line q asked =
     ∙ ap ok_query (spelling_read text q asked own.spells own.line.short) in
     exactly-from query_line (query_of_text (slice_range (query_line q) 6 (length (query_line q) - 1))) q
     (ap query_of_text (last_field 6 (codes "query ") text refl) ∙ read)
+
+-- a query that can be asked
+abbrev pub some_query : Asked
+some_query = record { k = 1; score = Dry; region = Everywhere; season = None; period = None }
+
+-- it is read of its line
+pub some_query-line : query_in (query_line some_query) ≡ Some some_query
+some_query-line =
+    query_in-line some_query (record { k = refl; score = refl; region = refl; season = refl; period = refl })
 
 -- a number inside 64 bits passes the test
 pub is_i64-fits : (z : ℤ) → FitsSigned w64 z → is_i64 z ≡ true

@@ -1,15 +1,13 @@
 -- Worked reports, by computation.
-use Rattle.std.proofs.Common.{◌≡◌, ℕ, List, [], ◌∷◌, ◌++◌, refl, None, Ok, Err}
+use Rattle.std.proofs.Common.{◌≡◌, ℕ, List, [], ◌∷◌, ◌++◌, refl, Ok, Err}
 use Rattle.std.specs.Prelude.{codes, ℤ, pos, neg_ℤ}
 use Rattle.std.specs.Fmt.{digits}
 use Rattle.jiff_core.specs.Calendar.{days_from_civil, day_count, days_of_years, days_of_months}
 use Rattle.ghcn_fields.specs.Dates.{year_and_rest, month_and_day}
 use Rattle.ghcn_files.specs.declared.station.StationId.{StationId}
 use Rattle.ghcn_files.specs.declared.element.Element.TheVariants.{Tmax, Tmin}
-use Rattle.rank_query.specs.declared.score.Score.{Score}
 use Rattle.rank_query.specs.declared.score.Score.TheVariants.{Highest, Lowest, Dry}
-use Rattle.rank_query.specs.declared.region.Region.TheVariants.{Everywhere}
-use Rattle.rank_query.specs.Asked.{Asked}
+use Rattle.rank_query.specs.Asked.{top}
 use Rattle.rank_query.specs.Words.{says}
 use Rattle.rank_query.specs.Readers.{keyword}
 use Rattle.rank_query.specs.WordValues.{number, element}
@@ -28,10 +26,6 @@ b = record { 0 = codes "ZZA00000002" }
 
 abbrev c : StationId
 c = record { 0 = codes "ZZA00000003" }
-
--- the k best of a score, everywhere and at any time
-abbrev ask : ℕ → Score → Asked
-ask k s = record { k = k; score = s; region = Everywhere; season = None; period = None }
 
 -- lines, each with a line feed
 abbrev text : List (List ℕ) → List ℕ
@@ -64,12 +58,12 @@ top_ten_text = text (
     ∷ [])
 
 -- it is written
-report_written : report_text (ask 10 (Highest Tmax)) top_ten ≡ top_ten_text
+report_written : report_text (top 10 (Highest Tmax)) top_ten ≡ top_ten_text
 unfolding digits year_and_rest month_and_day
 report_written = refl
 
 -- and read
-report_read : read_report top_ten_text ≡ Ok (record { query = ask 10 (Highest Tmax); rows = top_ten })
+report_read : read_report top_ten_text ≡ Ok (record { query = top 10 (Highest Tmax); rows = top_ten })
 unfolding digits year_and_rest month_and_day read_query read_words keyword says number element score_at no_score_at
     region_at season_at period_at days_from_civil day_count days_of_years days_of_months
 report_read = refl
@@ -85,7 +79,7 @@ lowest_read : read_report (lowest (
     ∷ codes "end 2"
     ∷ []))
     ≡ Ok (record {
-      query = ask 2 (Lowest Tmin);
+      query = top 2 (Lowest Tmin);
       rows = (on_day a (pos 18444) (pos 5), codes "ALPHA") ∷ (on_day a (pos 18445) (neg_ℤ (pos 3)), []) ∷ [];
     })
 unfolding digits year_and_rest month_and_day read_query read_words keyword says number element score_at no_score_at
@@ -112,7 +106,7 @@ bad_rows = (refl, refl, refl, refl, refl, refl, refl, refl)
 
 -- a name may begin with a blank and have two blanks inside, and both come back
 names_read : read_report (lowest (codes "1 ZZA00000001 2020-07-01 2020-07-01 0.3 C  A  B" ∷ codes "end 1 all" ∷ []))
-    ≡ Ok (record { query = ask 2 (Lowest Tmin); rows = (on_day a (pos 18444) (neg_ℤ (pos 3)), codes " A  B") ∷ [] })
+    ≡ Ok (record { query = top 2 (Lowest Tmin); rows = (on_day a (pos 18444) (neg_ℤ (pos 3)), codes " A  B") ∷ [] })
 unfolding digits year_and_rest month_and_day read_query read_words keyword says number element score_at no_score_at
     region_at season_at period_at days_from_civil day_count days_of_years days_of_months
 names_read = refl
@@ -124,7 +118,7 @@ spells rows = text (codes "extremes report 1" ∷ codes "query top 1 dry" ∷ ro
 -- a span of days, another unit, a name of 31 bytes, too many rows, and what follows the end
 spell_read : (read_report (spells (codes "1 ZZA00000001 2020-06-29 2020-07-02 4 days ALPHA" ∷ codes "end 1" ∷ []))
     ≡ Ok (record {
-      query = ask 1 Dry;
+      query = top 1 Dry;
       rows = (record { id = a; first = pos 18442; last = pos 18445; score = pos 4 }, codes "ALPHA") ∷ [];
     }))
     × (read_report (spells (codes "1 ZZA00000001 2020-06-29 2020-07-02 4 C ALPHA" ∷ codes "end 1" ∷ [])) ≡ Err 3)

@@ -11,7 +11,7 @@ use Rattle.ghcn_fields.specs.Bytes.{same_bytes}
 use Rattle.ghcn_fields.specs.Dates.{read_date}
 use Rattle.ghcn_fields.specs.Numbers.{natural, signed_by}
 use Rattle.rank_query.specs.Asked.{Asked}
-use Rattle.rank_papers.specs.Values.{measure_of, unit_text, value_of}
+use Rattle.rank_papers.specs.Values.{measure_of_score, unit_text, value_of}
 use Rattle.rank_papers.specs.Report.{Named}
 use Rattle.rank_papers.specs.Lines.{exactly}
 use Rattle.rank_papers.specs.ReportLines.{row_line, score_in, row_with, first_word, row_in_columns, row_in, row_behind}
@@ -49,7 +49,7 @@ abbrev pub row_at : Asked → ℕ → List ℕ → List ℕ → Option ℤ → O
 row_at q digits line value score =
     row_with
     (slice_range line (digits + 1) (digits + 12))
-    (slice_range line (digits + length value + length (unit_text (measure_of q.score)) + 37) (length line - 1))
+    (slice_range line (digits + length value + length (unit_text (measure_of_score q.score)) + 37) (length line - 1))
     (read_date (slice_range line (digits + 13) (digits + 23)))
     (read_date (slice_range line (digits + 24) (digits + 34)))
     score
@@ -70,7 +70,7 @@ row_at-is q digits line value score v s =
 pub record AreParts (q : Asked) (digits : ℕ) (line value id name : List ℕ) (first last : Option ℤ) : Type 0 where
   pub id_is : id ≡ slice_range line (digits + 1) (digits + 12)
   pub name_is : name
-      ≡ slice_range line (digits + length value + length (unit_text (measure_of q.score)) + 37) (length line - 1)
+      ≡ slice_range line (digits + length value + length (unit_text (measure_of_score q.score)) + 37) (length line - 1)
   pub first_is : first ≡ read_date (slice_range line (digits + 13) (digits + 23))
   pub last_is : last ≡ read_date (slice_range line (digits + 24) (digits + 34))
 
@@ -91,7 +91,7 @@ pub row_at-none : (q : Asked) (digits : ℕ) (line value : List ℕ) → row_at 
 row_at-none q digits line value =
     row_with-none
     (slice_range line (digits + 1) (digits + 12))
-    (slice_range line (digits + length value + length (unit_text (measure_of q.score)) + 37) (length line - 1))
+    (slice_range line (digits + length value + length (unit_text (measure_of_score q.score)) + 37) (length line - 1))
     (read_date (slice_range line (digits + 13) (digits + 23)))
     (read_date (slice_range line (digits + 24) (digits + 34)))
 

@@ -8,29 +8,43 @@ use Rattle.std.proofs.lemmas.List.Elements.{filter_map-append}
 use Rattle.std.proofs.lemmas.Grind.{flat_map-append}
 use Rattle.ghcn_files.specs.declared.station.Station.{Station}
 use Rattle.ghcn_files.specs.Listed.{is_station_of}
+use Rattle.ghcn_files.proofs.LineLaws.{enumerate_from-append}
 use Rattle.rank_query.specs.Asked.{Asked}
 use Rattle.rank_scores.specs.declared.candidate.Candidate.{Candidate}
 use Rattle.rank_scores.specs.QueryCandidates.{AreOfListed}
-use Rattle.rank_papers.specs.Report.{Named, named, trimmed, with_stations, with_station, rows_of_best, text_line, row_fields, end_fields, query_line, text_of_best, IsReportOfBest}
+use Rattle.rank_papers.specs.Report.{Named, named, trimmed, with_stations, with_station, rows_of_best, text_line, row_fields, end_fields, query_line, report_text, text_of_best, IsReportOfBest}
 use Rattle.rank_papers.proofs.RowText.{rows_text}
 
--- a number before each of two lists
-enumerate_from-append : {X : Type 0} (n : ℕ) (xs ys : List X) →
-    enumerate_from n (xs ++ ys) ≡ enumerate_from n xs ++ enumerate_from (n + length xs) ys
-enumerate_from-append n [] ys = let same : n ≡ n + 0 = omega arith in ap (λ (m : ℕ). enumerate_from m ys) same
-enumerate_from-append n (x ∷ xs) ys =
-    let same : (n + 1) + length xs ≡ n + length (x ∷ xs) = omega arith in
-    ap (λ l. (n, x) ∷ l) (enumerate_from-append (n + 1) xs ys)
-    ∙ ap (λ (m : ℕ). (n, x) ∷ (enumerate_from (n + 1) xs ++ enumerate_from m ys)) same
-
 -- the line of one row more follows the lines of the rows before it
-pub rows_text-push : (q : Asked) (rows : List Named) (row : Named) →
+rows_text-push : (q : Asked) (rows : List Named) (row : Named) →
     rows_text q (enumerate_from 1 (rows ++ row ∷ []))
     ≡ rows_text q (enumerate_from 1 rows) ++ text_line (row_fields q (1 + length rows, row))
 rows_text-push q rows row =
     ap (rows_text q) (enumerate_from-append 1 rows (row ∷ []))
     ∙ flat_map-append (λ r. text_line (row_fields q r)) (enumerate_from 1 rows) ((1 + length rows, row) ∷ [])
     ∙ ap (λ (text : List ℕ). rows_text q (enumerate_from 1 rows) ++ text) (append-nil _)
+
+module _ (q : Asked) (names : List Named) where
+  -- one row more was written behind others
+  pub rows-more : (row : Named) (n : ℕ) (before paper : List ℕ) → n ≡ length names
+      → paper ≡ before ++ rows_text q (enumerate_from 1 names)
+      → paper ++ text_line (row_fields q (n + 1, row)) ≡ before ++ rows_text q (enumerate_from 1 (names ++ row ∷ []))
+  rows-more row n before paper count text =
+      let line : ℕ → List ℕ = λ rank. text_line (row_fields q (rank, row)) in
+      let rank : n + 1 ≡ 1 + length names = omega (arith, count) in
+      ap (λ (p : List ℕ). p ++ line (n + 1)) text
+      ∙ append_assoc before (rows_text q (enumerate_from 1 names)) (line (n + 1))
+      ∙ ap (λ (m : ℕ). before ++ (rows_text q (enumerate_from 1 names) ++ line m)) rank
+      ∙ ap (λ (t : List ℕ). before ++ t) (sym (rows_text-push q names row))
+
+  -- the parts of a report, one after the other, make its text
+  pub report-made : (n : ℕ) (b c d : List ℕ) → length names ≡ n → b ≡ codes "extremes report 1\n" ++ query_line q
+      → c ≡ b ++ rows_text q (enumerate_from 1 names) → d ≡ c ++ text_line (end_fields q.k n) → d ≡ report_text q names
+  report-made n b c d count head rows end =
+      let lines : List ℕ → List ℕ = λ x. x ++ rows_text q (enumerate_from 1 names) in
+      let last : ℕ → List ℕ = λ m. text_line (end_fields q.k m) in
+      end ∙ ap (λ (x : List ℕ). x ++ last n) (rows ∙ ap lines head)
+      ∙ ap (λ (m : ℕ). lines (codes "extremes report 1\n" ++ query_line q) ++ last m) (sym count)
 
 -- one candidate of a listed station more is one row more, that of the candidate and its station
 rows_of_best-push : (stations : List Station) (cs : List Candidate) (c : Candidate) (s : Station) →
@@ -57,19 +71,14 @@ module _ (q : Asked) (stations : List Station) (best : List Candidate) where
   HasRows-more i c s before paper below at found h =
       let names : List Named = rows_of_best stations (take i best) in
       let row : Named = (c, trimmed s.name) in
-      let line : ℕ → List ℕ = λ rank. text_line (row_fields q (rank, row)) in
       let taken : take (i + 1) best ≡ take i best ++ c ∷ [] =
       take_more best i c below ∙ ap (λ (x : Candidate). take i best ++ x ∷ []) (sym at) in
       let more : rows_of_best stations (take (i + 1) best) ≡ names ++ row ∷ [] =
       ap (rows_of_best stations) taken ∙ rows_of_best-push stations (take i best) c s found in
-      let rank : 1 + length names ≡ i + 1 = omega (arith, h.count) in
       record {
         count = ap length more ∙ omega (arith, length-append names (row ∷ []), h.count);
         text =
-            ap (λ (p : List ℕ). p ++ line (i + 1)) h.text
-            ∙ append_assoc before (rows_text q (enumerate_from 1 names)) (line (i + 1))
-            ∙ ap (λ (n : ℕ). before ++ (rows_text q (enumerate_from 1 names) ++ line n)) (sym rank)
-            ∙ ap (λ (text : List ℕ). before ++ text) (sym (rows_text-push q names row))
+            rows-more q names row i before paper (sym h.count) h.text
             ∙ ap (λ (rows : List Named). before ++ rows_text q (enumerate_from 1 rows)) (sym more);
       }
 
@@ -114,22 +123,6 @@ module _ (stations : List Station) where
 -- ---- the report
 
 module _ (q : Asked) (stations : List Station) (best : List Candidate) (listed : AreOfListed stations best) where
-  -- the parts of a report, one after the other, make its text
-  pub report-made : (a b c d : List ℕ) →
-      a ≡ codes "extremes report 1\n" → b ≡ a ++ query_line q →
-      c ≡ b ++ rows_text q (enumerate_from 1 (rows_of_best stations best)) →
-      d ≡ c ++ text_line (end_fields q.k (length best)) → d ≡ text_of_best q stations best
-  report-made a b c d title query rows end =
-      let names : List Named = rows_of_best stations best in
-      let lines : List ℕ → List ℕ = λ x. x ++ rows_text q (enumerate_from 1 names) in
-      let last : ℕ → List ℕ = λ n. text_line (end_fields q.k n) in
-      let before : c ≡ lines (codes "extremes report 1\n" ++ query_line q) =
-      rows ∙ ap lines (query ∙ ap (λ (x : List ℕ). x ++ query_line q) title) in
-      end
-      ∙ ap (λ (x : List ℕ). x ++ last (length best)) before
-      ∙ ap (λ (n : ℕ). lines (codes "extremes report 1\n" ++ query_line q) ++ last n)
-      (sym (length-rows_of_best stations best listed))
-
   -- that text is the right report, where the candidates are the best
   pub report-right : (bytes : List ℕ) → bytes ≡ text_of_best q stations best → IsReportOfBest q stations best bytes
   report-right bytes text c same is =

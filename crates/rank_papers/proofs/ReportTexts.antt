@@ -1,14 +1,12 @@
 -- The text of a report is read as what it says.
-use Rattle.std.proofs.Common.{◌≡◌, ℕ, zero, suc, ◌+◌, ◌/◌, ◌%◌, ◌<◌, ◌≤◌, Bool, true, false, cond, List, [], ◌∷◌, ◌++◌, length, Option, Some, None, Ok, Err, refl, sym, ap, ◌∙◌, append_assoc, append-nil, arith, decimal}
-use Rattle.std.specs.Prelude.{◌==◌, ◌&&◌, codes, slice_index_or, nat_le, nat_lt}
+use Rattle.std.proofs.Common.{◌≡◌, ℕ, zero, suc, ◌+◌, ◌/◌, ◌%◌, ◌<◌, ◌≤◌, Bool, true, false, cond, List, [], ◌∷◌, ◌++◌, length, Option, Some, None, Result, Ok, Err, refl, sym, ap, ◌∙◌, append_assoc, append-nil, arith, decimal}
+use Rattle.std.specs.Prelude.{◌==◌, ◌&&◌, codes, slice_index_or, nat_le, nat_lt, IfOk}
 use Rattle.std.specs.Char.{is_ascii_digit}
 use Rattle.std.specs.Fmt.{digits, digits_onto, digit_glyph}
 use Rattle.std.specs.List.{list_all, join_with_byte, enumerate_from, AllByRecursion}
 use Rattle.std.specs.Option.{option_map_or}
-use Rattle.std.specs.Cmp.Lexicographic.{bytes_decides}
-use Rattle.std.proofs.lemmas.Bool.{and_parts}
+use Rattle.std.proofs.lemmas.Bool.{leb-true, and_parts}
 use Rattle.std.proofs.lemmas.Bool.Decides.{nat_tests}
-use Rattle.ghcn_fields.specs.Bytes.{same_bytes}
 use Rattle.ghcn_fields.specs.Dates.{date_text}
 use Rattle.ghcn_files.specs.Ids.{is_visible}
 use Rattle.ghcn_files.specs.StationLines.{is_printable}
@@ -18,14 +16,16 @@ use Rattle.rank_query.proofs.CanonicalTexts.{canonical}
 use Rattle.rank_query.proofs.PrintedWords.{date_word}
 use Rattle.rank_papers.specs.declared.measure.Measure.{Measure}
 use Rattle.rank_papers.specs.declared.measure.Measure.TheVariants.{Degrees, Millimetres, WholeMillimetres, Days}
-use Rattle.rank_papers.specs.Values.{measure_of, unit_text, value_text, value_of}
+use Rattle.rank_papers.specs.Values.{measure_of_score, unit_text, value_text, value_of}
 use Rattle.rank_papers.specs.Report.{field_unless_empty, Named, row_fields, end_fields, query_line, report_text}
 use Rattle.rank_papers.proofs.RowText.{rows_text}
 use Rattle.rank_papers.specs.Lines.{paper_lines}
-use Rattle.rank_papers.specs.ReportLines.{Reported, IsReported, IsReportOf, IsRow, ends_in_print, row_line, row_in, report_end, row_behind, and_then_rows, no_more_lines, row_or_end, rows_in, with_rows, reported_lines, read_report}
+use Rattle.rank_papers.specs.ReportLines.{Reported, IsReported, IsReportOf, IsRow, ends_in_print, row_line, row_in, report_end, row_behind, rows_in, with_rows, reported_lines, read_report}
 use Rattle.rank_papers.specs.Laws.{ReportsAreRead}
 use Rattle.rank_papers.proofs.ReadLines.{query_in-line}
-use Rattle.rank_papers.proofs.ReportValues.{title, row_in-is, read_report-is}
+use Rattle.rank_papers.proofs.OneKind.{values-read}
+use Rattle.rank_papers.proofs.ReportValues.{title, row_in-is, lines_of, written, lines-are}
+use Rattle.rank_papers.proofs.LineValues.{same_text}
 use Rattle.rank_papers.proofs.RowLines.{row_value_visible, row_behind-line}
 use Rattle.rank_papers.proofs.WrittenLines.{lines-of_fields, printable-append, visible_text, decimal_printable}
 
@@ -51,8 +51,8 @@ row_printable q rank row is =
     let id : List ℕ = row.0.id.0 in
     let first : List ℕ = date_text row.0.first in
     let last : List ℕ = date_text row.0.last in
-    let value : List ℕ = value_text (measure_of q.score) (value_of q.score row.0.score) in
-    let unit : List ℕ = unit_text (measure_of q.score) in
+    let value : List ℕ = value_text (measure_of_score q.score) (value_of q.score row.0.score) in
+    let unit : List ℕ = unit_text (measure_of_score q.score) in
     let named : List ℕ = join_with_byte 32 (unit ∷ field_unless_empty row.1) in
     let visible = and_parts _ (list_all is_visible row.0.id.0) is.id in
     let name = and_parts (nat_le (length row.1) 30 && list_all is_printable row.1) (ends_in_print row.1) is.name in
@@ -64,7 +64,7 @@ row_printable q rank row is =
     (visible_text first (date_word row.0.first).visible)
     (printable-append last (32 ∷ (value ++ 32 ∷ named)) (visible_text last (date_word row.0.last).visible)
     (printable-append value (32 ∷ named) (visible_text value (row_value_visible q row is))
-    (named_printable unit row.1 (unit_printable (measure_of q.score)) bytes.1)))))
+    (named_printable unit row.1 (unit_printable (measure_of_score q.score)) bytes.1)))))
 
 -- the last line can be printed
 end_printable : (all : Bool) (n : ℕ)
@@ -73,15 +73,6 @@ end_printable true n = printable-append (decimal n) (codes " all") (decimal_prin
 end_printable false n = decimal_printable n
 
 -- ---- the lines of a report
-
--- the lines of rows, behind so many others
-abbrev pub lines_of : Asked → ℕ → List Named → List (List ℕ)
-lines_of q n [] = []
-lines_of q n (row ∷ rows) = row_line q (suc n) row ∷ lines_of q (suc n) rows
-
--- the lines in which a report is written
-abbrev pub written : Reported → List (List ℕ)
-written v = title ∷ query_line v.query ∷ (lines_of v.query 0 v.rows ++ report_end v.query (length v.rows) ∷ [])
 
 -- rows and an end line are cut into their lines
 lines-rows : (q : Asked) (rows : List Named) (n m : ℕ) → AllByRecursion IsRow rows
@@ -152,7 +143,7 @@ decimal_starts n rest = onto_starts 63 n [] rest
 row_starts : (q : Asked) (rank : ℕ) (row : Named) → starts_by_digit (row_line q rank row) ≡ true
 row_starts q rank row =
     let behind : List ℕ = 32 ∷ join_with_byte 32 (row.0.id.0 ∷ date_text row.0.first ∷ date_text row.0.last
-    ∷ value_text (measure_of q.score) (value_of q.score row.0.score) ∷ unit_text (measure_of q.score)
+    ∷ value_text (measure_of_score q.score) (value_of q.score row.0.score) ∷ unit_text (measure_of_score q.score)
     ∷ field_unless_empty row.1) in
     ap starts_by_digit (append_assoc (decimal rank) behind (10 ∷ []))
     ∙ decimal_starts rank (behind ++ 10 ∷ [])
@@ -180,38 +171,34 @@ row_behind-end q n m = elim (nat_lt n q.k) as (λ b. cond b (row_in q (suc n) (r
 
 -- ---- the whole text
 
--- rows are read up to the end line with their number
-pub rows_in-lines : (q : Asked) (rows : List Named) (n m : ℕ) → AllByRecursion IsRow rows → m ≡ n + length rows
-    → m ≤ q.k → rows_in q n (lines_of q n rows ++ report_end q m ∷ []) ≡ Ok rows
-rows_in-lines q [] n m h count few =
-    let same : m ≡ n = omega (arith, count) in
-    ap (λ (o : Option Named). row_or_end n o (same_bytes (report_end q m) (report_end q n)) [] (rows_in q (suc n) []))
-    (row_behind-end q n m)
-    ∙ ap (λ (b : Bool). cond b (no_more_lines n []) (Err (n + 3)))
-    ((bytes_decides (report_end q m) (report_end q n)).1 (ap (report_end q) same))
-rows_in-lines q (row ∷ rows) n m h count few =
-    let rest : List (List ℕ) = lines_of q (suc n) rows ++ report_end q m ∷ [] in
-    ap (λ (o : Option Named). row_or_end n o (same_bytes (row_line q (suc n) row) (report_end q n)) rest
-    (rows_in q (suc n) rest)) (row_behind-line q row h.0 n (omega (arith, count, few)))
-    ∙ ap (and_then_rows row) (rows_in-lines q rows (suc n) m h.1 (omega (arith, count)) few)
-
 -- the lines of a report are read as what it says
 written_read : (v : Reported) → IsReported v → reported_lines (written v) ≡ Ok v
 written_read v is =
     let rows : List (List ℕ) = lines_of v.query 0 v.rows ++ report_end v.query (length v.rows) ∷ [] in
     let count : length v.rows ≡ 0 + length v.rows = omega arith in
-    let few : length v.rows ≤ v.query.k = at_most (length v.rows) v.query.k is.few in
+    let few : length v.rows ≤ v.query.k = leb-true (length v.rows) v.query.k is.few in
     ap (λ (o : Option Asked). option_map_or (λ q. with_rows q (rows_in q 0 rows)) o (Err 2))
     (query_in-line v.query is.asked)
-    ∙ ap (with_rows v.query) (rows_in-lines v.query v.rows 0 (length v.rows) is.rows count few)
-  where
-    at_most : (n m : ℕ) → nat_le n m ≡ true → n ≤ m
-    at_most n m h = grind (arith, nat_tests)
+    ∙ ap (with_rows v.query) (values-read 3 (row_behind v.query) (report_end v.query) (λ n. row_line v.query (suc n))
+    IsRow (length v.rows) (λ n. row_behind-end v.query n (length v.rows))
+    (λ n row can lt. row_behind-line v.query row can n (omega (arith, lt, few))) v.rows 0 is.rows count)
 
 -- so the text of a report is read as it
 pub text_read : (bytes : List ℕ) (v : Reported) → IsReportOf v bytes → read_report bytes ≡ Ok v
 text_read bytes v h =
     ap read_report h.text ∙ ap reported_lines (lines-written v h.can_be) ∙ written_read v h.can_be
+
+-- what was read is said, and its text is the very bytes
+read_report-is : (bytes : List ℕ) (v : Reported) → read_report bytes ≡ Ok v → IsReportOf v bytes
+read_report-is bytes v h =
+    let are = lines-are (paper_lines bytes) v h in
+    record { can_be = are.0; text = same_text bytes (report_text v.query v.rows) (are.1 ∙ sym (lines-written v are.0)) }
+
+-- so is what a call answered
+pub if_read_report-is : {X E : Type 0} (said : X → Reported) (bytes : List ℕ) (r : Result X E)
+    → IfOk r (λ c. read_report bytes ≡ Ok (said c)) → IfOk r (λ c. IsReportOf (said c) bytes)
+if_read_report-is said bytes (Ok c) h = read_report-is bytes (said c) h
+if_read_report-is said bytes (Err e) h = tt
 
 -- both directions
 pub reports_read : ReportsAreRead

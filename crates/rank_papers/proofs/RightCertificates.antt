@@ -12,7 +12,7 @@ use Rattle.ghcn_fields.specs.Sorting.{placed, sorted_by}
 use Rattle.ghcn_files.specs.declared.station.Station.{Station}
 use Rattle.ghcn_files.specs.declared.station.StationId.{StationId}
 use Rattle.ghcn_files.specs.Ids.{is_id, same_id}
-use Rattle.ghcn_files.specs.IdLaws.{same_id-is}
+use Rattle.ghcn_files.proofs.IdLaws.{same_id-is}
 use Rattle.ghcn_files.specs.Listed.{is_station_of}
 use Rattle.ghcn_files.specs.StationLines.{is_station}
 use Rattle.ghcn_series.specs.Series.{Usable, Contents, IsSeries, series_of, is_series_of}
@@ -26,6 +26,7 @@ use Rattle.rank_scores.specs.Order.{of_rank, rank_in, kth_score}
 use Rattle.rank_scores.specs.Morsels.{admitted_series, morsels, id_comes_first, all_candidates, best_of_query}
 use Rattle.rank_scores.specs.Morsels.{kth_of_query}
 use Rattle.rank_scores.proofs.QueryCandidates.{found-holds, all_apart}
+use Rattle.rank_scores.proofs.Rising.{all-filter}
 use Rattle.rank_pool.specs.First.{in_order}
 use Rattle.rank_pool.proofs.Ranked.{best-first}
 use Rattle.rank_sched.proofs.Lists.{each-append, each-weaker}
@@ -36,16 +37,6 @@ use Rattle.rank_papers.proofs.Counts.{has_version}
 use Rattle.rank_papers.proofs.ListedStations.{station_fields}
 
 -- ---- what holds of each element
-
--- of those that pass
-each-filter : {X : Type 0} (P : X → Type 0) (test : X → Bool) (xs : List X) → AllByRecursion P xs
-    → AllByRecursion P (filter test xs)
-each-filter P test [] h = tt
-each-filter P test (x ∷ xs) h =
-    elim (test x) as (λ b. AllByRecursion P (cond b (x ∷ filter test xs) (filter test xs))) [
-      | true ↦ (h.0, each-filter P test xs h.1)
-      | false ↦ each-filter P test xs h.1
-    ]
 
 module _ {X : Type 0} (P : X → Type 0) (first : X → X → Bool) where
   -- of one more that is placed among others
@@ -101,7 +92,7 @@ morsels_visible q c right =
     (λ s e. listed_visible s.id c.stations right.listed.right e) right.series.listed in
     each-sorted (λ s. is_id s.id.0 ≡ true) (λ a b. id_comes_first a.id b.id)
     (filter (λ s. not (length (admitted q s) == 0)) (admitted_series q c))
-    (each-filter (λ s. is_id s.id.0 ≡ true) (λ s. not (length (admitted q s) == 0)) (admitted_series q c)
+    (all-filter (λ s. is_id s.id.0 ≡ true) (λ s. not (length (admitted q s) == 0)) (admitted_series q c)
     (series_hold (λ s. is_id s.id.0 ≡ true) q c all))
 
 -- ---- scores are inside 64 bits

@@ -1,9 +1,8 @@
 -- A right report is a text of the form that says what is right.
 use Rattle.std.proofs.Common.{◌≡◌, ℕ, suc, ◌≤◌, true, List, [], ◌∷◌, length, map, Option, Some, None, refl, sym, ap, ◌∙◌, subst, arith}
-use Rattle.std.specs.Prelude.{nat_le}
 use Rattle.std.specs.List.{filter_map, cons_option, find, flat_map, list_all, range_with_len, AllByRecursion}
 use Rattle.std.specs.Option.{option_map, is_some}
-use Rattle.std.proofs.lemmas.Bool.Decides.{nat_tests}
+use Rattle.std.proofs.lemmas.Bool.{le-leb}
 use Rattle.std.proofs.lemmas.List.{length-map}
 use Rattle.std.proofs.lemmas.List.FromFn.{length-range_with_len}
 use Rattle.std.proofs.lemmas.Simd.{map-map}
@@ -13,6 +12,7 @@ use Rattle.ghcn_files.specs.declared.station.StationId.{StationId}
 use Rattle.ghcn_files.specs.Ids.{is_id}
 use Rattle.ghcn_files.specs.Listed.{is_station_of}
 use Rattle.ghcn_files.specs.StationLines.{is_station}
+use Rattle.ghcn_files.proofs.Ordered.{each-mapped}
 use Rattle.ghcn_series.specs.Series.{Usable, Contents, IsSeries}
 use Rattle.ghcn_series.specs.Held.{IsContents}
 use Rattle.rank_query.specs.Asked.{Asked, IsAsked}
@@ -23,6 +23,7 @@ use Rattle.rank_scores.specs.Morsels.{admitted_series, all_candidates, best_of_q
 use Rattle.rank_scores.specs.QueryCandidates.{AreOfListed}
 use Rattle.rank_scores.proofs.QueryCandidates.{best-holds}
 use Rattle.rank_sched.proofs.Lists.{each-append}
+use Rattle.rank_sched.proofs.PlanMade.{kept-length}
 use Rattle.rank_papers.specs.Report.{Named, named, trimmed, with_stations, report_text, IsReport}
 use Rattle.rank_papers.specs.ReportLines.{Reported, IsReported, IsReportOf, IsRow, name_of, SaysRightReport}
 use Rattle.rank_papers.specs.Laws.{RightReportsSayRight}
@@ -33,17 +34,9 @@ use Rattle.rank_papers.proofs.RightCertificates.{series_hold, score_fits, candid
 
 -- ---- the best are few, of days and with scores
 
--- there are no more of what is found than were looked for
-filter_map-few : {X Y : Type 0} (h : X → Option Y) (xs : List X) → length (filter_map h xs) ≤ length xs
-filter_map-few h [] = omega arith
-filter_map-few h (x ∷ xs) = elim (h x) as (λ o. length (cons_option o (filter_map h xs)) ≤ suc (length xs)) [
-  | None ↦ omega (arith, filter_map-few h xs)
-  | Some y ↦ omega (arith, filter_map-few h xs)
-]
-
 -- the best k of some are at most k
 best_few : (k : ℕ) (all : List Candidate) → length (best k all) ≤ k
-best_few k all = omega (arith, filter_map-few (of_rank all) (range_with_len 0 k), length-range_with_len 0 k)
+best_few k all = omega (arith, kept-length (of_rank all) (range_with_len 0 k), length-range_with_len 0 k)
 
 -- the candidates of series are of days
 series_of_days : (q : Asked) (ss : List Usable) → IsAsked q → AllByRecursion IsOfDays (flat_map (candidates q) ss)
@@ -51,16 +44,6 @@ series_of_days q [] asked = tt
 series_of_days q (s ∷ ss) asked =
     each-append IsOfDays (candidates q s) (flat_map (candidates q) ss) (candidates_of_days q s asked)
     (series_of_days q ss asked)
-
--- what holds of what was made of each holds of each
-each-of_map : {X Y : Type 0} (P : Y → Type 0) (f : X → Y) (xs : List X) → AllByRecursion P (map f xs)
-    → AllByRecursion (λ x. P (f x)) xs
-each-of_map P f [] h = tt
-each-of_map P f (x ∷ xs) h = (h.0, each-of_map P f xs h.1)
-
--- a number that is at most another passes the test
-at_most : (n m : ℕ) → n ≤ m → nat_le n m ≡ true
-at_most n m h = grind (arith, nat_tests)
 
 -- ---- the rows of a right report
 
@@ -136,7 +119,7 @@ module _ (q : Asked) (c : Contents) (bytes : List ℕ) (asked : IsAsked q) (righ
   rows_hold : (P : Candidate → Type 0) (rows : List (Candidate × Station)) → map (λ row. row.0) rows ≡ best_of_query q c
       → AllByRecursion P (all_candidates q c) → AllByRecursion (λ row. P row.0) rows
   rows_hold P rows is all =
-      each-of_map P (λ row. row.0) rows
+      each-mapped (λ row. row.0) P rows
       (subst (AllByRecursion P) (sym is) (best-holds P q.k (all_candidates q c) all))
 
   -- what a right report says can be
@@ -147,7 +130,7 @@ module _ (q : Asked) (c : Contents) (bytes : List ℕ) (asked : IsAsked q) (righ
       length-map rows named ∙ sym (length-map rows (λ (row : Candidate × Station). row.0)) ∙ ap length is in
       record {
         asked = asked;
-        few = at_most (length (map named rows)) q.k (omega (arith, count, best_few q.k (all_candidates q c)));
+        few = le-leb (length (map named rows)) q.k (omega (arith, count, best_few q.k (all_candidates q c)));
         rows = rows_can_be c.stations rows right.listed.right listed
             (rows_hold IsOfDays rows is (series_of_days q (admitted_series q c) asked))
             (rows_hold (λ d. IsScore d.score) rows is

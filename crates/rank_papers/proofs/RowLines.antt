@@ -9,7 +9,7 @@ use Rattle.ghcn_fields.specs.Dates.{date_text, read_date}
 use Rattle.ghcn_fields.proofs.DateTexts.{read_date-law}
 use Rattle.ghcn_files.specs.Ids.{is_visible}
 use Rattle.rank_query.specs.Asked.{Asked}
-use Rattle.rank_papers.specs.Values.{measure_of, unit_text, value_text, value_of}
+use Rattle.rank_papers.specs.Values.{measure_of_score, unit_text, value_text, value_of}
 use Rattle.rank_papers.specs.Report.{field_unless_empty, Named, text_line}
 use Rattle.rank_papers.specs.ReportLines.{IsRow, is_name, row_line, score_in, row_with, first_word, row_in_columns, row_in, row_behind}
 use Rattle.rank_papers.proofs.LineValues.{exactly-from}
@@ -189,23 +189,23 @@ name_column rank id first last value unit (b ∷ name) eleven ten ten_too =
 module _ (q : Asked) (row : Named) (is : IsRow row) where
   -- the value that is printed for the row
   abbrev value_of_row : List ℕ
-  value_of_row = value_text (measure_of q.score) (value_of q.score row.0.score)
+  value_of_row = value_text (measure_of_score q.score) (value_of q.score row.0.score)
 
   -- it is visible
   pub row_value_visible : list_all is_visible value_of_row ≡ true
   row_value_visible =
-      value_visible (measure_of q.score) (value_of q.score row.0.score) (value_fits q.score row.0.score is.score)
+      value_visible (measure_of_score q.score) (value_of q.score row.0.score) (value_fits q.score row.0.score is.score)
 
   -- the row in the columns of its line
   columns_read : (rank : List ℕ) → row_in_columns q (length rank)
       (line_of rank row.0.id.0 (date_text row.0.first) (date_text row.0.last) value_of_row
-      (unit_text (measure_of q.score)) row.1) ≡ Some row
+      (unit_text (measure_of_score q.score)) row.1) ≡ Some row
   columns_read rank =
       let id : List ℕ = row.0.id.0 in
       let first : List ℕ = date_text row.0.first in
       let last : List ℕ = date_text row.0.last in
-      let value : List ℕ = value_text (measure_of q.score) (value_of q.score row.0.score) in
-      let unit : List ℕ = unit_text (measure_of q.score) in
+      let value : List ℕ = value_text (measure_of_score q.score) (value_of q.score row.0.score) in
+      let unit : List ℕ = unit_text (measure_of_score q.score) in
       let d : ℕ = length rank in
       let l : List ℕ = line_of rank id first last value unit row.1 in
       let eleven : length id ≡ 11 = id_long id is.id in

@@ -5,7 +5,7 @@ use Rattle.std.proofs.lemmas.Grind.{flat_map-append}
 use Rattle.std.specs.Prelude.{ℤ}
 use Rattle.rank_query.specs.declared.score.Score.{Score}
 use Rattle.rank_query.specs.Asked.{Asked}
-use Rattle.rank_papers.specs.Values.{measure_of, value_of, value_text, unit_text}
+use Rattle.rank_papers.specs.Values.{measure_of_score, value_of, value_text, unit_text}
 use Rattle.rank_papers.specs.Report.{Named, text_line, row_fields, after_blank}
 
 -- the lines of some rows with their ranks
@@ -15,7 +15,7 @@ rows_text q rows = flat_map (λ row. text_line (row_fields q row)) rows
 -- the fields of a score: the value behind it as it is printed, and its unit
 abbrev pub value_fields : Score → ℤ → List (List ℕ)
 value_fields score number =
-    value_text (measure_of score) (value_of score number) ∷ unit_text (measure_of score) ∷ []
+    value_text (measure_of_score score) (value_of score number) ∷ unit_text (measure_of_score score) ∷ []
 
 -- fields with one blank between them are the first, and then a blank and a field each
 join-fields : (field : List ℕ) (more : List (List ℕ)) →

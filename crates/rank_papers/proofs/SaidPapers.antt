@@ -6,7 +6,7 @@ use Rattle.ghcn_files.specs.declared.element.Element.{Element}
 use Rattle.ghcn_files.specs.declared.station.Station.{Station}
 use Rattle.ghcn_files.specs.declared.station.StationId.{StationId}
 use Rattle.ghcn_files.specs.Ids.{same_id}
-use Rattle.ghcn_files.specs.IdLaws.{same_id-is, same_id-laws}
+use Rattle.ghcn_files.proofs.IdLaws.{same_id-is, same_id-laws}
 use Rattle.ghcn_files.specs.Listed.{is_station_of}
 use Rattle.ghcn_files.specs.Elements.{same_element}
 use Rattle.ghcn_series.specs.DailyFaults.{is_listed}
@@ -85,7 +85,8 @@ pub reports_said : ReportsAreSaid
 reports_said q stations files c bytes is =
     subst (λ (ss : List Station). IsRightReport q ss (IsHeldSeries q c) bytes
     ↔ IsRightReport q stations (IsAdmittedSeries q stations files) bytes) (sym (same_list q stations files c is)) (
-      report-moved q (IsHeldSeries q c) (IsAdmittedSeries q stations files) (series-said q stations files c is) stations bytes,
+      report-moved q (IsHeldSeries q c) (IsAdmittedSeries q stations files)
+          (series-said q stations files c is) stations bytes,
       report-moved q (IsAdmittedSeries q stations files) (IsHeldSeries q c)
           (λ s. turned (series-said q stations files c is s)) stations bytes,
     )
@@ -93,7 +94,8 @@ reports_said q stations files c bytes is =
 -- and a right certificate
 pub certificates_said : CertificatesAreSaid
 certificates_said version q stations files c bytes is = (
-  certificate-moved q (IsHeldSeries q c) (IsAdmittedSeries q stations files) (series-said q stations files c is) version bytes,
+  certificate-moved q (IsHeldSeries q c) (IsAdmittedSeries q stations files)
+      (series-said q stations files c is) version bytes,
   certificate-moved q (IsAdmittedSeries q stations files) (IsHeldSeries q c)
       (λ s. turned (series-said q stations files c is s)) version bytes,
 )

@@ -24,7 +24,7 @@ use Rattle.rank_query.specs.Spelling.{IsNumeralOf}
 use Rattle.rank_query.proofs.PrintedWords.{decimal_numeral}
 use Rattle.rank_papers.specs.declared.measure.Measure.{Measure}
 use Rattle.rank_papers.specs.declared.measure.Measure.TheVariants.{Degrees, Millimetres, WholeMillimetres, Days}
-use Rattle.rank_papers.specs.Values.{measure_of, value_text, value_of}
+use Rattle.rank_papers.specs.Values.{measure_of_score, value_text, value_of}
 use Rattle.rank_papers.specs.Lines.{in_i64}
 use Rattle.rank_papers.specs.ReportLines.{score_in}
 use Rattle.rank_papers.proofs.NumberTexts.{unsigned}
@@ -168,10 +168,10 @@ value_fits (Hot t) z h = magnitude_fits z h
 
 -- a score is read of the value that is printed for it
 pub score_in-text : (q : Asked) (z : ℤ) → FitsSigned w64 z
-    → score_in q (value_text (measure_of q.score) (value_of q.score z)) ≡ Some z
+    → score_in q (value_text (measure_of_score q.score) (value_of q.score z)) ≡ Some z
 score_in-text q z h =
     ap (λ (o : Option ℤ). in_i64 (option_map (value_of q.score) o))
-    (value_read (measure_of q.score) (value_of q.score z) (value_fits q.score z h))
+    (value_read (measure_of_score q.score) (value_of q.score z) (value_fits q.score z h))
     ∙ ap (λ (y : ℤ). in_i64 (Some y)) (value_of-twice q.score z)
     ∙ ap (λ (b : Bool). cond b (Some z) None) (is_i64-fits z h)
 

@@ -1,10 +1,13 @@
 -- Lines that are written are cut and read again.
 use Rattle.std.proofs.Common.{◌≡◌, ℕ, zero, suc, ◌+◌, ◌-◌, ◌/◌, ◌%◌, ◌<◌, Bool, true, false, cond, List, [], ◌∷◌, ◌++◌, length, take, drop, refl, ap, ◌∙◌, arith, append_assoc, length-append, decimal}
-use Rattle.std.specs.Prelude.{◌==◌, ◌&&◌, ℤ, pos, negsuc, slice_range}
+use Rattle.std.specs.Prelude.{◌==◌, ◌&&◌, ℤ, pos, negsuc, slice_range, IsUtf8}
 use Rattle.std.specs.Fmt.{digits, digits_onto, digit_glyph}
 use Rattle.std.specs.List.{list_all, join_with_byte}
 use Rattle.std.proofs.lemmas.Bool.{and_parts}
 use Rattle.std.proofs.lemmas.Bool.Decides.{nat_tests}
+use Rattle.std.proofs.lemmas.List.Sums.{AllPass-from_list_all}
+use Rattle.std.proofs.lemmas.Str.{IsUtf8-from_ascii}
+use Rattle.std.proofs.lemmas.Str.Ascii.{IsAscii-from_all}
 use Rattle.std.specs.Fmt.{signed_decimal}
 use Rattle.ghcn_files.specs.Ids.{is_visible}
 use Rattle.ghcn_files.specs.StationLines.{is_printable}
@@ -88,6 +91,15 @@ decimal_printable n = digits_printable 64 n [] refl
 pub whole_printable : (z : ℤ) → list_all is_printable (signed_decimal z) ≡ true
 whole_printable (pos n) = decimal_printable n
 whole_printable (negsuc n) = decimal_printable (suc n)
+
+-- a byte that can be printed is one of ASCII
+printable_ascii : (b : ℕ) → is_printable b ≡ true → b < 128
+printable_ascii b h = grind (arith, nat_tests)
+
+-- bytes that can be printed are a text
+pub printable_text : (bytes : List ℕ) → list_all is_printable bytes ≡ true → IsUtf8 bytes
+printable_text bytes h = IsUtf8-from_ascii bytes (IsAscii-from_all bytes (λ k d inside. printable_ascii _
+    (AllPass-from_list_all is_printable bytes h k d inside)))
 
 -- ---- columns of a line
 

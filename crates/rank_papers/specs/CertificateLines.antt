@@ -1,5 +1,5 @@
 -- Reading a certificate line by line: what its text says, or the number of its first bad line.
-use Rattle.std.specs.Prelude.{◌≡◌, ⊤, ℕ, suc, ◌+◌, ◌-◌, ◌==◌, Bool, if◌then◌else◌, List, [], ◌∷◌, length, take, drop, map, codes, slice_range, Option, None, Some, Result, Ok, Err, ℤ}
+use Rattle.std.specs.Prelude.{◌≡◌, ⊤, ℕ, ◌+◌, ◌-◌, ◌==◌, Bool, if◌then◌else◌, List, [], ◌∷◌, length, take, drop, map, codes, slice_range, Option, None, Some, Result, Ok, Err, ℤ}
 use Rattle.std.specs.Option.{option_map, option_map_or}
 use Rattle.ghcn_fields.specs.Bytes.{same_bytes}
 use Rattle.ghcn_fields.specs.Numbers.{natural, up_to}
@@ -11,7 +11,7 @@ use Rattle.rank_papers.specs.declared.paper.Certificate.{Certificate}
 use Rattle.rank_papers.specs.declared.counted.Counted.{Counted}
 use Rattle.rank_papers.specs.ReportLines.{first_word}
 use Rattle.rank_papers.specs.Certificate.{Entry, Certified, title_line, kth_line, has_count, entry_line, end_line}
-use Rattle.rank_papers.specs.Lines.{paper_lines, exactly, number_in, query_in}
+use Rattle.rank_papers.specs.Lines.{paper_lines, ends_by, up_to_end, exactly, number_in, query_in}
 
 -- a k-th score or none, by its word
 abbrev pub kth_word : List ℕ → Option (Option ℤ)
@@ -44,13 +44,13 @@ abbrev pub behind_word : List ℕ → List ℕ
 behind_word field = drop (length (first_word field) + 1) field
 
 -- the count that a field writes, at most a thousand; 0 where a line has none
-abbrev pub count_in : Bool → List ℕ → Option ℕ
-count_in has field = if has then up_to 1000 (natural field) else Some 0
+abbrev pub count_field : Bool → List ℕ → Option ℕ
+count_field has field = if has then up_to 1000 (natural field) else Some 0
 
 -- an entry with the count that a field writes, where its line has one
 abbrev pub with_count : ℕ → List ℕ → Entry → Option Counted
 with_count version field e =
-    option_map (λ n. record { entry = e; count = n }) (count_in (has_count version e) field)
+    option_map (λ n. record { entry = e; count = n }) (count_field (has_count version e) field)
 
 -- the entry and the count in the columns of a line
 abbrev pub counted_in_columns : ℕ → List ℕ → Option Counted
@@ -61,30 +61,13 @@ counted_in_columns version line =
 abbrev pub entry_in : ℕ → List ℕ → Option Counted
 entry_in version line = exactly (entry_line version) line (counted_in_columns version line)
 
--- one entry more at the front, where the rest could be read
-abbrev pub and_then_entries : Counted → Result (List Counted) ℕ → Result (List Counted) ℕ
-and_then_entries e (Ok es) = Ok (e ∷ es)
-and_then_entries e (Err n) = Err n
-
--- nothing stands behind the end line of so many entries
-abbrev pub nothing_behind : ℕ → List (List ℕ) → Result (List Counted) ℕ
-nothing_behind n [] = Ok []
-nothing_behind n (l ∷ ls) = Err (n + 5)
-
 -- the end line of so many entries, and what stands behind it
 abbrev pub ending : ℕ → List ℕ → List ℕ → Result (List Counted) ℕ
-ending n line behind = if same_bytes line (end_line n) then nothing_behind n (paper_lines behind) else Err (n + 4)
-
--- an entry and what follows it, or the end line, behind so many entries; else the line is bad
-abbrev pub entry_or_end : ℕ → Option Counted → Bool → List (List ℕ) → Result (List Counted) ℕ → Result (List Counted) ℕ
-entry_or_end n (Some e) is_end behind rest = and_then_entries e rest
-entry_or_end n None is_end behind rest = if is_end then nothing_behind n behind else Err (n + 4)
+ending n line behind = ends_by (n + 4) (same_bytes line (end_line n)) (paper_lines behind)
 
 -- the entries of these lines, which stand behind so many other entries, up to an end line with the number of all
 abbrev pub entries_in : ℕ → ℕ → List (List ℕ) → Result (List Counted) ℕ
-entries_in version n [] = Err (n + 4)
-entries_in version n (l ∷ ls) =
-    entry_or_end n (entry_in version l) (same_bytes l (end_line n)) ls (entries_in version (suc n) ls)
+entries_in version n ls = up_to_end 4 (λ m. entry_in version) end_line n ls
 
 -- the entries alone
 abbrev pub entries_of : List Counted → List Entry

@@ -1,5 +1,5 @@
 -- The lines of a paper with their line feeds, and the values that are read of a line.
-use Rattle.std.specs.Prelude.{◌≡◌, ◌<◌, ℕ, ◌-◌, ◌==◌, Bool, ◌&&◌, if◌then◌else◌, List, [], ◌∷◌, length, slice_range, Option, None, Some, Result, Ok, Err, ℤ, pos, neg_ℤ, int_le, ◌^◌}
+use Rattle.std.specs.Prelude.{◌≡◌, ◌<◌, ℕ, suc, ◌+◌, ◌-◌, ◌==◌, Bool, ◌&&◌, if◌then◌else◌, List, [], ◌∷◌, length, slice_range, Option, None, Some, Result, Ok, Err, ℤ, pos, neg_ℤ, int_le, ◌^◌}
 use Rattle.std.specs.List.{list_all}
 use Rattle.ghcn_fields.specs.Bytes.{same_bytes}
 use Rattle.ghcn_fields.specs.Numbers.{natural, signed_by}
@@ -26,9 +26,38 @@ paper_lines [] = []
 paper_lines (b ∷ bytes) = before_lines b (paper_lines bytes)
 
 -- the first line of a text and what follows it, where there is a line
-abbrev pub IsCut : List ℕ → Option (List ℕ × List ℕ) → Type 0
-IsCut text None = text ≡ []
-IsCut text (Some cut) = (paper_lines text ≡ cut.0 ∷ paper_lines cut.1) × (length cut.1 < length text)
+abbrev pub IsFirstLineCut : List ℕ → Option (List ℕ × List ℕ) → Type 0
+IsFirstLineCut text None = text ≡ []
+IsFirstLineCut text (Some cut) = (paper_lines text ≡ cut.0 ∷ paper_lines cut.1) × (length cut.1 < length text)
+
+-- ---- lines of one kind, and an end line with their number
+
+-- one value more at the front, where the rest could be read
+abbrev pub and_then : {A : Type 0} → A → Result (List A) ℕ → Result (List A) ℕ
+and_then x (Ok xs) = Ok (x ∷ xs)
+and_then x (Err n) = Err n
+
+-- nothing stands behind the line of this number
+abbrev pub nothing_behind : {A : Type 0} → ℕ → List (List ℕ) → Result (List A) ℕ
+nothing_behind n [] = Ok []
+nothing_behind n (l ∷ ls) = Err (n + 1)
+
+-- the line of this number is the end line, and nothing stands behind it; else it is bad
+abbrev pub ends_by : {A : Type 0} → ℕ → Bool → List (List ℕ) → Result (List A) ℕ
+ends_by n is_end behind = if is_end then nothing_behind n behind else Err n
+
+-- the line of this number says a value, and others follow it, or it is the end line
+abbrev pub value_or_end : {A : Type 0} → ℕ → Option A → Bool → List (List ℕ) → Result (List A) ℕ → Result (List A) ℕ
+value_or_end n (Some x) is_end behind rest = and_then x rest
+value_or_end n None is_end behind rest = ends_by n is_end behind
+
+-- the values of these lines, which stand behind so many others of their kind, up to an end line with the number of all;
+-- the first of the kind is the line of this number, and each is read by how many stand before it
+abbrev pub up_to_end : {A : Type 0} → ℕ → (ℕ → List ℕ → Option A) → (ℕ → List ℕ) → ℕ → List (List ℕ)
+    → Result (List A) ℕ
+up_to_end first value_in end n [] = Err (n + first)
+up_to_end first value_in end n (l ∷ ls) =
+    value_or_end (n + first) (value_in n l) (same_bytes l (end n)) ls (up_to_end first value_in end (suc n) ls)
 
 -- ---- values that are read
 

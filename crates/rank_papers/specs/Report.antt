@@ -11,7 +11,7 @@ use Rattle.rank_query.specs.Asked.{Asked}
 use Rattle.rank_query.specs.QueryTexts.{query_text}
 use Rattle.rank_scores.specs.declared.candidate.Candidate.{Candidate}
 use Rattle.rank_scores.specs.Morsels.{best_of_query}
-use Rattle.rank_papers.specs.Values.{measure_of, value_of, value_text, unit_text}
+use Rattle.rank_papers.specs.Values.{measure_of_score, value_of, value_text, unit_text}
 
 -- ---- lines
 
@@ -40,7 +40,7 @@ Named = Candidate × List ℕ
 abbrev pub row_fields : Asked → ℕ × (Candidate × List ℕ) → List (List ℕ)
 row_fields q row =
     let candidate = row.1.0 in
-    let measure = measure_of q.score in
+    let measure = measure_of_score q.score in
     decimal row.0 ∷ candidate.id.0 ∷ date_text candidate.first ∷ date_text candidate.last
     ∷ value_text measure (value_of q.score candidate.score) ∷ unit_text measure ∷ field_unless_empty row.1.1
 

@@ -20,9 +20,9 @@ use Rattle.rank_papers.specs.declared.fault.PaperFault.{PaperFault}
 use Rattle.rank_papers.specs.declared.fault.PaperFault.TheVariants.{BadReport, BadCertificate, Memory}
 use Rattle.rank_papers.specs.declared.paper.Report.{Report}
 use Rattle.rank_papers.specs.declared.paper.Row.{Row}
-use Rattle.rank_papers.specs.Values.{measure_of, unit_text, value_of}
+use Rattle.rank_papers.specs.Values.{measure_of_score, unit_text, value_of}
 use Rattle.rank_papers.specs.Report.{Named, trimmed, text_line, row_fields, end_fields, report_text}
-use Rattle.rank_papers.specs.Lines.{paper_lines, exactly, in_i64, query_in}
+use Rattle.rank_papers.specs.Lines.{paper_lines, ends_by, up_to_end, exactly, in_i64, query_in}
 
 -- ---- what a report can say
 
@@ -97,7 +97,7 @@ row_in_columns q digits line =
     let value = first_word (slice_range line (digits + 35) before_end) in
     row_with
     (slice_range line (digits + 1) (digits + 12))
-    (slice_range line (digits + length value + length (unit_text (measure_of q.score)) + 37) before_end)
+    (slice_range line (digits + length value + length (unit_text (measure_of_score q.score)) + 37) before_end)
     (read_date (slice_range line (digits + 13) (digits + 23)))
     (read_date (slice_range line (digits + 24) (digits + 34)))
     (score_in q value)
@@ -116,30 +116,13 @@ report_end q rows = text_line (end_fields q.k rows)
 abbrev pub row_behind : Asked → ℕ → List ℕ → Option Named
 row_behind q n line = if nat_lt n q.k then row_in q (suc n) line else None
 
--- one row more at the front, where the rest could be read
-abbrev pub and_then_rows : Named → Result (List Named) ℕ → Result (List Named) ℕ
-and_then_rows row (Ok rows) = Ok (row ∷ rows)
-and_then_rows row (Err n) = Err n
-
--- nothing stands behind the end line of so many rows
-abbrev pub no_more_lines : ℕ → List (List ℕ) → Result (List Named) ℕ
-no_more_lines n [] = Ok []
-no_more_lines n (l ∷ ls) = Err (n + 4)
-
 -- the end line of so many rows, and what stands behind it
 abbrev pub ending_of_rows : Asked → ℕ → List ℕ → List ℕ → Result (List Named) ℕ
-ending_of_rows q n line behind =
-    if same_bytes line (report_end q n) then no_more_lines n (paper_lines behind) else Err (n + 3)
-
--- a row and what follows it, or the end line, behind so many rows; else the line is bad
-abbrev pub row_or_end : ℕ → Option Named → Bool → List (List ℕ) → Result (List Named) ℕ → Result (List Named) ℕ
-row_or_end n (Some row) is_end behind rest = and_then_rows row rest
-row_or_end n None is_end behind rest = if is_end then no_more_lines n behind else Err (n + 3)
+ending_of_rows q n line behind = ends_by (n + 3) (same_bytes line (report_end q n)) (paper_lines behind)
 
 -- the rows of these lines, which stand behind so many other rows, up to an end line with the number of all
 abbrev pub rows_in : Asked → ℕ → List (List ℕ) → Result (List Named) ℕ
-rows_in q n [] = Err (n + 3)
-rows_in q n (l ∷ ls) = row_or_end n (row_behind q n l) (same_bytes l (report_end q n)) ls (rows_in q (suc n) ls)
+rows_in q n ls = up_to_end 3 (row_behind q) (report_end q) n ls
 
 -- a report with these rows
 abbrev pub with_rows : Asked → Result (List Named) ℕ → Result Reported ℕ

@@ -18,13 +18,13 @@ element_measure Tmax = Degrees
 element_measure Tmin = Degrees
 
 -- how what is ranked is printed
-abbrev pub measure_of : Score → Measure
-measure_of (Highest e) = element_measure e
-measure_of (Lowest e) = element_measure e
-measure_of (Sum n e) = element_measure e
-measure_of Dry = Days
-measure_of Wet = Days
-measure_of (Hot t) = Days
+abbrev pub measure_of_score : Score → Measure
+measure_of_score (Highest e) = element_measure e
+measure_of_score (Lowest e) = element_measure e
+measure_of_score (Sum n e) = element_measure e
+measure_of_score Dry = Days
+measure_of_score Wet = Days
+measure_of_score (Hot t) = Days
 
 -- so many raw units, in the unit that is printed: tenths have one decimal
 abbrev pub value_text : Measure → ℤ → List ℕ

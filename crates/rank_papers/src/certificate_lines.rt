@@ -6,7 +6,7 @@ ghost use Rattle.rank_papers.specs.Certificate.{IsCertificateOf};
 ghost use Rattle.rank_papers.specs.Lines as lines;
 ghost use Rattle.rank_papers.specs.CertificateLines as certificate;
 
-use crate::certificate_text::{push_end, push_kth, push_line};
+use crate::certificate_text::{push_end, push_kth, push_line, title};
 use crate::counted::{Counted, has_count};
 use crate::lines::{field_from, first_line, magnitude, number};
 use crate::query_line::query_of;
@@ -28,10 +28,10 @@ pub fn read_certificate(alloc: Global, bytes: &[u8]) -> Result<Certificate, Pape
     ensures err { IfErr result
         (certificate.IsBadCertificate (certificate.read_certificate bytes.now)) }
 {
-    let Some((title, rest)) = first_line(bytes) else {
+    let Some((line, rest)) = first_line(bytes) else {
         return Err(PaperFault::BadCertificate { line: 1 });
     };
-    match version_of(title) {
+    match version_of(line) {
         None => Err(PaperFault::BadCertificate { line: 1 }),
         Some(version) => read_query(alloc, &mut Vec::new(alloc), version, rest),
     }
@@ -41,9 +41,9 @@ pub fn read_certificate(alloc: Global, bytes: &[u8]) -> Result<Certificate, Pape
 fn version_of(line: &[u8]) -> Option<u64>
     ensures { result ≡ certificate.version_in line.now }
 {
-    if line == b"extremes certificate 1\n".as_slice() {
+    if line == title(1) {
         Some(1)
-    } else if line == b"extremes certificate 2\n".as_slice() {
+    } else if line == title(2) {
         Some(2)
     } else {
         None
@@ -276,7 +276,7 @@ fn with_count(version: u64, field: &[u8], entry: Line) -> Option<Counted>
 
 /// The count that a field writes; 0 where there is none.
 fn count_in(has: bool, field: &[u8]) -> Option<u64>
-    ensures { result ≡ certificate.count_in has field.now }
+    ensures { result ≡ certificate.count_field has field.now }
 {
     if has { count(field) } else { Some(0) }
 }

@@ -56,13 +56,24 @@ pub fn certificate_of_best(
         paper.items ≡ certificate.certificate_of_best query.now best.now lines.now) }
     ensures fits { OnOk result (certificate.AreInRange lines.now) }
 {
-    let mut paper = Vec::from_slice(alloc, b"extremes certificate 2\n")?;
+    let mut paper = Vec::from_slice(alloc, title(VERSION))?;
     push_query(alloc, &mut paper, query)?;
     push_kth(&mut paper, kth_score(query.k(), best))?;
     let counts = row_counts(alloc, best, lines)?;
     push_lines(&mut paper, lines, counts.as_slice())?;
     push_end(&mut paper, lines.len() as u64)?;
     Ok(paper)
+}
+
+/// The first line of a version.
+pub(crate) fn title(version: u64) -> &'static [u8]
+    ensures { result.now ≡ certificate.title_line version }
+{
+    if version == 1 {
+        b"extremes certificate 1\n"
+    } else {
+        b"extremes certificate 2\n"
+    }
 }
 
 /// The score of the k-th of some candidates, if there are k.

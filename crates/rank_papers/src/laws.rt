@@ -47,5 +47,6 @@ pub fn papers_of_one_element()
     ensures right_report { right.RightReportStays }
     ensures right_certificate { right.RightCertificateStays }
 {
+    // The candidates and the morsels of a query stay.
     one_element_is_enough();
 }

@@ -16,8 +16,8 @@ use memchr::memchr;
 const GREATEST: u64 = 1 << 63;
 
 /// The first line of a text, with its line feed where it has one, and what follows it.
-pub fn first_line(text: &[u8]) -> Option<(&[u8], &[u8])>
-    ensures { lines.IsCut text.now (option_map (λ cut. (cut.0.now, cut.1.now)) result) }
+pub(crate) fn first_line(text: &[u8]) -> Option<(&[u8], &[u8])>
+    ensures { lines.IsFirstLineCut text.now (option_map (λ cut. (cut.0.now, cut.1.now)) result) }
 {
     if text.is_empty() {
         return None;
@@ -29,7 +29,7 @@ pub fn first_line(text: &[u8]) -> Option<(&[u8], &[u8])>
 }
 
 /// What stands in a line from a byte on, before its last byte.
-pub fn field_from(line: &[u8], from: usize) -> &[u8]
+pub(crate) fn field_from(line: &[u8], from: usize) -> &[u8]
     ensures { result.now ≡ slice_range line.now from (length line.now - 1) }
 {
     if from < line.len() {
@@ -40,7 +40,7 @@ pub fn field_from(line: &[u8], from: usize) -> &[u8]
 }
 
 /// What stands in a line from a byte on, up to another.
-pub fn columns(line: &[u8], from: usize, to: usize) -> &[u8]
+pub(crate) fn columns(line: &[u8], from: usize, to: usize) -> &[u8]
     ensures { result.now ≡ slice_range line.now from to }
 {
     let end = to.min(line.len());
@@ -48,14 +48,14 @@ pub fn columns(line: &[u8], from: usize, to: usize) -> &[u8]
 }
 
 /// Whether each byte can be printed.
-pub fn are_printable(bytes: &[u8]) -> bool
+pub(crate) fn are_printable(bytes: &[u8]) -> bool
     ensures { result ≡ list_all is_printable bytes.now }
 {
     bytes.iter().all(|byte| b' ' <= *byte && *byte <= b'~')
 }
 
 /// The number of 64 bits that a field writes, in its one spelling.
-pub fn number(field: &[u8]) -> Option<i64>
+pub(crate) fn number(field: &[u8]) -> Option<i64>
     ensures { result ≡ lines.number_in field.now }
 {
     let found = match field {
@@ -70,7 +70,7 @@ pub fn number(field: &[u8]) -> Option<i64>
 }
 
 /// The number of a sign and a magnitude, where it is inside 64 bits.
-pub fn signed(is_negative: bool, magnitude: u64) -> Option<i64>
+pub(crate) fn signed(is_negative: bool, magnitude: u64) -> Option<i64>
     requires { magnitude ≤ 2 ^ 63 }
     ensures { result ≡ lines.in_i64 (Some (numbers.with_sign is_negative magnitude)) }
 {
@@ -107,7 +107,7 @@ fn is_text_of(number: i64, field: &[u8]) -> bool
 }
 
 /// The number that digits write, where it is at most `GREATEST`.
-pub fn magnitude(digits: &[u8]) -> Option<u64>
+pub(crate) fn magnitude(digits: &[u8]) -> Option<u64>
     ensures { result ≡ numbers.up_to (2 ^ 63) (numbers.natural digits.now) }
 {
     if digits.is_empty() {

@@ -8,7 +8,7 @@ use rank_query::Score;
 
 /// The unit in which values are printed, and how many decimals they have.
 #[derive(Clone, Copy, Debug, PartialEq, Eq)]
-pub enum Measure {
+pub(crate) enum Measure {
     /// From tenths, with one decimal.
     Degrees,
     /// From tenths, with one decimal.
@@ -18,16 +18,13 @@ pub enum Measure {
 }
 
 /// How what is ranked is printed.
-pub fn measure_of(score: Score) -> Measure
-    ensures { result ≡ values.measure_of score }
+pub(crate) fn measure_of(score: Score) -> Measure
+    ensures { result ≡ values.measure_of_score score }
 {
     match score {
-        Score::Highest(element) => element_measure(element),
-        Score::Lowest(element) => element_measure(element),
-        Score::Sum(_, element) => element_measure(element),
-        Score::Dry => Measure::Days,
-        Score::Wet => Measure::Days,
-        Score::Hot(_) => Measure::Days,
+        Score::Highest(element) | Score::Lowest(element) | Score::Sum(_, element) =>
+            element_measure(element),
+        Score::Dry | Score::Wet | Score::Hot(_) => Measure::Days,
     }
 }
 
@@ -45,7 +42,7 @@ fn element_measure(element: Element) -> Measure
 
 impl Measure {
     /// The unit as it is printed.
-    pub fn unit(self) -> &'static [u8]
+    pub(crate) fn unit(self) -> &'static [u8]
         ensures { result.now ≡ values.unit_text self }
     {
         match self {

@@ -12,9 +12,9 @@ use rank_query::Score;
 
 /// Adds the value behind a score as it is printed, without its unit.
 #[tactic(auto, using(crate::proofs::ValueTexts::value_signed))]
-pub fn push_value(paper: &mut Vec<u8>, score: Score, number: i64) -> Result<(), Memory>
+pub(crate) fn push_value(paper: &mut Vec<u8>, score: Score, number: i64) -> Result<(), Memory>
     ensures { OnOk result (paper.new.items ≡ paper.old.items
-        ++ values.value_text (values.measure_of score) (values.value_of score number)) }
+        ++ values.value_text (values.measure_of_score score) (values.value_of score number)) }
 {
     if is_negative(score, number) {
         paper.push(b'-')?;
@@ -53,7 +53,7 @@ fn push_tenths(paper: &mut Vec<u8>, tenths: u64) -> Result<(), Memory>
 }
 
 /// Adds a whole number, with a minus below zero.
-pub fn push_whole(paper: &mut Vec<u8>, number: i64) -> Result<(), Memory>
+pub(crate) fn push_whole(paper: &mut Vec<u8>, number: i64) -> Result<(), Memory>
     ensures { OnOk result (paper.new.items ≡ paper.old.items ++ signed_decimal number) }
 {
     if number < 0 {
@@ -63,7 +63,7 @@ pub fn push_whole(paper: &mut Vec<u8>, number: i64) -> Result<(), Memory>
 }
 
 /// Adds a number in decimal digits.
-pub fn push_number(paper: &mut Vec<u8>, number: u64) -> Result<(), Memory>
+pub(crate) fn push_number(paper: &mut Vec<u8>, number: u64) -> Result<(), Memory>
     ensures { OnOk result (paper.new.items ≡ paper.old.items ++ decimal number) }
 {
     let mut buffer = Buffer::new();

@@ -14,7 +14,7 @@ use rank_query::{Query, Score};
 use rank_scores::Candidate;
 
 /// Adds the line of a candidate with its rank, from 1, and its station's name.
-pub fn push_row(
+pub(crate) fn push_row(
     paper: &mut Vec<u8>,
     query: &Query,
     rank: u64,
@@ -67,8 +67,8 @@ fn push_day(paper: &mut Vec<u8>, day: Day) -> Result<(), Memory>
 /// Adds a blank and the value behind a score, and a blank and its unit.
 fn push_value_and_unit(paper: &mut Vec<u8>, score: Score, number: i64) -> Result<(), Memory>
     ensures { OnOk result (paper.new.items ≡ paper.old.items
-        ++ flat_map report.after_blank (values.value_text (values.measure_of score) (values.value_of score number)
-        ∷ values.unit_text (values.measure_of score) ∷ [])) }
+        ++ flat_map report.after_blank (values.value_text (values.measure_of_score score) (values.value_of score number)
+        ∷ values.unit_text (values.measure_of_score score) ∷ [])) }
 {
     paper.push(b' ')?;
     push_value(paper, score, number)?;

@@ -17,7 +17,7 @@ use Rattle.rank_check.specs.declared.verdict.Paper.TheVariants.{Certificate}
 use Rattle.rank_check.specs.declared.verdict.Why.TheVariants.{OtherSeries}
 use Rattle.rank_parts.specs.declared.verdict.PartVerdict.{PartVerdict}
 use Rattle.rank_parts.specs.declared.verdict.PartVerdict.TheVariants.{Accepted, Refused}
-use Rattle.rank_parts.specs.Parts.{refusal_of, line_why, first_refused, have_lines, or_accepted}
+use Rattle.rank_parts.specs.Parts.{refusal_of, why_of_line, first_refused, have_lines, or_accepted}
 
 -- a fault of the head is a refusal
 head_refused : (f : HeadFault) (n m : ℕ) → refusal_of f ≡ Accepted n m → ⊥
@@ -55,7 +55,7 @@ no_reason reason (f ∷ es) k e = by (no_reason reason es (suc k)) (reason f) re
 -- a part that accepts sees nothing to refuse: in the head, at any line, behind the lines; and the numbers are these
 pub record SeesNothing (q : Asked) (d : Contents) (r : Reported) (z : Certified) (n m : ℕ) : Type 0 where
   pub head : head_fault q r z ≡ None
-  pub lines : AllByRecursion (λ e. line_why q d r.rows e ≡ None) z.entries
+  pub lines : AllByRecursion (λ e. why_of_line q d r.rows e ≡ None) z.entries
   pub all : have_lines q d z.entries ≡ true
   pub series : length (morsels q d) ≡ n
   pub long : length z.entries ≡ m
@@ -63,24 +63,25 @@ pub record SeesNothing (q : Asked) (d : Contents) (r : Reported) (z : Certified)
 -- so it is
 pub sees_nothing : (q : Asked) (d : Contents) (r : Reported) (z : Certified) (n m : ℕ)
     → or_accepted (length (morsels q d)) (length z.entries) (option_or (option_map refusal_of (head_fault q r z))
-    (option_or (first_refused (line_why q d r.rows) 4 z.entries)
+    (option_or (first_refused (why_of_line q d r.rows) 4 z.entries)
     (cond (have_lines q d z.entries) None (Some (Refused Certificate (length z.entries + 4) OtherSeries)))))
     ≡ Accepted n m → SeesNothing q d r z n m
 sees_nothing q d r z n m e =
-    by (head_fault q r z) (first_refused (line_why q d r.rows) 4 z.entries) (have_lines q d z.entries) refl refl refl e
+    by (head_fault q r z) (first_refused (why_of_line q d r.rows) 4 z.entries)
+    (have_lines q d z.entries) refl refl refl e
   where
     by : (h : Option HeadFault) (l : Option PartVerdict) (b : Bool) → head_fault q r z ≡ h
-        → first_refused (line_why q d r.rows) 4 z.entries ≡ l → have_lines q d z.entries ≡ b
+        → first_refused (why_of_line q d r.rows) 4 z.entries ≡ l → have_lines q d z.entries ≡ b
         → or_accepted (length (morsels q d)) (length z.entries) (option_or (option_map refusal_of h)
         (option_or l (cond b None (Some (Refused Certificate (length z.entries + 4) OtherSeries))))) ≡ Accepted n m
         → SeesNothing q d r z n m
     by (Some f) l b s t u g = absurd (head_refused f n m g)
     by None (Some v) b s t u g =
-        absurd (lines_refused (line_why q d r.rows) z.entries 4 n m (t ∙ ap (λ (w : PartVerdict). Some w) g))
+        absurd (lines_refused (why_of_line q d r.rows) z.entries 4 n m (t ∙ ap (λ (w : PartVerdict). Some w) g))
     by None None false s t u g = absurd cc
     by None None true s t u g = record {
       head = s;
-      lines = no_reason (line_why q d r.rows) z.entries 4 t;
+      lines = no_reason (why_of_line q d r.rows) z.entries 4 t;
       all = u;
       series = cc;
       long = cc;

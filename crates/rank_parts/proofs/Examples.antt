@@ -1,5 +1,5 @@
 -- Worked verdicts of parts, by computation.
-use Rattle.std.proofs.Common.{◌≡◌, ℕ, List, [], ◌∷◌, ◌++◌, refl, None}
+use Rattle.std.proofs.Common.{◌≡◌, ℕ, List, [], ◌∷◌, ◌++◌, refl}
 use Rattle.std.specs.Prelude.{codes, pos}
 use Rattle.std.specs.Fmt.{digits}
 use Rattle.jiff_core.specs.Calendar.{days_from_civil, day_count, days_of_years, days_of_months}
@@ -8,8 +8,7 @@ use Rattle.ghcn_files.specs.declared.element.Element.TheVariants.{Tmax}
 use Rattle.ghcn_files.specs.StationLines.{station_of}
 use Rattle.ghcn_series.specs.Series.{DayValue, Usable, Contents}
 use Rattle.rank_query.specs.declared.score.Score.TheVariants.{Highest}
-use Rattle.rank_query.specs.declared.region.Region.TheVariants.{Everywhere}
-use Rattle.rank_query.specs.Asked.{Asked}
+use Rattle.rank_query.specs.Asked.{Asked, top}
 use Rattle.rank_query.specs.Words.{says}
 use Rattle.rank_query.specs.Readers.{keyword}
 use Rattle.rank_query.specs.WordValues.{number, element}
@@ -63,7 +62,7 @@ no_part = part []
 
 -- the k highest of all
 abbrev ask : ℕ → Asked
-ask k = record { k = k; score = Highest Tmax; region = Everywhere; season = None; period = None }
+ask k = top k (Highest Tmax)
 
 -- ---- the papers
 

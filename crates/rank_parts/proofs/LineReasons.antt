@@ -5,12 +5,12 @@ use Rattle.std.specs.Prelude.{◌&&◌, slice_get}
 use Rattle.std.specs.List.{find, AllByRecursion, count_by}
 use Rattle.std.specs.Option.{option_and_then}
 use Rattle.std.proofs.lemmas.Bool.{and_parts}
-use Rattle.std.proofs.lemmas.List.{length-map}
+use Rattle.std.proofs.lemmas.List.{length-map, nil_from_length}
 use Rattle.ghcn_fields.specs.Faults.{first_failing}
 use Rattle.ghcn_files.specs.declared.station.Station.{Station}
 use Rattle.ghcn_files.specs.declared.station.StationId.{StationId}
 use Rattle.ghcn_files.specs.Ids.{same_id}
-use Rattle.ghcn_files.specs.IdLaws.{same_id-is}
+use Rattle.ghcn_files.proofs.IdLaws.{same_id-is}
 use Rattle.ghcn_files.specs.Listed.{is_station_of}
 use Rattle.ghcn_series.specs.Series.{Usable, Contents, series_of}
 use Rattle.rank_query.specs.Asked.{Asked, IsAsked, score_element}
@@ -21,15 +21,15 @@ use Rattle.rank_papers.specs.ReportLines.{Reported, IsReported}
 use Rattle.rank_papers.specs.Certificate.{Entry, Certified, count_of}
 use Rattle.rank_head.specs.RightHead as right
 use Rattle.rank_head.specs.HeadTests.{of_rows, is_scanned}
-use Rattle.rank_check.specs.Pieces.{is_morsel, is_within, piece_tests, AreInOrder, AreRowsWithin}
+use Rattle.rank_check.specs.Pieces.{is_morsel, is_within_worst, piece_tests, AreInOrder, AreRowsWithin}
 use Rattle.rank_check.specs.InPieces.{rows_with, worst_of, own_series}
-use Rattle.rank_check.proofs.Each.{all_taken}
-use Rattle.rank_check.proofs.Failing.{slice_get-map}
+use Rattle.std.proofs.lemmas.List.{take_all}
+use Rattle.std.proofs.lemmas.Option.{slice_get-map}
 use Rattle.ghcn_series.proofs.Members.{In, of_one, for_each, found_in, any_in, kept_in}
 use Rattle.rank_check.proofs.PiecesSay.{rows_counted}
 use Rattle.rank_check.proofs.RisingIds.{RiseAll, ids_of, rise_ids}
 use Rattle.rank_check.proofs.RowsWithin.{rows_in_order, order_descends, descends_order, kept_descends, first_within}
-use Rattle.rank_parts.specs.Parts.{why_at, line_why}
+use Rattle.rank_parts.specs.Parts.{why_at, why_of_line}
 use Rattle.rank_parts.specs.Seen.{IsSeen, AreSeen}
 use Rattle.rank_parts.proofs.Heads.{few_rows, k_within}
 use Rattle.rank_parts.proofs.RisingLists.{one_entry}
@@ -40,7 +40,8 @@ module _ (q : Asked) (d : Contents) (rows : List Named) (e : Entry) where
   -- the reason at a station, by its series
   at_station : (st : Station) (o : Option Usable) → series_of d e.id (score_element q.score) ≡ o
       → find (is_station_of e.id) d.stations ≡ Some st
-      → line_why q d rows e ≡ cond (is_morsel q st o) (first_failing (piece_tests q st o e (count_of (of_rows rows) e)
+      → why_of_line q d rows e ≡ cond (is_morsel q st o) (first_failing
+      (piece_tests q st o e (count_of (of_rows rows) e)
       (rows_with e.id rows) (worst_of q.k rows))) None
   at_station st o s f =
       let found = found_in (is_station_of e.id) d.stations st f in
@@ -60,22 +61,22 @@ module _ (q : Asked) (d : Contents) (rows : List Named) (e : Entry) where
       by false = refl
 
   -- so a line without a series isn't refused
-  pub no_series : series_of d e.id (score_element q.score) ≡ None → None ≡ line_why q d rows e
+  pub no_series : series_of d e.id (score_element q.score) ≡ None → None ≡ why_of_line q d rows e
   no_series s = by (find (is_station_of e.id) d.stations) refl
     where
-      by : (o : Option Station) → find (is_station_of e.id) d.stations ≡ o → None ≡ line_why q d rows e
+      by : (o : Option Station) → find (is_station_of e.id) d.stations ≡ o → None ≡ why_of_line q d rows e
       by None f = sym (ap (option_and_then (why_at q d rows e)) f)
       by (Some st) f =
           sym (at_station st None s f ∙ ap (λ (b : Bool). cond b (first_failing (piece_tests q st None e
           (count_of (of_rows rows) e) (rows_with e.id rows) (worst_of q.k rows))) None) (no_morsel st))
 
   -- nor is one of a station that isn't listed
-  pub not_listed : find (is_station_of e.id) d.stations ≡ None → None ≡ line_why q d rows e
+  pub not_listed : find (is_station_of e.id) d.stations ≡ None → None ≡ why_of_line q d rows e
   not_listed f = sym (ap (option_and_then (why_at q d rows e)) f)
 
   -- nor one whose series is no morsel
   pub not_own : (st : Station) (o : Option Usable) → series_of d e.id (score_element q.score) ≡ o
-      → find (is_station_of e.id) d.stations ≡ Some st → is_morsel q st o ≡ false → None ≡ line_why q d rows e
+      → find (is_station_of e.id) d.stations ≡ Some st → is_morsel q st o ≡ false → None ≡ why_of_line q d rows e
   not_own st o s f none =
       sym (at_station st o s f ∙ ap (λ (b : Bool). cond b (first_failing (piece_tests q st o e
       (count_of (of_rows rows) e) (rows_with e.id rows) (worst_of q.k rows))) None) none)
@@ -84,7 +85,7 @@ module _ (q : Asked) (d : Contents) (rows : List Named) (e : Entry) where
   pub of_own : (st : Station) (o : Option Usable) → series_of d e.id (score_element q.score) ≡ o
       → find (is_station_of e.id) d.stations ≡ Some st → is_morsel q st o ≡ true
       → first_failing (piece_tests q st o e (count_of (of_rows rows) e) (rows_with e.id rows) (worst_of q.k rows))
-      ≡ line_why q d rows e
+      ≡ why_of_line q d rows e
   of_own st o s f own =
       sym (at_station st o s f ∙ ap (λ (b : Bool). cond b (first_failing (piece_tests q st o e
       (count_of (of_rows rows) e) (rows_with e.id rows) (worst_of q.k rows))) None) own)
@@ -114,27 +115,22 @@ rows_within q rows id asked order few =
     let long : length (of_rows rows) ≤ q.k = omega (arith, few, length-map rows (λ (row : Named). row.0)) in
     let worst : worst_of q.k rows ≡ slice_get (of_rows rows) (q.k - 1) =
     sym (slice_get-map (λ (row : Named). row.0) rows (q.k - 1)) in
-    let whole : filter (is_within (worst_of q.k rows)) (of_rows rows) ≡ of_rows rows =
-    ap (λ (o : Option Candidate). filter (is_within o) (of_rows rows)) worst
+    let whole : filter (is_within_worst (worst_of q.k rows)) (of_rows rows) ≡ of_rows rows =
+    ap (λ (o : Option Candidate). filter (is_within_worst o) (of_rows rows)) worst
     ∙ first_within (of_rows rows) (q.k - 1) falls
     ∙ ap (λ (n : ℕ). take n (of_rows rows)) next
-    ∙ all_taken q.k (of_rows rows) long in
+    ∙ take_all q.k (of_rows rows) long in
     subst (AreRowsWithin (worst_of q.k rows)) (sym (candidates_with id rows)) (record {
       order = descends_order (filter (λ (c : Candidate). same_id c.id id) (of_rows rows))
           (kept_descends (λ (c : Candidate). same_id c.id id) (of_rows rows) falls);
-      within = for_each (λ c. is_within (worst_of q.k rows) c ≡ true)
+      within = for_each (λ c. is_within_worst (worst_of q.k rows) c ≡ true)
           (filter (λ (c : Candidate). same_id c.id id) (of_rows rows)) (λ c h.
           let there = (kept_in (λ (x : Candidate). same_id x.id id) (of_rows rows) c h).0 in
-          (kept_in (is_within (worst_of q.k rows)) (of_rows rows) c
+          (kept_in (is_within_worst (worst_of q.k rows)) (of_rows rows) c
           (subst (λ (l : List Candidate). In l c) (sym whole) there)).1);
     })
 
 -- ---- what the head shows
-
--- a list of no length is empty
-no_length : {X : Type 0} (xs : List X) → length xs ≡ 0 → xs ≡ []
-no_length [] h = refl
-no_length (x ∷ xs) h = absurd (omega (arith, h))
 
 -- nothing is in a list without what is in it
 nothing_in : {X : Type 0} (xs : List X) → ((x : X) → In xs x → ⊥) → xs ≡ []
@@ -162,7 +158,7 @@ none_of rows es up scanned e h none = by e.skipped refl none
     by : (b : Bool) → e.skipped ≡ b → cond b 0 (count_by (λ c. same_id c.id e.id) (of_rows rows)) ≡ 0
         → rows_with e.id rows ≡ []
     by true s n = nothing_in (rows_with e.id rows) (of_skip s)
-    by false s n = no_length (rows_with e.id rows) (rows_counted e.id rows ∙ n)
+    by false s n = nil_from_length (rows_with e.id rows) (rows_counted e.id rows ∙ n)
 
 -- so a right head shows all that is asked of rows and lines
 pub head_shows : (q : Asked) (r : Reported) (z : Certified) → IsReported r → right.IsRightHead q r z

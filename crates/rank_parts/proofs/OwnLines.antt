@@ -11,11 +11,11 @@ use Rattle.std.proofs.lemmas.List.Sums.{sum_by-cons}
 use Rattle.ghcn_fields.specs.Bytes.{same_bytes}
 use Rattle.ghcn_fields.specs.Faults.{first_failing}
 use Rattle.ghcn_fields.specs.Sorting.{sorted_by}
-use Rattle.ghcn_fields.proofs.Ordered as ordered
+use Rattle.ghcn_files.proofs.Ordered as ordered
 use Rattle.ghcn_files.specs.declared.station.Station.{Station}
 use Rattle.ghcn_files.specs.declared.station.StationId.{StationId}
 use Rattle.ghcn_files.specs.Ids.{same_id}
-use Rattle.ghcn_files.specs.IdLaws.{same_id-is, same_id-laws}
+use Rattle.ghcn_files.proofs.IdLaws.{same_id-is, same_id-laws}
 use Rattle.ghcn_files.specs.Listed.{is_station_of}
 use Rattle.ghcn_series.specs.Series.{Usable, Contents, series_of}
 use Rattle.ghcn_series.specs.Held.{IsContents}
@@ -29,31 +29,21 @@ use Rattle.rank_papers.specs.Report.{Named, trimmed}
 use Rattle.rank_papers.specs.ReportLines.{Reported}
 use Rattle.rank_papers.specs.Certificate.{Entry, Certified, count_of}
 use Rattle.rank_head.specs.HeadTests.{of_rows}
-use Rattle.rank_check.specs.Tests.{is_among}
-use Rattle.rank_check.specs.Pieces.{is_morsel, is_within, piece_tests}
+use Rattle.rank_check.specs.Tests.{is_one_of}
+use Rattle.rank_check.specs.Pieces.{is_morsel, is_within_worst, piece_tests}
 use Rattle.rank_check.specs.InPieces.{rows_with, worst_of, own_series, IsAccepted, IsAbsent}
 use Rattle.ghcn_series.proofs.Members.{In, of_one, for_each, any_in, in_any, in_map, map_in, all_in}
 use Rattle.rank_check.proofs.Piecing.{passing, none_failing, each_passes, or_rest}
 use Rattle.rank_check.proofs.QueryMembers.{permuted_in, own_id, listed_found, station_of, morsel_of, is_morsel_of}
 use Rattle.rank_check.proofs.RisingIds.{RiseAll, ids_of, morsel_ids}
-use Rattle.rank_parts.specs.Parts.{is_own, why_at, line_why, has_line}
+use Rattle.rank_check.proofs.Members.{zip_in}
+use Rattle.rank_parts.specs.Parts.{is_own, why_at, why_of_line, has_line}
 use Rattle.rank_parts.proofs.Accepting.{SeesNothing}
 use Rattle.rank_parts.proofs.RisingLists.{no_others}
 
 -- ---- lists one by one
 
--- the element of the one list that goes with one of the other
-zip_in : {X Y : Type 0} (R : X → Y → Type 0) (xs : List X) (ys : List Y) → AllZip R xs ys → (y : Y) → In ys y
-    → (x : X) × In xs x × R x y
-zip_in R [] [] h y k = absurd k
-zip_in R [] (z ∷ ys) h y k = absurd h
-zip_in R (x ∷ xs) [] h y k = absurd h
-zip_in {X = X} R (x ∷ xs) (z ∷ ys) h y k = elim k [
-  | inl e ↦ (x, inl refl, subst (R x) e h.0)
-  | inr l ↦ let rest = zip_in R xs ys h.1 y l in (rest.0, inr rest.1, rest.2)
-]
-
--- and that of the other
+-- of two lists that go together, the element of the other that goes with one of the one
 pub in_zip : {X Y : Type 0} (R : X → Y → Type 0) (xs : List X) (ys : List Y) → AllZip R xs ys → (x : X) → In xs x
     → (y : Y) × In ys y × R x y
 in_zip R [] [] h x k = absurd k
@@ -87,10 +77,11 @@ same_tests q st u v e n rows worst same morsel h =
         t.1.0,
         (
           sym (ap (λ (cs : List Candidate).
-              list_all (λ (row : Named). is_among cs row.0 && same_bytes (trimmed st.name) row.1) rows) same) ∙ t.1.1.0,
+              list_all (λ (row : Named). is_one_of cs row.0 && same_bytes (trimmed st.name) row.1) rows) same)
+              ∙ t.1.1.0,
           (
             sym (ap (λ (cs : List Candidate).
-                list_all (λ (c : Candidate). not (is_within worst c) || is_among (of_rows rows) c) cs) same) ∙
+                list_all (λ (c : Candidate). not (is_within_worst worst c) || is_one_of (of_rows rows) c) cs) same) ∙
                 t.1.1.1.0,
             (
               sym (ap (λ (cs : List Candidate). list_all (λ (c : Candidate). int_le c.score e.bound) cs) same)
@@ -233,7 +224,7 @@ module _ (q : Asked) (c : Contents) (ds : List Contents) (right : IsContents c) 
         ap (λ (l : List Station). find (is_station_of e.id) l) listed ∙ found in
         let reason : why_at q p.part r.rows e there.0 ≡ None =
         ap (option_and_then (why_at q p.part r.rows e)) (sym found_there)
-        ∙ of_one (λ (x : Entry). line_why q p.part r.rows x ≡ None) z.entries e sees.lines h in
+        ∙ of_one (λ (x : Entry). why_of_line q p.part r.rows x ≡ None) z.entries e sees.lines h in
         let mine : is_own q p.part there.0 ≡ true = own_there p.part there.0 p.own there.2 there.3 p.morsel in
         let passes : first_failing (piece_tests q there.0 (own_series q p.part there.0) e (count_of (of_rows r.rows) e)
         (rows_with e.id r.rows) (worst_of q.k r.rows)) ≡ None =

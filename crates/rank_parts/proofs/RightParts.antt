@@ -9,7 +9,7 @@ use Rattle.std.proofs.lemmas.List.Sorted.{length_permutation}
 use Rattle.std.proofs.lemmas.List.Sums.{sum_by-cons}
 use Rattle.ghcn_fields.specs.Faults.{first_failing}
 use Rattle.ghcn_fields.specs.Sorting.{sorted_by}
-use Rattle.ghcn_fields.proofs.Ordered as ordered
+use Rattle.ghcn_files.proofs.Ordered as ordered
 use Rattle.ghcn_files.specs.declared.station.Station.{Station}
 use Rattle.ghcn_files.specs.declared.station.StationId.{StationId}
 use Rattle.ghcn_files.specs.Ids.{same_id}
@@ -33,7 +33,7 @@ use Rattle.rank_check.proofs.Piecing.{all_passes, or_made}
 use Rattle.rank_check.proofs.QueryMembers.{permuted_in, own_id, station_of, morsel_of, is_morsel_of}
 use Rattle.rank_parts.specs.declared.verdict.PartVerdict.{PartVerdict}
 use Rattle.rank_parts.specs.declared.verdict.PartVerdict.TheVariants.{Refused}
-use Rattle.rank_parts.specs.Parts.{refusal_of, is_own, why_at, line_why, first_refused, has_line, have_lines}
+use Rattle.rank_parts.specs.Parts.{refusal_of, is_own, why_at, why_of_line, first_refused, has_line, have_lines}
 use Rattle.rank_parts.specs.Parts.{refused}
 use Rattle.rank_parts.proofs.Heads.{recounted}
 use Rattle.rank_parts.proofs.OwnLines.{in_zip, zip_long, same_tests}
@@ -57,7 +57,7 @@ none_refused reason (e ∷ es) n h =
 
 -- ---- the parts
 
-module _ (q : Asked) (c : Contents) (ds : List Contents) (held : IsContents c) (cut : IsCut q c ds) (r : Reported)
+module _ (q : Asked) (c : Contents) (ds : List Contents) (dataset : IsContents c) (cut : IsCut q c ds) (r : Reported)
     (z : Certified) (pieces : AreRightPieces q c r (recounted r.rows z)) where
   -- the morsel of all data that a part's morsel serves for
   record WholeOf (u : Usable) : Type 0 where
@@ -111,7 +111,7 @@ module _ (q : Asked) (c : Contents) (ds : List Contents) (held : IsContents c) (
   listed d h = of_one (λ (x : Contents). x.stations ≡ c.stations) ds d cut.stations h
 
   -- no line is refused by a part
-  no_reason : (d : Contents) → In ds d → (e : Entry) → In z.entries e → line_why q d r.rows e ≡ None
+  no_reason : (d : Contents) → In ds d → (e : Entry) → In z.entries e → why_of_line q d r.rows e ≡ None
   no_reason d h e k =
       let whole = of_made (IsAccepted q c r.rows) (count_of (of_rows r.rows)) z.entries pieces.lines e k in
       let st : Station = whole.0 in
@@ -157,10 +157,10 @@ module _ (q : Asked) (c : Contents) (ds : List Contents) (held : IsContents c) (
   -- so a part refuses nothing
   pub nothing_refused : head_fault q r z ≡ None → (d : Contents) → In ds d → refused q d r z ≡ None
   nothing_refused fine d h =
-      let lines : first_refused (line_why q d r.rows) 4 z.entries ≡ None =
-      none_refused (line_why q d r.rows) z.entries 4
-      (for_each (λ e. line_why q d r.rows e ≡ None) z.entries (no_reason d h)) in
-      ap (λ (f : Option PartVerdict). option_or f (option_or (first_refused (line_why q d r.rows) 4 z.entries)
+      let lines : first_refused (why_of_line q d r.rows) 4 z.entries ≡ None =
+      none_refused (why_of_line q d r.rows) z.entries 4
+      (for_each (λ e. why_of_line q d r.rows e ≡ None) z.entries (no_reason d h)) in
+      ap (λ (f : Option PartVerdict). option_or f (option_or (first_refused (why_of_line q d r.rows) 4 z.entries)
       (cond (have_lines q d z.entries) None (Some (Refused Certificate (length z.entries + 4) OtherSeries)))))
       (ap (option_map refusal_of) fine)
       ∙ ap (λ (f : Option PartVerdict). option_or f

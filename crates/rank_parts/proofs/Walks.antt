@@ -6,7 +6,7 @@ use Rattle.std.specs.List.{list_all, filter_map, cons_option, count_by}
 use Rattle.std.specs.Option.{option_map_or}
 use Rattle.std.proofs.lemmas.List.Sorted.{length_permutation}
 use Rattle.std.proofs.lemmas.List.Sums.{sum_by-cons}
-use Rattle.ghcn_fields.proofs.Ordered as ordered
+use Rattle.ghcn_files.proofs.Ordered as ordered
 use Rattle.ghcn_files.specs.declared.element.Element.{Element}
 use Rattle.ghcn_files.specs.declared.station.Station.{Station}
 use Rattle.ghcn_series.specs.Series.{Usable, Contents, series_of}
@@ -15,7 +15,7 @@ use Rattle.rank_query.specs.Admits.{admits_station}
 use Rattle.rank_scores.specs.Morsels.{has_admitted, admitted_series, morsels, id_comes_first}
 use Rattle.rank_papers.specs.Certificate.{Entry}
 use Rattle.rank_check.specs.Pieces.{is_morsel}
-use Rattle.rank_check.proofs.Each.{all_taken}
+use Rattle.std.proofs.lemmas.List.{take_all}
 use Rattle.rank_parts.specs.Parts.{is_own, has_line, have_lines}
 
 -- ---- one element more
@@ -160,7 +160,7 @@ module _ (q : Asked) (d : Contents) where
     pub walked_all : (n place : ℕ) → Walked n place → length d.stations ≤ place
         → Some n ≡ cond (have_lines q d es) (Some (length (morsels q d))) None
     walked_all n place h end =
-        let whole : take place d.stations ≡ d.stations = all_taken place d.stations end in
+        let whole : take place d.stations ≡ d.stations = take_all place d.stations end in
         ap (λ (k : ℕ). Some k) (h.many ∙ ap (count_by (is_own q d)) whole ∙ morsels_counted)
         ∙ ap (λ (b : Bool). cond b (Some (length (morsels q d))) None)
         (sym (sym (ap (list_all is_listed) whole) ∙ h.all))

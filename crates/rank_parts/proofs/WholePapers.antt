@@ -32,7 +32,7 @@ use Rattle.rank_parts.proofs.RightParts.{nothing_refused, add_up}
 -- ---- papers that were read
 
 module _ (heads : HeadsAreRight) (pieces : RightInPieces) (q : Asked) (c : Contents) (ds : List Contents) (r : Reported)
-    (z : Certified) (asked : IsAsked q) (held : IsContents c) (cut : IsCut q c ds) (report : IsReported r)
+    (z : Certified) (asked : IsAsked q) (dataset : IsContents c) (cut : IsCut q c ds) (report : IsReported r)
     (certificate : IsCertified z) where
   -- papers whose head is right, and in which no part sees anything to refuse, say what is right
   say : right.IsRightHead q r z → (ns : List ℕ) → AllZip (λ d n. SeesNothing q d r z n (length z.entries)) ds ns
@@ -42,10 +42,10 @@ module _ (heads : HeadsAreRight) (pieces : RightInPieces) (q : Asked) (c : Conte
       let few = few_rows q r report head.report in
       let up = rise_ids z.entries head.rise in
       let can = recounted_can r.rows z (omega (arith, few, k.1)) certificate in
-      let both = (pieces q c r (recounted r.rows z) asked held report can refl).1 (record {
+      let both = (pieces q c r (recounted r.rows z) asked dataset report can refl).1 (record {
         head = recounted_head q r z head;
-        lines = lines_accepted q c ds held cut r z ns (length z.entries) seen up refl adds;
-        absent = none_missing q c ds held cut r z ns (length z.entries) seen up refl adds;
+        lines = lines_accepted q c ds dataset cut r z ns (length z.entries) seen up refl adds;
+        absent = none_missing q c ds dataset cut r z ns (length z.entries) seen up refl adds;
       }) in (
         both.0,
         record {
@@ -103,7 +103,7 @@ module _ (heads : HeadsAreRight) (pieces : RightInPieces) (q : Asked) (c : Conte
       let few = few_rows q r report said.asked in
       let k = k_within q asked in
       let can = recounted_can r.rows z (omega (arith, few, k.1)) certificate in
-      (pieces q c r (recounted r.rows z) asked held report can refl).0 (
+      (pieces q c r (recounted r.rows z) asked dataset report can refl).0 (
         said,
         record {
           asked = told.asked;
@@ -125,7 +125,7 @@ module _ (heads : HeadsAreRight) (pieces : RightInPieces) (q : Asked) (c : Conte
       each [] f = tt
       each (d ∷ es) f = (
         ap (or_accepted (length (morsels q d)) (length z.entries))
-            (nothing_refused q c ds held cut r z (pieces_of said told)
+            (nothing_refused q c ds dataset cut r z (pieces_of said told)
             ((heads q r z asked report certificate).1 (head_of said told (pieces_of said told))) d (f d (inl refl))),
         each es (λ x h. f x (inr h)),
       )
@@ -134,7 +134,7 @@ module _ (heads : HeadsAreRight) (pieces : RightInPieces) (q : Asked) (c : Conte
   added : SaysRightReport q c r → SaysRight q c z
       → sum (map (λ (d : Contents). length (morsels q d)) ds) ≡ length z.entries
   added said told =
-      add_up q c ds held cut r z (pieces_of said told)
+      add_up q c ds dataset cut r z (pieces_of said told)
       ∙ sym (zip_long (IsRightEntry q (kth_of_query q c)) z.entries (morsels q c) told.entries)
 
 -- ---- texts
@@ -153,7 +153,7 @@ module _ (certificates : CertificatesAreRead) (right_certificates : RightCertifi
   right_whole : (q : Asked) (c : Contents) (ds : List Contents) (report certificate : List ℕ) → IsAsked q → IsContents c
       → IsCut q c ds → 0 < length ds → AllAccept q report certificate ds
       → IsReport q c report × IsCertificate q c certificate
-  right_whole q c ds report certificate asked held cut some all =
+  right_whole q c ds report certificate asked dataset cut some all =
       by (read_report report) (read_certificate certificate) refl refl all.accepted
     where
       by : (r : Result Reported ℕ) (z : Result Certified ℕ) → read_report report ≡ r → read_certificate certificate ≡ z
@@ -162,10 +162,10 @@ module _ (certificates : CertificatesAreRead) (right_certificates : RightCertifi
       by (Ok r) (Ok z) e f h =
           let of_r = (reports report r).0 e in
           let of_z = (certificates certificate z).0 f in
-          let both = accepted_say heads pieces q c ds r z asked held cut of_r.can_be of_z.can_be all.lines all.series
+          let both = accepted_say heads pieces q c ds r z asked dataset cut of_r.can_be of_z.can_be all.lines all.series
           some h all.sum in (
-            (right_reports q c report asked held).1 (r, of_r, both.0),
-            (right_certificates q c certificate asked held).1 (z, of_z, both.1),
+            (right_reports q c report asked dataset).1 (r, of_r, both.0),
+            (right_certificates q c certificate asked dataset).1 (z, of_z, both.1),
           )
       by (Err n) z e f h = absurd (none (λ d k. part_judged q d (Err n) z ≡ Accepted k all.lines) (λ d k g. cc) ds
           all.series some h)
@@ -175,9 +175,9 @@ module _ (certificates : CertificatesAreRead) (right_certificates : RightCertifi
   -- and right papers are accepted by all parts
   all_accept : (q : Asked) (c : Contents) (ds : List Contents) (report certificate : List ℕ) → IsAsked q → IsContents c
       → IsCut q c ds → IsReport q c report → IsCertificate q c certificate → AllAccept q report certificate ds
-  all_accept q c ds report certificate asked held cut is_report is_certificate =
-      let said = (right_reports q c report asked held).0 is_report in
-      let told = (right_certificates q c certificate asked held).0 is_certificate in
+  all_accept q c ds report certificate asked dataset cut is_report is_certificate =
+      let said = (right_reports q c report asked dataset).0 is_report in
+      let told = (right_certificates q c certificate asked dataset).0 is_certificate in
       let of_r : read_report report ≡ Ok said.0 = (reports report said.0).1 said.1 in
       let of_z : read_certificate certificate ≡ Ok told.0 = (certificates certificate told.0).1 told.1 in
       record {
@@ -187,15 +187,16 @@ module _ (certificates : CertificatesAreRead) (right_certificates : RightCertifi
             ≡ Accepted n (length told.0.entries)) ds (map (λ (d : Contents). length (morsels q d)) ds)) (sym of_r)
             (subst (λ (x : Result Certified ℕ). AllZip (λ d n. part_judged q d (Ok said.0) x
             ≡ Accepted n (length told.0.entries)) ds (map (λ (d : Contents). length (morsels q d)) ds)) (sym of_z)
-            (accepted_by heads pieces q c ds said.0 told.0 asked held cut said.1.can_be told.1.can_be said.2 told.2));
-        sum = added heads pieces q c ds said.0 told.0 asked held cut said.1.can_be told.1.can_be said.2 told.2;
+            (accepted_by heads pieces q c ds said.0 told.0 asked dataset cut said.1.can_be told.1.can_be said.2
+            told.2));
+        sum = added heads pieces q c ds said.0 told.0 asked dataset cut said.1.can_be told.1.can_be said.2 told.2;
       }
 
   -- so they are right exactly there
   pub whole : PartsMakeTheWhole
-  whole q c ds report certificate asked held cut some = (
-    right_whole q c ds report certificate asked held cut some,
-    λ h. all_accept q c ds report certificate asked held cut h.0 h.1,
+  whole q c ds report certificate asked dataset cut some = (
+    right_whole q c ds report certificate asked dataset cut some,
+    λ h. all_accept q c ds report certificate asked dataset cut h.0 h.1,
   )
 
 -- ---- files
@@ -220,7 +221,7 @@ files_filed (p ∷ parts) = ap (λ (l : List (List ℕ)). p ++ l) (files_filed p
 
 -- papers are right for all files exactly where all parts accept them
 pub of_files : PartsMakeTheWhole → CutByFiles → FilesMakeTheWhole
-of_files whole cut q stations parts ds c report certificate asked held are some =
-    whole q c ds report certificate asked held
+of_files whole cut q stations parts ds c report certificate asked dataset are some =
+    whole q c ds report certificate asked dataset
     (cut q stations (map without_papers parts) ds c (data_filed stations parts ds are.each)
     (ap (data_of stations) (files_filed parts) ∙ are.all) are.apart) some

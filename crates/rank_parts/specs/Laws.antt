@@ -40,7 +40,7 @@ abbrev pub AreDataOf : List Station → List (List ℕ) → Contents → Type 0
 AreDataOf stations files d = data_of stations files ≡ Ok d
 
 -- the data of each part's files, and of all files one part after the other: no station has an admitted day in two parts
-pub record AreParts (q : Asked) (stations : List Station) (parts : List (List (List ℕ))) (ds : List Contents)
+pub record ArePartsOfData (q : Asked) (stations : List Station) (parts : List (List (List ℕ))) (ds : List Contents)
     (c : Contents) : Type 0 where
   pub each : AllZip (AreDataOf stations) parts ds
   pub all : AreDataOf stations (flat_map (λ files. files) parts) c
@@ -49,7 +49,7 @@ pub record AreParts (q : Asked) (stations : List Station) (parts : List (List (L
 -- papers are right for all files exactly where each part of the files accepts them
 abbrev pub FilesMakeTheWhole : Type 0
 FilesMakeTheWhole = (q : Asked) (stations : List Station) (parts : List (List (List ℕ))) (ds : List Contents)
-    (c : Contents) (report certificate : List ℕ) → IsAsked q → IsContents c → AreParts q stations parts ds c
+    (c : Contents) (report certificate : List ℕ) → IsAsked q → IsContents c → ArePartsOfData q stations parts ds c
     → 0 < length ds → AllAccept q report certificate ds ↔ (IsReport q c report × IsCertificate q c certificate)
 
 -- ---- one element

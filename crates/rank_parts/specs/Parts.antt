@@ -56,8 +56,8 @@ why_at q d rows e st =
     else None
 
 -- why a line is refused, if it is; the line of a station that isn't listed isn't looked at
-abbrev pub line_why : Asked → Contents → List Named → Entry → Option Why
-line_why q d rows e = option_and_then (why_at q d rows e) (find (is_station_of e.id) d.stations)
+abbrev pub why_of_line : Asked → Contents → List Named → Entry → Option Why
+why_of_line q d rows e = option_and_then (why_at q d rows e) (find (is_station_of e.id) d.stations)
 
 -- the refusal of the first of these lines that has a reason, where the first of them has this number
 abbrev pub first_refused : (Entry → Option Why) → ℕ → List Entry → Option PartVerdict
@@ -86,7 +86,7 @@ missing_refused q d es =
 abbrev pub refused : Asked → Contents → Reported → Certified → Option PartVerdict
 refused q d r z =
     option_or (option_map refusal_of (head_fault q r z))
-    (option_or (first_refused (line_why q d r.rows) 4 z.entries) (missing_refused q d z.entries))
+    (option_or (first_refused (why_of_line q d r.rows) 4 z.entries) (missing_refused q d z.entries))
 
 -- the refusal, or so many series of so many lines where there is none
 abbrev pub or_accepted : ℕ → ℕ → Option PartVerdict → PartVerdict

@@ -22,24 +22,24 @@ use std::alloc::Global;
 /// their series without a line.
 pub(crate) fn judge(
     alloc: Global,
-    held: &Data,
+    dataset: &Data,
     query: &Query,
     report: &Report,
     certificate: &Certificate,
 ) -> Result<PartVerdict, Memory>
     requires report { IsReported (reported_in report.now) }
     requires certificate { IsCertified (certified_in certificate.now) }
-    ensures { IfOk result (λ verdict. verdict ≡ parts.part_judged query.now held.now
+    ensures { IfOk result (λ verdict. verdict ≡ parts.part_judged query.now dataset.now
         (Ok (reported_in report.now)) (Ok (certified_in certificate.now))) }
 {
     if let Some(fault) = check_head(alloc, query, report, certificate)? {
         return Ok(refusal_of(fault));
     }
     let (rows, lines) = (report.rows.as_slice(), certificate.lines.as_slice());
-    if let Some(fault) = lines_fault(alloc, held, query, rows, lines)? {
+    if let Some(fault) = lines_fault(alloc, dataset, query, rows, lines)? {
         return Ok(fault);
     }
-    Ok(match series_with_lines(held, query, lines) {
+    Ok(match series_with_lines(dataset, query, lines) {
         Some(series) => PartVerdict::Accepted {
             series,
             lines: lines.len() as u64,

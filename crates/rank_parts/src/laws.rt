@@ -14,6 +14,7 @@ pub fn parts_make_the_whole()
     ensures data { laws.PartsMakeTheWhole }
     ensures files { laws.FilesMakeTheWhole }
 {
+    // Papers are accepted in pieces, and a part's data have the pieces of its series.
     certificates_are_read();
     reports_are_read();
     heads_are_right();
@@ -26,5 +27,6 @@ pub fn parts_make_the_whole()
 pub fn part_verdict_of_one_element()
     ensures { laws.PartVerdictStays }
 {
+    // Each definition that a verdict rests on stays.
     one_element_is_enough();
 }

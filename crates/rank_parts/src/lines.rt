@@ -25,19 +25,19 @@ use std::alloc::Global;
 /// The refusal of the first line of these data's series that fails a test.
 pub(crate) fn lines_fault(
     alloc: Global,
-    held: &Data,
+    dataset: &Data,
     query: &Query,
     rows: &[Row],
     lines: &[Line],
 ) -> Result<Option<PartVerdict>, Memory>
     requires { AreSeen query.now (map named_in rows.now) lines.now }
     ensures { IfOk result (λ fault. fault
-        ≡ parts.first_refused (parts.line_why query.now held.now (map named_in rows.now)) 4 lines.now) }
+        ≡ parts.first_refused (parts.why_of_line query.now dataset.now (map named_in rows.now)) 4 lines.now) }
 {
     let candidates = candidates_of(alloc, rows)?;
     let counts = row_counts(alloc, candidates.as_slice(), lines)?;
     for place in 0..lines.len() {
-        let why = line_why(alloc, held, query, rows, &lines[place], counts[place])?;
+        let why = line_why(alloc, dataset, query, rows, &lines[place], counts[place])?;
         if let Some(why) = why {
             return Ok(Some(PartVerdict::Refused {
                 paper: Paper::Certificate,
@@ -53,7 +53,7 @@ pub(crate) fn lines_fault(
 /// of these data.
 fn line_why(
     alloc: Global,
-    held: &Data,
+    dataset: &Data,
     query: &Query,
     rows: &[Row],
     line: &Line,
@@ -61,12 +61,12 @@ fn line_why(
 ) -> Result<Option<Why>, Memory>
     requires seen { IsSeen query.now (map named_in rows.now) line.now }
     requires count { count ≡ count_of (of_rows (map named_in rows.now)) line.now }
-    ensures { IfOk result (λ why. why ≡ parts.line_why query.now held.now (map named_in rows.now) line.now) }
+    ensures { IfOk result (λ why. why ≡ parts.why_of_line query.now dataset.now (map named_in rows.now) line.now) }
 {
-    let Some(series) = held.series(&line.id, query.element()) else {
+    let Some(series) = dataset.series(&line.id, query.element()) else {
         return Ok(None);
     };
-    let Some(station) = held.stations().get(&line.id) else {
+    let Some(station) = dataset.stations().get(&line.id) else {
         return Ok(None);
     };
     if !is_own(query, station, Some(series)) {

@@ -23,30 +23,31 @@ use std::alloc::Global;
 /// up to that of the lines.
 pub fn check_part(
     alloc: Global,
-    held: &Data,
+    dataset: &Data,
     query: &Query,
     report: &[u8],
     certificate: &[u8],
 ) -> Result<PartVerdict, Memory>
     ensures verdict { IfOk result (λ found.
-        found ≡ parts.part_verdict query.now held.now report.now certificate.now) }
+        found ≡ parts.part_verdict query.now dataset.now report.now certificate.now) }
     ensures whole { laws.PartsMakeTheWhole }
     ensures files { laws.FilesMakeTheWhole }
 {
+    // Clauses `whole` and `files` are the law.
     parts_make_the_whole();
-    judge_texts(alloc, held, query, report, certificate)
+    judge_texts(alloc, dataset, query, report, certificate)
 }
 
 /// The verdict of the first test that fails.
 fn judge_texts(
     alloc: Global,
-    held: &Data,
+    dataset: &Data,
     query: &Query,
     report: &[u8],
     certificate: &[u8],
 ) -> Result<PartVerdict, Memory>
     ensures { IfOk result (λ found.
-        found ≡ parts.part_verdict query.now held.now report.now certificate.now) }
+        found ≡ parts.part_verdict query.now dataset.now report.now certificate.now) }
 {
     let report = match read_report(alloc, report) {
         Ok(report) => report,
@@ -60,7 +61,7 @@ fn judge_texts(
         Err(PaperFault::BadCertificate { line }) => return Ok(bad_form(Paper::Certificate, line)),
         Err(PaperFault::Memory(memory)) => return Err(memory),
     };
-    judge(alloc, held, query, &report, &certificate)
+    judge(alloc, dataset, query, &report, &certificate)
 }
 
 /// A refusal of a line that isn't of the form of its place.

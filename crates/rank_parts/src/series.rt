@@ -3,7 +3,7 @@
 ghost use Rattle.std.specs.Prelude.{◌≡◌, Some, None, length, if◌then◌else◌};
 ghost use Rattle.std.specs.Option.{option_copied};
 ghost use Rattle.rank_scores.specs.Morsels.{morsels};
-ghost use Rattle.rank_head.specs.HeadTests.{Rise};
+ghost use Rattle.rank_head.specs.HeadTests.{IdsRise};
 ghost use Rattle.rank_check.specs.Pieces.{is_morsel};
 ghost use Rattle.rank_parts.specs.Parts as parts;
 
@@ -15,15 +15,15 @@ use rank_query::Query;
 
 /// How many series of these data have an admitted day, where each of them has a line among these,
 /// which rise by ID.
-pub(crate) fn series_with_lines(held: &Data, query: &Query, lines: &[Line]) -> Option<u64>
-    requires { Rise lines.now }
-    ensures { result ≡ (if parts.have_lines query.now held.now lines.now
-        then Some (length (morsels query.now held.now)) else None) }
+pub(crate) fn series_with_lines(dataset: &Data, query: &Query, lines: &[Line]) -> Option<u64>
+    requires { IdsRise lines.now }
+    ensures { result ≡ (if parts.have_lines query.now dataset.now lines.now
+        then Some (length (morsels query.now dataset.now)) else None) }
 {
     let mut series: u64 = 0;
-    for place in 0..held.stations().len() {
-        if let Some(station) = held.stations().at(place) {
-            if is_own(query, station, held.series(&station.id, query.element())) {
+    for place in 0..dataset.stations().len() {
+        if let Some(station) = dataset.stations().at(place) {
+            if is_own(query, station, dataset.series(&station.id, query.element())) {
                 if !has_line(lines, &station.id) {
                     return None;
                 }
@@ -43,7 +43,7 @@ pub(crate) fn is_own(query: &Query, station: &Station, series: Option<&Series>) 
 
 /// Whether one of these lines, which rise by ID, is of a station.
 fn has_line(lines: &[Line], id: &StationId) -> bool
-    requires { Rise lines.now }
+    requires { IdsRise lines.now }
     ensures { result ≡ parts.has_line lines.now id.now }
 {
     lines.binary_search_by(|line| line.id.cmp(id)).is_ok()

@@ -4,7 +4,7 @@ use Rattle.std.specs.List.{count_by, AllByRecursion}
 use Rattle.std.specs.List.Sorted.{IsPermutation}
 use Rattle.std.proofs.lemmas.Bool.{true_from_ne_false}
 use Rattle.std.proofs.lemmas.List.Sorted.{IsPermutation-sym, IsPermutation-trans, sum_by-IsPermutation}
-use Rattle.ghcn_fields.proofs.Ordered.{sorted-permutation}
+use Rattle.ghcn_files.proofs.Ordered.{sorted-permutation}
 use Rattle.rank_scores.specs.declared.candidate.Candidate.{Candidate}
 use Rattle.rank_pool.specs.First.{comes_first, in_order}
 use Rattle.rank_pool.proofs.Orders.{InTurn, in_order-turn, same_place, first_itself}

@@ -11,7 +11,8 @@ use Rattle.rank_pool.specs.Pools.{Pooled, taken, last_score, HoldsFirst}
 
 -- a pool that held the first of some candidates holds the first of these and one more
 abbrev pub HoldsOneMore : Type 0
-HoldsOneMore = (p : Pooled) (xs : List Candidate) (c : Candidate) → HoldsFirst p xs → HoldsFirst (taken p c) (xs ++ c ∷ [])
+HoldsOneMore = (p : Pooled) (xs : List Candidate) (c : Candidate) → HoldsFirst p xs
+    → HoldsFirst (taken p c) (xs ++ c ∷ [])
 
 -- a pool that held the first of some candidates holds the first of these and all that it is offered
 abbrev pub HoldsAllOffered : Type 0

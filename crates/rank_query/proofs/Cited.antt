@@ -43,7 +43,7 @@ unfoldable pub use Rattle.jiff_core.specs.Calendar.{day_count, days_from_civil, 
 pub use Rattle.memchr.specs.Find.{IsFirstByte, is_byte}
 pub use Rattle.rank_query.specs.Asked.{Asked, IsAsked, is_code, is_fall, is_period}
 pub use Rattle.rank_query.specs.Asked.{is_region, is_score, is_season, is_temperature}
-pub use Rattle.rank_query.specs.FaultKinds.{IsFaultAmong, edge, has_form, is_behind_box, is_behind_first_day, is_date}
+pub use Rattle.rank_query.specs.FaultKinds.{IsFaultAmong, edge, has_form, is_behind_box, is_behind_first_day, is_date_word}
 pub use Rattle.rank_query.specs.FaultKinds.{is_decimal, is_number, other, place_behind}
 pub use Rattle.rank_query.specs.FaultPlaces.{BeginQuery, EndsTooEarly, IsFirstWrong, IsFirstWrongAt, SpellNone}
 pub use Rattle.rank_query.specs.FaultPlaces.{StandsAmong, StandsIn}
@@ -58,7 +58,7 @@ pub use Rattle.rank_query.specs.Reading.{nothing_more, state_at, station_at, wet
 unfoldable pub use Rattle.rank_query.specs.Reading.{box_at, days_at, no_score_at, period_at, read_query, read_words}
 unfoldable pub use Rattle.rank_query.specs.Reading.{region_at, score_at, season_at, sum_at}
 pub use Rattle.rank_query.specs.Spelling.{IsNumeralOf, IsSpelling, SpellsQuery, SpellsWord}
-pub use Rattle.rank_query.specs.WordValues.{both_numbers, is_heat, is_month, is_point, natural_behind, tenths_of}
+pub use Rattle.rank_query.specs.WordValues.{both_numbers, is_heat, is_month, is_point, natural_behind, tenths_in}
 pub use Rattle.rank_query.specs.WordValues.{two_numbers}
 unfoldable pub use Rattle.rank_query.specs.WordValues.{code, date, degrees, element, heat, months, number}
 pub use Rattle.rank_query.specs.Words.{Word, is_separator, numbered_words, words_of}

@@ -2,8 +2,9 @@
 use Rattle.rank_query.proofs.Cited.{◌≡◌, ℕ, true, false, [], ◌∷◌, ◌++◌, refl, inl, inr, Some, None, Ok, Err, replicate}
 use Rattle.rank_query.proofs.Cited.{codes, arith, pos, neg_ℤ, ℤ, map, repeat, ints, days_from_civil, day_count}
 use Rattle.rank_query.proofs.Cited.{days_of_years, days_of_months, year_and_rest, month_and_day, Tmax, Tmin, Prcp}
-use Rattle.rank_query.proofs.Cited.{Score, Highest, Lowest, Sum, Dry, Wet, Hot, Region, Everywhere, Inside, Country}
+use Rattle.rank_query.proofs.Cited.{Score, Highest, Lowest, Sum, Dry, Wet, Hot, Region, Inside, Country}
 use Rattle.rank_query.proofs.Cited.{State, Only, QueryTooLong, UnexpectedWord, QueryEnds, OutOfLimits, BadDate, BadBox}
+use Rattle.rank_query.specs.Asked.{top}
 use Rattle.rank_query.proofs.Cited.{EmptyPeriod, Asked, query_text, words_of, says, keyword, number, element, heat}
 use Rattle.rank_query.proofs.Cited.{months, degrees, code, date, edge, place_behind, BeginQuery, EndsTooEarly, StandsIn}
 use Rattle.rank_query.proofs.Cited.{sum_at, no_score_at, score_at, box_at, region_at, season_at, days_at, period_at}
@@ -17,11 +18,7 @@ use Rattle.rank_query.proofs.FaultPlaces.{fault_stands, one_place}
 
 -- a query of a region and all days
 abbrev asked_in : Region → ℕ → Score → Asked
-asked_in r k s = record { k = k; score = s; region = r; season = None; period = None }
-
--- a query of all stations and days
-abbrev asked : ℕ → Score → Asked
-asked k s = asked_in Everywhere k s
+asked_in r k s = record (top k s) { region = r }
 
 -- the words of a text, whatever the blanks
 words : words_of (codes "  top 007  highest TMAX ") ≡ codes "top" ∷ codes "007" ∷ codes "highest" ∷ codes "TMAX" ∷ []
@@ -35,8 +32,8 @@ unfolding read_query read_words keyword says number score_at no_score_at region_
 no_blanks = (refl, refl, refl)
 
 -- texts that are read
-read : (read_query (codes "top 1000 highest TMAX") ≡ Ok (asked 1000 (Highest Tmax)))
-    × (read_query (codes " top  0001 highest   PRCP ") ≡ Ok (asked 1 (Highest Prcp)))
+read : (read_query (codes "top 1000 highest TMAX") ≡ Ok (top 1000 (Highest Tmax)))
+    × (read_query (codes " top  0001 highest   PRCP ") ≡ Ok (top 1 (Highest Prcp)))
 unfolding read_query read_words keyword says number element score_at no_score_at region_at season_at period_at
 read = (refl, refl)
 
@@ -62,9 +59,9 @@ unfolding read_query read_words keyword says number element score_at no_score_at
 unexpected = (refl, refl, refl, refl)
 
 -- the other scores
-scores : (read_query (codes "top 2 lowest TMIN") ≡ Ok (asked 2 (Lowest Tmin)))
-    × (read_query (codes "top 1 sum 366 PRCP") ≡ Ok (asked 1 (Sum 366 Prcp)))
-    × (read_query (codes "top  007 wet") ≡ Ok (asked 7 Wet)) × (read_query (codes "top 3 dry ") ≡ Ok (asked 3 Dry))
+scores : (read_query (codes "top 2 lowest TMIN") ≡ Ok (top 2 (Lowest Tmin)))
+    × (read_query (codes "top 1 sum 366 PRCP") ≡ Ok (top 1 (Sum 366 Prcp)))
+    × (read_query (codes "top  007 wet") ≡ Ok (top 7 Wet)) × (read_query (codes "top 3 dry ") ≡ Ok (top 3 Dry))
 unfolding read_query read_words keyword says number element score_at sum_at no_score_at region_at season_at period_at
 scores = (refl, refl, refl, refl)
 
@@ -163,10 +160,10 @@ unfolding read_query read_words keyword says number element score_at no_score_at
 codes_read = (refl, refl, refl, refl)
 
 -- degrees, with a minus or without, and with one decimal at most
-heats_read : (read_query (codes "top 2 hot 30") ≡ Ok (asked 2 (Hot (pos 300))))
-    × (read_query (codes "top 1 hot -0") ≡ Ok (asked 1 (Hot (pos 0))))
-    × (read_query (codes "top 1 hot -00.5") ≡ Ok (asked 1 (Hot (neg_ℤ (pos 5)))))
-    × (read_query (codes "top 1 hot 100.0") ≡ Ok (asked 1 (Hot (pos 1_000))))
+heats_read : (read_query (codes "top 2 hot 30") ≡ Ok (top 2 (Hot (pos 300))))
+    × (read_query (codes "top 1 hot -0") ≡ Ok (top 1 (Hot (pos 0))))
+    × (read_query (codes "top 1 hot -00.5") ≡ Ok (top 1 (Hot (neg_ℤ (pos 5)))))
+    × (read_query (codes "top 1 hot 100.0") ≡ Ok (top 1 (Hot (pos 1_000))))
 unfolding read_query read_words keyword says number heat score_at no_score_at region_at season_at period_at
 heats_read = (refl, refl, refl, refl)
 
@@ -182,7 +179,7 @@ heats_refused = (refl, refl, refl, refl, refl, refl, refl)
 
 -- dry days of some months
 abbrev dry_in : ℕ × ℕ → Asked
-dry_in s = record { k = 1; score = Dry; region = Everywhere; season = Some s; period = None }
+dry_in s = record (top 1 Dry) { season = Some s }
 
 -- seasons, of one year or over its turn
 seasons_read : (read_query (codes "top 1 dry months 6..6") ≡ Ok (dry_in (6, 6)))
@@ -211,7 +208,7 @@ dates_refused = (refl, refl, refl)
 
 -- dry days of a period
 abbrev dry_from : ℤ → ℤ → Asked
-dry_from first last = record { k = 1; score = Dry; region = Everywhere; season = None; period = Some (first, last) }
+dry_from first last = record (top 1 Dry) { period = Some (first, last) }
 
 -- a period from a day to itself, one that ends before it begins, told before a word too many, and a word too many
 periods : (read_query (codes "top 1 dry from 2020-07-01 to 2020-07-01") ≡ Ok (dry_from (pos 18444) (pos 18444)))
@@ -292,7 +289,7 @@ places = (
 -- words that begin a query, since TMAX can follow
 begun : BeginQuery (codes "top" ∷ codes "007" ∷ codes "lowest" ∷ [])
 begun = record {
-  query = asked 7 (Lowest Tmax);
+  query = top 7 (Lowest Tmax);
   can_be_asked = record { k = refl; score = refl; region = refl; season = refl; period = refl };
   more = codes "TMAX" ∷ [];
   spelt = (refl, (record { some_digit = omega arith; digits_alone = refl; value = refl }, (refl, (refl, tt))));
@@ -324,12 +321,12 @@ too_early =
     }
 
 -- canonical texts
-canonical_texts : (query_text (asked 1000 (Highest Tmax)) ≡ codes "top 1000 highest TMAX")
-    × (query_text (asked 2 (Lowest Tmin)) ≡ codes "top 2 lowest TMIN")
-    × (query_text (asked 5 (Sum 3 Prcp)) ≡ codes "top 5 sum 3 PRCP") × (query_text (asked 3 Dry) ≡ codes "top 3 dry")
-    × (query_text (asked 7 Wet) ≡ codes "top 7 wet") × (query_text (asked 1 (Hot (pos 0))) ≡ codes "top 1 hot 0.0")
-    × (query_text (asked 2 (Hot (neg_ℤ (pos 5)))) ≡ codes "top 2 hot -0.5")
-    × (query_text (asked 2 (Hot (pos 300))) ≡ codes "top 2 hot 30.0")
+canonical_texts : (query_text (top 1000 (Highest Tmax)) ≡ codes "top 1000 highest TMAX")
+    × (query_text (top 2 (Lowest Tmin)) ≡ codes "top 2 lowest TMIN")
+    × (query_text (top 5 (Sum 3 Prcp)) ≡ codes "top 5 sum 3 PRCP") × (query_text (top 3 Dry) ≡ codes "top 3 dry")
+    × (query_text (top 7 Wet) ≡ codes "top 7 wet") × (query_text (top 1 (Hot (pos 0))) ≡ codes "top 1 hot 0.0")
+    × (query_text (top 2 (Hot (neg_ℤ (pos 5)))) ≡ codes "top 2 hot -0.5")
+    × (query_text (top 2 (Hot (pos 300))) ≡ codes "top 2 hot 30.0")
 unfolding digits
 canonical_texts = (refl, refl, refl, refl, refl, refl, refl, refl)
 
@@ -428,7 +425,7 @@ days : map (λ day. admits_day (dry_from (pos 18444) (pos 18445)) day)
 days = refl
 
 -- without a period each day of the years 1 to 9999 does
-all_days : map (λ day. admits_day (asked 1 Dry) day)
+all_days : map (λ day. admits_day (top 1 Dry) day)
     (neg_ℤ (pos 719_163) ∷ neg_ℤ (pos 719_162) ∷ pos 2_932_896 ∷ pos 2_932_897 ∷ []) ≡ false ∷ true ∷ true ∷ false ∷ []
 all_days = refl
 

@@ -9,7 +9,7 @@ use Rattle.rank_query.proofs.Cited.{Score, Highest, Lowest, Sum, Dry, Wet, Hot, 
 use Rattle.rank_query.proofs.Cited.{State, Only, QueryFault, QueryTooLong, UnexpectedWord, QueryEnds, OutOfLimits}
 use Rattle.rank_query.proofs.Cited.{BadDate, BadBox, EmptyPeriod, Asked, is_temperature, is_fall, is_heat, is_month}
 use Rattle.rank_query.proofs.Cited.{is_code, Word, says, words_of, numbered_words, ◌>>=◌, Read, keyword, one_word}
-use Rattle.rank_query.proofs.Cited.{made_into, by_word, number, element, heat, months, degrees, code, date, tenths_of}
+use Rattle.rank_query.proofs.Cited.{made_into, by_word, number, element, heat, months, degrees, code, date, tenths_in}
 use Rattle.rank_query.proofs.Cited.{two_numbers, no_score_at, sum_at, hot_at}
 use Rattle.rank_query.proofs.Cited.{score_at, box_at, everywhere_at, region_at}
 use Rattle.rank_query.proofs.Cited.{months_at, all_year_at, season_at, days_at, between_at, always_at, period_at}
@@ -237,7 +237,7 @@ sum_row = λ past ws g fault e next.
 -- degrees from which on a day is hot
 hot_row : Row Score (codes "hot") hot_at
 unfolding heat
-hot_row = made_row (codes "hot") heat Hot (λ past. limited_kind tenths_of is_heat (codes "hot" ∷ past) (λ word. refl))
+hot_row = made_row (codes "hot") heat Hot (λ past. limited_kind tenths_in is_heat (codes "hot" ∷ past) (λ word. refl))
     (λ past w t is. settled_word w.1 (codes "hot" ∷ past) (heat_no_keyword w t is) refl refl)
 
 -- a word alone

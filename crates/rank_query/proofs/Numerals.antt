@@ -5,7 +5,7 @@ use Rattle.rank_query.proofs.Cited.{inl, inr, ◌==◌, ℤ, pos, neg_ℤ, list_
 use Rattle.rank_query.proofs.Cited.{option_map, is_ascii_digit, digit_value, digits_value, nat_tests}
 use Rattle.rank_query.proofs.Cited.{false_from_ne_true, cases_Bool, ints, drop_all, position_or_len_is, cond_some}
 use Rattle.rank_query.proofs.Cited.{IsFirstByte, is_byte, natural, joined, decimal_number, with_sign, signed_by}
-use Rattle.rank_query.proofs.Cited.{OutOfLimits, is_heat, heat, tenths_of, is_point}
+use Rattle.rank_query.proofs.Cited.{OutOfLimits, is_heat, heat, tenths_in, is_point}
 use Rattle.rank_query.proofs.Cited.{two_numbers, both_numbers, natural_behind}
 use Rattle.std.proofs.lemmas.Int.Digits.{digits_value_more}
 use Rattle.rank_query.proofs.ReadingSteps.{tested_again}
@@ -68,7 +68,7 @@ sign-kept false (Some n) t e =
 
 -- and with a minus or without one
 signed-kept : (word : List ℕ) (t : ℤ) → signed_by (λ ds. option_map (min 1001) (decimal_number 1 ds)) word ≡ Some t
-    → IsKept (tenths_of word) t
+    → IsKept (tenths_in word) t
 signed-kept [] t e = cc
 signed-kept (b ∷ bytes) t e = elim (cases_Bool (b == 45)) [
   | inl minus ↦ let found = rw minus at e in rw minus (sign-kept true (decimal_number 1 bytes) t found)
@@ -82,7 +82,7 @@ pub heat-kept : (at : ℕ) (word : List ℕ) (t : ℤ)
 unfolding heat
 heat-kept at word t e inside =
     let kept = signed-kept word t e in
-    tested_again tenths_of is_heat OutOfLimits at word t (kept.is ∙ ap (λ (z : ℤ). Some z) (kept.same inside)) inside
+    tested_again tenths_in is_heat OutOfLimits at word t (kept.is ∙ ap (λ (z : ℤ). Some z) (kept.same inside)) inside
 
 -- and is out of them where it isn't
 pub heat-past : (at : ℕ) (word : List ℕ) (t : ℤ)

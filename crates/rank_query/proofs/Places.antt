@@ -4,9 +4,9 @@ use Rattle.rank_query.proofs.Cited.{Err, codes, refl, sym, ap, subst, is_some, �
 use Rattle.rank_query.proofs.Cited.{Blank, Number, Bad, same_bytes, read_date, scaled_field, Element, Prcp, Snow, Snwd}
 use Rattle.rank_query.proofs.Cited.{Tmax, Tmin, code_of, is_number_within, number_of, QueryFault, UnexpectedWord}
 use Rattle.rank_query.proofs.Cited.{BadDate, BadBox, is_code, Word, number, element, heat, months, degrees, code, date}
-use Rattle.rank_query.proofs.Cited.{edge, other, is_number, is_decimal, is_date, is_behind_box, is_behind_first_day}
+use Rattle.rank_query.proofs.Cited.{edge, other, is_number, is_decimal, is_date_word, is_behind_box, is_behind_first_day}
 use Rattle.rank_query.proofs.Cited.{place_behind}
-use Rattle.ghcn_fields.proofs.Ordered.{each-weaker}
+use Rattle.ghcn_files.proofs.Ordered.{each-weaker}
 use Rattle.rank_query.proofs.ReadingSteps.{or_fault_ok}
 use Rattle.rank_query.proofs.WordValues.{element_code}
 
@@ -121,6 +121,6 @@ unfolding degrees
 degrees_decimal low high w z e = field_is_number low high z (scaled_field 4 w.1) (BadBox w.0) e
 
 -- a word that is read as a day is a date
-pub day_date : (w : Word) (day : ℤ) → date w ≡ Ok day → is_date w.1 ≡ true
+pub day_date : (w : Word) (day : ℤ) → date w ≡ Ok day → is_date_word w.1 ≡ true
 unfolding date
 day_date w day e = ap is_some (or_fault_ok (BadDate w.0) (read_date w.1) day e)

@@ -4,7 +4,7 @@ use Rattle.rank_query.proofs.Cited.{refl, ap, subst, ℤ, pos, neg_ℤ, int_le, 
 use Rattle.rank_query.proofs.Cited.{is_day, date_text, read_date, natural, scaled_field, Element, code_of, element_of}
 use Rattle.rank_query.proofs.Cited.{is_number_within, number_of, QueryFault, UnexpectedWord, OutOfLimits, BadDate}
 use Rattle.rank_query.proofs.Cited.{BadBox, is_code, is_heat, is_month, Word, number, element, heat}
-use Rattle.rank_query.proofs.Cited.{months, degrees, code, date, tenths_of, two_numbers, latitude_from, longitude}
+use Rattle.rank_query.proofs.Cited.{months, degrees, code, date, tenths_in, two_numbers, latitude_from, longitude}
 use Rattle.rank_query.proofs.OneWords.{HasNoBlank}
 use Rattle.rank_query.proofs.ReadingSteps.{test_ok, test_err, or_fault_err, tested, tested_ok, tested_err}
 use Rattle.rank_query.proofs.WordValues.{is_longitude, code_element, date_day, written_date}
@@ -47,7 +47,7 @@ reads_number low high one = reads_tested natural (is_within low high) OutOfLimit
 -- degrees from which on a day is hot
 pub reads_heat : ReadsWord ℤ (λ t. is_heat t ≡ true) heat
 unfolding heat
-reads_heat = reads_tested tenths_of is_heat OutOfLimits (codes "0") (pos 0) refl (λ w. refl) refl
+reads_heat = reads_tested tenths_in is_heat OutOfLimits (codes "0") (pos 0) refl (λ w. refl) refl
 
 -- the months of a season
 pub reads_months : ReadsWord (ℕ × ℕ) (λ s. (is_month s.0 && is_month s.1) ≡ true) months

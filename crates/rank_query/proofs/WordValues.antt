@@ -1,20 +1,21 @@
 -- What a single word is read as spells it, and what spells a value is read as it.
 use Rattle.rank_query.proofs.Cited.{◌≡◌, ℕ, zero, suc, ◌+◌, ◌<◌, Bool, true, false, cond, ◌&&◌, List, [], ◌∷◌, ◌++◌}
-use Rattle.rank_query.proofs.Cited.{length, rules, take, drop, get_or, replicate, Option, Some, None, Ok, Err, refl}
+use Rattle.rank_query.proofs.Cited.{length, take, drop, get_or, replicate, Option, Some, None, Ok, Err, refl}
 use Rattle.rank_query.proofs.Cited.{sym, ap, ◌∙◌, subst, FitsSigned, w32, arith, length-drop, ℤ, pos, neg_ℤ, int_le}
-use Rattle.rank_query.proofs.Cited.{find, list_all, cases_Bool, inl, inr}
+use Rattle.rank_query.proofs.Cited.{list_all, cases_Bool, inl, inr}
 use Rattle.rank_query.proofs.Cited.{before_first, after_first, position_or_len, is_ascii_digit, digits_value}
 use Rattle.rank_query.proofs.Cited.{bytes_decides, and_parts, nat_tests, split_at_first, passes_at_first, cond_some}
 use Rattle.rank_query.proofs.Cited.{Field, Blank, Number, Bad, same_bytes, is_within, is_day, date_text, read_date}
 use Rattle.rank_query.proofs.Cited.{Spells, natural, scaled_field, Element, Prcp, Snow, Snwd, Tmax, Tmin, code_of}
 use Rattle.rank_query.proofs.Cited.{element_of, elements, is_number_within, number_of, UnexpectedWord, OutOfLimits}
 use Rattle.rank_query.proofs.Cited.{BadDate, BadBox, is_code, is_heat, is_month, Word, or_fault, number, element, heat}
-use Rattle.rank_query.proofs.Cited.{months, degrees, code, date, tenths_of, two_numbers, is_point, natural_behind}
+use Rattle.rank_query.proofs.Cited.{months, degrees, code, date, tenths_in, two_numbers, is_point, natural_behind}
 use Rattle.rank_query.proofs.Cited.{both_numbers, IsNumeralOf, Months, SpellsWord}
 use Rattle.std.proofs.Math.Seq.{take-append_seam, drop-append-add}
 use Rattle.ghcn_fields.proofs.DateTexts.{read_date-law}
 use Rattle.ghcn_fields.proofs.DecimalTexts.{spells-from_signed, signed-from_spells}
 use Rattle.ghcn_fields.proofs.FieldNumbers.{scaled_field-number}
+use Rattle.ghcn_files.proofs.Ordered.{found_in}
 use Rattle.rank_query.proofs.OneWords.{stands_in_word, HasNoBlank}
 use Rattle.rank_query.proofs.ReadingSteps.{test_ok, or_fault_ok, tested_ok, tested_again}
 
@@ -46,13 +47,13 @@ numeral_number low high n at digits inside numeral =
 -- a word that is read as a number of degrees spells its tenths
 pub heat_spelt : (w : Word) (t : ℤ) → heat w ≡ Ok t → Spells 1 w.1 t
 unfolding heat
-heat_spelt w t e = spells-from_signed 1 w.1 t (tested_ok tenths_of is_heat OutOfLimits w t e).0
+heat_spelt w t e = spells-from_signed 1 w.1 t (tested_ok tenths_in is_heat OutOfLimits w t e).0
 
 -- what spells tenths within the limits is read as them
 pub spelt_heat : (t : ℤ) (at : ℕ) (text : List ℕ) → is_heat t ≡ true → Spells 1 text t → heat (at, text) ≡ Ok t
 unfolding heat
 spelt_heat t at text inside spells =
-    tested_again tenths_of is_heat OutOfLimits at text t (signed-from_spells 1 text t spells) inside
+    tested_again tenths_in is_heat OutOfLimits at text t (signed-from_spells 1 text t spells) inside
 
 -- a point is the byte 46
 point_is : (b : ℕ) → is_point b ≡ true → b ≡ 46
@@ -130,20 +131,12 @@ unfolding months
 joined_months s at word inside joins = tested_again two_numbers (λ v. is_month v.0 && is_month v.1) OutOfLimits at word
     s (joined_two word s.0 s.1 joins) inside
 
--- what is found passes the test
-found_passes : {A : Type 0} (p : A → Bool) (xs : List A) (x : A) → find p xs ≡ Some x → p x ≡ true
-found_passes p [] x e = absurd cc
-found_passes p (y ∷ ys) x e = elim (p y) as (λ b. p y ≡ b → cond b (Some y) (find p ys) ≡ Some x → p x ≡ true) [
-  | true ↦ search rules
-  | false ↦ λ fails later. found_passes p ys x later
-] refl e
-
 -- a word that is read as an element is its code
 pub element_code : (allows : Element → Bool) (w : Word) (e : Element) → element allows w ≡ Ok e → w.1 ≡ code_of e
 unfolding element
 element_code allows w e read =
     let found : element_of w.1 ≡ Some e = (tested_ok element_of allows UnexpectedWord w e read).0 in
-    sym ((bytes_decides (code_of e) w.1).0 (found_passes (λ e. same_bytes (code_of e) w.1) elements e found))
+    sym ((bytes_decides (code_of e) w.1).0 (found_in (λ e. same_bytes (code_of e) w.1) elements e found).1)
 
 -- an element is found by its code
 code_found : (e : Element) → element_of (code_of e) ≡ Some e

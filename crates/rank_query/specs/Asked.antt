@@ -20,6 +20,10 @@ pub record Asked : Type 0 where
   pub season : Option (ℕ × ℕ)
   pub period : Option (ℤ × ℤ)
 
+-- the first k by a score, everywhere and always
+abbrev pub top : ℕ → Score → Asked
+top k score = record { k = k; score = score; region = Everywhere; season = None; period = None }
+
 -- the element that a score is about
 abbrev pub score_element : Score → Element
 score_element (Highest e) = e

@@ -6,7 +6,7 @@ use Rattle.ghcn_fields.specs.declared.field.Field.TheVariants.{Blank, Number, Ba
 use Rattle.ghcn_fields.specs.Bytes.{same_bytes}
 use Rattle.ghcn_fields.specs.Dates.{read_date}
 use Rattle.ghcn_fields.specs.Numbers.{natural, scaled_field}
-use Rattle.rank_query.specs.WordValues.{tenths_of, two_numbers}
+use Rattle.rank_query.specs.WordValues.{tenths_in, two_numbers}
 use Rattle.rank_query.specs.declared.fault.QueryFault.{QueryFault}
 use Rattle.rank_query.specs.declared.fault.QueryFault.TheVariants.{QueryTooLong, UnexpectedWord, QueryEnds}
 use Rattle.rank_query.specs.declared.fault.QueryFault.TheVariants.{OutOfLimits, BadDate, BadBox, EmptyPeriod}
@@ -27,7 +27,7 @@ is_digits word = is_some (natural word)
 
 -- the word is a number with one decimal at most
 abbrev pub is_tenths : List ℕ → Bool
-is_tenths word = is_some (tenths_of word)
+is_tenths word = is_some (tenths_in word)
 
 -- the word is two numbers with two points between them
 abbrev pub are_two : List ℕ → Bool
@@ -53,13 +53,13 @@ abbrev pub is_decimal : List ℕ → Bool
 is_decimal word = is_number (scaled_field 4 word)
 
 -- the word is the date of a day
-abbrev pub is_date : List ℕ → Bool
-is_date word = is_some (read_date word)
+abbrev pub is_date_word : List ℕ → Bool
+is_date_word word = is_some (read_date word)
 
 -- the nearest of some words is this one; of the words behind which a word stands the nearest always comes first
-abbrev pub is_behind : List ℕ → List (List ℕ) → Bool
-is_behind text [] = false
-is_behind text (w ∷ past) = same_bytes w text
+abbrev pub is_next_behind : List ℕ → List (List ℕ) → Bool
+is_next_behind text [] = false
+is_next_behind text (w ∷ past) = same_bytes w text
 
 -- they are "box" and at most so many numbers behind it, and any words before
 abbrev pub is_behind_box : ℕ → List (List ℕ) → Bool
@@ -70,7 +70,7 @@ is_behind_box (suc n) (w ∷ past) = same_bytes w (codes "box") || (is_decimal w
 -- they are "from" and a date, and any words before
 abbrev pub is_behind_first_day : List (List ℕ) → Bool
 is_behind_first_day [] = false
-is_behind_first_day (w ∷ past) = is_date w && is_behind (codes "from") past
+is_behind_first_day (w ∷ past) = is_date_word w && is_next_behind (codes "from") past
 
 -- they are "from", or "from", a date and "to", and any words before
 abbrev pub is_behind_from : List (List ℕ) → Bool
@@ -82,9 +82,9 @@ is_behind_from (w ∷ past) = same_bytes w (codes "from") || (same_bytes w (code
 abbrev pub place_behind : List (List ℕ) → Place
 place_behind past =
     if is_behind_box 3 past then edge
-    else if is_behind (codes "top") past || is_behind (codes "sum") past then number
-    else if is_behind (codes "hot") past then heat
-    else if is_behind (codes "months") past then season
+    else if is_next_behind (codes "top") past || is_next_behind (codes "sum") past then number
+    else if is_next_behind (codes "hot") past then heat
+    else if is_next_behind (codes "months") past then season
     else if is_behind_from past then date
     else other
 
@@ -95,9 +95,9 @@ IsFaultOf (UnexpectedWord n) past word =
     (n ≡ length past + 1) × ((place_behind past ≡ other) ⊎ (has_form (place_behind past) word ≡ Some false))
 IsFaultOf QueryEnds past word = ⊥
 IsFaultOf (OutOfLimits n) past word = (n ≡ length past + 1) × (has_form (place_behind past) word ≡ Some true)
-IsFaultOf (BadDate n) past word = (n ≡ length past + 1) × (place_behind past ≡ date) × (is_date word ≡ false)
+IsFaultOf (BadDate n) past word = (n ≡ length past + 1) × (place_behind past ≡ date) × (is_date_word word ≡ false)
 IsFaultOf (BadBox n) past word = (n ≡ length past + 1) × (place_behind past ≡ edge)
-IsFaultOf EmptyPeriod past word = (place_behind past ≡ date) × (is_date word ≡ true)
+IsFaultOf EmptyPeriod past word = (place_behind past ≡ date) × (is_date_word word ≡ true)
 
 -- a fault of words is that of one of them
 abbrev pub IsFaultAmong : QueryFault → List (List ℕ) → Type 0

@@ -32,8 +32,8 @@ degrees low high w =
     if is_number_within low high (scaled_field 4 w.1) then Ok (number_of (scaled_field 4 w.1)) else Err (BadBox w.0)
 
 -- so many tenths, as a number with one decimal at most writes them
-abbrev pub tenths_of : List ℕ → Option ℤ
-tenths_of word = signed_by (decimal_number 1) word
+abbrev pub tenths_in : List ℕ → Option ℤ
+tenths_in word = signed_by (decimal_number 1) word
 
 -- a number of tenths of a degree from which on a day can be called hot
 abbrev pub is_heat : ℤ → Bool
@@ -42,7 +42,7 @@ is_heat t = is_score (Hot t)
 -- a number of degrees from which on a day is hot, in tenths, within its limits
 unfoldable pub heat : Word → Result ℤ QueryFault
 heat w = do
-  t ← or_fault (UnexpectedWord w.0) (tenths_of w.1)
+  t ← or_fault (UnexpectedWord w.0) (tenths_in w.1)
   if is_heat t then Ok t else Err (OutOfLimits w.0)
 
 -- a point

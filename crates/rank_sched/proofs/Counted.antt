@@ -5,7 +5,7 @@ use Rattle.std.specs.Prelude.{count_by, sum_by}
 use Rattle.std.specs.List.{flat_map, list_all}
 use Rattle.std.proofs.lemmas.List.{length-map}
 use Rattle.std.proofs.lemmas.List.Sums.{sum_by-cons, sum_by-append}
-use Rattle.ghcn_fields.specs.CountingLaws.{length-each_below}
+use Rattle.ghcn_fields.proofs.CountingLaws.{length-each_below}
 use Rattle.rank_sched.specs.declared.event.Event.{Event}
 use Rattle.rank_sched.specs.declared.turn.Turn.{Turn}
 use Rattle.rank_sched.specs.Task.{Task}

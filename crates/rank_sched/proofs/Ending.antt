@@ -8,7 +8,7 @@ use Rattle.std.proofs.Math.Seq.{take-nil}
 use Rattle.std.proofs.lemmas.List.{get_or_read, get_or-set_same, get_or-set_other, length-set}
 use Rattle.std.proofs.lemmas.List.Elements.{All-head, All-tail}
 use Rattle.ghcn_fields.specs.Counting.{HasEachBelow}
-use Rattle.ghcn_fields.specs.CountingLaws.{all_below}
+use Rattle.ghcn_fields.proofs.CountingLaws.{all_below}
 use Rattle.rank_scores.specs.declared.candidate.Candidate.{Candidate}
 use Rattle.rank_scores.specs.Order.{is_below, best}
 use Rattle.rank_pool.specs.Pools.{Pooled, empty_pool, taken, HoldsFirst, last_score}

@@ -7,14 +7,14 @@ use Rattle.std.specs.List.{flat_map, list_all, AllByRecursion, AllZip}
 use Rattle.std.proofs.lemmas.List.{map-append}
 use Rattle.std.proofs.lemmas.List.Elements.{All-from_recursion, All-append, All-nil}
 use Rattle.ghcn_fields.specs.Counting.{times, times_below, HasEachBelow}
-use Rattle.ghcn_fields.specs.CountingLaws.{times_below-yes, all_below, length-each_below, times-none_below}
+use Rattle.ghcn_fields.proofs.CountingLaws.{times_below-yes, all_below, length-each_below, times-none_below}
 use Rattle.rank_sched.specs.declared.record.Record.{Record}
 use Rattle.rank_sched.specs.declared.haul.Haul.{Haul}
 use Rattle.rank_sched.specs.declared.turn.Turn.{Turn}
 use Rattle.rank_sched.specs.Task.{Task}
 use Rattle.rank_sched.specs.Exchanges.{Exchange, morsels_of, exchanges, SeeUpward}
 use Rattle.rank_sched.specs.Machine.{Worker, State, has_stopped, all_stopped}
-use Rattle.rank_sched.specs.SoundRun.{Rise, unsettled, IsTurnOf, open_exchange, exchanges_of, all_exchanges}
+use Rattle.rank_sched.specs.SoundRun.{NumbersRise, unsettled, IsTurnOf, open_exchange, exchanges_of, all_exchanges}
 use Rattle.rank_sched.specs.SoundRun.{AreSoundFrom, IsSoundState, IsSoundEnd}
 use Rattle.rank_sched.specs.Hauls.{records_of, all_records, exchanges_in, turns_of, AreHaulsFrom}
 use Rattle.rank_sched.specs.Laws.{EndsAreSound}
@@ -160,7 +160,7 @@ module _ (t : Task) (guess : Option ℤ) where
   haul_turns hs vs a = absurd a
 
   -- what rises does so up to any place
-  pub rise_front : (xs ys : List ℕ) → Rise (xs ++ ys) → Rise xs
+  pub rise_front : (xs ys : List ℕ) → NumbersRise (xs ++ ys) → NumbersRise xs
   rise_front [] ys h = tt
   rise_front (x ∷ xs) ys h = (front xs ys h.0, rise_front xs ys h.1)
     where

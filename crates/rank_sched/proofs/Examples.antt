@@ -8,8 +8,7 @@ use Rattle.ghcn_files.specs.declared.element.Element.TheVariants.{Tmax}
 use Rattle.ghcn_files.specs.StationLines.{station_of}
 use Rattle.ghcn_series.specs.Series.{DayValue, Usable, Contents}
 use Rattle.rank_query.specs.declared.score.Score.TheVariants.{Highest}
-use Rattle.rank_query.specs.declared.region.Region.TheVariants.{Everywhere}
-use Rattle.rank_query.specs.Asked.{Asked}
+use Rattle.rank_query.specs.Asked.{Asked, top}
 use Rattle.rank_scores.specs.Morsels.{best_of_query}
 use Rattle.rank_sched.specs.declared.record.Record.{Record}
 use Rattle.rank_sched.specs.declared.line.Line.{Line}
@@ -62,8 +61,8 @@ of_three x y z = record {
 }
 
 -- two stations that reached 31.1 degrees on one day, and one that reached 25.0
-abbrev pub held : Contents
-held = record {
+abbrev pub dataset : Contents
+dataset = record {
   stations = alpha ∷ bravo ∷ charlie ∷ [];
   series = warm a ((pos 18444, pos 311) ∷ (pos 18445, pos 305) ∷ []) ∷ warm b ((pos 18444, pos 311) ∷ []) ∷ warm c
       ((pos 18444, pos 250) ∷ []) ∷ [];
@@ -76,11 +75,11 @@ nothing = record { stations = alpha ∷ []; series = []; unlisted = 0 }
 
 -- the k highest temperatures, anywhere and at any time
 abbrev pub ask : ℕ → Asked
-ask k = record { k = k; score = Highest Tmax; region = Everywhere; season = None; period = None }
+ask k = top k (Highest Tmax)
 
 -- the highest k of the three stations
 abbrev pub plan : ℕ → Planned
-plan k = planned (ask k) held
+plan k = planned (ask k) dataset
 
 -- ---- plans
 
@@ -94,7 +93,7 @@ bounds p = map (λ (m : Morsel). m.bound) p.morsels
 
 -- ties by ID
 by_id : (ids (plan 1) ≡ a ∷ b ∷ c ∷ []) × (bounds (plan 1) ≡ pos 311 ∷ pos 311 ∷ pos 250 ∷ []) ×
-    (measures (ask 1) held ≡ Some (pos 311) ∷ Some (pos 311) ∷ Some (pos 250) ∷ [])
+    (measures (ask 1) dataset ≡ Some (pos 311) ∷ Some (pos 311) ∷ Some (pos 250) ∷ [])
 unfolding ids bounds
 by_id = (refl, refl, refl)
 
@@ -111,7 +110,7 @@ unfolding ids
 none_there = (refl, refl)
 
 -- the best of the plan's candidates are the query's
-best_there : (best_of_plan (plan 2) ≡ best_of_query (ask 2) held) ×
+best_there : (best_of_plan (plan 2) ≡ best_of_query (ask 2) dataset) ×
     (best_of_plan (planned (ask 2) (of_three (pos 250) (pos 311) (pos 300))) ≡ best_of_query (ask 2)
     (of_three (pos 250) (pos 311) (pos 300)))
 best_there = (refl, refl)

@@ -1,34 +1,29 @@
 -- What is true of every plan's task.
-use Rattle.std.proofs.Common.{rules, ◌≡◌, ℕ, zero, suc, ◌<◌, ◌≤◌, Bool, true, false, cond, List, [], ◌∷◌, length, map}
+use Rattle.std.proofs.Common.{rules, ◌≡◌, ℕ, zero, suc, ◌<◌, ◌≤◌, true, List, [], ◌∷◌, length, map, filter}
 use Rattle.std.proofs.Common.{Option, Some, None, refl, arith, pos, ◌≤ℤ◌}
-use Rattle.std.proofs.lemmas.Grind.{common_steps}
 use Rattle.std.specs.Prelude.{slice_get}
-use Rattle.std.specs.List.{filter_map, cons_option, AllByRecursion}
-use Rattle.std.specs.List.Sorted.{IsPermutation}
-use Rattle.std.specs.Option.{option_map, option_map_or}
+use Rattle.std.specs.List.{AllByRecursion}
+use Rattle.std.specs.Option.{option_map_or}
 use Rattle.std.proofs.lemmas.Int.{ints}
-use Rattle.std.proofs.lemmas.List.Elements.{recursion_from_All}
+use Rattle.std.proofs.lemmas.List.Elements.{recursion_from_All, All-from_recursion}
 use Rattle.std.proofs.lemmas.List.Sorted.{All-permutation, IsPermutation-trans}
 use Rattle.ghcn_fields.specs.Floor.{IsScore}
-use Rattle.ghcn_fields.specs.Sorting.{sorted_by}
-use Rattle.ghcn_files.specs.declared.station.Station.{Station}
-use Rattle.ghcn_series.specs.Series.{Usable, Contents, series_of}
+use Rattle.ghcn_series.specs.Series.{Usable, Contents}
 use Rattle.ghcn_series.specs.Held.{IsContents}
-use Rattle.rank_query.specs.Asked.{Asked, score_element}
-use Rattle.rank_query.specs.Admits.{admits_station}
+use Rattle.rank_query.specs.Asked.{Asked}
 use Rattle.rank_scores.specs.Candidates.{candidates}
-use Rattle.rank_scores.specs.Morsels.{has_admitted, morsels, all_candidates}
+use Rattle.rank_scores.specs.Morsels.{has_admitted, admitted_series, morsels, all_candidates, IsAskedOf}
 use Rattle.rank_scores.specs.Order.{AreApart}
-use Rattle.rank_blocks.specs.Bounds.{bound, IsAskedOf}
+use Rattle.rank_blocks.specs.Bounds.{bound}
 use Rattle.rank_blocks.proofs.Computed.{computed-IsBound}
 use Rattle.rank_blocks.proofs.BoundsMet.{bound-above}
-use Rattle.rank_sched.specs.Plan.{Morsel, Planned, measured, is_drawn_first, planned, AreDrawnInTurn, IsPlan, passing}
-use Rattle.rank_sched.specs.Plan.{morsel_at}
+use Rattle.rank_sched.specs.Plan.{Morsel, Planned, measured, is_drawn_first, planned, AreDrawnInTurn, IsPlan}
 use Rattle.rank_sched.specs.Task.{task_of, all_of_task}
 use Rattle.rank_sched.specs.Laws.{PlansAreFair}
 use Rattle.rank_scores.proofs.QueryCandidates.{all_apart}
-use Rattle.rank_sched.proofs.PlanBest.{found, plan_alike, apart_alike}
-use Rattle.ghcn_fields.proofs.Ordered.{sorted-permutation}
+use Rattle.rank_scores.proofs.QueryMorsels.{morsels_asked}
+use Rattle.rank_sched.proofs.PlanBest.{plan_alike, apart_alike}
+use Rattle.ghcn_files.proofs.Ordered.{sorted-permutation}
 use Rattle.rank_sched.proofs.PlanOrder.{sorted-in_turn}
 use Rattle.rank_sched.proofs.PlanMade.{by_id, few_morsels}
 use Rattle.rank_sched.proofs.ScoreRanges.{candidates_ranged}
@@ -38,45 +33,21 @@ pub record IsMeasured (q : Asked) (m : Morsel) : Type 0 where
   pub bounded : m.bound ≡ bound q m.series
   pub asked : IsAskedOf q m.series
 
-module _ (q : Asked) (c : Contents) (right : IsContents c) where
-  -- the series of the query's element that a station has, if it has one
-  of_station : Station → Option Usable
-  of_station st = series_of c st.id (score_element q.score)
+-- series that the query asks about are measured with their bounds
+all_measured : (q : Asked) (us : List Usable) → AllByRecursion (IsAskedOf q) us
+    → AllByRecursion (IsMeasured q) (map (measured q) us)
+all_measured q [] h = tt
+all_measured q (u ∷ us) h = (record { bounded = refl; asked = h.0 }, all_measured q us h.1)
 
-  -- a station's morsel has the bound of its series, and the query asks about that series
-  one_measured : (st : Station) (m : Morsel) → morsel_at q c st ≡ Some m → IsMeasured q m
-  unfolding of_station
-  one_measured st m e = cases (admits_station q st) (of_station st) refl e
-    where
-      cases : (b : Bool) (o : Option Usable) → of_station st ≡ o
-          → option_map (measured q) (cond b (passing (has_admitted q) o) None) ≡ Some m → IsMeasured q m
-      cases false o f e = absurd cc
-      cases true None f e = absurd cc
-      cases true (Some u) f e = elim (has_admitted q u)
-          as (λ b. has_admitted q u ≡ b → option_map (measured q) (cond b (Some u) None) ≡ Some m → IsMeasured q m) [
-            | true ↦ grind (arith, found)
-            | false ↦ λ k g. absurd cc
-          ] refl e
-
-  -- so it is with the morsels of all stations
-  all_measured : (sts : List Station) → AllByRecursion (IsMeasured q) (filter_map (morsel_at q c) sts)
-  all_measured [] = tt
-  all_measured (st ∷ sts) = elim (morsel_at q c st)
-      as (λ o. morsel_at q c st ≡ o → AllByRecursion (IsMeasured q) (cons_option o (filter_map (morsel_at q c) sts))) [
-        | None ↦ λ e. all_measured sts
-        | Some m ↦ λ e. (one_measured st m e, all_measured sts)
-      ] refl
-
-  -- the morsels of the plan are measured
-  pub plan_measured : AllByRecursion (IsMeasured q) (planned q c).morsels
-  plan_measured =
-      let ms : List Morsel = map (measured q) (morsels q c) in
-      let p : IsPermutation (filter_map (morsel_at q c) c.stations) (sorted_by is_drawn_first ms) =
-      IsPermutation-trans (filter_map (morsel_at q c) c.stations) ms (sorted_by is_drawn_first ms) (by_id q c)
-      (sorted-permutation is_drawn_first ms) in
-      recursion_from_All (IsMeasured q) (sorted_by is_drawn_first ms)
-      (All-permutation (IsMeasured q) (filter_map (morsel_at q c) c.stations) (sorted_by is_drawn_first ms) p
-      (grind (arith, common_steps, all_measured)))
+-- the morsels of the plan are measured
+pub plan_measured : (q : Asked) (c : Contents) → IsContents c → AllByRecursion (IsMeasured q) (planned q c).morsels
+plan_measured q c right =
+    let ms : List Morsel = map (measured q) (filter (has_admitted q) (admitted_series q c)) in
+    recursion_from_All (IsMeasured q) (planned q c).morsels
+    (All-permutation (IsMeasured q) ms (planned q c).morsels (IsPermutation-trans ms (map (measured q) (morsels q c))
+    (planned q c).morsels (by_id q c) (sorted-permutation is_drawn_first (map (measured q) (morsels q c))))
+    (All-from_recursion (IsMeasured q) ms (all_measured q (filter (has_admitted q) (admitted_series q c))
+    (morsels_asked q c right))))
 
 -- what is true of each morsel is true of the one at a place
 at_place : (P : Morsel → Type 0) (ms : List Morsel) (i : ℕ) (m : Morsel) → AllByRecursion P ms
@@ -106,8 +77,8 @@ plan_bounded p is m = by_morsel (slice_get p.morsels m) refl
 pub plan_apart : (p : Planned) → IsPlan p → AreApart (all_of_task (task_of p))
 plan_apart p is = grind (
   arith,
-  apart_alike (all_of_task (task_of (planned p.query is.held)))
-      (all_candidates p.query is.held) (plan_alike p.query is.held) (all_apart p.query is.held is.right),
+  apart_alike (all_of_task (task_of (planned p.query is.dataset)))
+      (all_candidates p.query is.dataset) (plan_alike p.query is.dataset) (all_apart p.query is.dataset is.right),
 )
 
 -- no morsel that is drawn later has a greater bound

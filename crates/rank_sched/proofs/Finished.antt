@@ -7,8 +7,7 @@ use Rattle.std.specs.List.{flat_map, range_with_len}
 use Rattle.std.proofs.lemmas.Bool.{cases_eq, eq-eqb, ne_eqb}
 use Rattle.std.proofs.lemmas.List.Elements.{All-head, All-tail}
 use Rattle.ghcn_fields.specs.Counting.{times, times_below, HasEachBelow}
-use Rattle.ghcn_fields.specs.CountingLaws.{one_if_equal-equal, one_if_equal-apart, times_below-suc, times_below-yes}
-use Rattle.ghcn_fields.specs.CountingLaws.{all_below, length-each_below, times-append}
+use Rattle.ghcn_fields.proofs.CountingLaws.{one_if_equal-equal, one_if_equal-apart, times_below-suc, times_below-yes, all_below, length-each_below, times-append}
 use Rattle.rank_scores.specs.declared.candidate.Candidate.{Candidate}
 use Rattle.rank_scores.specs.Order.{is_below}
 use Rattle.rank_pool.specs.First.{first, kth, above}

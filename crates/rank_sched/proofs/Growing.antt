@@ -2,7 +2,7 @@
 use Rattle.std.proofs.Common.{rules, ◌+◌, [], ◌∷◌, arith}
 use Rattle.std.proofs.lemmas.Grind.{flat_map-append}
 use Rattle.std.proofs.lemmas.List.Folds.{list_all-append}
-use Rattle.ghcn_fields.specs.CountingLaws.{times-append}
+use Rattle.ghcn_fields.proofs.CountingLaws.{times-append}
 use Rattle.rank_sched.specs.Laws.{HaulsGrow, TurnsGrow, UpwardGrows, WorkersJoin, HaulsJoin, StopsJoin, TurnsJoin}
 use Rattle.rank_sched.proofs.Lists.{each-append, rise-push, morsels-push, scanned-push, exchanges-push, upward-push}
 use Rattle.rank_sched.proofs.Ending.{best_more}

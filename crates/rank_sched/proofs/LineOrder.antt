@@ -1,22 +1,15 @@
 -- Lines by increasing ID: there is one such list of the lines of a plan's morsels.
-use Rattle.std.proofs.Common.{◌≡◌, ℕ, zero, suc, ◌+◌, ◌<◌, ◌≤◌, Bool, true, false, List, [], ◌∷◌, ◌++◌, length, take}
-use Rattle.std.proofs.Common.{map, Some, refl, sym, ap, ◌∙◌, arith, rules}
+use Rattle.std.proofs.Common.{◌≡◌, ℕ, zero, suc, ◌+◌, ◌<◌, ◌≤◌, Bool, List, [], ◌∷◌, ◌++◌, length, take}
+use Rattle.std.proofs.Common.{map, Some, refl, sym, ap, ◌∙◌, subst, arith, rules}
 use Rattle.std.specs.Prelude.{slice_get}
-use Rattle.std.specs.List.{enumerate_from, AllByRecursion, IsDistinct}
+use Rattle.std.specs.List.{enumerate_from, IsDistinct}
 use Rattle.std.specs.List.Sorted.{IsPermutation, IsSortedBy}
 use Rattle.std.specs.Option.{option_map}
-use Rattle.std.specs.Cmp.{IsTotalOrder, IsStrictWeakOrder}
-use Rattle.std.specs.Cmp.Lexicographic.{slice_cmp}
-use Rattle.std.specs.Ordering.{is_lt, nat_cmp, on}
-use Rattle.std.specs.declared.cmp.Ordering.{Ordering}
-use Rattle.std.specs.declared.cmp.Ordering.TheVariants.{Equal}
-use Rattle.std.proofs.lemmas.Cmp.{nat_list_cmp_total, on_total, nat_list_eq_equiv}
-use Rattle.std.proofs.lemmas.List.{take_all, map-id}
-use Rattle.std.proofs.lemmas.Map.Keys.{IsDistinct-head, IsDistinct-tail, IsDistinct-cons}
-use Rattle.std.proofs.lemmas.Map.Text.{is_eq-slice_cmp}
-use Rattle.ghcn_fields.specs.Sorting.{sorted_by}
+use Rattle.std.proofs.lemmas.Int.{ints}
+use Rattle.std.proofs.lemmas.List.{take_all}
 use Rattle.ghcn_files.specs.Ids.{same_id}
-use Rattle.rank_scores.specs.Morsels.{id_comes_first}
+use Rattle.ghcn_files.proofs.IdOrder.{strictly, one_sort}
+use Rattle.ghcn_files.proofs.Ordered.{distinct-map, distinct-mapped}
 use Rattle.rank_sched.specs.declared.record.Record.{Record}
 use Rattle.rank_sched.specs.declared.line.Line.{Line}
 use Rattle.rank_sched.specs.Plan.{Morsel, Planned, IsPlan}
@@ -24,84 +17,24 @@ use Rattle.rank_sched.specs.Task.{task_of}
 use Rattle.rank_sched.specs.TakingBack.{stays}
 use Rattle.rank_sched.specs.Answers.{line_of, lines_of}
 use Rattle.rank_sched.specs.Finish.{mark, AreMarks, marked_line, marked_lines}
-use Rattle.ghcn_fields.proofs.Ordered as ordered
-use Rattle.rank_sched.proofs.PlanOrder.{of_one_station}
 use Rattle.rank_sched.proofs.PlanMade.{plan_distinct}
-use Rattle.std.proofs.lemmas.Int.{ints}
 
--- ---- lines by their IDs
-
--- the order of lines by ID
-abbrev pub id_cmp : Line → Line → Ordering
-id_cmp = on (λ l. l.id.0) (slice_cmp nat_cmp)
-
--- the order by ID is total
-pub id_total : IsTotalOrder id_cmp
-id_total = on_total (λ l. l.id.0) nat_list_cmp_total
-
--- a line whose ID stands before another's, or is the same
-abbrev pub comes_first : Line → Line → Bool
-comes_first a b = id_comes_first a.id b.id
-
--- two lines are of one station
-abbrev pub same_line : Line → Line → Bool
-same_line a b = same_id a.id b.id
-
--- which of two lines is named first makes no difference
-same_line-symm : (a b : Line) → same_line a b ≡ same_line b a
-same_line-symm a b = nat_list_eq_equiv.symm (a.id.0) (b.id.0)
-
--- lines that tie are of one station
-line_tied : (a b : Line) → id_cmp a b ≡ Equal → same_line a b ≡ true
-line_tied a b e = cc (is_eq-slice_cmp (a.id.0) (b.id.0))
-
--- one line is strictly before another
-abbrev pub strictly : Line → Line → Bool
-strictly a b = is_lt (id_cmp a b)
-
--- that is an order
-pub strictly_ranks : IsStrictWeakOrder strictly
-strictly_ranks = grind (arith, id_total)
-
--- of lines of different stations there is one list by increasing ID
-sorted_lines : (xs ys : List Line) → IsDistinct same_line xs → IsPermutation xs ys → IsSortedBy strictly ys
-    → ys ≡ sorted_by comes_first xs
-sorted_lines xs ys d p up =
-    let turn = ordered.sort-in_turn id_cmp id_total comes_first (λ a b. refl) (λ l. l) ys up in
-    ordered.one_order id_cmp id_total comes_first (λ a b. refl) same_line same_line-symm line_tied xs ys d p
-    (rw (← map-id ys) turn)
-
--- ---- the lines of morsels
-
--- no later line has the ID of a morsel that no later one has
-other_lines : (marks : List Bool) (x : Morsel) (n : ℕ) (ms : List Morsel)
-    → AllByRecursion (λ y. of_one_station x y ≡ false) ms
-    → AllByRecursion (λ l. same_id x.series.id l.id ≡ false) (map (marked_line marks) (enumerate_from n ms))
-other_lines marks x n [] h = tt
-other_lines marks x n (y ∷ ms) h = (h.0, other_lines marks x (n + 1) ms h.1)
-
--- no lines are of different stations
-no_lines : IsDistinct same_line []
-unfolding IsDistinct
-no_lines = tt
-
--- lines of morsels of different stations are of different stations
-distinct_lines : (marks : List Bool) (n : ℕ) (ms : List Morsel) → IsDistinct of_one_station ms
-    → IsDistinct same_line (map (marked_line marks) (enumerate_from n ms))
-distinct_lines marks n [] d = no_lines
-distinct_lines marks n (x ∷ ms) d =
-    IsDistinct-cons same_line (marked_line marks (n, x)) (map (marked_line marks) (enumerate_from (n + 1) ms))
-    (other_lines marks x (n + 1) ms (IsDistinct-head of_one_station x ms d))
-    (distinct_lines marks (n + 1) ms (IsDistinct-tail of_one_station x ms d))
+-- the IDs of lines are those of the morsels' series
+line_ids : (marks : List Bool) (n : ℕ) (ms : List Morsel)
+    → map (λ l. l.id) (map (marked_line marks) (enumerate_from n ms)) ≡ map (λ m. m.series.id) ms
+line_ids marks n [] = refl
+line_ids marks n (m ∷ ms) = ap (λ ids. m.series.id ∷ ids) (line_ids marks (n + 1) ms)
 
 -- what a sort by ID makes of the lines of a plan's morsels
 pub lines_sorted : (p : Planned) (marks : List Bool) (xs ys : List Line) → IsPlan p
-    → xs ≡ map (marked_line marks) (enumerate_from 0 p.morsels) → IsPermutation xs ys → IsSortedBy strictly ys
-    → ys ≡ marked_lines marks p.morsels
+    → xs ≡ map (marked_line marks) (enumerate_from 0 p.morsels) → IsPermutation xs ys
+    → IsSortedBy (strictly (λ l. l.id)) ys → ys ≡ marked_lines marks p.morsels
 lines_sorted p marks xs ys is e perm up =
     let made : List Line = map (marked_line marks) (enumerate_from 0 p.morsels) in
-    sorted_lines made ys (grind (arith, distinct_lines, plan_distinct))
-    (rw e at perm) up
+    let ids : IsDistinct same_id (map (λ (l : Line). l.id) made) =
+    subst (IsDistinct same_id) (sym (line_ids marks 0 p.morsels))
+    (distinct-map (λ (m : Morsel). m.series.id) same_id p.morsels (plan_distinct p is)) in
+    one_sort (λ l. l.id) made ys (distinct-mapped (λ (l : Line). l.id) same_id made ids) (rw e at perm) up
 
 -- one morsel's line more
 lines_push : (F : ℕ × Morsel → Line) (ms : List Morsel) (i n : ℕ) (l : Line)

@@ -9,6 +9,8 @@ use Rattle.std.proofs.lemmas.Grind.{flat_map-append}
 use Rattle.std.proofs.lemmas.List.{map-append}
 use Rattle.std.proofs.lemmas.List.Elements.{All-append, All-contains, Contains-append_left, Contains-append_right}
 use Rattle.ghcn_fields.specs.Floor.{IsAtLeast}
+pub use Rattle.ghcn_files.proofs.Ordered.{each-weaker}
+pub use Rattle.ghcn_series.proofs.ListFacts.{each-append}
 use Rattle.rank_scores.specs.declared.candidate.Candidate.{Candidate}
 use Rattle.rank_pool.specs.First.{first, kth, in_order}
 use Rattle.rank_pool.specs.Pools.{last_score}
@@ -16,7 +18,7 @@ use Rattle.rank_sched.specs.declared.record.Record.{Record}
 use Rattle.rank_sched.specs.Task.{Task}
 use Rattle.rank_sched.specs.Exchanges.{Exchange, morsels_of, scanned_for, scanned, exchange, exchanges, seen_in}
 use Rattle.rank_sched.specs.Exchanges.{raised_in, SeeUpward}
-use Rattle.rank_sched.specs.SoundRun.{Rise}
+use Rattle.rank_sched.specs.SoundRun.{NumbersRise}
 
 -- ---- elements
 
@@ -51,24 +53,6 @@ module _ {X : Type 0} (P : X → Type 0) where
         All-right P V Z both,
       )
 
--- what is true of each element of two lists is true of each of both together
-pub each-append : {X : Type 0} (P : X → Type 0) (xs ys : List X) → AllByRecursion P xs → AllByRecursion P ys
-    → AllByRecursion P (xs ++ ys)
-each-append P [] ys h k = k
-each-append P (x ∷ xs) ys h k = (h.0, each-append P xs ys h.1 k)
-
--- what follows for each element is true of each
-pub each-weaker : {X : Type 0} (P Q : X → Type 0) (xs : List X) → ((x : X) → P x → Q x) → AllByRecursion P xs
-    → AllByRecursion Q xs
-each-weaker P Q [] f h = tt
-each-weaker P Q (x ∷ xs) f h = (f x h.0, each-weaker P Q xs f h.1)
-
--- what follows from two facts for each element is true of each
-pub each_both : {X : Type 0} (P Q R : X → Type 0) (xs : List X) → ((x : X) → P x → Q x → R x) → AllByRecursion P xs
-    → AllByRecursion Q xs → AllByRecursion R xs
-each_both P Q R [] f h k = tt
-each_both P Q R (x ∷ xs) f h k = (f x h.0 k.0, each_both P Q R xs f h.1 k.1)
-
 -- what is true of a value, if there is one, is true of the list of it
 pub one_there : {X : Type 0} (P : X → Type 0) (o : Option X) → IfSome o P → All P (option_to_list o)
 one_there P o h = grind arith
@@ -80,7 +64,7 @@ both_true a b h = grind arith
 -- ---- lists that rise
 
 -- a list that rises goes on to rise with a number above all of it
-pub rise-push : (xs : List ℕ) (x : ℕ) → Rise xs → AllByRecursion (λ y. y < x) xs → Rise (xs ++ x ∷ [])
+pub rise-push : (xs : List ℕ) (x : ℕ) → NumbersRise xs → AllByRecursion (λ y. y < x) xs → NumbersRise (xs ++ x ∷ [])
 rise-push [] x h a = (tt, tt)
 rise-push (y ∷ ys) x h a = grind (arith, each-append, rise-push ys x h.1 a.1)
 

@@ -5,10 +5,10 @@ use Rattle.std.proofs.lemmas.Option.{slice_get_read}
 use Rattle.std.proofs.Common.{◌≡◌, ℕ, zero, suc, ◌+◌, ◌-◌, ◌*◌, ◌<◌, ◌≤◌, Bool, true, false, cond, List, [], ◌∷◌}
 use Rattle.std.proofs.Common.{length, length-append, get_or, replicate, Option, Some, None, Result, Err, IsErr}
 use Rattle.std.proofs.Common.{IsErrAnd, ◌≢◌, refl, sym, ap, ◌∙◌, arith, append-nil, ℤ, IfSome, rules}
-use Rattle.std.specs.Prelude.{not, nat_lt, map, zip, slice_get, slice_set}
+use Rattle.std.specs.Prelude.{not, map, zip, slice_get, slice_set}
 use Rattle.std.specs.List.{AllByRecursion, flat_map}
 use Rattle.ghcn_fields.specs.Floor.{IsScore}
-use Rattle.ghcn_fields.specs.CountingLaws.{length-each_below}
+use Rattle.ghcn_fields.proofs.CountingLaws.{length-each_below}
 use Rattle.rank_pool.specs.Pools.{Pooled, last_score}
 use Rattle.rank_sched.specs.declared.record.Record.{Record}
 use Rattle.rank_sched.specs.declared.haul.Haul.{Haul}
@@ -23,7 +23,7 @@ use Rattle.rank_sched.specs.Task.{Task, task_of}
 use Rattle.rank_sched.specs.Exchanges.{morsels_of}
 use Rattle.rank_sched.specs.Machine.{Worker, State, new_worker, started, worker_of, is_awaited, refusal, drawn}
 use Rattle.rank_sched.specs.Machine.{record_of, greater_floor, floor_after, IsStep, all_stopped}
-use Rattle.rank_sched.specs.SoundRun.{unsettled, Rise, AreSoundFrom, IsSoundState, IsSoundEnd}
+use Rattle.rank_sched.specs.SoundRun.{unsettled, NumbersRise, AreSoundFrom, IsSoundState, IsSoundEnd}
 use Rattle.rank_sched.specs.Hauls.{records_of, AreHaulsOf, AreSound, AreUnderFloor}
 use Rattle.rank_sched.specs.Run.{new_run, is_stopped, Running, worker_with, state_of, IsRunning, IsAnswered, Refuses}
 use Rattle.rank_sched.specs.Run.{HasSettled, IsEmptyHaul, IsSameHaul}
@@ -260,7 +260,7 @@ same_state_of next floor turns hs w turn h h' same here own s =
 -- ---- the next number is small
 
 -- numbers that rise from a on and stay below n are at most n - a
-rise_short : (n a : ℕ) (xs : List ℕ) → Rise xs → AllByRecursion (λ x. x < n) xs → AllByRecursion (λ x. a ≤ x) xs
+rise_short : (n a : ℕ) (xs : List ℕ) → NumbersRise xs → AllByRecursion (λ x. x < n) xs → AllByRecursion (λ x. a ≤ x) xs
     → length xs ≤ n - a
 rise_short n a [] r h k = omega arith
 rise_short n a (x ∷ xs) r h k = grind (arith, rise_short n (suc x) xs r.1 h.1 r.0)

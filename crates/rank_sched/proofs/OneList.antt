@@ -8,7 +8,7 @@ use Rattle.rank_sched.specs.declared.record.Record.{Record}
 use Rattle.rank_sched.specs.declared.haul.Haul.{Haul}
 use Rattle.rank_sched.specs.Task.{Task}
 use Rattle.rank_sched.specs.Exchanges.{Exchange, morsels_of, exchanges, SeeUpward}
-use Rattle.rank_sched.specs.SoundRun.{Rise}
+use Rattle.rank_sched.specs.SoundRun.{NumbersRise}
 use Rattle.rank_sched.specs.Hauls.{records_of, all_records, exchanges_in, turns_of, IsHaulOf, AreHaulsFrom, records_by}
 use Rattle.rank_sched.specs.Hauls.{turns_by}
 use Rattle.rank_sched.specs.Laws.{SeenIsAtMost, NoHauls, RecordsAreSound}
@@ -96,7 +96,7 @@ turns_from t w front (h ∷ hs) low a =
 
 -- the records of each sound haul rise by morsel
 each_rises : (t : Task) (w : ℕ) (hs : List Haul) → AreHaulsFrom t w hs
-    → AllByRecursion (λ h. Rise (morsels_of (records_of h))) hs
+    → AllByRecursion (λ h. NumbersRise (morsels_of (records_of h))) hs
 each_rises t w [] a = tt
 each_rises t w (h ∷ hs) a = (a.0.rise, each_rises t (w + 1) hs a.1)
 
@@ -106,7 +106,7 @@ records_sound t guess hs floor s f =
     let turns : turns_by t (length hs) (all_records hs) ≡ turns_of t hs = turns_from t 0 [] hs tt s.each in
     record {
       named = grind (arith, each-weaker, named_from);
-      rise = λ w. each_worker t (λ l. Rise (morsels_of l)) tt w 0 hs s.each (each_rises t 0 hs s.each);
+      rise = λ w. each_worker t (λ l. NumbersRise (morsels_of l)) tt w 0 hs s.each (each_rises t 0 hs s.each);
       once = s.once;
       skips = all_skips t 0 hs s.each;
       upward = λ w. each_worker t (λ l. SeeUpward (option_to_list guess) (exchanges t [] l)) tt w 0 hs

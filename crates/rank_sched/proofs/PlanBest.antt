@@ -1,21 +1,21 @@
 -- The candidates of a plan are those of the query in another order, so they have the same best.
-use Rattle.std.proofs.lemmas.Grind.{common_steps}
 use Rattle.std.proofs.lemmas.List.Folds.{flat_map-map}
-use Rattle.std.proofs.Common.{◌≡◌, ℕ, zero, suc, Bool, true, false, cond, not, List, [], ◌∷◌, ◌++◌, length}
-use Rattle.std.proofs.Common.{length-append, take, map, filter, Option, Some, refl, sym, ap, ◌∙◌, append_assoc, arith}
+use Rattle.std.proofs.Common.{◌≡◌, ℕ, zero, suc, Bool, List, [], ◌∷◌, ◌++◌, length}
+use Rattle.std.proofs.Common.{length-append, take, map, filter, Some, refl, sym, ap, ◌∙◌, append_assoc, arith}
 use Rattle.std.proofs.Common.{rules}
-use Rattle.std.specs.Prelude.{IfOk, Result, Ok, Err, ◌==◌, slice_get}
-use Rattle.std.specs.List.{flat_map, filter_map, find, range_with_len, AllByRecursion}
+use Rattle.std.specs.Prelude.{IfOk, Result, Ok, Err, slice_get}
+use Rattle.std.specs.List.{flat_map, range_with_len}
 use Rattle.std.specs.Option.{option_map, option_map_or}
 use Rattle.std.proofs.lemmas.List.Sorted.{IsPermutation-sym}
 use Rattle.std.proofs.lemmas.Map.Keys.{IsDistinct-IsPermutation}
 use Rattle.ghcn_fields.specs.Sorting.{placed, sorted_by}
-use Rattle.ghcn_series.specs.Series.{DayValue, Usable, Contents}
+use Rattle.ghcn_series.specs.Series.{Contents}
 use Rattle.rank_query.specs.Asked.{Asked}
 use Rattle.rank_scores.specs.declared.candidate.Candidate.{Candidate}
-use Rattle.rank_scores.specs.Candidates.{candidates, admitted}
+use Rattle.rank_scores.specs.Candidates.{candidates}
 use Rattle.rank_scores.specs.Order.{begin_alike, AreApart, kth_score}
-use Rattle.rank_scores.specs.Morsels.{admitted_series, all_candidates, morsels}
+use Rattle.rank_scores.specs.Morsels.{admitted_series, has_admitted, all_candidates, morsels}
+use Rattle.rank_scores.proofs.QueryMorsels.{asked_alone}
 use Rattle.rank_scores.proofs.QueryCandidates.{all_apart}
 use Rattle.rank_pool.specs.First.{in_order, kth}
 use Rattle.rank_pool.proofs.Places.{in_order-append_comm}
@@ -47,7 +47,7 @@ module _ {A : Type 0} (before : A → A → Bool) (f : A → List Candidate) whe
   alike_sorted (x ∷ xs) = grind (arith, alike_placed, alike-right, alike_sorted xs)
 
 -- an element behind some others
-get_behind : {A : Type 0} (front : List A) (x : A) (rest : List A)
+pub get_behind : {A : Type 0} (front : List A) (x : A) (rest : List A)
     → slice_get (front ++ x ∷ rest) (length front) ≡ Some x
 get_behind [] x rest = refl
 get_behind (y ∷ front) x rest = get_behind front x rest
@@ -59,17 +59,6 @@ by_place : {A : Type 0} (f : A → List Candidate) (front ms : List A)
 by_place f front [] = refl
 by_place {A} f front (x ∷ ms) = grind (arith, get_behind, length-append, append_assoc, by_place f (front ++ x ∷ []) ms)
 
--- where there is no day, there is no candidate
-none_from : (f : DayValue → Option Candidate) (xs : List DayValue) → not (length xs == 0) ≡ false
-    → filter_map f xs ≡ []
-none_from f xs e = grind (arith, common_steps)
-
--- series without an admitted day have no candidates
-asked_alone : (q : Asked) (ss : List Usable) → flat_map (candidates q)
-    (filter (λ s. not (length (admitted q s) == 0)) ss) ≡ flat_map (candidates q) ss
-asked_alone q [] = refl
-asked_alone q (s ∷ ss) = grind (arith, none_from, asked_alone q ss)
-
 -- the candidates of a plan are the query's, in another order
 pub plan_alike : (q : Asked) (c : Contents) → Alike (all_of_task (task_of (planned q c))) (all_candidates q c)
 plan_alike q c =
@@ -78,18 +67,8 @@ plan_alike q c =
     ap in_order (by_place f [] (sorted_by is_drawn_first ms))
     ∙ alike_sorted is_drawn_first f ms
     ∙ ap in_order (flat_map-map f (measured q) (morsels q c))
-    ∙ alike_sorted _ (candidates q) (filter (λ s. not (length (admitted q s) == 0)) (admitted_series q c))
+    ∙ alike_sorted _ (candidates q) (filter (has_admitted q) (admitted_series q c))
     ∙ ap in_order (asked_alone q (admitted_series q c))
-
--- what is found was in the list, and passes
-pub found : {X : Type 0} (P : X → Type 0) (test : X → Bool) (xs : List X) (x : X) → AllByRecursion P xs
-    → find test xs ≡ Some x → P x × (test x ≡ true)
-found P test [] x h e = absurd cc
-found P test (y ∷ ys) x h e = elim (test y) as (λ b. test y ≡ b → cond b (Some y) (find test ys) ≡ Some x
-    → P x × (test x ≡ true)) [
-      | true ↦ search rules
-      | false ↦ λ t f. found P test ys x h.1 f
-    ] refl e
 
 -- ---- being apart
 

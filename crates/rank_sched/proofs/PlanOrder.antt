@@ -11,7 +11,7 @@ use Rattle.std.proofs.lemmas.Map.Text.{is_eq-slice_cmp}
 use Rattle.ghcn_fields.specs.Sorting.{sorted_by}
 use Rattle.ghcn_files.specs.Ids.{same_id}
 use Rattle.rank_sched.specs.Plan.{Morsel, is_drawn_first, drawn_cmp, AreDrawnInTurn}
-use Rattle.ghcn_fields.proofs.Ordered as ordered
+use Rattle.ghcn_files.proofs.Ordered as ordered
 
 -- the order by bound and ID is total
 pub drawn_total : IsTotalOrder drawn_cmp

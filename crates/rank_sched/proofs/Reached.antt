@@ -19,7 +19,8 @@ use Rattle.rank_sched.specs.Hauls.{records_of, all_records, exchanges_in, turns_
 use Rattle.rank_sched.specs.Hauls.{AreUnderFloor}
 use Rattle.rank_sched.specs.TakingBack.{known_before, is_justified, was_skipped, stays}
 use Rattle.rank_sched.specs.Laws.{IsReached, RaisedIsReached, IsLowGuess, NoneIsTakenBack}
-use Rattle.rank_sched.proofs.Lists.{All-left, All-right, each-append, each-weaker, each_both, scanned-append}
+use Rattle.rank_sched.proofs.Lists.{All-left, All-right, each-append, each-weaker, scanned-append}
+use Rattle.rank_scores.proofs.Rising.{from_both}
 use Rattle.rank_sched.proofs.Lists.{seen_in-append, raised_in-append}
 use Rattle.rank_sched.proofs.Totals.{over, over_records, records_over, fewer_above}
 
@@ -183,7 +184,7 @@ module _ (t : Task) (g : ℤ) (hs : List Haul) (fair : IsFair t) (s : AreSound t
       let c : ℤ = g -ℤ pos 1 in
       let rs : List Record = all_records hs in
       let none : AllByRecursion (λ r. r.skipped ≡ true → over t c r.morsel ≡ 0) rs =
-      grind (arith, each_both, skipped_over, all_skips) in
+      grind (arith, from_both, skipped_over, all_skips) in
       let k : t.k ≤ above c (all_of_task t) = grind (arith, below_kth, fits_below) in
       omega (
         arith,
@@ -239,4 +240,4 @@ none_back t guess hs floor fair s f low =
     let each : All R (seen_in (turns_of t hs)) = All-weaker (IsGuessOrRaised guess raised) R
     (λ z. ⊎_elim (λ e. let it : IfSome (Some z) R = rw e at known in it)
     (λ there. All-contains R raised z (raised_reached t hs fair.some) there)) (seen_in (turns_of t hs)) f.seen in
-    none_counted t rs rs (search (rules, each_both, justified_one, all_skips, all_seen_each)) (own_skip rs)
+    none_counted t rs rs (search (rules, from_both, justified_one, all_skips, all_seen_each)) (own_skip rs)

@@ -4,7 +4,7 @@ use Rattle.std.proofs.lemmas.Grind.{common_steps}
 use Rattle.std.specs.Prelude.{◌↔◌, ◌⊎◌, ◌&&◌, slice_get}
 use Rattle.std.proofs.lemmas.Bool.{cases_eq, ne_eqb}
 use Rattle.ghcn_fields.specs.Counting.{times}
-use Rattle.ghcn_fields.specs.CountingLaws.{one_if_equal-equal}
+use Rattle.ghcn_fields.proofs.CountingLaws.{one_if_equal-equal}
 use Rattle.rank_sched.specs.declared.record.Record.{Record}
 use Rattle.rank_sched.specs.Task.{task_of}
 use Rattle.rank_sched.specs.Exchanges.{morsels_of}

@@ -1,5 +1,5 @@
 -- The score of each candidate can be a floor: it lies from -2^31 to 2^31.
-use Rattle.std.proofs.Common.{rules, ◌≡◌, ℕ, zero, suc, ◌*◌, ◌≤◌, Bool, true, false, cond, List, [], ◌∷◌, filter}
+use Rattle.std.proofs.Common.{rules, ◌≡◌, ℕ, zero, suc, ◌*◌, ◌≤◌, Bool, true, false, cond, List, [], ◌∷◌}
 use Rattle.std.proofs.Common.{Option, Some, None, refl, arith, ℤ, pos, neg_ℤ, ◌+ℤ◌, ◌-ℤ◌, ◌≤ℤ◌}
 use Rattle.std.specs.Prelude.{◌&&◌, ◌||◌, int_le}
 use Rattle.std.specs.List.{list_all, find, filter_map, cons_option, AllByRecursion}
@@ -12,6 +12,7 @@ use Rattle.ghcn_files.specs.declared.element.Element.{Element}
 use Rattle.ghcn_files.specs.declared.station.StationId.{StationId}
 use Rattle.ghcn_files.specs.Elements.{may_be_negative}
 use Rattle.ghcn_series.specs.Series.{DayValue, Usable, IsSeries, value_on, is_value}
+use Rattle.ghcn_series.proofs.ListFacts.{all-filter}
 use Rattle.rank_query.specs.declared.score.Score.{Score}
 use Rattle.rank_query.specs.declared.score.Score.TheVariants.{Highest, Lowest, Sum, Dry, Wet, Hot}
 use Rattle.rank_query.specs.Asked.{Asked, IsAsked, is_score}
@@ -42,12 +43,6 @@ all_valued e (x ∷ xs) h =
     (may_be_negative e || int_le (pos 0) x.1) value.1 in
     let ends = both_true (int_le (neg_ℤ (pos 9998)) x.1) (int_le x.1 (pos 99_999)) limits.0 in
     ((at_most (neg_ℤ (pos 9998)) x.1 ends.0, at_most x.1 (pos 99_999) ends.1), all_valued e xs parts.1)
-
--- what is true of each element is true of each that passes a test
-each-filter : {X : Type 0} (P : X → Type 0) (test : X → Bool) (xs : List X) → AllByRecursion P xs
-    → AllByRecursion P (filter test xs)
-each-filter P test [] h = tt
-each-filter P test (x ∷ xs) h = grind (arith, each-filter P test xs h.1)
 
 -- the value of a day is such a value
 value_valued : (days : List DayValue) (d v : ℤ) → AllByRecursion IsValued days → value_on days d ≡ Some v
@@ -147,4 +142,4 @@ module _ (days : List DayValue) (valued : AllByRecursion IsValued days) where
 -- the score of each candidate of a series can be a floor
 pub candidates_ranged : (q : Asked) (s : Usable) → IsAsked q → IsSeries s
     → AllByRecursion (λ c. IsScore c.score) (candidates q s)
-candidates_ranged q s asked right = grind (arith, ints, by_score, each-filter, all_valued s.element s.days right.values)
+candidates_ranged q s asked right = grind (arith, ints, by_score, all-filter, all_valued s.element s.days right.values)

@@ -10,7 +10,7 @@ use Rattle.std.proofs.lemmas.List.Elements.{All-nil, All-head, All-same, All-wea
 use Rattle.std.proofs.lemmas.List.Elements.{recursion_from_All}
 use Rattle.ghcn_fields.specs.Counting.{times, times_below}
 use Rattle.ghcn_fields.specs.Floor.{IsAtLeast, IsGuessOrRaised, IsFloorOf}
-use Rattle.ghcn_fields.specs.CountingLaws.{times_below-suc, all_below, times-append}
+use Rattle.ghcn_fields.proofs.CountingLaws.{times_below-suc, all_below, times-append}
 use Rattle.rank_scores.specs.declared.candidate.Candidate.{Candidate}
 use Rattle.rank_pool.specs.Pools.{taken}
 use Rattle.rank_pool.proofs.Places.{holds-fold, size-fold}

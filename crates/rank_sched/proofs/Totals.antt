@@ -6,7 +6,7 @@ use Rattle.std.specs.List.{flat_map, range_with_len}
 use Rattle.std.proofs.lemmas.List.Sums.{sum_by-cons, sum_by-append}
 use Rattle.std.proofs.lemmas.Int.{ints}
 use Rattle.ghcn_fields.specs.Counting.{one_if_equal, times, HasEachBelow, sum_below}
-use Rattle.ghcn_fields.specs.CountingLaws.{total-each_below}
+use Rattle.ghcn_fields.proofs.CountingLaws.{total-each_below}
 use Rattle.rank_scores.specs.declared.candidate.Candidate.{Candidate}
 use Rattle.rank_pool.specs.First.{above}
 use Rattle.rank_pool.proofs.Counts.{above-append, below_kth}

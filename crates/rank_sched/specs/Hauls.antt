@@ -9,7 +9,7 @@ use Rattle.rank_sched.specs.Task.{Task}
 use Rattle.rank_sched.specs.Exchanges.{Exchange, morsels_of, pool_of, IsRightSkip, exchanges, seen_in, raised_in}
 use Rattle.rank_sched.specs.Exchanges.{SeeUpward}
 use Rattle.rank_sched.specs.Machine.{Worker}
-use Rattle.rank_sched.specs.SoundRun.{Rise}
+use Rattle.rank_sched.specs.SoundRun.{NumbersRise}
 
 -- the records of a haul
 abbrev pub records_of : Haul → List Record
@@ -22,7 +22,7 @@ all_records hs = flat_map records_of hs
 -- a worker's haul: its records name it, rise by morsel, pass over what they should, and the rest is in its pool
 pub record IsHaulOf (t : Task) (w : ℕ) (h : Haul) : Type 0 where
   pub named : AllByRecursion (λ r. r.worker ≡ w) (records_of h)
-  pub rise : Rise (morsels_of (records_of h))
+  pub rise : NumbersRise (morsels_of (records_of h))
   pub skips : AllByRecursion (IsRightSkip t) (records_of h)
   pub pool : h.pool ≡ pool_of t (records_of h)
 
@@ -68,7 +68,7 @@ turns_by t workers rs = flat_map (λ w. exchanges t [] (records_by w rs)) (range
 pub record AreSoundRecords (t : Task) (guess : Option ℤ) (workers : ℕ) (rs : List Record) : Type 0 where
   -- records: they name the workers, each worker's rise by morsel, and each morsel has exactly one
   pub named : AllByRecursion (λ r. r.worker < workers) rs
-  pub rise : (w : ℕ) → Rise (morsels_of (records_by w rs))
+  pub rise : (w : ℕ) → NumbersRise (morsels_of (records_by w rs))
   pub once : HasEachBelow t.len (morsels_of rs)
   -- skips
   pub skips : AllByRecursion (IsRightSkip t) rs

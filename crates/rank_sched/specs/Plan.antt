@@ -1,5 +1,5 @@
 -- The plan of a query: its morsels with their bounds, in the order in which they are drawn.
-use Rattle.std.specs.Prelude.{◌≡◌, Bool, true, ◌&&◌, ◌||◌, if◌then◌else◌, List, [], ◌∷◌, map, Option, None, Some, ℤ}
+use Rattle.std.specs.Prelude.{◌≡◌, Bool, true, ◌&&◌, ◌||◌, List, [], ◌∷◌, map, Option, ℤ}
 use Rattle.std.specs.Prelude.{int_lt}
 use Rattle.std.specs.List.{AllByRecursion}
 use Rattle.std.specs.List.Sorted.{IsPermutation}
@@ -9,11 +9,10 @@ use Rattle.std.specs.Ordering.{int_eq, int_cmp, nat_cmp, on, flip_args, then_cmp
 use Rattle.std.specs.Cmp.Lexicographic.{slice_cmp}
 use Rattle.ghcn_fields.specs.Sorting.{sorted_by}
 use Rattle.ghcn_files.specs.declared.station.Station.{Station}
-use Rattle.ghcn_series.specs.Series.{Usable, Contents, series_of}
+use Rattle.ghcn_series.specs.Series.{Usable, Contents}
 use Rattle.ghcn_series.specs.Held.{IsContents}
-use Rattle.rank_query.specs.Asked.{Asked, IsAsked, score_element}
-use Rattle.rank_query.specs.Admits.{admits_station}
-use Rattle.rank_scores.specs.Morsels.{has_admitted, morsels, id_comes_first}
+use Rattle.rank_query.specs.Asked.{Asked, IsAsked}
+use Rattle.rank_scores.specs.Morsels.{morsel_at, morsels, id_comes_first}
 use Rattle.rank_blocks.specs.Bounds.{bound}
 use Rattle.rank_sched.specs.declared.plan.Morsel as code
 
@@ -68,27 +67,17 @@ pub record IsPlanOf (q : Asked) (c : Contents) (p : Planned) : Type 0 where
 -- what is true of every plan: it is that of its query over some data
 pub record IsPlan (p : Planned) : Type 0 where
   pub asked : IsAsked p.query
-  pub held : Contents
-  pub right : IsContents held
-  pub plan : p ≡ planned p.query held
+  pub dataset : Contents
+  pub right : IsContents dataset
+  pub plan : p ≡ planned p.query dataset
 
--- a value, if it passes
-abbrev pub passing : {A : Type 0} → (A → Bool) → Option A → Option A
-passing test None = None
-passing test (Some x) = if test x then Some x else None
-
--- the series of a station that is a morsel, if the station is one
-abbrev pub morsel_of : Asked → Contents → Station → Option Usable
-morsel_of q c st = if admits_station q st then passing (has_admitted q)
-    (series_of c st.id (score_element q.score)) else None
-
--- the morsel of a station, if it is one
-abbrev pub morsel_at : Asked → Contents → Station → Option Morsel
-morsel_at q c st = option_map (measured q) (morsel_of q c st)
+-- the morsel of a station with its bound, if the station has one
+abbrev pub measured_at : Asked → Contents → Station → Option Morsel
+measured_at q c st = option_map (measured q) (morsel_at q c st)
 
 -- the bound of a station that is a morsel
 abbrev pub measure_of : Asked → Contents → Station → Option ℤ
-measure_of q c st = option_map (bound q) (morsel_of q c st)
+measure_of q c st = option_map (bound q) (morsel_at q c st)
 
 -- the bounds of all listed stations in file order, none where a station is no morsel
 abbrev pub measures : Asked → Contents → List (Option ℤ)

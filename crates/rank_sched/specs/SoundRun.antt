@@ -12,9 +12,9 @@ use Rattle.rank_sched.specs.Exchanges.{SeeUpward}
 use Rattle.rank_sched.specs.Machine.{Worker, State}
 
 -- each number is above all before it
-abbrev pub Rise : List ℕ → Type 0
-Rise [] = Unit {0}
-Rise (x ∷ xs) = AllByRecursion (λ y. x < y) xs × Rise xs
+abbrev pub NumbersRise : List ℕ → Type 0
+NumbersRise [] = Unit {0}
+NumbersRise (x ∷ xs) = AllByRecursion (λ y. x < y) xs × NumbersRise xs
 
 -- the numbers that a worker has drawn and not settled
 abbrev pub unsettled : Turn → List ℕ
@@ -48,7 +48,7 @@ all_exchanges t vs = flat_map (exchanges_of t) vs
 -- what is true of the worker of a number
 pub record IsSoundWorker (t : Task) (guess : Option ℤ) (w : ℕ) (v : Worker) : Type 0 where
   -- claims: they rise
-  pub rise : Rise v.claims
+  pub rise : NumbersRise v.claims
   -- records: they name the worker, one for each claim that is settled, in the order of the claims, each of a morsel
   pub named : AllByRecursion (λ r. r.worker ≡ w) v.records
   pub settled : v.claims ≡ morsels_of v.records ++ unsettled v.turn

@@ -11,10 +11,10 @@ ghost use Rattle.rank_sched.specs.Hauls.{all_records, AreSound};
 ghost use Rattle.rank_sched.specs.TakingBack.{stays, was_skipped};
 ghost use Rattle.rank_sched.specs.Task.{task_of};
 
-use crate::machine::is_below;
 use crate::{Answer, Haul, Line, Plan, Record};
 use ghcn_fields::Memory;
 use rank_pool::Pool;
+use rank_scores::is_below;
 use std::alloc::Global;
 
 /// The answer of a run whose workers brought these hauls home.
@@ -25,7 +25,7 @@ pub fn finish(alloc: Global, plan: &Plan<'_>, hauls: Vec<Haul>) -> Result<Answer
     requires { AreSound (task_of plan.now) hauls.items }
     ensures { IfOk result (IsAnswer plan.now (all_records hauls.items)) }
 {
-    let (records, mut pool) = gather(alloc, plan, hauls)?;
+    let (records, mut pool) = join_hauls(alloc, plan, hauls)?;
     let skips = take_back(alloc, plan, records.as_slice(), &mut pool)?;
     let lines = lines_of(alloc, plan, skips.as_slice())?;
     let taken_back = count_back(records.as_slice(), skips.as_slice());
@@ -38,7 +38,11 @@ pub fn finish(alloc: Global, plan: &Plan<'_>, hauls: Vec<Haul>) -> Result<Answer
 }
 
 /// All records, haul after haul, and the best of all that was scanned.
-fn gather(alloc: Global, plan: &Plan<'_>, hauls: Vec<Haul>) -> Result<(Vec<Record>, Pool), Memory>
+fn join_hauls(
+    alloc: Global,
+    plan: &Plan<'_>,
+    hauls: Vec<Haul>,
+) -> Result<(Vec<Record>, Pool), Memory>
     requires { AreSound (task_of plan.now) hauls.items }
     ensures records { IfOk result (λ r. r.0.items ≡ all_records hauls.items) }
     ensures pool { IfOk result (λ r. r.1 ≡ pool_of (task_of plan.now) (all_records hauls.items)) }

@@ -27,9 +27,9 @@ pub use laws::{
     ends_are_sound, hauls_are_right, hauls_grow, plans_have_the_best, runs_are_sound, workers_join,
 };
 pub use line::Line;
-pub use machine::{Machine, record_of};
+pub use machine::Machine;
 pub use measured::measure;
 pub use plan::Plan;
-pub use record::Record;
+pub use record::{Record, record_of};
 pub use replayed::replay;
 pub use turn::Turn;

@@ -4,7 +4,6 @@ ghost use Rattle.std.specs.Prelude.{◌≡◌, ◌<◌, ◌≤◌, true, false, 
 ghost use Rattle.std.specs.Prelude.{slice_get};
 ghost use Rattle.std.specs.List.{list_all, AllByRecursion};
 ghost use Rattle.ghcn_fields.specs.Floor.{IsScore};
-ghost use Rattle.rank_scores.specs.Order as order;
 ghost use Rattle.rank_sched.specs.declared.event.Event.TheVariants as events;
 ghost use Rattle.rank_sched.specs.declared.event.StepFault.TheVariants as faults;
 ghost use Rattle.rank_sched.specs.declared.turn.Turn.TheVariants as turns;
@@ -13,7 +12,7 @@ ghost use Rattle.rank_sched.specs.Machine as machine;
 ghost use Rattle.rank_sched.specs.Hauls as hauls;
 ghost use Rattle.rank_sched.specs.Task.{task_of};
 
-use crate::{Event, Haul, Plan, Record, StepFault, Turn};
+use crate::{Event, Haul, Plan, StepFault, Turn, record_of};
 use ghcn_fields::Memory;
 use std::alloc::Global;
 use std::marker::Model;
@@ -224,28 +223,6 @@ fn drawn(plan: &Plan<'_>, number: u64) -> Turn
         Turn::Claimed(number)
     } else {
         Turn::Stopped(number)
-    }
-}
-
-/// What a worker writes down about a morsel, after it saw this floor.
-pub fn record_of(plan: &Plan<'_>, worker: u64, morsel: u64, seen: Option<i64>) -> Record
-    ensures { result ≡ machine.record_of (task_of plan.now) worker morsel seen }
-{
-    Record {
-        morsel,
-        worker,
-        seen,
-        skipped: is_below(seen, plan.bound(morsel).unwrap_or(0)),
-    }
-}
-
-/// Whether there is a score, and the bound is strictly below it.
-pub(crate) fn is_below(score: Option<i64>, bound: i64) -> bool
-    ensures { result ≡ order.is_below score bound }
-{
-    match score {
-        Some(score) => bound < score,
-        None => false,
     }
 }
 

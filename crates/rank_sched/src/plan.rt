@@ -57,27 +57,27 @@ impl<'a> Model for Plan<'a> {
 
 impl<'a> Plan<'a> {
     /// The plan of a query over some data.
-    pub fn new(alloc: Global, held: &'a Data, query: &Query) -> Result<Self, Memory>
-        ensures { IfOk result (λ made. made ≡ plan.planned query.now held.now) }
+    pub fn new(alloc: Global, dataset: &'a Data, query: &Query) -> Result<Self, Memory>
+        ensures { IfOk result (λ made. made ≡ plan.planned query.now dataset.now) }
     {
-        let bounds = bounds_of(alloc, held, query)?;
-        Plan::of_bounds(alloc, held, query, bounds.as_slice())
+        let bounds = bounds_of(alloc, dataset, query)?;
+        Plan::of_bounds(alloc, dataset, query, bounds.as_slice())
     }
 
     /// The same plan, from what `measure` answers for each place in turn.
     pub fn of_bounds(
         alloc: Global,
-        held: &'a Data,
+        dataset: &'a Data,
         query: &Query,
         bounds: &[Option<i64>],
     ) -> Result<Self, Memory>
-        requires { bounds.now ≡ plan.measures query.now held.now }
-        ensures { IfOk result (λ made. made ≡ plan.planned query.now held.now) }
+        requires { bounds.now ≡ plan.measures query.now dataset.now }
+        ensures { IfOk result (λ made. made ≡ plan.planned query.now dataset.now) }
     {
-        let mut morsels = morsels_of(alloc, held, query, bounds)?;
+        let mut morsels = morsels_of(alloc, dataset, query, bounds)?;
         morsels.sort_unstable_by(|a, b| drawn_cmp(a, b));
         Ok(Plan {
-            data: held,
+            data: dataset,
             query: *query,
             morsels,
         })
@@ -159,14 +159,14 @@ impl<'a> Plan<'a> {
 /// The bounds of all listed stations, in their order.
 pub(crate) fn bounds_of(
     alloc: Global,
-    held: &Data,
+    dataset: &Data,
     query: &Query,
 ) -> Result<Vec<Option<i64>>, Memory>
-    ensures { IfOk result (λ bounds. bounds.items ≡ plan.measures query.now held.now) }
+    ensures { IfOk result (λ bounds. bounds.items ≡ plan.measures query.now dataset.now) }
 {
     let mut bounds = Vec::new(alloc);
-    for place in 0..held.stations().len() {
-        bounds.push(measure(alloc, held, query, place)?)?;
+    for place in 0..dataset.stations().len() {
+        bounds.push(measure(alloc, dataset, query, place)?)?;
     }
     Ok(bounds)
 }
@@ -174,20 +174,20 @@ pub(crate) fn bounds_of(
 /// The morsels in the order of their stations, from the bounds of all stations.
 fn morsels_of<'a>(
     alloc: Global,
-    held: &'a Data,
+    dataset: &'a Data,
     query: &Query,
     bounds: &[Option<i64>],
 ) -> Result<Vec<Morsel<'a>>, Memory>
-    requires { bounds.now ≡ plan.measures query.now held.now }
+    requires { bounds.now ≡ plan.measures query.now dataset.now }
     ensures morsels { IfOk result (λ morsels. map plan.planned_morsel morsels.items
-        ≡ filter_map (plan.morsel_at query.now held.now) held.now.stations) }
+        ≡ filter_map (plan.measured_at query.now dataset.now) dataset.now.stations) }
     ensures asked { IsAsked query.now }
-    ensures contents { IsContents held.now }
+    ensures contents { IsContents dataset.now }
 {
     let element = query.element();
     let mut morsels = Vec::new(alloc);
-    for place in 0..held.stations().len() {
-        if let Some(morsel) = morsel_at(held, element, place, bounds[place as usize]) {
+    for place in 0..dataset.stations().len() {
+        if let Some(morsel) = measured_at(dataset, element, place, bounds[place as usize]) {
             morsels.push(morsel)?;
         }
     }
@@ -195,19 +195,19 @@ fn morsels_of<'a>(
 }
 
 /// The morsel of the station at a place, if the station has a bound.
-fn morsel_at<'a>(
-    held: &'a Data,
+fn measured_at<'a>(
+    dataset: &'a Data,
     element: Element,
     place: u64,
     bound: Option<i64>,
 ) -> Option<Morsel<'a>>
     ensures { (q : Asked) → element ≡ score_element q.score →
-        option_map (plan.measure_of q held.now) (slice_get held.now.stations place) ≡ Some bound →
-        option_map (plan.morsel_at q held.now) (slice_get held.now.stations place)
+        option_map (plan.measure_of q dataset.now) (slice_get dataset.now.stations place) ≡ Some bound →
+        option_map (plan.measured_at q dataset.now) (slice_get dataset.now.stations place)
         ≡ Some (option_map plan.planned_morsel result) }
 {
     let bound = bound?;
-    let series = held.series_at(place, element)?;
+    let series = dataset.series_at(place, element)?;
     Some(Morsel { series, bound })
 }
 

@@ -1,5 +1,12 @@
 //! What a worker writes down about a morsel.
 
+ghost use Rattle.std.specs.Prelude.{◌≡◌};
+ghost use Rattle.rank_sched.specs.Machine as machine;
+ghost use Rattle.rank_sched.specs.Task.{task_of};
+
+use crate::Plan;
+use rank_scores::is_below;
+
 /// What one worker did with one morsel: the floor that it saw, and whether it passed the morsel
 /// over.
 #[derive(Clone, Copy, Debug, PartialEq, Eq)]
@@ -8,4 +15,16 @@ pub struct Record {
     pub worker: u64,
     pub seen: Option<i64>,
     pub skipped: bool,
+}
+
+/// What a worker writes down about a morsel, after it saw this floor.
+pub fn record_of(plan: &Plan<'_>, worker: u64, morsel: u64, seen: Option<i64>) -> Record
+    ensures { result ≡ machine.record_of (task_of plan.now) worker morsel seen }
+{
+    Record {
+        morsel,
+        worker,
+        seen,
+        skipped: is_below(seen, plan.bound(morsel).unwrap_or(0)),
+    }
 }

@@ -10,13 +10,13 @@ use Rattle.std.proofs.lemmas.Cmp.{int_cmp_total, on_total}
 use Rattle.std.proofs.lemmas.Int.{ints}
 use Rattle.std.proofs.lemmas.List.Elements.{filter-append}
 use Rattle.ghcn_fields.specs.Sorting.{placed, sorted_by}
-use Rattle.ghcn_fields.proofs.Ordered as ordered
+use Rattle.ghcn_files.proofs.Ordered as ordered
 use Rattle.ghcn_files.specs.declared.station.StationId.{StationId}
 use Rattle.ghcn_files.specs.declared.element.Element.{Element}
 use Rattle.ghcn_series.specs.Series.{DayValue, by_day}
 use Rattle.ghcn_series.specs.Says.{Fact, days_of}
 use Rattle.ghcn_series.proofs.JoinedFiles.{days_said, days_said-append, joined-left, joined-right}
-use Rattle.ghcn_series.proofs.ListFacts.{all_filter}
+use Rattle.ghcn_series.proofs.ListFacts.{all-filter}
 use Rattle.rank_query.specs.Asked.{Asked}
 use Rattle.rank_query.specs.Admits.{admits_day}
 use Rattle.rank_scores.specs.Stretches.{admitted_among}
@@ -50,7 +50,7 @@ module _ {X : Type 0} (cmp : X → X → Ordering) (total : IsTotalOrder cmp) (f
       → filter p (placed first x ys) ≡ placed first x (filter p ys)
   filter-placed x [] passing turn = ap (λ (b : Bool). cond b (x ∷ []) []) passing
   filter-placed x (y ∷ ys) passing turn =
-      grind (arith, ints, placed-front, all_filter, before_all, filter-placed x ys passing turn.1)
+      grind (arith, ints, placed-front, all-filter, before_all, filter-placed x ys passing turn.1)
 
   -- the test may be made before the elements are put in order or after
   pub filter-sorted : (xs : List X) → filter p (sorted_by first xs) ≡ sorted_by first (filter p xs)

@@ -2,19 +2,14 @@
 use Rattle.std.proofs.Common.{◌≡◌, ℕ, Bool, true, false, cond, not, List, [], ◌∷◌, length, map, filter, refl, sym}
 use Rattle.std.proofs.Common.{ap, ◌∙◌, subst, None, Some}
 use Rattle.std.specs.Prelude.{◌==◌}
-use Rattle.std.specs.List.{flat_map, cons_option, AllByRecursion, IsDistinct}
+use Rattle.std.specs.List.{flat_map, cons_option, IsDistinct}
 use Rattle.std.specs.List.Sorted.{IsPermutation}
-use Rattle.std.specs.Cmp.{IsTotalOrder}
-use Rattle.std.specs.Cmp.Lexicographic.{slice_cmp}
-use Rattle.std.specs.Ordering.{is_eq, nat_cmp, on}
-use Rattle.std.specs.declared.cmp.Ordering.{Ordering}
-use Rattle.std.specs.declared.cmp.Ordering.TheVariants.{Equal}
-use Rattle.std.proofs.lemmas.Cmp.{nat_list_cmp_total, on_total}
-use Rattle.std.proofs.lemmas.Map.Text.{is_eq-slice_cmp}
 use Rattle.ghcn_fields.specs.Sorting.{sorted_by}
 use Rattle.ghcn_files.specs.declared.station.Station.{Station}
+use Rattle.ghcn_files.specs.declared.station.StationId.{StationId}
 use Rattle.ghcn_files.specs.Ids.{same_id}
-use Rattle.ghcn_files.specs.IdLaws.{same_id-turned}
+use Rattle.ghcn_files.proofs.IdOrder.{id_cmp, id_total, same_station-turned, tied_same}
+use Rattle.ghcn_files.proofs.Ordered.{distinct-mapped}
 use Rattle.ghcn_series.specs.Series.{Usable, Contents}
 use Rattle.ghcn_series.specs.Says.{Fact}
 use Rattle.ghcn_series.specs.JoinedFiles.{facts_in}
@@ -38,33 +33,6 @@ use Rattle.std.proofs.Common.{rules}
 abbrev same_station : Usable → Usable → Bool
 same_station a b = same_id a.id b.id
 
--- which of two is named first makes no difference
-same_station-turned : (a b : Usable) → same_station a b ≡ same_station b a
-same_station-turned a b = same_id-turned a.id b.id
-
--- the order by ID
-abbrev id_cmp : Usable → Usable → Ordering
-id_cmp = on (λ s. s.id.0) (slice_cmp nat_cmp)
-
--- it is total
-id_total : IsTotalOrder id_cmp
-id_total = on_total (λ (s : Usable). s.id.0) nat_list_cmp_total
-
--- series that tie are of one station
-series_tied : (a b : Usable) → id_cmp a b ≡ Equal → same_station a b ≡ true
-series_tied a b e = sym (is_eq-slice_cmp a.id.0 b.id.0) ∙ ap is_eq e
-
--- series with different IDs are of different stations
-distinct_series : (us : List Usable) → IsDistinct same_id (map (λ (s : Usable). s.id) us) → IsDistinct same_station us
-unfolding IsDistinct
-distinct_series [] d = tt
-distinct_series (u ∷ us) d = (others us d.0, distinct_series us d.1)
-  where
-    others : (vs : List Usable) → AllByRecursion (λ i. same_id u.id i ≡ false) (map (λ (s : Usable). s.id) vs)
-        → AllByRecursion (λ v. same_station u v ≡ false) vs
-    others [] h = tt
-    others (v ∷ vs) h = (h.0, others vs h.1)
-
 -- ---- what facts give
 
 module _ (q : Asked) (stations : List Station) where
@@ -82,7 +50,8 @@ module _ (q : Asked) (stations : List Station) where
 
   -- what facts give joins where they do
   given_join : lists.Joins (given q stations) has_days same_station
-  given_join = grind (arith, ints, same_station-turned, usable_of-left, usable_of-right, same_id-refl)
+  given_join =
+      grind (arith, ints, same_station-turned (λ (s : Usable). s.id), usable_of-left, usable_of-right, same_id-refl)
 
   -- the series that have a day are given
   given-kept : (facts : List Fact) (sts : List Station)
@@ -151,7 +120,7 @@ module _ (q : Asked) (stations : List Station) where
         -- no two series of the parts are of one station
         own_apart : IsDistinct same_station (flat_map own facts_by_part)
         own_apart = subst (IsDistinct same_station) (all_own parts)
-            (distinct_series (flat_map (admitted_series q) data_by_part) distinct)
+            (distinct-mapped (λ (s : Usable). s.id) same_id (flat_map (admitted_series q) data_by_part) distinct)
 
         -- nor are two with an admitted day
         ready_apart : IsDistinct same_station (flat_map ready facts_by_part)
@@ -176,9 +145,11 @@ module _ (q : Asked) (stations : List Station) where
         pub morsels_together : morsels q (contents_in stations all_files)
             ≡ sorted_by series_first (flat_map (morsels q) data_by_part)
         morsels_together =
+            let id_of : Usable → StationId = λ s. s.id in
             ready_held all_files
-            ∙ lists.sorted_together id_cmp id_total series_first (λ a b. refl) same_station same_station-turned
-            series_tied ready facts_by_part (ready (facts_in stations all_files)) ready_apart ready_together
+            ∙ lists.sorted_together (id_cmp id_of) (id_total id_of) series_first (λ a b. refl) same_station
+            (same_station-turned id_of) (tied_same id_of) ready facts_by_part (ready (facts_in stations all_files))
+            ready_apart ready_together
             ∙ ap (sorted_by series_first) (sym (all_ready parts))
 
 -- where no station has a series of the query's element in two parts, the morsels of all files are those of the parts

@@ -6,8 +6,10 @@ use Rattle.std.proofs.lemmas.List.{map-append}
 use Rattle.std.proofs.lemmas.List.Sorted.{IsPermutation-sym}
 use Rattle.std.proofs.lemmas.Map.Keys.{IsDistinct-IsPermutation}
 use Rattle.ghcn_fields.specs.Sorting.{sorted_by}
-use Rattle.ghcn_fields.proofs.Ordered as ordered
+use Rattle.ghcn_files.proofs.IdOrder.{id_cmp, id_total, same_station-turned, tied_same}
+use Rattle.ghcn_files.proofs.Ordered.{sorted-permutation}
 use Rattle.ghcn_files.specs.declared.station.Station.{Station}
+use Rattle.ghcn_files.specs.declared.station.StationId.{StationId}
 use Rattle.ghcn_files.specs.Ids.{same_id}
 use Rattle.ghcn_series.specs.Series.{Contents}
 use Rattle.ghcn_series.specs.Says.{Fact}
@@ -20,8 +22,7 @@ use Rattle.rank_scores.specs.declared.candidate.Candidate.{Candidate}
 use Rattle.rank_scores.specs.Morsels.{all_candidates, morsels}
 use Rattle.rank_scores.specs.Cut.{IsSameFor, series_first, IsCut, morsel_ids, CutByFiles}
 use Rattle.rank_scores.proofs.CutDays.{admitted-left, admitted-right}
-use Rattle.rank_scores.proofs.CutSeries.{Seen, has_any, of_one, of_one-turned, comes_first, seen_cmp, seen_total}
-use Rattle.rank_scores.proofs.CutSeries.{seen_tied, seen, candidates_seen, seen_in, same_seen}
+use Rattle.rank_scores.proofs.CutSeries.{Seen, has_any, of_one, comes_first, seen, candidates_seen, seen_in, same_seen}
 use Rattle.rank_scores.proofs.CutSeries.{distinct_seen, sorted-seen, admitted_stations, held_in, candidates_held}
 use Rattle.rank_scores.proofs.CutSeries.{morsels_held}
 use Rattle.std.proofs.Common.{arith}
@@ -78,7 +79,7 @@ module _ {P : Type 0} (q : Asked) (stations : List Station) (files : P → List 
 
   -- so what is seen joins where facts do
   seen_join : lists.Joins (seen_in q) has_any of_one
-  seen_join = grind (arith, ints, of_one-turned, seen-left, seen-right, same_id-refl)
+  seen_join = grind (arith, ints, same_station-turned (λ (x : Seen). x.0), seen-left, seen-right, same_id-refl)
 
   module _ (parts : List P) where
     -- the files of all parts
@@ -105,7 +106,7 @@ module _ {P : Type 0} (q : Asked) (stations : List Station) (files : P → List 
     unsorted : IsPermutation (flat_map by_id facts_by_part) (flat_map (held_in q stations) facts_by_part)
     unsorted = lists.flat_map-permuted by_id (held_in q stations) facts_by_part
         (λ f. IsPermutation-sym (held_in q stations f) (by_id f)
-        (ordered.sorted-permutation comes_first (held_in q stations f)))
+        (sorted-permutation comes_first (held_in q stations f)))
 
     module _ (distinct : IsDistinct same_id (morsel_ids q data_by_part)) where
       -- what is seen in all parts is of different stations
@@ -116,7 +117,7 @@ module _ {P : Type 0} (q : Asked) (stations : List Station) (files : P → List 
       -- in any order
       held_apart : IsDistinct of_one (flat_map (held_in q stations) facts_by_part)
       held_apart =
-          IsDistinct-IsPermutation of_one of_one-turned (flat_map by_id facts_by_part)
+          IsDistinct-IsPermutation of_one (same_station-turned (λ (x : Seen). x.0)) (flat_map by_id facts_by_part)
           (flat_map (held_in q stations) facts_by_part) unsorted all_apart
 
       -- it is what is seen in all files
@@ -130,8 +131,10 @@ module _ {P : Type 0} (q : Asked) (stations : List Station) (files : P → List 
       -- and in the order of IDs the same
       in_order : sorted_by comes_first held_of_all ≡ sorted_by comes_first (flat_map by_id facts_by_part)
       in_order =
-          lists.sorted_together seen_cmp seen_total comes_first (λ a b. refl) of_one of_one-turned seen_tied
-          (held_in q stations) facts_by_part held_of_all held_apart held_together
+          let id_of : Seen → StationId = λ x. x.0 in
+          lists.sorted_together (id_cmp id_of) (id_total id_of) comes_first (λ a b. refl) of_one
+          (same_station-turned id_of) (tied_same id_of) (held_in q stations) facts_by_part held_of_all held_apart
+          held_together
 
       -- the morsels of all files are those of the parts, as the query sees them
       morsels_cut : AllZip (IsSameFor q) (sorted_by series_first (flat_map (morsels q) data_by_part))

@@ -3,19 +3,12 @@ use Rattle.std.proofs.Common.{◌≡◌, Bool, true, false, cond, not, List, [],
 use Rattle.std.proofs.Common.{sym, ap, ◌∙◌, Option, None, Some, ℕ}
 use Rattle.std.specs.Prelude.{◌==◌}
 use Rattle.std.specs.List.{filter_map, flat_map, cons_option, AllByRecursion, AllZip, IsDistinct}
-use Rattle.std.specs.Cmp.{IsTotalOrder}
-use Rattle.std.specs.Cmp.Lexicographic.{slice_cmp}
-use Rattle.std.specs.Ordering.{is_eq, nat_cmp, on}
-use Rattle.std.specs.declared.cmp.Ordering.{Ordering}
-use Rattle.std.specs.declared.cmp.Ordering.TheVariants.{Equal}
 use Rattle.std.proofs.lemmas.Bool.{not-false}
-use Rattle.std.proofs.lemmas.Cmp.{nat_list_cmp_total, on_total}
-use Rattle.std.proofs.lemmas.Map.Text.{is_eq-slice_cmp}
-use Rattle.ghcn_fields.specs.Sorting.{placed, sorted_by}
+use Rattle.ghcn_fields.specs.Sorting.{sorted_by}
 use Rattle.ghcn_files.specs.declared.station.Station.{Station}
 use Rattle.ghcn_files.specs.declared.station.StationId.{StationId}
 use Rattle.ghcn_files.specs.Ids.{same_id}
-use Rattle.ghcn_files.specs.IdLaws.{same_id-turned}
+use Rattle.ghcn_files.proofs.Ordered.{distinct-map, distinct-mapped, sorted-map}
 use Rattle.ghcn_series.specs.Series.{DayValue, Usable, series_of}
 use Rattle.ghcn_series.specs.DailyFaults.{is_listed}
 use Rattle.ghcn_series.specs.Says.{Fact, days_of, usable_of}
@@ -23,7 +16,7 @@ use Rattle.ghcn_series.specs.JoinedFiles.{facts_in}
 use Rattle.ghcn_series.proofs.AllSeries.{all_listed}
 use Rattle.ghcn_series.proofs.FoundSeries.{if_it_has_days, series_of-listed}
 use Rattle.ghcn_series.proofs.JoinedFiles.{contents_in, none_in}
-use Rattle.ghcn_series.proofs.ListFacts.{all_filter}
+use Rattle.ghcn_series.proofs.ListFacts.{all-filter}
 use Rattle.rank_query.specs.Asked.{Asked, score_element}
 use Rattle.rank_query.specs.Admits.{admits_station}
 use Rattle.rank_scores.specs.declared.candidate.Candidate.{Candidate}
@@ -32,25 +25,7 @@ use Rattle.rank_scores.specs.Stretches.{admitted_among}
 use Rattle.rank_scores.specs.Morsels.{admitted_series, all_candidates, has_admitted, id_comes_first, morsels}
 use Rattle.rank_scores.specs.Cut.{IsSameFor, series_first}
 use Rattle.std.proofs.Common.{arith}
-use Rattle.std.proofs.lemmas.Int.{ints}
 use Rattle.std.proofs.Common.{rules}
-
--- ---- lists in an order
-
-module _ {A B : Type 0} (f : A → B) (first : B → B → Bool) where
-  -- the order of things by what is made of them
-  abbrev made_first : A → A → Bool
-  made_first a b = first (f a) (f b)
-
-  -- one more is placed alike
-  placed-map : (a : A) (ys : List A) → map f (placed made_first a ys) ≡ placed first (f a) (map f ys)
-  placed-map a [] = refl
-  placed-map a (y ∷ ys) = grind (arith, ints, placed-map a ys)
-
-  -- what is made of things in that order is in order
-  sorted-map : (xs : List A) → map f (sorted_by made_first xs) ≡ sorted_by first (map f xs)
-  sorted-map [] = refl
-  sorted-map (x ∷ xs) = placed-map x (sorted_by made_first xs) ∙ ap (placed first (f x)) (sorted-map xs)
 
 -- ---- what a query sees of a series
 
@@ -69,22 +44,6 @@ of_one a b = same_id a.0 b.0
 -- which of two comes first, by ID
 abbrev pub comes_first : Seen → Seen → Bool
 comes_first a b = id_comes_first a.0 b.0
-
--- which of two is named first makes no difference
-pub of_one-turned : (a b : Seen) → of_one a b ≡ of_one b a
-of_one-turned a b = same_id-turned a.0 b.0
-
--- the order by ID
-abbrev pub seen_cmp : Seen → Seen → Ordering
-seen_cmp = on (λ x. x.0.0) (slice_cmp nat_cmp)
-
--- it is total
-pub seen_total : IsTotalOrder seen_cmp
-seen_total = on_total (λ (x : Seen). x.0.0) nat_list_cmp_total
-
--- those that tie are of one station
-pub seen_tied : (a b : Seen) → seen_cmp a b ≡ Equal → of_one a b ≡ true
-seen_tied a b e = sym (is_eq-slice_cmp a.0.0 b.0.0) ∙ ap is_eq e
 
 module _ (q : Asked) where
   -- what the query sees of a series
@@ -132,14 +91,7 @@ module _ (q : Asked) where
   -- series of different stations are seen as of different ones
   pub distinct_seen : (us : List Usable) → IsDistinct same_id (map (λ (s : Usable). s.id) us)
       → IsDistinct of_one (map seen us)
-  unfolding IsDistinct
-  distinct_seen [] d = tt
-  distinct_seen (u ∷ us) d = (others us d.0, distinct_seen us d.1)
-    where
-      others : (vs : List Usable) → AllByRecursion (λ i. same_id u.id i ≡ false) (map (λ (s : Usable). s.id) vs)
-          → AllByRecursion (λ y. of_one (seen u) y ≡ false) (map seen vs)
-      others [] h = tt
-      others (v ∷ vs) h = (h.0, others vs h.1)
+  distinct_seen us d = distinct-map seen of_one us (distinct-mapped (λ (s : Usable). s.id) same_id us d)
 
   -- morsels in their order are seen in their order
   pub sorted-seen : (us : List Usable) → map seen (sorted_by series_first us) ≡ sorted_by comes_first (map seen us)
@@ -179,7 +131,7 @@ module _ (q : Asked) where
     -- so are the series that the query is about
     pub admitted_series-given : (files : List (List ℕ)) → admitted_series q (contents_in stations files)
         ≡ all_given (facts_in stations files) admitted_stations
-    admitted_series-given files = search (rules, arith, series_given, all_filter, all_listed)
+    admitted_series-given files = search (rules, arith, series_given, all-filter, all_listed)
 
     -- without a day there is no admitted one
     no_day : (s : Usable) → (length s.days == 0) ≡ true → has_admitted q s ≡ false

@@ -8,8 +8,7 @@ use Rattle.ghcn_fields.specs.Dates.{year_and_rest, month_and_day}
 use Rattle.ghcn_series.specs.Series.{DayValue, Usable, Contents}
 use Rattle.rank_query.specs.declared.score.Score.{Score}
 use Rattle.rank_query.specs.declared.score.Score.TheVariants.{Highest, Lowest, Sum, Dry, Wet, Hot}
-use Rattle.rank_query.specs.declared.region.Region.TheVariants.{Everywhere}
-use Rattle.rank_query.specs.Asked.{Asked}
+use Rattle.rank_query.specs.Asked.{Asked, top}
 use Rattle.rank_scores.specs.Runs.{run_from}
 use Rattle.rank_scores.specs.declared.candidate.Candidate.{Candidate}
 use Rattle.rank_scores.specs.Candidates.{candidates}
@@ -34,13 +33,11 @@ series id e days = record { id = id; element = e; days = days }
 
 -- a query without a region
 abbrev pub ask : ℕ → Score → Option (ℤ × ℤ) → Asked
-ask k score period =
-    record { k = k; score = score; region = Everywhere; season = None; period = period }
+ask k score period = record (top k score) { period = period }
 
 -- a query of some months
 abbrev pub ask_in : ℕ → Score → ℕ × ℕ → Asked
-ask_in k score season =
-    record { k = k; score = score; region = Everywhere; season = Some season; period = None }
+ask_in k score season = record (top k score) { season = Some season }
 
 -- a candidate
 abbrev pub found : StationId → ℤ → ℤ → ℤ → Candidate

@@ -9,6 +9,7 @@ pub mod Rising
 pub mod Exactly
 pub mod Examples
 pub mod QueryCandidates
+pub mod QueryMorsels
 pub mod CutDays
 pub mod CutSeries
 pub mod CutParts

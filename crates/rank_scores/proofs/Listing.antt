@@ -27,7 +27,7 @@ tied : (s i f : Ordering) → ordering_then s (ordering_then i f) ≡ Equal → 
 tied s i f e = grind arith
 
 -- candidates that tie in rank begin alike
-tied_alike : (a b : Candidate) → rank_cmp a b ≡ Equal → begin_alike a b ≡ true
+pub tied_alike : (a b : Candidate) → rank_cmp a b ≡ Equal → begin_alike a b ≡ true
 tied_alike a b e = search (rules, arith, Bool, is_eq-slice_cmp, tied)
 
 -- of two that don't tie, the one that isn't listed later comes first
@@ -52,7 +52,7 @@ by_place (x ∷ xs) h = (
 )
 
 -- beginning alike is the same both ways
-alike-symm : (a b : Candidate) → begin_alike a b ≡ begin_alike b a
+pub alike-symm : (a b : Candidate) → begin_alike a b ≡ begin_alike b a
 alike-symm a b = grind (arith, ints, nat_list_eq_equiv, int_eq_equiv)
 
 -- where candidates that are apart are put in order, each precedes all behind it

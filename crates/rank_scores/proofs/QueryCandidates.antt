@@ -1,59 +1,45 @@
 -- The candidates of a query: that no two begin alike, and that they and the best of them are of listed stations.
-use Rattle.std.proofs.Common.{◌≡◌, ℕ, Bool, true, false, cond, List, [], ◌∷◌, ◌++◌, map, filter, Option, Some, None}
-use Rattle.std.proofs.Common.{refl, ap, ◌∙◌, subst, arith}
+use Rattle.std.proofs.Common.{◌≡◌, ℕ, Bool, true, false, List, [], ◌∷◌, ◌++◌, map, filter, Option, Some, None}
+use Rattle.std.proofs.Common.{refl, ◌∙◌, subst, arith}
 use Rattle.std.specs.Prelude.{IsTrue}
 use Rattle.std.specs.List.{flat_map, filter_map, find, cons_option, AllByRecursion, IsDistinct}
 use Rattle.std.specs.List.{list_any}
 use Rattle.std.specs.Option.{is_some}
-use Rattle.std.specs.Cmp.Lexicographic.{bytes_decides}
 use Rattle.std.proofs.lemmas.Bool.{and_parts, cond_both}
 use Rattle.ghcn_files.specs.declared.station.Station.{Station}
 use Rattle.ghcn_files.specs.declared.station.StationId.{StationId}
 use Rattle.ghcn_files.specs.Ids.{same_id}
 use Rattle.ghcn_files.specs.Listed.{is_station_of}
+use Rattle.ghcn_files.proofs.IdLaws.{same_id-is}
+use Rattle.ghcn_files.proofs.IdOrder.{strictly, sorted-rise}
+use Rattle.ghcn_files.proofs.Ordered.{Descend, each-mapped}
 use Rattle.ghcn_series.specs.Series.{Usable, Contents, IsSeries, series_of, is_series_of}
 use Rattle.ghcn_series.specs.DailyFaults.{is_listed}
+use Rattle.ghcn_series.specs.Held.{IsContents}
+use Rattle.ghcn_series.proofs.ListFacts.{each-append, distinct_filter}
+use Rattle.ghcn_series.proofs.Members.{found_in, of_one}
 use Rattle.rank_query.specs.Asked.{Asked, score_element}
 use Rattle.rank_query.specs.Admits.{admits_station}
 use Rattle.rank_scores.specs.declared.candidate.Candidate.{Candidate}
 use Rattle.rank_scores.specs.Candidates.{candidates}
 use Rattle.rank_scores.specs.Order.{best, AreApart}
+use Rattle.rank_scores.specs.Morsels.{admitted_series, has_admitted, morsels}
 use Rattle.rank_scores.specs.QueryCandidates.{CandidatesAreApart, CandidatesAreOfListed, BestAreOfListed}
 use Rattle.rank_scores.proofs.Exactly.{apart, begun_on, made}
-use Rattle.rank_scores.proofs.Rising.{from_each, each, all-filter, all-made, all-mapped}
+use Rattle.rank_scores.proofs.Rising.{from_each, each, all-filter, all-made}
 use Rattle.std.proofs.lemmas.Int.{ints}
 
 -- ---- what holds of each element of a list
 
--- what is found passes, and what holds of each element holds of it
-found : {X : Type 0} (P : X → Type 0) (test : X → Bool) (xs : List X) (x : X) → AllByRecursion P xs →
-    find test xs ≡ Some x → (test x ≡ true) × P x
-found P test [] x h e = absurd cc
-found P test (y ∷ ys) x h e =
-    elim (test y) as (λ b. test y ≡ b → cond b (Some y) (find test ys) ≡ Some x → (test x ≡ true) × P x) [
-      | true ↦ λ t f. let same : y ≡ x = cc in subst (λ z. (test z ≡ true) × P z) same (t, h.0)
-      | false ↦ λ t f. found P test ys x h.1 f
-    ] refl e
-
 -- what holds of each element holds of the one that is found
 pub found-holds : {X : Type 0} (P : X → Type 0) (test : X → Bool) (xs : List X) (x : X) →
     AllByRecursion P xs → find test xs ≡ Some x → P x
-found-holds P test xs x h e = (found P test xs x h e).1
+found-holds P test xs x h e = of_one P xs x h (found_in test xs x e).0
 
 -- one is found where one passes
 any_found : {X : Type 0} (test : X → Bool) (xs : List X) → is_some (find test xs) ≡ list_any test xs
 any_found test [] = refl
 any_found test (x ∷ xs) = grind (arith, ints, any_found test xs)
-
--- each element of two lists, one after the other
-each-append : {X : Type 0} (P : X → Type 0) (xs ys : List X) →
-    AllByRecursion P xs → AllByRecursion P ys → AllByRecursion P (xs ++ ys)
-each-append P [] ys h k = k
-each-append P (x ∷ xs) ys h k = (h.0, each-append P xs ys h.1 k)
-
--- IDs that are the same are equal
-pub id_from_same : (a b : StationId) → same_id a b ≡ true → a ≡ b
-id_from_same a b e = ap (λ (x : List ℕ). record { 0 = x }) ((bytes_decides (a.0) (b.0)).0 e)
 
 -- ---- the best
 
@@ -88,30 +74,42 @@ apart-append id (x ∷ xs) ys own other a b =
 
 module _ (q : Asked) (c : Contents) where
   -- the series of a station, if it has one
-  abbrev of_station : Station → Option Usable
+  abbrev pub of_station : Station → Option Usable
   of_station st = series_of c st.id (score_element q.score)
 
   -- the series of those of some stations that are admitted
-  abbrev series_among : List Station → List Usable
+  abbrev pub series_among : List Station → List Usable
   series_among sts = filter_map of_station (filter (admits_station q) sts)
 
   -- the series of a station has the station's ID
-  of_station-own : (st : Station) (u : Usable) → of_station st ≡ Some u → u.id ≡ st.id
+  pub of_station-own : (st : Station) (u : Usable) → of_station st ≡ Some u → u.id ≡ st.id
   of_station-own st u e =
-      let passes = found (λ _. Unit {0}) (is_series_of st.id (score_element q.score)) c.series u
-      (each (λ _. Unit {0}) c.series (λ _. tt)) e in
-      id_from_same u.id st.id (and_parts _ _ passes.0).0
+      same_id-is u.id st.id (and_parts _ _ (found_in (is_series_of st.id (score_element q.score)) c.series u e).1).0
 
   -- what holds of the series of each of some stations holds of all these
-  each_among : (P : Usable → Type 0) (sts : List Station) →
+  pub each_among : (P : Usable → Type 0) (sts : List Station) →
       AllByRecursion (λ st. (u : Usable) → of_station st ≡ Some u → P u) sts → AllByRecursion P (series_among sts)
   each_among P sts h = grind (arith, ints, all-made, all-filter)
 
   -- stations without an ID have no series of it
-  others_among : (id : StationId) (sts : List Station) →
+  pub others_among : (id : StationId) (sts : List Station) →
       AllByRecursion (λ i. same_id id i ≡ false) (map (λ (x : Station). x.id) sts) →
       AllByRecursion (λ u. same_id id u.id ≡ false) (series_among sts)
-  others_among id sts h = grind (arith, ints, each_among, from_each, of_station-own, all-mapped)
+  others_among id sts h = grind (arith, ints, each_among, from_each, of_station-own, each-mapped)
+
+  -- so series of stations with different IDs have different IDs
+  series_apart : (sts : List Station) → IsDistinct same_id (map (λ (x : Station). x.id) sts)
+      → IsDistinct (λ a b. same_id a.id b.id) (series_among sts)
+  unfolding IsDistinct
+  series_apart [] d = tt
+  series_apart (st ∷ sts) d =
+      cond_both (admits_station q st) (st ∷ filter (admits_station q) sts) (filter (admits_station q) sts)
+      (λ (l : List Station). IsDistinct (λ a b. same_id a.id b.id) (filter_map of_station l))
+      (λ _. elim (of_station st) as (λ o. of_station st ≡ o
+      → IsDistinct (λ a b. same_id a.id b.id) (cons_option o (series_among sts))) [
+        | None ↦ λ e. series_apart sts d.1
+        | Some u ↦ λ e. (rw (of_station-own st u e) (others_among st.id sts d.0), series_apart sts d.1)
+      ] refl) (λ _. series_apart sts d.1)
 
   -- no two candidates of stations with different IDs begin alike
   apart_among : AllByRecursion IsSeries c.series → (sts : List Station) →
@@ -130,6 +128,20 @@ module _ (q : Asked) (c : Contents) where
             (candidates-own q u)) (each_candidate (λ i. same_id st.id i ≡ false) q all (others_among st.id sts d.0))
             (apart q u (found-holds IsSeries (is_series_of st.id (score_element q.score)) c.series u right e)) tail
       ] refl) (λ _. tail)
+
+-- ---- the morsels of a query
+
+-- no two are of one station
+pub morsels_apart : (q : Asked) (c : Contents) → IsContents c
+    → IsDistinct (λ a b. same_id a.id b.id) (filter (has_admitted q) (admitted_series q c))
+morsels_apart q c right = distinct_filter (λ a b. same_id a.id b.id) (has_admitted q) (admitted_series q c)
+    (series_apart q c c.stations right.listed.distinct)
+
+-- and each has an ID before those of all behind it
+pub morsels_rise : (q : Asked) (c : Contents) → IsContents c
+    → Descend (λ a b. strictly (λ (s : Usable). s.id) a b ≡ true) (morsels q c)
+morsels_rise q c right = sorted-rise (λ s. s.id) (filter (has_admitted q) (admitted_series q c))
+    (morsels_apart q c right)
 
 -- ---- all candidates of a query
 

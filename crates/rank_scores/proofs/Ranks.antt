@@ -15,6 +15,7 @@ use Rattle.std.proofs.lemmas.Option.{slice_get-get_or, slice_get_within, get_or_
 use Rattle.std.proofs.Math.Seq.{take-nil}
 use Rattle.std.proofs.lemmas.List.MinMax.{ranks_by}
 use Rattle.std.proofs.lemmas.Map.Keys.{any_passes_from_place}
+use Rattle.ghcn_files.proofs.Ordered.{Descend}
 use Rattle.rank_scores.specs.declared.candidate.Candidate.{Candidate}
 use Rattle.rank_scores.specs.Order.{precedes, rank_cmp, rank_in, of_rank, best}
 use Rattle.rank_scores.proofs.Rising.{from_each}
@@ -31,8 +32,7 @@ asym a b h = (ranks_by rank_cmp_total (λ (c : Candidate). c)).one_way a b h
 
 -- each precedes all that stand behind it
 abbrev pub Descends : List Candidate → Type 0
-Descends [] = Unit {0}
-Descends (x ∷ xs) = AllByRecursion (λ y. precedes x y ≡ true) xs × Descends xs
+Descends = Descend (λ x y. precedes x y ≡ true)
 
 -- a test, as a number that counts
 abbrev one_if : Bool → ℕ

@@ -9,7 +9,8 @@ use Rattle.std.specs.Ordering.{int_cmp}
 use Rattle.std.specs.declared.cmp.Ordering.TheVariants.{Less}
 use Rattle.std.proofs.lemmas.Bool.{cond_both, and_parts}
 use Rattle.std.proofs.lemmas.Int.{ints}
-use Rattle.std.proofs.lemmas.List.Elements.{recursion_from_All, All-from_recursion, All-filter, All-map}
+pub use Rattle.ghcn_files.proofs.Ordered.{each-map, each-weaker as from_each}
+pub use Rattle.ghcn_series.proofs.ListFacts.{all-filter}
 use Rattle.ghcn_series.specs.Series.{DayValue, Usable, IsSeries, value_on, is_by_day}
 use Rattle.rank_query.specs.Asked.{Asked}
 use Rattle.rank_query.specs.Admits.{admits_day}
@@ -29,31 +30,10 @@ pub from_both : {X : Type 0} (P Q R : X → Type 0) (xs : List X) → ((x : X) �
 from_both P Q R [] f p q = tt
 from_both P Q R (x ∷ xs) f p q = (f x p.0 q.0, from_both P Q R xs f p.1 q.1)
 
--- what follows for each follows for all
-pub from_each : {X : Type 0} (P R : X → Type 0) (xs : List X) → ((x : X) → P x → R x) → AllByRecursion P xs
-    → AllByRecursion R xs
-from_each P R xs f p = from_both P P R xs (λ x h _. f x h) p p
-
 -- what is true of every element is true of all
 pub each : {X : Type 0} (P : X → Type 0) (xs : List X) → ((x : X) → P x) → AllByRecursion P xs
 each P [] f = tt
 each P (x ∷ xs) f = (f x, each P xs f)
-
--- what is true of all is true of those that pass a test
-pub all-filter : {X : Type 0} (P : X → Type 0) (t : X → Bool) (xs : List X) → AllByRecursion P xs
-    → AllByRecursion P (filter t xs)
-all-filter P t xs h = recursion_from_All P (filter t xs) (All-filter t P xs (All-from_recursion P xs h))
-
--- what is true of what each gives is true of all that is given
-all-map : {X Y : Type 0} (P : Y → Type 0) (f : X → Y) (xs : List X) → AllByRecursion (λ x. P (f x)) xs
-    → AllByRecursion P (map f xs)
-all-map P f xs h = recursion_from_All P (map f xs) (All-map P f xs (All-from_recursion (λ x. P (f x)) xs h))
-
--- and the other way round
-pub all-mapped : {X Y : Type 0} (P : Y → Type 0) (f : X → Y) (xs : List X) → AllByRecursion P (map f xs)
-    → AllByRecursion (λ x. P (f x)) xs
-all-mapped P f [] h = tt
-all-mapped P f (x ∷ xs) h = (h.0, all-mapped P f xs h.1)
 
 -- what follows for what each makes is true of all that is made
 pub all-made : {X Y : Type 0} (P : Y → Type 0) (f : X → Option Y) (xs : List X)
@@ -139,7 +119,7 @@ module _ (f : DayValue → Option Candidate)
       → IsStrictlySortedBy int_cmp (map (λ c. c.first) (cons_option o (filter_map f xs)))) [
         | None ↦ λ e. firsts_rise xs h.1
         | Some c ↦ λ e. (
-          all-map (λ z. int_cmp c.first z ≡ Less) (λ d. d.first) (filter_map f xs)
+          each-map (λ d. d.first) (λ z. int_cmp c.first z ≡ Less) (filter_map f xs)
               (all-made (λ d. int_cmp c.first d.first ≡ Less) f xs
               (from_each (λ y. x.0 <ℤ y.0) (λ y. (d : Candidate) → f y ≡ Some d → int_cmp c.first d.first ≡ Less) xs
               (λ y l d g. sym (int_cmp_is c.first d.first Less (omega (arith, ints, begins x c e, begins y d g, l))))

@@ -47,12 +47,12 @@ IsDataOf stations p d = data_of stations p.0 ≡ Ok d
 -- files that are cut into parts are cut as a query sees it, where all files together have no fault, and no station has
 -- morsels in two parts
 abbrev pub CutByFiles : Type 0
-CutByFiles = (q : Asked) (stations : List Station) (parts : List Filed) (ds : List Contents) (held : Contents)
-    → AllZip (IsDataOf stations) parts ds → data_of stations (flat_map (λ p. p.0) parts) ≡ Ok held
-    → IsDistinct same_id (morsel_ids q ds) → IsCut q held ds
+CutByFiles = (q : Asked) (stations : List Station) (parts : List Filed) (ds : List Contents) (dataset : Contents)
+    → AllZip (IsDataOf stations) parts ds → data_of stations (flat_map (λ p. p.0) parts) ≡ Ok dataset
+    → IsDistinct same_id (morsel_ids q ds) → IsCut q dataset ds
 
 -- where no station has a series of the query's element in two parts, the morsels of all files are those of the parts
 abbrev pub MorselsOfParts : Type 0
-MorselsOfParts = (q : Asked) (stations : List Station) (parts : List Filed) (ds : List Contents) (held : Contents)
-    → AllZip (IsDataOf stations) parts ds → data_of stations (flat_map (λ p. p.0) parts) ≡ Ok held
-    → IsDistinct same_id (series_ids q ds) → morsels q held ≡ sorted_by series_first (flat_map (morsels q) ds)
+MorselsOfParts = (q : Asked) (stations : List Station) (parts : List Filed) (ds : List Contents) (dataset : Contents)
+    → AllZip (IsDataOf stations) parts ds → data_of stations (flat_map (λ p. p.0) parts) ≡ Ok dataset
+    → IsDistinct same_id (series_ids q ds) → morsels q dataset ≡ sorted_by series_first (flat_map (morsels q) ds)

@@ -1,11 +1,12 @@
 -- The series that a query is about, and all its candidates.
-use Rattle.std.specs.Prelude.{ℤ, ◌≤ℤ◌, Option, Bool, not, ◌==◌, List, length, filter}
+use Rattle.std.specs.Prelude.{◌≡◌, ◌<◌, ℤ, ◌≤ℤ◌, Option, Some, None, Bool, not, if◌then◌else◌, ◌==◌, List, length, filter}
 use Rattle.std.specs.List.{flat_map, filter_map, AllByRecursion}
 use Rattle.std.specs.Ordering.{is_le, nat_cmp}
 use Rattle.std.specs.Cmp.Lexicographic.{slice_cmp}
 use Rattle.ghcn_fields.specs.Sorting.{sorted_by}
 use Rattle.ghcn_files.specs.declared.station.StationId.{StationId}
-use Rattle.ghcn_series.specs.Series.{Usable, Contents, series_of}
+use Rattle.ghcn_files.specs.declared.station.Station.{Station}
+use Rattle.ghcn_series.specs.Series.{Usable, Contents, IsSeries, series_of}
 use Rattle.rank_query.specs.Asked.{Asked, score_element}
 use Rattle.rank_query.specs.Admits.{admits_station}
 use Rattle.rank_scores.specs.declared.candidate.Candidate.{Candidate}
@@ -32,6 +33,25 @@ has_admitted q s = not (length (admitted q s) == 0)
 -- those of these series that have an admitted day, by increasing ID
 abbrev pub morsels : Asked → Contents → List Usable
 morsels q c = sorted_by (λ a b. id_comes_first a.id b.id) (filter (has_admitted q) (admitted_series q c))
+
+-- a value, if it passes
+abbrev pub passing : {A : Type 0} → (A → Bool) → Option A → Option A
+passing test None = None
+passing test (Some x) = if test x then Some x else None
+
+-- the series that a query is about at a station: that of its element, where it admits the station
+abbrev pub series_at : Asked → Contents → Station → Option Usable
+series_at q c st = if admits_station q st then series_of c st.id (score_element q.score) else None
+
+-- the morsel at a station: the series there, if it has an admitted day
+abbrev pub morsel_at : Asked → Contents → Station → Option Usable
+morsel_at q c st = passing (has_admitted q) (series_at q c st)
+
+-- a series that a query asks about: of the query's element, with an admitted usable day
+pub record IsAskedOf (q : Asked) (s : Usable) : Type 0 where
+  pub series : IsSeries s
+  pub element : s.element ≡ score_element q.score
+  pub admitted_day : 0 < length (admitted q s)
 
 -- the best candidates of a query
 abbrev pub best_of_query : Asked → Contents → List Candidate

@@ -57,6 +57,16 @@ pub fn precedes(a: &Candidate, b: &Candidate) -> bool
     rank_cmp(a, b).is_lt()
 }
 
+/// Whether there is a score, and the bound is strictly below it.
+pub fn is_below(score: Option<i64>, bound: i64) -> bool
+    ensures { result ≡ order.is_below score bound }
+{
+    match score {
+        Some(score) => bound < score,
+        None => false,
+    }
+}
+
 /// The order by score, ID and first day, which is what ranks candidates of one query.
 fn rank_cmp(a: &Candidate, b: &Candidate) -> Ordering
     ensures { result ≡ order.rank_cmp a.now b.now }

@@ -9,6 +9,7 @@ mod best;
 mod candidate;
 mod extreme;
 mod laws;
+mod morsel;
 mod scans;
 mod sink;
 mod spell;
@@ -16,10 +17,11 @@ mod window;
 
 pub use admitted::has_admitted_day;
 pub use best::best_first;
-pub use candidate::{Candidate, precedes};
+pub use candidate::{Candidate, is_below, precedes};
 pub use laws::{
     candidates_of_queries, candidates_of_series, files_in_parts, one_element_is_enough,
 };
+pub use morsel::{morsel_at, series_at};
 pub use scans::scan;
 pub use sink::Sink;
 pub use spell::Spell;

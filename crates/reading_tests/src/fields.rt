@@ -58,22 +58,8 @@ fn no_days_and_no_dates(rt: HostRuntime) {
     }
 }
 
-/// The numbers of the day before and the day after.
-fn beside(number: i32) -> Option<(Option<i32>, Option<i32>)> {
-    let day = Day::with_number(number)?;
-    Some((number_of(day.previous()), number_of(day.after(1))))
-}
-
 #[test]
-fn days_beside_days(rt: HostRuntime) {
-    let cases = [
-        (-719_162, None, Some(-719_161)),
-        (-1, Some(-2), Some(0)),
-        (2_932_896, Some(2_932_895), None),
-    ];
-    for (number, before, after) in cases {
-        assert_eq!(rt; beside(number), Some((before, after)), "beside {number}");
-    }
+fn days_of_months(rt: HostRuntime) {
     let months = [
         (1900, 2, 28),
         (2000, 2, 29),

@@ -1,8 +1,8 @@
 //! Judgements of the papers of a run, by all files and by a part of them.
 
 use super::*;
-use crate::judge::{ending, judge, judge_part};
-use crate::judgement::Judgement;
+use crate::judge::{judge, judge_part};
+use crate::judgement::{Judgement, ending};
 use rank_check::{Paper, Verdict, Why};
 use rank_parts::PartVerdict;
 use std::test::Fail;

@@ -3,7 +3,7 @@
 ghost use Rattle.std.specs.Prelude.{IfOk};
 ghost use Rattle.ghcn_series.specs.Pieces.{HasFedSome};
 
-use super::pieces::read_by_bytes;
+use super::pieces::{data_of, read_by_bytes};
 use super::{A, B, JULY, STATIONS, refused};
 use crate::lines::{line_of, text_of};
 use ghcn_fields::{Day, Memory};
@@ -17,14 +17,6 @@ fn reader_of(alloc: Global, element: Element) -> Result<DataReader, DataFault>
 {
     match Stations::read(alloc, STATIONS) {
         Ok(stations) => DataReader::of_element(alloc, stations, element),
-        Err(_) => Err(DataFault::Memory(Memory)),
-    }
-}
-
-/// What the files say of the two stations and one element.
-fn read_element(alloc: Global, files: &[&[u8]], element: Element) -> Result<Data, DataFault> {
-    match Stations::read(alloc, STATIONS) {
-        Ok(stations) => Data::read_element(alloc, stations, files, element),
         Err(_) => Err(DataFault::Memory(Memory)),
     }
 }
@@ -53,7 +45,9 @@ fn values(data: &Data) -> Values {
 /// What is kept of one element of a whole text.
 fn kept(alloc: Global, lines: &[&[u8]], element: Element) -> Result<Values, DataFault> {
     let text = text_of(alloc, lines, b"\n").map_err(DataFault::Memory)?;
-    Ok(values(&read_element(alloc, &[&text], element)?))
+    let mut reader = reader_of(alloc, element)?;
+    reader.piece(&text);
+    Ok(values(&data_of(reader)?))
 }
 
 /// The same of a text whose bytes come one by one.

@@ -1,14 +1,14 @@
 use Rattle.std.proofs.Common.{◌≡◌, ◌∙◌, map, [], refl, codes}
 use Rattle.clap.specs.Words.{found_of, rows_of}
 use Rattle.clap.proofs.WalkLemmas.{first_value-rows, raw_values-rows}
-use Rattle.command_line.specs.CommandLine.{papers_of}
+use Rattle.command_line.specs.CommandLine.{papers_to_merge}
 use Rattle.command_line.proofs.CommandLines.{read_or, lent-pairs}
 use Rattle.command_line.proofs.words.merge_of.Goals as goal
 
 -- papers that stand in pairs aren't odd in number
 pub returns-then-papers-ne0-clause-paired : goal.returns-then-papers-ne0-clause-paired
 returns-then-papers-ne0-clause-paired c = let f = found_of c.args.matches.now in
-    let same : map (λ s. s.now) c.unwrap_or-papers.result.now ≡ papers_of (rows_of f)
+    let same : map (λ s. s.now) c.unwrap_or-papers.result.now ≡ papers_to_merge (rows_of f)
     = read_or (λ s. map (λ v. v.now) s.now) _ _ _ _ [] c.unwrap_or-papers.ensures
     (c.get_strs.ensures ∙ raw_values-rows f (codes "papers")) refl in
     λ pairs. absurd (c.if-papers-ne0.true (lent-pairs _ (rows_of f) same pairs))

@@ -6,7 +6,7 @@ use Rattle.clap.specs.Words.{found_of, rows_of, subcommand_rows_of, has_subcomma
 use Rattle.clap.specs.declared.error.ErrorKind.TheVariants.{DisplayVersion}
 use Rattle.clap.proofs.CallerLemmas.{subcommand_required}
 use Rattle.clap.proofs.OnLiterals.{clap_on_literals}
-use Rattle.command_line.specs.CommandLine.{extremes_app, words_of, MayAskVersion, OnVersion}
+use Rattle.command_line.specs.CommandLine.{extremes_app, all_words, MayAskVersion, OnVersion}
 use Rattle.command_line.proofs.CommandLines.{only_memory, only_version, version_among, never_told, not_asked, only_four}
 use Rattle.command_line.proofs.CommandLines.{IsName, met_one, met_rows, command-met}
 use Rattle.command_line.proofs.words.named_command.Goals as goal
@@ -24,7 +24,7 @@ is_free_app = refl
 -- right words are refused for memory alone
 pub returns-in-Err-clause-right : goal.returns-in-Err-clause-right
 returns-in-Err-clause-right c =
-    let words_are : map (λ s. s.now) c.as_slice.result.now ≡ words_of c.args.words.now
+    let words_are : map (λ s. s.now) c.as_slice.result.now ≡ all_words c.args.words.now
     = ap (map (λ s. s.now)) c.as_slice.ensures.value ∙ c.in_ok-all.ensures in
     let app_is : app_of c.in_ok-program.field-0 ≡ extremes_app = c.in_ok-program.ensures.app in
     λ right. c.fault_of.ensures.memory (only_memory _ _ (ap₂ fault_of app_is words_are ∙ right.read)
@@ -33,7 +33,7 @@ returns-in-Err-clause-right c =
 -- words that ask for the version are told it
 pub returns-in-Err-clause-version : goal.returns-in-Err-clause-version
 returns-in-Err-clause-version c =
-    let words_are : map (λ s. s.now) c.as_slice.result.now ≡ words_of c.args.words.now
+    let words_are : map (λ s. s.now) c.as_slice.result.now ≡ all_words c.args.words.now
     = ap (map (λ s. s.now)) c.as_slice.ensures.value ∙ c.in_ok-all.ensures in
     let app_is : app_of c.in_ok-program.field-0 ≡ extremes_app = c.in_ok-program.ensures.app in
     λ asks. only_version _ _ _ (ap₂ fault_of app_is words_are ∙ asks)
@@ -43,7 +43,7 @@ returns-in-Err-clause-version c =
 -- and no others are
 pub returns-in-Err-clause-asked : goal.returns-in-Err-clause-asked
 returns-in-Err-clause-asked c =
-    let words_are : map (λ s. s.now) c.as_slice.result.now ≡ words_of c.args.words.now
+    let words_are : map (λ s. s.now) c.as_slice.result.now ≡ all_words c.args.words.now
     = ap (map (λ s. s.now)) c.as_slice.ensures.value ∙ c.in_ok-all.ensures in
     let app_is : app_of c.in_ok-program.field-0 ≡ extremes_app = c.in_ok-program.ensures.app in
     subst (λ kinds. OnVersion (IsAmong DisplayVersion kinds) c.fault_of.result) (ap₂ fault_of app_is words_are)
@@ -53,7 +53,7 @@ returns-in-Err-clause-asked c =
 -- a command line without a fault has met `rank`, `merge`, `check` or `describe`
 pub unreachable-requires : goal.unreachable-requires
 unreachable-requires c =
-    let words_are : map (λ s. s.now) c.as_slice.result.now ≡ words_of c.args.words.now
+    let words_are : map (λ s. s.now) c.as_slice.result.now ≡ all_words c.args.words.now
     = ap (map (λ s. s.now)) c.as_slice.ensures.value ∙ c.in_ok-all.ensures in
     let app_is : app_of c.in_ok-program.field-0 ≡ extremes_app = c.in_ok-program.ensures.app in
     let m = c.in-Ok.matches in
@@ -61,9 +61,9 @@ unreachable-requires c =
     = ap (λ (a : App). a.top.subcommand_required) app_is in
     let has : has_subcommand m ≡ true = subcommand_required c.in_ok-program.field-0 m c.in-Ok.ensures.parsed
     c.in_ok-program.ensures.local needs in
-    let rows_are : subcommand_rows_of m ≡ subcommand_of extremes_app (words_of c.args.words.now)
+    let rows_are : subcommand_rows_of m ≡ subcommand_of extremes_app (all_words c.args.words.now)
     = (c.in-Ok.ensures.matches (ap is_simple app_is ∙ is_simple_app)).1 ∙ ap₂ subcommand_of app_is words_are in
-    let named = met_one IsName _ _ has rows_are (only_four (words_of c.args.words.now)) in
+    let named = met_one IsName _ _ has rows_are (only_four (all_words c.args.words.now)) in
     elim named.2 [
       | inl is ↦ let bad : false ≡ true = subst (λ o. IsSome o) c.in_default.is
           (c.subcommand_matches.ensures.found.1 (named.1 ∙ ap (λ (n : Text). Some n) is)) in cc
@@ -82,10 +82,10 @@ unreachable-requires c =
 -- what is read behind `rank` is its command
 pub returns-in-Some-clause-ok : goal.returns-in-Some-clause-ok
 returns-in-Some-clause-ok c =
-    let words_are : map (λ s. s.now) c.as_slice.result.now ≡ words_of c.args.words.now
+    let words_are : map (λ s. s.now) c.as_slice.result.now ≡ all_words c.args.words.now
     = ap (map (λ s. s.now)) c.as_slice.ensures.value ∙ c.in_ok-all.ensures in
     let app_is : app_of c.in_ok-program.field-0 ≡ extremes_app = c.in_ok-program.ensures.app in
-    let rows_are : subcommand_rows_of c.in-Ok.matches ≡ subcommand_of extremes_app (words_of c.args.words.now)
+    let rows_are : subcommand_rows_of c.in-Ok.matches ≡ subcommand_of extremes_app (all_words c.args.words.now)
     = (c.in-Ok.ensures.matches (ap is_simple app_is ∙ is_simple_app)).1 ∙ ap₂ subcommand_of app_is words_are in
     command-met _ _ (codes "rank") (rows_of (found_of c.in-Some.rank.now)) _ (ap₂ fault_of (sym app_is) (sym words_are)
     ∙ c.in-Ok.ensures.kinds (ap is_simple_and_free app_is ∙ is_free_app)) rows_are
@@ -95,10 +95,10 @@ returns-in-Some-clause-ok c =
 -- what is read behind `merge` is its command
 pub returns-in-Some-subcommand_matches-clause-ok : goal.returns-in-Some-subcommand_matches-clause-ok
 returns-in-Some-subcommand_matches-clause-ok c =
-    let words_are : map (λ s. s.now) c.as_slice.result.now ≡ words_of c.args.words.now
+    let words_are : map (λ s. s.now) c.as_slice.result.now ≡ all_words c.args.words.now
     = ap (map (λ s. s.now)) c.as_slice.ensures.value ∙ c.in_ok-all.ensures in
     let app_is : app_of c.in_ok-program.field-0 ≡ extremes_app = c.in_ok-program.ensures.app in
-    let rows_are : subcommand_rows_of c.in-Ok.matches ≡ subcommand_of extremes_app (words_of c.args.words.now)
+    let rows_are : subcommand_rows_of c.in-Ok.matches ≡ subcommand_of extremes_app (all_words c.args.words.now)
     = (c.in-Ok.ensures.matches (ap is_simple app_is ∙ is_simple_app)).1 ∙ ap₂ subcommand_of app_is words_are in
     IfOk-weaker c.merge_of.result _ _
     (λ command is. command-met _ _ (codes "merge") (rows_of (found_of c.in-Some-subcommand_matches.merge.now)) command
@@ -110,10 +110,10 @@ returns-in-Some-subcommand_matches-clause-ok c =
 -- right words have papers that stand in pairs
 pub returns-in-Some-subcommand_matches-clause-right : goal.returns-in-Some-subcommand_matches-clause-right
 returns-in-Some-subcommand_matches-clause-right c =
-    let words_are : map (λ s. s.now) c.as_slice.result.now ≡ words_of c.args.words.now
+    let words_are : map (λ s. s.now) c.as_slice.result.now ≡ all_words c.args.words.now
     = ap (map (λ s. s.now)) c.as_slice.ensures.value ∙ c.in_ok-all.ensures in
     let app_is : app_of c.in_ok-program.field-0 ≡ extremes_app = c.in_ok-program.ensures.app in
-    let rows_are : subcommand_rows_of c.in-Ok.matches ≡ subcommand_of extremes_app (words_of c.args.words.now)
+    let rows_are : subcommand_rows_of c.in-Ok.matches ≡ subcommand_of extremes_app (all_words c.args.words.now)
     = (c.in-Ok.ensures.matches (ap is_simple app_is ∙ is_simple_app)).1 ∙ ap₂ subcommand_of app_is words_are in
     λ right. c.merge_of.ensures.paired (right.paired (rows_of (found_of c.in-Some-subcommand_matches.merge.now))
     (sym rows_are ∙ met_rows _ (codes "merge") (rows_of (found_of c.in-Some-subcommand_matches.merge.now))
@@ -123,7 +123,7 @@ returns-in-Some-subcommand_matches-clause-right c =
 -- words that are read don't ask for the version
 pub returns-in-Some-subcommand_matches-clause-version : goal.returns-in-Some-subcommand_matches-clause-version
 returns-in-Some-subcommand_matches-clause-version c =
-    let words_are : map (λ s. s.now) c.as_slice.result.now ≡ words_of c.args.words.now
+    let words_are : map (λ s. s.now) c.as_slice.result.now ≡ all_words c.args.words.now
     = ap (map (λ s. s.now)) c.as_slice.ensures.value ∙ c.in_ok-all.ensures in
     let app_is : app_of c.in_ok-program.field-0 ≡ extremes_app = c.in_ok-program.ensures.app in
     λ asks. absurd (not_asked _ (ap₂ fault_of (sym app_is) (sym words_are)
@@ -132,15 +132,16 @@ returns-in-Some-subcommand_matches-clause-version c =
 -- and aren't told it
 pub returns-in-Some-subcommand_matches-clause-asked : goal.returns-in-Some-subcommand_matches-clause-asked
 returns-in-Some-subcommand_matches-clause-asked c =
-    IfErr-weaker c.merge_of.result _ _ (never_told (MayAskVersion (words_of c.args.words.now))) c.merge_of.ensures.asked
+    IfErr-weaker c.merge_of.result _ _ (never_told (MayAskVersion (all_words c.args.words.now)))
+    c.merge_of.ensures.asked
 
 -- what is read behind `check` is its command
 pub returns-in-Some-subcommand_matches-2-clause-ok : goal.returns-in-Some-subcommand_matches-2-clause-ok
 returns-in-Some-subcommand_matches-2-clause-ok c =
-    let words_are : map (λ s. s.now) c.as_slice.result.now ≡ words_of c.args.words.now
+    let words_are : map (λ s. s.now) c.as_slice.result.now ≡ all_words c.args.words.now
     = ap (map (λ s. s.now)) c.as_slice.ensures.value ∙ c.in_ok-all.ensures in
     let app_is : app_of c.in_ok-program.field-0 ≡ extremes_app = c.in_ok-program.ensures.app in
-    let rows_are : subcommand_rows_of c.in-Ok.matches ≡ subcommand_of extremes_app (words_of c.args.words.now)
+    let rows_are : subcommand_rows_of c.in-Ok.matches ≡ subcommand_of extremes_app (all_words c.args.words.now)
     = (c.in-Ok.ensures.matches (ap is_simple app_is ∙ is_simple_app)).1 ∙ ap₂ subcommand_of app_is words_are in
     command-met _ _ (codes "check") (rows_of (found_of c.in-Some-subcommand_matches-2.check.now)) _
     (ap₂ fault_of (sym app_is) (sym words_are)
@@ -151,10 +152,10 @@ returns-in-Some-subcommand_matches-2-clause-ok c =
 -- and what is read behind `describe` is its command
 pub returns-clause-ok : goal.returns-clause-ok
 returns-clause-ok c =
-    let words_are : map (λ s. s.now) c.as_slice.result.now ≡ words_of c.args.words.now
+    let words_are : map (λ s. s.now) c.as_slice.result.now ≡ all_words c.args.words.now
     = ap (map (λ s. s.now)) c.as_slice.ensures.value ∙ c.in_ok-all.ensures in
     let app_is : app_of c.in_ok-program.field-0 ≡ extremes_app = c.in_ok-program.ensures.app in
-    let rows_are : subcommand_rows_of c.in-Ok.matches ≡ subcommand_of extremes_app (words_of c.args.words.now)
+    let rows_are : subcommand_rows_of c.in-Ok.matches ≡ subcommand_of extremes_app (all_words c.args.words.now)
     = (c.in-Ok.ensures.matches (ap is_simple app_is ∙ is_simple_app)).1 ∙ ap₂ subcommand_of app_is words_are in
     command-met _ _ (codes "describe") (rows_of (found_of c.in-Some-subcommand_matches-3.describe.now)) _
     (ap₂ fault_of (sym app_is) (sym words_are)

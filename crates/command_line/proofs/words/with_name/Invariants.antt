@@ -1,7 +1,7 @@
 use Rattle.std.proofs.Common.{◌≡◌, map, take}
-use Rattle.command_line.specs.CommandLine.{words_of}
+use Rattle.command_line.specs.CommandLine.{all_words}
 use Rattle.command_line.proofs.words.with_name.Given as goal
 
 -- each word so far is in its place, behind the name
 abbrev pub invariant-loop-word : goal.invariant-loop-word
-invariant-loop-word l = map (λ s. s.now) l.all.items ≡ words_of (take l.word-index l.words)
+invariant-loop-word l = map (λ s. s.now) l.all.items ≡ all_words (take l.word-index l.words)

@@ -11,4 +11,5 @@ returns-in-Ok-clause-ranks g c =
 -- or their fault is the first
 pub returns-in-Err-clause-ranks : goal.returns-in-Err-clause-ranks
 returns-in-Err-clause-ranks g c =
-    rw c.refused.ensures (words-input c.args.intake c.args.workers c.args.guess c.in-Err.fault c.in-Err.ensures.err)
+    rw c.without_data.ensures (words-input c.args.intake c.args.workers c.args.guess c.in-Err.fault
+    c.in-Err.ensures.err)

@@ -8,8 +8,9 @@ use Rattle.extremes.proofs.files.rank_files.Goals as goal
 -- there is no room for a piece
 pub returns-in_default-piece_room : goal.returns-in_default-piece_room
 returns-in_default-piece_room g c =
-    rw c.refused.ensures (ranks-memory (g.A.Archive.bytes_of c.args.archive.now) c.args.ranking.now c.deref.result.now
-    c.in-Ok.stations.items _ c.deref.ensures c.in-Ok.ensures c.refused.result.foreign)
+    rw c.without_data.ensures (ranks-memory (g.A.Archive.bytes_of c.args.archive.now) c.args.ranking.now
+    c.deref.result.now
+    c.in-Ok.stations.items _ c.deref.ensures c.in-Ok.ensures c.without_data.result.foreign)
 
 -- the intake was given something
 pub feed_files-requires : goal.feed_files-requires

@@ -39,6 +39,6 @@ returns-clause-bounds c =
 pub returns-clause-alone : goal.returns-clause-alone
 returns-clause-alone c =
     IfOk-weaker c.papers_of.result _ _ (λ papers printed.
-    of_one_is _ c.args.query.now c.args.held.now _ _ papers.certificate.items c.in_ok-plan.ensures
+    of_one_is _ c.args.query.now c.args.dataset.now _ _ papers.certificate.items c.in_ok-plan.ensures
     c.in_ok-answer.ensures.answer c.in_ok-answer.ensures.alone printed)
     c.papers_of.ensures.printed

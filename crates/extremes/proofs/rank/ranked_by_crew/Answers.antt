@@ -48,7 +48,7 @@ returns-clause-crew g c =
     c.plan.invariant.asked in (
       (papers_are _ _ _ _ c.in_ok-papers_of.field-0 asked c.requires.contents c.in_ok-plan.ensures c.unlisted.ensures
           c.in_ok-papers_of.ensures.plan).certificate,
-      of_crew_is _ c.args.query.now c.args.held.now _ _ _ c.in_ok-papers_of.field-0.certificate.items
+      of_crew_is _ c.args.query.now c.args.dataset.now _ _ _ c.in_ok-papers_of.field-0.certificate.items
           c.ends_are_sound.ensures.records c.in_ok-plan.ensures c.in_ok-answer.ensures.answer
           c.in_ok-papers_of.ensures.printed,
     )

@@ -1,24 +1,14 @@
-use Rattle.std.proofs.Common.{◌≡◌, ℕ, List, length, take, drop, Some, sym, ◌∙◌, arith, rules}
+use Rattle.std.proofs.Common.{◌≡◌, take, drop, Some, sym, ◌∙◌, arith, rules}
+use Rattle.std.proofs.lemmas.Bool.Decides.{nat_tests}
 use Rattle.ghcn_fields.specs.Numbers.{natural}
 use Rattle.ghcn_fields.proofs.DateTexts.{read_date-parts, written_by}
 use Rattle.ghcn_fields.proofs.DateForms.{other_length, no_first_dash, no_second_dash, no_year, no_month, no_day}
 use Rattle.ghcn_fields.proofs.DateForms.{year_digits, month_digits, day_digits, month-lt, day-lt}
-use Rattle.ghcn_fields.proofs.date.read_date.Goals.{in_default-via-then-text-lt10}
-use Rattle.ghcn_fields.proofs.date.read_date.Goals.{in_default-via-else-text-lt10+then-text-lt11+in-45+in_default-1}
-use Rattle.ghcn_fields.proofs.date.read_date.Goals.{in_default-via-else-text-lt10+then-text-lt11+in_default-1}
-use Rattle.ghcn_fields.proofs.date.read_date.Goals.{in_default-via-else-text-lt10+else-text-lt11}
 use Rattle.ghcn_fields.proofs.date.read_date.Goals as goal
 
 -- a text of another form is no date
 pub returns-in_default-clause-value : goal.returns-in_default-clause-value
-returns-in_default-clause-value c =
-    elim c.in_default.branch [
-      | in_default-via-then-text-lt10 w ↦ sym (other_length c.args.text.now (search rules))
-      | in_default-via-else-text-lt10+then-text-lt11+in-45+in_default-1 w ↦
-          sym (no_second_dash c.args.text.now (search rules))
-      | in_default-via-else-text-lt10+then-text-lt11+in_default-1 w ↦ sym (no_first_dash c.args.text.now (search rules))
-      | in_default-via-else-text-lt10+else-text-lt11 w ↦ sym (other_length c.args.text.now (search rules))
-    ]
+returns-in_default-clause-value c = grind (arith, nat_tests, other_length, no_first_dash, no_second_dash)
 
 -- nor what is written for a day
 pub returns-in_default-clause-written : goal.returns-in_default-clause-written
@@ -70,17 +60,7 @@ overflow_cast-day c =
 
 -- a text of digits and dashes is read as its date
 pub returns-clause-value : goal.returns-clause-value
-returns-clause-value c =
-    let text : List ℕ = c.args.text.now in
-    let len : length text ≡ 10 = omega arith in
-    let year : natural (take 4 text) ≡ Some c.in_ok-year.year = sym (year_digits text len)
-    ∙ sym c.small_natural.ensures ∙ c.in_ok-year.was in
-    let month : natural (take 2 (drop 5 text)) ≡ Some c.in_ok-month.month = sym (month_digits text len)
-    ∙ sym c.small_natural-2.ensures ∙ c.in_ok-month.was in
-    let day : natural (drop 8 text) ≡ Some c.in_ok-day.day = sym (day_digits text len)
-    ∙ sym c.small_natural-3.ensures ∙ c.in_ok-day.was in
-    c.of.ensures.value ∙ sym (read_date-parts text c.in_ok-year.year c.in_ok-month.month c.in_ok-day.day len
-    (search rules) (search rules) year month day)
+returns-clause-value c = search (rules, read_date-parts, year_digits, month_digits, day_digits)
 
 -- so what is written for a day is read as it
 pub returns-clause-written : goal.returns-clause-written

@@ -1,9 +1,6 @@
-use Rattle.std.proofs.Common.{◌≡◌, List, ℕ, ◌-◌, ◌^◌, length, take, drop, Option, sym, ap, ◌∙◌, arith, rules}
+use Rattle.std.proofs.Common.{arith, rules}
 use Rattle.std.proofs.lemmas.Grind.{common_steps}
-use Rattle.std.specs.Option.{option_map}
-use Rattle.std.specs.Prelude.{true}
-use Rattle.ghcn_fields.specs.Numbers.{natural, up_to, field_of, with_sign, signed_by}
-use Rattle.ghcn_fields.proofs.Decimals.{field_by-minus}
+use Rattle.ghcn_fields.specs.Numbers.{natural, signed_by}
 use Rattle.ghcn_fields.proofs.FieldNumbers.{whole_numbers_by, blank_by}
 use Rattle.ghcn_fields.proofs.field.int_field.Goals as goal
 
@@ -21,13 +18,7 @@ returns-in-empty-clause-blank c = blank_by (signed_by natural) c.args.field.now 
 
 -- behind a minus the digits are read
 pub returns-in-45-clause-value : goal.returns-in-45-clause-value
-returns-in-45-clause-value c =
-    let text : List ℕ = c.after_blanks.result.now in
-    let rest : take (length text - 1) (drop 1 text) ≡ drop 1 text = grind (arith, common_steps) in
-    c.signed_field.ensures
-    ∙ ap (λ (o : Option ℕ). field_of (option_map (with_sign true) o))
-    (c.small_natural.ensures ∙ ap (λ (xs : List ℕ). up_to (2 ^ 31) (natural xs)) rest)
-    ∙ sym (field_by-minus natural c.args.field.now text c.after_blanks.ensures c.in-45.len_at_least (search rules))
+returns-in-45-clause-value c = grind (arith, common_steps)
 
 -- it has the number that its text spells
 pub returns-in-45-clause-number : goal.returns-in-45-clause-number

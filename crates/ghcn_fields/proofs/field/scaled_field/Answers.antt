@@ -1,8 +1,7 @@
-use Rattle.std.proofs.Common.{◌≡◌, List, ℕ, ◌-◌, ◌^◌, length, take, drop, Option, sym, ap, ◌∙◌, arith, rules}
+use Rattle.std.proofs.Common.{arith, rules}
 use Rattle.std.proofs.lemmas.Grind.{common_steps}
-use Rattle.std.specs.Option.{option_map}
-use Rattle.std.specs.Prelude.{true, false}
-use Rattle.ghcn_fields.specs.Numbers.{decimal_number, up_to, field_of, with_sign, signed_by}
+use Rattle.std.proofs.lemmas.Bool.Decides.{nat_tests}
+use Rattle.ghcn_fields.specs.Numbers.{decimal_number, signed_by}
 use Rattle.ghcn_fields.proofs.Decimals.{field_by-minus, field_by-plain}
 use Rattle.ghcn_fields.proofs.FieldNumbers.{numbers_by, blank_by}
 use Rattle.ghcn_fields.proofs.field.scaled_field.Goals as goal
@@ -22,14 +21,7 @@ returns-in-empty-clause-blank c = blank_by (signed_by (decimal_number c.args.pla
 
 -- behind a minus the decimal number is read
 pub returns-in-45-clause-value : goal.returns-in-45-clause-value
-returns-in-45-clause-value c =
-    let text : List ℕ = c.after_blanks.result.now in
-    let rest : take (length text - 1) (drop 1 text) ≡ drop 1 text = grind (arith, common_steps) in
-    c.signed_field.ensures
-    ∙ ap (λ (o : Option ℕ). field_of (option_map (with_sign true) o))
-    (c.small_decimal.ensures ∙ ap (λ (xs : List ℕ). up_to (2 ^ 31) (decimal_number c.args.places xs)) rest)
-    ∙ sym (field_by-minus
-    (decimal_number c.args.places) c.args.field.now text c.after_blanks.ensures c.in-45.len_at_least (search rules))
+returns-in-45-clause-value c = grind (arith, common_steps, nat_tests, field_by-minus)
 
 -- it has the number that its text spells
 pub returns-in-45-clause-number : goal.returns-in-45-clause-number
@@ -43,12 +35,7 @@ returns-in-45-clause-blank c = blank_by (signed_by
 
 -- without a minus all of the text is read
 pub returns-in_default-clause-value : goal.returns-in_default-clause-value
-returns-in_default-clause-value c =
-    c.signed_field-in_default.ensures
-    ∙ ap (λ (o : Option ℕ). field_of (option_map (with_sign false) o)) c.small_decimal-in_default.ensures
-    ∙ sym (field_by-plain
-    (decimal_number c.args.places) c.args.field.now c.after_blanks.result.now c.after_blanks.ensures
-    c.in_default.len_at_least (search rules))
+returns-in_default-clause-value c = search (rules, field_by-plain)
 
 -- it has the number that its text spells
 pub returns-in_default-clause-number : goal.returns-in_default-clause-number

@@ -1,6 +1,6 @@
-use Rattle.std.proofs.Common.{◌≡◌, ◌+◌, ◌^◌, get_or, true, sym, ◌∙◌, arith}
-use Rattle.std.specs.Char.{is_ascii_digit}
+use Rattle.std.proofs.Common.{◌+◌, ◌^◌, sym, ◌∙◌, arith}
 use Rattle.std.proofs.lemmas.Grind.{common_steps}
+use Rattle.std.proofs.lemmas.Bool.Decides.{nat_tests}
 use Rattle.ghcn_fields.proofs.Digits.{too_great, one_more}
 use Rattle.ghcn_fields.proofs.field.small_natural.Goals as goal
 
@@ -14,13 +14,4 @@ returns-then-value-gt-GREATEST c =
 
 -- one digit more
 pub loop-digit-preserved : goal.loop-digit-preserved
-loop-digit-preserved c =
-    let digit : is_ascii_digit (get_or c.args.digits.now c.loop-digit.digit-index 0) ≡ true =
-    sym c.is_ascii_digit.ensures.value ∙ c.if-not-is_ascii_digit.false in
-    record {
-      digits = grind (arith, common_steps);
-      value =
-          one_more c.args.digits.now c.loop-digit.digit-index c.loop-digit.value c.loop-digit-test.true
-          c.loop-digit.invariant.value digit;
-      small = c.if-value-gt-GREATEST.false;
-    }
+loop-digit-preserved c = grind (arith, common_steps, nat_tests, one_more)

@@ -1,11 +1,8 @@
-use Rattle.std.proofs.Common.{rules, ◌≡◌, ℕ, [], ◌∷◌, ◌++◌, map, get_or, subst, ◌∙◌, arith}
-use Rattle.std.proofs.Common.{ℤ, w32, to_z, of_z}
+use Rattle.std.proofs.Common.{rules, ◌≡◌, [], ◌∷◌, map, subst, ◌∙◌, ℤ, w32, to_z, of_z}
 use Rattle.std.proofs.lemmas.Int.{to_z-of_z}
 use Rattle.std.proofs.lemmas.Simd.{dot4_Fits}
-use lib.Lanes.{chunk}
 use Rattle.ghcn_fields.specs.Groups.{AreNumbers}
-use Rattle.ghcn_fields.proofs.GroupLanes.{front_lane, digits_fit, size-small, last-small, groups-read, by_fours}
-use Rattle.ghcn_fields.proofs.GroupLanes.{fronts}
+use Rattle.ghcn_fields.proofs.GroupLanes.{front_lane, digits_fit, size-small, last-small, groups-read, by_fours, fronts}
 use Rattle.ghcn_fields.proofs.lanes.four_numbers.Goals as goal
 
 -- the digits are bytes
@@ -24,37 +21,17 @@ dot4-tens c = (
   tt,
 )
 
--- five digits write no more
-pub number_if-requires : goal.number_if-requires
-number_if-requires c =
-    let xs = c.args.columns.now in
-    let ys = chunk 0 32 xs in
-    let at = λ (j : ℕ). get_or (ys ++ ys) j 0 in
-    size-small (at 0) (at 1) (at 2) (at 3) _ (last-small xs 0 (omega arith))
-
--- nor in the second group
+-- five digits of the second group write no more
 pub number_if-requires-2 : goal.number_if-requires-2
-number_if-requires-2 c =
-    let xs = c.args.columns.now in
-    let ys = chunk 0 32 xs in
-    let at = λ (j : ℕ). get_or (ys ++ ys) j 0 in
-    size-small (at 8) (at 9) (at 10) (at 11) _ (last-small xs 1 (omega arith))
+number_if-requires-2 c = search (rules, size-small, last-small)
 
--- nor in the third
+-- nor do those of the third
 pub number_if-requires-3 : goal.number_if-requires-3
-number_if-requires-3 c =
-    let xs = c.args.columns.now in
-    let ys = chunk 0 32 xs in
-    let at = λ (j : ℕ). get_or (ys ++ ys) j 0 in
-    size-small (at 16) (at 17) (at 18) (at 19) _ (last-small xs 2 (omega arith))
+number_if-requires-3 c = search (rules, size-small, last-small)
 
 -- nor in the last
 pub number_if-requires-4 : goal.number_if-requires-4
-number_if-requires-4 c =
-    let xs = c.args.columns.now in
-    let ys = chunk 0 32 xs in
-    let at = λ (j : ℕ). get_or (ys ++ ys) j 0 in
-    size-small (at 24) (at 25) (at 26) (at 27) _ (last-small xs 3 (omega arith))
+number_if-requires-4 c = search (rules, size-small, last-small)
 
 -- each group has the number that its lanes say
 pub returns : goal.returns

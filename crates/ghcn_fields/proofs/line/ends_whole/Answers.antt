@@ -1,11 +1,9 @@
-use Rattle.std.proofs.Common.{◌≡◌, ℕ, ◌-◌, ◌*◌, true, List, length, take, drop, get_or, inl, inr, sym, ap, subst}
-use Rattle.std.proofs.Common.{◌∙◌, arith}
-use Rattle.std.specs.Prelude.{◌==◌}
-use Rattle.std.proofs.lemmas.Bool.{and_parts, cases_lt}
+use Rattle.std.proofs.Common.{◌≡◌, ℕ, ◌-◌, ◌*◌, true, List, length, take, drop, inl, inr, sym, ap, subst, ◌∙◌, arith}
+use Rattle.std.proofs.lemmas.Bool.{cases_lt}
 use Rattle.std.proofs.lemmas.Simd.{length-chunk}
 use lib.Lanes.{chunk}
 use Rattle.ghcn_fields.specs.Lines.{are_above}
-use Rattle.ghcn_fields.proofs.LineFeeds.{lesser, length-lesser, both_above, part_above, sixteen_from, first-feed}
+use Rattle.ghcn_fields.proofs.LineFeeds.{lesser, length-lesser, both_above, part_above, sixteen_from}
 use Rattle.ghcn_fields.proofs.line.ends_whole.Goals as goal
 
 -- the last sixteen bytes before the end
@@ -41,12 +39,3 @@ loop-part-preserved c =
         | inr later ↦ part_above bytes from 16 (omega arith) (parts all).1 j later (omega (arith, high))
       ];
     }
-
--- all before the end
-pub returns : goal.returns
-returns c = λ is.
-    let bytes : List ℕ = c.args.bytes.now in
-    let both = and_parts c.are_above.result (get_or bytes 269 0 == 10) is in
-    let all : are_above c.loop-part.least ≡ true = sym c.are_above.ensures ∙ both.0 in
-    first-feed bytes (omega arith) (c.loop-part.invariant.last all)
-    (λ j low lt. c.loop-part.invariant.so_far all j low (omega (arith, lt))) both.1

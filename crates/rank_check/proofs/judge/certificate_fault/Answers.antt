@@ -14,25 +14,26 @@ use Rattle.rank_check.proofs.judge.certificate_fault.Goals as goal
 
 -- the lines decide, or else their number
 pub returns : goal.returns
-returns c = λ held kth tops.
+returns c = λ dataset kth tops.
     let q = c.args.query.now in
     let z = c.args.certificate.now in
     let rows : List Candidate = candidates_of c.args.rows.now in
     let same : same_query z.query q ≡ true = sym c.in_ok-is_same_query.ensures ∙ c.if-not-branch.false in
-    let score : same_score z.kth (kth_of_query q held) ≡ true =
+    let score : same_score z.kth (kth_of_query q dataset) ≡ true =
     ap (same_score z.kth) (sym kth) ∙ sym c.is_same_score.ensures ∙ c.if-not-is_same_score.false in
     let counted = c.as_slice.ensures.value ∙ c.in_ok-wanted.ensures in
     let found = c.as_slice-tops.ensures.value ∙ tops in
-    let long = ap (λ (l : List Top). length l) found ∙ length-map (morsels q held) (top q) in
+    let long = ap (λ (l : List Top). length l) found ∙ length-map (morsels q dataset) (top q) in
     let few =
     c.length_fault-few.ensures
     ∙ ap (λ (n : ℕ). first_failing (length_test n (length c.as_slice-lines.result.now) ∷ [])) long
-    ∙ ap (λ (es : List Entry). first_failing (length_test (length (morsels q held)) (length es) ∷ []))
+    ∙ ap (λ (es : List Entry). first_failing (length_test (length (morsels q dataset)) (length es) ∷ []))
     c.as_slice-lines.ensures.value in
-    c.or.ensures ∙ certificate_decided q held rows (certified_in z) c.lines_fault.result c.length_fault-few.result same
+    c.or.ensures ∙ certificate_decided q dataset rows (certified_in z) c.lines_fault.result c.length_fault-few.result
+    same
     score
-    (c.lines_fault.ensures rows counted q held found
-    ∙ ap (λ (ns : List ℕ). first_failing (tests_of_lines q held z.kth rows ns c.as_slice-lines.result.now))
+    (c.lines_fault.ensures rows counted q dataset found
+    ∙ ap (λ (ns : List ℕ). first_failing (tests_of_lines q dataset z.kth rows ns c.as_slice-lines.result.now))
     c.as_slice-counts.ensures.value
-    ∙ ap (λ (es : List Entry). first_failing (tests_of_lines q held z.kth rows z.counts.items es))
+    ∙ ap (λ (es : List Entry). first_failing (tests_of_lines q dataset z.kth rows z.counts.items es))
     c.as_slice-lines.ensures.value) few

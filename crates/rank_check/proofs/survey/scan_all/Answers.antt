@@ -1,16 +1,14 @@
-use Rattle.std.proofs.Common.{◌≡◌, ◌+◌, ◌++◌, ◌∷◌, [], List, map, filter, take, length, sym, ap, ◌∙◌}
+use Rattle.std.proofs.Common.{◌≡◌, ◌+◌, ◌++◌, ◌∷◌, [], List, map, take, length, sym, ap, ◌∙◌}
 use Rattle.std.specs.List.{flat_map}
 use Rattle.ghcn_series.specs.Series.{Usable}
 use Rattle.ghcn_series.specs.Says.{in_64_bits}
 use Rattle.rank_scores.specs.Candidates.{candidates}
 use Rattle.ghcn_files.specs.declared.station.StationId.{StationId}
 use Rattle.rank_check.specs.declared.survey.Top.{Top}
-use Rattle.rank_scores.specs.Morsels.{has_admitted}
 use Rattle.rank_check.specs.Survey.{Tallied, met, candidates_of, top}
 use Rattle.rank_check.proofs.Each.{made-more}
-use Rattle.rank_check.proofs.Surveying.{tallied, scanned-more, top-kept, top-left}
+use Rattle.rank_check.proofs.Surveying.{tallied, scanned-more, top-behind}
 use Rattle.rank_check.proofs.survey.scan_all.Goals as goal
-use Rattle.rank_check.proofs.survey.scan_all.Goals.{then-has_admitted_day+in_ok-push, else-has_admitted_day}
 
 -- one series more was scanned
 pub loop-series-preserved : goal.loop-series-preserved
@@ -25,25 +23,18 @@ loop-series-preserved c =
     let new : c.scan-highest.new.self ≡ tallied rows (flat_map (candidates q) (before ++ s ∷ [])) (candidates q s) =
     scanned-more q rows before s c.loop-series.tally c.scan-highest.new.self c.loop-series.invariant.rows
     c.loop-series.invariant.count c.scan-highest.ensures.taken in
-    let tops : c.if-has_admitted_day.tops.items ≡ map (top q) (filter (has_admitted q) (before ++ s ∷ [])) =
-    elim c.if-has_admitted_day.branch [
-      | then-has_admitted_day+in_ok-push w ↦
-          ap (λ v. v.items) w.tops-is ∙ w.in_ok-push.ensures.items
-          ∙ ap (λ (l : List Top). l ++ record { id = w.id.result; highest = c.scan-highest.result } ∷ [])
-          c.loop-series.invariant.tops
-          ∙ ap (λ (i : StationId). map (top q) (filter (has_admitted q) before)
-          ++ record { id = i; highest = c.scan-highest.result } ∷ []) w.id.ensures.id
-          ∙ top-kept q before s c.scan-highest.result
-          (sym c.has_admitted_day.ensures.asked ∙ w.if-has_admitted_day.true)
-          (c.scan-highest.ensures.highest ∙ ap (λ (t : Tallied). t.highest) new)
-      | else-has_admitted_day w ↦
-          ap (λ v. v.items) w.tops-is ∙ c.loop-series.invariant.tops
-          ∙ top-left q before s (sym c.has_admitted_day.ensures.asked ∙ w.if-has_admitted_day.false)
-    ] in
+    let tops : c.push.new.self.items ≡ map (top q) (before ++ s ∷ []) =
+    c.in_ok-push.ensures.items
+    ∙ ap (λ (l : List Top). l ++ record { id = c.id.result; highest = c.scan-highest.result } ∷ [])
+    c.loop-series.invariant.tops
+    ∙ ap (λ (i : StationId). map (top q) before ++ record { id = i; highest = c.scan-highest.result } ∷ [])
+    c.id.ensures.id
+    ∙ top-behind q before s c.scan-highest.result
+    (c.scan-highest.ensures.highest ∙ ap (λ (t : Tallied). t.highest) new) in
     record {
       rows = ap (λ (t : Tallied). t.rows) new
           ∙ ap (λ (l : List Usable). map (met (flat_map (candidates q) l)) rows) (sym more);
       count = ap (λ (t : Tallied). t.count) new
           ∙ ap (λ (l : List Usable). in_64_bits (length (flat_map (candidates q) l))) (sym more);
-      tops = tops ∙ ap (λ (l : List Usable). map (top q) (filter (has_admitted q) l)) (sym more);
+      tops = tops ∙ ap (map (top q)) (sym more);
     }

@@ -1,8 +1,7 @@
-use Rattle.std.proofs.Common.{◌≡◌, take, map, filter, length}
+use Rattle.std.proofs.Common.{◌≡◌, take, map, length}
 use Rattle.std.specs.List.{flat_map}
 use Rattle.ghcn_series.specs.Says.{in_64_bits}
 use Rattle.rank_scores.specs.Candidates.{candidates}
-use Rattle.rank_scores.specs.Morsels.{has_admitted}
 use Rattle.rank_check.specs.Survey.{met, candidates_of, top}
 use Rattle.rank_check.proofs.survey.scan_all.Given as goal
 
@@ -13,6 +12,5 @@ invariant-loop-series l = record {
       (candidates_of l.rows);
   count : l.tally.count ≡ in_64_bits (length (flat_map (candidates l.query) (map (λ s. s.now) (take l.series-index
       l.all))));
-  tops : l.tops.items ≡ map (top l.query) (filter (has_admitted l.query) (map (λ s. s.now) (take l.series-index
-      l.all)));
+  tops : l.tops.items ≡ map (top l.query) (map (λ s. s.now) (take l.series-index l.all));
 }

@@ -46,14 +46,14 @@ loop-seat-preserved g c =
         );
       };
       midway = midway_next c.args.board.now (task_of c.args.plan.now) c.args.worker c.claim-morsel.result c.args.seat
-          c.loop-seat.seat c.claim-morsel.new.seat c.settle.new.seat c.loop-seat.haul c.settle.new.haul i.midway n
+          c.loop-seat.seat c.claim-morsel.new.seat c.take_turn.new.seat c.loop-seat.haul c.take_turn.new.haul i.midway n
           e.kept e.settles low;
     }
 
 -- in a turn that met want of memory a morsel was drawn and the floor looked at, and nothing more was raised
-pub returns-in-Err-settle-clause-breaks : goal.returns-in-Err-settle-clause-breaks
-returns-in-Err-settle-clause-breaks g c =
+pub returns-in-Err-take_turn-clause-breaks : goal.returns-in-Err-take_turn-clause-breaks
+returns-in-Err-take_turn-clause-breaks g c =
     breaks (task_of c.args.plan.now) (guess_of c.args.board.now) c.args.board.now c.args.worker c.claim-morsel.result
-    c.args.seat c.loop-seat.seat c.claim-morsel.new.seat c.settle.new.seat c.loop-seat.haul
-    c.loop-seat.invariant.midway c.claim-morsel.ensures.claims c.in-Err-settle.ensures.kept
-    c.in-Err-settle.ensures.err
+    c.args.seat c.loop-seat.seat c.claim-morsel.new.seat c.take_turn.new.seat c.loop-seat.haul
+    c.loop-seat.invariant.midway c.claim-morsel.ensures.claims c.in-Err-take_turn.ensures.kept
+    c.in-Err-take_turn.ensures.err

@@ -7,8 +7,9 @@ use Rattle.rank_papers.specs.declared.paper.Row.{Row}
 use Rattle.rank_papers.specs.Report.{Named}
 use Rattle.rank_papers.specs.ReportLines.{named_in}
 use Rattle.rank_merge.proofs.Orders.{row_cmp, row_total}
-use Rattle.rank_merge.proofs.StableSorts.{first, before, before_ranks, stable-sorted, sorted-map}
+use Rattle.rank_merge.proofs.StableSorts.{first, before, before_ranks, stable-sorted}
 use Rattle.rank_merge.proofs.rows.first_rows.Goals as goal
+use Rattle.ghcn_files.proofs.Ordered.{sorted-map}
 
 -- the first k of the one list in this order
 pub returns : goal.returns

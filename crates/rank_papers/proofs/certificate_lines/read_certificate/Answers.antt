@@ -1,6 +1,6 @@
 use Rattle.std.proofs.Common.{rules}
 use Rattle.rank_papers.specs.CertificateLines.{certified_in}
-use Rattle.rank_papers.proofs.CertificateValues.{if_read-is}
+use Rattle.rank_papers.proofs.CertificateTexts.{if_read-is}
 use Rattle.rank_papers.proofs.certificate_lines.read_certificate.Goals as goal
 
 -- what was read is what the text says

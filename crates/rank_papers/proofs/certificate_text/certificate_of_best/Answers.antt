@@ -22,8 +22,8 @@ returns-clause-text c =
     let q : Asked = c.args.query.now in
     let score : c.kth_score.result ≡ kth_of_best q.k c.args.best.now =
     c.kth_score.ensures ∙ ap (λ (k : ℕ). kth_of_best k c.args.best.now) c.k.ensures.k in
-    certificate-made q c.args.best.now c.args.lines.now c.in_ok-paper.paper.items _ _ _ _ c.in_ok-paper.ensures.items
-    c.in_ok-push_query.ensures
+    certificate-made q c.args.best.now c.args.lines.now c.in_ok-paper.paper.items _ _ _ _
+    (c.in_ok-paper.ensures.items ∙ c.title.ensures) c.in_ok-push_query.ensures
     (c.in_ok-push_kth.ensures ∙ ap (λ (s : Option ℤ). c.push_query.new.paper.items ++ kth_line s) score)
     (c.in_ok-push_lines.ensures.text
     ∙ ap (λ (ns : List ℕ). c.push_kth.new.paper.items ++ flat_map (entry_line 2) (counted c.args.lines.now ns))

@@ -11,7 +11,7 @@ returns-clause-best c = best_found
 -- of which there is one list
 pub returns-clause-one : goal.returns-clause-one
 returns-clause-one c = λ q. (
-  λ held. best_are_one q (IsHeldSeries q held),
+  λ dataset. best_are_one q (IsHeldSeries q dataset),
   λ stations files. best_are_one q (IsAdmittedSeries q stations files),
 )
 

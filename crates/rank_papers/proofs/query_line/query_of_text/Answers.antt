@@ -1,5 +1,5 @@
 use Rattle.std.proofs.Common.{sym}
-use Rattle.rank_papers.proofs.CertificateReading.{printable_text}
+use Rattle.rank_papers.proofs.WrittenLines.{printable_text}
 use Rattle.rank_papers.proofs.query_line.query_of_text.Goals as goal
 
 -- bytes that can be printed are a text

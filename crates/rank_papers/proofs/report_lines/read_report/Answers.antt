@@ -1,6 +1,6 @@
 use Rattle.std.proofs.Common.{rules}
 use Rattle.rank_papers.specs.ReportLines.{reported_in}
-use Rattle.rank_papers.proofs.ReportValues.{if_read_report-is}
+use Rattle.rank_papers.proofs.ReportTexts.{if_read_report-is}
 use Rattle.rank_papers.proofs.report_lines.read_report.Goals as goal
 
 -- what was read is what the text says

@@ -5,7 +5,7 @@ use Rattle.ghcn_fields.specs.Dates.{read_date}
 use Rattle.rank_query.specs.Asked.{Asked}
 use Rattle.rank_papers.specs.declared.paper.Row.{Row}
 use Rattle.rank_papers.specs.Report.{Named}
-use Rattle.rank_papers.specs.Values.{measure_of, unit_text}
+use Rattle.rank_papers.specs.Values.{measure_of_score, unit_text}
 use Rattle.rank_papers.specs.ReportLines.{score_in, first_word, row_with, named_in}
 use Rattle.rank_papers.proofs.ReportFields.{value_at, row_at-is, row_at-none, score_in-fits, AreParts, row_with-parts}
 use Rattle.rank_papers.proofs.report_lines.row_in_columns.Goals as goal
@@ -32,8 +32,8 @@ returns c =
     let value : word ≡ value_at digits line = c.first_word-value.ensures ∙ ap first_word c.field_from.ensures in
     let is : score ≡ score_in q word = sym c.in-Some.is ∙ c.in_ok-score.ensures in
     let fits : FitsSigned w64 c.in-Some.score = score_in-fits q word c.in-Some.score (sym is) in
-    let unit : c.unit-unit.result.now ≡ unit_text (measure_of q.score) =
-    c.unit-unit.ensures ∙ ap unit_text (c.measure_of.ensures ∙ ap measure_of c.score.ensures.score) in
+    let unit : c.unit-unit.result.now ≡ unit_text (measure_of_score q.score) =
+    c.unit-unit.ensures ∙ ap unit_text (c.measure_of.ensures ∙ ap measure_of_score c.score.ensures.score) in
     let parts : AreParts q digits line word c.columns-id.result.now c.field_from-name.result.now
     c.read_date-first.result c.read_date-last.result = record {
       id_is = c.columns-id.ensures;

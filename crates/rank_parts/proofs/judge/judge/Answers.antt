@@ -2,7 +2,7 @@ use Rattle.std.proofs.Common.{List, map, sym, subst}
 use Rattle.rank_papers.specs.declared.paper.Row.{Row}
 use Rattle.rank_papers.specs.ReportLines.{named_in, reported_in}
 use Rattle.rank_papers.specs.CertificateLines.{certified_in}
-use Rattle.rank_head.specs.HeadTests.{Rise}
+use Rattle.rank_head.specs.HeadTests.{IdsRise}
 use Rattle.rank_parts.specs.Seen.{AreSeen}
 use Rattle.rank_parts.proofs.LineReasons.{head_shows}
 use Rattle.rank_parts.proofs.judge.judge.Goals as goal
@@ -21,4 +21,4 @@ lines_fault-requires c =
 pub series_with_lines-requires : goal.series_with_lines-requires
 series_with_lines-requires c =
     let head = (c.in_ok-fault.ensures.right c.requires.report c.requires.certificate).0 c.in_default.is in
-    subst Rise (sym c.as_slice-lines.ensures.value) head.rise
+    subst IdsRise (sym c.as_slice-lines.ensures.value) head.rise

@@ -21,7 +21,7 @@ use Rattle.rank_parts.proofs.lines.line_why.Goals as goal
 -- the station has no series
 pub returns-in_default : goal.returns-in_default
 returns-in_default c =
-    let d = c.args.held.now in
+    let d = c.args.dataset.now in
     let e = c.args.line.now in
     no_series c.args.query.now d (map named_in c.args.rows.now) e
     (ap (λ (x : Element). series_of d e.id x) (sym c.element.ensures.element) ∙ sym c.series.ensures
@@ -30,7 +30,7 @@ returns-in_default c =
 -- its series is no morsel
 pub returns-then-not-is_own : goal.returns-then-not-is_own
 returns-then-not-is_own c =
-    let d = c.args.held.now in
+    let d = c.args.dataset.now in
     let e = c.args.line.now in
     let found : find (is_station_of e.id) d.stations ≡ Some c.in-Some-get.station.now =
     ap (λ (l : List Station). find (is_station_of e.id) l) (sym c.stations.ensures.stations) ∙ sym c.get.ensures
@@ -56,7 +56,7 @@ check_line-requires c =
 pub returns : goal.returns
 returns c =
     let q = c.args.query.now in
-    let d = c.args.held.now in
+    let d = c.args.dataset.now in
     let e = c.args.line.now in
     let st : Station = c.in-Some-get.station.now in
     let u : Usable = c.in-Some.series.now in

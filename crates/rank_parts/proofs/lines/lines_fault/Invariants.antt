@@ -1,10 +1,10 @@
 use Rattle.std.proofs.Common.{◌≡◌, ◌+◌, drop, map}
 use Rattle.rank_papers.specs.ReportLines.{named_in}
-use Rattle.rank_parts.specs.Parts.{line_why, first_refused}
+use Rattle.rank_parts.specs.Parts.{why_of_line, first_refused}
 use Rattle.rank_parts.proofs.lines.lines_fault.Given as goal
 
 -- the first refusal is that of the lines that are left
 abbrev pub invariant-loop-place : goal.invariant-loop-place
 invariant-loop-place l =
-    first_refused (line_why l.query l.held (map named_in l.rows)) (l.place + 4) (drop l.place l.lines)
-    ≡ first_refused (line_why l.query l.held (map named_in l.rows)) 4 l.lines
+    first_refused (why_of_line l.query l.dataset (map named_in l.rows)) (l.place + 4) (drop l.place l.lines)
+    ≡ first_refused (why_of_line l.query l.dataset (map named_in l.rows)) 4 l.lines

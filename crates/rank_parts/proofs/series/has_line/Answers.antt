@@ -2,7 +2,6 @@ use Rattle.std.proofs.Common.{rules, ◌∙◌}
 use Rattle.std.specs.Cmp.Lexicographic.{slice_cmp}
 use Rattle.std.specs.Ordering.{nat_cmp}
 use Rattle.std.proofs.lemmas.Fn.{always_returns_same}
-use Rattle.rank_check.proofs.RisingIds.{rise_ids}
 use Rattle.rank_parts.proofs.Searched.{searched}
 use Rattle.rank_parts.proofs.series.has_line.Goals as goal
 
@@ -10,7 +9,7 @@ use Rattle.rank_parts.proofs.series.has_line.Goals as goal
 pub returns : goal.returns
 returns c =
     c.is_ok.ensures.value
-    ∙ searched c.args.id.now c.args.lines.now (rise_ids c.args.lines.now c.requires) c.binary_search_by.result
+    ∙ searched c.args.id.now c.args.lines.now c.requires c.binary_search_by.result
     c.binary_search_by.ensures.bound
     (c.binary_search_by.ensures.position (λ e. slice_cmp nat_cmp e.id.0 c.args.id.now.0)
     (always_returns_same _ _ _ (λ a r g called. search rules)))

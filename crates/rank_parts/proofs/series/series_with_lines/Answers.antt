@@ -14,7 +14,7 @@ use Rattle.rank_parts.proofs.series.series_with_lines.Goals.{in_default}
 pub returns-then-not-has_line : goal.returns-then-not-has_line
 returns-then-not-has_line c =
     let q = c.args.query.now in
-    let d = c.args.held.now in
+    let d = c.args.dataset.now in
     let st : Station = c.in-Some.station.now in
     let own : is_own q d st ≡ true =
     own_is q d st c.element.result (option_copied c.series.result) c.is_own.result c.element.ensures.element
@@ -31,7 +31,7 @@ returns-then-not-has_line c =
 pub loop-place-preserved : goal.loop-place-preserved
 loop-place-preserved c =
     let q = c.args.query.now in
-    let d = c.args.held.now in
+    let d = c.args.dataset.now in
     let es = c.args.lines.now in
     let place = c.loop-place.place in
     let next : suc place ≡ place + 1 = omega arith in
@@ -61,7 +61,7 @@ loop-place-preserved c =
 pub returns : goal.returns
 returns c =
     let q = c.args.query.now in
-    let d = c.args.held.now in
+    let d = c.args.dataset.now in
     let end : length d.stations ≤ c.loop-place.place = omega (
       arith,
       c.len-place-end.ensures.number,

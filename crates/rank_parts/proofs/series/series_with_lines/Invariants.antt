@@ -3,4 +3,4 @@ use Rattle.rank_parts.proofs.series.series_with_lines.Given as goal
 
 -- so many of the stations so far have a morsel, and each of these has a line
 abbrev pub invariant-loop-place : goal.invariant-loop-place
-invariant-loop-place l = Walked l.query l.held l.lines l.series l.place
+invariant-loop-place l = Walked l.query l.dataset l.lines l.series l.place

@@ -1,6 +1,8 @@
 use Rattle.std.proofs.Common.{rules, refl, get_or, false, ◌≤◌, length, arith}
 use Rattle.std.proofs.lemmas.List.Sorted.{answers_always}
-use Rattle.rank_sched.proofs.LineOrder.{strictly, strictly_ranks, lines_sorted, lines_more, lines_all}
+use Rattle.ghcn_files.proofs.IdOrder.{strictly, strictly_ranks}
+use Rattle.rank_sched.specs.declared.line.Line.{Line}
+use Rattle.rank_sched.proofs.LineOrder.{lines_sorted, lines_more, lines_all}
 use Rattle.rank_sched.proofs.ended.lines_of.Goals as goal
 
 -- one line more
@@ -13,7 +15,7 @@ loop-morsel-preserved c =
 -- the sorted lines are the answer's
 pub returns : goal.returns
 returns c =
-    let up = c.sort_unstable_by.ensures.sorted strictly strictly_ranks
+    let up = c.sort_unstable_by.ensures.sorted (strictly (λ (l : Line). l.id)) (strictly_ranks (λ (l : Line). l.id))
     (answers_always _ _ _ (λ f a r g called. search rules)) in
     let far : length c.args.plan.now.morsels ≤ c.loop-morsel.morsel =
     omega (arith, c.loop-morsel-test.false, c.len-morsel-end.ensures.morsels) in

@@ -7,8 +7,8 @@ use Rattle.rank_sched.proofs.plan.bounds_of.Goals as goal
 -- one station more is measured
 pub loop-place-preserved : goal.loop-place-preserved
 loop-place-preserved c =
-    let bound = measure_of c.args.query.now c.args.held.now in
-    let stations = c.args.held.now.stations in
+    let bound = measure_of c.args.query.now c.args.dataset.now in
+    let stations = c.args.dataset.now.stations in
     let place = c.loop-place.place in
     let next : suc place ≡ place + 1 = omega arith in
     c.in_ok-push.ensures.items

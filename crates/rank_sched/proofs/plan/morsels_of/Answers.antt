@@ -14,9 +14,9 @@ use Rattle.rank_sched.proofs.plan.morsels_of.Goals.{in-Some+in_ok-push, in_defau
 -- one station more may give a morsel
 pub loop-place-preserved : goal.loop-place-preserved
 loop-place-preserved c =
-    let made = plan.morsel_at c.args.query.now c.args.held.now in
-    let bound = plan.measure_of c.args.query.now c.args.held.now in
-    let stations = c.args.held.now.stations in
+    let made = plan.measured_at c.args.query.now c.args.dataset.now in
+    let bound = plan.measure_of c.args.query.now c.args.dataset.now in
+    let stations = c.args.dataset.now.stations in
     let place = c.loop-place.place in
     let next : suc place ≡ place + 1 = omega arith in
     let within : place < length stations =
@@ -24,13 +24,13 @@ loop-place-preserved c =
     let measured : option_map bound (slice_get stations place) ≡ Some (get_or c.args.bounds.now place None) =
     made_at bound stations place None within
     ∙ ap (λ (l : List (Option ℤ)). Some (get_or l place None)) (sym c.requires) in
-    let there = c.morsel_at.ensures c.args.query.now c.element-element.ensures.element measured in
+    let there = c.measured_at.ensures c.args.query.now c.element-element.ensures.element measured in
     let with : Option code.Morsel → List plan.Morsel =
     λ o. filter_map made (take place stations) ++ option_to_list (option_map planned_morsel o) in
-    let at : with c.morsel_at.result ≡ filter_map made (take (place + 1) stations) =
-    sym (kept-more made stations place (option_map planned_morsel c.morsel_at.result) there)
+    let at : with c.measured_at.result ≡ filter_map made (take (place + 1) stations) =
+    sym (kept-more made stations place (option_map planned_morsel c.measured_at.result) there)
     ∙ ap (λ (n : ℕ). filter_map made (take n stations)) next in
-    elim c.match-morsel_at.branch [
+    elim c.match-measured_at.branch [
       | in-Some+in_ok-push w ↦
           ap (λ v. map planned_morsel v.items) w.morsels-is ∙ ap (map planned_morsel) w.in_ok-push.ensures.items
           ∙ map-append planned_morsel c.loop-place.morsels.items (w.in-Some.morsel ∷ [])

@@ -1,7 +1,7 @@
 use Rattle.std.proofs.Common.{◌≡◌, Ok, None, refl, subst}
 use Rattle.ghcn_files.specs.declared.element.Keep.TheVariants.{Nothing}
 use Rattle.ghcn_files.specs.Months.{read_month}
-use Rattle.ghcn_series.specs.DailyFaults.{line_of}
+use Rattle.ghcn_series.specs.DailyFaults.{file_line}
 use Rattle.ghcn_series.proofs.ReadLines.{read-passed, other_kind}
 use Rattle.ghcn_description.specs.Steps.{CountsCode}
 use Rattle.ghcn_description.proofs.DescribedLines.{counted-other}
@@ -19,9 +19,10 @@ returns-in-Ok-clause-read c =
     let adds = subst (CountsCode c.args.self.now.others c.add.new.self) c.shown_code.ensures c.in-Ok.ensures in
     record {
       holds = λ stations keep before of.
-          counted-other stations keep before (line_of c.args.file (c.args.line, c.args.bytes.now)) is c.args.self.now
+          counted-other stations keep before (file_line c.args.file (c.args.line, c.args.bytes.now)) is c.args.self.now
           c.args.self.now.reader c.add.new.self
-          (read-passed c.args.self.now.reader (line_of c.args.file (c.args.line, c.args.bytes.now)) is stations Nothing
+          (read-passed c.args.self.now.reader (file_line c.args.file (c.args.line, c.args.bytes.now)) is stations
+          Nothing
           before of.read) adds of;
     }
 
@@ -31,5 +32,5 @@ returns-in-Ok-false-clause-fault c =
     rw c.refused-in-Ok-false.ensures (record {
       first = λ stations keep before of.
           c.in-Ok-false.ensures.refused stations keep before
-          (line_of c.args.file (c.args.line, c.args.bytes.now)) refl of c.in-Ok-false.field-0-test;
+          (file_line c.args.file (c.args.line, c.args.bytes.now)) refl of c.in-Ok-false.field-0-test;
     })

@@ -3,7 +3,7 @@ use Rattle.std.specs.Prelude.{slice_get}
 use Rattle.std.specs.Option.{option_map}
 use Rattle.std.proofs.lemmas.Int.{to_z-of_z}
 use Rattle.ghcn_series.specs.Series.{DayValue}
-use Rattle.ghcn_series.specs.Packed.{AreDays, IsLastOf, days_of, blocks_of}
+use Rattle.ghcn_series.specs.Packed.{AreCalendarDays, IsLastOf, days_of_blocks, blocks_of}
 use Rattle.ghcn_series.proofs.LastDays.{IsLastBlock, last-block, last-of_columns, last_of-at}
 use Rattle.ghcn_series.proofs.columns.Columns.last.Goals as goal
 use Rattle.ghcn_series.proofs.columns.Columns.last.Goals.{After-last-2}
@@ -19,7 +19,8 @@ last c w there =
 -- the bits of the last word are days
 pub last_day-requires-clause-days : goal.last_day-requires-clause-days
 last_day-requires-clause-days c =
-    subst (λ (z : ℤ). AreDays z c.in_ok-word.word.now) (sym (to_z-of_z w32 c.in_ok-number.number.now (search rules)))
+    subst (λ (z : ℤ). AreCalendarDays z c.in_ok-word.word.now)
+    (sym (to_z-of_z w32 c.in_ok-number.number.now (search rules)))
     (last (goal.at.last_day-requires-clause-days c).After-last-2 _ c.in_ok-word.ensures.value).days
 
 -- and there is one
@@ -39,6 +40,6 @@ returns c =
     (subst (λ (k : ℕ). IsLastOf c.in_ok-number.number.now k c.last_day.result) (sym block.word) of) in
     sym (last-of_columns ns ws c.self.inside.values.items (length ns - 1) c.last_day.result
     c.self.invariant.blocks.enough_words c.self.invariant.blocks.enough_values block.some_block at)
-    ∙ last_of-at (days_of (blocks_of ns ws c.self.inside.values.items))
+    ∙ last_of-at (days_of_blocks (blocks_of ns ws c.self.inside.values.items))
     ∙ ap (λ (days : List DayValue). option_map (λ (x : DayValue). x.0) (slice_get days (length days - 1)))
     c.self.view_is

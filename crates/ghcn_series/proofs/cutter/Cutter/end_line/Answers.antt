@@ -3,7 +3,7 @@ use Rattle.std.proofs.lemmas.Bool.Decides.{nat_tests}
 use Rattle.std.proofs.lemmas.List.{nil_from_length}
 use Rattle.std.specs.Str.Lines.{strip_carriage_return}
 use Rattle.ghcn_series.specs.declared.cutter.Cutter.{Cutter}
-use Rattle.ghcn_series.specs.LineKinds.{kind_of}
+use Rattle.ghcn_series.specs.LineKinds.{line_kind}
 use Rattle.ghcn_series.proofs.cutter.Cutter.end_line.Goals as goal
 use Rattle.ghcn_series.proofs.cutter.Cutter.end_line.Goals.{then-is_empty+in_ok-kind}
 use Rattle.ghcn_series.proofs.cutter.Cutter.end_line.Goals.{else-is_empty+in_ok-keep+in_ok-kind-2}
@@ -21,7 +21,7 @@ returns-in-Some-clause-added g c =
           ap (λ (r : Cutter g.row.L.Denot). r.reader) (sym w.self-is) in
           let same : c.if-is_empty.self.counts ≡ old.counts =
           ap (λ (r : Cutter g.row.L.Denot). r.counts) w.self-is in
-          let kind : c.if-is_empty.kind ≡ kind_of (strip_carriage_return (old.rest.items ++ c.args.bytes.now)) =
+          let kind : c.if-is_empty.kind ≡ line_kind (strip_carriage_return (old.rest.items ++ c.args.bytes.now)) =
           rw none (w.kind-is ∙ w.in_ok-kind.ensures.kind) in
           record {
             numbered = line;
@@ -37,7 +37,7 @@ returns-in-Some-clause-added g c =
           ap (λ (r : Cutter g.row.L.Denot). r.reader) (sym w.self-is) in
           let same : c.if-is_empty.self.counts ≡ old.counts =
           ap (λ (r : Cutter g.row.L.Denot). r.counts) w.self-is ∙ w.in_ok-keep.ensures.counts in
-          let kind : c.if-is_empty.kind ≡ kind_of (strip_carriage_return (old.rest.items ++ c.args.bytes.now)) =
+          let kind : c.if-is_empty.kind ≡ line_kind (strip_carriage_return (old.rest.items ++ c.args.bytes.now)) =
           rw (← bytes) (w.kind-is ∙ w.in_ok-kind-2.ensures.kind) in
           record {
             numbered = line;

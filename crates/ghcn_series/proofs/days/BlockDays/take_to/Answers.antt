@@ -3,7 +3,7 @@ use Rattle.std.proofs.Common.{◌≤ℤ◌, ◌<ℤ◌, sym, ap, ap₂, subst, w
 use Rattle.std.specs.Prelude.{bit_and}
 use Rattle.std.proofs.lemmas.Int.{to_z-of_z}
 use Rattle.ghcn_series.specs.Series.{DayValue}
-use Rattle.ghcn_series.specs.Packed.{block_start, block_days, AreDays}
+use Rattle.ghcn_series.specs.Packed.{block_start, block_days, AreCalendarDays}
 use Rattle.ghcn_series.proofs.PartDays.{some-bits, both-parts, each-day, ones-left, first-bit, later-bit}
 use Rattle.ghcn_series.proofs.days.BlockDays.take_to.Goals as goal
 
@@ -12,7 +12,8 @@ pub invariant_of-days : goal.invariant_of-days
 invariant_of-days c =
     let n : ℤ = c.self.inside.number in
     let near : FitsSigned w32 n = search rules in
-    subst (λ (z : ℤ). AreDays z (bit_and c.self.inside.left c.first_places-taken.result)) (sym (to_z-of_z w32 n near))
+    subst (λ (z : ℤ). AreCalendarDays z (bit_and c.self.inside.left c.first_places-taken.result))
+    (sym (to_z-of_z w32 n near))
     (some-bits n c.self.inside.left c.first_places-taken.result c.self.invariant)
 
 -- so it is with those that stay

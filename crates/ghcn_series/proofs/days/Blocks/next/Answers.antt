@@ -4,7 +4,7 @@ use Rattle.std.proofs.lemmas.Bool.Decides.{nat_tests}
 use Rattle.std.proofs.lemmas.Int.{to_z-of_z}
 use Rattle.std.proofs.lemmas.List.{get_or_read_under}
 use Rattle.ghcn_series.specs.Series.{DayValue}
-use Rattle.ghcn_series.specs.Packed.{Block, block_days, days_of, blocks_of, IsPacked}
+use Rattle.ghcn_series.specs.Packed.{Block, block_days, days_of_blocks, blocks_of, IsPacked}
 use Rattle.ghcn_series.proofs.Lookups.{blocks-behind, blocks-end}
 use Rattle.ghcn_series.proofs.PartsAdded.{packed-at}
 use Rattle.ghcn_series.proofs.Nexts.{block-nonempty}
@@ -16,7 +16,7 @@ returns-in_err-number-clause-none c =
     let past : length c.self.inside.numbers.now ≤ c.self.inside.passed =
     grind (arith, nat_tests, c.in_err-number.ensures.lookup) in
     rw c.from_residual.ensures
-    (sym c.self.view_is ∙ ap days_of (blocks-end _ _ _ c.self.inside.passed c.self.invariant past))
+    (sym c.self.view_is ∙ ap days_of_blocks (blocks-end _ _ _ c.self.inside.passed c.self.invariant past))
 
 -- so there is no other
 pub returns-in_err-number-clause-end : goal.returns-in_err-number-clause-end
@@ -48,8 +48,8 @@ returns-clause-some c =
     let block : Block = (get_or ns i (pos 0), (get_or ws i 0, get_or vs i [])) in
     let own : c.of.result ≡ block_days block = c.of.ensures
     ∙ ap (λ (z : ℤ). block_days (z, block.1)) (to_z-of_z w32 n near ∙ number) in
-    sym c.self.view_is ∙ ap days_of (blocks-behind ns ws vs i c.self.invariant here)
-    ∙ ap (λ (days : List DayValue). days ++ days_of (drop (i + 1) (blocks_of ns ws vs))) (sym own)
+    sym c.self.view_is ∙ ap days_of_blocks (blocks-behind ns ws vs i c.self.invariant here)
+    ∙ ap (λ (days : List DayValue). days ++ days_of_blocks (drop (i + 1) (blocks_of ns ws vs))) (sym own)
 
 -- of which there is one
 pub returns-clause-day : goal.returns-clause-day

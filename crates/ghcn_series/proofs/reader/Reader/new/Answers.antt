@@ -2,7 +2,7 @@ use Rattle.std.proofs.Common.{refl, sym, ap, ◌∙◌, subst, arith, add-one}
 use Rattle.std.specs.List.{AllByRecursion}
 use Rattle.std.specs.Option.{option_copied}
 use Rattle.std.proofs.lemmas.Option.{slice_get_within}
-use Rattle.ghcn_fields.specs.FaultLaws.{no_fault-nil}
+use Rattle.ghcn_files.proofs.FaultLaws.{no_fault-nil}
 use Rattle.ghcn_series.specs.DailyFaults.{daily_fault}
 use Rattle.ghcn_series.specs.Parts.{AreEmpty}
 use Rattle.ghcn_series.proofs.ReadMonths.{station-new, all_taken}

@@ -1,5 +1,5 @@
 use Rattle.std.proofs.Common.{rules, ◌≡◌, false, ℤ, Some, to_z, of_z, w64, sym, ap, ◌∙◌}
-use Rattle.rank_check.specs.Survey.{Tallied, reaches, raised, taken}
+use Rattle.rank_check.specs.Survey.{Tallied, reaches, raised, tally_with}
 use Rattle.rank_check.proofs.Surveying.{rows-behind}
 use Rattle.rank_check.proofs.Marks.{rows-met}
 use Rattle.rank_check.proofs.tally.TallySink.offer.Goals as goal
@@ -14,7 +14,7 @@ returns-then-reaches c =
     let own : to_z w64 (of_z w64 c.args.candidate.score) ≡ c.args.candidate.score = search rules in
     let highest = ap (λ (z : ℤ). Some z) (back ∙ c.raised.ensures ∙ ap (raised c.self.inside.highest) own) in
     (λ i. record { rows = met i; count = c.saturating_add-self-inside.ensures i; highest = highest i })
-    ∙ ap (λ (t : Tallied). taken t c.args.candidate) c.self.view_is
+    ∙ ap (λ (t : Tallied). tally_with t c.args.candidate) c.self.view_is
 
 -- a candidate behind the last row changes none
 pub returns-else-reaches : goal.returns-else-reaches
@@ -27,4 +27,4 @@ returns-else-reaches c =
     let own : to_z w64 (of_z w64 c.args.candidate.score) ≡ c.args.candidate.score = search rules in
     let highest = ap (λ (z : ℤ). Some z) (back ∙ c.raised.ensures ∙ ap (raised c.self.inside.highest) own) in
     (λ i. record { rows = same i; count = c.saturating_add-self-inside.ensures i; highest = highest i })
-    ∙ ap (λ (t : Tallied). taken t c.args.candidate) c.self.view_is
+    ∙ ap (λ (t : Tallied). tally_with t c.args.candidate) c.self.view_is

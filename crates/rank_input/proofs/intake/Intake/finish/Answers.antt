@@ -3,20 +3,20 @@ use Rattle.rank_input.proofs.Reading.{holds_input, reader_foreign, refuses_input
 use Rattle.rank_input.proofs.intake.Intake.finish.Goals as goal
 
 -- a reader's fault is that of the input
-pub returns-in_err-held-clause-err : goal.returns-in_err-held-clause-err
-returns-in_err-held-clause-err c =
-    let p = err_from_is_err_and c.from_residual-in_err-held.result c.from_residual-in_err-held.ensures.1 in
-    rw (p.1, p.2) (refuses_input c.args.self c.in_ok-query.query c.in_ok-query.reader c.in_err-held.field-0.0
-    c.in_ok-query.was c.in_err-held.ensures.err)
+pub returns-in_err-dataset-clause-err : goal.returns-in_err-dataset-clause-err
+returns-in_err-dataset-clause-err c =
+    let p = err_from_is_err_and c.from_residual-in_err-dataset.result c.from_residual-in_err-dataset.ensures.1 in
+    rw (p.1, p.2) (refuses_input c.args.self c.in_ok-query.query c.in_ok-query.reader c.in_err-dataset.field-0.0
+    c.in_ok-query.was c.in_err-dataset.ensures.err)
 
 -- a reader's data are what the input holds
 pub returns-clause-ok : goal.returns-clause-ok
 returns-clause-ok c =
-    holds_input c.args.self c.in_ok-query.query c.in_ok-query.reader c.in_ok-held.held c.in_ok-query.was
-    c.in_ok-held.ensures.ok
+    holds_input c.args.self c.in_ok-query.query c.in_ok-query.reader c.in_ok-dataset.dataset c.in_ok-query.was
+    c.in_ok-dataset.ensures.ok
 
 -- and its foreign files are the input's
 pub returns-clause-foreign : goal.returns-clause-foreign
 returns-clause-foreign c =
-    reader_foreign c.args.self c.in_ok-query.query c.in_ok-query.reader c.in_ok-held.foreign c.in_ok-query.was
-    c.in_ok-held.ensures.foreign
+    reader_foreign c.args.self c.in_ok-query.query c.in_ok-query.reader c.in_ok-dataset.foreign c.in_ok-query.was
+    c.in_ok-dataset.ensures.foreign

@@ -1,8 +1,4 @@
-use Rattle.std.proofs.Common.{◌≡◌, ◌≤◌, ◌∙◌, length, Some, Err, ap, sym, arith, rules}
-use Rattle.std.specs.Prelude.{slice_get}
-use Rattle.rank_sched.specs.declared.turn.Turn.TheVariants.{Idle}
-use Rattle.rank_sched.specs.declared.event.StepFault.{StepFault}
-use Rattle.rank_sched.specs.Task.{task_of}
+use Rattle.std.proofs.Common.{◌∙◌, ap, arith}
 use Rattle.rank_sched.specs.Run.{Running}
 use Rattle.rank_sched.specs.declared.event.Event.TheVariants.{Claim}
 use Rattle.std.proofs.lemmas.List.{length-set}

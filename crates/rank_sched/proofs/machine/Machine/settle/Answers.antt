@@ -1,8 +1,6 @@
-use Rattle.std.proofs.Common.{◌≡◌, ◌≤◌, ◌∙◌, length, Some, Err, true, refl, ap, sym, arith, rules}
+use Rattle.std.proofs.Common.{◌≡◌, ◌∙◌, Some, true, refl, ap, sym, arith, rules}
 use Rattle.std.specs.Prelude.{slice_get}
 use Rattle.rank_sched.specs.declared.turn.Turn.TheVariants.{Idle, Looked}
-use Rattle.rank_sched.specs.declared.event.StepFault.{StepFault}
-use Rattle.rank_sched.specs.Task.{task_of}
 use Rattle.rank_sched.specs.Run.{Running}
 use Rattle.rank_sched.specs.declared.event.Event.TheVariants.{Settle}
 use Rattle.std.proofs.lemmas.List.{length-set}

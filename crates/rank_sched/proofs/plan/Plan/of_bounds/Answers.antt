@@ -13,13 +13,13 @@ invariant_of-result c =
     let up = c.sort_unstable_by.ensures.sorted (strictly planned_morsel) (strictly_ranks planned_morsel)
     (answers_always _ _ _ (λ f a r g called. search rules)) in
     let same : map planned_morsel c.sort_unstable_by.new.self.items ≡
-    (plan.planned c.args.query.now c.args.held.now).morsels =
-    sort-planned c.args.query.now c.args.held.now planned_morsel c.in_ok-morsels.morsels.items
+    (plan.planned c.args.query.now c.args.dataset.now).morsels =
+    sort-planned c.args.query.now c.args.dataset.now planned_morsel c.in_ok-morsels.morsels.items
     c.sort_unstable_by.new.self.items
     c.morsels_of.ensures.contents c.in_ok-morsels.ensures.morsels c.sort_unstable_by.ensures.permutation up in
     record {
       asked = c.morsels_of.ensures.asked;
-      held = c.args.held.now;
+      dataset = c.args.dataset.now;
       right = c.morsels_of.ensures.contents;
       plan = cc;
     }

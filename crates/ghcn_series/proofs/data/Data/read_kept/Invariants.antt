@@ -1,7 +1,0 @@
-use Rattle.ghcn_series.specs.Pieces.{HasFed}
-use Rattle.ghcn_series.proofs.FedFiles.{fed_files}
-use Rattle.ghcn_series.proofs.data.Data.read_kept.Given as goal
-
--- the files so far were fed
-abbrev pub invariant-loop-file : goal.invariant-loop-file
-invariant-loop-file l = HasFed l.reader (fed_files l.fn.keep l.fn.stations l.files l.file-index)

@@ -1,0 +1,26 @@
+use Rattle.std.proofs.Common.{[], ◌∷◌, subst, sym, ◌∙◌}
+use Rattle.std.specs.List.{AllByRecursion}
+use Rattle.std.proofs.lemmas.List.{length-set}
+use Rattle.ghcn_series.specs.Parts.{AreEmpty}
+use Rattle.ghcn_series.proofs.ListFacts.{each-append}
+use Rattle.ghcn_series.proofs.StationMonths.{settled_at}
+use Rattle.ghcn_series.proofs.station.StationGathering.shrink_to_fit.Goals as goal
+
+-- one gathering more stands in memory of its own, and has the months that it had
+pub loop-place-preserved : goal.loop-place-preserved
+loop-place-preserved c = record {
+  id = c.loop-place.invariant.id;
+  number =
+      length-set c.loop-place.self.by_element.items c.loop-place.place c.shrink_to_fit.new.self
+      ∙ c.loop-place.invariant.number;
+  same = record {
+    holds = λ asked before is.
+        settled_at asked before c.loop-place.self.id c.loop-place.self.by_element.items c.loop-place.place
+        c.index_mut.result.now c.shrink_to_fit.new.self c.index_mut.ensures.value c.shrink_to_fit.ensures.element
+        c.in_ok-shrink_to_fit.ensures.same (c.loop-place.invariant.same.holds asked before is);
+  };
+  spare =
+      subst (AllByRecursion AreEmpty) (sym c.in_ok-push.ensures.items)
+      (each-append AreEmpty c.loop-place.spare.items (c.in_ok-shrink_to_fit.field-0 ∷ []) c.loop-place.invariant.spare
+      (c.in_ok-shrink_to_fit.ensures.empty, tt));
+}

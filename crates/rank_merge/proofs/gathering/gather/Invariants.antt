@@ -1,7 +1,0 @@
-use Rattle.std.proofs.Common.{take}
-use Rattle.rank_merge.specs.Found.{AreOfParts, texts_in}
-use Rattle.rank_merge.proofs.gathering.gather.Given as goal
-
--- the parts so far were read
-abbrev pub invariant-loop-place : goal.invariant-loop-place
-invariant-loop-place l = AreOfParts l.query (texts_in (take l.place l.parts)) l.all
