@@ -6,8 +6,6 @@ use Rattle.std.specs.Prelude.{◌==◌, nat_lt, nat_le, ℤ, pos, neg_ℤ}
 use Rattle.std.specs.List.{list_any, list_all, IsDistinct}
 use Rattle.std.specs.Option.{option_or, option_map}
 use Rattle.std.specs.Ordering.{is_eq}
-use Rattle.std.specs.BTreeMap.{is_at}
-use Rattle.std.specs.Map.{lookup}
 use Rattle.std.proofs.lemmas.List.{length_push, map-append, length-map, length-take-le, length-replicate}
 use Rattle.ghcn_fields.specs.Bytes.{blank_byte}
 use Rattle.std.proofs.lemmas.Map.Keys.{IsDistinct-push}
@@ -29,7 +27,7 @@ use Rattle.ghcn_files.specs.KeptStations.{key_of}
 use Rattle.ghcn_files.specs.Listed.{AreListed}
 use Rattle.ghcn_files.specs.KeptStations.{key_cmp, AreEleven, kept_place, AreKept}
 use Rattle.ghcn_files.proofs.IdLaws.{same_id-turned, same_id-laws}
-use Rattle.ghcn_files.proofs.ById.{kept_by_key, not_found, has_place, put_place, id_bytes}
+use Rattle.ghcn_files.proofs.ById.{has_place, put_place, id_bytes}
 use Rattle.ghcn_files.proofs.StationTests.{why_by}
 
 -- ---- an ID that an earlier line has
@@ -72,22 +70,6 @@ fault_of_right_line earlier n line held id repeated room e right is rep ro =
     (nat_lt (length earlier) (2 ^ 20))) right
     ∙ ap (λ (b : Bool). fault_by n None b (nat_lt (length earlier) (2 ^ 20))) again
     ∙ ap (λ (b : Bool). fault_by n None repeated b) fits
-
--- ---- whether an ID is a station's, by its key
-
-module _ {list held : List Station} {places : List ((ℕ × ℕ) × ℕ)} {key : ℕ × ℕ} (id : StationId)
-    (kept : AreKept list places) (same : list ≡ held) (is : key ≡ key_of id.0) (bytes : AreEleven id.0) where
-  -- its key has the place that it has in the list
-  place_by_key : lookup (is_at (key_cmp key)) places ≡ place_of held id
-  place_by_key = kept_by_key key places id is ∙ kept.own id bytes ∙ ap (λ ss. place_of ss id) same
-
-  -- a station has it where its key has a place
-  pub repeated_by_key : is_some (lookup (is_at (key_cmp key)) places) ≡ list_any (is_station_of id) held
-  repeated_by_key = ap is_some place_by_key ∙ has_place held id
-
-  -- it is new where its key has none
-  pub new_by_key : is_some (lookup (is_at (key_cmp key)) places) ≡ false → place_of held id ≡ None
-  new_by_key none = sym place_by_key ∙ not_found _ none
 
 -- ---- the station of a line without a fault
 
@@ -177,7 +159,7 @@ none_there None e = refl
 none_there (Some n) e = absurd cc
 
 -- a right station's ID is made of bytes
-own_bytes : (s : Station) → is_station s ≡ true → AreEleven s.id.0
+pub own_bytes : (s : Station) → is_station s ≡ true → AreEleven s.id.0
 own_bytes s right = id_bytes s.id (first (is_id s.id.0) _ _ _ _ _ right)
   where
     first : (a b c d e f : Bool) → (a && b && c && d && e && f) ≡ true → a ≡ true
@@ -185,7 +167,7 @@ own_bytes s right = id_bytes s.id (first (is_id s.id.0) _ _ _ _ _ right)
     first false b c d e f all = absurd cc
 
 -- what is listed stays so with one station more, whose ID none has
-listed_more : (ss : List Station) (s : Station) → AreListed ss → place_of ss s.id ≡ None → length ss < 2 ^ 20
+pub listed_more : (ss : List Station) (s : Station) → AreListed ss → place_of ss s.id ≡ None → length ss < 2 ^ 20
     → is_station s ≡ true → AreListed (ss ++ s ∷ [])
 listed_more ss s h new room right =
     let fresh = sym (no_id ss s.id) ∙ sym (has_place ss s.id) ∙ none_there (place_of ss s.id) new in

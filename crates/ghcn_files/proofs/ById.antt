@@ -7,8 +7,6 @@ use Rattle.std.specs.List.{find, slice_get, position_or_len, list_any, list_all}
 use Rattle.std.specs.Option.{option_or}
 use Rattle.std.specs.declared.cmp.Ordering.{Ordering}
 use Rattle.std.specs.declared.cmp.Ordering.TheVariants.{Less, Equal, Greater}
-use Rattle.std.specs.BTreeMap.{is_at}
-use Rattle.std.specs.Map.{lookup}
 use Rattle.std.specs.Int.{to_be_bytes, w32, w64}
 use Rattle.std.specs.Ordering.{is_eq, nat_cmp, ordering_then}
 use Rattle.std.proofs.lemmas.Bool.Decides.{nat_tests}
@@ -22,7 +20,7 @@ use Rattle.ghcn_files.specs.declared.station.Station.{Station}
 use Rattle.ghcn_files.specs.Ids.{same_id, is_id, is_visible}
 use Rattle.ghcn_files.proofs.IdLaws.{same_id-laws, same_id-is, place_is, no_place}
 use Rattle.ghcn_files.specs.Listed.{is_station_of, place_of}
-use Rattle.ghcn_files.specs.KeptStations.{key_of, key_cmp, kept_place, AreEleven}
+use Rattle.ghcn_files.specs.KeptStations.{key_of, key_cmp, AreEleven}
 
 -- ---- the station at a place that was found
 
@@ -167,7 +165,7 @@ key_itself k = ap (λ (o : Ordering). is_eq (ordering_then o (nat_cmp k.1 k.1)))
     ∙ ap is_eq (cmp_itself k.1)
 
 -- the keys of two IDs compare as equal where the IDs are the same
-compares_equal : (a b : StationId) → AreEleven a.0 → AreEleven b.0
+pub compares_equal : (a b : StationId) → AreEleven a.0 → AreEleven b.0
     → is_eq (key_cmp (key_of a.0) (key_of b.0)) ≡ same_id a b
 compares_equal a b p q = by (same_id a b) refl (is_eq (key_cmp (key_of a.0) (key_of b.0))) refl
   where
@@ -249,8 +247,3 @@ put_place ss s id p q none =
         ap (λ (b : Bool). cond b (Some (length ss)) (place_of ss id)) e
         ∙ sym (or_none (place_of ss id))
         ∙ sym (ap (λ (b : Bool). option_or (place_of ss id) (cond b (Some (length ss)) None)) e)
-
--- the place that is kept for an ID, by its key
-pub kept_by_key : (k : ℕ × ℕ) (places : List ((ℕ × ℕ) × ℕ)) (id : StationId) → k ≡ key_of id.0
-    → lookup (is_at (key_cmp k)) places ≡ kept_place places id
-kept_by_key k places id e = ap (λ (x : ℕ × ℕ). lookup (is_at (key_cmp x)) places) e

@@ -12,6 +12,7 @@ pub mod Ranges
 pub mod StationTests
 pub mod PrintedText
 pub mod Adding
+pub mod RisingIds
 pub mod ReadLines
 pub mod GroupValues
 pub mod Rows

@@ -1,9 +1,11 @@
 -- How stations are kept while a list is read: with the places of their IDs, one line after the other.
-use Rattle.std.specs.Prelude.{◌≡◌, ℕ, ◌<◌, take, drop, get_or, List, [], ◌∷◌, ◌++◌, length, Option, None, Some}
+use Rattle.std.specs.Prelude.{◌≡◌, ℕ, Bool, true, ◌<◌, ◌-◌, take, drop, get_or, List, [], ◌∷◌, ◌++◌, length, map}
+use Rattle.std.specs.Prelude.{Option, None, Some, slice_get}
 use Rattle.std.specs.declared.cmp.Ordering.{Ordering}
-use Rattle.std.specs.Ordering.{nat_cmp, ordering_then}
+use Rattle.std.specs.List.Sorted.{IsSortedByKey}
+use Rattle.std.specs.Ordering.{nat_cmp, ordering_then, is_lt}
 use Rattle.std.specs.Int.{from_be_bytes, w32, w64}
-use Rattle.std.specs.BTreeMap.{is_at}
+use Rattle.std.specs.BTreeMap.{BTreeMap, is_at}
 use Rattle.std.specs.Map.{lookup}
 use Rattle.ghcn_files.specs.declared.station.StationId.{StationId}
 use Rattle.ghcn_files.specs.declared.station.Station.{Station}
@@ -32,6 +34,30 @@ AreEleven bytes = (length bytes ≡ 11) × ((i : ℕ) → get_or bytes i 0 < 256
 pub record AreKept (stations : List Station) (places : List ((ℕ × ℕ) × ℕ)) : Type 0 where
   pub list : AreListed stations
   pub own : (id : StationId) → AreEleven id.0 → kept_place places id ≡ place_of stations id
+
+-- the keys of the stations' IDs never fall
+abbrev pub Rise : List Station → Type 0
+Rise stations = IsSortedByKey (λ s. key_of s.id.0) key_cmp stations
+
+-- the key of an ID is greater than that of a station, where there is one
+abbrev pub is_past : Option Station → StationId → Bool
+is_past None id = true
+is_past (Some s) id = is_lt (key_cmp (key_of s.id.0) (key_of id.0))
+
+-- the key of an ID is greater than that of the last station
+abbrev pub is_behind : List Station → StationId → Bool
+is_behind stations id = is_past (slice_get stations (length stations - 1)) id
+
+-- stations are kept with the keys of their IDs, which rise
+pub record AreRising (stations : List Station) (keys : List (ℕ × ℕ)) : Type 0 where
+  pub list : AreListed stations
+  pub rise : Rise stations
+  pub own : keys ≡ map (λ s. key_of s.id.0) stations
+
+-- stations are kept with the places of their IDs, or with the keys of these where they rise
+abbrev pub AreKeptBy : List Station → List (ℕ × ℕ) → Option (BTreeMap (ℕ × ℕ) ℕ) → Type 0
+AreKeptBy stations keys (Some places) = AreKept stations places.entries
+AreKeptBy stations keys None = AreRising stations keys
 
 -- a line adds its station: it has no fault after any lines that list those held
 pub record Adds (held : List Station) (l : Numbered) (more : List Station) : Type 0 where

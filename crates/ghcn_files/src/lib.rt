@@ -10,6 +10,7 @@ mod fault;
 mod flags;
 mod missing;
 mod month;
+mod rising;
 mod row;
 mod station;
 mod stations;

@@ -1,16 +1,17 @@
 //! The listed stations, in the order of the list.
 
 ghost use Rattle.std.specs.Prelude.{◌≡◌, ◌<◌, ◌^◌, ◌++◌, ◌∷◌, [], None, IsTrue, length, slice_get, Ok, IfOk};
-ghost use Rattle.std.specs.Prelude.{OnOk, IfErr};
+ghost use Rattle.std.specs.Prelude.{OnOk, OnErr, IfErr, is_some, true};
 ghost use Rattle.std.specs.List.{find};
 ghost use Rattle.std.specs.Option.{option_copied};
 ghost use Rattle.ghcn_files.specs.StationLines.{is_station};
 ghost use Rattle.ghcn_files.specs.Listed.{AreListed, is_station_of, place_of, listed};
-ghost use Rattle.ghcn_files.specs.KeptStations.{AreEleven, key_of, Adds};
+ghost use Rattle.ghcn_files.specs.KeptStations.{AreEleven, AreKept, AreRising, is_behind, key_of, Adds};
 ghost use Rattle.ghcn_fields.specs.Refusals.{IsRefusal};
 ghost use Rattle.ghcn_files.specs.Listed.{is_memory, IsFirstRefusal};
 ghost use Rattle.ghcn_files.specs.KeptStations.{IsRefusedFor};
 
+use crate::rising::{is_behind, place_among, places_of};
 use crate::{Station, StationId, StationWhy, StationsFault};
 use ghcn_fields::{Memory, is_blank, lines};
 use std::alloc::Global;
@@ -21,21 +22,23 @@ use std::marker::Model;
 #[derive(Drop)]
 pub struct Stations {
     list: Vec<Station>,
-    /// The place of each ID in the list, by the ID's key. An ordered map has no IDs that make its
-    /// look-ups slow.
-    places: BTreeMap<(u64, u32), usize>,
+    /// The keys of all IDs as long as they rise, where an ID is searched then.
+    keys: Vec<(u64, u32)>,
+    /// The place of each ID in the list, by the ID's key, from the first ID on that doesn't rise. An
+    /// ordered map has no IDs that make its look-ups slow.
+    places: Option<BTreeMap<(u64, u32), usize>>,
 }
 
 impl Model for Stations {
     ghost use Rattle.std.specs.Prelude.{List};
     ghost use Rattle.ghcn_files.specs.declared.station.Station.{Station};
-    ghost use Rattle.ghcn_files.specs.KeptStations.{AreKept};
+    ghost use Rattle.ghcn_files.specs.KeptStations.{AreKeptBy};
 
     ghost Value = { List Station };
 
     ghost view = { λ s. s.list.items };
 
-    ghost invariant = { λ s. AreKept s.list.items s.places.entries };
+    ghost invariant = { λ s. AreKeptBy s.list.items s.keys.items s.places };
 }
 
 /// The most stations that a list may have.
@@ -51,11 +54,12 @@ impl Stations {
     {
         let mut stations = Stations {
             list: Vec::new(alloc),
-            places: BTreeMap::new(alloc),
+            keys: Vec::new(alloc),
+            places: None,
         };
         for (number, line) in lines(text) {
             if !is_blank(line) {
-                stations.add(number, line)?;
+                stations.add(alloc, number, line)?;
             }
         }
         Ok(stations)
@@ -87,12 +91,25 @@ impl Stations {
     pub fn place(&self, id: &StationId) -> Option<u64>
         ensures { result ≡ place_of self.now id.now }
     {
-        let place = self.places.get(&key(&id.0))?;
-        Some(*place as u64)
+        let place = match &self.places {
+            Some(places) => *places.get(&key(&id.0))?,
+            None => place_among(&self.list, &self.keys, id)?,
+        };
+        Some(place as u64)
+    }
+
+    /// Whether a station has this ID. One behind all that rise needs no search.
+    fn is_listed(&self, id: &StationId) -> bool
+        ensures { result ≡ is_some (place_of self.now id.now) }
+    {
+        match &self.places {
+            None if is_behind(&self.list, id) => false,
+            _ => self.place(id).is_some(),
+        }
     }
 
     /// Adds the station of a line to those of the lines before it, unless it has a fault after them.
-    fn add(&mut self, number: u64, line: &[u8]) -> Result<(), StationsFault>
+    fn add(&mut self, alloc: Global, number: u64, line: &[u8]) -> Result<(), StationsFault>
         ensures ok { OnOk result (Adds self.old (number, line.now) self.new) }
         ensures err { IfErr result (λ fault. IsRefusedFor fault self.old (number, line.now)) }
     {
@@ -100,7 +117,7 @@ impl Stations {
             Ok(station) => station,
             Err(why) => return Err(StationsFault::StationLine { line: number, why }),
         };
-        if self.places.contains_key(&key(&station.id.0)) {
+        if self.is_listed(&station.id) {
             return Err(StationsFault::StationLine {
                 line: number,
                 why: StationWhy::Duplicate,
@@ -109,27 +126,79 @@ impl Stations {
         if self.list.len() >= MOST_STATIONS {
             return Err(StationsFault::TooManyStations);
         }
-        match self.push(station) {
+        match self.push(alloc, station) {
             Ok(()) => Ok(()),
             Err(memory) => Err(StationsFault::Memory(memory)),
         }
     }
 
     /// Puts a station behind the others, whose ID none of them has.
-    fn push(&mut self, station: Station) -> Result<(), Memory>
+    fn push(&mut self, alloc: Global, station: Station) -> Result<(), Memory>
         requires new { place_of self.old station.id ≡ None }
         requires room { length self.old < 2 ^ 20 }
         requires right { IsTrue (is_station station) }
         ensures { OnOk result (self.new ≡ self.old ++ station ∷ []) }
     {
-        let place = self.list.len();
-        self.list.push(station)?;
-        match self.places.insert(key(&station.id.0), place) {
-            Ok(_) => Ok(()),
-            Err(_) => {
-                self.list.pop();
-                Err(Memory)
-            }
+        if let Some(places) = &mut self.places {
+            return push_with_place(&mut self.list, places, station);
+        }
+        if is_behind(&self.list, &station.id) {
+            return push_with_key(&mut self.list, &mut self.keys, station);
+        }
+        let mut places = places_of(alloc, &self.list)?;
+        push_with_place(&mut self.list, &mut places, station)?;
+        self.places = Some(places);
+        self.keys = Vec::new(alloc);
+        Ok(())
+    }
+}
+
+/// Puts a station behind the others, whose IDs all come before its own, and its key behind theirs.
+fn push_with_key(
+    stations: &mut Vec<Station>,
+    keys: &mut Vec<(u64, u32)>,
+    station: Station,
+) -> Result<(), Memory>
+    requires kept { AreRising stations.old.items keys.old.items }
+    requires new { place_of stations.old.items station.id ≡ None }
+    requires room { length stations.old.items < 2 ^ 20 }
+    requires right { IsTrue (is_station station) }
+    requires behind { is_behind stations.old.items station.id ≡ true }
+    ensures kept { AreRising stations.new.items keys.new.items }
+    ensures ok { OnOk result (stations.new.items ≡ stations.old.items ++ station ∷ []) }
+    ensures err { OnErr result (stations.new.items ≡ stations.old.items) }
+{
+    stations.push(station)?;
+    match keys.push(key(&station.id.0)) {
+        Ok(()) => Ok(()),
+        Err(_) => {
+            stations.pop();
+            Err(Memory)
+        }
+    }
+}
+
+/// Puts a station behind the others, whose ID none of them has, and its place beside theirs.
+fn push_with_place(
+    list: &mut Vec<Station>,
+    places: &mut BTreeMap<(u64, u32), usize>,
+    station: Station,
+) -> Result<(), Memory>
+    requires kept { AreKept list.old.items places.old.entries }
+    requires new { place_of list.old.items station.id ≡ None }
+    requires room { length list.old.items < 2 ^ 20 }
+    requires right { IsTrue (is_station station) }
+    ensures kept { AreKept list.new.items places.new.entries }
+    ensures ok { OnOk result (list.new.items ≡ list.old.items ++ station ∷ []) }
+    ensures err { OnErr result (list.new.items ≡ list.old.items) }
+{
+    let place = list.len();
+    list.push(station)?;
+    match places.insert(key(&station.id.0), place) {
+        Ok(_) => Ok(()),
+        Err(_) => {
+            list.pop();
+            Err(Memory)
         }
     }
 }

@@ -124,6 +124,95 @@ fn stations_by_id_and_by_place(rt: HostRuntime) {
     assert_eq!(rt; id_of_three(rt.alloc(), 3), Some(None));
 }
 
+/// A list of stations whose IDs and latitudes have these digits, in this order.
+fn list_of(alloc: Global, digits: &[u8]) -> Result<Vec<u8>, AllocError> {
+    let mut text = Vec::new(alloc);
+    for digit in digits {
+        let mut line = *b"ZZA00000000  00.0000   20.0000\n";
+        line[10] = *digit;
+        line[13] = *digit;
+        text.extend_from_slice(&line)?;
+    }
+    Ok(text)
+}
+
+/// The place of a digit's ID and the latitude of its station.
+type Found = (Option<u64>, Option<i32>);
+
+const NOWHERE: Found = (None, None);
+
+fn found_by(stations: &Stations, digit: u8) -> Found {
+    let mut id = StationId(*b"ZZA00000000");
+    id.0[10] = digit;
+    let latitude = match stations.get(&id) {
+        Some(station) => Some(station.latitude),
+        None => None,
+    };
+    (stations.place(&id), latitude)
+}
+
+/// What the digits from 1 to 4 find in such a list, or why it is refused.
+fn found_in(alloc: Global, digits: &[u8]) -> Option<Result<[Found; 4], StationsFault>> {
+    let text = list_of(alloc, digits).ok()?;
+    match Stations::read(alloc, &text) {
+        Ok(stations) => Some(Ok([
+            found_by(&stations, b'1'),
+            found_by(&stations, b'2'),
+            found_by(&stations, b'3'),
+            found_by(&stations, b'4'),
+        ])),
+        Err(fault) => Some(Err(fault)),
+    }
+}
+
+/// What a digit finds whose station is at a place.
+fn at(place: u64, latitude: i32) -> Found {
+    (Some(place), Some(latitude))
+}
+
+#[test]
+fn lists_in_any_order(rt: HostRuntime) {
+    let (one, two, three, four) = (100_000, 200_000, 300_000, 400_000);
+    let cases: [(&[u8], [Found; 4]); 9] = [
+        (b"1", [at(0, one), NOWHERE, NOWHERE, NOWHERE]),
+        (b"24", [NOWHERE, at(0, two), NOWHERE, at(1, four)]),
+        (b"42", [NOWHERE, at(1, two), NOWHERE, at(0, four)]),
+        (b"1234", [at(0, one), at(1, two), at(2, three), at(3, four)]),
+        (b"4321", [at(3, one), at(2, two), at(1, three), at(0, four)]),
+        (b"2341", [at(3, one), at(0, two), at(1, three), at(2, four)]),
+        (b"4123", [at(1, one), at(2, two), at(3, three), at(0, four)]),
+        (b"1324", [at(0, one), at(2, two), at(1, three), at(3, four)]),
+        (b"3412", [at(2, one), at(3, two), at(0, three), at(1, four)]),
+    ];
+    for (digits, expected) in cases {
+        let found = found_in(rt.alloc(), digits);
+        assert_eq!(rt; found, Some(Ok(expected)), "at {digits:?}");
+    }
+}
+
+#[test]
+fn ids_that_repeat_in_any_order(rt: HostRuntime) {
+    let cases: [(&[u8], u64); 11] = [
+        (b"11", 2),
+        (b"1231", 4),
+        (b"1232", 4),
+        (b"1233", 4),
+        (b"12331", 4),
+        (b"3213", 4),
+        (b"3212", 4),
+        (b"3211", 4),
+        (b"1321", 4),
+        (b"1323", 4),
+        (b"13244", 5),
+    ];
+    for (digits, line) in cases {
+        let found = found_in(rt.alloc(), digits);
+        let why = StationWhy::Duplicate;
+        let fault = StationsFault::StationLine { line, why };
+        assert_eq!(rt; found, Some(Err(fault)), "at {digits:?}");
+    }
+}
+
 #[test]
 fn ids_that_are_the_same(rt: HostRuntime) {
     let id = StationId(*b"ZZA00000001");

@@ -2,34 +2,31 @@ use Rattle.std.proofs.Common.{◌∷◌, ◌++◌, [], ◌^◌, true, false, len
 use Rattle.std.proofs.lemmas.Bool.{lt-ltb, le-ltb}
 use Rattle.ghcn_files.specs.declared.station.Station.{Station}
 use Rattle.ghcn_files.specs.StationLines.{is_station}
-use Rattle.ghcn_files.proofs.Adding.{fault_of_right_line, station_of-right, repeated_by_key, new_by_key}
+use Rattle.ghcn_files.proofs.Adding.{fault_of_right_line, station_of-right}
+use Rattle.ghcn_files.proofs.ById.{has_place, not_found}
 use Rattle.ghcn_files.proofs.stations.Stations.add.Goals as goal
 
 -- a line whose ID a station has
-pub returns-then-contains_key-clause-err : goal.returns-then-contains_key-clause-err
-returns-then-contains_key-clause-err c = λ earlier e.
+pub returns-then-is_listed-clause-err : goal.returns-then-is_listed-clause-err
+returns-then-is_listed-clause-err c = λ earlier e.
     let right = c.in-Ok.ensures in
-    let known =
-    repeated_by_key c.in-Ok.station.id c.self.invariant c.self.view_is c.key.ensures.key c.key.ensures.bytes in
+    let known = sym (has_place c.args.self.now c.in-Ok.station.id) ∙ sym c.is_listed.ensures ∙ c.if-is_listed.true in
     fault_of_right_line earlier c.args.number c.args.line.now c.args.self.now c.in-Ok.station.id true _ e right.ok
-    (ap (λ (s : Station). s.id) right.right) (sym known ∙ sym c.contains_key.ensures ∙ c.if-contains_key.true) refl
+    (ap (λ (s : Station). s.id) right.right) known refl
 
 -- a line after as many stations as there may be
 pub returns-then-len-ge-MOST_STATIONS-clause-err : goal.returns-then-len-ge-MOST_STATIONS-clause-err
 returns-then-len-ge-MOST_STATIONS-clause-err c = λ earlier e.
     let right = c.in-Ok.ensures in
-    let known =
-    repeated_by_key c.in-Ok.station.id c.self.invariant c.self.view_is c.key.ensures.key c.key.ensures.bytes in
+    let known = sym (has_place c.args.self.now c.in-Ok.station.id) ∙ sym c.is_listed.ensures ∙ c.if-is_listed.false in
     let full = le-ltb (length c.args.self.now) (2 ^ 20)
     (omega (arith, c.len.ensures, ap length c.self.view_is, c.if-len-ge-MOST_STATIONS.true)) in
     fault_of_right_line earlier c.args.number c.args.line.now c.args.self.now c.in-Ok.station.id false false e right.ok
-    (ap (λ (s : Station). s.id) right.right) (sym known ∙ sym c.contains_key.ensures ∙ c.if-contains_key.false) full
+    (ap (λ (s : Station). s.id) right.right) known full
 
--- an ID without a kept place is no station's
+-- an ID that isn't listed is no station's
 pub push-requires-clause-new : goal.push-requires-clause-new
-push-requires-clause-new c =
-    new_by_key c.in-Ok.station.id c.self.invariant c.self.view_is c.key.ensures.key c.key.ensures.bytes
-    (sym c.contains_key.ensures ∙ c.if-contains_key.false)
+push-requires-clause-new c = not_found _ (sym c.is_listed.ensures ∙ c.if-is_listed.false)
 
 -- the station of a line without a fault is right
 pub push-requires-clause-right : goal.push-requires-clause-right
@@ -40,14 +37,12 @@ pub returns-in-Ok-push-clause-ok : goal.returns-in-Ok-push-clause-ok
 returns-in-Ok-push-clause-ok c =
     let right = c.in-Ok.ensures in
     let held = c.args.self.now in
-    let known =
-    repeated_by_key c.in-Ok.station.id c.self.invariant c.self.view_is c.key.ensures.key c.key.ensures.bytes in
+    let known = sym (has_place held c.in-Ok.station.id) ∙ sym c.is_listed.ensures ∙ c.if-is_listed.false in
     let room = lt-ltb (length held) (2 ^ 20)
     (omega (arith, c.len.ensures, ap length c.self.view_is, c.if-len-ge-MOST_STATIONS.false)) in
     record {
       right = λ earlier e.
           fault_of_right_line earlier c.args.number c.args.line.now held c.in-Ok.station.id false true e
-          right.ok (ap (λ (s : Station). s.id) right.right)
-          (sym known ∙ sym c.contains_key.ensures ∙ c.if-contains_key.false) room;
+          right.ok (ap (λ (s : Station). s.id) right.right) known room;
       added = c.in-Ok-push.ensures ∙ ap (λ (s : Station). held ++ s ∷ []) right.right;
     }

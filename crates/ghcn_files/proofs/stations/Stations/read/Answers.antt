@@ -5,7 +5,7 @@ use Rattle.std.proofs.lemmas.List.{length_push}
 use Rattle.ghcn_fields.specs.Lines.{numbered_lines}
 use Rattle.ghcn_fields.specs.Refusals.{IsRefusal}
 use Rattle.ghcn_files.specs.Listed.{listed, is_memory, IsFirstRefusal}
-use Rattle.ghcn_files.proofs.Adding.{nothing_kept}
+use Rattle.ghcn_files.proofs.RisingIds.{nothing_listed}
 use Rattle.ghcn_files.proofs.Errors.{err_given}
 use Rattle.ghcn_files.proofs.ReadLines.{HasRead, past_blank, past_line, at_end, ends_by}
 use Rattle.ghcn_files.proofs.stations.Stations.read.Goals as goal
@@ -13,7 +13,7 @@ use Rattle.ghcn_files.proofs.stations.Stations.read.Goals as goal
 -- nothing is kept at first
 pub invariant_of-stations : goal.invariant_of-stations
 invariant_of-stations c =
-    nothing_kept c.new.result.items c.new-2.result.entries c.new.ensures.items c.new-2.ensures.empty
+    nothing_listed c.new.result.items c.new-2.result.items c.new.ensures.items c.new-2.ensures.items
 
 -- a blank line changes nothing
 pub loop-number-preserved : goal.loop-number-preserved
