@@ -9,7 +9,7 @@ pub mod RisingDays
 pub mod PartsAdded
 pub mod RowParts
 pub mod ApartParts
-pub mod AddedDays
+pub mod PartsInOrder
 pub mod LastDays
 pub mod MonthDays
 pub mod MonthRows

@@ -4,6 +4,10 @@ use Rattle.std.proofs.Common.{Some, None, refl, sym, ap, subst, ◌∙◌, arith
 use Rattle.std.specs.Prelude.{◌==◌}
 use Rattle.std.specs.Int.{bit_at}
 use Rattle.std.specs.List.{cons_option, filter_map, range_with_len, AllByRecursion}
+use Rattle.std.specs.List.Sorted.{IsStrictlySortedBy}
+use Rattle.std.specs.Map.{keys_of}
+use Rattle.std.specs.declared.cmp.Ordering.TheVariants.{Less}
+use Rattle.std.specs.Ordering.{int_cmp}
 use Rattle.std.proofs.Common.{inl, inr}
 use Rattle.std.proofs.lemmas.Int.{ints, by_lt_z}
 use Rattle.std.proofs.lemmas.Option.{none-some, same_Some}
@@ -97,6 +101,24 @@ columns-rise ns ws vs cols = blocks-rise (blocks_of ns ws vs) (λ i j lt in_rang
     let within : j < length ns = omega (arith, blocks-length ns ws vs words values, in_range) in
     rw (blocks-at ns ws vs i words values (omega arith), blocks-at ns ws vs j words values within)
     (cols.rise.less i j lt within))
+
+-- ---- days whose numbers are in order
+
+-- a number that compares as less is less
+cmp_less : (a b : ℤ) → int_cmp a b ≡ Less → a <ℤ b
+cmp_less a b e = grind (arith, ints)
+
+-- days whose keys are greater are later
+keys-later : (d : ℤ) (xs : List DayValue) → AllByRecursion (λ k. int_cmp d k ≡ Less) (keys_of xs)
+    → AllByRecursion (λ y. d <ℤ y.0) xs
+keys-later d [] all = tt
+keys-later d (x ∷ xs) all = (cmp_less d x.0 all.0, keys-later d xs all.1)
+
+-- days whose keys are in order rise
+pub keys-rise : (xs : List DayValue) → IsStrictlySortedBy int_cmp (keys_of xs) → AreRising xs
+unfolding IsStrictlySortedBy
+keys-rise [] sorted = tt
+keys-rise (x ∷ xs) sorted = (keys-later x.0 xs sorted.0, keys-rise xs sorted.1)
 
 -- ---- rising days are told by their values
 

@@ -24,7 +24,7 @@ use Rattle.ghcn_series.specs.DailyFaults.{is_listed}
 use Rattle.ghcn_series.specs.Said.{facts_said, IsMadeOf}
 use Rattle.ghcn_series.specs.Says.{Fact, data_of}
 use Rattle.ghcn_series.specs.Series.{DayValue, Usable, Contents, value_on, by_day, series_of}
-use Rattle.ghcn_series.proofs.AddedDays.{keys-rise}
+use Rattle.ghcn_series.proofs.RisingDays.{keys-rise}
 use Rattle.ghcn_series.proofs.AllSeries.{same_element-is}
 use Rattle.ghcn_series.proofs.ApartParts.{rising-distinct}
 use Rattle.ghcn_series.proofs.FoundSeries.{if_it_has_days, series_made, series_found}

@@ -1,4 +1,4 @@
--- Days in their order: what a map that was made of pairs of different days holds.
+-- Days in their order.
 use Rattle.std.proofs.Common.{◌≡◌, Bool, true, false, cond, List, [], ◌∷◌, Option, Some, refl, sym, ap, ◌∙◌, arith, ℤ}
 use Rattle.std.specs.Prelude.{int_le}
 use Rattle.std.specs.declared.cmp.Ordering.TheVariants.{Less}
@@ -8,16 +8,13 @@ use Rattle.std.specs.List.{find, IsDistinct, AllByRecursion}
 use Rattle.std.specs.Option.{option_map}
 use Rattle.std.specs.List.Sorted.{IsStrictlySortedBy}
 use Rattle.std.specs.Map.{keys_of, lookup}
-use Rattle.std.specs.BTreeMap.{BTreeMap, IsFromIterResult}
 use Rattle.std.proofs.lemmas.Cmp.{int_cmp_total}
 use Rattle.std.proofs.lemmas.Bool.{false≢true}
 use Rattle.std.proofs.lemmas.Int.{ints}
-use Rattle.std.proofs.lemmas.Map.Made.{update_all_none}
 use Rattle.ghcn_fields.specs.Sorting.{placed, sorted_by}
 use Rattle.ghcn_series.specs.Series.{DayValue, value_on, by_day}
 use Rattle.ghcn_series.specs.Packed.{AreRising}
-use Rattle.ghcn_series.proofs.AddedDays.{keys-rise}
-use Rattle.ghcn_series.proofs.RisingDays.{same-from_values}
+use Rattle.ghcn_series.proofs.RisingDays.{keys-rise, same-from_values}
 
 -- a day before another
 before_from : (a b : ℤ) → int_le a b ≡ true → int_eq a b ≡ false → int_cmp a b ≡ Less
@@ -146,11 +143,3 @@ pub sorted-same : (xs ys : List DayValue) → IsDistinct int_eq (keys_of xs) →
     → sorted_by by_day xs ≡ sorted_by by_day ys
 sorted-same xs ys one other same =
     sorted-are ys (sorted_by by_day xs) other (sorted-rise xs one) (λ d. value-sorted d xs one ∙ same d)
-
--- a map that was made of pairs of different days holds them in their order
-pub entries-sorted : (xs : List DayValue) (n : BTreeMap ℤ ℤ) → IsFromIterResult int_cmp xs n
-    → IsDistinct int_eq (keys_of xs) → n.entries ≡ sorted_by by_day xs
-entries-sorted xs n is distinct =
-    sorted-are xs n.entries distinct (keys-rise n.entries is.1) (λ q.
-    sym (lookup-is q n.entries) ∙ is.0 q ∙ update_all_none int_eq_equiv int_eq (λ x y. refl) xs q distinct
-    ∙ lookup-is q xs)

@@ -1,8 +1,9 @@
 -- Parts of blocks as they were added: a block may stand in several parts, and the numbers needn't rise.
-use Rattle.std.specs.Prelude.{◌≡◌, ℕ, ◌<◌, ◌≤◌, ◌+◌, ◌-◌, ◌^◌, ◌==◌, if◌then◌else◌, ◌+ℤ◌, ◌<ℤ◌, ◌≤ℤ◌, length, true, ⊤}
-use Rattle.std.specs.Prelude.{List, [], ◌∷◌, get_or, IsSome, None, ℤ, pos}
+use Rattle.std.specs.Prelude.{◌≡◌, ℕ, ◌<◌, ◌≤◌, ◌+◌, ◌-◌, ◌^◌, ◌+ℤ◌, ◌≤ℤ◌, length, true, ⊤}
+use Rattle.std.specs.Prelude.{List, [], ◌∷◌, get_or, map, IsSome, None, ℤ, pos}
 use Rattle.std.specs.Int.{bit_at}
-use Rattle.std.specs.List.{AllByRecursion}
+use Rattle.std.specs.List.{range_with_len}
+use Rattle.std.specs.List.Sorted.{IsPermutation}
 use Rattle.std.specs.Option.{option_or}
 use Rattle.ghcn_series.specs.Series.{DayValue, value_on}
 use Rattle.ghcn_fields.specs.Days.{is_day}
@@ -82,13 +83,18 @@ pub record AreSame (a b : Parts) : Type 0 where
   pub values : b.values.items ≡ a.values.items
   pub in_order : b.in_order ≡ a.in_order
 
--- all days come before one
-abbrev pub AreBefore : ℤ → List DayValue → Type 0
-AreBefore day days = AllByRecursion (λ x. x.0 <ℤ day) days
+-- the same days, in whichever parts
+abbrev pub HaveSameDays : Parts → Parts → Type 0
+HaveSameDays a b = (d : ℤ) → value_on (days_held b) d ≡ value_on (days_held a) d
 
--- a row that has a value at a place, and else 0
-abbrev pub IsRowOf : List ℤ → ℕ → ℤ → Type 0
-IsRowOf row place v = (j : ℕ) → j < 32 → get_or row j (pos 0) ≡ (if j == place then v else pos 0)
+-- numbers with their places
+abbrev pub with_places : List ℤ → List (ℤ × ℕ)
+with_places numbers = map (λ k. (get_or numbers k (pos 0), k)) (range_with_len 0 (length numbers))
+
+-- all numbers with their places, in an order in which none is less than the one before it
+pub record AreByNumber (numbers : List ℤ) (order : List (ℤ × ℕ)) : Type 0 where
+  pub all : IsPermutation (with_places numbers) order
+  pub rise : (k : ℕ) → k + 1 < length order → (get_or order k (pos 0, 0)).0 ≤ℤ (get_or order (k + 1) (pos 0, 0)).0
 
 -- the day at a place of a block
 abbrev pub day_of : ℤ → ℕ → ℤ

@@ -1,6 +1,6 @@
 //! Columns while days are added to them.
 
-ghost use Rattle.std.specs.Prelude.{◌≡◌, ◌<◌, ◌-◌, ◌^◌, ◌==◌, ◌&&◌, ◌||◌, ◌++◌, ◌∷◌, [], if◌then◌else◌, pos, ◌+ℤ◌};
+ghost use Rattle.std.specs.Prelude.{◌≡◌, ◌<◌, ◌-◌, ◌==◌, ◌&&◌, ◌||◌, pos, ◌+ℤ◌};
 ghost use Rattle.std.specs.Prelude.{IfOk, OnOk, IsTrue};
 ghost use Rattle.std.specs.Prelude.{nat_lt, int_lt, length, slice_index_or};
 ghost use Rattle.std.specs.Ordering.{int_eq};
@@ -11,10 +11,8 @@ ghost use Rattle.ghcn_series.specs.Packed as packed;
 ghost use Rattle.ghcn_series.specs.Parts as parts;
 
 use crate::columns::Columns;
-use crate::days::Days;
 use ghcn_fields::{Day, Memory};
 use std::alloc::Global;
-use std::collections::BTreeMap;
 use std::mem;
 
 /// Parts of blocks in the order in which they were added.
@@ -25,18 +23,6 @@ pub(crate) struct Parts {
     values: Vec<[i32; 32]>,
     /// Whether the numbers rise.
     in_order: bool,
-}
-
-/// The days of a map as columns.
-fn packed(alloc: Global, days: BTreeMap<Day, i32>) -> Result<Columns, Memory>
-    requires { packed.AreRising days.entries }
-    ensures { IfOk result (λ columns. columns ≡ days.entries) }
-{
-    let mut parts = Parts::new(alloc);
-    for (day, value) in days {
-        parts.add_day(day, value)?;
-    }
-    Ok(parts.into_columns())
 }
 
 impl Parts {
@@ -100,18 +86,6 @@ impl Parts {
         self.add_part(number + 1, high, &second)
     }
 
-    /// Adds a day that is later than all that were added.
-    fn add_day(&mut self, day: Day, value: i32) -> Result<(), Memory>
-        requires order { parts.AreOrdered self.old }
-        requires later { parts.AreBefore day (parts.days_held self.old) }
-        ensures order { OnOk result (parts.AreOrdered self.new) }
-        ensures days { OnOk result (parts.days_held self.new ≡ parts.days_held self.old ++ (day, value) ∷ []) }
-    {
-        let at = place_of(day);
-        let row = row_with(at.1, value);
-        self.add_part(at.0, bit_of(at.1), &row)
-    }
-
     /// Whether there are none.
     pub(crate) fn is_empty(&self) -> bool
         requires { parts.AreParts self.now }
@@ -161,8 +135,23 @@ impl Parts {
         if self.in_order {
             return Ok(self.into_columns());
         }
-        let days = Days::of(&self.numbers, &self.words, &self.values);
-        packed(alloc, days.collect(alloc)?)
+        let order = by_number(alloc, &self.numbers)?;
+        let ordered = self.added_in(alloc, &order)?;
+        Ok(ordered.into_columns())
+    }
+
+    /// The same days, added part by part in the order of the parts' numbers.
+    fn added_in(&self, alloc: Global, order: &[(i32, usize)]) -> Result<Self, Memory>
+        requires parts { parts.AreParts self.now }
+        requires order { parts.AreByNumber self.now.numbers.items order.now }
+        ensures order { IfOk result parts.AreOrdered }
+        ensures days { IfOk result (parts.HaveSameDays self.now) }
+    {
+        let mut ordered = Parts::new(alloc);
+        for (number, place) in order {
+            ordered.add_part(*number, self.words[*place], &self.values[*place])?;
+        }
+        Ok(ordered)
     }
 
     /// The same days as columns.
@@ -187,6 +176,18 @@ impl Parts {
         self.words[last] |= word;
         self.values[last] = joined(&self.values[last], values);
     }
+}
+
+/// The numbers with their places, by increasing number.
+fn by_number(alloc: Global, numbers: &[i32]) -> Result<Vec<(i32, usize)>, Memory>
+    ensures { IfOk result (λ order. parts.AreByNumber numbers.now order.items) }
+{
+    let mut order = Vec::with_capacity(alloc, numbers.len())?;
+    for place in 0..numbers.len() {
+        order.push((numbers[place], place))?;
+    }
+    order.sort_unstable();
+    Ok(order)
 }
 
 /// These items in memory of exactly their size.
@@ -270,30 +271,4 @@ pub(crate) fn place_of(day: Day) -> (i32, u32)
     ensures calendar { IsTrue (is_day day) }
 {
     (day.block(), day.number().rem_euclid(32) as u32)
-}
-
-/// The word whose one bit is at a place.
-pub(crate) fn bit_of(place: u32) -> u32
-    requires { place < 32 }
-    ensures { result ≡ 2 ^ place }
-{
-    1 << place
-}
-
-/// A row whose one value is at a place.
-fn row_with(place: u32, value: i32) -> [i32; 32]
-    ensures { parts.IsRowOf result place value }
-{
-    let mut row = [0; 32];
-    for at in 0..32 {
-        row[at] = value_if(at == place as usize, value);
-    }
-    row
-}
-
-/// A value, or 0.
-fn value_if(here: bool, value: i32) -> i32
-    ensures { result ≡ (if here then value else pos 0) }
-{
-    if here { value } else { 0 }
 }

@@ -6,6 +6,7 @@ mod blocks;
 mod elements;
 mod faults;
 mod months;
+mod orders;
 mod pieces;
 
 use crate::lines::line_of;
