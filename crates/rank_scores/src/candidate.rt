@@ -4,7 +4,8 @@ ghost use Rattle.std.specs.Prelude.{◌≡◌};
 ghost use Rattle.std.proofs.Common.{rules};
 ghost use Rattle.std.specs.Cmp.{partial_order_from_own_ties, partial_order_from_total};
 ghost use Rattle.std.specs.Cmp.Rules.{comparing};
-ghost use Rattle.std.specs.Ordering.{as_partial_cmp};
+ghost use Rattle.std.specs.Cmp.Lexicographic.{slice_cmp};
+ghost use Rattle.std.specs.Ordering.{as_partial_cmp, nat_cmp, int_cmp, on, then_cmp};
 ghost use Rattle.rank_scores.specs.Order as order;
 
 use ghcn_fields::Day;
@@ -33,8 +34,13 @@ impl Ord for Candidate {
 
     ghost matches_eq = { Prim.search (comparing, rules) };
 
+    #[inline]
     fn cmp(&self, other: &Candidate) -> Ordering {
-        rank_cmp(self, other).then(self.last.cmp(&other.last))
+        // Most pairs differ in score, and then nothing else is read.
+        if self.score != other.score {
+            return other.score.cmp(&self.score);
+        }
+        tie_cmp(self, other).then(self.last.cmp(&other.last))
     }
 }
 
@@ -45,12 +51,14 @@ impl PartialOrd for Candidate {
         (partial_order_from_total {R = order.full_cmp} (Prim.search (comparing, rules)))
         (Prim.search (comparing, rules)) };
 
+    #[inline]
     fn partial_cmp(&self, other: &Candidate) -> Option<Ordering> {
         Some(self.cmp(other))
     }
 }
 
 /// Whether `a` stands before `b`: by greater score, then smaller ID, then earlier first day.
+#[inline]
 pub fn precedes(a: &Candidate, b: &Candidate) -> bool
     ensures { result ≡ order.precedes a.now b.now }
 {
@@ -58,6 +66,7 @@ pub fn precedes(a: &Candidate, b: &Candidate) -> bool
 }
 
 /// Whether there is a score, and the bound is strictly below it.
+#[inline]
 pub fn is_below(score: Option<i64>, bound: i64) -> bool
     ensures { result ≡ order.is_below score bound }
 {
@@ -68,12 +77,26 @@ pub fn is_below(score: Option<i64>, bound: i64) -> bool
 }
 
 /// The order by score, ID and first day, which is what ranks candidates of one query.
+#[inline]
 fn rank_cmp(a: &Candidate, b: &Candidate) -> Ordering
     ensures { result ≡ order.rank_cmp a.now b.now }
 {
     // Most pairs differ in score, and then no byte of an ID is read.
     if a.score != b.score {
         return b.score.cmp(&a.score);
+    }
+    tie_cmp(a, b)
+}
+
+/// The order of candidates with one score, by ID and first day.
+// It has no place in the loops that compare scores.
+#[inline(never)]
+fn tie_cmp(a: &Candidate, b: &Candidate) -> Ordering
+    ensures { result ≡ then_cmp (on (λ c. c.id.0) (slice_cmp nat_cmp)) (on (λ c. c.first) int_cmp) a.now b.now }
+{
+    // Days of one station come one after another, and then no byte is compared alone.
+    if a.id.is_same(&b.id) {
+        return a.first.cmp(&b.first);
     }
     a.id.cmp(&b.id).then(a.first.cmp(&b.first))
 }
