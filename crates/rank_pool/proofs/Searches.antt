@@ -1,14 +1,15 @@
 -- Where a candidate stands among others that are in order.
-use Rattle.std.proofs.Common.{◌≡◌, ℕ, zero, suc, ◌-◌, ◌<◌, ◌≤◌, true, false, not, List, [], ◌∷◌, length, get_or, refl}
-use Rattle.std.proofs.Common.{ap, ◌∙◌, subst, arith}
+use Rattle.std.proofs.Common.{◌≡◌, ℕ, zero, suc, ◌+◌, ◌-◌, ◌<◌, ◌≤◌, true, false, not, List, [], ◌∷◌, length, get_or}
+use Rattle.std.proofs.Common.{refl, ap, ◌∙◌, subst, arith}
 use Rattle.std.specs.Prelude.{insert}
 use Rattle.std.specs.List.Sorted.{IsPartitionedBy}
 use Rattle.std.specs.Ordering.{is_lt}
+use Rattle.std.proofs.lemmas.Bool.{false_from_ne_true}
 use Rattle.ghcn_fields.specs.Sorting.{placed}
 use Rattle.rank_scores.specs.declared.candidate.Candidate.{Candidate}
 use Rattle.rank_scores.specs.Order.{full_cmp}
 use Rattle.rank_pool.specs.First.{comes_first, in_order}
-use Rattle.rank_pool.proofs.Orders.{InTurn, in_order-turn, not_first}
+use Rattle.rank_pool.proofs.Orders.{InTurn, in_order-turn, not_first, first_itself}
 use Rattle.rank_pool.proofs.Ranked.{listed_before, in_turn-far}
 
 -- it stands at the front of those that it isn't listed behind, where it is listed behind all before them
@@ -46,3 +47,57 @@ placed-last x ys n order end e =
     placed_at x ys n (omega arith)
     (λ k h. listed (get_or ys k x) x (before-parts x ys order k (length ys - 1) x (omega arith) (omega arith) e))
     (λ h. absurd (omega arith))
+
+-- ---- a search by halves
+
+-- what stands before the low place is listed before x, and what stands from the high one on isn't
+pub record IsBetween (x : Candidate) (ys : List Candidate) (low high : ℕ) : Type 0 where
+  pub order : low ≤ high
+  pub within : high ≤ length ys
+  pub before : (k : ℕ) → k < low → is_lt (full_cmp (get_or ys k x) x) ≡ true
+  pub behind : (k : ℕ) → high ≤ k → k < length ys → is_lt (full_cmp (get_or ys k x) x) ≡ false
+
+-- what is listed behind the first one stands behind it
+pub between_first : (x : Candidate) (ys : List Candidate) → comes_first x (get_or ys 0 x) ≡ false
+    → IsBetween x ys 1 (length ys)
+between_first x [] e = absurd (let own = first_itself x in cc)
+between_first x (y ∷ ys) e = record {
+  order = omega arith;
+  within = omega arith;
+  before = first;
+  behind = λ k low lt. absurd (omega arith);
+}
+  where
+    first : (k : ℕ) → k < 1 → is_lt (full_cmp (get_or (y ∷ ys) k x) x) ≡ true
+    first zero lt = listed_before y x ∙ ap not e
+    first (suc k) lt = absurd (omega arith)
+
+module _ (x : Candidate) (ys : List Candidate) (order : in_order ys ≡ ys) (low middle high : ℕ)
+    (between : IsBetween x ys low high) (above : low ≤ middle) (below : middle < high) where
+  -- where the one in the middle is listed before x, so are all before it
+  pub between_high : is_lt (full_cmp (get_or ys middle x) x) ≡ true → IsBetween x ys (middle + 1) high
+  between_high e = record {
+    order = omega arith;
+    within = between.within;
+    before = λ k lt.
+        before-parts x ys order k middle x (omega arith) (omega (arith, between.within)) e;
+    behind = between.behind;
+  }
+
+  -- where it isn't, none behind it is
+  pub between_low : is_lt (full_cmp (get_or ys middle x) x) ≡ false → IsBetween x ys low middle
+  between_low e = record {
+    order = above;
+    within = omega (arith, between.within);
+    before = between.before;
+    behind = λ k le lt. false_from_ne_true _
+        (λ h. let front = before-parts x ys order middle k x le lt h in cc);
+  }
+
+-- where both places are one, it is that of x
+pub between_placed : (x : Candidate) (ys : List Candidate) (n high : ℕ) → IsBetween x ys n high → high ≤ n
+    → insert ys n x ≡ placed comes_first x ys
+between_placed x ys n high between end =
+    placed_at x ys n (omega (arith, between.order, between.within))
+    (λ k h. listed (get_or ys k x) x (between.before k h))
+    (λ h. not_listed (get_or ys n x) x (between.behind n end h))

@@ -1,9 +1,9 @@
 //! A pool of the best candidates.
 
 ghost use Rattle.std.specs.Prelude.{◌≡◌, ◌↔◌, ◌<◌, ◌≤◌, ◌++◌, List, [], ◌∷◌, length, insert, fold, IfOk, IsSome, IsTrue};
-ghost use Rattle.std.specs.Prelude.{slice_get};
+ghost use Rattle.std.specs.Prelude.{◌+◌, false, slice_get, slice_index_or, take};
 ghost use Rattle.std.specs.Option.{option_map};
-ghost use Rattle.std.specs.VecDeque.{deque_len};
+ghost use Rattle.std.specs.VecDeque.{deque_len, deque_capacity};
 ghost use Rattle.ghcn_fields.specs.Sorting.{placed};
 ghost use Rattle.rank_scores.specs.declared.candidate.Candidate as made;
 ghost use Rattle.rank_scores.specs.Order.{AreApart, kth_score};
@@ -123,7 +123,7 @@ impl Pool {
         let place = place_of(&self.held, &candidate);
         // A place was reserved, so this isn't refused.
         let _ = self.held.insert(place, candidate);
-        self.held.truncate(self.size);
+        cut(&mut self.held, self.size);
         self.last = score_at(&self.held, self.size - 1);
     }
 }
@@ -150,9 +150,9 @@ impl Sink for Pool {
 
 /// Where a candidate stands in its order: before the first that it isn't listed behind.
 fn place_of(held: &VecDeque<Candidate>, candidate: &Candidate) -> usize
+    requires { in_order held.now.items ≡ held.now.items }
     ensures within { result ≤ deque_len held.now }
-    ensures placed { in_order held.now.items ≡ held.now.items →
-        insert held.now.items result candidate.now ≡ placed comes_first candidate.now held.now.items }
+    ensures placed { insert held.now.items result candidate.now ≡ placed comes_first candidate.now held.now.items }
 {
     let (Some(best), Some(last)) = (held.front(), held.back()) else {
         return 0;
@@ -162,8 +162,44 @@ fn place_of(held: &VecDeque<Candidate>, candidate: &Candidate) -> usize
         0
     } else if last < candidate {
         held.len()
+    } else if candidate.score == best.score {
+        place_near_front(held, candidate)
     } else {
         held.partition_point(|it| it < candidate)
+    }
+}
+
+/// Where a candidate stands that is listed behind the first one, and likely not far behind.
+///
+/// Where scores rise, few of those held tie with the one that comes. Steps are as wide as the way behind them, and
+/// never more than half of the way ahead.
+fn place_near_front(held: &VecDeque<Candidate>, candidate: &Candidate) -> usize
+    requires order { in_order held.now.items ≡ held.now.items }
+    requires behind { comes_first candidate.now (slice_index_or held.now.items 0 candidate.now) ≡ false }
+    ensures within { result ≤ deque_len held.now }
+    ensures placed { insert held.now.items result candidate.now ≡ placed comes_first candidate.now held.now.items }
+{
+    let mut low = 1;
+    let mut high = held.len();
+    while low < high {
+        let middle = low + (low - 1).min((high - low) / 2);
+        if held[middle] < *candidate {
+            low = middle + 1;
+        } else {
+            high = middle;
+        }
+    }
+    low
+}
+
+/// Lets go of the last of some candidates, where there is one more than there are places.
+fn cut(held: &mut VecDeque<Candidate>, size: usize)
+    requires { deque_len held.old ≤ size + 1 }
+    ensures items { held.new.items ≡ take size held.old.items }
+    ensures capacity { deque_capacity held.new ≡ deque_capacity held.old }
+{
+    if held.len() > size {
+        let _ = held.pop_back();
     }
 }
 

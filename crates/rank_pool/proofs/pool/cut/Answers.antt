@@ -1,0 +1,17 @@
+use Rattle.std.proofs.Common.{◌≡◌, ◌-◌, ℕ, ap, sym, ◌∙◌, arith, take}
+use Rattle.std.specs.VecDeque.{deque_len}
+use Rattle.rank_pool.proofs.Offers.{take_itself}
+use Rattle.rank_pool.proofs.pool.cut.Goals as goal
+
+-- one fewer are as many as there are places
+pub returns-then-len-size-clause-items : goal.returns-then-len-size-clause-items
+returns-then-len-size-clause-items c =
+    let one : deque_len c.args.held.now - 1 ≡ c.args.size =
+    omega (arith, c.requires, c.len.ensures, c.if-len-size.true) in
+    c.pop_back.ensures.rest ∙ ap (λ (n : ℕ). take n c.args.held.now.items) one
+
+-- where there are no more none is let go
+pub returns-else-len-size-clause-items : goal.returns-else-len-size-clause-items
+returns-else-len-size-clause-items c =
+    sym (take_itself c.args.size c.args.held.now.items
+    (omega (arith, c.len.ensures, c.if-len-size.false, c.args.held.now.ok.0)))
