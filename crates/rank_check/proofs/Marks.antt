@@ -1,7 +1,7 @@
 -- What marks in the order of candidates know of the rows, and how one more candidate changes it.
 use Rattle.std.proofs.Common.{◌≡◌, ℕ, zero, suc, ◌+◌, ◌<◌, ◌≤◌, Bool, true, false, cond, List, [], ◌∷◌, length}
 use Rattle.std.proofs.Common.{map, Some, None, refl, sym, ap, ◌∙◌, subst, arith, get_or, set, not, ◌||◌, ◌&&◌}
-use Rattle.std.proofs.Common.{ltb, ltb-true, ltb-false}
+use Rattle.std.proofs.Common.{ltb, ltb-true, ltb-false, take}
 use Rattle.std.specs.Prelude.{slice_get, Option}
 use Rattle.std.specs.Option.{option_map_or}
 use Rattle.std.specs.List.{AllByRecursion, Contains, sum_by}
@@ -19,12 +19,12 @@ use Rattle.rank_scores.specs.declared.candidate.Candidate.{Candidate}
 use Rattle.rank_scores.specs.Order.{full_cmp, precedes}
 use Rattle.rank_check.specs.declared.tally.Mark.{Mark}
 use Rattle.rank_check.specs.declared.tally.Met.{Met}
-use Rattle.rank_check.specs.Survey.{met, met_by}
+use Rattle.rank_check.specs.Survey.{met, met_by, reaches, IsLast}
 use Rattle.rank_check.specs.Marks.{candidates_at, unmet, is_met_at, is_met, passed_at, passed, known, shown_by}
 use Rattle.rank_check.specs.Marks.{counted_mark, counted_at, IsPlace, ties_before, AreInOrder, Meets}
-use Rattle.rank_check.specs.Marks.{AreUnmet}
+use Rattle.rank_check.specs.Marks.{AreUnmet, is_met_before, counted}
 use Rattle.rank_check.proofs.SortedCandidates.{same_from_tie, own_tie}
-use Rattle.rank_check.proofs.Surveying.{or_false}
+use Rattle.rank_check.proofs.Surveying.{or_false, rows-behind}
 use Rattle.rank_check.proofs.Places.{not_itself, in_turn, precedes-at, precedes-none, at-mark}
 
 -- or something true
@@ -291,6 +291,71 @@ rows-met d old new m [] h = refl
 rows-met d old new m (c ∷ rows) h =
     ap (λ (x : Met). x ∷ map (known new) rows) (m.met c h.0)
     ∙ ap (λ (l : List Met). met_by d (known old c) ∷ l) (rows-met d old new m rows h.1)
+
+-- and so it is with a candidate that changes no mark where it stands behind the last row
+pub rows-offered : (last : Option Candidate) (d : Candidate) (old new : List Mark) (rows : List Candidate)
+    → IsLast last rows → AllByRecursion (Contains (candidates_at old)) rows
+    → (reaches last d ≡ true → Meets d old new) → (reaches last d ≡ false → new ≡ old)
+    → map (known new) rows ≡ map (met_by d) (map (known old) rows)
+rows-offered last d old new rows behind marked reached out =
+    elim (reaches last d) as (λ b. reaches last d ≡ b
+    → map (known new) rows ≡ map (met_by d) (map (known old) rows)) [
+      | true ↦ λ e. rows-met d old new (reached e) rows marked
+      | false ↦ λ e. ap (λ (l : List Mark). map (known l) rows) (out e) ∙ sym (rows-behind last d old rows behind e)
+    ] refl
+
+-- ---- what is known of one candidate
+
+-- those at the marks that a candidate doesn't precede are all at the marks before its place
+pub passed-before : (marks : List Mark) (c : Candidate) (p : ℕ) → p ≤ length marks
+    → ((k : ℕ) → k < p → precedes c (get_or marks k (unmet c)).candidate ≡ false)
+    → ((k : ℕ) → p ≤ k → k < length marks → precedes c (get_or marks k (unmet c)).candidate ≡ true)
+    → passed marks c ≡ counted (take p marks)
+passed-before [] c zero bound before behind = refl
+passed-before [] c (suc p) bound before behind = absurd (omega arith)
+passed-before (m ∷ marks) c zero bound before behind =
+    let none : passed_at c m ≡ 0 = ap (λ (b : Bool). cond b 0 m.fresh) (behind 0 (omega arith) (omega arith)) in
+    let rest : passed marks c ≡ 0 =
+    passed-before marks c zero (omega arith) (λ k lt. absurd (omega arith))
+    (λ k le lt. behind (suc k) (omega arith) (omega arith)) in
+    omega (arith, sum_by-cons (passed_at c) m marks, none, rest)
+passed-before (m ∷ marks) c (suc p) bound before behind =
+    let own : passed_at c m ≡ m.fresh = ap (λ (b : Bool). cond b 0 m.fresh) (before 0 (omega arith)) in
+    let rest = passed-before marks c p (omega arith) (λ k lt. before (suc k) (omega arith))
+    (λ k le lt. behind (suc k) (omega arith) (omega arith)) in
+    omega (arith, sum_by-cons (passed_at c) m marks, sum_by-cons (λ (x : Mark). x.fresh) m (take p marks), own, rest)
+
+-- so it is at the place among the marks
+pub passed-place : (marks : List Mark) (c : Candidate) (p : ℕ) → p ≤ length marks
+    → IsPlace (candidates_at marks) c p → passed marks c ≡ counted (take p marks)
+passed-place marks c p bound here =
+    let many : length (candidates_at marks) ≡ length marks = length-map marks (λ m. m.candidate) in
+    passed-before marks c p bound
+    (λ k lt. sym (ap (precedes c) (at-mark marks k c)) ∙ here.0 k c (omega arith) lt)
+    (λ k le lt. sym (ap (precedes c) (at-mark marks k c)) ∙ here.1 k c le (omega (arith, many)))
+
+-- a candidate whose mark was offered is met
+pub met-before : (p : ℕ) (marks : List Mark) (c : Candidate) → (is_met_before p marks c || is_met marks c)
+    ≡ is_met marks c
+met-before zero marks c = refl
+met-before (suc p) marks c = elim (ltb p (length marks)) as (λ t. ltb p (length marks) ≡ t
+    → (is_met_before (suc p) marks c || is_met marks c) ≡ is_met marks c) [
+      | true ↦ λ b.
+          let within : p < length marks = ltb-true p (length marks) b in
+          let m : Mark = get_or marks p (unmet c) in
+          let got : slice_get marks p ≡ Some m = slice_get-get_or marks p (unmet c) within in
+          let its : is_met_before (suc p) marks c ≡ is_met_at c m =
+          ap (λ (o : Option Mark). option_map_or (is_met_at c) o false) got in
+          ap (λ (t : Bool). t || is_met marks c) its ∙ either (is_met_at c m) (is_met marks c)
+          (λ e. list_any_at (is_met_at c) marks p (unmet c) within e)
+      | false ↦ λ b.
+          ap (λ (o : Option Mark). option_map_or (is_met_at c) o false || is_met marks c)
+          (slice_get_past marks p (ltb-false p (length marks) b))
+    ] refl
+  where
+    either : (a b : Bool) → (a ≡ true → b ≡ true) → (a || b) ≡ b
+    either true b e = sym (e refl)
+    either false b e = refl
 
 -- ---- nothing was offered yet
 

@@ -13,6 +13,7 @@ use Rattle.std.proofs.lemmas.List.{length-append, map-append}
 use Rattle.std.proofs.lemmas.List.Folds.{list_any-append}
 use Rattle.std.proofs.lemmas.List.Sums.{sum_by-append, sum_by-cons}
 use Rattle.std.proofs.lemmas.Grind.{flat_map-append}
+use Rattle.std.proofs.lemmas.Int.{ints}
 use Rattle.ghcn_series.specs.Series.{Usable}
 use Rattle.ghcn_series.specs.Says.{in_64_bits}
 use Rattle.rank_query.specs.Asked.{Asked}
@@ -23,7 +24,7 @@ use Rattle.rank_scores.proofs.Listing.{full_cmp_total}
 use Rattle.rank_check.specs.declared.tally.Met.{Met}
 use Rattle.rank_check.specs.Tests.{is_one_of}
 use Rattle.ghcn_files.proofs.Ordered.{each-weaker, first_trans, first_either}
-use Rattle.rank_check.specs.Marks.{known}
+use Rattle.rank_check.specs.Marks.{known, may_reach}
 use Rattle.rank_check.proofs.Each.{each-more}
 use Rattle.rank_check.specs.Survey.{IsLast, reaches, later, top, met, met_by, raised, top_score, Tallied}
 use Rattle.rank_check.specs.declared.tally.Mark.{Mark}
@@ -225,3 +226,14 @@ rows-behind last d marks (c ∷ rows) h e =
     ap (λ (x : Met). x ∷ map (met_by d) (map (known marks) rows))
     (row-behind d (known marks c) (behind last d c h.0 e))
     ∙ ap (λ (l : List Met). known marks c ∷ l) (rows-behind last d marks rows h.1 e)
+
+-- what is greater by the first of three comparisons stands behind
+greater_first : (s o l : Ordering) → s ≡ Greater → is_le (ordering_then (ordering_then s o) l) ≡ false
+greater_first s o l e = grind arith
+
+-- a candidate that scores less than the last row stands behind it
+pub low-behind : (last : Option Candidate) (d : Candidate) → may_reach last d.score ≡ false → reaches last d ≡ false
+low-behind None d e = refl
+low-behind (Some l) d e =
+    let less : int_cmp l.score d.score ≡ Greater = grind (arith, ints) in
+    greater_first (int_cmp l.score d.score) _ _ less

@@ -1,6 +1,6 @@
 -- A report's rows as marks in the order of candidates, and what they know of the candidates that were offered.
 use Rattle.std.specs.Prelude.{◌≡◌, ℕ, zero, suc, ◌+◌, Bool, true, false, ◌||◌, ◌&&◌, not, if◌then◌else◌, List, []}
-use Rattle.std.specs.Prelude.{◌∷◌, map, Option, slice_get, slice_set}
+use Rattle.std.specs.Prelude.{◌∷◌, map, Option, None, Some, ℤ, int_le, slice_get, slice_set}
 use Rattle.std.specs.List.{AllByRecursion, Contains, list_any, sum_by}
 use Rattle.std.specs.List.Sorted.{IsPartitionPoint, IsSorted}
 use Rattle.std.specs.Option.{option_map_or}
@@ -85,6 +85,20 @@ precedes_first c (m ∷ marks) = precedes c m.candidate
 abbrev pub ties_before : ℕ → List Mark → Candidate → Bool
 ties_before zero marks c = false
 ties_before (suc before) marks c = option_map_or (λ m. not (precedes m.candidate c)) (slice_get marks before) false
+
+-- there is a mark before the place, it is the candidate's, and was offered
+abbrev pub is_met_before : ℕ → List Mark → Candidate → Bool
+is_met_before zero marks c = false
+is_met_before (suc before) marks c = option_map_or (is_met_at c) (slice_get marks before) false
+
+-- how many were counted at marks
+abbrev pub counted : List Mark → ℕ
+counted marks = sum_by (λ m. m.fresh) marks
+
+-- there is a last row, and the score is no lower than its own
+abbrev pub may_reach : Option Candidate → ℤ → Bool
+may_reach None score = false
+may_reach (Some last) score = int_le last.score score
 
 -- marks of the same candidates, of each of which is known what one more candidate makes of what was known
 pub record Meets (c : Candidate) (old new : List Mark) : Type 0 where

@@ -3,7 +3,7 @@
 //! The rows' candidates are marks in the order of all candidates. What is offered is counted at the first mark that
 //! it precedes, so that what precedes a row was counted at the marks that the row doesn't precede.
 
-ghost use Rattle.std.specs.Prelude.{◌≡◌, ◌≤◌, [], map, fold, length, IfOk};
+ghost use Rattle.std.specs.Prelude.{◌≡◌, ◌≤◌, true, false, [], map, fold, length, IfOk};
 ghost use Rattle.ghcn_series.specs.Says.{in_64_bits};
 ghost use Rattle.rank_scores.specs.Candidates.{candidates};
 ghost use Rattle.rank_check.specs.Survey as survey;
@@ -128,21 +128,30 @@ impl Sink for Tally {
 
     ghost taken = { tally_with };
 
+    #[inline(always)]
     fn offer(&mut self, candidate: Candidate) {
         self.count = self.count.saturating_add(1);
         self.highest = Some(raised(self.highest, candidate.score));
-        if reaches(self.last, &candidate) {
-            meet(&mut self.marks, &candidate);
+        // Of a long series most candidates end here.
+        if may_reach(&self.last, candidate.score) {
+            meet(&self.last, &mut self.marks, candidate);
         }
     }
 }
 
-/// Takes one more candidate into account.
-fn meet(marks: &mut Vec<Mark>, candidate: &Candidate)
+/// Takes one more candidate into account, unless it stands behind the last row.
+// Few candidates score as much as the last row, so it has no place in the loops over days.
+#[inline(never)]
+fn meet(last: &Option<Candidate>, marks: &mut Vec<Mark>, candidate: Candidate)
     requires { order.AreInOrder marks.old.items }
-    ensures { order.Meets candidate.now marks.old.items marks.new.items }
+    ensures same { order.candidates_at marks.new.items ≡ order.candidates_at marks.old.items }
+    ensures reached { survey.reaches last.now candidate ≡ true →
+        order.Meets candidate marks.old.items marks.new.items }
+    ensures behind { survey.reaches last.now candidate ≡ false → marks.new.items ≡ marks.old.items }
 {
-    meet_marks(marks.as_mut_slice(), candidate);
+    if reaches(last, &candidate) {
+        meet_marks(marks.as_mut_slice(), &candidate);
+    }
 }
 
 /// Takes one more candidate into account at the marks of some.
@@ -213,6 +222,7 @@ fn count_at(marks: &mut [Mark], place: usize)
 }
 
 /// The greater of a score and those before it.
+#[inline(always)]
 pub(crate) fn raised(highest: Option<i64>, score: i64) -> i64
     ensures { result ≡ survey.raised highest score }
 {
@@ -260,21 +270,51 @@ fn unmet(alloc: Global, ordered: &[Candidate]) -> Result<Vec<Mark>, Memory>
 
 /// What marks know of each of some candidates.
 fn known_rows(alloc: Global, rows: &[Candidate], marks: &[Mark]) -> Result<Vec<Met>, Memory>
+    requires { order.AreInOrder marks.now }
     ensures { IfOk result (λ found. found.items ≡ map (order.known marks.now) rows.now) }
 {
     let mut found = Vec::new(alloc);
     for row in rows {
-        found.push(Met {
-            candidate: *row,
-            present: is_met(marks, row),
-            ahead: passed(marks, row),
-        })?;
+        found.push(known(marks, row))?;
     }
     Ok(found)
 }
 
+/// What marks know of a candidate.
+fn known(marks: &[Mark], candidate: &Candidate) -> Met
+    requires { order.AreInOrder marks.now }
+    ensures { result ≡ order.known marks.now candidate.now }
+{
+    let place = place_of(marks, candidate);
+    Met {
+        candidate: *candidate,
+        present: is_met(marks, place, candidate),
+        ahead: counted(&marks[..place]),
+    }
+}
+
+/// Whether the mark before a place is the candidate's, and was offered.
+fn is_met_before(marks: &[Mark], place: usize, candidate: &Candidate) -> bool
+    requires { place ≤ length marks.now }
+    ensures { result ≡ order.is_met_before place marks.now candidate.now }
+{
+    match place.checked_sub(1) {
+        Some(before) => is_met_at(&marks[before], candidate),
+        None => false,
+    }
+}
+
+/// Whether a candidate with this place has a mark that was offered.
+fn is_met(marks: &[Mark], place: usize, candidate: &Candidate) -> bool
+    requires { place ≤ length marks.now }
+    ensures { result ≡ order.is_met marks.now candidate.now }
+{
+    // Nearly each row's own mark stands right before its place.
+    is_met_before(marks, place, candidate) || is_met_anywhere(marks, candidate)
+}
+
 /// Whether a candidate has a mark that was offered.
-fn is_met(marks: &[Mark], candidate: &Candidate) -> bool
+fn is_met_anywhere(marks: &[Mark], candidate: &Candidate) -> bool
     ensures { result ≡ order.is_met marks.now candidate.now }
 {
     for mark in marks {
@@ -292,26 +332,15 @@ fn is_met_at(mark: &Mark, candidate: &Candidate) -> bool
     mark.present && mark.candidate.cmp(candidate).is_eq()
 }
 
-/// How many were counted at the marks that a candidate doesn't precede.
-fn passed(marks: &[Mark], candidate: &Candidate) -> u64
-    ensures { result ≡ in_64_bits (order.passed marks.now candidate.now) }
+/// How many were counted at some marks.
+fn counted(marks: &[Mark]) -> u64
+    ensures { result ≡ in_64_bits (order.counted marks.now) }
 {
     let mut ahead = 0u64;
     for mark in marks {
-        ahead = ahead.saturating_add(passed_at(mark, candidate));
+        ahead = ahead.saturating_add(mark.fresh);
     }
     ahead
-}
-
-/// What was counted at a mark, where the candidate doesn't precede it.
-fn passed_at(mark: &Mark, candidate: &Candidate) -> u64
-    ensures { result ≡ order.passed_at candidate.now mark.now }
-{
-    if precedes(candidate, &mark.candidate) {
-        0
-    } else {
-        mark.fresh
-    }
 }
 
 /// A row that no other stands behind, if there are rows.
@@ -339,12 +368,23 @@ fn later(last: Option<Candidate>, candidate: &Candidate) -> Candidate
     }
 }
 
-/// Whether there is a last row, and the candidate doesn't stand behind it.
-fn reaches(last: Option<Candidate>, candidate: &Candidate) -> bool
-    ensures { result ≡ survey.reaches last candidate.now }
+/// Whether there is a last row, and this is no lower score than its own.
+#[inline(always)]
+fn may_reach(last: &Option<Candidate>, score: i64) -> bool
+    ensures { result ≡ order.may_reach last.now score }
 {
     match last {
-        Some(last) => candidate.cmp(&last).is_le(),
+        Some(last) => last.score <= score,
+        None => false,
+    }
+}
+
+/// Whether there is a last row, and the candidate doesn't stand behind it.
+fn reaches(last: &Option<Candidate>, candidate: &Candidate) -> bool
+    ensures { result ≡ survey.reaches last.now candidate.now }
+{
+    match last {
+        Some(last) => candidate.cmp(last).is_le(),
         None => false,
     }
 }
