@@ -1,6 +1,6 @@
 -- The fields of a row: where a word ends, and what the columns hold.
 use Rattle.std.proofs.Common.{◌≡◌, ℕ, suc, ◌+◌, ◌-◌, ◌<◌, Bool, true, false, cond, List, [], ◌++◌, length, take, Option, Some, None, refl, sym, ap, ◌∙◌, decimal, arith, FitsSigned, w64}
-use Rattle.std.specs.Prelude.{◌==◌, not, nat_lt, ℤ, slice_range, filter}
+use Rattle.std.specs.Prelude.{◌==◌, ◌&&◌, not, nat_lt, ℤ, slice_range, filter}
 use Rattle.std.specs.Option.{option_map}
 use Rattle.std.proofs.lemmas.Bool.{false_from_ne_true}
 use Rattle.std.proofs.lemmas.Bool.Decides.{nat_tests}
@@ -8,13 +8,16 @@ use Rattle.std.proofs.lemmas.List.{take_all}
 use Rattle.std.proofs.lemmas.List.Sums.{prefix_len_is}
 use Rattle.memchr.specs.Find.{IsFirstByte, is_byte}
 use Rattle.ghcn_fields.specs.Bytes.{same_bytes}
-use Rattle.ghcn_fields.specs.Dates.{read_date}
+use Rattle.ghcn_fields.specs.Dates.{read_date, date_text}
+use Rattle.ghcn_fields.proofs.DateTexts.{read_date-law}
+use Rattle.ghcn_files.specs.Ids.{is_id}
 use Rattle.ghcn_fields.specs.Numbers.{natural, signed_by}
 use Rattle.rank_query.specs.Asked.{Asked}
 use Rattle.rank_papers.specs.Values.{measure_of_score, unit_text, value_of}
 use Rattle.rank_papers.specs.Report.{Named}
 use Rattle.rank_papers.specs.Lines.{exactly}
-use Rattle.rank_papers.specs.ReportLines.{row_line, score_in, row_with, first_word, row_in_columns, row_in, row_behind}
+use Rattle.rank_papers.specs.ReportLines.{row_line, score_in, row_with, is_name, first_word, row_in_columns, row_in}
+use Rattle.rank_papers.specs.ReportLines.{row_behind}
 use Rattle.rank_papers.proofs.LineValues.{in_i64-some}
 
 -- ---- words
@@ -94,6 +97,38 @@ row_at-none q digits line value =
     (slice_range line (digits + length value + length (unit_text (measure_of_score q.score)) + 37) (length line - 1))
     (read_date (slice_range line (digits + 13) (digits + 23)))
     (read_date (slice_range line (digits + 24) (digits + 34)))
+
+-- a row that is made of days has them
+days_of_row : (id name : List ℕ) (first last score : Option ℤ) (row : Named)
+    → Some row ≡ row_with id name first last score → (first ≡ Some row.0.first) × (last ≡ Some row.0.last)
+days_of_row id name None last score row e = absurd cc
+days_of_row id name (Some first) None score row e = absurd cc
+days_of_row id name (Some first) (Some last) None row e = absurd cc
+days_of_row id name (Some first) (Some last) (Some score) row e =
+    let made : Named = (record { id = record { 0 = id }; first = first; last = last; score = score }, name) in
+    elim (is_id id && is_name name) as (λ b. Some row ≡ cond b (Some made) None
+    → (Some first ≡ Some row.0.first) × (Some last ≡ Some row.0.last)) [
+      | true ↦ λ f. let same : made ≡ row = cc in (
+        ap (λ (r : Named). Some r.0.first) same,
+        ap (λ (r : Named). Some r.0.last) same,
+      )
+      | false ↦ λ f. absurd cc
+    ] e
+
+-- the columns of the days of a row that was read have their texts
+pub days_in_columns : (q : Asked) (digits : ℕ) (line first last : List ℕ) (row : Named)
+    → Some row ≡ row_in_columns q digits line → first ≡ slice_range line (digits + 13) (digits + 23)
+    → last ≡ slice_range line (digits + 24) (digits + 34)
+    → (first ≡ date_text row.0.first) × (last ≡ date_text row.0.last)
+days_in_columns q digits line first last row e f l =
+    let value : List ℕ = value_at digits line in
+    let days = days_of_row (slice_range line (digits + 1) (digits + 12))
+    (slice_range line (digits + length value + length (unit_text (measure_of_score q.score)) + 37) (length line - 1))
+    (read_date (slice_range line (digits + 13) (digits + 23)))
+    (read_date (slice_range line (digits + 24) (digits + 34))) (score_in q value) row e in (
+      ((read_date-law first row.0.first).0 (ap read_date f ∙ days.0)).1,
+      ((read_date-law last row.0.last).0 (ap read_date l ∙ days.1)).1,
+    )
 
 -- ---- the row whose line it is
 

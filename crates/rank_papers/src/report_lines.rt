@@ -20,7 +20,7 @@ use crate::lines::{are_printable, columns, field_from, first_line, magnitude, si
 use crate::measure::measure_of;
 use crate::query_line::query_of;
 use crate::report_text::push_end;
-use crate::row::push_named;
+use crate::row::push_dated;
 use crate::{PaperFault, Report, Row};
 use ghcn_fields::{Day, Memory, read_date};
 use ghcn_files::{StationId, are_visible};
@@ -156,11 +156,15 @@ fn row_of(
 ) -> Result<Option<Row>, Memory>
     ensures { IfOk result (λ row. option_map report.named_in row ≡ report.row_in query.now rank line.now) }
 {
-    let Some(row) = row_in_columns(alloc, paper, query, digits_of(rank), line)? else {
+    let digits = digits_of(rank);
+    let Some(row) = row_in_columns(alloc, paper, query, digits, line)? else {
         return Ok(None);
     };
+    // A day is read of its text alone, so the columns are what it would be printed as.
+    let first = columns(line, digits + 13, digits + 23);
+    let last = columns(line, digits + 24, digits + 34);
     paper.clear();
-    push_named(paper, query, rank, &row.candidate, &row.name)?;
+    push_dated(paper, query, rank, &row.candidate, first, last, &row.name)?;
     if paper.as_slice() != line {
         return Ok(None);
     }

@@ -8,7 +8,7 @@ ghost use Rattle.rank_papers.specs.Report as report;
 
 use crate::measure::measure_of;
 use crate::number::{push_number, push_value};
-use ghcn_fields::{Day, Memory, write_date};
+use ghcn_fields::{Memory, write_date};
 use ghcn_files::Station;
 use rank_query::{Query, Score};
 use rank_scores::Candidate;
@@ -38,10 +38,30 @@ pub(crate) fn push_named(
     ensures { OnOk result (paper.new.items ≡ paper.old.items
         ++ report.text_line (report.row_fields query.now (rank, (candidate.now, name.now)))) }
 {
+    let (first, last) = (write_date(candidate.first), write_date(candidate.last));
+    push_dated(paper, query, rank, candidate, &first, &last, name)
+}
+
+/// Adds the line of a candidate whose days have these texts, with its rank and a name, which may be
+/// empty. Who read the days has their texts at hand.
+pub(crate) fn push_dated(
+    paper: &mut Vec<u8>,
+    query: &Query,
+    rank: u64,
+    candidate: &Candidate,
+    first: &[u8],
+    last: &[u8],
+    name: &[u8],
+) -> Result<(), Memory>
+    requires first { first.now ≡ date_text candidate.now.first }
+    requires last { last.now ≡ date_text candidate.now.last }
+    ensures { OnOk result (paper.new.items ≡ paper.old.items
+        ++ report.text_line (report.row_fields query.now (rank, (candidate.now, name.now)))) }
+{
     push_number(paper, rank)?;
     push_field(paper, &candidate.id.0)?;
-    push_day(paper, candidate.first)?;
-    push_day(paper, candidate.last)?;
+    push_field(paper, first)?;
+    push_field(paper, last)?;
     push_value_and_unit(paper, query.score(), candidate.score)?;
     push_name(paper, name)?;
     paper.push(b'\n')?;
@@ -55,13 +75,6 @@ pub(crate) fn push_field(paper: &mut Vec<u8>, field: &[u8]) -> Result<(), Memory
     paper.push(b' ')?;
     paper.extend_from_slice(field)?;
     Ok(())
-}
-
-/// Adds a blank and a day.
-fn push_day(paper: &mut Vec<u8>, day: Day) -> Result<(), Memory>
-    ensures { OnOk result (paper.new.items ≡ paper.old.items ++ report.after_blank (date_text day)) }
-{
-    push_field(paper, &write_date(day))
 }
 
 /// Adds a blank and the value behind a score, and a blank and its unit.

@@ -4,7 +4,7 @@ use Rattle.ghcn_fields.specs.Dates.{date_text}
 use Rattle.rank_query.specs.declared.score.Score.{Score}
 use Rattle.rank_papers.specs.Report.{field_unless_empty, after_blank}
 use Rattle.rank_papers.proofs.RowText.{value_fields, added, row-pieces}
-use Rattle.rank_papers.proofs.row.push_named.Goals as goal
+use Rattle.rank_papers.proofs.row.push_dated.Goals as goal
 
 -- the pieces were added in the order of the fields
 pub returns : goal.returns
@@ -12,12 +12,16 @@ returns c =
     let paper : List ℕ = c.args.paper.now.items in
     let number : ℤ = c.args.candidate.now.score in
     let fits : FitsSigned w64 number = search rules in
+    let first = c.in_ok-push_field-2.ensures
+    ∙ ap (λ (t : List ℕ). c.push_field.new.paper.items ++ after_blank t) c.requires.first in
+    let last = c.in_ok-push_field-3.ensures
+    ∙ ap (λ (t : List ℕ). c.push_field-2.new.paper.items ++ after_blank t) c.requires.last in
     let with_value : Score → ℤ → List ℕ = λ s z.
-    c.push_day-2.new.paper.items ++ flat_map after_blank (value_fields s z) in
+    c.push_field-3.new.paper.items ++ flat_map after_blank (value_fields s z) in
     let value = c.in_ok-push_value_and_unit.ensures
     ∙ ap (with_value c.score.result) (to_z-of_z fits) ∙ ap (λ (s : Score). with_value s number) c.score.ensures.score in
     let days = added paper _ _ _ _ (added paper _ _ _ _ (added paper _ _ _ _
-    c.in_ok-push_number.ensures c.in_ok-push_field.ensures) c.in_ok-push_day.ensures) c.in_ok-push_day-2.ensures in
+    c.in_ok-push_number.ensures c.in_ok-push_field.ensures) first) last in
     let to_name = added paper _ _ _ _ (added paper _ _ _ _ days value) c.in_ok-push_name.ensures in
     added paper _ _ _ _ to_name c.in_ok-push.ensures.items
     ∙ ap (λ (line : List ℕ). paper ++ line) (row-pieces (decimal c.args.rank) c.args.candidate.now.id.0
