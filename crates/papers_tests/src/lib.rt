@@ -9,6 +9,8 @@ mod checks;
 #[cfg(test)]
 mod data;
 #[cfg(test)]
+mod many_parts;
+#[cfg(test)]
 mod merges;
 #[cfg(test)]
 mod papers;

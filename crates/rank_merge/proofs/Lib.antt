@@ -6,4 +6,5 @@ pub mod MergedTexts
 pub mod MeasuredPapers
 pub mod StableSorts
 pub mod Orders
+pub mod FirstRows
 pub mod ReadParts

@@ -7,6 +7,7 @@ use Rattle.std.proofs.lemmas.Cmp.{nat_list_cmp_total, on_total}
 use Rattle.rank_scores.specs.Order.{full_cmp}
 use Rattle.rank_scores.proofs.Listing.{full_cmp_total}
 use Rattle.rank_papers.specs.declared.paper.Row.{Row}
+use Rattle.rank_papers.specs.Report.{Named}
 use Rattle.rank_papers.specs.Certificate.{Entry}
 use Rattle.std.proofs.Common.{◌≡◌, Bool, true, false, cond, List, [], ◌∷◌, Option, Some, refl, sym, ap, ◌∙◌, drop, ◌||◌}
 use Rattle.std.proofs.Common.{arith}
@@ -38,6 +39,14 @@ row_cmp a b = full_cmp a.candidate b.candidate
 -- a total order
 pub row_total : IsTotalOrder row_cmp
 row_total = on_total (λ (r : Row). r.candidate) full_cmp_total
+
+-- named candidates by their candidates
+abbrev pub named_cmp : Named → Named → Ordering
+named_cmp a b = full_cmp a.0 b.0
+
+-- a total order
+pub named_total : IsTotalOrder named_cmp
+named_total = on_total (λ (r : Named). r.0) full_cmp_total
 
 -- ---- an ID that stands twice
 

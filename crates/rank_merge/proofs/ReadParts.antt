@@ -13,9 +13,10 @@ use Rattle.rank_papers.specs.Certificate.{Entry}
 use Rattle.rank_merge.specs.declared.fault.MergeFault.{MergeFault}
 use Rattle.rank_merge.specs.declared.gathering.Gathered.{Gathered}
 use Rattle.rank_merge.specs.declared.part.Papers.{Papers}
-use Rattle.rank_merge.specs.Merged.{Part, rows_of, entries_of_parts}
+use Rattle.rank_merge.specs.Merged.{Part, rows_of, entries_of_parts, first_rows}
 use Rattle.rank_merge.specs.Merging.{Texts, part_of, and_parts, parts_from, is_memory}
-use Rattle.rank_merge.specs.Found.{AreOfParts, part_in}
+use Rattle.rank_merge.specs.Found.{AreOfParts, IsFloor, part_in}
+use Rattle.rank_merge.proofs.FirstRows.{first_of_first}
 use Rattle.std.proofs.lemmas.Int.{ints}
 
 -- ---- what was read before
@@ -64,19 +65,24 @@ module _ (q : Asked) where
   -- what was gathered with what one more part has
   pub gathered-more : (ts : List Texts) (t : Texts) (n : ℕ) (papers : Papers) (old new : Gathered)
       → AreOfParts q ts old → 1 + length ts ≡ n → part_of q n t ≡ Ok (part_in papers)
-      → new.rows.items ≡ old.rows.items ++ papers.report.rows.items
+      → first_rows q.k (map named_in new.rows.items)
+      ≡ first_rows q.k (map named_in old.rows.items ++ map named_in papers.report.rows.items)
+      → IsFloor q.k (map named_in new.rows.items) new.floor
       → new.lines.items ≡ old.lines.items ++ papers.certificate.lines.items → AreOfParts q (ts ++ t ∷ []) new
-  gathered-more ts t n papers old new h at read rows lines =
+  gathered-more ts t n papers old new h at read rows floor lines =
       let p : Part = part_in papers in
+      let before : List Named = map named_in old.rows.items in
       record {
         parts = h.parts ++ p ∷ [];
         read = part_behind ts [] t h.parts n (Ok p) h.read at read;
         rows =
-            ap (map named_in) rows
-            ∙ map-append named_in old.rows.items papers.report.rows.items
-            ∙ ap (λ (l : List Named). l ++ p.report.rows) h.rows
-            ∙ ap (λ (l : List Named). rows_of h.parts ++ l) (sym (append-nil p.report.rows))
-            ∙ sym (flat_map-append (λ (x : Part). x.report.rows) h.parts (p ∷ []));
+            rows
+            ∙ sym (first_of_first q.k before p.report.rows)
+            ∙ ap (λ (l : List Named). first_rows q.k (l ++ p.report.rows)) h.rows
+            ∙ first_of_first q.k (rows_of h.parts) p.report.rows
+            ∙ ap (λ (l : List Named). first_rows q.k (rows_of h.parts ++ l)) (sym (append-nil p.report.rows))
+            ∙ ap (first_rows q.k) (sym (flat_map-append (λ (x : Part). x.report.rows) h.parts (p ∷ [])));
+        floor = floor;
         lines =
             lines
             ∙ ap (λ (l : List Entry). l ++ p.certificate.entries) h.lines
@@ -107,12 +113,15 @@ module _ {X : Type 0} (q : Asked) (f : X → Texts) (xs : List X) (i : ℕ) (d :
   -- one more part was read
   pub gathered_next : (papers : Papers) (old new : Gathered) → AreOfParts q (map f (take i xs)) old
       → part_of q (i + 1) (f (get_or xs i d)) ≡ Ok (part_in papers)
-      → new.rows.items ≡ old.rows.items ++ papers.report.rows.items
+      → first_rows q.k (map named_in new.rows.items)
+      ≡ first_rows q.k (map named_in old.rows.items ++ map named_in papers.report.rows.items)
+      → IsFloor q.k (map named_in new.rows.items) new.floor
       → new.lines.items ≡ old.lines.items ++ papers.certificate.lines.items
       → AreOfParts q (map f (take (i + 1) xs)) new
-  gathered_next papers old new h read rows lines =
+  gathered_next papers old new h read rows floor lines =
       subst (λ (ts : List Texts). AreOfParts q ts new) (sym (map_more f xs i d below))
-      (gathered-more q (map f (take i xs)) at (i + 1) papers old new h number_before read rows lines)
+      (gathered-more q (map f (take i xs)) at (i + 1) papers old new h number_before read rows floor
+      lines)
 
   -- a part that is refused refuses all
   pub refused_at : (old : Gathered) (why : MergeFault) → AreOfParts q (map f (take i xs)) old

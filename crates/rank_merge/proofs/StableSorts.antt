@@ -1,5 +1,5 @@
 -- Stable sorts: of given elements there is one list in order in which those that tie stand as they came.
-use Rattle.std.proofs.Common.{◌≡◌, Bool, true, false, List, [], ◌∷◌, length, refl, sym, ap, ◌∙◌, subst, arith}
+use Rattle.std.proofs.Common.{◌≡◌, Bool, true, false, List, [], ◌∷◌, ◌++◌, length, refl, sym, ap, ◌∙◌, subst, arith}
 use Rattle.std.specs.Prelude.{filter, not, ◌&&◌}
 use Rattle.std.specs.List.{AllByRecursion}
 use Rattle.std.specs.List.Sorted.{IsPermutation, IsSortedBy, IsStableBy, ties}
@@ -7,7 +7,8 @@ use Rattle.std.specs.Cmp.{IsTotalOrder, IsStrictWeakOrder}
 use Rattle.std.specs.Ordering.{is_le}
 use Rattle.std.specs.declared.cmp.Ordering.{Ordering}
 use Rattle.std.proofs.lemmas.Bool.{false_from_ne_true, true_from_ne_false}
-use Rattle.std.proofs.lemmas.List.{map-id}
+use Rattle.std.proofs.lemmas.List.{map-id, length-append}
+use Rattle.std.proofs.lemmas.List.Elements.{filter-append}
 use Rattle.std.proofs.lemmas.List.Sorted.{length_permutation}
 use Rattle.ghcn_fields.specs.Sorting.{placed, sorted_by}
 use Rattle.ghcn_files.proofs.Ordered as ordered
@@ -119,4 +120,21 @@ module _ {X : Type 0} (cmp : X → X → Ordering) (total : IsTotalOrder cmp) wh
   sorted-twice xs =
       sorted-fixed first (sorted_by first xs) (ordered.sorted-in_turn cmp total first (λ a b. refl) xs)
 
--- ---- what is made of elements
+  -- putting some of all in order before is putting all in order
+  pub sorted-append : (xs ys : List X) → sorted_by first (sorted_by first xs ++ ys) ≡ sorted_by first (xs ++ ys)
+  sorted-append xs ys =
+      let zs : List X = sorted_by first xs in
+      one_stable (sorted_by first (zs ++ ys)) (sorted_by first (xs ++ ys))
+      (ordered.sorted-in_turn cmp total first (λ a b. refl) (zs ++ ys))
+      (ordered.sorted-in_turn cmp total first (λ a b. refl) (xs ++ ys))
+      (omega (
+        arith,
+        length_permutation (zs ++ ys) (sorted_by first (zs ++ ys)) (ordered.sorted-permutation first (zs ++ ys)),
+        length_permutation (xs ++ ys) (sorted_by first (xs ++ ys)) (ordered.sorted-permutation first (xs ++ ys)),
+        length_permutation xs zs (ordered.sorted-permutation first xs),
+        length-append zs ys,
+        length-append xs ys,
+      ))
+      (λ x. sorted-stable x (zs ++ ys) ∙ filter-append (ties before x) zs ys
+      ∙ ap (λ (l : List X). l ++ filter (ties before x) ys) (sorted-stable x xs)
+      ∙ sym (filter-append (ties before x) xs ys) ∙ sym (sorted-stable x (xs ++ ys)))

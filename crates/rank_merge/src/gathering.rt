@@ -1,22 +1,28 @@
 //! The rows and the lines of all parts, one part after the other.
 
-ghost use Rattle.std.specs.Prelude.{◌≡◌, ◌++◌, OnOk, IfOk, IfErr};
+ghost use Rattle.std.specs.Prelude.{◌≡◌, ◌≤◌, ◌++◌, map, OnOk, IfOk, IfErr};
 ghost use Rattle.ghcn_fields.specs.Refusals.{IsRefusal};
+ghost use Rattle.rank_papers.specs.ReportLines.{named_in};
 ghost use Rattle.rank_merge.specs.Found as found;
+ghost use Rattle.rank_merge.specs.Merged as merged;
 ghost use Rattle.rank_merge.specs.Merging as merging;
 
 use crate::MergeFault;
 use crate::part::{Papers, read_part};
+use crate::rows::{drop_behind, keep_first, last_of};
 use ghcn_fields::Memory;
 use rank_papers::{Line, Row};
 use rank_query::Query;
+use rank_scores::Candidate;
 use std::alloc::Global;
 
-/// The rows and the lines of some parts.
+/// The lines of some parts, and of their rows all that can be among the first k.
 #[derive(Drop)]
 pub(crate) struct Gathered {
     pub(crate) rows: Vec<Row>,
     pub(crate) lines: Vec<Line>,
+    /// A candidate that k of the rows come before, or tie with: what stands behind it isn't taken.
+    pub(crate) floor: Option<Candidate>,
 }
 
 /// Reads and tests the papers of each part, in their order.
@@ -32,23 +38,47 @@ pub(crate) fn read_parts(
     let mut all = Gathered {
         rows: Vec::new(alloc),
         lines: Vec::new(alloc),
+        floor: None,
     };
     for (place, (report, certificate)) in parts.iter().enumerate() {
         let papers = read_part(alloc, query, place as u64 + 1, report, certificate)?;
-        all.add(papers)?;
+        all.add(query.k(), papers)?;
     }
     Ok(all)
 }
 
 impl Gathered {
-    /// Takes the rows and the lines of one part more.
-    fn add(&mut self, mut papers: Papers) -> Result<(), Memory>
-        ensures rows { OnOk result (self.new.rows.items ≡ self.old.rows.items ++ papers.report.rows.items) }
+    /// Takes the lines of one part more, and its rows that can be among the first k.
+    fn add(&mut self, k: u64, mut papers: Papers) -> Result<(), Memory>
+        requires few { k ≤ 1000 }
+        requires floor { found.IsFloor k (map named_in self.old.rows.items) self.old.floor }
+        ensures rows { OnOk result (merged.first_rows k (map named_in self.new.rows.items)
+            ≡ merged.first_rows k (map named_in self.old.rows.items ++ map named_in papers.report.rows.items)) }
+        ensures floor { OnOk result (found.IsFloor k (map named_in self.new.rows.items) self.new.floor) }
         ensures lines { OnOk result
             (self.new.lines.items ≡ self.old.lines.items ++ papers.certificate.lines.items) }
     {
+        drop_behind(&self.floor, &mut papers.report.rows);
         self.rows.append(&mut papers.report.rows)?;
         self.lines.append(&mut papers.certificate.lines)?;
+        self.settle(k)
+    }
+
+    /// Leaves the first k rows where there are twice as many or more, so that a sort of fewer than 3k rows
+    /// lets go of k at least. The last of them is the floor.
+    fn settle(&mut self, k: u64) -> Result<(), Memory>
+        requires few { k ≤ 1000 }
+        requires floor { found.IsFloor k (map named_in self.old.rows.items) self.old.floor }
+        ensures rows { OnOk result (merged.first_rows k (map named_in self.new.rows.items)
+            ≡ merged.first_rows k (map named_in self.old.rows.items)) }
+        ensures floor { OnOk result (found.IsFloor k (map named_in self.new.rows.items) self.new.floor) }
+        ensures lines { OnOk result (self.new.lines.items ≡ self.old.lines.items) }
+    {
+        if (self.rows.len() as u64) < 2 * k {
+            return Ok(());
+        }
+        keep_first(k, &mut self.rows)?;
+        self.floor = last_of(self.rows.as_slice());
         Ok(())
     }
 }

@@ -14,7 +14,7 @@ use crate::MergeFault;
 use crate::gathering::read_parts;
 use crate::laws::merged_are_right;
 use crate::lines::{by_id, twice};
-use crate::rows::first_rows;
+use crate::rows::keep_first;
 use ghcn_fields::Memory;
 use rank_head::candidates_of;
 use rank_papers::{Line, Row, certificate_of_best, report_of_rows};
@@ -66,7 +66,8 @@ fn merge_texts(alloc: Global, query: &Query, parts: &[(&[u8], &[u8])]) -> Result
     if let Some(id) = twice(lines.as_slice()) {
         return Err(MergeFault::Twice { id });
     }
-    let rows = first_rows(query.k(), all.rows)?;
+    let mut rows = all.rows;
+    keep_first(query.k(), &mut rows)?;
     Ok(papers(alloc, query, rows.as_slice(), lines.as_slice())?)
 }
 

@@ -1,0 +1,26 @@
+use Rattle.std.proofs.Common.{◌≡◌, ◌++◌, ◌∙◌, map, Ok, Err, OnOk}
+use Rattle.rank_papers.specs.ReportLines.{named_in}
+use Rattle.rank_merge.specs.Merged.{first_rows}
+use Rattle.rank_merge.proofs.FirstRows.{gathered_rows}
+use Rattle.rank_merge.proofs.gathering.Gathered.add.Goals as goal
+
+-- the floor is one of the rows of all parts, too
+pub settle-requires-clause-floor : goal.settle-requires-clause-floor
+settle-requires-clause-floor c =
+    (gathered_rows c.args.k c.args.self.now.floor c.args.self.now.rows.items c.args.papers.report.rows.items
+    c.drop_behind.new.rows.items c.append.new.self.items c.requires.floor c.drop_behind.ensures
+    c.in_ok-append.ensures.items).1
+
+-- the rows that weren't taken are none of the first
+pub returns-clause-rows : goal.returns-clause-rows
+returns-clause-rows c =
+    let taken = (gathered_rows c.args.k c.args.self.now.floor c.args.self.now.rows.items
+    c.args.papers.report.rows.items c.drop_behind.new.rows.items c.append.new.self.items c.requires.floor
+    c.drop_behind.ensures c.in_ok-append.ensures.items).0 in
+    elim c.settle.result as (λ r. OnOk r (first_rows c.args.k (map named_in c.settle.new.self.rows.items)
+    ≡ first_rows c.args.k (map named_in c.append.new.self.items))
+    → OnOk r (first_rows c.args.k (map named_in c.settle.new.self.rows.items) ≡ first_rows c.args.k
+    (map named_in c.args.self.now.rows.items ++ map named_in c.args.papers.report.rows.items))) [
+      | Ok done ↦ λ e. e ∙ taken
+      | Err why ↦ λ e. tt
+    ] c.settle.ensures.rows
