@@ -1,6 +1,7 @@
 -- The values of a line's days, by groups.
 use Rattle.std.proofs.Common.{◌≡◌, ℕ, zero, suc, ◌+◌, ◌*◌, ◌-◌, ◌<◌, ◌≤◌, Bool, true, false, cond, List, length, take}
-use Rattle.std.proofs.Common.{drop}
+use Rattle.std.proofs.Common.{drop, ◌⊎◌}
+use native.Mathlib.Numerals.{unary_clauses}
 use Rattle.std.proofs.Common.{get_or, set, Option, Some, None, inl, inr, refl, sym, ap, ap₂, subst, ◌∙◌, arith, ℤ, pos}
 use Rattle.std.specs.Prelude.{not, ◌==◌, ◌&&◌, neg_ℤ, if◌then◌else◌}
 use Rattle.std.proofs.lemmas.Bool.{cases_lt}
@@ -94,19 +95,19 @@ group-value line day found long fine are k lt within =
     ∙ ap₂ (λ (t : Bool) (bytes : List ℕ). if t then number_or missing (int_field bytes) else missing)
     (flag_of line day k lt) five
 
--- some values are those of the first so many days
-pub record AreFirst (line : List ℕ) (i : ℕ) (values : List ℤ) : Type 0 where
+-- some values are those of the days from one on up to another
+pub record AreFrom (line : List ℕ) (day i : ℕ) (values : List ℤ) : Type 0 where
   pub many : length values ≡ 32
-  pub so_far : (j : ℕ) → j < i → get_or values j (pos 0) ≡ value_or_missing line j
+  pub so_far : (j : ℕ) → day ≤ j → j < i → get_or values j (pos 0) ≡ value_or_missing line j
 
 -- with one more
-pub one-more : (line : List ℕ) (values : List ℤ) (i m : ℕ) (v : ℤ) → m ≡ i + 1 → i < 32
-    → v ≡ value_or_missing line i → AreFirst line i values → AreFirst line m (set values i v)
-one-more line values i m v e lt is first = record {
+one-more : (line : List ℕ) (day : ℕ) (values : List ℤ) (i m : ℕ) (v : ℤ) → m ≡ i + 1 → i < 32
+    → v ≡ value_or_missing line i → AreFrom line day i values → AreFrom line day m (set values i v)
+one-more line day values i m v e lt is first = record {
   many = length-set values i v ∙ first.many;
-  so_far = λ j less. elim (cases_lt j i) [
+  so_far = λ j le less. elim (cases_lt j i) [
     | inl before ↦
-        get_or-set_other values i j v (pos 0) (omega (arith, before)) ∙ first.so_far j before
+        get_or-set_other values i j v (pos 0) (omega (arith, before)) ∙ first.so_far j le before
     | inr from ↦
         let here : i ≡ j = omega (arith, from, less, e) in
         subst (λ (k : ℕ). get_or (set values i v) k (pos 0) ≡ value_or_missing line k) here
@@ -114,9 +115,47 @@ one-more line values i m v e lt is first = record {
   ];
 }
 
--- fewer of them
-pub fewer : (line : List ℕ) (values : List ℤ) (i m : ℕ) → i ≤ m → AreFirst line m values → AreFirst line i values
-fewer line values i m le first = record {
-  many = first.many;
-  so_far = λ j lt. first.so_far j (omega (arith, lt, le));
-}
+-- four values from a place on
+abbrev pub with_four : List ℤ → ℕ → (ℕ → ℤ) → List ℤ
+with_four vs day number =
+    set (set (set (set vs day (number 0)) (day + 1) (number 1)) (day + 2) (number 2)) (day + 3) (number 3)
+
+-- those of four days stand at their places
+pub four-stand : (line : List ℕ) (vs : List ℤ) (day : ℕ) (number : ℕ → ℤ) → length vs ≡ 32 → day < 28
+    → ((k : ℕ) → k < 4 → number k ≡ value_or_missing line (day + k))
+    → (j : ℕ) → day ≤ j → j < day + 4 → get_or (with_four vs day number) j (pos 0) ≡ value_or_missing line j
+four-stand line vs day number many lt is =
+    let same : value_or_missing line (day + 0) ≡ value_or_missing line day = simp unary_clauses refl in
+    let none : AreFrom line day day vs = record {
+      many = many;
+      so_far = λ j le less. absurd (omega (arith, le, less));
+    } in
+    let all : AreFrom line day (day + 4) (with_four vs day number) =
+    one-more line day _ (day + 3) (day + 4) (number 3) (omega arith) (omega (arith, lt)) (is 3 (omega arith))
+    (one-more line day _ (day + 2) (day + 3) (number 2) (omega arith) (omega (arith, lt)) (is 2 (omega arith))
+    (one-more line day _ (day + 1) (day + 2) (number 1) (omega arith) (omega (arith, lt)) (is 1 (omega arith))
+    (one-more line day vs day (day + 1) (number 0) (omega arith) (omega (arith, lt)) (is 0 (omega arith) ∙ same)
+    none))) in
+    all.so_far
+
+-- what stands elsewhere stays
+pub others-stay : (vs : List ℤ) (day : ℕ) (number : ℕ → ℤ) (j : ℕ) → (j < day) ⊎ (day + 4 ≤ j)
+    → get_or (with_four vs day number) j (pos 0) ≡ get_or vs j (pos 0)
+others-stay vs day number j (inl before) =
+    get_or-set_other _ (day + 3) j (number 3) (pos 0) (omega (arith, before))
+    ∙ get_or-set_other _ (day + 2) j (number 2) (pos 0) (omega (arith, before))
+    ∙ get_or-set_other _ (day + 1) j (number 1) (pos 0) (omega (arith, before))
+    ∙ get_or-set_other vs day j (number 0) (pos 0) (omega (arith, before))
+others-stay vs day number j (inr behind) =
+    get_or-set_other _ (day + 3) j (number 3) (pos 0) (omega (arith, behind))
+    ∙ get_or-set_other _ (day + 2) j (number 2) (pos 0) (omega (arith, behind))
+    ∙ get_or-set_other _ (day + 1) j (number 1) (pos 0) (omega (arith, behind))
+    ∙ get_or-set_other vs day j (number 0) (pos 0) (omega (arith, behind))
+
+-- what is true of each of four is true of all
+pub each-of-four : (P : ℕ → Type 0) → P 0 → P 1 → P 2 → P 3 → (k : ℕ) → k < 4 → P k
+each-of-four P a b c d zero lt = a
+each-of-four P a b c d (suc zero) lt = b
+each-of-four P a b c d (suc (suc zero)) lt = c
+each-of-four P a b c d (suc (suc (suc zero))) lt = d
+each-of-four P a b c d (suc (suc (suc (suc k)))) lt = absurd (omega (arith, lt))

@@ -8,6 +8,8 @@ pub mod ColumnSlices
 pub mod Errors
 pub mod Readings
 pub mod Months
+pub mod SameLanes
+pub mod KnownHeads
 pub mod Ranges
 pub mod StationTests
 pub mod PrintedText

@@ -8,7 +8,7 @@ use Rattle.std.specs.Ordering.{int_eq}
 use Rattle.std.specs.Int.Bits.{or_zero_r}
 use Rattle.std.specs.Int.{bit_at}
 use Rattle.std.proofs.Math.Pow.{pow-lt}
-use Rattle.std.proofs.lemmas.Bool.{cases_lt, cases_eq, and_parts, eqb-false}
+use Rattle.std.proofs.lemmas.Bool.{cases_lt, and_parts, eqb-false}
 use Rattle.std.proofs.lemmas.Bool.Decides.{Decides-int_eq, nat_tests}
 use Rattle.std.proofs.lemmas.List.{get_or-set_same, get_or-set_other, get_or_past, length-set}
 use Rattle.std.proofs.lemmas.List.FromFn.{get_or-map-range_with_len}
@@ -33,26 +33,40 @@ pub record HasFirst (day : ℕ → Option ℤ) (i w : ℕ) (vs : List ℤ) : Typ
   pub long : length vs ≡ 32
   pub holds : (j : ℕ) → j < i → value_at w vs j ≡ day j
   pub later : (j : ℕ) → i ≤ j → bit_at w j ≡ 0
-  pub zeros : (j : ℕ) → bit_at w j ≡ 0 → get_or vs j (pos 0) ≡ pos 0
+  pub zeros : (j : ℕ) → j < i → bit_at w j ≡ 0 → get_or vs j (pos 0) ≡ pos 0
 
 -- a place whose bit isn't set has no value
 absent_value : (w : ℕ) (vs : List ℤ) (j : ℕ) → bit_at w j ≡ 0 → value_at w vs j ≡ None
 absent_value w vs j e = ap (λ (b : ℕ). if_so (b == 1) (get_or vs j (pos 0))) e
 
-module _ (day : ℕ → Option ℤ) (i w : ℕ) (vs : List ℤ) (is : HasFirst day i w vs) where
-  -- a day that doesn't count is passed over
-  pub first-passed : day i ≡ None → HasFirst day (i + 1) w vs
+module _ (day : ℕ → Option ℤ) (i w : ℕ) (vs : List ℤ) (is : HasFirst day i w vs) (lt : i < 32) where
+  -- what stands at an earlier place stays
+  before-stays : (v : ℤ) (j : ℕ) → j < i → get_or (set vs i v) j (pos 0) ≡ get_or vs j (pos 0)
+  before-stays v j before = get_or-set_other vs i j v (pos 0) (omega (arith, before))
+
+  -- and the new value stands at its own
+  stands-here : (v : ℤ) → get_or (set vs i v) i (pos 0) ≡ v
+  stands-here v = get_or-set_same vs i v (pos 0) (omega (arith, lt, is.long))
+
+  -- a day that doesn't count has a 0
+  first-passed : day i ≡ None → HasFirst day (i + 1) w (set vs i (pos 0))
   first-passed none = record {
     fits = let more = pow-lt {i = i} {j = i + 1} (omega arith) in omega (arith, is.fits, more);
-    long = is.long;
-    holds = λ j lt. elim (cases_lt j i) [
-      | inl before ↦ is.holds j before
+    long = length-set vs i (pos 0) ∙ is.long;
+    holds = λ j less. elim (cases_lt j i) [
+      | inl before ↦
+          ap (if_so (bit_at w j == 1)) (before-stays (pos 0) j before) ∙ is.holds j before
       | inr here ↦
           let same : i ≡ j = omega arith in
-          absent_value w vs j (is.later j (omega arith)) ∙ sym none ∙ ap day same
+          absent_value w (set vs i (pos 0)) j (is.later j (omega arith)) ∙ sym none ∙ ap day same
     ];
     later = λ j le. is.later j (omega (arith, le));
-    zeros = is.zeros;
+    zeros = λ j less none. elim (cases_lt j i) [
+      | inl before ↦ before-stays (pos 0) j before ∙ is.zeros j before none
+      | inr here ↦
+          let same : i ≡ j = omega arith in
+          subst (λ (k : ℕ). get_or (set vs i (pos 0)) k (pos 0) ≡ pos 0) same (stands-here (pos 0))
+    ];
   }
 
   -- a further bit changes none of the others
@@ -64,8 +78,8 @@ module _ (day : ℕ → Option ℤ) (i w : ℕ) (vs : List ℤ) (is : HasFirst d
   bit-here = omega (arith, bit_at_or w (2 ^ i) i, bit_at-pow_same i, bit_at-lt w i)
 
   -- a day that counts is set
-  pub first-set : (v : ℤ) → day i ≡ Some v → i < 32 → HasFirst day (i + 1) (bit_or w (2 ^ i)) (set vs i v)
-  first-set v some lt = record {
+  first-set : (v : ℤ) → day i ≡ Some v → HasFirst day (i + 1) (bit_or w (2 ^ i)) (set vs i v)
+  first-set v some = record {
     fits =
         let more = pow-lt {i = i} {j = i + 1} (omega arith) in
         or_lt (i + 1) w (2 ^ i) (omega (arith, is.fits, more)) more;
@@ -73,37 +87,23 @@ module _ (day : ℕ → Option ℤ) (i w : ℕ) (vs : List ℤ) (is : HasFirst d
     holds = λ j less. elim (cases_lt j i) [
       | inl before ↦
           ap (λ (b : ℕ). if_so (b == 1) (get_or (set vs i v) j (pos 0))) (bit-other j (λ e. omega (arith, before, e)))
-          ∙ ap (if_so (bit_at w j == 1)) (get_or-set_other vs i j v (pos 0) (omega (arith, before)))
+          ∙ ap (if_so (bit_at w j == 1)) (before-stays v j before)
           ∙ is.holds j before
       | inr here ↦
           let same : i ≡ j = omega arith in
           subst (λ (k : ℕ). value_at (bit_or w (2 ^ i)) (set vs i v) k ≡ day k) same
           (ap (λ (b : ℕ). if_so (b == 1) (get_or (set vs i v) i (pos 0))) bit-here
-          ∙ ap Some (get_or-set_same vs i v (pos 0) (omega (arith, lt, is.long))) ∙ sym some)
+          ∙ ap Some (stands-here v) ∙ sym some)
     ];
     later = λ j le. bit-other j (λ e. omega (arith, le, e)) ∙ is.later j (omega (arith, le));
-    zeros = λ j none.
-        let ne : j ≡ i → ⊥ = λ e.
-        let here = bit-here in omega (arith, here, none, ap (bit_at (bit_or w (2 ^ i))) e) in
-        get_or-set_other vs i j v (pos 0) ne ∙ is.zeros j (sym (bit-other j ne) ∙ none);
-  }
-
-  -- a 0 changes nothing
-  cleared : HasFirst day i w (set vs i (pos 0))
-  cleared = record {
-    fits = is.fits;
-    long = length-set vs i (pos 0) ∙ is.long;
-    holds = λ j lt.
-        ap (if_so (bit_at w j == 1)) (get_or-set_other vs i j (pos 0) (pos 0) (omega (arith, lt))) ∙ is.holds j lt;
-    later = is.later;
-    zeros = λ j none. elim (cases_eq j i) [
-      | inl here ↦ elim (cases_lt i 32) [
-        | inl inside ↦ ap (λ (k : ℕ). get_or (set vs i (pos 0)) k (pos 0)) here
-            ∙ get_or-set_same vs i (pos 0) (pos 0) (omega (arith, inside, is.long))
-        | inr past ↦ get_or_past (set vs i (pos 0)) j (pos 0)
-            (omega (arith, past, here, is.long, length-set vs i (pos 0)))
-      ]
-      | inr other ↦ get_or-set_other vs i j (pos 0) (pos 0) other ∙ is.zeros j none
+    zeros = λ j less none. elim (cases_lt j i) [
+      | inl before ↦
+          let ne : j ≡ i → ⊥ = λ e. omega (arith, before, e) in
+          before-stays v j before ∙ is.zeros j before (sym (bit-other j ne) ∙ none)
+      | inr here ↦
+          let same : i ≡ j = omega arith in
+          let set_here = bit-here in
+          absurd (omega (arith, set_here, none, ap (bit_at (bit_or w (2 ^ i))) same))
     ];
   }
 
@@ -111,10 +111,10 @@ module _ (day : ℕ → Option ℤ) (i w : ℕ) (vs : List ℤ) (is : HasFirst d
 pub first-step : (day : ℕ → Option ℤ) (i w : ℕ) (vs : List ℤ) (t : Bool) (v : ℤ) → HasFirst day i w vs
     → day i ≡ if_so t v → i < 32
     → HasFirst day (i + 1) (bit_or w (if t then 2 ^ i else 0)) (set vs i (if t then v else pos 0))
-first-step day i w vs true v is some lt = first-set day i w vs is v some lt
+first-step day i w vs true v is some lt = first-set day i w vs is lt v some
 first-step day i w vs false v is none lt =
     subst (λ (u : ℕ). HasFirst day (i + 1) u (set vs i (pos 0))) (sym (or_zero_r w))
-    (first-passed day i w (set vs i (pos 0)) (cleared day i w vs is) none)
+    (first-passed day i w vs is lt none)
 
 -- at a place of zeros stands 0
 zero_at : (n j : ℕ) → get_or (replicate n (pos 0)) j (pos 0) ≡ pos 0
@@ -123,13 +123,13 @@ zero_at (suc n) zero = refl
 zero_at (suc n) (suc j) = zero_at n j
 
 -- no day yet
-pub first-none : (day : ℕ → Option ℤ) → HasFirst day 0 0 (replicate 32 (pos 0))
-first-none day = record {
+pub first-none : (day : ℕ → Option ℤ) (vs : List ℤ) → length vs ≡ 32 → HasFirst day 0 0 vs
+first-none day vs long = record {
   fits = omega arith;
-  long = refl;
+  long = long;
   holds = λ j lt. absurd (omega arith);
   later = λ j le. bit_at-zero j;
-  zeros = λ j none. zero_at 32 j;
+  zeros = λ j lt. absurd (omega arith);
 }
 
 -- no day is kept
@@ -156,7 +156,10 @@ all-are day some i w vs e none same is =
     record {
       fits = let below = all.fits in omega (arith, bit_at-lt w 31, clear);
       holds = λ j lt. all.holds j (omega (arith, lt)) ∙ same j lt;
-      zeros = all.zeros;
+      zeros = λ j none. elim (cases_lt j 32) [
+        | inl inside ↦ all.zeros j inside none
+        | inr past ↦ get_or_past vs j (pos 0) (omega (arith, past, all.long))
+      ];
     }
 
 -- the row of a line is that of its month

@@ -4,5 +4,6 @@ pub mod StationLines
 pub mod Listed
 pub mod KeptStations
 pub mod Months
+pub mod Heads
 pub mod Rows
 pub mod Flags

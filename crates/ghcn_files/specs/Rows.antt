@@ -1,5 +1,5 @@
 -- A month's values as a row: a word of the days whose values count, and the values of those days.
-use Rattle.std.specs.Prelude.{◌≡◌, ℕ, ◌+◌, ◌<◌, ◌^◌, ◌==◌, ◌||◌, Bool, false, if◌then◌else◌, List, get_or, Option}
+use Rattle.std.specs.Prelude.{◌≡◌, ℕ, ◌+◌, ◌<◌, ◌^◌, ◌==◌, ◌||◌, Bool, true, false, if◌then◌else◌, List, get_or, Option}
 use Rattle.std.specs.Prelude.{None, Some, Result, Ok, Err, ℤ, pos, neg_ℤ, int_le, nat_lt, ◌&&◌, not}
 use Rattle.std.specs.Int.{bit_at}
 use Rattle.std.specs.Option.{option_and_then}
@@ -72,6 +72,12 @@ abbrev pub IsRead : Keep → List ℕ → Result (Option MonthRow) LineWhy → T
 IsRead asked line (Ok (Some row)) = IsOfLine asked line row
 IsRead asked line (Ok None) = read_month line ≡ Ok None
 IsRead asked line (Err why) = read_month line ≡ Err why
+
+-- what is read of a line into a row: that of its month; or that it has none, or a refusal, as the month is read
+abbrev pub IsReadInto : Keep → List ℕ → MonthRow → Result Bool LineWhy → Type 0
+IsReadInto asked line row (Ok true) = IsOfLine asked line row
+IsReadInto asked line row (Ok false) = read_month line ≡ Ok None
+IsReadInto asked line row (Err why) = read_month line ≡ Err why
 
 -- the value of a day at a place, from 0, of a line, in a month with so many days
 abbrev pub line_value : Element → ℕ → List ℕ → ℕ → Option ℤ

@@ -23,7 +23,7 @@ use ghcn_fields::{is_blank, value_field, value_or};
 pub(crate) const UP_TO_ELEMENT: usize = 21;
 
 /// The columns up to the last day's value, whose three flags may be left out.
-const LEAST_COLUMNS: usize = 266;
+pub(crate) const LEAST_COLUMNS: usize = 266;
 
 /// The columns of a whole line.
 pub(crate) const COLUMNS: usize = 269;

@@ -1,16 +1,17 @@
 //! Months of daily values as rows: what one line of a daily file says, without what doesn't count.
 
 ghost use Rattle.std.specs.Prelude.{◌≡◌, ◌≤◌, ◌<◌, ◌+◌, ◌^◌, length, Some, None, IfOk, IfErr, false, ◌&&◌, not, nat_lt};
-ghost use Rattle.std.specs.Prelude.{if◌then◌else◌, ◌++◌, ◌-◌, replicate, OnOk, true};
+ghost use Rattle.std.specs.Prelude.{if◌then◌else◌, ◌++◌, ◌-◌, replicate, OnOk, true, ℕ, pos, get_or};
 ghost use Rattle.ghcn_files.specs.declared.month.Month.{Month};
 ghost use Rattle.ghcn_files.specs.Elements.{least_of, is_kept};
 ghost use Rattle.ghcn_files.specs.Months as months;
 ghost use Rattle.ghcn_files.specs.Rows as rows;
 
+use crate::heads::MonthReader;
 use crate::missing::MISSING;
-use crate::month::{COLUMNS, DAYS, UP_TO_ELEMENT, four_groups, head_of, readings, two_groups};
+use crate::month::{COLUMNS, DAYS, four_groups, readings, two_groups};
 use crate::{Element, Keep, LineWhy, StationId};
-use ghcn_fields::{are_set, days_in_month, four_numbers, good_columns};
+use ghcn_fields::{are_set, four_numbers, good_columns};
 use std::simd::prelude::*;
 
 /// The days of a month whose values count: those that the month has, whose value isn't missing,
@@ -48,66 +49,51 @@ impl MonthRow {
 pub fn read_days(line: &[u8], asked: Keep) -> Result<Option<MonthRow>, LineWhy>
     ensures { rows.IsRead asked line.now result }
 {
-    if line.len() < UP_TO_ELEMENT {
-        return Err(LineWhy::Short);
-    }
-    match Element::of_code(&line[17..21]) {
-        None => Ok(None),
-        Some(element) => Ok(Some(row_of(asked, element, line)?)),
+    let mut months = MonthReader::new();
+    if months.read(line, asked)? {
+        Ok(Some(*months.row()))
+    } else {
+        Ok(None)
     }
 }
 
-/// The row of a line of this element.
-fn row_of(asked: Keep, element: Element, line: &[u8]) -> Result<MonthRow, LineWhy>
-    ensures err { IfErr result (λ why. months.month_why line.now ≡ Some why) }
-    ensures fine { IfOk result (λ _. months.month_why line.now ≡ None) }
-    ensures row { IfOk result (rows.IsRowOf (is_kept asked element) (months.month_of element line.now)) }
-{
-    let head = head_of(line)?;
-    let count = days_in_month(head.year, head.month);
-    let (word, values) = if_kept(element.is_kept(asked), element, count, line)?;
-    Ok(MonthRow {
-        id: head.id,
-        element,
-        year: head.year,
-        month: head.month,
-        word,
-        values,
-    })
-}
-
-/// The values of a line that count, in a month with so many days, where they are kept, or which day's
-/// value, the first such one, is no number.
-fn if_kept(
+/// Puts the values of a line that count, in a month with so many days, where they are kept, and answers the word of
+/// their days, unless a day's value is no number: then which day's, the first such one.
+#[inline(always)]
+pub(crate) fn put_days(
     kept: bool,
     element: Element,
     count: u8,
     line: &[u8],
-) -> Result<(u32, [i32; 32]), LineWhy>
+    values: &mut [i32; 32],
+) -> Result<u32, LineWhy>
     requires { 266 ≤ length line.now }
     ensures err { IfErr result (λ why. months.days_why line.now ≡ Some why) }
-    ensures fine { IfOk result (λ _. months.days_why line.now ≡ None) }
-    ensures days { IfOk result (λ row.
-        rows.AreDays (λ j. rows.if_kept kept (rows.line_value element count line.now j)) row.0 row.1) }
-{
-    if kept {
-        days_of(element, count, line)
-    } else {
-        no_days(line)
-    }
-}
-
-/// No values of a line, or which day's value, the first such one, is no number.
-fn no_days(line: &[u8]) -> Result<(u32, [i32; 32]), LineWhy>
-    requires { 266 ≤ length line.now }
-    ensures err { IfErr result (λ why. months.days_why line.now ≡ Some why) }
-    ensures fine { IfOk result (λ _. months.days_why line.now ≡ None) }
-    ensures days { IfOk result (λ row. rows.AreDays (λ _. None) row.0 row.1) }
+    ensures fine { OnOk result (months.days_why line.now ≡ None) }
+    ensures days { IfOk result (λ word.
+        rows.AreDays (λ j. rows.if_kept kept (rows.line_value element count line.now j)) word values.new) }
 {
     if has_bad_value(line) {
         test_values(line)?;
     }
-    Ok((0, [0; 32]))
+    if kept {
+        Ok(put_kept(element, count, line, values))
+    } else {
+        *values = [0; 32];
+        Ok(0)
+    }
+}
+
+/// Puts the values of a line that count, in a month with so many days, and answers the word of their days. It isn't
+/// built into its caller, which most lines pass whose values aren't kept.
+#[inline(never)]
+fn put_kept(element: Element, count: u8, line: &[u8], values: &mut [i32; 32]) -> u32
+    requires long { 266 ≤ length line.now }
+    requires fine { months.days_why line.now ≡ None }
+    ensures { rows.AreDays (rows.line_value element count line.now) result values.new }
+{
+    put_values(line, values);
+    keep_from(least_of(element), count, values)
 }
 
 /// Refuses a line for the first day whose value is no number. It isn't built into its callers, which
@@ -129,8 +115,18 @@ fn has_bad_value(line: &[u8]) -> bool
 {
     match line.first_chunk() {
         Some(whole) => has_bad_value_in(whole),
-        None => has_bad_value_in(&with_blanks(line)),
+        None => has_bad_value_filled(line),
     }
+}
+
+/// The same of a line whose end leaves out columns, which few do.
+#[inline(never)]
+fn has_bad_value_filled(line: &[u8]) -> bool
+    requires short { length line.now < 269 }
+    requires long { 266 ≤ length line.now }
+    ensures { result ≡ false → months.days_why line.now ≡ None }
+{
+    has_bad_value_in(&with_blanks(line))
 }
 
 /// The same of a line with all its columns, two days at a time: the last one comes with the day before it.
@@ -145,47 +141,56 @@ fn has_bad_value_in(line: &[u8; COLUMNS]) -> bool
     !are_set(good & good_columns(last_two))
 }
 
-/// The values of a line that count, in a month with so many days, or which day's value, the first
-/// such one, is no number.
-fn days_of(element: Element, count: u8, line: &[u8]) -> Result<(u32, [i32; 32]), LineWhy>
-    requires { 266 ≤ length line.now }
-    ensures err { IfErr result (λ why. months.days_why line.now ≡ Some why) }
-    ensures fine { IfOk result (λ _. months.days_why line.now ≡ None) }
-    ensures days { IfOk result (λ row. rows.AreDays (rows.line_value element count line.now) row.0 row.1) }
-{
-    if has_bad_value(line) {
-        test_values(line)?;
-    }
-    Ok(values_from(least_of(element), count, &values_of(line)))
-}
-
-/// The values of a line whose values are numbers. `MISSING` stands for those that are missing or flagged.
-fn values_of(line: &[u8]) -> [i32; 32]
+/// Puts the values of the 31 days of a line whose values are numbers. `MISSING` stands for those that are missing or
+/// flagged.
+fn put_values(line: &[u8], values: &mut [i32; 32])
     requires long { 266 ≤ length line.now }
     requires fine { months.days_why line.now ≡ None }
-    ensures { rows.AreValues line.now result }
+    ensures { rows.AreValues line.now values.new }
 {
     match line.first_chunk() {
-        Some(whole) => values_in(whole),
-        None => values_in(&with_blanks(line)),
+        Some(whole) => values_in(whole, values),
+        None => put_filled_values(line, values),
     }
 }
 
-/// The same of a line with all its columns, four days at a time: the last four come with the one before them.
-fn values_in(line: &[u8; COLUMNS]) -> [i32; 32]
-    requires { months.days_why line.now ≡ None }
-    ensures { rows.AreValues line.now result }
+/// The same of a line whose end leaves out columns, which few do.
+#[inline(never)]
+fn put_filled_values(line: &[u8], values: &mut [i32; 32])
+    requires short { length line.now < 269 }
+    requires long { 266 ≤ length line.now }
+    requires fine { months.days_why line.now ≡ None }
+    ensures { rows.AreValues line.now values.new }
 {
-    let mut values = [MISSING; 32];
-    for part in 0..8_usize {
-        let day = (4 * part).min(DAYS - 4);
-        let four = four_numbers(four_groups(line, day), MISSING);
-        values[day] = four[0];
-        values[day + 1] = four[1];
-        values[day + 2] = four[2];
-        values[day + 3] = four[3];
+    values_in(&with_blanks(line), values);
+}
+
+/// The same of a line with all its columns, four days at a time. The last four come with the one before them, and
+/// first, so that the row's last lanes are written by the time that they are read.
+fn values_in(line: &[u8; COLUMNS], values: &mut [i32; 32])
+    requires { months.days_why line.now ≡ None }
+    ensures { rows.AreValues line.now values.new }
+{
+    put_four(line, DAYS - 4, values);
+    for part in 0..DAYS / 4 {
+        put_four(line, 4 * part, values);
     }
-    values
+}
+
+/// The same of four days, from one on.
+#[inline(always)]
+fn put_four(line: &[u8; COLUMNS], day: usize, values: &mut [i32; 32])
+    requires fine { months.days_why line.now ≡ None }
+    requires day { day < 28 }
+    ensures four { (j : ℕ) → day ≤ j → j < day + 4 → get_or values.new j (pos 0) ≡ rows.value_or_missing line.now j }
+    ensures others { (j : ℕ) → j < day → get_or values.new j (pos 0) ≡ get_or values.old j (pos 0) }
+    ensures behind { (j : ℕ) → day + 4 ≤ j → get_or values.new j (pos 0) ≡ get_or values.old j (pos 0) }
+{
+    let four = four_numbers(four_groups(line, day), MISSING);
+    values[day] = four[0];
+    values[day + 1] = four[1];
+    values[day + 2] = four[2];
+    values[day + 3] = four[3];
 }
 
 /// A line with the blanks that its end leaves out.
@@ -198,21 +203,20 @@ fn with_blanks(line: &[u8]) -> [u8; COLUMNS]
     whole
 }
 
-/// The word of the days of a month with so many whose value isn't below a least one, and these values,
-/// with 0 for the others. The 32nd place, which no month has, makes all places a whole number of lanes.
-fn values_from(least: i32, count: u8, values: &[i32; 32]) -> (u32, [i32; 32])
-    ensures { rows.AreDays (rows.value_from least count values.now) result.0 result.1 }
+/// Keeps the values of the days of a month with so many that aren't below a least one, puts 0 for the others, and
+/// answers the word of their days. The 32nd place, which no month has, makes all places a whole number of lanes.
+fn keep_from(least: i32, count: u8, values: &mut [i32; 32]) -> u32
+    ensures { rows.AreDays (rows.value_from least count values.old) result values.new }
 {
     let days = (count as u32).min(DAYS as u32);
     let mut word = 0;
-    let mut kept = [0; 32];
-    for day in 0..32 {
-        let place = day as u32;
-        let counts = (values[day] >= least) & (place < days);
+    for place in 0..32_u32 {
+        let value = values[place as usize];
+        let counts = (value >= least) & (place < days);
         word |= bit_if(counts, place);
-        kept[day] = value_if(counts, values[day], 0);
+        values[place as usize] = value_if(counts, value, 0);
     }
-    (word, kept)
+    word
 }
 
 /// A value, or another one.

@@ -2,7 +2,8 @@
 
 use crate::lines::line_of;
 use ghcn_files::{
-    Element, Keep, LineWhy, Reading, StationId, flagged_values, read_days, read_month,
+    Element, Keep, LineWhy, MonthReader, MonthRow, Reading, StationId, flagged_values, read_days,
+    read_month,
 };
 
 /// The station, the element, the year and the month of a line.
@@ -23,9 +24,26 @@ fn month_of(line: &[u8]) -> Result<Option<(Head, Three)>, LineWhy> {
 type Days = (u32, [i32; 5]);
 
 fn row_of(line: &[u8], keep: Keep) -> Result<Option<(Head, Days)>, LineWhy> {
-    let Some(it) = read_days(line, keep)? else {
-        return Ok(None);
-    };
+    match read_days(line, keep)? {
+        Some(row) => Ok(Some(shown(&row))),
+        None => Ok(None),
+    }
+}
+
+/// The same by a reader of one line after another.
+fn next_row(
+    months: &mut MonthReader,
+    line: &[u8],
+    keep: Keep,
+) -> Result<Option<(Head, Days)>, LineWhy> {
+    if months.read(line, keep)? {
+        Ok(Some(shown(months.row())))
+    } else {
+        Ok(None)
+    }
+}
+
+fn shown(it: &MonthRow) -> (Head, Days) {
     let values = [
         it.values[0],
         it.values[1],
@@ -34,7 +52,7 @@ fn row_of(line: &[u8], keep: Keep) -> Result<Option<(Head, Days)>, LineWhy> {
         it.values[30],
     ];
     let head = (it.id, it.element, it.year, it.month);
-    Ok(Some((head, (it.word, values))))
+    (head, (it.word, values))
 }
 
 const ID: StationId = StationId(*b"ZZA00000001");
@@ -220,6 +238,99 @@ fn rows_of_elements_that_are_kept(rt: HostRuntime) {
         assert_eq!(rt; Element::Tmax.is_kept(keep), is_kept, "for {keep:?}");
         let rows = [row_of(&july, keep), row_of(cut, keep)];
         assert_eq!(rt; rows, [Ok(Some((head, days))); 2], "at {keep:?}");
+    }
+}
+
+/// The groups of the first and the last day of lines.
+const TWO: [(usize, &[u8; 8]); 2] = [(1, b"  311   "), (31, b"  -15   ")];
+
+/// What a turn reads of a line: its beginning, its groups, how many columns it has, and what is expected.
+type Turn = (
+    &'static [u8; 21],
+    &'static [(usize, &'static [u8; 8])],
+    usize,
+    Result<Option<(Head, Days)>, LineWhy>,
+);
+
+const WARM: Days = (0x40000001, [311, 0, 0, 0, -15]);
+
+const JUNE: Days = (1, [311, 0, 0, 0, 0]);
+
+const WET: Days = (0x00000003, [0, 7, 0, 0, 0]);
+
+/// Lines of which most begin as the one before.
+const TURNS: [Turn; 12] = [
+    (
+        b"ZZA00000001202007TMAX",
+        &TWO,
+        269,
+        Ok(Some(((ID, Element::Tmax, 2020, 7), WARM))),
+    ),
+    (
+        b"ZZA00000001202007TMIN",
+        &[(2, b"    x   ")],
+        269,
+        Err(LineWhy::BadValue(2)),
+    ),
+    (
+        b"ZZA00000001202007PRCP",
+        &[(1, b"    0   "), (2, b"    7   ")],
+        269,
+        Ok(Some(((ID, Element::Prcp, 2020, 7), WET))),
+    ),
+    (b"ZZA00000001202007WESD", &TWO, 269, Ok(None)),
+    (b"ZZA00000001202007TMAX", &TWO, 265, Err(LineWhy::Short)),
+    (
+        b"ZZA00000001202007TMAX",
+        &TWO,
+        266,
+        Ok(Some(((ID, Element::Tmax, 2020, 7), WARM))),
+    ),
+    (
+        b"ZZA00000001202007TMIN",
+        &TWO,
+        270,
+        Ok(Some(((ID, Element::Tmin, 2020, 7), WARM))),
+    ),
+    (b"ZZA00000001202007TMAX", &TWO, 271, Err(LineWhy::TooLong)),
+    (b"ZZA00000001202000TMAX", &TWO, 269, Err(LineWhy::BadMonth)),
+    (
+        b"ZZA00000001202006TMAX",
+        &TWO,
+        269,
+        Ok(Some(((ID, Element::Tmax, 2020, 6), JUNE))),
+    ),
+    (
+        b"ZZA00000002202006TMAX",
+        &TWO,
+        269,
+        Ok(Some(((OTHER, Element::Tmax, 2020, 6), JUNE))),
+    ),
+    (b"ZZA00000002202006TMAX", &TWO, 20, Err(LineWhy::Short)),
+];
+
+const OTHER: StationId = StationId(*b"ZZA00000002");
+
+#[test]
+fn lines_one_after_another(rt: HostRuntime) {
+    let mut months = MonthReader::new();
+    for (turn, (head, groups, columns, expected)) in TURNS.iter().enumerate() {
+        let mut long = [b' '; 271];
+        long[270] = b'x';
+        long[..269].copy_from_slice(&line_of(head, groups));
+        let Some(line) = long.get(..*columns) else {
+            continue;
+        };
+        assert_eq!(rt;
+            next_row(&mut months, line, Keep::All),
+            *expected,
+            "turn {turn}"
+        );
+        assert_eq!(rt;
+            row_of(line, Keep::All),
+            *expected,
+            "turn {turn}, by itself"
+        );
     }
 }
 

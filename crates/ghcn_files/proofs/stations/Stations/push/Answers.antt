@@ -1,7 +1,5 @@
-use Rattle.std.proofs.Common.{◌≡◌, List, true, length, sym, ap, subst, ◌∙◌, arith}
-use Rattle.ghcn_files.specs.declared.station.Station.{Station}
-use Rattle.ghcn_files.specs.Listed.{place_of}
-use Rattle.ghcn_files.specs.KeptStations.{AreKeptBy, is_behind}
+use Rattle.std.proofs.Common.{sym, subst}
+use Rattle.ghcn_files.specs.KeptStations.{AreKeptBy}
 use Rattle.ghcn_files.proofs.stations.Stations.push.Goals as goal
 
 -- a station behind all that rise is kept with its key
