@@ -25,6 +25,7 @@ use Rattle.ghcn_series.specs.Says.{Fact, usable_facts, data_of}
 use Rattle.ghcn_description.specs.declared.counts.Description.{Description}
 use Rattle.ghcn_description.specs.declared.counts.ElementCounts.{ElementCounts}
 use Rattle.ghcn_description.specs.declared.describer.Describer.{Describer}
+use Rattle.ghcn_description.specs.declared.describer.RowDescriber.{RowDescriber}
 use Rattle.ghcn_description.specs.declared.files.FileDescriber.{FileDescriber}
 use Rattle.ghcn_description.specs.Described.{AreCounts, AreOthers, IsDescription}
 use Rattle.ghcn_description.specs.Lines.{unlisted_lines}
@@ -47,6 +48,10 @@ pub record HasDescribed (d : Describer) (stations : List Station) (keep : Keep) 
   pub with_days : d.with_days.items ≡ map (elements_with (usable_facts stations ls)) stations
   pub others : AreOthers ls d.others.counts.items d.others.further
   pub unlisted : d.unlisted ≡ unlisted_lines stations ls
+
+-- a describer of rows has read these lines so
+abbrev pub HasDescribedByRows : RowDescriber → List Station → Keep → List FileLine → Type 0
+HasDescribedByRows r stations keep ls = HasDescribed r.describer stations keep ls
 
 -- a describer counts a month of the station at this place of the list
 pub record CountsAt (old new : Describer) (place : ℕ) (m : Month) : Type 0 where
@@ -87,7 +92,7 @@ pub record Describes (stations : List Station) (files : List (List ℕ)) (d : De
 
 -- a describer was fed this
 abbrev pub HasFed : FileDescriber → Fed → Type 0
-HasFed r fed = cut.HasFed HasDescribed r.cutter fed
+HasFed r fed = cut.HasFed HasDescribedByRows r.cutter fed
 
 -- what a describer was fed: some bytes of some files
 abbrev pub HasFedSome : FileDescriber → Type 0

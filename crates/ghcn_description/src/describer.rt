@@ -14,7 +14,7 @@ use crate::elements::{no_counts, place_of};
 use crate::others::{Others, shown_code};
 use crate::{Description, ElementCounts};
 use ghcn_fields::Memory;
-use ghcn_files::{Keep, MonthRow, Stations, flagged_values, read_days};
+use ghcn_files::{Keep, MonthReader, MonthRow, Stations, flagged_values};
 use ghcn_series::{DailyWhy, DataFault, LineCounts, LineKind, LineReader, Reader};
 use std::alloc::Global;
 
@@ -32,10 +32,18 @@ pub struct Describer {
     unlisted: u64,
 }
 
-impl LineReader for Describer {
-    ghost use Rattle.ghcn_description.specs.Describing.{HasDescribed};
+/// Reads lines as rows, and counts what stands on them.
+#[derive(Drop)]
+pub struct RowDescriber {
+    months: MonthReader,
+    /// What was counted so far.
+    pub(crate) describer: Describer,
+}
 
-    ghost has_read = { HasDescribed };
+impl LineReader for RowDescriber {
+    ghost use Rattle.ghcn_description.specs.Describing.{HasDescribedByRows};
+
+    ghost has_read = { HasDescribedByRows };
 
     fn add(
         &mut self,
@@ -44,20 +52,32 @@ impl LineReader for Describer {
         line: u64,
         bytes: &[u8],
     ) -> Result<LineKind, DataFault> {
-        let row = match read_days(bytes, Keep::All) {
-            Ok(Some(row)) => row,
-            Ok(None) => {
-                return match self.others.add(shown_code(bytes)) {
+        match self.months.read(bytes, Keep::All) {
+            Ok(true) => {}
+            Ok(false) => {
+                return match self.describer.others.add(shown_code(bytes)) {
                     Ok(()) => Ok(LineKind::Other),
                     Err(memory) => Err(DataFault::Memory(memory)),
                 };
             }
             Err(why) => return Err(refused(file, line, DailyWhy::Line(why))),
-        };
-        match self.add_month(alloc, bytes, &row) {
+        }
+        match self.describer.add_month(alloc, bytes, self.months.row()) {
             Ok(true) => Ok(LineKind::OfElement),
             Ok(false) => Err(refused(file, line, DailyWhy::DuplicateMonth)),
             Err(memory) => Err(DataFault::Memory(memory)),
+        }
+    }
+}
+
+impl RowDescriber {
+    /// Nothing counted but what a describer has counted.
+    pub(crate) fn of(describer: Describer) -> Self
+        ensures { result.describer ≡ describer }
+    {
+        RowDescriber {
+            months: MonthReader::new(),
+            describer,
         }
     }
 }

@@ -6,7 +6,7 @@ ghost use Rattle.ghcn_series.specs.Fed.{IsOfMemory, nothing_fed};
 ghost use Rattle.ghcn_description.specs.Describing as describing;
 
 use crate::Description;
-use crate::describer::Describer;
+use crate::describer::{Describer, RowDescriber};
 use ghcn_files::Stations;
 use ghcn_series::{Cutter, DataFault};
 use std::alloc::Global;
@@ -15,7 +15,7 @@ use std::alloc::Global;
 /// the end: lines that come behind it aren't looked at, but their files are counted.
 #[derive(Drop)]
 pub struct FileDescriber {
-    cutter: Cutter<Describer>,
+    cutter: Cutter<RowDescriber>,
 }
 
 impl FileDescriber {
@@ -27,7 +27,7 @@ impl FileDescriber {
     {
         match Describer::new(alloc, stations) {
             Ok(reader) => Ok(FileDescriber {
-                cutter: Cutter::new(alloc, reader),
+                cutter: Cutter::new(alloc, RowDescriber::of(reader)),
             }),
             Err(memory) => Err(DataFault::Memory(memory)),
         }
@@ -59,6 +59,6 @@ impl FileDescriber {
         ensures err { IfErr result (describing.RefusesFed self) }
     {
         let all = self.cutter.finish()?;
-        Ok(all.reader.finish(all.files, &all.counts))
+        Ok(all.reader.describer.finish(all.files, &all.counts))
     }
 }

@@ -17,7 +17,7 @@ use Rattle.std.proofs.lemmas.Nat.Bits.{bit_at_cat_low, bit_at_cat_high, bit_at-z
 use Rattle.ghcn_fields.specs.Days.{is_day, block_of}
 use Rattle.ghcn_series.specs.Series.{DayValue, value_on}
 use Rattle.ghcn_series.specs.Packed.{Block, block_start, value_at, days_from, block_days, IsPacked}
-use Rattle.ghcn_series.specs.Parts.{AreNew, AreJoined, day_of, row_days, IsRow, IsPartOf, HasBitsOf}
+use Rattle.ghcn_series.specs.Parts.{AreNew, AreJoined, day_of, row_days, IsRow, IsValueFrom, HasBitsOf}
 use Rattle.ghcn_series.proofs.Lookups.{from-value, from-other, block-value, block-other, block-holds, or_none, at_day}
 use Rattle.ghcn_series.proofs.JoinedDays.{same_block, or_assoc}
 
@@ -25,6 +25,10 @@ use Rattle.ghcn_series.proofs.JoinedDays.{same_block, or_assoc}
 some_either : (a b : Option ℤ) → IsSome a → IsSome (option_or a b)
 some_either None b some = absurd cc
 some_either (Some x) b some = some
+
+-- the values that a row has in the block so many places behind the one where it begins
+abbrev pub IsPartOf : List ℤ → ℕ → ℕ → List ℤ → Type 0
+IsPartOf values place offset part = (j : ℕ) → j < 32 → IsValueFrom values place (j + offset) (get_or part j (pos 0))
 
 -- a block has what a row has so many places behind the begin of the block where the row begins
 pub record IsPart (first : ℤ) (place w : ℕ) (vs : List ℤ) (offset : ℕ) (b : Block) : Type 0 where
@@ -235,43 +239,44 @@ zero_at (z ∷ zs) all zero = sym ((Decides-int_eq (pos 0) z).0
     (and_parts (int_eq (pos 0) z) (list_all (int_eq (pos 0)) zs) all).0)
 zero_at (z ∷ zs) all (suc j) = zero_at zs (and_parts (int_eq (pos 0) z) (list_all (int_eq (pos 0)) zs) all).1 j
 
-module _ (vs zs : List ℤ) (place : ℕ) (below : place < 32) (whole : length vs ≡ 32) (long : length zs ≡ 32)
-    (none : (j : ℕ) → get_or zs j (pos 0) ≡ pos 0) where
-  -- the first values of a row, at the end of a block
-  pub first-values : (ys rest : List ℤ) → ys ≡ take (32 - place) vs
-      → IsPartOf vs place 0 (take place zs ++ (ys ++ rest))
-  first-values ys rest is j lt =
-      let before : length (take place zs) ≡ place = grind (arith, common_steps, long) in
-      let own : length ys ≡ 32 - place = ap (λ (l : List ℤ). length l) is ∙ grind (arith, common_steps, whole) in
-      record {
-        before = λ less.
-            get_or_append_left (take place zs) (ys ++ rest) (pos 0) j (omega (arith, before))
-            ∙ get_or-take place zs j (pos 0) (omega arith)
-            ∙ none j;
-        behind = λ more. absurd (omega arith);
-        within = λ k less at.
-            let here : j - place ≡ k = omega arith in
-            get_or-append_right (take place zs) (ys ++ rest) place j (pos 0) before (omega arith)
-            ∙ get_or_append_left ys rest (pos 0) (j - place) (omega (arith, own))
-            ∙ ap (λ (l : List ℤ). get_or l (j - place) (pos 0)) is
-            ∙ get_or-take (32 - place) vs (j - place) (pos 0) (omega arith)
-            ∙ ap (λ (i : ℕ). get_or vs i (pos 0)) here;
-      }
+-- a row between zeros stands at its place
+pub placed-row : (vs zs ys rest : List ℤ) (place : ℕ) → place < 32 → length vs ≡ 32 → length zs ≡ 64 → ys ≡ vs
+    → ((j : ℕ) → get_or zs j (pos 0) ≡ pos 0) → ((j : ℕ) → get_or rest j (pos 0) ≡ pos 0) → (at : ℕ)
+    → IsValueFrom vs place at (get_or (take place zs ++ (ys ++ rest)) at (pos 0))
+placed-row vs zs ys rest place below whole long is none more-none at =
+    let before : length (take place zs) ≡ place = grind (arith, common_steps, long) in
+    let own : length ys ≡ 32 = ap (λ (l : List ℤ). length l) is ∙ whole in
+    record {
+      before = λ less.
+          get_or_append_left (take place zs) (ys ++ rest) (pos 0) at (omega (arith, before))
+          ∙ get_or-take place zs at (pos 0) less
+          ∙ none at;
+      behind = λ more.
+          get_or-append_right (take place zs) (ys ++ rest) place at (pos 0) before (omega arith)
+          ∙ get_or-append_right ys rest 32 (at - place) (pos 0) own (omega arith)
+          ∙ more-none (at - place - 32);
+      within = λ k less at_is.
+          let here : at - place ≡ k = omega arith in
+          get_or-append_right (take place zs) (ys ++ rest) place at (pos 0) before (omega arith)
+          ∙ get_or_append_left ys rest (pos 0) (at - place) (omega (arith, own))
+          ∙ ap (λ (l : List ℤ). get_or l (at - place) (pos 0)) is
+          ∙ ap (λ (i : ℕ). get_or vs i (pos 0)) here;
+    }
 
-  -- its last values, at the begin of the next one
-  pub second-values : (ys : List ℤ) → ys ≡ drop (32 - place) vs → IsPartOf vs place 32 (ys ++ drop place zs)
-  second-values ys is j lt =
-      let own : length ys ≡ place = ap (λ (l : List ℤ). length l) is ∙ grind (arith, common_steps, whole) in
-      record {
-        before = λ less. absurd (omega arith);
-        behind = λ more.
-            get_or-append_right ys (drop place zs) place j (pos 0) own (omega arith)
-            ∙ get_or-drop place zs (j - place) (pos 0)
-            ∙ none (place + (j - place));
-        within = λ k less at.
-            let here : 32 - place + j ≡ k = omega arith in
-            get_or_append_left ys (drop place zs) (pos 0) j (omega (arith, own))
-            ∙ ap (λ (l : List ℤ). get_or l j (pos 0)) is
-            ∙ get_or-drop (32 - place) vs j (pos 0)
-            ∙ ap (λ (i : ℕ). get_or vs i (pos 0)) here;
-      }
+-- the first block of two has its part of a row
+pub first-part : (vs both xs : List ℤ) (place : ℕ) → xs ≡ take 32 both
+    → ((at : ℕ) → at < 64 → IsValueFrom vs place at (get_or both at (pos 0))) → IsPartOf vs place 0 xs
+first-part vs both xs place is stands j lt =
+    let at : get_or both (j + 0) (pos 0) ≡ get_or xs j (pos 0) =
+    ap (λ (i : ℕ). get_or both i (pos 0)) (omega arith) ∙ sym (get_or-take 32 both j (pos 0) lt)
+    ∙ sym (ap (λ (l : List ℤ). get_or l j (pos 0)) is) in
+    subst (IsValueFrom vs place (j + 0)) at (stands (j + 0) (omega arith))
+
+-- and so has the second
+pub second-part : (vs both xs : List ℤ) (place : ℕ) → xs ≡ drop 32 both
+    → ((at : ℕ) → at < 64 → IsValueFrom vs place at (get_or both at (pos 0))) → IsPartOf vs place 32 xs
+second-part vs both xs place is stands j lt =
+    let at : get_or both (j + 32) (pos 0) ≡ get_or xs j (pos 0) =
+    ap (λ (i : ℕ). get_or both i (pos 0)) (omega arith) ∙ sym (get_or-drop 32 both j (pos 0))
+    ∙ sym (ap (λ (l : List ℤ). get_or l j (pos 0)) is) in
+    subst (IsValueFrom vs place (j + 32)) at (stands (j + 32) (omega arith))

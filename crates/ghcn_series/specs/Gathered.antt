@@ -19,6 +19,7 @@ use Rattle.ghcn_files.specs.Rows.{no_reading}
 use Rattle.ghcn_series.specs.declared.gathering.Gathering.{Gathering}
 use Rattle.ghcn_series.specs.declared.station.StationGathering.{StationGathering}
 use Rattle.ghcn_series.specs.declared.reader.Reader.{Reader}
+use Rattle.ghcn_series.specs.declared.rows.RowReader.{RowReader}
 use Rattle.ghcn_series.specs.declared.fault.DataFault.{DataFault}
 use Rattle.ghcn_series.specs.declared.fault.DataFault.TheVariants.{TooManyFiles, DailyLine, Memory}
 use Rattle.ghcn_series.specs.Series.{DayValue, Usable, value_on, by_day}
@@ -129,6 +130,10 @@ pub record HasReadFor (r : Reader) (stations : List Station) (keep : Keep) (ls :
   pub listed : r.stations ≡ stations
   pub kept : r.keep ≡ keep
   pub read : HasReadLines r ls
+
+-- a reader of rows has read these lines so
+abbrev pub HasReadByRows : RowReader → List Station → Keep → List FileLine → Type 0
+HasReadByRows r stations keep ls = HasReadFor r.reader stations keep ls
 
 -- want of memory, or the fault of the first line that has one
 abbrev pub IsLineRefusal : List Station → List FileLine → DataFault → Type 0

@@ -116,10 +116,6 @@ pub record IsValueFrom (values : List ℤ) (place at : ℕ) (v : ℤ) : Type 0 w
   pub behind : place + 32 ≤ at → v ≡ pos 0
   pub within : (k : ℕ) → k < 32 → k + place ≡ at → v ≡ get_or values k (pos 0)
 
--- the values that a row has in the block so many places behind the one where it begins
-abbrev pub IsPartOf : List ℤ → ℕ → ℕ → List ℤ → Type 0
-IsPartOf values place offset part = (j : ℕ) → j < 32 → IsValueFrom values place (j + offset) (get_or part j (pos 0))
-
 -- the same of a bit of its word
 pub record HasBitFrom (word place at bit : ℕ) : Type 0 where
   pub before : at < place → bit ≡ 0

@@ -5,14 +5,14 @@ use Rattle.ghcn_series.specs.declared.fault.DataFault.{DataFault}
 use Rattle.ghcn_series.specs.declared.pieces.DataReader.{DataReader}
 use Rattle.ghcn_series.specs.Cut as cut
 use Rattle.ghcn_series.specs.Fed.{Fed, files_of}
-use Rattle.ghcn_series.specs.Gathered.{HasReadFor}
+use Rattle.ghcn_series.specs.Gathered.{HasReadByRows}
 use Rattle.ghcn_series.specs.Kept.{AreKept}
 use Rattle.ghcn_series.specs.LineKinds.{foreign_of}
 use Rattle.ghcn_series.specs.Series.{Contents}
 
 -- a reader was fed this
 abbrev pub HasFed : DataReader → Fed → Type 0
-HasFed r fed = cut.HasFed HasReadFor r.cutter fed
+HasFed r fed = cut.HasFed HasReadByRows r.cutter fed
 
 -- what a reader was fed: some bytes of some files
 abbrev pub HasFedSome : DataReader → Type 0
@@ -20,11 +20,11 @@ HasFedSome r = (fed : Fed) × HasFed r fed
 
 -- a reader takes more bytes of the current file
 abbrev pub TakesPiece : DataReader → DataReader → List ℕ → Type 0
-TakesPiece old new bytes = cut.TakesPiece HasReadFor old.cutter new.cutter bytes
+TakesPiece old new bytes = cut.TakesPiece HasReadByRows old.cutter new.cutter bytes
 
 -- a reader ends the current file
 abbrev pub EndsFile : DataReader → DataReader → Type 0
-EndsFile old new = cut.EndsFile HasReadFor old.cutter new.cutter
+EndsFile old new = cut.EndsFile HasReadByRows old.cutter new.cutter
 
 -- these are the foreign files among those that a reader was fed
 pub record AreForeignOf (r : DataReader) (foreign : Foreign) : Type 0 where
@@ -36,4 +36,4 @@ pub record HoldsFed (r : DataReader) (held : Contents) : Type 0 where
 
 -- want of memory, or the first fault of the files that a reader was fed
 abbrev pub RefusesFed : DataReader → DataFault → Type 0
-RefusesFed r fault = cut.RefusesFed HasReadFor r.cutter fault
+RefusesFed r fault = cut.RefusesFed HasReadByRows r.cutter fault

@@ -15,6 +15,7 @@ mod months;
 mod parts;
 mod pieces;
 mod reader;
+mod rows;
 mod series;
 mod station;
 

@@ -1,6 +1,6 @@
 //! Columns while days are added to them.
 
-ghost use Rattle.std.specs.Prelude.{◌≡◌, ◌<◌, ◌-◌, ◌==◌, ◌&&◌, ◌||◌, pos, ◌+ℤ◌};
+ghost use Rattle.std.specs.Prelude.{◌≡◌, ◌<◌, ◌-◌, ◌==◌, ◌&&◌, ◌||◌, pos, ◌+ℤ◌, ℕ, get_or, take, drop};
 ghost use Rattle.std.specs.Prelude.{IfOk, OnOk, IsTrue};
 ghost use Rattle.std.specs.Prelude.{nat_lt, int_lt, length, slice_index_or};
 ghost use Rattle.std.specs.Ordering.{int_eq};
@@ -81,9 +81,11 @@ impl Parts {
     {
         let low = low_bits(word, place);
         let high = high_bits(word, place);
-        let (first, second) = in_two_blocks(values, place);
-        self.add_part(number, low, &first)?;
-        self.add_part(number + 1, high, &second)
+        let mut both = [0; 64];
+        put_row(values, place, &mut both);
+        let (first, second) = (first_of(&both), second_of(&both));
+        self.add_part(number, low, first)?;
+        self.add_part(number + 1, high, second)
     }
 
     /// Whether there are none.
@@ -232,19 +234,31 @@ fn joined(values: &[i32; 32], more: &[i32; 32]) -> [i32; 32]
     both
 }
 
-/// The values of a row that begins at a place of a block, in that block and in the next one.
-fn in_two_blocks(values: &[i32; 32], place: u32) -> ([i32; 32], [i32; 32])
-    requires { place < 32 }
-    ensures first { parts.IsPartOf values.now place 0 result.0 }
-    ensures second { parts.IsPartOf values.now place 32 result.1 }
+/// Puts a row that begins at a place of a block into that block and the next one, which have no days yet. All 32
+/// values are copied at once, since copies of other lengths would be calls.
+fn put_row(values: &[i32; 32], place: u32, both: &mut [i32; 64])
+    requires place { place < 32 }
+    requires zeros { (at : ℕ) → get_or both.old at (pos 0) ≡ pos 0 }
+    ensures { (at : ℕ) → at < 64 → parts.IsValueFrom values.now place at (get_or both.new at (pos 0)) }
 {
     let place = place as usize;
-    let (here, beyond) = values.split_at(32 - place);
-    let mut first = [0; 32];
-    let mut second = [0; 32];
-    first[place..].copy_from_slice(here);
-    second[..place].copy_from_slice(beyond);
-    (first, second)
+    both[place..place + 32].copy_from_slice(values);
+}
+
+/// The first of two blocks.
+#[inline(always)]
+fn first_of(both: &[i32; 64]) -> &[i32; 32]
+    ensures { result.now ≡ take 32 both.now }
+{
+    both.first_chunk().unwrap()
+}
+
+/// The second of two blocks.
+#[inline(always)]
+fn second_of(both: &[i32; 64]) -> &[i32; 32]
+    ensures { result.now ≡ drop 32 both.now }
+{
+    both.last_chunk().unwrap()
 }
 
 /// The bits of a row in the block where it begins.

@@ -8,6 +8,7 @@ ghost use Rattle.ghcn_series.specs.Pieces as pieces;
 use crate::counts::Foreign;
 use crate::cutter::Cutter;
 use crate::reader::Reader;
+use crate::rows::RowReader;
 use crate::{Data, DataFault};
 use ghcn_files::{Element, Keep, Stations};
 use std::alloc::Global;
@@ -17,7 +18,7 @@ use std::alloc::Global;
 #[derive(Drop)]
 pub struct DataReader {
     alloc: Global,
-    cutter: Cutter<Reader>,
+    cutter: Cutter<RowReader>,
 }
 
 impl DataReader {
@@ -52,7 +53,7 @@ impl DataReader {
         match Reader::new(alloc, stations, keep) {
             Ok(reader) => Ok(DataReader {
                 alloc,
-                cutter: Cutter::new(alloc, reader),
+                cutter: Cutter::new(alloc, RowReader::of(reader)),
             }),
             Err(memory) => Err(DataFault::Memory(memory)),
         }
@@ -85,7 +86,7 @@ impl DataReader {
         ensures err { IfErr result (pieces.RefusesFed self) }
     {
         let all = self.cutter.finish()?;
-        match all.reader.finish(self.alloc) {
+        match all.reader.reader.finish(self.alloc) {
             Ok(dataset) => Ok((dataset, all.counts.foreign)),
             Err(memory) => Err(DataFault::Memory(memory)),
         }

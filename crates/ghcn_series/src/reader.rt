@@ -20,7 +20,7 @@ use std::mem;
 #[derive(Drop)]
 pub struct Reader {
     /// Of which elements the days are kept.
-    keep: Keep,
+    pub(crate) keep: Keep,
     stations: Stations,
     /// Of each listed station, in their order.
     gathered: Vec<StationGathering>,
@@ -151,7 +151,7 @@ impl Reader {
 }
 
 /// The fault of a line.
-fn refused(file: u64, line: u64, why: DailyWhy) -> DataFault
+pub(crate) fn refused(file: u64, line: u64, why: DailyWhy) -> DataFault
     ensures { result ≡ DataFault.DailyLine file line why }
 {
     DataFault::DailyLine { file, line, why }

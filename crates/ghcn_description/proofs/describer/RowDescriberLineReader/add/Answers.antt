@@ -1,0 +1,42 @@
+use Rattle.std.proofs.Common.{◌≡◌, Ok, None, refl, sym, subst}
+use Rattle.ghcn_files.specs.declared.element.Keep.TheVariants.{All, Nothing}
+use Rattle.ghcn_files.specs.Months.{read_month}
+use Rattle.ghcn_files.specs.Rows.{IsOfLine}
+use Rattle.ghcn_series.specs.DailyFaults.{file_line}
+use Rattle.ghcn_series.proofs.ReadLines.{read-passed, other_kind}
+use Rattle.ghcn_description.specs.Steps.{CountsCode}
+use Rattle.ghcn_description.proofs.DescribedLines.{counted-other}
+use Rattle.ghcn_description.proofs.describer.RowDescriberLineReader.add.Goals as goal
+
+-- a line of another code
+pub returns-in-Ok-clause-kind : goal.returns-in-Ok-clause-kind
+returns-in-Ok-clause-kind c =
+    other_kind c.args.bytes.now (rw c.in-Ok-false.field-0-test at c.in-Ok-false.ensures) c.requires.some
+
+-- it is counted
+pub returns-in-Ok-clause-read : goal.returns-in-Ok-clause-read
+returns-in-Ok-clause-read c =
+    let is : read_month c.args.bytes.now ≡ Ok None = rw c.in-Ok-false.field-0-test at c.in-Ok-false.ensures in
+    let adds = subst (CountsCode c.args.self.now.describer.others c.add.new.self) c.shown_code.ensures
+    c.in-Ok.ensures in
+    record {
+      holds = λ stations keep before of.
+          counted-other stations keep before (file_line c.args.file (c.args.line, c.args.bytes.now)) is
+          c.args.self.now.describer c.args.self.now.describer.reader c.add.new.self
+          (read-passed c.args.self.now.describer.reader (file_line c.args.file (c.args.line, c.args.bytes.now)) is
+          stations Nothing before of.read) adds of;
+    }
+
+-- the row is that of the line
+pub add_month-requires-clause-row : goal.add_month-requires-clause-row
+add_month-requires-clause-row c =
+    subst (IsOfLine All c.args.bytes.now) (sym c.row.ensures) (rw c.in-Ok-true.field-0-test at c.in-Ok-true.ensures)
+
+-- a month of an earlier line is refused
+pub returns-in-Ok-false-add_month-clause-fault : goal.returns-in-Ok-false-add_month-clause-fault
+returns-in-Ok-false-add_month-clause-fault c =
+    rw c.refused-in-Ok-false-add_month.ensures (record {
+      first = λ stations keep before of.
+          c.in-Ok-false-add_month.ensures.refused stations keep before
+          (file_line c.args.file (c.args.line, c.args.bytes.now)) refl of c.in-Ok-false-add_month.field-0-test;
+    })

@@ -1,0 +1,46 @@
+use Rattle.std.proofs.Common.{◌≡◌, Ok, None, sym, subst}
+use Rattle.ghcn_files.specs.Months.{read_month}
+use Rattle.ghcn_files.specs.Rows.{IsOfLine}
+use Rattle.ghcn_series.proofs.ReadLines.{read-passed, read-month, refused-month, other_kind, element_kind}
+use Rattle.ghcn_series.proofs.rows.RowReaderLineReader.add.Goals as goal
+
+-- a line of none of the elements is passed over
+pub returns-in-Ok-false-clause-read : goal.returns-in-Ok-false-clause-read
+returns-in-Ok-false-clause-read c =
+    let is : read_month c.args.bytes.now ≡ Ok None = rw c.in-Ok-false.field-0-test at c.in-Ok-false.ensures in
+    record { holds = λ stations keep before read. read-passed c.args.self.now.reader _ is stations keep before read }
+
+-- which has another code
+pub returns-in-Ok-false-clause-kind : goal.returns-in-Ok-false-clause-kind
+returns-in-Ok-false-clause-kind c =
+    other_kind c.args.bytes.now (rw c.in-Ok-false.field-0-test at c.in-Ok-false.ensures) c.requires.some
+
+-- a new month is read
+pub returns-in-Ok-true-add_month-clause-read : goal.returns-in-Ok-true-add_month-clause-read
+returns-in-Ok-true-add_month-clause-read c =
+    let of = IsOfLine c.args.self.now.reader.keep c.args.bytes.now in
+    let is = subst of (sym c.row.ensures) (rw c.in-Ok-true.field-0-test at c.in-Ok-true.ensures) in
+    let adds = rw c.in-Ok-true-add_month.field-0-test at c.in-Ok-true-add_month.ensures.added in
+    record {
+      holds = λ stations keep before read. read-month c.args.self.now.reader c.add_month.new.self _ is.month is.read
+          c.add_month.ensures.stations c.add_month.ensures.keep (adds is.month is.right is.row)
+          stations keep before read;
+    }
+
+-- of one of the elements
+pub returns-in-Ok-true-add_month-clause-kind : goal.returns-in-Ok-true-add_month-clause-kind
+returns-in-Ok-true-add_month-clause-kind c =
+    let is : IsOfLine c.args.self.now.reader.keep c.args.bytes.now c.read.new.self.row =
+    rw c.in-Ok-true.field-0-test at c.in-Ok-true.ensures in
+    element_kind c.args.bytes.now is.month is.read c.requires.some
+
+-- a month of an earlier line is refused
+pub returns-in-Ok-false-add_month-clause-fault : goal.returns-in-Ok-false-add_month-clause-fault
+returns-in-Ok-false-add_month-clause-fault c =
+    let of = IsOfLine c.args.self.now.reader.keep c.args.bytes.now in
+    let is = subst of (sym c.row.ensures) (rw c.in-Ok-true.field-0-test at c.in-Ok-true.ensures) in
+    let adds = rw c.in-Ok-false-add_month.field-0-test at c.in-Ok-false-add_month.ensures.added in
+    rw c.refused-in-Ok-false-add_month.ensures (record {
+      first = λ stations keep before read. refused-month c.args.self.now.reader
+          c.add_month.new.self _ is.month is.read (adds is.month is.right is.row) stations keep before read;
+    })
