@@ -8,6 +8,7 @@ pub mod DecimalTexts
 pub mod FieldNumbers
 pub mod Digits
 pub mod Decimals
+pub mod WholeParts
 pub mod FirstLine
 pub mod Examples
 pub mod FieldsByForm

@@ -1,13 +1,14 @@
 //! Number fields. In the readme's fixed-width records a number ends in its field's last column.
 
-ghost use Rattle.std.specs.Prelude.{◌≡◌, ◌↔◌, ◌≤◌, ◌^◌, ℤ, length, All, Some, IfSome, FitsSigned};
+ghost use Rattle.std.specs.Prelude.{◌≡◌, ◌↔◌, ◌≤◌, ◌^◌, ◌==◌, ℤ, length, drop, get_or, true, false, All};
+ghost use Rattle.std.specs.Prelude.{Some, None, IfSome, FitsSigned};
+ghost use Rattle.std.specs.Char.{is_ascii_digit};
 ghost use Rattle.std.specs.Int.{w32};
+ghost use Rattle.std.specs.List.{before_first, position_or_len};
 ghost use Rattle.std.specs.Option.{option_map};
 ghost use Rattle.ghcn_fields.specs.Bytes.{blank_byte};
 ghost use Rattle.ghcn_fields.specs.Fields.{HasNumber};
 ghost use Rattle.ghcn_fields.specs.Numbers as numbers;
-
-use memchr::memchr;
 
 /// What a number field holds.
 #[derive(Clone, Copy, Debug, PartialEq, Eq)]
@@ -88,26 +89,75 @@ fn small_decimal(text: &[u8], places: u8) -> Option<u64>
     requires { places ≤ 4 }
     ensures { result ≡ numbers.up_to (2 ^ 31) (numbers.decimal_number places text.now) }
 {
-    match memchr(b'.', text) {
-        None => small(small_natural(text)? * 10_u64.pow(places as u32)),
-        Some(point) => small_joined(&text[..point], &text[point + 1..], places),
+    match whole_part(text)? {
+        (whole, [_, part @ ..]) => small_joined(whole, part, places),
+        (whole, []) => small(whole * units(places)),
     }
 }
 
-/// The number with these digits before its point and these behind it.
-fn small_joined(whole: &[u8], part: &[u8], places: u8) -> Option<u64>
-    requires { places ≤ 4 }
+/// The number of the digits before the point of a text, or of all where it has none, where it is at most `GREATEST`;
+/// and what follows these digits.
+fn whole_part(text: &[u8]) -> Option<(u64, &[u8])>
+    ensures number { option_map (λ found. found.0) result
+        ≡ numbers.up_to (2 ^ 31) (numbers.natural (before_first (λ b. b == 46) text.now)) }
+    ensures rest { IfSome result (λ found. found.1.now ≡ drop (position_or_len (λ b. b == 46) text.now) text.now) }
+{
+    if !begins_with_digit(text) {
+        return None;
+    }
+    let mut value: u64 = 0;
+    for (place, byte) in text.iter().enumerate() {
+        if *byte == b'.' {
+            return Some((value, &text[place..]));
+        }
+        if !byte.is_ascii_digit() {
+            return None;
+        }
+        value = value * 10 + (*byte - b'0') as u64;
+        if value > GREATEST {
+            return None;
+        }
+    }
+    Some((value, &[]))
+}
+
+/// Whether a text begins with a digit.
+fn begins_with_digit(text: &[u8]) -> bool
+    ensures some { result ≡ true → (1 ≤ length text.now) × (is_ascii_digit (get_or text.now 0 0) ≡ true) }
+    ensures none { result ≡ false → numbers.natural (before_first (λ b. b == 46) text.now) ≡ None }
+{
+    match text {
+        [first, ..] => first.is_ascii_digit(),
+        [] => false,
+    }
+}
+
+/// The number with so many units before its point and these digits behind it.
+fn small_joined(whole: u64, part: &[u8], places: u8) -> Option<u64>
+    requires few { places ≤ 4 }
+    requires small { whole ≤ 2 ^ 31 }
     ensures { result ≡ numbers.up_to (2 ^ 31)
-        (numbers.joined places (numbers.natural whole.now) (numbers.natural part.now) (length part.now)) }
+        (numbers.joined places (Some whole) (numbers.natural part.now) (length part.now)) }
 {
     if part.len() > places as usize {
         return None;
     }
-    let missing = places as u32 - part.len() as u32;
-    small(
-        small_natural(whole)? * 10_u64.pow(places as u32)
-            + small_natural(part)? * 10_u64.pow(missing),
-    )
+    let missing = places - part.len() as u8;
+    small(whole * units(places) + small_natural(part)? * units(missing))
+}
+
+/// How many units of the last of so many places are one.
+fn units(places: u8) -> u64
+    requires { places ≤ 4 }
+    ensures { result ≡ 10 ^ places }
+{
+    match places {
+        0 => 1,
+        1 => 10,
+        2 => 100,
+        3 => 1000,
+        _ => 10_000,
+    }
 }
 
 fn small(number: u64) -> Option<u64>

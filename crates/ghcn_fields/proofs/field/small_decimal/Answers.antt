@@ -1,17 +1,25 @@
-use Rattle.std.proofs.Common.{arith, rules}
-use Rattle.std.proofs.lemmas.Grind.{common_steps}
-use Rattle.std.proofs.lemmas.Bool.Decides.{nat_tests}
-use Rattle.ghcn_fields.proofs.Decimals.{decimal_number-whole, decimal_number-point, units_over, up_to-some}
+use Rattle.std.proofs.Common.{◌∙◌, ◌^◌, sym}
+use Rattle.ghcn_fields.proofs.WholeParts.{no_number, number_whole, number_joined}
 use Rattle.ghcn_fields.proofs.field.small_decimal.Goals as goal
 
--- without a point the text has to be digits, and not too great
-pub returns-in_err-small_natural-in-None : goal.returns-in_err-small_natural-in-None
-returns-in_err-small_natural-in-None c = search (rules, decimal_number-whole, units_over)
+-- without a whole part there is no number
+pub returns-in_err-whole : goal.returns-in_err-whole
+returns-in_err-whole c =
+    c.from_residual.ensures
+    ∙ sym (no_number c.args.places (2 ^ 31) c.args.text.now (sym c.in_err-whole.ensures.number))
 
--- then it is whole units
-pub returns-in_ok-small_natural-in-None : goal.returns-in_ok-small_natural-in-None
-returns-in_ok-small_natural-in-None c = search (rules, decimal_number-whole, up_to-some)
+-- without a point the digits are whole units
+pub returns-in_default-empty : goal.returns-in_default-empty
+returns-in_default-empty c =
+    let whole = c.in_ok-whole.field-0.0 in
+    let is = number_whole c.args.places (2 ^ 31) whole c.args.text.now c.in_ok-whole.field-0.1.now
+    c.in_ok-whole.ensures.number c.in_ok-whole.ensures.rest c.in_default-empty.len_below in
+    rw (is, sym c.units.ensures) c.small.ensures
 
--- with a point there are two parts
-pub returns-in-Some : goal.returns-in-Some
-returns-in-Some c = grind (arith, common_steps, nat_tests, decimal_number-point)
+-- with one there is a part behind it
+pub returns-in_default-len1-up : goal.returns-in_default-len1-up
+returns-in_default-len1-up c =
+    let whole = c.in_ok-whole.field-0.0 in
+    let is = number_joined c.args.places (2 ^ 31) whole c.args.text.now c.in_ok-whole.field-0.1.now
+    c.in_ok-whole.ensures.number c.in_ok-whole.ensures.rest c.in_default-len1-up.len_at_least in
+    rw is c.small_joined.ensures

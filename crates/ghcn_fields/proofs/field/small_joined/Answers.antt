@@ -1,15 +1,22 @@
-use Rattle.std.proofs.Common.{rules}
-use Rattle.ghcn_fields.proofs.Decimals.{up_to-some, scaled-le, joined-whole_over, joined-part_over}
+use Rattle.std.proofs.Common.{◌∙◌, ◌^◌, ◌-◌, ℕ, length, Some, sym, arith}
+use Rattle.ghcn_fields.specs.Numbers.{natural}
+use Rattle.ghcn_fields.proofs.Decimals.{up_to-some, scaled-le, joined-part_over}
 use Rattle.ghcn_fields.proofs.field.small_joined.Goals as goal
 
--- the whole part has to be digits, and not too great
+-- the part behind the point has to be digits, and not too great
 pub returns-in_err-small_natural : goal.returns-in_err-small_natural
-returns-in_err-small_natural c = search (rules, joined-whole_over)
+returns-in_err-small_natural c =
+    c.from_residual.ensures
+    ∙ sym (joined-part_over (2 ^ 31) c.args.places (length c.args.part.now) (Some c.args.whole)
+    (natural c.args.part.now) (sym c.small_natural.ensures ∙ c.in_err-small_natural.was))
 
--- so has the part behind the point
-pub returns-in_err-small_natural-2 : goal.returns-in_err-small_natural-2
-returns-in_err-small_natural-2 c = search (rules, joined-part_over)
-
--- two such parts fit 64 bits together
+-- a whole part and a part behind the point fit 64 bits together
 pub overflow_add-branch : goal.overflow_add-branch
-overflow_add-branch c = search (rules, up_to-some, scaled-le)
+overflow_add-branch c =
+    let places : ℕ = c.args.places in
+    let missing : ℕ = places - length c.args.part.now in
+    let part = up_to-some (2 ^ 31) c.in_ok-small_natural.field-0 (natural c.args.part.now)
+    (sym c.small_natural.ensures ∙ c.in_ok-small_natural.was) in
+    let high = scaled-le c.args.whole places (2 ^ 31) c.requires.small c.requires.few in
+    let low = scaled-le c.in_ok-small_natural.field-0 missing (2 ^ 31) part.1 (omega (arith, c.requires.few)) in
+    rw (c.units.ensures, c.units-2.ensures) (omega (arith, high, low))
