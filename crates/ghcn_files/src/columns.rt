@@ -8,6 +8,19 @@ pub(crate) fn columns<const N: usize>(line: &[u8], from: usize) -> [u8; N]
     requires { 1 ≤ from }
     ensures { result ≡ lines.columns from (from + N - 1) line.now }
 {
+    match line[(from - 1).min(line.len())..].first_chunk() {
+        // A copy of so many bytes needs no call.
+        Some(found) => *found,
+        None => columns_filled(line, from),
+    }
+}
+
+/// The same of a line that may lack some of them.
+#[inline(never)]
+fn columns_filled<const N: usize>(line: &[u8], from: usize) -> [u8; N]
+    requires { 1 ≤ from }
+    ensures { result ≡ lines.columns from (from + N - 1) line.now }
+{
     let mut found = [b' '; N];
     let rest = &line[(from - 1).min(line.len())..];
     let count = N.min(rest.len());
