@@ -16,6 +16,7 @@ use Rattle.ghcn_files.specs.declared.fault.LineWhy.{LineWhy}
 use Rattle.ghcn_files.specs.declared.fault.LineWhy.TheVariants.{Short}
 use Rattle.ghcn_files.specs.Months.{reading, days_of_group, month_of, month_if, month_why, unless}
 use Rattle.ghcn_files.specs.Flags.{is_flagged_value, HasNoFlag}
+use Rattle.ghcn_files.proofs.WholeLines.{SaysSame, same-reading}
 
 -- how many of the first n days of a line, in a month with so many, have a flagged value
 abbrev pub flagged_within : ℕ → List ℕ → ℕ → ℕ
@@ -70,6 +71,20 @@ flagged_within-none days line (suc n) none =
     (flagged_within-none days line n (λ j lt. none j (omega (arith, lt))))
     (unflagged (nat_le (n + 1) days) (reading line (n + 1)).flagged (is_some (reading line (n + 1)).value)
     (none n (omega arith)))
+
+-- a line that says of each day what another one says has as many
+pub flagged_within-same : (days : ℕ) (whole line : List ℕ) → SaysSame whole line → (n : ℕ) → n ≤ 31
+    → flagged_within days whole n ≡ flagged_within days line n
+flagged_within-same days whole line same zero le = refl
+flagged_within-same days whole line same (suc n) le =
+    let more : suc n ≡ n + 1 = omega arith in
+    let counts : Reading → ℕ = λ r. cond (is_flagged_value days (n + 1, r)) 1 0 in
+    ap (flagged_within days whole) more
+    ∙ flagged_within-more days whole n
+    ∙ ap₂ (λ (a b : ℕ). a + b) (flagged_within-same days whole line same n (omega (arith, le)))
+    (ap counts (same-reading whole line same (n + 1) (omega arith) (omega (arith, le))))
+    ∙ sym (flagged_within-more days line n)
+    ∙ ap (flagged_within days line) (sym more)
 
 -- the days of a month that was read are those of its line
 pub days-read : (line : List ℕ) (short : Bool) (e : Option Element) (m : Month)

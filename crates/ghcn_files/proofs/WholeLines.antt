@@ -1,7 +1,7 @@
 -- A line whose columns are all there says of its days what the line says that it is the front of, or that leaves
 -- blanks out.
 use Rattle.std.proofs.Common.{◌≡◌, ℕ, zero, suc, ◌+◌, ◌*◌, ◌≤◌, Bool, cond, List, [], ◌∷◌, ◌++◌, length, take, drop}
-use Rattle.std.proofs.Common.{get_or, Option, Some, refl, sym, ap, subst, ◌∙◌, arith, ℤ, pos}
+use Rattle.std.proofs.Common.{get_or, Option, Some, refl, sym, ap, ap₂, subst, ◌∙◌, arith, ℤ, pos}
 use Rattle.std.specs.Prelude.{not, neg_ℤ, replicate}
 use Rattle.std.proofs.lemmas.List.{take-append-drop, length-take-le}
 use Rattle.ghcn_fields.specs.Bytes.{is_blank}
@@ -9,8 +9,8 @@ use Rattle.ghcn_fields.specs.Lines.{columns}
 use Rattle.ghcn_fields.specs.Numbers.{int_field, number_or}
 use Rattle.ghcn_files.specs.declared.fault.LineWhy.{LineWhy}
 use Rattle.ghcn_files.specs.declared.fault.LineWhy.TheVariants.{BadValue}
-use Rattle.ghcn_files.specs.StationLines.{is_bad}
-use Rattle.ghcn_files.specs.Months.{is_flagged, value_field, days_why}
+use Rattle.ghcn_files.specs.StationLines.{is_bad, unless_missing}
+use Rattle.ghcn_files.specs.Months.{is_flagged, value_field, days_why, reading}
 use Rattle.ghcn_files.specs.Rows.{AreValues}
 use Rattle.ghcn_files.proofs.ColumnSlices.{columns-front, one_column}
 use Rattle.ghcn_files.proofs.Readings.{tests_from, all_tests}
@@ -55,6 +55,13 @@ filled-says line n long = record {
       ∙ ap (λ (b : ℕ). b ∷ []) (filled-byte line n (19 + 8 * j))
       ∙ sym (one_column (20 + 8 * j) (19 + 8 * j) line (omega arith)));
 }
+
+-- what is read of a day is the same
+pub same-reading : (whole line : List ℕ) → SaysSame whole line → (j : ℕ) → 1 ≤ j → j ≤ 31
+    → reading whole j ≡ reading line j
+same-reading whole line same j low high =
+    ap₂ (λ (bytes : List ℕ) (flagged : Bool). record { value = unless_missing (int_field bytes); flagged = flagged })
+    (same.value j low high) (same.flag j low high)
 
 -- the tests of its days from one on are the same
 same-tests_from : (whole line : List ℕ) → SaysSame whole line → (a n : ℕ) → 1 ≤ a → a + n ≤ 32

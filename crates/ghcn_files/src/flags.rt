@@ -30,20 +30,21 @@ fn flagged_among(days: u8, line: &[u8]) -> u32
     ensures { result ≡ count_by (flags.is_flagged_value days)
         (enumerate_from 1 (map (months.reading line.now) months.days_of_group)) }
 {
-    if may_have_flag(line) {
-        flagged_by_day(days, line)
-    } else {
-        0
+    match line.first_chunk() {
+        Some(whole) => flagged_in(days, whole),
+        None => flagged_by_day(days, line),
     }
 }
 
-/// Whether a line has a quality flag, or may have one, since its end leaves out columns.
-fn may_have_flag(line: &[u8]) -> bool
-    ensures { result ≡ false → flags.HasNoFlag line.now 31 }
+/// The same of a line with all its columns, where most have no flag at all.
+fn flagged_in(days: u8, line: &[u8; COLUMNS]) -> u32
+    ensures { result ≡ count_by (flags.is_flagged_value days)
+        (enumerate_from 1 (map (months.reading line.now) months.days_of_group)) }
 {
-    match line.first_chunk() {
-        Some(whole) => has_flag(whole),
-        None => true,
+    if has_flag(line) {
+        flagged_by_day(days, line)
+    } else {
+        0
     }
 }
 
@@ -62,7 +63,8 @@ fn has_flag(line: &[u8; COLUMNS]) -> bool
     others[6] | others[14] | others[22] | others[30] != 0
 }
 
-/// The same as `flagged_among`, day by day.
+/// The same as `flagged_among`, day by day. It is built into its callers, of which one has lines of one length.
+#[inline(always)]
 fn flagged_by_day(days: u8, line: &[u8]) -> u32
     requires { 266 ≤ length line.now }
     ensures { result ≡ count_by (flags.is_flagged_value days)
@@ -88,7 +90,7 @@ fn is_flagged_value(days: u8, line: &[u8], day: usize) -> bool
     requires day { day < 31 }
     ensures { result ≡ flags.is_flagged_value days (day + 1, months.reading line.now (day + 1)) }
 {
-    day < days as usize && is_flagged(line, day) && has_value(line, day)
+    is_flagged(line, day) && day < days as usize && has_value(line, day)
 }
 
 /// Whether the value of a day, from 0, is there.
