@@ -126,7 +126,7 @@ impl Describer {
         ensures { IfOk result (AddsMonth self.old self.new line.now) }
     {
         let place = self.reader.place(&row.id);
-        if !self.reader.add_month(alloc, &row.without_days())? {
+        if !self.reader.add_month(alloc, row)? {
             return Ok(false);
         }
         match place {

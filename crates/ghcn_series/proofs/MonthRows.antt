@@ -22,12 +22,32 @@ use Rattle.ghcn_series.specs.Series.{DayValue, value_on}
 use Rattle.ghcn_series.specs.Says.{fact_if}
 use Rattle.ghcn_series.specs.Packed.{days_from}
 use Rattle.ghcn_series.specs.Parts.{IsRow, day_of, row_days}
+use Rattle.ghcn_series.specs.Steps.{IsRowFor}
 use Rattle.ghcn_series.specs.Gathered.{counted_day, usable_day, usable_days, usable_value}
 use Rattle.ghcn_series.proofs.Lookups.{from-value, from-other}
 use Rattle.ghcn_series.proofs.RisingDays.{behind, front}
 use Rattle.ghcn_series.proofs.MonthDays.{IsOfCalendar, has_number, day_number-is, day_number-after}
 use Rattle.ghcn_series.proofs.DistinctDays.{is_day_of}
 use Rattle.ghcn_series.proofs.ReadySeries.{is_day-numbered}
+
+-- ---- a row with its days or without
+
+-- it has the month's ID
+pub for-id : (kept : Bool) (m : Month) (row : MonthRow) → IsRowFor kept m row → row.id ≡ m.id
+for-id kept m row (inl of) = of.id
+for-id kept m row (inr of) = of.id
+
+-- and its element
+pub for-element : (kept : Bool) (m : Month) (row : MonthRow) → IsRowFor kept m row → row.element ≡ m.element
+for-element kept m row (inl of) = of.element
+for-element kept m row (inr of) = of.element
+
+-- and its days, where they are kept
+pub for-kept : (kept : Bool) (m : Month) (row : MonthRow) → kept ≡ true → IsRowFor kept m row → IsRowOf true m row
+for-kept kept m row is (inl of) = of
+for-kept kept m row is (inr of) = rw is at of
+
+-- ---- days by their places
 
 -- a day of the calendar counts as its reading does
 counted_is : (m : Month) (flagged : Bool) (v : Option ℤ) (n : ℤ)

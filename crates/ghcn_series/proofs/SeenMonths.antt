@@ -1,6 +1,6 @@
 -- The months that were seen, and one more.
 use Rattle.std.proofs.Common.{◌≡◌, ℕ, ◌+◌, ◌*◌, ◌≤◌, Bool, true, false, not, List, [], ◌∷◌, ◌++◌, refl, sym, ap}
-use Rattle.std.proofs.Common.{subst, ◌∙◌, arith, ℤ, Result, Ok, Err}
+use Rattle.std.proofs.Common.{subst, ◌∙◌, arith, ℤ, Result, Ok, Err, inl, inr}
 use Rattle.std.specs.Prelude.{◌==◌, ◌&&◌, IfOk, OnOk}
 use Rattle.std.specs.List.{list_any, flat_map, IsDistinct, AllByRecursion}
 use Rattle.std.specs.Map.{keys_of}
@@ -22,7 +22,7 @@ use Rattle.ghcn_files.specs.Months.{IsMonth}
 use Rattle.ghcn_files.specs.Rows.{IsRowOf}
 use Rattle.ghcn_series.specs.declared.gathering.Gathering.{Gathering}
 use Rattle.ghcn_series.specs.Series.{DayValue, value_on}
-use Rattle.ghcn_series.specs.Steps.{OfMonth, Gathers}
+use Rattle.ghcn_series.specs.Steps.{ForMonth, IsRowFor, Gathers}
 use Rattle.ghcn_series.specs.Parts.{AreParts, AreNew, AreJoined}
 use Rattle.ghcn_series.specs.Gathered.{month_count, has_number, same_time, usable_days, gathered_days, kept_days}
 use Rattle.ghcn_series.specs.Gathered.{IsGathering}
@@ -118,15 +118,19 @@ pub number_is : (kept : Bool) (m : Month) (row : MonthRow) (n : ℕ) → IsRowOf
 number_is kept m row n of e =
     omega arith
 
+-- with its days or without
+number_for : (m : Month) (row : MonthRow) → IsRowFor false m row → 12 * row.year + row.month ≡ month_count m
+number_for m row (inl of) = number_is true m row (12 * row.year + row.month) of refl
+number_for m row (inr of) = number_is false m row (12 * row.year + row.month) of refl
+
 -- a month is noted, unless one of its time was
 pub noted : (row : MonthRow) (old new : Gathering) (result : Result Bool Memory)
     → IfOk result (λ is_new. is_new ≡ not (has_month old.seen (12 * row.year + row.month)))
     → OnOk result (Adds old.seen new.seen (12 * row.year + row.month)) → new.parts ≡ old.parts
-    → IfOk result (λ added. OfMonth false row (λ m. Gathers false old new m added))
+    → IfOk result (λ added. ForMonth false row (λ m. Gathers false old new m added))
 noted row old new (Err memory) told adds same = tt
 noted row old new (Ok added) told adds same = λ m right of.
-    let number : 12 * row.year + row.month ≡ month_count m = number_is false m row
-    (12 * row.year + row.month) of refl in
+    let number : 12 * row.year + row.month ≡ month_count m = number_for m row of in
     let is_new : added ≡ not (has_month old.seen (month_count m)) = told
     ∙ ap (λ n. not (has_month old.seen n)) number in
     let more : Adds old.seen new.seen (month_count m) = subst (Adds old.seen new.seen) number adds in

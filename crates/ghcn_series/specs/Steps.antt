@@ -1,5 +1,5 @@
 -- What each step of the reading adds to what was read before it.
-use Rattle.std.specs.Prelude.{◌≡◌, ◌++◌, ◌∷◌, [], ◌&&◌, not, Bool, List}
+use Rattle.std.specs.Prelude.{◌≡◌, ◌++◌, ◌∷◌, [], ◌&&◌, ◌⊎◌, not, Bool, true, List}
 use Rattle.std.specs.Bool.{OnTrue}
 use Rattle.std.specs.List.{list_any, AllZip}
 use Rattle.ghcn_files.specs.declared.month.Month.{Month}
@@ -24,6 +24,18 @@ IsOfMonth kept row = (m : Month) × (IsMonth m × IsRowOf kept m row)
 -- a fact about each month whose row this is
 abbrev pub OfMonth : Bool → MonthRow → (Month → Type 0) → Type 0
 OfMonth kept row P = (m : Month) → IsMonth m → IsRowOf kept m row → P m
+
+-- the row is that of a month with its days, or, where these aren't kept, without them
+abbrev pub IsRowFor : Bool → Month → MonthRow → Type 0
+IsRowFor kept m row = IsRowOf true m row ⊎ IsRowOf kept m row
+
+-- the row is so of some month
+abbrev pub IsForMonth : Bool → MonthRow → Type 0
+IsForMonth kept row = (m : Month) × (IsMonth m × IsRowFor kept m row)
+
+-- a fact about each month whose row this is so
+abbrev pub ForMonth : Bool → MonthRow → (Month → Type 0) → Type 0
+ForMonth kept row P = (m : Month) → IsMonth m → IsRowFor kept m row → P m
 
 -- what a gathering has whose days are kept or aren't: some months
 abbrev pub GathersSome : Bool → Gathering → Type 0

@@ -6,6 +6,7 @@ ghost use Rattle.ghcn_series.specs.Series.{by_day};
 ghost use Rattle.ghcn_series.specs.Gathered as gathered;
 ghost use Rattle.ghcn_series.specs.Parts as parts;
 ghost use Rattle.ghcn_series.specs.Steps.{Gathers, GathersSome, GathersNothing, KeepsMonths, IsOfMonth, OfMonth};
+ghost use Rattle.ghcn_series.specs.Steps.{ForMonth};
 
 use crate::columns::Columns;
 use crate::months::Months;
@@ -55,7 +56,7 @@ impl Gathering {
     pub(crate) fn note(&mut self, alloc: Global, row: &MonthRow) -> Result<bool, Memory>
         requires { GathersSome false self.old }
         ensures element { self.new.element ≡ self.old.element }
-        ensures added { IfOk result (λ added. OfMonth false row.now (λ m. Gathers false self.old self.new m added)) }
+        ensures added { IfOk result (λ added. ForMonth false row.now (λ m. Gathers false self.old self.new m added)) }
     {
         self.seen.add(alloc, number_of(row))
     }

@@ -4,7 +4,7 @@ ghost use Rattle.std.specs.Prelude.{◌≡◌, [], IfOk, OnOk};
 ghost use Rattle.ghcn_files.specs.Elements.{is_kept};
 ghost use Rattle.ghcn_files.specs.Listed.{AreListed, place_of};
 ghost use Rattle.ghcn_series.specs.Gathered.{HasReadFor};
-ghost use Rattle.ghcn_series.specs.Steps.{HasSomeLines, ReadsMonth, KeepsRead, HoldsAll, IsOfMonth, OfMonth};
+ghost use Rattle.ghcn_series.specs.Steps.{HasSomeLines, ReadsMonth, KeepsRead, HoldsAll, IsForMonth, ForMonth};
 
 use crate::counts::LineKind;
 use crate::cutter::LineReader;
@@ -96,13 +96,14 @@ impl Reader {
         Ok(Data::of(stations, series, unlisted))
     }
 
-    /// Adds a month, or answers false where its station is listed and has that month already.
+    /// Adds a month, or answers false where its station is listed and has that month already. Its days are read where
+    /// they are kept.
     pub fn add_month(&mut self, alloc: Global, row: &MonthRow) -> Result<bool, Memory>
-        requires right { IsOfMonth (is_kept self.old.keep row.now.element) row.now }
+        requires right { IsForMonth (is_kept self.old.keep row.now.element) row.now }
         requires read { HasSomeLines self.old }
         ensures keep { self.new.keep ≡ self.old.keep }
         ensures stations { self.new.stations ≡ self.old.stations }
-        ensures added { IfOk result (λ added. OfMonth (is_kept self.old.keep row.now.element) row.now
+        ensures added { IfOk result (λ added. ForMonth (is_kept self.old.keep row.now.element) row.now
             (λ m. ReadsMonth self.old self.new m added)) }
     {
         match self.place(&row.id) {

@@ -6,7 +6,7 @@ ghost use Rattle.std.specs.List.{list_any, AllByRecursion, AllZip};
 ghost use Rattle.ghcn_files.specs.Elements.{elements, element_index, is_kept};
 ghost use Rattle.ghcn_series.specs.Gathered as gathered;
 ghost use Rattle.ghcn_series.specs.Parts.{AreEmpty};
-ghost use Rattle.ghcn_series.specs.Steps.{GathersAt, GathersNothing, StationGathersSome, Opens, IsOfMonth, OfMonth};
+ghost use Rattle.ghcn_series.specs.Steps.{GathersAt, GathersNothing, StationGathersSome, Opens, IsForMonth, ForMonth};
 ghost use Rattle.ghcn_series.specs.Steps.{StationKeepsMonths};
 
 use crate::Series;
@@ -57,12 +57,12 @@ impl StationGathering {
         spare: &mut Vec<Parts>,
     ) -> Result<bool, Memory>
         requires own { row.now.id ≡ self.old.id }
-        requires right { IsOfMonth (is_kept asked row.now.element) row.now }
+        requires right { IsForMonth (is_kept asked row.now.element) row.now }
         requires gathered { StationGathersSome asked self.old }
         requires spare { AllByRecursion AreEmpty spare.old.items }
         ensures id { self.new.id ≡ self.old.id }
         ensures spare { AllByRecursion AreEmpty spare.new.items }
-        ensures added { IfOk result (λ added. OfMonth (is_kept asked row.now.element) row.now
+        ensures added { IfOk result (λ added. ForMonth (is_kept asked row.now.element) row.now
             (λ m. GathersAt asked self.old self.new m added)) }
     {
         self.open(alloc, spare)?;

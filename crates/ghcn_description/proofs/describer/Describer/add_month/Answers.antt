@@ -1,10 +1,8 @@
-use Rattle.std.proofs.Common.{◌≡◌, Some, None, sym, ap, ◌∙◌, subst}
+use Rattle.std.proofs.Common.{◌≡◌, Some, None, inl, sym, ap, ◌∙◌, subst}
 use Rattle.ghcn_files.specs.declared.element.Keep.TheVariants.{Nothing}
 use Rattle.ghcn_files.specs.declared.month.Month.{Month}
-use Rattle.ghcn_files.specs.Elements.{is_kept}
 use Rattle.ghcn_files.specs.Listed.{AreListed, place_of}
 use Rattle.ghcn_files.specs.Months.{read_month}
-use Rattle.ghcn_files.specs.Rows.{IsRowOf}
 use Rattle.ghcn_series.specs.Steps.{ReadsMonth}
 use Rattle.ghcn_series.proofs.ReadLines.{read-month, refused-month}
 use Rattle.ghcn_description.proofs.DescribedLines.{counted-month, counted-unlisted}
@@ -14,27 +12,15 @@ use Rattle.ghcn_description.proofs.describer.Describer.add_month.Goals as goal
 pub place-place-requires : goal.place-place-requires
 place-place-requires c = c.requires.read.1.1.1.read.read.months.listed
 
--- no days are kept
+-- the row has the month's days
 pub add_month-requires-clause-right : goal.add_month-requires-clause-right
-add_month-requires-clause-right c =
-    let m : Month = c.requires.row.month in
-    let kept = c.requires.read.1.1.1.read.kept in (
-      m,
-      (
-        c.requires.row.right,
-        subst (λ k. IsRowOf (is_kept k c.without_days.result.element) m c.without_days.result)
-            (sym kept) (c.without_days.ensures m c.requires.row.row),
-      ),
-    )
+add_month-requires-clause-right c = (c.requires.row.month, (c.requires.row.right, inl c.requires.row.row))
 
 -- an earlier line has the month
 pub returns-then-not-branch : goal.returns-then-not-branch
 returns-then-not-branch c =
     let m : Month = c.requires.row.month in
-    let kept = c.requires.read.1.1.1.read.kept in
-    let adds = c.in_ok-add_month.ensures.added m c.requires.row.right
-    (subst (λ k. IsRowOf (is_kept k c.without_days.result.element) m c.without_days.result) (sym kept)
-    (c.without_days.ensures m c.requires.row.row)) in
+    let adds = c.in_ok-add_month.ensures.added m c.requires.row.right (inl c.requires.row.row) in
     record {
       read = λ stations keep before l same of. tt;
       refused = λ stations keep before l same of failed.
@@ -47,10 +33,7 @@ returns-then-not-branch c =
 pub returns-in_ok-count-in-Some : goal.returns-in_ok-count-in-Some
 returns-in_ok-count-in-Some c =
     let m : Month = c.requires.row.month in
-    let kept = c.requires.read.1.1.1.read.kept in
-    let adds = c.in_ok-add_month.ensures.added m c.requires.row.right
-    (subst (λ k. IsRowOf (is_kept k c.without_days.result.element) m c.without_days.result) (sym kept)
-    (c.without_days.ensures m c.requires.row.row)) in
+    let adds = c.in_ok-add_month.ensures.added m c.requires.row.right (inl c.requires.row.row) in
     let added = subst (ReadsMonth c.args.self.now.reader c.add_month.new.self m) c.if-not-branch.false adds in
     let there : place_of c.args.self.now.reader.stations c.args.row.now.id ≡ Some c.in-Some.place =
     sym c.place-place.ensures ∙ c.in-Some.is in
@@ -73,10 +56,7 @@ returns-in_ok-count-in-Some c =
 pub returns-in_ok-self-in-None : goal.returns-in_ok-self-in-None
 returns-in_ok-self-in-None c =
     let m : Month = c.requires.row.month in
-    let kept = c.requires.read.1.1.1.read.kept in
-    let adds = c.in_ok-add_month.ensures.added m c.requires.row.right
-    (subst (λ k. IsRowOf (is_kept k c.without_days.result.element) m c.without_days.result) (sym kept)
-    (c.without_days.ensures m c.requires.row.row)) in
+    let adds = c.in_ok-add_month.ensures.added m c.requires.row.right (inl c.requires.row.row) in
     let added = subst (ReadsMonth c.args.self.now.reader c.add_month.new.self m) c.if-not-branch.false adds in
     let nowhere : place_of c.args.self.now.reader.stations c.args.row.now.id ≡ None =
     sym c.place-place.ensures ∙ c.in-None.is in

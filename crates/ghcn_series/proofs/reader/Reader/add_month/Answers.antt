@@ -3,8 +3,9 @@ use Rattle.std.proofs.lemmas.Result.{IfOk-weaker}
 use Rattle.std.specs.List.{filter_map}
 use Rattle.ghcn_files.specs.Elements.{is_kept}
 use Rattle.ghcn_files.specs.Listed.{place_of}
-use Rattle.ghcn_files.specs.Rows.{IsRowOf}
 use Rattle.ghcn_series.specs.DailyFaults.{is_listed, month_on}
+use Rattle.ghcn_series.specs.Steps.{IsRowFor}
+use Rattle.ghcn_series.proofs.MonthRows.{for-id}
 use Rattle.ghcn_series.proofs.Places.{unlisted-is}
 use Rattle.ghcn_series.proofs.ReadMonths.{read-listed, read-unlisted, read-behind, within_gathered, own_id, own_months}
 use Rattle.ghcn_series.proofs.reader.Reader.add_month.Goals as goal
@@ -38,8 +39,9 @@ pub returns-in_ok-turn_to-in-Some-clause-added : goal.returns-in_ok-turn_to-in-S
 returns-in_ok-turn_to-in-Some-clause-added c =
     IfOk-weaker c.add.result _ _ (λ added adds m right of.
     let place = ap (λ ss. place_of ss m.id) c.turn_to.ensures.stations
-    ∙ ap (place_of c.args.self.now.stations) (sym of.id) ∙ sym c.place.ensures ∙ c.in-Some.is in
-    let of_there : IsRowOf (is_kept c.turn_to.new.self.keep c.args.row.now.element) m c.args.row.now =
+    ∙ ap (place_of c.args.self.now.stations) (sym (for-id _ m c.args.row.now of)) ∙ sym c.place.ensures
+    ∙ c.in-Some.is in
+    let of_there : IsRowFor (is_kept c.turn_to.new.self.keep c.args.row.now.element) m c.args.row.now =
     rw c.turn_to.ensures.keep of in
     let more = read-listed c.turn_to.new.self _ m c.in-Some.place c.index_mut.result.now c.add.new.self added
     place c.index_mut.ensures.value c.add.ensures.id (adds m right of_there) refl refl refl refl c.add.ensures.spare in
@@ -51,7 +53,8 @@ returns-in_ok-turn_to-in-Some-clause-added c =
 -- a month of another station is counted
 pub returns-in-None-clause-added : goal.returns-in-None-clause-added
 returns-in-None-clause-added c = λ m right of.
+    let own = sym (for-id _ m c.args.row.now of) in
     let none : is_listed c.args.self.now.stations m.id ≡ false = unlisted-is c.args.self.now.stations m.id
-    (ap (place_of c.args.self.now.stations) (sym of.id) ∙ sym c.place.ensures ∙ c.in-None.is) in
+    (ap (place_of c.args.self.now.stations) own ∙ sym c.place.ensures ∙ c.in-None.is) in
     let more = read-unlisted c.args.self.now _ m none refl refl refl refl c.saturating_add-self.ensures in
     record { is_new = λ before is. (more before right is).0; holds = λ before is. (more before right is).1 }

@@ -1,4 +1,4 @@
-use Rattle.std.proofs.Common.{◌≡◌, Ok, None, sym, subst}
+use Rattle.std.proofs.Common.{◌≡◌, Ok, None, sym, subst, inr}
 use Rattle.ghcn_files.specs.Months.{read_month}
 use Rattle.ghcn_files.specs.Rows.{IsOfLine}
 use Rattle.ghcn_series.proofs.ReadLines.{read-passed, read-month, refused-month, other_kind, element_kind}
@@ -23,7 +23,7 @@ returns-in-Ok-true-add_month-clause-read c =
     let adds = rw c.in-Ok-true-add_month.field-0-test at c.in-Ok-true-add_month.ensures.added in
     record {
       holds = λ stations keep before read. read-month c.args.self.now.reader c.add_month.new.self _ is.month is.read
-          c.add_month.ensures.stations c.add_month.ensures.keep (adds is.month is.right is.row)
+          c.add_month.ensures.stations c.add_month.ensures.keep (adds is.month is.right (inr is.row))
           stations keep before read;
     }
 
@@ -42,5 +42,5 @@ returns-in-Ok-false-add_month-clause-fault c =
     let adds = rw c.in-Ok-false-add_month.field-0-test at c.in-Ok-false-add_month.ensures.added in
     rw c.refused-in-Ok-false-add_month.ensures (record {
       first = λ stations keep before read. refused-month c.args.self.now.reader
-          c.add_month.new.self _ is.month is.read (adds is.month is.right is.row) stations keep before read;
+          c.add_month.new.self _ is.month is.read (adds is.month is.right (inr is.row)) stations keep before read;
     })
