@@ -1,6 +1,6 @@
 -- A month's usable days, by its row's word and as facts of lines.
-use Rattle.std.proofs.Common.{◌≡◌, ℕ, zero, suc, ◌+◌, ◌<◌, ◌≤◌, ◌^◌, ◌/◌, ◌%◌, Bool, true, false, cond, not, List, []}
-use Rattle.std.proofs.Common.{◌∷◌, ◌++◌}
+use Rattle.std.proofs.Common.{◌≡◌, ℕ, zero, suc, ◌+◌, ◌-◌, ◌<◌, ◌≤◌, ◌^◌, ◌/◌, ◌%◌, Bool, true, false, cond, not}
+use Rattle.std.proofs.Common.{List, [], ◌∷◌, ◌++◌}
 use Rattle.std.proofs.Common.{length, map, get_or, Option, Some, None, inl, inr, refl, sym, ap, subst, ◌∙◌, arith}
 use Rattle.std.proofs.Common.{ℤ, pos, ◌+ℤ◌, ◌≤ℤ◌, ◌⊎◌, w32}
 use Rattle.std.specs.Prelude.{◌&&◌, ◌||◌, ◌==◌, int_le, int_lt}
@@ -21,7 +21,7 @@ use Rattle.std.proofs.lemmas.List.Folds.{list_any-append, list_all-append}
 use Rattle.std.specs.Int.{int_min, int_max}
 use Rattle.jiff_core.specs.Calendar.{days_from_civil}
 use Rattle.jiff_core.proofs.CalendarLemmas.{days_in_month_bounds}
-use Rattle.ghcn_fields.specs.Days.{day_number}
+use Rattle.ghcn_fields.specs.Days.{day_number, day_if}
 use Rattle.ghcn_files.specs.declared.month.Month.{Month}
 use Rattle.ghcn_files.specs.declared.month.Reading.{Reading}
 use Rattle.ghcn_files.specs.declared.row.MonthRow.{MonthRow}
@@ -148,9 +148,10 @@ ones-of_row m row right of =
 le_test : (a b : ℤ) → a ≤ℤ b → int_le a b ≡ true
 le_test a b le = grind (arith, ints)
 
--- of two days of a month, the one at the earlier place isn't later
-in-order : (y m j k : ℕ) (x z : ℤ) → j ≤ k → day_number y m (j + 1) ≡ Some x → day_number y m (k + 1) ≡ Some z → x ≤ℤ z
-in-order y m j k x z le at_x at_z =
+-- of two days of a month, the later place is as much later, and the days between are of the calendar
+pub day-behind : (y m j k : ℕ) (x z : ℤ) → j ≤ k → day_number y m (j + 1) ≡ Some x → day_number y m (k + 1) ≡ Some z
+    → (z ≡ x +ℤ pos (k - j)) × (day_if (x +ℤ pos (k - j)) ≡ Some z)
+day-behind y m j k x z le at_x at_z =
     let later = has_number y m (k + 1) z at_z in
     let sooner = has_number y m (j + 1) x at_x in
     let one : IsOfCalendar y m 1 =
@@ -161,7 +162,15 @@ in-order y m j k x z le at_x at_z =
     let from_z = day_number-after y m k first begins (omega (arith, later.0.day)) in
     let is_x : x ≡ first +ℤ pos j = same_Some x (first +ℤ pos j) (sym at_x ∙ from_x.0) in
     let is_z : z ≡ first +ℤ pos k = same_Some z (first +ℤ pos k) (sym at_z ∙ from_z.0) in
-    omega (arith, ints, le, is_x, is_z)
+    let behind : z ≡ x +ℤ pos (k - j) = omega (arith, ints, le, is_x, is_z) in (
+      behind,
+      ap day_if (sym behind ∙ is_z) ∙ from_z.1 ∙ ap (λ (d : ℤ). Some d) (sym is_z),
+    )
+
+-- of two days of a month, the one at the earlier place isn't later
+in-order : (y m j k : ℕ) (x z : ℤ) → j ≤ k → day_number y m (j + 1) ≡ Some x → day_number y m (k + 1) ≡ Some z → x ≤ℤ z
+in-order y m j k x z le at_x at_z =
+    let behind = day-behind y m j k x z le at_x at_z in omega (arith, ints, behind.0)
 
 -- the day of each bit is among the usable days
 any-at : (m : Month) (rs : List Reading) (s w j : ℕ) (d : ℤ) → Marks m rs s w → bit_at w j ≡ 1
@@ -284,6 +293,24 @@ marked-day m row j right of set none =
     go (Some x) is e absent =
         let day = is_day_of m (j + 1) (get_or m.days j no_reading) x is in cc
 
+-- so there is such a day
+marked-there : (m : Month) (row : MonthRow) (j : ℕ) → IsMonth m → IsRowOf true m row → bit_at row.word j ≡ 1
+    → (d : ℤ) × (day_number row.year row.month (j + 1) ≡ Some d)
+marked-there m row j right of set = go (day_number row.year row.month (j + 1)) refl
+  where
+    go : (o : Option ℤ) → day_number row.year row.month (j + 1) ≡ o
+        → (d : ℤ) × (day_number row.year row.month (j + 1) ≡ Some d)
+    go None is = absurd (marked-day m row j right of set is)
+    go (Some d) is = (d, is)
+
+-- the day of a bit is as far behind that of a lower one as their places are apart
+pub marked-behind : (m : Month) (row : MonthRow) (low high : ℕ) (first : ℤ) → IsMonth m → IsRowOf true m row
+    → low ≤ high → bit_at row.word high ≡ 1 → day_number row.year row.month (low + 1) ≡ Some first
+    → day_if (first +ℤ pos (high - low)) ≡ day_number row.year row.month (high + 1)
+marked-behind m row low high first right of le set at =
+    let last = marked-there m row high right of set in
+    (day-behind row.year row.month low high first last.0 le at last.1).1 ∙ sym last.1
+
 -- a word without bits is of a month without a usable day
 pub none-usable : (m : Month) (row : MonthRow) → IsMonth m → IsRowOf true m row → row.word ≡ 0 → days_of_month m ≡ []
 none-usable m row right of zero_word =
@@ -306,6 +333,13 @@ lowest-bit m row t of set =
     let fits : row.word < 2 ^ 31 = of.days.fits in
     let low = bit_at-trailing_zeros w32 row.word (some-bits row.word t set) (omega (arith, fits)) in
     (low.1, low.2)
+
+-- it isn't behind another one
+pub lowest-le : (w low high : ℕ) → ((i : ℕ) → i < low → bit_at w i ≡ 0) → bit_at w high ≡ 1 → low ≤ high
+lowest-le w low high below set = elim (cases_lt high low) [
+  | inl lt ↦ absurd (let clear = below high lt in omega (arith, set, clear))
+  | inr le ↦ le
+]
 
 -- ---- the days of both
 

@@ -1,9 +1,9 @@
 //! Counts what listed stations have of an element, month by month.
 
-ghost use Rattle.std.specs.Prelude.{◌≡◌, ◌<◌, ◌+◌, [], ◌++◌, true, IfOk, OnOk, List, ℤ, Some, if◌then◌else◌};
+ghost use Rattle.std.specs.Prelude.{◌≡◌, ◌<◌, ◌+◌, [], ◌++◌, true, IfOk, OnOk, List, ℤ, Some, if◌then◌else◌, pos, ◌+ℤ◌};
 ghost use Rattle.std.specs.Int.{int_min, int_max};
 ghost use Rattle.std.specs.List.{AllZip};
-ghost use Rattle.ghcn_fields.specs.Days.{day_number};
+ghost use Rattle.ghcn_fields.specs.Days.{day_number, day_if};
 ghost use Rattle.ghcn_files.specs.Elements.{elements, element_index};
 ghost use Rattle.ghcn_files.specs.Flags.{flagged_values};
 ghost use Rattle.ghcn_series.specs.Steps.{IsOfMonth, OfMonth};
@@ -85,10 +85,11 @@ fn span_of(row: &MonthRow) -> Option<Span>
     ensures { OfMonth true row.now (λ m. IsSpan (days_of_month m) result) }
 {
     let last = row.word.checked_ilog2()?;
-    let first = row.word.trailing_zeros();
+    let low = row.word.trailing_zeros();
+    let first = day_at(row, low)?;
     Some(Span {
-        first: day_at(row, first)?,
-        last: day_at(row, last)?,
+        first,
+        last: day_behind(first, last - low)?,
     })
 }
 
@@ -98,6 +99,14 @@ fn day_at(row: &MonthRow, place: u32) -> Option<Day>
     ensures { result ≡ day_number row.now.year row.now.month (place + 1) }
 {
     Day::of(row.year, row.month, place as u8 + 1)
+}
+
+/// The day so many days behind one.
+fn day_behind(day: Day, days: u32) -> Option<Day>
+    requires { days < 32 }
+    ensures { result ≡ day_if (day +ℤ pos days) }
+{
+    Day::with_number(day.number() + days as i32)
 }
 
 /// The first and the last of the days of both.
