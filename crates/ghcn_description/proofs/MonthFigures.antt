@@ -148,8 +148,9 @@ ones-of_row m row right of =
 le_test : (a b : ℤ) → a ≤ℤ b → int_le a b ≡ true
 le_test a b le = grind (arith, ints)
 
--- of two days of a month, the later place is as much later, and the days between are of the calendar
-pub day-behind : (y m j k : ℕ) (x z : ℤ) → j ≤ k → day_number y m (j + 1) ≡ Some x → day_number y m (k + 1) ≡ Some z
+-- of two days of a month, the one at the later place is as many days later as their places are apart, and is of the
+-- calendar
+day-behind : (y m j k : ℕ) (x z : ℤ) → j ≤ k → day_number y m (j + 1) ≡ Some x → day_number y m (k + 1) ≡ Some z
     → (z ≡ x +ℤ pos (k - j)) × (day_if (x +ℤ pos (k - j)) ≡ Some z)
 day-behind y m j k x z le at_x at_z =
     let later = has_number y m (k + 1) z at_z in

@@ -3,10 +3,11 @@ use Rattle.std.proofs.Common.{◌≡◌, ℕ, zero, suc, ◌+◌, ◌-◌, ◌*�
 use Rattle.std.proofs.Common.{length, take, drop, get_or, drop-drop}
 use Rattle.std.proofs.Common.{Option, Some, None, inl, inr, refl, sym, ap, ◌∙◌, arith}
 use Rattle.std.specs.Prelude.{not}
-use Rattle.std.specs.List.{list_all, before_first, after_first, position_or_len}
+use Rattle.std.specs.List.{list_all, list_any, before_first, after_first, position_or_len}
 use Rattle.std.specs.Option.{option_map}
 use Rattle.std.specs.Char.{is_ascii_digit}
 use Rattle.std.specs.Str.Parse.{digits_value}
+use Rattle.std.proofs.Math.Bool.{or-false}
 use Rattle.std.proofs.lemmas.Bool.{cases_lt}
 use Rattle.std.proofs.lemmas.Bool.Decides.{nat_tests}
 use Rattle.std.proofs.lemmas.List.{get_or-take, take-take, take_all, length-take-le, length-drop}
@@ -40,7 +41,7 @@ no_point text i k digits le lt =
     grind (arith, nat_tests)
 
 -- the first point stands behind the first digits
-pub digits_before : (text : List ℕ) (i : ℕ) → BeginsWithDigits text i → i ≤ length text
+digits_before : (text : List ℕ) (i : ℕ) → BeginsWithDigits text i → i ≤ length text
     → i ≤ position_or_len is_point text
 digits_before text i digits le = elim (cases_lt (position_or_len is_point text) i) [
   | inl lt ↦ absurd (
@@ -102,14 +103,20 @@ pub digits_more : (text : List ℕ) (i : ℕ) → BeginsWithDigits text i → i 
     → is_ascii_digit (get_or text i 0) ≡ true → BeginsWithDigits text (i + 1)
 digits_more text i digits lt digit = list_all_more is_ascii_digit text i 0 lt ∙ rw (digits, digit)
 
+-- the first byte of a text is there, and is a digit
+pub first_digit : (text : List ℕ) → list_any is_ascii_digit (take 1 text) ≡ true
+    → (1 ≤ length text) × (is_ascii_digit (get_or text 0 0) ≡ true)
+first_digit [] is = absurd cc
+first_digit (b ∷ bytes) is = (omega arith, sym (or-false (is_ascii_digit b)) ∙ is)
+
 -- a text that doesn't begin with a digit has no whole part
-pub no_first_digit : (text : List ℕ) → (1 ≤ length text → is_ascii_digit (get_or text 0 0) ≡ false)
+pub no_first_digit : (text : List ℕ) → list_any is_ascii_digit (take 1 text) ≡ false
     → natural (before_first is_point text) ≡ None
 no_first_digit [] other = refl
 no_first_digit (b ∷ bytes) other = elim (is_point b) as (λ p. is_point b ≡ p
     → natural (before_first is_point (b ∷ bytes)) ≡ None) [
       | true ↦ λ point. rw point refl
-      | false ↦ λ plain. no_whole (b ∷ bytes) 0 refl (omega arith) (other (omega arith)) plain
+      | false ↦ λ plain. no_whole (b ∷ bytes) 0 refl (omega arith) (sym (or-false (is_ascii_digit b)) ∙ other) plain
     ] refl
 
 -- a point stands behind a first digit

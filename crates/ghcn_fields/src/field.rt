@@ -1,10 +1,10 @@
 //! Number fields. In the readme's fixed-width records a number ends in its field's last column.
 
-ghost use Rattle.std.specs.Prelude.{◌≡◌, ◌↔◌, ◌≤◌, ◌^◌, ◌==◌, ℤ, length, drop, get_or, true, false, All};
-ghost use Rattle.std.specs.Prelude.{Some, None, IfSome, FitsSigned};
+ghost use Rattle.std.specs.Prelude.{◌≡◌, ◌↔◌, ◌≤◌, ◌^◌, ◌==◌, ℤ, length, take, drop, All};
+ghost use Rattle.std.specs.Prelude.{Some, IfSome, FitsSigned};
 ghost use Rattle.std.specs.Char.{is_ascii_digit};
 ghost use Rattle.std.specs.Int.{w32};
-ghost use Rattle.std.specs.List.{before_first, position_or_len};
+ghost use Rattle.std.specs.List.{before_first, list_any, position_or_len};
 ghost use Rattle.std.specs.Option.{option_map};
 ghost use Rattle.ghcn_fields.specs.Bytes.{blank_byte};
 ghost use Rattle.ghcn_fields.specs.Fields.{HasNumber};
@@ -123,8 +123,7 @@ fn whole_part(text: &[u8]) -> Option<(u64, &[u8])>
 
 /// Whether a text begins with a digit.
 fn begins_with_digit(text: &[u8]) -> bool
-    ensures some { result ≡ true → (1 ≤ length text.now) × (is_ascii_digit (get_or text.now 0 0) ≡ true) }
-    ensures none { result ≡ false → numbers.natural (before_first (λ b. b == 46) text.now) ≡ None }
+    ensures { result ≡ list_any is_ascii_digit (take 1 text.now) }
 {
     match text {
         [first, ..] => first.is_ascii_digit(),
@@ -132,7 +131,7 @@ fn begins_with_digit(text: &[u8]) -> bool
     }
 }
 
-/// The number with so many units before its point and these digits behind it.
+/// The number with this whole part and these digits behind its point, in units of the last place.
 fn small_joined(whole: u64, part: &[u8], places: u8) -> Option<u64>
     requires few { places ≤ 4 }
     requires small { whole ≤ 2 ^ 31 }

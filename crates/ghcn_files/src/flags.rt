@@ -36,7 +36,7 @@ fn flagged_among(days: u8, line: &[u8]) -> u32
     }
 }
 
-/// The same of a line with all its columns, where most have no flag at all.
+/// The same of a line with all its columns. Most such lines have no flag.
 fn flagged_in(days: u8, line: &[u8; COLUMNS]) -> u32
     ensures { result ≡ count_by (flags.is_flagged_value days)
         (enumerate_from 1 (map (months.reading line.now) months.days_of_group)) }

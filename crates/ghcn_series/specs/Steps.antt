@@ -29,11 +29,11 @@ OfMonth kept row P = (m : Month) → IsMonth m → IsRowOf kept m row → P m
 abbrev pub IsRowFor : Bool → Month → MonthRow → Type 0
 IsRowFor kept m row = IsRowOf true m row ⊎ IsRowOf kept m row
 
--- the row is so of some month
+-- some month has such a row
 abbrev pub IsForMonth : Bool → MonthRow → Type 0
 IsForMonth kept row = (m : Month) × (IsMonth m × IsRowFor kept m row)
 
--- a fact about each month whose row this is so
+-- a fact about each month that has this as such a row
 abbrev pub ForMonth : Bool → MonthRow → (Month → Type 0) → Type 0
 ForMonth kept row P = (m : Month) → IsMonth m → IsRowFor kept m row → P m
 

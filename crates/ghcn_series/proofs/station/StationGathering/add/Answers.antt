@@ -27,7 +27,7 @@ note-requires c =
     (c.in_ok-open.ensures.same.holds c.args.asked before c.requires.gathered.1)
     (c.index_mut-gathering.ensures.value ∙ ap (λ (k : ℕ). get_or five k g) c.place_of.ensures)
 
--- whose row has its days
+-- the row of a month whose days are kept has them
 pub add-requires-clause-right : goal.add-requires-clause-right
 add-requires-clause-right c =
     let m = c.requires.right.0 in (
