@@ -1,12 +1,12 @@
 -- The first day of a block, and the days behind it.
-use Rattle.std.proofs.Common.{◌≡◌, ◌≢◌, ℕ, zero, suc, ◌+◌, ◌*◌, ◌%◌, ◌<◌, ◌≤◌, ◌^◌, true, List, [], ◌∷◌, ◌++◌}
+use Rattle.std.proofs.Common.{◌≡◌, ◌≢◌, ℕ, zero, suc, ◌+◌, ◌-◌, ◌*◌, ◌/◌, ◌%◌, ◌<◌, ◌≤◌, ◌^◌, true, List, [], ◌∷◌, ◌++◌}
 use Rattle.std.proofs.Common.{length, get_or, Option, Some, None, inl, inr, refl, sym, ap, ◌∙◌, arith, ℤ, pos, ◌+ℤ◌}
 use Rattle.std.proofs.Common.{w32}
 use Rattle.std.specs.Prelude.{bit_and}
-use Rattle.std.specs.Int.{bit_at, bit_not, trailing_zeros}
+use Rattle.std.specs.Int.{bit_at, trailing_zeros}
 use Rattle.std.specs.List.{filter_map, range_with_len}
 use Rattle.std.proofs.lemmas.Bool.{cases_lt}
-use Rattle.std.proofs.lemmas.Nat.Bits.{bit_at-zero, bit_at-trailing_zeros, bit_at_clear_same, bit_at_clear_other}
+use Rattle.std.proofs.lemmas.Nat.Bits.{bit_at-zero, bit_at-trailing_zeros, bit_at_and, bit_at_lowest, bit_at-suc}
 use Rattle.std.proofs.Common.{neg_ℤ, ◌≤ℤ◌}
 use Rattle.std.proofs.lemmas.Int.{ints}
 use Rattle.std.specs.Iterator.{YieldsFirst, MakesProgress, item_count}
@@ -58,9 +58,58 @@ pub block-empty : (n : ℤ) (vs : List ℤ) (w : ℕ) → w ≡ 0 → block_days
 unfolding days_from
 block-empty n vs w e = none-set n vs w 0 32 (λ i le lt. ap (λ (k : ℕ). bit_at k i) e ∙ bit_at-zero i)
 
+-- one less has no bit at the place of the lowest one, and the same behind it
+one_less : (t w : ℕ) → bit_at w t ≡ 1 → ((i : ℕ) → i < t → bit_at w i ≡ 0)
+    → (bit_at (w - 1) t ≡ 0) × ((i : ℕ) → t < i → bit_at (w - 1) i ≡ bit_at w i)
+one_less zero w set below =
+    let odd : w % 2 ≡ 1 = sym (bit_at_lowest w) ∙ set in
+    let half : (w - 1) / 2 ≡ w / 2 = omega (arith, odd) in (
+      bit_at_lowest (w - 1) ∙ omega (arith, odd),
+      behind half,
+    )
+  where
+    behind : (w - 1) / 2 ≡ w / 2 → (i : ℕ) → 0 < i → bit_at (w - 1) i ≡ bit_at w i
+    behind half zero lt = absurd (omega (arith, lt))
+    behind half (suc i) lt = bit_at-suc (w - 1) i ∙ ap (λ (n : ℕ). bit_at n i) half ∙ sym (bit_at-suc w i)
+one_less (suc t) w set below =
+    let even : w % 2 ≡ 0 = sym (bit_at_lowest w) ∙ below 0 (omega arith) in
+    let half : (w - 1) / 2 ≡ w / 2 - 1 = omega (arith, even) in
+    let rest = one_less t (w / 2) (sym (bit_at-suc w t) ∙ set)
+    (λ i lt. sym (bit_at-suc w i) ∙ below (suc i) (omega (arith, lt))) in (
+      bit_at-suc (w - 1) t ∙ ap (λ (n : ℕ). bit_at n t) half ∙ rest.0,
+      behind half rest.1,
+    )
+  where
+    behind : (w - 1) / 2 ≡ w / 2 - 1 → ((i : ℕ) → t < i → bit_at (w / 2 - 1) i ≡ bit_at (w / 2) i) → (i : ℕ) → suc t < i
+        → bit_at (w - 1) i ≡ bit_at w i
+    behind half same zero lt = absurd (omega (arith, lt))
+    behind half same (suc i) lt =
+        bit_at-suc (w - 1) i ∙ ap (λ (n : ℕ). bit_at n i) half ∙ same i (omega (arith, lt)) ∙ sym (bit_at-suc w i)
+
 -- a word without its lowest bit
 abbrev pub without_lowest : ℕ → ℕ
-without_lowest w = bit_and w (bit_not w32 (1 * 2 ^ trailing_zeros w32 w % 2 ^ 32))
+without_lowest w = bit_and w (w - 1)
+
+module _ (w : ℕ) (some : 0 < w) (fits : w < 2 ^ 32) where
+  -- the place of that bit
+  abbrev place : ℕ
+  place = trailing_zeros w32 w
+
+  -- it is gone
+  lowest-gone : bit_at (without_lowest w) place ≡ 0
+  lowest-gone =
+      let lowest = bit_at-trailing_zeros w32 w some fits in
+      omega (arith, bit_at_and w (w - 1) place, (one_less place w lowest.1 lowest.2).0)
+
+  -- and all others stay
+  others-stay : (i : ℕ) → i ≢ place → bit_at (without_lowest w) i ≡ bit_at w i
+  others-stay i ne =
+      let lowest = bit_at-trailing_zeros w32 w some fits in
+      let less = one_less place w lowest.1 lowest.2 in
+      elim (cases_lt i place) [
+        | inl lt ↦ omega (arith, bit_at_and w (w - 1) i, lowest.2 i lt)
+        | inr le ↦ omega (arith, bit_at_and w (w - 1) i, less.1 i (omega (arith, le, ne)))
+      ]
 
 -- the first day of a block is at the lowest bit of its word
 pub block-first : (n : ℤ) (vs : List ℤ) (w : ℕ) → 0 < w → w < 2 ^ 32
@@ -70,8 +119,7 @@ unfolding days_from
 block-first n vs w some fits =
     let lowest = bit_at-trailing_zeros w32 w some fits in
     lowest-first n vs w (without_lowest w) (trailing_zeros w32 w) 0 32 (omega arith) lowest.0 lowest.1
-    (bit_at_clear_same w32 w (trailing_zeros w32 w) lowest.0) lowest.2
-    (λ i lt ne. bit_at_clear_other w32 w (trailing_zeros w32 w) lowest.0 i lt ne)
+    (lowest-gone w some fits) lowest.2 (λ i lt ne. others-stay w some fits i ne)
 
 -- the calendar's days fit
 pub day-range : (d : ℤ) → is_day d ≡ true → (neg_ℤ (pos 719_162) ≤ℤ d) × (d ≤ℤ pos 2_932_896)
@@ -97,9 +145,9 @@ module _ (n : ℤ) (w : ℕ) (are : AreCalendarDays n w) (some : 0 < w) (fits : 
   days-left = record {
     days = λ j lt set.
         let at = bit_at-trailing_zeros w32 w some fits in
-        let gone : bit_at (without_lowest w) lowest ≡ 0 = bit_at_clear_same w32 w lowest at.0 in
+        let gone : bit_at (without_lowest w) lowest ≡ 0 = lowest-gone w some fits in
         let other : j ≢ lowest = λ same. omega (arith, gone, set, ap (bit_at (without_lowest w)) same) in
-        are.days j lt (sym (bit_at_clear_other w32 w lowest at.0 j lt other) ∙ set);
+        are.days j lt (sym (others-stay w some fits j other) ∙ set);
   }
 
   -- the block is one of the calendar's

@@ -113,7 +113,8 @@ impl<'a> Iterator for BlockDays<'a> {
         }
         let place = self.left.trailing_zeros();
         let day = day_at(self.number, place);
-        self.left &= !(1 << place);
+        // The lowest bit goes, without waiting for its place.
+        self.left &= self.left - 1;
         Some((day, self.values[place as usize]))
     }
 }

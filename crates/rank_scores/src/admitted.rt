@@ -1,6 +1,7 @@
 //! The days of a series that a query admits, one after another.
 
-ghost use Rattle.std.specs.Prelude.{◌≡◌, ◌↔◌, IsTrue, List, [], ◌∷◌, ◌++◌, ℤ, pos, ◌+ℤ◌, ◌≤ℤ◌};
+ghost use Rattle.std.specs.Prelude.{◌≡◌, ◌↔◌, ◌<◌, IsTrue, List, [], ◌∷◌, ◌++◌, length, ℤ, pos, ◌+ℤ◌, ◌≤ℤ◌};
+ghost use Rattle.std.specs.Prelude.{IfSome, IfNone};
 ghost use Rattle.std.specs.Option.{option_map};
 ghost use Rattle.ghcn_fields.specs.Days.{is_day};
 ghost use Rattle.ghcn_series.specs.Series.{DayValue, IsSeries};
@@ -15,24 +16,23 @@ use rank_query::Query;
 use std::marker::Model;
 
 /// The admitted usable days that are still to come, by increasing day, each with its value.
+///
+/// They come in parts: who goes through one has no more to ask of a day than whether its block has it.
 #[derive(Drop)]
 pub(crate) struct Admitted<'s, 'q> {
-    /// Those of the block at hand.
-    part: BlockDays<'s>,
-    /// All days behind them.
     days: Days<'s>,
     query: &'q Query,
     stretch: Stretch,
 }
 
 impl<'s, 'q> Model for Admitted<'s, 'q> {
-    ghost use Rattle.std.specs.Prelude.{List, ◌++◌};
+    ghost use Rattle.std.specs.Prelude.{List};
     ghost use Rattle.ghcn_series.specs.Series.{DayValue};
     ghost use Rattle.rank_scores.specs.Stretches.{admitted_among, IsStretch};
 
     ghost Value = { List DayValue };
 
-    ghost view = { λ a. a.part ++ admitted_among a.query.now a.days };
+    ghost view = { λ a. admitted_among a.query.now a.days };
 
     ghost invariant = { λ a. IsStretch a.query.now a.days a.stretch };
 }
@@ -44,7 +44,6 @@ impl<'s, 'q> Admitted<'s, 'q> {
         ensures series { IsSeries series.now }
     {
         Admitted {
-            part: BlockDays::none(),
             days: series.days(),
             query,
             stretch: Stretch {
@@ -53,24 +52,14 @@ impl<'s, 'q> Admitted<'s, 'q> {
             },
         }
     }
-}
 
-impl<'s, 'q> Iterator for Admitted<'s, 'q> {
-    ghost use Rattle.std.specs.Iterator.{YieldsFirst, item_count};
-
-    type Item = (Day, i32);
-
-    ghost next_gives = { YieldsFirst (λ rest. rest) };
-
-    ghost remaining = { item_count (λ rest. rest) };
-
-    #[inline(always)]
-    fn next(&mut self) -> Option<(Day, i32)> {
-        if let Some(first) = self.part.next() {
-            return Some(first);
-        }
-        self.part = next_part(&mut self.days, self.query, &mut self.stretch);
-        self.part.next()
+    /// The first of them, as many as lie in one block and one stretch.
+    pub(crate) fn next_part(&mut self) -> Option<BlockDays<'s>>
+        ensures some { IfSome result (λ part. self.old ≡ part ++ self.new) }
+        ensures day { IfSome result (λ part. 0 < length part) }
+        ensures none { IfNone result (self.old ≡ []) }
+    {
+        next_part(&mut self.days, self.query, &mut self.stretch)
     }
 }
 
@@ -81,25 +70,26 @@ pub fn has_admitted_day(series: &Series, query: &Query) -> bool
     ensures asked { result ≡ has_admitted query.now series.now }
     ensures series { IsSeries series.now }
 {
-    Admitted::of(series, query).next().is_some()
+    Admitted::of(series, query).next_part().is_some()
 }
 
 /// The first of some days that are admitted, as many as lie in one block and one stretch.
-fn next_part<'s>(days: &mut Days<'s>, query: &Query, stretch: &mut Stretch) -> BlockDays<'s>
+fn next_part<'s>(days: &mut Days<'s>, query: &Query, stretch: &mut Stretch) -> Option<BlockDays<'s>>
     requires { IsStretch query.now days.old stretch.old }
-    ensures parts { admitted_among query.now days.old
-        ≡ result ++ admitted_among query.now days.new }
-    ensures end { result ≡ [] → admitted_among query.now days.new ≡ [] }
+    ensures some { IfSome result (λ part. admitted_among query.now days.old
+        ≡ part ++ admitted_among query.now days.new) }
+    ensures day { IfSome result (λ part. 0 < length part) }
+    ensures none { IfNone result (admitted_among query.now days.old ≡ []) }
     ensures stretch { IsStretch query.now days.new stretch.new }
 {
     while let Some(day) = days.first() {
         stretch.go_on(query, day);
         let part = days.take_to(stretch.last);
         if stretch.admitted {
-            return part;
+            return Some(part);
         }
     }
-    BlockDays::none()
+    None
 }
 
 /// Whether days are admitted, up to a last one by its number.

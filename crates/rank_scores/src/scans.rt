@@ -36,12 +36,15 @@ fn scan_days<S: Sink>(id: StationId, series: &Series, query: &Query, extreme: Ex
     ensures { sink.new ≡ fold S.taken sink.old
         (meaning.candidates_among id (meaning.Days (score_by extreme)) (meaning.admitted query.now series.now)) }
 {
-    for (day, value) in Admitted::of(series, query) {
-        sink.offer(Candidate {
-            id,
-            first: day,
-            last: day,
-            score: extreme.score(value),
-        });
+    let mut admitted = Admitted::of(series, query);
+    while let Some(part) = admitted.next_part() {
+        for (day, value) in part {
+            sink.offer(Candidate {
+                id,
+                first: day,
+                last: day,
+                score: extreme.score(value),
+            });
+        }
     }
 }

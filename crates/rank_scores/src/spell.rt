@@ -1,9 +1,9 @@
 //! Spells: longest runs of consecutive days, each admitted and usable, whose values pass a test.
 
-ghost use Rattle.std.specs.Prelude.{◌≡◌, false, if◌then◌else◌};
+ghost use Rattle.std.specs.Prelude.{◌≡◌, false, Some, None, is_some, if◌then◌else◌};
 ghost use Rattle.std.specs.List.{fold};
 ghost use Rattle.std.specs.Option.{option_map_or};
-ghost use Rattle.rank_scores.specs.Spells.{goes_on, spell_list};
+ghost use Rattle.rank_scores.specs.Spells.{goes_on, open_spell, spell_list};
 ghost use Rattle.rank_scores.specs.Candidates.{test_of};
 ghost use Rattle.rank_scores.specs.Candidates as meaning;
 
@@ -56,44 +56,68 @@ pub(crate) fn scan_spells<S: Sink>(
     ensures { sink.new ≡ fold S.taken sink.old
         (meaning.candidates_among id (meaning.Spells (test_of spell)) (meaning.admitted query.now series.now)) }
 {
-    // The first and the last day of the spell that days may still be added to.
-    let mut run = None;
-    for (day, value) in Admitted::of(series, query) {
-        let passes = spell.passes(Some(value));
-        if let Some(first) = first_of(&run, day, passes) {
-            run = Some((first, day));
-        } else {
-            offer_spell(id, &run, sink);
-            run = spell_of_day(day, passes);
+    let mut run = Run::none();
+    let mut admitted = Admitted::of(series, query);
+    while let Some(part) = admitted.next_part() {
+        for (day, value) in part {
+            let passes = spell.passes(Some(value));
+            if run.goes_on(day, passes) {
+                run.last = day;
+            } else {
+                offer_spell(id, &run, sink);
+                run.begin(day, passes);
+            }
         }
     }
     offer_spell(id, &run, sink);
 }
 
-/// The first day of a spell, where a day is of the kind and comes behind its last one.
-fn first_of(run: &Option<(Day, Day)>, day: Day, passes: bool) -> Option<Day>
-    ensures { result ≡ goes_on run.now day passes }
-{
-    let (first, last) = (*run)?;
-    if passes && comes_next(Some(last), day) {
-        Some(first)
-    } else {
-        None
+/// A spell that days may still be added to, where one is open.
+#[derive(Drop)]
+struct Run {
+    is_open: bool,
+    first: Day,
+    last: Day,
+}
+
+impl Run {
+    /// No spell is open.
+    fn none() -> Self
+        ensures { open_spell result ≡ None }
+    {
+        Run {
+            is_open: false,
+            first: Day::numbered(0),
+            last: Day::numbered(0),
+        }
+    }
+
+    /// Whether a spell is open that goes on with a day: the day is of the kind, and comes behind its last one.
+    #[inline(always)]
+    fn goes_on(&self, day: Day, passes: bool) -> bool
+        ensures { result ≡ is_some (goes_on (open_spell self.now) day passes) }
+    {
+        passes && self.is_open && comes_next(Some(self.last), day)
+    }
+
+    /// Begins anew on a day, if the day is of the kind.
+    #[inline(always)]
+    fn begin(&mut self, day: Day, passes: bool)
+        ensures { open_spell self.new ≡ (if passes then Some (day, day) else None) }
+    {
+        self.is_open = passes;
+        self.first = day;
+        self.last = day;
     }
 }
 
-/// The spell of one day, if the day is of the kind.
-fn spell_of_day(day: Day, passes: bool) -> Option<(Day, Day)>
-    ensures { result ≡ (if passes then Some (day, day) else None) }
+/// Offers a spell, if one is open, as so many days.
+#[inline(always)]
+fn offer_spell<S: Sink>(id: StationId, run: &Run, sink: &mut S)
+    ensures { sink.new ≡ fold S.taken sink.old (spell_list id (open_spell run.now)) }
 {
-    if passes { Some((day, day)) } else { None }
-}
-
-/// Offers a spell, if there is one, as so many days.
-fn offer_spell<S: Sink>(id: StationId, spell: &Option<(Day, Day)>, sink: &mut S)
-    ensures { sink.new ≡ fold S.taken sink.old (spell_list id spell.now) }
-{
-    if let Some((first, last)) = *spell {
+    if run.is_open {
+        let (first, last) = (run.first, run.last);
         sink.offer(Candidate {
             id,
             first,

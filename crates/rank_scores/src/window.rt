@@ -106,19 +106,22 @@ pub(crate) fn scan_windows<S: Sink>(
     let mut ring = [0; PLACES];
     // The number of the day that goes on with the window.
     let mut next = 0;
-    for (day, value) in Admitted::of(series, query) {
-        window.go_on(next, day);
-        window.take_in(&mut ring, value);
-        next = day.number() + 1;
-        if window.len == n as usize {
-            let first = first_of(day, n);
-            sink.offer(Candidate {
-                id,
-                first,
-                last: day,
-                score: window.total,
-            });
-            window.leave(&ring);
+    let mut admitted = Admitted::of(series, query);
+    while let Some(part) = admitted.next_part() {
+        for (day, value) in part {
+            window.go_on(next, day);
+            window.take_in(&mut ring, value);
+            next = day.number() + 1;
+            if window.len == n as usize {
+                let first = first_of(day, n);
+                sink.offer(Candidate {
+                    id,
+                    first,
+                    last: day,
+                    score: window.total,
+                });
+                window.leave(&ring);
+            }
         }
     }
 }

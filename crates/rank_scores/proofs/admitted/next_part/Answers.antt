@@ -11,8 +11,8 @@ use Rattle.std.proofs.Common.{arith}
 use Rattle.std.proofs.lemmas.Int.{ints}
 
 -- an admitted part is the first of the admitted days
-pub returns-then-stretch-clause-parts : goal.returns-then-stretch-clause-parts
-returns-then-stretch-clause-parts c =
+pub returns-then-stretch-clause-some : goal.returns-then-stretch-clause-some
+returns-then-stretch-clause-some c =
     let q : Asked = c.args.query.now in
     let late : FitsSigned w32 c.go_on.new.self.last = search rules in
     let parts : c.loop-day.days ≡ c.take_to-part.result ++ c.take_to-part.new.self =
@@ -54,5 +54,5 @@ loop-day-preserved c =
     }
 
 -- behind the last day there is none
-pub returns-clause-end : goal.returns-clause-end
-returns-clause-end c = grind (arith, ints, no-first c.loop-day.days c.in_default.ensures.first)
+pub returns-clause-none : goal.returns-clause-none
+returns-clause-none c = grind (arith, ints, no-first c.loop-day.days c.in_default.ensures.first)

@@ -4,5 +4,5 @@ use Rattle.std.proofs.Common.{arith}
 use Rattle.std.proofs.Common.{rules}
 
 -- at first no spell is open
-pub loop-day-init : goal.loop-day-init
-loop-day-init g c = search (rules, arith, offered-all)
+pub loop-part-init : goal.loop-part-init
+loop-part-init g c = search (rules, arith, offered-all)
