@@ -1,5 +1,6 @@
 pub mod ListFacts
 pub mod PartDays
+pub mod RunDays
 pub mod Lookups
 pub mod FirstDays
 pub mod JoinedDays

@@ -37,7 +37,7 @@ least-none : (a b : ℕ) → b ≡ 0 → min a b ≡ 0
 least-none a b e = omega (arith, e)
 
 -- of two bits whose lesser is 1 the first is
-first-set : (a b : ℕ) → a < 2 → min a b ≡ 1 → a ≡ 1
+pub first-set : (a b : ℕ) → a < 2 → min a b ≡ 1 → a ≡ 1
 first-set a b less e = omega (arith, e)
 
 -- the days that some of a word's bits leave are of the calendar
@@ -81,12 +81,12 @@ module _ (n : ℤ) (vs : List ℤ) (w k : ℕ) (le : k ≤ 32) where
   later_bits = bit_and w (2 ^ 32 - 2 ^ k)
 
   -- the first places have their bits of the word
-  first-in : (j : ℕ) → j < k → bit_at first_bits j ≡ bit_at w j
+  pub first-in : (j : ℕ) → j < k → bit_at first_bits j ≡ bit_at w j
   first-in j lt = bit_at_and w (2 ^ k - 1) j
       ∙ least-one (bit_at w j) (bit_at (2 ^ k - 1) j) (bit_at-lt w j) (bit_at_ones k j lt)
 
   -- and no others
-  first-out : (j : ℕ) → k ≤ j → bit_at first_bits j ≡ 0
+  pub first-out : (j : ℕ) → k ≤ j → bit_at first_bits j ≡ 0
   first-out j more = bit_at_and w (2 ^ k - 1) j
       ∙ least-none (bit_at w j) (bit_at (2 ^ k - 1) j) (bit_at_ones_above k j more)
 

@@ -1,7 +1,7 @@
 -- Packed columns: blocks of 32 days, each with a word, whose bit j says that day j is present, and the days' values.
-use Rattle.std.specs.Prelude.{◌≡◌, ℕ, ◌<◌, ◌^◌, ◌==◌, true, List, [], ◌∷◌, length, get_or, ⊤}
+use Rattle.std.specs.Prelude.{◌≡◌, ℕ, ◌<◌, ◌≤◌, ◌^◌, ◌==◌, Bool, true, List, [], ◌∷◌, ◌++◌, length, get_or, ⊤}
 use Rattle.std.specs.Prelude.{Option, Some, None, ℤ, pos, ◌+ℤ◌, ◌*ℤ◌, ◌≤ℤ◌, ◌<ℤ◌, int_le}
-use Rattle.std.specs.Int.{bit_at, int_rem_euclid}
+use Rattle.std.specs.Int.{bit_at, int_rem_euclid, trailing_zeros, w32}
 use Rattle.std.specs.List.{find, filter_map, flat_map, range_with_len, zip, AllByRecursion}
 use Rattle.std.specs.Option.{option_map}
 use Rattle.ghcn_fields.specs.Days.{is_day, block_of}
@@ -110,3 +110,27 @@ pub record IsLastOf (number : ℤ) (word : ℕ) (day : Option ℤ) : Type 0 wher
   pub set : bit_at word place ≡ 1
   pub highest : (i : ℕ) → place < i → bit_at word i ≡ 0
   pub is : day ≡ Some (block_start number +ℤ pos place)
+
+-- a word has a bit for each of 32 places, set where the value there passes a test
+abbrev pub ArePlacesOf : (ℤ → Bool) → List ℤ → ℕ → Type 0
+ArePlacesOf test values word = (j : ℕ) → j < 32 → (bit_at word j == 1) ≡ test (get_or values j (pos 0))
+
+-- the lowest bits of a word that follow one another end before a place
+pub record EndsRun (word behind : ℕ) : Type 0 where
+  pub some : trailing_zeros w32 word < behind
+  pub few : behind ≤ 32
+  pub row : (j : ℕ) → trailing_zeros w32 word ≤ j → j < behind → bit_at word j ≡ 1
+  pub ends : bit_at word behind ≡ 0
+
+-- the days from a first to a last one, each the day behind the one before it
+abbrev pub AreInARow : ℤ → ℤ → List DayValue → Type 0
+AreInARow first last [] = first ≡ last +ℤ pos 1
+AreInARow first last (x ∷ xs) = (x.0 ≡ first) × AreInARow (first +ℤ pos 1) last xs
+
+-- the first of some days are taken, from a first to a last one in a row, and none that is left is the day behind these
+pub record TakesRun (days : List DayValue) (ends : ℤ × ℤ) (left : List DayValue) : Type 0 where
+  pub run : List DayValue
+  pub some : 0 < length run
+  pub row : AreInARow ends.0 ends.1 run
+  pub parts : days ≡ run ++ left
+  pub apart : AllByRecursion (λ x. (ends.1 +ℤ pos 1) <ℤ x.0) left

@@ -1,7 +1,7 @@
 //! The usable days of a series, one after another.
 
 ghost use Rattle.std.specs.Prelude.{◌≡◌, ◌↔◌, ℕ, ◌<◌, ◌≤◌, ◌-◌, ◌^◌, ◌++◌, [], IsTrue, pos, ◌+ℤ◌, ◌≤ℤ◌, ◌<ℤ◌};
-ghost use Rattle.std.specs.Prelude.{IfSome, IfNone, length, slice_get};
+ghost use Rattle.std.specs.Prelude.{IfSome, IfNone, length, slice_get, filter, int_le, int_lt};
 ghost use Rattle.std.specs.List.{AllByRecursion};
 ghost use Rattle.std.specs.Option.{option_map};
 ghost use Rattle.ghcn_fields.specs.Days.{IsBlock, is_day};
@@ -53,8 +53,47 @@ impl<'a> BlockDays<'a> {
         BlockDays::of(0, 0, &NO_VALUES)
     }
 
+    /// Leaves out the days whose value is below a least one.
+    pub fn keep_from(&mut self, least: i32)
+        ensures { self.new ≡ filter (λ x. int_le least x.1) self.old }
+    {
+        self.left &= places_from(self.values, least);
+    }
+
+    /// Leaves out the days whose value isn't below a limit.
+    pub fn keep_below(&mut self, limit: i32)
+        ensures { self.new ≡ filter (λ x. int_lt x.1 limit) self.old }
+    {
+        self.left &= !places_from(self.values, limit);
+    }
+
+    /// Takes the first days, as many as follow one another, and answers the first and the last of them.
+    ///
+    /// Who looks for days in a row needs no look at each of them.
+    #[inline(always)]
+    pub fn next_run(&mut self) -> Option<(Day, Day)>
+        ensures run { IfSome result (λ ends. packed.TakesRun self.old ends self.new) }
+        ensures none { IfNone result (self.old ≡ []) }
+    {
+        if self.left == 0 {
+            return None;
+        }
+        let place = self.left.trailing_zeros();
+        let behind = end_of_run(self.left);
+        let ends = (day_at(self.number, place), day_at(self.number, behind - 1));
+        self.left &= !first_places(behind);
+        Some(ends)
+    }
+
+    /// How many days are to come.
+    pub fn len(&self) -> u32
+        ensures { result ≡ length self.now }
+    {
+        self.left.count_ones()
+    }
+
     /// Whether no day is to come.
-    fn is_empty(&self) -> bool
+    pub fn is_empty(&self) -> bool
         ensures { IsTrue result ↔ (self.now ≡ []) }
     {
         self.left == 0
@@ -87,7 +126,7 @@ impl<'a> BlockDays<'a> {
     }
 
     /// The same days once more.
-    fn again(&self) -> Self
+    pub fn again(&self) -> Self
         ensures { result ≡ self.now }
     {
         BlockDays {
@@ -133,6 +172,26 @@ fn places_to(number: i32, last: i32) -> u32
     } else {
         32
     }
+}
+
+/// The place behind the lowest bits of a word that follow one another.
+fn end_of_run(word: u32) -> u32
+    requires { 0 < word }
+    ensures { packed.EndsRun word result }
+{
+    let place = word.trailing_zeros();
+    place + (word >> place).trailing_ones()
+}
+
+/// The places of the values that aren't below a least one, as bits of a word.
+fn places_from(values: &[i32; 32], least: i32) -> u32
+    ensures { packed.ArePlacesOf (int_le least) values.now result }
+{
+    let mut word = 0;
+    for place in 0..32_u32 {
+        word |= u32::from(values[place as usize] >= least) << place;
+    }
+    word
 }
 
 /// The word of the first so many places of a block.
