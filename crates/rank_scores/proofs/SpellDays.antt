@@ -1,9 +1,10 @@
 -- The spells that are offered as one day after another comes are those of the days.
 use Rattle.std.proofs.Common.{◌≡◌, ℕ, suc, ◌-◌, ◌<◌, Bool, true, false, cond, List, [], ◌∷◌, ◌++◌, Option, Some, None}
-use Rattle.std.proofs.Common.{refl, sym, ap, ◌∙◌, arith, inl, inr, ℤ, pos, ◌+ℤ◌, ◌-ℤ◌, ◌<ℤ◌}
-use Rattle.std.specs.Prelude.{◌&&◌, not}
-use Rattle.std.specs.List.{AllByRecursion, filter_map, cons_option}
-use Rattle.std.specs.Option.{option_map, option_map_or}
+use Rattle.std.proofs.Common.{refl, sym, ap, ◌∙◌, subst, arith, inl, inr, ℤ, pos, ◌+ℤ◌, ◌-ℤ◌, ◌<ℤ◌}
+use Rattle.std.specs.Prelude.{◌&&◌, not, filter, length, ⊤}
+use Rattle.std.specs.List.{AllByRecursion, filter_map, cons_option, fold}
+use Rattle.std.proofs.lemmas.List.Sums.{fold-append}
+use Rattle.std.specs.Option.{option_map, option_map_or, is_some}
 use Rattle.std.specs.Ordering.{int_eq}
 use Rattle.std.proofs.lemmas.Bool.{and_parts, and_left, and_right, not_from_true}
 use Rattle.std.proofs.lemmas.Bool.{cases_lt, cases_Bool}
@@ -11,17 +12,19 @@ use Rattle.std.proofs.lemmas.Bool.Decides.{Decides-int_eq}
 use Rattle.std.proofs.lemmas.Int.{ints, by_lt_z}
 use Rattle.ghcn_fields.specs.Days.{first_day, is_day}
 use Rattle.ghcn_files.specs.declared.station.StationId.{StationId}
+use Rattle.ghcn_series.specs.Packed.{AreInARow, TakesRun}
 use Rattle.ghcn_series.specs.Series.{DayValue, Usable, IsSeries}
 use Rattle.rank_query.specs.Asked.{Asked}
 use Rattle.rank_scores.specs.declared.candidate.Candidate.{Candidate}
 use Rattle.rank_scores.specs.Runs.{begins_run}
 use Rattle.rank_scores.specs.Candidates.{Spells, begun, candidate, candidates_among, admitted, is_such}
-use Rattle.rank_scores.specs.Spells.{goes_on, spell_from, spell_list}
+use Rattle.rank_scores.specs.Spells.{goes_on, open_spell, spell_from, spell_list}
+use Rattle.rank_scores.specs.declared.spell.Run.{Run}
 use Rattle.rank_scores.proofs.Rising.{Rise, admitted-rise, from_each, value_on-other, value_on-here, value_on-later}
-use Rattle.rank_scores.proofs.Rising.{value_on-before}
+use Rattle.rank_scores.proofs.Rising.{value_on-before, all-filter}
 use Rattle.rank_scores.proofs.Runs.{AreDays, admitted-days, day-bounds}
 use Rattle.rank_scores.proofs.Exactly.{spell-begins}
-use Rattle.std.proofs.Common.{rules}
+use Rattle.std.proofs.Common.{rules, append_assoc}
 
 -- what is offered while some days come, where a spell may be open before them
 abbrev pub offered : StationId → (ℤ → Bool) → Option (ℤ × ℤ) → List DayValue → List Candidate
@@ -153,3 +156,149 @@ offered-all id test q s series =
     offered-is id test days cal None (first_day -ℤ pos 1) days
     (ap (λ (o : Option ℤ). option_map_or test o false) (value_on-later days (first_day -ℤ pos 1) later))
     (admitted-rise q s series) later (λ d lt. refl)
+
+-- ---- days of the kind alone
+
+-- the last day of an open spell comes before each of some days, and before the day before it
+abbrev IsClosedBefore : Option (ℤ × ℤ) → List DayValue → Type 0
+IsClosedBefore None days = ⊤
+IsClosedBefore (Some s) days = AllByRecursion (λ y. (s.1 +ℤ pos 1) <ℤ y.0) days
+
+-- the last day of an open spell comes before each of some days
+abbrev IsOpenBefore : Option (ℤ × ℤ) → List DayValue → Type 0
+IsOpenBefore None days = ⊤
+IsOpenBefore (Some s) days = AllByRecursion (λ y. s.1 <ℤ y.0) days
+
+-- what is offered while days of the kind come
+abbrev pub offered_of_kind : StationId → Option (ℤ × ℤ) → List DayValue → List Candidate
+offered_of_kind id run days = offered id (λ _. true) run days
+
+-- a spell that no day of the kind goes on with is offered first
+closed-first : (id : StationId) (run : Option (ℤ × ℤ)) (days : List DayValue) → IsClosedBefore run days
+    → offered_of_kind id run days ≡ spell_list id run ++ offered_of_kind id None days
+closed-first id None days before = refl
+closed-first id (Some s) [] before = refl
+closed-first id (Some s) (y ∷ ys) before =
+    let other : int_eq y.0 (s.1 +ℤ pos 1) ≡ false = grind (arith, ints, by_lt_z) in
+    rw (other, offered) refl
+
+-- days of another kind change nothing of what is offered
+pub offered-kept : (id : StationId) (test : ℤ → Bool) (run : Option (ℤ × ℤ)) (days : List DayValue) → Rise days
+    → IsOpenBefore run days
+    → offered id test run days ≡ offered_of_kind id run (filter (λ x. test x.1) days)
+offered-kept id test run [] rise before = refl
+offered-kept id test None (y ∷ ys) rise before =
+    elim (cases_Bool (test y.1)) [
+      | inl e ↦ rw (e, offered) (offered-kept id test (Some (y.0, y.0)) ys rise.1 rise.0)
+      | inr e ↦ rw (e, offered) (offered-kept id test None ys rise.1 tt)
+    ]
+offered-kept id test (Some s) (y ∷ ys) rise before =
+    elim (cases_Bool (test y.1)) [
+      | inl e ↦
+          elim (cases_Bool (int_eq y.0 (s.1 +ℤ pos 1))) [
+            | inl on ↦ rw (e, on, offered) (offered-kept id test (Some (s.0, y.0)) ys rise.1 rise.0)
+            | inr off ↦ rw (e, off, offered, e)
+                (ap (λ (l : List Candidate). spell_from id s.0 s.1 ∷ l)
+                (offered-kept id test (Some (y.0, y.0)) ys rise.1 rise.0))
+          ]
+      | inr e ↦
+          let closed : AllByRecursion (λ (z : DayValue). (s.1 +ℤ pos 1) <ℤ z.0) ys =
+          from_each (λ z. y.0 <ℤ z.0) (λ z. (s.1 +ℤ pos 1) <ℤ z.0) ys (λ z later. omega (arith, ints, later, before.0))
+          rise.0 in
+          rw (e, offered, e)
+          (ap (λ (l : List Candidate). spell_from id s.0 s.1 ∷ l) (offered-kept id test None ys rise.1 tt)
+          ∙ sym (closed-first id (Some s) (filter (λ x. test x.1) ys)
+          (all-filter (λ (z : DayValue). (s.1 +ℤ pos 1) <ℤ z.0) (λ x. test x.1) ys closed)))
+    ]
+
+-- an open spell goes on with days in a row
+offered-on : (id : StationId) (first day last : ℤ) (row rest : List DayValue) → AreInARow (day +ℤ pos 1) last row
+    → offered_of_kind id (Some (first, day)) (row ++ rest) ≡ offered_of_kind id (Some (first, last)) rest
+offered-on id first day last [] rest in_row =
+    let same : day ≡ last = omega (arith, ints, in_row) in
+    ap (λ (d : ℤ). offered_of_kind id (Some (first, d)) rest) same
+offered-on id first day last (x ∷ xs) rest in_row =
+    let on : int_eq x.0 (day +ℤ pos 1) ≡ true = (Decides-int_eq x.0 (day +ℤ pos 1)).1 in_row.0 in
+    rw (on, offered) (offered-on id first x.0 last xs rest
+    (subst (λ (d : ℤ). AreInARow (d +ℤ pos 1) last xs) (sym in_row.0) in_row.1))
+
+-- days in a row, the first of which an open spell goes on with
+pub offered-longer : (id : StationId) (run : Option (ℤ × ℤ)) (first last begun : ℤ) (row rest : List DayValue)
+    → 0 < length row → AreInARow first last row → goes_on run first true ≡ Some begun
+    → offered_of_kind id run (row ++ rest) ≡ offered_of_kind id (Some (begun, last)) rest
+offered-longer id run first last begun [] rest some in_row on = absurd (omega (arith, some))
+offered-longer id run first last begun (x ∷ xs) rest some in_row on =
+    let here : goes_on run x.0 true ≡ Some begun = ap (λ (d : ℤ). goes_on run d true) in_row.0 ∙ on in
+    rw (here, offered) (offered-on id begun x.0 last xs rest
+    (subst (λ (d : ℤ). AreInARow (d +ℤ pos 1) last xs) (sym in_row.0) in_row.1))
+
+-- days in a row, with the first of which a spell begins
+pub offered-anew : (id : StationId) (run : Option (ℤ × ℤ)) (first last : ℤ) (row rest : List DayValue)
+    → 0 < length row → AreInARow first last row → goes_on run first true ≡ None
+    → offered_of_kind id run (row ++ rest)
+    ≡ spell_list id run ++ offered_of_kind id (Some (first, last)) rest
+offered-anew id run first last [] rest some in_row on = absurd (omega (arith, some))
+offered-anew id run first last (x ∷ xs) rest some in_row on =
+    let here : goes_on run x.0 true ≡ None = ap (λ (d : ℤ). goes_on run d true) in_row.0 ∙ on in
+    rw (here, offered) (ap (λ (l : List Candidate). spell_list id run ++ l)
+    (offered-on id x.0 x.0 last xs rest
+    (subst (λ (d : ℤ). AreInARow (d +ℤ pos 1) last xs) (sym in_row.0) in_row.1)
+    ∙ ap (λ (d : ℤ). offered_of_kind id (Some (d, last)) rest) in_row.0))
+
+-- what is offered of a series as days of the kind come is its spells
+pub offered-spells : (id : StationId) (test : ℤ → Bool) (q : Asked) (s : Usable) → IsSeries s
+    → offered_of_kind id None (filter (λ x. test x.1) (admitted q s)) ≡ candidates_among id (Spells test) (admitted q s)
+offered-spells id test q s series =
+    sym (offered-kept id test None (admitted q s) (admitted-rise q s series) tt) ∙ offered-all id test q s series
+
+-- a run that an open spell goes on with is added to it
+pub run-longer : (id : StationId) (r : Run) (ends : ℤ × ℤ) (days behind more : List DayValue) → TakesRun days ends behind
+    → is_some (goes_on (open_spell r) ends.0 true) ≡ true
+    → offered_of_kind id (open_spell r) (days ++ more)
+    ≡ offered_of_kind id (open_spell (record r { last = ends.1 })) (behind ++ more)
+run-longer id r ends days behind more taken on =
+    elim (cases_Bool r.is_open) [
+      | inr e ↦ let closed : is_some (goes_on None ends.0 true) ≡ true = rw e at on in absurd cc
+      | inl e ↦
+          let follows : is_some (goes_on (Some (r.first, r.last)) ends.0 true) ≡ true = rw e at on in
+          let begun : goes_on (Some (r.first, r.last)) ends.0 true ≡ Some r.first = some-of follows in
+          let apart : days ++ more ≡ taken.run ++ (behind ++ more) =
+          ap (λ (l : List DayValue). l ++ more) taken.parts ∙ append_assoc taken.run behind more in
+          rw (e, apart)
+          (offered-longer id (Some (r.first, r.last)) ends.0 ends.1 r.first taken.run (behind ++ more) taken.some taken.row
+          begun)
+    ]
+  where
+    some-of : is_some (goes_on (Some (r.first, r.last)) ends.0 true) ≡ true
+        → goes_on (Some (r.first, r.last)) ends.0 true ≡ Some r.first
+    some-of follows = elim (cases_Bool (int_eq ends.0 (r.last +ℤ pos 1))) [
+      | inl e ↦ rw e refl
+      | inr e ↦ let none : false ≡ true = rw e at follows in absurd cc
+    ]
+
+-- a run that none goes on with begins a spell, and the open one is offered
+pub run-anew : (id : StationId) (run : Option (ℤ × ℤ)) (ends : ℤ × ℤ) (days behind more : List DayValue)
+    → TakesRun days ends behind → is_some (goes_on run ends.0 true) ≡ false
+    → offered_of_kind id run (days ++ more)
+    ≡ spell_list id run ++ offered_of_kind id (Some (ends.0, ends.1)) (behind ++ more)
+run-anew id run ends days behind more taken off =
+    let none : goes_on run ends.0 true ≡ None = none-of (goes_on run ends.0 true) off in
+    let apart : days ++ more ≡ taken.run ++ (behind ++ more) =
+    ap (λ (l : List DayValue). l ++ more) taken.parts ∙ append_assoc taken.run behind more in
+    rw apart (offered-anew id run ends.0 ends.1 taken.run (behind ++ more) taken.some taken.row none)
+  where
+    none-of : (o : Option ℤ) → is_some o ≡ false → o ≡ None
+    none-of None e = refl
+    none-of (Some x) e = absurd cc
+
+-- once the open spell is offered and a run begins one, what is left to offer is what was
+pub offers-anew : {S : Type 0} (taken : S → Candidate → S) (sink after : S) (id : StationId) (run begun : Option (ℤ × ℤ))
+    (ends : ℤ × ℤ) (days behind more : List DayValue) → TakesRun days ends behind
+    → is_some (goes_on run ends.0 true) ≡ false → after ≡ fold taken sink (spell_list id run)
+    → begun ≡ Some (ends.0, ends.1)
+    → fold taken after (offered_of_kind id begun (behind ++ more))
+    ≡ fold taken sink (offered_of_kind id run (days ++ more))
+offers-anew taken sink after id run begun ends days behind more takes off is opened =
+    let rest : List Candidate = offered_of_kind id (Some (ends.0, ends.1)) (behind ++ more) in
+    rw (is, opened) (sym (fold-append taken sink (spell_list id run) rest)
+    ∙ ap (fold taken sink) (sym (run-anew id run ends days behind more takes off)))

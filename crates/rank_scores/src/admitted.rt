@@ -125,12 +125,9 @@ impl Stretch {
     }
 }
 
-/// Whether there is a last day, and a day is the one behind it.
-pub(crate) fn comes_next(last: Option<Day>, day: Day) -> bool
-    ensures { IsTrue result ↔ (option_map (λ d. d +ℤ pos 1) last ≡ Some day) }
+/// Whether a day is the one behind a last day.
+pub(crate) fn comes_next(last: Day, day: Day) -> bool
+    ensures { IsTrue result ↔ (last +ℤ pos 1 ≡ day) }
 {
-    match last {
-        Some(last) => day.number() - last.number() == 1,
-        None => false,
-    }
+    day.number() - last.number() == 1
 }

@@ -1,6 +1,6 @@
 //! Spells: longest runs of consecutive days, each admitted and usable, whose values pass a test.
 
-ghost use Rattle.std.specs.Prelude.{◌≡◌, false, Some, None, is_some, if◌then◌else◌};
+ghost use Rattle.std.specs.Prelude.{◌≡◌, true, false, Some, None, is_some, filter};
 ghost use Rattle.std.specs.List.{fold};
 ghost use Rattle.std.specs.Option.{option_map_or};
 ghost use Rattle.rank_scores.specs.Spells.{goes_on, open_spell, spell_list};
@@ -11,7 +11,7 @@ use crate::admitted::{Admitted, comes_next};
 use crate::{Candidate, Sink};
 use ghcn_fields::Day;
 use ghcn_files::StationId;
-use ghcn_series::Series;
+use ghcn_series::{BlockDays, Series};
 use rank_query::Query;
 
 /// 1 mm, in tenths of a millimetre.
@@ -41,10 +41,23 @@ impl Spell {
             (Spell::Hot(least), Some(value)) => value >= least,
         }
     }
+
+    /// Leaves out the days that aren't of the kind.
+    #[inline(always)]
+    fn keep(self, days: &mut BlockDays)
+        ensures { days.new ≡ filter (λ x. test_of self x.1) days.old }
+    {
+        match self {
+            Spell::Dry => days.keep_below(ONE_MILLIMETRE),
+            Spell::Wet => days.keep_from(ONE_MILLIMETRE),
+            Spell::Hot(least) => days.keep_from(least),
+        }
+    }
 }
 
-/// Offers each spell, once the day came that isn't in it any more.
-// Each kind of spell has a loop of its own, whose test on values is one comparison.
+/// Offers each spell, once a day of the kind came that isn't in it any more.
+///
+/// Of a part the days of the kind are found together, and those in a row are added together.
 #[inline(always)]
 pub(crate) fn scan_spells<S: Sink>(
     id: StationId,
@@ -58,14 +71,14 @@ pub(crate) fn scan_spells<S: Sink>(
 {
     let mut run = Run::none();
     let mut admitted = Admitted::of(series, query);
-    while let Some(part) = admitted.next_part() {
-        for (day, value) in part {
-            let passes = spell.passes(Some(value));
-            if run.goes_on(day, passes) {
-                run.last = day;
+    while let Some(mut part) = admitted.next_part() {
+        spell.keep(&mut part);
+        while let Some((first, last)) = part.next_run() {
+            if run.goes_on(first) {
+                run.last = last;
             } else {
                 offer_spell(id, &run, sink);
-                run.begin(day, passes);
+                run.begin(first, last);
             }
         }
     }
@@ -92,22 +105,22 @@ impl Run {
         }
     }
 
-    /// Whether a spell is open that goes on with a day: the day is of the kind, and comes behind its last one.
+    /// Whether a spell is open that goes on with a day of the kind: the day comes behind its last one.
     #[inline(always)]
-    fn goes_on(&self, day: Day, passes: bool) -> bool
-        ensures { result ≡ is_some (goes_on (open_spell self.now) day passes) }
+    fn goes_on(&self, day: Day) -> bool
+        ensures { result ≡ is_some (goes_on (open_spell self.now) day true) }
     {
-        passes && self.is_open && comes_next(Some(self.last), day)
+        self.is_open && comes_next(self.last, day)
     }
 
-    /// Begins anew on a day, if the day is of the kind.
+    /// Begins anew with days of the kind, from a first to a last one.
     #[inline(always)]
-    fn begin(&mut self, day: Day, passes: bool)
-        ensures { open_spell self.new ≡ (if passes then Some (day, day) else None) }
+    fn begin(&mut self, first: Day, last: Day)
+        ensures { open_spell self.new ≡ Some (first, last) }
     {
-        self.is_open = passes;
-        self.first = day;
-        self.last = day;
+        self.is_open = true;
+        self.first = first;
+        self.last = last;
     }
 }
 

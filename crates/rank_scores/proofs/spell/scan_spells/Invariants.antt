@@ -1,23 +1,29 @@
 use Rattle.std.proofs.Common.{◌≡◌, ◌++◌, length}
+use Rattle.std.specs.Prelude.{filter}
 use Rattle.std.specs.List.{fold}
 use Rattle.rank_scores.specs.Candidates.{Spells, admitted, candidates_among}
 use Rattle.rank_scores.specs.Candidates.{test_of}
 use Rattle.rank_scores.specs.Spells.{open_spell}
-use Rattle.rank_scores.proofs.SpellDays.{offered}
+use Rattle.rank_scores.proofs.SpellDays.{offered_of_kind}
 use Rattle.rank_scores.proofs.spell.scan_spells.Given as goal
 
 -- once what is still to be offered is, the sink is as it will be
 abbrev pub invariant-loop-part : goal.invariant-loop-part
 invariant-loop-part g l =
-    fold g.S.Sink.taken l.sink (offered l.id (test_of l.spell) (open_spell l.run) l.admitted) ≡
-    fold g.S.Sink.taken l.fn.sink (candidates_among l.id (Spells (test_of l.spell)) (admitted l.query l.series))
+    fold g.S.Sink.taken l.sink (offered_of_kind l.id (open_spell l.run) (filter (λ x. test_of l.spell x.1) l.admitted))
+    ≡ fold g.S.Sink.taken l.fn.sink (candidates_among l.id (Spells (test_of l.spell)) (admitted l.query l.series))
 
 -- each part takes a day at least
 abbrev pub decreases-loop-part : goal.decreases-loop-part
 decreases-loop-part g l = length l.admitted
 
--- the same in the midst of a part
-abbrev pub invariant-loop-day : goal.invariant-loop-day
-invariant-loop-day g l =
-    fold g.S.Sink.taken l.sink (offered l.id (test_of l.spell) (open_spell l.run) (l.day-iterator ++ l.admitted)) ≡
-    fold g.S.Sink.taken l.fn.sink (candidates_among l.id (Spells (test_of l.spell)) (admitted l.query l.series))
+-- the same in the midst of a part, of which the days of the kind are left
+abbrev pub invariant-loop-first : goal.invariant-loop-first
+invariant-loop-first g l =
+    fold g.S.Sink.taken l.sink (offered_of_kind l.id (open_spell l.run)
+    (l.part ++ filter (λ x. test_of l.spell x.1) l.admitted))
+    ≡ fold g.S.Sink.taken l.fn.sink (candidates_among l.id (Spells (test_of l.spell)) (admitted l.query l.series))
+
+-- each run takes a day at least
+abbrev pub decreases-loop-first : goal.decreases-loop-first
+decreases-loop-first g l = length l.part
