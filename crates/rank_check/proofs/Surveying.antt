@@ -3,7 +3,10 @@ use Rattle.std.proofs.Common.{◌≡◌, ℕ, ◌+◌, ◌<◌, Bool, true, fals
 use Rattle.std.proofs.Common.{map, Option, Some, None, refl, sym, ap, ◌∙◌, subst, arith, append-nil}
 use Rattle.std.proofs.Common.{append_assoc}
 use Rattle.std.proofs.Common.{◌||◌, ℤ, get_or}
-use Rattle.std.specs.List.{fold, flat_map}
+use Rattle.std.specs.List.{fold, flat_map, AllByRecursion}
+use Rattle.std.specs.Prelude.{int_le}
+use Rattle.std.proofs.Common.{inl, inr, ◌^◌, ◌<ℤ◌, ◌≤ℤ◌}
+use Rattle.std.proofs.lemmas.Bool.{cases_Bool}
 use Rattle.std.specs.Int.{int_max}
 use Rattle.std.specs.Ordering.{is_eq, is_lt, is_le, int_cmp, ordering_then}
 use Rattle.std.specs.declared.cmp.Ordering.{Ordering}
@@ -29,7 +32,7 @@ use Rattle.rank_check.proofs.Each.{each-more}
 use Rattle.rank_check.specs.Survey.{IsLast, reaches, later, top, met, met_by, raised, top_score, Tallied}
 use Rattle.rank_check.specs.declared.tally.Mark.{Mark}
 use Rattle.rank_check.specs.Survey.{tally_with}
-use Rattle.rank_check.specs.Survey.{reset}
+use Rattle.rank_check.specs.Survey.{reset, IsFloor}
 
 -- ---- one candidate more
 
@@ -237,3 +240,67 @@ low-behind None d e = refl
 low-behind (Some l) d e =
     let less : int_cmp l.score d.score ≡ Greater = grind (arith, ints) in
     greater_first (int_cmp l.score d.score) _ _ less
+
+-- ---- candidates below a floor
+
+-- a candidate that scores less than a row changes nothing about it
+below-row : (d : Candidate) (m : Met) → d.score <ℤ m.candidate.score → met_by d m ≡ m
+below-row d m low =
+    let less : int_cmp m.candidate.score d.score ≡ Greater = grind (arith, ints) in
+    row-behind d m (greater_first (int_cmp m.candidate.score d.score) _ _ less)
+
+-- nor about any of them
+below-rows : (d : Candidate) (floor : ℤ) (rows : List Met) → d.score <ℤ floor
+    → AllByRecursion (λ m. floor ≤ℤ m.candidate.score) rows → map (met_by d) rows ≡ rows
+below-rows d floor [] low from = refl
+below-rows d floor (m ∷ ms) low from =
+    let under : d.score <ℤ m.candidate.score = omega (arith, ints, low, from.0) in
+    ap (λ (x : Met). x ∷ map (met_by d) ms) (below-row d m under)
+    ∙ ap (λ (l : List Met). m ∷ l) (below-rows d floor ms low from.1)
+
+-- nor does it raise the greatest score
+not-raised : (highest score floor : ℤ) → floor ≤ℤ highest → score <ℤ floor → int_max highest score ≡ highest
+not-raised highest score floor under low = grind (arith, ints)
+
+-- a tally is changed by its number alone
+below-one : (t : Tallied) (d : Candidate) (floor : ℤ) → IsFloor t floor → d.score <ℤ floor
+    → tally_with t d ≡ record { rows = t.rows; count = in_64_bits (t.count + 1); highest = t.highest }
+below-one t d floor is low =
+    let rows = below-rows d floor t.rows low is.rows in
+    let highest : Some (raised t.highest d.score) ≡ t.highest =
+    ap (λ (h : Option ℤ). Some (raised h d.score)) is.known
+    ∙ ap (λ (z : ℤ). Some z) (not-raised is.highest d.score floor is.under low) ∙ sym is.known in
+    λ i. record { rows = rows i; count = in_64_bits (t.count + 1); highest = highest i }
+
+-- so it is by those of many
+pub below-many : (t : Tallied) (ds : List Candidate) (floor : ℤ) → t.count < 2 ^ 64 → IsFloor t floor
+    → AllByRecursion (λ d. d.score <ℤ floor) ds
+    → fold tally_with t ds ≡ record { rows = t.rows; count = in_64_bits (t.count + length ds); highest = t.highest }
+below-many t [] floor fits is low =
+    let same : t.count ≡ in_64_bits (t.count + 0) = omega (arith, fits) in
+    λ i. record { rows = t.rows; count = same i; highest = t.highest }
+below-many t (d ∷ ds) floor fits is low =
+    let one = below-one t d floor is low.0 in
+    let next : Tallied = record { rows = t.rows; count = in_64_bits (t.count + 1); highest = t.highest } in
+    let less : next.count < 2 ^ 64 = omega arith in
+    let more : in_64_bits (next.count + length ds) ≡ in_64_bits (t.count + length (d ∷ ds)) = omega arith in
+    ap (λ (u : Tallied). fold tally_with u ds) one
+    ∙ below-many next ds floor less (record {
+      rows = is.rows;
+      highest = is.highest;
+      known = is.known;
+      under = is.under;
+    }) low.1
+    ∙ (λ i. record { rows = t.rows; count = more i; highest = t.highest })
+
+-- no row scores less than the last one
+pub from-last : (last : Candidate) (marks : List Mark) (rows : List Candidate) → IsLast (Some last) rows
+    → AllByRecursion (λ m. last.score ≤ℤ m.candidate.score) (map (known marks) rows)
+from-last last marks [] behind = tt
+from-last last marks (c ∷ cs) behind = (
+  elim (cases_Bool (int_le last.score c.score)) [
+    | inl e ↦ grind (arith, ints)
+    | inr e ↦ let off = low-behind (Some last) c e in absurd (let on = behind.0 in cc)
+  ],
+  from-last last marks cs behind.1,
+)

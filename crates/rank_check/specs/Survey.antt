@@ -1,6 +1,6 @@
 -- What one pass over all data finds for the rows of a report, and for each series.
 use Rattle.std.specs.Prelude.{◌≡◌, ℕ, ◌+◌, Bool, true, false, ◌||◌, if◌then◌else◌, List, [], length, map}
-use Rattle.std.specs.Prelude.{Option, None, Some, ℤ}
+use Rattle.std.specs.Prelude.{Option, None, Some, ℤ, ◌≤ℤ◌}
 use Rattle.std.specs.List.{AllByRecursion, flat_map}
 use Rattle.std.specs.Int.{int_max}
 use Rattle.std.specs.Ordering.{is_eq, is_le}
@@ -58,6 +58,13 @@ tally_with t c = record {
   count = in_64_bits (t.count + 1);
   highest = Some (raised t.highest c.score);
 }
+
+-- no row scores less than a floor, nor does the greatest score so far, of which there is one
+pub record IsFloor (t : Tallied) (floor : ℤ) : Type 0 where
+  pub rows : AllByRecursion (λ m. floor ≤ℤ m.candidate.score) t.rows
+  pub highest : ℤ
+  pub known : t.highest ≡ Some highest
+  pub under : floor ≤ℤ highest
 
 -- a tally that no series was scanned for yet
 abbrev pub reset : Tallied → Tallied

@@ -13,7 +13,7 @@ use ghcn_fields::Memory;
 use ghcn_series::Series;
 use rank_papers::Row;
 use rank_query::Query;
-use rank_scores::{Candidate, Sink, precedes, scan};
+use rank_scores::{Candidate, FloorSink, Sink, precedes, scan_to_floor};
 use std::alloc::Global;
 use std::marker::Model;
 
@@ -104,7 +104,7 @@ impl Tally {
         ensures highest { result ≡ self.new.highest }
     {
         self.highest = None;
-        scan(series, query, self);
+        scan_to_floor(series, query, self);
         self.highest
     }
 
@@ -136,6 +136,26 @@ impl Sink for Tally {
         if may_reach(&self.last, candidate.score) {
             meet(&self.last, &mut self.marks, candidate);
         }
+    }
+}
+
+impl FloorSink for Tally {
+    ghost use Rattle.rank_check.specs.Survey.{IsFloor};
+
+    ghost is_floor = { IsFloor };
+
+    #[inline(always)]
+    fn floor(&self) -> Option<i64> {
+        let highest = self.highest?;
+        Some(match &self.last {
+            Some(last) => highest.min(last.score),
+            None => highest,
+        })
+    }
+
+    #[inline(always)]
+    fn pass_over(&mut self, count: u32) {
+        self.count = self.count.saturating_add(count as u64);
     }
 }
 

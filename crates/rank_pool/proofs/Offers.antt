@@ -1,6 +1,8 @@
 -- What an offer leaves.
 use Rattle.std.proofs.Common.{◌≡◌, ℕ, zero, suc, ◌-◌, ◌<◌, ◌≤◌, true, List, [], ◌∷◌, take, length, min, refl, sym, ap}
-use Rattle.std.proofs.Common.{◌∙◌, subst, arith, Option, Some, ℤ}
+use Rattle.std.proofs.Common.{◌∙◌, subst, arith, Option, Some, ℤ, ◌<ℤ◌}
+use Rattle.std.specs.List.{AllByRecursion, fold}
+use Rattle.std.proofs.lemmas.Int.{ints}
 use Rattle.std.specs.Prelude.{int_lt, slice_get, if◌then◌else◌, is_ok, IsOk}
 use Rattle.std.specs.Option.{option_map}
 use Rattle.std.specs.Result.{OnOk, OnErr}
@@ -55,6 +57,16 @@ falls_out p x s pool last low =
     let many : p.size - 1 < above x.score p.held = (at_place x.score p.held (p.size - 1) fall).0 below in
     ap (λ (l : List Candidate). record { size = p.size; held = l })
     (sym (low_past x p.held p.size fall (omega (arith, many)) ∙ take_itself p.size p.held pool.few))
+
+-- so it does where all of some candidates score below it
+pub all_fall_out : (p : Pooled) (xs : List Candidate) (s : ℤ) → IsPool p → last_score p ≡ Some s
+    → AllByRecursion (λ x. x.score <ℤ s) xs → p ≡ fold taken p xs
+all_fall_out p [] s pool last low = refl
+all_fall_out p (x ∷ xs) s pool last low =
+    let under : x.score <ℤ s = low.0 in
+    let below : int_lt x.score s ≡ true = grind (arith, ints) in
+    all_fall_out p xs s pool last low.1
+    ∙ ap (λ (q : Pooled). fold taken q xs) (falls_out p x s pool last below)
 
 -- what doesn't fail is done
 pub was_ok : {T E : Type 0} (P Q : Type 0) (r : Result T E) → OnOk r P → OnErr r Q → (Q → ⊥) → P

@@ -1,5 +1,5 @@
 -- What a pool holds.
-use Rattle.std.specs.Prelude.{◌≡◌, ℕ, ◌<◌, ◌≤◌, ◌-◌, List, [], length, take, Option, ℤ, slice_get}
+use Rattle.std.specs.Prelude.{◌≡◌, ℕ, ◌<◌, ◌≤◌, ◌-◌, List, [], length, take, Option, Some, ℤ, slice_get}
 use Rattle.std.specs.Option.{option_map}
 use Rattle.ghcn_fields.specs.Sorting.{placed}
 use Rattle.rank_scores.specs.declared.candidate.Candidate.{Candidate}
@@ -32,3 +32,8 @@ pub record IsPool (p : Pooled) : Type 0 where
   pub limit : p.size ≤ 1000
   pub few : length p.held ≤ p.size
   pub order : in_order p.held ≡ p.held
+
+-- each place of a pool is taken, the last by a candidate of this score
+pub record IsFloor (p : Pooled) (floor : ℤ) : Type 0 where
+  pub pool : IsPool p
+  pub last : last_score p ≡ Some floor

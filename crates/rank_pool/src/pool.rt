@@ -11,7 +11,7 @@ ghost use Rattle.rank_pool.specs.First.{comes_first, in_order, first, kth};
 ghost use Rattle.rank_pool.specs.Pools as pools;
 
 use ghcn_fields::Memory;
-use rank_scores::{Candidate, Sink};
+use rank_scores::{Candidate, FloorSink, Sink};
 use std::alloc::Global;
 use std::collections::VecDeque;
 use std::marker::Model;
@@ -146,6 +146,21 @@ impl Sink for Pool {
             _ => self.place(candidate),
         }
     }
+}
+
+impl FloorSink for Pool {
+    ghost use Rattle.rank_pool.specs.Pools.{IsFloor};
+
+    ghost is_floor = { IsFloor };
+
+    #[inline(always)]
+    fn floor(&self) -> Option<i64> {
+        self.kth()
+    }
+
+    /// What scores less than the last place falls out, and leaves the pool as it is.
+    #[inline(always)]
+    fn pass_over(&mut self, _count: u32) {}
 }
 
 /// Where a candidate stands in its order: before the first that it isn't listed behind.

@@ -16,7 +16,7 @@ use ghcn_files::{Element, StationId, Stations};
 use ghcn_series::{Data, Series};
 use rank_pool::Pool;
 use rank_query::Query;
-use rank_scores::scan;
+use rank_scores::scan_to_floor;
 use std::alloc::Global;
 use std::cmp::Ordering;
 use std::marker::Model;
@@ -122,7 +122,7 @@ impl<'a> Plan<'a> {
         ensures { pool.new ≡ fold taken pool.old ((task_of self.now).candidates morsel) }
     {
         if let Some(series) = self.series(morsel) {
-            scan(series, &self.query, pool);
+            scan_to_floor(series, &self.query, pool);
         }
     }
 

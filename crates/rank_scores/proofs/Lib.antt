@@ -14,3 +14,4 @@ pub mod CutDays
 pub mod CutSeries
 pub mod CutParts
 pub mod CutMorsels
+pub mod LowDays

@@ -8,6 +8,7 @@ mod admitted;
 mod best;
 mod candidate;
 mod extreme;
+mod floor;
 mod laws;
 mod morsel;
 mod scans;
@@ -18,10 +19,11 @@ mod window;
 pub use admitted::has_admitted_day;
 pub use best::best_first;
 pub use candidate::{Candidate, is_below, precedes};
+pub use floor::FloorSink;
 pub use laws::{
     candidates_of_queries, candidates_of_series, files_in_parts, one_element_is_enough,
 };
 pub use morsel::{morsel_at, series_at};
-pub use scans::scan;
+pub use scans::{scan, scan_to_floor};
 pub use sink::Sink;
 pub use spell::Spell;

@@ -7,11 +7,12 @@ ghost use Rattle.rank_scores.specs.Extremes.{score_by};
 
 use crate::admitted::Admitted;
 use crate::extreme::Extreme;
+use crate::floor::{FloorSink, is_passed_over};
 use crate::spell::{Spell, scan_spells};
 use crate::window::scan_windows;
 use crate::{Candidate, Sink};
 use ghcn_files::StationId;
-use ghcn_series::Series;
+use ghcn_series::{BlockDays, Series};
 use rank_query::{Query, Score};
 
 /// Offers each candidate of the series once, by increasing first day.
@@ -31,6 +32,20 @@ pub fn scan<S: Sink>(series: &Series, query: &Query, sink: &mut S)
     }
 }
 
+/// Offers each candidate of the series once, as `scan` does, and by increasing first day where its score may count.
+///
+/// Of days that score less than the sink's floor the number alone is given, block by block.
+pub fn scan_to_floor<S: FloorSink>(series: &Series, query: &Query, sink: &mut S)
+    ensures { sink.new ≡ fold S.taken sink.old (meaning.candidates query.now series.now) }
+{
+    let id = series.id();
+    match query.score() {
+        Score::Highest(_) => scan_blocks(id, series, query, Extreme::Highest, sink),
+        Score::Lowest(_) => scan_blocks(id, series, query, Extreme::Lowest, sink),
+        Score::Sum(..) | Score::Dry | Score::Wet | Score::Hot(_) => scan(series, query, sink),
+    }
+}
+
 /// Offers each admitted day, by the number that ranks it.
 fn scan_days<S: Sink>(id: StationId, series: &Series, query: &Query, extreme: Extreme, sink: &mut S)
     ensures { sink.new ≡ fold S.taken sink.old
@@ -38,13 +53,41 @@ fn scan_days<S: Sink>(id: StationId, series: &Series, query: &Query, extreme: Ex
 {
     let mut admitted = Admitted::of(series, query);
     while let Some(part) = admitted.next_part() {
-        for (day, value) in part {
-            sink.offer(Candidate {
-                id,
-                first: day,
-                last: day,
-                score: extreme.score(value),
-            });
+        offer_days(id, part, extreme, sink);
+    }
+}
+
+/// Offers each admitted day, but the days of parts that don't reach the sink's floor by their number.
+fn scan_blocks<S: FloorSink>(
+    id: StationId,
+    series: &Series,
+    query: &Query,
+    extreme: Extreme,
+    sink: &mut S,
+)
+    ensures { sink.new ≡ fold S.taken sink.old
+        (meaning.candidates_among id (meaning.Days (score_by extreme)) (meaning.admitted query.now series.now)) }
+{
+    let mut admitted = Admitted::of(series, query);
+    while let Some(part) = admitted.next_part() {
+        if !is_passed_over(&part, extreme, sink) {
+            offer_days(id, part, extreme, sink);
         }
+    }
+}
+
+/// Offers each day of a part, by the number that ranks it.
+#[inline(always)]
+fn offer_days<S: Sink>(id: StationId, part: BlockDays, extreme: Extreme, sink: &mut S)
+    ensures { sink.new ≡ fold S.taken sink.old
+        (meaning.candidates_among id (meaning.Days (score_by extreme)) part.entry) }
+{
+    for (day, value) in part {
+        sink.offer(Candidate {
+            id,
+            first: day,
+            last: day,
+            score: extreme.score(value),
+        });
     }
 }

@@ -1,4 +1,4 @@
-use Rattle.std.proofs.Common.{◌≡◌, ◌++◌, length}
+use Rattle.std.proofs.Common.{◌≡◌, length}
 use Rattle.std.specs.List.{fold}
 use Rattle.rank_scores.specs.Candidates.{Days, admitted, candidates_among}
 use Rattle.rank_scores.specs.Extremes.{score_by}
@@ -13,9 +13,3 @@ invariant-loop-part g l =
 -- each part takes a day at least
 abbrev pub decreases-loop-part : goal.decreases-loop-part
 decreases-loop-part g l = length l.admitted
-
--- the same in the midst of a part
-abbrev pub invariant-loop-day : goal.invariant-loop-day
-invariant-loop-day g l =
-    fold g.S.Sink.taken l.sink (candidates_among l.id (Days (score_by l.extreme)) (l.day-iterator ++ l.admitted))
-    ≡ fold g.S.Sink.taken l.fn.sink (candidates_among l.id (Days (score_by l.extreme)) (admitted l.query l.series))

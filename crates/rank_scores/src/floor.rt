@@ -1,0 +1,48 @@
+//! Sinks that take low candidates by their number, and the blocks of days that have no others.
+
+ghost use Rattle.std.specs.Prelude.{◌≡◌, true, false};
+ghost use Rattle.std.specs.List.{fold};
+ghost use Rattle.ghcn_files.specs.declared.station.StationId.{StationId};
+ghost use Rattle.rank_scores.specs.Candidates as meaning;
+ghost use Rattle.rank_scores.specs.Extremes.{score_by};
+
+use crate::Sink;
+use crate::extreme::Extreme;
+use ghcn_series::BlockDays;
+
+/// A sink for which of low candidates the number alone counts.
+pub trait FloorSink: Sink {
+    ghost use Rattle.std.specs.Prelude.{◌≡◌, ℤ, ◌<ℤ◌, List, length, IfSome};
+    ghost use Rattle.std.specs.List.{AllByRecursion, fold};
+    ghost use Rattle.rank_scores.specs.declared.candidate.Candidate.{Candidate};
+
+    /// Of candidates that score less than this the number alone counts.
+    ghost is_floor: { Self → ℤ → Type 0 };
+
+    /// A score, if there is one, below which the number of candidates alone counts.
+    fn floor(&self) -> Option<i64>
+        ensures { IfSome result (λ floor. is_floor self.now floor) };
+
+    /// Takes so many candidates that score less than a floor.
+    fn pass_over(&mut self, count: u32)
+        ensures { (floor : ℤ) (candidates : List Candidate) → is_floor self.old floor
+            → AllByRecursion (λ c. c.score <ℤ floor) candidates → length candidates ≡ count
+            → self.new ≡ fold Self.taken self.old candidates };
+}
+
+/// Whether no day of a part scores as much as the sink's floor. Then its days are given by their number.
+#[inline(always)]
+pub(crate) fn is_passed_over<S: FloorSink>(part: &BlockDays, extreme: Extreme, sink: &mut S) -> bool
+    ensures passed { (id : StationId) → result ≡ true →
+        sink.new ≡ fold S.taken sink.old (meaning.candidates_among id (meaning.Days (score_by extreme)) part.now) }
+    ensures kept { result ≡ false → sink.new ≡ sink.old }
+{
+    let Some(floor) = sink.floor() else {
+        return false;
+    };
+    if extreme.may_reach(part, floor) {
+        return false;
+    }
+    sink.pass_over(part.len());
+    true
+}
