@@ -14,6 +14,13 @@ use crate::{Element, Keep, LineWhy, StationId};
 use ghcn_fields::{are_set, four_numbers, good_columns};
 use std::simd::prelude::*;
 
+/// The number of each place of a row. Those of a table are compared by lanes as wide as values are; one that is counted
+/// would be by lanes of an index, which are twice as wide.
+const PLACES: [u32; 32] = [
+    0, 1, 2, 3, 4, 5, 6, 7, 8, 9, 10, 11, 12, 13, 14, 15, 16, 17, 18, 19, 20, 21, 22, 23, 24, 25,
+    26, 27, 28, 29, 30, 31,
+];
+
 /// The days of a month whose values count: those that the month has, whose value isn't missing,
 /// whose quality flag is a blank, and whose value the element can have. Only temperatures are negative.
 /// It has no days where those of its element aren't kept.
@@ -212,7 +219,7 @@ fn keep_from(least: i32, count: u8, values: &mut [i32; 32]) -> u32
     let mut word = 0;
     for place in 0..32_u32 {
         let value = values[place as usize];
-        let counts = (value >= least) & (place < days);
+        let counts = (value >= least) & (PLACES[place as usize] < days);
         word |= bit_if(counts, place);
         values[place as usize] = value_if(counts, value, 0);
     }

@@ -1,7 +1,9 @@
 use Rattle.std.proofs.Common.{rules, ◌≡◌, ℕ, ◌^◌, Bool, get_or, Option, refl, sym, ap, subst, ◌∙◌, arith, ℤ, pos, w32, to_z, of_z}
+use Rattle.std.specs.List.{range_with_len}
 use Rattle.std.specs.Prelude.{if◌then◌else◌, int_le, ◌&&◌, nat_lt}
 use Rattle.std.proofs.lemmas.Int.{to_z-of_z}
 use Rattle.std.proofs.lemmas.List.{get_or-set_other}
+use Rattle.std.proofs.lemmas.List.FromFn.{get_or-range_with_len}
 use Rattle.ghcn_files.specs.Rows.{AreDays, value_from, if_so}
 use Rattle.ghcn_files.proofs.Rows.{first-none, first-step, all-are, no_32nd, within_31}
 use Rattle.ghcn_files.proofs.row.keep_from.Goals as goal
@@ -24,11 +26,14 @@ loop-place-preserved c =
     let least : ℤ = to_z w32 (of_z w32 c.args.least) in
     let days : ℕ = c.min-days.result in
     let some : ℕ → Option ℤ = value_from least days c.args.values.now in
-    let counts : Bool = int_le least value && nat_lt place days in
+    let number : ℕ = get_or (range_with_len 0 32) place 0 in
+    let counts : Bool = int_le least value && nat_lt number days in
+    let same : number ≡ place = get_or-range_with_len 0 32 place 0 c.loop-place-test.true ∙ omega arith in
     let there : value ≡ get_or c.args.values.now place (pos 0) =
     to_z-of_z w32 found (search rules) ∙ c.loop-place.invariant.rest place (omega arith) in
     let is : some place ≡ if_so counts value =
-    sym (ap (λ (z : ℤ). if_so (int_le least z && nat_lt place days) z) there) in
+    sym (ap (λ (z : ℤ). if_so (int_le least z && nat_lt place days) z) there)
+    ∙ sym (ap (λ (n : ℕ). if_so (int_le least value && nat_lt n days) value) same) in
     let bit : c.bit_if-word.result ≡ (if counts then 2 ^ place else 0) = c.bit_if-word.ensures in
     let kept : to_z w32 (of_z w32 c.value_if.result) ≡ (if counts then value else pos 0) =
     to_z-of_z w32 c.value_if.result (search rules) ∙ c.value_if.ensures in
