@@ -95,14 +95,14 @@ place-push ss s id =
 -- ---- keys
 
 -- the first of some bytes are bytes
-first_bytes : (n : ℕ) (bs : List ℕ) → ((i : ℕ) → get_or bs i 0 < 256) → (i : ℕ) → get_or (take n bs) i 0 < 256
+pub first_bytes : (n : ℕ) (bs : List ℕ) → ((i : ℕ) → get_or bs i 0 < 256) → (i : ℕ) → get_or (take n bs) i 0 < 256
 first_bytes zero bs fits i = omega arith
 first_bytes (suc n) [] fits i = omega arith
 first_bytes (suc n) (b ∷ bs) fits zero = fits 0
 first_bytes (suc n) (b ∷ bs) fits (suc i) = first_bytes n bs (λ j. fits (suc j)) i
 
 -- and so are those behind them
-last_bytes : (n : ℕ) (bs : List ℕ) → ((i : ℕ) → get_or bs i 0 < 256) → (i : ℕ) → get_or (drop n bs) i 0 < 256
+pub last_bytes : (n : ℕ) (bs : List ℕ) → ((i : ℕ) → get_or bs i 0 < 256) → (i : ℕ) → get_or (drop n bs) i 0 < 256
 last_bytes zero bs fits i = fits i
 last_bytes (suc n) [] fits i = omega arith
 last_bytes (suc n) (b ∷ bs) fits i = last_bytes n bs (λ j. fits (suc j)) i
@@ -114,11 +114,11 @@ one_more (suc n) [] = refl
 one_more (suc n) (b ∷ bs) = one_more n bs
 
 -- the first eight of eleven
-front_length : (bs : List ℕ) → length bs ≡ 11 → length (take 8 bs) ≡ 8
+pub front_length : (bs : List ℕ) → length bs ≡ 11 → length (take 8 bs) ≡ 8
 front_length bs e = length-take 8 bs ∙ ap (min 8) e
 
 -- the last four of eleven
-back_length : (bs : List ℕ) → length bs ≡ 11 → length (drop 7 bs) ≡ 4
+pub back_length : (bs : List ℕ) → length bs ≡ 11 → length (drop 7 bs) ≡ 4
 back_length bs e = length-drop 7 bs ∙ ap (λ (n : ℕ). n - 7) e
 
 -- IDs with one key are the same
@@ -156,7 +156,7 @@ is_eq-key_cmp a b e = both (nat_cmp a.0 b.0) refl e
     both Greater is t = absurd cc
 
 -- a number compares as equal with itself
-cmp_itself : (n : ℕ) → nat_cmp n n ≡ Equal
+pub cmp_itself : (n : ℕ) → nat_cmp n n ≡ Equal
 cmp_itself n = grind (arith, nat_tests)
 
 -- and so does a key

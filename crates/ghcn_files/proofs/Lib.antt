@@ -4,6 +4,7 @@ pub mod FaultLaws
 pub mod IdLaws
 pub mod Ordered
 pub mod ById
+pub mod KeyOrder
 pub mod ColumnSlices
 pub mod Errors
 pub mod Readings

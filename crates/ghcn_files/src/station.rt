@@ -9,6 +9,12 @@
 ghost use Rattle.std.specs.Prelude.{◌≡◌, ◌≤◌, ◌+◌, ◌-◌, ◌≤ℤ◌, pos, neg_ℤ, int_le, ◌&&◌, Some, None, length};
 ghost use Rattle.std.specs.Prelude.{map, if◌then◌else◌, take, IfOk, OnOk, IfErr};
 ghost use Rattle.std.specs.List.{list_all};
+ghost use Rattle.std.proofs.Common.{rules};
+ghost use Rattle.std.specs.Cmp.{partial_order_from_own_ties, partial_order_from_total};
+ghost use Rattle.std.specs.Cmp.Rules.{comparing};
+ghost use Rattle.std.specs.Cmp.Lexicographic.{slice_cmp};
+ghost use Rattle.std.specs.Ordering.{as_partial_cmp, nat_cmp, on};
+ghost use Rattle.ghcn_files.specs.declared.station.StationId.{StationId};
 ghost use Rattle.ghcn_fields.specs.Lines as lines;
 ghost use Rattle.ghcn_fields.specs.Numbers as numbers;
 ghost use Rattle.ghcn_files.specs.Ids.{is_id, is_visible, same_id};
@@ -19,6 +25,7 @@ use crate::columns::columns;
 use crate::missing::{is_bad, unless_missing};
 use crate::stations::key;
 use ghcn_fields::{Field, eleven_are_visible, scaled_field};
+use std::cmp::Ordering;
 
 /// The columns up to the longitude's last: what follows may be left out.
 const LEAST_COLUMNS: usize = 30;
@@ -30,8 +37,39 @@ const MOST_NORTH: i32 = 900_000;
 const MOST_EAST: i32 = 1_800_000;
 
 /// The eleven bytes that name a station, of which the first two are its country's code.
-#[derive(Clone, Copy, Debug, PartialEq, Eq, PartialOrd, Ord, Hash)]
+#[derive(Clone, Copy, Debug, PartialEq, Eq, Hash)]
 pub struct StationId(pub [u8; 11]);
+
+impl Ord for StationId {
+    ghost cmp = { on (λ id. id.0) (slice_cmp nat_cmp) };
+
+    ghost total = { Prim.search (comparing, rules) };
+
+    ghost matches_partial_cmp = { Prim.search (comparing, rules) };
+
+    ghost matches_eq = { Prim.search (comparing, rules) };
+
+    /// The order by bytes, by at most two comparisons.
+    #[inline]
+    fn cmp(&self, other: &Self) -> Ordering {
+        let (front, back) = key(&self.0);
+        let (other_front, other_back) = key(&other.0);
+        front.cmp(&other_front).then(back.cmp(&other_back))
+    }
+}
+
+impl PartialOrd for StationId {
+    ghost partial_cmp = { as_partial_cmp (on (λ id. id.0) (slice_cmp nat_cmp)) };
+
+    ghost laws = { partial_order_from_own_ties
+        (partial_order_from_total {R = on (λ (id : StationId). id.0) (slice_cmp nat_cmp)} (Prim.search (comparing, rules)))
+        (Prim.search (comparing, rules)) };
+
+    #[inline]
+    fn partial_cmp(&self, other: &Self) -> Option<Ordering> {
+        Some(self.cmp(other))
+    }
+}
 
 impl StationId {
     /// Whether both have the same eleven bytes, by two comparisons.
