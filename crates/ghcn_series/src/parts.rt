@@ -38,7 +38,9 @@ impl Parts {
         }
     }
 
-    /// Adds days of a block, none of which was added before.
+    /// Adds days of a block, none of which was added before. Room is made for them first, since a push that may fail
+    /// would copy them twice.
+    #[inline(always)]
     fn add_part(&mut self, number: i32, word: u32, values: &[i32; 32]) -> Result<(), Memory>
         requires parts { parts.AreParts self.old }
         requires packed { 0 < word → packed.IsPacked (number, (word, values.now)) }
@@ -57,7 +59,8 @@ impl Parts {
         let rises = is_after(&self.numbers, number);
         self.numbers.push(number)?;
         self.words.push(word)?;
-        self.values.push(*values)?;
+        self.values.reserve(1)?;
+        self.values.push_reserved(*values);
         self.in_order &= rises;
         Ok(())
     }
@@ -165,6 +168,7 @@ impl Parts {
     }
 
     /// Adds days to the last part.
+    #[inline(always)]
     fn join(&mut self, word: u32, values: &[i32; 32])
         requires parts { parts.AreParts self.old }
         requires some { 0 < length self.old.numbers.items }
@@ -223,7 +227,9 @@ fn is_after(numbers: &[i32], number: i32) -> bool
     }
 }
 
-/// Two rows of values of which at each place one is 0.
+/// Two rows of values of which at each place one is 0. It is built into its callers, so that the row that it answers
+/// goes through no memory.
+#[inline(always)]
 fn joined(values: &[i32; 32], more: &[i32; 32]) -> [i32; 32]
     ensures { parts.JoinsValues values.now more.now result }
 {

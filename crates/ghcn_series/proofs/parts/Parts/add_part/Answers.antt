@@ -23,12 +23,15 @@ returns-clause-parts c =
     let n : ℤ = c.args.number in
     let bs : AreBlocks ns ws vs = c.requires.parts.blocks in
     let near : to_z w32 (of_z w32 n) ≡ n = to_z-of_z w32 n c.ranges.number in
+    let row : List ℤ = c.args.values.now in
     let numbers : c.push.new.self.items ≡ ns ++ n ∷ [] = rw near at c.in_ok-push.ensures.items in
+    let values : c.push_reserved.new.self.items ≡ vs ++ row ∷ [] =
+    rw c.reserve.ensures.items at c.push_reserved.ensures.items in
     record {
-      blocks = rw (numbers, c.in_ok-push-2.ensures.items, c.in_ok-push-3.ensures.items) (push-blocks ns ws vs bs n
-          c.args.word c.args.values.now (c.requires.packed (omega (arith, c.if-word-eq0.false))));
-      apart = rw (numbers, c.in_ok-push-2.ensures.items, c.in_ok-push-3.ensures.items) (pushed-apart ns ws vs bs n
-          c.args.word c.args.values.now c.requires.parts.apart c.requires.fresh);
+      blocks = rw (numbers, c.in_ok-push-2.ensures.items, values) (push-blocks ns ws vs bs n c.args.word row
+          (c.requires.packed (omega (arith, c.if-word-eq0.false))));
+      apart = rw (numbers, c.in_ok-push-2.ensures.items, values) (pushed-apart ns ws vs bs n c.args.word row
+          c.requires.parts.apart c.requires.fresh);
       rise = λ ordered.
           let both = and_parts c.args.self.now.in_order c.is_after-rises.result ordered in
           let after : (length ns == 0 || int_lt (get_or ns (length ns - 1) (pos 0)) n) ≡ true =
@@ -40,7 +43,11 @@ returns-clause-parts c =
 pub returns-clause-joined : goal.returns-clause-joined
 returns-clause-joined c =
     let n : ℤ = c.args.number in
+    let vs : List (List ℤ) = c.args.self.now.values.items in
+    let row : List ℤ = c.args.values.now in
     let numbers : c.push.new.self.items ≡ c.args.self.now.numbers.items ++ n ∷ [] =
     rw (to_z-of_z w32 n c.ranges.number) at c.in_ok-push.ensures.items in
-    rw (numbers, c.in_ok-push-2.ensures.items, c.in_ok-push-3.ensures.items) (push-days c.args.self.now.numbers.items
-    c.args.self.now.words.items c.args.self.now.values.items c.requires.parts.blocks n c.args.word c.args.values.now)
+    let values : c.push_reserved.new.self.items ≡ vs ++ row ∷ [] =
+    rw c.reserve.ensures.items at c.push_reserved.ensures.items in
+    rw (numbers, c.in_ok-push-2.ensures.items, values) (push-days c.args.self.now.numbers.items
+    c.args.self.now.words.items vs c.requires.parts.blocks n c.args.word row)
