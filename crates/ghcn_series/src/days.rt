@@ -78,11 +78,11 @@ impl<'a> BlockDays<'a> {
         if self.left == 0 {
             return None;
         }
-        let place = self.left.trailing_zeros();
         let behind = end_of_run(self.left);
-        let ends = (day_at(self.number, place), day_at(self.number, behind - 1));
+        let first = day_at(self.number, self.left.trailing_zeros());
+        let last = day_at(self.number, behind - 1);
         self.left &= !first_places(behind);
-        Some(ends)
+        Some((first, last))
     }
 
     /// How many days are to come.

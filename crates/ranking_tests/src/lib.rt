@@ -13,6 +13,8 @@ mod input;
 #[cfg(test)]
 mod pool;
 #[cfg(test)]
+mod runs;
+#[cfg(test)]
 mod sched;
 #[cfg(test)]
 mod scores;

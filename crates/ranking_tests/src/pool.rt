@@ -1,10 +1,12 @@
 //! Worked pools.
 
-use crate::days::{A, B, C};
+use crate::days::{A, B, C, Stretch, data_of};
 use ghcn_fields::Day;
 use ghcn_files::StationId;
 use rank_pool::Pool;
-use rank_scores::{Candidate, Sink};
+use rank_query::Query;
+use rank_scores::{Candidate, Sink, scan_to_floor};
+use std::alloc::Global;
 use std::test::Fail;
 
 /// 2020-07-01.
@@ -131,4 +133,44 @@ fn a_thousand_places(rt: HostRuntime) -> Result<(), Fail> {
     assert_eq!(rt; rising.first().map(|it| it.score), Some(2500));
     assert_eq!(rt; rising.last().map(|it| it.score), Some(1501));
     Ok(())
+}
+
+/// The day and the score of each of two candidates.
+type Best = [Option<(i32, i64)>; 2];
+
+// Block 0 has the days 0 to 31, and each later one 32 more.
+#[rattlefmt::skip]
+const SCANS: [(&[Stretch], &str, Best); 4] = [
+    // A block without a day from the second place on, one with a tie, and one with a better day.
+    (&[(0, 1, "  311   "), (1, 1, "  305   "), (40, 2, "  304   "), (70, 1, "  305   "), (100, 1, "  312   ")],
+        "top 2 highest TMAX", [Some((100, 312)), Some((0, 311))]),
+    (&[(0, 2, "  305   "), (40, 2, "  304   "), (70, 1, "  305   ")], "top 2 highest TMAX",
+        [Some((0, 305)), Some((1, 305))]),
+    (&[(0, 1, "   -5   "), (1, 1, "   -7   "), (40, 3, "   -6   "), (70, 1, "   -8   "), (99, 1, "   -7   ")],
+        "top 2 lowest TMIN", [Some((70, 8)), Some((1, 7))]),
+    (&[(0, 1, "    0   ")], "top 2 highest PRCP", [Some((0, 0)), None]),
+];
+
+/// The best two days of a query.
+fn best_two(alloc: Global, stretches: &[Stretch], query: &str) -> Option<Best> {
+    let query = Query::parse(query).ok()?;
+    let data = data_of(alloc, query.element(), stretches)?;
+    let mut pool = Pool::new(alloc, 2).ok()?;
+    scan_to_floor(data.series(&A, query.element())?, &query, &mut pool);
+    let best = pool.into_sorted();
+    Some([part_of(best.first()), part_of(best.get(1))])
+}
+
+/// The first day and the score of a candidate.
+fn part_of(found: Option<&Candidate>) -> Option<(i32, i64)> {
+    let it = found?;
+    Some((it.first.number(), it.score))
+}
+
+#[test]
+fn scans_to_the_last_place(rt: HostRuntime) {
+    for (number, (stretches, query, best)) in SCANS.iter().enumerate() {
+        let found = best_two(rt.alloc(), stretches, query);
+        assert_eq!(rt; found, Some(*best), "of row {number}, {query}");
+    }
 }

@@ -15,8 +15,8 @@ returns-then-self-eq0-clause-none c =
     sym c.self.view_is ∙ block-empty c.self.inside.number c.self.inside.values.now c.self.inside.left c.if-self-eq0.true
 
 -- the number is that of a block
-pub day_at-requires-clause-number : goal.day_at-requires-clause-number
-day_at-requires-clause-number c =
+pub day_at-first-requires-clause-number : goal.day_at-first-requires-clause-number
+day_at-first-requires-clause-number c =
     let n : ℤ = c.self.inside.number in
     let some : 0 < c.self.inside.left = omega (arith, c.if-self-eq0.false) in
     let fits : c.self.inside.left < 2 ^ 32 = search rules in
@@ -37,10 +37,10 @@ returns-clause-run c =
     let some : 0 < w = omega (arith, c.if-self-eq0.false) in
     let fits : w < 2 ^ 32 = search rules in
     let near : FitsSigned w32 n = search rules in
-    let first : block_start n +ℤ pos (trailing_zeros w32 w) ≡ c.day_at.result =
-    sym (c.day_at.ensures ∙ ap (λ (z : ℤ). block_start z +ℤ pos (trailing_zeros w32 w)) (to_z-of_z w32 n near)) in
-    let last : block_start n +ℤ pos (k - 1) ≡ c.day_at-2.result =
-    sym (c.day_at-2.ensures ∙ ap (λ (z : ℤ). block_start z +ℤ pos (k - 1)) (to_z-of_z w32 n near)) in
+    let first : block_start n +ℤ pos (trailing_zeros w32 w) ≡ c.day_at-first.result =
+    sym (c.day_at-first.ensures ∙ ap (λ (z : ℤ). block_start z +ℤ pos (trailing_zeros w32 w)) (to_z-of_z w32 n near)) in
+    let last : block_start n +ℤ pos (k - 1) ≡ c.day_at-last.result =
+    sym (c.day_at-last.ensures ∙ ap (λ (z : ℤ). block_start z +ℤ pos (k - 1)) (to_z-of_z w32 n near)) in
     let word : 2 ^ 32 - 2 ^ k ≡ 4294967295 - c.first_places.result =
     sym (ap (λ m. 4294967295 - m) c.first_places.ensures ∙ ones-left k) in
     takes-as _ _ _ _ _ _ _ _ c.self.view_is first last (ap (λ m. block_days (n, (bit_and w m, vs))) word)
