@@ -37,17 +37,30 @@ impl Months {
         }
     }
 
-    /// Adds a month, or answers false where it was added before.
+    /// Adds a month, or answers false where it was added before. Most come behind all others, which takes no call.
+    #[inline(always)]
     pub(crate) fn add(&mut self, alloc: Global, month: u32) -> Result<bool, Memory>
+        ensures is_new { IfOk result (λ is_new. is_new ≡ not (seen.has_month self.old month)) }
+        ensures added { OnOk result (seen.Adds self.old self.new month) }
+    {
+        match self.all {
+            None if is_after(&self.rising, month) => {
+                self.rising.push(month)?;
+                Ok(true)
+            }
+            _ => self.add_to_all(alloc, month),
+        }
+    }
+
+    /// Adds a month to the set of all, which is made where there is none yet. It isn't built into its caller, where few
+    /// months come out of order.
+    #[inline(never)]
+    fn add_to_all(&mut self, alloc: Global, month: u32) -> Result<bool, Memory>
         ensures is_new { IfOk result (λ is_new. is_new ≡ not (seen.has_month self.old month)) }
         ensures added { OnOk result (seen.Adds self.old self.new month) }
     {
         if let Some(all) = &mut self.all {
             return Ok(all.insert(month)?);
-        }
-        if is_after(&self.rising, month) {
-            self.rising.push(month)?;
-            return Ok(true);
         }
         let mut all = set_of(alloc, &self.rising)?;
         let is_new = all.insert(month)?;
@@ -66,8 +79,7 @@ fn is_after(rising: &[u32], month: u32) -> bool
     }
 }
 
-/// The set of some months. It isn't built into its caller, where few months come out of order.
-#[inline(never)]
+/// The set of some months.
 fn set_of(alloc: Global, months: &[u32]) -> Result<BTreeSet<u32>, Memory>
     ensures { IfOk result (λ all. (t : ℕ) → seen.has_month all.keys t ≡ seen.has_month months.now t) }
 {
