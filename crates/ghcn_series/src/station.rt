@@ -1,6 +1,6 @@
 //! What the lines of one station say, by element.
 
-ghost use Rattle.std.specs.Prelude.{◌≡◌, ◌++◌, ◌∷◌, [], List, length, map, not, IfOk, OnOk};
+ghost use Rattle.std.specs.Prelude.{◌≡◌, ◌≢◌, ◌++◌, ◌∷◌, [], List, length, map, not, IfOk, OnOk};
 ghost use Rattle.std.specs.Bool.{OnTrue};
 ghost use Rattle.std.specs.List.{list_any, AllByRecursion, AllZip};
 ghost use Rattle.ghcn_files.specs.Elements.{elements, element_index, is_kept};
@@ -75,7 +75,9 @@ impl StationGathering {
     }
 
     /// Moves what was read to memory of exactly its size, the first time that it is called: the memory
-    /// where it grew is spare for another station.
+    /// where it grew is spare for another station. Few lines are of another station than the line before, so it isn't
+    /// built into its caller.
+    #[inline(never)]
     pub(crate) fn shrink_to_fit(
         &mut self,
         alloc: Global,
@@ -122,9 +124,24 @@ impl StationGathering {
         ensures number { OnOk result (length self.new.by_element.items ≡ 5) }
         ensures same { OnOk result (Opens self.old self.new) }
     {
-        if self.by_element.len() != ELEMENTS.len() {
-            self.by_element = nothing_by_element(alloc, spare)?;
+        if self.by_element.len() == ELEMENTS.len() {
+            return Ok(());
         }
+        self.make_five(alloc, spare)
+    }
+
+    /// Makes five gatherings of nothing. This comes once a station, so it isn't built into its caller, which would clear
+    /// the room for them at each line.
+    #[inline(never)]
+    fn make_five(&mut self, alloc: Global, spare: &mut Vec<Parts>) -> Result<(), Memory>
+        requires spare { AllByRecursion AreEmpty spare.old.items }
+        requires few { length self.old.by_element.items ≢ 5 }
+        ensures id { self.new.id ≡ self.old.id }
+        ensures spare { AllByRecursion AreEmpty spare.new.items }
+        ensures number { OnOk result (length self.new.by_element.items ≡ 5) }
+        ensures same { OnOk result (Opens self.old self.new) }
+    {
+        self.by_element = nothing_by_element(alloc, spare)?;
         Ok(())
     }
 }
