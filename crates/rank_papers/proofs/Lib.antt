@@ -28,6 +28,7 @@ pub mod CandidateDays
 pub mod RightCertificates
 pub mod RightReports
 pub mod ReportFields
+pub mod Spelled
 pub mod OneElement
 pub mod Answered
 pub mod GivenRows

@@ -1,8 +1,9 @@
 -- The fields of a row: where a word ends, and what the columns hold.
-use Rattle.std.proofs.Common.{◌≡◌, ℕ, suc, ◌+◌, ◌-◌, ◌<◌, Bool, true, false, cond, List, [], ◌++◌, length, take, Option, Some, None, refl, sym, ap, ◌∙◌, decimal, arith, FitsSigned, w64}
-use Rattle.std.specs.Prelude.{◌==◌, ◌&&◌, not, nat_lt, ℤ, slice_range, filter}
+use Rattle.std.proofs.Common.{◌≡◌, ℕ, suc, ◌+◌, ◌-◌, ◌≤◌, ◌<◌, Bool, true, false, cond, List, length, take, Option, Some, None, refl, sym, ap, ◌∙◌, subst, decimal, arith, FitsSigned, w64}
+use Rattle.std.specs.Prelude.{◌==◌, ◌&&◌, not, nat_le, nat_lt, ℤ, slice_range, filter}
+use Rattle.std.specs.List.{list_all}
 use Rattle.std.specs.Option.{option_map}
-use Rattle.std.proofs.lemmas.Bool.{false_from_ne_true}
+use Rattle.std.proofs.lemmas.Bool.{and_parts, false_from_ne_true}
 use Rattle.std.proofs.lemmas.Bool.Decides.{nat_tests}
 use Rattle.std.proofs.lemmas.List.{take_all}
 use Rattle.std.proofs.lemmas.List.Sums.{prefix_len_is}
@@ -11,14 +12,16 @@ use Rattle.ghcn_fields.specs.Bytes.{same_bytes}
 use Rattle.ghcn_fields.specs.Dates.{read_date, date_text}
 use Rattle.ghcn_fields.proofs.DateTexts.{read_date-law}
 use Rattle.ghcn_files.specs.Ids.{is_id}
+use Rattle.ghcn_files.specs.StationLines.{is_printable}
 use Rattle.ghcn_fields.specs.Numbers.{natural, signed_by}
 use Rattle.rank_query.specs.Asked.{Asked}
 use Rattle.rank_papers.specs.Values.{measure_of_score, unit_text, value_of}
 use Rattle.rank_papers.specs.Report.{Named}
 use Rattle.rank_papers.specs.Lines.{exactly}
 use Rattle.rank_papers.specs.ReportLines.{row_line, score_in, row_with, is_name, first_word, row_in_columns, row_in}
-use Rattle.rank_papers.specs.ReportLines.{row_behind}
+use Rattle.rank_papers.specs.ReportLines.{row_behind, ends_in_print}
 use Rattle.rank_papers.proofs.LineValues.{in_i64-some}
+use Rattle.rank_papers.proofs.ReadLines.{id_long}
 
 -- ---- words
 
@@ -98,56 +101,66 @@ row_at-none q digits line value =
     (read_date (slice_range line (digits + 13) (digits + 23)))
     (read_date (slice_range line (digits + 24) (digits + 34)))
 
--- a row that is made of days has them
-days_of_row : (id name : List ℕ) (first last score : Option ℤ) (row : Named)
-    → Some row ≡ row_with id name first last score → (first ≡ Some row.0.first) × (last ≡ Some row.0.last)
-days_of_row id name None last score row e = absurd cc
-days_of_row id name (Some first) None score row e = absurd cc
-days_of_row id name (Some first) (Some last) None row e = absurd cc
-days_of_row id name (Some first) (Some last) (Some score) row e =
+-- a row that is made of these has them, and its ID and its name pass their tests
+parts_of_row : (id name : List ℕ) (first last score : Option ℤ) (row : Named)
+    → Some row ≡ row_with id name first last score
+    → (first ≡ Some row.0.first) × (last ≡ Some row.0.last) × (row.0.id.0 ≡ id) × (row.1 ≡ name)
+    × (is_id id ≡ true) × (is_name name ≡ true)
+parts_of_row id name None last score row e = absurd cc
+parts_of_row id name (Some first) None score row e = absurd cc
+parts_of_row id name (Some first) (Some last) None row e = absurd cc
+parts_of_row id name (Some first) (Some last) (Some score) row e =
     let made : Named = (record { id = record { 0 = id }; first = first; last = last; score = score }, name) in
-    elim (is_id id && is_name name) as (λ b. Some row ≡ cond b (Some made) None
-    → (Some first ≡ Some row.0.first) × (Some last ≡ Some row.0.last)) [
-      | true ↦ λ f. let same : made ≡ row = cc in (
-        ap (λ (r : Named). Some r.0.first) same,
-        ap (λ (r : Named). Some r.0.last) same,
-      )
-      | false ↦ λ f. absurd cc
-    ] e
+    elim (is_id id && is_name name) as (λ b. (is_id id && is_name name) ≡ b → Some row ≡ cond b (Some made) None
+    → (Some first ≡ Some row.0.first) × (Some last ≡ Some row.0.last) × (row.0.id.0 ≡ id) × (row.1 ≡ name)
+    × (is_id id ≡ true) × (is_name name ≡ true)) [
+      | true ↦ λ t f.
+          let same : made ≡ row = cc in
+          let both = and_parts (is_id id) (is_name name) t in (
+            ap (λ (r : Named). Some r.0.first) same,
+            ap (λ (r : Named). Some r.0.last) same,
+            ap (λ (r : Named). r.0.id.0) (sym same),
+            ap (λ (r : Named). r.1) (sym same),
+            both.0,
+            both.1,
+          )
+      | false ↦ λ t f. absurd cc
+    ] refl e
 
--- the columns of the days of a row that was read have their texts
-pub days_in_columns : (q : Asked) (digits : ℕ) (line first last : List ℕ) (row : Named)
-    → Some row ≡ row_in_columns q digits line → first ≡ slice_range line (digits + 13) (digits + 23)
-    → last ≡ slice_range line (digits + 24) (digits + 34)
-    → (first ≡ date_text row.0.first) × (last ≡ date_text row.0.last)
-days_in_columns q digits line first last row e f l =
+-- the ID and the days of a row stand in their columns, and its name is short
+pub record IsCutOut (digits : ℕ) (line : List ℕ) (row : Named) : Type 0 where
+  pub eleven : length row.0.id.0 ≡ 11
+  pub id : row.0.id.0 ≡ slice_range line (digits + 1) (digits + 12)
+  pub first : date_text row.0.first ≡ slice_range line (digits + 13) (digits + 23)
+  pub last : date_text row.0.last ≡ slice_range line (digits + 24) (digits + 34)
+  pub short : length row.1 ≤ 30
+
+-- a name has at most thirty bytes
+name_short : (name : List ℕ) → is_name name ≡ true → length name ≤ 30
+name_short name h =
+    let both = and_parts (nat_le (length name) 30 && list_all is_printable name) (ends_in_print name) h in
+    let few = (and_parts (nat_le (length name) 30) (list_all is_printable name) both.0).0 in
+    grind (arith, nat_tests)
+
+-- so it is with a row that was read of its columns
+pub cut_out : (q : Asked) (digits : ℕ) (line : List ℕ) (row : Named) → Some row ≡ row_in_columns q digits line
+    → IsCutOut digits line row
+cut_out q digits line row e =
     let value : List ℕ = value_at digits line in
-    let days = days_of_row (slice_range line (digits + 1) (digits + 12))
-    (slice_range line (digits + length value + length (unit_text (measure_of_score q.score)) + 37) (length line - 1))
-    (read_date (slice_range line (digits + 13) (digits + 23)))
-    (read_date (slice_range line (digits + 24) (digits + 34))) (score_in q value) row e in (
-      ((read_date-law first row.0.first).0 (ap read_date f ∙ days.0)).1,
-      ((read_date-law last row.0.last).0 (ap read_date l ∙ days.1)).1,
-    )
+    let id : List ℕ = slice_range line (digits + 1) (digits + 12) in
+    let name : List ℕ =
+    slice_range line (digits + length value + length (unit_text (measure_of_score q.score)) + 37) (length line - 1) in
+    let first : List ℕ = slice_range line (digits + 13) (digits + 23) in
+    let last : List ℕ = slice_range line (digits + 24) (digits + 34) in
+    let parts = parts_of_row id name (read_date first) (read_date last) (score_in q value) row e in record {
+      eleven = ap length parts.2 ∙ id_long id parts.4;
+      id = parts.2;
+      first = sym ((read_date-law first row.0.first).0 parts.0).1;
+      last = sym ((read_date-law last row.0.last).0 parts.1).1;
+      short = subst (λ (n : List ℕ). length n ≤ 30) (sym parts.3) (name_short name parts.5);
+    }
 
 -- ---- the row whose line it is
-
--- a row that was added to a paper without text is its line
-pub row_line-printed : (q : Asked) (rank : ℕ) (row : Named) (name before paper : List ℕ) → before ≡ [] → name ≡ row.1
-    → paper ≡ before ++ row_line q rank (row.0, name) → paper ≡ row_line q rank row
-row_line-printed q rank row name before paper none same text =
-    text ∙ ap (λ (b : List ℕ). b ++ row_line q rank (row.0, name)) none
-    ∙ ap (λ (n : List ℕ). row_line q rank (row.0, n)) same
-
--- a test that passed lets a value through
-passed : {A : Type 0} (b : Bool) (x : A) → false ≡ not b → Some x ≡ cond b (Some x) None
-passed true x e = refl
-passed false x e = absurd cc
-
--- and one that failed doesn't
-failed : {A : Type 0} (b : Bool) (x : A) → true ≡ not b → None ≡ cond b (Some x) None
-failed true x e = absurd cc
-failed false x e = refl
 
 module _ (q : Asked) (rank : ℕ) (line : List ℕ) (digits : ℕ) where
   -- where the columns hold no row, the line is that of none
@@ -160,18 +173,16 @@ module _ (q : Asked) (rank : ℕ) (line : List ℕ) (digits : ℕ) where
   row_in-some row d e = ap (exactly (row_line q rank) line) (e ∙ ap (λ (n : ℕ). row_in_columns q n line) d)
 
   -- and is the line
-  pub row_in-own : (row : Named) (paper : List ℕ) → digits ≡ length (decimal rank)
-      → Some row ≡ row_in_columns q digits line → paper ≡ row_line q rank row
-      → false ≡ not (same_bytes paper line) → Some row ≡ row_in q rank line
-  row_in-own row paper d e text same = passed (same_bytes paper line) row same
-      ∙ ap (λ (p : List ℕ). cond (same_bytes p line) (Some row) None) text ∙ row_in-some row d e
+  pub row_in-own : (row : Named) (same : Bool) → digits ≡ length (decimal rank)
+      → Some row ≡ row_in_columns q digits line → same ≡ same_bytes (row_line q rank row) line
+      → same ≡ true → Some row ≡ row_in q rank line
+  row_in-own row same d e is t = ap (λ (b : Bool). cond b (Some row) None) (sym t ∙ is) ∙ row_in-some row d e
 
   -- or is another
-  pub row_in-other : (row : Named) (paper : List ℕ) → digits ≡ length (decimal rank)
-      → Some row ≡ row_in_columns q digits line → paper ≡ row_line q rank row
-      → true ≡ not (same_bytes paper line) → None ≡ row_in q rank line
-  row_in-other row paper d e text other = failed (same_bytes paper line) row other
-      ∙ ap (λ (p : List ℕ). cond (same_bytes p line) (Some row) None) text ∙ row_in-some row d e
+  pub row_in-other : (row : Named) (same : Bool) → digits ≡ length (decimal rank)
+      → Some row ≡ row_in_columns q digits line → same ≡ same_bytes (row_line q rank row) line
+      → same ≡ false → None ≡ row_in q rank line
+  row_in-other row same d e is t = ap (λ (b : Bool). cond b (Some row) None) (sym t ∙ is) ∙ row_in-some row d e
 
 -- where there may be one more row, it is the next
 pub row_behind-next : (q : Asked) (n : ℕ) (line : List ℕ) → n < q.k → row_in q (n + 1) line ≡ row_behind q n line

@@ -4,6 +4,7 @@ pub mod Certificate
 pub mod StationRows
 pub mod Lines
 pub mod ReportLines
+pub mod Spelled
 pub mod CertificateLines
 pub mod Places
 pub mod PlanPapers

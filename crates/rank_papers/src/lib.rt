@@ -19,6 +19,7 @@ mod query_line;
 mod report_lines;
 mod report_text;
 mod row;
+mod spelling;
 mod station_rows;
 
 pub use certificate_lines::read_certificate;

@@ -1,4 +1,4 @@
-//! Reading a report line by line. What is read of a line is printed and compared with it.
+//! Reading a report line by line. A line is that of the row that is cut out of it, where it is spelled so.
 //!
 //! Behind a rank of d digits a row has these columns, counted from 0:
 //!
@@ -20,7 +20,7 @@ use crate::lines::{are_printable, columns, field_from, first_line, magnitude, si
 use crate::measure::measure_of;
 use crate::query_line::query_of;
 use crate::report_text::push_end;
-use crate::row::push_dated;
+use crate::spelling::is_line_of;
 use crate::{PaperFault, Report, Row};
 use ghcn_fields::{Day, Memory, read_date};
 use ghcn_files::{StationId, are_visible};
@@ -156,28 +156,15 @@ fn row_of(
 ) -> Result<Option<Row>, Memory>
     ensures { IfOk result (λ row. option_map report.named_in row ≡ report.row_in query.now rank line.now) }
 {
-    let digits = digits_of(rank);
-    let Some(row) = row_in_columns(alloc, paper, query, digits, line)? else {
+    let mut buffer = Buffer::new();
+    let text = buffer.format(rank).as_bytes();
+    let Some(row) = row_in_columns(alloc, paper, query, text.len(), line)? else {
         return Ok(None);
     };
-    // A day is read of its text alone, so the columns are what it would be printed as.
-    let first = columns(line, digits + 13, digits + 23);
-    let last = columns(line, digits + 24, digits + 34);
-    paper.clear();
-    push_dated(paper, query, rank, &row.candidate, first, last, &row.name)?;
-    if paper.as_slice() != line {
+    if !is_line_of(paper, query, text, &row, line)? {
         return Ok(None);
     }
     Ok(Some(row))
-}
-
-/// How many decimal digits a number has.
-fn digits_of(number: u64) -> usize
-    ensures count { result ≡ length (decimal number) }
-    ensures few { result ≤ 40 }
-{
-    let mut buffer = Buffer::new();
-    buffer.format(number).len()
 }
 
 /// The row in the columns behind a rank of so many digits.

@@ -2,7 +2,6 @@
 
 ghost use Rattle.std.specs.Prelude.{◌≡◌, [], ◌∷◌, ◌++◌, OnOk};
 ghost use Rattle.std.specs.List.{flat_map};
-ghost use Rattle.ghcn_fields.specs.Dates.{date_text};
 ghost use Rattle.rank_papers.specs.Values as values;
 ghost use Rattle.rank_papers.specs.Report as report;
 
@@ -38,30 +37,10 @@ pub(crate) fn push_named(
     ensures { OnOk result (paper.new.items ≡ paper.old.items
         ++ report.text_line (report.row_fields query.now (rank, (candidate.now, name.now)))) }
 {
-    let (first, last) = (write_date(candidate.first), write_date(candidate.last));
-    push_dated(paper, query, rank, candidate, &first, &last, name)
-}
-
-/// Adds the line of a candidate whose days have these texts, with its rank and a name, which may be
-/// empty. Who read the days has their texts at hand.
-pub(crate) fn push_dated(
-    paper: &mut Vec<u8>,
-    query: &Query,
-    rank: u64,
-    candidate: &Candidate,
-    first: &[u8],
-    last: &[u8],
-    name: &[u8],
-) -> Result<(), Memory>
-    requires first { first.now ≡ date_text candidate.now.first }
-    requires last { last.now ≡ date_text candidate.now.last }
-    ensures { OnOk result (paper.new.items ≡ paper.old.items
-        ++ report.text_line (report.row_fields query.now (rank, (candidate.now, name.now)))) }
-{
     push_number(paper, rank)?;
     push_field(paper, &candidate.id.0)?;
-    push_field(paper, first)?;
-    push_field(paper, last)?;
+    push_field(paper, &write_date(candidate.first))?;
+    push_field(paper, &write_date(candidate.last))?;
     push_value_and_unit(paper, query.score(), candidate.score)?;
     push_name(paper, name)?;
     paper.push(b'\n')?;

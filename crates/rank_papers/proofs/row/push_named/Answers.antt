@@ -4,7 +4,7 @@ use Rattle.ghcn_fields.specs.Dates.{date_text}
 use Rattle.rank_query.specs.declared.score.Score.{Score}
 use Rattle.rank_papers.specs.Report.{field_unless_empty, after_blank}
 use Rattle.rank_papers.proofs.RowText.{value_fields, added, row-pieces}
-use Rattle.rank_papers.proofs.row.push_dated.Goals as goal
+use Rattle.rank_papers.proofs.row.push_named.Goals as goal
 
 -- the pieces were added in the order of the fields
 pub returns : goal.returns
@@ -13,9 +13,9 @@ returns c =
     let number : ℤ = c.args.candidate.now.score in
     let fits : FitsSigned w64 number = search rules in
     let first = c.in_ok-push_field-2.ensures
-    ∙ ap (λ (t : List ℕ). c.push_field.new.paper.items ++ after_blank t) c.requires.first in
+    ∙ ap (λ (t : List ℕ). c.push_field.new.paper.items ++ after_blank t) c.write_date.ensures in
     let last = c.in_ok-push_field-3.ensures
-    ∙ ap (λ (t : List ℕ). c.push_field-2.new.paper.items ++ after_blank t) c.requires.last in
+    ∙ ap (λ (t : List ℕ). c.push_field-2.new.paper.items ++ after_blank t) c.write_date-2.ensures in
     let with_value : Score → ℤ → List ℕ = λ s z.
     c.push_field-3.new.paper.items ++ flat_map after_blank (value_fields s z) in
     let value = c.in_ok-push_value_and_unit.ensures
