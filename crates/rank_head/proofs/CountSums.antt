@@ -15,19 +15,12 @@ use Rattle.rank_papers.specs.Report.{Named}
 use Rattle.rank_papers.specs.Certificate.{Entry, count_of, counts_of}
 use Rattle.rank_head.specs.HeadTests.{of_rows, IdsRise, is_scanned}
 use Rattle.rank_head.specs.RightHead.{CountsAddUp}
+use Rattle.rank_head.specs.Tallies.{hits, hit}
 use Rattle.rank_head.proofs.Scanned.{by_bytes, bytes_total, behind_first, rise-behind, AreBehind}
 
 -- one more is added
 sum-cons : (n : ℕ) (ns : List ℕ) → sum (n ∷ ns) ≡ n + sum ns
 sum-cons n ns = sum_by-cons (λ (x : ℕ). x) n ns
-
--- a line that was scanned is of this station
-abbrev hits : StationId → Entry → Bool
-hits i e = not e.skipped && same_id e.id i
-
--- that, as a number that counts
-abbrev hit : StationId → Entry → ℕ
-hit i e = cond (hits i e) 1 0
 
 -- ---- one row
 
@@ -53,7 +46,7 @@ behind_misses i e f b h = by (hits i f) refl
         absurd (let no : Less ≡ Equal = sym own ∙ tied in cc)
 
 -- none of those behind does
-all_miss : (i : StationId) (e : Entry) (es : List Entry) → AreBehind e.id es → hits i e ≡ true
+pub all_miss : (i : StationId) (e : Entry) (es : List Entry) → AreBehind e.id es → hits i e ≡ true
     → AllByRecursion (λ f. hits i f ≡ false) es
 all_miss i e [] a h = tt
 all_miss i e (f ∷ es) a h = (behind_misses i e f a.0 h, all_miss i e es a.1 h)
@@ -81,7 +74,7 @@ hit_once i (e ∷ es) up s = by (hits i e) refl s (λ k. hit_once i es (rise-beh
 -- ---- all rows
 
 -- the count with one row more
-count-more : (d : Candidate) (ds : List Candidate) (e : Entry) → count_of (d ∷ ds) e ≡ hit d.id e + count_of ds e
+pub count-more : (d : Candidate) (ds : List Candidate) (e : Entry) → count_of (d ∷ ds) e ≡ hit d.id e + count_of ds e
 count-more d ds e =
     let rows : ℕ = count_by (λ c. same_id c.id e.id) ds in
     let more : count_by (λ c. same_id c.id e.id) (d ∷ ds)

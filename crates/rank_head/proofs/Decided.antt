@@ -1,5 +1,6 @@
 -- Which of some tests decide.
 use Rattle.std.proofs.Common.{◌≡◌, ℕ, true, false, List, [], ◌∷◌, ◌++◌, map, Option, Some, None, refl, sym, ap, ◌∙◌, ℤ}
+use Rattle.std.proofs.Common.{append_assoc}
 use Rattle.std.specs.Option.{option_or, is_some}
 use Rattle.ghcn_fields.specs.Faults.{first_failing}
 use Rattle.rank_query.specs.Asked.{Asked}
@@ -26,6 +27,11 @@ pub none_decides : (ts us : List HeadTest) (seen : Option HeadFault) → seen �
 none_decides ts us (Some fault) e none = absurd cc
 none_decides ts us None e none =
     ap (λ o. option_or o (first_failing us)) e ∙ sym (first_failing-append ts us)
+
+-- a fault that isn't there is none
+pub not_some : (o : Option HeadFault) → is_some o ≡ false → o ≡ None
+not_some None e = refl
+not_some (Some w) e = absurd cc
 
 -- the first of three that are there
 or_or : (o p r : Option HeadFault) → option_or (option_or o p) r ≡ option_or o (option_or p r)
@@ -96,55 +102,66 @@ module _ (q : Asked) (rows : List Named) (kth : Option ℤ) (es : List Entry) (o
     (order : o ≡ first_failing (order_tests rows)) (floor : p ≡ first_failing (floor_test q rows kth ∷ []))
     (rise : r ≡ first_failing (rising_tests es)) (both : s ≡ option_or o p) (all : t ≡ option_or s r) where
   -- the first of the early tests
-  early_is : t ≡ first_failing (order_tests rows ++ floor_test q rows kth ∷ rising_tests es)
+  pub early_is : t ≡ first_failing (order_tests rows ++ floor_test q rows kth ∷ rising_tests es)
   early_is =
       let made : t ≡ option_or (option_or (first_failing (order_tests rows))
       (first_failing (floor_test q rows kth ∷ [])))
       (first_failing (rising_tests es)) = cc in
       made ∙ early_tests q rows kth es
 
-  -- one of them decides
-  pub early_decides : is_some t ≡ true → t ≡ first_failing (place_tests q rows kth es)
-  early_decides e =
-      some_decides (order_tests rows ++ floor_test q rows kth ∷ rising_tests es) (scanned_tests es rows) t early_is e
-
-  -- where none does, the series of rows decide
-  pub late_decides : is_some t ≡ false → first_failing (scanned_tests es rows) ≡ first_failing
-      (place_tests q rows kth es)
-  late_decides e =
-      none_decides (order_tests rows ++ floor_test q rows kth ∷ rising_tests es) (scanned_tests es rows) t early_is e
-
-  -- and the IDs of lines rise
-  pub lines_rise : is_some t ≡ false → IdsRise es
+  -- where none of them fails the IDs of lines rise
+  pub lines_rise : t ≡ None → IdsRise es
   lines_rise e =
-      let none : r ≡ None = none_behind s r (ap is_some (sym all) ∙ e) in
+      let none : r ≡ None = none_behind s r (ap is_some (sym all ∙ e)) in
       all_pass (λ (two : Entry × Entry). stands_before two.0.id two.1.id) NotRising 5 (neighbours es) (sym rise ∙ none)
 
 -- ---- the head
 
+-- the tests of order, of the k-th score and of lines, with those of series and of counts behind them, are the tests of
+-- places with those of counts behind them
+in_turn : (order rising scanned counts : List HeadTest) (floor : HeadTest)
+    → (order ++ floor ∷ rising) ++ (scanned ++ counts) ≡ (order ++ floor ∷ rising ++ scanned) ++ counts
+in_turn order rising scanned counts floor = simp append_assoc
+
 module _ (q : Asked) (r : Reported) (z : Certified) (report : same_query r.query q ≡ true)
     (certificate : same_query z.query q ≡ true) (rows : List Row) (lines : List Entry) (counts : List ℕ)
     (rows_are : map named_in rows ≡ r.rows) (lines_are : lines ≡ z.entries) (counts_are : counts ≡ z.counts)
-    (seen : Option HeadFault) (places : seen ≡ first_failing (place_tests q (map named_in rows) z.kth lines)) where
-  -- the tests of places are those of the papers
-  same_places : seen ≡ first_failing (place_tests q r.rows z.kth z.entries)
+    (seen : Option HeadFault) (places : seen ≡ first_failing (order_tests (map named_in rows)
+    ++ floor_test q (map named_in rows) z.kth ∷ rising_tests lines)) where
+  -- the tests of order, of the k-th score and of lines, of these papers
+  abbrev early : List HeadTest
+  early = order_tests r.rows ++ floor_test q r.rows z.kth ∷ rising_tests z.entries
+
+  -- those of series and of counts
+  abbrev late : List HeadTest
+  late = scanned_tests z.entries r.rows ++ count_tests r.rows z.entries z.counts
+
+  -- the early ones are those of the papers
+  same_places : seen ≡ first_failing early
   same_places =
       places
-      ∙ ap (λ (l : List Named). first_failing (place_tests q l z.kth lines)) rows_are
-      ∙ ap (λ (es : List Entry). first_failing (place_tests q r.rows z.kth es)) lines_are
+      ∙ ap (λ (l : List Named). first_failing (order_tests l ++ floor_test q l z.kth ∷ rising_tests lines)) rows_are
+      ∙ ap (λ (es : List Entry). first_failing (order_tests r.rows ++ floor_test q r.rows z.kth ∷ rising_tests es))
+      lines_are
 
-  -- they decide
+  -- all of them, one after the other, decide
+  all_decide : first_failing (early ++ late) ≡ head_fault q r z
+  all_decide =
+      ap first_failing (in_turn (order_tests r.rows) (rising_tests z.entries) (scanned_tests z.entries r.rows)
+      (count_tests r.rows z.entries z.counts) (floor_test q r.rows z.kth))
+      ∙ sym (behind_queries q r z report certificate)
+
+  -- the early ones decide
   pub places_decide : is_some seen ≡ true → seen ≡ head_fault q r z
-  places_decide e =
-      some_decides (place_tests q r.rows z.kth z.entries) (count_tests r.rows z.entries z.counts) seen same_places e
-      ∙ sym (behind_queries q r z report certificate)
+  places_decide e = some_decides early late seen same_places e ∙ all_decide
 
-  -- or else the counts do
+  -- or else the series of rows and the counts do
   pub counts_decide : is_some seen ≡ false
-      → first_failing (count_tests (map named_in rows) lines counts) ≡ head_fault q r z
+      → first_failing (scanned_tests lines (map named_in rows) ++ count_tests (map named_in rows) lines counts)
+      ≡ head_fault q r z
   counts_decide e =
-      ap (λ (l : List Named). first_failing (count_tests l lines counts)) rows_are
-      ∙ ap (λ (es : List Entry). first_failing (count_tests r.rows es counts)) lines_are
-      ∙ ap (λ (ns : List ℕ). first_failing (count_tests r.rows z.entries ns)) counts_are
-      ∙ none_decides (place_tests q r.rows z.kth z.entries) (count_tests r.rows z.entries z.counts) seen same_places e
-      ∙ sym (behind_queries q r z report certificate)
+      ap (λ (l : List Named). first_failing (scanned_tests lines l ++ count_tests l lines counts)) rows_are
+      ∙ ap (λ (es : List Entry). first_failing (scanned_tests es r.rows ++ count_tests r.rows es counts)) lines_are
+      ∙ ap (λ (ns : List ℕ). first_failing (scanned_tests z.entries r.rows ++ count_tests r.rows z.entries ns))
+      counts_are
+      ∙ none_decides early late seen same_places e ∙ all_decide

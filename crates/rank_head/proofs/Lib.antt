@@ -5,3 +5,4 @@ pub mod Decided
 pub mod Scanned
 pub mod RightHeads
 pub mod CountSums
+pub mod Tallies

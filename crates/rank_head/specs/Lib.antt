@@ -1,3 +1,4 @@
 pub mod HeadTests
 pub mod RightHead
 pub mod FirstPlaces
+pub mod Tallies

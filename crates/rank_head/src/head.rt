@@ -1,7 +1,7 @@
 //! The head of a report and a certificate: query, order of rows, k-th score, order of lines, and
 //! that each row is of a series that was scanned and counted.
 
-ghost use Rattle.std.specs.Prelude.{◌≡◌, ◌++◌, ◌∷◌, IfOk, map};
+ghost use Rattle.std.specs.Prelude.{◌≡◌, ◌++◌, ◌∷◌, None, IfOk, map};
 ghost use Rattle.ghcn_fields.specs.Faults.{first_failing};
 ghost use Rattle.rank_papers.specs.ReportLines.{named_in, reported_in};
 ghost use Rattle.rank_papers.specs.CertificateLines.{certified_in};
@@ -12,7 +12,7 @@ use crate::HeadFault;
 use crate::laws::heads_are_right;
 use crate::lines::{count_fault, rise_fault};
 use crate::query::is_same_query;
-use crate::rows::{floor_fault, order_fault, scanned_fault};
+use crate::rows::{floor_fault, order_fault};
 use ghcn_fields::Memory;
 use rank_papers::{Certificate, Line, Report, Row};
 use rank_query::Query;
@@ -62,14 +62,12 @@ fn head_fault(
     count_fault(alloc, rows, lines, certificate.counts.as_slice())
 }
 
-/// The first fault of the places of rows and lines, and of the k-th score.
+/// The first fault of the order of rows, of the k-th score and of the order of lines.
 fn place_fault(query: &Query, rows: &[Row], kth: Option<i64>, lines: &[Line]) -> Option<HeadFault>
-    ensures { result ≡ first_failing (tests.place_tests query.now (map named_in rows.now) kth lines.now) }
+    ensures first { result ≡ first_failing (tests.order_tests (map named_in rows.now)
+        ++ tests.floor_test query.now (map named_in rows.now) kth ∷ tests.rising_tests lines.now) }
+    ensures rise { result ≡ None → tests.IdsRise lines.now }
 {
     let rise = rise_fault(lines);
-    let fault = order_fault(rows).or(floor_fault(query, rows, kth)).or(rise);
-    if fault.is_some() {
-        return fault;
-    }
-    scanned_fault(lines, rows)
+    order_fault(rows).or(floor_fault(query, rows, kth)).or(rise)
 }

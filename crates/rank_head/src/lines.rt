@@ -1,6 +1,6 @@
 //! The lines of a certificate: their order, and their counts.
 
-ghost use Rattle.std.specs.Prelude.{◌≡◌, ◌<◌, ◌==◌, map, length, IfOk, IfSome};
+ghost use Rattle.std.specs.Prelude.{◌≡◌, ◌<◌, ◌==◌, ◌++◌, map, length, replicate, IfOk, IfSome};
 ghost use Rattle.std.specs.List.{zip};
 ghost use Rattle.ghcn_fields.specs.Faults.{first_failing};
 ghost use Rattle.rank_papers.specs.ReportLines.{named_in};
@@ -8,9 +8,9 @@ ghost use Rattle.rank_head.specs.FirstPlaces.{IsFirstPlace};
 ghost use Rattle.rank_head.specs.HeadTests as tests;
 
 use crate::HeadFault;
-use crate::rows::candidates_of;
+use crate::rows::scanned_fault;
 use ghcn_fields::Memory;
-use rank_papers::{Line, Row, row_counts};
+use rank_papers::{Line, Row};
 use std::alloc::Global;
 
 /// The refusal of the first line whose ID doesn't stand behind that of the line before it. The
@@ -37,20 +37,35 @@ fn first_not_rising(lines: &[Line]) -> Option<usize>
     pairs.position(|(line, next)| !line.id.cmp(&next.id).is_lt())
 }
 
-/// The refusal of the first count, where there are any, that isn't the number of rows of its line's
-/// station. The first line of a series stands on line 4.
+/// The refusal of the first row that is of no series that was scanned, or else of the first count, where
+/// there are any, that isn't the number of rows of its line's station. The first line of a series stands on
+/// line 4.
 pub(crate) fn count_fault(
     alloc: Global,
     rows: &[Row],
     lines: &[Line],
     counts: &[u64],
 ) -> Result<Option<HeadFault>, Memory>
-    ensures { IfOk result (λ fault.
-        fault ≡ first_failing (tests.count_tests (map named_in rows.now) lines.now counts.now)) }
+    requires { tests.IdsRise lines.now }
+    ensures { IfOk result (λ fault. fault
+        ≡ first_failing (tests.scanned_tests lines.now (map named_in rows.now)
+        ++ tests.count_tests (map named_in rows.now) lines.now counts.now)) }
 {
-    let candidates = candidates_of(alloc, rows)?;
-    let wanted = row_counts(alloc, candidates.as_slice(), lines)?;
+    let mut wanted = no_rows(alloc, lines.len())?;
+    let fault = scanned_fault(lines, rows, &mut wanted);
+    if fault.is_some() {
+        return Ok(fault);
+    }
     Ok(miscount(counts, wanted.as_slice()))
+}
+
+/// The counts of so many lines before a row is counted.
+fn no_rows(alloc: Global, lines: usize) -> Result<Vec<u64>, Memory>
+    ensures { IfOk result (λ counts. counts.items ≡ replicate lines 0) }
+{
+    let mut counts = Vec::new(alloc);
+    counts.resize(lines, 0)?;
+    Ok(counts)
 }
 
 /// The refusal of the first count that isn't the one that is wanted.

@@ -1,13 +1,15 @@
-//! The rows of a report: their order, the k-th score, and the series that they are of.
+//! The rows of a report: their order, the k-th score, and the series that they are of and counted with.
 
-ghost use Rattle.std.specs.Prelude.{◌≡◌, ◌<◌, [], ◌∷◌, map, length, IfOk, IfSome};
+ghost use Rattle.std.specs.Prelude.{◌≡◌, ℕ, ◌+◌, ◌^◌, ◌<◌, true, [], ◌∷◌, map, length, replicate, slice_index};
+ghost use Rattle.std.specs.Prelude.{None, IfOk, IfSome};
 ghost use Rattle.ghcn_fields.specs.Faults.{first_failing};
 ghost use Rattle.rank_scores.specs.Order.{precedes};
 ghost use Rattle.rank_query.specs.Asked.{IsAsked};
-ghost use Rattle.rank_papers.specs.Certificate.{kth_of_best};
+ghost use Rattle.rank_papers.specs.Certificate.{kth_of_best, count_of};
 ghost use Rattle.rank_papers.specs.ReportLines.{named_in};
 ghost use Rattle.rank_head.specs.FirstPlaces.{IsFirstPlace};
 ghost use Rattle.rank_head.specs.HeadTests as tests;
+ghost use Rattle.rank_head.specs.Tallies as tallies;
 
 use crate::HeadFault;
 use ghcn_fields::Memory;
@@ -67,36 +69,53 @@ pub(crate) fn floor_fault(query: &Query, rows: &[Row], kth: Option<i64>) -> Opti
     }
 }
 
-/// The refusal of the first row that is of no series that was scanned. The first stands on line 3.
-pub(crate) fn scanned_fault(lines: &[Line], rows: &[Row]) -> Option<HeadFault>
-    requires { tests.IdsRise lines.now }
-    ensures { result ≡ first_failing (tests.scanned_tests lines.now (map named_in rows.now)) }
+/// The refusal of the first row that is of no series that was scanned. The first stands on line 3. Where there
+/// is none, each row was counted with the line of its station.
+pub(crate) fn scanned_fault(lines: &[Line], rows: &[Row], counts: &mut [u64]) -> Option<HeadFault>
+    requires rise { tests.IdsRise lines.now }
+    requires none { counts.old ≡ replicate (length lines.now) 0 }
+    ensures fault { result ≡ first_failing (tests.scanned_tests lines.now (map named_in rows.now)) }
+    ensures counts { result ≡ None → counts.new ≡ map (count_of (tests.of_rows (map named_in rows.now))) lines.now }
 {
-    let place = first_not_scanned(lines, rows)?;
+    let place = first_not_scanned(lines, rows, counts)?;
     Some(HeadFault::NotScanned {
         line: place as u64 + 3,
     })
 }
 
-/// The place of the first row that is of no series that was scanned.
-fn first_not_scanned(lines: &[Line], rows: &[Row]) -> Option<usize>
-    requires { tests.IdsRise lines.now }
+/// The place of the first row that is of no series that was scanned. Each row before it is counted with the
+/// line of its station.
+fn first_not_scanned(lines: &[Line], rows: &[Row], counts: &mut [u64]) -> Option<usize>
+    requires rise { tests.IdsRise lines.now }
+    requires none { counts.old ≡ replicate (length lines.now) 0 }
     ensures place { IsFirstPlace (λ row. tests.is_scanned lines.now row.0.id)
         (map named_in rows.now) result }
     ensures within { IfSome result (λ place. place < length rows.now) }
+    ensures counts { result ≡ None → counts.new ≡ map (count_of (tests.of_rows (map named_in rows.now))) lines.now }
 {
-    let mut all = rows.iter();
-    all.position(|row| !is_scanned(lines, &row.candidate.id))
+    for (place, row) in rows.iter().enumerate() {
+        if !count_row(lines, &row.candidate.id, counts) {
+            return Some(place);
+        }
+    }
+    None
 }
 
-/// Whether one of these lines, which rise by ID, is of the station and the series wasn't passed
-/// over.
-fn is_scanned(lines: &[Line], id: &StationId) -> bool
-    requires { tests.IdsRise lines.now }
-    ensures { result ≡ tests.is_scanned lines.now id.now }
+/// Whether one of these lines, which rise by ID, is of the station and the series wasn't passed over.
+/// A row is counted with that line.
+fn count_row(lines: &[Line], id: &StationId, counts: &mut [u64]) -> bool
+    requires rise { tests.IdsRise lines.now }
+    requires all { length counts.old ≡ length lines.now }
+    requires few { (k : ℕ) → slice_index counts.old k + 1 < 2 ^ 64 }
+    ensures scanned { result ≡ tests.is_scanned lines.now id.now }
+    ensures counted { result ≡ true → tallies.IsOneMore id.now lines.now counts.old counts.new }
 {
-    match lines.binary_search_by(|line| line.id.cmp(id)) {
-        Ok(place) => !lines[place].skipped,
-        Err(_) => false,
+    let Ok(place) = lines.binary_search_by(|line| line.id.cmp(id)) else {
+        return false;
+    };
+    if lines[place].skipped {
+        return false;
     }
+    counts[place] += 1;
+    true
 }

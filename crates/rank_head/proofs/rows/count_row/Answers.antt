@@ -1,20 +1,40 @@
-use Rattle.std.proofs.Common.{rules, sym}
+use Rattle.std.proofs.Common.{rules, refl, sym, ap, ◌∙◌}
+use Rattle.std.specs.Prelude.{not}
 use Rattle.std.specs.Cmp.Lexicographic.{slice_cmp}
 use Rattle.std.specs.Ordering.{nat_cmp}
 use Rattle.std.proofs.lemmas.Fn.{always_returns_same}
 use Rattle.rank_head.proofs.Scanned.{scanned_at, not_scanned, searchable}
-use Rattle.rank_head.proofs.rows.is_scanned.Goals as goal
-
--- the line that was found decides
-pub returns-in-Ok : goal.returns-in-Ok
-returns-in-Ok c =
-    sym (scanned_at c.args.id.now c.args.lines.now c.in-Ok.place _ c.requires c.in-Ok.ensures.bound
-    (c.in-Ok.ensures.position (λ e. slice_cmp nat_cmp e.id.0 c.args.id.now.0)
-    (always_returns_same _ _ _ (λ a r g called. search rules)) _))
+use Rattle.rank_head.proofs.Tallies.{line-counted}
+use Rattle.rank_head.proofs.rows.count_row.Goals as goal
 
 -- where none was found no line is of the station
-pub returns-in-Err : goal.returns-in-Err
-returns-in-Err c =
-    sym (not_scanned c.args.id.now c.args.lines.now c.in-Err.field-0
-    (c.in-Err.ensures.position (λ e. slice_cmp nat_cmp e.id.0 c.args.id.now.0)
-    (always_returns_same _ _ _ (λ a r g called. search rules)) (searchable c.args.id.now c.args.lines.now c.requires)))
+pub returns-in_default-clause-scanned : goal.returns-in_default-clause-scanned
+returns-in_default-clause-scanned c =
+    sym (not_scanned c.args.id.now c.args.lines.now c.in_default.field-0
+    (c.in_default.ensures.position (λ e. slice_cmp nat_cmp e.id.0 c.args.id.now.0)
+    (always_returns_same _ _ _ (λ a r g called. search rules))
+    (searchable c.args.id.now c.args.lines.now c.requires.rise)))
+
+-- the line that was found was passed over
+pub returns-then-lines-place-clause-scanned : goal.returns-then-lines-place-clause-scanned
+returns-then-lines-place-clause-scanned c =
+    sym (scanned_at c.args.id.now c.args.lines.now c.in-Ok.place _ c.requires.rise c.in-Ok.ensures.bound
+    (c.in-Ok.ensures.position (λ e. slice_cmp nat_cmp e.id.0 c.args.id.now.0)
+    (always_returns_same _ _ _ (λ a r g called. search rules)) _)
+    ∙ ap not c.if-lines-place.true)
+
+-- or it wasn't
+pub returns-clause-scanned : goal.returns-clause-scanned
+returns-clause-scanned c =
+    sym (scanned_at c.args.id.now c.args.lines.now c.in-Ok.place _ c.requires.rise c.in-Ok.ensures.bound
+    (c.in-Ok.ensures.position (λ e. slice_cmp nat_cmp e.id.0 c.args.id.now.0)
+    (always_returns_same _ _ _ (λ a r g called. search rules)) _)
+    ∙ ap not c.if-lines-place.false)
+
+-- and then one more is counted for it
+pub returns-clause-counted : goal.returns-clause-counted
+returns-clause-counted c = λ _.
+    line-counted c.args.id.now c.args.lines.now _ _ c.in-Ok.place _ c.requires.rise c.in-Ok.ensures.bound
+    (c.in-Ok.ensures.position (λ e. slice_cmp nat_cmp e.id.0 c.args.id.now.0)
+    (always_returns_same _ _ _ (λ a r g called. search rules)) _)
+    c.if-lines-place.false refl
