@@ -155,7 +155,8 @@ impl FloorSink for Pool {
 
     #[inline(always)]
     fn floor(&self) -> Option<i64> {
-        self.kth()
+        let last = self.last?;
+        Some(last)
     }
 
     /// What scores less than the last place falls out, and leaves the pool as it is.
