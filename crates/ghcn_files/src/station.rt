@@ -62,7 +62,8 @@ impl PartialOrd for StationId {
     ghost partial_cmp = { as_partial_cmp (on (λ id. id.0) (slice_cmp nat_cmp)) };
 
     ghost laws = { partial_order_from_own_ties
-        (partial_order_from_total {R = on (λ (id : StationId). id.0) (slice_cmp nat_cmp)} (Prim.search (comparing, rules)))
+        (partial_order_from_total {R = on (λ (id : StationId). id.0) (slice_cmp nat_cmp)}
+        (Prim.search (comparing, rules)))
         (Prim.search (comparing, rules)) };
 
     #[inline]
