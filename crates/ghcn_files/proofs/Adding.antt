@@ -2,10 +2,11 @@
 use Rattle.std.proofs.Common.{◌≡◌, ℕ, suc, ◌<◌, ◌^◌, Bool, true, false, cond, List, [], ◌∷◌, ◌++◌, length, map, drop}
 use Rattle.std.proofs.Common.{replicate, length-append, length-drop, Option}
 use Rattle.std.proofs.Common.{Some, None, refl, sym, ap, subst, ◌∙◌, arith, true≢false, ◌||◌, ◌&&◌, is_some}
-use Rattle.std.specs.Prelude.{◌==◌, nat_lt, nat_le, ℤ, pos, neg_ℤ}
+use Rattle.std.specs.Prelude.{◌==◌, ◌≤◌, nat_lt, nat_le, ℤ, pos, neg_ℤ}
 use Rattle.std.specs.List.{list_any, list_all, IsDistinct}
 use Rattle.std.specs.Option.{option_or, option_map}
 use Rattle.std.specs.Ordering.{is_eq}
+use Rattle.std.proofs.lemmas.Bool.Decides.{nat_tests}
 use Rattle.std.proofs.lemmas.List.{length_push, map-append, length-map, length-take-le, length-replicate}
 use Rattle.ghcn_fields.specs.Bytes.{blank_byte}
 use Rattle.std.proofs.lemmas.Map.Keys.{IsDistinct-push}
@@ -127,6 +128,16 @@ station_of-right line none =
     all_six _ _ _ _ _ _ tests.0 (own_number (neg_ℤ (pos 900_000)) (pos 900_000) (latitude line) tests.1)
     (own_number (neg_ℤ (pos 1_800_000)) (pos 1_800_000) (longitude line) tests.2) (printed (columns 39 40 line))
     (printed (columns 42 71 line)) (name_long line)
+
+-- and it has the columns of an ID
+pub id_there : (line : List ℕ) → line_why line ≡ None → 11 ≤ length line
+id_there line none = by (nat_le 30 (length line)) refl none
+  where
+    by : (long : Bool) → nat_le 30 (length line) ≡ long → why_by long (is_id (columns 1 11 line))
+        (is_latitude (latitude line)) (is_longitude (longitude line)) (is_bad (elevation line)) ≡ None
+        → 11 ≤ length line
+    by true is e = grind (arith, nat_tests)
+    by false is e = absurd cc
 
 -- ---- one station more
 

@@ -11,7 +11,7 @@ use Rattle.ghcn_files.specs.declared.fault.StationWhy.TheVariants.{Short, BadId,
 use Rattle.ghcn_files.specs.declared.fault.StationWhy.TheVariants.{BadElevation}
 use Rattle.ghcn_files.specs.Ids.{is_id}
 use Rattle.ghcn_files.specs.StationLines.{id_of, latitude, longitude, elevation, is_latitude, is_longitude, is_bad}
-use Rattle.ghcn_files.specs.StationLines.{number_of, unless_missing, printable, station_of, line_why}
+use Rattle.ghcn_files.specs.StationLines.{number_of, numbers_of, unless_missing, printable, station_of, line_why}
 use Rattle.ghcn_files.proofs.ColumnSlices.{columns-slice}
 
 -- the latitude of a line that is long enough
@@ -52,6 +52,12 @@ line_why-tested {line} {id} {north} {east} {bad} t =
     ∙ ap (λ (b : Bool). why_by true id north b (is_bad (elevation line)))
     (ap is_longitude (sym (longitude_slice line t.long)) ∙ t.east_is)
     ∙ ap (λ (b : Bool). why_by true id north east b) t.bad_is
+
+-- the numbers of a line, one by one
+pub numbers_of-parts : (line : List ℕ) (north east : ℤ) (height : Option ℤ)
+    → north ≡ number_of (latitude line) → east ≡ number_of (longitude line) → height ≡ unless_missing (elevation line)
+    → record { latitude = north; longitude = east; elevation = height } ≡ numbers_of line
+numbers_of-parts line north east height n e h = cc
 
 -- the station of a line, by its parts
 pub station_of-parts : (line : List ℕ) (id : StationId) (north east : ℤ) (height : Option ℤ) (state name : List ℕ)

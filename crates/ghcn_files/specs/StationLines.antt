@@ -10,6 +10,7 @@ use Rattle.ghcn_fields.specs.Faults.{first_failing}
 use Rattle.ghcn_fields.specs.Numbers.{scaled_field}
 pub use Rattle.ghcn_fields.specs.Numbers.{is_bad}
 use Rattle.ghcn_files.specs.declared.station.StationId.{StationId}
+use Rattle.ghcn_files.specs.declared.station.Numbers.{Numbers}
 use Rattle.ghcn_files.specs.declared.station.Station.{Station}
 use Rattle.ghcn_files.specs.declared.fault.StationWhy.{StationWhy}
 use Rattle.ghcn_files.specs.declared.fault.StationWhy.TheVariants.{Short, BadId, BadLatitude, BadLongitude}
@@ -74,6 +75,14 @@ is_latitude field = is_number_within (neg_ℤ (pos 900_000)) (pos 900_000) field
 -- from 180 degrees west to 180 degrees east
 abbrev pub is_longitude : Field → Bool
 is_longitude field = is_number_within (neg_ℤ (pos 1_800_000)) (pos 1_800_000) field
+
+-- the numbers of a line
+abbrev pub numbers_of : List ℕ → Numbers
+numbers_of line = record {
+  latitude = number_of (latitude line);
+  longitude = number_of (longitude line);
+  elevation = unless_missing (elevation line);
+}
 
 -- the station of a line
 abbrev pub station_of : List ℕ → Station

@@ -1,6 +1,6 @@
 //! Columns of a fixed-width line, counted from 1 as the readme counts them.
 
-ghost use Rattle.std.specs.Prelude.{◌≡◌, ◌≤◌, ◌+◌, ◌-◌};
+ghost use Rattle.std.specs.Prelude.{◌≡◌, ◌≤◌, ◌+◌, ◌-◌, IfSome};
 ghost use Rattle.ghcn_fields.specs.Lines as lines;
 
 /// So many columns of a line from one on; blanks stand for those that a short line lacks.
@@ -8,16 +8,24 @@ pub(crate) fn columns<const N: usize>(line: &[u8], from: usize) -> [u8; N]
     requires { 1 ≤ from }
     ensures { result ≡ lines.columns from (from + N - 1) line.now }
 {
-    match line[(from - 1).min(line.len())..].first_chunk() {
+    match columns_in(line, from) {
         // A copy of so many bytes needs no call.
         Some(found) => *found,
         None => columns_filled(line, from),
     }
 }
 
+/// The same where they stand in the line, if it has all of them.
+pub(crate) fn columns_in<const N: usize>(line: &[u8], from: usize) -> Option<&[u8; N]>
+    requires { 1 ≤ from }
+    ensures { IfSome result (λ found. found.now ≡ lines.columns from (from + N - 1) line.now) }
+{
+    line[(from - 1).min(line.len())..].first_chunk()
+}
+
 /// The same of a line that may lack some of them.
 #[inline(never)]
-fn columns_filled<const N: usize>(line: &[u8], from: usize) -> [u8; N]
+pub(crate) fn columns_filled<const N: usize>(line: &[u8], from: usize) -> [u8; N]
     requires { 1 ≤ from }
     ensures { result ≡ lines.columns from (from + N - 1) line.now }
 {

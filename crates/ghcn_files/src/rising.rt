@@ -1,21 +1,23 @@
 //! Stations whose IDs rise, as they do in NOAA's list: an ID is searched among their keys.
 
-ghost use Rattle.std.specs.Prelude.{◌≡◌, IfOk};
+ghost use Rattle.std.specs.Prelude.{◌≡◌, ◌≤◌, IfOk, length};
+ghost use Rattle.ghcn_files.specs.StationLines.{id_of};
 ghost use Rattle.ghcn_files.specs.Listed.{AreListed, place_of};
 ghost use Rattle.ghcn_files.specs.KeptStations as kept;
 
-use crate::stations::key;
+use crate::stations::{key, key_of_line};
 use crate::{Station, StationId};
 use ghcn_fields::Memory;
 use std::alloc::Global;
 use std::collections::BTreeMap;
 
-/// Whether the key of an ID is greater than that of the last station.
-pub(crate) fn is_behind(list: &[Station], id: &StationId) -> bool
-    ensures { result ≡ kept.is_behind list.now id.now }
+/// Whether the key of a line's ID is greater than that of the last station.
+pub(crate) fn is_behind(list: &[Station], line: &[u8]) -> bool
+    requires { 11 ≤ length line.now }
+    ensures { result ≡ kept.is_behind list.now (id_of line.now) }
 {
     match list.last() {
-        Some(last) => key(&last.id.0) < key(&id.0),
+        Some(last) => key(&last.id.0) < key_of_line(line),
         None => true,
     }
 }

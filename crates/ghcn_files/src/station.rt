@@ -21,7 +21,7 @@ ghost use Rattle.ghcn_files.specs.Ids.{is_id, is_visible, same_id};
 ghost use Rattle.ghcn_files.specs.StationLines as stations;
 
 use crate::StationWhy;
-use crate::columns::columns;
+use crate::columns::{columns, columns_filled, columns_in};
 use crate::missing::{is_bad, unless_missing};
 use crate::stations::key;
 use ghcn_fields::{Field, eleven_are_visible, scaled_field};
@@ -123,20 +123,28 @@ pub struct Station {
     pub name: [u8; 30],
 }
 
-impl Station {
-    /// The station of a line, or the first test that the line fails by itself.
+/// What a line of the station list says in numbers.
+#[derive(Clone, Copy)]
+pub(crate) struct Numbers {
+    latitude: i32,
+    longitude: i32,
+    elevation: Option<i32>,
+}
+
+impl Numbers {
+    /// The numbers of a station's line, or the first test that the line fails by itself.
     ///
     /// The readme's line has 85 columns; that a line may end after column 30, and that an elevation
     /// may be blank, is this project's own leniency.
     pub(crate) fn of_line(line: &[u8]) -> Result<Self, StationWhy>
-        ensures right { IfOk result (λ station. station ≡ stations.station_of line.now) }
+        ensures right { IfOk result (λ numbers. numbers ≡ stations.numbers_of line.now) }
         ensures ok { OnOk result (stations.line_why line.now ≡ None) }
         ensures err { IfErr result (λ why. stations.line_why line.now ≡ Some why) }
     {
         if line.len() < LEAST_COLUMNS {
             return Err(StationWhy::Short);
         }
-        let Some(id) = StationId::of_line(line) else {
+        let Some(_) = StationId::of_line(line) else {
             return Err(StationWhy::BadId);
         };
         let Some(latitude) = degrees(MOST_NORTH, &line[12..20]) else {
@@ -149,14 +157,30 @@ impl Station {
         if is_bad(elevation) {
             return Err(StationWhy::BadElevation);
         }
-        Ok(Station {
-            id,
+        Ok(Numbers {
             latitude,
             longitude,
             elevation: unless_missing(elevation),
+        })
+    }
+}
+
+impl Station {
+    /// The station of a line that says these numbers. It is built into its callers, so that the line's bytes are
+    /// copied once, to where the station is kept.
+    #[inline(always)]
+    pub(crate) fn of_numbers(line: &[u8], numbers: Numbers) -> Self
+        requires { numbers ≡ stations.numbers_of line.now }
+        ensures { result ≡ stations.station_of line.now }
+    {
+        Station {
+            latitude: numbers.latitude,
+            longitude: numbers.longitude,
+            elevation: numbers.elevation,
             state: printable_columns(line, 39),
             name: printable_columns(line, 42),
-        })
+            id: StationId(columns(line, 1)),
+        }
     }
 }
 
@@ -179,14 +203,27 @@ fn is_within(limit: i32, number: i32) -> bool
     -limit <= number && number <= limit
 }
 
-/// So many columns of a line from one on, with a question mark for each byte that can't be printed.
+/// So many columns of a line from one on, with a question mark for each byte that can't be printed. Those that a line
+/// has are read in the line itself.
+#[inline(always)]
 fn printable_columns<const N: usize>(line: &[u8], from: usize) -> [u8; N]
     requires { 1 ≤ from }
     ensures { result ≡ map stations.printable (lines.columns from (from + N - 1) line.now) }
 {
-    let mut text = columns(line, from);
-    make_printable(&mut text);
-    text
+    match columns_in(line, from) {
+        Some(found) => printable_text(*found),
+        None => printable_text(columns_filled(line, from)),
+    }
+}
+
+/// A text with a question mark for each byte that can't be printed.
+#[inline(always)]
+fn printable_text<const N: usize>(text: [u8; N]) -> [u8; N]
+    ensures { result ≡ map stations.printable text.entry }
+{
+    let mut printed = text;
+    make_printable(&mut printed);
+    printed
 }
 
 /// Puts a question mark for each byte that can't be printed.

@@ -1,17 +1,19 @@
 //! The listed stations, in the order of the list.
 
-ghost use Rattle.std.specs.Prelude.{◌≡◌, ◌<◌, ◌^◌, ◌++◌, ◌∷◌, [], None, IsTrue, length, slice_get, Ok, IfOk};
+ghost use Rattle.std.specs.Prelude.{◌≡◌, ◌≤◌, ◌<◌, ◌^◌, ◌++◌, ◌∷◌, [], None, IsTrue, length, slice_get, Ok, IfOk};
 ghost use Rattle.std.specs.Prelude.{OnOk, OnErr, IfErr, is_some, true};
 ghost use Rattle.std.specs.List.{find};
 ghost use Rattle.std.specs.Option.{option_copied};
-ghost use Rattle.ghcn_files.specs.StationLines.{is_station};
+ghost use Rattle.ghcn_files.specs.StationLines.{id_of, is_station, numbers_of, station_of};
 ghost use Rattle.ghcn_files.specs.Listed.{AreListed, is_station_of, place_of, listed};
 ghost use Rattle.ghcn_files.specs.KeptStations.{AreEleven, AreKept, AreRising, is_behind, key_of, Adds};
 ghost use Rattle.ghcn_fields.specs.Refusals.{IsRefusal};
 ghost use Rattle.ghcn_files.specs.Listed.{is_memory, IsFirstRefusal};
 ghost use Rattle.ghcn_files.specs.KeptStations.{IsRefusedFor};
 
+use crate::columns::columns;
 use crate::rising::{is_behind, place_among, places_of};
+use crate::station::Numbers;
 use crate::{Station, StationId, StationWhy, StationsFault};
 use ghcn_fields::{Memory, is_blank, lines};
 use std::alloc::Global;
@@ -98,13 +100,14 @@ impl Stations {
         Some(place as u64)
     }
 
-    /// Whether a station has this ID. One behind all that rise needs no search.
-    fn is_listed(&self, id: &StationId) -> bool
-        ensures { result ≡ is_some (place_of self.now id.now) }
+    /// Whether a station has the ID of a line. One behind all that rise needs no search.
+    fn is_listed(&self, line: &[u8]) -> bool
+        requires { 11 ≤ length line.now }
+        ensures { result ≡ is_some (place_of self.now (id_of line.now)) }
     {
         match &self.places {
-            None if is_behind(&self.list, id) => false,
-            _ => self.place(id).is_some(),
+            None if is_behind(&self.list, line) => false,
+            _ => self.place(&StationId(columns(line, 1))).is_some(),
         }
     }
 
@@ -113,11 +116,11 @@ impl Stations {
         ensures ok { OnOk result (Adds self.old (number, line.now) self.new) }
         ensures err { IfErr result (λ fault. IsRefusedFor fault self.old (number, line.now)) }
     {
-        let station = match Station::of_line(line) {
-            Ok(station) => station,
+        let numbers = match Numbers::of_line(line) {
+            Ok(numbers) => numbers,
             Err(why) => return Err(StationsFault::StationLine { line: number, why }),
         };
-        if self.is_listed(&station.id) {
+        if self.is_listed(line) {
             return Err(StationsFault::StationLine {
                 line: number,
                 why: StationWhy::Duplicate,
@@ -126,81 +129,97 @@ impl Stations {
         if self.list.len() >= MOST_STATIONS {
             return Err(StationsFault::TooManyStations);
         }
-        match self.push(alloc, station) {
+        match self.push(alloc, line, numbers) {
             Ok(()) => Ok(()),
             Err(memory) => Err(StationsFault::Memory(memory)),
         }
     }
 
-    /// Puts a station behind the others, whose ID none of them has.
-    fn push(&mut self, alloc: Global, station: Station) -> Result<(), Memory>
-        requires new { place_of self.old station.id ≡ None }
+    /// Puts the station of a line behind the others, whose ID none of them has.
+    fn push(&mut self, alloc: Global, line: &[u8], numbers: Numbers) -> Result<(), Memory>
+        requires numbers { numbers ≡ numbers_of line.now }
+        requires long { 11 ≤ length line.now }
+        requires new { place_of self.old (id_of line.now) ≡ None }
         requires room { length self.old < 2 ^ 20 }
-        requires right { IsTrue (is_station station) }
-        ensures { OnOk result (self.new ≡ self.old ++ station ∷ []) }
+        requires right { IsTrue (is_station (station_of line.now)) }
+        ensures { OnOk result (self.new ≡ self.old ++ station_of line.now ∷ []) }
     {
         if let Some(places) = &mut self.places {
-            return push_with_place(&mut self.list, places, station);
+            return push_with_place(&mut self.list, places, line, numbers);
         }
-        if is_behind(&self.list, &station.id) {
-            return push_with_key(&mut self.list, &mut self.keys, station);
+        if is_behind(&self.list, line) {
+            return push_with_key(&mut self.list, &mut self.keys, line, numbers);
         }
         let mut places = places_of(alloc, &self.list)?;
-        push_with_place(&mut self.list, &mut places, station)?;
+        push_with_place(&mut self.list, &mut places, line, numbers)?;
         self.places = Some(places);
         self.keys = Vec::new(alloc);
         Ok(())
     }
 }
 
-/// Puts a station behind the others, whose IDs all come before its own, and its key behind theirs.
+/// Puts the station of a line behind the others, whose IDs all come before its own, and its key behind theirs. It is
+/// made once there is room for it, and so where it is kept.
 fn push_with_key(
     stations: &mut Vec<Station>,
     keys: &mut Vec<(u64, u32)>,
-    station: Station,
+    line: &[u8],
+    numbers: Numbers,
 ) -> Result<(), Memory>
+    requires numbers { numbers ≡ numbers_of line.now }
+    requires long { 11 ≤ length line.now }
     requires kept { AreRising stations.old.items keys.old.items }
-    requires new { place_of stations.old.items station.id ≡ None }
+    requires new { place_of stations.old.items (id_of line.now) ≡ None }
     requires room { length stations.old.items < 2 ^ 20 }
-    requires right { IsTrue (is_station station) }
-    requires behind { is_behind stations.old.items station.id ≡ true }
+    requires right { IsTrue (is_station (station_of line.now)) }
+    requires behind { is_behind stations.old.items (id_of line.now) ≡ true }
     ensures kept { AreRising stations.new.items keys.new.items }
-    ensures ok { OnOk result (stations.new.items ≡ stations.old.items ++ station ∷ []) }
+    ensures ok { OnOk result (stations.new.items ≡ stations.old.items ++ station_of line.now ∷ []) }
     ensures err { OnErr result (stations.new.items ≡ stations.old.items) }
 {
-    stations.push(station)?;
-    match keys.push(key(&station.id.0)) {
-        Ok(()) => Ok(()),
-        Err(_) => {
-            stations.pop();
-            Err(Memory)
-        }
-    }
+    stations.reserve(1)?;
+    keys.reserve(1)?;
+    stations.push_reserved(Station::of_numbers(line, numbers));
+    keys.push_reserved(key_of_line(line));
+    Ok(())
 }
 
-/// Puts a station behind the others, whose ID none of them has, and its place beside theirs.
+/// Puts the station of a line behind the others, whose ID none of them has, and its place beside theirs.
 fn push_with_place(
     list: &mut Vec<Station>,
     places: &mut BTreeMap<(u64, u32), usize>,
-    station: Station,
+    line: &[u8],
+    numbers: Numbers,
 ) -> Result<(), Memory>
+    requires numbers { numbers ≡ numbers_of line.now }
+    requires long { 11 ≤ length line.now }
     requires kept { AreKept list.old.items places.old.entries }
-    requires new { place_of list.old.items station.id ≡ None }
+    requires new { place_of list.old.items (id_of line.now) ≡ None }
     requires room { length list.old.items < 2 ^ 20 }
-    requires right { IsTrue (is_station station) }
+    requires right { IsTrue (is_station (station_of line.now)) }
     ensures kept { AreKept list.new.items places.new.entries }
-    ensures ok { OnOk result (list.new.items ≡ list.old.items ++ station ∷ []) }
+    ensures ok { OnOk result (list.new.items ≡ list.old.items ++ station_of line.now ∷ []) }
     ensures err { OnErr result (list.new.items ≡ list.old.items) }
 {
     let place = list.len();
-    list.push(station)?;
-    match places.insert(key(&station.id.0), place) {
+    list.push(Station::of_numbers(line, numbers))?;
+    match places.insert(key_of_line(line), place) {
         Ok(_) => Ok(()),
         Err(_) => {
             list.pop();
             Err(Memory)
         }
     }
+}
+
+/// The key of the ID that a line begins with, read in the line itself.
+#[inline(always)]
+pub(crate) fn key_of_line(line: &[u8]) -> (u64, u32)
+    requires { 11 ≤ length line.now }
+    ensures key { result ≡ key_of (id_of line.now).0 }
+    ensures bytes { AreEleven (id_of line.now).0 }
+{
+    key(line.first_chunk().unwrap())
 }
 
 /// The eleven bytes of an ID as the numbers of the first eight and of the last four, which are

@@ -2,8 +2,8 @@ use Rattle.std.proofs.Common.{true, false, refl, sym, ap, ◌∙◌, rules, Fits
 use Rattle.ghcn_fields.specs.Numbers.{scaled_field}
 use Rattle.ghcn_files.specs.StationLines.{is_bad, number_of, unless_missing}
 use Rattle.ghcn_files.proofs.Months.{test_held, test_failed}
-use Rattle.ghcn_files.proofs.StationTests.{Tested, line_why-tested, station_of-parts, latitude_slice, longitude_slice}
-use Rattle.ghcn_files.proofs.station.Station.of_line.Goals as goal
+use Rattle.ghcn_files.proofs.StationTests.{Tested, line_why-tested, numbers_of-parts, latitude_slice, longitude_slice}
+use Rattle.ghcn_files.proofs.station.Numbers.of_line.Goals as goal
 
 -- a latitude out of range
 pub returns-in_default-degrees-clause-err : goal.returns-in_default-degrees-clause-err
@@ -55,20 +55,17 @@ returns-clause-ok c =
     } in
     line_why-tested tested
 
--- its station is the definition's
+-- its numbers are the definition's
 pub returns-clause-right : goal.returns-clause-right
 returns-clause-right c =
     let line = c.args.line.now in
     let long = c.if-line-lt-LEAST_COLUMNS.false in
-    let id = test_held _ _ _ c.of_line.ensures c.in-Some.is in
     let north = test_held _ _ _ c.degrees.ensures c.in-Some-degrees.is in
     let east = test_held _ _ _ c.degrees-2.ensures c.in-Some-degrees-2.is in
     let north_fits : FitsSigned w32 c.in-Some-degrees.latitude = search rules in
     let east_fits : FitsSigned w32 c.in-Some-degrees-2.longitude = search rules in
-    station_of-parts line _ _ _ _ _ _ id.1
+    numbers_of-parts line _ _ _
     (to_z-of_z north_fits ∙ north.1 ∙ ap number_of (latitude_slice line long))
     (to_z-of_z east_fits ∙ east.1 ∙ ap number_of (longitude_slice line long))
     (c.unless_missing.ensures ∙ ap unless_missing
     (c.scaled_field-elevation.ensures.value ∙ ap (scaled_field 1) c.columns.ensures))
-    c.printable_columns.ensures
-    c.printable_columns-2.ensures
