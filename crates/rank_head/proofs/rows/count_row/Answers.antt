@@ -15,26 +15,26 @@ returns-in_default-clause-scanned c =
     (always_returns_same _ _ _ (λ a r g called. search rules))
     (searchable c.args.id.now c.args.lines.now c.requires.rise)))
 
--- the line that was found was passed over
-pub returns-then-lines-place-clause-scanned : goal.returns-then-lines-place-clause-scanned
-returns-then-lines-place-clause-scanned c =
+-- the line that was found wasn't passed over
+pub returns-then-not-lines-place-clause-scanned : goal.returns-then-not-lines-place-clause-scanned
+returns-then-not-lines-place-clause-scanned c =
     sym (scanned_at c.args.id.now c.args.lines.now c.in-Ok.place _ c.requires.rise c.in-Ok.ensures.bound
     (c.in-Ok.ensures.position (λ e. slice_cmp nat_cmp e.id.0 c.args.id.now.0)
     (always_returns_same _ _ _ (λ a r g called. search rules)) _)
-    ∙ ap not c.if-lines-place.true)
+    ∙ ap not c.if-not-lines-place.true)
 
--- or it wasn't
+-- and then one more is counted for it
+pub returns-then-not-lines-place-clause-counted : goal.returns-then-not-lines-place-clause-counted
+returns-then-not-lines-place-clause-counted c = λ _.
+    line-counted c.args.id.now c.args.lines.now _ _ c.in-Ok.place _ c.requires.rise c.in-Ok.ensures.bound
+    (c.in-Ok.ensures.position (λ e. slice_cmp nat_cmp e.id.0 c.args.id.now.0)
+    (always_returns_same _ _ _ (λ a r g called. search rules)) _)
+    c.if-not-lines-place.true refl
+
+-- or it was
 pub returns-clause-scanned : goal.returns-clause-scanned
 returns-clause-scanned c =
     sym (scanned_at c.args.id.now c.args.lines.now c.in-Ok.place _ c.requires.rise c.in-Ok.ensures.bound
     (c.in-Ok.ensures.position (λ e. slice_cmp nat_cmp e.id.0 c.args.id.now.0)
     (always_returns_same _ _ _ (λ a r g called. search rules)) _)
-    ∙ ap not c.if-lines-place.false)
-
--- and then one more is counted for it
-pub returns-clause-counted : goal.returns-clause-counted
-returns-clause-counted c = λ _.
-    line-counted c.args.id.now c.args.lines.now _ _ c.in-Ok.place _ c.requires.rise c.in-Ok.ensures.bound
-    (c.in-Ok.ensures.position (λ e. slice_cmp nat_cmp e.id.0 c.args.id.now.0)
-    (always_returns_same _ _ _ (λ a r g called. search rules)) _)
-    c.if-lines-place.false refl
+    ∙ ap not c.if-not-lines-place.false)
