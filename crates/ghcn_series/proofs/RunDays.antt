@@ -1,10 +1,10 @@
 -- Days of a block in a row, and those whose values pass a test.
 use Rattle.std.proofs.Common.{◌≡◌, ◌≢◌, ℕ, zero, suc, ◌+◌, ◌-◌, ◌*◌, ◌/◌, ◌%◌, ◌<◌, ◌≤◌, ◌^◌, Bool, true, false, List, []}
-use Rattle.std.proofs.Common.{◌∷◌, ◌++◌, length, get_or, inl, inr, refl, sym, ap, ◌∙◌, arith, ℤ, pos, ◌+ℤ◌, ◌<ℤ◌, w32}
+use Rattle.std.proofs.Common.{◌∷◌, length, get_or, inl, inr, refl, sym, ap, ◌∙◌, arith, ℤ, pos, ◌+ℤ◌, ◌<ℤ◌, w32}
 use Rattle.std.proofs.Common.{min, subst, below_more, zero-add, ap₂}
-use Rattle.std.specs.Prelude.{◌==◌, ◌&&◌, not, bit_and, bit_or, filter, int_le, int_lt}
-use Rattle.std.specs.Int.{bit_at, bit_not, from_bool, trailing_zeros, trailing_ones}
-use Rattle.std.specs.List.{filter_map, range_with_len, cons_option, AllByRecursion}
+use Rattle.std.specs.Prelude.{◌==◌, ◌&&◌, bit_and, bit_or, filter, int_le, int_lt}
+use Rattle.std.specs.Int.{bit_at, from_bool, trailing_zeros, trailing_ones}
+use Rattle.std.specs.List.{filter_map, range_with_len, cons_option}
 use Rattle.std.proofs.lemmas.Bool.{cases_lt, cases_Bool}
 use Rattle.std.proofs.lemmas.Bool.Decides.{nat_tests}
 use Rattle.std.proofs.lemmas.Int.{ints}

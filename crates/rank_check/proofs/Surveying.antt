@@ -7,7 +7,7 @@ use Rattle.std.specs.List.{fold, flat_map, AllByRecursion}
 use Rattle.std.specs.Prelude.{int_le}
 use Rattle.std.proofs.Common.{inl, inr, ◌^◌, ◌<ℤ◌, ◌≤ℤ◌}
 use Rattle.std.proofs.lemmas.Bool.{cases_Bool}
-use Rattle.std.specs.Int.{int_max}
+use Rattle.std.specs.Int.{int_max, int_min}
 use Rattle.std.specs.Ordering.{is_eq, is_lt, is_le, int_cmp, ordering_then}
 use Rattle.std.specs.declared.cmp.Ordering.{Ordering}
 use Rattle.std.specs.declared.cmp.Ordering.TheVariants.{Less, Equal, Greater}
@@ -304,3 +304,26 @@ from-last last marks (c ∷ cs) behind = (
   ],
   from-last last marks cs behind.1,
 )
+
+-- so the lesser of its score and the greatest so far is a floor
+pub floor-some : (last : Candidate) (marks : List Mark) (rows : List Candidate) (count : ℕ) (highest : Option ℤ)
+    (top floor : ℤ) → IsLast (Some last) rows → highest ≡ Some top → floor ≡ int_min top last.score
+    → IsFloor (record { rows = map (known marks) rows; count = count; highest = highest }) floor
+floor-some last marks rows count highest top floor behind known is =
+    let low : floor ≤ℤ last.score = grind (arith, ints) in
+    let under : floor ≤ℤ top = grind (arith, ints) in
+    record {
+      rows = each-weaker (λ (m : Met). last.score ≤ℤ m.candidate.score) (λ m. floor ≤ℤ m.candidate.score) _
+          (λ m le. omega (arith, ints, low, le)) (from-last last marks rows behind);
+      highest = top;
+      known = known;
+      under = under;
+    }
+
+-- where there is no last row there is none, and the greatest score so far is one
+pub floor-none : (marks : List Mark) (rows : List Candidate) (count : ℕ) (highest : Option ℤ) (top : ℤ)
+    → IsLast None rows → highest ≡ Some top
+    → IsFloor (record { rows = map (known marks) rows; count = count; highest = highest }) top
+floor-none marks [] count highest top behind known =
+    record { rows = tt; highest = top; known = known; under = omega (arith, ints) }
+floor-none marks (c ∷ cs) count highest top behind known = let none = behind.0 in absurd cc

@@ -13,7 +13,6 @@ use Rattle.ghcn_files.specs.declared.station.StationId.{StationId}
 use Rattle.ghcn_series.specs.Series.{DayValue}
 use Rattle.rank_scores.specs.Candidates.{Days, candidate, candidates_among}
 use Rattle.rank_scores.specs.Extremes.{score_by}
-use Rattle.rank_scores.specs.declared.extreme.Extreme.{Extreme}
 use Rattle.rank_scores.specs.declared.extreme.Extreme.TheVariants.{Highest, Lowest}
 use Rattle.rank_scores.proofs.Rising.{from_each}
 

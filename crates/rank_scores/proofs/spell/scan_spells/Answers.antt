@@ -1,5 +1,5 @@
 use Rattle.std.proofs.Common.{ap, ap₂, ◌∙◌, sym}
-use Rattle.std.specs.Prelude.{filter, ◌++◌}
+use Rattle.std.specs.Prelude.{filter}
 use Rattle.std.specs.List.{fold}
 use Rattle.rank_scores.specs.Candidates.{test_of}
 use Rattle.rank_scores.proofs.SpellDays.{offered_of_kind, offered-spells, run-longer, offers-anew}

@@ -1,0 +1,21 @@
+use Rattle.std.proofs.Common.{◌≡◌, ◌+◌, ◌<◌, ◌^◌, length, sym, ap, ◌∙◌, subst, rules}
+use Rattle.std.specs.List.{fold}
+use Rattle.rank_check.specs.Survey.{Tallied, IsFloor, tally_with}
+use Rattle.ghcn_series.specs.Says.{in_64_bits}
+use Rattle.std.specs.Prelude.{map}
+use Rattle.rank_check.specs.Marks.{known}
+use Rattle.rank_check.proofs.Surveying.{below-many}
+use Rattle.rank_check.proofs.tally.TallyFloorSink.pass_over.Goals as goal
+
+-- the number alone changes
+pub returns : goal.returns
+returns c floor candidates is low many =
+    let rows = map (known c.self.inside.marks.items) c.self.inside.rows.items in
+    let before : Tallied = record { rows = rows; count = c.self.inside.count; highest = c.self.inside.highest } in
+    let fits : c.self.inside.count < 2 ^ 64 = search rules in
+    let same : IsFloor before floor = subst (λ (t : Tallied). IsFloor t floor) (sym c.self.view_is) is in
+    let count : c.saturating_add-self-inside.result ≡ in_64_bits (c.self.inside.count + length candidates) =
+    c.saturating_add-self-inside.ensures ∙ ap (λ n. in_64_bits (c.self.inside.count + n)) (sym many) in
+    (λ i. record { rows = rows; count = count i; highest = c.self.inside.highest })
+    ∙ sym (below-many before candidates floor fits same low)
+    ∙ ap (λ (t : Tallied). fold tally_with t candidates) c.self.view_is
