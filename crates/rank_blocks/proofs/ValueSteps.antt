@@ -1,9 +1,9 @@
 -- What is made of the values of a block, step by step.
-use Rattle.rank_blocks.proofs.Cited.{◌≡◌, ◌≢◌, ℕ, ◌+◌, ◌-◌, ◌*◌, ◌%◌, ◌<◌, ◌≤◌, ◌^◌, Bool, true, false, ◌⊎◌, inl, inr}
-use Rattle.rank_blocks.proofs.Cited.{List, length, get_or, set, ap, ◌∙◌, arith, ℤ, pos, below_more, w32, ◌==◌, bit_and}
-use Rattle.rank_blocks.proofs.Cited.{bit_or, not, rules, bit_at, bit_not, from_bool, int_max, int_min, get_or-set_other}
-use Rattle.rank_blocks.proofs.Cited.{bit_at-lt, bit_at-zero, bit_at_and, bit_at_not, bit_at_or, bit_at_set_same}
-use Rattle.rank_blocks.proofs.Cited.{bit_at_set_other, bit_at_ones, IsGreatest, HasZeros, IsScoreAmong, IsUsableScore}
+use Rattle.rank_blocks.proofs.Cited.{◌≡◌, ℕ, ◌+◌, ◌-◌, ◌<◌, ◌^◌, Bool, ◌⊎◌, inl, inr}
+use Rattle.rank_blocks.proofs.Cited.{List, length, get_or, set, ap, ◌∙◌, arith, ℤ, pos, below_more, w32, bit_and}
+use Rattle.rank_blocks.proofs.Cited.{not, rules, bit_at, bit_not, int_max, int_min, get_or-set_other}
+use Rattle.rank_blocks.proofs.Cited.{bit_at-lt, bit_at_and, bit_at_not}
+use Rattle.rank_blocks.proofs.Cited.{bit_at_ones, IsGreatest, HasZeros, IsScoreAmong, IsUsableScore}
 use Rattle.rank_blocks.proofs.Cited.{StandsFor, HasUsableAlone, IsPlacesOf, IsWordOf, ints}
 use Rattle.std.proofs.lemmas.Grind.{get_or-set_at}
 
@@ -33,32 +33,6 @@ pub row-more : (word : ℕ) (values row : List ℤ) (p : ℕ) (z : ℤ) → p < 
     → ((j : ℕ) → j < p → StandsFor word values j (get_or row j (pos 0)))
     → (j : ℕ) → j < p + 1 → StandsFor word values j (get_or (set row p z) j (pos 0))
 row-more word values row p z lt here filled = search (rules, arith, below_more, get_or-set_other, get_or-set_at)
-
--- a bit is added where a word has none yet
-added-bit : (word p : ℕ) (b : Bool) → p < 32 → bit_at word p ≡ 0 → bit_at (bit_or word (from_bool b * 2 ^ p % 2 ^ 32)) p
-    ≡ from_bool b
-added-bit word p true lt unset = bit_at_set_same w32 word p lt
-added-bit word p false lt unset = grind (arith, ints, bit_at_or, bit_at-zero)
-
--- and the others stay
-other-bit : (word p j : ℕ) (b : Bool) → p < 32 → j ≢ p → bit_at (bit_or word (from_bool b * 2 ^ p % 2 ^ 32)) j
-    ≡ bit_at word j
-other-bit word p j true lt other = bit_at_set_other w32 word p lt j other
-other-bit word p j false lt other = grind (arith, ints, bit_at_or, bit_at-zero)
-
-module _ (test : ℤ → Bool) (values : List ℤ) (word p : ℕ) (b : Bool) (lt : p < 32)
-    (is : b ≡ test (get_or values p (pos 0))) where
-  -- a word of the values before a place, with that of the place
-  pub word-more : ((j : ℕ) → p ≤ j → bit_at word j ≡ 0)
-      → ((j : ℕ) → j < p → (bit_at word j == 1) ≡ test (get_or values j (pos 0)))
-      → (j : ℕ) → j < p + 1 → (bit_at (bit_or word (from_bool b * 2 ^ p % 2 ^ 32)) j == 1) ≡ test
-      (get_or values j (pos 0))
-  word-more unread read = grind (arith, ints, below_more, other-bit, added-bit)
-
-  -- it has no bit behind that place
-  pub word-unread : ((j : ℕ) → p ≤ j → bit_at word j ≡ 0) → (j : ℕ) → p + 1 ≤ j
-      → bit_at (bit_or word (from_bool b * 2 ^ p % 2 ^ 32)) j ≡ 0
-  word-unread unread j le = grind (arith, ints, other-bit word p j b lt, unread j)
 
 -- the word of the usable days whose values pass
 pub usable-word : (test : ℤ → Bool) (word all : ℕ) (values : List ℤ) → IsPlacesOf test values all

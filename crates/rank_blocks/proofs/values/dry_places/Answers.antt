@@ -1,5 +1,5 @@
 use Rattle.rank_blocks.proofs.Cited.{◌≡◌, get_or, pos, SFits, w32, ap, ◌∙◌, rules, to_z-of_z, test_of}
-use Rattle.rank_blocks.proofs.ValueSteps.{word-more, word-unread}
+use Rattle.ghcn_series.proofs.RunDays.{places-more, places-unread}
 use Rattle.rank_scores.specs.declared.spell.Spell.TheVariants as spells
 use Rattle.rank_blocks.proofs.values.dry_places.Goals as goal
 
@@ -14,7 +14,7 @@ loop-place-preserved c =
     let is : c.passes.result ≡ test_of spells.Dry (get_or values p (pos 0)) =
     c.passes.ensures ∙ ap (test_of spells.Dry) (to_z-of_z w32 _ fits) in
     rw c.from.ensures record {
-      read = word-more (test_of spells.Dry) values dry p c.passes.result lt is c.loop-place.invariant.unread
+      read = places-more (test_of spells.Dry) values dry p c.passes.result lt is c.loop-place.invariant.unread
           c.loop-place.invariant.read;
-      unread = word-unread (test_of spells.Dry) values dry p c.passes.result lt is c.loop-place.invariant.unread;
+      unread = places-unread (test_of spells.Dry) values dry p c.passes.result lt is c.loop-place.invariant.unread;
     }
