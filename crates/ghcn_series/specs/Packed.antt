@@ -122,12 +122,14 @@ pub record EndsRun (word behind : ℕ) : Type 0 where
   pub row : (j : ℕ) → trailing_zeros w32 word ≤ j → j < behind → bit_at word j ≡ 1
   pub ends : bit_at word behind ≡ 0
 
--- the days from a first to a last one, each the day behind the one before it
+-- the days from a first to a last one, each the day behind the one before it; of no days the last one is the day before
+-- the first
 abbrev pub AreInARow : ℤ → ℤ → List DayValue → Type 0
 AreInARow first last [] = first ≡ last +ℤ pos 1
 AreInARow first last (x ∷ xs) = (x.0 ≡ first) × AreInARow (first +ℤ pos 1) last xs
 
--- the first of some days are taken, from a first to a last one in a row, and none that is left is the day behind these
+-- the first of some days are taken, from a first to a last one in a row, and those that are left all lie past the day
+-- behind these
 pub record TakesRun (days : List DayValue) (ends : ℤ × ℤ) (left : List DayValue) : Type 0 where
   pub run : List DayValue
   pub some : 0 < length run

@@ -74,6 +74,7 @@ impl<'a> BlockDays<'a> {
     pub fn next_run(&mut self) -> Option<(Day, Day)>
         ensures run { IfSome result (λ ends. packed.TakesRun self.old ends self.new) }
         ensures none { IfNone result (self.old ≡ []) }
+        ensures end { IfNone result (self.new ≡ []) }
     {
         if self.left == 0 {
             return None;

@@ -3,7 +3,7 @@
 //! The rows' candidates are marks in the order of all candidates. What is offered is counted at the first mark that
 //! it precedes, so that what precedes a row was counted at the marks that the row doesn't precede.
 
-ghost use Rattle.std.specs.Prelude.{◌≡◌, ◌≤◌, true, false, [], map, fold, length, IfOk};
+ghost use Rattle.std.specs.Prelude.{◌≡◌, ◌≤◌, true, false, [], map, fold, length, None, IfOk, IfSome, IfNone};
 ghost use Rattle.ghcn_series.specs.Says.{in_64_bits};
 ghost use Rattle.rank_scores.specs.Candidates.{candidates};
 ghost use Rattle.rank_check.specs.Survey as survey;
@@ -144,8 +144,12 @@ impl FloorSink for Tally {
 
     ghost is_floor = { IsFloor };
 
+    /// The lesser of the last row's score and the greatest score so far.
     #[inline(always)]
-    fn floor(&self) -> Option<i64> {
+    fn floor(&self) -> Option<i64>
+        ensures floor { IfSome result (λ floor. survey.IsFloor self.now floor) }
+        ensures none { IfNone result (self.now.highest ≡ None) }
+    {
         let highest = self.highest?;
         Some(match &self.last {
             Some(last) => highest.min(last.score),
@@ -153,8 +157,9 @@ impl FloorSink for Tally {
         })
     }
 
+    /// Counts candidates that precede no row and don't raise the greatest score.
     #[inline(always)]
-    fn pass_over(&mut self, count: u32) {
+    fn pass_over(&mut self, _floor: i64, count: u32) {
         self.count = self.count.saturating_add(count as u64);
     }
 }

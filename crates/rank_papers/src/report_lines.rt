@@ -7,7 +7,7 @@
 //! d + 13  first day    d + 35  value, up to a blank; then the unit, a blank and the name
 //! ```
 
-ghost use Rattle.std.specs.Prelude.{◌≡◌, ◌≤◌, ◌<◌, ◌^◌, ◌++◌, ◌∷◌, ◌==◌, [], length, map, filter, decimal, not};
+ghost use Rattle.std.specs.Prelude.{◌≡◌, ◌≤◌, ◌<◌, ◌^◌, ◌++◌, ◌∷◌, ◌==◌, [], length, map, filter, not};
 ghost use Rattle.std.specs.Prelude.{nat_lt, if◌then◌else◌, Some, None, Ok, IfOk, IfErr, OnOk};
 ghost use Rattle.std.specs.Option.{option_map};
 ghost use Rattle.ghcn_fields.specs.Numbers.{natural, signed_by, with_sign};

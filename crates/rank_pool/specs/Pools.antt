@@ -33,7 +33,7 @@ pub record IsPool (p : Pooled) : Type 0 where
   pub few : length p.held ≤ p.size
   pub order : in_order p.held ≡ p.held
 
--- each place of a pool is taken, the last by a candidate of this score
+-- what is held is a pool, each place of which is taken, the last by a candidate of this score
 pub record IsFloor (p : Pooled) (floor : ℤ) : Type 0 where
   pub pool : IsPool p
   pub last : last_score p ≡ Some floor

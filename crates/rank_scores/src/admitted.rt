@@ -2,7 +2,6 @@
 
 ghost use Rattle.std.specs.Prelude.{◌≡◌, ◌↔◌, ◌<◌, IsTrue, List, [], ◌∷◌, ◌++◌, length, ℤ, pos, ◌+ℤ◌, ◌≤ℤ◌};
 ghost use Rattle.std.specs.Prelude.{IfSome, IfNone};
-ghost use Rattle.std.specs.Option.{option_map};
 ghost use Rattle.ghcn_fields.specs.Days.{is_day};
 ghost use Rattle.ghcn_series.specs.Series.{DayValue, IsSeries};
 ghost use Rattle.rank_query.specs.Admits.{admits_day};

@@ -23,11 +23,11 @@ pub trait FloorSink: Sink {
     fn floor(&self) -> Option<i64>
         ensures { IfSome result (λ floor. is_floor self.now floor) };
 
-    /// Takes so many candidates that score less than a floor.
-    fn pass_over(&mut self, count: u32)
-        ensures { (floor : ℤ) (candidates : List Candidate) → is_floor self.old floor
-            → AllByRecursion (λ c. c.score <ℤ floor) candidates → length candidates ≡ count
-            → self.new ≡ fold Self.taken self.old candidates };
+    /// Takes so many candidates that score less than this floor.
+    fn pass_over(&mut self, floor: i64, count: u32)
+        requires { is_floor self.old floor }
+        ensures { (candidates : List Candidate) → AllByRecursion (λ c. c.score <ℤ floor) candidates
+            → length candidates ≡ count → self.new ≡ fold Self.taken self.old candidates };
 }
 
 /// Whether no day of a part scores as much as the sink's floor. Then its days are given by their number.
@@ -43,6 +43,6 @@ pub(crate) fn is_passed_over<S: FloorSink>(part: &BlockDays, extreme: Extreme, s
     if extreme.may_reach(part, floor) {
         return false;
     }
-    sink.pass_over(part.len());
+    sink.pass_over(floor, part.len());
     true
 }

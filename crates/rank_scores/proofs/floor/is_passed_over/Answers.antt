@@ -8,8 +8,12 @@ use Rattle.rank_scores.proofs.floor.is_passed_over.Goals as goal
 -- the days' candidates score less than the floor, and are as many as the days
 pub returns-clause-passed : goal.returns-clause-passed
 returns-clause-passed g c id is =
-    let near : FitsSigned w64 c.in-Some.floor = search rules in
-    c.pass_over.ensures _ (candidates_among id (Days (score_by c.args.extreme)) c.args.part.now)
-    (subst (g.S.FloorSink.is_floor c.args.sink.now) (sym (to_z-of_z w64 c.in-Some.floor near)) c.in-Some.ensures)
+    c.pass_over.ensures (candidates_among id (Days (score_by c.args.extreme)) c.args.part.now)
     (all-low id (score_by c.args.extreme) _ c.args.part.now (c.may_reach.ensures c.if-may_reach.false))
     (as-many id (score_by c.args.extreme) c.args.part.now ∙ sym c.len.ensures)
+
+-- the floor is the sink's
+pub pass_over-requires : goal.pass_over-requires
+pass_over-requires g c =
+    let near : FitsSigned w64 c.in-Some.floor = search rules in
+    subst (g.S.FloorSink.is_floor c.args.sink.now) (sym (to_z-of_z w64 c.in-Some.floor near)) c.in-Some.ensures

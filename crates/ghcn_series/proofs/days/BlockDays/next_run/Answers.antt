@@ -14,6 +14,10 @@ pub returns-then-self-eq0-clause-none : goal.returns-then-self-eq0-clause-none
 returns-then-self-eq0-clause-none c =
     sym c.self.view_is ∙ block-empty c.self.inside.number c.self.inside.values.now c.self.inside.left c.if-self-eq0.true
 
+-- and none is left
+pub returns-then-self-eq0-clause-end : goal.returns-then-self-eq0-clause-end
+returns-then-self-eq0-clause-end c = returns-then-self-eq0-clause-none c
+
 -- the number is that of a block
 pub day_at-first-requires-clause-number : goal.day_at-first-requires-clause-number
 day_at-first-requires-clause-number c =

@@ -8,8 +8,8 @@ use Rattle.rank_check.proofs.Surveying.{floor-some, floor-none}
 use Rattle.rank_check.proofs.tally.TallyFloorSink.floor.Goals as goal
 
 -- no row scores less than the last one, nor than what is less still
-pub returns-in-Some : goal.returns-in-Some
-returns-in-Some c =
+pub returns-in-Some-clause-floor : goal.returns-in-Some-clause-floor
+returns-in-Some-clause-floor c =
     let own : FitsSigned w64 c.min.result = search rules in
     let top : FitsSigned w64 c.in_ok-highest.highest = search rules in
     let score : FitsSigned w64 c.in-Some.last.score = search rules in
@@ -23,8 +23,8 @@ returns-in-Some c =
     c.self.inside.highest c.in_ok-highest.highest _ behind c.in_ok-highest.was floor)
 
 -- there is no row
-pub returns-in-None : goal.returns-in-None
-returns-in-None c =
+pub returns-in-None-clause-floor : goal.returns-in-None-clause-floor
+returns-in-None-clause-floor c =
     let top : FitsSigned w64 c.in_ok-highest.highest = search rules in
     let behind = subst (λ (o : Option Candidate). IsLast o c.self.inside.rows.items) c.in-None.is
     c.self.invariant.behind in

@@ -3,4 +3,5 @@ use Rattle.rank_pool.proofs.pool.PoolFloorSink.pass_over.Goals as goal
 
 -- what scores below the last place falls out, one after the other
 pub returns : goal.returns
-returns c floor candidates is low many = all_fall_out c.args.self.now candidates floor is.pool is.last low
+returns c candidates low many =
+    all_fall_out c.args.self.now candidates c.args._floor c.requires.pool c.requires.last low
