@@ -123,12 +123,12 @@ sixteen_set ts many =
     ∙ all_set ts 65535 (ap (λ (n : ℕ). 2 ^ n - 1) (sym many))
 
 -- that all of some tests are passed and all of others
-all_of : (a b c d e rest : Bool)
+pub all_of : (a b c d e rest : Bool)
     → (a && (b && (c && (d && (e && rest))))) ≡ ((a && (b && (c && (d && e)))) && rest)
 all_of a b c d e rest = grind arith
 
 -- neither of two is bad where both are good
-neither_bad : (s t : Bool) → (s && (t && true)) ≡ not (not s || not t)
+pub neither_bad : (s t : Bool) → (s && (t && true)) ≡ not (not s || not t)
 neither_bad s t = grind arith
 
 -- what the lanes of a field's five columns and the three behind them say

@@ -15,6 +15,7 @@ pub mod FieldsByForm
 pub mod FieldsByKind
 pub mod CountingLaws
 pub mod FieldLanes
+pub mod ClearLanes
 pub mod GroupLanes
 pub mod LineFeeds
 pub mod VisibleLanes

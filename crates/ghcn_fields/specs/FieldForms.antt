@@ -89,3 +89,13 @@ five_of_eight = false ∷ false ∷ false ∷ false ∷ false ∷ true ∷ true 
 -- each lane of two fields has all its bits
 abbrev pub are_set : List ℕ → Bool
 are_set lanes = are_set_but (five_of_eight ++ five_of_eight) lanes
+
+-- each lane is 0, but for those behind a field
+abbrev pub are_clear_but : List Bool → List ℕ → Bool
+are_clear_but [] lanes = true
+are_clear_but (behind ∷ more) [] = true
+are_clear_but (behind ∷ more) (lane ∷ lanes) = (behind || (lane == 0)) && are_clear_but more lanes
+
+-- each lane of two fields is 0
+abbrev pub are_clear : List ℕ → Bool
+are_clear lanes = are_clear_but (five_of_eight ++ five_of_eight) lanes

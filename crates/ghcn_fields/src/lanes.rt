@@ -17,6 +17,11 @@ const NEXT: [usize; 16] = [1, 2, 3, 4, 4, 5, 6, 7, 9, 10, 11, 12, 12, 13, 14, 15
 /// digit of no effect.
 const MINUS: [u8; 16] = [45, 45, 45, 45, 48, 0, 0, 0, 45, 45, 45, 45, 48, 0, 0, 0];
 
+/// All bits where one of two fields has a column: where `BEHIND` has none.
+const FIELDS: [u8; 16] = [
+    255, 255, 255, 255, 255, 0, 0, 0, 255, 255, 255, 255, 255, 0, 0, 0,
+];
+
 /// All bits where neither of two fields has a column.
 const BEHIND: [u8; 16] = [0, 0, 0, 0, 0, 255, 255, 255, 0, 0, 0, 0, 0, 255, 255, 255];
 
@@ -46,6 +51,33 @@ pub fn good_columns(columns: &[u8; 16]) -> u8x16
     let digits = bytes.simd_eq(nearest).select(all, none);
     let before_digits = digits.swizzle(NEXT);
     blanks | (digits | minuses) & before_digits
+}
+
+/// The same test as `good_columns` in fewer steps: a lane of a field is 0 where its column may stand where it does.
+/// Lanes of several columns are joined by `|`, and tested together by `are_clear`.
+#[inline(always)]
+pub fn bad_columns(columns: &[u8; 16]) -> u8x16
+    ensures many { length result ≡ 16 }
+    ensures bad { forms.are_clear result
+        ≡ not (is_bad (int_field (take 5 columns.now)) || is_bad (int_field (take 5 (drop 8 columns.now)))) }
+{
+    bad_lanes(u8x16::from_array(*columns))
+}
+
+/// The same of the columns as lanes.
+#[inline(always)]
+fn bad_lanes(bytes: u8x16) -> u8x16
+    requires { length bytes ≡ 16 }
+    ensures many { length result ≡ 16 }
+    ensures bad { forms.are_clear result
+        ≡ not (is_bad (int_field (take 5 bytes)) || is_bad (int_field (take 5 (drop 8 bytes)))) }
+{
+    // A lane is 0 where its column is a blank; a minus, or in a last column a zero; a digit.
+    let from_blank = bytes - u8x16::splat(b' ');
+    let from_minus = bytes - u8x16::from_array(MINUS);
+    let from_digits = (bytes - u8x16::splat(b'0')).saturating_sub(u8x16::splat(9));
+    let before_digits = from_digits.swizzle(NEXT);
+    from_blank.simd_min(from_minus.simd_min(from_digits) | before_digits)
 }
 
 /// The weights of the first two of four columns, and those of the other two.
@@ -116,4 +148,14 @@ pub fn are_set(lanes: u8x16) -> bool
 {
     let behind = u8x16::from_array(BEHIND);
     (lanes | behind).simd_ge(u8x16::splat(255)).all()
+}
+
+/// Whether each lane of a field is 0.
+#[inline(always)]
+pub fn are_clear(lanes: u8x16) -> bool
+    requires { length lanes ≡ 16 }
+    ensures { result ≡ forms.are_clear lanes }
+{
+    let fields = u8x16::from_array(FIELDS);
+    (lanes & fields).simd_eq(u8x16::splat(0)).all()
 }

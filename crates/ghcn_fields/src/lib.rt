@@ -17,7 +17,7 @@ mod visible;
 pub use date::{read_date, write_date};
 pub use day::{Day, days_in_month};
 pub use field::{Field, after_blanks, int_field, scaled_field};
-pub use lanes::{are_set, four_numbers, good_columns, has_bad_field};
+pub use lanes::{are_clear, are_set, bad_columns, four_numbers, good_columns, has_bad_field};
 pub use laws::{days_have_dates, fields_have_numbers};
 pub use line::{Lines, is_blank, split_line, without_return};
 pub use memory::Memory;

@@ -1,17 +1,17 @@
 -- The days of a line, as they are read one after the other.
 use Rattle.std.proofs.Common.{◌≡◌, ℕ, suc, ◌+◌, ◌*◌, Bool, true, false, cond, List, map, Option, Some, None, refl, sym}
 use Rattle.std.proofs.Common.{ap, ◌∙◌, arith, [], ◌∷◌, length}
-use Rattle.std.specs.Prelude.{not, ◌||◌, ◌++◌, ℤ, if◌then◌else◌, nat_le, bit_and}
+use Rattle.std.specs.Prelude.{not, ◌||◌, ◌++◌, ℤ, if◌then◌else◌, nat_le, ◌==◌, bit_or}
 use Rattle.std.specs.Simd.Lanes.{zip2}
 use Rattle.std.proofs.lemmas.Bool.{and_parts}
 use Rattle.std.proofs.lemmas.Bool.Decides.{nat_tests}
-use Rattle.std.proofs.lemmas.Nat.{and_le_l, and_le_r}
+use Rattle.std.proofs.lemmas.Nat.{le_or_l, le_or_r}
 use Rattle.std.specs.List.{range_with_len}
 use Rattle.ghcn_fields.specs.declared.field.Field.{Field}
 use Rattle.ghcn_fields.specs.Lines.{columns}
 use Rattle.ghcn_fields.specs.Numbers.{int_field}
 use Rattle.ghcn_fields.specs.Faults.{first_failing}
-use Rattle.ghcn_fields.specs.FieldForms.{are_set, are_set_but, five_of_eight}
+use Rattle.ghcn_fields.specs.FieldForms.{are_clear, are_clear_but, five_of_eight}
 use Rattle.ghcn_files.specs.declared.month.Reading.{Reading}
 use Rattle.ghcn_files.specs.declared.fault.LineWhy.{LineWhy}
 use Rattle.ghcn_files.specs.declared.fault.LineWhy.TheVariants.{BadValue}
@@ -117,30 +117,30 @@ two-fine line a m n first second e one two fine =
     ∙ passes-fine line (a + 1) (suc n) n refl (ap (λ (bytes : List ℕ). is_bad (int_field bytes)) (sym two) ∙ parts.1)
     ∙ ap (λ (k : ℕ). tests_from line k n) (omega arith)
 
--- a joined lane has all its bits where both have
-both_whole : (behind : Bool) (x y : ℕ) → (behind || nat_le 255 (bit_and x y)) ≡ true
-    → ((behind || nat_le 255 x) ≡ true) × ((behind || nat_le 255 y) ≡ true)
-both_whole true x y whole = (refl, refl)
-both_whole false x y whole =
-    (grind (arith, nat_tests, whole, and_le_l x y), grind (arith, nat_tests, whole, and_le_r x y))
+-- a joined lane is 0 where both are
+both_none : (behind : Bool) (x y : ℕ) → (behind || (bit_or x y == 0)) ≡ true
+    → ((behind || (x == 0)) ≡ true) × ((behind || (y == 0)) ≡ true)
+both_none true x y none = (refl, refl)
+both_none false x y none =
+    (grind (arith, nat_tests, none, le_or_l x y), grind (arith, nat_tests, none, le_or_r x y))
 
--- so have those of each field
-both_set_but : (bs : List Bool) (xs ys : List ℕ) → length xs ≡ length ys
-    → are_set_but bs (zip2 bit_and xs ys) ≡ true → (are_set_but bs xs ≡ true) × (are_set_but bs ys ≡ true)
-both_set_but [] xs ys e set = (refl, refl)
-both_set_but (b ∷ bs) [] [] e set = (refl, refl)
-both_set_but (b ∷ bs) [] (y ∷ ys) e set = absurd (omega arith)
-both_set_but (b ∷ bs) (x ∷ xs) [] e set = absurd (omega arith)
-both_set_but (b ∷ bs) (x ∷ xs) (y ∷ ys) e set =
-    let parts = and_parts (b || nat_le 255 (bit_and x y)) (are_set_but bs (zip2 bit_and xs ys)) set in
-    let here = both_whole b x y parts.0 in
-    let more = both_set_but bs xs ys (omega arith) parts.1 in
+-- so are those of each field
+both_clear_but : (bs : List Bool) (xs ys : List ℕ) → length xs ≡ length ys
+    → are_clear_but bs (zip2 bit_or xs ys) ≡ true → (are_clear_but bs xs ≡ true) × (are_clear_but bs ys ≡ true)
+both_clear_but [] xs ys e clear = (refl, refl)
+both_clear_but (b ∷ bs) [] [] e clear = (refl, refl)
+both_clear_but (b ∷ bs) [] (y ∷ ys) e clear = absurd (omega arith)
+both_clear_but (b ∷ bs) (x ∷ xs) [] e clear = absurd (omega arith)
+both_clear_but (b ∷ bs) (x ∷ xs) (y ∷ ys) e clear =
+    let parts = and_parts (b || (bit_or x y == 0)) (are_clear_but bs (zip2 bit_or xs ys)) clear in
+    let here = both_none b x y parts.0 in
+    let more = both_clear_but bs xs ys (omega arith) parts.1 in
     (rw (here.0, more.0) refl, rw (here.1, more.1) refl)
 
--- lanes that were joined are set where those of both are
-pub both_set : (xs ys : List ℕ) → length xs ≡ length ys → are_set (zip2 bit_and xs ys) ≡ true
-    → (are_set xs ≡ true) × (are_set ys ≡ true)
-both_set = both_set_but (five_of_eight ++ five_of_eight)
+-- lanes that were joined are 0 where those of both are
+pub both_clear : (xs ys : List ℕ) → length xs ≡ length ys → are_clear (zip2 bit_or xs ys) ≡ true
+    → (are_clear xs ≡ true) × (are_clear ys ≡ true)
+both_clear = both_clear_but (five_of_eight ++ five_of_eight)
 
 -- what isn't so is false
 pub unless_true : (t : Bool) → not t ≡ true → t ≡ false

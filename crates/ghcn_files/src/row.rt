@@ -11,7 +11,7 @@ use crate::heads::MonthReader;
 use crate::missing::MISSING;
 use crate::month::{COLUMNS, DAYS, four_groups, readings, two_groups};
 use crate::{Element, Keep, LineWhy, StationId};
-use ghcn_fields::{are_set, four_numbers, good_columns};
+use ghcn_fields::{are_clear, bad_columns, four_numbers};
 use std::simd::prelude::*;
 
 /// The number of each place of a row. Those of a table are compared by lanes as wide as values are; one that is counted
@@ -92,7 +92,7 @@ pub(crate) fn put_days(
 }
 
 /// Puts the values of a line that count, in a month with so many days, and answers the word of their days. It isn't
-/// built into its caller, which most lines pass whose values aren't kept.
+/// built into its caller: where one element is kept, most lines don't come here.
 #[inline(never)]
 fn put_kept(element: Element, count: u8, line: &[u8], values: &mut [i32; 32]) -> u32
     requires long { 266 ≤ length line.now }
@@ -116,6 +116,7 @@ fn test_values(line: &[u8]) -> Result<(), LineWhy>
 }
 
 /// Whether a value of a line is bad.
+#[inline(always)]
 fn has_bad_value(line: &[u8]) -> bool
     requires { 266 ≤ length line.now }
     ensures { result ≡ false → months.days_why line.now ≡ None }
@@ -137,15 +138,16 @@ fn has_bad_value_filled(line: &[u8]) -> bool
 }
 
 /// The same of a line with all its columns, two days at a time: the last one comes with the day before it.
+#[inline(always)]
 fn has_bad_value_in(line: &[u8; COLUMNS]) -> bool
     ensures { result ≡ false → months.days_why line.now ≡ None }
 {
-    let mut good = u8x16::splat(255);
+    let mut bad = u8x16::splat(0);
     for pair in 0..DAYS / 2 {
-        good &= good_columns(two_groups(line, 2 * pair));
+        bad |= bad_columns(two_groups(line, 2 * pair));
     }
     let last_two = two_groups(line, DAYS - 2);
-    !are_set(good & good_columns(last_two))
+    !are_clear(bad | bad_columns(last_two))
 }
 
 /// Puts the values of the 31 days of a line whose values are numbers. `MISSING` stands for those that are missing or
