@@ -45,6 +45,7 @@ impl LineReader for RowDescriber {
 
     ghost has_read = { HasDescribedByRows };
 
+    #[inline(always)]
     fn add(
         &mut self,
         alloc: Global,
@@ -120,6 +121,7 @@ impl Describer {
     }
 
     /// Adds the month of a line, or answers false where its station is listed and has that month already.
+    #[inline(always)]
     fn add_month(&mut self, alloc: Global, line: &[u8], row: &MonthRow) -> Result<bool, Memory>
         requires row { IsOfLine All line.now row.now }
         requires read { HasReadSome HasDescribed self.old }

@@ -56,6 +56,7 @@ impl MonthReader {
 
     /// Reads a line as `read_days` does, into the reader's row. Answers whether the line is of one of the elements;
     /// where it isn't, and where it is refused, nothing is known of the row.
+    #[inline(always)]
     pub fn read(&mut self, line: &[u8], asked: Keep) -> Result<bool, LineWhy>
         ensures { rows.IsReadInto asked line.now self.new.row result }
     {
@@ -72,6 +73,7 @@ impl MonthReader {
     }
 
     /// Reads a line of this element into the row, with its days where they are kept.
+    #[inline(always)]
     fn fill(&mut self, element: Element, kept: bool, line: &[u8]) -> Result<(), LineWhy>
         ensures err { IfErr result (λ why. months.month_why line.now ≡ Some why) }
         ensures fine { OnOk result (months.month_why line.now ≡ None) }

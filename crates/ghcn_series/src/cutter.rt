@@ -209,7 +209,7 @@ impl<L: LineReader + Drop> Cutter<L> {
             read_line(self.alloc, &mut self.reader, file, line, bytes)?
         } else {
             self.keep(bytes)?;
-            let kind = read_line(self.alloc, &mut self.reader, file, line, &self.rest)?;
+            let kind = read_joined(self.alloc, &mut self.reader, file, line, &self.rest)?;
             self.rest.clear();
             kind
         };
@@ -239,6 +239,10 @@ impl<L: LineReader + Drop> Cutter<L> {
 }
 
 /// Reads a line as it stands before its line feed, and answers what stands on it. A blank line adds nothing.
+///
+/// What a line takes whose days aren't kept is built into the loop over lines, down to the test of its values: a call
+/// would clear room for its result and save registers. Days that are kept, a new head and a line in pieces are calls.
+#[inline(always)]
 fn read_line<L: LineReader>(
     alloc: Global,
     reader: &mut L,
@@ -256,4 +260,21 @@ fn read_line<L: LineReader>(
         return Ok(LineKind::Blank);
     }
     reader.add(alloc, file, line, bytes)
+}
+
+/// The same of a line that came in pieces, which few do. It isn't built into the loop over lines.
+#[inline(never)]
+fn read_joined<L: LineReader>(
+    alloc: Global,
+    reader: &mut L,
+    file: u64,
+    line: u64,
+    bytes: &[u8],
+) -> Result<LineKind, DataFault>
+    requires { HasReadSome L.has_read reader.old }
+    ensures kind { IfOk result (λ kind. kind ≡ line_kind (strip_carriage_return bytes.now)) }
+    ensures read { OnOk result (Reads L.has_read reader.old reader.new (one_line file line bytes.now)) }
+    ensures fault { IfErr result (Refuses L.has_read reader.old (one_line file line bytes.now)) }
+{
+    read_line(alloc, reader, file, line, bytes)
 }

@@ -38,7 +38,9 @@ impl Gathering {
         }
     }
 
-    /// Adds a month with its days, or answers false where one of its time was added before.
+    /// Adds a month with its days, or answers false where one of its time was added before. It isn't built into the
+    /// loop over lines, of which most, where one element is asked for, have days that aren't kept.
+    #[inline(never)]
     pub(crate) fn add(&mut self, alloc: Global, row: &MonthRow) -> Result<bool, Memory>
         requires right { IsOfMonth true row.now }
         requires gathered { GathersSome true self.old }
@@ -53,6 +55,7 @@ impl Gathering {
     }
 
     /// Adds a month whose days aren't kept, or answers false where one of its time was added before.
+    #[inline(always)]
     pub(crate) fn note(&mut self, alloc: Global, row: &MonthRow) -> Result<bool, Memory>
         requires { GathersSome false self.old }
         ensures element { self.new.element ≡ self.old.element }

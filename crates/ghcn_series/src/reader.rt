@@ -98,6 +98,7 @@ impl Reader {
 
     /// Adds a month, or answers false where its station is listed and has that month already. Its days are read where
     /// they are kept.
+    #[inline(always)]
     pub fn add_month(&mut self, alloc: Global, row: &MonthRow) -> Result<bool, Memory>
         requires right { IsForMonth (is_kept self.old.keep row.now.element) row.now }
         requires read { HasSomeLines self.old }

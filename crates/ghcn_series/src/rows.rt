@@ -22,6 +22,7 @@ impl LineReader for RowReader {
 
     ghost has_read = { HasReadByRows };
 
+    #[inline(always)]
     fn add(
         &mut self,
         alloc: Global,

@@ -49,6 +49,7 @@ impl StationGathering {
     }
 
     /// Adds a month of the station, or answers false where that month was added before.
+    #[inline(always)]
     pub(crate) fn add(
         &mut self,
         alloc: Global,

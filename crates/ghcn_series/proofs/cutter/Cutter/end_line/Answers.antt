@@ -32,7 +32,7 @@ returns-in-Some-clause-added g c =
       | else-is_empty+in_ok-keep+in_ok-kind-2 w ↦
           let bytes : w.deref.result.now ≡ old.rest.items ++ c.args.bytes.now =
           w.deref.ensures.value ∙ w.in_ok-keep.ensures.kept in
-          let after = w.read_line-else-is_empty.new.reader in
+          let after = w.read_joined.new.reader in
           let new : after ≡ c.if-is_empty.self.reader =
           ap (λ (r : Cutter g.row.L.Denot). r.reader) (sym w.self-is) in
           let same : c.if-is_empty.self.counts ≡ old.counts =
