@@ -72,7 +72,7 @@ eight_cmp bs cs long many p q =
     ∙ number_cmp 0 bs cs (long ∙ sym many) p q
 
 -- and of four
-four_cmp : (bs cs : List ℕ) → length bs ≡ 4 → length cs ≡ 4 → ((i : ℕ) → get_or bs i 0 < 256)
+pub four_cmp : (bs cs : List ℕ) → length bs ≡ 4 → length cs ≡ 4 → ((i : ℕ) → get_or bs i 0 < 256)
     → ((i : ℕ) → get_or cs i 0 < 256) → nat_cmp (from_be_bytes w32 bs) (from_be_bytes w32 cs) ≡ slice_cmp nat_cmp bs cs
 four_cmp bs cs long many p q =
     let is = λ (xs : List ℕ) (e : length xs ≡ 4).
