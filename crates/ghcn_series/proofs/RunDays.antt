@@ -279,8 +279,11 @@ module _ (n : ℤ) (vs : List ℤ) (w k : ℕ) (fits : w < 2 ^ 32) (some : 0 < w
     parts = both-parts n vs w k ends.few;
     apart = each-day (λ (d : ℤ). (last +ℤ pos 1) <ℤ d) n vs (bit_and w (2 ^ 32 - 2 ^ k)) (λ j lt set.
         let more = later-bit w k j set in
-        let of_word = first-set (bit_at w j) (bit_at (2 ^ 32 - 2 ^ k) j) (bit_at-lt w j) (sym (bit_at_and w (2 ^ 32 - 2 ^ k) j) ∙ set) in
-        let other : j ≢ k = λ same. let here : bit_at w k ≡ 1 = sym (ap (bit_at w) same) ∙ of_word in omega (arith, here, ends.ends) in
+        let of_word =
+        first-set (bit_at w j) (bit_at (2 ^ 32 - 2 ^ k) j) (bit_at-lt w j)
+        (sym (bit_at_and w (2 ^ 32 - 2 ^ k) j) ∙ set) in
+        let other : j ≢ k = λ same.
+        let here : bit_at w k ≡ 1 = sym (ap (bit_at w) same) ∙ of_word in omega (arith, here, ends.ends) in
         let under = ends.some in
         omega (arith, ints, more, other, under));
   }

@@ -47,7 +47,8 @@ as-many id f [] = refl
 as-many id f (x ∷ xs) = ap suc (as-many id f xs)
 
 -- their scores are those of the days
-pub all-low : (id : StationId) (f : ℤ → ℤ) (floor : ℤ) (days : List DayValue) → AllByRecursion (λ x. f x.1 <ℤ floor) days
+pub all-low : (id : StationId) (f : ℤ → ℤ) (floor : ℤ) (days : List DayValue)
+    → AllByRecursion (λ x. f x.1 <ℤ floor) days
     → AllByRecursion (λ c. c.score <ℤ floor) (candidates_among id (Days f) days)
 all-low id f floor [] low = tt
 all-low id f floor (x ∷ xs) low = (low.0, all-low id f floor xs low.1)

@@ -252,7 +252,8 @@ offered-spells id test q s series =
     sym (offered-kept id test None (admitted q s) (admitted-rise q s series) tt) ∙ offered-all id test q s series
 
 -- a run that an open spell goes on with is added to it
-pub run-longer : (id : StationId) (r : Run) (ends : ℤ × ℤ) (days behind more : List DayValue) → TakesRun days ends behind
+pub run-longer : (id : StationId) (r : Run) (ends : ℤ × ℤ) (days behind more : List DayValue)
+    → TakesRun days ends behind
     → is_some (goes_on (open_spell r) ends.0 true) ≡ true
     → offered_of_kind id (open_spell r) (days ++ more)
     ≡ offered_of_kind id (open_spell (record r { last = ends.1 })) (behind ++ more)
@@ -265,8 +266,8 @@ run-longer id r ends days behind more taken on =
           let apart : days ++ more ≡ taken.run ++ (behind ++ more) =
           ap (λ (l : List DayValue). l ++ more) taken.parts ∙ append_assoc taken.run behind more in
           rw (e, apart)
-          (offered-longer id (Some (r.first, r.last)) ends.0 ends.1 r.first taken.run (behind ++ more) taken.some taken.row
-          begun)
+          (offered-longer id (Some (r.first, r.last)) ends.0 ends.1 r.first taken.run (behind ++ more) taken.some
+          taken.row begun)
     ]
   where
     some-of : is_some (goes_on (Some (r.first, r.last)) ends.0 true) ≡ true
@@ -292,7 +293,8 @@ run-anew id run ends days behind more taken off =
     none-of (Some x) e = absurd cc
 
 -- once the open spell is offered and a run begins one, what is left to offer is what was
-pub offers-anew : {S : Type 0} (taken : S → Candidate → S) (sink after : S) (id : StationId) (run begun : Option (ℤ × ℤ))
+pub offers-anew : {S : Type 0} (taken : S → Candidate → S) (sink after : S) (id : StationId)
+    (run begun : Option (ℤ × ℤ))
     (ends : ℤ × ℤ) (days behind more : List DayValue) → TakesRun days ends behind
     → is_some (goes_on run ends.0 true) ≡ false → after ≡ fold taken sink (spell_list id run)
     → begun ≡ Some (ends.0, ends.1)

@@ -10,7 +10,7 @@ use crate::Sink;
 use crate::extreme::Extreme;
 use ghcn_series::BlockDays;
 
-/// A sink for which of low candidates the number alone counts.
+/// A sink that needs only the number of candidates that score below its floor.
 pub trait FloorSink: Sink {
     ghost use Rattle.std.specs.Prelude.{◌≡◌, ℤ, ◌<ℤ◌, List, length, IfSome};
     ghost use Rattle.std.specs.List.{AllByRecursion, fold};
