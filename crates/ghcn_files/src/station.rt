@@ -9,12 +9,11 @@
 ghost use Rattle.std.specs.Prelude.{◌≡◌, ◌≤◌, ◌+◌, ◌-◌, ◌≤ℤ◌, pos, neg_ℤ, int_le, ◌&&◌, Some, None, length};
 ghost use Rattle.std.specs.Prelude.{map, if◌then◌else◌, take, IfOk, OnOk, IfErr};
 ghost use Rattle.std.specs.List.{list_all};
-ghost use Rattle.std.proofs.Common.{rules};
-ghost use Rattle.std.specs.Cmp.{partial_order_from_own_ties, partial_order_from_total};
+ghost use Rattle.std.proofs.Common.{refl, rules};
+ghost use Rattle.std.specs.Cmp.{on_po, unsigned_po};
 ghost use Rattle.std.specs.Cmp.Rules.{comparing};
-ghost use Rattle.std.specs.Cmp.Lexicographic.{slice_cmp};
-ghost use Rattle.std.specs.Ordering.{as_partial_cmp, nat_cmp, on};
-ghost use Rattle.ghcn_files.specs.declared.station.StationId.{StationId};
+ghost use Rattle.std.specs.Cmp.Lexicographic.{lists_agrees, lists_po, slice_cmp, slice_partial_cmp};
+ghost use Rattle.std.specs.Ordering.{nat_cmp, on};
 ghost use Rattle.ghcn_fields.specs.Lines as lines;
 ghost use Rattle.ghcn_fields.specs.Numbers as numbers;
 ghost use Rattle.ghcn_files.specs.Ids.{is_id, is_visible, same_id};
@@ -45,7 +44,7 @@ impl Ord for StationId {
 
     ghost total = { Prim.search (comparing, rules) };
 
-    ghost matches_partial_cmp = { Prim.search (comparing, rules) };
+    ghost matches_partial_cmp = { λ x y. lists_agrees (λ a b. refl) x.0 y.0 };
 
     ghost matches_eq = { Prim.search (comparing, rules) };
 
@@ -59,12 +58,9 @@ impl Ord for StationId {
 }
 
 impl PartialOrd for StationId {
-    ghost partial_cmp = { as_partial_cmp (on (λ id. id.0) (slice_cmp nat_cmp)) };
+    ghost partial_cmp = { on (λ id. id.0) (slice_partial_cmp (λ x y. Some (nat_cmp x y))) };
 
-    ghost laws = { partial_order_from_own_ties
-        (partial_order_from_total {R = on (λ (id : StationId). id.0) (slice_cmp nat_cmp)}
-        (Prim.search (comparing, rules)))
-        (Prim.search (comparing, rules)) };
+    ghost laws = { on_po (λ id. id.0) (lists_po unsigned_po) };
 
     #[inline]
     fn partial_cmp(&self, other: &Self) -> Option<Ordering> {
