@@ -1,12 +1,11 @@
 -- Decimal numbers: where the point stands, and what is too great.
 use Rattle.std.proofs.Common.{◌≡◌, ℕ, ◌+◌, ◌*◌, ◌^◌, ◌≤◌, Bool, true, false, List, length}
-use Rattle.std.proofs.Common.{take, drop, get_or, Option, Some, None, lit<, arith}
+use Rattle.std.proofs.Common.{take, drop, get_or, Option, Some, None, arith}
 use Rattle.std.specs.Prelude.{◌≢◌, ◌==◌, if◌then◌else◌}
 use Rattle.std.specs.List.{list_any, before_first, after_first}
 use Rattle.std.specs.Option.{option_map}
-use Rattle.std.proofs.Math.Nat.{one-le-pow, pow-le-pow_right, le-mul_of_pos_right}
+use Rattle.std.proofs.Math.Nat.{one-le-pow, le-mul_of_pos_right}
 use Rattle.std.proofs.lemmas.Bool.Decides.{nat_tests}
-use Rattle.std.proofs.lemmas.Nat.{mul-le}
 use Rattle.std.proofs.lemmas.List.{get_or_default}
 use Rattle.std.proofs.lemmas.List.Sums.{position_or_len_is}
 use Rattle.std.proofs.lemmas.List.Folds.{list_any_none, list_any_at}
@@ -64,10 +63,6 @@ joined-part_over limit places len whole part e = grind (arith, nat_tests, grows)
 pub units_over : (limit places : ℕ) (number : Option ℕ) → up_to limit number ≡ None
     → up_to limit (option_map (λ n. n * 10 ^ places) number) ≡ None
 units_over limit places number e = grind (arith, nat_tests, grows)
-
--- four places at most are ten thousand units at most
-pub scaled-le : (n k limit : ℕ) → n ≤ limit → k ≤ 4 → n * 10 ^ k ≤ limit * 10000
-scaled-le n k limit small few = mul-le n (10 ^ k) limit 10000 small (pow-le-pow_right (lit< tt) few)
 
 -- the field of a text that begins with a minus
 pub field_by-minus : (read : List ℕ → Option ℕ) (field text : List ℕ) → text ≡ after_blanks field → 1 ≤ length text

@@ -148,7 +148,8 @@ fn small_joined(whole: u64, part: &[u8], places: u8) -> Option<u64>
 /// How many units of the last of so many places are one.
 fn units(places: u8) -> u64
     requires { places ≤ 4 }
-    ensures { result ≡ 10 ^ places }
+    ensures units { result ≡ 10 ^ places }
+    ensures few { result ≤ 10000 }
 {
     match places {
         0 => 1,

@@ -14,7 +14,7 @@ returns-in_default-empty c =
     let whole = c.in_ok-whole.field-0.0 in
     let is = number_whole c.args.places (2 ^ 31) whole c.args.text.now c.in_ok-whole.field-0.1.now
     c.in_ok-whole.ensures.number c.in_ok-whole.ensures.rest c.in_default-empty.len_below in
-    rw (is, sym c.units.ensures) c.small.ensures
+    rw (is, sym c.units.ensures.units) c.small.ensures
 
 -- with one there is a part behind it
 pub returns-in_default-len1-up : goal.returns-in_default-len1-up
