@@ -47,7 +47,14 @@ impl MonthReader {
         }
     }
 
-    /// The row of the line that was read last, where that was one of the elements and had no fault.
+    /// The row of the line that was read last, if that line is of one of the elements and has no fault. Else no clause
+    /// says what it is. As the code is, it is this:
+    ///
+    /// - Before the first line it is of no line. Its ID is blanks, its month is January of the year 1, and it has no
+    ///   days.
+    /// - After a line of another element it is the row from before that line.
+    /// - After a fault it is the row from before that line. If the fault is a bad value, it has the line's ID, element,
+    ///   year and month already, beside the days from before.
     pub fn row(&self) -> &MonthRow
         ensures { result.now ≡ self.now.row }
     {
