@@ -1,7 +1,7 @@
 -- The days of a line, as they are read one after the other.
 use Rattle.std.proofs.Common.{◌≡◌, ℕ, suc, ◌+◌, ◌*◌, Bool, true, false, cond, List, map, Option, Some, None, refl, sym}
 use Rattle.std.proofs.Common.{ap, ◌∙◌, arith, [], ◌∷◌, length}
-use Rattle.std.specs.Prelude.{not, ◌||◌, ◌++◌, ℤ, if◌then◌else◌, nat_le, ◌==◌, bit_or}
+use Rattle.std.specs.Prelude.{not, ◌||◌, ◌++◌, ℤ, if◌then◌else◌, ◌==◌, bit_or}
 use Rattle.std.specs.Simd.Lanes.{zip2}
 use Rattle.std.proofs.lemmas.Bool.{and_parts}
 use Rattle.std.proofs.lemmas.Bool.Decides.{nat_tests}

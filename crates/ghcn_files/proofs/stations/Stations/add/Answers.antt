@@ -25,7 +25,9 @@ returns-then-len-ge-MOST_STATIONS-clause-err c = λ earlier e.
 
 -- a line without a fault has the columns of an ID
 pub is_listed-requires : goal.is_listed-requires
-is_listed-requires c = id_there c.args.line.now c.in-Ok.ensures.ok
+is_listed-requires c =
+    let there = id_there c.args.line.now c.in-Ok.ensures.ok in
+    omega arith
 
 -- when its station is held too
 pub push-requires-clause-long : goal.push-requires-clause-long
