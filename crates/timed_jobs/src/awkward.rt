@@ -1,7 +1,7 @@
 //! Inputs that are right but awkward: lines in no order, values that rise all the time, many small
 //! files, files by year, and a station list in no order.
 
-ghost use Rattle.std.specs.Prelude.{◌<◌};
+ghost use Rattle.std.specs.Prelude.{◌<◌, ◌≤◌};
 ghost use Rattle.rank_input.specs.Taken.{HasTakenSome};
 
 use crate::archive::{fill, give};
@@ -9,7 +9,7 @@ use crate::digest::Digest;
 use crate::place::ask_about_one;
 use crate::places::{Order, id_of, number_at, station_list};
 use crate::random::Random;
-use crate::ranking::{new_intake, papers_of};
+use crate::ranking::{add_counts, new_intake, papers_of};
 use crate::weather::{LINE, Weather, front_of};
 use ghcn_fields::Memory;
 use rank_input::{Fault, Intake};
@@ -33,7 +33,8 @@ pub(crate) fn ask_awkward<R: Threads + Wait + AllocGlobal + Sync>(
 ) -> Result<(), Fault> {
     let mut weather = Weather::new(rt.alloc(), random)?;
     let years = (size % 8000) as u16 + 1;
-    for _ in 0..rounds {
+    for round in 0..rounds {
+        let first_year = 1 + (round % 1000) as u16;
         rank_mixed(rt, &mut weather, random, digest)?;
         rank_rising(
             rt,
@@ -41,6 +42,7 @@ pub(crate) fn ask_awkward<R: Threads + Wait + AllocGlobal + Sync>(
             &mut weather,
             random,
             0,
+            first_year,
             years,
             digest,
         )?;
@@ -50,6 +52,7 @@ pub(crate) fn ask_awkward<R: Threads + Wait + AllocGlobal + Sync>(
             &mut weather,
             random,
             2,
+            first_year,
             years / 2 + 1,
             digest,
         )?;
@@ -76,6 +79,7 @@ fn rank_taken<R: Threads + Wait + AllocGlobal + Sync>(
     requires { HasTakenSome intake }
 {
     let taken = intake.finish()?;
+    add_counts(digest, &taken);
     let papers = papers_of(rt, rt.alloc(), &taken.dataset, &taken.query)?;
     digest.add(&papers.report);
     digest.add(&papers.certificate);
@@ -121,17 +125,20 @@ fn mixed(alloc: Global, file: &[u8], random: &mut Random) -> Result<Vec<u8>, Mem
     Ok(mixed)
 }
 
-/// Ranks the days of one station, each of which is at least as great as those before.
+/// Ranks the days of one station, each of which is at least as great as those before, for 1001 years at most. The seed
+/// chooses the first value, and each round has another first year, so that no two rounds have the same file.
 fn rank_rising<R: Threads + Wait + AllocGlobal + Sync>(
     rt: &R,
     query: &str,
     weather: &mut Weather,
     random: &mut Random,
     element: usize,
+    first_year: u16,
     years: u16,
     digest: &mut Digest,
 ) -> Result<(), Fault>
     requires element { element < 8 }
+    requires first_year { first_year ≤ 1000 }
     requires years { years < 9000 }
 {
     let alloc = rt.alloc();
@@ -139,8 +146,8 @@ fn rank_rising<R: Threads + Wait + AllocGlobal + Sync>(
     let id = id_of(0);
     let mut intake = new_intake(alloc, query, &list);
     let mut file = Vec::new(alloc);
-    let mut day = (random.next() % 64) as u32;
-    for year in 1..years + 1 {
+    let mut day = (random.next() % 11_000) as u32;
+    for year in first_year..first_year + years {
         for month in 0..12 {
             day = day.saturating_add(31);
             weather.add_rising(

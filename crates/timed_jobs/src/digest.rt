@@ -13,11 +13,16 @@ impl Digest {
         }
     }
 
-    /// Takes a text behind those before.
+    /// Takes a text after those before.
     pub(crate) fn add(&mut self, text: &[u8]) {
         for byte in text {
             self.hash = (self.hash ^ *byte as u64).wrapping_mul(0x0000_0100_0000_01b3);
         }
+    }
+
+    /// Takes a number after those before.
+    pub(crate) fn add_number(&mut self, number: u64) {
+        self.add(&number.to_le_bytes());
     }
 
     pub(crate) fn value(&self) -> u64 {

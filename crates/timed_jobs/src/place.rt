@@ -4,7 +4,7 @@ use crate::archive::{fill, give};
 use crate::digest::Digest;
 use crate::places::{Order, id_of, number_at, station_list};
 use crate::random::Random;
-use crate::ranking::{new_intake, papers_of};
+use crate::ranking::{add_counts, new_intake, papers_of};
 use crate::weather::Weather;
 use ghcn_fields::Memory;
 use rank_input::Fault;
@@ -53,6 +53,7 @@ pub(crate) fn ask_about_one<R: Threads + Wait + AllocGlobal + Sync>(
         give(&mut intake, &file);
     }
     let taken = intake.finish()?;
+    add_counts(digest, &taken);
     let papers = papers_of(rt, alloc, &taken.dataset, &taken.query)?;
     digest.add(&papers.report);
     digest.add(&papers.certificate);

@@ -47,6 +47,7 @@ pub(crate) fn rank_archives<R: Threads + Wait + AllocGlobal + Sync>(
     let mut weather = Weather::new(rt.alloc(), random)?;
     for round in 0..rounds {
         let taken = take_archive(rt.alloc(), &mut weather, random, round, stations)?;
+        add_counts(digest, &taken);
         let papers = papers_of(rt, rt.alloc(), &taken.dataset, &taken.query)?;
         digest.add(&papers.report);
         digest.add(&papers.certificate);
@@ -65,16 +66,13 @@ pub(crate) fn check_archives<R: Threads + Wait + AllocGlobal + Sync>(
     let alloc = rt.alloc();
     let mut weather = Weather::new(alloc, random)?;
     for round in 0..rounds {
-        let TakenInput { query, dataset, .. } = take_archive(
-            alloc,
-            &mut weather,
-            random,
-            round,
-            stations,
-        )?;
+        let taken = take_archive(alloc, &mut weather, random, round, stations)?;
+        add_counts(digest, &taken);
+        let TakenInput { query, dataset, .. } = taken;
         let papers = papers_of(rt, alloc, &dataset, &query)?;
         let verdict = check(alloc, &dataset, &query, &papers.report, &papers.certificate)?;
         digest.add(&papers.report);
+        digest.add(&papers.certificate);
         let text = format!(in alloc; "{verdict}").map_err(|_| Memory)?;
         digest.add(text.as_bytes());
     }
@@ -93,6 +91,13 @@ fn take_archive(
     let mut intake = new_intake(alloc, QUERIES[round as usize % 8], &list);
     give_archive(alloc, &mut intake, weather, random, stations)?;
     intake.finish()
+}
+
+/// Adds how many files are foreign and which is the first of them, and how many lines are of unlisted stations.
+pub(crate) fn add_counts(digest: &mut Digest, taken: &TakenInput) {
+    digest.add_number(taken.foreign.count);
+    digest.add_number(taken.foreign.first.unwrap_or(u64::MAX));
+    digest.add_number(taken.dataset.unlisted());
 }
 
 /// An intake of a query and a station list.
