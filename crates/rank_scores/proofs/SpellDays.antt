@@ -19,7 +19,6 @@ use Rattle.rank_scores.specs.declared.candidate.Candidate.{Candidate}
 use Rattle.rank_scores.specs.Runs.{begins_run}
 use Rattle.rank_scores.specs.Candidates.{Spells, begun, candidate, candidates_among, admitted, is_such}
 use Rattle.rank_scores.specs.Spells.{goes_on, open_spell, spell_from, spell_list}
-use Rattle.rank_scores.specs.declared.spell.Run.{Run}
 use Rattle.rank_scores.proofs.Rising.{Rise, admitted-rise, from_each, value_on-other, value_on-here, value_on-later}
 use Rattle.rank_scores.proofs.Rising.{value_on-before, all-filter}
 use Rattle.rank_scores.proofs.Runs.{AreDays, admitted-days, day-bounds}
@@ -252,27 +251,27 @@ offered-spells id test q s series =
     sym (offered-kept id test None (admitted q s) (admitted-rise q s series) tt) ∙ offered-all id test q s series
 
 -- a run that an open spell goes on with is added to it
-pub run-longer : (id : StationId) (r : Run) (ends : ℤ × ℤ) (days behind more : List DayValue)
+pub run-longer : (id : StationId) (is_open : Bool) (first last : ℤ) (ends : ℤ × ℤ) (days behind more : List DayValue)
     → TakesRun days ends behind
-    → is_some (goes_on (open_spell r) ends.0 true) ≡ true
-    → offered_of_kind id (open_spell r) (days ++ more)
-    ≡ offered_of_kind id (open_spell (record r { last = ends.1 })) (behind ++ more)
-run-longer id r ends days behind more taken on =
-    elim (cases_Bool r.is_open) [
+    → is_some (goes_on (open_spell is_open first last) ends.0 true) ≡ true
+    → offered_of_kind id (open_spell is_open first last) (days ++ more)
+    ≡ offered_of_kind id (open_spell is_open first ends.1) (behind ++ more)
+run-longer id is_open first last ends days behind more taken on =
+    elim (cases_Bool is_open) [
       | inr e ↦ let closed : is_some (goes_on None ends.0 true) ≡ true = rw e at on in absurd cc
       | inl e ↦
-          let follows : is_some (goes_on (Some (r.first, r.last)) ends.0 true) ≡ true = rw e at on in
-          let begun : goes_on (Some (r.first, r.last)) ends.0 true ≡ Some r.first = some-of follows in
+          let follows : is_some (goes_on (Some (first, last)) ends.0 true) ≡ true = rw e at on in
+          let begun : goes_on (Some (first, last)) ends.0 true ≡ Some first = some-of follows in
           let apart : days ++ more ≡ taken.run ++ (behind ++ more) =
           ap (λ (l : List DayValue). l ++ more) taken.parts ∙ append_assoc taken.run behind more in
           rw (e, apart)
-          (offered-longer id (Some (r.first, r.last)) ends.0 ends.1 r.first taken.run (behind ++ more) taken.some
+          (offered-longer id (Some (first, last)) ends.0 ends.1 first taken.run (behind ++ more) taken.some
           taken.row begun)
     ]
   where
-    some-of : is_some (goes_on (Some (r.first, r.last)) ends.0 true) ≡ true
-        → goes_on (Some (r.first, r.last)) ends.0 true ≡ Some r.first
-    some-of follows = elim (cases_Bool (int_eq ends.0 (r.last +ℤ pos 1))) [
+    some-of : is_some (goes_on (Some (first, last)) ends.0 true) ≡ true
+        → goes_on (Some (first, last)) ends.0 true ≡ Some first
+    some-of follows = elim (cases_Bool (int_eq ends.0 (last +ℤ pos 1))) [
       | inl e ↦ rw e refl
       | inr e ↦ let none : false ≡ true = rw e at follows in absurd cc
     ]

@@ -3,12 +3,11 @@ use Rattle.std.specs.Prelude.{Bool, ◌&&◌, if◌then◌else◌, ℤ, pos, ◌
 use Rattle.std.specs.Ordering.{int_eq}
 use Rattle.ghcn_files.specs.declared.station.StationId.{StationId}
 use Rattle.rank_scores.specs.declared.candidate.Candidate.{Candidate}
-use Rattle.rank_scores.specs.declared.spell.Run.{Run}
 use Rattle.rank_scores.specs.Candidates.{candidate}
 
 -- the first and the last day of a spell, where one is open
-abbrev pub open_spell : Run → Option (ℤ × ℤ)
-open_spell r = if r.is_open then Some (r.first, r.last) else None
+abbrev pub open_spell : Bool → ℤ → ℤ → Option (ℤ × ℤ)
+open_spell is_open first last = if is_open then Some (first, last) else None
 
 -- the first day of a spell, where a day passes and comes behind the spell's last one
 abbrev pub goes_on : Option (ℤ × ℤ) → ℤ → Bool → Option ℤ

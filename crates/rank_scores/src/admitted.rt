@@ -52,11 +52,12 @@ impl<'s, 'q> Admitted<'s, 'q> {
         }
     }
 
-    /// The first of them, as many as lie in one block and one stretch.
+    /// Takes the first of them, as many as lie in one block and one stretch. If it answers None, no day is left.
     pub(crate) fn next_part(&mut self) -> Option<BlockDays<'s>>
         ensures some { IfSome result (λ part. self.old ≡ part ++ self.new) }
         ensures day { IfSome result (λ part. 0 < length part) }
         ensures none { IfNone result (self.old ≡ []) }
+        ensures end { IfNone result (self.new ≡ []) }
     {
         next_part(&mut self.days, self.query, &mut self.stretch)
     }
@@ -72,13 +73,15 @@ pub fn has_admitted_day(series: &Series, query: &Query) -> bool
     Admitted::of(series, query).next_part().is_some()
 }
 
-/// The first of some days that are admitted, as many as lie in one block and one stretch.
+/// Takes the first of some days that are admitted, as many as lie in one block and one stretch, and the days
+/// before them. If it answers None, no day is left.
 fn next_part<'s>(days: &mut Days<'s>, query: &Query, stretch: &mut Stretch) -> Option<BlockDays<'s>>
     requires { IsStretch query.now days.old stretch.old }
     ensures some { IfSome result (λ part. admitted_among query.now days.old
         ≡ part ++ admitted_among query.now days.new) }
     ensures day { IfSome result (λ part. 0 < length part) }
     ensures none { IfNone result (admitted_among query.now days.old ≡ []) }
+    ensures end { IfNone result (admitted_among query.now days.new ≡ []) }
     ensures stretch { IsStretch query.now days.new stretch.new }
 {
     while let Some(day) = days.first() {

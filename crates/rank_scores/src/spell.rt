@@ -96,7 +96,7 @@ struct Run {
 impl Run {
     /// No spell is open.
     fn none() -> Self
-        ensures { open_spell result ≡ None }
+        ensures { open_spell result.is_open result.first result.last ≡ None }
     {
         Run {
             is_open: false,
@@ -108,7 +108,7 @@ impl Run {
     /// Whether a spell is open that goes on with a day of the kind: the day comes behind its last one.
     #[inline(always)]
     fn goes_on(&self, day: Day) -> bool
-        ensures { result ≡ is_some (goes_on (open_spell self.now) day true) }
+        ensures { result ≡ is_some (goes_on (open_spell self.now.is_open self.now.first self.now.last) day true) }
     {
         self.is_open && comes_next(self.last, day)
     }
@@ -116,7 +116,7 @@ impl Run {
     /// Begins anew with days of the kind, from a first to a last one.
     #[inline(always)]
     fn begin(&mut self, first: Day, last: Day)
-        ensures { open_spell self.new ≡ Some (first, last) }
+        ensures { open_spell self.new.is_open self.new.first self.new.last ≡ Some (first, last) }
     {
         self.is_open = true;
         self.first = first;
@@ -127,7 +127,8 @@ impl Run {
 /// Offers a spell, if one is open, as so many days.
 #[inline(always)]
 fn offer_spell<S: Sink>(id: StationId, run: &Run, sink: &mut S)
-    ensures { sink.new ≡ fold S.taken sink.old (spell_list id (open_spell run.now)) }
+    ensures { sink.new ≡ fold S.taken sink.old
+        (spell_list id (open_spell run.now.is_open run.now.first run.now.last)) }
 {
     if run.is_open {
         let (first, last) = (run.first, run.last);

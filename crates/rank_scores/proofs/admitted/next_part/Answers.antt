@@ -56,3 +56,7 @@ loop-day-preserved c =
 -- behind the last day there is none
 pub returns-clause-none : goal.returns-clause-none
 returns-clause-none c = grind (arith, ints, no-first c.loop-day.days c.in_default.ensures.first)
+
+-- nor are there days to come
+pub returns-clause-end : goal.returns-clause-end
+returns-clause-end c = grind (arith, ints, no-first c.loop-day.days c.in_default.ensures.first)

@@ -17,8 +17,8 @@ loop-part-init g c =
 pub loop-first-preserved-then-goes_on : goal.loop-first-preserved-then-goes_on
 loop-first-preserved-then-goes_on g c =
     ap (fold g.S.Sink.taken c.loop-first.sink)
-    (sym (run-longer c.args.id c.loop-first.run _ c.loop-first.part c.next_run.new.self _
-    c.in-Some-next_run.ensures.run (sym c.goes_on.ensures ∙ c.if-goes_on.true)))
+    (sym (run-longer c.args.id c.loop-first.run.is_open c.loop-first.run.first _ _ c.loop-first.part
+    c.next_run.new.self _ c.in-Some-next_run.ensures.run (sym c.goes_on.ensures ∙ c.if-goes_on.true)))
     ∙ c.loop-first.invariant
 
 -- a run that begins a spell

@@ -10,7 +10,8 @@ use Rattle.rank_scores.proofs.spell.scan_spells.Given as goal
 -- once what is still to be offered is, the sink is as it will be
 abbrev pub invariant-loop-part : goal.invariant-loop-part
 invariant-loop-part g l =
-    fold g.S.Sink.taken l.sink (offered_of_kind l.id (open_spell l.run) (filter (λ x. test_of l.spell x.1) l.admitted))
+    fold g.S.Sink.taken l.sink (offered_of_kind l.id (open_spell l.run.is_open l.run.first l.run.last)
+    (filter (λ x. test_of l.spell x.1) l.admitted))
     ≡ fold g.S.Sink.taken l.fn.sink (candidates_among l.id (Spells (test_of l.spell)) (admitted l.query l.series))
 
 -- each part takes a day at least
@@ -20,7 +21,7 @@ decreases-loop-part g l = length l.admitted
 -- the same in the midst of a part, of which the days of the kind are left
 abbrev pub invariant-loop-first : goal.invariant-loop-first
 invariant-loop-first g l =
-    fold g.S.Sink.taken l.sink (offered_of_kind l.id (open_spell l.run)
+    fold g.S.Sink.taken l.sink (offered_of_kind l.id (open_spell l.run.is_open l.run.first l.run.last)
     (l.part ++ filter (λ x. test_of l.spell x.1) l.admitted))
     ≡ fold g.S.Sink.taken l.fn.sink (candidates_among l.id (Spells (test_of l.spell)) (admitted l.query l.series))
 
