@@ -1,7 +1,7 @@
 //! A pool of the best candidates.
 
-ghost use Rattle.std.specs.Prelude.{◌≡◌, ◌↔◌, ◌<◌, ◌≤◌, ◌++◌, List, [], ◌∷◌, length, insert, fold, IfOk, IsSome, IsTrue};
-ghost use Rattle.std.specs.Prelude.{◌+◌, false, slice_get, slice_index_or, take, IfSome};
+ghost use Rattle.std.specs.Prelude.{◌≡◌, ◌↔◌, ◌<◌, ◌≤◌, ◌++◌, List, [], ◌∷◌, length, insert, fold, IfOk, IsSome};
+ghost use Rattle.std.specs.Prelude.{◌+◌, false, slice_get, slice_index_or, take, IfSome, IsTrue};
 ghost use Rattle.std.specs.Option.{option_map};
 ghost use Rattle.std.specs.VecDeque.{deque_len, deque_capacity};
 ghost use Rattle.ghcn_fields.specs.Sorting.{placed};
@@ -156,11 +156,10 @@ impl FloorSink for Pool {
     /// The score of the last place, where each place is taken.
     #[inline(always)]
     fn floor(&self) -> Option<i64>
-        ensures floor { IfSome result (λ floor. pools.IsFloor self.now floor) }
         ensures last { result ≡ pools.last_score self.now }
+        ensures floor { IfSome result (λ floor. pools.IsFloor self.now floor) }
     {
-        let last = self.last?;
-        Some(last)
+        self.last
     }
 
     /// What scores less than the last place falls out, and leaves the pool as it is.
