@@ -113,9 +113,9 @@ fn count_row(lines: &[Line], id: &StationId, counts: &mut [u64]) -> bool
     let Ok(place) = lines.binary_search_by(|line| line.id.cmp(id)) else {
         return false;
     };
-    if !lines[place].skipped {
+    let scanned = !lines[place].skipped;
+    if scanned {
         counts[place] += 1;
-        return true;
     }
-    false
+    scanned
 }

@@ -1,5 +1,4 @@
-use Rattle.std.proofs.Common.{rules, refl, sym, ap, ◌∙◌}
-use Rattle.std.specs.Prelude.{not}
+use Rattle.std.proofs.Common.{rules, refl, sym}
 use Rattle.std.specs.Cmp.Lexicographic.{slice_cmp}
 use Rattle.std.specs.Ordering.{nat_cmp}
 use Rattle.std.proofs.lemmas.Fn.{always_returns_same}
@@ -16,25 +15,23 @@ returns-in_default-clause-scanned c =
     (searchable c.args.id.now c.args.lines.now c.requires.rise)))
 
 -- the line that was found wasn't passed over
-pub returns-then-not-lines-place-clause-scanned : goal.returns-then-not-lines-place-clause-scanned
-returns-then-not-lines-place-clause-scanned c =
+pub returns-then-scanned-clause-scanned : goal.returns-then-scanned-clause-scanned
+returns-then-scanned-clause-scanned c =
     sym (scanned_at c.args.id.now c.args.lines.now c.in-Ok.place _ c.requires.rise c.in-Ok.ensures.bound
     (c.in-Ok.ensures.position (λ e. slice_cmp nat_cmp e.id.0 c.args.id.now.0)
-    (always_returns_same _ _ _ (λ a r g called. search rules)) _)
-    ∙ ap not c.if-not-lines-place.true)
+    (always_returns_same _ _ _ (λ a r g called. search rules)) _))
 
 -- and then one more is counted for it
-pub returns-then-not-lines-place-clause-counted : goal.returns-then-not-lines-place-clause-counted
-returns-then-not-lines-place-clause-counted c = λ _.
+pub returns-then-scanned-clause-counted : goal.returns-then-scanned-clause-counted
+returns-then-scanned-clause-counted c = λ _.
     line-counted c.args.id.now c.args.lines.now _ _ c.in-Ok.place _ c.requires.rise c.in-Ok.ensures.bound
     (c.in-Ok.ensures.position (λ e. slice_cmp nat_cmp e.id.0 c.args.id.now.0)
     (always_returns_same _ _ _ (λ a r g called. search rules)) _)
-    c.if-not-lines-place.true refl
+    c.if-scanned.true refl
 
 -- or it was
-pub returns-clause-scanned : goal.returns-clause-scanned
-returns-clause-scanned c =
+pub returns-else-scanned-clause-scanned : goal.returns-else-scanned-clause-scanned
+returns-else-scanned-clause-scanned c =
     sym (scanned_at c.args.id.now c.args.lines.now c.in-Ok.place _ c.requires.rise c.in-Ok.ensures.bound
     (c.in-Ok.ensures.position (λ e. slice_cmp nat_cmp e.id.0 c.args.id.now.0)
-    (always_returns_same _ _ _ (λ a r g called. search rules)) _)
-    ∙ ap not c.if-not-lines-place.false)
+    (always_returns_same _ _ _ (λ a r g called. search rules)) _))
