@@ -79,8 +79,9 @@ impl<'a> BlockDays<'a> {
         if self.left == 0 {
             return None;
         }
+        let place = self.left.trailing_zeros();
         let behind = end_of_run(self.left);
-        let first = day_at(self.number, self.left.trailing_zeros());
+        let first = day_at(self.number, place);
         let last = day_at(self.number, behind - 1);
         self.left &= !first_places(behind);
         Some((first, last))

@@ -38,8 +38,8 @@ impl Parts {
         }
     }
 
-    /// Adds days of a block, none of which was added before. Room is made for them first, since a push that may fail
-    /// would copy them twice.
+    /// Adds days of a block, none of which was added before. Room for their values is made before these are pushed,
+    /// since a push that may fail would copy them twice.
     #[inline(always)]
     fn add_part(&mut self, number: i32, word: u32, values: &[i32; 32]) -> Result<(), Memory>
         requires parts { parts.AreParts self.old }
