@@ -7,11 +7,10 @@ ghost use Rattle.ghcn_files.specs.Elements.{least_of, is_kept};
 ghost use Rattle.ghcn_files.specs.Months as months;
 ghost use Rattle.ghcn_files.specs.Rows as rows;
 
-use crate::heads::MonthReader;
 use crate::missing::MISSING;
-use crate::month::{COLUMNS, DAYS, four_groups, readings, two_groups};
+use crate::month::{COLUMNS, DAYS, UP_TO_ELEMENT, four_groups, head_of, readings, two_groups};
 use crate::{Element, Keep, LineWhy, StationId};
-use ghcn_fields::{are_clear, bad_columns, four_numbers};
+use ghcn_fields::{are_clear, bad_columns, days_in_month, four_numbers};
 use std::simd::prelude::*;
 
 /// The number of each place of a row. Those of a table are compared by lanes as wide as values are; one that is counted
@@ -56,12 +55,33 @@ impl MonthRow {
 pub fn read_days(line: &[u8], asked: Keep) -> Result<Option<MonthRow>, LineWhy>
     ensures { rows.IsRead asked line.now result }
 {
-    let mut months = MonthReader::new();
-    if months.read(line, asked)? {
-        Ok(Some(*months.row()))
-    } else {
-        Ok(None)
+    if line.len() < UP_TO_ELEMENT {
+        return Err(LineWhy::Short);
     }
+    match Element::of_code(&line[17..21]) {
+        None => Ok(None),
+        Some(element) => Ok(Some(row_of(asked, element, line)?)),
+    }
+}
+
+/// The row of a line of this element.
+fn row_of(asked: Keep, element: Element, line: &[u8]) -> Result<MonthRow, LineWhy>
+    ensures err { IfErr result (λ why. months.month_why line.now ≡ Some why) }
+    ensures fine { IfOk result (λ _. months.month_why line.now ≡ None) }
+    ensures row { IfOk result (rows.IsRowOf (is_kept asked element) (months.month_of element line.now)) }
+{
+    let head = head_of(line)?;
+    let count = days_in_month(head.year, head.month);
+    let mut values = [0; 32];
+    let word = put_days(element.is_kept(asked), element, count, line, &mut values)?;
+    Ok(MonthRow {
+        id: head.id,
+        element,
+        year: head.year,
+        month: head.month,
+        word,
+        values,
+    })
 }
 
 /// Puts the values of a line that count, in a month with so many days, where they are kept, and answers the word of
