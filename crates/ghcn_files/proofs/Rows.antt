@@ -108,13 +108,15 @@ module _ (day : ℕ → Option ℤ) (i w : ℕ) (vs : List ℤ) (is : HasFirst d
   }
 
 -- a day is set where it counts, and else cleared
-pub first-step : (day : ℕ → Option ℤ) (i w : ℕ) (vs : List ℤ) (t : Bool) (v : ℤ) → HasFirst day i w vs
-    → day i ≡ if_so t v → i < 32
-    → HasFirst day (i + 1) (bit_or w (if t then 2 ^ i else 0)) (set vs i (if t then v else pos 0))
-first-step day i w vs true v is some lt = first-set day i w vs is lt v some
-first-step day i w vs false v is none lt =
-    subst (λ (u : ℕ). HasFirst day (i + 1) u (set vs i (pos 0))) (sym (or_zero_r w))
-    (first-passed day i w vs is lt none)
+pub first-step : (day : ℕ → Option ℤ) (i k w : ℕ) (vs : List ℤ) (t : Bool) (v : ℤ) → HasFirst day i w vs
+    → day i ≡ if_so t v → i < 32 → i ≡ k
+    → HasFirst day (i + 1) (bit_or w (if t then 2 ^ i else 0)) (set vs k (if t then v else pos 0))
+first-step day i k w vs true v is some lt same =
+    subst (λ (p : ℕ). HasFirst day (i + 1) (bit_or w (2 ^ i)) (set vs p v)) same (first-set day i w vs is lt v some)
+first-step day i k w vs false v is none lt same =
+    subst (λ (p : ℕ). HasFirst day (i + 1) (bit_or w 0) (set vs p (pos 0))) same
+    (subst (λ (u : ℕ). HasFirst day (i + 1) u (set vs i (pos 0))) (sym (or_zero_r w))
+    (first-passed day i w vs is lt none))
 
 -- at a place of zeros stands 0
 zero_at : (n j : ℕ) → get_or (replicate n (pos 0)) j (pos 0) ≡ pos 0

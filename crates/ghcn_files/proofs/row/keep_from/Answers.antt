@@ -39,10 +39,10 @@ loop-place-preserved c =
     to_z-of_z w32 c.value_if.result (search rules) ∙ c.value_if.ensures in
     record {
       row = rw (bit, kept)
-          (first-step some place c.loop-place.word c.loop-place.values counts value c.loop-place.invariant.row is
-          c.loop-place-test.true);
+          (first-step some place _ c.loop-place.word c.loop-place.values counts value c.loop-place.invariant.row is
+          c.loop-place-test.true (omega arith));
       rest = λ j le.
-          get_or-set_other c.loop-place.values place j _ (pos 0) (omega (arith, le))
+          get_or-set_other c.loop-place.values _ j _ (pos 0) (omega (arith, le))
           ∙ c.loop-place.invariant.rest j (omega (arith, le));
     }
 
