@@ -32,9 +32,10 @@ pub fn scan<S: Sink>(series: &Series, query: &Query, sink: &mut S)
     }
 }
 
-/// Offers each candidate of the series once, as `scan` does, and by increasing first day where its score may count.
+/// Offers the candidates of the series by increasing first day, as `scan` does.
 ///
-/// Of days that score less than the sink's floor the number alone is given, block by block.
+/// If no day of a part reaches the sink's floor, the sink is given the number of these days alone. A part has admitted
+/// days of one block of 32 days.
 pub fn scan_to_floor<S: FloorSink>(series: &Series, query: &Query, sink: &mut S)
     ensures { sink.new ≡ fold S.taken sink.old (meaning.candidates query.now series.now) }
 {
