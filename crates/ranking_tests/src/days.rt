@@ -1,4 +1,4 @@
-//! Daily files of one station, made of stretches of days.
+//! Daily files of a station, made of stretches of days.
 
 use ghcn_fields::Day;
 use ghcn_files::{Element, StationId, Stations};
@@ -12,7 +12,9 @@ pub(crate) const B: StationId = StationId(*b"ZZA00000002");
 
 pub(crate) const C: StationId = StationId(*b"ZZA00000003");
 
-const STATIONS: &[u8] = b"ZZA00000001  10.0000   20.0000  100.0    ALPHA\n";
+const STATIONS: &[u8] = b"\
+ZZA00000001  10.0000   20.0000  100.0    ALPHA\n\
+ZZA00000002  10.0000   21.0000  100.0    BETA\n";
 
 /// So many days from this one on, each with this group of eight columns in its line.
 pub(crate) type Stretch = (i32, i32, &'static str);
@@ -30,6 +32,7 @@ type Month = [&'static str; 31];
 /// Writes the line of a month, where it has a day.
 fn push_month(
     text: &mut String,
+    id: &str,
     element: Element,
     (year, month): (u16, u8),
     groups: &Month,
@@ -37,22 +40,22 @@ fn push_month(
     if groups.iter().all(|it| it.is_empty()) {
         return Ok(());
     }
-    write!(text, "ZZA00000001{year:04}{month:02}{element}")?;
+    write!(text, "{id}{year:04}{month:02}{element}")?;
     for group in groups {
         text.push_str(if group.is_empty() { "-9999   " } else { group })?;
     }
     text.push_str("\n")
 }
 
-/// Writes the lines of an element of these days, from the first to the last.
-fn push_days(text: &mut String, element: Element, stretches: &[Stretch]) -> Option<()> {
+/// Writes the lines of a station and an element of these days, from the first to the last.
+fn push_days(text: &mut String, id: &str, element: Element, stretches: &[Stretch]) -> Option<()> {
     let mut time = (0, 0);
     let mut groups = [""; 31];
     for (first, count, group) in stretches {
         for later in 0..*count {
             let (year, month, day) = Day::with_number(first.saturating_add(later))?.civil();
             if time != (year, month) {
-                push_month(text, element, time, &groups).ok()?;
+                push_month(text, id, element, time, &groups).ok()?;
                 time = (year, month);
                 groups = [""; 31];
             }
@@ -61,13 +64,23 @@ fn push_days(text: &mut String, element: Element, stretches: &[Stretch]) -> Opti
             }
         }
     }
-    push_month(text, element, time, &groups).ok()
+    push_month(text, id, element, time, &groups).ok()
 }
 
 /// The data of station A with an element of these days.
 pub(crate) fn data_of(alloc: Global, element: Element, stretches: &[Stretch]) -> Option<Data> {
+    data_at(alloc, "ZZA00000001", element, stretches)
+}
+
+/// The data of a station, A or B by its ID, with an element of these days.
+pub(crate) fn data_at(
+    alloc: Global,
+    id: &str,
+    element: Element,
+    stretches: &[Stretch],
+) -> Option<Data> {
     let mut text = String::new(alloc);
-    push_days(&mut text, element, stretches)?;
+    push_days(&mut text, id, element, stretches)?;
     let stations = Stations::read(alloc, STATIONS).ok()?;
     Data::read(alloc, stations, &[text.as_bytes()]).ok()
 }

@@ -1,6 +1,6 @@
 //! Worked pools.
 
-use crate::days::{A, B, C, Stretch, data_of};
+use crate::days::{A, B, C, Stretch, data_at, data_of};
 use ghcn_fields::Day;
 use ghcn_files::StationId;
 use rank_pool::Pool;
@@ -171,6 +171,51 @@ fn part_of(found: Option<&Candidate>) -> Option<(i32, i64)> {
 fn scans_to_the_last_place(rt: HostRuntime) {
     for (number, (stretches, query, best)) in SCANS.iter().enumerate() {
         let found = best_two(rt.alloc(), stretches, query);
+        assert_eq!(rt; found, Some(*best), "of row {number}, {query}");
+    }
+}
+
+/// The station, the day and the score of each of two candidates.
+type BestOfTwo = [Option<(StationId, i32, i64)>; 2];
+
+// The days of B, which are scanned first, and those of A, whose smaller ID wins if scores are the same.
+#[rattlefmt::skip]
+const SCANS_OF_TWO: [(&[Stretch], &[Stretch], &str, BestOfTwo); 3] = [
+    (&[(0, 1, "  311   "), (1, 1, "  305   ")], &[(40, 1, "  304   "), (70, 1, "  305   ")],
+        "top 2 highest TMAX", [Some((B, 0, 311)), Some((A, 70, 305))]),
+    (&[(0, 3, "  305   ")], &[(40, 2, "  305   "), (70, 1, "  305   ")],
+        "top 2 highest TMAX", [Some((A, 40, 305)), Some((A, 41, 305))]),
+    (&[(0, 2, "   -5   ")], &[(40, 1, "   -4   "), (41, 1, "   -5   "), (70, 1, "   -5   ")],
+        "top 2 lowest TMIN", [Some((A, 41, 5)), Some((A, 70, 5))]),
+];
+
+/// The best two days of a query, after a scan of B and one of A.
+fn best_of_two(
+    alloc: Global,
+    of_b: &[Stretch],
+    of_a: &[Stretch],
+    query: &str,
+) -> Option<BestOfTwo> {
+    let query = Query::parse(query).ok()?;
+    let first = data_at(alloc, "ZZA00000002", query.element(), of_b)?;
+    let second = data_at(alloc, "ZZA00000001", query.element(), of_a)?;
+    let mut pool = Pool::new(alloc, 2).ok()?;
+    scan_to_floor(first.series(&B, query.element())?, &query, &mut pool);
+    scan_to_floor(second.series(&A, query.element())?, &query, &mut pool);
+    let best = pool.into_sorted();
+    Some([named_part_of(best.first()), named_part_of(best.get(1))])
+}
+
+/// The station, the first day and the score of a candidate.
+fn named_part_of(found: Option<&Candidate>) -> Option<(StationId, i32, i64)> {
+    let it = found?;
+    Some((it.id, it.first.number(), it.score))
+}
+
+#[test]
+fn a_smaller_id_wins_at_the_last_place(rt: HostRuntime) {
+    for (number, (of_b, of_a, query, best)) in SCANS_OF_TWO.iter().enumerate() {
+        let found = best_of_two(rt.alloc(), of_b, of_a, query);
         assert_eq!(rt; found, Some(*best), "of row {number}, {query}");
     }
 }

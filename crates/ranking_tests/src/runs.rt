@@ -21,17 +21,34 @@ const DAYS: [Stretch; 4] = [
     (0, 3, "   10   "), (3, 1, "   20   "), (5, 2, "    5   "), (31, 1, "   30   "),
 ];
 
-/// What is kept, how many days that are, and their runs.
-type Row = (Kept, u32, Runs);
+/// Each day of the block from day 0 on, and eight days of the next one.
+#[rattlefmt::skip]
+const WHOLE: [Stretch; 3] = [(0, 10, "   10   "), (10, 12, "   20   "), (22, 18, "   10   ")];
+
+/// Days of the last block before day 0, its first and its last among them, and two days of the next one.
+#[rattlefmt::skip]
+const BEFORE_1970: [Stretch; 4] = [
+    (-32, 3, "   10   "), (-20, 1, "   20   "), (-2, 2, "    5   "), (0, 2, "    5   "),
+];
+
+/// The days of a series, what is kept of its first block, how many days that are, and their runs.
+type Row = (&'static [Stretch], Kept, u32, Runs);
 
 #[rattlefmt::skip]
-const ROWS: [Row; 6] = [
-    (Kept::All, 7, [Some((0, 3)), Some((5, 6)), Some((31, 31)), None]),
-    (Kept::From(10), 5, [Some((0, 3)), Some((31, 31)), None, None]),
-    (Kept::From(11), 2, [Some((3, 3)), Some((31, 31)), None, None]),
-    (Kept::From(31), 0, [None; 4]),
-    (Kept::Below(20), 5, [Some((0, 2)), Some((5, 6)), None, None]),
-    (Kept::Below(5), 0, [None; 4]),
+const ROWS: [Row; 13] = [
+    (&DAYS, Kept::All, 7, [Some((0, 3)), Some((5, 6)), Some((31, 31)), None]),
+    (&DAYS, Kept::From(10), 5, [Some((0, 3)), Some((31, 31)), None, None]),
+    (&DAYS, Kept::From(11), 2, [Some((3, 3)), Some((31, 31)), None, None]),
+    (&DAYS, Kept::From(31), 0, [None; 4]),
+    (&DAYS, Kept::Below(20), 5, [Some((0, 2)), Some((5, 6)), None, None]),
+    (&DAYS, Kept::Below(5), 0, [None; 4]),
+    (&WHOLE, Kept::All, 32, [Some((0, 31)), None, None, None]),
+    (&WHOLE, Kept::From(10), 32, [Some((0, 31)), None, None, None]),
+    (&WHOLE, Kept::From(11), 12, [Some((10, 21)), None, None, None]),
+    (&WHOLE, Kept::Below(20), 20, [Some((0, 9)), Some((22, 31)), None, None]),
+    (&BEFORE_1970, Kept::All, 6, [Some((-32, -30)), Some((-20, -20)), Some((-2, -1)), None]),
+    (&BEFORE_1970, Kept::From(20), 1, [Some((-20, -20)), None, None, None]),
+    (&BEFORE_1970, Kept::Below(20), 5, [Some((-32, -30)), Some((-2, -1)), None, None]),
 ];
 
 /// The first and the last day of the next run, by their numbers.
@@ -40,9 +57,9 @@ fn next_run(days: &mut BlockDays) -> Option<(i32, i32)> {
     Some((first.number(), last.number()))
 }
 
-/// How many of the days above are kept, and their runs.
-fn found(alloc: Global, kept: Kept) -> Option<(u32, Runs)> {
-    let data = data_of(alloc, Element::Prcp, &DAYS)?;
+/// How many days of the first block are kept, and their runs.
+fn found(alloc: Global, stretches: &[Stretch], kept: Kept) -> Option<(u32, Runs)> {
+    let data = data_of(alloc, Element::Prcp, stretches)?;
     let series = data.series(&A, Element::Prcp)?;
     let mut days = series.days().take_to(31);
     match kept {
@@ -67,8 +84,8 @@ fn found(alloc: Global, kept: Kept) -> Option<(u32, Runs)> {
 
 #[test]
 fn days_in_a_row(rt: HostRuntime) {
-    for (number, (kept, count, runs)) in ROWS.iter().enumerate() {
-        let found = found(rt.alloc(), *kept);
+    for (number, (stretches, kept, count, runs)) in ROWS.iter().enumerate() {
+        let found = found(rt.alloc(), stretches, *kept);
         assert_eq!(rt; found, Some((*count, *runs)), "of row {number}");
     }
 }
