@@ -3,6 +3,7 @@
 //! Data and readers live in helpers that answer plain facts: a test that holds them is dear to prove.
 
 mod blocks;
+mod cutters;
 mod elements;
 mod faults;
 mod months;

@@ -3,6 +3,7 @@
 ghost use Rattle.std.specs.Prelude.{IfOk};
 ghost use Rattle.ghcn_series.specs.Pieces.{HasFedSome};
 
+use super::cutters::are_alike;
 use super::pieces::{data_of, read_by_bytes};
 use super::{A, B, JULY, STATIONS, refused};
 use crate::lines::{line_of, text_of};
@@ -40,6 +41,12 @@ fn values(data: &Data) -> Values {
         value(data, &A, Element::Tmin),
     ];
     (first, value(data, &B, Element::Tmax), data.unlisted())
+}
+
+/// Whether lines that are read one by one show the same of a text.
+fn are_alike_in(alloc: Global, lines: &[&[u8]]) -> Result<bool, Memory> {
+    let text = text_of(alloc, lines, b"\n")?;
+    Ok(are_alike(alloc, &[&text]))
 }
 
 /// What is kept of one element of a whole text.
@@ -104,5 +111,10 @@ fn faults_of_elements_that_are_not_kept(rt: HostRuntime) {
         assert_eq!(rt; found.map(|it| it.2), expected, "{name}");
         let found = kept_by_bytes(rt.alloc(), &lines, Element::Tmax);
         assert_eq!(rt; found.map(|it| it.2), expected, "{name}");
+        assert_eq!(rt;
+            are_alike_in(rt.alloc(), &lines),
+            Ok(true),
+            "{name} by lines"
+        );
     }
 }

@@ -1,5 +1,6 @@
 //! The first fault of daily files, and the lines that are passed over.
 
+use super::cutters::are_alike;
 use super::{refused, unlisted};
 use crate::lines::{line_of, text_of};
 use ghcn_fields::Memory;
@@ -24,6 +25,24 @@ fn by_both_ends(
 ) -> (Result<u64, DataFault>, Result<u64, DataFault>) {
     let unix = unlisted_of(alloc, one, two, b"\n");
     (unix, unlisted_of(alloc, one, two, b"\r\n"))
+}
+
+/// Whether lines that are read one by one show the same of two files, with line feeds and with carriage returns before
+/// them.
+fn are_alike_by_both_ends(
+    alloc: Global,
+    one: &[&[u8]],
+    two: &[&[u8]],
+) -> (Result<bool, Memory>, Result<bool, Memory>) {
+    let unix = are_alike_with(alloc, one, two, b"\n");
+    (unix, are_alike_with(alloc, one, two, b"\r\n"))
+}
+
+/// The same of lines with this end.
+fn are_alike_with(alloc: Global, one: &[&[u8]], two: &[&[u8]], end: &[u8]) -> Result<bool, Memory> {
+    let one = text_of(alloc, one, end)?;
+    let two = text_of(alloc, two, end)?;
+    Ok(are_alike(alloc, &[&one, &two]))
 }
 
 #[test]
@@ -56,6 +75,8 @@ fn lines_that_are_passed_over(rt: HostRuntime) {
     for (name, one, two, count) in cases {
         let found = by_both_ends(rt.alloc(), &one, &two);
         assert_eq!(rt; found, (Ok(count), Ok(count)), "{name}");
+        let alike = are_alike_by_both_ends(rt.alloc(), &one, &two);
+        assert_eq!(rt; alike, (Ok(true), Ok(true)), "{name} by lines");
     }
 }
 
@@ -81,6 +102,8 @@ fn lines_that_are_refused(rt: HostRuntime) {
     for (name, one, two, expected) in cases {
         let found = by_both_ends(rt.alloc(), &one, &two);
         assert_eq!(rt; found, (expected, expected), "{name}");
+        let alike = are_alike_by_both_ends(rt.alloc(), &one, &two);
+        assert_eq!(rt; alike, (Ok(true), Ok(true)), "{name} by lines");
     }
 }
 
@@ -112,6 +135,8 @@ fn months_that_stand_twice(rt: HostRuntime) {
         let found = by_both_ends(rt.alloc(), &one, &two);
         let expected = refused(file, line, DuplicateMonth);
         assert_eq!(rt; found, (expected, expected), "{name}");
+        let alike = are_alike_by_both_ends(rt.alloc(), &one, &two);
+        assert_eq!(rt; alike, (Ok(true), Ok(true)), "{name} by lines");
     }
 }
 
@@ -119,6 +144,12 @@ fn months_that_stand_twice(rt: HostRuntime) {
 fn unlisted_to(alloc: Global, lines: &[&[u8]], length: usize) -> Result<u64, DataFault> {
     let text = text_of(alloc, lines, b"\n").map_err(DataFault::Memory)?;
     unlisted(alloc, &[&text[..length.min(text.len())]])
+}
+
+/// Whether lines that are read one by one show the same of a text's first bytes.
+fn are_alike_to(alloc: Global, lines: &[&[u8]], length: usize) -> Result<bool, Memory> {
+    let text = text_of(alloc, lines, b"\n")?;
+    Ok(are_alike(alloc, &[&text[..length.min(text.len())]]))
 }
 
 #[test]
@@ -134,8 +165,11 @@ fn daily_lines_cut_to_each_length(rt: HostRuntime) {
                 refused(1, line, Line(LineWhy::Short))
             }
         };
-        let found = unlisted_to(rt.alloc(), &[&july, &june, &other], usize::from(length));
+        let lines: [&[u8]; 3] = [&july, &june, &other];
+        let found = unlisted_to(rt.alloc(), &lines, usize::from(length));
         assert_eq!(rt; found, expected, "at {length} bytes");
+        let alike = are_alike_to(rt.alloc(), &lines, usize::from(length));
+        assert_eq!(rt; alike, Ok(true), "at {length} bytes by lines");
     }
 }
 

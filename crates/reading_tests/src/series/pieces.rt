@@ -3,10 +3,11 @@
 ghost use Rattle.std.specs.Prelude.{IfOk};
 ghost use Rattle.ghcn_series.specs.Pieces.{HasFedSome};
 
+use super::cutters::{fault_by_lines, found_by_lines};
 use super::{A, JULY, STATIONS, has_series};
 use crate::lines::line_of;
 use ghcn_fields::Memory;
-use ghcn_files::{Element, LineWhy, Stations};
+use ghcn_files::{Element, Keep, LineWhy, Stations};
 use ghcn_series::{DailyWhy, Data, DataFault, DataReader, Foreign};
 use std::alloc::Global;
 
@@ -143,6 +144,12 @@ fn first_fault_is_kept(rt: HostRuntime) {
     for (behind, files, fault) in cases {
         let found = fault_before(rt.alloc(), &text, behind, files);
         assert_eq!(rt; found, Some(fault), "behind {behind:?} and {files} files");
+        let by_lines = fault_by_lines(rt.alloc(), &text, behind, files);
+        assert_eq!(rt;
+            by_lines,
+            found,
+            "behind {behind:?} and {files} files by lines"
+        );
     }
 }
 
@@ -182,9 +189,22 @@ fn foreign_of(alloc: Global, files: &[&[u8]]) -> Result<Foreign, DataFault> {
     Ok(foreign)
 }
 
-/// So many foreign files, of which this is the first.
-fn told(count: u64, first: Option<u64>) -> Result<Foreign, DataFault> {
-    Ok(Foreign { count, first })
+/// The foreign files among some, by a reader of files and by a cutter, and how many files, lines and blank lines the
+/// cutter finds.
+type Shown = (Foreign, Foreign, (u64, u64, u64));
+
+/// What both show of files.
+fn shown(alloc: Global, files: &[&[u8]]) -> Result<Shown, DataFault> {
+    let foreign = foreign_of(alloc, files)?;
+    let found = found_by_lines(alloc, Keep::All, files)?;
+    let counts = (found.files, found.lines, found.blank);
+    Ok((foreign, found.foreign, counts))
+}
+
+/// So many foreign files, of which this is the first, by both, and these counts.
+fn told(count: u64, first: Option<u64>, counts: (u64, u64, u64)) -> Result<Shown, DataFault> {
+    let foreign = Foreign { count, first };
+    Ok((foreign, foreign, counts))
 }
 
 #[test]
@@ -195,20 +215,26 @@ fn files_without_one_of_the_elements(rt: HostRuntime) {
     let both = three_lines(b"ZZA00000001202007WESD");
     let table = *b"STATION,DATE,ELEMENT,VALUE\n";
     let alloc = rt.alloc();
-    assert_eq!(rt; foreign_of(alloc, &[&july, b"", b" \r\n\n"]), told(0, None));
     assert_eq!(rt;
-        foreign_of(alloc, &[&july, &other, &table]),
-        told(2, Some(1))
+        shown(alloc, &[&july, b"", b" \r\n\n"]),
+        told(0, None, (3, 3, 2))
     );
     assert_eq!(rt;
-        foreign_of(alloc, &[&table, &other, &table]),
-        told(3, Some(0))
+        shown(alloc, &[&july, &other, &table]),
+        told(2, Some(1), (3, 3, 0))
     );
-    assert_eq!(rt; foreign_of(alloc, &[&both, &unlisted]), told(0, None));
-    assert_eq!(rt; foreign_of(alloc, &[b"", b"", &other]), told(1, Some(2)));
     assert_eq!(rt;
-        foreign_of(alloc, &[b"\n", &table, &unlisted]),
-        told(1, Some(1))
+        shown(alloc, &[&table, &other, &table]),
+        told(3, Some(0), (3, 3, 0))
+    );
+    assert_eq!(rt; shown(alloc, &[&both, &unlisted]), told(0, None, (2, 4, 1)));
+    assert_eq!(rt;
+        shown(alloc, &[b"", b"", &other]),
+        told(1, Some(2), (3, 1, 0))
+    );
+    assert_eq!(rt;
+        shown(alloc, &[b"\n", &table, &unlisted]),
+        told(1, Some(1), (3, 3, 1))
     );
     let fault = DataFault::DailyLine {
         file: 2,
@@ -216,4 +242,6 @@ fn files_without_one_of_the_elements(rt: HostRuntime) {
         why: DailyWhy::Line(LineWhy::Short),
     };
     assert_eq!(rt; foreign_of(alloc, &[&other, b"short"]), Err(fault));
+    let by_lines = found_by_lines(alloc, Keep::All, &[&other, b"short"]);
+    assert_eq!(rt; by_lines.err(), Some(fault));
 }

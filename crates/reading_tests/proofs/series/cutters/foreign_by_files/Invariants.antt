@@ -1,0 +1,6 @@
+use Rattle.ghcn_series.specs.Pieces.{HasFedSome}
+use Rattle.reading_tests.proofs.series.cutters.foreign_by_files.Given as goal
+
+-- the reader can be fed more
+abbrev pub invariant-loop-file : goal.invariant-loop-file
+invariant-loop-file l = HasFedSome l.reader
