@@ -1,6 +1,8 @@
 //! Counts lines of codes that are none of the five elements'.
 
 ghost use Rattle.std.specs.Prelude.{◌≡◌, ◌≤◌, ◌+◌, length, map, [], OnOk};
+ghost use Rattle.std.specs.Cmp.Lexicographic.{slice_cmp};
+ghost use Rattle.std.specs.Ordering.{nat_cmp};
 ghost use Rattle.ghcn_fields.specs.Lines.{columns};
 ghost use Rattle.ghcn_description.specs.Described.{AreOthers};
 ghost use Rattle.ghcn_description.specs.Lines.{shown};
@@ -10,6 +12,7 @@ use crate::CodeCount;
 use crate::counts::sum;
 use ghcn_fields::Memory;
 use std::alloc::Global;
+use std::cmp::Ordering;
 
 /// How many codes are named at most.
 const MOST_CODES: usize = 200;
@@ -42,7 +45,10 @@ impl Others {
         requires { HasCountedSome self.old }
         ensures { OnOk result (CountsCode self.old self.new code) }
     {
-        match self.counts.binary_search_by(|count| count.code.cmp(&code)) {
+        match self
+            .counts
+            .binary_search_by(|count| order(&count.code, &code))
+        {
             Ok(place) => {
                 self.counts[place].lines = sum(self.counts[place].lines, 1)?;
                 Ok(())
@@ -93,6 +99,13 @@ impl Others {
     {
         (self.counts, self.further)
     }
+}
+
+/// The order of two codes by their bytes: that of the numbers that these write, the first byte as the highest.
+fn order(code: &[u8; 4], other: &[u8; 4]) -> Ordering
+    ensures { result ≡ slice_cmp nat_cmp code.now other.now }
+{
+    u32::from_be_bytes(*code).cmp(&u32::from_be_bytes(*other))
 }
 
 /// The code of a line of at least 21 columns, with `?` for each byte that can't be seen.
