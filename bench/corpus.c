@@ -152,7 +152,7 @@ static int by_id(const void *a, const void *b) {
     return strcmp(((const Station *)a)->id, ((const Station *)b)->id);
 }
 
-/* So many stations, sorted, with distinct IDs; fewer where an ID was drawn twice. */
+/* So many stations, sorted, with distinct IDs; fewer if an ID was drawn twice. */
 static int make_stations(Chance *chance, Station *stations, int count) {
     for (int i = 0; i < count; i++) {
         stations[i] = make_station(chance);

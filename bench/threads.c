@@ -1,4 +1,4 @@
-/* threads ROUNDS: what four threads of this machine gain over one, where they share nothing. Prints
+/* threads ROUNDS: what four threads of this machine gain over one, if they share nothing. Prints
  * two lines: what was computed, and the least milliseconds with one, two, three and four threads.
  *
  * chain   one operation after the other, each of which waits for the one before
@@ -55,7 +55,7 @@ static void *lanes(void *given) {
     return NULL;
 }
 
-/* The milliseconds that so many threads take for the work, each for its share. */
+/* The milliseconds that this many threads take for the work, each for its share. */
 static double took(void *(*work)(void *), int threads) {
     pthread_t handles[MOST];
     double start = milliseconds();

@@ -4,11 +4,11 @@
    FAIL_AT     the number of that call, from 1; 0 for each of them
    FAIL_HOW    fail: it ends with an error; one: it takes or gives one byte; signal: it is interrupted;
                full: writes take this many bytes in all, and then there is no space; FAIL_AT is that number;
-               most: each read gives at most FAIL_AT bytes, behind three million of them what it asks for
+               most: each read gives at most FAIL_AT bytes, after three million of them what it asks for
    FAIL_FILE   a file's name without its folder. FAIL_HOW cut: its reads end after FAIL_AT bytes;
                missing: it can't be opened
-   FAIL_MARK   a file that is left where a call meets this for the first time. It has the path of that call's
-               file: as it was given where it was to be opened, as the system names it where it is open,
+   FAIL_MARK   a file that is left if a call meets this for the first time. It has the path of that call's
+               file: as it was given if it was to be opened, as the system names it if it is open,
                and none for the start of a thread */
 #define _GNU_SOURCE
 #include <dlfcn.h>
@@ -36,7 +36,7 @@ static const char *said(const char *name) {
     return value ? value : "";
 }
 
-/* Leaves the mark of a path, or of an open file where there is no path. */
+/* Leaves the mark of a path, or of an open file if there is no path. */
 static void leave_mark(const char *path, int file) {
     char link[32], found[PATH_MAX];
     if (atomic_exchange(&is_marked, 1))
@@ -57,7 +57,7 @@ static int is_how(const char *how) {
     return !strcmp(said("FAIL_HOW"), how);
 }
 
-/* Counts a call of this name for a path or an open file, and tells whether it is the one that is meant. */
+/* Counts a call of this name for a path or an open file, and returns whether it is the one that is meant. */
 static int is_met(const char *call, const char *path, int file) {
     long at = atol(said("FAIL_AT"));
     if (strcmp(said("FAIL_CALL"), call) || is_how("full") || is_how("cut") || is_how("most"))

@@ -1,5 +1,5 @@
-/* Preloaded before a program, refuses its Nth growth of memory, N being the environment's REFUSE,
-   and leaves the file that REFUSED names where it did. The growths of all threads are counted. */
+/* Preloaded before a program, refuses its Nth allocation, N being the environment's REFUSE,
+   and leaves the file that REFUSED names if it did. The allocations of all threads are counted. */
 #define _GNU_SOURCE
 #include <dlfcn.h>
 #include <errno.h>

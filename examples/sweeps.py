@@ -35,7 +35,7 @@ class Tally:
         self.passed, self.failed = Counter(), 0
 
     def count(self, name, fault=None):
-        """Counts a run, and prints what is wrong with it where anything is."""
+        """Counts a run, and prints what is wrong with it if anything is."""
         self.passed[name] += fault is None
         if fault is not None:
             self.failed += 1

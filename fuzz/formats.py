@@ -1,4 +1,4 @@
-"""What `extremes rank`, `extremes check` and `extremes describe` answer to some texts, by docs/FORMATS.md and
+"""What `extremes rank`, `extremes check` and `extremes describe` print for some texts, by docs/FORMATS.md and
 docs/DEFINITIONS.md alone. Plain and slow: all candidates are listed and put in order. The daily files are named
 `1.dly`, `2.dly` and so on.
 
@@ -67,7 +67,7 @@ def visible(text):
 
 
 def day_of(text):
-    """The day of a date, None where it is no date."""
+    """The day of a date, None if it isn't a date."""
     if not re.fullmatch(rb"[0-9]{4}-[0-9]{2}-[0-9]{2}", text):
         return None
     try:

@@ -15,7 +15,7 @@ KTH = re.compile(rb"kth (none|-?(?:0|[1-9][0-9]*))\n")
 
 
 class Unlike(Exception):
-    """A line of a paper that isn't of the form of its place."""
+    """A line of a paper that isn't in the format of its place."""
 
 
 def is_number(text):
@@ -38,7 +38,7 @@ def head(pieces, titles):
 
 
 def whole(pieces, at, end):
-    """Holds where the paper ends by the line `end` at index `at`."""
+    """Holds if the paper ends by the line `end` at index `at`."""
     if pieces[at:at + 1] != [end]:
         raise Unlike(at + 1)
     if len(pieces) > at + 1:
@@ -46,7 +46,7 @@ def whole(pieces, at, end):
 
 
 def read_row(query, rank, line):
-    """The candidate of a row, None where the line isn't of that form."""
+    """The candidate of a row, None if the line isn't in that format."""
     found = ROW.fullmatch(line)
     if not found or found[1] != b"%d" % rank or found[8] != formats.unit(query) or (found[9] or b"x").endswith(b" "):
         return None
@@ -71,7 +71,7 @@ def read_report(text):
 
 
 def read_line(version, line):
-    """What a line of a series says, its count None where it has none; None where it isn't of that form."""
+    """What a line of a series says, its count None if it has none; None if it isn't in that format."""
     found = LINE.fullmatch(line)
     if not found or not is_number(found[3]) or (found[4] is not None) != (version == 2 and found[1] == b"scan"):
         return None
@@ -96,7 +96,7 @@ def read_certificate(text):
 
 
 def bound(its):
-    """The greatest score of a series, 0 where it has no candidate."""
+    """The greatest score of a series, 0 if it has no candidate."""
     return max((it.score for it in its), default=0)
 
 
@@ -177,7 +177,7 @@ def papers(query_text, stations, daily, version=2):
 
 
 def head_fault(query, asked, rows, other, kth, series):
-    """What is wrong with the papers of a part that can be seen without data, None where nothing is."""
+    """What is wrong with the papers of a part that can be seen without data, None if nothing is."""
     if not asked.text == other.text == query.text:
         return "OtherQuery"
     for i in range(1, len(rows)):
@@ -262,7 +262,7 @@ def read_part(query, number, report, certificate):
 
 
 def merge(query_text, parts):
-    """The answer of `extremes merge`, and the certificate that it writes, None where it writes none."""
+    """The answer of `extremes merge`, and the certificate that it writes, None if it writes none."""
     try:
         query = formats.read_query(query_text)
         read = [read_part(query, number, *it) for number, it in enumerate(parts, 1)]

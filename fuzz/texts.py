@@ -24,7 +24,7 @@ BAD_WORDS = (b"top", b"0", b"1001", b"1000", b"00001", b"366", b"367", b"-1", b"
 DEGREES = (b"30", b"0", b"-0", b"0.9", b"1.0", b"020.5", b"-10.0", b"-29.9", b"100", b"-100")
 GUESSES = (0, 1, 55, -100, 300, 2**31, -2**31)
 
-# A run starts threads from so many bytes of daily files on.
+# A run starts threads from that many bytes of daily files on.
 WORTH_THREADS = 1 << 24
 
 # The least and greatest value of a month, and whether days are missing or flagged.

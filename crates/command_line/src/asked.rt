@@ -5,7 +5,7 @@ use std::alloc::AllocError;
 /// A command of the program.
 #[derive(Debug, Drop)]
 pub enum Command {
-    /// Without words: the ranking of the texts that are built in.
+    /// Without arguments: the ranking of the texts that are built in.
     Sample,
     /// Rank the candidates of a query over files, named by their paths.
     Rank {
@@ -53,9 +53,9 @@ pub struct Part {
 /// Why a command line isn't a command.
 #[derive(Debug, Drop)]
 pub enum CommandFault {
-    /// The words are no command, or ask for help: the text to show.
+    /// The arguments aren't valid, or ask for help: the text to show.
     Words(String),
-    /// The words ask for the version: the text to show.
+    /// The arguments ask for the version: the text to show.
     Version(String),
     /// Memory was refused.
     Memory,

@@ -1,6 +1,6 @@
-//! What the words of a command line ask for.
+//! What the arguments of a command line ask for.
 //!
-//! The words, their help and their faults are read by `clap`. The crate gives the command.
+//! `clap` reads the arguments, and has their help and errors. The crate returns the command.
 #![tactic(auto)]
 
 mod asked;

@@ -1,4 +1,4 @@
-//! Reading the words of a command line.
+//! Reading the arguments of a command line.
 
 ghost use Rattle.std.specs.Prelude.{◌≡◌, ◌≢◌, IfOk, IfErr, [], Ok, map, option_map, unwrap_or, false, string_bytes, length, ◌%◌};
 ghost use Rattle.clap.specs.Words.{app_of, first_of, kind_of, found_of, rows_of, rule_of};
@@ -21,20 +21,20 @@ use clap::error::ErrorKind;
 use clap::{Arg, ArgAction, ArgMatches, Error, value_parser};
 use std::alloc::{AllocError, Global};
 
-/// How many workers there are where the words don't say.
+/// How many workers there are if the arguments don't say.
 const WORKERS: u64 = 4;
 
-/// The command that the words after the program's name ask for: the sample where there is none.
+/// The command that the arguments ask for: the sample if there are none.
 pub fn command(alloc: Global, words: Vec<String>) -> Result<Command, CommandFault>
-    // No words ask for the sample.
+    // No arguments ask for the sample.
     ensures none { words.items ≡ [] → result ≡ Ok commands.Sample }
-    // Other words are a command only where they are right, and it is the one that they name.
+    // Other arguments are a command only if they are valid, and it is the one that they name.
     ensures named { words.items ≢ [] → IfOk result (IsCommandOf (all_words words.items)) }
-    // Right words are refused for want of memory alone.
+    // Valid arguments are refused only if memory runs out.
     ensures right { AreRightWords (all_words words.items) → IfErr result (λ f. f ≡ faults.Memory) }
-    // Words that ask for the version are told it, unless memory is refused.
+    // Arguments that ask for the version get it, unless memory is refused.
     ensures version { words.items ≢ [] → AskVersion (all_words words.items) → IfErr result TellsVersion }
-    // No others are.
+    // No others do.
     ensures asked { IfErr result (OnVersion (MayAskVersion (all_words words.items))) }
 {
     if words.is_empty() {
@@ -43,7 +43,7 @@ pub fn command(alloc: Global, words: Vec<String>) -> Result<Command, CommandFaul
     named_command(alloc, &words)
 }
 
-/// What a refused command line leads to: the text to show, or want of memory.
+/// What a refused command line leads to: the text to show, or out of memory.
 fn fault_of(alloc: Global, error: &Error) -> CommandFault
     ensures memory { kind_of error.now ≡ ErrorKind.OutOfMemory → result ≡ faults.Memory }
     ensures version { kind_of error.now ≡ ErrorKind.DisplayVersion → TellsVersion result }
@@ -62,7 +62,7 @@ fn fault_of(alloc: Global, error: &Error) -> CommandFault
     }
 }
 
-/// The words as one of the commands that they can name, `rank`, `merge`, `check` and `describe`.
+/// The arguments as one of the commands that they can name, `rank`, `merge`, `check` and `describe`.
 fn named_command(alloc: Global, words: &[String]) -> Result<Command, CommandFault>
     ensures ok { IfOk result (IsCommandOf (all_words words.now)) }
     ensures right { AreRightWords (all_words words.now) → IfErr result (λ f. f ≡ faults.Memory) }
@@ -89,7 +89,7 @@ fn named_command(alloc: Global, words: &[String]) -> Result<Command, CommandFaul
     Ok(describe_of(alloc, describe)?)
 }
 
-/// All words, the program's name first.
+/// The program's name, and then all arguments.
 fn with_name<'a>(alloc: Global, words: &'a [String]) -> Result<Vec<&'a str>, AllocError>
     ensures { IfOk result (λ all. map (λ s. s.now) all.items ≡ all_words words.now) }
 {
@@ -119,7 +119,7 @@ fn program<'a>(alloc: Global) -> Result<clap::Command<'a>, AllocError>
         .subcommand(describe_words(alloc)?)
 }
 
-/// The words of `rank`.
+/// The arguments of `rank`.
 fn rank_words<'a>(alloc: Global) -> Result<clap::Command<'a>, AllocError>
     ensures app { IfOk result (λ c. app_of c ≡ rank_app) }
     ensures local { IfOk result (λ c. (fields_of c).has_globals ≡ false) }
@@ -137,7 +137,7 @@ fn rank_words<'a>(alloc: Global) -> Result<clap::Command<'a>, AllocError>
         .arg(many(alloc, "files", "FILE", FILES_HELP))
 }
 
-/// The words of `merge`.
+/// The arguments of `merge`.
 fn merge_words<'a>(alloc: Global) -> Result<clap::Command<'a>, AllocError>
     ensures app { IfOk result (λ c. app_of c ≡ merge_app) }
     ensures local { IfOk result (λ c. (fields_of c).has_globals ≡ false) }
@@ -151,7 +151,7 @@ fn merge_words<'a>(alloc: Global) -> Result<clap::Command<'a>, AllocError>
         .arg(many(alloc, "papers", "PAPERS", PAPERS_HELP))
 }
 
-/// The words of `check`.
+/// The arguments of `check`.
 fn check_words<'a>(alloc: Global) -> Result<clap::Command<'a>, AllocError>
     ensures app { IfOk result (λ c. app_of c ≡ check_app) }
     ensures local { IfOk result (λ c. (fields_of c).has_globals ≡ false) }
@@ -167,7 +167,7 @@ fn check_words<'a>(alloc: Global) -> Result<clap::Command<'a>, AllocError>
         .arg(many(alloc, "files", "FILE", FILES_HELP))
 }
 
-/// The words of `describe`.
+/// The arguments of `describe`.
 fn describe_words<'a>(alloc: Global) -> Result<clap::Command<'a>, AllocError>
     ensures app { IfOk result (λ c. app_of c ≡ describe_app) }
     ensures local { IfOk result (λ c. (fields_of c).has_globals ≡ false) }
@@ -210,7 +210,7 @@ fn flag<'a>(alloc: Global, name: &'a str, help: &'a str) -> Arg<'a>
         .action(ArgAction::SetTrue)
 }
 
-/// What stands behind the options, as many as there are.
+/// What comes after the options, as many as there are.
 fn many<'a>(alloc: Global, name: &'a str, value: &'a str, help: &'a str) -> Arg<'a>
     ensures rule { rule_of result ≡ many_of name.now }
     ensures local { is_global result ≡ false }
@@ -236,7 +236,7 @@ fn rank_of(alloc: Global, matches: &ArgMatches) -> Result<Command, AllocError>
     })
 }
 
-/// The command that the matches of `merge` name, or the fault of papers that don't stand in pairs.
+/// The command that the matches of `merge` name, or the error of a report without its certificate.
 fn merge_of(alloc: Global, matches: &ArgMatches) -> Result<Command, CommandFault>
     ensures ok { IfOk result (IsMerge (rows_of (found_of matches.now))) }
     ensures paired { AreInPairs (rows_of (found_of matches.now)) → IfErr result (λ f. f ≡ faults.Memory) }
@@ -285,7 +285,7 @@ fn text(alloc: Global, matches: &ArgMatches, name: &str) -> Result<String, Alloc
     String::from_str(alloc, matches.get_str(name).unwrap_or(""))
 }
 
-/// The same text, owned, where there is one.
+/// The same text, owned, if there is one.
 fn copy(alloc: Global, text: Option<&str>) -> Result<Option<String>, AllocError>
     ensures { IfOk result (λ copy. option_map (λ s. string_bytes s) copy ≡ option_map (λ s. s.now) text.entry) }
 {

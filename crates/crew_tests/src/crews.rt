@@ -14,7 +14,7 @@ use std::alloc::Global;
 use std::sync::Wait;
 use std::thread::Threads;
 
-/// The first number of workers, from 1 to 64, that don't answer what one answers alone.
+/// The first number of workers, from 1 to 64, that don't return what one returns alone.
 fn first_to_differ<R: Threads + Wait + Sync>(
     rt: &R,
     alloc: Global,
@@ -55,7 +55,7 @@ fn one_to_sixty_four_workers(rt: HostRuntime) {
     }
 }
 
-/// The lines of one worker's answer over the usual values, and how many skips are taken back.
+/// The lines of one worker's answer over the usual values, and how many skips are undone.
 fn guessed<R: Threads + Wait + Sync>(
     rt: &R,
     alloc: Global,

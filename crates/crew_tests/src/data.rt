@@ -1,6 +1,6 @@
 //! Plans over three stations, which tests rank by many workers.
 //!
-//! Data, plans and answers live in helpers that answer plain facts, and nothing where memory is
+//! Data, plans and answers live in helpers that return plain facts, and nothing if memory is
 //! refused: a test that holds them is dear to prove.
 
 ghost use Rattle.std.specs.Prelude.{◌<◌, ◌≤◌, IfSome};
@@ -51,7 +51,7 @@ pub(crate) fn read(alloc: Global, list: &[u8], text: &[u8]) -> Option<Data> {
     Data::read(alloc, stations, &[text]).ok()
 }
 
-/// The data of these values, where memory is there.
+/// The data of these values, if memory is there.
 pub(crate) fn data_of(alloc: Global, values: &Values) -> Option<Data> {
     let mut text = String::new(alloc);
     push_july(&mut text, "ZZA00000001", 2020, values[0]).ok()?;
@@ -63,7 +63,7 @@ pub(crate) fn data_of(alloc: Global, values: &Values) -> Option<Data> {
 /// The bounds of the lines of three morsels, and which of them are skips.
 pub(crate) type Lines = [(i64, bool); 3];
 
-/// The lines of an answer, where they are three.
+/// The lines of an answer, if they are three.
 pub(crate) fn lines_of(answer: &Answer) -> Option<Lines> {
     match answer.lines.as_slice() {
         [one, two, three] => Some([
@@ -75,7 +75,7 @@ pub(crate) fn lines_of(answer: &Answer) -> Option<Lines> {
     }
 }
 
-/// The answer of so many workers, who measured the plan too.
+/// The answer of that many workers, who measured the plan too.
 pub(crate) fn answer_of<R: Threads + Wait + Sync, G: Gate + Sync>(
     rt: &R,
     alloc: Global,

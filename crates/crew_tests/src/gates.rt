@@ -213,7 +213,7 @@ impl Gate for FirstLast {
     }
 }
 
-/// The floor that the record of a morsel saw, where there is such a record.
+/// The floor that the record of a morsel saw, if there is such a record.
 fn seen_at(answer: &Answer, morsel: u64) -> Option<Option<i64>> {
     for record in &answer.records {
         if record.morsel == morsel {

@@ -1,7 +1,7 @@
-//! Boards and crews of which `examples/grow` refuses one growth of memory after the other.
+//! Boards and crews of which `examples/grow` refuses one allocation after the other.
 //!
-//! A test prints `memory` where the call that it is about met the refusal, and `answered` where it
-//! answered what it has to. It prints nothing where what is made beforehand met it.
+//! A test prints `memory` if the call that it is about met the refusal, and `answered` if it
+//! returned what it has to. It prints nothing if what is made beforehand met it.
 
 ghost use Rattle.std.specs.Prelude.{◌+◌, ◌≤◌, length};
 ghost use Rattle.rank_board.specs.Seats.{rights_of, IsSeatOf};
@@ -32,7 +32,7 @@ fn a_board_for_eight_claims(rt: HostRuntime) -> Result<(), Fail> {
     Ok(())
 }
 
-/// Tells whether a call was answered, which answers what it has to if so.
+/// Prints whether a call returned, and then it has to have returned what it has to.
 fn tell<R: Abort + Print>(rt: &R, found: Option<Result<bool, Memory>>) -> Result<(), Fail> {
     match found {
         None => {}
@@ -58,7 +58,7 @@ fn a_survey_of_four_workers(rt: HostRuntime) -> Result<(), Fail> {
     tell(&rt, surveyed(&rt, rt.alloc()))
 }
 
-/// Whether four workers answer the best of the usual values.
+/// Whether four workers return the best of the usual values.
 fn answered<R: Threads + Wait + Sync>(rt: &R, alloc: Global) -> Option<Result<bool, Memory>> {
     let data = data_of(alloc, &USUAL)?;
     let plan = plan_of(alloc, &data)?;
@@ -71,7 +71,7 @@ fn a_crew_of_four_workers(rt: HostRuntime) -> Result<(), Fail> {
     tell(&rt, answered(&rt, rt.alloc()))
 }
 
-/// One worker of a plan: its seat, and how many records it has, where it found memory.
+/// One worker of a plan: its seat, and how many records it has, if it found memory.
 fn home_of<R: Wait>(
     rt: &R,
     alloc: Global,
@@ -97,7 +97,7 @@ struct Left {
     next: u64,
     /// How many rights to a claim aren't used.
     rights: u64,
-    /// Of each worker how many records it has, where it found memory.
+    /// Of each worker how many records it has, if it found memory.
     records: (Option<usize>, Option<usize>),
 }
 

@@ -17,7 +17,7 @@ pub enum Delivery {
     ReportFailed,
 }
 
-/// Writes the certificate, where it is wanted, and then the report.
+/// Writes the certificate, if it is wanted, and then the report.
 ///
 /// A write that fails, or takes no byte, isn't tried again. It takes no memory.
 pub fn deliver<C: Write, R: Write>(

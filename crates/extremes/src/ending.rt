@@ -10,7 +10,7 @@ pub enum Ending {
     Done,
     /// The input was refused, or the papers were.
     Refused,
-    /// The words were no command, or asked for help.
+    /// The arguments weren't valid, or asked for help.
     Words,
     /// A file couldn't be read or written.
     File,

@@ -54,7 +54,7 @@ pub(crate) struct Describing {
     pub(crate) files: Vec<String>,
 }
 
-/// Reads the station list and then the daily files in order, and ranks them, or answers the path of
+/// Reads the station list and then the daily files in order, and ranks them, or returns the path of
 /// the first file that can't be read.
 pub(crate) fn rank_files<'p, R: Threads + Wait + AllocGlobal + Sync, A: Archive>(
     rt: &R,
@@ -95,7 +95,7 @@ fn rank_fed<R: Threads + Wait + AllocGlobal + Sync>(
     }
 }
 
-/// Reads the papers of the parts in order, and merges them, or answers the path of the first paper
+/// Reads the papers of the parts in order, and merges them, or returns the path of the first paper
 /// that can't be read.
 pub(crate) fn merge_files<'p, A: Archive>(
     alloc: Global,
@@ -112,7 +112,7 @@ pub(crate) fn merge_files<'p, A: Archive>(
     Ok(merge_texts(alloc, query, texts.as_slice()))
 }
 
-/// Reads the papers of the parts in order into a list that has room for them, or answers the path of
+/// Reads the papers of the parts in order into a list that has room for them, or returns the path of
 /// the first paper that can't be read.
 fn read_parts<'p, A: Archive>(
     alloc: Global,
@@ -133,7 +133,7 @@ fn read_parts<'p, A: Archive>(
     Ok(())
 }
 
-/// Reads both papers of a part, the report first, or answers the path of the one that can't be read.
+/// Reads both papers of a part, the report first, or returns the path of the one that can't be read.
 fn read_part<'p, A: Archive>(
     alloc: Global,
     archive: &A,
@@ -155,8 +155,8 @@ fn read_part<'p, A: Archive>(
 }
 
 /// Reads the station list, the report, the certificate and then the daily files in order, and judges
-/// the papers, as those of a whole of which the files are a part where that is so; beside it stand the
-/// foreign files. Or answers the path of the first file that can't be read.
+/// the papers, as those of a whole of which the files are a part if that is so; beside it stand the
+/// foreign files. Or returns the path of the first file that can't be read.
 pub(crate) fn judge_files<'p, A: Archive>(
     alloc: Global,
     archive: &A,
@@ -182,7 +182,7 @@ pub(crate) fn judge_files<'p, A: Archive>(
     ))
 }
 
-/// Reads the station list and then the daily files in order, and describes them, or answers the path
+/// Reads the station list and then the daily files in order, and describes them, or returns the path
 /// of the first file that can't be read.
 pub(crate) fn describe_files<'p, A: Archive>(
     alloc: Global,

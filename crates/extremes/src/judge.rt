@@ -21,10 +21,10 @@ use rank_parts::{PartVerdict, check_part, part_verdict_of_one_element};
 use rank_query::Query;
 use std::alloc::Global;
 
-/// Judges a report and a certificate of a query over a station list and daily files, whoever made
-/// them: accepted exactly where the report is the right one and the certificate a right one.
+/// Checks a report and a certificate of a query, whatever program made them, over a station list and
+/// daily files: accepted if and only if the report is the right one and the certificate a right one.
 ///
-/// The files are the texts of `ghcnd-stations.txt` and of `.dly` files, uncompressed. A fault is the
+/// The files are the texts of `ghcnd-stations.txt` and of `.dly` files, uncompressed. An error is the
 /// first in the order: query, stations, number of files, files and lines in order.
 pub fn judge(
     alloc: Global,
@@ -47,9 +47,9 @@ pub fn judge(
 /// Judges a report and a certificate of a whole archive over the station list and the daily files of
 /// some of its stations, as far as these show.
 ///
-/// The papers are right for the whole where each part accepts them, the numbers of the parts' series
+/// The papers are right for the whole if each part accepts them, the numbers of the parts' series
 /// add up to that of the certificate's lines, no station is in two parts and the files together have
-/// no fault. Files and faults are those of `judge`.
+/// no error. Files and errors are those of `judge`.
 pub fn judge_part(
     alloc: Global,
     stations: &[u8],
@@ -71,8 +71,8 @@ pub fn judge_part(
     Ok(verdict)
 }
 
-/// Judges papers over what was given: as `judge_part` does where that is a part of their files, and
-/// as `judge` does where it isn't. Beside it stand the foreign files.
+/// Judges papers over what was given: as `judge_part` does if that is a part of their files, and
+/// as `judge` does if it isn't. Beside it stand the foreign files.
 pub fn judge_as(
     alloc: Global,
     intake: Intake,
@@ -128,7 +128,7 @@ fn judge_dataset(
         ↔ (IsRightReportFor query.now dataset.now report.now
         × (version : ℕ) × IsRightCertificateFor version query.now dataset.now certificate.now)) }
 {
-    // `check` tells of papers over the data, and the law what these are by what is best.
+    // `check` says of papers what they are over the data, and the law what these are by what is best.
     papers_are_found();
     let (_stations, _k) = (dataset.stations(), query.k());
     check(alloc, dataset, query, report, certificate)

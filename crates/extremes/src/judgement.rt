@@ -31,7 +31,7 @@ impl fmt::Display for Judgement {
     }
 }
 
-/// How a run ends that answers this judgement.
+/// How a run ends that returns this judgement.
 pub fn ending(judgement: &Judgement) -> Ending
     ensures { result ≡ ending_of judgement.now }
 {

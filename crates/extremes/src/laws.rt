@@ -8,24 +8,24 @@ use rank_papers::{papers_are_found, papers_are_said};
 use rank_parts::parts_make_the_whole;
 use rank_query::queries_have_texts;
 
-/// The papers that a ranking answers are accepted where they are judged on the same texts.
+/// The papers that a ranking returns are accepted if they are judged on the same texts.
 pub fn answers_are_accepted()
     ensures { AnswersAreAccepted }
 {}
 
-/// Where each part's papers are what a ranking answers to its files, with one station list and one
-/// query, what is merged of them has the report that a ranking answers to all files, byte for byte,
+/// If each part's papers are what a ranking returns for its files, with one station list and one
+/// query, what is merged of them has the report that a ranking returns for all files, byte for byte,
 /// and a certificate that is right for all files.
 pub fn merged_is_ranked()
     ensures { MergedIsRanked }
 {
-    // What is right for data is right for what lines say, as parts and their merging tell it.
+    // What is right for data is right for what lines say, as parts and their merging say it.
     papers_are_found();
     papers_are_said();
 }
 
 /// Papers that the files of each part accept are right for the files of all parts, one part after the
-/// other, where these have no fault together, no station has an admitted day in two parts, and the
+/// other, if these have no error together, no station has an admitted day in two parts, and the
 /// numbers of the parts' series add up to that of the certificate's lines.
 pub fn parts_judge_the_whole()
     ensures { PartsJudgeTheWhole }

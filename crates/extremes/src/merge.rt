@@ -12,7 +12,7 @@ use rank_query::{Query, QueryFault};
 use std::alloc::{AllocError, Global};
 use thiserror::Error;
 
-/// Why nothing is merged: the query's fault, or the first fault of the parts.
+/// Why nothing is merged: the query's error, or the first error of the parts.
 #[derive(Clone, Copy, Debug, PartialEq, Eq, Error)]
 pub enum MergingFault {
     #[error(transparent)]
@@ -62,10 +62,10 @@ pub struct PartTexts {
     pub certificate: Vec<u8>,
 }
 
-/// Merges the papers of parts for a query, whoever ranked them.
+/// Merges the papers of parts for a query, whatever program ranked them.
 ///
 /// The papers are right for all files if those of each part are right for its files, with one
-/// station list, and the files together have no fault. A fault is the first in the order: query,
+/// station list, and the files together have no error. An error is the first in the order: query,
 /// parts in order, IDs on two lines.
 pub fn merge_texts(alloc: Global, query: &str, parts: &[PartTexts]) -> Result<Papers, MergingFault>
     ensures ok { IfOk result (AreMerged query.now (texts_of parts.now)) }

@@ -18,7 +18,7 @@ use std::io;
 use std::io::Write;
 use std::rt::Files;
 
-/// Prints what a ranking of files answers, and then frees its data.
+/// Prints what a ranking of files returns, and then frees its data.
 pub(crate) fn print_ranked<R: Files + Eprint, W: Write>(
     rt: &R,
     ranked: Ranked,
@@ -73,7 +73,7 @@ pub(crate) fn print_text<R: Eprint, W: Write>(rt: &R, text: &[u8], out: &mut W) 
     }
 }
 
-/// Says how many of the files are foreign, and names the first of them by its path, where there is
+/// Says how many of the files are foreign, and names the first of them by its path, if there is
 /// one.
 fn tell_foreign<R: Eprint>(rt: &R, foreign: Foreign, files: &[String]) {
     let Foreign { count, first } = foreign;
@@ -84,8 +84,8 @@ fn tell_foreign<R: Eprint>(rt: &R, foreign: Foreign, files: &[String]) {
     }
 }
 
-/// Prints the papers behind a word on what was passed over, or tells the fault. The certificate
-/// goes to the file of a path, where one is named, and the report behind it.
+/// Prints the papers after a word on what was skipped, or prints the error. The certificate
+/// goes to the file of a path, if one is named, and the report after it.
 pub fn print_answer<R: Files + Eprint, W: Write, F: Display + Drop>(
     rt: &R,
     answer: Result<Papers, F>,
@@ -109,7 +109,7 @@ pub fn print_answer<R: Files + Eprint, W: Write, F: Display + Drop>(
     }
 }
 
-/// Writes the certificate into the file of a path, where one is named, and then the report.
+/// Writes the certificate into the file of a path, if one is named, and then the report.
 fn write_papers<R: Files, W: Write>(
     rt: &R,
     papers: &Papers,
@@ -127,7 +127,7 @@ fn write_papers<R: Files, W: Write>(
     }
 }
 
-/// Prints the text of a description of files, or tells the fault.
+/// Prints the text of a description of files, or prints the error.
 pub(crate) fn print_description<R: Eprint, W: Write>(
     rt: &R,
     described: Result<DescriptionText, Fault>,
@@ -145,7 +145,7 @@ pub(crate) fn print_description<R: Eprint, W: Write>(
     }
 }
 
-/// Prints what is said of papers over files, or tells the fault.
+/// Prints what is said of papers over files, or prints the error.
 pub(crate) fn print_judgement<R: Eprint, W: Write>(
     rt: &R,
     judged: Result<(Judgement, Foreign), Fault>,

@@ -32,8 +32,8 @@ use std::thread::Threads;
 /// The files are the texts of `ghcnd-stations.txt` and of `.dly` files, uncompressed. The guess is
 /// a score, in the raw unit of the data, that the k-th best is supposed to reach: a good one saves
 /// work, and a wrong one changes nothing in the report. The report is that of `rank_serial`,
-/// whatever the number of workers and the order of their steps; which series are passed over
-/// depends on both. The workers call the gate. A fault is the first in the order: number of
+/// whatever the number of workers and the order of their steps; which series are skipped
+/// depends on both. The workers call the gate. An error is the first in the order: number of
 /// workers, guess, query, stations, number of files, files and lines in order.
 pub fn rank<R: Threads + Wait + AllocGlobal + Sync, G: Gate + Sync>(
     rt: &R,
@@ -58,13 +58,13 @@ pub fn rank<R: Threads + Wait + AllocGlobal + Sync, G: Gate + Sync>(
     rank_intake(rt, intake, workers, guess, gate).answer
 }
 
-/// What a ranking answers, and the data that it ranked.
+/// What a ranking returns, and the data that it ranked.
 #[derive(Drop)]
 pub struct Ranked {
     pub answer: Result<Papers, Fault>,
-    /// Which of the files are foreign: none where there was a fault.
+    /// Which of the files are foreign: none if there was an error.
     pub foreign: Foreign,
-    /// Nothing where there was a fault in what was given. To free many series takes a while, so a
+    /// Nothing if there was an error in what was given. To free many series takes a while, so a
     /// caller may use the answer first.
     pub dataset: Option<Data>,
 }
@@ -109,7 +109,7 @@ pub fn rank_intake<R: Threads + Wait + AllocGlobal + Sync, G: Gate + Sync>(
     }
 }
 
-/// What a ranking answers that has no data.
+/// What a ranking returns that has no data.
 pub(crate) fn without_data(fault: Fault) -> Ranked
     ensures { result.answer ≡ Err fault }
 {
@@ -125,7 +125,7 @@ pub(crate) fn without_data(fault: Fault) -> Ranked
 ///
 /// The files are the texts of `ghcnd-stations.txt` and of `.dly` files, uncompressed. The guess is
 /// a score, in the raw unit of the data, that the k-th best is supposed to reach: a good one saves
-/// work, and a wrong one changes nothing in the report. A fault is the first in the order: guess,
+/// work, and a wrong one changes nothing in the report. An error is the first in the order: guess,
 /// query, stations, number of files, files and lines in order.
 pub fn rank_serial(
     alloc: Global,
@@ -152,12 +152,12 @@ pub fn rank_serial(
     Ok(ranked_alone(alloc, &taken.dataset, &taken.query, guess)?)
 }
 
-/// What `rank_serial` answers is an exact function of the input: two reports, two certificates and
+/// What `rank_serial` returns is an exact function of the input: two reports, two certificates and
 /// two numbers of lines of unlisted stations are the same.
 pub fn serial_papers_are_one()
     ensures { SerialPapersAreOne }
 {
-    // The report is that of the best, and the one run of one worker tells the certificate.
+    // The report is that of the best, and the one run of one worker fixes the certificate.
     papers_are_found();
     runs_are_sound();
 }
@@ -208,7 +208,7 @@ fn ranked_by_crew<R: Threads + Wait + AllocGlobal + Sync, G: Gate + Sync>(
     Ok(papers_of(rt.alloc(), &plan, &answer, dataset.unlisted())?)
 }
 
-/// The papers of a plan's answer, and how many lines were passed over.
+/// The papers of a plan's answer, and how many lines were skipped.
 fn papers_of(
     alloc: Global,
     plan: &Plan<'_>,

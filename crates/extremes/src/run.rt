@@ -1,4 +1,4 @@
-//! A run of the program: reads its words, and does what they ask for.
+//! A run of the program: reads its arguments, and does what they ask for.
 
 ghost use Rattle.std.specs.Prelude.{map};
 ghost use Rattle.extremes.specs.Commands.{IsCommandRun, RunsRanking, RunsMerge, RunsJudging, RunsDescribing};
@@ -27,7 +27,7 @@ use std::sync::Wait;
 use std::thread::Threads;
 use std::{env, io};
 
-/// Runs the command that the process's words ask for.
+/// Runs the command that the process's arguments ask for.
 pub fn run<R: Files + Env + Print + Eprint + Threads + Wait + AllocGlobal + Sync>(
     rt: &R,
 ) -> Ending {
@@ -109,7 +109,7 @@ fn run_command<R: Files + Eprint + Threads + Wait + AllocGlobal + Sync, A: Archi
 }
 
 /// Ranks files that are named, and prints the report. The certificate goes to the file of a path,
-/// where one is named.
+/// if one is named.
 fn run_ranking<R: Files + Eprint + Threads + Wait + AllocGlobal + Sync, A: Archive, W: Write>(
     rt: &R,
     archive: &A,
@@ -133,7 +133,7 @@ fn run_ranking<R: Files + Eprint + Threads + Wait + AllocGlobal + Sync, A: Archi
 }
 
 /// Merges the papers of parts that are named, and prints the report. The certificate goes to the
-/// file of a path, where one is named.
+/// file of a path, if one is named.
 fn run_merge<R: Files + Eprint + AllocGlobal, A: Archive, W: Write>(
     rt: &R,
     archive: &A,
@@ -201,7 +201,7 @@ fn words_after_name<R: Env + AllocGlobal>(rt: &R) -> io::Result<Vec<String>> {
     Ok(words)
 }
 
-/// Tells why there are no words: memory was refused, or one of them isn't text.
+/// Prints why there are no arguments: memory was refused, or one of them isn't text.
 fn no_words<R: Eprint>(rt: &R, error: &io::Error) -> Ending {
     if error.kind() == io::ErrorKind::OutOfMemory {
         return refused(rt, Fault::Memory(Memory));

@@ -1,4 +1,4 @@
-//! The texts that the program ranks without words: one station with one value.
+//! The texts that the program ranks without arguments: one station with one value.
 
 /// A station list of one station.
 pub const STATIONS: &[u8] = b"ZZA00000001  10.0000   20.0000  100.0    ALPHA\n";

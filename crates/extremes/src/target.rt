@@ -26,7 +26,7 @@ pub(crate) fn is_paper_or_output<R: Files>(rt: &R, out: &str, parts: &[Part]) ->
 }
 
 /// Whether two paths name one file that writing would change: by what the system says of both, or by the
-/// paths as given where it says nothing. Devices and pipes keep nothing.
+/// paths as given if it says nothing. Devices and pipes keep nothing.
 fn is_same<R: Files>(rt: &R, out: &str, node: &Option<Metadata>, path: &str) -> bool {
     match (node, fs::metadata(rt, path)) {
         (Some(one), Ok(other)) => {

@@ -18,7 +18,7 @@ pub struct Description {
     pub elements: [ElementCounts; 5],
     /// The least codes that are none of the five elements', by increasing bytes.
     pub others: Vec<CodeCount>,
-    /// How many lines have a code behind those.
+    /// How many lines have a code after those.
     pub further: u64,
     /// How many lines of the five elements are of stations that aren't listed.
     pub unlisted: u64,
@@ -38,7 +38,7 @@ pub struct ElementCounts {
     pub days: u64,
     /// How many values a quality check flagged.
     pub flagged: u64,
-    /// The first and the last usable day, where there is one.
+    /// The first and the last usable day, if there is one.
     pub span: Option<Span>,
 }
 
@@ -57,7 +57,7 @@ pub struct CodeCount {
     pub lines: u64,
 }
 
-/// A number and so many more. A count that 64 bits can't hold is want of memory.
+/// A number and that many more. A count that 64 bits can't hold is reported as out of memory.
 pub(crate) fn sum(number: u64, more: u64) -> Result<u64, Memory>
     ensures { IfOk result (λ all. all ≡ number + more) }
 {

@@ -102,7 +102,7 @@ impl Describer {
         })
     }
 
-    /// What so many files hold, of whose lines these are the counts.
+    /// What that many files hold, of whose lines these are the counts.
     pub(crate) fn finish(self, files: u64, counts: &LineCounts) -> Description
         ensures { Finishes self files counts.now result }
     {
@@ -120,7 +120,7 @@ impl Describer {
         }
     }
 
-    /// Adds the month of a line, or answers false where its station is listed and has that month already.
+    /// Adds the month of a line, or returns false if its station is listed and has that month already.
     #[inline(always)]
     fn add_month(&mut self, alloc: Global, line: &[u8], row: &MonthRow) -> Result<bool, Memory>
         requires row { IsOfLine All line.now row.now }
@@ -138,7 +138,7 @@ impl Describer {
         Ok(true)
     }
 
-    /// Counts a month of the station at a place of the list, with so many flagged values.
+    /// Counts a month of the station at a place of the list, with that many flagged values.
     fn count(&mut self, place: usize, row: &MonthRow, flagged: u32) -> Result<(), Memory>
         requires place { place < length self.old.with_days.items }
         requires right { IsOfMonth true row.now }
@@ -154,7 +154,7 @@ impl Describer {
     }
 }
 
-/// The fault of a line.
+/// The error of a line.
 fn refused(file: u64, line: u64, why: DailyWhy) -> DataFault
     ensures { result ≡ DataFault.DailyLine file line why }
 {

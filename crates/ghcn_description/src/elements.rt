@@ -30,7 +30,7 @@ impl ElementCounts {
         }
     }
 
-    /// Counts a month of a listed station with so many flagged values, and whether it has the first usable day of its
+    /// Counts a month of a listed station with that many flagged values, and whether it has the first usable day of its
     /// series.
     pub(crate) fn add(&mut self, row: &MonthRow, flagged: u32, is_new: bool) -> Result<(), Memory>
         requires { IsOfMonth true row.now }
@@ -72,14 +72,14 @@ pub(crate) fn place_of(element: Element) -> usize
     }
 }
 
-/// One where it is so, and else nothing.
+/// One if it is so, and otherwise nothing.
 fn one_if(so: bool) -> u64
     ensures { result ≡ (if so then 1 else 0) }
 {
     so as u64
 }
 
-/// The first and the last usable day of a month, where it has one.
+/// The first and the last usable day of a month, if it has one.
 fn span_of(row: &MonthRow) -> Option<Span>
     requires { IsOfMonth true row.now }
     ensures { OfMonth true row.now (λ m. IsSpan (days_of_month m) result) }
@@ -101,7 +101,7 @@ fn day_at(row: &MonthRow, place: u32) -> Option<Day>
     Day::of(row.year, row.month, place as u8 + 1)
 }
 
-/// The day so many days behind one.
+/// The day that many days after one.
 fn day_behind(day: Day, days: u32) -> Option<Day>
     requires { days < 32 }
     ensures { result ≡ day_if (day +ℤ pos days) }

@@ -11,8 +11,8 @@ use ghcn_files::Stations;
 use ghcn_series::{Cutter, DataFault};
 use std::alloc::Global;
 
-/// Describes daily files in their order, each in pieces that may end anywhere. The first fault is kept, and told at
-/// the end: lines that come behind it aren't looked at, but their files are counted.
+/// Describes daily files in their order, each in pieces that may end anywhere. The first error is kept, and reported at
+/// the end: lines that come after it aren't looked at, but their files are counted.
 #[derive(Drop)]
 pub struct FileDescriber {
     cutter: Cutter<RowDescriber>,
@@ -42,7 +42,7 @@ impl FileDescriber {
         self.cutter.piece(bytes);
     }
 
-    /// Ends the current file, even where it is empty.
+    /// Ends the current file, even if it is empty.
     pub fn end_of_file(&mut self)
         requires { describing.HasFedSome self.old }
         ensures fed { describing.EndsFile self.old self.new }
@@ -51,8 +51,8 @@ impl FileDescriber {
         self.cutter.end_of_file();
     }
 
-    /// What the files hold that were fed, or their first fault: too many files come before the fault of a line. The
-    /// current file is ended where it has a byte.
+    /// What the files hold that were fed, or their first error: too many files come before the error of a line. The
+    /// current file is ended if it has a byte.
     pub fn finish(self) -> Result<Description, DataFault>
         requires { describing.HasFedSome self }
         ensures ok { IfOk result (describing.HoldsFed self) }

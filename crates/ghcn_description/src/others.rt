@@ -25,7 +25,7 @@ const CODE: usize = 17;
 pub(crate) struct Others {
     /// By increasing bytes.
     counts: Vec<CodeCount>,
-    /// How many lines have a code behind those.
+    /// How many lines have a code after those.
     further: u64,
 }
 
@@ -70,7 +70,7 @@ impl Others {
         Ok(())
     }
 
-    /// Lets the last code leave, where as many are named as may be.
+    /// Lets the last code leave, if as many are named as may be.
     fn make_room(&mut self) -> Result<(), Memory>
         ensures { OnOk result (MakesRoom self.old self.new) }
     {
@@ -83,7 +83,7 @@ impl Others {
         }
     }
 
-    /// Counts so many lines whose code isn't named.
+    /// Counts that many lines whose code isn't named.
     fn pass_over(&mut self, lines: u64) -> Result<(), Memory>
         ensures further { OnOk result (self.new.further ≡ self.old.further + lines) }
         ensures counts { self.new.counts ≡ self.old.counts }
@@ -92,7 +92,7 @@ impl Others {
         Ok(())
     }
 
-    /// The codes with their numbers of lines, and how many lines have a code behind those.
+    /// The codes with their numbers of lines, and how many lines have a code after those.
     pub(crate) fn finish(self) -> (Vec<CodeCount>, u64)
         ensures counts { result.0 ≡ self.counts }
         ensures further { result.1 ≡ self.further }
@@ -128,7 +128,7 @@ fn make_visible(text: &mut [u8])
     }
 }
 
-/// The byte, or a question mark where it can't be seen.
+/// The byte, or a question mark if it can't be seen.
 fn visible(byte: u8) -> u8
     ensures { result ≡ shown byte }
 {

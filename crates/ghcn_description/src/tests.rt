@@ -37,7 +37,7 @@ blank lines 1
 end
 ";
 
-/// So many lines and flagged values of an element, and no usable day.
+/// That many lines and flagged values of an element, and no usable day.
 fn without_days(element: Element, lines: u64, flagged: u64) -> ElementCounts {
     ElementCounts {
         element,
@@ -49,7 +49,7 @@ fn without_days(element: Element, lines: u64, flagged: u64) -> ElementCounts {
     }
 }
 
-/// Files with so many lines of further codes.
+/// Files with that many lines of further codes.
 fn described(alloc: Global, further: u64) -> Result<Description, Memory> {
     let mut others = Vec::new(alloc);
     others.push(CodeCount {
@@ -89,7 +89,7 @@ fn span_of() -> Option<Span> {
     })
 }
 
-/// Whether files with so many lines of further codes have this text, where memory is there.
+/// Whether files with that many lines of further codes have this text, if memory is there.
 fn has_text(alloc: Global, further: u64, text: &[u8]) -> Result<bool, Memory> {
     let written = described(alloc, further)?.text(alloc)?;
     Ok(written.as_slice() == text)

@@ -7,7 +7,7 @@
 //! lines N
 //! element CODE lines N series N days N flagged N from DAY to DAY   for each of the five elements
 //! other CODE lines N                                               for each other code
-//! others lines N                                                   where there are more codes
+//! others lines N                                                   if there are more codes
 //! unlisted lines N
 //! blank lines N
 //! end
@@ -81,7 +81,7 @@ fn push_days(text: &mut Vec<u8>, span: &Span) -> Result<(), Memory>
     push_day(text, b" to ", span.last)
 }
 
-/// Adds a word and a day behind it.
+/// Adds a word and a day after it.
 fn push_day(text: &mut Vec<u8>, word: &[u8], day: Day) -> Result<(), Memory>
     ensures { OnOk result (text.new.items ≡ text.old.items ++ texts.dated word.now day) }
 {
@@ -108,7 +108,7 @@ fn push_code(text: &mut Vec<u8>, count: &CodeCount) -> Result<(), Memory>
     push_count(text, b" lines ", count.lines)
 }
 
-/// Adds how many lines have further codes, where there are any.
+/// Adds how many lines have further codes, if there are any.
 fn push_further(text: &mut Vec<u8>, lines: u64) -> Result<(), Memory>
     ensures { OnOk result (text.new.items ≡ text.old.items ++ texts.further_line lines) }
 {
@@ -118,7 +118,7 @@ fn push_further(text: &mut Vec<u8>, lines: u64) -> Result<(), Memory>
     push_count(text, b"\nothers lines ", lines)
 }
 
-/// Adds a word and a number behind it.
+/// Adds a word and a number after it.
 fn push_count(text: &mut Vec<u8>, word: &[u8], number: u64) -> Result<(), Memory>
     ensures { OnOk result (text.new.items ≡ text.old.items ++ texts.counted_text word.now number) }
 {

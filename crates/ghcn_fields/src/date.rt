@@ -27,7 +27,7 @@ pub fn write_date(day: Day) -> [u8; 10]
     ]
 }
 
-/// The day whose text the bytes are, or `None` where they are the text of no day.
+/// The day whose text the bytes are, or `None` if they are the text of no day.
 pub fn read_date(text: &[u8]) -> Option<Day>
     ensures value { result ≡ dates.read_date text.now }
     ensures written { (day : ℤ) →

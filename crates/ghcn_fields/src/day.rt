@@ -33,7 +33,7 @@ impl Model for Day {
 }
 
 impl Day {
-    /// The day of this year, month and day of the month, or `None` where the calendar has none.
+    /// The day of this year, month and day of the month, or `None` if the calendar has none.
     pub fn of(year: u16, month: u8, day: u8) -> Option<Self>
         ensures value { result ≡ day_number year month day }
         ensures date { IfSome result (λ found. dates.civil found ≡ (year, month, day)) }

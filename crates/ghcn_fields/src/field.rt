@@ -37,7 +37,7 @@ pub fn int_field(field: &[u8]) -> Field
     }
 }
 
-/// Reads a decimal number as so many units of its last place, of `places` places: blanks, an
+/// Reads a decimal number as that many units of its last place, of `places` places: blanks, an
 /// optional `-`, digits, and then, up to the last column, optionally a point and 1 to `places` digits.
 pub fn scaled_field(field: &[u8], places: u8) -> Field
     requires { places ≤ 4 }
@@ -64,7 +64,7 @@ pub fn after_blanks(field: &[u8]) -> &[u8]
     rest
 }
 
-/// The number that digits write, where it is at most `GREATEST`.
+/// The number that digits write, if it is at most `GREATEST`.
 pub(crate) fn small_natural(digits: &[u8]) -> Option<u64>
     ensures { result ≡ numbers.up_to (2 ^ 31) (numbers.natural digits.now) }
 {
@@ -84,7 +84,7 @@ pub(crate) fn small_natural(digits: &[u8]) -> Option<u64>
     Some(value)
 }
 
-/// The decimal number that a text writes, in units of its last place, where it is at most `GREATEST`.
+/// The decimal number that a text writes, in units of its last place, if it is at most `GREATEST`.
 fn small_decimal(text: &[u8], places: u8) -> Option<u64>
     requires { places ≤ 4 }
     ensures { result ≡ numbers.up_to (2 ^ 31) (numbers.decimal_number places text.now) }
@@ -95,7 +95,7 @@ fn small_decimal(text: &[u8], places: u8) -> Option<u64>
     }
 }
 
-/// The number of the digits before the point of a text, or of all where it has none, where it is at most `GREATEST`;
+/// The number of the digits before the point of a text, or of all if it has none, if it is at most `GREATEST`;
 /// and what follows these digits.
 fn whole_part(text: &[u8]) -> Option<(u64, &[u8])>
     ensures number { option_map (λ found. found.0) result
@@ -131,7 +131,7 @@ fn begins_with_digit(text: &[u8]) -> bool
     }
 }
 
-/// The number with this whole part and these digits behind its point, in units of the last place.
+/// The number with this whole part and these digits after its point, in units of the last place.
 fn small_joined(whole: u64, part: &[u8], places: u8) -> Option<u64>
     requires few { places ≤ 4 }
     requires small { whole ≤ 2 ^ 31 }
@@ -145,7 +145,7 @@ fn small_joined(whole: u64, part: &[u8], places: u8) -> Option<u64>
     small(whole * units(places) + small_natural(part)? * units(missing))
 }
 
-/// How many units of the last of so many places are one.
+/// How many units of the last of that many places are one.
 fn units(places: u8) -> u64
     requires { places ≤ 4 }
     ensures units { result ≡ 10 ^ places }

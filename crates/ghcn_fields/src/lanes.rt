@@ -1,6 +1,6 @@
 //! Number fields of five columns, tested sixteen columns at a time.
 //!
-//! A field is blank or a number where each of its bytes may stand where it does: a blank before
+//! A field is blank or a number if each of its bytes may stand where it does: a blank before
 //! any byte and at the end, a minus before a digit, a digit before a digit and at the end.
 
 ghost use Rattle.std.specs.Prelude.{◌≡◌, ◌<◌, ◌||◌, not, length, take, drop};
@@ -33,7 +33,7 @@ pub fn has_bad_field(columns: &[u8; 16]) -> bool
     !are_set(good_columns(columns))
 }
 
-/// Tests the columns of two such fields: a lane of a field has all its bits where its column may stand where it
+/// Tests the columns of two such fields: a lane of a field has all its bits if its column may stand where it
 /// does. Lanes of several columns are joined by `&`, and tested together by `are_set`.
 #[inline(always)]
 pub fn good_columns(columns: &[u8; 16]) -> u8x16
@@ -53,7 +53,7 @@ pub fn good_columns(columns: &[u8; 16]) -> u8x16
     blanks | (digits | minuses) & before_digits
 }
 
-/// The same test as `good_columns` in fewer steps: a lane of a field is 0 where its column may stand where it does.
+/// The same test as `good_columns` in fewer steps: a lane of a field is 0 if its column may stand where it does.
 /// Lanes of several columns are joined by `|`, and tested together by `are_clear`.
 #[inline(always)]
 pub fn bad_columns(columns: &[u8; 16]) -> u8x16
@@ -72,7 +72,7 @@ fn bad_lanes(bytes: u8x16) -> u8x16
     ensures bad { forms.are_clear result
         ≡ not (is_bad (int_field (take 5 bytes)) || is_bad (int_field (take 5 (drop 8 bytes)))) }
 {
-    // A lane is 0 where its column is a blank; a minus, or in a last column a zero; a digit.
+    // A lane is 0 if its column is a blank; a minus, or in a last column a zero; a digit.
     let from_blank = bytes - u8x16::splat(b' ');
     let from_minus = bytes - u8x16::from_array(MINUS);
     let from_digits = (bytes - u8x16::splat(b'0')).saturating_sub(u8x16::splat(9));
@@ -85,23 +85,23 @@ const HUNDREDS: [u8; 16] = [10, 1, 0, 0, 10, 1, 0, 0, 10, 1, 0, 0, 10, 1, 0, 0];
 
 const TENS: [u8; 16] = [0, 0, 10, 1, 0, 0, 10, 1, 0, 0, 10, 1, 0, 0, 10, 1];
 
-/// Of the four columns behind these, what a digit writes in the one of the field.
+/// Of the four columns after these, what a digit writes in the one of the field.
 const LAST: [u8; 16] = [15, 0, 0, 0, 15, 0, 0, 0, 15, 0, 0, 0, 15, 0, 0, 0];
 
 /// What a blank counts in that one, and in that of the second flag.
 const BLANK: [u8; 16] = [1, 0, 1, 0, 1, 0, 1, 0, 1, 0, 1, 0, 1, 0, 1, 0];
 
-/// What four such columns count where the one of the second flag alone is a blank.
+/// What four such columns count if the one of the second flag alone is a blank.
 const FLAG_ALONE: u32 = 1 << 16;
 
 /// The places of the first four columns of four groups.
 const FRONTS: [usize; 16] = [0, 1, 2, 3, 8, 9, 10, 11, 16, 17, 18, 19, 24, 25, 26, 27];
 
-/// The places of the four columns behind these: the last one of a field, and three flags.
+/// The places of the four columns after these: the last one of a field, and three flags.
 const BACKS: [usize; 16] = [4, 5, 6, 7, 12, 13, 14, 15, 20, 21, 22, 23, 28, 29, 30, 31];
 
 /// Reads four groups of a field's five columns and three flags: each has the field's number, or another
-/// one where the field is blank or the second flag isn't a blank.
+/// one if the field is blank or the second flag isn't a blank.
 #[inline(always)]
 pub fn four_numbers(columns: &[u8; 32], other: i32) -> [i32; 4]
     ensures { groups.AreNumbers other columns.now result }
@@ -129,7 +129,7 @@ pub fn four_numbers(columns: &[u8; 32], other: i32) -> [i32; 4]
     ]
 }
 
-/// The number of this magnitude, below zero where there is a minus, if the last column isn't a blank and the
+/// The number of this magnitude, below zero if there is a minus, if the last column isn't a blank and the
 /// second flag is one, or another number.
 fn number_if(blanks: u32, minuses: u32, size: u32, other: i32) -> i32
     requires { size < 262144 }

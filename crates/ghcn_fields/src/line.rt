@@ -98,7 +98,7 @@ pub fn split_line(text: &[u8]) -> Option<(&[u8], &[u8])>
 }
 
 /// The place of the first line feed of a text. Most lines of daily files have 269 columns, so that the place
-/// behind so many is looked at first.
+/// after that many is looked at first.
 fn line_feed(text: &[u8]) -> Option<usize>
     ensures { IsFirstByte (is_byte 10) text.now result }
 {

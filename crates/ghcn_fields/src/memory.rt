@@ -1,9 +1,9 @@
-//! Want of memory, the one refusal that can come at any growth.
+//! Out of memory, the one refusal that can come at any allocation.
 
 use std::alloc::{AllocError, AllocFailed};
 use thiserror::Error;
 
-/// Memory was refused. It is answered only where a growth was really refused.
+/// Memory was refused. It is returned only if an allocation was really refused.
 #[derive(Clone, Copy, Debug, PartialEq, Eq, Error)]
 #[error("refused 3 Memory")]
 pub struct Memory;

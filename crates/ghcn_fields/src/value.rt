@@ -2,7 +2,7 @@
 //!
 //! A byte adds its digit times its place's worth, and from bit 17 on its kind, two bits a column: 0
 //! a blank, 1 a minus, 2 a digit, 3 any other byte. Below bit 17 then stands the magnitude, since a
-//! byte that is no digit counts as 0, and above it stand the kinds, which say what the field is.
+//! byte that isn't a digit counts as 0, and above it stand the kinds, which say what the field is.
 
 ghost use Rattle.std.specs.Prelude.{◌≡◌, ◌+◌, ◌*◌, ◌<◌};
 ghost use Rattle.ghcn_fields.specs.Numbers as numbers;
@@ -42,7 +42,7 @@ pub fn value_field(column: &[u8; 5]) -> Field
 }
 
 /// Reads such a number as `value_field` does, with no branch at all: whether the field is bad, and its
-/// number, or another one where it has none.
+/// number, or another one if it has none.
 pub fn value_or(column: &[u8; 5], other: i32) -> (bool, i32)
     ensures bad { result.0 ≡ numbers.is_bad (numbers.int_field column.now) }
     ensures number { result.1 ≡ numbers.number_or other (numbers.int_field column.now) }
@@ -59,7 +59,7 @@ fn is_malformed(form: Form) -> bool
     matches!(form, Form::Malformed)
 }
 
-/// The number of this magnitude in a field of this form, or another one where it has none. A `match`
+/// The number of this magnitude in a field of this form, or another one if it has none. A `match`
 /// would be a jump to one of four places.
 fn number_by(form: Form, magnitude: u32, other: i32) -> i32
     requires { magnitude < 131072 }
@@ -125,7 +125,7 @@ fn fifth(byte: u8) -> u32
     COLUMNS[4][byte as usize]
 }
 
-/// What each byte adds in a column of this worth whose kind counts so much.
+/// What each byte adds in a column of this worth whose kind counts that much.
 macro_rules! column {
     ($worth:expr, $kind:expr) => {
         column!($worth, $kind, 3 * $kind)

@@ -1,11 +1,11 @@
-//! Bytes that show in print, tested by lanes.
+//! Bytes that show in print, tested by SIMD.
 
 ghost use Rattle.std.specs.Prelude.{◌≡◌, ◌&&◌, nat_le, take};
 ghost use Rattle.std.specs.List.{list_all};
 
 use std::simd::prelude::*;
 
-/// All bits behind the first eleven lanes.
+/// All bits after the first eleven lanes.
 const BEHIND: [u8; 16] = [0, 0, 0, 0, 0, 0, 0, 0, 0, 0, 0, 255, 255, 255, 255, 255];
 
 /// Whether each of the first eleven bytes shows in print, from `!` to `~`.

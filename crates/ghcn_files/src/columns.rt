@@ -3,13 +3,13 @@
 ghost use Rattle.std.specs.Prelude.{◌≡◌, ◌≤◌, ◌+◌, ◌-◌, IfSome};
 ghost use Rattle.ghcn_fields.specs.Lines as lines;
 
-/// So many columns of a line from one on; blanks stand for those that a short line lacks.
+/// That many columns of a line from one on; blanks stand for those that a short line lacks.
 pub(crate) fn columns<const N: usize>(line: &[u8], from: usize) -> [u8; N]
     requires { 1 ≤ from }
     ensures { result ≡ lines.columns from (from + N - 1) line.now }
 {
     match columns_in(line, from) {
-        // A copy of so many bytes needs no call.
+        // A copy of that many bytes needs no call.
         Some(found) => *found,
         None => columns_filled(line, from),
     }

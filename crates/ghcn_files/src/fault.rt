@@ -26,13 +26,13 @@ pub enum StationWhy {
     Duplicate,
 }
 
-/// Why a station list is refused: its first line with a fault decides.
+/// Why a station list is refused: its first line with an error decides.
 #[derive(Clone, Copy, Debug, PartialEq, Eq, Error)]
 pub enum StationsFault {
-    /// The first failing test of the first line with a fault, by the line's number from 1.
+    /// The first failing test of the first line with an error, by the line's number from 1.
     #[error("refused 1 StationLine line {line} {why}")]
     StationLine { line: u64, why: StationWhy },
-    /// A line without a fault of its own would be one station more than 2^20.
+    /// A line without an error of its own would be one station more than 2^20.
     #[error("refused 2 TooManyStations")]
     TooManyStations,
     #[error(transparent)]
@@ -57,7 +57,7 @@ pub enum LineWhy {
     /// Its month isn't a number from 1 to 12.
     #[error("BadMonth")]
     BadMonth,
-    /// The value of this day of the month, the first such one, is no number.
+    /// The value of this day of the month, the first such one, isn't a number.
     #[error("BadValue {0}")]
     BadValue(u8),
 }

@@ -24,7 +24,7 @@ pub fn flagged_values(line: &[u8], row: &MonthRow) -> u32
     flagged_among(days_in_month(row.year, row.month), line)
 }
 
-/// The same in a month with so many days.
+/// The same in a month with that many days.
 fn flagged_among(days: u8, line: &[u8]) -> u32
     requires { 266 ≤ length line.now }
     ensures { result ≡ count_by (flags.is_flagged_value days)
@@ -84,7 +84,7 @@ fn one_if(counts: bool) -> u32
     counts as u32
 }
 
-/// Whether a day, from 0, is one of so many and has a flagged value.
+/// Whether a day, from 0, is one of that many and has a flagged value.
 fn is_flagged_value(days: u8, line: &[u8], day: usize) -> bool
     requires long { 266 ≤ length line.now }
     requires day { day < 31 }

@@ -47,14 +47,14 @@ impl MonthReader {
         }
     }
 
-    /// The row of the line that was read last, if that line is of one of the elements and has no fault. Else no clause
-    /// says what it is. As the code is, it is this:
+    /// The row of the line that was read last, if that line is of one of the elements and has no error. Otherwise no
+    /// clause says what it is. As the code is, it is this:
     ///
     /// - Before the first line it is of no line. Its ID is blanks, its month is January of the year 1, and it has no
     ///   days.
     /// - After a line of another element it is the row from before that line.
-    /// - After a fault it is the row from before that line. If the fault is a bad value, it has the line's ID, element,
-    ///   year and month already, beside the days from before.
+    /// - After an error it is the row from before that line. If the error is a bad value, it has the line's ID,
+    ///   element, year and month already, beside the days from before.
     pub fn row(&self) -> &MonthRow
         ensures { result.now ≡ self.now.row }
     {
@@ -62,7 +62,7 @@ impl MonthReader {
     }
 
     /// Reads a line as `read_days` does, into the reader's row. Answers whether the line is of one of the elements;
-    /// where it isn't, and where it is refused, nothing is known of the row.
+    /// if it isn't, and if it is refused, nothing is known of the row.
     #[inline(always)]
     pub fn read(&mut self, line: &[u8], asked: Keep) -> Result<bool, LineWhy>
         ensures { rows.IsReadInto asked line.now self.new.row result }
@@ -79,7 +79,7 @@ impl MonthReader {
         }
     }
 
-    /// Reads a line of this element into the row, with its days where they are kept.
+    /// Reads a line of this element into the row, with its days if they are kept.
     #[inline(always)]
     fn fill(&mut self, element: Element, kept: bool, line: &[u8]) -> Result<(), LineWhy>
         ensures err { IfErr result (λ why. months.month_why line.now ≡ Some why) }
@@ -148,7 +148,7 @@ fn is_of_length(line: &[u8]) -> bool
     LEAST_COLUMNS <= line.len() && line.len() <= COLUMNS
 }
 
-/// Whether both are the same, sixteen columns by lanes.
+/// Whether both are the same, sixteen columns by SIMD.
 #[inline(always)]
 fn are_same(columns: &[u8; FRONT], front: &[u8; FRONT]) -> bool
     ensures { result ≡ true → columns.now ≡ front.now }

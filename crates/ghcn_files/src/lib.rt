@@ -1,6 +1,6 @@
 //! The lines of GHCN-Daily's two files: listed stations, and months of daily values.
 //!
-//! The crate of series stands on it, and so does the query language. It gives them the
+//! The crate of series uses it, and so does the query language. It gives them the
 //! station and the month.
 #![tactic(auto)]
 

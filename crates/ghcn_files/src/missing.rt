@@ -8,7 +8,7 @@ use ghcn_fields::Field;
 /// The number that stands for a missing one.
 pub(crate) const MISSING: i32 = -9999;
 
-/// The number of a field, where it has one and that isn't missing.
+/// The number of a field, if it has one and that isn't missing.
 pub(crate) fn unless_missing(field: Field) -> Option<i32>
     ensures { result ≡ stations.unless_missing field }
 {

@@ -40,7 +40,7 @@ const FIRST_GROUP: usize = 21;
 /// One day's value and whether a quality check failed.
 #[derive(Clone, Copy, Debug, PartialEq, Eq)]
 pub struct Reading {
-    /// In the element's unit, from -9998 to 99999, or nothing where it is missing.
+    /// In the element's unit, from -9998 to 99999, or nothing if it is missing.
     pub value: Option<i32>,
     /// Whether the quality flag isn't a blank.
     pub flagged: bool,
@@ -69,7 +69,7 @@ pub(crate) struct Head {
     pub(crate) month: u8,
 }
 
-/// Reads a line of a daily file that isn't blank: nothing where it is of none of the five elements.
+/// Reads a line of a daily file that isn't blank: nothing if it is of none of the five elements.
 ///
 /// The readme's line has 269 columns; that the last three, blanks of a day's flags, may be left out
 /// and that a value may be blank is this project's own leniency.
@@ -136,7 +136,7 @@ fn only_blanks_follow(line: &[u8]) -> bool
     line.len() <= COLUMNS || is_blank(&line[COLUMNS..])
 }
 
-/// The year of a line, where its four columns are one.
+/// The year of a line, if its four columns are one.
 fn year_of(line: &[u8]) -> Option<u16>
     requires { 266 ≤ length line.now }
     ensures value { result ≡ stations.natural_up_to 9999 (months.year_field line.now) }
@@ -145,7 +145,7 @@ fn year_of(line: &[u8]) -> Option<u16>
     number_up_to(9999, &[b' ', line[11], line[12], line[13], line[14]])
 }
 
-/// The month of a line, where its two columns are one.
+/// The month of a line, if its two columns are one.
 fn month_number(line: &[u8]) -> Option<u16>
     requires { 266 ≤ length line.now }
     ensures value { result ≡ stations.natural_up_to 12 (months.month_field line.now) }
@@ -154,7 +154,7 @@ fn month_number(line: &[u8]) -> Option<u16>
     number_up_to(12, &[b' ', b' ', b' ', line[15], line[16]])
 }
 
-/// The whole number of a field, where it has one from 1 to a limit.
+/// The whole number of a field, if it has one from 1 to a limit.
 fn number_up_to(limit: u16, field: &[u8; 5]) -> Option<u16>
     ensures value { result ≡ stations.natural_up_to limit (numbers.int_field field.now) }
     ensures range { IfSome result (λ number. (1 ≤ number) × (number ≤ limit)) }
@@ -167,7 +167,7 @@ fn number_up_to(limit: u16, field: &[u8; 5]) -> Option<u16>
     }
 }
 
-/// What a line says of each day, or which day's value, the first such one, is no number.
+/// What a line says of each day, or which day's value, the first such one, isn't a number.
 pub(crate) fn readings(line: &[u8]) -> Result<[Reading; 31], LineWhy>
     requires { 266 ≤ length line.now }
     ensures { result ≡ months.unless (months.days_why line.now)
@@ -186,7 +186,7 @@ pub(crate) fn readings(line: &[u8]) -> Result<[Reading; 31], LineWhy>
     Ok(days)
 }
 
-/// What a line says of a day, from 0, unless its value is no number.
+/// What a line says of a day, from 0, unless its value isn't a number.
 fn reading_of(line: &[u8], day: usize) -> Option<Reading>
     requires long { 266 ≤ length line.now }
     requires day { day < 31 }
@@ -215,7 +215,7 @@ pub(crate) fn value_column(line: &[u8], day: usize) -> &[u8; 5]
     }
 }
 
-/// The columns of two days, a day from 0 and the next one: each has five of its value, and three behind them.
+/// The columns of two days, a day from 0 and the next one: each has five of its value, and three after them.
 pub(crate) fn two_groups(line: &[u8], day: usize) -> &[u8; 16]
     requires long { 269 ≤ length line.now }
     requires day { day < 30 }

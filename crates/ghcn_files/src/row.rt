@@ -22,7 +22,7 @@ const PLACES: [u32; 32] = [
 
 /// The days of a month whose values count: those that the month has, whose value isn't missing,
 /// whose quality flag is a blank, and whose value the element can have. Only temperatures are negative.
-/// It has no days where those of its element aren't kept.
+/// It has no days if those of its element aren't kept.
 #[derive(Clone, Copy)]
 pub struct MonthRow {
     pub id: StationId,
@@ -31,9 +31,9 @@ pub struct MonthRow {
     pub year: u16,
     /// From 1 to 12.
     pub month: u8,
-    /// Bit j is set where the value of day j + 1 counts.
+    /// Bit j is set if the value of day j + 1 counts.
     pub word: u32,
-    /// Value j is that of day j + 1 where it counts, and else 0.
+    /// Value j is that of day j + 1 if it counts, and otherwise 0.
     pub values: [i32; 32],
 }
 
@@ -84,8 +84,8 @@ fn row_of(asked: Keep, element: Element, line: &[u8]) -> Result<MonthRow, LineWh
     })
 }
 
-/// Puts the values of a line that count, in a month with so many days, where they are kept, and answers the word of
-/// their days, unless a day's value is no number: then which day's, the first such one.
+/// Puts the values of a line that count, in a month with that many days, if they are kept, and returns the word of
+/// their days, unless a day's value isn't a number: then which day's, the first such one.
 #[inline(always)]
 pub(crate) fn put_days(
     kept: bool,
@@ -111,8 +111,8 @@ pub(crate) fn put_days(
     }
 }
 
-/// Puts the values of a line that count, in a month with so many days, and answers the word of their days. It isn't
-/// built into its caller: where one element is kept, most lines don't come here.
+/// Puts the values of a line that count, in a month with that many days, and returns the word of their days. It isn't
+/// built into its caller: if one element is kept, most lines don't come here.
 #[inline(never)]
 fn put_kept(element: Element, count: u8, line: &[u8], values: &mut [i32; 32]) -> u32
     requires long { 266 ≤ length line.now }
@@ -123,7 +123,7 @@ fn put_kept(element: Element, count: u8, line: &[u8], values: &mut [i32; 32]) ->
     keep_from(least_of(element), count, values)
 }
 
-/// Refuses a line for the first day whose value is no number. It isn't built into its callers, which
+/// Refuses a line for the first day whose value isn't a number. It isn't built into its callers, which
 /// would clear the room for all 31 readings at each line.
 #[inline(never)]
 fn test_values(line: &[u8]) -> Result<(), LineWhy>
@@ -232,8 +232,8 @@ fn with_blanks(line: &[u8]) -> [u8; COLUMNS]
     whole
 }
 
-/// Keeps the values of the days of a month with so many that aren't below a least one, puts 0 for the others, and
-/// answers the word of their days. The 32nd place, which no month has, makes all places a whole number of lanes.
+/// Keeps the values of the days of a month with that many that aren't below a least one, puts 0 for the others, and
+/// returns the word of their days. The 32nd place, which no month has, makes all places a whole number of lanes.
 fn keep_from(least: i32, count: u8, values: &mut [i32; 32]) -> u32
     ensures { rows.AreDays (rows.value_from least count values.old) result values.new }
 {

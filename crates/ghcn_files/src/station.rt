@@ -92,7 +92,7 @@ impl StationId {
     }
 }
 
-/// Whether the eleven bytes that a line begins with show in print. They are tested with the five behind them.
+/// Whether the eleven bytes that a line begins with show in print. They are tested with the five after them.
 fn begins_visibly(line: &[u8]) -> bool
     requires { 11 ≤ length line.now }
     ensures { result ≡ list_all is_visible (take 11 line.now) }
@@ -111,7 +111,7 @@ pub struct Station {
     pub latitude: i32,
     /// In ten-thousandths of a degree, from -1800000 to 1800000.
     pub longitude: i32,
-    /// In tenths of a metre, or nothing where it is missing.
+    /// In tenths of a metre, or nothing if it is missing.
     pub elevation: Option<i32>,
     /// Two bytes from 32 to 126.
     pub state: [u8; 2],
@@ -180,7 +180,7 @@ impl Station {
     }
 }
 
-/// The ten-thousandths of a degree of a field, where it has a number at most a limit away from 0.
+/// The ten-thousandths of a degree of a field, if it has a number at most a limit away from 0.
 fn degrees(limit: i32, field: &[u8]) -> Option<i32>
     requires { pos 0 ≤ℤ limit }
     ensures { result ≡ stations.number_within (neg_ℤ limit) limit (numbers.scaled_field 4 field.now) }
@@ -199,7 +199,7 @@ fn is_within(limit: i32, number: i32) -> bool
     -limit <= number && number <= limit
 }
 
-/// So many columns of a line from one on, with a question mark for each byte that can't be printed. Those that a line
+/// That many columns of a line from one on, with a question mark for each byte that can't be printed. Those that a line
 /// has are read in the line itself.
 #[inline(always)]
 fn printable_columns<const N: usize>(line: &[u8], from: usize) -> [u8; N]
@@ -231,7 +231,7 @@ fn make_printable(text: &mut [u8])
     }
 }
 
-/// The byte, or a question mark where it can't be printed.
+/// The byte, or a question mark if it can't be printed.
 fn printable(byte: u8) -> u8
     ensures { result ≡ stations.printable byte }
 {

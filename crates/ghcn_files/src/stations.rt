@@ -48,7 +48,7 @@ const MOST_STATIONS: usize = 1 << 20;
 
 impl Stations {
     /// Reads a station list, whose lines are those of the readme's `ghcnd-stations.txt`. Blank lines
-    /// are passed over; the first line with a fault decides.
+    /// are skipped; the first line with an error decides.
     pub fn read(alloc: Global, text: &[u8]) -> Result<Self, StationsFault>
         ensures ok { IfOk result (λ stations. listed text.now ≡ Ok stations) }
         ensures err { IfErr result (λ fault. IsRefusal is_memory fault (listed text.now)) }
@@ -100,7 +100,7 @@ impl Stations {
         Some(place as u64)
     }
 
-    /// Whether a station has the ID of a line. One behind all that rise needs no search.
+    /// Whether a station has the ID of a line. One after all that rise needs no search.
     fn is_listed(&self, line: &[u8]) -> bool
         requires { 11 ≤ length line.now }
         ensures { result ≡ is_some (place_of self.now (id_of line.now)) }
@@ -111,7 +111,7 @@ impl Stations {
         }
     }
 
-    /// Adds the station of a line to those of the lines before it, unless it has a fault after them.
+    /// Adds the station of a line to those of the lines before it, unless it has an error after them.
     fn add(&mut self, alloc: Global, number: u64, line: &[u8]) -> Result<(), StationsFault>
         ensures ok { OnOk result (Adds self.old (number, line.now) self.new) }
         ensures err { IfErr result (λ fault. IsRefusedFor fault self.old (number, line.now)) }
@@ -135,7 +135,7 @@ impl Stations {
         }
     }
 
-    /// Puts the station of a line behind the others, whose ID none of them has.
+    /// Puts the station of a line after the others, whose ID none of them has.
     fn push(&mut self, alloc: Global, line: &[u8], numbers: Numbers) -> Result<(), Memory>
         requires numbers { numbers ≡ numbers_of line.now }
         requires long { 11 ≤ length line.now }
@@ -158,7 +158,7 @@ impl Stations {
     }
 }
 
-/// Puts the station of a line behind the others, whose IDs all come before its own, and its key behind theirs. It is
+/// Puts the station of a line after the others, whose IDs all come before its own, and its key after theirs. It is
 /// made once there is room for it, and so where it is kept.
 fn push_with_key(
     stations: &mut Vec<Station>,
@@ -184,7 +184,7 @@ fn push_with_key(
     Ok(())
 }
 
-/// Puts the station of a line behind the others, whose ID none of them has, and its place beside theirs.
+/// Puts the station of a line after the others, whose ID none of them has, and its place beside theirs.
 fn push_with_place(
     list: &mut Vec<Station>,
     places: &mut BTreeMap<(u64, u32), usize>,

@@ -44,7 +44,7 @@ impl Columns {
         }
     }
 
-    /// The block of this number, where a day of it is present.
+    /// The block of this number, if a day of it is present.
     pub(crate) fn block(&self, number: i32) -> Option<(u32, &[i32; 32])>
         ensures some { IfSome result (λ x. packed.IsBlockOf self.now number x.0 x.1.now) }
         ensures none { IfNone result (packed.HasNone self.now number) }
@@ -52,7 +52,7 @@ impl Columns {
         self.block_near(0, number)
     }
 
-    /// The same, looked for first behind so many blocks.
+    /// The same, looked for first after that many blocks.
     pub(crate) fn block_near(&self, before: usize, number: i32) -> Option<(u32, &[i32; 32])>
         ensures some { IfSome result (λ x. packed.IsBlockOf self.now number x.0 x.1.now) }
         ensures none { IfNone result (packed.HasNone self.now number) }
@@ -93,7 +93,7 @@ impl Columns {
         last_day(*number, *word)
     }
 
-    /// The value of a day, where it is present.
+    /// The value of a day, if it is present.
     pub(crate) fn value(&self, day: Day) -> Option<i32>
         ensures { result ≡ value_on self.now day }
     {
@@ -102,7 +102,7 @@ impl Columns {
     }
 }
 
-/// The value at a place of a block, where its day is present.
+/// The value at a place of a block, if its day is present.
 fn value_at(word: u32, values: &[i32; 32], place: u32) -> Option<i32>
     requires { place < 32 }
     ensures { result ≡ packed.value_at word values.now place }

@@ -15,7 +15,7 @@ pub enum LineKind {
     Other,
 }
 
-/// The files that have a line that isn't blank, and none of the five elements. They are no daily files, mostly.
+/// The files that have a line that isn't blank, and none of the five elements. They aren't daily files, mostly.
 #[derive(Clone, Copy, Debug, PartialEq, Eq)]
 pub struct Foreign {
     pub count: u64,
@@ -34,7 +34,7 @@ impl Foreign {
         }
     }
 
-    /// One file more, at a place behind the others.
+    /// One file more, at a place after the others.
     fn add(&mut self, place: u64)
         ensures { AddsForeign self.old self.new place }
     {

@@ -27,10 +27,10 @@ pub trait LineReader {
     ghost use Rattle.ghcn_series.specs.LinesRead.{HasReadSome, Reads, Refuses};
 
     /// A reader of lines for some stations, which keeps the values of some elements, has read lines none of which has
-    /// a fault.
+    /// an error.
     ghost has_read: { Self → List Station → Keep → List FileLine → Type 0 };
 
-    /// Adds a line that isn't blank, without its line end, and answers what stands on it.
+    /// Adds a line that isn't blank, without its line end, and returns what is on it.
     fn add(
         &mut self,
         alloc: Global,
@@ -45,22 +45,22 @@ pub trait LineReader {
         ensures fault { IfErr result (Refuses has_read self.old (file_line file (line, bytes.now) ∷ [])) };
 }
 
-/// Cuts daily files into lines, in their order, each file in pieces that may end anywhere. The first fault is kept,
-/// and told at the end: lines that come behind it aren't looked at, but their files are counted.
+/// Cuts daily files into lines, in their order, each file in pieces that may end anywhere. The first error is kept,
+/// and reported at the end: lines that come after it aren't looked at, but their files are counted.
 #[derive(Drop)]
 pub struct Cutter<L> {
     alloc: Global,
     reader: L,
     counts: LineCounts,
-    /// How many files were ended, or 2^64 - 1 where there are more.
+    /// How many files were ended, or 2^64 - 1 if there are more.
     ended: u64,
     /// Whether the current file has a byte.
     begun: bool,
     /// How many lines of the current file were ended.
     line: u64,
-    /// What has come of the line behind them.
+    /// What has come of the line after them.
     rest: Vec<u8>,
-    /// The fault of the first line that has one, or want of memory.
+    /// The error of the first line that has one, or out of memory.
     fault: Option<DataFault>,
 }
 
@@ -106,7 +106,7 @@ impl<L: LineReader + Drop> Cutter<L> {
         }
     }
 
-    /// Ends the current file, even where it is empty.
+    /// Ends the current file, even if it is empty.
     pub fn end_of_file(&mut self)
         requires { cut.HasFedSome L.has_read self.old }
         ensures fed { cut.EndsFile L.has_read self.old self.new }
@@ -119,8 +119,8 @@ impl<L: LineReader + Drop> Cutter<L> {
         self.begun = false;
     }
 
-    /// What was read of the files that were fed, or their first fault: too many files come before the fault of a
-    /// line. The current file is ended where it has a byte.
+    /// What was read of the files that were fed, or their first error: too many files come before the error of a
+    /// line. The current file is ended if it has a byte.
     pub fn finish(mut self) -> Result<Cut<L>, DataFault>
         requires { cut.HasFedSome L.has_read self }
         ensures some { IfOk result (λ all. HasReadSome L.has_read all.reader) }
@@ -143,7 +143,7 @@ impl<L: LineReader + Drop> Cutter<L> {
         })
     }
 
-    /// Whether lines are looked at: there is no fault so far.
+    /// Whether lines are looked at: there is no error so far.
     fn is_reading(&self) -> bool
         ensures { cut.LooksAtLines self.now result }
     {
@@ -192,7 +192,7 @@ impl<L: LineReader + Drop> Cutter<L> {
         Ok(())
     }
 
-    /// Ends the line of which these are the last bytes. It is built into its callers, which else would clear
+    /// Ends the line of which these are the last bytes. It is built into its callers, which would otherwise clear
     /// the room for its results at each line.
     #[inline(always)]
     fn end_line(&mut self, bytes: &[u8]) -> Result<(), DataFault>
@@ -238,7 +238,7 @@ impl<L: LineReader + Drop> Cutter<L> {
     }
 }
 
-/// Reads a line as it stands before its line feed, and answers what stands on it. A blank line adds nothing.
+/// Reads a line as it stands before its line feed, and returns what is on it. A blank line adds nothing.
 ///
 /// What a line takes whose days aren't kept is built into the loop over lines, down to the test of its values: a call
 /// would clear room for its result and save registers. Days that are kept, a new head and a line in pieces are calls.

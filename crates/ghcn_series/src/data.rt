@@ -17,7 +17,7 @@ use std::marker::Model;
 /// How many files are read at most.
 pub(crate) const MOST_FILES: u64 = 1 << 20;
 
-/// The series of all listed stations, and how many lines of other stations were passed over.
+/// The series of all listed stations, and how many lines of other stations were skipped.
 #[derive(Drop)]
 pub struct Data {
     stations: Stations,
@@ -39,7 +39,7 @@ impl Model for Data {
 }
 
 impl Data {
-    /// Reads daily files, in their order. A line of a station that isn't listed is passed over.
+    /// Reads daily files, in their order. A line of a station that isn't listed is skipped.
     pub fn read(alloc: Global, stations: Stations, files: &[&[u8]]) -> Result<Self, DataFault>
         ensures ok { IfOk result (λ dataset. data_of stations (map (λ f. f.now) files.now) ≡ Ok dataset) }
         ensures err { IfErr result (λ fault.
@@ -79,14 +79,14 @@ impl Data {
         &self.stations
     }
 
-    /// The series of a station and an element, where it has a usable day.
+    /// The series of a station and an element, if it has a usable day.
     pub fn series(&self, id: &StationId, element: Element) -> Option<&Series>
         ensures { option_copied result ≡ series_of self.now id.now element }
     {
         self.series_at(self.stations.place(id)?, element)
     }
 
-    /// The series of an element and of the station at a place in the list, from 0, where it has a usable
+    /// The series of an element and of the station at a place in the list, from 0, if it has a usable
     /// day.
     pub fn series_at(&self, place: u64, element: Element) -> Option<&Series>
         ensures { option_copied result
@@ -95,7 +95,7 @@ impl Data {
         of_element(self.series.get(place as usize)?, element)
     }
 
-    /// How many lines of the five elements were passed over, since their stations aren't listed.
+    /// How many lines of the five elements were skipped, since their stations aren't listed.
     pub fn unlisted(&self) -> u64
         ensures { result ≡ self.now.unlisted }
     {

@@ -67,9 +67,9 @@ impl<'a> BlockDays<'a> {
         self.left &= !places_from(self.values, limit);
     }
 
-    /// Takes the first days, as many as follow one another, and answers the first and the last of them.
+    /// Takes the first days, as many as follow one another, and returns the first and the last of them.
     ///
-    /// Who looks for days in a row needs no look at each of them.
+    /// A caller that looks for days in a row needs no look at each of them.
     #[inline(always)]
     pub fn next_run(&mut self) -> Option<(Day, Day)>
         ensures run { IfSome result (λ ends. packed.TakesRun self.old ends self.new) }
@@ -176,7 +176,7 @@ fn places_to(number: i32, last: i32) -> u32
     }
 }
 
-/// The place behind the lowest bits of a word that follow one another.
+/// The place after the lowest bits of a word that follow one another.
 fn end_of_run(word: u32) -> u32
     requires { 0 < word }
     ensures { packed.EndsRun word result }
@@ -196,7 +196,7 @@ fn places_from(values: &[i32; 32], least: i32) -> u32
     word
 }
 
-/// The word of the first so many places of a block.
+/// The word of that many first places of a block.
 fn first_places(count: u32) -> u32
     requires { count ≤ 32 }
     ensures { result ≡ 2 ^ count - 1 }
@@ -312,7 +312,7 @@ impl<'a> Days<'a> {
 
     /// Takes days of the next block that has one, as many as come no later than a last one by its number.
     ///
-    /// Who goes through days part by part asks what holds of a part once, and nothing of a day.
+    /// A caller that goes through days part by part asks what holds of a part once, and nothing of a day.
     pub fn take_to(&mut self, last: i32) -> BlockDays<'a>
         ensures parts { self.old ≡ result ++ self.new }
         ensures taken { AllByRecursion (λ x. x.0 ≤ℤ last) result }

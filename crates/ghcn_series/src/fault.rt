@@ -15,13 +15,13 @@ pub enum DailyWhy {
     DuplicateMonth,
 }
 
-/// Why the daily files are refused: the first line with a fault decides, by file and line.
+/// Why the daily files are refused: the first line with an error decides, by file and line.
 #[derive(Clone, Copy, Debug, PartialEq, Eq, Error)]
 pub enum DataFault {
     /// There are more than 2^20 files.
     #[error("refused 6 TooManyFiles")]
     TooManyFiles,
-    /// The fault of the first line with one; files and lines count from 1.
+    /// The error of the first line with one; files and lines count from 1.
     #[error("refused 5 DailyLine file {file} line {line} {why}")]
     DailyLine { file: u64, line: u64, why: DailyWhy },
     #[error(transparent)]

@@ -38,8 +38,8 @@ impl Gathering {
         }
     }
 
-    /// Adds a month with its days, or answers false where one of its time was added before. It isn't built into the
-    /// loop over lines, of which most, where one element is asked for, have days that aren't kept.
+    /// Adds a month with its days, or returns false if one of its time was added before. It isn't built into the
+    /// loop over lines, of which most, if one element is asked for, have days that aren't kept.
     #[inline(never)]
     pub(crate) fn add(&mut self, alloc: Global, row: &MonthRow) -> Result<bool, Memory>
         requires right { IsOfMonth true row.now }
@@ -54,7 +54,7 @@ impl Gathering {
         Ok(true)
     }
 
-    /// Adds a month whose days aren't kept, or answers false where one of its time was added before.
+    /// Adds a month whose days aren't kept, or returns false if one of its time was added before.
     #[inline(always)]
     pub(crate) fn note(&mut self, alloc: Global, row: &MonthRow) -> Result<bool, Memory>
         requires { GathersSome false self.old }

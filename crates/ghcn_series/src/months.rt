@@ -37,7 +37,7 @@ impl Months {
         }
     }
 
-    /// Adds a month, or answers false where it was added before. Most come behind all others, which takes no call.
+    /// Adds a month, or returns false if it was added before. Most come after all others, which takes no call.
     #[inline(always)]
     pub(crate) fn add(&mut self, alloc: Global, month: u32) -> Result<bool, Memory>
         ensures is_new { IfOk result (λ is_new. is_new ≡ not (seen.has_month self.old month)) }
@@ -52,7 +52,7 @@ impl Months {
         }
     }
 
-    /// Adds a month to the set of all, which is made where there is none yet. It isn't built into its caller, where few
+    /// Adds a month to the set of all, which is made if there is none yet. It isn't built into its caller, where few
     /// months come out of order.
     #[inline(never)]
     fn add_to_all(&mut self, alloc: Global, month: u32) -> Result<bool, Memory>

@@ -132,7 +132,7 @@ impl Parts {
         self.in_order = true;
     }
 
-    /// The same days as columns, put in order where they aren't.
+    /// The same days as columns, put in order if they aren't.
     pub(crate) fn put_in_order(self, alloc: Global) -> Result<Columns, Memory>
         requires { parts.AreParts self }
         ensures { IfOk result (λ columns. columns ≡ sorted_by by_day (parts.days_held self)) }
@@ -227,7 +227,7 @@ fn is_after(numbers: &[i32], number: i32) -> bool
     }
 }
 
-/// Two rows of values of which at each place one is 0. It is built into its callers, so that the row that it answers
+/// Two rows of values of which at each place one is 0. It is built into its callers, so that the row that it returns
 /// goes through no memory.
 #[inline(always)]
 fn joined(values: &[i32; 32], more: &[i32; 32]) -> [i32; 32]

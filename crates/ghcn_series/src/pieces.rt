@@ -13,8 +13,8 @@ use crate::{Data, DataFault};
 use ghcn_files::{Element, Keep, Stations};
 use std::alloc::Global;
 
-/// Reads daily files in their order, each in pieces that may end anywhere. The first fault is kept, and told at the
-/// end: lines that come behind it aren't looked at, but their files are counted.
+/// Reads daily files in their order, each in pieces that may end anywhere. The first error is kept, and reported at the
+/// end: lines that come after it aren't looked at, but their files are counted.
 #[derive(Drop)]
 pub struct DataReader {
     alloc: Global,
@@ -68,7 +68,7 @@ impl DataReader {
         self.cutter.piece(bytes);
     }
 
-    /// Ends the current file, even where it is empty.
+    /// Ends the current file, even if it is empty.
     pub fn end_of_file(&mut self)
         requires { pieces.HasFedSome self.old }
         ensures fed { pieces.EndsFile self.old self.new }
@@ -77,8 +77,8 @@ impl DataReader {
         self.cutter.end_of_file();
     }
 
-    /// The data of the files that were fed and which of these are foreign, or their first fault: too many files come
-    /// before the fault of a line. The current file is ended where it has a byte.
+    /// The data of the files that were fed and which of these are foreign, or their first error: too many files come
+    /// before the error of a line. The current file is ended if it has a byte.
     pub fn finish(self) -> Result<(Data, Foreign), DataFault>
         requires { pieces.HasFedSome self }
         ensures ok { IfOk result (λ read. pieces.HoldsFed self read.0) }

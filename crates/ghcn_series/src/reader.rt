@@ -24,11 +24,11 @@ pub struct Reader {
     stations: Stations,
     /// Of each listed station, in their order.
     gathered: Vec<StationGathering>,
-    /// The place of the station of the line before, where lines of a station mostly come together.
+    /// The place of the station of the line before, since the lines of a station mostly come together.
     last: usize,
     /// Memory without days, where the days of the next station grow.
     spare: Vec<Parts>,
-    /// How many months of stations that aren't listed were passed over.
+    /// How many months of stations that aren't listed were skipped.
     unlisted: u64,
 }
 
@@ -96,7 +96,7 @@ impl Reader {
         Ok(Data::of(stations, series, unlisted))
     }
 
-    /// Adds a month, or answers false where its station is listed and has that month already. Its days are read where
+    /// Adds a month, or returns false if its station is listed and has that month already. Its days are read if
     /// they are kept.
     #[inline(always)]
     pub fn add_month(&mut self, alloc: Global, row: &MonthRow) -> Result<bool, Memory>
@@ -152,7 +152,7 @@ impl Reader {
     }
 }
 
-/// The fault of a line.
+/// The error of a line.
 pub(crate) fn refused(file: u64, line: u64, why: DailyWhy) -> DataFault
     ensures { result ≡ DataFault.DailyLine file line why }
 {

@@ -13,7 +13,7 @@ use std::marker::Model;
 
 /// The usable days of one station and element, each with its value.
 ///
-/// A day is usable where a line gives it a value with a blank quality flag, and the value isn't
+/// A day is usable if a line gives it a value with a blank quality flag, and the value isn't
 /// missing, and isn't negative for precipitation, snowfall and snow depth. There is at least one.
 #[derive(Drop)]
 pub struct Series {
@@ -60,15 +60,15 @@ impl Series {
         self.element
     }
 
-    /// The value of a day, where it is usable, in the element's unit.
+    /// The value of a day, if it is usable, in the element's unit.
     pub fn value(&self, day: Day) -> Option<i32>
         ensures { result ≡ value_on self.now.days day }
     {
         self.columns.value(day)
     }
 
-    /// A block of 32 days, where it holds a usable one: a word whose bit j is set where the block's
-    /// day j is usable, and the days' values, 0 where a day isn't usable.
+    /// A block of 32 days, if it holds a usable one: a word whose bit j is set if the block's
+    /// day j is usable, and the days' values, 0 if a day isn't usable.
     pub fn block(&self, number: i32) -> Option<(u32, &[i32; 32])>
         ensures some { IfSome result (λ x. IsBlockOf self.now.days number x.0 x.1.now) }
         ensures none { IfNone result (HasNone self.now.days number) }
@@ -76,7 +76,7 @@ impl Series {
         self.columns.block(number)
     }
 
-    /// The same. The block is looked for first behind so many others, where it is found at once if
+    /// The same. The block is looked for first after that many others, where it is found at once if
     /// these are the blocks before it.
     pub fn block_near(&self, before: usize, number: i32) -> Option<(u32, &[i32; 32])>
         ensures some { IfSome result (λ x. IsBlockOf self.now.days number x.0 x.1.now) }

@@ -31,7 +31,7 @@ const ELEMENTS: [Element; 5] = [
 pub(crate) struct StationGathering {
     id: StationId,
     by_element: Vec<Gathering>,
-    /// Whether its days stand in memory of their own, since lines of another station came behind.
+    /// Whether its days stand in memory of their own, since lines of another station came after.
     is_fitted: bool,
 }
 
@@ -48,7 +48,7 @@ impl StationGathering {
         }
     }
 
-    /// Adds a month of the station, or answers false where that month was added before.
+    /// Adds a month of the station, or returns false if that month was added before.
     #[inline(always)]
     pub(crate) fn add(
         &mut self,
@@ -117,7 +117,7 @@ impl StationGathering {
         Ok(series)
     }
 
-    /// Makes the five gatherings where there are none yet.
+    /// Makes the five gatherings if there are none yet.
     fn open(&mut self, alloc: Global, spare: &mut Vec<Parts>) -> Result<(), Memory>
         requires { AllByRecursion AreEmpty spare.old.items }
         ensures id { self.new.id ≡ self.old.id }
@@ -162,7 +162,7 @@ fn nothing_by_element(alloc: Global, spare: &mut Vec<Parts>) -> Result<Vec<Gathe
     Ok(five)
 }
 
-/// Parts without days, in spare memory where there is some.
+/// Parts without days, in spare memory if there is some.
 fn without_days(alloc: Global, spare: &mut Vec<Parts>) -> Parts
     requires { AllByRecursion AreEmpty spare.old.items }
     ensures empty { AreEmpty result }

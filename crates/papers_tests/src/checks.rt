@@ -9,7 +9,7 @@ use rank_query::Query;
 use rank_scores::Candidate;
 use std::alloc::Global;
 
-/// A line of a certificate: the station, whether it is passed over, the bound and the count.
+/// A line of a certificate: the station, whether it is skipped, the bound and the count.
 type Printed = (StationId, bool, i64, u64);
 
 /// The best record, which is the only row of the report.

@@ -33,7 +33,7 @@ pub(crate) fn read(alloc: Global, list: &[u8], text: &[u8]) -> Option<Data> {
     Data::read(alloc, stations, &[text]).ok()
 }
 
-/// The data of the three stations, where memory is there.
+/// The data of the three stations, if memory is there.
 pub(crate) fn usual_data(alloc: Global) -> Option<Data> {
     let mut text = String::new(alloc);
     push_month(&mut text, "ZZA00000001", &[311, 305]).ok()?;

@@ -59,7 +59,7 @@ fn next(state: u64) -> u64 {
         .wrapping_add(1_442_695_040_888_963_407)
 }
 
-/// The scores of up to so many rows, the highest first. There are few scores, so that parts tie.
+/// The scores of up to that many rows, the highest first. There are few scores, so that parts tie.
 fn scores_of(alloc: Global, most: u32, seed: u64) -> Result<Vec<u64>, Fail> {
     let mut state = next(seed);
     let count = (state >> 33) % (most as u64 + 1);
@@ -72,7 +72,7 @@ fn scores_of(alloc: Global, most: u32, seed: u64) -> Result<Vec<u64>, Fail> {
     Ok(scores)
 }
 
-/// Both merged papers, one behind the other.
+/// Both merged papers, one after the other.
 fn text_of(alloc: Global, merged: &Merged) -> Result<Vec<u8>, Fail> {
     let mut text = Vec::from_slice(alloc, &merged.report)?;
     text.extend_from_slice(&merged.certificate)?;
@@ -96,7 +96,7 @@ fn both_forms(alloc: Global, k: u32, scores: &[Vec<u64>]) -> Result<(Vec<u8>, Ve
     Ok((text_of(alloc, &merged)?, text_of(alloc, &plain)?))
 }
 
-/// The scores of so many parts, which have up to k rows each.
+/// The scores of that many parts, which have up to k rows each.
 fn made(alloc: Global, k: u32, parts: u64, seed: u64) -> Result<Vec<Vec<u64>>, Fail> {
     let mut all = Vec::new(alloc);
     let mut state = seed;

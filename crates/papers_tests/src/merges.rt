@@ -5,7 +5,7 @@ use rank_query::Query;
 use std::alloc::{AllocError, Global};
 use std::test::Fail;
 
-/// Both merged papers, one behind the other, or the line of the refusal.
+/// Both merged papers, one after the other, or the line of the refusal.
 fn outcome(alloc: Global, query: &str, parts: &[(&[u8], &[u8])]) -> Result<Vec<u8>, Fail> {
     let query = Query::parse(query)?;
     let mut text = Vec::new(alloc);
@@ -19,7 +19,7 @@ fn outcome(alloc: Global, query: &str, parts: &[(&[u8], &[u8])]) -> Result<Vec<u
     Ok(text)
 }
 
-/// Two stations of which the second was passed over, with a certificate of version 2.
+/// Two stations of which the second was skipped, with a certificate of version 2.
 const TWO: (&[u8], &[u8]) = (
     b"extremes report 1
 query top 1 highest TMAX

@@ -208,7 +208,7 @@ fn report_read_back(rt: HostRuntime) -> Result<(), Fail> {
     Ok(())
 }
 
-/// The number of the first bad line of a report, or 0 where it is read.
+/// The number of the first bad line of a report, or 0 if it is read.
 fn bad_line_of_report(alloc: Global, text: &str) -> u64 {
     match read_report(alloc, text.as_bytes()) {
         Err(PaperFault::BadReport { line }) => line,

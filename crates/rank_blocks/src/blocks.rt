@@ -93,7 +93,7 @@ fn summaries_of(alloc: Global, series: &Series, score: Score) -> Result<Vec<Summ
     Ok(summaries)
 }
 
-/// Adds the summary of a block, where it holds a usable day. Returns the number to look at next.
+/// Adds the summary of a block, if it holds a usable day. Returns the number to look at next.
 fn add_block(
     summaries: &mut Vec<Summary>,
     series: &Series,

@@ -1,7 +1,7 @@
 //! Bounds: for a series and a query a number that no candidate's score exceeds, found without
 //! looking at the series again.
 //!
-//! `rank_sched` takes series by falling bound, and passes over those whose bound is too low.
+//! `rank_sched` takes series by falling bound, and skips those whose bound is too low.
 #![tactic(auto)]
 
 mod blocks;

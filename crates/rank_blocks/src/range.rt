@@ -21,7 +21,7 @@ pub(crate) struct BlockRange {
 }
 
 impl BlockRange {
-    /// The blocks of the query's period, or of the calendar where it has none.
+    /// The blocks of the query's period, or of the calendar if it has none.
     pub(crate) fn of(query: &Query) -> Self
         ensures range { IsRangeOf result query.now }
         ensures first_block { IsBlock result.first }
@@ -46,7 +46,7 @@ impl BlockRange {
         self.first <= number && number <= self.last
     }
 
-    /// So many blocks from its last one on.
+    /// That many blocks from its last one on.
     pub(crate) fn last_window(self, width: u32) -> Window
         ensures first { result.first ≡ self.last }
         ensures width { result.width ≡ width }

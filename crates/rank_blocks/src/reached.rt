@@ -1,4 +1,4 @@
-//! What the summaries of the blocks of a range tell.
+//! What the summaries of the blocks of a range say.
 
 ghost use Rattle.std.specs.Prelude.{◌≡◌, List, ◌∷◌, [], ◌++◌, map, unwrap_or, IfSome, Some};
 ghost use Rattle.std.specs.Prelude.{ℤ, pos, ◌≤ℤ◌, ◌*ℤ◌};
@@ -17,7 +17,7 @@ use crate::runs::Runs;
 use crate::summary::{Summary, sum_of};
 use crate::window::Window;
 
-/// The greatest score of a usable day in the blocks of a range, or 0 where there is none.
+/// The greatest score of a usable day in the blocks of a range, or 0 if there is none.
 pub(crate) fn greatest_day(blocks: &[Summary], range: BlockRange) -> i64
     requires { ArePossible blocks.now }
     ensures value { result ≡
@@ -61,7 +61,7 @@ pub(crate) fn window_blocks(n: u16) -> u32
     (n as u32 + 30) / 32 + 1
 }
 
-/// The greatest total of so many blocks in a row of which the first is one of the range.
+/// The greatest total of that many blocks in a row of which the first is one of the range.
 pub(crate) fn greatest_total(blocks: &[Summary], range: BlockRange, width: u32) -> i64
     requires { ArePossible blocks.now }
     ensures { AllByRecursion (λ m. pos 0 ≤ℤ m.total) blocks.now → range.first ≤ℤ range.last →

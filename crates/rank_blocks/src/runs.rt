@@ -10,7 +10,7 @@ use crate::summary::{BLOCK_DAYS, Summary};
 /// How the days of one kind before a block follow one another.
 #[derive(Clone, Copy, Debug)]
 pub(crate) struct Runs {
-    /// The block behind these days.
+    /// The block after these days.
     pub(crate) next: i32,
     /// How many of the kind come last, one after another.
     pub(crate) last: u32,

@@ -63,7 +63,7 @@ impl Summary {
         range.holds(self.number)
     }
 
-    /// So many blocks from its own on.
+    /// That many blocks from its own on.
     pub(crate) fn window(&self, width: u32) -> Window
         ensures first { result.first ≡ self.now.number }
         ensures width { result.width ≡ width }

@@ -1,4 +1,4 @@
-//! What is made of the values of one block. A word has a bit for each of its 32 days, set where the
+//! What is made of the values of one block. A word has a bit for each of its 32 days, set if the
 //! day is usable, and a day that isn't has the value 0.
 
 ghost use Rattle.std.specs.Prelude.{◌≡◌, ◌<◌, ℕ, neg_ℤ};

@@ -5,7 +5,7 @@ ghost use Rattle.rank_blocks.specs.Blocks.{is_among_blocks};
 
 use crate::summary::Summary;
 
-/// So many blocks in a row.
+/// That many blocks in a row.
 #[derive(Clone, Copy, Debug)]
 pub(crate) struct Window {
     pub(crate) first: i32,
@@ -20,7 +20,7 @@ impl Window {
         self.first <= block.number && !self.is_before(block)
     }
 
-    /// Whether the block of a summary stands behind them.
+    /// Whether the block of a summary comes after them.
     pub(crate) fn is_before(self, block: &Summary) -> bool
         ensures { result ≡ int_le (self.first +ℤ pos self.width) block.now.number }
     {

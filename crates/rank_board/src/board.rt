@@ -28,7 +28,7 @@ pub struct Board {
 pub struct Closed {
     /// How many numbers were claimed.
     pub next: u64,
-    /// The greatest of the guess and all scores raised, or `None` where there is neither.
+    /// The greatest of the guess and all scores raised, or `None` if there is neither.
     pub floor: Option<i64>,
 }
 
@@ -152,12 +152,12 @@ impl Board {
         self.table
             .shared
             .join_seat::<TakeIn>(&mut seat.inner, inner);
-        // The join itself tells nothing of the rights: this load shows that their sum fits.
+        // The join itself shows nothing of the rights: this load shows that their sum fits.
         self.table.shared.load::<CountRights>(&mut seat.inner, NEXT);
         seat.left += left;
     }
 
-    /// Takes the board apart, and answers what it held.
+    /// Takes the board apart, and returns what it held.
     pub fn close(self, seat: Seat) -> Closed
         requires seat { IsSeatOf self seat }
         ensures rule { ClosesUnderRule self seat result }

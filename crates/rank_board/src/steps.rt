@@ -44,7 +44,7 @@ impl Play<(), View> for Raise {
     ghost then = { raise_step };
 }
 
-/// A load that changes nothing, and tells that the seat's rights are at most those of a board.
+/// A load that changes nothing, and shows that the seat's rights are at most those of a board.
 pub(crate) struct CountRights;
 
 impl Play<(), View> for CountRights {

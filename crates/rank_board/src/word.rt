@@ -1,4 +1,4 @@
-//! The word of a floor: 0 where there is none, and otherwise the score plus 2^32.
+//! The word of a floor: 0 if there is none, and otherwise the score plus 2^32.
 
 ghost use Rattle.std.specs.Prelude.{◌≡◌, ◌+◌, ◌^◌, ◌≤◌};
 ghost use Rattle.ghcn_fields.specs.Floor.{IsScore};

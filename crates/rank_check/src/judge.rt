@@ -91,7 +91,7 @@ fn are_enough(query: &Query, rows: u64, candidates: u64) -> bool
     query.k() <= rows || candidates <= rows
 }
 
-/// The first test that a certificate fails beside a report with these rows, where this is the k-th
+/// The first test that a certificate fails beside a report with these rows, if this is the k-th
 /// score.
 fn certificate_fault(
     alloc: Global,

@@ -6,7 +6,7 @@ ghost use Rattle.rank_check.specs.Laws as laws;
 use rank_papers::{certificates_are_read, reports_are_read};
 use rank_scores::{candidates_of_queries, one_element_is_enough};
 
-/// Papers are accepted exactly where the report is the right one, and the certificate a right one.
+/// Papers are accepted if and only if the report is the right one, and the certificate a right one.
 pub fn accepted_where_right()
     ensures { laws.AcceptedWhereRight }
 {
@@ -16,7 +16,7 @@ pub fn accepted_where_right()
     reports_are_read();
 }
 
-/// A verdict says nothing of the series of other elements than the query's: it is the same where
+/// A verdict says nothing of the series of other elements than the query's: it is the same if
 /// these are left out of the data.
 pub fn verdict_of_one_element()
     ensures { laws.VerdictStays }
@@ -25,7 +25,7 @@ pub fn verdict_of_one_element()
     one_element_is_enough();
 }
 
-/// Papers with a certificate of version 2 say what is right exactly where the head is right, each line
+/// Papers with a certificate of version 2 say what is right if and only if the head is right, each line
 /// is accepted by itself, and so is each listed station without a line. The pieces may be judged in
 /// any order. So `check` accepts them exactly there.
 pub fn right_in_pieces()

@@ -1,7 +1,7 @@
 //! The checker of papers, which looks at the data again and stands on no block, pool, plan or crew.
 //!
 //! Users judge papers of any maker by it. It promises that a report and a certificate are accepted
-//! exactly where both are right.
+//! if and only if both are right.
 #![tactic(auto)]
 
 mod judge;

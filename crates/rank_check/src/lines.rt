@@ -10,8 +10,8 @@ use crate::verdict::{Paper, Verdict, Why};
 use rank_papers::Line;
 use rank_scores::is_below;
 
-/// The first test that a line fails, after the lines before it, where the certificate has this k-th
-/// score and these counts, and of the report's rows so many are of each line's station.
+/// The first test that a line fails, after the lines before it, if the certificate has this k-th
+/// score and these counts, and of the report's rows that many are of each line's station.
 pub(crate) fn lines_fault(
     kth: Option<i64>,
     wanted: &[u64],
@@ -98,7 +98,7 @@ fn line_fault(
     None
 }
 
-/// Whether a count, where there is one, is the number of rows of a line's station.
+/// Whether a count, if there is one, is the number of rows of a line's station.
 fn is_counted(wanted: u64, count: Option<u64>) -> bool
     ensures { result ≡ option_map_or (λ n. n == wanted) count true }
 {
@@ -129,7 +129,7 @@ pub(crate) fn is_at_most(top: &Top, line: &Line) -> bool
     }
 }
 
-/// Whether a line is no skip, or a skip below the k-th score.
+/// Whether a line isn't a skip, or a skip below the k-th score.
 pub(crate) fn may_stand(kth: Option<i64>, line: &Line) -> bool
     ensures { result ≡ (not line.now.skipped || order.is_below kth line.now.bound) }
 {

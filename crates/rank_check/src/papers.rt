@@ -16,9 +16,9 @@ use rank_papers::{PaperFault, read_certificate, read_report};
 use rank_query::Query;
 use std::alloc::Global;
 
-/// Judges a report and a certificate of a query over some data, whoever made them: the verdict of
-/// the first test that fails, and `Accepted` exactly where the report is the right one and the
-/// certificate a right one.
+/// Checks a report and a certificate of a query, whatever program made them, over some data: the
+/// verdict of the first test that fails, and `Accepted` if and only if the report is the right one
+/// and the certificate a right one.
 ///
 /// Each series is scanned once. Beside both papers it holds two numbers for each row, and an ID and a
 /// score for each series.
@@ -75,7 +75,7 @@ fn judge_texts(
     judge(alloc, dataset, query, &report, &certificate)
 }
 
-/// A refusal of a line that isn't of the form of its place.
+/// A refusal of a line that isn't in the format of its place.
 fn bad_form(paper: Paper, line: u64) -> Verdict
     ensures { result ≡ Verdict.Refused paper line Why.Form }
 {

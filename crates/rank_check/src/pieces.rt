@@ -23,11 +23,11 @@ use rank_query::Query;
 use rank_scores::{Candidate, Sink, has_admitted_day, precedes, scan};
 
 /// Judges one line of a certificate of version 2 by itself: the first test that it fails, and None
-/// exactly where it is right.
+/// if and only if it is right.
 ///
 /// The series is that of the station and the query's element, `printed` the line's count, 0 on a
 /// `skip`. The rows are the report's of the station, in their order, and `worst` is the report's last
-/// row where it has as many as were asked for. The series is scanned once, and once more for each row.
+/// row if it has as many as were asked for. The series is scanned once, and once more for each row.
 pub fn check_line(
     query: &Query,
     station: &Station,
@@ -100,7 +100,7 @@ fn line_fault(
     None
 }
 
-/// Judges one station without a line by itself: whether its series is no morsel of the query.
+/// Judges one station without a line by itself: whether its series isn't a morsel of the query.
 ///
 /// The series is that of the station and the query's element.
 pub fn check_absent(query: &Query, station: &Station, series: Option<&Series>) -> bool
@@ -201,7 +201,7 @@ fn reach<'a>(
 pub(crate) struct Reached<'a> {
     pub(crate) rows: &'a [Row],
     pub(crate) worst: Option<Candidate>,
-    /// Whether a candidate that is the worst row or precedes it is no row.
+    /// Whether a candidate that is the worst row or precedes it isn't a row.
     pub(crate) left_out: bool,
     /// The greatest score of them.
     pub(crate) highest: Option<i64>,
@@ -218,7 +218,7 @@ impl<'a> Sink for Reached<'a> {
     }
 }
 
-/// Whether a candidate is the worst row or precedes it, and is no row.
+/// Whether a candidate is the worst row or precedes it, and isn't a row.
 fn is_missing(rows: &[Row], worst: Option<Candidate>, candidate: &Candidate) -> bool
     ensures { result ≡ reach.is_missing rows.now worst candidate.now }
 {

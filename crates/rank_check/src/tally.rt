@@ -60,7 +60,7 @@ pub(crate) struct Tally {
     rows: Vec<Candidate>,
     /// The same in the order of candidates.
     marks: Vec<Mark>,
-    /// No row stands behind this one, so that most candidates end at one comparison.
+    /// No row comes after this one, so that most candidates end at one comparison.
     last: Option<Candidate>,
     count: u64,
     highest: Option<i64>,
@@ -98,7 +98,7 @@ impl Tally {
         })
     }
 
-    /// Offers the candidates of a series, and answers the greatest score of them.
+    /// Offers the candidates of a series, and returns the greatest score of them.
     pub(crate) fn scan(&mut self, series: &Series, query: &Query) -> Option<i64>
         ensures taken { self.new ≡ fold survey.tally_with (survey.reset self.old) (candidates query.now series.now) }
         ensures highest { result ≡ self.new.highest }
@@ -164,7 +164,7 @@ impl FloorSink for Tally {
     }
 }
 
-/// Takes one more candidate into account, unless it stands behind the last row.
+/// Takes one more candidate into account, unless it comes after the last row.
 // Few candidates score as much as the last row, so it has no place in the loops over days.
 #[inline(never)]
 fn meet(last: &Option<Candidate>, marks: &mut Vec<Mark>, candidate: Candidate)
@@ -205,7 +205,7 @@ fn place_of(marks: &[Mark], candidate: &Candidate) -> usize
 
 /// Whether the candidate precedes the first mark.
 ///
-/// Where a report's rows have low scores nearly all candidates do, and end at this comparison.
+/// If a report's rows have low scores nearly all candidates do, and end at this comparison.
 fn precedes_all(marks: &[Mark], candidate: &Candidate) -> bool
     ensures { result ≡ order.precedes_first candidate.now marks.now }
 {
@@ -368,7 +368,7 @@ fn counted(marks: &[Mark]) -> u64
     ahead
 }
 
-/// A row that no other stands behind, if there are rows.
+/// A row that no other comes after, if there are rows.
 fn last_of(rows: &[Candidate]) -> Option<Candidate>
     ensures { survey.IsLast result rows.now }
 {
@@ -379,7 +379,7 @@ fn last_of(rows: &[Candidate]) -> Option<Candidate>
     last
 }
 
-/// The candidate, or the last one where the candidate doesn't stand behind it.
+/// The candidate, or the last one if the candidate doesn't come after it.
 fn later(last: Option<Candidate>, candidate: &Candidate) -> Candidate
     ensures { result ≡ survey.later last candidate.now }
 {
@@ -393,7 +393,7 @@ fn later(last: Option<Candidate>, candidate: &Candidate) -> Candidate
     }
 }
 
-/// Whether there is a last row, and this is no lower score than its own.
+/// Whether there is a last row, and this isn't a lower score than its own.
 #[inline(always)]
 fn may_reach(last: &Option<Candidate>, score: i64) -> bool
     ensures { result ≡ order.may_reach last.now score }
@@ -404,7 +404,7 @@ fn may_reach(last: &Option<Candidate>, score: i64) -> bool
     }
 }
 
-/// Whether there is a last row, and the candidate doesn't stand behind it.
+/// Whether there is a last row, and the candidate doesn't come after it.
 fn reaches(last: &Option<Candidate>, candidate: &Candidate) -> bool
     ensures { result ≡ survey.reaches last.now candidate.now }
 {

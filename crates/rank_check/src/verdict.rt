@@ -10,7 +10,7 @@ pub enum Paper {
 /// Why a line of a paper is refused.
 #[derive(Clone, Copy, Debug, PartialEq, Eq)]
 pub enum Why {
-    /// It isn't of the form of its place.
+    /// It isn't in the format of its place.
     Form,
     /// It has another query than the one that was asked.
     OtherQuery,
@@ -26,7 +26,7 @@ pub enum Why {
     OtherSeries,
     /// A candidate of the series scores above the bound.
     NoBound,
-    /// A series is passed over whose bound isn't strictly below the k-th score.
+    /// A series is skipped whose bound isn't strictly below the k-th score.
     NotBelow,
     /// It has another count than the report has rows of its station.
     NotCounted,

@@ -4,7 +4,7 @@ ghost use Rattle.std.specs.Prelude.{◌≡◌, ◌++◌, IfOk, IsOkAnd};
 
 use ghcn_fields::Memory;
 
-/// Both lists, the second behind the first.
+/// Both lists, the second after the first.
 pub(crate) fn both<T: Drop>(
     first: Result<Vec<T>, Memory>,
     second: Result<Vec<T>, Memory>,

@@ -19,7 +19,7 @@ use std::thread::Threads;
 
 /// The answer of 1 to 64 workers in threads, under a guess from -2^31 to 2^31 or none.
 ///
-/// Which morsels are passed over may differ from run to run. Where one worker finds no memory, the
+/// Which morsels are skipped may differ from run to run. If one worker finds no memory, the
 /// others run to their end.
 pub fn crew<R: Threads + Wait + Sync, G: Gate + Sync>(
     rt: &R,

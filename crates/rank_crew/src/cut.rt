@@ -9,7 +9,7 @@ use crate::places::Places;
 pub(crate) struct LastPart {
     /// The first of them.
     pub(crate) from: u64,
-    /// What they weigh, or 2^64 - 1 where it is more.
+    /// What they weigh, or 2^64 - 1 if it is more.
     pub(crate) weight: u64,
 }
 
@@ -32,7 +32,7 @@ pub(crate) fn cut<P: Places>(places: &P, to: u64, share: u64) -> LastPart
     LastPart { from: 0, weight }
 }
 
-/// What the places before one weigh, or 2^64 - 1 where it is more.
+/// What the places before one weigh, or 2^64 - 1 if it is more.
 pub(crate) fn weight_of<P: Places>(places: &P, to: u64) -> u64 {
     let mut all: u64 = 0;
     for place in 0..to {

@@ -14,8 +14,8 @@ use std::alloc::Global;
 use std::sync::Wait;
 use std::thread::{Threads, join};
 
-/// The first so many workers of a job. The last of them has a thread; the caller starts the others in
-/// the same way, and is the first. Where a thread can't be started, the caller does its work too.
+/// The first that many workers of a job. The last of them has a thread; the caller starts the others in
+/// the same way, and is the first. If a thread can't be started, the caller does its work too.
 pub(crate) fn part<R: Threads + Wait + Sync, J: Job + Sync>(
     rt: &R,
     alloc: Global,

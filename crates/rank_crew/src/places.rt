@@ -77,9 +77,9 @@ fn blocks_between((first, last): (Day, Day)) -> u32 {
     last.block().abs_diff(first.block())
 }
 
-/// The bounds of the places before one, which have this weight, by so many workers. The last worker
+/// The bounds of the places before one, which have this weight, by that many workers. The last worker
 /// has a thread, and its share of the weight; the caller starts the others in the same way, and is the
-/// first. Where a thread can't be started, the caller measures its places too.
+/// first. If a thread can't be started, the caller measures its places too.
 pub(crate) fn measure_places<R: Threads + Wait + Sync, P: Places + Sync>(
     rt: &R,
     alloc: Global,

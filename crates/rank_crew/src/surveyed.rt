@@ -16,7 +16,7 @@ use std::thread::Threads;
 
 /// The plan of a query over some data, whose stations 1 to 64 workers measure in threads.
 ///
-/// Where one worker finds no memory, the others run to their end.
+/// If one worker finds no memory, the others run to their end.
 pub fn survey<'d, R: Threads + Wait + Sync, G: Gate + Sync>(
     rt: &R,
     alloc: Global,

@@ -15,7 +15,7 @@ use std::sync::Wait;
 /// One worker of a plan, until its claim is past the last morsel.
 ///
 /// The seat has a right for each morsel and one more. It comes back with all claims and raises that
-/// were made, after want of memory too, and with no others.
+/// were made, also if memory runs out, and with no others.
 pub fn work<R: Wait, G: Gate>(
     rt: &R,
     alloc: Global,

@@ -1,6 +1,6 @@
 //! Why the head of papers is refused.
 
-/// The first fault that can be seen of papers without data. Lines count from 1.
+/// The first error that can be seen of papers without data. Lines count from 1.
 ///
 /// The tests are made in the order in which the reasons stand here, and each of them from the first
 /// line on.

@@ -18,9 +18,9 @@ use rank_papers::{Certificate, Line, Report, Row};
 use rank_query::Query;
 use std::alloc::Global;
 
-/// The first fault of the head of these papers, as papers of this query.
+/// The first error of the head of these papers, as papers of this query.
 ///
-/// Of papers that were read there is none exactly where their head is right.
+/// Of papers that were read there is none if and only if their head is right.
 pub fn check_head(
     alloc: Global,
     query: &Query,
@@ -38,7 +38,7 @@ pub fn check_head(
     head_fault(alloc, query, report, certificate)
 }
 
-/// The first fault of the head of these papers.
+/// The first error of the head of these papers.
 fn head_fault(
     alloc: Global,
     query: &Query,
@@ -62,7 +62,7 @@ fn head_fault(
     count_fault(alloc, rows, lines, certificate.counts.as_slice())
 }
 
-/// The first fault of the order of rows, of the k-th score and of the order of lines.
+/// The first error of the order of rows, of the k-th score and of the order of lines.
 fn place_fault(query: &Query, rows: &[Row], kth: Option<i64>, lines: &[Line]) -> Option<HeadFault>
     ensures first { result ≡ first_failing (tests.order_tests (map named_in rows.now)
         ++ tests.floor_test query.now (map named_in rows.now) kth ∷ tests.rising_tests lines.now) }

@@ -1,7 +1,7 @@
 //! The heads of papers: what can be seen of a report and its certificate without any data.
 //!
-//! Who merges the papers of parts tests them by it, and so does who judges papers in pieces. It
-//! promises that a head has no fault exactly where it is right.
+//! A caller that merges the papers of parts tests them by it, and so does one that judges papers in pieces. It
+//! promises that a head has no error if and only if it is right.
 #![tactic(auto)]
 
 mod fault;

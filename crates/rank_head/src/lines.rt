@@ -13,7 +13,7 @@ use ghcn_fields::Memory;
 use rank_papers::{Line, Row};
 use std::alloc::Global;
 
-/// The refusal of the first line whose ID doesn't stand behind that of the line before it. The
+/// The refusal of the first line whose ID doesn't come after that of the line before it. The
 /// second line of a series stands on line 5.
 pub(crate) fn rise_fault(lines: &[Line]) -> Option<HeadFault>
     ensures { result ≡ first_failing (tests.rising_tests lines.now) }
@@ -37,7 +37,7 @@ fn first_not_rising(lines: &[Line]) -> Option<usize>
     pairs.position(|(line, next)| !line.id.cmp(&next.id).is_lt())
 }
 
-/// The refusal of the first row that is of no series that was scanned, or else of the first count, where
+/// The refusal of the first row that is of no series that was scanned, or otherwise of the first count, if
 /// there are any, that isn't the number of rows of its line's station. The first line of a series stands on
 /// line 4.
 pub(crate) fn count_fault(
@@ -59,7 +59,7 @@ pub(crate) fn count_fault(
     Ok(miscount(counts, wanted.as_slice()))
 }
 
-/// The counts of so many lines before a row is counted.
+/// The counts of that many lines before a row is counted.
 fn no_rows(alloc: Global, lines: usize) -> Result<Vec<u64>, Memory>
     ensures { IfOk result (λ counts. counts.items ≡ replicate lines 0) }
 {

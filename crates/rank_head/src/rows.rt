@@ -26,7 +26,7 @@ pub fn candidates_of(alloc: Global, rows: &[Row]) -> Result<Vec<Candidate>, Memo
     Ok(rows.iter().map(|row| row.candidate).collect(alloc)?)
 }
 
-/// The score of the k-th row, if there are so many.
+/// The score of the k-th row, if there are that many.
 pub fn kth_score(query: &Query, rows: &[Row]) -> Option<i64>
     ensures asked { IsAsked query.now }
     ensures kth { result ≡ kth_of_best query.now.k (tests.of_rows (map named_in rows.now)) }
@@ -69,7 +69,7 @@ pub(crate) fn floor_fault(query: &Query, rows: &[Row], kth: Option<i64>) -> Opti
     }
 }
 
-/// The refusal of the first row that is of no series that was scanned. The first stands on line 3. Where there
+/// The refusal of the first row that is of no series that was scanned. The first stands on line 3. If there
 /// is none, each row was counted with the line of its station.
 pub(crate) fn scanned_fault(lines: &[Line], rows: &[Row], counts: &mut [u64]) -> Option<HeadFault>
     requires rise { tests.IdsRise lines.now }
@@ -101,7 +101,7 @@ fn first_not_scanned(lines: &[Line], rows: &[Row], counts: &mut [u64]) -> Option
     None
 }
 
-/// Whether one of these lines, which rise by ID, is of the station and the series wasn't passed over.
+/// Whether one of these lines, which rise by ID, is of the station and the series wasn't skipped.
 /// A row is counted with that line.
 fn count_row(lines: &[Line], id: &StationId, counts: &mut [u64]) -> bool
     requires rise { tests.IdsRise lines.now }

@@ -21,7 +21,7 @@ pub trait Archive {
     /// An open file.
     type File: Read + Drop;
 
-    /// The bytes of the file of a path, where they are known.
+    /// The bytes of the file of a path, if they are known.
     ghost bytes_of: { Self → List ℕ → Option (List ℕ) };
 
     /// Opens a file at its first byte.
@@ -68,13 +68,13 @@ pub fn read_whole<A: Archive>(alloc: Global, archive: &A, path: &str) -> io::Res
 {
     let mut file = archive.open(path)?;
     let length = archive.length(&file)? as usize;
-    // One byte more, so that the end is found without a growth.
+    // One byte more, so that the end is found without an allocation.
     let mut bytes = Vec::with_capacity(alloc, length.saturating_add(1))?;
     file.read_to_end(&mut bytes)?;
     Ok(bytes)
 }
 
-/// Feeds daily files in their order, each by pieces of the buffer's length, or answers the path of
+/// Feeds daily files in their order, each by pieces of the buffer's length, or returns the path of
 /// the first that can't be read.
 pub fn feed_files<'p, A: Archive, T: Taker>(
     archive: &A,

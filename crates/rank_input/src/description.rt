@@ -11,11 +11,11 @@ use ghcn_description::{Description, FileDescriber};
 use ghcn_files::Stations;
 use std::alloc::Global;
 
-/// What was given so far of files that are to be described. The first fault is kept, what comes
-/// behind it is taken and passed over, and the end tells it.
+/// What was given so far of files that are to be described. The first error is kept, what comes
+/// after it is taken and skipped, and the end returns it.
 #[derive(Drop)]
 pub struct DescriptionIntake {
-    /// Describes the daily files for the listed stations; or the fault of the station list.
+    /// Describes the daily files for the listed stations; or the error of the station list.
     read: Result<FileDescriber, Fault>,
 }
 
@@ -29,8 +29,8 @@ impl DescriptionIntake {
         }
     }
 
-    /// What all files hold that were given, or the first fault in the order: stations, number of
-    /// daily files, files and lines in order. The current file is ended where it has a byte.
+    /// What all files hold that were given, or the first error in the order: stations, number of
+    /// daily files, files and lines in order. The current file is ended if it has a byte.
     pub fn finish(self) -> Result<Description, Fault>
         requires { HasTakenSome self }
         ensures ok { IfOk result (DescribesInput self) }

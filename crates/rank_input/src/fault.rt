@@ -6,7 +6,7 @@ use ghcn_series::{DailyWhy, DataFault};
 use rank_query::QueryFault;
 use thiserror::Error;
 
-/// The first fault of an input, in the order: the number of workers, the guess, the
+/// The first error of an input, in the order: the number of workers, the guess, the
 /// query, the stations, the daily files.
 ///
 /// Words, lines and files count from 1.
@@ -16,7 +16,7 @@ pub enum Fault {
     StationLine { line: u64, why: StationWhy },
     #[error("refused 2 TooManyStations")]
     TooManyStations,
-    /// Memory was really refused. It can come at any growth, so it has no place in the order.
+    /// Memory was really refused. It can come at any allocation, so it has no place in the order.
     #[error(transparent)]
     Memory(Memory),
     #[error("refused 5 DailyLine file {file} line {line} {why}")]

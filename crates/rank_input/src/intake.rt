@@ -22,19 +22,19 @@ pub struct TakenInput {
     pub foreign: Foreign,
 }
 
-/// What a run was given so far. It never answers a fault while it is given more: the first one is
-/// kept, what comes behind it is taken and passed over, and the end tells it.
+/// What a run was given so far. It never returns an error while it is given more: the first one is
+/// kept, what comes after it is taken and skipped, and the end returns it.
 #[derive(Drop)]
 pub struct Intake {
-    /// How many bytes of daily files came, or 2^64 - 1 where there are more.
+    /// How many bytes of daily files came, or 2^64 - 1 if there are more.
     pub bytes: u64,
     /// What is asked, and a reader of the daily files of the listed stations, which keeps the series
-    /// of the query's element; or the fault before these files.
+    /// of the query's element; or the error before these files.
     read: Result<(Query, DataReader), Fault>,
 }
 
 impl Intake {
-    /// Takes what is asked, and the whole station list; a fault comes in the order of the arguments.
+    /// Takes what is asked, and the whole station list; an error comes in the order of the arguments.
     pub fn new(alloc: Global, query: &str, stations: &[u8]) -> Self
         ensures { HasTaken result (given query.now stations.now []) }
     {
@@ -57,8 +57,8 @@ impl Intake {
     }
 
     /// The query, what it needs of the data of all that was given, and the foreign files; or the first
-    /// fault in the order: query, stations, number of daily files, files and lines in order. The
-    /// current file is ended where it has a byte.
+    /// error in the order: query, stations, number of daily files, files and lines in order. The
+    /// current file is ended if it has a byte.
     pub fn finish(self) -> Result<TakenInput, Fault>
         requires { HasTakenSome self }
         ensures ok { IfOk result (λ taken. HoldsInput self taken.query taken.dataset) }

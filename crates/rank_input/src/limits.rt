@@ -8,14 +8,14 @@ use crate::fault::Fault;
 /// The greatest number of workers of a run.
 const MOST_WORKERS: u64 = 64;
 
-/// From so many bytes of daily files on, threads are worth starting. To read 16 MiB takes some 15 ms,
+/// From that many bytes of daily files on, threads are worth starting. To read 16 MiB takes some 15 ms,
 /// and to start the threads of four workers half a millisecond.
 const WORTH_THREADS: u64 = 1 << 24;
 
 /// The greatest magnitude of a guess, in the raw unit of a score.
 const GREATEST_GUESS: i64 = 1 << 31;
 
-/// Whether so many workers may run, 1 to 64.
+/// Whether that many workers may run, 1 to 64.
 fn may_be_crew(workers: u64) -> bool
     ensures { result ≡ is_crew workers }
 {
@@ -32,7 +32,7 @@ fn may_be_guessed(guess: Option<i64>) -> bool
     }
 }
 
-/// Tests the words of a run, the number of workers first.
+/// Tests the options of a run, the number of workers first.
 pub fn check_words(workers: u64, guess: Option<i64>) -> Result<(), Fault>
     ensures workers { IfOk result (λ _. is_crew workers ≡ true) }
     ensures guess { IfOk result (λ _. is_guess guess ≡ true) }
@@ -47,8 +47,8 @@ pub fn check_words(workers: u64, guess: Option<i64>) -> Result<(), Fault>
     Ok(())
 }
 
-/// How many of the workers that are asked for are started over so many bytes of daily files: one,
-/// where threads would take longer to start than they save.
+/// How many of the workers that are asked for are started over that many bytes of daily files: one,
+/// if threads would take longer to start than they save.
 pub fn workers_for(asked: u64, bytes: u64) -> u64
     requires { is_crew asked ≡ true }
     ensures crew { is_crew result ≡ true }

@@ -1,6 +1,6 @@
 //! What takes daily files, whose bytes come in pieces.
 
-/// Takes daily files in their order, each in pieces that may end anywhere. It never answers a fault
+/// Takes daily files in their order, each in pieces that may end anywhere. It never returns an error
 /// while it is given more.
 pub trait Taker {
     ghost use Rattle.rank_input.specs.Takes.{Input, HasTakenSome, TakesBytes, TakesFileEnd};
@@ -14,7 +14,7 @@ pub trait Taker {
         ensures taken { TakesBytes has_taken self.old self.new bytes.now }
         ensures going { HasTakenSome has_taken self.new };
 
-    /// Ends the current daily file, even where it is empty.
+    /// Ends the current daily file, even if it is empty.
     fn end_of_file(&mut self)
         requires { HasTakenSome has_taken self.old }
         ensures taken { TakesFileEnd has_taken self.old self.new }

@@ -5,16 +5,16 @@ use ghcn_files::StationId;
 use std::fmt;
 use thiserror::Error;
 
-/// The first fault of parts, in their order, and then of all their lines together.
+/// The first error of parts, in their order, and then of all their lines together.
 ///
 /// Parts and lines count from 1. Of one part first both papers have to be of their form, and then
 /// their heads are tested, in the order in which the reasons stand here.
 #[derive(Clone, Copy, Debug, PartialEq, Eq, Error)]
 pub enum MergeFault {
-    /// The line of the report isn't of the form of its place.
+    /// The line of the report isn't in the format of its place.
     #[error("refused part {part} report line {line} BadReport")]
     BadReport { part: u64, line: u64 },
-    /// The line of the certificate isn't of the form of its place.
+    /// The line of the certificate isn't in the format of its place.
     #[error("refused part {part} certificate line {line} BadCertificate")]
     BadCertificate { part: u64, line: u64 },
     /// The report or the certificate has another query than the one that was asked.
@@ -38,7 +38,7 @@ pub enum MergeFault {
     /// The first station by ID that has two lines, in the certificates of two parts.
     #[error("refused twice {}", Printed(*.id))]
     Twice { id: StationId },
-    /// Memory was really refused. It can come at any growth, so it has no place in the order.
+    /// Memory was really refused. It can come at any allocation, so it has no place in the order.
     #[error(transparent)]
     Memory(Memory),
 }

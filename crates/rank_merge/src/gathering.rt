@@ -21,7 +21,7 @@ use std::alloc::Global;
 pub(crate) struct Gathered {
     pub(crate) rows: Vec<Row>,
     pub(crate) lines: Vec<Line>,
-    /// A candidate that k of the rows come before, or tie with: what stands behind it isn't taken.
+    /// A candidate that k of the rows come before, or tie with: what comes after it isn't taken.
     pub(crate) floor: Option<Candidate>,
 }
 
@@ -64,7 +64,7 @@ impl Gathered {
         self.settle(k)
     }
 
-    /// Leaves the first k rows where there are twice as many or more, so that a sort of fewer than 3k rows
+    /// Leaves the first k rows if there are twice as many or more, so that a sort of fewer than 3k rows
     /// lets go of k at least. The last of them is the floor.
     fn settle(&mut self, k: u64) -> Result<(), Memory>
         requires few { k ≤ 1000 }

@@ -1,6 +1,6 @@
 //! Papers of parts, merged into papers of the whole. No data is looked at again.
 //!
-//! Who ranked an archive in parts merges their papers by it. It promises that what it answers is
+//! A caller that ranked an archive in parts merges their papers by it. It promises that what it returns is
 //! right for all files wherever the papers of each part are right for the part's files.
 #![tactic(auto)]
 

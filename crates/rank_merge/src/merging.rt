@@ -31,7 +31,7 @@ pub struct Merged {
 /// Merges the papers of parts, each a report and a certificate, into the papers of the whole.
 ///
 /// The rows of all parts are put in order, and the first k are kept. All lines are kept, by
-/// increasing ID, each with its own bound, and what was passed over stays so. The certificate is of
+/// increasing ID, each with its own bound, and what was skipped stays so. The certificate is of
 /// version 2; those of the parts may be of version 1 or 2. Of no parts at all the papers are those
 /// of no data.
 pub fn merge(alloc: Global, query: &Query, parts: &[(&[u8], &[u8])]) -> Result<Merged, MergeFault>

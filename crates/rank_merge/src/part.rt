@@ -69,7 +69,7 @@ fn of_paper(part: u64, why: PaperFault) -> MergeFault
     }
 }
 
-/// The refusal of a part whose head has this fault.
+/// The refusal of a part whose head has this error.
 fn of_head(part: u64, fault: HeadFault) -> MergeFault
     ensures { result ≡ merging.of_head part fault }
 {

@@ -17,10 +17,10 @@ use ghcn_files::{StationId, are_visible};
 use rank_query::Query;
 use std::alloc::Global;
 
-/// The greatest count, since a report has at most so many rows.
+/// The greatest count, since a report has at most that many rows.
 const MOST_ROWS: u64 = 1000;
 
-/// What a certificate says, or its first line that isn't of the form of its place.
+/// What a certificate says, or its first line that isn't in the format of its place.
 pub fn read_certificate(alloc: Global, bytes: &[u8]) -> Result<Certificate, PaperFault>
     ensures ok { IfOk result (λ c.
         certificate.read_certificate bytes.now ≡ Ok (certificate.certified_in c)) }
@@ -98,7 +98,7 @@ fn read_kth(
     }
 }
 
-/// A certificate with these lines, and with their counts where its version has them.
+/// A certificate with these lines, and with their counts if its version has them.
 fn with_lines(
     alloc: Global,
     version: u64,
@@ -170,7 +170,7 @@ fn add(lines: &mut Vec<Counted>, line: Counted) -> Result<(), Memory>
     Ok(())
 }
 
-/// Reads the end line of so many lines, behind which nothing stands.
+/// Reads the end line of that many lines, after which nothing stands.
 fn read_end(paper: &mut Vec<u8>, count: u64, line: &[u8], behind: &[u8]) -> Result<(), PaperFault>
     requires { count < 2 ^ 63 }
     ensures ok { OnOk result (certificate.ending count line.now behind.now ≡ Ok []) }
@@ -229,7 +229,7 @@ fn line_of(paper: &mut Vec<u8>, version: u64, line: &[u8]) -> Result<Option<Coun
     })
 }
 
-/// The line in its columns, and its count where it has one.
+/// The line in its columns, and its count if it has one.
 fn counted_in_columns(version: u64, line: &[u8]) -> Option<Counted>
     ensures { result ≡ certificate.counted_in_columns version line.now }
 {
@@ -254,7 +254,7 @@ fn line_in_columns(line: &[u8]) -> Option<Line>
     })
 }
 
-/// What stands behind the first blank.
+/// What comes after the first blank.
 fn behind_word(field: &[u8]) -> &[u8]
     ensures { result.now ≡ certificate.behind_word field.now }
 {
@@ -266,7 +266,7 @@ fn behind_word(field: &[u8]) -> &[u8]
     }
 }
 
-/// A line with the count that a field writes, where it has one.
+/// A line with the count that a field writes, if it has one.
 fn with_count(version: u64, field: &[u8], entry: Line) -> Option<Counted>
     ensures { result ≡ certificate.with_count version field.now entry }
 {
@@ -274,14 +274,14 @@ fn with_count(version: u64, field: &[u8], entry: Line) -> Option<Counted>
     Some(Counted { entry, count })
 }
 
-/// The count that a field writes; 0 where there is none.
+/// The count that a field writes; 0 if there is none.
 fn count_in(has: bool, field: &[u8]) -> Option<u64>
     ensures { result ≡ certificate.count_field has field.now }
 {
     if has { count(field) } else { Some(0) }
 }
 
-/// The number that digits write, where it is at most that of a report's rows.
+/// The number that digits write, if it is at most that of a report's rows.
 fn count(digits: &[u8]) -> Option<u64>
     ensures { result ≡ up_to 1000 (natural digits.now) }
 {

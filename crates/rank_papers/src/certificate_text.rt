@@ -3,14 +3,14 @@
 //! ```text
 //! extremes certificate 2
 //! query TEXT                the query in its one spelling
-//! kth S                     the score of the last row where there are k; otherwise `kth none`
+//! kth S                     the score of the last row if there are k; otherwise `kth none`
 //! scan ID B C               a line for each series of the query, by increasing ID, with a bound on
 //!                           its candidates' scores and the number of the report's rows of its
-//!                           station; `skip ID B` where it was passed over
+//!                           station; `skip ID B` if it was skipped
 //! end M                     M lines of series
 //! ```
 //!
-//! In version 1, which is read alone, no line has a number of rows.
+//! In version 1, which is only read, no line has a number of rows.
 
 ghost use Rattle.std.specs.Prelude.{◌≡◌, ◌<◌, ◌++◌, [], ◌∷◌, decimal, if◌then◌else◌, FitsSigned, length, OnOk, IfOk};
 ghost use Rattle.std.specs.Int.{w64};
@@ -115,7 +115,7 @@ fn push_lines(paper: &mut Vec<u8>, lines: &[Line], counts: &[u64]) -> Result<(),
     Ok(())
 }
 
-/// Adds the line of a series, with its count where the version has one.
+/// Adds the line of a series, with its count if the version has one.
 pub(crate) fn push_line(paper: &mut Vec<u8>, version: u64, line: &Counted) -> Result<(), Memory>
     ensures text { OnOk result (paper.new.items ≡ paper.old.items ++ certificate.entry_line version line.now) }
     ensures fits { OnOk result (FitsSigned w64 line.now.entry.bound) }
@@ -133,7 +133,7 @@ pub(crate) fn push_line(paper: &mut Vec<u8>, version: u64, line: &Counted) -> Re
     Ok(())
 }
 
-/// Adds a bound, and a count behind it where there is one.
+/// Adds a bound, and a count after it if there is one.
 fn push_bound(paper: &mut Vec<u8>, bound: i64, has: bool, count: u64) -> Result<(), Memory>
     ensures text { OnOk result (paper.new.items
         ≡ paper.old.items ++ (signed_decimal bound ++ (if has then 32 ∷ decimal count else []))) }
@@ -143,7 +143,7 @@ fn push_bound(paper: &mut Vec<u8>, bound: i64, has: bool, count: u64) -> Result<
     push_count(paper, has, count)
 }
 
-/// Adds a blank and a count, where there is one.
+/// Adds a blank and a count, if there is one.
 fn push_count(paper: &mut Vec<u8>, has: bool, count: u64) -> Result<(), Memory>
     ensures { OnOk result (paper.new.items ≡ paper.old.items ++ (if has then 32 ∷ decimal count else [])) }
 {
@@ -154,7 +154,7 @@ fn push_count(paper: &mut Vec<u8>, has: bool, count: u64) -> Result<(), Memory>
     Ok(())
 }
 
-/// Adds the last line, of so many lines of series.
+/// Adds the last line, of that many lines of series.
 pub(crate) fn push_end(paper: &mut Vec<u8>, lines: u64) -> Result<(), Memory>
     ensures { OnOk result (paper.new.items ≡ paper.old.items ++ certificate.end_line lines) }
 {

@@ -1,8 +1,8 @@
-//! Why a text is no paper.
+//! Why a text isn't a paper.
 
 use ghcn_fields::Memory;
 
-/// The first line that isn't of the form of its place, counted from 1, or want of memory.
+/// The first line that isn't in the format of its place, counted from 1, or out of memory.
 #[derive(Clone, Copy, Debug, PartialEq, Eq)]
 pub enum PaperFault {
     BadReport { line: u64 },

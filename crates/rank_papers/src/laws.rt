@@ -6,16 +6,16 @@ ghost use Rattle.rank_papers.specs.RightLaws as right;
 
 use rank_scores::one_element_is_enough;
 
-/// A text is read as a certificate exactly where it is the text of what is read, and every other
-/// text is refused at its first bad line. A certificate is right exactly where what is read is.
+/// A text is read as a certificate if and only if it is the text of what is read, and every other
+/// text is refused at its first bad line. A certificate is right if and only if what is read is.
 pub fn certificates_are_read()
     ensures read { laws.CertificatesAreRead }
     ensures wrong { laws.CertificatesGoWrong }
     ensures right { laws.RightCertificatesSayRight }
 {}
 
-/// A text is read as a report exactly where it is the text of what is read, and every other text
-/// is refused at its first bad line. A report is right exactly where what is read is.
+/// A text is read as a report if and only if it is the text of what is read, and every other text
+/// is refused at its first bad line. A report is right if and only if what is read is.
 pub fn reports_are_read()
     ensures read { laws.ReportsAreRead }
     ensures wrong { laws.ReportsGoWrong }
@@ -31,14 +31,14 @@ pub fn papers_are_found()
     ensures certificate { right.CertificatesAreFound }
 {}
 
-/// What is right for the data of files without a fault is right for what their lines say, and the
+/// What is right for the data of files without an error is right for what their lines say, and the
 /// other way round.
 pub fn papers_are_said()
     ensures report { right.ReportsAreSaid }
     ensures certificate { right.CertificatesAreSaid }
 {}
 
-/// The papers of a query say nothing of the series of other elements: where these are left out of
+/// The papers of a query say nothing of the series of other elements: if these are left out of
 /// the data, the same report and the same certificates are right.
 pub fn papers_of_one_element()
     ensures report { one_element.ReportStays }

@@ -3,7 +3,7 @@
 //!
 //! The program writes them. It is proved that the report of the best candidates of a query
 //! is the right one, that the certificate of a plan's answer is a right one, and that a text is read
-//! as a report or a certificate exactly where it is one.
+//! as a report or a certificate if and only if it is one.
 #![tactic(auto)]
 
 mod certificate_lines;

@@ -15,7 +15,7 @@ use memchr::memchr;
 /// The greatest magnitude of a number.
 const GREATEST: u64 = 1 << 63;
 
-/// The first line of a text, with its line feed where it has one, and what follows it.
+/// The first line of a text, with its line feed if it has one, and what follows it.
 pub(crate) fn first_line(text: &[u8]) -> Option<(&[u8], &[u8])>
     ensures { lines.IsFirstLineCut text.now (option_map (λ cut. (cut.0.now, cut.1.now)) result) }
 {
@@ -69,7 +69,7 @@ pub(crate) fn number(field: &[u8]) -> Option<i64>
     }
 }
 
-/// The number of a sign and a magnitude, where it is inside 64 bits.
+/// The number of a sign and a magnitude, if it is inside 64 bits.
 pub(crate) fn signed(is_negative: bool, magnitude: u64) -> Option<i64>
     requires { magnitude ≤ 2 ^ 63 }
     ensures { result ≡ lines.in_i64 (Some (numbers.with_sign is_negative magnitude)) }
@@ -106,7 +106,7 @@ fn is_text_of(number: i64, field: &[u8]) -> bool
     buffer.format(number).as_bytes() == field
 }
 
-/// The number that digits write, where it is at most `GREATEST`.
+/// The number that digits write, if it is at most `GREATEST`.
 pub(crate) fn magnitude(digits: &[u8]) -> Option<u64>
     ensures { result ≡ numbers.up_to (2 ^ 63) (numbers.natural digits.now) }
 {

@@ -10,7 +10,7 @@ use ghcn_fields::Memory;
 use itoa::Buffer;
 use rank_query::Score;
 
-/// Adds the value behind a score as it is printed, without its unit.
+/// Adds the value of a score as it is printed, without its unit.
 #[tactic(auto, using(crate::proofs::ValueTexts::value_signed))]
 pub(crate) fn push_value(paper: &mut Vec<u8>, score: Score, number: i64) -> Result<(), Memory>
     ensures { OnOk result (paper.new.items ≡ paper.old.items
@@ -22,7 +22,7 @@ pub(crate) fn push_value(paper: &mut Vec<u8>, score: Score, number: i64) -> Resu
     push_magnitude(paper, measure_of(score), number.unsigned_abs())
 }
 
-/// Whether the value behind a score is below zero. A score of the lowest is the negated value.
+/// Whether the value of a score is below zero. A score of the lowest is the negated value.
 fn is_negative(score: Score, number: i64) -> bool
     ensures { result ≡ int_lt (values.value_of score number) (pos 0) }
 {
@@ -43,7 +43,7 @@ fn push_magnitude(paper: &mut Vec<u8>, measure: Measure, magnitude: u64) -> Resu
     }
 }
 
-/// Adds so many tenths with one decimal.
+/// Adds that many tenths with one decimal.
 fn push_tenths(paper: &mut Vec<u8>, tenths: u64) -> Result<(), Memory>
     ensures { OnOk result (paper.new.items ≡ paper.old.items ++ tenths_of tenths) }
 {

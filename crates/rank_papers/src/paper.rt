@@ -20,14 +20,14 @@ pub struct Row {
     pub name: Vec<u8>,
 }
 
-/// What a certificate says: a query, the k-th score where there is one, and a line for each series.
+/// What a certificate says: a query, the k-th score if there is one, and a line for each series.
 #[derive(Debug, Drop)]
 pub struct Certificate {
     pub version: u64,
     pub query: Query,
     pub kth: Option<i64>,
     pub lines: Vec<Line>,
-    /// In version 2, for each line how many rows of the report are of its station: 0 where the
-    /// series was passed over. In version 1 none at all.
+    /// In version 2, for each line how many rows of the report are of its station: 0 if the
+    /// series was skipped. In version 1 none at all.
     pub counts: Vec<u64>,
 }

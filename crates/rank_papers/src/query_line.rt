@@ -30,7 +30,7 @@ pub(crate) fn query_of(
     })
 }
 
-/// The query that a text asks, where its bytes can be printed.
+/// The query that a text denotes, if its bytes can be printed.
 fn query_of_text(text: &[u8]) -> Option<Query>
     ensures { result ≡ lines.query_of_text text.now }
 {

@@ -1,6 +1,6 @@
-//! Reading a report line by line. A line is that of the row that is cut out of it, where it is spelled so.
+//! Reading a report line by line. A line is that of the row that is cut out of it, if it is spelled so.
 //!
-//! Behind a rank of d digits a row has these columns, counted from 0:
+//! After a rank of d digits a row has these columns, counted from 0:
 //!
 //! ```text
 //! d + 1   ID           d + 24  last day
@@ -33,7 +33,7 @@ use std::alloc::Global;
 /// How many bytes a name has at most.
 const NAME_LENGTH: usize = 30;
 
-/// What a report says, or its first line that isn't of the form of its place.
+/// What a report says, or its first line that isn't in the format of its place.
 pub fn read_report(alloc: Global, bytes: &[u8]) -> Result<Report, PaperFault>
     ensures ok { IfOk result (λ r. report.read_report bytes.now ≡ Ok (report.reported_in r)) }
     ensures says { IfOk result (λ r. report.IsReportOf (report.reported_in r) bytes.now) }
@@ -105,7 +105,7 @@ fn add(rows: &mut Vec<Row>, row: Row) -> Result<(), Memory>
     Ok(())
 }
 
-/// Reads the end line of so many rows, behind which nothing stands.
+/// Reads the end line of that many rows, after which nothing stands.
 fn read_end(
     paper: &mut Vec<u8>,
     query: &Query,
@@ -129,7 +129,7 @@ fn read_end(
     Ok(())
 }
 
-/// The row behind so many others whose line this is, where there may be one more.
+/// The row after that many others whose line this is, if there may be one more.
 fn row_behind(
     alloc: Global,
     paper: &mut Vec<u8>,
@@ -167,7 +167,7 @@ fn row_of(
     Ok(Some(row))
 }
 
-/// The row in the columns behind a rank of so many digits.
+/// The row in the columns after a rank of that many digits.
 fn row_in_columns(
     alloc: Global,
     paper: &mut Vec<u8>,
@@ -191,7 +191,7 @@ fn row_in_columns(
     row_with(alloc, id, name, first, last, score)
 }
 
-/// A row of these, where each is there, the ID is visible and the name can be.
+/// A row of these, if each is there, the ID is visible and the name can be.
 fn row_with(
     alloc: Global,
     id: &[u8],
@@ -220,7 +220,7 @@ fn row_with(
     }))
 }
 
-/// The ID of these bytes, where they are eleven that show in print.
+/// The ID of these bytes, if they are eleven that show in print.
 fn id_of(bytes: &[u8]) -> Option<StationId>
     ensures { result ≡ (if is_id bytes.now then Some (record { 0 = bytes.now }) else None) }
 {
@@ -247,7 +247,7 @@ fn is_name(name: &[u8]) -> bool
     name.len() <= NAME_LENGTH && are_printable(name) && ends_in_print(name)
 }
 
-/// Whether the last byte, if there is one, is no blank.
+/// Whether the last byte, if there is one, isn't a blank.
 fn ends_in_print(name: &[u8]) -> bool
     ensures { result ≡ report.ends_in_print name.now }
 {
@@ -257,7 +257,7 @@ fn ends_in_print(name: &[u8]) -> bool
     }
 }
 
-/// The score behind a printed value: its digits without the point, and its sign.
+/// The score of a printed value: its digits without the point, and its sign.
 fn score_in(paper: &mut Vec<u8>, query: &Query, field: &[u8]) -> Result<Option<i64>, Memory>
     ensures { IfOk result (λ score. score ≡ report.score_in query.now field.now) }
 {
@@ -278,7 +278,7 @@ fn copy_without_point(paper: &mut Vec<u8>, field: &[u8]) -> Result<(), Memory>
     Ok(())
 }
 
-/// The score behind the value that digits write behind an optional minus.
+/// The score of the value that digits write after an optional minus.
 fn score_of_digits(score: Score, text: &[u8]) -> Option<i64>
     ensures { result ≡ lines.in_i64 (option_map (value_of score) (signed_by natural text.now)) }
 {
@@ -289,7 +289,7 @@ fn score_of_digits(score: Score, text: &[u8]) -> Option<i64>
     score_of(score, is_negative, magnitude(digits)?)
 }
 
-/// The score behind the value of a sign and a magnitude. A score of the lowest is the negated value.
+/// The score of the value of a sign and a magnitude. A score of the lowest is the negated value.
 fn score_of(score: Score, is_negative: bool, magnitude: u64) -> Option<i64>
     requires { magnitude ≤ 2 ^ 63 }
     ensures { result ≡ lines.in_i64 (Some (value_of score (with_sign is_negative magnitude))) }

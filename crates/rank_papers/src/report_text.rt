@@ -4,7 +4,7 @@
 //! extremes report 1
 //! query TEXT                            the query in its one spelling
 //! RANK ID FIRST LAST VALUE UNIT NAME    a row for each of the best, ranked from 1
-//! end N                                 N rows; where fewer than were asked for, `end N all`
+//! end N                                 N rows; if fewer than were asked for, `end N all`
 //! ```
 
 ghost use Rattle.std.specs.Prelude.{◌≡◌, ◌++◌, codes, map, OnOk, IfOk};

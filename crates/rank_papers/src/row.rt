@@ -56,7 +56,7 @@ pub(crate) fn push_field(paper: &mut Vec<u8>, field: &[u8]) -> Result<(), Memory
     Ok(())
 }
 
-/// Adds a blank and the value behind a score, and a blank and its unit.
+/// Adds a blank and the value of a score, and a blank and its unit.
 fn push_value_and_unit(paper: &mut Vec<u8>, score: Score, number: i64) -> Result<(), Memory>
     ensures { OnOk result (paper.new.items ≡ paper.old.items
         ++ flat_map report.after_blank (values.value_text (values.measure_of_score score) (values.value_of score number)
@@ -67,7 +67,7 @@ fn push_value_and_unit(paper: &mut Vec<u8>, score: Score, number: i64) -> Result
     push_field(paper, measure_of(score).unit())
 }
 
-/// Adds a blank and a name, where that isn't empty.
+/// Adds a blank and a name, if that isn't empty.
 fn push_name(paper: &mut Vec<u8>, name: &[u8]) -> Result<(), Memory>
     ensures { OnOk result (paper.new.items ≡ paper.old.items
         ++ flat_map report.after_blank (report.field_unless_empty name.now)) }

@@ -1,5 +1,5 @@
 //! Whether a line is spelled as the row that was cut out of it. ID and days are columns of the line, so they
-//! aren't compared: the rank in front of them, the blanks, and what stands behind them are.
+//! aren't compared: the rank in front of them, the blanks, and what comes after them are.
 
 ghost use Rattle.std.specs.Prelude.{◌≡◌, ℕ, ◌≤◌, ◌<◌, ◌+◌, ◌^◌, Some, length, decimal, IfOk};
 ghost use Rattle.ghcn_fields.specs.Bytes.{same_bytes};
@@ -13,7 +13,7 @@ use crate::number::push_value;
 use ghcn_fields::Memory;
 use rank_query::Query;
 
-/// Whether a line is that of the row which was cut out of it, behind a rank of this text.
+/// Whether a line is that of the row which was cut out of it, after a rank of this text.
 pub(crate) fn is_line_of(
     paper: &mut Vec<u8>,
     query: &Query,
@@ -53,7 +53,7 @@ fn has_text(text: &[u8], line: &[u8], from: usize) -> bool
     text == columns(line, from, from + text.len())
 }
 
-/// Whether a rank stands at the front of a line, and a blank behind it, before both days and behind the last.
+/// Whether a rank stands at the front of a line, and a blank after it, before both days and after the last.
 fn has_front(rank: &[u8], line: &[u8]) -> bool
     requires { length rank.now < 64 }
     ensures { result ≡ spelled.has_front rank.now line.now }

@@ -13,7 +13,7 @@ use rank_sched::Line;
 use rank_scores::Candidate;
 use std::alloc::Global;
 
-/// How many rows are of the station of each line, in the order of the lines; 0 where it was passed over.
+/// How many rows are of the station of each line, in the order of the lines; 0 if it was skipped.
 ///
 /// The rows are sorted by ID once, so a line costs at most the logarithm of their number; one that
 /// stands with the line before it between the same two rows costs two comparisons.
@@ -56,7 +56,7 @@ fn counts_in(alloc: Global, ids: &[StationId], lines: &[Line]) -> Result<Vec<u64
     Ok(found)
 }
 
-/// How many of some IDs are that of a line, none where it was passed over, and the place behind
+/// How many of some IDs are that of a line, none if it was skipped, and the place after
 /// them.
 fn count_of(ids: &[StationId], line: &Line, place: usize) -> (u64, usize)
     requires { counts.AreInOrder ids.now }
@@ -69,8 +69,8 @@ fn count_of(ids: &[StationId], line: &Line, place: usize) -> (u64, usize)
     }
 }
 
-/// How often an ID is among some in order, and the place behind it. A place is looked at first, that
-/// behind the line before: lines rise by ID, and most are of stations without rows.
+/// How often an ID is among some in order, and the place after it. A place is looked at first, that
+/// after the line before: lines rise by ID, and most are of stations without rows.
 fn count(ids: &[StationId], id: &StationId, place: usize) -> (u64, usize)
     requires { counts.AreInOrder ids.now }
     ensures { result.0 ≡ count_by (λ i. same_id i id.now) ids.now }
@@ -94,7 +94,7 @@ fn is_gap(ids: &[StationId], id: &StationId, place: usize) -> bool
     is_before && is_behind(ids, id, place)
 }
 
-/// Whether an ID stands behind the one in front of a place, if there is one.
+/// Whether an ID comes after the one in front of a place, if there is one.
 fn is_behind(ids: &[StationId], id: &StationId, place: usize) -> bool
     ensures { result ≡ counts.is_behind ids.now id.now place }
 {

@@ -7,9 +7,9 @@ use rank_head::heads_are_right;
 use rank_papers::{certificates_are_read, reports_are_read};
 use rank_scores::{files_in_parts, one_element_is_enough};
 
-/// Papers are right for all data exactly where each part accepts them, and the numbers of the parts'
+/// Papers are right for all data if and only if each part accepts them, and the numbers of the parts'
 /// series add up to the number of the lines: of data that a query sees as cut into these parts, and so
-/// of files, where no station has a series with an admitted day in two parts.
+/// of files, if no station has a series with an admitted day in two parts.
 pub fn parts_make_the_whole()
     ensures data { laws.PartsMakeTheWhole }
     ensures files { laws.FilesMakeTheWhole }
@@ -22,7 +22,7 @@ pub fn parts_make_the_whole()
     files_in_parts();
 }
 
-/// What a part says rests on no series of other elements than the query's: it is the same where these
+/// What a part says rests on no series of other elements than the query's: it is the same if these
 /// are left out of its data.
 pub fn part_verdict_of_one_element()
     ensures { laws.PartVerdictStays }

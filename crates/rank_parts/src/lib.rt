@@ -1,7 +1,7 @@
 //! Papers of a whole archive, judged in parts: each from the files of some stations alone.
 //!
-//! Who holds an archive in parts judges papers by it, each part by itself and in any order. It
-//! promises that papers are right for all files exactly where each part accepts them, and the numbers
+//! A caller that holds an archive in parts judges papers by it, each part by itself and in any order. It
+//! promises that papers are right for all files if and only if each part accepts them, and the numbers
 //! of the parts' series add up to that of the lines.
 #![tactic(auto)]
 

@@ -49,7 +49,7 @@ pub(crate) fn lines_fault(
     Ok(None)
 }
 
-/// Why a line is refused that has so many rows: the first test that it fails, where its series is one
+/// Why a line is refused that has that many rows: the first test that it fails, if its series is one
 /// of these data.
 fn line_why(
     alloc: Global,
@@ -85,7 +85,7 @@ fn line_why(
     ))
 }
 
-/// The last row, where there are as many as were asked for.
+/// The last row, if there are as many as were asked for.
 fn worst_of<'a>(query: &Query, rows: &'a [Row]) -> Option<&'a Candidate>
     ensures asked { IsAsked query.now }
     ensures worst { option_copied result ≡ worst_of query.now.k (map named_in rows.now) }

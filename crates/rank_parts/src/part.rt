@@ -14,12 +14,12 @@ use rank_papers::{PaperFault, read_certificate, read_report};
 use rank_query::Query;
 use std::alloc::Global;
 
-/// Judges a report and a certificate of a query over a whole archive, whoever made them, as far as
-/// the data of some of its stations show: the head of both papers, the lines of the series that these
-/// data hold, and that none of these is without a line.
+/// Checks a report and a certificate of a query over a whole archive, whatever program made them, as
+/// far as the data of some of its stations show: the head of both papers, the lines of the series
+/// that these data hold, and that none of these is without a line.
 ///
 /// Each series of these data is scanned once, and once more for each row of its station. The papers
-/// are right for the whole exactly where all parts accept them, and the numbers of their series add
+/// are right for the whole if and only if all parts accept them, and the numbers of their series add
 /// up to that of the lines.
 pub fn check_part(
     alloc: Global,
@@ -64,7 +64,7 @@ fn judge_texts(
     judge(alloc, dataset, query, &report, &certificate)
 }
 
-/// A refusal of a line that isn't of the form of its place.
+/// A refusal of a line that isn't in the format of its place.
 fn bad_form(paper: Paper, line: u64) -> PartVerdict
     ensures { result ≡ PartVerdict.Refused paper line Why.Form }
 {

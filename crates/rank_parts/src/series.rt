@@ -13,7 +13,7 @@ use rank_check::check_absent;
 use rank_papers::Line;
 use rank_query::Query;
 
-/// How many series of these data have an admitted day, where each of them has a line among these,
+/// How many series of these data have an admitted day, if each of them has a line among these,
 /// which rise by ID.
 pub(crate) fn series_with_lines(dataset: &Data, query: &Query, lines: &[Line]) -> Option<u64>
     requires { IdsRise lines.now }

@@ -18,7 +18,7 @@ pub fn first_are_the_same()
     ensures low { laws.LowStayOut }
 {}
 
-/// The k-th score counts what scores above it, and is that of a rank where no two begin alike.
+/// The k-th score counts what scores above it, and is that of a rank if no two begin alike.
 pub fn scores_tell_places()
     ensures below { laws.BelowKth }
     ensures best { laws.BestAreFirst }

@@ -19,7 +19,7 @@ use std::marker::Model;
 /// The best candidates of all that were offered, up to a number of places.
 #[derive(Drop)]
 pub struct Pool {
-    /// The best first: where each is better than all before, both ends change and nothing moves.
+    /// The best first: if each is better than all before, both ends change and nothing moves.
     held: VecDeque<Candidate>,
     size: usize,
     /// The score of the last place, once each place is taken.
@@ -40,7 +40,7 @@ impl Model for Pool {
 }
 
 impl Pool {
-    /// An empty pool with so many places, 1 to 1000. No later call takes memory.
+    /// An empty pool with that many places, 1 to 1000. No later call takes memory.
     pub fn new(alloc: Global, k: u64) -> Result<Pool, Memory>
         requires some { 0 < k }
         requires few { k ≤ 1000 }
@@ -56,7 +56,7 @@ impl Pool {
         })
     }
 
-    /// The score of the last place, where each place is taken: the k-th score of all offered.
+    /// The score of the last place, if each place is taken: the k-th score of all offered.
     #[inline]
     pub fn kth(&self) -> Option<i64>
         ensures last { result ≡ pools.last_score self.now }
@@ -101,7 +101,7 @@ impl Pool {
         }
     }
 
-    /// Puts a candidate before all others, where each place is taken, and lets go of the last one.
+    /// Puts a candidate before all others, if each place is taken, and lets go of the last one.
     #[inline]
     fn lead(&mut self, candidate: Candidate)
         requires full { length self.old.held ≡ self.old.size }
@@ -115,7 +115,7 @@ impl Pool {
         self.last = score_at(&self.held, place);
     }
 
-    /// Puts a candidate at its place, and lets go of what then stands behind the last one.
+    /// Puts a candidate at its place, and lets go of what then comes after the last one.
     #[inline(never)]
     fn place(&mut self, candidate: Candidate)
         ensures { self.new ≡ pools.taken self.old candidate }
@@ -153,7 +153,7 @@ impl FloorSink for Pool {
 
     ghost is_floor = { IsFloor };
 
-    /// The score of the last place, where each place is taken.
+    /// The score of the last place, if each place is taken.
     #[inline(always)]
     fn floor(&self) -> Option<i64>
         ensures last { result ≡ pools.last_score self.now }
@@ -167,7 +167,7 @@ impl FloorSink for Pool {
     fn pass_over(&mut self, _floor: i64, _count: u32) {}
 }
 
-/// Where a candidate stands in its order: before the first that it isn't listed behind.
+/// Where a candidate stands in its order: before the first that it isn't listed after.
 fn place_of(held: &VecDeque<Candidate>, candidate: &Candidate) -> usize
     requires { in_order held.now.items ≡ held.now.items }
     ensures within { result ≤ deque_len held.now }
@@ -188,9 +188,9 @@ fn place_of(held: &VecDeque<Candidate>, candidate: &Candidate) -> usize
     }
 }
 
-/// Where a candidate stands that is listed behind the first one, and likely not far behind.
+/// Where a candidate stands that is listed after the first one, and likely not far after.
 ///
-/// Where scores rise, few of those held tie with the one that comes. Steps are as wide as the way behind them, and
+/// If scores rise, few of those held tie with the one that comes. Steps are as wide as the way behind them, and
 /// never more than half of the way ahead.
 fn place_near_front(held: &VecDeque<Candidate>, candidate: &Candidate) -> usize
     requires order { in_order held.now.items ≡ held.now.items }
@@ -211,7 +211,7 @@ fn place_near_front(held: &VecDeque<Candidate>, candidate: &Candidate) -> usize
     low
 }
 
-/// Lets go of the last of some candidates, where there is one more than there are places.
+/// Lets go of the last of some candidates, if there is one more than there are places.
 fn cut(held: &mut VecDeque<Candidate>, size: usize)
     requires { deque_len held.old ≤ size + 1 }
     ensures items { held.new.items ≡ take size held.old.items }

@@ -2,7 +2,7 @@
 
 use thiserror::Error;
 
-/// The first fault of a query text, read word by word from the left. Words are numbered from 1.
+/// The first error of a query text, read word by word from the left. Words are numbered from 1.
 #[derive(Clone, Copy, Debug, PartialEq, Eq, Error)]
 pub enum QueryFault {
     /// It has more than 256 bytes.

@@ -1,4 +1,4 @@
-//! Reading a query text from left to right, up to the first fault.
+//! Reading a query text from left to right, up to the first error.
 
 ghost use Rattle.std.specs.Prelude.{◌≡◌, ◌≤◌, length, Some, IfOk, IfErr, IsTrue};
 ghost use Rattle.rank_query.specs.Asked.{Asked, IsAsked, is_score, is_region, is_season, is_period};
@@ -34,9 +34,9 @@ const MOST_NORTH: i32 = 900_000;
 const MOST_EAST: i32 = 1_800_000;
 
 impl Query {
-    /// The query that a text asks. Of several faults the first from the left is told.
+    /// The query that a text denotes. Of several errors the first from the left is reported.
     pub fn parse(text: &str) -> Result<Query, QueryFault>
-        // Which query it is, or which fault.
+        // Which query it is, or which error.
         ensures read { result ≡ reading.read_query text.now }
         // What is read as a query can be asked, and the text spells it.
         ensures spelt { IfOk result (λ q. IsAsked q × IsSpelling text.now q) }
@@ -45,9 +45,9 @@ impl Query {
             → result ≡ Ok q }
         // So is its canonical text.
         ensures canonical { (q : Asked) → IsAsked q → text.now ≡ query_text q → result ≡ Ok q }
-        // A fault stands at the first word with which no query goes on.
+        // An error stands at the first word with which no query goes on.
         ensures fault { IfErr result (λ fault. StandsIn text.now fault) }
-        // Which fault it is follows from what the grammar has at the word's place.
+        // Which error it is follows from what the grammar has at the word's place.
         ensures kind { IfErr result (λ fault. IsFaultAmong fault (words_of text.now)) }
     {
         query_of_text(text)
@@ -113,7 +113,7 @@ fn score(words: &mut Words) -> Result<Score, QueryFault>
     Err(QueryFault::UnexpectedWord(at))
 }
 
-/// So many days, and what is added up over them.
+/// That many days, and what is added up over them.
 #[tactic(auto, unfolding(crate::specs::Reading::sum_at))]
 fn sum(words: &mut Words) -> Result<Score, QueryFault>
     ensures read { Gives (λ s. (s, words.new)) result (reading.sum_at words.old) }

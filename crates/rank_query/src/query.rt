@@ -75,7 +75,7 @@ impl Query {
         self.region
     }
 
-    /// The first and the last month of the season, 1 to 12, where one is given. Where the first is
+    /// The first and the last month of the season, 1 to 12, if one is given. If the first is
     /// greater, the season goes over the turn of the year.
     pub fn season(&self) -> Option<(u8, u8)>
         ensures season { result ≡ self.now.season }
@@ -84,7 +84,7 @@ impl Query {
         self.season
     }
 
-    /// The first and the last day of the period, where one is given.
+    /// The first and the last day of the period, if one is given.
     pub fn period(&self) -> Option<(Day, Day)>
         ensures { result ≡ self.now.period }
     {
@@ -113,7 +113,7 @@ impl Query {
         self.region.holds(station)
     }
 
-    /// Whether the period and the season hold the day. Where one isn't given, it holds all days of the
+    /// Whether the period and the season hold the day. If one isn't given, it holds all days of the
     /// years 1 to 9999.
     pub fn admits_day(&self, day: Day) -> bool
         ensures { result ≡ admits.admits_day self.now day }
@@ -142,7 +142,7 @@ impl Query {
 
     /// Whether the query admits the day, and a number up to which the days from it on are alike in that.
     ///
-    /// Who goes through days by number asks once a month at most.
+    /// A caller that steps through days by number asks at most once a month.
     pub fn admits_from(&self, day: Day) -> (bool, i32)
         ensures on { day ≤ℤ result.1 }
         ensures alike { (d : ℤ) → IsTrue (is_day d) → day ≤ℤ d → d ≤ℤ result.1
@@ -197,7 +197,7 @@ fn month_of(day: Day) -> (u8, i32)
     (month, day.number() + left as i32)
 }
 
-/// Whether a month lies from a first to a last one, over the turn of the year where the first is
+/// Whether a month lies from a first to a last one, over the turn of the year if the first is
 /// greater.
 fn is_between(first: u8, last: u8, month: u8) -> bool
     ensures { result ≡ admits.is_between_months first last month }

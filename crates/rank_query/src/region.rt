@@ -9,7 +9,7 @@ use ghcn_files::{Station, StationId};
 #[derive(Clone, Copy, Debug, PartialEq, Eq)]
 pub enum Region {
     Everywhere,
-    /// A box of latitudes and longitudes, edges included, in ten-thousandths of a degree. Where
+    /// A box of latitudes and longitudes, edges included, in ten-thousandths of a degree. If
     /// the west is greater than the east, it lies over the date line.
     Inside {
         south: i32,
@@ -44,7 +44,7 @@ impl Region {
     }
 }
 
-/// Whether a station lies in a box, edges included, over the date line where the west is greater.
+/// Whether a station lies in a box, edges included, over the date line if the west is greater.
 fn is_in_box(south: i32, west: i32, north: i32, east: i32, station: &Station) -> bool
     ensures { result ≡ region_holds (Region.Inside south west north east) station.now }
 {

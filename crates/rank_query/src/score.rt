@@ -9,13 +9,13 @@ pub enum Score {
     Highest(Element),
     /// Single days, by their value negated; of a temperature alone.
     Lowest(Element),
-    /// So many consecutive days, 1 to 366, by the sum of their values; of rain or snow alone.
+    /// That many consecutive days, 1 to 366, by the sum of their values; of rain or snow alone.
     Sum(u16, Element),
     /// Spells of days with less than 1 mm of precipitation, by their length (ETCCDI).
     Dry,
     /// Spells of days with at least 1 mm of precipitation, by their length (ETCCDI).
     Wet,
-    /// Spells of days with a maximum temperature of at least so many tenths of a degree, -1000 to
+    /// Spells of days with a maximum temperature of at least that many tenths of a degree, -1000 to
     /// 1000, by their length.
     Hot(i32),
 }

@@ -137,7 +137,7 @@ fn tenths_up_to_most(word: &[u8]) -> Option<i32>
     }
 }
 
-/// The tenths that digits write, with one digit at most behind a point, or one past the most in place
+/// The tenths that digits write, with one digit at most after a point, or one past the most in place
 /// of any greater number.
 fn decimal_up_to_most(text: &[u8]) -> Option<u64>
     ensures { result ≡ option_map (min 1001) (decimal_number 1 text.now) }
@@ -148,7 +148,7 @@ fn decimal_up_to_most(text: &[u8]) -> Option<u64>
     }
 }
 
-/// The tenths with these digits before their point and these behind it.
+/// The tenths with these digits before their point and these after it.
 fn joined_up_to_most(whole: &[u8], part: &[u8]) -> Option<u64>
     ensures { result ≡ option_map (min 1001)
         (joined 1 (natural whole.now) (natural part.now) (length part.now)) }
@@ -180,7 +180,7 @@ fn is_month(number: u64) -> bool
     1 <= number && number <= LAST_MONTH
 }
 
-/// The numbers before and behind two points, or one past `most` in place of any greater number.
+/// The numbers before and after two points, or one past `most` in place of any greater number.
 fn two_up_to(word: &[u8], most: u64) -> Option<(u64, u64)>
     requires { most < 2 ^ 32 }
     ensures { result ≡ option_map (λ s. (min (most + 1) s.0, min (most + 1) s.1)) (values.two_numbers word.now) }
@@ -191,7 +191,7 @@ fn two_up_to(word: &[u8], most: u64) -> Option<(u64, u64)>
     }
 }
 
-/// The number that digits write, and the one behind a point.
+/// The number that digits write, and the one after a point.
 fn both_up_to(first: &[u8], rest: &[u8], most: u64) -> Option<(u64, u64)>
     requires { most < 2 ^ 32 }
     ensures { result ≡ option_map (λ s. (min (most + 1) s.0, min (most + 1) s.1))
@@ -222,7 +222,7 @@ fn is_between(low: i32, number: i32, high: i32) -> bool
     low <= number && number <= high
 }
 
-/// A code of so many bytes, each of which shows in print.
+/// A code of that many bytes, each of which shows in print.
 #[tactic(auto, unfolding(crate::specs::WordValues::code))]
 pub(crate) fn code<const N: usize>(words: &mut Words) -> Result<[u8; N], QueryFault>
     ensures read { Gives (λ c. (c, words.new)) result (one_word (values.code N) words.old) }

@@ -41,7 +41,7 @@ impl<'a> Words<'a> {
         }
     }
 
-    /// Takes the next word where it is this one.
+    /// Takes the next word if it is this one.
     pub(crate) fn take_if(&mut self, expected: &[u8]) -> bool
         ensures taken { after expected.now self.old ≡ (if result then Some self.new else None) }
         ensures left { result ≡ false → self.new ≡ self.old }

@@ -1,4 +1,4 @@
-//! The end of a run: the pools are merged, and the skips that aren't justified are taken back.
+//! The end of a run: the pools are merged, and the skips that aren't justified are undone.
 
 ghost use Rattle.std.specs.Prelude.{◌≡◌, ◌<◌, length, IfOk, OnOk};
 ghost use Rattle.ghcn_fields.specs.Counting.{HasEachBelow};
@@ -19,8 +19,8 @@ use std::alloc::Global;
 
 /// The answer of a run whose workers brought these hauls home.
 ///
-/// A skip stays where its bound is strictly below the k-th score of all that was scanned in the run
-/// and of all skipped morsels before it. The others are taken back.
+/// A skip stays if its bound is strictly below the k-th score of all that was scanned in the run
+/// and of all skipped morsels before it. The others are undone.
 pub fn finish(alloc: Global, plan: &Plan<'_>, hauls: Vec<Haul>) -> Result<Answer, Memory>
     requires { AreSound (task_of plan.now) hauls.items }
     ensures { IfOk result (IsAnswer plan.now (all_records hauls.items)) }
@@ -87,7 +87,7 @@ fn is_justified(plan: &Plan<'_>, pool: &Pool, morsel: u64) -> bool
     is_below(pool.kth(), plan.bound(morsel).unwrap_or(0))
 }
 
-/// A mark for each of so many morsels: whether a record passes it over.
+/// A mark for each of that many morsels: whether a record skips it.
 fn skips_of(alloc: Global, len: u64, records: &[Record]) -> Result<Vec<bool>, Memory>
     requires { ending.AreWithin len records.now }
     ensures { IfOk result (λ skips. ending.AreMarks (was_skipped records.now) len skips.items) }

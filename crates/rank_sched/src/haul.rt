@@ -31,14 +31,14 @@ impl Haul {
         })
     }
 
-    /// Writes a record, scans its morsel unless it was passed over, and returns the score to raise.
+    /// Writes a record, scans its morsel unless it was skipped, and returns the score to raise.
     pub fn settle(&mut self, plan: &Plan<'_>, written: Record) -> Result<Option<i64>, Memory>
         ensures settled { OnOk result (run.HasSettled (task_of plan.now) self.old written self.new) }
         ensures raised { IfOk result (λ raised.
             raised ≡ (if written.skipped then None else last_score self.new.pool)) }
         ensures err { OnErr result (run.IsSameHaul self.old self.new) }
     {
-        // The growth comes first, so that want of memory changes nothing.
+        // The allocation comes first, so that out of memory changes nothing.
         self.records.push(written)?;
         if written.skipped {
             return Ok(None);

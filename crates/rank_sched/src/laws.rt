@@ -38,8 +38,8 @@ pub fn workers_join()
     ensures turns { laws.TurnsJoin }
 {}
 
-/// Sound hauls are right, whatever the guess, and nothing is taken back where the guess is low. A
-/// line is a scan for one cause: its morsel wasn't passed over, or was taken back.
+/// Sound hauls are right, whatever the guess, and nothing is undone if the guess is low. A
+/// line is a scan for one cause: its morsel wasn't skipped, or was undone.
 pub fn hauls_are_right()
     ensures raised { laws.RaisedIsReached }
     ensures skips { laws.SkipsAreRight }

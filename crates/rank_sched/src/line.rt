@@ -3,7 +3,7 @@
 use ghcn_files::StationId;
 
 /// A series of the query: its station, a number that no candidate's score exceeds, and whether it
-/// was passed over.
+/// was skipped.
 #[derive(Clone, Copy, Debug, PartialEq, Eq)]
 pub struct Line {
     pub id: StationId,

@@ -64,7 +64,7 @@ impl<'a> Plan<'a> {
         Plan::of_bounds(alloc, dataset, query, bounds.as_slice())
     }
 
-    /// The same plan, from what `measure` answers for each place in turn.
+    /// The same plan, from what `measure` returns for each place in turn.
     pub fn of_bounds(
         alloc: Global,
         dataset: &'a Data,
@@ -126,7 +126,7 @@ impl<'a> Plan<'a> {
         }
     }
 
-    /// The line of a morsel, by whether it was passed over.
+    /// The line of a morsel, by whether it was skipped.
     pub(crate) fn line(&self, morsel: u64, skipped: bool) -> Line
         requires { morsel < length self.now.morsels }
         ensures { option_map (λ m. record { id = m.series.id; bound = m.bound; skipped = skipped })

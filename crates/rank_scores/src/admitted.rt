@@ -16,7 +16,7 @@ use std::marker::Model;
 
 /// The admitted usable days that are still to come, by increasing day, each with its value.
 ///
-/// They come in parts: who goes through one has no more to ask of a day than whether its block has it.
+/// They come in parts: a caller that goes through one has no more to ask of a day than whether its block has it.
 #[derive(Drop)]
 pub(crate) struct Admitted<'s, 'q> {
     days: Days<'s>,
@@ -52,7 +52,7 @@ impl<'s, 'q> Admitted<'s, 'q> {
         }
     }
 
-    /// Takes the first of them, as many as lie in one block and one stretch. If it answers None, no day is left.
+    /// Takes the first of them, as many as lie in one block and one stretch. If it returns None, no day is left.
     pub(crate) fn next_part(&mut self) -> Option<BlockDays<'s>>
         ensures some { IfSome result (λ part. self.old ≡ part ++ self.new) }
         ensures day { IfSome result (λ part. 0 < length part) }
@@ -74,7 +74,7 @@ pub fn has_admitted_day(series: &Series, query: &Query) -> bool
 }
 
 /// Takes the first of some days that are admitted, as many as lie in one block and one stretch, and the days
-/// before them. If it answers None, no day is left.
+/// before them. If it returns None, no day is left.
 fn next_part<'s>(days: &mut Days<'s>, query: &Query, stretch: &mut Stretch) -> Option<BlockDays<'s>>
     requires { IsStretch query.now days.old stretch.old }
     ensures some { IfSome result (λ part. admitted_among query.now days.old
@@ -102,7 +102,7 @@ pub(crate) struct Stretch {
 }
 
 impl Stretch {
-    /// Goes on to the stretch of a day, where the day lies past this one. Days come one behind another.
+    /// Goes on to the stretch of a day, if the day lies past this one. Days come one after another.
     #[inline(always)]
     fn go_on(&mut self, query: &Query, day: Day)
         ensures on { day ≤ℤ self.new.last }
@@ -127,7 +127,7 @@ impl Stretch {
     }
 }
 
-/// Whether a day is the one behind a last day.
+/// Whether a day is the one after a last day.
 pub(crate) fn comes_next(last: Day, day: Day) -> bool
     ensures { IsTrue result ↔ (last +ℤ pos 1 ≡ day) }
 {

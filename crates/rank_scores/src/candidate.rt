@@ -15,13 +15,13 @@ use std::cmp::Ordering;
 /// A possible record: some days of a station, and their score.
 ///
 /// Candidates are ordered as they are listed: by greater score, then smaller ID, then earlier first
-/// day, and by the last day where these are equal.
+/// day, and by the last day if these are equal.
 #[derive(Clone, Copy, Debug, PartialEq, Eq)]
 pub struct Candidate {
     pub id: StationId,
     pub first: Day,
     pub last: Day,
-    /// In the raw unit of the data, or in days for spells; negated where the lowest are ranked.
+    /// In the raw unit of the data, or in days for spells; negated if the lowest are ranked.
     pub score: i64,
 }
 

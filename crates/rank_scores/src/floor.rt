@@ -23,7 +23,7 @@ pub trait FloorSink: Sink {
     fn floor(&self) -> Option<i64>
         ensures { IfSome result (λ floor. is_floor self.now floor) };
 
-    /// Takes so many candidates that score less than this floor.
+    /// Takes that many candidates that score less than this floor.
     fn pass_over(&mut self, floor: i64, count: u32)
         requires { is_floor self.old floor }
         ensures { (candidates : List Candidate) → AllByRecursion (λ c. c.score <ℤ floor) candidates

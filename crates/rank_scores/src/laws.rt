@@ -33,10 +33,10 @@ pub fn one_element_is_enough()
     ensures kth { one_element.KthStays }
 {}
 
-/// Files that are cut into parts are cut as a query sees them, where no station has morsels in two
+/// Files that are cut into parts are cut as a query sees them, if no station has morsels in two
 /// parts: the candidates of all files are those of the parts, and the morsels serve for those of
-/// the parts. Where no station has a series of the query's element in two parts, they are the same
-/// series. What all files say is what the parts say, and so are all series where they are apart.
+/// the parts. If no station has a series of the query's element in two parts, they are the same
+/// series. What all files say is what the parts say, and so are all series if they are apart.
 pub fn files_in_parts()
     ensures cut { cut.CutByFiles }
     ensures morsels { cut.MorselsOfParts }

@@ -8,7 +8,7 @@ use crate::has_admitted_day;
 use ghcn_series::{Data, Series};
 use rank_query::Query;
 
-/// The series of the query's element and of the station at a place in the list, from 0, where the query
+/// The series of the query's element and of the station at a place in the list, from 0, if the query
 /// admits the station and it has one.
 pub fn series_at<'a>(dataset: &'a Data, query: &Query, place: u64) -> Option<&'a Series>
     ensures { option_copied result
@@ -22,7 +22,7 @@ pub fn series_at<'a>(dataset: &'a Data, query: &Query, place: u64) -> Option<&'a
     }
 }
 
-/// The morsel of the station at a place in the list, from 0: its series, where the query admits the
+/// The morsel of the station at a place in the list, from 0: its series, if the query admits the
 /// station and a day of the series.
 pub fn morsel_at<'a>(dataset: &'a Data, query: &Query, place: u64) -> Option<&'a Series>
     ensures morsel { option_copied result

@@ -24,7 +24,7 @@ pub enum Spell {
     Dry,
     /// At least 1 mm.
     Wet,
-    /// At least so many tenths of a degree.
+    /// At least that many tenths of a degree.
     Hot(i32),
 }
 
@@ -85,7 +85,7 @@ pub(crate) fn scan_spells<S: Sink>(
     offer_spell(id, &run, sink);
 }
 
-/// A spell that days may still be added to, where one is open.
+/// A spell that days may still be added to, if one is open.
 #[derive(Drop)]
 struct Run {
     is_open: bool,
@@ -105,7 +105,7 @@ impl Run {
         }
     }
 
-    /// Whether a spell is open that goes on with a day of the kind: the day comes behind its last one.
+    /// Whether a spell is open that goes on with a day of the kind: the day comes after its last one.
     #[inline(always)]
     fn goes_on(&self, day: Day) -> bool
         ensures { result ≡ is_some (goes_on (open_spell self.now.is_open self.now.first self.now.last) day true) }
@@ -113,7 +113,7 @@ impl Run {
         self.is_open && comes_next(self.last, day)
     }
 
-    /// Begins anew with days of the kind, from a first to a last one.
+    /// Begins again with days of the kind, from a first to a last one.
     #[inline(always)]
     fn begin(&mut self, first: Day, last: Day)
         ensures { open_spell self.new.is_open self.new.first self.new.last ≡ Some (first, last) }
@@ -124,7 +124,7 @@ impl Run {
     }
 }
 
-/// Offers a spell, if one is open, as so many days.
+/// Offers a spell, if one is open, as that many days.
 #[inline(always)]
 fn offer_spell<S: Sink>(id: StationId, run: &Run, sink: &mut S)
     ensures { sink.new ≡ fold S.taken sink.old

@@ -1,4 +1,4 @@
-//! Windows: so many consecutive days, each admitted and usable.
+//! Windows: that many consecutive days, each admitted and usable.
 
 ghost use Rattle.std.specs.Prelude.{◌≡◌, ◌<◌, ◌≤◌, ◌+◌, ◌%◌, FitsSigned, IsTrue, ◌+ℤ◌, ◌-ℤ◌, pos, set, get_or};
 ghost use Rattle.std.specs.Int.{w64};
@@ -40,7 +40,7 @@ impl Window {
         }
     }
 
-    /// The same window where the day that comes has this number, else one without a day.
+    /// The same window if the day that comes has this number, otherwise one without a day.
     #[inline(always)]
     fn go_on(&mut self, next: i32, day: Day)
         ensures { self.new ≡ begun_anew_unless (int_eq day next) self.old }
@@ -80,7 +80,7 @@ impl Window {
     }
 }
 
-/// The first of so many days of which this is the last.
+/// The first of that many days of which this is the last.
 fn first_of(last: Day, days: u16) -> Day
     requires { IsTrue (is_day (last +ℤ pos 1 -ℤ pos days)) }
     ensures { result ≡ last +ℤ pos 1 -ℤ pos days }

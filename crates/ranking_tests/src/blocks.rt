@@ -77,9 +77,9 @@ const SUMS: [Row; 14] = [
     // A block lies between the two, so two blocks in a row hold one of them.
     (&[(18_444, 1, "  100   "), (18_496, 1, "   60   ")], "top 1 sum 2 PRCP", 100),
     (&[(18_444, 1, "  100   "), (18_496, 1, "   60   ")], "top 1 sum 33 PRCP", 100),
-    // The period's last block holds no day, and the first behind it 900.
+    // The period's last block holds no day, and the first after it 900.
     (&[(18_453, 1, "    5   "), (18_506, 1, "  900   ")], "top 1 sum 32 PRCP from 2020-07-01 to 2020-08-01", 160),
-    // The second block lies behind the period.
+    // The second block lies after the period.
     (&[(18_463, 1, "    5   "), (18_464, 1, "  900   ")], "top 1 sum 32 PRCP from 2020-07-01 to 2020-07-20", 160),
     (&[(18_463, 1, "   50   "), (18_464, 1, "    7   ")], "top 1 sum 2 PRCP from 2020-07-01 to 2020-07-20", 57),
     // Four days have rain, and that is less than five times the greatest.

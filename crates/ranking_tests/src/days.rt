@@ -16,7 +16,7 @@ const STATIONS: &[u8] = b"\
 ZZA00000001  10.0000   20.0000  100.0    ALPHA\n\
 ZZA00000002  10.0000   21.0000  100.0    BETA\n";
 
-/// So many days from this one on, each with this group of eight columns in its line.
+/// That many days from this one on, each with this group of eight columns in its line.
 pub(crate) type Stretch = (i32, i32, &'static str);
 
 // Day 18262 is 2020-01-01.
@@ -29,7 +29,7 @@ pub(crate) const TURN_OF_THE_YEAR: [Stretch; 7] = [
 /// The groups of a month's days, of which some are missing.
 type Month = [&'static str; 31];
 
-/// Writes the line of a month, where it has a day.
+/// Writes the line of a month, if it has a day.
 fn push_month(
     text: &mut String,
     id: &str,

@@ -1,4 +1,4 @@
-//! What runs are given, and how faults are told.
+//! What runs are given, and how errors are reported.
 
 ghost use Rattle.rank_input.specs.Taken.{HasTakenSome};
 
@@ -11,7 +11,7 @@ use std::test::Fail;
 
 const STATIONS: &[u8] = b"ZZA00000001  10.0000   20.0000  100.0    ALPHA\n";
 
-/// Ends so many files.
+/// Ends that many files.
 fn end_files(intake: &mut Intake, count: u64)
     requires { HasTakenSome intake.old }
     ensures { HasTakenSome intake.new }
@@ -21,7 +21,7 @@ fn end_files(intake: &mut Intake, count: u64)
     }
 }
 
-/// What is told of files of which the first begins so, so many end, and the last begins so.
+/// What is reported of files of which the first begins so, that many end, and the last begins so.
 fn fault_of(alloc: Global, query: &str, first: &[u8], count: u64, last: &[u8]) -> Option<Fault> {
     let mut intake = Intake::new(alloc, query, STATIONS);
     intake.piece(first);
@@ -30,7 +30,7 @@ fn fault_of(alloc: Global, query: &str, first: &[u8], count: u64, last: &[u8]) -
     intake.finish().err()
 }
 
-/// The fault of a line of a file.
+/// The error of a line of a file.
 fn daily_line(file: u64, line: u64, why: DailyWhy) -> Fault {
     Fault::DailyLine { file, line, why }
 }

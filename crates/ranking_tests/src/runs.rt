@@ -13,7 +13,7 @@ enum Kept {
     Below(i32),
 }
 
-/// The numbers of the first and the last day of each of four runs, where there are so many.
+/// The numbers of the first and the last day of each of four runs, if there are that many.
 type Runs = [Option<(i32, i32)>; 4];
 
 #[rattlefmt::skip]

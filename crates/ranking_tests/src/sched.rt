@@ -1,6 +1,6 @@
 //! Worked plans, runs and answers.
 //!
-//! Data, plans and answers live in helpers that answer plain facts, and nothing where memory is
+//! Data, plans and answers live in helpers that return plain facts, and nothing if memory is
 //! refused: a test that holds them is dear to prove.
 
 ghost use Rattle.std.specs.Prelude.{◌<◌, ◌≤◌, IfSome};
@@ -28,7 +28,7 @@ type Values = [&'static [i32]; 3];
 
 const USUAL: Values = [&[311, 305], &[311], &[250]];
 
-/// Writes the line of a station's month, where it has a day.
+/// Writes the line of a station's month, if it has a day.
 fn push_month(text: &mut String, id: &str, values: &[i32]) -> Result<(), AllocError> {
     if values.is_empty() {
         return Ok(());
@@ -47,7 +47,7 @@ fn read(alloc: Global, list: &[u8], text: &[u8]) -> Option<Data> {
     Data::read(alloc, stations, &[text]).ok()
 }
 
-/// The data of these values, where memory is there.
+/// The data of these values, if memory is there.
 fn data_of(alloc: Global, values: &Values) -> Option<Data> {
     let mut text = String::new(alloc);
     push_month(&mut text, "ZZA00000001", values[0]).ok()?;
@@ -89,7 +89,7 @@ const SKIPPED: Lines = [(311, false), (311, false), (250, true)];
 
 const SCANNED: Lines = [(311, false), (311, false), (250, false)];
 
-/// The lines of an answer, where they are three.
+/// The lines of an answer, if they are three.
 fn lines_of(answer: &Answer) -> Option<Lines> {
     match answer.lines.as_slice() {
         [one, two, three] => Some([
@@ -151,7 +151,7 @@ fn interleaved_runs(rt: HostRuntime) {
     assert_eq!(rt; found, Some((SCANNED, 0, 1)), "three at once");
 }
 
-/// The morsel and the worker of each record, where they are three.
+/// The morsel and the worker of each record, if they are three.
 fn records_of(answer: &Answer) -> Option<[(u64, u64); 3]> {
     match answer.records.as_slice() {
         [one, two, three] => Some([
@@ -178,7 +178,7 @@ fn records_come_haul_after_haul(rt: HostRuntime) {
     assert_eq!(rt; found, Some([(0, 0), (2, 0), (1, 1)]));
 }
 
-/// One worker over the usual values under a guess: the lines, how many skips are taken back, and how
+/// One worker over the usual values under a guess: the lines, how many skips are undone, and how
 /// many records are skips.
 fn guessed(alloc: Global, query: &str, guess: i64) -> Option<(Lines, u64, usize)>
     requires { IsScore guess }
@@ -201,12 +201,12 @@ fn guesses(rt: HostRuntime) {
     assert_eq!(rt; of_ten, Some((SCANNED, 1, 1)), "300");
 }
 
-/// Why two workers' events are refused, where they are.
+/// Why two workers' events are refused, if they are.
 fn fault_of(alloc: Global, plan: &Plan<'_>, events: &[Event]) -> Option<ReplayFault> {
     replay(alloc, plan, 2, None, events).err()
 }
 
-/// Why two workers' events over the usual values are refused, where they are.
+/// Why two workers' events over the usual values are refused, if they are.
 fn refusal(alloc: Global, events: &[Event]) -> Option<Option<ReplayFault>> {
     let data = data_of(alloc, &USUAL)?;
     let plan = plan_of_one(alloc, &data)?;

@@ -1,7 +1,7 @@
-//! Files in pieces of which `examples/grow` refuses one growth of memory after the other.
+//! Files in pieces of which `examples/grow` refuses one allocation after the other.
 //!
-//! A test prints `memory` where the reader met the refusal, and `answered` where it answered what it
-//! has to. It prints nothing where the station list met it.
+//! A test prints `memory` if the reader met the refusal, and `answered` if it returned what it
+//! has to. It prints nothing if the station list met it.
 
 ghost use Rattle.ghcn_series.specs.Pieces.{HasFedSome};
 
@@ -67,7 +67,7 @@ fn is_whole(data: &Data) -> Option<bool> {
     Some(data.unlisted() == 1)
 }
 
-/// Whether the files are read whole, where the station list is.
+/// Whether the files are read whole, if the station list is.
 fn whole_pieces(alloc: Global) -> Option<Result<bool, DataFault>> {
     let stations = Stations::read(alloc, STATIONS).ok()?;
     let data = read_pieces(alloc, stations);

@@ -1,6 +1,6 @@
 //! Worked examples of daily files and the series that they hold.
 //!
-//! Data and readers live in helpers that answer plain facts: a test that holds them is dear to prove.
+//! Data and readers live in helpers that return plain facts: a test that holds them is dear to prove.
 
 mod blocks;
 mod cutters;
@@ -47,7 +47,7 @@ fn has_days(series: &Series, days: &[(i32, i32)]) -> bool {
     at == days.len()
 }
 
-/// Whether the data give a station and an element these days alone, and no series where there are none.
+/// Whether the data give a station and an element these days alone, and no series if there are none.
 fn has_series(data: &Data, id: &StationId, element: Element, days: &[(i32, i32)]) -> bool {
     match data.series(id, element) {
         Some(series) => !days.is_empty() && has_days(series, days),
@@ -66,12 +66,12 @@ fn gives(
     Ok(has_series(&read(alloc, files)?, id, element, days))
 }
 
-/// How many lines of these files were passed over, or their fault.
+/// How many lines of these files were skipped, or their error.
 fn unlisted(alloc: Global, files: &[&[u8]]) -> Result<u64, DataFault> {
     Ok(read(alloc, files)?.unlisted())
 }
 
-/// The fault of a line.
+/// The error of a line.
 fn refused(file: u64, line: u64, why: DailyWhy) -> Result<u64, DataFault> {
     Err(DataFault::DailyLine { file, line, why })
 }

@@ -22,7 +22,7 @@ const WARMTH: [usize; 4] = [0, 1, 2, 5];
 
 const ALL: [usize; 7] = [0, 1, 2, 3, 4, 5, 6];
 
-/// Gives the daily files of so many stations, of which one in 64 isn't listed.
+/// Gives the daily files of that many stations, of which one in 64 isn't listed.
 pub(crate) fn give_archive<T: Taker>(
     alloc: Global,
     taker: &mut T,

@@ -23,7 +23,7 @@ const STATIONS: u32 = 20;
 /// The first year of files by year.
 const FIRST_YEAR: u16 = 1961;
 
-/// Asks each awkward question so many times; years, files and stations are by the size.
+/// Asks each awkward question that many times; years, files and stations are by the size.
 pub(crate) fn ask_awkward<R: Threads + Wait + AllocGlobal + Sync>(
     rt: &R,
     random: &mut Random,
@@ -163,7 +163,7 @@ fn rank_rising<R: Threads + Wait + AllocGlobal + Sync>(
     rank_taken(rt, intake, digest)
 }
 
-/// Ranks so many files of one month, each of a station of its own.
+/// Ranks that many files of one month, each of a station of its own.
 fn rank_small_files<R: Threads + Wait + AllocGlobal + Sync>(
     rt: &R,
     weather: &mut Weather,

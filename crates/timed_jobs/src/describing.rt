@@ -10,7 +10,7 @@ use crate::weather::Weather;
 use rank_input::{DescriptionIntake, Fault};
 use std::alloc::Global;
 
-/// Describes so many archives of so many stations.
+/// Describes that many archives of that many stations.
 pub(crate) fn describe_archives(
     alloc: Global,
     random: &mut Random,

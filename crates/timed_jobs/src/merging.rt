@@ -17,7 +17,7 @@ use std::alloc::Global;
 /// How many stations of a part have rows.
 const STATIONS: u32 = 48;
 
-/// Merges the papers of so many parts, over and over: by turns they have a thousand rows, or ten.
+/// Merges the papers of that many parts, over and over: alternately they have a thousand rows, or ten.
 pub(crate) fn merge_parts(
     alloc: Global,
     random: &mut Random,
@@ -48,7 +48,7 @@ pub(crate) fn merge_parts(
     Ok(())
 }
 
-/// The papers of so many parts, each with so many rows.
+/// The papers of that many parts, each with that many rows.
 fn papers_of_parts(
     alloc: Global,
     random: &mut Random,
@@ -106,7 +106,7 @@ fn report_of(
     Ok(report)
 }
 
-/// The certificate of a part: a line for each station with rows, and for one passed over behind it.
+/// The certificate of a part: a line for each station with rows, and for one skipped after it.
 fn certificate_of(
     alloc: Global,
     query: &str,
@@ -150,7 +150,7 @@ fn station_of(row: u32) -> u32
     4 * (row / 4 * 7 % 12) + row % 4
 }
 
-/// How many of so many rows are of each station.
+/// How many of that many rows are of each station.
 fn counts_of(rows: u32) -> [u32; 48]
     requires { rows < 2000 }
 {
@@ -171,7 +171,7 @@ fn number_of(part: u32, station: u32) -> u32
     100 * part + 2 * station
 }
 
-/// What stands behind the rank of a row of so many tenths, up to 999.
+/// What comes after the rank of a row of that many tenths, up to 999.
 fn row_of(id: &[u8; 11], date: &[u8; 10], tenths: u32) -> [u8; 62] {
     let mut row = *b" ZZZ00000000 0000-00-00 0000-00-00 00.0 C STATION OF SOME NAME";
     row[1..12].copy_from_slice(id);

@@ -15,7 +15,7 @@ use std::thread::Threads;
 /// How many files a question has, its station's among them.
 const FILES: u32 = 3;
 
-/// Asks about so many stations, each of a list of its own of so many.
+/// Asks about that many stations, each of a list of its own of that many.
 pub(crate) fn ask_about_stations<R: Threads + Wait + AllocGlobal + Sync>(
     rt: &R,
     random: &mut Random,
@@ -30,7 +30,7 @@ pub(crate) fn ask_about_stations<R: Threads + Wait + AllocGlobal + Sync>(
     Ok(())
 }
 
-/// Asks about one station of a list of so many.
+/// Asks about one station of a list of that many.
 pub(crate) fn ask_about_one<R: Threads + Wait + AllocGlobal + Sync>(
     rt: &R,
     weather: &mut Weather,

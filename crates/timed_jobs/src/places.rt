@@ -44,7 +44,7 @@ pub(crate) fn id_of(number: u32) -> [u8; 11] {
     ]
 }
 
-/// The number of the station at a place of a list of at most so many.
+/// The number of the station at a place of a list of at most that many.
 pub(crate) fn number_at(order: Order, place: u32, count: u32) -> u32 {
     match order {
         Order::Rising => {
@@ -56,7 +56,7 @@ pub(crate) fn number_at(order: Order, place: u32, count: u32) -> u32 {
     }
 }
 
-/// A list of so many stations.
+/// A list of that many stations.
 pub(crate) fn station_list(
     alloc: Global,
     random: &mut Random,
@@ -71,7 +71,7 @@ pub(crate) fn station_list(
     Ok(list)
 }
 
-/// The line of the station of a number, which lies where some bits say.
+/// The line of the station of a number, which lies if some bits say.
 fn station_line(number: u32, bits: u64) -> [u8; 86] {
     let mut line = LINE;
     line[..11].copy_from_slice(&id_of(number));

@@ -36,7 +36,7 @@ pub(crate) struct Papers {
     pub(crate) certificate: Vec<u8>,
 }
 
-/// Ranks so many archives of so many stations.
+/// Ranks that many archives of that many stations.
 pub(crate) fn rank_archives<R: Threads + Wait + AllocGlobal + Sync>(
     rt: &R,
     random: &mut Random,
@@ -55,7 +55,7 @@ pub(crate) fn rank_archives<R: Threads + Wait + AllocGlobal + Sync>(
     Ok(())
 }
 
-/// Ranks so many archives of so many stations, and judges the papers over what was read.
+/// Ranks that many archives of that many stations, and judges the papers over what was read.
 pub(crate) fn check_archives<R: Threads + Wait + AllocGlobal + Sync>(
     rt: &R,
     random: &mut Random,

@@ -8,8 +8,8 @@ use std::io;
 use std::io::Write;
 use std::test::Fail;
 
-/// A writer that takes so many bytes at once, and in all. Then it fails once, or takes no byte, and
-/// behind that it takes so many more.
+/// A writer that takes that many bytes at once, and in all. Then it fails once, or takes no byte, and
+/// after that it takes that many more.
 #[derive(Drop)]
 struct Narrow {
     taken: Vec<u8>,
@@ -45,7 +45,7 @@ impl Write for Narrow {
     }
 }
 
-/// A writer that fails behind so many bytes.
+/// A writer that fails after that many bytes.
 fn failing_behind(alloc: Global, room: usize) -> Narrow {
     Narrow {
         taken: Vec::new(alloc),
@@ -57,7 +57,7 @@ fn failing_behind(alloc: Global, room: usize) -> Narrow {
     }
 }
 
-/// A writer that takes no byte behind so many.
+/// A writer that takes no byte after that many.
 fn full_behind(alloc: Global, room: usize) -> Narrow {
     Narrow {
         fails: false,
@@ -65,7 +65,7 @@ fn full_behind(alloc: Global, room: usize) -> Narrow {
     }
 }
 
-/// A writer that fails once behind so many bytes, and then takes bytes again.
+/// A writer that fails once after that many bytes, and then takes bytes again.
 fn failing_once_behind(alloc: Global, room: usize) -> Narrow {
     Narrow {
         more: 999,
@@ -73,7 +73,7 @@ fn failing_once_behind(alloc: Global, room: usize) -> Narrow {
     }
 }
 
-/// A writer that takes no byte once behind so many, and then takes bytes again.
+/// A writer that takes no byte once after that many, and then takes bytes again.
 fn full_once_behind(alloc: Global, room: usize) -> Narrow {
     Narrow {
         fails: false,

@@ -1,7 +1,7 @@
-//! Rankings and judgements of which `examples/grow` refuses one growth of memory after the other.
+//! Rankings and judgements of which `examples/grow` refuses one allocation after the other.
 //!
-//! A test prints `memory` where the call that it is about met the refusal, and `answered` where it
-//! answered what it has to.
+//! A test prints `memory` if the call that it is about met the refusal, and `answered` if it
+//! returned what it has to.
 
 use super::*;
 use crate::judge::judge;
@@ -51,7 +51,7 @@ kth none
 end 0
 ";
 
-/// Prints what a call met: papers or a verdict, which were compared before, or want of memory.
+/// Prints what a call met: papers or a verdict, which were compared before, or out of memory.
 fn print_met<R: Abort + Print>(rt: &R, fault: Option<Fault>) -> Result<(), Fail> {
     match fault {
         None => println!(rt; "answered")?,

@@ -1,4 +1,4 @@
-//! What the words of a command line ask for, and the statuses.
+//! What the arguments of a command line ask for, and the statuses.
 
 use super::*;
 use command_line::{Command, CommandFault, command};
@@ -12,7 +12,7 @@ fn words_of(alloc: Global, words: &[&str]) -> Result<Vec<String>, AllocError> {
         .try_collect(alloc)
 }
 
-/// Whether these are the words.
+/// Whether these are the arguments.
 fn are_words(found: &[String], words: &[&str]) -> bool {
     for (found, word) in found.iter().zip(words) {
         if found.as_str() != *word {
@@ -185,7 +185,7 @@ fn commands_that_lack_an_option(rt: HostRuntime) -> Result<(), Fail> {
     Ok(())
 }
 
-/// The text that words which ask for no run show.
+/// The text that arguments which ask for no run show.
 fn shown(alloc: Global, words: &[&str]) -> Result<String, Fail> {
     let Err(CommandFault::Words(text)) = command(alloc, words_of(alloc, words)?) else {
         return Err(Fail::from("no text to show"));

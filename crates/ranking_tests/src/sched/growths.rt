@@ -1,7 +1,7 @@
-//! Runs of which `examples/grow` refuses one growth of memory after the other.
+//! Runs of which `examples/grow` refuses one allocation after the other.
 //!
-//! A test prints `memory` where the call that it is about met the refusal, and `answered` where it
-//! answered what it has to. It prints nothing where what is made beforehand met it.
+//! A test prints `memory` if the call that it is about met the refusal, and `answered` if it
+//! returned what it has to. It prints nothing if what is made beforehand met it.
 
 ghost use Rattle.std.specs.Prelude.{◌<◌, ◌≤◌};
 
@@ -10,7 +10,7 @@ use ghcn_fields::Memory;
 use rank_sched::Machine;
 use std::test::Fail;
 
-/// What a run tells.
+/// What a run prints.
 #[derive(Clone, Copy)]
 enum Told {
     /// What is made beforehand met the refusal.
@@ -40,7 +40,7 @@ const BOTH: [Event; 11] = [C0, L0, C1, L1, S1, S0, C0, L0, S0, C0, C1];
 /// Events of which some would be accepted, and others refused, had the machine not failed.
 const LATE: [Event; 5] = [C0, L1, S0, C1, Event::Claim(64)];
 
-/// Whether each later step is refused for want of memory, and the machine never stops.
+/// Whether each later step is refused for out of memory, and the machine never stops.
 fn has_failed(machine: &mut Machine<'_>) -> bool {
     for late in LATE {
         let is_refused = machine.step(late) == Err(StepFault::Memory(Memory));
@@ -51,7 +51,7 @@ fn has_failed(machine: &mut Machine<'_>) -> bool {
     true
 }
 
-/// Makes all of these steps. Where memory is refused to one, each later step is refused for it too,
+/// Makes all of these steps. If memory is refused to one, each later step is refused for it too,
 /// and the machine never stops.
 fn make_steps(machine: Machine<'_>, events: &[Event]) -> Told {
     let mut machine = machine;
@@ -129,7 +129,7 @@ fn a_replay(rt: HostRuntime) -> Result<(), Fail> {
     tell(&rt, told)
 }
 
-/// A run under a guess that is too high: the lines, and how many skips are taken back.
+/// A run under a guess that is too high: the lines, and how many skips are undone.
 fn taken_back(alloc: Global) -> Option<Result<(Option<Lines>, u64), Memory>> {
     let data = data_of(alloc, &USUAL)?;
     let plan = plan_of_one(alloc, &data)?;

@@ -86,7 +86,7 @@ fn found_of_three(alloc: Global, id: &StationId) -> Option<(Option<u64>, Option<
     Some((stations.place(id), facts_of(&stations, id)))
 }
 
-/// The ID at a place among the three, where there is one.
+/// The ID at a place among the three, if there is one.
 fn id_of_three(alloc: Global, place: u64) -> Option<Option<[u8; 11]>> {
     let stations = Stations::read(alloc, THREE).ok()?;
     match stations.at(place) {
@@ -242,7 +242,7 @@ fn names_are_made_printable(rt: HostRuntime) {
     assert_eq!(rt; names_of(rt.alloc(), text), Some(expected));
 }
 
-/// A station list of so many lines, whose IDs count up from 0.
+/// A station list of that many lines, whose IDs count up from 0.
 fn many_stations(alloc: Global, lines: u32) -> Result<Vec<u8>, AllocError> {
     let mut text = Vec::new(alloc);
     for number in 0..lines {
@@ -257,7 +257,7 @@ fn many_stations(alloc: Global, lines: u32) -> Result<Vec<u8>, AllocError> {
     Ok(text)
 }
 
-/// How many stations a list of so many lines has, or why it is refused.
+/// How many stations a list of that many lines has, or why it is refused.
 fn count_of_many(alloc: Global, lines: u32) -> Option<Result<u64, StationsFault>> {
     let text = many_stations(alloc, lines).ok()?;
     Some(count_of(alloc, &text))

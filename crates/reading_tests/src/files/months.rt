@@ -97,7 +97,7 @@ fn months(rt: HostRuntime) {
     }
 }
 
-/// Why a line is refused as a month, and as a row where nothing, its own element and another one is
+/// Why a line is refused as a month, and as a row if nothing, its own element and another one is
 /// asked for.
 fn faults_of(line: &[u8]) -> [Option<LineWhy>; 4] {
     [
@@ -347,7 +347,7 @@ fn lines_of_other_elements(rt: HostRuntime) {
     }
 }
 
-/// How many values of a line are flagged, where it is a month.
+/// How many values of a line are flagged, if it is a month.
 fn flagged_of(line: &[u8]) -> Result<Option<u32>, LineWhy> {
     match read_days(line, Keep::All)? {
         Some(row) => Ok(Some(flagged_values(line, &row))),

@@ -1,4 +1,4 @@
-//! The first fault of a query text.
+//! The first error of a query text.
 
 use crate::texts::is_printed;
 use rank_query::QueryFault::{
@@ -158,7 +158,7 @@ fn first_fault_of_a_period(rt: HostRuntime) {
     }
 }
 
-/// The fault of a query that has a word so many times between its front and its back.
+/// The error of a query that has a word that many times between its front and its back.
 fn fault_of_long(
     alloc: Global,
     (front, word, times, back): (&str, &str, u32, &str),

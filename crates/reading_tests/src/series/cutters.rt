@@ -98,7 +98,7 @@ fn foreign_by_lines(alloc: Global, keep: Keep, files: &[&[u8]]) -> Result<Foreig
     Ok(found_by_lines(alloc, keep, files)?.foreign)
 }
 
-/// Whether both have the same fault, and else find the same foreign files, whichever elements they keep.
+/// Whether both have the same error, and otherwise find the same foreign files, whichever elements they keep.
 pub(super) fn are_alike(alloc: Global, files: &[&[u8]]) -> bool {
     let keeps = [
         Keep::All,
@@ -114,7 +114,7 @@ pub(super) fn are_alike(alloc: Global, files: &[&[u8]]) -> bool {
     true
 }
 
-/// The fault that a cutter finds in a text behind which these bytes and so many files come.
+/// The error that a cutter finds in a text after which these bytes and that many files come.
 pub(super) fn fault_by_lines(
     alloc: Global,
     text: &[u8],
@@ -131,7 +131,7 @@ pub(super) fn fault_by_lines(
     }
 }
 
-/// A cutter with so many files more, all of them empty.
+/// A cutter with that many files more, all of them empty.
 fn with_files(mut cutter: Cutter<Reader>, count: u32) -> Cutter<Reader>
     requires { cut.HasFedSome HasReadFor cutter }
     ensures { cut.HasFedSome HasReadFor result }

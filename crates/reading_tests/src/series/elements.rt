@@ -29,7 +29,7 @@ fn value(data: &Data, id: &StationId, element: Element) -> Option<i32> {
 }
 
 /// The values of the first station and each element, the second's greatest temperature, and how many
-/// lines were passed over.
+/// lines were skipped.
 type Values = ([Option<i32>; 5], Option<i32>, u64);
 
 fn values(data: &Data) -> Values {

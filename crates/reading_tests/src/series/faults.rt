@@ -1,4 +1,4 @@
-//! The first fault of daily files, and the lines that are passed over.
+//! The first error of daily files, and the lines that are skipped.
 
 use super::cutters::are_alike;
 use super::{refused, unlisted};
@@ -10,7 +10,7 @@ use ghcn_series::DataFault;
 use std::alloc::Global;
 use std::test::Fail;
 
-/// How many lines of two files were passed over, or their fault. The lines have this end.
+/// How many lines of two files were skipped, or their error. The lines have this end.
 fn unlisted_of(alloc: Global, one: &[&[u8]], two: &[&[u8]], end: &[u8]) -> Result<u64, DataFault> {
     let one = text_of(alloc, one, end).map_err(DataFault::Memory)?;
     let two = text_of(alloc, two, end).map_err(DataFault::Memory)?;
@@ -140,7 +140,7 @@ fn months_that_stand_twice(rt: HostRuntime) {
     }
 }
 
-/// How many lines of a text's first bytes were passed over, or their fault.
+/// How many lines of a text's first bytes were skipped, or their error.
 fn unlisted_to(alloc: Global, lines: &[&[u8]], length: usize) -> Result<u64, DataFault> {
     let text = text_of(alloc, lines, b"\n").map_err(DataFault::Memory)?;
     unlisted(alloc, &[&text[..length.min(text.len())]])
@@ -173,7 +173,7 @@ fn daily_lines_cut_to_each_length(rt: HostRuntime) {
     }
 }
 
-/// How many lines of so many empty files were passed over, or their fault.
+/// How many lines of that many empty files were skipped, or their error.
 fn unlisted_of_empty(alloc: Global, count: usize) -> Result<u64, DataFault> {
     let none: &[u8] = b"";
     let mut files = Vec::new(alloc);

@@ -55,7 +55,7 @@ fn line_at(place: usize) -> [u8; 269]
     line
 }
 
-/// The lines, each so many places behind the one before it.
+/// The lines, each that many places after the one before it.
 fn lines_by(alloc: Global, step: u8) -> Result<Vec<u8>, Memory> {
     let mut text = Vec::new(alloc);
     for turn in 0..LINES {

@@ -82,7 +82,7 @@ fn gives_cut(alloc: Global, front: &[u8], behind: &[u8]) -> Result<bool, DataFau
     Ok(has_series(&data, &A, Element::Tmax, &SUMMER))
 }
 
-/// Whether it does where its bytes come one by one.
+/// Whether it does if its bytes come one by one.
 fn gives_by_bytes(alloc: Global, text: &[u8]) -> Result<bool, DataFault> {
     let data = read_by_bytes(reader(alloc)?, text)?;
     Ok(has_series(&data, &A, Element::Tmax, &SUMMER))
@@ -108,7 +108,7 @@ fn cut_anywhere(rt: HostRuntime) {
     assert_eq!(rt; gives_by_bytes(rt.alloc(), &again), Err(REPEATED));
 }
 
-/// A reader with so many files more, all of them empty.
+/// A reader with that many files more, all of them empty.
 fn with_files(mut reader: DataReader, count: u32) -> DataReader
     requires { HasFedSome reader }
     ensures { HasFedSome result }
@@ -119,7 +119,7 @@ fn with_files(mut reader: DataReader, count: u32) -> DataReader
     reader
 }
 
-/// The fault of a text behind which these bytes and so many files come.
+/// The error of a text after which these bytes and that many files come.
 fn fault_before(alloc: Global, text: &[u8], behind: &[u8], files: u32) -> Option<DataFault> {
     match fed(alloc, text) {
         Ok(mut reader) => {
@@ -153,7 +153,7 @@ fn first_fault_is_kept(rt: HostRuntime) {
     }
 }
 
-/// The fault of a month that the second file has, and the third again behind two lines.
+/// The error of a month that the second file has, and the third again after two lines.
 fn fault_of_files(alloc: Global, month: &[u8]) -> Result<Option<DataFault>, DataFault> {
     let mut reader = reader(alloc)?;
     reader.end_of_file();
@@ -201,7 +201,7 @@ fn shown(alloc: Global, files: &[&[u8]]) -> Result<Shown, DataFault> {
     Ok((foreign, found.foreign, counts))
 }
 
-/// So many foreign files, of which this is the first, by both, and these counts.
+/// That many foreign files, of which this is the first, by both, and these counts.
 fn told(count: u64, first: Option<u64>, counts: (u64, u64, u64)) -> Result<Shown, DataFault> {
     let foreign = Foreign { count, first };
     Ok((foreign, foreign, counts))
