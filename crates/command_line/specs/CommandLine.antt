@@ -49,7 +49,7 @@ whole_number = Signed (negsuc 9223372036854775807) (pos 9223372036854775807)
 abbrev pub whole_count : ValueParser
 whole_count = Unsigned 0 18446744073709551615
 
--- what stands behind them under a name, as many as there are
+-- what comes after them under a name, as many as there are
 abbrev pub many_of : Text → Rule
 many_of name = record (new_rule name) {
   range = Some (record { start_inclusive = 0; end_inclusive = usize_max });
@@ -109,18 +109,18 @@ papers_to_merge rows = unwrap_or (all_of (codes "papers") rows) []
 abbrev pub AreInPairs : List Row → Type 0
 AreInPairs rows = length (papers_to_merge rows) % 2 ≡ 0
 
--- the words are a right command line: `clap` has no fault to tell, and papers to merge stand in pairs
+-- the words are a right command line: `clap` has no error to tell, and papers to merge stand in pairs
 pub record AreRightWords (words : List Text) : Type 0 where
   pub read : fault_of extremes_app words ≡ []
   pub paired : (rows : List Row) → subcommand_of extremes_app words ≡ Some (codes "merge", rows) → AreInPairs rows
 
--- the guess is the number of 64 bits that the text writes; there is none where no text is given
+-- the guess is the number of 64 bits that the text writes; there is none if no text is given
 abbrev pub IsGuess : Option Text → Option ℤ → Type 0
 IsGuess None guess = guess ≡ None
 IsGuess (Some text) None = IsNumeral 10 (without_leading_sign text) × FitsSigned w64 (signed_digits_value 10 text) → ⊥
 IsGuess (Some text) (Some number) = IsNumeral 10 (without_leading_sign text) × (number ≡ signed_digits_value 10 text)
 
--- the count is the number of 64 bits that the text writes; there is none where no text is given
+-- the count is the number of 64 bits that the text writes; there is none if no text is given
 abbrev pub IsCount : Option Text → Option ℕ → Type 0
 IsCount None count = count ≡ None
 IsCount (Some text) None =
@@ -128,11 +128,11 @@ IsCount (Some text) None =
 IsCount (Some text) (Some number) =
     IsNumeral 10 (without_leading_plus text) × (number ≡ digits_value 10 (without_leading_plus text))
 
--- so many workers are given by the text, or there are 4 where no text is given
+-- that many workers are given by the text, or there are 4 if no text is given
 abbrev pub AreWorkers : Option Text → ℕ → Type 0
 AreWorkers text workers = (given : Option ℕ) × IsCount text given × (workers ≡ unwrap_or given 4)
 
--- a flag is on where its text is `true`, which it is given where the flag stands, and off where it is `false` or none
+-- a flag is on if its text is `true`, which it is given if the flag stands, and off if it is `false` or none
 abbrev pub IsFlag : Option Text → Bool → Type 0
 IsFlag None on = on ≡ false
 IsFlag (Some text) on = (text ≡ codes "true" → on ≡ true) × (text ≡ codes "false" → on ≡ false)
@@ -196,7 +196,7 @@ IsCommand name rows c = ((name ≡ codes "rank") × IsRank rows c)
     ⊎ (((name ≡ codes "merge") × IsMerge rows c)
     ⊎ (((name ≡ codes "check") × IsCheck rows c) ⊎ ((name ≡ codes "describe") × IsDescribe rows c)))
 
--- the words are right and name a subcommand, and the command has what `clap` reads behind it
+-- the words are right and name a subcommand, and the command has what `clap` reads after it
 pub record IsCommandOf (words : List Text) (c : Command) : Type 0 where
   pub name : Text
   pub rows : List Row
@@ -212,13 +212,13 @@ AskVersion words = fault_of extremes_app words ≡ DisplayVersion ∷ []
 abbrev pub MayAskVersion : List Text → Type 0
 MayAskVersion words = IsAmong DisplayVersion (fault_of extremes_app words)
 
--- the version is told, or memory was refused
+-- the version is reported, or memory was refused
 abbrev pub TellsVersion : CommandFault → Type 0
 TellsVersion (fault.Words text) = ⊥
 TellsVersion (fault.Version text) = ⊤
 TellsVersion fault.Memory = ⊤
 
--- a fact about where the version is told
+-- a fact that holds if the version is reported
 abbrev pub OnVersion : Type 0 → CommandFault → Type 0
 OnVersion P (fault.Version text) = P
 OnVersion P f = ⊤

@@ -1,4 +1,4 @@
--- What is answered to an input without a fault.
+-- What is returned for an input without an error.
 use Rattle.std.specs.Prelude.{◌≡◌, ℕ, List, Option, ℤ}
 use Rattle.ghcn_files.specs.declared.station.Station.{Station}
 use Rattle.ghcn_series.specs.Said.{stations_said, unlisted_said}
@@ -50,7 +50,7 @@ pub record Answers (query stations : List ℕ) (files : List (List ℕ)) (papers
   pub asks : Asks query asked
   pub right : AreRight asked (stations_said stations) files papers
 
--- the input has no fault
+-- the input has no error
 pub record IsFaultless (query stations : List ℕ) (files : List (List ℕ)) : Type 0 where
   pub asked : Asked
   pub dataset : Contents
@@ -60,7 +60,7 @@ pub record IsFaultless (query stations : List ℕ) (files : List (List ℕ)) : T
 abbrev pub certificate_of_run : Planned → List Record → List ℕ
 certificate_of_run p rs = certificate_of_best p.query (best_of_plan p) (lines_of p rs)
 
--- the bytes are the certificate of a sound run of so many workers over a plan, under a guess or none
+-- the bytes are the certificate of a sound run of that many workers over a plan, under a guess or none
 pub record IsOfCrew (p : Planned) (guess : Option ℤ) (workers : ℕ) (bytes : List ℕ) : Type 0 where
   pub records : List Record
   pub sound : AreSoundRecords (task_of p) guess workers records
@@ -72,7 +72,7 @@ pub record IsOfOneWorker (p : Planned) (guess : Option ℤ) (bytes : List ℕ) :
   pub alone : AreRecordsAlone (task_of p) guess records
   pub printed : bytes ≡ certificate_of_run p records
 
--- the certificate is that of a sound run of so many workers over the plan of what the input asks and holds, and its
+-- the certificate is that of a sound run of that many workers over the plan of what the input asks and holds, and its
 -- bounds are those of the series
 pub record IsCrewed (workers : ℕ) (guess : Option ℤ) (query stations : List ℕ) (files : List (List ℕ))
     (papers : Papers) : Type 0 where
@@ -98,7 +98,7 @@ pub record AreSamePapers (a b : Papers) : Type 0 where
   pub certificate : a.certificate.items ≡ b.certificate.items
   pub unlisted : a.unlisted ≡ b.unlisted
 
--- what one worker answers to an input under a guess is one pair of papers
+-- what one worker returns for an input under a guess is one pair of papers
 abbrev pub SerialPapersAreOne : Type 0
 SerialPapersAreOne = (guess : Option ℤ) (query stations : List ℕ) (files : List (List ℕ)) (a b : Papers)
     → Answers query stations files a → IsSerial guess query stations files a

@@ -1,4 +1,4 @@
--- What a run answers to a command, by the bytes that files have, where those are known.
+-- What a run returns for a command, by the bytes that files have, if those are known.
 use Rattle.std.specs.Prelude.{◌≡◌, ◌⊎◌, ℕ, List, map, Option, Result, string_bytes}
 use Rattle.command_line.specs.declared.asked.Command.{Command}
 use Rattle.command_line.specs.declared.asked.Command.TheVariants.{Sample, Rank, Merge, Check, Describe}

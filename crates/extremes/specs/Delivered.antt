@@ -12,12 +12,12 @@ pub record HasBeginning (paper : List ℕ) (before after : Option (List ℕ)) : 
   pub of_paper : paper ≡ part ++ rest
   pub given : Appends before after part
 
--- a writer was given a paper whole, or else a beginning of it
+-- a writer was given a paper whole, or otherwise a beginning of it
 abbrev pub IsWritten : List ℕ → Option (List ℕ) → Option (List ℕ) → Bool → Type 0
 IsWritten paper before after true = Appends before after paper
 IsWritten paper before after false = HasBeginning paper before after
 
--- a writer was given a paper whole where that is wanted, and nothing where it isn't
+-- a writer was given a paper whole if that is wanted, and nothing if it isn't
 abbrev pub IsGiven : Bool → List ℕ → Option (List ℕ) → Option (List ℕ) → Type 0
 IsGiven true paper before after = Appends before after paper
 IsGiven false paper before after = after ≡ before

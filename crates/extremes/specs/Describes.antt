@@ -1,4 +1,4 @@
--- What is answered where files are described.
+-- What is returned if files are described.
 use Rattle.std.specs.Prelude.{◌≡◌, ℕ, List, map, Result, Ok, Err}
 use Rattle.ghcn_fields.specs.Refusals.{IsRefusal}
 use Rattle.ghcn_series.specs.LineKinds.{foreign_of}
@@ -15,7 +15,7 @@ use Rattle.extremes.specs.declared.files.Describing.{Describing}
 use Rattle.extremes.specs.Merges.{Known}
 use Rattle.extremes.specs.Runs.{bytes_named}
 
--- a text says what a station list and daily files without a fault hold, and beside it stand the foreign files
+-- a text says what a station list and daily files without an error hold, and beside it stand the foreign files
 pub record IsTextOf (stations : List ℕ) (files : List (List ℕ)) (text : DescriptionText) : Type 0 where
   pub description : Description
   pub described : IsDescribed stations files description
@@ -26,7 +26,7 @@ pub record IsTextOf (stations : List ℕ) (files : List (List ℕ)) (text : Desc
 abbrev pub DescribesIntake : DescriptionIntake → DescriptionText → Type 0
 DescribesIntake t text = IsTrueOf HasTaken t (λ query stations files. IsTextOf stations files text)
 
--- the text of what these hold, or their first fault
+-- the text of what these hold, or their first error
 abbrev pub IsDescriptionOf : List ℕ → List (List ℕ) → Result DescriptionText Fault → Type 0
 IsDescriptionOf stations files (Ok text) = IsTextOf stations files text
 IsDescriptionOf stations files (Err fault) = IsRefusal is_memory fault (read_files stations files)

@@ -7,7 +7,7 @@ use Rattle.extremes.specs.declared.judgement.Judgement.TheVariants.{Whole, Part}
 use Rattle.extremes.specs.declared.ending.Ending.{Ending}
 use Rattle.extremes.specs.declared.ending.Ending.TheVariants.{Done, Refused, Words, File}
 
--- 0 where it is done, 1 where the input was refused, 2 for the words, 3 for a file
+-- 0 if it is done, 1 if the input was refused, 2 for the words, 3 for a file
 abbrev pub status_of : Ending → ℕ
 status_of Done = 0
 status_of Refused = 1

@@ -1,4 +1,4 @@
--- What is answered to papers on an input without a fault.
+-- What is returned for papers on an input without an error.
 use Rattle.std.specs.Prelude.{◌≡◌, ◌↔◌, ℕ, List}
 use Rattle.ghcn_files.specs.declared.station.Station.{Station}
 use Rattle.ghcn_series.specs.Said.{stations_said}
@@ -21,7 +21,7 @@ AreRightTexts q stations files report certificate =
     IsRightReport q stations (IsAdmittedSeries q stations files) report
     × (version : ℕ) × IsRightCertificate version q (IsAdmittedSeries q stations files) certificate
 
--- the verdict is that on the papers for what the input asks and holds: accepted exactly where the report is the right
+-- the verdict is that on the papers for what the input asks and holds: accepted if and only if the report is the right
 -- one and the certificate a right one
 pub record IsJudged (query stations : List ℕ) (files : List (List ℕ)) (report certificate : List ℕ)
     (v : Verdict) : Type 0 where

@@ -16,7 +16,7 @@ use Rattle.extremes.specs.Judged.{IsJudgedByPart}
 abbrev pub Counted : Type 0
 Counted = List (List ℕ) × ℕ
 
--- these files accept two papers: they have this number of series, of so many lines
+-- these files accept two papers: they have this number of series, of that many lines
 abbrev pub Accepts : List ℕ → List ℕ → List ℕ → List ℕ → ℕ → Counted → Type 0
 Accepts query stations report certificate lines p =
     IsJudgedByPart query stations p.0 report certificate (Accepted p.1 lines)
@@ -37,7 +37,7 @@ pub record AllAccept (query stations report certificate : List ℕ) (asked : Ask
   pub sum : sum (map (λ p. p.1) parts) ≡ lines
   pub apart : IsDistinct same_id (morsel_ids asked (held_by query stations report certificate lines parts accept))
 
--- papers that all parts accept are right for all files one part after the other, where these have no fault together
+-- papers that all parts accept are right for all files one part after the other, if these have no error together
 abbrev pub PartsJudgeTheWhole : Type 0
 PartsJudgeTheWhole = (query stations report certificate : List ℕ) (parts : List Counted) (asked : Asked)
     (dataset : Contents) → IsReadOf query stations (flat_map (λ p. p.0) parts) asked dataset

@@ -20,17 +20,17 @@ use Rattle.extremes.specs.declared.merge.MergingFault.TheVariants.{Query, Parts}
 abbrev pub texts_of : List PartTexts → List Texts
 texts_of parts = map (λ p. (p.report.items, p.certificate.items)) parts
 
--- what is merged, or the first fault of the parts
+-- what is merged, or the first error of the parts
 abbrev pub of_parts : Result Texts MergeFault → Result Texts MergingFault
 of_parts (Ok papers) = Ok papers
 of_parts (Err why) = Err (Parts why)
 
--- what is merged for a query that was read, or the query's fault
+-- what is merged for a query that was read, or the query's error
 abbrev pub merged_for : Result Asked QueryFault → List Texts → Result Texts MergingFault
 merged_for (Ok asked) texts = of_parts (merge asked texts)
 merged_for (Err cause) texts = Err (Query cause)
 
--- what is merged for the query of a text, or the first fault: the query's, or that of the parts
+-- what is merged for the query of a text, or the first error: the query's, or that of the parts
 abbrev pub merged_of : List ℕ → List Texts → Result Texts MergingFault
 merged_of query texts = merged_for (read_query query) texts
 
@@ -41,7 +41,7 @@ is_memory (Parts why) = merging.is_memory why
 
 -- papers are those that are merged of these texts for the query of a text; wherever each part's are right for its
 -- files, they are right for all files, with the bounds of the series if no station has series in two parts, and no
--- station has morsels in two; they tell of no line that was passed over
+-- station has morsels in two; they count no line as skipped
 pub record AreMerged (query : List ℕ) (texts : List Texts) (papers : Papers) : Type 0 where
   pub asked : Asked
   pub read : read_query query ≡ Ok asked
@@ -51,20 +51,20 @@ pub record AreMerged (query : List ℕ) (texts : List Texts) (papers : Papers) :
   pub apart : IsOutcomeWhereRight asked texts (Ok (papers.report.items, papers.certificate.items))
   pub unlisted : papers.unlisted ≡ 0
 
--- papers that are right for the parts' files are refused only where a station has morsels in two parts, by an ID that
+-- papers that are right for the parts' files are refused only if a station has morsels in two parts, by an ID that
 -- stands on two lines
 abbrev pub IsRefusedWhereRight : List ℕ → List Texts → MergingFault → Type 0
 IsRefusedWhereRight query texts (Query cause) = ⊤
 IsRefusedWhereRight query texts (Parts why) = (asked : Asked) → read_query query ≡ Ok asked
     → OrMemory merging.is_memory (λ fault. IsOutcomeWhereRight asked texts (Err fault)) why
 
--- the papers that are merged of these texts, or the first fault
+-- the papers that are merged of these texts, or the first error
 abbrev pub IsMergeOf : List ℕ → List Texts → Result Papers MergingFault → Type 0
 IsMergeOf query texts (Ok papers) = AreMerged query texts papers
 IsMergeOf query texts (Err fault) =
     IsRefusal is_memory fault (merged_of query texts) × IsRefusedWhereRight query texts fault
 
--- the bytes of files by their paths, where they are known
+-- the bytes of files by their paths, if they are known
 abbrev pub Known : Type 0
 Known = List ℕ → Option (List ℕ)
 
@@ -76,7 +76,7 @@ KnownPart = Option (List ℕ) × Option (List ℕ)
 abbrev pub known_part : Known → Part → KnownPart
 known_part bytes_of part = (bytes_of (string_bytes part.report), bytes_of (string_bytes part.certificate))
 
--- these are all the bytes of both papers, where those are known
+-- these are all the bytes of both papers, if those are known
 abbrev pub AreBothOf : KnownPart → Texts → Type 0
 AreBothOf known texts = AreAllOf known.0 texts.0 × AreAllOf known.1 texts.1
 

@@ -25,32 +25,32 @@ text_of (Part v) = parts.verdict_text v
 abbrev pub judgement_line : Judgement → List ℕ
 judgement_line j = text_of j ++ codes "\n"
 
--- what the report's writer was given: the whole report, nothing behind a certificate that couldn't be written, or a
+-- what the report's writer was given: the whole report, nothing after a certificate that couldn't be written, or a
 -- beginning
 abbrev pub IsReported : Papers → Option (List ℕ) → Option (List ℕ) → Delivery → Type 0
 IsReported papers before after delivery.Done = Appends before after papers.report.items
 IsReported papers before after delivery.CertificateFailed = after ≡ before
 IsReported papers before after delivery.ReportFailed = HasBeginning papers.report.items before after
 
--- a text ends done where it was written whole, or as a file that couldn't be written with a beginning of it
+-- a text ends done if it was written whole, or as a file that couldn't be written with a beginning of it
 abbrev pub IsShown : List ℕ → Option (List ℕ) → Option (List ℕ) → Ending → Type 0
 IsShown text before after Done = Appends before after text
 IsShown text before after Refused = ⊥
 IsShown text before after Words = ⊥
 IsShown text before after File = HasBeginning text before after
 
--- of papers the report is shown; a fault writes nothing
+-- of papers the report is shown; an error writes nothing
 abbrev pub IsPrinted : {F : Type 0} → Result Papers F → Option (List ℕ) → Option (List ℕ) → Ending → Type 0
 IsPrinted (Ok papers) before after ending = IsShown papers.report.items before after ending
 IsPrinted (Err fault) before after ending = (ending ≡ Refused) × (after ≡ before)
 
--- of a description the text is shown; a fault writes nothing
+-- of a description the text is shown; an error writes nothing
 abbrev pub IsTextShown : Result DescriptionText Fault → Option (List ℕ) → Option (List ℕ) → Ending → Type 0
 IsTextShown (Ok text) before after ending = IsShown text.bytes.items before after ending
 IsTextShown (Err fault) before after ending = (ending ≡ Refused) × (after ≡ before)
 
 -- what is said of papers is printed as its line and ends the run as it says, or it ends as a file that couldn't be
--- written; a fault prints nothing and is refused
+-- written; an error prints nothing and is refused
 abbrev pub IsTold : Result (Judgement × Foreign) Fault → Option (List ℕ) → Option (List ℕ) → Ending → Type 0
 IsTold (Ok judged) before after ending =
     ((ending ≡ ending_of judged.0) × Appends before after (judgement_line judged.0)) ⊎ (ending ≡ File)

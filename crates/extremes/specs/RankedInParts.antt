@@ -10,7 +10,7 @@ use Rattle.extremes.specs.declared.papers.Papers.{Papers}
 use Rattle.extremes.specs.Answer.{Answers, IsFaultless}
 use Rattle.extremes.specs.Merges.{AreMerged}
 
--- the papers of a part are those that a ranking answers to its files, and the data that these hold are such as reading
+-- the papers of a part are those that a ranking returns for its files, and the data that these hold are such as reading
 -- answers
 pub record IsRankedPart (query stations : List ℕ) (p : Filed) : Type 0 where
   pub papers : Papers
@@ -19,7 +19,7 @@ pub record IsRankedPart (query stations : List ℕ) (p : Filed) : Type 0 where
   pub contents : IsContents (said_by (stations_said stations) p.0)
   pub texts : p.1 ≡ (papers.report.items, papers.certificate.items)
 
--- what is ranked in parts and merged is ranked: the report is, byte for byte, the one that is answered to all files,
+-- what is ranked in parts and merged is ranked: the report is, byte for byte, the one that is returned for all files,
 -- and the certificate is right for all files
 abbrev pub MergedIsRanked : Type 0
 MergedIsRanked = (query stations : List ℕ) (parts : List Filed) (whole merged : Papers)

@@ -1,4 +1,4 @@
--- What a run answers for what it was given, and for the files that are named.
+-- What a run returns for what it was given, and for the files that are named.
 use Rattle.std.specs.Prelude.{◌≡◌, ℕ, ◌≤◌, Bool, true, false, List, map, Option, Result, Ok, Err, ℤ, IfOk}
 use Rattle.std.specs.Prelude.{String, string_bytes}
 use Rattle.ghcn_fields.specs.Refusals.{IsRefusal}
@@ -21,7 +21,7 @@ use Rattle.extremes.specs.declared.files.Judging.{Judging}
 use Rattle.extremes.specs.Merges.{Known, known_part, AreBothOf}
 use Rattle.extremes.specs.Judged.{IsJudged, IsJudgedByPart}
 
--- the bytes of the file that is named, by those of files by their paths, where they are known
+-- the bytes of the file that is named, by those of files by their paths, if they are known
 abbrev pub bytes_named : {A : Type 0} → Known → String A → Option (List ℕ)
 bytes_named bytes_of path = bytes_of (string_bytes path)
 
@@ -29,11 +29,11 @@ bytes_named bytes_of path = bytes_of (string_bytes path)
 abbrev pub AnswersInput : Intake → Papers → Type 0
 AnswersInput t papers = IsTrueOf t (λ query stations files. Answers query stations files papers)
 
--- an intake's input has no fault
+-- an intake's input has no error
 abbrev pub FaultlessInput : Intake → Type 0
 FaultlessInput t = IsTrueOf t IsFaultless
 
--- the papers are those of a crew of so many workers for an intake's input, under a guess or none
+-- the papers are those of a crew of that many workers for an intake's input, under a guess or none
 abbrev pub CrewsInput : Intake → ℕ → Option ℤ → Papers → Type 0
 CrewsInput t workers guess papers =
     IsTrueOf t (λ query stations files. IsCrewed workers guess query stations files papers)
@@ -48,14 +48,14 @@ abbrev pub JudgesPart : Intake → List ℕ → List ℕ → PartVerdict → Typ
 JudgesPart t report certificate v =
     IsTrueOf t (λ query stations files. IsJudgedByPart query stations files report certificate v)
 
--- the papers are those of a crew of at most so many workers
+-- the papers are those of a crew of at most that many workers
 pub record IsCrewedBySome (workers : ℕ) (guess : Option ℤ) (query stations : List ℕ) (files : List (List ℕ))
     (papers : Papers) : Type 0 where
   pub ran : ℕ
   pub few : ran ≤ workers
   pub crew : IsCrewed ran guess query stations files papers
 
--- papers that answer these texts, of at most so many workers, or their first fault
+-- papers that answer these texts, of at most that many workers, or their first error
 abbrev pub IsRanked : ℕ → Option ℤ → List ℕ → List ℕ → List (List ℕ) → Result Papers Fault → Type 0
 IsRanked workers guess query stations files (Ok papers) =
     Answers query stations files papers × IsCrewedBySome workers guess query stations files papers
@@ -78,8 +78,8 @@ pub record RanksFiles (bytes_of : Known) (r : Ranking) (answer : Result Papers F
   pub ranked : IsRanked r.workers r.guess (string_bytes r.query) stations files answer
   pub told : IfOk answer (λ papers. foreign ≡ foreign_of files)
 
--- what is said for these texts is a part's verdict where they are a part of the files that the papers are of, and a
--- verdict where they aren't
+-- what is said for these texts is a part's verdict if they are a part of the files that the papers are of, and a
+-- verdict if they aren't
 abbrev pub IsJudgedAs : Bool → List ℕ → List ℕ → List (List ℕ) → List ℕ → List ℕ → Judgement → Type 0
 IsJudgedAs false query stations files report certificate (Whole v) =
     IsJudged query stations files report certificate v
@@ -93,7 +93,7 @@ abbrev pub JudgesInputAs : Bool → Intake → List ℕ → List ℕ → Judgeme
 JudgesInputAs part t report certificate j =
     IsTrueOf t (λ query stations files. IsJudgedAs part query stations files report certificate j)
 
--- what is said of two papers for these texts and which of the files are foreign, or the first fault of these
+-- what is said of two papers for these texts and which of the files are foreign, or the first error of these
 abbrev pub IsJudgement : Bool → List ℕ → List ℕ → List (List ℕ) → List ℕ → List ℕ
     → Result (Judgement × Foreign) Fault → Type 0
 IsJudgement part query stations files report certificate (Ok judged) =

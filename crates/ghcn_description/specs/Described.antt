@@ -38,7 +38,7 @@ days_of_element stations ls e =
 abbrev pub flagged_of_element : List Station → List FileLine → Element → ℕ
 flagged_of_element stations ls e = sum_by flagged_values (filter (is_listed_of stations e) (filter_map month_on ls))
 
--- the first and the last of some days, where there are any
+-- the first and the last of some days, if there are any
 abbrev pub IsSpan : List ℤ → Option Span → Type 0
 IsSpan days None = days ≡ []
 IsSpan days (Some span) =
@@ -81,7 +81,7 @@ IsBehind codes l = IsTrue (is_other l && not (has_code_among codes l))
 abbrev pub IsCounted : List FileLine → CodeCount → Type 0
 IsCounted ls c = (0 < c.lines) × (c.lines ≡ lines_with ls c.code)
 
--- the least codes that are none of the five elements' are counted so, and so many lines have further ones
+-- the least codes that are none of the five elements' are counted so, and that many lines have further ones
 pub record AreOthers (ls : List FileLine) (counts : List CodeCount) (further : ℕ) : Type 0 where
   pub few : length counts ≤ most_codes
   pub rising : IsStrictlySortedBy (slice_cmp nat_cmp) (codes_of counts)

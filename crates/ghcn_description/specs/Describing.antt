@@ -84,7 +84,7 @@ pub record Finishes (d : Describer) (number : ℕ) (counts : LineCounts) (made :
 
 -- ---- files
 
--- these files, which are few enough and have no line with a fault, are described so
+-- these files, which are few enough and have no line with an error, are described so
 pub record Describes (stations : List Station) (files : List (List ℕ)) (d : Description) : Type 0 where
   pub few : length files ≤ 2 ^ 20
   pub right : HaveNoFault (daily_fault stations) (daily_lines files)
@@ -110,7 +110,7 @@ pub record EndsFile (old new : FileDescriber) : Type 0 where
 pub record HoldsFed (r : FileDescriber) (d : Description) : Type 0 where
   pub is : (fed : Fed) → HasFed r fed → Describes fed.stations (files_of fed.files) d
 
--- want of memory, or the first fault of the files that a describer was fed
+-- out of memory, or the first error of the files that a describer was fed
 pub record RefusesFed (r : FileDescriber) (fault : DataFault) : Type 0 where
   pub is : (fed : Fed) → HasFed r fed → IsRefusal is_memory fault (data_of fed.stations (files_of fed.files))
   pub first : (fed : Fed) → HasFed r fed → IsFirstRefusal fault fed.stations (files_of fed.files)

@@ -8,7 +8,7 @@ use Rattle.ghcn_series.specs.DailyFaults.{daily_lines, daily_fault}
 use Rattle.ghcn_series.specs.LineKinds.{all_lines, blank_lines}
 use Rattle.ghcn_description.specs.Lines.{lines_of_element, unlisted_lines, other_lines}
 
--- where no line has a fault, the lines of the elements, of other codes, of unlisted stations and of blanks are all
+-- if no line has an error, the lines of the elements, of other codes, of unlisted stations and of blanks are all
 -- lines
 abbrev pub LinesAddUp : Type 0
 LinesAddUp = (stations : List Station) (files : List (List ℕ))

@@ -37,7 +37,7 @@ pub record LosesLast (old new : Others) : Type 0 where
   pub counts : old.counts.items ≡ new.counts.items ++ last ∷ []
   pub further : new.further ≡ old.further + last.lines
 
--- the last code leaves, where as many are named as may be
+-- the last code leaves, if as many are named as may be
 pub record MakesRoom (old new : Others) : Type 0 where
   pub few : length old.counts.items < most_codes → new ≡ old
   pub many : most_codes ≤ length old.counts.items → LosesLast old new

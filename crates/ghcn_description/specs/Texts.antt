@@ -1,4 +1,4 @@
--- The text of a description: its lines are written with the line feed before them, and the last one with one behind.
+-- The text of a description: its lines are written with the line feed before them, and the last one with one after.
 use Rattle.std.specs.Prelude.{ℕ, zero, suc, List, [], ◌++◌, codes, Option, None, Some, ℤ}
 use Rattle.std.specs.List.{flat_map}
 use Rattle.std.specs.Fmt.{decimal}
@@ -9,11 +9,11 @@ use Rattle.ghcn_description.specs.declared.counts.ElementCounts.{ElementCounts}
 use Rattle.ghcn_description.specs.declared.counts.Span.{Span}
 use Rattle.ghcn_description.specs.declared.counts.CodeCount.{CodeCount}
 
--- a word and a number behind it
+-- a word and a number after it
 abbrev pub counted_text : List ℕ → ℕ → List ℕ
 counted_text word n = word ++ decimal n
 
--- a word and a day behind it
+-- a word and a day after it
 abbrev pub dated : List ℕ → ℤ → List ℕ
 dated word day = word ++ date_text day
 
@@ -21,7 +21,7 @@ dated word day = word ++ date_text day
 abbrev pub days_text : Span → List ℕ
 days_text span = dated (codes " from ") span.first ++ dated (codes " to ") span.last
 
--- the same, where there are any
+-- the same, if there are any
 abbrev pub span_text : Option Span → List ℕ
 span_text None = []
 span_text (Some span) = days_text span
@@ -37,7 +37,7 @@ element_line c =
 abbrev pub code_line : CodeCount → List ℕ
 code_line c = codes "\nother " ++ c.code ++ counted_text (codes " lines ") c.lines
 
--- the line of further codes, where a line has one
+-- the line of further codes, if a line has one
 abbrev pub further_line : ℕ → List ℕ
 further_line zero = []
 further_line (suc n) = counted_text (codes "\nothers lines ") (suc n)

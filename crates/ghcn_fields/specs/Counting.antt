@@ -1,7 +1,7 @@
 -- How often numbers stand in lists.
 use Rattle.std.specs.Prelude.{◌≡◌, ℕ, zero, suc, ◌+◌, ◌==◌, if◌then◌else◌, nat_lt, List, count_by}
 
--- 1 where the two numbers are equal, 0 otherwise
+-- 1 if the two numbers are equal, 0 otherwise
 abbrev pub one_if_equal : ℕ → ℕ → ℕ
 one_if_equal a b = if a == b then 1 else 0
 
@@ -9,7 +9,7 @@ one_if_equal a b = if a == b then 1 else 0
 abbrev pub times : ℕ → List ℕ → ℕ
 times x xs = count_by (λ y. y == x) xs
 
--- how often x stands among the numbers below n: once where it is one of them
+-- how often x stands among the numbers below n: once if it is one of them
 abbrev pub times_below : ℕ → ℕ → ℕ
 times_below x n = if nat_lt x n then 1 else 0
 

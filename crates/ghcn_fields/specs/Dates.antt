@@ -8,7 +8,7 @@ use Rattle.ghcn_fields.specs.Bytes.{same_bytes}
 use Rattle.ghcn_fields.specs.NumberTexts.{last_digits}
 use Rattle.ghcn_fields.specs.Days.{day_number, first_day}
 
--- the year and the day of the year, from 0, of the day n days after 1 January of a year, so many years on at most
+-- the year and the day of the year, from 0, of the day n days after 1 January of a year, that many years on at most
 unfoldable pub year_and_rest : ℕ → ℕ → ℕ → ℕ × ℕ
 year_and_rest zero year n = (year, n)
 year_and_rest (suc more) year n = elim (nat_lt n (days_in_year (pos year))) [
@@ -17,7 +17,7 @@ year_and_rest (suc more) year n = elim (nat_lt n (days_in_year (pos year))) [
       year_and_rest more (suc year) (n - days_in_year (pos year))
 ]
 
--- the month and the day of the month, from 1, of the day n days after the first of a month, so many months on at most
+-- the month and the day of the month, from 1, of the day n days after the first of a month, that many months on at most
 unfoldable pub month_and_day : ℕ → ℕ → ℕ → ℕ → ℕ × ℕ
 month_and_day zero year month n = (month, suc n)
 month_and_day (suc more) year month n = elim

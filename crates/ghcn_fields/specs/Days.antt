@@ -28,7 +28,7 @@ last_day = pos 2_932_896
 abbrev pub is_day : ℤ → Bool
 is_day n = int_le first_day n && int_le n last_day
 
--- n, where it is the number of a day
+-- n, if it is the number of a day
 abbrev pub day_if : ℤ → Option ℤ
 day_if n = if is_day n then Some n else None
 

@@ -7,7 +7,7 @@ use Rattle.ghcn_fields.specs.declared.value.Form.{Form}
 use Rattle.ghcn_fields.specs.declared.value.Form.TheVariants.{Blanks, Plain, Negative, Malformed}
 use Rattle.ghcn_fields.specs.Bytes.{blank_byte, is_blank}
 
--- the number that a byte writes by itself, 0 where it is no digit
+-- the number that a byte writes by itself, 0 if it isn't a digit
 abbrev pub digit_of : ℕ → ℕ
 digit_of b = if is_ascii_digit b then b - 48 else 0
 
@@ -21,7 +21,7 @@ is_number_form [] = false
 is_number_form (b ∷ []) = is_ascii_digit b
 is_number_form (b ∷ c ∷ bytes) = may_precede b c && is_number_form (c ∷ bytes)
 
--- the number that digits write behind n, where any other byte counts as a zero
+-- the number that digits write after n, if any other byte counts as a zero
 abbrev pub digits_behind : ℕ → List ℕ → ℕ
 digits_behind n [] = n
 digits_behind n (b ∷ bytes) = digits_behind (n * 10 + digit_of b) bytes
@@ -69,20 +69,20 @@ is_malformed Plain = false
 is_malformed Negative = false
 is_malformed Malformed = true
 
--- the number of a magnitude in a field of this form, or another one where it has none
+-- the number of a magnitude in a field of this form, or another one if it has none
 abbrev pub number_by : Form → ℕ → ℤ → ℤ
 number_by Blanks n other = other
 number_by Plain n other = pos n
 number_by Negative n other = neg_ℤ (pos n)
 number_by Malformed n other = other
 
--- each lane of a byte has all its bits, but for those behind a field
+-- each lane of a byte has all its bits, but for those after a field
 abbrev pub are_set_but : List Bool → List ℕ → Bool
 are_set_but [] lanes = true
 are_set_but (behind ∷ more) [] = true
 are_set_but (behind ∷ more) (lane ∷ lanes) = (behind || nat_le 255 lane) && are_set_but more lanes
 
--- five of eight columns are those of a field, and three are behind it
+-- five of eight columns are those of a field, and three are after it
 abbrev pub five_of_eight : List Bool
 five_of_eight = false ∷ false ∷ false ∷ false ∷ false ∷ true ∷ true ∷ true ∷ []
 
@@ -90,7 +90,7 @@ five_of_eight = false ∷ false ∷ false ∷ false ∷ false ∷ true ∷ true 
 abbrev pub are_set : List ℕ → Bool
 are_set lanes = are_set_but (five_of_eight ++ five_of_eight) lanes
 
--- each lane is 0, but for those behind a field
+-- each lane is 0, but for those after a field
 abbrev pub are_clear_but : List Bool → List ℕ → Bool
 are_clear_but [] lanes = true
 are_clear_but (behind ∷ more) [] = true

@@ -14,7 +14,7 @@ IsGuessOrRaised guess raised s = (guess ≡ Some s) ⊎ Contains raised s
 abbrev pub IsAtLeast : Option ℤ → List ℤ → Type 0
 IsAtLeast floor scores = All (λ s. IsSomeAnd floor (λ f. s ≤ℤ f)) scores
 
--- the floor is the greatest of the guess and the scores raised, none where there is neither
+-- the floor is the greatest of the guess and the scores raised, none if there is neither
 pub record IsFloorOf (guess : Option ℤ) (raised : List ℤ) (floor : Option ℤ) : Type 0 where
   pub one_of_them : IfSome floor (IsGuessOrRaised guess raised)
   pub guess_below : IsAtLeast floor (option_to_list guess)

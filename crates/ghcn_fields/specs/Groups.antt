@@ -1,4 +1,4 @@
--- A group of eight columns: a number field of five, and three flags behind it.
+-- A group of eight columns: a number field of five, and three flags after it.
 use Rattle.std.specs.Prelude.{◌≡◌, ℕ, ◌*◌, ◌<◌, ◌==◌, false, if◌then◌else◌, List, get_or, take, drop, ℤ, pos, neg_ℤ}
 use Rattle.ghcn_fields.specs.Bytes.{blank_byte}
 use Rattle.ghcn_fields.specs.Numbers.{int_field, is_bad, number_or}
@@ -13,7 +13,7 @@ abbrev pub AreNumbers : ℤ → List ℕ → List ℤ → Type 0
 AreNumbers other columns numbers = (k : ℕ) → k < 4 → is_bad (int_field (take 5 (drop (8 * k) columns))) ≡ false
     → get_or numbers k (pos 0) ≡ number_of_group other (drop (8 * k) columns)
 
--- the number of a magnitude, below zero where there are minuses, if what blanks count says that the second flag
+-- the number of a magnitude, below zero if there are minuses, if what blanks count says that the second flag
 -- is one and the field's last column isn't, or another number
 abbrev pub number_if : ℕ → ℕ → ℕ → ℤ → ℤ
 number_if blanks minuses size other =

@@ -7,16 +7,16 @@ use Rattle.ghcn_fields.specs.Dates.{civil, date_text, read_date}
 use Rattle.ghcn_fields.specs.Numbers.{scaled_field}
 use Rattle.ghcn_fields.specs.Fields.{HasNumber}
 
--- a date has the number of a day exactly where it is that day's year, month and day of the month
+-- a date has the number of a day if and only if it is that day's year, month and day of the month
 abbrev pub DatesAreOfDays : Type 0
 DatesAreOfDays = (year month day : ℕ) (n : ℤ) →
     (day_number year month day ≡ Some n) ↔ (IsTrue (is_day n) × (civil n ≡ (year, month, day)))
 
--- a text is read as a day exactly where it is the day's text
+-- a text is read as a day if and only if it is the day's text
 abbrev pub TextsAreOfDays : Type 0
 TextsAreOfDays = (text : List ℕ) (n : ℤ) → (read_date text ≡ Some n) ↔ (IsTrue (is_day n) × (text ≡ date_text n))
 
--- a field is read as a number exactly where it has the number and 32 bits hold it
+-- a field is read as a number if and only if it has the number and 32 bits hold it
 abbrev pub FieldsHaveNumbers : Type 0
 FieldsHaveNumbers = (places : ℕ) (field : List ℕ) (v : ℤ) →
     (scaled_field places field ≡ Number v) ↔ (HasNumber places field v × FitsSigned w32 v)

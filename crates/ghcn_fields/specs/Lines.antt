@@ -5,7 +5,7 @@ use Rattle.std.specs.List.{slice_split, enumerate_from, list_all, AllByRecursion
 use Rattle.std.specs.Str.Lines.{strip_carriage_return}
 use Rattle.ghcn_fields.specs.Bytes.{blank_byte}
 
--- the parts without the last one, where that is empty
+-- the parts without the last one, if that is empty
 abbrev pub without_empty_last : List (List ℕ) → List (List ℕ)
 without_empty_last [] = []
 without_empty_last (x ∷ []) = if length x == 0 then [] else x ∷ []

@@ -7,7 +7,7 @@ abbrev pub whole : ℤ → List ℕ
 whole (pos n) = decimal n
 whole (negsuc n) = 45 ∷ decimal (suc n)
 
--- so many tenths, with one decimal
+-- that many tenths, with one decimal
 abbrev pub tenths_of : ℕ → List ℕ
 tenths_of n = decimal (n / 10) ++ 46 ∷ decimal (n % 10)
 
@@ -21,7 +21,7 @@ abbrev pub last_digits : ℕ → ℕ → List ℕ
 last_digits zero n = []
 last_digits (suc k) n = last_digits k (n / 10) ++ (48 + n % 10) ∷ []
 
--- so many ten-thousandths, with four decimals
+-- that many ten-thousandths, with four decimals
 abbrev pub four_places_of : ℕ → List ℕ
 four_places_of n = decimal (n / 10000) ++ 46 ∷ last_digits 4 n
 

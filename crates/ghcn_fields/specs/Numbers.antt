@@ -19,14 +19,14 @@ abbrev pub natural : List ℕ → Option ℕ
 natural [] = None
 natural (d ∷ ds) = if list_all is_ascii_digit (d ∷ ds) then Some (digits_value 10 (d ∷ ds)) else None
 
--- a whole part and a part behind the point of so many digits, in units of the last of some places
+-- a whole part and a part after the point of that many digits, in units of the last of some places
 abbrev pub joined : ℕ → Option ℕ → Option ℕ → ℕ → Option ℕ
 joined places None part len = None
 joined places (Some whole) None len = None
 joined places (Some whole) (Some part) len =
     if nat_le len places then Some (whole * 10 ^ places + part * 10 ^ (places - len)) else None
 
--- 10 ^ places times the number that digits write, with an optional point and 1 to that many digits behind it
+-- 10 ^ places times the number that digits write, with an optional point and 1 to that many digits after it
 abbrev pub decimal_number : ℕ → List ℕ → Option ℕ
 decimal_number places bytes =
     if list_any (λ b. b == 46) bytes
@@ -39,7 +39,7 @@ abbrev pub with_sign : Bool → ℕ → ℤ
 with_sign true n = neg_ℤ (pos n)
 with_sign false n = pos n
 
--- what a reader of digits reads behind an optional minus
+-- what a reader of digits reads after an optional minus
 abbrev pub signed_by : (List ℕ → Option ℕ) → List ℕ → Option ℤ
 signed_by read [] = None
 signed_by read (b ∷ bytes) =
@@ -50,12 +50,12 @@ abbrev pub is_i32 : ℤ → Bool
 is_i32 (pos n) = nat_lt n (2 ^ 31)
 is_i32 (negsuc n) = nat_lt n (2 ^ 31)
 
--- a number where there is one in range, and else a bad field
+-- a number if there is one in range, and otherwise a bad field
 abbrev pub field_of : Option ℤ → Field
 field_of None = Bad
 field_of (Some z) = if is_i32 z then Number z else Bad
 
--- a field is blank, or what a reader reads behind its blanks, or bad
+-- a field is blank, or what a reader reads after its blanks, or bad
 abbrev pub field_by : (List ℕ → Option ℤ) → List ℕ → Field
 field_by read bytes = if length (after_blanks bytes) == 0 then Blank else field_of (read (after_blanks bytes))
 
@@ -67,7 +67,7 @@ int_field bytes = field_by (signed_by natural) bytes
 abbrev pub scaled_field : ℕ → List ℕ → Field
 scaled_field places bytes = field_by (signed_by (decimal_number places)) bytes
 
--- the number, where it is at most a limit
+-- the number, if it is at most a limit
 abbrev pub up_to : ℕ → Option ℕ → Option ℕ
 up_to limit None = None
 up_to limit (Some n) = if nat_le n limit then Some n else None
@@ -78,7 +78,7 @@ is_bad Blank = false
 is_bad (Number z) = false
 is_bad Bad = true
 
--- the number of a field, or another one where it has none
+-- the number of a field, or another one if it has none
 abbrev pub number_or : ℤ → Field → ℤ
 number_or other Blank = other
 number_or other (Number z) = z

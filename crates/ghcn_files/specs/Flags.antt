@@ -7,7 +7,7 @@ use Rattle.ghcn_files.specs.declared.month.Month.{Month}
 use Rattle.ghcn_files.specs.declared.month.Reading.{Reading}
 use Rattle.ghcn_files.specs.Months.{is_flagged}
 
--- a day, by its place and its reading, is one of so many, and has a flagged value, which isn't missing
+-- a day, by its place and its reading, is one of that many, and has a flagged value, which isn't missing
 abbrev pub is_flagged_value : ℕ → ℕ × Reading → Bool
 is_flagged_value days x = nat_le x.0 days && x.1.flagged && is_some x.1.value
 

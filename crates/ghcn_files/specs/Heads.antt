@@ -16,14 +16,14 @@ pub record BeginsWith (columns line : List ℕ) : Type 0 where
 abbrev pub head_of_row : MonthRow → Head
 head_of_row row = record { id = row.id; year = row.year; month = row.month }
 
--- a row has the head of a line, which passes the tests of a head, and its month so many days
+-- a row has the head of a line, which passes the tests of a head, and its month that many days
 pub record HasHead (line : List ℕ) (days : ℕ) (row : MonthRow) : Type 0 where
   pub long : 266 ≤ length line
   pub fine : head_why line ≡ None
   pub head : head_of_row row ≡ head_of line
   pub many : days ≡ days_in_month (pos row.year) row.month
 
--- all lines that begin with these columns have the head of a row, whose month has so many days
+-- all lines that begin with these columns have the head of a row, whose month has that many days
 pub record KnowsHead (columns : List ℕ) (days : ℕ) (row : MonthRow) : Type 0 where
   pub head : (line : List ℕ) → BeginsWith columns line → unless (head_why line) (head_of line) ≡ Ok (head_of_row row)
   pub many : days ≡ days_in_month (pos row.year) row.month

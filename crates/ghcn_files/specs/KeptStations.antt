@@ -39,7 +39,7 @@ pub record AreKept (stations : List Station) (places : List ((ℕ × ℕ) × ℕ
 abbrev pub Rise : List Station → Type 0
 Rise stations = IsSortedByKey (λ s. key_of s.id.0) key_cmp stations
 
--- the key of an ID is greater than that of a station, where there is one
+-- the key of an ID is greater than that of a station, if there is one
 abbrev pub is_past : Option Station → StationId → Bool
 is_past None id = true
 is_past (Some s) id = is_lt (key_cmp (key_of s.id.0) (key_of id.0))
@@ -54,21 +54,21 @@ pub record AreRising (stations : List Station) (keys : List (ℕ × ℕ)) : Type
   pub rise : Rise stations
   pub own : keys ≡ map (λ s. key_of s.id.0) stations
 
--- stations are kept with the places of their IDs, or with the keys of these where they rise
+-- stations are kept with the places of their IDs, or with the keys of these if they rise
 abbrev pub AreKeptBy : List Station → List (ℕ × ℕ) → Option (BTreeMap (ℕ × ℕ) ℕ) → Type 0
 AreKeptBy stations keys (Some places) = AreKept stations places.entries
 AreKeptBy stations keys None = AreRising stations keys
 
--- a line adds its station: it has no fault after any lines that list those held
+-- a line adds its station: it has no error after any lines that list those held
 pub record Adds (held : List Station) (l : Numbered) (more : List Station) : Type 0 where
   pub right : (earlier : List Numbered) → stations_of earlier ≡ held → station_fault earlier l ≡ None
   pub added : more ≡ held ++ station_of l.1 ∷ []
 
--- the line has this fault after any lines that list the stations held
+-- the line has this error after any lines that list the stations held
 abbrev pub IsFaultAfter : StationsFault → List Station → Numbered → Type 0
 IsFaultAfter fault held l =
     (earlier : List Numbered) → stations_of earlier ≡ held → station_fault earlier l ≡ Some fault
 
--- want of memory, or the very fault of the line
+-- out of memory, or the very error of the line
 abbrev pub IsRefusedFor : StationsFault → List Station → Numbered → Type 0
 IsRefusedFor fault held l = OrMemory is_memory (λ f. IsFaultAfter f held l) fault

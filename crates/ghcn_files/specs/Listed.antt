@@ -1,4 +1,4 @@
--- The listed stations of a text, or the first line with a fault.
+-- The listed stations of a text, or the first line with an error.
 use Rattle.std.specs.Prelude.{ℕ, ◌≤◌, ◌^◌, Bool, true, false, not, nat_lt, if◌then◌else◌, List, length, map}
 use Rattle.std.specs.Prelude.{Option, None, Some, Result, Ok, Err, filter, IsTrue}
 use Rattle.std.specs.List.{list_all, list_any, IsDistinct, position}
@@ -28,7 +28,7 @@ is_repeated earlier id = list_any (λ l. same_id (id_of l.1) id) earlier
 abbrev pub station_why : List Numbered → List ℕ → Option StationWhy
 station_why earlier line = option_or (line_why line) (if is_repeated earlier (id_of line) then Some Duplicate else None)
 
--- the fault of a line after those before it: of its text, or that it is one station too many
+-- the error of a line after those before it: of its text, or that it is one station too many
 abbrev pub station_fault : List Numbered → Numbered → Option StationsFault
 station_fault earlier l =
     option_or (option_map (λ why. StationLine l.0 why) (station_why earlier l.1))
@@ -42,12 +42,12 @@ station_lines text = filter (λ l. not (is_blank l.1)) (numbered_lines text)
 abbrev pub stations_of : List Numbered → List Station
 stations_of ls = map (λ l. station_of l.1) ls
 
--- the stations of all lines, unless one has a fault: then the first fault
+-- the stations of all lines, unless one has an error: then the first error
 abbrev pub listed_unless : Option (Numbered × StationsFault) → List Numbered → Result (List Station) StationsFault
 listed_unless None ls = Ok (stations_of ls)
 listed_unless (Some f) ls = Err f.1
 
--- the listed stations of a text in file order, or the first fault
+-- the listed stations of a text in file order, or the first error
 abbrev pub listed : List ℕ → Result (List Station) StationsFault
 listed text = listed_unless (first_fault station_fault (station_lines text)) (station_lines text)
 
@@ -70,10 +70,10 @@ abbrev pub is_memory : StationsFault → Bool
 is_memory (Memory m) = true
 is_memory fault = false
 
--- some line of the text is the first with a fault, and has this one
+-- some line of the text is the first with an error, and has this one
 abbrev pub HasFirst : StationsFault → List ℕ → Type 0
 HasFirst fault text = (l : Numbered) × IsFirstFault station_fault (station_lines text) l fault
 
--- want of memory, or the fault of the first line that has one
+-- out of memory, or the error of the first line that has one
 abbrev pub IsFirstRefusal : StationsFault → List ℕ → Type 0
 IsFirstRefusal fault text = OrMemory is_memory (λ f. HasFirst f text) fault

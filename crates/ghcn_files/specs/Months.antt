@@ -92,7 +92,7 @@ abbrev pub unless : {T : Type 0} → Option LineWhy → T → Result T LineWhy
 unless None value = Ok value
 unless (Some why) value = Err why
 
--- the month of a line of an element; a line of none of the five is passed over
+-- the month of a line of an element; a line of none of the five is skipped
 abbrev pub month_if : Option Element → List ℕ → Result (Option Month) LineWhy
 month_if None line = Ok None
 month_if (Some e) line = unless (month_why line) (Some (month_of e line))

@@ -14,7 +14,7 @@ use Rattle.ghcn_files.specs.declared.fault.LineWhy.{LineWhy}
 use Rattle.ghcn_files.specs.Elements.{may_be_negative, is_kept}
 use Rattle.ghcn_files.specs.Months.{reading, value_field, is_flagged, read_month, IsMonth}
 
--- x, where the test passes
+-- x, if the test passes
 abbrev pub if_so : {A : Type 0} → Bool → A → Option A
 if_so t x = if t then Some x else None
 
@@ -22,7 +22,7 @@ if_so t x = if t then Some x else None
 abbrev pub value_at : ℕ → List ℤ → ℕ → Option ℤ
 value_at word values j = if_so (bit_at word j == 1) (get_or values j (pos 0))
 
--- a value, where the element can have it: only temperatures are negative
+-- a value, if the element can have it: only temperatures are negative
 abbrev pub if_possible : Element → ℤ → Option ℤ
 if_possible e v = if_so (may_be_negative e || int_le (pos 0) v) v
 
@@ -34,21 +34,21 @@ good_value e r = if r.flagged then None else option_and_then (if_possible e) r.v
 abbrev pub no_reading : Reading
 no_reading = record { value = None; flagged = false }
 
--- the value of a day at a place, from 0, of a month with so many days
+-- the value of a day at a place, from 0, of a month with that many days
 abbrev pub value_within : ℕ → Element → ℕ → Reading → Option ℤ
 value_within days e j r = if nat_lt j days then good_value e r else None
 
--- the value of a month's day at a place, from 0, where the month has that day and its value counts
+-- the value of a month's day at a place, from 0, if the month has that day and its value counts
 abbrev pub day_value : Month → ℕ → Option ℤ
 day_value m j = value_within (days_in_month (pos m.year) m.month) m.element j (get_or m.days j no_reading)
 
--- a word and values of 31 days: each has its value, and 0 where that doesn't count
+-- a word and values of 31 days: each has its value, and 0 if that doesn't count
 pub record AreDays (day : ℕ → Option ℤ) (word : ℕ) (values : List ℤ) : Type 0 where
   pub fits : word < 2 ^ 31
   pub holds : (j : ℕ) → j < 31 → value_at word values j ≡ day j
   pub zeros : (j : ℕ) → bit_at word j ≡ 0 → get_or values j (pos 0) ≡ pos 0
 
--- what stands at a place, where it is kept
+-- what stands at a place, if it is kept
 abbrev pub if_kept : {A : Type 0} → Bool → Option A → Option A
 if_kept kept o = if kept then o else None
 
@@ -60,7 +60,7 @@ pub record IsRowOf (kept : Bool) (m : Month) (row : MonthRow) : Type 0 where
   pub month : row.month ≡ m.month
   pub days : AreDays (λ j. if_kept kept (day_value m j)) row.word row.values
 
--- a row is of the month that a line says, with its days where those of its element are kept
+-- a row is of the month that a line says, with its days if those of its element are kept
 pub record IsOfLine (asked : Keep) (line : List ℕ) (found : MonthRow) : Type 0 where
   pub month : Month
   pub read : read_month line ≡ Ok (Some month)
@@ -79,7 +79,7 @@ IsReadInto asked line row (Ok true) = IsOfLine asked line row
 IsReadInto asked line row (Ok false) = read_month line ≡ Ok None
 IsReadInto asked line row (Err why) = read_month line ≡ Err why
 
--- the value of a day at a place, from 0, of a line, in a month with so many days
+-- the value of a day at a place, from 0, of a line, in a month with that many days
 abbrev pub line_value : Element → ℕ → List ℕ → ℕ → Option ℤ
 line_value e days line j = value_within days e j (reading line (j + 1))
 
@@ -92,7 +92,7 @@ value_or_missing line j =
 abbrev pub AreValues : List ℕ → List ℤ → Type 0
 AreValues line values = (j : ℕ) → j < 31 → get_or values j (pos 0) ≡ value_or_missing line j
 
--- the value at a place, if it is one of so many first places, and the value isn't below a least one
+-- the value at a place, if it is one of that many first places, and the value isn't below a least one
 abbrev pub value_from : ℤ → ℕ → List ℤ → ℕ → Option ℤ
 value_from least days values j =
     if_so (int_le least (get_or values j (pos 0)) && nat_lt j days) (get_or values j (pos 0))

@@ -33,16 +33,16 @@ number_of Blank = pos 0
 number_of (Number z) = z
 number_of Bad = pos 0
 
--- the number of a field, where it has one from low to high
+-- the number of a field, if it has one from low to high
 abbrev pub number_within : ℤ → ℤ → Field → Option ℤ
 number_within low high field = if is_number_within low high field then Some (number_of field) else None
 
--- the natural number of a field, where it has one from 1 to a limit
+-- the natural number of a field, if it has one from 1 to a limit
 abbrev pub natural_up_to : ℕ → Field → Option ℕ
 natural_up_to limit field =
     if is_number_within (pos 1) (pos limit) field then Some (unsigned_abs (number_of field)) else None
 
--- the number of a field, where it has one and that isn't -9999, which stands for a missing one
+-- the number of a field, if it has one and that isn't -9999, which stands for a missing one
 abbrev pub unless_missing : Field → Option ℤ
 unless_missing Blank = None
 unless_missing (Number z) = if int_eq z (neg_ℤ (pos 9999)) then None else Some z
@@ -105,7 +105,7 @@ line_why line = first_failing (
     ∷ (not (is_bad (elevation line)), BadElevation)
     ∷ [])
 
--- what is true of the station of a line without a fault
+-- what is true of the station of a line without an error
 abbrev pub is_station : Station → Bool
 is_station s =
     is_id s.id.0 && is_latitude (Number s.latitude) && is_longitude (Number s.longitude)

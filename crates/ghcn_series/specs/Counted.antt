@@ -25,7 +25,7 @@ pub record CountsLine (old new : LineCounts) (line : List ℕ) : Type 0 where
   pub has_line : new.has_line ≡ (old.has_line || not (is_blank line))
   pub has_element : new.has_element ≡ (old.has_element || has_element line)
 
--- a foreign file is added, at a place behind the others
+-- a foreign file is added, at a place after the others
 pub record AddsForeign (old new : Foreign) (place : ℕ) : Type 0 where
   pub count : new.count ≡ in_64_bits (old.count + 1)
   pub first : new.first ≡ option_or old.first (Some place)

@@ -18,12 +18,12 @@ use Rattle.ghcn_series.specs.Says.{in_64_bits, data_of}
 abbrev pub lines_to : Files → List ℕ → List FileLine
 lines_to files whole = daily_lines files.ended ++ file_lines (length files.ended + 1, whole)
 
--- the current file is these whole lines, and this of the line behind them
+-- the current file is these whole lines, and this of the line after them
 pub record IsCutFile (files : Files) (whole rest : List ℕ) : Type 0 where
   pub parts : files.current ≡ whole ++ rest
   pub ends : EndsLine whole
 
--- memory ran out, or the first line with a fault that has its line feed or its file's end has this one
+-- memory ran out, or the first line with an error that has its line feed or its file's end has this one
 pub record HasLineFault (fed : Fed) (fault : DataFault) : Type 0 where
   pub whole : List ℕ
   pub rest : List ℕ
@@ -39,12 +39,12 @@ pub record HasCounted {L : Type 0} (c : Cutter L) (files : Files) : Type 0 where
 pub record CountsFew {L : Type 0} (c : Cutter L) (few : Bool) : Type 0 where
   pub is : (files : Files) → HasCounted c files → few ≡ nat_le (length (files_of files)) (2 ^ 20)
 
--- a cutter looks at lines: it has no fault, and has counted so few files
+-- a cutter looks at lines: it has no error, and has counted so few files
 pub record LooksAtLines {L : Type 0} (c : Cutter L) (looks : Bool) : Type 0 where
   pub is : (files : Files) → HasCounted c files
       → looks ≡ (is_none c.fault && nat_le (length (files_of files)) (2 ^ 20))
 
--- a cutter's reader has read what was fed: no line that has its line feed or its file's end has a fault
+-- a cutter's reader has read what was fed: no line that has its line feed or its file's end has an error
 pub record HasReadFed {L : Type 0} (has_read : Reading L) (c : Cutter L) (fed : Fed) : Type 0 where
   pub whole : List ℕ
   pub cut : IsCutFile fed.files whole c.rest.items
@@ -53,12 +53,12 @@ pub record HasReadFed {L : Type 0} (has_read : Reading L) (c : Cutter L) (fed : 
   pub counted : HaveCounted c.counts fed.files.ended whole
   pub read : has_read c.reader fed.stations fed.keep (lines_to fed.files whole)
 
--- a cutter keeps this fault of the lines that it was fed, or it keeps none and they are read
+-- a cutter keeps this error of the lines that it was fed, or it keeps none and they are read
 abbrev pub HasFault : {L : Type 0} → Reading L → Cutter L → Fed → Option DataFault → Type 0
 HasFault has_read c fed None = HasReadFed has_read c fed
 HasFault has_read c fed (Some fault) = HasLineFault fed fault
 
--- a cutter was fed this: it has counted the files, and knows the first fault where there aren't too many of them
+-- a cutter was fed this: it has counted the files, and knows the first error if there aren't too many of them
 pub record HasFed {L : Type 0} (has_read : Reading L) (c : Cutter L) (fed : Fed) : Type 0 where
   pub counted : HasCounted c fed.files
   pub fault : length (files_of fed.files) ≤ 2 ^ 20 → HasFault has_read c fed c.fault
@@ -86,17 +86,17 @@ pub record AreRead {L : Type 0} (has_read : Reading L) (fed : Fed) (files : List
 pub record HoldsFed {L : Type 0} (has_read : Reading L) (c : Cutter L) (all : Cut L) : Type 0 where
   pub is : (fed : Fed) → HasFed has_read c fed → AreRead has_read fed (files_of fed.files) all
 
--- want of memory, or the first fault of the files that a cutter was fed
+-- out of memory, or the first error of the files that a cutter was fed
 pub record RefusesFed {L : Type 0} (has_read : Reading L) (c : Cutter L) (fault : DataFault) : Type 0 where
   pub is : (fed : Fed) → HasFed has_read c fed → IsRefusal is_memory fault (data_of fed.stations (files_of fed.files))
   pub first : (fed : Fed) → HasFed has_read c fed → IsFirstRefusal fault fed.stations (files_of fed.files)
 
--- a cutter that is at the file behind the ended ones reads more bytes of it
+-- a cutter that is at the file after the ended ones reads more bytes of it
 pub record ReadsBytes {L : Type 0} (has_read : Reading L) (old new : Cutter L) (bytes : List ℕ) : Type 0 where
   pub holds : (fed : Fed) → old.ended ≡ length fed.files.ended → HasReadFed has_read old fed
       → HasReadFed has_read new (with_files fed (more fed.files bytes))
 
--- a cutter that is at that file finds this fault among more bytes of it
+-- a cutter that is at that file finds this error among more bytes of it
 pub record RefusesBytes {L : Type 0} (has_read : Reading L) (old : Cutter L) (bytes : List ℕ) (fault : DataFault)
     : Type 0 where
   pub found : (fed : Fed) → old.ended ≡ length fed.files.ended → HasReadFed has_read old fed
@@ -107,7 +107,7 @@ pub record ReadsEnd {L : Type 0} (has_read : Reading L) (old new : Cutter L) : T
   pub holds : (fed : Fed) → old.ended ≡ length fed.files.ended → HasReadFed has_read old fed
       → HasReadFed has_read new (with_files fed (with_end fed.files))
 
--- a cutter that is at that file finds this fault at its end
+-- a cutter that is at that file finds this error at its end
 pub record RefusesEnd {L : Type 0} (has_read : Reading L) (old : Cutter L) (fault : DataFault) : Type 0 where
   pub found : (fed : Fed) → old.ended ≡ length fed.files.ended → HasReadFed has_read old fed
       → HasLineFault (with_files fed (with_end fed.files)) fault

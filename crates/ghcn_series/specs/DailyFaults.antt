@@ -1,4 +1,4 @@
--- The lines of the daily files in order, and the first of them with a fault.
+-- The lines of the daily files in order, and the first of them with an error.
 use Rattle.std.specs.Prelude.{ℕ, ◌<◌, ◌^◌, Bool, true, false, ◌&&◌, not, ◌==◌, if◌then◌else◌, List, length}
 use Rattle.std.specs.Prelude.{map, Option, None, Some, Result, Ok, Err, filter, ⊤, [], ◌∷◌}
 use Rattle.std.specs.List.{list_any, flat_map, filter_map, enumerate_from}
@@ -51,7 +51,7 @@ abbrev pub month_if_ok : Result (Option Month) LineWhy → Option Month
 month_if_ok (Ok m) = m
 month_if_ok (Err why) = None
 
--- the month that a line is, if it is a line of the five elements without a fault
+-- the month that a line is, if it is a line of the five elements without an error
 abbrev pub month_on : FileLine → Option Month
 month_on l = month_if_ok (read_month l.bytes)
 
@@ -74,7 +74,7 @@ daily_why stations earlier (Ok None) = None
 daily_why stations earlier (Ok (Some m)) = if is_listed stations m.id && repeats earlier m then Some DuplicateMonth else
     None
 
--- the fault of a line after the lines before it
+-- the error of a line after the lines before it
 abbrev pub daily_fault : List Station → List FileLine → FileLine → Option DataFault
 daily_fault stations earlier l = option_map (λ why. DailyLine l.file l.line why)
     (daily_why stations earlier (read_month l.bytes))
@@ -84,11 +84,11 @@ abbrev pub is_memory : DataFault → Bool
 is_memory (Memory m) = true
 is_memory fault = false
 
--- some line is the first with a fault, and has this one
+-- some line is the first with an error, and has this one
 abbrev pub HasFirst : DataFault → List Station → List FileLine → Type 0
 HasFirst fault stations ls = (l : FileLine) × IsFirstFault (daily_fault stations) ls l fault
 
--- want of memory, too many files, or the fault of the first line, by file and line, that has one
+-- out of memory, too many files, or the error of the first line, by file and line, that has one
 abbrev pub IsFirstRefusal : DataFault → List Station → List (List ℕ) → Type 0
 IsFirstRefusal (Memory m) stations files = ⊤
 IsFirstRefusal (DailyLine file line why) stations files =

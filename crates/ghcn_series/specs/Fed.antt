@@ -18,11 +18,11 @@ ended_files files = record { ended = files; current = [] }
 abbrev pub more : Files → List ℕ → Files
 more files bytes = record { ended = files.ended; current = files.current ++ bytes }
 
--- with the current file ended, even where it is empty
+-- with the current file ended, even if it is empty
 abbrev pub with_end : Files → Files
 with_end files = ended_files (files.ended ++ files.current ∷ [])
 
--- the files, when these were ended: the current one counts where it has a byte
+-- the files, when these were ended: the current one counts if it has a byte
 abbrev pub and_current : List (List ℕ) → List ℕ → List (List ℕ)
 and_current ended [] = ended
 and_current ended (b ∷ bytes) = ended ++ (b ∷ bytes) ∷ []
@@ -45,7 +45,7 @@ nothing_fed keep stations = record { keep = keep; stations = stations; files = e
 abbrev pub with_files : Fed → Files → Fed
 with_files fed files = record { keep = fed.keep; stations = fed.stations; files = files }
 
--- the fault is want of memory
+-- the error is out of memory
 abbrev pub IsOfMemory : DataFault → Type 0
 IsOfMemory (Memory m) = ⊤
 IsOfMemory TooManyFiles = ⊥

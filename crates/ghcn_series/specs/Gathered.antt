@@ -28,11 +28,11 @@ use Rattle.ghcn_series.specs.SeenMonths.{has_month}
 use Rattle.ghcn_series.specs.DailyFaults.{FileLine, month_on, is_listed, daily_fault, HasFirst}
 use Rattle.ghcn_series.specs.Says.{Fact, fact_of, in_64_bits}
 
--- the day and the value of a fact, where its element can have the value
+-- the day and the value of a fact, if its element can have the value
 abbrev pub counted_day : Fact → Option DayValue
 counted_day f = if may_be_negative f.element || int_le (pos 0) f.value then Some (f.day, f.value) else None
 
--- a day of a month, by its place in the month and its reading, with its value, where that counts
+-- a day of a month, by its place in the month and its reading, with its value, if that counts
 abbrev pub usable_day : Month → ℕ × Reading → Option DayValue
 usable_day m x = option_and_then counted_day (fact_of m x)
 
@@ -60,7 +60,7 @@ has_number t m = t == month_count m
 abbrev pub gathered_days : Gathering → List DayValue
 gathered_days g = days_held g.parts
 
--- the usable days of these months, where the days of their element are kept, and else none
+-- the usable days of these months, if the days of their element are kept, and otherwise none
 abbrev pub kept_days : Bool → List Month → List DayValue
 kept_days true months = flat_map usable_days months
 kept_days false months = []
@@ -78,13 +78,13 @@ pub record IsGathering (kept : Bool) (g : Gathering) (months : List Month) : Typ
 abbrev pub months_of : List Month → StationId → Element → List Month
 months_of months id e = filter (λ m. same_id m.id id && same_element m.element e) months
 
--- the gathering has what these months say of a station and element, where the days of one element are kept, or of all
+-- the gathering has what these months say of a station and element, if the days of one element are kept, or of all
 pub record IsGatheringOf (asked : Keep) (months : List Month) (id : StationId) (g : Gathering) (e : Element)
     : Type 0 where
   pub element : g.element ≡ e
   pub holds : IsGathering (is_kept asked e) g (months_of months id e)
 
--- gatherings by element have what these months say of a station; where there are none, the station has no month
+-- gatherings by element have what these months say of a station; if there are none, the station has no month
 abbrev pub AreByElement : Keep → List Month → StationId → List Gathering → Type 0
 AreByElement asked months id [] = list_any (λ m. same_id m.id id) months ≡ false
 AreByElement asked months id (g ∷ gs) = AllZip (IsGatheringOf asked months id) (g ∷ gs) elements
@@ -102,7 +102,7 @@ pub record IsReady (g : Gathering) : Type 0 where
   pub holds : IsGathering kept g months
   pub right : AllByRecursion (λ m. IsMonth m × (m.element ≡ g.element)) months
 
--- the series of a station's gathering, where it has a usable day
+-- the series of a station's gathering, if it has a usable day
 abbrev pub gathered_series : StationId → Gathering → Option Usable
 gathered_series id g =
     if length (gathered_days g) == 0 then None
@@ -120,7 +120,7 @@ pub record HasRead (r : Reader) (months : List Month) : Type 0 where
   pub gathered : AllZip (IsStationOf r.keep months) r.stations r.gathered.items
   pub spare : AllByRecursion AreEmpty r.spare.items
 
--- a reader has read these lines, none of which has a fault
+-- a reader has read these lines, none of which has an error
 pub record HasReadLines (r : Reader) (ls : List FileLine) : Type 0 where
   pub months : HasRead r (filter_map month_on ls)
   pub right : HaveNoFault (daily_fault r.stations) ls
@@ -135,7 +135,7 @@ pub record HasReadFor (r : Reader) (stations : List Station) (keep : Keep) (ls :
 abbrev pub HasReadByRows : RowReader → List Station → Keep → List FileLine → Type 0
 HasReadByRows r stations keep ls = HasReadFor r.reader stations keep ls
 
--- want of memory, or the fault of the first line that has one
+-- out of memory, or the error of the first line that has one
 abbrev pub IsLineRefusal : List Station → List FileLine → DataFault → Type 0
 IsLineRefusal stations ls (Memory m) = ⊤
 IsLineRefusal stations ls TooManyFiles = ⊥

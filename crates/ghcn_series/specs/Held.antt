@@ -33,7 +33,7 @@ is_of_element e u = same_element u.element e
 abbrev pub all_of : List (List Usable) → List Usable
 all_of lists = flat_map (λ series. series) lists
 
--- the data of stations with one list of series each, where so many lines were passed over
+-- the data of stations with one list of series each, if that many lines were skipped
 abbrev pub contents_of : List Station → List (List Usable) → ℕ → Contents
 contents_of stations lists unlisted = record { stations = stations; series = all_of lists; unlisted = unlisted }
 

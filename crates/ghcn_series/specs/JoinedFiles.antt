@@ -16,7 +16,7 @@ facts_in stations files = usable_facts stations (daily_lines files)
 abbrev pub files_together : List (List (List ℕ)) → List (List ℕ)
 files_together parts = flat_map (λ files. files) parts
 
--- the files have no fault, and these are their data
+-- the files have no error, and these are their data
 abbrev pub HaveData : List Station → List (List ℕ) → Contents → Type 0
 HaveData stations files held = data_of stations files ≡ Ok held
 
@@ -29,7 +29,7 @@ abbrev pub FactsOfParts : Type 0
 FactsOfParts = (stations : List Station) (parts : List (List (List ℕ)))
     → facts_in stations (files_together parts) ≡ flat_map (facts_in stations) parts
 
--- where no station and element has a series in two parts, the series of all files are those of the parts
+-- if no station and element has a series in two parts, the series of all files are those of the parts
 abbrev pub SeriesOfParts : Type 0
 SeriesOfParts = (stations : List Station) (parts : List (List (List ℕ))) (ds : List Contents) (held : Contents)
     → AllZip (HaveData stations) parts ds → HaveData stations (files_together parts) held

@@ -6,7 +6,7 @@ use Rattle.ghcn_series.specs.declared.fault.DataFault.{DataFault}
 use Rattle.ghcn_series.specs.DailyFaults.{FileLine}
 use Rattle.ghcn_series.specs.Gathered.{IsLineRefusal}
 
--- when a reader has read lines: with these stations listed, where the values of these elements are kept
+-- when a reader has read lines: with these stations listed, if the values of these elements are kept
 abbrev pub Reading : Type 0 → Type 1
 Reading L = L → List Station → Keep → List FileLine → Type 0
 
@@ -15,12 +15,12 @@ abbrev pub HasReadSome : {L : Type 0} → Reading L → L → Type 0
 HasReadSome has_read r =
     (stations : List Station) × ((keep : Keep) × ((ls : List FileLine) × has_read r stations keep ls))
 
--- a reader reads more lines behind those that it read
+-- a reader reads more lines after those that it read
 pub record Reads {L : Type 0} (has_read : Reading L) (old new : L) (more : List FileLine) : Type 0 where
   pub holds : (stations : List Station) (keep : Keep) (before : List FileLine) → has_read old stations keep before
       → has_read new stations keep (before ++ more)
 
--- a reader refuses more lines, for want of memory or for the first fault among all its lines
+-- a reader refuses more lines, for out of memory or for the first error among all its lines
 pub record Refuses {L : Type 0} (has_read : Reading L) (old : L) (more : List FileLine) (fault : DataFault) : Type 0
   where
     pub first : (stations : List Station) (keep : Keep) (before : List FileLine) → has_read old stations keep before

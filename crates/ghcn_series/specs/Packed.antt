@@ -16,7 +16,7 @@ Block = ℤ × (ℕ × List ℤ)
 abbrev pub block_start : ℤ → ℤ
 block_start b = b *ℤ pos 32
 
--- the day so many places behind a first one with its value, if it is present
+-- the day that many places after a first one with its value, if it is present
 abbrev pub day_from : ℤ → ℕ → List ℤ → ℕ → Option DayValue
 day_from first word values j = if_so (bit_at word j == 1) (first +ℤ pos j, get_or values j (pos 0))
 
@@ -57,7 +57,7 @@ pub record AreBlocks (numbers : List ℤ) (words : List ℕ) (values : List (Lis
   pub enough_values : length values ≡ length numbers
   pub packed : AllByRecursion IsPacked (blocks_of numbers words values)
 
--- each number is less than those behind it
+-- each number is less than those after it
 pub record Rise (numbers : List ℤ) : Type 0 where
   pub less : (i j : ℕ) → i < j → j < length numbers → get_or numbers i (pos 0) <ℤ get_or numbers j (pos 0)
 
@@ -70,7 +70,7 @@ pub record AreColumns (numbers : List ℤ) (words : List ℕ) (values : List (Li
 abbrev pub place_in_block : ℤ → ℤ
 place_in_block day = int_rem_euclid day (pos 32)
 
--- this block of some days: its word isn't 0, and each place has its day's value, and 0 where that is absent
+-- this block of some days: its word isn't 0, and each place has its day's value, and 0 if that is absent
 pub record IsBlockOf (days : List DayValue) (number : ℤ) (word : ℕ) (values : List ℤ) : Type 0 where
   pub present : 0 < word
   pub holds : (j : ℕ) → j < 32 → value_at word values j ≡ value_on days (block_start number +ℤ pos j)
@@ -93,7 +93,7 @@ pub record IsAt (numbers : List ℤ) (number : ℤ) (i : ℕ) : Type 0 where
 abbrev pub IsNowhere : List ℤ → ℤ → Type 0
 IsNowhere numbers number = (k : ℕ) → IsAt numbers number k → ⊥
 
--- each day is earlier than those behind it
+-- each day is earlier than those after it
 abbrev pub AreRising : List DayValue → Type 0
 AreRising [] = ⊤
 AreRising (x ∷ xs) = AllByRecursion (λ y. x.0 <ℤ y.0) xs × AreRising xs
@@ -111,7 +111,7 @@ pub record IsLastOf (number : ℤ) (word : ℕ) (day : Option ℤ) : Type 0 wher
   pub highest : (i : ℕ) → place < i → bit_at word i ≡ 0
   pub is : day ≡ Some (block_start number +ℤ pos place)
 
--- a word has a bit for each of 32 places, set where the value there passes a test
+-- a word has a bit for each of 32 places, set if the value there passes a test
 abbrev pub ArePlacesOf : (ℤ → Bool) → List ℤ → ℕ → Type 0
 ArePlacesOf test values word = (j : ℕ) → j < 32 → (bit_at word j == 1) ≡ test (get_or values j (pos 0))
 
@@ -122,14 +122,14 @@ pub record EndsRun (word behind : ℕ) : Type 0 where
   pub row : (j : ℕ) → trailing_zeros w32 word ≤ j → j < behind → bit_at word j ≡ 1
   pub ends : bit_at word behind ≡ 0
 
--- the days from a first to a last one, each the day behind the one before it; of no days the last one is the day before
+-- the days from a first to a last one, each the day after the one before it; of no days the last one is the day before
 -- the first
 abbrev pub AreInARow : ℤ → ℤ → List DayValue → Type 0
 AreInARow first last [] = first ≡ last +ℤ pos 1
 AreInARow first last (x ∷ xs) = (x.0 ≡ first) × AreInARow (first +ℤ pos 1) last xs
 
 -- the first of some days are taken, from a first to a last one in a row, and those that are left all lie past the day
--- behind these
+-- after these
 pub record TakesRun (days : List DayValue) (ends : ℤ × ℤ) (left : List DayValue) : Type 0 where
   pub run : List DayValue
   pub some : 0 < length run

@@ -27,7 +27,7 @@ abbrev pub AreDisjoint : List Block → Type 0
 AreDisjoint [] = ⊤
 AreDisjoint (b ∷ bs) = AreNew (block_days b) (days_of_blocks bs) × AreDisjoint bs
 
--- the parts are as they may be and have no day twice, and where they are told to be in order, their numbers rise
+-- the parts are as they may be and have no day twice, and if they are said to be in order, their numbers rise
 pub record AreParts (p : Parts) : Type 0 where
   pub blocks : AreBlocks p.numbers.items p.words.items p.values.items
   pub apart : AreDisjoint (blocks_of p.numbers.items p.words.items p.values.items)
@@ -62,7 +62,7 @@ IsNewPart p b = AreNew (days_held p) (block_days b)
 abbrev pub JoinsPart : Parts → Block → Parts → Type 0
 JoinsPart old b new = AreJoined (days_held old) (block_days b) (days_held new)
 
--- parts in order stay in order, where the number isn't below the last
+-- parts in order stay in order, if the number isn't below the last
 abbrev pub KeepsOrder : Parts → ℤ → Parts → Type 0
 KeepsOrder old n new = old.in_order ≡ true → (0 < length old.numbers.items → last_number old ≤ℤ n) → new.in_order ≡ true
 
@@ -110,7 +110,7 @@ pub record IsRow (first : ℤ) (word : ℕ) (values : List ℤ) : Type 0 where
   pub zeros : (j : ℕ) → j < 32 → bit_at word j ≡ 0 → get_or values j (pos 0) ≡ pos 0
   pub days : (j : ℕ) → j < 32 → bit_at word j ≡ 1 → is_day (first +ℤ pos j) ≡ true
 
--- the value so many places behind the begin of the block where a row begins: 0 before the row and behind it
+-- the value so many places after the beginning of the block where a row begins: 0 before the row and behind it
 pub record IsValueFrom (values : List ℤ) (place at : ℕ) (v : ℤ) : Type 0 where
   pub before : at < place → v ≡ pos 0
   pub behind : place + 32 ≤ at → v ≡ pos 0

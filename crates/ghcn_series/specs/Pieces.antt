@@ -34,6 +34,6 @@ pub record AreForeignOf (r : DataReader) (foreign : Foreign) : Type 0 where
 pub record HoldsFed (r : DataReader) (held : Contents) : Type 0 where
   pub is : (fed : Fed) → HasFed r fed → AreKept fed.keep fed.stations (files_of fed.files) held
 
--- want of memory, or the first fault of the files that a reader was fed
+-- out of memory, or the first error of the files that a reader was fed
 abbrev pub RefusesFed : DataReader → DataFault → Type 0
 RefusesFed r fault = cut.RefusesFed HasReadByRows r.cutter fault

@@ -1,4 +1,4 @@
--- What a station list and daily files say, defined for any lines. What they say of a line with a fault, where a bad
+-- What a station list and daily files say, defined for any lines. What they say of a line with an error, if a bad
 -- number counts as 0 or as missing, matters to nobody: that no line has one is promised apart.
 use Rattle.std.specs.Prelude.{◌↔◌, ◌<◌, ℕ, not, List, length, map, filter, Option, ℤ}
 use Rattle.std.specs.List.{Contains, filter_map, flat_map, count_by}
@@ -20,7 +20,7 @@ use Rattle.ghcn_series.specs.Series.{Usable, Contents}
 abbrev pub stations_said : List ℕ → List Station
 stations_said text = map station_of (filter (λ l. not (is_blank l)) (lines text))
 
--- the month that a line of daily files says, where it has the code of one of the five elements
+-- the month that a line of daily files says, if it has the code of one of the five elements
 abbrev pub month_said : List ℕ → Option Month
 month_said line = option_map (λ e. month_of e line) (element_of (columns 18 21 line))
 
@@ -28,7 +28,7 @@ month_said line = option_map (λ e. month_of e line) (element_of (columns 18 21 
 abbrev pub months_said : List (List ℕ) → List Month
 months_said files = filter_map month_said (flat_map lines files)
 
--- the facts of daily files that count, where these stations are listed
+-- the facts of daily files that count, if these stations are listed
 abbrev pub facts_said : List Station → List (List ℕ) → List Fact
 facts_said stations files = filter (is_usable stations) (flat_map facts_of (months_said files))
 

@@ -24,7 +24,7 @@ pub record Fact : Type 0 where
   pub day : ℤ
   pub value : ℤ
 
--- what a month says on a day: nothing where the value is flagged, or where there is no such day or no value
+-- what a month says on a day: nothing if the value is flagged, or if there is no such day or no value
 abbrev pub fact_if : Month → Bool → Option ℤ → Option ℤ → Option Fact
 fact_if m false (Some day) (Some v) = Some (record { id = m.id; element = m.element; day = day; value = v })
 fact_if m flagged day v = None
@@ -41,7 +41,7 @@ facts_of m = filter_map (fact_of m) (enumerate_from 1 m.days)
 abbrev pub facts_on : List FileLine → List Fact
 facts_on ls = flat_map facts_of (filter_map month_on ls)
 
--- a fact that counts: of a listed station, and not negative where the element has no negative values
+-- a fact that counts: of a listed station, and not negative if the element has no negative values
 abbrev pub is_usable : List Station → Fact → Bool
 is_usable stations f = is_listed stations f.id && (may_be_negative f.element || int_le (pos 0) f.value)
 
@@ -68,11 +68,11 @@ all_series stations facts =
 abbrev pub in_64_bits : ℕ → ℕ
 in_64_bits n = min n (2 ^ 64 - 1)
 
--- how many lines of the five elements without a fault have a station that isn't listed, in 64 bits
+-- how many lines of the five elements without an error have a station that isn't listed, in 64 bits
 abbrev pub unlisted : List Station → List FileLine → ℕ
 unlisted stations ls = in_64_bits (count_by (λ m. not (is_listed stations m.id)) (filter_map month_on ls))
 
--- what lines without a fault hold
+-- what lines without an error hold
 abbrev pub contents : List Station → List FileLine → Contents
 contents stations ls = record {
   stations = stations;
@@ -80,12 +80,12 @@ contents stations ls = record {
   unlisted = unlisted stations ls;
 }
 
--- that, unless a line has a fault: then the first fault
+-- that, unless a line has an error: then the first error
 abbrev pub contents_unless : Option (FileLine × DataFault) → Contents → Result Contents DataFault
 contents_unless None held = Ok held
 contents_unless (Some f) held = Err f.1
 
--- the data of some files, or the first fault
+-- the data of some files, or the first error
 abbrev pub data_of : List Station → List (List ℕ) → Result Contents DataFault
 data_of stations files =
     if nat_le (length files) (2 ^ 20)

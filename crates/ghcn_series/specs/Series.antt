@@ -22,7 +22,7 @@ pub record Usable : Type 0 where
   pub days : List DayValue
 
 -- the listed stations in file order; of each, in that order, its series, by element; and how many lines of unlisted
--- stations were passed over
+-- stations were skipped
 pub record Contents : Type 0 where
   pub stations : List Station
   pub series : List Usable

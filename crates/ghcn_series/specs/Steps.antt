@@ -25,7 +25,7 @@ IsOfMonth kept row = (m : Month) × (IsMonth m × IsRowOf kept m row)
 abbrev pub OfMonth : Bool → MonthRow → (Month → Type 0) → Type 0
 OfMonth kept row P = (m : Month) → IsMonth m → IsRowOf kept m row → P m
 
--- the row is that of a month with its days, or, where these aren't kept, without them
+-- the row is that of a month with its days, or, if these aren't kept, without them
 abbrev pub IsRowFor : Bool → Month → MonthRow → Type 0
 IsRowFor kept m row = IsRowOf true m row ⊎ IsRowOf kept m row
 

@@ -7,7 +7,7 @@ pub use Rattle.ghcn_series.specs.Packed.{block_start}
 use Rattle.ghcn_series.specs.Series.{DayValue, Usable}
 use Rattle.rank_query.specs.Asked.{Asked}
 
--- the first day and the last day of the period, or of the calendar where there is none
+-- the first day and the last day of the period, or of the calendar if there is none
 abbrev pub period_of : Option (ℤ × ℤ) → ℤ × ℤ
 period_of p = unwrap_or p (first_day, last_day)
 

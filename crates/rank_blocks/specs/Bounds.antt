@@ -16,7 +16,7 @@ use Rattle.rank_scores.specs.declared.spell.Spell.TheVariants as spells
 use Rattle.rank_scores.specs.Runs.{longest_run}
 use Rattle.rank_blocks.specs.Blocks.{is_reached, days_reached, blocks_total}
 
--- the greatest number that a measure makes of the values of some days, 0 where there are none
+-- the greatest number that a measure makes of the values of some days, 0 if there are none
 abbrev pub greatest_by : (ℤ → ℤ) → List DayValue → ℤ
 greatest_by f days = unwrap_or (greatest (map (λ x. f x.1) days)) (pos 0)
 
@@ -29,16 +29,16 @@ abbrev pub first_blocks : Asked → List DayValue → ℕ → List ℤ
 first_blocks q days w =
     filter (is_reached q.period) (flat_map (λ x. map (λ i. block_of x.0 -ℤ pos i) (range_with_len 0 w)) days)
 
--- the greatest total of w blocks in a row that begin in the period, 0 where none of them holds a usable day
+-- the greatest total of w blocks in a row that begin in the period, 0 if none of them holds a usable day
 abbrev pub greatest_total : Asked → List DayValue → ℕ → ℤ
 greatest_total q days w = unwrap_or (greatest (map (blocks_total days w) (first_blocks q days w))) (pos 0)
 
--- the bound of sums: n times the greatest value, or the greatest total of so many blocks, whichever is smaller
+-- the bound of sums: n times the greatest value, or the greatest total of that many blocks, whichever is smaller
 abbrev pub sum_bound : Asked → Usable → ℕ → ℤ
 sum_bound q s n =
     int_min (pos n *ℤ greatest_by (λ v. v) (days_reached q s)) (greatest_total q s.days (blocks_of_window n))
 
--- the bound of spells: the length of the longest run of days that pass, 0 where none does
+-- the bound of spells: the length of the longest run of days that pass, 0 if none does
 abbrev pub spell_bound : (ℤ → Bool) → List DayValue → ℤ
 spell_bound test days = pos (longest_run (is_such test days) (map (λ x. x.0) days))
 
@@ -46,7 +46,7 @@ spell_bound test days = pos (longest_run (is_such test days) (map (λ x. x.0) da
 abbrev pub holds_such : (ℤ → Bool) → List DayValue → ℤ → Bool
 holds_such test days b = list_any (λ x. int_eq (block_of x.0) b && test x.1) days
 
--- the bound of hot spells: 32 times the most blocks in a row that hold a day which passes, 0 where none does
+-- the bound of hot spells: 32 times the most blocks in a row that hold a day which passes, 0 if none does
 abbrev pub blocks_bound : (ℤ → Bool) → List DayValue → ℤ
 blocks_bound test days = pos (32 * longest_run (holds_such test days) (map (λ x. block_of x.0) days))
 

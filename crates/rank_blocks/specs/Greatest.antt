@@ -25,7 +25,7 @@ IsDayScore f days y = Contains (map (λ x. f x.1) days) y
 abbrev pub IsBlocksTotal : Option (ℤ × ℤ) → List DayValue → ℕ → ℤ → Type 0
 IsBlocksTotal p days w y = (first : ℤ) × (is_reached p first ≡ true) × (blocks_total days w first ≡ y)
 
--- so many numbers in a row pass
+-- that many numbers in a row pass
 abbrev pub IsRunLength : (ℤ → Bool) → ℤ → Type 0
 IsRunLength such y = (len : ℕ) × (first : ℤ) × (pos len ≡ y) × ((i : ℕ) → i < len → such (first +ℤ pos i) ≡ true)
 

@@ -21,7 +21,7 @@ pub record IsTotal (z : ℤ) : Type 0 where
   pub low : neg_ℤ (pos 68_719_476_736) ≤ℤ z
   pub high : z ≤ℤ pos 68_719_476_736
 
--- the range of the blocks of the query's period, or of the calendar where it has none
+-- the range of the blocks of the query's period, or of the calendar if it has none
 pub record IsRangeOf (r : BlockRange) (q : Asked) : Type 0 where
   pub first : r.first ≡ block_of (period_of q.period).0
   pub last : r.last ≡ block_of (period_of q.period).1

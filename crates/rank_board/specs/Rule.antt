@@ -58,7 +58,7 @@ pub record IsRuled (rights : ℕ) (guess : Option ℤ) (next floor : ℕ) (views
   -- each right was spent on a claim or is left, and there are at most 2^40
   pub left : next + rights_left views ≡ rights
   pub limit : rights ≤ 2 ^ 40
-  -- the floor is the greatest of the guess and all scores raised, 0 where there is neither
+  -- the floor is the greatest of the guess and all scores raised, 0 if there is neither
   pub highest : (n : ℕ) → 0 < times_known guess n views → n ≤ floor
   pub reached : 0 < times_known guess floor views
   -- each score that a seat saw is the guess, or was raised, and so is at most the floor

@@ -1,4 +1,4 @@
--- The word of a floor: 0 where there is none, and otherwise the score plus 2^32.
+-- The word of a floor: 0 if there is none, and otherwise the score plus 2^32.
 use Rattle.std.specs.Prelude.{ℕ, ◌+◌, ◌-◌, ◌^◌, ◌==◌, if◌then◌else◌, suc, ℤ, pos, negsuc, ◌-ℤ◌, Option, None, Some}
 
 -- the word of a score: the score plus 2^32

@@ -1,4 +1,4 @@
--- What is said of a fault that was found, whatever the query and the data of which these are the findings: it is that
+-- What is said of an error that was found, whatever the query and the data of which these are the findings: it is that
 -- of the first test that fails.
 use Rattle.std.specs.Prelude.{◌≡◌, ℕ, ◌+◌, List, map, Option, Some, ℤ, slice_get}
 use Rattle.std.specs.Option.{option_map}
@@ -20,29 +20,29 @@ use Rattle.rank_check.specs.Tests.{row_tests, tests_of_rows, line_tests, tests_o
 
 -- ---- rows
 
--- the fault of all rows, where these are the stations and this was found of the rows
+-- the error of all rows, if these are the stations and this was found of the rows
 abbrev pub IsFaultOfRows : List Station → List Row → Findings → Option Verdict → Type 0
 IsFaultOfRows stations rows found fault = (q : Asked) (c : Contents) → stations ≡ c.stations
     → AreFindings q c (candidates_of rows) found
     → fault ≡ first_failing (tests_of_rows q c (map named_in rows))
 
--- the fault of the row at a place, where this was found of it
+-- the error of the row at a place, if this was found of it
 abbrev pub IsFaultOfRow : List Station → List Row → ℕ → Met → Option Verdict → Type 0
 IsFaultOfRow stations rows place found fault = (q : Asked) (c : Contents) → stations ≡ c.stations
     → option_map (λ row. met (all_candidates q c) row.candidate) (slice_get rows place) ≡ Some found
     → option_map (λ row. first_failing (row_tests q c (map named_in rows) (place + 1, named_in row)))
     (slice_get rows place) ≡ Some fault
 
--- ---- lines of morsels, where the certificate has this k-th score, and of the report's rows so many are of each line
+-- ---- lines of morsels, if the certificate has this k-th score, and of the report's rows that many are of each line
 
--- the fault of all lines with these counts, where these are the greatest scores of the morsels
+-- the error of all lines with these counts, if these are the greatest scores of the morsels
 abbrev pub IsFaultOfLines : Option ℤ → List ℕ → List ℕ → List Entry → List Top → Option Verdict → Type 0
 IsFaultOfLines kth wanted counts lines tops fault =
     (rows : List Candidate) → wanted ≡ map (count_of rows) lines
     → (q : Asked) (c : Contents) → tops ≡ map (top q) (morsels q c)
     → fault ≡ first_failing (tests_of_lines q c kth rows counts lines)
 
--- the fault of a line by its number and its count, if it has one, where this is the greatest score of its morsel, if
+-- the error of a line by its number and its count, if it has one, if this is the greatest score of its morsel, if
 -- there is one
 abbrev pub IsFaultOfLine : Option ℤ → ℕ → ℕ → Entry → Option ℕ → Option Top → Option Verdict → Type 0
 IsFaultOfLine kth wanted number line count found fault =
@@ -50,7 +50,7 @@ IsFaultOfLine kth wanted number line count found fault =
     → (q : Asked) (s : Option Usable) → found ≡ option_map (top q) s
     → fault ≡ first_failing (line_tests q kth rows number line count s)
 
--- the fault of the line at a place
+-- the error of the line at a place
 abbrev pub IsFaultOfLineAt : Option ℤ → List ℕ → List ℕ → List Entry → ℕ → Option Top → Option Verdict → Type 0
 IsFaultOfLineAt kth wanted counts lines place found fault =
     (rows : List Candidate) → wanted ≡ map (count_of rows) lines
@@ -60,7 +60,7 @@ IsFaultOfLineAt kth wanted counts lines place found fault =
 
 -- ---- certificates
 
--- the fault of a certificate beside a report with these rows, where this is the k-th score, and these are the greatest
+-- the error of a certificate beside a report with these rows, if this is the k-th score, and these are the greatest
 -- scores of the morsels
 abbrev pub IsFaultOfCertificate : Asked → Option ℤ → List Candidate → Certified → List Top → Option Verdict → Type 0
 IsFaultOfCertificate q kth rows z tops fault =

@@ -26,7 +26,7 @@ use Rattle.rank_check.specs.Pieces.{is_morsel, piece_tests}
 abbrev pub rows_with : StationId → List Named → List Named
 rows_with id rows = filter (λ row. same_id row.0.id id) rows
 
--- the last row, where there are as many as were asked for
+-- the last row, if there are as many as were asked for
 abbrev pub worst_of : ℕ → List Named → Option Candidate
 worst_of k rows = option_map (λ row. row.0) (slice_get rows (k - 1))
 
@@ -41,7 +41,7 @@ abbrev pub IsAccepted : Asked → Contents → List Named → Entry → ℕ → 
 IsAccepted q c rows e n = (st : Station) × (find (is_station_of e.id) c.stations ≡ Some st)
     × (first_failing (piece_tests q st (own_series q c st) e n (rows_with e.id rows) (worst_of q.k rows)) ≡ None)
 
--- a listed station without a line is accepted by itself: it is no morsel
+-- a listed station without a line is accepted by itself: it isn't a morsel
 abbrev pub IsAbsent : Asked → Contents → List Entry → Station → Type 0
 IsAbsent q c es st =
     list_any (λ e. same_id e.id st.id) es ≡ false → is_morsel q st (own_series q c st) ≡ false
@@ -52,13 +52,13 @@ pub record AreRightPieces (q : Asked) (c : Contents) (r : Reported) (z : Certifi
   pub lines : AllZip (IsAccepted q c r.rows) z.entries z.counts
   pub absent : AllByRecursion (IsAbsent q c z.entries) c.stations
 
--- papers of version 2 say what is right exactly where their pieces are right, in whatever order these are judged
+-- papers of version 2 say what is right if and only if their pieces are right, in whatever order these are judged
 abbrev pub RightInPieces : Type 0
 RightInPieces = (q : Asked) (c : Contents) (r : Reported) (z : Certified) → IsAsked q → IsContents c → IsReported r
     → IsCertified z → z.version ≡ 2
     → (SaysRightReport q c r × SaysRight q c z) ↔ AreRightPieces q c r z
 
--- so the verdict on the texts of such papers accepts exactly where their pieces are right
+-- so the verdict on the texts of such papers accepts if and only if their pieces are right
 abbrev pub AcceptedInPieces : Type 0
 AcceptedInPieces = (q : Asked) (c : Contents) (report certificate : List ℕ) (r : Reported) (z : Certified)
     → IsAsked q → IsContents c → IsReportOf r report → IsCertificateOf z certificate → z.version ≡ 2

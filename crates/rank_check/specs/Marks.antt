@@ -28,7 +28,7 @@ is_met_at c m = m.present && is_eq (full_cmp m.candidate c)
 abbrev pub is_met : List Mark → Candidate → Bool
 is_met marks c = list_any (is_met_at c) marks
 
--- what was counted at a mark, where the candidate doesn't precede it
+-- what was counted at a mark, if the candidate doesn't precede it
 abbrev pub passed_at : Candidate → Mark → ℕ
 passed_at c m = if precedes c m.candidate then 0 else m.fresh
 
@@ -50,7 +50,7 @@ pub record AreUnmet (rows : List Candidate) (marks : List Mark) : Type 0 where
   pub marked : AllByRecursion (Contains (candidates_at marks)) rows
   pub blank : marks ≡ map unmet (candidates_at marks)
 
--- the rows have marks in order, and none stands behind the last
+-- the rows have marks in order, and none comes after the last
 pub record AreMarked (last : Option Candidate) (rows : List Candidate) (marks : List Mark) : Type 0 where
   pub behind : IsLast last rows
   pub order : AreInOrder marks
@@ -95,7 +95,7 @@ is_met_before (suc before) marks c = option_map_or (is_met_at c) (slice_get mark
 abbrev pub counted : List Mark → ℕ
 counted marks = sum_by (λ m. m.fresh) marks
 
--- there is a last row, and the score is no lower than its own
+-- there is a last row, and the score isn't lower than its own
 abbrev pub may_reach : Option Candidate → ℤ → Bool
 may_reach None score = false
 may_reach (Some last) score = int_le last.score score

@@ -30,7 +30,7 @@ use Rattle.rank_check.specs.Tests.{is_one_of, is_above}
 abbrev pub is_morsel : Asked → Station → Option Usable → Bool
 is_morsel q st s = admits_station q st && option_map_or (has_admitted q) s false
 
--- a candidate is the worst row or precedes it; where there are fewer rows than were asked for, there is no worst row,
+-- a candidate is the worst row or precedes it; if there are fewer rows than were asked for, there is no worst row,
 -- and each is within
 abbrev pub is_within_worst : Option Candidate → Candidate → Bool
 is_within_worst None c = true
@@ -84,8 +84,8 @@ piece_tests q st s e printed rows worst =
 -- ---- a right line
 
 -- the line names a morsel of this station; the rows are exactly its candidates that are the worst row or precede it,
--- each with the station's name, and the count is theirs; no candidate scores above the bound; and it is passed over
--- only where the bound is strictly below the k-th score
+-- each with the station's name, and the count is theirs; no candidate scores above the bound; and it is skipped
+-- only if the bound is strictly below the k-th score
 pub record IsRightPiece (q : Asked) (st : Station) (s : Option Usable) (e : Entry) (printed : ℕ) (rows : List Named)
     (worst : Option Candidate) : Type 0 where
   pub series : Usable

@@ -18,7 +18,7 @@ wanted_by w c = record { candidate = w.candidate; found = w.found || is_eq (full
 abbrev pub is_printed : List Row → Candidate → Bool
 is_printed rows c = list_any (λ row. is_eq (full_cmp row.candidate c)) rows
 
--- a candidate that is within is no row
+-- a candidate that is within isn't a row
 abbrev pub is_missing : List Row → Option Candidate → Candidate → Bool
 is_missing rows worst c = is_within_worst worst c && not (is_printed rows c)
 

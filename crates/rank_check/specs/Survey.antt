@@ -70,17 +70,17 @@ pub record IsFloor (t : Tallied) (floor : ℤ) : Type 0 where
 abbrev pub reset : Tallied → Tallied
 reset t = record { rows = t.rows; count = t.count; highest = None }
 
--- there is a last row, and the candidate doesn't stand behind it
+-- there is a last row, and the candidate doesn't come after it
 abbrev pub reaches : Option Candidate → Candidate → Bool
 reaches None c = false
 reaches (Some last) c = is_le (full_cmp c last)
 
--- the candidate, or the last one where the candidate doesn't stand behind it
+-- the candidate, or the last one if the candidate doesn't come after it
 abbrev pub later : Option Candidate → Candidate → Candidate
 later None c = c
 later (Some last) c = if is_le (full_cmp c last) then last else c
 
--- no row stands behind the last one
+-- no row comes after the last one
 abbrev pub IsLast : Option Candidate → List Candidate → Type 0
 IsLast last rows = AllByRecursion (λ c. reaches last c ≡ true) rows
 

@@ -27,7 +27,7 @@ use Rattle.rank_check.specs.declared.verdict.Why.TheVariants.{OtherFloor}
 use Rattle.rank_check.specs.declared.verdict.Verdict.{Verdict}
 use Rattle.rank_check.specs.declared.verdict.Verdict.TheVariants.{Accepted, Refused}
 
--- a test that may fail, and the verdict where it does
+-- a test that may fail, and the verdict if it does
 abbrev pub Test : Type 0
 Test = Bool × Verdict
 
@@ -63,7 +63,7 @@ row_tests q c rows row =
 abbrev pub tests_of_rows : Asked → Contents → List Named → List Test
 tests_of_rows q c rows = flat_map (row_tests q c rows) (enumerate_from 1 rows)
 
--- so many rows are as many as were asked for, or as there are candidates
+-- that many rows are as many as were asked for, or as there are candidates
 abbrev pub are_enough : ℕ → ℕ → ℕ → Bool
 are_enough k candidates rows = nat_le k rows || nat_le candidates rows
 
@@ -85,11 +85,11 @@ report_tests q c r =
 abbrev pub is_above : Asked → ℤ → Usable → Bool
 is_above q bound s = list_all (λ c. int_le c.score bound) (candidates q s)
 
--- a count, where there is one, is the number of the rows of an entry's station
+-- a count, if there is one, is the number of the rows of an entry's station
 abbrev pub is_counted : List Candidate → Entry → Option ℕ → Bool
 is_counted rows e count = option_map_or (λ n. n == count_of rows e) count true
 
--- the tests of the line of this number about a morsel, if there is one for it, where the certificate has this k-th
+-- the tests of the line of this number about a morsel, if there is one for it, if the certificate has this k-th
 -- score, the report these rows, and the line this count, if it has one
 abbrev pub line_tests : Asked → Option ℤ → List Candidate → ℕ → Entry → Option ℕ → Option Usable → List Test
 line_tests q kth rows number e count morsel =
@@ -123,7 +123,7 @@ certificate_tests q c rows z =
 
 -- ---- the verdict
 
--- the verdict of the first test that fails, and acceptance where none does
+-- the verdict of the first test that fails, and acceptance if none does
 abbrev pub or_accepted : Option Verdict → Verdict
 or_accepted None = Accepted
 or_accepted (Some v) = v

@@ -50,7 +50,7 @@ pub record Settles (b : Board) (t : Task) (w m : ℕ) (before after : Seat) (old
   pub above_seen : IsAtLeast floor (seen_of before)
   pub above_raised : IsAtLeast floor (raised_of before)
 
--- a seat has seen one floor more, where there was one, and has raised nothing
+-- a seat has seen one floor more, if there was one, and has raised nothing
 pub record OnlyLooks (before after : Seat) : Type 0 where
   pub floor : Option ℤ
   pub raised : raised_of after ≡ raised_of before
@@ -90,7 +90,7 @@ pub record BreaksOff (t : Task) (w : ℕ) (before after : Seat) : Type 0 where
 
 -- ---- some workers
 
--- a seat of the board with rights enough for so many workers
+-- a seat of the board with rights enough for that many workers
 pub record HasShare (b : Board) (t : Task) (workers : ℕ) (s : Seat) : Type 0 where
   pub mine : IsSeatOf b s
   pub some : 0 < workers
@@ -108,7 +108,7 @@ pub record BringHome (b : Board) (t : Task) (from workers : ℕ) (before after :
   pub raised : raised_of after ≡ raised_of before ++ raised_in (all_exchanges t crew)
   pub seen : All (Contains (seen_of after)) (seen_in (all_exchanges t crew))
 
--- a run has ended: it has sound hauls of so many workers, under some floor
+-- a run has ended: it has sound hauls of that many workers, under some floor
 pub record IsEnd (t : Task) (guess : Option ℤ) (workers : ℕ) (hs : List Haul) : Type 0 where
   pub floor : Option ℤ
   pub count : length hs ≡ workers

@@ -6,7 +6,7 @@ use Rattle.rank_head.specs.declared.fault.HeadFault.{HeadFault}
 use Rattle.rank_head.specs.HeadTests.{on_lines}
 
 -- the place of the first of these that fails a test, from 0: whatever the reason, and on whatever line they begin, the
--- line so many behind it is refused
+-- line that many after it is refused
 abbrev pub IsFirstPlace : {A : Type 0} → (A → Bool) → List A → Option ℕ → Type 0
 IsFirstPlace passes xs place = (why : ℕ → HeadFault) (line : ℕ)
     → first_failing (on_lines passes why line xs) ≡ option_map (λ i. why (line + i)) place

@@ -19,7 +19,7 @@ use Rattle.rank_head.specs.declared.fault.HeadFault.{HeadFault}
 use Rattle.rank_head.specs.declared.fault.HeadFault.TheVariants.{OtherReportQuery, OtherCertificateQuery, OutOfOrder}
 use Rattle.rank_head.specs.declared.fault.HeadFault.TheVariants.{OtherFloor, NotRising, NotScanned, NotCounted}
 
--- a test that may fail, and why the head is refused where it does
+-- a test that may fail, and why the head is refused if it does
 abbrev pub HeadTest : Type 0
 HeadTest = Bool × HeadFault
 
@@ -30,7 +30,7 @@ abbrev pub on_lines : {A : Type 0} → (A → Bool) → (ℕ → HeadFault) → 
 on_lines passes why line [] = []
 on_lines passes why line (x ∷ xs) = (passes x, why line) ∷ on_lines passes why (suc line) xs
 
--- each of these but the last, with the one behind it
+-- each of these but the last, with the one after it
 abbrev pub neighbours : {A : Type 0} → List A → List (A × A)
 neighbours [] = []
 neighbours (x ∷ []) = []
@@ -52,7 +52,7 @@ same_score None None = true
 same_score (Some a) (Some b) = int_eq a b
 same_score a b = false
 
--- the k-th score is that of the k-th row, where there are k rows, and else none
+-- the k-th score is that of the k-th row, if there are k rows, and otherwise none
 abbrev pub floor_test : Asked → List Named → Option ℤ → HeadTest
 floor_test q rows kth = (same_score kth (kth_of_best q.k (of_rows rows)), OtherFloor)
 
@@ -74,7 +74,7 @@ IdsRise es = AllByRecursion (λ two. stands_before two.0.id two.1.id ≡ true) (
 abbrev pub rising_tests : List Entry → List HeadTest
 rising_tests es = on_lines (λ two. stands_before two.0.id two.1.id) NotRising 5 (neighbours es)
 
--- a line is of this station, and the series wasn't passed over
+-- a line is of this station, and the series wasn't skipped
 abbrev pub is_scanned : List Entry → StationId → Bool
 is_scanned es id = list_any (λ e. not e.skipped && same_id e.id id) es
 
@@ -91,7 +91,7 @@ place_tests q rows kth es =
 abbrev pub matching_tests : List ℕ → List ℕ → List HeadTest
 matching_tests counts wanted = on_lines (λ two. two.0 == two.1) NotCounted 4 (zip counts wanted)
 
--- each count, where there are any, is the number of rows of its line's station
+-- each count, if there are any, is the number of rows of its line's station
 abbrev pub count_tests : List Named → List Entry → List ℕ → List HeadTest
 count_tests rows es counts = matching_tests counts (map (count_of (of_rows rows)) es)
 
@@ -105,6 +105,6 @@ head_tests q r z =
     ∷ place_tests q r.rows z.kth z.entries
     ++ count_tests r.rows z.entries z.counts
 
--- the fault of the first of them that fails
+-- the error of the first of them that fails
 abbrev pub head_fault : Asked → Reported → Certified → Option HeadFault
 head_fault q r z = first_failing (head_tests q r z)

@@ -24,15 +24,15 @@ pub record IsRightHead (q : Asked) (r : Reported) (z : Certified) : Type 0 where
   pub scanned : AllByRecursion (λ row. is_scanned z.entries row.0.id ≡ true) r.rows
   pub counts : z.counts ≡ counts_of z.version (of_rows r.rows) z.entries
 
--- there is no fault exactly where the head is right, of a report and a certificate that can be
+-- there is no error if and only if the head is right, of a report and a certificate that can be
 abbrev pub IsNoneWhereRight : Asked → Reported → Certified → Option HeadFault → Type 0
 IsNoneWhereRight q r z fault = IsReported r → IsCertified z → (fault ≡ None) ↔ IsRightHead q r z
 
--- no test of a head fails exactly where it is right
+-- no test of a head fails if and only if it is right
 abbrev pub HeadsAreRight : Type 0
 HeadsAreRight = (q : Asked) (r : Reported) (z : Certified) → IsAsked q → IsNoneWhereRight q r z (head_fault q r z)
 
--- queries that can be asked are the same where their canonical texts are
+-- queries that can be asked are the same if their canonical texts are
 abbrev pub OneQuery : Type 0
 OneQuery = (a b : Asked) → IsAsked a → IsAsked b → same_query a b ≡ true → a ≡ b
 

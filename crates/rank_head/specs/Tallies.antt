@@ -4,14 +4,14 @@ use Rattle.ghcn_files.specs.declared.station.StationId.{StationId}
 use Rattle.ghcn_files.specs.Ids.{same_id}
 use Rattle.rank_papers.specs.Certificate.{Entry}
 
--- a line is of this station, and its series wasn't passed over
+-- a line is of this station, and its series wasn't skipped
 abbrev pub hits : StationId → Entry → Bool
 hits i e = not e.skipped && same_id e.id i
 
--- 1 where that is so, and else 0
+-- 1 if that is so, and otherwise 0
 abbrev pub hit : StationId → Entry → ℕ
 hit i e = if hits i e then 1 else 0
 
--- whatever is counted for each line, one more is counted for a line of this station whose series wasn't passed over
+-- whatever is counted for each line, one more is counted for a line of this station whose series wasn't skipped
 abbrev pub IsOneMore : StationId → List Entry → List ℕ → List ℕ → Type 0
 IsOneMore id es old new = (count : Entry → ℕ) → old ≡ map count es → new ≡ map (λ e. hit id e + count e) es

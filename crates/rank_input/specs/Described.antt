@@ -1,4 +1,4 @@
--- What an intake of files to describe was given so far, and what it answers.
+-- What an intake of files to describe was given so far, and what it returns.
 use Rattle.std.specs.Prelude.{◌≡◌, ℕ, List, Result, Ok, Err}
 use Rattle.ghcn_files.specs.declared.element.Keep.TheVariants.{Nothing}
 use Rattle.ghcn_files.specs.declared.station.Station.{Station}
@@ -18,17 +18,17 @@ use Rattle.rank_input.specs.Takes.{Input}
 abbrev pub fed_for : List Station → Files → Fed
 fed_for stations files = record { keep = Nothing; stations = stations; files = files }
 
--- the station list has no fault, and a describer was fed the daily files for it
+-- the station list has no error, and a describer was fed the daily files for it
 pub record HasDescriber (i : Input) (d : FileDescriber) : Type 0 where
   pub stations : List Station
   pub lists : listed i.stations ≡ Ok stations
   pub fed : HasFed d (fed_for stations i.files)
 
--- want of memory, or the fault of the station list, whatever the daily files are
+-- out of memory, or the error of the station list, whatever the daily files are
 pub record IsRefusedBefore (i : Input) (fault : Fault) : Type 0 where
   pub whatever : (files : List (List ℕ)) → IsRefusal is_memory fault (read_files i.stations files)
 
--- what was given is described, or has a fault before the daily files
+-- what was given is described, or has an error before the daily files
 abbrev pub IsDescribing : Result FileDescriber Fault → Input → Type 0
 IsDescribing (Ok d) i = HasDescriber i d
 IsDescribing (Err fault) i = IsRefusedBefore i fault
@@ -41,7 +41,7 @@ HasTaken t i = IsDescribing t.read i
 abbrev pub HasTakenSome : DescriptionIntake → Type 0
 HasTakenSome t = takes.HasTakenSome HasTaken t
 
--- a station list and daily files have no fault, and are described so
+-- a station list and daily files have no error, and are described so
 pub record IsDescribed (stations : List ℕ) (files : List (List ℕ)) (d : Description) : Type 0 where
   pub list : List Station
   pub lists : listed stations ≡ Ok list
@@ -51,7 +51,7 @@ pub record IsDescribed (stations : List ℕ) (files : List (List ℕ)) (d : Desc
 abbrev pub DescribesInput : DescriptionIntake → Description → Type 0
 DescribesInput t d = takes.IsTrueOf HasTaken t (λ query stations files. IsDescribed stations files d)
 
--- want of memory, or the first fault of the files that an intake was given
+-- out of memory, or the first error of the files that an intake was given
 abbrev pub RefusesInput : DescriptionIntake → Fault → Type 0
 RefusesInput t fault =
     takes.IsTrueOf HasTaken t (λ query stations files. IsRefusal is_memory fault (read_files stations files))

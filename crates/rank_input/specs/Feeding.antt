@@ -3,7 +3,7 @@ use Rattle.std.specs.Prelude.{◌≡◌, ℕ, List, [], ◌∷◌, Option, None,
 use Rattle.std.specs.List.{AllZip}
 use Rattle.rank_input.specs.Takes.{Input, Taking, with_bytes, with_file_end}
 
--- these are all the bytes of a file, where those are known
+-- these are all the bytes of a file, if those are known
 abbrev pub AreAllOf : Option (List ℕ) → List ℕ → Type 0
 AreAllOf None bytes = ⊤
 AreAllOf (Some all) bytes = bytes ≡ all

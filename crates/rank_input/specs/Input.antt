@@ -1,4 +1,4 @@
--- What the input says, and the first fault in it.
+-- What the input says, and the first error in it.
 use Rattle.std.specs.Prelude.{◌≡◌, ℕ, Bool, true, false, ◌&&◌, if◌then◌else◌, List, Option, None, Some, Result, Ok}
 use Rattle.std.specs.Prelude.{Err, ℤ, pos, neg_ℤ, int_le, nat_lt, nat_le}
 use Rattle.ghcn_files.specs.declared.fault.StationsFault.{StationsFault}
@@ -29,7 +29,7 @@ is_guess (Some s) = int_le (neg_ℤ (pos 2_147_483_648)) s && int_le s (pos 2_14
 abbrev pub is_crew : ℕ → Bool
 is_crew workers = nat_lt 0 workers && nat_le workers 64
 
--- a fault of the query, as the whole input's fault
+-- an error of the query, as the whole input's error
 abbrev pub of_query : QueryFault → Fault
 of_query query.QueryTooLong = QueryTooLong
 of_query (query.UnexpectedWord at) = UnexpectedWord at
@@ -39,36 +39,36 @@ of_query (query.BadDate at) = BadDate at
 of_query (query.BadBox at) = BadBox at
 of_query query.EmptyPeriod = EmptyPeriod
 
--- a fault of the stations
+-- an error of the stations
 abbrev pub of_stations : StationsFault → Fault
 of_stations (station.StationLine line why) = StationLine line why
 of_stations station.TooManyStations = TooManyStations
 of_stations (station.Memory m) = Memory m
 
--- a fault of the daily files
+-- an error of the daily files
 abbrev pub of_data : DataFault → Fault
 of_data daily.TooManyFiles = TooManyFiles
 of_data (daily.DailyLine file line why) = DailyLine file line why
 of_data (daily.Memory m) = Memory m
 
--- what comes next is read only where this was read without a fault
+-- what comes next is read only if this was read without an error
 abbrev pub then_read : {A B E : Type 0} → (E → Fault) → Result A E → (A → Result B Fault) → Result B Fault
 then_read of (Ok a) next = next a
 then_read of (Err e) next = Err (of e)
 
--- the data that a station list and daily files hold, or the first fault of these
+-- the data that a station list and daily files hold, or the first error of these
 abbrev pub read_files : List ℕ → List (List ℕ) → Result Contents Fault
 read_files stations files = then_read of_stations (listed stations) (λ ss.
     then_read of_data (data_of ss files) (λ dataset. Ok dataset))
 
--- the query and the data that an input holds, or the first fault: of the query, the stations, the daily files
+-- the query and the data that an input holds, or the first error: of the query, the stations, the daily files
 abbrev pub read_input : List ℕ → List ℕ → List (List ℕ) → Result (Asked × Contents) Fault
 read_input query stations files =
     then_read of_query (read_query query) (λ q.
     then_read of_stations (listed stations) (λ ss.
     then_read of_data (data_of ss files) (λ dataset. Ok (q, dataset))))
 
--- an input has no fault, and this is what it asks and holds
+-- an input has no error, and this is what it asks and holds
 pub record IsReadOf (query stations : List ℕ) (files : List (List ℕ)) (asked : Asked) (dataset : Contents)
     : Type 0 where
   pub list : List Station
@@ -76,17 +76,17 @@ pub record IsReadOf (query stations : List ℕ) (files : List (List ℕ)) (asked
   pub lists : listed stations ≡ Ok list
   pub holds : data_of list files ≡ Ok dataset
 
--- the first fault of the words of a run: of the number of workers, of the guess
+-- the first error of the words of a run: of the number of workers, of the guess
 abbrev pub words_fault : ℕ → Option ℤ → Option Fault
 words_fault workers guess =
     if is_crew workers then if is_guess guess then None else Some BadGuess else Some BadWorkers
 
--- what was read, unless there is a fault that comes before it
+-- what was read, unless there is an error that comes before it
 abbrev pub read_unless : {A : Type 0} → Option Fault → Result A Fault → Result A Fault
 read_unless None read = read
 read_unless (Some fault) read = Err fault
 
--- what the input of a run of so many workers holds, under a guess or none, or the first fault: the words come first
+-- what the input of a run of that many workers holds, under a guess or none, or the first error: the words come first
 abbrev pub read_run : ℕ → Option ℤ → List ℕ → List ℕ → List (List ℕ) → Result (Asked × Contents) Fault
 read_run workers guess query stations files =
     read_unless (words_fault workers guess) (read_input query stations files)

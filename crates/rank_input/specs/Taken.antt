@@ -27,18 +27,18 @@ fed_for q stations files = record {
   files = files;
 }
 
--- the query and the station list have no fault, and a reader was fed the daily files for them
+-- the query and the station list have no error, and a reader was fed the daily files for them
 pub record IsReading (i : Input) (q : Asked) (r : DataReader) : Type 0 where
   pub stations : List Station
   pub asks : read_query i.query ≡ Ok q
   pub lists : listed i.stations ≡ Ok stations
   pub fed : HasFed r (fed_for q stations i.files)
 
--- want of memory, or the fault of the query or of the station list, whatever the daily files are
+-- out of memory, or the error of the query or of the station list, whatever the daily files are
 pub record IsRefusedBefore (i : Input) (fault : Fault) : Type 0 where
   pub whatever : (files : List (List ℕ)) → IsRefusal is_memory fault (read_input i.query i.stations files)
 
--- what was given is read for a query by a reader, or has a fault before the daily files
+-- what was given is read for a query by a reader, or has an error before the daily files
 abbrev pub IsRead : Result (Asked × DataReader) Fault → Input → Type 0
 IsRead (Ok opened) i = IsReading i opened.0 opened.1
 IsRead (Err fault) i = IsRefusedBefore i fault
@@ -59,7 +59,7 @@ IsTrueOf t P = takes.IsTrueOf HasTaken t P
 abbrev pub AreForeignOf : Intake → Foreign → Type 0
 AreForeignOf t foreign = IsTrueOf t (λ query stations files. foreign ≡ foreign_of files)
 
--- an input has no fault and asks this, and these are what the query needs of the data that it holds
+-- an input has no error and asks this, and these are what the query needs of the data that it holds
 pub record Needs (query stations : List ℕ) (files : List (List ℕ)) (asked : Asked) (dataset : Contents) : Type 0 where
   pub whole : Contents
   pub read : IsReadOf query stations files asked whole
@@ -69,7 +69,7 @@ pub record Needs (query stations : List ℕ) (files : List (List ℕ)) (asked : 
 abbrev pub HoldsInput : Intake → Asked → Contents → Type 0
 HoldsInput t asked dataset = IsTrueOf t (λ query stations files. Needs query stations files asked dataset)
 
--- want of memory, or the first fault of an intake's input
+-- out of memory, or the first error of an intake's input
 abbrev pub RefusesInput : Intake → Fault → Type 0
 RefusesInput t fault =
     IsTrueOf t (λ query stations files. IsRefusal is_memory fault (read_input query stations files))

@@ -2,7 +2,7 @@
 use Rattle.std.specs.Prelude.{ℕ, List}
 use Rattle.ghcn_series.specs.Fed.{Files, ended_files, more, with_end, files_of}
 
--- what was given: a query, where one is asked, the station list, and the daily files as they came
+-- what was given: a query, if one is asked, the station list, and the daily files as they came
 pub record Input : Type 0 where
   pub query : List ℕ
   pub stations : List ℕ
@@ -16,7 +16,7 @@ given query stations files = record { query = query; stations = stations; files 
 abbrev pub with_bytes : Input → List ℕ → Input
 with_bytes i bytes = record { query = i.query; stations = i.stations; files = more i.files bytes }
 
--- with the current file ended, even where it is empty
+-- with the current file ended, even if it is empty
 abbrev pub with_file_end : Input → Input
 with_file_end i = record { query = i.query; stations = i.stations; files = with_end i.files }
 

@@ -38,7 +38,7 @@ of_paper part (paper.Memory m) = Memory m
 
 -- ---- what is gathered
 
--- so many of these rows come before a candidate or tie with it, where there is one
+-- that many of these rows come before a candidate or tie with it, if there is one
 abbrev pub IsFloor : ℕ → List Named → Option Candidate → Type 0
 IsFloor k rows floor = IfSome floor (λ f. k ≤ count_by (λ r. comes_first r.0 f) rows)
 
@@ -48,7 +48,7 @@ pub record IsCutBehind (f : Candidate) (all kept : List Named) : Type 0 where
   pub parts : all ≡ kept ++ dropped
   pub behind : AllByRecursion (λ r. comes_first f r.0 ≡ true) dropped
 
--- some rows without those that were taken off behind a floor: all of them, where there is none
+-- some rows without those that were taken off after a floor: all of them, if there is none
 abbrev pub IsCut : Option Candidate → List Named → List Named → Type 0
 IsCut None all kept = kept ≡ all
 IsCut (Some f) all kept = IsCutBehind f all kept

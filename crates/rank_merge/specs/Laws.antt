@@ -28,7 +28,7 @@ all_texts parts = map (λ p. p.1) parts
 
 -- ---- merged papers are right
 
--- the texts are a right report and a right certificate of the data of some files, where these have no fault
+-- the texts are a right report and a right certificate of the data of some files, if these have no error
 pub record ArePapersOf (q : Asked) (stations : List Station) (files : List (List ℕ)) (texts : Texts) : Type 0 where
   pub dataset : Contents
   pub contents : IsContents dataset
@@ -45,7 +45,7 @@ abbrev pub IsOneReport : Asked → Contents → List ℕ → Type 0
 IsOneReport q c text = IsReport q c text × ((other : List ℕ) → IsReport q c other → other ≡ text)
 
 -- papers are right for all files of which these are the papers of the parts: wherever each part's papers are right for
--- its files, with one station list, and all files together have no fault, both are right for all files
+-- its files, with one station list, and all files together have no error, both are right for all files
 abbrev pub AreRightForAll : Asked → List Texts → Texts → Type 0
 AreRightForAll q texts papers = (stations : List Station) (parts : List Filed) (dataset : Contents)
     → all_texts parts ≡ texts → AreAllParts q stations parts → IsContents dataset
@@ -78,8 +78,8 @@ MergedAreMeasured = (q : Asked) (texts : List Texts) (papers : Texts) → IsAske
 
 -- ---- when right papers are refused
 
--- of the papers of parts with these data: they are merged only where no station has morsels in two parts, and refused
--- only where one has, by an ID that stands twice
+-- of the papers of parts with these data: they are merged only if no station has morsels in two parts, and refused
+-- only if one has, by an ID that stands twice
 abbrev pub IsRightOutcome : Asked → List Contents → Result Texts MergeFault → Type 0
 IsRightOutcome q ds (Ok papers) = IsDistinct same_id (morsel_ids q ds)
 IsRightOutcome q ds (Err why) =
@@ -91,7 +91,7 @@ IsOutcomeWhereRight q texts outcome = (stations : List Station) (parts : List Fi
     → all_texts parts ≡ texts → AreAllParts q stations parts → AllZip (IsDataOf stations) parts ds
     → IsRightOutcome q ds outcome
 
--- right papers are merged exactly where no station has morsels in two parts
+-- right papers are merged if and only if no station has morsels in two parts
 abbrev pub RightAreMerged : Type 0
 RightAreMerged = (q : Asked) (stations : List Station) (parts : List Filed) (ds : List Contents) → IsAsked q
     → AreAllParts q stations parts → AllZip (IsDataOf stations) parts ds

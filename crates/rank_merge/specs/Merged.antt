@@ -31,7 +31,7 @@ entries_of_parts ps = flat_map (λ p. p.certificate.entries) ps
 abbrev pub rows_in_order : List Named → List Named
 rows_in_order rows = sorted_by (λ a b. comes_first a.0 b.0) rows
 
--- the first k of some rows in this order, and all of them where there are fewer
+-- the first k of some rows in this order, and all of them if there are fewer
 abbrev pub first_rows : ℕ → List Named → List Named
 first_rows k rows = take k (rows_in_order rows)
 
@@ -45,7 +45,7 @@ by_id es = sorted_by (λ a b. id_comes_first a.id b.id) es
 abbrev pub merged_rows : ℕ → List Part → List Named
 merged_rows k ps = first_rows k (rows_of ps)
 
--- the lines of all parts by increasing ID, each with its own bound; what was passed over stays so
+-- the lines of all parts by increasing ID, each with its own bound; what was skipped stays so
 abbrev pub merged_entries : List Part → List Entry
 merged_entries ps = by_id (entries_of_parts ps)
 

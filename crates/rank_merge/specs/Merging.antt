@@ -24,13 +24,13 @@ use Rattle.rank_merge.specs.Merged.{Part, merged_rows, merged_entries, merged_ce
 abbrev pub Texts : Type 0
 Texts = List ℕ × List ℕ
 
--- what the papers of the part of this number say, where each is of its form
+-- what the papers of the part of this number say, if each is of its form
 abbrev pub said : ℕ → Result Reported ℕ → Result Certified ℕ → Result Part MergeFault
 said part (Err line) z = Err (BadReport part line)
 said part (Ok r) (Err line) = Err (BadCertificate part line)
 said part (Ok r) (Ok z) = Ok (record { report = r; certificate = z })
 
--- the refusal of the part of this number whose head has this fault
+-- the refusal of the part of this number whose head has this error
 abbrev pub of_head : ℕ → HeadFault → MergeFault
 of_head part head.OtherReportQuery = OtherQuery part
 of_head part head.OtherCertificateQuery = OtherQuery part
@@ -40,7 +40,7 @@ of_head part (head.NotRising line) = NotRising part line
 of_head part (head.NotScanned line) = NotScanned part line
 of_head part (head.NotCounted line) = NotCounted part line
 
--- the part of this number itself, unless its head has a fault
+-- the part of this number itself, unless its head has an error
 abbrev pub unless_fault : ℕ → Option HeadFault → Part → Result Part MergeFault
 unless_fault part None p = Ok p
 unless_fault part (Some fault) p = Err (of_head part fault)
@@ -56,7 +56,7 @@ part_of q part t = with_right_head q part (said part (read_report t.0) (read_cer
 
 -- ---- all parts
 
--- a part and those behind it, or the first refusal
+-- a part and those after it, or the first refusal
 abbrev pub and_parts : Result Part MergeFault → Result (List Part) MergeFault → Result (List Part) MergeFault
 and_parts (Err why) ps = Err why
 and_parts (Ok p) (Err why) = Err why
@@ -87,7 +87,7 @@ papers_of q (Ok ps) = papers_unless (twice (merged_entries ps)) q ps
 abbrev pub merge : Asked → List Texts → Result Texts MergeFault
 merge q ts = papers_of q (parts_from q 1 ts)
 
--- ---- what is answered
+-- ---- what is returned
 
 -- memory ran out
 abbrev pub is_memory : MergeFault → Bool

@@ -17,7 +17,7 @@ use Rattle.rank_papers.specs.Report.{text_line, query_line}
 
 -- ---- the text
 
--- what a certificate says of one series: its ID, a bound, and whether it was passed over
+-- what a certificate says of one series: its ID, a bound, and whether it was skipped
 abbrev pub Entry : Type 0
 Entry = Line
 
@@ -39,17 +39,17 @@ title_line version =
 abbrev pub kth_line : Option ℤ → List ℕ
 kth_line kth = text_line (codes "kth" ∷ option_map_or signed_decimal kth (codes "none") ∷ [])
 
--- entries with their counts, 0 where there are no more of these
+-- entries with their counts, 0 if there are no more of these
 abbrev pub counted : List Entry → List ℕ → List Counted
 counted [] counts = []
 counted (e ∷ es) [] = record { entry = e; count = 0 } ∷ counted es []
 counted (e ∷ es) (n ∷ counts) = record { entry = e; count = n } ∷ counted es counts
 
--- the line of an entry ends by a count: in version 2, where the series wasn't passed over
+-- the line of an entry ends by a count: in version 2, if the series wasn't skipped
 abbrev pub has_count : ℕ → Line → Bool
 has_count version e = version == 2 && not e.skipped
 
--- the line of an entry, with its count behind a blank where it has one
+-- the line of an entry, with its count after a blank if it has one
 abbrev pub entry_line : ℕ → Counted → List ℕ
 entry_line version l = text_line (
     (if l.entry.skipped then codes "skip" else codes "scan")
@@ -57,7 +57,7 @@ entry_line version l = text_line (
     ∷ (signed_decimal l.entry.bound ++ (if has_count version l.entry then 32 ∷ decimal l.count else []))
     ∷ [])
 
--- the last line, of so many entries
+-- the last line, of that many entries
 abbrev pub end_line : ℕ → List ℕ
 end_line n = text_line (codes "end" ∷ decimal n ∷ [])
 
@@ -81,7 +81,7 @@ pub record IsEntry (e : Entry) : Type 0 where
   pub id : IsTrue (is_id e.id.0)
   pub bound : FitsSigned w64 e.bound
 
--- a count that an entry can have: of at most a thousand rows, and none where the series was passed over
+-- a count that an entry can have: of at most a thousand rows, and none if the series was skipped
 pub record IsCount (e : Entry) (n : ℕ) : Type 0 where
   pub few : n ≤ 1000
   pub none : e.skipped ≡ true → n ≡ 0
@@ -106,7 +106,7 @@ pub record IsCertificateOf (v : Certified) (bytes : List ℕ) : Type 0 where
 -- ---- what is right
 
 -- an entry is right for a series: it names the series, no candidate of the series has a score above the bound, and it
--- is passed over only where there is a k-th score and the bound is strictly below it
+-- is skipped only if there is a k-th score and the bound is strictly below it
 pub record IsRightEntry (q : Asked) (kth : Option ℤ) (e : Entry) (s : Usable) : Type 0 where
   pub named : e.id ≡ s.id
   pub above : IsAbove q s e.bound
@@ -117,7 +117,7 @@ pub record IsRightEntry (q : Asked) (kth : Option ℤ) (e : Entry) (s : Usable) 
 abbrev pub AreRightEntries : Asked → Contents → List Entry → Type 0
 AreRightEntries q c es = AllZip (IsRightEntry q (kth_of_query q c)) es (morsels q c)
 
--- how many of these candidates are of the station of an entry; of one that was passed over none is counted
+-- how many of these candidates are of the station of an entry; of one that was skipped none is counted
 abbrev pub count_of : List Candidate → Entry → ℕ
 count_of best e = if e.skipped then 0 else count_by (λ c. same_id c.id e.id) best
 

@@ -21,7 +21,7 @@ kth_word field = if same_bytes field (codes "none") then Some None else option_m
 abbrev pub kth_in : List ℕ → Option (Option ℤ)
 kth_in line = exactly kth_line line (kth_word (slice_range line 4 (length line - 1)))
 
--- the entry of a morsel with this ID, where it is eleven visible bytes
+-- the entry of a morsel with this ID, if it is eleven visible bytes
 abbrev pub entry_with : List ℕ → List ℕ → ℤ → Option Entry
 entry_with word id bound = if is_id id then Some (record {
   id = record { 0 = id };
@@ -30,7 +30,7 @@ entry_with word id bound = if is_id id then Some (record {
       same_bytes word (codes "skip");
 }) else None
 
--- what stands behind the ID in a line
+-- what comes after the ID in a line
 abbrev pub behind_id : List ℕ → List ℕ
 behind_id line = slice_range line 17 (length line - 1)
 
@@ -39,15 +39,15 @@ abbrev pub entry_in_columns : List ℕ → Option Entry
 entry_in_columns line =
     option_map_or (entry_with (take 4 line) (slice_range line 5 16)) (number_in (first_word (behind_id line))) None
 
--- what stands behind the first blank
+-- what comes after the first blank
 abbrev pub behind_word : List ℕ → List ℕ
 behind_word field = drop (length (first_word field) + 1) field
 
--- the count that a field writes, at most a thousand; 0 where a line has none
+-- the count that a field writes, at most a thousand; 0 if a line has none
 abbrev pub count_field : Bool → List ℕ → Option ℕ
 count_field has field = if has then up_to 1000 (natural field) else Some 0
 
--- an entry with the count that a field writes, where its line has one
+-- an entry with the count that a field writes, if its line has one
 abbrev pub with_count : ℕ → List ℕ → Entry → Option Counted
 with_count version field e =
     option_map (λ n. record { entry = e; count = n }) (count_field (has_count version e) field)
@@ -61,11 +61,11 @@ counted_in_columns version line =
 abbrev pub entry_in : ℕ → List ℕ → Option Counted
 entry_in version line = exactly (entry_line version) line (counted_in_columns version line)
 
--- the end line of so many entries, and what stands behind it
+-- the end line of that many entries, and what comes after it
 abbrev pub ending : ℕ → List ℕ → List ℕ → Result (List Counted) ℕ
 ending n line behind = ends_by (n + 4) (same_bytes line (end_line n)) (paper_lines behind)
 
--- the entries of these lines, which stand behind so many other entries, up to an end line with the number of all
+-- the entries of these lines, which come after that many other entries, up to an end line with the number of all
 abbrev pub entries_in : ℕ → ℕ → List (List ℕ) → Result (List Counted) ℕ
 entries_in version n ls = up_to_end 4 (λ m. entry_in version) end_line n ls
 
@@ -109,7 +109,7 @@ abbrev pub certified_lines : List (List ℕ) → Result Certified ℕ
 certified_lines [] = Err 1
 certified_lines (l ∷ ls) = option_map_or (λ version. behind_title version ls) (version_in l) (Err 1)
 
--- what a certificate says, or the number of its first line that isn't of the form of its place
+-- what a certificate says, or the number of its first line that isn't in the format of its place
 abbrev pub read_certificate : List ℕ → Result Certified ℕ
 read_certificate bytes = certified_lines (paper_lines bytes)
 
@@ -123,7 +123,7 @@ certified_in c = record {
   counts = c.counts.items;
 }
 
--- a fault is want of memory, or the number of the line at which reading a certificate ends
+-- an error is out of memory, or the number of the line at which reading a certificate ends
 abbrev pub IsBadCertificate : {A : Type 0} → Result A ℕ → PaperFault → Type 0
 IsBadCertificate read (BadReport n) = ⊥
 IsBadCertificate read (BadCertificate n) = read ≡ Err n

@@ -9,29 +9,29 @@ use Rattle.rank_papers.specs.Certificate.{Certified, IsCertificateOf, IsCertific
 use Rattle.rank_papers.specs.CertificateLines.{read_certificate}
 use Rattle.rank_papers.specs.Places.{IsReportText, IsCertificateText, IsFirstBadLine}
 
--- a text is read as a value exactly where it is the text of a certificate that says this
+-- a text is read as a value if and only if it is the text of a certificate that says this
 abbrev pub CertificatesAreRead : Type 0
 CertificatesAreRead = (bytes : List ℕ) (v : Certified) → (read_certificate bytes ≡ Ok v) ↔ IsCertificateOf v bytes
 
--- a text is refused at a line exactly where that is its first bad line
+-- a text is refused at a line if and only if that is its first bad line
 abbrev pub CertificatesGoWrong : Type 0
 CertificatesGoWrong = (bytes : List ℕ) (n : ℕ) →
     (read_certificate bytes ≡ Err n) ↔ IsFirstBadLine IsCertificateText bytes n
 
--- a certificate is right for a query and data exactly where it is of the form and says what is right
+-- a certificate is right for a query and data if and only if it is of the form and says what is right
 abbrev pub RightCertificatesSayRight : Type 0
 RightCertificatesSayRight = (q : Asked) (c : Contents) (bytes : List ℕ) → IsAsked q → IsContents c →
     IsCertificate q c bytes ↔ ((v : Certified) × IsCertificateOf v bytes × SaysRight q c v)
 
--- a text is read as a value exactly where it is the text of a report that says this
+-- a text is read as a value if and only if it is the text of a report that says this
 abbrev pub ReportsAreRead : Type 0
 ReportsAreRead = (bytes : List ℕ) (v : Reported) → (read_report bytes ≡ Ok v) ↔ IsReportOf v bytes
 
--- a text is refused at a line exactly where that is its first bad line
+-- a text is refused at a line if and only if that is its first bad line
 abbrev pub ReportsGoWrong : Type 0
 ReportsGoWrong = (bytes : List ℕ) (n : ℕ) → (read_report bytes ≡ Err n) ↔ IsFirstBadLine IsReportText bytes n
 
--- a report is right for a query and data exactly where it is of the form and says what is right
+-- a report is right for a query and data if and only if it is of the form and says what is right
 abbrev pub RightReportsSayRight : Type 0
 RightReportsSayRight = (q : Asked) (c : Contents) (bytes : List ℕ) → IsAsked q → IsContents c →
     IsReport q c bytes ↔ ((v : Reported) × IsReportOf v bytes × SaysRightReport q c v)

@@ -25,24 +25,24 @@ abbrev pub paper_lines : List ℕ → List (List ℕ)
 paper_lines [] = []
 paper_lines (b ∷ bytes) = before_lines b (paper_lines bytes)
 
--- the first line of a text and what follows it, where there is a line
+-- the first line of a text and what follows it, if there is a line
 abbrev pub IsFirstLineCut : List ℕ → Option (List ℕ × List ℕ) → Type 0
 IsFirstLineCut text None = text ≡ []
 IsFirstLineCut text (Some cut) = (paper_lines text ≡ cut.0 ∷ paper_lines cut.1) × (length cut.1 < length text)
 
 -- ---- lines of one kind, and an end line with their number
 
--- one value more at the front, where the rest could be read
+-- one value more at the front, if the rest could be read
 abbrev pub and_then : {A : Type 0} → A → Result (List A) ℕ → Result (List A) ℕ
 and_then x (Ok xs) = Ok (x ∷ xs)
 and_then x (Err n) = Err n
 
--- nothing stands behind the line of this number
+-- nothing comes after the line of this number
 abbrev pub nothing_behind : {A : Type 0} → ℕ → List (List ℕ) → Result (List A) ℕ
 nothing_behind n [] = Ok []
 nothing_behind n (l ∷ ls) = Err (n + 1)
 
--- the line of this number is the end line, and nothing stands behind it; else it is bad
+-- the line of this number is the end line, and nothing comes after it; otherwise it is bad
 abbrev pub ends_by : {A : Type 0} → ℕ → Bool → List (List ℕ) → Result (List A) ℕ
 ends_by n is_end behind = if is_end then nothing_behind n behind else Err n
 
@@ -51,7 +51,7 @@ abbrev pub value_or_end : {A : Type 0} → ℕ → Option A → Bool → List (L
 value_or_end n (Some x) is_end behind rest = and_then x rest
 value_or_end n None is_end behind rest = ends_by n is_end behind
 
--- the values of these lines, which stand behind so many others of their kind, up to an end line with the number of all;
+-- the values of these lines, which come after that many others of their kind, up to an end line with the number of all;
 -- the first of the kind is the line of this number, and each is read by how many stand before it
 abbrev pub up_to_end : {A : Type 0} → ℕ → (ℕ → List ℕ → Option A) → (ℕ → List ℕ) → ℕ → List (List ℕ)
     → Result (List A) ℕ
@@ -84,7 +84,7 @@ abbrev pub ok_query : {E : Type 0} → Result Asked E → Option Asked
 ok_query (Ok q) = Some q
 ok_query (Err e) = None
 
--- the query that a text asks, where its bytes can be printed
+-- the query that a text denotes, if its bytes can be printed
 abbrev pub query_of_text : List ℕ → Option Asked
 query_of_text text = if list_all is_printable text then ok_query (read_query text) else None
 

@@ -27,7 +27,7 @@ after_blank field = 32 ∷ field
 abbrev pub trimmed : List ℕ → List ℕ
 trimmed bytes = take (length bytes - suffix_len (λ b. b == 32) bytes) bytes
 
--- one field, or none where it is empty
+-- one field, or none if it is empty
 abbrev pub field_unless_empty : List ℕ → List (List ℕ)
 field_unless_empty [] = []
 field_unless_empty (b ∷ bytes) = (b ∷ bytes) ∷ []
@@ -36,7 +36,7 @@ field_unless_empty (b ∷ bytes) = (b ∷ bytes) ∷ []
 abbrev pub Named : Type 0
 Named = Candidate × List ℕ
 
--- the fields of a row: its rank, from 1, its candidate, with the value behind the score and the unit, and a name
+-- the fields of a row: its rank, from 1, its candidate, with the value of the score and the unit, and a name
 abbrev pub row_fields : Asked → ℕ × (Candidate × List ℕ) → List (List ℕ)
 row_fields q row =
     let candidate = row.1.0 in
@@ -44,7 +44,7 @@ row_fields q row =
     decimal row.0 ∷ candidate.id.0 ∷ date_text candidate.first ∷ date_text candidate.last
     ∷ value_text measure (value_of q.score candidate.score) ∷ unit_text measure ∷ field_unless_empty row.1.1
 
--- the fields of the last line: how many rows there are, and `all` where there are fewer than k
+-- the fields of the last line: how many rows there are, and `all` if there are fewer than k
 abbrev pub end_fields : ℕ → ℕ → List (List ℕ)
 end_fields k n = codes "end" ∷ decimal n ∷ (if nat_lt n k then codes "all" ∷ [] else [])
 

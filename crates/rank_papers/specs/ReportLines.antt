@@ -31,7 +31,7 @@ pub record Reported : Type 0 where
   pub query : Asked
   pub rows : List Named
 
--- the last of some bytes is no blank
+-- the last of some bytes isn't a blank
 abbrev pub ends_in_print : List ℕ → Bool
 ends_in_print bytes = option_map_or (λ b. not (b == 32)) (slice_get bytes (length bytes - 1)) (nat_le (length bytes) 0)
 
@@ -74,11 +74,11 @@ pub record SaysRightReport (q : Asked) (c : Contents) (v : Reported) : Type 0 wh
 abbrev pub row_line : Asked → ℕ → Named → List ℕ
 row_line q rank row = text_line (row_fields q (rank, row))
 
--- the score behind a printed value: its digits without the point, and its sign
+-- the score of a printed value: its digits without the point, and its sign
 abbrev pub score_in : Asked → List ℕ → Option ℤ
 score_in q field = in_i64 (option_map (value_of q.score) (signed_by natural (filter (λ b. not (b == 46)) field)))
 
--- a row of these, where each is there, the ID is visible and the name can be
+-- a row of these, if each is there, the ID is visible and the name can be
 abbrev pub row_with : List ℕ → List ℕ → Option ℤ → Option ℤ → Option ℤ → Option Named
 row_with id name (Some first) (Some last) (Some score) =
     if is_id id && is_name name
@@ -89,7 +89,7 @@ row_with id name first last score = None
 abbrev pub first_word : List ℕ → List ℕ
 first_word text = take_while (λ b. not (b == 32)) text
 
--- the row in the columns behind a rank of so many digits: ID and days are of fixed width, then come a value, the unit
+-- the row in the columns after a rank of that many digits: ID and days are of fixed width, then come a value, the unit
 -- and the name
 abbrev pub row_in_columns : Asked → ℕ → List ℕ → Option Named
 row_in_columns q digits line =
@@ -108,19 +108,19 @@ row_in q rank line = exactly (row_line q rank) line (row_in_columns q (length (d
 
 -- ---- the lines of a report
 
--- the last line of a report with so many rows
+-- the last line of a report with that many rows
 abbrev pub report_end : Asked → ℕ → List ℕ
 report_end q rows = text_line (end_fields q.k rows)
 
--- the row behind so many others whose line this is, where there may be one more
+-- the row after that many others whose line this is, if there may be one more
 abbrev pub row_behind : Asked → ℕ → List ℕ → Option Named
 row_behind q n line = if nat_lt n q.k then row_in q (suc n) line else None
 
--- the end line of so many rows, and what stands behind it
+-- the end line of that many rows, and what comes after it
 abbrev pub ending_of_rows : Asked → ℕ → List ℕ → List ℕ → Result (List Named) ℕ
 ending_of_rows q n line behind = ends_by (n + 3) (same_bytes line (report_end q n)) (paper_lines behind)
 
--- the rows of these lines, which stand behind so many other rows, up to an end line with the number of all
+-- the rows of these lines, which come after that many other rows, up to an end line with the number of all
 abbrev pub rows_in : Asked → ℕ → List (List ℕ) → Result (List Named) ℕ
 rows_in q n ls = up_to_end 3 (row_behind q) (report_end q) n ls
 
@@ -140,7 +140,7 @@ reported_lines [] = Err 1
 reported_lines (l ∷ ls) =
     if same_bytes l (text_line (codes "extremes report 1" ∷ [])) then behind_report_title ls else Err 1
 
--- what a report says, or the number of its first line that isn't of the form of its place
+-- what a report says, or the number of its first line that isn't in the format of its place
 abbrev pub read_report : List ℕ → Result Reported ℕ
 read_report bytes = reported_lines (paper_lines bytes)
 
@@ -154,7 +154,7 @@ named_in row = (row.candidate, row.name.items)
 abbrev pub reported_in : Report → Reported
 reported_in r = record { query = r.query; rows = map named_in r.rows.items }
 
--- a fault is want of memory, or the number of the line at which reading a report ends
+-- an error is out of memory, or the number of the line at which reading a report ends
 abbrev pub IsBadReport : {A : Type 0} → Result A ℕ → PaperFault → Type 0
 IsBadReport read (BadReport n) = read ≡ Err n
 IsBadReport read (BadCertificate n) = ⊥

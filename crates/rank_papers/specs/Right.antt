@@ -34,7 +34,7 @@ abbrev pub IsOfQuery : Asked → (Usable → Type 0) → Candidate → Type 0
 IsOfQuery q IsOne x = (s : Usable) × IsOne s × IsCandidateOf q s x
 
 -- the best of a query in these series: k of its candidates at most, in order, none twice; a candidate that isn't among
--- them comes behind all of them, and then they are k. Candidates of one query never tie, so that the last day, which
+-- them comes after all of them, and then they are k. Candidates of one query never tie, so that the last day, which
 -- `full_cmp` adds, decides nothing.
 pub record AreBest (q : Asked) (IsOne : Usable → Type 0) (best : List Candidate) : Type 0 where
   pub few : length best ≤ q.k
@@ -56,8 +56,8 @@ pub record AreSeriesOf (q : Asked) (IsOne : Usable → Type 0) (series : List Us
   pub are : (s : Usable) → Contains series s ↔ (IsOne s × (0 < length (admitted q s)))
   pub by_id : IsStrictlySortedBy (on (λ s. s.id.0) (slice_cmp nat_cmp)) series
 
--- an entry is true of a series: it names it, no candidate of the series has a score above the bound, and it is passed
--- over only where there is a k-th score and the bound is strictly below it
+-- an entry is true of a series: it names it, no candidate of the series has a score above the bound, and it is skipped
+-- only if there is a k-th score and the bound is strictly below it
 pub record IsTrueEntry (q : Asked) (kth : Option ℤ) (e : Entry) (s : Usable) : Type 0 where
   pub named : e.id ≡ s.id
   pub above : NoneIsAbove q s e.bound
@@ -65,7 +65,7 @@ pub record IsTrueEntry (q : Asked) (kth : Option ℤ) (e : Entry) (s : Usable) :
   pub passed_over : e.skipped ≡ true → (score : ℤ) × (kth ≡ Some score) × (e.bound <ℤ score)
 
 -- a right certificate of a version, whatever its bounds and skips: it has the query, the score of the k-th of the best
--- or none, a true entry for each series of the query, and in version 2, where a series wasn't passed over, how many of
+-- or none, a true entry for each series of the query, and in version 2, if a series wasn't skipped, how many of
 -- the best are of it
 pub record IsRightCertificate (version : ℕ) (q : Asked) (IsOne : Usable → Type 0) (bytes : List ℕ) : Type 0 where
   pub known : (version ≡ 1) ⊎ (version ≡ 2)

@@ -1,4 +1,4 @@
--- That papers are right by what candidates are where they are by how these are found, and for what files say where they
+-- That papers are right by what candidates are if they are by how these are found, and for what files say if they
 -- are for the data of the files, as statements for the contracts of public functions.
 use Rattle.std.specs.Prelude.{◌≡◌, ◌↔◌, ℕ, List, Ok}
 use Rattle.std.specs.List.{Contains}
@@ -26,7 +26,7 @@ IsRightReportFor q c bytes = IsRightReport q c.stations (IsHeldSeries q c) bytes
 abbrev pub IsRightCertificateFor : ℕ → Asked → Contents → List ℕ → Type 0
 IsRightCertificateFor version q c bytes = IsRightCertificate version q (IsHeldSeries q c) bytes
 
--- candidates are the best of a query exactly where they are what is found by rank
+-- candidates are the best of a query if and only if they are what is found by rank
 abbrev pub BestAreFound : Type 0
 BestAreFound = (q : Asked) (c : Contents) (best : List Candidate) → IsAsked q → IsContents c
     → (best ≡ best_of_query q c) ↔ AreBest q (IsHeldSeries q c) best
@@ -40,12 +40,12 @@ abbrev pub BestAreOne : Type 0
 BestAreOne = (q : Asked) → ((c : Contents) → HaveOneBest q (IsHeldSeries q c))
     × ((stations : List Station) (files : List (List ℕ)) → HaveOneBest q (IsAdmittedSeries q stations files))
 
--- a report is the right one exactly where it has what is found by rank
+-- a report is the right one if and only if it has what is found by rank
 abbrev pub ReportsAreFound : Type 0
 ReportsAreFound = (q : Asked) (c : Contents) (bytes : List ℕ) → IsAsked q → IsContents c
     → IsReport q c bytes ↔ IsRightReportFor q c bytes
 
--- a certificate of a version is a right one exactly where it is one by what is found
+-- a certificate of a version is a right one if and only if it is one by what is found
 abbrev pub CertificatesAreFound : Type 0
 CertificatesAreFound = (version : ℕ) (q : Asked) (c : Contents) (bytes : List ℕ) → IsAsked q → IsContents c
     → ((h : IsCertificate q c bytes) × (h.version ≡ version)) ↔ IsRightCertificateFor version q c bytes

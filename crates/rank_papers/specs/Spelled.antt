@@ -11,7 +11,7 @@ has_blank line at = option_map_or (λ b. b == 32) (slice_get line at) false
 abbrev pub has_text : List ℕ → List ℕ → ℕ → Bool
 has_text text line from = same_bytes text (slice_range line from (from + length text))
 
--- a rank stands at the front of a line, and a blank behind it, before both days and behind the last
+-- a rank stands at the front of a line, and a blank after it, before both days and after the last
 abbrev pub has_front : List ℕ → List ℕ → Bool
 has_front rank line =
     has_text rank line 0

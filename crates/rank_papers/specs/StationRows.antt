@@ -9,15 +9,15 @@ use Rattle.ghcn_files.specs.declared.station.StationId.{StationId}
 use Rattle.ghcn_files.specs.Ids.{same_id}
 use Rattle.rank_papers.specs.Certificate.{Entry}
 
--- no ID stands behind the next
+-- no ID comes after the next
 abbrev pub AreInOrder : List StationId → Type 0
 AreInOrder ids = IsSorted (λ a b. slice_cmp nat_cmp a.0 b.0) ids
 
--- how many of some IDs are that of an entry; of one that was passed over none is counted
+-- how many of some IDs are that of an entry; of one that was skipped none is counted
 abbrev pub count_in : List StationId → Entry → ℕ
 count_in ids e = if e.skipped then 0 else count_by (λ i. same_id i e.id) ids
 
--- an ID stands behind the one in front of a place, if there is one
+-- an ID comes after the one in front of a place, if there is one
 abbrev pub is_behind : List StationId → StationId → ℕ → Bool
 is_behind ids id place =
     place == 0 || option_map_or (λ i. is_lt (slice_cmp nat_cmp i.0 id.0)) (slice_get ids (place - 1)) false

@@ -1,4 +1,4 @@
--- How the values behind scores are printed.
+-- How the values of scores are printed.
 use Rattle.std.specs.Prelude.{ℕ, List, codes, ℤ, neg_ℤ}
 use Rattle.std.specs.Fmt.{signed_decimal}
 use Rattle.ghcn_fields.specs.NumberTexts.{tenths}
@@ -26,7 +26,7 @@ measure_of_score Dry = Days
 measure_of_score Wet = Days
 measure_of_score (Hot t) = Days
 
--- so many raw units, in the unit that is printed: tenths have one decimal
+-- that many raw units, in the unit that is printed: tenths have one decimal
 abbrev pub value_text : Measure → ℤ → List ℕ
 value_text Degrees v = tenths v
 value_text Millimetres v = tenths v
@@ -40,7 +40,7 @@ unit_text Millimetres = codes "mm"
 unit_text WholeMillimetres = codes "mm"
 unit_text Days = codes "days"
 
--- the value behind a score: where the lowest are ranked, a score is the negated value
+-- the value of a score: if the lowest are ranked, a score is the negated value
 abbrev pub value_of : Score → ℤ → ℤ
 value_of (Highest e) score = score
 value_of (Lowest e) score = neg_ℤ score

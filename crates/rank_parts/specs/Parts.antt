@@ -30,7 +30,7 @@ use Rattle.rank_parts.specs.declared.verdict.PartVerdict.TheVariants.{Accepted, 
 
 -- ---- the head
 
--- the refusal that a fault of the head comes to
+-- the refusal that an error of the head comes to
 abbrev pub refusal_of : HeadFault → PartVerdict
 refusal_of OtherReportQuery = Refused Report 2 why.OtherQuery
 refusal_of OtherCertificateQuery = Refused Certificate 2 why.OtherQuery
@@ -46,7 +46,7 @@ refusal_of (NotCounted line) = Refused Certificate line why.NotCounted
 abbrev pub is_own : Asked → Contents → Station → Bool
 is_own q d st = is_morsel q st (own_series q d st)
 
--- why a line of this station is refused: by the first test that it fails, where the series is a morsel of these
+-- why a line of this station is refused: by the first test that it fails, if the series is a morsel of these
 -- data; its count is the number of the station's rows, as the head has it
 abbrev pub why_at : Asked → Contents → List Named → Entry → Station → Option Why
 why_at q d rows e st =
@@ -59,7 +59,7 @@ why_at q d rows e st =
 abbrev pub why_of_line : Asked → Contents → List Named → Entry → Option Why
 why_of_line q d rows e = option_and_then (why_at q d rows e) (find (is_station_of e.id) d.stations)
 
--- the refusal of the first of these lines that has a reason, where the first of them has this number
+-- the refusal of the first of these lines that has a reason, if the first of them has this number
 abbrev pub first_refused : (Entry → Option Why) → ℕ → List Entry → Option PartVerdict
 first_refused reason n [] = None
 first_refused reason n (e ∷ es) =
@@ -75,7 +75,7 @@ has_line es id = list_any (λ e. same_id e.id id) es
 abbrev pub have_lines : Asked → Contents → List Entry → Bool
 have_lines q d es = list_all (λ st. not (is_own q d st) || has_line es st.id) d.stations
 
--- the refusal of lines among which one of a morsel is missing: it is told at the line behind them
+-- the refusal of lines among which one of a morsel is missing: it is reported at the line after them
 abbrev pub missing_refused : Asked → Contents → List Entry → Option PartVerdict
 missing_refused q d es =
     if have_lines q d es then None else Some (Refused Certificate (length es + 4) why.OtherSeries)
@@ -88,7 +88,7 @@ refused q d r z =
     option_or (option_map refusal_of (head_fault q r z))
     (option_or (first_refused (why_of_line q d r.rows) 4 z.entries) (missing_refused q d z.entries))
 
--- the refusal, or so many series of so many lines where there is none
+-- the refusal, or that many series of that many lines if there is none
 abbrev pub or_accepted : ℕ → ℕ → Option PartVerdict → PartVerdict
 or_accepted series lines None = Accepted series lines
 or_accepted series lines (Some v) = v

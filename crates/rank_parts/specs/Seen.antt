@@ -8,7 +8,7 @@ use Rattle.rank_head.specs.HeadTests.{of_rows}
 use Rattle.rank_check.specs.Pieces.{AreInOrder}
 use Rattle.rank_check.specs.InPieces.{rows_with}
 
--- each row precedes the next, there are at most as many as were asked for, and where none of them is counted at a line,
+-- each row precedes the next, there are at most as many as were asked for, and if none of them is counted at a line,
 -- none is of its station
 pub record IsSeen (q : Asked) (rows : List Named) (e : Entry) : Type 0 where
   pub order : AreInOrder (of_rows rows)

@@ -14,7 +14,7 @@ comes_first a b = is_le (full_cmp a b)
 abbrev pub in_order : List Candidate → List Candidate
 in_order xs = sorted_by comes_first xs
 
--- the first k of some candidates in their order, and all of them where there are fewer
+-- the first k of some candidates in their order, and all of them if there are fewer
 abbrev pub first : ℕ → List Candidate → List Candidate
 first k xs = take k (in_order xs)
 

@@ -33,7 +33,7 @@ LastIsKth = (p : Pooled) (xs : List Candidate) → 0 < p.size → HoldsFirst p x
 
 -- ---- the first
 
--- two lists stand in one order exactly where they have the same candidates, each as often
+-- two lists stand in one order if and only if they have the same candidates, each as often
 abbrev pub OneOrder : Type 0
 OneOrder = (xs ys : List Candidate) → (in_order xs ≡ in_order ys) ↔ IsPermutation xs ys
 
@@ -42,14 +42,14 @@ abbrev pub FirstOfFirst : Type 0
 FirstOfFirst = (k : ℕ) (xs ys : List Candidate) →
     (first k (first k xs ++ ys) ≡ first k (xs ++ ys)) × (first k (xs ++ first k ys) ≡ first k (xs ++ ys))
 
--- where k candidates score above a number, others that don't leave the first k as they are
+-- if k candidates score above a number, others that don't leave the first k as they are
 abbrev pub LowStayOut : Type 0
 LowStayOut = (k : ℕ) (b : ℤ) (xs ys : List Candidate) → k ≤ above b xs → AllByRecursion (λ y. y.score ≤ℤ b) ys →
     first k (xs ++ ys) ≡ first k xs
 
 -- ---- scores and ranks
 
--- a number is strictly below the k-th score exactly where k candidates or more score above it
+-- a number is strictly below the k-th score if and only if k candidates or more score above it
 abbrev pub BelowKth : Type 0
 BelowKth = (k : ℕ) (b : ℤ) (xs : List Candidate) → 0 < k → (is_below (kth k xs) b ≡ true) ↔ (k ≤ above b xs)
 

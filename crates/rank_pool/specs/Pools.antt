@@ -14,7 +14,7 @@ pub record Pooled : Type 0 where
 abbrev pub empty_pool : ℕ → Pooled
 empty_pool k = record { size = k; held = [] }
 
--- one candidate more: it takes its place in the order, and what stands behind the last place falls out
+-- one candidate more: it takes its place in the order, and what comes after the last place falls out
 abbrev pub taken : Pooled → Candidate → Pooled
 taken p c = record { size = p.size; held = take p.size (placed comes_first c p.held) }
 

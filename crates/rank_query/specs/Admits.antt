@@ -9,7 +9,7 @@ use Rattle.rank_query.specs.declared.region.Region.{Region}
 use Rattle.rank_query.specs.declared.region.Region.TheVariants.{Everywhere, Inside, Country, State, Only}
 use Rattle.rank_query.specs.Asked.{Asked}
 
--- a longitude from the western to the eastern edge, over the date line where the western one is greater
+-- a longitude from the western to the eastern edge, over the date line if the western one is greater
 abbrev pub is_between_edges : ℤ → ℤ → ℤ → Bool
 is_between_edges west east z =
     if int_le west east then int_le west z && int_le z east else int_le west z || int_le z east
@@ -32,7 +32,7 @@ abbrev pub period_holds : Option (ℤ × ℤ) → ℤ → Bool
 period_holds None day = true
 period_holds (Some p) day = int_le p.0 day && int_le day p.1
 
--- a month lies from a first to a last one, over the turn of the year where the first is greater
+-- a month lies from a first to a last one, over the turn of the year if the first is greater
 abbrev pub is_between_months : ℕ → ℕ → ℕ → Bool
 is_between_months first last m =
     if nat_le first last then is_within first last m else nat_le first m || nat_le m last

@@ -12,7 +12,7 @@ use Rattle.rank_query.specs.declared.region.Region.{Region}
 use Rattle.rank_query.specs.declared.region.Region.TheVariants.{Everywhere, Inside, Country, State, Only}
 
 -- the k best of a score, of the stations of a region, in a season from a first to a last month, within a period of a
--- first and a last day; all months where there is no season, and all days where there is no period
+-- first and a last day; all months if there is no season, and all days if there is no period
 pub record Asked : Type 0 where
   pub k : ℕ
   pub score : Score
@@ -58,7 +58,7 @@ is_score Dry = true
 is_score Wet = true
 is_score (Hot t) = int_le (neg_ℤ (pos 1_000)) t && int_le t (pos 1_000)
 
--- so many visible bytes
+-- that many visible bytes
 abbrev pub is_code : ℕ → List ℕ → Bool
 is_code len bytes = (length bytes == len) && list_all is_visible bytes
 

@@ -1,4 +1,4 @@
--- Which fault a wrong word has: it depends on what the grammar has behind the words before it.
+-- Which error a wrong word has: it depends on what the grammar has after the words before it.
 use Rattle.std.specs.Prelude.{◌≡◌, ℕ, zero, suc, ◌+◌, Bool, true, false, ◌&&◌, ◌||◌, if◌then◌else◌, ◌⊎◌, List, []}
 use Rattle.std.specs.Prelude.{◌∷◌, ◌++◌, length, reverse, codes, is_some, Option, None, Some}
 use Rattle.ghcn_fields.specs.declared.field.Field.{Field}
@@ -33,7 +33,7 @@ is_tenths word = is_some (tenths_in word)
 abbrev pub are_two : List ℕ → Bool
 are_two word = is_some (two_numbers word)
 
--- whether a word has the form of the numbers of a place, where these have limits
+-- whether a word has the form of the numbers of a place, if these have limits
 abbrev pub has_form : Place → List ℕ → Option Bool
 has_form number word = Some (is_digits word)
 has_form heat word = Some (is_tenths word)
@@ -56,12 +56,12 @@ is_decimal word = is_number (scaled_field 4 word)
 abbrev pub is_date_word : List ℕ → Bool
 is_date_word word = is_some (read_date word)
 
--- the nearest of some words is this one; of the words behind which a word stands the nearest always comes first
+-- the nearest of some words is this one; of the words after which a word stands the nearest always comes first
 abbrev pub is_next_behind : List ℕ → List (List ℕ) → Bool
 is_next_behind text [] = false
 is_next_behind text (w ∷ past) = same_bytes w text
 
--- they are "box" and at most so many numbers behind it, and any words before
+-- they are "box" and at most that many numbers after it, and any words before
 abbrev pub is_behind_box : ℕ → List (List ℕ) → Bool
 is_behind_box n [] = false
 is_behind_box zero (w ∷ past) = same_bytes w (codes "box")
@@ -77,8 +77,8 @@ abbrev pub is_behind_from : List (List ℕ) → Bool
 is_behind_from [] = false
 is_behind_from (w ∷ past) = same_bytes w (codes "from") || (same_bytes w (codes "to") && is_behind_first_day past)
 
--- the place behind some words: a number stands behind "top" and "sum", degrees behind "hot", the four edges behind
--- "box", the months behind "months", the dates behind "from" and "to"
+-- the place after some words: a number comes after "top" and "sum", degrees after "hot", the four edges after
+-- "box", the months after "months", the dates after "from" and "to"
 abbrev pub place_behind : List (List ℕ) → Place
 place_behind past =
     if is_behind_box 3 past then edge
@@ -88,7 +88,7 @@ place_behind past =
     else if is_behind_from past then date
     else other
 
--- the fault of a word that is wrong behind these words
+-- the error of a word that is wrong after these words
 abbrev pub IsFaultOf : QueryFault → List (List ℕ) → List ℕ → Type 0
 IsFaultOf QueryTooLong past word = ⊥
 IsFaultOf (UnexpectedWord n) past word =
@@ -99,7 +99,7 @@ IsFaultOf (BadDate n) past word = (n ≡ length past + 1) × (place_behind past 
 IsFaultOf (BadBox n) past word = (n ≡ length past + 1) × (place_behind past ≡ edge)
 IsFaultOf EmptyPeriod past word = (place_behind past ≡ date) × (is_date_word word ≡ true)
 
--- a fault of words is that of one of them
+-- an error of words is that of one of them
 abbrev pub IsFaultAmong : QueryFault → List (List ℕ) → Type 0
 IsFaultAmong QueryTooLong ws = Unit {0}
 IsFaultAmong QueryEnds ws = Unit {0}

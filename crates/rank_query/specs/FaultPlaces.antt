@@ -1,4 +1,4 @@
--- Where the fault of a text stands: at the first word with which no query goes on.
+-- Where the error of a text stands: at the first word with which no query goes on.
 use Rattle.std.specs.Prelude.{◌≡◌, ℕ, ◌+◌, ◌<◌, ◌≤◌, ◌⊎◌, List, [], ◌∷◌, ◌++◌, length, codes, ◌&&◌, ℤ, ◌<ℤ◌, IsTrue}
 use Rattle.ghcn_fields.specs.Days.{is_day}
 use Rattle.ghcn_fields.specs.Dates.{date_text}
@@ -9,7 +9,7 @@ use Rattle.rank_query.specs.Asked.{Asked, IsAsked}
 use Rattle.rank_query.specs.Words.{words_of}
 use Rattle.rank_query.specs.Spelling.{SpellsQuery}
 
--- words begin a query: with some words behind them they spell one that can be asked
+-- words begin a query: with some words after them they spell one that can be asked
 pub record BeginQuery (ws : List (List ℕ)) : Type 0 where
   pub query : Asked
   pub can_be_asked : IsAsked query
@@ -41,7 +41,7 @@ pub record EndsTooEarly (before : List (List ℕ)) (word : List ℕ) : Type 0 wh
 abbrev pub SpellNone : List (List ℕ) → Type 0
 SpellNone ws = (q : Asked) → IsAsked q → SpellsQuery ws q → ⊥
 
--- where a fault stands among the words of a text that isn't too long
+-- where an error stands among the words of a text that isn't too long
 abbrev pub StandsAmong : List (List ℕ) → QueryFault → Type 0
 StandsAmong ws QueryTooLong = ⊥
 StandsAmong ws (UnexpectedWord n) = IsFirstWrongAt ws n
@@ -52,7 +52,7 @@ StandsAmong ws (BadBox n) = IsFirstWrongAt ws n
 StandsAmong ws EmptyPeriod =
     (before : List (List ℕ)) × (word : List ℕ) × IsFirstWrong ws before word × EndsTooEarly before word
 
--- a text of more than 256 bytes is too long, and the fault of any other stands among its words
+-- a text of more than 256 bytes is too long, and the error of any other stands among its words
 abbrev pub StandsIn : List ℕ → QueryFault → Type 0
 StandsIn text fault =
     ((256 < length text) × (fault ≡ QueryTooLong)) ⊎ ((length text ≤ 256) × StandsAmong (words_of text) fault)

@@ -7,7 +7,7 @@ use Rattle.rank_query.specs.QueryTexts.{query_text}
 use Rattle.rank_query.specs.Reading.{read_query}
 use Rattle.rank_query.specs.Asks.{Asks}
 
--- a text is read as a query exactly where it asks it
+-- a text is read as a query if and only if it denotes it
 abbrev pub ReadAsAsked : Type 0
 ReadAsAsked = (text : List ℕ) (q : Asked) → (read_query text ≡ Ok q) ↔ Asks text q
 

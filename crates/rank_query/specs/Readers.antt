@@ -1,16 +1,16 @@
--- How words are read one after another, until the first fault.
+-- How words are read one after another, until the first error.
 use Rattle.std.specs.Prelude.{◌≡◌, ℕ, if◌then◌else◌, List, [], ◌∷◌, Option, None, Some, Result, Ok, Err}
 use Rattle.rank_query.specs.declared.fault.QueryFault.{QueryFault}
 use Rattle.rank_query.specs.declared.fault.QueryFault.TheVariants.{UnexpectedWord, QueryEnds}
 use Rattle.rank_query.specs.Words.{Word, says, after}
 
--- what is read goes on to the next reader, and a fault ends the reading
+-- what is read goes on to the next reader, and an error ends the reading
 infixl 10 ◌>>=◌
 abbrev pub ◌>>=◌ : {A B : Type 0} → Result A QueryFault → (A → Result B QueryFault) → Result B QueryFault
 (Ok x) >>= f = f x
 (Err e) >>= f = Err e
 
--- what a reader answers: a value and the words after it, or the first fault
+-- what a reader returns: a value and the words after it, or the first error
 abbrev pub Read : Type 0 → Type 0
 Read A = Result (A × List Word) QueryFault
 
@@ -19,7 +19,7 @@ abbrev pub Gives : {X Y : Type 0} → (X → Y) → Result X QueryFault → Resu
 Gives view (Ok x) read = read ≡ Ok (view x)
 Gives view (Err e) read = read ≡ Err e
 
--- the value, or this fault where there is none
+-- the value, or this error if there is none
 abbrev pub or_fault : {A : Type 0} → QueryFault → Option A → Result A QueryFault
 or_fault fault None = Err fault
 or_fault fault (Some x) = Ok x
@@ -47,7 +47,7 @@ abbrev pub made_into : {A B : Type 0} → (A → B) → Read A → Read B
 made_into make (Ok r) = Ok (make r.0, r.1)
 made_into make (Err e) = Err e
 
--- what is read behind the first of some words that comes next, and else what is read without one
+-- what is read after the first of some words that comes next, and otherwise what is read without one
 abbrev pub by_word : {A : Type 0} → List (List ℕ × (List Word → Read A)) → (List Word → Read A) → List Word → Read A
 by_word [] otherwise ws = otherwise ws
 by_word (r ∷ rs) otherwise ws = elim (after r.0 ws) [ Some rest ↦ r.1 rest | None ↦ by_word rs otherwise ws ]

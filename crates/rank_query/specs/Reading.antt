@@ -1,4 +1,4 @@
--- Reading a query text from left to right, with the first fault that is met.
+-- Reading a query text from left to right, with the first error that is met.
 use Rattle.std.specs.Prelude.{ℕ, true, nat_lt, if◌then◌else◌, List, [], ◌∷◌, length, codes, Option, None, Some}
 use Rattle.std.specs.Prelude.{Result, Ok, Err, ℤ, pos, neg_ℤ, int_le}
 use Rattle.rank_query.specs.declared.score.Score.{Score}
@@ -122,7 +122,7 @@ always_at ws = Ok (None, ws)
 unfoldable pub period_at : List Word → Read (Option (ℤ × ℤ))
 period_at ws = by_word ((codes "from", between_at) ∷ []) always_at ws
 
--- the query, where no word is left
+-- the query, if no word is left
 abbrev pub nothing_more : List Word → Asked → Result Asked QueryFault
 nothing_more [] q = Ok q
 nothing_more (w ∷ ws) q = Err (UnexpectedWord w.0)

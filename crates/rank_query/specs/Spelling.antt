@@ -24,10 +24,10 @@ SpellsWord word (Edge z) = Spells 4 word z
 SpellsWord word (Months a b) =
     (first : List ℕ) × (last : List ℕ) × (word ≡ first ++ 46 ∷ 46 ∷ last) × IsNumeralOf first a × IsNumeralOf last b
 
--- words spell a query where they spell those of the query, one by one
+-- words spell a query if they spell those of the query, one by one
 abbrev pub SpellsQuery : List (List ℕ) → Asked → Type 0
 SpellsQuery words q = AllZip SpellsWord words (query_words q)
 
--- a text spells a query where its words do
+-- a text spells a query if its words do
 abbrev pub IsSpelling : List ℕ → Asked → Type 0
 IsSpelling text q = SpellsQuery (words_of text) q

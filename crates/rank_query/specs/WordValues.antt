@@ -20,7 +20,7 @@ number low high w = do
   n ← or_fault (UnexpectedWord w.0) (natural w.1)
   if is_within low high n then Ok n else Err (OutOfLimits w.0)
 
--- the element that a word names, where it is one of those that a test allows
+-- the element that a word names, if it is one of those that a test allows
 unfoldable pub element : (Element → Bool) → Word → Result Element QueryFault
 element allows w = do
   e ← or_fault (UnexpectedWord w.0) (element_of w.1)
@@ -31,7 +31,7 @@ unfoldable pub degrees : ℤ → ℤ → Word → Result ℤ QueryFault
 degrees low high w =
     if is_number_within low high (scaled_field 4 w.1) then Ok (number_of (scaled_field 4 w.1)) else Err (BadBox w.0)
 
--- so many tenths, as a number with one decimal at most writes them
+-- that many tenths, as a number with one decimal at most writes them
 abbrev pub tenths_in : List ℕ → Option ℤ
 tenths_in word = signed_by (decimal_number 1) word
 
@@ -49,18 +49,18 @@ heat w = do
 abbrev pub is_point : ℕ → Bool
 is_point b = b == 46
 
--- the number behind a point that comes first
+-- the number after a point that comes first
 abbrev pub natural_behind : List ℕ → Option ℕ
 natural_behind [] = None
 natural_behind (b ∷ bytes) = if is_point b then natural bytes else None
 
--- two numbers, where there are both
+-- two numbers, if there are both
 abbrev pub both_numbers : Option ℕ → Option ℕ → Option (ℕ × ℕ)
 both_numbers None b = None
 both_numbers (Some a) None = None
 both_numbers (Some a) (Some b) = Some (a, b)
 
--- the numbers before and behind two points
+-- the numbers before and after two points
 abbrev pub two_numbers : List ℕ → Option (ℕ × ℕ)
 two_numbers word = both_numbers (natural (before_first is_point word)) (natural_behind (after_first is_point word))
 
@@ -74,7 +74,7 @@ months w = do
   s ← or_fault (UnexpectedWord w.0) (two_numbers w.1)
   if is_month s.0 && is_month s.1 then Ok s else Err (OutOfLimits w.0)
 
--- so many visible bytes
+-- that many visible bytes
 unfoldable pub code : ℕ → Word → Result (List ℕ) QueryFault
 code len w = if is_code len w.1 then Ok w.1 else Err (UnexpectedWord w.0)
 

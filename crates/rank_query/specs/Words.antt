@@ -24,7 +24,7 @@ numbered_words text = enumerate_from 1 (words_of text)
 unfoldable pub says : List ℕ → List ℕ → Bool
 says text word = same_bytes word text
 
--- the words after this one, where it comes next
+-- the words after this one, if it comes next
 abbrev pub after : List ℕ → List Word → Option (List Word)
 after text [] = None
 after text (w ∷ ws) = if says text w.1 then Some ws else None

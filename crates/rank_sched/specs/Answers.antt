@@ -19,7 +19,7 @@ use Rattle.rank_sched.specs.Machine.{Worker, State, Reaches, all_stopped}
 use Rattle.rank_sched.specs.Hauls.{all_records, AreSound, AreUnderFloor}
 use Rattle.rank_sched.specs.TakingBack.{stays, taken_back}
 
--- the line of a morsel with its number: its ID and bound, and whether it was passed over and stays so
+-- the line of a morsel with its number: its ID and bound, and whether it was skipped and stays so
 abbrev pub line_of : Planned → List Record → ℕ × Morsel → Line
 line_of p rs m = record { id = m.1.series.id; bound = m.1.bound; skipped = stays (task_of p) rs m.0 }
 
@@ -50,7 +50,7 @@ pub record IsAnswerOfPlan (p : Planned) (a : Answer) : Type 0 where
   pub best_are : a.best.items ≡ best_of_plan p
   pub lines_are : a.lines.items ≡ lines_of p (all_records hauls)
 
--- the answer of a crew: its records are those of sound hauls of so many workers under a floor from the guess on
+-- the answer of a crew: its records are those of sound hauls of that many workers under a floor from the guess on
 pub record IsAnswerOfCrew (p : Planned) (guess : Option ℤ) (workers : ℕ) (a : Answer) : Type 0 where
   pub hauls : List Haul
   pub floor : Option ℤ

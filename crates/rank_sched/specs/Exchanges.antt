@@ -13,11 +13,11 @@ use Rattle.rank_sched.specs.Task.{Task}
 abbrev pub morsels_of : List Record → List ℕ
 morsels_of rs = map (λ r. r.morsel) rs
 
--- the candidates that a record stands for: those of its morsel, unless it was passed over
+-- the candidates that a record stands for: those of its morsel, unless it was skipped
 abbrev pub scanned_for : Task → Record → List Candidate
 scanned_for t r = if r.skipped then [] else t.candidates r.morsel
 
--- the candidates of the morsels that some records don't pass over
+-- the candidates of the morsels that some records don't skip
 abbrev pub scanned : Task → List Record → List Candidate
 scanned t rs = flat_map (scanned_for t) rs
 
@@ -29,7 +29,7 @@ best_pool k xs = record { size = k; held = first k xs }
 abbrev pub pool_of : Task → List Record → Pooled
 pool_of t rs = best_pool t.k (scanned t rs)
 
--- a record passes its morsel over exactly where the floor that was seen is a score, and the bound is strictly below it
+-- a record skips its morsel if and only if the floor that was seen is a score, and the bound is strictly below it
 abbrev pub IsRightSkip : Task → Record → Type 0
 IsRightSkip t r = r.skipped ≡ is_below r.seen (t.bound r.morsel)
 
@@ -38,7 +38,7 @@ pub record Exchange : Type 0 where
   pub seen : Option ℤ
   pub raised : Option ℤ
 
--- after a morsel that isn't passed over, the k-th score of all that was scanned so far is raised, where there is one
+-- after a morsel that isn't skipped, the k-th score of all that was scanned so far is raised, if there is one
 abbrev pub exchange : Task → List Candidate → Record → Exchange
 exchange t before r = record {
   seen = r.seen;

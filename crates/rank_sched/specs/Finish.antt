@@ -15,7 +15,7 @@ use Rattle.rank_sched.specs.TakingBack.{back_below}
 abbrev pub mark : List Bool → ℕ → Bool
 mark marks m = slice_index_or marks m false
 
--- a mark for each of n morsels, true exactly where they pass
+-- a mark for each of n morsels, true if and only if they pass
 pub record AreMarks (test : ℕ → Bool) (n : ℕ) (marks : List Bool) : Type 0 where
   pub count : length marks ≡ n
   pub each : (m : ℕ) → m < n → mark marks m ≡ test m
@@ -24,7 +24,7 @@ pub record AreMarks (test : ℕ → Bool) (n : ℕ) (marks : List Bool) : Type 0
 abbrev pub AreWithin : ℕ → List Record → Type 0
 AreWithin n rs = AllByRecursion (λ r. r.morsel < n) rs
 
--- the pool has the best of what was scanned, and taken back below n
+-- the pool has the best of what was scanned, and undone below n
 abbrev pub HasBackBelow : Task → List Record → ℕ → Pooled → Type 0
 HasBackBelow t rs n pool = pool ≡ best_pool t.k (scanned t rs ++ back_below t rs n)
 

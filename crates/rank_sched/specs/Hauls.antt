@@ -19,7 +19,7 @@ records_of h = h.records.items
 abbrev pub all_records : List Haul → List Record
 all_records hs = flat_map records_of hs
 
--- a worker's haul: its records name it, rise by morsel, pass over what they should, and the rest is in its pool
+-- a worker's haul: its records name it, rise by morsel, skip what they should, and the rest is in its pool
 pub record IsHaulOf (t : Task) (w : ℕ) (h : Haul) : Type 0 where
   pub named : AllByRecursion (λ r. r.worker ≡ w) (records_of h)
   pub rise : NumbersRise (morsels_of (records_of h))
@@ -60,11 +60,11 @@ AreHaulsOf vs hs = AllZip (λ h v. (records_of h ≡ v.records) × (h.pool ≡ v
 abbrev pub records_by : ℕ → List Record → List Record
 records_by w rs = filter (λ r. r.worker == w) rs
 
--- the turns of so many workers, worker after worker
+-- the turns of that many workers, worker after worker
 abbrev pub turns_by : Task → ℕ → List Record → List Exchange
 turns_by t workers rs = flat_map (λ w. exchanges t [] (records_by w rs)) (range_with_len 0 workers)
 
--- the records of a sound run of so many workers, all in one list, where those of each worker stand in their order
+-- the records of a sound run of that many workers, all in one list, if those of each worker stand in their order
 pub record AreSoundRecords (t : Task) (guess : Option ℤ) (workers : ℕ) (rs : List Record) : Type 0 where
   -- records: they name the workers, each worker's rise by morsel, and each morsel has exactly one
   pub named : AllByRecursion (λ r. r.worker < workers) rs

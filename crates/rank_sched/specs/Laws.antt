@@ -109,19 +109,19 @@ abbrev pub RecordsAloneAreOne : Type 0
 RecordsAloneAreOne = (t : Task) (guess : Option ℤ) (rs rs' : List Record) → AreRecordsAlone t guess rs
     → AreRecordsAlone t guess rs' → rs ≡ rs'
 
--- a machine that failed answers want of memory to each event, stays as it is, and isn't stopped
+-- a machine that failed answers out of memory to each event, stays as it is, and isn't stopped
 abbrev pub FailedStaysFailed : Type 0
 FailedStaysFailed = (m m' : Running) (e : Event) (r : Result (Unit {0}) StepFault) → m.failed ≡ true
     → IsAnswered m e r m' → IsOfMemory r × (m' ≡ m) × (is_stopped m ≡ false)
 
--- an answer of want of memory leaves a machine that failed
+-- an answer of out of memory leaves a machine that failed
 abbrev pub WantOfMemoryFails : Type 0
 WantOfMemoryFails = (m m' : Running) (e : Event) (r : Result (Unit {0}) StepFault) → IsOfMemory r → IsAnswered m e r m'
     → m'.failed ≡ true
 
 -- ---- hauls and workers that grow
 
--- a haul of a worker, and one record more of a later morsel that passes over what it should, is a haul of the worker
+-- a haul of a worker, and one record more of a later morsel that skips what it should, is a haul of the worker
 abbrev pub HaulsGrow : Type 0
 HaulsGrow = (t : Task) (w : ℕ) (h h' : Haul) (r : Record) → IsHaulOf t w h → r.worker ≡ w
     → AllByRecursion (λ m. m < r.morsel) (morsels_of (records_of h)) → IsRightSkip t r → HasSettled t h r h'
@@ -148,7 +148,7 @@ abbrev pub HaulsJoin : Type 0
 HaulsJoin = (vs us : List Worker) (hs gs : List Haul) → AreHaulsOf vs hs → AreHaulsOf us gs
     → AreHaulsOf (vs ++ us) (hs ++ gs)
 
--- where all of both have stopped, all have
+-- if all of both have stopped, all have
 abbrev pub StopsJoin : Type 0
 StopsJoin = (vs us : List Worker) → all_stopped vs ≡ true → all_stopped us ≡ true → all_stopped (vs ++ us) ≡ true
 
@@ -177,7 +177,7 @@ RaisedIsReached = (t : Task) (hs : List Haul) → 0 < t.k
 
 -- ---- the end
 
--- no hauls are sound exactly where there are no morsels
+-- no hauls are sound if and only if there are no morsels
 abbrev pub NoHauls : Type 0
 NoHauls = (t : Task) → AreSound t [] ↔ (t.len ≡ 0)
 
@@ -190,23 +190,23 @@ SkipsAreRight = (t : Task) (hs : List Haul) (m : ℕ) → IsFair t → AreSound 
 abbrev pub IsLowGuess : Task → Option ℤ → Type 0
 IsLowGuess t guess = IfSome guess (λ g. IsSomeAnd (kth t.k (all_of_task t)) (λ s. g ≤ℤ s))
 
--- without a guess, or with one that is at most the k-th score, no skip is taken back
+-- without a guess, or with one that is at most the k-th score, no skip is undone
 abbrev pub NoneIsTakenBack : Type 0
 NoneIsTakenBack = (t : Task) (guess : Option ℤ) (hs : List Haul) (floor : Option ℤ) → IsFair t → AreSound t hs
     → AreUnderFloor t guess hs floor → IsLowGuess t guess → taken_back t (all_records hs) ≡ 0
 
--- what was scanned in the run, and then taken back, has the first k of all candidates
+-- what was scanned in the run, and then undone, has the first k of all candidates
 abbrev pub BestAreThere : Type 0
 BestAreThere = (t : Task) (hs : List Haul) → IsFair t → AreSound t hs
     → first t.k (scanned t (all_records hs) ++ back_below t (all_records hs) t.len) ≡ first t.k (all_of_task t)
 
--- and the pool of what was scanned and taken back before a morsel says whether its skip stays
+-- and the pool of what was scanned and undone before a morsel says whether its skip stays
 abbrev pub PoolDecides : Type 0
 PoolDecides = (t : Task) (hs : List Haul) (n : ℕ) → IsFair t → AreSound t hs
     → is_below (kth t.k (scanned t (all_records hs) ++ back_below t (all_records hs) n)) (t.bound n) ≡ is_justified t
     (all_records hs) n
 
--- where a skip stays, every skip of a later number stays
+-- if a skip stays, every skip of a later number stays
 abbrev pub SkipsStayOnwards : Type 0
 SkipsStayOnwards = (t : Task) (rs : List Record) (m n : ℕ) → IsFair t → m ≤ n → n < t.len → stays t rs m ≡ true
     → was_skipped rs n ≡ true → stays t rs n ≡ true
@@ -216,7 +216,7 @@ abbrev pub RecordsAreSound : Type 0
 RecordsAreSound = (t : Task) (guess : Option ℤ) (hs : List Haul) (floor : Option ℤ) → AreSound t hs
     → AreUnderFloor t guess hs floor → AreSoundRecords t guess (length hs) (all_records hs)
 
--- a line is a scan exactly where its morsel's record is no skip or the morsel is taken back, and never are both so
+-- a line is a scan if and only if its morsel's record isn't a skip or the morsel is undone, and never are both so
 abbrev pub ScansHaveOneCause : Type 0
 ScansHaveOneCause = (p : Planned) (rs : List Record) (i : ℕ) (r : Record) (x : Morsel)
     → HasEachBelow (length p.morsels) (morsels_of rs) → slice_get rs i ≡ Some r →

@@ -17,7 +17,7 @@ use Rattle.rank_sched.specs.declared.turn.Turn.TheVariants.{Idle, Claimed, Looke
 use Rattle.rank_sched.specs.Task.{Task}
 use Rattle.rank_sched.specs.Exchanges.{scanned_for}
 
--- a worker: where it is in its turn, the numbers that it drew, its records, and what its pool holds
+-- a worker: if it is in its turn, the numbers that it drew, its records, and what its pool holds
 pub record Worker : Type 0 where
   pub turn : Turn
   pub claims : List ℕ
@@ -78,7 +78,7 @@ greater_floor None b = b
 greater_floor (Some a) None = Some a
 greater_floor (Some a) (Some b) = Some (int_max a b)
 
--- the floor after a record: the greater of itself and the pool's k-th score, unless the morsel was passed over
+-- the floor after a record: the greater of itself and the pool's k-th score, unless the morsel was skipped
 abbrev pub floor_after : Option ℤ → Record → Pooled → Option ℤ
 floor_after floor r pool = if r.skipped then floor else greater_floor floor (last_score pool)
 
@@ -103,7 +103,7 @@ pub record IsLook (s s' : State) (v v' : Worker) : Type 0 where
   pub next : s'.next ≡ s.next
   pub floor : s'.floor ≡ s.floor
 
--- a worker that looked writes its record, offers the candidates unless it passes over, and may raise the floor
+-- a worker that looked writes its record, offers the candidates unless it skips, and may raise the floor
 pub record IsSettle (t : Task) (w : ℕ) (s s' : State) (v v' : Worker) : Type 0 where
   pub morsel : ℕ
   pub seen : Option ℤ

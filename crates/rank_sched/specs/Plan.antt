@@ -52,12 +52,12 @@ planned q c = record {
       sorted_by is_drawn_first (map (measured q) (morsels q c));
 }
 
--- each morsel is drawn before all behind it
+-- each morsel is drawn before all after it
 abbrev pub AreDrawnInTurn : List Morsel → Type 0
 AreDrawnInTurn [] = Unit {0}
 AreDrawnInTurn (m ∷ ms) = AllByRecursion (λ n. is_drawn_first m n ≡ true) ms × AreDrawnInTurn ms
 
--- the same by properties: the query's morsels with their bounds, each once, and each is drawn before all behind it
+-- the same by properties: the query's morsels with their bounds, each once, and each is drawn before all after it
 pub record IsPlanOf (q : Asked) (c : Contents) (p : Planned) : Type 0 where
   pub asked : p.query ≡ q
   pub listed : p.stations ≡ c.stations
@@ -79,6 +79,6 @@ measured_at q c st = option_map (measured q) (morsel_at q c st)
 abbrev pub measure_of : Asked → Contents → Station → Option ℤ
 measure_of q c st = option_map (bound q) (morsel_at q c st)
 
--- the bounds of all listed stations in file order, none where a station is no morsel
+-- the bounds of all listed stations in file order, none if a station isn't a morsel
 abbrev pub measures : Asked → Contents → List (Option ℤ)
 measures q c = map (measure_of q c) c.stations

@@ -16,7 +16,7 @@ use Rattle.rank_sched.specs.Machine.{Worker, State, started, refusal, IsStep, Re
 use Rattle.rank_sched.specs.SoundRun.{unsettled, IsSoundState}
 use Rattle.rank_sched.specs.Hauls.{records_of}
 
--- a machine: its plan and guess, its state, and whether it has failed, that is met want of memory
+-- a machine: its plan and guess, its state, and whether it has failed, that is, met out of memory
 pub record Running : Type 0 where
   pub plan : Planned
   pub guess : Option ℤ
@@ -98,7 +98,7 @@ IsAnswered m e (Err (NoWorker w)) m' = Refuses m e (NoWorker w) m'
 IsAnswered m e (Err (NotNow w)) m' = Refuses m e (NotNow w) m'
 IsAnswered m e (Err (Memory x)) m' = Fails m e m'
 
--- the answer is want of memory
+-- the answer is out of memory
 abbrev pub IsOfMemory : {A : Type 0} → Result A StepFault → Type 0
 IsOfMemory (Ok done) = ⊥
 IsOfMemory (Err (NoWorker w)) = ⊥
@@ -112,7 +112,7 @@ pub record IsReplayed (p : Planned) (workers : ℕ) (guess : Option ℤ) (es : L
   pub plan : m.plan ≡ p
   pub guessed : m.guess ≡ guess
 
--- a replay ended: so many events were accepted, and the next was refused for this reason
+-- a replay ended: that many events were accepted, and the next was refused for this reason
 pub record IsRefusedAt (p : Planned) (workers : ℕ) (guess : Option ℤ) (es : List Event) (accepted : ℕ)
     (why : StepFault) : Type 0 where
   pub state : State
@@ -121,7 +121,7 @@ pub record IsRefusedAt (p : Planned) (workers : ℕ) (guess : Option ℤ) (es : 
   pub reached : Reaches (task_of p) workers guess (take accepted es) state
   pub refused : refusal state event ≡ Some why
 
--- a replay met want of memory: at the start, or at an event that isn't refused behind those that were accepted
+-- a replay met out of memory: at the start, or at an event that isn't refused after those that were accepted
 pub record FailsAt (p : Planned) (workers : ℕ) (guess : Option ℤ) (es : List Event) (accepted : ℕ) : Type 0 where
   pub state : State
   pub reached : Reaches (task_of p) workers guess (take accepted es) state

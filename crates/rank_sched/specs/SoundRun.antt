@@ -23,7 +23,7 @@ unsettled (Claimed m) = m ∷ []
 unsettled (Looked m seen) = m ∷ []
 unsettled (Stopped n) = n ∷ []
 
--- what a worker claimed or looked before is a morsel, and where it stopped there is none
+-- what a worker claimed or looked before is a morsel, and if it stopped there is none
 abbrev pub IsTurnOf : ℕ → Turn → Type 0
 IsTurnOf len Idle = ⊤
 IsTurnOf len (Claimed m) = m < len
@@ -54,9 +54,9 @@ pub record IsSoundWorker (t : Task) (guess : Option ℤ) (w : ℕ) (v : Worker) 
   pub settled : v.claims ≡ morsels_of v.records ++ unsettled v.turn
   pub within : AllByRecursion (λ r. r.morsel < t.len) v.records
   pub turn : IsTurnOf t.len v.turn
-  -- pool: the best of the candidates of the morsels that the records don't pass over
+  -- pool: the best of the candidates of the morsels that the records don't skip
   pub pool : v.pool ≡ pool_of t v.records
-  -- skips: exactly where the floor seen is a score that the bound is strictly below
+  -- skips: if and only if the floor seen is a score that the bound is strictly below
   pub skips : AllByRecursion (IsRightSkip t) v.records
   -- seen: at least the guess, and all that the worker saw or raised before
   pub upward : SeeUpward (option_to_list guess) (exchanges_of t v)

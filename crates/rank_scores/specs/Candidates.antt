@@ -16,8 +16,8 @@ use Rattle.rank_scores.specs.declared.spell.Spell.{Spell}
 use Rattle.rank_scores.specs.declared.spell.Spell.TheVariants as spells
 use Rattle.rank_scores.specs.Runs.{run_len, begins_run, IsRun}
 
--- the test that the values of a spell's days pass: less than one millimetre, at least one, at least so many tenths of a
--- degree
+-- the test that the values of a spell's days pass: less than one millimetre, at least one, at least that many tenths of
+-- a degree
 abbrev pub test_of : Spell → ℤ → Bool
 test_of spells.Dry v = int_lt v (pos 10)
 test_of spells.Wet v = int_le (pos 10) v
@@ -48,7 +48,7 @@ plus None b = None
 plus (Some a) None = None
 plus (Some a) (Some b) = Some (a +ℤ b)
 
--- the total of the n days from a on, where each has a value
+-- the total of the n days from a on, if each has a value
 abbrev pub window_total : List DayValue → ℕ → ℤ → Option ℤ
 window_total days zero a = Some (pos 0)
 window_total days (suc n) a = plus (value_on days a) (window_total days n (a +ℤ pos 1))
@@ -72,7 +72,7 @@ pub record IsWindow (days : List DayValue) (n : ℕ) (first last score : ℤ) : 
 abbrev pub is_such : (ℤ → Bool) → List DayValue → ℤ → Bool
 is_such test days a = option_map_or test (value_on days a) false
 
--- where these are the admitted usable days: from this first to this last day there is a candidate with this score
+-- if these are the admitted usable days: from this first to this last day there is a candidate with this score
 abbrev pub IsCandidate : Shape → List DayValue → ℤ → ℤ → ℤ → Type 0
 IsCandidate (Days f) days first last score = (last ≡ first) × (v : ℤ) × (value_on days first ≡ Some v) × (score ≡ f v)
 IsCandidate (Windows n) days first last score = IsWindow days n first last score
@@ -92,7 +92,7 @@ begun (Spells test) days x =
 abbrev pub candidate : StationId → ℤ → ℤ × ℤ → Candidate
 candidate id first e = record { id = id; first = first; last = e.0; score = e.1 }
 
--- the candidates of a station, where these are its admitted usable days, by increasing first day
+-- the candidates of a station, if these are its admitted usable days, by increasing first day
 abbrev pub candidates_among : StationId → Shape → List DayValue → List Candidate
 candidates_among id sh days = filter_map (λ x. option_map (candidate id x.0) (begun sh days x)) days
 

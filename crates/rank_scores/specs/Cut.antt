@@ -44,14 +44,14 @@ Filed = List (List ℕ) × (List ℕ × List ℕ)
 abbrev pub IsDataOf : List Station → Filed → Contents → Type 0
 IsDataOf stations p d = data_of stations p.0 ≡ Ok d
 
--- files that are cut into parts are cut as a query sees it, where all files together have no fault, and no station has
+-- files that are cut into parts are cut as a query sees it, if all files together have no error, and no station has
 -- morsels in two parts
 abbrev pub CutByFiles : Type 0
 CutByFiles = (q : Asked) (stations : List Station) (parts : List Filed) (ds : List Contents) (dataset : Contents)
     → AllZip (IsDataOf stations) parts ds → data_of stations (flat_map (λ p. p.0) parts) ≡ Ok dataset
     → IsDistinct same_id (morsel_ids q ds) → IsCut q dataset ds
 
--- where no station has a series of the query's element in two parts, the morsels of all files are those of the parts
+-- if no station has a series of the query's element in two parts, the morsels of all files are those of the parts
 abbrev pub MorselsOfParts : Type 0
 MorselsOfParts = (q : Asked) (stations : List Station) (parts : List Filed) (ds : List Contents) (dataset : Contents)
     → AllZip (IsDataOf stations) parts ds → data_of stations (flat_map (λ p. p.0) parts) ≡ Ok dataset

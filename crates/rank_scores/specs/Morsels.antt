@@ -39,7 +39,7 @@ abbrev pub passing : {A : Type 0} → (A → Bool) → Option A → Option A
 passing test None = None
 passing test (Some x) = if test x then Some x else None
 
--- the series that a query is about at a station: that of its element, where it admits the station
+-- the series that a query is about at a station: that of its element, if it admits the station
 abbrev pub series_at : Asked → Contents → Station → Option Usable
 series_at q c st = if admits_station q st then series_of c st.id (score_element q.score) else None
 

@@ -18,7 +18,7 @@ ListsByFirstDay = (q : Asked) (s : Usable) → IsSeries s → RiseByFirstDay (ca
 abbrev pub ListsNoneTwice : Type 0
 ListsNoneTwice = (q : Asked) (s : Usable) → IsSeries s → AreApart (candidates q s)
 
--- no listed candidate is above a number exactly where none is that has the property
+-- no listed candidate is above a number if and only if none is that has the property
 abbrev pub BoundsEachCandidate : Type 0
 BoundsEachCandidate =
     (q : Asked) (s : Usable) → IsAsked q → IsSeries s → (bound : ℤ) → IsAbove q s bound ↔ NoneIsAbove q s bound

@@ -5,11 +5,11 @@ use Rattle.ghcn_files.specs.declared.station.StationId.{StationId}
 use Rattle.rank_scores.specs.declared.candidate.Candidate.{Candidate}
 use Rattle.rank_scores.specs.Candidates.{candidate}
 
--- the first and the last day of a spell, where one is open
+-- the first and the last day of a spell, if one is open
 abbrev pub open_spell : Bool → ℤ → ℤ → Option (ℤ × ℤ)
 open_spell is_open first last = if is_open then Some (first, last) else None
 
--- the first day of a spell, where a day passes and comes behind the spell's last one
+-- the first day of a spell, if a day passes and comes after the spell's last one
 abbrev pub goes_on : Option (ℤ × ℤ) → ℤ → Bool → Option ℤ
 goes_on None day passes = None
 goes_on (Some spell) day passes = if passes && int_eq day (spell.1 +ℤ pos 1) then Some spell.0 else None

@@ -2,7 +2,7 @@
 use Rattle.std.specs.Prelude.{◌+◌, ◌-◌, ◌%◌, ℕ, Bool, true, false, List, get_or, ℤ, pos, ◌+ℤ◌, ◌-ℤ◌}
 use Rattle.rank_scores.specs.declared.window.Window.{Window}
 
--- the window itself where it goes on, else one without a day
+-- the window itself if it goes on, otherwise one without a day
 abbrev pub begun_anew_unless : Bool → Window → Window
 begun_anew_unless true w = w
 begun_anew_unless false w = record { first = w.first; len = 0; total = pos 0 }
