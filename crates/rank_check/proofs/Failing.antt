@@ -24,7 +24,7 @@ use Rattle.rank_scores.specs.Morsels.{morsels}
 use Rattle.ghcn_series.specs.Series.{Usable, Contents}
 use Rattle.rank_query.specs.Asked.{Asked}
 use Rattle.rank_scores.specs.Candidates.{candidates}
-use Rattle.rank_scores.specs.Order.{is_below}
+use Rattle.rank_scores.specs.Order.{bound_is_below}
 use Rattle.rank_papers.specs.Certificate.{Entry, count_of}
 use Rattle.std.specs.Int.{int_max}
 use Rattle.std.proofs.lemmas.Int.{ints}
@@ -251,21 +251,21 @@ is_low bound highest = option_map_or (λ score. int_le score bound) highest true
 line_tests-top : (q : Asked) (kth : Option ℤ) (rows : List Candidate) (number : ℕ) (e : Entry) (count : Option ℕ)
     (t : Top) (s : Option Usable) → Some t ≡ option_map (top q) s
     → first_failing (line_tests q kth rows number e count s)
-    ≡ fault_by number (same_id e.id t.id) (is_low e.bound t.highest) (not e.skipped || is_below kth e.bound)
+    ≡ fault_by number (same_id e.id t.id) (is_low e.bound t.highest) (not e.skipped || bound_is_below kth e.bound)
     (is_counted rows e count)
 line_tests-top q kth rows number e count t None f = absurd cc
 line_tests-top q kth rows number e count t (Some u) f =
     let same : top q u ≡ t = cc in
-    ap (λ (b : Bool). fault_by number (same_id e.id u.id) b (not e.skipped || is_below kth e.bound)
+    ap (λ (b : Bool). fault_by number (same_id e.id u.id) b (not e.skipped || bound_is_below kth e.bound)
     (is_counted rows e count)) (top-bounded e.bound (candidates q u))
     ∙ ap (λ (x : Top). fault_by number (same_id e.id x.id) (is_low e.bound x.highest)
-    (not e.skipped || is_below kth e.bound) (is_counted rows e count)) same
+    (not e.skipped || bound_is_below kth e.bound) (is_counted rows e count)) same
 
 module _ (q : Asked) (kth : Option ℤ) (rows : List Candidate) (number : ℕ) (e : Entry) (count : Option ℕ) (t : Top)
     (s : Option Usable) (made : Some t ≡ option_map (top q) s) (named : same_id t.id e.id ≡ true) where
   -- the fault by three tests, once the ID is right
   by_three : (above below counted : Bool) → is_low e.bound t.highest ≡ above
-      → (not e.skipped || is_below kth e.bound) ≡ below → is_counted rows e count ≡ counted
+      → (not e.skipped || bound_is_below kth e.bound) ≡ below → is_counted rows e count ≡ counted
       → first_failing (line_tests q kth rows number e count s) ≡ fault_by number true above below counted
   by_three above below counted f g h =
       line_tests-top q kth rows number e count t s made
@@ -275,21 +275,21 @@ module _ (q : Asked) (kth : Option ℤ) (rows : List Candidate) (number : ℕ) (
   pub no_bound : is_low e.bound t.highest ≡ false
       → Some (Refused Certificate number NoBound) ≡ first_failing (line_tests q kth rows number e count s)
   no_bound f =
-      sym (by_three false (not e.skipped || is_below kth e.bound) (is_counted rows e count) f refl refl)
+      sym (by_three false (not e.skipped || bound_is_below kth e.bound) (is_counted rows e count) f refl refl)
 
   -- a skip isn't below
-  pub not_below : is_low e.bound t.highest ≡ true → (not e.skipped || is_below kth e.bound) ≡ false
+  pub not_below : is_low e.bound t.highest ≡ true → (not e.skipped || bound_is_below kth e.bound) ≡ false
       → Some (Refused Certificate number NotBelow) ≡ first_failing (line_tests q kth rows number e count s)
   not_below f g = sym (by_three true false (is_counted rows e count) f g refl)
 
   -- a count is wrong
-  pub not_counted : is_low e.bound t.highest ≡ true → (not e.skipped || is_below kth e.bound) ≡ true
+  pub not_counted : is_low e.bound t.highest ≡ true → (not e.skipped || bound_is_below kth e.bound) ≡ true
       → is_counted rows e count ≡ false
       → Some (Refused Certificate number NotCounted) ≡ first_failing (line_tests q kth rows number e count s)
   not_counted f g h = sym (by_three true true false f g h)
 
   -- no test fails
-  pub none_fails_there : is_low e.bound t.highest ≡ true → (not e.skipped || is_below kth e.bound) ≡ true
+  pub none_fails_there : is_low e.bound t.highest ≡ true → (not e.skipped || bound_is_below kth e.bound) ≡ true
       → is_counted rows e count ≡ true → None ≡ first_failing (line_tests q kth rows number e count s)
   none_fails_there f g h = sym (by_three true true true f g h)
 

@@ -23,7 +23,7 @@ use Rattle.ghcn_series.specs.Held.{IsContents}
 use Rattle.rank_query.specs.Asked.{Asked, IsAsked, score_element}
 use Rattle.rank_scores.specs.declared.candidate.Candidate.{Candidate}
 use Rattle.rank_scores.specs.Candidates.{candidates}
-use Rattle.rank_scores.specs.Order.{AreApart, is_below}
+use Rattle.rank_scores.specs.Order.{AreApart, bound_is_below}
 use Rattle.rank_scores.specs.Morsels.{all_candidates, morsels, best_of_query, kth_of_query}
 use Rattle.rank_scores.proofs.Ranks.{Descends}
 use Rattle.rank_papers.specs.Report.{Named, trimmed}
@@ -84,7 +84,7 @@ module _ (q : Asked) (c : Contents) (right : IsContents c) (rows : List Named) w
         ≡ true)
         (candidates q series)
     pub above : AllByRecursion (λ d. d.score ≤ℤ e.bound) (candidates q series)
-    pub low : e.skipped ≡ true → is_below (score_of worst) e.bound ≡ true
+    pub low : e.skipped ≡ true → bound_is_below (score_of worst) e.bound ≡ true
 
   -- by its tests
   pub piece_of : (e : Entry) (n : ℕ) → IsAccepted q c rows e n → Piece e n
@@ -112,7 +112,7 @@ module _ (q : Asked) (c : Contents) (right : IsContents c) (rows : List Named) w
         none_left = each_passes (λ d. not (is_within_worst worst d) || is_one_of (of_rows (rows_with e.id rows)) d)
             (candidates q found.0) there.1.1.1.0;
         above = above_from e.bound (candidates q found.0) there.1.1.1.1.0;
-        low = below_from e.skipped (is_below (score_of worst) e.bound) there.1.1.1.1.1.0;
+        low = below_from e.skipped (bound_is_below (score_of worst) e.bound) there.1.1.1.1.1.0;
       }
 
   -- of each entry
@@ -283,7 +283,7 @@ module _ (q : Asked) (c : Contents) (right : IsContents c) (rows : List Named) w
             named = named;
             above = subst (λ (s : Usable). AllByRecursion (λ d. d.score ≤ℤ f.bound) (candidates q s)) same piece.above;
             fits = can.0.bound;
-            passed_over = λ s. subst (λ (o : Option ℤ). is_below o f.bound ≡ true) e (piece.low s);
+            passed_over = λ s. subst (λ (o : Option ℤ). bound_is_below o f.bound ≡ true) e (piece.low s);
           },
           entries_right kth e fs ms rest can.1 each.1 there.1,
         )

@@ -18,7 +18,7 @@ use Rattle.rank_query.specs.Asked.{Asked}
 use Rattle.rank_query.specs.Admits.{admits_station}
 use Rattle.rank_scores.specs.declared.candidate.Candidate.{Candidate}
 use Rattle.rank_scores.specs.Candidates.{candidates}
-use Rattle.rank_scores.specs.Order.{is_below}
+use Rattle.rank_scores.specs.Order.{bound_is_below}
 use Rattle.rank_papers.specs.Report.{Named, trimmed}
 use Rattle.rank_papers.specs.Certificate.{Entry}
 use Rattle.rank_head.specs.HeadTests.{of_rows}
@@ -73,7 +73,7 @@ last_by all above low = cond all (cond above (cond low None (Some NotBelow)) (So
 -- what these come to
 pub last-by : (q : Asked) (u : Usable) (e : Entry) (rows : List Candidate) (worst : Option Candidate)
     (all above low : Bool) → has_all q worst rows u ≡ all → is_low e.bound (top_score (candidates q u)) ≡ above
-    → (not e.skipped || is_below (score_of worst) e.bound) ≡ low
+    → (not e.skipped || bound_is_below (score_of worst) e.bound) ≡ low
     → first_failing (last_tests q u e rows worst) ≡ last_by all above low
 last-by q u e rows worst all above low f g h =
     λ i. last_by (f i) ((top-bounded e.bound (candidates q u) ∙ g) i) (h i)
@@ -175,7 +175,7 @@ module _ (q : Asked) (st : Station) (e : Entry) (printed : ℕ) (rows : List Nam
         );
         names = rows_named q st u rows each;
         above = above_from e.bound (candidates q u) h.1.1.1.1.0;
-        passed_over = below_from e.skipped (is_below (score_of worst) e.bound) h.1.1.1.1.1.0;
+        passed_over = below_from e.skipped (bound_is_below (score_of worst) e.bound) h.1.1.1.1.1.0;
       }
 
   -- the tests of a right line pass
@@ -207,7 +207,7 @@ module _ (q : Asked) (st : Station) (e : Entry) (printed : ℕ) (rows : List Nam
               all_passes (λ c. not (is_within_worst worst c) || is_one_of (of_rows rows) c) (candidates q h.series) all,
               (
                 above_to e.bound (candidates q h.series) h.above,
-                (below_to e.skipped (is_below (score_of worst) e.bound) h.passed_over, tt),
+                (below_to e.skipped (bound_is_below (score_of worst) e.bound) h.passed_over, tt),
               ),
             ),
           ),

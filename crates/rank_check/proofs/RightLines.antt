@@ -15,7 +15,7 @@ use Rattle.ghcn_series.specs.Series.{Usable, Contents}
 use Rattle.rank_query.specs.Asked.{Asked}
 use Rattle.rank_scores.specs.declared.candidate.Candidate.{Candidate}
 use Rattle.rank_scores.specs.Candidates.{candidates}
-use Rattle.rank_scores.specs.Order.{is_below}
+use Rattle.rank_scores.specs.Order.{bound_is_below}
 use Rattle.rank_scores.specs.Morsels.{morsels}
 use Rattle.rank_papers.specs.Certificate.{Entry, IsEntry, IsRightEntry, count_of}
 use Rattle.rank_head.specs.HeadTests.{same_score}
@@ -131,7 +131,7 @@ module _ (q : Asked) (c : Contents) (kth : Option ℤ) (rows : List Candidate) (
           named = same_id-is e.id s.id named;
           above = above_from e.bound (candidates q s) above;
           fits = can.0.bound;
-          passed_over = below_from e.skipped (is_below kth e.bound) h.1.1.0;
+          passed_over = below_from e.skipped (bound_is_below kth e.bound) h.1.1.0;
         },
         entries_right (n + 1) es ss (places_behind n s ss (morsels q c) there) (omega arith) can.1 h.1.1.1.1,
       )
@@ -181,7 +181,7 @@ module _ (q : Asked) (c : Contents) (kth : Option ℤ) (rows : List Candidate) (
         (
           ap (λ (o : Option Usable). option_map_or (is_above q e.bound) o true) here
               ∙ above_to e.bound (candidates q s) h.above,
-          (below_to e.skipped (is_below kth e.bound) h.passed_over, (counted, rest)),
+          (below_to e.skipped (bound_is_below kth e.bound) h.passed_over, (counted, rest)),
         ),
       )
 

@@ -22,7 +22,7 @@ use Rattle.ghcn_series.specs.Held.{IsContents}
 use Rattle.rank_query.specs.Asked.{Asked, IsAsked}
 use Rattle.rank_scores.specs.declared.candidate.Candidate.{Candidate}
 use Rattle.rank_scores.specs.Candidates.{candidates}
-use Rattle.rank_scores.specs.Order.{AreApart, is_below}
+use Rattle.rank_scores.specs.Order.{AreApart, bound_is_below}
 use Rattle.rank_scores.specs.Morsels.{all_candidates, morsels, best_of_query, kth_of_query}
 use Rattle.rank_papers.specs.Report.{Named, trimmed}
 use Rattle.rank_papers.specs.ReportLines.{Reported, SaysRightReport, name_of, read_report}
@@ -68,7 +68,7 @@ not_both : (a b c : ℤ) → int_lt b a ≡ true → a ≤ℤ c → c ≤ℤ b �
 not_both a b c e f g = grind (arith, ints)
 
 -- nothing that is within has a score of at most a bound below the k-th score
-below_out : (worst : Option Candidate) (bound : ℤ) (d : Candidate) → is_below (score_of worst) bound ≡ true
+below_out : (worst : Option Candidate) (bound : ℤ) (d : Candidate) → bound_is_below (score_of worst) bound ≡ true
     → is_within_worst worst d ≡ true → d.score ≤ℤ bound → ⊥
 below_out None bound d e w h = cc
 below_out (Some w) bound d e k h = not_both w.score bound d.score e (within_score w d k) h
@@ -143,7 +143,7 @@ module _ (q : Asked) (c : Contents) (right : IsContents c) (apart : AreApart (al
     none_skipped e u h r s row k i =
         let own = row_of_morsel u h row k i in
         below_out worst e.bound row.0
-        (subst (λ (o : Option ℤ). is_below o e.bound ≡ true) kth_is (r.passed_over s)) own.1
+        (subst (λ (o : Option ℤ). bound_is_below o e.bound ≡ true) kth_is (r.passed_over s)) own.1
         (of_one (λ d. d.score ≤ℤ e.bound) (candidates q u) row.0 r.above own.0)
 
     -- a list in which nothing is has no length
@@ -218,8 +218,8 @@ module _ (q : Asked) (c : Contents) (right : IsContents c) (apart : AreApart (al
                 (
                   above_to e.bound (candidates q u) r.above,
                   (
-                    below_to e.skipped (is_below (score_of worst) e.bound)
-                        (λ s. subst (λ (o : Option ℤ). is_below o e.bound ≡ true) kth_is (r.passed_over s)),
+                    below_to e.skipped (bound_is_below (score_of worst) e.bound)
+                        (λ s. subst (λ (o : Option ℤ). bound_is_below o e.bound ≡ true) kth_is (r.passed_over s)),
                     tt,
                   ),
                 ),

@@ -14,7 +14,7 @@ use Rattle.rank_query.specs.Asked.{Asked}
 use Rattle.rank_query.specs.Admits.{admits_station}
 use Rattle.rank_scores.specs.declared.candidate.Candidate.{Candidate}
 use Rattle.rank_scores.specs.Candidates.{candidates}
-use Rattle.rank_scores.specs.Order.{full_cmp, precedes, is_below}
+use Rattle.rank_scores.specs.Order.{full_cmp, precedes, bound_is_below}
 use Rattle.rank_scores.specs.Morsels.{has_admitted, IsAbove}
 use Rattle.rank_papers.specs.Report.{Named, trimmed}
 use Rattle.rank_papers.specs.Certificate.{Entry}
@@ -66,7 +66,7 @@ abbrev pub last_tests : Asked → Usable → Entry → List Candidate → Option
 last_tests q s e rows worst =
     (has_all q worst rows s, NotBest)
     ∷ (is_above q e.bound s, NoBound)
-    ∷ (not e.skipped || is_below (score_of worst) e.bound, NotBelow)
+    ∷ (not e.skipped || bound_is_below (score_of worst) e.bound, NotBelow)
     ∷ []
 
 -- the tests of a line with its count, of its station and series, and of the report's rows of the station, in their
@@ -78,7 +78,7 @@ piece_tests q st s e printed rows worst =
     ∷ (option_map_or (λ u. list_all (is_row_of q st u) rows) s true, NotACandidate)
     ∷ (option_map_or (has_all q worst (of_rows rows)) s true, NotBest)
     ∷ (option_map_or (is_above q e.bound) s true, NoBound)
-    ∷ (not e.skipped || is_below (score_of worst) e.bound, NotBelow)
+    ∷ (not e.skipped || bound_is_below (score_of worst) e.bound, NotBelow)
     ∷ []
 
 -- ---- a right line
@@ -97,4 +97,4 @@ pub record IsRightPiece (q : Asked) (st : Station) (s : Option Usable) (e : Entr
       Contains (of_rows rows) c ↔ (Contains (candidates q series) c × (is_within_worst worst c ≡ true))
   pub names : AllByRecursion (λ row. trimmed st.name ≡ row.1) rows
   pub above : IsAbove q series e.bound
-  pub passed_over : e.skipped ≡ true → is_below (score_of worst) e.bound ≡ true
+  pub passed_over : e.skipped ≡ true → bound_is_below (score_of worst) e.bound ≡ true

@@ -13,7 +13,7 @@ use Rattle.ghcn_series.specs.Series.{Usable, Contents}
 use Rattle.rank_query.specs.Asked.{Asked}
 use Rattle.rank_scores.specs.declared.candidate.Candidate.{Candidate}
 use Rattle.rank_scores.specs.Candidates.{candidates}
-use Rattle.rank_scores.specs.Order.{full_cmp, precedes, rank_in, is_below}
+use Rattle.rank_scores.specs.Order.{full_cmp, precedes, rank_in, bound_is_below}
 use Rattle.rank_scores.specs.Morsels.{all_candidates, morsels, kth_of_query}
 use Rattle.rank_papers.specs.Report.{Named, trimmed}
 use Rattle.rank_papers.specs.ReportLines.{Reported, read_report}
@@ -95,7 +95,7 @@ abbrev pub line_tests : Asked → Option ℤ → List Candidate → ℕ → Entr
 line_tests q kth rows number e count morsel =
     (option_map_or (λ s. same_id e.id s.id) morsel false, Refused Certificate number OtherSeries)
     ∷ (option_map_or (is_above q e.bound) morsel true, Refused Certificate number NoBound)
-    ∷ (not e.skipped || is_below kth e.bound, Refused Certificate number NotBelow)
+    ∷ (not e.skipped || bound_is_below kth e.bound, Refused Certificate number NotBelow)
     ∷ (is_counted rows e count, Refused Certificate number NotCounted)
     ∷ []
 

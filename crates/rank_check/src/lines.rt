@@ -8,7 +8,7 @@ ghost use Rattle.rank_check.specs.FoundFaults.{IsFaultOfLine, IsFaultOfLineAt, I
 use crate::survey::Top;
 use crate::verdict::{Paper, Verdict, Why};
 use rank_papers::Line;
-use rank_scores::is_below;
+use rank_scores::bound_is_below;
 
 /// The first test that a line fails, after the lines before it, if the certificate has this k-th
 /// score and these counts, and of the report's rows that many are of each line's station.
@@ -131,7 +131,7 @@ pub(crate) fn is_at_most(top: &Top, line: &Line) -> bool
 
 /// Whether a line isn't a skip, or a skip below the k-th score.
 pub(crate) fn may_stand(kth: Option<i64>, line: &Line) -> bool
-    ensures { result ≡ (not line.now.skipped || order.is_below kth line.now.bound) }
+    ensures { result ≡ (not line.now.skipped || order.bound_is_below kth line.now.bound) }
 {
-    !line.skipped || is_below(kth, line.bound)
+    !line.skipped || bound_is_below(kth, line.bound)
 }

@@ -14,7 +14,7 @@ use Rattle.ghcn_series.specs.Held.{IsContents}
 use Rattle.ghcn_series.proofs.ListFacts.{each-append}
 use Rattle.rank_query.specs.Asked.{Asked, IsAsked}
 use Rattle.rank_scores.specs.declared.candidate.Candidate.{Candidate}
-use Rattle.rank_scores.specs.Order.{is_below}
+use Rattle.rank_scores.specs.Order.{bound_is_below}
 use Rattle.rank_scores.specs.Cut.{IsSameFor, IsCut, series_first}
 use Rattle.rank_scores.specs.Morsels.{all_candidates, morsels, id_comes_first, best_of_query, kth_of_query}
 use Rattle.rank_scores.proofs.QueryCandidates.{all_apart}
@@ -123,15 +123,16 @@ module _ (q : Asked) where
 
     -- what is below the k-th score of a part is below that of the whole
     below_whole : (b : ℤ) (d : Contents) → IsContents d → above b (all_candidates q d) ≤ above b of_parts
-        → is_below (kth_of_query q d) b ≡ true → is_below (kth_of_query q c) b ≡ true
+        → bound_is_below (kth_of_query q d) b ≡ true → bound_is_below (kth_of_query q c) b ≡ true
     below_whole b d own fewer h =
         let some : 0 < q.k = some_asked q asked in
         let many : q.k ≤ above b (all_candidates q d) = (below_kth q.k b (all_candidates q d) some).0
-        (ap (λ (o : Option ℤ). is_below o b) (sym (kth_score-kth q.k (all_candidates q d) (all_apart q d own))) ∙ h) in
+        (ap (λ (o : Option ℤ). bound_is_below o b)
+        (sym (kth_score-kth q.k (all_candidates q d) (all_apart q d own))) ∙ h) in
         let moved : above b (all_candidates q c) ≡ above b of_parts =
         sum_by-IsPermutation (λ (x : Candidate). cond (int_lt b x.score) 1 0) of_parts (all_candidates q c)
         cut.candidates in
-        ap (λ (o : Option ℤ). is_below o b) (kth_score-kth q.k (all_candidates q c) (all_apart q c right))
+        ap (λ (o : Option ℤ). bound_is_below o b) (kth_score-kth q.k (all_candidates q c) (all_apart q c right))
         ∙ (below_kth q.k b (all_candidates q c) some).1 (omega (arith, many, fewer, moved))
 
     -- ---- lines

@@ -17,7 +17,7 @@ use Rattle.ghcn_series.proofs.ListFacts.{each-append}
 use Rattle.rank_query.specs.Asked.{Asked, IsAsked}
 use Rattle.rank_scores.specs.declared.candidate.Candidate.{Candidate}
 use Rattle.rank_scores.specs.Cut.{series_first}
-use Rattle.rank_scores.specs.Order.{precedes, is_below}
+use Rattle.rank_scores.specs.Order.{precedes, bound_is_below}
 use Rattle.rank_scores.specs.Morsels.{admitted_series, has_admitted, morsels, all_candidates, best_of_query}
 use Rattle.rank_scores.specs.Morsels.{kth_of_query}
 use Rattle.rank_scores.proofs.Ranks.{Descends}
@@ -48,7 +48,7 @@ not_above x y e =
 
 -- of one that precedes all of some, the score isn't below that of the one at a place
 first_above : (x : Candidate) (xs : List Candidate) (j : ℕ) → AllByRecursion (λ y. precedes x y ≡ true) xs
-    → is_below (option_map (λ c. c.score) (slice_get xs j)) x.score ≡ false
+    → bound_is_below (option_map (λ c. c.score) (slice_get xs j)) x.score ≡ false
 first_above x [] zero h = refl
 first_above x [] (suc j) h = refl
 first_above x (y ∷ xs) zero h = not_above x y h.0
@@ -56,7 +56,8 @@ first_above x (y ∷ xs) (suc j) h = first_above x xs j h.1
 
 -- so none of the first k scores below the k-th
 pub none_below : (xs : List Candidate) (j : ℕ) → Descends xs
-    → AllByRecursion (λ d. is_below (option_map (λ c. c.score) (slice_get xs j)) d.score ≡ false) (take (suc j) xs)
+    → AllByRecursion (λ d. bound_is_below (option_map (λ c. c.score) (slice_get xs j)) d.score ≡ false)
+    (take (suc j) xs)
 none_below [] j h = tt
 none_below (x ∷ xs) zero h = (grind (arith, ints), tt)
 none_below (x ∷ xs) (suc j) h = (first_above x xs j h.0, none_below xs j h.1)
@@ -123,7 +124,7 @@ each_scans front (e ∷ es) =
 -- ---- candidates of lines
 
 -- what is at most a number below the k-th score is below it
-below_kth : (k : Option ℤ) (a b : ℤ) → a ≤ℤ b → is_below k b ≡ true → is_below k a ≡ true
+below_kth : (k : Option ℤ) (a b : ℤ) → a ≤ℤ b → bound_is_below k b ≡ true → bound_is_below k a ≡ true
 below_kth None a b h e = absurd cc
 below_kth (Some s) a b h e = grind (arith, ints)
 
@@ -135,10 +136,10 @@ empty (x ∷ xs) e = absurd (grind arith)
 module _ (q : Asked) (k : Option ℤ) (all : List Entry) where
   -- a candidate is of a series that was scanned, or scores below the k-th
   abbrev IsSeen : Candidate → Type 0
-  IsSeen d = (is_scanned all d.id ≡ true) ⊎ (is_below k d.score ≡ true)
+  IsSeen d = (is_scanned all d.id ≡ true) ⊎ (bound_is_below k d.score ≡ true)
 
   -- so are those of some with an ID, where a line of it is right
-  seen_of : (e : Entry) (ds : List Candidate) → Scans all e → (e.skipped ≡ true → is_below k e.bound ≡ true)
+  seen_of : (e : Entry) (ds : List Candidate) → Scans all e → (e.skipped ≡ true → bound_is_below k e.bound ≡ true)
       → AllByRecursion (λ d. d.id ≡ e.id) ds → AllByRecursion (λ d. d.score ≤ℤ e.bound) ds → AllByRecursion IsSeen ds
   seen_of e [] scans passed own above = tt
   seen_of e (d ∷ ds) scans passed own above =
@@ -182,7 +183,7 @@ module _ (q : Asked) (k : Option ℤ) (all : List Entry) where
 
   -- a candidate that is seen and doesn't score below is of a series that was scanned
   scanned_unless_below : (rows : List Named) → AllByRecursion (λ d. IsSeen d) (of_rows rows)
-      → AllByRecursion (λ d. is_below k d.score ≡ false) (of_rows rows)
+      → AllByRecursion (λ d. bound_is_below k d.score ≡ false) (of_rows rows)
       → AllByRecursion (λ row. is_scanned all row.0.id ≡ true) rows
   scanned_unless_below [] h n = tt
   scanned_unless_below (row ∷ rows) h n = grind (arith, ints, scanned_unless_below rows h.1 n.1)
@@ -199,14 +200,14 @@ module _ (q : Asked) (c : Contents) (asked : IsAsked q) (right : IsContents c) w
   best_are = best-first q.k (all_candidates q c) (all_apart q c right)
 
   -- none of the best scores below the k-th
-  best_not_below : AllByRecursion (λ d. is_below (kth_of_query q c) d.score ≡ false) (best_of_query q c)
+  best_not_below : AllByRecursion (λ d. bound_is_below (kth_of_query q c) d.score ≡ false) (best_of_query q c)
   best_not_below =
-      subst (λ (o : Option ℤ). AllByRecursion (λ d. is_below o d.score ≡ false) (best_of_query q c))
+      subst (λ (o : Option ℤ). AllByRecursion (λ d. bound_is_below o d.score ≡ false) (best_of_query q c))
       (sym (kth_score-kth q.k (all_candidates q c) (all_apart q c right)))
-      (subst (AllByRecursion (λ d. is_below (kth q.k (all_candidates q c)) d.score ≡ false)) (sym best_are)
+      (subst (AllByRecursion (λ d. bound_is_below (kth q.k (all_candidates q c)) d.score ≡ false)) (sym best_are)
       (by q.k))
     where
-      by : (n : ℕ) → AllByRecursion (λ d. is_below (kth n (all_candidates q c)) d.score ≡ false)
+      by : (n : ℕ) → AllByRecursion (λ d. bound_is_below (kth n (all_candidates q c)) d.score ≡ false)
           (take n (in_order (all_candidates q c)))
       by zero = tt
       by (suc j) = none_below (in_order (all_candidates q c)) j all_descend
@@ -238,7 +239,8 @@ module _ (q : Asked) (c : Contents) (asked : IsAsked q) (right : IsContents c) w
     scanned = scanned_unless_below q (kth_of_query q c) z.entries r.rows
         (subst (AllByRecursion (IsSeen q (kth_of_query q c) z.entries)) (sym report.best)
         (best_seen z.entries certificate.entries))
-        (subst (AllByRecursion (λ d. is_below (kth_of_query q c) d.score ≡ false)) (sym report.best) best_not_below);
+        (subst (AllByRecursion (λ d. bound_is_below (kth_of_query q c) d.score ≡ false)) (sym report.best)
+        best_not_below);
     counts = certificate.counts
         ∙ ap (λ (l : List Candidate). counts_of z.version l z.entries) (sym report.best);
   }

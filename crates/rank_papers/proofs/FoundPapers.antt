@@ -13,7 +13,7 @@ use Rattle.rank_scores.specs.declared.candidate.Candidate.{Candidate}
 use Rattle.rank_scores.specs.Candidates.{admitted}
 use Rattle.rank_scores.specs.Morsels.{admitted_series, all_candidates, best_of_query, kth_of_query, morsels}
 use Rattle.rank_scores.specs.Morsels.{id_comes_first}
-use Rattle.rank_scores.specs.Order.{is_below}
+use Rattle.rank_scores.specs.Order.{bound_is_below}
 use Rattle.rank_scores.specs.OneElement.{data_for, SeriesStay}
 use Rattle.rank_scores.proofs.Exactly.{bounds}
 use Rattle.rank_scores.proofs.Rising.{all-filter, from_each}
@@ -33,14 +33,14 @@ use Rattle.rank_papers.proofs.SeriesOfQuery.{morsels_are, one_series}
 -- ---- what is found is right
 
 -- a number below a score that there may be is below one that there is
-below_some : (kth : Option ℤ) (b : ℤ) → is_below kth b ≡ true → (score : ℤ) × (kth ≡ Some score) × (b <ℤ score)
+below_some : (kth : Option ℤ) (b : ℤ) → bound_is_below kth b ≡ true → (score : ℤ) × (kth ≡ Some score) × (b <ℤ score)
 below_some None b e = absurd cc
 below_some (Some score) b e = (score, refl, grind (arith, ints))
 
 -- and the other way round
-some_below : (kth : Option ℤ) (b : ℤ) → (score : ℤ) × (kth ≡ Some score) × (b <ℤ score) → is_below kth b ≡ true
+some_below : (kth : Option ℤ) (b : ℤ) → (score : ℤ) × (kth ≡ Some score) × (b <ℤ score) → bound_is_below kth b ≡ true
 some_below kth b (score, is, low) =
-    let yes : int_lt b score ≡ true = grind (arith, ints) in ap (λ (k : Option ℤ). is_below k b) is ∙ yes
+    let yes : int_lt b score ≡ true = grind (arith, ints) in ap (λ (k : Option ℤ). bound_is_below k b) is ∙ yes
 
 -- the lines of entries, with how many of the best are of each
 abbrev lines_with : ℕ → List Candidate → List Entry → List ℕ

@@ -11,7 +11,7 @@ use Rattle.ghcn_series.specs.Series.{Usable, Contents}
 use Rattle.ghcn_series.specs.Held.{IsContents}
 use Rattle.rank_query.specs.Asked.{Asked, IsAsked}
 use Rattle.rank_scores.specs.Candidates.{candidates}
-use Rattle.rank_scores.specs.Order.{is_below}
+use Rattle.rank_scores.specs.Order.{bound_is_below}
 use Rattle.rank_scores.specs.Morsels.{admitted_series, has_admitted, morsels, id_comes_first, kth_of_query, IsAbove}
 use Rattle.rank_scores.proofs.QueryCandidates.{morsels_apart}
 use Rattle.rank_blocks.specs.Bounds.{bound}
@@ -78,7 +78,7 @@ pub record IsLineOf (q : Asked) (kth : Option ℤ) (l : Entry) (s : Usable) : Ty
   pub named : l.id ≡ s.id
   pub bounded : l.bound ≡ bound q s
   pub above : IsAbove q s l.bound
-  pub passed_over : l.skipped ≡ true → is_below kth l.bound ≡ true
+  pub passed_over : l.skipped ≡ true → bound_is_below kth l.bound ≡ true
 
 -- such lines, with bounds inside 64 bits, are right entries
 pub right_entries : (q : Asked) (kth : Option ℤ) (ls : List Entry) (ss : List Usable)
@@ -128,7 +128,7 @@ module _ (q : Asked) (c : Contents) (asked : IsAsked q) (right : IsContents c) (
       let IsAboveAll : Option Morsel → Type 0 = λ o.
       AllByRecursion (λ x. x.score ≤ℤ option_map_or (λ y. y.bound) o (pos 0))
       (option_map_or (λ y. candidates q y.series) o []) in
-      let IsLow : Option ℤ → Option Morsel → Type 0 = λ k o. is_below k (option_map_or (λ y. y.bound) o (pos 0)) ≡
+      let IsLow : Option ℤ → Option Morsel → Type 0 = λ k o. bound_is_below k (option_map_or (λ y. y.bound) o (pos 0)) ≡
       true in
       record {
         named = refl;

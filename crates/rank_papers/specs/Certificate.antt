@@ -9,7 +9,7 @@ use Rattle.ghcn_files.specs.Ids.{is_id, same_id}
 use Rattle.ghcn_series.specs.Series.{Usable, Contents}
 use Rattle.rank_query.specs.Asked.{Asked, IsAsked}
 use Rattle.rank_scores.specs.declared.candidate.Candidate.{Candidate}
-use Rattle.rank_scores.specs.Order.{is_below}
+use Rattle.rank_scores.specs.Order.{bound_is_below}
 use Rattle.rank_scores.specs.Morsels.{morsels, best_of_query, kth_of_query, IsAbove}
 use Rattle.rank_sched.specs.declared.line.Line.{Line}
 use Rattle.rank_papers.specs.declared.counted.Counted.{Counted}
@@ -111,7 +111,7 @@ pub record IsRightEntry (q : Asked) (kth : Option ℤ) (e : Entry) (s : Usable) 
   pub named : e.id ≡ s.id
   pub above : IsAbove q s e.bound
   pub fits : FitsSigned w64 e.bound
-  pub passed_over : e.skipped ≡ true → is_below kth e.bound ≡ true
+  pub passed_over : e.skipped ≡ true → bound_is_below kth e.bound ≡ true
 
 -- a right entry for each series of the query, by increasing ID
 abbrev pub AreRightEntries : Asked → Contents → List Entry → Type 0

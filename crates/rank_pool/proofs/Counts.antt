@@ -11,7 +11,7 @@ use Rattle.std.proofs.lemmas.List.Sorted.{sum_by-IsPermutation}
 use Rattle.std.proofs.lemmas.List.Sums.{sum_by-cons, sum_by-append}
 use Rattle.ghcn_files.proofs.Ordered.{sorted-permutation, each-weaker}
 use Rattle.rank_scores.specs.declared.candidate.Candidate.{Candidate}
-use Rattle.rank_scores.specs.Order.{is_below}
+use Rattle.rank_scores.specs.Order.{bound_is_below}
 use Rattle.rank_pool.specs.First.{comes_first, in_order, kth, above}
 use Rattle.rank_pool.proofs.Orders.{InTurn, in_order-turn}
 
@@ -86,7 +86,7 @@ score_at ys j = option_map (λ (c : Candidate). c.score) (slice_get ys j)
 
 -- where scores fall, the one at a place is above b exactly where more than that many are
 pub at_place : (b : ℤ) (ys : List Candidate) (j : ℕ) → ScoresFall ys
-    → (is_below (score_at ys j) b ≡ true) ↔ (j < above b ys)
+    → (bound_is_below (score_at ys j) b ≡ true) ↔ (j < above b ys)
 at_place b [] j d = (λ h. absurd cc, λ h. absurd (omega arith))
 at_place b (y ∷ ys) zero d =
     let more = above-cons b y ys in
@@ -99,7 +99,7 @@ at_place b (y ∷ ys) (suc j) d =
     (λ h. let many = rest.0 h in grind arith, λ h. rest.1 (grind arith))
 
 -- a number is strictly below the k-th score exactly where k candidates or more score above it
-pub below_kth : (k : ℕ) (b : ℤ) (xs : List Candidate) → 0 < k → (is_below (kth k xs) b ≡ true) ↔ (k ≤ above b xs)
+pub below_kth : (k : ℕ) (b : ℤ) (xs : List Candidate) → 0 < k → (bound_is_below (kth k xs) b ≡ true) ↔ (k ≤ above b xs)
 below_kth zero b xs some = absurd (omega arith)
 below_kth (suc j) b xs some =
     let at = at_place b (in_order xs) j (in_order-falls xs) in

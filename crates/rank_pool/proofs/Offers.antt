@@ -12,7 +12,7 @@ use Rattle.std.proofs.Math.Seq.{take-length}
 use Rattle.std.proofs.lemmas.List.{length-take, take_min}
 use Rattle.ghcn_fields.specs.Sorting.{placed}
 use Rattle.rank_scores.specs.declared.candidate.Candidate.{Candidate}
-use Rattle.rank_scores.specs.Order.{is_below}
+use Rattle.rank_scores.specs.Order.{bound_is_below}
 use Rattle.rank_pool.specs.First.{comes_first, in_order, first, kth, above}
 use Rattle.rank_pool.specs.Pools.{Pooled, IsPool, HoldsFirst, taken, last_score}
 use Rattle.rank_pool.proofs.Orders.{InTurn, in_order-turn}
@@ -52,7 +52,8 @@ still_pool p x new h e =
 pub falls_out : (p : Pooled) (x : Candidate) (s : ℤ) → IsPool p → last_score p ≡ Some s → int_lt x.score s ≡ true
     → p ≡ taken p x
 falls_out p x s pool last low =
-    let below : is_below (last_score p) x.score ≡ true = ap (λ (o : Option ℤ). is_below o x.score) last ∙ low in
+    let below : bound_is_below (last_score p) x.score ≡ true =
+    ap (λ (o : Option ℤ). bound_is_below o x.score) last ∙ low in
     let fall : ScoresFall p.held = falls p.held (subst InTurn pool.order (in_order-turn p.held)) in
     let many : p.size - 1 < above x.score p.held = (at_place x.score p.held (p.size - 1) fall).0 below in
     ap (λ (l : List Candidate). record { size = p.size; held = l })

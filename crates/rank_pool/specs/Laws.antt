@@ -3,7 +3,7 @@ use Rattle.std.specs.Prelude.{◌≡◌, ◌↔◌, ℕ, ◌<◌, ◌≤◌, tru
 use Rattle.std.specs.List.{AllByRecursion}
 use Rattle.std.specs.List.Sorted.{IsPermutation}
 use Rattle.rank_scores.specs.declared.candidate.Candidate.{Candidate}
-use Rattle.rank_scores.specs.Order.{AreApart, best, kth_score, is_below}
+use Rattle.rank_scores.specs.Order.{AreApart, best, kth_score, bound_is_below}
 use Rattle.rank_pool.specs.First.{in_order, first, kth, above}
 use Rattle.rank_pool.specs.Pools.{Pooled, taken, last_score, HoldsFirst}
 
@@ -51,7 +51,7 @@ LowStayOut = (k : ℕ) (b : ℤ) (xs ys : List Candidate) → k ≤ above b xs �
 
 -- a number is strictly below the k-th score if and only if k candidates or more score above it
 abbrev pub BelowKth : Type 0
-BelowKth = (k : ℕ) (b : ℤ) (xs : List Candidate) → 0 < k → (is_below (kth k xs) b ≡ true) ↔ (k ≤ above b xs)
+BelowKth = (k : ℕ) (b : ℤ) (xs : List Candidate) → 0 < k → (bound_is_below (kth k xs) b ≡ true) ↔ (k ≤ above b xs)
 
 -- of candidates that are apart, the best by rank are the first in order
 abbrev pub BestAreFirst : Type 0

@@ -10,7 +10,7 @@ use Rattle.std.proofs.lemmas.List.Elements.{All-head, All-tail}
 use Rattle.ghcn_fields.specs.Counting.{HasEachBelow}
 use Rattle.ghcn_fields.proofs.CountingLaws.{all_below}
 use Rattle.rank_scores.specs.declared.candidate.Candidate.{Candidate}
-use Rattle.rank_scores.specs.Order.{is_below, best}
+use Rattle.rank_scores.specs.Order.{bound_is_below, best}
 use Rattle.rank_pool.specs.Pools.{Pooled, empty_pool, taken, HoldsFirst, last_score}
 use Rattle.rank_pool.proofs.Places.{size-fold, holds-fold}
 use Rattle.rank_pool.proofs.Ranked.{best-first}
@@ -151,7 +151,7 @@ read_there t rs i n marks pool read marked low at is h = grind (arith, get_or_re
 -- what the pool says of the morsel
 pub told : (t : Task) (rs : List Record) (i n : ℕ) (marks : List Bool) (pool : Pooled) (marked just : Bool) → IsFair t
     → HasEachBelow t.len (morsels_of rs) → IsRead t rs i n marks pool marked
-    → just ≡ is_below (last_score pool) (t.bound i) → just ≡ is_justified t rs i
+    → just ≡ bound_is_below (last_score pool) (t.bound i) → just ≡ is_justified t rs i
 told t rs i n marks pool marked just fair once h e = grind (arith, last_is_kth, decides)
 
 -- the morsel wasn't skipped

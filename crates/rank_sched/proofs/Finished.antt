@@ -9,7 +9,7 @@ use Rattle.std.proofs.lemmas.List.Elements.{All-head, All-tail}
 use Rattle.ghcn_fields.specs.Counting.{times, times_below, HasEachBelow}
 use Rattle.ghcn_fields.proofs.CountingLaws.{one_if_equal-equal, one_if_equal-apart, times_below-suc, times_below-yes, all_below, length-each_below, times-append}
 use Rattle.rank_scores.specs.declared.candidate.Candidate.{Candidate}
-use Rattle.rank_scores.specs.Order.{is_below}
+use Rattle.rank_scores.specs.Order.{bound_is_below}
 use Rattle.rank_pool.specs.First.{first, kth, above}
 use Rattle.rank_pool.proofs.Counts.{below_kth}
 use Rattle.rank_pool.proofs.Places.{in_order-append_comm, first-first_left}
@@ -192,7 +192,7 @@ module _ (t : Task) (rs : List Record) (fair : IsFair t) (once : HasEachBelow t.
   best_there = search (rules, back_agrees, known_all, all_below, each_alike)
 
   -- the k-th score of what was scanned and taken back so far says whether the next skip stays
-  pub decides : (n : ℕ) → is_below (kth t.k (scanned t rs ++ back_below t rs n)) (t.bound n) ≡ is_justified t rs n
+  pub decides : (n : ℕ) → bound_is_below (kth t.k (scanned t rs ++ back_below t rs n)) (t.bound n) ≡ is_justified t rs n
   decides n = cc (
     last_is_kth t.k (scanned t rs ++ back_below t rs n) fair.some,
     back_agrees n,

@@ -8,7 +8,7 @@ use Rattle.std.proofs.lemmas.Int.{ints}
 use Rattle.std.proofs.lemmas.List.Elements.{All-nil, All-head, All-append, All-weaker, All-contains}
 use Rattle.ghcn_fields.specs.Floor.{IsGuessOrRaised}
 use Rattle.rank_scores.specs.declared.candidate.Candidate.{Candidate}
-use Rattle.rank_scores.specs.Order.{is_below}
+use Rattle.rank_scores.specs.Order.{bound_is_below}
 use Rattle.rank_pool.specs.First.{kth, above}
 use Rattle.rank_pool.proofs.Counts.{above-append, below_kth}
 use Rattle.rank_sched.specs.declared.record.Record.{Record}
@@ -32,7 +32,7 @@ more_reached : (t : Task) (xs ys : List Candidate) (z : ℤ) → ((b : ℤ) → 
 more_reached t xs ys z le h b lt = omega (arith, le b, h b lt)
 
 -- a score, if there is one, is reached where k candidates score above each number below it
-one_reached : (t : Task) (xs : List Candidate) (o : Option ℤ) → ((b : ℤ) → is_below o b ≡ true → t.k ≤ above b xs)
+one_reached : (t : Task) (xs : List Candidate) (o : Option ℤ) → ((b : ℤ) → bound_is_below o b ≡ true → t.k ≤ above b xs)
     → All (IsReached t xs) (option_to_list o)
 one_reached t xs None h = All-nil (IsReached t xs)
 one_reached t xs (Some z) h = search rules
@@ -146,7 +146,7 @@ only_scanned t c [] a = refl
 only_scanned t c (r ∷ rs) a = grind (arith, common_steps, only_scanned t c rs a.1)
 
 -- a bound below a floor that is at most the guess is below the guess
-under_guess : (g b : ℤ) (o : Option ℤ) → IfSome o (λ s. s ≤ℤ g) → is_below o b ≡ true → b ≤ℤ (g -ℤ pos 1)
+under_guess : (g b : ℤ) (o : Option ℤ) → IfSome o (λ s. s ≤ℤ g) → bound_is_below o b ≡ true → b ≤ℤ (g -ℤ pos 1)
 under_guess g b o h e = grind (arith, ints)
 
 -- what is below the guess is at most the guess less one
@@ -154,7 +154,7 @@ lt_less : (b g : ℤ) → int_lt b g ≡ true → b ≤ℤ (g -ℤ pos 1)
 lt_less b g e = omega (arith, ints)
 
 -- a low guess less one is below the k-th score
-fits_below : (g : ℤ) (o : Option ℤ) → IsSomeAnd o (λ s. g ≤ℤ s) → is_below o (g -ℤ pos 1) ≡ true
+fits_below : (g : ℤ) (o : Option ℤ) → IsSomeAnd o (λ s. g ≤ℤ s) → bound_is_below o (g -ℤ pos 1) ≡ true
 fits_below g o h = grind (arith, ints)
 
 -- what is below the guess is below a floor that is at least the guess

@@ -3,7 +3,7 @@ use Rattle.std.specs.Prelude.{◌≡◌, ℕ, if◌then◌else◌, List, [], ◌
 use Rattle.std.specs.List.{flat_map}
 use Rattle.ghcn_fields.specs.Floor.{IsAtLeast}
 use Rattle.rank_scores.specs.declared.candidate.Candidate.{Candidate}
-use Rattle.rank_scores.specs.Order.{is_below}
+use Rattle.rank_scores.specs.Order.{bound_is_below}
 use Rattle.rank_pool.specs.First.{first, kth}
 use Rattle.rank_pool.specs.Pools.{Pooled}
 use Rattle.rank_sched.specs.declared.record.Record.{Record}
@@ -31,7 +31,7 @@ pool_of t rs = best_pool t.k (scanned t rs)
 
 -- a record skips its morsel if and only if the floor that was seen is a score, and the bound is strictly below it
 abbrev pub IsRightSkip : Task → Record → Type 0
-IsRightSkip t r = r.skipped ≡ is_below r.seen (t.bound r.morsel)
+IsRightSkip t r = r.skipped ≡ bound_is_below r.seen (t.bound r.morsel)
 
 -- one turn: the floor that was seen, and the score that was raised
 pub record Exchange : Type 0 where

@@ -8,7 +8,7 @@ use Rattle.ghcn_series.specs.Series.{Contents}
 use Rattle.ghcn_series.specs.Held.{IsContents}
 use Rattle.rank_query.specs.Asked.{Asked, IsAsked}
 use Rattle.rank_scores.specs.declared.candidate.Candidate.{Candidate}
-use Rattle.rank_scores.specs.Order.{is_below}
+use Rattle.rank_scores.specs.Order.{bound_is_below}
 use Rattle.rank_scores.specs.Morsels.{best_of_query, kth_of_query}
 use Rattle.rank_pool.specs.First.{first, above, kth}
 use Rattle.rank_sched.specs.declared.record.Record.{Record}
@@ -184,7 +184,7 @@ NoHauls = (t : Task) → AreSound t [] ↔ (t.len ≡ 0)
 -- a skip that stays has its bound strictly below the k-th score of all candidates
 abbrev pub SkipsAreRight : Type 0
 SkipsAreRight = (t : Task) (hs : List Haul) (m : ℕ) → IsFair t → AreSound t hs → stays t (all_records hs) m ≡ true
-    → is_below (kth t.k (all_of_task t)) (t.bound m) ≡ true
+    → bound_is_below (kth t.k (all_of_task t)) (t.bound m) ≡ true
 
 -- a guess that is at most the k-th score of all candidates
 abbrev pub IsLowGuess : Task → Option ℤ → Type 0
@@ -203,8 +203,8 @@ BestAreThere = (t : Task) (hs : List Haul) → IsFair t → AreSound t hs
 -- and the pool of what was scanned and undone before a morsel says whether its skip stays
 abbrev pub PoolDecides : Type 0
 PoolDecides = (t : Task) (hs : List Haul) (n : ℕ) → IsFair t → AreSound t hs
-    → is_below (kth t.k (scanned t (all_records hs) ++ back_below t (all_records hs) n)) (t.bound n) ≡ is_justified t
-    (all_records hs) n
+    → bound_is_below (kth t.k (scanned t (all_records hs) ++ back_below t (all_records hs) n)) (t.bound n)
+    ≡ is_justified t (all_records hs) n
 
 -- if a skip stays, every skip of a later number stays
 abbrev pub SkipsStayOnwards : Type 0

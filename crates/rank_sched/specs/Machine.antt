@@ -5,7 +5,7 @@ use Rattle.std.specs.List.{list_all}
 use Rattle.std.specs.Option.{option_map_or}
 use Rattle.std.specs.Int.{int_max}
 use Rattle.ghcn_fields.specs.Faults.{first_failing}
-use Rattle.rank_scores.specs.Order.{is_below}
+use Rattle.rank_scores.specs.Order.{bound_is_below}
 use Rattle.rank_pool.specs.Pools.{Pooled, empty_pool, taken, last_score}
 use Rattle.rank_sched.specs.declared.record.Record.{Record}
 use Rattle.rank_sched.specs.declared.event.Event.{Event}
@@ -70,7 +70,7 @@ drawn t n = if nat_lt n t.len then Claimed n else Stopped n
 
 -- what a worker writes down that saw this floor before this morsel
 abbrev pub record_of : Task → ℕ → ℕ → Option ℤ → Record
-record_of t w m seen = record { morsel = m; worker = w; seen = seen; skipped = is_below seen (t.bound m) }
+record_of t w m seen = record { morsel = m; worker = w; seen = seen; skipped = bound_is_below seen (t.bound m) }
 
 -- the greater of two floors; none is the least
 abbrev pub greater_floor : Option ℤ → Option ℤ → Option ℤ

@@ -3,7 +3,7 @@ use Rattle.std.specs.Prelude.{ℕ, zero, suc, Bool, ◌&&◌, ◌||◌, not, ◌
 use Rattle.std.specs.Prelude.{count_by}
 use Rattle.std.specs.List.{flat_map, list_any}
 use Rattle.rank_scores.specs.declared.candidate.Candidate.{Candidate}
-use Rattle.rank_scores.specs.Order.{is_below}
+use Rattle.rank_scores.specs.Order.{bound_is_below}
 use Rattle.rank_pool.specs.First.{kth}
 use Rattle.rank_sched.specs.declared.record.Record.{Record}
 use Rattle.rank_sched.specs.Task.{Task}
@@ -18,7 +18,7 @@ known_before t rs m = flat_map (known_for t m) rs
 
 -- these have a k-th score, and the bound of the morsel m is strictly below it
 abbrev pub is_justified : Task → List Record → ℕ → Bool
-is_justified t rs m = is_below (kth t.k (known_before t rs m)) (t.bound m)
+is_justified t rs m = bound_is_below (kth t.k (known_before t rs m)) (t.bound m)
 
 -- the morsel was skipped in the run
 abbrev pub was_skipped : List Record → ℕ → Bool

@@ -14,7 +14,7 @@ ghost use Rattle.rank_sched.specs.Task.{task_of};
 use crate::{Answer, Haul, Line, Plan, Record};
 use ghcn_fields::Memory;
 use rank_pool::Pool;
-use rank_scores::is_below;
+use rank_scores::bound_is_below;
 use std::alloc::Global;
 
 /// The answer of a run whose workers brought these hauls home.
@@ -82,9 +82,9 @@ fn take_back(
 
 /// Whether the bound of a morsel is strictly below the k-th score of a pool.
 fn is_justified(plan: &Plan<'_>, pool: &Pool, morsel: u64) -> bool
-    ensures { result ≡ order.is_below (last_score pool.now) ((task_of plan.now).bound morsel) }
+    ensures { result ≡ order.bound_is_below (last_score pool.now) ((task_of plan.now).bound morsel) }
 {
-    is_below(pool.kth(), plan.bound(morsel).unwrap_or(0))
+    bound_is_below(pool.kth(), plan.bound(morsel).unwrap_or(0))
 }
 
 /// A mark for each of that many morsels: whether a record skips it.

@@ -5,7 +5,7 @@ ghost use Rattle.rank_sched.specs.Machine as machine;
 ghost use Rattle.rank_sched.specs.Task.{task_of};
 
 use crate::Plan;
-use rank_scores::is_below;
+use rank_scores::bound_is_below;
 
 /// What one worker did with one morsel: the floor that it saw, and whether it passed the morsel
 /// over.
@@ -25,6 +25,6 @@ pub fn record_of(plan: &Plan<'_>, worker: u64, morsel: u64, seen: Option<i64>) -
         morsel,
         worker,
         seen,
-        skipped: is_below(seen, plan.bound(morsel).unwrap_or(0)),
+        skipped: bound_is_below(seen, plan.bound(morsel).unwrap_or(0)),
     }
 }

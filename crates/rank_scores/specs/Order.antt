@@ -39,9 +39,9 @@ kth_score zero all = None
 kth_score (suc rank) all = option_map (λ c. c.score) (of_rank all rank)
 
 -- there is a score, and the number is strictly below it
-abbrev pub is_below : Option ℤ → ℤ → Bool
-is_below None b = false
-is_below (Some score) b = int_lt b score
+abbrev pub bound_is_below : Option ℤ → ℤ → Bool
+bound_is_below None b = false
+bound_is_below (Some score) b = int_lt b score
 
 -- two candidates are of one station and begin on one day
 abbrev pub begin_alike : Candidate → Candidate → Bool

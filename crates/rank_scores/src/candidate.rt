@@ -67,8 +67,8 @@ pub fn precedes(a: &Candidate, b: &Candidate) -> bool
 
 /// Whether there is a score, and the bound is strictly below it.
 #[inline]
-pub fn is_below(score: Option<i64>, bound: i64) -> bool
-    ensures { result ≡ order.is_below score bound }
+pub fn bound_is_below(score: Option<i64>, bound: i64) -> bool
+    ensures { result ≡ order.bound_is_below score bound }
 {
     match score {
         Some(score) => bound < score,

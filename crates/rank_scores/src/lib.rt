@@ -18,7 +18,7 @@ mod window;
 
 pub use admitted::has_admitted_day;
 pub use best::best_first;
-pub use candidate::{Candidate, is_below, precedes};
+pub use candidate::{Candidate, bound_is_below, precedes};
 pub use floor::FloorSink;
 pub use laws::{
     candidates_of_queries, candidates_of_series, files_in_parts, one_element_is_enough,

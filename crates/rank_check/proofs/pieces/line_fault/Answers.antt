@@ -1,7 +1,7 @@
 use Rattle.std.proofs.Common.{◌≡◌, refl, List, Option, true, false, not, sym, ap, ◌∙◌, ℤ, ◌||◌}
 use Rattle.std.specs.Option.{option_copied}
 use Rattle.rank_scores.specs.declared.candidate.Candidate.{Candidate}
-use Rattle.rank_scores.specs.Order.{is_below}
+use Rattle.rank_scores.specs.Order.{bound_is_below}
 use Rattle.rank_check.specs.Survey.{candidates_of}
 use Rattle.rank_check.specs.Pieces.{has_all}
 use Rattle.rank_check.proofs.Failing.{is_low}
@@ -33,7 +33,7 @@ returns-then-not-may_stand c =
     c.args.series.now)) (sym c.copied.ensures) ∙ sym c.reach-found.ensures.left_out ∙ c.if-found.false) in
     let above = ap (is_low c.args.line.now.bound) (sym c.reach-found.ensures.highest) ∙ sym c.is_at_most.ensures
     ∙ c.if-not-is_at_most.false in
-    let low = ap (λ (o : Option ℤ). not c.args.line.now.skipped || is_below o c.args.line.now.bound)
+    let low = ap (λ (o : Option ℤ). not c.args.line.now.skipped || bound_is_below o c.args.line.now.bound)
     (sym c.score_of.ensures) ∙ sym c.may_stand.ensures ∙ c.if-not-may_stand.true in
     sym (last-by c.args.query.now c.args.series.now c.args.line.now rows worst true true false all above low)
 
@@ -48,6 +48,6 @@ returns c =
     c.args.series.now)) (sym c.copied.ensures) ∙ sym c.reach-found.ensures.left_out ∙ c.if-found.false) in
     let above = ap (is_low c.args.line.now.bound) (sym c.reach-found.ensures.highest) ∙ sym c.is_at_most.ensures
     ∙ c.if-not-is_at_most.false in
-    let low = ap (λ (o : Option ℤ). not c.args.line.now.skipped || is_below o c.args.line.now.bound)
+    let low = ap (λ (o : Option ℤ). not c.args.line.now.skipped || bound_is_below o c.args.line.now.bound)
     (sym c.score_of.ensures) ∙ sym c.may_stand.ensures ∙ c.if-not-may_stand.false in
     sym (last-by c.args.query.now c.args.series.now c.args.line.now rows worst true true true all above low)
