@@ -107,7 +107,7 @@ fn program<'a>(alloc: Global) -> Result<clap::Command<'a>, AllocError>
     ensures local { IfOk result (λ c. (fields_of c).has_globals ≡ false) }
 {
     clap::Command::new(alloc, "extremes")
-        .about("The k best records of GHCN-Daily files; without words, of a sample")
+        .about("Finds the k best records of GHCN-Daily files; without arguments, of a sample")
         .version(VERSION)
         .override_usage(USAGE)
         .after_help(HELP)
@@ -143,7 +143,7 @@ fn merge_words<'a>(alloc: Global) -> Result<clap::Command<'a>, AllocError>
     ensures local { IfOk result (λ c. (fields_of c).has_globals ≡ false) }
 {
     clap::Command::new(alloc, "merge")
-        .about("Makes the papers of all files out of the papers of parts")
+        .about("Makes the report and the certificate of an archive from those of its parts")
         .override_usage(MERGE_USAGE)
         .after_help(MERGE_HELP)
         .arg(needed(alloc, "query", "QUERY", QUERY_HELP))?
@@ -157,7 +157,7 @@ fn check_words<'a>(alloc: Global) -> Result<clap::Command<'a>, AllocError>
     ensures local { IfOk result (λ c. (fields_of c).has_globals ≡ false) }
 {
     clap::Command::new(alloc, "check")
-        .about("Judges a report and a certificate, whoever made them")
+        .about("Checks a report and a certificate, whatever program made them")
         .after_help(CHECK_HELP)
         .arg(needed(alloc, "stations", "FILE", STATIONS_HELP))?
         .arg(needed(alloc, "query", "QUERY", QUERY_HELP))?
@@ -173,7 +173,7 @@ fn describe_words<'a>(alloc: Global) -> Result<clap::Command<'a>, AllocError>
     ensures local { IfOk result (λ c. (fields_of c).has_globals ≡ false) }
 {
     clap::Command::new(alloc, "describe")
-        .about("Prints what daily files hold, in numbers")
+        .about("Counts what daily files hold")
         .after_help(DESCRIBE_HELP)
         .arg(needed(alloc, "stations", "FILE", STATIONS_HELP))?
         .arg(many(alloc, "files", "FILE", FILES_HELP))

@@ -206,7 +206,7 @@ fn no_words<R: Eprint>(rt: &R, error: &io::Error) -> Ending {
     if error.kind() == io::ErrorKind::OutOfMemory {
         return refused(rt, Fault::Memory(Memory));
     }
-    let _ = eprintln!(rt; "a word of the command line is no UTF-8 text");
+    let _ = eprintln!(rt; "an argument isn't UTF-8 text");
     Ending::Words
 }
 

@@ -195,8 +195,7 @@ fn shown(alloc: Global, words: &[&str]) -> Result<String, Fail> {
 
 #[test]
 fn texts_of_words(rt: HostRuntime) -> Result<(), Fail> {
-    let odd =
-        "error: the papers stand in pairs, a report and its certificate, and the last is alone\n";
+    let odd = "error: each report is followed by its certificate, and the last one has none\n";
     let cases: [(&[&str], &str); 7] = [
         (&["merge", "--query=q", "r"], odd),
         (&["merge", "r", "c", "s", "--query=q"], odd),
@@ -208,7 +207,7 @@ fn texts_of_words(rt: HostRuntime) -> Result<(), Fail> {
             &["check"],
             "check --stations <FILE> --query <QUERY> --report <FILE>",
         ),
-        (&["--help"], "'extremes rank --help' has the queries"),
+        (&["--help"], "'extremes rank --help' describes queries"),
         (&["--query", "top 1 dry"], "\n       extremes rank --help\n"),
         (&["top"], "\n       extremes rank --help\n"),
     ];
