@@ -10,8 +10,8 @@ from itertools import product
 from pathlib import Path
 
 ROOT = Path(__file__).resolve().parent.parent
-# Types that are printed, and are neither errors nor verdicts: the code of an element, and a query's canonical text.
-OTHERS = {"Element", "Query"}
+# Types that are printed, and are neither errors nor verdicts: an element's code, a query's canonical text, and an ID.
+OTHERS = {"Element", "Query", "Printed"}
 # What a command prints besides messages: types, or variants of them.
 PRINTED = {
     "rank": ("Fault",), "describe": ("Fault",), "merge": ("MergingFault",),
@@ -23,7 +23,8 @@ ATTRIBUTE = re.compile(r'#\[error\((?:(transparent)|"((?:[^"\\]|\\.)*)"[^\n]*)\)
 DISPLAY = re.compile(r"^impl(?:<[^{]*?>)? (?:\w+::)*Display for (\w+)[^{]*\{$(.*?)^\}$", re.S | re.M)
 # What is printed as it stands here, and what is shown in place of the command line parser's own texts.
 MESSAGE = re.compile(r'\beprint(?:ln)?!\(\w+;\s*"((?:[^"\\]|\\.)*)"|"(error: [^"\n]*)')
-ITEM = re.compile(r"^(?=#\[test\]|(?:pub(?:\(crate\))? )?(?:const|static|fn|struct|enum|impl|type|trait|use|mod)\b)", re.M)
+ITEM = re.compile(r"^(?=#\[test\]|(?:pub(?:\(crate\))? )?"
+                  r"(?:const|static|fn|struct|enum|impl|type|trait|use|mod)\b)", re.M)
 
 
 class Text:
@@ -53,14 +54,15 @@ def literals(text):
 
 def fields(text, owner):
     """Of each variant of an enum, or of a struct under no name, the types of its fields by name or place."""
-    found = re.search(rf"\b(enum|struct) {owner}\b[^{{;(]*(?:\{{(.*?)\n\}}|\(([^)]*)\))", text, re.S)
+    found = re.search(rf"\b(enum|struct) {owner}\b[^{{;(]*(\{{.*?\n\}}|\([^)]*\))", text, re.S)
     if not found:
         return {}
-    body = re.sub(r"//[^\n]*|#\[[^\n]*?\]", "", found[2] or found[3] or "")
-    pieces = re.findall(r"(\w+)\s*(\([^)]*\)|\{[^}]*\})?\s*(?:,|$)", body) if found[1] == "enum" else [("", f"{{{body}}}")]
-    return {name: dict(re.findall(r"(\w+): *([\w:]+)", rest) if rest.startswith("{") else
-                       ((str(at), it.strip()) for at, it in enumerate(rest.strip("()").split(","))))
-            for name, rest in pieces}
+    body, types = re.sub(r"//[^\n]*|#\[[^\n]*?\]", "", found[2]), {}
+    variants = re.findall(r"(\w+)\s*(\([^)]*\)|\{[^}]*\})?\s*(?:,|\n\})", body)
+    for name, rest in variants if found[1] == "enum" else [("", body)]:
+        types[name] = dict(re.findall(r"(\w+): *([\w:]+)", rest) if rest.startswith("{") else
+                           ((str(at), it.strip()) for at, it in enumerate(rest.strip("()").split(","))))
+    return types
 
 
 def derived(crate, text, whole):
@@ -68,8 +70,8 @@ def derived(crate, text, whole):
     for found in ATTRIBUTE.finditer(text):
         alone, template, struct, name = found.groups()
         owner = name if struct else re.findall(r"\benum (\w+)", text[:found.start()])[-1]
-        variant = "" if struct else name
-        yield Text(crate, owner, variant, "{0}" if alone else unescaped(template), fields(whole, owner).get(variant, {}))
+        variant, template = "" if struct else name, "{0}" if alone else unescaped(template)
+        yield Text(crate, owner, variant, template, fields(whole, owner).get(variant, {}))
 
 
 def bound(names, types):
@@ -80,20 +82,22 @@ def bound(names, types):
     return {other or name: types.get(name, "") for name, _, other in pairs}
 
 
+def template_of(arm):
+    """What an arm writes: its literals, else the name that it prints, else nothing."""
+    printed = re.search(r"\b(\w+)\.fmt\(f\)", arm)
+    return "".join(literals(arm)) or (f"{{{printed[1]}}}" if printed else "")
+
+
 def written(crate, text, whole):
     """The texts of a file that an `impl Display` writes, variant by variant."""
     for owner, body in DISPLAY.findall(text):
         clause = re.search(r"ghost output = \{.*?Some \(?(\w+).*?\};", body, re.S)
-        clause = clause and clause[1]
         code, types = body.partition("fn fmt")[2], fields(whole, owner)
         arms = re.split(rf"\b(?:Self|{owner})::(\w+)\s*(\([^)]*\)|\{{[^}}]*\}})?\s*=>", code)
-        if len(arms) == 1:
-            arms = ["", "", None, code]
+        arms = arms if len(arms) > 1 else ["", "", None, code]
         for variant, names, arm in zip(arms[1::3], arms[2::3], arms[3::3]):
-            template = "".join(literals(arm))
-            if template and owner not in OTHERS:
-                its = bound(names, types.get(variant, {}))
-                yield Text(crate, owner, variant, template, its, clause)
+            its = bound(names, types.get(variant, {}))
+            yield Text(crate, owner, variant, template_of(arm), its, clause and clause[1])
 
 
 def texts(crates):
@@ -105,9 +109,9 @@ def texts(crates):
         for file in files:
             text = file.read_text()
             found += [*derived(crate, text, whole), *written(crate, text, whole)]
-            found += [Text(crate, "", "", it, {}) for it in map(unescaped, map("".join, MESSAGE.findall(text)))
-                      if re.search(r"\w", re.sub(r"\{\w*\}", "", it))]
-    return found
+            messages = (unescaped("".join(it)) for it in MESSAGE.findall(text))
+            found += [Text(crate, "", "", it, {}) for it in messages if re.search(r"\w", re.sub(r"\{\w*\}", "", it))]
+    return [it for it in found if it.owner not in OTHERS]
 
 
 def shapes(text, by_type):
@@ -173,13 +177,13 @@ def expected(text):
 
 
 def is_about(text, file, owner, variant):
-    """Whether a test speaks of a text: it names the variant, and it or its file's imports name the type."""
+    """Whether a test is about a text: it names the variant, and it or the imports of its file name the type."""
     return bool(re.search(rf"\b{variant or owner}\b", text) and
                 (re.search(rf"\b{owner}\b", text) or re.search(rf"\b{owner}::\{{", file)))
 
 
 def of_a_test(text, file, line, printers, answers):
-    """The texts that a test's line holds: those that it speaks of, else those that a call of the test answers."""
+    """The texts that a test's line holds: those that the test is about, otherwise those that a call of it returns."""
     ways = [uses for it in printers for uses in it.of(line)]
     called = set().union(*(answers.get(it, ()) for it in re.findall(r"\b(\w+)\(", text)))
     return ([it for it in ways if is_about(text, file, it[0].owner, it[0].variant)] or
@@ -221,7 +225,7 @@ def printers_of(by_type):
 
 
 def hold_by_examples(printers, messages):
-    """Notes the examples that hold texts. Answers the lines of examples that are no text."""
+    """Notes the examples that hold texts. Returns what is wrong: lines of examples that are no text."""
     unknown = []
     for folder in sorted(it for it in (ROOT / "examples/cases").iterdir() if (it / "command").exists()):
         roots = {it for one in commands((folder / "command").read_text()) for it in PRINTED[one]}
@@ -238,7 +242,7 @@ def hold_by_scripts(printers, messages):
     """Notes the scripts that hold texts: `run`, which expects messages, and `refuse`, which lets each command that it
     names run out of memory."""
     run, refuse = ((ROOT / "examples" / it).read_text() for it in ("run", "refuse"))
-    for name, line in re.findall(r"^ *told '([^']+)' \d+ '([^']+)'", run, re.M):
+    for name, _, line in re.findall(r"""^ *told '([^']+)' \d+ (['"])(.+)\2$""", run, re.M):
         for uses in messages.of(line):
             hold(uses, f"examples/run '{name}'")
     line = re.search(r'^MEMORY = re.compile\(rb"([^"\\]*)\\n"\)', refuse, re.M)
@@ -250,8 +254,8 @@ def hold_by_scripts(printers, messages):
 
 
 def held(crates, answers):
-    """All texts, each with what holds it, and what is wrong with them. Of each function the words of the type that it
-    answers are given."""
+    """All texts, each with what holds it, and what is wrong with them. `answers` has the words of the type that each
+    function returns."""
     found = texts(crates)
     by_type = {name: [it for it in found if it.owner == name] for name in {it.owner for it in found} - {""}}
     messages, printers = Printer([it for it in found if not it.owner], by_type), printers_of(by_type)
@@ -261,6 +265,7 @@ def held(crates, answers):
     faults = hold_by_examples(printers, messages)
     hold_by_scripts(printers, messages)
     faults += [f"no source has the texts of `{name}`" for name, it in printers.items() if not it.shapes]
+    faults += [f"{it.crate}: the text of {it.name} can't be found in its `fmt`" for it in found if not it.template]
     faults += [f"`{it}` has texts in two crates" for it, its in by_type.items() if len({one.crate for one in its}) > 1]
     faults += [f"{it.crate}: nothing holds the text `{it.template}` of {it.name}" for it in found if not it.holders]
     return found, faults
