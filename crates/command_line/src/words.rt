@@ -148,7 +148,7 @@ fn merge_words<'a>(alloc: Global) -> Result<clap::Command<'a>, AllocError>
         .after_help(MERGE_HELP)
         .arg(needed(alloc, "query", "QUERY", QUERY_HELP))?
         .arg(option(alloc, "certificate", "OUT", MERGED_CERTIFICATE_HELP))?
-        .arg(many(alloc, "papers", "PAPERS", PAPERS_HELP))
+        .arg(many(alloc, "papers", "REPORT CERTIFICATE", PAPERS_HELP))
 }
 
 /// The arguments of `check`.
