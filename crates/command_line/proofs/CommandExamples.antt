@@ -10,7 +10,7 @@ abbrev words : List Text
 words = codes "extremes" ∷ codes "rank" ∷ codes "a" ∷ codes "--query=q" ∷ codes "--stations" ∷ codes "s"
     ∷ codes "--guess=-3" ∷ codes "b" ∷ []
 
--- `clap` has no fault to tell
+-- `clap` has no error to tell
 right : fault_of extremes_app words ≡ []
 unfolding clap_on_literals
 right = refl
@@ -50,7 +50,7 @@ abbrev to_check : List Text
 to_check = codes "extremes" ∷ codes "check" ∷ codes "--query=q" ∷ codes "--stations=s" ∷ codes "--certificate=c"
     ∷ codes "--report" ∷ codes "r" ∷ codes "a" ∷ []
 
--- `clap` has no fault to tell
+-- `clap` has no error to tell
 check_right : fault_of extremes_app to_check ≡ []
 unfolding clap_on_literals
 check_right = refl
@@ -78,7 +78,7 @@ abbrev to_check_part : List Text
 to_check_part = codes "extremes" ∷ codes "check" ∷ codes "--part" ∷ codes "--query=q" ∷ codes "--stations=s"
     ∷ codes "--certificate=c" ∷ codes "--report=r" ∷ codes "a" ∷ []
 
--- `clap` has no fault to tell
+-- `clap` has no error to tell
 check_part_right : fault_of extremes_app to_check_part ≡ []
 unfolding clap_on_literals
 check_part_right = refl
@@ -99,7 +99,7 @@ check_part_files = refl
 abbrev to_merge : List Text
 to_merge = codes "extremes" ∷ codes "merge" ∷ codes "r" ∷ codes "c" ∷ codes "--query=q" ∷ codes "s" ∷ codes "d" ∷ []
 
--- `clap` has no fault to tell
+-- `clap` has no error to tell
 merge_read : fault_of extremes_app to_merge ≡ []
 unfolding clap_on_literals
 merge_read = refl
@@ -131,7 +131,7 @@ merge_without = refl
 abbrev odd : List Text
 odd = codes "extremes" ∷ codes "merge" ∷ codes "--query=q" ∷ codes "r" ∷ []
 
--- `clap` has no fault to tell of it
+-- `clap` has no error to tell of it
 odd_read : fault_of extremes_app odd ≡ []
 unfolding clap_on_literals
 odd_read = refl
@@ -156,7 +156,7 @@ no_version = refl
 abbrev to_describe : List Text
 to_describe = codes "extremes" ∷ codes "describe" ∷ codes "a" ∷ codes "--stations=s" ∷ codes "b" ∷ []
 
--- `clap` has no fault to tell
+-- `clap` has no error to tell
 describe_right : fault_of extremes_app to_describe ≡ []
 unfolding clap_on_literals
 describe_right = refl

@@ -35,7 +35,7 @@ module _ {X Y : Type 0} (f : X → Y) where
   mapped_or None d = refl
   mapped_or (Some x) d = refl
 
-  -- the same, where the value is known by what f reads
+  -- the same, if the value is known by what f reads
   pub read_or : (o : Option X) (given d : X) (v : Option Y) (e : Y) → given ≡ unwrap_or o d
       → option_map f o ≡ v → f d ≡ e → f given ≡ unwrap_or v e
   read_or o given d v e g h k = ap f g ∙ mapped_or o d ∙ ap (λ q. unwrap_or q (f d)) h ∙ ap (λ y. unwrap_or v y) k
@@ -48,13 +48,13 @@ parsed_by p r = record r { parser = p }
 abbrev pub either : Bool → Bool → Bool
 either a b = a || b
 
--- where no kind of fault may come, an error is want of memory
+-- if no kind of error may come, an error is out of memory
 pub only_memory : (k : ErrorKind) (kinds : Kinds) → kinds ≡ [] → (k ≡ OutOfMemory) ⊎ IsAmong k kinds → k ≡ OutOfMemory
 only_memory k [] none (inl memory) = memory
 only_memory k [] none (inr among) = absurd among
 only_memory k (x ∷ xs) none has = absurd cc
 
--- where the version alone is to be told, a fault tells it, or it is want of memory
+-- if the version alone is to be told, an error tells it, or it is out of memory
 pub only_version : (k : ErrorKind) (kinds : Kinds) (f : CommandFault) → kinds ≡ DisplayVersion ∷ []
     → (k ≡ OutOfMemory) ⊎ IsAmong k kinds → (k ≡ OutOfMemory → f ≡ fault.Memory)
     → (k ≡ DisplayVersion → TellsVersion f) → TellsVersion f
@@ -64,7 +64,7 @@ only_version k kinds f alone (inr among) refuses tells = elim (subst (λ ks. IsA
   | inr none ↦ absurd none
 ]
 
--- where the version is told, it is among what may be told
+-- if the version is told, it is among what may be told
 pub version_among : (k : ErrorKind) (kinds : Kinds) (f : CommandFault) → OnVersion (k ≡ DisplayVersion) f
     → (k ≡ OutOfMemory) ⊎ IsAmong k kinds → OnVersion (IsAmong DisplayVersion kinds) f
 version_among k kinds (fault.Words text) told has = tt
@@ -72,7 +72,7 @@ version_among k kinds (fault.Version text) told (inl memory) = absurd cc
 version_among k kinds (fault.Version text) told (inr among) = subst (λ x. IsAmong x kinds) told among
 version_among k kinds fault.Memory told has = tt
 
--- where the version is never told, anything is true of where it is
+-- if the version is never told, anything is true of where it is
 pub never_told : (P : Type 0) (f : CommandFault) → OnVersion ⊥ f → OnVersion P f
 never_told P (fault.Words text) none = tt
 never_told P (fault.Version text) none = absurd none
@@ -83,7 +83,7 @@ pub not_asked : (kinds : Kinds) → kinds ≡ [] → kinds ≡ DisplayVersion �
 not_asked [] none asks = cc
 not_asked (k ∷ ks) none asks = cc
 
--- the name of what was met, where that is known
+-- the name of what was met, if that is known
 met_is : (name : Text) (rows : List Row) (r : Text × List Row) → Some (name, rows) ≡ Some r → r.0 ≡ name
 met_is name rows r e = ap (λ (q : Option (Text × List Row)). (unwrap_or q r).0) (sym e)
 
@@ -123,14 +123,14 @@ only_four words r e =
 abbrev pub name_met : {Z : Type 0} → Option (Box SubCommand Z) → Option Text
 name_met o = option_map (λ b. (out-SubCommand (box_value b)).name.now) o
 
--- where one was met, and none but some names can be, it has one of them
+-- if one was met, and none but some names can be, it has one of them
 pub met_one : {Z : Type 0} (P : Text → Type 0) (o : Option (Box SubCommand Z)) (t : Option (Text × List Row))
     → is_some o ≡ true → subcommand_rows o ≡ t → ((r : Text × List Row) → t ≡ Some r → P r.0)
     → (name : Text) × (name_met o ≡ Some name) × P name
 met_one P None t some e only = absurd cc
 met_one P (Some s) t some e only = (_, refl, only _ (sym e))
 
--- one that was met by a name, and the rows behind it
+-- one that was met by a name, and the rows after it
 pub met_rows : {Z : Type 0} (o : Option (Box SubCommand Z)) (name : Text) (rows : List Row) → name_met o ≡ Some name
     → option_map (λ p. p.1) (subcommand_rows o) ≡ Some rows → subcommand_rows o ≡ Some (name, rows)
 met_rows None name rows is behind = absurd cc
@@ -171,7 +171,7 @@ merges-pairs name rows (Describe stations files) (inr (inl is)) e = absurd is.1
 merges-pairs name rows (Merge query certificate parts) (inr (inl is)) e =
     ap (λ (ps : List Text). length ps % 2) (sym is.1.2) ∙ paths-even parts.items
 
--- words without a fault in which a subcommand was met by this name, with these rows behind it, name the command that
+-- words without an error in which a subcommand was met by this name, with these rows after it, name the command that
 -- is read of the rows
 pub command-met : {Z : Type 0} (words : List Text) (o : Option (Box SubCommand Z)) (name : Text) (rows : List Row)
     (c : Command) → fault_of extremes_app words ≡ [] → subcommand_rows o ≡ subcommand_of extremes_app words
@@ -192,7 +192,7 @@ command-met words o name rows c read rows_are met behind is =
       named = is;
     }
 
--- so do papers that are lent, where those of the rows do
+-- so do papers that are lent, if those of the rows do
 pub lent-pairs : (papers : List (Bor Text)) (rows : List Row) → map (λ s. s.now) papers ≡ papers_to_merge rows
     → AreInPairs rows → length papers % 2 ≡ 0
 lent-pairs papers rows same pairs =

@@ -26,7 +26,7 @@ map-All P (x ∷ xs) all =
     All-cons P (pos x) (map pos xs) (All-head (λ y. P (pos y)) x xs all)
     (map-All P xs (All-tail (λ y. P (pos y)) x xs all))
 
--- the scores of two lists of numbers, one behind the other
+-- the scores of two lists of numbers, one after the other
 map-append : (xs ys : List ℕ) → map pos xs ++ map pos ys ≡ map pos (xs ++ ys)
 map-append [] ys = refl
 map-append (x ∷ xs) ys = ap (λ (l : List ℤ). pos x ∷ l) (map-append xs ys)

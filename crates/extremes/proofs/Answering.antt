@@ -44,7 +44,7 @@ abbrev AreRightTextsFor : Asked → Contents → List ℕ → List ℕ → Type 
 AreRightTextsFor q c report certificate =
     IsRightReportFor q c report × (version : ℕ) × IsRightCertificateFor version q c certificate
 
--- where papers with what is found are accepted, the right ones are
+-- if papers with what is found are accepted, the right ones are
 pub accepted_right : (q : Asked) (c : Contents) (report certificate : List ℕ) (v : Verdict) → ReportsAreFound
     → CertificatesAreFound → IsAsked q → IsContents c
     → (v ≡ Accepted) ↔ (IsReport q c report × IsCertificate q c certificate)
@@ -194,7 +194,7 @@ answers_input t query dataset papers reports certificates reports_said certifica
       };
 }
 
--- what an intake read has no fault
+-- what an intake read has no error
 pub faultless_input : (t : Intake) (query : Asked) (dataset : Contents) → HoldsInput t query dataset → FaultlessInput t
 faultless_input t query dataset holds = record {
   is = λ i taken.

@@ -41,7 +41,7 @@ nothing-given paper (Some held) after same = record {
   given = subst (λ a. Appends (Some held) a []) (sym same) (sym (append-nil held));
 }
 
--- where the certificate couldn't be written, the answer is printed with no byte of its report
+-- if the certificate couldn't be written, the answer is printed with no byte of its report
 pub printed-nothing : {F : Type 0} (answer : Result Papers F) (before after : Option (List ℕ)) (ending : Ending)
     (papers : Papers) (delivery : Delivery)
     → answer ≡ Ok papers → delivery ≡ CertificateFailed → ending ≡ File

@@ -29,20 +29,20 @@ use Rattle.extremes.specs.declared.files.Ranking.{Ranking}
 use Rattle.extremes.specs.declared.files.Judging.{Judging}
 use Rattle.rank_merge.specs.Merging.{Texts}
 
--- what was fed behind the station list is the whole input
+-- what was fed after the station list is the whole input
 taken-all : {T : Type 0} (has_taken : Taking T) (old new : T) (known : List (Option (List ℕ))) (query stations : List ℕ)
     (fed : FeedsFiles has_taken old new known) → has_taken old (given query stations [])
     → has_taken new (given query stations fed.files)
 taken-all has_taken old new known query stations fed is =
     subst (has_taken new) (given-files query stations [] fed.files) (fed.taken (given query stations []) is)
 
--- a fault of the words of a run is its first
+-- an error of the words of a run is its first
 pub words_refuse : (workers : ℕ) (guess : Option ℤ) (query stations : List ℕ) (files : List (List ℕ)) (fault : Fault)
     → words_fault workers guess ≡ Some fault
     → IsRefusal is_memory fault (read_unless (words_fault workers guess) (read_input query stations files))
 words_refuse workers guess query stations files fault is = OnFalse_from (is_memory fault) _ (λ e. rw is refl)
 
--- behind words without a fault the input's fault is the first
+-- after words without an error the input's error is the first
 pub input_refuses : (workers : ℕ) (guess : Option ℤ) (query stations : List ℕ) (files : List (List ℕ)) (fault : Fault)
     → is_crew workers ≡ true → is_guess guess ≡ true → IsRefusal is_memory fault (read_input query stations files)
     → IsRefusal is_memory fault (read_unless (words_fault workers guess) (read_input query stations files))
@@ -60,7 +60,7 @@ ranks-input t workers ran guess (Err fault) crew might few ok crews err = record
       input_refuses workers guess i.query i.stations (files_of i.files) fault crew might (err.is i taken);
 }
 
--- so is a fault of the words
+-- so is an error of the words
 pub words-input : (t : Intake) (workers : ℕ) (guess : Option ℤ) (fault : Fault)
     → words_fault workers guess ≡ Some fault → RanksInput t workers guess (Err fault)
 words-input t workers guess fault is = record {
@@ -85,7 +85,7 @@ ranks-files bytes_of r old new query list stations answer foreign same_query sam
       told = IfOk-weaker answer _ _ (λ papers are. are.is (given query stations fed.files) all) told;
     }
 
--- what is said for an intake, or its fault, is said for its texts
+-- what is said for an intake, or its error, is said for its texts
 judged-is : (part : Bool) (t : Intake) (query stations : List ℕ) (files : List (List ℕ)) (report certificate : List ℕ)
     (answer : Result (Judgement × Foreign) Fault) → HasTaken t (given query stations files)
     → IfOk answer (λ judged. JudgesInputAs part t report certificate judged.0)
@@ -119,7 +119,7 @@ judges-files bytes_of j old new query list stations report certificate answer sa
           (judged-is j.part new query stations fed.files report certificate answer given_all ok told err);
     }
 
--- what a describer answers, or its fault, is that of its files
+-- what a describer answers, or its error, is that of its files
 described-is : (t : DescriptionIntake) (query stations : List ℕ) (files : List (List ℕ))
     (answer : Result DescriptionText Fault) → described.HasTaken t (given query stations files)
     → IfOk answer (DescribesIntake t) → IfErr answer (described.RefusesInput t)
@@ -150,7 +150,7 @@ some_files [] = ([], tt)
 some_files (None ∷ ks) = let rest = some_files ks in ([] ∷ rest.0, (tt, rest.1))
 some_files (Some bytes ∷ ks) = let rest = some_files ks in (bytes ∷ rest.0, (refl, rest.1))
 
--- want of memory may be answered to any files
+-- out of memory may be answered to any files
 pub ranks-memory : (bytes_of : Known) (r : Ranking) (list stations : List ℕ) (m : WantOfMemory)
     → list ≡ string_bytes r.stations → AreAllOf (bytes_of list) stations
     → (foreign : Foreign) → RanksFiles bytes_of r (Err (Memory m)) foreign

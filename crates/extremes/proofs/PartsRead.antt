@@ -55,7 +55,7 @@ some_parts (k ∷ ks) =
     let rest = some_parts ks in
     ((report.0, certificate.0) ∷ rest.0, ((report.1, certificate.1), rest.1))
 
--- want of memory may be answered to any papers
+-- out of memory may be answered to any papers
 pub merges-memory : (query : List ℕ) (known : List KnownPart) (m : WantOfMemory)
     → MergesFiles query known (Err (Parts (Memory m)))
 merges-memory query known m = record {

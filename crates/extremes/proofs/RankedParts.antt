@@ -26,7 +26,7 @@ use Rattle.extremes.proofs.Readings.{one_value, data_is_said, held_is_said}
 use Rattle.extremes.specs.Answer.{IsFaultless}
 use Rattle.extremes.specs.RankedInParts.{IsRankedPart, MergedIsRanked}
 
--- of files without a fault, what they say is read
+-- of files without an error, what they say is read
 said_read : (query stations : List ℕ) (files : List (List ℕ)) (list : List Station) → listed stations ≡ Ok list
     → IsFaultless query stations files → data_of list files ≡ Ok (said_by (stations_said stations) files)
 said_read query stations files list lists f =

@@ -35,14 +35,14 @@ one_reading query stations files x y a b =
 pub one_query : (query : List ℕ) (a b : Asked) → Asks query a → Asks query b → a ≡ b
 one_query query a b x y = one_value _ _ _ (asks_read query a x) (asks_read query b y)
 
--- the data of an input without a fault are those of the stations that its list says
+-- the data of an input without an error are those of the stations that its list says
 pub data_is_said : (query stations : List ℕ) (files : List (List ℕ)) (q : Asked) (dataset : Contents)
     → IsReadOf query stations files q dataset → data_of (stations_said stations) files ≡ Ok dataset
 data_is_said query stations files q dataset read =
     subst (λ (list : List Station). data_of list files ≡ Ok dataset)
     (listed-said stations read.list read.lists) read.holds
 
--- an input without a fault holds what its lines say
+-- an input without an error holds what its lines say
 pub held_is_said : (query stations : List ℕ) (files : List (List ℕ)) (q : Asked) (dataset : Contents)
     → IsReadOf query stations files q dataset → dataset ≡ said_by (stations_said stations) files
 held_is_said query stations files q dataset read =

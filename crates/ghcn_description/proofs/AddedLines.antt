@@ -63,7 +63,7 @@ all_of_files n (f ∷ files) =
 
 -- ---- lines that aren't blank
 
--- a line without a fault has another code or is a month
+-- a line without an error has another code or is a month
 other_or_month : (stations : List Station) (before : List FileLine) (e : Option Element) (short : Bool) (line : List ℕ)
     (ms : List Month) → daily_why stations before (cond short (Err Short) (month_if e line)) ≡ None
     → cond (not (is_some e)) 1 0 + length (cons_option (month_if_ok (cond short (Err Short) (month_if e line))) ms)
@@ -78,12 +78,12 @@ other_or_month stations before (Some x) false line ms right =
       | Some why ↦ λ right. absurd cc
     ] right
 
--- where no fault was found, there is none
+-- if no error was found, there is none
 no_why : (l : FileLine) (why : Option DailyWhy) → option_map (λ w. DailyLine l.file l.line w) why ≡ None → why ≡ None
 no_why l None none = refl
 no_why l (Some why) none = absurd cc
 
--- lines without a fault behind others have another code or are months
+-- lines without an error after others have another code or are months
 others_and_months : (stations : List Station) (before ls : List FileLine)
     → ((b : List FileLine) (l : FileLine) (r : List FileLine) → before ++ ls ≡ b ++ l ∷ r
     → daily_fault stations b l ≡ None) → other_lines ls + length (filter_map month_on ls) ≡ length ls

@@ -91,7 +91,7 @@ below-five Tmin = omega arith
 five-agree : (g h : Element → Bool) → ((x : Element) → g x ≡ h x) → map g elements ≡ map h elements
 five-agree g h same = rw (same Prcp, same Snow, same Snwd, same Tmax, same Tmin) refl
 
--- of which elements the station of an ID has a fact, where it stands
+-- of which elements the station of an ID has a fact, if it stands
 found-bits : (facts : List Fact) (id : StationId) (ss : List Station) (k : ℕ)
     → position_or_len (is_station_of id) ss ≡ k → k < length ss
     → get_or (map (elements_with facts) ss) k [] ≡ map (has_fact facts id) elements
@@ -154,7 +154,7 @@ month-line true e line m is = absurd cc
 month-line false None line m is = absurd cc
 month-line false (Some x) line m is = refl
 
--- a line without a fault that is no month has another code
+-- a line without an error that is no month has another code
 other-line : (short : Bool) (e : Option Element) (line : List ℕ) → cond short (Err Short) (month_if e line) ≡ Ok None
     → (short ≡ false) × (not (is_some e) ≡ true)
 other-line true e line is = absurd cc
@@ -346,7 +346,7 @@ described-nothing stations keep d read counts marks others none = record {
   unlisted = none;
 }
 
--- one more behind so many
+-- one more after that many
 pub one-more : {A : Type 0} (n m : ℕ) (x : A) → m ≡ n + 1 → replicate n x ++ x ∷ [] ≡ replicate m x
 one-more zero zero x is = absurd (omega (arith, is))
 one-more zero (suc zero) x is = refl

@@ -86,7 +86,7 @@ row-marks m row right of j =
     subst (λ k. is_some (usable_day m (k + 1, get_or m.days j no_reading)) ≡ (bit_at row.word j == 1)) place
     (row-bit m row right of j)
 
--- where no reading is left, no bit is set
+-- if no reading is left, no bit is set
 none-left : (m : Month) (s w : ℕ) → Marks m [] s w → w ≡ 0
 none-left m s w marks = same_from_bits w 0 (λ j. unset (bit_at w j) (bit_at-lt w j)
     (sym (marks j) ∙ ap is_some (unread m (s + j + 1))) ∙ sym (bit_at-zero j))
@@ -96,7 +96,7 @@ none-left m s w marks = same_from_bits w 0 (λ j. unset (bit_at w j) (bit_at-lt 
     unset (suc zero) lt e = absurd cc
     unset (suc (suc b)) lt e = absurd (omega arith)
 
--- of the bits behind the first, the next readings have theirs
+-- of the bits after the first, the next readings have theirs
 marks-behind : (m : Month) (r : Reading) (rs : List Reading) (s w : ℕ) → Marks m (r ∷ rs) s w
     → Marks m rs (s + 1) (w / 2)
 marks-behind m r rs s w marks j =
@@ -187,7 +187,7 @@ any-at m (r ∷ rs) s w zero d marks set at = go (usable_day m (s + 1, r)) refl
     rest : List DayValue
     rest = filter_map (usable_day m) (enumerate_from (s + 1 + 1) rs)
 
-    -- where the first day counts, it is the one
+    -- if the first day counts, it is the one
     go : (o : Option DayValue) → usable_day m (s + 1, r) ≡ o
         → list_any (int_eq d) (map (λ (x : DayValue). x.0) (cons_option o rest)) ≡ true
     go None is =
@@ -232,7 +232,7 @@ all-at_bits p m (r ∷ rs) s w marks all =
     set-first (suc zero) lt e = refl
     set-first (suc (suc b)) lt e = absurd (omega arith)
 
-    -- where the first day counts, it passes too
+    -- if the first day counts, it passes too
     go : (o : Option DayValue) → usable_day m (s + 1, r) ≡ o → list_all p (map (λ (x : DayValue). x.0) rest) ≡ true
         → list_all p (map (λ (x : DayValue). x.0) (cons_option o rest)) ≡ true
     go None is h = h
@@ -276,7 +276,7 @@ row-span m row low high span right of low_set below high_set above at_first at_l
     not_below j set (inl lt) = absurd (let clear = below j lt in omega (arith, set, clear))
     not_below j set (inr le) = le
 
-    -- and none behind the last
+    -- and none after the last
     not_above : (j : ℕ) → bit_at row.word j ≡ 1 → (high < j) ⊎ (j ≤ high) → j ≤ high
     not_above j set (inl lt) = absurd (let clear = above j lt in omega (arith, set, clear))
     not_above j set (inr le) = le
@@ -304,7 +304,7 @@ marked-there m row j right of set = go (day_number row.year row.month (j + 1)) r
     go None is = absurd (marked-day m row j right of set is)
     go (Some d) is = (d, is)
 
--- the day of a bit is as far behind that of a lower one as their places are apart
+-- the day of a bit is as far after that of a lower one as their places are apart
 pub marked-behind : (m : Month) (row : MonthRow) (low high : ℕ) (first : ℤ) → IsMonth m → IsRowOf true m row
     → low ≤ high → bit_at row.word high ≡ 1 → day_number row.year row.month (low + 1) ≡ Some first
     → day_if (first +ℤ pos (high - low)) ≡ day_number row.year row.month (high + 1)
@@ -335,7 +335,7 @@ lowest-bit m row t of set =
     let low = bit_at-trailing_zeros w32 row.word (some-bits row.word t set) (omega (arith, fits)) in
     (low.1, low.2)
 
--- it isn't behind another one
+-- it isn't after another one
 pub lowest-le : (w low high : ℕ) → ((i : ℕ) → i < low → bit_at w i ≡ 0) → bit_at w high ≡ 1 → low ≤ high
 lowest-le w low high below set = elim (cases_lt high low) [
   | inl lt ↦ absurd (let clear = below high lt in omega (arith, set, clear))

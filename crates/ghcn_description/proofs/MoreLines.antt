@@ -63,7 +63,7 @@ own-facts stations m (x ∷ xs) =
           ]
     ] refl
 
--- where its station is listed, they have its usable days
+-- if its station is listed, they have its usable days
 own-days : (stations : List Station) (m : Month) (xs : List (ℕ × Reading)) → is_listed stations m.id ≡ true
     → map (λ f. f.day) (usable_among stations m xs) ≡ map (λ (x : DayValue). x.0) (filter_map (usable_day m) xs)
 own-days stations m [] listed = refl
@@ -85,7 +85,7 @@ own-days stations m (x ∷ xs) listed =
           ])
     ] refl
 
--- where its station isn't listed, there is none
+-- if its station isn't listed, there is none
 pub no-facts : (stations : List Station) (m : Month) (xs : List (ℕ × Reading)) → is_listed stations m.id ≡ false
     → usable_among stations m xs ≡ []
 no-facts stations m [] unlisted = refl
@@ -248,7 +248,7 @@ not-listed : (id : StationId) (ss : List Station) → AllByRecursion (λ y. same
 not-listed id [] h = refl
 not-listed id (s ∷ ss) h = rw (same_id-turned s.id id, h.0) (not-listed id ss h.1)
 
--- where stations are distinct, one more fact's test counts once
+-- if stations are distinct, one more fact's test counts once
 counts-once : (f : StationId → Bool) (b : Bool) (id : StationId) (ss : List Station) → IsDistinct same_id (ids ss)
     → count_by (λ s. f s.id || (same_id id s.id && b)) ss
     ≡ count_by (λ s. f s.id) ss + cond (is_listed ss id && (b && not (f id))) 1 0
@@ -300,7 +300,7 @@ changed-at f g h d id (s ∷ ss) k apart at lt others this = go (same_id s.id id
         ≡ false) same (same_id-turned t.id s.id ∙ all.0) in
         rw (others t other, none-changed ts all.1 is) refl
 
-    -- the place is that of the first station, or of one behind it
+    -- the place is that of the first station, or of one after it
     go : (t : Bool) (k : ℕ) → same_id s.id id ≡ t
         → cond (not t) (1 + position_or_len (is_station_of id) ss) 0 ≡ k → k < length (s ∷ ss)
         → ((k : ℕ) → IsDistinct same_id (ids ss) → position_or_len (is_station_of id) ss ≡ k → k < length ss
@@ -348,7 +348,7 @@ module _ (stations : List Station) (ls : List FileLine) (l : FileLine) (m : Mont
   abbrev own : List Fact
   own = usable_among stations m (enumerate_from 1 m.days)
 
-  -- the month comes behind the others
+  -- the month comes after the others
   pub months-more : filter_map month_on after ≡ months ++ m ∷ []
   months-more = filter_map-append month_on ls (l ∷ []) ∙ ap (λ o. months ++ cons_option o []) is
 

@@ -134,7 +134,7 @@ ids_apart facts u (s ∷ ss) other =
     each-append (λ v. same_series u v ≡ false) (map (usable_of facts s) elements) (all_said facts ss)
     (each Prcp, (each Snow, (each Snwd, (each Tmax, (each Tmin, tt))))) (ids_apart facts u ss other.1)
 
--- where no ID stands twice, no two of all series are of one station and element
+-- if no ID stands twice, no two of all series are of one station and element
 stations_apart : (facts : List Fact) (ss : List Station) → IsDistinct same_id (ids ss)
     → IsDistinct same_series (all_said facts ss)
 unfolding IsDistinct

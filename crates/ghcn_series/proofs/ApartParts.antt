@@ -118,7 +118,7 @@ new-behind (x ∷ xs) ys distinct d some = elim (same_block x.0 d) [
   | inr other ↦ behind x xs d other ∙ new-behind xs ys distinct.1 d some
 ]
 
--- distinct days, and new ones behind them, are distinct
+-- distinct days, and new ones after them, are distinct
 new-distinct : (xs ys : List DayValue) → AreNew xs ys → IsDistinct int_eq (keys_of xs) → IsDistinct int_eq (keys_of ys)
     → IsDistinct int_eq (keys_of (xs ++ ys))
 unfolding IsDistinct

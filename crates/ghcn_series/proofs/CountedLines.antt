@@ -92,7 +92,7 @@ blank_kind line is = blank_alone (is_blank line) (has_element line) is (blank_li
 
 -- ---- the end of a file
 
--- the place of a file, where it is foreign
+-- the place of a file, if it is foreign
 place_if : (foreign : Bool) (n : ℕ) (file : List ℕ)
     → map (λ (f : ℕ × List ℕ). f.0) (cond foreign ((0 + n, file) ∷ []) []) ≡ (if foreign then n ∷ [] else [])
 place_if true n file = ap (λ k. k ∷ []) (omega arith)

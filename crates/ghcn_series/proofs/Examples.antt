@@ -47,7 +47,7 @@ text (l ∷ ls) = l ++ 10 ∷ text ls
 abbrev gap : List ℕ
 gap = codes "-9999   "
 
--- the line with this head and these groups, and missing days behind them
+-- the line with this head and these groups, and missing days after them
 abbrev line : List ℕ → List ℕ → List ℕ
 line head groups = take 269 (head ++ groups ++ repeat 31 gap)
 
@@ -155,9 +155,9 @@ made_of_two =
 many_lines : (in_64_bits 2 ≡ 2) × (in_64_bits (2 ^ 64 - 1) ≡ 2 ^ 64 - 1) × (in_64_bits (2 ^ 64) ≡ 2 ^ 64 - 1)
 many_lines = (refl, refl, refl)
 
--- ---- the first fault
+-- ---- the first error
 
--- a line cut to 265 columns: the third of the second file, behind a blank one
+-- a line cut to 265 columns: the third of the second file, after a blank one
 cut_line : data_of both (warm (codes "ZZA00000001202007TMAX")
     ∷ (text (warm (codes "ZZA00000002202007TMAX") ∷ [] ∷ take 265 (warm (codes "ZZA00000001202008TMAX")) ∷ [])) ∷ [])
     ≡ Err (DailyLine 2 3 (Line why.Short))
@@ -179,7 +179,7 @@ not_twice : data_of both (text (line (codes "ZZA00000001202007TMAX") gap ∷ lin
 unfolding days_of_group
 not_twice = refl
 
--- of two faults of a line its own is told, and of two lines the first; a line of an unlisted station has to be right
+-- of two errors of a line its own is told, and of two lines the first; a line of an unlisted station has to be right
 first_told : (data_of both (text (warm (codes "ZZA00000001202007TMAX")
     ∷ line (codes "ZZA00000001202007TMAX") (codes "    x   ") ∷ []) ∷ []) ≡ Err (DailyLine 1 2 (Line (why.BadValue 1))))
     × (data_of both (text (warm (codes "ZZA00000001202007TMAX") ∷ warm (codes "ZZA00000001202007TMAX")
@@ -194,7 +194,7 @@ day_31_of_june : data_of both (line (codes "ZZA00000001202006TMAX") (repeat 30 g
 unfolding days_of_group
 day_31_of_june = refl
 
--- so many files that hold nothing
+-- that many files that hold nothing
 abbrev so_many : ℕ → List (List ℕ)
 so_many n = replicate n []
 
@@ -203,7 +203,7 @@ no_lines : (n from : ℕ) → flat_map file_lines (enumerate_from from (so_many 
 no_lines zero from = refl
 no_lines (suc n) from = no_lines n (from + 1)
 
--- what these lines hold, or their first fault
+-- what these lines hold, or their first error
 abbrev read_lines : List FileLine → Result Contents DataFault
 read_lines ls = contents_unless (first_fault (daily_fault both) ls) (contents both ls)
 
@@ -220,7 +220,7 @@ nothing_in n =
     by_number n []
     ∙ ap (λ (ls : List FileLine). if nat_le n (2 ^ 20) then read_lines ls else Err TooManyFiles) (no_lines n 1)
 
--- 2^20 files are few enough, and one more are not, whatever fault they have
+-- 2^20 files are few enough, and one more are not, whatever error they have
 too_many : (data_of both (so_many (2 ^ 20)) ≡ Ok (held []))
     × (data_of both (replicate (2 ^ 20 + 1) (codes "x")) ≡ Err TooManyFiles)
 too_many = (nothing_in (2 ^ 20), by_number (2 ^ 20 + 1) (codes "x"))

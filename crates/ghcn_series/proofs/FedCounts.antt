@@ -36,7 +36,7 @@ counted-end old new files ended begun is = record {
   begun = begun;
 }
 
--- where the files are few, the cutter is at the one behind those that were ended
+-- if the files are few, the cutter is at the one after those that were ended
 pub at_file : {L : Type 0} (c : Cutter L) (files : Files) → length (files_of files) ≤ 2 ^ 20 → HasCounted c files
     → c.ended ≡ length files.ended
 at_file c files few is = omega (arith, is.ended, few, ended_first files.ended files.current)
@@ -47,7 +47,7 @@ pub at_place : {L : Type 0} (c : Cutter L) (files : Files) → length (files_of 
 at_place c files few is =
     omega (arith, at_file c files few is, few, ended_first files.ended files.current)
 
--- and there is a number for that one, where it has a byte
+-- and there is a number for that one, if it has a byte
 pub may_be_read : {L : Type 0} (c : Cutter L) (files : Files) → length (files_of files) ≤ 2 ^ 20
     → 0 < length files.current → HasCounted c files → c.ended < 2 ^ 20
 may_be_read c files few some is =

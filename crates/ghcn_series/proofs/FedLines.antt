@@ -34,7 +34,7 @@ file_lines-one file whole tail line ends one =
 pub lines_from : ℕ → List (List ℕ) → List FileLine
 lines_from n files = flat_map file_lines (enumerate_from n files)
 
--- the lines of files, and of others behind them
+-- the lines of files, and of others after them
 pub daily_lines-append : (files others : List (List ℕ))
     → daily_lines (files ++ others) ≡ daily_lines files ++ lines_from (1 + length files) others
 unfolding lines_from

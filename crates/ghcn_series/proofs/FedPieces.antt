@@ -34,7 +34,7 @@ joined : (whole rest line behind : List ℕ) → (whole ++ rest) ++ (line ++ 10 
     ≡ (whole ++ ((rest ++ line) ++ 10 ∷ [])) ++ behind
 joined whole rest line behind = simp append_assoc
 
--- the current file, cut behind one line more
+-- the current file, cut after one line more
 cut_behind : (files : Files) (whole rest line behind : List ℕ) → IsCutFile files whole rest
     → IsCutFile (more files (line ++ 10 ∷ behind)) (whole ++ ((rest ++ line) ++ 10 ∷ [])) behind
 cut_behind files whole rest line behind cut = record {
@@ -54,7 +54,7 @@ lines-rest [] some none = absurd (omega arith)
 lines-rest (b ∷ bs) some none = lines-unended b bs none
     ∙ ap (λ (l : List ℕ). strip_carriage_return l ∷ []) (sym (append-nil (b ∷ bs)))
 
--- a fault of the lines of the files, when the current one is ended
+-- an error of the lines of the files, when the current one is ended
 found_at_end : (fed : Fed) (f : DataFault)
     → IsLineRefusal fed.stations (daily_lines (fed.files.ended ++ fed.files.current ∷ [])) f
     → HasLineFault (with_files fed (with_end fed.files)) f
@@ -65,7 +65,7 @@ found_at_end fed f first = record {
   first = rw (append-nil (daily_lines (fed.files.ended ++ fed.files.current ∷ []))) first;
 }
 
--- more bytes behind change no fault
+-- more bytes after change no error
 pub fault-more : (fed : Fed) (f : DataFault) (bytes : List ℕ) → HasLineFault fed f
     → HasLineFault (with_files fed (more fed.files bytes)) f
 fault-more fed f bytes is = record {
@@ -89,7 +89,7 @@ fault-end fed f is =
     (sym (append_assoc (daily_lines fed.files.ended) (file_lines (file, is.whole)) behind)) in
     found_at_end fed f (rw all (refused_among fed.stations (lines_to fed.files is.whole) behind f is.first))
 
--- want of memory can be found anywhere
+-- out of memory can be found anywhere
 pub memory-found : (fed : Fed) (f : DataFault) → IsOfMemory f → HasLineFault fed f
 memory-found fed (Memory m) is = record {
   whole = [];
@@ -150,7 +150,7 @@ module _ {L : Type 0} {has_read : Reading L} where
             (adds.read.holds fed.stations fed.keep (lines_to fed.files is.whole) is.read);
       }
 
-  -- the fault of a line is found with its line feed
+  -- the error of a line is found with its line feed
   pub line-found : (old : Cutter L) (line later : List ℕ) (fed : Fed) (f : DataFault) → HasNoLineFeed line
       → old.ended ≡ length fed.files.ended → RefusesLine has_read old line f → HasReadFed has_read old fed
       → HasLineFault (with_files fed (more fed.files (line ++ 10 ∷ later))) f
@@ -181,7 +181,7 @@ module _ {L : Type 0} {has_read : Reading L} where
             (line-read old new line (with_files fed (more fed.files within.done)) none at adds within.read);
       }
 
-  -- the fault of a line of a piece
+  -- the error of a line of a piece
   pub piece-found : (old : Cutter L) (line behind left bytes : List ℕ) (fed : Fed) (f : DataFault)
       → left ≡ line ++ 10 ∷ behind → HasNoLineFeed line → old.ended ≡ length fed.files.ended
       → RefusesLine has_read old line f → IsWithinPiece has_read old fed left bytes
@@ -226,7 +226,7 @@ module _ {L : Type 0} {has_read : Reading L} where
     read = rw (append-nil (daily_lines (fed.files.ended ++ fed.files.current ∷ [])), ← all) read;
   }
 
-  -- the current file is ended, behind its last line feed
+  -- the current file is ended, after its last line feed
   pub end-read : (old new : Cutter L) (fed : Fed) → old.ended ≡ length fed.files.ended → old.rest.items ≡ []
       → new.reader ≡ old.reader
       → ((ended : List (List ℕ)) (whole : List ℕ) → old.ended ≡ length ended
@@ -263,7 +263,7 @@ module _ {L : Type 0} {has_read : Reading L} where
       let read = adds.read.holds fed.stations fed.keep (lines_to fed.files is.whole) is.read in
       file-read old new fed _ line empty (with_last old fed is at some) all (rw reader read)
 
-  -- the fault of a file's last line is found at the file's end
+  -- the error of a file's last line is found at the file's end
   pub last-found : (old : Cutter L) (fed : Fed) (f : DataFault) → old.ended ≡ length fed.files.ended
       → 0 < length old.rest.items → RefusesLine has_read old [] f → HasReadFed has_read old fed
       → HasLineFault (with_files fed (with_end fed.files)) f
@@ -271,7 +271,7 @@ module _ {L : Type 0} {has_read : Reading L} where
       found_at_end fed f (rw (← with_last old fed is at some)
       (refuses.first fed.stations fed.keep (lines_to fed.files is.whole) is.read))
 
-  -- ---- faults that are kept
+  -- ---- errors that are kept
 
   -- what was read is told by the lines alone
   pub same_read : (old new : Cutter L) (fed : Fed) → new.reader ≡ old.reader → new.counts ≡ old.counts
@@ -285,7 +285,7 @@ module _ {L : Type 0} {has_read : Reading L} where
     read = rw reader is.read;
   }
 
-  -- no fault is kept
+  -- no error is kept
   pub without_fault : (c : Cutter L) (fed : Fed) → is_none c.fault ≡ true → HasFault has_read c fed c.fault
       → HasReadFed has_read c fed
   without_fault c fed none has =
@@ -295,7 +295,7 @@ module _ {L : Type 0} {has_read : Reading L} where
       ] none has
 
 module _ {L : Type 0} (has_read : Reading L) where
-  -- what a cutter keeps that has read on: the fault that was found, or none
+  -- what a cutter keeps that has read on: the error that was found, or none
   pub kept_fault : (after new : Cutter L) (fed : Fed) (result : Result (Unit {0}) DataFault)
       → new.reader ≡ after.reader → new.counts ≡ after.counts → new.line ≡ after.line → new.rest ≡ after.rest
       → OnOk result (HasReadFed has_read after fed) → IfErr result (HasLineFault fed)
@@ -304,7 +304,7 @@ module _ {L : Type 0} (has_read : Reading L) where
       same_read after new fed reader counts line rest read
   kept_fault after new fed (Err f) reader counts line rest read found = found
 
-  -- a fault that is kept stays, with more bytes or with the file's end
+  -- an error that is kept stays, with more bytes or with the file's end
   pub with_fault : (old new : Cutter L) (fed after : Fed) (kept : Option DataFault)
       → ((f : DataFault) → HasLineFault fed f → HasLineFault after f) → is_none kept ≡ false
       → HasFault has_read old fed kept → HasFault has_read new after kept

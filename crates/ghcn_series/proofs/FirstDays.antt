@@ -1,4 +1,4 @@
--- The first day of a block, and the days behind it.
+-- The first day of a block, and the days after it.
 use Rattle.std.proofs.Common.{◌≡◌, ◌≢◌, ℕ, zero, suc, ◌+◌, ◌-◌, ◌/◌, ◌%◌, ◌<◌, ◌≤◌, ◌^◌, true, List, [], ◌∷◌, ◌++◌}
 use Rattle.std.proofs.Common.{length, get_or, Option, Some, None, inl, inr, refl, sym, ap, ◌∙◌, arith, ℤ, pos, ◌+ℤ◌}
 use Rattle.std.proofs.Common.{w32}
@@ -30,7 +30,7 @@ none-set n vs w s zero none = refl
 none-set n vs w s (suc m) none =
     rw (none s (omega arith) (omega arith)) (none-set n vs w (s + 1) m (λ i le lt. none i (omega arith) (omega arith)))
 
--- the day of the lowest bit comes first, and those of the other bits come behind it
+-- the day of the lowest bit comes first, and those of the other bits come after it
 pub lowest-first : (n : ℤ) (vs : List ℤ) (w v t : ℕ) (s m : ℕ) → s ≤ t → t < s + m
     → bit_at w t ≡ 1 → bit_at v t ≡ 0
     → ((i : ℕ) → i < t → bit_at w i ≡ 0)
@@ -58,7 +58,7 @@ pub block-empty : (n : ℤ) (vs : List ℤ) (w : ℕ) → w ≡ 0 → block_days
 unfolding days_from
 block-empty n vs w e = none-set n vs w 0 32 (λ i le lt. ap (λ (k : ℕ). bit_at k i) e ∙ bit_at-zero i)
 
--- one less has no bit at the place of the lowest one, and the same behind it
+-- one less has no bit at the place of the lowest one, and the same after it
 one_less : (t w : ℕ) → bit_at w t ≡ 1 → ((i : ℕ) → i < t → bit_at w i ≡ 0)
     → (bit_at (w - 1) t ≡ 0) × ((i : ℕ) → t < i → bit_at (w - 1) i ≡ bit_at w i)
 one_less zero w set below =
@@ -162,7 +162,7 @@ yields-before None cur new rest some y = let none : length cur ≡ 0 = ap (λ (l
     (omega arith)
 yields-before (Some x) cur new rest some y = ap (λ (l : List DayValue). l ++ rest) y
 
--- days behind a first one are fewer
+-- days after a first one are fewer
 pub fewer : (all rest : List DayValue) (x : DayValue) → all ≡ x ∷ rest → length rest < length all
 fewer all rest x e = let long : length all ≡ length (x ∷ rest) = ap (λ (l : List DayValue). length l) e in omega arith
 

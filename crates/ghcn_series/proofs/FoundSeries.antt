@@ -29,7 +29,7 @@ abbrev pub has_days : Usable → Bool
 has_days u = not (length u.days == 0)
 
 module _ {X : Type 0} (test kept : X → Bool) (u : X) where
-  -- where all that pass a test are one thing, and that is kept, it is found if any passes
+  -- if all that pass a test are one thing, and that is kept, it is found if any passes
   find-kept : kept u ≡ true → (xs : List X) → AllByRecursion (λ x. test x ≡ true → x ≡ u) xs
       → find test (filter kept xs) ≡ cond (list_any test xs) (Some u) None
   find-kept kept_is [] alike = refl

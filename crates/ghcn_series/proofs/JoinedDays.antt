@@ -165,7 +165,7 @@ none-at (n ∷ ns) (w ∷ ws) (v ∷ vs) (suc i) d lw lv lt none =
 or-first : (a b : ℤ) → FitsSigned w32 b → a ≡ pos 0 → to_z w32 (bit_or (of_z w32 a) (of_z w32 b)) ≡ b
 or-first a b fits e = rw (e, or_zero_l (of_z w32 b)) (to_z-of_z w32 b fits)
 
--- and so with the 0 behind it
+-- and so with the 0 after it
 or-second : (a b : ℤ) → FitsSigned w32 a → b ≡ pos 0 → to_z w32 (bit_or (of_z w32 a) (of_z w32 b)) ≡ a
 or-second a b fits e = rw (e, or_zero_r (of_z w32 a)) (to_z-of_z w32 a fits)
 

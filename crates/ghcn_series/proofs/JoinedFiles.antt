@@ -50,7 +50,7 @@ months-from a b (file ∷ files) =
     ∙ ap (λ (l : List Month). filter_map month_on (file_lines (b, file)) ++ l) (months-from (a + 1) (b + 1) files)
     ∙ sym (filter_map-append month_on (file_lines (b, file)) (lines_numbered (b + 1) files))
 
--- the months of files, and of others behind them
+-- the months of files, and of others after them
 months-append : (files others : List (List ℕ)) → filter_map month_on (daily_lines (files ++ others))
     ≡ filter_map month_on (daily_lines files) ++ filter_map month_on (daily_lines others)
 months-append files others =
@@ -61,7 +61,7 @@ months-append files others =
     ∙ ap (λ (l : List Month). filter_map month_on (daily_lines files) ++ l)
     (months-from (1 + length files) 1 others)
 
--- the facts of files, and of others behind them
+-- the facts of files, and of others after them
 pub facts-append : (stations : List Station) (files others : List (List ℕ))
     → facts_in stations (files ++ others) ≡ facts_in stations files ++ facts_in stations others
 facts-append stations files others =
@@ -92,7 +92,7 @@ facts_joined stations parts =
 abbrev pub contents_in : List Station → List (List ℕ) → Contents
 contents_in stations files = contents stations (daily_lines files)
 
--- what lines hold, unless one has a fault
+-- what lines hold, unless one has an error
 held_unless : (o : Option (FileLine × DataFault)) (c d : Contents) → contents_unless o c ≡ Ok d → c ≡ d
 held_unless None c d e = cc
 held_unless (Some f) c d e = absurd cc
@@ -103,7 +103,7 @@ held_if_few : (b : Bool) (o : Option (FileLine × DataFault)) (c d : Contents)
 held_if_few true o c d e = held_unless o c d e
 held_if_few false o c d e = absurd cc
 
--- the data of files without a fault are what their lines hold
+-- the data of files without an error are what their lines hold
 pub data-held : (stations : List Station) (files : List (List ℕ)) (d : Contents) → HaveData stations files d
     → contents_in stations files ≡ d
 data-held stations files d e =
@@ -150,7 +150,7 @@ abbrev pub days_said : List Fact → StationId → Element → List DayValue
 days_said facts id e =
     map (λ f. (f.day, f.value)) (filter (λ f. same_id f.id id && same_element f.element e) facts)
 
--- those of facts, and of others behind them
+-- those of facts, and of others after them
 pub days_said-append : (xs ys : List Fact) (id : StationId) (e : Element)
     → days_said (xs ++ ys) id e ≡ days_said xs id e ++ days_said ys id e
 days_said-append xs ys id e =

@@ -1,4 +1,4 @@
--- Lists that are cut into parts, where of each thing at most one part holds any.
+-- Lists that are cut into parts, if of each thing at most one part holds any.
 use Rattle.std.proofs.Common.{◌≡◌, Bool, true, false, cond, List, [], ◌∷◌, ◌++◌, map, filter, refl, sym, ap, ◌∙◌, subst}
 use Rattle.std.proofs.Common.{append_assoc}
 use Rattle.std.specs.List.{flat_map, AllByRecursion, IsDistinct}
@@ -57,7 +57,7 @@ module _ {X Z : Type 0} where
   flat_map-permuted g h (x ∷ xs) moved =
       IsPermutation-append (g x) (h x) (flat_map g xs) (flat_map h xs) (moved x) (flat_map-permuted g h xs moved)
 
-  -- where each piece has two parts, all first parts may come before all second ones
+  -- if each piece has two parts, all first parts may come before all second ones
   two_parts : (g h : X → List Z) (xs : List X)
       → IsPermutation (flat_map (λ x. g x ++ h x) xs) (flat_map g xs ++ flat_map h xs)
   two_parts g h [] = IsPermutation-refl []
@@ -151,7 +151,7 @@ module _ {T X V : Type 0} (u : List T → X → V) (has : V → Bool) (alike : V
   abbrev v : List T → V
   v f = u f x
 
-  -- where no part holds any, the whole doesn't
+  -- if no part holds any, the whole doesn't
   none_held : (fs : List (List T)) → AllByRecursion (λ f. has (v f) ≡ false) fs
       → has (v (flat_map (λ f. f) fs)) ≡ false
   none_held [] h = joins.none x
@@ -163,7 +163,7 @@ module _ {T X V : Type 0} (u : List T → X → V) (has : V → Bool) (alike : V
   none_kept (f ∷ fs) h =
       ap (λ (b : Bool). cond b (v f ∷ filter has (map v fs)) (filter has (map v fs))) h.0 ∙ none_kept fs h.1
 
-  -- where nothing like one part's is kept of others, they hold none
+  -- if nothing like one part's is kept of others, they hold none
   others_none : (f : List T) (fs : List (List T)) → AllByRecursion (λ y. alike (v f) y ≡ false) (filter has (map v fs))
       → AllByRecursion (λ g. has (v g) ≡ false) fs
   others_none f [] h = tt
@@ -176,7 +176,7 @@ module _ {T X V : Type 0} (u : List T → X → V) (has : V → Bool) (alike : V
         | false ↦ λ e k. (e, others_none f fs k)
       ] refl h
 
-  -- where at most one part holds any, what is kept of all parts is what is kept of the whole
+  -- if at most one part holds any, what is kept of all parts is what is kept of the whole
   pub one_held : (fs : List (List T)) → IsDistinct alike (filter has (map v fs))
       → filter has (map v fs) ≡ filter has (v (flat_map (λ f. f) fs) ∷ [])
   one_held [] d = sym (ap (λ (b : Bool). cond b (v [] ∷ []) []) (joins.none x))
@@ -216,7 +216,7 @@ module _ {T X V : Type 0} (u : List T → X → V) (has : V → Bool) (alike : V
       (sym (flat_map-same held_in (λ f. flat_map (one_in f) xs) fs (λ f. kept-pieces has (u f) xs)))
       (turned_about one_in fs xs)
 
-  -- where no two are alike, all parts hold of each thing what the whole does
+  -- if no two are alike, all parts hold of each thing what the whole does
   each_held : (ys : List X) → AllByRecursion (λ x. IsDistinct alike (flat_map (λ f. one_in f x) fs)) ys
       → AllByRecursion (λ x. flat_map (λ f. one_in f x) fs ≡ one_in whole x) ys
   each_held [] d = tt
@@ -271,7 +271,7 @@ module _ {F V : Type 0} (cmp : V → V → Ordering) (total : IsTotalOrder cmp) 
     (first-is : (a b : V) → first a b ≡ is_le (cmp a b)) (alike : V → V → Bool)
     (alike-turned : (a b : V) → alike a b ≡ alike b a) (alike-tied : (a b : V) → cmp a b ≡ Equal → alike a b ≡ true)
     (g : F → List V) (fs : List F) (whole : List V) where
-  -- where no two are alike, and all parts have what the whole has, the whole in order is the parts' in order
+  -- if no two are alike, and all parts have what the whole has, the whole in order is the parts' in order
   pub sorted_together : IsDistinct alike (flat_map g fs) → IsPermutation (flat_map g fs) whole
       → sorted_by first whole ≡ sorted_by first (flat_map (λ f. sorted_by first (g f)) fs)
   sorted_together distinct moved =

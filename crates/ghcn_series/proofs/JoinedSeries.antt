@@ -1,4 +1,4 @@
--- Files that are cut into parts: the series of all of them are those of the parts, where they are apart.
+-- Files that are cut into parts: the series of all of them are those of the parts, if they are apart.
 use Rattle.std.proofs.Common.{◌≡◌, ℕ, Bool, true, false, List, [], ◌∷◌, ◌++◌, map, filter, refl, sym, ap, ◌∙◌, subst}
 use Rattle.std.specs.Prelude.{◌&&◌}
 use Rattle.std.specs.List.{flat_map, IsDistinct}
@@ -104,7 +104,7 @@ module _ (stations : List Station) where
       ap (λ (l : List Usable). l ++ all_their_series (map (contents_in stations) parts)) (series_held p)
       ∙ ap (λ (l : List Usable). series_said (facts_in stations p) ++ l) (all_series_held parts)
 
-  -- where no two series of all parts are of one station and element, those of all files are these
+  -- if no two series of all parts are of one station and element, those of all files are these
   series_together : (parts : List (List (List ℕ)))
       → IsDistinct same_series (all_their_series (map (contents_in stations) parts))
       → IsPermutation (all_their_series (map (contents_in stations) parts))
@@ -122,7 +122,7 @@ module _ (stations : List Station) where
       subst (λ (l : List Usable). IsPermutation l (contents_in stations (flat_map (λ files. files) parts)).series)
       (sym same) (subst (IsPermutation (flat_map series_said fs)) all moved)
 
--- where no station and element has a series in two parts, the series of all files are those of the parts
+-- if no station and element has a series in two parts, the series of all files are those of the parts
 pub series_of_parts : SeriesOfParts
 series_of_parts stations parts ds held are all distinct =
     let of_parts : map (contents_in stations) parts ≡ ds = all_data-held stations (λ files. files) parts ds are in

@@ -31,14 +31,14 @@ not_both true true e t = absurd cc
 not_both true false e t = absurd cc
 not_both false b e t = refl
 
--- where lines are looked at, there is no fault, and the files are few
+-- if lines are looked at, there is no error, and the files are few
 looking : {L : Type 0} (c : Cutter L) (files : Files) → LooksAtLines c true → HasCounted c files
     → (is_none c.fault ≡ true) × (length (files_of files) ≤ 2 ^ 20)
 looking c files looks counted =
     let both = both_of (is_none c.fault) (nat_le (length (files_of files)) (2 ^ 20)) (sym (looks.is files counted)) in
     (both.0, leb-true (length (files_of files)) (2 ^ 20) both.1)
 
--- where they aren't, few files have a fault
+-- if they aren't, few files have an error
 passing : {L : Type 0} (c : Cutter L) (files : Files) → LooksAtLines c false → HasCounted c files
     → length (files_of files) ≤ 2 ^ 20 → is_none c.fault ≡ false
 passing c files looks counted few =
@@ -58,7 +58,7 @@ with_byte c = record {
   fault = c.fault;
 }
 
--- a cutter that keeps this fault, or none
+-- a cutter that keeps this error, or none
 abbrev pub keeping : {L : Type 0} → Cutter L → Option DataFault → Cutter L
 keeping c fault = record {
   alloc = c.alloc;
@@ -75,7 +75,7 @@ keeping c fault = record {
 some_in : (files : Files) (bytes : List ℕ) → 0 < length bytes → 0 < length (more files bytes).current
 some_in files bytes some = omega (arith, some, length-append files.current bytes)
 
--- a cutter that has ended so many files
+-- a cutter that has ended that many files
 abbrev pub ending : {L : Type 0} → Cutter L → ℕ → Cutter L
 ending c ended = record {
   alloc = c.alloc;
@@ -108,7 +108,7 @@ lines-all : (files : List (List ℕ)) (whole rest : List ℕ) → IsCutFile (end
     → lines_to (ended_files files) whole ≡ daily_lines files
 lines-all files whole rest cut = rw (none_left files whole rest cut) (append-nil (daily_lines files))
 
--- the fault of ended files
+-- the error of ended files
 fault_fed : (fed : Fed) (files : List (List ℕ)) (f : DataFault) → length files ≤ 2 ^ 20
     → HasLineFault (with_files fed (ended_files files)) f → IsRefusal is_memory f (data_of fed.stations files)
 fault_fed fed files f few is =
@@ -305,7 +305,7 @@ module _ {L : Type 0} {has_read : Reading L} where
       let read = (holds.is fed.0 fed.1).read in
       (fed.0.stations, (fed.0.keep, (daily_lines (files_of fed.0.files), read)))
 
-  -- the fault that is kept of all that was fed
+  -- the error that is kept of all that was fed
   pub refuses_kept : (old c : Cutter L) (f : DataFault) → HasEnded has_read old c → CountsFew c true
       → c.fault ≡ Some f → RefusesFed has_read old f
   refuses_kept old c f ended counts kept =

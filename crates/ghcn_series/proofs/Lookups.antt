@@ -37,7 +37,7 @@ block-of_place b k lt =
     let holds = block-holds day in
     omega (arith, ints)
 
--- a day that isn't the first of some days is looked up behind it
+-- a day that isn't the first of some days is looked up after it
 pub value_on-other : (t : Bool) (x : DayValue) (xs : List DayValue) (day : ℤ) → int_eq x.0 day ≡ false
     → value_on (cons_option (if_so t x) xs) day ≡ value_on xs day
 value_on-other true x xs day e = ap (λ (b : Bool). option_map (λ (y : DayValue). y.1)
@@ -103,7 +103,7 @@ pub block-other : (b : Block) (day : ℤ) → (b.0 ≡ block_of day → ⊥) →
 block-other b day h =
     from-other (block_start b.0) b.1.0 b.1.1 day (λ j lt e. h (sym (block-of_place b.0 j lt) ∙ ap block_of e))
 
--- a day is looked up among some days, and else among those behind them
+-- a day is looked up among some days, and else among those after them
 pub value_on-append : (xs ys : List DayValue) (day : ℤ) → value_on (xs ++ ys) day ≡ option_or (value_on xs day)
     (value_on ys day)
 value_on-append [] ys day = refl
@@ -125,7 +125,7 @@ or_none None = refl
 abbrev pub no_block : Block
 no_block = (pos 0, (0, []))
 
--- where no block has the day's number, the day has no value
+-- if no block has the day's number, the day has no value
 pub days-without : (bs : List Block) (day : ℤ) → ((k : ℕ) → k < length bs → (get_or bs k no_block).0 ≡ block_of day → ⊥)
     → value_on (days_of_blocks bs) day ≡ None
 days-without [] day h = refl
@@ -133,7 +133,7 @@ days-without (b ∷ bs) day h =
     rw (value_on-append (block_days b) (days_of_blocks bs) day, block-other b day (h 0 (omega arith)))
     (days-without bs day (λ k lt. h (suc k) (omega arith)))
 
--- where one block alone has the day's number, the day has the value of its place there
+-- if one block alone has the day's number, the day has the value of its place there
 pub days-at : (bs : List Block) (i : ℕ) (number : ℤ) (j : ℕ) → j < 32 → i < length bs
     → (get_or bs i no_block).0 ≡ number
     → ((k : ℕ) → k < length bs → (get_or bs k no_block).0 ≡ number → k ≡ i)
@@ -193,7 +193,7 @@ at_day P day h =
     subst P {x = block_start (block_of day) +ℤ pos (unsigned_abs (place_in_block day))} (omega (arith, ints))
     (h (unsigned_abs (place_in_block day)) (omega (arith, ints)))
 
--- the blocks behind so many are the next one and those behind it
+-- the blocks after that many are the next one and those after it
 pub blocks-behind : (ns : List ℤ) (ws : List ℕ) (vs : List (List ℤ)) (i : ℕ) → AreBlocks ns ws vs → i < length ns
     → drop i (blocks_of ns ws vs)
     ≡ (get_or ns i (pos 0), (get_or ws i 0, get_or vs i [])) ∷ drop (i + 1) (blocks_of ns ws vs)
@@ -202,7 +202,7 @@ blocks-behind ns ws vs i bs lt =
     ∙ ap (λ (b : Block). b ∷ drop (i + 1) (blocks_of ns ws vs))
     (blocks-at ns ws vs i bs.enough_words bs.enough_values lt)
 
--- behind all of them there is none
+-- after all of them there is none
 pub blocks-end : (ns : List ℤ) (ws : List ℕ) (vs : List (List ℤ)) (i : ℕ) → AreBlocks ns ws vs → length ns ≤ i
     → drop i (blocks_of ns ws vs) ≡ []
 blocks-end ns ws vs i bs le =

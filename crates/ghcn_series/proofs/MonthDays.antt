@@ -10,7 +10,7 @@ use Rattle.jiff_core.proofs.CalendarLemmas.{days_from_civil-day_count, day_count
 use Rattle.ghcn_fields.specs.Days.{day_number, day_if, is_date, is_day}
 use Rattle.ghcn_fields.proofs.DayNumbers.{is_day-from_civil}
 
--- a day of a month so many places after its first
+-- a day of a month that many places after its first
 later_day : (y : ℤ) (m i : ℕ) → days_from_civil y m (i + 1) ≡ days_from_civil y m 1 +ℤ pos i
 later_day y m i = omega (
   arith,
@@ -56,7 +56,7 @@ has_number y m d n e =
 pub day_number-is : (y m d : ℕ) → IsOfCalendar y m d → day_number y m d ≡ Some (days_from_civil (pos y) m d)
 day_number-is y m d is = ap (λ (b : Bool). cond b (Some (days_from_civil (pos y) m d)) None) (to_date y m d is)
 
--- the day so many places after a month's first
+-- the day that many places after a month's first
 pub day_number-after : (y m i : ℕ) (first : ℤ) → day_number y m 1 ≡ Some first → i < days_in_month (pos y) m
     → (day_number y m (i + 1) ≡ Some (first +ℤ pos i)) × (day_if (first +ℤ pos i) ≡ Some (first +ℤ pos i))
 day_number-after y m i first is lt =

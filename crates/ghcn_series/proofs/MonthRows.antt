@@ -42,7 +42,7 @@ pub for-element : (kept : Bool) (m : Month) (row : MonthRow) → IsRowFor kept m
 for-element kept m row (inl of) = of.element
 for-element kept m row (inr of) = of.element
 
--- and its days, where they are kept
+-- and its days, if they are kept
 pub for-kept : (kept : Bool) (m : Month) (row : MonthRow) → kept ≡ true → IsRowFor kept m row → IsRowOf true m row
 for-kept kept m row is (inl of) = of
 for-kept kept m row is (inr of) = rw is at of
@@ -67,7 +67,7 @@ missing_is : (m : Month) (flagged : Bool) (v : Option ℤ)
 missing_is m true v = refl
 missing_is m false v = refl
 
--- a month has no number for a day behind its last
+-- a month has no number for a day after its last
 no_number : (y m d : ℕ) → (d ≤ days_in_month (pos y) m → ⊥) → day_number y m d ≡ None
 no_number y m d past =
     elim (day_number y m d) as (λ o. day_number y m d ≡ o → o ≡ None) [
@@ -99,7 +99,7 @@ unread m j = elim (day_number m.year m.month j) as (λ o. option_and_then counte
 ]
 
 module _ (m : Month) (first : ℤ) (begins : day_number m.year m.month 1 ≡ Some first) where
-  -- the usable day at a place comes so many days behind the first
+  -- the usable day at a place comes that many days after the first
   day-at : (k : ℕ) (r : Reading) (x : DayValue) → usable_day m (k + 1, r) ≡ Some x → x.0 ≡ first +ℤ pos k
   day-at k r x is =
       let day = is_day_of m (k + 1) r x is in

@@ -71,17 +71,17 @@ no-days (n ∷ ns) (w ∷ ws) (v ∷ vs) bs =
     ∙ sym (not_zero (length (block_days (n, (w, v)) ++ all))
     (omega (arith, length-append (block_days (n, (w, v))) all, some)))
 
--- a day is in a block or behind it
+-- a day is in a block or after it
 abbrev reached : ℤ → DayValue → Bool
 reached b x = int_le b (block_of x.0)
 
--- where the block is reached, its first day is the one
+-- if the block is reached, its first day is the one
 first-reached : (b n : ℤ) (xs ys : List DayValue) → AreOf n xs → 0 < length xs → int_le b n ≡ true
     → option_map (λ x. block_of x.0) (find (reached b) (xs ++ ys)) ≡ Some n
 first-reached b n [] ys all some hit = absurd (omega arith)
 first-reached b n (x ∷ xs) ys all some hit = rw (all.0, hit) (ap Some all.0)
 
--- where it isn't, its days are passed over
+-- if it isn't, its days are skipped
 none-reached : (b n : ℤ) (xs ys : List DayValue) → AreOf n xs → int_le b n ≡ false → find (reached b) (xs ++ ys)
     ≡ find (reached b) ys
 none-reached b n [] ys all missed = refl

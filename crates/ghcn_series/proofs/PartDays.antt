@@ -1,4 +1,4 @@
--- The days of a block up to a place, and those behind it.
+-- The days of a block up to a place, and those after it.
 use Rattle.std.proofs.Common.{◌≡◌, ℕ, zero, suc, ◌+◌, ◌-◌, ◌<◌, ◌≤◌, ◌^◌, min, List, [], ◌∷◌}
 use Rattle.std.proofs.Common.{◌++◌, length, get_or, Some, refl, sym, ap, ap₂, ◌∙◌, arith, ℤ, pos, ◌+ℤ◌}
 use Rattle.std.proofs.Common.{inl, inr, ◌<ℤ◌, append-nil, w32}
@@ -16,7 +16,7 @@ use Rattle.ghcn_series.specs.Series.{DayValue}
 use Rattle.ghcn_series.specs.Packed.{block_start, day_at, if_so, block_days, days_from, AreCalendarDays, BeginsBy}
 use Rattle.ghcn_series.proofs.FirstDays.{same-bits, none-set, block-first}
 
--- so many places, and those behind them
+-- that many places, and those after them
 places-cut : (s k m : ℕ) → range_with_len s (k + m) ≡ range_with_len s k ++ range_with_len (s + k) m
 places-cut s zero m =
     let none : 0 + m ≡ m = omega arith in
@@ -60,14 +60,14 @@ first-bit w k j set = elim (cases_lt j k) [
   | inr more ↦ absurd (of-mask w (2 ^ k - 1) j set (bit_at_ones_above k j more))
 ]
 
--- and one behind them isn't
+-- and one after them isn't
 pub later-bit : (w k j : ℕ) → bit_at (bit_and w (2 ^ 32 - 2 ^ k)) j ≡ 1 → k ≤ j
 later-bit w k j set = elim (cases_lt j k) [
   | inl lt ↦ absurd (of-mask w (2 ^ 32 - 2 ^ k) j set (bit_at_mask_below k 32 j lt))
   | inr more ↦ more
 ]
 
--- the bits behind the first k are those that aren't among the first
+-- the bits after the first k are those that aren't among the first
 pub ones-left : (k : ℕ) → 4294967295 - (2 ^ k - 1) ≡ 2 ^ 32 - 2 ^ k
 ones-left k = let some : 0 < 2 ^ k = pow_pos k in omega (arith, some)
 
@@ -76,7 +76,7 @@ module _ (n : ℤ) (vs : List ℤ) (w k : ℕ) (le : k ≤ 32) where
   abbrev first_bits : ℕ
   first_bits = bit_and w (2 ^ k - 1)
 
-  -- and those behind them
+  -- and those after them
   abbrev later_bits : ℕ
   later_bits = bit_and w (2 ^ 32 - 2 ^ k)
 
@@ -90,7 +90,7 @@ module _ (n : ℤ) (vs : List ℤ) (w k : ℕ) (le : k ≤ 32) where
   first-out j more = bit_at_and w (2 ^ k - 1) j
       ∙ least-none (bit_at w j) (bit_at (2 ^ k - 1) j) (bit_at_ones_above k j more)
 
-  -- so it is with the places behind them
+  -- so it is with the places after them
   later-in : (j : ℕ) → k ≤ j → j < 32 → bit_at later_bits j ≡ bit_at w j
   later-in j more lt = bit_at_and w (2 ^ 32 - 2 ^ k) j
       ∙ least-one (bit_at w j) (bit_at (2 ^ 32 - 2 ^ k) j) (bit_at-lt w j) (bit_at_mask_inside k 32 j more lt)
@@ -104,7 +104,7 @@ module _ (n : ℤ) (vs : List ℤ) (w k : ℕ) (le : k ≤ 32) where
   abbrev at : ℕ → ℕ → ℕ → List DayValue
   at v s m = filter_map (day_at (n, (v, vs))) (range_with_len s m)
 
-  -- a block's days, cut behind k places
+  -- a block's days, cut after k places
   cut-days : (v : ℕ) → block_days (n, (v, vs)) ≡ at v 0 k ++ at v k (32 - k)
   unfolding days_from
   cut-days v =
@@ -115,7 +115,7 @@ module _ (n : ℤ) (vs : List ℤ) (w k : ℕ) (le : k ≤ 32) where
       ∙ ap (λ s. range_with_len 0 k ++ range_with_len s (32 - k)) behind)
       ∙ filter_map-append (day_at (n, (v, vs))) (range_with_len 0 k) (range_with_len k (32 - k))
 
-  -- the first bits have the days of the first places, and the others those behind them
+  -- the first bits have the days of the first places, and the others those after them
   first-days : block_days (n, (first_bits, vs)) ≡ at w 0 k
   first-days =
       cut-days first_bits
@@ -186,7 +186,7 @@ pub some-day : (days : List DayValue) → (days ≡ [] → ⊥) → 0 < length d
 some-day [] not = absurd (not refl)
 some-day (x ∷ xs) not = omega arith
 
--- where the first of some days comes no later than a last one, it is among those up to that one
+-- if the first of some days comes no later than a last one, it is among those up to that one
 pub begins-taken : (last : ℤ) (cur rest taken left : List DayValue) → 0 < length cur → BeginsBy last (cur ++ rest)
     → cur ≡ taken ++ left → AllByRecursion (λ x. last <ℤ x.0) left → 0 < length taken
 begins-taken last cur rest (t ∷ ts) left some begins parts later = omega arith
@@ -197,7 +197,7 @@ begins-taken last (x ∷ xs) rest [] (y ∷ ys) some begins parts later =
     let day : x.0 ≡ y.0 = ap (λ (d : DayValue). d.0) same in
     absurd (omega (arith, ints, begins, later.0, day))
 
--- where the block at hand has no day left, the next one comes
+-- if the block at hand has no day left, the next one comes
 pub begun-next : (all cur behind block rest : List DayValue) → cur ++ behind ≡ all → cur ≡ [] → behind ≡ block ++ rest
     → all ≡ block ++ rest
 begun-next all cur behind block rest is none parts =

@@ -106,7 +106,7 @@ module _ (ns : List ℤ) (ws : List ℕ) (vs : List (List ℤ)) (i p : ℕ) (u r
       (block_days (get_or ns i (pos 0), (bit_or (get_or ws i 0) p, r)))
   join-last = block-joined (get_or ns i (pos 0)) (get_or ws i 0) p (get_or vs i []) u r old_packed is.one apart is.row
 
-  -- all parts, where the last is joined with them
+  -- all parts, if the last is joined with them
   pub join-days : AreJoined (days_of_blocks (blocks_of ns ws vs)) (block_days (get_or ns i (pos 0), (p, u)))
       (days_of_blocks (blocks_of ns (set ws i (bit_or (get_or ws i 0) p)) (set vs i r)))
   join-days =
@@ -123,7 +123,7 @@ module _ (ns : List ℤ) (ws : List ℕ) (vs : List (List ℤ)) (i p : ℕ) (u r
         (or_lt 32 (get_or ws i 0) p old_packed.fits is.one.fits));
   }
 
--- numbers that rise with one behind them that is greater than the last
+-- numbers that rise with one after them that is greater than the last
 pub push-rise : (ns : List ℤ) (n : ℤ) → Rise ns → (length ns == 0 || int_lt (get_or ns (length ns - 1) (pos 0)) n)
     ≡ true → Rise (ns ++ n ∷ [])
 push-rise ns n rise after = record {

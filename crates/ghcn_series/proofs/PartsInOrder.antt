@@ -174,7 +174,7 @@ some-day b some fits =
     ∙ ap (λ (k : ℕ). if_so (k == 1) v) lowest.1 in
     (block_start b.0 +ℤ pos j, block-of_place b.0 j lowest.0, subst IsSome (sym has) refl)
 
--- where no day is of a later block, the last number is no greater
+-- if no day is of a later block, the last number is no greater
 last-le : (p : Parts) (n : ℤ) → AreParts p → ((d : ℤ) → IsSome (value_on (days_held p) d) → block_of d ≤ℤ n)
     → 0 < length p.numbers.items → last_number p ≤ℤ n
 last-le p n is below some =
@@ -220,7 +220,7 @@ module _ (old : Parts) (order : List (ℤ × ℕ)) (is : AreParts old) (by : Are
     abbrev next : Block
     next = part_in old order k
 
-    -- it and those behind it
+    -- it and those after it
     next-weight : (g : ℤ → ℕ) (d : ℤ) → weight_on g d (drop k (parts_in old order))
         ≡ weight g (value_on (block_days next) d) + weight_on g d (drop (k + 1) (parts_in old order))
     next-weight g d =
@@ -252,7 +252,7 @@ module _ (old : Parts) (order : List (ℤ × ℕ)) (is : AreParts old) (by : Are
           weight-le (value_on (days_held old) d),
         ))
 
-    -- where it is added too, one part more is
+    -- if it is added too, one part more is
     pub added-more : (more : Parts) → AreParts more → JoinsPart new next more → KeepsOrder new next.0 more
         → AreAdded old order (k + 1) more
     added-more more parts joins keeps = record {
@@ -283,7 +283,7 @@ module _ (old : Parts) (order : List (ℤ × ℕ)) (is : AreParts old) (by : Are
           ] refl;
     }
 
-  -- where all are added, the days are the same
+  -- if all are added, the days are the same
   pub added-all : (k : ℕ) (new : Parts) → length order ≡ k → AreAdded old order k new → HaveSameDays old new
   added-all k new all added d =
       same-from_weights (value_on (days_held new) d) (value_on (days_held old) d) (λ g.

@@ -30,7 +30,7 @@ pub from_ids : (P : StationId → Type 0) (ss : List Station) (k : ℕ) (s : Sta
 from_ids P ss k s all at =
     from_all P (ids ss) k s.id all (slice_get-map (λ s. s.id) ss k ∙ ap (option_map (λ (s : Station). s.id)) at)
 
--- where no ID stands twice, a station is the first of its ID
+-- if no ID stands twice, a station is the first of its ID
 pub first_place : (ss : List Station) (k : ℕ) (s : Station) → IsDistinct same_id (ids ss) → slice_get ss k ≡ Some s
     → (position_or_len (is_station_of s.id) ss ≡ k) × (k < length ss)
 unfolding IsDistinct

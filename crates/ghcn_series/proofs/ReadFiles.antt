@@ -29,14 +29,14 @@ few_files : (stations : List Station) (files : List (List ℕ)) → length files
 few_files stations files few =
     rw (le-leb (length files) (2 ^ 20) few) refl
 
--- files without a fault have their contents
+-- files without an error have their contents
 pub data_of-right : (stations : List Station) (files : List (List ℕ)) → length files ≤ 2 ^ 20
     → HaveNoFault (daily_fault stations) (daily_lines files)
     → data_of stations files ≡ Ok (contents stations (daily_lines files))
 data_of-right stations files few right =
     few_files stations files few ∙ rw (first_fault-none (daily_fault stations) (daily_lines files) right) refl
 
--- files with a fault have their first
+-- files with an error have their first
 pub data_of-refused : (stations : List Station) (files : List (List ℕ)) (f : DataFault) → length files ≤ 2 ^ 20
     → IsLineRefusal stations (daily_lines files) f → IsRefusal is_memory f (data_of stations files)
 data_of-refused stations files (Memory m) few is = tt
@@ -45,7 +45,7 @@ data_of-refused stations files (DailyLine file line why) few is =
     few_files stations files few
     ∙ rw (first_fault-from (daily_fault stations) (daily_lines files) is.0 (DailyLine file line why) is.1) refl
 
--- the fault that is found among the lines of files is the first
+-- the error that is found among the lines of files is the first
 first_found : (stations : List Station) (ls : List FileLine) (found : Option (FileLine × DataFault)) (held : Contents)
     (f : DataFault) → first_fault (daily_fault stations) ls ≡ found → contents_unless found held ≡ Err f
     → HasFirst f stations ls
@@ -54,13 +54,13 @@ first_found stations ls (Some p) held f is e =
     let same : p.1 ≡ f = cc in
     (p.0, first_fault-is (daily_fault stations) ls p.0 f (is ∙ ap (λ (w : DataFault). Some (p.0, w)) same))
 
--- no line has the fault that there are too many files
+-- no line has the error that there are too many files
 not_of_a_line : (file line n : ℕ) (why : Option DailyWhy)
     → option_map (λ w. DailyLine file line w) why ≡ Some TooManyFiles → 2 ^ 20 < n
 not_of_a_line file line n None e = absurd cc
 not_of_a_line file line n (Some why) e = absurd cc
 
--- a refusal of so few files is that of their first line with a fault
+-- a refusal of so few files is that of their first line with an error
 pub first_refusal : (stations : List Station) (files : List (List ℕ)) (f : DataFault) → length files ≤ 2 ^ 20
     → IsRefusal is_memory f (data_of stations files) → IsFirstRefusal f stations files
 first_refusal stations files (Memory m) few is = tt

@@ -30,7 +30,7 @@ use Rattle.ghcn_series.specs.LineKinds.{line_kind}
 use Rattle.ghcn_series.specs.Steps.{ReadsMonth}
 
 module _ {L W : Type 0} (fault : List L → L → Option W) where
-  -- more lines behind change nothing
+  -- more lines after change nothing
   pub first_among : (ls more : List L) (l : L) (w : W) → IsFirstFault fault ls l w → IsFirstFault fault (ls ++ more) l w
   first_among ls more l w is = record {
     before = is.before;
@@ -48,7 +48,7 @@ months-more before l (Some m) is = rw (filter_map-append month_on before (l ∷ 
 
 -- ---- one line more
 
--- a line of none of the elements is passed over
+-- a line of none of the elements is skipped
 pub read-passed : (r : Reader) (l : FileLine) → read_month l.bytes ≡ Ok None → (stations : List Station) (keep : Keep)
     (before : List FileLine) → HasReadFor r stations keep before → HasReadFor r stations keep (before ++ l ∷ [])
 read-passed r l is stations keep before for =
@@ -82,7 +82,7 @@ read-month old new l m is same kept adds stations keep before for =
       };
     }
 
--- a line that is a month of an earlier line is the first with a fault
+-- a line that is a month of an earlier line is the first with an error
 pub refused-month : (old new : Reader) (l : FileLine) (m : Month) → read_month l.bytes ≡ Ok (Some m)
     → ReadsMonth old new m false → (stations : List Station) (keep : Keep) (before : List FileLine)
     → HasReadFor old stations keep before
@@ -102,7 +102,7 @@ refused-month old new l m is adds stations keep before for =
 
 -- ---- what stands on a line
 
--- a line that is passed over has none of the elements
+-- a line that is skipped has none of the elements
 none_read : (short : Bool) (e : Option Element) (line : List ℕ) → cond short (Err Short) (month_if e line) ≡ Ok None
     → is_some e ≡ false
 none_read true e line is = absurd cc
@@ -120,7 +120,7 @@ some_read true e line m is = absurd cc
 some_read false None line m is = absurd cc
 some_read false (Some x) line m is = refl
 
--- a line that is passed over is of another code
+-- a line that is skipped is of another code
 pub other_kind : (line : List ℕ) → read_month line ≡ Ok None → is_blank line ≡ false → Other ≡ line_kind line
 other_kind line is some =
     rw (some, none_read (nat_lt (length line) 21) (element_of (columns 18 21 line)) line is) refl
@@ -131,9 +131,9 @@ pub element_kind : (line : List ℕ) (m : Month) → read_month line ≡ Ok (Som
 element_kind line m is some =
     rw (some, some_read (nat_lt (length line) 21) (element_of (columns 18 21 line)) line m is) refl
 
--- ---- lines behind
+-- ---- lines after
 
--- more lines behind change no fault
+-- more lines after change no error
 pub refused_among : (stations : List Station) (ls more : List FileLine) (f : DataFault) → IsLineRefusal stations ls f
     → IsLineRefusal stations (ls ++ more) f
 refused_among stations ls more (Memory m) is = tt

@@ -103,7 +103,7 @@ count_more stations before m b is =
     ∙ ap (λ (c : Bool). unlisted_months stations before + (0 + cond (not c) 1 0)) is
     ∙ ap (λ (n : ℕ). unlisted_months stations before + n) (zero-add (cond (not b) 1 0))
 
--- one more, where the number was capped before
+-- one more, if the number was capped before
 pub capped : (n : ℕ) → in_64_bits (in_64_bits n + 1) ≡ in_64_bits (n + 1)
 capped n = omega arith
 
@@ -158,7 +158,7 @@ read-listed old new m k g now added place here same adds element stations unlist
       }),
     )
 
--- a month of a station that isn't listed is passed over and counted
+-- a month of a station that isn't listed is skipped and counted
 pub read-unlisted : (old new : Reader) (m : Month) → is_listed old.stations m.id ≡ false
     → new.keep ≡ old.keep → new.stations ≡ old.stations → new.gathered.items ≡ old.gathered.items
     → new.spare.items ≡ old.spare.items → new.unlisted ≡ in_64_bits (old.unlisted + 1)
@@ -216,7 +216,7 @@ within_gathered months r id k is place = omega (
   AllZip-long _ r.stations r.gathered.items is.gathered,
 )
 
--- the days of one station stand in memory of their own, where that was given
+-- the days of one station stand in memory of their own, if that was given
 pub read-settled : (old new : Reader) (k : ℕ) (g now : StationGathering) (result : Result (Unit {0}) Memory)
     → g ≡ get_or old.gathered.items k g → now.id ≡ g.id → OnOk result (StationKeepsMonths g now)
     → new.keep ≡ old.keep → new.stations ≡ old.stations → new.unlisted ≡ old.unlisted
@@ -235,7 +235,7 @@ read-settled old new k g now (Ok done) here same keeps element stations unlisted
   };
 }
 
--- a month is read behind what was read
+-- a month is read after what was read
 pub read-behind : (old mid new : Reader) (m : Month) (added : Bool) → KeepsRead old mid → mid.stations ≡ old.stations
     → ReadsMonth mid new m added → ReadsMonth old new m added
 read-behind old mid new m added keeps stations reads = record {

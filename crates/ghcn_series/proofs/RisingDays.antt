@@ -122,7 +122,7 @@ keys-rise (x ∷ xs) sorted = (keys-later x.0 xs sorted.0, keys-rise xs sorted.1
 
 -- ---- rising days are told by their values
 
--- the first of other days is passed over
+-- the first of other days is skipped
 pub behind : (x : DayValue) (xs : List DayValue) (d : ℤ) → (x.0 ≡ d → ⊥) → value_on (x ∷ xs) d ≡ value_on xs d
 behind x xs d other = rw (int_eq-no x.0 d other)
 
@@ -135,13 +135,13 @@ before_all : (xs : List DayValue) (d : ℤ) → AllByRecursion (λ y. d <ℤ y.0
 before_all [] d all = refl
 before_all (x ∷ xs) d all = behind x xs d (λ e. let lt = all.0 in omega (arith, ints, e)) ∙ before_all xs d all.1
 
--- days behind a day are behind any earlier one
+-- days after a day are after any earlier one
 earlier_all : (a b : ℤ) (xs : List DayValue) → a <ℤ b → AllByRecursion (λ y. b <ℤ y.0) xs
     → AllByRecursion (λ y. a <ℤ y.0) xs
 earlier_all a b xs lt all = each-weaker (λ (y : DayValue). b <ℤ y.0) (λ (y : DayValue). a <ℤ y.0) xs
     (λ y more. omega (arith, ints)) all
 
--- days behind the same first day have the same values
+-- days after the same first day have the same values
 rest_same : (x y : DayValue) (xs ys : List DayValue) → x.0 ≡ y.0 → AllByRecursion (λ z. x.0 <ℤ z.0) xs
     → AllByRecursion (λ z. y.0 <ℤ z.0) ys
     → ((d : ℤ) → value_on (x ∷ xs) d ≡ value_on (y ∷ ys) d) → (d : ℤ) → value_on xs d ≡ value_on ys d

@@ -26,11 +26,11 @@ some_either : (a b : Option ℤ) → IsSome a → IsSome (option_or a b)
 some_either None b some = absurd cc
 some_either (Some x) b some = some
 
--- the values that a row has in the block so many places behind the one where it begins
+-- the values that a row has in the block that many places after the one where it begins
 abbrev pub IsPartOf : List ℤ → ℕ → ℕ → List ℤ → Type 0
 IsPartOf values place offset part = (j : ℕ) → j < 32 → IsValueFrom values place (j + offset) (get_or part j (pos 0))
 
--- a block has what a row has so many places behind the begin of the block where the row begins
+-- a block has what a row has that many places after the begin of the block where the row begins
 pub record IsPart (first : ℤ) (place w : ℕ) (vs : List ℤ) (offset : ℕ) (b : Block) : Type 0 where
   pub row : IsRow first w vs
   pub below : place < 32
@@ -39,7 +39,7 @@ pub record IsPart (first : ℤ) (place w : ℕ) (vs : List ℤ) (offset : ℕ) (
   pub values : IsPartOf vs place offset b.1.1
 
 module _ (first : ℤ) (place w : ℕ) (vs : List ℤ) (offset : ℕ) (b : Block) (p : IsPart first place w vs offset b) where
-  -- what is true at a place of the block, where it is true before the row, in the row and behind it
+  -- what is true at a place of the block, if it is true before the row, in the row and after it
   at_part : (P : ℕ → Type 0) (j : ℕ) → (j + offset < place → P j) → (place + 32 ≤ j + offset → P j)
       → ((k : ℕ) → k < 32 → k + place ≡ j + offset → P j) → P j
   at_part P j before behind within = elim (cases_lt (j + offset) place) [
@@ -152,13 +152,13 @@ module _ (n : ℤ) (place w : ℕ) (vs : List ℤ) (one two : Block) (s : IsSpli
   packed-two = part-packed (day_of n place) place w vs 32 two is_two
 
   module _ (old : List DayValue) (fresh : AreNew old days) where
-    -- where the row is new, its first part is
+    -- if the row is new, its first part is
     pub new-one : AreNew old (block_days one)
     new-one d some =
         fresh d (subst IsSome (sym (row-split d))
         (some_either (value_on (block_days one) d) (value_on (block_days two) d) some))
 
-    -- and its second part is, behind the first
+    -- and its second part is, after the first
     pub new-two : (mid : List DayValue) → AreJoined old (block_days one) mid → AreNew mid (block_days two)
     new-two mid joined d some = elim (same_block two.0 (block_of d)) [
       | inl there ↦

@@ -46,7 +46,7 @@ module _ (test : ℤ → Bool) (values : List ℤ) (word p : ℕ) (b : Bool) (lt
       (get_or values j (pos 0))
   places-more unread read = grind (arith, ints, below_more, other-bit, added-bit)
 
-  -- it has no bit behind that place
+  -- it has no bit after that place
   pub places-unread : ((j : ℕ) → p ≤ j → bit_at word j ≡ 0) → (j : ℕ) → p + 1 ≤ j
       → bit_at (bit_or word (from_bool b * 2 ^ p % 2 ^ 32)) j ≡ 0
   places-unread unread = grind (arith, ints, other-bit)
@@ -130,7 +130,7 @@ long-days n vs w fits =
 
 -- ---- days in a row
 
--- where the bits from a place on are set up to another one, the days there are in a row
+-- if the bits from a place on are set up to another one, the days there are in a row
 row-from : (n : ℤ) (vs : List ℤ) (w k s m : ℕ) → 0 < k → s ≤ k → k ≤ s + m
     → ((j : ℕ) → s ≤ j → j < k → bit_at w j ≡ 1) → ((j : ℕ) → k ≤ j → bit_at w j ≡ 0)
     → AreInARow (block_start n +ℤ pos s) (block_start n +ℤ pos (k - 1))
@@ -190,7 +190,7 @@ shifted-bit w t j le =
     ap (λ (v : ℕ). bit_at v j) (sym (halves w t))
     ∙ bit_at_cat_high (w / 2 ^ t) t (w % 2 ^ t) j (mod-lt w (pow_pos t)) le
 
--- where all bits are set, so many follow one another
+-- if all bits are set, that many follow one another
 all-ones : trailing_ones w32 4_294_967_295 ≡ 32
 unfolding lib.Count.count_trailing_zeros
 all-ones = refl

@@ -1,4 +1,4 @@
--- Where no line has a fault, a station list and daily files hold what their lines say.
+-- If no line has an error, a station list and daily files hold what their lines say.
 use Rattle.std.proofs.Common.{◌≡◌, ℕ, ◌+◌, Bool, true, false, cond, not, List, [], ◌∷◌, ◌++◌, map, filter, length}
 use Rattle.std.proofs.Common.{Option, None, Some, Ok, Err, refl, sym, ap, ◌∙◌}
 use Rattle.std.specs.Prelude.{nat_lt, nat_le, ◌^◌}
@@ -40,7 +40,7 @@ said_of false (Some x) line m is =
       | Some why ↦ λ is. absurd cc
     ] is
 
--- a line without a fault is read as what it says
+-- a line without an error is read as what it says
 on_said : (stations : List Station) (earlier : List FileLine) (l : FileLine) → daily_fault stations earlier l ≡ None
     → month_on l ≡ month_said l.bytes
 on_said stations earlier l none =
@@ -72,7 +72,7 @@ pub nothing_of : {A B : Type 0} (f : A → B) (o : Option A) → option_map f o 
 nothing_of f None e = refl
 nothing_of f (Some x) e = absurd cc
 
--- lines without a fault are read as what they say
+-- lines without an error are read as what they say
 lines_said : (stations : List Station) (earlier ls : List FileLine)
     → first_fault_after (daily_fault stations) earlier ls ≡ None
     → filter_map month_on ls ≡ filter_map (λ l. month_said l.bytes) ls
@@ -115,7 +115,7 @@ of_months stations months = record {
   unlisted = in_64_bits (count_by (λ m. not (is_listed stations m.id)) months);
 }
 
--- no fault is found where there is something
+-- no error is found where there is something
 no_fault_found : (o : Option (FileLine × DataFault)) (c d : Contents) → contents_unless o c ≡ Ok d → o ≡ None
 no_fault_found None c d e = refl
 no_fault_found (Some f) c d e = absurd cc
@@ -126,20 +126,20 @@ none_of_few : (b : Bool) (o : Option (FileLine × DataFault)) (c d : Contents)
 none_of_few true o c d e = no_fault_found o c d e
 none_of_few false o c d e = absurd cc
 
--- files that hold something have no line with a fault
+-- files that hold something have no line with an error
 pub no_fault : (stations : List Station) (files : List (List ℕ)) (held : Contents) → data_of stations files ≡ Ok held
     → first_fault (daily_fault stations) (daily_lines files) ≡ None
 no_fault stations files held is =
     none_of_few (nat_le (length files) (2 ^ 20)) (first_fault (daily_fault stations) (daily_lines files))
     (contents stations (daily_lines files)) held is
 
--- where no line has a fault, the months that are read are those that the files say
+-- if no line has an error, the months that are read are those that the files say
 pub months-are : (stations : List Station) (files : List (List ℕ))
     → first_fault (daily_fault stations) (daily_lines files) ≡ None
     → filter_map month_on (daily_lines files) ≡ months_said files
 months-are stations files none = lines_said stations [] (daily_lines files) none ∙ files_said 1 files
 
--- files without a fault hold what they say
+-- files without an error hold what they say
 pub held-said : (stations : List Station) (files : List (List ℕ)) (held : Contents)
     → data_of stations files ≡ Ok held → held ≡ said_by stations files
 held-said stations files held is =
@@ -161,7 +161,7 @@ stations_of-said n (l ∷ ls) =
       | false ↦ stations_of-said (n + 1) ls
     ]
 
--- a list without a fault is that of the stations that its lines say
+-- a list without an error is that of the stations that its lines say
 listed_if : (o : Option (Numbered × StationsFault)) (ls : List Numbered) (list : List Station)
     → listed_unless o ls ≡ Ok list → list ≡ stations_of ls
 listed_if None ls list e = cc

@@ -1,4 +1,4 @@
--- Where no line has a fault, the days that are said of a listed station and an element are different days.
+-- If no line has an error, the days that are said of a listed station and an element are different days.
 use Rattle.std.proofs.Common.{◌≡◌, ℕ, Bool, true, false, cond, List, [], ◌∷◌, ◌++◌, Option, None, Some, Result, Ok, Err}
 use Rattle.std.proofs.Common.{refl, sym, ap, ◌∙◌, subst, append_assoc}
 use Rattle.std.specs.Prelude.{◌&&◌}
@@ -36,14 +36,14 @@ use Rattle.ghcn_series.proofs.SeenMonths.{distinct-more}
 use Rattle.ghcn_series.proofs.StationMonths.{months_of-other, months_of-this, repeats-is}
 
 module _ (stations : List Station) where
-  -- where a month of a listed station is no duplicate, it repeats none
+  -- if a month of a listed station is no duplicate, it repeats none
   not_repeated : (listed repeated : Bool) → cond (listed && repeated) (Some DuplicateMonth) None ≡ None
       → listed ≡ true → repeated ≡ false
   not_repeated true true none is = absurd cc
   not_repeated true false none is = refl
   not_repeated false repeated none is = absurd cc
 
-  -- a line without a fault repeats no month of a listed station
+  -- a line without an error repeats no month of a listed station
   new_month : (earlier : List FileLine) (l : FileLine) (m : Month) → daily_fault stations earlier l ≡ None
       → month_on l ≡ Some m → is_listed stations m.id ≡ true → repeats earlier m ≡ false
   new_month earlier l m none is listed = by (read_month l.bytes) none is
@@ -86,7 +86,7 @@ module _ (stations : List Station) where
           | false ↦ λ other. subst (IsDistinct same_time) (sym (months_of-other before m id e other)) apart
         ] refl
 
-    -- months of different times and what one more line without a fault says
+    -- months of different times and what one more line without an error says
     apart_more : (earlier : List FileLine) (l : FileLine) → daily_fault stations earlier l ≡ None → AreApart earlier
         → AreApart (earlier ++ l ∷ [])
     apart_more earlier l none apart =
@@ -100,7 +100,7 @@ module _ (stations : List Station) where
           | Some m ↦ λ is. apart_with before m apart (new_month earlier l m none is)
         ] refl)
 
-    -- so are those of all lines, where none has a fault
+    -- so are those of all lines, if none has an error
     apart_after : (earlier ls : List FileLine) → first_fault_after (daily_fault stations) earlier ls ≡ None
         → AreApart earlier → AreApart (earlier ++ ls)
     apart_after earlier [] none apart = subst AreApart (sym (append-nil earlier)) apart

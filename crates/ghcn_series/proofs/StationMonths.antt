@@ -49,7 +49,7 @@ empty_zip asked months id (g ∷ gs) (e ∷ es) none is all =
       empty_zip asked months id gs es none tail all.1,
     )
 
--- gatherings of nothing, where there were none
+-- gatherings of nothing, if there were none
 pub by_element-new : (asked : Keep) (months : List Month) (id : StationId) (before after : List Gathering)
     → (length before ≡ 5 → ⊥) → AreByElement asked months id before
     → map (λ g. g.element) after ≡ elements → AllByRecursion GathersNothing after
@@ -200,7 +200,7 @@ settled_at asked before id (x ∷ xs) k g new here same keeps is =
     (set_first (IsGatheringOf asked before id) (x ∷ xs) elements k g new is here (λ e of.
     record { element = same ∙ of.element; holds = keeps.holds (is_kept asked e) (months_of before id e) of.holds }))
 
--- one month more of a station, unless it was read before, where the gathering of its element adds it
+-- one month more of a station, unless it was read before, if the gathering of its element adds it
 pub station-more : (asked : Keep) (m : Month) (old mid : StationGathering) (k : ℕ) (g now : Gathering)
     (added : Bool) → m.id ≡ old.id → Opens old mid → k ≡ element_index m.element → g ≡ get_or mid.by_element.items k g
     → now.element ≡ g.element → Gathers (is_kept asked m.element) g now m added

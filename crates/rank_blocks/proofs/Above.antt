@@ -21,7 +21,7 @@ use Rattle.std.proofs.lemmas.Option.{same_Some}
 
 -- ---- what begins on a day
 
--- where nothing that begins on a day scores more, no candidate does
+-- if nothing that begins on a day scores more, no candidate does
 candidates-below : (id : StationId) (f : DayValue → Option (ℤ × ℤ)) (bound : ℤ) (days : List DayValue)
     → ((x : DayValue) → Contains days x → (e : ℤ × ℤ) → f x ≡ Some e → e.1 ≤ℤ bound)
     → AllByRecursion (λ c. c.score ≤ℤ bound) (filter_map (λ x. option_map (candidate id x.0) (f x)) days)
@@ -47,7 +47,7 @@ days-below f q s z of_z = candidates-below s.id (λ x. Some (x.0, f x.1)) z (adm
 
 -- ---- spells
 
--- a run is at least as long as so many numbers that pass one after another
+-- a run is at least as long as that many numbers that pass one after another
 pub run-at_least : (such : ℤ → Bool) (len n : ℕ) (a : ℤ) → len ≤ n → ((i : ℕ) → i < len → such (a +ℤ pos i) ≡ true)
     → len ≤ run_from such n a
 run-at_least such len n a le pass = grind (arith, ints, counted such n a, pass (run_from such n a))
@@ -100,7 +100,7 @@ sum-total (x ∷ xs) = ap (λ (z : ℤ). x.1 +ℤ z) (sum-total xs)
 abbrev in_window : ℤ → ℕ → DayValue → Bool
 in_window a n x = int_le a x.0 && int_le x.0 (a +ℤ pos n -ℤ pos 1)
 
--- the days of a window lie in so many blocks from that of its first day on
+-- the days of a window lie in that many blocks from that of its first day on
 window-blocks : (a : ℤ) (n : ℕ) (x : DayValue) → in_window a n x ≡ true
     → is_among_blocks (block_of a) (blocks_of_window n)
     (block_of x.0) ≡ true

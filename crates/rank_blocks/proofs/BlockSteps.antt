@@ -13,7 +13,7 @@ use Rattle.rank_blocks.proofs.PossibleBlocks.{no_block, block_at, sorted-behind,
 use Rattle.rank_blocks.proofs.PossibleBlocks.{possible-drop, AreBehind, AreFalls}
 use Rattle.rank_blocks.proofs.ValueSteps.{max-one}
 
--- what is left from a place on is the summary there and what is left behind it
+-- what is left from a place on is the summary there and what is left after it
 pub left-at : (ms : List Summary) (i : ℕ) → i < length ms → drop i ms ≡ block_at ms i ∷ drop (i + 1) ms
 left-at ms i lt = drop_more ms i no_block lt
 
@@ -21,7 +21,7 @@ left-at ms i lt = drop_more ms i no_block lt
 pub left-whole : (ms : List Summary) (i : ℕ) → take (length ms - i) (drop i ms) ≡ drop i ms
 left-whole ms i = take_all (length ms - i) (drop i ms) (let len = length-drop i ms in omega arith)
 
--- what is left behind a summary has greater numbers
+-- what is left after a summary has greater numbers
 pub behind-left : (ms : List Summary) (i : ℕ) → i < length ms → ArePossible ms
     → AreBehind (block_at ms i).number (drop (i + 1) ms)
 behind-left ms i lt h = grind (arith, ints, left-at ms i lt, possible-drop ms i h, sorted-behind)
@@ -55,7 +55,7 @@ near-read z near = grind (arith, ints)
 
 -- ---- totals
 
--- where all blocks stand behind a window, its total is zero
+-- if all blocks come after a window, its total is zero
 total-behind : (ms : List Summary) (w : ℕ) (first : ℤ) → AllByRecursion (λ m. (first +ℤ pos w) ≤ℤ m.number) ms
     → summaries_total ms w first ≡ pos 0
 total-behind [] w first h = refl
@@ -88,7 +88,7 @@ module _ (ms : List Summary) (possible : ArePossible ms) (w : ℕ) (first : ℤ)
       → IsSumTo ms w first (i + 1) next
   sum-out next is out = grind (arith, ints, left-total)
 
-  -- behind the window nothing is left to add up
+  -- after the window nothing is left to add up
   pub sum-past : int_le (first +ℤ pos w) (block_at ms i).number ≡ true → sum ≡ summaries_total ms w first
   sum-past test =
       let none = total-behind (block_at ms i ∷ drop (i + 1) ms) w first in
@@ -157,7 +157,7 @@ module _ (r : BlockRange) (w : ℕ) (ms : List Summary) (i : ℕ) (found : ℤ) 
               omega (arith, ints)
         ]
 
-    -- behind the last block it is the greatest
+    -- after the last block it is the greatest
     pub most-end : IsGreatest (IsTotalFrom r ms w) found
     most-end = record {
       is_one = far.one;

@@ -21,7 +21,7 @@ use Rattle.rank_scores.specs.declared.spell.Spell.TheVariants as kinds
 pub range-is : (r : BlockRange) (q : Asked) → IsRangeOf r q → in_range r ≡ is_reached q.period
 range-is r q of = grind (arith, ints)
 
--- the first block of its range isn't behind the last
+-- the first block of its range isn't after the last
 pub range-rises : (r : BlockRange) (q : Asked) → IsRangeOf r q → IsAsked q → r.first ≤ℤ r.last
 range-rises r q of asked = grind (arith, ints, block-rises)
 
@@ -77,7 +77,7 @@ module _ (r : BlockRange) (q : Asked) (s : Usable) (ms : List Summary) (of : IsR
       has-days (kinds.Hot t) are = are
 
   module _ (are : AreOfBlocks (HasSum s.days) s ms) where
-    -- no total of a block is below zero, where no value is
+    -- no total of a block is below zero, if no value is
     totals-fall : AreFallen s.days → AreFalls ms
     totals-fall falls = grind (arith, ints, from_each, total-least)
 

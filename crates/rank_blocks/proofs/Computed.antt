@@ -47,14 +47,14 @@ unique-for (Hot t) q s y z of_y of_z = blocks-unique _ y z of_y of_z
 
 -- ---- days
 
--- where there is an admitted day, it is one of the days
+-- if there is an admitted day, it is one of the days
 pub some_admitted : (q : Asked) (s : Usable) → 0 < length (admitted q s)
     → (x : DayValue) × (Contains s.days x × (admits_day q x.0 ≡ true))
 some_admitted q s some =
     let first = Contains-get_or (admitted q s) 0 (pos 0, pos 0) some in
     (get_or (admitted q s) 0 (pos 0, pos 0), of_kept (λ x. admits_day q x.0) s.days _ first)
 
--- the greatest score of the days reached, where there is one
+-- the greatest score of the days reached, if there is one
 day-greatest : (f : ℤ → ℤ) (q : Asked) (s : Usable) → 0 < length (admitted q s)
     → IsGreatest (IsDayScore f (days_reached q s)) (greatest_by f (days_reached q s))
 day-greatest f q s some =
@@ -114,7 +114,7 @@ total-greatest q s w some_blocks some falls =
 
 -- ---- runs
 
--- so many numbers in a row pass somewhere
+-- that many numbers in a row pass somewhere
 abbrev Somewhere : (ℤ → Bool) → ℕ → Type 0
 Somewhere such len = (first : ℤ) × ((i : ℕ) → i < len → such (first +ℤ pos i) ≡ true)
 
@@ -133,7 +133,7 @@ longest-most such f (x ∷ xs) = grind (arith, ints, le-max_left, from_each, le-
 module _ (such : ℤ → Bool) (f : DayValue → ℤ) (days : List DayValue) (low : ℤ)
     (among : (a : ℤ) → such a ≡ true → (x : DayValue) × Contains days x × (f x ≡ a))
     (within : (x : DayValue) → Contains days x → (low ≤ℤ f x) × (f x <ℤ (low +ℤ pos calendar_len))) where
-  -- where each number that passes is made of a day, no run is longer than those from such numbers on
+  -- if each number that passes is made of a day, no run is longer than those from such numbers on
   no_longer : (len : ℕ) (a : ℤ) → ((i : ℕ) → i < len → such (a +ℤ pos i) ≡ true) → len ≤ longest_run such (map f days)
   no_longer zero a pass = omega arith
   no_longer (suc n) a pass =

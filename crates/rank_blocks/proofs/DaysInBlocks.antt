@@ -1,8 +1,8 @@
--- Days in their blocks, and how far a number lies behind another.
+-- Days in their blocks, and how far a number lies after another.
 use Rattle.rank_blocks.proofs.Cited.{◌≡◌, ℕ, ◌<◌, refl, arith, ℤ, pos, negsuc, ◌≤ℤ◌, ◌+ℤ◌, ◌-ℤ◌, ints, block_of}
 use Rattle.rank_blocks.proofs.Cited.{block-holds, block_start}
 
--- how far a number lies behind another
+-- how far a number lies after another
 pub distance : (x y : ℤ) → x ≤ℤ y → (n : ℕ) × (y ≡ x +ℤ pos n)
 distance x y le =
     elim (y -ℤ x) as (λ z. y -ℤ x ≡ z → (n : ℕ) × (y ≡ x +ℤ pos n)) [

@@ -76,12 +76,12 @@ never_wet : bound (ask Wet None) (series Prcp (each_day (pos 18444) 31 (pos 0)))
 unfolding run_from
 never_wet = refl
 
--- the period's last block holds no usable day, and the block behind it does
+-- the period's last block holds no usable day, and the block after it does
 empty_last_block : bound (ask (Sum 32 Prcp) (Some (pos 18444, pos 18475)))
     (series Prcp ((pos 18453, pos 5) ∷ (pos 18506, pos 900) ∷ [])) ≡ pos 160
 empty_last_block = refl
 
--- a total has blocks behind the period
+-- a total has blocks after the period
 block_behind : bound (ask (Sum 2 Prcp) (Some (pos 18444, pos 18463)))
     (series Prcp ((pos 18463, pos 50) ∷ (pos 18464, pos 7) ∷ [])) ≡ pos 57
 block_behind = refl

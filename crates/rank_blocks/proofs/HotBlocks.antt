@@ -81,7 +81,7 @@ counts-among (Hot t) Q days d all e =
     let day = holds-in (test_of (Hot t)) days (block_of d) e in
     subst Q day.2 (of_each (λ x. Q (block_of x.0)) days all day.0 day.1)
 
--- where a block's greatest value is hot, all its days count, and else none
+-- if a block's greatest value is hot, all its days count, and else none
 pub hot-bits : (t : ℤ) (days : List DayValue) (b z : ℤ) (word : ℕ) → IsGreatest (IsDayScore (λ v. v) (days_in days b)) z
     → ((j : ℕ) → j < 32 → has_bit word j ≡ int_le t z) → AreBitsOf (counts (Hot t) days) b word
 hot-bits t days b z word of_z all = grind (arith, ints, holds-greatest, block-of_place)
@@ -89,7 +89,7 @@ hot-bits t days b z word of_z all = grind (arith, ints, holds-greatest, block-of
 -- ---- blocks in a row, and their days
 
 module _ (such : ℤ → Bool) (k : ℕ) (of_k : IsGreatest (IsRunLength such) (pos k)) where
-  -- days one after another in such blocks are no more than so many blocks have
+  -- days one after another in such blocks are no more than that many blocks have
   days-most : (len : ℕ) (first : ℤ) → ((i : ℕ) → i < len → such (block_of (first +ℤ pos i)) ≡ true) → len ≤ 32 * k
   days-most zero first pass = omega arith
   days-most (suc n) first pass =

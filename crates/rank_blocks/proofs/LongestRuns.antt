@@ -10,7 +10,7 @@ pub max-one : (P : ℕ → Type 0) (m n : ℕ) → P m → P n → P (max m n)
 max-one P m n hm hn = grind (arith, ints, max-eq_right, max-eq_left)
 
 module _ (such : ℤ → Bool) where
-  -- a run that ends before a block, behind days of which none is of the kind, is among those that are told of
+  -- a run that ends before a block, after days of which none is of the kind, is among those that are told of
   earlier : (r : Runs) (next : ℤ) → AreRuns such r → NoneBetween such r.next next → (len : ℕ) (first : ℤ)
       → (first +ℤ pos len) ≤ℤ block_start next → AllFrom such first len → len ≤ r.longest
   earlier r next are none zero first within pass = omega arith
@@ -28,12 +28,12 @@ module _ (such : ℤ → Bool) where
       most first zero within pass = omega arith
       most first (suc n) within pass = grind (arith, ints, none (first +ℤ pos n), pass n)
 
-  -- up to a later block, where no day between is of the kind: no run is open
+  -- up to a later block, if no day between is of the kind: no run is open
   pub runs-later : (r : Runs) (n : ℤ) → AreRuns such r → r.next <ℤ n → NoneBetween such r.next n
       → AreRuns such (record { next = n; last = 0; longest = r.longest })
   runs-later r n are later none = grind (arith, ints, earlier r n are none, none (block_start n -ℤ pos 1), are)
 
-  -- a day that isn't of the kind lies before a run or behind it
+  -- a day that isn't of the kind lies before a run or after it
   outside : (first d : ℤ) (len : ℕ) → AllFrom such first len → such d ≡ false → (d <ℤ first) ⊎ ((first +ℤ pos len) ≤ℤ d)
   outside first d len pass fails = by_lt_z d first (λ lt. inl lt) (λ le. by_lt_z d (first +ℤ pos len) (λ lt.
       let far = distance first d le in
@@ -84,7 +84,7 @@ module _ (such : ℤ → Bool) where
         ) in
         max-one P _ _ (max-one P _ _ are.somewhere here) (are.from, over_border)
 
-    -- where not all days come first, not all come last
+    -- if not all days come first, not all come last
     few-last : f < 32 → l < 32
     few-last lt = grind (arith, ints, firsts.ends lt, λ (at : 0 + l ≡ 32). lasts.pass 0 at f)
 

@@ -10,7 +10,7 @@ pub use Rattle.ghcn_series.proofs.Members.{of_each, itself}
 pub contains-nothing : {X : Type 0} (x : X) → Contains [] x → ⊥
 contains-nothing x h = let lt : h.0 < 0 = h.1 in omega arith
 
--- an element of a list is its first one, or stands behind it
+-- an element of a list is its first one, or comes after it
 pub contains-cases : {X : Type 0} (x y : X) (xs : List X) → Contains (x ∷ xs) y → (x ≡ y) ⊎ Contains xs y
 contains-cases x y xs h = grind (arith, ints, contains-nothing)
 
@@ -18,7 +18,7 @@ contains-cases x y xs h = grind (arith, ints, contains-nothing)
 pub contains-first : {X : Type 0} (x y : X) (xs : List X) → x ≡ y → Contains (x ∷ xs) y
 contains-first x y xs is = grind (arith, ints)
 
--- what stands behind the first element stands in the list
+-- what comes after the first element stands in the list
 pub contains-behind : {X : Type 0} (x y : X) (xs : List X) → Contains xs y → Contains (x ∷ xs) y
 contains-behind x y xs h = Contains-append_right (x ∷ []) xs y h
 
@@ -32,7 +32,7 @@ pub pick : {X Y : Type 0} (f : X → Y) (Q : X → Type 0) (xs : List X) (y : Y)
 pick f Q xs y all h =
     let made = map_in f xs y (contains-in (map f xs) y h) in (made.0, of_one Q xs made.0 all made.1, made.2)
 
--- where an element passes a test, one that does stands in the list
+-- if an element passes a test, one that does stands in the list
 pub any_in : {X : Type 0} (p : X → Bool) (xs : List X) → list_any p xs ≡ true → (x : X) × Contains xs x × (p x ≡ true)
 any_in p xs e = let any = any_there p xs e in (any.0, in-contains xs any.0 any.1, any.2)
 
@@ -70,7 +70,7 @@ pub total-least : {X : Type 0} (f : X → ℤ) (p : X → Bool) (xs : List X) �
 total-least f p [] falls = omega (arith, ints)
 total-least f p (x ∷ xs) falls = grind (arith, ints, total-least f p xs falls.1)
 
--- where each that passes one test passes another, the first have at most the total of the others
+-- if each that passes one test passes another, the first have at most the total of the others
 pub total-wider : {X : Type 0} (f : X → ℤ) (p w : X → Bool) (xs : List X) → AllByRecursion (λ x. pos 0 ≤ℤ f x) xs
     → ((x : X) → Contains xs x → p x ≡ true → w x ≡ true) → total (map f (filter p xs)) ≤ℤ total (map f (filter w xs))
 total-wider f p w [] falls wider = omega (arith, ints)
@@ -83,7 +83,7 @@ pub filter-both : {X : Type 0} (p u : X → Bool) (xs : List X) → filter p (fi
 filter-both p u [] = refl
 filter-both p u (x ∷ xs) = grind (arith, ints, filter-both p u xs)
 
--- where there is a number the greatest is one of them, and none is greater
+-- if there is a number the greatest is one of them, and none is greater
 pub greatest-some : (zs : List ℤ) (y : ℤ) → Contains zs y → IsGreatest (Contains zs) (unwrap_or (greatest zs) (pos 0))
 greatest-some [] y h = absurd (contains-nothing y h)
 greatest-some (x ∷ xs) y h =

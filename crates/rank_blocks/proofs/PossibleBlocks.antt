@@ -5,7 +5,7 @@ use Rattle.rank_blocks.proofs.Cited.{ints, All-from_recursion, All-get_or, Summa
 use Rattle.ghcn_files.proofs.Ordered.{each-mapped}
 use Rattle.rank_blocks.proofs.Cited.{each-append, from_each, map-append}
 
--- each block stands behind a number
+-- each block comes after a number
 abbrev pub AreBehind : ℤ → List Summary → Type 0
 AreBehind b ms = AllByRecursion (λ m. b <ℤ m.number) ms
 
@@ -17,14 +17,14 @@ AreFalls ms = AllByRecursion (λ m. pos 0 ≤ℤ m.total) ms
 pub int_cmp-less : (a b : ℤ) → int_cmp a b ≡ Less → a <ℤ b
 int_cmp-less a b e = grind (arith, ints)
 
--- blocks by number, and one behind them whose number is greater than each
+-- blocks by number, and one after them whose number is greater than each
 pub sorted-push : (ms : List Summary) (m : Summary) → IsStrictlySortedBy int_cmp (map (λ k. k.number) ms)
     → AllByRecursion (λ k. k.number <ℤ m.number) ms → IsStrictlySortedBy int_cmp (map (λ k. k.number) (ms ++ m ∷ []))
 unfolding IsStrictlySortedBy
 sorted-push [] m h less = (tt, tt)
 sorted-push (k ∷ ks) m h less = grind (arith, ints, each-append, map-append, sorted-push ks m h.1 less.1)
 
--- blocks by number: those behind the first have greater numbers
+-- blocks by number: those after the first have greater numbers
 pub sorted-behind : (m : Summary) (ms : List Summary) → IsStrictlySortedBy int_cmp (map (λ k. k.number) (m ∷ ms))
     → AreBehind m.number ms
 unfolding IsStrictlySortedBy
@@ -43,7 +43,7 @@ possible-drop ms zero h = h
 possible-drop [] (suc i) h = h
 possible-drop (m ∷ ms) (suc i) h = possible-drop ms i (grind (arith, sorted-tail m ms h.by_number, h.each))
 
--- what stands behind the end of a list of summaries
+-- what comes after the end of a list of summaries
 abbrev pub no_block : Summary
 no_block = record { number = pos 0; days = 0; day = pos 0; total = pos 0 }
 

@@ -48,7 +48,7 @@ block-of_kind r k s ms are d e =
 
 module _ (r : BlockRange) (ms : List Summary) (i : ℕ) (runs : Runs) (far : IsTold r ms i runs) where
   module _ (possible : ArePossible ms) (lt : i < length ms) where
-    -- no day of the kind lies between the block behind those told and that of the summary at the place
+    -- no day of the kind lies between the block after those told and that of the summary at the place
     none-between : (k : Spell) (s : Usable) → AreOfBlocks (HasDays k s.days) s ms
         → NoneBetween (kind r k s) runs.next (block_at ms i).number
     none-between k s are d low high = false_from_ne_true (kind r k s d) (λ e.
@@ -76,7 +76,7 @@ module _ (r : BlockRange) (ms : List Summary) (i : ℕ) (runs : Runs) (far : IsT
   pub told-out : in_range r (block_at ms i).number ≡ false → IsTold r ms (i + 1) runs
   told-out out = grind (arith, ints, far)
 
-  -- behind the last block, the longest run is that of the range
+  -- after the last block, the longest run is that of the range
   pub told-end : length ms ≤ i → (k : Spell) (s : Usable) → AreOfBlocks (HasDays k s.days) s ms
       → IsGreatest (IsRunLength (kind r k s)) (pos runs.longest)
   told-end end k s are =

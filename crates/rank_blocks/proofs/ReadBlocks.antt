@@ -67,14 +67,14 @@ next-less [] b k rise e = tt
 next-less (x ∷ xs) b k rise e =
     grind (arith, ints, from_each, block-rises, next-less xs b k rise.1)
 
--- where there is no next block, all days are in blocks before
+-- if there is no next block, all days are in blocks before
 next-none : (days : List DayValue) (b : ℤ) → next_block days b ≡ None → AllByRecursion (λ x. block_of x.0 <ℤ b) days
 next-none [] b e = tt
 next-none (x ∷ xs) b e = grind (arith, ints, next-none xs b)
 
 module _ (score : Score) (s : Usable) (n : ℤ) (ms : List Summary) (so_far : AreSummariesTo score s n ms)
     (none : HasNone s.days n) where
-  -- a block without a day is passed over, and a later one is next
+  -- a block without a day is skipped, and a later one is next
   pub read-next : (next : Option ℤ) → next_block s.days n ≡ next → AreSummariesUpTo score s ms next
       × (numbers_left next < numbers_left (Some n))
   read-next (Some k) e =

@@ -21,7 +21,7 @@ module _ (P : ℤ → Bool) (b v : ℤ) (g : ℤ → ℤ) where
   abbrev over : (ℤ → ℤ) → List ℤ → ℤ
   over h ns = total (map h (filter P ns))
 
-  -- where block b isn't among them, nothing was added
+  -- if block b isn't among them, nothing was added
   over-absent : (ns : List ℤ) → AllByRecursion (λ n. int_eq b n ≡ false) ns → over more ns ≡ over g ns
   over-absent [] h = refl
   over-absent (n ∷ ns) h = grind (arith, ints, over-absent ns h.1)
@@ -30,7 +30,7 @@ module _ (P : ℤ → Bool) (b v : ℤ) (g : ℤ → ℤ) where
   added : (t : Bool) (y z : ℤ) → cond t (y +ℤ z) (pos 0) ≡ cond t y (pos 0) +ℤ cond t z (pos 0)
   added x y z = grind (arith, ints)
 
-  -- where it is among them, v was added if it passes
+  -- if it is among them, v was added if it passes
   over-added : (ns : List ℤ) → IsStrictlySortedBy int_cmp ns → Contains ns b
       → over more ns ≡ cond (P b) v (pos 0) +ℤ over g ns
   unfolding IsStrictlySortedBy

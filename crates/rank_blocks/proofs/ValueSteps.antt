@@ -15,7 +15,7 @@ max-one P a b r is of_a of_b = grind (arith, ints)
 pub min-one : (P : ℤ → Type 0) (a b r : ℤ) → r ≡ int_min a b → P a → P b → P r
 min-one P a b r is of_a of_b = grind (arith, ints)
 
--- where what is made of 0 isn't the greatest of all numbers, or each day is usable, it is that of the usable days
+-- if what is made of 0 isn't the greatest of all numbers, or each day is usable, it is that of the usable days
 pub greatest-shown : (f : ℤ → ℤ) (word : ℕ) (values : List ℤ) (z : ℤ) → HasZeros word values
     → ((z ≡ f (pos 0) → ⊥) ⊎ (word ≡ 2 ^ 32 - 1)) → IsGreatest (IsScoreAmong f values) z
     → IsGreatest (IsUsableScore f word values) z
@@ -39,7 +39,7 @@ pub usable-word : (test : ℤ → Bool) (word all : ℕ) (values : List ℤ) →
     → IsWordOf test word values (bit_and all word)
 usable-word test word all values read = grind (arith, ints, bit_at_and, get_or, bit_at-lt)
 
--- the places whose numbers don't pass one test, where these pass another
+-- the places whose numbers don't pass one test, if these pass another
 pub other-places : (test other : ℤ → Bool) (word : ℕ) (values : List ℤ) → word < 2 ^ 32
     → ((v : ℤ) → not (test v) ≡ other v) → IsPlacesOf test values word → IsPlacesOf other values (bit_not w32 word)
 other-places test other word values fits are read = grind (arith, ints, bit_at_not w32 word, bit_at-lt word)

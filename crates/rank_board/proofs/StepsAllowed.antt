@@ -44,7 +44,7 @@ module _ {S : Type 0} (o : Opening) (slots id : ℕ) (me : Me S View) where
         (refl, claims_below o.rights o.guess n f views k id me.0 at, few, limit),
       )
 
-  -- a claim, by a seat with a right left, on a board that was opened with so many rights
+  -- a claim, by a seat with a right left, on a board that was opened with that many rights
   pub claim_allowed : (all : ℕ) → o.rights ≡ all → 0 < me.0.rights
       → Allows (Keeps o) slots id me 0 (λ n. (n + 1) % 2 ^ 64) (claim_step all (step slots 0 1 0 none) me)
   claim_allowed all e right =

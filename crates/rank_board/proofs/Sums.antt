@@ -33,7 +33,7 @@ module _ {A : Type 0} (g : A → ℕ) where
       omega (arith, sum_by-replaced l i v both at, sum_by-replaced (set l i both) j w spent there)
 
 module _ {A : Type 0} (g h : A → ℕ) where
-  -- where g has no sum, and h is 0 wherever g is, h has none
+  -- if g has no sum, and h is 0 wherever g is, h has none
   sum_by-none : (l : List A) → sum_by g l ≡ 0 → ((j : ℕ) (u : A) → get_elem? l j ≡ some u → g u ≡ 0 → h u ≡ 0)
       → sum_by h l ≡ 0
   sum_by-none [] empty with_it = refl
@@ -46,7 +46,7 @@ module _ {A : Type 0} (g h : A → ℕ) where
             (λ j. with_it (suc j)),
       )
 
-  -- where all of g is at one place, and h is 0 wherever g is, all of h is there
+  -- if all of g is at one place, and h is 0 wherever g is, all of h is there
   pub sum_by-alone : (l : List A) (i : ℕ) (v : A) → get_elem? l i ≡ some v → sum_by g l ≡ g v
       → ((j : ℕ) (u : A) → get_elem? l j ≡ some u → g u ≡ 0 → h u ≡ 0) → sum_by h l ≡ h v
   sum_by-alone [] i v at all with_it = absurd (some-ne-none v (sym at))

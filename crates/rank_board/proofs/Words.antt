@@ -62,7 +62,7 @@ floor_seen f n some_seen = elim (cases_eq f 0) [
   )
 ]
 
--- where the words of scores are at most the floor's, the floor is at least these scores
+-- if the words of scores are at most the floor's, the floor is at least these scores
 pub floor_above : (f : ℕ) (scores : List ℤ) → AreUnder f scores → IsAtLeast (floor_of f) scores
 floor_above f scores all =
     All-weaker (λ s. (score_word s ≤ f) × (0 < f)) (λ s. IsSomeAnd (floor_of f) (λ g. s ≤ℤ g)) under scores all

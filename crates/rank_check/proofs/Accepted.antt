@@ -1,4 +1,4 @@
--- A verdict accepts exactly where both papers were read and every test passes.
+-- A verdict accepts if and only if both papers were read and every test passes.
 use Rattle.std.proofs.Common.{◌≡◌, ℕ, Bool, true, false, cond, List, [], ◌∷◌, ◌++◌, Some, None, Result, Ok, Err, refl}
 use Rattle.std.proofs.Common.{ap, ◌∙◌}
 use Rattle.std.specs.List.{flat_map, enumerate_from, AllByRecursion}
@@ -21,7 +21,7 @@ Passes t = t.0 ≡ true
 abbrev pub Refuses : Test → Type 0
 Refuses t = t.1 ≡ Accepted → ⊥
 
--- none of some tests fails exactly where each passes
+-- none of some tests fails if and only if each passes
 pub none_fails : (ts : List Test) → first_failing ts ≡ None → AllByRecursion Passes ts
 none_fails [] e = tt
 none_fails (t ∷ ts) e = elim (t.0) as (λ b. t.0 ≡ b → cond b (first_failing ts) (Some t.1) ≡ None

@@ -1,4 +1,4 @@
--- Papers are accepted exactly where both are right.
+-- Papers are accepted if and only if both are right.
 use Rattle.std.proofs.Common.{◌≡◌, inl, inr, ℕ, ◌≤◌, false, cond, map, subst, Option, true, List, [], ◌∷◌, ◌++◌, length}
 use Rattle.std.proofs.Common.{Ok, None, refl, sym, ap}
 use Rattle.std.proofs.Common.{◌∙◌, ℤ}

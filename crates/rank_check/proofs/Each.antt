@@ -8,7 +8,7 @@ use Rattle.std.specs.List.{AllByRecursion, filter_map}
 use Rattle.std.specs.Option.{option_and_then}
 pub use Rattle.ghcn_series.proofs.ListFacts.{each-append}
 
--- of two lists, one behind the other, what holds of all
+-- of two lists, one after the other, what holds of all
 pub each-parts : {X : Type 0} (P : X → Type 0) (xs ys : List X) → AllByRecursion P (xs ++ ys)
     → AllByRecursion P xs × AllByRecursion P ys
 each-parts P [] ys h = (tt, h)
@@ -21,7 +21,7 @@ each-more P xs i x lt is h p =
     subst (AllByRecursion P) (sym (take_more xs i x lt))
     (each-append P (take i xs) (get_or xs i x ∷ []) h (subst P is p, tt))
 
--- one more element of a list is changed, and those behind it are as they were
+-- one more element of a list is changed, and those after it are as they were
 pub mapped-more : {X : Type 0} (f : X → X) (items before : List X) (i : ℕ) (x y : X) → i < length items
     → length items ≡ length before → take i items ≡ map f (take i before) → drop i items ≡ drop i before
     → y ≡ f (get_or items i x)
@@ -47,7 +47,7 @@ made-more f xs i x lt is =
     ap (map f) (take_more xs i x lt) ∙ map-append f (take i xs) (get_or xs i x ∷ [])
     ∙ ap (λ y. map f (take i xs) ++ f y ∷ []) (sym is)
 
--- what is made of one element more, where something is
+-- what is made of one element more, if something is
 pub kept-more : {X Y : Type 0} (f : X → Option Y) (xs : List X) (i : ℕ) → filter_map f (take (suc i) xs)
     ≡ filter_map f (take i xs) ++ option_to_list (option_and_then f (slice_get xs i))
 kept-more f [] i = ap (λ l. filter_map f l ++ []) (sym (take-nil i))

@@ -62,7 +62,7 @@ text (l ∷ ls) = l ++ 10 ∷ text ls
 abbrev row : List ℕ
 row = codes "1 ZZA00000001 2020-07-01 2020-07-01 31.1 C ALPHA"
 
--- a report of one row, by what stands behind its head
+-- a report of one row, by what comes after its head
 abbrev report : List (List ℕ) → List ℕ
 report ls = text (codes "extremes report 1" ∷ codes "query top 1 highest TMAX" ∷ ls)
 
@@ -70,7 +70,7 @@ report ls = text (codes "extremes report 1" ∷ codes "query top 1 highest TMAX"
 abbrev right_report : List ℕ
 right_report = report (row ∷ codes "end 1" ∷ [])
 
--- a certificate, by what stands behind its head
+-- a certificate, by what comes after its head
 abbrev certificate : List (List ℕ) → List ℕ
 certificate ls = text (codes "extremes certificate 1" ∷ codes "query top 1 highest TMAX" ∷ ls)
 
@@ -168,7 +168,7 @@ of_two = (refl, refl, refl)
 
 -- ---- version 2
 
--- a certificate of version 2, by what stands behind its head
+-- a certificate of version 2, by what comes after its head
 abbrev counted : List (List ℕ) → Verdict
 counted ls = of_certificate
     (text (codes "extremes certificate 2" ∷ codes "query top 1 highest TMAX" ∷ codes "kth 311" ∷ ls))
@@ -186,7 +186,7 @@ unfolding digits year_and_rest month_and_day read_query read_words keyword says 
     region_at season_at period_at days_from_civil day_count days_of_years days_of_months
 versions = (refl, refl, refl, refl, refl)
 
--- ---- of two faults the one of the earlier test is told
+-- ---- of two errors the one of the earlier test is told
 
 -- the report's query before its rows; the form of the certificate before the report's query
 early : (verdict (ask 2) dataset
@@ -197,7 +197,7 @@ unfolding digits year_and_rest month_and_day read_query read_words keyword says 
     region_at season_at period_at days_from_civil day_count days_of_years days_of_months
 early = (refl, refl)
 
--- the verdict on a report that has this row and says that there are no more, where two are asked for, beside the
+-- the verdict on a report that has this row and says that there are no more, if two are asked for, beside the
 -- certificate of another query
 abbrev one_of_two : List ℕ → Verdict
 one_of_two line =
@@ -261,7 +261,7 @@ unfolding digits year_and_rest month_and_day read_query read_words keyword says 
     region_at season_at period_at days_from_civil day_count days_of_years days_of_months
 firsts = (refl, refl, refl)
 
--- where there are fewer candidates than were asked for there is no k-th score, and no series may be passed over
+-- if there are fewer candidates than were asked for there is no k-th score, and no series may be skipped
 without_kth : verdict (ask 10) dataset (text (codes "extremes report 1" ∷ codes "query top 10 highest TMAX" ∷ row
     ∷ codes "2 ZZA00000002 2020-07-01 2020-07-01 31.1 C BRAVO"
     ∷ codes "3 ZZA00000001 2020-07-02 2020-07-02 30.5 C ALPHA"

@@ -32,7 +32,7 @@ use Rattle.std.proofs.Math.Bool.{and-true}
 use Rattle.std.proofs.lemmas.Option.{slice_get-map, slice_get-get_or}
 use Rattle.rank_check.specs.Tests.{Test, follows, is_counted, line_tests, entry_tests}
 
--- where none of some tests fails, the first that fails is among those behind
+-- if none of some tests fails, the first that fails is among those after
 pub behind_none : (ts us : List Test) → first_failing ts ≡ None → first_failing (ts ++ us) ≡ first_failing us
 behind_none [] us e = refl
 behind_none (t ∷ ts) us e =
@@ -42,7 +42,7 @@ behind_none (t ∷ ts) us e =
       | false ↦ λ f. absurd cc
     ] e
 
--- where one of some tests fails, those behind make no difference
+-- if one of some tests fails, those after make no difference
 pub before_some : (ts us : List Test) (v : Verdict) → first_failing ts ≡ Some v → first_failing (ts ++ us) ≡ Some v
 before_some [] us v e = absurd cc
 before_some (t ∷ ts) us v e =
@@ -110,14 +110,14 @@ module _ {X : Type 0} (tests : ℕ × X → List Test) where
       ∙ some_at (n + 1) ys i x v at (sym (behind_none (tests (n, y)) _ first) ∙ none)
       (ap (λ (m : ℕ). first_failing (tests (m, x))) number ∙ here)
 
-  -- what an element's tests say is what all say, where it is the first with one that fails
+  -- what an element's tests say is what all say, if it is the first with one that fails
   pub fault_here : (n : ℕ) (xs : List X) (i m : ℕ) (x : X) (o : Option Verdict) → m ≡ n + i → is_some o ≡ true
       → slice_get xs i ≡ Some x → first_of n (take i xs) ≡ None → o ≡ first_failing (tests (m, x)) → o ≡ first_of n xs
   fault_here n xs i m x None number some at none here = absurd cc
   fault_here n xs i m x (Some v) number some at none here =
       sym (some_at n xs i x v at none (ap (λ (k : ℕ). first_failing (tests (k, x))) (sym number) ∙ sym here))
 
-  -- and none fails so far, where none of its tests does
+  -- and none fails so far, if none of its tests does
   pub none_here : (n : ℕ) (xs : List X) (i m : ℕ) (x : X) (o : Option Verdict) → m ≡ n + i → is_some o ≡ false
       → slice_get xs i ≡ Some x → first_of n (take i xs) ≡ None → o ≡ first_failing (tests (m, x))
       → first_of n (take (i + 1) xs) ≡ None
@@ -177,7 +177,7 @@ watched_at cs rows found i m e lt is =
 
 -- ---- the tests of a line
 
--- the fault of a line is that of the line at its place
+-- the error of a line is that of the line at its place
 pub fault-placed : (q : Asked) (kth : Option ℤ) (rows : List Candidate) (counts : List ℕ) (lines : List Entry) (i : ℕ)
     (line : Entry) (count : Option ℕ) (s : Option Usable) (o : Option Verdict)
     → o ≡ first_failing (line_tests q kth rows (i + 4) line count s) → count ≡ slice_get counts i
@@ -189,7 +189,7 @@ fault-placed q kth rows counts lines i line count s o said own there =
     ∙ ap (λ (n : Option ℕ). Some (first_failing (line_tests q kth rows (i + 4) line n s))) (sym own)
     ∙ ap (λ (v : Option Verdict). Some v) (sym said)
 
--- a count is the number of rows, where that is this number, exactly where it is this number
+-- a count is the number of rows, if that is this number, if and only if it is this number
 pub counted_there : (rows : List Candidate) (e : Entry) (wanted : ℕ) (count : Option ℕ) → wanted ≡ count_of rows e
     → is_counted rows e count ≡ option_map_or (λ n. n == wanted) count true
 counted_there rows e wanted count h = ap (λ (w : ℕ). option_map_or (λ n. n == w) count true) (sym h)
@@ -236,7 +236,7 @@ pub top-bounded : (bound : ℤ) (cs : List Candidate) → list_all (λ c. int_le
 top-bounded bound [] = refl
 top-bounded bound (c ∷ cs) = sym (fold-bounded c.score bound cs)
 
--- the fault of a line by what its four tests come to
+-- the error of a line by what its four tests come to
 abbrev fault_by : ℕ → Bool → Bool → Bool → Bool → Option Verdict
 fault_by number own above below counted =
     cond own (cond above (cond below (cond counted None (Some (Refused Certificate number NotCounted)))
@@ -263,7 +263,7 @@ line_tests-top q kth rows number e count t (Some u) f =
 
 module _ (q : Asked) (kth : Option ℤ) (rows : List Candidate) (number : ℕ) (e : Entry) (count : Option ℕ) (t : Top)
     (s : Option Usable) (made : Some t ≡ option_map (top q) s) (named : same_id t.id e.id ≡ true) where
-  -- the fault by three tests, once the ID is right
+  -- the error by three tests, once the ID is right
   by_three : (above below counted : Bool) → is_low e.bound t.highest ≡ above
       → (not e.skipped || bound_is_below kth e.bound) ≡ below → is_counted rows e count ≡ counted
       → first_failing (line_tests q kth rows number e count s) ≡ fault_by number true above below counted
@@ -293,7 +293,7 @@ module _ (q : Asked) (kth : Option ℤ) (rows : List Candidate) (number : ℕ) (
       → is_counted rows e count ≡ true → None ≡ first_failing (line_tests q kth rows number e count s)
   none_fails_there f g h = sym (by_three true true true f g h)
 
--- the fault of a line by its number and its place
+-- the error of a line by its number and its place
 abbrev fault_at : Asked → Contents → Option ℤ → List Candidate → List ℕ → Entry → ℕ → ℕ → Option Verdict
 fault_at q c kth rows counts e number place =
     first_failing (line_tests q kth rows number e (slice_get counts place) (slice_get (morsels q c) place))

@@ -292,7 +292,7 @@ rows-met d old new m (c ∷ rows) h =
     ap (λ (x : Met). x ∷ map (known new) rows) (m.met c h.0)
     ∙ ap (λ (l : List Met). met_by d (known old c) ∷ l) (rows-met d old new m rows h.1)
 
--- and so it is with a candidate that changes no mark where it stands behind the last row
+-- and so it is with a candidate that changes no mark where it comes after the last row
 pub rows-offered : (last : Option Candidate) (d : Candidate) (old new : List Mark) (rows : List Candidate)
     → IsLast last rows → AllByRecursion (Contains (candidates_at old)) rows
     → (reaches last d ≡ true → Meets d old new) → (reaches last d ≡ false → new ≡ old)

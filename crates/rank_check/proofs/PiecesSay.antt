@@ -1,4 +1,4 @@
--- Where all pieces are right, the papers say what is right.
+-- If all pieces are right, the papers say what is right.
 use Rattle.std.proofs.Common.{◌≡◌, ◌⊎◌, inl, inr, ℕ, zero, suc, ◌+◌, ◌-◌, ◌≤◌, ◌<◌, Bool, true, false, cond, not, List}
 use Rattle.std.proofs.Common.{[]}
 use Rattle.std.proofs.Common.{◌∷◌, length, map, take, filter, Option, Some, None, refl, sym, ap, ◌∙◌, subst, arith}
@@ -67,7 +67,7 @@ rows_counted id (row ∷ rows) =
     by false e = omega (arith, e)
 
 module _ (q : Asked) (c : Contents) (right : IsContents c) (rows : List Named) where
-  -- the last row, where there are as many as were asked for
+  -- the last row, if there are as many as were asked for
   abbrev worst : Option Candidate
   worst = worst_of q.k rows
 

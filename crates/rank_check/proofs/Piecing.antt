@@ -1,4 +1,4 @@
--- No test of a line by itself fails exactly where the line is right.
+-- No test of a line by itself fails if and only if the line is right.
 use Rattle.std.proofs.Common.{◌≡◌, ◌↔◌, ℕ, Bool, true, false, cond, not, List, [], ◌∷◌, length}
 use Rattle.std.proofs.Common.{Option, Some, None, refl, sym, ap, ◌∙◌, subst, ◌||◌, eq-eqb}
 use Rattle.std.specs.Prelude.{◌==◌, ◌&&◌}
@@ -35,7 +35,7 @@ use Rattle.rank_check.proofs.RightLines.{above_from, above_to, below_from, below
 
 -- ---- tests of any kind
 
--- none of some tests fails exactly where each passes
+-- none of some tests fails if and only if each passes
 pub passing : {W : Type 0} (ts : List (Bool × W)) → first_failing ts ≡ None → AllByRecursion (λ t. t.0 ≡ true) ts
 passing [] e = tt
 passing (t ∷ ts) e = elim (t.0) as (λ b. t.0 ≡ b → cond b (first_failing ts) (Some t.1) ≡ None
@@ -51,7 +51,7 @@ none_failing (t ∷ ts) h = ap (λ (b : Bool). cond b (first_failing ts) (Some t
 
 -- ---- a piece by its first three tests
 
--- the fault of a line by its first three tests and that of the rest
+-- the error of a line by its first three tests and that of the rest
 abbrev piece_by : Bool → Bool → Bool → Option Why → Option Why
 piece_by own counted candidates rest =
     cond own (cond counted (cond candidates rest (Some NotACandidate)) (Some NotCounted)) (Some OtherSeries)
@@ -66,7 +66,7 @@ pub piece-by : (q : Asked) (st : Station) (u : Usable) (e : Entry) (printed : �
 piece-by q st u e printed rows worst own counted candidates f g h =
     λ i. piece_by (f i) (g i) (h i) (first_failing (last_tests q u e (of_rows rows) worst))
 
--- the fault of a line by its last three tests
+-- the error of a line by its last three tests
 abbrev last_by : Bool → Bool → Bool → Option Why
 last_by all above low = cond all (cond above (cond low None (Some NotBelow)) (Some NoBound)) (Some NotBest)
 
@@ -214,7 +214,7 @@ module _ (q : Asked) (st : Station) (e : Entry) (printed : ℕ) (rows : List Nam
         ),
       )
 
--- no test of a line fails exactly where it is right
+-- no test of a line fails if and only if it is right
 pub right_piece : (q : Asked) (st : Station) (s : Option Usable) (e : Entry) (printed : ℕ) (rows : List Named)
     (worst : Option Candidate) → AreRowsWithin worst (of_rows rows)
     → (first_failing (piece_tests q st s e printed rows worst) ≡ None) ↔ IsRightPiece q st s e printed rows worst

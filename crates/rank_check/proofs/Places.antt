@@ -58,7 +58,7 @@ module _ (ks : List Candidate) (up : IsSorted full_cmp ks) where
   in_turn i j d le lt = not_preceding (get_or ks j d) (get_or ks i d) (not_before i j d le lt)
 
   module _ (d : Candidate) (p : ℕ) (here : IsPlace ks d p) where
-    -- where there is a candidate at the place, the offered one precedes just those that don't precede that one
+    -- if there is a candidate at the place, the offered one precedes just those that don't precede that one
     pub precedes-at : (c : Candidate) → Contains ks c → p < length ks
         → precedes d c ≡ not (precedes c (get_or ks p c))
     precedes-at c (j, lt, e) within =

@@ -1,4 +1,4 @@
--- The tests of a certificate's lines pass exactly where each is a right entry of its morsel.
+-- The tests of a certificate's lines pass if and only if each is a right entry of its morsel.
 use Rattle.std.proofs.Common.{◌≡◌, ℕ, suc, ◌+◌, ◌-◌, ◌≤◌, Bool, true, false, not, List, [], ◌∷◌, length, map, Option}
 use Rattle.std.proofs.Common.{Some, None, refl, sym, ap, ◌∙◌, arith, ℤ, ◌≤ℤ◌, ◌||◌}
 use Rattle.std.specs.Prelude.{slice_get, nat_le, int_le, ◌&&◌, ⊤}
@@ -62,7 +62,7 @@ score_to (Some a) = (Decides-int_eq a a).1 refl
 
 -- ---- entries
 
--- what is passed over where the test passes
+-- what is skipped where the test passes
 pub below_from : (skipped low : Bool) → (not skipped || low) ≡ true → skipped ≡ true → low ≡ true
 below_from true low e f = e
 below_from false low e f = absurd cc
@@ -103,7 +103,7 @@ module _ (q : Asked) (c : Contents) (kth : Option ℤ) (rows : List Candidate) (
   places_behind n x xs all there j = let next : n + 1 + j ≡ n + suc j = omega arith in
       ap (slice_get all) next ∙ there (suc j)
 
-  -- the morsel of the line behind so many
+  -- the morsel of the line after that many
   morsel_here : (n : ℕ) (ss : List Usable) → ((j : ℕ) → slice_get (morsels q c) (n + j) ≡ slice_get ss j)
       → slice_get (morsels q c) (n + 1 - 1) ≡ slice_get ss 0
   morsel_here n ss there = let same : n + 1 - 1 ≡ n + 0 = omega arith in ap (slice_get (morsels q c)) same ∙ there 0
@@ -136,12 +136,12 @@ module _ (q : Asked) (c : Contents) (kth : Option ℤ) (rows : List Candidate) (
         entries_right (n + 1) es ss (places_behind n s ss (morsels q c) there) (omega arith) can.1 h.1.1.1.1,
       )
 
-  -- the count of the line behind so many
+  -- the count of the line after that many
   count_here : (n : ℕ) (ns : List ℕ) → ((j : ℕ) → slice_get counts (n + j) ≡ slice_get ns j)
       → slice_get counts (n + 1 - 1) ≡ slice_get ns 0
   count_here n ns there = let same : n + 1 - 1 ≡ n + 0 = omega arith in ap (slice_get counts) same ∙ there 0
 
-  -- the places of the rest, where there is no count
+  -- the places of the rest, if there is no count
   places_none : (n : ℕ) → ((j : ℕ) → slice_get counts (n + j) ≡ slice_get no_counts j)
       → (j : ℕ) → slice_get counts (n + 1 + j) ≡ slice_get no_counts j
   places_none n there j = let next : n + 1 + j ≡ n + suc j = omega arith in
@@ -202,7 +202,7 @@ module _ (q : Asked) (c : Contents) (kth : Option ℤ) (rows : List Candidate) (
       entry_pass n e s ss es there h.0
       (ap (is_counted rows e) (count_here n (x ∷ ns) here) ∙ counted_to rows e x k.0) rest
 
--- lines whose tests pass are right entries, where none is missing
+-- lines whose tests pass are right entries, if none is missing
 pub lines_right : (q : Asked) (c : Contents) (kth : Option ℤ) (rows : List Candidate) (counts : List ℕ)
     (es : List Entry) → AllByRecursion IsEntry es
     → AllByRecursion Passes (flat_map (entry_tests q c kth rows counts) (enumerate_from 1 es))
@@ -212,7 +212,7 @@ lines_right q c kth rows counts es can h few =
     (λ j. let same : 0 + j ≡ j = omega arith in ap (slice_get (morsels q c)) same)
     (leb-true (length (morsels q c)) (length es) few) can h
 
--- and their counts are the numbers of rows, where there is one for each
+-- and their counts are the numbers of rows, if there is one for each
 pub counts_are : (q : Asked) (c : Contents) (kth : Option ℤ) (rows : List Candidate) (counts : List ℕ)
     (es : List Entry) → length counts ≡ length es
     → AllByRecursion Passes (flat_map (entry_tests q c kth rows counts) (enumerate_from 1 es))

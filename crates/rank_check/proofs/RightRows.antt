@@ -1,4 +1,4 @@
--- The tests of a report pass exactly where it says what is right.
+-- The tests of a report pass if and only if it says what is right.
 use Rattle.std.proofs.Common.{◌≡◌, ℕ, zero, suc, ◌+◌, ◌-◌, ◌<◌, ◌≤◌, min, Bool, true, false, cond, List, [], ◌∷◌}
 use Rattle.std.proofs.Common.{length, take, drop, map, Option, Some, None, refl, sym, ap, ◌∙◌, arith, ◌||◌}
 use Rattle.std.specs.Prelude.{slice_get, ◌==◌, ◌&&◌, nat_le}
@@ -132,7 +132,7 @@ module _ (q : Asked) (c : Contents) (apart : AreApart (all_candidates q c)) (row
       let two = and_parts (is_one_of all row.0) (is_named c.stations row) h.0 in
       (named_as c.stations row two.1, rows_named (n + 1) some h.1.1.1)
 
-  -- rows whose tests pass are the best, where there are enough
+  -- rows whose tests pass are the best, if there are enough
   pub rows_best : length rows ≤ q.k → AllByRecursion Passes (flat_map (row_tests q c rows) (enumerate_from 1 rows))
       → are_enough q.k (length all) (length rows) ≡ true → candidates_of rows ≡ best_of_query q c
   rows_best few h enough =
@@ -204,7 +204,7 @@ module _ (q : Asked) (c : Contents) (apart : AreApart (all_candidates q c)) (row
         ap (λ (m : ℕ). nat_le q.k (length rows) || nat_le m (length rows)) (sym (ordered-length all apart))
         ∙ enough-taken q.k (length rows) (in_order all) many
 
-    -- where the rows are the best with their stations' names, their tests pass
+    -- if the rows are the best with their stations' names, their tests pass
     pub best_pass : AllByRecursion (λ row. name_of c.stations row.0.id ≡ Some row.1) rows
         → AllByRecursion Passes (flat_map (row_tests q c rows) (enumerate_from 1 rows))
         × (are_enough q.k (length all) (length rows) ≡ true)

@@ -31,7 +31,7 @@ ranks = strictly_ranks (λ i. i)
 pub one_way : (a b : StationId) → IsBefore a b → IsBefore b a → ⊥
 one_way = ordered.one_way stands_before ranks
 
--- each stands before all behind it
+-- each stands before all after it
 abbrev pub RiseAll : List StationId → Type 0
 RiseAll is = ordered.Descend IsBefore is
 

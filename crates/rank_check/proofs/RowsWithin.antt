@@ -70,7 +70,7 @@ within_on (Some w) a b e f =
           before_within w a (subst (λ (x : Candidate). precedes a x ≡ true) same e)
     ] refl f
 
--- ---- lists in which each precedes all behind it
+-- ---- lists in which each precedes all after it
 
 -- what each precedes, the one before it precedes
 pub precede_all : (a b : Candidate) (cs : List Candidate) → precedes a b ≡ true
@@ -113,7 +113,7 @@ each_kept P test (c ∷ cs) h = elim (test c) as (λ b. AllByRecursion P (cond b
   | false ↦ each_kept P test cs h.1
 ]
 
--- of those that are kept each precedes all behind it
+-- of those that are kept each precedes all after it
 pub kept_descends : (test : Candidate → Bool) (cs : List Candidate) → Descends cs → Descends (filter test cs)
 kept_descends test [] h = tt
 kept_descends test (c ∷ cs) h = elim (test c) as (λ b. Descends (cond b (c ∷ filter test cs) (filter test cs))) [
@@ -177,7 +177,7 @@ first_within (c ∷ cs) (suc n) h =
 
 -- ---- one list
 
--- two lists of the same candidates, in each of which each precedes all behind it, are equal
+-- two lists of the same candidates, in each of which each precedes all after it, are equal
 pub same_rows : (xs ys : List Candidate) → Descends xs → Descends ys → ((c : Candidate) → In xs c → In ys c)
     → ((c : Candidate) → In ys c → In xs c) → xs ≡ ys
 same_rows = ordered.one_rising precedes ranks

@@ -1,4 +1,4 @@
--- Where papers say what is right, all their pieces are right.
+-- If papers say what is right, all their pieces are right.
 use Rattle.std.proofs.Common.{◌≡◌, inl, ℕ, suc, ◌-◌, ◌≤◌, Bool, true, false, cond, not, List, []}
 use Rattle.std.proofs.Common.{◌∷◌, length, map, take, filter, Option, Some, None, refl, sym, ap, ◌∙◌, subst, arith}
 use Rattle.std.proofs.Common.{◌||◌}
@@ -79,7 +79,7 @@ module _ (q : Asked) (c : Contents) (right : IsContents c) (apart : AreApart (al
   abbrev xs : List Candidate
   xs = in_order (all_candidates q c)
 
-  -- the last row, where there are as many as were asked for
+  -- the last row, if there are as many as were asked for
   abbrev worst : Option Candidate
   worst = worst_of q.k rows
 
@@ -137,7 +137,7 @@ module _ (q : Asked) (c : Contents) (right : IsContents c) (apart : AreApart (al
 
   module _ (names : AllByRecursion (λ row. name_of c.stations row.0.id ≡ Some row.1) rows) (kth : Option ℤ)
       (kth_is : kth ≡ score_of worst) where
-    -- no row is of a series that was passed over
+    -- no row is of a series that was skipped
     none_skipped : (e : Entry) (u : Usable) → In (morsels q c) u → IsRightEntry q kth e u → e.skipped ≡ true
         → (row : Named) → In rows row → row.0.id ≡ u.id → ⊥
     none_skipped e u h r s row k i =

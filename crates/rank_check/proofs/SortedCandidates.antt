@@ -39,7 +39,7 @@ in_order all = sorted_by stands_first all
 pub ordered-permutation : (all : List Candidate) → IsPermutation all (in_order all)
 ordered-permutation all = sorted-permutation stands_first all
 
--- where no two begin alike, each precedes all behind it
+-- if no two begin alike, each precedes all after it
 pub ordered-descends : (all : List Candidate) → AreApart all → Descends (in_order all)
 ordered-descends =
     sorted-rise rank_cmp rank_cmp_total stands_first (λ a b. refl) begin_alike alike-symm tied_alike

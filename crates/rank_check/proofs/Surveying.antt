@@ -144,7 +144,7 @@ scanned-more q rows ss s t new e f scan =
     ∙ tallied-all rows cs [] (candidates q s)
     ∙ ap (λ (l : List Candidate). tallied rows l (candidates q s)) all
 
--- its ID and greatest score stand behind those before it
+-- its ID and greatest score come after those before it
 pub top-behind : (q : Asked) (ss : List Usable) (s : Usable) (highest : Option ℤ) → highest ≡ top_score (candidates q s)
     → map (top q) ss ++ record { id = s.id; highest = highest } ∷ [] ≡ map (top q) (ss ++ s ∷ [])
 top-behind q ss s highest e =
@@ -153,11 +153,11 @@ top-behind q ss s highest e =
 
 -- ---- rows that a candidate can't be, nor stand before
 
--- what doesn't stand behind another doesn't stand behind what that one doesn't stand behind
+-- what doesn't come after another doesn't come after what that one doesn't come after
 reach_on : (a b c : Candidate) → is_le (full_cmp a b) ≡ true → is_le (full_cmp b c) ≡ true → is_le (full_cmp a c) ≡ true
 reach_on a b c = first_trans full_cmp full_cmp_total (λ x y. is_le (full_cmp x y)) (λ x y. refl) a b c
 
--- what doesn't stand behind the last one doesn't stand behind the later one
+-- what doesn't come after the last one doesn't come after the later one
 later-holds : (last : Option Candidate) (c m : Candidate) → reaches last m ≡ true
     → reaches (Some (later last c)) m ≡ true
 later-holds None c m h = absurd cc
@@ -188,7 +188,7 @@ last-more last rows i c z h e lt is =
     (each-weaker (λ d. reaches last d ≡ true) (λ d. reaches next d ≡ true)
     (take i rows) (λ d k. later-holds last c d k) h) (later-own last c))
 
--- a candidate that stands behind the last row stands behind each
+-- a candidate that comes after the last row comes after each
 behind : (last : Option Candidate) (d c : Candidate) → reaches last c ≡ true → reaches last d ≡ false
     → is_le (full_cmp d c) ≡ false
 behind None d c h e = absurd cc
@@ -197,7 +197,7 @@ behind (Some l) d c h e = elim (is_le (full_cmp d c)) as (λ b. is_le (full_cmp 
   | false ↦ λ f. refl
 ] refl
 
--- what stands behind is no tie
+-- what comes after is no tie
 not_tied : (o : Ordering) → is_le o ≡ false → is_eq o ≡ false
 not_tied Less e = refl
 not_tied Equal e = absurd cc
@@ -209,7 +209,7 @@ not_in_front Less p e = absurd cc
 not_in_front Equal p e = refl
 not_in_front Greater p e = refl
 
--- a candidate that stands behind a row changes nothing about it
+-- a candidate that comes after a row changes nothing about it
 row-behind : (d : Candidate) (m : Met) → is_le (full_cmp d m.candidate) ≡ false → met_by d m ≡ m
 row-behind d m e =
     let apart : is_eq (full_cmp d m.candidate) ≡ false = not_tied (full_cmp d m.candidate) e in
@@ -230,11 +230,11 @@ rows-behind last d marks (c ∷ rows) h e =
     (row-behind d (known marks c) (behind last d c h.0 e))
     ∙ ap (λ (l : List Met). known marks c ∷ l) (rows-behind last d marks rows h.1 e)
 
--- what is greater by the first of three comparisons stands behind
+-- what is greater by the first of three comparisons comes after
 greater_first : (s o l : Ordering) → s ≡ Greater → is_le (ordering_then (ordering_then s o) l) ≡ false
 greater_first s o l e = grind arith
 
--- a candidate that scores less than the last row stands behind it
+-- a candidate that scores less than the last row comes after it
 pub low-behind : (last : Option Candidate) (d : Candidate) → may_reach last d.score ≡ false → reaches last d ≡ false
 low-behind None d e = refl
 low-behind (Some l) d e =
@@ -320,7 +320,7 @@ floor-some last marks rows count highest top floor behind known is =
       under = under;
     }
 
--- where there is no last row there is none, and the greatest score so far is one
+-- if there is no last row there is none, and the greatest score so far is one
 pub floor-none : (marks : List Mark) (rows : List Candidate) (count : ℕ) (highest : Option ℤ) (top : ℤ)
     → IsLast None rows → highest ≡ Some top
     → IsFloor (record { rows = map (known marks) rows; count = count; highest = highest }) top

@@ -2,7 +2,7 @@
 use Rattle.std.proofs.Common.{◌≡◌, List, ◌++◌, ap, ◌∙◌, subst, append_assoc}
 use Rattle.rank_crew.specs.Workers.{BeginsWith}
 
--- with more behind it
+-- with more after it
 pub begins_more : {A : Type 0} {xs ys : List A} (more : List A) → ys ≡ xs ++ more → BeginsWith xs ys
 begins_more more e = record { more = more; parts = e }
 

@@ -1,4 +1,4 @@
--- Parts of lists: one place more, and two parts one behind the other.
+-- Parts of lists: one place more, and two parts one after the other.
 use Rattle.std.proofs.Common.{◌≡◌, ℕ, zero, suc, ◌+◌, ◌-◌, ◌≤◌, List, [], ◌∷◌, ◌++◌, take, drop, Some, Result, Ok}
 use Rattle.std.proofs.Common.{Err, IfOk, IsOkAnd, refl, sym, ap, ◌∙◌, arith}
 use Rattle.std.specs.Prelude.{slice_get}
@@ -10,7 +10,7 @@ take_push [] n x e = absurd cc
 take_push (y ∷ ys) zero x e = let same : y ≡ x = cc in ap (λ z. z ∷ []) same
 take_push (y ∷ ys) (suc n) x e = ap (λ l. y ∷ l) (take_push ys n x e)
 
--- a place behind those left out
+-- a place after those left out
 get_drop : {A : Type 0} (xs : List A) (f n m : ℕ) → m ≡ f + n → slice_get (drop f xs) n ≡ slice_get xs m
 get_drop xs zero n m e = let same : n ≡ m = omega (arith, e) in ap (slice_get xs) same
 get_drop [] (suc f) n m e = refl
@@ -28,7 +28,7 @@ part-push xs from place next x before after one low e b a =
     ∙ sym (take_push (drop from xs) n x (get_drop xs from n place (omega arith) ∙ e))
     ∙ ap (λ k. take k (drop from xs)) more
 
--- the first a, and the next b behind them
+-- the first a, and the next b after them
 take_both : {A : Type 0} (xs : List A) (a b c : ℕ) → c ≡ a + b → take a xs ++ take b (drop a xs) ≡ take c xs
 take_both xs zero b c e = let same : b ≡ c = omega (arith, e) in ap (λ k. take k xs) same
 take_both [] (suc a) b zero e = absurd (omega arith)
@@ -47,7 +47,7 @@ drop_both [] (suc f) (suc a) (suc g) e = refl
 drop_both (x ∷ xs) (suc f) a zero e = absurd (omega arith)
 drop_both (x ∷ xs) (suc f) a (suc g) e = drop_both xs f a g (omega (arith, e))
 
--- two parts, one behind the other
+-- two parts, one after the other
 pub part-both : {A : Type 0} (xs : List A) (from middle to : ℕ) → from ≤ middle → middle ≤ to
     → elements_between from middle xs ++ elements_between middle to xs ≡ elements_between from to xs
 part-both xs from middle to low high =
@@ -55,7 +55,7 @@ part-both xs from middle to low high =
     (drop_both xs from (middle - from) middle (omega arith))
     ∙ take_both (drop from xs) (middle - from) (to - middle) (to - from) (omega arith)
 
--- the same where each may have met want of memory
+-- the same where each may have met out of memory
 pub both_parts : {A V E : Type 0} (items : V → List A) (xs : List A) (from middle to : ℕ)
     (first second all : Result V E) → from ≤ middle → middle ≤ to
     → IfOk all (λ v. IsOkAnd first (λ a. IsOkAnd second (λ b. items v ≡ items a ++ items b)))

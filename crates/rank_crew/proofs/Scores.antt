@@ -62,14 +62,14 @@ scores-scanned t [] fair = tt
 scores-scanned t (r ∷ rs) fair =
     each-append (λ c. IsScore c.score) (scanned_for t r) (scanned t rs) (scores-for t r fair) (scores-scanned t rs fair)
 
--- the last score of a pool that had the best of some, and was offered others or passed over
+-- the last score of a pool that had the best of some, and was offered others or skipped
 last_then : (k : ℕ) (b : Bool) (xs ys : List Candidate) (p q : Pooled) → 0 < k → p ≡ best_pool k xs
     → q ≡ fold taken p (cond b [] ys) → cond b None (last_score q) ≡ cond b None (kth k (xs ++ ys))
 last_then k true xs ys p q some e f = refl
 last_then k false xs ys p q some e f =
     ap (λ (x : Pooled). last_score x) (f ∙ best_more k p xs ys e) ∙ last_is_kth k (xs ++ ys) some
 
--- a k-th score, or none where the morsel was passed over, can be a floor
+-- a k-th score, or none where the morsel was skipped, can be a floor
 raises_score : (b : Bool) (k : ℕ) (xs : List Candidate) → HaveScores xs → IfSome (cond b None (kth k xs)) IsScore
 raises_score true k xs a = tt
 raises_score false k xs a = kth_is_score k xs a

@@ -19,7 +19,7 @@ use Rattle.rank_crew.proofs.Scores.{raised_then, raised_is_score}
 module _ (b : Board) (t : Task) (w m : ℕ) (before looked : Seat) (old new : Haul) (floor raised : Option ℤ) (r : Record)
     (at : MaySettle b t before old) (made : r ≡ record_of t w m floor) (look : Looks b before floor looked)
     (settled : HasSettled t old r new) (is : raised ≡ cond r.skipped None (last_score new.pool)) where
-  -- the morsel is settled, where the seat raised this
+  -- the morsel is settled, if the seat raised this
   pub settles : (after : Seat) → raised_of after ≡ raised_of looked ++ option_to_list raised
       → seen_of after ≡ seen_of looked → Settles b t w m before after old new
   settles after rose saw = record {

@@ -183,7 +183,7 @@ works b t w n begin before after h m c past =
       seen = c.seen ∙ m.seen;
     }
 
--- want of memory in a turn: a morsel was drawn and the floor looked at, and nothing more was raised
+-- out of memory in a turn: a morsel was drawn and the floor looked at, and nothing more was raised
 pub breaks : (t : Task) (guess : Option ℤ) (b : Board) (w n : ℕ) (begin before claimed after : Seat) (h : Haul)
     → IsMidway t guess w begin before h → Claims b before n claimed → KeepsClaims b claimed after
     → OnlyLooks claimed after → BreaksOff t w begin after

@@ -1,4 +1,4 @@
--- The counts of lines whose IDs rise add up to the number of rows, where each row is of a line that was scanned.
+-- The counts of lines whose IDs rise add up to the number of rows, if each row is of a line that was scanned.
 use Rattle.std.proofs.Common.{◌≡◌, ℕ, ◌+◌, Bool, true, false, cond, not, List, [], ◌∷◌, length, map}
 use Rattle.std.proofs.Common.{refl, sym, ap, ◌∙◌, subst, arith, ◌||◌}
 use Rattle.std.specs.Prelude.{◌&&◌}
@@ -31,7 +31,7 @@ no_hits i (e ∷ es) h =
     let here : hit i e ≡ 0 = ap (λ (b : Bool). cond b 1 0) h.0 in
     omega (arith, sum-cons (hit i e) (map (hit i) es), here, no_hits i es h.1)
 
--- a line whose ID stands behind that of one that hits doesn't
+-- a line whose ID comes after that of one that hits doesn't
 behind_misses : (i : StationId) (e f : Entry) → by_bytes e.id f.id ≡ Less → hits i e ≡ true → hits i f ≡ false
 behind_misses i e f b h = by (hits i f) refl
   where
@@ -45,7 +45,7 @@ behind_misses i e f b h = by (hits i f) refl
         let tied : by_bytes e.id e.id ≡ Equal = tied_itself bytes_total e.id in
         absurd (let no : Less ≡ Equal = sym own ∙ tied in cc)
 
--- none of those behind does
+-- none of those after does
 pub all_miss : (i : StationId) (e : Entry) (es : List Entry) → AreBehind e.id es → hits i e ≡ true
     → AllByRecursion (λ f. hits i f ≡ false) es
 all_miss i e [] a h = tt

@@ -14,21 +14,21 @@ use Rattle.rank_head.specs.HeadTests.{HeadTest, same_query, floor_test, order_te
 use Rattle.rank_head.specs.HeadTests.{neighbours, stands_before, IdsRise, place_tests, count_tests, head_fault}
 use Rattle.rank_head.proofs.FirstPlaces.{first_failing-append, all_pass}
 
--- a fault that is found decides
+-- an error that is found decides
 pub some_decides : (ts us : List HeadTest) (seen : Option HeadFault) → seen ≡ first_failing ts → is_some seen ≡ true
     → seen ≡ first_failing (ts ++ us)
 some_decides ts us None e some = absurd cc
 some_decides ts us (Some fault) e some =
     ap (λ o. option_or o (first_failing us)) e ∙ sym (first_failing-append ts us)
 
--- where none is found, it is left to the tests behind
+-- if none is found, it is left to the tests after
 pub none_decides : (ts us : List HeadTest) (seen : Option HeadFault) → seen ≡ first_failing ts → is_some seen ≡ false
     → first_failing us ≡ first_failing (ts ++ us)
 none_decides ts us (Some fault) e none = absurd cc
 none_decides ts us None e none =
     ap (λ o. option_or o (first_failing us)) e ∙ sym (first_failing-append ts us)
 
--- a fault that isn't there is none
+-- an error that isn't there is none
 pub not_some : (o : Option HeadFault) → is_some o ≡ false → o ≡ None
 not_some None e = refl
 not_some (Some w) e = absurd cc
@@ -38,7 +38,7 @@ or_or : (o p r : Option HeadFault) → option_or (option_or o p) r ≡ option_or
 or_or None p r = refl
 or_or (Some w) p r = refl
 
--- no fault of two is none of the second
+-- no error of two is none of the second
 pub none_behind : (o p : Option HeadFault) → is_some (option_or o p) ≡ false → p ≡ None
 none_behind None None e = refl
 none_behind None (Some w) e = absurd cc
@@ -56,18 +56,18 @@ early_tests q rows kth es =
     (sym (first_failing-append (floor_test q rows kth ∷ []) (rising_tests es)))
     ∙ sym (first_failing-append (order_tests rows) (floor_test q rows kth ∷ rising_tests es))
 
--- a test that fails is the first, whatever stands behind it
+-- a test that fails is the first, whatever comes after it
 first_fails : (t : HeadTest) (ts : List HeadTest) → t.0 ≡ false → Some t.1 ≡ first_failing (t ∷ ts)
 first_fails (true, why) ts e = absurd cc
 first_fails (false, why) ts e = refl
 
--- one that passes leaves it to those behind
+-- one that passes leaves it to those after
 first_passes : (t : HeadTest) (ts : List HeadTest) → t.0 ≡ true → first_failing (t ∷ ts) ≡ first_failing ts
 first_passes (true, why) ts e = refl
 first_passes (false, why) ts e = absurd cc
 
 module _ (q : Asked) (r : Reported) (z : Certified) where
-  -- the tests behind those of the queries
+  -- the tests after those of the queries
   abbrev behind : List HeadTest
   behind = place_tests q r.rows z.kth z.entries ++ count_tests r.rows z.entries z.counts
 
@@ -89,7 +89,7 @@ module _ (q : Asked) (r : Reported) (z : Certified) where
   other_certificate e f =
       first_fails of_certificate behind f ∙ sym (first_passes of_report (of_certificate ∷ behind) e)
 
-  -- papers of the query are left to the tests behind
+  -- papers of the query are left to the tests after
   pub behind_queries : same_query r.query q ≡ true → same_query z.query q ≡ true
       → head_fault q r z
       ≡ first_failing (place_tests q r.rows z.kth z.entries ++ count_tests r.rows z.entries z.counts)
@@ -117,8 +117,8 @@ module _ (q : Asked) (rows : List Named) (kth : Option ℤ) (es : List Entry) (o
 
 -- ---- the head
 
--- the tests of order, of the k-th score and of lines, with those of series and of counts behind them, are the tests of
--- places with those of counts behind them
+-- the tests of order, of the k-th score and of lines, with those of series and of counts after them, are the tests of
+-- places with those of counts after them
 in_turn : (order rising scanned counts : List HeadTest) (floor : HeadTest)
     → (order ++ floor ∷ rising) ++ (scanned ++ counts) ≡ (order ++ floor ∷ rising ++ scanned) ++ counts
 in_turn order rising scanned counts floor = simp append_assoc

@@ -49,7 +49,7 @@ rows = row a (pos 311) ∷ row b (pos 305) ∷ []
 abbrev lines : List Entry
 lines = line false a (pos 311) ∷ line false b (pos 305) ∷ line true c (pos 300) ∷ []
 
--- no fault: with counts, of version 1 without, and where there are fewer rows than were asked for
+-- no error: with counts, of version 1 without, and where there are fewer rows than were asked for
 right : (head_fault (ask 2) (report rows) (certificate (Some (pos 305)) lines (1 ∷ 1 ∷ 0 ∷ [])) ≡ None)
     × (head_fault (ask 2) (report rows)
     (record { version = 1; query = ask 2; kth = Some (pos 305); entries = lines; counts = [] }) ≡ None)
@@ -94,7 +94,7 @@ rise : (head_fault (ask 2) (report []) (certificate None (line false b (pos 1) �
 unfolding digits
 rise = (refl, refl, refl)
 
--- a row of a series that was passed over, and one of a series without a line
+-- a row of a series that was skipped, and one of a series without a line
 scanned : (head_fault (ask 2) (report rows)
     (certificate (Some (pos 305)) (line true a (pos 304) ∷ line false b (pos 305) ∷ []) []) ≡ Some (NotScanned 3))
     × (head_fault (ask 2) (report rows) (certificate (Some (pos 305)) (line false a (pos 311) ∷ []) [])

@@ -27,7 +27,7 @@ module _ {A : Type 0} (passes : A → Bool) (why : ℕ → HeadFault) where
       front_passes n x xs (h 0 x (omega arith) (omega arith))
       ∙ none_fails (suc n) xs (λ k d low high. h (suc k) d (omega arith) (omega arith))
 
-  -- where one fails behind others that pass, its line is refused
+  -- if one fails after others that pass, its line is refused
   one_fails : (n : ℕ) (xs : List A) (i : ℕ) → i < length xs → HoldsAt (λ x. passes x ≡ false) xs i
       → AllWithin (λ x. passes x ≡ true) xs 0 i → first_failing (on_lines passes why n xs) ≡ Some (why (n + i))
   one_fails n [] i below here before = absurd (omega arith)
@@ -70,7 +70,7 @@ neighbours-zip [] = refl
 neighbours-zip (x ∷ []) = refl
 neighbours-zip (x ∷ y ∷ xs) = ap (λ l. (x, y) ∷ l) (neighbours-zip (y ∷ xs))
 
--- those behind the first, as many as there are
+-- those after the first, as many as there are
 pub behind_first : {A : Type 0} (xs : List A) → take (length xs - 1) (drop 1 xs) ≡ drop 1 xs
 behind_first [] = refl
 behind_first (x ∷ xs) =

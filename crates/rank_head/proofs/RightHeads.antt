@@ -1,4 +1,4 @@
--- No test of a head fails exactly where it is right.
+-- No test of a head fails if and only if it is right.
 use Rattle.std.proofs.Common.{◌≡◌, inl, inr, ℕ, true, false, List, [], ◌∷◌, ◌++◌, map, Option, Some, None}
 use Rattle.std.proofs.Common.{Ok, refl, sym, ap, ◌∙◌, ℤ}
 use Rattle.std.specs.Prelude.{codes, ◌==◌}
@@ -50,7 +50,7 @@ pub front_none : (t : HeadTest) (ts : List HeadTest) → first_failing (t ∷ ts
 front_none (true, why) ts e = (refl, e)
 front_none (false, why) ts e = absurd cc
 
--- one that passes leaves it to those behind
+-- one that passes leaves it to those after
 pub front_passed : (t : HeadTest) (ts : List HeadTest) → t.0 ≡ true → first_failing ts ≡ None
     → first_failing (t ∷ ts) ≡ None
 front_passed (true, why) ts e f = f
@@ -145,7 +145,7 @@ module _ (rows : List Named) (z : Certified) where
 
 module _ (certificates : CertificatesAreRead) (q : Asked) (r : Reported) (z : Certified) (asked : IsAsked q)
     (can_r : IsReported r) (can_z : IsCertified z) where
-  -- the tests of the queries, and those behind them
+  -- the tests of the queries, and those after them
   abbrev of_report : HeadTest
   of_report = (same_query r.query q, OtherReportQuery)
 

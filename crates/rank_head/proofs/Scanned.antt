@@ -41,12 +41,12 @@ not_less o Greater e h = absurd cc
 
 -- ---- lines that rise
 
--- the lines behind the first rise too
+-- the lines after the first rise too
 pub rise-behind : (e : Entry) (es : List Entry) → IdsRise (e ∷ es) → IdsRise es
 rise-behind e [] h = tt
 rise-behind e (f ∷ es) h = h.1
 
--- each line of some has an ID behind this one
+-- each line of some has an ID after this one
 abbrev pub AreBehind : StationId → List Entry → Type 0
 AreBehind id es = AllByRecursion (λ f. by_bytes id f.id ≡ Less) es
 
@@ -58,7 +58,7 @@ before_all id e (f ∷ es) b h =
     let next : by_bytes id f.id ≡ Less = bytes_total.trans id e.id f.id b (less (by_bytes e.id f.id) h.0) in
     (b, before_all id f es next h.1)
 
--- the lines behind the first have IDs behind its own
+-- the lines after the first have IDs after its own
 pub behind_first : (e : Entry) (es : List Entry) → IdsRise (e ∷ es) → AreBehind e.id es
 behind_first e [] h = tt
 behind_first e (f ∷ es) h = before_all e.id f es (less (by_bytes e.id f.id) h.0) h.1
@@ -76,14 +76,14 @@ none_scanned id (e ∷ es) h =
     by true f g = ap (λ s. s || is_scanned es id) f ∙ g
     by false f g = g
 
--- the line at a place is one of those that are behind
+-- the line at a place is one of those that are after
 at_behind : (id : StationId) (es : List Entry) (i : ℕ) (d : Entry) → AreBehind id es → i < length es
     → by_bytes id (get_or es i d).id ≡ Less
 at_behind id [] i d h below = absurd (omega arith)
 at_behind id (e ∷ es) zero d h below = h.0
 at_behind id (e ∷ es) (suc i) d h below = at_behind id es i d h.1 (omega arith)
 
--- where the line at a place is of a station, it says whether the station was scanned
+-- if the line at a place is of a station, it says whether the station was scanned
 pub scanned_at : (id : StationId) (es : List Entry) (i : ℕ) (d : Entry) → IdsRise es → i < length es
     → by_bytes (get_or es i d).id id ≡ Equal → is_scanned es id ≡ not (get_or es i d).skipped
 scanned_at id [] i d h below e = absurd (omega arith)
@@ -127,7 +127,7 @@ others_not_scanned id (e ∷ es) h =
     by true f g = ap (λ s. s || is_scanned es id) f ∙ g
     by false f g = g
 
--- a place between lines before a station and lines behind it
+-- a place between lines before a station and lines after it
 pub not_scanned : (id : StationId) (es : List Entry) (i : ℕ)
     → IsPartitionPoint (λ e. by_bytes e.id id ≡ Less) (λ e. by_bytes e.id id ≡ Greater) es i
     → is_scanned es id ≡ false

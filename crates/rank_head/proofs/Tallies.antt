@@ -46,7 +46,7 @@ module _ (id : StationId) where
   miss_at (e ∷ es) zero d h below = h.0
   miss_at (e ∷ es) (suc i) d h below = miss_at es i d h.1 (omega arith)
 
-  -- the first line misses where one behind it hits
+  -- the first line misses where one after it hits
   before_misses : (e : Entry) (es : List Entry) (i : ℕ) (d : Entry) → IdsRise (e ∷ es) → i < length es
       → hits id (get_or es i d) ≡ true → hits id e ≡ false
   before_misses e es i d up below h = by (hits id e) refl
@@ -58,7 +58,7 @@ module _ (id : StationId) where
           miss_at es i d (all_miss id e es (behind_first e es up) t) below in
           absurd (let no : true ≡ false = sym h ∙ miss in cc)
 
-  -- where the line at a place hits, one more is counted for it alone
+  -- if the line at a place hits, one more is counted for it alone
   pub one_more : (es : List Entry) (i : ℕ) (d : Entry) → IdsRise es → i < length es → hits id (get_or es i d) ≡ true
       → (count : Entry → ℕ)
       → set (map count es) i (get_or (map count es) i 0 + 1) ≡ map (λ e. hit id e + count e) es
@@ -75,7 +75,7 @@ module _ (id : StationId) where
       ∙ ap (λ (ns : List ℕ). (hit id e + count e) ∷ ns)
       (one_more es i d (rise-behind e es up) (omega arith) h count)
 
-  -- a line of the station that wasn't passed over hits
+  -- a line of the station that wasn't skipped hits
   pub hits_here : (e : Entry) → by_bytes e.id id ≡ Equal → e.skipped ≡ false → hits id e ≡ true
   hits_here e same scanned =
       ap (λ (b : Bool). not b && same_id e.id id) scanned ∙ same_by e.id id Equal same
@@ -91,7 +91,7 @@ module _ (id : StationId) where
 
 -- ---- all rows
 
--- a row behind others counts as one before them
+-- a row after others counts as one before them
 count-last : (d : Candidate) (ds : List Candidate) (e : Entry) → count_of (ds ++ d ∷ []) e ≡ hit d.id e + count_of ds e
 count-last d [] e = count-more d [] e
 count-last d (c ∷ ds) e =
@@ -126,7 +126,7 @@ candidates-last : (rows : List Row) (row : Row)
 candidates-last [] row = refl
 candidates-last (r ∷ rows) row = ap (λ (cs : List Candidate). r.candidate ∷ cs) (candidates-last rows row)
 
--- where the first rows were counted, and one more is, one more of the first is counted
+-- if the first rows were counted, and one more is, one more of the first is counted
 pub next-counted : (rows : List Row) (es : List Entry) (n : ℕ) (row : Row) (old new : List ℕ) → n < length rows
     → row ≡ get_or rows n row → old ≡ map (count_of (first_candidates n rows)) es
     → IsOneMore row.candidate.id es old new → new ≡ map (count_of (first_candidates (n + 1) rows)) es

@@ -52,7 +52,7 @@ with_current i current = record {
   files = record { ended = i.files.ended; current = current };
 }
 
--- one file behind some others
+-- one file after some others
 with_files-one : (i : Input) (files : List (List ℕ)) (bytes : List ℕ)
     → with_files i (files ++ bytes ∷ []) ≡ with_file (with_files i files) bytes
 with_files-one i [] bytes = refl
@@ -84,7 +84,7 @@ known-more {X} f xs i d lt = ap (λ k. map f (take k xs)) (add-one i) ∙ go xs 
     go (x ∷ xs) zero d lt = refl
     go (x ∷ xs) (suc i) d lt = ap (λ (ks : List (Option (List ℕ))). f x ∷ ks) (go xs i d (omega arith))
 
--- what is known of the first files, where these are all
+-- what is known of the first files, if these are all
 pub known-all : {X : Type 0} (f : X → Option (List ℕ)) (xs : List X) (i : ℕ) → length xs ≤ i
     → map f (take i xs) ≡ map f xs
 known-all f [] zero le = refl

@@ -104,6 +104,6 @@ refuses_input t q r fault is refuses = record {
       (refuses.is (fed_for q reading.stations i.files) reading.fed);
 }
 
--- want of memory is a refusal of any input
+-- out of memory is a refusal of any input
 pub memory_refuses : (t : Intake) (fault : Fault) → is_memory fault ≡ true → RefusesInput t fault
 memory_refuses t fault is = record { is = λ i taken. rw is tt }

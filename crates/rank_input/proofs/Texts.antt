@@ -17,7 +17,7 @@ texts-more files i d lt = ap (λ k. take k (texts files)) (add-one i) ∙ go fil
     go (f ∷ fs) zero d lt = refl
     go (f ∷ fs) (suc i) d lt = ap (λ (ts : List (List ℕ)). f.now ∷ ts) (go fs i d (omega arith))
 
--- the first files, where these are all
+-- the first files, if these are all
 pub all_texts : (files : List (Bor (List ℕ))) (i : ℕ) → length files ≤ i → take i (texts files) ≡ texts files
 all_texts [] zero le = refl
 all_texts [] (suc i) le = refl

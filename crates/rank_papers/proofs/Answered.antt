@@ -1,4 +1,4 @@
--- What follows of an answer, where there is one.
+-- What follows of an answer, if there is one.
 use Rattle.std.proofs.Common.{Result, Ok, Err}
 use Rattle.std.specs.Prelude.{IfOk}
 

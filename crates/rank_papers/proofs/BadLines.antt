@@ -18,14 +18,14 @@ Lines = List (List ℕ)
 abbrev pub Reader : Type 0 → Type 0
 Reader V = Lines → Result V ℕ
 
--- with some lines behind them these are read
+-- with some lines after them these are read
 pub record Begun {V : Type 0} (read : Reader V) (ls : Lines) : Type 0 where
   pub more : Lines
   pub value : V
   pub is : read (ls ++ more) ≡ Ok value
 
--- the reading of these lines, counted from a number on, ends at the line of this number, whatever stands behind it, or
--- where the lines stop; the lines before it are read with some behind them
+-- the reading of these lines, counted from a number on, ends at the line of this number, whatever comes after it, or
+-- where the lines stop; the lines before it are read with some after them
 pub record EndsAt {V : Type 0} (read : Reader V) (first : ℕ) (ls : Lines) (n : ℕ) : Type 0 where
   pub before : Lines
   pub begun : Begun read before
@@ -74,7 +74,7 @@ module _ {V : Type 0} (read : Reader V) (first : ℕ) (begun : Begun read []) wh
 
 module _ {V W : Type 0} (rest : Reader V) (read : Reader W) (l : List ℕ) (onto : Result V ℕ → Result W ℕ)
     (keeps : Keeps onto) (is : (ls : Lines) → read (l ∷ ls) ≡ onto (rest ls)) where
-  -- what is read behind a line is read with it
+  -- what is read after a line is read with it
   begun_behind : (ls : Lines) → Begun rest ls → Begun read (l ∷ ls)
   begun_behind ls b = record {
     more = b.more;
@@ -99,7 +99,7 @@ module _ {V W : Type 0} (rest : Reader V) (read : Reader W) (l : List ℕ) (onto
     ];
   }
 
--- the first line is read as something, and what stands behind it by what that was
+-- the first line is read as something, and what comes after it by what that was
 pub record IsByLine {A V W : Type 0} (in_line : List ℕ → Option A) (rest : A → Reader V)
     (onto : A → Result V ℕ → Result W ℕ) (read : Reader W) (first : ℕ) : Type 0 where
   pub none : read [] ≡ Err first
@@ -114,7 +114,7 @@ module _ {A V W : Type 0} (in_line : List ℕ → Option A) (rest : A → Reader
       → read (l ∷ ls) ≡ option_map_or (λ a. onto a (rest a ls)) o (Err first)
   by_value l o e ls = is.some l ls ∙ ap (λ (x : Option A). option_map_or (λ a. onto a (rest a ls)) x (Err first)) e
 
-  -- so lines are read one after the other where those behind the first are
+  -- so lines are read one after the other where those after the first are
   pub by_line : (l : List ℕ) (a : A) → in_line l ≡ Some a → ((x : A) → IsInOrder (rest x) (suc first))
       → IsInOrder read first
   by_line l a e each = record { begun = begun; ends = ends }
@@ -139,7 +139,7 @@ module _ {A V W : Type 0} (in_line : List ℕ → Option A) (rest : A → Reader
 
 module _ {A : Type 0} (first : ℕ) (value_in : ℕ → List ℕ → Option A) (end : ℕ → List ℕ)
     (end_is_other : (n : ℕ) → value_in n (end n) ≡ None) where
-  -- the values of lines behind so many others
+  -- the values of lines after that many others
   abbrev read : ℕ → Reader (List A)
   read n = up_to_end first value_in end n
 
@@ -154,7 +154,7 @@ module _ {A : Type 0} (first : ℕ) (value_in : ℕ → List ℕ → Option A) (
       ap (λ (x : Option A). value_or_end (n + first) x (same_bytes l (end n)) ls (read (suc n) ls)) s
       ∙ ap (λ (x : Bool). value_or_end (n + first) o x ls (read (suc n) ls)) t
 
-  -- an end line is read, and nothing behind it
+  -- an end line is read, and nothing after it
   begun_by_end : (n : ℕ) → Begun (read n) []
   begun_by_end n = record {
     more = end n ∷ [];
@@ -212,7 +212,7 @@ pub record IsForm {V : Type 0} (IsText : List ℕ → Type 0) (read : Reader V) 
 
 module _ {V : Type 0} (IsText : List ℕ → Type 0) (read : Reader V) (form : IsForm IsText read)
     (order : IsInOrder read 1) where
-  -- a line with which the reading ends, whatever stands behind it, is none with which a paper goes on
+  -- a line with which the reading ends, whatever comes after it, is none with which a paper goes on
   no_paper : (ls : Lines) (n : ℕ) → ((more : Lines) → read (ls ++ more) ≡ Err n) → Begin IsText ls → ⊥
   no_paper ls n bad b =
       let said = form.is_read b.text b.has_form in

@@ -101,7 +101,7 @@ none_before P k y x ys t p b = by (t.others x p)
     by (inl (inr h)) = asym x y b (of_one (Before y) ys x t.order.0 h)
     by (inr all) = asym x y b all.1.0
 
--- where there are none, nothing has the property or none is wanted
+-- if there are none, nothing has the property or none is wanted
 none_first : (P : Candidate → Type 0) (k : ℕ) (y : Candidate) (ys : List Candidate) → AreTop P k []
     → AreTop P k (y ∷ ys) → ⊥
 none_first P k y ys s t =
@@ -110,7 +110,7 @@ none_first P k y ys s t =
       | inr all ↦ let few : length (y ∷ ys) ≤ k = t.few in absurd (omega (arith, all.0, few))
     ]
 
--- what stands behind the first are the first of what is listed behind it
+-- what comes after the first are the first of what is listed after it
 tail_top : (P : Candidate → Type 0) (k : ℕ) (x : Candidate) (xs : List Candidate) → AreTop P (suc k) (x ∷ xs)
     → AreTop (λ z. P z × Before x z) k xs
 tail_top P k x xs t = record {
@@ -150,7 +150,7 @@ take-descends zero xs h = tt
 take-descends (suc k) [] h = tt
 take-descends (suc k) (x ∷ xs) h = (take-all (Before x) k xs h.0, take-descends k xs h.1)
 
--- another of the list stands behind k
+-- another of the list comes after k
 out_of_take : (k : ℕ) (xs : List Candidate) → Descend Before xs → (z : Candidate) → In xs z
     → In (take k xs) z ⊎ ((length (take k xs) ≡ k) × AllByRecursion (λ b. Before b z) (take k xs))
 out_of_take zero xs h z i = inr (refl, tt)

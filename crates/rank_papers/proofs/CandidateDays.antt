@@ -26,7 +26,7 @@ IsOfDays c = (is_day c.first ≡ true) × (is_day c.last ≡ true)
 
 -- ---- runs
 
--- where a number passes, its run goes on behind it
+-- if a number passes, its run goes on after it
 run-more : (such : ℤ → Bool) (n : ℕ) (a : ℤ) → such a ≡ true
     → run_from such (suc n) a ≡ suc (run_from such n (a +ℤ pos 1))
 unfolding run_from

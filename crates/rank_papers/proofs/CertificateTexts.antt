@@ -39,7 +39,7 @@ use Rattle.rank_papers.proofs.WrittenLines.{lines-of_fields, printable-append, v
 abbrev kth_text : Option ℤ → List ℕ
 kth_text kth = option_map_or signed_decimal kth (codes "none")
 
--- a count behind its blank, where there is one
+-- a count after its blank, if there is one
 abbrev count_text : Bool → ℕ → List ℕ
 count_text has n = cond has (32 ∷ decimal n) []
 
@@ -52,7 +52,7 @@ word_printable : (skipped : Bool) → list_all is_printable (word_of skipped) �
 word_printable true = refl
 word_printable false = refl
 
--- so can a count behind its blank
+-- so can a count after its blank
 count_printable : (has : Bool) (n : ℕ) → list_all is_printable (count_text has n) ≡ true
 count_printable true n = decimal_printable n
 count_printable false n = refl
@@ -177,7 +177,7 @@ word_says : (skipped : Bool) → same_bytes (word_of skipped) (codes "skip") ≡
 word_says true = refl
 word_says false = refl
 
--- ---- a bound, and a count behind it
+-- ---- a bound, and a count after it
 
 -- digits have no blank
 decimal_plain : (n : ℕ) → n < 2 ^ 64 → list_all no_blank (decimal n) ≡ true
@@ -211,7 +211,7 @@ bound_first : (has : Bool) (n : ℕ) (word : List ℕ) → list_all no_blank wor
 bound_first true n word plain = word_first word (decimal n) plain
 bound_first false n word plain = all_one_word word plain
 
--- a count is read of what stands behind the bound
+-- a count is read of what comes after the bound
 count_read : (has : Bool) (n : ℕ) (word : List ℕ) → n ≤ 1000 → (has ≡ false → n ≡ 0)
     → count_field has (drop (length word + 1) (word ++ count_text has n)) ≡ Some n
 count_read true n word few none =
@@ -327,7 +327,7 @@ written_read v is =
     (length v.entries) (λ n. entry_in-end (length v.entries) w) (λ n l can lt. entry_in-line w l can) ls 0 each count)
     ∙ ap (λ (x : Certified). Ok x) (whole_again v is.counts)
 
--- so a text is read as a value exactly where it is the text of the value
+-- so a text is read as a value if and only if it is the text of the value
 pub text_read : (bytes : List ℕ) (v : Certified) → IsCertificateOf v bytes → read_certificate bytes ≡ Ok v
 text_read bytes v h =
     ap read_certificate h.text ∙ ap certified_lines (lines-written v h.can_be) ∙ written_read v h.can_be

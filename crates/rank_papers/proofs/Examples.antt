@@ -27,7 +27,7 @@ text (l ∷ ls) = l ++ 10 ∷ text ls
 abbrev entry : Bool → StationId → ℤ → Entry
 entry skipped id bound = record { id = id; bound = bound; skipped = skipped }
 
--- two series were scanned, and one was passed over
+-- two series were scanned, and one was skipped
 three : certificate_text (record {
   version = 1;
   query = top 1 (Highest Tmax);
@@ -46,7 +46,7 @@ three : certificate_text (record {
 unfolding digits
 three = refl
 
--- the same in version 2, where one row is of the first series and none of the second
+-- the same in version 2, if one row is of the first series and none of the second
 counted : certificate_text (record {
   version = 2;
   query = top 1 (Highest Tmax);

@@ -9,7 +9,7 @@ use Rattle.rank_papers.specs.Places.{Begin, IsFirstBadLine}
 abbrev Lines : Type 0
 Lines = List (List ℕ)
 
--- a longer beginning of the same lines has the line behind a shorter one
+-- a longer beginning of the same lines has the line after a shorter one
 longer : (front : Lines) (x : List ℕ) (rest other more : Lines) → front ++ x ∷ rest ≡ other ++ more
     → length front < length other → (zs : Lines) × (other ≡ (front ++ x ∷ []) ++ zs)
 longer [] x rest [] more e lt = absurd (omega arith)

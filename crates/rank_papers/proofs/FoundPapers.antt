@@ -47,7 +47,7 @@ abbrev lines_with : ℕ → List Candidate → List Entry → List ℕ
 lines_with version best es =
     flat_map (λ e. entry_line version (record { entry = e; count = count_by (λ x. same_id x.id e.id) best })) es
 
--- a line whose series was passed over has no count, so it doesn't matter which
+-- a line whose series was skipped has no count, so it doesn't matter which
 count_unseen : (best : List Candidate) (e : Entry)
     → entry_line 2 (record { entry = e; count = count_of best e })
     ≡ entry_line 2 (record { entry = e; count = count_by (λ x. same_id x.id e.id) best })

@@ -69,7 +69,7 @@ in_i64-some (Some y) z e = elim (is_i64 y) as (λ b. is_i64 y ≡ b → cond b (
   | false ↦ λ s f. absurd cc
 ] refl e
 
--- ---- what goes on behind a line
+-- ---- what goes on after a line
 
 -- what goes on with a value had one
 pub option-ok : {A B : Type 0} (f : A → Result B ℕ) (o : Option A) (n : ℕ) (v : B)
@@ -77,7 +77,7 @@ pub option-ok : {A B : Type 0} (f : A → Result B ℕ) (o : Option A) (n : ℕ)
 option-ok f None n v h = absurd cc
 option-ok f (Some x) n v h = (x, refl, h)
 
--- what goes on behind a test passed it
+-- what goes on after a test passed it
 pub cond-ok : {B : Type 0} (b : Bool) (r : Result B ℕ) (n : ℕ) (v : B) → cond b r (Err n) ≡ Ok v
     → (b ≡ true) × (r ≡ Ok v)
 cond-ok true r n v h = (refl, h)

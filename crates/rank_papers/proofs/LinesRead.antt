@@ -5,7 +5,7 @@ use Rattle.std.specs.Cmp.Lexicographic.{bytes_decides}
 use Rattle.ghcn_fields.specs.Bytes.{same_bytes}
 use Rattle.rank_papers.specs.Lines.{paper_lines, onto_first, IsFirstLineCut, and_then, nothing_behind, ends_by, value_or_end, up_to_end}
 
--- ---- behind an end line
+-- ---- after an end line
 
 module _ {A : Type 0} (n : ℕ) where
   -- a byte and more lines aren't nothing
@@ -13,7 +13,7 @@ module _ {A : Type 0} (n : ℕ) where
   onto_some b [] = refl
   onto_some b (l ∷ ls) = refl
 
-  -- where bytes stand behind the end line, lines do
+  -- if bytes come after the end line, lines do
   some_lines : (behind : List ℕ) → 0 < length behind → nothing_behind {A = A} n (paper_lines behind) ≡ Err (n + 1)
   some_lines [] some = absurd (omega arith)
   some_lines (b ∷ bytes) some = elim (b == 10) as (λ t. nothing_behind {A = A} n (cond t ((b ∷ []) ∷ paper_lines bytes)
@@ -22,7 +22,7 @@ module _ {A : Type 0} (n : ℕ) where
         | false ↦ onto_some b (paper_lines bytes)
       ]
 
-  -- what stands behind the end line is bad
+  -- what comes after the end line is bad
   pub ends_by-more : (m : ℕ) (line end behind : List ℕ) → line ≡ end → 0 < length behind → n + 1 ≡ m
       → ends_by {A = A} n (same_bytes line end) (paper_lines behind) ≡ Err m
   ends_by-more m line end behind e some next =
@@ -43,7 +43,7 @@ and_values-more xs x (Ok ys) = ap Ok (append_assoc xs (x ∷ []) ys)
 and_values-more xs x (Err n) = refl
 
 module _ {A : Type 0} (first : ℕ) (value_in : ℕ → List ℕ → Option A) (end : ℕ → List ℕ) (text : List ℕ) where
-  -- the values of a text behind so many others
+  -- the values of a text after that many others
   abbrev read : ℕ → List ℕ → Result (List A) ℕ
   read n rest = up_to_end first value_in end n (paper_lines rest)
 
@@ -53,7 +53,7 @@ module _ {A : Type 0} (first : ℕ) (value_in : ℕ → List ℕ → Option A) (
 
   module _ (found : List A) (n : ℕ) (rest line behind : List ℕ) (h : HasRead found rest)
       (cut : IsFirstLineCut rest (Some (line, behind))) (count : n ≡ length found) where
-    -- the line that is cut off is a value with others behind it, or the end line
+    -- the line that is cut off is a value with others after it, or the end line
     pub HasRead-line : (o : Option A) → o ≡ value_in n line
         → read 0 text ≡ and_values found (value_or_end (n + first) o (same_bytes line (end n)) (paper_lines behind)
         (read (suc n) behind))
@@ -72,7 +72,7 @@ module _ {A : Type 0} (first : ℕ) (value_in : ℕ → List ℕ → Option A) (
         ∙ ap (λ (xs : List A). and_values xs (read (suc n) behind)) push
         ∙ and_values-more found x (read (suc n) behind) ∙ sym (HasRead-line (Some x) is)
 
-    -- where no value stands and the line is the end line, those found are all
+    -- if no value stands and the line is the end line, those found are all
     pub HasRead-all : None ≡ value_in n line
         → ends_by {A = A} (n + first) (same_bytes line (end n)) (paper_lines behind) ≡ Ok [] → read 0 text ≡ Ok found
     HasRead-all is ends = HasRead-line None is ∙ ap (and_values found) ends ∙ ap Ok (append-nil found)

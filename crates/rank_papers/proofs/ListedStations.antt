@@ -74,7 +74,7 @@ is_blank b = b == 32
 abbrev left : List ℕ → ℕ
 left bytes = length bytes - suffix_len is_blank bytes
 
--- so many
+-- that many
 length-trimmed : (bytes : List ℕ) → length (trimmed bytes) ≡ length bytes - suffix_len (λ b. b == 32) bytes
 length-trimmed bytes = length-take-le (length bytes - suffix_len (λ b. b == 32) bytes) bytes (omega arith)
 

@@ -12,7 +12,7 @@ use Rattle.rank_papers.specs.Certificate.{IsCertificate, IsRightEntry, counts_of
 use Rattle.rank_papers.specs.PlanPapers.{IsMeasuredCertificate}
 use Rattle.rank_papers.specs.OneElement.{ReportStays, CertificateStays, MeasuredStays}
 
--- what is right of a report in some data is right of it in others, where they have the same stations and the same best
+-- what is right of a report in some data is right of it in others, if they have the same stations and the same best
 report-moved : (q : Asked) (a b : Contents) (bytes : List ℕ) → a.stations ≡ b.stations →
     best_of_query q a ≡ best_of_query q b → IsReport q a bytes → IsReport q b bytes
 report-moved q a b bytes listed same r = record {
@@ -22,7 +22,7 @@ report-moved q a b bytes listed same r = record {
   text = r.text;
 }
 
--- and of a certificate, where they have the same best, the same k-th score and the same morsels
+-- and of a certificate, if they have the same best, the same k-th score and the same morsels
 certificate-moved : (q : Asked) (a b : Contents) (bytes : List ℕ) → best_of_query q a ≡ best_of_query q b →
     kth_of_query q a ≡ kth_of_query q b → morsels q a ≡ morsels q b → IsCertificate q a bytes → IsCertificate q b bytes
 certificate-moved q a b bytes best kth same z = record {

@@ -11,21 +11,21 @@ onto-some : {A : Type 0} (x : A) (r : Result (List A) ℕ) (xs : List A) → and
 onto-some x (Ok ys) xs h = (ys, refl, cc)
 onto-some x (Err n) xs h = absurd cc
 
--- nothing was found behind the end line
+-- nothing was found after the end line
 nothing-some : {A : Type 0} (n : ℕ) (ls : List (List ℕ)) (xs : List A) → nothing_behind n ls ≡ Ok xs
     → (ls ≡ []) × (xs ≡ [])
 nothing-some n [] xs h = (refl, cc)
 nothing-some n (l ∷ ls) xs h = absurd cc
 
 module _ {A : Type 0} (line : ℕ → A → List ℕ) where
-  -- the lines of values, behind so many others
+  -- the lines of values, after that many others
   abbrev pub lines_by : ℕ → List A → List (List ℕ)
   lines_by n [] = []
   lines_by n (x ∷ xs) = line n x ∷ lines_by (suc n) xs
 
 module _ {A : Type 0} (first : ℕ) (value_in : ℕ → List ℕ → Option A) (end : ℕ → List ℕ) (line : ℕ → A → List ℕ)
     (CanBe : A → Type 0) where
-  -- where an end line is none of the kind and a line is read as its value, values are read of their lines
+  -- if an end line is none of the kind and a line is read as its value, values are read of their lines
   pub values-read : (m : ℕ) → ((n : ℕ) → value_in n (end m) ≡ None)
       → ((n : ℕ) (x : A) → CanBe x → n < m → value_in n (line n x) ≡ Some x) → (xs : List A) (n : ℕ)
       → AllByRecursion CanBe xs → m ≡ n + length xs
@@ -42,7 +42,7 @@ module _ {A : Type 0} (first : ℕ) (value_in : ℕ → List ℕ → Option A) (
       ∙ ap (and_then x) (values-read m other is xs (suc n) each.1 (omega (arith, count)))
 
   module _ (May : ℕ → Type 0) where
-    -- lines are those of values that can be, behind so many others, and of an end line: not more than there may be
+    -- lines are those of values that can be, after that many others, and of an end line: not more than there may be
     pub record AreValues (n : ℕ) (ls : List (List ℕ)) (xs : List A) : Type 0 where
       pub lines : ls ≡ lines_by line n xs ++ end (n + length xs) ∷ []
       pub may : May (n + length xs)

@@ -45,7 +45,7 @@ top_ten =
     ∷ (on_day c (pos 18444) (pos 250), codes "CHARLIE")
     ∷ []
 
--- the report with them, where ten were asked for
+-- the report with them, if ten were asked for
 abbrev top_ten_text : List ℕ
 top_ten_text = text (
     codes "extremes report 1"

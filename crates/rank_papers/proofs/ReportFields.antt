@@ -46,7 +46,7 @@ first_word-whole text none =
 
 -- ---- the columns of a row
 
--- the printed value behind a rank of so many digits
+-- the printed value after a rank of that many digits
 abbrev pub value_at : ℕ → List ℕ → List ℕ
 value_at digits line = first_word (slice_range line (digits + 35) (length line - 1))
 
@@ -163,11 +163,11 @@ cut_out q digits line row e =
 -- ---- the row whose line it is
 
 module _ (q : Asked) (rank : ℕ) (line : List ℕ) (digits : ℕ) where
-  -- where the columns hold no row, the line is that of none
+  -- if the columns hold no row, the line is that of none
   pub row_in-none : digits ≡ length (decimal rank) → None ≡ row_in_columns q digits line → None ≡ row_in q rank line
   row_in-none d e = ap (exactly (row_line q rank) line) (e ∙ ap (λ (n : ℕ). row_in_columns q n line) d)
 
-  -- where they hold one, its own line is compared
+  -- if they hold one, its own line is compared
   row_in-some : (row : Named) → digits ≡ length (decimal rank) → Some row ≡ row_in_columns q digits line
       → exactly (row_line q rank) line (Some row) ≡ row_in q rank line
   row_in-some row d e = ap (exactly (row_line q rank) line) (e ∙ ap (λ (n : ℕ). row_in_columns q n line) d)
@@ -184,7 +184,7 @@ module _ (q : Asked) (rank : ℕ) (line : List ℕ) (digits : ℕ) where
       → same ≡ false → None ≡ row_in q rank line
   row_in-other row same d e is t = ap (λ (b : Bool). cond b (Some row) None) (sym t ∙ is) ∙ row_in-some row d e
 
--- where there may be one more row, it is the next
+-- if there may be one more row, it is the next
 pub row_behind-next : (q : Asked) (n : ℕ) (line : List ℕ) → n < q.k → row_in q (n + 1) line ≡ row_behind q n line
 row_behind-next q n line below =
     let next : n + 1 ≡ suc n = omega arith in

@@ -25,7 +25,7 @@ rows_text-push q rows row =
     ∙ ap (λ (text : List ℕ). rows_text q (enumerate_from 1 rows) ++ text) (append-nil _)
 
 module _ (q : Asked) (names : List Named) where
-  -- one row more was written behind others
+  -- one row more was written after others
   pub rows-more : (row : Named) (n : ℕ) (before paper : List ℕ) → n ≡ length names
       → paper ≡ before ++ rows_text q (enumerate_from 1 names)
       → paper ++ text_line (row_fields q (n + 1, row)) ≡ before ++ rows_text q (enumerate_from 1 (names ++ row ∷ []))
@@ -123,7 +123,7 @@ module _ (stations : List Station) where
 -- ---- the report
 
 module _ (q : Asked) (stations : List Station) (best : List Candidate) (listed : AreOfListed stations best) where
-  -- that text is the right report, where the candidates are the best
+  -- that text is the right report, if the candidates are the best
   pub report-right : (bytes : List ℕ) → bytes ≡ text_of_best q stations best → IsReportOfBest q stations best bytes
   report-right bytes text c same is =
       let AreStations : List Station → Type 0 = λ sts.

@@ -38,7 +38,7 @@ unit_printable Millimetres = refl
 unit_printable WholeMillimetres = refl
 unit_printable Days = refl
 
--- so can a name behind it
+-- so can a name after it
 named_printable : (unit name : List ℕ) → list_all is_printable unit ≡ true → list_all is_printable name ≡ true
     → list_all is_printable (join_with_byte 32 (unit ∷ field_unless_empty name)) ≡ true
 named_printable unit [] h k = h
@@ -162,7 +162,7 @@ row_in-end q n rank = by (row_in q rank (report_end q n)) refl
     by None f = refl
     by (Some row) f = absurd (end_is_other q n rank row (row_in-is q rank (report_end q n) row f).1)
 
--- behind however many others
+-- after however many others
 pub row_behind-end : (q : Asked) (n m : ℕ) → row_behind q n (report_end q m) ≡ None
 row_behind-end q n m = elim (nat_lt n q.k) as (λ b. cond b (row_in q (suc n) (report_end q m)) None ≡ None) [
   | true ↦ row_in-end q m (suc n)

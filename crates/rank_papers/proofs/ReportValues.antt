@@ -21,7 +21,7 @@ use Rattle.rank_papers.proofs.OneKind.{lines_by, values-are}
 
 -- ---- a row
 
--- a row that was made of columns can be, where what they hold can
+-- a row that was made of columns can be, if what they hold can
 row_with-is : (id name : List ℕ) (first last score : Option ℤ) (row : Named)
     → row_with id name first last score ≡ Some row
     → ((d : ℤ) → first ≡ Some d → is_day d ≡ true) → ((d : ℤ) → last ≡ Some d → is_day d ≡ true)
@@ -65,7 +65,7 @@ row_in-is q rank line row h =
       parts.1,
     )
 
--- one that is read behind others can be, has its line, and there may be one more
+-- one that is read after others can be, has its line, and there may be one more
 pub row_behind-is : (q : Asked) (n : ℕ) (line : List ℕ) (row : Named) → row_behind q n line ≡ Some row
     → (n < q.k) × IsRow row × (line ≡ row_line q (suc n) row)
 row_behind-is q n line row h = elim (nat_lt n q.k) as (λ b. nat_lt n q.k ≡ b
@@ -88,7 +88,7 @@ with-some q (Err n) v h = absurd cc
 abbrev pub title : List ℕ
 title = text_line (codes "extremes report 1" ∷ [])
 
--- the lines of rows, behind so many others
+-- the lines of rows, after that many others
 abbrev pub lines_of : Asked → ℕ → List Named → List (List ℕ)
 lines_of q = lines_by (λ n. row_line q (suc n))
 

@@ -51,7 +51,7 @@ series_of_days q (s ∷ ss) asked =
 abbrev AreListedRows : List Station → List (Candidate × Station) → Type 0
 AreListedRows stations rows = AllByRecursion (λ row. find (is_station_of row.0.id) stations ≡ Some row.1) rows
 
--- a row of a listed station can be, where its candidate is of days and has a score
+-- a row of a listed station can be, if its candidate is of days and has a score
 row_can_be : (stations : List Station) (c : Candidate) (s : Station) → list_all is_station stations ≡ true
     → find (is_station_of c.id) stations ≡ Some s → IsOfDays c → IsScore c.score → IsRow (named (c, s))
 row_can_be stations c s right found days score =

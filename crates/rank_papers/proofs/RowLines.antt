@@ -134,7 +134,7 @@ module _ (rank id first last value unit name : List ℕ) (eleven : length id ≡
           ≡ (rank ++ 32 ∷ (id ++ 32 ∷ (first ++ 32 ∷ []))) ++ (last ++ (32 ∷ tail))
       parts tail = simp append_assoc
 
-  -- the first word behind them is the value
+  -- the first word after them is the value
   value_word : list_all no_blank value ≡ true
       → first_word (slice_range line (length rank + 35) (length line - 1)) ≡ value
   value_word plain =
@@ -242,7 +242,7 @@ module _ (q : Asked) (row : Named) (is : IsRow row) where
       exactly-from (row_line q rank) (row_in_columns q (length (decimal rank)) (row_line q rank row)) row
       (columns_read (decimal rank))
 
-  -- also behind others, where there may be one more
+  -- also after others, if there may be one more
   pub row_behind-line : (n : ℕ) → n < q.k → row_behind q n (row_line q (suc n) row) ≡ Some row
   row_behind-line n below =
       let one : nat_lt n q.k ≡ true = grind (arith, nat_tests) in

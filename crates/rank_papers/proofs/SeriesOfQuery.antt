@@ -26,7 +26,7 @@ use Rattle.rank_papers.proofs.BestOfQuery.{sorted-descends, descends-sorted}
 abbrev IsBefore : Usable → Usable → Type 0
 IsBefore a b = strictly (λ (s : Usable). s.id) a b ≡ true
 
--- so do the series of a query, each before all behind it
+-- so do the series of a query, each before all after it
 rising : (q : Asked) (IsOne : Usable → Type 0) (xs : List Usable) → AreSeriesOf q IsOne xs → Descend IsBefore xs
 rising q IsOne xs s =
     let order = id_cmp (λ (u : Usable). u.id) in

@@ -32,12 +32,12 @@ in_two (b ∷ text) more (c ∷ line) =
     ap (λ (t : Bool). (b == c) && t) (in_two text more line)
     ∙ three (b == c) (same_bytes text (take (length text) line)) (same_bytes more (drop (length text) line))
 
--- nothing stands behind any place of an empty line
+-- nothing comes after any place of an empty line
 none_behind : (n : ℕ) → drop {A = ℕ} n [] ≡ []
 none_behind zero = refl
 none_behind (suc n) = refl
 
--- what stands behind a place behind another
+-- what comes after a place after another
 behind_both : (line : List ℕ) (m n : ℕ) → drop n (drop m line) ≡ drop (m + n) line
 behind_both line zero n = let same : n ≡ zero + n = omega arith in ap (λ (k : ℕ). drop k line) same
 behind_both [] (suc m) n = none_behind n ∙ sym (none_behind (suc m + n))
@@ -122,7 +122,7 @@ front_first rank id first last more line eleven ten ten_too id_is first_is last_
     ∙ blank_first more line (d + 34) (d + 35) (omega arith)))))
     ∙ six a b c e (has_blank line (d + 34)) (same_bytes more (drop (d + 35) line))
 
--- a name, where there is one, and a line feed
+-- a name, if there is one, and a line feed
 abbrev name_end : List ℕ → List ℕ
 name_end [] = 10 ∷ []
 name_end (b ∷ name) = 32 ∷ ((b ∷ name) ++ 10 ∷ [])
@@ -155,7 +155,7 @@ pieces : (rank id first last value unit name : List ℕ)
 pieces rank id first last value unit [] = simp append_assoc
 pieces rank id first last value unit (b ∷ name) = simp append_assoc
 
--- so a line is that of a row whose ID and days were cut out of it, where it has the rest in place
+-- so a line is that of a row whose ID and days were cut out of it, if it has the rest in place
 row_spelled : (rank id first last value unit name line : List ℕ)
     → length id ≡ 11 → length first ≡ 10 → length last ≡ 10
     → id ≡ slice_range line (length rank + 1) (length rank + 12)

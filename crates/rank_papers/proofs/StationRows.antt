@@ -35,7 +35,7 @@ module _ {X : Type 0} (q : X → Bool) (xs : List X) (k : ℕ) (d : X) (within :
       (count_by_more_yes q xs i d (omega arith) (here.0 i d (omega arith) (omega arith))
       ∙ ap (λ (n : ℕ). n + 1) (counted-before i (omega arith)))
 
-  -- behind it none does
+  -- after it none does
   counted-behind : (m : ℕ) → k + m ≤ length xs → count_by q (take (k + m) xs) ≡ k
   counted-behind zero le =
       subst (λ (n : ℕ). count_by q (take n xs) ≡ k) {x = k} {y = k + zero} (omega arith)
@@ -85,7 +85,7 @@ module _ (id : StationId) where
         (searchable_from_sorted nat_list_cmp_total (λ i. i.0) ids id.0 up) i j d le lt
         (less-index (beside (get_or ids j d)) ∙ e)
 
-    -- and so do those that aren't behind it
+    -- and so do those that aren't after it
     pub most_first : IsPartitionedBy (λ i. is_le (beside i)) ids
     most_first i j d le lt e =
         sym (most-index (beside (get_or ids i d)))
@@ -93,13 +93,13 @@ module _ (id : StationId) where
         (searchable_from_sorted nat_list_cmp_total (λ i. i.0) ids id.0 up) i j d le lt
         (most-index (beside (get_or ids j d)) ∙ e)
 
-  -- one ID that isn't behind this one is before it or the same
+  -- one ID that isn't after this one is before it or the same
   part : (i : StationId) → cond (is_le (beside i)) 1 0 ≡ cond (is_lt (beside i)) 1 0 + cond (same_id i id) 1 0
   part i =
       subst (λ (b : Bool). cond (is_le (beside i)) 1 0 ≡ cond (is_lt (beside i)) 1 0 + cond b 1 0)
       (is_eq-slice_cmp i.0 id.0) (parts (beside i))
 
-  -- all that aren't behind it are before it or the same
+  -- all that aren't after it are before it or the same
   pub split : (ids : List StationId) → count_by (λ i. is_le (beside i)) ids
       ≡ count_by (λ i. is_lt (beside i)) ids + count_by (λ i. same_id i id) ids
   split [] = refl
@@ -125,7 +125,7 @@ module _ (id : StationId) where
 
 -- ---- a place between two IDs
 
--- of two tests the second passes, where one does and the first doesn't
+-- of two tests the second passes, if one does and the first doesn't
 or_rest : (a b : Bool) → a ≡ false → (a || b) ≡ true → b ≡ true
 or_rest true b never h = absurd cc
 or_rest false b never h = h
@@ -150,7 +150,7 @@ module _ (id : StationId) (ids : List StationId) (up : AreInOrder ids) (place : 
   front k lt = less_first id ids up k (place - 1) id (omega (arith, lt)) (omega (arith, lt, within))
       (lower (omega (arith, lt)))
 
-  -- those behind it aren't
+  -- those after it aren't
   back : (k : ℕ) → place ≤ k → k < length ids → is_le (beside id (get_or ids k id)) ≡ false
   back k le lt = false_from_ne_true _ (λ e. let no = higher (omega (arith, le, lt)) in
       let so = most_first id ids up place k id le lt e in absurd cc)
@@ -200,7 +200,7 @@ gap-none id ids up (suc n) h =
     (λ lt. at_place id ids (λ i. is_lt (beside id i)) false (suc n - 1) inside low)
     (λ lt. greater _ (at_place id ids (λ i. is_gt (beside id i)) true (suc n) lt (and_parts _ _ h).0))
 
--- ---- the rows behind IDs
+-- ---- the rows after IDs
 
 -- IDs of rows, counted by a test
 count-ids : (p : StationId → Bool) (rows : List Candidate)

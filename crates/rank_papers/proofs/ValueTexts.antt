@@ -105,7 +105,7 @@ magnitude_left Days n fits = whole_left n fits
 numeral_read : (ds : List ℕ) (n : ℕ) → IsNumeralOf ds n → natural ds ≡ Some n
 numeral_read ds n is = natural-from ds is.some_digit is.digits_alone ∙ ap (λ (m : ℕ). Some m) (sym is.value)
 
--- a value below zero is printed behind a minus
+-- a value below zero is printed after a minus
 below_zero : (m : Measure) (n : ℕ) → value_text m (negsuc n) ≡ 45 ∷ value_text m (pos (suc n))
 below_zero Degrees n = refl
 below_zero Millimetres n = refl

@@ -103,7 +103,7 @@ printable_text bytes h = IsUtf8-from_ascii bytes (IsAscii-from_all bytes (λ k d
 
 -- ---- columns of a line
 
--- what stands behind a text of so many bytes
+-- what comes after a text of that many bytes
 pub drop-past : (n : ℕ) (xs ys : List ℕ) → n ≡ length xs → drop n (xs ++ ys) ≡ ys
 drop-past zero [] ys e = refl
 drop-past zero (x ∷ xs) ys e = absurd (omega (arith, e))
@@ -126,7 +126,7 @@ between n m front field behind begin end =
     ∙ ap (take (length field)) (drop-past n front (field ++ behind) begin)
     ∙ take-past (length field) field behind refl
 
--- a field behind so many bytes, up to the line feed
+-- a field after that many bytes, up to the line feed
 pub last_field : (n : ℕ) (front field : List ℕ) → n ≡ length front
     → slice_range (front ++ (field ++ 10 ∷ [])) n (length (front ++ (field ++ 10 ∷ [])) - 1) ≡ field
 last_field n front field begin =

@@ -19,7 +19,7 @@ use Rattle.rank_parts.specs.declared.verdict.PartVerdict.{PartVerdict}
 use Rattle.rank_parts.specs.declared.verdict.PartVerdict.TheVariants.{Accepted, Refused}
 use Rattle.rank_parts.specs.Parts.{refusal_of, why_of_line, first_refused, have_lines, or_accepted}
 
--- a fault of the head is a refusal
+-- an error of the head is a refusal
 head_refused : (f : HeadFault) (n m : ℕ) → refusal_of f ≡ Accepted n m → ⊥
 head_refused OtherReportQuery n m e = absurd cc
 head_refused OtherCertificateQuery n m e = absurd cc
@@ -40,7 +40,7 @@ lines_refused reason (f ∷ es) k n m e = by (lines_refused reason es (suc k) n 
     by rest None g = rest g
     by rest (Some w) g = absurd cc
 
--- where no line is refused, none has a reason
+-- if no line is refused, none has a reason
 no_reason : (reason : Entry → Option Why) (es : List Entry) (k : ℕ) → first_refused reason k es ≡ None
     → AllByRecursion (λ e. reason e ≡ None) es
 no_reason reason [] k e = tt
@@ -52,7 +52,7 @@ no_reason reason (f ∷ es) k e = by (no_reason reason es (suc k)) (reason f) re
     by rest None s g = (s, rest g)
     by rest (Some w) s g = absurd cc
 
--- a part that accepts sees nothing to refuse: in the head, at any line, behind the lines; and the numbers are these
+-- a part that accepts sees nothing to refuse: in the head, at any line, after the lines; and the numbers are these
 pub record SeesNothing (q : Asked) (d : Contents) (r : Reported) (z : Certified) (n m : ℕ) : Type 0 where
   pub head : head_fault q r z ≡ None
   pub lines : AllByRecursion (λ e. why_of_line q d r.rows e ≡ None) z.entries

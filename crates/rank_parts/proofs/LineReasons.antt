@@ -137,7 +137,7 @@ nothing_in : {X : Type 0} (xs : List X) → ((x : X) → In xs x → ⊥) → xs
 nothing_in [] f = refl
 nothing_in (x ∷ xs) f = absurd (f x (inl refl))
 
--- where no row is counted at a line, none is of its station
+-- if no row is counted at a line, none is of its station
 none_of : (rows : List Named) (es : List Entry) → RiseAll (ids_of es)
     → AllByRecursion (λ (row : Named). is_scanned es row.0.id ≡ true) rows → (e : Entry) → In es e
     → count_of (of_rows rows) e ≡ 0 → rows_with e.id rows ≡ []

@@ -47,7 +47,7 @@ of_made R f [] h x k = absurd k
 of_made R f (y ∷ ys) h x (inl e) = subst (λ w. R w (f w)) e h.0
 of_made R f (y ∷ ys) h x (inr k) = of_made R f ys h.1 x k
 
--- where no line has a reason, none is refused
+-- if no line has a reason, none is refused
 none_refused : (reason : Entry → Option Why) (es : List Entry) (n : ℕ) → AllByRecursion (λ e. reason e ≡ None) es
     → first_refused reason n es ≡ None
 none_refused reason [] n h = refl

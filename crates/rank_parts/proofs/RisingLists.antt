@@ -14,7 +14,7 @@ not_before i h = one_way i i h h
 abbrev pub AreIn : List StationId → List StationId → Type 0
 AreIn xs ys = (i : StationId) → In xs i → In ys i
 
--- what stands behind the first of the one list is behind the first of the other
+-- what comes after the first of the one list is after the first of the other
 behind : (x y : StationId) (xs ys : List StationId) → AllByRecursion (IsBefore x) xs → AllByRecursion (IsBefore y) ys
     → AreIn (x ∷ xs) (y ∷ ys) → AreIn xs ys
 behind x y xs ys up down f i h = elim (f i (inr h)) [
@@ -27,7 +27,7 @@ behind x y xs ys up down f i h = elim (f i (inr h)) [
   | inr k ↦ k
 ]
 
--- where the other isn't longer, it has nothing else
+-- if the other isn't longer, it has nothing else
 pub no_others : (xs ys : List StationId) → RiseAll xs → RiseAll ys → AreIn xs ys → length ys ≤ length xs → AreIn ys xs
 no_others xs [] up down f few i h = absurd h
 no_others [] (y ∷ ys) up down f few i h = absurd (omega (arith, few))

@@ -121,7 +121,7 @@ module _ (q : Asked) (d : Contents) where
     abbrev pub is_listed : Station → Bool
     is_listed st = not (is_own q d st) || has_line es st.id
 
-    -- where there are so many morsels so far, and each has a line
+    -- if there are that many morsels so far, and each has a line
     pub record Walked (n place : ℕ) : Type 0 where
       pub many : n ≡ count_by (is_own q d) (take place d.stations)
       pub all : list_all (λ st. not (is_own q d st) || has_line es st.id) (take place d.stations) ≡ true

@@ -219,7 +219,7 @@ files_filed : (parts : List (List (List ℕ)))
 files_filed [] = refl
 files_filed (p ∷ parts) = ap (λ (l : List (List ℕ)). p ++ l) (files_filed parts)
 
--- papers are right for all files exactly where all parts accept them
+-- papers are right for all files if and only if all parts accept them
 pub of_files : PartsMakeTheWhole → CutByFiles → FilesMakeTheWhole
 of_files whole cut q stations parts ds c report certificate asked dataset are some =
     whole q c ds report certificate asked dataset

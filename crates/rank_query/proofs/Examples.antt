@@ -76,7 +76,7 @@ scores_refused : (read_query (codes "top 1 lowest PRCP") ≡ Err (UnexpectedWord
 unfolding read_query read_words keyword says number element score_at sum_at no_score_at region_at season_at period_at
 scores_refused = (refl, refl, refl, refl, refl, refl, refl)
 
--- the first of several faults of a box is told at its word: no latitude and no longitude,
+-- the first of several errors of a box is told at its word: no latitude and no longitude,
 -- the north south of the south, and then nothing more
 boxes_refused : (read_query (codes "top 1 highest TMAX box -91 0 10 10") ≡ Err (BadBox 6))
     × (read_query (codes "top 1 highest TMAX box 10 0 -10") ≡ Err (BadBox 8))
@@ -237,13 +237,13 @@ two_byte_letters : (read_query (repeat 129 (195 ∷ 169 ∷ [])) ≡ Err QueryTo
 unfolding read_query read_words keyword says number score_at no_score_at region_at season_at period_at
 two_byte_letters = (refl, refl)
 
--- what the grammar has behind words, of which the nearest comes first: K and the days of a sum, the four edges of a
--- box, no fifth one, both dates, and behind codes whatever comes next
+-- what the grammar has after words, of which the nearest comes first: K and the days of a sum, the four edges of a
+-- box, no fifth one, both dates, and after codes whatever comes next
 places_behind : map place_behind ((codes "top" ∷ []) ∷ (codes "sum" ∷ codes "1" ∷ codes "top" ∷ []) ∷ [])
     ≡ a_number ∷ a_number ∷ []
 places_behind = refl
 
--- of a box: behind four numbers no edge stands
+-- of a box: after four numbers no edge stands
 edges_behind : map place_behind (
     (codes "box" ∷ codes "dry" ∷ [])
     ∷ (codes "-1.5" ∷ codes "box" ∷ [])
@@ -270,7 +270,7 @@ dates_behind : map place_behind (
     ≡ a_date ∷ another ∷ a_date ∷ another ∷ another ∷ []
 dates_behind = refl
 
--- where faults stand: at an element that can't be ranked so, at a northern edge south of the southern one,
+-- where errors stand: at an element that can't be ranked so, at a northern edge south of the southern one,
 -- at the end, past 256 bytes, at a number, at a date
 places : StandsIn (codes "top 1 lowest PRCP") (UnexpectedWord 4)
     × StandsIn (codes "top 1 highest TMAX box 10 0 -10") (BadBox 8) × StandsIn (codes "top 1 highest") QueryEnds
@@ -295,7 +295,7 @@ begun = record {
   spelt = (refl, (record { some_digit = omega arith; digits_alone = refl; value = refl }, (refl, (refl, tt))));
 }
 
--- a fault stands at no word before or after its own
+-- an error stands at no word before or after its own
 other_places : (n : ℕ) → StandsIn (codes "top 1 lowest PRCP") (UnexpectedWord n) → n ≡ 4
 other_places n (inl long) = absurd (omega (arith, long.0))
 other_places n (inr other) =
@@ -360,7 +360,7 @@ period_text : query_text (dry_from (pos 18444) (pos 18444)) ≡ codes "top 1 dry
 unfolding digits year_and_rest month_and_day
 period_text = refl
 
--- a station at so many ten-thousandths of a degree
+-- a station at that many ten-thousandths of a degree
 abbrev at : ℤ → ℤ → Station
 at latitude longitude =
     record {

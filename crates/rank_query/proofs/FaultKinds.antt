@@ -1,4 +1,4 @@
--- Each fault of a word is the one that the words before it call for.
+-- Each error of a word is the one that the words before it call for.
 use Rattle.rank_query.proofs.ReadingSteps.{assoc}
 use Rattle.rank_query.proofs.Cited.{ints, ◌≡◌, ℕ, ◌+◌, Bool, true, false, cond, ◌&&◌, ◌⊎◌, inl, inr, List, [], ◌∷◌}
 use Rattle.rank_query.proofs.Cited.{◌++◌, length, reverse, Option, Some, None, Result, Ok, Err, IfErr, codes, refl, sym}
@@ -32,11 +32,11 @@ use Rattle.rank_query.proofs.Places.{edge_less, edge_place, number_no_keyword, h
 use Rattle.rank_query.proofs.Places.{degrees_no_keyword, code_no_keyword, date_no_keyword, element_settled}
 use Rattle.rank_query.proofs.Places.{degrees_decimal, day_date}
 
--- the fault of a word that is wrong behind these, if it has this number
+-- the error of a word that is wrong after these, if it has this number
 abbrev IsKind : QueryFault → ℕ → List (List ℕ) → List ℕ → Type 0
 IsKind fault n past word = n ≡ length past + 1 → IsFaultOf fault past word
 
--- one of these words, which stand behind others, has the fault
+-- one of these words, which come after others, has the error
 record IsWrong (past : List (List ℕ)) (ws : List Word) (fault : QueryFault) : Type 0 where
   before : List Word
   word : Word
@@ -44,7 +44,7 @@ record IsWrong (past : List (List ℕ)) (ws : List Word) (fault : QueryFault) : 
   parts : ws ≡ before ++ word ∷ behind
   kind : IsKind fault word.0 (reverse_aux (unnumbered before) past) word.1
 
--- no word is left, or one has the fault
+-- no word is left, or one has the error
 abbrev IsFaultBehind : List (List ℕ) → List Word → QueryFault → Type 0
 IsFaultBehind past ws fault = (fault ≡ QueryEnds) ⊎ IsWrong past ws fault
 
@@ -59,7 +59,7 @@ unexpected : (past : List (List ℕ)) (w : Word) (rest : List Word) (fault : Que
 unexpected past w rest fault settled is =
     here past w rest fault (subst (λ f. IsKind f w.0 past w.1) is (λ at. (at, inl settled)))
 
--- or one behind it
+-- or one after it
 further : (past : List (List ℕ)) (w : Word) (rest : List Word) (fault : QueryFault)
     → IsFaultBehind (w.1 ∷ past) rest fault → IsFaultBehind past (w ∷ rest) fault
 further past w rest fault (inl ends) = inl ends
@@ -78,7 +78,7 @@ made_then : {A B C : Type 0} (make : A → B) (r : Read A) (g : B × List Word �
 made_then make (Ok p) g = refl
 made_then make (Err d) g = refl
 
--- a fault at one word, or behind it
+-- an error at one word, or after it
 one_step : {A C : Type 0} (value : Word → Result A QueryFault) (g : A × List Word → Result C QueryFault)
     (past : List (List ℕ)) (ws : List Word) (fault : QueryFault) → (one_word value ws >>= g) ≡ Err fault
     → ((w : Word) (f : QueryFault) → value w ≡ Err f → IsKind f w.0 past w.1)
@@ -101,7 +101,7 @@ inner_step : {A B C : Type 0} (value : Word → Result A QueryFault) (f : A × L
 inner_step value f g past ws fault e wrong next =
     one_step value (λ x. f x >>= g) past ws fault (sym (assoc (one_word value ws) f g) ∙ e) wrong next
 
--- a fault at a keyword, or behind it
+-- an error at a keyword, or after it
 keyword_step : {C : Type 0} (text : List ℕ) (g : List Word → Result C QueryFault) (past : List (List ℕ))
     (ws : List Word) (fault : QueryFault) → (keyword text ws >>= g) ≡ Err fault → IsSettled past
     → ((rest : List Word) → g rest ≡ Err fault → IsFaultBehind (text ∷ past) rest fault) → IsFaultBehind past ws fault
@@ -117,18 +117,18 @@ keyword_step text g past (w ∷ rest) fault e settled next = elim (cases_Bool (s
       unexpected past w rest fault settled (let same : UnexpectedWord w.0 ≡ fault = cc in same)
 ]
 
--- how it goes on behind a part
+-- how it goes on after a part
 abbrev Next : (A : Type 0) → (A × List Word → Result Asked QueryFault) → QueryFault → Type 0
 Next A g fault =
     (past : List (List ℕ)) (x : A) (rest : List Word) → IsSettled past → g (x, rest) ≡ Err fault
     → IsFaultBehind past rest fault
 
--- a part of a query, behind words that settle
+-- a part of a query, after words that settle
 abbrev Part : (A : Type 0) → (List Word → Read A) → Type 0
 Part A read = (past : List (List ℕ)) (ws : List Word) (g : A × List Word → Result Asked QueryFault) (fault : QueryFault)
     → IsSettled past → (read ws >>= g) ≡ Err fault → Next A g fault → IsFaultBehind past ws fault
 
--- what is read behind a word of its own
+-- what is read after a word of its own
 abbrev Row : (A : Type 0) → List ℕ → (List Word → Read A) → Type 0
 Row A text read =
     (past : List (List ℕ)) (ws : List Word) (g : A × List Word → Result Asked QueryFault) (fault : QueryFault)
@@ -155,11 +155,11 @@ rows_part [] otherwise rows others = others
 rows_part (row ∷ table) otherwise rows others =
     row_step row.0 row.1 table otherwise rows.0 (rows_part table otherwise rows.1 others)
 
--- what stands at the place behind some words has a form, and a value is read of what has it
+-- what stands at the place after some words has a form, and a value is read of what has it
 abbrev ReadByForm : {A : Type 0} → (List ℕ → Option A) → List (List ℕ) → Type 0
 ReadByForm read past = (word : List ℕ) → has_form (place_behind past) word ≡ Some (is_some (read word))
 
--- the kind of a fault of a value with limits
+-- the kind of an error of a value with limits
 limited_kind : {A : Type 0} (read : List ℕ → Option A) (within : A → Bool) (past : List (List ℕ))
     → ReadByForm read past → (w : Word) (f : QueryFault) → tested read within OutOfLimits w ≡ Err f
     → IsKind f w.0 past w.1
@@ -204,7 +204,7 @@ date_kind past place w f e =
     let none = or_fault_err (BadDate w.0) f (read_date w.1) e in
     subst (λ f. IsKind f w.0 past w.1) none.1 (λ at. (at, place, ap is_some none.0))
 
--- behind a word, what is made of the value of another
+-- after a word, what is made of the value of another
 made_row : {A B : Type 0} (text : List ℕ) (value : Word → Result A QueryFault) (make : A → B)
     → ((past : List (List ℕ)) (w : Word) (f : QueryFault) → value w ≡ Err f → IsKind f w.0 (text ∷ past) w.1)
     → ((past : List (List ℕ)) (w : Word) (x : A) → value w ≡ Ok x → IsSettled (w.1 ∷ text ∷ past))
@@ -214,7 +214,7 @@ made_row text value make kind settled past ws g fault e next =
     (kind past) (λ w x rest is e. further (text ∷ past) w rest fault
     (next (w.1 ∷ text ∷ past) (make x) rest (settled past w x is) e))
 
--- behind a word, an element that a test allows
+-- after a word, an element that a test allows
 element_row : (text : List ℕ) (allows : Element → Bool) (make : Element → Score)
     → ((past : List (List ℕ)) → IsSettled (text ∷ past))
     → Row Score text (λ ws. made_into make (one_word (element allows) ws))
@@ -267,12 +267,12 @@ score_part =
       ),
     ) no_score
 
--- behind four edges another word stands
+-- after four edges another word stands
 edges_settled : (e n w s : List ℕ) (box : List (List ℕ)) → IsNoKeyword e → IsNoKeyword n → IsNoKeyword w
     → IsNoKeyword s → IsSettled (e ∷ n ∷ w ∷ s ∷ box)
 edges_settled e n w s box no_e no_n no_w no_s = grind (arith, ints, settled_word, edge_less, not_both)
 
--- a fault at an edge of a box, or behind it
+-- an error at an edge of a box, or after it
 edge_step : {B C : Type 0} (low high : ℤ) (f : ℤ × List Word → Result B QueryFault) (g : B → Result C QueryFault)
     (past : List (List ℕ)) (ws : List Word) (fault : QueryFault)
     → ((one_word (degrees low high) ws >>= f) >>= g) ≡ Err fault → is_behind_box 3 past ≡ true
@@ -297,7 +297,7 @@ box_row past ws g fault e next =
     (λ o v rest no_o is_o e. next (o.1 ∷ n.1 ∷ w.1 ∷ s.1 ∷ box) (Inside z x y v) rest
     (edges_settled o.1 n.1 w.1 s.1 box no_o no_n no_w no_s) e))))
 
--- behind a word, a code of so many bytes
+-- after a word, a code of that many bytes
 code_row : (text : List ℕ) (len : ℕ) (make : List ℕ → Region) → HaveOtherLengths len
     → ((past : List (List ℕ)) → IsSettled (text ∷ past))
     → ((past : List (List ℕ)) → is_behind_box 2 (text ∷ past) ≡ false)
@@ -336,7 +336,7 @@ region_part =
     eleven : HaveOtherLengths 11
     eleven = (refl, (refl, (refl, (refl, (refl, (refl, tt))))))
 
--- two months behind "months"
+-- two months after "months"
 months_row : Row (Option (ℕ × ℕ)) (codes "months") months_at
 unfolding months
 months_row = made_row (codes "months") months Some
@@ -348,7 +348,7 @@ season_part : Part (Option (ℕ × ℕ)) season_at
 unfolding season_at
 season_part = rows_part season_rows all_year_at (months_row, tt) (always_part None)
 
--- two days behind "from"
+-- two days after "from"
 days_row : Row (Option (ℤ × ℤ)) (codes "from") between_at
 unfolding days_at
 days_row = λ past ws g fault e next.
@@ -387,7 +387,7 @@ nothing_kind past [] q fault settled e = absurd cc
 nothing_kind past (w ∷ rest) q fault settled e =
     unexpected past w rest fault settled (let same : UnexpectedWord w.0 ≡ fault = cc in same)
 
--- the fault of the words of a query
+-- the error of the words of a query
 words_kind : (ws : List Word) (fault : QueryFault) → read_words ws ≡ Err fault → IsFaultBehind [] ws fault
 unfolding read_words
 words_kind ws fault e =
@@ -402,7 +402,7 @@ words_kind ws fault e =
     period_part past rest (λ p. nothing_more p.1 (asked k s r t p.0)) fault settled e (λ past p rest settled e.
     nothing_kind past rest (asked k s r t p) fault settled e)))))))
 
--- a fault of a word, whose number is one more than there are words before it, is among those of the words
+-- an error of a word, whose number is one more than there are words before it, is among those of the words
 is_among : (fault : QueryFault) (n : ℕ) (ws past : List (List ℕ)) (word : List ℕ) (behind : List (List ℕ))
     → ws ≡ reverse past ++ word ∷ behind → n ≡ length past + 1 → IsKind fault n past word → IsFaultAmong fault ws
 is_among QueryTooLong n ws past word behind parts at is = tt
@@ -413,7 +413,7 @@ is_among (BadDate m) n ws past word behind parts at is = (past, word, behind, pa
 is_among (BadBox m) n ws past word behind parts at is = (past, word, behind, parts, is at)
 is_among EmptyPeriod n ws past word behind parts at is = (past, word, behind, parts, is at)
 
--- the fault of the words of a text is that of one of them
+-- the error of the words of a text is that of one of them
 text_kind : (text : List ℕ) (fault : QueryFault) → IsFaultBehind [] (numbered_words text) fault
     → IsFaultAmong fault (words_of text)
 text_kind text fault (inl ends) = subst (λ f. IsFaultAmong f (words_of text)) (sym ends) tt
@@ -429,7 +429,7 @@ text_kind text fault (inr is) =
     ∙ ap (λ words. words ++ is.word.1 ∷ unnumbered is.behind) (sym (reverse-reverse (unnumbered is.before))) in
     is_among fault is.word.0 (words_of text) past is.word.1 (unnumbered is.behind) parts at is.kind
 
--- a text's fault is that of one of its words
+-- a text's error is that of one of its words
 pub fault_kind : (text : List ℕ) (fault : QueryFault) → read_query text ≡ Err fault → IsFaultAmong fault (words_of text)
 unfolding read_query
 fault_kind text fault e = elim (cases_Bool (nat_lt 256 (length text))) [
@@ -440,7 +440,7 @@ fault_kind text fault e = elim (cases_Bool (nat_lt 256 (length text))) [
   | inr short ↦ let read = rw short at e in text_kind text fault (words_kind (numbered_words text) fault read)
 ]
 
--- where the reading fails, the fault is that of one of the words
+-- if the reading fails, the error is that of one of the words
 pub if_fault_kind : (text : List ℕ) (r : Result Asked QueryFault) → r ≡ read_query text
     → IfErr r (λ fault. IsFaultAmong fault (words_of text))
 if_fault_kind text (Ok q) e = tt

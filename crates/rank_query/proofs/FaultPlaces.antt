@@ -1,4 +1,4 @@
--- The fault that is told stands at the first word with which no query goes on.
+-- The error that is told stands at the first word with which no query goes on.
 use Rattle.rank_query.proofs.Cited.{cases_Bool}
 use Rattle.rank_query.proofs.Cited.{◌≡◌, ℕ, ◌+◌, ◌⊎◌, inl, inr, List, [], ◌∷◌, ◌++◌}
 use Rattle.rank_query.proofs.Cited.{length, Result, Ok, Err, refl, sym, ap, ◌∙◌, subst, append_assoc, append-nil, IfErr}
@@ -20,7 +20,7 @@ blank_in_front : (front back : List Word) → AllByRecursion HasNoBlank (unnumbe
 blank_in_front [] back clean = tt
 blank_in_front (w ∷ front) back clean = (clean.0, blank_in_front front back clean.1)
 
--- a word that stands behind others has the number that follows theirs, and so it is with other words behind it
+-- a word that comes after others has the number that follows theirs, and so it is with other words after it
 pub record IsPlace (n : ℕ) (before : List Word) (w : Word) : Type 0 where
   pub number : w.0 ≡ n + length before
   pub again : (more : List (List ℕ)) → (rest : List Word)
@@ -53,7 +53,7 @@ place_of n (v ∷ words) (b ∷ before) w behind e =
           );
     }
 
--- words behind which a query is read begin one
+-- words after which a query is read begin one
 begun : (before left : List Word) → AllByRecursion HasNoBlank (unnumbered (before ++ left))
     → GoesOn Asked Any (λ tail. read_words (before ++ tail)) → BeginQuery (unnumbered before)
 begun before left clean on =
@@ -79,7 +79,7 @@ ended before w fault place stops begin =
     ∙ ap (λ ws. read_words (enumerate_from 1 ws)) words ∙ ap read_words rest.1 ∙ stops rest.0 in
     absurd cc
 
--- the fault of a word stands there
+-- the error of a word stands there
 stands_at : (ws : List (List ℕ)) (fault : QueryFault) (before : List Word) (w : Word)
     → IsFirstWrong ws (unnumbered before) w.1 → w.0 ≡ 1 + length before → IsWordOf fault before w → StandsAmong ws fault
 stands_at ws QueryTooLong before w wrong at is = absurd is
@@ -94,7 +94,7 @@ stands_at ws (BadBox n) before w wrong at is =
     (unnumbered before, w.1, wrong, omega (arith, is, at, length-map before (λ (w : Word). w.1)))
 stands_at ws EmptyPeriod before w wrong at is = (unnumbered before, w.1, wrong, is)
 
--- the fault of words stands where the reading stops
+-- the error of words stands where the reading stops
 by_left : (text : List ℕ) (fault : QueryFault) (before left : List Word) → read_words (numbered_words text) ≡ Err fault
     → words_of text ≡ unnumbered (before ++ left) → numbered_words text ≡ before ++ left
     → BeginQuery (unnumbered before) → StopsAt read_words fault before left → StandsAmong (words_of text) fault
@@ -114,7 +114,7 @@ by_left text fault before (w ∷ behind) e words numbered begins at =
     } in
     stands_at (words_of text) fault before w wrong place.number at.0
 
--- a fault of the words of a text stands among them
+-- an error of the words of a text stands among them
 words_fault : (text : List ℕ) (fault : QueryFault) → read_words (numbered_words text) ≡ Err fault
     → StandsAmong (words_of text) fault
 words_fault text fault e =
@@ -125,7 +125,7 @@ words_fault text fault e =
     by_left text fault stops.before stops.left e words stops.parts
     (begun stops.before stops.left clean stops.on) stops.at
 
--- so does each fault of a text
+-- so does each error of a text
 pub fault_stands : (text : List ℕ) (fault : QueryFault) → read_query text ≡ Err fault → StandsIn text fault
 unfolding read_query
 fault_stands text fault e = elim (cases_Bool (nat_lt 256 (length text))) [
@@ -133,7 +133,7 @@ fault_stands text fault e = elim (cases_Bool (nat_lt 256 (length text))) [
   | inr short ↦ let read = rw short at e in inr (grind (arith, nat_tests), words_fault text fault read)
 ]
 
--- where the reading fails, the fault stands where it is told
+-- if the reading fails, the error stands where it is told
 pub if_fault_stands : (text : List ℕ) (r : Result Asked QueryFault) → r ≡ read_query text
     → IfErr r (λ fault. StandsIn text fault)
 if_fault_stands text (Ok q) e = tt

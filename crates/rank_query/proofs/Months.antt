@@ -32,7 +32,7 @@ placed y m d n e =
 within_month : (y m d : ℕ) → 1 ≤ d → d ≤ days_in_month (pos y) m → is_within 1 (days_in_month (pos y) m) d ≡ true
 within_month y m d low high = grind (arith, nat_tests)
 
--- so many days later in the month
+-- that many days later in the month
 later : (y m d i : ℕ) (n : ℤ) → IsPlaced y m d n → d + i ≤ days_in_month (pos y) m → day_number y m (d + i) ≡ Some
     (n +ℤ pos i)
 later y m d i n is within =

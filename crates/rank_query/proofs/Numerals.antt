@@ -14,7 +14,7 @@ use Rattle.rank_query.proofs.ReadingSteps.{tested_again}
 pub digit_is : (c : ℕ) → is_ascii_digit c ≡ true → digit_value c ≡ c - 48
 digit_is c h = grind (arith, nat_tests)
 
--- one more digit, where the number is kept up to a limit
+-- one more digit, if the number is kept up to a limit
 pub one_more_up_to : (limit : ℕ) (digits : List ℕ) (i v : ℕ) → i < length digits
     → v ≡ min limit (digits_value 10 (take i digits)) → is_ascii_digit (get_or digits i 0) ≡ true
     → min (v * 10 + (get_or digits i 0 - 48)) limit ≡ min limit (digits_value 10 (take (i + 1) digits))
@@ -35,7 +35,7 @@ one_digit (d ∷ []) p e le =
     (refl, grind (arith, nat_tests))
 one_digit (d ∷ c ∷ ds) p e le = absurd (omega arith)
 
--- tenths that are kept up to a limit, where whole degrees and the digit behind the point are
+-- tenths that are kept up to a limit, if whole degrees and the digit after the point are
 pub joined-kept : (whole part : List ℕ) (a b : ℕ) → length part ≤ 1 → option_map (min 101) (natural whole) ≡ Some a
     → option_map (min 10) (natural part) ≡ Some b
     → option_map (min 1001) (joined 1 (natural whole) (natural part) (length part)) ≡ Some (min (a * 10 + b) 1001)
@@ -45,7 +45,7 @@ joined-kept whole part a b few first second =
     let one = one_digit part p.0 p.1 few in
     rw (w.1, p.1, one.0) (ap (λ (k : ℕ). Some k) (omega (arith, w.2, p.2, one.1)))
 
--- without a point the digit behind it is 0
+-- without a point the digit after it is 0
 pub joined-zero : (o : Option ℕ) → joined 1 o (Some 0) 1 ≡ option_map (λ n. n * 10 ^ 1) o
 joined-zero None = refl
 joined-zero (Some w) = ap (λ (k : ℕ). Some k) (omega arith)
@@ -106,7 +106,7 @@ two-whole word nowhere =
     no_second None = refl
     no_second (Some a) = refl
 
--- the first number stands before the first point, and the second behind another one
+-- the first number stands before the first point, and the second after another one
 pub two-point : (word : List ℕ) (point : ℕ) → IsFirstByte (is_byte 46) word (Some point)
     → two_numbers word ≡ both_numbers (natural (take point word)) (natural_behind (drop (point + 1) word))
 two-point word point first =

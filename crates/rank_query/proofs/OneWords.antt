@@ -72,7 +72,7 @@ words_no_blank text =
     recursion_from_All HasNoBlank (words_of text) (All-filter is_word HasNoBlank (slice_split is_separator text)
     (AllPass-from_list_all (list_all stands_in_word) (slice_split is_separator text) (parts_no_blank text)))
 
--- what is true of all words is true of those behind some of them
+-- what is true of all words is true of those after some of them
 pub all_behind : (P : List ℕ → Type 0) (front back : List (List ℕ)) → AllByRecursion P (front ++ back)
     → AllByRecursion P back
 all_behind P [] back all = all

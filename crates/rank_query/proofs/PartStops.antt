@@ -30,7 +30,7 @@ word_on {A} word = record {
   reads = ap (λ (r : Result A QueryFault). r >>= λ x. Ok (x, [])) word.reads;
 }
 
--- a missing word and one without a value are faults
+-- a missing word and one without a value are errors
 word_stops : {A : Type 0} {Good : A → Type 0} {value : Word → Result A QueryFault} → ReadsWord A Good value
     → (ws : List Word) (fault : QueryFault) → one_word value ws ≡ Err fault
     → Stops (A × List Word) Ended (one_word value) fault ws
@@ -64,7 +64,7 @@ pub part_word : {A : Type 0} {Good : A → Type 0} {value : Word → Result A Qu
     → ReadsPart A Good (one_word value)
 part_word word = record { first = record { on = word_on word; stops = word_stops word }; takes = word_takes word }
 
--- a fault of what was made is that of what it is made of
+-- an error of what was made is that of what it is made of
 made_err : {A B : Type 0} (make : A → B) (r : Read A) (fault : QueryFault) → made_into make r ≡ Err fault
     → r ≡ Err fault
 made_err make (Ok p) fault e = absurd cc
@@ -133,7 +133,7 @@ part_the_word text clean same = part_word (record {
   reads = ap (λ b. cond b (Ok zero) (Err (UnexpectedWord 0))) same;
 })
 
--- what was found out of a word, and the words behind it
+-- what was found out of a word, and the words after it
 abbrev pub beside : {A : Type 0} → List Word → Result A QueryFault → Read A
 beside ws value = value >>= λ x. Ok (x, ws)
 
@@ -144,7 +144,7 @@ by_test : {C : Type 0} (b : Bool) (w : Word) (ws : List Word) (onward : Reading 
 by_test true w ws onward = refl
 by_test false w ws onward = refl
 
--- and reading goes on behind it
+-- and reading goes on after it
 pub keyword-then : {C : Type 0} (text : List ℕ) (onward : Reading C) (ws : List Word)
     → (keyword text ws >>= onward) ≡ then (one_word (the_word text)) (λ x. onward) ws
 unfolding keyword

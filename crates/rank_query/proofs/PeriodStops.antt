@@ -31,7 +31,7 @@ abbrev last_from : ℤ → Reading ((ℤ × ℤ) × List Word)
 last_from first ws =
     one_word date ws >>= λ last. cond (int_le first last.0) (Ok ((first, last.0), last.1)) (Err EmptyPeriod)
 
--- what follows "to", behind that word
+-- what follows "to", after that word
 abbrev to_last : ℤ → Reading ((ℤ × ℤ) × List Word)
 to_last first ws = keyword (codes "to") ws >>= last_from first
 
@@ -46,7 +46,7 @@ last_again first is =
     (λ (last : ℤ × List Word). cond (int_le first last.0) (Ok ((first, last.0), last.1)) (Err EmptyPeriod))
     (written_date 0 first is) ∙ ap (λ b. cond b (Ok ((first, first), [])) (Err EmptyPeriod)) (same_day first)
 
--- behind "to"
+-- after "to"
 to_again : (first : ℤ) → is_day first ≡ true → to_last first ((0, codes "to") ∷ (0, date_text first) ∷ []) ≡ Ok
     ((first, first), [])
 unfolding keyword says
@@ -106,7 +106,7 @@ last_stops first w t (l ∷ ws) fault behind e = elim (bind_err (date l) (in_ord
       test : List Word → Result ℤ QueryFault → Read (ℤ × ℤ)
       test more r = beside more r >>= λ last. in_order last.1 last.0
 
--- behind the date of a first day
+-- after the date of a first day
 to_on : (first : ℤ) (w : Word) → is_day first ≡ true → ((more : List Word) → days_at (w ∷ more) ≡ to_last first more)
     → GoesOn Days Ended (λ tail. days_at ((w ∷ []) ++ tail))
 to_on first w is same = record {
@@ -213,7 +213,7 @@ days_take =
 abbrev pub GoodPeriod : Option (ℤ × ℤ) → Type 0
 GoodPeriod p = is_period p ≡ true
 
--- it is a part behind its word
+-- it is a part after its word
 pub period_parts : AllByRecursion (λ row. ReadsPart (Option (ℤ × ℤ)) GoodPeriod row.1) period_rows
 period_parts = (
   part_made Some (λ p is. is)

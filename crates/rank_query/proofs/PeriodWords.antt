@@ -8,11 +8,11 @@ use Rattle.rank_query.proofs.SpeltWords.{TakesBehind, Spell, took_same, word_too
 use Rattle.rank_query.proofs.SpeltWords.{word_read, made_read, then_read, behind_read, always_read, PassesBy, passed_by}
 use Rattle.rank_query.proofs.WordValues.{date_written, written_date}
 
--- a period behind its word
+-- a period after its word
 abbrev pub period_rows : List (List ℕ × (List Word → Read (Option (ℤ × ℤ))))
 period_rows = (codes "from", between_at) ∷ []
 
--- the words of two days behind "from"
+-- the words of two days after "from"
 abbrev days_words : ℤ × ℤ → List QueryWord
 days_words p = Exactly (date_text p.0) ∷ Exactly (codes "to") ∷ Exactly (date_text p.1) ∷ []
 

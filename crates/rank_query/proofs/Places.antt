@@ -1,4 +1,4 @@
--- What the grammar has behind the words that were read.
+-- What the grammar has after the words that were read.
 use Rattle.rank_query.proofs.Cited.{◌≡◌, ℕ, suc, Bool, true, false, cond, ◌&&◌, List, [], ◌∷◌, arith, ints, Result, Ok}
 use Rattle.rank_query.proofs.Cited.{Err, codes, refl, sym, ap, subst, is_some, ℤ, bytes_decides, AllByRecursion, Field}
 use Rattle.rank_query.proofs.Cited.{Blank, Number, Bad, same_bytes, read_date, scaled_field, Element, Prcp, Snow, Snwd}
@@ -10,11 +10,11 @@ use Rattle.ghcn_files.proofs.Ordered.{each-weaker}
 use Rattle.rank_query.proofs.ReadingSteps.{or_fault_ok}
 use Rattle.rank_query.proofs.WordValues.{element_code}
 
--- behind these words no number, edge or date stands
+-- after these words no number, edge or date stands
 abbrev pub IsSettled : List (List ℕ) → Type 0
 IsSettled past = place_behind past ≡ other
 
--- the words behind which an edge, a first date, a number, degrees or months stand
+-- the words after which an edge, a first date, a number, degrees or months stand
 abbrev keywords : List (List ℕ)
 keywords = codes "box" ∷ codes "from" ∷ codes "top" ∷ codes "sum" ∷ codes "hot" ∷ codes "months" ∷ []
 
@@ -26,12 +26,12 @@ IsNoKeyword w = AllByRecursion (λ text. same_bytes w text ≡ false) keywords
 pub not_both : (a b : Bool) → b ≡ false → (a && b) ≡ false
 not_both x b e = grind (arith, ints)
 
--- behind a word that is no keyword another word stands, if none of what stands before it goes on
+-- after a word that is no keyword another word stands, if none of what stands before it goes on
 pub settled_word : (v : List ℕ) (past : List (List ℕ)) → IsNoKeyword v → is_behind_box 2 past ≡ false
     → is_behind_first_day past ≡ false → IsSettled (v ∷ past)
 settled_word v past word box day = grind (arith, ints, not_both)
 
--- one more number behind "box"
+-- one more number after "box"
 pub edge_more : (n : ℕ) (w : List ℕ) (past : List (List ℕ)) → is_decimal w ≡ true → is_behind_box n past ≡ true
     → is_behind_box (suc n) (w ∷ past) ≡ true
 edge_more n w past is behind = grind (arith, ints)
@@ -50,7 +50,7 @@ not_same : {A : Type 0} (value : Word → Result A QueryFault) (w : Word) (x : A
     → value w ≡ Ok x → value (w.0, text) ≡ Err fault → same_bytes w.1 text ≡ false
 not_same value w x text fault ok err = grind (arith, ints, bytes_decides)
 
--- a word with a value is no keyword, where no keyword has one
+-- a word with a value is no keyword, if no keyword has one
 no_keyword : {A : Type 0} (value : Word → Result A QueryFault) (w : Word) (x : A) (fault : QueryFault) → value w ≡ Ok x
     → AllByRecursion (λ text. value (w.0, text) ≡ Err fault) keywords → IsNoKeyword w.1
 no_keyword value w x fault e none = each-weaker (λ text. value (w.0, text) ≡ Err fault)
@@ -94,7 +94,7 @@ pub date_no_keyword : (w : Word) (day : ℤ) → date w ≡ Ok day → IsNoKeywo
 unfolding date
 date_no_keyword w day e = no_keyword date w day (BadDate w.0) e (refl, (refl, (refl, (refl, (refl, (refl, tt))))))
 
--- behind the code of an element another word stands
+-- after the code of an element another word stands
 code_settled : (e : Element) (past : List (List ℕ)) → IsSettled (code_of e ∷ past)
 code_settled Prcp past = refl
 code_settled Snow past = refl
@@ -102,7 +102,7 @@ code_settled Snwd past = refl
 code_settled Tmax past = refl
 code_settled Tmin past = refl
 
--- and so behind a word that is read as an element
+-- and so after a word that is read as an element
 pub element_settled : (allows : Element → Bool) (w : Word) (e : Element) (past : List (List ℕ))
     → element allows w ≡ Ok e → IsSettled (w.1 ∷ past)
 element_settled allows w e past is =

@@ -103,7 +103,7 @@ code_word Snwd = known_word (codes "SNWD") refl
 code_word Tmax = known_word (codes "TMAX") refl
 code_word Tmin = known_word (codes "TMIN") refl
 
--- so many visible bytes, if there is one, are one word
+-- that many visible bytes, if there is one, are one word
 pub visible_word : (len : ℕ) (code : List ℕ) → 1 ≤ len → len ≤ 11 → is_code len code ≡ true → IsShortWord code
 visible_word len code some short is =
     let both = and_parts _ (list_all is_visible code) is in
@@ -131,7 +131,7 @@ date_word day =
     (visible-append (last_digits 2 month) (45 ∷ last_digits 2 dom) (last_visible 2 month) (last_visible 2 dom)) in
     word_from (date_text day) (omega arith) (omega arith) visible
 
--- a digit behind a number's last one has its value
+-- a digit after a number's last one has its value
 digit_value-byte : (n : ℕ) → digit_value (48 + n % 10) ≡ n % 10
 digit_value-byte n = grind (arith, nat_tests)
 
@@ -143,7 +143,7 @@ value_of_four n = grind (arith, ints, digit_value-byte)
 value_of_one : (n : ℕ) → digits_value 10 (last_digits 1 n) ≡ n % 10
 value_of_one n = rw (digit_value-byte n) (omega arith)
 
--- a numeral of few digits and some visible bytes behind it are one word
+-- a numeral of few digits and some visible bytes after it are one word
 numeral_then : (digits n : ℕ) (rest : List ℕ) → 0 < digits → n < 10 ^ digits → n < 2 ^ 64
     → list_all is_visible rest ≡ true → digits + length rest ≤ 11
     → IsShortWord (decimal n ++ rest) × (length (decimal n ++ rest) ≤ digits + length rest)
@@ -161,7 +161,7 @@ pub record IsNumberText (places : ℕ) (text : List ℕ) (z : ℤ) : Type 0 wher
   pub short : IsShortWord text
   pub spelt : Spells places text z
 
--- so it is with a numeral and some decimals, behind a minus or without one
+-- so it is with a numeral and some decimals, after a minus or without one
 decimals_text : (places width whole n : ℕ) (part : List ℕ) (negative : Bool) → 0 < width → whole < 10 ^ width
     → whole < 2 ^ 64 → list_all is_ascii_digit part ≡ true → length part ≤ places
     → width + length (part_text part) ≤ 10 → list_all is_visible (part_text part) ≡ true
@@ -194,7 +194,7 @@ decimals_text places width whole n part negative some few fits digits at_most sh
     signed_word true text it few = word_from (45 ∷ text) (omega arith) (omega arith) it.visible
     signed_word false text it few = it
 
--- so many ten-thousandths
+-- that many ten-thousandths
 four_places_of_text : (negative : Bool) (n : ℕ) → n < 10 ^ 7
     → IsNumberText 4 (sign_text negative ++ decimal (n / 10000) ++ 46 ∷ last_digits 4 n) (with_sign negative n)
 four_places_of_text negative n few =
@@ -206,7 +206,7 @@ pub four_places_text : (z : ℤ) → neg_ℤ (pos 1_800_000) ≤ℤ z → z ≤�
 four_places_text (pos n) low high = four_places_of_text false n (omega (arith, ints))
 four_places_text (negsuc n) low high = four_places_of_text true (suc n) (omega (arith, ints))
 
--- and so many tenths
+-- and that many tenths
 tenths_of_text : (negative : Bool) (n : ℕ) → n < 10 ^ 4
     → IsNumberText 1 (sign_text negative ++ tenths_of n) (with_sign negative n)
 tenths_of_text negative n few =

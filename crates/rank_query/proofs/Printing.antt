@@ -10,7 +10,7 @@ use Rattle.std.proofs.lemmas.Str.{IsUtf8-from_ascii}
 use Rattle.std.proofs.lemmas.Str.Ascii.{IsAscii-from_all}
 use Rattle.rank_query.specs.Printed.{spaced}
 
--- words that are joined by a blank are the first one, and each other one behind a blank
+-- words that are joined by a blank are the first one, and each other one after a blank
 pub join-spaced : (word : QueryWord) (words : List QueryWord)
     → join_with_byte 32 (map word_text (word ∷ words)) ≡ word_text word ++ spaced words
 join-spaced word [] = sym (append-nil (word_text word))

@@ -16,11 +16,11 @@ use Rattle.rank_query.proofs.SeasonWords.{season_rows}
 use Rattle.rank_query.proofs.PeriodStops.{GoodPeriod, period_parts}
 use Rattle.rank_query.proofs.PeriodWords.{period_rows}
 
--- what is read behind a season
+-- what is read after a season
 abbrev from_period : ℕ → Score → Region → Option (ℕ × ℕ) → Reading Asked
 from_period k s r t ws = period_at ws >>= λ p. nothing_more p.1 (asked k s r t p.0)
 
--- behind a region
+-- after a region
 abbrev from_season : ℕ → Score → Region → Reading Asked
 from_season k s r ws = season_at ws >>= λ t. from_period k s r t.0 t.1
 
@@ -28,7 +28,7 @@ from_season k s r ws = season_at ws >>= λ t. from_period k s r t.0 t.1
 abbrev from_region : ℕ → Score → Reading Asked
 from_region k s ws = region_at ws >>= λ r. from_season k s r.0 r.1
 
--- where a word comes next, all that is read as this is stops where this stops
+-- if a word comes next, all that is read as this is stops where this stops
 abbrev StopsAhead : Reading Asked → Type 0
 StopsAhead next =
     (whole : Reading Asked) (w : Word) (ws : List Word) (fault : QueryFault)
@@ -41,7 +41,7 @@ nothing_ahead q whole w ws fault same on e =
     let here : ◌≡◌ {A = Result Asked QueryFault} (Err (UnexpectedWord w.0)) (Err fault) = sym (same ws) ∙ e in
     stops_word [] w ws on (told (UnexpectedWord w.0) fault w refl here) (λ more. same more ∙ here)
 
--- a part that may be missing, and what is read behind it
+-- a part that may be missing, and what is read after it
 optional_ahead : {A : Type 0} (Good : A → Type 0) (rows : List (List ℕ × (List Word → Read A))) (none : A)
     (onward : A → Reading Asked)
     → AllByRecursion (λ row. ReadsPart A Good row.1) rows → ((x : A) → Good x → StopsFirst Asked Any (onward x))
@@ -115,7 +115,7 @@ top_itself : says (codes "top") (codes "top") ≡ true
 unfolding says
 top_itself = refl
 
--- behind "top"
+-- after "top"
 abbrev from_rows : Reading Asked
 from_rows ws = then (one_word (number 1 1000)) (λ k. then score_at (from_region k)) ws
 
@@ -125,7 +125,7 @@ rows_first =
     first_then (λ k. then score_at (from_region k)) (part_word (reads_number 1 1000 one_row))
     (λ k rows. first_then (from_region k) score_part (λ s score. region_first k s))
 
--- the reading of a query can go on before each of its faults
+-- the reading of a query can go on before each of its errors
 pub query_first : StopsFirst Asked Any read_words
 unfolding read_words
 query_first =

@@ -52,7 +52,7 @@ pub read_asked : (text : List ℕ) (q : Asked) → read_query text ≡ Ok q → 
 unfolding read_query
 read_asked text q e = words_asked (numbered_words text) q (else_ok (nat_lt 256 (length text)) QueryTooLong _ q e)
 
--- where the reading succeeds, the query can be asked and the text spells it
+-- if the reading succeeds, the query can be asked and the text spells it
 pub if_read : (text : List ℕ) (r : Result Asked QueryFault) → r ≡ read_query text
     → IfOk r (λ q. IsAsked q × IsSpelling text q)
 if_read text (Ok q) e = (read_asked text q (sym e), read_spells text q (sym e))

@@ -11,7 +11,7 @@ pub bind_ok : {A B : Type 0} (r : Result A QueryFault) (f : A → Result B Query
 bind_ok (Ok x) f y e = (x, refl, e)
 bind_ok (Err d) f y e = cc
 
--- three steps one behind another
+-- three steps one after another
 pub assoc : {A B C : Type 0} (r : Result A QueryFault) (f : A → Result B QueryFault) (g : B → Result C QueryFault)
     → ((r >>= f) >>= g) ≡ (r >>= λ x. f x >>= g)
 assoc (Ok x) f g = refl
@@ -23,7 +23,7 @@ pub test_ok : {A : Type 0} (b : Bool) (x y : A) (fault : QueryFault) → cond b 
 test_ok true x y fault e = (refl, cc)
 test_ok false x y fault e = cc
 
--- what succeeds where a test fails, and else has a fault, succeeds
+-- what succeeds where a test fails, and else has an error, succeeds
 pub else_ok : {A : Type 0} (b : Bool) (fault : QueryFault) (r : Result A QueryFault) (x : A)
     → cond b (Err fault) r ≡ Ok x → r ≡ Ok x
 else_ok true fault r x e = cc
@@ -34,7 +34,7 @@ pub or_fault_ok : {A : Type 0} (fault : QueryFault) (o : Option A) (x : A) → o
 or_fault_ok fault None x e = cc
 or_fault_ok fault (Some v) x e = cc
 
--- a test that fails has its fault
+-- a test that fails has its error
 pub test_err : {A : Type 0} (b : Bool) (x : A) (named fault : QueryFault) → cond b (Ok x) (Err named) ≡ Err fault
     → (b ≡ false) × (named ≡ fault)
 test_err true x named fault e = absurd cc
@@ -46,7 +46,7 @@ pub or_fault_err : {A : Type 0} (named fault : QueryFault) (o : Option A) → or
 or_fault_err named fault None e = (refl, cc)
 or_fault_err named fault (Some x) e = absurd cc
 
--- the value of a word that has one and passes a test, which has a fault of its own
+-- the value of a word that has one and passes a test, which has an error of its own
 abbrev pub tested : {A : Type 0} → (List ℕ → Option A) → (A → Bool) → (ℕ → QueryFault) → Word → Result A QueryFault
 tested read passes bad w = or_fault (UnexpectedWord w.0) (read w.1) >>= λ x. cond (passes x) (Ok x) (Err (bad w.0))
 
@@ -105,7 +105,7 @@ pub made_into_took : {A B : Type 0} (make : A → B) (r : Read A) (rest : List W
 made_into_took {A} {B} make (Ok p) rest y e = grind (arith, ints)
 made_into_took make (Err fault) rest y e = cc
 
--- what is read by the first of some words was read behind that word, or by a later one
+-- what is read by the first of some words was read after that word, or by a later one
 pub by_word_took : {A : Type 0} (text : List ℕ) (reader : List Word → Read A)
     (others : List (List ℕ × (List Word → Read A))) (otherwise : List Word → Read A) (ws : List Word)
     (y : A × List Word) → by_word ((text, reader) ∷ others) otherwise ws ≡ Ok y
@@ -118,7 +118,7 @@ by_word_took text reader others otherwise (w ∷ ws) y e = elim (cases_Bool (say
   | inr other ↦ let read = rw (other, by_word) at e in inr read
 ]
 
--- a word that has a value is read as it, and the reading goes on behind it
+-- a word that has a value is read as it, and the reading goes on after it
 pub one_word_again : {A B : Type 0} (value : Word → Result A QueryFault) (n : ℕ) (word : List ℕ)
     (more : List (List ℕ)) (x : A) (onward : A × List Word → Result B QueryFault)
     → value (n, word) ≡ Ok x → (one_word value (enumerate_from n (word ∷ more)) >>= onward) ≡ onward

@@ -47,7 +47,7 @@ box_part =
     part_then (λ east ws. Ok (Inside south west north east, ws)) longitude_part (λ east e.
     part_always (Inside south west north east) (good_box south west north east s w n e)))))
 
--- each region is a part behind its word
+-- each region is a part after its word
 pub region_parts : AllByRecursion (λ row. ReadsPart Region GoodRegion row.1) region_rows
 region_parts = (
   box_part,

@@ -10,7 +10,7 @@ use Rattle.rank_query.proofs.SpeltWords.{made_read, then_read, behind_read, alwa
 use Rattle.rank_query.proofs.ReadingSteps.{bind_ok, unnumbered}
 use Rattle.rank_query.proofs.WordValues.{is_longitude, degrees_spelt, spelt_degrees, code_word, word_code}
 
--- each region behind its word
+-- each region after its word
 abbrev pub region_rows : List (List ℕ × (List Word → Read Region))
 region_rows =
     (codes "box", box_at) ∷ (codes "country", country_at) ∷ (codes "state", state_at) ∷
@@ -126,7 +126,7 @@ code_read : (len : ℕ) (c : List ℕ) {others : List QueryWord} → is_code len
 code_read len c is = word_read (code len) (Exactly c) c
     (λ at word same. subst (λ (v : List ℕ). code len (at, v) ≡ Ok c) (sym same) (word_code len at c is))
 
--- what spells a region that can be asked for is read as it, where none begins what stands behind all stations
+-- what spells a region that can be asked for is read as it, if none begins what comes after all stations
 pub region_read : (r : Region) (others : List QueryWord) → is_region r ≡ true → PassesBy region_at Everywhere others
     → ReadsAs region_at r (region_words r ++ others) others
 unfolding region_at says

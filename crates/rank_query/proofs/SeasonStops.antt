@@ -10,6 +10,6 @@ use Rattle.rank_query.proofs.WordStops.{reads_months}
 abbrev pub GoodSeason : Option (ℕ × ℕ) → Type 0
 GoodSeason s = is_season s ≡ true
 
--- a season is a part behind its word
+-- a season is a part after its word
 pub season_parts : AllByRecursion (λ row. ReadsPart (Option (ℕ × ℕ)) GoodSeason row.1) season_rows
 season_parts = (part_made Some (λ s is. is) (part_word reads_months), tt)

@@ -7,7 +7,7 @@ use Rattle.rank_query.proofs.SpeltWords.{TakesBehind, took_same, word_took, made
 use Rattle.rank_query.proofs.SpeltWords.{made_read, behind_read, PassesBy, passed_by}
 use Rattle.rank_query.proofs.WordValues.{months_joined, joined_months}
 
--- a season behind its word
+-- a season after its word
 abbrev pub season_rows : List (List ℕ × (List Word → Read (Option (ℕ × ℕ))))
 season_rows = (codes "months", months_at) ∷ []
 
@@ -20,7 +20,7 @@ season_took = rows_took season_words season_rows all_year_at (
   tt,
 ) (λ ws rest s e. took_same season_words (unnumbered ws) None s ws rest e (λ others more. more))
 
--- what spells a season that can be asked for is read as it, where none begins what stands behind all months
+-- what spells a season that can be asked for is read as it, if none begins what comes after all months
 pub season_read : (s : Option (ℕ × ℕ)) (others : List QueryWord) → is_season s ≡ true → PassesBy season_at None others
     → ReadsAs season_at s (season_words s ++ others) others
 unfolding season_at says

@@ -14,7 +14,7 @@ use Rattle.rank_query.proofs.RegionWords.{region_took, region_read}
 use Rattle.rank_query.proofs.SeasonWords.{season_took, season_read, no_region}
 use Rattle.rank_query.proofs.PeriodWords.{period_took, period_read, no_season}
 
--- where nothing more comes, nothing is left
+-- if nothing more comes, nothing is left
 pub nothing_left : (ws : List Word) (q r : Asked) → nothing_more ws q ≡ Ok r → (ws ≡ []) × (q ≡ r)
 nothing_left [] q r e = (refl, cc)
 nothing_left (w ∷ ws) q r e = cc
@@ -28,12 +28,12 @@ none_spelt (w ∷ words) all = absurd all
 abbrev pub asked : ℕ → Score → Region → Option (ℕ × ℕ) → Option (ℤ × ℤ) → Asked
 asked k s r t p = record { k = k; score = s; region = r; season = t; period = p }
 
--- the words of the parts of a query stand one behind another
+-- the words of the parts of a query stand one after another
 parts_order : (s r t p : List QueryWord) → s ++ r ++ t ++ p ≡ s ++ (r ++ (t ++ (p ++ [])))
 parts_order s r t p =
     append_assoc (s ++ r) t p ∙ append_assoc s r (t ++ p) ∙ ap (λ p. s ++ (r ++ (t ++ p))) (sym (append-nil p))
 
--- words spell a query, if those behind "top" spell the others
+-- words spell a query, if those after "top" spell the others
 query_spelt : (ws left : List Word) (k : ℕ) (s : Score) (r : Region) (t : Option (ℕ × ℕ)) (p : Option (ℤ × ℤ))
     → unnumbered ws ≡ codes "top" ∷ unnumbered left → Spell (unnumbered left)
     (Count k ∷ score_words s ++ (region_words r ++ (season_words t ++ (period_words p ++ []))))

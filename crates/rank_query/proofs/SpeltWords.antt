@@ -17,12 +17,12 @@ Spell words these = AllByRecursion HasNoBlank words → SpellAll words these
 abbrev pub Took : List QueryWord → List (List ℕ) → List Word → Type 0
 Took these words rest = (others : List QueryWord) → Spell (unnumbered rest) others → Spell words (these ++ others)
 
--- what is read behind some words spells, with them, the words of its value
+-- what is read after some words spells, with them, the words of its value
 abbrev pub TakesBehind : {A : Type 0} → List (List ℕ) → (A → List QueryWord) → (List Word → Read A) → Type 0
 TakesBehind {A} front words read =
     (ws rest : List Word) (x : A) → read ws ≡ Ok (x, rest) → Took (words x) (front ++ unnumbered ws) rest
 
--- what is read was a value, and the words behind it
+-- what is read was a value, and the words after it
 pub took_same : {A : Type 0} (words : A → List QueryWord) (all : List (List ℕ)) (x y : A) (left rest : List Word)
     → ◌≡◌ {A = Read A} (Ok (x, left)) (Ok (y, rest)) → Took (words x) all left → Took (words y) all rest
 took_same {A} words all x y left rest e took =
@@ -37,7 +37,7 @@ word_took value word_of spells = λ ws rest x e.
     subst (λ words. Took (word_of x ∷ []) words rest) (sym word.1)
     (λ others more clean. (spells word.0 x clean.0 word.2, more clean.1))
 
--- and what is made of it is, behind a word of its own
+-- and what is made of it is, after a word of its own
 pub made_took : {A B : Type 0} (text : List ℕ) (make : A → B) (inner : A → List QueryWord) (words : B → List QueryWord)
     (read : List Word → Read A) → ((x : A) → words (make x) ≡ Exactly text ∷ inner x) → TakesBehind [] inner read
     → TakesBehind (text ∷ []) words (λ ws. made_into make (read ws))
@@ -47,7 +47,7 @@ made_took text make inner words read are took = λ ws rest y e.
     subst (λ these. Took these (text ∷ unnumbered ws) rest) (sym (are made.0) ∙ ap words made.2)
     (λ others more clean. (refl, all others more clean.1))
 
--- what is read by its first word, or without one, is taken if each row takes what stands behind its word
+-- what is read by its first word, or without one, is taken if each row takes what comes after its word
 pub rows_took : {A : Type 0} (words : A → List QueryWord) (table : List (List ℕ × (List Word → Read A)))
     (otherwise : List Word → Read A) → AllByRecursion (λ row. TakesBehind (row.0 ∷ []) words row.1) table
     → TakesBehind [] words otherwise → TakesBehind [] words (by_word table otherwise)
@@ -90,7 +90,7 @@ made_read make reads words n spelt =
     let it = reads words n spelt in
     record { rest = it.rest; at = it.at; reads = ap (made_into make) it.reads; spells = it.spells }
 
--- and reading goes on behind it
+-- and reading goes on after it
 pub then_read : {A B : Type 0} {read : List Word → Read A} {x : A} {z : B} {these middle others : List QueryWord}
     (onward : A × List Word → Read B) → ReadsAs read x these middle
     → ReadsAs (λ ws. onward (x, ws)) z middle others → ReadsAs (λ ws. read ws >>= onward) z these others
@@ -104,7 +104,7 @@ then_read onward one next words n spelt =
       spells = left.spells;
     }
 
--- or behind a word of its own
+-- or after a word of its own
 pub behind_read : {A : Type 0} {x : A} {these others : List QueryWord} (whole read : List Word → Read A) (text : List ℕ)
     → ((at : ℕ) (ws : List Word) → whole ((at, text) ∷ ws) ≡ read ws) → ReadsAs read x these others
     → ReadsAs whole x (Exactly text ∷ these) others

@@ -1,4 +1,4 @@
--- Where a reading stops at a fault, and what it could go on with there.
+-- Where a reading stops at an error, and what it could go on with there.
 use Rattle.rank_query.proofs.Cited.{◌≡◌, ◌⊎◌, inl, inr, List, [], ◌∷◌, ◌++◌, Result, Ok, Err, refl, sym, ap, ◌∙◌, subst}
 use Rattle.rank_query.proofs.Cited.{append_assoc, append-nil, AllByRecursion, map-append, QueryFault, QueryTooLong}
 use Rattle.rank_query.proofs.Cited.{UnexpectedWord, QueryEnds, OutOfLimits, BadDate, BadBox, EmptyPeriod, Word, ◌>>=◌}
@@ -31,7 +31,7 @@ pub record GoesOn (C : Type 0) (Good : C → Type 0) (read : Reading C) : Type 0
   pub good : Good value
   pub reads : read tail ≡ Ok value
 
--- the word of a fault, behind those before it
+-- the word of an error, after those before it
 abbrev pub IsWordOf : QueryFault → List Word → Word → Type 0
 IsWordOf QueryTooLong before w = ⊥
 IsWordOf (UnexpectedWord n) before w = n ≡ w.0
@@ -41,13 +41,13 @@ IsWordOf (BadDate n) before w = n ≡ w.0
 IsWordOf (BadBox n) before w = n ≡ w.0
 IsWordOf EmptyPeriod before w = EndsTooEarly (unnumbered before) w.1
 
--- the fault is that of the first of the words that are left, whatever stands behind it; or none are left
+-- the error is that of the first of the words that are left, whatever comes after it; or none are left
 abbrev pub StopsAt : {C : Type 0} → Reading C → QueryFault → List Word → List Word → Type 0
 StopsAt read fault before [] = fault ≡ QueryEnds
 StopsAt read fault before (w ∷ behind) =
     IsWordOf fault before w × ((more : List Word) → read (before ++ w ∷ more) ≡ Err fault)
 
--- before the fault the reading can go on
+-- before the error the reading can go on
 pub record Stops (C : Type 0) (Good : C → Type 0) (read : Reading C) (fault : QueryFault)
     (ws : List Word) : Type 0 where
   pub before : List Word
@@ -56,12 +56,12 @@ pub record Stops (C : Type 0) (Good : C → Type 0) (read : Reading C) (fault : 
   pub on : GoesOn C Good (λ tail. read (before ++ tail))
   pub at : StopsAt read fault before left
 
--- a reading that can go on, and does so before each fault
+-- a reading that can go on, and does so before each error
 pub record StopsFirst (C : Type 0) (Good : C → Type 0) (read : Reading C) : Type 0 where
   pub on : GoesOn C Good read
   pub stops : (ws : List Word) (fault : QueryFault) → read ws ≡ Err fault → Stops C Good read fault ws
 
--- what was read is good, and the same whatever stands behind it
+-- what was read is good, and the same whatever comes after it
 pub record Takes (A : Type 0) (Good : A → Type 0) (read : Reading (A × List Word)) (ws : List Word)
     (r : A × List Word) : Type 0 where
   pub good : Good r.0
@@ -82,13 +82,13 @@ pub record ReadsPart (A : Type 0) (Good : A → Type 0) (read : Reading (A × Li
   pub first : StopsFirst (A × List Word) Ended read
   pub takes : TakesAll A Good read
 
--- a fault of two steps is that of the first or of the second
+-- an error of two steps is that of the first or of the second
 pub bind_err : {A B : Type 0} (r : Result A QueryFault) (f : A → Result B QueryFault) (fault : QueryFault)
     → (r >>= f) ≡ Err fault → (r ≡ Err fault) ⊎ ((x : A) × (r ≡ Ok x) × (f x ≡ Err fault))
 bind_err (Ok x) f fault e = inr (x, refl, e)
 bind_err (Err d) f fault e = let same : d ≡ fault = cc in inl (ap Err same)
 
--- the word of a fault is the same behind more words
+-- the word of an error is the same after more words
 pub word_behind : (fault : QueryFault) (front before : List Word) (w : Word) → IsWordOf fault before w
     → IsWordOf fault (front ++ before) w
 word_behind QueryTooLong front before w is = is
@@ -108,7 +108,7 @@ word_behind EmptyPeriod front before w is = record {
   order = is.order;
 }
 
--- a whole reading ends behind some words as a part does, with what is made of its value or with its fault
+-- a whole reading ends after some words as a part does, with what is made of its value or with its error
 pub record Follows {A C : Type 0} (make : A → C) (whole : Reading C) (front : List Word)
     (part : Reading A) : Type 0 where
   pub ok : (more : List Word) (x : A) → part more ≡ Ok x → whole (front ++ more) ≡ Ok (make x)
@@ -141,7 +141,7 @@ on_follows GoodA Good make whole part front before good follows on = record {
   reads = ap whole (append_assoc front before on.tail) ∙ follows.ok (before ++ on.tail) on.value on.reads;
 }
 
--- and has its faults where it has them
+-- and has its errors where it has them
 pub stops_follows : {A C : Type 0} (GoodA : A → Type 0) (Good : C → Type 0) (make : A → C) (whole : Reading C)
     (part : Reading A) (front ws : List Word) (fault : QueryFault)
     → ((x : A) → GoodA x → Good (make x)) → Follows make whole front part
@@ -154,14 +154,14 @@ stops_follows GoodA Good make whole part front ws fault good follows stops = rec
   at = at_follows whole part front fault stops.before stops.left (λ more e. follows.err more fault e) stops.at;
 }
 
--- as where it is the same behind some words
+-- as where it is the same after some words
 pub stops_behind : {C : Type 0} (Good : C → Type 0) (whole part : Reading C) (front ws : List Word) (fault : QueryFault)
     → ((more : List Word) → whole (front ++ more) ≡ part more) → Stops C Good part fault ws
     → Stops C Good whole fault (front ++ ws)
 stops_behind Good whole part front ws fault same stops = stops_follows Good Good (λ x. x) whole part front ws fault
     (λ x good. good) (same_follows whole part front same) stops
 
--- the reading stops at the word behind some that were read
+-- the reading stops at the word after some that were read
 pub stops_word : {C : Type 0} {Good : C → Type 0} {read : Reading C} {fault : QueryFault} (before : List Word)
     (w : Word) (ws : List Word) → GoesOn C Good (λ tail. read (before ++ tail)) → IsWordOf fault before w
     → ((more : List Word) → read (before ++ w ∷ more) ≡ Err fault) → Stops C Good read fault (before ++ w ∷ ws)
@@ -173,7 +173,7 @@ pub stops_end : {C : Type 0} {Good : C → Type 0} {read : Reading C} {fault : Q
     → GoesOn C Good (λ tail. read (before ++ tail)) → fault ≡ QueryEnds → Stops C Good read fault (before ++ [])
 stops_end before on ends = record { before = before; left = []; parts = refl; on = on; at = ends }
 
--- where a part can go on, and the next one as well, both can
+-- if a part can go on, and the next one as well, both can
 pub goes_on_then : {A C : Type 0} (GoodA : A → Type 0) (Good : C → Type 0) (read : Reading (A × List Word))
     (onward : A → Reading C) (before : List Word)
     → TakesAll A GoodA read → GoesOn (A × List Word) Ended (λ tail. read (before ++ tail))
@@ -219,7 +219,7 @@ first_then {A} {C} {GoodA} {Good} {read} onward part next = record {
   ];
 }
 
--- and takes what that takes, behind them
+-- and takes what that takes, after them
 pub takes_behind : {A : Type 0} (Good : A → Type 0) (whole part : Reading (A × List Word)) (front ws : List Word)
     (r : A × List Word) → ((more : List Word) → whole (front ++ more) ≡ part more) → Takes A Good part ws r
     → Takes A Good whole (front ++ ws) r

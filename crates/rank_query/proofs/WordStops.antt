@@ -12,7 +12,7 @@ use Rattle.rank_query.proofs.PrintedWords.{date_word}
 use Rattle.rank_query.proofs.Stops.{IsWordOf}
 use Rattle.rank_query.proofs.PartStops.{ReadsWord}
 
--- a fault is told of the word that it is named by
+-- an error is told of the word that it is named by
 pub told : {A : Type 0} (named fault : QueryFault) (w : Word) → IsWordOf named [] w
     → ◌≡◌ {A = Result A QueryFault} (Err named) (Err fault) → IsWordOf fault [] w
 told named fault w is e = let same : named ≡ fault = cc in subst (λ f. IsWordOf f [] w) same is

@@ -63,7 +63,7 @@ point_is b e = grind (arith, nat_tests)
 no_point : (d : ℕ) → is_ascii_digit d ≡ true → is_point d ≡ false
 no_point d is = grind (arith, nat_tests)
 
--- the first point stands behind the digits before it
+-- the first point comes after the digits before it
 point_at : (digits rest : List ℕ) → list_all is_ascii_digit digits ≡ true
     → position_or_len is_point (digits ++ 46 ∷ rest) ≡ length digits
 point_at [] rest all = refl
@@ -78,7 +78,7 @@ both-some (Some a) None s e = cc
 both-some (Some a) (Some b) s e =
     let same : (a, b) ≡ s = cc in (ap (λ (s : ℕ × ℕ). Some s.0) same, ap (λ (s : ℕ × ℕ). Some s.1) same)
 
--- a number behind a point
+-- a number after a point
 behind-some : (bytes : List ℕ) (n : ℕ) → natural_behind bytes ≡ Some n
     → (digits : List ℕ) × (bytes ≡ 46 ∷ digits) × (natural digits ≡ Some n)
 behind-some [] n e = cc
@@ -152,7 +152,7 @@ pub code_element : (allows : Element → Bool) (e : Element) (at : ℕ) → allo
 unfolding element
 code_element allows e at allowed = tested_again element_of allows UnexpectedWord at (code_of e) e (code_found e) allowed
 
--- a text that begins with no blank is no longer than what stands behind its blanks
+-- a text that begins with no blank is no longer than what comes after its blanks
 no_blanks : (n : ℕ) (word text : List ℕ) → word ≡ replicate n 32 ++ text → HasNoBlank word → text ≡ word
 no_blanks zero word text parts clean = sym parts
 no_blanks (suc n) word text parts clean =

@@ -38,7 +38,7 @@ module _ {X : Type 0} (first : X → X → Bool) where
 
 module _ {X : Type 0} (cmp : X → X → Ordering) (total : IsTotalOrder cmp) (first : X → X → Bool)
     (first-is : (a b : X) → first a b ≡ is_le (cmp a b)) (p : X → Bool) where
-  -- what comes before one comes before all that come behind that one
+  -- what comes before one comes before all that come after that one
   before_all : (x y : X) (ys : List X) → first x y ≡ true → AllByRecursion (λ z. first y z ≡ true) ys
       → AllByRecursion (λ z. first x z ≡ true) ys
   before_all x y ys e h =
@@ -91,7 +91,7 @@ module _ (q : Asked) (id : StationId) (e : Element) where
   admitted-sorted : (facts : List Fact) → admitted_in facts ≡ sorted_by by_day (admitted_said facts)
   admitted-sorted facts = grind (arith, ints, filter-sorted, day_total, le-is, days_said facts id e)
 
-  -- those of facts, and of others behind them
+  -- those of facts, and of others after them
   admitted_said-append : (f g : List Fact) → admitted_said (f ++ g) ≡ admitted_said f ++ admitted_said g
   admitted_said-append f g = search (rules, arith, days_said-append, filter-append, days_said)
 
@@ -99,12 +99,12 @@ module _ (q : Asked) (id : StationId) (e : Element) where
   admitted_in-append : (f g : List Fact) → admitted_in (f ++ g) ≡ sorted_by by_day (admitted_said f ++ admitted_said g)
   admitted_in-append f g = admitted-sorted (f ++ g) ∙ ap (sorted_by by_day) (admitted_said-append f g)
 
-  -- where none is among these admitted days, none is among them in their order
+  -- if none is among these admitted days, none is among them in their order
   none_sorted : (facts : List Fact) → not (length (admitted_in facts) == 0) ≡ false
       → not (length (sorted_by by_day (admitted_said facts)) == 0) ≡ false
   none_sorted facts none = grind (arith, ints, admitted-sorted facts)
 
-  -- where the first facts have no admitted day, those of all are those of the others
+  -- if the first facts have no admitted day, those of all are those of the others
   pub admitted-left : (f g : List Fact) → not (length (admitted_in f) == 0) ≡ false
       → admitted_in (f ++ g) ≡ admitted_in g
   admitted-left f g none = search (rules, arith, admitted_in-append, joined-left, none_sorted, admitted-sorted)

@@ -1,4 +1,4 @@
--- The morsels of files that are cut into parts are those of the parts, where no station has a series in two of them.
+-- The morsels of files that are cut into parts are those of the parts, if no station has a series in two of them.
 use Rattle.std.proofs.Common.{◌≡◌, ℕ, Bool, true, false, cond, not, List, [], ◌∷◌, length, map, filter, refl, sym}
 use Rattle.std.proofs.Common.{ap, ◌∙◌, subst, None, Some}
 use Rattle.std.specs.Prelude.{◌==◌}
@@ -36,7 +36,7 @@ same_station a b = same_id a.id b.id
 -- ---- what facts give
 
 module _ (q : Asked) (stations : List Station) where
-  -- the series that facts give the admitted stations, where they have a day
+  -- the series that facts give the admitted stations, if they have a day
   abbrev own : List Fact → List Usable
   own facts = filter has_days (map (given q stations facts) (admitted_stations q stations))
 
@@ -152,7 +152,7 @@ module _ (q : Asked) (stations : List Station) where
             ready_apart ready_together
             ∙ ap (sorted_by series_first) (sym (all_ready parts))
 
--- where no station has a series of the query's element in two parts, the morsels of all files are those of the parts
+-- if no station has a series of the query's element in two parts, the morsels of all files are those of the parts
 pub morsels_of_parts : MorselsOfParts
 morsels_of_parts q stations parts ds held are all distinct =
     let files : Filed → List (List ℕ) = λ p. p.0 in

@@ -1,4 +1,4 @@
--- Files that are cut into parts are cut as a query sees it, where no station has morsels in two parts.
+-- Files that are cut into parts are cut as a query sees it, if no station has morsels in two parts.
 use Rattle.std.proofs.Common.{◌≡◌, ℕ, false, List, [], ◌∷◌, ◌++◌, map, refl, sym, ap, ◌∙◌, subst}
 use Rattle.std.specs.List.{flat_map, AllByRecursion, AllZip, IsDistinct}
 use Rattle.std.specs.List.Sorted.{IsPermutation}
@@ -67,7 +67,7 @@ module _ {P : Type 0} (q : Asked) (stations : List Station) (files : P → List 
       ∙ ap (λ (l : List Candidate). flat_map (candidates_seen q) (held_in q stations (facts_of_part p)) ++ l)
       (seen_candidates ps)
 
-  -- where nothing is seen in the first facts, what is seen in all is seen in the others
+  -- if nothing is seen in the first facts, what is seen in all is seen in the others
   seen-left : (st : Station) (f g : List Fact) → has_any (seen_in q f st) ≡ false
       → seen_in q (f ++ g) st ≡ seen_in q g st
   seen-left st f g none = grind (arith, ints, admitted-left q st.id (score_element q.score) f g none)

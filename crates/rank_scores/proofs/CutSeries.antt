@@ -104,7 +104,7 @@ module _ (q : Asked) where
     abbrev pub admitted_stations : List Station
     admitted_stations = filter (admits_station q) stations
 
-    -- what it sees of them, where there is an admitted day
+    -- what it sees of them, if there is an admitted day
     abbrev pub held_in : List Fact → List Seen
     held_in facts = filter has_any (map (seen_in facts) admitted_stations)
 

@@ -212,7 +212,7 @@ module _ (q : Asked) (s : Usable) (series : IsSeries s) where
   pub exactly : IsAsked q → AreTheCandidates q s (candidates q s)
   exactly asked = λ c. (of_all (IsCandidateOf q s) (candidates q s) c all_listed, is-listed asked c)
 
-  -- no listed candidate is above a number exactly where none is that has the property
+  -- no listed candidate is above a number if and only if none is that has the property
   pub bounds : IsAsked q → (bound : ℤ) → IsAbove q s bound ↔ NoneIsAbove q s bound
   bounds asked bound = (
     λ h c is. of_all (λ d. d.score ≤ℤ bound) (candidates q s) c h (is-listed asked c is),

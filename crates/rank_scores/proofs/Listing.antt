@@ -1,4 +1,4 @@
--- Candidates that are apart, once they are put in order: each precedes all behind it.
+-- Candidates that are apart, once they are put in order: each precedes all after it.
 use Rattle.std.proofs.Common.{◌≡◌, ℕ, suc, ◌<◌, Bool, true, false, List, [], ◌∷◌, arith, length}
 use Rattle.std.proofs.Common.{get_or}
 use Rattle.std.specs.Prelude.{◌&&◌}
@@ -41,7 +41,7 @@ listed_first a b listed apart =
     ahead (rank_cmp a b) (rank_cmp b a) (int_cmp b.last a.last) (rank_cmp_total.antisymm b a)
     (λ e. let alike = tied_alike a b e in cc) listed
 
--- where each precedes what stands at later places, each precedes all behind it
+-- if each precedes what stands at later places, each precedes all after it
 by_place : (xs : List Candidate)
     → ((i j : ℕ) (d : Candidate) → i < j → j < length xs → precedes (get_or xs i d) (get_or xs j d) ≡ true)
     → Descends xs
@@ -55,7 +55,7 @@ by_place (x ∷ xs) h = (
 pub alike-symm : (a b : Candidate) → begin_alike a b ≡ begin_alike b a
 alike-symm a b = grind (arith, ints, nat_list_eq_equiv, int_eq_equiv)
 
--- where candidates that are apart are put in order, each precedes all behind it
+-- if candidates that are apart are put in order, each precedes all after it
 pub descends : (all xs : List Candidate) → IsPermutation all xs → IsSorted full_cmp xs → AreApart all → Descends xs
 descends all xs p up apart = by_place xs (λ i j d lt within.
     listed_first (get_or xs i d) (get_or xs j d)

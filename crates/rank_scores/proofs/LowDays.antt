@@ -16,7 +16,7 @@ use Rattle.rank_scores.specs.Extremes.{score_by}
 use Rattle.rank_scores.specs.declared.extreme.Extreme.TheVariants.{Highest, Lowest}
 use Rattle.rank_scores.proofs.Rising.{from_each}
 
--- where none of some days is kept, none passes
+-- if none of some days is kept, none passes
 none-passes : (keep : DayValue → Bool) (days : List DayValue) → filter keep days ≡ []
     → AllByRecursion (λ x. keep x ≡ false) days
 none-passes keep [] none = tt

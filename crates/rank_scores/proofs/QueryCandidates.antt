@@ -137,7 +137,7 @@ pub morsels_apart : (q : Asked) (c : Contents) → IsContents c
 morsels_apart q c right = distinct_filter (λ a b. same_id a.id b.id) (has_admitted q) (admitted_series q c)
     (series_apart q c c.stations right.listed.distinct)
 
--- and each has an ID before those of all behind it
+-- and each has an ID before those of all after it
 pub morsels_rise : (q : Asked) (c : Contents) → IsContents c
     → Descend (λ a b. strictly (λ (s : Usable). s.id) a b ≡ true) (morsels q c)
 morsels_rise q c right = sorted-rise (λ s. s.id) (filter (has_admitted q) (admitted_series q c))

@@ -19,7 +19,7 @@ use Rattle.rank_scores.proofs.QueryCandidates.{found-holds, series_among, each_a
 passes : {X : Type 0} (test : X → Bool) (xs : List X) (x : X) → find test xs ≡ Some x → test x ≡ true
 passes test xs x e = (found_in test xs x e).1
 
--- where there is no day, there is no candidate
+-- if there is no day, there is no candidate
 none_from : (f : DayValue → Option Candidate) (xs : List DayValue) → not (length xs == 0) ≡ false → filter_map f xs ≡ []
 none_from f xs e = grind (arith, common_steps)
 

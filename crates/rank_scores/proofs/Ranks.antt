@@ -30,7 +30,7 @@ rank_cmp_total = search (rules, arith, then_total, on_total, back_total, int_cmp
 asym : (a b : Candidate) → precedes a b ≡ true → precedes b a ≡ false
 asym a b h = (ranks_by rank_cmp_total (λ (c : Candidate). c)).one_way a b h
 
--- each precedes all that stand behind it
+-- each precedes all that come after it
 abbrev pub Descends : List Candidate → Type 0
 Descends = Descend (λ x y. precedes x y ≡ true)
 

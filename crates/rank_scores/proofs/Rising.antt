@@ -17,7 +17,7 @@ use Rattle.rank_query.specs.Admits.{admits_day}
 use Rattle.rank_scores.specs.declared.candidate.Candidate.{Candidate}
 use Rattle.rank_scores.specs.Candidates.{admitted}
 
--- each day is earlier than all behind it
+-- each day is earlier than all after it
 abbrev pub Rise : List DayValue → Type 0
 Rise [] = Unit {0}
 Rise (x ∷ xs) = AllByRecursion (λ y. x.0 <ℤ y.0) xs × Rise xs
@@ -70,14 +70,14 @@ find-cons : {X : Type 0} (test keeps : X → Bool) (x : X) (xs : List X) → (te
     → find test (filter keeps xs) ≡ find test xs → find test (filter keeps (x ∷ xs)) ≡ find test (x ∷ xs)
 find-cons test keeps x xs h rest = grind arith
 
--- among what is kept, the same is found, where all that passes the search is kept
+-- among what is kept, the same is found, if all that passes the search is kept
 pub find-filter : {X : Type 0} (test keeps : X → Bool) (xs : List X) → ((x : X) → test x ≡ true → keeps x ≡ true) →
     find test (filter keeps xs) ≡ find test xs
 find-filter test keeps [] h = refl
 find-filter test keeps (x ∷ xs) h =
     find-cons test keeps x xs (h x) (find-filter test keeps xs h)
 
--- behind a pair of another day, the day has the value that it had
+-- after a pair of another day, the day has the value that it had
 pub value_on-other : (x : DayValue) (xs : List DayValue) (a : ℤ) → (x.0 ≡ a → ⊥) → value_on (x ∷ xs) a ≡ value_on xs a
 value_on-other x xs a unlike = grind (arith, ints)
 
@@ -95,7 +95,7 @@ pub value_on-before : (x : DayValue) (xs : List DayValue) (a : ℤ) → Rise (x 
     → value_on (x ∷ xs) a ≡ None
 value_on-before x xs a rise h = grind (arith, ints, value_on-later, from_each)
 
--- where days rise, each has the value that stands beside it
+-- if days rise, each has the value that stands beside it
 pub values_stand : (days : List DayValue) → Rise days → AllByRecursion (λ x. value_on days x.0 ≡ Some x.1) days
 values_stand [] h = tt
 values_stand (x ∷ xs) h = grind (arith, ints, value_on-here x xs x.0, from_both, value_on-other, values_stand xs h.1)

@@ -15,13 +15,13 @@ use Rattle.rank_scores.specs.Stretches.{admitted_among}
 use Rattle.rank_scores.proofs.Rising.{from_each, value_on-other}
 use Rattle.std.proofs.Common.{rules}
 
--- so many numbers from a on pass, counted up to n
+-- that many numbers from a on pass, counted up to n
 pub record IsCounted (such : ℤ → Bool) (n : ℕ) (a : ℤ) (len : ℕ) : Type 0 where
   pub inside : (i : ℕ) → i < len → such (a +ℤ pos i) ≡ true
   pub stops : len < n → such (a +ℤ pos len) ≡ false
 
 module _ (such : ℤ → Bool) where
-  -- a number that passes makes the run behind it longer by one
+  -- a number that passes makes the run after it longer by one
   pub run-more : (n : ℕ) (a : ℤ) → such a ≡ true → run_from such (suc n) a ≡ suc (run_from such n (a +ℤ pos 1))
   unfolding run_from
   run-more n a e = grind arith
@@ -73,7 +73,7 @@ none_outside : (days : List DayValue) (d : ℤ) → AreDays days → is_day d �
 none_outside [] d h e = refl
 none_outside (x ∷ xs) d h e = grind (arith, ints, value_on-other, none_outside xs d h.1 e)
 
--- nor has one behind it
+-- nor has one after it
 pub none_past : (days : List DayValue) (d : ℤ) → AreDays days → last_day <ℤ d → value_on days d ≡ None
 none_past days d h lt = grind (arith, ints, none_outside, false_from_ne_true, day-bounds)
 

@@ -25,7 +25,7 @@ use Rattle.rank_scores.proofs.Runs.{AreDays, admitted-days, day-bounds}
 use Rattle.rank_scores.proofs.Exactly.{spell-begins}
 use Rattle.std.proofs.Common.{rules, append_assoc}
 
--- what is offered while some days come, where a spell may be open before them
+-- what is offered while some days come, if a spell may be open before them
 abbrev pub offered : StationId → (ℤ → Bool) → Option (ℤ × ℤ) → List DayValue → List Candidate
 offered id test run [] = spell_list id run
 offered id test run (y ∷ ys) = elim (goes_on run y.0 (test y.1)) [
@@ -50,7 +50,7 @@ module _ (id : StationId) (test : ℤ → Bool) (days : List DayValue) (cal : Ar
   abbrev spell_on : ℤ → Option Candidate
   spell_on d = option_map (candidate id d) (begun (Spells test) days (d, pos 0))
 
-  -- where no run begins, no spell does
+  -- if no run begins, no spell does
   none_on : (d : ℤ) → begins_run such d ≡ false → spell_on d ≡ None
   none_on d e = grind arith
 
@@ -84,16 +84,16 @@ module _ (id : StationId) (test : ℤ → Bool) (days : List DayValue) (cal : Ar
     quiet_before : (y.0 ≡ last +ℤ pos 1 → such last ≡ false) → such (y.0 -ℤ pos 1) ≡ false
     quiet_before h = grind (arith, ints, by_lt_z, quiet)
 
-    -- nor is the one behind the last, if the next one isn't where that is it
+    -- nor is the one after the last, if the next one isn't where that is it
     quiet_behind : (y.0 ≡ last +ℤ pos 1 → test y.1 ≡ false) → such (last +ℤ pos 1) ≡ false
     quiet_behind h = grind (arith, ints, by_lt_z, quiet (last +ℤ pos 1) (omega (arith, ints)), here)
 
-    -- where no spell goes on, one begins on the next day, if that is of the kind
+    -- if no spell goes on, one begins on the next day, if that is of the kind
     anew : (test y.1 ≡ true → such (y.0 -ℤ pos 1) ≡ false)
         → offered id test (cond (test y.1) (Some (y.0, y.0)) None) ys ≡ left None (y ∷ ys)
     anew before = grind (arith, ints, cases_Bool, here, and_left, none_on)
 
-    -- where an open spell goes on, the next day is of it, and none begins there
+    -- if an open spell goes on, the next day is of it, and none begins there
     longer : (s : ℤ × ℤ) → s.1 ≡ last → IsOpen such s.0 s.1 → test y.1 ≡ true → y.0 ≡ s.1 +ℤ pos 1
         → offered id test (Some (s.0, y.0)) ys ≡ left (Some s) (y ∷ ys)
     longer s is o passes on =

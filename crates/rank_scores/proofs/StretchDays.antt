@@ -21,7 +21,7 @@ by_day-rest : (x : DayValue) (xs : List DayValue) → is_by_day (x ∷ xs) ≡ t
 by_day-rest x [] e = refl
 by_day-rest x (y ∷ ys) e = (and_parts _ (is_by_day (y ∷ ys)) e).1
 
--- what is known of days is known of those behind the first
+-- what is known of days is known of those after the first
 pub stretch-rest : (q : Asked) (x : DayValue) (xs : List DayValue) (s : Stretch) → IsStretch q (x ∷ xs) s
     → IsStretch q xs s
 stretch-rest q x xs s is = grind (arith, ints, by_day-rest x xs is.by_day)
@@ -50,7 +50,7 @@ pub stretch-first_of : (b : Bool) (q : Asked) (x : DayValue) (xs : List DayValue
     → admitted_among q (x ∷ xs) ≡ cond b (x ∷ admitted_among q xs) (admitted_among q xs)
 stretch-first_of b q x xs s is on e = grind (arith, ints)
 
--- what is known of days is known of those behind some of them
+-- what is known of days is known of those after some of them
 pub stretch-behind : (q : Asked) (part days : List DayValue) (s : Stretch) → IsStretch q (part ++ days) s
     → IsStretch q days s
 stretch-behind q [] days s is = is

@@ -20,7 +20,7 @@ use Rattle.std.proofs.Common.{rules}
 
 -- ---- sums that there may be
 
--- where there is a sum, the second part is what the first leaves of it
+-- if there is a sum, the second part is what the first leaves of it
 plus-rest : (v : ℤ) (o : Option ℤ) (t : ℤ) → plus (Some v) o ≡ Some t → o ≡ Some (t -ℤ v)
 plus-rest v o t e = grind (arith, ints)
 
@@ -28,7 +28,7 @@ plus-rest v o t e = grind (arith, ints)
 plus-zero : (o : Option ℤ) → plus (Some (pos 0)) o ≡ o
 plus-zero o = grind (arith, ints)
 
--- sums of three, where there is one
+-- sums of three, if there is one
 plus-cond : (b : Bool) (v : ℤ) (o p : Option ℤ) → cond b (plus (Some v) (plus o p)) None
     ≡ plus (cond b (plus (Some v) o) None) p
 plus-cond false v o p = refl
@@ -38,13 +38,13 @@ plus-cond true v (Some t) (Some u) = search (rules, arith)
 
 -- ---- the first of some days
 
--- the sum of the first n of some days, where these are the days from a on, one after another
+-- the sum of the first n of some days, if these are the days from a on, one after another
 abbrev pub leading : ℕ → ℤ → List DayValue → Option ℤ
 leading zero a xs = Some (pos 0)
 leading (suc n) a [] = None
 leading (suc n) a (x ∷ xs) = cond (int_eq x.0 a) (plus (Some x.1) (leading n (a +ℤ pos 1) xs)) None
 
--- the sum of the first days is that of some of them, and of those behind these
+-- the sum of the first days is that of some of them, and of those after these
 pub leading-split : (n len m : ℕ) (a : ℤ) (xs : List DayValue) → n ≡ len + m
     → leading n a xs ≡ plus (leading len a xs) (leading m (a +ℤ pos len) (drop len xs))
 leading-split n zero m a xs e = grind (arith, ints, plus-zero (leading m a xs))
@@ -55,7 +55,7 @@ leading-split (suc n) (suc len) m a (x ∷ xs) e =
     rw (leading-split n len m (a +ℤ pos 1) xs (omega arith), same)
     (plus-cond (int_eq x.0 a) x.1 (leading len (a +ℤ pos 1) xs) (leading m (a +ℤ pos (suc len)) (drop len xs)))
 
--- where days are summed, the first of them is the day a, and those behind it have the rest of the sum
+-- if days are summed, the first of them is the day a, and those after it have the rest of the sum
 pub leading-first : (n : ℕ) (a t : ℤ) (x : DayValue) (xs : List DayValue) → leading (suc n) a (x ∷ xs) ≡ Some t
     → (x.0 ≡ a) × (leading n (a +ℤ pos 1) xs ≡ Some (t -ℤ x.1))
 leading-first n a t x xs e = search (rules, arith, plus-rest, Decides-int_eq)

@@ -29,7 +29,7 @@ use Rattle.std.proofs.Common.{rules}
 abbrev pub windows : StationId → ℕ → List DayValue → List Candidate
 windows id n days = candidates_among id (Windows n) days
 
--- the window of n days that begins on a day, where it has a total
+-- the window of n days that begins on a day, if it has a total
 abbrev window_on : StationId → ℕ → ℤ → Option ℤ → Option Candidate
 window_on id n a o = option_map (candidate id a) (option_map (λ total. (a +ℤ pos n -ℤ pos 1, total)) o)
 
@@ -70,7 +70,7 @@ pub record AreGood (days : List DayValue) : Type 0 where
   pub small : AllByRecursion (λ x. IsSmall x.1) days
   pub calendar : AreDays days
 
--- so are those behind some of them
+-- so are those after some of them
 good-drop : (n : ℕ) (xs : List DayValue) → AreGood xs → AreGood (drop n xs)
 good-drop zero xs h = h
 good-drop (suc n) [] h = h
@@ -117,7 +117,7 @@ pub fits : {ring : List ℤ} {w : Window} {days rest : List DayValue} {next : �
 fits {ring} {w} {days} {rest} {next} at few =
     grind (arith, ints, leading-small w.len at.first w.total days at.good.small at.sum)
 
--- the days from the window's first one on, or those behind it where it is begun anew
+-- the days from the window's first one on, or those after it where it is begun anew
 abbrev days_of : Bool → Window → List DayValue → List DayValue
 days_of true w days = days
 days_of false w days = drop w.len days
@@ -159,7 +159,7 @@ none_lost : (id : StationId) (n : ℕ) (ring : List ℤ) (w : Window) (days : Li
 none_lost id n ring w days next y ys true at few is = refl
 none_lost id n ring w days next y ys false at few is = search (rules, arith, false_from_ne_true, Decides-int_eq, passed)
 
--- where no day is to come, no window begins on the days that are left
+-- if no day is to come, no window begins on the days that are left
 pub none_left : {ring : List ℤ} {w : Window} {days rest : List DayValue} {next : ℤ} (id : StationId) (n : ℕ)
     → IsAt ring w days next rest → rest ≡ [] → w.len < n → windows id n days ≡ []
 none_left {ring} {w} {days} {rest} {next} id n at none few = grind (arith, ints, passed)

@@ -50,7 +50,7 @@ returns-in-Err-clause-asked c =
     (version_among _ _ c.fault_of.result c.fault_of.ensures.asked
     (c.in-Err.ensures.kinds (ap is_simple_and_free app_is ∙ is_free_app)))
 
--- a command line without a fault has met `rank`, `merge`, `check` or `describe`
+-- a command line without an error has met `rank`, `merge`, `check` or `describe`
 pub unreachable-requires : goal.unreachable-requires
 unreachable-requires c =
     let words_are : map (λ s. s.now) c.as_slice.result.now ≡ all_words c.args.words.now
@@ -79,7 +79,7 @@ unreachable-requires c =
       ]
     ]
 
--- what is read behind `rank` is its command
+-- what is read after `rank` is its command
 pub returns-in-Some-clause-ok : goal.returns-in-Some-clause-ok
 returns-in-Some-clause-ok c =
     let words_are : map (λ s. s.now) c.as_slice.result.now ≡ all_words c.args.words.now
@@ -92,7 +92,7 @@ returns-in-Some-clause-ok c =
     (c.subcommand_matches.ensures.found.0 (subst (λ o. IsSome o) (sym c.in-Some.is) refl)) c.in-Some.ensures.rows
     (inl (refl, c.in_ok-rank_of.ensures))
 
--- what is read behind `merge` is its command
+-- what is read after `merge` is its command
 pub returns-in-Some-subcommand_matches-clause-ok : goal.returns-in-Some-subcommand_matches-clause-ok
 returns-in-Some-subcommand_matches-clause-ok c =
     let words_are : map (λ s. s.now) c.as_slice.result.now ≡ all_words c.args.words.now
@@ -135,7 +135,7 @@ returns-in-Some-subcommand_matches-clause-asked c =
     IfErr-weaker c.merge_of.result _ _ (never_told (MayAskVersion (all_words c.args.words.now)))
     c.merge_of.ensures.asked
 
--- what is read behind `check` is its command
+-- what is read after `check` is its command
 pub returns-in-Some-subcommand_matches-2-clause-ok : goal.returns-in-Some-subcommand_matches-2-clause-ok
 returns-in-Some-subcommand_matches-2-clause-ok c =
     let words_are : map (λ s. s.now) c.as_slice.result.now ≡ all_words c.args.words.now
@@ -149,7 +149,7 @@ returns-in-Some-subcommand_matches-2-clause-ok c =
     (c.subcommand_matches-3.ensures.found.0 (subst (λ o. IsSome o) (sym c.in-Some-subcommand_matches-2.is) refl))
     c.in-Some-subcommand_matches-2.ensures.rows (inr (inr (inl (refl, c.in_ok-check_of.ensures))))
 
--- and what is read behind `describe` is its command
+-- and what is read after `describe` is its command
 pub returns-clause-ok : goal.returns-clause-ok
 returns-clause-ok c =
     let words_are : map (λ s. s.now) c.as_slice.result.now ≡ all_words c.args.words.now

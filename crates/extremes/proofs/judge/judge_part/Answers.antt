@@ -9,7 +9,7 @@ returns-clause-ok c =
     c.in_ok-verdict.ensures.ok.is
     (given c.args.query.now c.args.stations.now (map (λ file. file.now) c.args.files.now)) c.of_files-intake.ensures
 
--- and a fault is theirs
+-- and an error is theirs
 pub returns-in_err-verdict-clause-err : goal.returns-in_err-verdict-clause-err
 returns-in_err-verdict-clause-err c =
     let p = err_from_is_err_and c.from_residual.result c.from_residual.ensures.1 in

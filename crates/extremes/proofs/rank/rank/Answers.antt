@@ -11,7 +11,7 @@ returns-clause-ok g c =
     are.is (given c.args.query.now c.args.stations.now (map (λ file. file.now) c.args.files.now))
     c.of_files-intake.ensures) c.rank_intake.ensures.ok
 
--- which had no fault
+-- which had no error
 pub returns-clause-faultless : goal.returns-clause-faultless
 returns-clause-faultless g c =
     IfOk-weaker c.rank_intake.result.answer _ _ (λ papers are.
@@ -25,7 +25,7 @@ returns-clause-crew g c =
     are.is (given c.args.query.now c.args.stations.now (map (λ file. file.now) c.args.files.now))
     c.of_files-intake.ensures) c.rank_intake.ensures.crew
 
--- and a fault is that of what was given
+-- and an error is that of what was given
 pub returns-clause-err : goal.returns-clause-err
 returns-clause-err g c =
     IfErr-weaker c.rank_intake.result.answer _ _ (λ fault is.

@@ -12,7 +12,7 @@ returns-in-Ok-clause-ok g c =
     c.papers_are_said.ensures.certificate c.in-Ok.ensures.ok are)
     c.ranked_by_crew-answer.ensures.ok
 
--- want of memory is a refusal of any input
+-- out of memory is a refusal of any input
 pub returns-in-Ok-clause-err : goal.returns-in-Ok-clause-err
 returns-in-Ok-clause-err g c =
     IfErr-weaker c.ranked_by_crew-answer.result _ _ (memory_refuses c.args.intake) c.ranked_by_crew-answer.ensures.err
@@ -25,7 +25,7 @@ returns-in-Ok-clause-crew g c =
     c.papers_of_one_element.ensures.measured c.in-Ok.ensures.ok are.0 are.1)
     c.ranked_by_crew-answer.ensures.crew
 
--- which had no fault
+-- which had no error
 pub returns-in-Ok-clause-faultless : goal.returns-in-Ok-clause-faultless
 returns-in-Ok-clause-faultless g c =
     IfOk-weaker c.ranked_by_crew-answer.result _ _ (λ papers are.

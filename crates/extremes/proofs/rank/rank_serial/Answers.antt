@@ -24,7 +24,7 @@ returns-clause-serial c =
     (given c.args.query.now c.args.stations.now (map (λ file. file.now) c.args.files.now))
     c.of_files-intake.ensures
 
--- which had no fault
+-- which had no error
 pub returns-clause-faultless : goal.returns-clause-faultless
 returns-clause-faultless c =
     (faultless_input c.of_files-intake.result c.in_ok-taken.taken.query c.in_ok-taken.taken.dataset

@@ -13,7 +13,7 @@ pub returns-in_ok-push-in-Some-clause-read : goal.returns-in_ok-push-in-Some-cla
 returns-in_ok-push-in-Some-clause-read c =
     search (rules, arith, to_z, w32, of_z, to_z-of_z, block-IsBlock, rise-from_by_day, read-more)
 
--- a block without a day is passed over, and fewer numbers are left
+-- a block without a day is skipped, and fewer numbers are left
 pub returns-in-None : goal.returns-in-None
 returns-in-None c =
     let s = c.args.series.now in

@@ -31,7 +31,7 @@ loop-index-preserved c = λ rises.
       | else-is_in w ↦ grind (arith, ints, most-out)
     ]
 
--- behind the last block
+-- after the last block
 pub returns : goal.returns
 returns c = λ falls rises.
     most-end c.args.range c.args.width c.args.blocks.now c.loop-index.index _ (c.loop-index.invariant rises) falls

@@ -26,7 +26,7 @@ loop-block-preserved c =
           rw w.runs-is (told-out c.args.range c.args.blocks.now i _ far (sym c.is_in.ensures ∙ w.if-is_in.false))
     ]
 
--- behind the last block
+-- after the last block
 pub returns : goal.returns
 returns c = λ k s are.
     let is : pos c.loop-block.runs.longest ≡ to_z w64 c.loop-block.runs.longest = omega (arith, ints) in

@@ -3,7 +3,7 @@ use Rattle.rank_blocks.proofs.BlockSteps.{sum-bounds, sum-in, sum-out, sum-past}
 use Rattle.rank_blocks.proofs.PossibleBlocks.{possible-few}
 use Rattle.rank_blocks.proofs.reached.window_total.Goals as goal
 
--- behind the window
+-- after the window
 pub returns-then-is_before : goal.returns-then-is_before
 returns-then-is_before c = search (rules, arith, sum-past)
 

@@ -6,7 +6,7 @@ use Rattle.rank_check.proofs.KthScores.{candidates_named}
 use Rattle.rank_check.proofs.Piecing.{right_piece}
 use Rattle.rank_check.proofs.pieces.check_line.Goals as goal
 
--- no test fails exactly where the line is right
+-- no test fails if and only if the line is right
 pub returns-clause-accepted : goal.returns-clause-accepted
 returns-clause-accepted c =
     let rows = map named_in c.args.rows.now in

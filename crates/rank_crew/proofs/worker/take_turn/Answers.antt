@@ -29,7 +29,7 @@ returns-in-Some-clause-settles c =
     (ap (λ (x : ℤ). Some x) same ∙ sym c.in-Some.is))
     c.raise.ensures.raises.seen
 
--- where it stands for no score, nothing is raised
+-- if it stands for no score, nothing is raised
 pub returns-in_default-clause-settles : goal.returns-in_default-clause-settles
 returns-in_default-clause-settles c =
     settles c.args.board.now (task_of c.args.plan.now) c.args.worker c.args.morsel c.args.seat.now

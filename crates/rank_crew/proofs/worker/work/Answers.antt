@@ -50,7 +50,7 @@ loop-seat-preserved g c =
           e.kept e.settles low;
     }
 
--- in a turn that met want of memory a morsel was drawn and the floor looked at, and nothing more was raised
+-- in a turn that met out of memory a morsel was drawn and the floor looked at, and nothing more was raised
 pub returns-in-Err-take_turn-clause-breaks : goal.returns-in-Err-take_turn-clause-breaks
 returns-in-Err-take_turn-clause-breaks g c =
     breaks (task_of c.args.plan.now) (guess_of c.args.board.now) c.args.board.now c.args.worker c.claim-morsel.result

@@ -8,7 +8,7 @@ use Rattle.rank_head.specs.HeadTests.{head_fault}
 use Rattle.rank_head.specs.RightHead.{IsNoneWhereRight}
 use Rattle.rank_head.proofs.head.check_head.Goals as goal
 
--- no test fails exactly where the head is right
+-- no test fails if and only if the head is right
 pub returns-clause-right : goal.returns-clause-right
 returns-clause-right c =
     let q = c.args.query.now in

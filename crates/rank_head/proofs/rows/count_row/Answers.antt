@@ -14,7 +14,7 @@ returns-in_default-clause-scanned c =
     (always_returns_same _ _ _ (λ a r g called. search rules))
     (searchable c.args.id.now c.args.lines.now c.requires.rise)))
 
--- the line that was found wasn't passed over
+-- the line that was found wasn't skipped
 pub returns-then-scanned-clause-scanned : goal.returns-then-scanned-clause-scanned
 returns-then-scanned-clause-scanned c =
     sym (scanned_at c.args.id.now c.args.lines.now c.in-Ok.place _ c.requires.rise c.in-Ok.ensures.bound

@@ -4,7 +4,7 @@ use Rattle.rank_papers.specs.Certificate.{end_line}
 use Rattle.rank_papers.proofs.LinesRead.{ends_by-more}
 use Rattle.rank_papers.proofs.certificate_lines.read_end.Goals as goal
 
--- something stands behind the end line
+-- something comes after the end line
 pub returns-then-not-is_empty-clause-err : goal.returns-then-not-is_empty-clause-err
 returns-then-not-is_empty-clause-err c =
     let same : c.args.line.now ≡ end_line c.args.count = search rules in

@@ -7,7 +7,7 @@ use Rattle.rank_papers.proofs.laws.certificates_are_read.Goals as goal
 pub returns-clause-read : goal.returns-clause-read
 returns-clause-read c = certificates_read
 
--- and the place of a fault
+-- and the place of an error
 pub returns-clause-wrong : goal.returns-clause-wrong
 returns-clause-wrong c = certificates_wrong
 

@@ -4,7 +4,7 @@ use Rattle.rank_papers.specs.ReportLines.{report_end}
 use Rattle.rank_papers.proofs.LinesRead.{ends_by-more}
 use Rattle.rank_papers.proofs.report_lines.read_end.Goals as goal
 
--- something stands behind the end line
+-- something comes after the end line
 pub returns-then-not-is_empty-clause-err : goal.returns-then-not-is_empty-clause-err
 returns-then-not-is_empty-clause-err c =
     let same : c.args.line.now ≡ report_end c.args.query.now c.args.rows = search rules in

@@ -10,7 +10,7 @@ use Rattle.rank_papers.specs.Lines.{paper_lines}
 use Rattle.rank_papers.proofs.LinesRead.{and_values, HasRead-line, HasRead-more, HasRead-all}
 use Rattle.rank_papers.proofs.report_lines.read_rows.Goals as goal
 
--- where what stands behind some rows is bad, all is
+-- if what comes after some rows is bad, all is
 bad_behind : (rows : List Named) (all ends : Result (List Named) ℕ) (f : PaperFault) → all ≡ and_values rows ends
     → IsBadReport ends f → IsBadReport all f
 bad_behind rows all ends (BadReport m) e bad = e ∙ ap (and_values rows) bad

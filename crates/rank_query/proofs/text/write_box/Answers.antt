@@ -3,7 +3,7 @@ use Rattle.std.proofs.lemmas.Int.{to_z-of_z}
 use Rattle.rank_query.proofs.Printing.{box-is}
 use Rattle.rank_query.proofs.text.write_box.Goals as goal
 
--- the word and the four edges are written one behind another
+-- the word and the four edges are written one after another
 pub returns : goal.returns
 returns g c = λ plain ok.
     let word = c.in_ok-write_str.ensures.writes plain refl in

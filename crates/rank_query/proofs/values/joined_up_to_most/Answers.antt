@@ -2,7 +2,7 @@ use Rattle.rank_query.proofs.Cited.{Some, sym, ap, ◌∙◌, arith, ℕ}
 use Rattle.rank_query.proofs.Numerals.{joined-kept}
 use Rattle.rank_query.proofs.values.joined_up_to_most.Goals as goal
 
--- whole degrees and the digit behind their point make the tenths
+-- whole degrees and the digit after their point make the tenths
 pub returns : goal.returns
 returns c =
     ap (λ (k : ℕ). Some k) c.min.ensures

@@ -25,7 +25,7 @@ returns-then-stretch-clause-some c =
     sym c.loop-day.invariant.left ∙ ap (admitted_among q) parts
     ∙ stretch-part true q c.take_to-part.result c.take_to-part.new.self c.go_on.new.self here within c.if-stretch.true
 
--- and the stretch is one of the days behind it
+-- and the stretch is one of the days after it
 pub returns-then-stretch-clause-stretch : goal.returns-then-stretch-clause-stretch
 returns-then-stretch-clause-stretch c =
     let q : Asked = c.args.query.now in
@@ -35,7 +35,7 @@ returns-then-stretch-clause-stretch c =
     (subst (λ (days : List DayValue). IsStretch q days c.go_on.new.self) parts
     (stretch-on q c.loop-day.days _ _ _ c.in-Some.ensures.first c.loop-day.invariant.stretch c.go_on.ensures.alike))
 
--- another part is passed over
+-- another part is skipped
 pub loop-day-preserved : goal.loop-day-preserved
 loop-day-preserved c =
     let q : Asked = c.args.query.now in
@@ -53,7 +53,7 @@ loop-day-preserved c =
       stretch = stretch-behind q c.take_to-part.result c.take_to-part.new.self c.go_on.new.self here;
     }
 
--- behind the last day there is none
+-- after the last day there is none
 pub returns-clause-none : goal.returns-clause-none
 returns-clause-none c = grind (arith, ints, no-first c.loop-day.days c.in_default.ensures.first)
 

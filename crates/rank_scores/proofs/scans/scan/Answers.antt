@@ -12,7 +12,7 @@ returns-in-Highest g c =
     (ap (λ (sc : Score). fold g.S.Sink.taken c.args.sink.now
     (candidates_among c.args.series.now.id (shape sc) days)) c.in-Highest.ensures.score)
 
--- hot spells are days of at least so many degrees
+-- hot spells are days of at least that many degrees
 pub returns-in-Hot : goal.returns-in-Hot
 returns-in-Hot g c =
     let fits : FitsSigned w32 c.in-Hot.least = search rules in

@@ -24,7 +24,7 @@ read_end-requires-clause-read g c =
     kept.end-some c.args.self.now (subst (LooksAtLines c.args.self.now) c.if-is_reading.true c.is_reading.ensures)
     c.requires
 
--- the file is read to its end, or passed over
+-- the file is read to its end, or skipped
 pub returns-clause-fed : goal.returns-clause-fed
 returns-clause-fed g c =
     let old = c.args.self.now in

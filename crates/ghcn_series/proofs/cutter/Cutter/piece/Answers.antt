@@ -31,7 +31,7 @@ pub returns-then-is_reading-clause-going : goal.returns-then-is_reading-clause-g
 returns-then-is_reading-clause-going g c =
     kept.going-piece _ _ c.args.bytes.now (returns-then-is_reading-clause-fed g c) c.requires
 
--- or it is passed over
+-- or it is skipped
 pub returns-else-is_reading-clause-fed : goal.returns-else-is_reading-clause-fed
 returns-else-is_reading-clause-fed g c =
     let some : 0 < length c.args.bytes.now = grind (arith, nat_tests, c.if-is_empty.false, c.is_empty.ensures) in

@@ -4,7 +4,7 @@ use Rattle.ghcn_series.specs.Fed.{more, with_files}
 use Rattle.ghcn_series.proofs.FedPieces.{piece-line, piece-found, piece-part, memory-found}
 use Rattle.ghcn_series.proofs.cutter.Cutter.read.Goals as goal
 
--- a line with a fault is found
+-- a line with an error is found
 pub returns-in_err-end_line-clause-fault : goal.returns-in_err-end_line-clause-fault
 returns-in_err-end_line-clause-fault g c =
     let p = err_from_is_err_and c.from_residual.result c.from_residual.ensures.1 in

@@ -8,7 +8,7 @@ use Rattle.ghcn_series.proofs.FedPieces.{end-read, last-read, last-found}
 use Rattle.ghcn_series.proofs.cutter.Cutter.read_end.Goals as goal
 use Rattle.ghcn_series.proofs.cutter.Cutter.read_end.Goals.{then-not-is_empty+in_ok-end_line, else-not-is_empty}
 
--- a last line with a fault is found
+-- a last line with an error is found
 pub returns-in_err-end_line-clause-fault : goal.returns-in_err-end_line-clause-fault
 returns-in_err-end_line-clause-fault g c =
     let p = err_from_is_err_and c.from_residual.result c.from_residual.ensures.1 in
@@ -19,7 +19,7 @@ returns-in_err-end_line-clause-fault g c =
       found = λ fed at is. last-found old fed c.in_err-end_line.field-0.0 at some c.in_err-end_line.ensures.fault is;
     })
 
--- the file is read to its end, in its last line or behind it
+-- the file is read to its end, in its last line or after it
 pub returns-clause-read : goal.returns-clause-read
 returns-clause-read g c =
     let old = c.args.self.now in

@@ -36,7 +36,7 @@ returns-in_err-dataset-clause-err c =
     let p = err_from_is_err_and c.from_residual-in_err-dataset.result c.from_residual-in_err-dataset.ensures.1 in
     rw (p.1, p.2, ← all) (c.in_err-dataset.ensures.err.is fed c.loop-file.invariant)
 
--- and of their first line with a fault
+-- and of their first line with an error
 pub returns-in_err-dataset-clause-first : goal.returns-in_err-dataset-clause-first
 returns-in_err-dataset-clause-first c =
     let fed = fed_files All c.args.stations c.args.files.now c.loop-file.file-index in

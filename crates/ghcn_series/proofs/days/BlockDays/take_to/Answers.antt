@@ -52,7 +52,7 @@ returns-clause-taken c =
     (each-day (λ (d : ℤ). d ≤ℤ last) n c.self.inside.values.now (bit_and w (2 ^ k - 1))
     (λ j lt set. up_to j (first-bit w k j set)))
 
--- those that stay come behind it
+-- those that stay come after it
 pub returns-clause-left : goal.returns-clause-left
 returns-clause-left c =
     let n : ℤ = c.self.inside.number in

@@ -10,7 +10,7 @@ use Rattle.ghcn_series.proofs.PartsAdded.{packed-at}
 use Rattle.ghcn_series.proofs.Nexts.{block-nonempty}
 use Rattle.ghcn_series.proofs.days.Blocks.next.Goals as goal
 
--- behind the last block there is no day
+-- after the last block there is no day
 pub returns-in_err-number-clause-none : goal.returns-in_err-number-clause-none
 returns-in_err-number-clause-none c =
     let past : length c.self.inside.numbers.now ≤ c.self.inside.passed =
@@ -33,7 +33,7 @@ of-requires c =
     rw (to_z-of_z w32 n near, get_or_read_under _ _ _ n (pos 0) c.in_ok-number.ensures.lookup.1 here refl)
     (record { days = packed.days })
 
--- what comes is that block's days, and those behind it
+-- what comes is that block's days, and those after it
 pub returns-clause-some : goal.returns-clause-some
 returns-clause-some c =
     let i : ℕ = c.self.inside.passed in

@@ -24,7 +24,7 @@ loop-station-init c =
           ∙ ap (map station_series) all;
     }
 
--- one list more, behind those that are held
+-- one list more, after those that are held
 one_more : {V : Type 0} (items : V → List Usable) (held : List V) (v : V) (g : StationGathering)
     (rest left : List StationGathering) (all : List (List Usable)) → items v ≡ station_series g → rest ≡ g ∷ left
     → map items held ++ map station_series rest ≡ all → map items (held ++ v ∷ []) ++ map station_series left ≡ all

@@ -4,7 +4,7 @@ use Rattle.ghcn_files.specs.Rows.{IsOfLine}
 use Rattle.ghcn_series.proofs.ReadLines.{read-passed, read-month, refused-month, other_kind, element_kind}
 use Rattle.ghcn_series.proofs.reader.ReaderLineReader.add.Goals as goal
 
--- a line of none of the elements is passed over
+-- a line of none of the elements is skipped
 pub returns-in-Ok-None-clause-read : goal.returns-in-Ok-None-clause-read
 returns-in-Ok-None-clause-read c =
     let is : read_month c.args.bytes.now ≡ Ok None = rw c.in-Ok-None.field-0-is at c.in-Ok-None.ensures in

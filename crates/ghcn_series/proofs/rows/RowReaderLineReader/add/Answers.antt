@@ -4,7 +4,7 @@ use Rattle.ghcn_files.specs.Rows.{IsOfLine}
 use Rattle.ghcn_series.proofs.ReadLines.{read-passed, read-month, refused-month, other_kind, element_kind}
 use Rattle.ghcn_series.proofs.rows.RowReaderLineReader.add.Goals as goal
 
--- a line of none of the elements is passed over
+-- a line of none of the elements is skipped
 pub returns-in-Ok-false-clause-read : goal.returns-in-Ok-false-clause-read
 returns-in-Ok-false-clause-read c =
     let is : read_month c.args.bytes.now ≡ Ok None = rw c.in-Ok-false.field-0-test at c.in-Ok-false.ensures in

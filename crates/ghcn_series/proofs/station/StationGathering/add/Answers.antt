@@ -16,7 +16,7 @@ add-requires-clause-gathered c =
     (c.in_ok-open.ensures.same.holds c.args.asked before c.requires.gathered.1)
     (c.index_mut-gathering.ensures.value ∙ ap (λ (k : ℕ). get_or five k g) c.place_of.ensures)
 
--- and without their days, where these aren't kept
+-- and without their days, if these aren't kept
 pub note-requires : goal.note-requires
 note-requires c =
     let before = c.requires.gathered.0 in

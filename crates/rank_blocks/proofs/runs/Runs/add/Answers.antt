@@ -5,7 +5,7 @@ use Rattle.rank_blocks.proofs.WordRuns.{first-ones, last-ones}
 use Rattle.rank_blocks.proofs.runs.Runs.add.Goals.{then-block-self, else-block-self}
 use Rattle.rank_blocks.proofs.runs.Runs.add.Goals as goal
 
--- where the block is the next one, it has the same number when read
+-- if the block is the next one, it has the same number when read
 same-read : (a b : ℤ) → SFits w32 a → SFits w32 b → of_z w32 a ≡ of_z w32 b → a ≡ b
 same-read a b fits_a fits_b e = sym (to_z-of_z w32 a fits_a) ∙ ap (to_z w32) e ∙ to_z-of_z w32 b fits_b
 

@@ -5,7 +5,7 @@ use Rattle.rank_check.proofs.Surveying.{rows-behind, low-behind}
 use Rattle.rank_check.proofs.Marks.{rows-offered}
 use Rattle.rank_check.proofs.tally.TallySink.offer.Goals as goal
 
--- a candidate that isn't behind the last row is taken into account at the marks
+-- a candidate that isn't after the last row is taken into account at the marks
 pub returns-then-may_reach : goal.returns-then-may_reach
 returns-then-may_reach c =
     let met =

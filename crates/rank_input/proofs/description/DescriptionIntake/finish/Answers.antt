@@ -2,7 +2,7 @@ use Rattle.std.proofs.lemmas.Result.{err_from_is_err_and}
 use Rattle.rank_input.proofs.Descriptions.{describes_input, refuses_files}
 use Rattle.rank_input.proofs.description.DescriptionIntake.finish.Goals as goal
 
--- a describer's fault is that of the files
+-- a describer's error is that of the files
 pub returns-in_err-finish-clause-err : goal.returns-in_err-finish-clause-err
 returns-in_err-finish-clause-err c =
     let p = err_from_is_err_and c.from_residual-in_err-finish.result c.from_residual-in_err-finish.ensures.1 in

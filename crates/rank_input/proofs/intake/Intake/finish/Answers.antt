@@ -2,7 +2,7 @@ use Rattle.std.proofs.lemmas.Result.{err_from_is_err_and}
 use Rattle.rank_input.proofs.Reading.{holds_input, reader_foreign, refuses_input}
 use Rattle.rank_input.proofs.intake.Intake.finish.Goals as goal
 
--- a reader's fault is that of the input
+-- a reader's error is that of the input
 pub returns-in_err-dataset-clause-err : goal.returns-in_err-dataset-clause-err
 returns-in_err-dataset-clause-err c =
     let p = err_from_is_err_and c.from_residual-in_err-dataset.result c.from_residual-in_err-dataset.ensures.1 in

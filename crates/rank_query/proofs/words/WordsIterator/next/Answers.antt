@@ -3,7 +3,7 @@ use Rattle.rank_query.proofs.Cited.{enumerate_from, nat_tests, prefix_len-le-len
 use Rattle.rank_query.proofs.FirstWord.{first_word, no_word, after_blanks-le, words_left, longer}
 use Rattle.rank_query.proofs.words.WordsIterator.next.Goals as goal
 
--- where nothing but blanks is left, no word is
+-- if nothing but blanks is left, no word is
 pub returns-then-is_empty-clause-steps : goal.returns-then-is_empty-clause-steps
 returns-then-is_empty-clause-steps c =
     let none : length c.without_blanks-text.result.now ≡ 0 = grind (arith, nat_tests) in
@@ -41,7 +41,7 @@ returns-clause-steps c =
     words_left c.self.inside.given c.args.self.now c.self.inside.text.now (take n rest)
     (drop n rest) _ _ c.self.view_is first.0 (sym c.split_at.ensures.front) (sym c.split_at.ensures.back)
 
--- and fewer are left behind it
+-- and fewer are left after it
 pub returns-clause-goes : goal.returns-clause-goes
 returns-clause-goes c =
     let less = longer _ _ _ (returns-clause-steps c) in
