@@ -40,7 +40,7 @@ same_element-is a b e = same_Some a b
     (sym (element_at a) ∙ ap (slice_get elements) (eqb-true _ _ e) ∙ element_at b)
 
 -- each gathering of a station can become a series
-right_of : (id : StationId) (e f : Element) (ms : List Month) → f ≡ e → AllByRecursion IsMonth ms
+pub right_of : (id : StationId) (e f : Element) (ms : List Month) → f ≡ e → AllByRecursion IsMonth ms
     → AllByRecursion (λ m. IsMonth m × (m.element ≡ f)) (months_of ms id e)
 right_of id e f [] same all = tt
 right_of id e f (m ∷ ms) same all =
@@ -134,8 +134,8 @@ ids_apart facts u (s ∷ ss) other =
     each-append (λ v. same_series u v ≡ false) (map (usable_of facts s) elements) (all_said facts ss)
     (each Prcp, (each Snow, (each Snwd, (each Tmax, (each Tmin, tt))))) (ids_apart facts u ss other.1)
 
--- if no ID stands twice, no two of all series are of one station and element
-stations_apart : (facts : List Fact) (ss : List Station) → IsDistinct same_id (ids ss)
+-- where no ID stands twice, no two of all series are of one station and element
+pub stations_apart : (facts : List Fact) (ss : List Station) → IsDistinct same_id (ids ss)
     → IsDistinct same_series (all_said facts ss)
 unfolding IsDistinct
 stations_apart facts [] apart = tt

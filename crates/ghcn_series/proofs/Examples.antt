@@ -1,10 +1,12 @@
 -- Worked examples of the definitions, by computation.
 use Rattle.std.proofs.Common.{◌≡◌, ◌∙◌, ap, ℕ, zero, suc, List, [], ◌∷◌, ◌++◌, refl, Some, None, Ok, Err, take}
-use Rattle.std.proofs.Common.{replicate}
+use Rattle.std.proofs.Common.{replicate, true, false, arith}
 use Rattle.std.specs.Prelude.{Result, codes, pos, neg_ℤ, map, ◌+◌, ◌-◌, ◌^◌, nat_le, if◌then◌else◌}
-use Rattle.std.specs.List.{repeat, flat_map, enumerate_from}
+use Rattle.std.specs.List.{repeat, flat_map, enumerate_from, IsDistinct}
+use Rattle.std.proofs.lemmas.Int.{ints}
 use Rattle.std.proofs.lemmas.List.{length-replicate}
 use Rattle.jiff_core.specs.Calendar.{days_from_civil, day_count, days_of_years, days_of_months}
+use Rattle.ghcn_fields.specs.Days.{block_of}
 use Rattle.ghcn_fields.specs.Faults.{first_fault}
 use Rattle.ghcn_files.specs.declared.element.Element.{Element}
 use Rattle.ghcn_files.specs.declared.element.Keep.TheVariants.{All, One, Nothing}
@@ -12,6 +14,7 @@ use Rattle.ghcn_files.specs.declared.element.Element.TheVariants.{Prcp, Snow, Tm
 use Rattle.ghcn_files.specs.declared.station.Station.{Station}
 use Rattle.ghcn_files.specs.declared.fault.LineWhy.TheVariants as why
 use Rattle.ghcn_files.specs.StationLines.{station_of}
+use Rattle.ghcn_files.specs.Listed.{listed}
 use Rattle.ghcn_files.specs.Months.{days_of_group}
 use Rattle.ghcn_series.specs.declared.fault.DailyWhy.TheVariants.{Line, DuplicateMonth}
 use Rattle.ghcn_series.specs.declared.fault.DataFault.TheVariants.{DailyLine, TooManyFiles}
@@ -20,7 +23,12 @@ use Rattle.ghcn_series.specs.Series.{DayValue, Usable, Contents, value_on, serie
 use Rattle.ghcn_series.specs.DailyFaults.{FileLine, file_lines, daily_lines, daily_fault}
 use Rattle.ghcn_series.specs.Says.{in_64_bits, contents, contents_unless, data_of}
 use Rattle.ghcn_series.specs.Said.{facts_said, unlisted_said, IsMadeOf}
+use Rattle.ghcn_series.specs.Held.{IsContents}
+use Rattle.ghcn_series.specs.JoinedFiles.{files_together}
 use Rattle.ghcn_series.specs.Kept.{kept}
+use Rattle.ghcn_series.specs.Packed.{IsNextBlock, next_block}
+use Rattle.ghcn_series.proofs.Members.{of_each}
+use Rattle.ghcn_series.proofs.RightData.{data-are-right}
 use Rattle.ghcn_series.proofs.SaidSeries.{series_said}
 use Rattle.ghcn_series.specs.Fed.{Files, nothing_fed, more, with_end, files_of}
 
@@ -270,3 +278,69 @@ ended : (files_of (with_end begun) ≡ [] ∷ [])
     × (files_of (with_end (more (with_end (more begun (codes "ab"))) (codes "c"))) ≡ codes "ab" ∷ codes "c" ∷ [])
     × (files_of (with_end (with_end (more begun (codes "ab")))) ≡ codes "ab" ∷ [] ∷ [])
 ended = (refl, refl, refl, refl)
+
+-- ---- what is true of all data
+
+-- the list as a text
+abbrev list : List ℕ
+list = text (codes "ZZA00000002  11.0000   21.0000  100.0    BRAVO" ∷ codes "   "
+    ∷ codes "ZZA00000001  10.0000   20.0000  100.0    ALPHA" ∷ [])
+
+-- so it is with what files hold that have no fault
+right_data : (listed list ≡ Ok both) × IsContents (held (series bravo Tmax ((pos 18444, pos 311) ∷ [])
+    ∷ series alpha Tmax ((pos 18445, pos 305) ∷ [])
+    ∷ series alpha Tmin ((pos 18444, neg_ℤ (pos 5)) ∷ (pos 18475, pos 3) ∷ []) ∷ []))
+right_data = (refl, data-are-right list both mixed _ refl in_order)
+
+-- no data have two series of a station and element, one of an unlisted station, or one without a day
+not_data : (IsContents (held (series alpha Tmax ((pos 18444, pos 1) ∷ []) ∷ series alpha Tmax ((pos 18445, pos 1) ∷ [])
+    ∷ [])) → ⊥)
+    × (IsContents (record { stations = alpha ∷ []; series = series bravo Tmax ((pos 18444, pos 1) ∷ []) ∷ [];
+    unlisted = 0 }) → ⊥)
+    × (IsContents (held (series alpha Tmax [] ∷ [])) → ⊥)
+unfolding IsDistinct
+not_data = (
+  λ h. let e : true ≡ false = h.series.distinct.0.0 in absurd cc,
+  λ h. let e : false ≡ true = h.series.listed.0 in absurd cc,
+  λ h. absurd (omega (arith, h.series.right.0.nonempty)),
+)
+
+-- nor days that don't rise, a value that rain can't have, or a station twice
+not_right : (IsContents (held (series alpha Tmax ((pos 18445, pos 1) ∷ (pos 18445, pos 2) ∷ []) ∷ [])) → ⊥)
+    × (IsContents (held (series alpha Prcp ((pos 18444, neg_ℤ (pos 1)) ∷ []) ∷ [])) → ⊥)
+    × (IsContents (record { stations = alpha ∷ alpha ∷ []; series = []; unlisted = 0 }) → ⊥)
+unfolding IsDistinct
+not_right = (
+  λ h. let e : false ≡ true = h.series.right.0.by_day in absurd cc,
+  λ h. let e : false ≡ true = h.series.right.0.values in absurd cc,
+  λ h. let e : true ≡ false = h.listed.distinct.0.0 in absurd cc,
+)
+
+-- lines of unlisted stations in two parts, and in both together
+unlisted_in_parts :
+    let other = text (warm (codes "ZZA00000009202007TMAX") ∷ warm (codes "ZZA00000008202007TMIN") ∷ []) ∷ [] in
+    (map (unlisted_said both) (rainy ∷ other ∷ []) ≡ 1 ∷ 2 ∷ [])
+    × (unlisted_said both (files_together (rainy ∷ other ∷ [])) ≡ 3)
+unfolding days_of_group
+unlisted_in_parts = (refl, refl)
+
+-- ---- the next block
+
+-- a day of block 576, and one of block 578
+abbrev two_days : List DayValue
+two_days = (pos 18444, pos 311) ∷ (pos 18511, pos 300) ∷ []
+
+-- from each of these blocks on, and behind the last
+next_blocks : map (next_block two_days) (pos 0 ∷ pos 576 ∷ pos 577 ∷ pos 578 ∷ pos 579 ∷ [])
+    ≡ Some (pos 576) ∷ Some (pos 576) ∷ Some (pos 578) ∷ Some (pos 578) ∷ None ∷ []
+next_blocks = refl
+
+-- a later block isn't the next one, nor one without a day, and there is one where a day follows
+not_next : (IsNextBlock two_days (pos 576) (Some (pos 578)) → ⊥) × (IsNextBlock two_days (pos 577) (Some (pos 577)) → ⊥)
+    × (IsNextBlock two_days (pos 578) None → ⊥)
+not_next = (
+  λ h. absurd (let e = h.least.0 (omega (arith, ints)) in omega (arith, ints, e)),
+  λ h. of_each (λ x. block_of x.0 ≡ pos 577 → ⊥) two_days
+      ((λ e. absurd (omega (arith, ints, e))), ((λ e. absurd (omega (arith, ints, e))), tt)) h.has.0 h.has.1 h.has.2,
+  λ h. absurd (omega (arith, ints, h.1.0)),
+)

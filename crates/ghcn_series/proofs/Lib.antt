@@ -42,3 +42,6 @@ pub mod Members
 pub mod JoinedSeries
 pub mod SaidMonths
 pub mod SaidSeries
+pub mod RightData
+pub mod NextBlocks
+pub mod UnlistedLines

@@ -32,7 +32,7 @@ use Rattle.ghcn_series.proofs.DistinctDays.{distinct_days, parts_of}
 use Rattle.ghcn_series.proofs.SortedDays.{sorted_by-rises, sorted-same}
 
 -- a day that a series can have
-abbrev IsDayOf : Element → DayValue → Bool
+abbrev pub IsDayOf : Element → DayValue → Bool
 IsDayOf e x = is_day x.0 && is_value e x.1
 
 -- a day that has a number is a day
@@ -68,7 +68,7 @@ right_days m j (r ∷ rs) all =
     ] refl
 
 -- and those of all months
-all_right : (e : Element) (ms : List Month) → AllByRecursion (λ m. IsMonth m × (m.element ≡ e)) ms
+pub all_right : (e : Element) (ms : List Month) → AllByRecursion (λ m. IsMonth m × (m.element ≡ e)) ms
     → list_all (IsDayOf e) (flat_map usable_days ms) ≡ true
 all_right e [] all = refl
 all_right e (m ∷ ms) all =
@@ -79,7 +79,7 @@ all_right e (m ∷ ms) all =
     (all_right e ms all.1)
 
 -- right days in order are right
-sorted_right : (P : DayValue → Bool) (xs : List DayValue) → list_all P xs ≡ true → list_all P (sorted_by by_day xs)
+pub sorted_right : (P : DayValue → Bool) (xs : List DayValue) → list_all P xs ≡ true → list_all P (sorted_by by_day xs)
     ≡ true
 sorted_right P xs all =
     list_all-from_AllPass P (sorted_by by_day xs) (All-permutation (λ x. P x ≡ true) xs (sorted_by by_day xs)
@@ -90,7 +90,7 @@ pub length-sorted : (xs : List DayValue) → length (sorted_by by_day xs) ≡ le
 length-sorted xs = length_permutation xs (sorted_by by_day xs) (sorted-permutation by_day xs)
 
 -- days whose keys are in order pass the test of order
-rises : (days : List DayValue) → IsStrictlySortedBy int_cmp (keys_of days) → is_by_day days ≡ true
+pub rises : (days : List DayValue) → IsStrictlySortedBy int_cmp (keys_of days) → is_by_day days ≡ true
 unfolding IsStrictlySortedBy
 rises [] sorted = refl
 rises (x ∷ []) sorted = refl

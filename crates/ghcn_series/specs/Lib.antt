@@ -16,3 +16,4 @@ pub mod Packed
 pub mod Parts
 pub mod JoinedFiles
 pub mod Said
+pub mod Laws

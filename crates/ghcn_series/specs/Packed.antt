@@ -2,7 +2,7 @@
 use Rattle.std.specs.Prelude.{◌≡◌, ℕ, ◌<◌, ◌≤◌, ◌^◌, ◌==◌, Bool, true, List, [], ◌∷◌, ◌++◌, length, get_or, ⊤}
 use Rattle.std.specs.Prelude.{Option, Some, None, ℤ, pos, ◌+ℤ◌, ◌*ℤ◌, ◌≤ℤ◌, ◌<ℤ◌, int_le}
 use Rattle.std.specs.Int.{bit_at, int_rem_euclid, trailing_zeros, w32}
-use Rattle.std.specs.List.{find, filter_map, flat_map, range_with_len, zip, AllByRecursion}
+use Rattle.std.specs.List.{Contains, find, filter_map, flat_map, range_with_len, zip, AllByRecursion}
 use Rattle.std.specs.Option.{option_map}
 use Rattle.ghcn_fields.specs.Days.{is_day, block_of}
 pub use Rattle.ghcn_files.specs.Rows.{if_so, value_at}
@@ -83,6 +83,17 @@ HasNone days number = (j : ℕ) → j < 32 → value_on days (block_start number
 -- the least block from a number on that has one of some days, which rise
 abbrev pub next_block : List DayValue → ℤ → Option ℤ
 next_block days b = option_map (λ x. block_of x.0) (find (λ x. int_le b (block_of x.0)) days)
+
+-- a block is the least from a number on that has one of some days
+pub record IsLeastBlock (days : List DayValue) (from number : ℤ) : Type 0 where
+  pub from_there : from ≤ℤ number
+  pub has : (x : DayValue) × Contains days x × (block_of x.0 ≡ number)
+  pub least : AllByRecursion (λ x. from ≤ℤ block_of x.0 → number ≤ℤ block_of x.0) days
+
+-- the next block from a number on is the least, and there is none exactly where all days are in blocks before
+abbrev pub IsNextBlock : List DayValue → ℤ → Option ℤ → Type 0
+IsNextBlock days from None = AllByRecursion (λ x. block_of x.0 <ℤ from) days
+IsNextBlock days from (Some number) = IsLeastBlock days from number
 
 -- number is at a place
 pub record IsAt (numbers : List ℤ) (number : ℤ) (i : ℕ) : Type 0 where

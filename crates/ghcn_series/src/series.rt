@@ -3,7 +3,7 @@
 ghost use Rattle.std.specs.Prelude.{◌≡◌, ◌-◌, length, slice_get, IfSome, IfNone};
 ghost use Rattle.std.specs.Option.{option_map};
 ghost use Rattle.ghcn_series.specs.Series.{IsSeries, value_on};
-ghost use Rattle.ghcn_series.specs.Packed.{IsBlockOf, HasNone, next_block};
+ghost use Rattle.ghcn_series.specs.Packed.{IsBlockOf, HasNone, IsNextBlock, next_block};
 
 use crate::columns::Columns;
 use crate::days::Days;
@@ -87,7 +87,8 @@ impl Series {
 
     /// The least block from a number on that holds a usable day.
     pub fn next_block(&self, number: i32) -> Option<i32>
-        ensures { result ≡ next_block self.now.days number }
+        ensures first { result ≡ next_block self.now.days number }
+        ensures least { IsNextBlock self.now.days number result }
     {
         self.columns.next_block(number)
     }

@@ -19,5 +19,5 @@ returns-in-None c =
     let s = c.args.series.now in
     let number : to_z w32 (of_z w32 c.args.number) ≡ c.args.number = to_z-of_z w32 _ c.ranges.number in
     let next = read-next c.args.score s c.args.number c.args.summaries.now.items c.requires
-    (rw number at c.in-None.ensures.none) c.next_block.result (rw number at (sym c.next_block.ensures)) in
+    (rw number at c.in-None.ensures.none) c.next_block.result (rw number at (sym c.next_block.ensures.first)) in
     record { read = next.0; later = next.1 }
