@@ -1,7 +1,8 @@
 -- Worked merges, by computation.
-use Rattle.std.proofs.Common.{◌≡◌, ℕ, List, [], ◌∷◌, ◌++◌, refl, Ok, Err}
+use Rattle.std.proofs.Common.{◌≡◌, ℕ, List, [], ◌∷◌, ◌++◌, length, refl, Ok, Err}
 use Rattle.std.specs.Prelude.{codes}
-use Rattle.std.specs.Fmt.{digits}
+use Rattle.std.specs.Fmt.{decimal, digits}
+use Rattle.std.specs.List.{flat_map}
 use Rattle.jiff_core.specs.Calendar.{days_from_civil, day_count, days_of_years, days_of_months}
 use Rattle.ghcn_fields.specs.Dates.{year_and_rest, month_and_day}
 use Rattle.ghcn_files.specs.declared.element.Element.TheVariants.{Tmax}
@@ -74,6 +75,22 @@ refused : (merge (ask 1) (two ∷ two ∷ []) ≡ Err (Twice (record { 0 = codes
 unfolding digits year_and_rest month_and_day read_query read_words keyword says number element score_at no_score_at
     region_at season_at period_at days_from_civil day_count days_of_years days_of_months
 refused = (refl, refl, refl, refl)
+
+-- ---- two stations in two parts each
+
+-- the papers of a part with lines of these
+abbrev of_stations : List (List ℕ) → Texts
+of_stations ids = papers (codes "1") (codes "end 0 all" ∷ [])
+    (codes "kth none" ∷ flat_map (λ id. (codes "scan " ++ id ++ codes " 250 0") ∷ []) ids
+    ++ (codes "end " ++ decimal (length ids)) ∷ [])
+
+-- as these parts come, the third station is the first that stands in two of them, but the first by ID is named
+first_named : merge (ask 1) (of_stations (codes "ZZA00000003" ∷ [])
+    ∷ of_stations (codes "ZZA00000001" ∷ codes "ZZA00000003" ∷ []) ∷ of_stations (codes "ZZA00000001" ∷ []) ∷ [])
+    ≡ Err (Twice (record { 0 = codes "ZZA00000001" }))
+unfolding digits year_and_rest month_and_day read_query read_words keyword says number element score_at no_score_at
+    region_at season_at period_at days_from_civil day_count days_of_years days_of_months
+first_named = refl
 
 -- ---- the three highest, where each part has fewer
 

@@ -130,11 +130,16 @@ module _ (q : Asked) where
 
 -- so the bounds of the merged lines are those of the series
 pub merged_measured : Known → CutByFiles → MorselsOfParts → MergedAreMeasured
-merged_measured known cut morsels_of q texts papers asked merged stations parts ds dataset same are measured contents
-    read
-    apart =
-    let m : IsMerged q stations parts dataset papers =
-    record { asked = asked; merged = ap (merge q) same ∙ merged; are = are; contents = contents; read = read } in
+merged_measured known cut morsels_of q texts papers asked merged list stations parts ds dataset lists same are measured
+    read apart =
+    let m : IsMerged q stations parts dataset papers = record {
+      list = list;
+      lists = lists;
+      asked = asked;
+      merged = ap (merge q) same ∙ merged;
+      are = are;
+      read = read;
+    } in
     let found = all known cut m in
     let z = is_certificate known cut m in
     let data_are = zip-weaker (IsMeasuredPart q stations) (IsDataOf stations) (λ p d h. h.0) parts ds measured in

@@ -14,6 +14,7 @@ use Rattle.ghcn_files.specs.Ids.{same_id}
 use Rattle.ghcn_files.proofs.IdLaws.{same_id-turned}
 use Rattle.ghcn_series.specs.Series.{Contents}
 use Rattle.ghcn_series.specs.Held.{IsContents}
+use Rattle.ghcn_series.specs.Laws.{DataAreRight}
 use Rattle.ghcn_series.specs.Says.{data_of}
 use Rattle.ghcn_series.proofs.ListFacts.{each-append}
 use Rattle.ghcn_files.proofs.Ordered as ordered
@@ -39,14 +40,15 @@ use Rattle.rank_merge.proofs.Lists.{zip-same}
 use Rattle.rank_merge.proofs.ReadParts.{unless_memory}
 use Rattle.rank_merge.proofs.RightHeads.{right_head}
 use Rattle.rank_merge.proofs.MergedPapers.{WithData, IsRightPart, data_of_parts, parts_alone, merged_say}
-use Rattle.ghcn_files.specs.Listed.{is_station_of}
+use Rattle.ghcn_files.specs.Listed.{is_station_of, listed}
 use Rattle.rank_scores.specs.declared.candidate.Candidate.{Candidate}
 use Rattle.std.proofs.lemmas.Int.{ints}
 
 -- ---- the parts that are read
 
--- what is known of texts that are read, and of heads
+-- what is known of data and of texts that are read, and of heads
 pub record Known : Type 0 where
+  pub dataset : DataAreRight
   pub certificates : CertificatesAreRead
   pub right_certificates : RightCertificatesSayRight
   pub reports : ReportsAreRead
@@ -63,16 +65,18 @@ pub record ReadPart (q : Asked) (stations : List Station) (files : List (List �
   pub report : read_report texts.0 ≡ Ok part.1.report
   pub certificate : read_certificate texts.1 ≡ Ok part.1.certificate
 
-module _ (known : Known) (q : Asked) (asked : IsAsked q) (stations : List Station) where
+module _ (known : Known) (q : Asked) (asked : IsAsked q) (list : List ℕ) (stations : List Station)
+    (lists : listed list ≡ Ok stations) where
   -- right papers are read as what is right
   read_part : (files : List (List ℕ)) (texts : Texts) → ArePapersOf q stations files texts
       → ReadPart q stations files texts
   read_part files texts h =
-      let r = (known.right_reports q h.dataset texts.0 asked h.contents).0 h.report in
-      let z = (known.right_certificates q h.dataset texts.1 asked h.contents).0 h.certificate in
+      let contents = known.dataset list stations files h.dataset lists h.read in
+      let r = (known.right_reports q h.dataset texts.0 asked contents).0 h.report in
+      let z = (known.right_certificates q h.dataset texts.1 asked contents).0 h.certificate in
       record {
         part = (h.dataset, record { report = r.0; certificate = z.0 });
-        right = record { contents = h.contents; report = r.2; certificate = z.2 };
+        right = record { contents = contents; report = r.2; certificate = z.2 };
         can_report = r.1.can_be;
         can_certificate = z.1.can_be;
         data_is = h.read;
@@ -207,17 +211,22 @@ answered q ps t None h = (refl, cc)
 -- what is merged of right papers of parts of files without a fault
 pub record IsMerged (q : Asked) (stations : List Station) (parts : List Filed) (dataset : Contents) (papers : Texts)
     : Type 0 where
+  pub list : List ℕ
+  pub lists : listed list ≡ Ok stations
   pub asked : IsAsked q
   pub merged : merge q (all_texts parts) ≡ Ok papers
   pub are : AreAllParts q stations parts
-  pub contents : IsContents dataset
   pub read : data_of stations (all_files parts) ≡ Ok dataset
 
 module _ (known : Known) (cut : CutByFiles) {q : Asked} {stations : List Station} {parts : List Filed}
     {dataset : Contents} {papers : Texts} (m : IsMerged q stations parts dataset papers) where
   -- all parts
-  pub all : AllRead known q m.asked stations 1 parts
-  all = read_all known q m.asked stations 1 parts m.are
+  pub all : AllRead known q m.asked m.list stations m.lists 1 parts
+  all = read_all known q m.asked m.list stations m.lists 1 parts m.are
+
+  -- the data of all files are right
+  contents : IsContents dataset
+  contents = known.dataset m.list stations (all_files parts) dataset m.lists m.read
 
   -- what was read of them
   abbrev whole : List Part
@@ -230,7 +239,7 @@ module _ (known : Known) (cut : CutByFiles) {q : Asked} {stations : List Station
 
   -- they say what is right
   say : SaysRightReport q dataset (merged_report q whole) × SaysRight q dataset (merged_certificate q whole)
-  say = merged_say q dataset m.asked m.contents all.read (cut q stations parts
+  say = merged_say q dataset m.asked contents all.read (cut q stations parts
       (data_of_parts all.read) dataset all.data_are
       m.read (apart_from q all.read all.right told.0)) all.right
 
@@ -241,7 +250,7 @@ module _ (known : Known) (cut : CutByFiles) {q : Asked} {stations : List Station
 
   -- the report is right
   pub is_report : IsReport q dataset papers.0
-  is_report = (known.right_reports q dataset papers.0 m.asked m.contents).1 (merged_report q whole, is_text, say.0)
+  is_report = (known.right_reports q dataset papers.0 m.asked contents).1 (merged_report q whole, is_text, say.0)
 
   -- and the certificate is, which has the merged lines
   pub is_certificate : (z : IsCertificate q dataset papers.1) × (z.version ≡ 2) × (z.entries ≡ merged_entries whole)
@@ -266,9 +275,15 @@ module _ (known : Known) (cut : CutByFiles) {q : Asked} {stations : List Station
 
 -- by the laws of texts, and by that of files in parts
 pub merged_right : Known → CutByFiles → MergedAreRight
-merged_right known cut q texts papers asked merged stations parts dataset same are contents read =
-    let m : IsMerged q stations parts dataset papers =
-    record { asked = asked; merged = ap (merge q) same ∙ merged; are = are; contents = contents; read = read } in
+merged_right known cut q texts papers asked merged list stations parts dataset lists same are read =
+    let m : IsMerged q stations parts dataset papers = record {
+      list = list;
+      lists = lists;
+      asked = asked;
+      merged = ap (merge q) same ∙ merged;
+      are = are;
+      read = read;
+    } in
     let report = is_report known cut m in
     ((report, λ other h. one_report q dataset other papers.0 h report), (is_certificate known cut m).0)
 
@@ -286,8 +301,8 @@ same_data stations (p ∷ parts) (d ∷ ds) (e ∷ es) h k = grind (arith, ints,
 
 -- right parts are merged exactly where no station has morsels in two of them
 pub right_merged : Known → RightAreMerged
-right_merged known q stations parts ds asked are dataset =
-    let all = read_all known q asked stations 1 parts are in
+right_merged known q list stations parts ds asked lists are dataset =
+    let all = read_all known q asked list stations lists 1 parts are in
     let same : data_of_parts all.read ≡ ds = same_data stations parts
     (data_of_parts all.read) ds all.data_are dataset in
     subst (λ (l : List Contents). IsRightOutcome q l (merge q (all_texts parts))) same
@@ -305,7 +320,7 @@ right_merged known q stations parts ds asked are dataset =
 -- so it is said of the outcome that there is
 pub outcome_told : RightAreMerged → (q : Asked) (texts : List Texts) (outcome : Result Texts MergeFault) → IsAsked q
     → merge q texts ≡ outcome → IsOutcomeWhereRight q texts outcome
-outcome_told law q texts outcome asked is stations parts ds same are dataset = grind (arith, ints)
+outcome_told law q texts outcome asked is list stations parts ds lists same are dataset = grind (arith, ints)
 
 -- and of a refusal, unless memory ran out
 pub refusal_told : RightAreMerged → (q : Asked) (texts : List Texts) (why : MergeFault) → IsAsked q

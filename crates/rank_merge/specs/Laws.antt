@@ -4,8 +4,8 @@ use Rattle.std.specs.List.{flat_map, AllByRecursion, AllZip, IsDistinct}
 use Rattle.ghcn_files.specs.declared.station.Station.{Station}
 use Rattle.ghcn_files.specs.declared.station.StationId.{StationId}
 use Rattle.ghcn_files.specs.Ids.{same_id}
+use Rattle.ghcn_files.specs.Listed.{listed}
 use Rattle.ghcn_series.specs.Series.{Contents}
-use Rattle.ghcn_series.specs.Held.{IsContents}
 use Rattle.ghcn_series.specs.Says.{data_of}
 use Rattle.rank_query.specs.Asked.{Asked, IsAsked}
 use Rattle.rank_scores.specs.Cut.{Filed, IsDataOf, morsel_ids, series_ids}
@@ -31,7 +31,6 @@ all_texts parts = map (λ p. p.1) parts
 -- the texts are a right report and a right certificate of the data of some files, if these have no error
 pub record ArePapersOf (q : Asked) (stations : List Station) (files : List (List ℕ)) (texts : Texts) : Type 0 where
   pub dataset : Contents
-  pub contents : IsContents dataset
   pub read : data_of stations files ≡ Ok dataset
   pub report : IsReport q dataset texts.0
   pub certificate : IsCertificate q dataset texts.1
@@ -45,10 +44,10 @@ abbrev pub IsOneReport : Asked → Contents → List ℕ → Type 0
 IsOneReport q c text = IsReport q c text × ((other : List ℕ) → IsReport q c other → other ≡ text)
 
 -- papers are right for all files of which these are the papers of the parts: wherever each part's papers are right for
--- its files, with one station list, and all files together have no error, both are right for all files
+-- its files, with one station list, and neither this nor all files together have a fault, both are right for all files
 abbrev pub AreRightForAll : Asked → List Texts → Texts → Type 0
-AreRightForAll q texts papers = (stations : List Station) (parts : List Filed) (dataset : Contents)
-    → all_texts parts ≡ texts → AreAllParts q stations parts → IsContents dataset
+AreRightForAll q texts papers = (list : List ℕ) (stations : List Station) (parts : List Filed) (dataset : Contents)
+    → listed list ≡ Ok stations → all_texts parts ≡ texts → AreAllParts q stations parts
     → data_of stations (all_files parts) ≡ Ok dataset
     → IsOneReport q dataset papers.0 × IsCertificate q dataset papers.1
 
@@ -66,9 +65,10 @@ IsMeasuredPart q stations p d = IsDataOf stations p d × IsMeasuredCertificate q
 -- so is each bound of the papers of all, wherever the parts' are and no station has series of the query in two parts
 abbrev pub AreMeasuredForAll : Asked → List Texts → Texts → Type 0
 AreMeasuredForAll q texts papers =
-    (stations : List Station) (parts : List Filed) (ds : List Contents) (dataset : Contents)
-    → all_texts parts ≡ texts → AreAllParts q stations parts → AllZip (IsMeasuredPart q stations) parts ds
-    → IsContents dataset → data_of stations (all_files parts) ≡ Ok dataset → IsDistinct same_id (series_ids q ds)
+    (list : List ℕ) (stations : List Station) (parts : List Filed) (ds : List Contents) (dataset : Contents)
+    → listed list ≡ Ok stations → all_texts parts ≡ texts → AreAllParts q stations parts
+    → AllZip (IsMeasuredPart q stations) parts ds → data_of stations (all_files parts) ≡ Ok dataset
+    → IsDistinct same_id (series_ids q ds)
     → IsMeasuredCertificate q dataset papers.1
 
 -- merged papers keep the bounds of the series
@@ -87,12 +87,13 @@ IsRightOutcome q ds (Err why) =
 
 -- so it is said of an outcome, wherever each part's papers are right for its files
 abbrev pub IsOutcomeWhereRight : Asked → List Texts → Result Texts MergeFault → Type 0
-IsOutcomeWhereRight q texts outcome = (stations : List Station) (parts : List Filed) (ds : List Contents)
-    → all_texts parts ≡ texts → AreAllParts q stations parts → AllZip (IsDataOf stations) parts ds
-    → IsRightOutcome q ds outcome
+IsOutcomeWhereRight q texts outcome =
+    (list : List ℕ) (stations : List Station) (parts : List Filed) (ds : List Contents)
+    → listed list ≡ Ok stations → all_texts parts ≡ texts → AreAllParts q stations parts
+    → AllZip (IsDataOf stations) parts ds → IsRightOutcome q ds outcome
 
 -- right papers are merged if and only if no station has morsels in two parts
 abbrev pub RightAreMerged : Type 0
-RightAreMerged = (q : Asked) (stations : List Station) (parts : List Filed) (ds : List Contents) → IsAsked q
-    → AreAllParts q stations parts → AllZip (IsDataOf stations) parts ds
+RightAreMerged = (q : Asked) (list : List ℕ) (stations : List Station) (parts : List Filed) (ds : List Contents)
+    → IsAsked q → listed list ≡ Ok stations → AreAllParts q stations parts → AllZip (IsDataOf stations) parts ds
     → IsRightOutcome q ds (merge q (all_texts parts))

@@ -6,6 +6,7 @@ use Rattle.rank_merge.proofs.laws.merged_are_right.Goals as goal
 pub returns : goal.returns
 returns c =
     let known : Known = record {
+      dataset = c.data_are_right.ensures.held;
       certificates = c.certificates_are_read.ensures.read;
       right_certificates = c.certificates_are_read.ensures.right;
       reports = c.reports_are_read.ensures.read;
