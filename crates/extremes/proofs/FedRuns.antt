@@ -4,7 +4,7 @@ use Rattle.std.specs.Prelude.{Option, None, Some, Result, Ok, Err, IfOk, IfErr, 
 use Rattle.std.proofs.lemmas.Bool.{OnFalse_from}
 use Rattle.std.proofs.lemmas.Result.{IfOk-weaker}
 use Rattle.ghcn_fields.specs.declared.memory.Memory.{Memory as WantOfMemory}
-use Rattle.ghcn_series.specs.declared.counts.Foreign.{Foreign}
+use Rattle.ghcn_series.specs.declared.counts.Warnings.{Warnings}
 use Rattle.ghcn_series.specs.Fed.{files_of}
 use Rattle.rank_input.specs.declared.fault.Fault.{Fault}
 use Rattle.rank_input.specs.declared.fault.Fault.TheVariants.{Memory}
@@ -14,7 +14,7 @@ use Rattle.extremes.specs.declared.judgement.Judgement.{Judgement}
 use Rattle.rank_input.specs.Input.{is_crew, is_guess, words_fault, read_unless, read_input, is_memory}
 use Rattle.rank_input.specs.declared.description.DescriptionIntake.{DescriptionIntake}
 use Rattle.rank_input.specs.Takes.{Taking, given}
-use Rattle.rank_input.specs.Taken.{HasTaken, AreForeignOf, RefusesInput}
+use Rattle.rank_input.specs.Taken.{HasTaken, AreWarningsOf, RefusesInput}
 use Rattle.rank_input.specs.Described as described
 use Rattle.rank_input.specs.Feeding.{AreAllOf, AreFilesOf, FeedsFiles}
 use Rattle.ghcn_fields.specs.Refusals.{IsRefusal}
@@ -69,11 +69,11 @@ words-input t workers guess fault is = record {
 
 -- the ranking of an intake that was fed all files that are named
 pub ranks-files : (bytes_of : Known) (r : Ranking) (old new : Intake) (query list stations : List ℕ)
-    (answer : Result Papers Fault) (foreign : Foreign) → query ≡ string_bytes r.query
+    (answer : Result Papers Fault) (warnings : Warnings) → query ≡ string_bytes r.query
     → list ≡ string_bytes r.stations → AreAllOf (bytes_of list) stations → HasTaken old (given query stations [])
     → FeedsFiles HasTaken old new (map (bytes_named bytes_of) r.files.items) → RanksInput new r.workers r.guess answer
-    → IfOk answer (λ papers. AreForeignOf new foreign) → RanksFiles bytes_of r answer foreign
-ranks-files bytes_of r old new query list stations answer foreign same_query same_list whole taken fed ranks told =
+    → IfOk answer (λ papers. AreWarningsOf new warnings) → RanksFiles bytes_of r answer warnings
+ranks-files bytes_of r old new query list stations answer warnings same_query same_list whole taken fed ranks told =
     let all = taken-all HasTaken old new _ query stations fed taken in
     record {
       stations = stations;
@@ -87,9 +87,9 @@ ranks-files bytes_of r old new query list stations answer foreign same_query sam
 
 -- what is said for an intake, or its error, is said for its texts
 judged-is : (part : Bool) (t : Intake) (query stations : List ℕ) (files : List (List ℕ)) (report certificate : List ℕ)
-    (answer : Result (Judgement × Foreign) Fault) → HasTaken t (given query stations files)
+    (answer : Result (Judgement × Warnings) Fault) → HasTaken t (given query stations files)
     → IfOk answer (λ judged. JudgesInputAs part t report certificate judged.0)
-    → IfOk answer (λ judged. AreForeignOf t judged.1) → IfErr answer (RefusesInput t)
+    → IfOk answer (λ judged. AreWarningsOf t judged.1) → IfErr answer (RefusesInput t)
     → IsJudgement part query stations files report certificate answer
 judged-is part t query stations files report certificate (Ok judged) taken ok told err =
     (ok.is (given query stations files) taken, told.is (given query stations files) taken)
@@ -98,12 +98,12 @@ judged-is part t query stations files report certificate (Err fault) taken ok to
 
 -- the judgement of papers by an intake that was fed all files that are named
 pub judges-files : (bytes_of : Known) (j : Judging) (old new : Intake) (query list stations report certificate : List ℕ)
-    (answer : Result (Judgement × Foreign) Fault) → query ≡ string_bytes j.query
+    (answer : Result (Judgement × Warnings) Fault) → query ≡ string_bytes j.query
     → list ≡ string_bytes j.stations → AreAllOf (bytes_of list) stations
     → AreBothOf (known_part bytes_of j.papers) (report, certificate)
     → HasTaken old (given query stations []) → FeedsFiles HasTaken old new (map (bytes_named bytes_of) j.files.items)
     → IfOk answer (λ judged. JudgesInputAs j.part new report certificate judged.0)
-    → IfOk answer (λ judged. AreForeignOf new judged.1) → IfErr answer (RefusesInput new)
+    → IfOk answer (λ judged. AreWarningsOf new judged.1) → IfErr answer (RefusesInput new)
     → JudgesFiles bytes_of j answer
 judges-files bytes_of j old new query list stations report certificate answer same_query same_list whole papers taken
     fed ok told err =
@@ -153,8 +153,8 @@ some_files (Some bytes ∷ ks) = let rest = some_files ks in (bytes ∷ rest.0, 
 -- out of memory may be answered to any files
 pub ranks-memory : (bytes_of : Known) (r : Ranking) (list stations : List ℕ) (m : WantOfMemory)
     → list ≡ string_bytes r.stations → AreAllOf (bytes_of list) stations
-    → (foreign : Foreign) → RanksFiles bytes_of r (Err (Memory m)) foreign
-ranks-memory bytes_of r list stations m same whole foreign =
+    → (warnings : Warnings) → RanksFiles bytes_of r (Err (Memory m)) warnings
+ranks-memory bytes_of r list stations m same whole warnings =
     let some = some_files (map (bytes_named bytes_of) r.files.items) in record {
       stations = stations;
       whole = subst (λ (l : List ℕ). AreAllOf (bytes_of l) stations) same whole;

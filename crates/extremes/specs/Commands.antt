@@ -2,7 +2,7 @@
 use Rattle.std.specs.Prelude.{◌≡◌, ◌⊎◌, ℕ, List, map, Option, Result, string_bytes}
 use Rattle.command_line.specs.declared.asked.Command.{Command}
 use Rattle.command_line.specs.declared.asked.Command.TheVariants.{Sample, Rank, Merge, Check, Describe}
-use Rattle.ghcn_series.specs.declared.counts.Foreign.{Foreign}
+use Rattle.ghcn_series.specs.declared.counts.Warnings.{Warnings}
 use Rattle.rank_input.specs.declared.fault.Fault.{Fault}
 use Rattle.extremes.specs.declared.papers.Papers.{Papers}
 use Rattle.extremes.specs.declared.judgement.Judgement.{Judgement}
@@ -32,8 +32,8 @@ pub record PrintsAnswer (before after : Option (List ℕ)) (ending : Ending) : T
 pub record PrintsRanking (bytes_of : Known) (r : Ranking) (before after : Option (List ℕ)) (ending : Ending)
     : Type 0 where
   pub answer : Result Papers Fault
-  pub foreign : Foreign
-  pub ranked : RanksFiles bytes_of r answer foreign
+  pub warnings : Warnings
+  pub ranked : RanksFiles bytes_of r answer warnings
   pub printed : IsPrinted answer before after ending
 
 -- the merge of the papers of parts, of which these bytes are known, is printed
@@ -46,7 +46,7 @@ pub record PrintsMerge (query : List ℕ) (parts : List KnownPart) (before after
 -- what is said of papers that are named is printed
 pub record PrintsJudgement (bytes_of : Known) (j : Judging) (before after : Option (List ℕ)) (ending : Ending)
     : Type 0 where
-  pub answer : Result (Judgement × Foreign) Fault
+  pub answer : Result (Judgement × Warnings) Fault
   pub judged : JudgesFiles bytes_of j answer
   pub told : IsTold answer before after ending
 

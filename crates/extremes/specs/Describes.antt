@@ -1,7 +1,7 @@
 -- What is returned if files are described.
 use Rattle.std.specs.Prelude.{◌≡◌, ℕ, List, map, Result, Ok, Err}
 use Rattle.ghcn_fields.specs.Refusals.{IsRefusal}
-use Rattle.ghcn_series.specs.LineKinds.{foreign_of}
+use Rattle.ghcn_series.specs.LineKinds.{warnings_of}
 use Rattle.ghcn_description.specs.declared.counts.Description.{Description}
 use Rattle.ghcn_description.specs.Texts.{description_text}
 use Rattle.rank_input.specs.declared.description.DescriptionIntake.{DescriptionIntake}
@@ -15,12 +15,13 @@ use Rattle.extremes.specs.declared.files.Describing.{Describing}
 use Rattle.extremes.specs.Merges.{Known}
 use Rattle.extremes.specs.Runs.{bytes_named}
 
--- a text says what a station list and daily files without an error hold, and beside it stand the foreign files
+-- a text says what a station list and daily files without a fault hold, and beside it stand the foreign files and the
+-- odd lines
 pub record IsTextOf (stations : List ℕ) (files : List (List ℕ)) (text : DescriptionText) : Type 0 where
   pub description : Description
   pub described : IsDescribed stations files description
   pub written : text.bytes.items ≡ description_text description
-  pub foreign : text.foreign ≡ foreign_of files
+  pub warnings : text.warnings ≡ warnings_of files
 
 -- so it does of the files that an intake was given
 abbrev pub DescribesIntake : DescriptionIntake → DescriptionText → Type 0

@@ -3,7 +3,7 @@ use Rattle.std.specs.Prelude.{◌≡◌, ◌⊎◌, ℕ, List, ◌++◌, codes, 
 use Rattle.std.specs.Io.KnownBytes.{Appends}
 use Rattle.extremes.specs.declared.papers.Papers.{Papers}
 use Rattle.extremes.specs.declared.describe.DescriptionText.{DescriptionText}
-use Rattle.ghcn_series.specs.declared.counts.Foreign.{Foreign}
+use Rattle.ghcn_series.specs.declared.counts.Warnings.{Warnings}
 use Rattle.rank_input.specs.declared.fault.Fault.{Fault}
 use Rattle.extremes.specs.declared.ending.Ending.{Ending}
 use Rattle.extremes.specs.declared.ending.Ending.TheVariants.{Done, Refused, Words, File}
@@ -50,8 +50,8 @@ IsTextShown (Ok text) before after ending = IsShown text.bytes.items before afte
 IsTextShown (Err fault) before after ending = (ending ≡ Refused) × (after ≡ before)
 
 -- what is said of papers is printed as its line and ends the run as it says, or it ends as a file that couldn't be
--- written; an error prints nothing and is refused
-abbrev pub IsTold : Result (Judgement × Foreign) Fault → Option (List ℕ) → Option (List ℕ) → Ending → Type 0
+-- written; a fault prints nothing and is refused
+abbrev pub IsTold : Result (Judgement × Warnings) Fault → Option (List ℕ) → Option (List ℕ) → Ending → Type 0
 IsTold (Ok judged) before after ending =
     ((ending ≡ ending_of judged.0) × Appends before after (judgement_line judged.0)) ⊎ (ending ≡ File)
 IsTold (Err fault) before after ending = (ending ≡ Refused) × (after ≡ before)

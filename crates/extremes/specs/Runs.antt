@@ -2,8 +2,8 @@
 use Rattle.std.specs.Prelude.{◌≡◌, ℕ, ◌≤◌, Bool, true, false, List, map, Option, Result, Ok, Err, ℤ, IfOk}
 use Rattle.std.specs.Prelude.{String, string_bytes}
 use Rattle.ghcn_fields.specs.Refusals.{IsRefusal}
-use Rattle.ghcn_series.specs.declared.counts.Foreign.{Foreign}
-use Rattle.ghcn_series.specs.LineKinds.{foreign_of}
+use Rattle.ghcn_series.specs.declared.counts.Warnings.{Warnings}
+use Rattle.ghcn_series.specs.LineKinds.{warnings_of}
 use Rattle.rank_input.specs.declared.fault.Fault.{Fault}
 use Rattle.rank_input.specs.declared.intake.Intake.{Intake}
 use Rattle.rank_input.specs.Input.{read_input, read_run, is_memory}
@@ -67,16 +67,16 @@ abbrev pub RanksInput : Intake → ℕ → Option ℤ → Result Papers Fault �
 RanksInput t workers guess answer =
     IsTrueOf t (λ query stations files. IsRanked workers guess query stations files answer)
 
--- the ranking of all bytes of the station list and of each daily file that are named, in order, and which of these
--- files are foreign
-pub record RanksFiles (bytes_of : Known) (r : Ranking) (answer : Result Papers Fault) (foreign : Foreign)
+-- the ranking of all bytes of the station list and of each daily file that are named, in order, and the foreign ones
+-- among these files and their odd lines
+pub record RanksFiles (bytes_of : Known) (r : Ranking) (answer : Result Papers Fault) (warnings : Warnings)
     : Type 0 where
   pub stations : List ℕ
   pub whole : AreAllOf (bytes_named bytes_of r.stations) stations
   pub files : List (List ℕ)
   pub all : AreFilesOf (map (bytes_named bytes_of) r.files.items) files
   pub ranked : IsRanked r.workers r.guess (string_bytes r.query) stations files answer
-  pub told : IfOk answer (λ papers. foreign ≡ foreign_of files)
+  pub told : IfOk answer (λ papers. warnings ≡ warnings_of files)
 
 -- what is said for these texts is a part's verdict if they are a part of the files that the papers are of, and a
 -- verdict if they aren't
@@ -93,17 +93,17 @@ abbrev pub JudgesInputAs : Bool → Intake → List ℕ → List ℕ → Judgeme
 JudgesInputAs part t report certificate j =
     IsTrueOf t (λ query stations files. IsJudgedAs part query stations files report certificate j)
 
--- what is said of two papers for these texts and which of the files are foreign, or the first error of these
+-- what is said of two papers for these texts, and the foreign files and the odd lines; or the first fault of these
 abbrev pub IsJudgement : Bool → List ℕ → List ℕ → List (List ℕ) → List ℕ → List ℕ
-    → Result (Judgement × Foreign) Fault → Type 0
+    → Result (Judgement × Warnings) Fault → Type 0
 IsJudgement part query stations files report certificate (Ok judged) =
-    IsJudgedAs part query stations files report certificate judged.0 × (judged.1 ≡ foreign_of files)
+    IsJudgedAs part query stations files report certificate judged.0 × (judged.1 ≡ warnings_of files)
 IsJudgement part query stations files report certificate (Err fault) =
     IsRefusal is_memory fault (read_input query stations files)
 
 -- the judgement of all bytes of two papers for those of the station list and of each daily file, as they are named, in
 -- order
-pub record JudgesFiles (bytes_of : Known) (j : Judging) (answer : Result (Judgement × Foreign) Fault) : Type 0 where
+pub record JudgesFiles (bytes_of : Known) (j : Judging) (answer : Result (Judgement × Warnings) Fault) : Type 0 where
   pub stations : List ℕ
   pub whole : AreAllOf (bytes_named bytes_of j.stations) stations
   pub papers : Texts

@@ -4,7 +4,7 @@ ghost use Rattle.std.specs.Prelude.{IfOk, IfErr};
 ghost use Rattle.rank_input.specs.Described.{HasTakenSome, RefusesInput};
 ghost use Rattle.extremes.specs.Describes.{DescribesIntake};
 
-use ghcn_series::Foreign;
+use ghcn_series::Warnings;
 use rank_input::{DescriptionIntake, Fault};
 use std::alloc::Global;
 
@@ -12,8 +12,8 @@ use std::alloc::Global;
 #[derive(Debug, Drop)]
 pub struct DescriptionText {
     pub bytes: Vec<u8>,
-    /// Which of the files are foreign.
-    pub foreign: Foreign,
+    /// The foreign files and the odd lines.
+    pub warnings: Warnings,
 }
 
 /// The text of what the files hold that were given, or the first error in the order: stations, number
@@ -29,6 +29,6 @@ pub(crate) fn describe_intake(
     let description = intake.finish()?;
     Ok(DescriptionText {
         bytes: description.text(alloc)?,
-        foreign: description.foreign,
+        warnings: description.warnings,
     })
 }

@@ -2,7 +2,7 @@
 
 ghost use Rattle.std.specs.Prelude.{◌≡◌, [], IfOk, OnOk, map};
 ghost use Rattle.std.specs.List.{AllZip};
-ghost use Rattle.rank_input.specs.Taken.{HasTakenSome, AreForeignOf};
+ghost use Rattle.rank_input.specs.Taken.{HasTakenSome, AreWarningsOf};
 ghost use Rattle.extremes.specs.Runs.{RanksFiles, JudgesFiles, RanksInput};
 ghost use Rattle.extremes.specs.Describes.{DescribesFiles};
 ghost use Rattle.extremes.specs.Merges.{AreBothOf, MergesFiles, known_part, texts_of};
@@ -15,7 +15,7 @@ use crate::papers::Papers;
 use crate::rank::{self, Ranked, rank_intake};
 use command_line::Part;
 use ghcn_fields::Memory;
-use ghcn_series::Foreign;
+use ghcn_series::Warnings;
 use rank_crew::Open;
 use rank_input::{
     Archive, DescriptionIntake, Fault, Intake, check_words, feed_files, piece_room, read_whole,
@@ -61,7 +61,7 @@ pub(crate) fn rank_files<'p, R: Threads + Wait + AllocGlobal + Sync, A: Archive>
     archive: &A,
     ranking: &'p Ranking,
 ) -> Result<Ranked, &'p str>
-    ensures { IfOk result (λ ranked. RanksFiles (A.bytes_of archive.now) ranking.now ranked.answer ranked.foreign) }
+    ensures { IfOk result (λ ranked. RanksFiles (A.bytes_of archive.now) ranking.now ranked.answer ranked.warnings) }
 {
     let alloc = rt.alloc();
     let Ok(stations) = read_whole(alloc, archive, &ranking.stations) else {
@@ -84,7 +84,7 @@ fn rank_fed<R: Threads + Wait + AllocGlobal + Sync>(
 ) -> Ranked
     requires { HasTakenSome intake }
     ensures ranks { RanksInput intake workers guess result.answer }
-    ensures foreign { IfOk result.answer (λ papers. AreForeignOf intake result.foreign) }
+    ensures warnings { IfOk result.answer (λ papers. AreWarningsOf intake result.warnings) }
 {
     match check_words(workers, guess) {
         Ok(()) => {
@@ -155,13 +155,13 @@ fn read_part<'p, A: Archive>(
 }
 
 /// Reads the station list, the report, the certificate and then the daily files in order, and judges
-/// the papers, as those of a whole of which the files are a part if that is so; beside it stand the
-/// foreign files. Or returns the path of the first file that can't be read.
+/// the papers, as those of a whole of which the files are a part where that is so; beside it stand the
+/// foreign files and the odd lines. Or answers the path of the first file that can't be read.
 pub(crate) fn judge_files<'p, A: Archive>(
     alloc: Global,
     archive: &A,
     judging: &'p Judging,
-) -> Result<Result<(Judgement, Foreign), Fault>, &'p str>
+) -> Result<Result<(Judgement, Warnings), Fault>, &'p str>
     ensures { IfOk result (JudgesFiles (A.bytes_of archive.now) judging.now) }
 {
     let Ok(stations) = read_whole(alloc, archive, &judging.stations) else {

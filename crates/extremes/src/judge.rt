@@ -7,13 +7,13 @@ ghost use Rattle.rank_papers.specs.RightLaws.{IsRightReportFor, IsRightCertifica
 ghost use Rattle.rank_input.specs.Input.{read_input, is_memory};
 ghost use Rattle.extremes.specs.Judged.{IsJudged, IsJudgedByPart};
 ghost use Rattle.extremes.specs.JudgedInParts.{PartsJudgeTheWhole};
-ghost use Rattle.rank_input.specs.Taken.{HasTakenSome, AreForeignOf, RefusesInput};
+ghost use Rattle.rank_input.specs.Taken.{HasTakenSome, AreWarningsOf, RefusesInput};
 ghost use Rattle.extremes.specs.Runs.{JudgesInput, JudgesPart, JudgesInputAs};
 
 use crate::judgement::Judgement;
 use crate::laws::parts_judge_the_whole;
 use ghcn_fields::Memory;
-use ghcn_series::{Data, Foreign};
+use ghcn_series::{Data, Warnings};
 use rank_check::{Verdict, check, verdict_of_one_element};
 use rank_input::{Fault, Intake};
 use rank_papers::{papers_are_found, papers_are_said, papers_of_one_element};
@@ -40,7 +40,7 @@ pub fn judge(
         IsRefusal is_memory fault (read_input query.now stations.now (map (λ file. file.now) files.now))) }
 {
     let intake = Intake::of_files(alloc, query, stations, files);
-    let (verdict, _foreign) = judge_intake(alloc, intake, report, certificate)?;
+    let (verdict, _warnings) = judge_intake(alloc, intake, report, certificate)?;
     Ok(verdict)
 }
 
@@ -67,42 +67,42 @@ pub fn judge_part(
     // Clause `whole` is the law.
     parts_judge_the_whole();
     let intake = Intake::of_files(alloc, query, stations, files);
-    let (verdict, _foreign) = judge_part_intake(alloc, intake, report, certificate)?;
+    let (verdict, _warnings) = judge_part_intake(alloc, intake, report, certificate)?;
     Ok(verdict)
 }
 
-/// Judges papers over what was given: as `judge_part` does if that is a part of their files, and
-/// as `judge` does if it isn't. Beside it stand the foreign files.
+/// Judges papers over what was given: as `judge_part` does where that is a part of their files, and
+/// as `judge` does where it isn't. Beside it stand the foreign files and the odd lines.
 pub fn judge_as(
     alloc: Global,
     intake: Intake,
     part: bool,
     report: &[u8],
     certificate: &[u8],
-) -> Result<(Judgement, Foreign), Fault>
+) -> Result<(Judgement, Warnings), Fault>
     requires { HasTakenSome intake }
     ensures ok { IfOk result (λ judged. JudgesInputAs part intake report.now certificate.now judged.0) }
-    ensures foreign { IfOk result (λ judged. AreForeignOf intake judged.1) }
+    ensures warnings { IfOk result (λ judged. AreWarningsOf intake judged.1) }
     ensures err { IfErr result (RefusesInput intake) }
 {
     if part {
-        let (verdict, foreign) = judge_part_intake(alloc, intake, report, certificate)?;
-        return Ok((Judgement::Part(verdict), foreign));
+        let (verdict, warnings) = judge_part_intake(alloc, intake, report, certificate)?;
+        return Ok((Judgement::Part(verdict), warnings));
     }
-    let (verdict, foreign) = judge_intake(alloc, intake, report, certificate)?;
-    Ok((Judgement::Whole(verdict), foreign))
+    let (verdict, warnings) = judge_intake(alloc, intake, report, certificate)?;
+    Ok((Judgement::Whole(verdict), warnings))
 }
 
-/// Judges papers over what was given, as `judge` does. Beside it stand the foreign files.
+/// Judges papers over what was given, as `judge` does. Beside it stand the foreign files and the odd lines.
 pub fn judge_intake(
     alloc: Global,
     intake: Intake,
     report: &[u8],
     certificate: &[u8],
-) -> Result<(Verdict, Foreign), Fault>
+) -> Result<(Verdict, Warnings), Fault>
     requires { HasTakenSome intake }
     ensures ok { IfOk result (λ judged. JudgesInput intake report.now certificate.now judged.0) }
-    ensures foreign { IfOk result (λ judged. AreForeignOf intake judged.1) }
+    ensures warnings { IfOk result (λ judged. AreWarningsOf intake judged.1) }
     ensures err { IfErr result (RefusesInput intake) }
 {
     let taken = intake.finish()?;
@@ -111,7 +111,7 @@ pub fn judge_intake(
     papers_are_said();
     verdict_of_one_element();
     let verdict = judge_dataset(alloc, &taken.dataset, &taken.query, report, certificate)?;
-    Ok((verdict, taken.foreign))
+    Ok((verdict, taken.warnings))
 }
 
 /// Judges papers of a query over some data.
@@ -134,21 +134,21 @@ fn judge_dataset(
     check(alloc, dataset, query, report, certificate)
 }
 
-/// Judges papers over what was given, as `judge_part` does. Beside it stand the foreign files.
+/// Judges papers over what was given, as `judge_part` does. Beside it stand the foreign files and the odd lines.
 pub fn judge_part_intake(
     alloc: Global,
     intake: Intake,
     report: &[u8],
     certificate: &[u8],
-) -> Result<(PartVerdict, Foreign), Fault>
+) -> Result<(PartVerdict, Warnings), Fault>
     requires { HasTakenSome intake }
     ensures ok { IfOk result (λ judged. JudgesPart intake report.now certificate.now judged.0) }
-    ensures foreign { IfOk result (λ judged. AreForeignOf intake judged.1) }
+    ensures warnings { IfOk result (λ judged. AreWarningsOf intake judged.1) }
     ensures err { IfErr result (RefusesInput intake) }
 {
     let taken = intake.finish()?;
     // The data hold the query's element alone: a verdict on them is one on all lines.
     part_verdict_of_one_element();
     let verdict = check_part(alloc, &taken.dataset, &taken.query, report, certificate)?;
-    Ok((verdict, taken.foreign))
+    Ok((verdict, taken.warnings))
 }

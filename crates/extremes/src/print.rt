@@ -10,7 +10,7 @@ use crate::ending::Ending;
 use crate::judgement::{Judgement, ending};
 use crate::papers::Papers;
 use crate::rank::Ranked;
-use ghcn_series::Foreign;
+use ghcn_series::{Foreign, LinePlace, OddLines, Warnings};
 use rank_input::Fault;
 use std::fmt::Display;
 use std::fs::File;
@@ -30,11 +30,11 @@ pub(crate) fn print_ranked<R: Files + Eprint, W: Write>(
 {
     let Ranked {
         answer,
-        foreign,
+        warnings,
         dataset,
     } = ranked;
     if answer.is_ok() {
-        tell_foreign(rt, foreign, files);
+        tell_warnings(rt, warnings, files);
     }
     let ending = print_answer(rt, answer, certificate, out);
     drop(dataset);
@@ -73,7 +73,13 @@ pub(crate) fn print_text<R: Eprint, W: Write>(rt: &R, text: &[u8], out: &mut W) 
     }
 }
 
-/// Says how many of the files are foreign, and names the first of them by its path, if there is
+/// Says which of the files are foreign and how many lines are odd, where there are any.
+fn tell_warnings<R: Eprint>(rt: &R, warnings: Warnings, files: &[String]) {
+    tell_foreign(rt, warnings.foreign, files);
+    tell_odd(rt, warnings.odd, files);
+}
+
+/// Says how many of the files are foreign, and names the first of them by its path, where there is
 /// one.
 fn tell_foreign<R: Eprint>(rt: &R, foreign: Foreign, files: &[String]) {
     let Foreign { count, first } = foreign;
@@ -84,8 +90,19 @@ fn tell_foreign<R: Eprint>(rt: &R, foreign: Foreign, files: &[String]) {
     }
 }
 
-/// Prints the papers after a word on what was skipped, or prints the error. The certificate
-/// goes to the file of a path, if one is named, and the report after it.
+/// Says how many lines are odd, and names the first of them by the path of its file and its number there, where there
+/// is one.
+fn tell_odd<R: Eprint>(rt: &R, odd: OddLines, files: &[String]) {
+    let OddLines { count, first } = odd;
+    if let Some(LinePlace { file, line }) = first {
+        if let Some(path) = files.get(file as usize) {
+            let _ = eprintln!(rt; "odd {count} {path}:{line}");
+        }
+    }
+}
+
+/// Prints the papers behind a word on what was passed over, or tells the fault. The certificate
+/// goes to the file of a path, where one is named, and the report behind it.
 pub fn print_answer<R: Files + Eprint, W: Write, F: Display + Drop>(
     rt: &R,
     answer: Result<Papers, F>,
@@ -138,7 +155,7 @@ pub(crate) fn print_description<R: Eprint, W: Write>(
 {
     match described {
         Ok(text) => {
-            tell_foreign(rt, text.foreign, files);
+            tell_warnings(rt, text.warnings, files);
             print_text(rt, &text.bytes, out)
         }
         Err(fault) => refused(rt, fault),
@@ -148,17 +165,17 @@ pub(crate) fn print_description<R: Eprint, W: Write>(
 /// Prints what is said of papers over files, or prints the error.
 pub(crate) fn print_judgement<R: Eprint, W: Write>(
     rt: &R,
-    judged: Result<(Judgement, Foreign), Fault>,
+    judged: Result<(Judgement, Warnings), Fault>,
     files: &[String],
     out: &mut W,
 ) -> Ending
     ensures { IsTold judged (W.contents out.old) (W.contents out.new) result }
 {
-    let (judgement, foreign) = match judged {
+    let (judgement, warnings) = match judged {
         Ok(judged) => judged,
         Err(fault) => return refused(rt, fault),
     };
-    tell_foreign(rt, foreign, files);
+    tell_warnings(rt, warnings, files);
     match writeln!(out, "{judgement}") {
         Ok(()) => ending(&judgement),
         Err(_) => not_written(rt, "-"),

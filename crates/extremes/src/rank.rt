@@ -8,14 +8,14 @@ ghost use Rattle.rank_papers.specs.Certificate.{certificate_of_best};
 ghost use Rattle.rank_papers.specs.PlanPapers.{IsMeasuredCertificate};
 ghost use Rattle.ghcn_fields.specs.Refusals.{IsRefusal};
 ghost use Rattle.rank_input.specs.Input.{is_crew, is_guess, read_run, is_memory};
-ghost use Rattle.rank_input.specs.Taken.{HasTakenSome, AreForeignOf, RefusesInput};
+ghost use Rattle.rank_input.specs.Taken.{HasTakenSome, AreWarningsOf, RefusesInput};
 ghost use Rattle.extremes.specs.Runs.{AnswersInput, CrewsInput, FaultlessInput};
 ghost use Rattle.rank_sched.specs.Answers.{IsAnswerOfPlan};
 ghost use Rattle.rank_sched.specs.Plan.{planned};
 
 use crate::papers::Papers;
 use ghcn_fields::Memory;
-use ghcn_series::{Data, Foreign};
+use ghcn_series::{Data, Warnings};
 use rank_crew::{Gate, crew, survey};
 use rank_input::{Fault, Intake, TakenInput, check_words};
 use rank_papers::{certificate, papers_are_found, papers_are_said, papers_of_one_element, report};
@@ -62,9 +62,9 @@ pub fn rank<R: Threads + Wait + AllocGlobal + Sync, G: Gate + Sync>(
 #[derive(Drop)]
 pub struct Ranked {
     pub answer: Result<Papers, Fault>,
-    /// Which of the files are foreign: none if there was an error.
-    pub foreign: Foreign,
-    /// Nothing if there was an error in what was given. To free many series takes a while, so a
+    /// The foreign files and the odd lines: none where there was a fault.
+    pub warnings: Warnings,
+    /// Nothing where there was a fault in what was given. To free many series takes a while, so a
     /// caller may use the answer first.
     pub dataset: Option<Data>,
 }
@@ -83,7 +83,7 @@ pub fn rank_intake<R: Threads + Wait + AllocGlobal + Sync, G: Gate + Sync>(
     ensures ok { IfOk result.answer (AnswersInput intake) }
     ensures faultless { IfOk result.answer (λ papers. FaultlessInput intake) }
     ensures crew { IfOk result.answer (CrewsInput intake workers guess) }
-    ensures foreign { IfOk result.answer (λ papers. AreForeignOf intake result.foreign) }
+    ensures warnings { IfOk result.answer (λ papers. AreWarningsOf intake result.warnings) }
     ensures err { IfErr result.answer (RefusesInput intake) }
 {
     match intake.finish() {
@@ -91,7 +91,7 @@ pub fn rank_intake<R: Threads + Wait + AllocGlobal + Sync, G: Gate + Sync>(
             TakenInput {
                 query,
                 dataset,
-                foreign,
+                warnings,
             },
         ) => {
             // The data hold the query's element alone: what is right for them is so for all lines.
@@ -101,7 +101,7 @@ pub fn rank_intake<R: Threads + Wait + AllocGlobal + Sync, G: Gate + Sync>(
             let answer = ranked_by_crew(rt, &dataset, &query, workers, guess, gate);
             Ranked {
                 answer,
-                foreign,
+                warnings,
                 dataset: Some(dataset),
             }
         }
@@ -115,7 +115,7 @@ pub(crate) fn without_data(fault: Fault) -> Ranked
 {
     Ranked {
         answer: Err(fault),
-        foreign: Foreign::none(),
+        warnings: Warnings::none(),
         dataset: None,
     }
 }

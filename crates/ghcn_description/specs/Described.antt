@@ -13,7 +13,7 @@ use Rattle.ghcn_files.specs.declared.station.Station.{Station}
 use Rattle.ghcn_files.specs.Flags.{flagged_values}
 use Rattle.ghcn_files.specs.Elements.{elements, same_element}
 use Rattle.ghcn_series.specs.DailyFaults.{FileLine, daily_lines, month_on}
-use Rattle.ghcn_series.specs.LineKinds.{all_lines, blank_lines, foreign_of}
+use Rattle.ghcn_series.specs.LineKinds.{all_lines, blank_lines, warnings_of}
 use Rattle.ghcn_series.specs.Says.{usable_facts, all_series}
 use Rattle.ghcn_description.specs.declared.counts.Description.{Description}
 use Rattle.ghcn_description.specs.declared.counts.ElementCounts.{ElementCounts}
@@ -100,4 +100,4 @@ pub record IsDescription (stations : List Station) (files : List (List ℕ)) (d 
   pub others : AreOthers (daily_lines files) d.others.items d.further
   pub unlisted : d.unlisted ≡ unlisted_lines stations (daily_lines files)
   pub blank : d.blank ≡ blank_lines files
-  pub foreign : d.foreign ≡ foreign_of files
+  pub warnings : d.warnings ≡ warnings_of files

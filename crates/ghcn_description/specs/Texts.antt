@@ -52,6 +52,7 @@ description_text d =
     ++ flat_map element_line d.elements
     ++ flat_map code_line d.others.items
     ++ further_line d.further
+    ++ counted_text (codes "\nodd lines ") d.warnings.odd.count
     ++ counted_text (codes "\nunlisted lines ") d.unlisted
     ++ counted_text (codes "\nblank lines ") d.blank
     ++ codes "\nend\n"

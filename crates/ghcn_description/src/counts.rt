@@ -4,7 +4,7 @@ ghost use Rattle.std.specs.Prelude.{◌≡◌, ◌+◌, IfOk};
 
 use ghcn_fields::{Day, Memory};
 use ghcn_files::Element;
-use ghcn_series::Foreign;
+use ghcn_series::Warnings;
 
 /// What daily files hold. The lines of the elements, of other codes, of unlisted stations and of
 /// blanks are all lines.
@@ -23,8 +23,8 @@ pub struct Description {
     /// How many lines of the five elements are of stations that aren't listed.
     pub unlisted: u64,
     pub blank: u64,
-    /// The files that have none of the five elements. The text doesn't name them.
-    pub foreign: Foreign,
+    /// The foreign files, which the text doesn't name, and the odd lines, which it counts.
+    pub warnings: Warnings,
 }
 
 /// What listed stations have of an element.

@@ -15,7 +15,7 @@ use crate::others::{Others, shown_code};
 use crate::{Description, ElementCounts};
 use ghcn_fields::Memory;
 use ghcn_files::{Keep, MonthReader, MonthRow, Stations, flagged_values};
-use ghcn_series::{DailyWhy, DataFault, LineCounts, LineKind, LineReader, Reader};
+use ghcn_series::{DailyWhy, DataFault, LineCounts, LineReader, Reader};
 use std::alloc::Global;
 
 /// What was counted on the lines that were read so far.
@@ -52,19 +52,19 @@ impl LineReader for RowDescriber {
         file: u64,
         line: u64,
         bytes: &[u8],
-    ) -> Result<LineKind, DataFault> {
+    ) -> Result<bool, DataFault> {
         match self.months.read(bytes, Keep::All) {
             Ok(true) => {}
             Ok(false) => {
                 return match self.describer.others.add(shown_code(bytes)) {
-                    Ok(()) => Ok(LineKind::Other),
+                    Ok(()) => Ok(false),
                     Err(memory) => Err(DataFault::Memory(memory)),
                 };
             }
             Err(why) => return Err(refused(file, line, DailyWhy::Line(why))),
         }
         match self.describer.add_month(alloc, bytes, self.months.row()) {
-            Ok(true) => Ok(LineKind::OfElement),
+            Ok(true) => Ok(true),
             Ok(false) => Err(refused(file, line, DailyWhy::DuplicateMonth)),
             Err(memory) => Err(DataFault::Memory(memory)),
         }
@@ -116,7 +116,7 @@ impl Describer {
             further,
             unlisted: self.unlisted,
             blank: counts.blank,
-            foreign: counts.foreign,
+            warnings: counts.warnings,
         }
     }
 

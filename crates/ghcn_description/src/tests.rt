@@ -3,7 +3,7 @@
 use crate::{CodeCount, Description, ElementCounts, FileDescriber, Span};
 use ghcn_fields::{Day, Memory};
 use ghcn_files::{Element, Stations};
-use ghcn_series::{DataFault, Foreign};
+use ghcn_series::{DataFault, Warnings};
 use std::alloc::Global;
 
 const TEXT: &[u8] = b"extremes description 1
@@ -16,6 +16,7 @@ element SNWD lines 0 series 0 days 0 flagged 0
 element TMAX lines 1 series 0 days 0 flagged 31
 element TMIN lines 0 series 0 days 0 flagged 0
 other WESD lines 12
+odd lines 0
 unlisted lines 5
 blank lines 1
 end
@@ -32,6 +33,7 @@ element TMAX lines 1 series 0 days 0 flagged 31
 element TMIN lines 0 series 0 days 0 flagged 0
 other WESD lines 12
 others lines 8
+odd lines 0
 unlisted lines 5
 blank lines 1
 end
@@ -78,7 +80,7 @@ fn described(alloc: Global, further: u64) -> Result<Description, Memory> {
         further,
         unlisted: 5,
         blank: 1,
-        foreign: Foreign::none(),
+        warnings: Warnings::none(),
     })
 }
 
@@ -115,6 +117,7 @@ element SNWD lines 0 series 0 days 0 flagged 0
 element TMAX lines 1 series 1 days 2 flagged 1 from 2020-07-01 to 2020-07-03
 element TMIN lines 0 series 0 days 0 flagged 0
 other WESD lines 1
+odd lines 0
 unlisted lines 1
 blank lines 1
 end

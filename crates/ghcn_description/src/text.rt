@@ -7,7 +7,8 @@
 //! lines N
 //! element CODE lines N series N days N flagged N from DAY to DAY   for each of the five elements
 //! other CODE lines N                                               for each other code
-//! others lines N                                                   if there are more codes
+//! others lines N                                                   where there are more codes
+//! odd lines N
 //! unlisted lines N
 //! blank lines N
 //! end
@@ -36,6 +37,7 @@ impl Description {
         push_elements(&mut text, &self.elements)?;
         push_others(&mut text, &self.others)?;
         push_further(&mut text, self.further)?;
+        push_count(&mut text, b"\nodd lines ", self.warnings.odd.count)?;
         push_count(&mut text, b"\nunlisted lines ", self.unlisted)?;
         push_count(&mut text, b"\nblank lines ", self.blank)?;
         text.extend_from_slice(b"\nend\n")?;

@@ -1,14 +1,14 @@
 -- What is counted of one line more, or of one file more.
 use Rattle.std.proofs.Common.{◌≡◌, ℕ, ◌+◌, ◌≤◌, true, false, Bool, cond, List, [], ◌∷◌, ◌++◌, length, map}
-use Rattle.std.proofs.Common.{Some, refl, sym, ap, ◌∙◌, length-append, arith}
-use Rattle.std.specs.Prelude.{◌^◌, ◌&&◌, ◌||◌, ◌==◌, not, if◌then◌else◌, take, drop, replicate}
+use Rattle.std.proofs.Common.{Option, None, Some, refl, sym, subst, ap, ◌∙◌, length-append, arith}
+use Rattle.std.specs.Prelude.{◌-◌, ◌^◌, ◌&&◌, ◌||◌, ◌==◌, not, if◌then◌else◌, take, drop, replicate}
 use Rattle.std.proofs.Math.Bool.{or-false}
-use Rattle.std.specs.List.{list_any, count_by, slice_get}
-use Rattle.std.specs.Option.{is_some, option_or}
+use Rattle.std.specs.List.{list_any, count_by, find, slice_get}
+use Rattle.std.specs.Option.{is_some, option_map, option_or}
 use Rattle.std.proofs.lemmas.Bool.{eqb-true}
 use Rattle.std.proofs.lemmas.List.{append-nil, map-append, take-append-drop}
 use Rattle.std.proofs.lemmas.List.Elements.{filter-append}
-use Rattle.std.proofs.lemmas.List.Folds.{list_any-append, list_all-append}
+use Rattle.std.proofs.lemmas.List.Folds.{list_any-append, list_all-append, find-append}
 use Rattle.std.proofs.lemmas.List.Sums.{sum_by-append, count_by-le-length}
 use Rattle.std.proofs.lemmas.Grind.{flat_map-append}
 use Rattle.ghcn_fields.specs.Bytes.{is_blank}
@@ -16,11 +16,63 @@ use Rattle.ghcn_fields.specs.Lines.{columns, lines}
 use Rattle.ghcn_files.proofs.LineLaws.{enumerate_from-append}
 use Rattle.ghcn_files.specs.Elements.{element_of}
 use Rattle.ghcn_series.specs.declared.counts.Foreign.{Foreign}
+use Rattle.ghcn_series.specs.declared.counts.LinePlace.{LinePlace}
+use Rattle.ghcn_series.specs.declared.counts.OddLines.{OddLines}
 use Rattle.ghcn_series.specs.declared.counts.LineCounts.{LineCounts}
-use Rattle.ghcn_series.specs.declared.counts.LineKind.TheVariants.{Blank, OfElement, Other}
-use Rattle.ghcn_series.specs.Counted.{HaveCounted, CountsLine, AddsForeign}
-use Rattle.ghcn_series.specs.LineKinds.{all_lines, has_element, is_foreign, line_kind, foreign_places}
-use Rattle.ghcn_series.specs.LineKinds.{foreign_of}
+use Rattle.ghcn_series.specs.declared.counts.LineKind.TheVariants.{Blank, OfElement, Other, Odd}
+use Rattle.ghcn_series.specs.Counted.{HaveCounted, CountsLine, AddsForeign, with_odd}
+use Rattle.ghcn_series.specs.DailyFaults.{FileLine, file_line, not_blank, file_lines, daily_lines}
+use Rattle.ghcn_series.specs.LineKinds.{all_lines, has_element, has_form, is_foreign, line_kind, foreign_places}
+use Rattle.ghcn_series.specs.LineKinds.{foreign_of, is_odd, place_of, odd_among, warnings_of}
+use Rattle.ghcn_series.proofs.FedLines.{daily_lines-one}
+
+-- ---- odd lines
+
+-- the place of the first of two lines, where the first may be absent
+first_place : (first : Option FileLine) (l : FileLine)
+    → option_map place_of (option_or first (Some l)) ≡ option_or (option_map place_of first) (Some (place_of l))
+first_place None l = refl
+first_place (Some x) l = refl
+
+-- nothing comes behind it
+first_alone : (first : Option FileLine) → option_or first None ≡ first
+first_alone None = refl
+first_alone (Some x) = refl
+
+-- among one line more, which is odd or isn't
+odd_one : (odd : Bool) (before : List FileLine) (l : FileLine) → is_odd l.bytes ≡ odd
+    → (if odd then with_odd (odd_among before) (place_of l) else odd_among before) ≡ odd_among (before ++ l ∷ [])
+odd_one true before l is =
+    let count : count_by (λ x. is_odd x.bytes) (before ++ l ∷ []) ≡ count_by (λ x. is_odd x.bytes) before + 1 =
+    sum_by-append (λ x. cond (is_odd x.bytes) 1 0) before (l ∷ []) ∙ rw is refl in
+    let first : find (λ x. is_odd x.bytes) (before ++ l ∷ [])
+    ≡ option_or (find (λ x. is_odd x.bytes) before) (Some l) =
+    find-append (λ x. is_odd x.bytes) before (l ∷ []) ∙ rw is refl in
+    rw (count, first, first_place (find (λ x. is_odd x.bytes) before) l) refl
+odd_one false before l is =
+    let count : count_by (λ x. is_odd x.bytes) (before ++ l ∷ []) ≡ count_by (λ x. is_odd x.bytes) before =
+    sum_by-append (λ x. cond (is_odd x.bytes) 1 0) before (l ∷ []) ∙ rw is (omega arith) in
+    let first : find (λ x. is_odd x.bytes) (before ++ l ∷ []) ≡ find (λ x. is_odd x.bytes) before =
+    find-append (λ x. is_odd x.bytes) before (l ∷ []) ∙ rw is (first_alone (find (λ x. is_odd x.bytes) before)) in
+    rw (count, first) refl
+
+-- a place by its two numbers
+abbrev place_at : ℕ → ℕ → LinePlace
+place_at file line = record { file = file; line = line }
+
+-- among a line more that is odd, or isn't, or is blank
+odd_more : (blank : Bool) (before : List FileLine) (place : LinePlace) (line : List ℕ) → is_blank line ≡ blank
+    → (if is_odd line then with_odd (odd_among before) place else odd_among before)
+    ≡ odd_among (before ++ not_blank (place.file + 1) ((place.line, line) ∷ []))
+odd_more true before place line is = rw (is, append-nil before) refl
+odd_more false before place line is =
+    let l : FileLine = file_line (place.file + 1) (place.line, line) in
+    let file : place.file + 1 - 1 ≡ place.file = omega arith in
+    let same : place_of l ≡ place = ap (λ n. place_at n place.line) file in
+    let alone : not_blank (place.file + 1) ((place.line, line) ∷ []) ≡ l ∷ [] = rw is refl in
+    subst (λ (p : LinePlace). (if is_odd line then with_odd (odd_among before) p else odd_among before)
+    ≡ odd_among (before ++ l ∷ [])) same (odd_one (is_odd line) before l refl)
+    ∙ ap (λ (ls : List FileLine). odd_among (before ++ ls)) (sym alone)
 
 -- ---- a line
 
@@ -31,10 +83,12 @@ any-more p ls more line all is =
     rw (is, all, list_any-append p ls (line ∷ []), or-false (p line)) refl
 
 -- a line more of the current file is counted
-pub counted-line : (old new : LineCounts) (ended : List (List ℕ)) (whole more line : List ℕ)
-    → lines more ≡ lines whole ++ line ∷ [] → CountsLine old new line → HaveCounted old ended whole
-    → HaveCounted new ended more
-counted-line old new ended whole more line all adds is = record {
+pub counted-line : (old new : LineCounts) (ended : List (List ℕ)) (whole more line : List ℕ) (place : LinePlace)
+    → lines more ≡ lines whole ++ line ∷ []
+    → (daily_lines ended ++ file_lines (length ended + 1, whole)) ++ not_blank (place.file + 1) ((place.line, line) ∷ [])
+    ≡ daily_lines ended ++ file_lines (length ended + 1, more) → CountsLine old new place line
+    → HaveCounted old ended whole → HaveCounted new ended more
+counted-line old new ended whole more line place all behind adds is = record {
   number = omega (arith, adds.number, is.number, ap length all, length-append (lines whole) (line ∷ []));
   blank = omega (
     arith,
@@ -44,6 +98,9 @@ counted-line old new ended whole more line all adds is = record {
     sum_by-append (λ l. cond (is_blank l) 1 0) (lines whole) (line ∷ []),
   );
   foreign = adds.foreign ∙ is.foreign;
+  odd = adds.odd ∙ rw is.odd
+      (odd_more (is_blank line) (daily_lines ended ++ file_lines (length ended + 1, whole)) place line refl)
+      ∙ ap odd_among behind;
   has_line = adds.has_line ∙ any-more (λ l. not (is_blank l)) (lines whole) more line all is.has_line;
   has_element = adds.has_element ∙ any-more has_element (lines whole) more line all is.has_element;
 }
@@ -79,16 +136,54 @@ blank_line line blank =
     let all : is_blank whole ≡ true = list_all-append (λ b. b == 32) line (replicate 21 32) ∙ rw blank refl in
     no_element (columns 18 21 line) (blank_parts 4 (drop 17 whole) (blank_parts 17 whole all).1).0
 
--- what is blank has no element
-blank_alone : (b e : Bool) → Blank ≡ (if b then Blank else if e then OfElement else Other) → (b ≡ true → e ≡ false)
-    → (b ≡ true) × (e ≡ false)
-blank_alone true e is none = (refl, none refl)
-blank_alone false true is none = absurd cc
-blank_alone false false is none = absurd cc
+-- what is blank has no element, and isn't odd
+blank_alone : (b e f : Bool) → Blank ≡ (if b then Blank else if e then OfElement else if f then Other else Odd)
+    → (b ≡ true → e ≡ false) → (b ≡ true) × ((e ≡ false) × ((not b && not e && not f) ≡ false))
+blank_alone true e f is none = (refl, (none refl, refl))
+blank_alone false true f is none = absurd cc
+blank_alone false false true is none = absurd cc
+blank_alone false false false is none = absurd cc
+
+-- what has an element isn't blank, nor odd
+element_alone : (b e f : Bool) → OfElement ≡ (if b then Blank else if e then OfElement else if f then Other else Odd)
+    → (b ≡ false) × ((e ≡ true) × ((not b && not e && not f) ≡ false))
+element_alone true e f is = absurd cc
+element_alone false true f is = (refl, (refl, refl))
+element_alone false false true is = absurd cc
+element_alone false false false is = absurd cc
+
+-- what is of another code is none of these
+other_alone : (b e f : Bool) → Other ≡ (if b then Blank else if e then OfElement else if f then Other else Odd)
+    → (b ≡ false) × ((e ≡ false) × ((not b && not e && not f) ≡ false))
+other_alone true e f is = absurd cc
+other_alone false true f is = absurd cc
+other_alone false false true is = (refl, (refl, refl))
+other_alone false false false is = absurd cc
+
+-- what is odd isn't blank and has no element
+odd_alone : (b e f : Bool) → Odd ≡ (if b then Blank else if e then OfElement else if f then Other else Odd)
+    → (b ≡ false) × ((e ≡ false) × ((not b && not e && not f) ≡ true))
+odd_alone true e f is = absurd cc
+odd_alone false true f is = absurd cc
+odd_alone false false true is = absurd cc
+odd_alone false false false is = (refl, (refl, refl))
 
 -- so it is of a line of this kind
-pub blank_kind : (line : List ℕ) → Blank ≡ line_kind line → (is_blank line ≡ true) × (has_element line ≡ false)
-blank_kind line is = blank_alone (is_blank line) (has_element line) is (blank_line line)
+pub blank_kind : (line : List ℕ) → Blank ≡ line_kind line
+    → (is_blank line ≡ true) × ((has_element line ≡ false) × (is_odd line ≡ false))
+blank_kind line is = blank_alone (is_blank line) (has_element line) (has_form line) is (blank_line line)
+
+pub element_kind : (line : List ℕ) → OfElement ≡ line_kind line
+    → (is_blank line ≡ false) × ((has_element line ≡ true) × (is_odd line ≡ false))
+element_kind line is = element_alone (is_blank line) (has_element line) (has_form line) is
+
+pub other_kind : (line : List ℕ) → Other ≡ line_kind line
+    → (is_blank line ≡ false) × ((has_element line ≡ false) × (is_odd line ≡ false))
+other_kind line is = other_alone (is_blank line) (has_element line) (has_form line) is
+
+pub odd_kind : (line : List ℕ) → Odd ≡ line_kind line
+    → (is_blank line ≡ false) × ((has_element line ≡ false) × (is_odd line ≡ true))
+odd_kind line is = odd_alone (is_blank line) (has_element line) (has_form line) is
 
 -- ---- the end of a file
 
@@ -143,7 +238,7 @@ pub counted-end : (old : LineCounts) (foreign : Foreign) (ended : List (List ℕ
     → foreign ≡ foreign_of (ended ++ whole ∷ []) → HaveCounted old ended whole → HaveCounted (record {
       lines = old.lines;
       blank = old.blank;
-      foreign = foreign;
+      warnings = record { foreign = foreign; odd = old.warnings.odd };
       has_line = false;
       has_element = false;
     }) (ended ++ whole ∷ []) []
@@ -160,6 +255,15 @@ counted-end old foreign ended whole same is =
         sum_by-append (λ l. cond (is_blank l) 1 0) (all_lines ended) (lines whole),
       );
       foreign = same;
+      odd = rw (daily_lines-one ended whole, append-nil (daily_lines ended ++ file_lines (length ended + 1, whole)))
+          is.odd;
       has_line = refl;
       has_element = refl;
     }
+
+-- what was counted of files that are ended is what a run warns of
+pub warned : (c : LineCounts) (files : List (List ℕ)) → HaveCounted c files [] → c.warnings ≡ warnings_of files
+warned c files is =
+    let odd : c.warnings.odd ≡ odd_among (daily_lines files) =
+    rw (append-nil (daily_lines files)) at is.odd in
+    rw (← is.foreign, ← odd) refl

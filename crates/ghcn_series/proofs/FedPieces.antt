@@ -123,13 +123,13 @@ module _ {L : Type 0} {has_read : Reading L} where
 
   -- and its counts are those of the files
   counted : (old new : Cutter L) (fed : Fed) (tail line : List ℕ) (read : HasReadFed has_read old fed)
-      → lines tail ≡ strip_carriage_return (old.rest.items ++ line) ∷ [] → AddsLine has_read old new line
-      → HaveCounted new.counts fed.files.ended (read.whole ++ tail)
-  counted old new fed tail line is one adds =
+      → old.ended ≡ length fed.files.ended → lines tail ≡ strip_carriage_return (old.rest.items ++ line) ∷ []
+      → AddsLine has_read old new line → HaveCounted new.counts fed.files.ended (read.whole ++ tail)
+  counted old new fed tail line is at one adds =
       counted-line old.counts new.counts fed.files.ended is.whole (is.whole ++ tail)
-      (strip_carriage_return (old.rest.items ++ line))
+      (strip_carriage_return (old.rest.items ++ line)) (record { file = old.ended; line = old.line + 1 })
       (lines-append is.whole tail is.cut.ends ∙ ap (λ (ls : List (List ℕ)). lines is.whole ++ ls) one)
-      adds.counted is.counted
+      (numbered old fed tail line is at one) adds.counted is.counted
 
   -- a line and its line feed are read
   pub line-read : (old new : Cutter L) (line : List ℕ) (fed : Fed) → HasNoLineFeed line
@@ -145,7 +145,7 @@ module _ {L : Type 0} {has_read : Reading L} where
         unended = rw adds.rest tt;
         numbered = rw (lines-append is.whole tail is.cut.ends, one)
             (omega (arith, adds.numbered, is.numbered, length-append {A = List ℕ}));
-        counted = counted old new fed tail line is one adds;
+        counted = counted old new fed tail line is at one adds;
         read = subst (has_read new.reader fed.stations fed.keep) (numbered old fed tail line is at one)
             (adds.read.holds fed.stations fed.keep (lines_to fed.files is.whole) is.read);
       }
@@ -167,6 +167,22 @@ module _ {L : Type 0} {has_read : Reading L} where
       }
 
   -- ---- a piece
+
+  -- nothing of a piece is read yet
+  pub piece-begun : (c : Cutter L) (bytes : List ℕ) (fed : Fed) → HasReadFed has_read c fed
+      → IsWithinPiece has_read c fed bytes bytes
+  piece-begun c bytes fed is = record {
+    done = [];
+    parts = refl;
+    read = record {
+      whole = is.whole;
+      cut = record { parts = append-nil fed.files.current ∙ is.cut.parts; ends = is.cut.ends };
+      unended = is.unended;
+      numbered = is.numbered;
+      counted = is.counted;
+      read = is.read;
+    };
+  }
 
   -- a line more of a piece
   pub piece-line : (old new : Cutter L) (line behind left bytes : List ℕ) (fed : Fed) → left ≡ line ++ 10 ∷ behind
@@ -257,7 +273,7 @@ module _ {L : Type 0} {has_read : Reading L} where
       → new.line ≡ 0 → new.rest.items ≡ [] → HasReadFed has_read old fed
       → HasReadFed has_read new (with_files fed (with_end fed.files))
   last-read old mid new fed at some adds same reader counts line empty is =
-      let last = counted old mid fed old.rest.items [] is (lines-rest old.rest.items some is.unended) adds in
+      let last = counted old mid fed old.rest.items [] is at (lines-rest old.rest.items some is.unended) adds in
       let all : HaveCounted new.counts (fed.files.ended ++ fed.files.current ∷ []) [] =
       rw is.cut.parts (counts fed.files.ended (is.whole ++ old.rest.items) (same ∙ at) last) in
       let read = adds.read.holds fed.stations fed.keep (lines_to fed.files is.whole) is.read in

@@ -28,6 +28,7 @@ pub mod FactsOfMonths
 pub mod AllSeries
 pub mod ReadFiles
 pub mod FedLines
+pub mod FormOfLines
 pub mod CountedLines
 pub mod FedPieces
 pub mod FedCounts

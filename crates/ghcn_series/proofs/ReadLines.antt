@@ -24,9 +24,8 @@ use Rattle.ghcn_series.specs.declared.fault.DataFault.TheVariants.{DailyLine, To
 use Rattle.ghcn_series.specs.declared.reader.Reader.{Reader}
 use Rattle.ghcn_series.specs.DailyFaults.{FileLine, month_on, month_if_ok, repeats, is_listed}
 use Rattle.ghcn_series.specs.DailyFaults.{daily_fault}
-use Rattle.ghcn_series.specs.declared.counts.LineKind.TheVariants.{OfElement, Other}
 use Rattle.ghcn_series.specs.Gathered.{HasReadFor, IsLineRefusal}
-use Rattle.ghcn_series.specs.LineKinds.{line_kind}
+use Rattle.ghcn_series.specs.LineKinds.{has_element}
 use Rattle.ghcn_series.specs.Steps.{ReadsMonth}
 
 module _ {L W : Type 0} (fault : List L → L → Option W) where
@@ -120,16 +119,13 @@ some_read true e line m is = absurd cc
 some_read false None line m is = absurd cc
 some_read false (Some x) line m is = refl
 
--- a line that is skipped is of another code
-pub other_kind : (line : List ℕ) → read_month line ≡ Ok None → is_blank line ≡ false → Other ≡ line_kind line
-other_kind line is some =
-    rw (some, none_read (nat_lt (length line) 21) (element_of (columns 18 21 line)) line is) refl
+-- so it is of a line
+pub other_code : (line : List ℕ) → read_month line ≡ Ok None → false ≡ has_element line
+other_code line is = sym (none_read (nat_lt (length line) 21) (element_of (columns 18 21 line)) line is)
 
--- a line of a month is one of the elements
-pub element_kind : (line : List ℕ) (m : Month) → read_month line ≡ Ok (Some m) → is_blank line ≡ false
-    → OfElement ≡ line_kind line
-element_kind line m is some =
-    rw (some, some_read (nat_lt (length line) 21) (element_of (columns 18 21 line)) line m is) refl
+-- and of a line of a month
+pub element_code : (line : List ℕ) (m : Month) → read_month line ≡ Ok (Some m) → true ≡ has_element line
+element_code line m is = sym (some_read (nat_lt (length line) 21) (element_of (columns 18 21 line)) line m is)
 
 -- ---- lines after
 

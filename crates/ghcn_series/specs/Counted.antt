@@ -1,27 +1,36 @@
 -- What is counted on lines that are read one after another.
-use Rattle.std.specs.Prelude.{◌≡◌, ℕ, ◌+◌, ◌||◌, not, if◌then◌else◌, List, length, Some}
+use Rattle.std.specs.Prelude.{◌≡◌, ℕ, ◌+◌, ◌++◌, ◌||◌, not, if◌then◌else◌, List, length, Some}
 use Rattle.std.specs.List.{list_any, count_by}
 use Rattle.std.specs.Option.{option_or}
 use Rattle.ghcn_fields.specs.Bytes.{is_blank}
 use Rattle.ghcn_fields.specs.Lines.{lines}
 use Rattle.ghcn_series.specs.declared.counts.Foreign.{Foreign}
+use Rattle.ghcn_series.specs.declared.counts.LinePlace.{LinePlace}
+use Rattle.ghcn_series.specs.declared.counts.OddLines.{OddLines}
 use Rattle.ghcn_series.specs.declared.counts.LineCounts.{LineCounts}
+use Rattle.ghcn_series.specs.DailyFaults.{file_lines, daily_lines}
 use Rattle.ghcn_series.specs.Says.{in_64_bits}
-use Rattle.ghcn_series.specs.LineKinds.{all_lines, blank_lines, has_element, foreign_of}
+use Rattle.ghcn_series.specs.LineKinds.{all_lines, blank_lines, has_element, is_odd, foreign_of, odd_among}
 
 -- these are the counts of the files that were ended, and of these whole lines of the current one
 pub record HaveCounted (c : LineCounts) (ended : List (List ℕ)) (whole : List ℕ) : Type 0 where
   pub number : c.lines ≡ length (all_lines ended) + length (lines whole)
   pub blank : c.blank ≡ blank_lines ended + count_by is_blank (lines whole)
-  pub foreign : c.foreign ≡ foreign_of ended
+  pub foreign : c.warnings.foreign ≡ foreign_of ended
+  pub odd : c.warnings.odd ≡ odd_among (daily_lines ended ++ file_lines (length ended + 1, whole))
   pub has_line : c.has_line ≡ list_any (λ l. not (is_blank l)) (lines whole)
   pub has_element : c.has_element ≡ list_any has_element (lines whole)
 
--- a line of the current file is counted
-pub record CountsLine (old new : LineCounts) (line : List ℕ) : Type 0 where
+-- one odd line more, at a place behind the others
+abbrev pub with_odd : OddLines → LinePlace → OddLines
+with_odd odd place = record { count = odd.count + 1; first = option_or odd.first (Some place) }
+
+-- a line of the current file, which stands at a place, is counted
+pub record CountsLine (old new : LineCounts) (place : LinePlace) (line : List ℕ) : Type 0 where
   pub number : new.lines ≡ old.lines + 1
   pub blank : new.blank ≡ old.blank + (if is_blank line then 1 else 0)
-  pub foreign : new.foreign ≡ old.foreign
+  pub foreign : new.warnings.foreign ≡ old.warnings.foreign
+  pub odd : new.warnings.odd ≡ (if is_odd line then with_odd old.warnings.odd place else old.warnings.odd)
   pub has_line : new.has_line ≡ (old.has_line || not (is_blank line))
   pub has_element : new.has_element ≡ (old.has_element || has_element line)
 

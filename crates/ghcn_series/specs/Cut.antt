@@ -116,7 +116,8 @@ pub record RefusesEnd {L : Type 0} (has_read : Reading L) (old : Cutter L) (faul
 pub record AddsLine {L : Type 0} (has_read : Reading L) (old new : Cutter L) (bytes : List ℕ) : Type 0 where
   pub numbered : new.line ≡ old.line + 1
   pub rest : new.rest.items ≡ []
-  pub counted : CountsLine old.counts new.counts (strip_carriage_return (old.rest.items ++ bytes))
+  pub counted : CountsLine old.counts new.counts (record { file = old.ended; line = old.line + 1 })
+      (strip_carriage_return (old.rest.items ++ bytes))
   pub read : Reads has_read old.reader new.reader
       (one_line (old.ended + 1) (old.line + 1) (old.rest.items ++ bytes))
 

@@ -1,13 +1,13 @@
 -- What a reader of pieces stands for, and what each of its steps adds.
 use Rattle.std.specs.Prelude.{◌≡◌, ℕ, List}
-use Rattle.ghcn_series.specs.declared.counts.Foreign.{Foreign}
+use Rattle.ghcn_series.specs.declared.counts.Warnings.{Warnings}
 use Rattle.ghcn_series.specs.declared.fault.DataFault.{DataFault}
 use Rattle.ghcn_series.specs.declared.pieces.DataReader.{DataReader}
 use Rattle.ghcn_series.specs.Cut as cut
 use Rattle.ghcn_series.specs.Fed.{Fed, files_of}
 use Rattle.ghcn_series.specs.Gathered.{HasReadByRows}
 use Rattle.ghcn_series.specs.Kept.{AreKept}
-use Rattle.ghcn_series.specs.LineKinds.{foreign_of}
+use Rattle.ghcn_series.specs.LineKinds.{warnings_of}
 use Rattle.ghcn_series.specs.Series.{Contents}
 
 -- a reader was fed this
@@ -26,9 +26,9 @@ TakesPiece old new bytes = cut.TakesPiece HasReadByRows old.cutter new.cutter by
 abbrev pub EndsFile : DataReader → DataReader → Type 0
 EndsFile old new = cut.EndsFile HasReadByRows old.cutter new.cutter
 
--- these are the foreign files among those that a reader was fed
-pub record AreForeignOf (r : DataReader) (foreign : Foreign) : Type 0 where
-  pub is : (fed : Fed) → HasFed r fed → foreign ≡ foreign_of (files_of fed.files)
+-- these are the foreign files among those that a reader was fed, and their odd lines
+pub record AreWarningsOf (r : DataReader) (warnings : Warnings) : Type 0 where
+  pub is : (fed : Fed) → HasFed r fed → warnings ≡ warnings_of (files_of fed.files)
 
 -- these are what is kept of the data of the files that a reader was fed
 pub record HoldsFed (r : DataReader) (held : Contents) : Type 0 where

@@ -1,8 +1,8 @@
 //! What is counted on the lines of daily files.
 
 ghost use Rattle.std.specs.Prelude.{◌≡◌, ℕ, ◌≤◌, ◌^◌, ◌&&◌, not, List, [], ◌∷◌, ◌++◌, length, IfSome};
-ghost use Rattle.ghcn_series.specs.LineKinds.{line_kind, foreign_of};
-ghost use Rattle.ghcn_series.specs.Counted.{HaveCounted, CountsLine, AddsForeign};
+ghost use Rattle.ghcn_series.specs.LineKinds.{line_kind, foreign_of, odd_among, warnings_of};
+ghost use Rattle.ghcn_series.specs.Counted.{HaveCounted, CountsLine, AddsForeign, with_odd};
 
 /// What stands on a line of daily files.
 #[derive(Clone, Copy, Debug, PartialEq, Eq)]
@@ -11,8 +11,10 @@ pub enum LineKind {
     Blank,
     /// The code of one of the five elements.
     OfElement,
-    /// Any other code.
+    /// Any other code, on a line of the form that all lines of daily files have.
     Other,
+    /// None of the five, on a line that hasn't that form.
+    Odd,
 }
 
 /// The files that have a line that isn't blank, and none of the five elements. They aren't daily files, mostly.
@@ -43,14 +45,74 @@ impl Foreign {
     }
 }
 
+/// Where a line of daily files stands.
+#[derive(Clone, Copy, Debug, PartialEq, Eq)]
+pub struct LinePlace {
+    /// The place of its file among all files, from 0.
+    pub file: u64,
+    /// Its number in the file, from 1.
+    pub line: u64,
+}
+
+/// The lines that aren't blank, have none of the five elements, and haven't the form that all lines of daily files
+/// have. Lines of daily files were lost with them, mostly.
+#[derive(Clone, Copy, Debug, PartialEq, Eq)]
+pub struct OddLines {
+    pub count: u64,
+    /// Where the first of them stands.
+    pub first: Option<LinePlace>,
+}
+
+impl OddLines {
+    /// No line.
+    pub fn none() -> Self
+        ensures { result ≡ odd_among [] }
+    {
+        OddLines {
+            count: 0,
+            first: None,
+        }
+    }
+
+    /// One line more, at a place behind the others, unless the number gets too great. It isn't built into the loop
+    /// over lines.
+    #[inline(never)]
+    fn add(&mut self, at: LinePlace) -> Option<()>
+        ensures { IfSome result (λ _. self.new ≡ with_odd self.old at) }
+    {
+        self.count = self.count.checked_add(1)?;
+        self.first = self.first.or(Some(at));
+        Some(())
+    }
+}
+
+/// What a run warns of, since it may not be what was meant.
+#[derive(Clone, Copy, Debug, PartialEq, Eq)]
+pub struct Warnings {
+    pub foreign: Foreign,
+    pub odd: OddLines,
+}
+
+impl Warnings {
+    /// Nothing.
+    pub fn none() -> Self
+        ensures { result ≡ warnings_of [] }
+    {
+        Warnings {
+            foreign: Foreign::none(),
+            odd: OddLines::none(),
+        }
+    }
+}
+
 /// What was counted on the lines of files that are read one after another.
 #[derive(Clone, Copy, Debug)]
 pub struct LineCounts {
     /// How many lines there are, blank ones too.
     pub lines: u64,
     pub blank: u64,
-    /// Among the files that were ended.
-    pub foreign: Foreign,
+    /// The foreign files among those that were ended, and the odd lines.
+    pub warnings: Warnings,
     /// Whether the current file has a line that isn't blank.
     has_line: bool,
     /// Whether it has a line of the five elements.
@@ -65,15 +127,16 @@ impl LineCounts {
         LineCounts {
             lines: 0,
             blank: 0,
-            foreign: Foreign::none(),
+            warnings: Warnings::none(),
             has_line: false,
             has_element: false,
         }
     }
 
-    /// Counts a line of the current file, unless a number gets too great.
-    pub(crate) fn add(&mut self, kind: LineKind) -> Option<()>
-        ensures { IfSome result (λ _. (line : List ℕ) → kind ≡ line_kind line → CountsLine self.old self.new line) }
+    /// Counts a line of the current file, which stands at a place, unless a number gets too great.
+    pub(crate) fn add(&mut self, kind: LineKind, place: LinePlace) -> Option<()>
+        ensures { IfSome result (λ _.
+            (line : List ℕ) → kind ≡ line_kind line → CountsLine self.old self.new place line) }
     {
         self.lines = self.lines.checked_add(1)?;
         match kind {
@@ -83,6 +146,10 @@ impl LineCounts {
                 self.has_element = true;
             }
             LineKind::Other => self.has_line = true,
+            LineKind::Odd => {
+                self.has_line = true;
+                self.warnings.odd.add(place)?;
+            }
         }
         Some(())
     }
@@ -94,7 +161,7 @@ impl LineCounts {
             → HaveCounted self.old ended whole → HaveCounted self.new (ended ++ whole ∷ []) [] }
     {
         if self.is_foreign() {
-            self.foreign.add(place);
+            self.warnings.foreign.add(place);
         }
         self.has_line = false;
         self.has_element = false;

@@ -10,9 +10,10 @@ ghost use Rattle.ghcn_series.specs.Fed.{IsOfMemory, nothing_fed};
 ghost use Rattle.ghcn_series.specs.LineKinds.{line_kind};
 ghost use Rattle.ghcn_series.specs.LinesRead.{HasReadSome, Reads, Refuses};
 
-use crate::counts::{LineCounts, LineKind};
+use crate::counts::{LineCounts, LineKind, LinePlace};
 use crate::data::MOST_FILES;
 use crate::fault::DataFault;
+use crate::form::has_form;
 use ghcn_fields::{Memory, is_blank, split_line, without_return};
 use std::alloc::Global;
 
@@ -23,24 +24,18 @@ pub trait LineReader {
     ghost use Rattle.ghcn_files.specs.declared.element.Keep.{Keep};
     ghost use Rattle.ghcn_files.specs.declared.station.Station.{Station};
     ghost use Rattle.ghcn_series.specs.DailyFaults.{FileLine, file_line};
-    ghost use Rattle.ghcn_series.specs.LineKinds.{line_kind};
+    ghost use Rattle.ghcn_series.specs.LineKinds.{has_element};
     ghost use Rattle.ghcn_series.specs.LinesRead.{HasReadSome, Reads, Refuses};
 
     /// A reader of lines for some stations, which keeps the values of some elements, has read lines none of which has
     /// an error.
     ghost has_read: { Self → List Station → Keep → List FileLine → Type 0 };
 
-    /// Adds a line that isn't blank, without its line end, and returns what is on it.
-    fn add(
-        &mut self,
-        alloc: Global,
-        file: u64,
-        line: u64,
-        bytes: &[u8],
-    ) -> Result<LineKind, DataFault>
+    /// Adds a line that isn't blank, without its line end, and answers whether it is of one of the five elements.
+    fn add(&mut self, alloc: Global, file: u64, line: u64, bytes: &[u8]) -> Result<bool, DataFault>
         requires some { is_blank bytes.now ≡ false }
         requires read { HasReadSome has_read self.old }
-        ensures kind { IfOk result (λ kind. kind ≡ line_kind bytes.now) }
+        ensures element { IfOk result (λ of_element. of_element ≡ has_element bytes.now) }
         ensures read { OnOk result (Reads has_read self.old self.new (file_line file (line, bytes.now) ∷ [])) }
         ensures fault { IfErr result (Refuses has_read self.old (file_line file (line, bytes.now) ∷ [])) };
 }
@@ -214,7 +209,11 @@ impl<L: LineReader + Drop> Cutter<L> {
             kind
         };
         self.line = line;
-        match self.counts.add(kind) {
+        let place = LinePlace {
+            file: self.ended,
+            line,
+        };
+        match self.counts.add(kind, place) {
             Some(()) => Ok(()),
             None => Err(DataFault::Memory(Memory)),
         }
@@ -259,7 +258,14 @@ fn read_line<L: LineReader>(
     if is_blank(bytes) {
         return Ok(LineKind::Blank);
     }
-    reader.add(alloc, file, line, bytes)
+    let of_element = reader.add(alloc, file, line, bytes)?;
+    Ok(if of_element {
+        LineKind::OfElement
+    } else if has_form(bytes) {
+        LineKind::Other
+    } else {
+        LineKind::Odd
+    })
 }
 
 /// The same of a line that came in pieces, which few do. It isn't built into the loop over lines.

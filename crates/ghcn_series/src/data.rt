@@ -55,7 +55,7 @@ impl Data {
             reader.piece(file);
             reader.end_of_file();
         }
-        let (dataset, _foreign) = reader.finish()?;
+        let (dataset, _warnings) = reader.finish()?;
         Ok(dataset)
     }
 

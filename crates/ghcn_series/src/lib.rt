@@ -10,6 +10,7 @@ mod cutter;
 mod data;
 mod days;
 mod fault;
+mod form;
 mod gathering;
 mod laws;
 mod months;
@@ -20,7 +21,7 @@ mod rows;
 mod series;
 mod station;
 
-pub use counts::{Foreign, LineCounts, LineKind};
+pub use counts::{Foreign, LineCounts, LineKind, LinePlace, OddLines, Warnings};
 pub use cutter::{Cut, Cutter, LineReader};
 pub use data::Data;
 pub use days::{BlockDays, Days};

@@ -5,7 +5,7 @@ ghost use Rattle.ghcn_files.specs.declared.element.Keep.TheVariants.{All, One};
 ghost use Rattle.ghcn_series.specs.Fed.{IsOfMemory, nothing_fed};
 ghost use Rattle.ghcn_series.specs.Pieces as pieces;
 
-use crate::counts::Foreign;
+use crate::counts::Warnings;
 use crate::cutter::Cutter;
 use crate::reader::Reader;
 use crate::rows::RowReader;
@@ -77,17 +77,17 @@ impl DataReader {
         self.cutter.end_of_file();
     }
 
-    /// The data of the files that were fed and which of these are foreign, or their first error: too many files come
-    /// before the error of a line. The current file is ended if it has a byte.
-    pub fn finish(self) -> Result<(Data, Foreign), DataFault>
+    /// The data of the files that were fed, with the foreign ones and the odd lines; or their first fault: too many
+    /// files come before the fault of a line. The current file is ended where it has a byte.
+    pub fn finish(self) -> Result<(Data, Warnings), DataFault>
         requires { pieces.HasFedSome self }
         ensures ok { IfOk result (λ read. pieces.HoldsFed self read.0) }
-        ensures foreign { IfOk result (λ read. pieces.AreForeignOf self read.1) }
+        ensures warnings { IfOk result (λ read. pieces.AreWarningsOf self read.1) }
         ensures err { IfErr result (pieces.RefusesFed self) }
     {
         let all = self.cutter.finish()?;
         match all.reader.reader.finish(self.alloc) {
-            Ok(dataset) => Ok((dataset, all.counts.foreign)),
+            Ok(dataset) => Ok((dataset, all.counts.warnings)),
             Err(memory) => Err(DataFault::Memory(memory)),
         }
     }

@@ -6,7 +6,6 @@ ghost use Rattle.ghcn_files.specs.Listed.{AreListed, place_of};
 ghost use Rattle.ghcn_series.specs.Gathered.{HasReadFor};
 ghost use Rattle.ghcn_series.specs.Steps.{HasSomeLines, ReadsMonth, KeepsRead, HoldsAll, IsForMonth, ForMonth};
 
-use crate::counts::LineKind;
 use crate::cutter::LineReader;
 use crate::parts::Parts;
 use crate::station::StationGathering;
@@ -43,14 +42,14 @@ impl LineReader for Reader {
         file: u64,
         line: u64,
         bytes: &[u8],
-    ) -> Result<LineKind, DataFault> {
+    ) -> Result<bool, DataFault> {
         let row = match read_days(bytes, self.keep) {
             Ok(Some(row)) => row,
-            Ok(None) => return Ok(LineKind::Other),
+            Ok(None) => return Ok(false),
             Err(why) => return Err(refused(file, line, DailyWhy::Line(why))),
         };
         match self.add_month(alloc, &row) {
-            Ok(true) => Ok(LineKind::OfElement),
+            Ok(true) => Ok(true),
             Ok(false) => Err(refused(file, line, DailyWhy::DuplicateMonth)),
             Err(memory) => Err(DataFault::Memory(memory)),
         }

@@ -2,7 +2,6 @@
 
 ghost use Rattle.std.specs.Prelude.{◌≡◌};
 
-use crate::counts::LineKind;
 use crate::cutter::LineReader;
 use crate::reader::{Reader, refused};
 use crate::{DailyWhy, DataFault};
@@ -29,14 +28,14 @@ impl LineReader for RowReader {
         file: u64,
         line: u64,
         bytes: &[u8],
-    ) -> Result<LineKind, DataFault> {
+    ) -> Result<bool, DataFault> {
         match self.months.read(bytes, self.reader.keep) {
             Ok(true) => {}
-            Ok(false) => return Ok(LineKind::Other),
+            Ok(false) => return Ok(false),
             Err(why) => return Err(refused(file, line, DailyWhy::Line(why))),
         }
         match self.reader.add_month(alloc, self.months.row()) {
-            Ok(true) => Ok(LineKind::OfElement),
+            Ok(true) => Ok(true),
             Ok(false) => Err(refused(file, line, DailyWhy::DuplicateMonth)),
             Err(memory) => Err(DataFault::Memory(memory)),
         }

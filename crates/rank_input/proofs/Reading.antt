@@ -10,7 +10,7 @@ use Rattle.ghcn_series.specs.Series.{Contents}
 use Rattle.ghcn_series.specs.DailyFaults.{is_memory as is_data_memory}
 use Rattle.ghcn_series.specs.Says.{data_of}
 use Rattle.ghcn_series.specs.Fed.{files_of}
-use Rattle.ghcn_series.specs.declared.counts.Foreign.{Foreign}
+use Rattle.ghcn_series.specs.declared.counts.Warnings.{Warnings}
 use Rattle.ghcn_series.specs.Pieces as pieces
 use Rattle.ghcn_series.specs.Pieces.{TakesPiece, EndsFile, HoldsFed, RefusesFed}
 use Rattle.rank_query.specs.Asked.{Asked}
@@ -21,7 +21,7 @@ use Rattle.rank_input.specs.declared.fault.Fault.{Fault}
 use Rattle.rank_input.specs.declared.intake.Intake.{Intake}
 use Rattle.rank_input.specs.Input.{of_data, is_memory, read_input}
 use Rattle.rank_input.specs.Takes.{Input, TakesBytes, TakesFileEnd}
-use Rattle.rank_input.specs.Taken.{HasTaken, IsReading, IsRead, fed_for, AreForeignOf, HoldsInput, RefusesInput}
+use Rattle.rank_input.specs.Taken.{HasTaken, IsReading, IsRead, fed_for, AreWarningsOf, HoldsInput, RefusesInput}
 
 -- an intake with a reader reads what it was given
 reading_of : (t : Intake) (q : Asked) (r : DataReader) (i : Input) → t.read ≡ Ok (q, r) → HasTaken t i
@@ -56,10 +56,10 @@ reader_ends old q r r' count is ends = record {
       };
 }
 
--- the foreign files of a reader are those of the intake
-pub reader_foreign : (t : Intake) (q : Asked) (r : DataReader) (foreign : Foreign) → t.read ≡ Ok (q, r)
-    → pieces.AreForeignOf r foreign → AreForeignOf t foreign
-reader_foreign t q r foreign is are = record {
+-- what a reader warns of is what the intake does
+pub reader_warnings : (t : Intake) (q : Asked) (r : DataReader) (warnings : Warnings) → t.read ≡ Ok (q, r)
+    → pieces.AreWarningsOf r warnings → AreWarningsOf t warnings
+reader_warnings t q r warnings is are = record {
   is = λ i taken.
       let reading = reading_of t q r i is taken in
       are.is (fed_for q reading.stations i.files) reading.fed;

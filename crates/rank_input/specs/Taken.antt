@@ -3,11 +3,11 @@ use Rattle.std.specs.Prelude.{◌≡◌, ℕ, List, Result, Ok, Err}
 use Rattle.ghcn_files.specs.declared.element.Keep.TheVariants.{One}
 use Rattle.ghcn_files.specs.declared.station.Station.{Station}
 use Rattle.ghcn_files.specs.Listed.{listed}
-use Rattle.ghcn_series.specs.declared.counts.Foreign.{Foreign}
+use Rattle.ghcn_series.specs.declared.counts.Warnings.{Warnings}
 use Rattle.ghcn_series.specs.declared.pieces.DataReader.{DataReader}
 use Rattle.ghcn_series.specs.Series.{Contents}
 use Rattle.ghcn_series.specs.Fed.{Files, Fed}
-use Rattle.ghcn_series.specs.LineKinds.{foreign_of}
+use Rattle.ghcn_series.specs.LineKinds.{warnings_of}
 use Rattle.ghcn_series.specs.Pieces.{HasFed}
 use Rattle.rank_query.specs.Asked.{Asked, score_element}
 use Rattle.rank_query.specs.Reading.{read_query}
@@ -55,9 +55,9 @@ HasTakenSome t = takes.HasTakenSome HasTaken t
 abbrev pub IsTrueOf : Intake → (List ℕ → List ℕ → List (List ℕ) → Type 0) → Type 0
 IsTrueOf t P = takes.IsTrueOf HasTaken t P
 
--- these are the foreign files among the daily files that an intake was given
-abbrev pub AreForeignOf : Intake → Foreign → Type 0
-AreForeignOf t foreign = IsTrueOf t (λ query stations files. foreign ≡ foreign_of files)
+-- these are the foreign files among the daily files that an intake was given, and their odd lines
+abbrev pub AreWarningsOf : Intake → Warnings → Type 0
+AreWarningsOf t warnings = IsTrueOf t (λ query stations files. warnings ≡ warnings_of files)
 
 -- an input has no error and asks this, and these are what the query needs of the data that it holds
 pub record Needs (query stations : List ℕ) (files : List (List ℕ)) (asked : Asked) (dataset : Contents) : Type 0 where

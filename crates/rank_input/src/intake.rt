@@ -3,12 +3,12 @@
 ghost use Rattle.std.specs.Prelude.{[], IfOk, IfErr, map};
 ghost use Rattle.rank_input.specs.Takes.{given};
 ghost use Rattle.rank_input.specs.Taken.{HasTaken, HasTakenSome, IsRead};
-ghost use Rattle.rank_input.specs.Taken.{AreForeignOf, HoldsInput, RefusesInput};
+ghost use Rattle.rank_input.specs.Taken.{AreWarningsOf, HoldsInput, RefusesInput};
 
 use crate::fault::Fault;
 use crate::taker::Taker;
 use ghcn_files::Stations;
-use ghcn_series::{Data, DataReader, Foreign};
+use ghcn_series::{Data, DataReader, Warnings};
 use rank_query::Query;
 use std::alloc::Global;
 
@@ -18,8 +18,8 @@ pub struct TakenInput {
     pub query: Query,
     /// What the query needs of the data.
     pub dataset: Data,
-    /// Which of the daily files are foreign.
-    pub foreign: Foreign,
+    /// The foreign ones among the daily files, and their odd lines.
+    pub warnings: Warnings,
 }
 
 /// What a run was given so far. It never returns an error while it is given more: the first one is
@@ -56,21 +56,21 @@ impl Intake {
         intake
     }
 
-    /// The query, what it needs of the data of all that was given, and the foreign files; or the first
-    /// error in the order: query, stations, number of daily files, files and lines in order. The
-    /// current file is ended if it has a byte.
+    /// The query, what it needs of the data of all that was given, the foreign files and the odd lines; or the first
+    /// fault in the order: query, stations, number of daily files, files and lines in order. The
+    /// current file is ended where it has a byte.
     pub fn finish(self) -> Result<TakenInput, Fault>
         requires { HasTakenSome self }
         ensures ok { IfOk result (λ taken. HoldsInput self taken.query taken.dataset) }
-        ensures foreign { IfOk result (λ taken. AreForeignOf self taken.foreign) }
+        ensures warnings { IfOk result (λ taken. AreWarningsOf self taken.warnings) }
         ensures err { IfErr result (RefusesInput self) }
     {
         let (query, reader) = self.read?;
-        let (dataset, foreign) = reader.finish()?;
+        let (dataset, warnings) = reader.finish()?;
         Ok(TakenInput {
             query,
             dataset,
-            foreign,
+            warnings,
         })
     }
 }

@@ -51,7 +51,7 @@ fn read_pieces(alloc: Global, stations: Stations) -> Result<Data, DataFault> {
     let mut reader = with_month(reader, b"ZZA00000001202008TMAX");
     reader.end_of_file();
     let reader = fed(reader, &month_of(b"ZZA00000001202009TMAX"));
-    let (data, _foreign) = reader.finish()?;
+    let (data, _warnings) = reader.finish()?;
     Ok(data)
 }
 

@@ -95,8 +95,8 @@ fn take_archive(
 
 /// Adds how many files are foreign and which is the first of them, and how many lines are of unlisted stations.
 pub(crate) fn add_counts(digest: &mut Digest, taken: &TakenInput) {
-    digest.add_number(taken.foreign.count);
-    digest.add_number(taken.foreign.first.unwrap_or(u64::MAX));
+    digest.add_number(taken.warnings.foreign.count);
+    digest.add_number(taken.warnings.foreign.first.unwrap_or(u64::MAX));
     digest.add_number(taken.dataset.unlisted());
 }
 

@@ -8,16 +8,17 @@ ghost use Rattle.ghcn_series.specs.Pieces as pieces;
 use super::STATIONS;
 use ghcn_fields::Memory;
 use ghcn_files::{Element, Keep, Stations};
-use ghcn_series::{Cutter, DataFault, DataReader, Foreign, Reader};
+use ghcn_series::{Cutter, DataFault, DataReader, Reader, Warnings};
 use std::alloc::Global;
 
-/// What a cutter finds: how many files and lines there are, how many of the lines are blank, and the foreign files.
+/// What a cutter finds: how many files and lines there are, how many of the lines are blank, the foreign files and the odd
+/// lines.
 #[derive(Clone, Copy)]
 pub(super) struct Found {
     pub(super) files: u64,
     pub(super) lines: u64,
     pub(super) blank: u64,
-    pub(super) foreign: Foreign,
+    pub(super) warnings: Warnings,
 }
 
 /// A cutter of lines for the two stations, which keeps these elements.
@@ -58,7 +59,7 @@ pub(super) fn found_by_lines(
         files: all.files,
         lines: all.counts.lines,
         blank: all.counts.blank,
-        foreign: all.counts.foreign,
+        warnings: all.counts.warnings,
     })
 }
 
@@ -82,23 +83,23 @@ fn reader_for(alloc: Global, stations: Stations, keep: Keep) -> Result<DataReade
     }
 }
 
-/// The foreign files that a reader of whole files finds among these.
-fn foreign_by_files(alloc: Global, keep: Keep, files: &[&[u8]]) -> Result<Foreign, DataFault> {
+/// The foreign files and odd lines that a reader of whole files finds among these.
+fn warnings_by_files(alloc: Global, keep: Keep, files: &[&[u8]]) -> Result<Warnings, DataFault> {
     let mut reader = reader(alloc, keep)?;
     for file in files {
         reader.piece(file);
         reader.end_of_file();
     }
-    let (_data, foreign) = reader.finish()?;
-    Ok(foreign)
+    let (_data, warnings) = reader.finish()?;
+    Ok(warnings)
 }
 
-/// The foreign files that a cutter finds among these.
-fn foreign_by_lines(alloc: Global, keep: Keep, files: &[&[u8]]) -> Result<Foreign, DataFault> {
-    Ok(found_by_lines(alloc, keep, files)?.foreign)
+/// Those that a cutter finds among these.
+fn warnings_by_lines(alloc: Global, keep: Keep, files: &[&[u8]]) -> Result<Warnings, DataFault> {
+    Ok(found_by_lines(alloc, keep, files)?.warnings)
 }
 
-/// Whether both have the same error, and otherwise find the same foreign files, whichever elements they keep.
+/// Whether both have the same fault, and else find the same foreign files and odd lines, whichever elements they keep.
 pub(super) fn are_alike(alloc: Global, files: &[&[u8]]) -> bool {
     let keeps = [
         Keep::All,
@@ -106,8 +107,8 @@ pub(super) fn are_alike(alloc: Global, files: &[&[u8]]) -> bool {
         Keep::One(Element::Tmin),
     ];
     for keep in keeps {
-        let by_files = foreign_by_files(alloc, keep, files);
-        if foreign_by_lines(alloc, keep, files) != by_files {
+        let by_files = warnings_by_files(alloc, keep, files);
+        if warnings_by_lines(alloc, keep, files) != by_files {
             return false;
         }
     }

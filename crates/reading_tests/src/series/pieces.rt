@@ -8,7 +8,7 @@ use super::{A, JULY, STATIONS, has_series};
 use crate::lines::line_of;
 use ghcn_fields::Memory;
 use ghcn_files::{Element, Keep, LineWhy, Stations};
-use ghcn_series::{DailyWhy, Data, DataFault, DataReader, Foreign};
+use ghcn_series::{DailyWhy, Data, DataFault, DataReader, Foreign, LinePlace, OddLines, Warnings};
 use std::alloc::Global;
 
 /// A reader of the two stations' files.
@@ -41,7 +41,7 @@ fn read_cut(alloc: Global, front: &[u8], behind: &[u8]) -> Result<Data, DataFaul
 pub(crate) fn data_of(reader: DataReader) -> Result<Data, DataFault>
     requires { HasFedSome reader }
 {
-    let (data, _foreign) = reader.finish()?;
+    let (data, _warnings) = reader.finish()?;
     Ok(data)
 }
 
@@ -176,8 +176,8 @@ fn files_end_where_they_are_ended(rt: HostRuntime) {
     assert_eq!(rt; fault_of_files(rt.alloc(), &july), Ok(Some(fault)));
 }
 
-/// The foreign files among some, each of which comes in halves.
-fn foreign_of(alloc: Global, files: &[&[u8]]) -> Result<Foreign, DataFault> {
+/// The foreign files and odd lines among some files, each of which comes in halves.
+fn warnings_of(alloc: Global, files: &[&[u8]]) -> Result<Warnings, DataFault> {
     let mut reader = reader(alloc)?;
     for file in files {
         let (front, behind) = file.split_at(file.len() / 2);
@@ -185,26 +185,40 @@ fn foreign_of(alloc: Global, files: &[&[u8]]) -> Result<Foreign, DataFault> {
         reader.piece(behind);
         reader.end_of_file();
     }
-    let (_data, foreign) = reader.finish()?;
-    Ok(foreign)
+    let (_data, warnings) = reader.finish()?;
+    Ok(warnings)
 }
 
-/// The foreign files among some, by a reader of files and by a cutter, and how many files, lines and blank lines the
-/// cutter finds.
-type Shown = (Foreign, Foreign, (u64, u64, u64));
+/// The foreign files and odd lines among some files, by a reader of files and by a cutter, and how many files, lines and
+/// blank lines the cutter finds.
+type Shown = (Warnings, Warnings, (u64, u64, u64));
 
 /// What both show of files.
 fn shown(alloc: Global, files: &[&[u8]]) -> Result<Shown, DataFault> {
-    let foreign = foreign_of(alloc, files)?;
+    let warnings = warnings_of(alloc, files)?;
     let found = found_by_lines(alloc, Keep::All, files)?;
     let counts = (found.files, found.lines, found.blank);
-    Ok((foreign, found.foreign, counts))
+    Ok((warnings, found.warnings, counts))
 }
 
-/// That many foreign files, of which this is the first, by both, and these counts.
-fn told(count: u64, first: Option<u64>, counts: (u64, u64, u64)) -> Result<Shown, DataFault> {
-    let foreign = Foreign { count, first };
-    Ok((foreign, foreign, counts))
+/// So many foreign files, of which this is the first, and so many odd lines, of which this is the first, by both, and
+/// these counts.
+fn told(
+    foreign: (u64, Option<u64>),
+    odd: (u64, Option<(u64, u64)>),
+    counts: (u64, u64, u64),
+) -> Result<Shown, DataFault> {
+    let warnings = Warnings {
+        foreign: Foreign {
+            count: foreign.0,
+            first: foreign.1,
+        },
+        odd: OddLines {
+            count: odd.0,
+            first: odd.1.map(|(file, line)| LinePlace { file, line }),
+        },
+    };
+    Ok((warnings, warnings, counts))
 }
 
 #[test]
@@ -217,31 +231,31 @@ fn files_without_one_of_the_elements(rt: HostRuntime) {
     let alloc = rt.alloc();
     assert_eq!(rt;
         shown(alloc, &[&july, b"", b" \r\n\n"]),
-        told(0, None, (3, 3, 2))
+        told((0, None), (0, None), (3, 3, 2))
     );
     assert_eq!(rt;
         shown(alloc, &[&july, &other, &table]),
-        told(2, Some(1), (3, 3, 0))
+        told((2, Some(1)), (1, Some((2, 1))), (3, 3, 0))
     );
     assert_eq!(rt;
         shown(alloc, &[&table, &other, &table]),
-        told(3, Some(0), (3, 3, 0))
+        told((3, Some(0)), (2, Some((0, 1))), (3, 3, 0))
     );
-    assert_eq!(rt; shown(alloc, &[&both, &unlisted]), told(0, None, (2, 4, 1)));
+    assert_eq!(rt; shown(alloc, &[&both, &unlisted]), told((0, None), (0, None), (2, 4, 1)));
     assert_eq!(rt;
         shown(alloc, &[b"", b"", &other]),
-        told(1, Some(2), (3, 1, 0))
+        told((1, Some(2)), (0, None), (3, 1, 0))
     );
     assert_eq!(rt;
         shown(alloc, &[b"\n", &table, &unlisted]),
-        told(1, Some(1), (3, 3, 1))
+        told((1, Some(1)), (1, Some((1, 1))), (3, 3, 1))
     );
     let fault = DataFault::DailyLine {
         file: 2,
         line: 1,
         why: DailyWhy::Line(LineWhy::Short),
     };
-    assert_eq!(rt; foreign_of(alloc, &[&other, b"short"]), Err(fault));
+    assert_eq!(rt; warnings_of(alloc, &[&other, b"short"]), Err(fault));
     let by_lines = found_by_lines(alloc, Keep::All, &[&other, b"short"]);
     assert_eq!(rt; by_lines.err(), Some(fault));
 }

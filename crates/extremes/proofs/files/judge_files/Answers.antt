@@ -31,4 +31,4 @@ returns g c =
     c.new-intake.ensures (subst (λ (fs : List (String Global)).
     FeedsFiles HasTaken c.new-intake.result c.feed_files.new.taker
     (map (λ f. bytes_of (string_bytes f)) fs)) c.deref-4.ensures.value c.in_ok-feed_files.ensures.fed)
-    c.judge_as.ensures.ok c.judge_as.ensures.foreign c.judge_as.ensures.err
+    c.judge_as.ensures.ok c.judge_as.ensures.warnings c.judge_as.ensures.err

@@ -31,8 +31,8 @@ returns-in-Ok-clause-faultless g c =
     IfOk-weaker c.ranked_by_crew-answer.result _ _ (λ papers are.
     faultless_input c.args.intake _ _ c.in-Ok.ensures.ok) c.ranked_by_crew-answer.ensures.ok
 
--- and these are its foreign files
-pub returns-in-Ok-clause-foreign : goal.returns-in-Ok-clause-foreign
-returns-in-Ok-clause-foreign g c =
-    IfOk-weaker c.ranked_by_crew-answer.result _ _ (λ papers are. c.in-Ok.ensures.foreign)
+-- and this is what it warns of
+pub returns-in-Ok-clause-warnings : goal.returns-in-Ok-clause-warnings
+returns-in-Ok-clause-warnings g c =
+    IfOk-weaker c.ranked_by_crew-answer.result _ _ (λ papers are. c.in-Ok.ensures.warnings)
     c.ranked_by_crew-answer.ensures.ok

@@ -6,7 +6,7 @@ pub returns-in-Ok : goal.returns-in-Ok
 returns-in-Ok g c =
     inr (record {
       answer = c.in-Ok.ranked.answer;
-      foreign = c.in-Ok.ranked.foreign;
+      warnings = c.in-Ok.ranked.warnings;
       ranked = c.in-Ok.ensures;
       printed = c.print_ranked.ensures;
     })

@@ -3,15 +3,15 @@ use Rattle.ghcn_files.specs.declared.element.Keep.TheVariants.{All, Nothing}
 use Rattle.ghcn_files.specs.Months.{read_month}
 use Rattle.ghcn_files.specs.Rows.{IsOfLine}
 use Rattle.ghcn_series.specs.DailyFaults.{file_line}
-use Rattle.ghcn_series.proofs.ReadLines.{read-passed, other_kind}
+use Rattle.ghcn_series.proofs.ReadLines.{read-passed, other_code}
 use Rattle.ghcn_description.specs.Steps.{CountsCode}
 use Rattle.ghcn_description.proofs.DescribedLines.{counted-other}
 use Rattle.ghcn_description.proofs.describer.RowDescriberLineReader.add.Goals as goal
 
 -- a line of another code
-pub returns-in-Ok-clause-kind : goal.returns-in-Ok-clause-kind
-returns-in-Ok-clause-kind c =
-    other_kind c.args.bytes.now (rw c.in-Ok-false.field-0-test at c.in-Ok-false.ensures) c.requires.some
+pub returns-in-Ok-clause-element : goal.returns-in-Ok-clause-element
+returns-in-Ok-clause-element c =
+    other_code c.args.bytes.now (rw c.in-Ok-false.field-0-test at c.in-Ok-false.ensures)
 
 -- it is counted
 pub returns-in-Ok-clause-read : goal.returns-in-Ok-clause-read

@@ -9,7 +9,7 @@ returns c = λ ended whole at is.
     elim c.if-is_foreign.branch [
       | then-is_foreign w ↦
           rw w.self-is (counted-end c.args.self.now _ ended whole
-          (foreign-added c.args.self.now.foreign w.add.new.self ended whole c.args.place at c.requires.few
+          (foreign-added c.args.self.now.warnings.foreign w.add.new.self ended whole c.args.place at c.requires.few
           (same_test c.args.self.now ended whole is ∙ sym c.is_foreign.ensures ∙ w.if-is_foreign.true) is.foreign
           w.add.ensures) is)
       | else-is_foreign w ↦

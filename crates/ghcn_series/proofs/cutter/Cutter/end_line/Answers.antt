@@ -21,12 +21,14 @@ returns-in-Some-clause-added g c =
           ap (λ (r : Cutter g.row.L.Denot). r.reader) (sym w.self-is) in
           let same : c.if-is_empty.self.counts ≡ old.counts =
           ap (λ (r : Cutter g.row.L.Denot). r.counts) w.self-is in
+          let ended : c.if-is_empty.self.ended ≡ old.ended =
+          ap (λ (r : Cutter g.row.L.Denot). r.ended) w.self-is in
           let kind : c.if-is_empty.kind ≡ line_kind (strip_carriage_return (old.rest.items ++ c.args.bytes.now)) =
           rw none (w.kind-is ∙ w.in_ok-kind.ensures.kind) in
           record {
             numbered = line;
             rest = ap (λ (r : Cutter g.row.L.Denot). r.rest.items) w.self-is ∙ none;
-            counted = rw same at (c.in-Some.ensures (strip_carriage_return (old.rest.items ++ c.args.bytes.now)) kind);
+            counted = rw (same, ended, line) at (c.in-Some.ensures (strip_carriage_return (old.rest.items ++ c.args.bytes.now)) kind);
             read = rw (← new, none, ← line) w.in_ok-kind.ensures.read;
           }
       | else-is_empty+in_ok-keep+in_ok-kind-2 w ↦
@@ -37,12 +39,14 @@ returns-in-Some-clause-added g c =
           ap (λ (r : Cutter g.row.L.Denot). r.reader) (sym w.self-is) in
           let same : c.if-is_empty.self.counts ≡ old.counts =
           ap (λ (r : Cutter g.row.L.Denot). r.counts) w.self-is ∙ w.in_ok-keep.ensures.counts in
+          let ended : c.if-is_empty.self.ended ≡ old.ended =
+          ap (λ (r : Cutter g.row.L.Denot). r.ended) w.self-is ∙ w.in_ok-keep.ensures.ended in
           let kind : c.if-is_empty.kind ≡ line_kind (strip_carriage_return (old.rest.items ++ c.args.bytes.now)) =
           rw (← bytes) (w.kind-is ∙ w.in_ok-kind-2.ensures.kind) in
           record {
             numbered = line;
             rest = ap (λ (r : Cutter g.row.L.Denot). r.rest.items) w.self-is ∙ search rules;
-            counted = rw same at (c.in-Some.ensures (strip_carriage_return (old.rest.items ++ c.args.bytes.now)) kind);
+            counted = rw (same, ended, line) at (c.in-Some.ensures (strip_carriage_return (old.rest.items ++ c.args.bytes.now)) kind);
             read = rw (← new, ← line, ← bytes, ← w.in_ok-keep.ensures.reader) w.in_ok-kind-2.ensures.read;
           }
     ]

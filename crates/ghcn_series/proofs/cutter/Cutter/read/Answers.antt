@@ -1,7 +1,7 @@
 use Rattle.std.proofs.Common.{◌∙◌, refl}
 use Rattle.std.proofs.lemmas.Result.{err_from_is_err_and, IfOk-weaker, IfErr-weaker}
 use Rattle.ghcn_series.specs.Fed.{more, with_files}
-use Rattle.ghcn_series.proofs.FedPieces.{piece-line, piece-found, piece-part, memory-found}
+use Rattle.ghcn_series.proofs.FedPieces.{piece-begun, piece-line, piece-found, piece-part, memory-found}
 use Rattle.ghcn_series.proofs.cutter.Cutter.read.Goals as goal
 
 -- a line with an error is found
@@ -14,6 +14,15 @@ returns-in_err-end_line-clause-fault g c =
           fed c.in_err-end_line.field-0.0 c.in-Some.ensures.parts c.in-Some.ensures.first
           (c.loop-line.invariant.ended ∙ at) c.in_err-end_line.ensures.fault (c.loop-line.invariant.read fed at is);
     })
+
+-- nothing is read yet
+pub loop-line-init : goal.loop-line-init
+loop-line-init g c = record {
+  ended = refl;
+  begun = refl;
+  some = c.requires.read;
+  read = λ fed at is. piece-begun c.args.self.now c.args.bytes.now fed is;
+}
 
 -- one line more is read
 pub loop-line-preserved : goal.loop-line-preserved

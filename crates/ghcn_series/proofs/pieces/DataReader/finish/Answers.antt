@@ -1,6 +1,7 @@
 use Rattle.ghcn_series.specs.DailyFaults.{daily_lines}
 use Rattle.ghcn_series.specs.Fed.{files_of}
 use Rattle.ghcn_series.specs.Says.{contents}
+use Rattle.ghcn_series.proofs.CountedLines.{warned}
 use Rattle.ghcn_series.proofs.ReadFiles.{data_of-right}
 use Rattle.ghcn_series.proofs.pieces.DataReader.finish.Goals as goal
 
@@ -17,6 +18,8 @@ returns-in-Ok-clause-ok c = record {
       };
 }
 
--- and its foreign files
-pub returns-in-Ok-clause-foreign : goal.returns-in-Ok-clause-foreign
-returns-in-Ok-clause-foreign c = record { is = λ fed is. (c.in_ok-all.ensures.ok.is fed is).counted.foreign }
+-- and what a run warns of
+pub returns-in-Ok-clause-warnings : goal.returns-in-Ok-clause-warnings
+returns-in-Ok-clause-warnings c = record {
+  is = λ fed is. warned c.in_ok-all.all.counts (files_of fed.files) (c.in_ok-all.ensures.ok.is fed is).counted;
+}

@@ -1,7 +1,7 @@
 use Rattle.std.proofs.Common.{◌≡◌, Ok, None, inr}
 use Rattle.ghcn_files.specs.Months.{read_month}
 use Rattle.ghcn_files.specs.Rows.{IsOfLine}
-use Rattle.ghcn_series.proofs.ReadLines.{read-passed, read-month, refused-month, other_kind, element_kind}
+use Rattle.ghcn_series.proofs.ReadLines.{read-passed, read-month, refused-month, other_code, element_code}
 use Rattle.ghcn_series.proofs.reader.ReaderLineReader.add.Goals as goal
 
 -- a line of none of the elements is skipped
@@ -11,9 +11,9 @@ returns-in-Ok-None-clause-read c =
     record { holds = λ stations keep before read. read-passed c.args.self.now _ is stations keep before read }
 
 -- which has another code
-pub returns-in-Ok-None-clause-kind : goal.returns-in-Ok-None-clause-kind
-returns-in-Ok-None-clause-kind c =
-    other_kind c.args.bytes.now (rw c.in-Ok-None.field-0-is at c.in-Ok-None.ensures) c.requires.some
+pub returns-in-Ok-None-clause-element : goal.returns-in-Ok-None-clause-element
+returns-in-Ok-None-clause-element c =
+    other_code c.args.bytes.now (rw c.in-Ok-None.field-0-is at c.in-Ok-None.ensures)
 
 -- a new month is read
 pub returns-in-Ok-true-clause-read : goal.returns-in-Ok-true-clause-read
@@ -28,11 +28,11 @@ returns-in-Ok-true-clause-read c =
     }
 
 -- of one of the elements
-pub returns-in-Ok-true-clause-kind : goal.returns-in-Ok-true-clause-kind
-returns-in-Ok-true-clause-kind c =
+pub returns-in-Ok-true-clause-element : goal.returns-in-Ok-true-clause-element
+returns-in-Ok-true-clause-element c =
     let is : IsOfLine c.args.self.now.keep c.args.bytes.now c.in-Ok-Some.row =
     rw c.in-Ok-Some.field-0-is at c.in-Ok-Some.ensures in
-    element_kind c.args.bytes.now is.month is.read c.requires.some
+    element_code c.args.bytes.now is.month is.read
 
 -- a month of an earlier line is refused
 pub returns-in-Ok-false-clause-fault : goal.returns-in-Ok-false-clause-fault

@@ -1,7 +1,7 @@
 use Rattle.std.proofs.Common.{◌≡◌, Ok, None, sym, subst, inr}
 use Rattle.ghcn_files.specs.Months.{read_month}
 use Rattle.ghcn_files.specs.Rows.{IsOfLine}
-use Rattle.ghcn_series.proofs.ReadLines.{read-passed, read-month, refused-month, other_kind, element_kind}
+use Rattle.ghcn_series.proofs.ReadLines.{read-passed, read-month, refused-month, other_code, element_code}
 use Rattle.ghcn_series.proofs.rows.RowReaderLineReader.add.Goals as goal
 
 -- a line of none of the elements is skipped
@@ -11,9 +11,9 @@ returns-in-Ok-false-clause-read c =
     record { holds = λ stations keep before read. read-passed c.args.self.now.reader _ is stations keep before read }
 
 -- which has another code
-pub returns-in-Ok-false-clause-kind : goal.returns-in-Ok-false-clause-kind
-returns-in-Ok-false-clause-kind c =
-    other_kind c.args.bytes.now (rw c.in-Ok-false.field-0-test at c.in-Ok-false.ensures) c.requires.some
+pub returns-in-Ok-false-clause-element : goal.returns-in-Ok-false-clause-element
+returns-in-Ok-false-clause-element c =
+    other_code c.args.bytes.now (rw c.in-Ok-false.field-0-test at c.in-Ok-false.ensures)
 
 -- a new month is read
 pub returns-in-Ok-true-add_month-clause-read : goal.returns-in-Ok-true-add_month-clause-read
@@ -28,11 +28,11 @@ returns-in-Ok-true-add_month-clause-read c =
     }
 
 -- of one of the elements
-pub returns-in-Ok-true-add_month-clause-kind : goal.returns-in-Ok-true-add_month-clause-kind
-returns-in-Ok-true-add_month-clause-kind c =
+pub returns-in-Ok-true-add_month-clause-element : goal.returns-in-Ok-true-add_month-clause-element
+returns-in-Ok-true-add_month-clause-element c =
     let is : IsOfLine c.args.self.now.reader.keep c.args.bytes.now c.read.new.self.row =
     rw c.in-Ok-true.field-0-test at c.in-Ok-true.ensures in
-    element_kind c.args.bytes.now is.month is.read c.requires.some
+    element_code c.args.bytes.now is.month is.read
 
 -- a month of an earlier line is refused
 pub returns-in-Ok-false-add_month-clause-fault : goal.returns-in-Ok-false-add_month-clause-fault

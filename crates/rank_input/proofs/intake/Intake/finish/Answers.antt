@@ -1,5 +1,5 @@
 use Rattle.std.proofs.lemmas.Result.{err_from_is_err_and}
-use Rattle.rank_input.proofs.Reading.{holds_input, reader_foreign, refuses_input}
+use Rattle.rank_input.proofs.Reading.{holds_input, reader_warnings, refuses_input}
 use Rattle.rank_input.proofs.intake.Intake.finish.Goals as goal
 
 -- a reader's error is that of the input
@@ -15,8 +15,8 @@ returns-clause-ok c =
     holds_input c.args.self c.in_ok-query.query c.in_ok-query.reader c.in_ok-dataset.dataset c.in_ok-query.was
     c.in_ok-dataset.ensures.ok
 
--- and its foreign files are the input's
-pub returns-clause-foreign : goal.returns-clause-foreign
-returns-clause-foreign c =
-    reader_foreign c.args.self c.in_ok-query.query c.in_ok-query.reader c.in_ok-dataset.foreign c.in_ok-query.was
-    c.in_ok-dataset.ensures.foreign
+-- and what it warns of is the input's
+pub returns-clause-warnings : goal.returns-clause-warnings
+returns-clause-warnings c =
+    reader_warnings c.args.self c.in_ok-query.query c.in_ok-query.reader c.in_ok-dataset.warnings c.in_ok-query.was
+    c.in_ok-dataset.ensures.warnings
