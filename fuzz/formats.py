@@ -15,6 +15,7 @@ FALLS = (b"PRCP", b"SNOW")
 MOST = 2**20
 MOST_CODES = 200
 BLANK, BAD = "blank", "bad"
+CODE = re.compile(rb"[A-Z][A-Z0-9]{3}")
 
 Station = namedtuple("Station", "id latitude longitude state name")
 Query = namedtuple("Query", "k kind element number region months first last text")
@@ -169,6 +170,23 @@ def foreign(texts):
     return b"foreign %d %d.dly\n" % (len(found), found[0]) if found else b""
 
 
+def is_odd(line):
+    """Whether a line has none of the five elements, and no code at all or more than blanks past its last column."""
+    code = field(line, 18, 21)
+    return code not in ELEMENTS and (not CODE.fullmatch(code) or bool(line[269:].strip(b" ")))
+
+
+def odd(texts):
+    """Each odd line, by its file and its number there, both from 1."""
+    return [(file, number) for file, text in enumerate(texts, 1) for number, line in lines(text) if is_odd(line)]
+
+
+def warnings(texts):
+    """The words on foreign files and on odd lines."""
+    found = odd(texts)
+    return foreign(texts) + (b"odd %d %d.dly:%d\n" % (len(found), *found[0]) if found else b"")
+
+
 # ---- descriptions ----
 
 def shown(code):
@@ -209,8 +227,9 @@ def describe(stations, daily):
     found += [b"other %s lines %d" % (code, others[code]) for code in named]
     further = sum(others.values()) - sum(others[code] for code in named)
     found += [b"others lines %d" % further] if further else []
-    found += [b"unlisted lines %d" % unlisted, b"blank lines %d" % (len(every) - len(full)), b"end", b""]
-    return 0, b"\n".join(found), foreign(daily)
+    found += [b"odd lines %d" % len(odd(daily)), b"unlisted lines %d" % unlisted]
+    found += [b"blank lines %d" % (len(every) - len(full)), b"end", b""]
+    return 0, b"\n".join(found), warnings(daily)
 
 
 # ---- queries ----
@@ -436,5 +455,5 @@ def rank(query_text, stations, daily, workers=4, guess=None):
     except Refused as refusal:
         return 1, b"", f"{refusal}\n".encode()
     everyone = sorted((it for its in found.values() for it in its), key=in_order)
-    told = foreign(daily) + (b"unlisted %d\n" % unlisted if unlisted else b"")
+    told = warnings(daily) + (b"unlisted %d\n" % unlisted if unlisted else b"")
     return 0, report(query, everyone), told

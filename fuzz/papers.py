@@ -156,8 +156,8 @@ def check(query_text, stations, daily, report, certificate):
     everyone = sorted((it for its in found.values() for it in its), key=formats.in_order)
     paper, wrong = verdict(query, found, everyone, report, certificate)
     if not wrong:
-        return 0, b"accepted\n", formats.foreign(daily)
-    return 1, f"refused {paper} line {wrong[0]} {wrong[1]}\n".encode(), formats.foreign(daily)
+        return 0, b"accepted\n", formats.warnings(daily)
+    return 1, f"refused {paper} line {wrong[0]} {wrong[1]}\n".encode(), formats.warnings(daily)
 
 
 def papers(query_text, stations, daily, version=2):

@@ -30,6 +30,7 @@ WORTH_THREADS = 1 << 24
 # The least and greatest value of a month, and whether days are missing or flagged.
 SHAPES = ((-300, 400, True), (0, 30, True), (0, 30, False), (0, 12, False), (-5, 5, True), (0, 0, False),
           (9, 10, False), (-9999, 99999, True))
+OTHERS = b"TAVG", b"WT01", b"    ", b"W\x80\xff ", b"1AVG", b"TAV:", b"T[01"
 
 
 def padding():
@@ -63,7 +64,7 @@ def daily_lines(rng, names, element):
     found = []
     for _ in range(rng.choice((0, 2, 3, 4, 5, 6, 8))):
         name = rng.choice(names) if names and rng.random() < 0.93 else rng.choice(IDS)
-        element = element if rng.random() < 0.7 else rng.choice(ELEMENTS + (b"TAVG", b"WT01", b"    ", b"W\x80\xff "))
+        element = element if rng.random() < 0.7 else rng.choice(ELEMENTS + OTHERS)
         any_month = rng.randint(12, 12 * 9998)
         month = rng.choice((12 * 2020 + 1, 12 * 2019 + 10, 12, 12 * 10000 - 3, 12 * 1969 + 10, any_month))
         shape = rng.choice(SHAPES)
