@@ -50,7 +50,7 @@ IsTextShown (Ok text) before after ending = IsShown text.bytes.items before afte
 IsTextShown (Err fault) before after ending = (ending ≡ Refused) × (after ≡ before)
 
 -- what is said of papers is printed as its line and ends the run as it says, or it ends as a file that couldn't be
--- written; a fault prints nothing and is refused
+-- written; an error prints nothing and is refused
 abbrev pub IsTold : Result (Judgement × Warnings) Fault → Option (List ℕ) → Option (List ℕ) → Ending → Type 0
 IsTold (Ok judged) before after ending =
     ((ending ≡ ending_of judged.0) × Appends before after (judgement_line judged.0)) ⊎ (ending ≡ File)

@@ -155,7 +155,7 @@ fn read_part<'p, A: Archive>(
 }
 
 /// Reads the station list, the report, the certificate and then the daily files in order, and judges
-/// the papers, as those of a whole of which the files are a part where that is so; beside it stand the
+/// the papers, as those of a whole of which the files are a part if that is so; beside it stand the
 /// foreign files and the odd lines. Or answers the path of the first file that can't be read.
 pub(crate) fn judge_files<'p, A: Archive>(
     alloc: Global,

@@ -71,7 +71,7 @@ pub fn judge_part(
     Ok(verdict)
 }
 
-/// Judges papers over what was given: as `judge_part` does where that is a part of their files, and
+/// Judges papers over what was given: as `judge_part` does if that is a part of their files, and
 /// as `judge` does where it isn't. Beside it stand the foreign files and the odd lines.
 pub fn judge_as(
     alloc: Global,

@@ -79,7 +79,7 @@ fn tell_warnings<R: Eprint>(rt: &R, warnings: Warnings, files: &[String]) {
     tell_odd(rt, warnings.odd, files);
 }
 
-/// Says how many of the files are foreign, and names the first of them by its path, where there is
+/// Says how many of the files are foreign, and names the first of them by its path, if there is
 /// one.
 fn tell_foreign<R: Eprint>(rt: &R, foreign: Foreign, files: &[String]) {
     let Foreign { count, first } = foreign;
@@ -101,8 +101,8 @@ fn tell_odd<R: Eprint>(rt: &R, odd: OddLines, files: &[String]) {
     }
 }
 
-/// Prints the papers behind a word on what was passed over, or tells the fault. The certificate
-/// goes to the file of a path, where one is named, and the report behind it.
+/// Prints the papers after a word on what was skipped, or prints the error. The certificate
+/// goes to the file of a path, if one is named, and the report after it.
 pub fn print_answer<R: Files + Eprint, W: Write, F: Display + Drop>(
     rt: &R,
     answer: Result<Papers, F>,

@@ -64,7 +64,7 @@ pub struct Ranked {
     pub answer: Result<Papers, Fault>,
     /// The foreign files and the odd lines: none where there was a fault.
     pub warnings: Warnings,
-    /// Nothing where there was a fault in what was given. To free many series takes a while, so a
+    /// Nothing if there was an error in what was given. To free many series takes a while, so a
     /// caller may use the answer first.
     pub dataset: Option<Data>,
 }

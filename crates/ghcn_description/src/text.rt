@@ -7,7 +7,7 @@
 //! lines N
 //! element CODE lines N series N days N flagged N from DAY to DAY   for each of the five elements
 //! other CODE lines N                                               for each other code
-//! others lines N                                                   where there are more codes
+//! others lines N                                                   if there are more codes
 //! odd lines N
 //! unlisted lines N
 //! blank lines N

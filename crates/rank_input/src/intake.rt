@@ -57,8 +57,8 @@ impl Intake {
     }
 
     /// The query, what it needs of the data of all that was given, the foreign files and the odd lines; or the first
-    /// fault in the order: query, stations, number of daily files, files and lines in order. The
-    /// current file is ended where it has a byte.
+    /// error in the order: query, stations, number of daily files, files and lines in order. The
+    /// current file is ended if it has a byte.
     pub fn finish(self) -> Result<TakenInput, Fault>
         requires { HasTakenSome self }
         ensures ok { IfOk result (λ taken. HoldsInput self taken.query taken.dataset) }
