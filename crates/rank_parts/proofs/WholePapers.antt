@@ -5,6 +5,7 @@ use Rattle.std.specs.List.{flat_map, sum, AllZip}
 use Rattle.ghcn_files.specs.declared.station.Station.{Station}
 use Rattle.ghcn_series.specs.Series.{Contents}
 use Rattle.ghcn_series.specs.Held.{IsContents}
+use Rattle.ghcn_series.specs.Laws.{DataAreRight}
 use Rattle.ghcn_series.specs.Says.{data_of}
 use Rattle.rank_query.specs.Asked.{Asked, IsAsked}
 use Rattle.rank_scores.specs.declared.candidate.Candidate.{Candidate}
@@ -219,9 +220,10 @@ files_filed : (parts : List (List (List ℕ)))
 files_filed [] = refl
 files_filed (p ∷ parts) = ap (λ (l : List (List ℕ)). p ++ l) (files_filed parts)
 
--- papers are right for all files if and only if all parts accept them
-pub of_files : PartsMakeTheWhole → CutByFiles → FilesMakeTheWhole
-of_files whole cut q stations parts ds c report certificate asked dataset are some =
-    whole q c ds report certificate asked dataset
+-- papers are right for all files exactly where all parts accept them
+pub of_files : PartsMakeTheWhole → CutByFiles → DataAreRight → FilesMakeTheWhole
+of_files whole cut are_right q list stations parts ds c report certificate asked lists are some =
+    whole q c ds report certificate asked
+    (are_right list stations (flat_map (λ (files : List (List ℕ)). files) parts) c lists are.all)
     (cut q stations (map without_papers parts) ds c (data_filed stations parts ds are.each)
     (ap (data_of stations) (files_filed parts) ∙ are.all) are.apart) some

@@ -3,6 +3,7 @@ use Rattle.std.specs.Prelude.{◌≡◌, ◌↔◌, ℕ, ◌<◌, List, length, 
 use Rattle.std.specs.List.{sum, flat_map, AllZip, IsDistinct}
 use Rattle.ghcn_files.specs.declared.station.Station.{Station}
 use Rattle.ghcn_files.specs.Ids.{same_id}
+use Rattle.ghcn_files.specs.Listed.{listed}
 use Rattle.ghcn_series.specs.Series.{Contents}
 use Rattle.ghcn_series.specs.Held.{IsContents}
 use Rattle.ghcn_series.specs.Says.{data_of}
@@ -16,7 +17,7 @@ use Rattle.rank_parts.specs.Parts.{part_verdict}
 
 -- ---- parts of data
 
--- a part accepts the papers: it has that many series, of that many lines
+-- a part accepts the papers: it has so many series, of so many lines
 abbrev pub Accepts : Asked → List ℕ → List ℕ → ℕ → Contents → ℕ → Type 0
 Accepts q report certificate lines d series = part_verdict q d report certificate ≡ Accepted series lines
 
@@ -27,7 +28,7 @@ pub record AllAccept (q : Asked) (report certificate : List ℕ) (ds : List Cont
   pub accepted : AllZip (Accepts q report certificate lines) ds series
   pub sum : sum series ≡ lines
 
--- papers are right for data that are cut into parts, at least one, if and only if all parts accept them
+-- papers are right for data that are cut into parts, at least one, exactly where all parts accept them
 abbrev pub PartsMakeTheWhole : Type 0
 PartsMakeTheWhole = (q : Asked) (c : Contents) (ds : List Contents) (report certificate : List ℕ) → IsAsked q
     → IsContents c → IsCut q c ds → 0 < length ds
@@ -46,11 +47,13 @@ pub record ArePartsOfData (q : Asked) (stations : List Station) (parts : List (L
   pub all : AreDataOf stations (flat_map (λ files. files) parts) c
   pub apart : IsDistinct same_id (morsel_ids q ds)
 
--- papers are right for all files if and only if each part of the files accepts them
+-- papers are right for all files, and the stations of a list without a fault, exactly where each part of the files
+-- accepts them
 abbrev pub FilesMakeTheWhole : Type 0
-FilesMakeTheWhole = (q : Asked) (stations : List Station) (parts : List (List (List ℕ))) (ds : List Contents)
-    (c : Contents) (report certificate : List ℕ) → IsAsked q → IsContents c → ArePartsOfData q stations parts ds c
-    → 0 < length ds → AllAccept q report certificate ds ↔ (IsReport q c report × IsCertificate q c certificate)
+FilesMakeTheWhole = (q : Asked) (list : List ℕ) (stations : List Station) (parts : List (List (List ℕ)))
+    (ds : List Contents) (c : Contents) (report certificate : List ℕ) → IsAsked q → listed list ≡ Ok stations
+    → ArePartsOfData q stations parts ds c → 0 < length ds
+    → AllAccept q report certificate ds ↔ (IsReport q c report × IsCertificate q c certificate)
 
 -- ---- one element
 

@@ -2,6 +2,7 @@
 
 ghost use Rattle.rank_parts.specs.Laws as laws;
 
+use ghcn_series::data_are_right;
 use rank_check::right_in_pieces;
 use rank_head::heads_are_right;
 use rank_papers::{certificates_are_read, reports_are_read};
@@ -14,12 +15,13 @@ pub fn parts_make_the_whole()
     ensures data { laws.PartsMakeTheWhole }
     ensures files { laws.FilesMakeTheWhole }
 {
-    // Papers are accepted in pieces, and a part's data have the pieces of its series.
+    // Papers are accepted in pieces, a part's data have the pieces of its series, and what is read is right.
     certificates_are_read();
     reports_are_read();
     heads_are_right();
     right_in_pieces();
     files_in_parts();
+    data_are_right();
 }
 
 /// What a part says rests on no series of other elements than the query's: it is the same if these

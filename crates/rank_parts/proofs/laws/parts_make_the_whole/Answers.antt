@@ -12,4 +12,4 @@ pub returns-clause-files : goal.returns-clause-files
 returns-clause-files c =
     of_files (whole c.certificates_are_read.ensures.read c.certificates_are_read.ensures.right
     c.reports_are_read.ensures.read c.reports_are_read.ensures.right c.heads_are_right.ensures.right
-    c.right_in_pieces.ensures.says) c.files_in_parts.ensures.cut
+    c.right_in_pieces.ensures.says) c.files_in_parts.ensures.cut c.data_are_right.ensures.held
