@@ -44,23 +44,30 @@ abbrev AreRightTextsFor : Asked → Contents → List ℕ → List ℕ → Type 
 AreRightTextsFor q c report certificate =
     IsRightReportFor q c report × (version : ℕ) × IsRightCertificateFor version q c certificate
 
+-- papers with what is found are the right ones
+pub right_texts : (q : Asked) (c : Contents) (report certificate : List ℕ) → ReportsAreFound → CertificatesAreFound
+    → IsAsked q → IsContents c
+    → (IsReport q c report × IsCertificate q c certificate) ↔ AreRightTextsFor q c report certificate
+right_texts q c report certificate reports certificates asked right = (
+  λ are. (
+    (reports q c report asked right).0 are.0,
+    are.1.version,
+    (certificates are.1.version q c certificate asked right).0 (are.1, refl),
+  ),
+  λ are. (
+    (reports q c report asked right).1 are.0,
+    ((certificates are.1 q c certificate asked right).1 are.2).0,
+  ),
+)
+
 -- if papers with what is found are accepted, the right ones are
 pub accepted_right : (q : Asked) (c : Contents) (report certificate : List ℕ) (v : Verdict) → ReportsAreFound
     → CertificatesAreFound → IsAsked q → IsContents c
     → (v ≡ Accepted) ↔ (IsReport q c report × IsCertificate q c certificate)
     → (v ≡ Accepted) ↔ AreRightTextsFor q c report certificate
-accepted_right q c report certificate v reports certificates asked right accepted = (
-  λ is.
-      let are = accepted.0 is in (
-        (reports q c report asked right).0 are.0,
-        are.1.version,
-        (certificates are.1.version q c certificate asked right).0 (are.1, refl),
-      ),
-  λ are. accepted.1 (
-    (reports q c report asked right).1 are.0,
-    ((certificates are.1 q c certificate asked right).1 are.2).0,
-  ),
-)
+accepted_right q c report certificate v reports certificates asked right accepted =
+    let are = right_texts q c report certificate reports certificates asked right in
+    (λ is. are.0 (accepted.0 is), λ is. accepted.1 (are.1 is))
 
 -- papers that are right for what a query needs of some data are right for these data, and the other way round
 right_for : (query : Asked) (dataset whole : Contents) (report certificate : List ℕ) → RightReportStays
@@ -83,8 +90,8 @@ right_for query dataset whole report certificate reports certificates needed =
     )
 
 -- papers that are right for the data of files are right for what the files say, and the other way round
-texts_said : ReportsAreSaid → CertificatesAreSaid → (query : Asked) (stations : List Station) (files : List (List ℕ))
-    (dataset : Contents) (report certificate : List ℕ) → data_of stations files ≡ Ok dataset
+pub texts_said : ReportsAreSaid → CertificatesAreSaid → (query : Asked) (stations : List Station)
+    (files : List (List ℕ)) (dataset : Contents) (report certificate : List ℕ) → data_of stations files ≡ Ok dataset
     → AreRightTextsFor query dataset report certificate ↔ AreRightTexts query stations files report certificate
 texts_said reports certificates query stations files dataset report certificate is = (
   λ are. (
@@ -255,9 +262,9 @@ serial_input t guess query dataset papers stay certificates holds measures are =
 
 -- the text of the description of an intake says what its files hold
 pub text_of_intake : (t : DescriptionIntake) (d : Description) (text : DescriptionText) → DescribesInput t d
-    → text.bytes.items ≡ description_text d → text.warnings ≡ d.warnings → DescribesIntake t text
-text_of_intake t d text describes is warnings = record {
+    → text.bytes.items ≡ description_text d → text.foreign ≡ d.foreign → DescribesIntake t text
+text_of_intake t d text describes is foreign = record {
   is = λ i taken.
       let of = describes.is i taken in
-      record { description = d; described = of; written = is; warnings = warnings ∙ of.describes.is.warnings };
+      record { description = d; described = of; written = is; foreign = foreign ∙ of.describes.is.foreign };
 }

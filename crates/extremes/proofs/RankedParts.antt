@@ -6,11 +6,11 @@ use Rattle.std.specs.List.{AllByRecursion, flat_map}
 use Rattle.ghcn_files.specs.declared.station.StationId.{StationId}
 use Rattle.ghcn_files.specs.declared.station.Station.{Station}
 use Rattle.ghcn_files.specs.Listed.{listed}
+use Rattle.ghcn_series.specs.Laws.{DataAreRight}
 use Rattle.ghcn_series.specs.Said.{said_by, stations_said}
 use Rattle.ghcn_series.specs.Says.{data_of}
 use Rattle.ghcn_series.specs.Series.{Contents}
 use Rattle.rank_query.specs.Asked.{Asked}
-use Rattle.rank_query.specs.Reading.{read_query}
 use Rattle.rank_query.proofs.Asks.{asks_read}
 use Rattle.rank_scores.specs.Cut.{Filed}
 use Rattle.rank_scores.specs.Morsels.{best_of_query, kth_of_query}
@@ -22,7 +22,7 @@ use Rattle.rank_merge.specs.declared.fault.MergeFault.{MergeFault}
 use Rattle.rank_merge.specs.Laws.{ArePapersOf, all_files, all_texts}
 use Rattle.rank_merge.specs.Merged.{Part, merged_certificate, merged_entries, merged_rows}
 use Rattle.rank_merge.specs.Merging.{Texts, papers_of, papers_unless, parts_from, twice}
-use Rattle.extremes.proofs.Readings.{one_value, data_is_said, held_is_said}
+use Rattle.extremes.proofs.Readings.{one_value, one_query, data_is_said, held_is_said}
 use Rattle.extremes.specs.Answer.{IsFaultless}
 use Rattle.extremes.specs.RankedInParts.{IsRankedPart, MergedIsRanked}
 
@@ -85,25 +85,26 @@ of_version_two q c bytes other h begins = by h.known
 
 -- ---- what is ranked in parts
 
-module _ (reports : ReportsAreFound) (certificates : CertificatesAreFound) (reports_said : ReportsAreSaid)
-    (certificates_said : CertificatesAreSaid) where
+module _ (are_right : DataAreRight) (reports : ReportsAreFound) (certificates : CertificatesAreFound)
+    (reports_said : ReportsAreSaid) (certificates_said : CertificatesAreSaid) where
   -- papers that a ranking answers to a part's files are right for them
-  ranked-right : (query stations : List ℕ) (q : Asked) (list : List Station) (p : Filed) → read_query query ≡ Ok q
-      → listed stations ≡ Ok list → IsRankedPart query stations p → ArePapersOf q list p.0 p.1
-  ranked-right query stations q list p asked lists is =
+  ranked-right : (stations : List ℕ) (q : Asked) (list : List Station) (p : Filed) → listed stations ≡ Ok list
+      → IsRankedPart q stations p → ArePapersOf q list p.0 p.1
+  ranked-right stations q list p lists is =
       let a = is.answer in
       let said = stations_said stations in
       let dataset = said_by said p.0 in
-      let read = said_held query stations p.0 is.faultless in
-      let same : a.asked ≡ q = one_value _ _ _ (asks_read query a.asked a.asks) asked in
-      let report = (reports a.asked dataset is.papers.report.items a.asks.can is.contents).1
+      let read = said_held is.query stations p.0 is.faultless in
+      let holds = said_read is.query stations p.0 list lists is.faultless in
+      let contents = are_right stations list p.0 dataset lists holds in
+      let same : a.asked ≡ q = one_query is.query a.asked q a.asks is.asks in
+      let report = (reports a.asked dataset is.papers.report.items a.asks.can contents).1
       ((reports_said a.asked said p.0 dataset is.papers.report.items read).1 a.right.report) in
-      let certificate = (certificates 2 a.asked dataset is.papers.certificate.items a.asks.can is.contents).1
+      let certificate = (certificates 2 a.asked dataset is.papers.certificate.items a.asks.can contents).1
       ((certificates_said 2 a.asked said p.0 dataset is.papers.certificate.items read).1 a.right.certificate) in
       record {
         dataset = dataset;
-        contents = is.contents;
-        read = said_read query stations p.0 list lists is.faultless;
+        read = holds;
         report = subst (λ (x : Asked). IsReport x dataset p.1.0) same
             (subst (IsReport a.asked dataset) (sym (ap (λ (t : List ℕ × List ℕ). t.0) is.texts)) report);
         certificate = subst (λ (x : Asked). IsCertificate x dataset p.1.1) same
@@ -111,31 +112,33 @@ module _ (reports : ReportsAreFound) (certificates : CertificatesAreFound) (repo
       }
 
   -- so are those of all parts
-  all-ranked-right : (query stations : List ℕ) (q : Asked) (list : List Station) (parts : List Filed)
-      → read_query query ≡ Ok q → listed stations ≡ Ok list → AllByRecursion (IsRankedPart query stations) parts
+  all-ranked-right : (stations : List ℕ) (q : Asked) (list : List Station) (parts : List Filed)
+      → listed stations ≡ Ok list → AllByRecursion (IsRankedPart q stations) parts
       → AllByRecursion (λ p. ArePapersOf q list p.0 p.1) parts
-  all-ranked-right query stations q list [] asked lists are = tt
-  all-ranked-right query stations q list (p ∷ ps) asked lists are = (
-    ranked-right query stations q list p asked lists are.0,
-    all-ranked-right query stations q list ps asked lists are.1,
+  all-ranked-right stations q list [] lists are = tt
+  all-ranked-right stations q list (p ∷ ps) lists are = (
+    ranked-right stations q list p lists are.0,
+    all-ranked-right stations q list ps lists are.1,
   )
 
   -- what is ranked in parts and merged is ranked
   pub merged-is-ranked : MergedIsRanked
-  merged-is-ranked query stations parts whole merged answer faultless contents ranked is =
+  merged-is-ranked query merging stations parts whole merged answer faultless ranked asks is =
       let said = stations_said stations in
       let files = all_files parts in
       let dataset = said_by said files in
       let r = faultless.read in
       let read = said_held query stations files faultless in
+      let holds = said_read query stations files r.list r.lists faultless in
+      let contents = are_right stations r.list files dataset r.lists holds in
       let bytes : List ℕ = merged.certificate.items in
       let report = (reports answer.asked dataset whole.report.items answer.asks.can contents).1
       ((reports_said answer.asked said files dataset whole.report.items read).1 answer.right.report) in
-      let same : is.asked ≡ answer.asked =
-      one_value _ _ _ is.read (asks_read query answer.asked answer.asks) in
-      let right = is.right r.list parts dataset refl
-      (all-ranked-right query stations is.asked r.list parts is.read r.lists ranked) contents
-      (said_read query stations files r.list r.lists faultless) in
+      let same : is.asked ≡ answer.asked = one_value _ _ _ is.read (asks_read merging answer.asked asks) in
+      let ranked_for : AllByRecursion (IsRankedPart is.asked stations) parts =
+      subst (λ (q : Asked). AllByRecursion (IsRankedPart q stations) parts) (sym same) ranked in
+      let right = is.right stations r.list parts dataset r.lists refl
+      (all-ranked-right stations is.asked r.list parts r.lists ranked_for) holds in
       let begins = begins_as_two is.asked (parts_from is.asked 1 (all_texts parts)) (merged.report.items, bytes)
       is.merged in
       let of_two : (h : IsCertificate is.asked dataset bytes) × (h.version ≡ 2) =

@@ -1,45 +1,56 @@
 -- What the verdicts of all parts of an archive are worth, as a statement for the contract of a public function.
-use Rattle.std.specs.Prelude.{◌≡◌, ℕ, ◌<◌, List, [], ◌∷◌, length, map}
-use Rattle.std.specs.List.{sum, flat_map, AllByRecursion, IsDistinct}
+use Rattle.std.specs.Prelude.{◌≡◌, ◌↔◌, ℕ, ◌<◌, List, length, map}
+use Rattle.std.specs.List.{sum, flat_map, AllByRecursion, AllZip, IsDistinct}
 use Rattle.ghcn_files.specs.Ids.{same_id}
+use Rattle.ghcn_series.specs.Said.{said_by, stations_said}
 use Rattle.ghcn_series.specs.Series.{Contents}
-use Rattle.ghcn_series.specs.Held.{IsContents}
 use Rattle.rank_query.specs.Asked.{Asked}
+use Rattle.rank_query.specs.Asks.{Asks}
 use Rattle.rank_scores.specs.Cut.{morsel_ids}
-use Rattle.rank_papers.specs.Report.{IsReport}
-use Rattle.rank_papers.specs.Certificate.{IsCertificate}
+use Rattle.rank_parts.specs.declared.verdict.PartVerdict.{PartVerdict}
 use Rattle.rank_parts.specs.declared.verdict.PartVerdict.TheVariants.{Accepted}
 use Rattle.rank_input.specs.Input.{IsReadOf}
-use Rattle.extremes.specs.Judged.{IsJudgedByPart}
+use Rattle.extremes.specs.Judged.{AreRightTexts, IsJudgedByPart}
 
--- the texts of a part's files, and a number of series
-abbrev pub Counted : Type 0
-Counted = List (List ℕ) × ℕ
+-- a part: a text of the query, its files, and its verdict on two papers
+pub record JudgedPart : Type 0 where
+  pub query : List ℕ
+  pub files : List (List ℕ)
+  pub verdict : PartVerdict
 
--- these files accept two papers: they have this number of series, of that many lines
-abbrev pub Accepts : List ℕ → List ℕ → List ℕ → List ℕ → ℕ → Counted → Type 0
-Accepts query stations report certificate lines p =
-    IsJudgedByPart query stations p.0 report certificate (Accepted p.1 lines)
+-- a part's text asks this query, in its own spelling, and its verdict is that on these papers
+pub record IsJudgedFor (asked : Asked) (stations report certificate : List ℕ) (p : JudgedPart) : Type 0 where
+  pub asks : Asks p.query asked
+  pub judged : IsJudgedByPart p.query stations p.files report certificate p.verdict
 
--- what the files of each part hold
-abbrev pub held_by : (query stations report certificate : List ℕ) (lines : ℕ) (parts : List Counted)
-    → AllByRecursion (Accepts query stations report certificate lines) parts → List Contents
-held_by query stations report certificate lines [] accept = []
-held_by query stations report certificate lines (p ∷ ps) accept =
-    accept.0.dataset ∷ held_by query stations report certificate lines ps accept.1
+-- the files of all parts, one part after the other
+abbrev pub files_of_parts : List JudgedPart → List (List ℕ)
+files_of_parts parts = flat_map (λ p. p.files) parts
 
--- there is a part, each accepts the papers, the numbers of their series add up to that of the lines, and no station has
--- an admitted day in two parts
-pub record AllAccept (query stations report certificate : List ℕ) (asked : Asked) (parts : List Counted) : Type 0 where
+-- what the files of each part say
+abbrev pub said_by_parts : List ℕ → List JudgedPart → List Contents
+said_by_parts stations parts = map (λ p. said_by (stations_said stations) p.files) parts
+
+-- no station has an admitted day in two parts
+abbrev pub ArePartsApart : Asked → List ℕ → List JudgedPart → Type 0
+ArePartsApart asked stations parts = IsDistinct same_id (morsel_ids asked (said_by_parts stations parts))
+
+-- a part accepts: it has so many series, of so many lines
+abbrev pub Accepts : ℕ → JudgedPart → ℕ → Type 0
+Accepts lines p series = p.verdict ≡ Accepted series lines
+
+-- each part accepts, and the numbers of their series add up to that of the lines
+pub record AllAccept (parts : List JudgedPart) : Type 0 where
   pub lines : ℕ
-  pub nonempty : 0 < length parts
-  pub accept : AllByRecursion (Accepts query stations report certificate lines) parts
-  pub sum : sum (map (λ p. p.1) parts) ≡ lines
-  pub apart : IsDistinct same_id (morsel_ids asked (held_by query stations report certificate lines parts accept))
+  pub series : List ℕ
+  pub accepted : AllZip (Accepts lines) parts series
+  pub sum : sum series ≡ lines
 
--- papers that all parts accept are right for all files one part after the other, if these have no error together
+-- a report is the right one and a certificate a right one for the files of all parts, one part after the other, exactly
+-- where all parts accept them: there is a part, all files have no fault together, and the parts are apart
 abbrev pub PartsJudgeTheWhole : Type 0
-PartsJudgeTheWhole = (query stations report certificate : List ℕ) (parts : List Counted) (asked : Asked)
-    (dataset : Contents) → IsReadOf query stations (flat_map (λ p. p.0) parts) asked dataset
-    → IsContents dataset → AllAccept query stations report certificate asked parts
-    → IsReport asked dataset report × IsCertificate asked dataset certificate
+PartsJudgeTheWhole = (query stations report certificate : List ℕ) (parts : List JudgedPart) (asked : Asked)
+    (dataset : Contents) → IsReadOf query stations (files_of_parts parts) asked dataset → 0 < length parts
+    → AllByRecursion (IsJudgedFor asked stations report certificate) parts → ArePartsApart asked stations parts
+    → AllAccept parts
+    ↔ AreRightTexts asked (stations_said stations) (files_of_parts parts) report certificate

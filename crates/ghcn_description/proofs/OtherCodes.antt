@@ -48,7 +48,7 @@ or_second a true e f = refl
 or_second true false e f = absurd cc
 or_second false false e f = absurd cc
 
--- a line whose code is the last one is a further line no more, where no line has the new code
+-- a line whose code is the last one is a further line no more, if no line has the new code
 one-split : (o a k b z : Bool) → (o ≡ true → k ≡ true → ⊥) → (z ≡ true → a ≡ false) → (z ≡ true → b ≡ false)
     → cond {A = ℕ} (o && not (a || (k || b))) 1 0
     ≡ cond (o && not ((a || b) || (z || false))) 1 0 + cond (o && z) 1 0
@@ -67,7 +67,7 @@ one-split true false false false false never apart beside = refl
 apart : (a b : List ℕ) → Precedes a b → same_bytes a b ≡ false
 apart a b e = sym (is_eq-slice_cmp a b) ∙ ap is_eq e
 
--- so is the one that comes behind
+-- so is the one that comes after
 apart-behind : (a b : List ℕ) → Precedes b a → same_bytes a b ≡ false
 apart-behind a b e =
     sym (is_eq-slice_cmp a b) ∙ ap is_eq (nat_list_cmp_total.antisymm a b ∙ ap ordering_reverse e)
@@ -94,7 +94,7 @@ rise-front (a ∷ xs) ys r = (front xs r.0, rise-front xs ys r.1)
     front [] h = tt
     front (c ∷ cs) h = (h.0, front cs h.1)
 
--- a code between those before it and those behind it
+-- a code between those before it and those after it
 rise-between : (xs ys : List (List ℕ)) (k : List ℕ) → Rise (xs ++ ys) → AllBefore xs k → IsBefore k ys
     → Rise (xs ++ k ∷ ys)
 unfolding IsStrictlySortedBy
@@ -106,7 +106,7 @@ rise-between (a ∷ xs) ys k r before behind =
     around [] h = (before.0, h)
     around (c ∷ cs) h = (h.0, around cs h.1)
 
--- of codes that rise around one, those before it and those behind it
+-- of codes that rise around one, those before it and those after it
 around_one : (xs ys : List (List ℕ)) (k : List ℕ) → Rise (xs ++ k ∷ ys) → AllBefore xs k × IsBefore k ys
 unfolding IsStrictlySortedBy
 around_one [] ys k r = (tt, r.0)
@@ -134,7 +134,7 @@ none_before : (ks : List (List ℕ)) (k : List ℕ) → AllBefore ks k → list_
 none_before [] k h = refl
 none_before (c ∷ ks) k h = rw (apart c k h.0) (none_before ks k h.1)
 
--- nor among those that come behind it
+-- nor among those that come after it
 pub none_behind : (ks : List (List ℕ)) (k : List ℕ) → IsBefore k ks → list_any (λ c. same_bytes c k) ks ≡ false
 none_behind [] k h = refl
 none_behind (c ∷ ks) k h = rw (apart-behind c k h.0) (none_behind ks k h.1)
@@ -180,13 +180,13 @@ module _ (ls : List FileLine) (l : FileLine) (other : is_other l ≡ true) where
   stay-before [] h all = tt
   stay-before (c ∷ cs) h all = (stays c (apart-behind code c.code h.0) all.0, stay-before cs h.1 all.1)
 
-  -- and those of codes that come behind it
+  -- and those of codes that come after it
   stay-behind : (cs : List CodeCount) → IsBefore code (codes_of cs) → AllByRecursion (IsCounted ls) cs
       → AllByRecursion (IsCounted after) cs
   stay-behind [] h all = tt
   stay-behind (c ∷ cs) h all = (stays c (apart code c.code h.0) all.0, stay-behind cs h.1 all.1)
 
-  -- a line is as far behind the codes as it was, and the new one is among them
+  -- a line is as far after the codes as it was, and the new one is among them
   behind-more : (ks : List (List ℕ)) → has_code_among ks l ≡ true → AllByRecursion (IsBehind ks) ls
       → AllByRecursion (IsBehind ks) after
   behind-more ks among all =
@@ -240,7 +240,7 @@ module _ (ls : List FileLine) (l : FileLine) (other : is_other l ≡ true) where
           let before : c.lines ≡ lines_with ls code = h.1 ∙ ap (lines_with ls) is in
           (omega (arith, more), (omega (arith, more, before, one)) ∙ ap (lines_with after) (sym (same ∙ is)))
 
-  -- a line of a code behind as many as are named
+  -- a line of a code after as many as are named
   pub passed_over : (cs : List CodeCount) (n : ℕ) → length cs ≡ most_codes → AllBefore (codes_of cs) code
       → AreOthers ls cs n → AreOthers after cs (n + 1)
   passed_over cs n full before of =
@@ -300,7 +300,7 @@ module _ (ls : List FileLine) (l : FileLine) (other : is_other l ≡ true) where
         rw (list_any-append same xs ys)
         (fewer (is_other x) (list_any same xs) (same code) (list_any same ys) test)
 
-    -- where fewer codes are there than may be named, no line has a further one
+    -- if fewer codes are there than may be named, no line has a further one
     none_behind_few : (zs : List FileLine) → length (xs ++ ys) < most_codes
         → AllByRecursion (IsBehind (xs ++ ys)) zs → AllByRecursion (IsBehind (xs ++ code ∷ ys)) zs
         × (count_by (λ x. is_other x && not (has_code_among (xs ++ code ∷ ys) x)) zs ≡ 0)
@@ -327,7 +327,7 @@ module _ (ls : List FileLine) (l : FileLine) (other : is_other l ≡ true) where
         not_true true never = absurd (never refl)
         not_true false never = refl
 
-  -- a line of a new code, where there is room
+  -- a line of a new code, if there is room
   pub added : (xs ys : List CodeCount) (new : CodeCount) (n : ℕ) → new.code ≡ code → new.lines ≡ 1
       → AllBefore (codes_of xs) code → IsBefore code (codes_of ys) → length (xs ++ ys) < most_codes
       → AreOthers ls (xs ++ ys) n → AreOthers after (xs ++ new ∷ ys) n
@@ -391,7 +391,7 @@ module _ (ls : List FileLine) (l : FileLine) (other : is_other l ≡ true) where
     before_last : AllBefore (xs ++ ys) z
     before_last = (around_one (xs ++ ys) [] z rising).0
 
-    -- the new codes come before what comes behind the last, or is it
+    -- the new codes come before what comes after the last, or is it
     new-before : (k : List ℕ) → AllBefore (xs ++ ys) k → Precedes code k → AllBefore new k
     new-before k all first =
         each-append (λ c. Precedes c k) xs (code ∷ ys) (all-front (λ c. Precedes c k) xs ys all)
@@ -401,7 +401,7 @@ module _ (ls : List FileLine) (l : FileLine) (other : is_other l ≡ true) where
     new-full : length new ≡ most_codes
     new-full = omega (arith, full, length-append (xs ++ ys) (z ∷ []), length-append xs ys, length-append xs (code ∷ ys))
 
-    -- a line that isn't among the new codes has the last one, or one behind it
+    -- a line that isn't among the new codes has the last one, or one after it
     new-behind : (x : FileLine) → IsBehind old x → IsBehind new x
     new-behind x was test = by (has_code_among old x) refl
       where
@@ -478,7 +478,7 @@ module _ (ls : List FileLine) (l : FileLine) (other : is_other l ≡ true) where
             (apart-last xs (all-front (λ c. Precedes c z) xs ys before_last))
             (apart-last ys (all-back (λ c. Precedes c z) xs ys before_last)))
 
-  -- a line of a new code, where the last one leaves
+  -- a line of a new code, if the last one leaves
   pub replaced : (xs ys : List CodeCount) (new last : CodeCount) (n : ℕ) → new.code ≡ code → new.lines ≡ 1
       → AllBefore (codes_of xs) code → IsBefore code (codes_of ys) → Precedes code last.code
       → length ((xs ++ ys) ++ last ∷ []) ≡ most_codes → AreOthers ls ((xs ++ ys) ++ last ∷ []) n
@@ -542,7 +542,7 @@ module _ (ls : List FileLine) (l : FileLine) (other : is_other l ≡ true) where
   all-codes P [] h = tt
   all-codes P (c ∷ cs) h = (h.0, all-codes P cs h.1)
 
-  -- a line of a code that belongs behind as many as are named
+  -- a line of a code that belongs after as many as are named
   pub passed_over-at : (cs : List CodeCount) (place n : ℕ) → IsPlaceOf code cs place → most_codes ≤ place
       → AreOthers ls cs n → AreOthers after cs (n + 1)
   passed_over-at cs place n at full of =
@@ -552,7 +552,7 @@ module _ (ls : List FileLine) (l : FileLine) (other : is_other l ≡ true) where
       passed_over cs n many (all-codes (λ k. Precedes k code) cs
       (subst (AllByRecursion (λ c. Precedes c.code code)) all at.before)) of
 
-  -- a line of a new code at its place, where there is room
+  -- a line of a new code at its place, if there is room
   pub added-at : (cs : List CodeCount) (place n : ℕ) (new : CodeCount) → new.code ≡ code → new.lines ≡ 1
       → IsPlaceOf code cs place → length cs < most_codes → AreOthers ls cs n → AreOthers after (insert cs place new) n
   added-at cs place n new is one at room of =
@@ -561,7 +561,7 @@ module _ (ls : List FileLine) (l : FileLine) (other : is_other l ≡ true) where
       (all-codes (Precedes code) (drop place cs) at.behind) (omega (arith, room, ap length whole))
       (subst (λ c. AreOthers ls c n) (sym whole) of)
 
-  -- the same, where the last one leaves
+  -- the same, if the last one leaves
   pub replaced-at : (cs kept : List CodeCount) (last : CodeCount) (place n : ℕ) (new : CodeCount) → new.code ≡ code
       → new.lines ≡ 1 → cs ≡ kept ++ last ∷ [] → IsPlaceOf code cs place → place < most_codes
       → most_codes ≤ length cs → AreOthers ls cs n → AreOthers after (insert kept place new) (n + last.lines)
@@ -633,7 +633,7 @@ all-take P [] (suc i) h = tt
 all-take P (x ∷ xs) zero h = tt
 all-take P (x ∷ xs) (suc i) h = (h 0 x (omega arith), all-take P xs i (λ k d lt. h (suc k) d (omega arith)))
 
--- and from a place on, of those behind it
+-- and from a place on, of those after it
 all-drop : {X : Type 0} (P : X → Type 0) (xs : List X) (i : ℕ)
     → ((k : ℕ) (d : X) → i ≤ k → k < length xs → P (get_or xs k d)) → AllByRecursion P (drop i xs)
 all-drop P [] zero h = tt
@@ -645,7 +645,7 @@ all-drop P (x ∷ xs) zero h = (
 )
 all-drop P (x ∷ xs) (suc i) h = all-drop P xs i (λ k d low lt. h (suc k) d (omega arith) (omega arith))
 
--- where a search answers a place for a code, it belongs there
+-- if a search answers a place for a code, it belongs there
 pub place-is : (code : List ℕ) (cs : List CodeCount) (i : ℕ) → i ≤ length cs
     → IsPartitionPoint (λ c. slice_cmp nat_cmp c.code code ≡ Less) (λ c. slice_cmp nat_cmp c.code code ≡ Greater) cs i
     → IsPlaceOf code cs i

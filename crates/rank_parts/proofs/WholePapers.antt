@@ -220,7 +220,7 @@ files_filed : (parts : List (List (List ℕ)))
 files_filed [] = refl
 files_filed (p ∷ parts) = ap (λ (l : List (List ℕ)). p ++ l) (files_filed parts)
 
--- papers are right for all files exactly where all parts accept them
+-- papers are right for all files if and only if all parts accept them
 pub of_files : PartsMakeTheWhole → CutByFiles → DataAreRight → FilesMakeTheWhole
 of_files whole cut are_right q list stations parts ds c report certificate asked lists are some =
     whole q c ds report certificate asked

@@ -17,7 +17,7 @@ use Rattle.rank_parts.specs.Parts.{part_verdict}
 
 -- ---- parts of data
 
--- a part accepts the papers: it has so many series, of so many lines
+-- a part accepts the papers: it has that many series, of that many lines
 abbrev pub Accepts : Asked → List ℕ → List ℕ → ℕ → Contents → ℕ → Type 0
 Accepts q report certificate lines d series = part_verdict q d report certificate ≡ Accepted series lines
 
@@ -28,7 +28,7 @@ pub record AllAccept (q : Asked) (report certificate : List ℕ) (ds : List Cont
   pub accepted : AllZip (Accepts q report certificate lines) ds series
   pub sum : sum series ≡ lines
 
--- papers are right for data that are cut into parts, at least one, exactly where all parts accept them
+-- papers are right for data that are cut into parts, at least one, if and only if all parts accept them
 abbrev pub PartsMakeTheWhole : Type 0
 PartsMakeTheWhole = (q : Asked) (c : Contents) (ds : List Contents) (report certificate : List ℕ) → IsAsked q
     → IsContents c → IsCut q c ds → 0 < length ds
