@@ -60,7 +60,7 @@ right_texts q c report certificate reports certificates asked right = (
   ),
 )
 
--- if papers with what is found are accepted, the right ones are
+-- where papers with what is found are accepted, the right ones are
 pub accepted_right : (q : Asked) (c : Contents) (report certificate : List ℕ) (v : Verdict) → ReportsAreFound
     → CertificatesAreFound → IsAsked q → IsContents c
     → (v ≡ Accepted) ↔ (IsReport q c report × IsCertificate q c certificate)
@@ -262,9 +262,9 @@ serial_input t guess query dataset papers stay certificates holds measures are =
 
 -- the text of the description of an intake says what its files hold
 pub text_of_intake : (t : DescriptionIntake) (d : Description) (text : DescriptionText) → DescribesInput t d
-    → text.bytes.items ≡ description_text d → text.foreign ≡ d.foreign → DescribesIntake t text
-text_of_intake t d text describes is foreign = record {
+    → text.bytes.items ≡ description_text d → text.warnings ≡ d.warnings → DescribesIntake t text
+text_of_intake t d text describes is warnings = record {
   is = λ i taken.
       let of = describes.is i taken in
-      record { description = d; described = of; written = is; foreign = foreign ∙ of.describes.is.foreign };
+      record { description = d; described = of; written = is; warnings = warnings ∙ of.describes.is.warnings };
 }

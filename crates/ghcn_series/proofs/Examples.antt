@@ -295,8 +295,11 @@ right_data = (refl, data-are-right list both mixed _ refl in_order)
 -- no data have two series of a station and element, one of an unlisted station, or one without a day
 not_data : (IsContents (held (series alpha Tmax ((pos 18444, pos 1) ∷ []) ∷ series alpha Tmax ((pos 18445, pos 1) ∷ [])
     ∷ [])) → ⊥)
-    × (IsContents (record { stations = alpha ∷ []; series = series bravo Tmax ((pos 18444, pos 1) ∷ []) ∷ [];
-    unlisted = 0 }) → ⊥)
+    × (IsContents (record {
+      stations = alpha ∷ [];
+      series = series bravo Tmax ((pos 18444, pos 1) ∷ []) ∷ [];
+      unlisted = 0;
+    }) → ⊥)
     × (IsContents (held (series alpha Tmax [] ∷ [])) → ⊥)
 unfolding IsDistinct
 not_data = (

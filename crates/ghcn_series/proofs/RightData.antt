@@ -188,9 +188,11 @@ module _ (stations : List Station) (files : List (List ℕ)) (held : Contents)
       let one = map_in (made of.0) elements u of.2 in
       let here : is_listed stations of.0.id ≡ true =
       in_any (is_station_of of.0.id) stations of.0 of.1 (same_id-refl of.0.id) in
-      subst (λ v. (is_listed stations v.id ≡ true) × IsSeries v) one.2
-      (here, one_right of.0 one.0 here
-      (subst (λ v. not (length v.days == 0) ≡ true) (sym one.2) kept.1))
+      subst (λ v. (is_listed stations v.id ≡ true) × IsSeries v) one.2 (
+        here,
+        one_right of.0 one.0 here
+            (subst (λ v. not (length v.days == 0) ≡ true) (sym one.2) kept.1),
+      )
 
   -- so what is held is right
   pub held-right : IsContents held

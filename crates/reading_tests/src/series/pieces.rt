@@ -241,7 +241,10 @@ fn files_without_one_of_the_elements(rt: HostRuntime) {
         shown(alloc, &[&table, &other, &table]),
         told((3, Some(0)), (2, Some((0, 1))), (3, 3, 0))
     );
-    assert_eq!(rt; shown(alloc, &[&both, &unlisted]), told((0, None), (0, None), (2, 4, 1)));
+    assert_eq!(rt;
+        shown(alloc, &[&both, &unlisted]),
+        told((0, None), (0, None), (2, 4, 1))
+    );
     assert_eq!(rt;
         shown(alloc, &[b"", b"", &other]),
         told((1, Some(2)), (0, None), (3, 1, 0))
