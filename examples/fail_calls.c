@@ -6,7 +6,7 @@
                full: writes take this many bytes in all, and then there is no space; FAIL_AT is that number;
                most: each read gives at most FAIL_AT bytes, after three million of them what it asks for
    FAIL_FILE   a file's name without its folder. FAIL_HOW cut: its reads end after FAIL_AT bytes;
-               missing: it can't be opened
+               missing: it can't be opened; denied: it may not be opened
    FAIL_MARK   a file that is left if a call meets this for the first time. It has the path of that call's
                file: as it was given if it was to be opened, as the system names it if it is open,
                and none for the start of a thread */
@@ -78,8 +78,8 @@ int open(const char *path, int flags, ...) {
         return -1;
     const char *name = strrchr(path, '/');
     int is_named = !strcmp(name ? name + 1 : path, said("FAIL_FILE"));
-    if (is_named && is_how("missing")) {
-        errno = ENOENT;
+    if (is_named && (is_how("missing") || is_how("denied"))) {
+        errno = is_how("missing") ? ENOENT : EACCES;
         return -1;
     }
     int file = (int)syscall(SYS_openat, AT_FDCWD, path, flags, mode);

@@ -21,12 +21,14 @@ pub const WORKERS_HELP: &str =
 
 /// The help of `--certificate` of `rank`.
 pub const CERTIFICATE_HELP: &str =
-    "A file to write the certificate to, which isn't one that the run reads. It has a line
-          for each station series of the query, with a bound on the series' records";
+    "A file to write the certificate to: new, empty or an earlier certificate, and not one that
+          the run reads. It has a line for each station series of the query, with a bound on the
+          series' records";
 
 /// The help of `--certificate` of `merge`.
 pub const MERGED_CERTIFICATE_HELP: &str =
-    "A file to write the merged certificate to, which isn't one that the run reads";
+    "A file to write the merged certificate to: new, empty or an earlier certificate, and not
+          one that the run reads";
 
 /// The help of `--part`.
 pub const PART_HELP: &str =

@@ -60,7 +60,7 @@ right_texts q c report certificate reports certificates asked right = (
   ),
 )
 
--- where papers with what is found are accepted, the right ones are
+-- if papers with what is found are accepted, the right ones are
 pub accepted_right : (q : Asked) (c : Contents) (report certificate : List ℕ) (v : Verdict) → ReportsAreFound
     → CertificatesAreFound → IsAsked q → IsContents c
     → (v ≡ Accepted) ↔ (IsReport q c report × IsCertificate q c certificate)

@@ -14,6 +14,7 @@ mod print;
 mod rank;
 mod run;
 mod sample;
+mod system_target;
 mod target;
 #[cfg(test)]
 mod tests;

@@ -10,20 +10,19 @@ use crate::ending::Ending;
 use crate::judgement::{Judgement, ending};
 use crate::papers::Papers;
 use crate::rank::Ranked;
+use crate::target::Target;
 use ghcn_series::{Foreign, LinePlace, OddLines, Warnings};
 use rank_input::Fault;
 use std::fmt::Display;
-use std::fs::File;
-use std::io;
 use std::io::Write;
-use std::rt::Files;
 
 /// Prints what a ranking of files returns, and then frees its data.
-pub(crate) fn print_ranked<R: Files + Eprint, W: Write>(
+pub(crate) fn print_ranked<R: Eprint, T: Target, W: Write>(
     rt: &R,
     ranked: Ranked,
     files: &[String],
     certificate: Option<&str>,
+    target: &mut T,
     out: &mut W,
 ) -> Ending
     ensures { IsPrinted ranked.answer (W.contents out.old) (W.contents out.new) result }
@@ -36,7 +35,7 @@ pub(crate) fn print_ranked<R: Files + Eprint, W: Write>(
     if answer.is_ok() {
         tell_warnings(rt, warnings, files);
     }
-    let ending = print_answer(rt, answer, certificate, out);
+    let ending = print_answer(rt, answer, certificate, target, out);
     drop(dataset);
     ending
 }
@@ -103,10 +102,11 @@ fn tell_odd<R: Eprint>(rt: &R, odd: OddLines, files: &[String]) {
 
 /// Prints the papers after a word on what was skipped, or prints the error. The certificate
 /// goes to the file of a path, if one is named, and the report after it.
-pub fn print_answer<R: Files + Eprint, W: Write, F: Display + Drop>(
+pub fn print_answer<R: Eprint, T: Target, W: Write, F: Display + Drop>(
     rt: &R,
     answer: Result<Papers, F>,
     certificate: Option<&str>,
+    target: &mut T,
     out: &mut W,
 ) -> Ending
     ensures { IsPrinted answer (W.contents out.old) (W.contents out.new) result }
@@ -119,7 +119,7 @@ pub fn print_answer<R: Files + Eprint, W: Write, F: Display + Drop>(
     if unlisted > 0 {
         let _ = eprintln!(rt; "unlisted {unlisted}");
     }
-    match write_papers(rt, &papers, certificate, out) {
+    match write_papers(&papers, certificate, target, out) {
         Delivery::Done => Ending::Done,
         Delivery::CertificateFailed => not_written(rt, certificate.unwrap_or("-")),
         Delivery::ReportFailed => not_written(rt, "-"),
@@ -127,21 +127,25 @@ pub fn print_answer<R: Files + Eprint, W: Write, F: Display + Drop>(
 }
 
 /// Writes the certificate into the file of a path, if one is named, and then the report.
-fn write_papers<R: Files, W: Write>(
-    rt: &R,
+fn write_papers<T: Target, W: Write>(
     papers: &Papers,
     certificate: Option<&str>,
+    target: &mut T,
     out: &mut W,
 ) -> Delivery
     ensures { IsReported papers.now (W.contents out.old) (W.contents out.new) result }
 {
     let Some(path) = certificate else {
-        return deliver(papers, false, &mut io::sink(), out);
+        return deliver(papers, false, target, out);
     };
-    match File::create(rt, path) {
-        Ok(mut file) => deliver(papers, true, &mut file, out),
-        Err(_) => Delivery::CertificateFailed,
+    if target.open(path).is_err() {
+        return Delivery::CertificateFailed;
     }
+    let delivery = deliver(papers, true, target, out);
+    if delivery == Delivery::CertificateFailed {
+        target.abandon();
+    }
+    delivery
 }
 
 /// Prints the text of a description of files, or prints the error.

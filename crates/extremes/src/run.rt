@@ -15,7 +15,8 @@ use crate::print::{
 };
 use crate::rank::rank_serial;
 use crate::sample;
-use crate::target::{is_in_use, is_paper_or_output};
+use crate::system_target::SystemTarget;
+use crate::target::{Target, is_in_use, is_paper_or_output};
 use command_line::{Command, CommandFault, Part, command};
 use ghcn_fields::Memory;
 use rank_input::{Archive, Fault, System};
@@ -37,7 +38,10 @@ pub fn run<R: Files + Env + Print + Eprint + Threads + Wait + AllocGlobal + Sync
         Err(error) => return no_words(rt, &error),
     };
     match command(rt.alloc(), words) {
-        Ok(asked) => run_command(rt, &System(rt), asked, &mut io::writer(rt)),
+        Ok(asked) => {
+            let mut target = SystemTarget::new(rt);
+            run_command(rt, &System(rt), asked, &mut target, &mut io::writer(rt))
+        }
         Err(CommandFault::Words(text)) => {
             let _ = eprint!(rt; "{text}");
             Ending::Words
@@ -47,17 +51,19 @@ pub fn run<R: Files + Env + Print + Eprint + Threads + Wait + AllocGlobal + Sync
     }
 }
 
-/// Runs a command over the files of an archive, and prints the report or the verdict.
-fn run_command<R: Files + Eprint + Threads + Wait + AllocGlobal + Sync, A: Archive, W: Write>(
+/// Runs a command over the files of an archive, and prints the report or the verdict. A certificate
+/// goes to a target.
+fn run_command<R: Eprint + Threads + Wait + AllocGlobal + Sync, A: Archive, T: Target, W: Write>(
     rt: &R,
     archive: &A,
     asked: Command,
+    target: &mut T,
     out: &mut W,
 ) -> Ending
     ensures { IsCommandRun (A.bytes_of archive.now) asked (W.contents out.old) (W.contents out.new) result }
 {
     match asked {
-        Command::Sample => print_answer(rt, rank_sample(rt.alloc()), None, out),
+        Command::Sample => print_answer(rt, rank_sample(rt.alloc()), None, target, out),
         Command::Rank {
             stations,
             query,
@@ -73,13 +79,13 @@ fn run_command<R: Files + Eprint + Threads + Wait + AllocGlobal + Sync, A: Archi
                 workers,
                 guess,
             };
-            run_ranking(rt, archive, &ranking, &certificate, out)
+            run_ranking(rt, archive, &ranking, &certificate, target, out)
         }
         Command::Merge {
             query,
             certificate,
             parts,
-        } => run_merge(rt, archive, &query, &parts, &certificate, out),
+        } => run_merge(rt, archive, &query, &parts, &certificate, target, out),
         Command::Check {
             stations,
             query,
@@ -110,11 +116,12 @@ fn run_command<R: Files + Eprint + Threads + Wait + AllocGlobal + Sync, A: Archi
 
 /// Ranks files that are named, and prints the report. The certificate goes to the file of a path,
 /// if one is named.
-fn run_ranking<R: Files + Eprint + Threads + Wait + AllocGlobal + Sync, A: Archive, W: Write>(
+fn run_ranking<R: Eprint + Threads + Wait + AllocGlobal + Sync, A: Archive, T: Target, W: Write>(
     rt: &R,
     archive: &A,
     ranking: &Ranking,
     certificate: &Option<String>,
+    target: &mut T,
     out: &mut W,
 ) -> Ending
     ensures { RunsRanking (A.bytes_of archive.now) ranking.now
@@ -122,24 +129,25 @@ fn run_ranking<R: Files + Eprint + Threads + Wait + AllocGlobal + Sync, A: Archi
 {
     let certificate = certificate.as_ref().map(|path| path.as_str());
     if let Some(path) = certificate {
-        if is_in_use(rt, path, &ranking.stations, &ranking.files) {
+        if is_in_use(target, path, &ranking.stations, &ranking.files) {
             return not_written(rt, path);
         }
     }
     match rank_files(rt, archive, ranking) {
-        Ok(ranked) => print_ranked(rt, ranked, &ranking.files, certificate, out),
+        Ok(ranked) => print_ranked(rt, ranked, &ranking.files, certificate, target, out),
         Err(path) => not_read(rt, path),
     }
 }
 
 /// Merges the papers of parts that are named, and prints the report. The certificate goes to the
 /// file of a path, if one is named.
-fn run_merge<R: Files + Eprint + AllocGlobal, A: Archive, W: Write>(
+fn run_merge<R: Eprint + AllocGlobal, A: Archive, T: Target, W: Write>(
     rt: &R,
     archive: &A,
     query: &str,
     parts: &[Part],
     certificate: &Option<String>,
+    target: &mut T,
     out: &mut W,
 ) -> Ending
     ensures { RunsMerge query.now (map (known_part (A.bytes_of archive.now)) parts.now)
@@ -147,12 +155,12 @@ fn run_merge<R: Files + Eprint + AllocGlobal, A: Archive, W: Write>(
 {
     let certificate = certificate.as_ref().map(|path| path.as_str());
     if let Some(path) = certificate {
-        if is_paper_or_output(rt, path, parts) {
+        if is_paper_or_output(target, path, parts) {
             return not_written(rt, path);
         }
     }
     match merge_files(rt.alloc(), archive, query, parts) {
-        Ok(merged) => print_answer(rt, merged, certificate, out),
+        Ok(merged) => print_answer(rt, merged, certificate, target, out),
         Err(path) => not_read(rt, path),
     }
 }

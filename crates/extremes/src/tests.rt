@@ -12,6 +12,7 @@ use crate::ending::Ending;
 use crate::print::print_answer;
 use crate::rank::{rank, rank_serial};
 use crate::sample;
+use crate::system_target::SystemTarget;
 use rank_crew::Open;
 use rank_input::Fault;
 
@@ -56,11 +57,17 @@ fn the_right_report(rt: HostRuntime) {
 
 #[test]
 fn reports_are_printed_whole(rt: HostRuntime) {
-    let mut out = Vec::new(rt.alloc());
+    let (mut target, mut out) = (SystemTarget::new(&rt), Vec::new(rt.alloc()));
     let ranked = rank_serial(rt.alloc(), STATIONS, &[DAILY], "top 3 highest TMAX", None);
-    assert_eq!(rt; print_answer(&rt, ranked, None, &mut out), Ending::Done);
+    assert_eq!(rt;
+        print_answer(&rt, ranked, None, &mut target, &mut out),
+        Ending::Done
+    );
     let faulty = rank_serial(rt.alloc(), STATIONS, &[DAILY], "top 3 highest", None);
-    assert_eq!(rt; print_answer(&rt, faulty, None, &mut out), Ending::Refused);
+    assert_eq!(rt;
+        print_answer(&rt, faulty, None, &mut target, &mut out),
+        Ending::Refused
+    );
     assert_eq!(rt; out.as_slice(), REPORT);
 }
 

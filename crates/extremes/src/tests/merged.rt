@@ -20,9 +20,12 @@ fn parts_are_merged(rt: HostRuntime) -> Result<(), Fail> {
             certificate: papers.certificate,
         })?;
     }
-    let mut out = Vec::new(alloc);
+    let (mut target, mut out) = (SystemTarget::new(&rt), Vec::new(alloc));
     let merged = merge_texts(alloc, " top 3  highest TMAX", parts.as_slice());
-    assert_eq!(rt; print_answer(&rt, merged, None, &mut out), Ending::Done);
+    assert_eq!(rt;
+        print_answer(&rt, merged, None, &mut target, &mut out),
+        Ending::Done
+    );
     assert_eq!(rt; out.as_slice(), REPORT);
     let cases = [
         (
@@ -42,7 +45,10 @@ fn parts_are_merged(rt: HostRuntime) -> Result<(), Fail> {
         assert_eq!(rt; fault, Some(expected));
         let told = expected.to_string(alloc)?;
         assert_eq!(rt; told.as_str(), text);
-        assert_eq!(rt; print_answer(&rt, refused, None, &mut out), Ending::Refused);
+        assert_eq!(rt;
+            print_answer(&rt, refused, None, &mut target, &mut out),
+            Ending::Refused
+        );
     }
     assert_eq!(rt; out.as_slice(), REPORT);
     Ok(())
