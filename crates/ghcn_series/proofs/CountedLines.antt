@@ -17,7 +17,6 @@ use Rattle.ghcn_files.proofs.LineLaws.{enumerate_from-append}
 use Rattle.ghcn_files.specs.Elements.{element_of}
 use Rattle.ghcn_series.specs.declared.counts.Foreign.{Foreign}
 use Rattle.ghcn_series.specs.declared.counts.LinePlace.{LinePlace}
-use Rattle.ghcn_series.specs.declared.counts.OddLines.{OddLines}
 use Rattle.ghcn_series.specs.declared.counts.LineCounts.{LineCounts}
 use Rattle.ghcn_series.specs.declared.counts.LineKind.TheVariants.{Blank, OfElement, Other, Odd}
 use Rattle.ghcn_series.specs.Counted.{HaveCounted, CountsLine, AddsForeign, with_odd}

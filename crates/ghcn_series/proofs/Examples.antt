@@ -26,6 +26,7 @@ use Rattle.ghcn_series.specs.Said.{facts_said, unlisted_said, IsMadeOf}
 use Rattle.ghcn_series.specs.Held.{IsContents}
 use Rattle.ghcn_series.specs.JoinedFiles.{files_together}
 use Rattle.ghcn_series.specs.Kept.{kept}
+use Rattle.ghcn_series.specs.LineKinds.{is_odd, odd_among}
 use Rattle.ghcn_series.specs.Packed.{IsNextBlock, next_block}
 use Rattle.ghcn_series.proofs.Members.{of_each}
 use Rattle.ghcn_series.proofs.RightData.{data-are-right}
@@ -347,3 +348,42 @@ not_next = (
       ((λ e. absurd (omega (arith, ints, e))), ((λ e. absurd (omega (arith, ints, e))), tt)) h.has.0 h.has.1 h.has.2,
   λ h. absurd (omega (arith, ints, h.1.0)),
 )
+
+-- ---- odd lines
+
+-- a daily line of another code isn't odd
+other_code_is_not_odd : is_odd (line (codes "ZZA00000001202007WT01") []) ≡ false
+other_code_is_not_odd = refl
+
+-- it is if a byte follows the last column, as the next file's first line does
+joined_line_is_odd : is_odd (line (codes "ZZA00000001202007WT01") [] ++ warm (codes "ZZA00000001202007TMAX")) ≡ true
+joined_line_is_odd = refl
+
+-- and blanks there don't make it so
+blanks_after_are_not_odd : is_odd (line (codes "ZZA00000001202007WT01") [] ++ codes "  ") ≡ false
+blanks_after_are_not_odd = refl
+
+-- a byte-order mark moves a line, and no code stands at its place then
+marked_line_is_odd : is_odd (239 ∷ 187 ∷ 191 ∷ warm (codes "ZZA00000001202007TMAX")) ≡ true
+marked_line_is_odd = refl
+
+-- a digit can't begin a code
+digit_begins_no_code : is_odd (codes "ZZA000000012020071MAX") ≡ true
+digit_begins_no_code = refl
+
+-- nor can a small letter follow in one
+small_letter_is_in_no_code : is_odd (codes "ZZA00000001202007WTa1") ≡ true
+small_letter_is_in_no_code = refl
+
+-- a line of one of the five elements isn't odd
+element_is_not_odd : is_odd (warm (codes "ZZA00000001202007TMAX")) ≡ false
+element_is_not_odd = refl
+
+-- nor is a blank one
+blank_is_not_odd : is_odd (codes "   ") ≡ false
+blank_is_not_odd = refl
+
+-- of two odd lines the first is named, by its file, from 0, and its line, from 1
+first_odd_line : (odd_among (daily_lines (text (codes "A" ∷ []) ∷ text (warm (codes "ZZA00000001202007TMAX") ∷ codes "A" ∷ [])
+    ∷ [])) ≡ record { count = 2; first = Some (record { file = 0; line = 1 }) })
+first_odd_line = refl

@@ -1,7 +1,7 @@
 -- The form of lines of daily files.
-use Rattle.std.proofs.Common.{◌≡◌, ℕ, ◌+◌, ◌-◌, ◌<◌, ◌≤◌, Bool, true, false, List, [], ◌∷◌, ◌++◌, length, take, drop}
-use Rattle.std.proofs.Common.{get_or, refl, sym, ap, ◌∙◌, arith, length-append, length-drop, length-take}
-use Rattle.std.specs.Prelude.{◌&&◌, replicate}
+use Rattle.std.proofs.Common.{◌≡◌, ℕ, ◌+◌, ◌-◌, ◌<◌, false, List, [], ◌∷◌, ◌++◌, length, drop}
+use Rattle.std.proofs.Common.{get_or, refl, sym, ◌∙◌, arith, length-append, length-drop, length-take}
+use Rattle.std.specs.Prelude.{replicate}
 use Rattle.std.specs.Char.{is_ascii_uppercase}
 use Rattle.std.proofs.Math.Bool.{and-false}
 use Rattle.std.proofs.lemmas.List.{get_or-take, get_or-drop, get_or-append_right, get_or-replicate, length-replicate}

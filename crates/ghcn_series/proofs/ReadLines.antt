@@ -7,7 +7,6 @@ use Rattle.std.specs.Option.{option_to_list, is_some}
 use Rattle.std.proofs.lemmas.List.{append-nil}
 use Rattle.std.proofs.lemmas.List.Elements.{filter_map-append}
 use Rattle.std.proofs.lemmas.Bool.{not-true, not-false}
-use Rattle.ghcn_fields.specs.Bytes.{is_blank}
 use Rattle.ghcn_fields.specs.Lines.{columns}
 use Rattle.ghcn_fields.specs.Faults.{IsFirstFault}
 use Rattle.ghcn_files.proofs.FaultLaws.{no_fault-more}
