@@ -1,17 +1,23 @@
 -- A paper that is written bit by bit.
-use Rattle.std.proofs.Common.{◌≡◌, ℕ, List, [], ◌++◌, Option, None, Some, length, ◌-◌, take, drop, refl, sym, ap}
+use Rattle.std.proofs.Common.{◌≡◌, ℕ, ◌<◌, Bool, true, false, List, [], ◌++◌, Option, None, Some, length, ◌-◌, take}
+use Rattle.std.proofs.Common.{drop, refl, sym, ap, inl, inr, arith, length-append}
 use Rattle.std.proofs.Common.{◌∙◌, subst, append_assoc, append-nil, take-append-drop}
 use Rattle.std.proofs.lemmas.List.{take_rest}
-use Rattle.std.specs.Io.KnownBytes.{Appends}
+use Rattle.std.specs.Io.KnownBytes.{Appends, Keeps}
 use Rattle.std.proofs.KnownBytes.{Appends-trans}
-use Rattle.std.specs.Prelude.{Result, Ok}
+use Rattle.std.specs.Prelude.{Result, Ok, codes}
 use Rattle.extremes.specs.declared.papers.Papers.{Papers}
 use Rattle.extremes.specs.declared.delivery.Delivery.{Delivery}
 use Rattle.extremes.specs.declared.delivery.Delivery.TheVariants.{CertificateFailed}
 use Rattle.extremes.specs.declared.ending.Ending.{Ending}
 use Rattle.extremes.specs.declared.ending.Ending.TheVariants.{File}
-use Rattle.extremes.specs.Delivered.{HasBeginning}
-use Rattle.extremes.specs.Printed.{IsPrinted, IsReported}
+use Rattle.extremes.specs.Delivered.{HasBeginning, IsCutOff, IsWrittenToEnd, IsWritten}
+use Rattle.extremes.specs.Ending.{ending_of}
+use Rattle.extremes.specs.Printed.{IsPrinted, IsReported, IsTold, judgement_line, text_of}
+use Rattle.extremes.specs.declared.judgement.Judgement.{Judgement}
+use Rattle.ghcn_series.specs.declared.counts.Warnings.{Warnings}
+use Rattle.rank_input.specs.declared.fault.Fault.{Fault}
+use Rattle.std.proofs.lemmas.Bool.{true≢false, false≢true}
 
 -- of a paper all but the rest was given to a writer
 pub record HasTaken (paper rest : List ℕ) (before after : Option (List ℕ)) : Type 0 where
@@ -40,6 +46,85 @@ nothing-given paper (Some held) after same = record {
   of_paper = refl;
   given = subst (λ a. Appends (Some held) a []) (sym same) (sym (append-nil held));
 }
+
+-- nothing more is given
+appends-nil : (before after : Option (List ℕ)) → after ≡ before → Appends before after []
+appends-nil None after same = tt
+appends-nil (Some held) after same = subst (λ a. Appends (Some held) a []) (sym same) (sym (append-nil held))
+
+-- a text of which nothing is written is cut off
+pub cut-at-first : (text : List ℕ) (before after : Option (List ℕ)) → 0 < length text → after ≡ before
+    → IsCutOff text before after
+cut-at-first text before after some same = record {
+  part = [];
+  rest = text;
+  of_text = refl;
+  left = some;
+  given = appends-nil before after same;
+}
+
+-- and what is kept was given before
+appends-kept : (before between after : Option (List ℕ)) (bytes : List ℕ) → Appends before between bytes
+    → Keeps between after → Appends before after bytes
+appends-kept None between after bytes was is = tt
+appends-kept (Some xs) None after bytes was is = absurd was
+appends-kept (Some xs) (Some ys) None bytes was is = absurd is
+appends-kept (Some xs) (Some ys) (Some zs) bytes was is = is ∙ was
+
+-- a text that is cut off is written in part
+pub written-cut : (text : List ℕ) (before after : Option (List ℕ)) (done : Bool) → done ≡ false
+    → IsWrittenToEnd text before after done → IsWritten text before after false
+written-cut text before after true was is = absurd (true≢false was)
+written-cut text before after false was is = record {
+  part = is.part;
+  rest = is.rest;
+  of_paper = is.of_text;
+  given = is.given;
+}
+
+-- a text that is written to its end is written whole if it is flushed
+pub written-flushed : (text : List ℕ) (before between after : Option (List ℕ)) (done flushed : Bool) → done ≡ true
+    → IsWrittenToEnd text before between done → Keeps between after → IsWritten text before after flushed
+written-flushed text before between after false flushed was is kept = absurd (false≢true was)
+written-flushed text before between after true true was is kept = appends-kept before between after text is kept
+written-flushed text before between after true false was is kept = record {
+  part = text;
+  rest = [];
+  of_paper = sym (append-nil text);
+  given = appends-kept before between after text is kept;
+}
+
+-- a line has a byte
+line-some : (j : Judgement) → 0 < length (judgement_line j)
+line-some j = omega (arith, length-append (text_of j) (codes "\n"))
+
+-- the line of what is said of papers is written whole
+pub told-whole : (answer : Result (Judgement × Warnings) Fault) (judged : Judgement × Warnings) (line : List ℕ)
+    (before after : Option (List ℕ)) (ending : Ending) (done : Bool) → answer ≡ Ok judged
+    → line ≡ judgement_line judged.0 → ending ≡ ending_of judged.0 → done ≡ true
+    → IsWrittenToEnd line before after done → IsTold answer before after ending
+told-whole answer judged line before after ending false said same ends was is = absurd (false≢true was)
+told-whole answer judged line before after ending true said same ends was is =
+    subst (λ (a : Result (Judgement × Warnings) Fault). IsTold a before after ending) (sym said)
+    (inl (ends, subst (Appends before after) same is))
+
+-- or it is cut off
+pub told-cut : (answer : Result (Judgement × Warnings) Fault) (judged : Judgement × Warnings) (line : List ℕ)
+    (before after : Option (List ℕ)) (ending : Ending) (done : Bool) → answer ≡ Ok judged
+    → line ≡ judgement_line judged.0 → ending ≡ File → done ≡ false
+    → IsWrittenToEnd line before after done → IsTold answer before after ending
+told-cut answer judged line before after ending true said same ends was is = absurd (true≢false was)
+told-cut answer judged line before after ending false said same ends was is =
+    subst (λ (a : Result (Judgement × Warnings) Fault). IsTold a before after ending) (sym said)
+    (inr (ends, subst (λ (l : List ℕ). IsCutOff l before after) same is))
+
+-- or nothing of it is written
+pub told-nothing : (answer : Result (Judgement × Warnings) Fault) (judged : Judgement × Warnings)
+    (before after : Option (List ℕ)) (ending : Ending) → answer ≡ Ok judged → ending ≡ File → after ≡ before
+    → IsTold answer before after ending
+told-nothing answer judged before after ending said ends same =
+    subst (λ (a : Result (Judgement × Warnings) Fault). IsTold a before after ending) (sym said)
+    (inr (ends, cut-at-first (judgement_line judged.0) before after (line-some judged.0) same))
 
 -- if the certificate couldn't be written, the answer is printed with no byte of its report
 pub printed-nothing : {F : Type 0} (answer : Result Papers F) (before after : Option (List ℕ)) (ending : Ending)

@@ -11,20 +11,23 @@ use Rattle.rank_input.specs.declared.fault.Fault.TheVariants.{Memory}
 use Rattle.rank_input.specs.declared.intake.Intake.{Intake}
 use Rattle.extremes.specs.declared.papers.Papers.{Papers}
 use Rattle.extremes.specs.declared.judgement.Judgement.{Judgement}
-use Rattle.rank_input.specs.Input.{is_crew, is_guess, words_fault, read_unless, read_input, is_memory}
+use Rattle.rank_input.specs.Input.{is_crew, is_guess, words_fault, read_unless, read_input, read_run, is_memory}
 use Rattle.rank_input.specs.declared.description.DescriptionIntake.{DescriptionIntake}
 use Rattle.rank_input.specs.Takes.{Taking, given}
 use Rattle.rank_input.specs.Taken.{HasTaken, AreWarningsOf, RefusesInput}
 use Rattle.rank_input.specs.Described as described
-use Rattle.rank_input.specs.Feeding.{AreAllOf, AreFilesOf, FeedsFiles}
+use Rattle.rank_input.specs.Feeding.{AreAllOf, AreFilesOf, AreOpened, FeedsFiles, Opening}
+use Rattle.rank_input.proofs.Openings.{opened-for, opened-both}
 use Rattle.ghcn_fields.specs.Refusals.{IsRefusal}
 use Rattle.rank_input.proofs.Feedings.{given-files}
 use Rattle.extremes.specs.Runs.{AnswersInput, CrewsInput, RanksInput, JudgesInputAs}
-use Rattle.extremes.specs.Runs.{bytes_named, IsRanked, RanksFiles, IsJudgement, JudgesFiles}
-use Rattle.extremes.specs.Describes.{IsDescriptionOf, DescribesIntake, DescribesFiles}
+use Rattle.extremes.specs.Runs.{bytes_named, IsRanked, IsRankedAlone, RanksFiles, IsJudgement, JudgesFiles}
+use Rattle.extremes.specs.Runs.{ranking_paths, judging_paths}
+use Rattle.extremes.specs.Answer.{Answers, IsSerial}
+use Rattle.extremes.specs.Describes.{IsDescriptionOf, DescribesIntake, DescribesFiles, describing_paths}
 use Rattle.extremes.specs.declared.describe.DescriptionText.{DescriptionText}
 use Rattle.extremes.specs.declared.files.Describing.{Describing}
-use Rattle.extremes.specs.Merges.{Known, known_part, AreBothOf}
+use Rattle.extremes.specs.Merges.{Known, known_part, part_paths, AreBothOf}
 use Rattle.extremes.specs.declared.files.Ranking.{Ranking}
 use Rattle.extremes.specs.declared.files.Judging.{Judging}
 use Rattle.rank_merge.specs.Merging.{Texts}
@@ -53,12 +56,24 @@ pub ranks-input : (t : Intake) (workers ran : ℕ) (guess : Option ℤ) (answer 
     → is_crew workers ≡ true → is_guess guess ≡ true → ran ≤ workers → IfOk answer (AnswersInput t)
     → IfOk answer (CrewsInput t ran guess) → IfErr answer (RefusesInput t) → RanksInput t workers guess answer
 ranks-input t workers ran guess (Ok papers) crew might few ok crews err = record {
-  is = λ i taken. (ok.is i taken, record { ran = ran; few = few; crew = crews.is i taken });
+  is = λ i taken. (
+    rw (crew, might) refl,
+    ok.is i taken,
+    record { ran = ran; few = few; crew = crews.is i taken },
+  );
 }
 ranks-input t workers ran guess (Err fault) crew might few ok crews err = record {
   is = λ i taken.
       input_refuses workers guess i.query i.stations (files_of i.files) fault crew might (err.is i taken);
 }
+
+-- what one worker answers to texts, or their fault
+pub ranks-alone : (guess : Option ℤ) (query stations : List ℕ) (files : List (List ℕ)) (answer : Result Papers Fault)
+    → IfOk answer (Answers query stations files) → IfOk answer (IsSerial guess query stations files)
+    → IfErr answer (λ fault. IsRefusal is_memory fault (read_run 1 guess query stations files))
+    → IsRankedAlone guess query stations files answer
+ranks-alone guess query stations files (Ok papers) ok serial err = (ok, serial)
+ranks-alone guess query stations files (Err fault) ok serial err = err
 
 -- so is an error of the words
 pub words-input : (t : Intake) (workers : ℕ) (guess : Option ℤ) (fault : Fault)
@@ -68,14 +83,17 @@ words-input t workers guess fault is = record {
 }
 
 -- the ranking of an intake that was fed all files that are named
-pub ranks-files : (bytes_of : Known) (r : Ranking) (old new : Intake) (query list stations : List ℕ)
+pub ranks-files : (bytes_of : Known) (opens : Opening) (r : Ranking) (old new : Intake) (query list stations : List ℕ)
     (answer : Result Papers Fault) (warnings : Warnings) → query ≡ string_bytes r.query
     → list ≡ string_bytes r.stations → AreAllOf (bytes_of list) stations → HasTaken old (given query stations [])
     → FeedsFiles HasTaken old new (map (bytes_named bytes_of) r.files.items) → RanksInput new r.workers r.guess answer
-    → IfOk answer (λ papers. AreWarningsOf new warnings) → RanksFiles bytes_of r answer warnings
-ranks-files bytes_of r old new query list stations answer warnings same_query same_list whole taken fed ranks told =
+    → IfOk answer (λ papers. AreWarningsOf new warnings) → opens list true
+    → AreOpened opens (map string_bytes r.files.items) → RanksFiles bytes_of opens r answer warnings
+ranks-files bytes_of opens r old new query list stations answer warnings same_query same_list whole taken fed ranks told first others =
     let all = taken-all HasTaken old new _ query stations fed taken in
     record {
+      opened = opened-for is_memory opens (ranking_paths r) answer
+          (subst (λ (l : List ℕ). opens l true) same_list first, others);
       stations = stations;
       whole = subst (λ (l : List ℕ). AreAllOf (bytes_of l) stations) same_list whole;
       files = fed.files;
@@ -97,18 +115,23 @@ judged-is part t query stations files report certificate (Err fault) taken ok to
     err.is (given query stations files) taken
 
 -- the judgement of papers by an intake that was fed all files that are named
-pub judges-files : (bytes_of : Known) (j : Judging) (old new : Intake) (query list stations report certificate : List ℕ)
+pub judges-files : (bytes_of : Known) (opens : Opening) (j : Judging) (old new : Intake) (query list stations report certificate : List ℕ)
     (answer : Result (Judgement × Warnings) Fault) → query ≡ string_bytes j.query
     → list ≡ string_bytes j.stations → AreAllOf (bytes_of list) stations
     → AreBothOf (known_part bytes_of j.papers) (report, certificate)
     → HasTaken old (given query stations []) → FeedsFiles HasTaken old new (map (bytes_named bytes_of) j.files.items)
     → IfOk answer (λ judged. JudgesInputAs j.part new report certificate judged.0)
-    → IfOk answer (λ judged. AreWarningsOf new judged.1) → IfErr answer (RefusesInput new)
-    → JudgesFiles bytes_of j answer
-judges-files bytes_of j old new query list stations report certificate answer same_query same_list whole papers taken
-    fed ok told err =
+    → IfOk answer (λ judged. AreWarningsOf new judged.1) → IfErr answer (RefusesInput new) → opens list true
+    → AreOpened opens (part_paths j.papers) → AreOpened opens (map string_bytes j.files.items)
+    → JudgesFiles bytes_of opens j answer
+judges-files bytes_of opens j old new query list stations report certificate answer same_query same_list whole papers taken
+    fed ok told err first both others =
     let given_all = taken-all HasTaken old new _ query stations fed taken in
     record {
+      opened = opened-for is_memory opens (judging_paths j) answer (
+        subst (λ (l : List ℕ). opens l true) same_list first,
+        opened-both opens (part_paths j.papers) (map string_bytes j.files.items) both others,
+      );
       stations = stations;
       whole = subst (λ (l : List ℕ). AreAllOf (bytes_of l) stations) same_list whole;
       papers = (report, certificate);
@@ -128,15 +151,17 @@ described-is t query stations files (Ok text) taken ok err = ok.is (given query 
 described-is t query stations files (Err fault) taken ok err = err.is (given query stations files) taken
 
 -- the description by an intake that was fed all files that are named
-pub describes-files : (bytes_of : Known) (d : Describing) (old new : DescriptionIntake) (list stations : List ℕ)
+pub describes-files : (bytes_of : Known) (opens : Opening) (d : Describing) (old new : DescriptionIntake) (list stations : List ℕ)
     (answer : Result DescriptionText Fault) → list ≡ string_bytes d.stations
     → AreAllOf (bytes_of list) stations → ((query : List ℕ) → described.HasTaken old (given query stations []))
     → FeedsFiles described.HasTaken old new (map (bytes_named bytes_of) d.files.items)
-    → IfOk answer (DescribesIntake new) → IfErr answer (described.RefusesInput new)
-    → DescribesFiles bytes_of d answer
-describes-files bytes_of d old new list stations answer same_list whole taken fed ok err =
+    → IfOk answer (DescribesIntake new) → IfErr answer (described.RefusesInput new) → opens list true
+    → AreOpened opens (map string_bytes d.files.items) → DescribesFiles bytes_of opens d answer
+describes-files bytes_of opens d old new list stations answer same_list whole taken fed ok err first others =
     let all = taken-all described.HasTaken old new _ [] stations fed (taken []) in
     record {
+      opened = opened-for is_memory opens (describing_paths d) answer
+          (subst (λ (l : List ℕ). opens l true) same_list first, others);
       stations = stations;
       whole = subst (λ (l : List ℕ). AreAllOf (bytes_of l) stations) same_list whole;
       files = fed.files;
@@ -151,11 +176,12 @@ some_files (None ∷ ks) = let rest = some_files ks in ([] ∷ rest.0, (tt, rest
 some_files (Some bytes ∷ ks) = let rest = some_files ks in (bytes ∷ rest.0, (refl, rest.1))
 
 -- out of memory may be answered to any files
-pub ranks-memory : (bytes_of : Known) (r : Ranking) (list stations : List ℕ) (m : WantOfMemory)
+pub ranks-memory : (bytes_of : Known) (opens : Opening) (r : Ranking) (list stations : List ℕ) (m : WantOfMemory)
     → list ≡ string_bytes r.stations → AreAllOf (bytes_of list) stations
-    → (warnings : Warnings) → RanksFiles bytes_of r (Err (Memory m)) warnings
-ranks-memory bytes_of r list stations m same whole warnings =
+    → (warnings : Warnings) → RanksFiles bytes_of opens r (Err (Memory m)) warnings
+ranks-memory bytes_of opens r list stations m same whole warnings =
     let some = some_files (map (bytes_named bytes_of) r.files.items) in record {
+      opened = tt;
       stations = stations;
       whole = subst (λ (l : List ℕ). AreAllOf (bytes_of l) stations) same whole;
       files = some.0;
@@ -165,11 +191,12 @@ ranks-memory bytes_of r list stations m same whole warnings =
     }
 
 -- and to papers
-pub judges-memory : (bytes_of : Known) (j : Judging) (list stations : List ℕ) (papers : Texts) (m : WantOfMemory)
+pub judges-memory : (bytes_of : Known) (opens : Opening) (j : Judging) (list stations : List ℕ) (papers : Texts) (m : WantOfMemory)
     → list ≡ string_bytes j.stations → AreAllOf (bytes_of list) stations
-    → AreBothOf (known_part bytes_of j.papers) papers → JudgesFiles bytes_of j (Err (Memory m))
-judges-memory bytes_of j list stations papers m same whole both =
+    → AreBothOf (known_part bytes_of j.papers) papers → JudgesFiles bytes_of opens j (Err (Memory m))
+judges-memory bytes_of opens j list stations papers m same whole both =
     let some = some_files (map (bytes_named bytes_of) j.files.items) in record {
+      opened = tt;
       stations = stations;
       whole = subst (λ (l : List ℕ). AreAllOf (bytes_of l) stations) same whole;
       papers = papers;
@@ -180,11 +207,12 @@ judges-memory bytes_of j list stations papers m same whole both =
     }
 
 -- and for a description
-pub describes-memory : (bytes_of : Known) (d : Describing) (list stations : List ℕ) (m : WantOfMemory)
+pub describes-memory : (bytes_of : Known) (opens : Opening) (d : Describing) (list stations : List ℕ) (m : WantOfMemory)
     → list ≡ string_bytes d.stations → AreAllOf (bytes_of list) stations
-    → DescribesFiles bytes_of d (Err (Memory m))
-describes-memory bytes_of d list stations m same whole =
+    → DescribesFiles bytes_of opens d (Err (Memory m))
+describes-memory bytes_of opens d list stations m same whole =
     let some = some_files (map (bytes_named bytes_of) d.files.items) in record {
+      opened = tt;
       stations = stations;
       whole = subst (λ (l : List ℕ). AreAllOf (bytes_of l) stations) same whole;
       files = some.0;

@@ -1,5 +1,5 @@
 -- How papers are written.
-use Rattle.std.specs.Prelude.{◌≡◌, ℕ, Bool, true, false, List, ◌++◌, Option}
+use Rattle.std.specs.Prelude.{◌≡◌, ℕ, ◌<◌, Bool, true, false, List, ◌++◌, length, Option}
 use Rattle.std.specs.Io.KnownBytes.{Appends}
 use Rattle.extremes.specs.declared.papers.Papers.{Papers}
 use Rattle.extremes.specs.declared.delivery.Delivery.{Delivery}
@@ -11,6 +11,19 @@ pub record HasBeginning (paper : List ℕ) (before after : Option (List ℕ)) : 
   pub rest : List ℕ
   pub of_paper : paper ≡ part ++ rest
   pub given : Appends before after part
+
+-- a writer was given a beginning of a text, and not all of it
+pub record IsCutOff (text : List ℕ) (before after : Option (List ℕ)) : Type 0 where
+  pub part : List ℕ
+  pub rest : List ℕ
+  pub of_text : text ≡ part ++ rest
+  pub left : 0 < length rest
+  pub given : Appends before after part
+
+-- a writer was given a text to its end, or was cut off
+abbrev pub IsWrittenToEnd : List ℕ → Option (List ℕ) → Option (List ℕ) → Bool → Type 0
+IsWrittenToEnd text before after true = Appends before after text
+IsWrittenToEnd text before after false = IsCutOff text before after
 
 -- a writer was given a paper whole, or otherwise a beginning of it
 abbrev pub IsWritten : List ℕ → Option (List ℕ) → Option (List ℕ) → Bool → Type 0

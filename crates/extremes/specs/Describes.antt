@@ -1,5 +1,5 @@
 -- What is returned if files are described.
-use Rattle.std.specs.Prelude.{◌≡◌, ℕ, List, map, Result, Ok, Err}
+use Rattle.std.specs.Prelude.{◌≡◌, ℕ, List, ◌∷◌, map, Result, Ok, Err, string_bytes}
 use Rattle.ghcn_fields.specs.Refusals.{IsRefusal}
 use Rattle.ghcn_series.specs.LineKinds.{warnings_of}
 use Rattle.ghcn_description.specs.declared.counts.Description.{Description}
@@ -7,7 +7,7 @@ use Rattle.ghcn_description.specs.Texts.{description_text}
 use Rattle.rank_input.specs.declared.description.DescriptionIntake.{DescriptionIntake}
 use Rattle.rank_input.specs.declared.fault.Fault.{Fault}
 use Rattle.rank_input.specs.Described.{HasTaken, IsDescribed}
-use Rattle.rank_input.specs.Feeding.{AreAllOf, AreFilesOf}
+use Rattle.rank_input.specs.Feeding.{AreAllOf, AreFilesOf, AreOpenedFor, Opening}
 use Rattle.rank_input.specs.Input.{read_files, is_memory}
 use Rattle.rank_input.specs.Takes.{IsTrueOf}
 use Rattle.extremes.specs.declared.describe.DescriptionText.{DescriptionText}
@@ -32,8 +32,14 @@ abbrev pub IsDescriptionOf : List ℕ → List (List ℕ) → Result Description
 IsDescriptionOf stations files (Ok text) = IsTextOf stations files text
 IsDescriptionOf stations files (Err fault) = IsRefusal is_memory fault (read_files stations files)
 
+-- the paths of what is described, in the order in which it is read
+abbrev pub describing_paths : Describing → List (List ℕ)
+describing_paths d = string_bytes d.stations ∷ map string_bytes d.files.items
+
 -- the description of all bytes of the station list and of each daily file that are named, in order
-pub record DescribesFiles (bytes_of : Known) (d : Describing) (answer : Result DescriptionText Fault) : Type 0 where
+pub record DescribesFiles (bytes_of : Known) (opens : Opening) (d : Describing) (answer : Result DescriptionText Fault)
+    : Type 0 where
+  pub opened : AreOpenedFor is_memory opens (describing_paths d) answer
   pub stations : List ℕ
   pub whole : AreAllOf (bytes_named bytes_of d.stations) stations
   pub files : List (List ℕ)

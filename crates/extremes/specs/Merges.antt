@@ -1,12 +1,12 @@
 -- What merging answers for texts of papers, and for the papers that are named.
-use Rattle.std.specs.Prelude.{◌≡◌, ℕ, Bool, false, List, map, Option, Result, Ok, Err, string_bytes, ⊤}
-use Rattle.std.specs.List.{AllZip}
+use Rattle.std.specs.Prelude.{◌≡◌, ℕ, Bool, false, List, [], ◌∷◌, map, Option, Result, Ok, Err, string_bytes, ⊤}
+use Rattle.std.specs.List.{AllZip, flat_map}
 use Rattle.command_line.specs.declared.asked.Part.{Part}
 use Rattle.ghcn_fields.specs.Refusals.{IsRefusal, OrMemory}
 use Rattle.rank_query.specs.declared.fault.QueryFault.{QueryFault}
 use Rattle.rank_query.specs.Asked.{Asked}
 use Rattle.rank_query.specs.Reading.{read_query}
-use Rattle.rank_input.specs.Feeding.{AreAllOf}
+use Rattle.rank_input.specs.Feeding.{AreAllOf, AreOpenedFor, Opening}
 use Rattle.rank_merge.specs.declared.fault.MergeFault.{MergeFault}
 use Rattle.rank_merge.specs.Merging as merging
 use Rattle.rank_merge.specs.Merging.{Texts, merge}
@@ -76,12 +76,22 @@ KnownPart = Option (List ℕ) × Option (List ℕ)
 abbrev pub known_part : Known → Part → KnownPart
 known_part bytes_of part = (bytes_of (string_bytes part.report), bytes_of (string_bytes part.certificate))
 
+-- the paths of the papers of a part, in the order in which they are read
+abbrev pub part_paths : Part → List (List ℕ)
+part_paths part = string_bytes part.report ∷ string_bytes part.certificate ∷ []
+
+-- those of all parts
+abbrev pub parts_paths : List Part → List (List ℕ)
+parts_paths parts = flat_map part_paths parts
+
 -- these are all the bytes of both papers, if those are known
 abbrev pub AreBothOf : KnownPart → Texts → Type 0
 AreBothOf known texts = AreAllOf known.0 texts.0 × AreAllOf known.1 texts.1
 
 -- the merge of all bytes of the papers of each part, in order
-pub record MergesFiles (query : List ℕ) (known : List KnownPart) (answer : Result Papers MergingFault) : Type 0 where
+pub record MergesFiles (bytes_of : Known) (opens : Opening) (query : List ℕ) (parts : List Part)
+    (answer : Result Papers MergingFault) : Type 0 where
+  pub opened : AreOpenedFor is_memory opens (parts_paths parts) answer
   pub texts : List Texts
-  pub all : AllZip AreBothOf known texts
+  pub all : AllZip AreBothOf (map (known_part bytes_of) parts) texts
   pub merged : IsMergeOf query texts answer

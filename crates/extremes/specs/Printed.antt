@@ -13,7 +13,7 @@ use Rattle.rank_check.specs.Texts.{verdict_text}
 use Rattle.rank_parts.specs.Texts as parts
 use Rattle.extremes.specs.declared.judgement.Judgement.{Judgement}
 use Rattle.extremes.specs.declared.judgement.Judgement.TheVariants.{Whole, Part}
-use Rattle.extremes.specs.Delivered.{HasBeginning}
+use Rattle.extremes.specs.Delivered.{HasBeginning, IsCutOff}
 use Rattle.extremes.specs.Ending.{ending_of}
 
 -- what is said of papers, without a line feed
@@ -49,9 +49,10 @@ abbrev pub IsTextShown : Result DescriptionText Fault → Option (List ℕ) → 
 IsTextShown (Ok text) before after ending = IsShown text.bytes.items before after ending
 IsTextShown (Err fault) before after ending = (ending ≡ Refused) × (after ≡ before)
 
--- what is said of papers is printed as its line and ends the run as it says, or it ends as a file that couldn't be
--- written; an error prints nothing and is refused
+-- what is said of papers is printed as its line and ends the run as it says, or its line is cut off and the run ends as
+-- a file that couldn't be written; a fault prints nothing and is refused
 abbrev pub IsTold : Result (Judgement × Warnings) Fault → Option (List ℕ) → Option (List ℕ) → Ending → Type 0
 IsTold (Ok judged) before after ending =
-    ((ending ≡ ending_of judged.0) × Appends before after (judgement_line judged.0)) ⊎ (ending ≡ File)
+    ((ending ≡ ending_of judged.0) × Appends before after (judgement_line judged.0))
+    ⊎ ((ending ≡ File) × IsCutOff (judgement_line judged.0) before after)
 IsTold (Err fault) before after ending = (ending ≡ Refused) × (after ≡ before)

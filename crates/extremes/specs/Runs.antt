@@ -1,24 +1,25 @@
 -- What a run returns for what it was given, and for the files that are named.
-use Rattle.std.specs.Prelude.{◌≡◌, ℕ, ◌≤◌, Bool, true, false, List, map, Option, Result, Ok, Err, ℤ, IfOk}
+use Rattle.std.specs.Prelude.{◌≡◌, ℕ, ◌≤◌, Bool, true, false, List, ◌∷◌, ◌++◌, map, Option, None, Result, Ok, Err}
+use Rattle.std.specs.Prelude.{ℤ, IfOk}
 use Rattle.std.specs.Prelude.{String, string_bytes}
 use Rattle.ghcn_fields.specs.Refusals.{IsRefusal}
 use Rattle.ghcn_series.specs.declared.counts.Warnings.{Warnings}
 use Rattle.ghcn_series.specs.LineKinds.{warnings_of}
 use Rattle.rank_input.specs.declared.fault.Fault.{Fault}
 use Rattle.rank_input.specs.declared.intake.Intake.{Intake}
-use Rattle.rank_input.specs.Input.{read_input, read_run, is_memory}
+use Rattle.rank_input.specs.Input.{read_input, read_run, words_fault, is_memory}
 use Rattle.rank_input.specs.Taken.{IsTrueOf}
-use Rattle.rank_input.specs.Feeding.{AreAllOf, AreFilesOf}
+use Rattle.rank_input.specs.Feeding.{AreAllOf, AreFilesOf, AreOpenedFor, Opening}
 use Rattle.rank_check.specs.declared.verdict.Verdict.{Verdict}
 use Rattle.extremes.specs.declared.papers.Papers.{Papers}
-use Rattle.extremes.specs.Answer.{Answers, IsFaultless, IsCrewed}
+use Rattle.extremes.specs.Answer.{Answers, IsFaultless, IsCrewed, IsSerial}
 use Rattle.rank_parts.specs.declared.verdict.PartVerdict.{PartVerdict}
 use Rattle.extremes.specs.declared.judgement.Judgement.{Judgement}
 use Rattle.extremes.specs.declared.judgement.Judgement.TheVariants.{Whole, Part}
 use Rattle.rank_merge.specs.Merging.{Texts}
 use Rattle.extremes.specs.declared.files.Ranking.{Ranking}
 use Rattle.extremes.specs.declared.files.Judging.{Judging}
-use Rattle.extremes.specs.Merges.{Known, known_part, AreBothOf}
+use Rattle.extremes.specs.Merges.{Known, known_part, part_paths, AreBothOf}
 use Rattle.extremes.specs.Judged.{IsJudged, IsJudgedByPart}
 
 -- the bytes of the file that is named, by those of files by their paths, if they are known
@@ -55,22 +56,34 @@ pub record IsCrewedBySome (workers : ℕ) (guess : Option ℤ) (query stations :
   pub few : ran ≤ workers
   pub crew : IsCrewed ran guess query stations files papers
 
--- papers that answer these texts, of at most that many workers, or their first error
+-- papers that answer these texts, of at most so many workers within the limits of a run, or the first fault
 abbrev pub IsRanked : ℕ → Option ℤ → List ℕ → List ℕ → List (List ℕ) → Result Papers Fault → Type 0
-IsRanked workers guess query stations files (Ok papers) =
-    Answers query stations files papers × IsCrewedBySome workers guess query stations files papers
+IsRanked workers guess query stations files (Ok papers) = (words_fault workers guess ≡ None)
+    × Answers query stations files papers × IsCrewedBySome workers guess query stations files papers
 IsRanked workers guess query stations files (Err fault) =
     IsRefusal is_memory fault (read_run workers guess query stations files)
+
+-- papers of one worker that answer these texts, or their first fault
+abbrev pub IsRankedAlone : Option ℤ → List ℕ → List ℕ → List (List ℕ) → Result Papers Fault → Type 0
+IsRankedAlone guess query stations files (Ok papers) =
+    Answers query stations files papers × IsSerial guess query stations files papers
+IsRankedAlone guess query stations files (Err fault) =
+    IsRefusal is_memory fault (read_run 1 guess query stations files)
 
 -- so is this an answer to an intake's input
 abbrev pub RanksInput : Intake → ℕ → Option ℤ → Result Papers Fault → Type 0
 RanksInput t workers guess answer =
     IsTrueOf t (λ query stations files. IsRanked workers guess query stations files answer)
 
--- the ranking of all bytes of the station list and of each daily file that are named, in order, and the foreign ones
--- among these files and their odd lines
-pub record RanksFiles (bytes_of : Known) (r : Ranking) (answer : Result Papers Fault) (warnings : Warnings)
-    : Type 0 where
+-- the paths of what is ranked, in the order in which it is read
+abbrev pub ranking_paths : Ranking → List (List ℕ)
+ranking_paths r = string_bytes r.stations ∷ map string_bytes r.files.items
+
+-- the ranking of all bytes of the station list and of each daily file that are named, in order, and which of these
+-- files are foreign
+pub record RanksFiles (bytes_of : Known) (opens : Opening) (r : Ranking) (answer : Result Papers Fault)
+    (warnings : Warnings) : Type 0 where
+  pub opened : AreOpenedFor is_memory opens (ranking_paths r) answer
   pub stations : List ℕ
   pub whole : AreAllOf (bytes_named bytes_of r.stations) stations
   pub files : List (List ℕ)
@@ -101,9 +114,15 @@ IsJudgement part query stations files report certificate (Ok judged) =
 IsJudgement part query stations files report certificate (Err fault) =
     IsRefusal is_memory fault (read_input query stations files)
 
+-- the paths of what is read to judge papers, in order
+abbrev pub judging_paths : Judging → List (List ℕ)
+judging_paths j = string_bytes j.stations ∷ part_paths j.papers ++ map string_bytes j.files.items
+
 -- the judgement of all bytes of two papers for those of the station list and of each daily file, as they are named, in
 -- order
-pub record JudgesFiles (bytes_of : Known) (j : Judging) (answer : Result (Judgement × Warnings) Fault) : Type 0 where
+pub record JudgesFiles (bytes_of : Known) (opens : Opening) (j : Judging) (answer : Result (Judgement × Warnings) Fault)
+    : Type 0 where
+  pub opened : AreOpenedFor is_memory opens (judging_paths j) answer
   pub stations : List ℕ
   pub whole : AreAllOf (bytes_named bytes_of j.stations) stations
   pub papers : Texts

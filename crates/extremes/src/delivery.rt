@@ -1,7 +1,7 @@
 //! Writing the papers of a ranking.
 
 ghost use Rattle.std.specs.Prelude.{◌≡◌};
-ghost use Rattle.extremes.specs.Delivered.{IsDelivered, IsWritten};
+ghost use Rattle.extremes.specs.Delivered.{IsDelivered, IsWritten, IsWrittenToEnd};
 
 use crate::papers::Papers;
 use std::io::Write;
@@ -44,12 +44,19 @@ pub fn deliver<C: Write, R: Write>(
 pub(crate) fn write_whole<W: Write>(paper: &[u8], out: &mut W) -> bool
     ensures { IsWritten paper.now (W.contents out.old) (W.contents out.new) result }
 {
-    let mut rest = paper;
+    write_to_end(paper, out) && out.flush().is_ok()
+}
+
+/// Writes a text to its end: at once, if the writer takes it at once. Whether that was done.
+pub(crate) fn write_to_end<W: Write>(text: &[u8], out: &mut W) -> bool
+    ensures { IsWrittenToEnd text.now (W.contents out.old) (W.contents out.new) result }
+{
+    let mut rest = text;
     while !rest.is_empty() {
         match out.write(rest) {
             Ok(taken) if taken > 0 => rest = &rest[taken..],
             _ => return false,
         }
     }
-    out.flush().is_ok()
+    true
 }

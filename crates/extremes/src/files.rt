@@ -1,11 +1,12 @@
 //! Ranking, merging, judging and describing what the files of an archive hold.
 
-ghost use Rattle.std.specs.Prelude.{◌≡◌, [], IfOk, OnOk, map};
+ghost use Rattle.std.specs.Prelude.{◌≡◌, [], IfOk, IfErr, OnOk, map};
 ghost use Rattle.std.specs.List.{AllZip};
+ghost use Rattle.rank_input.specs.Feeding.{AreOpened, StopsAt};
 ghost use Rattle.rank_input.specs.Taken.{HasTakenSome, AreWarningsOf};
-ghost use Rattle.extremes.specs.Runs.{RanksFiles, JudgesFiles, RanksInput};
-ghost use Rattle.extremes.specs.Describes.{DescribesFiles};
-ghost use Rattle.extremes.specs.Merges.{AreBothOf, MergesFiles, known_part, texts_of};
+ghost use Rattle.extremes.specs.Runs.{RanksFiles, JudgesFiles, RanksInput, ranking_paths, judging_paths};
+ghost use Rattle.extremes.specs.Describes.{DescribesFiles, describing_paths};
+ghost use Rattle.extremes.specs.Merges.{AreBothOf, MergesFiles, known_part, part_paths, parts_paths, texts_of};
 
 use crate::describe::{DescriptionText, describe_intake};
 use crate::judge::judge_as;
@@ -61,7 +62,9 @@ pub(crate) fn rank_files<'p, R: Threads + Wait + AllocGlobal + Sync, A: Archive>
     archive: &A,
     ranking: &'p Ranking,
 ) -> Result<Ranked, &'p str>
-    ensures { IfOk result (λ ranked. RanksFiles (A.bytes_of archive.now) ranking.now ranked.answer ranked.warnings) }
+    ensures ranks { IfOk result (λ ranked.
+        RanksFiles (A.bytes_of archive.now) (A.opens archive.now) ranking.now ranked.answer ranked.warnings) }
+    ensures stopped { IfErr result (λ path. StopsAt (A.opens archive.now) (ranking_paths ranking.now) path.now) }
 {
     let alloc = rt.alloc();
     let Ok(stations) = read_whole(alloc, archive, &ranking.stations) else {
@@ -103,7 +106,8 @@ pub(crate) fn merge_files<'p, A: Archive>(
     query: &str,
     parts: &'p [Part],
 ) -> Result<Result<Papers, MergingFault>, &'p str>
-    ensures { IfOk result (MergesFiles query.now (map (known_part (A.bytes_of archive.now)) parts.now)) }
+    ensures merges { IfOk result (MergesFiles (A.bytes_of archive.now) (A.opens archive.now) query.now parts.now) }
+    ensures stopped { IfErr result (λ path. StopsAt (A.opens archive.now) (parts_paths parts.now) path.now) }
 {
     let Ok(mut texts) = Vec::with_capacity(alloc, parts.len()) else {
         return Ok(Err(MergingFault::Parts(MergeFault::Memory(Memory))));
@@ -121,8 +125,10 @@ fn read_parts<'p, A: Archive>(
     texts: &mut Vec<PartTexts>,
 ) -> Result<(), &'p str>
     requires { texts.old.items ≡ [] }
-    ensures { OnOk result (AllZip AreBothOf
+    ensures read { OnOk result (AllZip AreBothOf
         (map (known_part (A.bytes_of archive.now)) parts.now) (texts_of texts.new.items)) }
+    ensures opened { OnOk result (AreOpened (A.opens archive.now) (parts_paths parts.now)) }
+    ensures stopped { IfErr result (λ path. StopsAt (A.opens archive.now) (parts_paths parts.now) path.now) }
 {
     for part in parts {
         let read = read_part(alloc, archive, part)?;
@@ -139,8 +145,10 @@ fn read_part<'p, A: Archive>(
     archive: &A,
     part: &'p Part,
 ) -> Result<PartTexts, &'p str>
-    ensures { IfOk result (λ texts. AreBothOf
+    ensures read { IfOk result (λ texts. AreBothOf
         (known_part (A.bytes_of archive.now) part.now) (texts.report.items, texts.certificate.items)) }
+    ensures opened { OnOk result (AreOpened (A.opens archive.now) (part_paths part.now)) }
+    ensures stopped { IfErr result (λ path. StopsAt (A.opens archive.now) (part_paths part.now) path.now) }
 {
     let Ok(report) = read_whole(alloc, archive, &part.report) else {
         return Err(&part.report);
@@ -162,7 +170,8 @@ pub(crate) fn judge_files<'p, A: Archive>(
     archive: &A,
     judging: &'p Judging,
 ) -> Result<Result<(Judgement, Warnings), Fault>, &'p str>
-    ensures { IfOk result (JudgesFiles (A.bytes_of archive.now) judging.now) }
+    ensures judges { IfOk result (JudgesFiles (A.bytes_of archive.now) (A.opens archive.now) judging.now) }
+    ensures stopped { IfErr result (λ path. StopsAt (A.opens archive.now) (judging_paths judging.now) path.now) }
 {
     let Ok(stations) = read_whole(alloc, archive, &judging.stations) else {
         return Err(&judging.stations);
@@ -189,7 +198,8 @@ pub(crate) fn describe_files<'p, A: Archive>(
     archive: &A,
     describing: &'p Describing,
 ) -> Result<Result<DescriptionText, Fault>, &'p str>
-    ensures { IfOk result (DescribesFiles (A.bytes_of archive.now) describing.now) }
+    ensures describes { IfOk result (DescribesFiles (A.bytes_of archive.now) (A.opens archive.now) describing.now) }
+    ensures stopped { IfErr result (λ path. StopsAt (A.opens archive.now) (describing_paths describing.now) path.now) }
 {
     let Ok(stations) = read_whole(alloc, archive, &describing.stations) else {
         return Err(&describing.stations);

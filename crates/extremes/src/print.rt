@@ -1,20 +1,24 @@
 //! What a run prints, and how it ends then.
 
-ghost use Rattle.std.specs.Prelude.{◌≡◌};
+ghost use Rattle.std.specs.Prelude.{◌≡◌, IfSome};
 ghost use Rattle.extremes.specs.declared.ending.Ending.TheVariants as endings;
-ghost use Rattle.extremes.specs.Printed.{IsPrinted, IsReported, IsShown, IsTextShown, IsTold};
+ghost use Rattle.extremes.specs.Printed.{IsPrinted, IsReported, IsShown, IsTextShown, IsTold, judgement_line};
 
-use crate::delivery::{Delivery, deliver, write_whole};
+use crate::delivery::{Delivery, deliver, write_to_end, write_whole};
 use crate::describe::DescriptionText;
 use crate::ending::Ending;
 use crate::judgement::{Judgement, ending};
 use crate::papers::Papers;
 use crate::rank::Ranked;
 use crate::target::Target;
+use arrayvec::ArrayVec;
 use ghcn_series::{Foreign, LinePlace, OddLines, Warnings};
 use rank_input::Fault;
 use std::fmt::Display;
 use std::io::Write;
+
+/// More bytes than any line of a judgement has: two numbers of 20 digits, and words of 40 bytes.
+const LONGEST_LINE: usize = 128;
 
 /// Prints what a ranking of files returns, and then frees its data.
 pub(crate) fn print_ranked<R: Eprint, T: Target, W: Write>(
@@ -180,8 +184,21 @@ pub(crate) fn print_judgement<R: Eprint, W: Write>(
         Err(fault) => return refused(rt, fault),
     };
     tell_warnings(rt, warnings, files);
-    match writeln!(out, "{judgement}") {
-        Ok(()) => ending(&judgement),
-        Err(_) => not_written(rt, "-"),
+    let Some(line) = line_of(&judgement) else {
+        return not_written(rt, "-");
+    };
+    if write_to_end(line.as_slice(), out) {
+        ending(&judgement)
+    } else {
+        not_written(rt, "-")
     }
+}
+
+/// The line that says a judgement. It always fits.
+fn line_of(judgement: &Judgement) -> Option<ArrayVec<u8, LONGEST_LINE>>
+    ensures { IfSome result (λ line. line.items ≡ judgement_line judgement.now) }
+{
+    let mut line = ArrayVec::new();
+    writeln!(line, "{judgement}").ok()?;
+    Some(line)
 }

@@ -1,8 +1,7 @@
 //! A run of the program: reads its arguments, and does what they ask for.
 
-ghost use Rattle.std.specs.Prelude.{map};
-ghost use Rattle.extremes.specs.Commands.{IsCommandRun, RunsRanking, RunsMerge, RunsJudging, RunsDescribing};
-ghost use Rattle.extremes.specs.Merges.{known_part};
+ghost use Rattle.extremes.specs.Commands.{IsCommandRun, IsSampleRanked};
+ghost use Rattle.extremes.specs.Commands.{RunsRanking, RunsMerge, RunsJudging, RunsDescribing};
 
 use crate::ending::Ending;
 use crate::files::{
@@ -60,7 +59,8 @@ fn run_command<R: Eprint + Threads + Wait + AllocGlobal + Sync, A: Archive, T: T
     target: &mut T,
     out: &mut W,
 ) -> Ending
-    ensures { IsCommandRun (A.bytes_of archive.now) asked (W.contents out.old) (W.contents out.new) result }
+    ensures { IsCommandRun (A.bytes_of archive.now) (A.opens archive.now) asked
+        (W.contents out.old) (W.contents out.new) result }
 {
     match asked {
         Command::Sample => print_answer(rt, rank_sample(rt.alloc()), None, target, out),
@@ -124,7 +124,7 @@ fn run_ranking<R: Eprint + Threads + Wait + AllocGlobal + Sync, A: Archive, T: T
     target: &mut T,
     out: &mut W,
 ) -> Ending
-    ensures { RunsRanking (A.bytes_of archive.now) ranking.now
+    ensures { RunsRanking (A.bytes_of archive.now) (A.opens archive.now) ranking.now certificate.now
         (W.contents out.old) (W.contents out.new) result }
 {
     let certificate = certificate.as_ref().map(|path| path.as_str());
@@ -150,7 +150,7 @@ fn run_merge<R: Eprint + AllocGlobal, A: Archive, T: Target, W: Write>(
     target: &mut T,
     out: &mut W,
 ) -> Ending
-    ensures { RunsMerge query.now (map (known_part (A.bytes_of archive.now)) parts.now)
+    ensures { RunsMerge (A.bytes_of archive.now) (A.opens archive.now) query.now parts.now certificate.now
         (W.contents out.old) (W.contents out.new) result }
 {
     let certificate = certificate.as_ref().map(|path| path.as_str());
@@ -172,7 +172,7 @@ fn run_judging<R: Eprint + AllocGlobal, A: Archive, W: Write>(
     judging: &Judging,
     out: &mut W,
 ) -> Ending
-    ensures { RunsJudging (A.bytes_of archive.now) judging.now
+    ensures { RunsJudging (A.bytes_of archive.now) (A.opens archive.now) judging.now
         (W.contents out.old) (W.contents out.new) result }
 {
     match judge_files(rt.alloc(), archive, judging) {
@@ -188,7 +188,7 @@ fn run_describing<R: Eprint + AllocGlobal, A: Archive, W: Write>(
     describing: &Describing,
     out: &mut W,
 ) -> Ending
-    ensures { RunsDescribing (A.bytes_of archive.now) describing.now
+    ensures { RunsDescribing (A.bytes_of archive.now) (A.opens archive.now) describing.now
         (W.contents out.old) (W.contents out.new) result }
 {
     match describe_files(rt.alloc(), archive, describing) {
@@ -219,7 +219,9 @@ fn no_words<R: Eprint>(rt: &R, error: &io::Error) -> Ending {
 }
 
 /// Ranks the texts that are built in.
-fn rank_sample(alloc: Global) -> Result<Papers, Fault> {
+fn rank_sample(alloc: Global) -> Result<Papers, Fault>
+    ensures { IsSampleRanked result }
+{
     rank_serial(
         alloc,
         sample::STATIONS,

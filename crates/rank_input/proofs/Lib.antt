@@ -4,3 +4,4 @@ pub mod Texts
 pub mod Reading
 pub mod Feedings
 pub mod Descriptions
+pub mod Openings

@@ -1,7 +1,7 @@
 //! Where the files of a run are opened, and how all of their bytes are read.
 
-ghost use Rattle.std.specs.Prelude.{◌≡◌, IfOk, OnOk, map, string_bytes};
-ghost use Rattle.rank_input.specs.Feeding.{AreAllOf, FeedsFile, FeedsFiles};
+ghost use Rattle.std.specs.Prelude.{◌≡◌, true, IfOk, IfErr, OnOk, map, string_bytes};
+ghost use Rattle.rank_input.specs.Feeding.{AreAllOf, AreOpened, FeedsFile, FeedsFiles, IsTried, StopsAt};
 ghost use Rattle.rank_input.specs.Takes.{HasTakenSome};
 
 use crate::taker::Taker;
@@ -16,7 +16,7 @@ const PIECE: usize = 1 << 16;
 
 /// Where files are opened by their paths.
 pub trait Archive {
-    ghost use Rattle.std.specs.Prelude.{◌≡◌, ℕ, List, Option, IfOk};
+    ghost use Rattle.std.specs.Prelude.{◌≡◌, ℕ, Bool, true, false, List, Option, IfOk, OnOk, OnErr};
 
     /// An open file.
     type File: Read + Drop;
@@ -24,15 +24,20 @@ pub trait Archive {
     /// The bytes of the file of a path, if they are known.
     ghost bytes_of: { Self → List ℕ → Option (List ℕ) };
 
+    /// Whether the file of a path may be opened, and whether that may fail.
+    ghost opens: { Self → List ℕ → Bool → Type 0 };
+
     /// Opens a file at its first byte.
     fn open(&self, path: &str) -> io::Result<Self::File>
-        ensures { IfOk result (λ file. Self.File.remaining file ≡ bytes_of self.now path.now) };
+        ensures bytes { IfOk result (λ file. Self.File.remaining file ≡ bytes_of self.now path.now) }
+        ensures opened { OnOk result (opens self.now path.now true) }
+        ensures failed { OnErr result (opens self.now path.now false) };
 
     /// How many bytes a file seems to have, for the room that they take.
     fn length(&self, file: &Self::File) -> io::Result<u64>;
 }
 
-/// The files of the system. Nothing is known of their bytes.
+/// The files of the system. Nothing is known of their bytes, and any may be opened or fail to.
 #[derive(Drop)]
 pub struct System<'r, R>(pub &'r R);
 
@@ -41,11 +46,13 @@ pub struct System<'r, R>(pub &'r R);
 pub struct SystemFile<F>(F);
 
 impl<'r, R: Files> Archive for System<'r, R> {
-    ghost use Rattle.std.specs.Prelude.{None};
+    ghost use Rattle.std.specs.Prelude.{None, ⊤};
 
     type File = SystemFile<R::File>;
 
     ghost bytes_of = { λ _ _. None };
+
+    ghost opens = { λ _ _ _. ⊤ };
 
     fn open(&self, path: &str) -> io::Result<SystemFile<R::File>> {
         Ok(SystemFile(File::open(self.0, path)?))
@@ -64,7 +71,9 @@ impl<F: Read> Read for SystemFile<F> {
 
 /// The whole of a file, in a buffer of its length.
 pub fn read_whole<A: Archive>(alloc: Global, archive: &A, path: &str) -> io::Result<Vec<u8>>
-    ensures { IfOk result (λ text. AreAllOf (A.bytes_of archive.now path.now) text.items) }
+    ensures whole { IfOk result (λ text. AreAllOf (A.bytes_of archive.now path.now) text.items) }
+    ensures opened { OnOk result (A.opens archive.now path.now true) }
+    ensures tried { IsTried (A.opens archive.now) path.now }
 {
     let mut file = archive.open(path)?;
     let length = archive.length(&file)? as usize;
@@ -86,6 +95,8 @@ pub fn feed_files<'p, A: Archive, T: Taker>(
     ensures fed { OnOk result (FeedsFiles T.has_taken taker.old taker.new
         (map (λ path. A.bytes_of archive.now (string_bytes path)) paths.now)) }
     ensures going { OnOk result (HasTakenSome T.has_taken taker.new) }
+    ensures opened { OnOk result (AreOpened (A.opens archive.now) (map string_bytes paths.now)) }
+    ensures stopped { IfErr result (λ path. StopsAt (A.opens archive.now) (map string_bytes paths.now) path.now) }
 {
     for path in paths {
         let Ok(mut file) = archive.open(path) else {

@@ -1,30 +1,54 @@
-use Rattle.std.proofs.Common.{List, Global, String, map, sym, subst}
+use Rattle.std.proofs.Common.{ℕ, true, List, Global, String, map, sym, subst}
 use Rattle.std.specs.Prelude.{string_bytes}
-use Rattle.rank_input.specs.Feeding.{AreAllOf, FeedsFiles}
+use Rattle.rank_input.specs.Feeding.{AreAllOf, AreOpened, FeedsFiles, IsTried, StopsAt}
+use Rattle.rank_input.proofs.Openings.{stops-first, stops-later}
+use Rattle.std.proofs.lemmas.Result.{err_from_is_err_and}
+use Rattle.extremes.specs.Runs.{ranking_paths}
 use Rattle.rank_input.specs.Taken.{HasTaken}
 use Rattle.extremes.proofs.FedRuns.{ranks-files, ranks-memory}
 use Rattle.extremes.proofs.files.rank_files.Goals as goal
 
 -- there is no room for a piece
-pub returns-in_default-piece_room : goal.returns-in_default-piece_room
-returns-in_default-piece_room g c =
-    rw c.without_data.ensures (ranks-memory (g.A.Archive.bytes_of c.args.archive.now) c.args.ranking.now
+pub returns-in_default-piece_room-clause-ranks : goal.returns-in_default-piece_room-clause-ranks
+returns-in_default-piece_room-clause-ranks g c =
+    rw c.without_data.ensures (ranks-memory (g.A.Archive.bytes_of c.args.archive.now) (g.A.Archive.opens c.args.archive.now) c.args.ranking.now
     c.deref.result.now
-    c.in-Ok.stations.items _ c.deref.ensures c.in-Ok.ensures c.without_data.result.warnings)
+    c.in-Ok.stations.items _ c.deref.ensures c.in-Ok.ensures.whole c.without_data.result.warnings)
 
 -- the intake was given something
 pub feed_files-requires : goal.feed_files-requires
 feed_files-requires g c = (_, c.new-intake.ensures)
 
 -- what was fed is ranked
-pub returns : goal.returns
-returns g c =
+pub returns-clause-ranks : goal.returns-clause-ranks
+returns-clause-ranks g c =
     let bytes_of = g.A.Archive.bytes_of c.args.archive.now in
-    ranks-files bytes_of c.args.ranking.now c.new-intake.result c.feed_files.new.taker c.deref-2.result.now
+    ranks-files bytes_of (g.A.Archive.opens c.args.archive.now) c.args.ranking.now c.new-intake.result c.feed_files.new.taker c.deref-2.result.now
     c.deref.result.now c.deref-3.result.now c.rank_fed.result.answer c.rank_fed.result.warnings c.deref-2.ensures
     c.deref.ensures
-    (subst (AreAllOf (bytes_of c.deref.result.now)) (sym c.deref-3.ensures.value) c.in-Ok.ensures)
+    (subst (AreAllOf (bytes_of c.deref.result.now)) (sym c.deref-3.ensures.value) c.in-Ok.ensures.whole)
     c.new-intake.ensures
     (subst (λ (fs : List (String Global)). FeedsFiles HasTaken c.new-intake.result c.feed_files.new.taker
     (map (λ f. bytes_of (string_bytes f)) fs)) c.deref-4.ensures.value c.in_ok-feed_files.ensures.fed)
-    c.rank_fed.ensures.ranks c.rank_fed.ensures.warnings
+    c.rank_fed.ensures.ranks c.rank_fed.ensures.warnings c.in-Ok.ensures.opened
+    (subst (λ (fs : List (String Global)). AreOpened (g.A.Archive.opens c.args.archive.now) (map string_bytes fs))
+    c.deref-4.ensures.value c.in_ok-feed_files.ensures.opened)
+
+-- the station list can't be read
+pub returns-in_default-clause-stopped : goal.returns-in_default-clause-stopped
+returns-in_default-clause-stopped g c =
+    let opens = g.A.Archive.opens c.args.archive.now in
+    subst (λ (p : List ℕ). StopsAt opens (ranking_paths c.args.ranking.now) p) (sym c.deref-in_default.ensures)
+    (stops-first opens (string_bytes c.args.ranking.now.stations) _
+    (subst (λ (p : List ℕ). IsTried opens p) c.deref.ensures c.read_whole.ensures.tried))
+
+-- or a daily file can't be
+pub returns-in_err-feed_files-clause-stopped : goal.returns-in_err-feed_files-clause-stopped
+returns-in_err-feed_files-clause-stopped g c =
+    let opens = g.A.Archive.opens c.args.archive.now in
+    let p = err_from_is_err_and c.from_residual.result c.from_residual.ensures.1 in
+    rw (p.1, p.2) (stops-later opens (string_bytes c.args.ranking.now.stations) _ _
+    (subst (λ (l : List ℕ). opens l true) c.deref.ensures c.in-Ok.ensures.opened)
+    (subst (λ (fs : List (String Global)). StopsAt opens (map string_bytes fs) c.in_err-feed_files.field-0.0.now)
+    c.deref-4.ensures.value
+    c.in_err-feed_files.ensures.stopped))

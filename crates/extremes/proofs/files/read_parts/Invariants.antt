@@ -1,9 +1,13 @@
 use Rattle.std.proofs.Common.{take, map}
 use Rattle.std.specs.List.{AllZip}
-use Rattle.extremes.specs.Merges.{AreBothOf, known_part, texts_of}
+use Rattle.rank_input.specs.Feeding.{AreOpened}
+use Rattle.extremes.specs.Merges.{AreBothOf, known_part, parts_paths, texts_of}
 use Rattle.extremes.proofs.files.read_parts.Given as goal
 
--- the papers of the parts so far are read
+-- the papers of the parts so far are opened and read
 abbrev pub invariant-loop-part : goal.invariant-loop-part
-invariant-loop-part g l = AllZip AreBothOf
-    (map (known_part (g.A.Archive.bytes_of l.archive)) (take l.part-index l.parts)) (texts_of l.texts.items)
+invariant-loop-part g l = record {
+  read : AllZip AreBothOf (map (known_part (g.A.Archive.bytes_of l.archive)) (take l.part-index l.parts))
+      (texts_of l.texts.items);
+  opened : AreOpened (g.A.Archive.opens l.archive) (parts_paths (take l.part-index l.parts));
+}

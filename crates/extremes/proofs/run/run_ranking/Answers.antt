@@ -1,12 +1,21 @@
-use Rattle.std.proofs.Common.{inr}
+use Rattle.std.proofs.Common.{inl, inr, refl}
 use Rattle.extremes.proofs.run.run_ranking.Goals as goal
 
 -- the ranking is printed
 pub returns-in-Ok : goal.returns-in-Ok
 returns-in-Ok g c =
-    inr (record {
+    inr (inr (record {
       answer = c.in-Ok.ranked.answer;
       warnings = c.in-Ok.ranked.warnings;
-      ranked = c.in-Ok.ensures;
+      ranked = c.in-Ok.ensures.ranks;
       printed = c.print_ranked.ensures;
-    })
+    }))
+
+-- or a file can't be read
+pub returns-in-Err : goal.returns-in-Err
+returns-in-Err g c = inr (inl (record {
+  path = c.in-Err.path.now;
+  stops = c.in-Err.ensures.stopped;
+  ends = c.not_read.ensures;
+  unprinted = refl;
+}))

@@ -1,5 +1,5 @@
 use Rattle.extremes.proofs.Delivering.{more-taken}
-use Rattle.extremes.proofs.delivery.write_whole.Goals as goal
+use Rattle.extremes.proofs.delivery.write_to_end.Goals as goal
 
 -- what the writer takes goes from the rest to what was given
 pub loop-rest-preserved : goal.loop-rest-preserved
