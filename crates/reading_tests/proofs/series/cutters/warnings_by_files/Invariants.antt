@@ -1,5 +1,5 @@
 use Rattle.ghcn_series.specs.Pieces.{HasFedSome}
-use Rattle.reading_tests.proofs.series.cutters.foreign_by_files.Given as goal
+use Rattle.reading_tests.proofs.series.cutters.warnings_by_files.Given as goal
 
 -- the reader can be fed more
 abbrev pub invariant-loop-file : goal.invariant-loop-file
