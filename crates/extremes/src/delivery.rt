@@ -11,7 +11,7 @@ use std::io::Write;
 pub enum Delivery {
     /// Each paper that is wanted was written whole.
     Done,
-    /// The certificate was written in part, and the report not at all.
+    /// The certificate wasn't written, and the report not at all.
     CertificateFailed,
     /// The report was written in part.
     ReportFailed,

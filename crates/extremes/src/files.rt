@@ -164,7 +164,7 @@ fn read_part<'p, A: Archive>(
 
 /// Reads the station list, the report, the certificate and then the daily files in order, and judges
 /// the papers, as those of a whole of which the files are a part if that is so; beside it stand the
-/// foreign files and the odd lines. Or answers the path of the first file that can't be read.
+/// foreign files and the odd lines. Or returns the path of the first file that can't be read.
 pub(crate) fn judge_files<'p, A: Archive>(
     alloc: Global,
     archive: &A,

@@ -76,7 +76,7 @@ pub(crate) fn print_text<R: Eprint, W: Write>(rt: &R, text: &[u8], out: &mut W) 
     }
 }
 
-/// Says which of the files are foreign and how many lines are odd, where there are any.
+/// Prints which of the files are foreign and how many lines are odd, if there are any.
 fn tell_warnings<R: Eprint>(rt: &R, warnings: Warnings, files: &[String]) {
     tell_foreign(rt, warnings.foreign, files);
     tell_odd(rt, warnings.odd, files);
@@ -93,8 +93,8 @@ fn tell_foreign<R: Eprint>(rt: &R, foreign: Foreign, files: &[String]) {
     }
 }
 
-/// Says how many lines are odd, and names the first of them by the path of its file and its number there, where there
-/// is one.
+/// Prints how many lines are odd, and names the first of them by the path of its file and its number
+/// there, if there is one.
 fn tell_odd<R: Eprint>(rt: &R, odd: OddLines, files: &[String]) {
     let OddLines { count, first } = odd;
     if let Some(LinePlace { file, line }) = first {

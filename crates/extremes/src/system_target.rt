@@ -80,7 +80,7 @@ impl<'r, R: Files + AllocGlobal> Target for SystemTarget<'r, R> {
         }
     }
 
-    /// What can't be read counts as something else.
+    /// A file that can't be read counts as something else.
     fn holds_other(&self, path: &str) -> bool {
         match fs::metadata(self.rt, path) {
             Ok(found) => found.is_file()
@@ -179,7 +179,7 @@ fn is_open_file<R: Files>(rt: &R, path: &str) -> bool {
     }
 }
 
-/// Makes a file beside the one of a path, by the first name that no file has, and answers its path.
+/// Makes a file beside the one of a path, by the first name that no file has, and returns its path.
 fn create_beside<R: Files + AllocGlobal>(rt: &R, place: &str) -> io::Result<(String, R::File)> {
     for number in 1..=NAMES {
         let path = format!(in rt.alloc(); "{place}.new{number}")?;
